@@ -149,17 +149,17 @@ fn load_zeros(told: &mut Told, first: u32, count: u32) -> Result<(), AllocError>
     Ok(())
 }
 
-/// Adds the steps that open cycle `k` behind a stop, with this phase word.
-fn open_cycle(told: &mut Told, k: u64, phase: u64) -> Result<(), AllocError> {
+/// Adds the steps that open cycle `k` behind a stop, with so much work and this phase word. The goal is 65,536 bytes.
+fn open_cycle(told: &mut Told, k: u64, work: u64, phase: u64) -> Result<(), AllocError> {
     let steps = [
         (Req::Store(WANT, 0), 1),
         (Req::Store(GCUR, 0), 1),
         (Req::Store(TALLY, 0), 1),
         (Req::Store(LIVE, 0), 1),
         (Req::Store(TRIGGER, u64::MAX), 1),
-        (Req::Load(HEAP), 1),
-        (Req::Store(WORK_WORD, 0), 1),
-        (Req::Store(SLACK_WORD, 1), 1),
+        (Req::Load(HEAP), 536),
+        (Req::Store(WORK_WORD, work), 1),
+        (Req::Store(SLACK_WORD, 65_000), 1),
         (Req::Store(BEGUN, k), 1),
         (Req::Store(PHASE, phase), 1),
     ];
@@ -183,7 +183,8 @@ fn stop_world(told: &mut Told, phase: u64, ack: u64) -> Result<(), AllocError> {
 }
 
 /// Adds the steps from the end of marking, behind which the world runs with this phase word, up to the word of
-/// swept cycles. They find 5 words of credit, 2 objects marked and 3 freed, and 96 bytes.
+/// swept cycles. They find 5 words of credit, 2 objects marked and 3 freed, and 96 bytes: the trigger is 7 tenths of
+/// the 65,440 bytes above them.
 fn end_cycle(told: &mut Told, k: u64, phase: u64) -> Result<(), AllocError>
     requires { k < 100 }
 {
@@ -198,7 +199,7 @@ fn end_cycle(told: &mut Told, k: u64, phase: u64) -> Result<(), AllocError>
     let counts = [
         (Req::Load(TALLY), 2 + (3 << 32)),
         (Req::Load(LIVE), 96),
-        (Req::Store(TRIGGER, u64::MAX), 0),
+        (Req::Store(TRIGGER, 45_904), 0),
         (Req::Store(SWEPT, k), 0),
     ];
     add(told, &counts)
@@ -218,7 +219,7 @@ fn first_cycle(told: &mut Told) -> Result<(), AllocError> {
         (Req::Load(ACK_ROW + 1), 1),
     ];
     add(told, &stop)?;
-    open_cycle(told, 1, 5)?;
+    open_cycle(told, 1, 17, 5)?;
     let watch = [
         (Req::Load(GCUR), 0),
         (Req::Load(GCUR), 1),
@@ -244,7 +245,7 @@ fn first_cycle(told: &mut Told) -> Result<(), AllocError> {
 fn last_cycle(told: &mut Told) -> Result<(), AllocError> {
     told.push((Req::Load(ACK_ROW), GONE))?;
     stop_world(told, 18, GONE)?;
-    open_cycle(told, 2, 17)?;
+    open_cycle(told, 2, 29, 17)?;
     look_at_all(told, GONE)?;
     stop_world(told, 22, GONE)?;
     look_at_all(told, GONE)?;
@@ -256,7 +257,7 @@ fn last_cycle(told: &mut Told) -> Result<(), AllocError> {
 fn cycles_are_run(rt: HostRuntime) -> Result<(), Fail> {
     let layout = Layout::new(16, 1, 1, 1, 1)?;
     let mut coord = Coord::new(rt.alloc(), &layout, 2, 100, 65_536, 1)?;
-    assert_eq!(rt; coord.opening(), u64::MAX);
+    assert_eq!(rt; coord.opening(), 45_875);
     let mut told = Vec::new(rt.alloc());
     first_cycle(&mut told)?;
     last_cycle(&mut told)?;

@@ -112,16 +112,16 @@ module _ (found : ℕ) (s : Coordinating) (f : FitsNumbers s.stops s.begun s.gen
   second_stop stop_stage.Ended busy = absurd cc
 
   -- a cycle is opened
-  abbrev open_at : Layout → OpenStage → opens_by.CycleOpening
-  open_at l stage = record { layout = l; stops = s.stops; cycle = s.begun; stage = stage }
+  abbrev open_at : opens_by.CycleOpening → OpenStage → opens_by.CycleOpening
+  open_at o stage = record o { stops = s.stops; cycle = s.begun; stage = stage }
 
-  opening : (l : Layout) (stage : OpenStage) → opens_by.is_busy stage ≡ true → Goes found s (Open (open_at l stage)) (goes_at s (Open (open_at l stage)) found)
-  opening l open_stage.StoreBegun busy =
+  opening : (o : opens_by.CycleOpening) (stage : OpenStage) → opens_by.is_busy stage ≡ true → Goes found s (Open (open_at o stage)) (goes_at s (Open (open_at o stage)) found)
+  opening o open_stage.StoreBegun busy =
       let is : next_cycle (cycle_before s.begun) ≡ s.begun = cycle_ahead s.begun f.begun_fits in
       ((f, (refl, refl)), begins run.Off refl (ap (λ (n : ℕ). Store cell.Begun n) (sym is)) (ap (λ (n : ℕ). record { stops = s.stops; begun = n; generation = s.generation; post = Stopped run.Off }) (sym is)))
-  opening l open_stage.StorePhase busy = ((f, tt), goes run.Off run.Mark (λ e. cc) refl refl refl)
-  opening l open_stage.Ended busy = absurd cc
-  opening l _ busy = ((f, (refl, refl)), quiet tt refl)
+  opening o open_stage.StorePhase busy = ((f, tt), goes run.Off run.Mark (λ e. cc) refl refl refl)
+  opening o open_stage.Ended busy = absurd cc
+  opening o _ busy = ((f, (refl, refl)), quiet tt refl)
 
   -- the look and the check
   watching : (w v : watch.Watching) (out : Option Watched) → IsQuiet (watch.asks w) → Goes found s (Watch w) (after_watch (at_stage s (Watch v)) out)
@@ -170,7 +170,7 @@ goes_so : (found : ℕ) (s : Coordinating) (stage : CoordStage) → FitsNumbers 
 goes_so found s (LoadAck i) f e busy = acks found s f i
 goes_so found s LoadWant f e busy = wants found s f
 goes_so found s (Stop st) f e busy = subst (λ (x : stop.Stopping). Goes found s (Stop x) (goes_at s (Stop x) found)) (sym e) (first_stop found s f st.stage busy)
-goes_so found s (Open o) f e busy = subst (λ (x : opens_by.CycleOpening). Goes found s (Open x) (goes_at s (Open x) found)) (sym e.0) (opening found s f o.layout o.stage busy)
+goes_so found s (Open o) f e busy = subst (λ (x : opens_by.CycleOpening). Goes found s (Open x) (goes_at s (Open x) found)) (sym e.0) (opening found s f o o.stage busy)
 goes_so found s (Watch w) f e busy = watching found s f w (watch.goes w found) (watch.gives w found) (watch_quiet w w.stage)
 goes_so found s (StopAgain st) f e busy = subst (λ (x : stop.Stopping). Goes found s (StopAgain x) (goes_at s (StopAgain x) found)) (sym e) (second_stop found s f st.stage busy)
 goes_so found s (Check w) f e busy = checking found s f w (watch.goes w found) (watch.gives w found) (watch_quiet w w.stage)

@@ -4,6 +4,7 @@ use Rattle.std.proofs.Common.{ap}
 use Rattle.gh_base.specs.Blind.{is_store, StoresAreBlind}
 use Rattle.gh_coord.specs.declared.close.CloseStage.TheVariants as c
 use Rattle.gh_coord.specs.declared.count.CountStage.TheVariants as n
+use Rattle.gh_coord.specs.declared.open.OpenStage.TheVariants as o_
 use Rattle.gh_coord.specs.declared.stop.StopStage.TheVariants as p
 use Rattle.gh_coord.specs.declared.sweep_all.SweepAllStage.TheVariants as a
 use Rattle.gh_coord.specs.declared.watch.WatchStage.TheVariants as w
@@ -15,7 +16,7 @@ use Rattle.gh_coord.specs.Stopping as stop
 use Rattle.gh_coord.specs.SweepingAll as all
 use Rattle.gh_coord.specs.Telling as tell
 use Rattle.gh_coord.specs.Watching as watch
-use Rattle.gh_coord.specs.Vocabulary.{Check, Close, CloseStage, CoordStage, Count, CountStage, LoadAck, LoadWant, Open, Stop, StopAgain, StopStage, Sweep, SweepAllStage, Tell, Watch, WatchStage}
+use Rattle.gh_coord.specs.Vocabulary.{Check, Close, CloseStage, CoordStage, Count, CountStage, LoadAck, LoadWant, Open, OpenStage, Stop, StopAgain, StopStage, Sweep, SweepAllStage, Tell, Watch, WatchStage}
 use Rattle.gh_sweep.specs.Blind as sweeps
 use Rattle.gh_sweep.specs.Listing as sweep
 
@@ -26,8 +27,12 @@ stop_blind_at s _ found other e = refl
 pub stop_blind : StoresAreBlind stop.asks stop.goes
 stop_blind s found other e = stop_blind_at s s.stage found other e
 
+open_found_blind : (o : opens.CycleOpening) (stage : OpenStage) (found other : ℕ) → is_store (opens.asks_at o stage) ≡ true → opens.found_at o stage found ≡ opens.found_at o stage other
+open_found_blind o o_.LoadHeap found other e = absurd (cc)
+open_found_blind o _ found other e = refl
+
 pub open_blind : StoresAreBlind opens.asks opens.goes
-open_blind o found other e = refl
+open_blind o found other e = ap (λ (n : ℕ). record o { heap = n; stage = opens.behind o.stage }) (open_found_blind o o.stage found other e)
 
 watch_blind_at : (v : watch.Watching) (stage : WatchStage) (found other : ℕ) → is_store (watch.asks_at v stage) ≡ true → watch.goes_at v stage found ≡ watch.goes_at v stage other
 watch_blind_at v (w.Look i) found other e = absurd (cc)

@@ -7,6 +7,7 @@ pub mod Keeping
 pub mod Listing
 pub mod MarkingEnds
 pub mod Opening
+pub mod Pacing
 pub mod PartsSound
 pub mod Sound
 pub mod Stays

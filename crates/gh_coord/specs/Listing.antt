@@ -7,12 +7,13 @@ use Rattle.gh_coord.specs.Closing as close
 use Rattle.gh_coord.specs.Counting as count
 use Rattle.gh_coord.specs.Keeping.{Kept, kept, last_kept}
 use Rattle.gh_coord.specs.Opening as open_
+use Rattle.gh_coord.specs.Pacing.{next_goal, next_trigger, next_work}
 use Rattle.gh_coord.specs.Stopping as stop
 use Rattle.gh_coord.specs.SweepingAll as sweep
 use Rattle.gh_coord.specs.Telling as tell
 use Rattle.gh_coord.specs.Watching as watch
 use Rattle.gh_sweep.specs.Listing.{Sweeping}
-use Rattle.gh_coord.specs.Vocabulary.{All, Ask, bit, Check, Close, CoordStage, Count, Counted, Cycle, Done, GONE, Layout, Load, LoadAck, LoadWant, MarkOn, NEVER, NotYet, Open, phase_word, Stop, StopAgain, Store, Sweep, TallyWord, Tell, Watch, Watched}
+use Rattle.gh_coord.specs.Vocabulary.{All, Ask, bit, Check, Close, CoordStage, Count, Counted, Cycle, Done, GONE, Layout, Load, LoadAck, LoadWant, MarkOn, NotYet, Open, phase_word, Stop, StopAgain, Store, Sweep, TallyWord, Tell, Watch, Watched}
 
 -- What the coordinator knows: its heap, seat and pacing; the numbers of the stops and of the cycle, and the sweep generation; the bytes marked of the last swept cycle; the credit that had lapsed by the last cycle; that each processor is done; how often it has stored the phase word; the cycles that it keeps; and its stage.
 pub record Coordinating : Type 0 where
@@ -87,8 +88,9 @@ module _ (s : Coordinating) where
   abbrev pub stops_again : Coordinating
   stops_again = record s { stops = next_stop s.stops; stage = StopAgain (stop.opening s.layout (next_stop s.stops)) }
 
+  -- it opens a cycle, with the work and the goal by what the last left live
   abbrev pub opens : Coordinating
-  opens = record s { begun = next_cycle s.begun; stage = Open (open_.opening s.layout s.stops (next_cycle s.begun)) }
+  opens = record s { begun = next_cycle s.begun; stage = Open (open_.opening s.layout s.stops (next_cycle s.begun) (next_work s.layout s.gogc s.minheap s.live) (next_goal s.layout s.gogc s.minheap s.live)) }
 
   abbrev pub watches : Coordinating
   watches = at_stage s (Watch (watch.opening s.layout s.begun))
@@ -106,9 +108,9 @@ module _ (s : Coordinating) where
   abbrev pub counts : Coordinating
   counts = at_stage s (Count (count.opening s.layout))
 
-  -- the cycle is kept, by what was counted
+  -- the cycle is kept, by what was counted, and the trigger is that of the next
   abbrev pub tells : Counted → Coordinating
-  tells c = record s { live = c.live; cycles = kept s.cycles (cycle_of s.begun c.tally); stage = Tell (tell.opening s.layout NEVER s.begun s.stops s.is_last) }
+  tells c = record s { live = c.live; cycles = kept s.cycles (cycle_of s.begun c.tally); stage = Tell (tell.opening s.layout (next_trigger s.layout s.gogc s.minheap c.live) s.begun s.stops s.is_last) }
 
 module _ (s : Coordinating) where
   -- a processor is found to be done, or not

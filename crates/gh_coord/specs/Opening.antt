@@ -10,31 +10,22 @@ use Rattle.gh_base.specs.Packing.{phase_word}
 use Rattle.gh_base.specs.Routines.{Listing}
 use Rattle.gh_coord.specs.declared.open.OpenStage.{OpenStage}
 use Rattle.gh_coord.specs.declared.open.OpenStage.TheVariants.{ClearWant, ClearGcur, ClearTally, ClearLive, StoreTrigger, LoadHeap, StoreWork, StoreSlack, StoreBegun, StorePhase, Ended}
-use Rattle.gh_coord.specs.declared.pacing.TheConstants.{NEVER, SLACK, WORK}
+use Rattle.gh_coord.specs.Pacing.{taken}
+use Rattle.gh_pacer.specs.declared.pacing.TheConstants.{NEVER}
+use Rattle.gh_pacer.specs.Pacing.{slack}
 
--- the number of stops, that of the cycle, and the stage
+-- the number of stops, that of the cycle, the words that are to be scanned, the goal, the heap's bytes once they are found, and the stage
 pub record CycleOpening : Type 0 where
   pub layout : Layout
   pub stops : ℕ
   pub cycle : ℕ
+  pub work : ℕ
+  pub goal : Option ℕ
+  pub heap : ℕ
   pub stage : OpenStage
 
-abbrev pub opening : Layout → (stops cycle : ℕ) → CycleOpening
-opening l stops cycle = record { layout = l; stops = stops; cycle = cycle; stage = ClearWant }
-
-module _ (o : CycleOpening) where
-  abbrev pub asks_at : OpenStage → Ask
-  asks_at ClearWant = Store cell.Want 0
-  asks_at ClearGcur = Store cell.Gcur 0
-  asks_at ClearTally = Store cell.Tally 0
-  asks_at ClearLive = Store cell.Live 0
-  asks_at StoreTrigger = Store cell.Trigger NEVER
-  asks_at LoadHeap = Load cell.Heap
-  asks_at StoreWork = Store cell.Work WORK
-  asks_at StoreSlack = Store cell.Slack SLACK
-  asks_at StoreBegun = Store cell.Begun o.cycle
-  asks_at StorePhase = Store cell.Phase (phase_word (record { stops = o.stops; phase = phase.Mark }))
-  asks_at Ended = Load cell.Touch
+abbrev pub opening : Layout → (stops cycle work : ℕ) → (goal : Option ℕ) → CycleOpening
+opening l stops cycle work goal = record { layout = l; stops = stops; cycle = cycle; work = work; goal = goal; heap = 0; stage = ClearWant }
 
 abbrev pub behind : OpenStage → OpenStage
 behind ClearWant = ClearGcur
@@ -48,6 +39,28 @@ behind StoreSlack = StoreBegun
 behind StoreBegun = StorePhase
 behind StorePhase = Ended
 behind Ended = Ended
+
+module _ (o : CycleOpening) where
+  abbrev pub asks_at : OpenStage → Ask
+  asks_at ClearWant = Store cell.Want 0
+  asks_at ClearGcur = Store cell.Gcur 0
+  asks_at ClearTally = Store cell.Tally 0
+  asks_at ClearLive = Store cell.Live 0
+  asks_at StoreTrigger = Store cell.Trigger NEVER
+  asks_at LoadHeap = Load cell.Heap
+  asks_at StoreWork = Store cell.Work o.work
+  asks_at StoreSlack = Store cell.Slack (slack o.heap o.goal)
+  asks_at StoreBegun = Store cell.Begun o.cycle
+  asks_at StorePhase = Store cell.Phase (phase_word (record { stops = o.stops; phase = phase.Mark }))
+  asks_at Ended = Load cell.Touch
+
+  -- the heap's bytes that it has found by then
+  abbrev pub found_at : OpenStage → ℕ → ℕ
+  found_at LoadHeap found = taken found
+  found_at _ found = o.heap
+
+  abbrev pub goes_at : OpenStage → ℕ → CycleOpening
+  goes_at stage found = record o { heap = found_at stage found; stage = behind stage }
 
 -- what it has given, and whether it is busy
 abbrev pub given_at : OpenStage → Option (Unit {0})
@@ -69,7 +82,7 @@ abbrev pub asks : CycleOpening → Ask
 asks o = asks_at o o.stage
 
 abbrev pub goes : CycleOpening → ℕ → CycleOpening
-goes o found = record o { stage = behind o.stage }
+goes o found = goes_at o o.stage found
 
 abbrev pub gives : CycleOpening → ℕ → Option (Unit {0})
 gives o found = given (goes o found)

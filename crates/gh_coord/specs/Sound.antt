@@ -3,7 +3,7 @@ use Rattle.std.specs.Prelude.{◌≡◌, ◌+◌, ◌<◌, ◌≤◌}
 use Rattle.gh_base.specs.declared.layout.Layout.{Layout}
 use Rattle.gh_coord.specs.declared.coord.CoordStage.{CoordStage}
 use Rattle.gh_coord.specs.declared.coord.CoordStage.TheVariants.{LoadAck, LoadWant, Stop, Open, Watch, StopAgain, Check, MarkOn, Close, Sweep, Count, Tell, Done}
-use Rattle.gh_coord.specs.declared.pacing.TheConstants.{MOST_GOGC}
+use Rattle.gh_pacer.specs.declared.pacing.TheConstants.{MOST_GOGC}
 use Rattle.gh_coord.specs.Listing.{Coordinating}
 use Rattle.gh_coord.specs.PartsSound.{FitsGeneration, FitsStops}
 

@@ -19,7 +19,6 @@ pub use Rattle.gh_coord.specs.declared.count.CountStage.{CountStage}
 pub use Rattle.gh_coord.specs.declared.count.Counted.{Counted}
 pub use Rattle.gh_coord.specs.declared.cycles.Cycle.{Cycle}
 pub use Rattle.gh_coord.specs.declared.open.OpenStage.{OpenStage}
-pub use Rattle.gh_coord.specs.declared.pacing.TheConstants.{NEVER}
 pub use Rattle.gh_coord.specs.declared.stop.StopStage.{StopStage}
 pub use Rattle.gh_coord.specs.declared.sweep_all.SweepAllStage.{SweepAllStage}
 pub use Rattle.gh_coord.specs.declared.tell.TellStage.{TellStage}

@@ -3,17 +3,18 @@
 ghost use Rattle.std.specs.Prelude.{◌≡◌, ◌+◌, ◌<◌, ◌≤◌, ◌^◌, length, IfOk, Option, false, true};
 ghost use Rattle.gh_base.specs.declared.pack.Phase.{Phase};
 ghost use Rattle.gh_base.specs.Packing.{phase_word};
+ghost use Rattle.gh_pacer.specs.declared.pacing.TheConstants.{MOST_GOGC};
 ghost use Rattle.gh_coord.specs.declared.count.Counted.{Counted};
-ghost use Rattle.gh_coord.specs.declared.pacing.TheConstants.{MOST_GOGC, NEVER};
 ghost use Rattle.gh_coord.specs.declared.watch.Watched.{Watched};
 ghost use Rattle.gh_coord.specs.Listing.{after_ack, after_check, after_close, after_count, after_open, after_stop, after_stop_again, after_sweep, after_tell, after_want, after_watch, counted, cycle_of, given, gives, goes, goes_at, is_busy, is_done, is_ending, is_idle, lapsed_at, next_stop, opening, stores_phase, stops_world, told_at, watches};
 ghost use Rattle.gh_coord.specs.Keeping.{last_kept};
+ghost use Rattle.gh_coord.specs.Pacing.{first_trigger};
 
 use crate::close::Close;
 use crate::count::{Count, Counted};
 use crate::cycles::{Cycle, Cycles};
 use crate::open::Open;
-use crate::pacing::NEVER;
+use crate::pacing::{first_trigger, next_goal, next_trigger, next_work};
 use crate::stop::Stop;
 use crate::sweep_all::SweepAll;
 use crate::tell::Tell;
@@ -138,11 +139,11 @@ impl Coord {
         })
     }
 
-    /// The word that the heap's trigger opens with.
+    /// The word that the heap's trigger opens with, in bytes.
     pub fn opening(&self) -> u64
-        ensures { result ≡ NEVER }
+        ensures { result ≡ first_trigger self.now.layout.globals self.now.layout.goroutines self.now.gogc self.now.minheap }
     {
-        NEVER
+        first_trigger(&self.layout, self.gogc, self.minheap)
     }
 
     /// The last cycle is swept, and it has no further step.
@@ -272,7 +273,9 @@ impl Coord {
     {
         if out.is_some() {
             self.begun = self.begun.wrapping_add(1);
-            let open = Open::new(&self.layout, self.stops, self.begun);
+            let work = next_work(&self.layout, self.gogc, self.minheap, self.live);
+            let goal = next_goal(&self.layout, self.gogc, self.minheap, self.live);
+            let open = Open::new(&self.layout, self.stops, self.begun, work, goal);
             self.stage = CoordStage::Open(open);
         }
     }
@@ -350,14 +353,15 @@ impl Coord {
         }
     }
 
-    /// Goes on after a step of the reading of the counts: the cycle is kept.
+    /// Goes on after a step of the reading of the counts: the cycle is kept, and what it left live paces the next.
     fn after_count(&mut self, out: Option<Counted>)
         ensures { self.new ≡ after_count self.old out }
     {
         if let Some(counted) = out {
             self.live = counted.live;
             self.cycles.keep(cycle_of(self.begun, counted.tally));
-            let tell = Tell::new(&self.layout, NEVER, self.begun, self.stops, self.is_last);
+            let trigger = next_trigger(&self.layout, self.gogc, self.minheap, self.live);
+            let tell = Tell::new(&self.layout, trigger, self.begun, self.stops, self.is_last);
             self.stage = CoordStage::Tell(tell);
         }
     }

@@ -26,7 +26,10 @@
 //!
 //! Once every processor is done it runs one last cycle, which nobody asks for, and behind it all are done.
 //!
-//! Nothing is paced yet: no allocation asks for a cycle by the heap's size, and none owes any marking.
+//! What paces the next cycle it stores as numbers of `gh_pacer`: behind a cycle the trigger by what that left live, and in
+//! the opening the work and the slack. While a cycle is under way the trigger is one that no allocation reaches, so
+//! that none asks for a second. An allocation loads it, and asks for a cycle where the heap's bytes reach it (`gh_alloc`,
+//! `gh_mutator`). The other words nobody reads yet: no allocation owes any marking.
 //!
 //! What the parts and the coordinator ask for and where they go are their listings, in specs/; above these
 //! stand the laws of [`laws`]. In Go this is spread over `gcStart`, `gcMarkDone`, `gcMarkTermination` and
@@ -51,7 +54,7 @@ pub use coord::{Coord, CoordStage};
 pub use count::{Count, CountStage, Counted};
 pub use cycles::{Cycle, Cycles};
 pub use open::{Open, OpenStage};
-pub use pacing::{MOST_GOGC, NEVER, SLACK, WORK};
+pub use pacing::first_trigger;
 pub use stop::{Stop, StopStage};
 pub use sweep_all::{SweepAll, SweepAllStage};
 pub use tell::{Tell, TellStage};

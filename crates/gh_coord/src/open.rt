@@ -3,10 +3,11 @@
 ghost use Rattle.std.specs.Prelude.{◌≡◌, ◌<◌, ◌^◌, true};
 ghost use Rattle.gh_base.specs.Cells.{InRange};
 ghost use Rattle.gh_base.specs.Steps.{cell_of};
-ghost use Rattle.gh_coord.specs.Opening.{asks, behind, given, is_busy, opening, stores_phase};
+ghost use Rattle.gh_coord.specs.Opening.{asks, behind, found_at, given, is_busy, opening, stores_phase};
 
-use crate::pacing::{NEVER, SLACK, WORK};
+use crate::pacing::taken;
 use gh_base::{Ask, Cell, Layout, Machine, Phase, PhaseWord, Req};
+use gh_pacer::{NEVER, slack};
 use std::marker::Model;
 
 /// The stages in which a cycle is opened.
@@ -22,7 +23,7 @@ pub enum OpenStage {
     ClearLive,
     /// It stores a trigger that no allocation reaches.
     StoreTrigger,
-    /// It loads the heap's bytes, by which the cycle is paced.
+    /// It loads the heap's bytes, of which the slack is what is left to the goal.
     LoadHeap,
     /// It stores the words that are to be scanned.
     StoreWork,
@@ -45,6 +46,9 @@ pub struct Open {
     layout: Layout,
     stops: u64,
     cycle: u64,
+    work: u64,
+    goal: Option<u64>,
+    heap: u64,
     stage: OpenStage,
 }
 
@@ -54,24 +58,28 @@ impl Model for Open {
 
     ghost Value = { CycleOpening };
 
-    ghost view = { λ o. record { layout = o.layout; stops = o.stops; cycle = o.cycle; stage = o.stage } };
+    ghost view = { λ o. record { layout = o.layout; stops = o.stops; cycle = o.cycle; work = o.work; goal = o.goal; heap = o.heap; stage = o.stage } };
 
-    ghost invariant = { λ o. FitsOpen (record { layout = o.layout; stops = o.stops; cycle = o.cycle; stage = o.stage }) };
+    ghost invariant = { λ o. FitsOpen (record { layout = o.layout; stops = o.stops; cycle = o.cycle; work = o.work; goal = o.goal; heap = o.heap; stage = o.stage }) };
 
-    ghost inverse = { λ o. record { layout = o.layout; stops = o.stops; cycle = o.cycle; stage = o.stage } };
+    ghost inverse = { λ o. record { layout = o.layout; stops = o.stops; cycle = o.cycle; work = o.work; goal = o.goal; heap = o.heap; stage = o.stage } };
 }
 
 impl Open {
-    /// Opens the cycle of this number, with this number of stops.
-    pub fn new(layout: &Layout, stops: u64, cycle: u64) -> Open
+    /// Opens the cycle of this number, with this number of stops. So many words are to be scanned in it, and the heap
+    /// is to have so many bytes at most when it ends, if there is such a goal.
+    pub fn new(layout: &Layout, stops: u64, cycle: u64, work: u64, goal: Option<u64>) -> Open
         requires { stops < 2 ^ 62 }
-        ensures opening { result ≡ opening layout.now stops cycle }
+        ensures opening { result ≡ opening layout.now stops cycle work goal }
         ensures begun { is_busy result.stage ≡ true }
     {
         Open {
             layout: *layout,
             stops,
             cycle,
+            work,
+            goal,
+            heap: 0,
             stage: OpenStage::ClearWant,
         }
     }
@@ -95,8 +103,8 @@ impl Open {
             OpenStage::ClearLive => Ask::Store(Cell::Live, 0),
             OpenStage::StoreTrigger => Ask::Store(Cell::Trigger, NEVER),
             OpenStage::LoadHeap => Ask::Load(Cell::Heap),
-            OpenStage::StoreWork => Ask::Store(Cell::Work, WORK),
-            OpenStage::StoreSlack => Ask::Store(Cell::Slack, SLACK),
+            OpenStage::StoreWork => Ask::Store(Cell::Work, self.work),
+            OpenStage::StoreSlack => Ask::Store(Cell::Slack, slack(self.heap, self.goal)),
             OpenStage::StoreBegun => Ask::Store(Cell::Begun, self.cycle),
             OpenStage::StorePhase => {
                 let word = PhaseWord {
@@ -124,6 +132,16 @@ impl Open {
             OpenStage::StoreSlack => OpenStage::StoreBegun,
             OpenStage::StoreBegun => OpenStage::StorePhase,
             OpenStage::StorePhase | OpenStage::Ended => OpenStage::Ended,
+        }
+    }
+
+    /// The heap's bytes that it has found by then.
+    fn found_at(&self, found: u64) -> u64
+        ensures { result ≡ found_at self.now self.now.stage found }
+    {
+        match self.stage {
+            OpenStage::LoadHeap => taken(found),
+            _ => self.heap,
         }
     }
 
@@ -159,7 +177,8 @@ impl Machine for Open {
         self.layout.request(self.ask())
     }
 
-    fn take(&mut self, _found: u64) -> Option<()> {
+    fn take(&mut self, found: u64) -> Option<()> {
+        self.heap = self.found_at(found);
         self.stage = self.behind();
         self.given()
     }
