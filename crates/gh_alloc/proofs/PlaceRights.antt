@@ -1,5 +1,6 @@
 -- The making's own steps are moves that its rights allow, and what it knows lasts. Of the heap and of its routines it is known what their laws say.
-use Rattle.std.proofs.Common.{◌≡◌, ℕ, ◌+◌, ◌*◌, ◌/◌, ◌<◌, Bool, true, false, cond, eqb, ltb, inl, inr, Option, Some, None, refl, sym, ap, subst, ◌∙◌, arith, eq-eqb, ltb-true, ltb-false}
+use Rattle.std.proofs.Common.{◌≡◌, ℕ, ◌+◌, ◌*◌, ◌/◌, ◌%◌, ◌^◌, ◌<◌, Bool, true, false, cond, eqb, ltb, nat_le, inl, inr, Option, Some, None, refl, sym, ap, subst, ◌∙◌, arith, eq-eqb, ltb-true, ltb-false}
+use Rattle.gh_base.specs.declared.cell.Cell.TheVariants as cell
 use Rattle.gh_base.specs.declared.limits.TheConstants.{MOST_STATEMENTS}
 use Rattle.gh_base.specs.declared.pack.PageWord.TheVariants as page
 use Rattle.gh_class.specs.declared.class.SizeClass.TheVariants as size
@@ -10,7 +11,7 @@ use Rattle.gh_bitmap.specs.Facts as bits
 use Rattle.gh_bitmap.specs.SetPointers as setter
 use Rattle.gh_central.specs.GiveBack.{Giving}
 use Rattle.gh_central.specs.GiveFacts as giving
-use Rattle.gh_alloc.specs.declared.place.PlaceStage.TheVariants.{Give, Ended}
+use Rattle.gh_alloc.specs.declared.place.PlaceStage.TheVariants.{Give, LoadTrigger, Ended}
 use Rattle.gh_alloc.specs.Place.{asks, asks_at, at_stage, given, given_at, goes}
 use Rattle.gh_alloc.specs.PlaceFacts.{Born, Changes, Comes, CountsAlone, FactsAt, FieldsClear, Filled, For, GivesUp, IsItsSpan, Lasts, Made, Opens, OwnStep, PlacesByItsRights, Unmade, Within, base, held_by, setting}
 use Rattle.gh_alloc.proofs.Vocabulary.{acts_at, Alloc, Arena, Birth, birth_word, bit, Bits, cell_of, Claims, Clear, ClearField, Count, EachRightFollows, eqb_tells, filled, Good, InRange, is_pointer, IsFull, landing, made, Make, Mark, May, moved, Name, Others, page_of, placed_at, PlaceStage, Placing, Quiet, Right, Row, row_bit, RowsAreWritten, Runs, SetBirth, SetStage, Shape, shape_at, Shared, size_class_of, slot_count, slot_size, SpanHead, Steps, TheHeapIsApart, update, View, view}
@@ -96,7 +97,8 @@ stage-lasts k z a v w f p Mark good o x = filled-lasts z a v w f p o x
 stage-lasts k z a v w f p Alloc good o x = filled-lasts z a v w f p o x
 stage-lasts k z a v w f p (Give g) good o x = (made-lasts z a v w p o x.0, gives-last k z a v w p g o x.1)
 stage-lasts k z a v w f p Count good o x = made-lasts z a v w p o x
-stage-lasts k z a v w f p Ended good o x = x
+stage-lasts k z a v w f p (LoadTrigger bytes) good o x = made-lasts z a v w p o x
+stage-lasts k z a v w f p (Ended wants) good o x = x
 
 lasts : Known → Lasts
 lasts k z a v w f p good o x = stage-lasts k z a v w f (base p) p.stage good o x
@@ -305,8 +307,34 @@ module _ (k : Known) (z : Arena) (a : ℕ) (s : Shared) (f : For) (held : ℕ �
       (k.give.gives_large z a s false held None g good right x.1.back x.1.large x.1.full)
 
   count : Right a now false (held_by Count p.span (p.at / 1024) held) None → Knows Count → Step Count
-  count right x = record { move = Quiet (asks_at p Count); may = tt; words_are = refl; after = ((refl, refl), (go p.span right, record { made = x.made; at = x.at }), refl) } where
-    go : (span : Option SpanHead) → Right a now false (held_by Count span (p.at / 1024) held) None → Right a (view (moved z a s (Quiet (asks_at p Count)))) false (held_by Ended span (p.at / 1024) held) None
+  count right x = record { move = Quiet (asks_at p Count); may = tt; words_are = refl; after = ((refl, refl), then p.marking, refl) } where
+    t : Shared
+    t = moved z a s (Quiet (asks_at p Count))
+
+    bytes : ℕ
+    bytes = (s.words cell.Heap + 8 * p.slot) % 2 ^ 64
+
+    ends : (span : Option SpanHead) → Right a now false (held_by Count span (p.at / 1024) held) None → Right a (view t) false (held_by (Ended false) span (p.at / 1024) held) None
+    ends None r = record { locked = r.locked; holds = r.holds; laying = r.laying; freeing = r.freeing }
+    ends (Some head) r = record { locked = r.locked; holds = r.holds; laying = r.laying; freeing = r.freeing }
+
+    looks : (span : Option SpanHead) → Right a now false (held_by Count span (p.at / 1024) held) None → Right a (view t) false (held_by (LoadTrigger bytes) span (p.at / 1024) held) None
+    looks None r = record { locked = r.locked; holds = r.holds; laying = r.laying; freeing = r.freeing }
+    looks (Some head) r = record { locked = r.locked; holds = r.holds; laying = r.laying; freeing = r.freeing }
+
+    then : (marking : Bool) → Comes z a (view t) f held (given_at (cond marking (Ended false) (LoadTrigger bytes))) (at_stage p (cond marking (Ended false) (LoadTrigger bytes)))
+    then true = (ends p.span right, record { made = x.made; at = x.at })
+    then false = (looks p.span right, record { made = x.made; at = x.at })
+
+  load : (bytes : ℕ) → Right a now false (held_by (LoadTrigger bytes) p.span (p.at / 1024) held) None → Knows (LoadTrigger bytes) → Step (LoadTrigger bytes)
+  load bytes right x = record { move = Quiet (asks_at p (LoadTrigger bytes)); may = tt; words_are = refl; after = ((refl, refl), (go p.span right, record { made = x.made; at = x.at }), tt) } where
+    t : Shared
+    t = moved z a s (Quiet (asks_at p (LoadTrigger bytes)))
+
+    asks-so : Bool
+    asks-so = nat_le (s.words cell.Trigger) bytes
+
+    go : (span : Option SpanHead) → Right a now false (held_by (LoadTrigger bytes) span (p.at / 1024) held) None → Right a (view t) false (held_by (Ended asks-so) span (p.at / 1024) held) None
     go None r = record { locked = r.locked; holds = r.holds; laying = r.laying; freeing = r.freeing }
     go (Some head) r = record { locked = r.locked; holds = r.holds; laying = r.laying; freeing = r.freeing }
 
@@ -318,7 +346,8 @@ module _ (k : Known) (z : Arena) (a : ℕ) (s : Shared) (f : For) (held : ℕ �
   own-at Alloc g right x = make g right x
   own-at (Give g) good right x = give g good right x
   own-at Count g right x = count right x
-  own-at Ended g right x = absurd x
+  own-at (LoadTrigger bytes) g right x = load bytes right x
+  own-at (Ended wants) g right x = absurd x
 
 own : Known → OwnStep
 own k z a s f held p g right x = own-at k z a s f held p p.stage g right x
@@ -335,7 +364,8 @@ module _ (k : Known) (z : Arena) (a : ℕ) (v : View) (f : For) (p : Placing) (g
   within-at (Bits m) x = k.bits.within z a v m x.3
   within-at (Give g) x = k.give.within z a v g good x.1.back
   within-at Count x = tt
-  within-at Ended x = absurd x
+  within-at (LoadTrigger bytes) x = tt
+  within-at (Ended wants) x = absurd x
   within-at _ x = let first = inside 0 x.0 x.0.places.some in omega (arith, first)
 
 within : Known → Within

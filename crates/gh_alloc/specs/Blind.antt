@@ -11,7 +11,7 @@ use Rattle.gh_central.specs.UnsweptPass as unswept
 use Rattle.gh_pages.specs.Blind as carve_stores
 use Rattle.gh_pages.specs.Listing as carve
 use Rattle.gh_alloc.specs.declared.place.PlaceStage.{PlaceStage}
-use Rattle.gh_alloc.specs.declared.place.PlaceStage.TheVariants.{Clear}
+use Rattle.gh_alloc.specs.declared.place.PlaceStage.TheVariants.{Clear, Count, LoadTrigger}
 use Rattle.gh_alloc.specs.declared.search.SearchStage.{SearchStage}
 use Rattle.gh_alloc.specs.declared.search.SearchStage.TheVariants.{First, Free, Second}
 use Rattle.gh_alloc.specs.Vocabulary.{FindStage, Slots, Lock, Pass, Unswept, Carve}
@@ -40,10 +40,12 @@ search_blind_at f Second found other e = ap (λ (x : Finding). record { find = x
 pub search_blind : StoresAreBlind search.asks search.goes
 search_blind s found other e = search_blind_at s.find s.stage found other e
 
--- the making of an object never looks at a word found
-place_blind_at : (p : place.Placing) (stage : PlaceStage) (found other : ℕ) → place.goes_at p stage found ≡ place.goes_at p stage other
-place_blind_at p (Clear k) found other = refl
-place_blind_at p _ found other = refl
+-- the making of an object looks at what the counting found, and at the trigger
+place_blind_at : (p : place.Placing) (stage : PlaceStage) (found other : ℕ) → is_store (place.asks_at p stage) ≡ true → place.goes_at p stage found ≡ place.goes_at p stage other
+place_blind_at p (Clear k) found other e = refl
+place_blind_at p Count found other e = absurd (cc)
+place_blind_at p (LoadTrigger bytes) found other e = absurd (cc)
+place_blind_at p _ found other e = refl
 
 pub place_blind : StoresAreBlind place.asks place.goes
-place_blind p found other e = ap (place.at_stage p) (place_blind_at p p.stage found other)
+place_blind p found other e = ap (place.at_stage p) (place_blind_at p p.stage found other e)

@@ -14,5 +14,6 @@ pub mod Search
 pub mod SearchFacts
 pub mod SearchSound
 pub mod Stays
+pub mod Trigger
 pub mod Vocabulary
 pub mod Within

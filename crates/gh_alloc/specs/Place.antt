@@ -1,5 +1,5 @@
 -- Making an object in its slot: what is asked for at each stage, where that leads, and what it has given.
-use Rattle.std.specs.Prelude.{ℕ, ◌+◌, ◌*◌, ◌/◌, ◌%◌, ◌^◌, Bool, true, false, nat_lt, if◌then◌else◌, Option, Some, None, is_none}
+use Rattle.std.specs.Prelude.{ℕ, ◌+◌, ◌*◌, ◌/◌, ◌%◌, ◌^◌, Bool, true, false, nat_le, nat_lt, if◌then◌else◌, Option, Some, None, is_none}
 use Rattle.gh_base.specs.declared.cell.Cell.TheVariants as cell
 use Rattle.gh_base.specs.declared.cell.Ask.{Ask}
 use Rattle.gh_base.specs.declared.cell.Ask.TheVariants.{Load, Store, Or, Add}
@@ -13,7 +13,7 @@ use Rattle.gh_base.specs.Routines.{Listing}
 use Rattle.gh_bitmap.specs.SetPointers as bits
 use Rattle.gh_central.specs.GiveBack as give
 use Rattle.gh_alloc.specs.declared.place.PlaceStage.{PlaceStage}
-use Rattle.gh_alloc.specs.declared.place.PlaceStage.TheVariants.{Clear, Birth, Bits, Mark, Alloc, Give, Count, Ended}
+use Rattle.gh_alloc.specs.declared.place.PlaceStage.TheVariants.{Clear, Birth, Bits, Mark, Alloc, Give, Count, LoadTrigger, Ended}
 
 -- the making of an object: of which shape and name, in the slot at which heap word and of how many words, a large one's span, whether marking is on, and its stage
 pub record Placing : Type 0 where
@@ -45,12 +45,17 @@ module _ (p : Placing) where
   asks_at Alloc = Or (cell.Alloc (p.at / 64)) (2 ^ (p.at % 64))
   asks_at (Give g) = give.asks g
   asks_at Count = Add cell.Heap (8 * p.slot)
-  asks_at Ended = Load cell.Touch
+  asks_at (LoadTrigger bytes) = Load cell.Trigger
+  asks_at (Ended wants) = Load cell.Touch
 
   -- once the object is made, a large one's span is given back
   abbrev pub made : Option SpanHead → PlaceStage
   made None = Count
   made (Some head) = Give (give.opening p.layout (p.at / 1024) head)
+
+  -- once the slot's bytes are counted, and the heap had this many before: while marking is off the trigger is looked at
+  abbrev pub counted : (found : ℕ) → PlaceStage
+  counted found = if p.marking then Ended false else LoadTrigger ((found + 8 * p.slot) % 2 ^ 64)
 
   abbrev pub goes_at : PlaceStage → ℕ → PlaceStage
   goes_at (Clear k) found = if nat_lt (k + 1) p.slot then Clear (k + 1) else Birth
@@ -59,11 +64,13 @@ module _ (p : Placing) where
   goes_at Mark found = Alloc
   goes_at Alloc found = made p.span
   goes_at (Give g) found = Count
-  goes_at Count found = Ended
-  goes_at Ended found = Ended
+  goes_at Count found = counted found
+  goes_at (LoadTrigger bytes) found = Ended (nat_le found bytes)
+  goes_at (Ended wants) found = Ended false
 
-abbrev pub given_at : PlaceStage → Option (Unit {0})
-given_at Ended = Some tt
+-- whether a cycle is to be asked for, once it has ended
+abbrev pub given_at : PlaceStage → Option Bool
+given_at (Ended wants) = Some wants
 given_at _ = None
 
 abbrev pub is_busy : PlaceStage → Bool
@@ -81,13 +88,13 @@ asks p = asks_at p p.stage
 abbrev pub goes : Placing → ℕ → Placing
 goes p found = at_stage p (goes_at p p.stage found)
 
-abbrev pub given : Placing → Option (Unit {0})
+abbrev pub given : Placing → Option Bool
 given p = given_at p.stage
 
-abbrev pub gives : Placing → ℕ → Option (Unit {0})
+abbrev pub gives : Placing → ℕ → Option Bool
 gives p found = given (goes p found)
 
-abbrev pub listing : Listing Placing (Unit {0})
+abbrev pub listing : Listing Placing Bool
 listing = listing_of (λ p. p.layout) asks goes given
 
 -- its next step makes the object

@@ -16,7 +16,7 @@ use Rattle.gh_bitmap.specs.Stepping.{FitsSlot}
 use Rattle.gh_central.specs.GiveBack.{Giving}
 use Rattle.gh_central.specs.GiveFacts.{CanGiveBack}
 use Rattle.gh_alloc.specs.declared.place.PlaceStage.{PlaceStage}
-use Rattle.gh_alloc.specs.declared.place.PlaceStage.TheVariants.{Clear, Birth, Bits, Mark, Alloc, Give, Count, Ended}
+use Rattle.gh_alloc.specs.declared.place.PlaceStage.TheVariants.{Clear, Birth, Bits, Mark, Alloc, Give, Count, LoadTrigger, Ended}
 use Rattle.gh_alloc.specs.Place.{Placing, acts, asks, at_stage, gives, goes}
 use Rattle.gh_alloc.specs.Vocabulary.{Arena, cell_of, Claims, Good, InRange, IsFull, Others, owned_by, placed_at, Right, Runs, Shared, size_class_of, SpanHead, Steps, update, View, view}
 
@@ -95,7 +95,8 @@ FactsAt z a v f p Mark = Filled z a v f p
 FactsAt z a v f p Alloc = Filled z a v f p
 FactsAt z a v f p (Give g) = Made v p × GivesUp z a v p g
 FactsAt z a v f p Count = Made v p
-FactsAt z a v f p Ended = ⊥
+FactsAt z a v f p (LoadTrigger bytes) = Made v p
+FactsAt z a v f p (Ended wants) = ⊥
 
 abbrev pub Facts : Arena → (a : ℕ) → View → For → Placing → Type 0
 Facts z a v f p = FactsAt z a v f (base p) p.stage
@@ -103,7 +104,8 @@ Facts z a v f p = FactsAt z a v f (base p) p.stage
 -- The spans that the seat holds at a stage, where it held those before: a large object's is given back before its bytes are counted.
 abbrev pub held_by : PlaceStage → Option SpanHead → (page : ℕ) → (ℕ → Bool) → ℕ → Bool
 held_by Count (Some h) page held = update held page false
-held_by Ended (Some h) page held = update held page false
+held_by (LoadTrigger bytes) (Some h) page held = update held page false
+held_by (Ended wants) (Some h) page held = update held page false
 held_by _ _ page held = held
 
 abbrev pub held_in : Placing → (ℕ → Bool) → ℕ → Bool
@@ -115,7 +117,7 @@ Changes z f p true v w = (w.ever ≡ with_register (with_object z.shapes v.ever 
 Changes z f p false v w = (w.ever ≡ v.ever) × (w.place ≡ v.place)
 
 -- What a step comes to in w: the right that its seat has then; and the facts of the next stage, or that the object is made.
-abbrev pub Comes : Arena → (a : ℕ) → (w : View) → For → (ℕ → Bool) → Option (Unit {0}) → Placing → Type 0
+abbrev pub Comes : Arena → (a : ℕ) → (w : View) → For → (ℕ → Bool) → Option Bool → Placing → Type 0
 Comes z a w f held None p = Right a w false (held_in p held) None × Facts z a w f p
 Comes z a w f held (Some _) p = Right a w false (held_in p held) None × Made w p
 

@@ -8,6 +8,7 @@ ghost use Rattle.gh_alloc.specs.Quiet.{AllocationIsQuiet};
 ghost use Rattle.gh_alloc.specs.Rounds.{NoRoomIsAfterReclaim};
 ghost use Rattle.gh_alloc.specs.Search.{asks, goes, sweep_generation, sweep_in, sweep_layout};
 ghost use Rattle.gh_alloc.specs.SearchFacts.{SeeksByItsRights};
+ghost use Rattle.gh_alloc.specs.Trigger.{AnObjectAsksAtTheTrigger};
 
 use crate::place::Place;
 use gh_base::laws::{cells_are_told, rows_are_written, steps_are_folded};
@@ -26,6 +27,13 @@ use gh_pages::laws::the_carve_keeps_its_facts;
 /// behind one that has set the same bit of the marks. While marking is off, no step of it is on a mark word.
 pub fn an_object_is_marked_before_it_is_made()
     ensures { AnObjectIsMarkedBeforeItIsMade }
+{}
+
+/// Whatever the making of an object is told: it tells that a cycle is to be asked for exactly where it loads a
+/// trigger that the heap's bytes with the object's reach, by what the step that added them found while marking is
+/// off.
+pub fn an_object_asks_at_the_trigger()
+    ensures { AnObjectAsksAtTheTrigger }
 {}
 
 /// Whatever any number of processors do beside it: each step of the search, short of the one that finds no

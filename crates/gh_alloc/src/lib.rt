@@ -7,7 +7,8 @@
 //! fresh span of its own. [`Search`] is for a heap with a collector: where `Find` finds nothing, it sweeps
 //! each span that nobody owns, frees the pages of empty ones, and looks once more. [`Place`] then makes the
 //! object in its slot: it clears the fields, writes the birth word and the pointer bits, and sets the alloc
-//! bit last, from which on the slot is taken.
+//! bit last, from which on the slot is taken, counts the slot's bytes, and tells where the heap's bytes reach the
+//! trigger, so that a cycle is due.
 //!
 //! A goroutine's search sweeps as the collector does, by the steps of `Sweep` (gh_sweep), which are no moves
 //! of the heap. So the laws of a search say of its own steps which moves they are, of a sweep's steps what is known

@@ -1,7 +1,13 @@
-//! The routine that makes an object in its slot.
+//! The routine that makes an object in its slot, and tells whether a cycle is due.
+//!
+//! A cycle is due where the heap's bytes reach the trigger (Go's `gcTrigger.test` for `gcTriggerHeap`, mgc.go). The
+//! object whose bytes bring them there is the one to tell, so the trigger is loaded behind the step that adds them.
+//! That step finds what the heap had before, and so each object compares a sum of its own, however many are counted
+//! at the same time. While a cycle is under way the trigger is 2^64 - 1, so that a second one is not asked for; and
+//! who knows that marking is on does not look.
 
 ghost use Rattle.std.specs.Prelude.{◌≡◌, ℕ, ◌+◌, ◌*◌, ◌^◌, ◌<◌, ◌≤◌};
-ghost use Rattle.gh_alloc.specs.Place.{acts, filled, given, made, opening};
+ghost use Rattle.gh_alloc.specs.Place.{acts, counted, filled, given, made, opening};
 ghost use Rattle.gh_alloc.specs.PlaceSound.{FitsSpanHead};
 ghost use Rattle.gh_alloc.specs.declared.place.PlaceStage.TheVariants.{Bits};
 ghost use Rattle.gh_bitmap.specs.SetPointers as setting;
@@ -28,8 +34,10 @@ pub enum PlaceStage<'s> {
     Give(GiveBack),
     /// It counts the slot's bytes.
     Count,
-    /// It has ended.
-    Ended,
+    /// It loads the trigger, where marking is off: the heap has this many bytes with the slot's.
+    LoadTrigger(u64),
+    /// It has ended, and says whether a cycle is to be asked for.
+    Ended(bool),
 }
 
 /// Makes an object in its slot (Go's `mallocgc`, from the slot on, in malloc.go).
@@ -38,7 +46,7 @@ pub enum PlaceStage<'s> {
 /// the first, and the slot's pointer bits by the type's shape. Then it sets the alloc bit of the first
 /// word: from that step on the object is there, and whoever sees it sees its fields clear and its
 /// pointer bits as they are to be. A large object's span is given back, so that nobody has it cached,
-/// and the slot's bytes are counted.
+/// and the slot's bytes are counted. Where the heap's bytes with these reach the trigger, a cycle is to be asked for.
 ///
 /// While marking is on the object is made black (`gcmarknewobject` in mgcmark.go): its mark bit is set
 /// by the step before. The mark comes first because the alloc bit shows the slot to everyone. Whoever
@@ -142,12 +150,23 @@ impl<'s> Place<'s> {
         PlaceStage::Bits(SetPointers::new(&self.layout, self.shape, self.at, self.slot))
     }
 
+    /// What follows once the slot's bytes are counted, where the heap had this many before: it ends while marking is on.
+    fn counted(&self, found: u64) -> PlaceStage<'s>
+        ensures { result ≡ counted self.now found }
+    {
+        if self.marking {
+            PlaceStage::Ended(false)
+        } else {
+            PlaceStage::LoadTrigger(found.wrapping_add(8 * u64::from(self.slot)))
+        }
+    }
+
     /// What it has given.
-    fn given(&self) -> Option<()>
+    fn given(&self) -> Option<bool>
         ensures { result ≡ given self.now }
     {
-        match self.stage {
-            PlaceStage::Ended => Some(()),
+        match &self.stage {
+            PlaceStage::Ended(asks) => Some(*asks),
             _ => None,
         }
     }
@@ -169,7 +188,8 @@ impl<'s> Machine for Place<'s> {
     ghost use Rattle.gh_base.specs.Given.{is_over};
     ghost use Rattle.gh_alloc.specs.Place.{listing};
 
-    type Out = ();
+    /// A cycle is to be asked for.
+    type Out = bool;
 
     ghost layout = { listing.layout };
 
@@ -190,12 +210,13 @@ impl<'s> Machine for Place<'s> {
             PlaceStage::Alloc => Ask::Or(Cell::Alloc(self.at / 64), 1 << (self.at % 64)),
             PlaceStage::Give(give) => return give.next(),
             PlaceStage::Count => Ask::Add(Cell::Heap, 8 * u64::from(self.slot)),
-            PlaceStage::Ended => Ask::Load(Cell::Touch),
+            PlaceStage::LoadTrigger(_) => Ask::Load(Cell::Trigger),
+            PlaceStage::Ended(_) => Ask::Load(Cell::Touch),
         };
         self.layout.request(ask)
     }
 
-    fn take(&mut self, found: u64) -> Option<()> {
+    fn take(&mut self, found: u64) -> Option<bool> {
         match &mut self.stage {
             PlaceStage::Clear(k) => {
                 let next = *k + 1;
@@ -214,8 +235,10 @@ impl<'s> Machine for Place<'s> {
             PlaceStage::Mark => self.stage = PlaceStage::Alloc,
             PlaceStage::Alloc => self.stage = self.made(),
             PlaceStage::Give(_) => self.stage = PlaceStage::Count,
-            PlaceStage::Count => self.stage = PlaceStage::Ended,
-            PlaceStage::Ended => {}
+            PlaceStage::Count => self.stage = self.counted(found),
+            PlaceStage::LoadTrigger(bytes) => self.stage = PlaceStage::Ended(found <= *bytes),
+            // A cycle is asked for once.
+            PlaceStage::Ended(asks) => *asks = false,
         }
         self.given()
     }

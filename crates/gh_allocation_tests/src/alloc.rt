@@ -211,8 +211,9 @@ fn makes_objects(rt: HostRuntime) -> Result<(), Fail> {
         "or alloc 16 1: 0",
         "store page 1 4294967933: 0",
         "add heap 16: 0",
+        "load trigger: 0",
     ];
-    assert!(rt; steps.are(&lines));
+    assert!(rt; steps.are(&lines) && steps.out == Some(true));
     let mut place = Place::new(&layout, &shape, 66, 2, name, None, true);
     let steps = run_alone(rt.alloc(), &mut place, &layout, &mut words, 99)?;
     let lines = [

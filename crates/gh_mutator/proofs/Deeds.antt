@@ -1,5 +1,5 @@
 -- Each operation of the processor acts once before it ends, and only those with a point change the heap that never frees.
-use Rattle.std.proofs.Common.{◌≡◌, ℕ, ◌+◌, Bool, true, false, cond, ltb, is_some, List, refl, sym, ap, ◌∙◌, Option, Some, None}
+use Rattle.std.proofs.Common.{◌≡◌, ℕ, ◌+◌, ◌*◌, ◌%◌, ◌^◌, Bool, true, false, cond, ltb, nat_le, is_some, List, refl, sym, ap, ◌∙◌, Option, Some, None}
 use Rattle.gh_mutator.specs.Vocabulary.{Polling}
 use Rattle.gh_base.specs.declared.operation.Op.TheVariants as op
 use Rattle.gh_base.specs.declared.pack.SpanHead.{SpanHead}
@@ -35,7 +35,7 @@ use Rattle.gh_mutator.specs.Poll as poll
 use Rattle.gh_mutator.specs.Step.{ends, goes_on}
 use Rattle.gh_mutator.specs.Store as store
 use Rattle.gh_mutator.specs.Wait as wait
-use Rattle.gh_mutator.proofs.Vocabulary.{Local, after_gc, after_leave, after_place, after_poll, after_search, after_wait, At, begins, cache_span, follows, Found, Global, GlobalStage, has_left_at, is_busy_at, Layout, Leaving, LoadStage, NewStage, NoRoom, Op, Place, PlaceStage, Placing, Processor, processor_kind, register_of, Search, Seeking, Shape, Step, StoreStage, takes, takes_at, Task, Value, Wait, Waiting, Wanted}
+use Rattle.gh_mutator.proofs.Vocabulary.{Local, after_gc, after_leave, after_place, after_poll, after_search, after_wait, At, begins, cache_span, follows, Found, Global, GlobalStage, has_left_at, is_busy_at, Layout, Leaving, LoadStage, NewStage, NoRoom, Op, Place, PlaceStage, Placing, Processor, processor_kind, register_of, Search, Seeking, Shape, Step, StoreStage, takes, takes_at, Task, Value, Wait, Waiting, Wanted, Want}
 
 -- ---- a step of a statement acts once
 
@@ -135,6 +135,14 @@ module _ (shapes : List Shape) (m : Processor) where
       filled true = refl
       filled false = refl
   place_acts w p found making.Mark = refl
+  place_acts w p found making.Count = go p.marking where
+    go : (marking : Bool) → PlaceActs w p making.Count (cond marking (making.Ended false) (making.LoadTrigger ((found + 8 * p.slot) % 2 ^ 64)))
+    go true = refl
+    go false = refl
+  place_acts w p found (making.LoadTrigger bytes) = go (nat_le found bytes) where
+    go : (reached : Bool) → PlaceActs w p (making.LoadTrigger bytes) (making.Ended reached)
+    go true = refl
+    go false = refl
   place_acts w p found making.Alloc = go p.span where
     go : (s : Option SpanHead) → PlaceActs w p making.Alloc (place.made p s)
     go None = (refl, refl)
@@ -145,6 +153,7 @@ module _ (shapes : List Shape) (m : Processor) where
   new_acts w (Search waited s) found = search_acts w waited s found
   new_acts w (Wait x) found = wait_acts w (wait.goes (wait.waiting x m.poll) found) (wait.gives (wait.waiting x m.poll) found)
   new_acts w (Place p) found = place_acts w p found p.stage
+  new_acts w (Want n) found = refl
 
   -- what ends acts
   gc_acts : (g : ℕ) (x : Waiting) (out : Option (Unit {0})) → ActsOnce (Some (op.Gc g)) (op_at (after_gc m g x out).task) (acting (is_some out) (op.Gc g) false)

@@ -20,7 +20,7 @@ use Rattle.gh_mutator.specs.Serving.{answer_at, is_serving}
 use Rattle.gh_mutator.specs.Step.{answered}
 use Rattle.gh_mutator.specs.Store as store_listing
 use Rattle.gh_mutator.specs.Wait as wait
-use Rattle.gh_mutator.proofs.Vocabulary.{Held, after_gc, after_leave, after_poll, after_search, after_wait, answer_search, applied, asks_at, At, at_poll, at_task, begun_with, cache_span, Ends, follows, Found, gives_at, GoesOn, Leaving, makes, Name, NewStage, NoRoom, Op, Place, Placing, Processor, register_of, rested, Search, Seeking, Shape, Step, takes_at, taking, Task, Then, told, Value, Wait, Waiting, Wanted}
+use Rattle.gh_mutator.proofs.Vocabulary.{Held, after_gc, after_leave, after_poll, after_search, after_wait, answer_search, applied, asks_at, At, at_poll, at_task, begun_with, cache_span, Ends, follows, Found, gives_at, GoesOn, Leaving, Name, NewStage, NoRoom, Op, Place, Placing, Processor, register_of, rested, Search, Seeking, Shape, Step, takes_at, taking, Task, Then, told, Value, Wait, Waiting, Wanted, Want}
 use Rattle.gh_mutator.proofs.GlobalSteps as global
 use Rattle.gh_mutator.proofs.LoadSteps as load
 use Rattle.gh_mutator.proofs.Steps.{FaultsFrom, GoesTo}
@@ -80,13 +80,15 @@ wait_quiet : (m : Processor) (w : Wanted) (x : Waiting) (out : Option (Unit {0})
 wait_quiet m w x None = refl
 wait_quiet m w x (Some y) = refl
 
-place_quiet : (w : Wanted) (p : Placing) (busy : Bool) → may_fault (cond busy (makes w p) task.Idle) ≡ false
-place_quiet w p true = refl
-place_quiet w p false = refl
+place_quiet : (w : Wanted) (p : Placing) (asks : Option Bool) → may_fault (new.made_task w p asks) ≡ false
+place_quiet w p None = refl
+place_quiet w p (Some true) = refl
+place_quiet w p (Some false) = refl
 
-place_answers : (n : Name) (busy : Bool) (cause : Cause) → cond busy None (Some (answer.Ref n)) ≡ Some (answer.Fault cause) → ⊥
-place_answers n true cause e = absurd (cc)
-place_answers n false cause e = absurd (cc)
+place_answers : (n : Name) (asks : Option Bool) (cause : Cause) → new.answer_made n asks ≡ Some (answer.Fault cause) → ⊥
+place_answers n None cause e = absurd (cc)
+place_answers n (Some true) cause e = absurd (cc)
+place_answers n (Some false) cause e = absurd (cc)
 
 new_faults : (shapes : List Shape) (n m : Processor) (t : Task) (w : Wanted) (s : NewStage) (found : ℕ) → FaultsAt n t (new.takes_at shapes m w s found) (new.gives_at s found)
 new_faults shapes n m t w (Search waited s) found =
@@ -94,7 +96,8 @@ new_faults shapes n m t w (Search waited s) found =
 new_faults shapes n m t w (Wait x) found =
     none_at n t _ _ (λ cause e. absurd (cc)) (wait_quiet m w (wait.goes (wait.waiting x m.poll) found) (wait.gives (wait.waiting x m.poll) found))
 new_faults shapes n m t w (Place p) found =
-    none_at n t _ _ (place_answers p.name (place.is_busy (place.goes p found).stage)) (place_quiet w (place.goes p found) (place.is_busy (place.goes p found).stage))
+    none_at n t _ _ (place_answers p.name (place.gives p found)) (place_quiet w (place.goes p found) (place.gives p found))
+new_faults shapes n m t w (Want u) found = none_at n t _ _ (λ cause e. absurd (cc)) refl
 
 -- a `gc`, and what is the processor's own
 gc_faults : (n m : Processor) (t : Task) (g : ℕ) (x : Waiting) (out : Option (Unit {0})) → FaultsAt n t (after_gc m g x out) (once_ended out answer.Swept)

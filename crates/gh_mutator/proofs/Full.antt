@@ -10,11 +10,11 @@ use Rattle.gh_mutator.specs.declared.wait.WaitStage.TheVariants as wait_stage
 use Rattle.gh_mutator.specs.Full.{after, FullChangesLittle, HasWaited, is_waiting}
 use Rattle.gh_mutator.specs.Local.{cached_in, stacks_with}
 use Rattle.gh_mutator.specs.Mutating.{asks, begins, gives, goes, listing, marks_after, Mutating}
-use Rattle.gh_mutator.specs.New.{gives_at as gives_new, seeking, takes_at as takes_new}
+use Rattle.gh_mutator.specs.New.{gives_at as gives_new, seeking, takes_at as takes_new, made_task, answer_made}
 use Rattle.gh_mutator.specs.Stays.{ends_later, wait_seat, wait_stacks, wait_stays}
 use Rattle.gh_mutator.specs.Vocabulary.{Polling}
 use Rattle.gh_mutator.specs.Wait as wait
-use Rattle.gh_mutator.proofs.Vocabulary.{after_search, after_wait, answer_search, At, at_poll, cache_span, cache_with, CachedSpan, Found, gives_at, is_looking, Large, makes, Name, NewStage, NoRoom, Place, Placing, Processor, rested, Search, Seeking, set, Shape, Small, Sought, span_index, takes_at, Task, Wait, Waiting, WaitStage, WaitState, Wanted, wanted_of}
+use Rattle.gh_mutator.proofs.Vocabulary.{after_search, after_wait, answer_search, At, at_poll, cache_span, cache_with, CachedSpan, Found, gives_at, is_looking, Large, Name, NewStage, NoRoom, Place, Placing, Processor, rested, Search, Seeking, set, Shape, Small, Sought, span_index, takes_at, Task, Wait, Waiting, WaitStage, WaitState, Wanted, wanted_of, Want}
 use Rattle.gh_mutator.proofs.NewSteps.{search_wants}
 use Rattle.gh_mutator.proofs.Refusing.{KeptFor, kept, kept_first, refuses_none, search_looks}
 use Rattle.gh_mutator.proofs.Telling.{held_before}
@@ -47,6 +47,7 @@ knows_at w wait_stage.Ended v = refl
 -- the search is over: no `full` is answered any more
 abbrev is_over : NewStage → Bool
 is_over (Place p) = true
+is_over (Want n) = true
 is_over _ = false
 
 abbrev is_past : Task → Bool
@@ -54,28 +55,32 @@ is_past task.Idle = true
 is_past (task.New x) = is_over x.stage
 is_past _ = false
 
-place_past : (w : Wanted) (p : Placing) (busy : Bool) → is_past (cond busy (makes w p) task.Idle) ≡ true
-place_past w p true = refl
-place_past w p false = refl
+place_past : (w : Wanted) (p : Placing) (asks : Option Bool) → is_past (made_task w p asks) ≡ true
+place_past w p None = refl
+place_past w p (Some true) = refl
+place_past w p (Some false) = refl
 
 new_past : (shapes : List Shape) (m : Processor) (w : Wanted) (s : NewStage) (v : ℕ) → is_over s ≡ true → is_past (takes_new shapes m w s v).task ≡ true
 new_past shapes m w (Search waited s) v e = absurd (cc)
 new_past shapes m w (Wait x) v e = absurd (cc)
-new_past shapes m w (Place p) v e = place_past w (place.goes p v) (place.is_busy (place.goes p v).stage)
+new_past shapes m w (Place p) v e = place_past w (place.goes p v) (place.gives p v)
+new_past shapes m w (Want n) v e = refl
 
 past_at : (shapes : List Shape) (m : Processor) (t : Task) (v : ℕ) → m.task ≡ t → is_past t ≡ true → is_past (takes_at shapes m t v).task ≡ true
 past_at shapes m task.Idle v at e = rw at refl
 past_at shapes m (task.New x) v at e = new_past shapes m x.wanted x.stage v e
 past_at shapes m _ v at e = absurd (cc)
 
-place_answers : (n : Name) (busy : Bool) → cond busy None (Some (answer.Ref n)) ≡ Some answer.Full → ⊥
-place_answers n true e = absurd (cc)
-place_answers n false e = absurd (cc)
+place_answers : (n : Name) (asks : Option Bool) → answer_made n asks ≡ Some answer.Full → ⊥
+place_answers n None e = absurd (cc)
+place_answers n (Some true) e = absurd (cc)
+place_answers n (Some false) e = absurd (cc)
 
 new_answers : (s : NewStage) (v : ℕ) → is_over s ≡ true → gives_new s v ≡ Some answer.Full → ⊥
 new_answers (Search waited s) v e h = absurd (cc (e))
 new_answers (Wait x) v e h = absurd (cc (e))
-new_answers (Place p) v e h = place_answers p.name (place.is_busy (place.goes p v).stage) h
+new_answers (Place p) v e h = place_answers p.name (place.gives p v) h
+new_answers (Want n) v e h = absurd (cc)
 
 past_answers : (m : Processor) (t : Task) (v : ℕ) → is_past t ≡ true → gives_at m t v ≡ Some answer.Full → ⊥
 past_answers m task.Idle v e h = absurd (cc)
@@ -109,6 +114,7 @@ module _ (m : Mutating) (g d t : ℕ) (found : ℕ → ℕ) where
   Facts i p (Search false s) = (p.local.view.begun ≡ m.processor.poll.local.view.begun) × Seeks s
   Facts i p (Wait x) = x.known ≡ m.processor.poll.local.view.begun
   Facts i p (Place q) = ⊥
+  Facts i p (Want n) = ⊥
 
   -- the poll's registers, layout and seat are those of the beginning
   record Same (p : Polling) : Type 0 where
@@ -176,6 +182,7 @@ module _ (m : Mutating) (g d t : ℕ) (found : ℕ → ℕ) where
       wait_next i p x (wait.goes (wait.waiting x p) (found i)) (wait.gives (wait.waiting x p) (found i)) (wait_same p x (found i) k) (knows_at (wait.waiting x p) x.stage (found i) ∙ f)
       (λ u is. let l = ends_later (wait.waiting x p) x.stage (found i) u is in record { at_step = i; before = omega arith; loads = ap asks e ∙ ap (wait.asks_at (wait.waiting x p)) l.0; later = subst (λ (n : ℕ). n < found i) f l.1 })
   next_at i p (Place q) e k f = absurd f
+  next_at i p (Want n) e k f = absurd f
 
   next : (i : ℕ) → Stands i (now i) → Next (suc i) (now (suc i))
   next i st = subst (λ (x : Mutating). Next (suc i) (goes x (found i))) (sym st.is) (next_at i st.p st.s st.is st.same st.facts)
@@ -204,6 +211,7 @@ module _ (m : Mutating) (g d t : ℕ) (found : ℕ → ℕ) where
   looks_at i p (Search waited s) f e = search_looks s
   looks_at i p (Wait x) f e = absurd (cc)
   looks_at i p (Place q) f e = absurd f
+  looks_at i p (Want n) f e = absurd f
 
   looks : (i : ℕ) → Stands i (now i) → is_waiting (now i).processor.task ≡ false → is_looking (asks (now i)) ≡ true
   looks i st e = subst (λ (x : Mutating). is_looking (asks x) ≡ true) (sym st.is) (looks_at i st.p st.s st.facts (subst (λ (x : Mutating). is_waiting x.processor.task ≡ false) st.is e))
@@ -239,6 +247,7 @@ module _ (m : Mutating) (g d t : ℕ) (found : ℕ → ℕ) where
         seeks false f = f.1
   leaves_at n p (Wait x) k f e = absurd (cc)
   leaves_at n p (Place q) k f e = absurd f
+  leaves_at n p (Want u) k f e = absurd f
 
   leaves : (n : ℕ) → Stands n (now n) → gives (now n) (found n) ≡ Some answer.Full → Leaves n (now (suc n))
   leaves n st e = subst (λ (x : Mutating). Leaves n (goes x (found n))) (sym st.is) (leaves_at n st.p st.s st.same st.facts (subst (λ (x : Mutating). gives x (found n) ≡ Some answer.Full) st.is e))

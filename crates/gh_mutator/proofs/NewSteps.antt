@@ -1,5 +1,5 @@
 -- Own steps of a new object: the search for its slot, the wait for a cycle, and the making of it.
-use Rattle.std.proofs.Common.{◌≡◌, ℕ, ◌+◌, ◌*◌, ◌<◌, ◌≤◌, Bool, true, false, cond, ltb, List, get_or, refl, sym, ◌∙◌, ap, subst, Option, Some, None, is_none, arith}
+use Rattle.std.proofs.Common.{◌≡◌, ℕ, ◌+◌, ◌*◌, ◌%◌, ◌^◌, ◌<◌, ◌≤◌, Bool, true, false, cond, ltb, List, get_or, refl, sym, ◌∙◌, ap, subst, Option, Some, None, is_none, arith}
 use Rattle.gh_base.specs.declared.value.Value.TheVariants as value
 use Rattle.gh_cache.specs.Listing as slots
 use Rattle.gh_alloc.specs.declared.find.FindStage.TheVariants as finding
@@ -10,13 +10,13 @@ use Rattle.gh_alloc.specs.Place as place
 use Rattle.gh_alloc.specs.Search as search
 use Rattle.gh_mutator.specs.declared.task.Task.TheVariants as task
 use Rattle.gh_mutator.specs.declared.new.New.{New}
-use Rattle.gh_mutator.specs.New.{after_found, is_made, placing, searches, seeking, takes_at, waits}
+use Rattle.gh_mutator.specs.New.{after_found, is_made, made_task, placing, searches, seeking, takes_at, waits, wants}
 use Rattle.gh_mutator.specs.NewParts.{made_at, MakingFits}
 use Rattle.gh_mutator.specs.Processor.{cached_for, made_by, set_register}
 use Rattle.gh_mutator.specs.Sound.{most_objects, Sound, SoundSearch, SoundTask, SoundWanted}
 use Rattle.gh_mutator.specs.Stays.{wait_stacks, wait_stays}
 use Rattle.gh_mutator.specs.Wait as wait
-use Rattle.gh_mutator.proofs.Vocabulary.{after_search, after_wait, At, at_poll, at_task, cache_span, CachedSpan, FitsWait, Found, Large, Layout, made_object, makes, NewStage, NoRoom, Place, PlaceStage, Placing, Processor, read_after_set, Search, Seeking, set, Shape, slots_of, Small, Sought, takes, takes_at as takes_by, Task, Wait, Waiting, Wanted}
+use Rattle.gh_mutator.proofs.Vocabulary.{after_search, after_wait, At, at_poll, at_task, cache_span, CachedSpan, FitsWait, Found, Large, Layout, made_object, makes, NewStage, NoRoom, Place, PlaceStage, Placing, Processor, read_after_set, Search, Seeking, set, Shape, slots_of, Small, Sought, takes, takes_at as takes_by, Task, Wait, Waiting, Want, Wanted}
 use Rattle.gh_mutator.proofs.Changes.{moved, polled, taken}
 use Rattle.gh_mutator.proofs.Waits.{wait_fits}
 
@@ -25,11 +25,19 @@ use Rattle.gh_mutator.proofs.Waits.{wait_fits}
 pub search_wants : (s : Seeking) (found : ℕ) → (search.goes s found).find.wanted ≡ s.find.wanted
 search_wants s found = ap (λ (b : Base). b.wanted) (search_base s.find s.stage found)
 
+-- behind the counting it is made
+counted_made : (p : Placing) (found : ℕ) → is_made (place.counted p found) ≡ true
+counted_made p found = by p.marking where
+  by : (marking : Bool) → is_made (cond marking (making.Ended false) (making.LoadTrigger ((found + 8 * p.slot) % 2 ^ 64))) ≡ true
+  by true = refl
+  by false = refl
+
 -- an object that is not made yet was not made before
 unmade_before : (p : Placing) (q : PlaceStage) (found : ℕ) → is_made (place.goes_at p q found) ≡ false → is_made q ≡ false
 unmade_before p (making.Give g) found e = absurd (cc)
-unmade_before p making.Count found e = absurd (cc)
-unmade_before p making.Ended found e = absurd (cc)
+unmade_before p making.Count found e = absurd (let made = counted_made p found in cc)
+unmade_before p (making.LoadTrigger bytes) found e = absurd (cc)
+unmade_before p (making.Ended wants) found e = absurd (cc)
 unmade_before p _ found e = refl
 
 acts_unmade : (q : PlaceStage) → place.acts_at q ≡ true → is_made q ≡ false
@@ -85,12 +93,14 @@ module _ (shapes : List Shape) where
       let n : Sound shapes (at_task (set_register m w.g w.d (value.Ref (a + 1))) task.Idle) = taken shapes m w.g w.d (Some (value.Ref (a + 1))) task.Idle s near tt in
       record { registers = n.registers; few = λ i. counts m w.g i s few; task = h }
 
-  place_on : (m : Processor) (w : Wanted) (made more : Bool) (a : ℕ) (p : Placing) → Sound shapes m → SoundWanted shapes w → p.layout ≡ m.poll.layout → (made ≡ true → a + 1 ≤ 1024 * m.poll.layout.pages) → place.is_busy p.stage ≡ more → (made ≡ true → made_by m w.g < most_objects) → (made ≡ true → is_made p.stage ≡ true) → (made ≡ false → is_made p.stage ≡ false → made_by m w.g < most_objects) →
-      Sound shapes (at_task (cond made (made_object m w a) m) (cond more (makes w p) task.Idle))
-  place_on m w true true a p s wanted layout near busy few gone unmade = made_sound m w a (makes w p) s (near refl) (few refl) (wanted, record { busy = busy; layout = layout }, λ e. absurd (cc (e, gone refl)))
-  place_on m w true false a p s wanted layout near busy few gone unmade = made_sound m w a task.Idle s (near refl) (few refl) tt
-  place_on m w false true a p s wanted layout near busy few gone unmade = moved shapes m (makes w p) s (wanted, record { busy = busy; layout = layout }, unmade refl)
-  place_on m w false false a p s wanted layout near busy few gone unmade = moved shapes m task.Idle s tt
+  place_on : (m : Processor) (w : Wanted) (made : Bool) (asks : Option Bool) (a : ℕ) (p : Placing) → Sound shapes m → SoundWanted shapes w → p.layout ≡ m.poll.layout → (made ≡ true → a + 1 ≤ 1024 * m.poll.layout.pages) → place.given p ≡ asks → (made ≡ true → made_by m w.g < most_objects) → (made ≡ true → is_made p.stage ≡ true) → (made ≡ false → is_made p.stage ≡ false → made_by m w.g < most_objects) →
+      Sound shapes (at_task (cond made (made_object m w a) m) (made_task w p asks))
+  place_on m w true None a p s wanted layout near asks few gone unmade = made_sound m w a (makes w p) s (near refl) (few refl) (wanted, record { busy = ap is_none asks; layout = layout }, λ e. absurd (cc (e, gone refl)))
+  place_on m w true (Some true) a p s wanted layout near asks few gone unmade = made_sound m w a (wants w p.name) s (near refl) (few refl) (wanted, tt, tt)
+  place_on m w true (Some false) a p s wanted layout near asks few gone unmade = made_sound m w a task.Idle s (near refl) (few refl) tt
+  place_on m w false None a p s wanted layout near asks few gone unmade = moved shapes m (makes w p) s (wanted, record { busy = ap is_none asks; layout = layout }, unmade refl)
+  place_on m w false (Some true) a p s wanted layout near asks few gone unmade = moved shapes m (wants w p.name) s (wanted, tt, tt)
+  place_on m w false (Some false) a p s wanted layout near asks few gone unmade = moved shapes m task.Idle s tt
 
   -- the object's first heap word is asked for where it is made alone
   at_within : (l : Layout) (acts : Bool) (a : ℕ) → MakingFits l (cond acts (Some a) None) → acts ≡ true → a + 1 ≤ 1024 * l.pages
@@ -111,8 +121,9 @@ module _ (shapes : List Shape) where
   new_sound m w (Wait x) found s here fits =
       wait_on m w (wait.goes (wait.waiting x m.poll) found) (wait.gives (wait.waiting x m.poll) found) s here.0 here.2 (wait_stays (wait.waiting x m.poll) found) (wait_stacks (wait.waiting x m.poll) found) (wait_fits (wait.waiting x m.poll) found)
   new_sound m w (Place p) found s here fits =
-      place_on m w (place.acts p) (place.is_busy (place.goes p found).stage) p.at (place.goes p found) s here.0 here.1.layout (λ e. subst (λ (l : Layout). p.at + 1 ≤ 1024 * l.pages) here.1.layout (at_within p.layout (place.acts p) p.at (fits p refl) e)) refl
+      place_on m w (place.acts p) (place.gives p found) p.at (place.goes p found) s here.0 here.1.layout (λ e. subst (λ (l : Layout). p.at + 1 ≤ 1024 * l.pages) here.1.layout (at_within p.layout (place.acts p) p.at (fits p refl) e)) refl
       (λ e. here.2 (acts_unmade p.stage e)) (made_after p p.stage found) (λ e unmade. here.2 (unmade_before p p.stage found unmade))
+  new_sound m w (Want n) found s here fits = moved shapes m task.Idle s tt
 
   pub take_sound : (m : Processor) (n : New) (found : ℕ) (next : Processor) → Sound shapes m → m.task ≡ task.New n → ((p : Placing) → n.stage ≡ Place p → MakingFits p.layout (made_at p)) → next ≡ takes shapes m found → Sound shapes next
   take_sound m n found next s at fits goes =

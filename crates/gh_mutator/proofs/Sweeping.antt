@@ -27,7 +27,7 @@ use Rattle.gh_mutator.specs.Store as store
 use Rattle.gh_mutator.specs.Sweeping.{ProcessorsRunSweeps, sweep_at, sweep_in, sweep_new}
 use Rattle.gh_mutator.specs.Vocabulary.{Answer, Arena, View}
 use Rattle.gh_mutator.specs.Wait as wait
-use Rattle.gh_mutator.proofs.Vocabulary.{after_gc, after_leave, after_poll, after_search, after_wait, asks_at, At, at_poll, at_task, begins, cache_span, CachedSpan, Ends, Finding, FindStage, follows, Found, GoesOn, has_left_at, Large, Layout, Leaving, NewStage, NoRoom, Op, Place, Placing, Processor, register_of, Search, SearchStage, Seeking, Shape, slots_of, Small, Sought, takes_at, Task, Then, Wait, Waiting, Wanted}
+use Rattle.gh_mutator.proofs.Vocabulary.{after_gc, after_leave, after_poll, after_search, after_wait, asks_at, At, at_poll, at_task, begins, cache_span, CachedSpan, Ends, Finding, FindStage, follows, Found, GoesOn, has_left_at, Large, Layout, Leaving, NewStage, NoRoom, Op, Place, Placing, Processor, register_of, Search, SearchStage, Seeking, Shape, slots_of, Small, Sought, takes_at, Task, Then, Wait, Waiting, Wanted, Want}
 
 -- what is known of the search by its laws
 pub record Known : Type 0 where
@@ -79,6 +79,7 @@ on_at k shapes m sw (task.New x) is busy = by x.stage is where
       (o.asks_so, λ found. search_then shapes (cache_span m x.wanted.sought (search.goes y found).find.cached) x.wanted waited (search.goes y found) (search.gives y found) refl ∙ o.goes_so found)
   by (Wait y) is = absurd (cc)
   by (Place y) is = absurd (cc)
+  by (Want n) is = absurd (cc)
 on_at k shapes m sw _ is busy = absurd (cc)
 
 -- Where it begins one: behind a step of a search alone.
@@ -91,9 +92,10 @@ waited_none : (m : Processor) (w : Wanted) (x : Waiting) (out : Option (Unit {0}
 waited_none m w x None = refl
 waited_none m w x (Some y) = seeking_none (at_poll m x.poll) w
 
-placed_none : (m : Processor) (w : Wanted) (made busy : Bool) (at : ℕ) (p : Placing) → sweep_in (at_task (cond made (new.made_object m w at) m) (cond busy (makes w p) task.Idle)) ≡ None
-placed_none m w made true at p = refl
-placed_none m w made false at p = refl
+placed_none : (m : Processor) (w : Wanted) (made : Bool) (asks : Option Bool) (at : ℕ) (p : Placing) → sweep_in (at_task (cond made (new.made_object m w at) m) (new.made_task w p asks)) ≡ None
+placed_none m w made None at p = refl
+placed_none m w made (Some true) at p = refl
+placed_none m w made (Some false) at p = refl
 
 gc_none : (m : Processor) (g : ℕ) (x : Waiting) (out : Option (Unit {0})) → sweep_in (after_gc m g x out) ≡ None
 gc_none m g x None = refl
@@ -139,7 +141,8 @@ module _ (k : Known) (z : Arena) (a : ℕ) (v : View) (m : Processor) (pending :
     by : (n : NewStage) → Begins (task.New (record { wanted = x.wanted; stage = n }))
     by (Search waited y) = searched x.wanted waited y
     by (Wait y) = λ f none some. absurd (none_so _ (waited_none m x.wanted (wait.goes (wait.waiting y m.poll) found) (wait.gives (wait.waiting y m.poll) found)) some)
-    by (Place y) = λ f none some. absurd (none_so _ (placed_none m x.wanted (place.acts y) (place.is_busy (place.goes y found).stage) y.at (place.goes y found)) some)
+    by (Place y) = λ f none some. absurd (none_so _ (placed_none m x.wanted (place.acts y) (place.gives y found) y.at (place.goes y found)) some)
+    by (Want n) = λ f none some. absurd (cc)
   begins_at (task.Gc g x) is f none some = absurd (none_so _ (gc_none m g (wait.goes (wait.waiting x m.poll) found) (wait.gives (wait.waiting x m.poll) found)) some)
   begins_at task.Poll is f none some = absurd (none_so _ (poll_none m (poll.goes m.poll found) (poll.gives m.poll found)) some)
   begins_at (task.End g) is f none some = absurd (cc)

@@ -29,7 +29,7 @@ pub use Rattle.gh_mutator.specs.New.{after_place, after_search, after_wait, answ
 pub use Rattle.gh_mutator.specs.Processor.{at_poll, at_task, cache_span, register_of, taking}
 pub use Rattle.gh_mutator.specs.ProcessorPlaces.{party_at, ProcessorInHandshake, SoundAt, stage_at}
 pub use Rattle.gh_mutator.specs.Serving.{has_left_at}
-pub use Rattle.gh_mutator.specs.Vocabulary.{Ask, At, CachedSpan, cell_of, Ends, Finding, FindStage, Found, Global, GlobalStage, GoesOn, IsOf, Large, Layout, Leaving, LoadStage, Name, NewStage, NoRoom, Op, Place, PlaceStage, Placing, Processor, Search, Seeking, Shape, slots_of, Small, Sought, span_index, Step, StoreStage, Task, Then, Value, Wait, Waiting, Wanted}
+pub use Rattle.gh_mutator.specs.Vocabulary.{Ask, At, CachedSpan, cell_of, Ends, Finding, FindStage, Found, Global, GlobalStage, GoesOn, IsOf, Large, Layout, Leaving, LoadStage, Name, NewStage, NoRoom, Op, Place, PlaceStage, Placing, Processor, Search, Seeking, Shape, slots_of, Small, Sought, span_index, Step, StoreStage, Task, Then, Value, Wait, Waiting, Wanted, Want}
 pub use Rattle.gh_mutator.specs.WaitSound.{FitsWait}
 pub use Rattle.gh_mutator.specs.Writing.{SoundScanAt, WritesOf}
 pub use Rattle.gh_mutator.specs.declared.wait.Wait.{Wait as WaitState}

@@ -1,5 +1,5 @@
 -- The stores of a processor are blind: whatever word one overwrites, the processor goes over to the same, and the operation is answered the same.
-use Rattle.std.specs.Prelude.{◌≡◌, ℕ, true, if◌then◌else◌, List, Option, None, Some, refl}
+use Rattle.std.specs.Prelude.{◌≡◌, ℕ, true, List, Option, None, refl}
 use Rattle.std.proofs.Common.{ap}
 use Rattle.gh_base.specs.Blind.{is_store, StoresAreBlind}
 use Rattle.gh_base.specs.declared.held.Held.{Held}
@@ -38,7 +38,7 @@ use Rattle.gh_mutator.specs.Listing.{after_gc, after_leave, after_poll as after_
 use Rattle.gh_mutator.specs.Load as load
 use Rattle.gh_mutator.specs.MarkStack as mark
 use Rattle.gh_mutator.specs.Mutating.{asks, gives, goes, marks_after, Mutating}
-use Rattle.gh_mutator.specs.New.{after_place, after_search, after_wait, answer_search}
+use Rattle.gh_mutator.specs.New.{after_place, after_search, after_wait, answer_made, answer_search}
 use Rattle.gh_mutator.specs.New as new
 use Rattle.gh_mutator.specs.Poll.{after_mark, after_resume, after_room, stops_then}
 use Rattle.gh_mutator.specs.Poll as poll
@@ -46,7 +46,7 @@ use Rattle.gh_mutator.specs.Processor.{cache_span, keeping, register_of}
 use Rattle.gh_mutator.specs.Serving.{answer_at}
 use Rattle.gh_mutator.specs.Step.{answered}
 use Rattle.gh_mutator.specs.Store as store
-use Rattle.gh_mutator.specs.Vocabulary.{Answer, Global, GlobalStage, Layout, Leaving, Load, LoadStage, NewStage, Place, Placing, Polling, Processor, Search, Seeking, Shape, Step, Store, StoreStage, Task, Value, Wait, Waiting, Wanted}
+use Rattle.gh_mutator.specs.Vocabulary.{Answer, Global, GlobalStage, Layout, Leaving, Load, LoadStage, NewStage, Place, Placing, Polling, Processor, Search, Seeking, Shape, Step, Store, StoreStage, Task, Value, Wait, Waiting, Want, Wanted}
 use Rattle.gh_mutator.specs.Wait as wait
 
 -- ---- giving back, the scan of a stack, a poll, a wait, and leaving
@@ -130,7 +130,8 @@ new_step shapes m w s found = (new.takes_at shapes m w s found, new.gives_at s f
 new_blind : (shapes : List Shape) (m : Processor) (w : Wanted) (s : NewStage) (found other : ℕ) → is_store (new.asks_at m s) ≡ true → new_step shapes m w s found ≡ new_step shapes m w s other
 new_blind shapes m w (Search waited s) found other e = ap (λ (x : Seeking). (after_search shapes (cache_span m w.sought x.find.cached) w waited x (search.given x), answer_search waited (search.given x))) (search_blind s found other e)
 new_blind shapes m w (Wait x) found other e = ap (λ (y : Waiting). (after_wait m w y (wait.given y.wait.stage), None)) (wait_blind (wait.waiting x m.poll) found other e)
-new_blind shapes m w (Place p) found other e = ap (λ (x : Placing). (after_place m w (place.acts p) p.at x, if place.is_busy x.stage then None else Some (answer.Ref p.name))) (place_blind p found other e)
+new_blind shapes m w (Place p) found other e = ap (λ (x : Placing). (after_place m w (place.acts p) p.at x, answer_made p.name (place.given x))) (place_blind p found other e)
+new_blind shapes m w (Want n) found other e = refl
 
 abbrev step_by : List Shape → Processor → Task → (found : ℕ) → Processor × Option Answer
 step_by shapes m t found = (takes_at shapes m t found, gives_at m t found)

@@ -1,6 +1,8 @@
--- A new object: the search for its slot, the wait for a cycle where there is none, the search once more, and the making of the object in its slot. Its steps change what the processor alone knows and the number of objects too, so they are steps of the processor.
+-- A new object: the search for its slot, the wait for a cycle where there is none, the search once more, the making of the object in its slot, and the request for a cycle where the heap then reaches the trigger. Its steps change what the processor alone knows and the number of objects too, so they are steps of the processor.
 use Rattle.std.specs.Prelude.{ℕ, ◌+◌, ◌/◌, Bool, true, false, if◌then◌else◌, List, slice_set, Option, Some, None}
-use Rattle.gh_mutator.specs.Vocabulary.{Ask, Op, Shape, Answer, Name, shape_at, SizeClass, slot_words, Found, At, NoRoom, Sought, PlaceStage, Seeking, Placing, NewStage, Search, Wait, Place, Waiting, Wanted, Processor, Task}
+use Rattle.gh_mutator.specs.Vocabulary.{Ask, Op, Shape, Answer, Name, shape_at, SizeClass, slot_words, Found, At, NoRoom, Sought, PlaceStage, Seeking, Placing, NewStage, Search, Wait, Place, Want, Waiting, Wanted, Processor, Task}
+use Rattle.gh_base.specs.declared.cell.Ask.TheVariants as ask
+use Rattle.gh_base.specs.declared.cell.Cell.TheVariants as cell
 use Rattle.gh_base.specs.declared.operation.Op.TheVariants as op
 use Rattle.gh_base.specs.declared.pack.SpanHead.{SpanHead}
 use Rattle.gh_base.specs.declared.value.Answer.TheVariants as answer
@@ -55,10 +57,11 @@ placing shapes m w a = place.opening m.poll.layout (shape_at shapes w.t) a w.slo
 abbrev pub is_made : PlaceStage → Bool
 is_made (making.Give g) = true
 is_made making.Count = true
-is_made making.Ended = true
+is_made (making.LoadTrigger bytes) = true
+is_made (making.Ended wants) = true
 is_made _ = false
 
--- the search for this object, the wait between two searches, and the making of it
+-- the search for this object, the wait between two searches, the making of it, and the request for a cycle behind that
 abbrev pub searches : Wanted → (waited : Bool) → Seeking → Task
 searches w waited s = task.New (record { wanted = w; stage = Search waited s })
 
@@ -68,12 +71,16 @@ waits w x = task.New (record { wanted = w; stage = Wait x.wait })
 abbrev pub makes : Wanted → Placing → Task
 makes w p = task.New (record { wanted = w; stage = Place p })
 
+abbrev pub wants : Wanted → Name → Task
+wants w n = task.New (record { wanted = w; stage = Want n })
+
 -- The steps.
 
 abbrev pub asks_at : Processor → NewStage → Ask
 asks_at m (Search waited s) = search.asks s
 asks_at m (Wait x) = wait.asks (wait.waiting x m.poll)
 asks_at m (Place p) = place.asks p
+asks_at m (Want n) = ask.Or cell.Want 1
 
 -- the search has ended, and has found this: the object is made there; where there is no room, a cycle is waited for, and behind that the register is nil
 abbrev pub after_found : List Shape → Processor → Wanted → (waited : Bool) → Found → Processor
@@ -95,15 +102,22 @@ after_wait m w x (Some y) = at_task (at_poll m x.poll) (searches w true (seeking
 abbrev pub made_object : Processor → Wanted → (a : ℕ) → Processor
 made_object m w a = set_register (record m { made = slice_set m.made w.g (made_by m w.g + 1) }) w.g w.d (value.Ref (a + 1))
 
--- after a step of the making, which is then p, and by which the object at heap word a is made or not
+-- the task behind a step of the making, which is then p, and is over where it says whether a cycle is to be asked for
+abbrev pub made_task : Wanted → Placing → (asks : Option Bool) → Task
+made_task w p None = makes w p
+made_task w p (Some true) = wants w p.name
+made_task w p (Some false) = task.Idle
+
+-- after that step, by which the object at heap word a is made or not
 abbrev pub after_place : Processor → Wanted → (made : Bool) → (a : ℕ) → Placing → Processor
-after_place m w made a p = at_task (if made then made_object m w a else m) (if place.is_busy p.stage then makes w p else task.Idle)
+after_place m w made a p = at_task (if made then made_object m w a else m) (made_task w p (place.given p))
 
 -- the processor after the step; the cached span is what the search says
 abbrev pub takes_at : List Shape → Processor → Wanted → NewStage → (found : ℕ) → Processor
 takes_at shapes m w (Search waited s) found = after_search shapes (cache_span m w.sought (search.goes s found).find.cached) w waited (search.goes s found) (search.gives s found)
 takes_at shapes m w (Wait x) found = after_wait m w (wait.goes (wait.waiting x m.poll) found) (wait.gives (wait.waiting x m.poll) found)
 takes_at shapes m w (Place p) found = after_place m w (place.acts p) p.at (place.goes p found)
+takes_at shapes m w (Want n) found = at_task m task.Idle
 
 -- the search behind the wait has found no room
 abbrev pub refuses : (waited : Bool) → Option Found → Bool
@@ -120,22 +134,30 @@ abbrev pub answer_search : (waited : Bool) → Option Found → Option Answer
 answer_search waited None = None
 answer_search waited (Some out) = answer_found waited out
 
+abbrev pub answer_made : Name → (asks : Option Bool) → Option Answer
+answer_made n (Some false) = Some (answer.Ref n)
+answer_made n _ = None
+
 abbrev pub gives_at : NewStage → (found : ℕ) → Option Answer
 gives_at (Search waited s) found = answer_search waited (search.gives s found)
 gives_at (Wait x) found = None
-gives_at (Place p) found = if place.is_busy (place.goes p found).stage then None else Some (answer.Ref p.name)
+gives_at (Place p) found = answer_made p.name (place.gives p found)
+gives_at (Want n) found = Some (answer.Ref n)
 
 -- the statement acts by the step, and whether it then found no room
 abbrev pub acts_at : NewStage → (found : ℕ) → Bool
 acts_at (Search waited s) found = refuses waited (search.gives s found)
 acts_at (Wait x) found = false
 acts_at (Place p) found = place.acts p
+acts_at (Want n) found = false
 
 abbrev pub is_full_at : NewStage → Bool
 is_full_at (Place p) = false
+is_full_at (Want n) = false
 is_full_at _ = true
 
 -- the operation, until it has acted
 abbrev pub unacted : Wanted → NewStage → Option Op
 unacted w (Place p) = if is_made p.stage then None else Some (op_of w)
+unacted w (Want n) = None
 unacted w _ = Some (op_of w)

@@ -15,7 +15,7 @@ use Rattle.gh_mutator.specs.Listing.{asks, begins, takes}
 use Rattle.gh_mutator.specs.Local.{register_at}
 use Rattle.gh_mutator.specs.MarkFacts.{IsBetween, holding, KnowsCycle, KnowsNumber, KnowsStacks, LeaveFacts, PollFacts, WaitFacts}
 use Rattle.gh_mutator.specs.MarkVocabulary.{Cycle, Good, Hands, IsParked, KnowsObjects, Local, Others, Shared, Steps, cell_of, nothing, stage_of}
-use Rattle.gh_mutator.specs.Vocabulary.{GlobalStage, NewStage, Op, Place, Polling, Processor, Search, Shape, Store, StoreStage, Task, Wait}
+use Rattle.gh_mutator.specs.Vocabulary.{GlobalStage, NewStage, Op, Place, Polling, Processor, Search, Shape, Store, StoreStage, Task, Wait, Want}
 use Rattle.gh_mutator.specs.Wait.{waiting}
 
 -- a write behind the write barrier, beside what is known between two polls
@@ -42,6 +42,7 @@ module _ (z : Cycle) (a : ℕ) (s : Shared) (p : Polling) where
   NewFacts (Wait x) = WaitFacts z a s (waiting x p)
   NewFacts (Place x) = IsPlacing z a s p.local x
   NewFacts (Search waited y) = IsBetween z a s p.local
+  NewFacts (Want n) = IsBetween z a s p.local
 
   -- a store has room for its write barrier until it writes, by which word of the bitmap it finds; without the barrier it writes numbers alone
   abbrev pub StoreFacts : Store → StoreStage → Type 0

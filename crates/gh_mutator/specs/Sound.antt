@@ -132,10 +132,12 @@ abbrev pub SoundStage : Polling → Wanted → NewStage → Type 0
 SoundStage p w (new.Search waited s) = SoundSearch p.layout w s
 SoundStage p w (new.Wait x) = FitsWait p x
 SoundStage p w (new.Place x) = SoundPlace p.layout x
+SoundStage p w (new.Want n) = Unit {0}
 
 -- there is a further name for the object that is being made
 abbrev pub HasName : (made : ℕ) → NewStage → Type 0
 HasName made (new.Place p) = is_made p.stage ≡ false → made < most_objects
+HasName made (new.Want n) = Unit {0}
 HasName made _ = made < most_objects
 
 -- the leave is of this heap, and it is not over

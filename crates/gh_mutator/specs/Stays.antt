@@ -38,14 +38,14 @@ use Rattle.gh_mutator.specs.Listing.{after_gc, after_leave, after_poll as after_
 use Rattle.gh_mutator.specs.Load as load
 use Rattle.gh_mutator.specs.MarkStack as mark
 use Rattle.gh_mutator.specs.Mutating.{Mutating, gives, goes, is_busy, layout}
-use Rattle.gh_mutator.specs.New.{after_found, after_place, after_search, after_wait, answer_search, makes}
+use Rattle.gh_mutator.specs.New.{after_found, after_place, after_search, after_wait, answer_made, answer_search, made_task}
 use Rattle.gh_mutator.specs.New as new
 use Rattle.gh_mutator.specs.Poll as poll
 use Rattle.gh_mutator.specs.Poll.{after_mark, after_resume, after_room, by_phase, due, giving, marks_then, resumed, scans, stops_then}
 use Rattle.gh_mutator.specs.Processor.{cache_span, keeping, register_of, taking}
 use Rattle.gh_mutator.specs.Step.{answered}
 use Rattle.gh_mutator.specs.Store as store
-use Rattle.gh_mutator.specs.Vocabulary.{Shape, Answer, Found, At, NoRoom, Layout, Leaving, Placing, Polling, Seeking, NewStage, Search, Wait, Place, Waiting, Wanted, Processor, Then, GoesOn, Ends, Task, Value}
+use Rattle.gh_mutator.specs.Vocabulary.{Shape, Answer, Found, At, NoRoom, Layout, Leaving, Placing, Polling, Seeking, Name, NewStage, Search, Wait, Place, Waiting, Want, Wanted, Processor, Then, GoesOn, Ends, Task, Value}
 use Rattle.gh_mutator.specs.Wait as wait
 
 -- ---- giving back, the scan of a stack, and leaving
@@ -212,9 +212,10 @@ search_ends shapes m w waited s (Some (At a)) = refl
 search_ends shapes m w true s (Some NoRoom) = refl
 search_ends shapes m w false s (Some NoRoom) = refl
 
-place_ends : (w : Wanted) (p : Placing) (busy : Bool) (out : Answer) → is_busy_at (cond busy (makes w p) task.Idle) ≡ is_none (cond busy None (Some out))
-place_ends w p true out = refl
-place_ends w p false out = refl
+place_ends : (w : Wanted) (p : Placing) (n : Name) (asks : Option Bool) → is_busy_at (made_task w p asks) ≡ is_none (answer_made n asks)
+place_ends w p n None = refl
+place_ends w p n (Some true) = refl
+place_ends w p n (Some false) = refl
 
 once_ends : (after : Option (Unit {0}) → Processor) (a : Answer) → is_busy_at (after None).task ≡ true → ((x : Unit {0}) → is_busy_at (after (Some x)).task ≡ false) → (out : Option (Unit {0})) → is_busy_at (after out).task ≡ is_none (once_ended out a)
 once_ends after a on over None = on
@@ -223,7 +224,8 @@ once_ends after a on over (Some x) = over x
 new_ends : (shapes : List Shape) (m : Processor) (w : Wanted) (s : NewStage) (found : ℕ) → is_busy_at (new.takes_at shapes m w s found).task ≡ is_none (new.gives_at s found)
 new_ends shapes m w (Search waited s) found = search_ends shapes (cache_span m w.sought (search.goes s found).find.cached) w waited (search.goes s found) (search.gives s found)
 new_ends shapes m w (Wait x) found = once (λ n. is_busy_at n.task ≡ true) (after_wait m w (wait.goes (wait.waiting x m.poll) found)) refl (λ y. refl) (wait.gives (wait.waiting x m.poll) found)
-new_ends shapes m w (Place p) found = place_ends w (place.goes p found) (place.is_busy (place.goes p found).stage) (answer.Ref p.name)
+new_ends shapes m w (Place p) found = place_ends w (place.goes p found) p.name (place.gives p found)
+new_ends shapes m w (Want n) found = refl
 
 ends_at : (shapes : List Shape) (m : Processor) (t : Task) (found : ℕ) → is_busy_at t ≡ true → is_busy_at (takes_at shapes m t found).task ≡ is_none (gives_at m t found)
 ends_at shapes m task.Idle found busy = absurd (cc)
@@ -267,6 +269,7 @@ new_stays : (shapes : List Shape) (m : Processor) (w : Wanted) (s : NewStage) (f
 new_stays shapes m w (Search waited s) found = search_stays shapes (cache_span m w.sought (search.goes s found).find.cached) w waited (search.goes s found) (search.gives s found)
 new_stays shapes m w (Wait x) found = waits_stay m (after_wait m w) (λ y. once (In y.poll) (after_wait m w y) refl (λ u. refl)) x found
 new_stays shapes m w (Place p) found = place_stays m w (place.acts p) p.at (place.goes p found)
+new_stays shapes m w (Want n) found = refl
 
 stays_at : (shapes : List Shape) (m : Processor) (t : Task) (found : ℕ) → (takes_at shapes m t found).poll.layout ≡ m.poll.layout
 stays_at shapes m task.Idle found = refl

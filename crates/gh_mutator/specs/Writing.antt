@@ -4,6 +4,7 @@ use Rattle.gh_base.specs.declared.cell.Ask.TheVariants as ask
 use Rattle.gh_base.specs.declared.cell.Cell.TheVariants as cell
 use Rattle.gh_base.specs.declared.pack.TheConstants.{END}
 use Rattle.gh_alloc.specs.declared.place.PlaceStage.TheVariants as making
+use Rattle.gh_alloc.specs.Trigger as trigger
 use Rattle.gh_phase.specs.declared.view.RunPhase.TheVariants.{Mark}
 use Rattle.gh_stack.specs.declared.scan_stack.StackStage.TheVariants as stack_stage
 use Rattle.gh_stack.specs.Listing as stack
@@ -14,7 +15,7 @@ use Rattle.gh_mutator.specs.declared.wait.WaitStage.TheVariants as wait_stage
 use Rattle.gh_mutator.specs.Listing.{asks, is_busy_at, takes}
 use Rattle.gh_mutator.specs.MarkVocabulary.{Cell, MarkStackStage, PollStage, SoundPlace, StackMarking, StackStage, Words, effect, opening_processor, processor_kind}
 use Rattle.gh_mutator.specs.Sweeping.{IsSweeping}
-use Rattle.gh_mutator.specs.Vocabulary.{Ask, Layout, MOST_GOROUTINES, NewStage, Op, Place, Polling, Processor, Search, Shape, Task, Wait}
+use Rattle.gh_mutator.specs.Vocabulary.{Ask, Layout, MOST_GOROUTINES, NewStage, Op, Place, Polling, Processor, Search, Shape, Task, Wait, Want}
 
 -- What is to be shaded is what the scan wishes for; and where nothing is, the scan's own step is next.
 abbrev pub ShadesByWish : StackStage → MarkStackStage → Type 0
@@ -44,15 +45,54 @@ pub record IsSound (m : Processor) : Type 0 where
 
 -- The words that it writes of some rows.
 
--- it begins to wait, and asks for a cycle
-abbrev pub WantsAt : NewStage → Type 0
-WantsAt (Wait x) = x.stage ≡ wait_stage.Want
-WantsAt _ = ⊥
+-- it begins to wait
+abbrev pub BeginsToWaitAt : NewStage → Type 0
+BeginsToWaitAt (Wait x) = x.stage ≡ wait_stage.Want
+BeginsToWaitAt _ = ⊥
 
+abbrev pub BeginsToWait : Task → Type 0
+BeginsToWait (task.New x) = BeginsToWaitAt x.stage
+BeginsToWait (task.Gc g x) = x.stage ≡ wait_stage.Want
+BeginsToWait _ = ⊥
+
+-- it has made an object, and seen that the heap reached the trigger
+abbrev pub SawReachedAt : NewStage → Type 0
+SawReachedAt (Want n) = Unit {0}
+SawReachedAt _ = ⊥
+
+abbrev pub SawReached : Task → Type 0
+SawReached (task.New x) = SawReachedAt x.stage
+SawReached _ = ⊥
+
+-- it asks for a cycle
 abbrev pub IsWanting : Task → Type 0
-IsWanting (task.New x) = WantsAt x.stage
-IsWanting (task.Gc g x) = x.stage ≡ wait_stage.Want
-IsWanting _ = ⊥
+IsWanting t = BeginsToWait t ⊎ SawReached t
+
+-- By a step that finds this a `new` tells that the heap, which has so many bytes with its object, has reached the trigger; and by one before that it has added the object's bytes to them, while marking was off.
+abbrev pub SeesReachedAt : (found bytes : ℕ) → NewStage → Type 0
+SeesReachedAt found bytes (Place p) = trigger.SeesReached p found bytes
+SeesReachedAt found bytes _ = ⊥
+
+abbrev pub SeesReached : Task → (found bytes : ℕ) → Type 0
+SeesReached (task.New x) found bytes = SeesReachedAt found bytes x.stage
+SeesReached _ found bytes = ⊥
+
+abbrev pub CountsUpToAt : (found bytes : ℕ) → NewStage → Type 0
+CountsUpToAt found bytes (Place p) = trigger.CountsUpTo p found bytes
+CountsUpToAt found bytes _ = ⊥
+
+abbrev pub CountsUpTo : Task → (found bytes : ℕ) → Type 0
+CountsUpTo (task.New x) found bytes = CountsUpToAt found bytes x.stage
+CountsUpTo _ found bytes = ⊥
+
+-- it is about to load the trigger, where the heap has so many bytes
+abbrev pub ComparesAt : (bytes : ℕ) → NewStage → Type 0
+ComparesAt bytes (Place p) = p.stage ≡ making.LoadTrigger bytes
+ComparesAt bytes _ = ⊥
+
+abbrev pub Compares : Task → (bytes : ℕ) → Type 0
+Compares (task.New x) bytes = ComparesAt bytes x.stage
+Compares _ bytes = ⊥
 
 -- a slot is looked for
 abbrev pub SearchesAt : NewStage → Type 0
@@ -129,7 +169,12 @@ pub record ProcessorWritesItsOwn : Type 0 where
   -- so each other word is as it was
   pub leaves : (m : Processor) (words : Words) (c : Cell) → IsSound m → (IsWritten m c → ⊥) → effect words (asks m) c ≡ words c
   -- a wait asks for a cycle once: behind a step it is about to do so where a search has ended alone
-  pub once : (shapes : List Shape) (m : Processor) (found : ℕ) → IsWanting (takes shapes m found).task → IsSearching m.task
+  pub once : (shapes : List Shape) (m : Processor) (found : ℕ) → BeginsToWait (takes shapes m found).task → IsSearching m.task
+  -- and the making of an object asks once, exactly where it loads a trigger that is reached
+  pub saw : (shapes : List Shape) (m : Processor) (found : ℕ) → SawReached (takes shapes m found).task → (bytes : ℕ) × SeesReached m.task found bytes
+  pub sees : (shapes : List Shape) (m : Processor) (found bytes : ℕ) → SeesReached m.task found bytes → SawReached (takes shapes m found).task
+  -- the bytes that it compares are those of the heap with the object's, as it found them where it added those, while marking was off
+  pub compares : (shapes : List Shape) (m : Processor) (found bytes : ℕ) → Compares (takes shapes m found).task bytes → CountsUpTo m.task found bytes
 
 -- The notes of its stacks: each is what it has written last of that stack.
 pub record StacksAreNoted : Type 0 where

@@ -18,8 +18,8 @@ ghost use Rattle.gh_mutator.specs.Writing.{ProcessorWritesItsOwn, StacksAreNoted
 
 use crate::heap_laws::{leaves_by_rights, polls_by_rights, waits_by_rights};
 use gh_alloc::laws::{
-    allocation_is_quiet, an_object_is_marked_before_it_is_made, making_keeps_its_facts,
-    searches_run_sweeps, searching_keeps_its_facts,
+    allocation_is_quiet, an_object_asks_at_the_trigger, an_object_is_marked_before_it_is_made,
+    making_keeps_its_facts, searches_run_sweeps, searching_keeps_its_facts,
 };
 use gh_barrier::laws::{writes_by_moves, writing_ends, writing_is_within};
 use gh_base::laws::{cells_are_told, packed_words_are_read_back, rows_are_written};
@@ -195,13 +195,16 @@ pub fn a_processor_marks_by_moves()
 /// Whatever a processor finds, its step is a load, or on a word of the heap's lock, of the pages, slots, pointer bits,
 /// names, fields and globals, of the mark bits, the buffers and their entries; or on its own acknowledgement, or on the
 /// word of a stack that it has scanned or whose goroutine ends. A scan is told only of a stack of which it has not noted
-/// yet the cycle's number, so each is scanned once at the most in a cycle. It asks for a cycle once in a wait, where that begins,
+/// yet the cycle's number, so each is scanned once at the most in a cycle. It asks for a cycle once in a wait, where that begins, and
+/// once behind the making of an object: exactly where it has loaded a trigger that the heap's bytes with the object's
+/// reach, by what the step that added those found while marking was off. It
 /// adds the bytes of a slot where it has made an object, and while it sweeps a span writes what the sweep counts. No other word
 /// is written by it. Its heap and its seat stay.
 pub fn a_processor_writes_its_own()
     ensures { ProcessorWritesItsOwn }
 {
     cells_are_told();
+    an_object_asks_at_the_trigger();
     the_processor_keeps_the_handshake();
 }
 

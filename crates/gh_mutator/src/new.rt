@@ -1,5 +1,8 @@
 //! A new object: the search for its slot, the wait for a cycle where there is none, the search once more, and
-//! the making of the object in its slot.
+//! the making of the object in its slot. Where the heap's bytes with the object's reach the trigger, as the making
+//! tells (`gh_alloc`), it asks for a cycle behind that, and is answered then: it has its object and waits for nothing.
+//! So the object is counted before the cycle is opened. While one is under way the trigger is 2^64 - 1, so that a
+//! second is not asked for.
 
 ghost use Rattle.std.specs.Prelude.{◌≡◌, ◌+◌, ◌^◌, ◌<◌, length, true, false, IfSome};
 ghost use Rattle.gh_alloc.specs.FindSound.{FitsPages};
@@ -7,8 +10,8 @@ ghost use Rattle.gh_alloc.specs.PlaceSound.{FitsSpanHead};
 ghost use Rattle.gh_alloc.specs.Within.{LiesWithin};
 ghost use Rattle.gh_mutator.specs.Listing.{gives, takes};
 ghost use Rattle.gh_alloc.specs.Place as places;
-ghost use Rattle.gh_mutator.specs.New.{after_found, answer_found, made_object, next_of, own_span, searches, seeking, wanted_of};
-ghost use Rattle.gh_mutator.specs.NewParts.{after_making, made_at, MakingFits, named_by, naming};
+ghost use Rattle.gh_mutator.specs.New.{after_found, answer_found, answer_made, next_of, own_span, searches, seeking, wanted_of};
+ghost use Rattle.gh_mutator.specs.NewParts.{after_making, made_at, made_by_step, MakingFits};
 ghost use Rattle.gh_mutator.specs.Processor.{at_task, made_by};
 ghost use Rattle.gh_mutator.specs.Serving.{is_making};
 ghost use Rattle.gh_base.specs.Shapes.{ShapesFit};
@@ -42,6 +45,8 @@ pub enum NewStage<'s> {
     Wait(Wait),
     /// The making of it in its slot.
     Place(Place<'s>),
+    /// It is made, under this name, and a cycle is due, which is asked for.
+    Want(Name),
 }
 
 /// A new object.
@@ -78,13 +83,13 @@ impl Wanted {
     }
 }
 
-/// A step of the making: the object's first heap word, where the step makes the object, and its name, where
-/// the making is over.
-fn make(place: &mut Place<'_>, found: u64) -> (Option<u32>, Option<Name>)
+/// A step of the making: the object's first heap word, where the step makes the object, and whether a cycle is to be
+/// asked for, where the making is over.
+fn make(place: &mut Place<'_>, found: u64) -> (Option<u32>, Option<bool>)
     requires { places.is_busy place.old.stage ≡ true }
     ensures goes { place.new ≡ places.goes place.old found }
     ensures made { result.0 ≡ made_at place.old }
-    ensures name { result.1 ≡ named_by place.old found }
+    ensures asks { result.1 ≡ places.gives place.old found }
     ensures fits { MakingFits place.old.layout result.0 }
 {
     let made = if place.acts() {
@@ -92,9 +97,7 @@ fn make(place: &mut Place<'_>, found: u64) -> (Option<u32>, Option<Name>)
     } else {
         None
     };
-    let name = place.name();
-    let goes_on = place.take(found).is_none();
-    (made, if goes_on { None } else { Some(name) })
+    (made, place.take(found))
 }
 
 impl<'s> Processor<'s> {
@@ -191,9 +194,15 @@ impl<'s> Processor<'s> {
                 None
             }
             NewStage::Place(place) => {
-                let (made, name) = make(place, found);
+                let name = place.name();
+                let (made, asks) = make(place, found);
                 let wanted = new.wanted;
-                self.after_place(wanted, made, name)
+                self.after_place(wanted, made, name, asks)
+            }
+            NewStage::Want(name) => {
+                let name = *name;
+                self.task = Task::Idle;
+                Some(Answer::Ref(name))
             }
         }
     }
@@ -250,36 +259,43 @@ impl<'s> Processor<'s> {
         self.task = Task::New(New { wanted, stage });
     }
 
-    /// After a step of the making, by which the object was made at this heap word, or not, and which is over
-    /// where it says the name.
+    /// After a step of the making of the object of this name, by which it was made at this heap word, or not, and
+    /// which is over where it says whether a cycle is to be asked for.
     fn after_place(
         &mut self,
         wanted: Wanted,
         made: Option<u32>,
-        name: Option<Name>,
+        name: Name,
+        asks: Option<bool>,
     ) -> Option<Answer>
         requires register { IsRegister wanted.g wanted.d }
         requires name { IfSome made (λ _. made_by self.old wanted.g + 1 < 2 ^ 32) }
         requires fits { MakingFits self.old.poll.layout made }
-        ensures goes { self.new ≡ after_making self.old wanted made name }
-        ensures gives { result ≡ naming name }
+        ensures goes { self.new ≡ after_making self.old wanted made name asks }
+        ensures gives { result ≡ answer_made name asks }
     {
-        if let Some(at) = made {
-            self.add_object(wanted, at);
+        self.add_object(&wanted, made);
+        if asks? {
+            let stage = NewStage::Want(name);
+            self.task = Task::New(New { wanted, stage });
+            None
+        } else {
+            self.task = Task::Idle;
+            Some(Answer::Ref(name))
         }
-        let name = name?;
-        self.task = Task::Idle;
-        Some(Answer::Ref(name))
     }
 
-    /// The object is there: it is counted, and the register names it.
-    fn add_object(&mut self, wanted: Wanted, at: u32)
-        requires register { IsRegister wanted.g wanted.d }
-        requires name { made_by self.old wanted.g + 1 < 2 ^ 32 }
-        ensures { self.new ≡ made_object self.old wanted at }
+    /// Where the object was made at this heap word, it is there: it is counted, and the register names it.
+    fn add_object(&mut self, wanted: &Wanted, made: Option<u32>)
+        requires register { IsRegister wanted.now.g wanted.now.d }
+        requires name { IfSome made (λ _. made_by self.old wanted.now.g + 1 < 2 ^ 32) }
+        requires fits { MakingFits self.old.poll.layout made }
+        ensures { self.new ≡ made_by_step self.old wanted.now made }
     {
-        self.made[wanted.g as usize] += 1;
-        let reference = Value::Ref(u64::from(at) + 1);
-        self.poll.set_register(wanted.g, wanted.d, reference);
+        if let Some(at) = made {
+            self.made[wanted.g as usize] += 1;
+            let reference = Value::Ref(u64::from(at) + 1);
+            self.poll.set_register(wanted.g, wanted.d, reference);
+        }
     }
 }

@@ -47,6 +47,7 @@ impl<'s> Processor<'s> {
                 NewStage::Search { search, .. } => return search.next(),
                 NewStage::Wait(wait) => return wait.next(&self.poll),
                 NewStage::Place(place) => return place.next(),
+                NewStage::Want(_) => Ask::Or(Cell::Want, 1),
             },
             Task::Gc(_, wait) => return wait.next(&self.poll),
             Task::Poll => return self.poll.next(),
@@ -225,6 +226,7 @@ impl<'s> Processor<'s> {
                 NewStage::Search { waited, search } => *waited && search.refuses(),
                 NewStage::Wait(_) => false,
                 NewStage::Place(place) => place.acts(),
+                NewStage::Want(_) => false,
             },
             Task::Gc(_, wait) => wait.ends_by(found),
         }

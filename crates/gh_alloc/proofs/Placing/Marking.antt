@@ -1,5 +1,5 @@
 -- While marking is on, an object is marked before it is made; while it is off, nothing is marked: by its stages.
-use Rattle.std.proofs.Common.{◌≡◌, ◌≢◌, ℕ, zero, suc, ◌+◌, ◌/◌, ◌%◌, ◌^◌, Bool, true, false, cond, nat_lt, Option, Some, None, refl, sym, ap, ◌∙◌, arith}
+use Rattle.std.proofs.Common.{◌≡◌, ◌≢◌, ℕ, zero, suc, ◌+◌, ◌*◌, ◌/◌, ◌%◌, ◌^◌, Bool, true, false, cond, nat_lt, Option, Some, None, refl, sym, ap, ◌∙◌, arith}
 use Rattle.gh_base.specs.declared.cell.Cell.TheVariants as cell
 use Rattle.gh_base.specs.declared.cell.Ask.TheVariants.{Or}
 use Rattle.gh_base.specs.declared.pack.SpanHead.{SpanHead}
@@ -12,9 +12,9 @@ use Rattle.gh_central.specs.declared.give.GiveStage.{GiveStage}
 use Rattle.gh_central.specs.declared.give.GiveStage.TheVariants as give_stage
 use Rattle.gh_central.specs.GiveBack as give
 use Rattle.gh_alloc.specs.declared.place.PlaceStage.{PlaceStage}
-use Rattle.gh_alloc.specs.declared.place.PlaceStage.TheVariants.{Clear, Birth, Bits, Mark, Alloc, Give}
+use Rattle.gh_alloc.specs.declared.place.PlaceStage.TheVariants.{Clear, Birth, Bits, Mark, Alloc, Give, Count, LoadTrigger, Ended}
 use Rattle.gh_alloc.specs.Marking.{AnObjectIsMarkedBeforeItIsMade, IsMarkedBefore}
-use Rattle.gh_alloc.specs.Place.{Placing, asks, asks_at, filled, goes_at, listing, made, opening}
+use Rattle.gh_alloc.specs.Place.{Placing, asks, asks_at, counted, filled, goes_at, listing, made, opening}
 
 -- The alloc bits are set at one stage, and the mark bits at one.
 
@@ -62,11 +62,18 @@ not_made : (p : Placing) (span : Option SpanHead) → made p span ≢ Alloc
 not_made p None e = absurd (cc)
 not_made p (Some head) e = absurd (cc)
 
+not_counted : (p : Placing) (found : ℕ) → counted p found ≢ Alloc
+not_counted p found e = by p.marking e where
+  by : (b : Bool) → cond b (Ended false) (LoadTrigger ((found + 8 * p.slot) % 2 ^ 64)) ≢ Alloc
+  by true e = cc
+  by false e = cc
+
 from_mark : (p : Placing) (q : PlaceStage) (w : ℕ) → p.marking ≡ true → goes_at p q w ≡ Alloc → q ≡ Mark
 from_mark p (Clear k) w on e = absurd (not_cleared (nat_lt (k + 1) p.slot) (k + 1) e)
 from_mark p (Bits s) w on e = absurd (not_filled (bits.is_busy (bits.goes s w).stage) (bits.goes s w) (ap (λ (m : Bool). cond (bits.is_busy (bits.goes s w).stage) (Bits (bits.goes s w)) (filled m)) (sym on) ∙ e))
 from_mark p Mark w on e = refl
 from_mark p Alloc w on e = absurd (not_made p p.span e)
+from_mark p Count w on e = absurd (not_counted p w e)
 from_mark p _ w on e = absurd (cc)
 
 -- Where it is off, no stage leads to that of the mark bit.
@@ -83,10 +90,17 @@ unmarked_made : (p : Placing) (span : Option SpanHead) → made p span ≢ Mark
 unmarked_made p None e = absurd (cc)
 unmarked_made p (Some head) e = absurd (cc)
 
+unmarked_counted : (p : Placing) (found : ℕ) → counted p found ≢ Mark
+unmarked_counted p found e = by p.marking e where
+  by : (b : Bool) → cond b (Ended false) (LoadTrigger ((found + 8 * p.slot) % 2 ^ 64)) ≢ Mark
+  by true e = cc
+  by false e = cc
+
 no_mark : (p : Placing) (q : PlaceStage) (w : ℕ) → p.marking ≡ false → goes_at p q w ≢ Mark
 no_mark p (Clear k) w off e = absurd (unmarked_cleared (nat_lt (k + 1) p.slot) (k + 1) e)
 no_mark p (Bits s) w off e = absurd (unmarked_filled (bits.is_busy (bits.goes s w).stage) (bits.goes s w) (ap (λ (m : Bool). cond (bits.is_busy (bits.goes s w).stage) (Bits (bits.goes s w)) (filled m)) (sym off) ∙ e))
 no_mark p Alloc w off e = absurd (unmarked_made p p.span e)
+no_mark p Count w off e = absurd (unmarked_counted p w e)
 no_mark p _ w off e = absurd (cc)
 
 same_bits : (i j w x : ℕ) → Or (cell.Alloc i) w ≡ Or (cell.Alloc j) x → Or (cell.Mark i) w ≡ Or (cell.Mark j) x

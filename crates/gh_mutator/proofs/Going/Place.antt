@@ -1,6 +1,7 @@
 -- Steps of the making of an object beside marking: its slot is cleared and laid out, then it is marked, and then it is made.
-use Rattle.std.proofs.Common.{◌≡◌, ℕ, ◌+◌, ◌<◌, Bool, true, false, cond, eqb, ltb, Option, Some, None, refl, sym, ap, subst, ◌∙◌, arith}
+use Rattle.std.proofs.Common.{◌≡◌, ℕ, ◌+◌, ◌*◌, ◌%◌, ◌^◌, ◌<◌, Bool, true, false, cond, eqb, ltb, nat_le, Option, Some, None, refl, sym, ap, subst, ◌∙◌, arith}
 use Rattle.std.proofs.lemmas.Bool.{eqb-true}
+use Rattle.gh_base.specs.declared.cell.Cell.TheVariants as cell
 use Rattle.gh_base.specs.declared.pack.SpanHead.{SpanHead}
 use Rattle.gh_base.specs.declared.shape.Shape.{Shape}
 use Rattle.gh_base.specs.Packing.{birth_word, bit}
@@ -25,15 +26,14 @@ use Rattle.gh_marks.specs.Colours.{Placing as PlacingBy}
 use Rattle.gh_marks.specs.Colours.{Shared as Marking}
 use Rattle.gh_marks.specs.Moves as marks
 use Rattle.gh_model.specs.Ever.{field_count, next_name}
-use Rattle.gh_mutator.specs.declared.task.Task.TheVariants as task
 use Rattle.gh_mutator.specs.Beside.{StepsOn, Together}
 use Rattle.gh_mutator.specs.Facts.{for_whom}
 use Rattle.gh_mutator.specs.MarkFacts.{holding, IsBetween, KnowsStacks}
 use Rattle.gh_mutator.specs.MarkVocabulary.{Cycle, Hands, Keeps}
-use Rattle.gh_mutator.specs.New.{made_object, makes}
+use Rattle.gh_mutator.specs.New.{made_object, made_task, makes, wants}
 use Rattle.gh_mutator.specs.Processor.{at_task}
 use Rattle.gh_mutator.specs.ProcessorMarks.{reserved_at, TaskFacts}
-use Rattle.gh_mutator.specs.Vocabulary.{Answer, PlaceStage, Processor, view, Wanted}
+use Rattle.gh_mutator.specs.Vocabulary.{Answer, Name, PlaceStage, Processor, view, Wanted}
 use Rattle.gh_mutator.proofs.Going.Known.{by_deed, by_keeping, fills_none, heap_then, Known, processor_then, StepAt, StepOf}
 use Rattle.gh_mutator.proofs.Marking.Known.{stacks_last}
 use Rattle.gh_mutator.proofs.Owning.SearchSteps.{sized}
@@ -51,10 +51,15 @@ give_quiet s g give_stage.Ended = tt
 abbrev at : Wanted → Placing → PlaceStage → Processor → Processor
 at w p q m = at_task m (makes w (place.at_stage p q))
 
--- the processor goes on with the making, at this stage, or it is over
-goes_facts : (z : Cycle) (a : ℕ) (u : Marking) (m : Processor) (w : Wanted) (p : Placing) (q : PlaceStage) → p.marking ≡ true → reserved_at p.at q ≡ None → place.is_busy q ≡ true → IsBetween z a u m.poll.local → TaskFacts z a u m.poll (cond (place.is_busy q) (makes w (place.at_stage p q)) task.Idle)
-goes_facts z a u m w p q marking free busy b = subst (λ (c : Bool). TaskFacts z a u m.poll (cond c (makes w (place.at_stage p q)) task.Idle)) (sym busy)
+-- the processor goes on with the making, at this stage
+goes_facts : (z : Cycle) (a : ℕ) (u : Marking) (m : Processor) (w : Wanted) (p : Placing) (q : PlaceStage) → p.marking ≡ true → reserved_at p.at q ≡ None → place.given_at q ≡ None → IsBetween z a u m.poll.local → TaskFacts z a u m.poll (made_task w (place.at_stage p q) (place.given_at q))
+goes_facts z a u m w p q marking free on b = subst (λ (o : Option Bool). TaskFacts z a u m.poll (made_task w (place.at_stage p q) o)) (sym on)
     (record { marking = marking; stacks = b.stacks; number = b.number; hands = subst (λ (o : Option ℕ). Hands a u (record (holding m.poll.local.held) { placing = o })) (sym free) b.hands })
+
+-- or it is over
+over_facts : (z : Cycle) (a : ℕ) (u : Marking) (m : Processor) (w : Wanted) (p : Placing) (asks : Bool) → IsBetween z a u m.poll.local → TaskFacts z a u m.poll (made_task w p (Some asks))
+over_facts z a u m w p true b = b
+over_facts z a u m w p false b = b
 
 module _ (k : Known) (w : Wanted) (p : Placing) (z : Cycle) (a : ℕ) (h : Heap) (s : Marking) (m : Processor) (pending : Option Answer) where
   abbrev Ready : PlaceStage → Type 0
@@ -120,7 +125,7 @@ module _ (k : Known) (w : Wanted) (p : Placing) (z : Cycle) (a : ℕ) (h : Heap)
     may_make : MayMake z.arena (view h) a p.at w.g w.d w.t
     may_make = record { runs = f.0.runs; register = f.0.places.register; type = f.0.places.type; few = f.0.few; ready = ready }
 
-    made_facts : (u : Marking) (span : Option SpanHead) → IsBetween z a u (made_object (at w p making.Alloc m) w p.at).poll.local → TaskFacts z a u (made_object (at w p making.Alloc m) w p.at).poll (cond (place.is_busy (place.made p span)) (makes w (place.at_stage p (place.made p span))) task.Idle)
+    made_facts : (u : Marking) (span : Option SpanHead) → IsBetween z a u (made_object (at w p making.Alloc m) w p.at).poll.local → TaskFacts z a u (made_object (at w p making.Alloc m) w p.at).poll (made_task w (place.at_stage p (place.made p span)) (place.given_at (place.made p span)))
     made_facts u None b = record { marking = t.facts.task_is.marking; stacks = b.stacks; number = b.number; hands = b.hands }
     made_facts u (Some head) b = record { marking = t.facts.task_is.marking; stacks = b.stacks; number = b.number; hands = b.hands }
 
@@ -133,14 +138,14 @@ place_at : Known → (w : Wanted) (p : Placing) (q : PlaceStage) → StepAt (mak
 place_at k w p (making.Clear i) z a h s m pending t kn l = by_deed k z a h s (at w p (making.Clear i) m) pending t l Rests tt refl
     (k.aside z a p.at p.slot i h s t.heap t.marking t.beside t.fine.task.facts.0.claim t.fine.task.facts.1, fills k w p z a h s m pending (making.Clear i) t refl)
     (λ u hands stacks. by u (ltb (i + 1) p.slot) (record { stacks = stacks; number = t.facts.task_is.number; hands = hands (holding m.poll.local.held) (between k w p z a h s m pending (making.Clear i) t refl) })) where
-      by : (u : Marking) (b : Bool) → IsBetween z a u m.poll.local → TaskFacts z a u m.poll (cond (place.is_busy (cond b (making.Clear (i + 1)) making.Birth)) (makes w (place.at_stage p (cond b (making.Clear (i + 1)) making.Birth))) task.Idle)
+      by : (u : Marking) (b : Bool) → IsBetween z a u m.poll.local → TaskFacts z a u m.poll (made_task w (place.at_stage p (cond b (making.Clear (i + 1)) making.Birth)) (place.given_at (cond b (making.Clear (i + 1)) making.Birth)))
       by u true b = goes_facts z a u m w p (making.Clear (i + 1)) t.facts.task_is.marking refl refl b
       by u false b = goes_facts z a u m w p making.Birth t.facts.task_is.marking refl refl b
 place_at k w p making.Birth z a h s m pending t kn l = by_deed k z a h s (at w p making.Birth m) pending t l Rests tt refl (tt, fills k w p z a h s m pending making.Birth t refl)
     (λ u hands stacks. goes_facts z a u m w p (making.Bits (bits.opening p.layout p.shape p.at p.slot)) t.facts.task_is.marking refl refl (record { stacks = stacks; number = t.facts.task_is.number; hands = hands (holding m.poll.local.held) (between k w p z a h s m pending making.Birth t refl) }))
 place_at k w p (making.Bits b) z a h s m pending t kn l = by_deed k z a h s (at w p (making.Bits b) m) pending t l Rests tt refl (bits_quiet s b b.stage, fills k w p z a h s m pending (making.Bits b) t refl)
     (λ u hands stacks. by u (bits.is_busy (bits.goes b 0).stage) p.marking t.facts.task_is.marking refl (record { stacks = stacks; number = t.facts.task_is.number; hands = hands (holding m.poll.local.held) (between k w p z a h s m pending (making.Bits b) t refl) })) where
-      by : (u : Marking) (busy marking : Bool) → marking ≡ true → bits.is_busy (bits.goes b 0).stage ≡ busy → IsBetween z a u m.poll.local → TaskFacts z a u m.poll (cond (place.is_busy (cond busy (making.Bits (bits.goes b 0)) (place.filled marking))) (makes w (place.at_stage p (cond busy (making.Bits (bits.goes b 0)) (place.filled marking)))) task.Idle)
+      by : (u : Marking) (busy marking : Bool) → marking ≡ true → bits.is_busy (bits.goes b 0).stage ≡ busy → IsBetween z a u m.poll.local → TaskFacts z a u m.poll (made_task w (place.at_stage p (cond busy (making.Bits (bits.goes b 0)) (place.filled marking))) (place.given_at (cond busy (making.Bits (bits.goes b 0)) (place.filled marking))))
       by u true marking on busy x = goes_facts z a u m w p (making.Bits (bits.goes b 0)) t.facts.task_is.marking refl refl x
       by u false true on busy x = goes_facts z a u m w p making.Mark t.facts.task_is.marking refl refl x
       by u false false on busy x = absurd (cc)
@@ -149,8 +154,18 @@ place_at k w p making.Alloc z a h s m pending t kn l = makes_it k w p z a h s m 
 place_at k w p (making.Give g) z a h s m pending t kn l = by_deed k z a h s (at w p (making.Give g) m) pending t l Rests tt refl (give_quiet s g g.stage, fills k w p z a h s m pending (making.Give g) t refl)
     (λ u hands stacks. goes_facts z a u m w p making.Count t.facts.task_is.marking refl refl (record { stacks = stacks; number = t.facts.task_is.number; hands = hands (holding m.poll.local.held) (between k w p z a h s m pending (making.Give g) t refl) }))
 place_at k w p making.Count z a h s m pending t kn l = by_deed k z a h s (at w p making.Count m) pending t l Rests tt refl (tt, fills k w p z a h s m pending making.Count t refl)
-    (λ u hands stacks. record { stacks = stacks; number = t.facts.task_is.number; hands = hands (holding m.poll.local.held) (between k w p z a h s m pending making.Count t refl) })
-place_at k w p making.Ended z a h s m pending t kn l = absurd t.fine.task.facts
+    (λ u hands stacks. by u p.marking ((h.words cell.Heap + 8 * p.slot) % 2 ^ 64) (record { stacks = stacks; number = t.facts.task_is.number; hands = hands (holding m.poll.local.held) (between k w p z a h s m pending making.Count t refl) })) where
+      by : (u : Marking) (marking : Bool) (bytes : ℕ) → IsBetween z a u m.poll.local → TaskFacts z a u m.poll (made_task w (place.at_stage p (cond marking (making.Ended false) (making.LoadTrigger bytes))) (place.given_at (cond marking (making.Ended false) (making.LoadTrigger bytes))))
+      by u true bytes b = over_facts z a u m w (place.at_stage p (making.Ended false)) false b
+      by u false bytes b = goes_facts z a u m w p (making.LoadTrigger bytes) t.facts.task_is.marking refl refl b
+place_at k w p (making.LoadTrigger bytes) z a h s m pending t kn l = by_deed k z a h s (at w p (making.LoadTrigger bytes) m) pending t l Rests tt refl (tt, fills k w p z a h s m pending (making.LoadTrigger bytes) t refl)
+    (λ u hands stacks. over_facts z a u m w (place.at_stage p (making.Ended (nat_le (h.words cell.Trigger) bytes))) (nat_le (h.words cell.Trigger) bytes) (record { stacks = stacks; number = t.facts.task_is.number; hands = hands (holding m.poll.local.held) (between k w p z a h s m pending (making.LoadTrigger bytes) t refl) }))
+place_at k w p (making.Ended asks) z a h s m pending t kn l = absurd t.fine.task.facts
 
 pub place_step : Known → (w : Wanted) (p : Placing) → StepAt (makes w p)
 place_step k w p = place_at k w p p.stage
+
+-- A cycle is asked for behind the making.
+pub want_step : Known → (w : Wanted) (n : Name) → StepAt (wants w n)
+want_step k w n z a h s m pending t kn l = by_deed k z a h s (at_task m (wants w n)) pending t l Rests tt refl (tt, fills_none a s (holding m.poll.local.held) refl t.facts.task_is.hands)
+    (λ u hands stacks. record { stacks = stacks; number = t.facts.task_is.number; hands = hands (holding m.poll.local.held) t.facts.task_is.hands })

@@ -10,7 +10,7 @@ use Rattle.gh_mutator.proofs.Going.End.{end_step}
 use Rattle.gh_mutator.proofs.Going.Global.{global_step}
 use Rattle.gh_mutator.proofs.Going.Known.{Known, StepAt}
 use Rattle.gh_mutator.proofs.Going.Load.{load_step}
-use Rattle.gh_mutator.proofs.Going.Place.{place_step}
+use Rattle.gh_mutator.proofs.Going.Place.{place_step, want_step}
 use Rattle.gh_mutator.proofs.Going.Polls.{gc_step, leave_step, poll_step, wait_step}
 use Rattle.gh_mutator.proofs.Going.Register.{register_step}
 use Rattle.gh_mutator.proofs.Going.Search.{search_step}
@@ -20,6 +20,7 @@ new_step : Known → (w : Wanted) (q : NewStage) → StepAt (task.New (record { 
 new_step k w (new_stage.Search waited y) = search_step k w waited y
 new_step k w (new_stage.Wait x) = wait_step k w x
 new_step k w (new_stage.Place p) = place_step k w p
+new_step k w (new_stage.Want n) = want_step k w n
 
 step_at : Known → (q : Task) → is_busy_at q ≡ true → StepAt q
 step_at k task.Idle busy = absurd (cc)

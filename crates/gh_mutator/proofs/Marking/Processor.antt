@@ -25,7 +25,7 @@ use Rattle.gh_mutator.specs.ProcessorPlaces.{new_stage_at}
 use Rattle.gh_mutator.specs.Stays.{leaves_on}
 use Rattle.gh_mutator.specs.Vocabulary.{GlobalStage, Polling, Store, StoreStage}
 use Rattle.gh_mutator.specs.Wait as wait
-use Rattle.gh_mutator.proofs.Vocabulary.{after_gc, after_leave, after_poll, asks_at, begins, cell_of, Cycle, effect, Good, Hands, holding, Keeps, KnowsObjects, landing, leaves_at, LeaveStage, Leaving, Local, NewStage, nothing, Op, Others, Place, polls_at, PollStage, Processor, Search, Shape, Shared, stage_at, Steps, takes_at, Task, Wait, Waiting, waits_at, WaitStage, WaitState, Wanted}
+use Rattle.gh_mutator.proofs.Vocabulary.{after_gc, after_leave, after_poll, asks_at, begins, cell_of, Cycle, effect, Good, Hands, holding, Keeps, KnowsObjects, landing, leaves_at, LeaveStage, Leaving, Local, NewStage, nothing, Op, Others, Place, polls_at, PollStage, Processor, Search, Shape, Shared, stage_at, Steps, takes_at, Task, Wait, Waiting, waits_at, WaitStage, WaitState, Wanted, Want}
 use Rattle.gh_mutator.proofs.Marking.Known.{Known, stacks_last}
 
 -- whose it is, and what it knows of its stacks
@@ -85,6 +85,7 @@ module _ (k : Known) (h : PollsByMoves) (v : WaitsByMoves) (l : LeavesByMoves) (
     new_steps n (Search waited y) only x = absurd (cc)
     new_steps n (Wait y) only x = new_waits n y x
     new_steps n (Place y) only x = absurd (cc)
+    new_steps n (Want u) only x = absurd (cc)
 
     left_then : (t : Shared) (x : Leaving) (q : LeaveStage) (found : ℕ) → m.poll.local.held ≡ None → Keeps z a s t → LeaveFacts z a t (leave.goes_at x q found).stage → MarkFacts z a t (after_leave m (leave.goes_at x q found) (leave.given (leave.goes_at x q found).stage))
     left_then t x (leave_stage.Giving g) found none kept f = subst (λ (o : Option (Unit {0})). MarkFacts z a t (after_leave m (leave.goes_at x (leave_stage.Giving g) found) o)) (sym (leaves_on (give.goes g found)))
@@ -113,6 +114,7 @@ module _ (k : Known) (h : PollsByMoves) (v : WaitsByMoves) (l : LeavesByMoves) (
   new_lasts : (s t : Shared) (p : Polling) (q : NewStage) → Others z a s t → NewFacts z a s p q → NewFacts z a t p q
   new_lasts s t p (Search waited y) o x = between_lasts s t p.local o x
   new_lasts s t p (Wait y) o x = v.lasts z a s t (wait.waiting y p) o x
+  new_lasts s t p (Want n) o x = between_lasts s t p.local o x
   new_lasts s t p (Place y) o x = record {
     marking = x.marking;
     stacks = stacks_last z a s t p.local.stacks p.local.scanned o.keeps x.stacks;
@@ -167,6 +169,7 @@ module _ (k : Known) (h : PollsByMoves) (v : WaitsByMoves) (l : LeavesByMoves) (
   new_stands s p (Search waited y) stops still x = absurd still
   new_stands s p (Wait y) stops still x = wait_stands s (wait.waiting y p) y.stage stops still x
   new_stands s p (Place y) stops still x = absurd still
+  new_stands s p (Want n) stops still x = absurd still
 
   leave_stands : (s : Shared) (q : LeaveStage) (stops : ℕ) → IsParked stops (leaves_at q) → LeaveFacts z a s q → Hands a s nothing
   leave_stands s (leave_stage.Giving g) stops still x = absurd still
@@ -200,6 +203,7 @@ module _ (k : Known) (h : PollsByMoves) (v : WaitsByMoves) (l : LeavesByMoves) (
     new_opens (Search waited y) still = absurd still
     new_opens (Wait y) still = wait_opens y y.stage still
     new_opens (Place y) still = absurd still
+    new_opens (Want n) still = absurd still
 
     leave_opens : (q : LeaveStage) → IsParked stops (leaves_at q) → LeaveFacts z a s q
     leave_opens (leave_stage.Giving g) still = absurd still

@@ -1,35 +1,37 @@
 -- The steps of a new object's making. The making is known by its law, and by which of its steps makes the object and which is its last.
-use Rattle.std.proofs.Common.{◌≡◌, ℕ, ◌+◌, ◌/◌, ◌<◌, ◌⊎◌, Bool, true, false, cond, eqb, ltb, List, [], ◌∷◌, ◌++◌, length, get_or, Option, Some, None, is_none, refl, sym, ap, subst, ◌∙◌, arith, inl, inr, length-set, get_or-set_same, get_or-set_other}
+use Rattle.std.proofs.Common.{◌≡◌, ℕ, ◌+◌, ◌*◌, ◌/◌, ◌%◌, ◌^◌, ◌<◌, ◌⊎◌, Bool, true, false, cond, eqb, ltb, nat_le, List, [], ◌∷◌, ◌++◌, length, get_or, Option, Some, None, refl, sym, ap, subst, ◌∙◌, arith, inl, inr, length-set, get_or-set_same, get_or-set_other}
 use Rattle.std.specs.Option.{option_to_list}
 use Rattle.std.proofs.Math.ListN.{set}
 use Rattle.std.proofs.lemmas.Bool.{eqb-true, eqb-false, eq-eqb}
 use Rattle.gh_mutator.proofs.Owning.Vocabulary.{Act, acted, acting, answered_at, at_task, Does, Fine, for_whom, KnowsCounts, lists, Makes, makes, op_of, own_span, register_at, RegistersFit, ShapesAreGood, Sits}
 use Rattle.gh_mutator.specs.Vocabulary.{Answer, Arena, cell_of, Ever, EverValue, Good, IsMade, IsOf, KeepsItsOwn, KeepsObjects, Large, Means, moved, Name, PlaceStage, Polling, Processor, REGISTERS, Shared, Small, Sought, SpanHead, Steps, Value, View, view, Wanted, with_register}
+use Rattle.gh_base.specs.declared.cell.Ask.TheVariants as ask
+use Rattle.gh_base.specs.declared.cell.Cell.TheVariants as cell
 use Rattle.gh_base.specs.declared.value.Answer.TheVariants as answer
 use Rattle.gh_base.specs.declared.value.Value.TheVariants as value
 use Rattle.gh_model.specs.declared.EverValue.TheVariants as ever
 use Rattle.gh_model.specs.Ever.{next_name, same_name, with_object}
-use Rattle.gh_heap.specs.Moves.{placed_at, update}
+use Rattle.gh_heap.specs.Moves.{placed_at, Quiet, update}
 use Rattle.gh_heap.specs.Objects.{Place as PlaceOf}
 use Rattle.gh_bitmap.specs.SetPointers as setter
 use Rattle.gh_alloc.specs.declared.place.PlaceStage.TheVariants as making
 use Rattle.gh_alloc.specs.FindFacts as find
 use Rattle.gh_alloc.specs.Place as placer
 use Rattle.gh_alloc.specs.PlaceFacts as place
-use Rattle.gh_mutator.specs.declared.task.Task.TheVariants as task
 use Rattle.gh_mutator.specs.Facts.{NamedFrom}
 use Rattle.gh_mutator.specs.Local.{with_register as local_register}
-use Rattle.gh_mutator.specs.New.{is_made, made_object}
+use Rattle.gh_mutator.specs.New.{answer_made, is_made, made_object, made_task, wants}
 use Rattle.gh_mutator.proofs.Holding.Known.{cached_kept, holds_swept, HoldsSwept}
 use Rattle.gh_mutator.proofs.Holding.Lists.{lists_it}
 use Rattle.gh_mutator.proofs.Owning.Known.{Known}
-use Rattle.gh_mutator.proofs.Owning.Steady.{goroutine_few, registers_then, sits_register, Steady, steady_on}
+use Rattle.gh_mutator.proofs.Owning.Statements.{idle, StepAt}
+use Rattle.gh_mutator.proofs.Owning.Steady.{goroutine_few, HasCached, registers_then, sits_register, Steady, steady_on}
 
 -- What kind of step is made at a stage: one on the way, the one that makes the object, or the last.
 data Kind (p : placer.Placing) (q : PlaceStage) (found : ℕ) : Type 0 where
   onward : placer.acts_at q ≡ false → placer.given_at (placer.goes_at p q found) ≡ None → is_made (placer.goes_at p q found) ≡ is_made q → Kind p q found
   making-it : placer.acts_at q ≡ true → placer.given_at (placer.goes_at p q found) ≡ None → is_made (placer.goes_at p q found) ≡ true → is_made q ≡ false → Kind p q found
-  ending : placer.acts_at q ≡ false → placer.given_at (placer.goes_at p q found) ≡ Some tt → is_made q ≡ true → placer.goes_at p q found ≡ making.Ended → Kind p q found
+  ending : (asks : Bool) → placer.acts_at q ≡ false → is_made q ≡ true → placer.goes_at p q found ≡ making.Ended asks → Kind p q found
 
 filled-none : (marking : Bool) → placer.given_at (placer.filled marking) ≡ None
 filled-none true = refl
@@ -39,7 +41,7 @@ filled-unmade : (marking : Bool) → is_made (placer.filled marking) ≡ false
 filled-unmade true = refl
 filled-unmade false = refl
 
-kind-of : (p : placer.Placing) (q : PlaceStage) (found : ℕ) → (q ≡ making.Ended → ⊥) → Kind p q found
+kind-of : (p : placer.Placing) (q : PlaceStage) (found : ℕ) → ((asks : Bool) → q ≡ making.Ended asks → ⊥) → Kind p q found
 kind-of p (making.Clear i) found busy = go (ltb (i + 1) p.slot) refl where
   go : (b : Bool) → ltb (i + 1) p.slot ≡ b → Kind p (making.Clear i) found
   go true e = onward refl (ap (λ (b : Bool). placer.given_at (cond b (making.Clear (i + 1)) making.Birth)) e) (ap (λ (b : Bool). is_made (cond b (making.Clear (i + 1)) making.Birth)) e)
@@ -55,8 +57,15 @@ kind-of p making.Alloc found busy = go p.span refl where
   go None e = making-it refl (ap (λ (y : Option SpanHead). placer.given_at (placer.made p y)) e) (ap (λ (y : Option SpanHead). is_made (placer.made p y)) e) refl
   go (Some h) e = making-it refl (ap (λ (y : Option SpanHead). placer.given_at (placer.made p y)) e) (ap (λ (y : Option SpanHead). is_made (placer.made p y)) e) refl
 kind-of p (making.Give g) found busy = onward refl refl refl
-kind-of p making.Count found busy = ending refl refl refl refl
-kind-of p making.Ended found busy = absurd (busy refl)
+kind-of p making.Count found busy = go p.marking refl where
+  bytes : ℕ
+  bytes = (found + 8 * p.slot) % 2 ^ 64
+
+  go : (b : Bool) → p.marking ≡ b → Kind p making.Count found
+  go true e = ending false refl refl (ap (λ (b : Bool). cond b (making.Ended false) (making.LoadTrigger bytes)) e)
+  go false e = onward refl (ap (λ (b : Bool). placer.given_at (cond b (making.Ended false) (making.LoadTrigger bytes))) e) (ap (λ (b : Bool). is_made (cond b (making.Ended false) (making.LoadTrigger bytes))) e)
+kind-of p (making.LoadTrigger bytes) found busy = ending (nat_le found bytes) refl refl refl
+kind-of p (making.Ended asks) found busy = absurd (busy asks refl)
 
 -- What the seat holds at a stage, and what its caches list.
 
@@ -69,8 +78,10 @@ held-cases making.Alloc span n base y = inl refl
 held-cases (making.Give g) span n base y = inl refl
 held-cases making.Count None n base y = inl refl
 held-cases making.Count (Some h) n base y = inr (refl, (h, refl))
-held-cases making.Ended None n base y = inl refl
-held-cases making.Ended (Some h) n base y = inr (refl, (h, refl))
+held-cases (making.LoadTrigger bytes) None n base y = inl refl
+held-cases (making.LoadTrigger bytes) (Some h) n base y = inr (refl, (h, refl))
+held-cases (making.Ended asks) None n base y = inl refl
+held-cases (making.Ended asks) (Some h) n base y = inr (refl, (h, refl))
 
 -- a large object has a span of its own, and no other
 own-cases : (seat generation : ℕ) (x : Sought) (at : ℕ) (h : SpanHead) → own_span seat generation x ≡ Some h → find.own_found x at ≡ Some (at / 1024)
@@ -101,11 +112,11 @@ module _ (z : Arena) (a : ℕ) (v : View) (m : Processor) (x : Wanted) (p : plac
       go false t = with-listed (find.own_found x.sought p.at) (lists m.poll.local.cache) y e
 
   -- at the end just that
-  held-last : p.span ≡ own_span m.poll.seat m.poll.local.view.generation x.sought → ((y : ℕ) → find.own_found x.sought p.at ≡ Some y → lists m.poll.local.cache y ≡ false) → (y : ℕ) → place.held_by making.Ended p.span (p.at / 1024) base y ≡ lists m.poll.local.cache y
-  held-last span apart y = subst (λ (s : Option SpanHead). place.held_by making.Ended s (p.at / 1024) base y ≡ lists m.poll.local.cache y) (sym span) (go x.sought refl) where
-    go : (s : Sought) → x.sought ≡ s → place.held_by making.Ended (own_span m.poll.seat m.poll.local.view.generation x.sought) (p.at / 1024) base y ≡ lists m.poll.local.cache y
-    go (Small c) e = subst (λ (s : Sought). place.held_by making.Ended (own_span m.poll.seat m.poll.local.view.generation s) (p.at / 1024) (find.with_span (find.own_found s p.at) (lists m.poll.local.cache)) y ≡ lists m.poll.local.cache y) (sym e) refl
-    go (Large pages noscan) e = subst (λ (s : Sought). place.held_by making.Ended (own_span m.poll.seat m.poll.local.view.generation s) (p.at / 1024) (find.with_span (find.own_found s p.at) (lists m.poll.local.cache)) y ≡ lists m.poll.local.cache y) (sym e)
+  held-last : p.span ≡ own_span m.poll.seat m.poll.local.view.generation x.sought → ((y : ℕ) → find.own_found x.sought p.at ≡ Some y → lists m.poll.local.cache y ≡ false) → (asks : Bool) (y : ℕ) → place.held_by (making.Ended asks) p.span (p.at / 1024) base y ≡ lists m.poll.local.cache y
+  held-last span apart asks y = subst (λ (s : Option SpanHead). place.held_by (making.Ended asks) s (p.at / 1024) base y ≡ lists m.poll.local.cache y) (sym span) (go x.sought refl) where
+    go : (s : Sought) → x.sought ≡ s → place.held_by (making.Ended asks) (own_span m.poll.seat m.poll.local.view.generation x.sought) (p.at / 1024) base y ≡ lists m.poll.local.cache y
+    go (Small c) e = subst (λ (s : Sought). place.held_by (making.Ended asks) (own_span m.poll.seat m.poll.local.view.generation s) (p.at / 1024) (find.with_span (find.own_found s p.at) (lists m.poll.local.cache)) y ≡ lists m.poll.local.cache y) (sym e) refl
+    go (Large pages noscan) e = subst (λ (s : Sought). place.held_by (making.Ended asks) (own_span m.poll.seat m.poll.local.view.generation s) (p.at / 1024) (find.with_span (find.own_found s p.at) (lists m.poll.local.cache)) y ≡ lists m.poll.local.cache y) (sym e)
         (back (eqb (p.at / 1024) y) refl (apart (p.at / 1024) (ap (λ (s : Sought). find.own_found s p.at) e))) where
           back : (b : Bool) → eqb (p.at / 1024) y ≡ b → lists m.poll.local.cache (p.at / 1024) ≡ false → cond b false (cond b true (lists m.poll.local.cache y)) ≡ lists m.poll.local.cache y
           back true t none = sym (subst (λ (n : ℕ). lists m.poll.local.cache n ≡ false) (eqb-true (p.at / 1024) y t) none)
@@ -183,22 +194,26 @@ module _ (k : Known) (z : Arena) (a : ℕ) (s : Shared) (m : Processor) (x : Wan
   abbrev next : placer.Placing
   next = placer.goes p found
 
-  abbrev then : Bool → Bool → Processor
-  then made busy = at_task (cond made (made_object making-at x p.at) making-at) (cond busy (makes x next) task.Idle)
+  abbrev then : Bool → Option Bool → Processor
+  then made asks = at_task (cond made (made_object making-at x p.at) making-at) (made_task x next asks)
+
+  nothing : (q : Option Answer) → [] ++ option_to_list q ≡ option_to_list q ++ []
+  nothing None = refl
+  nothing (Some r) = refl
 
   -- what the step comes to, by its kind
   done : (t : Shared) → ShapesAreGood z.shapes → Steady z a now m → Makes z a now m x p pending → HoldsSwept a now → KeepsItsOwn a now (view t) → place.Changes z (for_whom x) p (placer.acts_at p.stage) now (view t) →
       place.Comes z a (view t) (for_whom x) (base z a now m x p) (placer.given_at next.stage) next → place.CountsAlone p.stage s t → Kind p p.stage found → Does z a s t making-at pending found
   done t sg st mk swept own changes comes alone (onward still gives same) = record {
     after = pending;
-    fine = subst (λ (b : Bool). Fine z a (view t) (then b (placer.is_busy next.stage)) pending) (sym still) (subst (λ (b : Bool). Fine z a (view t) (then false b) pending) (sym (ap is_none gives)) (record {
+    fine = subst (λ (b : Bool). Fine z a (view t) (then b (placer.given next)) pending) (sym still) (subst (λ (g : Option Bool). Fine z a (view t) (then false g) pending) (sym gives) (record {
       counts = (steady_on z a now (view t) m o swept own held st).0;
       knows = (steady_on z a now (view t) m o swept own held st).1;
       right = come.0;
       task = record { facts = come.1; register = mk.register; of = mk.of; span = mk.span; apart = mk.apart; named = subst (λ (b : Bool). NamedFrom b p.name pending) (sym same) mk.named };
     }));
     ever = o.0 ∙ sym (ap (λ (b : Bool). acted z.shapes s.ever (acting b (op_of x) false)) still);
-    answers = ap (λ (b : Bool). option_to_list (answered_at z.shapes s.ever (acting b (op_of x) false)) ++ option_to_list pending) still ∙ nothing pending ∙ sym (ap (λ (b : Bool). option_to_list pending ++ option_to_list (cond b None (Some (answer.Ref p.name)))) (ap is_none gives));
+    answers = ap (λ (b : Bool). option_to_list (answered_at z.shapes s.ever (acting b (op_of x) false)) ++ option_to_list pending) still ∙ nothing pending ∙ sym (ap (λ (g : Option Bool). option_to_list pending ++ option_to_list (answer_made p.name g)) gives);
     full = λ q acts full. absurd (no-act q (ap (λ (b : Bool). acting b (op_of x) false) (sym still) ∙ acts));
     counts = alone;
   } where
@@ -206,20 +221,16 @@ module _ (k : Known) (z : Arena) (a : ℕ) (s : Shared) (m : Processor) (x : Wan
     o = subst (λ (b : Bool). place.Changes z (for_whom x) p b now (view t)) still changes
 
     come : place.Comes z a (view t) (for_whom x) (base z a now m x p) None next
-    come = subst (λ (g : Option (Unit {0})). place.Comes z a (view t) (for_whom x) (base z a now m x p) g next) gives comes
+    come = subst (λ (g : Option Bool). place.Comes z a (view t) (for_whom x) (base z a now m x p) g next) gives comes
 
     held : (y : ℕ) → lists m.poll.local.cache y ≡ true → (view t).holds a y ≡ true
     held y e = come.0.holds y ∙ listed-held z a now m x p mk.span mk.apart next.stage y e
-
-    nothing : (q : Option Answer) → [] ++ option_to_list q ≡ option_to_list q ++ []
-    nothing None = refl
-    nothing (Some r) = refl
 
     no-act : (q : Act) → None ≡ Some q → ⊥
     no-act q e = cc
   done t sg st mk swept own changes comes alone (making-it acts gives made unmade) = record {
     after = Some (answer.Ref p.name);
-    fine = subst (λ (b : Bool). Fine z a (view t) (then b (placer.is_busy next.stage)) (Some (answer.Ref p.name))) (sym acts) (subst (λ (b : Bool). Fine z a (view t) (then true b) (Some (answer.Ref p.name))) (sym (ap is_none gives)) (record {
+    fine = subst (λ (b : Bool). Fine z a (view t) (then b (placer.given next)) (Some (answer.Ref p.name))) (sym acts) (subst (λ (g : Option Bool). Fine z a (view t) (then true g) (Some (answer.Ref p.name))) (sym gives) (record {
       counts = made-counts z a now (view t) m.made x.g x.d x.t mk.of o.0 st.0;
       knows = record {
         stands = record { sits = sits_register z a m.poll x.g x.d (value.Ref (p.at + 1)) st.1.stands.sits; registers = made-registers z a now (view t) m.poll x.g x.d x.t p.at st.1.stands.sits mk.of mk.register o.0 o.1 st.1.stands.registers };
@@ -230,7 +241,7 @@ module _ (k : Known) (z : Arena) (a : ℕ) (s : Shared) (m : Processor) (x : Wan
     }));
     ever = o.0 ∙ sym (ap (λ (b : Bool). acted z.shapes s.ever (acting b (op_of x) false)) acts);
     answers = ap (λ (b : Bool). option_to_list (answered_at z.shapes s.ever (acting b (op_of x) false)) ++ option_to_list pending) acts ∙ ap (λ (q : Option Answer). (answer.Ref (next_name s.ever x.g) ∷ []) ++ option_to_list q) none
-        ∙ ap (λ (n : Name). answer.Ref n ∷ []) (sym o.2) ∙ sym (ap (λ (b : Bool). option_to_list (Some (answer.Ref p.name)) ++ option_to_list (cond b None (Some (answer.Ref p.name)))) (ap is_none gives));
+        ∙ ap (λ (n : Name). answer.Ref n ∷ []) (sym o.2) ∙ sym (ap (λ (g : Option Bool). option_to_list (Some (answer.Ref p.name)) ++ option_to_list (answer_made p.name g)) gives);
     full = λ q e full. absurd (not-full q (ap (λ (b : Bool). acting b (op_of x) false) (sym acts) ∙ e) full);
     counts = alone;
   } where
@@ -238,7 +249,7 @@ module _ (k : Known) (z : Arena) (a : ℕ) (s : Shared) (m : Processor) (x : Wan
     o = subst (λ (b : Bool). place.Changes z (for_whom x) p b now (view t)) acts changes
 
     come : place.Comes z a (view t) (for_whom x) (base z a now m x p) None next
-    come = subst (λ (g : Option (Unit {0})). place.Comes z a (view t) (for_whom x) (base z a now m x p) g next) gives comes
+    come = subst (λ (g : Option Bool). place.Comes z a (view t) (for_whom x) (base z a now m x p) g next) gives comes
 
     held : (y : ℕ) → lists m.poll.local.cache y ≡ true → (view t).holds a y ≡ true
     held y e = come.0.holds y ∙ listed-held z a now m x p mk.span mk.apart next.stage y e
@@ -248,33 +259,45 @@ module _ (k : Known) (z : Arena) (a : ℕ) (s : Shared) (m : Processor) (x : Wan
 
     not-full : (q : Act) → Some (record { op = op_of x; full = false }) ≡ Some q → q.full ≡ true → ⊥
     not-full q e f = let same : record { op = op_of x; full = false } ≡ q = cc in absurd (cc (ap (λ (r : Act). r.full) same, f))
-  done t sg st mk swept own changes comes alone (ending still gives made last) = record {
-    after = None;
-    fine = subst (λ (b : Bool). Fine z a (view t) (then b (placer.is_busy next.stage)) None) (sym still) (subst (λ (b : Bool). Fine z a (view t) (then false b) None) (sym (ap is_none gives)) (record {
-      counts = (steady_on z a now (view t) m o swept own (λ y e. held y ∙ e) st).0;
-      knows = (steady_on z a now (view t) m o swept own (λ y e. held y ∙ e) st).1;
-      right = record { locked = come.0.locked; holds = held; laying = come.0.laying; freeing = come.0.freeing };
-      task = refl;
-    }));
-    ever = o.0 ∙ sym (ap (λ (b : Bool). acted z.shapes s.ever (acting b (op_of x) false)) still);
-    answers = ap (λ (b : Bool). option_to_list (answered_at z.shapes s.ever (acting b (op_of x) false)) ++ option_to_list pending) still ∙ ap (λ (q : Option Answer). [] ++ option_to_list q) named ∙ sym (ap (λ (b : Bool). [] ++ option_to_list (cond b None (Some (answer.Ref p.name)))) (ap is_none gives));
-    full = λ q acts full. absurd (no-act q (ap (λ (b : Bool). acting b (op_of x) false) (sym still) ∙ acts));
-    counts = alone;
-  } where
+  done t sg st mk swept own changes comes alone (ending asks still made last) = over asks last where
     o : KeepsObjects now (view t)
     o = subst (λ (b : Bool). place.Changes z (for_whom x) p b now (view t)) still changes
-
-    come : place.Comes z a (view t) (for_whom x) (base z a now m x p) (Some tt) next
-    come = subst (λ (g : Option (Unit {0})). place.Comes z a (view t) (for_whom x) (base z a now m x p) g next) gives comes
-
-    held : (y : ℕ) → (view t).holds a y ≡ lists m.poll.local.cache y
-    held y = come.0.holds y ∙ ap (λ (q : PlaceStage). place.held_by q p.span (p.at / 1024) (base z a now m x p) y) last ∙ held-last z a now m x p mk.span mk.apart y
 
     named : pending ≡ Some (answer.Ref p.name)
     named = subst (λ (b : Bool). NamedFrom b p.name pending) made mk.named
 
-    no-act : (q : Act) → None ≡ Some q → ⊥
-    no-act q e = cc
+    no-act : (q : Act) → acting (placer.acts_at p.stage) (op_of x) false ≡ Some q → ⊥
+    no-act q acts = let none : acting (placer.acts_at p.stage) (op_of x) false ≡ None = ap (λ (b : Bool). acting b (op_of x) false) still in cc
+
+    gives : (b : Bool) → next.stage ≡ making.Ended b → placer.given next ≡ Some b
+    gives b ended = ap placer.given_at ended
+
+    come : (b : Bool) → next.stage ≡ making.Ended b → place.Comes z a (view t) (for_whom x) (base z a now m x p) (Some b) next
+    come b ended = subst (λ (g : Option Bool). place.Comes z a (view t) (for_whom x) (base z a now m x p) g next) (gives b ended) comes
+
+    held : (b : Bool) → next.stage ≡ making.Ended b → (y : ℕ) → (view t).holds a y ≡ lists m.poll.local.cache y
+    held b ended y = (come b ended).0.holds y ∙ ap (λ (q : PlaceStage). place.held_by q p.span (p.at / 1024) (base z a now m x p) y) ended ∙ held-last z a now m x p mk.span mk.apart b y
+
+    has : (b : Bool) → next.stage ≡ making.Ended b → HasCached a (view t) m
+    has b ended = let c = come b ended in record { locked = c.0.locked; holds = held b ended; laying = c.0.laying; freeing = c.0.freeing }
+
+    steady : (b : Bool) → next.stage ≡ making.Ended b → Steady z a (view t) m
+    steady b ended = steady_on z a now (view t) m o swept own (λ y e. held b ended y ∙ e) st
+
+    -- it is answered, or the request for a cycle comes first
+    over-with : (b : Bool) → next.stage ≡ making.Ended b → (after : Option Answer) → Fine z a (view t) (then false (Some b)) after → option_to_list pending ≡ option_to_list after ++ option_to_list (answer_made p.name (Some b)) → Does z a s t making-at pending found
+    over-with b ended after fine answers = record {
+      after = after;
+      fine = subst (λ (c : Bool). Fine z a (view t) (then c (placer.given next)) after) (sym still) (subst (λ (g : Option Bool). Fine z a (view t) (then false g) after) (sym (gives b ended)) fine);
+      ever = o.0 ∙ sym (ap (λ (c : Bool). acted z.shapes s.ever (acting c (op_of x) false)) still);
+      answers = ap (λ (c : Bool). option_to_list (answered_at z.shapes s.ever (acting c (op_of x) false)) ++ option_to_list pending) still ∙ answers ∙ sym (ap (λ (g : Option Bool). option_to_list after ++ option_to_list (answer_made p.name g)) (gives b ended));
+      full = λ q acts full. absurd (no-act q acts);
+      counts = alone;
+    }
+
+    over : (b : Bool) → next.stage ≡ making.Ended b → Does z a s t making-at pending found
+    over true ended = over-with true ended pending (record { counts = (steady true ended).0; knows = (steady true ended).1; right = has true ended; task = named }) (nothing pending)
+    over false ended = over-with false ended None (idle z a (view t) m (steady false ended) (has false ended)) (ap option_to_list named)
 
   pub place-steps : ShapesAreGood z.shapes → Good z now → Fine z a now making-at pending → Steps z a s (placer.asks p) (λ t. Does z a s t making-at pending found)
   place-steps sg g fine =
@@ -282,5 +305,29 @@ module _ (k : Known) (z : Arena) (a : ℕ) (s : Shared) (m : Processor) (x : Wan
       let st : Steady z a now m = (fine.counts, fine.knows) in
       let l = k.place.own_step z a s (for_whom x) (base z a now m x p) p g fine.right mk.facts in
       record { move = l.move; may = l.may; words_are = l.words_are; after = done (moved z a s l.move) sg st mk (holds_swept z a now g) (k.own z a s l.move g l.may) l.after.0 l.after.1 l.after.2 (kind-of p p.stage found (unended mk.facts)) } where
-        unended : place.Facts z a now (for_whom x) p → p.stage ≡ making.Ended → ⊥
-        unended facts e = subst (λ (q : PlaceStage). place.FactsAt z a now (for_whom x) (place.base p) q) e facts
+        unended : place.Facts z a now (for_whom x) p → (asks : Bool) → p.stage ≡ making.Ended asks → ⊥
+        unended facts asks e = subst (λ (q : PlaceStage). place.FactsAt z a now (for_whom x) (place.base p) q) e facts
+
+-- The request for a cycle: the object is answered behind it.
+pub want-steps : Known → (w : Wanted) (n : Name) → StepAt (wants w n)
+want-steps k w n z a s m pending sg good fine = record {
+  move = Quiet (ask.Or cell.Want 1);
+  may = tt;
+  words_are = refl;
+  after = record {
+    after = None;
+    fine = idle z a (view t) m steady (record { locked = fine.right.locked; holds = fine.right.holds; laying = fine.right.laying; freeing = fine.right.freeing });
+    ever = refl;
+    answers = ap option_to_list fine.task;
+    full = λ q acts full. absurd (no-act q acts);
+    counts = tt;
+  };
+} where
+  t : Shared
+  t = moved z a s (Quiet (ask.Or cell.Want 1))
+
+  steady : Steady z a (view t) m
+  steady = steady_on z a (view s) (view t) m (refl, refl) (holds_swept z a (view s) good) (k.own z a s (Quiet (ask.Or cell.Want 1)) good tt) (λ y e. fine.right.holds y ∙ e) (fine.counts, fine.knows)
+
+  no-act : (q : Act) → None ≡ Some q → ⊥
+  no-act q e = cc

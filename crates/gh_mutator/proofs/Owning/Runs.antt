@@ -32,7 +32,7 @@ use Rattle.gh_mutator.proofs.Owning.Lasts.{facts_last}
 use Rattle.gh_mutator.proofs.Owning.Load.{load_steps}
 use Rattle.gh_mutator.proofs.Owning.Opens.{opens}
 use Rattle.gh_mutator.proofs.Owning.Parked.{parked, stands_always, stopped}
-use Rattle.gh_mutator.proofs.Owning.PlaceSteps.{place-steps}
+use Rattle.gh_mutator.proofs.Owning.PlaceSteps.{place-steps, want-steps}
 use Rattle.gh_mutator.proofs.Owning.PollSteps.{gc_steps, leave_steps, poll_steps, wait_steps}
 use Rattle.gh_mutator.proofs.Owning.Register.{register_steps}
 use Rattle.gh_mutator.proofs.Owning.SearchSteps.{search-steps, sweep-steps}
@@ -67,6 +67,7 @@ new-at : Known → (w : Wanted) (q : NewStage) → NoSweepStepAt (task.New (reco
 new-at k w (new_stage.Search waited q) z a s m pending sg is good none fine = subst (λ (p : Task). StepFrom z a s (at_task m p) pending) (sym is) (search-steps k z a s m pending w waited q sg good none (subst (λ (p : Task). Fine z a (view s) (at_task m p) pending) is fine))
 new-at k w (new_stage.Wait x) z a s m pending sg is good none fine = at_its_task (task.New (record { wanted = w; stage = new_stage.Wait x })) (wait_steps k w x) z a s m pending sg is good fine
 new-at k w (new_stage.Place p) z a s m pending sg is good none fine = at_its_task (task.New (record { wanted = w; stage = new_stage.Place p })) (λ z a s m pending sg good fine. place-steps k z a s m w p pending sg good fine) z a s m pending sg is good fine
+new-at k w (new_stage.Want n) z a s m pending sg is good none fine = at_its_task (task.New (record { wanted = w; stage = new_stage.Want n })) (want-steps k w n) z a s m pending sg is good fine
 
 steps-at : Known → (q : Task) → is_busy_at q ≡ true → NoSweepStepAt q
 steps-at k task.Idle busy = absurd (cc)
@@ -142,6 +143,7 @@ does-sweep k z a s t m pending sw (task.New x) sg g then fine is o words = by x.
   by (new_stage.Search waited y) e fine is words = sweep-steps k z a s t m pending x.wanted waited y sw sg g then fine is o words
   by (new_stage.Wait y) e fine is words = absurd (cc)
   by (new_stage.Place y) e fine is words = absurd (cc)
+  by (new_stage.Want n) e fine is words = absurd (cc)
 does-sweep k z a s t m pending sw _ sg g then fine is o words = absurd (cc)
 
 sweep-busy : (m : Processor) (sw : Sweeping) (q : Task) → sweep_at q ≡ Some sw → is_busy_at q ≡ true

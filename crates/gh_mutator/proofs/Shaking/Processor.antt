@@ -4,6 +4,7 @@ use Rattle.std.specs.Prelude.{is_none}
 use Rattle.gh_base.specs.declared.operation.Op.TheVariants as op
 use Rattle.gh_alloc.specs.Search as search
 use Rattle.gh_alloc.specs.Place as place
+use Rattle.gh_mutator.specs.New.{made_task}
 use Rattle.gh_mutator.specs.declared.leave.LeaveStage.TheVariants as leave_stage
 use Rattle.gh_mutator.specs.declared.task.Task.TheVariants as task
 use Rattle.gh_mutator.specs.Give as give
@@ -19,7 +20,7 @@ use Rattle.gh_mutator.specs.Store as store
 use Rattle.gh_mutator.specs.Vocabulary.{Polling}
 use Rattle.gh_mutator.specs.Wait as wait
 use Rattle.gh_mutator.specs.Stays.{leaves_on}
-use Rattle.gh_mutator.proofs.Vocabulary.{Acts, after_gc, after_leave, after_place, after_poll, after_search, after_wait, applied, asks_at, At, Awake, begins, cache_span, cache_with, CachedSpan, Ends, follows, Found, GoesOn, has_left_at, is_busy_at, IsQuiet, Large, leaves_at, LeaveStage, Leaving, length-set, made_object, makes, MarkingIsQuiet, NewStage, NoRoom, Op, party_at, Place, PlaceBegins, Placing, Processor, ProcessorInHandshake, ProcessorIsQuiet, register_of, Search, Seeking, Shape, Small, Sought, SoundAt, span_index, stage_at, StageGoes, Step, takes, takes_at, Task, Then, Value, Wait, Waiting, WaitState, Wanted}
+use Rattle.gh_mutator.proofs.Vocabulary.{Acts, after_gc, after_leave, after_place, after_poll, after_search, after_wait, applied, asks_at, At, Awake, begins, cache_span, cache_with, CachedSpan, Ends, follows, Found, GoesOn, has_left_at, is_busy_at, IsQuiet, Large, leaves_at, LeaveStage, Leaving, length-set, made_object, makes, MarkingIsQuiet, NewStage, NoRoom, Op, party_at, Place, PlaceBegins, Placing, Processor, ProcessorInHandshake, ProcessorIsQuiet, register_of, Search, Seeking, Shape, Small, Sought, SoundAt, span_index, stage_at, StageGoes, Step, takes, takes_at, Task, Then, Value, Wait, Waiting, WaitState, Wanted, Want}
 use Rattle.gh_mutator.proofs.Shaking.Acknowledging.{acks}
 
 -- a step at this task leads here
@@ -91,14 +92,15 @@ search_lands shapes m w false s c (Some NoRoom) has =
     record { sound = (there, ((there, tt), refl)); party = refl; stage = refl }
 
 place_lands : (m : Processor) (w : Wanted) (made : Bool) (a : ℕ) (p : Placing) → HasPlaces m.poll.local.cache → Lands m (after_place m w made a p)
-place_lands m w made a p has = by made (place.is_busy p.stage) where
-  either : (more : Bool) → Plain (cond more (makes w p) task.Idle)
-  either true = make_plain w p
-  either false = idle_plain
+place_lands m w made a p has = by made (place.given p) where
+  then : (asks : Option Bool) → Plain (made_task w p asks)
+  then None = make_plain w p
+  then (Some true) = record { sound = λ q. tt; party = λ q. refl; stage = λ q. refl }
+  then (Some false) = idle_plain
 
-  by : (made more : Bool) → Lands m (record (cond made (made_object m w a) m) { task = cond more (makes w p) task.Idle })
-  by true more = lands m _ has refl (either more)
-  by false more = lands m _ has refl (either more)
+  by : (made : Bool) (asks : Option Bool) → Lands m (record (cond made (made_object m w a) m) { task = made_task w p asks })
+  by true asks = lands m _ has refl (then asks)
+  by false asks = lands m _ has refl (then asks)
 
 leave_seat : (x : Leaving) (stage : LeaveStage) (found : ℕ) → (leave.goes_at x stage found).seat ≡ x.seat
 leave_seat x (leave_stage.Giving g) found = refl
@@ -165,6 +167,7 @@ module _ (q : ProcessorIsQuiet) (k : MarkingIsQuiet) (h : PollsInHandshake) (v :
     new_goes : (found : ℕ) (m : Processor) (w : Wanted) (s : NewStage) → HasPlaces m.poll.local.cache → SoundAt m.poll (task.New (record { wanted = w; stage = s })) → Goes found m (task.New (record { wanted = w; stage = s })) (takes_at shapes m (task.New (record { wanted = w; stage = s })) found)
     new_goes found m w (Search waited s) has sound = awake found m _ _ refl refl (q.searches s) (search_lands shapes m w waited (search.goes s found) (search.goes s found).find.cached (search.gives s found) has)
     new_goes found m w (Wait x) has sound = wait_goes found m w x sound.0 sound.1 (wait.gives (wait.waiting x m.poll) found) refl
+    new_goes found m w (Want n) has sound = awake found m _ _ refl refl tt (lands m _ has refl idle_plain)
     new_goes found m w (Place p) has sound = awake found m _ _ refl refl (q.makes p) (place_lands m w (place.acts p) p.at (place.goes p found) has)
 
     goes_at : (found : ℕ) (m : Processor) (t : Task) → HasPlaces m.poll.local.cache → SoundAt m.poll t → is_busy_at t ≡ true → Goes found m t (takes_at shapes m t found)

@@ -19,7 +19,7 @@ use Rattle.gh_mutator.specs.Sweeping.{IsSweeping}
 use Rattle.gh_mutator.specs.Vocabulary.{Polling}
 use Rattle.gh_mutator.specs.Wait as wait
 use Rattle.gh_mutator.specs.Writing.{IsWanting, IsWritten, ScansItsOwn, TellsScan}
-use Rattle.gh_mutator.proofs.Vocabulary.{Ask, asks, LeaveStage, Leaving, MarkStackStage, NewStage, Place, PollsSoundAt, PollStage, Processor, register_of, ResumeStage, Search, SoundAt, SoundScanAt, Task, Wait, Waiting, WaitsSoundAt, WaitStage, WaitState, Wanted, WritesOf}
+use Rattle.gh_mutator.proofs.Vocabulary.{Ask, asks, LeaveStage, Leaving, MarkStackStage, NewStage, Place, PollsSoundAt, PollStage, Processor, register_of, ResumeStage, Search, SoundAt, SoundScanAt, Task, Wait, Waiting, WaitsSoundAt, WaitStage, WaitState, Wanted, WritesOf, Want}
 use Rattle.gh_mutator.proofs.Writing.Polls.{scan_asks}
 use Rattle.gh_mutator.proofs.Writing.Routines.{gives_write, global_writes, load_writes, store_writes}
 use Rattle.gh_mutator.proofs.Writing.Rows.{buffer_writes, OfHeap, OfMarking, OfSweeps, place_writes, room_writes, search_writes, shade_writes}
@@ -81,8 +81,9 @@ running p made t = record { poll = p; made = made; task = t }
 module _ (p : Polling) (made : List ℕ) (scan : SoundScanAt p p.stage) where
   new_writes : (w : Wanted) (q : NewStage) → SoundNewAt p q → WritesOf (IsWritten (running p made (task.New (record { wanted = w; stage = q })))) (new.asks_at (running p made (task.New (record { wanted = w; stage = q }))) q)
   new_writes w (Search waited s) sound = let m : Processor = running p made (task.New (record { wanted = w; stage = Search waited s })) in search_writes (IsWritten m) (heap_written m) s (λ sw e. sweeps_written m (ap is_some e))
-  new_writes w (Wait x) sound = wait_writes (running p made (task.New (record { wanted = w; stage = Wait x }))) x refl (λ e. e) scan x.stage refl sound.0.1
+  new_writes w (Wait x) sound = wait_writes (running p made (task.New (record { wanted = w; stage = Wait x }))) x refl (λ e. inl e) scan x.stage refl sound.0.1
   new_writes w (Place y) sound = let m : Processor = running p made (task.New (record { wanted = w; stage = Place y })) in place_writes (IsWritten m) (heap_written m) y (λ e. tt) (λ e. inl (e, ap (λ (q : _). place.asks_at y q) e))
+  new_writes w (Want n) sound = (inr tt, refl)
 
   leave_writes : (x : Leaving) (q : LeaveStage) → x.seat ≡ p.seat → WritesOf (IsWritten (running p made (task.Leave x))) (leave.asks_at x q)
   leave_writes x (leave_stage.Giving g) own = gives_written (running p made (task.Leave x)) g
@@ -97,7 +98,7 @@ module _ (p : Polling) (made : List ℕ) (scan : SoundScanAt p p.stage) where
   writes_at (task.Global x) sound = let m : Processor = running p made (task.Global x) in global_writes (IsWritten m) (heap_written m) p.layout (register_of m x.g x.r) x (λ w e. marking_written m)
   writes_at (task.Register x) sound = tt
   writes_at (task.New x) sound = new_writes x.wanted x.stage sound
-  writes_at (task.Gc g x) sound = wait_writes (running p made (task.Gc g x)) x refl (λ e. e) scan x.stage refl sound.0.1
+  writes_at (task.Gc g x) sound = wait_writes (running p made (task.Gc g x)) x refl (λ e. inl e) scan x.stage refl sound.0.1
   writes_at task.Poll sound = polls_write (running p made task.Poll) refl p.stage refl sound.sound.1 scan
   writes_at (task.End g) sound = inl (record { task_is = refl; tells = refl })
   writes_at (task.Leave x) sound = leave_writes x x.stage sound.seat_is

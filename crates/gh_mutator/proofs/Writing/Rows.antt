@@ -156,7 +156,8 @@ module _ (P : Cell → Type 0) (r : OfHeap P) where
   place_writes_at p place_stage.Alloc mark count = r.alloc _
   place_writes_at p (place_stage.Give g) mark count = give_writes P spans g g.stage
   place_writes_at p place_stage.Count mark count = count refl
-  place_writes_at p place_stage.Ended mark count = tt
+  place_writes_at p (place_stage.LoadTrigger bytes) mark count = tt
+  place_writes_at p (place_stage.Ended wants) mark count = tt
 
   pub place_writes : (p : place.Placing) → (p.stage ≡ place_stage.Mark → P (cell.Mark (p.at / 64))) → (p.stage ≡ place_stage.Count → P cell.Heap) → WritesOf P (place.asks p)
   place_writes p mark count = place_writes_at p p.stage mark count

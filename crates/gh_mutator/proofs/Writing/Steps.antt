@@ -16,7 +16,7 @@ use Rattle.gh_mutator.specs.Register as register
 use Rattle.gh_mutator.specs.Store as store
 use Rattle.gh_mutator.specs.Vocabulary.{Polling}
 use Rattle.gh_mutator.specs.Wait as wait
-use Rattle.gh_mutator.proofs.Vocabulary.{Held, after_gc, after_leave, after_poll, asks_at, At, begun_with, cache_span, CachedSpan, Found, LeaveStage, Leaving, NewStage, NoRoom, Op, Place, Placing, Processor, register_of, Search, Seeking, Shape, SoundScanAt, takes_at, taking, Task, Value, Wait, Waiting, WaitStage, WaitState, Wanted, with_ended, WritesOf}
+use Rattle.gh_mutator.proofs.Vocabulary.{Held, after_gc, after_leave, after_poll, asks_at, At, begun_with, cache_span, CachedSpan, Found, LeaveStage, Leaving, NewStage, NoRoom, Op, Place, Placing, Processor, register_of, Search, Seeking, Shape, SoundScanAt, takes_at, taking, Task, Value, Wait, Waiting, WaitStage, WaitState, Wanted, with_ended, WritesOf, Want}
 use Rattle.gh_mutator.proofs.Writing.Polls.{carried, ended_noted, Goes, goes_by, gives_not, heap_not, marking_not, NotStack, poll_goes, Stays, stays_so, stays_with, told_noted}
 use Rattle.gh_mutator.proofs.Writing.Routines.{global_writes, load_writes, store_writes}
 use Rattle.gh_mutator.proofs.Writing.Rows.{place_writes, search_writes}
@@ -72,6 +72,7 @@ module _ (shapes : List Shape) (m : Processor) (found : ℕ) (s : SoundScanAt m.
   new_goes n (Search waited y) = goes_by _ m.poll _ (search_writes NotStack heap_not y (λ sw e. record { alloc = λ i. tt; mark = λ i. tt; tally = tt; live = tt; heap = tt })) (found_stays shapes m n waited (search.goes y found).find.cached (search.goes y found) (search.gives y found) s)
   new_goes n (Wait x) = new_waits n x
   new_goes n (Place y) = goes_by _ m.poll _ (place_writes NotStack heap_not y (λ e. tt) (λ e. tt)) (made_stays m n (place.acts y) y.at (place.goes y found) s)
+  new_goes n (Want u) = goes_by _ m.poll _ tt (stays_so m.poll s)
 
   polls : Goes (poll.asks m.poll) m.poll (takes_at shapes m task.Poll found).poll
   polls = by (poll.gives m.poll found) where
