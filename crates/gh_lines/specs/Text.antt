@@ -82,19 +82,22 @@ pub record SweptCycle : Type 0 where
   pub marked : ℕ
   pub freed : ℕ
 
--- what a whole run comes to: the answers, each with its goroutine, the cycles, and what is live at the end
+-- what a whole run comes to: the answers, each with its goroutine, the cycles, the words of credit that workers earned, that were spent and that have lapsed, and what is live at the end
 pub record Outcome : Type 0 where
   pub answers : List (ℕ × Answer)
   pub cycles : List SweptCycle
+  pub earned : ℕ
+  pub spent : ℕ
+  pub lapsed : ℕ
   pub objects : ℕ
   pub bytes : ℕ
 
 abbrev pub line_of_cycle : SweptCycle → List ℕ
 line_of_cycle c = cycle_line c.number c.marked c.freed
 
--- its lines: those of the answers, one for each cycle, and the one of what is live
+-- its lines: those of the answers, one for each cycle, the one of the credit, and the one of what is live
 abbrev pub outcome_lines : Program → Outcome → List (List ℕ)
-outcome_lines p o = lines_of p o.answers ++ (map line_of_cycle o.cycles ++ live_line o.objects o.bytes ∷ [])
+outcome_lines p o = lines_of p o.answers ++ (map line_of_cycle o.cycles ++ credit_line o.earned o.spent o.lapsed ∷ live_line o.objects o.bytes ∷ [])
 
 abbrev pub turns_line : ℕ → List ℕ
 turns_line n = codes "turns " ++ decimal n ++ codes "\n"
