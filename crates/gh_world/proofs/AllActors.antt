@@ -5,12 +5,14 @@ pub mod Known
 pub mod Wanted
 pub mod Resting
 pub mod Asked
+pub mod Triggered
 pub mod Moves
 pub mod Aside
 pub mod Stood
 pub mod Others
 pub mod Quiet
 pub mod Tied
+pub mod Scanned
 pub mod Beginning
 pub mod SinceEnd
 pub mod LeadingSeat

@@ -143,6 +143,7 @@ module _ (shapes : List Shape) (l : Layout) (pacing : Pacing) (may : ℕ → Lis
       -- a worker that marks is awake
       marks_awake : (w : worker.Working) (s : WorkerStage) → working.IsMarking s → IsAwake (working.stands_at s) × (working.party_at w s ≡ record { seat = w.seat; view = w.view })
       marks_awake w work.LoadPhase m = absurd m
+      marks_awake w (work.EarningAtStop x t) m = absurd m
       marks_awake w (work.GiveBack g t) m = absurd m
       marks_awake w (work.Resuming r) m = absurd m
       marks_awake w work.Leave m = absurd m

@@ -3,6 +3,7 @@ pub mod Knowing
 pub mod LastCycle
 pub mod CycleMarking
 pub mod CycleNumbers
+pub mod Scanned
 pub mod Shaking
 pub mod Asking
 pub mod Due
@@ -23,6 +24,7 @@ pub mod OfScripts
 pub mod Awaited
 pub mod AllActors
 pub mod HavingRoom
+pub mod Crediting
 pub mod Within
 pub mod Explained
 pub mod Points

@@ -8,7 +8,9 @@ use Rattle.gh_world.specs.declared.runner.Runner.{Runner}
 use Rattle.gh_world.specs.Turns.{next_point, total_of}
 use Rattle.gh_world.specs.Vocabulary.{is_last}
 use Rattle.gh_world.specs.After.{Appends, IsAfter}
-use Rattle.gh_world.specs.World.{answered_of, Begins, event_at, Fit, FitRunners, FitTurns, FitWords, Ran, State, IsStepOfCoordinator, IsStepOfProcessor, IsStepOfWorker, begun_as, found_by, is_done, now_of, worker_or}
+use Rattle.gh_coord.specs.declared.coord.CoordStage.{CoordStage}
+use Rattle.gh_coord.specs.declared.coord.CoordStage.TheVariants.{Close}
+use Rattle.gh_world.specs.World.{AllDone, answered_of, Begins, event_at, Fit, FitRunners, FitTurns, FitWords, Ran, State, IsStepOfCoordinator, IsStepOfProcessor, IsStepOfWorker, begun_as, found_by, is_done, now_of, worker_or}
 use Rattle.gh_world.specs.Schedule.{has_ended}
 use Rattle.gh_world.proofs.Vocabulary.{acts, answered_in, begins, bit, by, cell_of, changed, Entry, Event, has_left_at, InRange, is_busy_at, is_point, Layout, Mutating, Next, Op, Processor, processor_kind, Program, Progress, progress_after, request, set, Shape, slice_get, slice_get_past, slice_get_within, started, state_of, statement_answer, StepsAreShown, takes}
 use Rattle.gh_world.proofs.Fitting.{answered_all, busy_begun, due_room, fits_again, marks_few, marks_more, point_room, ran}
@@ -173,13 +175,24 @@ appends_work w v a i es happened shown f at going st after =
 pub few_work : (w v : State) (i : ℕ) (happened : Event) → Kept w → IsStepOfWorker w v i happened → answered_of v ≤ total_of v.script
 few_work w v i happened f st = rw st.others (answered_all w.script w.layout w.runners f.noted f.room f.fit.running)
 
--- a coordinator that is not done has a step to make
-pub busy_lead : (w : State) (a : ℕ) → Kept w → length w.runners + length w.workers ≤ a → is_done w a ≡ false → coord.is_busy w.coord.stage ≡ true
-busy_lead w a f high going =
+-- behind the workers it is the coordinator that is done, or is not
+lead_done : (w : State) (a : ℕ) → length w.runners + length w.workers ≤ a → coord.is_done w.coord.stage ≡ is_done w a
+lead_done w a high =
     let at : a ≡ length w.runners + (a - length w.runners) = omega (arith, high) in
     let none = slice_get_past w.workers (a - length w.runners) (omega (arith, high)) in
-    let not_done : coord.is_done w.coord.stage ≡ false = ap has_ended (sym (other_here w a (a - length w.runners) at ∙ ap (worker_or w.coord) none)) ∙ going in
-    f.fit.others.goes_on ∙ ap not not_done
+    ap has_ended (sym (other_here w a (a - length w.runners) at ∙ ap (worker_or w.coord) none))
+
+-- a coordinator that is not done has a step to make
+pub busy_lead : (w : State) (a : ℕ) → Kept w → length w.runners + length w.workers ≤ a → is_done w a ≡ false → coord.is_busy w.coord.stage ≡ true
+busy_lead w a f high going = f.fit.others.goes_on ∙ ap not (lead_done w a high ∙ going)
+
+-- one that is done has no credit that is about to lapse
+pub lapsed_at_end : (lapsed : ℕ) (stage : CoordStage) → coord.is_done stage ≡ true → coord.lapsed_at lapsed stage ≡ lapsed
+lapsed_at_end lapsed (Close c) done = absurd cc
+lapsed_at_end lapsed _ done = refl
+
+pub lapsed_last : (w : State) → AllDone w → coord.lapsed_at w.coord.lapsed w.coord.stage ≡ w.coord.lapsed
+lapsed_last w all = lapsed_at_end w.coord.lapsed w.coord.stage (lead_done w (length w.runners + length w.workers) (omega arith) ∙ all (length w.runners + length w.workers) (omega arith))
 
 -- a step of the coordinator
 pub appends_lead : (w v : State) (a : ℕ) (es : List (Entry Op)) (happened : Event) → StepsAreShown w.layout → Kept w → a ≡ length w.runners + length w.workers → is_done w a ≡ false → IsStepOfCoordinator w v happened → IsAfter w es → Appends v a es happened

@@ -1,5 +1,5 @@
 -- What each step, and each beginning, is to a statement: it acts once, it is answered last, and its object is counted once.
-use Rattle.std.proofs.Common.{◌≡◌, ℕ, ◌+◌, ◌-◌, ◌≤◌, Bool, true, false, cond, ltb, not, ◌&&◌, List, get_or, refl, sym, ap, ◌∙◌, Option, Some, None, arith}
+use Rattle.std.proofs.Common.{◌≡◌, ℕ, ◌+◌, ◌-◌, ◌*◌, ◌%◌, ◌^◌, ◌≤◌, nat_le, Bool, true, false, cond, ltb, not, ◌&&◌, List, get_or, refl, sym, ap, ◌∙◌, Option, Some, None, arith}
 use Rattle.gh_world.specs.Vocabulary.{after_place, after_search, after_wait, applied, at_task, ends, goes_on, is_made, is_pointer_by, is_serving, kinds_differ, Load, LoadStage, made_object, makes, searches, Step, Store, StoreStage, taking, value_of}
 use Rattle.gh_base.specs.declared.operation.Op.TheVariants as op
 use Rattle.gh_base.specs.declared.value.Answer.TheVariants as answer
@@ -23,7 +23,7 @@ use Rattle.gh_mutator.specs.Barrier.{written}
 use Rattle.gh_mutator.specs.Fields.{has_field, takes}
 use Rattle.gh_mutator.specs.Global as global
 use Rattle.gh_mutator.specs.Load as load
-use Rattle.gh_mutator.specs.New.{answer_search, op_of as new_op, refuses}
+use Rattle.gh_mutator.specs.New.{answer_search, op_of as new_op, refuses, answer_made}
 use Rattle.gh_mutator.specs.Leave as leave
 use Rattle.gh_mutator.specs.Local.{is_mark}
 use Rattle.gh_mutator.specs.Processor.{keeping}
@@ -33,7 +33,7 @@ use Rattle.gh_mutator.specs.Serving.{answer_at}
 use Rattle.gh_mutator.specs.Step.{answered}
 use Rattle.gh_mutator.specs.Store as store
 use Rattle.gh_world.specs.World.{making}
-use Rattle.gh_world.proofs.Vocabulary.{Act, acting, acts_at, after_gc, after_leave, after_poll, Answer, At, begins_at, bit, cache_span, Ends, follows, Found, gives_at, Global, GlobalStage, GoesOn, in_range, is_busy_at, is_leave, is_leaving, is_point, is_some, is_statement, is_unacted, Layout, Leaving, made_by, NewStage, NoRoom, once_ended, Op, op_at, Place, PlaceStage, Placing, Polling, Processor, read_after_set, Register, register_of, Search, Seeking, set, Shape, Source, SpanHead, takes_at, Task, Then, Value, Wait, Waiting, Wanted}
+use Rattle.gh_world.proofs.Vocabulary.{Act, acting, acts_at, after_gc, after_leave, after_poll, Answer, At, begins_at, bit, cache_span, Ends, follows, Found, gives_at, Global, GlobalStage, GoesOn, in_range, is_busy_at, is_leave, is_leaving, is_point, is_some, is_statement, is_unacted, Layout, Leaving, made_by, NewStage, NoRoom, once_ended, Op, op_at, Place, PlaceStage, Placing, Polling, Processor, read_after_set, Register, register_of, Search, Seeking, set, Shape, Source, SpanHead, takes_at, Task, Then, Value, Wait, Waiting, Wanted, Want}
 
 -- from task t and the processor m to the next one, with the act and the answer of the step
 pub record StepFacts (m : Processor) (t : Task) (next : Processor) (act : Option Act) (given : Option Answer) : Type 0 where
@@ -198,7 +198,7 @@ module _ (shapes : List Shape) (m : Processor) where
   place_facts : (w : Wanted) (p : Placing) (found : ℕ) (q : PlaceStage) → FactsAt (makes w (place.at_stage p q)) found
   place_facts w p found (place_stage.Clear k) = go (ltb (k + 1) p.slot) where
     go : (b : Bool) → StepFacts m (makes w (place.at_stage p (place_stage.Clear k))) (after_place m w false p.at (place.at_stage p (cond b (place_stage.Clear (k + 1)) place_stage.Birth))) None
-        (cond (place.is_busy (cond b (place_stage.Clear (k + 1)) place_stage.Birth)) None (Some (answer.Ref p.name)))
+        (answer_made p.name (place.given_at (cond b (place_stage.Clear (k + 1)) place_stage.Birth)))
     go true = before_made w _ _ refl refl
     go false = before_made w _ _ refl refl
   place_facts w p found place_stage.Birth = before_made w _ _ refl refl
@@ -206,25 +206,36 @@ module _ (shapes : List Shape) (m : Processor) where
     next : Bool → PlaceStage
     next b = cond b (place_stage.Bits (bits.goes s found)) (place.filled p.marking)
 
-    go : (b : Bool) → StepFacts m (makes w (place.at_stage p (place_stage.Bits s))) (after_place m w false p.at (place.at_stage p (next b))) None (cond (place.is_busy (next b)) None (Some (answer.Ref p.name)))
+    go : (b : Bool) → StepFacts m (makes w (place.at_stage p (place_stage.Bits s))) (after_place m w false p.at (place.at_stage p (next b))) None (answer_made p.name (place.given_at (next b)))
     go true = before_made w _ _ refl refl
     go false = filled p.marking where
-      filled : (marking : Bool) → StepFacts m (makes w (place.at_stage p (place_stage.Bits s))) (after_place m w false p.at (place.at_stage p (place.filled marking))) None (cond (place.is_busy (place.filled marking)) None (Some (answer.Ref p.name)))
+      filled : (marking : Bool) → StepFacts m (makes w (place.at_stage p (place_stage.Bits s))) (after_place m w false p.at (place.at_stage p (place.filled marking))) None (answer_made p.name (place.given_at (place.filled marking)))
       filled true = before_made w _ _ refl refl
       filled false = before_made w _ _ refl refl
   place_facts w p found place_stage.Mark = before_made w _ _ refl refl
   place_facts w p found place_stage.Alloc = go p.span where
-    go : (s : Option SpanHead) → StepFacts m (makes w (place.at_stage p place_stage.Alloc)) (after_place m w true p.at (place.at_stage p (place.made p s))) (acting true (new_op w) false) (cond (place.is_busy (place.made p s)) None (Some (answer.Ref p.name)))
+    go : (s : Option SpanHead) → StepFacts m (makes w (place.at_stage p place_stage.Alloc)) (after_place m w true p.at (place.at_stage p (place.made p s))) (acting true (new_op w) false) (answer_made p.name (place.given_at (place.made p s)))
     go None = now_made w _ _ p.at refl refl
     go (Some h) = now_made w _ _ p.at refl refl
   place_facts w p found (place_stage.Give g) = record { counted = λ g. omega arith; leaves = refl; answered = omega arith; once = refl; ends = refl; serves = refl }
-  place_facts w p found place_stage.Count = record { counted = λ g. omega arith; leaves = refl; answered = omega arith; once = refl; ends = refl; serves = refl }
-  place_facts w p found place_stage.Ended = record { counted = λ g. omega arith; leaves = refl; answered = omega arith; once = refl; ends = refl; serves = refl }
+  place_facts w p found place_stage.Count = go p.marking where
+    next : Bool → PlaceStage
+    next b = cond b (place_stage.Ended false) (place_stage.LoadTrigger ((found + 8 * p.slot) % 2 ^ 64))
+
+    go : (b : Bool) → StepFacts m (makes w (place.at_stage p place_stage.Count)) (after_place m w false p.at (place.at_stage p (next b))) None (answer_made p.name (place.given_at (next b)))
+    go true = record { counted = λ g. omega arith; leaves = refl; answered = omega arith; once = refl; ends = refl; serves = refl }
+    go false = record { counted = λ g. omega arith; leaves = refl; answered = omega arith; once = refl; ends = refl; serves = refl }
+  place_facts w p found (place_stage.LoadTrigger bytes) = over (nat_le found bytes) where
+    over : (b : Bool) → StepFacts m (makes w (place.at_stage p (place_stage.LoadTrigger bytes))) (after_place m w false p.at (place.at_stage p (place_stage.Ended b))) None (answer_made p.name (Some b))
+    over true = record { counted = λ g. omega arith; leaves = refl; answered = omega arith; once = refl; ends = refl; serves = refl }
+    over false = record { counted = λ g. omega arith; leaves = refl; answered = omega arith; once = refl; ends = refl; serves = refl }
+  place_facts w p found (place_stage.Ended wants) = record { counted = λ g. omega arith; leaves = refl; answered = omega arith; once = refl; ends = refl; serves = refl }
 
   new_facts : (w : Wanted) (s : NewStage) (found : ℕ) → FactsAt (task.New (record { wanted = w; stage = s })) found
   new_facts w (Search waited x) found = search_facts w waited x found
   new_facts w (Wait x) found = wait_facts w x (wait.goes (wait.waiting x m.poll) found) (wait.gives (wait.waiting x m.poll) found)
   new_facts w (Place p) found = place_facts w p found p.stage
+  new_facts w (Want n) found = record { counted = λ g. omega arith; leaves = refl; answered = omega arith; once = refl; ends = refl; serves = refl }
 
   pub step_facts : (t : Task) (found : ℕ) → is_busy_at t ≡ true → FactsAt t found
   step_facts task.Idle found busy = absurd (cc)

@@ -99,6 +99,6 @@ pub use Rattle.gh_world.specs.Order.{begun_in, ends, has_left, in_range, leaves}
 pub use Rattle.gh_world.specs.Processors.{all_ended, IsFullFor, IsPlacedAt, may_leave}
 pub use Rattle.gh_world.specs.Turns.{Follows, goroutine_at, is_leave, is_over, is_unacted, later, MayBeOver, op_due, statements_among, to_come, total_of}
 unfoldable pub use Rattle.gh_world.specs.Turns.{turns_of}
-pub use Rattle.gh_world.specs.Vocabulary.{Act, acted, acting, Actor, acts, acts_at, answer_at, Answered, answered_by, asks, At, Begins, begins, begins_at, bit, by, cache_span, cell_of, changed, Ends, Event, ever_after, EverValue, follows, Found, gives_at, Global, GlobalStage, GoesOn, has_left_at, has_names, has_point, Head, InRange, is_busy_at, is_leaving, is_point, is_statement, Kind, made_by, Mutating, Next, op_at, opening_processor, OpenStage, Party, Place, PlaceStage, Placing, Program, Progress, Register, register_of, REGISTERS, request, Search, Source, SpanHead, Stage, statement_answer, StepsAreShown, takes, takes_at, target, Then, Value, Wait, Wanted, WellFormed, words_after}
+pub use Rattle.gh_world.specs.Vocabulary.{Act, acted, acting, Actor, acts, acts_at, answer_at, Answered, answered_by, asks, At, Begins, begins, begins_at, bit, by, cache_span, cell_of, changed, Ends, Event, ever_after, EverValue, follows, Found, gives_at, Global, GlobalStage, GoesOn, has_left_at, has_names, has_point, Head, InRange, is_busy_at, is_leaving, is_point, is_statement, Kind, made_by, Mutating, Next, op_at, opening_processor, OpenStage, Party, Place, PlaceStage, Placing, Program, Progress, Register, register_of, REGISTERS, request, Search, Source, SpanHead, Stage, statement_answer, StepsAreShown, takes, takes_at, target, Then, Value, Wait, Wanted, WellFormed, words_after, Want}
 pub use Rattle.gh_world.specs.Wishes.{most_cycles}
 pub use Rattle.gh_world.specs.World.{actor_after, answer_in, answered_in, event_of, opening_progress, progress_after, setting_of, with_goroutine}

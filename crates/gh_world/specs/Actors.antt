@@ -37,6 +37,7 @@ use Rattle.gh_world.specs.Order.{before_step, begun_in}
 use Rattle.gh_world.specs.Processors.{arena_of, at_seat, ever_after_list, IsPlacedAt, ListStands, may_begin, StandsForThese}
 use Rattle.gh_world.specs.Tied.{IsTied}
 use Rattle.gh_world.specs.Phases.{PhasesStand}
+use Rattle.gh_world.specs.Scanned.{FewAreScanned}
 use Rattle.gh_world.specs.Scans.{ScansOnce}
 use Rattle.gh_world.specs.Spans.{SpansStand}
 use Rattle.gh_world.specs.SweepMarks.{SweepsStand}
@@ -222,6 +223,17 @@ module _ (shapes : List Shape) (l : Layout) (pacing : Pacing) (may : ℕ → Lis
   abbrev pub AllWereCounted : List (Entry Op) → Coordinating → Type 0
   AllWereCounted es c = (i : ℕ) (y : CycleNumbers) → slice_get c.cycles.items i ≡ Some y → WasCounted es y
 
+  -- the coordinator tells that a cycle is swept, or all is over
+  abbrev pub IsTold : CoordStage → Type 0
+  IsTold (Tell t) = Unit {0}
+  IsTold Done = Unit {0}
+  IsTold _ = ⊥
+
+  -- What the words of the counts say: while a cycle is marked nothing, and where one is told the bytes that the coordinator keeps.
+  pub record CountsAreSaid (es : List (Entry Op)) (c : Coordinating) : Type 0 where
+    pub cleared : leading.Marks c.stage → (words es cell.Tally ≡ 0) × (words es cell.Live ≡ 0)
+    pub live : IsTold c.stage → words es cell.Live ≡ c.live
+
   -- Once all is over every goroutine has ended, so a script reaches what the globals reach. The objects that stand are those, and so were those that the last cycle marked; and the bytes that the coordinator keeps are theirs.
   pub record LeavesTheReached (es : List (Entry Op)) (c : Coordinating) : Type 0 where
     pub over : (g : ℕ) → g < l.goroutines → (ever es).ended g ≡ true
@@ -263,12 +275,15 @@ module _ (shapes : List Shape) (l : Layout) (pacing : Pacing) (may : ℕ → Lis
     pub standing : (c : Coordinating) → IsLed es c → leading.Marks c.stage → StandsSoFar es c
     -- a stack is scanned once in a cycle; what the numbers of spans say, and what a sweep has left; who knows of a phase, and who marks
     pub scans : ScansOnce shapes l pacing may es
+    -- in each cycle workers scan no more words than there are
+    pub scanned : FewAreScanned shapes l pacing es
     pub sweeps : SweepsStand shapes l pacing may es
     -- which spans there are, and who owns how many
     pub spans : SpansStand shapes l (words es)
     pub phases : PhasesStand shapes l pacing may es
     pub drawn : (c : Coordinating) → IsLed es c → leading.Marks c.stage → CycleIsDrawn shapes l pacing may es c
     pub counts : (c : Coordinating) → IsLed es c → AllWereCounted es c
+    pub said : (c : Coordinating) → IsLed es c → CountsAreSaid es c
     pub last : (c : Coordinating) → IsLed es c → c.stage ≡ Done → LeavesTheReached es c
 
 -- Whatever the types' shapes, the heap's layout, its pacing, how many objects and cycles each goroutine may ask for, and however many processors and workers there are: after every legal list of their steps, in every order, also while a cycle is marked.
@@ -276,6 +291,6 @@ abbrev pub EveryListOfActorsStands : Type 0
 EveryListOfActorsStands = (shapes : List Shape) (l : Layout) (pacing : Pacing) (counts : ℕ → ℕ) (es : List (Entry Op)) → ShapesAreGood shapes → IsInLimits l → total counts l.goroutines ≤ MOST_STATEMENTS →
     Legal (those shapes l pacing (may_of shapes l counts)) es → AllStands shapes l pacing (may_of shapes l counts) es
 
--- So no more cycles are opened in it than goroutines may begin `new` and `gc`, and the last.
+-- So no more cycles are opened in it than twice as many as goroutines may begin `new` and `gc`, and the last.
 abbrev pub EveryListOpensFew : Type 0
 EveryListOpensFew = (shapes : List Shape) (l : Layout) (pacing : Pacing) (counts : ℕ → ℕ) (es : List (Entry Op)) → total counts l.goroutines ≤ MOST_STATEMENTS → Legal (those shapes l pacing (may_of shapes l counts)) es → AreFew counts l es

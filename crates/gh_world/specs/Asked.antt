@@ -5,7 +5,8 @@ use Rattle.gh_base.specs.declared.cell.Cell.TheVariants as cell
 use Rattle.gh_base.specs.declared.pack.TheConstants.{GONE}
 use Rattle.gh_coord.specs.declared.coord.CoordStage.TheVariants.{Open}
 use Rattle.gh_coord.specs.declared.open.OpenStage.TheVariants.{ClearWant}
-use Rattle.gh_mutator.specs.Writing.{IsWanting}
+use Rattle.gh_base.specs.Lists.{by as own}
+use Rattle.gh_mutator.specs.Writing.{BeginsToWait, CountsUpTo, SeesReached}
 use Rattle.gh_world.specs.Handshake.{Pacing, those}
 use Rattle.gh_world.specs.Marking.{IsLedBy, IsStartOf}
 use Rattle.gh_world.specs.Numbers.{opens_one}
@@ -22,14 +23,28 @@ IsClearing _ = ⊥
 abbrev pub NoneOpensSince : (start : List (Entry Op)) → List (Entry Op) → Type 0
 NoneOpensSince start es = (e : Entry Op) (before : List (Entry Op)) → IsStartOf (e ∷ before) es → IsStartOf start before → opens_one e.ask ≡ false
 
+module _ (shapes : List Shape) (l : Layout) where
+  -- Processor a has seen the trigger reached. It has made an object while it knew that marking was off: with the last but one of its entries it added the bytes of that to those of the heap, which it found; and with its last it loaded the trigger, and found it no greater than the sum.
+  pub record SawTriggerReached (a : ℕ) (es : List (Entry Op)) : Type 0 where
+    pub bytes : ℕ
+    pub looks : Entry Op
+    pub between : List (Entry Op)
+    pub looks_start : IsStartOf (looks ∷ between) es
+    pub sees : SeesReached (before_step shapes l between looks).task looks.found bytes
+    pub counts : Entry Op
+    pub before : List (Entry Op)
+    pub counts_start : IsStartOf (counts ∷ before) between
+    pub counted : CountsUpTo (before_step shapes l before counts).task counts.found bytes
+    pub its_last : own a es ≡ looks ∷ counts ∷ own a before
+
 module _ (shapes : List Shape) (l : Layout) (pacing : Pacing) (may : ℕ → List (Entry Op) → Op → Bool) where
   abbrev Led : List (Entry Op) → Coordinating → Type 0
   Led es c = IsLedBy (arena_of shapes l) pacing may es c
 
-  -- With this entry behind the list a processor asks for a cycle: in a `gc`, or in a `new` whose first search has found nothing, where it begins to wait.
+  -- With this entry behind the list a processor asks for a cycle: in a `gc`, or in a `new` whose first search has found nothing, where it begins to wait; or in a `new` that saw the trigger reached, as marking was off.
   pub record AsksForCycle (e : Entry Op) (es : List (Entry Op)) : Type 0 where
     pub by : e.actor < l.procs
-    pub begins_to_wait : IsWanting (before_step shapes l es e).task
+    pub where_it_may : BeginsToWait (before_step shapes l es e).task ⊎ SawTriggerReached shapes l e.actor es
     pub asks : e.ask ≡ Or cell.Want 1
 
   -- With an entry of the list a processor has asked for a cycle, and none was opened since.

@@ -3,6 +3,7 @@ pub mod ActorsHold
 pub mod After
 pub mod Asked
 pub mod Counts
+pub mod Credit
 pub mod Cycles
 pub mod Drawn
 pub mod Due
@@ -17,6 +18,7 @@ pub mod Processors
 pub mod Room
 pub mod RunVocabulary
 pub mod Runs
+pub mod Scanned
 pub mod Scans
 pub mod Schedule
 pub mod Spans

@@ -1,5 +1,5 @@
 -- Whole runs: a list of the steps of all actors in which each processor's operations are its turns, and at whose end all are done; and what such a list says of a script's answers, its cycles and what is live.
-use Rattle.std.specs.Prelude.{◌≡◌, ℕ, ◌+◌, ◌<◌, ◌≤◌, Bool, true, false, List, [], ◌∷◌, ◌++◌, length, map, reverse, slice_get, Option, Some, None}
+use Rattle.std.specs.Prelude.{◌≡◌, ℕ, ◌+◌, ◌^◌, ◌<◌, ◌≤◌, Bool, true, false, List, [], ◌∷◌, ◌++◌, length, map, reverse, slice_get, Option, Some, None}
 use Rattle.std.specs.List.{filter}
 use Rattle.gh_world.specs.Vocabulary.{acts, AllAnswer, Answer, answers_by, Entry, Layout, Legal, Op, opening_ever, Program, state_of, statements_of, WellFormed, Words, words_after}
 use Rattle.gh_base.specs.Lists.{by}
@@ -14,9 +14,11 @@ use Rattle.gh_mutator.specs.Listing.{gives}
 use Rattle.gh_script.specs.Program.{op_of}
 use Rattle.gh_world.specs.declared.handshake.Actor.TheVariants.{Leads}
 use Rattle.gh_world.specs.Actors.{AllStands, AwaitedCycle, FreesTheUnreached, FreesWithinTwo}
+use Rattle.gh_world.specs.Credit.{earned_in, lapsed_in, spent_in}
 use Rattle.gh_world.specs.Cycles.{AreLive, cycles_in}
 use Rattle.gh_world.specs.Order.{acted_at, acted_in, Answered, before_step, begun_in, ever_of, order_of}
 use Rattle.gh_world.specs.Processors.{arena_of, IsFullFor}
+use Rattle.gh_world.specs.Scanned.{scanned_in}
 use Rattle.gh_world.specs.Schedule.{ended_after, IsInTurn}
 use Rattle.gh_world.specs.Turns.{turns_of, answers_to, is_of_seat, is_statement_of}
 use Rattle.gh_world.specs.World.{actor_after, answer_in, LaysOut, may_begin_of, now_in, pacing_of, setting_of, with_goroutine}
@@ -57,9 +59,9 @@ abbrev pub marked_by : Option Cycle → ℕ
 marked_by None = 0
 marked_by (Some c) = c.marked
 
--- what the run comes to, where the coordinator knows this at its end
+-- What the run comes to, where the coordinator knows this at its end. The bank is empty then and nothing is spent, so what was earned has lapsed.
 abbrev pub outcome_by : List (ℕ × Answer) → Coordinating → Outcome
-outcome_by answers c = record { answers = answers; cycles = map swept_cycle c.cycles.items; objects = marked_by (last_kept c.cycles); bytes = c.live }
+outcome_by answers c = record { answers = answers; cycles = map swept_cycle c.cycles.items; earned = c.lapsed; spent = 0; lapsed = c.lapsed; objects = marked_by (last_kept c.cycles); bytes = c.live }
 
 -- ---- explained runs
 
@@ -111,7 +113,16 @@ module _ (p : Program) (l : Layout) where
   abbrev pub EachGcWaits : List (Entry Op) → Type 0
   EachGcWaits es = (i g : ℕ) (a : Answered) → slice_get (acted_in p.shapes l es) i ≡ Some a → a.op ≡ op.Gc g → FoundSwept es i a
 
-  -- The operations of each processor are its turns, in the order of their points, and nobody else acts; so the order of all points is one interleaving of the processors' turns. In it each goroutine's statements stand each once and in their order. Their answers are exactly those of the heap that never frees, save `full`, and whichever is answered `full`, there was no room where it acted, and a cycle that began behind its first entry was swept. Each `gc` is answered `swept`, where such a cycle was swept. The statements' answers are those given, of each processor in the order of its turns. What the coordinator tells is so: each cycle kept what was marked where it ended, and freed what was white there. Each cycle frees every object that no script reached when it began, and what is lost meanwhile goes with the second cycle that ends after that. What is live is what the globals of the heap that never frees hold at the end.
+  -- What a run says of its credit is so of its list, and all that was earned was spent or has lapsed: the words of each object that workers have scanned, and one for each global.
+  pub record CreditIsTold (es : List (Entry Op)) (o : Outcome) : Type 0 where
+    pub earned : o.earned ≡ earned_in es
+    pub spent : o.spent ≡ spent_in es
+    pub lapsed : o.lapsed ≡ lapsed_in es
+    pub balanced : o.earned ≡ o.spent + o.lapsed
+    pub scanned : o.earned ≡ scanned_in p.shapes l (pacing_of p) es
+    pub few : o.earned < 2 ^ 48
+
+  -- The operations of each processor are its turns, in the order of their points, and nobody else acts; so the order of all points is one interleaving of the processors' turns. In it each goroutine's statements stand each once and in their order. Their answers are exactly those of the heap that never frees, save `full`, and whichever is answered `full`, there was no room where it acted, and a cycle that began behind its first entry was swept. Each `gc` is answered `swept`, where such a cycle was swept. The statements' answers are those given, of each processor in the order of its turns. What the coordinator tells is so: each cycle kept what was marked where it ended, and freed what was white there. Each cycle frees every object that no script reached when it began, and what is lost meanwhile goes with the second cycle that ends after that. Credit that workers earned was spent or has lapsed. What is live is what the globals of the heap that never frees hold at the end.
   pub record IsExplained (es : List (Entry Op)) (o : Outcome) : Type 0 where
     pub run : IsRun p l es
     -- what was answered, and what the coordinator tells at the end
@@ -132,6 +143,7 @@ module _ (p : Program) (l : Layout) where
     -- an object that no script reached when a cycle began is placed nowhere once that is swept; one that a script loses, once the second cycle that ends after that is
     pub frees : FreesTheUnreached p.shapes l (pacing_of p) (may_begin_of p l) es
     pub frees_within_two : FreesWithinTwo p.shapes l (pacing_of p) (may_begin_of p l) es
+    pub credit : CreditIsTold es o
     pub live : AreLive p.shapes (ever_of p.shapes l es) o.objects o.bytes
 
 -- ---- laws

@@ -46,7 +46,7 @@ pub use Rattle.gh_mutator.specs.declared.global.GlobalStage.{GlobalStage}
 pub use Rattle.gh_mutator.specs.declared.load.Load.{Load}
 pub use Rattle.gh_mutator.specs.declared.load.LoadStage.{LoadStage}
 pub use Rattle.gh_mutator.specs.declared.new.NewStage.{NewStage}
-pub use Rattle.gh_mutator.specs.declared.new.NewStage.TheVariants.{Place, Search, Wait}
+pub use Rattle.gh_mutator.specs.declared.new.NewStage.TheVariants.{Place, Search, Wait, Want}
 pub use Rattle.gh_mutator.specs.declared.new.Wanted.{Wanted}
 pub use Rattle.gh_mutator.specs.declared.processor.Processor.{Processor}
 pub use Rattle.gh_mutator.specs.declared.register.Register.{Register}

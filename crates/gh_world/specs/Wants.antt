@@ -1,5 +1,5 @@
 -- The requests for cycles over every legal list: as many cycles are opened as are asked for, and the last; and how few these are.
-use Rattle.std.specs.Prelude.{◌≡◌, ℕ, zero, suc, ◌+◌, ◌≤◌, ◌<◌, ◌⊎◌, Bool, true, false, List, Some}
+use Rattle.std.specs.Prelude.{◌≡◌, ℕ, zero, suc, ◌+◌, ◌*◌, ◌≤◌, ◌<◌, ◌⊎◌, Bool, true, false, List, Some}
 use Rattle.gh_base.specs.declared.cell.Cell.TheVariants as cell
 use Rattle.gh_base.specs.declared.limits.TheConstants.{MOST_STATEMENTS}
 use Rattle.gh_base.specs.Packing.{bit}
@@ -66,10 +66,10 @@ pub record BeginsFew (l : Layout) (may_begin : ℕ → List (Entry Op) → Op �
   -- and how many of those there are
   pub counts_fit : total counts l.goroutines ≤ MOST_STATEMENTS
 
--- no more cycles are opened than there are statements that may ask for one, and the last
+-- Each statement that may ask for a cycle asks for two at the most: a `new` where its first search found nothing, and where it saw the trigger reached. So no more cycles are opened than twice as many, and the last.
 pub record AreFew (counts : ℕ → ℕ) (l : Layout) (es : List (Entry Op)) : Type 0 where
-  pub asked : asked_in es ≤ total counts l.goroutines
-  pub opened : opened_in es ≤ total counts l.goroutines + 1
+  pub asked : asked_in es ≤ 2 * total counts l.goroutines
+  pub opened : opened_in es ≤ 2 * total counts l.goroutines + 1
   pub few : IsFew es
 
 abbrev pub CyclesAreFew : Type 0

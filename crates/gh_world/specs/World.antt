@@ -1,11 +1,12 @@
 -- The world of the processors, the workers and the coordinator: what a list of their steps is answered, and that it is the state of such a list.
-use Rattle.std.specs.Prelude.{◌≡◌, ℕ, ◌+◌, ◌<◌, ◌≤◌, Bool, true, false, ◌==◌, if◌then◌else◌, not, List, [], ◌∷◌, ◌++◌, length, map, replicate, slice_index, slice_set, slice_get, ◌-◌, ◌^◌, Option, Some, None, is_some, sum_by}
+use Rattle.std.specs.Prelude.{◌≡◌, ℕ, ◌+◌, ◌<◌, ◌≤◌, Bool, true, false, ◌==◌, if◌then◌else◌, not, List, [], ◌∷◌, ◌++◌, length, map, replicate, slice_index, slice_set, slice_get, ◌-◌, Option, Some, None, is_some, sum_by}
 use Rattle.std.specs.List.{range_with_len}
 use Rattle.std.specs.Option.{option_to_list}
 use Rattle.gh_base.specs.declared.cell.Ask.{Ask}
-use Rattle.gh_world.specs.Vocabulary.{Answer, Op, Shape, Layout, MOST_GOROUTINES, Entry, bit, InRange, IsLayoutOf, length_of, cell_of, changed, request, target, Setting, started, state_of, Program, WellFormed, NewStage, Place, Processor, Task, acts, is_busy_at, op_at, is_made, made_by, Mutating, goes, is_last, is_leaving, is_point, is_serving, is_statement, statement_answer, Next, Progress, Event}
+use Rattle.gh_world.specs.Vocabulary.{Answer, Op, Shape, Layout, MOST_GOROUTINES, Entry, bit, InRange, IsLayoutOf, length_of, cell_of, changed, request, target, Setting, started, state_of, Program, WellFormed, NewStage, Place, Processor, Task, acts, is_busy_at, op_at, is_made, made_by, Mutating, goes, is_last, is_leaving, is_point, is_serving, is_statement, statement_answer, Next, Progress, Event, Want}
 use Rattle.gh_coord.specs.declared.cycles.Cycle.{Cycle}
 use Rattle.gh_coord.specs.Listing as coord
+use Rattle.gh_coord.specs.Pacing.{first_trigger}
 use Rattle.gh_mutator.specs.declared.task.Task.TheVariants.{New}
 use Rattle.gh_mutator.specs.Deeds.{processor_kind}
 use Rattle.gh_mutator.specs.Mutating.{asks, begins, opening}
@@ -26,9 +27,9 @@ use Rattle.gh_world.specs.Wishes.{most_cycles, wishes_of}
 
 -- ---- the lists of a script
 
--- the coordinator's numbers: those of the script's settings, room for its cycles, and a trigger that no allocation reaches
+-- the coordinator's numbers: those of the script's settings, room for its cycles, and the trigger by which the first is asked for
 abbrev pub pacing_of : Program → Pacing
-pacing_of p = record { gogc = p.settings.gogc; minheap = p.settings.minheap; room = most_cycles p; trigger = 2 ^ 64 - 1 }
+pacing_of p = record { gogc = p.settings.gogc; minheap = p.settings.minheap; room = most_cycles p; trigger = first_trigger p.settings.globals (length p.goroutines) p.settings.gogc p.settings.minheap }
 
 -- which operations the processors may begin: of each goroutine as many `new` and `gc` as the script has
 abbrev pub may_begin_of : Program → Layout → ℕ → List (Entry Op) → Op → Bool
@@ -147,6 +148,7 @@ workers_at l = map (worker.opening l) (range_with_len l.procs l.workers)
 -- 1 where an object is being made that is not counted yet
 abbrev pub making_in : NewStage → ℕ
 making_in (Place p) = if is_made p.stage then 0 else 1
+making_in (Want n) = 0
 making_in _ = 1
 
 abbrev pub making : Task → ℕ
@@ -278,6 +280,10 @@ cycles_of w = w.coord.cycles.items
 -- the bytes that the last cycle marked
 abbrev pub live_of : State → ℕ
 live_of w = w.coord.live
+
+-- the words of credit that had lapsed by the last cycle
+abbrev pub lapsed_of : State → ℕ
+lapsed_of w = w.coord.lapsed
 
 -- ---- how a step of a processor is made
 

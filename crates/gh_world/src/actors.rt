@@ -93,7 +93,8 @@ use gh_worker::laws::{
 /// * **While one is marked** what was placed where it began is placed there still. There is a state of marking of this heap, in
 ///   which each actor has in hand what its stage says, and a picture of it that comes, by lists of moves of `gh_tri`'s picture
 ///   and of changes of registers, one for each step since, of one as at a cycle's begin; so it has the invariants, and once the
-///   coordinator has checked the end of marking it is done in the picture too. A stack is scanned once in a cycle at most.
+///   coordinator has checked the end of marking it is done in the picture too. A stack is scanned once in a cycle at most,
+///   and the words that workers scan are at most one for each global and twice the heap's.
 /// * **Where its marking ends** the cursor is past the globals, each stack's word is the cycle's or END, no buffer has an entry,
 ///   and no actor has anything in hand; nothing is grey, all that a script reaches is marked, and what is marked was reached
 ///   where the cycle began or was made since.

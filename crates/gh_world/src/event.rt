@@ -25,7 +25,7 @@ pub struct Totals {
     /// The objects that the last cycle marked, and the bytes of their slots.
     pub objects: u64,
     pub live: u64,
-    /// The credit of workers that was earned and spent, and that has lapsed, in words; nothing is earned yet.
+    /// The credit that workers earned, and how much of it was spent and has lapsed, in words of the heap.
     pub earned: u64,
     pub spent: u64,
     pub lapsed: u64,

@@ -6,6 +6,7 @@ ghost use Rattle.gh_world.specs.Runs.{EveryListOfAScriptStands, EveryOrderHasOne
 ghost use Rattle.gh_world.specs.Tied.{TiesShowWhatThereIs};
 
 use crate::actors::every_list_of_actors_stands;
+use crate::credit::every_list_balances;
 use crate::handshake::every_list_keeps_the_handshake;
 use crate::numbers::{cycles_are_few, processors_begin_few};
 use gh_base::Op;
@@ -35,7 +36,8 @@ pub fn every_run_stands()
 /// heap that never frees, in the order of all points, save `full`, which stands only where nothing fitted and a
 /// cycle was waited for. Each `gc` is answered `swept`, where a cycle that began after it did was swept. Each
 /// cycle keeps what was marked where it ended, and frees what was white there; and it frees each object that no script
-/// reached when it began. What is live at the end is what the globals then hold.
+/// reached when it began. The credit that workers earned was spent or has lapsed. What is live at the end is what the globals
+/// then hold.
 pub fn every_run_is_explained()
     ensures { EveryRunIsExplained }
 {
@@ -46,6 +48,7 @@ pub fn every_run_is_explained()
     a_worker_writes_its_own();
     every_list_keeps_the_handshake();
     cycles_are_few();
+    every_list_balances();
     processors_begin_few();
     set_bits_are_counted();
     slots_are_read();

@@ -26,6 +26,7 @@
 #![tactic(auto)]
 
 mod actors;
+mod credit;
 mod event;
 mod handshake;
 mod laws;
@@ -38,6 +39,7 @@ mod wishes;
 mod world;
 
 pub use actors::every_list_of_actors_stands;
+pub use credit::every_list_balances;
 pub use event::{Event, Totals};
 pub use handshake::{Actor, every_list_keeps_the_handshake, every_step_keeps_the_handshake};
 pub use laws::{
@@ -53,4 +55,4 @@ pub use progress::Progress;
 pub use room::every_list_has_room;
 pub use turns::{Next, total_of};
 pub use wishes::{most_cycles, wishes_of};
-pub use world::World;
+pub use world::{World, opening_trigger};

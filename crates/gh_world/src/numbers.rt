@@ -3,8 +3,8 @@
 //! The coordinator alone writes the words of the cycles; processors only ask for one. So what it knows of them is
 //! so, and what it stores is what the next actor finds. Its numbers begin anew where their words end, and no list
 //! gets so far: a cycle is opened where one was asked for, or is the last; the request is cleared with the opening,
-//! in one store; and only a statement that may need a cycle asks for one, once. So there are at most as many cycles
-//! as such statements, and one.
+//! in one store; and only a `new` and a `gc` ask for one: a `gc` once, a `new` twice at the most. So there are at most
+//! twice as many cycles as such statements, and one.
 //!
 //! A request that was cleared behind the begin of a cycle could be lost: the statement that asked meanwhile would
 //! wait for ever. It is cleared before, in a stopped world; who asks later asks for the next cycle.
@@ -51,8 +51,9 @@ pub fn every_list_counts_wants()
     a_worker_writes_its_own();
 }
 
-/// An operation asks for one cycle at the most. So where no goroutine begins more that may ask than it has, there
-/// are no more cycles than such statements, but the last: far fewer than their numbers go.
+/// An operation asks for two cycles at the most: a `new` where its first search found nothing, and where it saw the
+/// trigger reached. So where no goroutine begins more that may ask than it has, there are no more cycles than twice as
+/// many, but the last: far fewer than their numbers go.
 pub fn cycles_are_few()
     ensures { CyclesAreFew }
 {
@@ -67,7 +68,7 @@ pub fn processors_begin_few()
     ensures { ProcessorsBeginFew }
 {}
 
-/// So there are no more cycles in any list than goroutines may begin `new` and `gc`, and the last.
+/// So there are no more cycles in any list than twice as many as goroutines may begin `new` and `gc`, and the last.
 pub fn every_list_opens_few()
     ensures { EveryListOpensFew }
 {

@@ -17,7 +17,7 @@ ghost use Rattle.gh_world.specs.After.{Appends, IsAfter};
 ghost use Rattle.gh_world.specs.Runs.{IsRun, marked_by};
 ghost use Rattle.gh_world.specs.Turns.{total_of};
 ghost use Rattle.gh_world.specs.Wishes.{most_cycles};
-ghost use Rattle.gh_world.specs.World.{actors_of, answered_of, cycles_of, is_done, layout_of, live_of, marks_of, points_of, script_of, turn_in, workers_at, AllDone, AreOpening, IsStepOfCoordinator, IsStepOfProcessor, IsStepOfWorker, LaysOut};
+ghost use Rattle.gh_world.specs.World.{actors_of, answered_of, cycles_of, is_done, lapsed_of, layout_of, live_of, marks_of, pacing_of, points_of, script_of, turn_in, workers_at, AllDone, AreOpening, IsStepOfCoordinator, IsStepOfProcessor, IsStepOfWorker, LaysOut};
 
 use crate::event::{Event, Totals, done_or, told_event};
 use crate::progress::note;
@@ -27,7 +27,7 @@ use crate::wishes::most_cycles;
 use gh_base::laws::{a_state_is_of_its_own_entries, steps_are_shown};
 use gh_base::{Cell, Layout, Machine, Op};
 use gh_coord::laws::it_goes_on_until_done;
-use gh_coord::{Coord, Cycle, NEVER};
+use gh_coord::{Coord, Cycle, first_trigger};
 use gh_mutator::Processor;
 use gh_mutator::laws::polls_make_room;
 use gh_script::Script;
@@ -103,7 +103,26 @@ fn step_on<M: Machine>(words: &mut Plain, machine: &mut M) -> Option<M::Out>
     machine.take(found)
 }
 
-/// One step of the coordinator, which mostly is idle. That is made where the caller stands, and any other step by `step_on`.
+/// One step of a worker, which mostly finds that marking is off and a page without an unswept span. That is made where the caller
+/// stands, and any other step by `step_on`.
+#[inline(always)]
+fn step_of_worker(words: &mut Plain, machine: &mut Worker) -> Option<()>
+    requires busy { worker.is_busy machine.old.stage ≡ true }
+    requires long { length words.old ≡ length_of machine.old.layout }
+    ensures within { InRange machine.old.layout (cell_of (worker.asks machine.old)) }
+    ensures words { words.new ≡ changed (request machine.old.layout (worker.asks machine.old)) words.old }
+    ensures machine { machine.new ≡ worker.goes machine.old (slice_index words.old (target (request machine.old.layout (worker.asks machine.old)))) }
+    ensures out { result ≡ worker.gives machine.old (slice_index words.old (target (request machine.old.layout (worker.asks machine.old)))) }
+{
+    if !machine.is_idle() {
+        return step_on(words, machine);
+    }
+    let word = words.step(machine.next());
+    machine.idle(word);
+    None
+}
+
+/// One step of the coordinator, which mostly is idle, in the same way.
 #[inline(always)]
 fn step_of_coordinator(words: &mut Plain, machine: &mut Coord) -> Option<()>
     requires busy { coord.is_busy machine.old.stage ≡ true }
@@ -119,6 +138,16 @@ fn step_of_coordinator(words: &mut Plain, machine: &mut Coord) -> Option<()>
     let found = words.step(machine.next());
     machine.idle(found);
     None
+}
+
+/// The word that the trigger of the script's heap opens with, in bytes: the coordinator's first.
+pub fn opening_trigger(script: &Script, layout: &Layout) -> u64
+    requires { LaysOut script.now layout.now }
+    ensures { result ≡ (pacing_of script.now).trigger }
+{
+    script.is_well_formed();
+    let settings = script.settings();
+    first_trigger(layout, settings.gogc, settings.minheap)
 }
 
 impl<'s> World<'s> {
@@ -141,7 +170,8 @@ impl<'s> World<'s> {
             Ok(layout) => layout,
             Err(_) => unreachable!(),
         };
-        let words = Plain::new(alloc, &layout, NEVER)?;
+        let trigger = opening_trigger(script, &layout);
+        let words = Plain::new(alloc, &layout, trigger)?;
         let runners = runners_of(alloc, &layout, script)?;
         let workers = workers_of(alloc, &layout)?;
         let seat = settings.procs + settings.workers;
@@ -309,18 +339,19 @@ impl<'s> World<'s> {
         requires { AllDone self.now }
         ensures objects { result.objects ≡ marked_by (last_kept self.now.coord.cycles) }
         ensures live { result.live ≡ live_of self.now }
-        ensures credit { (result.earned ≡ 0) × (result.spent ≡ 0) × (result.lapsed ≡ 0) }
+        ensures credit { (result.earned ≡ lapsed_of self.now) × (result.spent ≡ 0) × (result.lapsed ≡ lapsed_of self.now) }
     {
         let objects = match self.coord.last_cycle() {
             Some(cycle) => cycle.marked,
             None => 0,
         };
+        let lapsed = self.coord.lapsed();
         Totals {
             objects,
             live: self.coord.live(),
-            earned: 0,
+            earned: lapsed,
             spent: 0,
-            lapsed: 0,
+            lapsed,
         }
     }
 
@@ -353,7 +384,7 @@ impl<'s> World<'s> {
         ensures { IsStepOfWorker self.old self.new i result }
     {
         let worker = &mut self.workers[i];
-        let out = step_on(&mut self.words, worker);
+        let out = step_of_worker(&mut self.words, worker);
         done_or(out, Event::Moved)
     }
 

@@ -21,7 +21,7 @@ use gh_worker::Worker;
 use std::test::Fail;
 
 const SCRIPT: &str =
-    "procs 1\nworkers 1\narena 16\nglobals 1\ngogc 0\ntype node pn\ngo a\nnew r0 node\ngc\nend\n";
+    "procs 1\nworkers 1\narena 16\nglobals 1\ngogc 0\ntype node p\ngo a\nnew r0 node\ngc\nend\n";
 
 /// What the operations of the processor are answered.
 const ANSWERS: [Option<Answer>; 7] = [
@@ -34,9 +34,9 @@ const ANSWERS: [Option<Answer>; 7] = [
     Some(Answer::Done),
 ];
 
-/// The processor leaves in round 455, the worker in round 770, and the coordinator is done in round 767: of each how many lines there are, how
+/// The processor leaves in round 456, the worker in round 772, and the coordinator is done in round 769: of each how many lines there are, how
 /// many steps it made, and how many of these were its lines.
-const COUNTS: [(usize, usize, usize); 3] = [(455, 455, 455), (770, 770, 770), (767, 767, 767)];
+const COUNTS: [(usize, usize, usize); 3] = [(456, 456, 456), (772, 772, 772), (769, 769, 769)];
 
 /// The lines of each actor.
 #[derive(Drop)]

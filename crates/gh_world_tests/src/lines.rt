@@ -5,7 +5,7 @@
 //! done is passed over. The rounds are told in phases, each of them with the same number of steps for each actor that is
 //! not done.
 //!
-//! The object of 16 bytes, whose first field is a pointer, lies at heap word 0 in a span at page 0, so its reference is 1.
+//! The object of 8 bytes, whose one field is a pointer, lies at heap word 0 in a span at page 0, so its reference is 1.
 //! A phase word is 4 times the number of stops, and 0, 1, 2 or 3 where marking is off, where it is on, where the world is
 //! to stop and where all is finished. The word of a buffer is its count and 256 times its holder's seat and 1.
 
@@ -22,17 +22,17 @@ use std::alloc::{AllocError, Global as Allocator};
 
 /// The page word of the span: owned by the processor, owned by nobody, in sweep and swept again, and in the second
 /// sweep and swept by that.
-const OWNED: u64 = 1 + 4 + 512 + (1 << 22) + (2 << 30);
+const OWNED: u64 = 1 + 512 + (1 << 22) + (2 << 30);
 
-const FREE: u64 = 1 + 4 + 512 + (2 << 30);
+const FREE: u64 = 1 + 512 + (2 << 30);
 
-const IN_SWEEP: u64 = 1 + 4 + 512 + (3 << 30);
+const IN_SWEEP: u64 = 1 + 512 + (3 << 30);
 
-const SWEPT: u64 = 1 + 4 + 512 + (4 << 30);
+const SWEPT: u64 = 1 + 512 + (4 << 30);
 
-const IN_LAST_SWEEP: u64 = 1 + 4 + 512 + (5 << 30);
+const IN_LAST_SWEEP: u64 = 1 + 512 + (5 << 30);
 
-const LAST_SWEPT: u64 = 1 + 4 + 512 + (6 << 30);
+const LAST_SWEPT: u64 = 1 + 512 + (6 << 30);
 
 /// The trigger that no allocation reaches.
 pub(crate) const NEVER: u64 = u64::MAX;
@@ -65,12 +65,12 @@ const LINES: &[Lines] = &[
             (Store(Lock, 0), 1),
             (Load(Alloc(0)), 0),
             (Store(Field(0), 0), 0),
-            (Store(Field(1), 0), 0),
             (Store(Birth(0), 4_294_967_296), 0),
-            (And(Bitmap(0), 18_446_744_073_709_551_612), 0),
+            (And(Bitmap(0), 18_446_744_073_709_551_614), 0),
             (Or(Bitmap(0), 1), 0),
             (Or(Alloc(0), 1), 0),
-            (Add(Heap, 16), 0),
+            (Add(Heap, 8), 0),
+            (Load(Trigger), NEVER),
             (Load(Phase), 0),
             (Or(Want, 1), 0),
             (Load(Phase), 0),
@@ -122,7 +122,7 @@ const LINES: &[Lines] = &[
             (Store(Tally, 0), 0),
             (Store(Live, 0), 0),
             (Store(Trigger, NEVER), NEVER),
-            (Load(Heap), 16),
+            (Load(Heap), 8),
             (Store(Work, 0), 0),
             (Store(Slack, 1), 1),
             (Store(Begun, 1), 0),
@@ -189,7 +189,8 @@ const LINES: &[Lines] = &[
     ),
     (COORDINATOR, 68, 1, &[(Load(Buffer(1)), 0)]),
     (COORDINATOR, 1, 0, &[(Store(Phase, 10), 5)]),
-    // Rounds 212 to 219: stop 2. The processor gives buffer 0 back with its entry, so the check fails and marking goes on.
+    // Rounds 212 to 219: stop 2. The processor gives buffer 0 back with its entry, so the check fails and marking goes on. The
+    // worker hands over the one word that it has scanned, the global.
     (
         PROCESSOR,
         1,
@@ -205,9 +206,14 @@ const LINES: &[Lines] = &[
         WORKER,
         1,
         0,
-        &[(Load(Gcur), 1), (Load(Phase), 10), (Store(Ack(1), 2), 1)],
+        &[
+            (Load(Gcur), 1),
+            (Load(Phase), 10),
+            (Add(Bank, 1), 0),
+            (Store(Ack(1), 2), 1),
+        ],
     ),
-    (WORKER, 5, 0, &[(Load(Phase), 10)]),
+    (WORKER, 4, 0, &[(Load(Phase), 10)]),
     (COORDINATOR, 2, 0, &[(Load(Ack(0)), 1)]),
     (
         COORDINATOR,
@@ -273,15 +279,15 @@ const LINES: &[Lines] = &[
     ),
     (COORDINATOR, 68, 1, &[(Load(Buffer(1)), 0)]),
     (COORDINATOR, 1, 0, &[(Store(Phase, 14), 9)]),
-    // Rounds 295 to 378: stop 3. The worker finds the stop when it has seen all buffers, and gives its own back. The check
-    // passes, and the world goes on.
+    // Rounds 295 to 379: stop 3. The worker finds the stop when it has seen all buffers, hands over the word of the
+    // object, and gives its own buffer back. The check passes, what the bank has lapses, and the world goes on.
     (
         PROCESSOR,
         1,
         0,
         &[(Load(Swept), 0), (Load(Phase), 14), (Store(Ack(0), 3), 2)],
     ),
-    (PROCESSOR, 81, 0, &[(Load(Phase), 14)]),
+    (PROCESSOR, 82, 0, &[(Load(Phase), 14)]),
     (WORKER, 5, 1, &[(Load(Buffer(64)), 0)]),
     (
         WORKER,
@@ -290,6 +296,7 @@ const LINES: &[Lines] = &[
         &[
             (Load(Gcur), 1),
             (Load(Phase), 14),
+            (Add(Bank, 1), 1),
             (Store(Buffer(0), 0), 513),
             (Store(Ack(1), 3), 2),
         ],
@@ -297,7 +304,7 @@ const LINES: &[Lines] = &[
     (WORKER, 75, 0, &[(Load(Phase), 14)]),
     (COORDINATOR, 2, 0, &[(Load(Ack(0)), 2)]),
     (COORDINATOR, 1, 0, &[(Load(Ack(0)), 3)]),
-    (COORDINATOR, 5, 0, &[(Load(Ack(1)), 2)]),
+    (COORDINATOR, 6, 0, &[(Load(Ack(1)), 2)]),
     (
         COORDINATOR,
         1,
@@ -310,14 +317,14 @@ const LINES: &[Lines] = &[
         1,
         0,
         &[
-            (Load(Bank), 0),
-            (Store(Bank, 0), 0),
+            (Load(Bank), 2),
+            (Store(Bank, 0), 2),
             (Store(Gen, 4), 2),
             (Store(Phase, 12), 14),
         ],
     ),
-    // Rounds 379 to 451. The sweep keeps the object and clears its mark, and cycle 1 is told. The processor polls and looks for
-    // the swept cycle, and the worker looks at one page after the other: in rounds 397 and 429 at the one that is in sweep.
+    // Rounds 380 to 452. The sweep keeps the object and clears its mark, and cycle 1 is told. The processor polls and looks for
+    // the swept cycle, and the worker looks at one page after the other: in rounds 398 and 430 at the one that is in sweep.
     (
         PROCESSOR,
         1,
@@ -380,8 +387,8 @@ const LINES: &[Lines] = &[
         0,
         &[
             (Add(Tally, 1), 0),
-            (Add(Live, 16), 0),
-            (Add(Heap, 0), 16),
+            (Add(Live, 8), 0),
+            (Add(Heap, 0), 8),
             (Store(Page(0), SWEPT), IN_SWEEP),
         ],
     ),
@@ -392,12 +399,12 @@ const LINES: &[Lines] = &[
         0,
         &[
             (Load(Tally), 1),
-            (Load(Live), 16),
+            (Load(Live), 8),
             (Store(Trigger, NEVER), NEVER),
             (Store(Swept, 1), 0),
         ],
     ),
-    // Rounds 452 to 456. `gc` is answered. The processor polls, its goroutine ends, and it leaves, with nothing to give back.
+    // Rounds 453 to 457. `gc` is answered. The processor polls, its goroutine ends, and it leaves, with nothing to give back.
     (
         PROCESSOR,
         1,
@@ -413,7 +420,7 @@ const LINES: &[Lines] = &[
     (WORKER, 1, 0, &[(Load(Phase), 12)]),
     (COORDINATOR, 2, 0, &[(Load(Ack(0)), 3), (Load(Want), 0)]),
     (COORDINATOR, 1, 0, &[(Load(Ack(0)), GONE)]),
-    // Rounds 457 to 469: stop 4, for the last cycle, 2.
+    // Rounds 458 to 470: stop 4, for the last cycle, 2.
     (
         WORKER,
         1,
@@ -436,16 +443,16 @@ const LINES: &[Lines] = &[
             (Store(Want, 0), 0),
             (Store(Gcur, 0), 1),
             (Store(Tally, 0), 1),
-            (Store(Live, 0), 16),
+            (Store(Live, 0), 8),
             (Store(Trigger, NEVER), NEVER),
-            (Load(Heap), 16),
+            (Load(Heap), 8),
             (Store(Work, 0), 0),
             (Store(Slack, 1), 1),
             (Store(Begun, 2), 1),
             (Store(Phase, 17), 18),
         ],
     ),
-    // Rounds 470 to 615. The goroutine has ended, so nothing is grey: the worker claims the global, and that is all.
+    // Rounds 471 to 616. The goroutine has ended, so nothing is grey: the worker claims the global, and that is all.
     (
         WORKER,
         1,
@@ -479,12 +486,17 @@ const LINES: &[Lines] = &[
     ),
     (COORDINATOR, 69, 1, &[(Load(Buffer(0)), 0)]),
     (COORDINATOR, 1, 0, &[(Store(Phase, 22), 17)]),
-    // Rounds 616 to 693: stop 5.
+    // Rounds 617 to 695: stop 5. The worker hands over the word of the global.
     (
         WORKER,
         1,
         0,
-        &[(Load(Gcur), 1), (Load(Phase), 22), (Store(Ack(1), 5), 4)],
+        &[
+            (Load(Gcur), 1),
+            (Load(Phase), 22),
+            (Add(Bank, 1), 0),
+            (Store(Ack(1), 5), 4),
+        ],
     ),
     (WORKER, 75, 0, &[(Load(Phase), 22)]),
     (
@@ -493,6 +505,7 @@ const LINES: &[Lines] = &[
         0,
         &[
             (Load(Ack(0)), GONE),
+            (Load(Ack(1)), 4),
             (Load(Ack(1)), 4),
             (Load(Ack(1)), 5),
             (Load(Gcur), 1),
@@ -505,14 +518,14 @@ const LINES: &[Lines] = &[
         1,
         0,
         &[
-            (Load(Bank), 0),
-            (Store(Bank, 0), 0),
+            (Load(Bank), 1),
+            (Store(Bank, 0), 1),
             (Store(Gen, 6), 4),
             (Store(Phase, 20), 22),
         ],
     ),
-    // Rounds 694 to 767. The sweep frees the object, and the last cycle is told: all is finished. The worker looks at the page
-    // that is in sweep in rounds 700 and 732, and in round 764, when it is swept.
+    // Rounds 696 to 769. The sweep frees the object, and the last cycle is told: all is finished. The worker looks at the page
+    // that is in sweep in rounds 702 and 734, and in round 766, when it is swept.
     (
         WORKER,
         1,
@@ -571,7 +584,7 @@ const LINES: &[Lines] = &[
         &[
             (Add(Tally, 4_294_967_296), 0),
             (Add(Live, 0), 0),
-            (Add(Heap, 18_446_744_073_709_551_600), 16),
+            (Add(Heap, 18_446_744_073_709_551_608), 8),
             (Store(Page(0), LAST_SWEPT), IN_LAST_SWEEP),
         ],
     ),
@@ -588,7 +601,7 @@ const LINES: &[Lines] = &[
             (Store(Phase, 23), 20),
         ],
     ),
-    // Rounds 768 to 770. The worker looks at one more page, finds that all is finished, and is gone.
+    // Rounds 770 to 772. The worker looks at one more page, finds that all is finished, and is gone.
     (
         WORKER,
         1,

@@ -6,12 +6,15 @@ use Rattle.gh_coord.specs.Listing as coord
 use Rattle.gh_worker.specs.Listing as worker
 use Rattle.gh_world.specs.declared.handshake.Actor.TheVariants as actor
 use Rattle.gh_world.specs.Actors.{AllWereOpened, BeginsCycle}
-use Rattle.gh_world.specs.Asked.{AllWereAsked, AsksForCycle, IsClearing, NoneOpensSince, OpensCycle, WasAsked, WasOpened}
+use Rattle.gh_world.specs.Asked.{AllWereAsked, AsksForCycle, IsClearing, NoneOpensSince, OpensCycle, SawTriggerReached, WasAsked, WasOpened}
+use Rattle.gh_mutator.specs.Writing.{BeginsToWait}
 use Rattle.gh_world.specs.Numbers.{asks_for_one, opens_one}
+use Rattle.gh_world.specs.Order.{before_step}
 use Rattle.gh_world.specs.Wants.{CountsWants, IsToOpen}
 use Rattle.gh_world.proofs.Vocabulary.{Ask, asked_after, asks, Coordinating, CoordStage, effect, Entry, IsBeginning, IsStartOf, IsWanting, IsWritten, KeepsIt, Layout, Legal, Op, Open, Or, Pacing, Processor, processor_kind, ProcessorWritesItsOwn, Shape, started, state_of, Store, those, Words, Working, WorkersWriteTheirOwn, WritesOf}
 use Rattle.gh_world.proofs.AllActors.Resting.{runs_are}
 use Rattle.gh_world.proofs.AllActors.Starts.{legal_start}
+use Rattle.gh_world.proofs.AllActors.Triggered.{asked as trigger_asked, saw}
 use Rattle.gh_world.proofs.CycleNumbers.Frames.{Leaves, leaves}
 use Rattle.gh_world.proofs.CycleNumbers.Quiet.{worker_quiet}
 use Rattle.gh_world.proofs.CycleNumbers.Opened.{clears, IsOpened, none_opened, opened}
@@ -116,7 +119,10 @@ module _ (shapes : List Shape) (l : Layout) (pacing : Pacing) (may : ℕ → Lis
           let both : actor.Runs m ≡ actor.Runs (state_of k e.actor es) = sym x.is ∙ runs_are shapes l pacing may es e.actor x.seat in
           let own : m ≡ state_of k e.actor es = cc in
           let w = asks_by (started k e.begun m) (asks (started k e.begun m)) refl (writes.writes (started k e.begun m) x.sound_then) (sym (ap asks_for_one x.asked) ∙ one) in
-          record { by = x.seat; begins_to_wait = subst (λ (y : Processor). IsWanting (started k e.begun y).task) own w.0; asks = x.asked ∙ w.1 }
+          record { by = x.seat; where_it_may = where_it_may (subst (λ (y : Processor). IsWanting (started k e.begun y).task) own w.0); asks = x.asked ∙ w.1 } where
+            where_it_may : IsWanting (before_step shapes l es e).task → BeginsToWait (before_step shapes l es e).task ⊎ SawTriggerReached shapes l e.actor es
+            where_it_may (inl waits) = inl waits
+            where_it_may (inr saw_it) = inr (saw shapes l writes e.actor es (trigger_asked shapes l writes e.actor (state_of (processor_kind shapes l) e.actor es) e.begun saw_it))
 
       asked_by : (m : Processor) → seats.RunsIt shapes l pacing may e es m → Asked es → Asked (e ∷ es)
       asked_by m x before set = go y.want where

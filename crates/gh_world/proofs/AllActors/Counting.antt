@@ -22,6 +22,7 @@ use Rattle.gh_alloc.specs.Place as place
 use Rattle.gh_alloc.specs.PlaceFacts as facts_of
 use Rattle.gh_mutator.specs.declared.task.Task.TheVariants as task
 use Rattle.gh_mutator.specs.Facts.{Does, FactsAt, for_whom}
+use Rattle.gh_mutator.specs.New.{made_task}
 use Rattle.gh_world.specs.HoldVocabulary.{State, StateGood, View}
 use Rattle.gh_world.proofs.Vocabulary.{acted, acts, acts_at, Answer, Arena, asks, Cell, effect, Ever, Fine, Heap, is_busy_at, IsSound, MarksNothing, moved, Name, nat_tests, page_words, Place, PlaceStage, Placing, Processor, put, Row, seats_of, SpanHead, takes, takes_at, Task, uncounted, view, Wanted, Words, CountsObject}
 use Rattle.gh_world.proofs.AllActors.Known.{Known}
@@ -186,7 +187,7 @@ module _ (known : Known) (whole : WholeWords) (z : Arena) (a : ℕ) (s : State) 
     to_is = ap (λ (y : Task). (takes_at z.shapes m y found).task) x.is ∙ ap task_then x.stage
 
     abbrev task_behind : Option SpanHead → Task
-    task_behind s = cond (place.is_busy (place.made p s)) (at_place (place.at_stage p (place.made p s))) task.Idle
+    task_behind s = made_task w (place.at_stage p (place.made p s)) (place.given_at (place.made p s))
 
     made_now : MadeNow
     made_now = go p.span refl where

@@ -14,7 +14,7 @@ use Rattle.gh_mutator.specs.Poll as poll
 use Rattle.gh_mutator.specs.Register as register
 use Rattle.gh_mutator.specs.Store as store
 use Rattle.gh_mutator.specs.Wait as wait
-use Rattle.gh_world.proofs.Vocabulary.{Act, acted, acting, acts, acts_at, after_gc, after_poll, Answer, answer_at, At, begins_at, cache_span, Ends, Ever, ever_after, follows, Found, Global, GlobalStage, GoesOn, is_busy_at, is_last_task, is_some, nat_tests, NewStage, NoRoom, Op, Place, Placing, Polling, Processor, Register, register_of, Search, Seeking, Shape, Source, takes_at, Task, Then, Wait, Wanted}
+use Rattle.gh_world.proofs.Vocabulary.{Act, acted, acting, acts, acts_at, after_gc, after_poll, Answer, answer_at, At, begins_at, cache_span, Ends, Ever, ever_after, follows, Found, Global, GlobalStage, GoesOn, is_busy_at, is_last_task, is_some, nat_tests, NewStage, NoRoom, Op, Place, Placing, Polling, Processor, Register, register_of, Search, Seeking, Shape, Source, takes_at, Task, Then, Wait, Wanted, Want}
 use Rattle.gh_world.proofs.AllActors.Beginning.{ends-by, keeps-end, makes-end, sets-end, stores-end}
 
 -- Its step is that of its end, or is not.
@@ -111,14 +111,16 @@ module _ (shapes : List Shape) (m : Processor) (found : ℕ) where
   poll_none p None = refl
   poll_none p (Some x) = refl
 
-  place_none : (w : Wanted) (p : Placing) (b : Bool) → is_last_task (cond b (new.makes w p) task.Idle) ≡ false
-  place_none w p true = refl
-  place_none w p false = refl
+  place_none : (w : Wanted) (p : Placing) (asks : Option Bool) → is_last_task (new.made_task w p asks) ≡ false
+  place_none w p None = refl
+  place_none w p (Some true) = refl
+  place_none w p (Some false) = refl
 
   new_none : (w : Wanted) (s : NewStage) → is_last_task (new.takes_at shapes m w s found).task ≡ false
   new_none w (Search waited q) = search_none (cache_span m w.sought (search.goes q found).find.cached) w waited (search.goes q found) (search.gives q found)
   new_none w (Wait x) = wait_none w (wait.goes (wait.waiting x m.poll) found) (wait.gives (wait.waiting x m.poll) found)
-  new_none w (Place p) = place_none w (place.goes p found) (place.is_busy (place.goes p found).stage)
+  new_none w (Place p) = place_none w (place.goes p found) (place.gives p found)
+  new_none w (Want n) = refl
 
   other : {b : Bool} → b ≡ false → b ≡ true → ⊥
   other x y = let both : false ≡ true = sym x ∙ y in cc

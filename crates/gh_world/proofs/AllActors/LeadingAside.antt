@@ -5,7 +5,7 @@ use Rattle.gh_coord.specs.Listing as coord
 use Rattle.gh_world.specs.ActorsHold.{HasEnded, HasState, IsOff}
 use Rattle.gh_world.specs.HoldVocabulary.{State}
 use Rattle.gh_world.specs.Sweepers.{sweep_of}
-use Rattle.gh_world.proofs.Vocabulary.{acks_of, actors_after, Arena, arena, Coordinating, Entry, IsLed, Layout, Legal, Op, Pacing, Shape, those, words}
+use Rattle.gh_world.proofs.Vocabulary.{acks_of, actors_after, Arena, arena, Coordinating, Entry, IsLed, Layout, Legal, Op, Pacing, Shape, those}
 use Rattle.gh_world.proofs.AllActors.Aside as aside
 use Rattle.gh_world.proofs.AllActors.Aside.{beside_of, Lands, TellsNothing}
 use Rattle.gh_world.proofs.AllActors.Going.{keeps_last, NotAcks}

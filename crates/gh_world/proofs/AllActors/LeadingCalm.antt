@@ -149,7 +149,7 @@ module _ (shapes : List Shape) (l : Layout) (pacing : Pacing) (may : ℕ → Lis
       was_number : c.begun ≡ words shapes l pacing may es cell.Swept + 0
       was_number = (subst (λ (p : CoordStage). c.begun ≡ words shapes l pacing may es cell.Swept + (ahead_at (part_of p)).numbered) is (lists.counts es c legal.0 led).number)
 
-      module _ (d : Coordinating) (led_d : IsLed shapes l pacing may (e ∷ es) d) (at : d.stage ≡ Open (opens_by.opening u.layout u.stops (coord.next_cycle u.begun))) where
+      module _ (d : Coordinating) (work : ℕ) (goal : Option ℕ) (led_d : IsLed shapes l pacing may (e ∷ es) d) (at : d.stage ≡ Open (opens_by.opening u.layout u.stops (coord.next_cycle u.begun) work goal)) where
         pub next_number : d.begun ≡ c.begun + 1
         next_number =
             let now : d.begun ≡ words shapes l pacing may (e ∷ es) cell.Swept + 1 = subst (λ (p : CoordStage). d.begun ≡ words shapes l pacing may (e ∷ es) cell.Swept + (ahead_at (part_of p)).numbered) at (lists.counts (e ∷ es) d legal led_d).number in
@@ -165,7 +165,7 @@ module _ (shapes : List Shape) (l : Layout) (pacing : Pacing) (may : ℕ → Lis
         go (Some y) x =
             let d_is : coord.goes c e.found ≡ coord.opens (coord.at_stage u (Stop (stop.goes st e.found))) = goes_by shapes l pacing may known lists e es legal c led by (Stop st) is ∙ ap (coord.after_stop (coord.at_stage u (Stop (stop.goes st e.found)))) x in
             let led_d : IsLed shapes l pacing may (e ∷ es) (coord.opens (coord.at_stage u (Stop (stop.goes st e.found)))) = subst (IsLed shapes l pacing may (e ∷ es)) d_is (led_then shapes l pacing may known lists e es legal c led by) in
-            (ready (e ∷ es) legal c _ led_d refl (next_number _ led_d refl) quiet_then, tt, tt)
+            (ready (e ∷ es) legal c _ led_d refl (next_number _ _ _ led_d refl) quiet_then, tt, tt)
 
     -- while a cycle is opened
     module _ (o : opens_by.CycleOpening) (is : c.stage ≡ Open o) (r : IsOpening shapes l pacing may es c o.stage) where
@@ -202,13 +202,13 @@ module _ (shapes : List Shape) (l : Layout) (pacing : Pacing) (may : ℕ → Lis
       there : (p : OpenStage) → o.stage ≡ p → (d : Coordinating) → d.begun ≡ c.begun → IsOpening shapes l pacing may (e ∷ es) d (opens_by.behind p)
       there p x d same = subst (λ (y : OpenStage). IsOpening shapes l pacing may (e ∷ es) d (opens_by.behind y)) x (so d same)
 
-      by_stage : (p : OpenStage) → o.stage ≡ p → To (coord.after_open (coord.at_stage u (Open (record o { stage = opens_by.behind p }))) (opens_by.given_at (opens_by.behind p)))
+      by_stage : (p : OpenStage) → o.stage ≡ p → To (coord.after_open (coord.at_stage u (Open (opens_by.goes_at o p e.found))) (opens_by.given_at (opens_by.behind p)))
       by_stage opening.StorePhase x = tt
       by_stage opening.Ended x = tt
       by_stage _ x = there _ x _ refl
 
       by_any : (p : OpenStage) → o.stage ≡ p → To (coord.goes_at u (Open o) e.found)
-      by_any p x = subst (λ (y : OpenStage). To (coord.after_open (coord.at_stage u (Open (record o { stage = opens_by.behind y }))) (opens_by.given_at (opens_by.behind y)))) (sym x) (by_stage p x)
+      by_any p x = subst (λ (y : OpenStage). To (coord.after_open (coord.at_stage u (Open (opens_by.goes_at o y e.found))) (opens_by.given_at (opens_by.behind y)))) (sym x) (by_stage p x)
 
       pub opens : To (coord.goes_at u (Open o) e.found)
       opens = by_any o.stage refl

@@ -27,6 +27,7 @@ parked_new : (p : Polling) (stops : ℕ) (s : NewStage) → IsParked stops (new_
 parked_new p stops (new.Search waited q) parked = refl
 parked_new p stops (new.Wait x) parked = refl
 parked_new p stops (new.Place x) parked = absurd parked
+parked_new p stops (new.Want n) parked = refl
 
 parked_at : (p : Polling) (stops : ℕ) (q : Task) → IsParked stops (stage_at p q) → uncounted q ≡ 0
 parked_at p stops (task.New x) parked = parked_new p stops x.stage parked
@@ -37,6 +38,7 @@ parked_search : (p : Polling) (stops : ℕ) (s : NewStage) → IsParked stops (n
 parked_search p stops (new.Search waited q) parked = absurd parked
 parked_search p stops (new.Wait x) parked = refl
 parked_search p stops (new.Place x) parked = refl
+parked_search p stops (new.Want n) parked = refl
 
 parked_sweeps_none : (p : Polling) (stops : ℕ) (q : Task) → IsParked stops (stage_at p q) → mutator.sweep_at q ≡ None
 parked_sweeps_none p stops (task.New x) parked = parked_search p stops x.stage parked

@@ -19,6 +19,7 @@ use Rattle.gh_world.proofs.AllActors.LeadingLast.{left_now}
 use Rattle.gh_world.proofs.AllActors.OwnedSpans.{one_of_each, owners_stand}
 use Rattle.gh_world.proofs.AllActors.Phases.{phases_stand}
 use Rattle.gh_world.proofs.AllActors.Saying.{all_stands, has_at, Marked}
+use Rattle.gh_world.proofs.AllActors.Scanned.{few_scanned}
 use Rattle.gh_world.proofs.AllActors.Scans.{scans_once}
 use Rattle.gh_world.proofs.AllActors.Steps as steps
 use Rattle.gh_world.proofs.AllActors.SweepMarks.{sweeps_stand}
@@ -85,6 +86,6 @@ module _ (shapes : List Shape) (l : Layout) (pacing : Pacing) (counts : ℕ → 
       all_stands shapes l pacing (may_of shapes l counts) es x.lead limits known x.led_by held marking (awaits shapes l pacing (may_of shapes l counts) known lists in_cycles es legal) (all_asked shapes l pacing (may_of shapes l counts) known.writes known.workers_write lists.keeps lists.wants es legal) (all_opened shapes l pacing (may_of shapes l counts) known.writes known.workers_write lists.keeps lists.wants es legal) (λ d led. lists.plainly es d legal led) (steps_within shapes l pacing counts good limits known es (has es legal))
       (within_two shapes l pacing counts good limits known wanted lists has in_cycles es legal held.was.frees)
       (until shapes l pacing (may_of shapes l counts) limits known lists es legal states held.was.ends) (λ c led on. so_far shapes l pacing (may_of shapes l counts) limits known lists es legal states c led on (marked es c legal led on))
-      (scans_once shapes l pacing (may_of shapes l counts) known lists has es legal) (sweeps_stand shapes l pacing (may_of shapes l counts) limits known es x.lead legal x.led_by marking held.at) (spans_stand es legal)
+      (scans_once shapes l pacing (may_of shapes l counts) known lists has es legal) (few_scanned shapes l pacing (may_of shapes l counts) known lists es legal (was_marked es legal)) (sweeps_stand shapes l pacing (may_of shapes l counts) limits known es x.lead legal x.led_by marking held.at) (spans_stand es legal)
       (phases_stand shapes l pacing (may_of shapes l counts) known lists has holds es legal)
       (left es legal x.lead x.led_by held)

@@ -1,5 +1,5 @@
 -- While a cycle is marked: what is known of the heap says what is known of its objects, and lasts while workers and the coordinator step.
-use Rattle.std.proofs.Common.{◌≡◌, ◌≢◌, ℕ, Bool, true, false, cond, refl, sym, ap, subst, ◌∙◌, List}
+use Rattle.std.proofs.Common.{◌≡◌, ◌≢◌, ℕ, Bool, true, false, cond, refl, sym, ap, subst, ◌∙◌, List, inl, inr}
 use Rattle.gh_base.specs.declared.cell.Cell.TheVariants as cell
 use Rattle.gh_heap.specs.Moves.{IsAside as IsAsideCell}
 use Rattle.gh_marks.specs.Knows.{KnowsObjects}
@@ -69,13 +69,20 @@ module _ (one : ChangesOneCell) where
   cursor_apart : IsApart cell.Gcur
   cursor_apart = record { aside = tt; heap = refl; page = λ i. refl; alloc = λ i. refl; birth = λ i. refl; global = λ i. refl; scanned = λ i. refl; tally = refl; live = refl }
 
+  bank_apart : IsApart cell.Bank
+  bank_apart = record { aside = tt; heap = refl; page = λ i. refl; alloc = λ i. refl; birth = λ i. refl; global = λ i. refl; scanned = λ i. refl; tally = refl; live = refl }
+
+  added_apart : (seat : ℕ) (c : Cell) (x : ℕ) → WritesItsOwn seat (Add c x) → IsApart c
+  added_apart seat c x (inl is) = subst IsApart (sym is.0) cursor_apart
+  added_apart seat c x (inr is) = subst IsApart (sym is) bank_apart
+
   pub works_beside : (seat : ℕ) (ask : Ask) → WritesItsOwn seat ask → IsBeside ask
   works_beside seat (Load c) is = of_marking c
   works_beside seat (Store c x) is = let d = apart_cell seat c is in beside_by (Store c x) d.aside d
   works_beside seat (Or c x) is = let d = apart_cell seat c is in beside_by (Or c x) d.aside d
   works_beside seat (And c x) is = let d = apart_cell seat c is in beside_by (And c x) d.aside d
   works_beside seat (Swap c x y) is = let d = apart_cell seat c is in beside_by (Swap c x y) d.aside d
-  works_beside seat (Add c x) is = let d = subst IsApart (sym is.0) cursor_apart in beside_by (Add c x) d.aside d
+  works_beside seat (Add c x) is = let d = added_apart seat c x is in beside_by (Add c x) d.aside d
 
   counts_by : (ask : Ask) → IsApart (cell_of ask) → LeavesCounts ask
   counts_by ask is = record { tally = λ w. leaves ask w cell.Tally is.tally; live = λ w. leaves ask w cell.Live is.live }
@@ -86,7 +93,7 @@ module _ (one : ChangesOneCell) where
   works_counts seat (Or c x) is = counts_by (Or c x) (apart_cell seat c is)
   works_counts seat (And c x) is = counts_by (And c x) (apart_cell seat c is)
   works_counts seat (Swap c x y) is = counts_by (Swap c x y) (apart_cell seat c is)
-  works_counts seat (Add c x) is = counts_by (Add c x) (subst IsApart (sym is.0) cursor_apart)
+  works_counts seat (Add c x) is = counts_by (Add c x) (added_apart seat c x is)
 
 -- mark words are words behind moves
 pub words_stay : MarksStayWords → (z : Cycle) (a : ℕ) (s t : Marking) → Went z a s t → AreWords (mark_words s.words) → AreWords (mark_words t.words)

@@ -240,7 +240,11 @@ module _ (z : Arena) (a : ℕ) (v : View) where
       go : (b : Bool) → cond b false (held p) ≡ true → held p ≡ true
       go true x = absurd (cc)
       go false x = x
-    keeps making.Ended (Some h) page held p e = go (page == p) e where
+    keeps (making.LoadTrigger bytes) (Some h) page held p e = go (page == p) e where
+      go : (b : Bool) → cond b false (held p) ≡ true → held p ≡ true
+      go true x = absurd (cc)
+      go false x = x
+    keeps (making.Ended wants) (Some h) page held p e = go (page == p) e where
       go : (b : Bool) → cond b false (held p) ≡ true → held p ≡ true
       go true x = absurd (cc)
       go false x = x
@@ -273,7 +277,8 @@ module _ (z : Arena) (a : ℕ) (v : View) where
       of_large making.Alloc held p h is facts e there = of_claim p h is there facts.0
       of_large (making.Give g) held p h is facts e there = of_given p h g is there facts.1
       of_large making.Count held p h is facts e there = absurd (given_up (x.at / 1024) held p is e)
-      of_large making.Ended held p h is facts e there = absurd facts
+      of_large (making.LoadTrigger bytes) held p h is facts e there = absurd (given_up (x.at / 1024) held p is e)
+      of_large (making.Ended wants) held p h is facts e there = absurd facts
 
     -- with a large object's span
     abbrev with_own : Placing → ℕ → Bool
@@ -310,6 +315,7 @@ module _ (z : Arena) (a : ℕ) (v : View) where
     new_own w (new_stage.Search waited q) k f = searches_own m w k q pending f
     new_own w (new_stage.Wait x) k f = waits_own (waiting x m.poll) k
     new_own w (new_stage.Place x) k f = makes_own m w k x pending f
+    new_own w (new_stage.Want n) k f = rests_own m.poll k
 
     task_own : (t : Task) → KnowsAt z a v m.poll t → FactsAt z a v m pending t → Owns (held_at m t)
     task_own task.Left k f = none

@@ -106,7 +106,8 @@ module _ (read : PackedWordsAreReadBack) (shapes : List Shape) where
       worked seat (Store c v) is = leaves (Store c v) (not_worked seat c is)
       worked seat (Or c v) is = leaves (Or c v) (not_worked seat c is)
       worked seat (And c v) is = leaves (And c v) (not_worked seat c is)
-      worked seat (Add c v) is = leaves (Add c v) (ap (λ (x : Cell). same_cell x (cell.Page q)) is.0)
+      worked seat (Add c v) (inl is) = leaves (Add c v) (ap (λ (x : Cell). same_cell x (cell.Page q)) is.0)
+      worked seat (Add c v) (inr is) = leaves (Add c v) (ap (λ (x : Cell). same_cell x (cell.Page q)) is)
       worked seat (Swap c v u) is = leaves (Swap c v u) (not_worked seat c is)
 
     -- A step of the coordinator.

@@ -1,5 +1,5 @@
 -- What a processor has placed and not counted, over a step of it: the step that makes an object adds the bytes of its slot, the one that counts them takes them off, and no other changes that or makes anything.
-use Rattle.std.proofs.Common.{◌≡◌, ℕ, ◌+◌, Bool, true, false, cond, refl, ◌⊎◌, inl, inr, List, Option, Some, None}
+use Rattle.std.proofs.Common.{◌≡◌, ℕ, ◌+◌, ◌*◌, ◌%◌, ◌^◌, nat_le, Bool, true, false, cond, refl, ◌⊎◌, inl, inr, List, Option, Some, None}
 use Rattle.gh_base.specs.declared.cell.Cell.TheVariants as cell
 use Rattle.gh_base.specs.declared.operation.Op.TheVariants as op
 use Rattle.gh_base.specs.declared.value.Answer.TheVariants as answer
@@ -24,7 +24,7 @@ use Rattle.gh_mutator.specs.Store as store
 use Rattle.gh_mutator.specs.Sweeping.{sweep_at, sweep_new}
 use Rattle.gh_mutator.specs.Wait as wait
 use Rattle.gh_sweep.specs.Listing.{Sweeping}
-use Rattle.gh_world.proofs.Vocabulary.{acted, acting, acts_at, Add, after_gc, after_leave, after_poll, Answer, At, begins_at, cache_span, CountsObject, Ends, Ever, ever_after, EverValue, follows, Found, Global, GlobalStage, GoesOn, Heap, is_busy_at, is_some, nat_lt, NewStage, NoRoom, Op, Place, PlaceStage, Placing, Processor, Register, register_of, Search, Shape, Source, takes_at, Task, Then, uncounted, Wait, Wanted}
+use Rattle.gh_world.proofs.Vocabulary.{acted, acting, acts_at, Add, after_gc, after_leave, after_poll, Answer, At, begins_at, cache_span, CountsObject, Ends, Ever, ever_after, EverValue, follows, Found, Global, GlobalStage, GoesOn, Heap, is_busy_at, is_some, nat_lt, NewStage, NoRoom, Op, Place, PlaceStage, Placing, Processor, Register, register_of, Search, Shape, Source, takes_at, Task, Then, uncounted, Wait, Wanted, Want}
 
 -- No object is made but by a `new`.
 
@@ -121,22 +121,29 @@ module _ (shapes : List Shape) (m : Processor) (found : ℕ) where
 
   placed : (w : Wanted) (p : Placing) (s : PlaceStage) → StepOf (placing_at w (place.at_stage p s))
   placed w p (making.Clear k) = inr (inr (record { same = by (nat_lt (k + 1) p.slot); silent = λ y. absurd (let x = y.0 in cc); nothing = λ e g. refl })) where
-    by : (b : Bool) → uncounted (cond (place.is_busy (cond b (making.Clear (k + 1)) making.Birth)) (placing_at w (place.at_stage p (cond b (making.Clear (k + 1)) making.Birth))) task.Idle) ≡ 0
+    by : (b : Bool) → uncounted (new.made_task w (place.at_stage p (cond b (making.Clear (k + 1)) making.Birth)) (place.given_at (cond b (making.Clear (k + 1)) making.Birth))) ≡ 0
     by true = refl
     by false = refl
   placed w p making.Birth = inr (inr (record { same = refl; silent = λ y. absurd (let x = y.0 in cc); nothing = λ e g. refl }))
   placed w p (making.Bits q) = inr (inr (record { same = by (bits.is_busy (bits.goes q found).stage); silent = λ y. absurd (let x = y.0 in cc); nothing = λ e g. refl })) where
-    by : (b : Bool) → uncounted (cond (place.is_busy (cond b (making.Bits (bits.goes q found)) (place.filled p.marking))) (placing_at w (place.at_stage p (cond b (making.Bits (bits.goes q found)) (place.filled p.marking)))) task.Idle) ≡ 0
+    by : (b : Bool) → uncounted (new.made_task w (place.at_stage p (cond b (making.Bits (bits.goes q found)) (place.filled p.marking))) (place.given_at (cond b (making.Bits (bits.goes q found)) (place.filled p.marking)))) ≡ 0
     by true = refl
     by false = filled p.marking where
-      filled : (marking : Bool) → uncounted (cond (place.is_busy (place.filled marking)) (placing_at w (place.at_stage p (place.filled marking))) task.Idle) ≡ 0
+      filled : (marking : Bool) → uncounted (new.made_task w (place.at_stage p (place.filled marking)) (place.given_at (place.filled marking))) ≡ 0
       filled true = refl
       filled false = refl
   placed w p making.Mark = inr (inr (record { same = refl; silent = λ y. absurd (let x = y.0 in cc); nothing = λ e g. refl }))
   placed w p making.Alloc = inr (inl (record { wanted = w; placing = place.at_stage p making.Alloc; is = refl; stage = refl; silent = λ y. absurd (let x = y.0 in cc) }))
   placed w p (making.Give g) = inr (inr (record { same = refl; silent = λ y. absurd (let x = y.0 in cc); nothing = λ e g. refl }))
-  placed w p making.Count = inl (record { asks_is = refl; then = refl; nothing = λ e g. refl; alone = λ u v x. x })
-  placed w p making.Ended = inr (inr (record { same = refl; silent = λ y. absurd (let x = y.0 in cc); nothing = λ e g. refl }))
+  placed w p making.Count = inl (record { asks_is = refl; then = by p.marking; nothing = λ e g. refl; alone = λ u v x. x }) where
+    by : (marking : Bool) → uncounted (new.made_task w (place.at_stage p (cond marking (making.Ended false) (making.LoadTrigger ((found + 8 * p.slot) % 2 ^ 64)))) (place.given_at (cond marking (making.Ended false) (making.LoadTrigger ((found + 8 * p.slot) % 2 ^ 64))))) ≡ 0
+    by true = refl
+    by false = refl
+  placed w p (making.LoadTrigger bytes) = inr (inr (record { same = by (nat_le found bytes); silent = λ y. absurd (let x = y.0 in cc); nothing = λ e g. refl })) where
+    by : (reached : Bool) → uncounted (new.made_task w (place.at_stage p (making.Ended reached)) (Some reached)) ≡ 0
+    by true = refl
+    by false = refl
+  placed w p (making.Ended wants) = inr (inr (record { same = refl; silent = λ y. absurd (let x = y.0 in cc); nothing = λ e g. refl }))
 
   ended_gc : (g : ℕ) (x : wait.Waiting) (out : Option (Unit {0})) → uncounted (after_gc m g x out).task ≡ 0
   ended_gc g x None = refl
@@ -162,6 +169,7 @@ module _ (shapes : List Shape) (m : Processor) (found : ℕ) where
     new_kind w (Search waited q) = inr (inr (record { same = searched w waited (search.goes q found) (cache_span m w.sought (search.goes q found).find.cached) (search.gives q found); silent = λ y. y; nothing = refused_made shapes (new.refuses waited (search.gives q found)) w }))
     new_kind w (Wait y) = inr (inr (record { same = waited_for w (wait.goes (wait.waiting y m.poll) found) (wait.gives (wait.waiting y m.poll) found); silent = λ y. y; nothing = λ e g. refl }))
     new_kind w (Place p) = placed w p p.stage
+    new_kind w (Want n) = inr (inr (record { same = refl; silent = λ y. y; nothing = λ e g. refl }))
   kind (task.Gc g x) busy = inr (inr (record { same = ended_gc g (wait.goes (wait.waiting x m.poll) found) (wait.gives (wait.waiting x m.poll) found); silent = λ y. y; nothing = acting_made shapes (is_some (wait.gives (wait.waiting x m.poll) found)) (op.Gc g) tt }))
   kind task.Poll busy = inr (inr (record { same = ended_poll (poll.goes m.poll found) (poll.gives m.poll found); silent = λ y. y; nothing = acting_made shapes (is_some (poll.gives m.poll found)) op.Poll tt }))
   kind (task.End g) busy = inr (inr (record { same = refl; silent = λ y. y; nothing = λ e h. refl }))
@@ -174,6 +182,7 @@ module _ (shapes : List Shape) (m : Processor) (found : ℕ) where
     by_stage w (Search waited q) is = (refl, searched w waited (search.goes q found) (cache_span m w.sought (search.goes q found).find.cached) (search.gives q found))
     by_stage w (Wait y) is = absurd cc
     by_stage w (Place p) is = absurd cc
+    by_stage w (Want n) is = absurd cc
   sweeps_plain _ sw is = absurd cc
 
 -- who rests sweeps nothing

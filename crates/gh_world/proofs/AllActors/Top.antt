@@ -6,9 +6,11 @@ use Rattle.gh_world.specs.declared.handshake.Actor.{Actor}
 use Rattle.gh_world.specs.declared.handshake.Actor.TheVariants as actor
 use Rattle.gh_world.specs.Actors.{may_of}
 use Rattle.gh_world.specs.HoldVocabulary.{acks_of, Coordinating, Entry, IsInLimits, Layout, Op, Pacing, Shape, ShapesAreGood}
+use Rattle.gh_world.proofs.AllActors.Beside.{not_beginning}
 use Rattle.gh_world.proofs.AllActors.Known.{Known, ListsKnown}
 use Rattle.gh_world.proofs.AllActors.Marks as marks
 use Rattle.gh_world.proofs.AllActors.MarksLast as last
+use Rattle.gh_world.proofs.AllActors.Scanned.{rests}
 use Rattle.gh_world.proofs.AllActors.Steps as steps
 use Rattle.gh_world.proofs.AllActors.Wanted.{Wanted}
 use Rattle.gh_world.proofs.CycleMarking.Asked.{KnowsHeap}
@@ -69,6 +71,7 @@ module _ (shapes : List Shape) (l : Layout) (pacing : Pacing) (counts : ℕ → 
   pub knows_heap : KnowsHeap (steps.z shapes l pacing counts good limits known wanted lists) pacing (may_of shapes l counts)
   knows_heap = record {
     begins = λ es c legal led b was. steps.begins shapes l pacing counts good limits known wanted lists es c legal led b (holds es legal was c led);
+    scanned = λ es c legal led b was. rests shapes l pacing (may_of shapes l counts) known lists es legal was c led (λ on. not_beginning c.stage on b);
     objects = marks.objects shapes l pacing (may_of shapes l counts) known;
     lasts = λ e es c then legal led led_then on x s t is was_good good_then k ge went left none words_are. last.lasts shapes l pacing (may_of shapes l counts) limits known lists e es legal ge then led_then on x s t k was_good good_then went none words_are;
   }

@@ -141,6 +141,7 @@ module _ (back : PackedWordsAreReadBack) (stops : ℕ) where
       in_new x is (making.Wait y) here k = let w = waits_parked (wait.waiting y m.poll) k in inl (new_still x y is here w.0 w.1)
       in_new x is (making.Search waited q) here k = absurd k
       in_new x is (making.Place p) here k = absurd k
+      in_new x is (making.Want n) here k = absurd k
 
       in_leave : (x : Leaving) → (s : LeaveStage) → x.stage ≡ s → leave.is_busy x.stage ≡ true → IsParked stops (leaves_at s) → ⊥
       in_leave x (leaving.Giving g) is b k = k

@@ -13,7 +13,7 @@ use Rattle.gh_world.specs.declared.handshake.Actor.TheVariants as actor
 use Rattle.gh_world.specs.Handshake.{asks, Sound as SoundActor}
 use Rattle.gh_world.specs.HoldVocabulary.{Rests}
 use Rattle.gh_world.specs.Sweepers.{IsInSweep, sweep_of}
-use Rattle.gh_world.proofs.Vocabulary.{Actor, actors, actors_after, Arena, arena, Ask, cell_of, effect, Entry, HasState, is_busy, IsAwake, Layout, Legal, Load, Op, Pacing, Resumed, Shape, started, State, StateGood, those, View, WorkerStage, Words, words}
+use Rattle.gh_world.proofs.Vocabulary.{Actor, actors, actors_after, Arena, arena, Ask, cell_of, effect, Entry, HasState, Held, is_busy, IsAwake, Layout, Legal, Load, Op, Pacing, Resumed, Shape, started, State, StateGood, those, View, WorkerStage, Words, words}
 use Rattle.gh_world.proofs.AllActors.Known.{Known, ListsKnown}
 use Rattle.gh_world.proofs.AllActors.Sweepers as sweepers
 use Rattle.gh_world.proofs.CycleMarking.Seats.{IsSeated, seated, worker_started, works}
@@ -29,6 +29,10 @@ module _ (w : worker.Working) (m : Sweeping) where
     pub awake : IsAwake (working.stands_at p)
     pub view_is : (working.party_at w p).view ≡ w.view
 
+  backs_none : (stops : ℕ) (held : Option Held) → worker.sweep_at (worker.gives_back w stops held) ≡ Some m → ⊥
+  backs_none stops None is = cc
+  backs_none stops (Some h) is = cc
+
   gives_none : (g : give.BufferGiving) (stops : ℕ) (out : Option (Unit {0})) → worker.sweep_at (worker.after_give w g stops out).stage ≡ Some m → ⊥
   gives_none g stops None is = cc
   gives_none g stops (Some x) is = cc
@@ -38,6 +42,7 @@ module _ (w : worker.Working) (m : Sweeping) where
   resumes_none r (Some x) is = cc
 
   awake_at : (p : WorkerStage) (found : ℕ) → worker.sweep_at (worker.goes_at w p found).stage ≡ Some m → IsAwakeAt p
+  awake_at (working_at.EarningAtStop x stops) found is = absurd (backs_none stops w.held is)
   awake_at (working_at.GiveBack g stops) found is = absurd (gives_none (give.goes g found) stops (give.gives g found) is)
   awake_at (working_at.Resuming r) found is = absurd (resumes_none (resume.goes r found) (resume.gives r found) is)
   awake_at working_at.Leave found is = absurd (cc)

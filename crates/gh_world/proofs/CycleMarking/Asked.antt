@@ -1,5 +1,5 @@
 -- What holds while a cycle is marked, after every legal list of all actors; and what steps of processors and the heap have to keep for it.
-use Rattle.std.specs.Prelude.{◌≡◌, ◌≢◌, ℕ, ◌<◌, ◌≤◌, Bool, true, List, ◌∷◌}
+use Rattle.std.specs.Prelude.{◌≡◌, ◌≢◌, ℕ, ◌+◌, ◌*◌, ◌<◌, ◌≤◌, Bool, true, List, ◌∷◌}
 use Rattle.gh_base.specs.declared.cell.Cell.TheVariants as cell
 use Rattle.gh_base.specs.Lists.{Legal, started}
 use Rattle.gh_marks.specs.Colours.{Cycle, Placing, Shared}
@@ -15,8 +15,12 @@ use Rattle.gh_worker.specs.Listing as worker
 use Rattle.gh_worker.specs.MarkFacts as marks
 use Rattle.gh_world.specs.declared.handshake.Actor.TheVariants as actor
 use Rattle.gh_world.specs.ActorsHold.{IsKnown}
+use Rattle.gh_world.specs.Counts.{stored_in}
 use Rattle.gh_world.specs.HoldVocabulary.{acks_of, actors_after, Arena, Entry, IsBeginning, IsStartOf, MarkFacts, Op, Pacing, Processor, processor_kind}
 use Rattle.gh_world.specs.Marking.{EndsClean, IsChecked, IsLedBy, IsStateOf, setting, words}
+use Rattle.gh_world.specs.Scanned.{most_scanned, scanned_in}
+use Rattle.gh_world.proofs.Scanned.Levels.{NoneBeyond}
+use Rattle.gh_world.proofs.Scanned.Weights.{counted}
 
 -- A step of a worker or of the coordinator: the objects of the cycle are the same, and the words of pages, slots and pointer bits are as they were.
 pub record LeavesObjects (s t : Shared) : Type 0 where
@@ -61,6 +65,9 @@ module _ (arena : Arena) (pacing : Pacing) (may_begin : ℕ → List (Entry Op) 
     pub workers : (a : ℕ) (w : worker.Working) → a < acks_of arena.layout → actors_after arena pacing may_begin es a ≡ actor.Marks w → marks.Facts cycle a shared w
     -- the coordinator has nothing in hand, and nobody is at a seat behind it
     pub coordinator : (a : ℕ) → acks_of arena.layout ≤ a → Hands a shared nothing
+    -- what workers have scanned is no more than the cycles before had, and so much of this one
+    pub scanned : scanned_in arena.shapes arena.layout pacing es ≤ stored_in cell.Gen es * most_scanned arena.layout + counted arena.layout shared
+    pub none_beyond : NoneBeyond cycle shared
 
   -- and where the coordinator has checked it, all that is reached is marked
   pub record MarksToTheEnd (es : List (Entry Op)) (c : coord.Coordinating) : Type 0 where
@@ -75,6 +82,8 @@ module _ (arena : Arena) (pacing : Pacing) (may_begin : ℕ → List (Entry Op) 
   pub record KnowsHeap : Type 0 where
     -- where a cycle begins; what was marked before may be used for that
     pub begins : (es : List (Entry Op)) (c : coord.Coordinating) → Legal (setting arena pacing may_begin) es → IsLedBy arena pacing may_begin es c → IsBeginning c.stage → WasMarked es → MayBegin es c
+    -- by then workers have scanned no more than the cycles had that have ended
+    pub scanned : (es : List (Entry Op)) (c : coord.Coordinating) → Legal (setting arena pacing may_begin) es → IsLedBy arena pacing may_begin es c → IsBeginning c.stage → WasMarked es → scanned_in arena.shapes arena.layout pacing es ≤ stored_in cell.Gen es * most_scanned arena.layout
     -- while it is marked, the words that are read of an object of the cycle say what its words are
     pub objects : (z : Cycle) (s : Shared) (es : List (Entry Op)) → Good z s → Knows z s es → KnowsObjects z s
     -- and what is known of it lasts while workers and the coordinator step, by moves of theirs that fill no slot, as long as the cycle is marked

@@ -1,6 +1,9 @@
 -- The steps of a worker that does not sweep: they write no word of pages, slots and pointer bits.
 use Rattle.std.proofs.Common.{◌≡◌, ℕ, Bool, true, false, cond, eqb, refl, Option, Some, None}
 use Rattle.gh_base.specs.declared.cell.Cell.TheVariants as cell
+use Rattle.gh_credit.specs.declared.earn.EarnStage.{EarnStage}
+use Rattle.gh_credit.specs.declared.earn.EarnStage.TheVariants as earning
+use Rattle.gh_credit.specs.Earning as earn
 use Rattle.gh_phase.specs.declared.resume.ResumeStage.TheVariants as resuming
 use Rattle.gh_phase.specs.Listing as resume
 use Rattle.gh_scan.specs.declared.scan.ScanStage.TheVariants as scanning
@@ -58,6 +61,9 @@ swaps_buffer b old new = record {
   bitmap = λ w i. swapped w b new (cell.Bitmap i) (eqb (w (cell.Buffer b)) old) refl;
 }
 
+adds_bank : (x : ℕ) → LeavesHeap (Add cell.Bank x)
+adds_bank x = record { page = λ w i. refl; alloc = λ w i. refl; bitmap = λ w i. refl }
+
 claims_global : LeavesHeap (Add cell.Gcur 1)
 claims_global = record { page = λ w i. refl; alloc = λ w i. refl; bitmap = λ w i. refl }
 
@@ -101,6 +107,10 @@ scans s (scanning.Shading sh) = shades sh sh.stage
 scans s (scanning.FindRoom sh r) = finds_room r r.stage
 scans s _ = loads _
 
+earns : (x : earn.Earning) (p : EarnStage) → LeavesHeap (earn.asks_at x p)
+earns x earning.Add = adds_bank x.words
+earns x earning.Ended = loads _
+
 resumes : (r : resume.Resuming) (p : ResumeStage) → LeavesHeap (resume.asks_at r p)
 resumes r resuming.Acknowledge = stores_ack r.seat _
 resumes r _ = loads _
@@ -110,10 +120,12 @@ module _ (w : Working) where
   works_at work.LoadPhase n b = loads _
   works_at work.LoadPage n b = loads _
   works_at (work.Sweeping sw) n b = absurd cc
+  works_at (work.EarningAtStop x stops) n b = earns x x.stage
   works_at (work.GiveBack g stops) n b = gives g.stage
   works_at (work.Resuming r) n b = resumes r r.stage
   works_at (work.Taking t) n b = takes t t.stage
   works_at (work.Scanning s) n b = scans s s.stage
+  works_at (work.Earning x) n b = earns x x.stage
   works_at work.Claim n b = claims_global
   works_at (work.Shading sh) n b = shades sh sh.stage
   works_at (work.FindRoom sh r) n b = finds_room r r.stage

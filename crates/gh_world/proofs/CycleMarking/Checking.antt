@@ -109,7 +109,7 @@ module _ (l : Layout) (number : ℕ) (words : Words) (s : Coordinating) (marks :
   stopped st None m = m
   stopped st (Some x) m = m
 
-  opening : (o : opens_by.CycleOpening) (p : OpenStage) (found : ℕ) → o.stage ≡ p → opens_by.is_busy p ≡ true → To (Open o) (after_open (at_stage u (Open (record o { stage = opens_by.behind p }))) (opens_by.given_at (opens_by.behind p)))
+  opening : (o : opens_by.CycleOpening) (p : OpenStage) (found : ℕ) → o.stage ≡ p → opens_by.is_busy p ≡ true → To (Open o) (after_open (at_stage u (Open (opens_by.goes_at o p found))) (opens_by.given_at (opens_by.behind p)))
   opening o open_stage.StorePhase found e b = begins e (rw e (record { quiet = λ sh. tt; aside = stores_phase _ })) refl tt
   opening o open_stage.Ended found e b = absurd cc
   opening o _ found e b = leaves (λ m. m)

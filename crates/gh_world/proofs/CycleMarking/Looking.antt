@@ -19,6 +19,7 @@ use Rattle.gh_wbuf.specs.BufferGiving as give
 use Rattle.gh_wbuf.specs.EntryTaking as take
 use Rattle.gh_wbuf.specs.RoomFinding as room
 use Rattle.gh_worker.specs.declared.worker.WorkerStage.TheVariants as work
+use Rattle.gh_worker.specs.Choices.{by_stop, by_work}
 use Rattle.gh_worker.specs.Handshake as working
 use Rattle.gh_worker.specs.Listing as worker
 use Rattle.gh_world.specs.declared.handshake.Actor.TheVariants as actor
@@ -42,9 +43,15 @@ module _ (found : ℕ) (w : Working) where
   abbrev Finds : WorkerStage → Working → Type 0
   Finds stage to = Looks to.stage → FindsOff found w stage to
 
+  gives_back : (stops : ℕ) (held : Option Held) → Looks (worker.gives_back w stops held) → ⊥
+  gives_back stops None l = l
+  gives_back stops (Some h) l = l
+
   stops_at : (stops : ℕ) (held : Option Held) → Looks (worker.stops_at w stops held) → ⊥
-  stops_at stops None l = l
-  stops_at stops (Some h) l = l
+  stops_at stops held = by_stop (λ p. Looks p → ⊥) w stops held (λ e. gives_back stops held) (λ l. l)
+
+  with_work : (scan_work : ℕ) → Looks (worker.with_work w.layout scan_work) → ⊥
+  with_work scan_work = by_work (λ p. Looks p → ⊥) w.layout scan_work (λ l. l) (λ l. l)
 
   by_phase : (stops : ℕ) (phase : Phase) → (phase_of found).phase ≡ phase → Finds work.LoadPhase (worker.at_stage w (worker.by_phase w stops phase))
   by_phase stops kind.Off e l = record { view_stays = refl; finds = inr (refl, ap run_phase e) }
@@ -79,15 +86,15 @@ module _ (found : ℕ) (w : Working) where
 
   after_scan : (s : scan.Scanning) (out : Option ℕ) → Looks (worker.after_scan w s out).stage → ⊥
   after_scan s None l = l
-  after_scan s (Some words) l = l
+  after_scan s (Some words) l = with_work (worker.counted w.scan_work words) l
 
   after_global : (b : Bool) → Looks (cond b (worker.done_with w w.held 1) (worker.at_stage w (work.Shading (shade.opening w.layout (scan.reference_in w.layout found) w.held)))).stage → ⊥
-  after_global true l = l
+  after_global true l = with_work (worker.counted w.scan_work 1) l
   after_global false l = l
 
   after_shade : (sh : shade.Shading) (out : Option Shaded) → Looks (worker.after_shade w sh out).stage → ⊥
   after_shade sh None l = l
-  after_shade sh (Some shaded.Done) l = l
+  after_shade sh (Some shaded.Done) l = with_work (worker.counted w.scan_work 1) l
   after_shade sh (Some shaded.WantsRoom) l = l
 
   after_room : (sh : shade.Shading) (r : room.RoomFinding) (out : Option Held) → Looks (worker.after_room w sh r out).stage → ⊥
@@ -106,10 +113,12 @@ module _ (found : ℕ) (w : Working) where
   finds_at work.LoadPhase l = by_phase (phase_of found).stops (phase_of found).phase refl l
   finds_at work.LoadPage l = after_page (page_of found) l
   finds_at (work.Sweeping sw) l = after_sweep sw (sweep.goes sw found) (sweep.gives sw found) l
+  finds_at (work.EarningAtStop x stops) l = absurd (gives_back stops w.held l)
   finds_at (work.GiveBack g stops) l = absurd (after_give (give.goes g found) stops (give.gives g found) l)
   finds_at (work.Resuming r) l = absurd (after_resume (resume.goes r found) (resume.gives r found) l)
   finds_at (work.Taking t) l = absurd (after_take (take.goes t found) (take.gives t found) l)
   finds_at (work.Scanning s) l = absurd (after_scan (scan.goes s found) (scan.gives s found) l)
+  finds_at (work.Earning x) l = absurd l
   finds_at work.LoadCursor l = absurd (cursor_leads (ltb found w.layout.globals) l)
   finds_at work.Claim l = absurd (claim_leads (ltb found w.layout.globals) l)
   finds_at (work.LoadGlobal i) l = absurd (after_global (found == 0) l)

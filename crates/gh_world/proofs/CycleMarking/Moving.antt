@@ -1,5 +1,6 @@
 -- One entry more while a cycle is marked, by the actor that makes it: its step is made of moves of marking, and what is known of all others lasts. And the begin of a cycle.
-use Rattle.std.proofs.Common.{◌≡◌, ◌≢◌, ℕ, suc, ◌/◌, ◌%◌, ◌<◌, ◌≤◌, ◌==◌, Bool, true, false, refl, sym, ap, subst, ◌∙◌, arith, List, ◌∷◌, Some, None}
+use Rattle.std.proofs.Common.{◌≡◌, ◌≢◌, ℕ, suc, ◌+◌, ◌/◌, ◌%◌, ◌<◌, ◌≤◌, ◌==◌, Bool, true, false, refl, sym, ap, subst, ◌∙◌, arith, List, ◌∷◌, Some, None}
+use Rattle.std.proofs.Math.Nat.{mul-le-mul_right}
 use Rattle.gh_base.specs.declared.cell.Cell.TheVariants as cell
 use Rattle.gh_marks.specs.Laws.{Begins, EachHandFollows, EachHandLasts, EachStepGoesByMoves, StepsGoByMoves}
 use Rattle.gh_marks.specs.Moves.{goes, moved, Others, Quiet, SameExtent, stays, Steps}
@@ -14,13 +15,19 @@ use Rattle.gh_worker.specs.Listing as worker
 use Rattle.gh_worker.specs.MarkFacts as marks
 use Rattle.gh_world.specs.declared.handshake.Actor.TheVariants as actor
 use Rattle.gh_world.specs.Handshake.{asks, Sound}
+use Rattle.gh_world.specs.Counts.{stored_in}
 use Rattle.gh_world.specs.Marking.{IsLedBy, setting, words}
+use Rattle.gh_world.specs.Scanned.{done_by, most_scanned, scanned_by}
 use Rattle.gh_world.proofs.Vocabulary.{acks_of, Actor, actors, actors_after, Acts, alloc_words, Arena, Ask, bit_at, cell_of, CoordStage, Cycle, effect, Entry, Hands, is_busy, IsBeginning, KeepsIt, Kind, Legal, MarkFacts, Marking as Shared, MarkingBegins, MarkingGood as Good, nat_tests, nothing, Op, Open, PackedWordsAreReadBack, Pacing, Party, place_of, Processor, processor_kind, Row, row_bit, seats_of, started, Stopped, WaitsWithNone, Went, Words, WorkerStage}
 use Rattle.gh_world.proofs.CycleMarking.Asked.{IsInMarking, Knows, KnowsHeap, LeavesObjects, MayBegin, StepsByMoves, WasMarked}
 use Rattle.gh_world.proofs.CycleMarking.Beside.{LeavesHeap, works_so}
 use Rattle.gh_world.proofs.CycleMarking.Checking.{IsLight}
 use Rattle.gh_world.proofs.CycleMarking.Placing.{places_none}
 use Rattle.gh_world.proofs.CycleMarking.Seats.{IsSeated, lead_started, leads, other, runs, seated, worker_started, works}
+use Rattle.gh_world.proofs.Scanned.Levels.{beyond_goes}
+use Rattle.gh_world.proofs.Scanned.Routines.{has_step}
+use Rattle.gh_world.proofs.Scanned.Weights.{counted, stored_rises}
+use Rattle.gh_world.proofs.Scanned.Works as scanned
 
 -- a bit is that of its word
 same_bit : (r q : Row) (o : ℕ) → r (o / 64) ≡ q (o / 64) → row_bit q o ≡ 1 → row_bit r o ≡ 1
@@ -125,6 +132,15 @@ module _ (arena : Arena) (pacing : Pacing) (may : ℕ → List (Entry Op) → Op
         go true x = subst (λ (y : ℕ). Hands y t nothing) (same b x) (own_hand (subst (λ (y : ℕ). n ≤ y) (sym (same b x)) le))
         go false x = known.last z b s t nothing (step.others b (differs b x)) (i.coordinator b le)
 
+      -- what its seat is done with is counted
+      scans : (m : Actor) → at es a ≡ m → scanned_by arena.shapes arena.layout pacing e es + counted arena.layout s ≤ counted arena.layout t
+      scans m is = subst (λ (x : Actor). done_by x e.found + counted arena.layout s ≤ counted arena.layout t) (sym is) (subst (λ (r : Arena). done_by m e.found + counted r.layout s ≤ counted r.layout t) i.is.arena_is (go m is)) where
+        go : (m : Actor) → at es a ≡ m → done_by m e.found + counted z.arena.layout s ≤ counted z.arena.layout t
+        go (actor.Runs m) is = scanned.none_done known.steps z a s t i.good (heap.objects z s es i.good i.known) i.none_beyond went
+        go (actor.Marks w) is = scanned.works known.steps z a s t i.good (heap.objects z s es i.good i.known) i.none_beyond went w e.found (has_step arena.shapes arena.layout pacing es a w is)
+            (i.workers a w (subst (IsSeated arena.layout a) is (seated arena.shapes arena.layout pacing es a)).1 is) (own_worker (worker.goes w e.found) (works arena.shapes arena.layout pacing e es w is))
+        go (actor.Leads x) is = scanned.none_done known.steps z a s t i.good (heap.objects z s es i.good i.known) i.none_beyond went
+
       next : In (e ∷ es) to
       next = record {
         cycle = z;
@@ -135,6 +151,8 @@ module _ (arena : Arena) (pacing : Pacing) (may : ℕ → List (Entry Op) → Op
         processors = processors;
         workers = workers;
         coordinator = coordinator;
+        scanned = let before = i.scanned in let more = scans (at es a) refl in let ended = mul-le-mul_right (most_scanned arena.layout) (stored_rises cell.Gen e.ask (stored_in cell.Gen es)) in omega (arith, before, more, ended);
+        none_beyond = beyond_goes z a s t went i.none_beyond;
       }
 
     -- the words behind the step
@@ -228,7 +246,7 @@ module _ (arena : Arena) (pacing : Pacing) (may : ℕ → List (Entry Op) → Op
     -- a worker that waits is at its seat
     seat_at : (w : worker.Working) (a : ℕ) (r : resume.Resuming) → w.stage ≡ Resuming r → working.Sound w → (working.party_of w).seat ≡ a → w.seat ≡ a
     seat_at w a r e s is =
-        let on : working.GoesOnWithNone w.seat w.held r = subst (working.SoundAt w) e s in
+        let on : working.GoesOnWithNone w.seat w.held w.scan_work r = subst (working.SoundAt w) e s in
         sym on.seat_is ∙ (ap (λ (x : WorkerStage). (working.party_at w x).seat) (sym e) ∙ is)
 
     worker_knows : (a : ℕ) (w : worker.Working) → a < n → at es a ≡ actor.Marks w → marks.Facts opened.cycle a opened.shared w
@@ -258,4 +276,6 @@ module _ (arena : Arena) (pacing : Pacing) (may : ℕ → List (Entry Op) → Op
       processors = opened.processors;
       workers = worker_knows;
       coordinator = λ a le. begun.seats a;
+      scanned = let before = heap.scanned es c legal led b was in omega (arith, before);
+      none_beyond = λ i le. opened.opens.untouched i;
     }

@@ -1,4 +1,4 @@
--- A processor of the heap asks for a cycle once in an operation, at the begin of its wait, and only a `new` or a `gc` waits.
+-- A processor of the heap asks for a cycle once in a wait, at its begin, and once behind the making of an object: so a `new` asks twice at the most, a `gc` once, and no other operation.
 use Rattle.std.proofs.Common.{◌≡◌, ℕ, suc, ◌+◌, ◌≤◌, ◌⊎◌, inl, inr, Bool, true, false, cond, refl, ap, arith, List, Option, Some, None}
 use Rattle.gh_base.specs.declared.cell.Cell.TheVariants as cell
 use Rattle.gh_base.specs.declared.operation.Op.TheVariants as op
@@ -14,26 +14,27 @@ use Rattle.gh_mutator.specs.Poll as poll
 use Rattle.gh_mutator.specs.Register as register
 use Rattle.gh_mutator.specs.Store as store
 use Rattle.gh_mutator.specs.Wait as wait
-use Rattle.gh_mutator.specs.Writing.{WantsAt}
+use Rattle.gh_mutator.specs.Writing.{BeginsToWait, BeginsToWaitAt, SawReached, SawReachedAt}
 use Rattle.gh_world.specs.Numbers.{asks_for_one}
-use Rattle.gh_world.proofs.Vocabulary.{after_gc, after_leave, after_poll, Ask, asked_after, asks, At, begins, begins_at, cache_span, Cell, Ends, follows, Found, GoesOn, IsWanting, IsWritten, Leaving, NewStage, NoRoom, Op, Or, Place, Placing, Polling, Processor, register_of, Search, Seeking, Shape, takes, takes_at, Task, Then, Wait, WaitStage, Wanted, WritesOf}
+use Rattle.gh_world.proofs.Vocabulary.{after_gc, after_leave, after_poll, Ask, asked_after, asks, At, begins, begins_at, cache_span, Cell, Ends, follows, Found, GoesOn, IsWanting, IsWritten, Leaving, NewStage, NoRoom, Op, Or, Place, Placing, Polling, Processor, register_of, Search, Seeking, Shape, takes, takes_at, Task, Then, Wait, WaitStage, Want, Wanted, WritesOf}
 
--- an operation asks for one cycle at the most, and only where it may need one
+-- an operation asks for so many cycles at the most
 abbrev pub most_asks : Op → ℕ
-most_asks (op.New g d t) = 1
+most_asks (op.New g d t) = 2
 most_asks (op.Gc g) = 1
 most_asks _ = 0
 
--- how often it may still ask: at rest it may not; an operation that begins lets it ask once; and whenever it asks, nothing is left
+-- how often it may still ask: at rest it may not; an operation that begins lets it ask so often; and whenever it asks, less is left
 
 abbrev left_wait : WaitStage → ℕ
 left_wait waiting.Want = 1
 left_wait _ = 0
 
 abbrev left_new : NewStage → ℕ
-left_new (Search waited q) = cond waited 0 1
-left_new (Wait w) = left_wait w.stage
-left_new (Place p) = 0
+left_new (Search waited q) = cond waited 1 2
+left_new (Wait w) = suc (left_wait w.stage)
+left_new (Place p) = 1
+left_new (Want n) = 1
 
 abbrev left_at : Task → ℕ
 left_at (task.New x) = left_new x.stage
@@ -54,7 +55,7 @@ pub begun_asks : (shapes : List Shape) (m : Processor) (o : Op) (b : Bool) → l
 begun_asks shapes m o true = omega arith
 begun_asks shapes m o false = more (left_at (begins_at shapes m o)) (left m) (most_asks o) (begin_asks shapes m o)
 
--- A step: where it asks, nothing is left; and it adds nothing.
+-- A step: where it asks, less is left; and it adds nothing.
 
 follows_asks : {S : Type 0} (goes : S → Task) → ((s : S) → left_at (goes s) ≡ 0) → (t : Then S) → left_at (follows goes t) ≡ 0
 follows_asks goes none (GoesOn s) = none s
@@ -73,27 +74,28 @@ module _ (shapes : List Shape) (m : Processor) (found : ℕ) where
     go false = refl
   waits_on w waiting.Ended = refl
 
-  found_asks : (c : Processor) (w : Wanted) (waited : Bool) (f : Found) → left (new.after_found shapes c w waited f) ≤ cond waited 0 1
+  found_asks : (c : Processor) (w : Wanted) (waited : Bool) (f : Found) → left (new.after_found shapes c w waited f) ≤ cond waited 1 2
   found_asks c w true (At a) = omega arith
   found_asks c w false (At a) = omega arith
   found_asks c w true NoRoom = omega arith
   found_asks c w false NoRoom = omega arith
 
-  search_asks : (c : Processor) (w : Wanted) (waited : Bool) (q : Seeking) (o : Option Found) → left (new.after_search shapes c w waited q o) ≤ cond waited 0 1
+  search_asks : (c : Processor) (w : Wanted) (waited : Bool) (q : Seeking) (o : Option Found) → left (new.after_search shapes c w waited q o) ≤ cond waited 1 2
   search_asks c w waited q None = omega arith
   search_asks c w waited q (Some f) = found_asks c w waited f
 
-  wait_asks : (w : Wanted) (x : wait.Waiting) (o : Option (Unit {0})) → left_wait x.wait.stage ≡ 0 → left (new.after_wait m w x o) ≡ 0
-  wait_asks w x None none = none
+  wait_asks : (w : Wanted) (x : wait.Waiting) (o : Option (Unit {0})) → left_wait x.wait.stage ≡ 0 → left (new.after_wait m w x o) ≡ 1
+  wait_asks w x None none = ap suc none
   wait_asks w x (Some y) none = refl
 
   gc_asks : (g : ℕ) (x : wait.Waiting) (o : Option (Unit {0})) → left_wait x.wait.stage ≡ 0 → left (after_gc m g x o) ≡ 0
   gc_asks g x None none = none
   gc_asks g x (Some y) none = refl
 
-  place_asks : (w : Wanted) (p : Placing) (b : Bool) → left_at (cond b (new.makes w p) task.Idle) ≡ 0
-  place_asks w p true = refl
-  place_asks w p false = refl
+  place_asks : (w : Wanted) (p : Placing) (asks : Option Bool) → left_at (new.made_task w p asks) ≤ 1
+  place_asks w p None = omega arith
+  place_asks w p (Some true) = omega arith
+  place_asks w p (Some false) = omega arith
 
   poll_asks : (p : Polling) (o : Option (Unit {0})) → left (after_poll m p o) ≡ 0
   poll_asks p None = refl
@@ -108,8 +110,9 @@ module _ (shapes : List Shape) (m : Processor) (found : ℕ) where
 
   new_adds : (w : Wanted) (s : NewStage) → left (new.takes_at shapes m w s found) ≤ left_new s
   new_adds w (Search waited q) = search_asks (cache_span m w.sought (search.goes q found).find.cached) w waited (search.goes q found) (search.gives q found)
-  new_adds w (Wait x) = at_most _ (left_wait x.stage) (wait_asks w (wait.goes (wait.waiting x m.poll) found) (wait.gives (wait.waiting x m.poll) found) (waits_on (wait.waiting x m.poll) x.stage))
-  new_adds w (Place p) = at_most _ 0 (place_asks w (place.goes p found) (place.is_busy (place.goes p found).stage))
+  new_adds w (Wait x) = let one = wait_asks w (wait.goes (wait.waiting x m.poll) found) (wait.gives (wait.waiting x m.poll) found) (waits_on (wait.waiting x m.poll) x.stage) in omega (arith, one)
+  new_adds w (Place p) = place_asks w (place.goes p found) (place.gives p found)
+  new_adds w (Want n) = omega arith
 
   adds_nothing : (t : Task) → left (takes_at shapes m t found) ≤ left_at t ⊎ (left (takes_at shapes m t found) ≤ left m)
   adds_nothing task.Idle = inr (omega arith)
@@ -127,16 +130,34 @@ module _ (shapes : List Shape) (m : Processor) (found : ℕ) where
   no_more : left (takes shapes m found) ≤ left m
   no_more = elim (adds_nothing m.task) [ inl x ↦ x | inr x ↦ x ]
 
-  -- where it waits for the first time, it asks, and goes on to poll
-  new_wants : (w : Wanted) (s : NewStage) → WantsAt s → (left_new s ≡ 1) × (left (new.takes_at shapes m w s found) ≡ 0)
-  new_wants w (Search waited q) is = absurd is
-  new_wants w (Place p) is = absurd is
-  new_wants w (Wait x) is = (ap left_wait is, wait_asks w (wait.goes (wait.waiting x m.poll) found) (wait.gives (wait.waiting x m.poll) found) (waits_on (wait.waiting x m.poll) x.stage))
+  -- where it begins to wait, it asks, and goes on to poll
+  new_begins : (w : Wanted) (s : NewStage) → BeginsToWaitAt s → suc (left (new.takes_at shapes m w s found)) ≤ left_new s
+  new_begins w (Wait x) is =
+      let first : left_wait x.stage ≡ 1 = ap left_wait is in
+      let one = wait_asks w (wait.goes (wait.waiting x m.poll) found) (wait.gives (wait.waiting x m.poll) found) (waits_on (wait.waiting x m.poll) x.stage) in
+      omega (arith, first, one)
+  new_begins w _ is = absurd is
 
-  wants_at : (t : Task) → IsWanting t → (left_at t ≡ 1) × (left (takes_at shapes m t found) ≡ 0)
-  wants_at (task.New x) is = new_wants x.wanted x.stage is
-  wants_at (task.Gc g x) is = (ap left_wait is, gc_asks g (wait.goes (wait.waiting x m.poll) found) (wait.gives (wait.waiting x m.poll) found) (waits_on (wait.waiting x m.poll) x.stage))
-  wants_at _ is = absurd is
+  begins_at_wait : (t : Task) → BeginsToWait t → suc (left (takes_at shapes m t found)) ≤ left_at t
+  begins_at_wait (task.New x) is = new_begins x.wanted x.stage is
+  begins_at_wait (task.Gc g x) is =
+      let first : left_wait x.stage ≡ 1 = ap left_wait is in
+      let none = gc_asks g (wait.goes (wait.waiting x m.poll) found) (wait.gives (wait.waiting x m.poll) found) (waits_on (wait.waiting x m.poll) x.stage) in
+      omega (arith, first, none)
+  begins_at_wait _ is = absurd is
+
+  -- and where it has seen the trigger reached, and ends
+  new_saw : (w : Wanted) (s : NewStage) → SawReachedAt s → suc (left (new.takes_at shapes m w s found)) ≤ left_new s
+  new_saw w (Want n) is = omega arith
+  new_saw w _ is = absurd is
+
+  saw_trigger : (t : Task) → SawReached t → suc (left (takes_at shapes m t found)) ≤ left_at t
+  saw_trigger (task.New x) is = new_saw x.wanted x.stage is
+  saw_trigger _ is = absurd is
+
+  wants_at : (t : Task) → IsWanting t → suc (left (takes_at shapes m t found)) ≤ left_at t
+  wants_at t (inl is) = begins_at_wait t is
+  wants_at t (inr is) = saw_trigger t is
 
   -- the step asks for a cycle there alone
   or_asks : (c : Cell) (bits : ℕ) → WritesOf (IsWritten m) (Or c bits) → asks_for_one (Or c bits) ≡ true → IsWanting m.task
@@ -151,4 +172,4 @@ module _ (shapes : List Shape) (m : Processor) (found : ℕ) where
   asked_once w = go (asks_for_one (asks m)) refl where
     go : (b : Bool) → asks_for_one (asks m) ≡ b → cond b (suc (left (takes shapes m found))) (left (takes shapes m found)) ≤ left m
     go false is = no_more
-    go true is = let x = wants_at m.task (asks_there (asks m) w is) in let one = x.0 in let none = x.1 in omega (arith, one, none)
+    go true is = wants_at m.task (asks_there (asks m) w is)

@@ -1,5 +1,5 @@
--- How few cycles there are: no more than statements that may ask for one, and the last.
-use Rattle.std.proofs.Common.{◌≡◌, ◌≢◌, ℕ, suc, ◌+◌, ◌<◌, ◌≤◌, ◌==◌, nat_lt, zero, Bool, true, false, cond, refl, sym, ap, subst, ◌∙◌, arith, List, [], ◌∷◌, Option, Some, None}
+-- How few cycles there are: no more than two for each statement that may ask for one, and the last.
+use Rattle.std.proofs.Common.{◌≡◌, ◌≢◌, ℕ, suc, ◌+◌, ◌*◌, ◌<◌, ◌≤◌, ◌==◌, nat_lt, Bool, true, false, cond, refl, sym, ap, subst, ◌∙◌, arith, List, [], ◌∷◌, Option, Some, None}
 use Rattle.gh_base.specs.declared.operation.Op.TheVariants as op
 use Rattle.gh_coord.specs.declared.open.OpenStage.TheVariants as open_stage
 use Rattle.gh_coord.specs.Listing as coord
@@ -11,7 +11,7 @@ use Rattle.gh_world.proofs.Vocabulary.{Actor, Ask, asked_after, Begins, bit, by,
 use Rattle.gh_world.proofs.CycleMarking.Seats.{other}
 use Rattle.gh_world.proofs.CycleNumbers.Asking.{asked_once, begun_asks, left, most_asks}
 use Rattle.gh_world.proofs.CycleNumbers.Quiet.{worker_quiet}
-use Rattle.gh_world.proofs.CycleNumbers.Sums.{total_at, total_below, total_same}
+use Rattle.gh_world.proofs.CycleNumbers.Sums.{total_at, total_below, total_none, total_same}
 use Rattle.gh_world.proofs.CycleNumbers.Wanting.{aside as lead_aside}
 use Rattle.gh_world.proofs.CycleNumbers.Seats as seats
 
@@ -76,10 +76,6 @@ module _ (shapes : List Shape) (l : Layout) (pacing : Pacing) (may : ℕ → Lis
   first_left a m = rw (ltb_so a l.procs m) refl where
     ltb_so : (a n : ℕ) → a < n → nat_lt a n ≡ true
     ltb_so a n m = grind (arith, nat_tests, m)
-
-  total_none : (f : ℕ → ℕ) (n : ℕ) → ((i : ℕ) → i < n → f i ≡ 0) → total f n ≡ 0
-  total_none f zero h = refl
-  total_none f (suc n) h = let rest = total_none f n (λ i m. h i (omega (arith, m))) in let last = h n (omega arith) in omega (arith, rest, last)
 
   module _ (e : Entry Op) (es : List (Entry Op)) (legal : Lawful (e ∷ es)) where
     stays : (a : ℕ) → e.actor ≢ a → left_at (e ∷ es) a ≡ left_at es a
@@ -162,25 +158,25 @@ module _ (shapes : List Shape) (l : Layout) (pacing : Pacing) (may : ℕ → Lis
   none_of : (es : List (Entry Op)) → total (λ h. 0 + asked_by h es) l.goroutines ≡ 0 + total (begun_by es) l.goroutines
   none_of es = let same = total_same (begun_by es) (λ h. 0 + asked_by h es) l.goroutines (λ i m. omega arith) in omega (arith, same)
 
-  begun_so : (e : Entry Op) (es : List (Entry Op)) (o : Option Op) → Begins (seats.it shapes l pacing may) e.actor es o → total (λ h. cond (asks_collector h o) 1 0 + asked_by h es) l.goroutines ≡ may_ask o + total (begun_by es) l.goroutines
-  begun_so e es (Some (op.New g d t)) b = one_of es g (may_so e.actor es (Some (op.New g d t)) g b (grind (arith, nat_tests))).there
-  begun_so e es (Some (op.Gc g)) b = one_of es g (may_so e.actor es (Some (op.Gc g)) g b (grind (arith, nat_tests))).there
-  begun_so e es _ b = none_of es
+  begun_so : (e : Entry Op) (es : List (Entry Op)) (o : Option Op) → Begins (seats.it shapes l pacing may) e.actor es o → may_ask o + 2 * total (begun_by es) l.goroutines ≤ 2 * total (λ h. cond (asks_collector h o) 1 0 + asked_by h es) l.goroutines
+  begun_so e es (Some (op.New g d t)) b = let one = one_of es g (may_so e.actor es (Some (op.New g d t)) g b (grind (arith, nat_tests))).there in omega (arith, one)
+  begun_so e es (Some (op.Gc g)) b = let one = one_of es g (may_so e.actor es (Some (op.Gc g)) g b (grind (arith, nat_tests))).there in omega (arith, one)
+  begun_so e es _ b = let none = none_of es in omega (arith, none)
 
-  begun_all : (es : List (Entry Op)) → Lawful es → total (begun_by es) l.goroutines ≡ may_ask_in es
-  begun_all [] legal = total_none (begun_by []) l.goroutines (λ i m. refl)
+  begun_all : (es : List (Entry Op)) → Lawful es → may_ask_in es ≤ 2 * total (begun_by es) l.goroutines
+  begun_all [] legal = omega arith
   begun_all (e ∷ es) legal = let now = begun_so e es e.begun legal.1.begins in let rest = begun_all es legal.0 in omega (arith, now, rest)
 
   pub few : (wants : (es : List (Entry Op)) (c : coord.Coordinating) → Lawful es → at es (seats.n shapes l pacing may) ≡ actor.Leads c → CountsWants (seats.it shapes l pacing may) es c) → (es : List (Entry Op)) → Lawful es → AreFew counts l es
   few wants es legal = record { asked = asked; opened = opened; few = let most = begins.counts_fit in omega (arith, most, opened) } where
-    asked : asked_in es ≤ total counts l.goroutines
+    asked : asked_in es ≤ 2 * total counts l.goroutines
     asked =
         let first = asked_few es legal in
         let second = begun_all es legal in
         let third = total_below (begun_by es) counts l.goroutines (λ g m. within_counts es g m legal) in
         omega (arith, first, second, third)
 
-    opened : opened_in es ≤ total counts l.goroutines + 1
+    opened : opened_in es ≤ 2 * total counts l.goroutines + 1
     opened =
         let b = seats.led_by shapes l pacing may es in
         let w = (wants es b.lead legal b.led_by).enough in

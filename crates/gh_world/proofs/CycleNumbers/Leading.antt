@@ -61,12 +61,12 @@ module _ (room : ℕ) where
     stopping st next (Some x) few h = record { at = keeps (stop.asks st) _ Numbered (stop_quiet w st st.stage) (to_numbered room opened n (own_of s) few h); reads = tt }
 
     -- a cycle is opened
-    opening : (o : opens_by.CycleOpening) (p : OpenStage) → opens_by.is_busy p ≡ true → o.cycle ≡ s.begun → In (part_of (Open (record o { stage = p }))) →
-        Next (opens_by.asks_at o p) (after_open (at_stage u (Open (record o { stage = opens_by.behind p }))) (opens_by.given_at (opens_by.behind p)))
-    opening o open_stage.ClearWant b e h = record { at = to_opened room opened n (own_of s) h; reads = tt }
-    opening o open_stage.StoreBegun b e h = rw e (record { at = to_begun room opened n (own_of s) h; reads = tt })
-    opening o open_stage.Ended b e h = absurd cc
-    opening o _ b e h = record { at = h; reads = tt }
+    opening : (o : opens_by.CycleOpening) (p : OpenStage) (found : ℕ) → opens_by.is_busy p ≡ true → o.cycle ≡ s.begun → In (part_of (Open (record o { stage = p }))) →
+        Next (opens_by.asks_at o p) (after_open (at_stage u (Open (opens_by.goes_at o p found))) (opens_by.given_at (opens_by.behind p)))
+    opening o open_stage.ClearWant found b e h = record { at = to_opened room opened n (own_of s) h; reads = tt }
+    opening o open_stage.StoreBegun found b e h = rw e (record { at = to_begun room opened n (own_of s) h; reads = tt })
+    opening o open_stage.Ended found b e h = absurd cc
+    opening o _ found b e h = record { at = h; reads = tt }
 
     -- it is marked
     watching : (v next : watch.Watching) (out : Option Watched) → In Begun → Next (watch.asks v) (after_watch (at_stage u (Watch next)) out)
@@ -133,7 +133,7 @@ module _ (room : ℕ) where
     goes_so (LoadAck i) found e few b f h = acks i _ _ h.at
     goes_so LoadWant found e few b f h = wants _ h.at
     goes_so (Stop st) found e few b f h = stopping st (stop.goes st found) (stop.gives st found) few h.at
-    goes_so (Open o) found e few b f h = opening o o.stage b (open_cycle o e) h.at
+    goes_so (Open o) found e few b f h = opening o o.stage found b (open_cycle o e) h.at
     goes_so (Watch v) found e few b f h = watching v (watch.goes v found) (watch.gives v found) h.at
     goes_so (StopAgain st) found e few b f h = stopping_again st (stop.goes st found) (stop.gives st found) h.at
     goes_so (Check v) found e few b f h = checking v (watch.goes v found) (watch.gives v found) few h.at

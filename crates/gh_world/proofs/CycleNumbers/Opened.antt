@@ -92,13 +92,13 @@ module _ (s : Coordinating) (marks : ℕ) where
   stopping p next None h = absurd h
   stopping p next (Some x) h = absurd h
 
-  opening : (o : opens_by.CycleOpening) (p : OpenStage) →
-      IsOpened (after_open (at_stage u (Open (record o { stage = opens_by.behind p }))) (opens_by.given_at (opens_by.behind p))).stage →
-      ((p ≡ open_stage.ClearWant) ⊎ past_clear p) × ((after_open (at_stage u (Open (record o { stage = opens_by.behind p }))) (opens_by.given_at (opens_by.behind p))).begun ≡ s.begun)
-  opening o open_stage.ClearWant h = (inl refl, refl)
-  opening o open_stage.StorePhase h = absurd h
-  opening o open_stage.Ended h = absurd h
-  opening o _ h = (inr tt, refl)
+  opening : (o : opens_by.CycleOpening) (p : OpenStage) (found : ℕ) →
+      IsOpened (after_open (at_stage u (Open (opens_by.goes_at o p found))) (opens_by.given_at (opens_by.behind p))).stage →
+      ((p ≡ open_stage.ClearWant) ⊎ past_clear p) × ((after_open (at_stage u (Open (opens_by.goes_at o p found))) (opens_by.given_at (opens_by.behind p))).begun ≡ s.begun)
+  opening o open_stage.ClearWant found h = (inl refl, refl)
+  opening o open_stage.StorePhase found h = absurd h
+  opening o open_stage.Ended found h = absurd h
+  opening o _ found h = (inr tt, refl)
 
   watching : (p : CoordStage) (next : watch.Watching) (out : Option Watched) → Opens p (after_watch (at_stage u (Watch next)) out)
   watching p next None h = absurd h
@@ -138,7 +138,7 @@ module _ (s : Coordinating) (marks : ℕ) where
   opened (LoadAck i) found b h = acks i (LoadAck i) _ _ h
   opened LoadWant found b h = wants LoadWant (found == 0) h
   opened (Stop st) found b h = stopping (Stop st) (stop.goes st found) (stop.gives st found) h
-  opened (Open o) found b h = opening o o.stage h
+  opened (Open o) found b h = opening o o.stage found h
   opened (Watch v) found b h = watching (Watch v) (watch.goes v found) (watch.gives v found) h
   opened (StopAgain st) found b h = stopping_again (StopAgain st) (stop.goes st found) (stop.gives st found) h
   opened (Check v) found b h = checking (Check v) (watch.goes v found) (watch.gives v found) h

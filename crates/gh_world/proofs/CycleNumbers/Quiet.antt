@@ -1,5 +1,5 @@
 -- Steps that write none of the words of cycles: those of sweeps and of workers; and the coordinator's where it stops the world, looks and checks, sweeps, and loads what was counted.
-use Rattle.std.proofs.Common.{◌≡◌, ℕ, Bool, true, false, eqb, refl, sym, ap, subst, inl}
+use Rattle.std.proofs.Common.{◌≡◌, ℕ, Bool, true, false, eqb, refl, sym, ap, subst, inl, inr}
 use Rattle.gh_base.specs.declared.cell.Cell.TheVariants as cell
 use Rattle.gh_coord.specs.declared.count.CountStage.TheVariants as count_stage
 use Rattle.gh_coord.specs.declared.stop.StopStage.TheVariants as stop_stage
@@ -78,7 +78,8 @@ module _ (w : Words) where
   own_quiet seat (Store c value) h = let f = written_free seat c h in record { opens_none = f.opens_none value; asks_none = λ b. refl; want = f.want value; scanned = f.scanned value; numbers = f.numbers value }
   own_quiet seat (Or c bits) h = let f = written_free seat c h in record { opens_none = λ b. refl; asks_none = f.asks_none bits; want = f.want _; scanned = f.scanned _; numbers = f.numbers _ }
   own_quiet seat (And c bits) h = let f = written_free seat c h in record { opens_none = λ b. refl; asks_none = λ b. refl; want = f.want _; scanned = f.scanned _; numbers = f.numbers _ }
-  own_quiet seat (Add c more) h = rw h.0 (record { opens_none = λ b. refl; asks_none = λ b. refl; want = refl; scanned = λ g. refl; numbers = refl })
+  own_quiet seat (Add c more) (inl h) = rw h.0 (record { opens_none = λ b. refl; asks_none = λ b. refl; want = refl; scanned = λ g. refl; numbers = refl })
+  own_quiet seat (Add c more) (inr h) = rw h (record { opens_none = λ b. refl; asks_none = λ b. refl; want = refl; scanned = λ g. refl; numbers = refl })
   own_quiet seat (Swap c old new) h = swap_quiet c old new (written_free seat c h) _ refl
 
   module _ (works : WorkersWriteTheirOwn) (v : worker.Working) (sound : working.Sound v) (busy : worker.is_busy v.stage ≡ true) where

@@ -12,11 +12,12 @@ use Rattle.gh_mutator.specs.Processor.{opening_processor}
 use Rattle.gh_mutator.specs.Writing.{ProcessorWritesItsOwn}
 use Rattle.gh_coord.specs.Handshake as leading
 use Rattle.gh_coord.specs.Listing as coord
+use Rattle.gh_worker.specs.Handshake as working
 use Rattle.gh_worker.specs.Listing as worker
-use Rattle.gh_worker.specs.Writing.{CalmWorkersMarkNothing, IsCalm, Rests}
+use Rattle.gh_worker.specs.Writing.{CalmWorkersMarkNothing, IsCalm}
 use Rattle.gh_world.specs.declared.handshake.Actor.{Actor}
 use Rattle.gh_world.specs.declared.handshake.Actor.TheVariants as actor
-use Rattle.gh_world.specs.Handshake.{KeepsIt, Pacing, WaitsWithNone}
+use Rattle.gh_world.specs.Handshake.{KeepsIt, Pacing, Sound, WaitsWithNone}
 use Rattle.gh_world.specs.Waits.{WorkersRest}
 use Rattle.gh_world.proofs.CycleMarking.Seats.{other}
 use Rattle.gh_world.proofs.CycleNumbers.Leaving.{leaves_marking, Leaving}
@@ -41,9 +42,9 @@ module _ (shapes : List Shape) (l : Layout) (pacing : Pacing) (may : ℕ → Lis
     go false false x = absurd cc
     go false true x = let it : worker.opening l a ≡ w = cc in subst IsCalm it (calm.at_first l a)
 
-  -- where the world is stopped it waits, with nothing held
-  waits : (stops : ℕ) (w : worker.Working) → WaitsWithNone stops w → IsCalm w
-  waits stops w h = record { none = h.none; rests = subst Rests (sym h.is_at) tt }
+  -- where the world is stopped it waits, with nothing held and nothing to hand over
+  waits : (stops : ℕ) (w : worker.Working) → working.Sound w → WaitsWithNone stops w → IsCalm w
+  waits stops w sound h = calm.after_stop w h.routine sound h.is_at
 
   module _ (e : Entry Op) (es : List (Entry Op)) (legal : Legal (seats.it shapes l pacing may) (e ∷ es)) (before : Rest es) where
     worker_at : (a : ℕ) (w : worker.Working) → at (e ∷ es) a ≡ actor.Marks w → a < n
@@ -82,7 +83,7 @@ module _ (shapes : List Shape) (l : Layout) (pacing : Pacing) (may : ℕ → Lis
 
         by : Leaving b.stage → IsCalm w
         by (inl y) = before b a w x.is y was_worker
-        by (inr y) = waits _ w ((keeps es legal.0).workers_wait b _ a w x.is y lt was_worker)
+        by (inr y) = waits _ w (subst (Sound l) was_worker ((keeps es legal.0).shakes.all_sound a (omega (arith, lt)))) ((keeps es legal.0).workers_wait b _ a w x.is y lt was_worker)
 
   pub rest : (es : List (Entry Op)) → Legal (seats.it shapes l pacing may) es → Rest es
   rest [] legal = λ c a w led off is. first_worker a w is

@@ -11,6 +11,18 @@ pub total_below : (f g : ℕ → ℕ) (n : ℕ) → ((i : ℕ) → i < n → f i
 total_below f g zero h = omega arith
 total_below f g (suc n) h = let rest = total_below f g n (λ i m. h i (omega (arith, m))) in let last = h n (omega arith) in omega (arith, rest, last)
 
+pub total_none : (f : ℕ → ℕ) (n : ℕ) → ((i : ℕ) → i < n → f i ≡ 0) → total f n ≡ 0
+total_none f zero h = refl
+total_none f (suc n) h = let rest = total_none f n (λ i m. h i (omega (arith, m))) in let last = h n (omega arith) in omega (arith, rest, last)
+
+-- none is more than all
+pub total_has : (f : ℕ → ℕ) (n p : ℕ) → p < n → f p ≤ total f n
+total_has f zero p m = absurd (omega (arith, m))
+total_has f (suc n) p m = go (n == p) refl (λ x. total_has f n p x) where
+  go : (b : Bool) → (n == p) ≡ b → (p < n → f p ≤ total f n) → f p ≤ total f (suc n)
+  go true e before = let is : f n ≡ f p = ap f (grind (arith, nat_tests, e)) in omega (arith, is)
+  go false e before = let rest = before (let l = m in grind (arith, nat_tests, e)) in omega (arith, rest)
+
 -- they differ at one place alone
 pub total_at : (f g : ℕ → ℕ) (n p : ℕ) → p < n → ((i : ℕ) → i < n → i ≢ p → g i ≡ f i) → total g n + f p ≡ total f n + g p
 total_at f g zero p m h = absurd (omega (arith, m))

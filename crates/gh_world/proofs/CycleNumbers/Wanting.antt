@@ -71,12 +71,12 @@ module _ (opened asked : ℕ) (w : Words) (s : Coordinating) (marks : ℕ) where
     go false (inl y) e = absurd cc
     go false (inr y) e = omega (arith, y, e)
 
-  opening : (o : opens_by.CycleOpening) (p : OpenStage) → opens_by.is_busy p ≡ true → In (Open (record o { stage = p })) →
-      Next (opens_by.asks_at o p) (after_open (at_stage u (Open (record o { stage = opens_by.behind p }))) (opens_by.given_at (opens_by.behind p)))
-  opening o open_stage.ClearWant b h = clearing o h
-  opening o open_stage.StorePhase b h = within (Open (record o { stage = open_stage.StorePhase })) (Watch (watch.opening s.layout s.begun)) refl refl (λ x. x) (λ x. x) h
-  opening o open_stage.Ended b h = absurd cc
-  opening o _ b h = within _ _ refl refl (λ x. x) (λ x. cc) h
+  opening : (o : opens_by.CycleOpening) (p : OpenStage) (found : ℕ) → opens_by.is_busy p ≡ true → In (Open (record o { stage = p })) →
+      Next (opens_by.asks_at o p) (after_open (at_stage u (Open (opens_by.goes_at o p found))) (opens_by.given_at (opens_by.behind p)))
+  opening o open_stage.ClearWant found b h = clearing o h
+  opening o open_stage.StorePhase found b h = within (Open (record o { stage = open_stage.StorePhase })) (Watch (watch.opening s.layout s.begun)) refl refl (λ x. x) (λ x. x) h
+  opening o open_stage.Ended found b h = absurd cc
+  opening o _ found b h = within _ _ refl refl (λ x. x) (λ x. cc) h
 
   -- it is marked
   watching : (v next : watch.Watching) (out : Option Watched) → In (Watch v) → Next (watch.asks v) (after_watch (at_stage u (Watch next)) out)
@@ -135,7 +135,7 @@ module _ (opened asked : ℕ) (w : Words) (s : Coordinating) (marks : ℕ) where
   goes_so (LoadAck i) found b f h = acks i _ _ h
   goes_so LoadWant found b f h = wants (found == 0) found f refl h
   goes_so (Stop st) found b f h = stopping st (stop.goes st found) (stop.gives st found) h
-  goes_so (Open o) found b f h = opening o o.stage b h
+  goes_so (Open o) found b f h = opening o o.stage found b h
   goes_so (Watch v) found b f h = watching v (watch.goes v found) (watch.gives v found) h
   goes_so (StopAgain st) found b f h = stopping_again st (stop.goes st found) (stop.gives st found) h
   goes_so (Check v) found b f h = checking v (watch.goes v found) (watch.gives v found) h

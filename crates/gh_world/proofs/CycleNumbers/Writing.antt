@@ -95,6 +95,7 @@ module _ (m : Processor) (g value : ℕ) where
   new_knows (making.Wait y) is = waits_know y y.stage is
   new_knows (making.Search w q) is = refl
   new_knows (making.Place p) is = refl
+  new_knows (making.Want n) is = refl
 
   pub knows_at : (t : Task) → Store (cell.Scanned g) value ≡ asks_at m t → (party_at m.poll t).view ≡ m.poll.local.view
   knows_at (task.New x) is = new_knows x.stage is

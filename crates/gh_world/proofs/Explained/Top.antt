@@ -2,16 +2,22 @@
 use Rattle.std.proofs.Common.{◌≡◌, ℕ, ◌+◌, ◌^◌, ◌<◌, ◌≤◌, true, List, [], ◌∷◌, length, map, reverse, refl, sym, ap, subst, ◌∙◌, arith, inl, inr}
 use Rattle.std.specs.List.{filter}
 use Rattle.std.proofs.lemmas.Bool.{cases_lt}
+use Rattle.gh_coord.specs.declared.coord.CoordStage.{CoordStage}
+use Rattle.gh_coord.specs.declared.coord.CoordStage.TheVariants.{Done}
+use Rattle.gh_coord.specs.Handshake as leading
 use Rattle.gh_coord.specs.Listing as coord
+use Rattle.gh_coord.specs.Listing.{lapsed_at}
 use Rattle.gh_model.specs.declared.EverValue.TheVariants as values
 use Rattle.gh_world.specs.declared.handshake.Actor.TheVariants as actor
 use Rattle.gh_world.specs.Actors.{Awaits}
+use Rattle.gh_world.specs.Credit.{CreditStands, EveryListBalances, lapsed_in}
 use Rattle.gh_world.specs.Order.{acted_in, Answered}
+use Rattle.gh_world.specs.Runs.{CreditIsTold}
 use Rattle.gh_world.specs.Vocabulary.{acts, Coordinating, Entry, Ever, Layout, Legal, Name, Op, opening_ever, processor_kind, Program, Reach, state_of, statements_of, WellFormed}
 use Rattle.gh_world.specs.RunVocabulary.{actor_after, AllStands, answers_given, AreFew, AreLive, arena_of, before_step, count_of, CyclesAreFew, EachOperationActsOnce, ever_after_list, ever_of, EveryListKeepsIt, EveryListOfAScriptStands, EveryRunIsExplained, has_ended, is_statement_of, IsExplained, IsHeld, IsMade, IsRun, IsStartOf, LaysOut, LeavesTheReached, may_begin_of, OnlyPointsChange, op_of, order_of, outcome_by, pacing_of, ProcessorsBeginFew, ProcessorWritesItsOwn, SetBitsAreCounted, setting_of, SlotsAreRead, total_of, wishes_of, WorkersWriteTheirOwn}
 use Rattle.gh_world.proofs.Asking.{asked_of}
 use Rattle.gh_world.proofs.EachOnce.{acted_ops, none_beyond}
-use Rattle.gh_world.proofs.OfScripts.{few_in_all, many_wishes}
+use Rattle.gh_world.proofs.OfScripts.{few_in_all, many_wishes, shapes_good}
 use Rattle.gh_world.proofs.Turning.{count-le}
 use Rattle.gh_world.proofs.Wishing.{filter_few}
 use Rattle.gh_world.proofs.Explained.Acted.{Acted, acted_all, answers_in, ever_is, map-reverse, ops_in}
@@ -35,6 +41,7 @@ pub record Laws : Type 0 where
   pub works : WorkersWriteTheirOwn
   pub keeps : EveryListKeepsIt
   pub few : CyclesAreFew
+  pub balances : EveryListBalances
   pub begins_few : ProcessorsBeginFew
   pub bits : SetBitsAreCounted
   pub slots : SlotsAreRead
@@ -136,6 +143,28 @@ module _ (laws : Laws) (p : Program) (l : Layout) (formed : WellFormed p) (out :
     lives = subst (λ (e : Ever). AreLive p.shapes e (outcome_by (answers_given p l es) c).objects c.live) (same_ever es)
         (are_live laws.classes laws.slots laws.bits p l known every (λ xs legal. (every xs legal).objects.named) made es c run.legal led done (some_swept p l known es c run.legal led (is_done c.stage done)) stands.objects.fits (stands.counts c led) last held (more_made es) few_made)
 
+    -- at the end all credit is settled
+    credit : CreditIsTold p l es (outcome_by (answers_given p l es) c)
+    credit =
+        let b : CreditStands p.shapes l (pacing_of p) (may_begin_of p l) es = laws.balances p.shapes l (pacing_of p) (wishes_of p) es (shapes_good p formed) l.limits (few_in_all p l formed out) run.legal in
+        let at_end : c.stage ≡ Done = is_done c.stage done in
+        let s = b.settled c led (subst (λ (q : CoordStage). leading.Marks q → ⊥) (sym at_end) (λ x. x)) in
+        let lapsed : lapsed_in es ≡ c.lapsed = s.lapsed ∙ ap (lapsed_at c.lapsed) at_end in
+        let balanced = b.balanced in
+        let unspent = b.unspent in
+        let empty = s.empty in
+        let left = s.none_left in
+        let scanned = b.scanned in
+        let few = b.few in
+        record {
+          earned = omega (arith, lapsed, balanced, unspent, empty);
+          spent = sym unspent;
+          lapsed = sym lapsed;
+          balanced = omega arith;
+          scanned = omega (arith, lapsed, balanced, unspent, empty, left, scanned);
+          few = omega (arith, lapsed, balanced, unspent, empty, left, scanned, few);
+        }
+
     pub explained : IsExplained p l es (outcome_by (answers_given p l es) c)
     explained = record {
       run = run;
@@ -155,6 +184,7 @@ module _ (laws : Laws) (p : Program) (l : Layout) (formed : WellFormed p) (out :
       cycles = cycles_are p l known es c run.legal led done (stands.counts c led);
       frees = stands.frees;
       frees_within_two = stands.frees_within_two;
+      credit = credit;
       live = lives;
     }
 

@@ -1,25 +1,12 @@
 -- At every moment: while a cycle is marked there is a buffer with room, and else all have.
-use Rattle.std.proofs.Common.{◌≡◌, ◌⊎◌, inl, inr, ℕ, Bool, true, false, refl, sym, subst, ◌∙◌, arith, List}
+use Rattle.std.proofs.Common.{inl, inr, ℕ, Bool, refl, sym, subst, arith, List}
 use Rattle.gh_room.specs.Room.{BuffersHaveRoom, HasRoom}
-use Rattle.gh_coord.specs.Closing as close
-use Rattle.gh_coord.specs.Handshake as leading
 use Rattle.gh_world.specs.Actors.{AllStands}
 use Rattle.gh_world.specs.Room.{RoomStands}
-use Rattle.gh_world.proofs.Vocabulary.{Check, Close, CoordStage, Entry, Layout, MarkOn, Op, Pacing, Shape, StopAgain, Watch, words}
+use Rattle.gh_world.proofs.Vocabulary.{Entry, Layout, Op, Pacing, Shape, words}
 use Rattle.gh_world.proofs.AllActors.Going.{led_then}
+use Rattle.gh_world.proofs.CycleNumbers.Leaving.{marks_or_not}
 use Rattle.gh_world.proofs.HavingRoom.Marked.{marked_has_room}
-
--- a cycle is marked, or none is
-marks_or_not : (p : CoordStage) → leading.Marks p ⊎ (leading.Marks p → ⊥)
-marks_or_not (Watch w) = inl tt
-marks_or_not (StopAgain st) = inl tt
-marks_or_not (Check w) = inl tt
-marks_or_not MarkOn = inl tt
-marks_or_not (Close y) = go (close.is_marking y.stage) refl where
-  go : (b : Bool) → close.is_marking y.stage ≡ b → (close.is_marking y.stage ≡ true) ⊎ (close.is_marking y.stage ≡ true → ⊥)
-  go true e = inl e
-  go false e = inr (λ z. let no : true ≡ false = sym z ∙ e in cc)
-marks_or_not _ = inr (λ x. x)
 
 empty_has_room : HasRoom 0
 empty_has_room = record { free = refl; room = omega arith }

@@ -119,6 +119,7 @@ module _ (z : Cycle) (a : ℕ) (s : Marking) where
   new_has p (new_stage.Wait x) f = wait_has p x.stage f
   new_has p (new_stage.Place x) f = by_hand _ f.hands
   new_has p (new_stage.Search waited y) f = by_hand _ f.hands
+  new_has p (new_stage.Want n) f = by_hand _ f.hands
 
   task_has : (p : Polling) (t : Task) → TaskFacts z a s p t → HasSome
   task_has p task.Poll f = poll_has p f

@@ -3,6 +3,9 @@ use Rattle.std.proofs.Common.{◌≡◌, ℕ, ◌+◌, ◌-◌, ◌<◌, ◌≤�
 use Rattle.gh_base.specs.declared.pack.Phase.{Phase}
 use Rattle.gh_base.specs.declared.pack.PageWord.TheVariants as page_word
 use Rattle.gh_base.specs.declared.pack.Phase.TheVariants as phase
+use Rattle.gh_credit.specs.declared.earn.EarnStage.{EarnStage}
+use Rattle.gh_credit.specs.declared.earn.EarnStage.TheVariants as earn_at
+use Rattle.gh_credit.specs.Earning as earn
 use Rattle.gh_phase.specs.declared.resume.ResumeStage.TheVariants as resume_at
 use Rattle.gh_phase.specs.Listing as resume
 use Rattle.gh_scan.specs.Listing as scan
@@ -13,6 +16,7 @@ use Rattle.gh_wbuf.specs.BufferGiving as give
 use Rattle.gh_wbuf.specs.EntryTaking as take
 use Rattle.gh_wbuf.specs.RoomFinding as room
 use Rattle.gh_worker.specs.declared.worker.WorkerStage.TheVariants as at
+use Rattle.gh_worker.specs.Choices.{by_stop, by_work}
 use Rattle.gh_worker.specs.Listing as worker
 use Rattle.gh_worker.specs.Sound.{IsWorkersSeat}
 use Rattle.gh_world.proofs.Vocabulary.{cell_of, FitsGiveStage, Held, InRange, IsHeld, Layout, nat_tests, page_of, PageWord, phase_of, Resumed, ResumeStage, run_phase, RunPhase, Shaded, SweepEnd, WorkerStage, Working}
@@ -61,6 +65,11 @@ resume_within l r lt = by r.stage where
   by resume_at.Acknowledge = lt
   by _ = tt
 
+-- handing over what is scanned
+earn_within : (l : Layout) (x : earn.Earning) (p : EarnStage) → InRange l (cell_of (earn.asks_at x p))
+earn_within l x earn_at.Add = tt
+earn_within l x earn_at.Ended = tt
+
 module _ (w : Working) (f : FitsWhole w) where
   abbrev l : Layout
   l = w.layout
@@ -73,16 +82,19 @@ module _ (w : Working) (f : FitsWhole w) where
   at_stage stage s = on w.held stage f.held s
 
   done_with : (held : Option Held) (words : ℕ) → IsHeld l held → FitsWhole (worker.done_with w held words)
-  done_with held words h = record { pages = f.pages; seat = f.seat; held = h; page = f.page; stage = tt }
+  done_with held words h = record { pages = f.pages; seat = f.seat; held = h; page = f.page; stage = by_work (StageWithin l) l (worker.counted w.scan_work words) tt tt }
 
-  stops_at : (stops : ℕ) (held : Option Held) → IsHeld l held → StageWithin l (worker.stops_at w stops held)
-  stops_at stops None h = f.seat.below
-  stops_at stops (Some held) h = h
+  gives_back : (stops : ℕ) (held : Option Held) → IsHeld l held → StageWithin l (worker.gives_back w stops held)
+  gives_back stops None h = f.seat.below
+  gives_back stops (Some held) h = h
+
+  handed_over : (stage : WorkerStage) → StageWithin l stage → FitsWhole (worker.handed_over w stage)
+  handed_over stage s = record { pages = f.pages; seat = f.seat; held = f.held; page = f.page; stage = s }
 
   by_phase : (stops : ℕ) (found : Phase) → StageWithin l (worker.by_phase w stops found)
   by_phase stops phase.Off = tt
   by_phase stops phase.Mark = take_first l w.seat w.held f.held
-  by_phase stops phase.Stop = stops_at stops w.held f.held
+  by_phase stops phase.Stop = by_stop (StageWithin l) w stops w.held (λ e. gives_back stops w.held f.held) tt
   by_phase stops phase.Finished = tt
 
   -- the next page, which there is
@@ -147,10 +159,12 @@ module _ (w : Working) (f : FitsWhole w) where
   goes_at at.LoadPhase found s = at_stage _ (by_phase (phase_of found).stops (phase_of found).phase)
   goes_at at.LoadPage found s = after_page (page_of found)
   goes_at (at.Sweeping sw) found s = after_sweep (sweep.goes sw found) (sweep.gives sw found) (span_goes l sw found s)
+  goes_at (at.EarningAtStop x stops) found s = handed_over _ (gives_back stops w.held f.held)
   goes_at (at.GiveBack g stops) found s = after_give (give.goes g found) stops (give.gives g found) tt
   goes_at (at.Resuming r) found s = after_resume (resume.goes r found) (resume.gives r found) (rw (seat_stays r r.stage found) s)
   goes_at (at.Taking t) found s = after_take (take.goes t found) (take.gives t found) (take_goes l t found s) (taken l t found s)
   goes_at (at.Scanning x) found s = after_scan (scan.goes x found) (scan.gives x found) (scan_goes l x found s)
+  goes_at (at.Earning x) found s = handed_over at.LoadPhase tt
   goes_at at.LoadCursor found s = at_stage _ (cursor_leads (ltb found l.globals))
   goes_at at.Claim found s = at_stage _ (claim_leads found (ltb found l.globals) refl)
   goes_at (at.LoadGlobal i) found s = after_global found (found == 0)
@@ -162,10 +176,12 @@ module _ (w : Working) (f : FitsWhole w) where
   within_at : (p : WorkerStage) → StageWithin l p → InRange l (cell_of (worker.asks_at w p))
   within_at at.LoadPage s = f.page
   within_at (at.Sweeping sw) s = span_within l sw s
+  within_at (at.EarningAtStop x stops) s = earn_within l x x.stage
   within_at (at.GiveBack g stops) s = give_within l g s
   within_at (at.Resuming r) s = resume_within l r s
   within_at (at.Taking t) s = take_within l t s
   within_at (at.Scanning x) s = scan_within l x s
+  within_at (at.Earning x) s = earn_within l x x.stage
   within_at (at.LoadGlobal i) s = s
   within_at (at.Shading sh) s = shade_within l sh s
   within_at (at.FindRoom sh r) s = room_within l r s.1

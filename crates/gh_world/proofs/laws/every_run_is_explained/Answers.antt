@@ -11,6 +11,7 @@ returns c =
       works = c.a_worker_writes_its_own.ensures;
       keeps = c.every_list_keeps_the_handshake.ensures;
       few = c.cycles_are_few.ensures;
+      balances = c.every_list_balances.ensures;
       begins_few = c.processors_begin_few.ensures;
       bits = c.set_bits_are_counted.ensures;
       slots = c.slots_are_read.ensures;

@@ -1,11 +1,12 @@
 use Rattle.std.proofs.Common.{◌≡◌, ◌+◌, ◌≤◌, ℕ, length, vec_len, ap, subst, ◌∙◌, arith}
 use Rattle.std.specs.Vec.{vec_capacity}
-use Rattle.gh_base.specs.Cells.{IsLayoutOf}
+use Rattle.gh_base.specs.Cells.{IsLayoutOf, opening_words, Shows}
 use Rattle.gh_coord.specs.Listing as coord
 use Rattle.gh_coord.specs.Stopping.{acks_of}
 use Rattle.gh_script.specs.declared.statement.Settings.{Settings}
 use Rattle.gh_world.specs.Turns.{total_of}
 use Rattle.gh_world.specs.Wishes.{most_cycles}
+use Rattle.gh_world.specs.World.{setting_of}
 use Rattle.gh_world.proofs.Fitting.{others_open, runners_open}
 use Rattle.gh_world.proofs.OtherSteps.{after_opens, all_workers}
 use Rattle.gh_world.proofs.Parts.{of_parts}
@@ -43,4 +44,5 @@ returns-clause-opens c =
     c.in_ok-coord.ensures ∙ ap (λ (s : Settings). coord.opening l (s.procs + s.workers) s.gogc s.minheap c.most_cycles-cycles.result) c.settings-settings.ensures
     ∙ ap (λ (k : ℕ). coord.opening l (p.settings.procs + p.settings.workers) p.settings.gogc p.settings.minheap k) c.most_cycles-cycles.ensures.is
     ∙ ap (λ (k : ℕ). coord.opening l k p.settings.gogc p.settings.minheap (most_cycles p)) seat in
-    rw (c.in_ok-workers.ensures, leads, c.in_ok-points.ensures.items) (of_parts _ _ (after_opens p l c.in_ok-words.words c.in_ok-runners.runners.items c.in_ok-words.ensures c.in_ok-runners.ensures) (all_workers l))
+    let shows : Shows l c.in_ok-words.words (setting_of p l).opening = subst (λ (n : ℕ). Shows l c.in_ok-words.words (opening_words n)) c.opening_trigger-trigger.ensures c.in_ok-words.ensures in
+    rw (c.in_ok-workers.ensures, leads, c.in_ok-points.ensures.items) (of_parts _ _ (after_opens p l c.in_ok-words.words c.in_ok-runners.runners.items shows c.in_ok-runners.ensures) (all_workers l))

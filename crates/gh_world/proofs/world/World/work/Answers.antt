@@ -17,22 +17,22 @@ there c =
     let low : c.args.i < length c.self.inside.workers.items = subst (λ (w : State). c.args.i < length w.workers) (sym c.self.view_is) c.requires.there in
     slice_get_read c.self.inside.workers.items (length c.self.inside.workers.items) c.args.i c.index_mut-worker.result.now refl low c.index_mut-worker.ensures.value
 
-pub step_on-out-requires-clause-busy : goal.step_on-out-requires-clause-busy
-step_on-out-requires-clause-busy c = c.requires.busy c.index_mut-worker.result.now (ap (λ (w : State). slice_get w.workers c.args.i) (sym c.self.view_is) ∙ there (goal.at.step_on-out-requires-clause-busy c).After-index_mut-worker)
+pub step_of_worker-out-requires-clause-busy : goal.step_of_worker-out-requires-clause-busy
+step_of_worker-out-requires-clause-busy c = c.requires.busy c.index_mut-worker.result.now (ap (λ (w : State). slice_get w.workers c.args.i) (sym c.self.view_is) ∙ there (goal.at.step_of_worker-out-requires-clause-busy c).After-index_mut-worker)
 
-pub step_on-out-requires-clause-long : goal.step_on-out-requires-clause-long
-step_on-out-requires-clause-long c = c.self.invariant.base.long ∙ ap length_of (sym (c.self.invariant.others.laid c.args.i c.index_mut-worker.result.now (there (goal.at.step_on-out-requires-clause-long c).After-index_mut-worker)))
+pub step_of_worker-out-requires-clause-long : goal.step_of_worker-out-requires-clause-long
+step_of_worker-out-requires-clause-long c = c.self.invariant.base.long ∙ ap length_of (sym (c.self.invariant.others.laid c.args.i c.index_mut-worker.result.now (there (goal.at.step_of_worker-out-requires-clause-long c).After-index_mut-worker)))
 
 pub invariant_of-self : goal.invariant_of-self
 invariant_of-self c =
     let here = there (goal.at.invariant_of-self c).After-index_mut-worker in
     let laid = c.self.invariant.others.laid c.args.i c.index_mut-worker.result.now here in
-    let words : c.step_on-out.new.words ≡ changed (request c.self.inside.layout (asks c.index_mut-worker.result.now)) c.self.inside.words =
-    c.step_on-out.ensures.words ∙ ap (λ (l : Layout). changed (request l (asks c.index_mut-worker.result.now)) c.self.inside.words) laid in
+    let words : c.step_of_worker-out.new.words ≡ changed (request c.self.inside.layout (asks c.index_mut-worker.result.now)) c.self.inside.words =
+    c.step_of_worker-out.ensures.words ∙ ap (λ (l : Layout). changed (request l (asks c.index_mut-worker.result.now)) c.self.inside.words) laid in
     record {
       base = fits_again _ _ _ _ (request c.self.inside.layout (asks c.index_mut-worker.result.now)) words c.self.invariant.base;
       running = c.self.invariant.running;
-      others = subst (λ (x : Working). FitOthers c.self.inside.script.now c.self.inside.layout (set c.self.inside.workers.items c.args.i x) c.self.inside.coord) (sym c.step_on-out.ensures.machine)
+      others = subst (λ (x : Working). FitOthers c.self.inside.script.now c.self.inside.layout (set c.self.inside.workers.items c.args.i x) c.self.inside.coord) (sym c.step_of_worker-out.ensures.machine)
           (others_worked _ _ _ _ _ _ c.index_mut-worker.result.now here c.self.invariant.others);
     }
 
@@ -40,5 +40,5 @@ pub returns : goal.returns
 returns c =
     let here = there (goal.at.returns c).After-index_mut-worker in
     let laid = c.self.invariant.others.laid c.args.i c.index_mut-worker.result.now here in
-    subst (λ (w : State). IsStepOfWorker w (record { script = c.self.inside.script.now; layout = c.self.inside.layout; words = c.step_on-out.new.words; runners = c.self.inside.runners.items; workers = set c.self.inside.workers.items c.args.i c.step_on-out.new.machine; coord = c.self.inside.coord; points = c.self.inside.points.items }) c.args.i c.done_or.result) c.self.view_is
-    (work_is _ c.args.i c.index_mut-worker.result.now c.step_on-out.new.words c.step_on-out.new.machine c.step_on-out.result c.done_or.result here c.index_mut-worker.result.now.layout laid c.step_on-out.ensures.within c.step_on-out.ensures.words c.step_on-out.ensures.machine c.step_on-out.ensures.out c.done_or.ensures)
+    subst (λ (w : State). IsStepOfWorker w (record { script = c.self.inside.script.now; layout = c.self.inside.layout; words = c.step_of_worker-out.new.words; runners = c.self.inside.runners.items; workers = set c.self.inside.workers.items c.args.i c.step_of_worker-out.new.machine; coord = c.self.inside.coord; points = c.self.inside.points.items }) c.args.i c.done_or.result) c.self.view_is
+    (work_is _ c.args.i c.index_mut-worker.result.now c.step_of_worker-out.new.words c.step_of_worker-out.new.machine c.step_of_worker-out.result c.done_or.result here c.index_mut-worker.result.now.layout laid c.step_of_worker-out.ensures.within c.step_of_worker-out.ensures.words c.step_of_worker-out.ensures.machine c.step_of_worker-out.ensures.out c.done_or.ensures)

@@ -1,0 +1,5 @@
+-- Credit balances, after every list.
+pub mod Bank
+pub mod Lead
+pub mod Few
+pub mod Lists

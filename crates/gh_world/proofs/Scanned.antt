@@ -1,0 +1,5 @@
+-- What workers scan is counted once in a cycle.
+pub mod Levels
+pub mod Weights
+pub mod Routines
+pub mod Works
