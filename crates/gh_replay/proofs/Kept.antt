@@ -13,7 +13,7 @@ use Rattle.gh_coord.specs.Listing as coord
 use Rattle.gh_mutator.specs.declared.leave.LeaveStage.{LeaveStage}
 use Rattle.gh_mutator.specs.declared.leave.LeaveStage.TheVariants as leave_stage
 use Rattle.gh_mutator.specs.declared.new.NewStage.{NewStage}
-use Rattle.gh_mutator.specs.declared.new.NewStage.TheVariants.{Place, Search, Wait}
+use Rattle.gh_mutator.specs.declared.new.NewStage.TheVariants.{Place, Search, Wait, Want}
 use Rattle.gh_mutator.specs.declared.new.Wanted.{Wanted}
 use Rattle.gh_mutator.specs.declared.processor.Processor.{Processor}
 use Rattle.gh_mutator.specs.declared.step.Then.{Then}
@@ -25,7 +25,7 @@ use Rattle.gh_mutator.specs.Leave.{says_gone}
 use Rattle.gh_mutator.specs.Leave as leave
 use Rattle.gh_mutator.specs.Listing.{after_gc, after_leave, after_poll, begins_at, follows, takes_at}
 use Rattle.gh_mutator.specs.Listing as mutator
-use Rattle.gh_mutator.specs.New.{after_search, after_wait, makes}
+use Rattle.gh_mutator.specs.New.{after_search, after_wait, made_task}
 use Rattle.gh_mutator.specs.New as new
 use Rattle.gh_mutator.specs.Serving.{has_left_at, is_last}
 use Rattle.gh_mutator.specs.Stays.{leaves_on}
@@ -81,14 +81,16 @@ wait_on : (m : Processor) (w : Wanted) (x : Waiting) (out : Option (Unit {0})) �
 wait_on m w x None = refl
 wait_on m w x (Some y) = refl
 
-place_on : (w : Wanted) (p : Placing) (busy : Bool) → has_left_at (cond busy (makes w p) task.Idle) ≡ false
-place_on w p true = refl
-place_on w p false = refl
+place_on : (w : Wanted) (p : Placing) (asks : Option Bool) → has_left_at (made_task w p asks) ≡ false
+place_on w p None = refl
+place_on w p (Some true) = refl
+place_on w p (Some false) = refl
 
 new_on : (shapes : List Shape) (m : Processor) (w : Wanted) (s : NewStage) (found : ℕ) → has_left_at (new.takes_at shapes m w s found).task ≡ false
 new_on shapes m w (Search waited s) found = search_on shapes (record { poll = _; made = _; task = m.task }) w waited _ _
 new_on shapes m w (Wait x) found = wait_on m w _ _
 new_on shapes m w (Place p) found = place_on w _ _
+new_on shapes m w (Want n) found = refl
 
 gc_on : (m : Processor) (g : ℕ) (x : Waiting) (out : Option (Unit {0})) → has_left_at (after_gc m g x out).task ≡ false
 gc_on m g x None = refl

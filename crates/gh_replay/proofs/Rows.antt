@@ -8,8 +8,9 @@ use Rattle.std.proofs.lemmas.Option.{get_or_from_slice_get, slice_get-map, slice
 use Rattle.gh_base.specs.declared.value.Answer.{Answer}
 use Rattle.std.specs.Option.{option_map}
 use Rattle.gh_coord.specs.declared.cycles.Cycle.{Cycle}
-use Rattle.gh_lines.specs.Text.{MakerStands, SweptCycle, answer_line, answers_by, cycle_line, has_line, line_of_cycle, lines_from, lines_of, live_line, outcome_lines}
+use Rattle.gh_lines.specs.Text.{MakerStands, SweptCycle, answer_line, answers_by, credit_line, cycle_line, has_line, line_of_cycle, lines_from, lines_of, live_line, outcome_lines}
 use Rattle.gh_world.specs.Runs.{swept_cycle}
+use Rattle.gh_world.specs.declared.event.Totals.{Totals}
 use Rattle.gh_script.specs.Program.{Program}
 use Rattle.gh_replay.specs.declared.row.Row.{Row}
 use Rattle.gh_replay.specs.Report.{IsReportOf, ReportState, rows_from, rows_of}
@@ -109,12 +110,12 @@ abbrev pub told : List Cycle → List SweptCycle
 told cycles = map swept_cycle cycles
 
 -- what is seen of a report that holds these rows, these cycles and these totals is this
-module _ (p : Program) (report seen : ReportState) (rows : List Row) (cycles : List Cycle) (objects bytes i : ℕ) (r : IsReportOf p report) (are : rows ≡ rows_of seen.goroutines seen.outcome.answers) (is : seen ≡ report) (kept : told cycles ≡ seen.outcome.cycles) (live : (objects ≡ seen.outcome.objects) × (bytes ≡ seen.outcome.bytes)) where
+module _ (p : Program) (report seen : ReportState) (rows : List Row) (cycles : List Cycle) (totals : Totals) (i : ℕ) (r : IsReportOf p report) (are : rows ≡ rows_of seen.goroutines seen.outcome.answers) (is : seen ≡ report) (kept : told cycles ≡ seen.outcome.cycles) (credit : (totals.earned ≡ seen.outcome.earned) × (totals.spent ≡ seen.outcome.spent) × (totals.lapsed ≡ seen.outcome.lapsed)) (live : (totals.objects ≡ seen.outcome.objects) × (totals.live ≡ seen.outcome.bytes)) where
   abbrev first : List (List ℕ)
   first = lines_of p report.outcome.answers
 
   abbrev last : List (List ℕ)
-  last = live_line report.outcome.objects report.outcome.bytes ∷ []
+  last = credit_line report.outcome.earned report.outcome.spent report.outcome.lapsed ∷ live_line report.outcome.objects report.outcome.bytes ∷ []
 
   cycles_are : report.outcome.cycles ≡ told cycles
   cycles_are = ap (λ (s : ReportState). s.outcome.cycles) (sym is) ∙ sym kept
@@ -122,7 +123,7 @@ module _ (p : Program) (report seen : ReportState) (rows : List Row) (cycles : L
   cycles_long : length (map line_of_cycle report.outcome.cycles) ≡ length cycles
   cycles_long = length-map report.outcome.cycles line_of_cycle ∙ ap length cycles_are ∙ length-map cycles swept_cycle
 
-  pub all-long : length (outcome_lines p report.outcome) ≡ length rows + length cycles + 1
+  pub all-long : length (outcome_lines p report.outcome) ≡ length rows + length cycles + 2
   all-long =
       let a = length-append first (map line_of_cycle report.outcome.cycles ++ last) in
       let b = length-append (map line_of_cycle report.outcome.cycles) last in
@@ -146,14 +147,26 @@ module _ (p : Program) (report seen : ReportState) (rows : List Row) (cycles : L
       slice_get-get_or (outcome_lines p report.outcome) i [] low
       ∙ ap Some (behind high ∙ get_or_append_left (map line_of_cycle report.outcome.cycles) last [] (i - length rows) here ∙ get_or_from_slice_get (map line_of_cycle report.outcome.cycles) (i - length rows) (line_of_cycle (swept_cycle c)) [] at ∙ sym said)
 
-  pub all-live : (line : List ℕ) → i < length (outcome_lines p report.outcome) → length rows ≤ i → length cycles ≤ i - length rows → line ≡ live_line objects bytes → slice_get (outcome_lines p report.outcome) i ≡ Some line
-  all-live line low high past said =
-      let seam : i - length rows - length cycles ≡ 0 = omega (arith, low, all-long) in
-      let o : objects ≡ report.outcome.objects = live.0 ∙ ap (λ (s : ReportState). s.outcome.objects) is in
-      let b : bytes ≡ report.outcome.bytes = live.1 ∙ ap (λ (s : ReportState). s.outcome.bytes) is in
-      slice_get-get_or (outcome_lines p report.outcome) i [] low
-      ∙ ap Some (behind high ∙ get_or-append_right (map line_of_cycle report.outcome.cycles) last (length cycles) (i - length rows) [] cycles_long past ∙ ap (λ (k : ℕ). get_or last k []) seam
-      ∙ ap (λ (n : ℕ). live_line n report.outcome.bytes) (sym o) ∙ ap (λ (n : ℕ). live_line objects n) (sym b) ∙ sym said)
+  -- behind the cycles' lines stand the last
+  all-last : (n : ℕ) → n < 2 → length rows ≤ i → i - length rows ≡ length cycles + n → slice_get (outcome_lines p report.outcome) i ≡ Some (get_or last n [])
+  all-last n few high at =
+      let past : length cycles ≤ i - length rows = omega (arith, at) in
+      let seam : i - length rows - length cycles ≡ n = omega (arith, at) in
+      slice_get-get_or (outcome_lines p report.outcome) i [] (omega (arith, all-long, high, at, few))
+      ∙ ap Some (behind high ∙ get_or-append_right (map line_of_cycle report.outcome.cycles) last (length cycles) (i - length rows) [] cycles_long past ∙ ap (λ (k : ℕ). get_or last k []) seam)
+
+  pub all-credit : (line : List ℕ) → length rows ≤ i → i - length rows ≡ length cycles → line ≡ credit_line totals.earned totals.spent totals.lapsed → slice_get (outcome_lines p report.outcome) i ≡ Some line
+  all-credit line high at said =
+      let e : totals.earned ≡ report.outcome.earned = credit.0 ∙ ap (λ (s : ReportState). s.outcome.earned) is in
+      let s : totals.spent ≡ report.outcome.spent = credit.1 ∙ ap (λ (s : ReportState). s.outcome.spent) is in
+      let l : totals.lapsed ≡ report.outcome.lapsed = credit.2 ∙ ap (λ (s : ReportState). s.outcome.lapsed) is in
+      all-last 0 (omega arith) high (omega (arith, at)) ∙ ap Some (sym (rw (sym e, sym s, sym l) said))
+
+  pub all-live : (line : List ℕ) → length rows ≤ i → i - length rows ≡ length cycles + 1 → line ≡ live_line totals.objects totals.live → slice_get (outcome_lines p report.outcome) i ≡ Some line
+  all-live line high at said =
+      let o : totals.objects ≡ report.outcome.objects = live.0 ∙ ap (λ (s : ReportState). s.outcome.objects) is in
+      let b : totals.live ≡ report.outcome.bytes = live.1 ∙ ap (λ (s : ReportState). s.outcome.bytes) is in
+      all-last 1 (omega arith) high at ∙ ap Some (sym (rw (sym o, sym b) said))
 
 -- ---- the answers of one goroutine
 

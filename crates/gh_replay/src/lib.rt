@@ -6,8 +6,8 @@
 //! ([`others_take_turns`]). What a run comes to is explained by the list of its turns. By one schedule a script has
 //! one such list, so that a run ends within the budget or runs out of turns, and never both ([`one_outcome`]). A
 //! replay may be checked: then the heap that never frees is run beside it, and agrees ([`Report::ever`]).
-//! [`parse_list`] reads the list of a schedule from a text. The lines of the answers, of the cycles and of what is
-//! live are told one by one, in the order in which they are written ([`Report`]).
+//! [`parse_list`] reads the list of a schedule from a text. The lines of the answers, of the cycles, of the credit and of
+//! what is live are told one by one, in the order in which they are written ([`Report`]).
 #![tactic(auto)]
 
 mod check;

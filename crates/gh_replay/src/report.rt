@@ -1,4 +1,5 @@
-//! What is reported of a run, of a replay or of one by threads: its answers, its cycles and what is live, and the lines that they make.
+//! What is reported of a run, of a replay or of one by threads: its answers, its cycles, the credit of its workers and what is live, and
+//! the lines that they make.
 //!
 //! Answers come in the order in which the statements end, one goroutine's among another's, and lines
 //! stand goroutine by goroutine. So the answers that have lines are put into the lines' order once,
@@ -7,7 +8,7 @@
 //! the lines together are much larger than the answers.
 //!
 //! Where the heap that never frees was run beside it, the report keeps that heap, and has the line `agrees` behind all
-//! others. There is no line on credit, of which nothing is earned.
+//! others.
 
 ghost use Rattle.std.specs.Prelude.{◌≡◌, ◌+◌, ◌++◌, ◌^◌, ◌<◌, ◌≤◌, [], Some, length, map, option_map, slice_get};
 ghost use Rattle.std.specs.Vec.{vec_capacity};
@@ -44,9 +45,9 @@ impl Model for Report {
 
     ghost Value = { ReportState };
 
-    ghost view = { λ r. record { goroutines = r.goroutines; outcome = record { answers = r.answers.items; cycles = map swept_cycle r.cycles.items; objects = r.totals.objects; bytes = r.totals.live }; ever = r.ever } };
+    ghost view = { λ r. record { goroutines = r.goroutines; outcome = record { answers = r.answers.items; cycles = map swept_cycle r.cycles.items; earned = r.totals.earned; spent = r.totals.spent; lapsed = r.totals.lapsed; objects = r.totals.objects; bytes = r.totals.live }; ever = r.ever } };
 
-    ghost invariant = { λ r. (r.rows.items ≡ rows_of r.goroutines r.answers.items) × (length r.rows.items + length r.cycles.items + 2 < 2 ^ 32) };
+    ghost invariant = { λ r. (r.rows.items ≡ rows_of r.goroutines r.answers.items) × (length r.rows.items + length r.cycles.items + 3 < 2 ^ 32) };
 }
 
 impl Report {
@@ -62,11 +63,12 @@ impl Report {
         ever: Option<Ever>,
     ) -> Report
         requires empty { rows.items ≡ [] }
-        requires few { length answers.items + length cycles.items + 2 < 2 ^ 32 }
+        requires few { length answers.items + length cycles.items + 3 < 2 ^ 32 }
         requires room { length answers.items ≤ vec_capacity rows }
         ensures goroutines { result.goroutines ≡ goroutines }
         ensures answers { result.outcome.answers ≡ answers.items }
         ensures cycles { result.outcome.cycles ≡ map swept_cycle cycles.items }
+        ensures credit { (result.outcome.earned ≡ totals.earned) × (result.outcome.spent ≡ totals.spent) × (result.outcome.lapsed ≡ totals.lapsed) }
         ensures live { (result.outcome.objects ≡ totals.objects) × (result.outcome.bytes ≡ totals.live) }
         ensures ever { result.ever ≡ ever }
     {
@@ -92,12 +94,12 @@ impl Report {
     }
 
     /// How many lines there are: one for each answer that has one, which is each but
-    /// [`Answer::Done`], one for each cycle, the one of what is live, and where the replay was checked the line
-    /// `agrees`. Whatever the run, that line is all that a check adds.
+    /// [`Answer::Done`], one for each cycle, the one of the credit, the one of what is live, and where the replay was
+    /// checked the line `agrees`. Whatever the run, that line is all that a check adds.
     pub fn lines(&self) -> u32
         ensures { (p : Program) → IsReportOf p self.now → result ≡ length (replay_lines p self.now.outcome (is_checked self.now)) }
     {
-        let lines = self.rows.len() as u32 + self.cycles.len() as u32 + 1;
+        let lines = self.rows.len() as u32 + self.cycles.len() as u32 + 2;
         if self.ever.is_some() {
             lines + 1
         } else {
@@ -107,7 +109,7 @@ impl Report {
 
     /// Fills the buffer with line `i`, counted from 0, which ends with LF: `name n answer`, goroutine
     /// by goroutine in the order of the script, each by its statements; then `cycle k marked M freed F`
-    /// for each cycle; then `live N bytes B`; and then `agrees`, where a replay was checked. `script` is the one that
+    /// for each cycle; then `credit earned E spent S lapsed L`; then `live N bytes B`; and then `agrees`, where a replay was checked. `script` is the one that
     /// was run, and `i` is below [`Report::lines`].
     pub fn line(&self, script: &Script, i: u32, buf: &mut LineBuf)
         requires script { IsReportOf script.now self.now }
@@ -125,6 +127,8 @@ impl Report {
             let Cycle { k, marked, freed } = self.cycles[behind];
             buf.cycle(k, marked, freed);
         } else if behind == self.cycles.len() {
+            buf.credit(self.totals.earned, self.totals.spent, self.totals.lapsed);
+        } else if behind == self.cycles.len() + 1 {
             buf.live(self.totals.objects, self.totals.live);
         } else {
             buf.agrees();

@@ -51,6 +51,7 @@ use Rattle.gh_world.specs.Schedule.{has_ended}
 use Rattle.gh_world.specs.Turns.{is_of_seat, turns_of}
 use Rattle.gh_world.specs.Wishes.{most_cycles}
 use Rattle.gh_world.specs.World.{LaysOut, pacing_of}
+use Rattle.gh_world.proofs.OneStep.{lapsed_at_end}
 use Rattle.gh_world.proofs.Explained.Told.{rests_told, told_of}
 use Rattle.gh_world.proofs.Resting.{is_processor}
 
@@ -218,6 +219,10 @@ module _ {G : Type 0} (heap : Heap) (law : OfItsOwn) (done : List (HeapJob G)) (
     done = over;
   }
 
+  -- no credit is about to lapse
+  none_lapses : coord.lapsed_at c.lapsed c.stage ≡ c.lapsed
+  none_lapses = lapsed_at_end c.lapsed c.stage (ap has_ended closed.coordinator ∙ over (acks_of q.layout) (omega arith))
+
   -- the answers of a goroutine in the list are those that its processor's job has kept
   record Kept (g : ℕ) : Type 0 where
     job : HeapJob G
@@ -253,6 +258,7 @@ module _ {G : Type 0} (heap : Heap) (law : OfItsOwn) (done : List (HeapJob G)) (
     explained = explained q.script q.layout list c formed out run (sym closed.coordinator);
     answers = λ g. let k = kept g out.procs_are in told g k.job k.at ∙ k.same;
     cycles = refl;
+    credit = (refl, refl, refl);
     live = (refl, refl);
   }
 
@@ -262,3 +268,6 @@ pub told_by_jobs : {G : Type 0} (p : Program) (heap : Heap) (law : OfItsOwn) (do
 told_by_jobs {G = G} p heap law done v c ws answers explained formed is all closed own told =
     subst (λ (x : Program). WellFormed x → LaysOut x (plan_of heap).layout → AreDoneOf x heap done → ((g : ℕ) (j : HeapJob G) → slice_get done (g % x.settings.procs) ≡ Some j → answers_by g answers ≡ answers_by g j.answers.items) → IsRunByThreads x (outcome_by answers c)) is.script
     (λ formed out all told. told_so heap law done all v c ws closed own answers explained formed out told) formed is.layout all told
+
+pub lapsed_by_jobs : {G : Type 0} (p : Program) (heap : Heap) (law : OfItsOwn) (done : List (HeapJob G)) (v : View Planned Op) (c : Coordinating) (ws : List ℕ) → IsHeapOf p heap → AreDoneOf p heap done → IsClosedAfter (plan_of heap) v c ws → ((a : ℕ) (j : HeapJob G) → slice_get done a ≡ Some j → by a v.log ≡ own_of j.handle) → coord.lapsed_at c.lapsed c.stage ≡ c.lapsed
+lapsed_by_jobs p heap law done v c ws is all closed own = none_lapses heap law done (subst (λ (x : Program). AreDoneOf x heap done) (sym is.script) all) v c ws closed own

@@ -50,8 +50,8 @@ module _ {G : Type 0} (p : Program) (heap : Heap) where
   }
 
 -- what was copied from the coordinator
-pub told_as : (p : Program) (answers : List (ℕ × Answer)) (cycles : List Cycle) (objects live : ℕ) (c : Coordinating) → cycles ≡ c.cycles.items → objects ≡ marked_by (last_kept c.cycles) → live ≡ c.live → IsRunByThreads p (outcome_by answers c) → IsRunByThreads p (record { answers = answers; cycles = map swept_cycle cycles; objects = objects; bytes = live })
-told_as p answers cycles objects live c e f g t = record {
+pub told_as : (p : Program) (answers : List (ℕ × Answer)) (cycles : List Cycle) (earned spent lapsed objects live : ℕ) (c : Coordinating) → cycles ≡ c.cycles.items → (earned ≡ c.lapsed) × (spent ≡ 0) × (lapsed ≡ c.lapsed) → objects ≡ marked_by (last_kept c.cycles) → live ≡ c.live → IsRunByThreads p (outcome_by answers c) → IsRunByThreads p (record { answers = answers; cycles = map swept_cycle cycles; earned = earned; spent = spent; lapsed = lapsed; objects = objects; bytes = live })
+told_as p answers cycles earned spent lapsed objects live c e credit f g t = record {
   layout = t.layout;
   lays_out = t.lays_out;
   steps = t.steps;
@@ -59,5 +59,6 @@ told_as p answers cycles objects live c e f g t = record {
   explained = t.explained;
   answers = t.answers;
   cycles = ap (map swept_cycle) e ∙ t.cycles;
+  credit = (credit.0 ∙ t.credit.0, credit.1 ∙ t.credit.1, credit.2 ∙ t.credit.2);
   live = (f ∙ t.live.0, g ∙ t.live.1);
 }

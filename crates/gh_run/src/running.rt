@@ -30,6 +30,10 @@ pub struct ThreadRun {
     pub answers: Vec<(u32, Answer)>,
     /// The swept cycles, in their order.
     pub cycles: Vec<Cycle>,
+    /// The words of credit that the workers earned, and how many of them were spent and have lapsed.
+    pub earned: u64,
+    pub spent: u64,
+    pub lapsed: u64,
     /// How many objects the last cycle marked; 0 where none was swept.
     pub objects: u64,
     /// How many bytes that cycle marked.
@@ -51,7 +55,7 @@ pub fn run<R: thread::Threads + Wait + Sync, G: Gate + Sync, P: Spawner>(
 ) -> Result<ThreadRun, RunFault>
     ensures explained { IfOk result (λ r. IsRunByThreads script.now (outcome_of r)) }
     ensures room { IfOk result (λ r. length r.answers.items ≤ total_of script.now) }
-    ensures few { IfOk result (λ r. length r.answers.items + length r.cycles.items + 2 < 2 ^ 32) }
+    ensures few { IfOk result (λ r. length r.answers.items + length r.cycles.items + 3 < 2 ^ 32) }
     ensures ran { OnOk result (Rose (P.ran sp.old) (P.ran sp.new)) }
     ensures no_thread { IfErr result (λ fault. fault ≡ NoThread → Rose (P.faults sp.old) (P.faults sp.new)) }
     ensures none_ran { OnErr result (P.ran sp.new ≡ P.ran sp.old) }
@@ -79,10 +83,16 @@ pub fn run<R: thread::Threads + Wait + Sync, G: Gate + Sync, P: Spawner>(
         Some(cycle) => cycle.marked,
         None => 0,
     };
+    let earned = closed.earned();
+    let spent = closed.spent();
+    let lapsed = closed.lapsed();
     let live = closed.live();
     Ok(ThreadRun {
         answers,
         cycles,
+        earned,
+        spent,
+        lapsed,
         objects,
         live,
     })

@@ -5,6 +5,7 @@ ghost use mathlib.Core.Option.{some};
 ghost use lib.ListN.{get_elem?};
 ghost use Rattle.std.specs.Slots.{slots_items, slots_len, IsFull};
 ghost use Rattle.gh_base.specs.Cells.{length_of, seats_of};
+ghost use Rattle.gh_coord.specs.Listing.{lapsed_at};
 ghost use Rattle.gh_shared.specs.Calls.{Gathered, IsClosedAfter};
 ghost use Rattle.gh_shared.specs.Handles.{carries_of, machine_of, number_of, plan_of, view_of, IsOf};
 ghost use Rattle.gh_shared.specs.Shown.{first_of, leader_of};
@@ -114,6 +115,27 @@ impl Closed {
         ensures { result.now ≡ self.now.coordinator.cycles.items }
     {
         self.coordinator.cycles()
+    }
+
+    /// The words of credit that the workers earned, modulo 2^64. No processor spends any, so it is what has lapsed.
+    pub fn earned(&self) -> u64
+        ensures { result ≡ lapsed_at self.now.coordinator.lapsed self.now.coordinator.stage }
+    {
+        self.lapsed()
+    }
+
+    /// How much of it was spent: nothing.
+    pub fn spent(&self) -> u64
+        ensures { result ≡ 0 }
+    {
+        0
+    }
+
+    /// How much of it has lapsed, modulo 2^64: what was left in the bank where marking ended.
+    pub fn lapsed(&self) -> u64
+        ensures { result ≡ lapsed_at self.now.coordinator.lapsed self.now.coordinator.stage }
+    {
+        self.coordinator.lapsed()
     }
 
     /// The bytes that were marked in the last swept cycle; 0 where none was swept.

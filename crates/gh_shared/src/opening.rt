@@ -3,7 +3,7 @@
 ghost use Rattle.std.specs.Prelude.{◌≡◌, ◌<◌, List, [], length, slice_get, IfOk, Some};
 ghost use Rattle.gh_base.specs.Cells.{seats_of};
 ghost use Rattle.gh_table.specs.Views.{all_carried, one_carried};
-ghost use Rattle.gh_world.specs.World.{LaysOut};
+ghost use Rattle.gh_world.specs.World.{LaysOut, pacing_of};
 ghost use Rattle.gh_shared.specs.Handles.{AreFresh, IsFresh, IsHeapOf};
 ghost use Rattle.gh_shared.specs.Machines.{opening};
 ghost use Rattle.gh_shared.specs.Plans.{setting};
@@ -15,13 +15,13 @@ use crate::heap::Heap;
 use crate::machine::ActorMachine;
 use crate::plan::HeapPlan;
 use gh_base::{Layout, Op};
-use gh_coord::{Coord, NEVER};
+use gh_coord::Coord;
 use gh_mutator::Mutator;
 use gh_script::Script;
 use gh_table::{ActorSeat, Hand, open, split_first};
 use gh_words::opening_list;
 use gh_worker::Worker;
-use gh_world::most_cycles;
+use gh_world::{most_cycles, opening_trigger};
 use std::alloc::{AllocError, Global};
 use std::snapshot::Snapshot;
 
@@ -87,22 +87,25 @@ impl Heap {
             script: Snapshot::of(script),
             layout,
         };
-        let (heap, seat) = Heap::of_plan(alloc, &plan)?;
+        let trigger = opening_trigger(script, &layout);
+        let (heap, seat) = Heap::of_plan(alloc, &plan, trigger)?;
         let handles = heap.deal(alloc, seat, &plan, script)?;
         Ok((heap, handles))
     }
 
-    /// A heap of this plan, and a seat that carries all its actors.
+    /// A heap of this plan, whose trigger opens with this word, and a seat that carries all its actors.
     fn of_plan(
         alloc: Global,
         plan: &HeapPlan,
+        trigger: u64,
     ) -> Result<(Heap, ActorSeat<HeapPlan, Op>), AllocError>
+        requires { trigger ≡ (pacing_of plan.now.script).trigger }
         ensures key { IfOk result (λ r. r.0.table.shared.key ≡ plan.now) }
         ensures layout { IfOk result (λ r. r.0.layout ≡ plan.now.layout) }
         ensures table { IfOk result (λ r. r.1.table_id ≡ r.0.table.shared.table_id) }
         ensures seat { IfOk result (λ r. r.1.me ≡ (all_carried plan.now (setting plan.now).actors, [])) }
     {
-        let words = opening_list(alloc, &plan.layout, NEVER)?;
+        let words = opening_list(alloc, &plan.layout, trigger)?;
         let (table, seat) = open(alloc, words.as_slice(), plan)?;
         let heap = Heap {
             table,

@@ -110,7 +110,7 @@ WritesWell before after = ¬ Rose before.write_faults after.write_faults
 
 -- A call with these words that began with such streams, and left them so, ended with this status.
 pub record Ends (words : List (List ℕ)) (before after : Streams) (status : Status) : Type 0 where
-  -- What was written is all of what is to be said of the words and the text: of a replay that is `Ok`, and of a run by threads, the lines of the answers that the heap that never frees gives to the script that the text spells, those of the cycles, each with its numbers, and the one of what the globals reach at the end; and with `--check` the line `agrees`.
+  -- What was written is all of what is to be said of the words and the text: of a replay that is `Ok`, and of a run by threads, the lines of the answers that the heap that never frees gives to the script that the text spells, those of the cycles, each with its numbers, the one of the credit, and the one of what the globals reach at the end; and with `--check` the line `agrees`.
   pub said : (text : List ℕ) → before.left ≡ Some text → IsTelling status → Said words text status before.taken after.taken
   -- Of a source that does not tell its bytes, the same is known for some text.
   pub explained : IsTelling status → (text : List ℕ) × Said words text status before.taken after.taken

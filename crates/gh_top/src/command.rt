@@ -32,7 +32,7 @@ use std::thread;
 /// It reads a script from `src`, and runs its goroutines in turns on its processors, among workers and a
 /// coordinator, which collect garbage: where the words say nothing of who steps, each of these actors makes a
 /// step in its turn. It writes the lines of the answers to `out`, goroutine by goroutine, then those of the
-/// cycles, and the one of what is live at the end; and with `--check` one line more, `agrees`, whatever the script
+/// cycles, the one of the credit and the one of what is live at the end; and with `--check` one line more, `agrees`, whatever the script
 /// and whoever steps when: that is all that a check has to say.
 ///
 /// `gen --seed n --size n` reads nothing, and writes the text of the script of this seed and this size (4 to 200,000), which

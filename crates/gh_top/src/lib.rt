@@ -1,5 +1,5 @@
 //! The whole path of a script: its bytes are read, its statements run, and the lines of their
-//! answers, of the cycles and of what is live written.
+//! answers, of the cycles, of the credit and of what is live written.
 //!
 //! What is written is stated by the heap that never frees. The script is replayed over a plain list of
 //! words: no clause here says how.

@@ -104,15 +104,18 @@ fn reported<R: thread::Threads + Wait + Sync, G: Gate + Sync, P: Spawner>(
     let ThreadRun {
         answers,
         cycles,
+        earned,
+        spent,
+        lapsed,
         objects,
         live,
     } = run(rt, alloc, script, gate, sp)?;
     let totals = Totals {
         objects,
         live,
-        earned: 0,
-        spent: 0,
-        lapsed: 0,
+        earned,
+        spent,
+        lapsed,
     };
     Ok(Report::new(script.goroutines(), answers, rows, cycles, totals, None))
 }

@@ -9,7 +9,8 @@ const TEXT: &str =
     "procs 1\nworkers 1\narena 16\nglobals 1\ngogc 0\ntype node pn\ngo a\nnew r0 node\nint r1 7\nstore r0 1 r1\nload r2 r0 1\nend\n";
 
 /// The lines of the script.
-const LINES: &str = "a 1 ref a.0\na 4 int 7\ncycle 1 marked 0 freed 1\nlive 0 bytes 0\n";
+const LINES: &str =
+    "a 1 ref a.0\na 4 int 7\ncycle 1 marked 0 freed 1\ncredit earned 1 spent 0 lapsed 1\nlive 0 bytes 0\n";
 
 const PLAIN: &[&str] = &["goheap", "replay"];
 
@@ -33,8 +34,8 @@ const ROWS: &[Row] = &[
     (PLAIN, &[], &[], 5, 5, "a 1 r"),
     (PLAIN, &[1], &[], 1000, 4, ""),
     (PLAIN, &[2], &[], 1000, 4, ""),
-    // there are two reads and four writes
-    (PLAIN, &[3], &[5], 1000, 0, LINES),
+    // there are two reads and five writes
+    (PLAIN, &[3], &[6], 1000, 0, LINES),
     (SHORT, &[], &[], 1000, 8, "turns 1\n"),
     (SHORT, &[], &[1], 1000, 5, ""),
     // where the words are refused, nothing is read
@@ -69,11 +70,11 @@ const BY_READ: &[(u64, u8, usize)] = &[
     (7, 4, 0),
     (8, 4, 0),
     (9, 4, 0),
-    (10, 0, 62),
+    (10, 0, 95),
 ];
 
-/// Of a sink in pieces of 7 bytes: the write that fails; the status, and how many bytes the sink has taken. Eleven writes write the lines,
-/// of 12, 10, 25 and 15 bytes, and each line begins a piece.
+/// Of a sink in pieces of 7 bytes: the write that fails; the status, and how many bytes the sink has taken. Sixteen writes write the
+/// lines, of 12, 10, 25, 33 and 15 bytes, and each line begins a piece.
 const BY_WRITE: &[(u64, u8, usize)] = &[
     (1, 5, 0),
     (2, 5, 7),
@@ -86,7 +87,12 @@ const BY_WRITE: &[(u64, u8, usize)] = &[
     (9, 5, 47),
     (10, 5, 54),
     (11, 5, 61),
-    (12, 0, 62),
+    (12, 5, 68),
+    (13, 5, 75),
+    (14, 5, 80),
+    (15, 5, 87),
+    (16, 5, 94),
+    (17, 0, 95),
 ];
 
 /// The status of a call over these streams, and how many bytes the sink has taken, if they are the first of the lines.

@@ -60,7 +60,7 @@ pub returns-clause-ever : goal.returns-clause-ever
 returns-clause-ever c =
     let lays : LaysOut c.args.script.now (layout_of c.run.new.world) = subst (λ (l : Layout). LaysOut c.args.script.now l) (sym c.run.ensures.layout) c.in_ok-world.ensures.layout in
     let is : c.new-in-None.result.outcome ≡ outcome_by c.run.new.answers.items c.run.new.world.coord = outcome_is c.new-in-None.result.outcome c.run.new.answers.items c.run.new.world.coord c.new-in-None.ensures.answers
-    (c.new-in-None.ensures.cycles ∙ ap (map swept_cycle) (c.copy.ensures ∙ ap (λ xs. xs ++ c.cycles.result.now) c.in_ok-cycles.ensures.items ∙ c.cycles.ensures.are)) (c.new-in-None.ensures.live.0 ∙ c.totals.ensures.objects) (c.new-in-None.ensures.live.1 ∙ c.totals.ensures.live) in
+    (c.new-in-None.ensures.cycles ∙ ap (map swept_cycle) (c.copy.ensures ∙ ap (λ xs. xs ++ c.cycles.result.now) c.in_ok-cycles.ensures.items ∙ c.cycles.ensures.are)) (c.new-in-None.ensures.credit.0 ∙ c.totals.ensures.credit.0, c.new-in-None.ensures.credit.1 ∙ c.totals.ensures.credit.1, c.new-in-None.ensures.credit.2 ∙ c.totals.ensures.credit.2) (c.new-in-None.ensures.live.0 ∙ c.totals.ensures.objects) (c.new-in-None.ensures.live.1 ∙ c.totals.ensures.live) in
     let after = ever_after c.a_script_has_one_run.ensures.ordered c.args.script.now c.args.schedule c.args.budget (outcome_by c.run.new.answers.items c.run.new.world.coord) _ c.points.result.now c.run.new.answers.items c.deref.result.now c.run_beside-ever.result
     (beside c.points_are_statements.ensures c.statements_are_enough.ensures c.every_run_is_explained.ensures c.run.new.world c.args.script.now c.args.schedule c.args.budget c.run.new.answers.items c.is_well_formed.ensures
     (c.run.ensures.script ∙ c.in_ok-world.ensures.script) lays c.run.ensures.ran (c.in-None.ensures.whole refl)) c.points.ensures c.deref.ensures.value c.run_beside-ever.ensures.ever in
@@ -71,7 +71,7 @@ pub returns-clause-explained : goal.returns-clause-explained
 returns-clause-explained c =
     let lays : LaysOut c.args.script.now (layout_of c.run.new.world) = subst (λ (l : Layout). LaysOut c.args.script.now l) (sym c.run.ensures.layout) c.in_ok-world.ensures.layout in
     let is : c.new-in-None.result.outcome ≡ outcome_by c.run.new.answers.items c.run.new.world.coord = outcome_is c.new-in-None.result.outcome c.run.new.answers.items c.run.new.world.coord c.new-in-None.ensures.answers
-    (c.new-in-None.ensures.cycles ∙ ap (map swept_cycle) (c.copy.ensures ∙ ap (λ xs. xs ++ c.cycles.result.now) c.in_ok-cycles.ensures.items ∙ c.cycles.ensures.are)) (c.new-in-None.ensures.live.0 ∙ c.totals.ensures.objects) (c.new-in-None.ensures.live.1 ∙ c.totals.ensures.live) in
+    (c.new-in-None.ensures.cycles ∙ ap (map swept_cycle) (c.copy.ensures ∙ ap (λ xs. xs ++ c.cycles.result.now) c.in_ok-cycles.ensures.items ∙ c.cycles.ensures.are)) (c.new-in-None.ensures.credit.0 ∙ c.totals.ensures.credit.0, c.new-in-None.ensures.credit.1 ∙ c.totals.ensures.credit.1, c.new-in-None.ensures.credit.2 ∙ c.totals.ensures.credit.2) (c.new-in-None.ensures.live.0 ∙ c.totals.ensures.objects) (c.new-in-None.ensures.live.1 ∙ c.totals.ensures.live) in
     subst (λ (o : Outcome). IsReplayed c.args.script.now c.args.schedule c.args.budget o) (sym is)
     (finished c.every_run_is_explained.ensures c.run.new.world c.args.script.now c.args.schedule c.args.budget c.run.new.answers.items c.is_well_formed.ensures
     (c.run.ensures.script ∙ c.in_ok-world.ensures.script) lays c.run.ensures.ran (c.in-None.ensures.whole refl))

@@ -1,5 +1,7 @@
-use Rattle.std.proofs.Common.{inl, inr}
+use Rattle.std.proofs.Common.{◌≡◌, inl, inr, Some, None, sym, ap, subst, ◌∙◌}
+use Rattle.gh_top.specs.declared.found.Found.TheVariants.{NoMemory}
 use Rattle.gh_top.specs.CommandLine.{texts}
+use Rattle.gh_top.specs.Found.{IsSilent, status_of}
 use Rattle.gh_top.specs.Outcome.{streams}
 use Rattle.gh_top.proofs.Ends.{cut-ends, told-ends}
 use Rattle.gh_top.proofs.command.quiet.Goals as goal
@@ -13,3 +15,16 @@ returns-clause-ends g c =
       | inl told ↦ told-ends c.one_reading.ensures.not_both c.one_reading.ensures.one_script c.one_outcome.ensures.not_both words before after c.in_ok-found.found c.tell.result c.in_ok-found.ensures.found told
       | inr cut ↦ cut-ends c.one_reading.ensures.not_both c.one_reading.ensures.one_script c.one_outcome.ensures.not_both words before after c.in_ok-found.found c.tell.result c.in_ok-found.ensures.found cut
     ]
+
+-- where memory ran out nothing is written, and so no write of it failed
+pub returns-clause-none_exactly : goal.returns-clause-none_exactly
+returns-clause-none_exactly g c for_threads = elim (c.in_ok-found.ensures.none_exactly for_threads) [
+  | inl none ↦ absurd (let no : Some c.in_ok-found.found ≡ None = none in cc)
+  | inr is ↦
+      let both : Some c.in_ok-found.found ≡ Some NoMemory = is in
+      let same : c.in_ok-found.found ≡ NoMemory = cc in
+      elim c.tell.ensures [
+        | inl told ↦ inr (ap Some (told.so ∙ ap status_of same))
+        | inr cut ↦ absurd (cut.loud (subst IsSilent (sym same) tt))
+      ]
+]

@@ -13,6 +13,7 @@ returns-clause-explained g c =
       explained = told.explained;
       answers = λ n. ap (answers_by n) c.new.ensures.answers ∙ told.answers n;
       cycles = c.new.ensures.cycles ∙ told.cycles;
+      credit = (c.new.ensures.credit.0 ∙ told.credit.0, c.new.ensures.credit.1 ∙ told.credit.1, c.new.ensures.credit.2 ∙ told.credit.2);
       live = (c.new.ensures.live.0 ∙ told.live.0, c.new.ensures.live.1 ∙ told.live.1);
     }
 
