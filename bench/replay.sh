@@ -12,7 +12,7 @@ programs=("$program" "${@:2}")
 
 # The scripts: what each turns on most, and its text. The last two have the same goroutines, on the fewest actors that there are, which
 # are a processor, a worker and the coordinator, and on 13: 8 processors, 4 workers and the coordinator.
-names=(statements globals fields small large passes full collected cycles1 cycles4 processors actors3 actors13)
+names=(statements globals fields small paced large passes full collected cycles1 cycles4 processors actors3 actors13)
 
 # Goroutines that run statements on registers: how many, and how often each.
 registers() {
@@ -22,7 +22,7 @@ registers() {
 # A span of each of 36 span classes in an arena of 1,024 pages, with an object each, and cycles of one worker or of four.
 cycles() {
   local size
-  printf 'procs 2\nworkers %d\narena 1024\n' "$1"
+  printf 'procs 2\nworkers %d\narena 1024\ngogc 0\n' "$1"
   for size in 1 2 3 4 6 8 10 12 14 16 20 24 32 40 48 64 96 128; do printf 'type n%d n*%d\ntype p%d p*%d\n' $size $size $size $size; done
   printf 'go a\n'
   for size in 1 2 3 4 6 8 10 12 14 16 20 24 32 40 48 64 96 128; do printf 'new r0 n%d\nnew r0 p%d\n' $size $size; done
@@ -34,16 +34,18 @@ says() {
     globals) printf 'arena 16\nglobals 4\ntype node pn\ngo a\nnew r0 node\nrepeat 49999\ngstore 1 r0\ngload r1 1\ngstore 2 r1\ngload r2 2\nend\nend\n' ;;
     fields) printf 'arena 16\ntype node pn\ngo a\nnew r0 node\nnew r1 node\nint r2 7\nrepeat 49999\nstore r0 0 r1\nstore r0 1 r2\nload r3 r0 0\nload r4 r3 1\nend\nend\n' ;;
     # new objects of two words, all of which fit
-    small) printf 'arena 1024\ntype node pn\ngo a\nrepeat 200000\nnew r0 node\nend\nend\n' ;;
+    small) printf 'arena 1024\ngogc 0\ntype node pn\ngo a\nrepeat 200000\nnew r0 node\nend\nend\n' ;;
+    # the same where cycles begin by the heap's size
+    paced) printf 'arena 1024\ngogc 100\nminheap 65536\ntype node pn\ngo a\nrepeat 200000\nnew r0 node\nend\nend\n' ;;
     # new objects of 65,536 words, which are cleared
-    large) printf 'arena 1024\ntype big n*65536\ngo a\nrepeat 15\nnew r0 big\nend\nend\n' ;;
+    large) printf 'arena 1024\ngogc 0\ntype big n*65536\ngo a\nrepeat 15\nnew r0 big\nend\nend\n' ;;
     # new objects of 32 words, which fit; most turns of a processor are steps of passes over full spans
-    passes) printf 'arena 512\ntype node pn*31\ngo a\nrepeat 16000\nnew r0 node\nend\nend\n' ;;
+    passes) printf 'arena 512\ngogc 0\ntype node pn*31\ngo a\nrepeat 16000\nnew r0 node\nend\nend\n' ;;
     # new objects of two words in an arena that 8,192 of them fill: the next one passes over all spans and waits for a cycle, which
     # frees them
-    full) printf 'arena 16\ntype node pn\ngo a\nrepeat 12000\nnew r0 node\nend\nend\n' ;;
+    full) printf 'arena 16\ngogc 0\ntype node pn\ngo a\nrepeat 12000\nnew r0 node\nend\nend\n' ;;
     # a heap that is collected again and again
-    collected) printf 'arena 16\ntype node pn\ngo a\nrepeat 2000\nnew r0 node\ngc\nend\nend\n' ;;
+    collected) printf 'arena 16\ngogc 0\ntype node pn\ngo a\nrepeat 2000\nnew r0 node\ngc\nend\nend\n' ;;
     # a heap of few objects in a large arena that is collected again and again, while another goroutine runs statements: what a cycle costs is
     # the walks over its pages and buffers, and the sweeps of spans with an object each
     cycles1) cycles 1 ;;

@@ -3,7 +3,7 @@
 # run than goheap.sh's. In runs/:
 #   NAME.heap      a script, which opens with a line of what it shows; its second line `# replay --list ..` has the words, where there are any
 #   NAME.out       what it writes by these words, and with one line `agrees` more by --check; each script of one goroutine writes the same,
-#                  but for its lines `cycle`, whatever the order of steps
+#                  but for its lines `cycle` and `credit`, whatever the order of steps
 #   NAME.each      lines that stand in what it writes whatever the order, where there are several goroutines (of a script of examples/ too)
 #   NAME.words     further command lines, one a line, and NAME.turns those of which each ends after so many turns
 #   NAME.steps     at which step of which actor something happens (tools/check_steps.sh)
@@ -19,8 +19,8 @@ if [ -z "$program" ]; then
   program=$(echo out/goheap-????????????????)
 fi
 
-# One run: how its text is compared with this file (`all`: it is that; `most`: but for lines `cycle`; `some`: it has those lines), the
-# status, standard input, and the words. Where a text is to end with `agrees`, the file does not have that line.
+# One run: how its text is compared with this file (`all`: it is that; `most`: but for lines `cycle` and `credit`; `some`: it has those
+# lines), the status, standard input, and the words. Where a text is to end with `agrees`, the file does not have that line.
 run() {
   local how=$1 file=$2 status=$3 input=$4
   shift 4
@@ -181,11 +181,11 @@ all_runs() {
 # Compares the texts: each stands between a line that begins with the byte 1 and one that begins with the byte 2.
 compared() {
   awk -F'\t' '
-    function text_of(file, no_cycles, line, text) {
-      if ((file, no_cycles) in texts) return texts[file, no_cycles]
-      while ((getline line <file) > 0) if (!no_cycles || line !~ /^cycle /) text = text line "\n"
+    function text_of(file, most, line, text) {
+      if ((file, most) in texts) return texts[file, most]
+      while ((getline line <file) > 0) if (!most || line !~ /^(cycle|credit) /) text = text line "\n"
       close(file)
-      return texts[file, no_cycles] = text
+      return texts[file, most] = text
     }
     function has_all(file, text, parts, n, i) {
       n = split(text_of(file, 0), parts, "\n")
@@ -205,7 +205,7 @@ compared() {
       if (failed <= 20) print "check_runs: " substr(label, 1, 200) " ends with " substr($0, 2) " and not with " status ", or its text is not that of " file " (" how ")"
       next
     }
-    { text = text $0 "\n"; if ($0 !~ /^cycle /) rest = rest $0 "\n" }
+    { text = text $0 "\n"; if ($0 !~ /^(cycle|credit) /) rest = rest $0 "\n" }
     END { print "runs: " passed + 0 " passed, " failed + 0 " failed"; exit failed > 0 || passed == 0 }'
 }
 

@@ -1,7 +1,7 @@
 #!/usr/bin/env bash
 # Runs scripts by threads, again and again, and compares with what is stored of their replays. GOHEAP names another program to run than goheap.sh's.
-# A script of one goroutine writes the same whatever the threads do, but for its lines `cycle`. A script of `gen` has goroutines that share
-# nothing, so that what is live at its end is the same in each run, and in a replay.
+# A script of one goroutine writes the same whatever the threads do, but for its lines `cycle` and `credit`. A script of `gen` has goroutines
+# that share nothing, so that what is live at its end is the same in each run, and in a replay.
 set -u
 cd "$(dirname "$0")/.." || exit 1
 work=$(mktemp -d)
@@ -23,11 +23,11 @@ note() {
   fi
 }
 
-# One run of a script of one goroutine: each line but those of cycles is the stored one.
+# One run of a script of one goroutine: each line but those of cycles and of the credit is the stored one.
 run_once() {
   local script=$1 stored=$2
   timeout 60 "$program" run <"$script" >"$work/run.out" 2>&1 || return 1
-  cmp -s <(grep -v '^cycle ' "$work/run.out") <(grep -v '^cycle ' "$stored")
+  cmp -s <(grep -vE '^(cycle|credit) ' "$work/run.out") <(grep -vE '^(cycle|credit) ' "$stored")
 }
 
 one_goroutine() {

@@ -1,7 +1,7 @@
 #!/usr/bin/env bash
 # Outside the gate, since it proves nothing: short scripts that look random, by orders of steps that are drawn to hurt, each beside the heap
-# that never frees. Each run has to end with status 0, its cycles numbered from 1 on, what is live at the end as many objects as the last cycle
-# marked, and `agrees` as its last line; or with status 8 and one line `turns`. It stops at none, and tells how many did something else.
+# that never frees. Each run has to end with status 0, its cycles numbered from 1 on, as much credit earned as was spent and has lapsed, what is
+# live at the end as many objects as the last cycle marked, and `agrees` as its last line; or with status 8 and one line `turns`. It stops at none, and tells how many did something else.
 #   tools/hostile.sh [SEED [SCRIPTS]]     the seed, 1 if none is said, and how many scripts, 10 if none
 # GOHEAP names the program (tools/program.sh): take a proved one, since the one without proofs is hundreds of times slower.
 set -u
@@ -134,15 +134,17 @@ all | awk -v seed="$seed" -v scripts="$scripts" '
     if (status != 0) { failed("status " status ", and wrote: " last); return }
     if (wrong != "") { failed(wrong); return }
     if (last != "agrees") { failed("the last line is: " last); return }
+    if (credit != 1) { failed(credit " lines of credit"); return }
     if (live == "" || live != marked) { failed("live " live ", and the last cycle marked " marked); return }
     whole++
     if (cycles > most) most = cycles
     all_cycles += cycles
   }
-  /^\001/ { what = substr($0, 2); if (length(what) > 90) what = substr(what, 1, 90) ".."; lines = cycles = 0; last = live = marked = wrong = ""; next }
+  /^\001/ { what = substr($0, 2); if (length(what) > 90) what = substr(what, 1, 90) ".."; lines = cycles = credit = 0; last = live = marked = wrong = ""; next }
   /^\002/ { ended(substr($0, 2)); next }
   { lines++; last = $0 }
   $1 == "cycle" && NF == 6 { cycles++; marked = $4; if ($2 != cycles) wrong = "cycle " $2 " stands as number " cycles }
+  $1 == "credit" && NF == 7 { credit++; if ($3 + 0 != $5 + $7) wrong = "credit earned " $3 ", spent " $5 ", lapsed " $7 }
   $1 == "live" && NF == 4 { live = $2 }
   END {
     printf "hostile: seed %s: %d runs of %d scripts: %d whole, with %d cycles, at most %d in one; %d out of turns; %d did something else\n", seed, runs, scripts, whole, all_cycles, most, cut, bad
