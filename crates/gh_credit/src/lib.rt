@@ -7,12 +7,17 @@
 //! heap would outgrow what marking keeps up with.
 //!
 //! A worker does not hand over each word by itself, since all workers write the one word of the bank: it counts
-//! what it scans, and adds [`CREDIT_SLACK`] words or more by one atomic step ([`Earn`]).
+//! what it scans, and adds [`CREDIT_SLACK`] words or more by one atomic step ([`Earn`]). Who owes words takes them by one
+//! atomic step too ([`Draw`]), which leaves the bank as it is where another has changed it: each word that was earned is
+//! spent once at the most.
 //!
-//! This is Go's `gcController.bgScanCredit` (mgcpacer.go), to which `gcDrain` adds by `gcFlushBgCredit`
-//! (mgcmark.go).
+//! This is Go's `gcController.bgScanCredit` (mgcpacer.go), to which `gcDrain` adds by `gcFlushBgCredit`, and from which
+//! `gcAssistAlloc` steals (mgcmark.go).
 #![tactic(auto)]
 
+mod draw;
 mod earn;
+pub mod laws;
 
+pub use draw::{Draw, DrawStage};
 pub use earn::{CREDIT_SLACK, Earn, EarnStage};

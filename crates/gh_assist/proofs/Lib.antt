@@ -1,0 +1,7 @@
+pub mod Choices
+pub mod Buffers
+pub mod Marking
+pub mod Paying
+pub mod Scans
+pub mod Within
+pub mod Writing

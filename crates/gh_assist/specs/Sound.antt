@@ -1,0 +1,41 @@
+-- What an assist knows of its own numbers and routines, whatever it is told.
+use Rattle.std.specs.Prelude.{◌≡◌, ℕ, ◌^◌, ◌<◌, ◌≤◌, true}
+use Rattle.gh_assist.specs.declared.assist.AssistStage.{AssistStage}
+use Rattle.gh_assist.specs.declared.assist.AssistStage.TheVariants.{LoadSlack, Drawing, Taking, Scanning}
+use Rattle.gh_assist.specs.declared.assist.TheConstants.{MOST_ASSIST_BYTES}
+use Rattle.gh_assist.specs.Listing.{Assisting}
+use Rattle.gh_base.specs.declared.layout.Layout.{Layout}
+use Rattle.gh_base.specs.Cells.{seats_of}
+use Rattle.gh_base.specs.Holding.{IsHeld}
+use Rattle.gh_credit.specs.Drawing as draw
+use Rattle.gh_scan.specs.Listing as scan
+use Rattle.gh_scan.specs.Sound.{Runs}
+use Rattle.gh_wbuf.specs.EntryTaking as take
+
+-- a slack by which a debt can be divided
+pub record FitsSlack (slack : ℕ) : Type 0 where
+  pub some : 1 ≤ slack
+  pub most : slack ≤ 2 ^ 31
+
+abbrev pub FitsStage : Layout → AssistStage → Type 0
+FitsStage l (LoadSlack work) = work < 2 ^ 31
+FitsStage l (Drawing d) = Runs l d.layout (draw.is_busy d.stage)
+FitsStage l (Taking t) = Runs l t.layout (take.is_busy t.stage)
+FitsStage l (Scanning s) = Runs l s.layout (scan.is_busy s.stage)
+FitsStage l _ = Unit {0}
+
+pub record FitsAssist (x : Assisting) : Type 0 where
+  pub seat : x.seat < seats_of x.layout
+  pub held : IsHeld x.layout x.held
+  pub bytes : x.bytes ≤ MOST_ASSIST_BYTES
+  pub stage : FitsStage x.layout x.stage
+
+-- Of its routines, whatever it is told: each has a step to make, and the draw is for all that is owed.
+abbrev pub SoundStage : (owed : ℕ) → AssistStage → Type 0
+SoundStage owed (Drawing d) = (draw.is_busy d.stage ≡ true) × (d.owed ≡ owed)
+SoundStage owed (Taking t) = take.is_busy t.stage ≡ true
+SoundStage owed (Scanning s) = scan.is_busy s.stage ≡ true
+SoundStage owed _ = Unit {0}
+
+abbrev pub IsSound : Assisting → Type 0
+IsSound x = SoundStage x.owed x.stage
