@@ -256,6 +256,7 @@ impl Worker {
     }
 
     /// Takes the step of such a load.
+    // Mostly marking is off still, and the page in no unswept span: both are passed here, and all else by a call.
     #[inline(always)]
     pub fn idle(&mut self, found: u64)
         requires { is_idle self.old.stage ≡ true }
@@ -263,8 +264,16 @@ impl Worker {
         ensures goes_on { gives self.old found ≡ Option.None }
     {
         match &self.stage {
-            WorkerStage::LoadPhase => self.by_phase(found),
-            _ => self.after_page(found),
+            WorkerStage::LoadPhase => match PhaseWord::unpack(found).phase {
+                Phase::Off => self.stage = WorkerStage::LoadPage,
+                Phase::Mark | Phase::Stop | Phase::Finished => self.by_phase(found),
+            },
+            _ => match PageWord::unpack(found) {
+                PageWord::Head(head) if head.number + 2 == self.view.generation => {
+                    self.after_page(found)
+                }
+                _ => self.page_done(),
+            },
         }
     }
 
