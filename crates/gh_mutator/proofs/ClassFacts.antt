@@ -1,5 +1,9 @@
 -- Facts of all size classes, and of what an object of a type wants.
-use Rattle.std.proofs.Common.{◌≡◌, ℕ, ◌*◌, ◌/◌, ◌%◌, ◌<◌, ◌≤◌, Bool, true, false, cond, leb, List, length, refl, subst, arith}
+use Rattle.std.proofs.Common.{◌≡◌, ℕ, ◌*◌, ◌/◌, ◌%◌, ◌^◌, ◌<◌, ◌≤◌, Bool, true, false, cond, leb, List, length, refl, subst, arith}
+use Rattle.gh_alloc.specs.FindSound.{IsSought}
+use Rattle.gh_alloc.specs.Within.{words_of}
+use Rattle.gh_alloc.specs.declared.sought.Sought.{Sought}
+use Rattle.gh_alloc.specs.declared.sought.Sought.TheVariants.{Large, Small}
 use Rattle.std.proofs.lemmas.Bool.{leb-true}
 use Rattle.std.proofs.lemmas.Bool.Decides.{nat_tests}
 use Rattle.gh_base.specs.declared.shape.Shape.{Shape}
@@ -92,3 +96,8 @@ wanted_sound_at laws false shapes g d t words noscan e some few there register =
 pub wanted_sound : ClassLaws → (shapes : List Shape) (g d t : ℕ) → ShapesFit shapes → t < length shapes → IsRegister g d → SoundWanted shapes (wanted_of shapes g d t)
 wanted_sound laws shapes g d t fit there register =
     wanted_sound_at laws (leb (8 * (shape_at shapes t).words) 32768) shapes g d t (shape_at shapes t).words (shape_at shapes t).noscan refl (fit t there).some_word (fit t there).few_words there register
+
+-- the words of a slot that is sought are fewer than 2^23
+pub sought_small : ClassLaws → (w : Sought) → IsSought w → words_of w < 2 ^ 23
+sought_small laws (Small c) is = let most = laws.greatest_slot c.class is in omega (arith, most)
+sought_small laws (Large pages noscan) is = let few = is.1 in omega (arith, few)

@@ -11,6 +11,7 @@ use Rattle.gh_bitmap.specs.SetPointers as bits
 use Rattle.gh_alloc.specs.declared.place.PlaceStage.TheVariants as making
 use Rattle.gh_alloc.specs.Place as place
 use Rattle.gh_alloc.specs.Search as search
+use Rattle.gh_assist.specs.Listing as assist
 use Rattle.gh_model.specs.Ever.{Ever}
 use Rattle.gh_barrier.specs.declared.pointer_cell.PointerCell.TheVariants as pointer_cell
 use Rattle.gh_barrier.specs.Listing.{Writing as PointerWrite}
@@ -29,13 +30,13 @@ use Rattle.gh_mutator.specs.Global as global
 use Rattle.gh_mutator.specs.Leave as leave
 use Rattle.gh_mutator.specs.Listing.{Act, acting, acts, acts_at, begins_at, op_at}
 use Rattle.gh_mutator.specs.Load as load
-use Rattle.gh_mutator.specs.Local.{is_mark}
+use Rattle.gh_mutator.specs.Local.{is_mark, marking_at}
 use Rattle.gh_mutator.specs.New.{op_of as new_op, refuses, searches, unacted}
 use Rattle.gh_mutator.specs.Poll as poll
 use Rattle.gh_mutator.specs.Step.{ends, goes_on}
 use Rattle.gh_mutator.specs.Store as store
 use Rattle.gh_mutator.specs.Wait as wait
-use Rattle.gh_mutator.proofs.Vocabulary.{Local, after_gc, after_leave, after_place, after_poll, after_search, after_wait, At, begins, cache_span, follows, Found, Global, GlobalStage, has_left_at, is_busy_at, Layout, Leaving, LoadStage, NewStage, NoRoom, Op, Place, PlaceStage, Placing, Processor, processor_kind, register_of, Search, Seeking, Shape, Step, StoreStage, takes, takes_at, Task, Value, Wait, Waiting, Wanted, Want}
+use Rattle.gh_mutator.proofs.Vocabulary.{after_assist, Assist, Assisting, assisting, assists, Local, after_gc, after_leave, after_place, after_poll, after_search, after_wait, At, begins, cache_span, follows, Found, Global, GlobalStage, has_left_at, is_busy_at, Layout, Leaving, LoadStage, Name, NewStage, NoRoom, Op, Place, PlaceStage, Placing, Processor, processor_kind, register_of, Search, Seeking, Shape, Step, StoreStage, takes, takes_at, Task, Value, Wait, Waiting, Wanted, Want}
 
 -- ---- a step of a statement acts once
 
@@ -122,6 +123,11 @@ module _ (shapes : List Shape) (m : Processor) where
   abbrev PlaceActs : Wanted → Placing → (q n : PlaceStage) → Type 0
   PlaceActs w p q n = ActsOnce (unacted w (Place (place.at_stage p q))) (op_at (after_place m w (place.acts_at q) p.at (place.at_stage p n)).task) (acting (place.acts_at q) (new_op w) false)
 
+  -- behind it an assist may run, for which nothing is to act any more
+  then_none : (w : Wanted) (p : Placing) (marking : Bool) → op_at (cond marking (assists w p.name (assisting m.poll w)) task.Idle) ≡ None
+  then_none w p true = refl
+  then_none w p false = refl
+
   place_acts : (w : Wanted) (p : Placing) (found : ℕ) (q : PlaceStage) → PlaceActs w p q (place.goes_at p q found)
   place_acts w p found (making.Clear k) = go (ltb (k + 1) p.slot) where
     go : (b : Bool) → PlaceActs w p (making.Clear k) (cond b (making.Clear (k + 1)) making.Birth)
@@ -137,23 +143,29 @@ module _ (shapes : List Shape) (m : Processor) where
   place_acts w p found making.Mark = refl
   place_acts w p found making.Count = go p.marking where
     go : (marking : Bool) → PlaceActs w p making.Count (cond marking (making.Ended false) (making.LoadTrigger ((found + 8 * p.slot) % 2 ^ 64)))
-    go true = refl
+    go true = then_none w p (marking_at m.poll)
     go false = refl
   place_acts w p found (making.LoadTrigger bytes) = go (nat_le found bytes) where
     go : (reached : Bool) → PlaceActs w p (making.LoadTrigger bytes) (making.Ended reached)
     go true = refl
-    go false = refl
+    go false = then_none w p (marking_at m.poll)
   place_acts w p found making.Alloc = go p.span where
     go : (s : Option SpanHead) → PlaceActs w p making.Alloc (place.made p s)
     go None = (refl, refl)
     go (Some h) = (refl, refl)
+  place_acts w p found (making.Ended wants) = then_none w p (marking_at m.poll)
   place_acts w p found _ = refl
+
+  assist_acts : (w : Wanted) (n : Name) (x : Assisting) (out : Option (Unit {0})) → op_at (after_assist m w n x out).task ≡ None
+  assist_acts w n x None = refl
+  assist_acts w n x (Some y) = refl
 
   new_acts : (w : Wanted) (s : NewStage) (found : ℕ) → ActsAt (task.New (record { wanted = w; stage = s })) found
   new_acts w (Search waited s) found = search_acts w waited s found
   new_acts w (Wait x) found = wait_acts w (wait.goes (wait.waiting x m.poll) found) (wait.gives (wait.waiting x m.poll) found)
   new_acts w (Place p) found = place_acts w p found p.stage
   new_acts w (Want n) found = refl
+  new_acts w (Assist n x) found = assist_acts w n (assist.goes x found) (assist.gives x found)
 
   -- what ends acts
   gc_acts : (g : ℕ) (x : Waiting) (out : Option (Unit {0})) → ActsOnce (Some (op.Gc g)) (op_at (after_gc m g x out).task) (acting (is_some out) (op.Gc g) false)

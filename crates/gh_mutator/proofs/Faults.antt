@@ -6,12 +6,14 @@ use Rattle.gh_base.specs.declared.value.Answer.TheVariants as answer
 use Rattle.gh_base.specs.declared.value.Fault.{Fault as Cause}
 use Rattle.gh_alloc.specs.Place as place
 use Rattle.gh_alloc.specs.Search as search
+use Rattle.gh_assist.specs.Listing as assist
 use Rattle.gh_mutator.specs.declared.task.Task.TheVariants as task
 use Rattle.gh_mutator.specs.Faults.{FaultsChangeNothing, is_load}
 use Rattle.gh_mutator.specs.Global as global_listing
 use Rattle.gh_mutator.specs.Leave as leave
 use Rattle.gh_mutator.specs.Listing.{begins_at, once_ended}
 use Rattle.gh_mutator.specs.Load as load_listing
+use Rattle.gh_mutator.specs.Local.{marking_at}
 use Rattle.gh_mutator.specs.Mutating.{begins, gives, goes, listing, marks_after, Mutating}
 use Rattle.gh_mutator.specs.New as new
 use Rattle.gh_mutator.specs.Processor.{keeping}
@@ -20,7 +22,7 @@ use Rattle.gh_mutator.specs.Serving.{answer_at, is_serving}
 use Rattle.gh_mutator.specs.Step.{answered}
 use Rattle.gh_mutator.specs.Store as store_listing
 use Rattle.gh_mutator.specs.Wait as wait
-use Rattle.gh_mutator.proofs.Vocabulary.{Held, after_gc, after_leave, after_poll, after_search, after_wait, answer_search, applied, asks_at, At, at_poll, at_task, begun_with, cache_span, Ends, follows, Found, gives_at, GoesOn, Leaving, Name, NewStage, NoRoom, Op, Place, Placing, Processor, register_of, rested, Search, Seeking, Shape, Step, takes_at, taking, Task, Then, told, Value, Wait, Waiting, Wanted, Want}
+use Rattle.gh_mutator.proofs.Vocabulary.{after_assist, Assist, Assisting, assisting, assists, Held, after_gc, after_leave, after_poll, after_search, after_wait, answer_search, applied, asks_at, At, at_poll, at_task, begun_with, cache_span, Ends, follows, Found, gives_at, GoesOn, Leaving, Name, NewStage, NoRoom, Op, Place, Placing, Processor, register_of, rested, Search, Seeking, Shape, Step, takes_at, taking, Task, Then, told, Value, Wait, Waiting, Wanted, Want}
 use Rattle.gh_mutator.proofs.GlobalSteps as global
 use Rattle.gh_mutator.proofs.LoadSteps as load
 use Rattle.gh_mutator.proofs.Steps.{FaultsFrom, GoesTo}
@@ -80,24 +82,38 @@ wait_quiet : (m : Processor) (w : Wanted) (x : Waiting) (out : Option (Unit {0})
 wait_quiet m w x None = refl
 wait_quiet m w x (Some y) = refl
 
-place_quiet : (w : Wanted) (p : Placing) (asks : Option Bool) → may_fault (new.made_task w p asks) ≡ false
-place_quiet w p None = refl
-place_quiet w p (Some true) = refl
-place_quiet w p (Some false) = refl
+made_quiet : (p : Polling) (w : Wanted) (n : Name) (marking : Bool) → may_fault (cond marking (assists w n (assisting p w)) task.Idle) ≡ false
+made_quiet p w n true = refl
+made_quiet p w n false = refl
 
-place_answers : (n : Name) (asks : Option Bool) (cause : Cause) → new.answer_made n asks ≡ Some (answer.Fault cause) → ⊥
-place_answers n None cause e = absurd (cc)
-place_answers n (Some true) cause e = absurd (cc)
-place_answers n (Some false) cause e = absurd (cc)
+place_quiet : (p : Polling) (w : Wanted) (x : Placing) (asks : Option Bool) → may_fault (new.made_task p w x asks) ≡ false
+place_quiet p w x None = refl
+place_quiet p w x (Some true) = refl
+place_quiet p w x (Some false) = made_quiet p w x.name (marking_at p)
 
-new_faults : (shapes : List Shape) (n m : Processor) (t : Task) (w : Wanted) (s : NewStage) (found : ℕ) → FaultsAt n t (new.takes_at shapes m w s found) (new.gives_at s found)
+place_answers : (marking : Bool) (n : Name) (asks : Option Bool) (cause : Cause) → new.answer_made marking n asks ≡ Some (answer.Fault cause) → ⊥
+place_answers marking n None cause e = absurd (cc)
+place_answers marking n (Some true) cause e = absurd (cc)
+place_answers true n (Some false) cause e = absurd (cc)
+place_answers false n (Some false) cause e = absurd (cc)
+
+assist_quiet : (m : Processor) (w : Wanted) (n : Name) (x : Assisting) (out : Option (Unit {0})) → may_fault (after_assist m w n x out).task ≡ false
+assist_quiet m w n x None = refl
+assist_quiet m w n x (Some y) = refl
+
+assist_answers : (n : Name) (out : Option (Unit {0})) (cause : Cause) → new.answer_assist n out ≡ Some (answer.Fault cause) → ⊥
+assist_answers n None cause e = absurd (cc)
+assist_answers n (Some y) cause e = absurd (cc)
+
+new_faults : (shapes : List Shape) (n m : Processor) (t : Task) (w : Wanted) (s : NewStage) (found : ℕ) → FaultsAt n t (new.takes_at shapes m w s found) (new.gives_at (marking_at m.poll) s found)
 new_faults shapes n m t w (Search waited s) found =
     none_at n t _ _ (search_answers waited (search.gives s found)) (search_quiet shapes (cache_span m w.sought (search.goes s found).find.cached) w waited (search.goes s found) (search.gives s found))
 new_faults shapes n m t w (Wait x) found =
     none_at n t _ _ (λ cause e. absurd (cc)) (wait_quiet m w (wait.goes (wait.waiting x m.poll) found) (wait.gives (wait.waiting x m.poll) found))
 new_faults shapes n m t w (Place p) found =
-    none_at n t _ _ (place_answers p.name (place.gives p found)) (place_quiet w (place.goes p found) (place.gives p found))
+    none_at n t _ _ (place_answers (marking_at m.poll) p.name (place.gives p found)) (place_quiet m.poll w (place.goes p found) (place.gives p found))
 new_faults shapes n m t w (Want u) found = none_at n t _ _ (λ cause e. absurd (cc)) refl
+new_faults shapes n m t w (Assist u x) found = none_at n t _ _ (assist_answers u (assist.gives x found)) (assist_quiet m w u (assist.goes x found) (assist.gives x found))
 
 -- a `gc`, and what is the processor's own
 gc_faults : (n m : Processor) (t : Task) (g : ℕ) (x : Waiting) (out : Option (Unit {0})) → FaultsAt n t (after_gc m g x out) (once_ended out answer.Swept)

@@ -5,16 +5,17 @@ use Rattle.gh_base.specs.declared.value.Answer.TheVariants as answer
 use Rattle.gh_base.specs.declared.value.Value.TheVariants as value
 use Rattle.gh_alloc.specs.Place as place
 use Rattle.gh_alloc.specs.Search as search
+use Rattle.gh_assist.specs.Listing as assist
 use Rattle.gh_mutator.specs.declared.task.Task.TheVariants as task
 use Rattle.gh_mutator.specs.declared.wait.WaitStage.TheVariants as wait_stage
 use Rattle.gh_mutator.specs.Full.{after, FullChangesLittle, HasWaited, is_waiting}
-use Rattle.gh_mutator.specs.Local.{cached_in, stacks_with}
+use Rattle.gh_mutator.specs.Local.{cached_in, marking_at, stacks_with}
 use Rattle.gh_mutator.specs.Mutating.{asks, begins, gives, goes, listing, marks_after, Mutating}
-use Rattle.gh_mutator.specs.New.{gives_at as gives_new, seeking, takes_at as takes_new, made_task, answer_made}
+use Rattle.gh_mutator.specs.New.{gives_at as gives_new, seeking, takes_at as takes_new, made_task, answer_assist, answer_made}
 use Rattle.gh_mutator.specs.Stays.{ends_later, wait_seat, wait_stacks, wait_stays}
 use Rattle.gh_mutator.specs.Vocabulary.{Polling}
 use Rattle.gh_mutator.specs.Wait as wait
-use Rattle.gh_mutator.proofs.Vocabulary.{after_search, after_wait, answer_search, At, at_poll, cache_span, cache_with, CachedSpan, Found, gives_at, is_looking, Large, Name, NewStage, NoRoom, Place, Placing, Processor, rested, Search, Seeking, set, Shape, Small, Sought, span_index, takes_at, Task, Wait, Waiting, WaitStage, WaitState, Wanted, wanted_of, Want}
+use Rattle.gh_mutator.proofs.Vocabulary.{after_assist, Assist, Assisting, assisting, assists, after_search, after_wait, answer_search, At, at_poll, cache_span, cache_with, CachedSpan, Found, gives_at, is_looking, Large, Name, NewStage, NoRoom, Place, Placing, Processor, rested, Search, Seeking, set, Shape, Small, Sought, span_index, takes_at, Task, Wait, Waiting, WaitStage, WaitState, Wanted, wanted_of, Want}
 use Rattle.gh_mutator.proofs.NewSteps.{search_wants}
 use Rattle.gh_mutator.proofs.Refusing.{KeptFor, kept, kept_first, refuses_none, search_looks}
 use Rattle.gh_mutator.proofs.Telling.{held_before}
@@ -48,6 +49,7 @@ knows_at w wait_stage.Ended v = refl
 abbrev is_over : NewStage → Bool
 is_over (Place p) = true
 is_over (Want n) = true
+is_over (Assist n x) = true
 is_over _ = false
 
 abbrev is_past : Task → Bool
@@ -55,36 +57,51 @@ is_past task.Idle = true
 is_past (task.New x) = is_over x.stage
 is_past _ = false
 
-place_past : (w : Wanted) (p : Placing) (asks : Option Bool) → is_past (made_task w p asks) ≡ true
-place_past w p None = refl
-place_past w p (Some true) = refl
-place_past w p (Some false) = refl
+made_past : (p : Polling) (w : Wanted) (n : Name) (marking : Bool) → is_past (cond marking (assists w n (assisting p w)) task.Idle) ≡ true
+made_past p w n true = refl
+made_past p w n false = refl
+
+place_past : (p : Polling) (w : Wanted) (x : Placing) (asks : Option Bool) → is_past (made_task p w x asks) ≡ true
+place_past p w x None = refl
+place_past p w x (Some true) = refl
+place_past p w x (Some false) = made_past p w x.name (marking_at p)
+
+assist_past : (m : Processor) (w : Wanted) (n : Name) (x : Assisting) (out : Option (Unit {0})) → is_past (after_assist m w n x out).task ≡ true
+assist_past m w n x None = refl
+assist_past m w n x (Some y) = refl
 
 new_past : (shapes : List Shape) (m : Processor) (w : Wanted) (s : NewStage) (v : ℕ) → is_over s ≡ true → is_past (takes_new shapes m w s v).task ≡ true
 new_past shapes m w (Search waited s) v e = absurd (cc)
 new_past shapes m w (Wait x) v e = absurd (cc)
-new_past shapes m w (Place p) v e = place_past w (place.goes p v) (place.gives p v)
+new_past shapes m w (Place p) v e = place_past m.poll w (place.goes p v) (place.gives p v)
 new_past shapes m w (Want n) v e = refl
+new_past shapes m w (Assist n x) v e = assist_past m w n (assist.goes x v) (assist.gives x v)
 
 past_at : (shapes : List Shape) (m : Processor) (t : Task) (v : ℕ) → m.task ≡ t → is_past t ≡ true → is_past (takes_at shapes m t v).task ≡ true
 past_at shapes m task.Idle v at e = rw at refl
 past_at shapes m (task.New x) v at e = new_past shapes m x.wanted x.stage v e
 past_at shapes m _ v at e = absurd (cc)
 
-place_answers : (n : Name) (asks : Option Bool) → answer_made n asks ≡ Some answer.Full → ⊥
-place_answers n None e = absurd (cc)
-place_answers n (Some true) e = absurd (cc)
-place_answers n (Some false) e = absurd (cc)
+place_answers : (marking : Bool) (n : Name) (asks : Option Bool) → answer_made marking n asks ≡ Some answer.Full → ⊥
+place_answers marking n None e = absurd (cc)
+place_answers marking n (Some true) e = absurd (cc)
+place_answers true n (Some false) e = absurd (cc)
+place_answers false n (Some false) e = absurd (cc)
 
-new_answers : (s : NewStage) (v : ℕ) → is_over s ≡ true → gives_new s v ≡ Some answer.Full → ⊥
-new_answers (Search waited s) v e h = absurd (cc (e))
-new_answers (Wait x) v e h = absurd (cc (e))
-new_answers (Place p) v e h = place_answers p.name (place.gives p v) h
-new_answers (Want n) v e h = absurd (cc)
+assist_answers : (n : Name) (out : Option (Unit {0})) → answer_assist n out ≡ Some answer.Full → ⊥
+assist_answers n None e = absurd (cc)
+assist_answers n (Some y) e = absurd (cc)
+
+new_answers : (marking : Bool) (s : NewStage) (v : ℕ) → is_over s ≡ true → gives_new marking s v ≡ Some answer.Full → ⊥
+new_answers marking (Search waited s) v e h = absurd (cc (e))
+new_answers marking (Wait x) v e h = absurd (cc (e))
+new_answers marking (Place p) v e h = place_answers marking p.name (place.gives p v) h
+new_answers marking (Want n) v e h = absurd (cc)
+new_answers marking (Assist n x) v e h = assist_answers n (assist.gives x v) h
 
 past_answers : (m : Processor) (t : Task) (v : ℕ) → is_past t ≡ true → gives_at m t v ≡ Some answer.Full → ⊥
 past_answers m task.Idle v e h = absurd (cc)
-past_answers m (task.New x) v e h = new_answers x.stage v e h
+past_answers m (task.New x) v e h = new_answers (marking_at m.poll) x.stage v e h
 past_answers m _ v e h = absurd (cc)
 
 -- `full` is answered behind the wait alone
@@ -115,6 +132,7 @@ module _ (m : Mutating) (g d t : ℕ) (found : ℕ → ℕ) where
   Facts i p (Wait x) = x.known ≡ m.processor.poll.local.view.begun
   Facts i p (Place q) = ⊥
   Facts i p (Want n) = ⊥
+  Facts i p (Assist n x) = ⊥
 
   -- the poll's registers, layout and seat are those of the beginning
   record Same (p : Polling) : Type 0 where
@@ -183,6 +201,7 @@ module _ (m : Mutating) (g d t : ℕ) (found : ℕ → ℕ) where
       (λ u is. let l = ends_later (wait.waiting x p) x.stage (found i) u is in record { at_step = i; before = omega arith; loads = ap asks e ∙ ap (wait.asks_at (wait.waiting x p)) l.0; later = subst (λ (n : ℕ). n < found i) f l.1 })
   next_at i p (Place q) e k f = absurd f
   next_at i p (Want n) e k f = absurd f
+  next_at i p (Assist n x) e k f = absurd f
 
   next : (i : ℕ) → Stands i (now i) → Next (suc i) (now (suc i))
   next i st = subst (λ (x : Mutating). Next (suc i) (goes x (found i))) (sym st.is) (next_at i st.p st.s st.is st.same st.facts)
@@ -212,6 +231,7 @@ module _ (m : Mutating) (g d t : ℕ) (found : ℕ → ℕ) where
   looks_at i p (Wait x) f e = absurd (cc)
   looks_at i p (Place q) f e = absurd f
   looks_at i p (Want n) f e = absurd f
+  looks_at i p (Assist n x) f e = absurd f
 
   looks : (i : ℕ) → Stands i (now i) → is_waiting (now i).processor.task ≡ false → is_looking (asks (now i)) ≡ true
   looks i st e = subst (λ (x : Mutating). is_looking (asks x) ≡ true) (sym st.is) (looks_at i st.p st.s st.facts (subst (λ (x : Mutating). is_waiting x.processor.task ≡ false) st.is e))
@@ -248,6 +268,7 @@ module _ (m : Mutating) (g d t : ℕ) (found : ℕ → ℕ) where
   leaves_at n p (Wait x) k f e = absurd (cc)
   leaves_at n p (Place q) k f e = absurd f
   leaves_at n p (Want u) k f e = absurd f
+  leaves_at n p (Assist u x) k f e = absurd f
 
   leaves : (n : ℕ) → Stands n (now n) → gives (now n) (found n) ≡ Some answer.Full → Leaves n (now (suc n))
   leaves n st e = subst (λ (x : Mutating). Leaves n (goes x (found n))) (sym st.is) (leaves_at n st.p st.s st.same st.facts (subst (λ (x : Mutating). gives x (found n) ≡ Some answer.Full) st.is e))

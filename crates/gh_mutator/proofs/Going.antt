@@ -1,4 +1,5 @@
 -- A processor that goes on while a cycle is marked.
+pub mod Assist
 pub mod Begins
 pub mod End
 pub mod Global

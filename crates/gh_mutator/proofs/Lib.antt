@@ -22,6 +22,8 @@ pub mod PollRoom
 pub mod Refusing
 mod Shaking
 pub mod Soundness
+mod Spending
+mod Owing
 pub mod StackMarking
 pub mod Steps
 pub mod StoreSteps

@@ -8,15 +8,19 @@ use Rattle.gh_alloc.specs.Stays.{Base, search_base, stays}
 use Rattle.gh_alloc.specs.Find as find
 use Rattle.gh_alloc.specs.Place as place
 use Rattle.gh_alloc.specs.Search as search
+use Rattle.gh_assist.specs.Listing as assist
+use Rattle.gh_assist.specs.Stays as assists_stay
 use Rattle.gh_mutator.specs.declared.task.Task.TheVariants as task
 use Rattle.gh_mutator.specs.declared.new.New.{New}
-use Rattle.gh_mutator.specs.New.{after_found, is_made, made_task, placing, searches, seeking, takes_at, waits, wants}
+use Rattle.gh_mutator.specs.Local.{marking_at}
+use Rattle.gh_mutator.specs.New.{after_found, is_made, made_task, made_then, placing, searches, seeking, takes_at, waits, wants, with_payment}
 use Rattle.gh_mutator.specs.NewParts.{made_at, MakingFits}
+use Rattle.gh_mutator.specs.Poll.{Polling}
 use Rattle.gh_mutator.specs.Processor.{cached_for, made_by, set_register}
 use Rattle.gh_mutator.specs.Sound.{most_objects, Sound, SoundSearch, SoundTask, SoundWanted}
 use Rattle.gh_mutator.specs.Stays.{wait_stacks, wait_stays}
 use Rattle.gh_mutator.specs.Wait as wait
-use Rattle.gh_mutator.proofs.Vocabulary.{after_search, after_wait, At, at_poll, at_task, cache_span, CachedSpan, FitsWait, Found, Large, Layout, made_object, makes, NewStage, NoRoom, Place, PlaceStage, Placing, Processor, read_after_set, Search, Seeking, set, Shape, slots_of, Small, Sought, takes, takes_at as takes_by, Task, Wait, Waiting, Want, Wanted}
+use Rattle.gh_mutator.proofs.Vocabulary.{after_assist, Assist, Assisting, assisting, assists, Name, after_search, after_wait, At, at_poll, at_task, cache_span, CachedSpan, FitsWait, Found, Large, Layout, made_object, makes, NewStage, NoRoom, Place, PlaceStage, Placing, Processor, read_after_set, Search, Seeking, set, Shape, slots_of, Small, Sought, takes, takes_at as takes_by, Task, Wait, Waiting, Want, Wanted}
 use Rattle.gh_mutator.proofs.Changes.{moved, polled, taken}
 use Rattle.gh_mutator.proofs.Waits.{wait_fits}
 
@@ -93,14 +97,19 @@ module _ (shapes : List Shape) where
       let n : Sound shapes (at_task (set_register m w.g w.d (value.Ref (a + 1))) task.Idle) = taken shapes m w.g w.d (Some (value.Ref (a + 1))) task.Idle s near tt in
       record { registers = n.registers; few = λ i. counts m w.g i s few; task = h }
 
+  -- the assist behind it is of this heap
+  then_sound : (p q : Polling) (made : List ℕ) (w : Wanted) (n : Name) → p.layout ≡ q.layout → SoundWanted shapes w → (marking : Bool) → SoundTask shapes q made (cond marking (assists w n (assisting p w)) task.Idle)
+  then_sound p q made w n same wanted true = (wanted, record { busy = refl; layout = same }, tt)
+  then_sound p q made w n same wanted false = tt
+
   place_on : (m : Processor) (w : Wanted) (made : Bool) (asks : Option Bool) (a : ℕ) (p : Placing) → Sound shapes m → SoundWanted shapes w → p.layout ≡ m.poll.layout → (made ≡ true → a + 1 ≤ 1024 * m.poll.layout.pages) → place.given p ≡ asks → (made ≡ true → made_by m w.g < most_objects) → (made ≡ true → is_made p.stage ≡ true) → (made ≡ false → is_made p.stage ≡ false → made_by m w.g < most_objects) →
-      Sound shapes (at_task (cond made (made_object m w a) m) (made_task w p asks))
+      Sound shapes (at_task (cond made (made_object m w a) m) (made_task m.poll w p asks))
   place_on m w true None a p s wanted layout near asks few gone unmade = made_sound m w a (makes w p) s (near refl) (few refl) (wanted, record { busy = ap is_none asks; layout = layout }, λ e. absurd (cc (e, gone refl)))
   place_on m w true (Some true) a p s wanted layout near asks few gone unmade = made_sound m w a (wants w p.name) s (near refl) (few refl) (wanted, tt, tt)
-  place_on m w true (Some false) a p s wanted layout near asks few gone unmade = made_sound m w a task.Idle s (near refl) (few refl) tt
+  place_on m w true (Some false) a p s wanted layout near asks few gone unmade = made_sound m w a (made_then m.poll w p.name) s (near refl) (few refl) (then_sound m.poll (set_register m w.g w.d (value.Ref (a + 1))).poll (set m.made w.g (made_by m w.g + 1)) w p.name refl wanted (marking_at m.poll))
   place_on m w false None a p s wanted layout near asks few gone unmade = moved shapes m (makes w p) s (wanted, record { busy = ap is_none asks; layout = layout }, unmade refl)
   place_on m w false (Some true) a p s wanted layout near asks few gone unmade = moved shapes m (wants w p.name) s (wanted, tt, tt)
-  place_on m w false (Some false) a p s wanted layout near asks few gone unmade = moved shapes m task.Idle s tt
+  place_on m w false (Some false) a p s wanted layout near asks few gone unmade = moved shapes m (made_then m.poll w p.name) s (then_sound m.poll m.poll m.made w p.name refl wanted (marking_at m.poll))
 
   -- the object's first heap word is asked for where it is made alone
   at_within : (l : Layout) (acts : Bool) (a : ℕ) → MakingFits l (cond acts (Some a) None) → acts ≡ true → a + 1 ≤ 1024 * l.pages
@@ -111,6 +120,11 @@ module _ (shapes : List Shape) where
   wait_on : (m : Processor) (w : Wanted) (x : Waiting) (out : Option (Unit {0})) → Sound shapes m → SoundWanted shapes w → made_by m w.g < most_objects → x.poll.layout ≡ m.poll.layout → x.poll.local.stacks ≡ m.poll.local.stacks → (out ≡ None → FitsWait x.poll x.wait) → Sound shapes (after_wait m w x out)
   wait_on m w x None s wanted name layout stacks fits = polled shapes m x.poll (waits w x) s layout stacks (wanted, fits refl, name)
   wait_on m w x (Some y) s wanted name layout stacks fits = polled shapes m x.poll (searches w true (seeking (at_poll m x.poll) w)) s layout stacks (wanted, search_sound (at_poll m x.poll) w, name)
+
+  -- after a step of the assist
+  assist_on : (m : Processor) (w : Wanted) (n : Name) (x : Assisting) (out : Option (Unit {0})) → Sound shapes m → SoundWanted shapes w → x.layout ≡ m.poll.layout → assist.given x ≡ out → Sound shapes (after_assist m w n x out)
+  assist_on m w n x None s wanted layout e = moved shapes m (assists w n x) s (wanted, record { busy = ap is_none e; layout = layout }, tt)
+  assist_on m w n x (Some y) s wanted layout e = polled shapes m (with_payment m.poll x) task.Idle s refl refl tt
 
   -- the step at this stage; it makes the object in the arena
   pub new_sound : (m : Processor) (w : Wanted) (x : NewStage) (found : ℕ) → Sound shapes m → SoundTask shapes m.poll m.made (task.New (record { wanted = w; stage = x })) → ((p : Placing) → x ≡ Place p → MakingFits p.layout (made_at p)) → Sound shapes (takes_at shapes m w x found)
@@ -124,6 +138,7 @@ module _ (shapes : List Shape) where
       place_on m w (place.acts p) (place.gives p found) p.at (place.goes p found) s here.0 here.1.layout (λ e. subst (λ (l : Layout). p.at + 1 ≤ 1024 * l.pages) here.1.layout (at_within p.layout (place.acts p) p.at (fits p refl) e)) refl
       (λ e. here.2 (acts_unmade p.stage e)) (made_after p p.stage found) (λ e unmade. here.2 (unmade_before p p.stage found unmade))
   new_sound m w (Want n) found s here fits = moved shapes m task.Idle s tt
+  new_sound m w (Assist n x) found s here fits = assist_on m w n (assist.goes x found) (assist.gives x found) s here.0 (assists_stay.stays x found ∙ here.1.layout) refl
 
   pub take_sound : (m : Processor) (n : New) (found : ℕ) (next : Processor) → Sound shapes m → m.task ≡ task.New n → ((p : Placing) → n.stage ≡ Place p → MakingFits p.layout (made_at p)) → next ≡ takes shapes m found → Sound shapes next
   take_sound m n found next s at fits goes =

@@ -1,3 +1,4 @@
+pub mod AssistSteps
 pub mod Barrier
 pub mod Begins
 pub mod Cache

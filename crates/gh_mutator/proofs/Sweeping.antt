@@ -8,6 +8,7 @@ use Rattle.gh_alloc.specs.Find as find
 use Rattle.gh_alloc.specs.Place as place
 use Rattle.gh_alloc.specs.Search as search
 use Rattle.gh_alloc.specs.SearchFacts.{SweepsHere}
+use Rattle.gh_assist.specs.Listing as assist
 use Rattle.gh_sweep.specs.Listing.{is_busy, opening, Sweeping}
 use Rattle.gh_sweep.specs.Listing as sweep
 use Rattle.gh_sweep.specs.Running.{BeginsSweep, on_from, RunsSweeps}
@@ -17,6 +18,7 @@ use Rattle.gh_mutator.specs.Facts.{FactsAt, rest}
 use Rattle.gh_mutator.specs.Global as global
 use Rattle.gh_mutator.specs.Leave as leave
 use Rattle.gh_mutator.specs.Load as load
+use Rattle.gh_mutator.specs.Local.{marking_at}
 use Rattle.gh_mutator.specs.New as new
 use Rattle.gh_mutator.specs.New.{makes, searches, seeking, wanted_of}
 use Rattle.gh_mutator.specs.Poll as poll
@@ -27,7 +29,7 @@ use Rattle.gh_mutator.specs.Store as store
 use Rattle.gh_mutator.specs.Sweeping.{ProcessorsRunSweeps, sweep_at, sweep_in, sweep_new}
 use Rattle.gh_mutator.specs.Vocabulary.{Answer, Arena, View}
 use Rattle.gh_mutator.specs.Wait as wait
-use Rattle.gh_mutator.proofs.Vocabulary.{after_gc, after_leave, after_poll, after_search, after_wait, asks_at, At, at_poll, at_task, begins, cache_span, CachedSpan, Ends, Finding, FindStage, follows, Found, GoesOn, has_left_at, Large, Layout, Leaving, NewStage, NoRoom, Op, Place, Placing, Processor, register_of, Search, SearchStage, Seeking, Shape, slots_of, Small, Sought, takes_at, Task, Then, Wait, Waiting, Wanted, Want}
+use Rattle.gh_mutator.proofs.Vocabulary.{after_assist, Assist, Assisting, assisting, assists, Name, after_gc, after_leave, after_poll, after_search, after_wait, asks_at, At, at_poll, at_task, begins, cache_span, CachedSpan, Ends, Finding, FindStage, follows, Found, GoesOn, has_left_at, Large, Layout, Leaving, NewStage, NoRoom, Op, Place, Placing, Processor, register_of, Search, SearchStage, Seeking, Shape, slots_of, Small, Sought, takes_at, Task, Then, Wait, Waiting, Wanted, Want}
 
 -- what is known of the search by its laws
 pub record Known : Type 0 where
@@ -80,6 +82,7 @@ on_at k shapes m sw (task.New x) is busy = by x.stage is where
   by (Wait y) is = absurd (cc)
   by (Place y) is = absurd (cc)
   by (Want n) is = absurd (cc)
+  by (Assist n y) is = absurd (cc)
 on_at k shapes m sw _ is busy = absurd (cc)
 
 -- Where it begins one: behind a step of a search alone.
@@ -92,10 +95,18 @@ waited_none : (m : Processor) (w : Wanted) (x : Waiting) (out : Option (Unit {0}
 waited_none m w x None = refl
 waited_none m w x (Some y) = seeking_none (at_poll m x.poll) w
 
-placed_none : (m : Processor) (w : Wanted) (made : Bool) (asks : Option Bool) (at : ℕ) (p : Placing) → sweep_in (at_task (cond made (new.made_object m w at) m) (new.made_task w p asks)) ≡ None
+made_none : (p : Polling) (w : Wanted) (n : Name) (marking : Bool) → sweep_at (cond marking (assists w n (assisting p w)) task.Idle) ≡ None
+made_none p w n true = refl
+made_none p w n false = refl
+
+placed_none : (m : Processor) (w : Wanted) (made : Bool) (asks : Option Bool) (at : ℕ) (p : Placing) → sweep_in (at_task (cond made (new.made_object m w at) m) (new.made_task m.poll w p asks)) ≡ None
 placed_none m w made None at p = refl
 placed_none m w made (Some true) at p = refl
-placed_none m w made (Some false) at p = refl
+placed_none m w made (Some false) at p = made_none m.poll w p.name (marking_at m.poll)
+
+assisted_none : (m : Processor) (w : Wanted) (n : Name) (x : Assisting) (out : Option (Unit {0})) → sweep_in (after_assist m w n x out) ≡ None
+assisted_none m w n x None = refl
+assisted_none m w n x (Some y) = refl
 
 gc_none : (m : Processor) (g : ℕ) (x : Waiting) (out : Option (Unit {0})) → sweep_in (after_gc m g x out) ≡ None
 gc_none m g x None = refl
@@ -143,6 +154,7 @@ module _ (k : Known) (z : Arena) (a : ℕ) (v : View) (m : Processor) (pending :
     by (Wait y) = λ f none some. absurd (none_so _ (waited_none m x.wanted (wait.goes (wait.waiting y m.poll) found) (wait.gives (wait.waiting y m.poll) found)) some)
     by (Place y) = λ f none some. absurd (none_so _ (placed_none m x.wanted (place.acts y) (place.gives y found) y.at (place.goes y found)) some)
     by (Want n) = λ f none some. absurd (cc)
+    by (Assist n y) = λ f none some. absurd (none_so _ (assisted_none m x.wanted n (assist.goes y found) (assist.gives y found)) some)
   begins_at (task.Gc g x) is f none some = absurd (none_so _ (gc_none m g (wait.goes (wait.waiting x m.poll) found) (wait.gives (wait.waiting x m.poll) found)) some)
   begins_at task.Poll is f none some = absurd (none_so _ (poll_none m (poll.goes m.poll found) (poll.gives m.poll found)) some)
   begins_at (task.End g) is f none some = absurd (cc)

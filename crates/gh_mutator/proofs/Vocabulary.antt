@@ -25,11 +25,11 @@ pub use Rattle.gh_mutator.specs.Listing.{after_gc, after_leave, after_poll, appl
 pub use Rattle.gh_mutator.specs.Local.{cache_with, leaving, with_ended}
 pub use Rattle.gh_mutator.specs.MarkFacts.{holding}
 pub use Rattle.gh_mutator.specs.MarkVocabulary.{Cell, Cycle, effect, GiveStage, Good, Hands, Held, Keeps, KnowsObjects, landing, LeaveStage, Local, MarkingIsQuiet, MarkStackStage, moved, nothing, Others, PollStage, processor_kind, ProcessorIsQuiet, ScanStack, Shared, StackStage, Steps, WaitStage}
-pub use Rattle.gh_mutator.specs.New.{after_place, after_search, after_wait, answer_search, made_object, makes, wanted_of}
+pub use Rattle.gh_mutator.specs.New.{after_assist, after_place, after_search, after_wait, answer_search, assisting, assists, made_object, makes, wanted_of}
 pub use Rattle.gh_mutator.specs.Processor.{at_poll, at_task, cache_span, register_of, taking}
 pub use Rattle.gh_mutator.specs.ProcessorPlaces.{party_at, ProcessorInHandshake, SoundAt, stage_at}
 pub use Rattle.gh_mutator.specs.Serving.{has_left_at}
-pub use Rattle.gh_mutator.specs.Vocabulary.{Ask, At, CachedSpan, cell_of, Ends, Finding, FindStage, Found, Global, GlobalStage, GoesOn, IsOf, Large, Layout, Leaving, LoadStage, Name, NewStage, NoRoom, Op, Place, PlaceStage, Placing, Processor, Search, Seeking, Shape, slots_of, Small, Sought, span_index, Step, StoreStage, Task, Then, Value, Wait, Waiting, Wanted, Want}
+pub use Rattle.gh_mutator.specs.Vocabulary.{Ask, Assist, Assisting, At, CachedSpan, cell_of, Ends, Finding, FindStage, Found, Global, GlobalStage, GoesOn, IsOf, Large, Layout, Leaving, LoadStage, Name, NewStage, NoRoom, Op, Place, PlaceStage, Placing, Processor, Search, Seeking, Shape, slots_of, Small, Sought, span_index, Step, StoreStage, Task, Then, Value, Wait, Waiting, Wanted, Want}
 pub use Rattle.gh_mutator.specs.WaitSound.{FitsWait}
 pub use Rattle.gh_mutator.specs.Writing.{SoundScanAt, WritesOf}
 pub use Rattle.gh_mutator.specs.declared.wait.Wait.{Wait as WaitState}

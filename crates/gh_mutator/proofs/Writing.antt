@@ -1,4 +1,5 @@
 -- Which words a processor writes, and what it notes.
+pub mod Assisting
 pub mod Laws
 pub mod Polls
 pub mod Processor

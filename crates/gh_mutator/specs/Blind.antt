@@ -7,6 +7,8 @@ use Rattle.gh_base.specs.declared.value.Answer.TheVariants as answer
 use Rattle.gh_alloc.specs.Blind.{place_blind, search_blind}
 use Rattle.gh_alloc.specs.Place as place
 use Rattle.gh_alloc.specs.Search as search
+use Rattle.gh_assist.specs.Blind as assisting
+use Rattle.gh_assist.specs.Listing as assist
 use Rattle.gh_barrier.specs.Blind as writing
 use Rattle.gh_barrier.specs.Listing as write
 use Rattle.gh_phase.specs.Blind as resuming
@@ -38,7 +40,8 @@ use Rattle.gh_mutator.specs.Listing.{after_gc, after_leave, after_poll as after_
 use Rattle.gh_mutator.specs.Load as load
 use Rattle.gh_mutator.specs.MarkStack as mark
 use Rattle.gh_mutator.specs.Mutating.{asks, gives, goes, marks_after, Mutating}
-use Rattle.gh_mutator.specs.New.{after_place, after_search, after_wait, answer_made, answer_search}
+use Rattle.gh_mutator.specs.New.{after_assist, after_place, after_search, after_wait, answer_assist, answer_made, answer_search}
+use Rattle.gh_mutator.specs.Local.{marking_at}
 use Rattle.gh_mutator.specs.New as new
 use Rattle.gh_mutator.specs.Poll.{after_mark, after_resume, after_room, stops_then}
 use Rattle.gh_mutator.specs.Poll as poll
@@ -46,7 +49,7 @@ use Rattle.gh_mutator.specs.Processor.{cache_span, keeping, register_of}
 use Rattle.gh_mutator.specs.Serving.{answer_at}
 use Rattle.gh_mutator.specs.Step.{answered}
 use Rattle.gh_mutator.specs.Store as store
-use Rattle.gh_mutator.specs.Vocabulary.{Answer, Global, GlobalStage, Layout, Leaving, Load, LoadStage, NewStage, Place, Placing, Polling, Processor, Search, Seeking, Shape, Step, Store, StoreStage, Task, Value, Wait, Waiting, Want, Wanted}
+use Rattle.gh_mutator.specs.Vocabulary.{Answer, Assist, Assisting, Global, GlobalStage, Layout, Leaving, Load, LoadStage, NewStage, Place, Placing, Polling, Processor, Search, Seeking, Shape, Step, Store, StoreStage, Task, Value, Wait, Waiting, Want, Wanted}
 use Rattle.gh_mutator.specs.Wait as wait
 
 -- ---- giving back, the scan of a stack, a poll, a wait, and leaving
@@ -125,13 +128,14 @@ global_blind l held v x _ found other e = refl
 
 -- the processor behind the step, and what the operation is answered if it ends
 abbrev new_step : List Shape → Processor → Wanted → NewStage → (found : ℕ) → Processor × Option Answer
-new_step shapes m w s found = (new.takes_at shapes m w s found, new.gives_at s found)
+new_step shapes m w s found = (new.takes_at shapes m w s found, new.gives_at (marking_at m.poll) s found)
 
 new_blind : (shapes : List Shape) (m : Processor) (w : Wanted) (s : NewStage) (found other : ℕ) → is_store (new.asks_at m s) ≡ true → new_step shapes m w s found ≡ new_step shapes m w s other
 new_blind shapes m w (Search waited s) found other e = ap (λ (x : Seeking). (after_search shapes (cache_span m w.sought x.find.cached) w waited x (search.given x), answer_search waited (search.given x))) (search_blind s found other e)
 new_blind shapes m w (Wait x) found other e = ap (λ (y : Waiting). (after_wait m w y (wait.given y.wait.stage), None)) (wait_blind (wait.waiting x m.poll) found other e)
-new_blind shapes m w (Place p) found other e = ap (λ (x : Placing). (after_place m w (place.acts p) p.at x, answer_made p.name (place.given x))) (place_blind p found other e)
+new_blind shapes m w (Place p) found other e = ap (λ (x : Placing). (after_place m w (place.acts p) p.at x, answer_made (marking_at m.poll) p.name (place.given x))) (place_blind p found other e)
 new_blind shapes m w (Want n) found other e = refl
+new_blind shapes m w (Assist n x) found other e = ap (λ (y : Assisting). (after_assist m w n y (assist.given y), answer_assist n (assist.given y))) (assisting.blind x found other e)
 
 abbrev step_by : List Shape → Processor → Task → (found : ℕ) → Processor × Option Answer
 step_by shapes m t found = (takes_at shapes m t found, gives_at m t found)

@@ -20,7 +20,7 @@ use Rattle.gh_mutator.specs.Listing.{asks, is_busy_at, takes}
 use Rattle.gh_mutator.specs.MarkVocabulary.{Party, Stage, Cell, Cycle, GiveStage, IsParked, LeaveStage, PollStage, Shared, SoundPlace, WaitStage, Words, effect, opening_processor, party_of, processor_kind, stage_of}
 use Rattle.gh_mutator.specs.ProcessorMarks.{MarkFacts}
 use Rattle.gh_mutator.specs.Sweeping.{IsSweeping}
-use Rattle.gh_mutator.specs.Vocabulary.{Ask, GlobalStage, Layout, NewStage, StoreStage, Op, Place, Polling, Processor, Shape, Task, Wait}
+use Rattle.gh_mutator.specs.Vocabulary.{Ask, Assist, GlobalStage, Layout, NewStage, StoreStage, Op, Place, Polling, Processor, Shape, Task, Wait}
 use Rattle.gh_mutator.specs.Writing.{EndsStack, WritesOf}
 
 -- No buffer is held, also within the giving back.
@@ -56,10 +56,11 @@ module _ (p : Polling) where
   WaitsWithNone wait_stage.Polling = PollsWithNone p.stage
   WaitsWithNone _ = Unit {0}
 
-  -- an object whose making has begun is not marked
+  -- an object whose making has begun is not marked, and no assist runs
   abbrev pub MakesWithNone : NewStage → Type 0
   MakesWithNone (Wait x) = WaitsWithNone x.stage
   MakesWithNone (Place y) = IsMadeUnmarked y
+  MakesWithNone (Assist n x) = ⊥
   MakesWithNone _ = Unit {0}
 
   abbrev pub RunsWithNone : Task → Type 0

@@ -1,7 +1,7 @@
 -- What is known of a processor while any number of them change the heap: of what it alone knows, and of its rights, at every moment, and of the operation that it is at; and the laws: what each step of its own is, and that what is known lasts whatever others do. What is known while it polls, waits or leaves is in PollHeap.
 use Rattle.std.specs.Prelude.{◌≡◌, ◌≢◌, ℕ, ◌+◌, ◌^◌, ◌<◌, ◌≤◌, Bool, true, false, List, ◌++◌, length, slice_index, Option, Some, None}
 use Rattle.std.specs.Option.{option_to_list}
-use Rattle.gh_mutator.specs.Vocabulary.{Answer, Arena, cell_of, Ever, EverValue, fits, FitsShape, Global, GlobalStage, Good, is_number, IsMade, IsOf, Load, LoadStage, MOST_GOROUTINES, MOST_STATEMENTS, Name, NewStage, Op, page_of, Place, Placing, points, Polling, Processor, Register, REGISTERS, Runs, Search, Seeking, Shape, shape_at, Shared, size_for, Small, Sought, Source, SpanClass, SpanHead, Steps, Store, StoreStage, Task, View, view, Wait, Want, Wanted}
+use Rattle.gh_mutator.specs.Vocabulary.{Answer, Arena, Assist, cell_of, Ever, EverValue, fits, FitsShape, Global, GlobalStage, Good, is_number, IsMade, IsOf, Load, LoadStage, MOST_GOROUTINES, MOST_STATEMENTS, Name, NewStage, Op, page_of, Place, Placing, points, Polling, Processor, Register, REGISTERS, Runs, Search, Seeking, Shape, shape_at, Shared, size_for, Small, Sought, Source, SpanClass, SpanHead, Steps, Store, StoreStage, Task, View, view, Wait, Want, Wanted}
 use Rattle.gh_base.specs.declared.operation.Op.TheVariants as op
 use Rattle.gh_base.specs.declared.pack.PageWord.TheVariants as page
 use Rattle.gh_base.specs.declared.value.Answer.TheVariants as answer
@@ -15,6 +15,7 @@ use Rattle.gh_alloc.specs.Find.{span_for}
 use Rattle.gh_alloc.specs.FindFacts.{own_found, with_span}
 use Rattle.gh_alloc.specs.PlaceFacts as place
 use Rattle.gh_alloc.specs.SearchFacts as search
+use Rattle.gh_assist.specs.Within.{AssistWithin}
 use Rattle.gh_barrier.specs.declared.pointer_cell.PointerCell.TheVariants as pointer_cell
 use Rattle.gh_mutator.specs.declared.global.GlobalStage.TheVariants as global_stage
 use Rattle.gh_mutator.specs.declared.load.LoadStage.TheVariants as load_stage
@@ -59,6 +60,7 @@ module _ (m : Processor) where
   held_new w (Wait x) = waits_held (waiting x m.poll)
   held_new w (Place p) = place.held_in p (with_span (own_found w.sought p.at) (lists m.poll.local.cache))
   held_new w (Want n) = lists m.poll.local.cache
+  held_new w (Assist n x) = lists m.poll.local.cache
 
   abbrev pub held_at : Task → ℕ → Bool
   held_at task.Left = no_page
@@ -73,6 +75,7 @@ module _ (m : Processor) where
   locked_new (Wait x) = waits_locked (waiting x m.poll)
   locked_new (Place p) = false
   locked_new (Want n) = false
+  locked_new (Assist n x) = false
 
   abbrev pub is_locked_at : Task → Bool
   is_locked_at (task.New x) = locked_new x.stage
@@ -216,6 +219,7 @@ NewFacts z a v m w pending (Search waited q) = Searches z a v m w q pending
 NewFacts z a v m w pending (Wait x) = Wants z a v w × (pending ≡ None)
 NewFacts z a v m w pending (Place p) = Makes z a v m w p pending
 NewFacts z a v m w pending (Want n) = pending ≡ Some (answer.Ref n)
+NewFacts z a v m w pending (Assist n x) = (pending ≡ Some (answer.Ref n)) × AssistWithin z.layout x
 
 abbrev pub FactsAt : Arena → (a : ℕ) → View → Processor → Option Answer → Task → Type 0
 FactsAt z a v m pending (task.Load x) = LoadFacts z a v x pending x.stage

@@ -42,6 +42,7 @@ pub mod Room
 pub mod Runs
 pub mod Serving
 pub mod Sound
+pub mod Spending
 pub mod Stays
 pub mod Step
 pub mod Store

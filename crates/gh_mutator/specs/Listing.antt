@@ -11,7 +11,7 @@ use Rattle.gh_mutator.specs.declared.task.Task.TheVariants as task
 use Rattle.gh_mutator.specs.Global as global
 use Rattle.gh_mutator.specs.Leave as leave
 use Rattle.gh_mutator.specs.Load as load
-use Rattle.gh_mutator.specs.Local.{leaving, with_ended, with_nothing}
+use Rattle.gh_mutator.specs.Local.{leaving, marking_at, with_ended, with_nothing}
 use Rattle.gh_mutator.specs.New as new
 use Rattle.gh_mutator.specs.New.{searches, seeking, wanted_of}
 use Rattle.gh_mutator.specs.Poll as poll
@@ -123,7 +123,7 @@ gives_at m (task.Load x) found = answered (load.step m.poll.layout x found).then
 gives_at m (task.Store x) found = answered (store.step m.poll.layout m.poll.local (register_of m x.g x.v) x found).then
 gives_at m (task.Global x) found = answered (global.step m.poll.layout (register_of m x.g x.r) x found).then
 gives_at m (task.Register x) found = answered (register.step (register_of m x.g (register.read_of x)) x).then
-gives_at m (task.New x) found = new.gives_at x.stage found
+gives_at m (task.New x) found = new.gives_at (marking_at m.poll) x.stage found
 gives_at m (task.Gc g x) found = once_ended (wait.gives (wait.waiting x m.poll) found) answer.Swept
 gives_at m task.Poll found = once_ended (poll.gives m.poll found) answer.Done
 gives_at m (task.End g) found = Some answer.Done

@@ -24,6 +24,8 @@ first_local = record {
   cache = none_cached;
   held = None;
   polls = 0;
+  owed = 0;
+  spent = 0;
   scanned = replicate MOST_GOROUTINES 0;
   stacks = replicate MOST_GOROUTINES (replicate REGISTERS value.Nil);
 }

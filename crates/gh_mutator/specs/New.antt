@@ -1,6 +1,7 @@
--- A new object: the search for its slot, the wait for a cycle where there is none, the search once more, the making of the object in its slot, and the request for a cycle where the heap then reaches the trigger. Its steps change what the processor alone knows and the number of objects too, so they are steps of the processor.
-use Rattle.std.specs.Prelude.{ℕ, ◌+◌, ◌/◌, Bool, true, false, if◌then◌else◌, List, slice_set, Option, Some, None}
-use Rattle.gh_mutator.specs.Vocabulary.{Ask, Op, Shape, Answer, Name, shape_at, SizeClass, slot_words, Found, At, NoRoom, Sought, PlaceStage, Seeking, Placing, NewStage, Search, Wait, Place, Want, Waiting, Wanted, Processor, Task}
+-- A new object: the search for its slot, the wait for a cycle where there is none, the search once more, the making of the object in its slot, and behind that the request for a cycle where the heap then reaches the trigger, or the assist while marking is on. Its steps change what the processor alone knows and the number of objects too, so they are steps of the processor.
+use Rattle.std.specs.Prelude.{ℕ, ◌+◌, ◌*◌, ◌/◌, Bool, true, false, if◌then◌else◌, List, slice_set, Option, Some, None}
+use Rattle.gh_mutator.specs.Vocabulary.{Ask, Assist, Assisting, Op, Polling, Shape, Answer, Name, shape_at, SizeClass, slot_words, Found, At, NoRoom, Sought, PlaceStage, Seeking, Placing, NewStage, Search, Wait, Place, Want, Waiting, Wanted, Processor, Task}
+use Rattle.gh_assist.specs.Listing as assist
 use Rattle.gh_base.specs.declared.cell.Ask.TheVariants as ask
 use Rattle.gh_base.specs.declared.cell.Cell.TheVariants as cell
 use Rattle.gh_base.specs.declared.operation.Op.TheVariants as op
@@ -74,6 +75,13 @@ makes w p = task.New (record { wanted = w; stage = Place p })
 abbrev pub wants : Wanted → Name → Task
 wants w n = task.New (record { wanted = w; stage = Want n })
 
+abbrev pub assists : Wanted → Name → Assisting → Task
+assists w n x = task.New (record { wanted = w; stage = Assist n x })
+
+-- the assist for the bytes of the object's slot, with the buffer that is held
+abbrev pub assisting : Polling → Wanted → Assisting
+assisting p w = assist.opening p.layout p.seat p.local.held (8 * w.slot) p.local.owed p.local.spent
+
 -- The steps.
 
 abbrev pub asks_at : Processor → NewStage → Ask
@@ -81,6 +89,7 @@ asks_at m (Search waited s) = search.asks s
 asks_at m (Wait x) = wait.asks (wait.waiting x m.poll)
 asks_at m (Place p) = place.asks p
 asks_at m (Want n) = ask.Or cell.Want 1
+asks_at m (Assist n x) = assist.asks x
 
 -- the search has ended, and has found this: the object is made there; where there is no room, a cycle is waited for, and behind that the register is nil
 abbrev pub after_found : List Shape → Processor → Wanted → (waited : Bool) → Found → Processor
@@ -102,15 +111,28 @@ after_wait m w x (Some y) = at_task (at_poll m x.poll) (searches w true (seeking
 abbrev pub made_object : Processor → Wanted → (a : ℕ) → Processor
 made_object m w a = set_register (record m { made = slice_set m.made w.g (made_by m w.g + 1) }) w.g w.d (value.Ref (a + 1))
 
--- the task behind a step of the making, which is then p, and is over where it says whether a cycle is to be asked for
-abbrev pub made_task : Wanted → Placing → (asks : Option Bool) → Task
-made_task w p None = makes w p
-made_task w p (Some true) = wants w p.name
-made_task w p (Some false) = task.Idle
+-- the task once it is made and no cycle is asked for: while marking is on, as the processor knows, it assists
+abbrev pub made_then : Polling → Wanted → Name → Task
+made_then p w n = if marking_at p then assists w n (assisting p w) else task.Idle
+
+-- the task behind a step of the making, which is then x, and is over where it says whether a cycle is to be asked for
+abbrev pub made_task : Polling → Wanted → Placing → (asks : Option Bool) → Task
+made_task p w x None = makes w x
+made_task p w x (Some true) = wants w x.name
+made_task p w x (Some false) = made_then p w x.name
 
 -- after that step, by which the object at heap word a is made or not
 abbrev pub after_place : Processor → Wanted → (made : Bool) → (a : ℕ) → Placing → Processor
-after_place m w made a p = at_task (if made then made_object m w a else m) (made_task w p (place.given p))
+after_place m w made a p = at_task (if made then made_object m w a else m) (made_task m.poll w p (place.given p))
+
+-- it holds what the assist holds, and what is owed and spent is what that says
+abbrev pub with_payment : Polling → Assisting → Polling
+with_payment p x = record p { local = record (p.local) { held = assist.held_at x.held x.stage; owed = x.owed; spent = x.spent } }
+
+-- after a step of the assist, which is then x, and has ended or not
+abbrev pub after_assist : Processor → Wanted → Name → Assisting → Option (Unit {0}) → Processor
+after_assist m w n x None = at_task m (assists w n x)
+after_assist m w n x (Some y) = at_task (at_poll m (with_payment m.poll x)) task.Idle
 
 -- the processor after the step; the cached span is what the search says
 abbrev pub takes_at : List Shape → Processor → Wanted → NewStage → (found : ℕ) → Processor
@@ -118,6 +140,7 @@ takes_at shapes m w (Search waited s) found = after_search shapes (cache_span m 
 takes_at shapes m w (Wait x) found = after_wait m w (wait.goes (wait.waiting x m.poll) found) (wait.gives (wait.waiting x m.poll) found)
 takes_at shapes m w (Place p) found = after_place m w (place.acts p) p.at (place.goes p found)
 takes_at shapes m w (Want n) found = at_task m task.Idle
+takes_at shapes m w (Assist n x) found = after_assist m w n (assist.goes x found) (assist.gives x found)
 
 -- the search behind the wait has found no room
 abbrev pub refuses : (waited : Bool) → Option Found → Bool
@@ -134,15 +157,20 @@ abbrev pub answer_search : (waited : Bool) → Option Found → Option Answer
 answer_search waited None = None
 answer_search waited (Some out) = answer_found waited out
 
-abbrev pub answer_made : Name → (asks : Option Bool) → Option Answer
-answer_made n (Some false) = Some (answer.Ref n)
-answer_made n _ = None
+abbrev pub answer_made : (marking : Bool) → Name → (asks : Option Bool) → Option Answer
+answer_made marking n (Some false) = if marking then None else Some (answer.Ref n)
+answer_made marking n _ = None
 
-abbrev pub gives_at : NewStage → (found : ℕ) → Option Answer
-gives_at (Search waited s) found = answer_search waited (search.gives s found)
-gives_at (Wait x) found = None
-gives_at (Place p) found = answer_made p.name (place.gives p found)
-gives_at (Want n) found = Some (answer.Ref n)
+abbrev pub answer_assist : Name → Option (Unit {0}) → Option Answer
+answer_assist n None = None
+answer_assist n (Some y) = Some (answer.Ref n)
+
+abbrev pub gives_at : (marking : Bool) → NewStage → (found : ℕ) → Option Answer
+gives_at marking (Search waited s) found = answer_search waited (search.gives s found)
+gives_at marking (Wait x) found = None
+gives_at marking (Place p) found = answer_made marking p.name (place.gives p found)
+gives_at marking (Want n) found = Some (answer.Ref n)
+gives_at marking (Assist n x) found = answer_assist n (assist.gives x found)
 
 -- the statement acts by the step, and whether it then found no room
 abbrev pub acts_at : NewStage → (found : ℕ) → Bool
@@ -150,14 +178,17 @@ acts_at (Search waited s) found = refuses waited (search.gives s found)
 acts_at (Wait x) found = false
 acts_at (Place p) found = place.acts p
 acts_at (Want n) found = false
+acts_at (Assist n x) found = false
 
 abbrev pub is_full_at : NewStage → Bool
 is_full_at (Place p) = false
 is_full_at (Want n) = false
+is_full_at (Assist n x) = false
 is_full_at _ = true
 
 -- the operation, until it has acted
 abbrev pub unacted : Wanted → NewStage → Option Op
 unacted w (Place p) = if is_made p.stage then None else Some (op_of w)
 unacted w (Want n) = None
+unacted w (Assist n x) = None
 unacted w _ = Some (op_of w)

@@ -1,8 +1,8 @@
 -- The parts of a step of a new object, as the code makes them: what the making says, and what the processor does then.
 use Rattle.std.specs.Prelude.{ℕ, ◌+◌, ◌*◌, ◌≤◌, Bool, true, false, if◌then◌else◌, Option, Some, None}
-use Rattle.gh_mutator.specs.Vocabulary.{Layout, Name, Placing, Processor, Wanted, Idle}
+use Rattle.gh_mutator.specs.Vocabulary.{Layout, Name, Placing, Processor, Wanted}
 use Rattle.gh_alloc.specs.Place as place
-use Rattle.gh_mutator.specs.New.{made_object, wants}
+use Rattle.gh_mutator.specs.New.{made_object, made_then, wants}
 use Rattle.gh_mutator.specs.Processor.{at_task}
 
 -- a step of the making makes the object in the slot at this heap word
@@ -17,7 +17,7 @@ made_by_step m w (Some a) = made_object m w a
 abbrev pub after_making : Processor → Wanted → Option ℕ → Name → (asks : Option Bool) → Processor
 after_making m w made n None = made_by_step m w made
 after_making m w made n (Some true) = at_task (made_by_step m w made) (wants w n)
-after_making m w made n (Some false) = at_task (made_by_step m w made) Idle
+after_making m w made n (Some false) = at_task (made_by_step m w made) (made_then m.poll w n)
 
 -- the object's slot lies in the arena
 abbrev pub MakingFits : Layout → Option ℕ → Type 0

@@ -96,9 +96,17 @@ abbrev pub by_phase : Polling → (stops : ℕ) → Option RunPhase → Polling
 by_phase p stops None = stops_then p (giving p) stops
 by_phase p stops (Some phase) = marks_then p p.local.view.phase
 
+-- what is owed behind a stop: where marking is off, or another cycle is marked, it is dropped
+abbrev pub owed_in : (another_cycle : Bool) → RunPhase → (owed : ℕ) → ℕ
+owed_in false run.Mark owed = owed
+owed_in another_cycle phase owed = 0
+
+abbrev pub owed_then : Resumed → (owed : ℕ) → ℕ
+owed_then out owed = owed_in out.another_cycle out.view.phase owed
+
 -- it knows this of the phase from now on; the polls are counted anew in another cycle
 abbrev pub resumed : Polling → Resumed → Polling
-resumed p out = record p { local = record (p.local) { view = out.view; polls = (if out.another_cycle then 0 else p.local.polls) } }
+resumed p out = record p { local = record (p.local) { view = out.view; polls = (if out.another_cycle then 0 else p.local.polls); owed = owed_then out p.local.owed } }
 
 abbrev pub after_resume : Polling → resume.Resuming → Option Resumed → Polling
 after_resume p r None = at_stage p (Resuming r)

@@ -3,6 +3,7 @@ use Rattle.std.specs.Prelude.{◌≡◌, ◌≢◌, ℕ, Bool, true, false, List
 use Rattle.gh_alloc.specs.declared.place.PlaceStage.{PlaceStage}
 use Rattle.gh_alloc.specs.declared.place.PlaceStage.TheVariants as place_stage
 use Rattle.gh_alloc.specs.Place.{Placing}
+use Rattle.gh_assist.specs.Facts as assist_facts
 use Rattle.gh_barrier.specs.Facts as write_facts
 use Rattle.gh_barrier.specs.Listing.{Writing}
 use Rattle.gh_phase.specs.declared.view.RunPhase.TheVariants.{Mark}
@@ -15,7 +16,7 @@ use Rattle.gh_mutator.specs.Listing.{asks, begins, takes}
 use Rattle.gh_mutator.specs.Local.{register_at}
 use Rattle.gh_mutator.specs.MarkFacts.{IsBetween, holding, KnowsCycle, KnowsNumber, KnowsStacks, LeaveFacts, PollFacts, WaitFacts}
 use Rattle.gh_mutator.specs.MarkVocabulary.{Cycle, Good, Hands, IsParked, KnowsObjects, Local, Others, Shared, Steps, cell_of, nothing, stage_of}
-use Rattle.gh_mutator.specs.Vocabulary.{GlobalStage, NewStage, Op, Place, Polling, Processor, Search, Shape, Store, StoreStage, Task, Wait, Want}
+use Rattle.gh_mutator.specs.Vocabulary.{Assist, Assisting, GlobalStage, NewStage, Op, Place, Polling, Processor, Search, Shape, Store, StoreStage, Task, Wait, Want}
 use Rattle.gh_mutator.specs.Wait.{waiting}
 
 -- a write behind the write barrier, beside what is known between two polls
@@ -36,6 +37,12 @@ pub record IsPlacing (z : Cycle) (a : ℕ) (s : Shared) (local : Local) (x : Pla
   pub number : KnowsNumber z local.view
   pub hands : Hands a s (record (holding local.held) { placing = reserved_at x.at x.stage })
 
+-- an assist behind the making of an object
+pub record IsAssisting (z : Cycle) (a : ℕ) (s : Shared) (local : Local) (x : Assisting) : Type 0 where
+  pub stacks : KnowsStacks z a s local.stacks local.scanned
+  pub number : KnowsNumber z local.view
+  pub assists : assist_facts.Facts z a s x
+
 module _ (z : Cycle) (a : ℕ) (s : Shared) (p : Polling) where
   -- a new object
   abbrev pub NewFacts : NewStage → Type 0
@@ -43,6 +50,7 @@ module _ (z : Cycle) (a : ℕ) (s : Shared) (p : Polling) where
   NewFacts (Place x) = IsPlacing z a s p.local x
   NewFacts (Search waited y) = IsBetween z a s p.local
   NewFacts (Want n) = IsBetween z a s p.local
+  NewFacts (Assist n x) = IsAssisting z a s p.local x
 
   -- a store has room for its write barrier until it writes, by which word of the bitmap it finds; without the barrier it writes numbers alone
   abbrev pub StoreFacts : Store → StoreStage → Type 0

@@ -1,4 +1,6 @@
 -- What a processor runs while it is awake writes no word of the handshake.
+use Rattle.gh_assist.specs.Listing as assist
+use Rattle.gh_assist.specs.Listing.{Assisting}
 use Rattle.gh_base.specs.declared.layout.Layout.{Layout}
 use Rattle.gh_base.specs.declared.value.Value.{Value}
 use Rattle.gh_alloc.specs.Place.{Placing}
@@ -28,3 +30,4 @@ pub record ProcessorIsQuiet : Type 0 where
   pub registers : (x : Register) → IsQuiet (register.asks x)
   pub searches : (s : Seeking) → IsQuiet (search.asks s)
   pub makes : (p : Placing) → IsQuiet (place.asks p)
+  pub assists : (x : Assisting) → IsQuiet (assist.asks x)

@@ -5,6 +5,7 @@ use Rattle.gh_base.specs.declared.limits.TheConstants.{MOST_STATEMENTS}
 use Rattle.gh_base.specs.declared.operation.Op.TheVariants as op
 use Rattle.gh_base.specs.declared.value.Value.TheVariants as value
 use Rattle.gh_alloc.specs.Place as place
+use Rattle.gh_assist.specs.Listing as assist
 use Rattle.gh_alloc.specs.Search as search
 use Rattle.gh_alloc.specs.FindSound.{IsSought}
 use Rattle.gh_alloc.specs.Within.{words_of}
@@ -133,11 +134,13 @@ SoundStage p w (new.Search waited s) = SoundSearch p.layout w s
 SoundStage p w (new.Wait x) = FitsWait p x
 SoundStage p w (new.Place x) = SoundPlace p.layout x
 SoundStage p w (new.Want n) = Unit {0}
+SoundStage p w (new.Assist n x) = Runs p.layout x.layout (assist.is_busy x.stage)
 
 -- there is a further name for the object that is being made
 abbrev pub HasName : (made : ℕ) → NewStage → Type 0
 HasName made (new.Place p) = is_made p.stage ≡ false → made < most_objects
 HasName made (new.Want n) = Unit {0}
+HasName made (new.Assist n x) = Unit {0}
 HasName made _ = made < most_objects
 
 -- the leave is of this heap, and it is not over

@@ -8,6 +8,7 @@ use Rattle.gh_base.specs.declared.held.Held.{Held}
 use Rattle.gh_base.specs.declared.value.Answer.TheVariants as answer
 use Rattle.gh_alloc.specs.Place as place
 use Rattle.gh_alloc.specs.Search as search
+use Rattle.gh_assist.specs.Listing as assist
 use Rattle.gh_phase.specs.declared.resume.Resumed.{Resumed}
 use Rattle.gh_phase.specs.declared.view.RunPhase.{RunPhase}
 use Rattle.gh_phase.specs.declared.view.RunPhase.TheVariants as run
@@ -36,16 +37,17 @@ use Rattle.gh_mutator.specs.Global as global
 use Rattle.gh_mutator.specs.Leave as leave
 use Rattle.gh_mutator.specs.Listing.{after_gc, after_leave, after_poll as after_polls, follows, gives_at, is_busy_at, once_ended, takes_at}
 use Rattle.gh_mutator.specs.Load as load
+use Rattle.gh_mutator.specs.Local.{marking_at}
 use Rattle.gh_mutator.specs.MarkStack as mark
 use Rattle.gh_mutator.specs.Mutating.{Mutating, gives, goes, is_busy, layout}
-use Rattle.gh_mutator.specs.New.{after_found, after_place, after_search, after_wait, answer_made, answer_search, made_task}
+use Rattle.gh_mutator.specs.New.{after_assist, after_found, after_place, after_search, after_wait, answer_assist, answer_made, answer_search, assisting, assists, made_task}
 use Rattle.gh_mutator.specs.New as new
 use Rattle.gh_mutator.specs.Poll as poll
 use Rattle.gh_mutator.specs.Poll.{after_mark, after_resume, after_room, by_phase, due, giving, marks_then, resumed, scans, stops_then}
 use Rattle.gh_mutator.specs.Processor.{cache_span, keeping, register_of, taking}
 use Rattle.gh_mutator.specs.Step.{answered}
 use Rattle.gh_mutator.specs.Store as store
-use Rattle.gh_mutator.specs.Vocabulary.{Shape, Answer, Found, At, NoRoom, Layout, Leaving, Placing, Polling, Seeking, Name, NewStage, Search, Wait, Place, Waiting, Want, Wanted, Processor, Then, GoesOn, Ends, Task, Value}
+use Rattle.gh_mutator.specs.Vocabulary.{Assist, Assisting, Shape, Answer, Found, At, NoRoom, Layout, Leaving, Placing, Polling, Seeking, Name, NewStage, Search, Wait, Place, Waiting, Want, Wanted, Processor, Then, GoesOn, Ends, Task, Value}
 use Rattle.gh_mutator.specs.Wait as wait
 
 -- ---- giving back, the scan of a stack, and leaving
@@ -108,8 +110,8 @@ leaves_on g = by (give.is_busy g.stage) where
 -- ---- a poll and a wait
 
 -- what a poll leaves as it is
-abbrev kept : Polling → Layout × ℕ × List (List Value)
-kept p = (p.layout, p.seat, p.local.stacks)
+abbrev kept : Polling → Layout × ℕ × List (List Value) × ℕ
+kept p = (p.layout, p.seat, p.local.stacks, p.local.spent)
 
 scans_keeps : (p : Polling) (g : Option ℕ) → kept (scans p g) ≡ kept p
 scans_keeps p None = refl
@@ -155,10 +157,13 @@ poll_keeps : (p : Polling) (found : ℕ) → kept (poll.goes p found) ≡ kept p
 poll_keeps p found = poll_at p p.stage found
 
 pub poll_stays : (p : Polling) (found : ℕ) → (poll.goes p found).layout ≡ p.layout
-poll_stays p found = ap (λ (x : Layout × ℕ × List (List Value)). x.0) (poll_keeps p found)
+poll_stays p found = ap (λ (x : Layout × ℕ × List (List Value) × ℕ). x.0) (poll_keeps p found)
 
 pub poll_stacks : (p : Polling) (found : ℕ) → (poll.goes p found).local.stacks ≡ p.local.stacks
-poll_stacks p found = ap (λ (x : Layout × ℕ × List (List Value)). x.2) (poll_keeps p found)
+poll_stacks p found = ap (λ (x : Layout × ℕ × List (List Value) × ℕ). x.2) (poll_keeps p found)
+
+pub poll_spent : (p : Polling) (found : ℕ) → (poll.goes p found).local.spent ≡ p.local.spent
+poll_spent p found = ap (λ (x : Layout × ℕ × List (List Value) × ℕ). x.3) (poll_keeps p found)
 
 after_keeps : (w : Waiting) (p : Polling) (out : Option (Unit {0})) → kept (wait.after_poll w p out).poll ≡ kept p
 after_keeps w p None = refl
@@ -174,13 +179,16 @@ wait_at w wait_stage.LoadSwept found = swept_keeps w (wait.is_later w.wait.known
 wait_at w _ found = refl
 
 pub wait_stays : (w : Waiting) (found : ℕ) → (wait.goes w found).poll.layout ≡ w.poll.layout
-wait_stays w found = ap (λ (x : Layout × ℕ × List (List Value)). x.0) (wait_at w w.wait.stage found)
+wait_stays w found = ap (λ (x : Layout × ℕ × List (List Value) × ℕ). x.0) (wait_at w w.wait.stage found)
 
 pub wait_seat : (w : Waiting) (found : ℕ) → (wait.goes w found).poll.seat ≡ w.poll.seat
-wait_seat w found = ap (λ (x : Layout × ℕ × List (List Value)). x.1) (wait_at w w.wait.stage found)
+wait_seat w found = ap (λ (x : Layout × ℕ × List (List Value) × ℕ). x.1) (wait_at w w.wait.stage found)
 
 pub wait_stacks : (w : Waiting) (found : ℕ) → (wait.goes w found).poll.local.stacks ≡ w.poll.local.stacks
-wait_stacks w found = ap (λ (x : Layout × ℕ × List (List Value)). x.2) (wait_at w w.wait.stage found)
+wait_stacks w found = ap (λ (x : Layout × ℕ × List (List Value) × ℕ). x.2) (wait_at w w.wait.stage found)
+
+pub wait_spent : (w : Waiting) (found : ℕ) → (wait.goes w found).poll.local.spent ≡ w.poll.local.spent
+wait_spent w found = ap (λ (x : Layout × ℕ × List (List Value) × ℕ). x.3) (wait_at w w.wait.stage found)
 
 -- it ends by a later cycle than it knew, which it loads
 pub ends_later : (w : Waiting) (stage : WaitStage) (found : ℕ) (x : Unit {0}) → wait.given (wait.goes_at w stage found).wait.stage ≡ Some x → (stage ≡ wait_stage.LoadSwept) × (w.wait.known < found)
@@ -212,20 +220,29 @@ search_ends shapes m w waited s (Some (At a)) = refl
 search_ends shapes m w true s (Some NoRoom) = refl
 search_ends shapes m w false s (Some NoRoom) = refl
 
-place_ends : (w : Wanted) (p : Placing) (n : Name) (asks : Option Bool) → is_busy_at (made_task w p asks) ≡ is_none (answer_made n asks)
-place_ends w p n None = refl
-place_ends w p n (Some true) = refl
-place_ends w p n (Some false) = refl
+made_ends : (p : Polling) (w : Wanted) (n : Name) (marking : Bool) → is_busy_at (cond marking (assists w n (assisting p w)) task.Idle) ≡ is_none (cond marking None (Some (answer.Ref n)))
+made_ends p w n true = refl
+made_ends p w n false = refl
+
+place_ends : (p : Polling) (w : Wanted) (x : Placing) (asks : Option Bool) → is_busy_at (made_task p w x asks) ≡ is_none (answer_made (marking_at p) x.name asks)
+place_ends p w x None = refl
+place_ends p w x (Some true) = refl
+place_ends p w x (Some false) = made_ends p w x.name (marking_at p)
+
+assist_ends : (m : Processor) (w : Wanted) (n : Name) (x : Assisting) (out : Option (Unit {0})) → is_busy_at (after_assist m w n x out).task ≡ is_none (answer_assist n out)
+assist_ends m w n x None = refl
+assist_ends m w n x (Some y) = refl
 
 once_ends : (after : Option (Unit {0}) → Processor) (a : Answer) → is_busy_at (after None).task ≡ true → ((x : Unit {0}) → is_busy_at (after (Some x)).task ≡ false) → (out : Option (Unit {0})) → is_busy_at (after out).task ≡ is_none (once_ended out a)
 once_ends after a on over None = on
 once_ends after a on over (Some x) = over x
 
-new_ends : (shapes : List Shape) (m : Processor) (w : Wanted) (s : NewStage) (found : ℕ) → is_busy_at (new.takes_at shapes m w s found).task ≡ is_none (new.gives_at s found)
+new_ends : (shapes : List Shape) (m : Processor) (w : Wanted) (s : NewStage) (found : ℕ) → is_busy_at (new.takes_at shapes m w s found).task ≡ is_none (new.gives_at (marking_at m.poll) s found)
 new_ends shapes m w (Search waited s) found = search_ends shapes (cache_span m w.sought (search.goes s found).find.cached) w waited (search.goes s found) (search.gives s found)
 new_ends shapes m w (Wait x) found = once (λ n. is_busy_at n.task ≡ true) (after_wait m w (wait.goes (wait.waiting x m.poll) found)) refl (λ y. refl) (wait.gives (wait.waiting x m.poll) found)
-new_ends shapes m w (Place p) found = place_ends w (place.goes p found) p.name (place.gives p found)
+new_ends shapes m w (Place p) found = place_ends m.poll w (place.goes p found) (place.gives p found)
 new_ends shapes m w (Want n) found = refl
+new_ends shapes m w (Assist n x) found = assist_ends m w n (assist.goes x found) (assist.gives x found)
 
 ends_at : (shapes : List Shape) (m : Processor) (t : Task) (found : ℕ) → is_busy_at t ≡ true → is_busy_at (takes_at shapes m t found).task ≡ is_none (gives_at m t found)
 ends_at shapes m task.Idle found busy = absurd (cc)
@@ -258,6 +275,10 @@ place_stays : (m : Processor) (w : Wanted) (made : Bool) (a : ℕ) (p : Placing)
 place_stays m w true a p = refl
 place_stays m w false a p = refl
 
+assist_stays : (m : Processor) (w : Wanted) (n : Name) (x : Assisting) (out : Option (Unit {0})) → (after_assist m w n x out).poll.layout ≡ m.poll.layout
+assist_stays m w n x None = refl
+assist_stays m w n x (Some y) = refl
+
 -- with this poll
 abbrev In : Polling → Processor → Type 0
 In p n = n.poll.layout ≡ p.layout
@@ -270,6 +291,7 @@ new_stays shapes m w (Search waited s) found = search_stays shapes (cache_span m
 new_stays shapes m w (Wait x) found = waits_stay m (after_wait m w) (λ y. once (In y.poll) (after_wait m w y) refl (λ u. refl)) x found
 new_stays shapes m w (Place p) found = place_stays m w (place.acts p) p.at (place.goes p found)
 new_stays shapes m w (Want n) found = refl
+new_stays shapes m w (Assist n x) found = assist_stays m w n (assist.goes x found) (assist.gives x found)
 
 stays_at : (shapes : List Shape) (m : Processor) (t : Task) (found : ℕ) → (takes_at shapes m t found).poll.layout ≡ m.poll.layout
 stays_at shapes m task.Idle found = refl

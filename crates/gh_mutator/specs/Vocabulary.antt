@@ -1,4 +1,5 @@
 -- The names that files with many imports share.
+pub use Rattle.gh_assist.specs.Listing.{Assisting}
 pub use Rattle.gh_base.specs.Packing.{name_of, PackedWordsAreReadBack, page_of, slot_in}
 pub use Rattle.gh_base.specs.Routines.{EndsWithin}
 pub use Rattle.gh_base.specs.Rows.{Row}
@@ -43,7 +44,7 @@ pub use Rattle.gh_mutator.specs.declared.global.GlobalStage.{GlobalStage}
 pub use Rattle.gh_mutator.specs.declared.load.Load.{Load}
 pub use Rattle.gh_mutator.specs.declared.load.LoadStage.{LoadStage}
 pub use Rattle.gh_mutator.specs.declared.new.NewStage.{NewStage}
-pub use Rattle.gh_mutator.specs.declared.new.NewStage.TheVariants.{Place, Search, Wait, Want}
+pub use Rattle.gh_mutator.specs.declared.new.NewStage.TheVariants.{Assist, Place, Search, Wait, Want}
 pub use Rattle.gh_mutator.specs.declared.new.Wanted.{Wanted}
 pub use Rattle.gh_mutator.specs.declared.processor.Processor.{Processor}
 pub use Rattle.gh_mutator.specs.declared.register.Register.{Register}

@@ -5,6 +5,7 @@ use Rattle.gh_base.specs.declared.cell.Cell.TheVariants as cell
 use Rattle.gh_base.specs.declared.pack.TheConstants.{END}
 use Rattle.gh_alloc.specs.declared.place.PlaceStage.TheVariants as making
 use Rattle.gh_alloc.specs.Trigger as trigger
+use Rattle.gh_assist.specs.Sound as assisting
 use Rattle.gh_phase.specs.declared.view.RunPhase.TheVariants.{Mark}
 use Rattle.gh_stack.specs.declared.scan_stack.StackStage.TheVariants as stack_stage
 use Rattle.gh_stack.specs.Listing as stack
@@ -13,9 +14,10 @@ use Rattle.gh_mutator.specs.declared.poll.PollStage.TheVariants.{Marking}
 use Rattle.gh_mutator.specs.declared.task.Task.TheVariants as task
 use Rattle.gh_mutator.specs.declared.wait.WaitStage.TheVariants as wait_stage
 use Rattle.gh_mutator.specs.Listing.{asks, is_busy_at, takes}
+use Rattle.gh_mutator.specs.Local.{marking_at}
 use Rattle.gh_mutator.specs.MarkVocabulary.{Cell, MarkStackStage, PollStage, SoundPlace, StackMarking, StackStage, Words, effect, opening_processor, processor_kind}
 use Rattle.gh_mutator.specs.Sweeping.{IsSweeping}
-use Rattle.gh_mutator.specs.Vocabulary.{Ask, Layout, MOST_GOROUTINES, NewStage, Op, Place, Polling, Processor, Search, Shape, Task, Wait, Want}
+use Rattle.gh_mutator.specs.Vocabulary.{Ask, Assist, Layout, MOST_GOROUTINES, NewStage, Op, Place, Polling, Processor, Search, Shape, Task, Wait, Want}
 
 -- What is to be shaded is what the scan wishes for; and where nothing is, the scan's own step is next.
 abbrev pub ShadesByWish : StackStage → MarkStackStage → Type 0
@@ -38,10 +40,20 @@ abbrev pub SoundScanAt : Polling → PollStage → Type 0
 SoundScanAt p (Marking g m) = ScansItsOwn p g m
 SoundScanAt p _ = Unit {0}
 
+-- an assist runs while marking is on alone, as the processor knows
+abbrev pub SoundAssistAt : Polling → NewStage → Type 0
+SoundAssistAt p (Assist n x) = (marking_at p ≡ true) × assisting.IsSound x
+SoundAssistAt p _ = Unit {0}
+
+abbrev pub SoundAssist : Polling → Task → Type 0
+SoundAssist p (task.New x) = SoundAssistAt p x.stage
+SoundAssist p _ = Unit {0}
+
 -- what holds of a processor, whatever it was told
 pub record IsSound (m : Processor) : Type 0 where
   pub place : SoundPlace m
   pub scan : SoundScanAt m.poll m.poll.stage
+  pub assist : SoundAssist m.poll m.task
 
 -- The words that it writes of some rows.
 
@@ -125,10 +137,24 @@ pub record TellsScan (m : Processor) (g : ℕ) : Type 0 where
   pub unscanned : m.poll.local.view.begun ≢ END → slice_index m.poll.local.scanned g ≢ m.poll.local.view.begun
   pub tells : asks m ≡ ask.Store (cell.Scanned g) m.poll.local.view.begun
 
--- The words that it writes: no control word beside those of the lock, the bytes and the wanted cycle, and while it sweeps the counts of the sweep.
+-- it assists, and draws on the bank by this step
+abbrev pub IsAssistingAt : NewStage → Type 0
+IsAssistingAt (Assist n x) = Unit {0}
+IsAssistingAt _ = ⊥
+
+abbrev pub IsAssisting : Task → Type 0
+IsAssisting (task.New x) = IsAssistingAt x.stage
+IsAssisting _ = ⊥
+
+abbrev pub IsSwap : Ask → Type 0
+IsSwap (ask.Swap c old new) = Unit {0}
+IsSwap _ = ⊥
+
+-- The words that it writes: no control word beside those of the lock, the bytes, the wanted cycle and the bank, and while it sweeps the counts of the sweep.
 abbrev pub IsWritten : Processor → Cell → Type 0
 IsWritten m cell.Lock = Unit {0}
 IsWritten m cell.Want = IsWanting m.task × (asks m ≡ ask.Or cell.Want 1)
+IsWritten m cell.Bank = IsAssisting m.task × IsSwap (asks m)
 IsWritten m cell.Heap = CountsObject (asks m) m.task ⊎ IsSweeping m
 IsWritten m cell.Tally = IsSweeping m
 IsWritten m cell.Live = IsSweeping m

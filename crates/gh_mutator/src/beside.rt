@@ -9,6 +9,7 @@
 ghost use Rattle.gh_mutator.specs.Beside.{GoesOnBesideMarking};
 
 use crate::laws::{a_processor_marks_by_moves, a_processor_writes_its_own, stacks_are_noted};
+use gh_assist::laws::assists_by_moves;
 use gh_barrier::laws::writes_by_moves;
 use gh_base::laws::rows_are_written;
 use gh_cycle::beside::{
@@ -28,6 +29,7 @@ pub fn a_processor_goes_on_beside_marking()
     hands_follow();
     own_moves_leave();
     writes_by_moves();
+    assists_by_moves();
     objects_are_known_beside();
     claimed_fields_are_aside();
     slots_are_reserved();

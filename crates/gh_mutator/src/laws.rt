@@ -13,6 +13,7 @@ ghost use Rattle.gh_mutator.specs.ProcessorMarks.{MarksByMoves};
 ghost use Rattle.gh_mutator.specs.ProcessorPlaces.{ProcessorInHandshake};
 ghost use Rattle.gh_mutator.specs.Quiet.{ProcessorIsQuiet};
 ghost use Rattle.gh_mutator.specs.Runs.{RunsByItsRights};
+ghost use Rattle.gh_mutator.specs.Spending.{DebtsAreDropped, ProcessorsSpend};
 ghost use Rattle.gh_mutator.specs.Sweeping.{ProcessorsRunSweeps};
 ghost use Rattle.gh_mutator.specs.Writing.{ProcessorWritesItsOwn, StacksAreNoted};
 
@@ -21,6 +22,7 @@ use gh_alloc::laws::{
     allocation_is_quiet, an_object_asks_at_the_trigger, an_object_is_marked_before_it_is_made,
     making_keeps_its_facts, searches_run_sweeps, searching_keeps_its_facts,
 };
+use gh_assist::laws::{assists_are_quiet, assists_are_within, assists_by_moves, assists_pay};
 use gh_barrier::laws::{writes_by_moves, writing_ends, writing_is_within};
 use gh_base::laws::{cells_are_told, packed_words_are_read_back, rows_are_written};
 use gh_class::size_class_laws;
@@ -86,6 +88,7 @@ pub fn the_processor_is_quiet()
 {
     marking_is_quiet();
     allocation_is_quiet();
+    assists_are_quiet();
 }
 
 /// Each step of a poll is one of the handshake of a stop. It begins awake; where it finds a stop it gives back what
@@ -183,6 +186,7 @@ pub fn a_processor_marks_by_moves()
     waits_by_moves();
     leaves_by_moves();
     writes_by_moves();
+    assists_by_moves();
     facts_last();
     hands_follow();
     own_moves_leave();
@@ -205,14 +209,34 @@ pub fn a_processor_writes_its_own()
 {
     cells_are_told();
     an_object_asks_at_the_trigger();
+    assists_are_quiet();
+    assists_pay();
     the_processor_keeps_the_handshake();
 }
+
+/// What a processor counts as spent is what it takes out of the bank of credit, by swaps alone. It draws on the bank in an
+/// assist, and so while marking is on, as it knows.
+pub fn processors_spend()
+    ensures { ProcessorsSpend }
+{
+    a_processor_writes_its_own();
+    assists_pay();
+}
+
+/// What a processor owes is dropped behind a stop where marking is off, or another cycle is marked: who does not know of
+/// marking owes nothing. Behind a step of an assist it owes what that says, and behind any other as much as before, or
+/// nothing.
+pub fn debts_are_dropped()
+    ensures { DebtsAreDropped }
+{}
 
 /// What a processor has noted of a stack is the number that it has written last of it: the cycle of a scan, or that the
 /// goroutine has ended; and 0 before.
 pub fn stacks_are_noted()
     ensures { StacksAreNoted }
-{}
+{
+    assists_are_quiet();
+}
 
 /// A processor that holds no buffer, and does not know that marking is on, writes no buffer, no entry, and no mark bit but
 /// those that its sweep clears, and of a stack that its goroutine has ended alone; an object that it makes it has not marked. So it goes on as long as the phases that it finds are not that of
@@ -254,6 +278,8 @@ pub fn a_processor_runs_by_its_rights()
     making_keeps_its_facts();
     writes_by_moves();
     writing_is_within();
+    assists_are_quiet();
+    assists_are_within();
     polls_by_rights();
     waits_by_rights();
     leaves_by_rights();

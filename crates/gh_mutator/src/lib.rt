@@ -31,6 +31,7 @@
 //! The words and the steps follow Go's `malloc.go`, `mcache.go` and `mbitmap.go`.
 #![tactic(auto)]
 
+mod assist;
 mod barrier;
 pub mod beside;
 mod field;

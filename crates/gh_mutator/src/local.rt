@@ -36,6 +36,8 @@ impl Local {
             cache,
             held: None,
             polls: 0,
+            owed: 0,
+            spent: 0,
             scanned: [0; MOST_GOROUTINES as usize],
             stacks: [[Value::Nil; REGISTER_COUNT]; MOST_GOROUTINES as usize],
         }

@@ -11,6 +11,7 @@ ghost use Rattle.gh_mutator.specs.Room.{room_in};
 ghost use Rattle.gh_mutator.specs.Serving.{has_left_at, is_last, is_point, is_serving, statement_answer};
 ghost use Rattle.gh_base.specs.Shapes.{ShapesFit};
 ghost use Rattle.gh_mutator.specs.Sound.{has_names, has_room, SoundOp};
+ghost use Rattle.gh_mutator.specs.Spending.{spent_of};
 
 use crate::processor::Processor;
 use crate::task::Task;
@@ -166,6 +167,13 @@ impl<'s> Mutator<'s> {
         ensures { result ≡ is_point (acts self.now found) }
     {
         self.processor.is_point(self.shapes, found)
+    }
+
+    /// The words that it has drawn from the bank of credit. The number stands at `u64::MAX`, which no run reaches.
+    pub fn spent(&self) -> u64
+        ensures { result ≡ spent_of self.now.processor }
+    {
+        self.processor.spent()
     }
 
     /// How many statements it has answered; polls, ends and its leave are none. The number stands at

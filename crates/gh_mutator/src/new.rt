@@ -4,7 +4,7 @@
 //! So the object is counted before the cycle is opened. While one is under way the trigger is 2^64 - 1, so that a
 //! second is not asked for.
 
-ghost use Rattle.std.specs.Prelude.{◌≡◌, ◌+◌, ◌^◌, ◌<◌, length, true, false, IfSome};
+ghost use Rattle.std.specs.Prelude.{◌≡◌, ◌+◌, ◌*◌, ◌^◌, ◌<◌, ◌≤◌, length, true, false, IfSome};
 ghost use Rattle.gh_alloc.specs.FindSound.{FitsPages};
 ghost use Rattle.gh_alloc.specs.PlaceSound.{FitsSpanHead};
 ghost use Rattle.gh_alloc.specs.Within.{LiesWithin};
@@ -13,6 +13,7 @@ ghost use Rattle.gh_alloc.specs.Place as places;
 ghost use Rattle.gh_mutator.specs.New.{after_found, answer_found, answer_made, next_of, own_span, searches, seeking, wanted_of};
 ghost use Rattle.gh_mutator.specs.NewParts.{after_making, made_at, made_by_step, MakingFits};
 ghost use Rattle.gh_mutator.specs.Processor.{at_task, made_by};
+ghost use Rattle.gh_mutator.specs.Local.{marking_at};
 ghost use Rattle.gh_mutator.specs.Serving.{is_making};
 ghost use Rattle.gh_base.specs.Shapes.{ShapesFit};
 ghost use Rattle.gh_mutator.specs.Sound.{IsRegister, Sound, SoundWanted};
@@ -21,6 +22,7 @@ use crate::processor::Processor;
 use crate::task::Task;
 use crate::wait::Wait;
 use gh_alloc::{Found, Place, Search, Sought};
+use gh_assist::Assist;
 use gh_base::{Answer, Machine, Name, Shapes, SpanHead, Value};
 use gh_class::{SizeClass, SpanClass, size_class_laws, slot_words};
 
@@ -47,6 +49,8 @@ pub enum NewStage<'s> {
     Place(Place<'s>),
     /// It is made, under this name, and a cycle is due, which is asked for.
     Want(Name),
+    /// It is made, under this name, while marking is on: the processor assists.
+    Assist(Name, Assist),
 }
 
 /// A new object.
@@ -194,6 +198,7 @@ impl<'s> Processor<'s> {
                 None
             }
             NewStage::Place(place) => {
+                size_class_laws();
                 let name = place.name();
                 let (made, asks) = make(place, found);
                 let wanted = new.wanted;
@@ -201,6 +206,13 @@ impl<'s> Processor<'s> {
             }
             NewStage::Want(name) => {
                 let name = *name;
+                self.task = Task::Idle;
+                Some(Answer::Ref(name))
+            }
+            NewStage::Assist(name, assist) => {
+                assist.take(found)?;
+                let (name, assist) = (*name, *assist);
+                self.poll.pay(&assist);
                 self.task = Task::Idle;
                 Some(Answer::Ref(name))
             }
@@ -269,20 +281,23 @@ impl<'s> Processor<'s> {
         asks: Option<bool>,
     ) -> Option<Answer>
         requires register { IsRegister wanted.g wanted.d }
+        requires slot { 8 * wanted.slot ≤ 2 ^ 31 }
         requires name { IfSome made (λ _. made_by self.old wanted.g + 1 < 2 ^ 32) }
         requires fits { MakingFits self.old.poll.layout made }
         ensures goes { self.new ≡ after_making self.old wanted made name asks }
-        ensures gives { result ≡ answer_made name asks }
+        ensures gives { result ≡ answer_made (marking_at self.old.poll) name asks }
     {
         self.add_object(&wanted, made);
-        if asks? {
-            let stage = NewStage::Want(name);
-            self.task = Task::New(New { wanted, stage });
-            None
+        let stage = if asks? {
+            NewStage::Want(name)
+        } else if self.poll.marking() {
+            NewStage::Assist(name, self.poll.assist(wanted.slot))
         } else {
             self.task = Task::Idle;
-            Some(Answer::Ref(name))
-        }
+            return Some(Answer::Ref(name));
+        };
+        self.task = Task::New(New { wanted, stage });
+        None
     }
 
     /// Where the object was made at this heap word, it is there: it is counted, and the register names it.

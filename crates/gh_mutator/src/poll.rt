@@ -8,14 +8,14 @@ ghost use Rattle.gh_mutator.specs.Give as gives;
 ghost use Rattle.gh_mutator.specs.Local.{passes};
 ghost use Rattle.gh_mutator.specs.MarkStack as marks;
 ghost use Rattle.gh_mutator.specs.GiveSound.{Runs};
-ghost use Rattle.gh_mutator.specs.Poll.{begins, begins_stack, counted, due, first_due, given, gives as gives_by, goes, goes_at, has_two, is_due, marks_then, resting, room_stage, stops_then};
+ghost use Rattle.gh_mutator.specs.Poll.{begins, begins_stack, counted, due, first_due, given, gives as gives_by, goes, goes_at, has_two, is_due, marks_then, owed_then, resting, room_stage, stops_then};
 ghost use Rattle.gh_mutator.specs.PollSound.{FitsLocal, FitsStage};
 
 use crate::give::{Cache, Give};
 use crate::mark_stack::MarkStack;
 use gh_base::limits::MOST_GOROUTINES;
 use gh_base::{Ask, Cell, END, ENTRIES, Held, Layout, Machine, PhaseWord, Req, Value};
-use gh_phase::{Resume, RunPhase, View};
+use gh_phase::{Resume, Resumed, RunPhase, View};
 use gh_stack::REGISTER_COUNT;
 use gh_wbuf::FindRoom;
 use std::marker::Model;
@@ -37,6 +37,10 @@ pub struct Local {
     pub held: Option<Held>,
     /// Its polls since it last learned of another cycle, modulo 2^64.
     pub polls: u64,
+    /// The words of marking that it owes in this cycle, modulo 2^64.
+    pub owed: u64,
+    /// The words that it has ever drawn from the bank of credit.
+    pub spent: u64,
     /// The last scan of each stack.
     pub scanned: Scanned,
     /// The stacks.
@@ -111,6 +115,16 @@ fn first_due(layout: &Layout, seat: u32, cycle: u64, scanned: &[u64]) -> Option<
         }
     }
     None
+}
+
+/// What is owed of so many words behind a stop: all of them where the same cycle is still marked, and else none.
+fn owed_then(resumed: &Resumed, owed: u64) -> u64
+    ensures { result ≡ owed_then resumed.now owed }
+{
+    match resumed.view.phase {
+        RunPhase::Mark if !resumed.another_cycle => owed,
+        RunPhase::Mark | RunPhase::Off | RunPhase::Finished => 0,
+    }
 }
 
 /// A buffer is held, and two entries go into it.
@@ -284,6 +298,8 @@ impl Poll {
                 if resumed.another_cycle {
                     self.local.polls = 0;
                 }
+                // What it owes it owes to one cycle's marking: there is nobody to pay once that is over.
+                self.local.owed = owed_then(&resumed, self.local.owed);
                 self.mark();
             }
         }

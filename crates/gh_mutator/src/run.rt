@@ -48,6 +48,7 @@ impl<'s> Processor<'s> {
                 NewStage::Wait(wait) => return wait.next(&self.poll),
                 NewStage::Place(place) => return place.next(),
                 NewStage::Want(_) => Ask::Or(Cell::Want, 1),
+                NewStage::Assist(_, assist) => return assist.next(),
             },
             Task::Gc(_, wait) => return wait.next(&self.poll),
             Task::Poll => return self.poll.next(),
@@ -226,7 +227,7 @@ impl<'s> Processor<'s> {
                 NewStage::Search { waited, search } => *waited && search.refuses(),
                 NewStage::Wait(_) => false,
                 NewStage::Place(place) => place.acts(),
-                NewStage::Want(_) => false,
+                NewStage::Want(_) | NewStage::Assist(..) => false,
             },
             Task::Gc(_, wait) => wait.ends_by(found),
         }

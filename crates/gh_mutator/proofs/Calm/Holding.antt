@@ -29,7 +29,7 @@ use Rattle.gh_mutator.specs.Global as global
 use Rattle.gh_mutator.specs.Handshake.{poller_at, waiter_at}
 use Rattle.gh_mutator.specs.Leave as leave
 use Rattle.gh_mutator.specs.Load as load
-use Rattle.gh_mutator.specs.Local.{is_mark}
+use Rattle.gh_mutator.specs.Local.{is_mark, marking_at}
 use Rattle.gh_mutator.specs.New as new
 use Rattle.gh_mutator.specs.Poll as poll
 use Rattle.gh_mutator.specs.Processor.{keeping}
@@ -38,7 +38,7 @@ use Rattle.gh_mutator.specs.Step.{ends, goes_on}
 use Rattle.gh_mutator.specs.Store as store
 use Rattle.gh_mutator.specs.Vocabulary.{Load, Polling, Register, Store}
 use Rattle.gh_mutator.specs.Wait as wait
-use Rattle.gh_mutator.proofs.Vocabulary.{Global, GlobalStage, Local, StoreStage, after_gc, after_leave, after_poll, applied, At, cache_span, CachedSpan, Ends, follows, Found, GivesNoBuffer, GiveStage, GoesOn, Held, HoldsNoBuffer, IsNoBuffer, KnowsNoMarking, Layout, LeaveStage, LeavesWithNone, Leaving, leaving, MakesWithNone, NewStage, NoRoom, party_at, phase_of, Place, Placing, polls_at, PollStage, PollsWithNone, Processor, register_of, Resumed, ResumeStage, run_phase, RunPhase, RunsWithNone, Search, Seeking, Shape, stage_at, Step, takes_at, taking, Task, Then, Value, Wait, Waiting, waits_at, WaitStage, WaitsWithNone, Wanted, Want}
+use Rattle.gh_mutator.proofs.Vocabulary.{Assist, assisting, assists, Global, GlobalStage, Local, StoreStage, after_gc, after_leave, after_poll, applied, At, cache_span, CachedSpan, Ends, follows, Found, GivesNoBuffer, GiveStage, GoesOn, Held, HoldsNoBuffer, IsNoBuffer, KnowsNoMarking, Layout, LeaveStage, LeavesWithNone, Leaving, leaving, MakesWithNone, NewStage, NoRoom, party_at, phase_of, Place, Placing, polls_at, PollStage, PollsWithNone, Processor, register_of, Resumed, ResumeStage, run_phase, RunPhase, RunsWithNone, Search, Seeking, Shape, stage_at, Step, takes_at, taking, Task, Then, Value, Wait, Waiting, waits_at, WaitStage, WaitsWithNone, Wanted, Want}
 
 -- The giving back.
 first_none : (class : ℕ) (spans : List (Option CachedSpan)) → IsNoBuffer (give.first_of class spans)
@@ -234,14 +234,19 @@ found_none shapes m w waited c s (Some (At a)) off e = record { none = e; runs =
 found_none shapes m w true c s (Some NoRoom) off e = record { none = e; runs = tt }
 found_none shapes m w false c s (Some NoRoom) off e = record { none = e; runs = tt }
 
-made_none : (m : Processor) (w : Wanted) (made : Bool) (a : ℕ) (y : Placing) → IsMadeUnmarked y → m.poll.local.held ≡ None → HoldsNoBuffer (new.after_place m w made a y)
-made_none m w made a y off e = by made (place.given y) where
-  runs : (asks : Option Bool) (p : Polling) → RunsWithNone p (new.made_task w y asks)
+made_none : (m : Processor) (w : Wanted) (made : Bool) (a : ℕ) (y : Placing) → marking_at m.poll ≡ false → IsMadeUnmarked y → m.poll.local.held ≡ None → HoldsNoBuffer (new.after_place m w made a y)
+made_none m w made a y is off e = by made (place.given y) where
+  -- while marking is off no assist is behind it
+  made_then : (p : Polling) (marking : Bool) → marking ≡ false → RunsWithNone p (cond marking (assists w y.name (assisting m.poll w)) task.Idle)
+  made_then p true is = absurd (cc)
+  made_then p false is = tt
+
+  runs : (asks : Option Bool) (p : Polling) → RunsWithNone p (new.made_task m.poll w y asks)
   runs None p = off
   runs (Some true) p = tt
-  runs (Some false) p = tt
+  runs (Some false) p = made_then p (marking_at m.poll) is
 
-  by : (made : Bool) (asks : Option Bool) → HoldsNoBuffer (record (cond made (new.made_object m w a) m) { task = new.made_task w y asks })
+  by : (made : Bool) (asks : Option Bool) → HoldsNoBuffer (record (cond made (new.made_object m w a) m) { task = new.made_task m.poll w y asks })
   by true asks = record { none = e; runs = runs asks (new.made_object m w a).poll }
   by false asks = record { none = e; runs = runs asks m.poll }
 
@@ -265,8 +270,9 @@ module _ (marks : AnObjectIsMarkedBeforeItIsMade) (shapes : List Shape) (m : Pro
   new_none : (n : Wanted) (q : NewStage) → MakesWithNone m.poll q → KnowsNoMarking (party_at m.poll (task.New (record { wanted = n; stage = q }))) (stage_at m.poll (task.New (record { wanted = n; stage = q }))) → HoldsNoBuffer (new.takes_at shapes m n q found)
   new_none n (Search waited y) x off = found_none shapes m n waited (search.goes y found).find.cached (search.goes y found) (search.gives y found) off e
   new_none n (Wait y) x off = let w : Waiting = wait.waiting y m.poll in waited_none n (wait.goes w found) (wait.gives w found) (wait_none w y.stage found e x off)
-  new_none n (Place y) x off = made_none m n (place.acts y) y.at (place.goes y found) (marks.stays_off y found x) e
+  new_none n (Place y) x off = made_none m n (place.acts y) y.at (place.goes y found) (not_mark m.poll.local.view.phase off) (marks.stays_off y found x) e
   new_none n (Want u) x off = record { none = e; runs = tt }
+  new_none n (Assist u y) x off = absurd x
 
   pub holds_at : (t : Task) → RunsWithNone m.poll t → KnowsNoMarking (party_at m.poll t) (stage_at m.poll t) → t ≡ m.task → HoldsNoBuffer (takes_at shapes m t found)
   holds_at task.Idle x off is = record { none = e; runs = subst (λ (t : Task). RunsWithNone m.poll t) is tt }

@@ -17,7 +17,7 @@ use Rattle.gh_mutator.specs.ProcessorMarks.{MarksByMoves}
 use Rattle.gh_mutator.specs.ProcessorPlaces.{new_stage_at, party_of, stage_of}
 use Rattle.gh_mutator.specs.Vocabulary.{Polling}
 use Rattle.gh_mutator.specs.Wait as wait
-use Rattle.gh_mutator.proofs.Vocabulary.{is_busy_at, party_at, register_of, Acts, Ask, asks, Awake, begins, CellsAreTold, has_left_at, HoldsNoBuffer, KnowsNoMarking, Layout, leaves_at, LeaveStage, LeavesWithNone, Load, MakesWithNone, NewStage, Op, phase_of, Place, PlaceBegins, polls_at, PollStage, PollsWithNone, Processor, processor_kind, ProcessorInHandshake, ResumeStage, run_phase, RunPhase, RunsWithNone, Search, Shape, stage_at, StageGoes, Task, Wait, Waiting, waits_at, WaitStage, WaitsWithNone, Want}
+use Rattle.gh_mutator.proofs.Vocabulary.{Assist, is_busy_at, party_at, register_of, Acts, Ask, asks, Awake, begins, CellsAreTold, has_left_at, HoldsNoBuffer, KnowsNoMarking, Layout, leaves_at, LeaveStage, LeavesWithNone, Load, MakesWithNone, NewStage, Op, phase_of, Place, PlaceBegins, polls_at, PollStage, PollsWithNone, Processor, processor_kind, ProcessorInHandshake, ResumeStage, run_phase, RunPhase, RunsWithNone, Search, Shape, stage_at, StageGoes, Task, Wait, Waiting, waits_at, WaitStage, WaitsWithNone, Want}
 use Rattle.gh_mutator.proofs.Calm.Holding.{begins_leave, begins_set, begins_store_none, holds_at, not_mark}
 use Rattle.gh_mutator.proofs.Calm.Writes.{writes_calmly}
 use Rattle.gh_mutator.proofs.Writing.Rows.{leaves_others}
@@ -124,6 +124,7 @@ module _ (stops : ℕ) (p : Polling) where
   new_still (Wait y) still = wait_still (wait.waiting y p) y.stage refl still
   new_still (Place y) still = absurd still
   new_still (Want n) still = absurd still
+  new_still (Assist n y) still = absurd still
 
   leave_still : (q : LeaveStage) → IsParked stops (leaves_at q) → LeavesWithNone q
   leave_still (leave_stage.Giving g) still = absurd still

@@ -14,7 +14,7 @@ use Rattle.gh_mutator.specs.Poll as poll
 use Rattle.gh_mutator.specs.Sweeping.{sweep_in, sweep_new}
 use Rattle.gh_mutator.specs.Vocabulary.{Polling}
 use Rattle.gh_mutator.specs.Wait as wait
-use Rattle.gh_mutator.proofs.Vocabulary.{GlobalStage, StoreStage, asks, GivesNoBuffer, GiveStage, IsNoBuffer, LeaveStage, LeavesWithNone, Leaving, MakesWithNone, NewStage, Place, PollStage, PollsWithNone, Processor, register_of, ResumeStage, RunsWithNone, Search, Task, Wait, Waiting, WaitStage, WaitsWithNone, WritesOf, Want}
+use Rattle.gh_mutator.proofs.Vocabulary.{Assist, GlobalStage, StoreStage, asks, GivesNoBuffer, GiveStage, IsNoBuffer, LeaveStage, LeavesWithNone, Leaving, MakesWithNone, NewStage, Place, PollStage, PollsWithNone, Processor, register_of, ResumeStage, RunsWithNone, Search, Task, Wait, Waiting, WaitStage, WaitsWithNone, WritesOf, Want}
 use Rattle.gh_mutator.proofs.Writing.Processor.{running}
 use Rattle.gh_mutator.proofs.Writing.Routines.{gives_write, global_writes, load_writes, store_writes}
 use Rattle.gh_mutator.proofs.Writing.Rows.{OfHeap, place_writes, search_writes}
@@ -54,6 +54,7 @@ module _ (m : Processor) where
   makes (Wait y) is x = waits (wait.waiting y m.poll) y.stage x
   makes (Place y) is x = place_writes (IsWrittenCalmly m) (heap_written m) y (λ e. absurd (x.stage e)) (λ e. tt)
   makes (Want n) is x = tt
+  makes (Assist n y) is x = absurd x
 
 pub writes_calmly : (p : Polling) (made : List ℕ) (t : Task) → RunsWithNone p t → WritesOf (IsWrittenCalmly (running p made t)) (asks (running p made t))
 writes_calmly p made task.Idle x = tt

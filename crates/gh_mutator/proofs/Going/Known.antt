@@ -1,6 +1,7 @@
 -- What a step of a processor comes to beside marking: a deed, by which the state of marking follows the heap; or moves of marking alone. And what is known of its stacks behind it.
 use Rattle.std.proofs.Common.{◌≡◌, ◌≢◌, ℕ, ◌<◌, ◌≤◌, Bool, true, false, [], length, Option, Some, None, refl, sym, ap, subst, ◌∙◌, arith, inl, inr}
 use Rattle.std.specs.Prelude.{slice_index_or}
+use Rattle.gh_assist.specs.Facts.{AssistsByMoves}
 use Rattle.gh_base.specs.declared.cell.Ask.{Ask}
 use Rattle.gh_base.specs.declared.cell.Ask.TheVariants as ask
 use Rattle.gh_base.specs.declared.cell.Cell.{Cell}
@@ -49,6 +50,7 @@ pub record Known : Type 0 where
   pub follow : EachHandFollows
   pub leave : EachOwnMoveLeaves
   pub writes : WritesByMoves
+  pub assists : AssistsByMoves
   pub own : ProcessorWritesItsOwn
   pub notes : StacksAreNoted
   pub marks : MarksByMoves

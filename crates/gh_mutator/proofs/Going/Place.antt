@@ -1,6 +1,8 @@
 -- Steps of the making of an object beside marking: its slot is cleared and laid out, then it is marked, and then it is made.
 use Rattle.std.proofs.Common.{◌≡◌, ℕ, ◌+◌, ◌*◌, ◌%◌, ◌^◌, ◌<◌, Bool, true, false, cond, eqb, ltb, nat_le, Option, Some, None, refl, sym, ap, subst, ◌∙◌, arith}
 use Rattle.std.proofs.lemmas.Bool.{eqb-true}
+use Rattle.gh_assist.specs.Facts.{Facts as AssistFacts}
+use Rattle.gh_assist.specs.Listing as assist
 use Rattle.gh_base.specs.declared.cell.Cell.TheVariants as cell
 use Rattle.gh_base.specs.declared.pack.SpanHead.{SpanHead}
 use Rattle.gh_base.specs.declared.shape.Shape.{Shape}
@@ -28,12 +30,13 @@ use Rattle.gh_marks.specs.Moves as marks
 use Rattle.gh_model.specs.Ever.{field_count, next_name}
 use Rattle.gh_mutator.specs.Beside.{StepsOn, Together}
 use Rattle.gh_mutator.specs.Facts.{for_whom}
+use Rattle.gh_mutator.specs.Local.{marking_at}
 use Rattle.gh_mutator.specs.MarkFacts.{holding, IsBetween, KnowsStacks}
-use Rattle.gh_mutator.specs.MarkVocabulary.{Cycle, Hands, Keeps}
-use Rattle.gh_mutator.specs.New.{made_object, made_task, makes, wants}
+use Rattle.gh_mutator.specs.MarkVocabulary.{Cycle, Hands, Keeps, Layout}
+use Rattle.gh_mutator.specs.New.{assisting, assists, made_object, made_task, makes, wants}
 use Rattle.gh_mutator.specs.Processor.{at_task}
 use Rattle.gh_mutator.specs.ProcessorMarks.{reserved_at, TaskFacts}
-use Rattle.gh_mutator.specs.Vocabulary.{Answer, Name, PlaceStage, Processor, view, Wanted}
+use Rattle.gh_mutator.specs.Vocabulary.{Answer, Idle, Name, PlaceStage, Processor, view, Wanted}
 use Rattle.gh_mutator.proofs.Going.Known.{by_deed, by_keeping, fills_none, heap_then, Known, processor_then, StepAt, StepOf}
 use Rattle.gh_mutator.proofs.Marking.Known.{stacks_last}
 use Rattle.gh_mutator.proofs.Owning.SearchSteps.{sized}
@@ -52,14 +55,22 @@ abbrev at : Wanted → Placing → PlaceStage → Processor → Processor
 at w p q m = at_task m (makes w (place.at_stage p q))
 
 -- the processor goes on with the making, at this stage
-goes_facts : (z : Cycle) (a : ℕ) (u : Marking) (m : Processor) (w : Wanted) (p : Placing) (q : PlaceStage) → p.marking ≡ true → reserved_at p.at q ≡ None → place.given_at q ≡ None → IsBetween z a u m.poll.local → TaskFacts z a u m.poll (made_task w (place.at_stage p q) (place.given_at q))
-goes_facts z a u m w p q marking free on b = subst (λ (o : Option Bool). TaskFacts z a u m.poll (made_task w (place.at_stage p q) o)) (sym on)
+goes_facts : (z : Cycle) (a : ℕ) (u : Marking) (m : Processor) (w : Wanted) (p : Placing) (q : PlaceStage) → p.marking ≡ true → reserved_at p.at q ≡ None → place.given_at q ≡ None → IsBetween z a u m.poll.local → TaskFacts z a u m.poll (made_task m.poll w (place.at_stage p q) (place.given_at q))
+goes_facts z a u m w p q marking free on b = subst (λ (o : Option Bool). TaskFacts z a u m.poll (made_task m.poll w (place.at_stage p q) o)) (sym on)
     (record { marking = marking; stacks = b.stacks; number = b.number; hands = subst (λ (o : Option ℕ). Hands a u (record (holding m.poll.local.held) { placing = o })) (sym free) b.hands })
 
 -- or it is over
-over_facts : (z : Cycle) (a : ℕ) (u : Marking) (m : Processor) (w : Wanted) (p : Placing) (asks : Bool) → IsBetween z a u m.poll.local → TaskFacts z a u m.poll (made_task w p (Some asks))
-over_facts z a u m w p true b = b
-over_facts z a u m w p false b = b
+over_facts : Known → (z : Cycle) (a : ℕ) (u : Marking) (m : Processor) (w : Wanted) (p : Placing) (asks : Bool) → m.poll.layout ≡ z.arena.layout → m.poll.seat ≡ a → IsBetween z a u m.poll.local → TaskFacts z a u m.poll (made_task m.poll w p (Some asks))
+over_facts k z a u m w p true layout_is seat_is b = b
+over_facts k z a u m w p false layout_is seat_is b = by (marking_at m.poll) where
+  -- it assists with the buffer that it holds
+  begun : AssistFacts z a u (assisting m.poll w)
+  begun = subst (λ (l : Layout). AssistFacts z a u (assist.opening l m.poll.seat m.poll.local.held (8 * w.slot) m.poll.local.owed m.poll.local.spent)) (sym layout_is)
+      (subst (λ (c : ℕ). AssistFacts z a u (assist.opening z.arena.layout c m.poll.local.held (8 * w.slot) m.poll.local.owed m.poll.local.spent)) (sym seat_is) (k.assists.begins z a u m.poll.local.held (8 * w.slot) m.poll.local.owed m.poll.local.spent b.hands))
+
+  by : (c : Bool) → TaskFacts z a u m.poll (cond c (assists w p.name (assisting m.poll w)) Idle)
+  by true = record { stacks = b.stacks; number = b.number; assists = begun }
+  by false = b
 
 module _ (k : Known) (w : Wanted) (p : Placing) (z : Cycle) (a : ℕ) (h : Heap) (s : Marking) (m : Processor) (pending : Option Answer) where
   abbrev Ready : PlaceStage → Type 0
@@ -125,7 +136,7 @@ module _ (k : Known) (w : Wanted) (p : Placing) (z : Cycle) (a : ℕ) (h : Heap)
     may_make : MayMake z.arena (view h) a p.at w.g w.d w.t
     may_make = record { runs = f.0.runs; register = f.0.places.register; type = f.0.places.type; few = f.0.few; ready = ready }
 
-    made_facts : (u : Marking) (span : Option SpanHead) → IsBetween z a u (made_object (at w p making.Alloc m) w p.at).poll.local → TaskFacts z a u (made_object (at w p making.Alloc m) w p.at).poll (made_task w (place.at_stage p (place.made p span)) (place.given_at (place.made p span)))
+    made_facts : (u : Marking) (span : Option SpanHead) → IsBetween z a u (made_object (at w p making.Alloc m) w p.at).poll.local → TaskFacts z a u (made_object (at w p making.Alloc m) w p.at).poll (made_task m.poll w (place.at_stage p (place.made p span)) (place.given_at (place.made p span)))
     made_facts u None b = record { marking = t.facts.task_is.marking; stacks = b.stacks; number = b.number; hands = b.hands }
     made_facts u (Some head) b = record { marking = t.facts.task_is.marking; stacks = b.stacks; number = b.number; hands = b.hands }
 
@@ -138,14 +149,14 @@ place_at : Known → (w : Wanted) (p : Placing) (q : PlaceStage) → StepAt (mak
 place_at k w p (making.Clear i) z a h s m pending t kn l = by_deed k z a h s (at w p (making.Clear i) m) pending t l Rests tt refl
     (k.aside z a p.at p.slot i h s t.heap t.marking t.beside t.fine.task.facts.0.claim t.fine.task.facts.1, fills k w p z a h s m pending (making.Clear i) t refl)
     (λ u hands stacks. by u (ltb (i + 1) p.slot) (record { stacks = stacks; number = t.facts.task_is.number; hands = hands (holding m.poll.local.held) (between k w p z a h s m pending (making.Clear i) t refl) })) where
-      by : (u : Marking) (b : Bool) → IsBetween z a u m.poll.local → TaskFacts z a u m.poll (made_task w (place.at_stage p (cond b (making.Clear (i + 1)) making.Birth)) (place.given_at (cond b (making.Clear (i + 1)) making.Birth)))
+      by : (u : Marking) (b : Bool) → IsBetween z a u m.poll.local → TaskFacts z a u m.poll (made_task m.poll w (place.at_stage p (cond b (making.Clear (i + 1)) making.Birth)) (place.given_at (cond b (making.Clear (i + 1)) making.Birth)))
       by u true b = goes_facts z a u m w p (making.Clear (i + 1)) t.facts.task_is.marking refl refl b
       by u false b = goes_facts z a u m w p making.Birth t.facts.task_is.marking refl refl b
 place_at k w p making.Birth z a h s m pending t kn l = by_deed k z a h s (at w p making.Birth m) pending t l Rests tt refl (tt, fills k w p z a h s m pending making.Birth t refl)
     (λ u hands stacks. goes_facts z a u m w p (making.Bits (bits.opening p.layout p.shape p.at p.slot)) t.facts.task_is.marking refl refl (record { stacks = stacks; number = t.facts.task_is.number; hands = hands (holding m.poll.local.held) (between k w p z a h s m pending making.Birth t refl) }))
 place_at k w p (making.Bits b) z a h s m pending t kn l = by_deed k z a h s (at w p (making.Bits b) m) pending t l Rests tt refl (bits_quiet s b b.stage, fills k w p z a h s m pending (making.Bits b) t refl)
     (λ u hands stacks. by u (bits.is_busy (bits.goes b 0).stage) p.marking t.facts.task_is.marking refl (record { stacks = stacks; number = t.facts.task_is.number; hands = hands (holding m.poll.local.held) (between k w p z a h s m pending (making.Bits b) t refl) })) where
-      by : (u : Marking) (busy marking : Bool) → marking ≡ true → bits.is_busy (bits.goes b 0).stage ≡ busy → IsBetween z a u m.poll.local → TaskFacts z a u m.poll (made_task w (place.at_stage p (cond busy (making.Bits (bits.goes b 0)) (place.filled marking))) (place.given_at (cond busy (making.Bits (bits.goes b 0)) (place.filled marking))))
+      by : (u : Marking) (busy marking : Bool) → marking ≡ true → bits.is_busy (bits.goes b 0).stage ≡ busy → IsBetween z a u m.poll.local → TaskFacts z a u m.poll (made_task m.poll w (place.at_stage p (cond busy (making.Bits (bits.goes b 0)) (place.filled marking))) (place.given_at (cond busy (making.Bits (bits.goes b 0)) (place.filled marking))))
       by u true marking on busy x = goes_facts z a u m w p (making.Bits (bits.goes b 0)) t.facts.task_is.marking refl refl x
       by u false true on busy x = goes_facts z a u m w p making.Mark t.facts.task_is.marking refl refl x
       by u false false on busy x = absurd (cc)
@@ -155,11 +166,11 @@ place_at k w p (making.Give g) z a h s m pending t kn l = by_deed k z a h s (at 
     (λ u hands stacks. goes_facts z a u m w p making.Count t.facts.task_is.marking refl refl (record { stacks = stacks; number = t.facts.task_is.number; hands = hands (holding m.poll.local.held) (between k w p z a h s m pending (making.Give g) t refl) }))
 place_at k w p making.Count z a h s m pending t kn l = by_deed k z a h s (at w p making.Count m) pending t l Rests tt refl (tt, fills k w p z a h s m pending making.Count t refl)
     (λ u hands stacks. by u p.marking ((h.words cell.Heap + 8 * p.slot) % 2 ^ 64) (record { stacks = stacks; number = t.facts.task_is.number; hands = hands (holding m.poll.local.held) (between k w p z a h s m pending making.Count t refl) })) where
-      by : (u : Marking) (marking : Bool) (bytes : ℕ) → IsBetween z a u m.poll.local → TaskFacts z a u m.poll (made_task w (place.at_stage p (cond marking (making.Ended false) (making.LoadTrigger bytes))) (place.given_at (cond marking (making.Ended false) (making.LoadTrigger bytes))))
-      by u true bytes b = over_facts z a u m w (place.at_stage p (making.Ended false)) false b
+      by : (u : Marking) (marking : Bool) (bytes : ℕ) → IsBetween z a u m.poll.local → TaskFacts z a u m.poll (made_task m.poll w (place.at_stage p (cond marking (making.Ended false) (making.LoadTrigger bytes))) (place.given_at (cond marking (making.Ended false) (making.LoadTrigger bytes))))
+      by u true bytes b = over_facts k z a u m w (place.at_stage p (making.Ended false)) false t.facts.layout_is t.facts.seat_is b
       by u false bytes b = goes_facts z a u m w p (making.LoadTrigger bytes) t.facts.task_is.marking refl refl b
 place_at k w p (making.LoadTrigger bytes) z a h s m pending t kn l = by_deed k z a h s (at w p (making.LoadTrigger bytes) m) pending t l Rests tt refl (tt, fills k w p z a h s m pending (making.LoadTrigger bytes) t refl)
-    (λ u hands stacks. over_facts z a u m w (place.at_stage p (making.Ended (nat_le (h.words cell.Trigger) bytes))) (nat_le (h.words cell.Trigger) bytes) (record { stacks = stacks; number = t.facts.task_is.number; hands = hands (holding m.poll.local.held) (between k w p z a h s m pending (making.LoadTrigger bytes) t refl) }))
+    (λ u hands stacks. over_facts k z a u m w (place.at_stage p (making.Ended (nat_le (h.words cell.Trigger) bytes))) (nat_le (h.words cell.Trigger) bytes) t.facts.layout_is t.facts.seat_is (record { stacks = stacks; number = t.facts.task_is.number; hands = hands (holding m.poll.local.held) (between k w p z a h s m pending (making.LoadTrigger bytes) t refl) }))
 place_at k w p (making.Ended asks) z a h s m pending t kn l = absurd t.fine.task.facts
 
 pub place_step : Known → (w : Wanted) (p : Placing) → StepAt (makes w p)

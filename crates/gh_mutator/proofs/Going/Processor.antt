@@ -5,6 +5,7 @@ use Rattle.gh_mutator.specs.declared.task.Task.TheVariants as task
 use Rattle.gh_mutator.specs.Beside.{GoesOnBesideMarking}
 use Rattle.gh_mutator.specs.Listing.{is_busy_at}
 use Rattle.gh_mutator.specs.Vocabulary.{NewStage, Task, Wanted}
+use Rattle.gh_mutator.proofs.Going.Assist.{assist_step}
 use Rattle.gh_mutator.proofs.Going.Begins.{begins_beside}
 use Rattle.gh_mutator.proofs.Going.End.{end_step}
 use Rattle.gh_mutator.proofs.Going.Global.{global_step}
@@ -21,6 +22,7 @@ new_step k w (new_stage.Search waited y) = search_step k w waited y
 new_step k w (new_stage.Wait x) = wait_step k w x
 new_step k w (new_stage.Place p) = place_step k w p
 new_step k w (new_stage.Want n) = want_step k w n
+new_step k w (new_stage.Assist n x) = assist_step k w n x
 
 step_at : Known → (q : Task) → is_busy_at q ≡ true → StepAt q
 step_at k task.Idle busy = absurd (cc)

@@ -2,6 +2,7 @@
 use Rattle.std.proofs.Common.{◌≡◌, ℕ, true, false, List, Option, Some, None, refl, sym, ap, subst}
 use Rattle.std.specs.Prelude.{is_none}
 use Rattle.gh_base.specs.declared.operation.Op.TheVariants as op
+use Rattle.gh_assist.specs.Facts.{AssistsByMoves}
 use Rattle.gh_barrier.specs.Facts.{WritesByMoves}
 use Rattle.gh_barrier.specs.Listing.{Writing as PointerWrite}
 use Rattle.gh_phase.specs.declared.resume.ResumeStage.{ResumeStage}
@@ -23,7 +24,7 @@ use Rattle.gh_mutator.specs.Poll as poll
 use Rattle.gh_mutator.specs.ProcessorMarks.{GlobalFacts, IsWriting, MarkFacts, MarksByMoves, new_polls, NewFacts, only_polls, reserved_at, StoreFacts, TaskFacts}
 use Rattle.gh_mutator.specs.ProcessorPlaces.{new_stage_at}
 use Rattle.gh_mutator.specs.Stays.{leaves_on}
-use Rattle.gh_mutator.specs.Vocabulary.{GlobalStage, Polling, Store, StoreStage}
+use Rattle.gh_mutator.specs.Vocabulary.{Assist, GlobalStage, Polling, Store, StoreStage}
 use Rattle.gh_mutator.specs.Wait as wait
 use Rattle.gh_mutator.proofs.Vocabulary.{after_gc, after_leave, after_poll, asks_at, begins, cell_of, Cycle, effect, Good, Hands, holding, Keeps, KnowsObjects, landing, leaves_at, LeaveStage, Leaving, Local, NewStage, nothing, Op, Others, Place, polls_at, PollStage, Processor, Search, Shape, Shared, stage_at, Steps, takes_at, Task, Wait, Waiting, waits_at, WaitStage, WaitState, Wanted, Want}
 use Rattle.gh_mutator.proofs.Marking.Known.{Known, stacks_last}
@@ -40,7 +41,7 @@ wait_knows z a s p wait_stage.Polling x = record { layout_is = x.layout_is; seat
 wait_knows z a s p wait_stage.LoadSwept x = record { layout_is = x.layout_is; seat_is = x.seat_is; stacks = x.between.stacks }
 wait_knows z a s p wait_stage.Ended x = record { layout_is = x.layout_is; seat_is = x.seat_is; stacks = x.between.stacks }
 
-module _ (k : Known) (h : PollsByMoves) (v : WaitsByMoves) (l : LeavesByMoves) (b : WritesByMoves) (z : Cycle) (a : ℕ) where
+module _ (k : Known) (h : PollsByMoves) (v : WaitsByMoves) (l : LeavesByMoves) (b : WritesByMoves) (c : AssistsByMoves) (z : Cycle) (a : ℕ) where
   -- behind a step
   polled_then : (t : Shared) (m : Processor) (p : Polling) (out : Option (Unit {0})) → poll.given p.stage ≡ out → PollFacts z a t p → MarkFacts z a t (after_poll m p out)
   polled_then t m p None e f = record { layout_is = f.layout_is; seat_is = f.seat_is; stacks = f.stacks; task_is = f }
@@ -86,6 +87,7 @@ module _ (k : Known) (h : PollsByMoves) (v : WaitsByMoves) (l : LeavesByMoves) (
     new_steps n (Wait y) only x = new_waits n y x
     new_steps n (Place y) only x = absurd (cc)
     new_steps n (Want u) only x = absurd (cc)
+    new_steps n (Assist u y) only x = absurd (cc)
 
     left_then : (t : Shared) (x : Leaving) (q : LeaveStage) (found : ℕ) → m.poll.local.held ≡ None → Keeps z a s t → LeaveFacts z a t (leave.goes_at x q found).stage → MarkFacts z a t (after_leave m (leave.goes_at x q found) (leave.given (leave.goes_at x q found).stage))
     left_then t x (leave_stage.Giving g) found none kept f = subst (λ (o : Option (Unit {0})). MarkFacts z a t (after_leave m (leave.goes_at x (leave_stage.Giving g) found) o)) (sym (leaves_on (give.goes g found)))
@@ -115,6 +117,7 @@ module _ (k : Known) (h : PollsByMoves) (v : WaitsByMoves) (l : LeavesByMoves) (
   new_lasts s t p (Search waited y) o x = between_lasts s t p.local o x
   new_lasts s t p (Wait y) o x = v.lasts z a s t (wait.waiting y p) o x
   new_lasts s t p (Want n) o x = between_lasts s t p.local o x
+  new_lasts s t p (Assist n y) o x = record { stacks = stacks_last z a s t p.local.stacks p.local.scanned o.keeps x.stacks; number = x.number; assists = c.lasts z a s t y o x.assists }
   new_lasts s t p (Place y) o x = record {
     marking = x.marking;
     stacks = stacks_last z a s t p.local.stacks p.local.scanned o.keeps x.stacks;
@@ -170,6 +173,7 @@ module _ (k : Known) (h : PollsByMoves) (v : WaitsByMoves) (l : LeavesByMoves) (
   new_stands s p (Wait y) stops still x = wait_stands s (wait.waiting y p) y.stage stops still x
   new_stands s p (Place y) stops still x = absurd still
   new_stands s p (Want n) stops still x = absurd still
+  new_stands s p (Assist n y) stops still x = absurd still
 
   leave_stands : (s : Shared) (q : LeaveStage) (stops : ℕ) → IsParked stops (leaves_at q) → LeaveFacts z a s q → Hands a s nothing
   leave_stands s (leave_stage.Giving g) stops still x = absurd still
@@ -204,6 +208,7 @@ module _ (k : Known) (h : PollsByMoves) (v : WaitsByMoves) (l : LeavesByMoves) (
     new_opens (Wait y) still = wait_opens y y.stage still
     new_opens (Place y) still = absurd still
     new_opens (Want n) still = absurd still
+    new_opens (Assist n y) still = absurd still
 
     leave_opens : (q : LeaveStage) → IsParked stops (leaves_at q) → LeaveFacts z a s q
     leave_opens (leave_stage.Giving g) still = absurd still
@@ -230,11 +235,11 @@ module _ (k : Known) (h : PollsByMoves) (v : WaitsByMoves) (l : LeavesByMoves) (
   }
   begins_facts shapes s m _ only r = absurd (cc)
 
-pub marks_by_moves : Known → PollsByMoves → WaitsByMoves → LeavesByMoves → WritesByMoves → MarksByMoves
-marks_by_moves k h v l b = record {
-  opens = λ z a s m n. record { layout_is = n.layout_is; seat_is = n.seat_is; stacks = n.stacks; task_is = task_opens k h v l b z a s m.poll n.stops n.layout_is n.seat_is n.no_buffer n.stacks n.nothing_in_hand m.task n.parked };
-  begins = λ shapes z a s m o idle only f. begins_facts k h v l b z a shapes s m o only (record { layout_is = f.layout_is; seat_is = f.seat_is; between = subst (λ (t : Task). TaskFacts z a s m.poll t) idle f.task_is });
-  own_step = λ shapes z a s m good objects now only f. steps_at k h v l b z a s good objects now shapes m f.layout_is f.seat_is f.stacks m.task only f.task_is;
-  lasts = λ z a s t m o f. record { layout_is = f.layout_is; seat_is = f.seat_is; stacks = stacks_last z a s t m.poll.local.stacks m.poll.local.scanned o.keeps f.stacks; task_is = task_lasts k h v l b z a s t m.poll m.task o f.task_is };
-  waits = λ z a s m stops still f. let x = stands k h v l b z a s m.poll m.task stops still f.task_is in record { stops = stops; parked = still; layout_is = f.layout_is; seat_is = f.seat_is; no_buffer = x.0; stacks = f.stacks; nothing_in_hand = x.1 };
+pub marks_by_moves : Known → PollsByMoves → WaitsByMoves → LeavesByMoves → WritesByMoves → AssistsByMoves → MarksByMoves
+marks_by_moves k h v l b c = record {
+  opens = λ z a s m n. record { layout_is = n.layout_is; seat_is = n.seat_is; stacks = n.stacks; task_is = task_opens k h v l b c z a s m.poll n.stops n.layout_is n.seat_is n.no_buffer n.stacks n.nothing_in_hand m.task n.parked };
+  begins = λ shapes z a s m o idle only f. begins_facts k h v l b c z a shapes s m o only (record { layout_is = f.layout_is; seat_is = f.seat_is; between = subst (λ (t : Task). TaskFacts z a s m.poll t) idle f.task_is });
+  own_step = λ shapes z a s m good objects now only f. steps_at k h v l b c z a s good objects now shapes m f.layout_is f.seat_is f.stacks m.task only f.task_is;
+  lasts = λ z a s t m o f. record { layout_is = f.layout_is; seat_is = f.seat_is; stacks = stacks_last z a s t m.poll.local.stacks m.poll.local.scanned o.keeps f.stacks; task_is = task_lasts k h v l b c z a s t m.poll m.task o f.task_is };
+  waits = λ z a s m stops still f. let x = stands k h v l b c z a s m.poll m.task stops still f.task_is in record { stops = stops; parked = still; layout_is = f.layout_is; seat_is = f.seat_is; no_buffer = x.0; stacks = f.stacks; nothing_in_hand = x.1 };
 }

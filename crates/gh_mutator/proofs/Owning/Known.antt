@@ -1,4 +1,6 @@
 -- What is known of the heap, of packed words, of the size classes and of the routines that the processor runs, by what their laws say.
+use Rattle.gh_assist.specs.Quiet.{AssistsAreQuiet}
+use Rattle.gh_assist.specs.Within.{AssistsAreWithin}
 use Rattle.gh_base.specs.Rows.{RowsAreWritten}
 use Rattle.gh_heap.specs.Laws.{AllAreSwept, EachMoveKeepsItsOwn}
 use Rattle.gh_barrier.specs.Facts.{WritesByMoves}
@@ -24,3 +26,5 @@ pub record Known : Type 0 where
   pub leaves : LeavesByRights
   pub writes : WritesByMoves
   pub within : WritingIsWithin
+  pub assists_quiet : AssistsAreQuiet
+  pub assists_within : AssistsAreWithin

@@ -7,7 +7,7 @@ use Rattle.gh_heap.specs.Moves.{Others}
 use Rattle.gh_heap.specs.Rights.{Rights}
 use Rattle.gh_heap.specs.Spans.{Freeing, Laying}
 use Rattle.gh_alloc.specs.SearchFacts as search
-use Rattle.gh_mutator.specs.Vocabulary.{Polling, Answer, Arena, EverValue, fits, Global, GlobalStage, Good, is_number, IsOf, Load, LoadStage, MOST_STATEMENTS, Name, NewStage, Place, Placing, Processor, Register, Runs, Search, Seeking, shape_at, Source, Store, StoreStage, Task, View, Wait, Wanted, Want}
+use Rattle.gh_mutator.specs.Vocabulary.{Polling, Answer, Arena, Assist, EverValue, fits, Global, GlobalStage, Good, is_number, IsOf, Load, LoadStage, MOST_STATEMENTS, Name, NewStage, Place, Placing, Processor, Register, Runs, Search, Seeking, shape_at, Source, Store, StoreStage, Task, View, Wait, Wanted, Want}
 use Rattle.gh_mutator.specs.declared.global.GlobalStage.TheVariants as global_stage
 use Rattle.gh_mutator.specs.declared.load.LoadStage.TheVariants as load_stage
 use Rattle.gh_mutator.specs.declared.register.Source.TheVariants as source
@@ -109,6 +109,7 @@ module _ (z : Arena) (a : ℕ) (v w : View) (o : Others z a v w) where
     new_knows (Wait x) h = k.waits.lasts z a v w (waiting x m.poll) good o h
     new_knows (Place x) h = rests_last h
     new_knows (Want n) h = rests_last h
+    new_knows (Assist n x) h = rests_last h
 
     known_lasts : (q : Task) → KnowsAt z a v m.poll q → KnowsAt z a w m.poll q
     known_lasts task.Left h = stands_last z a v w o m.poll h
@@ -131,6 +132,7 @@ module _ (z : Arena) (a : ℕ) (v w : View) (o : Others z a v w) where
     new_lasts x pending (Wait y) has s = (wants_last x s.0, s.1)
     new_lasts x pending (Place p) has s = makes_last x p pending s
     new_lasts x pending (Want n) has s = s
+    new_lasts x pending (Assist n y) has s = s
 
     task_lasts : (pending : Option Answer) (q : Task) → HasAt a v m q → FactsAt z a v m pending q → FactsAt z a w m pending q
     task_lasts pending (task.Load x) has f = load_lasts x pending x.stage f

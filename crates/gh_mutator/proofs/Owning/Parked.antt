@@ -11,7 +11,7 @@ use Rattle.gh_mutator.specs.Facts.{freeing_new, held_new, KnowsNew, laying_new, 
 use Rattle.gh_mutator.specs.PollHeap.{Has, KeepsGhosts, no_page, WaitStageFacts}
 use Rattle.gh_mutator.specs.ProcessorPlaces.{new_stage_at, stage_at}
 use Rattle.gh_mutator.specs.Runs.{Parked, StandsAlways, Stopped}
-use Rattle.gh_mutator.specs.Vocabulary.{Answer, Arena, KeepsObjects, NewStage, Place, Polling, Processor, Search, Task, View, Wait, Wanted, Want}
+use Rattle.gh_mutator.specs.Vocabulary.{Answer, Arena, Assist, KeepsObjects, NewStage, Place, Polling, Processor, Search, Task, View, Wait, Wanted, Want}
 use Rattle.gh_mutator.specs.Wait.{waiting}
 use Rattle.gh_mutator.proofs.Holding.Known.{stands_stopped}
 use Rattle.gh_mutator.proofs.Owning.Known.{Known}
@@ -32,6 +32,7 @@ module _ (z : Arena) (a : ℕ) (v : View) (p : Polling) where
   new_stands (Wait x) h = wait_stands x.stage h
   new_stands (Place x) h = h.stands
   new_stands (Want n) h = h.stands
+  new_stands (Assist n x) h = h.stands
 
   stands_at : (q : Task) → KnowsAt z a v p q → Stands z a v p
   stands_at task.Left h = h
@@ -49,6 +50,7 @@ module _ (k : Known) (z : Arena) (a : ℕ) (v : View) (m : Processor) (pending :
   new_parked w (Wait x) is knows right h = (k.waits.parked z a v (waiting x m.poll) stops is (right, knows), h.1)
   new_parked w (Place x) is knows right h = absurd is
   new_parked w (Want n) is knows right h = absurd is
+  new_parked w (Assist n x) is knows right h = absurd is
 
   parked_at : (q : Task) → IsParked stops (stage_at m.poll q) → KnowsAt z a v m.poll q → HasAt a v m q → FactsAt z a v m pending q → Has a v false no_page × (pending ≡ None)
   parked_at task.Left is knows right h = (right, h)
@@ -71,6 +73,7 @@ module _ (k : Known) (z : Arena) (a : ℕ) (v : View) (m : Processor) (pending :
     new_stopped x (Wait y) is knows h = (k.waits.stopped z a v w (waiting y m.poll) stops is keeps knows, (same_wants z a v w x same h.0, h.1))
     new_stopped x (Place y) is knows h = absurd is
     new_stopped x (Want n) is knows h = absurd is
+    new_stopped x (Assist n y) is knows h = absurd is
 
     stopped_at : (q : Task) → IsParked stops (stage_at m.poll q) → KnowsAt z a v m.poll q → FactsAt z a v m pending q → KnowsAt z a w m.poll q × FactsAt z a w m pending q
     stopped_at task.Left is knows h = (stands_stopped z a v w m.poll keeps knows, h)

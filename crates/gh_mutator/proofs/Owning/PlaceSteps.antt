@@ -4,11 +4,13 @@ use Rattle.std.specs.Option.{option_to_list}
 use Rattle.std.proofs.Math.ListN.{set}
 use Rattle.std.proofs.lemmas.Bool.{eqb-true, eqb-false, eq-eqb}
 use Rattle.gh_mutator.proofs.Owning.Vocabulary.{Act, acted, acting, answered_at, at_task, Does, Fine, for_whom, KnowsCounts, lists, Makes, makes, op_of, own_span, register_at, RegistersFit, ShapesAreGood, Sits}
-use Rattle.gh_mutator.specs.Vocabulary.{Answer, Arena, cell_of, Ever, EverValue, Good, IsMade, IsOf, KeepsItsOwn, KeepsObjects, Large, Means, moved, Name, PlaceStage, Polling, Processor, REGISTERS, Shared, Small, Sought, SpanHead, Steps, Value, View, view, Wanted, with_register}
+use Rattle.gh_mutator.specs.Vocabulary.{Answer, Arena, cell_of, Ever, EverValue, Good, Idle, IsMade, IsOf, KeepsItsOwn, KeepsObjects, Large, Layout, Means, moved, Name, PlaceStage, Polling, Processor, REGISTERS, Shared, Small, Sought, SpanHead, Steps, Value, View, view, Wanted, with_register}
+use Rattle.gh_assist.specs.Within.{AssistWithin}
 use Rattle.gh_base.specs.declared.cell.Ask.TheVariants as ask
 use Rattle.gh_base.specs.declared.cell.Cell.TheVariants as cell
 use Rattle.gh_base.specs.declared.value.Answer.TheVariants as answer
 use Rattle.gh_base.specs.declared.value.Value.TheVariants as value
+use Rattle.gh_base.specs.Holding.{IsHeld}
 use Rattle.gh_model.specs.declared.EverValue.TheVariants as ever
 use Rattle.gh_model.specs.Ever.{next_name, same_name, with_object}
 use Rattle.gh_heap.specs.Moves.{placed_at, Quiet, update}
@@ -19,8 +21,8 @@ use Rattle.gh_alloc.specs.FindFacts as find
 use Rattle.gh_alloc.specs.Place as placer
 use Rattle.gh_alloc.specs.PlaceFacts as place
 use Rattle.gh_mutator.specs.Facts.{NamedFrom}
-use Rattle.gh_mutator.specs.Local.{with_register as local_register}
-use Rattle.gh_mutator.specs.New.{answer_made, is_made, made_object, made_task, wants}
+use Rattle.gh_mutator.specs.Local.{marking_at, with_register as local_register}
+use Rattle.gh_mutator.specs.New.{answer_made, assisting, assists, is_made, made_object, made_task, wants}
 use Rattle.gh_mutator.proofs.Holding.Known.{cached_kept, holds_swept, HoldsSwept}
 use Rattle.gh_mutator.proofs.Holding.Lists.{lists_it}
 use Rattle.gh_mutator.proofs.Owning.Known.{Known}
@@ -195,7 +197,7 @@ module _ (k : Known) (z : Arena) (a : ℕ) (s : Shared) (m : Processor) (x : Wan
   next = placer.goes p found
 
   abbrev then : Bool → Option Bool → Processor
-  then made asks = at_task (cond made (made_object making-at x p.at) making-at) (made_task x next asks)
+  then made asks = at_task (cond made (made_object making-at x p.at) making-at) (made_task m.poll x next asks)
 
   nothing : (q : Option Answer) → [] ++ option_to_list q ≡ option_to_list q ++ []
   nothing None = refl
@@ -213,7 +215,7 @@ module _ (k : Known) (z : Arena) (a : ℕ) (s : Shared) (m : Processor) (x : Wan
       task = record { facts = come.1; register = mk.register; of = mk.of; span = mk.span; apart = mk.apart; named = subst (λ (b : Bool). NamedFrom b p.name pending) (sym same) mk.named };
     }));
     ever = o.0 ∙ sym (ap (λ (b : Bool). acted z.shapes s.ever (acting b (op_of x) false)) still);
-    answers = ap (λ (b : Bool). option_to_list (answered_at z.shapes s.ever (acting b (op_of x) false)) ++ option_to_list pending) still ∙ nothing pending ∙ sym (ap (λ (g : Option Bool). option_to_list pending ++ option_to_list (answer_made p.name g)) gives);
+    answers = ap (λ (b : Bool). option_to_list (answered_at z.shapes s.ever (acting b (op_of x) false)) ++ option_to_list pending) still ∙ nothing pending ∙ sym (ap (λ (g : Option Bool). option_to_list pending ++ option_to_list (answer_made (marking_at m.poll) p.name g)) gives);
     full = λ q acts full. absurd (no-act q (ap (λ (b : Bool). acting b (op_of x) false) (sym still) ∙ acts));
     counts = alone;
   } where
@@ -241,7 +243,7 @@ module _ (k : Known) (z : Arena) (a : ℕ) (s : Shared) (m : Processor) (x : Wan
     }));
     ever = o.0 ∙ sym (ap (λ (b : Bool). acted z.shapes s.ever (acting b (op_of x) false)) acts);
     answers = ap (λ (b : Bool). option_to_list (answered_at z.shapes s.ever (acting b (op_of x) false)) ++ option_to_list pending) acts ∙ ap (λ (q : Option Answer). (answer.Ref (next_name s.ever x.g) ∷ []) ++ option_to_list q) none
-        ∙ ap (λ (n : Name). answer.Ref n ∷ []) (sym o.2) ∙ sym (ap (λ (g : Option Bool). option_to_list (Some (answer.Ref p.name)) ++ option_to_list (answer_made p.name g)) gives);
+        ∙ ap (λ (n : Name). answer.Ref n ∷ []) (sym o.2) ∙ sym (ap (λ (g : Option Bool). option_to_list (Some (answer.Ref p.name)) ++ option_to_list (answer_made (marking_at m.poll) p.name g)) gives);
     full = λ q e full. absurd (not-full q (ap (λ (b : Bool). acting b (op_of x) false) (sym acts) ∙ e) full);
     counts = alone;
   } where
@@ -284,20 +286,37 @@ module _ (k : Known) (z : Arena) (a : ℕ) (s : Shared) (m : Processor) (x : Wan
     steady : (b : Bool) → next.stage ≡ making.Ended b → Steady z a (view t) m
     steady b ended = steady_on z a now (view t) m o swept own (λ y e. held b ended y ∙ e) st
 
-    -- it is answered, or the request for a cycle comes first
-    over-with : (b : Bool) → next.stage ≡ making.Ended b → (after : Option Answer) → Fine z a (view t) (then false (Some b)) after → option_to_list pending ≡ option_to_list after ++ option_to_list (answer_made p.name (Some b)) → Does z a s t making-at pending found
+    -- it is answered, or the request for a cycle, or the assist, comes first
+    over-with : (b : Bool) → next.stage ≡ making.Ended b → (after : Option Answer) → Fine z a (view t) (then false (Some b)) after → option_to_list pending ≡ option_to_list after ++ option_to_list (answer_made (marking_at m.poll) p.name (Some b)) → Does z a s t making-at pending found
     over-with b ended after fine answers = record {
       after = after;
       fine = subst (λ (c : Bool). Fine z a (view t) (then c (placer.given next)) after) (sym still) (subst (λ (g : Option Bool). Fine z a (view t) (then false g) after) (sym (gives b ended)) fine);
       ever = o.0 ∙ sym (ap (λ (c : Bool). acted z.shapes s.ever (acting c (op_of x) false)) still);
-      answers = ap (λ (c : Bool). option_to_list (answered_at z.shapes s.ever (acting c (op_of x) false)) ++ option_to_list pending) still ∙ answers ∙ sym (ap (λ (g : Option Bool). option_to_list after ++ option_to_list (answer_made p.name g)) (gives b ended));
+      answers = ap (λ (c : Bool). option_to_list (answered_at z.shapes s.ever (acting c (op_of x) false)) ++ option_to_list pending) still ∙ answers ∙ sym (ap (λ (g : Option Bool). option_to_list after ++ option_to_list (answer_made (marking_at m.poll) p.name g)) (gives b ended));
       full = λ q acts full. absurd (no-act q acts);
       counts = alone;
     }
 
     over : (b : Bool) → next.stage ≡ making.Ended b → Does z a s t making-at pending found
     over true ended = over-with true ended pending (record { counts = (steady true ended).0; knows = (steady true ended).1; right = has true ended; task = named }) (nothing pending)
-    over false ended = over-with false ended None (idle z a (view t) m (steady false ended) (has false ended)) (ap option_to_list named)
+    over false ended = by (marking_at m.poll) refl where
+      sits : Sits z a m.poll
+      sits = (steady false ended).1.stands.sits
+
+      held_fits : IsHeld m.poll.layout m.poll.local.held
+      held_fits = subst (λ (l : Layout). IsHeld l m.poll.local.held) (sym sits.layout) sits.held
+
+      within : AssistWithin z.layout (assisting m.poll x)
+      within = subst (λ (l : Layout). AssistWithin l (assisting m.poll x)) sits.layout (k.assists_within.begins m.poll.layout m.poll.seat m.poll.local.held (8 * x.slot) m.poll.local.owed m.poll.local.spent held_fits)
+
+      -- while marking is on it assists first
+      by : (c : Bool) → marking_at m.poll ≡ c → Does z a s t making-at pending found
+      by true e = over-with false ended pending
+          (subst (λ (c : Bool). Fine z a (view t) (at_task making-at (cond c (assists x p.name (assisting m.poll x)) Idle)) pending) (sym e) (record { counts = (steady false ended).0; knows = (steady false ended).1; right = has false ended; task = (named, within) }))
+          (nothing pending ∙ sym (ap (λ (c : Bool). option_to_list pending ++ option_to_list (cond c None (Some (answer.Ref p.name)))) e))
+      by false e = over-with false ended None
+          (subst (λ (c : Bool). Fine z a (view t) (at_task making-at (cond c (assists x p.name (assisting m.poll x)) Idle)) None) (sym e) (idle z a (view t) m (steady false ended) (has false ended)))
+          (ap option_to_list named ∙ sym (ap (λ (c : Bool). [] ++ option_to_list (cond c None (Some (answer.Ref p.name)))) e))
 
   pub place-steps : ShapesAreGood z.shapes → Good z now → Fine z a now making-at pending → Steps z a s (placer.asks p) (λ t. Does z a s t making-at pending found)
   place-steps sg g fine =

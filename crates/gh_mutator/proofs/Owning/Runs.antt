@@ -24,6 +24,7 @@ use Rattle.gh_mutator.specs.Runs.{OwnStep, Rests, RunsByItsRights, SweepStep}
 use Rattle.gh_mutator.specs.Sweeping.{sweep_at}
 use Rattle.gh_sweep.specs.Listing.{Sweeping}
 use Rattle.gh_base.specs.Steps.{effect}
+use Rattle.gh_mutator.proofs.Owning.AssistSteps.{assist_steps}
 use Rattle.gh_mutator.proofs.Owning.Begins.{begins_well}
 use Rattle.gh_mutator.proofs.Owning.End.{end_steps}
 use Rattle.gh_mutator.proofs.Owning.Global.{global_steps}
@@ -68,6 +69,7 @@ new-at k w (new_stage.Search waited q) z a s m pending sg is good none fine = su
 new-at k w (new_stage.Wait x) z a s m pending sg is good none fine = at_its_task (task.New (record { wanted = w; stage = new_stage.Wait x })) (wait_steps k w x) z a s m pending sg is good fine
 new-at k w (new_stage.Place p) z a s m pending sg is good none fine = at_its_task (task.New (record { wanted = w; stage = new_stage.Place p })) (λ z a s m pending sg good fine. place-steps k z a s m w p pending sg good fine) z a s m pending sg is good fine
 new-at k w (new_stage.Want n) z a s m pending sg is good none fine = at_its_task (task.New (record { wanted = w; stage = new_stage.Want n })) (want-steps k w n) z a s m pending sg is good fine
+new-at k w (new_stage.Assist n x) z a s m pending sg is good none fine = at_its_task (task.New (record { wanted = w; stage = new_stage.Assist n x })) (assist_steps k w n x) z a s m pending sg is good fine
 
 steps-at : Known → (q : Task) → is_busy_at q ≡ true → NoSweepStepAt q
 steps-at k task.Idle busy = absurd (cc)
@@ -144,6 +146,7 @@ does-sweep k z a s t m pending sw (task.New x) sg g then fine is o words = by x.
   by (new_stage.Wait y) e fine is words = absurd (cc)
   by (new_stage.Place y) e fine is words = absurd (cc)
   by (new_stage.Want n) e fine is words = absurd (cc)
+  by (new_stage.Assist n y) e fine is words = absurd (cc)
 does-sweep k z a s t m pending sw _ sg g then fine is o words = absurd (cc)
 
 sweep-busy : (m : Processor) (sw : Sweeping) (q : Task) → sweep_at q ≡ Some sw → is_busy_at q ≡ true

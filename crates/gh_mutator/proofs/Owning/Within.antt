@@ -3,7 +3,7 @@ use Rattle.std.proofs.Common.{◌≡◌, ℕ, ◌+◌, ◌*◌, ◌/◌, ◌%◌
 use Rattle.std.proofs.Math.Nat.{mod-lt}
 use Rattle.gh_mutator.proofs.Owning.Vocabulary.{FactsAt, for_whom, GlobalFacts, HasAt, KnowsAt, NewFacts, register_of, rest, Sits, StoreFacts}
 use Rattle.gh_base.specs.Cells.{InRange}
-use Rattle.gh_mutator.specs.Vocabulary.{Answer, Arena, cell_of, Global, GlobalStage, Good, Layout, Load, LoadStage, NewStage, Place, Processor, Search, Store, StoreStage, Task, View, Wait, Wanted, Want}
+use Rattle.gh_mutator.specs.Vocabulary.{Answer, Arena, Assist, cell_of, Global, GlobalStage, Good, Layout, Load, LoadStage, NewStage, Place, Processor, Search, Store, StoreStage, Task, View, Wait, Wanted, Want}
 use Rattle.gh_heap.specs.Rights.{Rights}
 use Rattle.gh_mutator.specs.declared.global.GlobalStage.TheVariants as global_stage
 use Rattle.gh_mutator.specs.declared.load.LoadStage.TheVariants as load_stage
@@ -63,6 +63,7 @@ module _ (k : Known) (z : Arena) (a : ℕ) (v : View) (m : Processor) (pending :
   new_within w (Wait x) knows right h = k.waits.within z a v (waiting x m.poll) good (right, knows)
   new_within w (Place p) knows right h = k.place.within z a v (for_whom w) p good h.facts
   new_within w (Want n) knows right h = tt
+  new_within w (Assist n x) knows right h = k.assists_within.within z.layout x h.1
 
   within-at : (q : Task) → KnowsAt z a v m.poll q → HasAt a v m q → FactsAt z a v m pending q → InRange z.layout (cell_of (asks_at m q))
   within-at task.Idle knows right h = tt

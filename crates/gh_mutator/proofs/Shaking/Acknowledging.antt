@@ -10,7 +10,7 @@ use Rattle.gh_mutator.specs.Poll as poll
 use Rattle.gh_mutator.specs.ProcessorPlaces.{HoldsNothing, LeavesOn}
 use Rattle.gh_mutator.specs.Vocabulary.{Polling}
 use Rattle.gh_mutator.specs.Wait as wait
-use Rattle.gh_mutator.proofs.Vocabulary.{Ask, asks_at, IsQuiet, LeaveStage, Leaving, MarkingIsQuiet, NewStage, Place, PollsSoundAt, PollStage, Processor, ProcessorIsQuiet, register_of, Search, SoundAt, Store, Task, Wait, Waiting, WaitsSoundAt, WaitStage, Want}
+use Rattle.gh_mutator.proofs.Vocabulary.{Assist, Ask, asks_at, IsQuiet, LeaveStage, Leaving, MarkingIsQuiet, NewStage, Place, PollsSoundAt, PollStage, Processor, ProcessorIsQuiet, register_of, Search, SoundAt, Store, Task, Wait, Waiting, WaitsSoundAt, WaitStage, Want}
 use Rattle.gh_mutator.proofs.Aims.{resume_ack}
 
 -- what writes no word of the handshake acknowledges nothing
@@ -44,6 +44,7 @@ module _ (q : ProcessorIsQuiet) (k : MarkingIsQuiet) (i number : ℕ) where
   new_acks m (Wait x) w sound e = wait_acks (wait.waiting x m.poll) x.stage sound.0.1 e
   new_acks m (Place p) w sound e = absurd (no_ack _ i number (q.makes p) e)
   new_acks m (Want n) w sound e = absurd (cc)
+  new_acks m (Assist n x) w sound e = absurd (no_ack _ i number (q.assists x) e)
 
   pub acks : (m : Processor) (t : Task) → SoundAt m.poll t → asks_at m t ≡ Store (Ack i) number → HoldsNothing m.poll i
   acks m task.Idle s e = absurd (cc)

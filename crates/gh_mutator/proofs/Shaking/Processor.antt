@@ -4,6 +4,7 @@ use Rattle.std.specs.Prelude.{is_none}
 use Rattle.gh_base.specs.declared.operation.Op.TheVariants as op
 use Rattle.gh_alloc.specs.Search as search
 use Rattle.gh_alloc.specs.Place as place
+use Rattle.gh_assist.specs.Listing as assist
 use Rattle.gh_mutator.specs.New.{made_task}
 use Rattle.gh_mutator.specs.declared.leave.LeaveStage.TheVariants as leave_stage
 use Rattle.gh_mutator.specs.declared.task.Task.TheVariants as task
@@ -12,6 +13,7 @@ use Rattle.gh_mutator.specs.Global as global
 use Rattle.gh_mutator.specs.Handshake.{HasPlaces, knower, leaver, LeavesInHandshake, PollsInHandshake, PollsOn, SoundWait, wait_stage_of, waiter_of, WaitsInHandshake}
 use Rattle.gh_mutator.specs.Leave as leave
 use Rattle.gh_mutator.specs.Load as load
+use Rattle.gh_mutator.specs.Local.{marking_at}
 use Rattle.gh_mutator.specs.Poll as poll
 use Rattle.gh_mutator.specs.Processor.{keeping}
 use Rattle.gh_mutator.specs.ProcessorPlaces.{LeavesOn, party_of, SoundPlace, stage_of}
@@ -20,7 +22,7 @@ use Rattle.gh_mutator.specs.Store as store
 use Rattle.gh_mutator.specs.Vocabulary.{Polling}
 use Rattle.gh_mutator.specs.Wait as wait
 use Rattle.gh_mutator.specs.Stays.{leaves_on}
-use Rattle.gh_mutator.proofs.Vocabulary.{Acts, after_gc, after_leave, after_place, after_poll, after_search, after_wait, applied, asks_at, At, Awake, begins, cache_span, cache_with, CachedSpan, Ends, follows, Found, GoesOn, has_left_at, is_busy_at, IsQuiet, Large, leaves_at, LeaveStage, Leaving, length-set, made_object, makes, MarkingIsQuiet, NewStage, NoRoom, Op, party_at, Place, PlaceBegins, Placing, Processor, ProcessorInHandshake, ProcessorIsQuiet, register_of, Search, Seeking, Shape, Small, Sought, SoundAt, span_index, stage_at, StageGoes, Step, takes, takes_at, Task, Then, Value, Wait, Waiting, WaitState, Wanted, Want}
+use Rattle.gh_mutator.proofs.Vocabulary.{after_assist, Assist, Assisting, assisting, assists, Name, Acts, after_gc, after_leave, after_place, after_poll, after_search, after_wait, applied, asks_at, At, Awake, begins, cache_span, cache_with, CachedSpan, Ends, follows, Found, GoesOn, has_left_at, is_busy_at, IsQuiet, Large, leaves_at, LeaveStage, Leaving, length-set, made_object, makes, MarkingIsQuiet, NewStage, NoRoom, Op, party_at, Place, PlaceBegins, Placing, Processor, ProcessorInHandshake, ProcessorIsQuiet, register_of, Search, Seeking, Shape, Small, Sought, SoundAt, span_index, stage_at, StageGoes, Step, takes, takes_at, Task, Then, Value, Wait, Waiting, WaitState, Wanted, Want}
 use Rattle.gh_mutator.proofs.Shaking.Acknowledging.{acks}
 
 -- a step at this task leads here
@@ -78,6 +80,13 @@ search_plain w waited s = record { sound = λ p. tt; party = λ p. refl; stage =
 make_plain : (w : Wanted) (p : Placing) → Plain (makes w p)
 make_plain w p = record { sound = λ q. tt; party = λ q. refl; stage = λ q. refl }
 
+assist_plain : (w : Wanted) (n : Name) (x : Assisting) → Plain (assists w n x)
+assist_plain w n x = record { sound = λ q. tt; party = λ q. refl; stage = λ q. refl }
+
+assist_lands : (m : Processor) (w : Wanted) (n : Name) (x : Assisting) (out : Option (Unit {0})) → HasPlaces m.poll.local.cache → Lands m (after_assist m w n x out)
+assist_lands m w n x None has = lands m _ has refl (assist_plain w n x)
+assist_lands m w n x (Some y) has = lands m _ has refl idle_plain
+
 -- a new object
 recached : (cache : List (Option CachedSpan)) (x : Sought) (c : Option CachedSpan) → HasPlaces cache → HasPlaces (cache_with cache x c)
 recached cache (Small k) c has = length-set cache (span_index k) c ∙ has
@@ -93,12 +102,16 @@ search_lands shapes m w false s c (Some NoRoom) has =
 
 place_lands : (m : Processor) (w : Wanted) (made : Bool) (a : ℕ) (p : Placing) → HasPlaces m.poll.local.cache → Lands m (after_place m w made a p)
 place_lands m w made a p has = by made (place.given p) where
-  then : (asks : Option Bool) → Plain (made_task w p asks)
+  assists_then : (marking : Bool) → Plain (cond marking (assists w p.name (assisting m.poll w)) task.Idle)
+  assists_then true = assist_plain w p.name (assisting m.poll w)
+  assists_then false = idle_plain
+
+  then : (asks : Option Bool) → Plain (made_task m.poll w p asks)
   then None = make_plain w p
   then (Some true) = record { sound = λ q. tt; party = λ q. refl; stage = λ q. refl }
-  then (Some false) = idle_plain
+  then (Some false) = assists_then (marking_at m.poll)
 
-  by : (made : Bool) (asks : Option Bool) → Lands m (record (cond made (made_object m w a) m) { task = made_task w p asks })
+  by : (made : Bool) (asks : Option Bool) → Lands m (record (cond made (made_object m w a) m) { task = made_task m.poll w p asks })
   by true asks = lands m _ has refl (then asks)
   by false asks = lands m _ has refl (then asks)
 
@@ -168,6 +181,7 @@ module _ (q : ProcessorIsQuiet) (k : MarkingIsQuiet) (h : PollsInHandshake) (v :
     new_goes found m w (Search waited s) has sound = awake found m _ _ refl refl (q.searches s) (search_lands shapes m w waited (search.goes s found) (search.goes s found).find.cached (search.gives s found) has)
     new_goes found m w (Wait x) has sound = wait_goes found m w x sound.0 sound.1 (wait.gives (wait.waiting x m.poll) found) refl
     new_goes found m w (Want n) has sound = awake found m _ _ refl refl tt (lands m _ has refl idle_plain)
+    new_goes found m w (Assist n x) has sound = awake found m _ _ refl refl (q.assists x) (assist_lands m w n (assist.goes x found) (assist.gives x found) has)
     new_goes found m w (Place p) has sound = awake found m _ _ refl refl (q.makes p) (place_lands m w (place.acts p) p.at (place.goes p found) has)
 
     goes_at : (found : ℕ) (m : Processor) (t : Task) → HasPlaces m.poll.local.cache → SoundAt m.poll t → is_busy_at t ≡ true → Goes found m t (takes_at shapes m t found)

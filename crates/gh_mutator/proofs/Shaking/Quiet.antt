@@ -2,6 +2,7 @@
 use Rattle.std.specs.Prelude.{ℕ}
 use Rattle.gh_base.specs.declared.cell.Ask.TheVariants as ask
 use Rattle.gh_alloc.specs.Quiet.{AllocationIsQuiet}
+use Rattle.gh_assist.specs.Quiet.{AssistsAreQuiet}
 use Rattle.gh_barrier.specs.declared.pointer_cell.PointerCell.{PointerCell}
 use Rattle.gh_barrier.specs.declared.pointer_cell.PointerCell.TheVariants as pointer_cell
 use Rattle.gh_barrier.specs.declared.write_pointer.WriteStage.{WriteStage}
@@ -37,7 +38,7 @@ cells : (c : PointerCell) (word : ℕ) → IsQuiet (ask.Store (write.cell_at c) 
 cells (pointer_cell.Field x) word = tt
 cells (pointer_cell.Global i) word = tt
 
-module _ (q : MarkingIsQuiet) (a : AllocationIsQuiet) where
+module _ (q : MarkingIsQuiet) (a : AllocationIsQuiet) (b : AssistsAreQuiet) where
   writes : (w : write.Writing) (stage : WriteStage) → IsQuiet (write.asks_at w stage)
   writes w write_stage.LoadOld = tt
   writes w (write_stage.ShadeOld sh) = q.shades sh
@@ -79,4 +80,5 @@ module _ (q : MarkingIsQuiet) (a : AllocationIsQuiet) where
     registers = λ x. tt;
     searches = a.searches;
     makes = a.places;
+    assists = b.handshake;
   }

@@ -5,11 +5,15 @@ use Rattle.gh_alloc.specs.declared.place.PlaceStage.TheVariants as making
 use Rattle.gh_alloc.specs.Place as place
 use Rattle.gh_alloc.specs.Search as search
 use Rattle.gh_alloc.specs.Trigger.{AnObjectAsksAtTheTrigger}
+use Rattle.gh_assist.specs.Listing as assist
+use Rattle.gh_assist.specs.Paying.{AssistsPay}
+use Rattle.gh_assist.specs.Quiet.{AssistsAreQuiet}
 use Rattle.gh_mutator.specs.declared.task.Task.TheVariants as task
 use Rattle.gh_mutator.specs.declared.wait.WaitStage.TheVariants as wait_stage
 use Rattle.gh_mutator.specs.Global as global
 use Rattle.gh_mutator.specs.Leave as leave
 use Rattle.gh_mutator.specs.Load as load
+use Rattle.gh_mutator.specs.Local.{marking_at}
 use Rattle.gh_mutator.specs.New as new
 use Rattle.gh_mutator.specs.Poll as poll
 use Rattle.gh_mutator.specs.Register as register
@@ -17,7 +21,8 @@ use Rattle.gh_mutator.specs.Store as store
 use Rattle.gh_mutator.specs.Vocabulary.{MOST_GOROUTINES, Polling}
 use Rattle.gh_mutator.specs.Wait as wait
 use Rattle.gh_mutator.specs.Writing.{BeginsToWait, Compares, ComparesAt, CountsUpTo, CountsUpToAt, IsSearching, IsWritten, ProcessorWritesItsOwn, SawReached, SawReachedAt, SearchesAt, SeesReached, SeesReachedAt, StacksAreNoted}
-use Rattle.gh_mutator.proofs.Vocabulary.{after_gc, after_leave, after_poll, asks, asks_at, At, begins, cache_span, CellsAreTold, Ends, follows, Found, GoesOn, has_left_at, Layout, Leaving, NewStage, NoRoom, Op, Place, PlaceStage, Placing, Processor, processor_kind, ProcessorInHandshake, register_of, Search, Seeking, Shape, slice_index, SoundScanAt, takes_at, Task, Then, Wait, Waiting, WaitStage, Want, Wanted}
+use Rattle.gh_mutator.proofs.Vocabulary.{after_assist, Assist, Assisting, assisting, assists, Name, after_gc, after_leave, after_poll, asks, asks_at, At, begins, cache_span, CellsAreTold, Ends, follows, Found, GoesOn, has_left_at, Layout, Leaving, NewStage, NoRoom, Op, Place, PlaceStage, Placing, Processor, processor_kind, ProcessorInHandshake, register_of, Search, Seeking, Shape, slice_index, SoundScanAt, takes_at, Task, Then, Wait, Waiting, WaitStage, Want, Wanted}
+use Rattle.gh_mutator.proofs.Writing.Assisting.{assist_begins, assist_takes}
 use Rattle.gh_mutator.proofs.Writing.Polls.{Stays, stays_so}
 use Rattle.gh_mutator.proofs.Writing.Processor.{writes_at}
 use Rattle.gh_mutator.proofs.Writing.Rows.{leaves_others}
@@ -55,10 +60,19 @@ into_on : {S : Type 0} (into : S → Task) (then : Then S) → ((y : S) → Begi
 into_on into (GoesOn y) spared wants = spared y wants
 into_on into (Ends a) spared wants = wants
 
-made_on : (n : Wanted) (y : Placing) (asks : Option Bool) → BeginsToWait (new.made_task n y asks) → ⊥
-made_on n y None wants = wants
-made_on n y (Some true) wants = wants
-made_on n y (Some false) wants = wants
+-- nor the making of an object, nor an assist
+assists_on : (p : Polling) (n : Wanted) (u : Name) (marking : Bool) → BeginsToWait (cond marking (assists n u (assisting p n)) task.Idle) → ⊥
+assists_on p n u true wants = wants
+assists_on p n u false wants = wants
+
+made_on : (p : Polling) (n : Wanted) (y : Placing) (asks : Option Bool) → BeginsToWait (new.made_task p n y asks) → ⊥
+made_on p n y None wants = wants
+made_on p n y (Some true) wants = wants
+made_on p n y (Some false) wants = assists_on p n y.name (marking_at p) wants
+
+assisted_on : (m : Processor) (n : Wanted) (u : Name) (x : Assisting) (out : Option (Unit {0})) → BeginsToWait (after_assist m n u x out).task → ⊥
+assisted_on m n u x None wants = wants
+assisted_on m n u x (Some y) wants = wants
 
 polled_on : (m : Processor) (p : Polling) (out : Option (Unit {0})) → BeginsToWait (after_poll m p out).task → ⊥
 polled_on m p None wants = wants
@@ -72,8 +86,9 @@ module _ (shapes : List Shape) (m : Processor) (found : ℕ) where
   making_once : (n : Wanted) (q : NewStage) → BeginsToWait (new.takes_at shapes m n q found).task → SearchesAt q
   making_once n (Search waited y) wants = tt
   making_once n (Wait x) wants = let w : Waiting = wait.waiting x m.poll in new_on m n (wait.goes w found) (wait.gives w found) (waits_on w x.stage found) wants
-  making_once n (Place y) wants = absurd (made_on n (place.goes y found) (place.gives y found) wants)
+  making_once n (Place y) wants = absurd (made_on m.poll n (place.goes y found) (place.gives y found) wants)
   making_once n (Want u) wants = absurd wants
+  making_once n (Assist u x) wants = absurd (assisted_on m n u (assist.goes x found) (assist.gives x found) wants)
 
   once_at : (t : Task) → t ≡ m.task → BeginsToWait (takes_at shapes m t found).task → IsSearching t
   once_at task.Idle is wants = subst (λ (t : Task). BeginsToWait t) (sym is) wants
@@ -137,6 +152,10 @@ module _ (shapes : List Shape) (m : Processor) (found : ℕ) where
   wait_behind n w None e = e
   wait_behind n w (Some u) e = e
 
+  assist_behind : (n : Wanted) (u : Name) (x : Assisting) (out : Option (Unit {0})) → IsBehind (after_assist m n u x out).task → ⊥
+  assist_behind n u x None e = e
+  assist_behind n u x (Some y) e = e
+
   gc_behind : (g : ℕ) (w : Waiting) (out : Option (Unit {0})) → IsBehind (after_gc m g w out).task → ⊥
   gc_behind g w None e = e
   gc_behind g w (Some u) e = e
@@ -158,6 +177,7 @@ module _ (shapes : List Shape) (m : Processor) (found : ℕ) where
   new_behind n (Wait x) e = let w : Waiting = wait.waiting x m.poll in absurd (wait_behind n (wait.goes w found) (wait.gives w found) e)
   new_behind n (Place y) e = tt
   new_behind n (Want u) e = absurd e
+  new_behind n (Assist u x) e = absurd (assist_behind n u (assist.goes x found) (assist.gives x found) e)
 
   was_placing : (t : Task) → t ≡ m.task → IsBehind (takes_at shapes m t found).task → IsPlacing t
   was_placing task.Idle is e = absurd (subst IsBehind (sym is) e)
@@ -173,15 +193,24 @@ module _ (shapes : List Shape) (m : Processor) (found : ℕ) where
   was_placing (task.Leave x) is e = absurd (leave_behind (leave.goes x found) (leave.gives x found) e)
 
   module _ (k : AnObjectAsksAtTheTrigger) where
-    made_asks : (n : Wanted) (y : Placing) (asks : Option Bool) → SawReached (new.made_task n y asks) → asks ≡ Some true
+    -- an assist is neither
+    assists_saw : (n : Wanted) (u : Name) (marking : Bool) → SawReached (cond marking (assists n u (assisting m.poll n)) task.Idle) → ⊥
+    assists_saw n u true saw = saw
+    assists_saw n u false saw = saw
+
+    assists_compares : (bytes : ℕ) (n : Wanted) (u : Name) (marking : Bool) → Compares (cond marking (assists n u (assisting m.poll n)) task.Idle) bytes → ⊥
+    assists_compares bytes n u true e = e
+    assists_compares bytes n u false e = e
+
+    made_asks : (n : Wanted) (y : Placing) (asks : Option Bool) → SawReached (new.made_task m.poll n y asks) → asks ≡ Some true
     made_asks n y None saw = absurd saw
     made_asks n y (Some true) saw = refl
-    made_asks n y (Some false) saw = absurd saw
+    made_asks n y (Some false) saw = absurd (assists_saw n y.name (marking_at m.poll) saw)
 
-    made_compares : (bytes : ℕ) (n : Wanted) (y : Placing) (asks : Option Bool) → Compares (new.made_task n y asks) bytes → y.stage ≡ making.LoadTrigger bytes
+    made_compares : (bytes : ℕ) (n : Wanted) (y : Placing) (asks : Option Bool) → Compares (new.made_task m.poll n y asks) bytes → y.stage ≡ making.LoadTrigger bytes
     made_compares bytes n y None e = e
     made_compares bytes n y (Some true) e = absurd e
-    made_compares bytes n y (Some false) e = absurd e
+    made_compares bytes n y (Some false) e = absurd (assists_compares bytes n y.name (marking_at m.poll) e)
 
     saw_at : (n : Wanted) (q : NewStage) → IsPlacingAt q → SawReached (new.takes_at shapes m n q found).task → (bytes : ℕ) × SeesReachedAt found bytes q
     saw_at n (Place y) here e = k.asks_there y found (made_asks n (place.goes y found) (place.gives y found) e)
@@ -192,7 +221,7 @@ module _ (shapes : List Shape) (m : Processor) (found : ℕ) where
     saw_by _ here e = absurd here
 
     sees_at : (bytes : ℕ) (n : Wanted) (q : NewStage) → SeesReachedAt found bytes q → SawReached (new.takes_at shapes m n q found).task
-    sees_at bytes n (Place y) e = subst (λ (o : Option Bool). SawReached (new.made_task n (place.goes y found) o)) (sym (k.asks_then y found bytes e)) tt
+    sees_at bytes n (Place y) e = subst (λ (o : Option Bool). SawReached (new.made_task m.poll n (place.goes y found) o)) (sym (k.asks_then y found bytes e)) tt
     sees_at bytes n _ e = absurd e
 
     sees_by : (bytes : ℕ) (t : Task) → SeesReached t found bytes → SawReached (takes_at shapes m t found).task
@@ -207,15 +236,15 @@ module _ (shapes : List Shape) (m : Processor) (found : ℕ) where
     compares_by bytes (task.New x) here e = compares_at bytes x.wanted x.stage here e
     compares_by bytes _ here e = absurd here
 
-pub writes_its_own : CellsAreTold → AnObjectAsksAtTheTrigger → ProcessorInHandshake → ProcessorWritesItsOwn
-writes_its_own k at_trigger h = record {
-  sound_first = λ l seat. record { place = h.sound_first l seat; scan = tt };
-  sound_begins = λ shapes l m o s rests. record { place = h.sound_begins shapes l m o s.place rests; scan = (begun shapes l m o s.scan).scan };
-  sound_takes = λ shapes m found s busy. record { place = h.sound_takes shapes m found s.place busy; scan = (goes_at shapes m found s.scan m.task).scan };
+pub writes_its_own : CellsAreTold → AnObjectAsksAtTheTrigger → AssistsAreQuiet → AssistsPay → ProcessorInHandshake → ProcessorWritesItsOwn
+writes_its_own k at_trigger quiet pay h = record {
+  sound_first = λ l seat. record { place = h.sound_first l seat; scan = tt; assist = tt };
+  sound_begins = λ shapes l m o s rests. record { place = h.sound_begins shapes l m o s.place rests; scan = (begun shapes l m o s.scan).scan; assist = assist_begins shapes l m o s.assist };
+  sound_takes = λ shapes m found s busy. record { place = h.sound_takes shapes m found s.place busy; scan = (goes_at quiet shapes m found s.scan m.task).scan; assist = assist_takes pay shapes m found m.task refl s.assist };
   begins_there = λ shapes l m o s. let b = begun shapes l m o s.scan in record { layout = b.layout; seat = b.seat };
-  stays_there = λ shapes m found s. let g = goes_at shapes m found s.scan m.task in record { layout = g.layout; seat = g.seat };
-  writes = λ m s. writes_at m.poll m.made s.scan m.task s.place.1;
-  leaves = λ m words c s spared. leaves_others k (IsWritten m) (asks m) words c (writes_at m.poll m.made s.scan m.task s.place.1) spared;
+  stays_there = λ shapes m found s. let g = goes_at quiet shapes m found s.scan m.task in record { layout = g.layout; seat = g.seat };
+  writes = λ m s. writes_at quiet m.poll m.made s.scan m.task s.place.1;
+  leaves = λ m words c s spared. leaves_others k (IsWritten m) (asks m) words c (writes_at quiet m.poll m.made s.scan m.task s.place.1) spared;
   once = λ shapes m found wants. once_at shapes m found m.task refl wants;
   saw = λ shapes m found e. saw_by shapes m found at_trigger m.task (was_placing shapes m found m.task refl (saw_behind (takes_at shapes m m.task found).task e)) e;
   sees = λ shapes m found bytes e. sees_by shapes m found at_trigger bytes m.task e;
@@ -229,13 +258,13 @@ zeros zero (suc g) = refl
 zeros (suc n) zero = refl
 zeros (suc n) (suc g) = zeros n g
 
-pub stacks_are_noted : StacksAreNoted
-stacks_are_noted = record {
+pub stacks_are_noted : AssistsAreQuiet → StacksAreNoted
+stacks_are_noted quiet = record {
   first = λ l seat g. zeros MOST_GOROUTINES g;
   places = λ l seat. refl;
   begins = λ shapes l m o s. (begun shapes l m o s.scan).scanned;
-  as_many = λ shapes m found s. (goes_at shapes m found s.scan m.task).noted.as_many;
-  notes = λ shapes m found g number s is lt. (goes_at shapes m found s.scan m.task).noted.notes g number is lt;
-  keeps = λ shapes m found g s spared. (goes_at shapes m found s.scan m.task).noted.keeps g spared;
+  as_many = λ shapes m found s. (goes_at quiet shapes m found s.scan m.task).noted.as_many;
+  notes = λ shapes m found g number s is lt. (goes_at quiet shapes m found s.scan m.task).noted.notes g number is lt;
+  keeps = λ shapes m found g s spared. (goes_at quiet shapes m found s.scan m.task).noted.keeps g spared;
   ends = λ m g e. ap (λ (t : Task). asks_at m t) e;
 }

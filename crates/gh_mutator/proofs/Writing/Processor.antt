@@ -1,6 +1,8 @@
 -- Which words a whole processor writes, and what its step leaves: by its tasks.
 use Rattle.std.proofs.Common.{◌≡◌, ℕ, List, refl, sym, ap, subst, ◌∙◌, inl, inr, is_some}
 use Rattle.gh_alloc.specs.Place as place
+use Rattle.gh_assist.specs.Listing as assist
+use Rattle.gh_assist.specs.Quiet.{AssistsAreQuiet}
 use Rattle.gh_phase.specs.declared.resume.ResumeStage.TheVariants as resume_stage
 use Rattle.gh_phase.specs.Listing as resume
 use Rattle.gh_stack.specs.Listing as stack
@@ -18,11 +20,11 @@ use Rattle.gh_mutator.specs.ProcessorPlaces.{SoundNewAt}
 use Rattle.gh_mutator.specs.Sweeping.{IsSweeping}
 use Rattle.gh_mutator.specs.Vocabulary.{Polling}
 use Rattle.gh_mutator.specs.Wait as wait
-use Rattle.gh_mutator.specs.Writing.{IsWanting, IsWritten, ScansItsOwn, TellsScan}
-use Rattle.gh_mutator.proofs.Vocabulary.{Ask, asks, LeaveStage, Leaving, MarkStackStage, NewStage, Place, PollsSoundAt, PollStage, Processor, register_of, ResumeStage, Search, SoundAt, SoundScanAt, Task, Wait, Waiting, WaitsSoundAt, WaitStage, WaitState, Wanted, WritesOf, Want}
+use Rattle.gh_mutator.specs.Writing.{IsSwap, IsWanting, IsWritten, ScansItsOwn, TellsScan}
+use Rattle.gh_mutator.proofs.Vocabulary.{Assist, assists, Ask, asks, LeaveStage, Leaving, MarkStackStage, NewStage, Place, PollsSoundAt, PollStage, Processor, register_of, ResumeStage, Search, SoundAt, SoundScanAt, Task, Wait, Waiting, WaitsSoundAt, WaitStage, WaitState, Wanted, WritesOf, Want}
 use Rattle.gh_mutator.proofs.Writing.Polls.{scan_asks}
 use Rattle.gh_mutator.proofs.Writing.Routines.{gives_write, global_writes, load_writes, store_writes}
-use Rattle.gh_mutator.proofs.Writing.Rows.{buffer_writes, OfHeap, OfMarking, OfSweeps, place_writes, room_writes, search_writes, shade_writes}
+use Rattle.gh_mutator.proofs.Writing.Rows.{assist_writes, buffer_writes, OfHeap, OfMarking, OfSweeps, place_writes, room_writes, search_writes, shade_writes}
 
 heap_written : (m : Processor) → OfHeap (IsWritten m)
 heap_written m = record { lock = tt; page = λ i. tt; alloc = λ i. tt; bitmap = λ i. tt; birth = λ i. tt; field = λ i. tt; global = λ i. tt }
@@ -78,12 +80,13 @@ module _ (m : Processor) (x : WaitState) (is : asks m ≡ wait.asks (wait.waitin
 abbrev pub running : Polling → List ℕ → Task → Processor
 running p made t = record { poll = p; made = made; task = t }
 
-module _ (p : Polling) (made : List ℕ) (scan : SoundScanAt p p.stage) where
+module _ (k : AssistsAreQuiet) (p : Polling) (made : List ℕ) (scan : SoundScanAt p p.stage) where
   new_writes : (w : Wanted) (q : NewStage) → SoundNewAt p q → WritesOf (IsWritten (running p made (task.New (record { wanted = w; stage = q })))) (new.asks_at (running p made (task.New (record { wanted = w; stage = q }))) q)
   new_writes w (Search waited s) sound = let m : Processor = running p made (task.New (record { wanted = w; stage = Search waited s })) in search_writes (IsWritten m) (heap_written m) s (λ sw e. sweeps_written m (ap is_some e))
   new_writes w (Wait x) sound = wait_writes (running p made (task.New (record { wanted = w; stage = Wait x }))) x refl (λ e. inl e) scan x.stage refl sound.0.1
   new_writes w (Place y) sound = let m : Processor = running p made (task.New (record { wanted = w; stage = Place y })) in place_writes (IsWritten m) (heap_written m) y (λ e. tt) (λ e. inl (e, ap (λ (q : _). place.asks_at y q) e))
   new_writes w (Want n) sound = (inr tt, refl)
+  new_writes w (Assist n x) sound = let m : Processor = running p made (assists w n x) in assist_writes (IsWritten m) (marking_written m) (assist.asks x) (λ old new e. (tt, subst (λ (step : Ask). IsSwap step) (sym e) tt)) (k.writes x)
 
   leave_writes : (x : Leaving) (q : LeaveStage) → x.seat ≡ p.seat → WritesOf (IsWritten (running p made (task.Leave x))) (leave.asks_at x q)
   leave_writes x (leave_stage.Giving g) own = gives_written (running p made (task.Leave x)) g

@@ -30,6 +30,7 @@ use Rattle.gh_alloc.specs.declared.search.SearchStage.TheVariants as search_stag
 use Rattle.gh_alloc.specs.Find as find
 use Rattle.gh_alloc.specs.Place as place
 use Rattle.gh_alloc.specs.Search as search
+use Rattle.gh_assist.specs.Quiet.{IsWritten as IsMarking, WritesSo}
 use Rattle.gh_shade.specs.declared.shade.ShadeStage.TheVariants as shade_stage
 use Rattle.gh_shade.specs.Listing as shade
 use Rattle.gh_wbuf.specs.declared.find_room.RoomStage.TheVariants as room_stage
@@ -199,6 +200,22 @@ module _ (P : Cell → Type 0) (r : OfMarking P) where
 
   pub shade_writes : (s : shade.Shading) → WritesOf P (shade.asks s)
   shade_writes s = shade_writes_at s s.stage
+
+  -- an assist, which swaps the bank too
+  marks_write : (c : Cell) → IsMarking c → P c
+  marks_write (cell.Mark i) x = r.mark i
+  marks_write (cell.Buffer i) x = r.buffer i
+  marks_write (cell.Entry i j) x = r.entry i j
+  marks_write _ x = absurd x
+
+  pub assist_writes : (step : Ask) → ((old new : ℕ) → step ≡ ask.Swap cell.Bank old new → P cell.Bank) → WritesSo step → WritesOf P step
+  assist_writes (ask.Load c) swaps x = tt
+  assist_writes (ask.Store c value) swaps x = marks_write c x
+  assist_writes (ask.Or c bits) swaps x = marks_write c x
+  assist_writes (ask.And c bits) swaps x = marks_write c x
+  assist_writes (ask.Add c more) swaps x = marks_write c x
+  assist_writes (ask.Swap cell.Bank old new) swaps x = swaps old new refl
+  assist_writes (ask.Swap c old new) swaps x = marks_write c x
 
 -- A step leaves each word that it does not write.
 pub leaves_others : CellsAreTold → (P : Cell → Type 0) (step : Ask) (words : Words) (c : Cell) → WritesOf P step → (P c → ⊥) → effect words step c ≡ words c

@@ -3,6 +3,8 @@ use Rattle.std.proofs.Common.{ℕ, Bool, true, false, cond, ltb, List, Option, S
 use Rattle.gh_base.specs.declared.operation.Op.TheVariants as op
 use Rattle.gh_alloc.specs.Place as place
 use Rattle.gh_alloc.specs.Search as search
+use Rattle.gh_assist.specs.Listing as assist
+use Rattle.gh_assist.specs.Quiet.{AssistsAreQuiet}
 use Rattle.gh_mutator.specs.declared.leave.LeaveStage.TheVariants as leave_stage
 use Rattle.gh_mutator.specs.declared.task.Task.TheVariants as task
 use Rattle.gh_mutator.specs.declared.wait.WaitStage.TheVariants as wait_stage
@@ -16,10 +18,10 @@ use Rattle.gh_mutator.specs.Register as register
 use Rattle.gh_mutator.specs.Store as store
 use Rattle.gh_mutator.specs.Vocabulary.{Polling}
 use Rattle.gh_mutator.specs.Wait as wait
-use Rattle.gh_mutator.proofs.Vocabulary.{Held, after_gc, after_leave, after_poll, asks_at, At, begun_with, cache_span, CachedSpan, Found, LeaveStage, Leaving, NewStage, NoRoom, Op, Place, Placing, Processor, register_of, Search, Seeking, Shape, SoundScanAt, takes_at, taking, Task, Value, Wait, Waiting, WaitStage, WaitState, Wanted, with_ended, WritesOf, Want}
+use Rattle.gh_mutator.proofs.Vocabulary.{after_assist, Assist, Assisting, Name, Held, after_gc, after_leave, after_poll, asks_at, At, begun_with, cache_span, CachedSpan, Found, LeaveStage, Leaving, NewStage, NoRoom, Op, Place, Placing, Processor, register_of, Search, Seeking, Shape, SoundScanAt, takes_at, taking, Task, Value, Wait, Waiting, WaitStage, WaitState, Wanted, with_ended, WritesOf, Want}
 use Rattle.gh_mutator.proofs.Writing.Polls.{carried, ended_noted, Goes, goes_by, gives_not, heap_not, marking_not, NotStack, poll_goes, Stays, stays_so, stays_with, told_noted}
 use Rattle.gh_mutator.proofs.Writing.Routines.{global_writes, load_writes, store_writes}
-use Rattle.gh_mutator.proofs.Writing.Rows.{place_writes, search_writes}
+use Rattle.gh_mutator.proofs.Writing.Rows.{assist_writes, place_writes, search_writes}
 
 -- a register takes a value
 taking_stays : (m : Processor) (g d : ℕ) (v : Option Value) → SoundScanAt m.poll m.poll.stage → Stays m.poll (taking m g d v).poll
@@ -42,6 +44,10 @@ made_stays : (m : Processor) (w : Wanted) (made : Bool) (a : ℕ) (y : Placing) 
 made_stays m w true a y s = stays_with m.poll _ refl refl s
 made_stays m w false a y s = stays_so m.poll s
 
+assist_stays : (m : Processor) (w : Wanted) (n : Name) (x : Assisting) (out : Option (Unit {0})) → SoundScanAt m.poll m.poll.stage → Stays m.poll (after_assist m w n x out).poll
+assist_stays m w n x None s = stays_so m.poll s
+assist_stays m w n x (Some y) s = stays_with m.poll _ refl refl s
+
 -- a wait
 wait_goes : (w : Waiting) (q : WaitStage) (found : ℕ) → SoundScanAt w.poll w.poll.stage → Goes (wait.asks_at w q) w.poll (wait.goes_at w q found).poll
 wait_goes w wait_stage.Want found s = goes_by _ w.poll _ tt (record { layout = refl; seat = refl; scanned = refl; scan = tt })
@@ -55,7 +61,7 @@ wait_goes w wait_stage.LoadSwept found s = by (ltb w.wait.known found) where
   by false = goes_by _ w.poll _ tt (record { layout = refl; seat = refl; scanned = refl; scan = tt })
 wait_goes w wait_stage.Ended found s = goes_by _ w.poll _ tt (record { layout = refl; seat = refl; scanned = refl; scan = tt })
 
-module _ (shapes : List Shape) (m : Processor) (found : ℕ) (s : SoundScanAt m.poll m.poll.stage) where
+module _ (k : AssistsAreQuiet) (shapes : List Shape) (m : Processor) (found : ℕ) (s : SoundScanAt m.poll m.poll.stage) where
   gc_goes : (g : ℕ) (x : WaitState) → Goes (asks_at m (task.Gc g x)) m.poll (takes_at shapes m (task.Gc g x) found).poll
   gc_goes g x = by (wait.gives (wait.waiting x m.poll) found) where
     by : (out : Option (Unit {0})) → Goes (wait.asks (wait.waiting x m.poll)) m.poll (after_gc m g (wait.goes (wait.waiting x m.poll) found) out).poll
@@ -73,6 +79,7 @@ module _ (shapes : List Shape) (m : Processor) (found : ℕ) (s : SoundScanAt m.
   new_goes n (Wait x) = new_waits n x
   new_goes n (Place y) = goes_by _ m.poll _ (place_writes NotStack heap_not y (λ e. tt) (λ e. tt)) (made_stays m n (place.acts y) y.at (place.goes y found) s)
   new_goes n (Want u) = goes_by _ m.poll _ tt (stays_so m.poll s)
+  new_goes n (Assist u y) = goes_by _ m.poll _ (assist_writes NotStack marking_not (assist.asks y) (λ old new e. tt) (k.writes y)) (assist_stays m n u (assist.goes y found) (assist.gives y found) s)
 
   polls : Goes (poll.asks m.poll) m.poll (takes_at shapes m task.Poll found).poll
   polls = by (poll.gives m.poll found) where

@@ -12,6 +12,7 @@ returns c = goes_on_beside (record {
   follow = c.hands_follow.ensures;
   leave = c.own_moves_leave.ensures.leave;
   writes = c.writes_by_moves.ensures;
+  assists = c.assists_by_moves.ensures;
   own = c.a_processor_writes_its_own.ensures;
   notes = c.stacks_are_noted.ensures;
   marks = c.a_processor_marks_by_moves.ensures;

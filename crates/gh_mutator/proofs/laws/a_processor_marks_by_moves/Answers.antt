@@ -11,4 +11,4 @@ returns c = marks_by_moves (record {
   buffers = c.buffers_pass_by_moves.ensures;
   shade = c.shades_by_moves.ensures;
   stacks = c.stacks_are_scanned_by_moves.ensures;
-}) c.polls_by_moves.ensures c.waits_by_moves.ensures c.leaves_by_moves.ensures c.writes_by_moves.ensures
+}) c.polls_by_moves.ensures c.waits_by_moves.ensures c.leaves_by_moves.ensures c.writes_by_moves.ensures c.assists_by_moves.ensures

@@ -1,6 +1,10 @@
-use Rattle.std.proofs.Common.{◌≡◌, ℕ, subst, Option, rules}
-use Rattle.gh_mutator.specs.Vocabulary.{Place, Placing}
+use Rattle.std.proofs.Common.{◌≡◌, ℕ, List, ◌*◌, ◌^◌, ◌≤◌, arith, subst, Option, rules}
+use Rattle.gh_mutator.specs.declared.new.New.{New}
+use Rattle.gh_mutator.specs.declared.task.Task.TheVariants as task
+use Rattle.gh_mutator.specs.Sound.{Sound, SoundTask, SoundWanted}
+use Rattle.gh_mutator.specs.Vocabulary.{Place, Placing, Processor, Shape, Task}
 use Rattle.gh_mutator.specs.NewParts.{made_at, MakingFits}
+use Rattle.gh_mutator.proofs.ClassFacts.{ClassLaws, sought_small}
 use Rattle.gh_mutator.proofs.NewSteps.{take_sound}
 use Rattle.gh_mutator.proofs.processor.Processor.take_new.Goals as goal
 
@@ -17,3 +21,16 @@ returns-in-Place-clause-sound c = take_sound c.args.shapes.now c.args.self.now c
 
   fits : (p : Placing) → c.in-New.new.stage ≡ Place p → MakingFits p.layout (made_at p)
   fits p e = let same : c.in-Place.place ≡ p = cc (c.in-Place.is, e) in subst (λ (q : Placing). MakingFits q.layout (made_at q)) same here
+
+-- the slot is one of what is sought
+wanted_small : (shapes : List Shape) (m : Processor) (n : New) → ClassLaws → m.task ≡ task.New n → Sound shapes m → 8 * n.wanted.slot ≤ 2 ^ 31
+wanted_small shapes m n laws is s =
+    let wanted : SoundWanted shapes n.wanted = (subst (λ (t : Task). SoundTask shapes m.poll m.made t) is s.task).0 in
+    let words = wanted.words in
+    let few = sought_small laws n.wanted.sought wanted.sought in
+    omega (arith, words, few)
+
+pub after_place-requires-clause-slot : goal.after_place-requires-clause-slot
+after_place-requires-clause-slot c =
+    let laws : ClassLaws = search rules in
+    wanted_small c.args.shapes.now c.args.self.now c.in-New.new laws c.in-New.is c.requires.sound
