@@ -1,5 +1,6 @@
 pub mod Vocabulary
 pub mod GoingOn
+pub mod Lapsing
 pub mod LastCycle
 pub mod MarkingEnds
 pub mod QuietParts
@@ -7,3 +8,4 @@ pub mod Shaking
 pub mod Stepping
 pub mod Sweeping
 pub mod SweptPages
+pub mod Triggering

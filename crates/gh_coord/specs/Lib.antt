@@ -4,6 +4,7 @@ pub mod Counting
 pub mod GoingOn
 pub mod Handshake
 pub mod Keeping
+pub mod Lapsing
 pub mod Listing
 pub mod MarkingEnds
 pub mod Opening
@@ -16,5 +17,6 @@ pub mod Sweeping
 pub mod SweepingAll
 pub mod SweptPages
 pub mod Telling
+pub mod Triggering
 pub mod Vocabulary
 pub mod Watching

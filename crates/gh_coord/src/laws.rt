@@ -2,8 +2,10 @@
 
 ghost use Rattle.gh_coord.specs.GoingOn.{GoesOnUntilDone};
 ghost use Rattle.gh_coord.specs.Handshake.{LeadsHandshake};
+ghost use Rattle.gh_coord.specs.Lapsing.{TheBankLapses};
 ghost use Rattle.gh_coord.specs.MarkingEnds.{MarkingEndsClean};
 ghost use Rattle.gh_coord.specs.Sweeping.{TheCoordinatorRunsSweeps};
+ghost use Rattle.gh_coord.specs.Triggering.{TheTriggerIsByWhatIsLive};
 
 /// The coordinator has a further step exactly where it is not done: so it is at first, and so after each step
 /// that it asked for.
@@ -32,4 +34,17 @@ pub fn nothing_is_left_to_mark()
 /// word that none is unswept there and that nobody sweeps one: a span that another sweeps it waits for.
 pub fn the_coordinator_runs_sweeps()
     ensures { TheCoordinatorRunsSweeps }
+{}
+
+/// Where the coordinator turns marking off, what the bank holds lapses, and the bank is empty then: the last two steps
+/// before the one that stores the next sweep generation loaded the bank, and stored 0 there. What that load found has
+/// lapsed, modulo 2^64, and by no other step does credit lapse. No other step of the coordinator writes the bank.
+pub fn the_bank_lapses()
+    ensures { TheBankLapses }
+{}
+
+/// The trigger that the coordinator stores behind a sweep is by the live bytes that its step before has loaded, and the
+/// step before that has loaded the tally. Where it opens a cycle it stores the one that is never reached.
+pub fn the_trigger_is_by_what_is_live()
+    ensures { TheTriggerIsByWhatIsLive }
 {}

@@ -1,0 +1,51 @@
+-- Where marking is turned off, what the bank holds lapses, and the bank is empty then: said by the words, whatever the coordinator is told.
+use Rattle.std.specs.Prelude.{◌≡◌, ◌≢◌, ℕ, suc, ◌+◌, ◌%◌, ◌^◌}
+use Rattle.gh_base.specs.declared.cell.Ask.TheVariants as ask
+use Rattle.gh_base.specs.declared.cell.Cell.TheVariants.{Bank, Gen}
+use Rattle.gh_base.specs.Routines.{told}
+use Rattle.gh_coord.specs.Listing.{asks, Coordinating, goes, lapsed_at, listing, opening}
+use Rattle.gh_coord.specs.Vocabulary.{Ask, Layout, Load, Store}
+
+-- the credit that has lapsed by now
+abbrev pub lapsed_of : Coordinating → ℕ
+lapsed_of s = lapsed_at s.lapsed s.stage
+
+-- a step that writes no bank, or stores 0 there
+abbrev pub LeavesOrClears : Ask → Type 0
+LeavesOrClears (Load c) = Unit {0}
+LeavesOrClears (Store Bank value) = value ≡ 0
+LeavesOrClears (Store c value) = Unit {0}
+LeavesOrClears (ask.Or c bits) = c ≢ Bank
+LeavesOrClears (ask.And c bits) = c ≢ Bank
+LeavesOrClears (ask.Add c more) = c ≢ Bank
+LeavesOrClears (ask.Swap c old new) = c ≢ Bank
+
+-- A step that loads the bank: what it found has lapsed, and the next step clears the bank.
+pub record Lapses (s : Coordinating) (found : ℕ) : Type 0 where
+  pub adds : lapsed_of (goes s found) ≡ (lapsed_of s + found) % 2 ^ 64
+  pub clears : asks (goes s found) ≡ Store Bank 0
+
+module _ (l : Layout) (seat gogc minheap room : ℕ) (found : ℕ → ℕ) where
+  -- after n steps
+  abbrev pub state : ℕ → Coordinating
+  state n = told listing (opening l seat gogc minheap room) found n
+
+  -- of the two steps before step n one loaded the bank, and the other cleared it: what the load found has lapsed by then
+  pub record HasLapsed (n : ℕ) : Type 0 where
+    pub load : ℕ
+    pub is_before : n ≡ suc (suc load)
+    pub loads : asks (state load) ≡ Load Bank
+    pub clears : asks (state (suc load)) ≡ Store Bank 0
+    pub lapsed_is : lapsed_of (state n) ≡ (lapsed_of (state load) + found load) % 2 ^ 64
+
+pub record TheBankLapses : Type 0 where
+  pub at_first : (l : Layout) (seat gogc minheap room : ℕ) → lapsed_of (opening l seat gogc minheap room) ≡ 0
+  -- what it finds in the bank lapses, and by no other step of the coordinator does credit lapse
+  pub lapses : (s : Coordinating) (found : ℕ) → asks s ≡ Load Bank → Lapses s found
+  pub stays : (s : Coordinating) (found : ℕ) → asks s ≢ Load Bank → lapsed_of (goes s found) ≡ lapsed_of s
+  -- it writes the bank by the store of 0 behind that load alone
+  pub writes : (s : Coordinating) → LeavesOrClears (asks s)
+  pub clears_behind : (s : Coordinating) (found value : ℕ) → asks (goes s found) ≡ Store Bank value → asks s ≡ Load Bank
+  pub clears_no_first : (l : Layout) (seat gogc minheap room value : ℕ) → asks (opening l seat gogc minheap room) ≢ Store Bank value
+  -- the step that ends marking stores the next sweep generation: by then the credit has lapsed
+  pub ends : (l : Layout) (seat gogc minheap room : ℕ) (found : ℕ → ℕ) (n generation : ℕ) → asks (state l seat gogc minheap room found n) ≡ Store Gen generation → HasLapsed l seat gogc minheap room found n
