@@ -4,6 +4,7 @@ pub mod Drawing
 pub mod Known
 pub mod Wanted
 pub mod Resting
+pub mod HeapBytes
 pub mod Asked
 pub mod Triggered
 pub mod Moves

@@ -1,5 +1,6 @@
 -- Credit balances, after every list.
 pub mod Bank
+pub mod Assisting
 pub mod Lead
 pub mod Few
 pub mod Lists

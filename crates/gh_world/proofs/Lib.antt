@@ -7,6 +7,7 @@ pub mod Scanned
 pub mod Shaking
 pub mod Asking
 pub mod Due
+pub mod Drawing
 pub mod EachOnce
 pub mod Fitting
 pub mod OneRun

@@ -3,3 +3,5 @@ pub mod Levels
 pub mod Weights
 pub mod Routines
 pub mod Works
+pub mod Claims
+pub mod Globals

@@ -9,6 +9,7 @@ use Rattle.gh_bitmap.specs.SetPointers as bits
 use Rattle.gh_alloc.specs.declared.place.PlaceStage.TheVariants as place_stage
 use Rattle.gh_alloc.specs.Search as search
 use Rattle.gh_alloc.specs.Place as place
+use Rattle.gh_assist.specs.Listing as assist
 use Rattle.gh_barrier.specs.declared.pointer_cell.PointerCell.TheVariants as pointer_cell
 use Rattle.gh_barrier.specs.Listing.{Writing as PointerWrite}
 use Rattle.gh_barrier.specs.Listing as write
@@ -23,9 +24,9 @@ use Rattle.gh_mutator.specs.Barrier.{written}
 use Rattle.gh_mutator.specs.Fields.{has_field, takes}
 use Rattle.gh_mutator.specs.Global as global
 use Rattle.gh_mutator.specs.Load as load
-use Rattle.gh_mutator.specs.New.{answer_search, op_of as new_op, refuses, answer_made}
+use Rattle.gh_mutator.specs.New.{answer_assist, answer_made, answer_search, op_of as new_op, refuses}
 use Rattle.gh_mutator.specs.Leave as leave
-use Rattle.gh_mutator.specs.Local.{is_mark}
+use Rattle.gh_mutator.specs.Local.{is_mark, marking_at}
 use Rattle.gh_mutator.specs.Processor.{keeping}
 use Rattle.gh_mutator.specs.Poll as poll
 use Rattle.gh_mutator.specs.Wait as wait
@@ -33,7 +34,7 @@ use Rattle.gh_mutator.specs.Serving.{answer_at}
 use Rattle.gh_mutator.specs.Step.{answered}
 use Rattle.gh_mutator.specs.Store as store
 use Rattle.gh_world.specs.World.{making}
-use Rattle.gh_world.proofs.Vocabulary.{Act, acting, acts_at, after_gc, after_leave, after_poll, Answer, At, begins_at, bit, cache_span, Ends, follows, Found, gives_at, Global, GlobalStage, GoesOn, in_range, is_busy_at, is_leave, is_leaving, is_point, is_some, is_statement, is_unacted, Layout, Leaving, made_by, NewStage, NoRoom, once_ended, Op, op_at, Place, PlaceStage, Placing, Polling, Processor, read_after_set, Register, register_of, Search, Seeking, set, Shape, Source, SpanHead, takes_at, Task, Then, Value, Wait, Waiting, Wanted, Want}
+use Rattle.gh_world.proofs.Vocabulary.{Act, acting, acts_at, after_assist, after_gc, after_leave, after_poll, Answer, Assist, Assisting, assisting, assists, At, begins_at, bit, cache_span, Ends, follows, Found, gives_at, Global, GlobalStage, GoesOn, in_range, is_busy_at, is_leave, is_leaving, is_point, is_some, is_statement, is_unacted, Layout, Leaving, made_by, Name, NewStage, NoRoom, once_ended, Op, op_at, Place, PlaceStage, Placing, Polling, Processor, read_after_set, Register, register_of, Search, Seeking, set, Shape, Source, SpanHead, takes_at, Task, Then, Value, Wait, Waiting, Want, Wanted}
 
 -- from task t and the processor m to the next one, with the act and the answer of the step
 pub record StepFacts (m : Processor) (t : Task) (next : Processor) (act : Option Act) (given : Option Answer) : Type 0 where
@@ -195,10 +196,15 @@ module _ (shapes : List Shape) (m : Processor) where
     more g = read_after_set (λ (n : ℕ). n ≤ made_by m g + 1) m.made w.g g (made_by m w.g + 1) 0
         (λ e. let same : made_by m w.g ≡ made_by m g = ap (λ (h : ℕ). made_by m h) e in omega arith) (omega arith)
 
+  -- it is made, and no cycle is asked for: while marking is on it assists
+  made_last : (w : Wanted) (p : Placing) → is_made p.stage ≡ true → (marking : Bool) → StepFacts m (makes w p) (at_task m (cond marking (assists w p.name (assisting m.poll w)) task.Idle)) None (cond marking None (Some (answer.Ref p.name)))
+  made_last w p here true = record { counted = λ g. rw here (omega arith); leaves = refl; answered = omega arith; once = rw here refl; ends = refl; serves = refl }
+  made_last w p here false = record { counted = λ g. rw here (omega arith); leaves = refl; answered = omega arith; once = rw here refl; ends = refl; serves = refl }
+
   place_facts : (w : Wanted) (p : Placing) (found : ℕ) (q : PlaceStage) → FactsAt (makes w (place.at_stage p q)) found
   place_facts w p found (place_stage.Clear k) = go (ltb (k + 1) p.slot) where
     go : (b : Bool) → StepFacts m (makes w (place.at_stage p (place_stage.Clear k))) (after_place m w false p.at (place.at_stage p (cond b (place_stage.Clear (k + 1)) place_stage.Birth))) None
-        (answer_made p.name (place.given_at (cond b (place_stage.Clear (k + 1)) place_stage.Birth)))
+        (answer_made (marking_at m.poll) p.name (place.given_at (cond b (place_stage.Clear (k + 1)) place_stage.Birth)))
     go true = before_made w _ _ refl refl
     go false = before_made w _ _ refl refl
   place_facts w p found place_stage.Birth = before_made w _ _ refl refl
@@ -206,15 +212,15 @@ module _ (shapes : List Shape) (m : Processor) where
     next : Bool → PlaceStage
     next b = cond b (place_stage.Bits (bits.goes s found)) (place.filled p.marking)
 
-    go : (b : Bool) → StepFacts m (makes w (place.at_stage p (place_stage.Bits s))) (after_place m w false p.at (place.at_stage p (next b))) None (answer_made p.name (place.given_at (next b)))
+    go : (b : Bool) → StepFacts m (makes w (place.at_stage p (place_stage.Bits s))) (after_place m w false p.at (place.at_stage p (next b))) None (answer_made (marking_at m.poll) p.name (place.given_at (next b)))
     go true = before_made w _ _ refl refl
     go false = filled p.marking where
-      filled : (marking : Bool) → StepFacts m (makes w (place.at_stage p (place_stage.Bits s))) (after_place m w false p.at (place.at_stage p (place.filled marking))) None (answer_made p.name (place.given_at (place.filled marking)))
+      filled : (marking : Bool) → StepFacts m (makes w (place.at_stage p (place_stage.Bits s))) (after_place m w false p.at (place.at_stage p (place.filled marking))) None (answer_made (marking_at m.poll) p.name (place.given_at (place.filled marking)))
       filled true = before_made w _ _ refl refl
       filled false = before_made w _ _ refl refl
   place_facts w p found place_stage.Mark = before_made w _ _ refl refl
   place_facts w p found place_stage.Alloc = go p.span where
-    go : (s : Option SpanHead) → StepFacts m (makes w (place.at_stage p place_stage.Alloc)) (after_place m w true p.at (place.at_stage p (place.made p s))) (acting true (new_op w) false) (answer_made p.name (place.given_at (place.made p s)))
+    go : (s : Option SpanHead) → StepFacts m (makes w (place.at_stage p place_stage.Alloc)) (after_place m w true p.at (place.at_stage p (place.made p s))) (acting true (new_op w) false) (answer_made (marking_at m.poll) p.name (place.given_at (place.made p s)))
     go None = now_made w _ _ p.at refl refl
     go (Some h) = now_made w _ _ p.at refl refl
   place_facts w p found (place_stage.Give g) = record { counted = λ g. omega arith; leaves = refl; answered = omega arith; once = refl; ends = refl; serves = refl }
@@ -222,20 +228,25 @@ module _ (shapes : List Shape) (m : Processor) where
     next : Bool → PlaceStage
     next b = cond b (place_stage.Ended false) (place_stage.LoadTrigger ((found + 8 * p.slot) % 2 ^ 64))
 
-    go : (b : Bool) → StepFacts m (makes w (place.at_stage p place_stage.Count)) (after_place m w false p.at (place.at_stage p (next b))) None (answer_made p.name (place.given_at (next b)))
-    go true = record { counted = λ g. omega arith; leaves = refl; answered = omega arith; once = refl; ends = refl; serves = refl }
+    go : (b : Bool) → StepFacts m (makes w (place.at_stage p place_stage.Count)) (after_place m w false p.at (place.at_stage p (next b))) None (answer_made (marking_at m.poll) p.name (place.given_at (next b)))
+    go true = made_last w (place.at_stage p place_stage.Count) refl (marking_at m.poll)
     go false = record { counted = λ g. omega arith; leaves = refl; answered = omega arith; once = refl; ends = refl; serves = refl }
   place_facts w p found (place_stage.LoadTrigger bytes) = over (nat_le found bytes) where
-    over : (b : Bool) → StepFacts m (makes w (place.at_stage p (place_stage.LoadTrigger bytes))) (after_place m w false p.at (place.at_stage p (place_stage.Ended b))) None (answer_made p.name (Some b))
+    over : (b : Bool) → StepFacts m (makes w (place.at_stage p (place_stage.LoadTrigger bytes))) (after_place m w false p.at (place.at_stage p (place_stage.Ended b))) None (answer_made (marking_at m.poll) p.name (Some b))
     over true = record { counted = λ g. omega arith; leaves = refl; answered = omega arith; once = refl; ends = refl; serves = refl }
-    over false = record { counted = λ g. omega arith; leaves = refl; answered = omega arith; once = refl; ends = refl; serves = refl }
-  place_facts w p found (place_stage.Ended wants) = record { counted = λ g. omega arith; leaves = refl; answered = omega arith; once = refl; ends = refl; serves = refl }
+    over false = made_last w (place.at_stage p (place_stage.LoadTrigger bytes)) refl (marking_at m.poll)
+  place_facts w p found (place_stage.Ended wants) = made_last w (place.at_stage p (place_stage.Ended wants)) refl (marking_at m.poll)
+
+  assist_facts : (w : Wanted) (n : Name) (x next : Assisting) (out : Option (Unit {0})) → StepFacts m (assists w n x) (after_assist m w n next out) None (answer_assist n out)
+  assist_facts w n x next None = record { counted = λ g. omega arith; leaves = refl; answered = omega arith; once = refl; ends = refl; serves = refl }
+  assist_facts w n x next (Some y) = record { counted = λ g. omega arith; leaves = refl; answered = omega arith; once = refl; ends = refl; serves = refl }
 
   new_facts : (w : Wanted) (s : NewStage) (found : ℕ) → FactsAt (task.New (record { wanted = w; stage = s })) found
   new_facts w (Search waited x) found = search_facts w waited x found
   new_facts w (Wait x) found = wait_facts w x (wait.goes (wait.waiting x m.poll) found) (wait.gives (wait.waiting x m.poll) found)
   new_facts w (Place p) found = place_facts w p found p.stage
   new_facts w (Want n) found = record { counted = λ g. omega arith; leaves = refl; answered = omega arith; once = refl; ends = refl; serves = refl }
+  new_facts w (Assist n x) found = assist_facts w n x (assist.goes x found) (assist.gives x found)
 
   pub step_facts : (t : Task) (found : ℕ) → is_busy_at t ≡ true → FactsAt t found
   step_facts task.Idle found busy = absurd (cc)

@@ -43,7 +43,6 @@ pub use Rattle.gh_wbuf.specs.declared.find_room.RoomStage.{RoomStage}
 pub use Rattle.gh_wbuf.specs.declared.give_buffer.GiveStage.{GiveStage}
 pub use Rattle.gh_wbuf.specs.declared.take_entry.TakeStage.{TakeStage}
 pub use Rattle.gh_wbuf.specs.declared.try_buffer.TryStage.{TryStage}
-pub use Rattle.gh_shade.specs.Sound.{IsReference}
 pub use Rattle.gh_shade.specs.declared.shade.ShadeStage.{ShadeStage}
 pub use Rattle.gh_shade.specs.declared.shade.Shaded.{Shaded}
 pub use Rattle.gh_stack.specs.Facts.{AreRegisters}
@@ -89,8 +88,9 @@ pub use Rattle.gh_coord.specs.declared.watch.WatchStage.{WatchStage}
 pub use Rattle.gh_coord.specs.declared.watch.Watched.{Watched}
 pub use Rattle.gh_coord.specs.declared.watch.Watched.TheVariants.{All, NotYet}
 pub use Rattle.gh_world.specs.Actors.{EndsMarked, IsEnding, IsMarkedObject, IsStepIn}
-pub use Rattle.gh_world.specs.ActorsHold.{EndedSo, HasCursor, Holds, HoldsAt, HasState, is_last_task, IsAsItShould, IsHeapOf, IsInCycle, HasEnded, IsClosing, IsCounting, IsKnown, IsOff, IsQuiet, IsReady, IsSweeping, IsTelling, IsTold, NobodyMarks, processor_at, uncounted, Walks, WasSo}
+pub use Rattle.gh_world.specs.ActorsHold.{EndedSo, HasCursor, Holds, HoldsAt, HasState, is_last_task, IsAsItShould, IsHeapOf, IsInCycle, HasEnded, IsClosing, IsCounting, IsKnown, IsOff, IsQuiet, IsReady, IsSweeping, IsTelling, IsTold, NobodyMarks, processor_at, Walks, WasSo}
 pub use Rattle.gh_world.specs.Handshake.{actors, is_busy, KeepsIt, place_of, StepKeepsIt, those, WaitsWithNone}
+pub use Rattle.gh_world.specs.HeapBytes.{uncounted}
 pub use Rattle.gh_world.specs.HoldVocabulary.{acks_of, actors_after, alloc_words, Answer, Arena, arena, AreWords, birth_words, By, Coordinating, CoordStage, Cycle, CycleEnd, deeds, ended_in, EndsAllMarked, EndsCycle, Entry, Ever, ever, Fine, Good, Heap, IsBeginning, IsBounded, IsDrawnSo, IsInLimits, IsLed, IsMade, IsOf, IsSound, IsStartOf, IsToBegin, Layout, LeavesTheReached, Legal, mark_words, MarkFacts, Marking, MarksNothing, may_of, Name, NewStage, only_polls, Op, Pacing, page_of, page_words, Placed, placed, Processor, processor_kind, Reach, Right, Shape, ShapesAreGood, slot_row, stage_of, started, State, state_of, StateGood, Task, view, Words, words}
 pub use Rattle.gh_world.specs.Marking.{EndsClean, IsChecked}
 pub use Rattle.gh_world.proofs.CycleMarking.Asked.{Knows, MarksToTheEnd, MayBegin, StepsByMoves, WasMarked}
@@ -99,6 +99,6 @@ pub use Rattle.gh_world.specs.Order.{begun_in, ends, has_left, in_range, leaves}
 pub use Rattle.gh_world.specs.Processors.{all_ended, IsFullFor, IsPlacedAt, may_leave}
 pub use Rattle.gh_world.specs.Turns.{Follows, goroutine_at, is_leave, is_over, is_unacted, later, MayBeOver, op_due, statements_among, to_come, total_of}
 unfoldable pub use Rattle.gh_world.specs.Turns.{turns_of}
-pub use Rattle.gh_world.specs.Vocabulary.{Act, acted, acting, Actor, acts, acts_at, answer_at, Answered, answered_by, asks, At, Begins, begins, begins_at, bit, by, cache_span, cell_of, changed, Ends, Event, ever_after, EverValue, follows, Found, gives_at, Global, GlobalStage, GoesOn, has_left_at, has_names, has_point, Head, InRange, is_busy_at, is_leaving, is_point, is_statement, Kind, made_by, Mutating, Next, op_at, opening_processor, OpenStage, Party, Place, PlaceStage, Placing, Program, Progress, Register, register_of, REGISTERS, request, Search, Source, SpanHead, Stage, statement_answer, StepsAreShown, takes, takes_at, target, Then, Value, Wait, Wanted, WellFormed, words_after, Want}
+pub use Rattle.gh_world.specs.Vocabulary.{Act, acted, acting, Actor, acts, acts_at, after_assist, answer_at, Answered, answered_by, asks, Assist, Assisting, assisting, assists, At, Begins, begins, begins_at, bit, by, cache_span, cell_of, changed, Ends, Event, ever_after, EverValue, follows, Found, gives_at, Global, GlobalStage, GoesOn, has_left_at, has_names, has_point, Head, InRange, is_busy_at, is_leaving, is_point, is_statement, Kind, made_by, Mutating, Next, op_at, opening_processor, OpenStage, Party, Place, PlaceStage, Placing, Program, Progress, Register, register_of, REGISTERS, request, Search, Source, SpanHead, Stage, statement_answer, StepsAreShown, takes, takes_at, target, Then, Value, Wait, Wanted, WellFormed, words_after, Want}
 pub use Rattle.gh_world.specs.Wishes.{most_cycles}
 pub use Rattle.gh_world.specs.World.{actor_after, answer_in, answered_in, event_of, opening_progress, progress_after, setting_of, with_goroutine}

@@ -5,6 +5,5 @@ pub mod Coordinators
 pub mod Leading
 pub mod Lists
 pub mod Processors
-pub mod Scans
 pub mod Spans
 pub mod Workers

@@ -32,12 +32,13 @@ use Rattle.gh_world.specs.Asked.{AllWereAsked, WasOpened}
 use Rattle.gh_world.specs.Counts.{CountsPlainly}
 use Rattle.gh_world.specs.Drawn.{CycleIsDrawn}
 use Rattle.gh_world.specs.Handshake.{actors, asks, is_busy, Pacing, those}
+use Rattle.gh_world.specs.HeapBytes.{HeapIsCounted}
 use Rattle.gh_world.specs.Marking.{actors_after, EndsClean, IsBeginning, IsInLimits, IsLedBy, IsStartOf, IsStateOf}
 use Rattle.gh_world.specs.Order.{before_step, begun_in}
 use Rattle.gh_world.specs.Processors.{arena_of, at_seat, ever_after_list, IsPlacedAt, ListStands, may_begin, StandsForThese}
 use Rattle.gh_world.specs.Tied.{IsTied}
 use Rattle.gh_world.specs.Phases.{PhasesStand}
-use Rattle.gh_world.specs.Scanned.{FewAreScanned}
+use Rattle.gh_world.specs.Scanned.{FewAreScanned, GlobalsAreCounted}
 use Rattle.gh_world.specs.Scans.{ScansOnce}
 use Rattle.gh_world.specs.Spans.{SpansStand}
 use Rattle.gh_world.specs.SweepMarks.{SweepsStand}
@@ -277,6 +278,8 @@ module _ (shapes : List Shape) (l : Layout) (pacing : Pacing) (may : ℕ → Lis
     pub scans : ScansOnce shapes l pacing may es
     -- in each cycle workers scan no more words than there are
     pub scanned : FewAreScanned shapes l pacing es
+    -- and they count each global exactly once
+    pub globals : (c : Coordinating) → IsLed es c → GlobalsAreCounted shapes l pacing es c
     pub sweeps : SweepsStand shapes l pacing may es
     -- which spans there are, and who owns how many
     pub spans : SpansStand shapes l (words es)
@@ -284,6 +287,8 @@ module _ (shapes : List Shape) (l : Layout) (pacing : Pacing) (may : ℕ → Lis
     pub drawn : (c : Coordinating) → IsLed es c → leading.Marks c.stage → CycleIsDrawn shapes l pacing may es c
     pub counts : (c : Coordinating) → IsLed es c → AllWereCounted es c
     pub said : (c : Coordinating) → IsLed es c → CountsAreSaid es c
+    -- at every moment the heap's word is the bytes of the slots of all objects that stand, less those that are placed and not counted yet, and with those that sweeps have cleared and not taken off yet
+    pub heap_bytes : HeapIsCounted shapes l pacing may es
     pub last : (c : Coordinating) → IsLed es c → c.stage ≡ Done → LeavesTheReached es c
 
 -- Whatever the types' shapes, the heap's layout, its pacing, how many objects and cycles each goroutine may ask for, and however many processors and workers there are: after every legal list of their steps, in every order, also while a cycle is marked.

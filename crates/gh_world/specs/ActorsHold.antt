@@ -1,13 +1,11 @@
 -- What holds after every list of all actors, by the coordinator's stage: while no cycle is under way, spans being swept or not, nobody marks; while a cycle is opened the world is stopped; and while it is marked it is known to marking.
-use Rattle.std.specs.Prelude.{◌≡◌, ◌↔◌, ℕ, ◌+◌, ◌*◌, ◌^◌, ◌<◌, ◌≤◌, ◌⊎◌, Bool, true, false, List, ◌++◌, slice_index, Option, Some, None}
+use Rattle.std.specs.Prelude.{◌≡◌, ◌↔◌, ℕ, ◌+◌, ◌^◌, ◌<◌, ◌≤◌, ◌⊎◌, Bool, true, false, List, ◌++◌, slice_index, Option, Some, None}
 use Rattle.std.specs.Option.{option_to_list}
 use Rattle.std.proofs.Common.{inl, inr}
 use Rattle.gh_base.specs.declared.cell.Cell.TheVariants as cell
 use Rattle.gh_base.specs.declared.pack.TheConstants.{END}
 use Rattle.gh_base.specs.declared.operation.Op.TheVariants as op
 use Rattle.gh_base.specs.Lists.{by}
-use Rattle.gh_alloc.specs.declared.place.PlaceStage.{PlaceStage}
-use Rattle.gh_alloc.specs.declared.place.PlaceStage.TheVariants as making
 use Rattle.gh_base.specs.Cells.{seats_of}
 use Rattle.gh_coord.specs.declared.close.CloseStage.{CloseStage}
 use Rattle.gh_coord.specs.declared.close.CloseStage.TheVariants as closing
@@ -21,27 +19,12 @@ use Rattle.gh_coord.specs.declared.sweep_all.SweepAllStage.TheVariants as all
 use Rattle.gh_coord.specs.declared.tell.TellStage.{TellStage}
 use Rattle.gh_coord.specs.declared.tell.TellStage.TheVariants as telling
 use Rattle.gh_coord.specs.SweepingAll as over
-use Rattle.gh_mutator.specs.declared.new.NewStage.TheVariants as new
 use Rattle.gh_mutator.specs.declared.task.Task.TheVariants as task
 use Rattle.gh_sweep.specs.Facts.{HasNotNumber}
 use Rattle.gh_sweep.specs.Shared.{freed_at, in_all, kept_at, live_at}
+use Rattle.gh_world.specs.HeapBytes.{uncounted}
 use Rattle.gh_world.specs.Sweepers.{IsInSweep, sweep_of}
-use Rattle.gh_world.specs.HoldVocabulary.{actors_after, alloc_at, alloc_words, AllWereCounted, Answer, answers_of, arena, Arena, AreWords, BeginsCycle, Coordinating, CoordStage, Cycle, CycleEnd, deeds, ended_in, EndsAllMarked, EndsCycle, Entry, Ever, ever, Fine, FreesTheUnreached, FullOnlyThere, generation_of, given_of, HasGoneOn, Heap, IsAsItEnded, IsBeside, IsBounded, IsDrawnSo, IsLed, IsMade, IsOf, IsPlacedAt, IsSound, IsStartOf, IsToBegin, Layout, mark_words, Marking, marks_at, MarksNothing, Name, NewStage, Op, opening_words, Pacing, PassedBefore, Processor, processor_kind, Right, row_bit, Shape, State, state_of, StateGood, SweepingAll, TallyWord, Task, Told, view, Words, words}
-
--- The bytes that a processor has placed and not counted yet: those of the slot in which it has made an object.
-
-abbrev pub uncounted_place : (slot : ℕ) → PlaceStage → ℕ
-uncounted_place slot (making.Give g) = 8 * slot
-uncounted_place slot making.Count = 8 * slot
-uncounted_place slot _ = 0
-
-abbrev pub uncounted_new : NewStage → ℕ
-uncounted_new (new.Place p) = uncounted_place p.slot p.stage
-uncounted_new _ = 0
-
-abbrev pub uncounted : Task → ℕ
-uncounted (task.New x) = uncounted_new x.stage
-uncounted _ = 0
+use Rattle.gh_world.specs.HoldVocabulary.{actors_after, alloc_at, alloc_words, AllWereCounted, Answer, answers_of, arena, Arena, AreWords, BeginsCycle, Coordinating, CoordStage, Cycle, CycleEnd, deeds, ended_in, EndsAllMarked, EndsCycle, Entry, Ever, ever, Fine, FreesTheUnreached, FullOnlyThere, generation_of, given_of, HasGoneOn, Heap, IsAsItEnded, IsBeside, IsBounded, IsDrawnSo, IsLed, IsMade, IsOf, IsPlacedAt, IsSound, IsStartOf, IsToBegin, Layout, mark_words, Marking, marks_at, MarksNothing, Name, Op, opening_words, Pacing, PassedBefore, Processor, processor_kind, Right, row_bit, Shape, State, state_of, StateGood, SweepingAll, TallyWord, Task, Told, view, Words, words}
 
 -- it leaves, or has left
 abbrev pub is_last_task : Task → Bool

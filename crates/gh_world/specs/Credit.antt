@@ -1,14 +1,16 @@
 -- Credit, over every legal list of steps of all actors (Go's `bgScanCredit`): what workers have added to the bank, what was taken out of it, and what has lapsed where marking was ended. All is counted in words of the heap, and by what the list's steps do to the bank's word alone.
-use Rattle.std.specs.Prelude.{◌≡◌, ℕ, ◌+◌, ◌-◌, ◌^◌, ◌<◌, ◌≤◌, ◌==◌, if◌then◌else◌, Bool, List, [], ◌∷◌}
+use Rattle.std.specs.Prelude.{◌≡◌, ℕ, ◌+◌, ◌^◌, ◌<◌, ◌≤◌, Bool, List, [], ◌∷◌}
 use Rattle.gh_base.specs.declared.cell.Ask.{Ask}
-use Rattle.gh_base.specs.declared.cell.Ask.TheVariants.{Store, Swap}
+use Rattle.gh_base.specs.declared.cell.Ask.TheVariants.{Store}
 use Rattle.gh_base.specs.declared.cell.Cell.TheVariants as cell
 use Rattle.gh_base.specs.declared.limits.TheConstants.{MOST_STATEMENTS}
 use Rattle.gh_base.specs.Cells.{seats_of}
 use Rattle.gh_coord.specs.Handshake as leading
 use Rattle.gh_coord.specs.Listing.{lapsed_at}
+use Rattle.gh_credit.specs.Drawing.{drawn_by}
 use Rattle.gh_credit.specs.Earning.{handed_by}
 use Rattle.gh_mutator.specs.Facts.{ShapesAreGood}
+use Rattle.gh_mutator.specs.Spending.{spent_of}
 use Rattle.gh_world.specs.declared.handshake.Actor.TheVariants as actor
 use Rattle.gh_world.specs.Actors.{IsLed, may_of, words}
 use Rattle.gh_world.specs.Handshake.{Pacing, those}
@@ -16,11 +18,6 @@ use Rattle.gh_world.specs.Marking.{IsInLimits}
 use Rattle.gh_world.specs.Scanned.{scanned_in}
 use Rattle.gh_world.specs.Vocabulary.{Actor, Coordinating, Entry, Layout, Legal, Op, Shape, state_of}
 use Rattle.gh_world.specs.Wants.{total}
-
--- a swap that wrote has taken out what the word is less by then
-abbrev pub spent_by : Ask → (found : ℕ) → ℕ
-spent_by (Swap cell.Bank old new) found = if found == old then old - new else 0
-spent_by _ found = 0
 
 -- by a store the word that it replaced has lapsed
 abbrev pub lapsed_by : Ask → (found : ℕ) → ℕ
@@ -35,7 +32,7 @@ earned_in (e ∷ es) = earned_in es + handed_by e.ask
 
 abbrev pub spent_in : List (Entry Op) → ℕ
 spent_in [] = 0
-spent_in (e ∷ es) = spent_in es + spent_by e.ask e.found
+spent_in (e ∷ es) = spent_in es + drawn_by e.ask e.found
 
 abbrev pub lapsed_in : List (Entry Op) → ℕ
 lapsed_in [] = 0
@@ -46,9 +43,17 @@ abbrev pub left_at : Actor → ℕ
 left_at (actor.Marks w) = w.scan_work
 left_at _ = 0
 
+-- and those that it has drawn from the bank
+abbrev pub spent_at : Actor → ℕ
+spent_at (actor.Runs m) = spent_of m
+spent_at _ = 0
+
 -- of the first n actors
 abbrev pub left_among : (ℕ → Actor) → (n : ℕ) → ℕ
 left_among at n = total (λ a. left_at (at a)) n
+
+abbrev pub spent_among : (ℕ → Actor) → (n : ℕ) → ℕ
+spent_among at n = total (λ a. spent_at (at a)) n
 
 module _ (shapes : List Shape) (l : Layout) (pacing : Pacing) (may : ℕ → List (Entry Op) → Op → Bool) where
   -- the actor after the list
@@ -67,8 +72,8 @@ module _ (shapes : List Shape) (l : Layout) (pacing : Pacing) (may : ℕ → Lis
     -- it is the words that workers have scanned, but for those that they have still to hand over
     pub scanned : scanned_in shapes l pacing es ≡ earned_in es + left_among (at es) (seats_of l)
     pub few : scanned_in shapes l pacing es < 2 ^ 48
-    -- no processor takes any out yet
-    pub unspent : spent_in es ≡ 0
+    -- what processors have drawn is what was spent
+    pub drawn : spent_in es ≡ spent_among (at es) (seats_of l)
     -- while no cycle is marked all is settled
     pub settled : (c : Coordinating) → IsLed shapes l pacing may es c → (leading.Marks c.stage → ⊥) → IsSettled es c
 

@@ -8,6 +8,7 @@ pub mod Cycles
 pub mod Drawn
 pub mod Due
 pub mod Handshake
+pub mod HeapBytes
 pub mod HoldVocabulary
 pub mod Marking
 pub mod Numbers

@@ -1,7 +1,8 @@
 -- Whole runs: a list of the steps of all actors in which each processor's operations are its turns, and at whose end all are done; and what such a list says of a script's answers, its cycles and what is live.
-use Rattle.std.specs.Prelude.{◌≡◌, ℕ, ◌+◌, ◌^◌, ◌<◌, ◌≤◌, Bool, true, false, List, [], ◌∷◌, ◌++◌, length, map, reverse, slice_get, Option, Some, None}
+use Rattle.std.specs.Prelude.{◌≡◌, ℕ, ◌+◌, ◌*◌, ◌%◌, ◌^◌, ◌<◌, ◌≤◌, Bool, true, false, List, [], ◌∷◌, ◌++◌, length, map, reverse, slice_get, Option, Some, None}
 use Rattle.std.specs.List.{filter}
 use Rattle.gh_world.specs.Vocabulary.{acts, AllAnswer, Answer, answers_by, Entry, Layout, Legal, Op, opening_ever, Program, state_of, statements_of, WellFormed, Words, words_after}
+use Rattle.gh_base.specs.Cells.{seats_of}
 use Rattle.gh_base.specs.Lists.{by}
 use Rattle.gh_base.specs.declared.operation.Op.TheVariants as op
 use Rattle.gh_base.specs.declared.value.Answer.TheVariants as answer
@@ -14,14 +15,14 @@ use Rattle.gh_mutator.specs.Listing.{gives}
 use Rattle.gh_script.specs.Program.{op_of}
 use Rattle.gh_world.specs.declared.handshake.Actor.TheVariants.{Leads}
 use Rattle.gh_world.specs.Actors.{AllStands, AwaitedCycle, FreesTheUnreached, FreesWithinTwo}
-use Rattle.gh_world.specs.Credit.{earned_in, lapsed_in, spent_in}
+use Rattle.gh_world.specs.Credit.{earned_in, lapsed_in, spent_among, spent_in}
 use Rattle.gh_world.specs.Cycles.{AreLive, cycles_in}
 use Rattle.gh_world.specs.Order.{acted_at, acted_in, Answered, before_step, begun_in, ever_of, order_of}
 use Rattle.gh_world.specs.Processors.{arena_of, IsFullFor}
-use Rattle.gh_world.specs.Scanned.{scanned_in}
+use Rattle.gh_world.specs.Scanned.{objects_in, scanned_in}
 use Rattle.gh_world.specs.Schedule.{ended_after, IsInTurn}
 use Rattle.gh_world.specs.Turns.{turns_of, answers_to, is_of_seat, is_statement_of}
-use Rattle.gh_world.specs.World.{actor_after, answer_in, LaysOut, may_begin_of, now_in, pacing_of, setting_of, with_goroutine}
+use Rattle.gh_world.specs.World.{actor_after, actor_of, actors_of, answer_in, LaysOut, may_begin_of, now_in, pacing_of, setting_of, State, with_goroutine}
 
 module _ (p : Program) (l : Layout) where
   -- the words after the list
@@ -59,9 +60,16 @@ abbrev pub marked_by : Option Cycle → ℕ
 marked_by None = 0
 marked_by (Some c) = c.marked
 
--- What the run comes to, where the coordinator knows this at its end. The bank is empty then and nothing is spent, so what was earned has lapsed.
-abbrev pub outcome_by : List (ℕ × Answer) → Coordinating → Outcome
-outcome_by answers c = record { answers = answers; cycles = map swept_cycle c.cycles.items; earned = c.lapsed; spent = 0; lapsed = c.lapsed; objects = marked_by (last_kept c.cycles); bytes = c.live }
+-- What the run comes to, where processors have drawn so many words of credit and the coordinator knows this at its end. The bank is empty then, so what was earned was spent or has lapsed.
+abbrev pub outcome_by : List (ℕ × Answer) → (spent : ℕ) → Coordinating → Outcome
+outcome_by answers spent c = record { answers = answers; cycles = map swept_cycle c.cycles.items; earned = (spent + c.lapsed) % 2 ^ 64; spent = spent % 2 ^ 64; lapsed = c.lapsed; objects = marked_by (last_kept c.cycles); bytes = c.live }
+
+-- the words that the processors of a world have drawn, and those that they have drawn after the list
+abbrev pub drawn_of : State → ℕ
+drawn_of w = spent_among (actor_of w) (actors_of w)
+
+abbrev pub spent_after : Program → Layout → List (Entry Op) → ℕ
+spent_after p l es = spent_among (actor_after p l es) (seats_of l)
 
 -- ---- explained runs
 
@@ -120,6 +128,8 @@ module _ (p : Program) (l : Layout) where
     pub lapsed : o.lapsed ≡ lapsed_in es
     pub balanced : o.earned ≡ o.spent + o.lapsed
     pub scanned : o.earned ≡ scanned_in p.shapes l (pacing_of p) es
+    -- in each cycle one for each global, and the others are those of objects
+    pub globals : o.earned ≡ length o.cycles * l.globals + objects_in p.shapes l (pacing_of p) es
     pub few : o.earned < 2 ^ 48
 
   -- The operations of each processor are its turns, in the order of their points, and nobody else acts; so the order of all points is one interleaving of the processors' turns. In it each goroutine's statements stand each once and in their order. Their answers are exactly those of the heap that never frees, save `full`, and whichever is answered `full`, there was no room where it acted, and a cycle that began behind its first entry was swept. Each `gc` is answered `swept`, where such a cycle was swept. The statements' answers are those given, of each processor in the order of its turns. What the coordinator tells is so: each cycle kept what was marked where it ended, and freed what was white there. Each cycle frees every object that no script reached when it began, and what is lost meanwhile goes with the second cycle that ends after that. Credit that workers earned was spent or has lapsed. What is live is what the globals of the heap that never frees hold at the end.
@@ -128,7 +138,7 @@ module _ (p : Program) (l : Layout) where
     -- what was answered, and what the coordinator tells at the end
     pub coordinator : Coordinating
     pub led : actor_after p l es (l.procs + l.workers) ≡ Leads coordinator
-    pub given : o ≡ outcome_by (answers_given p l es) coordinator
+    pub given : o ≡ outcome_by (answers_given p l es) (spent_after p l es) coordinator
     pub all : List Answer
     pub acted : (a : ℕ) → a < l.procs → map (λ (x : Answered). x.op) (acted_at p.shapes l a es) ≡ turns_of p a
     pub alone : (a : ℕ) → l.procs ≤ a → acted_at p.shapes l a es ≡ []
@@ -158,7 +168,7 @@ EveryListOfAScriptStands = (p : Program) (l : Layout) (es : List (Entry Op)) →
 
 -- Whatever the script, and whatever run of it, in every order of steps: what it is answered and what its coordinator tells is explained.
 abbrev pub EveryRunIsExplained : Type 0
-EveryRunIsExplained = (p : Program) (l : Layout) (es : List (Entry Op)) (c : Coordinating) → WellFormed p → LaysOut p l → IsRun p l es → actor_after p l es (l.procs + l.workers) ≡ Leads c → IsExplained p l es (outcome_by (answers_given p l es) c)
+EveryRunIsExplained = (p : Program) (l : Layout) (es : List (Entry Op)) (c : Coordinating) → WellFormed p → LaysOut p l → IsRun p l es → actor_after p l es (l.procs + l.workers) ≡ Leads c → IsExplained p l es (outcome_by (answers_given p l es) (spent_after p l es) c)
 
 -- who steps, the newest first
 abbrev pub actors_in : List (Entry Op) → List ℕ

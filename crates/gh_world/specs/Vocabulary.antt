@@ -1,4 +1,5 @@
 -- The names that files with many imports share.
+pub use Rattle.gh_assist.specs.Listing.{Assisting}
 pub use Rattle.gh_base.specs.Cells.{InRange, IsLayoutOf, length_of, opening_words, Shows, Words}
 pub use Rattle.gh_base.specs.Lists.{Begins, by, Kind, Legal, MayFollow, Setting, started, state_of, words_after}
 pub use Rattle.gh_base.specs.Orders.{Answered, answered_by, given_by, model_after}
@@ -36,7 +37,7 @@ pub use Rattle.gh_mutator.specs.Deeds.{acted, answer_at, deeds, has_point, meani
 pub use Rattle.gh_mutator.specs.Fields.{is_pointer_by, kinds_differ, value_of}
 pub use Rattle.gh_mutator.specs.Listing.{Act, acting, acts, acts_at, applied, asks, begins, begins_at, follows, gives_at, is_busy_at, op_at, takes, takes_at}
 pub use Rattle.gh_mutator.specs.Mutating.{goes, Mutating}
-pub use Rattle.gh_mutator.specs.New.{after_found, after_place, after_search, after_wait, is_made, made_object, makes, searches, sought_for, waits}
+pub use Rattle.gh_mutator.specs.New.{after_assist, after_found, after_place, after_search, after_wait, assisting, assists, is_made, made_object, makes, searches, sought_for, waits}
 pub use Rattle.gh_mutator.specs.Processor.{at_task, cache_span, cached_for, made_by, opening_processor, register_of, taking}
 pub use Rattle.gh_mutator.specs.Serving.{has_left_at, is_last, is_leaving, is_point, is_serving, is_statement, statement_answer}
 pub use Rattle.gh_mutator.specs.Sound.{has_names, most_objects}
@@ -46,7 +47,7 @@ pub use Rattle.gh_mutator.specs.declared.global.GlobalStage.{GlobalStage}
 pub use Rattle.gh_mutator.specs.declared.load.Load.{Load}
 pub use Rattle.gh_mutator.specs.declared.load.LoadStage.{LoadStage}
 pub use Rattle.gh_mutator.specs.declared.new.NewStage.{NewStage}
-pub use Rattle.gh_mutator.specs.declared.new.NewStage.TheVariants.{Place, Search, Wait, Want}
+pub use Rattle.gh_mutator.specs.declared.new.NewStage.TheVariants.{Assist, Place, Search, Wait, Want}
 pub use Rattle.gh_mutator.specs.declared.new.Wanted.{Wanted}
 pub use Rattle.gh_mutator.specs.declared.processor.Processor.{Processor}
 pub use Rattle.gh_mutator.specs.declared.register.Register.{Register}

@@ -3,7 +3,7 @@ use Rattle.std.specs.Prelude.{◌≡◌, ℕ, ◌+◌, ◌<◌, ◌≤◌, Bool,
 use Rattle.std.specs.List.{range_with_len}
 use Rattle.std.specs.Option.{option_to_list}
 use Rattle.gh_base.specs.declared.cell.Ask.{Ask}
-use Rattle.gh_world.specs.Vocabulary.{Answer, Op, Shape, Layout, MOST_GOROUTINES, Entry, bit, InRange, IsLayoutOf, length_of, cell_of, changed, request, target, Setting, started, state_of, Program, WellFormed, NewStage, Place, Processor, Task, acts, is_busy_at, op_at, is_made, made_by, Mutating, goes, is_last, is_leaving, is_point, is_serving, is_statement, statement_answer, Next, Progress, Event, Want}
+use Rattle.gh_world.specs.Vocabulary.{Answer, Assist, Op, Shape, Layout, MOST_GOROUTINES, Entry, bit, InRange, IsLayoutOf, length_of, cell_of, changed, request, target, Setting, started, state_of, Program, WellFormed, NewStage, Place, Processor, Task, acts, is_busy_at, op_at, is_made, made_by, Mutating, goes, is_last, is_leaving, is_point, is_serving, is_statement, statement_answer, Next, Progress, Event, Want}
 use Rattle.gh_coord.specs.declared.cycles.Cycle.{Cycle}
 use Rattle.gh_coord.specs.Listing as coord
 use Rattle.gh_coord.specs.Pacing.{first_trigger}
@@ -149,6 +149,7 @@ workers_at l = map (worker.opening l) (range_with_len l.procs l.workers)
 abbrev pub making_in : NewStage → ℕ
 making_in (Place p) = if is_made p.stage then 0 else 1
 making_in (Want n) = 0
+making_in (Assist n x) = 0
 making_in _ = 1
 
 abbrev pub making : Task → ℕ

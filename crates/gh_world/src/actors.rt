@@ -38,9 +38,9 @@
 //! as long as a goroutine goes on, its colours the mark bits; and each actor has in hand what its stage says.
 //!
 //! Beside that every list keeps who scans a stack and how often (`specs/Scans.antt`), what the numbers of spans and the marks
-//! say while no cycle is marked (`specs/SweepMarks.antt`), which spans there are and who owns how many (`specs/Spans.antt`), who
-//! knows of a phase and who marks (`specs/Phases.antt`), who asked for a cycle (`specs/Asked.antt`) and how many there are
-//! (`specs/Counts.antt`).
+//! say while no cycle is marked (`specs/SweepMarks.antt`), which spans there are and who owns how many (`specs/Spans.antt`), what
+//! the heap's count of bytes is of (`specs/HeapBytes.antt`), who knows of a phase and who marks (`specs/Phases.antt`), who asked
+//! for a cycle (`specs/Asked.antt`) and how many there are (`specs/Counts.antt`).
 
 ghost use Rattle.gh_world.specs.Actors.{EveryListOfActorsStands};
 
@@ -49,6 +49,7 @@ use crate::numbers::{
     every_list_counts_cycles, every_list_counts_plainly, every_list_counts_wants,
     every_list_numbers_stacks, every_list_opens_few, every_list_rests_workers,
 };
+use gh_assist::laws::taking_and_scanning_are_within;
 use gh_base::laws::{a_step_changes_one_cell, packed_words_are_read_back, rows_are_written};
 use gh_class::size_class_laws;
 use gh_coord::laws::the_coordinator_runs_sweeps;
@@ -61,7 +62,7 @@ use gh_cycle::since::{cycles_begin_so, the_marked_were_reached, what_has_gone_on
 use gh_heap::laws::{each_move_leaves, facts_last, no_more_is_reached, the_heap_is_apart};
 use gh_marks::laws::{
     facts_last as hands_last, hands_follow, mark_words_stay_words, marking_begins,
-    marking_ends_clean, steps_go_by_moves,
+    marking_ends_clean, steps_go_by_moves, the_cursor_is_small,
 };
 use gh_marks::picture::{cycles_begin_drawn, marking_is_drawn, the_picture_says};
 use gh_mutator::beside::a_processor_goes_on_beside_marking;
@@ -72,7 +73,8 @@ use gh_mutator::laws::{
 };
 use gh_state::laws::{
     counts_are_told, cycles_open_and_end, each_move_keeps,
-    each_move_leaves as each_move_leaves_others, routines_are_made_of_moves, walkers_pass,
+    each_move_leaves as each_move_leaves_others, routines_are_made_of_moves, slots_are_read,
+    walkers_pass,
 };
 use gh_sweep::laws::bits_are_objects;
 use gh_tri::{an_opening_has_the_invariants, each_step_keeps_the_invariants};
@@ -87,6 +89,8 @@ use gh_worker::laws::{
 ///   share a word or an address. Each step that an actor may make next is on a word that there is.
 /// * **Spans.** Each page is free, or one of a span for objects of one of the types. Who owns a span is a processor, and it owns no
 ///   two of one span class.
+/// * **The heap's count** is the bytes of the slots of all objects that stand, less those of the objects whose alloc bit a `new` has
+///   set and whose bytes it has not added yet, and with those of the objects that sweeps have cleared and not taken off yet.
 /// * **Cycles.** Who waits for a cycle goes on once one that began behind its first entry is swept. Each cycle was asked for
 ///   since the one before was opened, but the last; none is left out of the coordinator's list, as long as there is room; and
 ///   its numbers are how often the list stores each.
@@ -94,7 +98,8 @@ use gh_worker::laws::{
 ///   which each actor has in hand what its stage says, and a picture of it that comes, by lists of moves of `gh_tri`'s picture
 ///   and of changes of registers, one for each step since, of one as at a cycle's begin; so it has the invariants, and once the
 ///   coordinator has checked the end of marking it is done in the picture too. A stack is scanned once in a cycle at most,
-///   and the words that workers scan are at most one for each global and twice the heap's.
+///   and the words that workers scan are at most one for each global and twice the heap's. They count each global exactly once
+///   in a cycle: so does each that the cursor has passed, but for those that workers have in hand.
 /// * **Where its marking ends** the cursor is past the globals, each stack's word is the cycle's or END, no buffer has an entry,
 ///   and no actor has anything in hand; nothing is grey, all that a script reaches is marked, and what is marked was reached
 ///   where the cycle began or was made since.
@@ -123,6 +128,7 @@ pub fn every_list_of_actors_stands()
     walkers_pass();
     cycles_open_and_end();
     counts_are_told();
+    slots_are_read();
     mark_words_stay_words();
     the_marked_stand();
     bits_are_objects();
@@ -139,6 +145,7 @@ pub fn every_list_of_actors_stands()
     the_processors_deeds_fit();
     marking_begins();
     steps_go_by_moves();
+    the_cursor_is_small();
     hands_follow();
     hands_last();
     marking_ends_clean();
@@ -150,6 +157,7 @@ pub fn every_list_of_actors_stands()
     the_picture_says();
     the_processor_keeps_the_handshake();
     a_worker_writes_its_own();
+    taking_and_scanning_are_within();
     calm_workers_mark_nothing();
     reach_is_decided();
     bounds_last();

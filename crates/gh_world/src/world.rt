@@ -3,7 +3,7 @@
 //! The world keeps no list of its steps. What it promises is said of every list that it may be the
 //! state of: one step of it is one entry more of that list.
 
-ghost use Rattle.std.specs.Prelude.{◌≡◌, ◌+◌, ◌<◌, ◌≤◌, List, [], length, slice_get, slice_index, true, false, IfOk, IfSome, IsTrue, None, Some};
+ghost use Rattle.std.specs.Prelude.{◌≡◌, ◌+◌, ◌%◌, ◌^◌, ◌<◌, ◌≤◌, List, [], length, slice_get, slice_index, true, false, IfOk, IfSome, IsTrue, None, Some};
 ghost use Rattle.gh_base.specs.Cells.{InRange, length_of, seats_of, word_of};
 ghost use Rattle.gh_base.specs.Steps.{cell_of, changed, request, target};
 ghost use Rattle.gh_world.specs.Schedule.{turn_from};
@@ -14,7 +14,7 @@ ghost use Rattle.gh_coord.specs.Listing as coord;
 ghost use Rattle.gh_worker.specs.Listing as worker;
 ghost use Rattle.gh_worker.specs.Listing.{Working};
 ghost use Rattle.gh_world.specs.After.{Appends, IsAfter};
-ghost use Rattle.gh_world.specs.Runs.{IsRun, marked_by};
+ghost use Rattle.gh_world.specs.Runs.{IsRun, drawn_of, marked_by};
 ghost use Rattle.gh_world.specs.Turns.{total_of};
 ghost use Rattle.gh_world.specs.Wishes.{most_cycles};
 ghost use Rattle.gh_world.specs.World.{actors_of, answered_of, cycles_of, is_done, lapsed_of, layout_of, live_of, marks_of, pacing_of, points_of, script_of, turn_in, workers_at, AllDone, AreOpening, IsStepOfCoordinator, IsStepOfProcessor, IsStepOfWorker, LaysOut};
@@ -339,20 +339,31 @@ impl<'s> World<'s> {
         requires { AllDone self.now }
         ensures objects { result.objects ≡ marked_by (last_kept self.now.coord.cycles) }
         ensures live { result.live ≡ live_of self.now }
-        ensures credit { (result.earned ≡ lapsed_of self.now) × (result.spent ≡ 0) × (result.lapsed ≡ lapsed_of self.now) }
+        ensures credit { (result.earned ≡ (drawn_of self.now + lapsed_of self.now) % 2 ^ 64) × (result.spent ≡ drawn_of self.now % 2 ^ 64) × (result.lapsed ≡ lapsed_of self.now) }
     {
         let objects = match self.coord.last_cycle() {
             Some(cycle) => cycle.marked,
             None => 0,
         };
-        let lapsed = self.coord.lapsed();
+        let (spent, lapsed) = (self.spent(), self.coord.lapsed());
         Totals {
             objects,
             live: self.coord.live(),
-            earned: lapsed,
-            spent: 0,
+            earned: spent.wrapping_add(lapsed),
+            spent,
             lapsed,
         }
+    }
+
+    /// The words of credit that its processors have drawn, modulo 2^64.
+    fn spent(&self) -> u64
+        ensures { result ≡ drawn_of self.now % 2 ^ 64 }
+    {
+        let mut spent: u64 = 0;
+        for runner in &self.runners {
+            spent = spent.wrapping_add(runner.mutator.spent());
+        }
+        spent
     }
 
     /// One step of the processor at this seat: it begins its next operation where none is begun.

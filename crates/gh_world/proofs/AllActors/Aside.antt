@@ -24,7 +24,8 @@ use Rattle.gh_sweep.specs.Running.{on_from}
 use Rattle.gh_sweep.specs.declared.sweep.SweepStage.{SweepStage}
 use Rattle.gh_sweep.specs.declared.sweep.SweepStage.TheVariants as sweep_stage
 use Rattle.gh_world.specs.declared.handshake.Actor.{Actor}
-use Rattle.gh_world.specs.ActorsHold.{HasState, IsHeapOf, IsOff, NobodyMarks, processor_at, uncounted}
+use Rattle.gh_world.specs.ActorsHold.{HasState, IsHeapOf, IsOff, NobodyMarks, processor_at}
+use Rattle.gh_world.specs.HeapBytes.{uncounted}
 use Rattle.gh_world.specs.HoldVocabulary.{actors_after, arena, Arena, Entry, Ever, Heap, IsBounded, Layout, Legal, MarksNothing, Op, Processor, Rests, Right, Shape, State, StateGood, view}
 use Rattle.gh_world.specs.Sweepers.{IsInSweep, sweep_of}
 use Rattle.gh_world.proofs.AllActors.Known.{Known}

@@ -69,6 +69,7 @@ new_awake p y (new_stage.Wait w) polls = absurd (cc)
 new_awake p y (new_stage.Search waited q) polls = record { awake = tt; view_is = refl }
 new_awake p y (new_stage.Place q) polls = record { awake = tt; view_is = refl }
 new_awake p y (new_stage.Want n) polls = record { awake = tt; view_is = refl }
+new_awake p y (new_stage.Assist n q) polls = record { awake = tt; view_is = refl }
 
 runs_awake : (p : Polling) (t : Task) → is_busy_at t ≡ true → only_polls t ≡ false → RunsAwake p t
 runs_awake p task.Left busy polls = absurd (cc)

@@ -187,7 +187,7 @@ module _ (known : Known) (whole : WholeWords) (z : Arena) (a : ℕ) (s : State) 
     to_is = ap (λ (y : Task). (takes_at z.shapes m y found).task) x.is ∙ ap task_then x.stage
 
     abbrev task_behind : Option SpanHead → Task
-    task_behind s = made_task w (place.at_stage p (place.made p s)) (place.given_at (place.made p s))
+    task_behind s = made_task m.poll w (place.at_stage p (place.made p s)) (place.given_at (place.made p s))
 
     made_now : MadeNow
     made_now = go p.span refl where

@@ -3,18 +3,20 @@ use Rattle.std.proofs.Common.{◌≡◌, ℕ, ◌==◌, ◌⊎◌, inl, inr, Boo
 use Rattle.gh_base.specs.declared.operation.Op.TheVariants as op
 use Rattle.gh_alloc.specs.Place as place
 use Rattle.gh_alloc.specs.Search as search
+use Rattle.gh_assist.specs.Listing as assist
 use Rattle.gh_mutator.specs.declared.global.GlobalStage.TheVariants as global_stage
 use Rattle.gh_mutator.specs.declared.register.Source.TheVariants as source
 use Rattle.gh_mutator.specs.declared.task.Task.TheVariants as task
 use Rattle.gh_mutator.specs.Global as global
 use Rattle.gh_mutator.specs.Leave as leave
 use Rattle.gh_mutator.specs.Load as load
+use Rattle.gh_mutator.specs.Local.{marking_at}
 use Rattle.gh_mutator.specs.New as new
 use Rattle.gh_mutator.specs.Poll as poll
 use Rattle.gh_mutator.specs.Register as register
 use Rattle.gh_mutator.specs.Store as store
 use Rattle.gh_mutator.specs.Wait as wait
-use Rattle.gh_world.proofs.Vocabulary.{Act, acted, acting, acts, acts_at, after_gc, after_poll, Answer, answer_at, At, begins_at, cache_span, Ends, Ever, ever_after, follows, Found, Global, GlobalStage, GoesOn, is_busy_at, is_last_task, is_some, nat_tests, NewStage, NoRoom, Op, Place, Placing, Polling, Processor, Register, register_of, Search, Seeking, Shape, Source, takes_at, Task, Then, Wait, Wanted, Want}
+use Rattle.gh_world.proofs.Vocabulary.{Act, acted, acting, acts, acts_at, after_assist, after_gc, after_poll, Answer, answer_at, Assist, Assisting, assisting, assists, At, begins_at, cache_span, Ends, Ever, ever_after, follows, Found, Global, GlobalStage, GoesOn, is_busy_at, is_last_task, is_some, Name, nat_tests, NewStage, NoRoom, Op, Place, Placing, Polling, Processor, Register, register_of, Search, Seeking, Shape, Source, takes_at, Task, Then, Wait, Want, Wanted}
 use Rattle.gh_world.proofs.AllActors.Beginning.{ends-by, keeps-end, makes-end, sets-end, stores-end}
 
 -- Its step is that of its end, or is not.
@@ -111,16 +113,25 @@ module _ (shapes : List Shape) (m : Processor) (found : ℕ) where
   poll_none p None = refl
   poll_none p (Some x) = refl
 
-  place_none : (w : Wanted) (p : Placing) (asks : Option Bool) → is_last_task (new.made_task w p asks) ≡ false
+  then_none : (w : Wanted) (n : Name) (marking : Bool) → is_last_task (cond marking (assists w n (assisting m.poll w)) task.Idle) ≡ false
+  then_none w n true = refl
+  then_none w n false = refl
+
+  place_none : (w : Wanted) (p : Placing) (asks : Option Bool) → is_last_task (new.made_task m.poll w p asks) ≡ false
   place_none w p None = refl
   place_none w p (Some true) = refl
-  place_none w p (Some false) = refl
+  place_none w p (Some false) = then_none w p.name (marking_at m.poll)
+
+  assist_none : (w : Wanted) (n : Name) (x : Assisting) (o : Option (Unit {0})) → is_last_task (after_assist m w n x o).task ≡ false
+  assist_none w n x None = refl
+  assist_none w n x (Some y) = refl
 
   new_none : (w : Wanted) (s : NewStage) → is_last_task (new.takes_at shapes m w s found).task ≡ false
   new_none w (Search waited q) = search_none (cache_span m w.sought (search.goes q found).find.cached) w waited (search.goes q found) (search.gives q found)
   new_none w (Wait x) = wait_none w (wait.goes (wait.waiting x m.poll) found) (wait.gives (wait.waiting x m.poll) found)
   new_none w (Place p) = place_none w (place.goes p found) (place.gives p found)
   new_none w (Want n) = refl
+  new_none w (Assist n x) = assist_none w n (assist.goes x found) (assist.gives x found)
 
   other : {b : Bool} → b ≡ false → b ≡ true → ⊥
   other x y = let both : false ≡ true = sym x ∙ y in cc

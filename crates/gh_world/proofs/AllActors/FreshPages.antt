@@ -203,6 +203,7 @@ module _ (read : PackedWordsAreReadBack) (z : Arena) (a : ℕ) (h : Heap) (q : �
     new_page wanted (new_stage.Wait x) locked none k f = waits_at (waiting x m.poll) x.stage locked k
     new_page wanted (new_stage.Place x) locked none k f = absurd (cc)
     new_page wanted (new_stage.Want n) locked none k f = absurd (cc)
+    new_page wanted (new_stage.Assist n x) locked none k f = absurd (cc)
 
     at_task : (t : Task) → is_locked_at m t ≡ true → sweep_at t ≡ None → KnowsAt z a v m.poll t → FactsAt z a v m pending t → For (asks_at m t)
     at_task (task.New x) locked none k f = new_page x.wanted x.stage locked none k f

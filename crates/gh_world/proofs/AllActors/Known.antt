@@ -1,5 +1,6 @@
 -- What lower crates say, as the lemmas of lists of all actors use it.
 use Rattle.std.proofs.Common.{ℕ, Bool, List, ◌∷◌}
+use Rattle.gh_assist.specs.Within.{TakingAndScanningAreWithin}
 use Rattle.gh_base.specs.Rows.{RowsAreWritten}
 use Rattle.gh_heap.specs.Laws.{EachFactLasts, EachMoveLeaves, EachMoveReachesNoMore, TheHeapIsApart}
 use Rattle.gh_sweep.specs.AtEnd.{TheBitsAreObjects}
@@ -75,6 +76,7 @@ pub record Known : Type 0 where
   pub beside : GoesOnBesideMarking
   pub marking : MarkingBegins
   pub fit : ProcessorsDeedsFit
+  pub taking : TakingAndScanningAreWithin
   pub drawn : DrawnKnown
 
 -- of the lists of this heap

@@ -46,6 +46,7 @@ makes_on p (new.Wait x) is = waits_on (waiting x p) x.stage is
 makes_on p (new.Search waited q) is = absurd cc
 makes_on p (new.Place x) is = absurd cc
 makes_on p (new.Want n) is = absurd cc
+makes_on p (new.Assist n x) is = absurd cc
 
 has_left : (p : Polling) (q : Task) → stage_at p q ≡ Gone → is_last_task q ≡ true
 has_left p task.Left is = refl

@@ -8,7 +8,7 @@ use Rattle.gh_mutator.specs.declared.task.Task.TheVariants as task
 use Rattle.gh_worker.specs.Listing as worker
 use Rattle.gh_world.specs.declared.handshake.Actor.TheVariants as actor
 use Rattle.gh_world.specs.Handshake.{asks}
-use Rattle.gh_world.specs.ActorsHold.{uncounted_new}
+use Rattle.gh_world.specs.HeapBytes.{uncounted_new}
 use Rattle.gh_world.specs.Sweepers.{sweep_of}
 use Rattle.gh_world.proofs.Vocabulary.{acks_of, Actor, actors, actors_after, Arena, arena, Coordinating, CoordStage, Entry, Heap, is_busy, IsHeapOf, IsLed, IsParked, Layout, Legal, nat_tests, new_stage_at, NewStage, Op, Pacing, Polling, processor_at, Right, RunPhase, seats_of, Shape, stage_at, stage_of, started, Stopped, Sweep, Task, those, uncounted, view}
 use Rattle.gh_world.proofs.AllActors.Known.{Known, ListsKnown}
@@ -28,6 +28,7 @@ parked_new p stops (new.Search waited q) parked = refl
 parked_new p stops (new.Wait x) parked = refl
 parked_new p stops (new.Place x) parked = absurd parked
 parked_new p stops (new.Want n) parked = refl
+parked_new p stops (new.Assist n x) parked = refl
 
 parked_at : (p : Polling) (stops : ℕ) (q : Task) → IsParked stops (stage_at p q) → uncounted q ≡ 0
 parked_at p stops (task.New x) parked = parked_new p stops x.stage parked
@@ -39,6 +40,7 @@ parked_search p stops (new.Search waited q) parked = absurd parked
 parked_search p stops (new.Wait x) parked = refl
 parked_search p stops (new.Place x) parked = refl
 parked_search p stops (new.Want n) parked = refl
+parked_search p stops (new.Assist n x) parked = refl
 
 parked_sweeps_none : (p : Polling) (stops : ℕ) (q : Task) → IsParked stops (stage_at p q) → mutator.sweep_at q ≡ None
 parked_sweeps_none p stops (task.New x) parked = parked_search p stops x.stage parked

@@ -1,19 +1,24 @@
 -- After every legal list of all actors all stands: while a cycle is marked there is a state of marking, and what is said of the heap goes with it.
-use Rattle.std.proofs.Common.{◌≡◌, ℕ, List, subst}
+use Rattle.std.proofs.Common.{◌≡◌, ℕ, ◌+◌, ◌^◌, ◌<◌, ◌≤◌, List, ◌∷◌, refl, subst}
+use Rattle.gh_base.specs.declared.cell.Cell.TheVariants as cell
+use Rattle.gh_base.specs.Cells.{Words}
 use Rattle.gh_coord.specs.declared.coord.CoordStage.{CoordStage}
 use Rattle.gh_coord.specs.declared.coord.CoordStage.TheVariants.{Done, Tell}
 use Rattle.gh_coord.specs.declared.tell.TellStage.{TellStage}
 use Rattle.gh_coord.specs.Handshake as leading
 use Rattle.gh_marks.specs.Laws.{MarkingEndsClean, WhatIsFoundIsDone}
-use Rattle.gh_world.specs.Actors.{AllStands, IsTelling, LeavesTheReached, may_of}
+use Rattle.gh_world.specs.Actors.{AllStands, IsEnding, IsTelling, LeavesTheReached, may_of}
 use Rattle.gh_world.specs.ActorsHold.{HasState, Holds, HoldsAt, IsInCycle, IsTelling as IsTold}
-use Rattle.gh_world.specs.HoldVocabulary.{Coordinating, Entry, IsInLimits, IsStartOf, Layout, Op, Pacing, Shape, ShapesAreGood, words}
+use Rattle.gh_world.specs.HoldVocabulary.{acks_of, Coordinating, Entry, IsBeginning, IsInLimits, IsStartOf, Layout, Op, Pacing, Shape, ShapesAreGood, words}
 use Rattle.gh_world.specs.Handshake.{those}
+use Rattle.gh_world.specs.Scanned.{GlobalsAreCounted}
 use Rattle.gh_world.specs.Spans.{SpansStand}
-use Rattle.gh_world.proofs.AllActors.Starts.{legal_start}
+use Rattle.gh_world.proofs.AllActors.Starts.{legal_start, whole}
 use Rattle.gh_world.proofs.AllActors.Asked.{all_asked, all_opened}
+use Rattle.gh_world.proofs.AllActors.Begins.{is_ready}
 use Rattle.gh_world.proofs.AllActors.ForTypes.{for_types}
 use Rattle.gh_world.proofs.AllActors.Going.{goes_then, led_then}
+use Rattle.gh_world.proofs.AllActors.HeapBytes.{heap_bytes}
 use Rattle.gh_world.proofs.AllActors.Known.{Known, ListsKnown}
 use Rattle.gh_world.proofs.AllActors.LeadingLast.{left_now}
 use Rattle.gh_world.proofs.AllActors.OwnedSpans.{one_of_each, owners_stand}
@@ -31,6 +36,7 @@ use Rattle.gh_world.proofs.Awaited.Swept.{InCycles}
 use Rattle.gh_world.proofs.Awaited.Waited.{awaits}
 use Rattle.gh_world.proofs.CycleMarking.Lists.{marks_to_the_end}
 use Rattle.gh_world.proofs.CycleMarking.Moving.{Known as MarksKnown}
+use Rattle.gh_world.proofs.Scanned.Globals.{globals_are_counted}
 use Rattle.gh_world.proofs.Within.Actors.{steps_within}
 
 module _ (shapes : List Shape) (l : Layout) (pacing : Pacing) (counts : ℕ → ℕ) (good : ShapesAreGood shapes) (limits : IsInLimits l) (known : Known) (wanted : Wanted) (lists : ListsKnown shapes l pacing (may_of shapes l counts)) (moves : MarksKnown)
@@ -77,6 +83,22 @@ module _ (shapes : List Shape) (l : Layout) (pacing : Pacing) (counts : ℕ → 
     owned = one_of_each shapes l pacing (may_of shapes l counts) es (has es legal);
   }
 
+  -- The cursor of globals: its word does not begin anew while a cycle is marked; it is 0 where one begins, and past the globals where its marking ends.
+
+  cursor_small : (es : List (Entry Op)) (c : Coordinating) → Lawful es → Led es c → leading.Marks c.stage → words shapes l pacing (may_of shapes l counts) es cell.Gcur + 1 < 2 ^ 64
+  cursor_small es c legal led on = let m = (marked es c legal led on).marking in subst (λ (w : Words). w cell.Gcur + 1 < 2 ^ 64) m.is.words_are (wanted.small m.cycle m.shared m.good)
+
+  cursor_clear : (es : List (Entry Op)) (c : Coordinating) → Lawful es → Led es c → IsBeginning c.stage → words shapes l pacing (may_of shapes l counts) es cell.Gcur ≡ 0
+  cursor_clear es c legal led at_first = (is_ready shapes l pacing (may_of shapes l counts) limits known lists es c legal led at_first c.stage at_first (holds es legal c led).at).1
+
+  cursor_passed : (e : Entry Op) (es : List (Entry Op)) (c : Coordinating) → Lawful (e ∷ es) → Led es c → e.actor ≡ acks_of l → IsEnding c.stage → l.globals ≤ words shapes l pacing (may_of shapes l counts) es cell.Gcur
+  cursor_passed e es c legal led seat ending =
+      let x = led_then shapes l pacing (may_of shapes l counts) (e ∷ es) in
+      ((holds (e ∷ es) legal x.lead x.led_by).was.ends e es c.begun (whole (e ∷ es)) (record { lead = c; led = led; by = seat; stage = ending; cycle = refl })).cursor
+
+  globals : (es : List (Entry Op)) → Lawful es → (c : Coordinating) → Led es c → GlobalsAreCounted shapes l pacing es c
+  globals es legal c led = globals_are_counted shapes l pacing (may_of shapes l counts) known.writes lists.keeps lists.rests lists.plainly cursor_small cursor_clear cursor_passed es c legal led
+
   pub list_stands : (es : List (Entry Op)) → Lawful es → AllStands shapes l pacing (may_of shapes l counts) es
   list_stands es legal =
       let x = led_then shapes l pacing (may_of shapes l counts) es in
@@ -86,6 +108,7 @@ module _ (shapes : List Shape) (l : Layout) (pacing : Pacing) (counts : ℕ → 
       all_stands shapes l pacing (may_of shapes l counts) es x.lead limits known x.led_by held marking (awaits shapes l pacing (may_of shapes l counts) known lists in_cycles es legal) (all_asked shapes l pacing (may_of shapes l counts) known.writes known.workers_write lists.keeps lists.wants es legal) (all_opened shapes l pacing (may_of shapes l counts) known.writes known.workers_write lists.keeps lists.wants es legal) (λ d led. lists.plainly es d legal led) (steps_within shapes l pacing counts good limits known es (has es legal))
       (within_two shapes l pacing counts good limits known wanted lists has in_cycles es legal held.was.frees)
       (until shapes l pacing (may_of shapes l counts) limits known lists es legal states held.was.ends) (λ c led on. so_far shapes l pacing (may_of shapes l counts) limits known lists es legal states c led on (marked es c legal led on))
-      (scans_once shapes l pacing (may_of shapes l counts) known lists has es legal) (few_scanned shapes l pacing (may_of shapes l counts) known lists es legal (was_marked es legal)) (sweeps_stand shapes l pacing (may_of shapes l counts) limits known es x.lead legal x.led_by marking held.at) (spans_stand es legal)
+      (scans_once shapes l pacing (may_of shapes l counts) known lists has es legal) (few_scanned shapes l pacing (may_of shapes l counts) known lists es legal (was_marked es legal)) (globals es legal) (sweeps_stand shapes l pacing (may_of shapes l counts) limits known es x.lead legal x.led_by marking held.at) (spans_stand es legal)
       (phases_stand shapes l pacing (may_of shapes l counts) known lists has holds es legal)
+      (heap_bytes shapes l pacing (may_of shapes l counts) known wanted.slots es (has es legal))
       (left es legal x.lead x.led_by held)

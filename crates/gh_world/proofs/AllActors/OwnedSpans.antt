@@ -316,6 +316,7 @@ module _ (z : Arena) (a : ℕ) (v : View) where
     new_own w (new_stage.Wait x) k f = waits_own (waiting x m.poll) k
     new_own w (new_stage.Place x) k f = makes_own m w k x pending f
     new_own w (new_stage.Want n) k f = rests_own m.poll k
+    new_own w (new_stage.Assist n x) k f = rests_own m.poll k
 
     task_own : (t : Task) → KnowsAt z a v m.poll t → FactsAt z a v m pending t → Owns (held_at m t)
     task_own task.Left k f = none

@@ -60,6 +60,7 @@ module _ (z : Arena) (a : ℕ) (v : View) (m : Processor) (pending : Option Answ
   new_none w (new_stage.Wait x) o is facts = facts.1
   new_none w (new_stage.Place p) o is facts = named_none w p.name (new.is_made p.stage) o is facts.named
   new_none w (new_stage.Want n) o is facts = absurd (cc)
+  new_none w (new_stage.Assist n x) o is facts = absurd (cc)
 
   pub none_unacted : (t : Task) (o : Op) → op_at t ≡ Some o → FactsAt z a v m pending t → pending ≡ None
   none_unacted (task.Load x) o is facts = load_none x x.stage o is facts

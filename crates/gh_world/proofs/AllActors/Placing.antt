@@ -8,6 +8,7 @@ use Rattle.gh_model.specs.Ever.{answer_of, sets_global, stores_value, takes_answ
 use Rattle.gh_alloc.specs.declared.place.PlaceStage.TheVariants as making
 use Rattle.gh_alloc.specs.Place as place
 use Rattle.gh_alloc.specs.Search as search
+use Rattle.gh_assist.specs.Listing as assist
 use Rattle.gh_bitmap.specs.SetPointers as bits
 use Rattle.gh_mutator.specs.declared.global.GlobalStage.TheVariants as global_stage
 use Rattle.gh_mutator.specs.declared.register.Source.TheVariants as source
@@ -17,6 +18,7 @@ use Rattle.gh_mutator.specs.Global as global
 use Rattle.gh_mutator.specs.Leave as leave
 use Rattle.gh_mutator.specs.Listing.{asks_at}
 use Rattle.gh_mutator.specs.Load as load
+use Rattle.gh_mutator.specs.Local.{marking_at}
 use Rattle.gh_mutator.specs.New as new
 use Rattle.gh_mutator.specs.Poll as poll
 use Rattle.gh_mutator.specs.Register as register
@@ -24,7 +26,7 @@ use Rattle.gh_mutator.specs.Store as store
 use Rattle.gh_mutator.specs.Sweeping.{sweep_at, sweep_new}
 use Rattle.gh_mutator.specs.Wait as wait
 use Rattle.gh_sweep.specs.Listing.{Sweeping}
-use Rattle.gh_world.proofs.Vocabulary.{acted, acting, acts_at, Add, after_gc, after_leave, after_poll, Answer, At, begins_at, cache_span, CountsObject, Ends, Ever, ever_after, EverValue, follows, Found, Global, GlobalStage, GoesOn, Heap, is_busy_at, is_some, nat_lt, NewStage, NoRoom, Op, Place, PlaceStage, Placing, Processor, Register, register_of, Search, Shape, Source, takes_at, Task, Then, uncounted, Wait, Wanted, Want}
+use Rattle.gh_world.proofs.Vocabulary.{acted, acting, acts_at, Add, after_assist, after_gc, after_leave, after_poll, Answer, Assist, Assisting, assisting, assists, At, begins_at, cache_span, CountsObject, Ends, Ever, ever_after, EverValue, follows, Found, Global, GlobalStage, GoesOn, Heap, is_busy_at, is_some, Name, nat_lt, NewStage, NoRoom, Op, Place, PlaceStage, Placing, Processor, Register, register_of, Search, Shape, Source, takes_at, Task, Then, uncounted, Wait, Want, Wanted}
 
 -- No object is made but by a `new`.
 
@@ -119,31 +121,40 @@ module _ (shapes : List Shape) (m : Processor) (found : ℕ) where
   abbrev placing_at : Wanted → Placing → Task
   placing_at w p = task.New (record { wanted = w; stage = Place p })
 
+  -- behind it an assist may run
+  then_plain : (w : Wanted) (n : Name) (marking : Bool) → IsPlain (cond marking (assists w n (assisting m.poll w)) task.Idle)
+  then_plain w n true = refl
+  then_plain w n false = refl
+
+  assisted : (w : Wanted) (n : Name) (x : Assisting) (out : Option (Unit {0})) → IsPlain (after_assist m w n x out).task
+  assisted w n x None = refl
+  assisted w n x (Some y) = refl
+
   placed : (w : Wanted) (p : Placing) (s : PlaceStage) → StepOf (placing_at w (place.at_stage p s))
   placed w p (making.Clear k) = inr (inr (record { same = by (nat_lt (k + 1) p.slot); silent = λ y. absurd (let x = y.0 in cc); nothing = λ e g. refl })) where
-    by : (b : Bool) → uncounted (new.made_task w (place.at_stage p (cond b (making.Clear (k + 1)) making.Birth)) (place.given_at (cond b (making.Clear (k + 1)) making.Birth))) ≡ 0
+    by : (b : Bool) → uncounted (new.made_task m.poll w (place.at_stage p (cond b (making.Clear (k + 1)) making.Birth)) (place.given_at (cond b (making.Clear (k + 1)) making.Birth))) ≡ 0
     by true = refl
     by false = refl
   placed w p making.Birth = inr (inr (record { same = refl; silent = λ y. absurd (let x = y.0 in cc); nothing = λ e g. refl }))
   placed w p (making.Bits q) = inr (inr (record { same = by (bits.is_busy (bits.goes q found).stage); silent = λ y. absurd (let x = y.0 in cc); nothing = λ e g. refl })) where
-    by : (b : Bool) → uncounted (new.made_task w (place.at_stage p (cond b (making.Bits (bits.goes q found)) (place.filled p.marking))) (place.given_at (cond b (making.Bits (bits.goes q found)) (place.filled p.marking)))) ≡ 0
+    by : (b : Bool) → uncounted (new.made_task m.poll w (place.at_stage p (cond b (making.Bits (bits.goes q found)) (place.filled p.marking))) (place.given_at (cond b (making.Bits (bits.goes q found)) (place.filled p.marking)))) ≡ 0
     by true = refl
     by false = filled p.marking where
-      filled : (marking : Bool) → uncounted (new.made_task w (place.at_stage p (place.filled marking)) (place.given_at (place.filled marking))) ≡ 0
+      filled : (marking : Bool) → uncounted (new.made_task m.poll w (place.at_stage p (place.filled marking)) (place.given_at (place.filled marking))) ≡ 0
       filled true = refl
       filled false = refl
   placed w p making.Mark = inr (inr (record { same = refl; silent = λ y. absurd (let x = y.0 in cc); nothing = λ e g. refl }))
   placed w p making.Alloc = inr (inl (record { wanted = w; placing = place.at_stage p making.Alloc; is = refl; stage = refl; silent = λ y. absurd (let x = y.0 in cc) }))
   placed w p (making.Give g) = inr (inr (record { same = refl; silent = λ y. absurd (let x = y.0 in cc); nothing = λ e g. refl }))
   placed w p making.Count = inl (record { asks_is = refl; then = by p.marking; nothing = λ e g. refl; alone = λ u v x. x }) where
-    by : (marking : Bool) → uncounted (new.made_task w (place.at_stage p (cond marking (making.Ended false) (making.LoadTrigger ((found + 8 * p.slot) % 2 ^ 64)))) (place.given_at (cond marking (making.Ended false) (making.LoadTrigger ((found + 8 * p.slot) % 2 ^ 64))))) ≡ 0
-    by true = refl
+    by : (marking : Bool) → uncounted (new.made_task m.poll w (place.at_stage p (cond marking (making.Ended false) (making.LoadTrigger ((found + 8 * p.slot) % 2 ^ 64)))) (place.given_at (cond marking (making.Ended false) (making.LoadTrigger ((found + 8 * p.slot) % 2 ^ 64))))) ≡ 0
+    by true = then_plain w p.name (marking_at m.poll)
     by false = refl
   placed w p (making.LoadTrigger bytes) = inr (inr (record { same = by (nat_le found bytes); silent = λ y. absurd (let x = y.0 in cc); nothing = λ e g. refl })) where
-    by : (reached : Bool) → uncounted (new.made_task w (place.at_stage p (making.Ended reached)) (Some reached)) ≡ 0
+    by : (reached : Bool) → uncounted (new.made_task m.poll w (place.at_stage p (making.Ended reached)) (Some reached)) ≡ 0
     by true = refl
-    by false = refl
-  placed w p (making.Ended wants) = inr (inr (record { same = refl; silent = λ y. absurd (let x = y.0 in cc); nothing = λ e g. refl }))
+    by false = then_plain w p.name (marking_at m.poll)
+  placed w p (making.Ended wants) = inr (inr (record { same = then_plain w p.name (marking_at m.poll); silent = λ y. absurd (let x = y.0 in cc); nothing = λ e g. refl }))
 
   ended_gc : (g : ℕ) (x : wait.Waiting) (out : Option (Unit {0})) → uncounted (after_gc m g x out).task ≡ 0
   ended_gc g x None = refl
@@ -170,6 +181,7 @@ module _ (shapes : List Shape) (m : Processor) (found : ℕ) where
     new_kind w (Wait y) = inr (inr (record { same = waited_for w (wait.goes (wait.waiting y m.poll) found) (wait.gives (wait.waiting y m.poll) found); silent = λ y. y; nothing = λ e g. refl }))
     new_kind w (Place p) = placed w p p.stage
     new_kind w (Want n) = inr (inr (record { same = refl; silent = λ y. y; nothing = λ e g. refl }))
+    new_kind w (Assist n x) = inr (inr (record { same = assisted w n (assist.goes x found) (assist.gives x found); silent = λ y. y; nothing = λ e g. refl }))
   kind (task.Gc g x) busy = inr (inr (record { same = ended_gc g (wait.goes (wait.waiting x m.poll) found) (wait.gives (wait.waiting x m.poll) found); silent = λ y. y; nothing = acting_made shapes (is_some (wait.gives (wait.waiting x m.poll) found)) (op.Gc g) tt }))
   kind task.Poll busy = inr (inr (record { same = ended_poll (poll.goes m.poll found) (poll.gives m.poll found); silent = λ y. y; nothing = acting_made shapes (is_some (poll.gives m.poll found)) op.Poll tt }))
   kind (task.End g) busy = inr (inr (record { same = refl; silent = λ y. y; nothing = λ e h. refl }))
@@ -183,6 +195,7 @@ module _ (shapes : List Shape) (m : Processor) (found : ℕ) where
     by_stage w (Wait y) is = absurd cc
     by_stage w (Place p) is = absurd cc
     by_stage w (Want n) is = absurd cc
+    by_stage w (Assist n x) is = absurd cc
   sweeps_plain _ sw is = absurd cc
 
 -- who rests sweeps nothing

@@ -20,7 +20,7 @@ use Rattle.gh_mutator.specs.Store as store
 use Rattle.gh_mutator.specs.Wait as wait
 use Rattle.gh_world.specs.HoldVocabulary.{View}
 use Rattle.gh_world.specs.Processors.{IsAnothers, NoRoomFor}
-use Rattle.gh_world.proofs.Vocabulary.{Act, acting, acts_at, Arena, begins, eqb-false, eqb-true, Good, has_left_at, has_point, Head, Heap, is_some, IsFullFor, Layout, ltb-false, ltb-true, NewStage, Op, page_of, Place, point_of, Processor, processor_kind, register_of, Right, Search, Shape, SpanHead, started, Task, view, Wait, Want}
+use Rattle.gh_world.proofs.Vocabulary.{Act, acting, acts_at, Arena, Assist, begins, eqb-false, eqb-true, Good, has_left_at, has_point, Head, Heap, is_some, IsFullFor, Layout, ltb-false, ltb-true, NewStage, Op, page_of, Place, point_of, Processor, processor_kind, register_of, Right, Search, Shape, SpanHead, started, Task, view, Wait, Want}
 
 -- a slot is searched for once more, behind the wait
 abbrev Searched : NewStage → Type 0
@@ -44,6 +44,7 @@ refuses_again (Search false q) o found x is full = absurd (cc)
 refuses_again (Wait w) o found x is full = absurd (cc)
 refuses_again (Place p) o found x is full = absurd (plain (new.acts_at (Place p) found) o x is full)
 refuses_again (Want n) o found x is full = absurd (cc)
+refuses_again (Assist n y) o found x is full = absurd (cc)
 
 pub full_searches : (m : Processor) (t : Task) (found : ℕ) (x : Act) → acts_at m t found ≡ Some x → x.full ≡ true → IsSearchedAgain t
 full_searches m task.Idle found x is full = absurd (cc)

@@ -19,10 +19,11 @@ use Rattle.gh_world.specs.Asked.{AllWereAsked}
 use Rattle.gh_world.specs.Counts.{CountsPlainly}
 use Rattle.gh_world.specs.Drawn.{CycleIsDrawn}
 use Rattle.gh_world.specs.Handshake.{those}
+use Rattle.gh_world.specs.HeapBytes.{HeapIsCounted}
 use Rattle.gh_world.specs.HoldVocabulary.{arena, Arena, Coordinating, Entry, IsInLimits, IsLed, Layout, Op, opening_words, Pacing, Shape, view, words}
 use Rattle.gh_world.specs.Phases.{PhasesStand}
 use Rattle.gh_world.specs.Processors.{AnswersAsEver, ListStands}
-use Rattle.gh_world.specs.Scanned.{FewAreScanned}
+use Rattle.gh_world.specs.Scanned.{FewAreScanned, GlobalsAreCounted}
 use Rattle.gh_world.specs.Scans.{ScansOnce}
 use Rattle.gh_world.specs.Spans.{SpansStand}
 use Rattle.gh_world.specs.SweepMarks.{SweepsStand}
@@ -70,7 +71,7 @@ module _ (shapes : List Shape) (l : Layout) (pacing : Pacing) (may : ℕ → Lis
 
   module _ (limits : IsInLimits l) (known : Known) (led : IsLed shapes l pacing may es c) where
     module _ (h : Holds shapes l pacing may es c) (marked : leading.Marks c.stage → Marked) (awaits : Awaits shapes l pacing may es) (asked : AllWereAsked shapes l pacing may es) (opened : AllWereOpened shapes l pacing may es) (numbers : (d : Coordinating) → IsLed shapes l pacing may es d → CountsPlainly (those shapes l pacing may) pacing.room es d) (within : StepsWithin shapes l pacing may es) (within_two : FreesWithinTwo shapes l pacing may es) (until : StandsUntilItsEnd shapes l pacing may es) (standing : (d : Coordinating) → IsLed shapes l pacing may es d → leading.Marks d.stage → StandsSoFar shapes l pacing may es d)
-        (scans : ScansOnce shapes l pacing may es) (scanned : FewAreScanned shapes l pacing es) (sweeps : SweepsStand shapes l pacing may es) (spans : SpansStand shapes l (words shapes l pacing may es)) (phases : PhasesStand shapes l pacing may es) (left : c.stage ≡ Done → LeavesTheReached shapes l pacing may es c) where
+        (scans : ScansOnce shapes l pacing may es) (scanned : FewAreScanned shapes l pacing es) (globals : (d : Coordinating) → IsLed shapes l pacing may es d → GlobalsAreCounted shapes l pacing es d) (sweeps : SweepsStand shapes l pacing may es) (spans : SpansStand shapes l (words shapes l pacing may es)) (phases : PhasesStand shapes l pacing may es) (bytes : HeapIsCounted shapes l pacing may es) (left : c.stage ≡ Done → LeavesTheReached shapes l pacing may es c) where
       now : HasState shapes l pacing may es
       now = has_at c.stage (goes_then shapes l pacing may es c led) marked h.at
 
@@ -153,11 +154,13 @@ module _ (shapes : List Shape) (l : Layout) (pacing : Pacing) (may : ℕ → Lis
         standing = standing;
         scans = scans;
         scanned = scanned;
+        globals = globals;
         sweeps = sweeps;
         spans = spans;
         phases = phases;
         drawn = λ d too on. drawn d (one_lead d too) on;
         said = λ d too. subst (CountsAreSaid shapes l pacing may es) (one_lead d too) said;
         counts = λ d too. subst (AllWereCounted shapes l pacing may es) (one_lead d too) h.counted;
+        heap_bytes = bytes;
         last = λ d too done. subst (LeavesTheReached shapes l pacing may es) (one_lead d too) (left (ap (λ (x : Coordinating). x.stage) (one_lead d too) ∙ done));
       }

@@ -10,7 +10,8 @@ use Rattle.gh_phase.specs.Handshake.{Stopped}
 use Rattle.gh_worker.specs.Listing.{goes, sweep_at, Working}
 use Rattle.gh_world.specs.declared.handshake.Actor.{Actor}
 use Rattle.gh_world.specs.declared.handshake.Actor.TheVariants as actor
-use Rattle.gh_world.specs.ActorsHold.{EndedSo, HasEnded, HasState, IsAsItShould, IsCounting, IsHeapOf, IsInCycle, IsNewThere, IsQuiet, IsReady, IsSweeping, IsTold, NobodyMarks, processor_at, uncounted}
+use Rattle.gh_world.specs.ActorsHold.{EndedSo, HasEnded, HasState, IsAsItShould, IsCounting, IsHeapOf, IsInCycle, IsNewThere, IsQuiet, IsReady, IsSweeping, IsTold, NobodyMarks, processor_at}
+use Rattle.gh_world.specs.HeapBytes.{uncounted}
 use Rattle.gh_world.specs.HoldVocabulary.{acks_of, actors_after, alloc_words, Answer, answers_of, arena, Arena, Coordinating, ended_in, Entry, Ever, ever, given_of, Heap, IsLed, IsMade, IsPlacedAt, Layout, Legal, MarksNothing, Op, opening_words, Pacing, Processor, row_bit, Shape, State, SweepingAll, Words, words}
 use Rattle.gh_world.specs.Handshake.{those}
 use Rattle.gh_world.specs.Sweepers.{IsInSweep, sweep_of}

@@ -83,6 +83,7 @@ new_rests z a v p (task.New x) run is = by_stage x.stage run.runs is where
   by_stage (new_stage.Search waited y) polls k = k
   by_stage (new_stage.Place y) polls k = k
   by_stage (new_stage.Want n) polls k = k
+  by_stage (new_stage.Assist n y) polls k = k
 new_rests z a v p (task.Gc g x) run is = absurd (let no = run.runs in cc)
 new_rests z a v p task.Poll run is = absurd (let no = run.runs in cc)
 new_rests z a v p (task.Leave x) run is = absurd (let no = run.runs in cc)

@@ -16,6 +16,7 @@ use Rattle.gh_mutator.specs.declared.wait.Wait.{Wait}
 use Rattle.gh_mutator.specs.declared.wait.WaitStage.TheVariants as waiting
 use Rattle.gh_mutator.specs.Handshake.{poll_stage_of, wait_stage_of}
 use Rattle.gh_mutator.specs.Leave as leave
+use Rattle.gh_mutator.specs.Local.{marking_at}
 use Rattle.gh_mutator.specs.Listing.{asks_at}
 use Rattle.gh_mutator.specs.New as new
 use Rattle.gh_mutator.specs.Poll as poll
@@ -131,7 +132,7 @@ module _ (back : PackedWordsAreReadBack) (stops : ℕ) where
           ∙ (ap (λ (w : wait.Waiting). at_task (at_poll m w.poll) (new.waits x.wanted w)) (waits (wait.waiting y m.poll) on at)
           ∙ (ap (λ (s : NewStage). at_task m (task.New (record x { stage = s }))) (sym here) ∙ ap (at_task m) (sym is)))));
       no_act = ap (λ (t : Task). acts_at m t found) is ∙ ap (λ (s : NewStage). acting (new.acts_at s found) (new.op_of x.wanted) (new.is_full_at s)) here;
-      no_answer = ap (λ (t : Task). given_at t (gives_at m t found)) is ∙ ap (λ (s : NewStage). new.gives_at s found) here;
+      no_answer = ap (λ (t : Task). given_at t (gives_at m t found)) is ∙ ap (λ (s : NewStage). new.gives_at (marking_at m.poll) s found) here;
     }
 
     -- a processor that is parked waits so, or has left
@@ -142,6 +143,7 @@ module _ (back : PackedWordsAreReadBack) (stops : ℕ) where
       in_new x is (making.Search waited q) here k = absurd k
       in_new x is (making.Place p) here k = absurd k
       in_new x is (making.Want n) here k = absurd k
+      in_new x is (making.Assist n y) here k = absurd k
 
       in_leave : (x : Leaving) → (s : LeaveStage) → x.stage ≡ s → leave.is_busy x.stage ≡ true → IsParked stops (leaves_at s) → ⊥
       in_leave x (leaving.Giving g) is b k = k

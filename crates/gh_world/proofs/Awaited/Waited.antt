@@ -2,7 +2,7 @@
 use Rattle.std.proofs.Common.{◌≡◌, ℕ, ◌<◌, ◌≤◌, Bool, true, false, cond, eqb, List, [], ◌∷◌, ◌++◌, Option, Some, None, refl, sym, ap, subst, ◌∙◌, arith, inl, inr}
 use Rattle.std.specs.Option.{option_to_list}
 use Rattle.std.proofs.lemmas.Bool.{cases_lt}
-use Rattle.gh_world.specs.Vocabulary.{Act, acts_at, asks, begins, by, cell_of, deeds, Entry, has_left_at, has_point, is_busy_at, Kind, Layout, Legal, NewStage, Op, Place, Processor, processor_kind, Search, Shape, started, state_of, takes, Task, Wait, Words, Want}
+use Rattle.gh_world.specs.Vocabulary.{Act, acts_at, asks, Assist, begins, by, cell_of, deeds, Entry, has_left_at, has_point, is_busy_at, Kind, Layout, Legal, NewStage, Op, Place, Processor, processor_kind, Search, Shape, started, state_of, takes, Task, Wait, Want, Words}
 use Rattle.gh_base.specs.declared.cell.Ask.TheVariants as ask
 use Rattle.gh_base.specs.declared.cell.Cell.TheVariants as cell
 use Rattle.gh_base.specs.declared.operation.Op.TheVariants as op
@@ -29,6 +29,7 @@ searching_knows p (task.New x) h = go x.stage h where
   go (Wait y) h = absurd h
   go (Place y) h = absurd h
   go (Want n) h = absurd h
+  go (Assist n y) h = absurd h
 searching_knows p task.Idle h = absurd h
 searching_knows p _ h = absurd h
 

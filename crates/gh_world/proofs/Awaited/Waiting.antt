@@ -1,7 +1,7 @@
 -- A `new` that finds no room has waited, and so has a `gc` that ends: behind its begin a later cycle was swept before.
 use Rattle.std.proofs.Common.{◌≡◌, ℕ, ◌<◌, ◌≤◌, Bool, true, false, cond, List, Option, Some, None, refl, sym, ap, ◌∙◌, arith}
 use Rattle.std.specs.Prelude.{is_some}
-use Rattle.gh_world.specs.Vocabulary.{Act, acting, acts_at, after_place, after_search, after_wait, asks, At, begins_at, cache_span, Ends, follows, Found, gives_at, Global, GlobalStage, GoesOn, is_busy_at, NewStage, Op, Place, Placing, Processor, Register, register_of, Search, Shape, Source, takes_at, Task, Then, Wait, Wanted, Want}
+use Rattle.gh_world.specs.Vocabulary.{Act, acting, acts_at, after_assist, after_place, after_search, after_wait, asks, Assist, Assisting, assisting, assists, At, begins_at, cache_span, Ends, follows, Found, gives_at, Global, GlobalStage, GoesOn, is_busy_at, Name, NewStage, Op, Place, Placing, Processor, Register, register_of, Search, Shape, Source, takes_at, Task, Then, Wait, Want, Wanted}
 use Rattle.gh_base.specs.declared.cell.Ask.TheVariants as ask
 use Rattle.gh_base.specs.declared.cell.Cell.TheVariants as cell
 use Rattle.gh_base.specs.declared.operation.Op.TheVariants as op
@@ -9,6 +9,7 @@ use Rattle.gh_base.specs.declared.value.Answer.TheVariants as answer
 use Rattle.gh_mutator.specs.Listing.{once_ended}
 use Rattle.gh_alloc.specs.Place as place
 use Rattle.gh_alloc.specs.Search as search
+use Rattle.gh_assist.specs.Listing as assist
 use Rattle.gh_mutator.specs.declared.global.GlobalStage.TheVariants as global_stage
 use Rattle.gh_mutator.specs.declared.register.Source.TheVariants as source
 use Rattle.gh_mutator.specs.declared.task.Task.TheVariants as task
@@ -17,6 +18,7 @@ use Rattle.gh_mutator.specs.declared.wait.WaitStage.TheVariants as wait_stage
 use Rattle.gh_mutator.specs.Global as global
 use Rattle.gh_mutator.specs.Leave as leave
 use Rattle.gh_mutator.specs.Load as load
+use Rattle.gh_mutator.specs.Local.{marking_at}
 use Rattle.gh_mutator.specs.New as new
 use Rattle.gh_mutator.specs.Poll as poll
 use Rattle.gh_mutator.specs.Register as register
@@ -33,6 +35,7 @@ HasWaitedAt low swept (Search true s) = low < swept
 HasWaitedAt low swept (Wait x) = low ≤ x.known
 HasWaitedAt low swept (Place p) = Unit {0}
 HasWaitedAt low swept (Want n) = Unit {0}
+HasWaitedAt low swept (Assist n x) = Unit {0}
 
 abbrev pub HasWaited : (low swept : ℕ) → Task → Type 0
 HasWaited low swept (task.New x) = HasWaitedAt low swept x.stage
@@ -76,6 +79,7 @@ new_searches w (Search false s) found x e f = absurd (none_at (new.op_of w) true
 new_searches w (Wait y) found x e f = absurd (none_at (new.op_of w) true x e)
 new_searches w (Place p) found x e f = absurd (not_full (place.acts p) (new.op_of w) x e f)
 new_searches w (Want n) found x e f = absurd (none_at (new.op_of w) false x e)
+new_searches w (Assist n y) found x e f = absurd (none_at (new.op_of w) false x e)
 
 pub full_searches : (m : Processor) (t : Task) (found : ℕ) (x : Act) → acts_at m t found ≡ Some x → x.full ≡ true → HasSeenCycle found t x.op
 full_searches m task.Idle found x e f = absurd cc
@@ -151,6 +155,7 @@ more_swept low swept then (task.New x) le h = go x.stage h where
   go (Wait x) h = h
   go (Place p) h = tt
   go (Want n) h = tt
+  go (Assist n y) h = tt
 more_swept low swept then (task.Gc g x) le h = h
 more_swept low swept then task.Poll le h = tt
 more_swept low swept then _ le h = tt
@@ -197,16 +202,25 @@ module _ (shapes : List Shape) (m : Processor) (low swept found : ℕ) where
 
   placed : (w : Wanted) (made : Bool) (a : ℕ) (p : Placing) → HasWaited low swept (after_place m w made a p).task
   placed w made a p = go (place.given p) where
-    go : (asks : Option Bool) → HasWaited low swept (new.made_task w p asks)
+    made_then : (marking : Bool) → HasWaited low swept (cond marking (assists w p.name (assisting m.poll w)) task.Idle)
+    made_then true = tt
+    made_then false = tt
+
+    go : (asks : Option Bool) → HasWaited low swept (new.made_task m.poll w p asks)
     go None = tt
     go (Some true) = tt
-    go (Some false) = tt
+    go (Some false) = made_then (marking_at m.poll)
+
+  assisted : (w : Wanted) (n : Name) (x : Assisting) (out : Option (Unit {0})) → HasWaited low swept (after_assist m w n x out).task
+  assisted w n x None = tt
+  assisted w n x (Some y) = tt
 
   new_steps : (w : Wanted) (st : NewStage) → HasWaitedAt low swept st → (IsSearchingAt st → low ≤ m.poll.local.view.begun) → (new.asks_at m st ≡ ask.Load cell.Swept → found ≤ swept) → HasWaited low swept (new.takes_at shapes m w st found).task
   new_steps w (Search again s) h knows so = finds (cache_span m w.sought (search.goes s found).find.cached) w again (search.goes s found) (search.gives s found) (knows tt) (was_second again s h)
   new_steps w (Wait x) h knows so = waited w x (wait.gives (wait.waiting x m.poll) found) refl h so
   new_steps w (Place p) h knows so = placed w (place.acts p) p.at (place.goes p found)
   new_steps w (Want n) h knows so = tt
+  new_steps w (Assist n x) h knows so = assisted w n (assist.goes x found) (assist.gives x found)
 
   gc_waits : (g : ℕ) (x : WaitState) (out : Option (Unit {0})) → low ≤ x.known → HasWaited low swept (after_gc m g (wait.goes (wait.waiting x m.poll) found) out).task
   gc_waits g x None h = let same = still_knows x m.poll x.stage in omega (arith, same, h)

@@ -1,5 +1,6 @@
--- Which steps leave the bank of credit as it is: all but a worker's hand-over, and the coordinator's store where it ends marking.
-use Rattle.std.proofs.Common.{◌≡◌, ◌⊎◌, inl, inr, ℕ, Bool, true, false, eqb, refl, sym, ap, subst}
+-- Which steps leave the bank of credit as it is: all but a worker's hand-over, a swap of a processor that assists, and the coordinator's store where it ends marking.
+use Rattle.std.proofs.Common.{◌≡◌, ◌≢◌, ◌⊎◌, inl, inr, ℕ, ◌+◌, ◌≤◌, ◌==◌, Bool, true, false, eqb, refl, sym, ap, subst, arith}
+use Rattle.std.proofs.lemmas.Bool.Decides.{nat_tests}
 use Rattle.gh_base.specs.declared.cell.Cell.TheVariants as cell
 use Rattle.gh_coord.specs.declared.close.CloseStage.TheVariants as close_stage
 use Rattle.gh_coord.specs.declared.count.CountStage.TheVariants as count_stage
@@ -15,11 +16,13 @@ use Rattle.gh_coord.specs.Stopping as stop
 use Rattle.gh_coord.specs.SweepingAll as all
 use Rattle.gh_coord.specs.Telling as tell
 use Rattle.gh_coord.specs.Watching as watch
+use Rattle.gh_credit.specs.Drawing.{drawn_by, LeavesOrDraws}
 use Rattle.gh_credit.specs.Earning.{handed_by}
+use Rattle.gh_mutator.specs.Writing.{IsAssisting}
 use Rattle.gh_sweep.specs.declared.sweep.SweepStage.TheVariants as sweep_stage
 use Rattle.gh_sweep.specs.Listing as sweep
 use Rattle.gh_worker.specs.Writing as work
-use Rattle.gh_world.specs.Credit.{lapsed_by, spent_by}
+use Rattle.gh_world.specs.Credit.{lapsed_by}
 use Rattle.gh_world.proofs.Vocabulary.{Add, And, Ask, asks_at, Cell, Check, Close, CloseStage, Coordinating, CoordStage, Count, CountStage, Done, effect, IsWritten, LoadAck, LoadWant, Load, MarkOn, Open, OpenStage, Or, Processor, put, Stop, StopAgain, StopStage, Store, Swap, Sweep, SweepAllStage, SweepStage, Tell, TellStage, Watch, WatchStage, Words, WritesItsOwn, WritesOf}
 
 abbrev pub IsOther : Cell → Type 0
@@ -39,7 +42,7 @@ IsBeside (Swap c old new) = IsOther c
 pub record LeavesBank (q : Ask) : Type 0 where
   pub bank : (w : Words) → effect w q cell.Bank ≡ w cell.Bank
   pub earns : handed_by q ≡ 0
-  pub spends : (found : ℕ) → spent_by q found ≡ 0
+  pub spends : (found : ℕ) → drawn_by q found ≡ 0
   pub lapses : (found : ℕ) → lapsed_by q found ≡ 0
 
 puts : (c : Cell) → IsOther c → (w : Words) (x : ℕ) → put w c x cell.Bank ≡ w cell.Bank
@@ -54,7 +57,7 @@ stores : (c : Cell) (value found : ℕ) → IsOther c → lapsed_by (Store c val
 stores cell.Bank value found is = absurd is
 stores _ value found is = refl
 
-swaps : (c : Cell) (old new found : ℕ) → IsOther c → spent_by (Swap c old new) found ≡ 0
+swaps : (c : Cell) (old new found : ℕ) → IsOther c → drawn_by (Swap c old new) found ≡ 0
 swaps cell.Bank old new found is = absurd is
 swaps _ old new found is = refl
 
@@ -70,19 +73,34 @@ leaves_bank (And c bits) is = record { bank = λ w. puts c is w _; earns = refl;
 leaves_bank (Add c more) is = record { bank = λ w. puts c is w _; earns = adds c more is; spends = λ found. refl; lapses = λ found. refl }
 leaves_bank (Swap c old new) is = record { bank = λ w. swapped c old new is w _ refl; earns = refl; spends = λ found. swaps c old new found is; lapses = λ found. refl }
 
--- A processor's step.
+-- By a swap on the bank that takes words out of it, what it is less by is drawn.
+pub draws_bank : (w : Words) (old new : ℕ) → new ≤ old → effect w (Swap cell.Bank old new) cell.Bank + drawn_by (Swap cell.Bank old new) (w cell.Bank) ≡ w cell.Bank
+draws_bank w old new le = go (w cell.Bank == old) refl where
+  go : (b : Bool) → (w cell.Bank == old) ≡ b → effect w (Swap cell.Bank old new) cell.Bank + drawn_by (Swap cell.Bank old new) (w cell.Bank) ≡ w cell.Bank
+  go true e = rw e (let is : w cell.Bank ≡ old = grind (arith, nat_tests, e) in omega (arith, is, le))
+  go false e = rw e (omega arith)
 
-not_bank : (m : Processor) (c : Cell) → IsWritten m c → IsOther c
-not_bank m cell.Bank is = absurd is
-not_bank m _ is = tt
+-- A processor's step: it is beside, or a swap on the bank by which it takes words out, while it assists.
 
-pub processor_beside : (m : Processor) (q : Ask) → WritesOf (IsWritten m) q → IsBeside q
-processor_beside m (Load c) is = tt
-processor_beside m (Store c value) is = not_bank m c is
-processor_beside m (Or c bits) is = not_bank m c is
-processor_beside m (And c bits) is = not_bank m c is
-processor_beside m (Add c more) is = not_bank m c is
-processor_beside m (Swap c old new) is = not_bank m c is
+pub record DrawsOnBank (m : Processor) (q : Ask) : Type 0 where
+  pub old : ℕ
+  pub new : ℕ
+  pub is : q ≡ Swap cell.Bank old new
+  pub falls : new ≤ old
+  pub assists : IsAssisting m.task
+
+not_bank : (c : Cell) → c ≢ cell.Bank → IsOther c
+not_bank cell.Bank apart = absurd (apart refl)
+not_bank _ apart = tt
+
+pub processor_beside : (m : Processor) (q : Ask) → WritesOf (IsWritten m) q → LeavesOrDraws q → IsBeside q ⊎ DrawsOnBank m q
+processor_beside m (Load c) is draws = inl tt
+processor_beside m (Store c value) is draws = inl (not_bank c draws)
+processor_beside m (Or c bits) is draws = inl (not_bank c draws)
+processor_beside m (And c bits) is draws = inl (not_bank c draws)
+processor_beside m (Add c more) is draws = inl (not_bank c draws)
+processor_beside m (Swap cell.Bank old new) is draws = inr (record { old = old; new = new; is = refl; falls = draws; assists = is.0 })
+processor_beside m (Swap _ old new) is draws = inl tt
 
 -- A step of a sweep.
 pub sweep_beside : (v : sweep.Sweeping) (p : SweepStage) → IsBeside (sweep.asks_at v p)

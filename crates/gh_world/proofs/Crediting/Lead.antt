@@ -148,7 +148,7 @@ pub asks_clearing : (c : Coordinating) (p : CoordStage) → IsClearing p → coo
 asks_clearing c (Close y) is = ap (close.asks_at y) is
 asks_clearing c _ is = absurd is
 
--- Where a cycle is marked and the world runs, the bank may take more.
+-- Where a cycle is marked and the world runs, the bank may change.
 
 runs_close : (y : close.Closing) (p : CloseStage) → close.is_marking p ≡ true → ((phase : RunPhase) → leading.close_post p ≡ Stopped phase → ⊥) → ⊥
 runs_close y close_stage.StorePhase on runs = absurd (cc)

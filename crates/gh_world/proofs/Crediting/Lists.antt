@@ -1,23 +1,31 @@
--- Credit balances after every legal list: by each step what is earned, what has lapsed and what is in the bank change together, and so do what a worker has scanned and what it has still to hand over.
-use Rattle.std.proofs.Common.{◌≡◌, ◌≢◌, inl, inr, ℕ, ◌+◌, ◌^◌, ◌<◌, ◌≤◌, ◌==◌, Bool, true, false, cond, ltb, refl, sym, ap, subst, ◌∙◌, arith, List, [], ◌∷◌, None}
+-- Credit balances after every legal list: by each step what is earned, what is spent, what has lapsed and what is in the bank change together; so do what is spent and what a processor has drawn; and so do what a worker has scanned and what it has still to hand over.
+use Rattle.std.proofs.Common.{◌≡◌, ◌≢◌, inl, inr, ℕ, ◌+◌, ◌^◌, ◌<◌, ◌≤◌, ◌==◌, Bool, true, false, cond, ltb, refl, sym, ap, subst, ◌∙◌, arith, List, [], ◌∷◌, Option, Some, None}
 use Rattle.gh_base.specs.declared.cell.Cell.TheVariants as cell
 use Rattle.gh_coord.specs.Handshake as leading
 use Rattle.gh_coord.specs.Listing as coord
+use Rattle.gh_credit.specs.Drawing.{drawn_by}
 use Rattle.gh_credit.specs.Earning.{handed_by}
 use Rattle.gh_mutator.specs.Listing.{takes}
+use Rattle.gh_mutator.specs.ProcessorPlaces.{party_of}
+use Rattle.gh_mutator.specs.Spending.{ProcessorsSpend, spent_of}
+use Rattle.gh_mutator.specs.Writing.{IsAssisting}
+use Rattle.gh_phase.specs.declared.view.RunPhase.TheVariants.{Mark}
+use Rattle.gh_phase.specs.declared.view.View.{View}
 use Rattle.gh_sweep.specs.Listing as sweep
 use Rattle.gh_worker.specs.Earning.{WorkersEarn}
 use Rattle.gh_worker.specs.Listing as worker
 use Rattle.gh_worker.specs.Works.{words_done}
 use Rattle.gh_worker.specs.Writing.{AcksAlone, CalmWorkersMarkNothing, IsCalm}
 use Rattle.gh_world.specs.declared.handshake.Actor.TheVariants as actor
-use Rattle.gh_world.specs.Credit.{at, CreditStands, earned_in, IsSettled, lapsed_by, lapsed_in, left_among, left_at, spent_by, spent_in}
+use Rattle.gh_world.specs.Credit.{at, CreditStands, earned_in, IsSettled, lapsed_by, lapsed_in, left_among, left_at, spent_among, spent_at, spent_in}
+use Rattle.gh_world.specs.Handshake.{is_busy}
 use Rattle.gh_world.specs.Phases.{IsStopped, PhasesStand}
 use Rattle.gh_world.specs.Scanned.{done_by, scanned_in}
 use Rattle.gh_world.specs.Waits.{WorkersRest}
-use Rattle.gh_world.proofs.Vocabulary.{acks_of, Actor, Add, Ask, cell_of, Coordinating, effect, Entry, KeepsIt, Layout, Legal, Load, nat_tests, Op, Pacing, Processor, processor_kind, ProcessorWritesItsOwn, seats_of, Shape, started, Store, those, words, WorkersWriteTheirOwn, Working}
+use Rattle.gh_world.proofs.Vocabulary.{acks_of, Actor, Add, Ask, asks, Begins, cell_of, Coordinating, effect, Entry, KeepsIt, Layout, Legal, Load, nat_tests, Op, Pacing, Processor, processor_kind, ProcessorWritesItsOwn, seats_of, Shape, started, Store, Swap, those, words, WorkersWriteTheirOwn, Working}
 use Rattle.gh_world.proofs.AllActors.WorkersSweep.{asks_by_sweep}
-use Rattle.gh_world.proofs.Crediting.Bank.{IsBeside, IsClearing, lead_beside, leaves_bank, LeavesBank, processor_beside, sweep_beside, worker_beside}
+use Rattle.gh_world.proofs.Crediting.Assisting.{assisting_knows, begun_without, marks_phase}
+use Rattle.gh_world.proofs.Crediting.Bank.{draws_bank, DrawsOnBank, IsBeside, IsClearing, lead_beside, leaves_bank, LeavesBank, processor_beside, sweep_beside, worker_beside}
 use Rattle.gh_world.proofs.Crediting.Lead.{asks_clearing, KnowsBank, lead_clears, lead_goes, may_add, off_marks}
 use Rattle.gh_world.proofs.CycleMarking.Seats.{other}
 use Rattle.gh_world.proofs.CycleNumbers.Leaving.{marks_or_not}
@@ -25,7 +33,7 @@ use Rattle.gh_world.proofs.CycleNumbers.Seats as seats
 use Rattle.gh_world.proofs.CycleNumbers.Sums.{total_at, total_has, total_none, total_same}
 
 module _ (shapes : List Shape) (l : Layout) (pacing : Pacing) (may : ℕ → List (Entry Op) → Op → Bool)
-    (writes : ProcessorWritesItsOwn) (works : WorkersWriteTheirOwn) (calm : CalmWorkersMarkNothing) (earns : WorkersEarn)
+    (writes : ProcessorWritesItsOwn) (works : WorkersWriteTheirOwn) (calm : CalmWorkersMarkNothing) (earns : WorkersEarn) (spend : ProcessorsSpend)
     (keeps : (es : List (Entry Op)) → Legal (those shapes l pacing may) es → KeepsIt (those shapes l pacing may) es)
     (rests : (es : List (Entry Op)) → Legal (those shapes l pacing may) es → WorkersRest (those shapes l pacing may) es)
     (phases : (es : List (Entry Op)) → Legal (those shapes l pacing may) es → PhasesStand shapes l pacing may es)
@@ -40,8 +48,8 @@ module _ (shapes : List Shape) (l : Layout) (pacing : Pacing) (may : ℕ → Lis
   bank es = words shapes l pacing may es cell.Bank
 
   record Balanced (es : List (Entry Op)) (c : Coordinating) : Type 0 where
-    earned : earned_in es ≡ lapsed_in es + bank es
-    unspent : spent_in es ≡ 0
+    earned : earned_in es ≡ spent_in es + lapsed_in es + bank es
+    drawn : spent_in es ≡ spent_among (who es) (seats_of l)
     knows : KnowsBank (lapsed_in es) (bank es) c.lapsed c.stage
     scanned : scanned_in shapes l pacing es ≡ earned_in es + left_among (who es) (seats_of l)
     each : (a : ℕ) (w : Working) → who es a ≡ actor.Marks w → w.earned ≤ earned_in es
@@ -58,6 +66,13 @@ module _ (shapes : List Shape) (l : Layout) (pacing : Pacing) (may : ℕ → Lis
     go false true = refl
     go false false = refl
 
+  first_spent : (a : ℕ) → spent_at (who [] a) ≡ 0
+  first_spent a = go (ltb a l.procs) (ltb a n) where
+    go : (b d : Bool) → spent_at (cond b (actor.Runs ((processor_kind shapes l).start a)) (cond d (actor.Marks (worker.opening l a)) (actor.Leads (coord.opening l a pacing.gogc pacing.minheap pacing.room)))) ≡ 0
+    go true d = spend.at_first l a
+    go false true = refl
+    go false false = refl
+
   first_earned : (a : ℕ) (w : Working) → who [] a ≡ actor.Marks w → w.earned ≤ 0
   first_earned a w is = go (ltb a l.procs) (ltb a n) is where
     go : (b d : Bool) → cond b (actor.Runs ((processor_kind shapes l).start a)) (cond d (actor.Marks (worker.opening l a)) (actor.Leads (coord.opening l a pacing.gogc pacing.minheap pacing.room))) ≡ actor.Marks w → w.earned ≤ 0
@@ -70,7 +85,7 @@ module _ (shapes : List Shape) (l : Layout) (pacing : Pacing) (may : ℕ → Lis
       let it = seats.first_lead shapes l pacing may c led in
       record {
         earned = refl;
-        unspent = refl;
+        drawn = let none = total_none (λ a. spent_at (who [] a)) (seats_of l) (λ a lt. first_spent a) in omega (arith, none);
         knows = subst (λ (x : Coordinating). KnowsBank 0 0 x.lapsed x.stage) (sym it) (record { knows = refl; empty = λ no. refl });
         scanned = let none = total_none (λ a. left_at (who [] a)) (seats_of l) (λ a lt. first_left a) in omega (arith, none);
         each = first_earned;
@@ -101,8 +116,18 @@ module _ (shapes : List Shape) (l : Layout) (pacing : Pacing) (may : ℕ → Lis
       go true y = absurd (ne (let s = y in grind (arith, nat_tests)))
       go false y = y
 
+    seat_of_it : e.actor < seats_of l
+    seat_of_it = legal.1.actor
+
+    -- where the actor's count goes up by what is drawn
+    drawn_then : (c : Coordinating) → Balanced es c → spent_at (who (e ∷ es) e.actor) ≡ spent_at (who es e.actor) + drawn_by e.ask e.found → spent_in (e ∷ es) ≡ spent_among (who (e ∷ es)) (seats_of l)
+    drawn_then c b counts =
+        let one = total_at (λ a. spent_at (who es a)) (λ a. spent_at (who (e ∷ es) a)) (seats_of l) e.actor seat_of_it (λ a lt ne. ap spent_at (others a ne)) in
+        let d = b.drawn in
+        omega (arith, one, d, counts)
+
     -- who steps without being a worker has nothing left, and has scanned nothing
-    module _ (x y : Actor) (is : who es e.actor ≡ x) (then : who (e ∷ es) e.actor ≡ y) (none : left_at x ≡ 0) (none_then : left_at y ≡ 0) (done : done_by x e.found ≡ 0) (not_marks : (w : Working) → y ≡ actor.Marks w → ⊥) (s : Stays) (b : (c : Coordinating) → who es n ≡ actor.Leads c → Balanced es c) where
+    module _ (x y : Actor) (is : who es e.actor ≡ x) (then : who (e ∷ es) e.actor ≡ y) (none : left_at x ≡ 0) (none_then : left_at y ≡ 0) (done : done_by x e.found ≡ 0) (not_marks : (w : Working) → y ≡ actor.Marks w → ⊥) (counts : spent_at y ≡ spent_at x + drawn_by e.ask e.found) (earned_same : earned_in (e ∷ es) ≡ earned_in es) (b : (c : Coordinating) → who es n ≡ actor.Leads c → Balanced es c) where
       left_same : left_among (who (e ∷ es)) (seats_of l) ≡ left_among (who es) (seats_of l)
       left_same = total_same (λ a. left_at (who es a)) (λ a. left_at (who (e ∷ es) a)) (seats_of l) (λ a lt. go a (e.actor == a) refl) where
         go : (a : ℕ) (t : Bool) → (e.actor == a) ≡ t → left_at (who (e ∷ es) a) ≡ left_at (who es a)
@@ -120,34 +145,118 @@ module _ (shapes : List Shape) (l : Layout) (pacing : Pacing) (may : ℕ → Lis
       each_then c led a w at_a = go (e.actor == a) refl where
         go : (t : Bool) → (e.actor == a) ≡ t → w.earned ≤ earned_in (e ∷ es)
         go true e_is = absurd (not_marks w (sym then ∙ ap (who (e ∷ es)) (let q = e_is in grind (arith, nat_tests)) ∙ at_a))
-        go false e_is = let le = (b c led).each a w (sym (other shapes l pacing e es a e_is) ∙ at_a) in let same = s.earned in omega (arith, le, same)
+        go false e_is = let le = (b c led).each a w (sym (other shapes l pacing e es a e_is) ∙ at_a) in let same = earned_same in omega (arith, le, same)
 
-      beside : (c d : Coordinating) → who es n ≡ actor.Leads c → KnowsBank (lapsed_in (e ∷ es)) (bank (e ∷ es)) d.lapsed d.stage → Balanced (e ∷ es) d
-      beside c d led k =
+      -- what is spent, what lapses and what is in the bank change together
+      balances : (c d : Coordinating) → who es n ≡ actor.Leads c → spent_in (e ∷ es) + lapsed_in (e ∷ es) + bank (e ∷ es) ≡ spent_in es + lapsed_in es + bank es → KnowsBank (lapsed_in (e ∷ es)) (bank (e ∷ es)) d.lapsed d.stage → Balanced (e ∷ es) d
+      balances c d led all k =
           let w = b c led in
           let a = w.earned in
-          let a1 = s.earned in
-          let a2 = s.lapsed in
-          let a3 = s.bank_is in
-          let u = w.unspent in
-          let u1 = s.spent in
+          let a1 = earned_same in
           let g = w.scanned in
           let g1 = scanned_same in
           let g2 = left_same in
+          let now : spent_at (who (e ∷ es) e.actor) ≡ spent_at (who es e.actor) + drawn_by e.ask e.found = ap spent_at then ∙ counts ∙ ap (λ (z : Actor). spent_at z + drawn_by e.ask e.found) (sym is) in
           record {
-            earned = omega (arith, a, a1, a2, a3);
-            unspent = u1 ∙ u;
+            earned = omega (arith, a, a1, all);
+            drawn = drawn_then c w now;
             knows = k;
             scanned = omega (arith, g, g1, g2, a1);
             each = each_then c led;
           }
 
-    by_processor : (m : Processor) → seats.RunsIt shapes l pacing may e es m → who (e ∷ es) n ≡ who es n → Balance (e ∷ es)
-    by_processor m x same c led =
-        let led_was : who es n ≡ actor.Leads c = sym same ∙ led in
-        let q = processor_beside (started (processor_kind shapes l) e.begun m) _ (writes.writes (started (processor_kind shapes l) e.begun m) x.sound_then) in
-        let s = stays_by _ x.asked q in
-        beside (actor.Runs m) (actor.Runs (takes shapes (started (processor_kind shapes l) e.begun m) e.found)) x.is x.then refl refl refl (λ w is. cc) s was c c led_was (known s c (was c led_was).knows)
+    all_same : Stays → spent_in (e ∷ es) + lapsed_in (e ∷ es) + bank (e ∷ es) ≡ spent_in es + lapsed_in es + bank es
+    all_same s = let a = s.spent in let b = s.lapsed in let d = s.bank_is in omega (arith, a, b, d)
+
+    -- nothing is drawn where what is spent stays
+    none_drawn : Stays → drawn_by e.ask e.found ≡ 0
+    none_drawn s = let a = s.spent in omega (arith, a)
+
+    -- a processor's step
+
+    module _ (m : Processor) (x : seats.RunsIt shapes l pacing may e es m) (c : Coordinating) (led : who es n ≡ actor.Leads c) where
+      pb : Balanced es c
+      pb = was c led
+
+      -- the processor with what it begins, if it begins an operation
+      abbrev begun : Processor
+      begun = started (processor_kind shapes l) e.begun m
+
+      abbrev MayBegin : Option Op → Type 0
+      MayBegin o = Begins (those shapes l pacing may) e.actor es o
+
+      begins_so : (o : Option Op) → MayBegin o → spent_of (started (processor_kind shapes l) o m) ≡ spent_of m
+      begins_so None may_it = refl
+      begins_so (Some o) may_it = spend.begins shapes l m o (sym (ap is_busy x.is) ∙ may_it.0)
+
+      begun_spent : spent_of begun ≡ spent_of m
+      begun_spent = begins_so e.begun legal.1.begins
+
+      -- no count leaves its type
+      spent_few : spent_of m ≤ spent_in es
+      spent_few =
+          let le : spent_of m ≤ spent_among (who es) (seats_of l) = subst (λ (z : Actor). spent_at z ≤ spent_among (who es) (seats_of l)) x.is (total_has (λ a. spent_at (who es a)) (seats_of l) e.actor seat_of_it) in
+          let d = pb.drawn in
+          omega (arith, le, d)
+
+      found_is : (q : Ask) → e.ask ≡ q → e.found ≡ words shapes l pacing may es (cell_of q)
+      found_is q is = legal.1.found ∙ ap (λ (z : Ask). words shapes l pacing may es (cell_of z)) is
+
+      count : drawn_by e.ask e.found ≤ bank es → spent_of (takes shapes begun e.found) ≡ spent_of m + drawn_by e.ask e.found
+      count most =
+          let same : drawn_by e.ask e.found ≡ drawn_by (asks begun) e.found = ap (λ (q : Ask). drawn_by q e.found) x.asked in
+          let a = pb.earned in
+          let b = pb.scanned in
+          let f = few es legal.0 in
+          let le = spent_few in
+          let first = begun_spent in
+          let then = spend.spends shapes begun e.found x.sound_then x.busy (omega (arith, same, a, b, f, le, first, most)) in
+          omega (arith, same, then, first)
+
+      runs_beside : IsBeside (asks begun) → Balanced (e ∷ es) c
+      runs_beside q =
+          let s = stays_by _ x.asked q in
+          let none = none_drawn s in
+          balances (actor.Runs m) (actor.Runs (takes shapes begun e.found)) x.is x.then refl refl refl (λ w is. cc) (count (omega (arith, none))) s.earned was c c led (all_same s) (known s c pb.knows)
+
+      -- A draw: it assists, so the coordinator marks a cycle, and the world is not stopped.
+      module _ (d : DrawsOnBank begun (asks begun)) where
+        draw_is : e.ask ≡ Swap cell.Bank d.old d.new
+        draw_is = x.asked ∙ d.is
+
+        assists_before : (o : Option Op) → MayBegin o → IsAssisting (started (processor_kind shapes l) o m).task → IsAssisting m.task
+        assists_before None may_it a = a
+        assists_before (Some o) may_it a = absurd (begun_without shapes l m o (sym (ap is_busy x.is) ∙ may_it.0) a)
+
+        assists : IsAssisting m.task
+        assists = assists_before e.begun legal.1.begins d.assists
+
+        runs_on : IsStopped c → ⊥
+        runs_on stopped = let no : Swap cell.Bank d.old d.new ≡ Load cell.Phase = sym draw_is ∙ ((phases (e ∷ es) legal).still e es c (inl refl) led stopped (let lt = x.seat in λ end. omega (arith, lt, end))).asks in cc
+
+        marks_on : leading.Marks c.stage
+        marks_on =
+            let knows = assisting_knows m.poll m.task assists in
+            let seat : e.actor < n = let lt = x.seat in omega (arith, lt) in
+            let marked : (party_of m).view.phase ≡ Mark = ap (λ (v : View). v.phase) knows.1 ∙ marks_phase m.poll.local.view.phase (spend.marking m x.sound_it assists) in
+            ((keeps es legal.0).processors_mark c e.actor m led seat x.is knows.0).0 marked
+
+        draws_on : Balanced (e ∷ es) c
+        draws_on =
+            let there : e.found ≡ bank es = found_is (Swap cell.Bank d.old d.new) draw_is in
+            let drawn_is : drawn_by e.ask e.found ≡ drawn_by (Swap cell.Bank d.old d.new) (bank es) = ap (λ (q : Ask). drawn_by q e.found) draw_is ∙ ap (drawn_by (Swap cell.Bank d.old d.new)) there in
+            let bank_is : bank (e ∷ es) ≡ effect (words shapes l pacing may es) (Swap cell.Bank d.old d.new) cell.Bank = ap (λ (q : Ask). effect (words shapes l pacing may es) q cell.Bank) draw_is in
+            let falls = draws_bank (words shapes l pacing may es) d.old d.new d.falls in
+            let handed_none : handed_by e.ask ≡ 0 = ap handed_by draw_is in
+            let lapsed_none : lapsed_by e.ask e.found ≡ 0 = ap (λ (q : Ask). lapsed_by q e.found) draw_is in
+            let lapsed_same : lapsed_in (e ∷ es) ≡ lapsed_in es = omega (arith, lapsed_none) in
+            let k = may_add c.stage marks_on (λ phase stopped. runs_on (phase, stopped)) (lapsed_in es) (bank es) (bank (e ∷ es)) c.lapsed pb.knows in
+            balances (actor.Runs m) (actor.Runs (takes shapes begun e.found)) x.is x.then refl refl refl (λ w is. cc) (count (omega (arith, drawn_is, falls))) (omega (arith, handed_none)) was c c led
+            (omega (arith, drawn_is, bank_is, falls, lapsed_same))
+            (subst (λ (i : ℕ). KnowsBank i (bank (e ∷ es)) c.lapsed c.stage) (sym lapsed_same) k)
+
+      runs_through : Balanced (e ∷ es) c
+      runs_through = elim (processor_beside begun (asks begun) (writes.writes begun x.sound_then) (spend.draws begun x.sound_then x.busy)) [ inl q ↦ runs_beside q | inr d ↦ draws_on d ]
 
     -- the coordinator's step
 
@@ -174,7 +283,7 @@ module _ (shapes : List Shape) (l : Layout) (pacing : Pacing) (may : ℕ → Lis
           let finds : coord.asks c ≡ Load cell.Bank → e.found ≡ bank es = λ is. x.found ∙ ap (λ (q : Ask). words shapes l pacing may es (cell_of q)) is in
           let not_clearing : IsClearing c.stage → ⊥ = λ z. subst IsBeside (asks_clearing c c.stage z) y in
           let k = lead_goes c (lapsed_in es) (bank es) e.found fits finds not_clearing x.busy b.knows in
-          beside (actor.Leads c) (actor.Leads (coord.goes c e.found)) was_at now_at refl refl refl (λ w is. cc) s was c (coord.goes c e.found) x.is (known s (coord.goes c e.found) k)
+          balances (actor.Leads c) (actor.Leads (coord.goes c e.found)) was_at now_at refl refl refl (λ w is. cc) (let none = none_drawn s in omega (arith, none)) s.earned was c (coord.goes c e.found) x.is (all_same s) (known s (coord.goes c e.found) k)
 
       clearing : IsClearing c.stage → Balanced (e ∷ es) (coord.goes c e.found)
       clearing y =
@@ -184,15 +293,15 @@ module _ (shapes : List Shape) (l : Layout) (pacing : Pacing) (may : ℕ → Lis
           let lapsed_now : lapsed_by e.ask e.found ≡ bank es = ap (λ (q : Ask). lapsed_by q e.found) asks_is ∙ found_is in
           let bank_now : bank (e ∷ es) ≡ 0 = ap (λ (q : Ask). effect (words shapes l pacing may es) q cell.Bank) asks_is in
           let earned_now : handed_by e.ask ≡ 0 = ap handed_by asks_is in
-          let spent_now : spent_by e.ask e.found ≡ 0 = ap (λ (q : Ask). spent_by q e.found) asks_is in
+          let spent_now : drawn_by e.ask e.found ≡ 0 = ap (λ (q : Ask). drawn_by q e.found) asks_is in
           let a = b.earned in
-          let u = b.unspent in
+          let drawn_none : spent_at (who (e ∷ es) e.actor) ≡ spent_at (who es e.actor) + drawn_by e.ask e.found = ap spent_at now_at ∙ sym (ap (λ (i : ℕ). 0 + i) spent_now) ∙ ap (λ (z : Actor). spent_at z + drawn_by e.ask e.found) (sym was_at) in
           let g = b.scanned in
           let left = total_same (λ i. left_at (who es i)) (λ i. left_at (who (e ∷ es) i)) (seats_of l) (λ i lt. left_by i (e.actor == i) refl) in
           let done : done_by (who es e.actor) e.found ≡ 0 = ap (λ (z : Actor). done_by z e.found) was_at in
           record {
-            earned = omega (arith, a, lapsed_now, bank_now, earned_now);
-            unspent = omega (arith, u, spent_now);
+            earned = omega (arith, a, spent_now, lapsed_now, bank_now, earned_now);
+            drawn = drawn_then c b drawn_none;
             knows = subst (λ (i : ℕ). KnowsBank i (bank (e ∷ es)) (coord.goes c e.found).lapsed (coord.goes c e.found).stage) (ap (λ (i : ℕ). lapsed_in es + i) (sym lapsed_now)) (subst (λ (i : ℕ). KnowsBank (lapsed_in es + bank es) i (coord.goes c e.found).lapsed (coord.goes c e.found).stage) (sym bank_now) k);
             scanned = omega (arith, g, left, done, earned_now);
             each = λ i w at_i. each_by i w at_i (e.actor == i) refl;
@@ -214,14 +323,11 @@ module _ (shapes : List Shape) (l : Layout) (pacing : Pacing) (may : ℕ → Lis
       wb : Balanced es c
       wb = was c led
 
-      seat_in : e.actor < seats_of l
-      seat_in = let lt = x.seat in omega (arith, lt)
-
       scanned_now : scanned_in shapes l pacing (e ∷ es) ≡ scanned_in shapes l pacing es + words_done w.stage e.found
       scanned_now = ap (λ (z : Actor). scanned_in shapes l pacing es + done_by z e.found) x.is
 
       left_was : w.scan_work ≤ left_among (who es) (seats_of l)
-      left_was = subst (λ (z : Actor). left_at z ≤ left_among (who es) (seats_of l)) x.is (total_has (λ a. left_at (who es a)) (seats_of l) e.actor seat_in)
+      left_was = subst (λ (z : Actor). left_at z ≤ left_among (who es) (seats_of l)) x.is (total_has (λ a. left_at (who es a)) (seats_of l) e.actor seat_of_it)
 
       earned_was : w.earned ≤ earned_in es
       earned_was = wb.each e.actor w x.is
@@ -231,10 +337,14 @@ module _ (shapes : List Shape) (l : Layout) (pacing : Pacing) (may : ℕ → Lis
 
       left_now : left_among (who (e ∷ es)) (seats_of l) + w.scan_work ≡ left_among (who es) (seats_of l) + (worker.goes w e.found).scan_work
       left_now =
-          let one = total_at (λ a. left_at (who es a)) (λ a. left_at (who (e ∷ es) a)) (seats_of l) e.actor seat_in (λ a lt ne. ap left_at (others a ne)) in
+          let one = total_at (λ a. left_at (who es a)) (λ a. left_at (who (e ∷ es) a)) (seats_of l) e.actor seat_of_it (λ a lt ne. ap left_at (others a ne)) in
           let two : left_at (who es e.actor) ≡ w.scan_work = ap left_at x.is in
           let three : left_at (who (e ∷ es) e.actor) ≡ (worker.goes w e.found).scan_work = ap left_at x.then in
           omega (arith, one, two, three)
+
+      -- it draws nothing
+      drawn_same : drawn_by e.ask e.found ≡ 0 → spent_in (e ∷ es) ≡ spent_among (who (e ∷ es)) (seats_of l)
+      drawn_same none = drawn_then c wb (ap spent_at x.then ∙ sym (ap (λ (i : ℕ). 0 + i) none) ∙ ap (λ (z : Actor). spent_at z + drawn_by e.ask e.found) (sym x.is))
 
       handed : handed_by e.ask ≡ handed_by (worker.asks w)
       handed = ap handed_by x.asked
@@ -275,11 +385,10 @@ module _ (shapes : List Shape) (l : Layout) (pacing : Pacing) (may : ℕ → Lis
           let s = stays_by q (x.asked ∙ is) y in
           let a = wb.earned in
           let a1 = s.earned in
-          let a2 = s.lapsed in
-          let a3 = s.bank_is in
+          let all = all_same s in
           record {
-            earned = omega (arith, a, a1, a2, a3);
-            unspent = s.spent ∙ wb.unspent;
+            earned = omega (arith, a, a1, all);
+            drawn = drawn_same (none_drawn s);
             knows = known s c wb.knows;
             scanned = scanned_then;
             each = λ i v at_i. each_worker i v at_i earned_was;
@@ -303,17 +412,16 @@ module _ (shapes : List Shape) (l : Layout) (pacing : Pacing) (may : ℕ → Lis
         hands_over =
             let k = may_add c.stage marks (λ phase stopped. runs (phase, stopped)) in
             let a = wb.earned in
-            let u = wb.unspent in
             let now : handed_by e.ask ≡ more = ap handed_by ask_is in
             let f = few (e ∷ es) legal in
             let g = scanned_then in
             let bank_now : bank (e ∷ es) ≡ bank es + more = ap (λ (q : Ask). effect (words shapes l pacing may es) q cell.Bank) ask_is ∙ omega (arith, a, now, f, g) in
             let lapsed_now : lapsed_by e.ask e.found ≡ 0 = ap (λ (q : Ask). lapsed_by q e.found) ask_is in
-            let spent_now : spent_by e.ask e.found ≡ 0 = ap (λ (q : Ask). spent_by q e.found) ask_is in
+            let spent_now : drawn_by e.ask e.found ≡ 0 = ap (λ (q : Ask). drawn_by q e.found) ask_is in
             let lapsed_same : lapsed_in (e ∷ es) ≡ lapsed_in es = omega (arith, lapsed_now) in
             record {
-              earned = omega (arith, a, now, bank_now, lapsed_now);
-              unspent = omega (arith, u, spent_now);
+              earned = omega (arith, a, now, bank_now, lapsed_now, spent_now);
+              drawn = drawn_same spent_now;
               knows = subst (λ (i : ℕ). KnowsBank i (bank (e ∷ es)) c.lapsed c.stage) (sym lapsed_same) (k (lapsed_in es) (bank es) (bank (e ∷ es)) c.lapsed wb.knows);
               scanned = scanned_then;
               each = λ i v at_i. each_worker i v at_i earned_was;
@@ -329,7 +437,7 @@ module _ (shapes : List Shape) (l : Layout) (pacing : Pacing) (may : ℕ → Lis
       ]
 
     by_step : seats.Step shapes l pacing may e es → Balance (e ∷ es)
-    by_step (seats.by_processor m x same) = by_processor m x same
+    by_step (seats.by_processor m x same) = λ c led. runs_through m x c (sym same ∙ led)
     by_step (seats.by_worker w x same) = λ c led. works_on w x c (sym same ∙ led)
     by_step (seats.by_lead c x) = by_lead c x
 
@@ -356,12 +464,10 @@ module _ (shapes : List Shape) (l : Layout) (pacing : Pacing) (may : ℕ → Lis
   stands es legal =
       let led = seats.led_by shapes l pacing may es in
       let b = balance es legal led.lead led.led_by in
-      let a = b.earned in
-      let u = b.unspent in
       record {
-        balanced = omega (arith, a, u);
+        balanced = b.earned;
         scanned = b.scanned;
         few = few es legal;
-        unspent = b.unspent;
+        drawn = b.drawn;
         settled = λ c is off. settled es legal c is off;
       }

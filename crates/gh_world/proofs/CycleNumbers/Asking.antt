@@ -4,11 +4,13 @@ use Rattle.gh_base.specs.declared.cell.Cell.TheVariants as cell
 use Rattle.gh_base.specs.declared.operation.Op.TheVariants as op
 use Rattle.gh_alloc.specs.Place as place
 use Rattle.gh_alloc.specs.Search as search
+use Rattle.gh_assist.specs.Listing as assist
 use Rattle.gh_mutator.specs.declared.task.Task.TheVariants as task
 use Rattle.gh_mutator.specs.declared.wait.WaitStage.TheVariants as waiting
 use Rattle.gh_mutator.specs.Global as global
 use Rattle.gh_mutator.specs.Leave as leave
 use Rattle.gh_mutator.specs.Load as load
+use Rattle.gh_mutator.specs.Local.{marking_at}
 use Rattle.gh_mutator.specs.New as new
 use Rattle.gh_mutator.specs.Poll as poll
 use Rattle.gh_mutator.specs.Register as register
@@ -16,7 +18,7 @@ use Rattle.gh_mutator.specs.Store as store
 use Rattle.gh_mutator.specs.Wait as wait
 use Rattle.gh_mutator.specs.Writing.{BeginsToWait, BeginsToWaitAt, SawReached, SawReachedAt}
 use Rattle.gh_world.specs.Numbers.{asks_for_one}
-use Rattle.gh_world.proofs.Vocabulary.{after_gc, after_leave, after_poll, Ask, asked_after, asks, At, begins, begins_at, cache_span, Cell, Ends, follows, Found, GoesOn, IsWanting, IsWritten, Leaving, NewStage, NoRoom, Op, Or, Place, Placing, Polling, Processor, register_of, Search, Seeking, Shape, takes, takes_at, Task, Then, Wait, WaitStage, Want, Wanted, WritesOf}
+use Rattle.gh_world.proofs.Vocabulary.{after_assist, after_gc, after_leave, after_poll, Ask, asked_after, asks, Assist, Assisting, assisting, assists, At, begins, begins_at, cache_span, Cell, Ends, follows, Found, GoesOn, IsWanting, IsWritten, Leaving, Name, NewStage, NoRoom, Op, Or, Place, Placing, Polling, Processor, register_of, Search, Seeking, Shape, takes, takes_at, Task, Then, Wait, WaitStage, Want, Wanted, WritesOf}
 
 -- an operation asks for so many cycles at the most
 abbrev pub most_asks : Op → ℕ
@@ -35,6 +37,7 @@ left_new (Search waited q) = cond waited 1 2
 left_new (Wait w) = suc (left_wait w.stage)
 left_new (Place p) = 1
 left_new (Want n) = 1
+left_new (Assist n x) = 0
 
 abbrev left_at : Task → ℕ
 left_at (task.New x) = left_new x.stage
@@ -92,10 +95,18 @@ module _ (shapes : List Shape) (m : Processor) (found : ℕ) where
   gc_asks g x None none = none
   gc_asks g x (Some y) none = refl
 
-  place_asks : (w : Wanted) (p : Placing) (asks : Option Bool) → left_at (new.made_task w p asks) ≤ 1
+  then_asks : (w : Wanted) (n : Name) (marking : Bool) → left_at (cond marking (assists w n (assisting m.poll w)) task.Idle) ≤ 1
+  then_asks w n true = omega arith
+  then_asks w n false = omega arith
+
+  place_asks : (w : Wanted) (p : Placing) (asks : Option Bool) → left_at (new.made_task m.poll w p asks) ≤ 1
   place_asks w p None = omega arith
   place_asks w p (Some true) = omega arith
-  place_asks w p (Some false) = omega arith
+  place_asks w p (Some false) = then_asks w p.name (marking_at m.poll)
+
+  assist_asks : (w : Wanted) (n : Name) (x : Assisting) (o : Option (Unit {0})) → left (after_assist m w n x o) ≡ 0
+  assist_asks w n x None = refl
+  assist_asks w n x (Some y) = refl
 
   poll_asks : (p : Polling) (o : Option (Unit {0})) → left (after_poll m p o) ≡ 0
   poll_asks p None = refl
@@ -113,6 +124,7 @@ module _ (shapes : List Shape) (m : Processor) (found : ℕ) where
   new_adds w (Wait x) = let one = wait_asks w (wait.goes (wait.waiting x m.poll) found) (wait.gives (wait.waiting x m.poll) found) (waits_on (wait.waiting x m.poll) x.stage) in omega (arith, one)
   new_adds w (Place p) = place_asks w (place.goes p found) (place.gives p found)
   new_adds w (Want n) = omega arith
+  new_adds w (Assist n x) = at_most _ 0 (assist_asks w n (assist.goes x found) (assist.gives x found))
 
   adds_nothing : (t : Task) → left (takes_at shapes m t found) ≤ left_at t ⊎ (left (takes_at shapes m t found) ≤ left m)
   adds_nothing task.Idle = inr (omega arith)

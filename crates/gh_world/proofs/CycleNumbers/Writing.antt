@@ -26,7 +26,6 @@ no_number m cell.Gen is = absurd is
 no_number m cell.Begun is = absurd is
 no_number m cell.Swept is = absurd is
 no_number m cell.Want is = inr (refl, is.1)
-no_number m cell.Bank is = absurd is
 no_number m cell.Gcur is = absurd is
 no_number m cell.Trigger is = absurd is
 no_number m cell.Work is = absurd is
@@ -96,6 +95,7 @@ module _ (m : Processor) (g value : ℕ) where
   new_knows (making.Search w q) is = refl
   new_knows (making.Place p) is = refl
   new_knows (making.Want n) is = refl
+  new_knows (making.Assist n x) is = refl
 
   pub knows_at : (t : Task) → Store (cell.Scanned g) value ≡ asks_at m t → (party_at m.poll t).view ≡ m.poll.local.view
   knows_at (task.New x) is = new_knows x.stage is

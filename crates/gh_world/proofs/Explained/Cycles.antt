@@ -7,7 +7,8 @@ use Rattle.gh_base.specs.declared.cell.Cell.TheVariants as cell
 use Rattle.gh_coord.specs.Closing as close
 use Rattle.gh_coord.specs.Listing as coord
 use Rattle.gh_world.specs.declared.handshake.Actor.TheVariants as actor
-use Rattle.gh_world.specs.Vocabulary.{acks_of, Actor, Coordinating, CoordStage, Cycle, Entry, Layout, Legal, Op, Program, started, Words}
+use Rattle.gh_world.specs.Counts.{stored_after, stored_in}
+use Rattle.gh_world.specs.Vocabulary.{acks_of, Actor, Coordinating, CoordStage, Cycle, Entry, Layout, Legal, Op, Program, started, Words, words_after}
 use Rattle.gh_world.specs.RunVocabulary.{actor_after, alloc_words, AllWereCounted, Ask, Cell, Close, cycles_in, Done, effect, ended_by, EndsCycle, generation_of, IsEnding, IsStartOf, LoadAck, mark_words, marked_objects, may_begin_of, opened_in, Outside, pacing_of, Part, part_of, setting_of, swept_cycle, SweptCycle, unmarked_objects, WasCounted, words_in}
 use Rattle.gh_world.proofs.AllActors.Starts.{legal_start}
 use Rattle.gh_world.proofs.CycleNumbers.Frames.{numbers_of}
@@ -66,6 +67,21 @@ pub is_done : (st : CoordStage) → coord.is_done st ≡ true → st ≡ Done
 is_done Done e = refl
 is_done (LoadAck i) e = absurd cc
 is_done _ e = absurd cc
+
+-- as many cycles have ended in a list as it stores the sweep generation
+ended_once : (l : Layout) (w : Words) (ask : Ask) (n : ℕ) → n + length (ended_by l w ask) ≡ stored_after cell.Gen ask n
+ended_once l w (Store c value) n = by_cell c where
+  by_cell : (at : Cell) → n + length (ended_by l w (Store at value)) ≡ stored_after cell.Gen (Store at value) n
+  by_cell cell.Gen = omega arith
+  by_cell _ = omega arith
+ended_once l w _ n = omega arith
+
+pub many_ended : (l : Layout) (opening : Words) (es : List (Entry Op)) → length (cycles_in l opening es) ≡ stored_in cell.Gen es
+many_ended l opening [] = refl
+many_ended l opening (e ∷ es) =
+    let rest = many_ended l opening es in
+    let both = length-append (cycles_in l opening es) (ended_by l (words_after opening es) e.ask) in
+    both ∙ ended_once l (words_after opening es) e.ask (length (cycles_in l opening es)) ∙ ap (stored_after cell.Gen e.ask) rest
 
 module _ (p : Program) (l : Layout) (k : Known p l) where
   abbrev words : List (Entry Op) → Words

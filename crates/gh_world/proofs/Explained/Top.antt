@@ -1,7 +1,8 @@
 -- Whatever the script, and whatever run of it: what it is answered and what its coordinator tells is explained.
-use Rattle.std.proofs.Common.{◌≡◌, ℕ, ◌+◌, ◌^◌, ◌<◌, ◌≤◌, true, List, [], ◌∷◌, length, map, reverse, refl, sym, ap, subst, ◌∙◌, arith, inl, inr}
+use Rattle.std.proofs.Common.{◌≡◌, ℕ, ◌+◌, ◌*◌, ◌%◌, ◌^◌, ◌<◌, ◌≤◌, true, List, [], ◌∷◌, length, map, reverse, refl, sym, ap, subst, ◌∙◌, arith, inl, inr}
 use Rattle.std.specs.List.{filter}
 use Rattle.std.proofs.lemmas.Bool.{cases_lt}
+use Rattle.gh_base.specs.declared.cell.Cell.TheVariants as cell
 use Rattle.gh_coord.specs.declared.coord.CoordStage.{CoordStage}
 use Rattle.gh_coord.specs.declared.coord.CoordStage.TheVariants.{Done}
 use Rattle.gh_coord.specs.Handshake as leading
@@ -10,11 +11,12 @@ use Rattle.gh_coord.specs.Listing.{lapsed_at}
 use Rattle.gh_model.specs.declared.EverValue.TheVariants as values
 use Rattle.gh_world.specs.declared.handshake.Actor.TheVariants as actor
 use Rattle.gh_world.specs.Actors.{Awaits}
-use Rattle.gh_world.specs.Credit.{CreditStands, EveryListBalances, lapsed_in}
+use Rattle.gh_world.specs.Counts.{stored_in}
+use Rattle.gh_world.specs.Credit.{CreditStands, EveryListBalances, lapsed_in, spent_in}
 use Rattle.gh_world.specs.Order.{acted_in, Answered}
-use Rattle.gh_world.specs.Runs.{CreditIsTold}
+use Rattle.gh_world.specs.Runs.{CreditIsTold, spent_after}
 use Rattle.gh_world.specs.Vocabulary.{acts, Coordinating, Entry, Ever, Layout, Legal, Name, Op, opening_ever, processor_kind, Program, Reach, state_of, statements_of, WellFormed}
-use Rattle.gh_world.specs.RunVocabulary.{actor_after, AllStands, answers_given, AreFew, AreLive, arena_of, before_step, count_of, CyclesAreFew, EachOperationActsOnce, ever_after_list, ever_of, EveryListKeepsIt, EveryListOfAScriptStands, EveryRunIsExplained, has_ended, is_statement_of, IsExplained, IsHeld, IsMade, IsRun, IsStartOf, LaysOut, LeavesTheReached, may_begin_of, OnlyPointsChange, op_of, order_of, outcome_by, pacing_of, ProcessorsBeginFew, ProcessorWritesItsOwn, SetBitsAreCounted, setting_of, SlotsAreRead, total_of, wishes_of, WorkersWriteTheirOwn}
+use Rattle.gh_world.specs.RunVocabulary.{actor_after, AllStands, answers_given, AreFew, AreLive, arena_of, before_step, count_of, CyclesAreFew, EachOperationActsOnce, ever_after_list, ever_of, EveryListKeepsIt, EveryListOfAScriptStands, EveryRunIsExplained, has_ended, is_statement_of, IsExplained, IsHeld, IsMade, IsRun, IsStartOf, LaysOut, LeavesTheReached, may_begin_of, OnlyPointsChange, op_of, order_of, outcome_by, pacing_of, ProcessorsBeginFew, ProcessorWritesItsOwn, SetBitsAreCounted, setting_of, SlotsAreRead, total_of, wishes_of, WorkersWriteTheirOwn, swept_cycle}
 use Rattle.gh_world.proofs.Asking.{asked_of}
 use Rattle.gh_world.proofs.EachOnce.{acted_ops, none_beyond}
 use Rattle.gh_world.proofs.OfScripts.{few_in_all, many_wishes, shapes_good}
@@ -23,7 +25,7 @@ use Rattle.gh_world.proofs.Wishing.{filter_few}
 use Rattle.gh_world.proofs.Explained.Acted.{Acted, acted_all, answers_in, ever_is, map-reverse, ops_in}
 use Rattle.gh_world.proofs.Explained.Answers as answers
 use Rattle.gh_world.proofs.Explained.Beyond.{all_leave, held_at_end}
-use Rattle.gh_world.proofs.Explained.Cycles.{cycles_are, is_done}
+use Rattle.gh_world.proofs.Explained.Cycles.{cycles_are, is_done, many_ended}
 use Rattle.gh_world.proofs.Explained.Known.{Known}
 use Rattle.gh_world.proofs.Explained.Last.{some_swept}
 use Rattle.gh_world.proofs.Explained.Made.{grows, made_all}
@@ -139,33 +141,41 @@ module _ (laws : Laws) (p : Program) (l : Layout) (formed : WellFormed p) (out :
         let few = few_of p n.g formed in
         omega (arith, most, same, asks, few, lt)
 
-    lives : AreLive p.shapes (ever_of p.shapes l es) (outcome_by (answers_given p l es) c).objects c.live
-    lives = subst (λ (e : Ever). AreLive p.shapes e (outcome_by (answers_given p l es) c).objects c.live) (same_ever es)
+    lives : AreLive p.shapes (ever_of p.shapes l es) (outcome_by (answers_given p l es) (spent_after p l es) c).objects c.live
+    lives = subst (λ (e : Ever). AreLive p.shapes e (outcome_by (answers_given p l es) (spent_after p l es) c).objects c.live) (same_ever es)
         (are_live laws.classes laws.slots laws.bits p l known every (λ xs legal. (every xs legal).objects.named) made es c run.legal led done (some_swept p l known es c run.legal led (is_done c.stage done)) stands.objects.fits (stands.counts c led) last held (more_made es) few_made)
 
     -- at the end all credit is settled
-    credit : CreditIsTold p l es (outcome_by (answers_given p l es) c)
+    credit : CreditIsTold p l es (outcome_by (answers_given p l es) (spent_after p l es) c)
     credit =
         let b : CreditStands p.shapes l (pacing_of p) (may_begin_of p l) es = laws.balances p.shapes l (pacing_of p) (wishes_of p) es (shapes_good p formed) l.limits (few_in_all p l formed out) run.legal in
         let at_end : c.stage ≡ Done = is_done c.stage done in
         let s = b.settled c led (subst (λ (q : CoordStage). leading.Marks q → ⊥) (sym at_end) (λ x. x)) in
         let lapsed : lapsed_in es ≡ c.lapsed = s.lapsed ∙ ap (lapsed_at c.lapsed) at_end in
         let balanced = b.balanced in
-        let unspent = b.unspent in
+        let drawn : spent_in es ≡ spent_after p l es = b.drawn in
         let empty = s.empty in
         let left = s.none_left in
         let scanned = b.scanned in
         let few = b.few in
+        let counted = stands.globals c led in
+        let parts = counted.parts in
+        let once = counted.once (subst (λ (q : CoordStage). leading.Marks q → ⊥) (sym at_end) (λ x. x)) in
+        let as_many : length (map swept_cycle c.cycles.items) * l.globals ≡ stored_in cell.Gen es * l.globals = ap (λ (n : ℕ). n * l.globals) (ap {B = ℕ} length (cycles_are p l known es c run.legal led done (stands.counts c led)) ∙ many_ended l (setting_of p l).opening es) in
+        -- the sums are far below the end of a word
+        let all : (spent_after p l es + c.lapsed) % 2 ^ 64 ≡ spent_in es + lapsed_in es = omega (arith, lapsed, balanced, drawn, empty, left, scanned, few) in
+        let spent : spent_after p l es % 2 ^ 64 ≡ spent_in es = omega (arith, lapsed, balanced, drawn, empty, left, scanned, few) in
         record {
-          earned = omega (arith, lapsed, balanced, unspent, empty);
-          spent = sym unspent;
+          earned = omega (arith, all, balanced, empty);
+          spent = spent;
           lapsed = sym lapsed;
-          balanced = omega arith;
-          scanned = omega (arith, lapsed, balanced, unspent, empty, left, scanned);
-          few = omega (arith, lapsed, balanced, unspent, empty, left, scanned, few);
+          balanced = omega (arith, all, spent, lapsed);
+          scanned = omega (arith, all, balanced, empty, left, scanned);
+          globals = omega (arith, all, balanced, empty, left, scanned, parts, once, as_many);
+          few = omega (arith, all, balanced, empty, left, scanned, few);
         }
 
-    pub explained : IsExplained p l es (outcome_by (answers_given p l es) c)
+    pub explained : IsExplained p l es (outcome_by (answers_given p l es) (spent_after p l es) c)
     explained = record {
       run = run;
       coordinator = c;

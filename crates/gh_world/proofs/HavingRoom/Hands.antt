@@ -1,5 +1,8 @@
 -- While a cycle is marked each actor has something in hand, or nothing, as its stage says: so it holds one buffer at most.
 use Rattle.std.proofs.Common.{ℕ, Bool, Option}
+use Rattle.gh_assist.specs.declared.assist.AssistStage.{AssistStage}
+use Rattle.gh_assist.specs.declared.assist.AssistStage.TheVariants as assist_stage
+use Rattle.gh_assist.specs.Facts as assisting
 use Rattle.gh_barrier.specs.declared.write_pointer.WriteStage.{WriteStage}
 use Rattle.gh_barrier.specs.declared.write_pointer.WriteStage.TheVariants as write_stage
 use Rattle.gh_barrier.specs.Facts as write
@@ -115,11 +118,17 @@ module _ (z : Cycle) (a : ℕ) (s : Marking) where
   global_has p (global_stage.Writing w) f = write_has w w.stage f.writes.stage_is
   global_has p _ f = by_hand _ f.hands
 
+  assist_has : (held : Option Held) (q : AssistStage) → assisting.StageFacts z a s held q → HasSome
+  assist_has held (assist_stage.Taking t) f = by_hand _ f.hands
+  assist_has held (assist_stage.Scanning m) f = scan_has m m.stage f.1.stage_is
+  assist_has held _ f = by_hand _ f
+
   new_has : (p : Polling) (q : NewStage) → NewFacts z a s p q → HasSome
   new_has p (new_stage.Wait x) f = wait_has p x.stage f
   new_has p (new_stage.Place x) f = by_hand _ f.hands
   new_has p (new_stage.Search waited y) f = by_hand _ f.hands
   new_has p (new_stage.Want n) f = by_hand _ f.hands
+  new_has p (new_stage.Assist n x) f = assist_has x.held x.stage f.assists.stage_is
 
   task_has : (p : Polling) (t : Task) → TaskFacts z a s p t → HasSome
   task_has p task.Poll f = poll_has p f

@@ -41,7 +41,7 @@ module _ (shapes : List Shape) (l : Layout) (pacing : Pacing) (counts : ℕ → 
         subst IsWithin (sym own) (by_rights shapes l pacing counts good known es a o seat step.begins has)
     go (actor.Marks w) is =
         let own = ap (started all o) is ∙ worker_begun o w in
-        subst IsWithin (sym own) (worker_step_within shapes l pacing may es limits a w is)
+        subst IsWithin (sym own) (worker_step_within known.taking shapes l pacing may es limits a w is)
     go (actor.Leads c) is =
         let own = ap (started all o) is ∙ lead_begun o c in
         let high : acks_of l ≤ a = (subst (IsSeated l a) is (seated shapes l pacing es a)).0 in

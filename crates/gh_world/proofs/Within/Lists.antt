@@ -1,5 +1,6 @@
 -- After every list each worker's step is on a word that there is, whatever was found.
 use Rattle.std.proofs.Common.{◌≡◌, ℕ, ◌≤◌, ◌==◌, Bool, true, false, cond, ltb, Option, Some, None, refl, subst, arith, List, [], ◌∷◌}
+use Rattle.gh_assist.specs.Within.{TakingAndScanningAreWithin}
 use Rattle.gh_coord.specs.Listing as coord
 use Rattle.gh_worker.specs.Listing as worker
 use Rattle.gh_world.specs.declared.handshake.Actor.TheVariants as actor
@@ -13,7 +14,7 @@ IsFit (actor.Runs m) = Unit {0}
 IsFit (actor.Marks w) = FitsWhole w
 IsFit (actor.Leads c) = Unit {0}
 
-module _ (shapes : List Shape) (l : Layout) (pacing : Pacing) (some : 1 ≤ l.pages) where
+module _ (k : TakingAndScanningAreWithin) (shapes : List Shape) (l : Layout) (pacing : Pacing) (some : 1 ≤ l.pages) where
   abbrev all : Kind Actor Op
   all = actors shapes l pacing
 
@@ -32,7 +33,7 @@ module _ (shapes : List Shape) (l : Layout) (pacing : Pacing) (some : 1 ≤ l.pa
 
   takes_fit : (found : ℕ) (m : Actor) → IsFit m → IsFit (takes shapes m found)
   takes_fit found (actor.Runs m) f = tt
-  takes_fit found (actor.Marks w) f = goes_on w found f
+  takes_fit found (actor.Marks w) f = goes_on k w found f
   takes_fit found (actor.Leads c) f = tt
 
   next : (e : Entry Op) (m : Actor) (b : Bool) → IsFit m → IsFit (cond b (takes shapes (started all e.begun m) e.found) m)
@@ -46,12 +47,12 @@ module _ (shapes : List Shape) (l : Layout) (pacing : Pacing) (some : 1 ≤ l.pa
   pub fits_after : (es : List (Entry Op)) (a : ℕ) (w : Working) → state_of all a es ≡ actor.Marks w → (w.layout ≡ l) × FitsWhole w
   fits_after es a w is = ((subst (λ (m : Actor). IsSeated l a m) is (seated shapes l pacing es a)).2, subst (λ (m : Actor). IsFit m) is (fit_after es a))
 
-pub worker_within : (shapes : List Shape) (l : Layout) (pacing : Pacing) (may : ℕ → List (Entry Op) → Op → Bool) (es : List (Entry Op)) → IsInLimits l → (a : ℕ) (w : Working) →
+pub worker_within : TakingAndScanningAreWithin → (shapes : List Shape) (l : Layout) (pacing : Pacing) (may : ℕ → List (Entry Op) → Op → Bool) (es : List (Entry Op)) → IsInLimits l → (a : ℕ) (w : Working) →
     state_of (those shapes l pacing may).kind a es ≡ actor.Marks w → (w.layout ≡ l) × FitsWhole w
-worker_within shapes l pacing may es limits a w is = fits_after shapes l pacing (let e = limits.pages_fit.0 in omega (arith, e)) es a w is
+worker_within k shapes l pacing may es limits a w is = fits_after k shapes l pacing (let e = limits.pages_fit.0 in omega (arith, e)) es a w is
 
 -- so each step that a worker asks for is on a word of the heap
-pub worker_step_within : (shapes : List Shape) (l : Layout) (pacing : Pacing) (may : ℕ → List (Entry Op) → Op → Bool) (es : List (Entry Op)) → IsInLimits l → (a : ℕ) (w : Working) →
+pub worker_step_within : TakingAndScanningAreWithin → (shapes : List Shape) (l : Layout) (pacing : Pacing) (may : ℕ → List (Entry Op) → Op → Bool) (es : List (Entry Op)) → IsInLimits l → (a : ℕ) (w : Working) →
     state_of (those shapes l pacing may).kind a es ≡ actor.Marks w → InRange l (cell_of (worker.asks w))
-worker_step_within shapes l pacing may es limits a w is =
-    let whole = worker_within shapes l pacing may es limits a w is in subst (λ (m : Layout). InRange m (cell_of (worker.asks w))) whole.0 (within w whole.1)
+worker_step_within k shapes l pacing may es limits a w is =
+    let whole = worker_within k shapes l pacing may es limits a w is in subst (λ (m : Layout). InRange m (cell_of (worker.asks w))) whole.0 (within k w whole.1)

@@ -1,5 +1,6 @@
 -- Each step of a worker is on a word that there is, whatever is found.
 use Rattle.std.proofs.Common.{◌≡◌, ℕ, ◌+◌, ◌-◌, ◌<◌, ◌≤◌, ◌==◌, Bool, true, false, cond, ltb, Option, Some, None, refl, arith}
+use Rattle.gh_assist.specs.Within.{HasRoom, IsTaken, RoomWithin, ScanWithin, ShadeWithin, TakeWithin, TakingAndScanningAreWithin}
 use Rattle.gh_base.specs.declared.pack.Phase.{Phase}
 use Rattle.gh_base.specs.declared.pack.PageWord.TheVariants as page_word
 use Rattle.gh_base.specs.declared.pack.Phase.TheVariants as phase
@@ -20,8 +21,7 @@ use Rattle.gh_worker.specs.Choices.{by_stop, by_work}
 use Rattle.gh_worker.specs.Listing as worker
 use Rattle.gh_worker.specs.Sound.{IsWorkersSeat}
 use Rattle.gh_world.proofs.Vocabulary.{cell_of, FitsGiveStage, Held, InRange, IsHeld, Layout, nat_tests, page_of, PageWord, phase_of, Resumed, ResumeStage, run_phase, RunPhase, Shaded, SweepEnd, WorkerStage, Working}
-use Rattle.gh_world.proofs.Within.Buffers.{give_within, HasRoom, room_first, room_gives, room_goes, IsTaken, room_within, RoomWithin, take_first, take_goes, take_holds, take_within, taken, TakeWithin}
-use Rattle.gh_world.proofs.Within.Scans.{referred, scan_first, scan_goes, scan_holds, scan_within, ScanWithin, shade_first, shade_goes, shade_told, shade_within, ShadeWithin}
+use Rattle.gh_world.proofs.Within.Buffers.{give_within}
 use Rattle.gh_world.proofs.Within.Spans.{FitsSpan, span_goes, span_within}
 
 abbrev pub StageWithin : Layout → WorkerStage → Type 0
@@ -70,7 +70,7 @@ earn_within : (l : Layout) (x : earn.Earning) (p : EarnStage) → InRange l (cel
 earn_within l x earn_at.Add = tt
 earn_within l x earn_at.Ended = tt
 
-module _ (w : Working) (f : FitsWhole w) where
+module _ (k : TakingAndScanningAreWithin) (w : Working) (f : FitsWhole w) where
   abbrev l : Layout
   l = w.layout
 
@@ -93,7 +93,7 @@ module _ (w : Working) (f : FitsWhole w) where
 
   by_phase : (stops : ℕ) (found : Phase) → StageWithin l (worker.by_phase w stops found)
   by_phase stops phase.Off = tt
-  by_phase stops phase.Mark = take_first l w.seat w.held f.held
+  by_phase stops phase.Mark = k.take_first l w.seat w.held f.held
   by_phase stops phase.Stop = by_stop (StageWithin l) w stops w.held (λ e. gives_back stops w.held f.held) tt
   by_phase stops phase.Finished = tt
 
@@ -127,25 +127,25 @@ module _ (w : Working) (f : FitsWhole w) where
 
   after_take : (t : take.EntryTaking) (out : Option (Option ℕ)) → TakeWithin l t → IsTaken l out → FitsWhole (worker.after_take w t out)
   after_take t None s r = at_stage (at.Taking t) s
-  after_take t (Some None) s r = on _ at.LoadCursor (take_holds l t s) tt
-  after_take t (Some (Some reference)) s r = on _ _ (take_holds l t s) (scan_first l w.seat reference (take.held_at t.stage) r (take_holds l t s))
+  after_take t (Some None) s r = on _ at.LoadCursor (k.take_holds l t s) tt
+  after_take t (Some (Some reference)) s r = on _ _ (k.take_holds l t s) (k.scan_first l w.seat reference (take.held_at t.stage) r (k.take_holds l t s))
 
   after_scan : (s : scan.Scanning) (out : Option ℕ) → ScanWithin l s → FitsWhole (worker.after_scan w s out)
   after_scan s None x = at_stage (at.Scanning s) x
-  after_scan s (Some words) x = done_with _ words (scan_holds l s x)
+  after_scan s (Some words) x = done_with _ words (k.scan_holds l s x)
 
   after_global : (found : ℕ) (b : Bool) → FitsWhole (cond b (worker.done_with w w.held 1) (worker.at_stage w (at.Shading (shade.opening l (scan.reference_in l found) w.held))))
   after_global found true = done_with w.held 1 f.held
-  after_global found false = at_stage _ (shade_first l (scan.reference_in l found) w.held (referred l (found - 1) f.pages) f.held)
+  after_global found false = at_stage _ (k.shade_first l (scan.reference_in l found) w.held (k.referred l (found - 1) f.pages) f.held)
 
   after_shade : (sh : shade.Shading) (out : Option Shaded) → ShadeWithin l sh → FitsWhole (worker.after_shade w sh out)
   after_shade sh None s = at_stage (at.Shading sh) s
   after_shade sh (Some shaded.Done) s = done_with sh.held 1 s.held
-  after_shade sh (Some shaded.WantsRoom) s = at_stage _ (s, room_first l w.seat sh.held s.held)
+  after_shade sh (Some shaded.WantsRoom) s = at_stage _ (s, k.room_first l w.seat sh.held s.held)
 
   after_room : (sh : shade.Shading) (r : room.RoomFinding) (out : Option Held) → ShadeWithin l sh → RoomWithin l r → HasRoom l out → FitsWhole (worker.after_room w sh r out)
   after_room sh r None s x g = at_stage (at.FindRoom sh r) (s, x)
-  after_room sh r (Some h) s x g = at_stage _ (shade_told l sh h s g)
+  after_room sh r (Some h) s x g = at_stage _ (k.shade_told l sh h s g)
 
   cursor_leads : (b : Bool) → StageWithin l (cond b at.Claim at.LoadPhase)
   cursor_leads true = tt
@@ -162,14 +162,14 @@ module _ (w : Working) (f : FitsWhole w) where
   goes_at (at.EarningAtStop x stops) found s = handed_over _ (gives_back stops w.held f.held)
   goes_at (at.GiveBack g stops) found s = after_give (give.goes g found) stops (give.gives g found) tt
   goes_at (at.Resuming r) found s = after_resume (resume.goes r found) (resume.gives r found) (rw (seat_stays r r.stage found) s)
-  goes_at (at.Taking t) found s = after_take (take.goes t found) (take.gives t found) (take_goes l t found s) (taken l t found s)
-  goes_at (at.Scanning x) found s = after_scan (scan.goes x found) (scan.gives x found) (scan_goes l x found s)
+  goes_at (at.Taking t) found s = after_take (take.goes t found) (take.gives t found) (k.take_goes l t found s) (k.taken l t found s)
+  goes_at (at.Scanning x) found s = after_scan (scan.goes x found) (scan.gives x found) (k.scan_goes l x found s)
   goes_at (at.Earning x) found s = handed_over at.LoadPhase tt
   goes_at at.LoadCursor found s = at_stage _ (cursor_leads (ltb found l.globals))
   goes_at at.Claim found s = at_stage _ (claim_leads found (ltb found l.globals) refl)
   goes_at (at.LoadGlobal i) found s = after_global found (found == 0)
-  goes_at (at.Shading sh) found s = after_shade (shade.goes sh found) (shade.gives sh found) (shade_goes l sh found s)
-  goes_at (at.FindRoom sh r) found s = after_room sh (room.goes r found) (room.gives r found) s.0 (room_goes l r found s.1) (room_gives l r found s.1)
+  goes_at (at.Shading sh) found s = after_shade (shade.goes sh found) (shade.gives sh found) (k.shade_goes l sh found s)
+  goes_at (at.FindRoom sh r) found s = after_room sh (room.goes r found) (room.gives r found) s.0 (k.room_goes l r found s.1) (k.room_gives l r found s.1)
   goes_at at.Leave found s = at_stage at.Done tt
   goes_at at.Done found s = at_stage at.Done tt
 
@@ -179,17 +179,17 @@ module _ (w : Working) (f : FitsWhole w) where
   within_at (at.EarningAtStop x stops) s = earn_within l x x.stage
   within_at (at.GiveBack g stops) s = give_within l g s
   within_at (at.Resuming r) s = resume_within l r s
-  within_at (at.Taking t) s = take_within l t s
-  within_at (at.Scanning x) s = scan_within l x s
+  within_at (at.Taking t) s = k.take_within l t s
+  within_at (at.Scanning x) s = k.scan_within l x s
   within_at (at.Earning x) s = earn_within l x x.stage
   within_at (at.LoadGlobal i) s = s
-  within_at (at.Shading sh) s = shade_within l sh s
-  within_at (at.FindRoom sh r) s = room_within l r s.1
+  within_at (at.Shading sh) s = k.shade_within l sh s
+  within_at (at.FindRoom sh r) s = k.room_within l r s.1
   within_at at.Leave s = f.seat.below
   within_at _ s = tt
 
-pub goes_on : (w : Working) (found : ℕ) → FitsWhole w → FitsWhole (worker.goes w found)
-goes_on w found f = goes_at w f w.stage found f.stage
+pub goes_on : TakingAndScanningAreWithin → (w : Working) (found : ℕ) → FitsWhole w → FitsWhole (worker.goes w found)
+goes_on k w found f = goes_at k w f w.stage found f.stage
 
-pub within : (w : Working) → FitsWhole w → InRange w.layout (cell_of (worker.asks w))
-within w f = within_at w f w.stage f.stage
+pub within : TakingAndScanningAreWithin → (w : Working) → FitsWhole w → InRange w.layout (cell_of (worker.asks w))
+within k w f = within_at k w f w.stage f.stage

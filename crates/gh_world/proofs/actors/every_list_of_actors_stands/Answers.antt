@@ -61,9 +61,10 @@ returns c shapes l pacing counts es good limits fit legal =
       beside = c.a_processor_goes_on_beside_marking.ensures;
       marking = c.marking_begins.ensures;
       fit = c.the_processors_deeds_fit.ensures;
+      taking = c.taking_and_scanning_are_within.ensures;
       drawn = picture;
     } in
-    let wanted : Wanted = record { read = c.packed_words_are_read_back.ensures; whole = c.size_class_laws.ensures.whole_words; steps = c.steps_go_by_moves.ensures } in
+    let wanted : Wanted = record { read = c.packed_words_are_read_back.ensures; whole = c.size_class_laws.ensures.whole_words; slots = c.slots_are_read.ensures; steps = c.steps_go_by_moves.ensures; small = c.the_cursor_is_small.ensures } in
     let laws : LawsOfLists = record {
       keeps = c.every_list_keeps_the_handshake.ensures;
       steps = c.every_step_keeps_the_handshake.ensures;

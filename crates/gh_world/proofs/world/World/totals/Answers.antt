@@ -1,4 +1,4 @@
-use Rattle.std.proofs.Common.{refl, ap, ◌∙◌}
+use Rattle.std.proofs.Common.{ap, ◌∙◌, arith}
 use Rattle.gh_coord.specs.Listing.{lapsed_at}
 use Rattle.gh_world.specs.World.{State}
 use Rattle.gh_world.proofs.OneStep.{lapsed_last}
@@ -6,5 +6,6 @@ use Rattle.gh_world.proofs.world.World.totals.Goals as goal
 
 pub returns-clause-credit : goal.returns-clause-credit
 returns-clause-credit c =
-    let all = c.lapsed-lapsed.ensures ∙ ap (λ (w : State). lapsed_at w.coord.lapsed w.coord.stage) c.self.view_is ∙ lapsed_last c.args.self.now c.requires in
-    (all, refl, all)
+    let lapsed = c.lapsed-lapsed.ensures ∙ ap (λ (w : State). lapsed_at w.coord.lapsed w.coord.stage) c.self.view_is ∙ lapsed_last c.args.self.now c.requires in
+    let spent = c.spent-spent.ensures in
+    (omega (arith, spent, lapsed), spent, lapsed)
