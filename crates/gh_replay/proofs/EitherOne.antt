@@ -6,7 +6,7 @@ use Rattle.gh_coord.specs.Listing as coord
 use Rattle.gh_world.specs.declared.handshake.Actor.{Actor}
 use Rattle.gh_world.specs.Wishes.{most_cycles}
 use Rattle.gh_world.specs.declared.handshake.Actor.TheVariants.{Leads}
-use Rattle.gh_replay.proofs.Vocabulary.{actor_after, answers_given, Coordinating, EitherOne, Entry, EveryRunIsExplained, IsRun, IsRunSoFar, IsScheduled, Layout, LaysOut, Op, outcome_by, Plan, Program, reached_in, RunsEndWhole, RunsGoOn, setting_of, stands_in, turns_of, WellFormed, who}
+use Rattle.gh_replay.proofs.Vocabulary.{actor_after, answers_given, Coordinating, EitherOne, Entry, EveryRunIsExplained, IsRun, IsRunSoFar, IsScheduled, Layout, LaysOut, Op, outcome_by, Plan, Program, reached_in, RunsEndWhole, RunsGoOn, setting_of, spent_after, stands_in, turns_of, WellFormed, who}
 use Rattle.gh_replay.proofs.Choosing.{none_left, who_there}
 use Rattle.gh_replay.proofs.OneRun.{stands_low}
 
@@ -104,7 +104,7 @@ pub either_one : EveryRunIsExplained → RunsGoOn → RunsEndWhole → EitherOne
 either_one explained on whole p plan budget formed =
     let h = layout_for p formed in
     elim (either on whole p h.layout plan formed h.lays_out budget) [
-      | inl w ↦ let c = led p h.layout w.turns in inl (outcome_by (answers_given p h.layout w.turns) c.lead, record { layout = h.layout; lays_out = h.lays_out; turns = w.turns; few = w.few; scheduled = w.scheduled; explained = explained p h.layout w.turns c.lead formed h.lays_out w.run c.is })
+      | inl w ↦ let c = led p h.layout w.turns in inl (outcome_by (answers_given p h.layout w.turns) (spent_after p h.layout w.turns) c.lead, record { layout = h.layout; lays_out = h.lays_out; turns = w.turns; few = w.few; scheduled = w.scheduled; explained = explained p h.layout w.turns c.lead formed h.lays_out w.run c.is })
       | inr s ↦ inr (record {
         layout = h.layout;
         lays_out = h.lays_out;

@@ -1,5 +1,5 @@
 -- Who goes on behind a step: whoever did, but for its actor where the step says that this is done.
-use Rattle.std.proofs.Common.{◌≡◌, ℕ, zero, suc, ◌+◌, ◌<◌, Bool, true, false, cond, eqb, not, List, ◌∷◌, Option, Some, None, refl, sym, ap, subst, ◌∙◌, arith}
+use Rattle.std.proofs.Common.{◌≡◌, ℕ, zero, suc, ◌+◌, ◌<◌, Bool, true, false, cond, if◌then◌else◌, eqb, not, List, ◌∷◌, Option, Some, None, refl, sym, ap, subst, ◌∙◌, arith}
 use Rattle.std.specs.Prelude.{◌↔◌, IfSome, is_some, IsNone}
 use Rattle.std.specs.List.{filter, range_with_len}
 use Rattle.std.proofs.lemmas.Bool.{eqb-true}
@@ -13,7 +13,7 @@ use Rattle.gh_coord.specs.Listing as coord
 use Rattle.gh_mutator.specs.declared.leave.LeaveStage.{LeaveStage}
 use Rattle.gh_mutator.specs.declared.leave.LeaveStage.TheVariants as leave_stage
 use Rattle.gh_mutator.specs.declared.new.NewStage.{NewStage}
-use Rattle.gh_mutator.specs.declared.new.NewStage.TheVariants.{Place, Search, Wait, Want}
+use Rattle.gh_mutator.specs.declared.new.NewStage.TheVariants.{Assist, Place, Search, Wait, Want}
 use Rattle.gh_mutator.specs.declared.new.Wanted.{Wanted}
 use Rattle.gh_mutator.specs.declared.processor.Processor.{Processor}
 use Rattle.gh_mutator.specs.declared.step.Then.{Then}
@@ -25,11 +25,12 @@ use Rattle.gh_mutator.specs.Leave.{says_gone}
 use Rattle.gh_mutator.specs.Leave as leave
 use Rattle.gh_mutator.specs.Listing.{after_gc, after_leave, after_poll, begins_at, follows, takes_at}
 use Rattle.gh_mutator.specs.Listing as mutator
-use Rattle.gh_mutator.specs.New.{after_search, after_wait, made_task}
+use Rattle.gh_mutator.specs.Local.{marking_at}
+use Rattle.gh_mutator.specs.New.{after_assist, after_search, after_wait, assisting, assists, made_task}
 use Rattle.gh_mutator.specs.New as new
 use Rattle.gh_mutator.specs.Serving.{has_left_at, is_last}
 use Rattle.gh_mutator.specs.Stays.{leaves_on}
-use Rattle.gh_mutator.specs.Vocabulary.{At, Found, Leaving, NoRoom, Placing, Polling, Seeking, Waiting}
+use Rattle.gh_mutator.specs.Vocabulary.{Assisting, At, Found, Leaving, Name, NoRoom, Placing, Polling, Seeking, Waiting}
 use Rattle.gh_worker.specs.Stays as worker_ends
 use Rattle.gh_worker.specs.Listing as worker
 use Rattle.gh_world.specs.declared.event.Event.{Event}
@@ -81,16 +82,24 @@ wait_on : (m : Processor) (w : Wanted) (x : Waiting) (out : Option (Unit {0})) �
 wait_on m w x None = refl
 wait_on m w x (Some y) = refl
 
-place_on : (w : Wanted) (p : Placing) (asks : Option Bool) → has_left_at (made_task w p asks) ≡ false
-place_on w p None = refl
-place_on w p (Some true) = refl
-place_on w p (Some false) = refl
+place_on : (poll : Polling) (w : Wanted) (p : Placing) (asks : Option Bool) → has_left_at (made_task poll w p asks) ≡ false
+place_on poll w p None = refl
+place_on poll w p (Some true) = refl
+place_on poll w p (Some false) = go (marking_at poll) where
+  go : (b : Bool) → has_left_at (if b then assists w p.name (assisting poll w) else task.Idle) ≡ false
+  go true = refl
+  go false = refl
+
+assist_on : (m : Processor) (w : Wanted) (n : Name) (x : Assisting) (out : Option (Unit {0})) → has_left_at (after_assist m w n x out).task ≡ false
+assist_on m w n x None = refl
+assist_on m w n x (Some y) = refl
 
 new_on : (shapes : List Shape) (m : Processor) (w : Wanted) (s : NewStage) (found : ℕ) → has_left_at (new.takes_at shapes m w s found).task ≡ false
 new_on shapes m w (Search waited s) found = search_on shapes (record { poll = _; made = _; task = m.task }) w waited _ _
 new_on shapes m w (Wait x) found = wait_on m w _ _
-new_on shapes m w (Place p) found = place_on w _ _
+new_on shapes m w (Place p) found = place_on m.poll w _ _
 new_on shapes m w (Want n) found = refl
+new_on shapes m w (Assist n x) found = assist_on m w n _ _
 
 gc_on : (m : Processor) (g : ℕ) (x : Waiting) (out : Option (Unit {0})) → has_left_at (after_gc m g x out).task ≡ false
 gc_on m g x None = refl

@@ -13,7 +13,7 @@ use Rattle.gh_world.specs.declared.handshake.Actor.TheVariants.{Leads}
 use Rattle.gh_world.specs.Order.{ever_of}
 use Rattle.gh_world.specs.Schedule.{ended_after}
 use Rattle.gh_world.specs.World.{LaysOut, setting_of}
-use Rattle.gh_world.specs.Runs.{IsRun, IsRunSoFar, IsExplained, EveryOrderHasOneRun, answers_given, outcome_by}
+use Rattle.gh_world.specs.Runs.{IsRun, IsRunSoFar, IsExplained, EveryOrderHasOneRun, answers_given, outcome_by, spent_after}
 use Rattle.gh_replay.specs.Plan.{Plan}
 use Rattle.gh_replay.specs.Replayed.{IsReplayed, NotBoth, OneOutcome}
 use Rattle.gh_replay.specs.Scheduled.{IsScheduled}
@@ -64,7 +64,7 @@ module _ (ordered : EveryOrderHasOneRun) where
   one_explained : (p : Program) (l : Layout) (es : List (Entry Op)) (outcome other : Outcome) → IsExplained p l es outcome → IsExplained p l es other → outcome ≡ other
   one_explained p l es outcome other x y =
       let leads : x.coordinator ≡ y.coordinator = same_lead x.coordinator y.coordinator (sym x.led ∙ y.led) in
-      x.given ∙ ap (outcome_by (answers_given p l es)) leads ∙ sym y.given
+      x.given ∙ ap (outcome_by (answers_given p l es) (spent_after p l es)) leads ∙ sym y.given
 
   pub one : OneOutcome
   one p plan m n outcome other r s =

@@ -1,14 +1,17 @@
 -- What a run has so far, and what it has when the world is done.
-use Rattle.std.proofs.Common.{◌≡◌, ℕ, ◌+◌, ◌<◌, ◌≤◌, true, false, List, [], ◌∷◌, ◌++◌, length, map, refl, sym, ◌∙◌, ap, subst, Some, arith, length-append}
+use Rattle.std.proofs.Common.{◌≡◌, ℕ, ◌+◌, ◌%◌, ◌^◌, ◌<◌, ◌≤◌, true, false, List, [], ◌∷◌, ◌++◌, length, map, refl, sym, ◌∙◌, ap, subst, Some, arith, length-append}
 use Rattle.gh_base.specs.Cells.{seats_of}
 use Rattle.gh_coord.specs.Keeping.{last_kept}
 use Rattle.gh_world.specs.declared.event.Event.{Event}
 use Rattle.gh_world.specs.declared.event.Event.TheVariants as event
 use Rattle.gh_world.specs.Schedule.{ended_after}
 use Rattle.gh_replay.specs.Places.{Ran, seen_of}
-use Rattle.gh_replay.proofs.Vocabulary.{actors_of, AllDone, Answer, answer_in, answered_in, answered_of, answers_given, Appends, Coordinating, Entry, EveryRunIsExplained, is_done, IsAfter, IsExplained, IsReplayed, IsRun, IsScheduled, IsUnfinished, Layout, layout_of, LaysOut, marked_by, moved, now_in, Op, opening, Outcome, outcome_by, Plan, Program, reached_in, script_of, setting_of, Standing, stands_in, State, swept_cycle, total_of, WellFormed, who, with_goroutine}
+use Rattle.gh_replay.proofs.Vocabulary.{actor_after, actors_of, AllDone, Answer, answer_in, answered_in, answered_of, answers_given, Appends, Coordinating, drawn_of, Entry, EveryRunIsExplained, is_done, IsAfter, IsExplained, IsReplayed, IsRun, IsScheduled, IsUnfinished, Layout, layout_of, LaysOut, marked_by, moved, now_in, Op, opening, Outcome, outcome_by, Plan, Program, reached_in, script_of, setting_of, spent_after, Standing, stands_in, State, swept_cycle, total_of, WellFormed, who, with_goroutine}
+use Rattle.gh_world.specs.Credit.{spent_at}
 use Rattle.gh_world.specs.Points.{PointsAreStatements, StatementsAreEnough}
-use Rattle.gh_world.specs.World.{event_of, marks_at, points_of}
+use Rattle.gh_world.specs.Wants.{total}
+use Rattle.gh_world.specs.World.{actor_of, event_of, marks_at, points_of}
+use Rattle.gh_world.proofs.CycleNumbers.Sums.{total_same}
 use Rattle.gh_replay.proofs.Along.{are_along, comes_to, RunsBeside}
 use Rattle.gh_replay.proofs.Answering.{none_answered, one_answered}
 use Rattle.gh_replay.proofs.Choosing.{Agree, same_moved, same_who, who_there}
@@ -104,41 +107,51 @@ ran w plan budget left s answers m none = record {
   given = m.given;
 }
 
+-- what the world's processors have drawn is so by the list that it is the state of
+drawn_is : (w : State) (es : List (Entry Op)) → IsAfter w es → spent_after (script_of w) (layout_of w) es ≡ drawn_of w
+drawn_is w es after =
+    let procs = after.keeps.processors in
+    let workers = after.keeps.workers in
+    let seats : seats_of (layout_of w) ≡ actors_of w = omega (arith, procs, workers) in
+    ap (total (λ (a : ℕ). spent_at (actor_after (script_of w) (layout_of w) es a))) seats
+    ∙ total_same (λ (a : ℕ). spent_at (actor_of w a)) (λ (a : ℕ). spent_at (actor_after (script_of w) (layout_of w) es a)) (actors_of w) (λ a lt. ap spent_at (sym (after.actors a lt)))
+
 module _ (law : EveryRunIsExplained) (w : State) (plan : Plan) (budget : ℕ) (answers : List (ℕ × Answer)) (r : Ran w plan budget answers) (whole : (es : List (Entry Op)) → IsAfter w es → IsRun (script_of w) (layout_of w) es) where
   -- of the world's own script
-  replayed : LaysOut (script_of w) (layout_of w) → WellFormed (script_of w) → IsReplayed (script_of w) plan budget (outcome_by answers w.coord)
+  replayed : LaysOut (script_of w) (layout_of w) → WellFormed (script_of w) → IsReplayed (script_of w) plan budget (outcome_by answers (drawn_of w) w.coord)
   replayed lays formed = record {
     layout = layout_of w;
     lays_out = lays;
     turns = r.turns;
     few = r.few;
     scheduled = r.scheduled;
-    explained = subst (λ (xs : List (ℕ × Answer)). IsExplained (script_of w) (layout_of w) r.turns (outcome_by xs w.coord)) (sym r.given)
-        (law (script_of w) (layout_of w) r.turns w.coord formed lays (whole r.turns r.after) (is_led w r.turns r.after));
+    explained = subst (λ (xs : List (ℕ × Answer)). IsExplained (script_of w) (layout_of w) r.turns (outcome_by xs (drawn_of w) w.coord)) (sym r.given)
+        (subst (λ (n : ℕ). IsExplained (script_of w) (layout_of w) r.turns (outcome_by (answers_given (script_of w) (layout_of w) r.turns) n w.coord)) (drawn_is w r.turns r.after)
+        (law (script_of w) (layout_of w) r.turns w.coord formed lays (whole r.turns r.after) (is_led w r.turns r.after)));
   }
 
   -- the statements at the world's points, and their answers
-  beside_own : PointsAreStatements → StatementsAreEnough → LaysOut (script_of w) (layout_of w) → WellFormed (script_of w) → RunsBeside (script_of w) plan budget (outcome_by answers w.coord) (points_of w) answers
+  beside_own : PointsAreStatements → StatementsAreEnough → LaysOut (script_of w) (layout_of w) → WellFormed (script_of w) → RunsBeside (script_of w) plan budget (outcome_by answers (drawn_of w) w.coord) (points_of w) answers
   unfolding replayed
   beside_own points enough lays formed =
       let x = replayed lays formed in
       record {
         replayed = x;
-        along = are_along points enough (script_of w) (layout_of w) formed lays r.turns (outcome_by answers w.coord) x.explained (points_of w) answers r.after.points refl;
-        comes_to = comes_to points enough (script_of w) (layout_of w) formed lays r.turns (outcome_by answers w.coord) x.explained;
+        along = are_along points enough (script_of w) (layout_of w) formed lays r.turns (outcome_by answers (drawn_of w) w.coord) x.explained (points_of w) answers r.after.points refl;
+        comes_to = comes_to points enough (script_of w) (layout_of w) formed lays r.turns (outcome_by answers (drawn_of w) w.coord) x.explained;
       }
 
 -- the world's script and layout, where they are these
-pub finished : EveryRunIsExplained → (w : State) (p : Program) (plan : Plan) (budget : ℕ) (answers : List (ℕ × Answer)) → WellFormed p → script_of w ≡ p → LaysOut p (layout_of w) → Ran w plan budget answers → ((es : List (Entry Op)) → IsAfter w es → IsRun (script_of w) (layout_of w) es) → IsReplayed p plan budget (outcome_by answers w.coord)
+pub finished : EveryRunIsExplained → (w : State) (p : Program) (plan : Plan) (budget : ℕ) (answers : List (ℕ × Answer)) → WellFormed p → script_of w ≡ p → LaysOut p (layout_of w) → Ran w plan budget answers → ((es : List (Entry Op)) → IsAfter w es → IsRun (script_of w) (layout_of w) es) → IsReplayed p plan budget (outcome_by answers (drawn_of w) w.coord)
 finished law w p plan budget answers formed script lays r whole = subst Goal script (replayed law w plan budget answers r whole) lays formed where
   Goal : Program → Type 0
-  Goal q = LaysOut q (layout_of w) → WellFormed q → IsReplayed q plan budget (outcome_by answers w.coord)
+  Goal q = LaysOut q (layout_of w) → WellFormed q → IsReplayed q plan budget (outcome_by answers (drawn_of w) w.coord)
 
 pub beside : PointsAreStatements → StatementsAreEnough → EveryRunIsExplained → (w : State) (p : Program) (plan : Plan) (budget : ℕ) (answers : List (ℕ × Answer)) → WellFormed p → script_of w ≡ p → LaysOut p (layout_of w) → Ran w plan budget answers → ((es : List (Entry Op)) → IsAfter w es → IsRun (script_of w) (layout_of w) es) →
-    RunsBeside p plan budget (outcome_by answers w.coord) (points_of w) answers
+    RunsBeside p plan budget (outcome_by answers (drawn_of w) w.coord) (points_of w) answers
 beside points enough law w p plan budget answers formed script lays r whole = subst Goal script (beside_own law w plan budget answers r whole points enough) lays formed where
   Goal : Program → Type 0
-  Goal q = LaysOut q (layout_of w) → WellFormed q → RunsBeside q plan budget (outcome_by answers w.coord) (points_of w) answers
+  Goal q = LaysOut q (layout_of w) → WellFormed q → RunsBeside q plan budget (outcome_by answers (drawn_of w) w.coord) (points_of w) answers
 
 -- an actor that is not done, by the lists that the world is the state of
 pub record Going (w : State) : Type 0 where
@@ -165,9 +178,9 @@ unfinished w p plan budget answers formed script lays r going g = subst Goal scr
   }
 
 -- the outcome, by its numbers
-pub outcome_is : (o : Outcome) (answers : List (ℕ × Answer)) (c : Coordinating) → o.answers ≡ answers → o.cycles ≡ map swept_cycle c.cycles.items → (o.earned ≡ c.lapsed) × (o.spent ≡ 0) × (o.lapsed ≡ c.lapsed) → o.objects ≡ marked_by (last_kept c.cycles) → o.bytes ≡ c.live → o ≡ outcome_by answers c
-outcome_is o answers c a b credit d e = same where
-  same : record { answers = o.answers; cycles = o.cycles; earned = o.earned; spent = o.spent; lapsed = o.lapsed; objects = o.objects; bytes = o.bytes } ≡ outcome_by answers c
+pub outcome_is : (o : Outcome) (answers : List (ℕ × Answer)) (drawn : ℕ) (c : Coordinating) → o.answers ≡ answers → o.cycles ≡ map swept_cycle c.cycles.items → (o.earned ≡ (drawn + c.lapsed) % 2 ^ 64) × (o.spent ≡ drawn % 2 ^ 64) × (o.lapsed ≡ c.lapsed) → o.objects ≡ marked_by (last_kept c.cycles) → o.bytes ≡ c.live → o ≡ outcome_by answers drawn c
+outcome_is o answers drawn c a b credit d e = same where
+  same : record { answers = o.answers; cycles = o.cycles; earned = o.earned; spent = o.spent; lapsed = o.lapsed; objects = o.objects; bytes = o.bytes } ≡ outcome_by answers drawn c
   same = rw (a, b, credit.0, credit.1, credit.2, d, e) refl
 
 -- an actor that is not done is one that is not

@@ -6,7 +6,7 @@ pub use Rattle.gh_base.specs.declared.value.Answer.{Answer}
 pub use Rattle.gh_coord.specs.Listing.{Coordinating}
 pub use Rattle.gh_script.specs.Program.{op_of, Program, statements_of, WellFormed}
 pub use Rattle.gh_lines.specs.Text.{MakerStands, Outcome}
-pub use Rattle.gh_world.specs.Runs.{answers_given, EveryRunIsExplained, IsExplained, IsRun, IsRunSoFar, marked_by, outcome_by, RunsEndWhole, RunsGoOn, swept_cycle}
+pub use Rattle.gh_world.specs.Runs.{answers_given, drawn_of, EveryRunIsExplained, IsExplained, IsRun, IsRunSoFar, marked_by, outcome_by, RunsEndWhole, RunsGoOn, spent_after, swept_cycle}
 pub use Rattle.gh_world.specs.Turns.{answers_to, goroutine_at, has_turn, round_of, to_come, total_of, turn_of}
 unfoldable pub use Rattle.gh_world.specs.Turns.{turns_of}
 pub use Rattle.gh_world.specs.After.{Appends, IsAfter}

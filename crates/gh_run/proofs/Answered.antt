@@ -1,11 +1,10 @@
 -- What all jobs were answered, goroutine by goroutine.
-use Rattle.std.proofs.Common.{◌≡◌, ℕ, ◌+◌, ◌%◌, ◌<◌, ◌≤◌, List, [], length, take, get_or, Some, refl, sym, ap, subst, ◌∙◌, arith}
+use Rattle.std.proofs.Common.{◌≡◌, ℕ, ◌+◌, ◌%◌, ◌<◌, ◌≤◌, List, [], length, take, Some, sym, ap, subst, ◌∙◌, arith}
 use Rattle.std.specs.Prelude.{slice_get, sum_by}
 use Rattle.std.proofs.lemmas.List.{get_or_past}
 use Rattle.std.proofs.lemmas.List.Sums.{sum_by_more, sum_by-take-le}
 use Rattle.std.proofs.lemmas.Nat.{mod_below}
 use Rattle.gh_base.specs.declared.value.Answer.{Answer}
-use Rattle.gh_base.specs.Cells.{seats_of}
 use Rattle.gh_lines.specs.Text.{answers_by}
 use Rattle.gh_run.specs.declared.job.HeapJob.{HeapJob}
 use Rattle.gh_run.specs.Jobs.{AreDoneOf, IsDoneOf, WhichJob}

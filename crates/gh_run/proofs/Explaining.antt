@@ -1,33 +1,30 @@
 -- What jobs have come to is what a whole run of the script comes to.
-use Rattle.std.proofs.Common.{◌≡◌, ℕ, ◌+◌, ◌%◌, ◌<◌, ◌≤◌, nat_lt, Bool, true, false, not, cond, eqb, eq-eqb, List, [], ◌∷◌, ◌++◌, length, map, reverse, Option, Some, None, refl, sym, ap, subst, ◌∙◌, arith}
+use Rattle.std.proofs.Common.{◌≡◌, ℕ, ◌%◌, ◌<◌, nat_lt, Bool, true, false, cond, eqb, eq-eqb, List, [], ◌∷◌, ◌++◌, reverse, Option, Some, None, refl, sym, ap, subst, ◌∙◌, arith}
 use Rattle.std.specs.Prelude.{slice_get}
 use Rattle.std.specs.List.{filter}
 use Rattle.std.specs.Option.{option_to_list}
 use Rattle.std.proofs.lemmas.Bool.{eqb-true}
 use Rattle.std.proofs.lemmas.Nat.{mod_below}
-use Rattle.gh_base.specs.declared.layout.Layout.{Layout}
 use Rattle.gh_base.specs.declared.machine.Entry.{Entry}
 use Rattle.gh_base.specs.declared.operation.Op.{Op}
 use Rattle.gh_base.specs.declared.value.Answer.{Answer}
 use Rattle.gh_base.specs.Cells.{seats_of}
 use Rattle.gh_base.specs.Lists.{by, Legal, started, state_of}
 use Rattle.gh_base.specs.Orders.{given_by}
-use Rattle.gh_coord.specs.Keeping.{last_kept}
 use Rattle.gh_coord.specs.Listing as coord
 use Rattle.gh_coord.specs.Listing.{Coordinating}
 use Rattle.gh_coord.specs.Stays.{room_stays}
 use Rattle.gh_coord.specs.Stopping.{acks_of}
-use Rattle.gh_lines.specs.Text.{answers_by, Outcome}
+use Rattle.gh_lines.specs.Text.{answers_by}
 use Rattle.gh_mutator.specs.declared.processor.Processor.{Processor}
 use Rattle.gh_mutator.specs.declared.task.Task.{Task}
 use Rattle.gh_mutator.specs.declared.task.Task.TheVariants as task
 use Rattle.gh_mutator.specs.Deeds.{deeds, given_at, has_point, processor_kind}
 use Rattle.gh_mutator.specs.Listing.{gives_at, is_busy_at}
-use Rattle.gh_mutator.specs.Mutating.{Mutating}
 use Rattle.gh_mutator.specs.Processor.{opening_processor}
 use Rattle.gh_mutator.specs.Serving.{has_left_at, is_leaving}
 use Rattle.gh_run.specs.declared.job.HeapJob.{HeapJob}
-use Rattle.gh_run.specs.Jobs.{answers_in, AreDoneOf, IsAtEnd, IsDoneOf, told, told_in_order, which_job, WhichJob}
+use Rattle.gh_run.specs.Jobs.{answers_in, AreDoneOf, IsAtEnd, IsDoneOf, told, told_in_order, WhichJob}
 use Rattle.gh_run.specs.Told.{IsRunByThreads}
 use Rattle.gh_run.proofs.Places.{each_first, there}
 use Rattle.gh_script.specs.Program.{Program, WellFormed}
@@ -46,7 +43,7 @@ use Rattle.gh_world.specs.declared.handshake.Actor.{Actor}
 use Rattle.gh_world.specs.declared.handshake.Actor.TheVariants as actor
 use Rattle.gh_world.specs.Handshake.{start, takes}
 use Rattle.gh_world.specs.Order.{begun_in}
-use Rattle.gh_world.specs.Runs.{answers_at, answers_given, EveryRunIsExplained, IsRun, marked_by, outcome_by, swept_cycle}
+use Rattle.gh_world.specs.Runs.{answers_at, answers_given, EveryRunIsExplained, IsRun, outcome_by, spent_after}
 use Rattle.gh_world.specs.Schedule.{has_ended}
 use Rattle.gh_world.specs.Turns.{is_of_seat, turns_of}
 use Rattle.gh_world.specs.Wishes.{most_cycles}
@@ -163,12 +160,16 @@ module _ (q : Planned) where
     go true is = takes_roomy (state_of (setting q).kind a es) e.begun e.found is
     go false is = is
 
-  pub few_cycles : (v : View Planned Op) (c : Coordinating) (ws : List ℕ) → IsClosedAfter q v c ws → c.cycles.room ≡ most_cycles q.script
-  few_cycles v c ws closed = roomy_after (acks_of q.layout) closed.list c (sym closed.coordinator)
+  pub few_cycles : (v : View Planned Op) (c : Coordinating) (drawn : ℕ) (ws : List ℕ) → IsClosedAfter q v c drawn ws → c.cycles.room ≡ most_cycles q.script
+  few_cycles v c drawn ws closed = roomy_after (acks_of q.layout) closed.list c (sym closed.coordinator)
 
 -- ---- the run
 
-module _ {G : Type 0} (heap : Heap) (law : OfItsOwn) (done : List (HeapJob G)) (all : AreDoneOf (plan_of heap).script heap done) (v : View Planned Op) (c : Coordinating) (ws : List ℕ) (closed : IsClosedAfter (plan_of heap) v c ws) (own : (a : ℕ) (j : HeapJob G) → slice_get done a ≡ Some j → by a v.log ≡ own_of j.handle) where
+-- what the processors of a heap have drawn after the list
+abbrev pub drawn_after : Heap → List (Entry Op) → ℕ
+drawn_after heap list = spent_after (plan_of heap).script (plan_of heap).layout list
+
+module _ {G : Type 0} (heap : Heap) (law : OfItsOwn) (done : List (HeapJob G)) (all : AreDoneOf (plan_of heap).script heap done) (v : View Planned Op) (c : Coordinating) (drawn : ℕ) (ws : List ℕ) (closed : IsClosedAfter (plan_of heap) v c drawn ws) (own : (a : ℕ) (j : HeapJob G) → slice_get done a ≡ Some j → by a v.log ≡ own_of j.handle) where
   abbrev q : Planned
   q = plan_of heap
 
@@ -249,12 +250,12 @@ module _ {G : Type 0} (heap : Heap) (law : OfItsOwn) (done : List (HeapJob G)) (
             ∙ by_seat q.script a g (eq-eqb a a refl) (answers_given q.script q.layout list);
       }
 
-  told_so : (answers : List (ℕ × Answer)) → EveryRunIsExplained → WellFormed q.script → LaysOut q.script q.layout → ((g : ℕ) (j : HeapJob G) → slice_get done (g % q.script.settings.procs) ≡ Some j → answers_by g answers ≡ answers_by g j.answers.items) → IsRunByThreads q.script (outcome_by answers c)
+  told_so : (answers : List (ℕ × Answer)) → EveryRunIsExplained → WellFormed q.script → LaysOut q.script q.layout → ((g : ℕ) (j : HeapJob G) → slice_get done (g % q.script.settings.procs) ≡ Some j → answers_by g answers ≡ answers_by g j.answers.items) → IsRunByThreads q.script (outcome_by answers (drawn_after heap list) c)
   told_so answers explained formed out told = record {
     layout = q.layout;
     lays_out = out;
     steps = list;
-    outcome = outcome_by (answers_given q.script q.layout list) c;
+    outcome = outcome_by (answers_given q.script q.layout list) (drawn_after heap list) c;
     explained = explained q.script q.layout list c formed out run (sym closed.coordinator);
     answers = λ g. let k = kept g out.procs_are in told g k.job k.at ∙ k.same;
     cycles = refl;
@@ -263,11 +264,11 @@ module _ {G : Type 0} (heap : Heap) (law : OfItsOwn) (done : List (HeapJob G)) (
   }
 
 -- so it is of the script of the heap
-pub told_by_jobs : {G : Type 0} (p : Program) (heap : Heap) (law : OfItsOwn) (done : List (HeapJob G)) (v : View Planned Op) (c : Coordinating) (ws : List ℕ) (answers : List (ℕ × Answer)) → EveryRunIsExplained → WellFormed p → IsHeapOf p heap → AreDoneOf p heap done → IsClosedAfter (plan_of heap) v c ws →
-    ((a : ℕ) (j : HeapJob G) → slice_get done a ≡ Some j → by a v.log ≡ own_of j.handle) → ((g : ℕ) (j : HeapJob G) → slice_get done (g % p.settings.procs) ≡ Some j → answers_by g answers ≡ answers_by g j.answers.items) → IsRunByThreads p (outcome_by answers c)
-told_by_jobs {G = G} p heap law done v c ws answers explained formed is all closed own told =
-    subst (λ (x : Program). WellFormed x → LaysOut x (plan_of heap).layout → AreDoneOf x heap done → ((g : ℕ) (j : HeapJob G) → slice_get done (g % x.settings.procs) ≡ Some j → answers_by g answers ≡ answers_by g j.answers.items) → IsRunByThreads x (outcome_by answers c)) is.script
-    (λ formed out all told. told_so heap law done all v c ws closed own answers explained formed out told) formed is.layout all told
+pub told_by_jobs : {G : Type 0} (p : Program) (heap : Heap) (law : OfItsOwn) (done : List (HeapJob G)) (v : View Planned Op) (c : Coordinating) (drawn : ℕ) (ws : List ℕ) (answers : List (ℕ × Answer)) → EveryRunIsExplained → WellFormed p → IsHeapOf p heap → AreDoneOf p heap done → (closed : IsClosedAfter (plan_of heap) v c drawn ws) →
+    ((a : ℕ) (j : HeapJob G) → slice_get done a ≡ Some j → by a v.log ≡ own_of j.handle) → ((g : ℕ) (j : HeapJob G) → slice_get done (g % p.settings.procs) ≡ Some j → answers_by g answers ≡ answers_by g j.answers.items) → IsRunByThreads p (outcome_by answers (drawn_after heap closed.list) c)
+told_by_jobs {G = G} p heap law done v c drawn ws answers explained formed is all closed own told =
+    subst (λ (x : Program). WellFormed x → LaysOut x (plan_of heap).layout → AreDoneOf x heap done → ((g : ℕ) (j : HeapJob G) → slice_get done (g % x.settings.procs) ≡ Some j → answers_by g answers ≡ answers_by g j.answers.items) → IsRunByThreads x (outcome_by answers (drawn_after heap closed.list) c)) is.script
+    (λ formed out all told. told_so heap law done all v c drawn ws closed own answers explained formed out told) formed is.layout all told
 
-pub lapsed_by_jobs : {G : Type 0} (p : Program) (heap : Heap) (law : OfItsOwn) (done : List (HeapJob G)) (v : View Planned Op) (c : Coordinating) (ws : List ℕ) → IsHeapOf p heap → AreDoneOf p heap done → IsClosedAfter (plan_of heap) v c ws → ((a : ℕ) (j : HeapJob G) → slice_get done a ≡ Some j → by a v.log ≡ own_of j.handle) → coord.lapsed_at c.lapsed c.stage ≡ c.lapsed
-lapsed_by_jobs p heap law done v c ws is all closed own = none_lapses heap law done (subst (λ (x : Program). AreDoneOf x heap done) (sym is.script) all) v c ws closed own
+pub lapsed_by_jobs : {G : Type 0} (p : Program) (heap : Heap) (law : OfItsOwn) (done : List (HeapJob G)) (v : View Planned Op) (c : Coordinating) (drawn : ℕ) (ws : List ℕ) → IsHeapOf p heap → AreDoneOf p heap done → IsClosedAfter (plan_of heap) v c drawn ws → ((a : ℕ) (j : HeapJob G) → slice_get done a ≡ Some j → by a v.log ≡ own_of j.handle) → coord.lapsed_at c.lapsed c.stage ≡ c.lapsed
+lapsed_by_jobs p heap law done v c drawn ws is all closed own = none_lapses heap law done (subst (λ (x : Program). AreDoneOf x heap done) (sym is.script) all) v c drawn ws closed own

@@ -1,5 +1,5 @@
 -- What is due among a processor's turns may begin by its handle.
-use Rattle.std.proofs.Common.{◌≡◌, ℕ, zero, suc, ◌-◌, ◌<◌, ◌≤◌, ◌%◌, ◌==◌, nat_lt, Bool, true, false, not, ◌&&◌, ◌||◌, length, List, Option, Some, None, refl, sym, ap, subst, ◌∙◌, arith}
+use Rattle.std.proofs.Common.{◌≡◌, ℕ, zero, suc, ◌<◌, ◌≤◌, ◌%◌, ◌==◌, nat_lt, Bool, true, false, not, ◌&&◌, ◌||◌, length, List, Some, refl, sym, ap, subst, ◌∙◌, arith}
 use Rattle.std.proofs.lemmas.Bool.Decides.{nat_tests}
 use Rattle.gh_base.specs.declared.layout.Layout.{Layout}
 use Rattle.gh_base.specs.declared.machine.Entry.{Entry}
@@ -20,8 +20,8 @@ use Rattle.gh_world.specs.declared.progress.Progress.{Progress}
 use Rattle.gh_world.specs.declared.turns.Next.{Next}
 use Rattle.gh_world.specs.declared.turns.Next.TheVariants as next
 use Rattle.gh_world.specs.Due.{FitsIn, WhatIsDueFits}
-use Rattle.gh_world.specs.Order.{ended_in, goroutine_of, in_range, is_over}
-use Rattle.gh_world.specs.Processors.{all_ended, arena_of, asked_by, has_more, is_of, may_leave}
+use Rattle.gh_world.specs.Order.{ended_in, goroutine_of}
+use Rattle.gh_world.specs.Processors.{all_ended, arena_of, asked_by}
 use Rattle.gh_world.specs.Turns.{is_over as over_at, is_run_due, op_due}
 use Rattle.gh_world.specs.Wishes.{wishes_of}
 use Rattle.gh_world.specs.World.{LaysOut}

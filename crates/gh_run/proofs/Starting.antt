@@ -1,5 +1,5 @@
 -- Jobs at their start and at their end.
-use Rattle.std.proofs.Common.{◌≡◌, ℕ, ◌+◌, ◌<◌, ◌≤◌, nat_lt, Bool, true, false, cond, List, [], ◌∷◌, ◌++◌, length, reverse, None, refl, sym, ap, subst, ◌∙◌, arith}
+use Rattle.std.proofs.Common.{◌≡◌, ℕ, ◌<◌, ◌≤◌, nat_lt, Bool, true, false, cond, List, [], ◌∷◌, ◌++◌, length, reverse, None, refl, sym, ap, subst, ◌∙◌, arith}
 use Rattle.std.proofs.lemmas.Bool.{leb-true, lt-ltb}
 use Rattle.std.proofs.lemmas.List.{append-nil}
 use Rattle.gh_base.specs.declared.machine.Entry.{Entry}
@@ -27,8 +27,8 @@ use Rattle.gh_world.specs.declared.turns.Next.{Next}
 use Rattle.gh_world.specs.declared.turns.Next.TheVariants as next
 use Rattle.gh_world.specs.After.{KeepsPlace}
 use Rattle.gh_world.specs.Due.{EachKeepsItsPlace}
-use Rattle.gh_world.specs.Order.{begun_in, has_left}
-use Rattle.gh_world.specs.Turns.{is_over, op_due, to_come, turns_of}
+use Rattle.gh_world.specs.Order.{begun_in}
+use Rattle.gh_world.specs.Turns.{is_over, op_due, to_come}
 use Rattle.gh_world.specs.Wishes.{most_cycles}
 use Rattle.gh_world.specs.World.{opening_progress}
 

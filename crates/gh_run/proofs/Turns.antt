@@ -1,5 +1,5 @@
 -- A processor between two of its turns, once it has taken a further one.
-use Rattle.std.proofs.Common.{◌≡◌, ℕ, suc, ◌+◌, ◌<◌, ◌≤◌, Bool, true, false, cond, List, [], ◌∷◌, ◌++◌, length, length-append, Option, Some, None, refl, sym, ap, subst, ◌∙◌, arith}
+use Rattle.std.proofs.Common.{◌≡◌, ℕ, ◌+◌, ◌<◌, Bool, true, false, cond, List, [], ◌∷◌, ◌++◌, length, length-append, Option, Some, None, refl, sym, ap, subst, ◌∙◌, arith}
 use Rattle.std.specs.List.{filter}
 use Rattle.std.specs.Option.{option_to_list}
 use Rattle.std.proofs.lemmas.List.{append-nil}
@@ -9,11 +9,9 @@ use Rattle.gh_base.specs.declared.operation.Op.TheVariants as op
 use Rattle.gh_base.specs.declared.value.Answer.{Answer}
 use Rattle.gh_base.specs.Lists.{by, state_of}
 use Rattle.gh_base.specs.Packing.{bit}
-use Rattle.gh_mutator.specs.declared.processor.Processor.{Processor}
 use Rattle.gh_mutator.specs.declared.task.Task.{Task}
 use Rattle.gh_mutator.specs.declared.task.Task.TheVariants as task
 use Rattle.gh_mutator.specs.Deeds.{has_point, processor_kind}
-use Rattle.gh_mutator.specs.Mutating as mutating
 use Rattle.gh_mutator.specs.Mutating.{Mutating}
 use Rattle.gh_mutator.specs.PollRoom.{PollsMakeRoom}
 use Rattle.gh_mutator.specs.Serving.{has_left_at, is_leaving, is_statement}
@@ -26,10 +24,9 @@ use Rattle.gh_shared.specs.declared.heap.Heap.{Heap}
 use Rattle.gh_shared.specs.declared.machine.ActorMachine.{ActorMachine}
 use Rattle.gh_shared.specs.declared.machine.ActorMachine.TheVariants.{Leads, Marks, Runs}
 use Rattle.gh_shared.specs.Calls.{Operated}
-use Rattle.gh_shared.specs.Handles.{ended_at, ended_of, machine_of, number_of, own_of, plan_of, room_at, room_of, view_of}
+use Rattle.gh_shared.specs.Handles.{ended_at, ended_of, machine_of, number_of, own_of, plan_of, view_of}
 use Rattle.gh_shared.specs.Machines.{actor_of, asks, begins, Belongs, gives, goes, IsProcessor, IsProcessorOf}
 use Rattle.gh_shared.specs.Plans.{Planned, setting}
-use Rattle.gh_shared.specs.Shown.{IsKept, ProcessorRests}
 use Rattle.gh_shared.proofs.Keeping.{by_made}
 use Rattle.gh_shared.proofs.Ready.{has_room_then, OfItsOwn}
 use Rattle.gh_table.specs.Runs.{entries_made, Gave, machine_after}
@@ -39,9 +36,9 @@ use Rattle.gh_world.specs.declared.turns.Next.{Next}
 use Rattle.gh_world.specs.declared.turns.Next.TheVariants as next
 use Rattle.gh_world.specs.After.{KeepsPlace}
 use Rattle.gh_world.specs.Due.{EachKeepsItsPlace, PlacesAreKept}
-use Rattle.gh_world.specs.Order.{begun_in, has_left, leaves}
+use Rattle.gh_world.specs.Order.{begun_in, has_left}
 use Rattle.gh_world.specs.Processors.{arena_of, given_of}
-use Rattle.gh_world.specs.Turns.{Follows, goroutine_at, is_leave, is_over, is_poll_due, is_run_due, op_due, statements_among, to_come}
+use Rattle.gh_world.specs.Turns.{Follows, goroutine_at, is_poll_due, is_run_due, op_due, statements_among, to_come}
 use Rattle.gh_world.specs.World.{AreTurns, progress_after}
 use Rattle.gh_world.proofs.Due.{leaves_is}
 use Rattle.gh_world.proofs.Explained.Steps.{statement_pointed}

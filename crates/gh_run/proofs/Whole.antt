@@ -1,5 +1,5 @@
 -- From the jobs of a heap to what its run has told.
-use Rattle.std.proofs.Common.{◌≡◌, ℕ, suc, ◌≤◌, List, [], ◌∷◌, All, length, map, refl, sym, ap, subst, ◌∙◌, arith}
+use Rattle.std.proofs.Common.{◌≡◌, ℕ, suc, ◌+◌, ◌%◌, ◌^◌, List, [], ◌∷◌, All, map, sym, ap, subst, ◌∙◌}
 use Rattle.std.proofs.lemmas.List.Elements.{All-cons, All-nil}
 use Rattle.std.specs.Vec.{vec_capacity}
 use Rattle.gh_base.specs.declared.value.Answer.{Answer}
@@ -49,9 +49,9 @@ module _ {G : Type 0} (p : Program) (heap : Heap) where
     each = ran_each Ends which_job (IsJobOf p heap) (IsDoneOf p heap) ends 0 jobs done are.each ran;
   }
 
--- what was copied from the coordinator
-pub told_as : (p : Program) (answers : List (ℕ × Answer)) (cycles : List Cycle) (earned spent lapsed objects live : ℕ) (c : Coordinating) → cycles ≡ c.cycles.items → (earned ≡ c.lapsed) × (spent ≡ 0) × (lapsed ≡ c.lapsed) → objects ≡ marked_by (last_kept c.cycles) → live ≡ c.live → IsRunByThreads p (outcome_by answers c) → IsRunByThreads p (record { answers = answers; cycles = map swept_cycle cycles; earned = earned; spent = spent; lapsed = lapsed; objects = objects; bytes = live })
-told_as p answers cycles earned spent lapsed objects live c e credit f g t = record {
+-- what was copied from the coordinator, and what processors have drawn
+pub told_as : (p : Program) (answers : List (ℕ × Answer)) (cycles : List Cycle) (earned spent lapsed objects live drawn : ℕ) (c : Coordinating) → cycles ≡ c.cycles.items → (earned ≡ (drawn + c.lapsed) % 2 ^ 64) × (spent ≡ drawn % 2 ^ 64) × (lapsed ≡ c.lapsed) → objects ≡ marked_by (last_kept c.cycles) → live ≡ c.live → IsRunByThreads p (outcome_by answers drawn c) → IsRunByThreads p (record { answers = answers; cycles = map swept_cycle cycles; earned = earned; spent = spent; lapsed = lapsed; objects = objects; bytes = live })
+told_as p answers cycles earned spent lapsed objects live drawn c e credit f g t = record {
   layout = t.layout;
   lays_out = t.lays_out;
   steps = t.steps;

@@ -1,17 +1,19 @@
 -- What a handle keeps of the actors that its seat carries: how many there are, and the coordinator's machine.
-use Rattle.std.proofs.Common.{◌≡◌, ◌≢◌, ◌↔◌, ℕ, zero, suc, ◌+◌, ◌<◌, ◌≤◌, ◌==◌, Bool, true, false, ◌||◌, nat_lt, if◌then◌else◌, cond, List, [], ◌∷◌, ◌++◌, arith, refl, sym, ap, ◌∙◌, subst, Option, Some, None, eq-eqb, ne_eqb, true≢false}
+use Rattle.std.proofs.Common.{◌≡◌, ◌≢◌, ◌↔◌, ℕ, zero, suc, ◌+◌, ◌%◌, ◌^◌, ◌<◌, ◌≤◌, ◌==◌, Bool, true, false, ◌||◌, nat_lt, if◌then◌else◌, cond, List, [], ◌∷◌, ◌++◌, arith, refl, sym, ap, ◌∙◌, subst, Option, Some, None, eq-eqb, ne_eqb, true≢false}
 use Rattle.std.proofs.lemmas.Bool.Decides.{nat_tests}
 use Rattle.std.proofs.lemmas.Bool.{eqb-true, lt-ltb}
 use Rattle.atomic_table.specs.Table.{Me}
 use Rattle.gh_base.specs.declared.machine.Entry.{Entry}
 use Rattle.gh_base.specs.declared.operation.Op.{Op}
 use Rattle.gh_base.specs.Cells.{seats_of}
-use Rattle.gh_base.specs.Lists.{by, Kind, state_of}
+use Rattle.gh_base.specs.Lists.{by, state_of}
 use Rattle.gh_coord.specs.Listing as coord
 use Rattle.gh_coord.specs.Listing.{Coordinating}
 use Rattle.gh_coord.specs.Stopping.{acks_of}
 use Rattle.gh_mutator.specs.Mutating as mutating
 use Rattle.gh_worker.specs.Listing as worker
+use Rattle.gh_world.specs.Credit.{spent_at}
+use Rattle.gh_world.specs.Wants.{total}
 use Rattle.gh_world.specs.Wishes.{most_cycles}
 use Rattle.gh_table.specs.declared.plan.View.{View}
 use Rattle.gh_table.specs.Rule.{actor_in, IsAfterOneList}
@@ -24,7 +26,8 @@ use Rattle.gh_shared.specs.declared.machine.ActorMachine.TheVariants.{Leads, Mar
 use Rattle.gh_shared.specs.Calls.{IsClosedAfter}
 use Rattle.gh_shared.specs.Machines.{actor_of, asks, begins, goes, is_coordinator, IsCoordinator, opening}
 use Rattle.gh_shared.specs.Plans.{Planned, setting}
-use Rattle.gh_shared.specs.Shown.{as_actor, CarriesSo, count_among, first_of, leader_of}
+use Rattle.gh_shared.specs.Shown.{as_actor, CarriesSo, count_among, drawn_beside, drawn_by, first_of, leader_of}
+use Rattle.gh_shared.proofs.Drawing.{both_words, drawn_all, drawn_both, drawn_on, none_drawn, one_word, same_state}
 use Rattle.gh_shared.proofs.Ready.{OfItsOwn}
 
 -- ---- how many
@@ -109,9 +112,6 @@ pub by_others : (a : ℕ) (b : Option Op) (x : ActorMachine) (founds : List ℕ)
 by_others a b x [] log c ne = refl
 by_others a b x (n ∷ ns) log c ne = rw (ne_eqb a c ne) (by_others a b x ns log c ne)
 
-same_state : OfItsOwn → (k : Kind Actor Op) (a : ℕ) (es fs : List (Entry Op)) → by a es ≡ by a fs → state_of k a es ≡ state_of k a fs
-same_state law k a es fs same = law k a es ∙ ap (state_of k a) same ∙ sym (law k a fs)
-
 -- ---- the coordinator
 
 no_leader : (x : ActorMachine) (led : Option Coordinating) → (IsCoordinator x → ⊥) → leader_of x led ≡ led
@@ -152,11 +152,12 @@ module _ (law : OfItsOwn) (p : Planned) where
   Led log x led = LedAs (leader_of x led) (state_of (setting p).kind (acks_of p.layout) log)
 
   -- the actor has gone on
-  pub carried_on : (xs : List ℕ) (log log' : List (Entry Op)) (a : ℕ) (x x' : ActorMachine) (carried : ℕ) (led : Option Coordinating) → ((c : ℕ) → a ≢ c → by c log' ≡ by c log) → IsCoordinator x' ≡ IsCoordinator x → actor_of x' ≡ state_of (setting p).kind a log' → CarriesSo p xs log a x carried led → CarriesSo p xs log' a x' carried led
-  carried_on xs log log' a x x' carried led others kind state kept = record {
+  pub carried_on : (xs : List ℕ) (log log' : List (Entry Op)) (a : ℕ) (x x' : ActorMachine) (carried drawn : ℕ) (led : Option Coordinating) → ((c : ℕ) → a ≢ c → by c log' ≡ by c log) → IsCoordinator x' ≡ IsCoordinator x → actor_of x' ≡ state_of (setting p).kind a log' → CarriesSo p xs log a x carried drawn led → CarriesSo p xs log' a x' carried drawn led
+  carried_on xs log log' a x x' carried drawn led others kind state kept = record {
     known = kept.known;
     last = from_last x' a (acks_of p.layout) ((λ is. was.0 (subst (λ (T : Type 0). T) kind is)), (λ e. subst (λ (T : Type 0). T) (sym kind) (was.1 e)));
     counted = kept.counted;
+    summed = kept.summed ∙ ap (λ (n : ℕ). n % 2 ^ 64) (sym (drawn_on p law a xs log log' others));
     none = kept.none;
     leader = λ holds. from_led (leader_of x' led) (state_of (setting p).kind (acks_of p.layout) log') (go x' kind state (to_led (leader_of x led) (state_of (setting p).kind (acks_of p.layout) log) (kept.leader holds)));
   } where
@@ -174,17 +175,21 @@ module _ (law : OfItsOwn) (p : Planned) where
     go (Leads c) k st l = (c, refl, st ∙ ap (λ (b : ℕ). state_of (setting p).kind b log') (was.0 (subst (λ (T : Type 0). T) k tt)))
 
   -- by these steps
-  pub went_on : (a : ℕ) (x x' : ActorMachine) (b : Option Op) (y : ActorMachine) (me me' : Me (Unit {0}) (View Planned Op)) (founds : List ℕ) (carried : ℕ) (led : Option Coordinating) → p ≡ me.0.plan → IsCoordinator y ≡ IsCoordinator x → Ran asks goes a b y me x' me' founds → actor_of x' ≡ actor_in setting me'.0 a → CarriesSo p me.0.actors me.0.log a x carried led → CarriesSo p me.0.actors me'.0.log a x' carried led
-  went_on a x x' b y me me' founds carried led plan kind ran state kept =
-      carried_on me.0.actors me.0.log me'.0.log a x x' carried led (λ c ne. ap (by c) ran.log ∙ by_others a b y founds me.0.log c ne) (same_kind y x' founds ran.machine ∙ kind) (state ∙ ap (λ (q : Planned). state_of (setting q).kind a me'.0.log) (ran.plan ∙ sym plan)) kept
+  pub went_on : (a : ℕ) (x x' : ActorMachine) (b : Option Op) (y : ActorMachine) (me me' : Me (Unit {0}) (View Planned Op)) (founds : List ℕ) (carried drawn : ℕ) (led : Option Coordinating) → p ≡ me.0.plan → IsCoordinator y ≡ IsCoordinator x → Ran asks goes a b y me x' me' founds → actor_of x' ≡ actor_in setting me'.0 a → CarriesSo p me.0.actors me.0.log a x carried drawn led → CarriesSo p me.0.actors me'.0.log a x' carried drawn led
+  went_on a x x' b y me me' founds carried drawn led plan kind ran state kept =
+      carried_on me.0.actors me.0.log me'.0.log a x x' carried drawn led (λ c ne. ap (by c) ran.log ∙ by_others a b y founds me.0.log c ne) (same_kind y x' founds ran.machine ∙ kind) (state ∙ ap (λ (q : Planned). state_of (setting q).kind a me'.0.log) (ran.plan ∙ sym plan)) kept
 
   -- two are joined
-  pub carried_both : (xs ys zs : List ℕ) (log other log' : List (Entry Op)) (a b : ℕ) (x y : ActorMachine) (n m : ℕ) (led that : Option Coordinating) → ((c : ℕ) → has zs c ≡ (has xs c || has ys c)) → ((c : ℕ) → has xs c ≡ true → has ys c ≡ false) → has xs a ≡ true → has ys b ≡ true
-      → ((c : ℕ) → has xs c ≡ true → by c log' ≡ by c log) → ((c : ℕ) → has xs c ≡ false → by c log' ≡ by c other) → CarriesSo p xs log a x n led → CarriesSo p ys other b y m that → CarriesSo p zs log' a x (n + m) (first_of led (leader_of y that))
-  carried_both xs ys zs log other log' a b x y n m led that both apart mine its own theirs kept kept' = record {
+  pub carried_both : (xs ys zs : List ℕ) (log other log' : List (Entry Op)) (a b : ℕ) (x y : ActorMachine) (n m d e : ℕ) (led that : Option Coordinating) → ((c : ℕ) → has zs c ≡ (has xs c || has ys c)) → ((c : ℕ) → has xs c ≡ true → has ys c ≡ false) → has xs a ≡ true → has ys b ≡ true
+      → ((c : ℕ) → has xs c ≡ true → by c log' ≡ by c log) → ((c : ℕ) → has xs c ≡ false → by c log' ≡ by c other) → actor_of y ≡ state_of (setting p).kind b other → CarriesSo p xs log a x n d led → CarriesSo p ys other b y m e that → CarriesSo p zs log' a x (n + m) ((d + (e + drawn_by y) % 2 ^ 64) % 2 ^ 64) (first_of led (leader_of y that))
+  carried_both xs ys zs log other log' a b x y n m d e led that both apart mine its own theirs state kept kept' = record {
     known = kept.known;
     last = kept.last;
     counted = let all = count_both xs ys zs both apart (seats_of p.layout) in let one = kept.counted in let two = kept'.counted in omega (arith, all, one, two);
+    summed =
+        both_words d e (drawn_by y) (total (drawn_beside p a xs log) (seats_of p.layout)) (total (drawn_beside p b ys other) (seats_of p.layout)) kept.summed kept'.summed
+        ∙ ap (λ (s : Actor). (total (drawn_beside p a xs log) (seats_of p.layout) + (total (drawn_beside p b ys other) (seats_of p.layout) + spent_at s)) % 2 ^ 64) state
+        ∙ ap (λ (k : ℕ). k % 2 ^ 64) (sym (drawn_both p law a b xs ys zs log other log' both apart mine its own theirs kept'.known));
     none = λ out. no_one (has xs (acks_of p.layout)) refl (has ys (acks_of p.layout)) refl (sym (both (acks_of p.layout)) ∙ out);
     leader = λ holds. from_led (leader_of x (first_of led (leader_of y that))) (state_of (setting p).kind (acks_of p.layout) log') (go (has xs (acks_of p.layout)) refl (sym (both (acks_of p.layout)) ∙ holds));
   } where
@@ -219,11 +224,12 @@ module _ (p : Planned) (a : ℕ) (lt : a < seats_of p.layout) where
   last_is : (x : ActorMachine) → x ≡ opening p a → is_coordinator x ≡ (a == acks_of p.layout)
   last_is x is = ap is_coordinator is ∙ stands_last (nat_lt a p.layout.procs) refl (nat_lt a (acks_of p.layout)) refl
 
-  pub carried_first : (x : ActorMachine) → x ≡ opening p a → actor_of x ≡ state_of (setting p).kind a [] → CarriesSo p (a ∷ []) [] a x 1 None
+  pub carried_first : (x : ActorMachine) → x ≡ opening p a → actor_of x ≡ state_of (setting p).kind a [] → CarriesSo p (a ∷ []) [] a x 1 0 None
   carried_first x is state = record {
     known = lt;
     last = last_is x is;
     counted = sym (only a (seats_of p.layout) ∙ rw (lt-ltb a (seats_of p.layout) lt) refl);
+    summed = ap (λ (n : ℕ). n % 2 ^ 64) (sym (none_drawn p a []));
     none = λ out. refl;
     leader = λ holds. from_led (leader_of x None) (state_of (setting p).kind (acks_of p.layout) []) (go x (to_last x a (acks_of p.layout) (last_is x is)) state (alone (a == acks_of p.layout) refl holds));
   } where
@@ -236,28 +242,33 @@ module _ (p : Planned) (a : ℕ) (lt : a < seats_of p.layout) where
     go (Marks w) last st e = absurd (last.1 e)
     go (Leads c) last st e = (c, refl, st ∙ ap (λ (b : ℕ). state_of (setting p).kind b []) e)
 
-pub carries_so : (p : Planned) (a : ℕ) (x : ActorMachine) (v : View Planned Op) → a < seats_of p.layout → v ≡ one_carried p a → x ≡ opening p a → actor_of x ≡ actor_in setting v a → CarriesSo v.plan v.actors v.log a x 1 None
+pub carries_so : (p : Planned) (a : ℕ) (x : ActorMachine) (v : View Planned Op) → a < seats_of p.layout → v ≡ one_carried p a → x ≡ opening p a → actor_of x ≡ actor_in setting v a → CarriesSo v.plan v.actors v.log a x 1 0 None
 carries_so p a x v lt view is state =
-    subst (λ (u : View Planned Op). CarriesSo u.plan u.actors u.log a x 1 None) (sym view) (carried_first p a lt x is (subst (λ (u : View Planned Op). actor_of x ≡ actor_in setting u a) view state))
+    subst (λ (u : View Planned Op). CarriesSo u.plan u.actors u.log a x 1 0 None) (sym view) (carried_first p a lt x is (subst (λ (u : View Planned Op). actor_of x ≡ actor_in setting u a) view state))
 
 -- ---- the close
 
 -- where all are carried
-module _ (law : OfItsOwn) (p : Planned) (v : View Planned Op) (a : ℕ) (x : ActorMachine) (carried : ℕ) (led : Option Coordinating) (plan : v.plan ≡ p) (kept : CarriesSo v.plan v.actors v.log a x carried led) (all : count_among v.actors (seats_of v.plan.layout) ≡ seats_of p.layout) where
+module _ (law : OfItsOwn) (p : Planned) (v : View Planned Op) (a : ℕ) (x : ActorMachine) (carried drawn : ℕ) (led : Option Coordinating) (plan : v.plan ≡ p) (kept : CarriesSo v.plan v.actors v.log a x carried drawn led) (all : count_among v.actors (seats_of v.plan.layout) ≡ seats_of p.layout) where
   it_is_carried : (b : ℕ) → b < seats_of p.layout → Carries v b
   it_is_carried = count_all v.actors (seats_of p.layout) (subst (λ (q : Planned). count_among v.actors (seats_of q.layout) ≡ seats_of p.layout) plan all)
 
   last_is_carried : Carries v (acks_of p.layout)
   last_is_carried = it_is_carried (acks_of p.layout) (omega arith)
 
+  its_own : CarriesSo p v.actors v.log a x carried drawn led
+  its_own = subst (λ (q : Planned). CarriesSo q v.actors v.log a x carried drawn led) plan kept
+
   led_so : LedAs (leader_of x led) (state_of (setting p).kind (acks_of p.layout) v.log)
-  led_so = to_led (leader_of x led) (state_of (setting p).kind (acks_of p.layout) v.log) ((subst (λ (q : Planned). CarriesSo q v.actors v.log a x carried led) plan kept).leader last_is_carried)
+  led_so = to_led (leader_of x led) (state_of (setting p).kind (acks_of p.layout) v.log) (its_own.leader last_is_carried)
 
   pub led_none : leader_of x led ≡ None → ⊥
   led_none e = let never : None ≡ Some led_so.0 = sym e ∙ led_so.1 in absurd cc
 
-  pub closed_so : (c : Coordinating) (ws : List ℕ) → leader_of x led ≡ Some c → IsAfterOneList setting p v ws → IsClosedAfter p v c ws
-  closed_so c ws e after =
+  pub closed_so : (c : Coordinating) (ws : List ℕ) → leader_of x led ≡ Some c → actor_of x ≡ actor_in setting v a → IsAfterOneList setting p v ws → IsClosedAfter p v c ((drawn + drawn_by x) % 2 ^ 64) ws
+  closed_so c ws e state after =
+      let sum = total (drawn_beside p a v.actors v.log) (seats_of p.layout) in
+      let own : actor_of x ≡ state_of (setting p).kind a v.log = subst (λ (q : Planned). actor_of x ≡ state_of (setting q).kind a v.log) plan state in
       let same : c ≡ led_so.0 = (let is : Some c ≡ Some led_so.0 = sym e ∙ led_so.1 in cc) in
       record {
         list = after.list;
@@ -266,4 +277,5 @@ module _ (law : OfItsOwn) (p : Planned) (v : View Planned Op) (a : ℕ) (x : Act
         entries = λ b lt. after.entries b (it_is_carried b lt);
         seen = after.seen (acks_of p.layout) last_is_carried;
         coordinator = ap (λ (d : Coordinating). actor.Leads d) same ∙ led_so.2 ∙ same_state law (setting p).kind (acks_of p.layout) v.log after.list (sym (after.entries (acks_of p.layout) last_is_carried));
+        spent = one_word drawn (drawn_by x) sum its_own.summed ∙ ap (λ (s : Actor). (sum + spent_at s) % 2 ^ 64) own ∙ ap (λ (k : ℕ). k % 2 ^ 64) (sym (drawn_all p law a v.actors v.log after.list its_own.known it_is_carried (λ b lt. after.entries b (it_is_carried b lt))));
       }

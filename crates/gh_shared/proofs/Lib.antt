@@ -1,5 +1,6 @@
 pub mod Allowed
 pub mod Carrying
+pub mod Drawing
 pub mod Ending
 pub mod Faults
 pub mod Fresh

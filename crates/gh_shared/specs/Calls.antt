@@ -1,5 +1,5 @@
 -- What the calls of a heap ask for, and what they do.
-use Rattle.std.specs.Prelude.{◌≡◌, ℕ, ◌+◌, ◌-◌, ◌<◌, ◌≤◌, true, false, not, ◌&&◌, if◌then◌else◌, List, length, Option, Some, None, ◌||◌, ◌++◌}
+use Rattle.std.specs.Prelude.{◌≡◌, ℕ, ◌+◌, ◌-◌, ◌%◌, ◌^◌, ◌<◌, ◌≤◌, true, false, not, ◌&&◌, if◌then◌else◌, List, length, Option, Some, None, ◌||◌, ◌++◌}
 use Rattle.gh_base.specs.declared.limits.TheConstants.{REGISTERS}
 use Rattle.gh_base.specs.declared.machine.Entry.{Entry}
 use Rattle.gh_base.specs.declared.operation.Op.{Op}
@@ -14,6 +14,7 @@ use Rattle.gh_table.specs.declared.plan.View.{View}
 use Rattle.gh_table.specs.Views.{BeganAsEach, Carries, has}
 use Rattle.gh_world.specs.declared.handshake.Actor.TheVariants as actor
 use Rattle.gh_world.specs.Actors.{AllStands}
+use Rattle.gh_world.specs.Credit.{spent_among}
 use Rattle.gh_world.specs.Order.{ends, goroutine_of, leaves}
 use Rattle.gh_mutator.specs.Listing.{is_busy_at}
 use Rattle.gh_world.specs.Processors.{answers_of, AnswersAsEver, arena_of, asks_collector, at_seat, given_of}
@@ -118,11 +119,12 @@ pub record Gathered (h other h' : Handle) : Type 0 where
 
 -- ---- the close
 
--- The words are those after one legal list, which has of each actor exactly the entries of the handle, and began as all that the handle has seen; and this is the coordinator after its entries in that list
-pub record IsClosedAfter (p : Planned) (v : View Planned Op) (c : Coordinating) (ws : List ℕ) : Type 0 where
+-- The words are those after one legal list, which has of each actor exactly the entries of the handle, and began as all that the handle has seen; this is the coordinator after its entries in that list, and so much all processors have drawn by theirs
+pub record IsClosedAfter (p : Planned) (v : View Planned Op) (c : Coordinating) (drawn : ℕ) (ws : List ℕ) : Type 0 where
   pub list : List (Entry Op)
   pub legal : Legal (setting p) list
   pub words : Shows p.layout ws (words_after (setting p).opening list)
   pub entries : (a : ℕ) → a < seats_of p.layout → by a list ≡ by a v.log
   pub seen : BeganAsEach v.seen list
   pub coordinator : actor.Leads c ≡ state_of (setting p).kind (acks_of p.layout) list
+  pub spent : drawn ≡ spent_among (λ a. state_of (setting p).kind a list) (seats_of p.layout) % 2 ^ 64

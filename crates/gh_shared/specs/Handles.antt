@@ -1,5 +1,5 @@
 -- What a handle is, and which handles a heap opens with.
-use Rattle.std.specs.Prelude.{◌≡◌, ℕ, Bool, false, not, List, length, slice_get, Some}
+use Rattle.std.specs.Prelude.{◌≡◌, ℕ, Bool, not, List, length, slice_get, Some}
 use Rattle.gh_base.specs.declared.machine.Entry.{Entry}
 use Rattle.gh_base.specs.declared.operation.Op.{Op}
 use Rattle.gh_base.specs.Cells.{length_of, seats_of}

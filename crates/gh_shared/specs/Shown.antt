@@ -1,5 +1,5 @@
 -- What a handle shows of a processor's goroutines, by the processor's own entries.
-use Rattle.std.specs.Prelude.{◌≡◌, ℕ, zero, suc, ◌+◌, ◌-◌, ◌%◌, ◌<◌, ◌≤◌, nat_lt, Bool, true, false, not, ◌==◌, ◌&&◌, if◌then◌else◌, List, [], ◌∷◌, length, slice_get, sum_by, Option, Some, None}
+use Rattle.std.specs.Prelude.{◌≡◌, ℕ, zero, suc, ◌+◌, ◌-◌, ◌%◌, ◌^◌, ◌<◌, ◌≤◌, nat_lt, Bool, true, false, not, ◌==◌, ◌&&◌, if◌then◌else◌, List, [], ◌∷◌, length, slice_get, sum_by, Option, Some, None}
 use Rattle.gh_base.specs.declared.machine.Entry.{Entry}
 use Rattle.gh_base.specs.declared.operation.Op.{Op}
 use Rattle.gh_base.specs.declared.operation.Op.TheVariants as op
@@ -15,13 +15,15 @@ use Rattle.gh_mutator.specs.Sound.{most_objects}
 use Rattle.gh_table.specs.Views.{has}
 use Rattle.gh_world.specs.declared.handshake.Actor.{Actor}
 use Rattle.gh_world.specs.declared.handshake.Actor.TheVariants as actor
+use Rattle.gh_world.specs.Credit.{spent_at}
 use Rattle.gh_world.specs.Order.{ended_in, has_left}
 use Rattle.gh_world.specs.Processors.{asked_by}
+use Rattle.gh_world.specs.Wants.{total}
 use Rattle.gh_world.specs.Wishes.{wishes_of}
 use Rattle.gh_world.specs.World.{MadeAtMost}
 use Rattle.gh_shared.specs.declared.machine.ActorMachine.{ActorMachine}
 use Rattle.gh_shared.specs.declared.machine.ActorMachine.TheVariants.{Leads, Runs}
-use Rattle.gh_shared.specs.Machines.{is_coordinator}
+use Rattle.gh_shared.specs.Machines.{actor_of, is_coordinator}
 use Rattle.gh_shared.specs.Plans.{Planned, setting}
 
 -- goroutine g is one of the processor at seat a, and has not ended by these entries
@@ -96,10 +98,19 @@ abbrev pub first_of : Option Coordinating → Option Coordinating → Option Coo
 first_of None led = led
 first_of (Some c) led = Some c
 
--- What a handle keeps of the actors xs that its seat carries, where these are their entries: it is the handle of actor a, which is the coordinator exactly where it stands last; and where the coordinator is carried its machine is there
-pub record CarriesSo (p : Planned) (xs : List ℕ) (log : List (Entry Op)) (a : ℕ) (x : ActorMachine) (carried : ℕ) (led : Option Coordinating) : Type 0 where
+-- the words of credit that the actor has drawn
+abbrev pub drawn_by : ActorMachine → ℕ
+drawn_by x = spent_at (actor_of x)
+
+-- what actor c has drawn by these entries, where it is among the actors xs and is not a
+abbrev pub drawn_beside : Planned → (a : ℕ) → (xs : List ℕ) → List (Entry Op) → (c : ℕ) → ℕ
+drawn_beside p a xs log c = if has xs c && not (a == c) then spent_at (state_of (setting p).kind c log) else 0
+
+-- What a handle keeps of the actors xs that its seat carries, where these are their entries: it is the handle of actor a, which is the coordinator exactly where it stands last; it has counted them, and what those beside a have drawn; and where the coordinator is carried its machine is there
+pub record CarriesSo (p : Planned) (xs : List ℕ) (log : List (Entry Op)) (a : ℕ) (x : ActorMachine) (carried drawn : ℕ) (led : Option Coordinating) : Type 0 where
   pub known : a < seats_of p.layout
   pub last : is_coordinator x ≡ (a == acks_of p.layout)
   pub counted : carried ≡ count_among xs (seats_of p.layout)
+  pub summed : drawn ≡ total (drawn_beside p a xs log) (seats_of p.layout) % 2 ^ 64
   pub none : has xs (acks_of p.layout) ≡ false → led ≡ None
   pub leader : has xs (acks_of p.layout) ≡ true → as_actor (leader_of x led) ≡ Some (state_of (setting p).kind (acks_of p.layout) log)

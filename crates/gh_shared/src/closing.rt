@@ -1,6 +1,6 @@
 //! How handles are gathered, and the heap is closed.
 
-ghost use Rattle.std.specs.Prelude.{◌≡◌, ◌<◌};
+ghost use Rattle.std.specs.Prelude.{◌≡◌, ◌+◌, ◌%◌, ◌^◌, ◌<◌};
 ghost use mathlib.Core.Option.{some};
 ghost use lib.ListN.{get_elem?};
 ghost use Rattle.std.specs.Slots.{slots_items, slots_len, IsFull};
@@ -8,7 +8,7 @@ ghost use Rattle.gh_base.specs.Cells.{length_of, seats_of};
 ghost use Rattle.gh_coord.specs.Listing.{lapsed_at};
 ghost use Rattle.gh_shared.specs.Calls.{Gathered, IsClosedAfter};
 ghost use Rattle.gh_shared.specs.Handles.{carries_of, machine_of, number_of, plan_of, view_of, IsOf};
-ghost use Rattle.gh_shared.specs.Shown.{first_of, leader_of};
+ghost use Rattle.gh_shared.specs.Shown.{drawn_by, first_of, leader_of};
 
 use crate::handle::Handle;
 use crate::heap::Heap;
@@ -24,6 +24,8 @@ use std::alloc::Global;
 pub struct Closed {
     pub words: atomic_table::Closed<(), Global>,
     pub coordinator: Coord,
+    /// The words of credit that its processors have drawn, modulo 2^64.
+    pub drawn: u64,
     pub ghost full: { IsFull words.words },
     pub ghost slotless: { slots_len words.slots ≡ 0 },
 }
@@ -48,6 +50,16 @@ fn first_of(led: Option<Coord>, other: Option<Coord>) -> Option<Coord>
     }
 }
 
+/// The words of credit that the actor has drawn: none, if it is no processor.
+fn drawn_by<'s>(machine: &ActorMachine<'s>) -> u64
+    ensures { result ≡ drawn_by machine.now }
+{
+    match machine {
+        ActorMachine::Runs(processor) => processor.spent(),
+        _ => 0,
+    }
+}
+
 impl Heap {
     /// The handle takes over what the other carries, whose actor steps no more.
     pub fn gather<'s>(&self, h: &mut Handle<'s>, other: Handle<'s>)
@@ -62,19 +74,23 @@ impl Heap {
             hand,
             counts: _,
             carried,
+            drawn,
             led,
         } = other;
         let machine = h.hand.join(&self.table.shared, hand);
+        let more = drawn.wrapping_add(drawn_by(&machine));
         h.carried += carried;
+        h.drawn = h.drawn.wrapping_add(more);
         h.led = first_of(h.led.take(), leader_of(machine, led));
     }
 
     /// Closes the heap, where the handle carries all its actors. Its words are those after one legal list, which has of each
-    /// actor exactly the entries of the handle; and the cycles are those that the coordinator has kept by then.
+    /// actor exactly the entries of the handle; the cycles are those that the coordinator has kept by then, and the credit that was
+    /// spent is what all processors have drawn.
     pub fn close<'s>(self, last: Handle<'s>) -> Closed
         requires of { IsOf self last }
         requires all { carries_of last ≡ seats_of (plan_of self).layout }
-        ensures after { IsClosedAfter (plan_of self) (view_of last.entry) result.coordinator (slots_items result.words.words) }
+        ensures after { IsClosedAfter (plan_of self) (view_of last.entry) result.coordinator result.drawn (slots_items result.words.words) }
         ensures many { slots_len result.words.words ≡ length_of (plan_of self).layout }
     {
         a_state_is_of_its_own_entries::<AnyActor, Op>();
@@ -83,12 +99,18 @@ impl Heap {
             hand,
             counts: _,
             carried: _,
+            drawn,
             led,
         } = last;
         let (machine, seat) = hand.into_parts();
+        let drawn = drawn.wrapping_add(drawn_by(&machine));
         let words = close(table, seat);
         match leader_of(machine, led) {
-            Some(coordinator) => Closed { words, coordinator },
+            Some(coordinator) => Closed {
+                words,
+                coordinator,
+                drawn,
+            },
             None => unreachable!(),
         }
     }
@@ -117,18 +139,18 @@ impl Closed {
         self.coordinator.cycles()
     }
 
-    /// The words of credit that the workers earned, modulo 2^64. No processor spends any, so it is what has lapsed.
+    /// The words of credit that the workers earned, modulo 2^64: what was spent, and what has lapsed.
     pub fn earned(&self) -> u64
-        ensures { result ≡ lapsed_at self.now.coordinator.lapsed self.now.coordinator.stage }
+        ensures { result ≡ (self.now.drawn + lapsed_at self.now.coordinator.lapsed self.now.coordinator.stage) % 2 ^ 64 }
     {
-        self.lapsed()
+        self.drawn.wrapping_add(self.lapsed())
     }
 
-    /// How much of it was spent: nothing.
+    /// How much of it was spent, modulo 2^64: what processors have drawn from the bank.
     pub fn spent(&self) -> u64
-        ensures { result ≡ 0 }
+        ensures { result ≡ self.now.drawn }
     {
-        0
+        self.drawn
     }
 
     /// How much of it has lapsed, modulo 2^64: what was left in the bank where marking ended.
@@ -151,6 +173,7 @@ impl Drop for Closed {
         let Closed {
             words,
             coordinator: _,
+            drawn: _,
         } = self;
         words.free();
     }

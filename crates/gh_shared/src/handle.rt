@@ -18,8 +18,10 @@ pub struct Handle<'s> {
     pub counts: Counts,
     /// How many actors the seat carries.
     pub carried: u32,
+    /// The words of credit that they have drawn, modulo 2^64, beside its own actor, which counts its own.
+    pub drawn: u64,
     /// The coordinator's machine, once the coordinator's handle was gathered.
     pub led: Option<Coord>,
     pub ghost kept: { IsKept hand.seat.me.0.plan hand.actor hand.machine (by hand.actor hand.seat.me.0.log) counts.procs counts.left.items counts.over.items counts.gone },
-    pub ghost carries: { CarriesSo hand.seat.me.0.plan hand.seat.me.0.actors hand.seat.me.0.log hand.actor hand.machine carried led },
+    pub ghost carries: { CarriesSo hand.seat.me.0.plan hand.seat.me.0.actors hand.seat.me.0.log hand.actor hand.machine carried drawn led },
 }

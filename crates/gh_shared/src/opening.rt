@@ -138,6 +138,7 @@ impl Heap {
             hand,
             counts,
             carried: 1,
+            drawn: 0,
             led: None,
         })
     }

@@ -5,7 +5,7 @@ use Rattle.gh_base.specs.declared.layout.Layout.{Layout}
 use Rattle.gh_ever.specs.Lists.{Lists}
 use Rattle.gh_lines.specs.Text.{Outcome}
 use Rattle.gh_script.specs.Program.{Program}
-use Rattle.gh_world.specs.Runs.{outcome_by, swept_cycle}
+use Rattle.gh_world.specs.Runs.{drawn_of, outcome_by, swept_cycle}
 use Rattle.gh_world.specs.Schedule.{ended_after, in_order_from}
 use Rattle.gh_world.specs.Turns.{total_of}
 use Rattle.gh_world.specs.World.{actors_of, layout_of, LaysOut, script_of, setting_of}
@@ -52,16 +52,16 @@ new-requires-in-None-clause-few c =
 pub run_beside-ever-requires-clause-statements : goal.run_beside-ever-requires-clause-statements
 run_beside-ever-requires-clause-statements c =
     let lays : LaysOut c.args.script.now (layout_of c.run.new.world) = subst (λ (l : Layout). LaysOut c.args.script.now l) (sym c.run.ensures.layout) c.in_ok-world.ensures.layout in
-    have_statements c.args.script.now c.args.schedule c.args.budget (outcome_by c.run.new.answers.items c.run.new.world.coord) _ c.points.result.now c.run.new.answers.items c.deref.result.now
+    have_statements c.args.script.now c.args.schedule c.args.budget (outcome_by c.run.new.answers.items (drawn_of c.run.new.world) c.run.new.world.coord) _ c.points.result.now c.run.new.answers.items c.deref.result.now
     (beside c.points_are_statements.ensures c.statements_are_enough.ensures c.every_run_is_explained.ensures c.run.new.world c.args.script.now c.args.schedule c.args.budget c.run.new.answers.items c.is_well_formed.ensures
     (c.run.ensures.script ∙ c.in_ok-world.ensures.script) lays c.run.ensures.ran (c.in-None.ensures.whole refl)) c.points.ensures c.deref.ensures.value
 
 pub returns-clause-ever : goal.returns-clause-ever
 returns-clause-ever c =
     let lays : LaysOut c.args.script.now (layout_of c.run.new.world) = subst (λ (l : Layout). LaysOut c.args.script.now l) (sym c.run.ensures.layout) c.in_ok-world.ensures.layout in
-    let is : c.new-in-None.result.outcome ≡ outcome_by c.run.new.answers.items c.run.new.world.coord = outcome_is c.new-in-None.result.outcome c.run.new.answers.items c.run.new.world.coord c.new-in-None.ensures.answers
+    let is : c.new-in-None.result.outcome ≡ outcome_by c.run.new.answers.items (drawn_of c.run.new.world) c.run.new.world.coord = outcome_is c.new-in-None.result.outcome c.run.new.answers.items (drawn_of c.run.new.world) c.run.new.world.coord c.new-in-None.ensures.answers
     (c.new-in-None.ensures.cycles ∙ ap (map swept_cycle) (c.copy.ensures ∙ ap (λ xs. xs ++ c.cycles.result.now) c.in_ok-cycles.ensures.items ∙ c.cycles.ensures.are)) (c.new-in-None.ensures.credit.0 ∙ c.totals.ensures.credit.0, c.new-in-None.ensures.credit.1 ∙ c.totals.ensures.credit.1, c.new-in-None.ensures.credit.2 ∙ c.totals.ensures.credit.2) (c.new-in-None.ensures.live.0 ∙ c.totals.ensures.objects) (c.new-in-None.ensures.live.1 ∙ c.totals.ensures.live) in
-    let after = ever_after c.a_script_has_one_run.ensures.ordered c.args.script.now c.args.schedule c.args.budget (outcome_by c.run.new.answers.items c.run.new.world.coord) _ c.points.result.now c.run.new.answers.items c.deref.result.now c.run_beside-ever.result
+    let after = ever_after c.a_script_has_one_run.ensures.ordered c.args.script.now c.args.schedule c.args.budget (outcome_by c.run.new.answers.items (drawn_of c.run.new.world) c.run.new.world.coord) _ c.points.result.now c.run.new.answers.items c.deref.result.now c.run_beside-ever.result
     (beside c.points_are_statements.ensures c.statements_are_enough.ensures c.every_run_is_explained.ensures c.run.new.world c.args.script.now c.args.schedule c.args.budget c.run.new.answers.items c.is_well_formed.ensures
     (c.run.ensures.script ∙ c.in_ok-world.ensures.script) lays c.run.ensures.ran (c.in-None.ensures.whole refl)) c.points.ensures c.deref.ensures.value c.run_beside-ever.ensures.ever in
     subst (λ (ever : Option Lists). IfSome ever (IsEverAfter c.args.script.now c.args.schedule c.args.budget c.new-in-None.result.outcome)) (sym c.new-in-None.ensures.ever)
@@ -70,7 +70,7 @@ returns-clause-ever c =
 pub returns-clause-explained : goal.returns-clause-explained
 returns-clause-explained c =
     let lays : LaysOut c.args.script.now (layout_of c.run.new.world) = subst (λ (l : Layout). LaysOut c.args.script.now l) (sym c.run.ensures.layout) c.in_ok-world.ensures.layout in
-    let is : c.new-in-None.result.outcome ≡ outcome_by c.run.new.answers.items c.run.new.world.coord = outcome_is c.new-in-None.result.outcome c.run.new.answers.items c.run.new.world.coord c.new-in-None.ensures.answers
+    let is : c.new-in-None.result.outcome ≡ outcome_by c.run.new.answers.items (drawn_of c.run.new.world) c.run.new.world.coord = outcome_is c.new-in-None.result.outcome c.run.new.answers.items (drawn_of c.run.new.world) c.run.new.world.coord c.new-in-None.ensures.answers
     (c.new-in-None.ensures.cycles ∙ ap (map swept_cycle) (c.copy.ensures ∙ ap (λ xs. xs ++ c.cycles.result.now) c.in_ok-cycles.ensures.items ∙ c.cycles.ensures.are)) (c.new-in-None.ensures.credit.0 ∙ c.totals.ensures.credit.0, c.new-in-None.ensures.credit.1 ∙ c.totals.ensures.credit.1, c.new-in-None.ensures.credit.2 ∙ c.totals.ensures.credit.2) (c.new-in-None.ensures.live.0 ∙ c.totals.ensures.objects) (c.new-in-None.ensures.live.1 ∙ c.totals.ensures.live) in
     subst (λ (o : Outcome). IsReplayed c.args.script.now c.args.schedule c.args.budget o) (sym is)
     (finished c.every_run_is_explained.ensures c.run.new.world c.args.script.now c.args.schedule c.args.budget c.run.new.answers.items c.is_well_formed.ensures
@@ -91,7 +91,7 @@ returns-clause-of c =
 pub returns-clause-runs_out : goal.returns-clause-runs_out
 returns-clause-runs_out c = λ u.
     let lays : LaysOut c.args.script.now (layout_of c.run.new.world) = subst (λ (l : Layout). LaysOut c.args.script.now l) (sym c.run.ensures.layout) c.in_ok-world.ensures.layout in
-    c.one_outcome.ensures.not_both c.args.script.now c.args.schedule c.args.budget (outcome_by c.run.new.answers.items c.run.new.world.coord)
+    c.one_outcome.ensures.not_both c.args.script.now c.args.schedule c.args.budget (outcome_by c.run.new.answers.items (drawn_of c.run.new.world) c.run.new.world.coord)
     (finished c.every_run_is_explained.ensures c.run.new.world c.args.script.now c.args.schedule c.args.budget c.run.new.answers.items c.is_well_formed.ensures
     (c.run.ensures.script ∙ c.in_ok-world.ensures.script) lays c.run.ensures.ran (c.in-None.ensures.whole refl)) u
 

@@ -1,13 +1,15 @@
-use Rattle.std.proofs.Common.{◌≡◌, ◌∙◌, ◌+◌, ◌++◌, ◌%◌, ℕ, List, Some, ap, arith, length, subst, sym}
+use Rattle.std.proofs.Common.{◌≡◌, ◌∙◌, ◌+◌, ◌++◌, ◌%◌, ◌^◌, ℕ, Some, ap, arith, length, subst, sym}
 use Rattle.std.specs.Prelude.{slice_get}
 use Rattle.gh_lines.specs.Text.{answers_by}
 use Rattle.gh_coord.specs.Keeping.{last_kept}
+use Rattle.gh_coord.specs.Listing.{lapsed_at}
 use Rattle.gh_run.specs.declared.job.HeapJob.{HeapJob}
 use Rattle.gh_run.specs.Jobs.{AreDoneOf}
 use Rattle.gh_shared.specs.Handles.{plan_of, view_of}
+use Rattle.gh_shared.proofs.Drawing.{one_word}
 use Rattle.gh_world.specs.Runs.{marked_by}
 use Rattle.gh_world.specs.Wishes.{most_cycles}
-use Rattle.gh_run.proofs.Explaining.{few_cycles, lapsed_by_jobs, told_by_jobs}
+use Rattle.gh_run.proofs.Explaining.{drawn_after, few_cycles, lapsed_by_jobs, told_by_jobs}
 use Rattle.gh_run.proofs.Whole.{all_end, all_start, told_as}
 use Rattle.gh_run.proofs.running.run.Goals as goal
 use Rattle.gh_run.proofs.running.run.Goals.{in-Some, in-None}
@@ -25,7 +27,7 @@ gathered-all-requires-clause-done g c = all_end c.args.script.now c.in_ok-heap.h
 
 pub copy-requires : goal.copy-requires
 copy-requires g c =
-    let room = few_cycles (plan_of c.in_ok-heap.heap) (view_of c.gathered-all.result) c.close-closed.result.coordinator _ c.close-closed.ensures.after in
+    let room = few_cycles (plan_of c.in_ok-heap.heap) (view_of c.gathered-all.result) c.close-closed.result.coordinator _ _ c.close-closed.ensures.after in
     let same = ap most_cycles c.in_ok-heap.ensures.heap.script in
     let few = c.cycles.ensures.few in
     let none = ap length c.in_ok-cycles.ensures.items in
@@ -43,16 +45,19 @@ returns-clause-explained g c =
     let copied = c.copy.ensures ∙ ap (λ xs. xs ++ c.cycles.result.now) c.in_ok-cycles.ensures.items ∙ c.cycles.ensures.are in
     let marked : c.match-last_cycle.objects ≡ marked_by (last_kept lead.cycles) = elim c.match-last_cycle.branch [ in-Some w ↦ w.objects-is ∙ ap marked_by (sym w.in-Some.is ∙ c.last_cycle.ensures) | in-None w ↦ w.objects-is ∙ ap marked_by (sym w.in-None.is ∙ c.last_cycle.ensures) ] in
     let told = subst (λ xs. (n : ℕ) (j : HeapJob g.row.G.Denot) → slice_get xs (n % p.settings.procs) ≡ Some j → answers_by n answers ≡ answers_by n j.answers.items) c.deref.ensures.value c.all_told.ensures.told in
-    let last = lapsed_by_jobs p heap c.a_state_is_of_its_own_entries.ensures c.in-Ok.done.items (view_of c.gathered-all.result) lead _ c.in_ok-heap.ensures.heap done c.close-closed.ensures.after c.gathered-all.ensures.own in
-    told_as p answers c.copy.new.copies.items c.earned-earned.result c.spent-spent.result c.lapsed-lapsed.result c.match-last_cycle.objects c.live-live.result lead copied (c.earned-earned.ensures ∙ last, c.spent-spent.ensures, c.lapsed-lapsed.ensures ∙ last) marked c.live-live.ensures
-    (told_by_jobs p heap c.a_state_is_of_its_own_entries.ensures c.in-Ok.done.items (view_of c.gathered-all.result) lead _ answers c.every_run_is_explained.ensures c.is_well_formed.ensures c.in_ok-heap.ensures.heap done c.close-closed.ensures.after c.gathered-all.ensures.own told)
+    let last = lapsed_by_jobs p heap c.a_state_is_of_its_own_entries.ensures c.in-Ok.done.items (view_of c.gathered-all.result) lead _ _ c.in_ok-heap.ensures.heap done c.close-closed.ensures.after c.gathered-all.ensures.own in
+    let after = c.close-closed.ensures.after in
+    let drawn = drawn_after heap after.list in
+    let earned = c.earned-earned.ensures ∙ one_word c.close-closed.result.drawn (lapsed_at lead.lapsed lead.stage) drawn after.spent ∙ ap (λ (n : ℕ). (drawn + n) % 2 ^ 64) last in
+    told_as p answers c.copy.new.copies.items c.earned-earned.result c.spent-spent.result c.lapsed-lapsed.result c.match-last_cycle.objects c.live-live.result drawn lead copied (earned, c.spent-spent.ensures ∙ after.spent, c.lapsed-lapsed.ensures ∙ last) marked c.live-live.ensures
+    (told_by_jobs p heap c.a_state_is_of_its_own_entries.ensures c.in-Ok.done.items (view_of c.gathered-all.result) lead _ _ answers c.every_run_is_explained.ensures c.is_well_formed.ensures c.in_ok-heap.ensures.heap done c.close-closed.ensures.after c.gathered-all.ensures.own told)
 
 pub returns-clause-room : goal.returns-clause-room
 returns-clause-room g c = c.all_told.ensures.few
 
 pub returns-clause-few : goal.returns-clause-few
 returns-clause-few g c =
-    let room = few_cycles (plan_of c.in_ok-heap.heap) (view_of c.gathered-all.result) c.close-closed.result.coordinator _ c.close-closed.ensures.after in
+    let room = few_cycles (plan_of c.in_ok-heap.heap) (view_of c.gathered-all.result) c.close-closed.result.coordinator _ _ c.close-closed.ensures.after in
     let same = ap most_cycles c.in_ok-heap.ensures.heap.script in
     let few = c.cycles.ensures.few in
     let most = c.most_cycles.ensures in

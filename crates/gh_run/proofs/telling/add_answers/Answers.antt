@@ -3,7 +3,7 @@ use Rattle.std.specs.Vec.{vec_capacity}
 use Rattle.std.proofs.lemmas.List.{length-append}
 use Rattle.gh_lines.specs.Text.{answers_by}
 use Rattle.gh_run.specs.Jobs.{of_goroutine}
-use Rattle.gh_run.proofs.Goroutines.{by_counted, by_first, by_mine, by_other, of_length, of_more}
+use Rattle.gh_run.proofs.Goroutines.{by_counted, by_first, by_other, of_length, of_more}
 use Rattle.gh_run.proofs.telling.add_answers.Goals as goal
 use Rattle.gh_run.proofs.telling.add_answers.Goals.{then-h-g, else-h-g}
 

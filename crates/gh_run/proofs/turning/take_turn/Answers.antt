@@ -1,4 +1,4 @@
-use Rattle.std.proofs.Common.{◌≡◌, ◌∙◌, ◌++◌, ℕ, List, ap, subst, sym}
+use Rattle.std.proofs.Common.{◌∙◌, ◌++◌, ℕ, List, ap, subst, sym}
 use Rattle.gh_base.specs.declared.value.Answer.{Answer}
 use Rattle.gh_world.specs.Turns.{Follows}
 use Rattle.gh_world.specs.World.{AreTurns}

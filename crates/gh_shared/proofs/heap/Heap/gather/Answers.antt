@@ -1,8 +1,10 @@
 use Rattle.std.proofs.Common.{◌≡◌, ◌∙◌, ap, arith, subst, sym}
 use Rattle.gh_base.specs.Cells.{seats_of}
-use Rattle.gh_shared.specs.Plans.{Planned}
+use Rattle.gh_base.specs.Lists.{state_of}
+use Rattle.gh_shared.specs.Machines.{actor_of}
+use Rattle.gh_shared.specs.Plans.{Planned, setting}
 use Rattle.gh_shared.specs.declared.machine.ActorMachine.{ActorMachine}
-use Rattle.gh_shared.specs.Shown.{CarriesSo, first_of, leader_of}
+use Rattle.gh_shared.specs.Shown.{CarriesSo, drawn_by, first_of, leader_of}
 use Rattle.gh_shared.proofs.Carrying.{carried_both, count_few}
 use Rattle.gh_shared.proofs.heap.Heap.gather.Goals as goal
 
@@ -27,10 +29,12 @@ invariant_of-h c =
     let j = c.join-machine.ensures in
     let new = c.join-machine.new.self in
     let plan = c.requires.other.plan ∙ sym c.requires.of.plan in
-    let theirs = subst (λ (q : Planned). CarriesSo q o.hand.seat.me.0.actors o.hand.seat.me.0.log o.hand.actor o.hand.machine o.carried o.led) plan o.carries in
+    let theirs = subst (λ (q : Planned). CarriesSo q o.hand.seat.me.0.actors o.hand.seat.me.0.log o.hand.actor o.hand.machine o.carried o.drawn o.led) plan o.carries in
     let theirs_is = c.leader_of.ensures ∙ ap (λ (x : ActorMachine). leader_of x o.led) j.machine in
+    let its : c.drawn_by.result ≡ drawn_by o.hand.machine = c.drawn_by.ensures ∙ ap drawn_by j.machine in
+    let state : actor_of o.hand.machine ≡ state_of (setting h.hand.seat.me.0.plan).kind o.hand.actor o.hand.seat.me.0.log = subst (λ (q : Planned). actor_of o.hand.machine ≡ state_of (setting q).kind o.hand.actor o.hand.seat.me.0.log) plan o.hand.state in
     let led : c.first_of.result ≡ first_of h.led (leader_of o.hand.machine o.led) = c.first_of.ensures ∙ (λ i. first_of (c.take.ensures.value i) (theirs_is i)) in
     record {
       kept = rw (j.same.0, j.same.1, j.same.3, j.own h.hand.actor h.hand.carries) h.kept;
-      carries = rw (j.same.0, j.same.1, j.same.3, led) (carried_both c.a_state_is_of_its_own_entries.ensures h.hand.seat.me.0.plan h.hand.seat.me.0.actors o.hand.seat.me.0.actors new.seat.me.0.actors h.hand.seat.me.0.log o.hand.seat.me.0.log new.seat.me.0.log h.hand.actor o.hand.actor h.hand.machine o.hand.machine h.carried o.carried h.led o.led j.carries j.apart h.hand.carries o.hand.carries j.own j.other h.carries theirs);
+      carries = rw (j.same.0, j.same.1, j.same.3, led, its) (carried_both c.a_state_is_of_its_own_entries.ensures h.hand.seat.me.0.plan h.hand.seat.me.0.actors o.hand.seat.me.0.actors new.seat.me.0.actors h.hand.seat.me.0.log o.hand.seat.me.0.log new.seat.me.0.log h.hand.actor o.hand.actor h.hand.machine o.hand.machine h.carried o.carried h.drawn o.drawn h.led o.led j.carries j.apart h.hand.carries o.hand.carries j.own j.other state h.carries theirs);
     }

@@ -1,0 +1,108 @@
+-- What the actors that a handle's seat carries have drawn beside its own actor.
+use Rattle.std.proofs.Common.{◌≡◌, ◌≢◌, ℕ, zero, suc, ◌+◌, ◌%◌, ◌^◌, ◌<◌, ◌==◌, Bool, true, false, not, ◌&&◌, ◌||◌, if◌then◌else◌, cond, List, [], ◌∷◌, arith, refl, sym, ap, ◌∙◌, eq-eqb, ne_eqb, true≢false}
+use Rattle.std.proofs.lemmas.Bool.{eqb-true}
+use Rattle.std.proofs.Math.Nat.{add-mod-mod, mod-add-mod}
+use Rattle.gh_base.specs.declared.machine.Entry.{Entry}
+use Rattle.gh_base.specs.declared.operation.Op.{Op}
+use Rattle.gh_base.specs.Cells.{seats_of}
+use Rattle.gh_base.specs.Lists.{by, Kind, state_of}
+use Rattle.gh_table.specs.Views.{has}
+use Rattle.gh_world.specs.declared.handshake.Actor.{Actor}
+use Rattle.gh_world.specs.Credit.{spent_at}
+use Rattle.gh_world.specs.Wants.{total}
+use Rattle.gh_world.proofs.CycleNumbers.Sums.{total_at, total_none, total_same}
+use Rattle.gh_shared.specs.Plans.{Planned, setting}
+use Rattle.gh_shared.specs.Shown.{drawn_beside}
+use Rattle.gh_shared.proofs.Ready.{OfItsOwn}
+
+-- ---- sums
+
+total_both : (f g h : ℕ → ℕ) (n : ℕ) → ((i : ℕ) → i < n → h i ≡ f i + g i) → total h n ≡ total f n + total g n
+total_both f g h zero each = refl
+total_both f g h (suc n) each = let rest = total_both f g h n (λ i m. each i (omega (arith, m))) in let last = each n (omega arith) in omega (arith, rest, last)
+
+-- in words, where both of these are sums modulo 2^64
+pub one_word : (e s y : ℕ) → e ≡ y % 2 ^ 64 → (e + s) % 2 ^ 64 ≡ (y + s) % 2 ^ 64
+one_word e s y is = ap (λ (n : ℕ). (n + s) % 2 ^ 64) is ∙ mod-add-mod y (2 ^ 64) s
+
+pub both_words : (d e s x y : ℕ) → d ≡ x % 2 ^ 64 → e ≡ y % 2 ^ 64 → (d + (e + s) % 2 ^ 64) % 2 ^ 64 ≡ (x + (y + s)) % 2 ^ 64
+both_words d e s x y is its =
+    ap (λ (n : ℕ). (d + n) % 2 ^ 64) (one_word e s y its)
+    ∙ add-mod-mod d (y + s) (2 ^ 64)
+    ∙ ap (λ (n : ℕ). (n + (y + s)) % 2 ^ 64) is
+    ∙ mod-add-mod x (2 ^ 64) (y + s)
+
+-- ---- one term
+
+if_both : (t d : Bool) (n : ℕ) → d ≡ false → (if t && not d then n else 0) ≡ (if t then n else 0)
+if_both true d n e = ap (λ (x : Bool). if not x then n else 0) e
+if_both false d n e = refl
+
+if_none : (t d : Bool) (n : ℕ) → d ≡ true → (if t && not d then n else 0) ≡ 0
+if_none true d n e = ap (λ (x : Bool). if not x then n else 0) e
+if_none false d n e = refl
+
+pub same_state : OfItsOwn → (k : Kind Actor Op) (a : ℕ) (es fs : List (Entry Op)) → by a es ≡ by a fs → state_of k a es ≡ state_of k a fs
+same_state law k a es fs same = law k a es ∙ ap (state_of k a) same ∙ sym (law k a fs)
+
+module _ (p : Planned) where
+  -- what an actor has drawn by these entries
+  abbrev drawn : List (Entry Op) → ℕ → ℕ
+  drawn log c = spent_at (state_of (setting p).kind c log)
+
+  abbrev beside : (a : ℕ) → (xs : List ℕ) → List (Entry Op) → ℕ
+  beside a xs log = total (drawn_beside p a xs log) (seats_of p.layout)
+
+  -- before the first step
+  pub none_drawn : (a : ℕ) (log : List (Entry Op)) → beside a (a ∷ []) log ≡ 0
+  none_drawn a log = total_none (drawn_beside p a (a ∷ []) log) (seats_of p.layout) (λ c lt. go c (a == c)) where
+    go : (c : ℕ) (b : Bool) → (if cond b true false && not b then drawn log c else 0) ≡ 0
+    go c true = refl
+    go c false = refl
+
+  module _ (law : OfItsOwn) where
+    same_drawn : (c : ℕ) (es fs : List (Entry Op)) → by c es ≡ by c fs → drawn es c ≡ drawn fs c
+    same_drawn c es fs same = ap spent_at (same_state law (setting p).kind c es fs same)
+
+    -- the actor has gone on
+    pub drawn_on : (a : ℕ) (xs : List ℕ) (log log' : List (Entry Op)) → ((c : ℕ) → a ≢ c → by c log' ≡ by c log) → beside a xs log' ≡ beside a xs log
+    drawn_on a xs log log' others = total_same (drawn_beside p a xs log) (drawn_beside p a xs log') (seats_of p.layout) (λ c lt. go c (has xs c) (a == c) refl) where
+      go : (c : ℕ) (t d : Bool) → (a == c) ≡ d → (if t && not d then drawn log' c else 0) ≡ (if t && not d then drawn log c else 0)
+      go c true true e = refl
+      go c true false e = same_drawn c log' log (others c (λ q. true≢false (sym (eq-eqb a c q) ∙ e)))
+      go c false d e = refl
+
+    -- two are joined
+    module _ (a b : ℕ) (xs ys zs : List ℕ) (log other log' : List (Entry Op)) (both : (c : ℕ) → has zs c ≡ (has xs c || has ys c)) (apart : (c : ℕ) → has xs c ≡ true → has ys c ≡ false) (mine : has xs a ≡ true) (its : has ys b ≡ true)
+        (own : (c : ℕ) → has xs c ≡ true → by c log' ≡ by c log) (theirs : (c : ℕ) → has xs c ≡ false → by c log' ≡ by c other) (lt : b < seats_of p.layout) where
+      abbrev all : ℕ → ℕ
+      all c = if has ys c then drawn other c else 0
+
+      one_each : (c : ℕ) → drawn_beside p a zs log' c ≡ drawn_beside p a xs log c + all c
+      one_each c = ap (λ (t : Bool). if t && not (a == c) then drawn log' c else 0) (both c) ∙ go (has xs c) refl (has ys c) refl (a == c) refl where
+        go : (t : Bool) → has xs c ≡ t → (u : Bool) → has ys c ≡ u → (d : Bool) → (a == c) ≡ d → (if (t || u) && not d then drawn log' c else 0) ≡ (if t && not d then drawn log c else 0) + (if u then drawn other c else 0)
+        go true r true s d e = absurd (true≢false (sym s ∙ apart c r))
+        go true r false s true e = refl
+        go true r false s false e = let same = same_drawn c log' log (own c r) in omega (arith, same)
+        go false r true s true e = absurd (true≢false (sym mine ∙ ap (has xs) (eqb-true a c e) ∙ r))
+        go false r true s false e = let same = same_drawn c log' other (theirs c r) in omega (arith, same)
+        go false r false s d e = refl
+
+      but_its : (c : ℕ) → c ≢ b → all c ≡ drawn_beside p b ys other c
+      but_its c ne = sym (if_both (has ys c) (b == c) (drawn other c) (ne_eqb b c (λ e. ne (sym e))))
+
+      pub drawn_both : beside a zs log' ≡ beside a xs log + (beside b ys other + drawn other b)
+      drawn_both =
+          let sum = total_both (drawn_beside p a xs log) all (drawn_beside p a zs log') (seats_of p.layout) (λ c m. one_each c) in
+          let one = total_at (drawn_beside p b ys other) all (seats_of p.layout) b lt (λ c m ne. but_its c ne) in
+          let none : drawn_beside p b ys other b ≡ 0 = if_none (has ys b) (b == b) (drawn other b) (eq-eqb b b refl) in
+          let is : all b ≡ drawn other b = ap (λ (t : Bool). if t then drawn other b else 0) its in
+          omega (arith, sum, one, none, is)
+
+    -- where all are carried
+    pub drawn_all : (a : ℕ) (xs : List ℕ) (log list : List (Entry Op)) → a < seats_of p.layout → ((c : ℕ) → c < seats_of p.layout → has xs c ≡ true) → ((c : ℕ) → c < seats_of p.layout → by c list ≡ by c log) → total (drawn list) (seats_of p.layout) ≡ beside a xs log + drawn log a
+    drawn_all a xs log list lt there entries =
+        let one = total_at (drawn_beside p a xs log) (drawn list) (seats_of p.layout) a lt (λ c m ne. same_drawn c list log (entries c m) ∙ sym (ap (λ (t : Bool). if t then drawn log c else 0) (there c m)) ∙ sym (if_both (has xs c) (a == c) (drawn log c) (ne_eqb a c (λ e. ne (sym e))))) in
+        let none : drawn_beside p a xs log a ≡ 0 = if_none (has xs a) (a == a) (drawn log a) (eq-eqb a a refl) in
+        let is = same_drawn a list log (entries a lt) in
+        omega (arith, one, none, is)
