@@ -27,10 +27,13 @@ usage: goheap.sh replay [--seed n] [--list text] [--budget n] [--check] < file
          writes a script of four goroutines with size / 4 statements each, drawn from the seed; goheap.sh soak with these words runs it in threads
        goheap.sh example name
          runs examples/name.heap, with the words that its second line has for it
-       goheap.sh steps [--list text] < file
-         runs it too, and writes a line for each turn at which something happens that a list can wait for, and the arena at each cycle's end
+       goheap.sh steps [--pacing] [--list text] < file
+         runs it too, and writes a line for each turn at which something happens that a list can wait for, and the arena at each cycle's end;
+         with --pacing first, a line for each turn at which the heap's bytes, the trigger or the phase changes
        goheap.sh draw [--list text] < file > run.svg
          draws these turns, with the phases of the collector, and beneath them the pages, spans and slots at each cycle's end
+       goheap.sh draw --pacing [--list text] < file > pacing.svg
+         draws what paces the cycles of the run: the heap's bytes, the trigger and the goal over its turns
        goheap.sh prove
          has all proofs below the program checked, and builds the program that replay runs from then on
        goheap.sh program
@@ -40,7 +43,7 @@ usage: goheap.sh replay [--seed n] [--list text] [--budget n] [--check] < file
 END
 }
 
-for part in crates crates.txt HANDLES tools/words.sh tools/sources.sh tools/build.sh tools/hint.awk tools/draw.awk; do
+for part in crates crates.txt HANDLES tools/words.sh tools/sources.sh tools/build.sh tools/hint.awk tools/draw.awk tools/pacing.awk; do
   [ -e "$here/$part" ] || fail 1 "$here has no $part: goheap.sh runs in a checkout of the whole repository"
 done
 # shellcheck source=tools/words.sh
@@ -165,16 +168,20 @@ example() {
   replay ${words[@]+"${words[@]}"} "${@:2}" <"$script"
 }
 
-# The list among the words of a command that takes no other option.
+# The list among the words of a command that takes one, and before it whether the pacing is asked for.
 list_of() {
   local command=$1
   shift
-  list=''
+  list='' how=''
+  if [ "${1-}" = --pacing ]; then
+    how=$1
+    shift
+  fi
   case $#:${1-} in
     0:) ;;
     2:--list) list=$2 ;;
     1:--list=*) list=${1#--list=} ;;
-    *) refuse "'$*' is not what $command takes, which is --list text or nothing" ;;
+    *) refuse "'$*' is not what $command takes, which is --pacing, --list text, both or nothing" ;;
   esac
   check_words "$@"
 }
@@ -183,22 +190,23 @@ steps() {
   list_of steps "$@"
   keep_text
   choose_program goheap_steps
-  run_and_end ${list:+"$list"}
+  run_and_end ${how:+"$how"} ${list:+"$list"}
 }
 
 draw() {
-  local told
+  local told picture=draw
   list_of draw "$@"
+  if [ -n "$how" ]; then picture=pacing; fi
   keep_text
   choose_program goheap_steps
-  told=$("$program" ${list:+"$list"})
+  told=$("$program" ${how:+"$how"} ${list:+"$list"})
   status=$?
   if [ "$status" -eq 0 ]; then
-    awk -f "$here/tools/draw.awk" <(tail -c "+$((skipped + 1))" "${text:-/dev/null}") - <<<"$told"
+    awk -f "$here/tools/$picture.awk" <(tail -c "+$((skipped + 1))" "${text:-/dev/null}") - <<<"$told"
     return
   fi
   printf '%s\n' "$told" >&2
-  if [ "$status" -eq 3 ]; then hint ${list:+"$list"}; fi
+  if [ "$status" -eq 3 ]; then hint ${how:+"$how"} ${list:+"$list"}; fi
   exit "$status"
 }
 

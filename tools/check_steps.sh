@@ -2,7 +2,8 @@
 # What tools/steps.sh shows of a run, its turns and the arena at a cycle's end, is what docs/SCRIPTS.md has. Each line of a file
 # runs/NAME.steps stands in what it shows of runs/NAME.heap, by the list of that script's second line: at which step of which actor
 # something happens. The drawings of runs in
-# docs/pictures are what `goheap.sh draw` makes of scripts of examples/, by their lists. With a word --write the drawings are written anew.
+# docs/pictures are what `goheap.sh draw` makes of scripts of examples/, by their lists, and pacing.svg there what `draw --pacing` makes of
+# runs/pacing.heap. With a word --write the drawings are written anew.
 # GOHEAP_STEPS names another program to run than goheap.sh's.
 set -u
 cd "$(dirname "$0")/.." || exit 1
@@ -11,6 +12,10 @@ passed=0 failed=0
 # The turns of a script by a list, where there is one.
 steps() {
   if [ -n "${GOHEAP_STEPS-}" ]; then "$GOHEAP_STEPS" ${2:+"$2"} <"$1"; else ./goheap.sh steps ${2:+--list "$2"} <"$1" 2>/dev/null; fi
+}
+# What paces its cycles.
+pacing() {
+  if [ -n "${GOHEAP_STEPS-}" ]; then "$GOHEAP_STEPS" --pacing ${2:+"$2"} <"$1"; else ./goheap.sh steps --pacing ${2:+--list "$2"} <"$1" 2>/dev/null; fi
 }
 # The list of a script's second line.
 list_of() { sed -n "2s/^# replay .*--list[ =]\([^ ]*\).*/\1/p" "$1"; }
@@ -48,20 +53,28 @@ for wanted in runs/*.steps; do
     failed=$((failed + 1))
   fi
 done
+
+# The drawing in docs/pictures of this name is that on standard input, which the command makes of the script.
+is_drawn() {
+  local drawing=docs/pictures/$1 drawn
+  drawn=$(cat)
+  if [ "${write-}" = --write ]; then printf '%s\n' "$drawn" >"$drawing"; fi
+  if printf '%s\n' "$drawn" | cmp -s - "$drawing"; then
+    passed=$((passed + 1))
+  else
+    echo "check_steps: $drawing is not what ./goheap.sh $2 makes of $3"
+    failed=$((failed + 1))
+  fi
+}
+
+write=${1-}
 for drawing in docs/pictures/run_*.svg; do
   [ -e "$drawing" ] || continue
   name=$(basename "$drawing" .svg)
   script=examples/${name#run_}.heap
-  drawn=$(steps "$script" "$(list_of "$script")" | awk -f tools/draw.awk "$script" -)
-  if [ "${1-}" = --write ]; then
-    printf '%s\n' "$drawn" >"$drawing"
-    passed=$((passed + 1))
-  elif printf '%s\n' "$drawn" | cmp -s - "$drawing"; then
-    passed=$((passed + 1))
-  else
-    echo "check_steps: $drawing is not what ./goheap.sh draw makes of $script"
-    failed=$((failed + 1))
-  fi
+  is_drawn "$name.svg" draw "$script" < <(steps "$script" "$(list_of "$script")" | awk -f tools/draw.awk "$script" -)
 done
+script=runs/pacing.heap
+is_drawn pacing.svg 'draw --pacing' "$script" < <(pacing "$script" "$(list_of "$script")" | awk -f tools/pacing.awk "$script" -)
 echo "steps and drawings: $passed passed, $failed failed"
 [ "$failed" -eq 0 ]

@@ -1,4 +1,4 @@
-//! `goheap_steps [list]` reads a script from standard input, runs it as `goheap replay --list list` does, and writes a line
+//! `goheap_steps [--pacing] [list]` reads a script from standard input, runs it as `goheap replay --list list` does, and writes a line
 //! for each turn at which something happens that an item of a list can wait for: the turn's number, the actor, how many steps
 //! that actor has taken, and what happened: a statement acts, or is answered, a cycle is swept, the actor is done, or its marks rise.
 //! So it does where the marking of a cycle has ended, and where a processor shades an object, which no item can wait for.
@@ -12,16 +12,29 @@
 //! 552 pages 6 to 15: free
 //! ```
 //!
-//! It shows where the numbers of a list come from, and what a cycle keeps and frees. It is a tool beside `goheap`, over public calls of
+//! With `--pacing` it writes other lines: one for each turn behind which the heap's bytes, those of the trigger or the phase are not what they
+//! were. So `runs/pacing.heap` reaches its trigger, and a cycle is opened, for which the trigger is `never`:
+//!
+//! ```text
+//! 4516 heap 5744 trigger 5734 phase off
+//! 4527 heap 5744 trigger 5734 phase stop
+//! 4552 heap 5760 trigger 5734 phase stop
+//! 4596 heap 5760 trigger never phase stop
+//! 4611 heap 5760 trigger never phase mark
+//! ```
+//!
+//! It shows where the numbers of a list come from, what a cycle keeps and frees, and what paces cycles. It is a tool beside `goheap`, over public calls of
 //! `gh_world`: that it stops at no fault is proved, and what it writes is tested, by its `stdin` and `stdout`.
 #![tactic(auto)]
 
 mod arena;
 mod order;
+mod pacing;
 mod shades;
 mod stop;
 mod turns;
 
+use crate::pacing::tell_pacing;
 use crate::stop::Stop;
 use crate::turns::tell_turns;
 use gh_io::{Sink, Source, StdSink, StdSource, read_up_to, write_all};
@@ -42,7 +55,14 @@ fn main(rt: HostRuntime) -> ExitCode {
     }
 }
 
-// The call with the words of the command line: the program's name, and a list or none.
+// What is told of a run.
+#[derive(Clone, Copy, PartialEq, Eq)]
+enum Subject {
+    Turns,
+    Pacing,
+}
+
+// The call with the words of the command line: the program's name, what is told, and a list or none.
 fn called<R: Env + AllocGlobal, S: Source, K: Sink>(
     rt: &R,
     src: &mut S,
@@ -52,16 +72,20 @@ fn called<R: Env + AllocGlobal, S: Source, K: Sink>(
         return Err(Stop::BadWords);
     };
     let words = args.collect::<Vec<String>>(rt.alloc())?;
-    let list = listed(rt.alloc(), &words)?;
-    run(rt.alloc(), list, src, out)
+    let (subject, behind) = match words.get(1) {
+        Some(word) if word.as_str() == "--pacing" => (Subject::Pacing, 2),
+        _ => (Subject::Turns, 1),
+    };
+    let list = listed(rt.alloc(), &words, behind)?;
+    run(rt.alloc(), subject, list, src, out)
 }
 
-// The list behind the program's name.
-fn listed(alloc: Global, words: &[String]) -> Result<Vec<Turn>, Stop> {
-    if words.len() > 2 {
+// The list that stands behind so many words, as the last one.
+fn listed(alloc: Global, words: &[String], behind: usize) -> Result<Vec<Turn>, Stop> {
+    if words.len().saturating_sub(behind) > 1 {
         return Err(Stop::BadWords);
     }
-    match words.get(1) {
+    match words.get(behind) {
         Some(word) => match parse_list(alloc, word.as_str())? {
             Some(list) => Ok(list),
             None => Err(Stop::BadWords),
@@ -70,9 +94,10 @@ fn listed(alloc: Global, words: &[String]) -> Result<Vec<Turn>, Stop> {
     }
 }
 
-// Reads the script, and tells its turns.
+// Reads the script, and tells this of its run.
 fn run<S: Source, K: Sink>(
     alloc: Global,
+    subject: Subject,
     list: Vec<Turn>,
     src: &mut S,
     out: &mut K,
@@ -81,7 +106,10 @@ fn run<S: Source, K: Sink>(
         return Err(Stop::ReadFault);
     };
     match parse(alloc, &text) {
-        Ok(script) => tell_turns(alloc, &script, list, out),
+        Ok(script) => match subject {
+            Subject::Turns => tell_turns(alloc, &script, list, out),
+            Subject::Pacing => tell_pacing(alloc, &script, list, out),
+        },
         Err(ParseError::Script(fault)) => refuse(fault, out),
         Err(ParseError::NoMemory) => Err(Stop::NoMemory),
     }

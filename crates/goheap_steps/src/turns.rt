@@ -16,7 +16,7 @@ use gh_world::{Event, World};
 use std::alloc::{AllocError, Global};
 
 /// The most turns that are made.
-const MOST_TURNS: u32 = 10_000_000;
+pub const MOST_TURNS: u32 = 10_000_000;
 
 /// Runs the script, and writes a line for each turn at which something happens, and one for how many turns there were. Where a
 /// cycle's marking has ended, and where the cycle is swept, the lines of the arena follow.
@@ -179,7 +179,7 @@ fn answered(alloc: Global, script: &Script, answer: Answer) -> Result<String, Al
 }
 
 /// Writes how many turns there were.
-fn end<K: Sink>(alloc: Global, turns: u32, out: &mut K) -> Result<(), Stop> {
+pub fn end<K: Sink>(alloc: Global, turns: u32, out: &mut K) -> Result<(), Stop> {
     let line = format!(in alloc; "turns {turns}\n")?;
     write_all(out, line.as_bytes())?;
     Ok(())
