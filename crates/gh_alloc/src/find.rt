@@ -5,7 +5,7 @@ ghost use Rattle.gh_base.specs.Cells.{seats_of};
 ghost use Rattle.gh_central.specs.GiveBack as giving;
 ghost use Rattle.gh_alloc.specs.declared.find.FindStage.TheVariants.{Give};
 ghost use Rattle.gh_alloc.specs.declared.sought.Found.TheVariants.{At, NoRoom};
-ghost use Rattle.gh_alloc.specs.Find.{after_carve, after_give, after_lock, after_pass, after_slots, after_unswept, begin, behind_for, carving, finds_none, first_page, given, given_head, gives, goes, is_busy, locked_for, opening, refuses, search_in, spans_for, taken, unlocked, word_at_cursor};
+ghost use Rattle.gh_alloc.specs.Find.{after_carve, after_give, after_lock, after_pass, after_slots, after_unswept, at_stage, begin, behind_for, carving, finds_none, first_page, given, given_head, gives, goes, is_busy, locked_for, opening, refuses, spans_for, taken, word_at_cursor};
 ghost use Rattle.gh_alloc.specs.FindSound.{FitsPages, IsCached, IsCachedSpan};
 ghost use Rattle.gh_alloc.specs.Search.{again, frees_at, reclaiming};
 ghost use Rattle.gh_alloc.specs.Within.{FitsFrom, FitsGiven, LiesWithin};
@@ -98,15 +98,17 @@ impl Find {
         requires cached { IsCached layout.now wanted cached }
         ensures { result ≡ opening layout.now seat generation wanted cached }
     {
-        Find {
+        let mut find = Find {
             layout: *layout,
             seat,
             generation,
             wanted,
             cached,
             sweeps: true,
-            stage: begin(layout, &wanted, cached),
-        }
+            stage: FindStage::Lock,
+        };
+        find.begin();
+        find
     }
 
     /// The span that is cached now, with its cursor: it lies in the arena.
@@ -161,33 +163,22 @@ impl Find {
     }
 }
 
-/// Its first stage: the search of the cached span, if a slot is left from its cursor on.
-fn begin(layout: &Layout, wanted: &Sought, cached: Option<CachedSpan>) -> FindStage
-    requires { IsCached layout.now wanted.now cached }
-    ensures { result ≡ begin layout.now wanted.now cached }
-{
-    match *wanted {
-        Sought::Small(class) => match cached {
-            Some(span) => begin_in(layout, class.class, span),
-            None => FindStage::Lock,
-        },
-        Sought::Large { .. } => FindStage::Lock,
-    }
-}
-
-/// The same for a span that is cached.
-fn begin_in(layout: &Layout, class: Class, span: CachedSpan) -> FindStage
-    requires { IsCachedSpan layout.now class span }
-    ensures { result ≡ search_in layout.now class span }
-{
-    if span.cursor < class.slots() {
-        FindStage::Slots(NextSlot::new(layout, span.of_class(class)))
-    } else {
-        FindStage::Lock
-    }
-}
-
 impl Find {
+    /// Its first stage: the search of the cached span, if a slot is left from its cursor on, and else the lock.
+    fn begin(&mut self)
+        ensures { self.new ≡ at_stage self.old (begin self.old.layout self.old.wanted self.old.cached) }
+    {
+        self.stage = FindStage::Lock;
+        if let Sought::Small(class) = self.wanted {
+            if let Some(span) = self.cached {
+                if span.cursor < class.class.slots() {
+                    let span = span.of_class(class.class);
+                    self.stage = FindStage::Slots(NextSlot::new(&self.layout, span));
+                }
+            }
+        }
+    }
+
     /// It looks for fresh pages next.
     fn carving(&self) -> FindStage
         ensures { result ≡ carving self.now }
@@ -363,16 +354,6 @@ impl Find {
         }
     }
 
-    /// Its stage once the lock is free.
-    fn unlocked(&self, after: After) -> FindStage
-        ensures { result ≡ unlocked self.now after }
-    {
-        match after {
-            After::Again => begin(&self.layout, &self.wanted, self.cached),
-            After::End(out) => FindStage::Ended(out),
-        }
-    }
-
     /// Takes any step. Where a routine has ended, its stage gives way to another at once. It stands apart, since
     /// most steps of a search go on in a span (`take`) and need none of the memory that the other stages want.
     #[inline(never)]
@@ -420,7 +401,10 @@ impl Find {
             FindStage::Unlock(after) => {
                 let then = *after;
                 self.sweeps = true;
-                self.stage = self.unlocked(then);
+                match then {
+                    After::Again => self.begin(),
+                    After::End(out) => self.stage = FindStage::Ended(out),
+                }
             }
             FindStage::Ended(_) => {}
         }

@@ -201,6 +201,7 @@ impl<'s> Machine for Place<'s> {
 
     ghost gives = { listing.gives };
 
+    #[inline(always)]
     fn next(&self) -> Req {
         let ask = match &self.stage {
             PlaceStage::Clear(k) => Ask::Store(Cell::Field(self.at + *k), 0),

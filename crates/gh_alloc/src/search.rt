@@ -122,6 +122,7 @@ impl Machine for Search {
 
     ghost gives = { listing.gives };
 
+    #[inline(always)]
     fn next(&self) -> Req {
         match &self.stage {
             SearchStage::Free(reclaim) => reclaim.next(),

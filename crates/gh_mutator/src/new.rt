@@ -4,7 +4,7 @@
 //! So the object is counted before the cycle is opened. While one is under way the trigger is 2^64 - 1, so that a
 //! second is not asked for.
 
-ghost use Rattle.std.specs.Prelude.{◌≡◌, ◌+◌, ◌*◌, ◌^◌, ◌<◌, ◌≤◌, length, true, false, IfSome};
+ghost use Rattle.std.specs.Prelude.{◌≡◌, ◌+◌, ◌*◌, ◌^◌, ◌<◌, ◌≤◌, length, true, false, IfSome, None, Some};
 ghost use Rattle.gh_alloc.specs.FindSound.{FitsPages};
 ghost use Rattle.gh_alloc.specs.PlaceSound.{FitsSpanHead};
 ghost use Rattle.gh_alloc.specs.Within.{LiesWithin};
@@ -288,7 +288,18 @@ impl<'s> Processor<'s> {
         ensures gives { result ≡ answer_made (marking_at self.old.poll) name asks }
     {
         self.add_object(&wanted, made);
-        let stage = if asks? {
+        self.end_making(wanted, name, asks?)
+    }
+
+    /// The making of the object of this name is over, and says whether a cycle is to be asked for.
+    // Few steps end it. What is written then stands apart, so that the others clear no room for it.
+    #[inline(never)]
+    fn end_making(&mut self, wanted: Wanted, name: Name, asks: bool) -> Option<Answer>
+        requires slot { 8 * wanted.slot ≤ 2 ^ 31 }
+        ensures goes { self.new ≡ after_making self.old wanted None name (Some asks) }
+        ensures gives { result ≡ answer_made (marking_at self.old.poll) name (Some asks) }
+    {
+        let stage = if asks {
             NewStage::Want(name)
         } else if self.poll.marking() {
             NewStage::Assist(name, self.poll.assist(wanted.slot))
