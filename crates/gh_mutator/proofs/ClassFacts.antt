@@ -11,8 +11,9 @@ use Rattle.gh_base.specs.Shapes.{shape_at, ShapesFit}
 use Rattle.gh_class.specs.Classes.{slot_of, pages_of, slots_of, IsClassOf, class_number, large_pages, slot_words}
 use Rattle.std.proofs.Math.Nat.{mul-le-mul_right}
 use Rattle.gh_class.specs.declared.class.SizeClass.TheVariants as size
-use Rattle.gh_class.specs.declared.class.TheConstants.{MOST_SPAN_PAGES, MOST_TYPE_WORDS}
+use Rattle.gh_class.specs.declared.class.TheConstants.{MOST_TYPE_WORDS}
 use Rattle.gh_mutator.specs.New.{sought_by, wanted_of}
+use Rattle.gh_mutator.specs.Wanting.{LargeFacts, SmallFacts, WhatIsWantedFits}
 use Rattle.gh_mutator.specs.Sound.{IsRegister, SoundWanted}
 
 -- the laws of the size classes that are wanted here
@@ -57,24 +58,12 @@ facts_of laws c h =
       fits = omega (arith, mul-le-mul_right (slot_of c / 8) some, within);
     }
 
--- the words of a slot of a small object, and of a large one
-pub record SmallFacts (words : ℕ) : Type 0 where
-  pub class : class_number (8 * words) < 25
-  pub slot : 1 ≤ slot_words words
-  pub is : slot_words words ≡ slot_of (class_number (8 * words)) / 8
-
 pub small_facts : ClassLaws → (words : ℕ) → words ≤ 4096 → SmallFacts words
 small_facts laws words h =
     let below : class_number (8 * words) < 25 = (laws.number (8 * words) (omega arith)).among in
     let f = facts_of laws (class_number (8 * words)) below in
     let e : slot_words words ≡ slot_of (class_number (8 * words)) / 8 = laws.small_slot words (omega arith) in
     record { class = below; slot = rw e f.slot; is = e }
-
-pub record LargeFacts (words : ℕ) : Type 0 where
-  pub some : 1 ≤ slot_words words / 1024
-  pub few : slot_words words / 1024 ≤ MOST_SPAN_PAGES
-  pub slot : 1 ≤ slot_words words
-  pub is : slot_words words ≡ 1024 * (slot_words words / 1024)
 
 pub large_facts : ClassLaws → (words : ℕ) → 4096 < words → words ≤ MOST_TYPE_WORDS → LargeFacts words
 large_facts laws words h k =
@@ -101,3 +90,6 @@ wanted_sound laws shapes g d t fit there register =
 pub sought_small : ClassLaws → (w : Sought) → IsSought w → words_of w < 2 ^ 23
 sought_small laws (Small c) is = let most = laws.greatest_slot c.class is in omega (arith, most)
 sought_small laws (Large pages noscan) is = let few = is.1 in omega (arith, few)
+
+pub what_is_wanted_fits : ClassLaws → WhatIsWantedFits
+what_is_wanted_fits laws = record { small = small_facts laws; large = large_facts laws; sound = wanted_sound laws }

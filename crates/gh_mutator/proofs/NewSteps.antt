@@ -4,7 +4,7 @@ use Rattle.gh_base.specs.declared.value.Value.TheVariants as value
 use Rattle.gh_cache.specs.Listing as slots
 use Rattle.gh_alloc.specs.declared.find.FindStage.TheVariants as finding
 use Rattle.gh_alloc.specs.declared.place.PlaceStage.TheVariants as making
-use Rattle.gh_alloc.specs.Stays.{Base, search_base, stays}
+use Rattle.gh_alloc.specs.Stays.{stays}
 use Rattle.gh_alloc.specs.Find as find
 use Rattle.gh_alloc.specs.Place as place
 use Rattle.gh_alloc.specs.Search as search
@@ -18,16 +18,13 @@ use Rattle.gh_mutator.specs.NewParts.{made_at, MakingFits}
 use Rattle.gh_mutator.specs.Poll.{Polling}
 use Rattle.gh_mutator.specs.Processor.{cached_for, made_by, set_register}
 use Rattle.gh_mutator.specs.Sound.{most_objects, Sound, SoundSearch, SoundTask, SoundWanted}
-use Rattle.gh_mutator.specs.Stays.{wait_stacks, wait_stays}
+use Rattle.gh_mutator.specs.Stays.{search_wants, wait_stacks, wait_stays}
 use Rattle.gh_mutator.specs.Wait as wait
 use Rattle.gh_mutator.proofs.Vocabulary.{after_assist, Assist, Assisting, assisting, assists, Name, after_search, after_wait, At, at_poll, at_task, cache_span, CachedSpan, FitsWait, Found, Large, Layout, made_object, makes, NewStage, NoRoom, Place, PlaceStage, Placing, Processor, read_after_set, Search, Seeking, set, Shape, slots_of, Small, Sought, takes, takes_at as takes_by, Task, Wait, Waiting, Want, Wanted}
 use Rattle.gh_mutator.proofs.Changes.{moved, polled, taken}
 use Rattle.gh_mutator.proofs.Waits.{wait_fits}
 
 -- What the search keeps, and where the making of an object goes.
-
-pub search_wants : (s : Seeking) (found : ℕ) → (search.goes s found).find.wanted ≡ s.find.wanted
-search_wants s found = ap (λ (b : Base). b.wanted) (search_base s.find s.stage found)
 
 -- behind the counting it is made
 counted_made : (p : Placing) (found : ℕ) → is_made (place.counted p found) ≡ true

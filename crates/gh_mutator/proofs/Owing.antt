@@ -28,7 +28,7 @@ use Rattle.gh_mutator.specs.Spending.{DebtsAreDropped, owed_at, owed_of, OwesWhi
 use Rattle.gh_mutator.specs.Store as store
 use Rattle.gh_mutator.specs.Vocabulary.{Polling}
 use Rattle.gh_mutator.specs.Wait as wait
-use Rattle.gh_mutator.specs.Writing.{IsAssisting, SoundAssist, SoundAssistAt}
+use Rattle.gh_mutator.specs.Running.{IsAssisting, SoundAssist, SoundAssistAt}
 use Rattle.gh_mutator.proofs.Vocabulary.{after_assist, after_gc, after_leave, after_place, after_poll, after_search, after_wait, Assist, Assisting, assisting, assists, At, begins, cache_span, CachedSpan, Ends, follows, Found, GoesOn, has_left_at, is_busy_at, Layout, Leaving, Name, NewStage, NoRoom, Op, phase_of, Place, Placing, PollStage, Processor, processor_kind, register_of, run_phase, RunPhase, Search, Seeking, Shape, takes_at, taking, Task, Then, Value, Wait, WaitStage, Waiting, Want, Wanted}
 
 -- What is known of the phase, and what is owed.

@@ -7,34 +7,26 @@ use Rattle.gh_alloc.specs.declared.search.SearchStage.TheVariants as search_stag
 use Rattle.gh_alloc.specs.Find as find
 use Rattle.gh_alloc.specs.Place as place
 use Rattle.gh_alloc.specs.Search as search
-use Rattle.gh_alloc.specs.SearchFacts.{SweepsHere}
 use Rattle.gh_assist.specs.Listing as assist
 use Rattle.gh_sweep.specs.Listing.{is_busy, opening, Sweeping}
 use Rattle.gh_sweep.specs.Listing as sweep
-use Rattle.gh_sweep.specs.Running.{BeginsSweep, on_from, RunsSweeps}
+use Rattle.gh_sweep.specs.Running.{on_from, RunsSweeps}
 use Rattle.gh_mutator.specs.declared.task.Task.TheVariants as task
 use Rattle.gh_mutator.specs.Deeds.{processor_kind}
-use Rattle.gh_mutator.specs.Facts.{FactsAt, rest}
 use Rattle.gh_mutator.specs.Global as global
 use Rattle.gh_mutator.specs.Leave as leave
 use Rattle.gh_mutator.specs.Load as load
 use Rattle.gh_mutator.specs.Local.{marking_at}
 use Rattle.gh_mutator.specs.New as new
-use Rattle.gh_mutator.specs.New.{makes, searches, seeking, wanted_of}
+use Rattle.gh_mutator.specs.New.{searches, seeking, wanted_of}
 use Rattle.gh_mutator.specs.Poll as poll
 use Rattle.gh_mutator.specs.Poll.{Polling}
 use Rattle.gh_mutator.specs.Processor.{cached_for}
 use Rattle.gh_mutator.specs.Register as register
 use Rattle.gh_mutator.specs.Store as store
-use Rattle.gh_mutator.specs.Sweeping.{ProcessorsRunSweeps, sweep_at, sweep_in, sweep_new}
-use Rattle.gh_mutator.specs.Vocabulary.{Answer, Arena, View}
+use Rattle.gh_mutator.specs.Sweeping.{IsSearching, SearchesAt, SweepsAreRunOn, sweep_at, sweep_in, sweep_new}
 use Rattle.gh_mutator.specs.Wait as wait
 use Rattle.gh_mutator.proofs.Vocabulary.{after_assist, Assist, Assisting, assisting, assists, Name, after_gc, after_leave, after_poll, after_search, after_wait, asks_at, At, at_poll, at_task, begins, cache_span, CachedSpan, Ends, Finding, FindStage, follows, Found, GoesOn, has_left_at, Large, Layout, Leaving, NewStage, NoRoom, Op, Place, Placing, Processor, register_of, Search, SearchStage, Seeking, Shape, slots_of, Small, Sought, takes_at, Task, Then, Wait, Waiting, Wanted, Want}
-
--- what is known of the search by its laws
-pub record Known : Type 0 where
-  pub runs : RunsSweeps search.asks search.goes search.sweep_layout search.sweep_generation search.sweep_in
-  pub here : SweepsHere
 
 -- a search that begins sweeps none
 begins_none : (l : Layout) (x : Sought) (c : Option CachedSpan) → find.sweep_at (find.begin l x c) ≡ None
@@ -73,11 +65,11 @@ search_then shapes m w waited q None e = refl
 search_then shapes m w waited q (Some out) e = found_none shapes m w waited out ∙ sym (ended_none q.find q.stage out e)
 
 -- While it sweeps.
-on_at : Known → (shapes : List Shape) (m : Processor) (sw : Sweeping) (q : Task) → sweep_at q ≡ Some sw → is_busy sw.stage ≡ true → (asks_at m q ≡ sweep.asks sw) × ((found : ℕ) → sweep_in (takes_at shapes m q found) ≡ on_from sw found)
+on_at : RunsSweeps search.asks search.goes search.sweep_layout search.sweep_generation search.sweep_in → (shapes : List Shape) (m : Processor) (sw : Sweeping) (q : Task) → sweep_at q ≡ Some sw → is_busy sw.stage ≡ true → (asks_at m q ≡ sweep.asks sw) × ((found : ℕ) → sweep_in (takes_at shapes m q found) ≡ on_from sw found)
 on_at k shapes m sw (task.New x) is busy = by x.stage is where
   by : (n : NewStage) → sweep_new n ≡ Some sw → (new.asks_at m n ≡ sweep.asks sw) × ((found : ℕ) → sweep_in (new.takes_at shapes m x.wanted n found) ≡ on_from sw found)
   by (Search waited y) is =
-      let o = k.runs.on y sw is busy in
+      let o = k.on y sw is busy in
       (o.asks_so, λ found. search_then shapes (cache_span m x.wanted.sought (search.goes y found).find.cached) x.wanted waited (search.goes y found) (search.gives y found) refl ∙ o.goes_so found)
   by (Wait y) is = absurd (cc)
   by (Place y) is = absurd (cc)
@@ -85,7 +77,7 @@ on_at k shapes m sw (task.New x) is busy = by x.stage is where
   by (Assist n y) is = absurd (cc)
 on_at k shapes m sw _ is busy = absurd (cc)
 
--- Where it begins one: behind a step of a search alone.
+-- A step that is none of a search leads to none.
 
 follows_none : {S : Type 0} → (goes : S → Task) → ((s : S) → sweep_at (goes s) ≡ None) → (t : Then S) → sweep_at (follows goes t) ≡ None
 follows_none goes none (GoesOn s) = none s
@@ -120,45 +112,25 @@ leave_none : (m : Processor) (x : Leaving) (out : Option (Unit {0})) → sweep_i
 leave_none m x None = refl
 leave_none m x (Some y) = refl
 
-module _ (k : Known) (z : Arena) (a : ℕ) (v : View) (m : Processor) (pending : Option Answer) (found : ℕ) (sw : Sweeping) where
-  abbrev Begins : Task → Type 0
-  Begins q = FactsAt z a v m pending q → sweep_at q ≡ None → sweep_in (takes_at z.shapes m q found) ≡ Some sw → BeginsSweep z.layout v.generation (asks_at m q) found sw
-
-  none_so : (o : Option Sweeping) → o ≡ None → o ≡ Some sw → ⊥
-  none_so o none some = cc
-
-  searched : (x : Wanted) (waited : Bool) (y : Seeking) → Begins (searches x waited y)
-  searched x waited y f none some =
-      let there : search.sweep_in (search.goes y found) ≡ Some sw = sym (search_then z.shapes (cache_span m x.sought (search.goes y found).find.cached) x waited (search.goes y found) (search.gives y found) refl) ∙ some in
-      let b = k.runs.begins y found sw none there in
-      let here = k.here z a v (rest m x) y f.facts in
-      record {
-        page = b.page;
-        head = b.head;
-        step_is = b.step_is;
-        head_is = b.head_is;
-        number = b.number ∙ here.1;
-        sweep_is = b.sweep_is ∙ ap (λ (l : Layout). opening l b.page b.head) here.0;
-      }
-
-  begins_at : (q : Task) → m.task ≡ q → Begins q
-  begins_at task.Idle is f none some = absurd (none_so (sweep_in m) (ap sweep_at is) some)
-  begins_at task.Left is f none some = absurd (none_so (sweep_in m) (ap sweep_at is) some)
-  begins_at (task.Load x) is f none some = absurd (none_so _ (follows_none task.Load (λ s. refl) (load.step m.poll.layout x found).then) some)
-  begins_at (task.Store x) is f none some = absurd (none_so _ (follows_none task.Store (λ s. refl) (store.step m.poll.layout m.poll.local (register_of m x.g x.v) x found).then) some)
-  begins_at (task.Global x) is f none some = absurd (none_so _ (follows_none task.Global (λ s. refl) (global.step m.poll.layout (register_of m x.g x.r) x found).then) some)
-  begins_at (task.Register x) is f none some = absurd (none_so _ (follows_none task.Register (λ s. refl) (register.step (register_of m x.g (register.read_of x)) x).then) some)
-  begins_at (task.New x) is f none some = by x.stage f none some where
-    by : (n : NewStage) → Begins (task.New (record { wanted = x.wanted; stage = n }))
-    by (Search waited y) = searched x.wanted waited y
-    by (Wait y) = λ f none some. absurd (none_so _ (waited_none m x.wanted (wait.goes (wait.waiting y m.poll) found) (wait.gives (wait.waiting y m.poll) found)) some)
-    by (Place y) = λ f none some. absurd (none_so _ (placed_none m x.wanted (place.acts y) (place.gives y found) y.at (place.goes y found)) some)
-    by (Want n) = λ f none some. absurd (cc)
-    by (Assist n y) = λ f none some. absurd (none_so _ (assisted_none m x.wanted n (assist.goes y found) (assist.gives y found)) some)
-  begins_at (task.Gc g x) is f none some = absurd (none_so _ (gc_none m g (wait.goes (wait.waiting x m.poll) found) (wait.gives (wait.waiting x m.poll) found)) some)
-  begins_at task.Poll is f none some = absurd (none_so _ (poll_none m (poll.goes m.poll found) (poll.gives m.poll found)) some)
-  begins_at (task.End g) is f none some = absurd (cc)
-  begins_at (task.Leave x) is f none some = absurd (none_so _ (leave_none m (leave.goes x found) (leave.gives x found)) some)
+module _ (shapes : List Shape) (m : Processor) (found : ℕ) where
+  others_at : (q : Task) → m.task ≡ q → sweep_at q ≡ None → (IsSearching q → ⊥) → sweep_in (takes_at shapes m q found) ≡ None
+  others_at task.Idle is none not = ap sweep_at is
+  others_at task.Left is none not = ap sweep_at is
+  others_at (task.Load x) is none not = follows_none task.Load (λ s. refl) (load.step m.poll.layout x found).then
+  others_at (task.Store x) is none not = follows_none task.Store (λ s. refl) (store.step m.poll.layout m.poll.local (register_of m x.g x.v) x found).then
+  others_at (task.Global x) is none not = follows_none task.Global (λ s. refl) (global.step m.poll.layout (register_of m x.g x.r) x found).then
+  others_at (task.Register x) is none not = follows_none task.Register (λ s. refl) (register.step (register_of m x.g (register.read_of x)) x).then
+  others_at (task.New x) is none not = by x.stage not where
+    by : (n : NewStage) → (SearchesAt n → ⊥) → sweep_in (new.takes_at shapes m x.wanted n found) ≡ None
+    by (Search waited y) not = absurd (not tt)
+    by (Wait y) not = waited_none m x.wanted (wait.goes (wait.waiting y m.poll) found) (wait.gives (wait.waiting y m.poll) found)
+    by (Place y) not = placed_none m x.wanted (place.acts y) (place.gives y found) y.at (place.goes y found)
+    by (Want n) not = refl
+    by (Assist n y) not = assisted_none m x.wanted n (assist.goes y found) (assist.gives y found)
+  others_at (task.Gc g x) is none not = gc_none m g (wait.goes (wait.waiting x m.poll) found) (wait.gives (wait.waiting x m.poll) found)
+  others_at task.Poll is none not = poll_none m (poll.goes m.poll found) (poll.gives m.poll found)
+  others_at (task.End g) is none not = refl
+  others_at (task.Leave x) is none not = leave_none m (leave.goes x found) (leave.gives x found)
 
 -- And where it begins an operation it begins none.
 begun_none : (shapes : List Shape) (l : Layout) (m : Processor) (o : Op) → sweep_in m ≡ None → sweep_in ((processor_kind shapes l).begins m o) ≡ None
@@ -171,10 +143,11 @@ begun_none shapes l m o none = by (has_left_at m.task) where
   by true = none
   by false = op_none o
 
-pub runs_sweeps : Known → ProcessorsRunSweeps
-runs_sweeps k = record {
+pub sweeps_run_on : RunsSweeps search.asks search.goes search.sweep_layout search.sweep_generation search.sweep_in → SweepsAreRunOn
+sweeps_run_on k = record {
   at_first = λ l seat. refl;
   begun = begun_none;
   on = λ shapes m sw is busy. let o = on_at k shapes m sw m.task is busy in record { asks_so = o.0; goes_so = o.1 };
-  begins = λ z a v m pending found sw fine none some. begins_at k z a v m pending found sw m.task refl fine.task none some;
+  searches = λ shapes m w waited q found. search_then shapes (cache_span m w.sought (search.goes q found).find.cached) w waited (search.goes q found) (search.gives q found) refl;
+  others = λ shapes m found none not. others_at shapes m found m.task refl none not;
 }

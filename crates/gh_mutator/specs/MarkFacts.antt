@@ -1,4 +1,5 @@
 -- What is known of a processor that polls, waits or leaves while marking is on, at each stage, and what each step of its own is then. It may hold a buffer between two polls. While it scans a stack it has the object besides that it shades; and at a stop, with its buffer given back, it has nothing.
+use Rattle.std.proofs.Common.{◌∙◌, sym}
 use Rattle.std.specs.Prelude.{◌≡◌, ◌≢◌, ℕ, ◌%◌, ◌<◌, ◌≤◌, Bool, true, false, List, [], length, slice_index, slice_index_or, Option, Some, None}
 use Rattle.gh_base.specs.declared.cell.Ask.TheVariants as ask
 use Rattle.gh_base.specs.declared.cell.Cell.TheVariants as cell
@@ -35,6 +36,15 @@ pub record KnowsStacks (z : Cycle) (a : ℕ) (s : Shared) (stacks : List (List V
   pub noted : (g : ℕ) → IsOf z.arena a g → slice_index notes g ≡ s.words (cell.Scanned g)
   -- there is a note for each
   pub places : z.arena.layout.goroutines ≤ length notes
+
+-- what it knows of its stacks lasts, save by its own scans
+pub stacks_last : (z : Cycle) (a : ℕ) (s t : Shared) (stacks : List (List Value)) (notes : List ℕ) → Keeps z a s t → KnowsStacks z a s stacks notes → KnowsStacks z a t stacks notes
+stacks_last z a s t stacks notes k f = record {
+  own = f.own;
+  registers = λ g own on. let was = f.registers g own (λ e. on (k.stacks g own ∙ e)) in record { whole = was.whole; each = λ d lt. k.registers g d own ∙ was.each d lt; some = was.some };
+  noted = λ g own. f.noted g own ∙ sym (k.stacks g own);
+  places = f.places;
+}
 
 -- while it takes marking to be on it knows the number of the cycle
 abbrev pub KnowsNumber : Cycle → View → Type 0

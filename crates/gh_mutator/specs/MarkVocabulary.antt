@@ -1,9 +1,7 @@
 -- The names that files on a processor among a collector share while marking is on.
 pub use Rattle.gh_alloc.specs.declared.sought.CachedSpan.{CachedSpan}
-pub use Rattle.gh_base.specs.Cells.{Words}
 pub use Rattle.gh_base.specs.Steps.{cell_of, effect}
 pub use Rattle.gh_base.specs.declared.cell.Ask.{Ask}
-pub use Rattle.gh_base.specs.declared.cell.Cell.{Cell}
 pub use Rattle.gh_base.specs.declared.held.Held.{Held}
 pub use Rattle.gh_base.specs.declared.layout.Layout.{Layout}
 pub use Rattle.gh_base.specs.declared.value.Value.{Value}
@@ -15,8 +13,7 @@ pub use Rattle.gh_marks.specs.Moves.{Keeps, Others, ScanStack, Steps, landing, m
 pub use Rattle.gh_marks.specs.Seats.{Hands, InHand, nothing}
 pub use Rattle.gh_mutator.specs.Deeds.{processor_kind}
 pub use Rattle.gh_mutator.specs.MarkStack.{StackMarking}
-pub use Rattle.gh_mutator.specs.Processor.{opening_processor}
-pub use Rattle.gh_mutator.specs.ProcessorPlaces.{SoundPlace, party_of, stage_of}
+pub use Rattle.gh_mutator.specs.ProcessorPlaces.{SoundPlace, stage_of}
 pub use Rattle.gh_mutator.specs.Quiet.{ProcessorIsQuiet}
 pub use Rattle.gh_mutator.specs.declared.give.GiveStage.{GiveStage}
 pub use Rattle.gh_mutator.specs.declared.leave.LeaveStage.{LeaveStage}
@@ -24,7 +21,6 @@ pub use Rattle.gh_mutator.specs.declared.mark_stack.MarkStackStage.{MarkStackSta
 pub use Rattle.gh_mutator.specs.declared.poll.Local.{Local}
 pub use Rattle.gh_mutator.specs.declared.poll.PollStage.{PollStage}
 pub use Rattle.gh_mutator.specs.declared.wait.WaitStage.{WaitStage}
-pub use Rattle.gh_phase.specs.Handshake.{Party, Stage}
 pub use Rattle.gh_phase.specs.Shakes.{IsParked}
 pub use Rattle.gh_phase.specs.declared.view.View.{View}
 pub use Rattle.gh_scan.specs.Quiet.{MarkingIsQuiet}

@@ -1,20 +1,19 @@
 -- The credit that a processor has spent: the words that it has drawn from the bank, each once. And the words of marking that it owes.
-use Rattle.std.specs.Prelude.{◌≡◌, ◌⊎◌, ℕ, ◌+◌, ◌^◌, ◌<◌, false, true, List, Some}
+use Rattle.std.specs.Prelude.{◌≡◌, ◌⊎◌, ℕ, false, true, List, Some}
 use Rattle.gh_assist.specs.Listing as assist
-use Rattle.gh_credit.specs.Drawing.{drawn_by, LeavesOrDraws}
 use Rattle.gh_phase.specs.declared.resume.Resumed.{Resumed}
 use Rattle.gh_phase.specs.Listing as resume
 use Rattle.gh_phase.specs.Listing.{Resuming}
 use Rattle.gh_mutator.specs.declared.poll.PollStage.TheVariants as poll_stage
 use Rattle.gh_mutator.specs.declared.task.Task.TheVariants as task
 use Rattle.gh_mutator.specs.Deeds.{processor_kind}
-use Rattle.gh_mutator.specs.Listing.{asks, is_busy_at, takes}
+use Rattle.gh_mutator.specs.Listing.{is_busy_at, takes}
 use Rattle.gh_mutator.specs.Local.{marking_at}
 use Rattle.gh_mutator.specs.New.{assists}
 use Rattle.gh_mutator.specs.Poll.{goes, resumed}
 use Rattle.gh_mutator.specs.Processor.{opening_processor}
 use Rattle.gh_mutator.specs.Vocabulary.{Assist, Assisting, Layout, Name, NewStage, Op, Polling, Processor, Shape, Task, Wanted}
-use Rattle.gh_mutator.specs.Writing.{IsAssisting, IsSound}
+use Rattle.gh_mutator.specs.Running.{IsAssisting, IsSound}
 
 -- while it assists, the assist counts
 abbrev pub spent_new : Polling → NewStage → ℕ
@@ -27,16 +26,6 @@ spent_at p _ = p.local.spent
 
 abbrev pub spent_of : Processor → ℕ
 spent_of m = spent_at m.poll m.task
-
-pub record ProcessorsSpend : Type 0 where
-  pub at_first : (l : Layout) (seat : ℕ) → spent_of (opening_processor l seat) ≡ 0
-  pub begins : (shapes : List Shape) (l : Layout) (m : Processor) (o : Op) → is_busy_at m.task ≡ false → spent_of ((processor_kind shapes l).begins m o) ≡ spent_of m
-  -- it counts what a step of its own takes out of the bank, as long as the count is within its type
-  pub spends : (shapes : List Shape) (m : Processor) (found : ℕ) → IsSound m → is_busy_at m.task ≡ true → spent_of m + drawn_by (asks m) found < 2 ^ 64 → spent_of (takes shapes m found) ≡ spent_of m + drawn_by (asks m) found
-  -- it writes the bank by swaps alone that take words out
-  pub draws : (m : Processor) → IsSound m → is_busy_at m.task ≡ true → LeavesOrDraws (asks m)
-  -- and it assists only while marking is on, as it knows
-  pub marking : (m : Processor) → IsSound m → IsAssisting m.task → marking_at m.poll ≡ true
 
 -- What it owes; while it assists, the assist counts that too.
 abbrev pub owed_new : Polling → NewStage → ℕ

@@ -1,13 +1,14 @@
--- What the steps of a routine leave as it is: its layout, and of a poll and a wait the seat and the registers too. An operation is answered exactly where no further step is asked for.
+-- What the steps of a routine leave as it is: its layout, and of a poll and a wait the seat and the registers too. An operation is answered exactly where no further step is asked for. And what single steps come to, for the crates above that cite it.
 use Rattle.std.proofs.Common.{ap, ltb, ◌∙◌}
 use Rattle.std.proofs.lemmas.Bool.{ltb-true}
-use Rattle.std.specs.Prelude.{◌≡◌, ℕ, ◌<◌, Bool, true, false, cond, ◌↔◌, List, Option, Some, None, is_none, IsNone, refl}
+use Rattle.std.specs.Prelude.{◌≡◌, ◌==◌, ℕ, ◌+◌, ◌<◌, Bool, true, false, cond, ◌↔◌, List, Option, Some, None, is_none, IsNone, refl}
 use Rattle.gh_base.specs.Given.{is_over}
 use Rattle.gh_base.specs.Packing.{phase_of}
 use Rattle.gh_base.specs.declared.held.Held.{Held}
 use Rattle.gh_base.specs.declared.value.Answer.TheVariants as answer
 use Rattle.gh_alloc.specs.Place as place
 use Rattle.gh_alloc.specs.Search as search
+use Rattle.gh_alloc.specs.Stays.{Base, search_base}
 use Rattle.gh_assist.specs.Listing as assist
 use Rattle.gh_phase.specs.declared.resume.Resumed.{Resumed}
 use Rattle.gh_phase.specs.declared.view.RunPhase.{RunPhase}
@@ -37,14 +38,19 @@ use Rattle.gh_mutator.specs.Global as global
 use Rattle.gh_mutator.specs.Leave as leave
 use Rattle.gh_mutator.specs.Listing.{after_gc, after_leave, after_poll as after_polls, follows, gives_at, is_busy_at, once_ended, takes_at}
 use Rattle.gh_mutator.specs.Load as load
-use Rattle.gh_mutator.specs.Local.{marking_at}
+use Rattle.gh_mutator.specs.Barrier.{written}
+use Rattle.gh_mutator.specs.Local.{is_mark, marking_at}
+use Rattle.gh_mutator.specs.declared.poll.Local.{Local}
+use Rattle.gh_mutator.specs.declared.store.Store.{Store}
+use Rattle.gh_mutator.specs.declared.store.StoreStage.TheVariants as store_stage
 use Rattle.gh_mutator.specs.MarkStack as mark
 use Rattle.gh_mutator.specs.Mutating.{Mutating, gives, goes, is_busy, layout}
-use Rattle.gh_mutator.specs.New.{after_assist, after_found, after_place, after_search, after_wait, answer_assist, answer_made, answer_search, assisting, assists, made_task}
+use Rattle.gh_mutator.specs.New.{after_assist, after_place, after_search, after_wait, answer_assist, answer_made, answer_search, assisting, assists, made_task}
 use Rattle.gh_mutator.specs.New as new
 use Rattle.gh_mutator.specs.Poll as poll
 use Rattle.gh_mutator.specs.Poll.{after_mark, after_resume, after_room, by_phase, due, giving, marks_then, resumed, scans, stops_then}
 use Rattle.gh_mutator.specs.Processor.{cache_span, keeping, register_of, taking}
+use Rattle.gh_mutator.specs.Spending.{spent_of}
 use Rattle.gh_mutator.specs.Step.{answered}
 use Rattle.gh_mutator.specs.Store as store
 use Rattle.gh_mutator.specs.Vocabulary.{Assist, Assisting, Shape, Answer, Found, At, NoRoom, Layout, Leaving, Placing, Polling, Seeking, Name, NewStage, Search, Wait, Place, Waiting, Want, Wanted, Processor, Then, GoesOn, Ends, Task, Value}
@@ -308,3 +314,26 @@ stays_at shapes m (task.Leave x) found = once (In m.poll) (after_leave m (leave.
 
 pub stays : (m : Mutating) (found : ℕ) → layout (goes m found) ≡ layout m
 stays m found = stays_at m.shapes m.processor m.processor.task found
+
+-- ---- what a routine of it keeps, and what it takes from the processor
+
+-- a search is for the same until it ends
+pub search_wants : (s : Seeking) (found : ℕ) → (search.goes s found).find.wanted ≡ s.find.wanted
+search_wants s found = ap (λ (b : Base). b.wanted) (search_base s.find s.stage found)
+
+-- and it begins with the sweep generation that the processor knows
+pub seeks_now : (m : Processor) (w : Wanted) → (new.seeking m w).find.generation ≡ m.poll.local.view.generation
+seeks_now m w = refl
+
+-- an assist leaves the words that it says it has spent
+pub assist_spent : (m : Processor) (w : Wanted) (n : Name) (x : Assisting) (out : Option (Unit {0})) → spent_of (after_assist m w n x out) ≡ x.spent
+assist_spent m w n x None = refl
+assist_spent m w n x (Some y) = refl
+
+-- a pointer is stored behind the write barrier where marking is on, as the processor knows
+pub stores_behind : (l : Layout) (own : Local) (held : Value) (x : Store) → is_mark own.view.phase ≡ true → store.stores l own held x true ≡ store_stage.Writing (written l own (store.pointer_cell_at l (x.at + x.k)) held)
+stores_behind l own held x on = ap (λ (marking : Bool). cond marking (store_stage.Writing (written l own (store.pointer_cell_at l (x.at + x.k)) held)) store_stage.Field) on
+
+-- the giving back of spans begins where the lock was free
+pub lock_leads : (g : give.Giving) (found : ℕ) (free : Bool) → (found == 0) ≡ free → give.goes_at g give_stage.Lock found ≡ give.at_stage g (cond free (give.stage_from g.cache 0) give_stage.Lock)
+lock_leads g found free e = ap (λ (b : Bool). give.at_stage g (cond b (give.stage_from g.cache 0) give_stage.Lock)) e

@@ -1,14 +1,14 @@
 -- A processor sweeps a span where its search for a slot does.
-use Rattle.std.specs.Prelude.{◌≡◌, ℕ, true, List, Option, Some, None, is_some}
+use Rattle.std.specs.Prelude.{◌≡◌, ℕ, Bool, true, List, Option, Some, None, is_some}
 use Rattle.gh_alloc.specs.Search as search
 use Rattle.gh_sweep.specs.Listing.{is_busy, Sweeping}
-use Rattle.gh_sweep.specs.Running.{BeginsSweep, SweepsOn}
+use Rattle.gh_sweep.specs.Running.{SweepsOn}
 use Rattle.gh_mutator.specs.declared.task.Task.TheVariants as task
 use Rattle.gh_mutator.specs.Deeds.{processor_kind}
-use Rattle.gh_mutator.specs.Facts.{Fine}
-use Rattle.gh_mutator.specs.Listing.{asks, takes}
+use Rattle.gh_mutator.specs.Listing.{asks, takes, takes_at}
+use Rattle.gh_mutator.specs.New.{searches as looks}
 use Rattle.gh_mutator.specs.Processor.{opening_processor}
-use Rattle.gh_mutator.specs.Vocabulary.{Answer, Arena, Layout, NewStage, Op, Processor, Search, Shape, Task, View}
+use Rattle.gh_mutator.specs.Vocabulary.{Seeking, Wanted, Layout, NewStage, Op, Processor, Search, Shape, Task}
 
 -- the sweep that it runs, if it runs one
 abbrev pub sweep_new : NewStage → Option Sweeping
@@ -25,11 +25,23 @@ sweep_in m = sweep_at m.task
 abbrev pub IsSweeping : Processor → Type 0
 IsSweeping m = is_some (sweep_in m) ≡ true
 
-pub record ProcessorsRunSweeps : Type 0 where
+-- a slot is looked for
+abbrev pub SearchesAt : NewStage → Type 0
+SearchesAt (Search waited y) = Unit {0}
+SearchesAt _ = ⊥
+
+abbrev pub IsSearching : Task → Type 0
+IsSearching (task.New x) = SearchesAt x.stage
+IsSearching _ = ⊥
+
+-- While it runs a sweep it goes on with it, and nothing but a search begins one.
+pub record SweepsAreRunOn : Type 0 where
   -- before its first step it runs none, and no operation begins with one
   pub at_first : (l : Layout) (seat : ℕ) → sweep_in (opening_processor l seat) ≡ None
   pub begun : (shapes : List Shape) (l : Layout) (m : Processor) (o : Op) → sweep_in m ≡ None → sweep_in ((processor_kind shapes l).begins m o) ≡ None
   -- while it runs a sweep its step is the sweep's, and it runs that on until it has ended
   pub on : (shapes : List Shape) (m : Processor) (sw : Sweeping) → sweep_in m ≡ Some sw → is_busy sw.stage ≡ true → SweepsOn asks (takes shapes) sweep_in m sw
-  -- it begins one where it finds the head of a span with the number before the sweep generation
-  pub begins : (z : Arena) (a : ℕ) (v : View) (m : Processor) (pending : Option Answer) (found : ℕ) (sw : Sweeping) → Fine z a v m pending → sweep_in m ≡ None → sweep_in (takes z.shapes m found) ≡ Some sw → BeginsSweep z.layout v.generation (asks m) found sw
+  -- a step of a search leads to the sweep that the search runs then
+  pub searches : (shapes : List Shape) (m : Processor) (w : Wanted) (waited : Bool) (q : Seeking) (found : ℕ) → sweep_in (takes_at shapes m (looks w waited q) found) ≡ search.sweep_in (search.goes q found)
+  -- and any other to none
+  pub others : (shapes : List Shape) (m : Processor) (found : ℕ) → sweep_in m ≡ None → (IsSearching m.task → ⊥) → sweep_in (takes shapes m found) ≡ None

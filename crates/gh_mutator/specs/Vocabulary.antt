@@ -1,34 +1,22 @@
 -- The names that files with many imports share.
 pub use Rattle.gh_assist.specs.Listing.{Assisting}
-pub use Rattle.gh_base.specs.Packing.{name_of, PackedWordsAreReadBack, page_of, slot_in}
 pub use Rattle.gh_base.specs.Routines.{EndsWithin}
-pub use Rattle.gh_base.specs.Rows.{Row}
-pub use Rattle.gh_base.specs.Shapes.{FitsShape, shape_at, ShapesFit}
+pub use Rattle.gh_base.specs.Shapes.{shape_at}
 pub use Rattle.gh_base.specs.Steps.{cell_of}
 pub use Rattle.gh_base.specs.declared.cell.Ask.{Ask}
 pub use Rattle.gh_base.specs.declared.layout.Layout.{Layout}
-pub use Rattle.gh_base.specs.declared.limits.TheConstants.{MOST_GOROUTINES, MOST_STATEMENTS, REGISTERS}
+pub use Rattle.gh_base.specs.declared.limits.TheConstants.{MOST_GOROUTINES, REGISTERS}
 pub use Rattle.gh_base.specs.declared.operation.Op.{Op}
-pub use Rattle.gh_base.specs.declared.pack.SpanHead.{SpanHead}
 pub use Rattle.gh_base.specs.declared.shape.Shape.{Shape}
 pub use Rattle.gh_base.specs.declared.value.Answer.{Answer}
-pub use Rattle.gh_base.specs.declared.value.Fault.{Fault}
 pub use Rattle.gh_base.specs.declared.value.Name.{Name}
 pub use Rattle.gh_base.specs.declared.value.Value.{Value}
-pub use Rattle.gh_class.specs.Classes.{IsSizeClass, pages_of, size_class_of, slot_of, slot_words, slot_words_of, slots_of, span_index}
+pub use Rattle.gh_class.specs.Classes.{slot_words, slots_of, span_index}
 pub use Rattle.gh_class.specs.declared.class.SizeClass.{SizeClass}
 pub use Rattle.gh_class.specs.declared.class.SpanClass.{SpanClass}
-pub use Rattle.gh_class.specs.declared.class.TheConstants.{SPAN_CLASSES}
-pub use Rattle.gh_model.specs.Ever.{answer_of, Ever, ever_after, fits, is_number, Reach, takes_answer, told, with_register}
-pub use Rattle.gh_model.specs.declared.EverValue.{EverValue}
-pub use Rattle.gh_heap.specs.Laws.{EachRightFollows, KeepsItsOwn, TheHeapIsApart}
-pub use Rattle.gh_heap.specs.Moves.{IsReached, KeepsObjects, moved, Quiet, Runs, Steps, Takes}
-pub use Rattle.gh_heap.specs.Objects.{Holds, IsMade, Means, points, size_for}
-pub use Rattle.gh_heap.specs.Rights.{Arena, Good, IsOf, Right, Shared, View, view}
-pub use Rattle.gh_heap.specs.Spans.{slot_size}
-pub use Rattle.gh_central.specs.Sweeping.{SweepLeaves}
+pub use Rattle.gh_heap.specs.Rights.{IsOf}
 pub use Rattle.gh_alloc.specs.Find.{Finding}
-pub use Rattle.gh_alloc.specs.FindSound.{IsCached, IsSought}
+pub use Rattle.gh_alloc.specs.FindSound.{IsCached}
 pub use Rattle.gh_alloc.specs.Place.{Placing}
 pub use Rattle.gh_alloc.specs.Search.{Seeking}
 pub use Rattle.gh_alloc.specs.declared.find.FindStage.{FindStage}
@@ -38,7 +26,6 @@ pub use Rattle.gh_alloc.specs.declared.sought.Found.{Found}
 pub use Rattle.gh_alloc.specs.declared.sought.Found.TheVariants.{At, NoRoom}
 pub use Rattle.gh_alloc.specs.declared.sought.Sought.{Sought}
 pub use Rattle.gh_alloc.specs.declared.sought.Sought.TheVariants.{Large, Small}
-pub use Rattle.gh_bitmap.specs.Stepping.{FitsSlot}
 pub use Rattle.gh_mutator.specs.declared.global.Global.{Global}
 pub use Rattle.gh_mutator.specs.declared.global.GlobalStage.{GlobalStage}
 pub use Rattle.gh_mutator.specs.declared.load.Load.{Load}

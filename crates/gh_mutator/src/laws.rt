@@ -1,32 +1,24 @@
 //! Laws of the machine. The functions do nothing; what they ensure is proved.
 
 ghost use Rattle.gh_mutator.specs.Acting.{EachOperationActsOnce};
-ghost use Rattle.gh_mutator.specs.Calm.{CalmProcessorsMarkNothing};
+ghost use Rattle.gh_mutator.specs.Asking.{ProcessorsAskAtTheTrigger};
 ghost use Rattle.gh_mutator.specs.Deeds.{OnlyPointsChange, ProcessorsDeedsFit};
 ghost use Rattle.gh_mutator.specs.Ending.{OperationsEnd};
 ghost use Rattle.gh_mutator.specs.Faults.{FaultsChangeNothing};
-ghost use Rattle.gh_mutator.specs.Full.{FullChangesLittle};
 ghost use Rattle.gh_mutator.specs.Handshake.{LeavesInHandshake, PollsInHandshake, WaitsInHandshake};
 ghost use Rattle.gh_mutator.specs.MarkFacts.{LeavesByMoves, PollsByMoves, WaitsByMoves};
 ghost use Rattle.gh_mutator.specs.PollRoom.{PollsMakeRoom};
 ghost use Rattle.gh_mutator.specs.ProcessorMarks.{MarksByMoves};
 ghost use Rattle.gh_mutator.specs.ProcessorPlaces.{ProcessorInHandshake};
 ghost use Rattle.gh_mutator.specs.Quiet.{ProcessorIsQuiet};
-ghost use Rattle.gh_mutator.specs.Runs.{RunsByItsRights};
-ghost use Rattle.gh_mutator.specs.Spending.{DebtsAreDropped, ProcessorsSpend};
-ghost use Rattle.gh_mutator.specs.Sweeping.{ProcessorsRunSweeps};
-ghost use Rattle.gh_mutator.specs.Writing.{ProcessorWritesItsOwn, StacksAreNoted};
+ghost use Rattle.gh_mutator.specs.Spending.{DebtsAreDropped};
+ghost use Rattle.gh_mutator.specs.Sweeping.{SweepsAreRunOn};
+ghost use Rattle.gh_mutator.specs.Wanting.{WhatIsWantedFits};
 
-use crate::heap_laws::{leaves_by_rights, polls_by_rights, waits_by_rights};
-use gh_alloc::laws::{
-    allocation_is_quiet, an_object_asks_at_the_trigger, an_object_is_marked_before_it_is_made,
-    making_keeps_its_facts, searches_run_sweeps, searching_keeps_its_facts,
-};
-use gh_assist::laws::{assists_are_quiet, assists_are_within, assists_by_moves, assists_pay};
-use gh_barrier::laws::{writes_by_moves, writing_ends, writing_is_within};
-use gh_base::laws::{cells_are_told, packed_words_are_read_back, rows_are_written};
+use gh_alloc::laws::{allocation_is_quiet, an_object_asks_at_the_trigger, searches_run_sweeps};
+use gh_assist::laws::{assists_are_quiet, assists_by_moves};
+use gh_barrier::laws::{writes_by_moves, writing_ends};
 use gh_class::size_class_laws;
-use gh_heap::laws::{rights_follow, the_heap_is_apart};
 use gh_marks::laws::{facts_last, hands_follow, own_moves_leave, steps_go_by_moves};
 use gh_phase::laws::going_on_keeps_the_handshake;
 use gh_scan::laws::marking_is_quiet;
@@ -47,15 +39,6 @@ pub fn operations_end()
 /// A statement that is answered a fault has loaded words alone, and leaves the processor as it was.
 pub fn faults_change_nothing()
     ensures { FaultsChangeNothing }
-{}
-
-/// A `new` that is answered `full` has waited: a cycle that began after it did was swept. Each step beside those of
-/// the wait loaded a word, took or freed the heap's lock, wrote a page word, or was one that a sweep makes: it swapped a
-/// page word, cut alloc bits, cleared marks, or added to the counts. It leaves the numbers of objects and all registers
-/// as they were, save its own, which is nil; no span is cached of its span class. What else the processor alone knows,
-/// the polls of the wait may have changed.
-pub fn full_changes_little()
-    ensures { FullChangesLittle }
 {}
 
 /// An operation that is begun acts once, before it ends, whatever its steps find: also one that has no point.
@@ -196,33 +179,6 @@ pub fn a_processor_marks_by_moves()
     stacks_are_scanned_by_moves();
 }
 
-/// Whatever a processor finds, its step is a load, or on a word of the heap's lock, of the pages, slots, pointer bits,
-/// names, fields and globals, of the mark bits, the buffers and their entries; or on its own acknowledgement, or on the
-/// word of a stack that it has scanned or whose goroutine ends. A scan is told only of a stack of which it has not noted
-/// yet the cycle's number, so each is scanned once at the most in a cycle. It asks for a cycle once in a wait, where that begins, and
-/// once behind the making of an object: exactly where it has loaded a trigger that the heap's bytes with the object's
-/// reach, by what the step that added those found while marking was off. It
-/// adds the bytes of a slot where it has made an object, and while it sweeps a span writes what the sweep counts. No other word
-/// is written by it. Its heap and its seat stay.
-pub fn a_processor_writes_its_own()
-    ensures { ProcessorWritesItsOwn }
-{
-    cells_are_told();
-    an_object_asks_at_the_trigger();
-    assists_are_quiet();
-    assists_pay();
-    the_processor_keeps_the_handshake();
-}
-
-/// What a processor counts as spent is what it takes out of the bank of credit, by swaps alone. It draws on the bank in an
-/// assist, and so while marking is on, as it knows.
-pub fn processors_spend()
-    ensures { ProcessorsSpend }
-{
-    a_processor_writes_its_own();
-    assists_pay();
-}
-
 /// What a processor owes is dropped behind a stop where marking is off, or another cycle is marked: who does not know of
 /// marking owes nothing. Behind a step of an assist it owes what that says, and behind any other as much as before, or
 /// nothing.
@@ -230,57 +186,25 @@ pub fn debts_are_dropped()
     ensures { DebtsAreDropped }
 {}
 
-/// What a processor has noted of a stack is the number that it has written last of it: the cycle of a scan, or that the
-/// goroutine has ended; and 0 before.
-pub fn stacks_are_noted()
-    ensures { StacksAreNoted }
+/// The making of an object asks for a cycle once behind it: exactly where it has loaded a trigger that the heap's bytes with
+/// the object's reach, by what the step that added those found while marking was off.
+pub fn objects_ask_at_the_trigger()
+    ensures { ProcessorsAskAtTheTrigger }
 {
-    assists_are_quiet();
+    an_object_asks_at_the_trigger();
 }
 
-/// A processor that holds no buffer, and does not know that marking is on, writes no buffer, no entry, and no mark bit but
-/// those that its sweep clears, and of a stack that its goroutine has ended alone; an object that it makes it has not marked. So it goes on as long as the phases that it finds are not that of
-/// marking; and it holds no buffer still where it first finds that one.
-pub fn calm_processors_mark_nothing()
-    ensures { CalmProcessorsMarkNothing }
-{
-    cells_are_told();
-    an_object_is_marked_before_it_is_made();
-    the_processor_keeps_the_handshake();
-    a_processor_marks_by_moves();
-}
-
-/// While a processor runs a sweep its steps are those of the sweep, until that has ended. Only its search for a slot runs
-/// one, and begins it where it finds the head of a span with the number before the sweep generation.
-pub fn processors_run_sweeps()
-    ensures { ProcessorsRunSweeps }
+/// While a processor runs a sweep its steps are those of the sweep, until that has ended. A step of its search for a slot
+/// leads to the sweep that the search runs then, and any other step to none; no operation begins with one.
+pub fn sweeps_are_run_on()
+    ensures { SweepsAreRunOn }
 {
     searches_run_sweeps();
-    searching_keeps_its_facts();
 }
 
-/// Whatever any number of processors do beside it: an operation begins well where it may begin; each step of the
-/// processor but those of a sweep is a move that its rights allow; each is on a word that there is, after which its
-/// registers hold what they hold in the heap that never frees, and it answers what that heap answers, or `full` where
-/// it found no room, with each span swept; the step that counts an object's bytes changes words alone; and what is known
-/// of it lasts, also behind each step of a sweep. Where it is parked at a stop, or is gone, it has no right, and what is
-/// known of it lasts whatever is done to the words.
-pub fn a_processor_runs_by_its_rights()
-    ensures { RunsByItsRights }
+/// What a `new` of a type wants fits: the slot of its size class, or pages of its own.
+pub fn what_is_wanted_fits()
+    ensures { WhatIsWantedFits }
 {
-    packed_words_are_read_back();
-    rows_are_written();
     size_class_laws();
-    the_heap_is_apart();
-    rights_follow();
-    gh_heap::laws::facts_last();
-    searching_keeps_its_facts();
-    making_keeps_its_facts();
-    writes_by_moves();
-    writing_is_within();
-    assists_are_quiet();
-    assists_are_within();
-    polls_by_rights();
-    waits_by_rights();
-    leaves_by_rights();
 }

@@ -28,16 +28,19 @@
 //! `Poll` for its whole life: that keeps its registers, its cached spans and its buffer, and each routine
 //! reads and changes them there.
 //!
+//! What is proved of it stands in three crates. Here: what follows from its listing alone (how many steps an operation takes,
+//! where it acts, what a fault leaves, what is owed), its place in the handshake of a stop, and its moves of marking while it
+//! polls, waits or leaves. Two crates above have no code: `gh_mutator_writes` says which words it writes, and `gh_mutator_heap`
+//! what it does to the heap.
+//!
 //! The words and the steps follow Go's `malloc.go`, `mcache.go` and `mbitmap.go`.
 #![tactic(auto)]
 
 mod assist;
 mod barrier;
-pub mod beside;
 mod field;
 mod give;
 mod global;
-pub mod heap_laws;
 pub mod laws;
 mod leave;
 mod load;

@@ -9,7 +9,7 @@ use Rattle.gh_coord.specs.Blind as leads_blindly
 use Rattle.gh_coord.specs.Listing.{Coordinating}
 use Rattle.gh_coord.specs.Listing as leading
 use Rattle.gh_coord.specs.Stays as coord
-use Rattle.gh_mutator.specs.Blind as runs_blindly
+use Rattle.gh_mutator_writes.specs.Blind as runs_blindly
 use Rattle.gh_mutator.specs.Stays as mutator
 use Rattle.gh_mutator.specs.Listing as listing
 use Rattle.gh_mutator.specs.Mutating as mutating

@@ -2,7 +2,7 @@
 use Rattle.std.proofs.Common.{◌≡◌, ◌≤◌, List, ap, ◌∙◌, arith}
 use Rattle.std.specs.Prelude.{sum_by}
 use Rattle.gh_base.specs.declared.limits.TheConstants.{MOST_STATEMENTS}
-use Rattle.gh_mutator.specs.Facts.{ShapesAreGood}
+use Rattle.gh_mutator_heap.specs.Facts.{ShapesAreGood}
 use Rattle.gh_world.specs.Actors.{AllStands, EveryListOfActorsStands}
 use Rattle.gh_world.specs.Vocabulary.{Entry, Layout, Legal, Op, Program, WellFormed}
 use Rattle.gh_world.specs.Wants.{total}

@@ -13,7 +13,7 @@ use Rattle.gh_coord.specs.Listing as coord
 use Rattle.gh_coord.specs.Stopping.{acks_of}
 use Rattle.gh_mutator.specs.Processor.{opening_processor}
 use Rattle.gh_mutator.specs.ProcessorPlaces.{ProcessorInHandshake}
-use Rattle.gh_mutator.specs.Writing.{ProcessorWritesItsOwn}
+use Rattle.gh_mutator_writes.specs.Writing.{ProcessorWritesItsOwn}
 use Rattle.gh_worker.specs.Handshake.{WorkersKeepHandshake}
 use Rattle.gh_worker.specs.Listing as worker
 use Rattle.gh_world.specs.declared.handshake.Actor.{Actor}

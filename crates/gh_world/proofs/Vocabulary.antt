@@ -60,12 +60,12 @@ pub use Rattle.gh_mutator.specs.Leave.{Leaving}
 pub use Rattle.gh_mutator.specs.Listing.{after_gc, after_leave, after_poll, gives, once_ended}
 pub use Rattle.gh_mutator.specs.Local.{register_at}
 pub use Rattle.gh_mutator.specs.Poll.{Polling}
-pub use Rattle.gh_mutator.specs.PollHeap.{Stands}
+pub use Rattle.gh_mutator_heap.specs.PollHeap.{Stands}
 pub use Rattle.gh_mutator.specs.ProcessorMarks.{new_polls}
 pub use Rattle.gh_mutator.specs.ProcessorPlaces.{new_stage_at, party_at, party_of, ProcessorInHandshake, SoundAt, SoundPlace, stage_at}
-pub use Rattle.gh_mutator.specs.Runs.{DoesPoints}
+pub use Rattle.gh_mutator_heap.specs.Runs.{DoesPoints}
 pub use Rattle.gh_mutator.specs.Wait.{Waiting, waiting}
-pub use Rattle.gh_mutator.specs.Writing.{CountsObject, IsWanting, IsWritten, ProcessorWritesItsOwn, TellsScan, WritesOf}
+pub use Rattle.gh_mutator_writes.specs.Writing.{CountsObject, IsWanting, IsWritten, ProcessorWritesItsOwn, TellsScan, WritesOf}
 pub use Rattle.gh_mutator.specs.declared.leave.LeaveStage.{LeaveStage}
 pub use Rattle.gh_mutator.specs.declared.new.New.{New}
 pub use Rattle.gh_mutator.specs.declared.poll.PollStage.{PollStage}

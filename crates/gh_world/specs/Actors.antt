@@ -23,7 +23,7 @@ use Rattle.gh_heap.specs.Objects.{IsMade}
 use Rattle.gh_heap.specs.Rights.{Arena}
 use Rattle.gh_marks.specs.Colours.{Cycle, Shared}
 use Rattle.gh_marks.specs.Seats.{Hands, nothing}
-use Rattle.gh_mutator.specs.Facts.{ShapesAreGood}
+use Rattle.gh_mutator_heap.specs.Facts.{ShapesAreGood}
 use Rattle.gh_mutator.specs.Listing.{gives}
 use Rattle.gh_sweep.specs.Counts.{AreWords, count_below, is_set, marked_objects, unmarked_objects}
 use Rattle.gh_state.specs.Slots.{slot_row}

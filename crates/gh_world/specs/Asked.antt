@@ -6,7 +6,8 @@ use Rattle.gh_base.specs.declared.pack.TheConstants.{GONE}
 use Rattle.gh_coord.specs.declared.coord.CoordStage.TheVariants.{Open}
 use Rattle.gh_coord.specs.declared.open.OpenStage.TheVariants.{ClearWant}
 use Rattle.gh_base.specs.Lists.{by as own}
-use Rattle.gh_mutator.specs.Writing.{BeginsToWait, CountsUpTo, SeesReached}
+use Rattle.gh_mutator_writes.specs.Writing.{BeginsToWait}
+use Rattle.gh_mutator.specs.Asking.{CountsUpTo, SeesReached}
 use Rattle.gh_world.specs.Handshake.{Pacing, those}
 use Rattle.gh_world.specs.Marking.{IsLedBy, IsStartOf}
 use Rattle.gh_world.specs.Numbers.{opens_one}

@@ -9,7 +9,7 @@ use Rattle.gh_coord.specs.Handshake as leading
 use Rattle.gh_coord.specs.Listing.{lapsed_at}
 use Rattle.gh_credit.specs.Drawing.{drawn_by}
 use Rattle.gh_credit.specs.Earning.{handed_by}
-use Rattle.gh_mutator.specs.Facts.{ShapesAreGood}
+use Rattle.gh_mutator_heap.specs.Facts.{ShapesAreGood}
 use Rattle.gh_mutator.specs.Spending.{spent_of}
 use Rattle.gh_world.specs.declared.handshake.Actor.TheVariants as actor
 use Rattle.gh_world.specs.Actors.{IsLed, may_of, words}

@@ -14,7 +14,7 @@ use Rattle.gh_mutator.specs.Deeds.{processor_kind}
 use Rattle.gh_mutator.specs.Listing as mutator
 use Rattle.gh_mutator.specs.Processor.{opening_processor}
 use Rattle.gh_mutator.specs.ProcessorPlaces.{party_of, stage_of}
-use Rattle.gh_mutator.specs.Writing.{IsSound}
+use Rattle.gh_mutator.specs.Running.{IsSound}
 use Rattle.gh_phase.specs.declared.resume.ResumeStage.TheVariants.{LoadPhase}
 use Rattle.gh_phase.specs.declared.view.RunPhase.{RunPhase}
 use Rattle.gh_phase.specs.declared.view.RunPhase.TheVariants.{Mark, Finished}

@@ -31,12 +31,12 @@ pub use Rattle.gh_coord.specs.Listing.{Coordinating}
 pub use Rattle.gh_coord.specs.Stopping.{acks_of}
 pub use Rattle.gh_coord.specs.SweepingAll.{SweepingAll}
 pub use Rattle.gh_coord.specs.declared.coord.CoordStage.{CoordStage}
-pub use Rattle.gh_mutator.specs.Calm.{IsCalm as MarksNothing}
+pub use Rattle.gh_mutator_writes.specs.Calm.{IsCalm as MarksNothing}
 pub use Rattle.gh_mutator.specs.Deeds.{deeds, processor_kind}
-pub use Rattle.gh_mutator.specs.Facts.{Fine, ShapesAreGood}
+pub use Rattle.gh_mutator_heap.specs.Facts.{Fine, ShapesAreGood}
 pub use Rattle.gh_mutator.specs.ProcessorMarks.{MarkFacts, only_polls}
 pub use Rattle.gh_mutator.specs.ProcessorPlaces.{stage_of}
-pub use Rattle.gh_mutator.specs.Writing.{IsSound}
+pub use Rattle.gh_mutator.specs.Running.{IsSound}
 pub use Rattle.gh_mutator.specs.declared.new.NewStage.{NewStage}
 pub use Rattle.gh_mutator.specs.declared.processor.Processor.{Processor}
 pub use Rattle.gh_mutator.specs.declared.task.Task.{Task}

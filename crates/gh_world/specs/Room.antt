@@ -4,7 +4,7 @@ use Rattle.gh_base.specs.declared.cell.Cell.TheVariants as cell
 use Rattle.gh_base.specs.declared.limits.TheConstants.{MOST_STATEMENTS}
 use Rattle.gh_base.specs.Cells.{buffers_of}
 use Rattle.gh_room.specs.Room.{HasRoom}
-use Rattle.gh_mutator.specs.Facts.{ShapesAreGood}
+use Rattle.gh_mutator_heap.specs.Facts.{ShapesAreGood}
 use Rattle.gh_world.specs.Actors.{may_of, words}
 use Rattle.gh_world.specs.Handshake.{Pacing, those}
 use Rattle.gh_world.specs.Marking.{IsInLimits}

@@ -21,13 +21,13 @@ pub use Rattle.gh_lines.specs.Text.{SweptCycle}
 pub use Rattle.gh_model.specs.Ever.{fits, from_field, from_global, has_field, is_number, is_pointer_field, load_answer, store_answer, told}
 pub use Rattle.gh_mutator.specs.Acting.{EachOperationActsOnce}
 pub use Rattle.gh_mutator.specs.Deeds.{OnlyPointsChange, given_at}
-pub use Rattle.gh_mutator.specs.Facts.{ShapesAreGood}
+pub use Rattle.gh_mutator_heap.specs.Facts.{ShapesAreGood}
 pub use Rattle.gh_mutator.specs.Leave.{Leaving}
 pub use Rattle.gh_mutator.specs.Listing.{after_gc, after_leave, after_poll, asks_at, gives}
 pub use Rattle.gh_mutator.specs.Poll.{Polling}
 pub use Rattle.gh_mutator.specs.ProcessorPlaces.{ProcessorInHandshake, party_at, party_of, stage_at, stage_of}
 pub use Rattle.gh_mutator.specs.Wait.{Waiting}
-pub use Rattle.gh_mutator.specs.Writing.{ProcessorWritesItsOwn}
+pub use Rattle.gh_mutator_writes.specs.Writing.{ProcessorWritesItsOwn}
 pub use Rattle.gh_mutator.specs.declared.wait.WaitStage.{WaitStage}
 pub use Rattle.gh_phase.specs.Shakes.{IsAwake}
 pub use Rattle.gh_script.specs.Program.{Goroutine, op_of}

@@ -65,11 +65,14 @@ use gh_marks::laws::{
     marking_ends_clean, steps_go_by_moves, the_cursor_is_small,
 };
 use gh_marks::picture::{cycles_begin_drawn, marking_is_drawn, the_picture_says};
-use gh_mutator::beside::a_processor_goes_on_beside_marking;
 use gh_mutator::laws::{
-    a_processor_marks_by_moves, a_processor_runs_by_its_rights, a_processor_writes_its_own,
-    calm_processors_mark_nothing, only_points_change, processors_run_sweeps, stacks_are_noted,
-    the_processor_keeps_the_handshake, the_processors_deeds_fit,
+    a_processor_marks_by_moves, only_points_change, the_processor_keeps_the_handshake,
+    the_processors_deeds_fit,
+};
+use gh_mutator_heap::beside::a_processor_goes_on_beside_marking;
+use gh_mutator_heap::laws::{a_processor_runs_by_its_rights, processors_run_sweeps};
+use gh_mutator_writes::laws::{
+    a_processor_writes_its_own, calm_processors_mark_nothing, stacks_are_noted,
 };
 use gh_state::laws::{
     counts_are_told, cycles_open_and_end, each_move_keeps,

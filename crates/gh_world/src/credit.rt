@@ -15,7 +15,7 @@ ghost use Rattle.gh_world.specs.Credit.{EveryListBalances};
 use crate::actors::every_list_of_actors_stands;
 use crate::handshake::every_list_keeps_the_handshake;
 use crate::numbers::{every_list_opens_few, every_list_rests_workers};
-use gh_mutator::laws::{a_processor_writes_its_own, processors_spend};
+use gh_mutator_writes::laws::{a_processor_writes_its_own, processors_spend};
 use gh_worker::laws::{a_worker_writes_its_own, calm_workers_mark_nothing, credit_is_handed_over};
 
 /// After every legal list of steps of all actors, in every order, the credit that workers have earned is what was spent, what

@@ -15,9 +15,8 @@ use gh_class::size_class_laws;
 use gh_coord::laws::it_goes_on_until_done;
 use gh_cycle::opening::reach_is_decided;
 use gh_mutator::Processor;
-use gh_mutator::laws::{
-    a_processor_writes_its_own, each_operation_acts_once, only_points_change, polls_make_room,
-};
+use gh_mutator::laws::{each_operation_acts_once, only_points_change, polls_make_room};
+use gh_mutator_writes::laws::a_processor_writes_its_own;
 use gh_state::laws::slots_are_read;
 use gh_sweep::laws::set_bits_are_counted;
 use gh_worker::laws::a_worker_writes_its_own;

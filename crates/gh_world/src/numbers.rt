@@ -16,7 +16,8 @@ ghost use Rattle.gh_world.specs.Waits.{EveryListNumbersStacks, EveryListRestsWor
 ghost use Rattle.gh_world.specs.Wants.{CyclesAreFew, EveryListCountsWants, ProcessorsBeginFew};
 
 use crate::handshake::every_list_keeps_the_handshake;
-use gh_mutator::laws::{a_processor_writes_its_own, the_processor_keeps_the_handshake};
+use gh_mutator::laws::the_processor_keeps_the_handshake;
+use gh_mutator_writes::laws::a_processor_writes_its_own;
 use gh_worker::laws::{a_worker_writes_its_own, calm_workers_mark_nothing};
 
 /// The numbers of the words and of the coordinator, by the part of the cycle that the coordinator is in; and the

@@ -1,5 +1,5 @@
--- What the laws of the moves and of the routines say, and what a processor knows of its stacks after its steps.
-use Rattle.std.proofs.Common.{◌≡◌, ◌≢◌, ℕ, ◌<◌, Bool, true, false, cond, eqb, List, length, refl, sym, ◌∙◌, arith}
+-- What the laws of the moves and of the routines say, and what a processor knows of its stacks after a scan.
+use Rattle.std.proofs.Common.{◌≡◌, ◌≢◌, ℕ, ◌<◌, Bool, true, false, cond, eqb, List, length, refl, ◌∙◌, arith}
 use Rattle.std.specs.Prelude.{slice_index, slice_set}
 use Rattle.std.proofs.lemmas.Bool.{eqb-true}
 use Rattle.std.proofs.lemmas.Bool.Decides.{nat_tests}
@@ -25,15 +25,6 @@ pub record Known : Type 0 where
   pub buffers : BuffersPassByMoves
   pub shade : ShadesByMoves
   pub stacks : StacksAreScannedByMoves
-
--- what it knows of its stacks lasts, save by its own scans
-pub stacks_last : (z : Cycle) (a : ℕ) (s t : Shared) (stacks : List (List Value)) (notes : List ℕ) → Keeps z a s t → KnowsStacks z a s stacks notes → KnowsStacks z a t stacks notes
-stacks_last z a s t stacks notes k f = record {
-  own = f.own;
-  registers = λ g own on. let was = f.registers g own (λ e. on (k.stacks g own ∙ e)) in record { whole = was.whole; each = λ d lt. k.registers g d own ∙ was.each d lt; some = was.some };
-  noted = λ g own. f.noted g own ∙ sym (k.stacks g own);
-  places = f.places;
-}
 
 -- a scan changes the word of its stack alone, and is noted
 module _ (z : Cycle) (a : ℕ) (s : Shared) (g : ℕ) (stacks : List (List Value)) (notes : List ℕ) (own : IsOf z.arena a g) (goes_on : s.words (cell.Scanned g) ≢ END) (f : KnowsStacks z a s stacks notes) where

@@ -11,13 +11,13 @@ use Rattle.gh_wbuf.specs.Facts as buffer_facts
 use Rattle.gh_wbuf.specs.RoomFinding as room
 use Rattle.gh_mutator.specs.declared.poll.PollStage.TheVariants.{LoadPhase, Giving, Resuming, Marking, FindRoom, Ended}
 use Rattle.gh_mutator.specs.Give as give
-use Rattle.gh_mutator.specs.MarkFacts.{GiveFacts, HasRoom, IsBetween, KnowsCycle, KnowsNumber, KnowsStacks, PollFacts, PollStageFacts, PollsByMoves, ScanFacts}
+use Rattle.gh_mutator.specs.MarkFacts.{GiveFacts, HasRoom, IsBetween, KnowsCycle, KnowsNumber, KnowsStacks, PollFacts, PollStageFacts, PollsByMoves, ScanFacts, stacks_last}
 use Rattle.gh_mutator.specs.MarkStack as mark
 use Rattle.gh_mutator.specs.Poll.{after_mark, after_resume, after_room, asks_at, at_stage, by_phase, counted, due, giving, goes_at, has_two, is_busy, marks_then, Polling, resumed, room_stage, scanned, scans, stops_then}
 use Rattle.gh_mutator.proofs.Vocabulary.{Ask, cell_of, Cycle, effect, Good, Hands, Held, holding, IsOf, IsQuiet, Keeps, KnowsObjects, landing, Layout, Load, Local, MarkingIsQuiet, moved, nat_tests, nothing, Others, phase_of, PollStage, ProcessorIsQuiet, Resumed, ResumeStage, run_phase, RunPhase, ScanStack, Shared, slice_index_or, slice_set, Steps, Store}
-use Rattle.gh_mutator.proofs.Due.{due_scans, IsUnscanned}
+use Rattle.gh_mutator.specs.Due.{due_scans, IsUnscanned}
 use Rattle.gh_mutator.proofs.Marking.Gives.{gives_begin, gives_last, gives_on, nothing_left}
-use Rattle.gh_mutator.proofs.Marking.Known.{by_load, by_quiet, Known, stacks_last, stacks_scanned}
+use Rattle.gh_mutator.proofs.Marking.Known.{by_load, by_quiet, Known, stacks_scanned}
 use Rattle.gh_mutator.proofs.Marking.Scans.{Comes, scan_begins, scans_last, scans_on}
 
 module _ (k : Known) (z : Cycle) (a : ℕ) where

@@ -18,7 +18,7 @@ use Rattle.gh_mutator.specs.declared.task.Task.TheVariants as task
 use Rattle.gh_mutator.specs.declared.wait.WaitStage.TheVariants as wait_stage
 use Rattle.gh_mutator.specs.Give as give
 use Rattle.gh_mutator.specs.Leave as leave
-use Rattle.gh_mutator.specs.MarkFacts.{IsBetween, KnowsCycle, KnowsStacks, LeaveFacts, LeavesByMoves, PollFacts, PollsByMoves, PollStageFacts, RestFacts, WaitFacts, WaitsByMoves, WaitStageFacts}
+use Rattle.gh_mutator.specs.MarkFacts.{IsBetween, KnowsCycle, KnowsStacks, LeaveFacts, LeavesByMoves, PollFacts, PollsByMoves, PollStageFacts, RestFacts, WaitFacts, WaitsByMoves, WaitStageFacts, stacks_last}
 use Rattle.gh_mutator.specs.New as new
 use Rattle.gh_mutator.specs.Poll as poll
 use Rattle.gh_mutator.specs.ProcessorMarks.{GlobalFacts, IsWriting, MarkFacts, MarksByMoves, new_polls, NewFacts, only_polls, reserved_at, StoreFacts, TaskFacts}
@@ -27,7 +27,7 @@ use Rattle.gh_mutator.specs.Stays.{leaves_on}
 use Rattle.gh_mutator.specs.Vocabulary.{Assist, GlobalStage, Polling, Store, StoreStage}
 use Rattle.gh_mutator.specs.Wait as wait
 use Rattle.gh_mutator.proofs.Vocabulary.{after_gc, after_leave, after_poll, asks_at, begins, cell_of, Cycle, effect, Good, Hands, holding, Keeps, KnowsObjects, landing, leaves_at, LeaveStage, Leaving, Local, NewStage, nothing, Op, Others, Place, polls_at, PollStage, Processor, Search, Shape, Shared, stage_at, Steps, takes_at, Task, Wait, Waiting, waits_at, WaitStage, WaitState, Wanted, Want}
-use Rattle.gh_mutator.proofs.Marking.Known.{Known, stacks_last}
+use Rattle.gh_mutator.proofs.Marking.Known.{Known}
 
 -- whose it is, and what it knows of its stacks
 record Knows (z : Cycle) (a : ℕ) (s : Shared) (p : Polling) : Type 0 where

@@ -8,12 +8,12 @@ use Rattle.gh_mutator.specs.declared.leave.LeaveStage.TheVariants as leave_stage
 use Rattle.gh_mutator.specs.declared.wait.WaitStage.TheVariants.{Want, Polling, LoadSwept, Ended}
 use Rattle.gh_mutator.specs.Give as give
 use Rattle.gh_mutator.specs.Leave as leave
-use Rattle.gh_mutator.specs.MarkFacts.{GiveFacts, KnowsCycle, LeaveFacts, LeavesByMoves, PollFacts, PollsByMoves, RestFacts, WaitFacts, WaitStageFacts, WaitsByMoves, holding}
+use Rattle.gh_mutator.specs.MarkFacts.{GiveFacts, KnowsCycle, LeaveFacts, LeavesByMoves, PollFacts, PollsByMoves, RestFacts, WaitFacts, WaitStageFacts, WaitsByMoves, holding, stacks_last}
 use Rattle.gh_mutator.specs.MarkVocabulary.{Cycle, Good, Hands, Keeps, KnowsObjects, LeaveStage, Others, ProcessorIsQuiet, Shared, Steps, WaitStage, cell_of, effect, landing, nothing}
 use Rattle.gh_mutator.specs.Poll as poll
 use Rattle.gh_mutator.specs.Wait.{after_poll, asks_at, at_stage, goes_at, is_busy, polling, Waiting}
 use Rattle.gh_mutator.proofs.Marking.Gives.{gives_begin, gives_last, gives_on, nothing_left}
-use Rattle.gh_mutator.proofs.Marking.Known.{by_load, by_quiet, Known, stacks_last}
+use Rattle.gh_mutator.proofs.Marking.Known.{by_load, by_quiet, Known}
 use Rattle.gh_mutator.proofs.Marking.Polls.{acks_nothing}
 
 pub rest_lasts : (k : Known) (z : Cycle) (a : ℕ) (s t : Shared) (p : poll.Polling) → Others z a s t → RestFacts z a s p → RestFacts z a t p

@@ -17,7 +17,8 @@ use Rattle.gh_mutator.specs.Handshake.{GivesSo, GoesOnWithNothing, HasPlaces, Is
 use Rattle.gh_mutator.specs.MarkStack as mark
 use Rattle.gh_mutator.specs.Poll.{after_mark, after_resume, after_room, asks_at, at_stage, by_phase, counted, due, giving, goes, goes_at, has_two, is_busy, marks_then, Polling, resumed, room_stage, scanned, scans, stops_then}
 use Rattle.gh_mutator.proofs.Vocabulary.{Ask, Awake, Held, IsQuiet, Load, MarkingIsQuiet, phase_of, polls_at, PollsSoundAt, PollStage, ProcessorIsQuiet, Resumed, run_phase, RunPhase, StageGoes}
-use Rattle.gh_mutator.proofs.Giving.{fine_done, goes_fine, opening_fine}
+use Rattle.gh_mutator.proofs.Giving.{fine_done, goes_fine}
+use Rattle.gh_mutator.specs.Giving.{opening_fine}
 
 -- it is awake, of the same seat, and knows the same
 record StaysAwake (p to : Polling) : Type 0 where

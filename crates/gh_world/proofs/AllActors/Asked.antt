@@ -7,7 +7,7 @@ use Rattle.gh_worker.specs.Listing as worker
 use Rattle.gh_world.specs.declared.handshake.Actor.TheVariants as actor
 use Rattle.gh_world.specs.Actors.{AllWereOpened, BeginsCycle}
 use Rattle.gh_world.specs.Asked.{AllWereAsked, AsksForCycle, IsClearing, NoneOpensSince, OpensCycle, SawTriggerReached, WasAsked, WasOpened}
-use Rattle.gh_mutator.specs.Writing.{BeginsToWait}
+use Rattle.gh_mutator_writes.specs.Writing.{BeginsToWait}
 use Rattle.gh_world.specs.Numbers.{asks_for_one, opens_one}
 use Rattle.gh_world.specs.Order.{before_step}
 use Rattle.gh_world.specs.Wants.{CountsWants, IsToOpen}

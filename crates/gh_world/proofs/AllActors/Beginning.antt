@@ -9,7 +9,7 @@ use Rattle.gh_base.specs.declared.value.Answer.TheVariants as answer
 use Rattle.gh_model.specs.declared.EverValue.TheVariants as ever
 use Rattle.gh_model.specs.Ever.{makes_object, sets_global, stores_value, takes_answer}
 use Rattle.gh_heap.specs.Moves.{Runs}
-use Rattle.gh_mutator.specs.Facts.{MayBegin}
+use Rattle.gh_mutator_heap.specs.Facts.{MayBegin}
 use Rattle.gh_world.specs.Order.{ended_in, goroutine_of, in_range, is_over}
 use Rattle.gh_world.specs.Processors.{is_of, may_run}
 

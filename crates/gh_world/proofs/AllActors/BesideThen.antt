@@ -3,7 +3,7 @@ use Rattle.std.proofs.Common.{◌≡◌, ◌⊎◌, inl, inr, ℕ, ◌^◌, ◌<
 use Rattle.gh_coord.specs.Handshake as leading
 use Rattle.gh_cycle.specs.Since.{HasGoneOn}
 use Rattle.gh_marks.specs.Moves.{Steps}
-use Rattle.gh_mutator.specs.Beside.{StepsOn}
+use Rattle.gh_mutator_heap.specs.Beside.{StepsOn}
 use Rattle.gh_world.specs.ActorsHold.{began, began_words, HasState}
 use Rattle.std.specs.Prelude.{is_some}
 use Rattle.gh_base.specs.declared.cell.Cell.TheVariants as cell

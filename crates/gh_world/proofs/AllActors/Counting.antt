@@ -21,7 +21,7 @@ use Rattle.gh_alloc.specs.declared.place.PlaceStage.TheVariants as making
 use Rattle.gh_alloc.specs.Place as place
 use Rattle.gh_alloc.specs.PlaceFacts as facts_of
 use Rattle.gh_mutator.specs.declared.task.Task.TheVariants as task
-use Rattle.gh_mutator.specs.Facts.{Does, FactsAt, for_whom}
+use Rattle.gh_mutator_heap.specs.Facts.{Does, FactsAt, for_whom}
 use Rattle.gh_mutator.specs.New.{made_task}
 use Rattle.gh_world.specs.HoldVocabulary.{State, StateGood, View}
 use Rattle.gh_world.proofs.Vocabulary.{acted, acts, acts_at, Answer, Arena, asks, Cell, effect, Ever, Fine, Heap, is_busy_at, IsSound, MarksNothing, moved, Name, nat_tests, page_words, Place, PlaceStage, Placing, Processor, put, Row, seats_of, SpanHead, takes, takes_at, Task, uncounted, view, Wanted, Words, CountsObject}

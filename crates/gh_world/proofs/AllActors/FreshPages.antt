@@ -52,7 +52,7 @@ use Rattle.gh_mutator.specs.declared.poll.PollStage.TheVariants as poll_stage
 use Rattle.gh_mutator.specs.declared.task.Task.TheVariants as task
 use Rattle.gh_mutator.specs.declared.wait.WaitStage.{WaitStage}
 use Rattle.gh_mutator.specs.declared.wait.WaitStage.TheVariants as wait_stage
-use Rattle.gh_mutator.specs.Facts.{FactsAt, is_locked_at, KnowsAt, KnowsNew, locked_new, NewFacts, rest, Searches}
+use Rattle.gh_mutator_heap.specs.Facts.{FactsAt, is_locked_at, KnowsAt, KnowsNew, locked_new, NewFacts, rest, Searches}
 use Rattle.gh_mutator.specs.Give as give
 use Rattle.gh_mutator.specs.Leave as leave
 use Rattle.gh_mutator.specs.Listing.{asks, asks_at}
@@ -60,7 +60,7 @@ use Rattle.gh_mutator.specs.New as new
 use Rattle.gh_mutator.specs.New.{sought_for}
 use Rattle.gh_mutator.specs.Poll.{Polling}
 use Rattle.gh_mutator.specs.Poll as poll
-use Rattle.gh_mutator.specs.PollHeap.{give_locked_at, GiveStageFacts, leave_locked_at, LeaveStageFacts, poll_locked_at, PollStageFacts, WaitStageFacts, waits_locked_at}
+use Rattle.gh_mutator_heap.specs.PollHeap.{give_locked_at, GiveStageFacts, leave_locked_at, LeaveStageFacts, poll_locked_at, PollStageFacts, WaitStageFacts, waits_locked_at}
 use Rattle.gh_mutator.specs.Sweeping.{sweep_at, sweep_in, sweep_new}
 use Rattle.gh_mutator.specs.Wait.{Waiting, waiting}
 use Rattle.gh_mutator.specs.Wait as wait

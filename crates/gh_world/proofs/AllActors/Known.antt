@@ -14,13 +14,13 @@ use Rattle.gh_cycle.specs.Beside.{CyclesBeginBeside, MarkingAloneGoesBeside, Obj
 use Rattle.gh_cycle.specs.Opening.{CyclesOpen}
 use Rattle.gh_cycle.specs.Reached.{BoundsLast, PlacesAreDecided, TheReachedWereMade}
 use Rattle.gh_cycle.specs.Since.{CyclesBeginSo, TheMarkedWereReached, WhatHasGoneOnLasts}
-use Rattle.gh_mutator.specs.Beside.{GoesOnBesideMarking}
-use Rattle.gh_mutator.specs.Calm.{CalmProcessorsMarkNothing}
+use Rattle.gh_mutator_heap.specs.Beside.{GoesOnBesideMarking}
+use Rattle.gh_mutator_writes.specs.Calm.{CalmProcessorsMarkNothing}
 use Rattle.gh_mutator.specs.Deeds.{OnlyPointsChange, ProcessorsDeedsFit}
 use Rattle.gh_mutator.specs.ProcessorMarks.{MarksByMoves}
-use Rattle.gh_mutator.specs.Runs.{RunsByItsRights}
-use Rattle.gh_mutator.specs.Sweeping.{ProcessorsRunSweeps}
-use Rattle.gh_mutator.specs.Writing.{StacksAreNoted}
+use Rattle.gh_mutator_heap.specs.Runs.{RunsByItsRights}
+use Rattle.gh_mutator_heap.specs.Sweeping.{ProcessorsRunSweeps}
+use Rattle.gh_mutator_writes.specs.Writing.{StacksAreNoted}
 use Rattle.gh_worker.specs.Sweeping.{WorkersRunSweeps}
 use Rattle.gh_worker.specs.Writing.{CalmWorkersMarkNothing}
 use Rattle.gh_coord.specs.Sweeping.{TheCoordinatorRunsSweeps}

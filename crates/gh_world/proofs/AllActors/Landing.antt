@@ -2,7 +2,7 @@
 use Rattle.std.proofs.Common.{◌≡◌, ◌≢◌, ℕ, ◌<◌, Bool, true, false, cond, refl, sym, ap, subst, ◌∙◌, arith, Option, Some, None, List, ◌∷◌}
 use Rattle.gh_base.specs.declared.cell.Cell.TheVariants as cell
 use Rattle.gh_base.specs.Cells.{seats_of}
-use Rattle.gh_mutator.specs.Vocabulary.{SweepLeaves}
+use Rattle.gh_central.specs.Sweeping.{SweepLeaves}
 use Rattle.gh_heap.specs.Moves.{Others}
 use Rattle.gh_mutator.specs.Sweeping.{sweep_in}
 use Rattle.gh_state.specs.Moves as state

@@ -5,7 +5,7 @@ use Rattle.gh_base.specs.declared.cell.Cell.TheVariants as cell
 use Rattle.gh_base.specs.declared.operation.Op.TheVariants as op
 use Rattle.gh_mutator.specs.declared.task.Task.TheVariants as task
 use Rattle.gh_mutator.specs.Deeds.{meaning, pointed}
-use Rattle.gh_mutator.specs.Facts.{answered_at, Does, FactsAt}
+use Rattle.gh_mutator_heap.specs.Facts.{answered_at, Does, FactsAt}
 use Rattle.gh_state.specs.Moves as state
 use Rattle.gh_world.specs.HoldVocabulary.{answers_of, given_of, opening_words, State}
 use Rattle.gh_world.proofs.Vocabulary.{Act, acted, Actor, actors, acts, Answer, Answered, answered, answered_by, Arena, arena, Ask, asks, begins, by, cell_of, deeds, DeedsFit, effect, END, ended_in, ends, Entry, Ever, ever, Fine, given_at, gives, Good, has_left_at, has_point, HasState, Heap, InRange, is_busy_at, is_last_task, IsAsItShould, IsBounded, IsHeapOf, IsInLimits, IsOf, IsSound, Kind, Layout, left as left_by, Legal, may_leave, may_of, Op, op_at, option_to_list, Pacing, point_of, Processor, processor_at, processor_kind, Shape, ShapesAreGood, Stands, started, state_of, takes, Task, TellsScan, those, view, Words, words, ◌%◌}

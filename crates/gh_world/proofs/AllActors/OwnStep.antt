@@ -1,6 +1,6 @@
 -- One entry more of a processor: what it is with its operation begun, and that its step is a move over the heap that its rights allow, or one of the sweep that it runs.
 use Rattle.std.proofs.Common.{◌≡◌, ℕ, ◌<◌, inr, Bool, true, false, refl, sym, ap, subst, ◌∙◌, List, ◌∷◌, Option, Some, None}
-use Rattle.gh_mutator.specs.Facts.{MayBegin}
+use Rattle.gh_mutator_heap.specs.Facts.{MayBegin}
 use Rattle.gh_world.specs.Handshake.{asks as asks_by}
 use Rattle.gh_mutator.specs.Sweeping.{sweep_in}
 use Rattle.gh_world.proofs.Vocabulary.{Actor, actors, Arena, arena, Ask, asks, by, cell_of, DoesPoints, Entry, Fine, Good, HasState, Heap, is_busy_at, IsAsItShould, IsHeapOf, IsInLimits, IsSound, Kind, Layout, Legal, made_by, may_of, Op, Pacing, Processor, processor_at, processor_kind, Shape, ShapesAreGood, started, state_of, Steps, those, view, Words, words}

@@ -45,12 +45,12 @@ use Rattle.gh_mutator.specs.declared.poll.PollStage.TheVariants as poll_stage
 use Rattle.gh_mutator.specs.declared.task.Task.TheVariants as task
 use Rattle.gh_mutator.specs.declared.wait.WaitStage.{WaitStage}
 use Rattle.gh_mutator.specs.declared.wait.WaitStage.TheVariants as wait_stage
-use Rattle.gh_mutator.specs.Facts.{FactsAt, for_whom, held_at, held_new, KnowsAt, KnowsNew, Makes, NewFacts, rest, Searches}
+use Rattle.gh_mutator_heap.specs.Facts.{FactsAt, for_whom, held_at, held_new, KnowsAt, KnowsNew, Makes, NewFacts, rest, Searches}
 use Rattle.gh_mutator.specs.Give.{Giving, none_cached, span_class}
 use Rattle.gh_mutator.specs.Local.{cache_with, cached_in}
 use Rattle.gh_mutator.specs.New.{own_span}
 use Rattle.gh_mutator.specs.Poll.{Polling}
-use Rattle.gh_mutator.specs.PollHeap.{CachesAll, CachesFrom, give_held_at, GiveStageFacts, KnowsSpans, leave_held_at, LeaveStageFacts, lists, no_page, PollFacts, poll_held_at, PollStageFacts, Rests, WaitFacts, WaitStageFacts, waits_held, waits_held_at}
+use Rattle.gh_mutator_heap.specs.PollHeap.{CachesAll, CachesFrom, give_held_at, GiveStageFacts, KnowsSpans, leave_held_at, LeaveStageFacts, lists, no_page, PollFacts, poll_held_at, PollStageFacts, Rests, WaitFacts, WaitStageFacts, waits_held, waits_held_at}
 use Rattle.gh_mutator.specs.Processor.{cached_for}
 use Rattle.gh_mutator.specs.Wait.{Waiting, waiting}
 use Rattle.gh_world.specs.ActorsHold.{HasState, processor_at}

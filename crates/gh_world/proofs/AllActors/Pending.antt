@@ -18,7 +18,7 @@ use Rattle.gh_mutator.specs.declared.store.StoreStage.{StoreStage}
 use Rattle.gh_mutator.specs.declared.store.StoreStage.TheVariants as store_stage
 use Rattle.gh_mutator.specs.declared.task.Task.{Task}
 use Rattle.gh_mutator.specs.declared.task.Task.TheVariants as task
-use Rattle.gh_mutator.specs.Facts.{FactsAt, GlobalFacts, LoadFacts, NamedFrom, NewFacts, RegisterFacts, StoreFacts}
+use Rattle.gh_mutator_heap.specs.Facts.{FactsAt, GlobalFacts, LoadFacts, NamedFrom, NewFacts, RegisterFacts, StoreFacts}
 use Rattle.gh_mutator.specs.Global as global
 use Rattle.gh_mutator.specs.Listing.{op_at}
 use Rattle.gh_mutator.specs.Load as load

@@ -28,8 +28,8 @@ use Rattle.gh_mutator.specs.declared.poll.PollStage.TheVariants as poll_stage
 use Rattle.gh_mutator.specs.declared.task.Task.TheVariants as task
 use Rattle.gh_mutator.specs.declared.wait.Wait.{Wait}
 use Rattle.gh_mutator.specs.declared.wait.WaitStage.TheVariants as wait_stage
-use Rattle.gh_mutator.specs.Calm.{IsWrittenCalmly}
-use Rattle.gh_mutator.specs.Facts.{FactsAt, NewFacts}
+use Rattle.gh_mutator_writes.specs.Calm.{IsWrittenCalmly}
+use Rattle.gh_mutator_heap.specs.Facts.{FactsAt, NewFacts}
 use Rattle.gh_mutator.specs.Give.{none_cached}
 use Rattle.gh_mutator.specs.ProcessorPlaces.{SoundNewAt}
 use Rattle.gh_mutator.specs.Sweeping.{sweep_in}

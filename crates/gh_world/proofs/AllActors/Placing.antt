@@ -13,7 +13,7 @@ use Rattle.gh_bitmap.specs.SetPointers as bits
 use Rattle.gh_mutator.specs.declared.global.GlobalStage.TheVariants as global_stage
 use Rattle.gh_mutator.specs.declared.register.Source.TheVariants as source
 use Rattle.gh_mutator.specs.declared.task.Task.TheVariants as task
-use Rattle.gh_mutator.specs.Facts.{CountsAlone}
+use Rattle.gh_mutator_heap.specs.Facts.{CountsAlone}
 use Rattle.gh_mutator.specs.Global as global
 use Rattle.gh_mutator.specs.Leave as leave
 use Rattle.gh_mutator.specs.Listing.{asks_at}

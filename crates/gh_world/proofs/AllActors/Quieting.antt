@@ -7,7 +7,7 @@ use Rattle.gh_coord.specs.Handshake as leading
 use Rattle.gh_phase.specs.declared.view.RunPhase.TheVariants as run
 use Rattle.gh_phase.specs.Handshake.{is_stop, run_word}
 use Rattle.gh_mutator.specs.declared.task.Task.TheVariants as task
-use Rattle.gh_mutator.specs.Calm.{FindsNoMarking}
+use Rattle.gh_mutator_writes.specs.Calm.{FindsNoMarking}
 use Rattle.gh_world.proofs.Vocabulary.{Arena, arena, Ask, asks, cell_of, Coordinating, CoordStage, Count, Done, END, Entry, Heap, is_busy_at, IsInLimits, IsLed, IsSound, KeepsIt, last_of, last_phase, Layout, Lead, Leads, Legal, LoadAck, LoadWant, MarksNothing, may_of, nat_tests, Op, Pacing, place_of, Processor, processor_at, processor_kind, Shape, ShapesAreGood, started, State, Stop, stop_word, StopStage, Sweep, Tell, TellStage, those, Words}
 use Rattle.gh_world.proofs.AllActors.Endings.{is_end}
 use Rattle.gh_world.specs.ActorsHold.{IsOff}

@@ -8,7 +8,7 @@ use Rattle.gh_alloc.specs.declared.sought.Sought.{Sought}
 use Rattle.gh_alloc.specs.declared.sought.Sought.TheVariants.{Large, Small}
 use Rattle.gh_alloc.specs.Find.{span_for}
 use Rattle.gh_mutator.specs.declared.task.Task.TheVariants as task
-use Rattle.gh_mutator.specs.Facts.{FoundNone, FullAt}
+use Rattle.gh_mutator_heap.specs.Facts.{FoundNone, FullAt}
 use Rattle.gh_mutator.specs.Global as global
 use Rattle.gh_mutator.specs.Leave as leave
 use Rattle.gh_mutator.specs.Load as load

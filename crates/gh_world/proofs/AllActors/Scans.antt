@@ -4,8 +4,8 @@ use Rattle.gh_base.specs.declared.cell.Cell.TheVariants as cell
 use Rattle.gh_base.specs.Orders.{before_step}
 use Rattle.gh_coord.specs.Handshake as leading
 use Rattle.gh_coord.specs.Listing as coord
-use Rattle.gh_mutator.specs.PollHeap.{Sits}
-use Rattle.gh_mutator.specs.Writing.{EndsStack, StaysThere}
+use Rattle.gh_mutator_heap.specs.PollHeap.{Sits}
+use Rattle.gh_mutator_writes.specs.Writing.{EndsStack, StaysThere}
 use Rattle.gh_sweep.specs.declared.sweep.SweepStage.TheVariants as sweep_stage
 use Rattle.gh_sweep.specs.Listing as sweep
 use Rattle.gh_sweep.specs.Listing.{Sweeping}

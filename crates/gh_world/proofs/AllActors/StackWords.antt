@@ -5,9 +5,9 @@ use Rattle.gh_base.specs.declared.cell.Cell.TheVariants as cell
 use Rattle.gh_base.specs.declared.pack.TheConstants.{END}
 use Rattle.gh_base.specs.Steps.{effect}
 use Rattle.gh_mutator.specs.declared.task.Task.TheVariants as task
-use Rattle.gh_mutator.specs.Calm.{IsWrittenCalmly}
+use Rattle.gh_mutator_writes.specs.Calm.{IsWrittenCalmly}
 use Rattle.gh_mutator.specs.Listing.{asks, is_busy_at}
-use Rattle.gh_mutator.specs.Writing.{EndsStack, TellsScan, WritesOf}
+use Rattle.gh_mutator_writes.specs.Writing.{EndsStack, TellsScan, WritesOf}
 use Rattle.gh_world.specs.HoldVocabulary.{IsSound, Layout, MarksNothing, Op, Processor, processor_kind, Shape, started, Words}
 use Rattle.gh_world.proofs.AllActors.Known.{Known}
 

@@ -24,8 +24,8 @@ use Rattle.gh_coord.specs.Listing as coord
 use Rattle.gh_worker.specs.Listing as worker
 use Rattle.gh_mutator.specs.declared.new.NewStage.TheVariants as new_stage
 use Rattle.gh_mutator.specs.declared.task.Task.TheVariants as task
-use Rattle.gh_mutator.specs.Facts.{KnowsAt, KnowsNew}
-use Rattle.gh_mutator.specs.PollHeap.{Rests}
+use Rattle.gh_mutator_heap.specs.Facts.{KnowsAt, KnowsNew}
+use Rattle.gh_mutator_heap.specs.PollHeap.{Rests}
 use Rattle.gh_world.specs.declared.handshake.Actor.TheVariants as actor
 use Rattle.gh_world.specs.SweepMarks.{AllAreSwept, CachedAreSwept, IsRunning, IsUncut, MarksAreLeft, OwnedAreSwept, SaysHowFar, SpansAreNumbered, SweepsStand}
 use Rattle.gh_world.specs.ActorsHold.{IsUnderWay}

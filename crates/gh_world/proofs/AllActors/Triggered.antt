@@ -3,7 +3,7 @@ use Rattle.std.proofs.Common.{◌≡◌, ℕ, ◌==◌, Bool, true, false, cond,
 use Rattle.gh_base.specs.declared.operation.Op.TheVariants as op
 use Rattle.gh_base.specs.Lists.{by as own}
 use Rattle.gh_mutator.specs.declared.task.Task.TheVariants as task
-use Rattle.gh_mutator.specs.Writing.{Compares, CountsUpTo, SawReached, SeesReached, SeesReachedAt}
+use Rattle.gh_mutator.specs.Asking.{Compares, CountsUpTo, SawReached, SeesReached, SeesReachedAt}
 use Rattle.gh_world.specs.Asked.{SawTriggerReached}
 use Rattle.gh_world.specs.Order.{before_step}
 use Rattle.gh_world.proofs.Vocabulary.{begins, begins_at, Entry, has_left_at, IsStartOf, Kind, Layout, nat_tests, NewStage, Op, Place, Processor, processor_kind, ProcessorWritesItsOwn, Shape, started, state_of, Task}

@@ -2,7 +2,7 @@
 use Rattle.std.proofs.Common.{◌≡◌, ℕ, ◌<◌, Bool, true, sym, ap, subst, ◌∙◌, List, ◌∷◌, Option, Some, None}
 use Rattle.gh_world.specs.declared.handshake.Actor.TheVariants as actor
 use Rattle.gh_world.specs.Handshake.{asks as asks_by}
-use Rattle.gh_mutator.specs.Facts.{FullAt}
+use Rattle.gh_mutator_heap.specs.Facts.{FullAt}
 use Rattle.gh_world.proofs.Vocabulary.{Act, Actor, actors, acts, Arena, arena, Ask, asks, cell_of, deeds, done_at, Entry, HasState, Heap, IsFullFor, IsHeapOf, Kind, Layout, Legal, Op, Pacing, Processor, processor_at, processor_kind, Shape, started, state_of, those, view, Words, words}
 use Rattle.gh_world.proofs.AllActors.Known.{Known}
 use Rattle.gh_world.proofs.AllActors.Refusals.{full_for, full_searches, goes_on, IsSearchedAgain, point_is}

@@ -3,7 +3,7 @@ use Rattle.std.proofs.Common.{◌≡◌, ◌⊎◌, inl, inr, ℕ, suc, ◌<◌,
 use Rattle.gh_heap.specs.Laws.{name_made}
 use Rattle.gh_heap.specs.Moves as heap
 use Rattle.gh_model.specs.Ever.{next_name}
-use Rattle.gh_mutator.specs.Facts.{Does}
+use Rattle.gh_mutator_heap.specs.Facts.{Does}
 use Rattle.gh_mutator.specs.Sweeping.{sweep_in}
 use Rattle.gh_state.specs.Moves as state
 use Rattle.gh_sweep.specs.Listing.{Sweeping}

@@ -10,7 +10,7 @@ use Rattle.gh_mutator.specs.Listing.{begins, begins_at, is_busy_at}
 use Rattle.gh_mutator.specs.Local.{is_mark}
 use Rattle.gh_mutator.specs.Poll.{Polling}
 use Rattle.gh_mutator.specs.ProcessorPlaces.{party_at, stage_at}
-use Rattle.gh_mutator.specs.Writing.{IsAssisting, IsAssistingAt}
+use Rattle.gh_mutator.specs.Running.{IsAssisting, IsAssistingAt}
 use Rattle.gh_world.specs.Vocabulary.{Assist, Layout, NewStage, Op, Place, Processor, Shape, Task, Want}
 use Rattle.gh_world.proofs.Vocabulary.{has_left_at, Search, Wait}
 

@@ -18,7 +18,7 @@ use Rattle.gh_coord.specs.Telling as tell
 use Rattle.gh_coord.specs.Watching as watch
 use Rattle.gh_credit.specs.Drawing.{drawn_by, LeavesOrDraws}
 use Rattle.gh_credit.specs.Earning.{handed_by}
-use Rattle.gh_mutator.specs.Writing.{IsAssisting}
+use Rattle.gh_mutator.specs.Running.{IsAssisting}
 use Rattle.gh_sweep.specs.declared.sweep.SweepStage.TheVariants as sweep_stage
 use Rattle.gh_sweep.specs.Listing as sweep
 use Rattle.gh_worker.specs.Writing as work

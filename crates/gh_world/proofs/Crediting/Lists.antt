@@ -7,8 +7,9 @@ use Rattle.gh_credit.specs.Drawing.{drawn_by}
 use Rattle.gh_credit.specs.Earning.{handed_by}
 use Rattle.gh_mutator.specs.Listing.{takes}
 use Rattle.gh_mutator.specs.ProcessorPlaces.{party_of}
-use Rattle.gh_mutator.specs.Spending.{ProcessorsSpend, spent_of}
-use Rattle.gh_mutator.specs.Writing.{IsAssisting}
+use Rattle.gh_mutator_writes.specs.Spending.{ProcessorsSpend}
+use Rattle.gh_mutator.specs.Spending.{spent_of}
+use Rattle.gh_mutator.specs.Running.{IsAssisting}
 use Rattle.gh_phase.specs.declared.view.RunPhase.TheVariants.{Mark}
 use Rattle.gh_phase.specs.declared.view.View.{View}
 use Rattle.gh_sweep.specs.Listing as sweep

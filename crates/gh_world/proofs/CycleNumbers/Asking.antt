@@ -16,7 +16,8 @@ use Rattle.gh_mutator.specs.Poll as poll
 use Rattle.gh_mutator.specs.Register as register
 use Rattle.gh_mutator.specs.Store as store
 use Rattle.gh_mutator.specs.Wait as wait
-use Rattle.gh_mutator.specs.Writing.{BeginsToWait, BeginsToWaitAt, SawReached, SawReachedAt}
+use Rattle.gh_mutator_writes.specs.Writing.{BeginsToWait, BeginsToWaitAt}
+use Rattle.gh_mutator.specs.Asking.{SawReached, SawReachedAt}
 use Rattle.gh_world.specs.Numbers.{asks_for_one}
 use Rattle.gh_world.proofs.Vocabulary.{after_assist, after_gc, after_leave, after_poll, Ask, asked_after, asks, Assist, Assisting, assisting, assists, At, begins, begins_at, cache_span, Cell, Ends, follows, Found, GoesOn, IsWanting, IsWritten, Leaving, Name, NewStage, NoRoom, Op, Or, Place, Placing, Polling, Processor, register_of, Search, Seeking, Shape, takes, takes_at, Task, Then, Wait, WaitStage, Want, Wanted, WritesOf}
 

@@ -9,7 +9,7 @@ use Rattle.gh_base.specs.Lists.{Legal, started}
 use Rattle.gh_mutator.specs.Deeds.{processor_kind}
 use Rattle.gh_mutator.specs.Listing.{takes}
 use Rattle.gh_mutator.specs.Processor.{opening_processor}
-use Rattle.gh_mutator.specs.Writing.{ProcessorWritesItsOwn}
+use Rattle.gh_mutator_writes.specs.Writing.{ProcessorWritesItsOwn}
 use Rattle.gh_coord.specs.Handshake as leading
 use Rattle.gh_coord.specs.Listing as coord
 use Rattle.gh_worker.specs.Handshake as working

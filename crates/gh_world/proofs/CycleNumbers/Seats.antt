@@ -11,7 +11,8 @@ use Rattle.gh_base.specs.Lists.{Begins, Kind, Legal, Setting, started, state_of,
 use Rattle.gh_base.specs.Steps.{cell_of}
 use Rattle.gh_mutator.specs.declared.processor.Processor.{Processor}
 use Rattle.gh_mutator.specs.Deeds.{processor_kind}
-use Rattle.gh_mutator.specs.Writing.{IsSound, ProcessorWritesItsOwn}
+use Rattle.gh_mutator.specs.Running.{IsSound}
+use Rattle.gh_mutator_writes.specs.Writing.{ProcessorWritesItsOwn}
 use Rattle.gh_coord.specs.Handshake as leading
 use Rattle.gh_coord.specs.Listing as coord
 use Rattle.gh_coord.specs.Stopping.{acks_of}

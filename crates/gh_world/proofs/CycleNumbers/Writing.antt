@@ -15,7 +15,7 @@ use Rattle.gh_mutator.specs.New as new
 use Rattle.gh_mutator.specs.Poll as poll
 use Rattle.gh_mutator.specs.ProcessorPlaces.{new_party_at}
 use Rattle.gh_mutator.specs.Wait as wait
-use Rattle.gh_mutator.specs.Writing.{EndsStack}
+use Rattle.gh_mutator_writes.specs.Writing.{EndsStack}
 use Rattle.gh_world.proofs.Vocabulary.{Add, And, Ask, asks, Awake, Cell, END, Gone, is_busy_at, IsAwake, IsSound, IsWritten, Load, NewStage, Or, Party, party_at, party_of, PollStage, Processor, ProcessorInHandshake, ProcessorWritesItsOwn, Resumes, ResumeStage, Shape, Stage, stage_of, StageGoes, Store, Swap, takes, Task, TellsScan, View, WaitStage, WritesOf}
 use Rattle.gh_world.proofs.CycleNumbers.Frames.{IsNoNumber, LeavesNumbers}
 

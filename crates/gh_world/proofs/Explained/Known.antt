@@ -5,7 +5,7 @@ use Rattle.gh_coord.specs.Listing.{Coordinating}
 use Rattle.gh_coord.specs.Stopping.{acks_of}
 use Rattle.gh_mutator.specs.Acting.{EachOperationActsOnce}
 use Rattle.gh_mutator.specs.Deeds.{OnlyPointsChange}
-use Rattle.gh_mutator.specs.Writing.{ProcessorWritesItsOwn}
+use Rattle.gh_mutator_writes.specs.Writing.{ProcessorWritesItsOwn}
 use Rattle.gh_worker.specs.Writing.{WorkersWriteTheirOwn}
 use Rattle.gh_world.specs.declared.handshake.Actor.TheVariants as actor
 use Rattle.gh_world.specs.Handshake.{KeepsIt}

@@ -1,6 +1,6 @@
 -- The next step of a processor is on a word that there is, by its rights.
 use Rattle.std.proofs.Common.{◌≡◌, ℕ, Bool, false, refl, sym, ap, subst, ◌∙◌, inr, List, Option, Some, None, ◌<◌}
-use Rattle.gh_mutator.specs.Facts.{MayBegin}
+use Rattle.gh_mutator_heap.specs.Facts.{MayBegin}
 use Rattle.gh_world.specs.declared.handshake.Actor.TheVariants as actor
 use Rattle.gh_world.proofs.Vocabulary.{actors, Arena, arena, asks, Begins, by, cell_of, Entry, Fine, Good, HasState, Heap, InRange, is_busy, is_busy_at, IsAsItShould, Kind, Layout, made_by, may_of, Op, Pacing, Processor, processor_at, processor_kind, Shape, ShapesAreGood, started, state_of, those, view}
 use Rattle.gh_world.proofs.AllActors.Beginning.{may-begin}

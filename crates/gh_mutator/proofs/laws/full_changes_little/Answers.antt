@@ -1,5 +1,0 @@
-use Rattle.gh_mutator.proofs.Full.{full_changes_little}
-use Rattle.gh_mutator.proofs.laws.full_changes_little.Goals as goal
-
-pub returns : goal.returns
-returns c = full_changes_little

@@ -1,5 +1,0 @@
-use Rattle.gh_mutator.proofs.Writing.Laws.{stacks_are_noted}
-use Rattle.gh_mutator.proofs.laws.stacks_are_noted.Goals as goal
-
-pub returns : goal.returns
-returns c = stacks_are_noted c.assists_are_quiet.ensures

@@ -1,0 +1,135 @@
+-- Steps of the load and the store of a global beside marking. It is written behind the barrier.
+use Rattle.std.proofs.Common.{◌≡◌, ℕ, Bool, true, false, cond, Option, None, inr, refl, sym, ap, subst, ◌∙◌}
+use Rattle.gh_base.specs.declared.cell.Ask.TheVariants as ask
+use Rattle.gh_base.specs.declared.cell.Cell.{Cell}
+use Rattle.gh_base.specs.declared.cell.Cell.TheVariants as cell
+use Rattle.gh_base.specs.declared.operation.Op.TheVariants as op
+use Rattle.gh_base.specs.declared.value.Answer.TheVariants as answer
+use Rattle.gh_base.specs.declared.value.Fault.TheVariants as fault
+use Rattle.gh_base.specs.declared.value.Value.TheVariants as value
+use Rattle.gh_base.specs.Cells.{Words}
+use Rattle.gh_base.specs.Rows.{mark_words}
+use Rattle.gh_barrier.specs.Stays as write_on
+use Rattle.gh_barrier.specs.declared.pointer_cell.PointerCell.TheVariants as pointer_cell
+use Rattle.gh_barrier.specs.declared.write_pointer.WriteStage.{WriteStage}
+use Rattle.gh_barrier.specs.declared.write_pointer.WriteStage.TheVariants as write_stage
+use Rattle.gh_barrier.specs.Facts.{Facts}
+use Rattle.gh_barrier.specs.Listing.{Writing as PointerWrite}
+use Rattle.gh_barrier.specs.Listing as write
+use Rattle.gh_cycle.specs.Deeds.{from_global, PutsGlobal, Rests, Sets}
+use Rattle.gh_heap.specs.Rights.{Shared as Heap}
+use Rattle.gh_marks.specs.Colours.{IsClean, Shared as Marking}
+use Rattle.gh_marks.specs.Moves.{BehindBarrier}
+use Rattle.gh_model.specs.Ever.{sets_global}
+use Rattle.gh_mutator.specs.declared.global.GlobalStage.TheVariants as stage
+use Rattle.gh_mutator.specs.declared.task.Task.TheVariants as task
+use Rattle.gh_mutator.specs.Barrier.{held_then}
+use Rattle.gh_mutator_heap.specs.Beside.{StepsOn, Together}
+use Rattle.gh_mutator.specs.Deeds.{acted}
+use Rattle.gh_mutator.specs.Fields.{told as told_by, value_of}
+use Rattle.gh_mutator.specs.Global.{after_write, at_stage, naming, step}
+use Rattle.gh_mutator.specs.Listing.{acting, applied, follows}
+use Rattle.gh_mutator.specs.MarkFacts.{holding, IsBetween, stacks_last}
+use Rattle.gh_mutator.specs.MarkVocabulary.{Cycle, Keeps, nothing}
+use Rattle.gh_mutator.specs.Processor.{at_task, keeping, register_of}
+use Rattle.gh_mutator.specs.ProcessorMarks.{MarkFacts, TaskFacts}
+use Rattle.gh_mutator.specs.Vocabulary.{Answer, Polling, Value}
+use Rattle.gh_mutator_heap.specs.Vocabulary.{EverValue, Holds, Global, GlobalStage, Processor}
+use Rattle.gh_mutator_heap.proofs.Going.Known.{by_deed, fills_none, found_there, heap_then, Known, processor_then, StepAt, StepOf}
+use Rattle.gh_mutator_heap.proofs.Going.Values.{quits_rests}
+use Rattle.gh_mutator_heap.proofs.Going.Writing.{write_fills, write_goes}
+use Rattle.gh_mutator_heap.proofs.Owning.Barrier.{word_written}
+use Rattle.gh_mutator_heap.proofs.Owning.Objects.{fits_pointer, register_reached, takes_told, word_holds}
+
+-- a value that was found is named, or the load is over
+named_facts : (z : Cycle) (a : ℕ) (u : Marking) (x : Global) (p : Polling) (v : Value) → IsBetween z a u p.local → TaskFacts z a u p (follows task.Global (told_by (naming x) v))
+named_facts z a u x p value.Nil b = b
+named_facts z a u x p (value.Int n) b = b
+named_facts z a u x p (value.Ref r) b = b
+
+-- A step of its write before the last.
+module _ (k : Known) (x : Global) (w : PointerWrite) (z : Cycle) (a : ℕ) (h : Heap) (s : Marking) (m : Processor) (pending : Option Answer) (t : Together z a h s (at_task m (task.Global (at_stage x (stage.Writing w)))) pending) (l : StepOf z a h (at_task m (task.Global (at_stage x (stage.Writing w)))) pending) where
+  abbrev me : Processor
+  me = at_task m (task.Global (at_stage x (stage.Writing w)))
+
+  abbrev n : ℕ
+  n = found_there k z a h s me pending t l
+
+  -- the processor behind the step, by whether that ends the write
+  abbrev then : Option (Unit {0}) → Processor
+  then o = applied task.Global (keeping me (held_then w n)) x.g x.r (after_write x (write.goes w n) o)
+
+  written_then : (u : Marking) → Keeps z a s u → Facts z a u nothing (write.goes w n) → MarkFacts z a u (then None)
+  written_then u kept f = let stacks = stacks_last z a s u m.poll.local.stacks m.poll.local.scanned kept t.facts.stacks in record { layout_is = t.facts.layout_is; seat_is = t.facts.seat_is; stacks = stacks; task_is = record { stacks = stacks; number = t.facts.task_is.number; writes = f } }
+
+  goes : write.gives w n ≡ None → StepsOn z a (heap_then k z a h s me pending t l) s (processor_then k z a h s me pending t l)
+  goes on = write_goes k z a h s me pending t l w refl t.facts.task_is.writes
+      (ap (λ (o : Option (Unit {0})). acted z.arena.shapes h.ever (acting (after_write x (write.goes w n) o).acts (op.SetGlobal x.g x.k x.r) false)) on)
+      (λ u kept f. subst (λ (o : Option (Unit {0})). MarkFacts z a u (then o)) (sym on) (written_then u kept f))
+
+-- Its last step: what stood there and what is written are shaded.
+module _ (k : Known) (x : Global) (w : PointerWrite) (z : Cycle) (a : ℕ) (h : Heap) (s : Marking) (m : Processor) (pending : Option Answer) where
+  abbrev wrote : PointerWrite
+  wrote = write.at_stage w write_stage.Store
+
+  abbrev it : Processor
+  it = at_task m (task.Global (at_stage x (stage.Writing wrote)))
+
+  module _ (t : Together z a h s it pending) (l : StepOf z a h it pending) where
+    abbrev stored : EverValue
+    stored = h.ever.register x.g x.r
+
+    abbrev word : ℕ
+    word = write.word_of w.pointer
+
+    barrier : BehindBarrier s (s.words (write.cell_at w.at)) word
+    barrier = k.writes.stores z a s nothing wrote refl t.facts.task_is.writes
+
+    cell_is : write.cell_at w.at ≡ cell.Global x.k
+    cell_is = ap write.cell_at t.fine.task.4.same_cell
+
+    holds : Holds h.place h.ever.made true stored word
+    holds = subst (λ (i : ℕ). Holds h.place h.ever.made true stored i) (sym (word_written z.arena.layout (pointer_cell.Global x.k) (register_of m x.g x.r) wrote t.fine.task.4))
+        (word_holds h.place h.ever.made true stored (register_of m x.g x.r) (t.fine.knows.stands.registers x.g x.r t.fine.task.0.of t.fine.task.1) (fits_pointer stored t.fine.task.3))
+
+    old : IsClean (mark_words s.words) (h.words (cell.Global x.k))
+    old = subst (λ (i : ℕ). IsClean (mark_words s.words) i) (ap s.words cell_is ∙ ap (λ (v : Words). v (cell.Global x.k)) t.beside.words) barrier.old
+
+    puts : StepsOn z a (heap_then k z a h s it pending t l) s (processor_then k z a h s it pending t l)
+    puts = by_deed k z a h s it pending t l (PutsGlobal x.k stored word) tt
+        (ap (λ (b : Bool). sets_global h.ever x.k stored (cond b (answer.Fault fault.Kind) answer.Done)) t.fine.task.3)
+        (ap (λ (c : Cell). ask.Store c word) cell_is, write_fills z a s wrote t.facts.task_is.writes, record { within = t.fine.task.2; value_reached = register_reached h.ever x.g x.r t.fine.task.0.goes_on stored refl; holds = holds }, old, barrier.new)
+        (λ u hands stacks. record { stacks = stacks; number = t.facts.task_is.number; hands = hands (holding w.held) t.facts.task_is.writes.stage_is.2 })
+
+write_at : Known → (x : Global) (w : PointerWrite) (q : WriteStage) → StepAt (task.Global (at_stage x (stage.Writing (write.at_stage w q))))
+write_at k x w write_stage.Store z a h s m pending t kn l = puts k x w z a h s m pending t l
+write_at k x w write_stage.LoadOld z a h s m pending t kn l = goes k x (write.at_stage w write_stage.LoadOld) z a h s m pending t l (write_on.load_gives_none (write.at_stage w write_stage.LoadOld) (n k x (write.at_stage w write_stage.LoadOld) z a h s m pending t l))
+write_at k x w (write_stage.ShadeOld sh) z a h s m pending t kn l = goes k x (write.at_stage w (write_stage.ShadeOld sh)) z a h s m pending t l (write_on.old_gives_none (write.at_stage w (write_stage.ShadeOld sh)) sh (n k x (write.at_stage w (write_stage.ShadeOld sh)) z a h s m pending t l))
+write_at k x w (write_stage.ShadeNew sh) z a h s m pending t kn l = goes k x (write.at_stage w (write_stage.ShadeNew sh)) z a h s m pending t l (write_on.new_gives_none (write.at_stage w (write_stage.ShadeNew sh)) sh (n k x (write.at_stage w (write_stage.ShadeNew sh)) z a h s m pending t l))
+write_at k x w write_stage.Ended z a h s m pending t kn l = absurd (let busy = t.fine.task.4.busy in cc)
+
+module _ (x : Global) (q : GlobalStage) (m : Processor) where
+  abbrev here : Processor
+  here = at_task m (task.Global (at_stage x q))
+
+at : Known → (x : Global) (q : GlobalStage) → StepAt (task.Global (at_stage x q))
+at k x stage.Load z a h s m pending t kn l = by_deed k z a h s (here x stage.Load m) pending t l (Sets x.g x.r (h.ever.global x.k)) tt (takes_told h.ever x.g x.r (h.ever.global x.k)) (
+  tt,
+  fills_none a s (holding m.poll.local.held) refl t.facts.task_is.hands,
+  t.fine.task.0,
+  t.fine.task.1,
+  from_global x.k t.fine.task.2,
+)
+    (λ u hands stacks. named_facts z a u x _ (value_of m.poll.layout.pages true (h.words (cell.Global x.k))) (record { stacks = stacks; number = t.facts.task_is.number; hands = hands (holding m.poll.local.held) t.facts.task_is.hands }))
+at k x (stage.Birth i) z a h s m pending t kn l = by_deed k z a h s (here x (stage.Birth i) m) pending t l Rests tt refl
+    (tt, fills_none a s (holding m.poll.local.held) refl t.facts.task_is.hands)
+    (λ u hands stacks. record { stacks = stacks; number = t.facts.task_is.number; hands = hands (holding m.poll.local.held) t.facts.task_is.hands })
+at k x stage.Store z a h s m pending t kn l = absurd (t.facts.task_is.1 (kn refl))
+at k x stage.Number z a h s m pending t kn l = by_deed k z a h s (here x stage.Number m) pending t l Rests tt
+    (quits_rests z.arena.shapes h.ever (op.SetGlobal x.g x.k x.r) pending l.after.does.after (step m.poll.layout (register_of m x.g x.r) (at_stage x stage.Number) (found_there k z a h s (here x stage.Number m) pending t l)) (λ f. refl) t.fine.task.2 l.after.does.answers (inr (fault.Kind, refl, refl)))
+    (tt, fills_none a s (holding m.poll.local.held) refl t.facts.task_is.hands)
+    (λ u hands stacks. record { stacks = stacks; number = t.facts.task_is.number; hands = hands (holding m.poll.local.held) t.facts.task_is.hands })
+at k x (stage.Writing w) z a h s m pending t kn l = write_at k x w w.stage z a h s m pending t kn l
+
+pub global_step : Known → (x : Global) → StepAt (task.Global x)
+global_step k x = at k x x.stage

@@ -1,0 +1,202 @@
+-- What a step of a processor comes to beside marking: a deed, by which the state of marking follows the heap; or moves of marking alone. And what is known of its stacks behind it.
+use Rattle.std.proofs.Common.{◌≡◌, ◌≢◌, ℕ, ◌<◌, ◌≤◌, Bool, true, false, [], length, Option, Some, None, refl, sym, ap, subst, ◌∙◌, arith, inl, inr}
+use Rattle.std.specs.Prelude.{slice_index_or}
+use Rattle.gh_assist.specs.Facts.{AssistsByMoves}
+use Rattle.gh_base.specs.declared.cell.Ask.{Ask}
+use Rattle.gh_base.specs.declared.cell.Ask.TheVariants as ask
+use Rattle.gh_base.specs.declared.cell.Cell.{Cell}
+use Rattle.gh_base.specs.declared.cell.Cell.TheVariants as cell
+use Rattle.gh_base.specs.declared.limits.TheConstants.{REGISTERS}
+use Rattle.gh_base.specs.declared.pack.TheConstants.{END}
+use Rattle.gh_base.specs.declared.value.Value.TheVariants as value
+use Rattle.gh_base.specs.Cells.{Words}
+use Rattle.gh_base.specs.Rows.{RowsAreWritten}
+use Rattle.gh_base.specs.Steps.{effect}
+use Rattle.gh_model.specs.declared.EverValue.TheVariants as ever
+use Rattle.gh_barrier.specs.Facts.{WritesByMoves}
+use Rattle.gh_cycle.specs.Beside.{ClaimedFieldsAreAside, ClaimsSlot, FillsNone, IsBeside, MarkingAloneGoesBeside, ObjectsAreKnownBeside, SlotsAreReserved}
+use Rattle.gh_cycle.specs.Deeds.{Deed, DeedsGoBeside, ever_by, hand_behind, MeetsByDeed}
+use Rattle.gh_cycle.specs.Deeds as deed
+use Rattle.gh_cycle.specs.Opening.{reference_of}
+use Rattle.gh_heap.specs.Moves as heap
+use Rattle.gh_heap.specs.Objects.{Place}
+use Rattle.gh_heap.specs.Rights.{Shared as Heap}
+use Rattle.gh_marks.specs.Colours.{Placing, Shared as Marking}
+use Rattle.gh_marks.specs.Laws.{EachHandFollows, EachOwnMoveLeaves}
+use Rattle.gh_marks.specs.Moves as marks
+use Rattle.gh_stack.specs.Facts.{AreRegisters, named}
+use Rattle.gh_mutator_heap.specs.Beside.{KnowsMarking, StepsOn, Together}
+use Rattle.gh_mutator.specs.Deeds.{acted}
+use Rattle.gh_mutator.specs.Listing.{acts, asks, takes}
+use Rattle.gh_mutator.specs.Local.{register_at}
+use Rattle.gh_mutator.specs.MarkFacts.{KnowsStacks}
+use Rattle.gh_mutator.specs.MarkVocabulary.{Cycle, Hands, InHand, Keeps}
+use Rattle.gh_mutator_heap.specs.PollHeap.{Stands}
+use Rattle.gh_mutator.specs.Processor.{at_task}
+use Rattle.gh_mutator.specs.ProcessorMarks.{MarkFacts, MarksByMoves, TaskFacts}
+use Rattle.gh_mutator_heap.specs.Runs.{DoesPoints}
+use Rattle.gh_mutator.specs.Vocabulary.{Answer, cell_of, IsOf, Value}
+use Rattle.gh_mutator_heap.specs.Vocabulary.{Ever, EverValue, Means, view, Processor, Task}
+use Rattle.gh_mutator_writes.specs.Writing.{IsWritten, ProcessorWritesItsOwn, StacksAreNoted}
+use Rattle.gh_mutator_heap.proofs.Owning.Parked.{stands_always}
+
+pub record Known : Type 0 where
+  pub rows : RowsAreWritten
+  pub deeds : DeedsGoBeside
+  pub alone : MarkingAloneGoesBeside
+  pub objects : ObjectsAreKnownBeside
+  pub aside : ClaimedFieldsAreAside
+  pub reserve : SlotsAreReserved
+  pub follow : EachHandFollows
+  pub leave : EachOwnMoveLeaves
+  pub writes : WritesByMoves
+  pub assists : AssistsByMoves
+  pub own : ProcessorWritesItsOwn
+  pub notes : StacksAreNoted
+  pub marks : MarksByMoves
+
+-- no slot is filled where none is in hand
+pub fills_none : (a : ℕ) (u : Marking) (hand : InHand) → hand.placing ≡ None → Hands a u hand → FillsNone a u
+fills_none a u hand none x o is = let some : hand.placing ≡ Some o = (x.has.is_reserved o).1 is in cc
+
+-- The registers of the processor and those that marking reads name the same.
+same_name : (place : Place) (made : ℕ → ℕ) (v : EverValue) (w : Value) → Means place made v w → reference_of place v ≡ named w
+same_name place made ever.Nil value.Nil h = refl
+same_name place made (ever.Int i) (value.Int j) h = refl
+same_name place made (ever.Ref n) (value.Ref r) h = sym h.0
+same_name place made ever.Nil (value.Int j) h = absurd h
+same_name place made ever.Nil (value.Ref r) h = absurd h
+same_name place made (ever.Int i) value.Nil h = absurd h
+same_name place made (ever.Int i) (value.Ref r) h = absurd h
+same_name place made (ever.Ref n) value.Nil h = absurd h
+same_name place made (ever.Ref n) (value.Int j) h = absurd h
+
+some_name : (place : Place) (made : ℕ → ℕ) (v : EverValue) (r : ℕ) → Means place made v (value.Ref r) → 1 ≤ r
+some_name place made ever.Nil r h = absurd h
+some_name place made (ever.Int i) r h = absurd h
+some_name place made (ever.Ref n) r h = let is = h.0 in omega arith
+
+-- the goroutine goes on
+abbrev pub EndsNone : Deed → Type 0
+EndsNone (deed.Ends g) = ⊥
+EndsNone _ = Unit {0}
+
+-- what is not the end of a goroutine writes no word of a stack
+spares_stacks : (z : Cycle) (a : ℕ) (h : Heap) (s : Marking) (step : Ask) (d : Deed) → EndsNone d → MeetsByDeed z a h s step d → (g number : ℕ) → step ≢ ask.Store (cell.Scanned g) number
+spares_stacks z a h s step deed.Rests on meets g number e = subst (λ (x : Ask). marks.IsQuiet s x) e meets.0
+spares_stacks z a h s step (deed.Sets i d v) on meets g number e = subst (λ (x : Ask). marks.IsQuiet s x) e meets.0
+spares_stacks z a h s step (deed.Ends i) on meets g number e = absurd on
+spares_stacks z a h s step (deed.Makes at i d t) on meets g number e = let is = sym meets.0 ∙ e in cc
+spares_stacks z a h s step (deed.Puts n i v word) on meets g number e = let is = sym meets.0 ∙ e in cc
+spares_stacks z a h s step (deed.PutsGlobal i v word) on meets g number e = let is = sym meets.0 ∙ e in cc
+
+ends_none : (z : Cycle) (e : Ever) (d : Deed) → EndsNone d → (g : ℕ) → (ever_by z.arena e d).ended g ≡ e.ended g
+ends_none z e deed.Rests on g = refl
+ends_none z e (deed.Sets i d v) on g = refl
+ends_none z e (deed.Ends i) on g = absurd on
+ends_none z e (deed.Makes at i d t) on g = refl
+ends_none z e (deed.Puts n i v word) on g = refl
+ends_none z e (deed.PutsGlobal i v word) on g = refl
+
+-- A step by whichever move over the heap it is.
+abbrev pub StepOf : Cycle → (a : ℕ) → Heap → Processor → Option Answer → Type 0
+StepOf z a h m pending = heap.Steps z.arena a h (asks m) (λ t. DoesPoints z.arena a h t m pending (h.words (cell_of (asks m))))
+
+abbrev pub StepAt : Task → Type 0
+StepAt q = (z : Cycle) (a : ℕ) (h : Heap) (s : Marking) (m : Processor) (pending : Option Answer) → Together z a h s (at_task m q) pending → KnowsMarking (at_task m q) → (l : StepOf z a h (at_task m q) pending) →
+    StepsOn z a (heap.moved z.arena a h l.move) s (takes z.arena.shapes (at_task m q) (h.words (cell_of (asks (at_task m q)))))
+
+module _ (k : Known) (z : Cycle) (a : ℕ) (h : Heap) (s : Marking) (m : Processor) (pending : Option Answer) (t : Together z a h s m pending) (l : StepOf z a h m pending) where
+  abbrev pub found_there : ℕ
+  found_there = h.words (cell_of (asks m))
+
+  abbrev pub heap_then : Heap
+  heap_then = heap.moved z.arena a h l.move
+
+  abbrev pub processor_then : Processor
+  processor_then = takes z.arena.shapes m found_there
+
+  pub goes_on : (g : ℕ) → heap.Runs z.arena (view h) a g → s.words (cell.Scanned g) ≢ END
+  goes_on g runs = t.beside.goes_on g runs.of.0 runs.goes_on
+
+  stands : Stands z.arena a (view heap_then) processor_then.poll
+  stands = stands_always z.arena a (view heap_then) processor_then l.after.does.after l.after.does.fine
+
+  places : z.arena.layout.goroutines ≤ length processor_then.poll.local.scanned
+  places = let many = k.notes.as_many z.arena.shapes m found_there t.sound in let was = t.facts.stacks.places in omega (arith, many, was)
+
+  -- What is known of its stacks behind a step that leaves their words, by what is known of the heap.
+  module _ (u : Marking) (beside : IsBeside z.arena heap_then u) (goes : (g : ℕ) → IsOf z.arena a g → u.words (cell.Scanned g) ≢ END → heap_then.ever.ended g ≡ false) where
+    values : (g : ℕ) → IsOf z.arena a g → u.words (cell.Scanned g) ≢ END → AreRegisters (u.registers g) (slice_index_or processor_then.poll.local.stacks g [])
+    values g its on = record {
+      whole = whole;
+      each = λ d below. beside.registers g d its.0 (low d below) (goes g its on) ∙ same_name heap_then.place heap_then.ever.made (heap_then.ever.register g d) (register_at processor_then.poll g d) (means d below);
+      some = λ d r below holds. some_name heap_then.place heap_then.ever.made (heap_then.ever.register g d) r (subst (λ (w : Value). Means heap_then.place heap_then.ever.made (heap_then.ever.register g d) w) holds (means d below));
+    } where
+      whole : length (slice_index_or processor_then.poll.local.stacks g []) ≡ REGISTERS
+      whole = let few = its.0 in let fit = z.arena.layout.limits.goroutines_fit.1 in stands.sits.registers g (omega (arith, few, fit))
+
+      low : (d : ℕ) → d < length (slice_index_or processor_then.poll.local.stacks g []) → d < REGISTERS
+      low d below = subst (λ (n : ℕ). d < n) whole below
+
+      means : (d : ℕ) → d < length (slice_index_or processor_then.poll.local.stacks g []) → Means heap_then.place heap_then.ever.made (heap_then.ever.register g d) (register_at processor_then.poll g d)
+      means d below = stands.registers g d its (low d below)
+
+    pub stacks_by : ((g : ℕ) → IsOf z.arena a g → slice_index_or processor_then.poll.local.scanned g 0 ≡ u.words (cell.Scanned g)) → KnowsStacks z a u processor_then.poll.local.stacks processor_then.poll.local.scanned
+    stacks_by noted = record { own = t.facts.stacks.own; registers = values; noted = noted; places = places }
+
+  module _ (u : Marking) (beside : IsBeside z.arena heap_then u) (spares : (g number : ℕ) → asks m ≢ ask.Store (cell.Scanned g) number) (ends : (g : ℕ) → heap_then.ever.ended g ≡ h.ever.ended g) where
+    unwritten : (g : ℕ) → IsWritten m (cell.Scanned g) → ⊥
+    unwritten g (inl e) = spares g END e.tells
+    unwritten g (inr e) = spares g m.poll.local.view.begun e.tells
+
+    word_stays : (g : ℕ) → u.words (cell.Scanned g) ≡ h.words (cell.Scanned g)
+    word_stays g = ap (λ (w : Words). w (cell.Scanned g)) (beside.words ∙ l.words_are) ∙ k.own.leaves m h.words (cell.Scanned g) t.sound (unwritten g)
+
+    goes : (g : ℕ) → IsOf z.arena a g → u.words (cell.Scanned g) ≢ END → heap_then.ever.ended g ≡ false
+    goes g its on = by (heap_then.ever.ended g) refl where
+      by : (b : Bool) → heap_then.ever.ended g ≡ b → heap_then.ever.ended g ≡ false
+      by true e = absurd (on (word_stays g ∙ t.ends g (sym (ends g) ∙ e)))
+      by false e = e
+
+    stacks_then : KnowsStacks z a u processor_then.poll.local.stacks processor_then.poll.local.scanned
+    stacks_then = stacks_by u beside goes (λ g its. k.notes.keeps z.arena.shapes m found_there g t.sound (spares g) ∙ t.facts.stacks.noted g its ∙ ap (λ (w : Words). w (cell.Scanned g)) t.beside.words ∙ sym (word_stays g))
+
+  pub facts_then : (u : Marking) → KnowsStacks z a u processor_then.poll.local.stacks processor_then.poll.local.scanned → TaskFacts z a u processor_then.poll processor_then.task → MarkFacts z a u processor_then
+  facts_then u stacks f = let there = k.own.stays_there z.arena.shapes m found_there t.sound in record { layout_is = there.layout ∙ t.facts.layout_is; seat_is = there.seat ∙ t.facts.seat_is; stacks = stacks; task_is = f }
+
+  -- what is known by the task behind a step, with what the seat has in hand then
+  abbrev pub Comes : Deed → Type 0
+  Comes d = (u : Marking) → ((hand : InHand) → Hands a s hand → Hands a u (hand_behind d hand)) → KnowsStacks z a u processor_then.poll.local.stacks processor_then.poll.local.scanned → TaskFacts z a u processor_then.poll processor_then.task
+
+  -- The step is a deed.
+  pub by_deed : (d : Deed) → EndsNone d → acted z.arena.shapes h.ever (acts m found_there) ≡ ever_by z.arena h.ever d → MeetsByDeed z a h s (asks m) d → Comes d → StepsOn z a heap_then s processor_then
+  by_deed d on is meets comes =
+      let ever_is = l.after.does.ever ∙ is in
+      let b = k.deeds z a h s l.move (asks m) d t.heap t.marking t.bounded t.beside l.may (record { words = l.words_are; ever = ever_is }) meets in
+      let stacks = stacks_then b.then b.beside (spares_stacks z a h s (asks m) d on meets) (λ g. ap (λ (e : Ever). e.ended g) ever_is ∙ ends_none z h.ever d on g) in
+      record { then = b.then; went = b.went; beside = b.beside; facts = facts_then b.then stacks (comes b.then b.hands stacks) }
+
+  -- It is made of moves of marking alone.
+  module _ (is : acted z.arena.shapes h.ever (acts m found_there) ≡ h.ever) (u : Marking) (went : marks.Went z a s u) (words_are : u.words ≡ effect s.words (asks m)) (fills : (o : ℕ) → u.colour o ≡ Placing a → ClaimsSlot z.arena (view heap_then) a o) where
+    pub by_marking : ((g d : ℕ) → heap.Runs z.arena (view h) a g → d < REGISTERS → u.registers g d ≡ s.registers g d) → ((g : ℕ) → heap.Runs z.arena (view h) a g → u.words (cell.Scanned g) ≢ END) → MarkFacts z a u processor_then → StepsOn z a heap_then s processor_then
+    by_marking registers on facts = record {
+      then = u;
+      went = went;
+      beside = k.alone z a h s u l.move t.heap t.marking t.beside l.may (l.after.does.ever ∙ is) (record {
+        went = went;
+        words_are = words_are ∙ ap (λ (w : Words). effect w (asks m)) t.beside.words ∙ sym l.words_are;
+        fills = fills;
+        registers = registers;
+        goes_on = on;
+      });
+      facts = facts;
+    }
+
+    -- which change no stack
+    pub by_keeping : Keeps z a s u → MarkFacts z a u processor_then → StepsOn z a heap_then s processor_then
+    by_keeping kept facts = by_marking (λ g d runs low. kept.registers g d runs.of) (λ g runs e. goes_on g runs (sym (kept.stacks g runs.of) ∙ e)) facts
+
+  -- It loads, and nothing changes.
+  pub by_load : acted z.arena.shapes h.ever (acts m found_there) ≡ h.ever → (c : Cell) → asks m ≡ ask.Load c → FillsNone a s → MarkFacts z a s processor_then → StepsOn z a heap_then s processor_then
+  by_load is c loads fills facts = by_marking is s marks.stays (sym (ap (λ (x : Ask). effect s.words x) loads)) (λ o e. absurd (fills o e)) (λ g d runs low. refl) goes_on facts

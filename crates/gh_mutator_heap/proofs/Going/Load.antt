@@ -1,0 +1,82 @@
+-- Steps of a load beside marking. At its point its register takes what the field held.
+use Rattle.std.proofs.Common.{◌≡◌, ℕ, ◌<◌, Bool, true, false, cond, Option, None, inl, inr, refl, ap, ◌∙◌}
+use Rattle.std.proofs.lemmas.Bool.{lt-ltb}
+use Rattle.gh_base.specs.declared.value.Answer.TheVariants as answer
+use Rattle.gh_base.specs.declared.value.Fault.TheVariants as fault
+use Rattle.gh_model.specs.declared.EverValue.TheVariants as ever
+use Rattle.gh_model.specs.Ever.{load_answer, takes_answer}
+use Rattle.gh_cycle.specs.Deeds.{Deed, ever_by, from_field, hand_behind, MeetsByDeed, Rests, Sets}
+use Rattle.gh_cycle.specs.Beside.{FillsNone}
+use Rattle.gh_heap.specs.Rights.{Shared as Heap}
+use Rattle.gh_marks.specs.Colours.{Shared as Marking}
+use Rattle.gh_mutator.specs.declared.load.LoadStage.TheVariants.{Page, Bits, Field, Birth, NilBase}
+use Rattle.gh_mutator.specs.declared.task.Task.TheVariants as task
+use Rattle.gh_mutator_heap.specs.Beside.{StepsOn, Together}
+use Rattle.gh_mutator.specs.Deeds.{acted}
+use Rattle.gh_mutator_heap.specs.Facts.{Loads}
+use Rattle.gh_mutator.specs.Fields.{has_field}
+use Rattle.gh_mutator.specs.Listing.{acting, asks, follows}
+use Rattle.gh_mutator.specs.Load.{at_stage, op_of, step}
+use Rattle.gh_mutator.specs.MarkFacts.{holding, IsBetween}
+use Rattle.gh_mutator.specs.MarkVocabulary.{Cycle, InHand}
+use Rattle.gh_mutator.specs.Processor.{at_task}
+use Rattle.gh_mutator.specs.ProcessorMarks.{TaskFacts}
+use Rattle.gh_mutator.specs.Vocabulary.{Answer, Name, Polling}
+use Rattle.gh_mutator_heap.specs.Vocabulary.{Ever, EverValue, size_for, told, view, Ends, GoesOn, Load, LoadStage, Processor, Step, Then}
+use Rattle.gh_mutator_heap.proofs.Going.Known.{by_deed, EndsNone, fills_none, found_there, heap_then, Known, processor_then, StepAt, StepOf}
+use Rattle.gh_mutator_heap.proofs.Going.Values.{between_then, pointing_scans, Quits, quits_rests}
+use Rattle.gh_mutator_heap.proofs.Owning.Objects.{takes_told}
+
+follows_facts : (z : Cycle) (a : ℕ) (u : Marking) (p : Polling) (then : Then Load) → IsBetween z a u p.local → TaskFacts z a u p (follows task.Load then)
+follows_facts z a u p (GoesOn y) b = b
+follows_facts z a u p (Ends y) b = b
+
+page_quits : (x : Load) (b : Bool) → Quits (cond b (record { then = GoesOn (at_stage x Bits); sets = None; acts = false }) (record { then = Ends (answer.Fault fault.Field); sets = None; acts = true }))
+page_quits x true = inl refl
+page_quits x false = inr (fault.Field, refl, refl)
+
+module _ (k : Known) (x : Load) (q : LoadStage) (z : Cycle) (a : ℕ) (h : Heap) (s : Marking) (m : Processor) (pending : Option Answer) where
+  abbrev here : Processor
+  here = at_task m (task.Load (at_stage x q))
+
+  module _ (t : Together z a h s here pending) (l : StepOf z a h here pending) where
+    abbrev found : ℕ
+    found = found_there k z a h s here pending t l
+
+    abbrev now : Step Load
+    now = step m.poll.layout (at_stage x q) found
+
+    abbrev Goes : Type 0
+    Goes = StepsOn z a (heap_then k z a h s here pending t l) s (processor_then k z a h s here pending t l)
+
+    fills : FillsNone a s
+    fills = fills_none a s (holding m.poll.local.held) refl t.facts.task_is.hands
+
+    by : (d : Deed) → EndsNone d → ((hand : InHand) → hand_behind d hand ≡ hand) → acted z.arena.shapes h.ever (acting now.acts (op_of x) false) ≡ ever_by z.arena h.ever d → MeetsByDeed z a h s (asks here) d → Goes
+    by d on same is meets = by_deed k z a h s here pending t l d on is meets
+        (λ u hands stacks. follows_facts z a u _ now.then (between_then z a u m.poll x.g x.d now.sets stacks t.facts.task_is.number (rw (← same (holding m.poll.local.held)) (hands (holding m.poll.local.held) t.facts.task_is.hands))))
+
+    rests : pending ≡ None → Quits now → MeetsByDeed z a h s (asks here) Rests → Goes
+    rests none quits meets = by Rests tt (λ hand. refl) (quits_rests z.arena.shapes h.ever (op_of x) pending l.after.does.after now (λ f. refl) none l.after.does.answers quits) meets
+
+load_found : (z : Cycle) (e : Ever) (v : EverValue) (n : Name) (k : ℕ) → v ≡ ever.Ref n → k < size_for z.arena.shapes e.type_of n → load_answer z.arena.shapes e v k ≡ told (e.field n k)
+load_found z e v n k is few = rw (is, lt-ltb k (size_for z.arena.shapes e.type_of n) few) refl
+
+at : Known → (x : Load) (q : LoadStage) → StepAt (task.Load (at_stage x q))
+at k x Page z a h s m pending t kn l = rests k x Page z a h s m pending t l t.fine.task.unanswered (page_quits x (has_field x.k (found k x Page z a h s m pending t l))) (tt, fills k x Page z a h s m pending t l)
+at k x Bits z a h s m pending t kn l = rests k x Bits z a h s m pending t l t.fine.task.0.unanswered (inl refl) (tt, fills k x Bits z a h s m pending t l)
+at k x (Field p) z a h s m pending t kn l = by k x (Field p) z a h s m pending t l (Sets x.g x.d (h.ever.field f.n x.k)) tt (λ hand. refl)
+    (ap (λ (y : Answer). takes_answer h.ever x.g x.d y) (load_found z h.ever (h.ever.register x.g x.b) f.n x.k f.through.names t.fine.task.1) ∙ takes_told h.ever x.g x.d (h.ever.field f.n x.k)) (
+      tt,
+      fills k x (Field p) z a h s m pending t l,
+      f.through.runs,
+      f.register,
+      from_field x.b f.n x.k f.through.register f.through.names t.fine.task.1 (pointing_scans z.arena.shapes t.shapes (h.ever.type_of f.n) x.k),
+    ) where
+      f : Loads z.arena a (view h) (at_stage x (Field p)) pending
+      f = t.fine.task.0
+at k x (Birth i) z a h s m pending t kn l = by k x (Birth i) z a h s m pending t l Rests tt (λ hand. refl) refl (tt, fills k x (Birth i) z a h s m pending t l)
+at k x NilBase z a h s m pending t kn l = rests k x NilBase z a h s m pending t l t.fine.task.3 (inr (fault.NilBase, refl, refl)) (tt, fills k x NilBase z a h s m pending t l)
+
+pub load_step : Known → (x : Load) → StepAt (task.Load x)
+load_step k x = at k x x.stage

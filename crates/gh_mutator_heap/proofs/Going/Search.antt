@@ -1,0 +1,110 @@
+-- Steps of the search for a slot beside marking: they are on the lock and on page words, or load. A slot that is found is to be marked before its object is made.
+use Rattle.std.proofs.Common.{◌≡◌, ℕ, Bool, true, false, Option, Some, None, refl, sym, ap, subst, ◌∙◌}
+use Rattle.gh_base.specs.declared.cell.Ask.{Ask}
+use Rattle.gh_base.specs.declared.cell.Ask.TheVariants as ask
+use Rattle.gh_base.specs.declared.operation.Op.TheVariants as op
+use Rattle.gh_alloc.specs.Search as search
+use Rattle.gh_cycle.specs.Beside.{FillsNone}
+use Rattle.gh_cycle.specs.Deeds.{from_nil, Rests, Sets}
+use Rattle.gh_heap.specs.Rights.{Shared as Heap}
+use Rattle.gh_marks.specs.Colours.{Shared as Marking}
+use Rattle.gh_marks.specs.Moves.{IsAside, IsQuiet}
+use Rattle.gh_model.specs.declared.EverValue.TheVariants as ever
+use Rattle.gh_phase.specs.declared.view.RunPhase.TheVariants.{Mark}
+use Rattle.gh_mutator_heap.specs.Beside.{StepsOn, Together}
+use Rattle.gh_mutator.specs.Deeds.{acted}
+use Rattle.gh_mutator.specs.Listing.{acting}
+use Rattle.gh_mutator.specs.Local.{is_mark}
+use Rattle.gh_mutator.specs.MarkFacts.{holding, KnowsStacks}
+use Rattle.gh_mutator.specs.MarkVocabulary.{Cycle, Hands}
+use Rattle.gh_mutator.specs.New.{after_search, refuses, searches}
+use Rattle.gh_mutator.specs.Processor.{at_task, cache_span}
+use Rattle.gh_mutator.specs.ProcessorMarks.{TaskFacts}
+use Rattle.gh_mutator.specs.Vocabulary.{Answer, At, Found, NoRoom, Op, Seeking, cell_of}
+use Rattle.gh_mutator_heap.specs.Vocabulary.{Processor, Wanted}
+use Rattle.gh_mutator_heap.proofs.Going.Known.{by_deed, fills_none, found_there, heap_then, Known, processor_then, StepAt, StepOf}
+use Rattle.gh_mutator_heap.proofs.Vocabulary.{WritesOf}
+use Rattle.gh_mutator_writes.specs.SearchRows.{seeking_writes}
+
+-- a step that writes no word which marking reads
+pub quiet_by : (s : Marking) (step : Ask) → WritesOf (IsAside s) step → IsQuiet s step
+quiet_by s (ask.Load c) w = tt
+quiet_by s (ask.Store c value) w = w
+quiet_by s (ask.Or c bits) w = w
+quiet_by s (ask.And c bits) w = w
+quiet_by s (ask.Add c more) w = w
+quiet_by s (ask.Swap c old new) w = w
+
+module _ (k : Known) (v : Wanted) (waited : Bool) (y : Seeking) (z : Cycle) (a : ℕ) (h : Heap) (s : Marking) (m : Processor) (pending : Option Answer) where
+  abbrev here : Processor
+  here = at_task m (searches v waited y)
+
+  module _ (t : Together z a h s here pending) (l : StepOf z a h here pending) (on : m.poll.local.view.phase ≡ Mark) where
+    abbrev n : ℕ
+    n = found_there k z a h s here pending t l
+
+    abbrev op_now : Op
+    op_now = op.New v.g v.d v.t
+
+    abbrev Goes : Type 0
+    Goes = StepsOn z a (heap_then k z a h s here pending t l) s (processor_then k z a h s here pending t l)
+
+    -- the processor with what is cached, and behind the search, by what that has found
+    abbrev cached : Processor
+    cached = cache_span here v.sought (search.goes y n).find.cached
+
+    abbrev then : Option Found → Processor
+    then o = after_search z.arena.shapes cached v waited (search.goes y n) o
+
+    abbrev Knows : Option Found → Type 0
+    Knows o = (u : Marking) → Hands a u (holding m.poll.local.held) → KnowsStacks z a u (then o).poll.local.stacks (then o).poll.local.scanned → TaskFacts z a u (then o).poll (then o).task
+
+    quiet : IsQuiet s (search.asks y)
+    quiet = quiet_by s (search.asks y) (seeking_writes (IsAside s) (record { lock = tt; page = λ i. tt }) y (λ sw e. absurd (let none = t.sweeps in cc)))
+
+    fills : FillsNone a s
+    fills = fills_none a s (holding m.poll.local.held) refl t.facts.task_is.hands
+
+    knows_at : (o : Option Found) → search.gives y n ≡ o → Knows o → Knows (search.gives y n)
+    knows_at o e f = subst Knows (sym e) f
+
+    rests : (o : Option Found) → search.gives y n ≡ o → refuses waited o ≡ false → Knows o → Goes
+    rests o e none f = by_deed k z a h s here pending t l Rests tt
+        (ap (λ (x : Option Found). acted z.arena.shapes h.ever (acting (refuses waited x) op_now true)) e ∙ ap (λ (b : Bool). acted z.arena.shapes h.ever (acting b op_now true)) none)
+        (quiet, fills) (λ u hands stacks. knows_at o e f u (hands (holding m.poll.local.held) t.facts.task_is.hands) stacks)
+
+    refused : search.gives y n ≡ Some NoRoom → waited ≡ true → Goes
+    refused e last = by_deed k z a h s here pending t l (Sets v.g v.d ever.Nil) tt
+        (ap (λ (x : Option Found). acted z.arena.shapes h.ever (acting (refuses waited x) op_now true)) e ∙ ap (λ (b : Bool). acted z.arena.shapes h.ever (acting (refuses b (Some NoRoom)) op_now true)) last)
+        (quiet, fills, t.fine.task.wants.runs, t.fine.task.wants.register, from_nil)
+        (λ u hands stacks. knows_at (Some NoRoom) e (nil waited last) u (hands (holding m.poll.local.held) t.facts.task_is.hands) stacks) where
+          nil : (b : Bool) → b ≡ true → (u : Marking) → Hands a u (holding m.poll.local.held) → KnowsStacks z a u (after_search z.arena.shapes cached v b (search.goes y n) (Some NoRoom)).poll.local.stacks (after_search z.arena.shapes cached v b (search.goes y n) (Some NoRoom)).poll.local.scanned →
+              TaskFacts z a u (after_search z.arena.shapes cached v b (search.goes y n) (Some NoRoom)).poll (after_search z.arena.shapes cached v b (search.goes y n) (Some NoRoom)).task
+          nil true e u hands stacks = record { stacks = stacks; number = t.facts.task_is.number; hands = hands }
+          nil false e u hands stacks = absurd (cc)
+
+    -- no cycle was waited for yet
+    waits : (b : Bool) → b ≡ false → (u : Marking) → Hands a u (holding m.poll.local.held) → KnowsStacks z a u (after_search z.arena.shapes cached v b (search.goes y n) (Some NoRoom)).poll.local.stacks (after_search z.arena.shapes cached v b (search.goes y n) (Some NoRoom)).poll.local.scanned →
+        TaskFacts z a u (after_search z.arena.shapes cached v b (search.goes y n) (Some NoRoom)).poll (after_search z.arena.shapes cached v b (search.goes y n) (Some NoRoom)).task
+    waits false e u hands stacks = record { layout_is = t.facts.layout_is; seat_is = t.facts.seat_is; between = record { stacks = stacks; number = t.facts.task_is.number; hands = hands } }
+    waits true e u hands stacks = absurd (cc)
+
+    no_room : search.gives y n ≡ Some NoRoom → (b : Bool) → waited ≡ b → Goes
+    no_room e true last = refused e last
+    no_room e false first = rests (Some NoRoom) e (ap (λ (b : Bool). refuses b (Some NoRoom)) first) (waits waited first)
+
+    refuses_at : (b : Bool) (at : ℕ) → refuses b (Some (At at)) ≡ false
+    refuses_at true at = refl
+    refuses_at false at = refl
+
+    refuses_none : (b : Bool) → refuses b None ≡ false
+    refuses_none true = refl
+    refuses_none false = refl
+
+    by : (o : Option Found) → search.gives y n ≡ o → Goes
+    by None e = rests None e (refuses_none waited) (λ u hands stacks. record { stacks = stacks; number = t.facts.task_is.number; hands = hands })
+    by (Some (At at)) e = rests (Some (At at)) e (refuses_at waited at) (λ u hands stacks. record { marking = ap is_mark on; stacks = stacks; number = t.facts.task_is.number; hands = hands })
+    by (Some NoRoom) e = no_room e waited refl
+
+pub search_step : Known → (v : Wanted) (waited : Bool) (y : Seeking) → StepAt (searches v waited y)
+search_step k v waited y z a h s m pending t kn l = by k v waited y z a h s m pending t l (kn refl) (search.gives y (h.words (cell_of (search.asks y)))) refl

@@ -1,0 +1,248 @@
+-- Each step of the giving back is a move that its seat may make, and what is known at each stage holds then and lasts.
+use Rattle.std.proofs.Common.{◌≡◌, ℕ, zero, suc, ◌+◌, ◌-◌, ◌<◌, ◌≤◌, Bool, true, false, cond, eqb, List, [], ◌∷◌, drop, length, Option, Some, None, refl, sym, ap, subst, ◌∙◌, arith}
+use Rattle.std.specs.Prelude.{◌||◌, slice_index_or}
+use Rattle.std.proofs.lemmas.Bool.{eqb-true}
+use Rattle.std.proofs.lemmas.List.{drop-drop, drop_more, get_or-drop, length-drop}
+use Rattle.gh_base.specs.declared.cell.Ask.TheVariants.{Load, Store}
+use Rattle.gh_base.specs.declared.cell.Cell.TheVariants as cell
+use Rattle.gh_base.specs.Cells.{InRange, put}
+use Rattle.gh_base.specs.Packing.{head_word}
+use Rattle.gh_class.specs.declared.class.SizeClass.TheVariants as size
+use Rattle.gh_heap.specs.Moves.{Disown, IsQuiet, Lands, LeaveLock, May, Others, Quiet, TakeLock, moved}
+use Rattle.gh_heap.specs.Spans.{FitsClass, number_of, owned_by}
+use Rattle.gh_alloc.specs.Find.{given_head}
+use Rattle.gh_wbuf.specs.BufferGiving as buffer
+use Rattle.gh_wbuf.specs.declared.give_buffer.GiveStage.{GiveStage as BufferStage}
+use Rattle.gh_wbuf.specs.declared.give_buffer.GiveStage.TheVariants as buffer_stage
+use Rattle.gh_wbuf.specs.Sound.{FitsGiveStage}
+use Rattle.gh_mutator.specs.Giving.{FineAt, opening_fine}
+use Rattle.gh_mutator.specs.Stays.{lock_leads}
+use Rattle.gh_mutator_heap.proofs.Holding.Known.{HoldsSwept, Kept, Known, by_move, by_quiet, caches_kept, caches_last, holds_swept}
+use Rattle.gh_mutator_heap.proofs.Holding.Lists.{caches_from, listed_once, lists_it, none_listed}
+use Rattle.gh_alloc.specs.FindFacts.{IsCached}
+use Rattle.gh_mutator.specs.declared.give.GiveStage.TheVariants.{Lock, GiveSpan, Unlock, GiveBuffer, Ended}
+use Rattle.gh_mutator.specs.Give.{Giving, asks, asks_at, at_stage, begins, first_of, giving_buffer, goes, goes_at, head_store, is_busy, none_cached, opening, span_class, stage_from}
+use Rattle.gh_mutator_heap.specs.PollHeap.{CachesAll, CachesFrom, GiveFacts, GiveStageFacts, GivesSpan, Has, give_held, give_held_at, give_locked, give_locked_at, lists, no_page}
+use Rattle.gh_mutator_heap.proofs.Holding.Vocabulary.{Arena, CachedSpan, GiveStage, Good, Held, IsHeld, Layout, Shared, SizeClass, SpanClass, SpanHead, SPAN_CLASSES, Steps, View, cell_of, pages_of, view}
+
+-- the giving back, with its rights
+pub record Gives (z : Arena) (a : ℕ) (v : View) (g : Giving) : Type 0 where
+  pub has : Has a v (give_locked g) (give_held g)
+  pub facts : GiveFacts z a v g
+
+-- the rights where the same is held by other words
+pub has_same : (a : ℕ) (v : View) (l m : Bool) (h k : ℕ → Bool) → l ≡ m → ((p : ℕ) → h p ≡ k p) → Has a v l h → Has a v m k
+has_same a v l m h k e f r = record { locked = r.locked ∙ e; holds = λ p. r.holds p ∙ f p; laying = r.laying; freeing = r.freeing }
+
+-- where nothing is cached nothing is held
+pub nothing_held : (a : ℕ) (v : View) (cache : List (Option CachedSpan)) → cache ≡ none_cached → Has a v false (lists cache) → Has a v false no_page
+nothing_held a v cache none has = has_same a v false false (lists cache) no_page refl (λ p. ap (λ (ks : List (Option CachedSpan)). lists ks p) none ∙ none_listed p) has
+
+abbrev no_span : Option CachedSpan
+no_span = None
+
+-- Which span is given back next, from a span class on.
+record Next (z : Arena) (a : ℕ) (v : View) (g : Giving) (class : ℕ) (stage : GiveStage) : Type 0 where
+  facts : GiveStageFacts z a v g stage
+  locked : true ≡ give_locked_at stage
+  held : (p : ℕ) → lists (drop class g.cache) p ≡ give_held_at g.cache stage p
+
+here_of : (i : ℕ) (ks : List (Option CachedSpan)) (s : CachedSpan) (rest : List (Option CachedSpan)) → drop i ks ≡ Some s ∷ rest → slice_index_or ks i no_span ≡ Some s
+here_of zero ks s rest e = ap (λ (xs : List (Option CachedSpan)). slice_index_or xs 0 no_span) e
+here_of (suc i) [] s rest e = absurd (cc)
+here_of (suc i) (k ∷ ks) s rest e = here_of i ks s rest e
+
+module _ (z : Arena) (a : ℕ) (v : View) (g : Giving) where
+  next : (class : ℕ) (spans : List (Option CachedSpan)) → drop class g.cache ≡ spans → class + length spans ≡ SPAN_CLASSES → CachesFrom a v g.cache class → Next z a v g class (first_of class spans)
+  next class [] is long x = record { facts = tt; locked = refl; held = λ p. ap (λ (ks : List (Option CachedSpan)). lists ks p) is }
+  next class (Some s ∷ spans) is long x = record { facts = record { among = omega (arith, long); here = here_of class g.cache s spans is; caches = x }; locked = refl; held = λ p. refl }
+  next class (None ∷ spans) is long x =
+      let behind : drop (class + 1) g.cache ≡ spans = sym (drop-drop 1 class g.cache) ∙ ap (λ (ks : List (Option CachedSpan)). drop 1 ks) is in
+      let n = next (class + 1) spans behind (omega (arith, long)) (λ i k after below at. x i k (omega (arith, after)) below at) in
+      record { facts = n.facts; locked = n.locked; held = λ p. ap (λ (ks : List (Option CachedSpan)). lists ks p) is ∙ sym (ap (λ (ks : List (Option CachedSpan)). lists ks p) behind) ∙ n.held p }
+
+  next_from : (class : ℕ) → class ≤ SPAN_CLASSES → length g.cache ≡ SPAN_CLASSES → CachesFrom a v g.cache class → Next z a v g class (stage_from g.cache class)
+  next_from class few long x = next class (drop class g.cache) refl (omega (arith, few, long, length-drop class g.cache)) x
+
+-- The giving back begins with what is cached.
+module _ (z : Arena) (a : ℕ) (v : View) (l : Layout) (seat generation : ℕ) (cache : List (Option CachedSpan)) (held : Option Held) where
+  abbrev from : Giving
+  from = opening l seat generation cache held
+
+  -- with the same held at its first stage
+  record Begun (stage : GiveStage) : Type 0 where
+    facts : GiveStageFacts z a v from stage
+    locked : false ≡ give_locked_at stage
+    same : (p : ℕ) → lists cache p ≡ give_held_at cache stage p
+
+  buffer_begun : IsHeld z.layout held → (own : Option Held) → held ≡ own → FineAt from (giving_buffer l own) → Begun (giving_buffer l own)
+  buffer_begun is None e none = record { facts = none; locked = refl; same = λ p. refl }
+  buffer_begun is (Some h) e none = record { facts = (none, subst (IsHeld z.layout) e is); locked = refl; same = λ p. refl }
+
+  begun : IsHeld z.layout held → CachesFrom a v cache 0 → (stage : GiveStage) → FineAt from (begins l held stage) → Begun (begins l held stage)
+  begun is x Lock f = record { facts = x; locked = refl; same = λ p. refl }
+  begun is x (GiveSpan class s) f = record { facts = x; locked = refl; same = λ p. refl }
+  begun is x Unlock f = buffer_begun is held refl f
+  begun is x (GiveBuffer b) f = record { facts = x; locked = refl; same = λ p. refl }
+  begun is x Ended f = record { facts = x; locked = refl; same = λ p. refl }
+
+  pub gives_begin : l ≡ z.layout → seat ≡ a → generation ≡ v.generation → length cache ≡ SPAN_CLASSES → IsHeld z.layout held → CachesAll a v cache → Has a v false (lists cache) → Gives z a v from
+  gives_begin layout_is seat_is known room is all has =
+      let b = begun is (caches_from a v cache all) (stage_from cache 0) (opening_fine l seat generation cache held room) in
+      record { has = has_same a v false (give_locked from) (lists cache) (give_held from) b.locked b.same has; facts = record { layout_is = layout_is; seat_is = seat_is; generation = known; room = room; held = is; stage_is = b.facts } }
+
+-- What is written says what the head says, but for its owner.
+head_is : (n : ℕ) (h : SpanHead) (c : SpanClass) → h.class ≡ size.Small c.class → h.noscan ≡ c.noscan → h.pages ≡ pages_of c.class → h.number ≡ n → owned_by 0 h ≡ given_head n c
+head_is n h c class noscan pages number = rw (class, noscan, pages, number) refl
+
+small_pages : (h : SpanHead) (c : ℕ) → FitsClass h → h.class ≡ size.Small c → h.pages ≡ pages_of c
+small_pages h c fits class = fits.small (λ x. no_large c (sym class ∙ x)) ∙ ap (λ (y : SizeClass). pages_of (number_of y)) class where
+  no_large : (c : ℕ) → size.Small c ≡ size.Large → ⊥
+  no_large c x = cc
+
+-- what is held once a span is given back: what is listed behind it
+without : (head : ℕ) (rest : List (Option CachedSpan)) (p : ℕ) → lists rest head ≡ false → cond (eqb head p) false (eqb head p || lists rest p) ≡ lists rest p
+without head rest p none = by (eqb head p) refl where
+  by : (b : Bool) → eqb head p ≡ b → cond b false (b || lists rest p) ≡ lists rest p
+  by true e = sym (subst (λ (q : ℕ). lists rest q ≡ false) (eqb-true head p e) none)
+  by false e = refl
+
+module _ (k : Known) (z : Arena) (a : ℕ) where
+  module _ (s : Shared) (good : Good z (view s)) (g : Giving) (layout_is : g.layout ≡ z.layout) (seat_is : g.seat ≡ a) (known : g.generation ≡ (view s).generation) (room : length g.cache ≡ SPAN_CLASSES) (is : IsHeld z.layout g.held) where
+    abbrev Leads : GiveStage → Type 0
+    Leads q = Steps z a s (asks_at g q) (λ t. Kept a (view s) (view t) × Gives z a (view t) (goes_at g q (s.words (cell_of (asks_at g q)))))
+
+    -- it goes on from a span class on, with the lock
+    goes_from : (t : Shared) (class : ℕ) → Kept a (view s) (view t) → class ≤ SPAN_CLASSES → CachesFrom a (view s) g.cache class → Has a (view t) true (lists (drop class g.cache)) → Gives z a (view t) (at_stage g (stage_from g.cache class))
+    goes_from t class kept few x has =
+        let holds : (i : ℕ) (c : CachedSpan) → class ≤ i → i < SPAN_CLASSES → slice_index_or g.cache i None ≡ Some c → (view t).holds a c.head ≡ true = λ i c after below at. has.holds c.head ∙ listed_from class i c after at in
+        let n = next_from z a (view t) g class few room (caches_kept a (view s) (view t) (holds_swept z a (view s) good) kept.own g.cache class holds x) in
+        record {
+          has = has_same a (view t) true (give_locked_at (stage_from g.cache class)) (lists (drop class g.cache)) (give_held_at g.cache (stage_from g.cache class)) n.locked n.held has;
+          facts = record { layout_is = layout_is; seat_is = seat_is; generation = known ∙ sym kept.own.generation; room = room; held = is; stage_is = n.facts };
+        } where
+          listed_from : (class i : ℕ) (c : CachedSpan) → class ≤ i → slice_index_or g.cache i None ≡ Some c → lists (drop class g.cache) c.head ≡ true
+          listed_from class i c after at =
+              let back : class + (i - class) ≡ i = omega (arith, after) in
+              lists_it (drop class g.cache) (i - class) c.head c (get_or-drop class g.cache (i - class) no_span ∙ ap (λ (j : ℕ). slice_index_or g.cache j no_span) back ∙ at) refl
+
+    locks : Has a (view s) false (lists g.cache) → CachesFrom a (view s) g.cache 0 → Leads Lock
+    locks has x = by (eqb (s.words cell.Lock) 0) refl where
+      by : (free : Bool) → eqb (s.words cell.Lock) 0 ≡ free → Lands z a s (cond free (put s.words cell.Lock (g.seat + 1)) s.words) (λ t. Kept a (view s) (view t) × Gives z a (view t) (goes_at g Lock (s.words cell.Lock)))
+      by true e = record {
+        move = TakeLock;
+        may = eqb-true (s.words cell.Lock) 0 e;
+        words_are = ap (λ (b : ℕ). put s.words cell.Lock (b + 1)) (sym seat_is);
+        after =
+            let kept : Kept a (view s) (view (moved z a s TakeLock)) = record { objects = (refl, refl); own = k.own z a s TakeLock good (eqb-true (s.words cell.Lock) 0 e) } in
+            (kept, subst (λ (n : Giving). Gives z a (view (moved z a s TakeLock)) n) (sym (lock_leads g (s.words cell.Lock) true e)) (goes_from (moved z a s TakeLock) 0 kept (omega arith) x (k.follow z a s false (lists g.cache) None has).taken));
+      }
+      by false e = record {
+        move = Quiet (Load cell.Lock);
+        may = tt;
+        words_are = refl;
+        after = (
+          record { objects = (refl, refl); own = k.own z a s (Quiet (Load cell.Lock)) good tt },
+          subst (λ (n : Giving). Gives z a (view (moved z a s (Quiet (Load cell.Lock)))) n) (sym (lock_leads g (s.words cell.Lock) false e)) (record { has = has; facts = record { layout_is = layout_is; seat_is = seat_is; generation = known; room = room; held = is; stage_is = x } }),
+        );
+      }
+
+    module _ (class : ℕ) (c : CachedSpan) (has : Has a (view s) true (lists (drop class g.cache))) (x : GivesSpan a (view s) g.cache class c) where
+      own : IsCached a (view s) (span_class class) c
+      own = x.caches class c (omega arith) x.among x.here
+
+      abbrev head : SpanHead
+      head = own.span.h
+
+      abbrev then : Shared
+      then = moved z a s (Disown c.head head)
+
+      may : May z a (view s) (Disown c.head head)
+      may = (record { locked = has.locked; laying = has.laying; freeing = has.freeing; head = own.span.head }, own.span.held)
+
+      written : owned_by 0 head ≡ given_head g.generation (span_class class)
+      written = head_is g.generation head (span_class class) own.span.class own.span.noscan_is (small_pages head (span_class class).class (good.spans c.head head own.span.head).fits own.span.class) (holds_swept z a (view s) good c.head head own.span.held own.span.head ∙ sym known)
+
+      left : Has a (view then) true (lists (drop (class + 1) g.cache))
+      left =
+          let given = (k.follow z a s true (lists (drop class g.cache)) None has).given c.head head in
+          let front : drop class g.cache ≡ Some c ∷ drop (class + 1) g.cache = drop_more g.cache class no_span (omega (arith, room, x.among)) ∙ ap (λ (y : Option CachedSpan). y ∷ drop (class + 1) g.cache) x.here in
+          let apart = listed_once a (view s) g.cache room class c x.among x.here x.caches in
+          record {
+            locked = given.locked;
+            holds = λ p. given.holds p ∙ ap (λ (ks : List (Option CachedSpan)). cond (eqb c.head p) false (lists ks p)) front ∙ without c.head (drop (class + 1) g.cache) p apart;
+            laying = given.laying;
+            freeing = given.freeing;
+          }
+
+      span_given : Leads (GiveSpan class c)
+      span_given = by_move k z a s good (head_store g.generation class c) (Disown c.head head) (λ t. Kept a (view s) (view t) × Gives z a (view t) (at_stage g (stage_from g.cache (class + 1)))) may
+          (ap (λ (h : SpanHead). put s.words (cell.Page c.head) (head_word h)) written) (refl, refl)
+          (λ kept. (kept, goes_from then (class + 1) kept (omega (arith, x.among)) (λ i y after below at. x.caches i y (omega (arith, after)) below at) left))
+
+    buffer_then : (t : Shared) (own : Option Held) → IsHeld z.layout own → g.held ≡ own → Kept a (view s) (view t) → Has a (view t) false no_page → Gives z a (view t) (record g { cache = none_cached; stage = giving_buffer g.layout own })
+    buffer_then t None fits e kept has = record { has = has_same a (view t) false false no_page (lists none_cached) refl (λ p. sym (none_listed p)) has; facts = record { layout_is = layout_is; seat_is = seat_is; generation = known ∙ sym kept.own.generation; room = refl; held = is; stage_is = (refl, e) } }
+    buffer_then t (Some h) fits e kept has = record { has = has_same a (view t) false false no_page (lists none_cached) refl (λ p. sym (none_listed p)) has; facts = record { layout_is = layout_is; seat_is = seat_is; generation = known ∙ sym kept.own.generation; room = refl; held = is; stage_is = (refl, fits) } }
+
+    unlocks : Has a (view s) true no_page → Leads Unlock
+    unlocks has = by_move k z a s good (Store cell.Lock 0) LeaveLock (λ t. Kept a (view s) (view t) × Gives z a (view t) (goes_at g Unlock (s.words cell.Lock))) (has.locked, has.laying, has.freeing) refl (refl, refl)
+        (λ kept. (kept, buffer_then (moved z a s LeaveLock) g.held is refl kept (k.follow z a s true no_page None has).left))
+
+    buffer_given : (b : buffer.BufferGiving) (q : BufferStage) → Has a (view s) false (lists g.cache) → g.cache ≡ none_cached → Steps z a s (buffer.asks_at q) (λ t. Kept a (view s) (view t) × Gives z a (view t) (record g { held = None; stage = Ended }))
+    buffer_given b q has none = by_quiet k z a s good (buffer.asks_at q) false (lists g.cache) (λ t. Kept a (view s) (view t) × Gives z a (view t) (record g { held = None; stage = Ended })) (quiet q) has
+        (λ t kept r. (kept, record { has = r; facts = record { layout_is = layout_is; seat_is = seat_is; generation = known ∙ sym kept.own.generation; room = room; held = tt; stage_is = (none, refl) } })) where
+          quiet : (p : BufferStage) → IsQuiet (buffer.asks_at p)
+          quiet (buffer_stage.Give h) = tt
+          quiet buffer_stage.Ended = tt
+
+    gives_at : (q : GiveStage) → Has a (view s) (give_locked_at q) (give_held_at g.cache q) → GiveStageFacts z a (view s) g q → Leads q
+    gives_at Lock has x = locks has x
+    gives_at (GiveSpan class c) has x = span_given class c has x
+    gives_at Unlock has x = unlocks has
+    gives_at (GiveBuffer b) has x = buffer_given b b.stage has x.0
+    gives_at Ended has x = by_quiet k z a s good (Load cell.Touch) false (lists g.cache) (λ t. Kept a (view s) (view t) × Gives z a (view t) (at_stage g Ended)) tt has
+        (λ t kept r. (kept, record { has = r; facts = record { layout_is = layout_is; seat_is = seat_is; generation = known ∙ sym kept.own.generation; room = room; held = is; stage_is = x } }))
+
+  pub gives_on : (s : Shared) → Good z (view s) → (g : Giving) → Gives z a (view s) g → Steps z a s (asks g) (λ t. Kept a (view s) (view t) × Gives z a (view t) (goes g (s.words (cell_of (asks g)))))
+  gives_on s good g f = gives_at s good g f.facts.layout_is f.facts.seat_is f.facts.generation f.facts.room f.facts.held g.stage f.has f.facts.stage_is
+
+-- it lasts, whatever others do
+module _ (z : Arena) (a : ℕ) (v w : View) (o : Others z a v w) (swept : HoldsSwept a v) where
+  stage_lasts : (g : Giving) (q : GiveStage) → GiveStageFacts z a v g q → GiveStageFacts z a w g q
+  stage_lasts g Lock x = caches_last z a v w o swept g.cache 0 x
+  stage_lasts g (GiveSpan class c) x = record { among = x.among; here = x.here; caches = caches_last z a v w o swept g.cache class x.caches }
+  stage_lasts g Unlock x = x
+  stage_lasts g (GiveBuffer b) x = x
+  stage_lasts g Ended x = x
+
+  pub gives_last : (g : Giving) → GiveFacts z a v g → GiveFacts z a w g
+  gives_last g f = record { layout_is = f.layout_is; seat_is = f.seat_is; generation = f.generation ∙ sym o.generation; room = f.room; held = f.held; stage_is = stage_lasts g g.stage f.stage_is }
+
+-- it is on a word that there is
+buffer_within : (z : Arena) (q : BufferStage) → FitsGiveStage z.layout q → InRange z.layout (cell_of (buffer.asks_at q))
+buffer_within z (buffer_stage.Give h) f = f.index
+buffer_within z buffer_stage.Ended f = tt
+
+gives_within_at : (z : Arena) (a : ℕ) (v : View) (g : Giving) (q : GiveStage) → Good z v → GiveStageFacts z a v g q → InRange z.layout (cell_of (asks_at g q))
+gives_within_at z a v g Lock good x = tt
+gives_within_at z a v g (GiveSpan class c) good x =
+    let own : IsCached a v (span_class class) c = x.caches class c (omega arith) x.among x.here in
+    let span = good.spans c.head own.span.h own.span.head in
+    omega (arith, span.within, span.fits.some)
+gives_within_at z a v g Unlock good x = tt
+gives_within_at z a v g (GiveBuffer b) good x = buffer_within z b.stage x.1
+gives_within_at z a v g Ended good x = tt
+
+pub gives_within : (z : Arena) (a : ℕ) (v : View) (g : Giving) → Good z v → GiveFacts z a v g → InRange z.layout (cell_of (asks g))
+gives_within z a v g good f = gives_within_at z a v g g.stage good f.stage_is
+
+-- once it has ended nothing is left
+left_at : (z : Arena) (a : ℕ) (v : View) (g : Giving) (q : GiveStage) → is_busy q ≡ false → Has a v (give_locked_at q) (give_held_at g.cache q) → GiveStageFacts z a v g q → Has a v false (lists g.cache) × (g.cache ≡ none_cached) × (g.held ≡ None)
+left_at z a v g Lock over has x = absurd (cc)
+left_at z a v g (GiveSpan class c) over has x = absurd (cc)
+left_at z a v g Unlock over has x = absurd (cc)
+left_at z a v g (GiveBuffer b) over has x = absurd (cc)
+left_at z a v g Ended over has x = (has, x.0, x.1)
+
+pub nothing_left : (z : Arena) (a : ℕ) (v : View) (g : Giving) → is_busy g.stage ≡ false → Gives z a v g → Has a v false (lists g.cache) × (g.cache ≡ none_cached) × (g.held ≡ None)
+nothing_left z a v g over f = left_at z a v g g.stage over f.has f.facts.stage_is

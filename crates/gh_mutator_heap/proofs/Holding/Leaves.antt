@@ -1,0 +1,96 @@
+-- Each step of a leave is a move that its seat may make, and what is known at each stage holds then and lasts.
+use Rattle.std.proofs.Common.{◌≡◌, ℕ, ◌+◌, ◌<◌, Bool, true, false, cond, refl, sym, subst, arith}
+use Rattle.gh_base.specs.declared.cell.Ask.TheVariants.{Load, Store}
+use Rattle.gh_base.specs.declared.cell.Cell.TheVariants as cell
+use Rattle.gh_base.specs.declared.pack.TheConstants.{GONE}
+use Rattle.gh_base.specs.Cells.{InRange}
+use Rattle.gh_base.specs.Steps.{effect}
+use Rattle.gh_heap.specs.Moves.{KeepsObjects, Others, landing}
+use Rattle.gh_phase.specs.Shakes.{IsParked}
+use Rattle.gh_mutator.specs.declared.leave.LeaveStage.{LeaveStage}
+use Rattle.gh_mutator.specs.declared.leave.LeaveStage.TheVariants as leave_stage
+use Rattle.gh_mutator.specs.Give as give
+use Rattle.gh_mutator.specs.Handshake.{leaves_at}
+use Rattle.gh_mutator.specs.Leave.{asks_at, goes_at, is_busy, stage_of}
+use Rattle.gh_mutator.specs.Local.{leaving, with_nothing}
+use Rattle.gh_mutator_heap.specs.PollHeap.{Has, LeaveStageFacts, Stands, leave_held_at, leave_locked_at, no_page}
+use Rattle.gh_mutator_heap.specs.PollHeapLaws.{IsAtRest, Leaves, LeavesByRights}
+use Rattle.gh_mutator_heap.proofs.Holding.Gives.{Gives, gives_begin, gives_last, gives_on, gives_within, nothing_held, nothing_left}
+use Rattle.gh_mutator_heap.proofs.Holding.Known.{HoldsSwept, Kept, Known, by_quiet, holds_swept, stands_kept, stands_last, stands_stopped, stands_to}
+use Rattle.gh_mutator_heap.proofs.Holding.Vocabulary.{Arena, Good, Leaving, Polling, Shared, Steps, View, cell_of, view}
+
+-- what is known at a stage, with its rights
+record LeavesAt (z : Arena) (a : ℕ) (v : View) (q : LeaveStage) : Type 0 where
+  has : Has a v (leave_locked_at q) (leave_held_at q)
+  facts : LeaveStageFacts z a v q
+
+given_then : (z : Arena) (a : ℕ) (v : View) (g : give.Giving) → Gives z a v g → LeavesAt z a v (stage_of g)
+given_then z a v g x = by (give.is_busy g.stage) refl where
+  by : (busy : Bool) → give.is_busy g.stage ≡ busy → LeavesAt z a v (cond busy (leave_stage.Giving g) leave_stage.Leave)
+  by true e = record { has = x.has; facts = x.facts }
+  by false e =
+      let left = nothing_left z a v g e x in
+      record { has = nothing_held a v g.cache left.1 left.0; facts = tt }
+
+begin : (z : Arena) (a : ℕ) (v : View) (p : Polling) → IsAtRest z a v p → Leaves z a v (with_nothing p) (leaving p)
+begin z a v p r =
+    let s = r.1.stands in
+    let g = gives_begin z a v p.layout p.seat p.local.view.generation p.local.cache p.local.held s.sits.layout s.sits.seat r.1.knows.generation s.sits.cache s.sits.held r.1.knows.caches r.0 in
+    let x = given_then z a v (give.opening p.layout p.seat p.local.view.generation p.local.cache p.local.held) g in
+    (x.has, record { stands = stands_to z a v p (with_nothing p) refl refl refl s.sits.scanned refl tt s; seat_is = s.sits.seat; stage_is = x.facts })
+
+module _ (k : Known) (z : Arena) (a : ℕ) (s : Shared) (good : Good z (view s)) (p : Polling) (stands : Stands z a (view s) p) (w : Leaving) (seat_is : w.seat ≡ a) where
+  abbrev Leads : LeaveStage → Type 0
+  Leads q = Steps z a s (asks_at w q) (λ t. KeepsObjects (view s) (view t) × Leaves z a (view t) p (goes_at w q (s.words (cell_of (asks_at w q)))))
+
+  then : (t : Shared) → KeepsObjects (view s) (view t) → (q : LeaveStage) → LeavesAt z a (view t) q → Leaves z a (view t) p (record w { stage = q })
+  then t kept q x = (x.has, record { stands = stands_kept z a (view s) (view t) p kept stands; seat_is = seat_is; stage_is = x.facts })
+
+  leaves_on_at : (q : LeaveStage) → Has a (view s) (leave_locked_at q) (leave_held_at q) → LeaveStageFacts z a (view s) q → Leads q
+  leaves_on_at (leave_stage.Giving g) has x =
+      let n : ℕ = s.words (cell_of (give.asks g)) in
+      landing z a s (effect s.words (give.asks g)) (λ t. Kept a (view s) (view t) × Gives z a (view t) (give.goes g n)) (λ t. KeepsObjects (view s) (view t) × Leaves z a (view t) p (record w { stage = stage_of (give.goes g n) }))
+      (λ t h. (h.0.objects, then t h.0.objects (stage_of (give.goes g n)) (given_then z a (view t) (give.goes g n) h.1)))
+      (gives_on k z a s good g (record { has = has; facts = x }))
+  leaves_on_at leave_stage.Leave has x = by_quiet k z a s good (Store (cell.Ack w.seat) GONE) false no_page (λ t. KeepsObjects (view s) (view t) × Leaves z a (view t) p (record w { stage = leave_stage.Left })) tt has
+      (λ t kept r. (kept.objects, then t kept.objects leave_stage.Left (record { has = r; facts = tt })))
+  leaves_on_at leave_stage.Left has x = by_quiet k z a s good (Load cell.Touch) false no_page (λ t. KeepsObjects (view s) (view t) × Leaves z a (view t) p (record w { stage = leave_stage.Left })) tt has
+      (λ t kept r. (kept.objects, then t kept.objects leave_stage.Left (record { has = r; facts = tt })))
+
+stage_lasts : (z : Arena) (a : ℕ) (v w : View) (q : LeaveStage) → HoldsSwept a v → Others z a v w → LeaveStageFacts z a v q → LeaveStageFacts z a w q
+stage_lasts z a v w (leave_stage.Giving g) swept o x = gives_last z a v w o swept g x
+stage_lasts z a v w leave_stage.Leave swept o x = tt
+stage_lasts z a v w leave_stage.Left swept o x = tt
+
+within_at : (z : Arena) (a : ℕ) (v : View) (x : Leaving) (q : LeaveStage) → Good z v → a < z.layout.procs → x.seat ≡ a → LeaveStageFacts z a v q → InRange z.layout (cell_of (asks_at x q))
+within_at z a v x (leave_stage.Giving g) good few e f = gives_within z a v g good f
+within_at z a v x leave_stage.Leave good few e f = subst (λ (b : ℕ). b < z.layout.procs + z.layout.workers) (sym e) (omega (arith, few))
+within_at z a v x leave_stage.Left good few e f = tt
+
+-- Where it is parked it is gone.
+
+parked_at : (a stops : ℕ) (v : View) (q : LeaveStage) → IsParked stops (leaves_at q) → Has a v (leave_locked_at q) (leave_held_at q) → Has a v false no_page
+parked_at a stops v (leave_stage.Giving g) e has = absurd e
+parked_at a stops v leave_stage.Leave e has = absurd e
+parked_at a stops v leave_stage.Left e has = has
+
+stopped_at : (z : Arena) (a stops : ℕ) (v w : View) (q : LeaveStage) → IsParked stops (leaves_at q) → LeaveStageFacts z a v q → LeaveStageFacts z a w q
+stopped_at z a stops v w (leave_stage.Giving g) e x = absurd e
+stopped_at z a stops v w leave_stage.Leave e x = tt
+stopped_at z a stops v w leave_stage.Left e x = tt
+
+ended_at : (a : ℕ) (v : View) (q : LeaveStage) → is_busy q ≡ false → Has a v (leave_locked_at q) (leave_held_at q) → Has a v false no_page
+ended_at a v leave_stage.Left e has = has
+ended_at a v (leave_stage.Giving g) e has = absurd (cc)
+ended_at a v leave_stage.Leave e has = absurd (cc)
+
+pub leaves_by_rights : Known → LeavesByRights
+leaves_by_rights k = record {
+  begins = begin;
+  own_step = λ z a s p x good f. leaves_on_at k z a s good p f.1.stands x f.1.seat_is x.stage f.0 f.1.stage_is;
+  within = λ z a v p x good f. within_at z a v x x.stage good f.1.stands.sits.few f.1.seat_is f.1.stage_is;
+  lasts = λ z a v w p x good o f. record { stands = stands_last z a v w o p f.stands; seat_is = f.seat_is; stage_is = stage_lasts z a v w x.stage (holds_swept z a v good) o f.stage_is };
+  parked = λ z a v p x stops e f. parked_at a stops v x.stage e f.0;
+  stopped = λ z a v w p x stops e kept f. record { stands = stands_stopped z a v w p kept f.stands; seat_is = f.seat_is; stage_is = stopped_at z a stops v w x.stage e f.stage_is };
+  ends = λ z a v p x e f. (ended_at a v x.stage e f.0, f.1.stands);
+}

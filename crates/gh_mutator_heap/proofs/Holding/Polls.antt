@@ -1,0 +1,311 @@
+-- Each step of a poll is a move that its seat may make, and what is known at each stage holds then and lasts.
+use Rattle.std.proofs.Common.{◌≡◌, ℕ, ◌+◌, ◌%◌, ◌^◌, ◌<◌, ◌==◌, Bool, true, false, cond, [], Option, Some, None, refl, sym, subst, ◌∙◌, arith}
+use Rattle.std.specs.Prelude.{slice_index_or}
+use Rattle.std.proofs.lemmas.List.{length-set}
+use Rattle.gh_base.specs.declared.cell.Ask.TheVariants.{Load, Store}
+use Rattle.gh_base.specs.declared.cell.Cell.TheVariants as cell
+use Rattle.gh_phase.specs.declared.resume.ResumeStage.TheVariants as resume_stage
+use Rattle.gh_phase.specs.declared.view.RunPhase.TheVariants as run
+use Rattle.gh_phase.specs.Listing as resume
+use Rattle.gh_phase.specs.ResumePlaces as resumes
+use Rattle.gh_phase.specs.Stays.{phase_on}
+use Rattle.gh_wbuf.specs.RoomFinding as room
+use Rattle.gh_mutator.specs.declared.poll.PollStage.TheVariants.{LoadPhase, Giving, Resuming, Marking, FindRoom, Ended}
+use Rattle.gh_mutator.specs.Give.{none_cached}
+use Rattle.gh_mutator.specs.Give as give
+use Rattle.gh_mutator.specs.Handshake.{poll_stage_of, polls_at}
+use Rattle.gh_mutator.specs.MarkStack as mark
+use Rattle.gh_mutator.specs.Poll.{after_mark, after_resume, after_room, asks, asks_at, at_stage, begins, by_phase, counted, due, giving, goes, goes_at, has_two, is_busy, marks_then, resumed, room_stage, scanned, scans, stops_then}
+use Rattle.gh_mutator.specs.Due.{due_scans}
+use Rattle.gh_mutator_heap.proofs.Holding.Gives.{Gives, gives_begin, gives_last, gives_on, gives_within, nothing_held, nothing_left}
+use Rattle.gh_mutator_heap.proofs.Holding.Known.{HoldsSwept, Kept, Known, by_quiet, holds_swept, knows_kept, knows_last, knows_to, stands_kept, stands_last, stands_stopped, stands_to}
+use Rattle.gh_mutator_heap.proofs.Holding.Lists.{none_cached_all}
+use Rattle.gh_mutator_heap.proofs.Holding.Ranges.{room_begins, room_gives, room_goes, room_quiet, room_within}
+use Rattle.gh_mutator_heap.proofs.Holding.Scans.{scan_begins, scan_goes, scan_quiet, scan_within}
+use Rattle.gh_mutator_heap.proofs.Holding.Vocabulary.{Arena, CachesAll, FindsWithin, Good, Has, HasLoaded, Held, InRange, IsAtRest, IsHeld, IsParked, KeepsGhosts, KeepsObjects, KnowsSpans, Layout, Others, PhaseView, PollFacts, PollStage, PollStageFacts, Polling, Polls, PollsByRights, ResumeFacts, ResumeStage, Resumed, RunPhase, ScansWithin, Shared, Stands, Steps, View, cell_of, effect, landing, lists, no_page, phase_of, poll_held_at, poll_locked_at, run_phase, seats_of, view}
+
+module _ (z : Arena) (a : ℕ) (v : View) where
+  -- another stage
+  stands_at : (p : Polling) (q : PollStage) → Stands z a v p → Stands z a v (at_stage p q)
+  stands_at p q s = stands_to z a v p (at_stage p q) refl refl refl s.sits.scanned s.sits.cache s.sits.held s
+
+  knows_at : (p : Polling) (q : PollStage) → KnowsSpans a v p → KnowsSpans a v (at_stage p q)
+  knows_at p q x = knows_to a v p (at_stage p q) refl refl x
+
+  seat_below : (p : Polling) → Stands z a v p → p.seat < seats_of p.layout
+  seat_below p s = subst (λ (l : Layout). p.seat < seats_of l) (sym s.sits.layout) (subst (λ (b : ℕ). b < seats_of z.layout) (sym s.sits.seat) (let few = s.sits.few in omega arith))
+
+  own_held : (p : Polling) → Stands z a v p → IsHeld p.layout p.local.held
+  own_held p s = subst (λ (l : Layout). IsHeld l p.local.held) (sym s.sits.layout) s.sits.held
+
+  -- where the world runs
+  ends_now : (p : Polling) → IsAtRest z a v p → Polls z a v (at_stage p Ended)
+  ends_now p r = (r.0, record { stands = stands_at p Ended r.1.stands; stage_is = knows_at p Ended r.1.knows })
+
+  finds_now : (p : Polling) (r : room.RoomFinding) → IsAtRest z a v p → FindsWithin z.layout r → Polls z a v (at_stage p (FindRoom r))
+  finds_now p r rest f = (rest.0, record { stands = stands_at p (FindRoom r) rest.1.stands; stage_is = (knows_at p (FindRoom r) rest.1.knows, f) })
+
+  two_or : (p : Polling) (two : Bool) → IsAtRest z a v p → Polls z a v (at_stage p (cond two Ended (FindRoom (room.opening p.layout p.seat p.local.held))))
+  two_or p true r = ends_now p r
+  two_or p false r = finds_now p (room.opening p.layout p.seat p.local.held) r
+      (subst (λ (l : Layout). FindsWithin l (room.opening p.layout p.seat p.local.held)) r.1.stands.sits.layout (room_begins p.layout p.seat p.local.held (seat_below p r.1.stands) (own_held p r.1.stands)))
+
+  room_polls : (p : Polling) (waits : Bool) → IsAtRest z a v p → Polls z a v (at_stage p (room_stage p.layout p.seat waits p.local.held))
+  room_polls p true r = ends_now p r
+  room_polls p false r = two_or p (has_two p.local.held) r
+
+  -- counting it changes nothing of this
+  abbrev more_polls : Polling → Polling
+  more_polls p = record p { local = record (p.local) { polls = (p.local.polls + 1) % 2 ^ 64 } }
+
+  counted_polls : (p : Polling) → IsAtRest z a v p → Polls z a v (counted p)
+  counted_polls p r = room_polls (more_polls p) p.waits (r.0, record { stands = stands_to z a v p (more_polls p) refl refl refl r.1.stands.sits.scanned r.1.stands.sits.cache r.1.stands.sits.held r.1.stands; knows = knows_to a v p (more_polls p) refl refl r.1.knows })
+
+  scan_polls : (p : Polling) → IsAtRest z a v p → p.local.view.phase ≡ run.Mark → (out : Option ℕ) → due p ≡ out → Polls z a v (scans p out)
+  scan_polls p r on None e = counted_polls p r
+  scan_polls p r on (Some g) e =
+      let m : mark.StackMarking = mark.opening p.layout p.seat g p.local.view.begun (slice_index_or p.local.stacks g []) p.local.held in
+      let there : g < p.layout.goroutines = (due_scans p.layout p.seat p.waits p.local g e).there in
+      let within : ScansWithin p.layout m = scan_begins p.layout p.seat g p.local.view.begun (slice_index_or p.local.stacks g []) p.local.held (seat_below p r.1.stands) there (own_held p r.1.stands) in
+      (r.0, record { stands = stands_at p (Marking g m) r.1.stands; stage_is = (knows_at p (Marking g m) r.1.knows, subst (λ (l : Layout). ScansWithin l m) r.1.stands.sits.layout within) })
+
+  marks_polls : (p : Polling) → IsAtRest z a v p → (phase : RunPhase) → p.local.view.phase ≡ phase → Polls z a v (marks_then p phase)
+  marks_polls p r run.Off e = ends_now p r
+  marks_polls p r run.Mark e = scan_polls p r e (due p) refl
+  marks_polls p r run.Finished e = ends_now p r
+
+  -- at a stop
+  abbrev resting : Polling → give.Giving → (stops : ℕ) → Polling
+  resting p g stops = record p { local = record (p.local) { cache = g.cache; held = g.held }; stage = Resuming (resume.opening p.layout p.seat stops p.local.view) }
+
+  stops_polls : (p : Polling) (g : give.Giving) (stops : ℕ) → Stands z a v p → Gives z a v g → Polls z a v (stops_then p g stops)
+  stops_polls p g stops s x = by (give.is_busy g.stage) refl where
+    by : (busy : Bool) → give.is_busy g.stage ≡ busy → Polls z a v (cond busy (at_stage p (Giving g stops)) (resting p g stops))
+    by true e = (x.has, record { stands = stands_at p (Giving g stops) s; stage_is = x.facts })
+    by false e =
+        let left = nothing_left z a v g e x in (
+          left.0,
+          record {
+            stands = stands_to z a v p (resting p g stops) refl refl refl s.sits.scanned x.facts.room x.facts.held s;
+            stage_is = record { seat_is = s.sits.seat; no_span = left.1; no_buffer = left.2; loaded = tt };
+          },
+        )
+
+  phase_polls : (p : Polling) (stops : ℕ) → IsAtRest z a v p → (phase : Option RunPhase) → Polls z a v (by_phase p stops phase)
+  phase_polls p stops r None = stops_polls p (giving p) stops r.1.stands
+      (gives_begin z a v p.layout p.seat p.local.view.generation p.local.cache p.local.held r.1.stands.sits.layout r.1.stands.sits.seat r.1.knows.generation r.1.stands.sits.cache r.1.stands.sits.held r.1.knows.caches r.0)
+  phase_polls p stops r (Some phase) = marks_polls p r p.local.view.phase refl
+
+  -- after a stop
+  resumes_on : (p : Polling) (r : resume.Resuming) → Has a v false (lists p.local.cache) → Stands z a v p → ResumeFacts a v p r → Polls z a v (at_stage p (Resuming r))
+  resumes_on p r has s f = (has, record { stands = stands_at p (Resuming r) s; stage_is = record { seat_is = f.seat_is; no_span = f.no_span; no_buffer = f.no_buffer; loaded = f.loaded } })
+
+  resumed_polls : (p : Polling) (out : Resumed) → Has a v false (lists p.local.cache) → Stands z a v p → p.local.cache ≡ none_cached → out.view.generation ≡ v.generation → Polls z a v (marks_then (resumed p out) out.view.phase)
+  resumed_polls p out has s none known = marks_polls (resumed p out) (
+    has,
+    record {
+      stands = stands_to z a v p (resumed p out) refl refl refl s.sits.scanned s.sits.cache s.sits.held s;
+      knows = record { generation = known; caches = subst (CachesAll a v) (sym none) (none_cached_all a v) };
+    },
+  ) out.view.phase refl
+
+  phase_resumed : (p : Polling) (r : resume.Resuming) (number : ℕ) (phase : Option RunPhase) → ResumeFacts a v p (resume.at_stage r resume_stage.LoadPhase) → ResumeFacts a v p (resume.after_phase r number phase)
+  phase_resumed p r number None f = by (number == r.stops) where
+    by : (same : Bool) → ResumeFacts a v p (cond same (resume.at_stage r resume_stage.LoadPhase) (record r { stops = number; stage = resume_stage.Acknowledge }))
+    by true = f
+    by false = record { seat_is = f.seat_is; no_span = f.no_span; no_buffer = f.no_buffer; loaded = tt }
+  phase_resumed p r number (Some phase) f = record { seat_is = f.seat_is; no_span = f.no_span; no_buffer = f.no_buffer; loaded = tt }
+
+  -- the scan of a stack, and the search for room
+  marked_polls : (p : Polling) (g : ℕ) (m : mark.StackMarking) (out : Option (Unit {0})) → IsAtRest z a v p → ScansWithin z.layout m → Polls z a v (after_mark p g m out)
+  marked_polls p g m None r f = (r.0, record { stands = stands_at p (Marking g m) r.1.stands; stage_is = (knows_at p (Marking g m) r.1.knows, f) })
+  marked_polls p g m (Some x) r f = counted_polls (scanned p g m.held) (
+    r.0,
+    record {
+      stands = stands_to z a v p (scanned p g m.held) refl refl refl (length-set p.local.scanned g p.local.view.begun ∙ r.1.stands.sits.scanned) r.1.stands.sits.cache f.held r.1.stands;
+      knows = knows_to a v p (scanned p g m.held) refl refl r.1.knows;
+    },
+  )
+
+  found_polls : (p : Polling) (r : room.RoomFinding) (found : ℕ) (out : Option Held) → room.gives r found ≡ out → IsAtRest z a v p → FindsWithin z.layout r → Polls z a v (after_room p (room.goes r found) out)
+  found_polls p r found None e rest f = finds_now p (room.goes r found) rest (room_goes z.layout r found f)
+  found_polls p r found (Some h) e rest f =
+      let to : Polling = record p { local = record (p.local) { held = Some h }; stage = Ended } in (
+        rest.0,
+        record {
+          stands = stands_to z a v p to refl refl refl rest.1.stands.sits.scanned rest.1.stands.sits.cache (room_gives z.layout r found h f e).fits rest.1.stands;
+          stage_is = knows_to a v p to refl refl rest.1.knows;
+        },
+      )
+
+-- what it has loaded it knows while the sweep generation stays
+loaded_on : (v w : View) (known : PhaseView) (q : ResumeStage) → w.generation ≡ v.generation → HasLoaded v known q → HasLoaded w known q
+loaded_on v w known resume_stage.Acknowledge o x = x
+loaded_on v w known resume_stage.LoadPhase o x = x
+loaded_on v w known resume_stage.LoadGeneration o x = x
+loaded_on v w known resume_stage.LoadBegun o x = x ∙ sym o
+loaded_on v w known (resume_stage.Ended another) o x = x ∙ sym o
+
+module _ (k : Known) (z : Arena) (a : ℕ) (s : Shared) (good : Good z (view s)) (p : Polling) (stands : Stands z a (view s) p) where
+  abbrev Leads : PollStage → Type 0
+  Leads q = Steps z a s (asks_at q) (λ t. KeepsObjects (view s) (view t) × Polls z a (view t) (goes_at p q (s.words (cell_of (asks_at q)))))
+
+  stands_then : (t : Shared) → Kept a (view s) (view t) → Stands z a (view t) p
+  stands_then t kept = stands_kept z a (view s) (view t) p kept.objects stands
+
+  rests_then : (t : Shared) → Kept a (view s) (view t) → Has a (view t) false (lists p.local.cache) → KnowsSpans a (view s) p → IsAtRest z a (view t) p
+  rests_then t kept has x = (has, record { stands = stands_then t kept; knows = knows_kept a (view s) (view t) (holds_swept z a (view s) good) kept.own p false has x })
+
+  loads_phase : Has a (view s) false (lists p.local.cache) → KnowsSpans a (view s) p → Leads LoadPhase
+  loads_phase has x =
+      let found = phase_of (s.words cell.Phase) in
+      by_quiet k z a s good (Load cell.Phase) false (lists p.local.cache) (λ t. KeepsObjects (view s) (view t) × Polls z a (view t) (goes_at p LoadPhase (s.words cell.Phase))) tt has
+      (λ t kept r. (kept.objects, phase_polls z a (view t) p found.stops (rests_then t kept r x) (run_phase found.phase)))
+
+  gives_next : (g : give.Giving) (stops : ℕ) → Gives z a (view s) g → Leads (Giving g stops)
+  gives_next g stops x =
+      let n : ℕ = s.words (cell_of (give.asks g)) in
+      landing z a s (effect s.words (give.asks g)) (λ t. Kept a (view s) (view t) × Gives z a (view t) (give.goes g n)) (λ t. KeepsObjects (view s) (view t) × Polls z a (view t) (stops_then p (give.goes g n) stops))
+      (λ t h. (h.0.objects, stops_polls z a (view t) p (give.goes g n) stops (stands_then t h.0) h.1))
+      (gives_on k z a s good g x)
+
+  module _ (r : resume.Resuming) (has : Has a (view s) false (lists p.local.cache)) (f : ResumeFacts a (view s) p r) where
+    abbrev Resumes : ResumeStage → Type 0
+    Resumes q = Steps z a s (resume.asks_at r q) (λ t. KeepsObjects (view s) (view t) × Polls z a (view t) (after_resume p (resume.goes_at r q (s.words (cell_of (resume.asks_at r q)))) (resume.given (resume.goes_at r q (s.words (cell_of (resume.asks_at r q)))))))
+
+    -- it goes on
+    goes_on : (t : Shared) (to : resume.Resuming) → to.seat ≡ r.seat → HasLoaded (view t) to.view to.stage → Kept a (view s) (view t) → Has a (view t) false (lists p.local.cache) → Polls z a (view t) (at_stage p (Resuming to))
+    goes_on t to same loaded kept has = resumes_on z a (view t) p to has (stands_then t kept) (record { seat_is = same ∙ f.seat_is; no_span = f.no_span; no_buffer = f.no_buffer; loaded = loaded })
+
+    whole : s.words cell.Gen % 2 ^ 34 ≡ s.words cell.Gen
+    whole = let few : s.words cell.Gen < 2 ^ 34 = good.generation in omega (arith, few)
+
+    resumes_at : (q : ResumeStage) → HasLoaded (view s) r.view q → Resumes q
+    resumes_at resume_stage.Acknowledge x = by_quiet k z a s good (Store (cell.Ack r.seat) r.stops) false (lists p.local.cache) (λ t. KeepsObjects (view s) (view t) × Polls z a (view t) (at_stage p (Resuming (resume.at_stage r resume_stage.LoadPhase)))) tt has
+        (λ t kept h. (kept.objects, goes_on t (resume.at_stage r resume_stage.LoadPhase) refl tt kept h))
+    resumes_at resume_stage.LoadPhase x =
+        let found = phase_of (s.words cell.Phase) in
+        let to : resume.Resuming = resume.after_phase r found.stops (run_phase found.phase) in
+        subst (λ (out : Option Resumed). Steps z a s (Load cell.Phase) (λ t. KeepsObjects (view s) (view t) × Polls z a (view t) (after_resume p to out))) (sym (phase_on r found.stops (run_phase found.phase)))
+        (by_quiet k z a s good (Load cell.Phase) false (lists p.local.cache) (λ t. KeepsObjects (view s) (view t) × Polls z a (view t) (at_stage p (Resuming to))) tt has
+        (λ t kept h. (kept.objects, resumes_on z a (view t) p to h (stands_then t kept) (phase_resumed z a (view t) p r found.stops (run_phase found.phase) (record { seat_is = f.seat_is; no_span = f.no_span; no_buffer = f.no_buffer; loaded = tt })))))
+    resumes_at resume_stage.LoadGeneration x =
+        let to : resume.Resuming = resume.goes_at r resume_stage.LoadGeneration (s.words cell.Gen) in
+        by_quiet k z a s good (Load cell.Gen) false (lists p.local.cache) (λ t. KeepsObjects (view s) (view t) × Polls z a (view t) (at_stage p (Resuming to))) tt has
+        (λ t kept h. (kept.objects, goes_on t to refl (whole ∙ sym kept.own.generation) kept h))
+    resumes_at resume_stage.LoadBegun x =
+        let out : Resumed = resume.resumed r.view (s.words cell.Begun) in
+        by_quiet k z a s good (Load cell.Begun) false (lists p.local.cache) (λ t. KeepsObjects (view s) (view t) × Polls z a (view t) (marks_then (resumed p out) out.view.phase)) tt has
+        (λ t kept h. (kept.objects, resumed_polls z a (view t) p out h (stands_then t kept) f.no_span (x ∙ sym kept.own.generation)))
+    resumes_at (resume_stage.Ended another) x =
+        let out : Resumed = record { view = r.view; another_cycle = another } in
+        by_quiet k z a s good (Load cell.Touch) false (lists p.local.cache) (λ t. KeepsObjects (view s) (view t) × Polls z a (view t) (marks_then (resumed p out) out.view.phase)) tt has
+        (λ t kept h. (kept.objects, resumed_polls z a (view t) p out h (stands_then t kept) f.no_span (x ∙ sym kept.own.generation)))
+
+  marks_next : (g : ℕ) (m : mark.StackMarking) → Has a (view s) false (lists p.local.cache) → KnowsSpans a (view s) p → ScansWithin z.layout m → Leads (Marking g m)
+  marks_next g m has x f =
+      let n : ℕ = s.words (cell_of (mark.asks m)) in
+      by_quiet k z a s good (mark.asks m) false (lists p.local.cache) (λ t. KeepsObjects (view s) (view t) × Polls z a (view t) (after_mark p g (mark.goes m n) (mark.gives m n))) (scan_quiet m) has
+      (λ t kept r. (kept.objects, marked_polls z a (view t) p g (mark.goes m n) (mark.gives m n) (rests_then t kept r x) (scan_goes z.layout m n f)))
+
+  finds_next : (r : room.RoomFinding) → Has a (view s) false (lists p.local.cache) → KnowsSpans a (view s) p → FindsWithin z.layout r → Leads (FindRoom r)
+  finds_next r has x f =
+      let n : ℕ = s.words (cell_of (room.asks r)) in
+      by_quiet k z a s good (room.asks r) false (lists p.local.cache) (λ t. KeepsObjects (view s) (view t) × Polls z a (view t) (after_room p (room.goes r n) (room.gives r n))) (room_quiet r) has
+      (λ t kept h. (kept.objects, found_polls z a (view t) p r n (room.gives r n) refl (rests_then t kept h x) f))
+
+  polls_at_stage : (q : PollStage) → Has a (view s) (poll_locked_at q) (poll_held_at p.local.cache q) → PollStageFacts z a (view s) p q → Leads q
+  polls_at_stage LoadPhase has x = loads_phase has x
+  polls_at_stage (Giving g stops) has x = gives_next g stops (record { has = has; facts = x })
+  polls_at_stage (Resuming r) has x = resumes_at r has x r.stage x.loaded
+  polls_at_stage (Marking g m) has x = marks_next g m has x.0 x.1
+  polls_at_stage (FindRoom r) has x = finds_next r has x.0 x.1
+  polls_at_stage Ended has x = by_quiet k z a s good (Load cell.Touch) false (lists p.local.cache) (λ t. KeepsObjects (view s) (view t) × Polls z a (view t) (at_stage p Ended)) tt has
+      (λ t kept r. (kept.objects, ends_now z a (view t) p (rests_then t kept r x)))
+
+pub polls_on : (k : Known) (z : Arena) (a : ℕ) (s : Shared) (p : Polling) → Good z (view s) → Polls z a (view s) p → Steps z a s (asks p) (λ t. KeepsObjects (view s) (view t) × Polls z a (view t) (goes p (s.words (cell_of (asks p)))))
+polls_on k z a s p good f = polls_at_stage k z a s good p f.1.stands p.stage f.0 f.1.stage_is
+
+-- Between two steps of its own.
+
+stage_lasts : (z : Arena) (a : ℕ) (v w : View) (p : Polling) (q : PollStage) → HoldsSwept a v → Others z a v w → PollStageFacts z a v p q → PollStageFacts z a w p q
+stage_lasts z a v w p LoadPhase swept o x = knows_last z a v w o swept p x
+stage_lasts z a v w p (Giving g stops) swept o x = gives_last z a v w o swept g x
+stage_lasts z a v w p (Resuming r) swept o x = record { seat_is = x.seat_is; no_span = x.no_span; no_buffer = x.no_buffer; loaded = loaded_on v w r.view r.stage o.generation x.loaded }
+stage_lasts z a v w p (Marking g m) swept o x = (knows_last z a v w o swept p x.0, x.1)
+stage_lasts z a v w p (FindRoom r) swept o x = (knows_last z a v w o swept p x.0, x.1)
+stage_lasts z a v w p Ended swept o x = knows_last z a v w o swept p x
+
+pub polls_last : (z : Arena) (a : ℕ) (v w : View) (p : Polling) → Good z v → Others z a v w → PollFacts z a v p → PollFacts z a w p
+polls_last z a v w p good o f = record { stands = stands_last z a v w o p f.stands; stage_is = stage_lasts z a v w p p.stage (holds_swept z a v good) o f.stage_is }
+
+resume_within : (z : Arena) (a : ℕ) (r : resume.Resuming) (q : ResumeStage) → a < z.layout.procs → r.seat ≡ a → InRange z.layout (cell_of (resume.asks_at r q))
+resume_within z a r resume_stage.Acknowledge few e = subst (λ (b : ℕ). b < z.layout.procs + z.layout.workers) (sym e) (omega (arith, few))
+resume_within z a r _ few e = tt
+
+within_at : (z : Arena) (a : ℕ) (v : View) (p : Polling) (q : PollStage) → Good z v → a < z.layout.procs → PollStageFacts z a v p q → InRange z.layout (cell_of (asks_at q))
+within_at z a v p LoadPhase good few x = tt
+within_at z a v p (Giving g stops) good few x = gives_within z a v g good x
+within_at z a v p (Resuming r) good few x = resume_within z a r r.stage few x.seat_is
+within_at z a v p (Marking g m) good few x = scan_within z.layout m x.1
+within_at z a v p (FindRoom r) good few x = room_within z.layout r x.1
+within_at z a v p Ended good few x = tt
+
+pub polls_within : (z : Arena) (a : ℕ) (v : View) (p : Polling) → Good z v → PollFacts z a v p → InRange z.layout (cell_of (asks p))
+polls_within z a v p good f = within_at z a v p p.stage good f.stands.sits.few f.stage_is
+
+-- Where it is parked it holds nothing, and knows nothing that a sweep changes.
+
+parked_at : (z : Arena) (a stops : ℕ) (v : View) (p : Polling) (q : PollStage) → IsParked stops (polls_at p q) → Has a v (poll_locked_at q) (poll_held_at p.local.cache q) → PollStageFacts z a v p q → Has a v false no_page
+parked_at z a stops v p LoadPhase e has x = absurd e
+parked_at z a stops v p (Giving g number) e has x = absurd e
+parked_at z a stops v p (Resuming r) e has x = nothing_held a v p.local.cache x.no_span has
+parked_at z a stops v p (Marking g m) e has x = absurd e
+parked_at z a stops v p (FindRoom r) e has x = absurd e
+parked_at z a stops v p Ended e has x = absurd e
+
+loaded_stopped : (v w : View) (known : PhaseView) (stops number : ℕ) (q : ResumeStage) → IsParked stops (resumes.stands_at number q) → HasLoaded w known q
+loaded_stopped v w known stops number resume_stage.Acknowledge e = tt
+loaded_stopped v w known stops number resume_stage.LoadPhase e = tt
+loaded_stopped v w known stops number resume_stage.LoadGeneration e = tt
+loaded_stopped v w known stops number resume_stage.LoadBegun e = absurd e
+loaded_stopped v w known stops number (resume_stage.Ended another) e = absurd e
+
+stopped_at : (z : Arena) (a stops : ℕ) (v w : View) (p : Polling) (q : PollStage) → IsParked stops (polls_at p q) → PollStageFacts z a v p q → PollStageFacts z a w p q
+stopped_at z a stops v w p LoadPhase e x = absurd e
+stopped_at z a stops v w p (Giving g number) e x = absurd e
+stopped_at z a stops v w p (Resuming r) e x = record { seat_is = x.seat_is; no_span = x.no_span; no_buffer = x.no_buffer; loaded = loaded_stopped v w r.view stops r.stops r.stage e }
+stopped_at z a stops v w p (Marking g m) e x = absurd e
+stopped_at z a stops v w p (FindRoom r) e x = absurd e
+stopped_at z a stops v w p Ended e x = absurd e
+
+pub polls_parked : (z : Arena) (a stops : ℕ) (v : View) (p : Polling) → IsParked stops (poll_stage_of p) → Polls z a v p → Has a v false no_page
+polls_parked z a stops v p e f = parked_at z a stops v p p.stage e f.0 f.1.stage_is
+
+pub polls_stopped : (z : Arena) (a stops : ℕ) (v w : View) (p : Polling) → IsParked stops (poll_stage_of p) → KeepsGhosts a v w → PollFacts z a v p → PollFacts z a w p
+polls_stopped z a stops v w p e k f = record { stands = stands_stopped z a v w p k f.stands; stage_is = stopped_at z a stops v w p p.stage e f.stage_is }
+
+ended_at : (z : Arena) (a : ℕ) (v : View) (p : Polling) (q : PollStage) → is_busy q ≡ false → Has a v (poll_locked_at q) (poll_held_at p.local.cache q) → PollStageFacts z a v p q → Has a v false (lists p.local.cache) × KnowsSpans a v p
+ended_at z a v p Ended e has x = (has, x)
+ended_at z a v p LoadPhase e has x = absurd (cc)
+ended_at z a v p (Giving g stops) e has x = absurd (cc)
+ended_at z a v p (Resuming r) e has x = absurd (cc)
+ended_at z a v p (Marking g m) e has x = absurd (cc)
+ended_at z a v p (FindRoom r) e has x = absurd (cc)
+
+pub polls_end : (z : Arena) (a : ℕ) (v : View) (p : Polling) → is_busy p.stage ≡ false → Polls z a v p → IsAtRest z a v p
+polls_end z a v p e f = let x = ended_at z a v p p.stage e f.0 f.1.stage_is in (x.0, record { stands = f.1.stands; knows = x.1 })
+
+pub polls_begin : (z : Arena) (a : ℕ) (v : View) (p : Polling) (waits : Bool) → IsAtRest z a v p → Polls z a v (begins p waits)
+polls_begin z a v p waits r = (r.0, record { stands = stands_to z a v p (begins p waits) refl refl refl r.1.stands.sits.scanned r.1.stands.sits.cache r.1.stands.sits.held r.1.stands; stage_is = knows_to a v p (begins p waits) refl refl r.1.knows })
+
+pub polls_by_rights : Known → PollsByRights
+polls_by_rights k = record {
+  begins = polls_begin;
+  own_step = polls_on k;
+  within = λ z a v p good f. polls_within z a v p good f.1;
+  lasts = polls_last;
+  parked = λ z a v p stops e f. polls_parked z a stops v p e f;
+  stopped = λ z a v w p stops e kept f. polls_stopped z a stops v w p e kept f;
+  ends = polls_end;
+}

@@ -1,0 +1,101 @@
+-- Each step of a wait is a move that its seat may make, and what is known at each stage holds then and lasts.
+use Rattle.std.proofs.Common.{◌≡◌, ℕ, Bool, true, false, cond, ltb, Option, Some, None, refl, ap}
+use Rattle.std.specs.Prelude.{is_none}
+use Rattle.gh_base.specs.declared.cell.Ask.TheVariants.{Load, Or}
+use Rattle.gh_base.specs.declared.cell.Cell.TheVariants as cell
+use Rattle.gh_mutator.specs.declared.wait.WaitStage.{WaitStage}
+use Rattle.gh_mutator.specs.declared.wait.WaitStage.TheVariants as wait_stage
+use Rattle.gh_mutator.specs.Handshake.{waits_at}
+use Rattle.gh_mutator.specs.Poll as poll
+use Rattle.gh_mutator_heap.specs.PollHeap.{Rests, WaitStageFacts, waits_held_at, waits_locked_at}
+use Rattle.gh_mutator_heap.specs.PollHeapLaws.{Polls, PollsByRights, Waits, WaitsByRights}
+use Rattle.gh_mutator.specs.Wait.{after_poll, asks_at, at_stage, goes_at, is_busy, polling}
+use Rattle.gh_mutator_heap.proofs.Holding.Known.{Kept, Known, by_quiet, holds_swept, knows_kept, knows_last, stands_kept, stands_last}
+use Rattle.gh_mutator_heap.proofs.Holding.Vocabulary.{Arena, Good, Has, InRange, IsAtRest, IsParked, KeepsGhosts, KeepsObjects, Others, Polling, Shared, Steps, View, Waiting, cell_of, effect, landing, lists, no_page, view}
+
+module _ (k : Known) (h : PollsByRights) (z : Arena) (a : ℕ) where
+  module _ (s : Shared) (good : Good z (view s)) (w : Waiting) where
+    abbrev p : Polling
+    p = w.poll
+
+    abbrev Leads : WaitStage → Type 0
+    Leads q = Steps z a s (asks_at w q) (λ t. KeepsObjects (view s) (view t) × Waits z a (view t) (goes_at w q (s.words (cell_of (asks_at w q)))))
+
+    rests_then : (t : Shared) → Rests z a (view s) p → Kept a (view s) (view t) → Has a (view t) false (lists p.local.cache) → IsAtRest z a (view t) p
+    rests_then t x kept has = (has, record { stands = stands_kept z a (view s) (view t) p kept.objects x.stands; knows = knows_kept a (view s) (view t) (holds_swept z a (view s) good) kept.own p false has x.knows })
+
+    asks_for_it : Has a (view s) false (lists p.local.cache) → Rests z a (view s) p → Leads wait_stage.Want
+    asks_for_it has x = by_quiet k z a s good (Or cell.Want 1) false (lists p.local.cache) (λ t. KeepsObjects (view s) (view t) × Waits z a (view t) (polling w)) tt has
+        (λ t kept r. (kept.objects, h.begins z a (view t) p true (rests_then t x kept r)))
+
+    polled_then : (t : Shared) (q : Polling) (out : Option (Unit {0})) → poll.given q.stage ≡ out → Polls z a (view t) q → Waits z a (view t) (after_poll w q out)
+    polled_then t q None e f = f
+    polled_then t q (Some x) e f = h.ends z a (view t) q (ap is_none e) f
+
+    polls : Polls z a (view s) p → Leads wait_stage.Polling
+    polls f =
+        let n : ℕ = s.words (cell_of (poll.asks p)) in
+        landing z a s (effect s.words (poll.asks p)) (λ t. KeepsObjects (view s) (view t) × Polls z a (view t) (poll.goes p n)) (λ t. KeepsObjects (view s) (view t) × Waits z a (view t) (after_poll w (poll.goes p n) (poll.gives p n)))
+        (λ t x. (x.0, polled_then t (poll.goes p n) (poll.gives p n) refl x.1))
+        (h.own_step z a s p good f)
+
+    loads_swept : Has a (view s) false (lists p.local.cache) → Rests z a (view s) p → Leads wait_stage.LoadSwept
+    loads_swept has x = by (ltb w.wait.known (s.words cell.Swept)) where
+      by : (later : Bool) → Steps z a s (Load cell.Swept) (λ t. KeepsObjects (view s) (view t) × Waits z a (view t) (cond later (at_stage w wait_stage.Ended) (polling w)))
+      by true = by_quiet k z a s good (Load cell.Swept) false (lists p.local.cache) (λ t. KeepsObjects (view s) (view t) × Waits z a (view t) (at_stage w wait_stage.Ended)) tt has
+          (λ t kept r. (kept.objects, rests_then t x kept r))
+      by false = by_quiet k z a s good (Load cell.Swept) false (lists p.local.cache) (λ t. KeepsObjects (view s) (view t) × Waits z a (view t) (polling w)) tt has
+          (λ t kept r. (kept.objects, h.begins z a (view t) p true (rests_then t x kept r)))
+
+    waits_on_at : (q : WaitStage) → Has a (view s) (waits_locked_at p q) (waits_held_at p q) → WaitStageFacts z a (view s) p q → Leads q
+    waits_on_at wait_stage.Want has x = asks_for_it has x
+    waits_on_at wait_stage.Polling has x = polls (has, x)
+    waits_on_at wait_stage.LoadSwept has x = loads_swept has x
+    waits_on_at wait_stage.Ended has x = by_quiet k z a s good (Load cell.Touch) false (lists p.local.cache) (λ t. KeepsObjects (view s) (view t) × Waits z a (view t) (polling w)) tt has
+        (λ t kept r. (kept.objects, h.begins z a (view t) p true (rests_then t x kept r)))
+
+  module _ (v u : View) where
+    rests_last : (p : Polling) → Good z v → Others z a v u → Rests z a v p → Rests z a u p
+    rests_last p good o x = record { stands = stands_last z a v u o p x.stands; knows = knows_last z a v u o (holds_swept z a v good) p x.knows }
+
+    stage_lasts : (p : Polling) (q : WaitStage) → Good z v → Others z a v u → WaitStageFacts z a v p q → WaitStageFacts z a u p q
+    stage_lasts p wait_stage.Want good o x = rests_last p good o x
+    stage_lasts p wait_stage.Polling good o x = h.lasts z a v u p good o x
+    stage_lasts p wait_stage.LoadSwept good o x = rests_last p good o x
+    stage_lasts p wait_stage.Ended good o x = rests_last p good o x
+
+    stopped_at : (w : Waiting) (stops : ℕ) (q : WaitStage) → IsParked stops (waits_at w q) → KeepsGhosts a v u → WaitStageFacts z a v w.poll q → WaitStageFacts z a u w.poll q
+    stopped_at w stops wait_stage.Want e kept x = absurd e
+    stopped_at w stops wait_stage.Polling e kept x = h.stopped z a v u w.poll stops e kept x
+    stopped_at w stops wait_stage.LoadSwept e kept x = absurd e
+    stopped_at w stops wait_stage.Ended e kept x = absurd e
+
+  module _ (v : View) (w : Waiting) where
+    within_at : Good z v → (q : WaitStage) → Has a v (waits_locked_at w.poll q) (waits_held_at w.poll q) → WaitStageFacts z a v w.poll q → InRange z.layout (cell_of (asks_at w q))
+    within_at good wait_stage.Want has x = tt
+    within_at good wait_stage.Polling has x = h.within z a v w.poll good (has, x)
+    within_at good wait_stage.LoadSwept has x = tt
+    within_at good wait_stage.Ended has x = tt
+
+    parked_at : (stops : ℕ) (q : WaitStage) → IsParked stops (waits_at w q) → Has a v (waits_locked_at w.poll q) (waits_held_at w.poll q) → WaitStageFacts z a v w.poll q → Has a v false no_page
+    parked_at stops wait_stage.Want e has x = absurd e
+    parked_at stops wait_stage.Polling e has x = h.parked z a v w.poll stops e (has, x)
+    parked_at stops wait_stage.LoadSwept e has x = absurd e
+    parked_at stops wait_stage.Ended e has x = absurd e
+
+    ended_at : (q : WaitStage) → is_busy q ≡ false → Has a v (waits_locked_at w.poll q) (waits_held_at w.poll q) → WaitStageFacts z a v w.poll q → IsAtRest z a v w.poll
+    ended_at wait_stage.Ended e has x = (has, x)
+    ended_at wait_stage.Want e has x = absurd (cc)
+    ended_at wait_stage.Polling e has x = absurd (cc)
+    ended_at wait_stage.LoadSwept e has x = absurd (cc)
+
+pub waits_by_rights : Known → PollsByRights → WaitsByRights
+waits_by_rights k h = record {
+  begins = λ z a v p r. r;
+  own_step = λ z a s w good f. waits_on_at k h z a s good w w.wait.stage f.0 f.1;
+  within = λ z a v w good f. within_at k h z a v w good w.wait.stage f.0 f.1;
+  lasts = λ z a v u w good o f. stage_lasts k h z a v u w.poll w.wait.stage good o f;
+  parked = λ z a v w stops e f. parked_at k h z a v w stops w.wait.stage e f.0 f.1;
+  stopped = λ z a v u w stops e kept f. stopped_at k h z a v u w stops w.wait.stage e kept f;
+  ends = λ z a v w e f. ended_at k h z a v w w.wait.stage e f.0 f.1;
+}

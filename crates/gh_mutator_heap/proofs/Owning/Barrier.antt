@@ -1,0 +1,146 @@
+-- A write behind the barrier while others change the heap: until its last step it changes no word that a right guards, and it goes on as the write that it is; its last step stores what the register holds.
+use Rattle.std.proofs.Common.{◌≡◌, ℕ, ◌*◌, ◌≤◌, ◌⊎◌, Bool, true, false, cond, eqb, Option, Some, None, inl, inr, refl, sym, ap, subst, ◌∙◌, arith}
+use Rattle.std.proofs.lemmas.Bool.{eqb-true}
+use Rattle.std.specs.Prelude.{is_none}
+use Rattle.gh_base.specs.declared.cell.Ask.{Ask}
+use Rattle.gh_base.specs.declared.cell.Ask.TheVariants as ask
+use Rattle.gh_base.specs.declared.held.Held.{Held}
+use Rattle.gh_base.specs.declared.value.Value.TheVariants as value
+use Rattle.gh_base.specs.Cells.{InRange}
+use Rattle.gh_base.specs.Holding.{IsHeld}
+use Rattle.gh_model.specs.declared.EverValue.TheVariants as ever
+use Rattle.gh_heap.specs.Moves.{IsQuiet}
+use Rattle.gh_shade.specs.declared.shade.Shaded.{Shaded}
+use Rattle.gh_shade.specs.declared.shade.ShadeStage.{ShadeStage}
+use Rattle.gh_shade.specs.declared.shade.ShadeStage.TheVariants as shade_stage
+use Rattle.gh_shade.specs.Listing as shade
+use Rattle.gh_barrier.specs.declared.pointer_cell.PointerCell.{PointerCell}
+use Rattle.gh_barrier.specs.declared.write_pointer.WriteStage.{WriteStage}
+use Rattle.gh_barrier.specs.declared.write_pointer.WriteStage.TheVariants as write_stage
+use Rattle.gh_barrier.specs.Listing.{Writing}
+use Rattle.gh_barrier.specs.Listing as write
+use Rattle.gh_barrier.specs.Sound.{FitsPointer}
+use Rattle.gh_mutator.specs.declared.poll.Local.{Local}
+use Rattle.gh_mutator.specs.Barrier.{held_then, pointer_of, WritesIt, written}
+use Rattle.gh_mutator.specs.Fields.{is_number_value}
+use Rattle.gh_mutator.specs.Processor.{keeping}
+use Rattle.gh_mutator.specs.Vocabulary.{Layout, Value}
+use Rattle.gh_mutator_heap.specs.Vocabulary.{Arena, EverValue, Good, IsReached, Means, moved, Quiet, Shared, View, view, Processor}
+use Rattle.gh_mutator_heap.proofs.Owning.Known.{Known}
+use Rattle.gh_mutator_heap.proofs.Owning.Objects.{placed_below}
+use Rattle.gh_mutator_heap.proofs.Owning.Steady.{Steady}
+use Rattle.gh_mutator_heap.proofs.Owning.Vocabulary.{word_of_value}
+
+-- Its steps.
+
+-- a step that changes nothing of what is seen of the heap
+pub record LeavesAll (step : Ask) : Type 0 where
+  pub quiet : IsQuiet step
+  pub same : (z : Arena) (a : ℕ) (s : Shared) → view (moved z a s (Quiet step)) ≡ view s
+
+enter_leaves : (reference : ℕ) (held : Option Held) → LeavesAll (shade.enters reference held)
+enter_leaves reference None = record { quiet = tt; same = λ z a s. refl }
+enter_leaves reference (Some h) = record { quiet = tt; same = λ z a s. refl }
+
+shade_leaves : (s : shade.Shading) (q : ShadeStage) → LeavesAll (shade.asks_at s q)
+shade_leaves s shade_stage.Enter = enter_leaves s.reference s.held
+shade_leaves s _ = record { quiet = tt; same = λ z a s. refl }
+
+-- a step before the last
+pub record IsBefore (w : Writing) (found : ℕ) : Type 0 where
+  pub leaves : LeavesAll (write.asks w)
+  pub goes_on : write.gives w found ≡ None
+
+-- its last
+pub record IsLast (w : Writing) (found : ℕ) : Type 0 where
+  pub stores : write.asks w ≡ ask.Store (write.cell_at w.at) (write.word_of w.pointer)
+  pub ends : write.gives w found ≡ Some tt
+
+new_goes_on : (w : Writing) (pointer : Option ℕ) → write.given (write.shades_new w pointer) ≡ None
+new_goes_on w None = refl
+new_goes_on w (Some r) = refl
+
+old_goes_on : (w : Writing) (old : Option ℕ) → write.given (write.shades_old w old) ≡ None
+old_goes_on w None = new_goes_on w w.pointer
+old_goes_on w (Some r) = refl
+
+after_old_goes_on : (w : Writing) (sh : shade.Shading) (out : Option Shaded) → write.given (write.after_old w sh out) ≡ None
+after_old_goes_on w sh None = refl
+after_old_goes_on w sh (Some out) = new_goes_on (record w { held = sh.held }) w.pointer
+
+after_new_goes_on : (w : Writing) (sh : shade.Shading) (out : Option Shaded) → write.given (write.after_new w sh out) ≡ None
+after_new_goes_on w sh None = refl
+after_new_goes_on w sh (Some out) = refl
+
+module _ (w : Writing) (found : ℕ) where
+  abbrev then : WriteStage → Writing
+  then q = write.goes_at w q found
+
+  before : (q : WriteStage) → w.stage ≡ q → LeavesAll (write.asks_at w q) → write.given (then q) ≡ None → IsBefore w found ⊎ IsLast w found
+  before q e leaves on = inl (record { leaves = subst (λ (p : WriteStage). LeavesAll (write.asks_at w p)) (sym e) leaves; goes_on = ap (λ (p : WriteStage). write.given (then p)) e ∙ on })
+
+  step_at : (q : WriteStage) → w.stage ≡ q → write.is_busy q ≡ true → IsBefore w found ⊎ IsLast w found
+  step_at write_stage.Store e busy = inr (record { stores = ap (λ (q : WriteStage). write.asks_at w q) e; ends = ap (λ (q : WriteStage). write.given (then q)) e })
+  step_at write_stage.LoadOld e busy = before write_stage.LoadOld e (record { quiet = tt; same = λ z a s. refl }) (old_goes_on w (write.read_as w.layout found))
+  step_at (write_stage.ShadeOld sh) e busy = before (write_stage.ShadeOld sh) e (shade_leaves sh sh.stage) (after_old_goes_on w (shade.goes sh found) (shade.gives sh found))
+  step_at (write_stage.ShadeNew sh) e busy = before (write_stage.ShadeNew sh) e (shade_leaves sh sh.stage) (after_new_goes_on w (shade.goes sh found) (shade.gives sh found))
+  step_at write_stage.Ended e busy = absurd (cc)
+
+  pub step_is : write.is_busy w.stage ≡ true → IsBefore w found ⊎ IsLast w found
+  step_is busy = step_at w.stage refl busy
+
+-- What it writes.
+
+named_word : (r : ℕ) → write.word_of (cond (eqb r 0) None (Some r)) ≡ r
+named_word r = by (eqb r 0) refl where
+  by : (b : Bool) → eqb r 0 ≡ b → write.word_of (cond b None (Some r)) ≡ r
+  by true e = sym (eqb-true r 0 e)
+  by false e = refl
+
+word_named : (v : Value) → is_number_value v ≡ false → write.word_of (pointer_of v) ≡ word_of_value v
+word_named value.Nil e = refl
+word_named (value.Int n) e = absurd (cc)
+word_named (value.Ref r) e = named_word r
+
+pub word_written : (l : Layout) (at : PointerCell) (v : Value) (w : Writing) → WritesIt l at v w → write.word_of w.pointer ≡ word_of_value v
+word_written l at v w it = ap (λ (p : Option ℕ). write.word_of p) it.same_pointer ∙ word_named v it.names
+
+-- what a register holds names a word of the heap
+module _ (laws : Known) (z : Arena) (v : View) (good : Good z v) where
+  pub names_fit : (x : EverValue) (y : Value) → IsReached v.ever x → Means v.place v.ever.made x y → FitsPointer z.layout (pointer_of y)
+  names_fit x value.Nil reached h = tt
+  names_fit x (value.Int n) reached h = tt
+  names_fit ever.Nil (value.Ref r) reached h = absurd h
+  names_fit (ever.Int i) (value.Ref r) reached h = absurd h
+  names_fit (ever.Ref n) (value.Ref r) reached h = let below = placed_below laws z v good n h.1 reached in let is = h.0 in by (eqb r 0) (omega arith) (omega arith) where
+    by : (b : Bool) → 1 ≤ r → r ≤ 1024 * z.layout.pages → FitsPointer z.layout (cond b None (Some r))
+    by true some within = tt
+    by false some within = record { some = some; within = within }
+
+-- where it begins
+pub begins_so : Known → (l : Layout) (own : Local) (at : PointerCell) (v : Value) → InRange l (write.cell_at at) → FitsPointer l (pointer_of v) → IsHeld l own.held → is_number_value v ≡ false → WritesIt l at v (written l own at v)
+begins_so laws l own at v there fits is names = record { same_cell = refl; same_pointer = refl; names = names; within = laws.within.begins l at (pointer_of v) own.held there fits is; busy = refl }
+
+-- and goes on
+pub goes_so : Known → (l : Layout) (at : PointerCell) (v : Value) (w : Writing) (found : ℕ) → WritesIt l at v w → write.gives w found ≡ None → WritesIt l at v (write.goes w found)
+goes_so laws l at v w found it e = record {
+  same_cell = laws.writes.same_cell w found ∙ it.same_cell;
+  same_pointer = laws.writes.same_pointer w found ∙ it.same_pointer;
+  names = it.names;
+  within = laws.within.goes_on l w found it.within;
+  busy = ap is_none e;
+}
+
+-- What it holds is a buffer of the heap, and nothing else of the processor changes.
+pub held_so : Known → (l : Layout) (at : PointerCell) (v : Value) (w : Writing) (found : ℕ) → WritesIt l at v w → IsHeld l (held_then w found)
+held_so laws l at v w found it = laws.within.holds l (write.goes w found) (laws.within.goes_on l w found it.within)
+
+pub steady_held : (z : Arena) (a : ℕ) (v : View) (m : Processor) (held : Option Held) → IsHeld z.layout held → Steady z a v m → Steady z a v (keeping m held)
+steady_held z a v m held is st =
+    let s = st.1.stands.sits in (
+      st.0,
+      record {
+        stands = record { sits = record { layout = s.layout; seat = s.seat; few = s.few; stacks = s.stacks; registers = s.registers; scanned = s.scanned; cache = s.cache; held = is }; registers = st.1.stands.registers };
+        knows = record { generation = st.1.knows.generation; caches = st.1.knows.caches };
+      },
+    )

@@ -1,0 +1,171 @@
+-- What the words tell of an object that a script reaches, and what a value is to its word. Of the heap it is known what the laws of gh_heap say.
+use Rattle.std.proofs.Common.{◌≡◌, ℕ, ◌+◌, ◌-◌, ◌*◌, ◌/◌, ◌%◌, ◌^◌, ◌<◌, ◌≤◌, Bool, true, false, cond, eqb, ltb, inl, inr, refl, sym, ap, subst, ◌∙◌, arith}
+use Rattle.std.specs.Int.{bit_at}
+use Rattle.std.proofs.Math.Nat.{mod-eq_of_lt}
+use Rattle.std.proofs.lemmas.Bool.{ne_eqb, ltb-true, ltb-false}
+use Rattle.std.proofs.lemmas.Bool.Decides.{eqb_tells}
+use Rattle.gh_mutator_heap.proofs.Owning.Vocabulary.{is_pointer_by, value_of, word_of_value}
+use Rattle.gh_mutator.specs.Vocabulary.{Layout, Name, SizeClass, Value}
+use Rattle.gh_mutator_heap.specs.Vocabulary.{Arena, Ever, EverValue, fits, Good, Holds, is_number, IsMade, IsReached, IsSizeClass, Means, name_of, page_of, points, Reach, size_for, slot_in, slot_of, slot_size, takes_answer, told, View, with_register}
+use Rattle.gh_base.specs.declared.value.Value.TheVariants as value
+use Rattle.gh_base.specs.Packing.{bit, page_class, page_pages, slot_for}
+use Rattle.gh_class.specs.declared.class.SizeClass.TheVariants as size
+use Rattle.gh_model.specs.declared.EverValue.TheVariants as ever
+use Rattle.gh_heap.specs.Objects.{InSlot, Place, Placed}
+use Rattle.gh_heap.specs.Spans.{is_own_class, number_of, slot_count}
+use Rattle.gh_mutator_heap.proofs.Owning.Known.{Known}
+
+-- ---- the words of an object
+
+some_words : Known → (class : SizeClass) (pages : ℕ) → IsSizeClass class → 1 ≤ pages → 1 ≤ cond (is_own_class class) (1024 * pages) (slot_of (number_of class) / 8)
+some_words laws (size.Small c) pages is some = omega (arith, laws.least_slot c is)
+some_words laws size.Large pages is some = omega arith
+
+slot_for_is : (c : SizeClass) (n : ℕ) → slot_for c n ≡ cond (is_own_class c) (1024 * n) (slot_of (number_of c) / 8)
+slot_for_is (size.Small c) n = refl
+slot_for_is size.Large n = refl
+
+bit_is : (b : Bool) (n : ℕ) → n ≡ bit b → eqb n 1 ≡ b
+bit_is true n e = rw e refl
+bit_is false n e = rw e refl
+
+-- an object that a script reaches, and so is placed
+module _ (laws : Known) (z : Arena) (v : View) (good : Good z v) (n : Name) (was_made : IsMade v.ever.made n) (reach : Reach v.ever n) where
+  abbrev words : ℕ
+  words = size_for z.shapes v.ever.type_of n
+
+  stands : Placed v.alloc v.birth v.place n
+  stands = good.reached n reach
+
+  object : InSlot z.shapes z.layout.pages v.page v.place v.ever.type_of n
+  object = good.slots n was_made stands
+
+  some : 1 ≤ words
+  some = subst (λ (x : ℕ). 1 ≤ x) (sym object.slot.size_is) (some_words laws object.h.class object.h.pages object.slot.span.fits.class object.slot.span.fits.some)
+
+  inside : (k : ℕ) → k < words → (1024 * object.p ≤ v.place n + k) × (v.place n + k < 1024 * (object.p + object.h.pages))
+  inside k few = (laws.apart z v good).inside object.p object.i (v.place n) words k object.h object.slot few
+
+  -- each lies in the heap
+  below : (k : ℕ) → k < words → v.place n + k < 1024 * z.layout.pages
+  below k few = let i = inside k few in let within = object.slot.span.within in omega arith
+
+  pub placed_below : v.place n < 1024 * z.layout.pages
+  placed_below = let b = below 0 some in omega arith
+
+  page_here : page_class (page_of (v.page (v.place n / 1024))) ≡ object.h.class
+  page_here = elim (eqb_tells (v.place n / 1024) object.p) [
+    | inl y ↦ ap (λ (x : ℕ). page_class (page_of (v.page x))) y.1 ∙ ap page_class object.slot.span.head
+    | inr y ↦
+        let i = inside 0 some in
+        let far = y.1 in
+        let at : v.place n / 1024 ≡ object.p + (v.place n / 1024 - object.p) = omega arith in
+        ap (λ (x : ℕ). page_class (page_of (v.page x))) at ∙ ap page_class (object.slot.span.body (v.place n / 1024 - object.p) (omega arith) (omega arith))
+  ]
+
+  -- the page word of its first tells how many there are
+  page_tells : (b : Bool) → is_own_class object.h.class ≡ b → slot_in (page_of (v.page (v.place n / 1024))) ≡ words
+  page_tells true own =
+      let count : slot_count object.h ≡ 1 = rw own refl in
+      let first : object.i ≡ 0 = let few : object.i < 1 = subst (λ (x : ℕ). object.i < x) count object.slot.inside in omega arith in
+      let at : v.place n ≡ 1024 * object.p = object.slot.at ∙ ap (λ (i : ℕ). 1024 * object.p + i * words) first ∙ omega arith in
+      let q : v.place n / 1024 ≡ object.p = omega arith in
+      ap (λ (x : ℕ). slot_in (page_of (v.page x))) q ∙ ap slot_in object.slot.span.head ∙ slot_for_is object.h.class object.h.pages ∙ sym object.slot.size_is
+  page_tells false own =
+      let sized : slot_size object.h ≡ slot_of (number_of object.h.class) / 8 = rw own refl in
+      ap (λ (c : SizeClass). slot_for c (page_pages (page_of (v.page (v.place n / 1024))))) page_here ∙ slot_for_is object.h.class (page_pages (page_of (v.page (v.place n / 1024))))
+      ∙ ap (λ (b : Bool). cond b (1024 * page_pages (page_of (v.page (v.place n / 1024)))) (slot_of (number_of object.h.class) / 8)) own ∙ sym (object.slot.size_is ∙ sized)
+
+  -- What is found at the indices that a statement asks for, through a reference to it.
+  module _ (l : Layout) (at : ℕ) (layout_is : l ≡ z.layout) (here : at ≡ v.place n) where
+    pub size_found : slot_in (page_of (v.page (at / 1024 % l.pages))) ≡ words
+    size_found = rw (layout_is, here) (ap (λ (q : ℕ). slot_in (page_of (v.page q))) (mod-eq_of_lt (let b = placed_below in omega arith)) ∙ page_tells (is_own_class object.h.class) refl)
+
+    pub word_is : (k : ℕ) → k < words → (at + k) % (1024 * l.pages) ≡ v.place n + k
+    word_is k few = rw (layout_is, here) (mod-eq_of_lt (below k few))
+
+    pub bit_found : (k : ℕ) → k < words → is_pointer_by l (at + k) (v.bitmap ((at + k) / 64 % (16 * l.pages))) ≡ points z.shapes v.ever.type_of n k
+    bit_found k few = rw (layout_is, here) (bit_is (points z.shapes v.ever.type_of n k) _
+        (ap (λ (i : ℕ). bit_at (v.bitmap i) ((v.place n + k) % 64)) (mod-eq_of_lt (let b = below k few in omega arith))
+        ∙ sym (laws.rows.bit_of v.bitmap ((v.place n + k) / 64) (v.place n + k) refl) ∙ good.pointers n k was_made stands few))
+
+    pub field_found : (k : ℕ) → k < words → Holds v.place v.ever.made (points z.shapes v.ever.type_of n k) (v.ever.field n k) (v.field ((at + k) % (1024 * l.pages)))
+    field_found k few = subst (λ (i : ℕ). Holds v.place v.ever.made (points z.shapes v.ever.type_of n k) (v.ever.field n k) (v.field i)) (sym (word_is k few)) (good.fields n k was_made stands few)
+
+    -- the name in its birth word
+    pub name_found : name_of l.goroutines (v.birth (at % (1024 * l.pages))) ≡ n
+    name_found = rw (layout_is, here) (ap (λ (i : ℕ). name_of z.layout.goroutines (v.birth i)) (mod-eq_of_lt placed_below) ∙ ap (λ (w : ℕ). name_of z.layout.goroutines w) stands.says ∙ laws.packed.birth z.layout.goroutines n known few) where
+      few : n.k < 2 ^ 32
+      few = let f = good.names.few n.g in omega (arith, f, was_made)
+
+      known : n.g < z.layout.goroutines
+      known = by (ltb n.g z.layout.goroutines) refl where
+        by : (b : Bool) → ltb n.g z.layout.goroutines ≡ b → n.g < z.layout.goroutines
+        by true t = ltb-true n.g z.layout.goroutines t
+        by false t = let none = good.names.none n.g (ltb-false n.g z.layout.goroutines t) in absurd (omega (arith, none, was_made))
+
+-- a value of a register, or of a field of what is reached, is reached
+pub register_reached : (e : Ever) (g d : ℕ) → e.ended g ≡ false → (x : EverValue) → e.register g d ≡ x → IsReached e x
+register_reached e g d goes_on ever.Nil is = tt
+register_reached e g d goes_on (ever.Int i) is = tt
+register_reached e g d goes_on (ever.Ref n) is = Reach.from_register g d n goes_on is
+
+pub global_reached : (e : Ever) (k : ℕ) (v : EverValue) → e.global k ≡ v → IsReached e v
+global_reached e k ever.Nil is = tt
+global_reached e k (ever.Int n) is = tt
+global_reached e k (ever.Ref n) is = Reach.from_global k n is
+
+pub field_reached : (e : Ever) (n : Name) (k : ℕ) → Reach e n → (x : EverValue) → e.field n k ≡ x → IsReached e x
+field_reached e n k reach ever.Nil is = tt
+field_reached e n k reach (ever.Int i) is = tt
+field_reached e n k reach (ever.Ref r) is = Reach.from_field n k r reach is
+
+-- ---- values
+
+-- a found word of a field means what the field holds
+found_means : (pages : ℕ) (place : Place) (made : ℕ → ℕ) (p : Bool) (x : EverValue) (word : ℕ) → ((n : Name) → x ≡ ever.Ref n → IsMade made n → place n < 1024 * pages) → Holds place made p x word → Means place made x (value_of pages p word)
+found_means pages place made p ever.Nil word within h = rw (h.0, h.1) tt
+found_means pages place made p (ever.Int i) word within h = rw (h.0) (sym h.1)
+found_means pages place made p (ever.Ref n) word within h =
+    rw (h.0, h.1)
+    (let ne : eqb (place n + 1) 0 ≡ false = ne_eqb (place n + 1) 0 (λ q. omega arith) in
+    let is : (place n + 1 - 1) % (1024 * pages) ≡ place n = ap (λ (y : ℕ). y % (1024 * pages)) (back (place n)) ∙ mod-eq_of_lt (within n refl h.2) in
+    rw (ne, is) (refl, h.2)) where
+      back : (a : ℕ) → a + 1 - 1 ≡ a
+      back a = omega arith
+
+-- the value that is found in field k of the object
+pub value_means : (laws : Known) (z : Arena) (v : View) (good : Good z v) (n : Name) (was_made : IsMade v.ever.made n) (reach : Reach v.ever n) (l : Layout) (at k : ℕ) (p : Bool) → l ≡ z.layout → at ≡ v.place n → k < size_for z.shapes v.ever.type_of n → p ≡ points z.shapes v.ever.type_of n k →
+    Means v.place v.ever.made (v.ever.field n k) (value_of l.pages p (v.field ((at + k) % (1024 * l.pages))))
+value_means laws z v good n was_made reach l at k p layout_is here few kind =
+    found_means l.pages v.place v.ever.made p (v.ever.field n k) (v.field ((at + k) % (1024 * l.pages)))
+    (λ r is made. subst (λ (y : Layout). v.place r < 1024 * y.pages) (sym layout_is) (placed_below laws z v good r made (Reach.from_field n k r reach is)))
+    (subst (λ (q : Bool). Holds v.place v.ever.made q (v.ever.field n k) (v.field ((at + k) % (1024 * l.pages)))) (sym kind) (field_found laws z v good n was_made reach l at layout_is here k few))
+
+-- a word that a global holds means what it holds
+pub global_means : (laws : Known) (z : Arena) (v : View) → Good z v → (k : ℕ) → k < z.layout.globals → Means v.place v.ever.made (v.ever.global k) (value_of z.layout.pages true (v.global k))
+global_means laws z v good k low = found_means z.layout.pages v.place v.ever.made true (v.ever.global k) (v.global k) (λ n is made. placed_below laws z v good n made (Reach.from_global k n is)) (good.globals k low)
+
+-- the word of a value holds what a field of its kind is to hold
+pub word_holds : (place : Place) (made : ℕ → ℕ) (p : Bool) (v : EverValue) (x : Value) → Means place made v x → fits p v ≡ true → Holds place made p v (word_of_value x)
+word_holds place made p ever.Nil value.Nil h f = (f, refl)
+word_holds place made true (ever.Int a) (value.Int b) h f = absurd cc
+word_holds place made false (ever.Int a) (value.Int b) h f = (refl, sym h)
+word_holds place made p (ever.Ref n) (value.Ref r) h f = (f, h.0, h.1)
+word_holds place made p ever.Nil (value.Int b) h f = absurd h
+word_holds place made p ever.Nil (value.Ref r) h f = absurd h
+word_holds place made p (ever.Int a) value.Nil h f = absurd h
+word_holds place made p (ever.Int a) (value.Ref r) h f = absurd h
+word_holds place made p (ever.Ref n) value.Nil h f = absurd h
+word_holds place made p (ever.Ref n) (value.Int b) h f = absurd h
+
+-- what is no number is a pointer's
+pub fits_pointer : (x : EverValue) → is_number x ≡ false → fits true x ≡ true
+fits_pointer ever.Nil e = refl
+fits_pointer (ever.Int n) e = absurd cc
+fits_pointer (ever.Ref n) e = refl
+
+pub takes_told : (e : Ever) (g d : ℕ) (x : EverValue) → takes_answer e g d (told x) ≡ with_register e g d x
+takes_told e g d ever.Nil = refl
+takes_told e g d (ever.Int i) = refl
+takes_told e g d (ever.Ref n) = refl

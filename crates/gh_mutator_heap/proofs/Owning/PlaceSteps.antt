@@ -1,0 +1,353 @@
+-- The steps of a new object's making. The making is known by its law, and by which of its steps makes the object and which is its last.
+use Rattle.std.proofs.Common.{◌≡◌, ℕ, ◌+◌, ◌*◌, ◌/◌, ◌%◌, ◌^◌, ◌<◌, ◌⊎◌, Bool, true, false, cond, eqb, ltb, nat_le, List, [], ◌∷◌, ◌++◌, length, get_or, Option, Some, None, refl, sym, ap, subst, ◌∙◌, arith, inl, inr, length-set, get_or-set_same, get_or-set_other}
+use Rattle.std.specs.Option.{option_to_list}
+use Rattle.std.proofs.Math.ListN.{set}
+use Rattle.std.proofs.lemmas.Bool.{eqb-true, eqb-false, eq-eqb}
+use Rattle.gh_mutator_heap.proofs.Owning.Vocabulary.{Act, acted, acting, answered_at, at_task, Does, Fine, for_whom, KnowsCounts, lists, Makes, makes, op_of, own_span, register_at, RegistersFit, ShapesAreGood, Sits}
+use Rattle.gh_mutator.specs.Vocabulary.{Answer, cell_of, IsOf, Large, Layout, Name, PlaceStage, Polling, REGISTERS, Small, Sought, Value}
+use Rattle.gh_mutator_heap.specs.Vocabulary.{Arena, Ever, EverValue, Good, IsMade, KeepsItsOwn, KeepsObjects, Means, moved, Shared, SpanHead, Steps, View, view, with_register, Idle, Processor, Wanted}
+use Rattle.gh_assist.specs.Within.{AssistWithin}
+use Rattle.gh_base.specs.declared.cell.Ask.TheVariants as ask
+use Rattle.gh_base.specs.declared.cell.Cell.TheVariants as cell
+use Rattle.gh_base.specs.declared.value.Answer.TheVariants as answer
+use Rattle.gh_base.specs.declared.value.Value.TheVariants as value
+use Rattle.gh_base.specs.Holding.{IsHeld}
+use Rattle.gh_model.specs.declared.EverValue.TheVariants as ever
+use Rattle.gh_model.specs.Ever.{next_name, same_name, with_object}
+use Rattle.gh_heap.specs.Moves.{placed_at, Quiet, update}
+use Rattle.gh_heap.specs.Objects.{Place as PlaceOf}
+use Rattle.gh_bitmap.specs.SetPointers as setter
+use Rattle.gh_alloc.specs.declared.place.PlaceStage.TheVariants as making
+use Rattle.gh_alloc.specs.FindFacts as find
+use Rattle.gh_alloc.specs.Place as placer
+use Rattle.gh_alloc.specs.PlaceFacts as place
+use Rattle.gh_mutator_heap.specs.Facts.{NamedFrom}
+use Rattle.gh_mutator.specs.Local.{marking_at, with_register as local_register}
+use Rattle.gh_mutator.specs.New.{answer_made, assisting, assists, is_made, made_object, made_task, wants}
+use Rattle.gh_mutator_heap.proofs.Holding.Known.{cached_kept, holds_swept, HoldsSwept}
+use Rattle.gh_mutator_heap.proofs.Holding.Lists.{lists_it}
+use Rattle.gh_mutator_heap.proofs.Owning.Known.{Known}
+use Rattle.gh_mutator_heap.proofs.Owning.Statements.{idle, StepAt}
+use Rattle.gh_mutator_heap.proofs.Owning.Steady.{goroutine_few, HasCached, registers_then, sits_register, Steady, steady_on}
+
+-- What kind of step is made at a stage: one on the way, the one that makes the object, or the last.
+data Kind (p : placer.Placing) (q : PlaceStage) (found : ℕ) : Type 0 where
+  onward : placer.acts_at q ≡ false → placer.given_at (placer.goes_at p q found) ≡ None → is_made (placer.goes_at p q found) ≡ is_made q → Kind p q found
+  making-it : placer.acts_at q ≡ true → placer.given_at (placer.goes_at p q found) ≡ None → is_made (placer.goes_at p q found) ≡ true → is_made q ≡ false → Kind p q found
+  ending : (asks : Bool) → placer.acts_at q ≡ false → is_made q ≡ true → placer.goes_at p q found ≡ making.Ended asks → Kind p q found
+
+filled-none : (marking : Bool) → placer.given_at (placer.filled marking) ≡ None
+filled-none true = refl
+filled-none false = refl
+
+filled-unmade : (marking : Bool) → is_made (placer.filled marking) ≡ false
+filled-unmade true = refl
+filled-unmade false = refl
+
+kind-of : (p : placer.Placing) (q : PlaceStage) (found : ℕ) → ((asks : Bool) → q ≡ making.Ended asks → ⊥) → Kind p q found
+kind-of p (making.Clear i) found busy = go (ltb (i + 1) p.slot) refl where
+  go : (b : Bool) → ltb (i + 1) p.slot ≡ b → Kind p (making.Clear i) found
+  go true e = onward refl (ap (λ (b : Bool). placer.given_at (cond b (making.Clear (i + 1)) making.Birth)) e) (ap (λ (b : Bool). is_made (cond b (making.Clear (i + 1)) making.Birth)) e)
+  go false e = onward refl (ap (λ (b : Bool). placer.given_at (cond b (making.Clear (i + 1)) making.Birth)) e) (ap (λ (b : Bool). is_made (cond b (making.Clear (i + 1)) making.Birth)) e)
+kind-of p making.Birth found busy = onward refl refl refl
+kind-of p (making.Bits s) found busy = go (setter.is_busy (setter.goes s found).stage) refl where
+  go : (b : Bool) → setter.is_busy (setter.goes s found).stage ≡ b → Kind p (making.Bits s) found
+  go true e = onward refl (ap (λ (b : Bool). placer.given_at (cond b (making.Bits (setter.goes s found)) (placer.filled p.marking))) e) (ap (λ (b : Bool). is_made (cond b (making.Bits (setter.goes s found)) (placer.filled p.marking))) e)
+  go false e = onward refl (ap (λ (b : Bool). placer.given_at (cond b (making.Bits (setter.goes s found)) (placer.filled p.marking))) e ∙ filled-none p.marking) (ap (λ (b : Bool). is_made (cond b (making.Bits (setter.goes s found)) (placer.filled p.marking))) e ∙ filled-unmade p.marking)
+kind-of p making.Mark found busy = onward refl refl refl
+kind-of p making.Alloc found busy = go p.span refl where
+  go : (x : Option SpanHead) → p.span ≡ x → Kind p making.Alloc found
+  go None e = making-it refl (ap (λ (y : Option SpanHead). placer.given_at (placer.made p y)) e) (ap (λ (y : Option SpanHead). is_made (placer.made p y)) e) refl
+  go (Some h) e = making-it refl (ap (λ (y : Option SpanHead). placer.given_at (placer.made p y)) e) (ap (λ (y : Option SpanHead). is_made (placer.made p y)) e) refl
+kind-of p (making.Give g) found busy = onward refl refl refl
+kind-of p making.Count found busy = go p.marking refl where
+  bytes : ℕ
+  bytes = (found + 8 * p.slot) % 2 ^ 64
+
+  go : (b : Bool) → p.marking ≡ b → Kind p making.Count found
+  go true e = ending false refl refl (ap (λ (b : Bool). cond b (making.Ended false) (making.LoadTrigger bytes)) e)
+  go false e = onward refl (ap (λ (b : Bool). placer.given_at (cond b (making.Ended false) (making.LoadTrigger bytes))) e) (ap (λ (b : Bool). is_made (cond b (making.Ended false) (making.LoadTrigger bytes))) e)
+kind-of p (making.LoadTrigger bytes) found busy = ending (nat_le found bytes) refl refl refl
+kind-of p (making.Ended asks) found busy = absurd (busy asks refl)
+
+-- What the seat holds at a stage, and what its caches list.
+
+held-cases : (q : PlaceStage) (span : Option SpanHead) (n : ℕ) (base : ℕ → Bool) (y : ℕ) → (place.held_by q span n base y ≡ base y) ⊎ ((place.held_by q span n base y ≡ update base n false y) × ((h : SpanHead) × (span ≡ Some h)))
+held-cases (making.Clear i) span n base y = inl refl
+held-cases making.Birth span n base y = inl refl
+held-cases (making.Bits s) span n base y = inl refl
+held-cases making.Mark span n base y = inl refl
+held-cases making.Alloc span n base y = inl refl
+held-cases (making.Give g) span n base y = inl refl
+held-cases making.Count None n base y = inl refl
+held-cases making.Count (Some h) n base y = inr (refl, (h, refl))
+held-cases (making.LoadTrigger bytes) None n base y = inl refl
+held-cases (making.LoadTrigger bytes) (Some h) n base y = inr (refl, (h, refl))
+held-cases (making.Ended asks) None n base y = inl refl
+held-cases (making.Ended asks) (Some h) n base y = inr (refl, (h, refl))
+
+-- a large object has a span of its own, and no other
+own-cases : (seat generation : ℕ) (x : Sought) (at : ℕ) (h : SpanHead) → own_span seat generation x ≡ Some h → find.own_found x at ≡ Some (at / 1024)
+own-cases seat generation (Small c) at h e = absurd (cc)
+own-cases seat generation (Large pages noscan) at h e = refl
+
+with-listed : (o : Option ℕ) (held : ℕ → Bool) (y : ℕ) → held y ≡ true → find.with_span o held y ≡ true
+with-listed None held y e = e
+with-listed (Some n) held y e = go (eqb n y) where
+  go : (b : Bool) → cond b true (held y) ≡ true
+  go true = refl
+  go false = e
+
+module _ (z : Arena) (a : ℕ) (v : View) (m : Processor) (x : Wanted) (p : placer.Placing) where
+  abbrev base : ℕ → Bool
+  base = find.with_span (find.own_found x.sought p.at) (lists m.poll.local.cache)
+
+  -- what is listed is held at every stage
+  listed-held : p.span ≡ own_span m.poll.seat m.poll.local.view.generation x.sought → ((y : ℕ) → find.own_found x.sought p.at ≡ Some y → lists m.poll.local.cache y ≡ false) → (q : PlaceStage) (y : ℕ) → lists m.poll.local.cache y ≡ true → place.held_by q p.span (p.at / 1024) base y ≡ true
+  listed-held span apart q y e = elim (held-cases q p.span (p.at / 1024) base y) [
+    | inl same ↦ same ∙ with-listed (find.own_found x.sought p.at) (lists m.poll.local.cache) y e
+    | inr given ↦ given.0 ∙ elsewhere (apart (p.at / 1024) (own-cases m.poll.seat m.poll.local.view.generation x.sought p.at given.1.0 (sym span ∙ given.1.1)))
+  ] where
+    elsewhere : lists m.poll.local.cache (p.at / 1024) ≡ false → update base (p.at / 1024) false y ≡ true
+    elsewhere none = go (eqb (p.at / 1024) y) refl where
+      go : (b : Bool) → eqb (p.at / 1024) y ≡ b → cond b false (base y) ≡ true
+      go true t = absurd (cc (e, subst (λ (n : ℕ). lists m.poll.local.cache n ≡ false) (eqb-true (p.at / 1024) y t) none))
+      go false t = with-listed (find.own_found x.sought p.at) (lists m.poll.local.cache) y e
+
+  -- at the end just that
+  held-last : p.span ≡ own_span m.poll.seat m.poll.local.view.generation x.sought → ((y : ℕ) → find.own_found x.sought p.at ≡ Some y → lists m.poll.local.cache y ≡ false) → (asks : Bool) (y : ℕ) → place.held_by (making.Ended asks) p.span (p.at / 1024) base y ≡ lists m.poll.local.cache y
+  held-last span apart asks y = subst (λ (s : Option SpanHead). place.held_by (making.Ended asks) s (p.at / 1024) base y ≡ lists m.poll.local.cache y) (sym span) (go x.sought refl) where
+    go : (s : Sought) → x.sought ≡ s → place.held_by (making.Ended asks) (own_span m.poll.seat m.poll.local.view.generation x.sought) (p.at / 1024) base y ≡ lists m.poll.local.cache y
+    go (Small c) e = subst (λ (s : Sought). place.held_by (making.Ended asks) (own_span m.poll.seat m.poll.local.view.generation s) (p.at / 1024) (find.with_span (find.own_found s p.at) (lists m.poll.local.cache)) y ≡ lists m.poll.local.cache y) (sym e) refl
+    go (Large pages noscan) e = subst (λ (s : Sought). place.held_by (making.Ended asks) (own_span m.poll.seat m.poll.local.view.generation s) (p.at / 1024) (find.with_span (find.own_found s p.at) (lists m.poll.local.cache)) y ≡ lists m.poll.local.cache y) (sym e)
+        (back (eqb (p.at / 1024) y) refl (apart (p.at / 1024) (ap (λ (s : Sought). find.own_found s p.at) e))) where
+          back : (b : Bool) → eqb (p.at / 1024) y ≡ b → lists m.poll.local.cache (p.at / 1024) ≡ false → cond b false (cond b true (lists m.poll.local.cache y)) ≡ lists m.poll.local.cache y
+          back true t none = sym (subst (λ (n : ℕ). lists m.poll.local.cache n ≡ false) (eqb-true (p.at / 1024) y t) none)
+          back false t none = refl
+
+-- The object is made: its goroutine's count and register take it.
+
+names-differ : (e : Ever) (g : ℕ) (n : Name) → IsMade e.made n → same_name n (next_name e g) ≡ false
+names-differ e g n made = go (eqb n.g g) (eqb n.k (e.made g)) refl refl where
+  go : (b c : Bool) → eqb n.g g ≡ b → eqb n.k (e.made g) ≡ c → same_name n (next_name e g) ≡ false
+  go true true t u = absurd (omega (arith, subst (λ (h : ℕ). n.k < e.made h) (eqb-true n.g g t) made, eqb-true n.k (e.made g) u))
+  go true false t u = rw (t, u) refl
+  go false c t u = rw (t) refl
+
+means-then : (z : Arena) (v : View) (g t at : ℕ) (x : EverValue) (y : Value) → Means v.place v.ever.made x y → Means (placed_at v.place (next_name v.ever g) at) (with_object z.shapes v.ever g t).made x y
+means-then z v g t at ever.Nil value.Nil h = h
+means-then z v g t at ever.Nil (value.Int i) h = h
+means-then z v g t at ever.Nil (value.Ref r) h = h
+means-then z v g t at (ever.Int n) value.Nil h = h
+means-then z v g t at (ever.Int n) (value.Int i) h = h
+means-then z v g t at (ever.Int n) (value.Ref r) h = h
+means-then z v g t at (ever.Ref n) value.Nil h = h
+means-then z v g t at (ever.Ref n) (value.Int i) h = h
+means-then z v g t at (ever.Ref n) (value.Ref r) h = (
+  h.0 ∙ ap (λ (b : Bool). cond b at (v.place n) + 1) (sym (names-differ v.ever g n h.1)),
+  more (eqb n.g g) refl,
+) where
+  more : (b : Bool) → eqb n.g g ≡ b → n.k < cond b (v.ever.made g + 1) (v.ever.made n.g)
+  more true e = omega (arith, subst (λ (h' : ℕ). n.k < v.ever.made h') (eqb-true n.g g e) h.1)
+  more false e = h.1
+
+made-registers : (z : Arena) (a : ℕ) (v w : View) (p : Polling) (g d t at : ℕ) → Sits z a p → IsOf z a g → d < REGISTERS →
+    w.ever ≡ with_register (with_object z.shapes v.ever g t) g d (ever.Ref (next_name v.ever g)) → w.place ≡ placed_at v.place (next_name v.ever g) at → RegistersFit z a v p → RegistersFit z a w (local_register p g d (value.Ref (at + 1)))
+made-registers z a v w p g d t at sits of low e place fit h c hof lc =
+    subst (λ (x : Ever). Means w.place x.made (x.register h c) (register_at (local_register p g d (value.Ref (at + 1))) h c)) (sym e)
+    (subst (λ (x : PlaceOf). Means x (with_object z.shapes v.ever g t).made ((with_register (with_object z.shapes v.ever g t) g d (ever.Ref (next_name v.ever g))).register h c) (register_at (local_register p g d (value.Ref (at + 1))) h c)) (sym place)
+    (registers_then z a now p g d (ever.Ref (next_name v.ever g)) (value.Ref (at + 1)) sits of low here (λ i r iof lr. means-then z v g t at (v.ever.register i r) (register_at p i r) (fit i r iof lr)) h c hof lc)) where
+      now : View
+      now = record v { ever = with_object z.shapes v.ever g t; place = placed_at v.place (next_name v.ever g) at }
+
+      more : (b : Bool) → b ≡ true → v.ever.made g < cond b (v.ever.made g + 1) (v.ever.made g)
+      more true e = omega arith
+      more false e = absurd (cc)
+
+      same : same_name (next_name v.ever g) (next_name v.ever g) ≡ true
+      same = rw (eq-eqb g g refl, eq-eqb (v.ever.made g) (v.ever.made g) refl) refl
+
+      here : Means now.place now.ever.made (ever.Ref (next_name v.ever g)) (value.Ref (at + 1))
+      here = (ap (λ (b : Bool). cond b at (v.place (next_name v.ever g)) + 1) (sym same), more (eqb g g) (eq-eqb g g refl))
+
+made-counts : (z : Arena) (a : ℕ) (v w : View) (made : List ℕ) (g d t : ℕ) → IsOf z a g → w.ever ≡ with_register (with_object z.shapes v.ever g t) g d (ever.Ref (next_name v.ever g)) → KnowsCounts z a v made → KnowsCounts z a w (set made g (get_or made g 0 + 1))
+made-counts z a v w made g d t of e counts = record {
+  places = length-set made g (get_or made g 0 + 1) ∙ counts.places;
+  each = λ h hof. subst (λ (x : Ever). get_or (set made g (get_or made g 0 + 1)) h 0 ≡ x.made h) (sym e) (go h hof (eqb h g) refl);
+} where
+  go : (h : ℕ) → IsOf z a h → (b : Bool) → eqb h g ≡ b → get_or (set made g (get_or made g 0 + 1)) h 0 ≡ cond b (v.ever.made g + 1) (v.ever.made h)
+  go h hof true t =
+      let same : h ≡ g = eqb-true h g t in
+      let lt : g < length made = omega (arith, counts.places, goroutine_few z a g of) in
+      subst (λ (n : ℕ). get_or (set made g (get_or made g 0 + 1)) n 0 ≡ v.ever.made g + 1) (sym same) (get_or-set_same made g (get_or made g 0 + 1) 0 lt ∙ ap (λ (n : ℕ). n + 1) (counts.each g of))
+  go h hof false t = get_or-set_other made g h (get_or made g 0 + 1) 0 (eqb-false h g t) ∙ counts.each h hof
+
+-- The steps.
+
+module _ (k : Known) (z : Arena) (a : ℕ) (s : Shared) (m : Processor) (x : Wanted) (p : placer.Placing) (pending : Option Answer) where
+  abbrev now : View
+  now = view s
+
+  abbrev making-at : Processor
+  making-at = at_task m (makes x p)
+
+  abbrev found : ℕ
+  found = s.words (cell_of (placer.asks p))
+
+  abbrev next : placer.Placing
+  next = placer.goes p found
+
+  abbrev then : Bool → Option Bool → Processor
+  then made asks = at_task (cond made (made_object making-at x p.at) making-at) (made_task m.poll x next asks)
+
+  nothing : (q : Option Answer) → [] ++ option_to_list q ≡ option_to_list q ++ []
+  nothing None = refl
+  nothing (Some r) = refl
+
+  -- what the step comes to, by its kind
+  done : (t : Shared) → ShapesAreGood z.shapes → Steady z a now m → Makes z a now m x p pending → HoldsSwept a now → KeepsItsOwn a now (view t) → place.Changes z (for_whom x) p (placer.acts_at p.stage) now (view t) →
+      place.Comes z a (view t) (for_whom x) (base z a now m x p) (placer.given_at next.stage) next → place.CountsAlone p.stage s t → Kind p p.stage found → Does z a s t making-at pending found
+  done t sg st mk swept own changes comes alone (onward still gives same) = record {
+    after = pending;
+    fine = subst (λ (b : Bool). Fine z a (view t) (then b (placer.given next)) pending) (sym still) (subst (λ (g : Option Bool). Fine z a (view t) (then false g) pending) (sym gives) (record {
+      counts = (steady_on z a now (view t) m o swept own held st).0;
+      knows = (steady_on z a now (view t) m o swept own held st).1;
+      right = come.0;
+      task = record { facts = come.1; register = mk.register; of = mk.of; span = mk.span; apart = mk.apart; named = subst (λ (b : Bool). NamedFrom b p.name pending) (sym same) mk.named };
+    }));
+    ever = o.0 ∙ sym (ap (λ (b : Bool). acted z.shapes s.ever (acting b (op_of x) false)) still);
+    answers = ap (λ (b : Bool). option_to_list (answered_at z.shapes s.ever (acting b (op_of x) false)) ++ option_to_list pending) still ∙ nothing pending ∙ sym (ap (λ (g : Option Bool). option_to_list pending ++ option_to_list (answer_made (marking_at m.poll) p.name g)) gives);
+    full = λ q acts full. absurd (no-act q (ap (λ (b : Bool). acting b (op_of x) false) (sym still) ∙ acts));
+    counts = alone;
+  } where
+    o : KeepsObjects now (view t)
+    o = subst (λ (b : Bool). place.Changes z (for_whom x) p b now (view t)) still changes
+
+    come : place.Comes z a (view t) (for_whom x) (base z a now m x p) None next
+    come = subst (λ (g : Option Bool). place.Comes z a (view t) (for_whom x) (base z a now m x p) g next) gives comes
+
+    held : (y : ℕ) → lists m.poll.local.cache y ≡ true → (view t).holds a y ≡ true
+    held y e = come.0.holds y ∙ listed-held z a now m x p mk.span mk.apart next.stage y e
+
+    no-act : (q : Act) → None ≡ Some q → ⊥
+    no-act q e = cc
+  done t sg st mk swept own changes comes alone (making-it acts gives made unmade) = record {
+    after = Some (answer.Ref p.name);
+    fine = subst (λ (b : Bool). Fine z a (view t) (then b (placer.given next)) (Some (answer.Ref p.name))) (sym acts) (subst (λ (g : Option Bool). Fine z a (view t) (then true g) (Some (answer.Ref p.name))) (sym gives) (record {
+      counts = made-counts z a now (view t) m.made x.g x.d x.t mk.of o.0 st.0;
+      knows = record {
+        stands = record { sits = sits_register z a m.poll x.g x.d (value.Ref (p.at + 1)) st.1.stands.sits; registers = made-registers z a now (view t) m.poll x.g x.d x.t p.at st.1.stands.sits mk.of mk.register o.0 o.1 st.1.stands.registers };
+        knows = record { generation = st.1.knows.generation ∙ sym own.generation; caches = λ c l below is. cached_kept a now (view t) swept own c l (held l.head (lists_it m.poll.local.cache _ l.head l is refl)) (st.1.knows.caches c l below is) };
+      };
+      right = come.0;
+      task = record { facts = come.1; register = mk.register; of = mk.of; span = mk.span; apart = mk.apart; named = subst (λ (b : Bool). NamedFrom b p.name (Some (answer.Ref p.name))) (sym made) refl };
+    }));
+    ever = o.0 ∙ sym (ap (λ (b : Bool). acted z.shapes s.ever (acting b (op_of x) false)) acts);
+    answers = ap (λ (b : Bool). option_to_list (answered_at z.shapes s.ever (acting b (op_of x) false)) ++ option_to_list pending) acts ∙ ap (λ (q : Option Answer). (answer.Ref (next_name s.ever x.g) ∷ []) ++ option_to_list q) none
+        ∙ ap (λ (n : Name). answer.Ref n ∷ []) (sym o.2) ∙ sym (ap (λ (g : Option Bool). option_to_list (Some (answer.Ref p.name)) ++ option_to_list (answer_made (marking_at m.poll) p.name g)) gives);
+    full = λ q e full. absurd (not-full q (ap (λ (b : Bool). acting b (op_of x) false) (sym acts) ∙ e) full);
+    counts = alone;
+  } where
+    o : place.Changes z (for_whom x) p true now (view t)
+    o = subst (λ (b : Bool). place.Changes z (for_whom x) p b now (view t)) acts changes
+
+    come : place.Comes z a (view t) (for_whom x) (base z a now m x p) None next
+    come = subst (λ (g : Option Bool). place.Comes z a (view t) (for_whom x) (base z a now m x p) g next) gives comes
+
+    held : (y : ℕ) → lists m.poll.local.cache y ≡ true → (view t).holds a y ≡ true
+    held y e = come.0.holds y ∙ listed-held z a now m x p mk.span mk.apart next.stage y e
+
+    none : pending ≡ None
+    none = subst (λ (b : Bool). NamedFrom b p.name pending) unmade mk.named
+
+    not-full : (q : Act) → Some (record { op = op_of x; full = false }) ≡ Some q → q.full ≡ true → ⊥
+    not-full q e f = let same : record { op = op_of x; full = false } ≡ q = cc in absurd (cc (ap (λ (r : Act). r.full) same, f))
+  done t sg st mk swept own changes comes alone (ending asks still made last) = over asks last where
+    o : KeepsObjects now (view t)
+    o = subst (λ (b : Bool). place.Changes z (for_whom x) p b now (view t)) still changes
+
+    named : pending ≡ Some (answer.Ref p.name)
+    named = subst (λ (b : Bool). NamedFrom b p.name pending) made mk.named
+
+    no-act : (q : Act) → acting (placer.acts_at p.stage) (op_of x) false ≡ Some q → ⊥
+    no-act q acts = let none : acting (placer.acts_at p.stage) (op_of x) false ≡ None = ap (λ (b : Bool). acting b (op_of x) false) still in cc
+
+    gives : (b : Bool) → next.stage ≡ making.Ended b → placer.given next ≡ Some b
+    gives b ended = ap placer.given_at ended
+
+    come : (b : Bool) → next.stage ≡ making.Ended b → place.Comes z a (view t) (for_whom x) (base z a now m x p) (Some b) next
+    come b ended = subst (λ (g : Option Bool). place.Comes z a (view t) (for_whom x) (base z a now m x p) g next) (gives b ended) comes
+
+    held : (b : Bool) → next.stage ≡ making.Ended b → (y : ℕ) → (view t).holds a y ≡ lists m.poll.local.cache y
+    held b ended y = (come b ended).0.holds y ∙ ap (λ (q : PlaceStage). place.held_by q p.span (p.at / 1024) (base z a now m x p) y) ended ∙ held-last z a now m x p mk.span mk.apart b y
+
+    has : (b : Bool) → next.stage ≡ making.Ended b → HasCached a (view t) m
+    has b ended = let c = come b ended in record { locked = c.0.locked; holds = held b ended; laying = c.0.laying; freeing = c.0.freeing }
+
+    steady : (b : Bool) → next.stage ≡ making.Ended b → Steady z a (view t) m
+    steady b ended = steady_on z a now (view t) m o swept own (λ y e. held b ended y ∙ e) st
+
+    -- it is answered, or the request for a cycle, or the assist, comes first
+    over-with : (b : Bool) → next.stage ≡ making.Ended b → (after : Option Answer) → Fine z a (view t) (then false (Some b)) after → option_to_list pending ≡ option_to_list after ++ option_to_list (answer_made (marking_at m.poll) p.name (Some b)) → Does z a s t making-at pending found
+    over-with b ended after fine answers = record {
+      after = after;
+      fine = subst (λ (c : Bool). Fine z a (view t) (then c (placer.given next)) after) (sym still) (subst (λ (g : Option Bool). Fine z a (view t) (then false g) after) (sym (gives b ended)) fine);
+      ever = o.0 ∙ sym (ap (λ (c : Bool). acted z.shapes s.ever (acting c (op_of x) false)) still);
+      answers = ap (λ (c : Bool). option_to_list (answered_at z.shapes s.ever (acting c (op_of x) false)) ++ option_to_list pending) still ∙ answers ∙ sym (ap (λ (g : Option Bool). option_to_list after ++ option_to_list (answer_made (marking_at m.poll) p.name g)) (gives b ended));
+      full = λ q acts full. absurd (no-act q acts);
+      counts = alone;
+    }
+
+    over : (b : Bool) → next.stage ≡ making.Ended b → Does z a s t making-at pending found
+    over true ended = over-with true ended pending (record { counts = (steady true ended).0; knows = (steady true ended).1; right = has true ended; task = named }) (nothing pending)
+    over false ended = by (marking_at m.poll) refl where
+      sits : Sits z a m.poll
+      sits = (steady false ended).1.stands.sits
+
+      held_fits : IsHeld m.poll.layout m.poll.local.held
+      held_fits = subst (λ (l : Layout). IsHeld l m.poll.local.held) (sym sits.layout) sits.held
+
+      within : AssistWithin z.layout (assisting m.poll x)
+      within = subst (λ (l : Layout). AssistWithin l (assisting m.poll x)) sits.layout (k.assists_within.begins m.poll.layout m.poll.seat m.poll.local.held (8 * x.slot) m.poll.local.owed m.poll.local.spent held_fits)
+
+      -- while marking is on it assists first
+      by : (c : Bool) → marking_at m.poll ≡ c → Does z a s t making-at pending found
+      by true e = over-with false ended pending
+          (subst (λ (c : Bool). Fine z a (view t) (at_task making-at (cond c (assists x p.name (assisting m.poll x)) Idle)) pending) (sym e) (record { counts = (steady false ended).0; knows = (steady false ended).1; right = has false ended; task = (named, within) }))
+          (nothing pending ∙ sym (ap (λ (c : Bool). option_to_list pending ++ option_to_list (cond c None (Some (answer.Ref p.name)))) e))
+      by false e = over-with false ended None
+          (subst (λ (c : Bool). Fine z a (view t) (at_task making-at (cond c (assists x p.name (assisting m.poll x)) Idle)) None) (sym e) (idle z a (view t) m (steady false ended) (has false ended)))
+          (ap option_to_list named ∙ sym (ap (λ (c : Bool). [] ++ option_to_list (cond c None (Some (answer.Ref p.name)))) e))
+
+  pub place-steps : ShapesAreGood z.shapes → Good z now → Fine z a now making-at pending → Steps z a s (placer.asks p) (λ t. Does z a s t making-at pending found)
+  place-steps sg g fine =
+      let mk : Makes z a now m x p pending = record { facts = fine.task.facts; register = fine.task.register; of = fine.task.of; span = fine.task.span; apart = fine.task.apart; named = fine.task.named } in
+      let st : Steady z a now m = (fine.counts, fine.knows) in
+      let l = k.place.own_step z a s (for_whom x) (base z a now m x p) p g fine.right mk.facts in
+      record { move = l.move; may = l.may; words_are = l.words_are; after = done (moved z a s l.move) sg st mk (holds_swept z a now g) (k.own z a s l.move g l.may) l.after.0 l.after.1 l.after.2 (kind-of p p.stage found (unended mk.facts)) } where
+        unended : place.Facts z a now (for_whom x) p → (asks : Bool) → p.stage ≡ making.Ended asks → ⊥
+        unended facts asks e = subst (λ (q : PlaceStage). place.FactsAt z a now (for_whom x) (place.base p) q) e facts
+
+-- The request for a cycle: the object is answered behind it.
+pub want-steps : Known → (w : Wanted) (n : Name) → StepAt (wants w n)
+want-steps k w n z a s m pending sg good fine = record {
+  move = Quiet (ask.Or cell.Want 1);
+  may = tt;
+  words_are = refl;
+  after = record {
+    after = None;
+    fine = idle z a (view t) m steady (record { locked = fine.right.locked; holds = fine.right.holds; laying = fine.right.laying; freeing = fine.right.freeing });
+    ever = refl;
+    answers = ap option_to_list fine.task;
+    full = λ q acts full. absurd (no-act q acts);
+    counts = tt;
+  };
+} where
+  t : Shared
+  t = moved z a s (Quiet (ask.Or cell.Want 1))
+
+  steady : Steady z a (view t) m
+  steady = steady_on z a (view s) (view t) m (refl, refl) (holds_swept z a (view s) good) (k.own z a s (Quiet (ask.Or cell.Want 1)) good tt) (λ y e. fine.right.holds y ∙ e) (fine.counts, fine.knows)
+
+  no-act : (q : Act) → None ≡ Some q → ⊥
+  no-act q e = cc

@@ -1,0 +1,114 @@
+-- Own steps of a poll, of a leave, and of the waits of a `gc` and of a new object. Each is known by its law alone.
+use Rattle.std.proofs.Common.{◌≡◌, ℕ, true, false, is_some, [], ◌∷◌, ◌++◌, Option, Some, None, refl, sym, ap, subst, ◌∙◌}
+use Rattle.std.specs.Option.{option_to_list}
+use Rattle.std.specs.Prelude.{is_none}
+use Rattle.gh_base.specs.declared.operation.Op.TheVariants as op
+use Rattle.gh_base.specs.declared.value.Answer.TheVariants as answer
+use Rattle.gh_mutator_heap.proofs.Owning.Vocabulary.{Act, acted, acting, answered_at, at_task, CountsAlone, Does, Fine, KnowsCounts, OwnStepAt, ShapesAreGood, Wants}
+use Rattle.gh_mutator.specs.declared.task.Task.TheVariants as task
+use Rattle.gh_mutator.specs.declared.wait.Wait.{Wait as WaitState}
+use Rattle.gh_mutator.specs.Leave as leave
+use Rattle.gh_mutator.specs.Listing.{acts, after_gc, after_leave, after_poll, gives, once_ended, takes}
+use Rattle.gh_mutator.specs.New.{after_wait, waits}
+use Rattle.gh_mutator.specs.Poll as poll
+use Rattle.gh_mutator_heap.specs.PollHeapLaws.{Leaves, Polls, Waits}
+use Rattle.gh_mutator.specs.Processor.{at_poll}
+use Rattle.gh_mutator.specs.Vocabulary.{Answer, cell_of, Leaving, Op, Waiting}
+use Rattle.gh_mutator_heap.specs.Vocabulary.{answer_of, Arena, ever_after, Good, IsSought, KeepsObjects, moved, Shared, view, Processor, Wait, Wanted}
+use Rattle.gh_mutator.specs.Wait as wait
+use Rattle.gh_mutator_heap.proofs.Owning.Known.{Known}
+use Rattle.gh_mutator_heap.proofs.Owning.Searching.{same_wants, seek-begins}
+use Rattle.gh_mutator_heap.proofs.Owning.Statements.{at_its_task, not_full, StepAt, StepFrom}
+use Rattle.gh_mutator_heap.proofs.Owning.Steady.{goroutine_few, same_counts}
+
+module _ (z : Arena) (s : Shared) (o : Op) (b : Answer) (is : answer_of z.shapes s.ever o ≡ b) (stays : ever_after z.shapes s.ever o (answer_of z.shapes s.ever o) ≡ s.ever) where
+  -- an operation that changes nothing in the heap that never frees acts where it ends
+  acted_once : (g : Option (Unit {0})) → acted z.shapes s.ever (acting (is_some g) o false) ≡ s.ever
+  acted_once None = refl
+  acted_once (Some y) = stays
+
+  answered_then : (g : Option (Unit {0})) → option_to_list (answered_at z.shapes s.ever (acting (is_some g) o false)) ++ [] ≡ [] ++ option_to_list (once_ended g b)
+  answered_then None = refl
+  answered_then (Some y) = ap (λ (x : Answer). x ∷ []) is
+
+  ends_once : (a : ℕ) (t : Shared) (m : Processor) (found : ℕ) (g : Option (Unit {0})) → t.ever ≡ s.ever → acts m found ≡ acting (is_some g) o false → gives m found ≡ once_ended g b → Fine z a (view t) (takes z.shapes m found) None → CountsAlone m.task s t → Does z a s t m None found
+  ends_once a t m found g same act give fine alone = record {
+    after = None;
+    fine = fine;
+    ever = same ∙ sym (ap (acted z.shapes s.ever) act ∙ acted_once g);
+    answers = ap (λ (x : Option Act). option_to_list (answered_at z.shapes s.ever x) ++ []) act ∙ answered_then g ∙ ap (λ (x : Option Answer). [] ++ option_to_list x) (sym give);
+    full = λ y e full. absurd (not_full (is_some g) o y (sym act ∙ e) full);
+    counts = alone;
+  }
+
+module _ (k : Known) (z : Arena) (a : ℕ) (s : Shared) (m : Processor) (good : Good z (view s)) (counts : KnowsCounts z a (view s) m.made) where
+  -- A poll.
+
+  poll_fine : (t : Shared) (found : ℕ) → KeepsObjects (view s) (view t) → Polls z a (view t) (poll.goes m.poll found) → (g : Option (Unit {0})) → poll.gives m.poll found ≡ g → Fine z a (view t) (after_poll m (poll.goes m.poll found) g) None
+  poll_fine t found o p None e = record { counts = same_counts z a (view s) (view t) m.made o counts; knows = p.1; right = p.0; task = refl }
+  poll_fine t found o p (Some y) e = let r = k.polls.ends z a (view t) (poll.goes m.poll found) (ap is_none e) p in
+      record { counts = same_counts z a (view s) (view t) m.made o counts; knows = r.1; right = r.0; task = refl }
+
+  poll_step : Polls z a (view s) m.poll → StepFrom z a s (at_task m task.Poll) None
+  poll_step p = let found = s.words (cell_of (poll.asks m.poll)) in let l = k.polls.own_step z a s m.poll good p in
+      record { move = l.move; may = l.may; words_are = l.words_are; after = ends_once z s op.Poll answer.Done refl refl a (moved z a s l.move) (at_task m task.Poll) found (poll.gives m.poll found) l.after.0.0 refl refl (poll_fine (moved z a s l.move) found l.after.0 l.after.1 (poll.gives m.poll found) refl) tt }
+
+  -- A leave.
+
+  leave_fine : (t : Shared) (x : Leaving) (found : ℕ) → KeepsObjects (view s) (view t) → Leaves z a (view t) m.poll (leave.goes x found) → (g : Option (Unit {0})) → leave.gives x found ≡ g → Fine z a (view t) (after_leave m (leave.goes x found) g) None
+  leave_fine t x found o p None e = record { counts = same_counts z a (view s) (view t) m.made o counts; knows = p.1; right = p.0; task = refl }
+  leave_fine t x found o p (Some y) e = let r = k.leaves.ends z a (view t) m.poll (leave.goes x found) (ap is_none e) p in
+      record { counts = same_counts z a (view s) (view t) m.made o counts; knows = r.1; right = r.0; task = refl }
+
+  leave_step : (x : Leaving) → Leaves z a (view s) m.poll x → StepFrom z a s (at_task m (task.Leave x)) None
+  leave_step x p = let found = s.words (cell_of (leave.asks x)) in let l = k.leaves.own_step z a s m.poll x good p in
+      record { move = l.move; may = l.may; words_are = l.words_are; after = ends_once z s op.Leave answer.Done refl refl a (moved z a s l.move) (at_task m (task.Leave x)) found (leave.gives x found) l.after.0.0 refl refl (leave_fine (moved z a s l.move) x found l.after.0 l.after.1 (leave.gives x found) refl) tt }
+
+  -- A wait.
+  module _ (x : WaitState) (p : Waits z a (view s) (wait.waiting x m.poll)) where
+    abbrev now : Waiting
+    now = wait.waiting x m.poll
+
+    abbrev found : ℕ
+    found = s.words (cell_of (wait.asks now))
+
+    abbrev next : Waiting
+    next = wait.goes now found
+
+    -- of a `gc`
+    gc_fine : (t : Shared) (g : ℕ) → KeepsObjects (view s) (view t) → Waits z a (view t) next → (y : Option (Unit {0})) → wait.gives now found ≡ y → Fine z a (view t) (after_gc m g next y) None
+    gc_fine t g o w None e = record { counts = same_counts z a (view s) (view t) m.made o counts; knows = w.1; right = w.0; task = refl }
+    gc_fine t g o w (Some y) e = let r = k.waits.ends z a (view t) next (ap is_none e) w in
+        record { counts = same_counts z a (view s) (view t) m.made o counts; knows = r.1; right = r.0; task = refl }
+
+    gc_step : (g : ℕ) → StepFrom z a s (at_task m (task.Gc g x)) None
+    gc_step g = let l = k.waits.own_step z a s now good p in
+        record { move = l.move; may = l.may; words_are = l.words_are; after = ends_once z s (op.Gc g) answer.Swept refl refl a (moved z a s l.move) (at_task m (task.Gc g x)) found (wait.gives now found) l.after.0.0 refl refl (gc_fine (moved z a s l.move) g l.after.0 l.after.1 (wait.gives now found) refl) tt }
+
+    -- of a new object, whose slot is searched for once more behind it
+    module _ (w : Wanted) (sg : ShapesAreGood z.shapes) (wants : Wants z a (view s) w) where
+      sought : IsSought w.sought
+      sought = subst (λ (y : Wanted). IsSought y.sought) (sym wants.is) (k.wants.sound z.shapes w.g w.d w.t sg.fit wants.type (goroutine_few z a w.g wants.runs.of, wants.register)).sought
+
+      new_fine : (t : Shared) → KeepsObjects (view s) (view t) → Waits z a (view t) next → (y : Option (Unit {0})) → wait.gives now found ≡ y → Fine z a (view t) (after_wait m w next y) None
+      new_fine t o q None e = record { counts = same_counts z a (view s) (view t) m.made o counts; knows = q.1; right = q.0; task = (same_wants z a (view s) (view t) w o wants, refl) }
+      new_fine t o q (Some y) e = let r = k.waits.ends z a (view t) next (ap is_none e) q in
+          seek-begins k z a (view t) (at_poll m next.poll) w true sought (same_wants z a (view s) (view t) w o wants) (same_counts z a (view s) (view t) m.made o counts, r.1) r.0
+
+      new_step : StepFrom z a s (at_task m (waits w now)) None
+      new_step = let l = k.waits.own_step z a s now good p in
+          record { move = l.move; may = l.may; words_are = l.words_are; after = record { after = None; fine = new_fine (moved z a s l.move) l.after.0 l.after.1 (wait.gives now found) refl; ever = l.after.0.0; answers = refl; full = λ y e full. absurd (none y e); counts = tt } } where
+            none : (y : Act) → None ≡ Some y → ⊥
+            none y e = cc
+
+pub poll_steps : Known → OwnStepAt task.Poll
+poll_steps k = at_its_task task.Poll (λ z a s m pending sg good fine. subst (λ (y : Option Answer). StepFrom z a s (at_task m task.Poll) y) (sym fine.task) (poll_step k z a s m good fine.counts (fine.right, fine.knows)))
+
+pub leave_steps : Known → (x : Leaving) → OwnStepAt (task.Leave x)
+leave_steps k x = at_its_task (task.Leave x) (λ z a s m pending sg good fine. subst (λ (y : Option Answer). StepFrom z a s (at_task m (task.Leave x)) y) (sym fine.task) (leave_step k z a s m good fine.counts x (fine.right, fine.knows)))
+
+pub gc_steps : Known → (g : ℕ) (x : WaitState) → OwnStepAt (task.Gc g x)
+gc_steps k g x = at_its_task (task.Gc g x) (λ z a s m pending sg good fine. subst (λ (y : Option Answer). StepFrom z a s (at_task m (task.Gc g x)) y) (sym fine.task) (gc_step k z a s m good fine.counts x (fine.right, fine.knows) g))
+
+pub wait_steps : Known → (w : Wanted) (x : WaitState) → StepAt (task.New (record { wanted = w; stage = Wait x }))
+wait_steps k w x z a s m pending sg good fine = subst (λ (y : Option Answer). StepFrom z a s (at_task m (task.New (record { wanted = w; stage = Wait x }))) y) (sym fine.task.1) (new_step k z a s m good fine.counts x (fine.right, fine.knows) w sg fine.task.0)

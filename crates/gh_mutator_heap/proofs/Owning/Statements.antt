@@ -1,0 +1,132 @@
+-- What the steps of statements come to while others change the heap: one goes on, one is a fault, by one a register takes what was found.
+use Rattle.std.proofs.Common.{◌≡◌, ℕ, ◌-◌, ◌<◌, Bool, true, false, cond, eqb, List, [], ◌∷◌, ◌++◌, Option, Some, None, refl, sym, ap, subst, ◌∙◌, arith}
+use Rattle.std.specs.Prelude.{◌&&◌}
+use Rattle.std.specs.Option.{option_to_list}
+use Rattle.std.proofs.lemmas.Bool.{eq-eqb}
+use Rattle.gh_mutator_heap.proofs.Owning.Vocabulary.{Act, acted, acting, answered, answered_at, asks, at_task, Does, ends, Fine, follows, goes_on, lists, OwnStepAt, set_register, ShapesAreGood, Takes}
+use Rattle.gh_mutator.specs.Vocabulary.{Answer, cell_of, IsOf, Op, REGISTERS, Value}
+use Rattle.gh_mutator_heap.specs.Vocabulary.{answer_of, Arena, ever_after, EverValue, Good, Means, moved, Right, Runs, Shared, Steps, told, View, view, with_register, Idle, Processor, Step, Task}
+use Rattle.gh_base.specs.declared.cell.Ask.TheVariants as ask
+use Rattle.gh_base.specs.declared.cell.Cell.{Cell}
+use Rattle.gh_base.specs.declared.value.Answer.TheVariants as answer
+use Rattle.gh_base.specs.declared.value.Value.TheVariants as value
+use Rattle.gh_model.specs.declared.EverValue.TheVariants as ever
+use Rattle.gh_heap.specs.Moves as moves
+use Rattle.gh_mutator.specs.Fields.{takes, told as told_by}
+use Rattle.gh_mutator.specs.Listing.{applied}
+use Rattle.gh_mutator_heap.proofs.Owning.Known.{Known}
+use Rattle.gh_mutator_heap.proofs.Owning.Steady.{HasCached, rights_with, Steady, steady_register}
+
+abbrev pub StepFrom : Arena → (a : ℕ) → Shared → Processor → Option Answer → Type 0
+StepFrom z a s m pending = Steps z a s (asks m) (λ t. Does z a s t m pending (s.words (cell_of (asks m))))
+
+abbrev pub StepAt : Task → Type 0
+StepAt q = (z : Arena) (a : ℕ) (s : Shared) (m : Processor) (pending : Option Answer) → ShapesAreGood z.shapes → Good z (view s) → Fine z a (view s) (at_task m q) pending → StepFrom z a s (at_task m q) pending
+
+-- the processor is at its task
+pub at_its_task : (q : Task) → StepAt q → OwnStepAt q
+at_its_task q f z a s m pending shapes is g x =
+    subst (λ (p : Task). StepFrom z a s (at_task m p) pending) (sym is) (f z a s m pending shapes g (subst (λ (p : Task). Fine z a (view s) (at_task m p) pending) is x))
+
+-- where an operation has room, nothing is to be said of that
+abbrev pub act_of : Op → Act
+act_of o = record { op = o; full = false }
+
+pub has_room : (P : Act → Type 0) (o : Op) (x : Act) → Some (act_of o) ≡ Some x → x.full ≡ true → P x
+has_room P o x is full = let Q : Option Act → Bool = λ y. was_full y in absurd (cc (ap Q is, full)) where
+  was_full : Option Act → Bool
+  was_full None = true
+  was_full (Some y) = y.full
+
+pub not_at_point : (P : Act → Type 0) (x : Act) → None ≡ Some x → x.full ≡ true → P x
+not_at_point P x is full = absurd (cc is)
+
+-- what is answered at once, where nothing was pending
+pub answered_once : (b : Answer) (given : List Answer) (pending : Option Answer) → pending ≡ None → b ∷ [] ≡ given → (b ∷ []) ++ option_to_list pending ≡ given
+answered_once b given None none is = is
+answered_once b given (Some p) none is = absurd (cc none)
+
+-- what a statement's step comes to in t, from s: of operation o, with register d of goroutine g
+pub record Comes (S : Type 0) (into : S → Task) (z : Arena) (a : ℕ) (s t : Shared) (m : Processor) (g d : ℕ) (o : Op) (pending : Option Answer) (step : Step S) : Type 0 where
+  pub after : Option Answer
+  pub fine : Fine z a (view t) (applied into m g d step) after
+  pub ever : t.ever ≡ acted z.shapes s.ever (acting step.acts o false)
+  pub answers : option_to_list (answered_at z.shapes s.ever (acting step.acts o false)) ++ option_to_list pending ≡ option_to_list after ++ option_to_list (answered step.then)
+
+-- there was room
+pub not_full : (b : Bool) (o : Op) (y : Act) → acting b o false ≡ Some y → y.full ≡ true → ⊥
+not_full true o y is full = cc
+not_full false o y is full = cc
+
+pub idle : (z : Arena) (a : ℕ) (v : View) (m : Processor) → Steady z a v m → HasCached a v m → Fine z a v (at_task m Idle) None
+idle z a v m steady right = record { counts = steady.0; knows = steady.1; right = right; task = refl }
+
+module _ (S : Type 0) (into : S → Task) (z : Arena) (a : ℕ) (s : Shared) (m : Processor) (g d : ℕ) (o : Op) (steady : Steady z a (view s) m) (right : HasCached a (view s) m) where
+  -- it goes on
+  pub further : (next : S) → Fine z a (view s) (at_task m (into next)) None → Comes S into z a s s m g d o None (goes_on next)
+  further next fine = record { after = None; fine = fine; ever = refl; answers = refl }
+
+  -- it is a fault
+  pub faulted : (f : Answer) → answer_of z.shapes s.ever o ≡ f → ever_after z.shapes s.ever o f ≡ s.ever → Comes S into z a s s m g d o None (ends f)
+  faulted f is stays = record {
+    after = None;
+    fine = idle z a (view s) m steady right;
+    ever = sym (ap (λ (y : Answer). ever_after z.shapes s.ever o y) is ∙ stays);
+    answers = ap (λ (y : Answer). y ∷ []) is;
+  }
+
+  -- The register takes a value that was found; where that is a reference, its object's name is loaded next.
+  module _ (naming : ℕ → S) where
+    abbrev pub Names : Type 0
+    Names = (at : ℕ) (v : View) (x : Processor) (p : Option Answer) → Steady z a v x → HasCached a v x → Takes z a v g d at p → Fine z a v (at_task x (into (naming at))) p
+
+    abbrev pending_of : EverValue → Option Answer
+    pending_of (ever.Ref n) = Some (answer.Ref n)
+    pending_of _ = None
+
+    tells : (x : EverValue) (w : Value) → Means s.place s.ever.made x w → told x ∷ [] ≡ option_to_list (pending_of x) ++ option_to_list (answered (told_by naming w))
+    tells ever.Nil value.Nil h = refl
+    tells (ever.Int i) (value.Int j) h = ap (λ (y : ℕ). answer.Int y ∷ []) h
+    tells (ever.Ref n) (value.Ref r) h = refl
+    tells ever.Nil (value.Int j) h = absurd h
+    tells ever.Nil (value.Ref r) h = absurd h
+    tells (ever.Int i) value.Nil h = absurd h
+    tells (ever.Int i) (value.Ref r) h = absurd h
+    tells (ever.Ref n) value.Nil h = absurd h
+    tells (ever.Ref n) (value.Int j) h = absurd h
+
+    module _ (names : Names) (runs : Runs z (view s) a g) (few : d < REGISTERS) where
+      abbrev then : EverValue → View
+      then x = record (view s) { ever = with_register s.ever g d x }
+
+      here : (x : EverValue) → cond (eqb g g && eqb d d) x (s.ever.register g d) ≡ x
+      here x = rw (eq-eqb g g refl, eq-eqb d d refl) refl
+
+      fine_then : (x : EverValue) (w : Value) → Means s.place s.ever.made x w → Steady z a (then x) (set_register m g d w) → Right a (then x) false (lists m.poll.local.cache) None → Fine z a (then x) (at_task (set_register m g d w) (follows into (told_by naming w))) (pending_of x)
+      fine_then ever.Nil value.Nil h st ri = idle z a (then ever.Nil) (set_register m g d value.Nil) st ri
+      fine_then (ever.Int i) (value.Int j) h st ri = idle z a (then (ever.Int i)) (set_register m g d (value.Int j)) st ri
+      fine_then (ever.Ref n) (value.Ref r) h st ri = names (r - 1) (then (ever.Ref n)) (set_register m g d (value.Ref r)) (Some (answer.Ref n)) st ri (record {
+        n = n;
+        through = record { runs = record { of = runs.of; goes_on = runs.goes_on }; register = few; names = here (ever.Ref n); made = h.1; here = let is = h.0 in omega arith };
+        answers = refl;
+      })
+      fine_then ever.Nil (value.Int j) h st ri = absurd h
+      fine_then ever.Nil (value.Ref r) h st ri = absurd h
+      fine_then (ever.Int i) value.Nil h st ri = absurd h
+      fine_then (ever.Int i) (value.Ref r) h st ri = absurd h
+      fine_then (ever.Ref n) value.Nil h st ri = absurd h
+      fine_then (ever.Ref n) (value.Int j) h st ri = absurd h
+
+      pub took : Known → (c : Cell) (x : EverValue) (w : Value) → Means s.place s.ever.made x w → answer_of z.shapes s.ever o ≡ told x → ever_after z.shapes s.ever o (told x) ≡ with_register s.ever g d x →
+          Comes S into z a s (moved z a s (moves.Takes (ask.Load c) g d x)) m g d o None (takes naming w)
+      took laws c x w means is goes = record {
+        after = pending_of x;
+        fine = fine_then x w means (steady_register z a (view s) m g d x w runs.of few means steady) ((laws.follow z a s false (lists m.poll.local.cache) None right).takes (ask.Load c) g d x);
+        ever = sym (ap (λ (y : Answer). ever_after z.shapes s.ever o y) is ∙ goes);
+        answers = ap (λ (y : Answer). y ∷ []) is ∙ tells x w means;
+      }
+
+-- a register takes a value that needs no name, and the operation is over
+pub takes_last : (z : Arena) (a : ℕ) (v : View) (m : Processor) (g d : ℕ) (x : EverValue) (y : Value) → Steady z a v m → HasCached a v m → IsOf z a g → d < REGISTERS → Means v.place v.ever.made x y → Fine z a (record v { ever = with_register v.ever g d x }) (at_task (set_register m g d y) Idle) None
+takes_last z a v m g d x y steady right of low means =
+    idle z a (record v { ever = with_register v.ever g d x }) (set_register m g d y) (steady_register z a v m g d x y of low means steady) (rights_with a v v.field v.global (with_register v.ever g d x) false (lists m.poll.local.cache) None None right)

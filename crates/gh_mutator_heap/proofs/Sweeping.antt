@@ -1,0 +1,72 @@
+-- Where a processor begins a sweep it has found the head of an unswept span.
+use Rattle.std.proofs.Common.{subst, ◌≡◌, ℕ, Bool, Option, Some, None, refl, sym, ap, ◌∙◌}
+use Rattle.gh_alloc.specs.Search as search
+use Rattle.gh_alloc.specs.SearchFacts.{SweepsHere}
+use Rattle.gh_sweep.specs.Listing.{opening, Sweeping}
+use Rattle.gh_sweep.specs.Running.{BeginsSweep, RunsSweeps}
+use Rattle.gh_mutator.specs.declared.task.Task.TheVariants as task
+use Rattle.gh_mutator_heap.specs.Facts.{FactsAt, rest}
+use Rattle.gh_mutator.specs.New.{searches}
+use Rattle.gh_mutator_heap.specs.Sweeping.{ProcessorsRunSweeps}
+use Rattle.gh_mutator.specs.Sweeping.{sweep_at, sweep_in, IsSearching, SweepsAreRunOn}
+use Rattle.gh_mutator.specs.Vocabulary.{Answer}
+use Rattle.gh_mutator_heap.specs.Vocabulary.{Arena, View}
+use Rattle.gh_mutator_heap.proofs.Vocabulary.{Assist, asks_at, Layout, NewStage, Place, Processor, Search, Seeking, takes_at, Task, Wait, Wanted, Want}
+use Rattle.gh_mutator.specs.Listing.{takes}
+
+-- what is known of the search and of the processor by their laws
+pub record Known : Type 0 where
+  pub runs : RunsSweeps search.asks search.goes search.sweep_layout search.sweep_generation search.sweep_in
+  pub here : SweepsHere
+  pub run_on : SweepsAreRunOn
+
+module _ (k : Known) (z : Arena) (a : ℕ) (v : View) (m : Processor) (pending : Option Answer) (found : ℕ) (sw : Sweeping) where
+  abbrev Begins : Task → Type 0
+  Begins q = FactsAt z a v m pending q → sweep_at q ≡ None → sweep_in (takes_at z.shapes m q found) ≡ Some sw → BeginsSweep z.layout v.generation (asks_at m q) found sw
+
+  none_so : (o : Option Sweeping) → o ≡ None → o ≡ Some sw → ⊥
+  none_so o none some = cc
+
+  searched : (x : Wanted) (waited : Bool) (y : Seeking) → Begins (searches x waited y)
+  searched x waited y f none some =
+      let there : search.sweep_in (search.goes y found) ≡ Some sw = sym (k.run_on.searches z.shapes m x waited y found) ∙ some in
+      let b = k.runs.begins y found sw none there in
+      let here = k.here z a v (rest m x) y f.facts in
+      record {
+        page = b.page;
+        head = b.head;
+        step_is = b.step_is;
+        head_is = b.head_is;
+        number = b.number ∙ here.1;
+        sweep_is = b.sweep_is ∙ ap (λ (l : Layout). opening l b.page b.head) here.0;
+      }
+
+  other : (q : Task) → m.task ≡ q → (IsSearching q → ⊥) → Begins q
+  other q is not f none some = absurd (none_so (sweep_in (takes z.shapes m found)) (k.run_on.others z.shapes m found (ap sweep_at is ∙ none) (λ e. not (subst IsSearching is e))) (ap (λ (t : Task). sweep_in (takes_at z.shapes m t found)) is ∙ some))
+
+  begins_at : (q : Task) → m.task ≡ q → Begins q
+  begins_at task.Idle is = other task.Idle is (λ e. e)
+  begins_at task.Left is = other task.Left is (λ e. e)
+  begins_at (task.Load x) is = other (task.Load x) is (λ e. e)
+  begins_at (task.Store x) is = other (task.Store x) is (λ e. e)
+  begins_at (task.Global x) is = other (task.Global x) is (λ e. e)
+  begins_at (task.Register x) is = other (task.Register x) is (λ e. e)
+  begins_at (task.New x) is = by x.stage is where
+    by : (n : NewStage) → m.task ≡ task.New (record { wanted = x.wanted; stage = n }) → Begins (task.New (record { wanted = x.wanted; stage = n }))
+    by (Search waited y) is = searched x.wanted waited y
+    by (Wait y) is = other (task.New (record { wanted = x.wanted; stage = Wait y })) is (λ e. e)
+    by (Place y) is = other (task.New (record { wanted = x.wanted; stage = Place y })) is (λ e. e)
+    by (Want n) is = other (task.New (record { wanted = x.wanted; stage = Want n })) is (λ e. e)
+    by (Assist n y) is = other (task.New (record { wanted = x.wanted; stage = Assist n y })) is (λ e. e)
+  begins_at (task.Gc g x) is = other (task.Gc g x) is (λ e. e)
+  begins_at task.Poll is = other task.Poll is (λ e. e)
+  begins_at (task.End g) is = other (task.End g) is (λ e. e)
+  begins_at (task.Leave x) is = other (task.Leave x) is (λ e. e)
+
+pub runs_sweeps : Known → ProcessorsRunSweeps
+runs_sweeps k = record {
+  at_first = k.run_on.at_first;
+  begun = k.run_on.begun;
+  on = k.run_on.on;
+  begins = λ z a v m pending found sw fine none some. begins_at k z a v m pending found sw m.task refl fine.task none some;
+}

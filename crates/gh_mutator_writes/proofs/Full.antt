@@ -1,0 +1,300 @@
+-- A `new` that is answered `full` has waited for a cycle, and has found no slot before and behind that.
+use Rattle.std.proofs.Common.{◌≡◌, ℕ, zero, suc, ◌<◌, ◌≤◌, Bool, true, false, not, cond, ltb, List, [], ◌∷◌, get_or, refl, sym, ap, ◌∙◌, subst, ◌⊎◌, inl, inr, Option, Some, None, arith}
+use Rattle.gh_base.specs.declared.operation.Op.TheVariants as op
+use Rattle.gh_base.specs.declared.value.Answer.TheVariants as answer
+use Rattle.gh_base.specs.declared.value.Value.TheVariants as value
+use Rattle.gh_alloc.specs.Place as place
+use Rattle.gh_alloc.specs.Search as search
+use Rattle.gh_assist.specs.Listing as assist
+use Rattle.gh_mutator.specs.declared.task.Task.TheVariants as task
+use Rattle.gh_mutator.specs.declared.wait.WaitStage.TheVariants as wait_stage
+use Rattle.gh_mutator_writes.specs.Full.{after, FullChangesLittle, HasWaited, is_waiting}
+use Rattle.gh_mutator.specs.Local.{cached_in, marking_at, stacks_with}
+use Rattle.gh_mutator.specs.Mutating.{asks, begins, gives, goes, listing, marks_after, Mutating}
+use Rattle.gh_mutator.specs.New.{gives_at as gives_new, seeking, takes_at as takes_new, made_task, answer_assist, answer_made}
+use Rattle.gh_mutator.specs.Stays.{ends_later, wait_seat, wait_stacks, wait_stays, search_wants}
+use Rattle.gh_mutator.specs.Vocabulary.{Polling}
+use Rattle.gh_mutator.specs.Wait as wait
+use Rattle.gh_mutator_writes.proofs.Vocabulary.{after_assist, Assist, Assisting, assisting, assists, after_search, after_wait, answer_search, At, at_poll, cache_span, cache_with, CachedSpan, Found, gives_at, is_looking, Large, Name, NewStage, NoRoom, Place, Placing, Processor, rested, Search, Seeking, set, Shape, Small, Sought, span_index, takes_at, Task, Wait, Waiting, WaitStage, WaitState, Wanted, wanted_of, Want}
+use Rattle.gh_mutator_writes.proofs.Refusing.{KeptFor, kept, kept_first, refuses_none, search_looks}
+use Rattle.gh_mutator_writes.proofs.Telling.{held_before}
+
+-- what is cleared reads as none
+cleared : (cache : List (Option CachedSpan)) (i : ℕ) → get_or (set cache i None) i None ≡ None
+cleared [] i = refl
+cleared (c ∷ cs) zero = refl
+cleared (c ∷ cs) (suc i) = cleared cs i
+
+none_in : (x : Sought) (cache : List (Option CachedSpan)) (c : Option CachedSpan) → ((k : _) → x ≡ Small k → c ≡ None) → cached_in (cache_with cache x c) x ≡ None
+none_in (Large pages noscan) cache c none = refl
+none_in (Small k) cache c none = rw (none k refl) (cleared cache (span_index k))
+
+-- a wait knows the same cycle until it ends
+poll_knows : (w : Waiting) (p : Polling) (out : Option (Unit {0})) → (wait.after_poll w p out).wait.known ≡ w.wait.known
+poll_knows w p None = refl
+poll_knows w p (Some x) = refl
+
+swept_knows : (w : Waiting) (later : Bool) → (cond later (wait.at_stage w wait_stage.Ended) (wait.polling w)).wait.known ≡ w.wait.known
+swept_knows w true = refl
+swept_knows w false = refl
+
+knows_at : (w : Waiting) (stage : WaitStage) (v : ℕ) → (wait.goes_at w stage v).wait.known ≡ w.wait.known
+knows_at w wait_stage.Want v = refl
+knows_at w wait_stage.Polling v = poll_knows w _ _
+knows_at w wait_stage.LoadSwept v = swept_knows w (ltb w.wait.known v)
+knows_at w wait_stage.Ended v = refl
+
+-- the search is over: no `full` is answered any more
+abbrev is_over : NewStage → Bool
+is_over (Place p) = true
+is_over (Want n) = true
+is_over (Assist n x) = true
+is_over _ = false
+
+abbrev is_past : Task → Bool
+is_past task.Idle = true
+is_past (task.New x) = is_over x.stage
+is_past _ = false
+
+made_past : (p : Polling) (w : Wanted) (n : Name) (marking : Bool) → is_past (cond marking (assists w n (assisting p w)) task.Idle) ≡ true
+made_past p w n true = refl
+made_past p w n false = refl
+
+place_past : (p : Polling) (w : Wanted) (x : Placing) (asks : Option Bool) → is_past (made_task p w x asks) ≡ true
+place_past p w x None = refl
+place_past p w x (Some true) = refl
+place_past p w x (Some false) = made_past p w x.name (marking_at p)
+
+assist_past : (m : Processor) (w : Wanted) (n : Name) (x : Assisting) (out : Option (Unit {0})) → is_past (after_assist m w n x out).task ≡ true
+assist_past m w n x None = refl
+assist_past m w n x (Some y) = refl
+
+new_past : (shapes : List Shape) (m : Processor) (w : Wanted) (s : NewStage) (v : ℕ) → is_over s ≡ true → is_past (takes_new shapes m w s v).task ≡ true
+new_past shapes m w (Search waited s) v e = absurd (cc)
+new_past shapes m w (Wait x) v e = absurd (cc)
+new_past shapes m w (Place p) v e = place_past m.poll w (place.goes p v) (place.gives p v)
+new_past shapes m w (Want n) v e = refl
+new_past shapes m w (Assist n x) v e = assist_past m w n (assist.goes x v) (assist.gives x v)
+
+past_at : (shapes : List Shape) (m : Processor) (t : Task) (v : ℕ) → m.task ≡ t → is_past t ≡ true → is_past (takes_at shapes m t v).task ≡ true
+past_at shapes m task.Idle v at e = rw at refl
+past_at shapes m (task.New x) v at e = new_past shapes m x.wanted x.stage v e
+past_at shapes m _ v at e = absurd (cc)
+
+place_answers : (marking : Bool) (n : Name) (asks : Option Bool) → answer_made marking n asks ≡ Some answer.Full → ⊥
+place_answers marking n None e = absurd (cc)
+place_answers marking n (Some true) e = absurd (cc)
+place_answers true n (Some false) e = absurd (cc)
+place_answers false n (Some false) e = absurd (cc)
+
+assist_answers : (n : Name) (out : Option (Unit {0})) → answer_assist n out ≡ Some answer.Full → ⊥
+assist_answers n None e = absurd (cc)
+assist_answers n (Some y) e = absurd (cc)
+
+new_answers : (marking : Bool) (s : NewStage) (v : ℕ) → is_over s ≡ true → gives_new marking s v ≡ Some answer.Full → ⊥
+new_answers marking (Search waited s) v e h = absurd (cc (e))
+new_answers marking (Wait x) v e h = absurd (cc (e))
+new_answers marking (Place p) v e h = place_answers marking p.name (place.gives p v) h
+new_answers marking (Want n) v e h = absurd (cc)
+new_answers marking (Assist n x) v e h = assist_answers n (assist.gives x v) h
+
+past_answers : (m : Processor) (t : Task) (v : ℕ) → is_past t ≡ true → gives_at m t v ≡ Some answer.Full → ⊥
+past_answers m task.Idle v e h = absurd (cc)
+past_answers m (task.New x) v e h = new_answers (marking_at m.poll) x.stage v e h
+past_answers m _ v e h = absurd (cc)
+
+-- `full` is answered behind the wait alone
+full_is : (waited : Bool) (out : Option Found) → answer_search waited out ≡ Some answer.Full → (waited ≡ true) × (out ≡ Some NoRoom)
+full_is waited None e = absurd (cc)
+full_is waited (Some (At a)) e = absurd (cc)
+full_is true (Some NoRoom) e = (refl, refl)
+full_is false (Some NoRoom) e = absurd (cc)
+
+module _ (m : Mutating) (g d t : ℕ) (found : ℕ → ℕ) where
+  abbrev w : Wanted
+  w = wanted_of m.shapes g d t
+
+  abbrev now : ℕ → Mutating
+  now n = after m g d t found n
+
+  -- the machine at this stage, with this poll
+  abbrev state : Polling → NewStage → Mutating
+  state p s = record m { processor = record (m.processor) { poll = p; task = task.New (record { wanted = w; stage = s }) } }
+
+  record Seeks (s : Seeking) : Type 0 where
+    wanted : s.find.wanted ≡ w.sought
+    kept : KeptFor w.sought s
+
+  abbrev Facts : (i : ℕ) → Polling → NewStage → Type 0
+  Facts i p (Search true s) = HasWaited m g d t found i × Seeks s
+  Facts i p (Search false s) = (p.local.view.begun ≡ m.processor.poll.local.view.begun) × Seeks s
+  Facts i p (Wait x) = x.known ≡ m.processor.poll.local.view.begun
+  Facts i p (Place q) = ⊥
+  Facts i p (Want n) = ⊥
+  Facts i p (Assist n x) = ⊥
+
+  -- the poll's registers, layout and seat are those of the beginning
+  record Same (p : Polling) : Type 0 where
+    stacks : p.local.stacks ≡ m.processor.poll.local.stacks
+    layout : p.layout ≡ m.processor.poll.layout
+    seat : p.seat ≡ m.processor.poll.seat
+
+  record Stands (i : ℕ) (x : Mutating) : Type 0 where
+    p : Polling
+    s : NewStage
+    is : x ≡ state p s
+    same : Same p
+    facts : Facts i p s
+
+  -- the next step is one of a new object that goes on, or is past
+  abbrev Next : ℕ → Mutating → Type 0
+  Next i x = Stands i x ⊎ (is_past x.processor.task ≡ true)
+
+  seeks_first : (p : Polling) → Seeks (seeking (at_poll m.processor p) w)
+  seeks_first p = record { wanted = refl; kept = kept_first w.sought _ refl }
+
+  -- a step of the search, which is then s
+  abbrev searched : Polling → (waited : Bool) → Seeking → Seeking → Option Found → Mutating
+  searched p waited s n out = record m {
+    processor = after_search m.shapes (cache_span (state p (Search waited s)).processor w.sought n.find.cached) w waited n out;
+    marks = marks_after m.marks (answer_search waited out);
+  }
+
+  recached : (p : Polling) (c : Option CachedSpan) → Same p → Same (record p { local = record (p.local) { cache = cache_with p.local.cache w.sought c } })
+  recached p c k = record { stacks = k.stacks; layout = k.layout; seat = k.seat }
+
+  search_next : (i : ℕ) (p : Polling) (waited : Bool) (s n : Seeking) (out : Option Found) → Same p → Facts i p (Search waited s) → Seeks n → Next (suc i) (searched p waited s n out)
+  search_next i p true s n None k f r = inl (record { p = _; s = Search true n; is = refl; same = recached p n.find.cached k; facts = (later i f.0, r) }) where
+    later : (i : ℕ) → HasWaited m g d t found i → HasWaited m g d t found (suc i)
+    later i h = let less = h.before in record { at_step = h.at_step; before = omega arith; loads = h.loads; later = h.later }
+  search_next i p false s n None k f r = inl (record { p = _; s = Search false n; is = refl; same = recached p n.find.cached k; facts = (f.0, r) })
+  search_next i p waited s n (Some (At a)) k f r = inr refl
+  search_next i p true s n (Some NoRoom) k f r = inr refl
+  search_next i p false s n (Some NoRoom) k f r = inl (record { p = _; s = Wait _; is = refl; same = recached p n.find.cached k; facts = f.0 })
+
+  -- a step of the wait, which is then y
+  abbrev waited_on : Polling → WaitState → Waiting → Option (Unit {0}) → Mutating
+  waited_on p x y out = record m { processor = after_wait (state p (Wait x)).processor w y out }
+
+  wait_next : (i : ℕ) (p : Polling) (x : WaitState) (y : Waiting) (out : Option (Unit {0})) → Same y.poll → y.wait.known ≡ m.processor.poll.local.view.begun → ((u : Unit {0}) → out ≡ Some u → HasWaited m g d t found (suc i)) → Next (suc i) (waited_on p x y out)
+  wait_next i p x y None k f h = inl (record { p = y.poll; s = Wait y.wait; is = refl; same = k; facts = f })
+  wait_next i p x y (Some u) k f h = inl (record { p = y.poll; s = Search true (seeking (at_poll m.processor y.poll) w); is = refl; same = k; facts = (h u refl, seeks_first y.poll) })
+
+  seeks_on : (s : Seeking) (v : ℕ) → Seeks s → Seeks (search.goes s v)
+  seeks_on s v r = record { wanted = search_wants s v ∙ r.wanted; kept = kept w.sought s v r.wanted r.kept }
+
+  wait_same : (p : Polling) (x : WaitState) (v : ℕ) → Same p → Same (wait.goes (wait.waiting x p) v).poll
+  wait_same p x v k = record {
+    stacks = wait_stacks (wait.waiting x p) v ∙ k.stacks;
+    layout = wait_stays (wait.waiting x p) v ∙ k.layout;
+    seat = wait_seat (wait.waiting x p) v ∙ k.seat;
+  }
+
+  next_at : (i : ℕ) (p : Polling) (s : NewStage) → now i ≡ state p s → Same p → Facts i p s → Next (suc i) (goes (state p s) (found i))
+  next_at i p (Search waited s) e k f = search_next i p waited s (search.goes s (found i)) (search.gives s (found i)) k f (seeks_on s (found i) (seeks waited f)) where
+    seeks : (b : Bool) → Facts i p (Search b s) → Seeks s
+    seeks true f = f.1
+    seeks false f = f.1
+  next_at i p (Wait x) e k f =
+      wait_next i p x (wait.goes (wait.waiting x p) (found i)) (wait.gives (wait.waiting x p) (found i)) (wait_same p x (found i) k) (knows_at (wait.waiting x p) x.stage (found i) ∙ f)
+      (λ u is. let l = ends_later (wait.waiting x p) x.stage (found i) u is in record { at_step = i; before = omega arith; loads = ap asks e ∙ ap (wait.asks_at (wait.waiting x p)) l.0; later = subst (λ (n : ℕ). n < found i) f l.1 })
+  next_at i p (Place q) e k f = absurd f
+  next_at i p (Want n) e k f = absurd f
+  next_at i p (Assist n x) e k f = absurd f
+
+  next : (i : ℕ) → Stands i (now i) → Next (suc i) (now (suc i))
+  next i st = subst (λ (x : Mutating). Next (suc i) (goes x (found i))) (sym st.is) (next_at i st.p st.s st.is st.same st.facts)
+
+  begins_so : Stands 0 (now 0)
+  begins_so = record {
+    p = m.processor.poll;
+    s = Search false (seeking m.processor w);
+    is = refl;
+    same = record { stacks = refl; layout = refl; seat = refl };
+    facts = (refl, seeks_first m.processor.poll);
+  }
+
+  -- as long as no step has ended the search, it runs
+  runs : (i : ℕ) → ((j : ℕ) → j ≤ i → not (is_past (now j).processor.task) ≡ true) → Stands i (now i)
+  runs zero h = begins_so
+  runs (suc i) h = by (next i (runs i (λ j le. h j (omega arith)))) (h (suc i) (omega arith)) where
+    by : Next (suc i) (now (suc i)) → not (is_past (now (suc i)).processor.task) ≡ true → Stands (suc i) (now (suc i))
+    by (inl x) e = x
+    by (inr x) e = absurd (false_true (ap not (sym x) ∙ e)) where
+      false_true : false ≡ true → ⊥
+      false_true q = absurd (cc)
+
+  -- each step that is none of the wait looks for a slot
+  looks_at : (i : ℕ) (p : Polling) (s : NewStage) → Facts i p s → is_waiting (state p s).processor.task ≡ false → is_looking (asks (state p s)) ≡ true
+  looks_at i p (Search waited s) f e = search_looks s
+  looks_at i p (Wait x) f e = absurd (cc)
+  looks_at i p (Place q) f e = absurd f
+  looks_at i p (Want n) f e = absurd f
+  looks_at i p (Assist n x) f e = absurd f
+
+  looks : (i : ℕ) → Stands i (now i) → is_waiting (now i).processor.task ≡ false → is_looking (asks (now i)) ≡ true
+  looks i st e = subst (λ (x : Mutating). is_looking (asks x) ≡ true) (sym st.is) (looks_at i st.p st.s st.facts (subst (λ (x : Mutating). is_waiting x.processor.task ≡ false) st.is e))
+
+  -- what the step leaves that answers `full`
+  record Leaves (n : ℕ) (x : Mutating) : Type 0 where
+    waited : HasWaited m g d t found n
+    rests : x ≡ rested m (at_poll m.processor x.processor.poll) answer.Full
+    registers : x.processor.poll.local.stacks ≡ stacks_with m.processor.poll.local.stacks g d value.Nil
+    cached : cached_in x.processor.poll.local.cache w.sought ≡ None
+    layout : x.processor.poll.layout ≡ m.processor.poll.layout
+    seat : x.processor.poll.seat ≡ m.processor.poll.seat
+
+  full_leaves : (n : ℕ) (p : Polling) (s r : Seeking) (waited : Bool) (out : Option Found) → Same p → Facts n p (Search waited s) → waited ≡ true → out ≡ Some NoRoom → ((k : _) → w.sought ≡ Small k → r.find.cached ≡ None) → Leaves n (searched p waited s r out)
+  full_leaves n p s r true (Some NoRoom) k f h is none = record {
+    waited = f.0;
+    rests = refl;
+    registers = ap (λ (stacks : _). stacks_with stacks g d value.Nil) k.stacks;
+    cached = none_in w.sought p.local.cache r.find.cached none;
+    layout = k.layout;
+    seat = k.seat;
+  }
+  full_leaves n p s r false out k f h is none = absurd (cc)
+  full_leaves n p s r true None k f h is none = absurd (cc)
+  full_leaves n p s r true (Some (At a)) k f h is none = absurd (cc)
+
+  leaves_at : (n : ℕ) (p : Polling) (s : NewStage) → Same p → Facts n p s → gives (state p s) (found n) ≡ Some answer.Full → Leaves n (goes (state p s) (found n))
+  leaves_at n p (Search waited s) k f e =
+      let is = full_is waited (search.gives s (found n)) e in
+      full_leaves n p s (search.goes s (found n)) waited (search.gives s (found n)) k f is.0 is.1 (λ c small. refuses_none w.sought (search.goes s (found n)) c small is.1 (seeks_on s (found n) (seeks waited f)).kept) where
+        seeks : (b : Bool) → Facts n p (Search b s) → Seeks s
+        seeks true f = f.1
+        seeks false f = f.1
+  leaves_at n p (Wait x) k f e = absurd (cc)
+  leaves_at n p (Place q) k f e = absurd f
+  leaves_at n p (Want u) k f e = absurd f
+  leaves_at n p (Assist u x) k f e = absurd f
+
+  leaves : (n : ℕ) → Stands n (now n) → gives (now n) (found n) ≡ Some answer.Full → Leaves n (now (suc n))
+  leaves n st e = subst (λ (x : Mutating). Leaves n (goes x (found n))) (sym st.is) (leaves_at n st.p st.s st.same st.facts (subst (λ (x : Mutating). gives x (found n) ≡ Some answer.Full) st.is e))
+
+not_past : (b : Bool) → (b ≡ true → ⊥) → not b ≡ true
+not_past true h = absurd (h refl)
+not_past false h = refl
+
+past_before : (x : Mutating) (word : ℕ) → not (is_past (goes x word).processor.task) ≡ true → not (is_past x.processor.task) ≡ true
+past_before x word e = not_past (is_past x.processor.task) (λ h. by (ap not (sym (past_at x.shapes x.processor x.processor.task word refl h)) ∙ e)) where
+  by : false ≡ true → ⊥
+  by q = absurd (cc)
+
+pub full_changes_little : FullChangesLittle
+full_changes_little m g d t found n e =
+    let last = after m g d t found n in
+    let here : not (is_past (after m g d t found n).processor.task) ≡ true = not_past (is_past last.processor.task) (λ h. past_answers last.processor last.processor.task (found n) h e) in
+    let all : (i : ℕ) → i ≤ n → not (is_past (after m g d t found i).processor.task) ≡ true =
+    held_before (λ (x : Mutating). not (is_past x.processor.task)) listing (begins m (op.New g d t)) found past_before n here in
+    let at : (i : ℕ) → i ≤ n → Stands m g d t found i (after m g d t found i) = λ i le. runs m g d t found i (λ j before. all j (omega arith)) in
+    let l = leaves m g d t found n (at n (omega arith)) e in
+    record {
+      looks = λ i le. looks m g d t found i (at i le);
+      waited = l.waited;
+      leaves = l.rests;
+      registers = l.registers;
+      cached = l.cached;
+      layout = l.layout;
+      seat = l.seat;
+    }

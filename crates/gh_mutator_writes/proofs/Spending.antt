@@ -1,0 +1,192 @@
+-- A processor counts as spent what it takes out of the bank: by its tasks.
+use Rattle.std.proofs.Common.{◌≡◌, ℕ, ◌+◌, ◌^◌, ◌<◌, Bool, true, false, cond, List, Option, Some, None, refl, sym, ◌∙◌, subst, arith}
+use Rattle.gh_base.specs.declared.cell.Ask.TheVariants.{Add, And, Or}
+use Rattle.gh_base.specs.declared.cell.Cell.TheVariants as cell
+use Rattle.gh_base.specs.declared.operation.Op.TheVariants as op
+use Rattle.gh_alloc.specs.Place as place
+use Rattle.gh_alloc.specs.Search as search
+use Rattle.gh_assist.specs.Listing as assist
+use Rattle.gh_assist.specs.Paying.{AssistsPay}
+use Rattle.gh_credit.specs.Drawing.{drawn_by, LeavesOrDraws}
+use Rattle.gh_mutator.specs.declared.task.Task.TheVariants as task
+use Rattle.gh_mutator.specs.Global as global
+use Rattle.gh_mutator.specs.Leave as leave
+use Rattle.gh_mutator.specs.Load as load
+use Rattle.gh_mutator.specs.Local.{marking_at}
+use Rattle.gh_mutator.specs.New as new
+use Rattle.gh_mutator.specs.Poll as poll
+use Rattle.gh_mutator.specs.Processor.{keeping}
+use Rattle.gh_mutator.specs.Register as register
+use Rattle.gh_mutator_writes.specs.Spending.{ProcessorsSpend}
+use Rattle.gh_mutator.specs.Spending.{spent_at, spent_of}
+use Rattle.gh_mutator.specs.Stays.{assist_spent, poll_spent, wait_spent}
+use Rattle.gh_mutator.specs.Store as store
+use Rattle.gh_mutator.specs.Vocabulary.{Polling}
+use Rattle.gh_mutator.specs.Wait as wait
+use Rattle.gh_mutator.specs.Running.{IsAssisting, IsAssistingAt, SoundAssist, SoundAssistAt}
+use Rattle.gh_mutator_writes.specs.Writing.{IsWritten, ProcessorWritesItsOwn}
+use Rattle.gh_mutator_writes.proofs.Vocabulary.{after_gc, after_leave, after_place, after_poll, after_search, after_wait, Ask, asks, Assist, Assisting, assisting, assists, At, begins, cache_span, CachedSpan, Cell, Ends, follows, Found, GoesOn, has_left_at, is_busy_at, Layout, Leaving, Load, Name, NewStage, NoRoom, Op, Place, Placing, Processor, processor_kind, register_of, Search, Seeking, Shape, Store, Swap, takes_at, taking, Task, Then, Value, Wait, Waiting, Want, Wanted, WritesOf}
+
+-- A step of a processor that does not assist takes nothing out of the bank, and leaves it.
+module _ (m : Processor) (rests : IsAssisting m.task → ⊥) where
+  draws_none : (step : Ask) (found : ℕ) → WritesOf (IsWritten m) step → drawn_by step found ≡ 0
+  draws_none (Swap cell.Bank old new) found w = absurd (rests w.0)
+  draws_none _ found w = refl
+
+  no_bank : (c : Cell) → IsWritten m c → c ≡ cell.Bank → ⊥
+  no_bank c w e = rests (subst (λ (d : Cell). IsWritten m d) e w).0
+
+  leaves_bank : (step : Ask) → WritesOf (IsWritten m) step → LeavesOrDraws step
+  leaves_bank (Load c) w = tt
+  leaves_bank (Store c value) w = no_bank c w
+  leaves_bank (Or c bits) w = no_bank c w
+  leaves_bank (And c bits) w = no_bank c w
+  leaves_bank (Add c more) w = no_bank c w
+  leaves_bank (Swap cell.Bank old new) w = absurd (rests w.0)
+  leaves_bank (Swap _ old new) w = tt
+
+-- What is spent stays by each step but those of an assist.
+
+abbrev SpentSo : Processor → ℕ → Type 0
+SpentSo m spent = spent_of m ≡ spent
+
+into_spent : {S : Type 0} (into : S → Task) (m : Processor) (g d : ℕ) (sets : Option Value) (then : Then S) → ((p : Polling) (y : S) → spent_at p (into y) ≡ p.local.spent) → spent_at (taking m g d sets).poll (follows into then) ≡ m.poll.local.spent
+into_spent into m g d None (GoesOn y) plain = plain m.poll y
+into_spent into m g d None (Ends a) plain = refl
+into_spent into m g d (Some v) (GoesOn y) plain = plain (taking m g d (Some v)).poll y
+into_spent into m g d (Some v) (Ends a) plain = refl
+
+gc_spent : (m : Processor) (g : ℕ) (w : Waiting) (out : Option (Unit {0})) → SpentSo (after_gc m g w out) w.poll.local.spent
+gc_spent m g w None = refl
+gc_spent m g w (Some u) = refl
+
+poll_then : (m : Processor) (p : Polling) (out : Option (Unit {0})) → SpentSo (after_poll m p out) p.local.spent
+poll_then m p None = refl
+poll_then m p (Some u) = refl
+
+leave_spent : (m : Processor) (x : Leaving) (out : Option (Unit {0})) → SpentSo (after_leave m x out) m.poll.local.spent
+leave_spent m x None = refl
+leave_spent m x (Some u) = refl
+
+search_spent : (shapes : List Shape) (m : Processor) (w : Wanted) (waited : Bool) (c : Option CachedSpan) (s : Seeking) (out : Option Found) → SpentSo (after_search shapes (cache_span m w.sought c) w waited s out) m.poll.local.spent
+search_spent shapes m w waited c s None = refl
+search_spent shapes m w waited c s (Some (At a)) = refl
+search_spent shapes m w true c s (Some NoRoom) = refl
+search_spent shapes m w false c s (Some NoRoom) = refl
+
+wait_then : (m : Processor) (w : Wanted) (x : Waiting) (out : Option (Unit {0})) → SpentSo (after_wait m w x out) x.poll.local.spent
+wait_then m w x None = refl
+wait_then m w x (Some u) = refl
+
+-- an assist begins with what is spent so far
+then_spent : (p q : Polling) (w : Wanted) (n : Name) (marking : Bool) → q.local.spent ≡ p.local.spent → spent_at q (cond marking (assists w n (assisting p w)) task.Idle) ≡ p.local.spent
+then_spent p q w n true e = refl
+then_spent p q w n false e = e
+
+made_spent : (p q : Polling) (w : Wanted) (x : Placing) (out : Option Bool) → q.local.spent ≡ p.local.spent → spent_at q (new.made_task p w x out) ≡ p.local.spent
+made_spent p q w x None e = e
+made_spent p q w x (Some true) e = e
+made_spent p q w x (Some false) e = then_spent p q w x.name (marking_at p) e
+
+place_spent : (m : Processor) (w : Wanted) (made : Bool) (a : ℕ) (x : Placing) → SpentSo (after_place m w made a x) m.poll.local.spent
+place_spent m w true a x = made_spent m.poll (new.made_object m w a).poll w x (place.given x) refl
+place_spent m w false a x = made_spent m.poll m.poll w x (place.given x) refl
+
+abbrev with_stage : Wanted → NewStage → Task
+with_stage w q = task.New (record { wanted = w; stage = q })
+
+abbrev running : Polling → List ℕ → Task → Processor
+running p made t = record { poll = p; made = made; task = t }
+
+module _ (shapes : List Shape) (p : Polling) (made : List ℕ) (found : ℕ) where
+  -- the step, at this task
+  record Spends (t : Task) : Type 0 where
+    spends : spent_of (takes_at shapes (running p made t) t found) ≡ spent_at p t + drawn_by (asks (running p made t)) found
+
+  -- where it does not assist
+  plainly : (t : Task) → (IsAssisting t → ⊥) → WritesOf (IsWritten (running p made t)) (asks (running p made t)) → spent_of (takes_at shapes (running p made t) t found) ≡ spent_at p t → Spends t
+  plainly t rests w stays = record { spends = stays ∙ by (draws_none (running p made t) rests (asks (running p made t)) found w) } where
+    by : {a b : ℕ} → b ≡ 0 → a ≡ a + b
+    by e = omega arith
+
+  module _ (pay : AssistsPay) where
+    assisted : (w : Wanted) (n : Name) (x : Assisting) → SoundAssistAt p (Assist n x) → x.spent + drawn_by (assist.asks x) found < 2 ^ 64 → Spends (assists w n x)
+    assisted w n x s most = record { spends = assist_spent (running p made (assists w n x)) w n (assist.goes x found) (assist.gives x found) ∙ pay.spends x found s.1 most }
+
+    new_spends : (w : Wanted) (q : NewStage) → let t : Task = task.New (record { wanted = w; stage = q }) in SoundAssistAt p q → WritesOf (IsWritten (running p made t)) (asks (running p made t)) → spent_at p t + drawn_by (asks (running p made t)) found < 2 ^ 64 → Spends t
+    new_spends w (Search waited y) s writes most = plainly (with_stage w (Search waited y)) (λ a. a) writes (search_spent shapes (running p made (with_stage w (Search waited y))) w waited (search.goes y found).find.cached (search.goes y found) (search.gives y found))
+    new_spends w (Wait x) s writes most = plainly (with_stage w (Wait x)) (λ a. a) writes (wait_then (running p made (with_stage w (Wait x))) w (wait.goes (wait.waiting x p) found) (wait.gives (wait.waiting x p) found) ∙ wait_spent (wait.waiting x p) found)
+    new_spends w (Place y) s writes most = plainly (with_stage w (Place y)) (λ a. a) writes (place_spent (running p made (with_stage w (Place y))) w (place.acts y) y.at (place.goes y found))
+    new_spends w (Want n) s writes most = plainly (with_stage w (Want n)) (λ a. a) writes refl
+    new_spends w (Assist n x) s writes most = assisted w n x s most
+
+    spends_at : (t : Task) → SoundAssist p t → is_busy_at t ≡ true → WritesOf (IsWritten (running p made t)) (asks (running p made t)) → spent_at p t + drawn_by (asks (running p made t)) found < 2 ^ 64 → Spends t
+    spends_at task.Idle s busy writes most = absurd (cc)
+    spends_at task.Left s busy writes most = absurd (cc)
+    spends_at (task.Load x) s busy writes most = plainly (task.Load x) (λ a. a) writes (let step = load.step p.layout x found in into_spent task.Load (running p made (task.Load x)) x.g x.d step.sets step.then (λ q y. refl))
+    spends_at (task.Store x) s busy writes most = plainly (task.Store x) (λ a. a) writes
+        (let step = store.step p.layout p.local (register_of (running p made (task.Store x)) x.g x.v) x found in into_spent task.Store (keeping (running p made (task.Store x)) (store.held_behind p.local.held x.stage found)) x.g x.v step.sets step.then (λ q y. refl))
+    spends_at (task.Global x) s busy writes most = plainly (task.Global x) (λ a. a) writes
+        (let step = global.step p.layout (register_of (running p made (task.Global x)) x.g x.r) x found in into_spent task.Global (keeping (running p made (task.Global x)) (global.held_behind p.local.held x.stage found)) x.g x.r step.sets step.then (λ q y. refl))
+    spends_at (task.Register x) s busy writes most = plainly (task.Register x) (λ a. a) writes (let step = register.step (register_of (running p made (task.Register x)) x.g (register.read_of x)) x in into_spent task.Register (running p made (task.Register x)) x.g x.d step.sets step.then (λ q y. refl))
+    spends_at (task.New x) s busy writes most = new_spends x.wanted x.stage s writes most
+    spends_at (task.Gc g x) s busy writes most = plainly (task.Gc g x) (λ a. a) writes (gc_spent (running p made (task.Gc g x)) g (wait.goes (wait.waiting x p) found) (wait.gives (wait.waiting x p) found) ∙ wait_spent (wait.waiting x p) found)
+    spends_at task.Poll s busy writes most = plainly task.Poll (λ a. a) writes (poll_then (running p made task.Poll) (poll.goes p found) (poll.gives p found) ∙ poll_spent p found)
+    spends_at (task.End g) s busy writes most = plainly (task.End g) (λ a. a) writes refl
+    spends_at (task.Leave x) s busy writes most = plainly (task.Leave x) (λ a. a) writes (leave_spent (running p made (task.Leave x)) (leave.goes x found) (leave.gives x found))
+
+-- The draws are those of an assist.
+module _ (pay : AssistsPay) (p : Polling) (made : List ℕ) where
+  new_draws : (w : Wanted) (q : NewStage) → let m : Processor = running p made (task.New (record { wanted = w; stage = q })) in WritesOf (IsWritten m) (asks m) → LeavesOrDraws (asks m)
+  new_draws w (Assist n x) writes = pay.draws x
+  new_draws w (Search waited y) writes = leaves_bank (running p made (with_stage w (Search waited y))) (λ a. a) (asks (running p made (with_stage w (Search waited y)))) writes
+  new_draws w (Wait x) writes = leaves_bank (running p made (with_stage w (Wait x))) (λ a. a) (asks (running p made (with_stage w (Wait x)))) writes
+  new_draws w (Place y) writes = leaves_bank (running p made (with_stage w (Place y))) (λ a. a) (asks (running p made (with_stage w (Place y)))) writes
+  new_draws w (Want n) writes = leaves_bank (running p made (with_stage w (Want n))) (λ a. a) (asks (running p made (with_stage w (Want n)))) writes
+
+  draws_at : (t : Task) → WritesOf (IsWritten (running p made t)) (asks (running p made t)) → LeavesOrDraws (asks (running p made t))
+  draws_at (task.New x) writes = new_draws x.wanted x.stage writes
+  draws_at task.Idle writes = tt
+  draws_at task.Left writes = tt
+  draws_at (task.Load x) writes = leaves_bank (running p made (task.Load x)) (λ a. a) (asks (running p made (task.Load x))) writes
+  draws_at (task.Store x) writes = leaves_bank (running p made (task.Store x)) (λ a. a) (asks (running p made (task.Store x))) writes
+  draws_at (task.Global x) writes = leaves_bank (running p made (task.Global x)) (λ a. a) (asks (running p made (task.Global x))) writes
+  draws_at (task.Register x) writes = leaves_bank (running p made (task.Register x)) (λ a. a) (asks (running p made (task.Register x))) writes
+  draws_at (task.Gc g x) writes = leaves_bank (running p made (task.Gc g x)) (λ a. a) (asks (running p made (task.Gc g x))) writes
+  draws_at task.Poll writes = leaves_bank (running p made task.Poll) (λ a. a) (asks (running p made task.Poll)) writes
+  draws_at (task.End g) writes = leaves_bank (running p made (task.End g)) (λ a. a) (asks (running p made (task.End g))) writes
+  draws_at (task.Leave x) writes = leaves_bank (running p made (task.Leave x)) (λ a. a) (asks (running p made (task.Leave x))) writes
+
+-- It assists only while marking is on.
+marking_in : (p : Polling) (q : NewStage) → SoundAssistAt p q → IsAssistingAt q → marking_at p ≡ true
+marking_in p (Assist n x) s is = s.0
+marking_in p _ s is = absurd is
+
+marking_at_task : (p : Polling) (t : Task) → SoundAssist p t → IsAssisting t → marking_at p ≡ true
+marking_at_task p (task.New x) s is = marking_in p x.stage s is
+marking_at_task p _ s is = absurd is
+
+-- Where it begins.
+rests_so : (p : Polling) (t : Task) → is_busy_at t ≡ false → spent_at p t ≡ p.local.spent
+rests_so p task.Idle rests = refl
+rests_so p task.Left rests = refl
+rests_so p _ rests = absurd (cc)
+
+begun_spent : (shapes : List Shape) (m : Processor) (o : Op) → SpentSo (begins shapes m o) m.poll.local.spent
+begun_spent shapes m (op.New g d t) = refl
+begun_spent shapes m _ = refl
+
+begun : (shapes : List Shape) (l : Layout) (m : Processor) (o : Op) → is_busy_at m.task ≡ false → SpentSo ((processor_kind shapes l).begins m o) (spent_of m)
+begun shapes l m o rests = by (has_left_at m.task) where
+  by : (left : Bool) → SpentSo (cond left m (begins shapes m o)) (spent_of m)
+  by true = refl
+  by false = begun_spent shapes m o ∙ sym (rests_so m.poll m.task rests)
+
+pub processors_spend : AssistsPay → ProcessorWritesItsOwn → ProcessorsSpend
+processors_spend pay own = record {
+  at_first = λ l seat. refl;
+  begins = begun;
+  spends = λ shapes m found s busy most. (spends_at shapes m.poll m.made found pay m.task s.assist busy (own.writes m s) most).spends;
+  draws = λ m s busy. draws_at pay m.poll m.made m.task (own.writes m s);
+  marking = λ m s is. marking_at_task m.poll m.task s.assist is;
+}

@@ -1,0 +1,121 @@
+-- What a step of a whole processor leaves: its heap, its seat, what it knows of the stack that it scans, and the notes.
+use Rattle.std.proofs.Common.{ℕ, Bool, true, false, cond, ltb, List, Option, Some, None, refl}
+use Rattle.gh_base.specs.declared.operation.Op.TheVariants as op
+use Rattle.gh_alloc.specs.Place as place
+use Rattle.gh_alloc.specs.Search as search
+use Rattle.gh_assist.specs.Listing as assist
+use Rattle.gh_assist.specs.Quiet.{AssistsAreQuiet}
+use Rattle.gh_mutator.specs.declared.leave.LeaveStage.TheVariants as leave_stage
+use Rattle.gh_mutator.specs.declared.task.Task.TheVariants as task
+use Rattle.gh_mutator.specs.declared.wait.WaitStage.TheVariants as wait_stage
+use Rattle.gh_mutator.specs.Global as global
+use Rattle.gh_mutator.specs.Leave as leave
+use Rattle.gh_mutator.specs.Load as load
+use Rattle.gh_mutator.specs.New as new
+use Rattle.gh_mutator.specs.Poll as poll
+use Rattle.gh_mutator.specs.Processor.{keeping}
+use Rattle.gh_mutator.specs.Register as register
+use Rattle.gh_mutator.specs.Store as store
+use Rattle.gh_mutator.specs.Vocabulary.{Polling}
+use Rattle.gh_mutator.specs.Wait as wait
+use Rattle.gh_mutator_writes.proofs.Vocabulary.{after_assist, Assist, Assisting, Name, Held, after_gc, after_leave, after_poll, asks_at, At, begun_with, cache_span, CachedSpan, Found, LeaveStage, Leaving, NewStage, NoRoom, Op, Place, Placing, Processor, register_of, Search, Seeking, Shape, SoundScanAt, takes_at, taking, Task, Value, Wait, Waiting, WaitStage, WaitState, Wanted, with_ended, WritesOf, Want}
+use Rattle.gh_mutator_writes.proofs.Writing.Polls.{carried, ended_noted, Goes, goes_by, gives_not, heap_not, marking_not, NotStack, poll_goes, Stays, stays_so, stays_with, told_noted}
+use Rattle.gh_mutator_writes.proofs.Writing.Routines.{global_writes, load_writes, store_writes}
+use Rattle.gh_mutator_writes.proofs.Writing.Rows.{assist_writes, place_writes, search_writes}
+
+-- a register takes a value
+taking_stays : (m : Processor) (g d : ℕ) (v : Option Value) → SoundScanAt m.poll m.poll.stage → Stays m.poll (taking m g d v).poll
+taking_stays m g d None s = stays_so m.poll s
+taking_stays m g d (Some v) s = stays_with m.poll _ refl refl s
+
+-- and another buffer is held
+kept_stays : (m : Processor) (g d : ℕ) (held : Option Held) (v : Option Value) → SoundScanAt m.poll m.poll.stage → Stays m.poll (taking (keeping m held) g d v).poll
+kept_stays m g d held None s = stays_with m.poll _ refl refl s
+kept_stays m g d held (Some v) s = stays_with m.poll _ refl refl s
+
+-- a new object
+found_stays : (shapes : List Shape) (m : Processor) (w : Wanted) (waited : Bool) (c : Option CachedSpan) (s : Seeking) (out : Option Found) → SoundScanAt m.poll m.poll.stage → Stays m.poll (new.after_search shapes (cache_span m w.sought c) w waited s out).poll
+found_stays shapes m w waited c s None scan = stays_with m.poll _ refl refl scan
+found_stays shapes m w waited c s (Some (At a)) scan = stays_with m.poll _ refl refl scan
+found_stays shapes m w true c s (Some NoRoom) scan = stays_with m.poll _ refl refl scan
+found_stays shapes m w false c s (Some NoRoom) scan = stays_with m.poll _ refl refl scan
+
+made_stays : (m : Processor) (w : Wanted) (made : Bool) (a : ℕ) (y : Placing) → SoundScanAt m.poll m.poll.stage → Stays m.poll (new.after_place m w made a y).poll
+made_stays m w true a y s = stays_with m.poll _ refl refl s
+made_stays m w false a y s = stays_so m.poll s
+
+assist_stays : (m : Processor) (w : Wanted) (n : Name) (x : Assisting) (out : Option (Unit {0})) → SoundScanAt m.poll m.poll.stage → Stays m.poll (after_assist m w n x out).poll
+assist_stays m w n x None s = stays_so m.poll s
+assist_stays m w n x (Some y) s = stays_with m.poll _ refl refl s
+
+-- a wait
+wait_goes : (w : Waiting) (q : WaitStage) (found : ℕ) → SoundScanAt w.poll w.poll.stage → Goes (wait.asks_at w q) w.poll (wait.goes_at w q found).poll
+wait_goes w wait_stage.Want found s = goes_by _ w.poll _ tt (record { layout = refl; seat = refl; scanned = refl; scan = tt })
+wait_goes w wait_stage.Polling found s = polled (poll.goes w.poll found) (poll.gives w.poll found) (poll_goes w.poll w.poll.stage found s) where
+  polled : (p : Polling) (out : Option (Unit {0})) → Goes (poll.asks w.poll) w.poll p → Goes (poll.asks w.poll) w.poll (wait.after_poll w p out).poll
+  polled p None g = g
+  polled p (Some u) g = g
+wait_goes w wait_stage.LoadSwept found s = by (ltb w.wait.known found) where
+  by : (later : Bool) → Goes (wait.asks_at w wait_stage.LoadSwept) w.poll (cond later (wait.at_stage w wait_stage.Ended) (wait.polling w)).poll
+  by true = goes_by _ w.poll _ tt (stays_so w.poll s)
+  by false = goes_by _ w.poll _ tt (record { layout = refl; seat = refl; scanned = refl; scan = tt })
+wait_goes w wait_stage.Ended found s = goes_by _ w.poll _ tt (record { layout = refl; seat = refl; scanned = refl; scan = tt })
+
+module _ (k : AssistsAreQuiet) (shapes : List Shape) (m : Processor) (found : ℕ) (s : SoundScanAt m.poll m.poll.stage) where
+  gc_goes : (g : ℕ) (x : WaitState) → Goes (asks_at m (task.Gc g x)) m.poll (takes_at shapes m (task.Gc g x) found).poll
+  gc_goes g x = by (wait.gives (wait.waiting x m.poll) found) where
+    by : (out : Option (Unit {0})) → Goes (wait.asks (wait.waiting x m.poll)) m.poll (after_gc m g (wait.goes (wait.waiting x m.poll) found) out).poll
+    by None = wait_goes (wait.waiting x m.poll) x.stage found s
+    by (Some u) = wait_goes (wait.waiting x m.poll) x.stage found s
+
+  new_waits : (n : Wanted) (x : WaitState) → Goes (wait.asks (wait.waiting x m.poll)) m.poll (new.takes_at shapes m n (Wait x) found).poll
+  new_waits n x = by (wait.gives (wait.waiting x m.poll) found) where
+    by : (out : Option (Unit {0})) → Goes (wait.asks (wait.waiting x m.poll)) m.poll (new.after_wait m n (wait.goes (wait.waiting x m.poll) found) out).poll
+    by None = wait_goes (wait.waiting x m.poll) x.stage found s
+    by (Some u) = wait_goes (wait.waiting x m.poll) x.stage found s
+
+  new_goes : (n : Wanted) (q : NewStage) → Goes (new.asks_at m q) m.poll (new.takes_at shapes m n q found).poll
+  new_goes n (Search waited y) = goes_by _ m.poll _ (search_writes NotStack heap_not y (λ sw e. record { alloc = λ i. tt; mark = λ i. tt; tally = tt; live = tt; heap = tt })) (found_stays shapes m n waited (search.goes y found).find.cached (search.goes y found) (search.gives y found) s)
+  new_goes n (Wait x) = new_waits n x
+  new_goes n (Place y) = goes_by _ m.poll _ (place_writes NotStack heap_not y (λ e. tt) (λ e. tt)) (made_stays m n (place.acts y) y.at (place.goes y found) s)
+  new_goes n (Want u) = goes_by _ m.poll _ tt (stays_so m.poll s)
+  new_goes n (Assist u y) = goes_by _ m.poll _ (assist_writes NotStack marking_not (assist.asks y) (λ old new e. tt) (k.writes y)) (assist_stays m n u (assist.goes y found) (assist.gives y found) s)
+
+  polls : Goes (poll.asks m.poll) m.poll (takes_at shapes m task.Poll found).poll
+  polls = by (poll.gives m.poll found) where
+    by : (out : Option (Unit {0})) → Goes (poll.asks m.poll) m.poll (after_poll m (poll.goes m.poll found) out).poll
+    by None = poll_goes m.poll m.poll.stage found s
+    by (Some u) = poll_goes m.poll m.poll.stage found s
+
+  leave_not : (x : Leaving) (q : LeaveStage) → WritesOf NotStack (leave.asks_at x q)
+  leave_not x (leave_stage.Giving g) = gives_not g
+  leave_not x leave_stage.Leave = tt
+  leave_not x leave_stage.Left = tt
+
+  leaves : (x : Leaving) → Goes (leave.asks x) m.poll (takes_at shapes m (task.Leave x) found).poll
+  leaves x = by (leave.gives x found) where
+    by : (out : Option (Unit {0})) → Goes (leave.asks x) m.poll (after_leave m (leave.goes x found) out).poll
+    by None = goes_by _ m.poll _ (leave_not x x.stage) (stays_so m.poll s)
+    by (Some u) = goes_by _ m.poll _ (leave_not x x.stage) (stays_so m.poll s)
+
+  ends : (g : ℕ) → Goes (asks_at m (task.End g)) m.poll (takes_at shapes m (task.End g) found).poll
+  ends g = record { layout = refl; seat = refl; noted = told_noted g _ m.poll.local.scanned; scan = carried m.poll (with_ended m.poll g).local refl (λ h. ended_noted m.poll.local.scanned g h) m.poll.stage s }
+
+  pub goes_at : (t : Task) → Goes (asks_at m t) m.poll (takes_at shapes m t found).poll
+  goes_at task.Idle = goes_by _ m.poll _ tt (stays_so m.poll s)
+  goes_at task.Left = goes_by _ m.poll _ tt (stays_so m.poll s)
+  goes_at (task.Load x) = goes_by _ m.poll _ (load_writes NotStack heap_not m.poll.layout x) (taking_stays m x.g x.d (load.step m.poll.layout x found).sets s)
+  goes_at (task.Store x) = goes_by _ m.poll _ (store_writes NotStack heap_not m.poll.layout (register_of m x.g x.v) x (λ w e. marking_not)) (kept_stays m x.g x.v (store.held_behind m.poll.local.held x.stage found) (store.step m.poll.layout m.poll.local (register_of m x.g x.v) x found).sets s)
+  goes_at (task.Global x) = goes_by _ m.poll _ (global_writes NotStack heap_not m.poll.layout (register_of m x.g x.r) x (λ w e. marking_not)) (kept_stays m x.g x.r (global.held_behind m.poll.local.held x.stage found) (global.step m.poll.layout (register_of m x.g x.r) x found).sets s)
+  goes_at (task.Register x) = goes_by _ m.poll _ tt (taking_stays m x.g x.d (register.step (register_of m x.g (register.read_of x)) x).sets s)
+  goes_at (task.New x) = new_goes x.wanted x.stage
+  goes_at (task.Gc g x) = gc_goes g x
+  goes_at task.Poll = polls
+  goes_at (task.End g) = ends g
+  goes_at (task.Leave x) = leaves x
+
+-- what is begun
+pub begun_stays : (p : Polling) (o : Op) → SoundScanAt p p.stage → Stays p (begun_with p o)
+begun_stays p op.Poll s = record { layout = refl; seat = refl; scanned = refl; scan = tt }
+begun_stays p op.Leave s = stays_with p _ refl refl s
+begun_stays p _ s = stays_so p s

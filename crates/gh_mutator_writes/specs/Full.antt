@@ -1,0 +1,71 @@
+-- What a `new` leaves that is answered `full`.
+use Rattle.std.specs.Prelude.{◌≡◌, ℕ, suc, ◌<◌, ◌≤◌, Bool, true, false, Some, None}
+use Rattle.gh_base.specs.declared.cell.Ask.{Ask}
+use Rattle.gh_base.specs.declared.cell.Ask.TheVariants as ask
+use Rattle.gh_base.specs.declared.cell.Cell.TheVariants as cell
+use Rattle.gh_base.specs.declared.operation.Op.TheVariants.{New}
+use Rattle.gh_base.specs.declared.value.Answer.TheVariants.{Full}
+use Rattle.gh_base.specs.declared.value.Value.TheVariants.{Nil}
+use Rattle.gh_base.specs.Routines.{told}
+use Rattle.gh_mutator.specs.declared.task.Task.TheVariants as task
+use Rattle.gh_mutator.specs.Faults.{rested}
+use Rattle.gh_mutator.specs.Local.{cached_at, stacks_with}
+use Rattle.gh_mutator.specs.Mutating.{asks, begins, gives, listing, Mutating}
+use Rattle.gh_mutator.specs.New.{wanted_of}
+use Rattle.gh_mutator.specs.Processor.{at_poll}
+use Rattle.gh_mutator_writes.specs.Vocabulary.{NewStage, Task, Wait}
+
+-- a load, a step on the heap's lock, a store to a page word, which says who has a span cached, or a step of a sweep: it swaps a head, cuts alloc bits, clears marks, and adds what it counted
+abbrev pub is_looking : Ask → Bool
+is_looking (ask.Load cell) = true
+is_looking (ask.Store cell.Lock value) = true
+is_looking (ask.Store (cell.Page page) value) = true
+is_looking (ask.Swap cell.Lock old new) = true
+is_looking (ask.Swap (cell.Page page) old new) = true
+is_looking (ask.And (cell.Alloc i) bits) = true
+is_looking (ask.Store (cell.Mark i) value) = true
+is_looking (ask.Add cell.Tally more) = true
+is_looking (ask.Add cell.Live more) = true
+is_looking (ask.Add cell.Heap more) = true
+is_looking _ = false
+
+-- a new object waits for a cycle
+abbrev pub waits_at : NewStage → Bool
+waits_at (Wait x) = true
+waits_at _ = false
+
+abbrev pub is_waiting : Task → Bool
+is_waiting (task.New x) = waits_at x.stage
+is_waiting _ = false
+
+module _ (m : Mutating) (g d t : ℕ) (found : ℕ → ℕ) where
+  -- the `new` begun at m after so many steps
+  abbrev pub after : (n : ℕ) → Mutating
+  after n = told listing (begins m (New g d t)) found n
+
+  -- before step n it loaded the number of the last swept cycle, and that was later than the cycle which the processor knew when the `new` began
+  pub record HasWaited (n : ℕ) : Type 0 where
+    pub at_step : ℕ
+    pub before : at_step < n
+    pub loads : asks (after at_step) ≡ ask.Load cell.Swept
+    pub later : m.processor.poll.local.view.begun < found at_step
+
+  -- it is answered `full` by its step number n, counted from 0
+  pub record ChangesLittle (n : ℕ) : Type 0 where
+    -- each step up to that one looks for a slot, or is one of the wait for a cycle
+    pub looks : (i : ℕ) → i ≤ n → is_waiting (after i).processor.task ≡ false → is_looking (asks (after i)) ≡ true
+    -- a cycle that began after it did was swept
+    pub waited : HasWaited n
+    -- The processor is what it was, beside what the wait's polls have changed of what it alone knows:
+    pub leaves : after (suc n) ≡ rested m (at_poll m.processor (after (suc n)).processor.poll) Full
+    -- of its registers the one of the `new` has changed, which is nil
+    pub registers : (after (suc n)).processor.poll.local.stacks ≡ stacks_with m.processor.poll.local.stacks g d Nil
+    -- and no span is cached of the object's span class
+    pub cached : cached_at (after (suc n)).processor.poll (wanted_of m.shapes g d t).sought ≡ None
+    pub layout : (after (suc n)).processor.poll.layout ≡ m.processor.poll.layout
+    pub seat : (after (suc n)).processor.poll.seat ≡ m.processor.poll.seat
+
+-- whatever the steps find
+abbrev pub FullChangesLittle : Type 0
+FullChangesLittle = (m : Mutating) (g d t : ℕ) (found : ℕ → ℕ) (n : ℕ) →
+    gives (after m g d t found n) (found n) ≡ Some Full → ChangesLittle m g d t found n

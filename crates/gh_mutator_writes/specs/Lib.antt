@@ -1,0 +1,7 @@
+pub mod Blind
+pub mod Calm
+pub mod Full
+pub mod SearchRows
+pub mod Spending
+pub mod Vocabulary
+pub mod Writing
