@@ -8,6 +8,7 @@ pub mod Faults
 pub mod Fields
 pub mod Giving
 pub mod GlobalSteps
+pub mod Idle
 pub mod LoadSteps
 pub mod Marking
 pub mod NewSteps

@@ -1,5 +1,6 @@
 pub mod Acting
 pub mod Asking
+pub mod AtOnce
 pub mod Barrier
 pub mod Cached
 pub mod Collecting

@@ -3,20 +3,25 @@
 //!
 //! An index that a word of the heap told is taken modulo the words of its row. So every step is on a word
 //! that there is, whatever was found.
+//!
+//! Who makes the steps of a load without a task ([`crate::Mutator::loaded`]) reads its words by these functions too, which
+//! then stand in its code: each is a few instructions, and a call would cost as many.
 
-ghost use Rattle.std.specs.Prelude.{◌≡◌, ◌%◌, ◌<◌, ◌≤◌};
+ghost use Rattle.std.specs.Prelude.{◌≡◌, ◌%◌, ◌^◌, ◌<◌, ◌≤◌, IsTrue};
 ghost use Rattle.gh_base.specs.Cells.{InRange};
 ghost use Rattle.gh_mutator.specs.Fields.{birth_cell, field_cell, has_field, is_pointer_by, kinds_differ, page_cell, value_of, word_of_value};
 ghost use Rattle.gh_barrier.specs.Listing.{cell_at};
+ghost use Rattle.gh_mutator.specs.AtOnce.{bits_cell};
 ghost use Rattle.gh_mutator.specs.Sound.{IsNear};
 ghost use Rattle.gh_mutator.specs.Store.{pointer_cell_at};
 
 use gh_barrier::PointerCell;
-use gh_base::{Cell, Layout, Machine, PageWord, Value, modulo};
-use gh_bitmap::ReadPointer;
+use gh_base::{Cell, Layout, PageWord, Value, modulo};
+use gh_class::size_class_laws;
 
 /// The word of the page in which heap word `at` lies.
-pub(crate) fn page_cell(layout: &Layout, at: u32) -> Cell
+#[inline(always)]
+pub fn page_cell(layout: &Layout, at: u32) -> Cell
     ensures is { result ≡ page_cell layout.now at }
     ensures within { InRange layout.now result }
 {
@@ -24,7 +29,8 @@ pub(crate) fn page_cell(layout: &Layout, at: u32) -> Cell
 }
 
 /// Heap word `x`.
-pub(crate) fn field_cell(layout: &Layout, x: u32) -> Cell
+#[inline(always)]
+pub fn field_cell(layout: &Layout, x: u32) -> Cell
     ensures is { result ≡ field_cell layout.now x }
     ensures within { InRange layout.now result }
 {
@@ -39,8 +45,18 @@ pub(crate) fn pointer_cell(layout: &Layout, x: u32) -> PointerCell
     PointerCell::Field(modulo(x, 1024 * layout.pages))
 }
 
+/// The word of the bitmap that has the bit of heap word `x`.
+#[inline(always)]
+pub fn bits_cell(layout: &Layout, x: u32) -> Cell
+    ensures is { result ≡ bits_cell layout.now x }
+    ensures within { InRange layout.now result }
+{
+    Cell::Bitmap(modulo(x / 64, 16 * layout.pages))
+}
+
 /// The birth word of the object whose first heap word is `at`.
-pub(crate) fn birth_cell(layout: &Layout, at: u32) -> Cell
+#[inline(always)]
+pub fn birth_cell(layout: &Layout, at: u32) -> Cell
     ensures is { result ≡ birth_cell layout.now at }
     ensures within { InRange layout.now result }
 {
@@ -48,24 +64,26 @@ pub(crate) fn birth_cell(layout: &Layout, at: u32) -> Cell
 }
 
 /// The object whose page word was found has a field `k`.
-pub(crate) fn has_field(k: u32, found: u64) -> bool
-    ensures { result ≡ has_field k found }
+#[inline(always)]
+pub fn has_field(k: u32, found: u64) -> bool
+    ensures is { result ≡ has_field k found }
+    ensures few { IsTrue result → k < 2 ^ 23 }
 {
+    size_class_laws();
     k < PageWord::unpack(found).slot_words()
 }
 
 /// Heap word `at` is a pointer field, by the word of the bitmap that was found.
-pub(crate) fn is_pointer_by(layout: &Layout, at: u32, found: u64) -> bool
+#[inline(always)]
+pub fn is_pointer_by(layout: &Layout, at: u32, found: u64) -> bool
     ensures { result ≡ is_pointer_by layout.now at found }
 {
-    let mut reader = ReadPointer::new(layout, at);
-    match reader.take(found) {
-        Some(pointer) => pointer,
-        None => false,
-    }
+    let _ = layout;
+    (found >> (at % 64)) & 1 == 1
 }
 
 /// `modulo` of 64 bits.
+#[inline(always)]
 fn modulo_64(index: u64, n: u64) -> u64
     requires { 1 ≤ n }
     ensures is { result ≡ index % n }
@@ -75,7 +93,8 @@ fn modulo_64(index: u64, n: u64) -> u64
 }
 
 /// A found word as a value: of a pointer field nil or a reference to a word of the heap, else a number.
-pub(crate) fn value_of(pages: u32, pointer: bool, found: u64) -> Value
+#[inline(always)]
+pub fn value_of(pages: u32, pointer: bool, found: u64) -> Value
     requires some { 1 ≤ pages }
     requires few { pages ≤ 1024 }
     ensures is { result ≡ value_of pages pointer found }

@@ -38,7 +38,7 @@
 
 mod assist;
 mod barrier;
-mod field;
+pub mod field;
 mod give;
 mod global;
 pub mod laws;

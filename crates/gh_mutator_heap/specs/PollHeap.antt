@@ -19,7 +19,6 @@ use Rattle.gh_mutator.specs.Give.{Giving, none_cached, span_class}
 use Rattle.gh_mutator.specs.Local.{cached_in, register_at}
 use Rattle.gh_mutator_heap.specs.PollWithin.{FindsWithin, ScansWithin}
 use Rattle.gh_mutator.specs.Vocabulary.{CachedSpan, IsOf, Leaving, MOST_GOROUTINES, Polling, REGISTERS, Small, SpanClass, Waiting}
-
 use Rattle.gh_mutator_heap.specs.Vocabulary.{Arena, Means, Right, SPAN_CLASSES, View}
 
 -- Between two operations.

@@ -1,4 +1,5 @@
 pub mod Allowed
+pub mod AtOnce
 pub mod Carrying
 pub mod Drawing
 pub mod Ending
@@ -6,5 +7,8 @@ pub mod Faults
 pub mod Fresh
 pub mod Keeping
 pub mod LastWrites
+pub mod Loaded
+pub mod Loading
+pub mod Midway
 pub mod Ready
 pub mod Rooms

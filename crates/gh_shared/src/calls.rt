@@ -15,6 +15,7 @@ ghost use Rattle.gh_shared.specs.Machines.{begins, listing};
 
 use crate::handle::Handle;
 use crate::heap::Heap;
+use crate::machine::ActorMachine;
 use crate::plan::AnyActor;
 use gh_base::laws::a_state_is_of_its_own_entries;
 use gh_base::{Answer, Op};
@@ -34,8 +35,15 @@ impl Heap {
         ensures fault { FaultLeavesAll h.old h.new result }
     {
         faults_change_nothing();
-        operations_end();
-        self.operate(h, Op::Load { g, d, b, k }, 4)
+        a_state_is_of_its_own_entries::<AnyActor, Op>();
+        let hand = &mut h.hand;
+        match &mut hand.machine {
+            ActorMachine::Runs(processor) => {
+                self.load_at_once(hand.actor, processor, &mut hand.seat, g, d, b, k)
+            }
+            ActorMachine::Marks(_) => unreachable!(),
+            ActorMachine::Leads(_) => unreachable!(),
+        }
     }
 
     /// Field `k` of the object in `b` takes what register `v` holds. At most 10 steps.

@@ -139,7 +139,8 @@ impl Closed {
         self.coordinator.cycles()
     }
 
-    /// The words of credit that the workers earned, modulo 2^64: what was spent, and what has lapsed.
+    /// The words of credit that the workers earned and that were spent or have lapsed, modulo 2^64. That is all that they earned once
+    /// the bank is empty, as it is where the coordinator is done; of a heap that is closed before, what is still in the bank is not in it.
     pub fn earned(&self) -> u64
         ensures { result ≡ (self.now.drawn + lapsed_at self.now.coordinator.lapsed self.now.coordinator.stage) % 2 ^ 64 }
     {

@@ -22,6 +22,7 @@ mod fault;
 mod handle;
 mod heap;
 mod laws;
+mod load;
 mod machine;
 mod opening;
 mod others;

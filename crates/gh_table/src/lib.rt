@@ -37,4 +37,4 @@ pub use acts::{Acts, Marked, Operates};
 pub use hand::Hand;
 pub use plan::{Plan, View};
 pub use rule::{AddsEntry, FirstActorLeaves, NextStep, OneLegalList, SeatsJoined, TellsActors};
-pub use table::{ActorSeat, SharedWords, close, join_other, open, perform, split_first};
+pub use table::{ActorSeat, SharedWords, close, join_other, load_cell, open, perform, split_first};

@@ -2,9 +2,11 @@
 
 ghost use Rattle.std.specs.Prelude.{◌≡◌, ℕ, ◌<◌, ◌+◌, ◌-◌, ◌||◌, true, false, [], ◌++◌, length, IfOk};
 ghost use Rattle.std.specs.Slots.{slots_items, slots_len, IsFull};
-ghost use Rattle.gh_base.specs.Cells.{Shows};
+ghost use Rattle.gh_base.specs.declared.cell.Ask.TheVariants as ask;
+ghost use Rattle.gh_base.specs.Cells.{InRange, Shows};
 ghost use Rattle.gh_base.specs.Lists.{by, started};
 ghost use Rattle.gh_table.specs.Rule.{actor_in, BeginsIn, IsAfterOneList, IsLaidOut, IsTold, MayAsk, Tells};
+ghost use Rattle.gh_table.specs.Runs.{SawLegalList};
 ghost use Rattle.gh_table.specs.Views.{all_carried, Carries, has, leaving, Once, one_carried, rest_carried, staying};
 
 use crate::acts::Acts;
@@ -16,7 +18,7 @@ use atomic_table::{Closed, Seat, Shared, Table};
 use gh_base::laws::{
     a_state_is_of_its_own_entries, cells_have_words_of_their_own, steps_are_shown,
 };
-use gh_base::{Layout, Machine, Req};
+use gh_base::{Cell, Layout, Machine, Req};
 use std::alloc::{AllocError, Global};
 use std::marker::Brand;
 
@@ -61,6 +63,32 @@ fn make_step<A, O, K: Plan<A, O>, M: Acts<K, A, O>, N: NextStep<O>>(
     }
 }
 
+/// The same of a step that loads this cell, whose machine stays behind.
+#[inline(always)]
+fn load_word<A, O, K: Plan<A, O>, N: NextStep<O>>(
+    words: &SharedWords<K, A, O>,
+    layout: &Layout,
+    seat: &mut ActorSeat<K, O>,
+    actor: u32,
+    begun: &Option<O>,
+    cell: Cell,
+) -> u64
+    requires step { (N.actor ≡ actor) × (N.begun ≡ begun.now) × (N.ask ≡ ask.Load cell) }
+    requires words { IsLaidOut K.setting words.now.key words.now.table_id.words layout.now }
+    requires table { (seat.old.table_id ≡ words.now.table_id) × (seat.old.me.0.plan ≡ words.now.key) }
+    requires within { InRange layout.now cell }
+    requires may { MayAsk K.setting seat.old.me.0 actor begun.now (ask.Load cell) }
+    ensures same { seat.new.table_id ≡ seat.old.table_id }
+    ensures tells { Tells K.setting actor begun.now (ask.Load cell) result seat.old.me seat.new.me }
+{
+    let _ = actor;
+    let _ = begun;
+    a_state_is_of_its_own_entries::<A, O>();
+    cells_have_words_of_their_own(layout);
+    steps_are_shown(layout);
+    words.load::<AddsEntry<A, N>>(seat, layout.word(cell) as usize)
+}
+
 /// One step of the actor whose machine this is, by a seat that carries it. It begins the operation `begun` with this step,
 /// if any: `machine` has begun it already.
 ///
@@ -86,6 +114,30 @@ pub fn perform<A, O, K: Plan<A, O>, M: Acts<K, A, O>>(
 {
     let told = make_step::<A, O, K, M, Brand>(words, layout, seat, actor, begun, machine);
     machine.take(told)
+}
+
+/// One step of an actor that loads this cell, by a seat that carries it, where its machine stays behind: who calls knows
+/// what the machine would ask for. It begins the operation `begun` with this step, if any. It answers the word that was found.
+///
+/// It is a load of the table's word, and nothing else of it is left at run time.
+#[inline(always)]
+pub fn load_cell<A, O, K: Plan<A, O>>(
+    words: &SharedWords<K, A, O>,
+    layout: &Layout,
+    seat: &mut ActorSeat<K, O>,
+    actor: u32,
+    begun: &Option<O>,
+    cell: Cell,
+) -> u64
+    requires words { IsLaidOut K.setting words.now.key words.now.table_id.words layout.now }
+    requires table { (seat.old.table_id ≡ words.now.table_id) × (seat.old.me.0.plan ≡ words.now.key) }
+    requires within { InRange layout.now cell }
+    requires may { MayAsk K.setting seat.old.me.0 actor begun.now (ask.Load cell) }
+    ensures same { seat.new.table_id ≡ seat.old.table_id }
+    ensures tells { Tells K.setting actor begun.now (ask.Load cell) result seat.old.me seat.new.me }
+    ensures saw { SawLegalList K.setting actor seat.old.me seat.new.me }
+{
+    load_word::<A, O, K, Brand>(words, layout, seat, actor, begun, cell)
 }
 
 /// The first actor that the seat carries gets a seat of its own, with its entries; the others stay. Where the seat carries

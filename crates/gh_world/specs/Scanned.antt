@@ -1,4 +1,4 @@
--- How many words workers scan, in every legal list of steps of all actors: in a cycle of marking each object and each global once.
+-- How many words workers scan, in every legal list of steps of all actors: each global is counted once in a cycle of marking, and of objects there is a most.
 use Rattle.std.specs.Prelude.{◌≡◌, ℕ, ◌+◌, ◌*◌, ◌≤◌, ◌==◌, if◌then◌else◌, min, List, [], ◌∷◌}
 use Rattle.gh_base.specs.Cells.{seats_of}
 use Rattle.gh_base.specs.declared.cell.Cell.TheVariants as cell
