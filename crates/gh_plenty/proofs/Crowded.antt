@@ -26,11 +26,10 @@ use Rattle.gh_mutator.specs.declared.processor.Processor.{Processor}
 use Rattle.gh_mutator.specs.New.{sought_by, sought_for}
 use Rattle.gh_model.specs.Ever.{Ever}
 use Rattle.gh_script.specs.Program.{Program}
-use Rattle.gh_world.specs.Actors as actors
-use Rattle.gh_world.specs.Actors.{AllStands}
-use Rattle.gh_world.specs.Processors.{arena_of, IsAnothers, IsPlacedAt, NoRoomFor}
-use Rattle.gh_world.specs.Spans.{IsPageFor}
-use Rattle.gh_world.specs.Wants.{total}
+use Rattle.gh_world.specs.Below.{IsStanding as IsStandingObject, AllStands, IsPageFor}
+use Rattle.gh_lists.specs.Lists as lists
+use Rattle.gh_lists.specs.Processors.{arena_of, IsAnothers, IsPlacedAt, NoRoomFor}
+use Rattle.gh_lists.specs.Wants.{total}
 use Rattle.gh_world.specs.World.{LaysOut, may_begin_of, pacing_of}
 use Rattle.gh_plenty.specs.Plenty.{all_objects, HasPlenty, objects_of}
 use Rattle.gh_plenty.proofs.Codes.{digits, one, up}
@@ -58,10 +57,10 @@ lie_within c least whole some fit one_page = record { some = omega (arith, some)
 
 module _ (p : Program) (l : Layout) (es : List (Entry Op)) (plenty : HasPlenty p) (laid : LaysOut p l) (stands : AllStands p.shapes l (pacing_of p) (may_begin_of p l) es) (lie : LieWithin (slots_of plenty.class) (slot_of plenty.class / 8)) where
   abbrev pub ever : Ever
-  ever = actors.ever p.shapes l (pacing_of p) (may_begin_of p l) es
+  ever = lists.ever p.shapes l (pacing_of p) (may_begin_of p l) es
 
   abbrev pub w : Words
-  w = actors.words p.shapes l (pacing_of p) (may_begin_of p l) es
+  w = lists.words p.shapes l (pacing_of p) (may_begin_of p l) es
 
   abbrev slots : ℕ
   slots = slots_of plenty.class
@@ -142,7 +141,7 @@ module _ (p : Program) (l : Layout) (es : List (Entry Op)) (plenty : HasPlenty p
 
       apart : (n : Name) → IsMade ever.made n → IsPlacedAt w n (1024 * q + i * words) → IsPlacedAt w n (1024 * x + j * words) → SameSlot
       apart n made here there =
-          let standing : actors.IsStanding p.shapes l (pacing_of p) (may_begin_of p l) es n = (made, (1024 * q + i * words, here)) in
+          let standing : IsStandingObject p.shapes l (pacing_of p) (may_begin_of p l) es n = (made, (1024 * q + i * words, here)) in
           let first = stands.apart.stand.once n (1024 * q + i * words) standing here in
           let second = stands.apart.stand.once n (1024 * x + j * words) standing there in
           let in_page = lie.within i few_i in let in_other = lie.within j few_j in

@@ -4,7 +4,7 @@ use Rattle.gh_class.specs.declared.class.SizeClass.TheVariants.{Small}
 use Rattle.gh_class.specs.Classes.{class_number, page_counts, pages_of, size_class_of, slot_of, slot_sizes, slots_of}
 use Rattle.gh_script.specs.Generated.{generated_program, HasItsSize, node_shape}
 use Rattle.gh_script.specs.Program.{statements_of}
-use Rattle.gh_world.specs.Wants.{total}
+use Rattle.gh_lists.specs.Wants.{total}
 use Rattle.gh_plenty.specs.Plenty.{all_objects, HasPlenty, makes, objects_of}
 use Rattle.gh_plenty.proofs.Counts.{count-le}
 

@@ -20,7 +20,7 @@ use Rattle.gh_mutator.specs.Listing.{Act, acts}
 use Rattle.gh_script.specs.declared.statement.Stmt.{Stmt}
 use Rattle.gh_script.specs.declared.statement.Stmt.TheVariants as statements
 use Rattle.gh_script.specs.Program.{op_of, Program, statements_of}
-use Rattle.gh_world.specs.Order.{acted_in, Answered, answered, before_step, ever_of, order_of}
+use Rattle.gh_lists.specs.Order.{acted_in, Answered, answered, before_step, ever_of, order_of}
 use Rattle.gh_world.specs.Runs.{acted_by, IsExplained}
 use Rattle.gh_world.specs.Turns.{is_statement_of}
 use Rattle.gh_plenty.specs.Plenty.{makes, objects_of}

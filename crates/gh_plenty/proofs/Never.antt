@@ -14,10 +14,10 @@ use Rattle.gh_lines.specs.Text.{Outcome}
 use Rattle.gh_mutator.specs.Deeds.{OnlyPointsChange, processor_kind}
 use Rattle.gh_mutator.specs.New.{sought_for}
 use Rattle.gh_script.specs.Program.{Program, WellFormed}
-use Rattle.gh_world.specs.Actors.{AllStands}
+use Rattle.gh_world.specs.Below.{AllStands}
 use Rattle.gh_mutator.specs.Sound.{has_names, has_room}
-use Rattle.gh_world.specs.Order.{has_left, in_range, is_over, order_of}
-use Rattle.gh_world.specs.Processors.{arena_of, has_more, is_of, IsFullFor, may_leave, may_run, NoRoomFor}
+use Rattle.gh_lists.specs.Order.{has_left, in_range, is_over, order_of}
+use Rattle.gh_lists.specs.Processors.{arena_of, has_more, is_of, IsFullFor, may_leave, may_run, NoRoomFor}
 use Rattle.gh_world.specs.Runs.{Awaited, EveryListOfAScriptStands, FoundNoRoom, IsExplained, words_in}
 use Rattle.gh_world.specs.Wishes.{wishes_of}
 use Rattle.gh_world.specs.World.{LaysOut, may_begin_of, pacing_of, setting_of}

@@ -13,9 +13,9 @@ use Rattle.gh_script.specs.declared.statement.Stmt.{Stmt}
 use Rattle.gh_script.specs.declared.statement.Stmt.TheVariants.{New}
 use Rattle.gh_script.specs.Generated.{generated_program}
 use Rattle.gh_script.specs.Program.{Program, statements_of, WellFormed}
-use Rattle.gh_world.specs.Order.{acted_in, Answered}
+use Rattle.gh_lists.specs.Order.{acted_in, Answered}
 use Rattle.gh_world.specs.Runs.{IsExplained}
-use Rattle.gh_world.specs.Wants.{total}
+use Rattle.gh_lists.specs.Wants.{total}
 use Rattle.gh_world.specs.World.{LaysOut}
 
 -- the statement makes an object

@@ -5,8 +5,8 @@ use Rattle.std.proofs.lemmas.List.{length-map}
 use Rattle.gh_ever.specs.Lists.{ever_of, Lists}
 use Rattle.gh_lines.specs.Text.{answers_by}
 use Rattle.gh_mutator.specs.Serving.{is_statement}
-use Rattle.gh_world.specs.Order.{acted_in, Answered}
-use Rattle.gh_world.specs.Order as run
+use Rattle.gh_lists.specs.Order.{acted_in, Answered}
+use Rattle.gh_lists.specs.Order as run
 use Rattle.gh_world.specs.Points.{answers_of, op_at_point, PointsAreStatements, statements_acted, StatementsAreEnough}
 use Rattle.gh_world.specs.Runs.{acted_by, EveryOrderHasOneRun}
 use Rattle.gh_world.specs.World.{points_in}

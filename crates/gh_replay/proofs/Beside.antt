@@ -16,7 +16,7 @@ use Rattle.gh_script.specs.Program.{Goroutine, no_goroutine, statement_at}
 use Rattle.gh_script.specs.declared.statement.Stmt.{Stmt}
 use Rattle.gh_script.specs.declared.statement.Stmt.TheVariants as stmts
 use Rattle.gh_mutator.specs.Serving.{is_statement}
-use Rattle.gh_world.specs.Order.{Answered}
+use Rattle.gh_lists.specs.Order.{Answered}
 use Rattle.gh_world.specs.Points.{answers_of, ever_along, op_at_point, ops_of}
 use Rattle.gh_world.specs.Runs.{acted_by}
 use Rattle.gh_world.specs.Turns.{is_statement_of}

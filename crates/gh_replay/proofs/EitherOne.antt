@@ -3,9 +3,9 @@ use Rattle.std.proofs.Common.{◌≡◌, ℕ, zero, suc, ◌+◌, ◌≤◌, Boo
 use Rattle.std.proofs.lemmas.Bool.Decides.{nat_tests}
 use Rattle.gh_base.specs.Lists.{started}
 use Rattle.gh_coord.specs.Listing as coord
-use Rattle.gh_world.specs.declared.handshake.Actor.{Actor}
+use Rattle.gh_lists.specs.declared.handshake.Actor.{Actor}
 use Rattle.gh_world.specs.Wishes.{most_cycles}
-use Rattle.gh_world.specs.declared.handshake.Actor.TheVariants.{Leads}
+use Rattle.gh_lists.specs.declared.handshake.Actor.TheVariants.{Leads}
 use Rattle.gh_replay.proofs.Vocabulary.{actor_after, answers_given, Coordinating, EitherOne, Entry, EveryRunIsExplained, IsRun, IsRunSoFar, IsScheduled, Layout, LaysOut, Op, outcome_by, Plan, Program, reached_in, RunsEndWhole, RunsGoOn, setting_of, spent_after, stands_in, turns_of, WellFormed, who}
 use Rattle.gh_replay.proofs.Choosing.{none_left, who_there}
 use Rattle.gh_replay.proofs.OneRun.{stands_low}

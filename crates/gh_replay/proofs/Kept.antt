@@ -35,9 +35,9 @@ use Rattle.gh_worker.specs.Stays as worker_ends
 use Rattle.gh_worker.specs.Listing as worker
 use Rattle.gh_world.specs.declared.event.Event.{Event}
 use Rattle.gh_world.specs.declared.event.Event.TheVariants as event
-use Rattle.gh_world.specs.declared.handshake.Actor.{Actor}
-use Rattle.gh_world.specs.declared.handshake.Actor.TheVariants as actor
-use Rattle.gh_world.specs.Handshake.{takes}
+use Rattle.gh_lists.specs.declared.handshake.Actor.{Actor}
+use Rattle.gh_lists.specs.declared.handshake.Actor.TheVariants as actor
+use Rattle.gh_lists.specs.Handshake.{takes}
 use Rattle.gh_world.specs.Schedule.{has_ended}
 use Rattle.gh_world.specs.World.{done_or, event_at, event_by, event_of, told_event}
 use Rattle.gh_replay.specs.declared.place.Place as place

@@ -8,9 +8,9 @@ use Rattle.gh_base.specs.declared.machine.Entry.{Entry}
 use Rattle.gh_script.specs.Program.{Program}
 use Rattle.gh_coord.specs.Listing.{Coordinating}
 use Rattle.gh_lines.specs.Text.{Outcome}
-use Rattle.gh_world.specs.declared.handshake.Actor.{Actor}
-use Rattle.gh_world.specs.declared.handshake.Actor.TheVariants.{Leads}
-use Rattle.gh_world.specs.Order.{ever_of}
+use Rattle.gh_lists.specs.declared.handshake.Actor.{Actor}
+use Rattle.gh_lists.specs.declared.handshake.Actor.TheVariants.{Leads}
+use Rattle.gh_lists.specs.Order.{ever_of}
 use Rattle.gh_world.specs.Schedule.{ended_after}
 use Rattle.gh_world.specs.World.{LaysOut, setting_of}
 use Rattle.gh_world.specs.Runs.{IsRun, IsRunSoFar, IsExplained, EveryOrderHasOneRun, answers_given, outcome_by, spent_after}

@@ -8,7 +8,7 @@ use Rattle.gh_base.specs.declared.layout.Layout.{Layout}
 use Rattle.gh_base.specs.declared.machine.Entry.{Entry}
 use Rattle.gh_base.specs.Lists.{by}
 use Rattle.gh_script.specs.Program.{Program}
-use Rattle.gh_world.specs.Order.{begun_in}
+use Rattle.gh_lists.specs.Order.{begun_in}
 use Rattle.gh_world.specs.Runs.{actors_in, EveryOrderHasOneRun, IsRun, IsRunSoFar}
 use Rattle.gh_world.specs.Schedule.{ended_after}
 use Rattle.gh_world.specs.Turns.{turns_of}

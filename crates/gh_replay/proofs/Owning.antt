@@ -9,7 +9,7 @@ use Rattle.gh_base.specs.declared.operation.Op.TheVariants as ops
 use Rattle.gh_base.specs.declared.shape.Shape.{Shape}
 use Rattle.gh_base.specs.Shapes.{shape_at, is_pointer}
 use Rattle.gh_lines.specs.Text.{answers_by}
-use Rattle.gh_world.specs.Order.{acted_in, Answered}
+use Rattle.gh_lists.specs.Order.{acted_in, Answered}
 use Rattle.gh_world.specs.Turns.{is_statement_of}
 use Rattle.gh_replay.specs.Report.{IsReportOf, ReportState}
 use Rattle.gh_model.specs.declared.EverValue.{EverValue}

@@ -7,11 +7,11 @@ use Rattle.gh_world.specs.declared.event.Event.TheVariants as event
 use Rattle.gh_world.specs.Schedule.{ended_after}
 use Rattle.gh_replay.specs.Places.{Ran, seen_of}
 use Rattle.gh_replay.proofs.Vocabulary.{actor_after, actors_of, AllDone, Answer, answer_in, answered_in, answered_of, answers_given, Appends, Coordinating, drawn_of, Entry, EveryRunIsExplained, is_done, IsAfter, IsExplained, IsReplayed, IsRun, IsScheduled, IsUnfinished, Layout, layout_of, LaysOut, marked_by, moved, now_in, Op, opening, Outcome, outcome_by, Plan, Program, reached_in, script_of, setting_of, spent_after, Standing, stands_in, State, swept_cycle, total_of, WellFormed, who, with_goroutine}
-use Rattle.gh_world.specs.Credit.{spent_at}
+use Rattle.gh_world.specs.Below.{spent_at}
 use Rattle.gh_world.specs.Points.{PointsAreStatements, StatementsAreEnough}
-use Rattle.gh_world.specs.Wants.{total}
+use Rattle.gh_lists.specs.Wants.{total}
 use Rattle.gh_world.specs.World.{actor_of, event_of, marks_at, points_of}
-use Rattle.gh_world.proofs.CycleNumbers.Sums.{total_same}
+use Rattle.gh_lists.specs.Sums.{total_same}
 use Rattle.gh_replay.proofs.Along.{are_along, comes_to, RunsBeside}
 use Rattle.gh_replay.proofs.Answering.{none_answered, one_answered}
 use Rattle.gh_replay.proofs.Choosing.{Agree, same_moved, same_who, who_there}

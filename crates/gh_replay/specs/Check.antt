@@ -6,8 +6,8 @@ use Rattle.gh_model.specs.Answers.{AllAnswer}
 use Rattle.gh_model.specs.Ever.{Ever, opening_ever}
 use Rattle.gh_script.specs.Program.{Program}
 use Rattle.gh_ever.specs.Lists.{counts_of, ever_of, Lists}
-use Rattle.gh_world.specs.Order.{Answered}
-use Rattle.gh_world.specs.Order as run
+use Rattle.gh_lists.specs.Order.{Answered}
+use Rattle.gh_lists.specs.Order as run
 use Rattle.gh_world.specs.Points.{answers_of, ever_along, op_at_point, ops_of, with_ends}
 use Rattle.gh_world.specs.Runs.{acted_by}
 use Rattle.gh_world.specs.Turns.{count_of}

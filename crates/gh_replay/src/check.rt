@@ -16,7 +16,7 @@ ghost use Rattle.gh_ever.specs.Lists.{ever_of};
 ghost use Rattle.gh_lines.specs.Text.{answers_by};
 ghost use Rattle.gh_model.specs.Ever.{ever_after};
 ghost use Rattle.gh_replay.specs.Check.{AreAlong, at_end, HaveStatements, IsOpening, left_of};
-ghost use Rattle.gh_world.specs.Order.{Answered};
+ghost use Rattle.gh_lists.specs.Order.{Answered};
 ghost use Rattle.gh_world.specs.Points.{ever_along, op_at_point, with_ends};
 
 use gh_base::Answer;

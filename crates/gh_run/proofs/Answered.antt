@@ -13,8 +13,8 @@ use Rattle.gh_run.proofs.Places.{each_first, none_left}
 use Rattle.gh_script.specs.Program.{no_goroutine, Program, statements_in, statements_of}
 use Rattle.gh_shared.specs.declared.heap.Heap.{Heap}
 use Rattle.gh_shared.specs.Handles.{IsHeapOf, number_of, own_of, plan_of}
-use Rattle.gh_world.specs.Order.{begun_in}
-use Rattle.gh_world.specs.Processors.{arena_of, given_of}
+use Rattle.gh_lists.specs.Order.{begun_in}
+use Rattle.gh_lists.specs.Processors.{arena_of, given_of}
 use Rattle.gh_world.specs.Turns.{total_of, turns_of}
 use Rattle.gh_shared.specs.Plans.{setting}
 

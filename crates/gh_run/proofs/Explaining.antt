@@ -39,10 +39,10 @@ use Rattle.gh_shared.specs.Plans.{Planned, setting}
 use Rattle.gh_shared.proofs.Ready.{OfItsOwn}
 use Rattle.gh_table.specs.declared.plan.View.{View}
 use Rattle.gh_worker.specs.Listing as worker
-use Rattle.gh_world.specs.declared.handshake.Actor.{Actor}
-use Rattle.gh_world.specs.declared.handshake.Actor.TheVariants as actor
-use Rattle.gh_world.specs.Handshake.{start, takes}
-use Rattle.gh_world.specs.Order.{begun_in}
+use Rattle.gh_lists.specs.declared.handshake.Actor.{Actor}
+use Rattle.gh_lists.specs.declared.handshake.Actor.TheVariants as actor
+use Rattle.gh_lists.specs.Handshake.{start, takes}
+use Rattle.gh_lists.specs.Order.{begun_in}
 use Rattle.gh_world.specs.Runs.{answers_at, answers_given, EveryRunIsExplained, IsRun, outcome_by, spent_after}
 use Rattle.gh_world.specs.Schedule.{has_ended}
 use Rattle.gh_world.specs.Turns.{is_of_seat, turns_of}

@@ -20,12 +20,12 @@ use Rattle.gh_world.specs.declared.progress.Progress.{Progress}
 use Rattle.gh_world.specs.declared.turns.Next.{Next}
 use Rattle.gh_world.specs.declared.turns.Next.TheVariants as next
 use Rattle.gh_world.specs.Due.{FitsIn, WhatIsDueFits}
-use Rattle.gh_world.specs.Order.{ended_in, goroutine_of}
-use Rattle.gh_world.specs.Processors.{all_ended, arena_of, asked_by}
+use Rattle.gh_lists.specs.Order.{ended_in, goroutine_of}
+use Rattle.gh_lists.specs.Processors.{all_ended, arena_of, asked_by}
 use Rattle.gh_world.specs.Turns.{is_over as over_at, is_run_due, op_due}
 use Rattle.gh_world.specs.Wishes.{wishes_of}
 use Rattle.gh_world.specs.World.{LaysOut}
-use Rattle.gh_world.proofs.AllActors.Beginning.{both}
+use Rattle.gh_lists.specs.Beginning.{both}
 
 less : (i n : ℕ) → nat_lt i n ≡ true → i < n
 less i n e = grind (arith, nat_tests)

@@ -22,7 +22,7 @@ use Rattle.gh_shared.specs.Machines.{answered, asks, gives, goes}
 use Rattle.gh_shared.specs.Plans.{Planned}
 use Rattle.gh_shared.proofs.Keeping.{runs_after}
 use Rattle.gh_table.specs.Runs.{begun_next, entries_made, Gave, machine_after}
-use Rattle.gh_world.specs.Order.{begun_in}
+use Rattle.gh_lists.specs.Order.{begun_in}
 use Rattle.gh_world.proofs.StepFacts.{step_facts}
 use Rattle.gh_world.proofs.Explained.Steps.{begins_pointed, given_is, is_pointed, stays_pointed}
 

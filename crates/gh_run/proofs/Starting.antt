@@ -27,7 +27,7 @@ use Rattle.gh_world.specs.declared.turns.Next.{Next}
 use Rattle.gh_world.specs.declared.turns.Next.TheVariants as next
 use Rattle.gh_world.specs.After.{KeepsPlace}
 use Rattle.gh_world.specs.Due.{EachKeepsItsPlace}
-use Rattle.gh_world.specs.Order.{begun_in}
+use Rattle.gh_lists.specs.Order.{begun_in}
 use Rattle.gh_world.specs.Turns.{is_over, op_due, to_come}
 use Rattle.gh_world.specs.Wishes.{most_cycles}
 use Rattle.gh_world.specs.World.{opening_progress}

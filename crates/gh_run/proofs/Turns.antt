@@ -30,14 +30,14 @@ use Rattle.gh_shared.specs.Plans.{Planned, setting}
 use Rattle.gh_shared.proofs.Keeping.{by_made}
 use Rattle.gh_shared.proofs.Ready.{has_room_then, OfItsOwn}
 use Rattle.gh_table.specs.Runs.{entries_made, Gave, machine_after}
-use Rattle.gh_world.specs.declared.handshake.Actor.TheVariants as actor
+use Rattle.gh_lists.specs.declared.handshake.Actor.TheVariants as actor
 use Rattle.gh_world.specs.declared.progress.Progress.{Progress}
 use Rattle.gh_world.specs.declared.turns.Next.{Next}
 use Rattle.gh_world.specs.declared.turns.Next.TheVariants as next
 use Rattle.gh_world.specs.After.{KeepsPlace}
 use Rattle.gh_world.specs.Due.{EachKeepsItsPlace, PlacesAreKept}
-use Rattle.gh_world.specs.Order.{begun_in, has_left}
-use Rattle.gh_world.specs.Processors.{arena_of, given_of}
+use Rattle.gh_lists.specs.Order.{begun_in, has_left}
+use Rattle.gh_lists.specs.Processors.{arena_of, given_of}
 use Rattle.gh_world.specs.Turns.{Follows, goroutine_at, is_poll_due, is_run_due, op_due, statements_among, to_come}
 use Rattle.gh_world.specs.World.{AreTurns, progress_after}
 use Rattle.gh_world.proofs.Due.{leaves_is}

@@ -18,8 +18,8 @@ use Rattle.gh_shared.specs.Machines.{IsProcessor}
 use Rattle.gh_shared.specs.Plans.{Planned, setting}
 use Rattle.gh_world.specs.declared.progress.Progress.{Progress}
 use Rattle.gh_world.specs.After.{KeepsPlace}
-use Rattle.gh_world.specs.Order.{begun_in}
-use Rattle.gh_world.specs.Processors.{arena_of, given_of}
+use Rattle.gh_lists.specs.Order.{begun_in}
+use Rattle.gh_lists.specs.Processors.{arena_of, given_of}
 use Rattle.gh_world.specs.Turns.{goroutine_at, is_over, is_run_due, statements_among, to_come, total_by, turns_of}
 use Rattle.gh_world.specs.World.{AreTurns, opening_progress}
 

@@ -19,8 +19,8 @@ use Rattle.gh_mutator.specs.Mutating.{Mutating}
 use Rattle.gh_mutator.specs.Processor.{made_by}
 use Rattle.gh_mutator.specs.Serving.{has_left_at, is_leaving}
 use Rattle.gh_mutator.specs.Sound.{has_names, has_room, most_objects, SoundOp}
-use Rattle.gh_world.specs.Order.{ended_in, goroutine_of, has_left, in_range, is_over}
-use Rattle.gh_world.specs.Processors.{all_ended, arena_of, asked_by, has_more, is_of, may_leave}
+use Rattle.gh_lists.specs.Order.{ended_in, goroutine_of, has_left, in_range, is_over}
+use Rattle.gh_lists.specs.Processors.{all_ended, arena_of, asked_by, has_more, is_of, may_leave}
 use Rattle.gh_world.specs.Wishes.{wishes_of}
 use Rattle.gh_world.specs.World.{may_begin_of}
 use Rattle.gh_world.proofs.Due.{both_true}

@@ -12,15 +12,15 @@ use Rattle.gh_coord.specs.Listing.{Coordinating}
 use Rattle.gh_coord.specs.Stopping.{acks_of}
 use Rattle.gh_mutator.specs.Mutating as mutating
 use Rattle.gh_worker.specs.Listing as worker
-use Rattle.gh_world.specs.Credit.{spent_at}
-use Rattle.gh_world.specs.Wants.{total}
+use Rattle.gh_world.specs.Below.{spent_at}
+use Rattle.gh_lists.specs.Wants.{total}
 use Rattle.gh_world.specs.Wishes.{most_cycles}
 use Rattle.gh_table.specs.declared.plan.View.{View}
 use Rattle.gh_table.specs.Rule.{actor_in, IsAfterOneList}
 use Rattle.gh_table.specs.Runs.{entries_made, machine_after, Ran}
 use Rattle.gh_table.specs.Views.{Carries, has, one_carried}
-use Rattle.gh_world.specs.declared.handshake.Actor.{Actor}
-use Rattle.gh_world.specs.declared.handshake.Actor.TheVariants as actor
+use Rattle.gh_lists.specs.declared.handshake.Actor.{Actor}
+use Rattle.gh_lists.specs.declared.handshake.Actor.TheVariants as actor
 use Rattle.gh_shared.specs.declared.machine.ActorMachine.{ActorMachine}
 use Rattle.gh_shared.specs.declared.machine.ActorMachine.TheVariants.{Leads, Marks, Runs}
 use Rattle.gh_shared.specs.Calls.{IsClosedAfter}

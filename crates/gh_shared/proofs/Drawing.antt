@@ -7,10 +7,10 @@ use Rattle.gh_base.specs.declared.operation.Op.{Op}
 use Rattle.gh_base.specs.Cells.{seats_of}
 use Rattle.gh_base.specs.Lists.{by, Kind, state_of}
 use Rattle.gh_table.specs.Views.{has}
-use Rattle.gh_world.specs.declared.handshake.Actor.{Actor}
-use Rattle.gh_world.specs.Credit.{spent_at}
-use Rattle.gh_world.specs.Wants.{total}
-use Rattle.gh_world.proofs.CycleNumbers.Sums.{total_at, total_none, total_same}
+use Rattle.gh_lists.specs.declared.handshake.Actor.{Actor}
+use Rattle.gh_world.specs.Below.{spent_at}
+use Rattle.gh_lists.specs.Wants.{total}
+use Rattle.gh_lists.specs.Sums.{total_at, total_none, total_same}
 use Rattle.gh_shared.specs.Plans.{Planned, setting}
 use Rattle.gh_shared.specs.Shown.{drawn_beside}
 use Rattle.gh_shared.proofs.Ready.{OfItsOwn}

@@ -14,8 +14,8 @@ use Rattle.gh_table.specs.declared.plan.View.{View}
 use Rattle.gh_table.specs.Runs.{entries_made, machine_after, Ran}
 use Rattle.gh_worker.specs.Listing as worker
 use Rattle.gh_worker.specs.Listing.{Working}
-use Rattle.gh_world.specs.Order.{ended_in, has_left}
-use Rattle.gh_world.specs.Processors.{asked_by}
+use Rattle.gh_lists.specs.Order.{ended_in, has_left}
+use Rattle.gh_lists.specs.Processors.{asked_by}
 use Rattle.gh_shared.specs.declared.machine.ActorMachine.{ActorMachine}
 use Rattle.gh_shared.specs.declared.machine.ActorMachine.TheVariants.{Leads, Marks, Runs}
 use Rattle.gh_shared.specs.Handles.{ended_at}

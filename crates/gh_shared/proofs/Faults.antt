@@ -18,7 +18,7 @@ use Rattle.gh_mutator.specs.Processor.{at_task}
 use Rattle.gh_mutator.specs.Serving.{is_leaving}
 use Rattle.gh_table.specs.Runs.{begun_next, entries_made, Gave, machine_after}
 use Rattle.gh_table.specs.Views.{entry}
-use Rattle.gh_world.specs.declared.handshake.Actor.TheVariants as actor
+use Rattle.gh_lists.specs.declared.handshake.Actor.TheVariants as actor
 use Rattle.gh_shared.specs.declared.handle.Handle.{Handle}
 use Rattle.gh_shared.specs.declared.heap.Heap.{Heap}
 use Rattle.gh_shared.specs.declared.machine.ActorMachine.{ActorMachine}

@@ -9,9 +9,9 @@ use Rattle.gh_coord.specs.Listing as coord
 use Rattle.gh_coord.specs.Listing.{Coordinating}
 use Rattle.gh_mutator.specs.Mutating as mutating
 use Rattle.gh_mutator.specs.Mutating.{Mutating}
-use Rattle.gh_mutator.specs.Processor.{opening_processor}
+use Rattle.gh_mutator.specs.Processor.{opening_processor, made_by}
 use Rattle.gh_worker.specs.Listing as worker
-use Rattle.gh_world.specs.declared.handshake.Actor.TheVariants as actor
+use Rattle.gh_lists.specs.declared.handshake.Actor.TheVariants as actor
 use Rattle.gh_world.specs.Wishes.{most_cycles}
 use Rattle.gh_table.specs.declared.plan.View.{View}
 use Rattle.gh_table.specs.Rule.{actor_in}
@@ -20,7 +20,6 @@ use Rattle.gh_shared.specs.declared.machine.ActorMachine.{ActorMachine}
 use Rattle.gh_shared.specs.declared.machine.ActorMachine.TheVariants.{Leads, Marks, Runs}
 use Rattle.gh_shared.specs.Machines.{actor_of, Belongs, opening}
 use Rattle.gh_base.specs.Lists.{by}
-use Rattle.gh_mutator.specs.Processor.{made_by}
 use Rattle.gh_world.specs.World.{LaysOut}
 use Rattle.gh_shared.specs.Counting.{CountsFirst}
 use Rattle.gh_shared.specs.Plans.{Planned, setting}

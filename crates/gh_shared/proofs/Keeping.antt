@@ -21,8 +21,8 @@ use Rattle.gh_mutator.specs.Serving.{is_leaving}
 use Rattle.gh_table.specs.declared.plan.View.{View}
 use Rattle.gh_table.specs.Runs.{begun_next, entries_made, Gave, machine_after, Ran}
 use Rattle.gh_table.specs.Views.{entry}
-use Rattle.gh_world.specs.Order.{ended_in, ends, goroutine_of, has_left, leaves}
-use Rattle.gh_world.specs.Processors.{asked_by, asks_collector}
+use Rattle.gh_lists.specs.Order.{ended_in, ends, goroutine_of, has_left, leaves}
+use Rattle.gh_lists.specs.Processors.{asked_by, asks_collector}
 use Rattle.gh_world.specs.Wishes.{wishes_of}
 use Rattle.gh_world.specs.World.{making}
 use Rattle.gh_world.proofs.Due.{leaves_is}

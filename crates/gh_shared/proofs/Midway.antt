@@ -13,7 +13,7 @@ use Rattle.gh_table.specs.Rule.{actor_in, MayAsk, Tells}
 use Rattle.gh_table.specs.Runs.{begun_next, machine_after, Ran, SawLegalList}
 use Rattle.gh_table.specs.Views.{BeganAsEach, Carries, entry, has}
 use Rattle.gh_table.proofs.Running.{saw_before, saw_since}
-use Rattle.gh_world.specs.declared.handshake.Actor.{Actor}
+use Rattle.gh_lists.specs.declared.handshake.Actor.{Actor}
 use Rattle.gh_world.specs.World.{may_begin_of}
 use Rattle.gh_shared.specs.declared.machine.ActorMachine.{ActorMachine}
 use Rattle.gh_shared.specs.declared.machine.ActorMachine.TheVariants.{Runs}

@@ -15,10 +15,10 @@ use Rattle.gh_mutator.specs.Mutating as mutating
 use Rattle.gh_mutator.specs.Mutating.{Mutating}
 use Rattle.gh_table.specs.declared.plan.View.{View}
 use Rattle.gh_table.specs.Runs.{Gave, machine_after, Ran}
-use Rattle.gh_world.specs.declared.handshake.Actor.{Actor}
-use Rattle.gh_world.specs.declared.handshake.Actor.TheVariants as actor
-use Rattle.gh_world.specs.Order.{ended_in, ends, goroutine_of, has_left, leaves}
-use Rattle.gh_world.specs.Processors.{asks_collector}
+use Rattle.gh_lists.specs.declared.handshake.Actor.{Actor}
+use Rattle.gh_lists.specs.declared.handshake.Actor.TheVariants as actor
+use Rattle.gh_lists.specs.Order.{ended_in, ends, goroutine_of, has_left, leaves}
+use Rattle.gh_lists.specs.Processors.{asks_collector}
 use Rattle.gh_world.specs.World.{may_begin_of}
 use Rattle.gh_world.proofs.Resting.{is_processor}
 use Rattle.gh_shared.specs.declared.machine.ActorMachine.{ActorMachine}

@@ -12,12 +12,11 @@ use Rattle.gh_coord.specs.Stopping.{acks_of}
 use Rattle.gh_table.specs.Runs.{Gave, Ran, SawLegalList}
 use Rattle.gh_table.specs.declared.plan.View.{View}
 use Rattle.gh_table.specs.Views.{BeganAsEach, Carries, has}
-use Rattle.gh_world.specs.declared.handshake.Actor.TheVariants as actor
-use Rattle.gh_world.specs.Actors.{AllStands}
-use Rattle.gh_world.specs.Credit.{spent_among}
-use Rattle.gh_world.specs.Order.{ends, goroutine_of, leaves}
+use Rattle.gh_lists.specs.declared.handshake.Actor.TheVariants as actor
+use Rattle.gh_world.specs.Below.{AllStands, spent_among}
+use Rattle.gh_lists.specs.Order.{ends, goroutine_of, leaves}
 use Rattle.gh_mutator.specs.Listing.{is_busy_at}
-use Rattle.gh_world.specs.Processors.{answers_of, AnswersAsEver, arena_of, asks_collector, at_seat, given_of}
+use Rattle.gh_lists.specs.Processors.{answers_of, AnswersAsEver, arena_of, asks_collector, at_seat, given_of}
 use Rattle.gh_world.specs.World.{may_begin_of, pacing_of}
 use Rattle.gh_shared.specs.declared.handle.Handle.{Handle}
 use Rattle.gh_shared.specs.declared.heap.Heap.{Heap}

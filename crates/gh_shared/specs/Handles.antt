@@ -10,7 +10,7 @@ use Rattle.gh_table.specs.declared.plan.View.{View}
 use Rattle.gh_table.specs.Views.{one_carried}
 use Rattle.gh_script.specs.Program.{Program}
 use Rattle.gh_worker.specs.Listing as worker
-use Rattle.gh_world.specs.Order.{has_left}
+use Rattle.gh_lists.specs.Order.{has_left}
 use Rattle.gh_world.specs.World.{LaysOut}
 use Rattle.gh_shared.specs.declared.handle.Handle.{Handle}
 use Rattle.gh_shared.specs.declared.heap.Heap.{Heap}

@@ -18,7 +18,7 @@ use Rattle.gh_worker.specs.Blind as marks_blindly
 use Rattle.gh_worker.specs.Listing.{Working}
 use Rattle.gh_worker.specs.Listing as working
 use Rattle.gh_worker.specs.Stays as worker
-use Rattle.gh_world.specs.declared.handshake.Actor.TheVariants as actor
+use Rattle.gh_lists.specs.declared.handshake.Actor.TheVariants as actor
 use Rattle.gh_shared.specs.declared.machine.ActorMachine.{ActorMachine}
 use Rattle.gh_shared.specs.declared.machine.ActorMachine.TheVariants.{Leads, Marks, Runs}
 use Rattle.gh_shared.specs.Machines.{actor_of, answered, asks, begins, Belongs, ended, gives, goes, is_busy, IsProcessorOf, layout, MayBegin}

@@ -5,8 +5,8 @@ use Rattle.gh_base.specs.declared.operation.Op.{Op}
 use Rattle.gh_base.specs.Lists.{Setting}
 use Rattle.gh_mutator.specs.Processor.{opening_processor}
 use Rattle.gh_script.specs.Program.{Program}
-use Rattle.gh_world.specs.declared.handshake.Actor.{Actor}
-use Rattle.gh_world.specs.declared.handshake.Actor.TheVariants.{Runs}
+use Rattle.gh_lists.specs.declared.handshake.Actor.{Actor}
+use Rattle.gh_lists.specs.declared.handshake.Actor.TheVariants.{Runs}
 use Rattle.gh_world.specs.World.{setting_of}
 use Rattle.std.proofs.Common.{refl}
 use Rattle.std.proofs.lemmas.Bool.{leb-true}

@@ -13,12 +13,12 @@ use Rattle.gh_mutator.specs.Mutating.{Mutating}
 use Rattle.gh_mutator.specs.Serving.{is_leaving}
 use Rattle.gh_mutator.specs.Sound.{most_objects}
 use Rattle.gh_table.specs.Views.{has}
-use Rattle.gh_world.specs.declared.handshake.Actor.{Actor}
-use Rattle.gh_world.specs.declared.handshake.Actor.TheVariants as actor
-use Rattle.gh_world.specs.Credit.{spent_at}
-use Rattle.gh_world.specs.Order.{ended_in, has_left}
-use Rattle.gh_world.specs.Processors.{asked_by}
-use Rattle.gh_world.specs.Wants.{total}
+use Rattle.gh_lists.specs.declared.handshake.Actor.{Actor}
+use Rattle.gh_lists.specs.declared.handshake.Actor.TheVariants as actor
+use Rattle.gh_world.specs.Below.{spent_at}
+use Rattle.gh_lists.specs.Order.{ended_in, has_left}
+use Rattle.gh_lists.specs.Processors.{asked_by}
+use Rattle.gh_lists.specs.Wants.{total}
 use Rattle.gh_world.specs.Wishes.{wishes_of}
 use Rattle.gh_world.specs.World.{MadeAtMost}
 use Rattle.gh_shared.specs.declared.machine.ActorMachine.{ActorMachine}

@@ -13,7 +13,7 @@ use std::snapshot::Snapshot;
 pub struct AnyActor;
 
 impl Model for AnyActor {
-    ghost use Rattle.gh_world.specs.declared.handshake.Actor.{Actor};
+    ghost use Rattle.gh_lists.specs.declared.handshake.Actor.{Actor};
     ghost use Rattle.gh_shared.specs.Plans.{no_actor};
 
     ghost Value = { Actor };

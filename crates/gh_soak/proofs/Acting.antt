@@ -23,7 +23,7 @@ use Rattle.gh_mutator.specs.Deeds.{acted, answer_at}
 use Rattle.gh_mutator.specs.Listing.{Act, acts}
 use Rattle.gh_plenty.specs.Plenty.{NeverFull}
 use Rattle.gh_script.specs.Program.{Program}
-use Rattle.gh_world.specs.Order.{acted_at, acted_in, answered, Answered, before_step, ever_of, order_at, order_of}
+use Rattle.gh_lists.specs.Order.{acted_at, acted_in, answered, Answered, before_step, ever_of, order_at, order_of}
 use Rattle.gh_world.specs.Points.{answers_of, ops_of}
 use Rattle.gh_world.specs.Runs.{IsExplained}
 use Rattle.gh_world.specs.Turns.{is_of_seat, turns_of}

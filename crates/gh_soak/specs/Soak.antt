@@ -13,7 +13,7 @@ use Rattle.gh_run.specs.Told.{IsRunByThreads}
 use Rattle.gh_script.specs.Generated.{generated_program}
 use Rattle.gh_script.specs.Program.{Program}
 use Rattle.gh_world.specs.Cycles.{AreLive}
-use Rattle.gh_world.specs.Order.{acted_in, ever_of}
+use Rattle.gh_lists.specs.Order.{acted_in, ever_of}
 use Rattle.gh_world.specs.Points.{ops_of}
 use Rattle.gh_world.specs.Runs.{IsExplained}
 use Rattle.gh_world.specs.World.{LaysOut}

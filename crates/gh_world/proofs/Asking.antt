@@ -10,7 +10,7 @@ use Rattle.gh_world.specs.Vocabulary.{statements_of, Stmt, work_at}
 use Rattle.gh_base.specs.declared.operation.Op.TheVariants as op
 use Rattle.gh_script.specs.declared.statement.Stmt.TheVariants as stmts
 use Rattle.gh_script.specs.Program.{op_of}
-use Rattle.gh_world.specs.Processors.{asked_by, asks_collector}
+use Rattle.gh_lists.specs.Processors.{asked_by, asks_collector}
 use Rattle.gh_world.specs.Turns.{count_of, is_of_seat, is_statement_of, round_of, turn_of}
 use Rattle.gh_world.specs.Wishes.{may_ask, wishes_among, wishes_of}
 use Rattle.gh_world.proofs.Vocabulary.{all_ended, Arena, begun_in, ended_in, ends, Entry, eq-eqb, Op, option_to_list, Program, slice_get, slice_get_past, total_of, turns_of}

@@ -5,9 +5,9 @@ use Rattle.gh_coord.specs.Listing as coord
 use Rattle.gh_mutator.specs.Spending.{spent_of}
 use Rattle.gh_worker.specs.Listing as worker
 use Rattle.gh_world.specs.declared.runner.Runner.{Runner}
-use Rattle.gh_world.specs.Credit.{spent_among, spent_at}
+use Rattle.gh_law.specs.Credit.{spent_among, spent_at}
 use Rattle.gh_world.specs.Runs.{drawn_of}
-use Rattle.gh_world.specs.Wants.{total}
+use Rattle.gh_lists.specs.Wants.{total}
 use Rattle.gh_world.specs.World.{actor_of, State, worker_or}
 use Rattle.gh_world.proofs.Parts.{other_here, runner_here}
 

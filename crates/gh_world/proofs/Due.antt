@@ -10,7 +10,7 @@ use Rattle.gh_base.specs.declared.operation.Op.TheVariants as op
 use Rattle.gh_script.specs.declared.statement.Stmt.TheVariants.{New, Store, GetGlobal, SetGlobal, Int, Nil, Gc}
 use Rattle.gh_script.specs.Program.{goroutine_at as goroutine_there, op_of, IsStatement, AreStatements}
 use Rattle.gh_world.specs.declared.turns.Next.TheVariants as next
-use Rattle.gh_world.specs.Order.{in_range, goroutine_of, is_over as is_ended, ends, ended_in, leaves}
+use Rattle.gh_lists.specs.Order.{in_range, goroutine_of, is_over as is_ended, ends, ended_in, leaves}
 use Rattle.gh_mutator.specs.Sound.{SoundOp}
 use Rattle.gh_world.specs.Turns.{count_of, total_of, to_come, Stands, MayBeOver, IsPast, is_over, op_due, is_leave, goroutine_at, statements_among}
 use Rattle.gh_world.specs.World.{MadeAtMost}

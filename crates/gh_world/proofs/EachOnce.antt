@@ -12,7 +12,7 @@ use Rattle.gh_world.specs.Vocabulary.{Answer, Op, Stmt, Program, no_goroutine, s
 use Rattle.gh_base.specs.declared.operation.Op.TheVariants as op
 use Rattle.gh_script.specs.declared.statement.Stmt.TheVariants as stmts
 use Rattle.gh_script.specs.Program.{Goroutine, op_of}
-use Rattle.gh_world.specs.Order.{Answered}
+use Rattle.gh_lists.specs.Order.{Answered}
 use Rattle.gh_world.specs.Turns.{count_of, has_turn, is_of_seat, total_of, turn_of, round_of, turns_of, answers_to, goroutine_at, is_statement_of}
 use Rattle.gh_world.specs.Runs.{acted_by}
 use Rattle.gh_world.proofs.Turning.{statement_is, goroutine_is, has_statement, count-le}

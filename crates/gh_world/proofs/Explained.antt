@@ -12,7 +12,6 @@ pub mod Listing
 pub mod Slots
 pub mod Live
 pub mod Naming
-pub mod Made
 pub mod Last
 pub mod Beyond
 pub mod Totals

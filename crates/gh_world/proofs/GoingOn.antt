@@ -6,17 +6,17 @@ use Rattle.gh_coord.specs.GoingOn.{HasNext}
 use Rattle.gh_coord.specs.Listing as coord
 use Rattle.gh_mutator.specs.PollRoom.{PollsMakeRoom}
 use Rattle.gh_worker.specs.Listing as worker
-use Rattle.gh_world.specs.declared.handshake.Actor.TheVariants as actor
+use Rattle.gh_lists.specs.declared.handshake.Actor.TheVariants as actor
 use Rattle.gh_world.specs.declared.turns.Next.TheVariants as next
-use Rattle.gh_world.specs.Actors.{AllStands}
-use Rattle.gh_world.specs.Handshake.{takes as takes_by}
+use Rattle.gh_law.specs.Actors.{AllStands}
+use Rattle.gh_lists.specs.Handshake.{takes as takes_by}
 use Rattle.gh_world.specs.Runs.{GoesOnBy, has_ended_in, IsRun, IsRunSoFar}
 use Rattle.gh_world.specs.Schedule.{ended_after as ended_at, has_ended}
 use Rattle.gh_world.specs.Turns.{is_run_due, Stands}
 use Rattle.gh_world.specs.World.{LaysOut, MadeAtMost, Polled, may_begin_of, pacing_of}
 use Rattle.gh_world.proofs.Vocabulary.{acks_of, Actor, actor_after, acts, Begins, begins, begins_at, begun_in, bit, by, cell_of, ended_in, ends, Entry, eqb-true, gives_at, GoesOnUntilDone, has_left, has_left_at, is_busy_at, is_leaving, is_over, is_statement, Kind, Layout, leaves, Legal, made_by, MayBeOver, Next, Op, op_due, opening_processor, option_to_list, Processor, processor_kind, Program, setting_of, started, state_of, statements_among, takes, Task, to_come, total_of, turns_of, WellFormed, words_after}
 use Rattle.gh_world.proofs.MayBegin.{due_begins, ended_then, left_then}
-use Rattle.gh_world.proofs.CycleMarking.Seats.{IsSeated, seated}
+use Rattle.gh_lists.specs.Seats.{IsSeated, seated}
 use Rattle.gh_world.proofs.Due.{due_runs, false_unless, has_due, idle_not_leaving, none_to_come, not_over}
 use Rattle.gh_world.proofs.Fitting.{due_room, polled_begun, polled_stepped}
 use Rattle.gh_world.proofs.Following.{coming, due_first, Following, following}

@@ -1,10 +1,4 @@
 pub mod Vocabulary
-pub mod Knowing
-pub mod LastCycle
-pub mod CycleMarking
-pub mod CycleNumbers
-pub mod Scanned
-pub mod Shaking
 pub mod Asking
 pub mod Due
 pub mod Drawing
@@ -22,11 +16,6 @@ pub mod WorldFacts
 pub mod Whole
 pub mod Wishing
 pub mod OfScripts
-pub mod Awaited
-pub mod AllActors
-pub mod HavingRoom
-pub mod Crediting
-pub mod Within
 pub mod Explained
 pub mod Points
 pub mod Following

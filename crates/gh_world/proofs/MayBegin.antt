@@ -6,8 +6,8 @@ use Rattle.gh_interp.specs.Working.{work_of}
 use Rattle.gh_mutator.specs.Sound.{has_room}
 use Rattle.gh_world.specs.declared.turns.Next.TheVariants as next
 use Rattle.gh_world.specs.Due.{FitsIn}
-use Rattle.gh_world.specs.Order.{goroutine_of}
-use Rattle.gh_world.specs.Processors.{arena_of, has_more, is_of, may_begin}
+use Rattle.gh_lists.specs.Order.{goroutine_of}
+use Rattle.gh_lists.specs.Processors.{arena_of, has_more, is_of, may_begin}
 use Rattle.gh_world.specs.Turns.{Stands}
 use Rattle.gh_world.specs.Vocabulary.{most_objects, statements_of}
 use Rattle.gh_world.specs.Wishes.{wishes_of}

@@ -2,10 +2,10 @@
 use Rattle.std.proofs.Common.{◌≡◌, ◌≤◌, List, ap, ◌∙◌, arith}
 use Rattle.std.specs.Prelude.{sum_by}
 use Rattle.gh_base.specs.declared.limits.TheConstants.{MOST_STATEMENTS}
-use Rattle.gh_mutator_heap.specs.Facts.{ShapesAreGood}
-use Rattle.gh_world.specs.Actors.{AllStands, EveryListOfActorsStands}
+use Rattle.gh_law.specs.Below.{ShapesAreGood}
+use Rattle.gh_law.specs.Actors.{AllStands, EveryListOfActorsStands}
 use Rattle.gh_world.specs.Vocabulary.{Entry, Layout, Legal, Op, Program, WellFormed}
-use Rattle.gh_world.specs.Wants.{total}
+use Rattle.gh_lists.specs.Wants.{total}
 use Rattle.gh_world.specs.Wishes.{wishes_in, wishes_of}
 use Rattle.gh_world.specs.World.{LaysOut, may_begin_of, pacing_of, setting_of}
 use Rattle.gh_world.proofs.Wishing.{few_wishes, total_wishes}

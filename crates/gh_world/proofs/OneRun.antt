@@ -9,7 +9,7 @@ use Rattle.gh_base.specs.declared.layout.Layout.{Layout}
 use Rattle.gh_base.specs.declared.machine.Entry.{Entry}
 use Rattle.gh_base.specs.Lists.{Begins, by, MayFollow}
 use Rattle.gh_script.specs.Program.{Program}
-use Rattle.gh_world.specs.Order.{begun_in}
+use Rattle.gh_lists.specs.Order.{begun_in}
 use Rattle.gh_world.specs.Schedule.{ended_after, first_going, in_order_from, IsInTurn, next_in}
 use Rattle.gh_world.specs.Turns.{turns_of}
 use Rattle.gh_world.specs.World.{actor_after, setting_of}

@@ -5,7 +5,7 @@ use Rattle.gh_world.specs.Vocabulary.{Shows}
 use Rattle.gh_base.specs.Steps.{IsShown}
 use Rattle.gh_coord.specs.Listing as coord
 use Rattle.gh_worker.specs.Listing as worker
-use Rattle.gh_world.specs.declared.handshake.Actor.TheVariants as actor
+use Rattle.gh_lists.specs.declared.handshake.Actor.TheVariants as actor
 use Rattle.gh_world.specs.Turns.{next_point}
 use Rattle.gh_coord.specs.declared.cycles.Cycle.{Cycle}
 use Rattle.gh_world.specs.declared.runner.Runner.{Runner}

@@ -6,10 +6,10 @@ use Rattle.std.proofs.lemmas.Option.{slice_get_cases, slice_get_past, slice_get_
 use Rattle.gh_base.specs.Lists.{by}
 use Rattle.gh_coord.specs.Listing as coord
 use Rattle.gh_worker.specs.Listing as worker
-use Rattle.gh_world.specs.declared.handshake.Actor.TheVariants as actor
+use Rattle.gh_lists.specs.declared.handshake.Actor.TheVariants as actor
 use Rattle.gh_world.specs.declared.runner.Runner.{Runner}
 use Rattle.gh_world.specs.After.{IsAfter, KeepsPlace}
-use Rattle.gh_world.specs.Order.{begun_in, ended_in, has_left}
+use Rattle.gh_lists.specs.Order.{begun_in, ended_in, has_left}
 use Rattle.gh_world.specs.Turns.{is_over, MayBeOver, statements_by, to_come, turns_of}
 use Rattle.gh_world.specs.Vocabulary.{acks_of, Entry, Layout, Legal, MOST_GOROUTINES, Op, Processor, processor_kind, Program, Shows, state_of, words_after}
 use Rattle.gh_world.specs.World.{actor_after, actor_of, actors_of, marks_at, marks_by, marks_of, now_by, points_in, runner_or, setting_of, State, worker_or}

@@ -1,13 +1,13 @@
 -- In each legal list of a script the processors are at the first seats; who is at another begins nothing.
 use Rattle.std.proofs.Common.{◌≡◌, ℕ, ◌<◌, ◌≤◌, true, ap, ◌∙◌, List, Option, None}
 use Rattle.gh_base.specs.Lists.{Begins, Kind, Legal, started, state_of}
-use Rattle.gh_world.specs.declared.handshake.Actor.{Actor}
-use Rattle.gh_world.specs.declared.handshake.Actor.TheVariants as actor
-use Rattle.gh_world.specs.Handshake.{actors}
+use Rattle.gh_lists.specs.declared.handshake.Actor.{Actor}
+use Rattle.gh_lists.specs.declared.handshake.Actor.TheVariants as actor
+use Rattle.gh_lists.specs.Handshake.{actors}
 use Rattle.gh_world.specs.Vocabulary.{Entry, Layout, Op, opening_processor, Processor, processor_kind, Program}
 use Rattle.gh_world.specs.World.{actor_after, may_begin_of, pacing_of, setting_of}
-use Rattle.gh_world.proofs.AllActors.Resting as resting
-use Rattle.gh_world.proofs.CycleMarking.Seats.{run_started}
+use Rattle.gh_lists.specs.Resting as resting
+use Rattle.gh_lists.specs.Seats.{run_started}
 
 module _ (p : Program) (l : Layout) where
   abbrev one : Kind Processor Op

@@ -5,7 +5,7 @@ use Rattle.std.specs.List.{range_with_len}
 use Rattle.std.proofs.lemmas.List.{append-nil}
 use Rattle.gh_world.specs.Vocabulary.{by, Entry, has_left_at, is_leaving, Layout, Op, Program, Task}
 use Rattle.gh_world.specs.declared.runner.Runner.{Runner}
-use Rattle.gh_world.specs.Order.{begun_in}
+use Rattle.gh_lists.specs.Order.{begun_in}
 use Rattle.gh_world.specs.Runs.{IsRun}
 use Rattle.gh_world.specs.Schedule.{ended_after, first_going, has_ended, turn_from}
 use Rattle.gh_world.specs.Turns.{turns_of}

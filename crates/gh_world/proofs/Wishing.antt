@@ -10,7 +10,7 @@ use Rattle.std.proofs.lemmas.Option.{get_or_from_slice_get, slice_get_within}
 use Rattle.gh_script.specs.declared.statement.Stmt.{Stmt}
 use Rattle.gh_script.specs.Program.{Goroutine, Program, statement_at, statements_in, statements_of}
 use Rattle.gh_world.specs.Vocabulary.{no_goroutine}
-use Rattle.gh_world.specs.Wants.{total}
+use Rattle.gh_lists.specs.Wants.{total}
 use Rattle.gh_world.specs.Wishes.{may_ask, wishes_among, wishes_in}
 
 one_wish : (s : Stmt) (b : Bool) → may_ask s ≡ b → wishes_among (s ∷ []) ≡ cond b 1 0

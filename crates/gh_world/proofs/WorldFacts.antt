@@ -6,7 +6,7 @@ use Rattle.gh_world.specs.Vocabulary.{is_serving, is_last}
 use Rattle.gh_base.specs.Steps.{IsShown}
 use Rattle.gh_coord.specs.Listing as coord
 use Rattle.gh_worker.specs.Listing as worker
-use Rattle.gh_world.specs.declared.handshake.Actor.TheVariants as actor
+use Rattle.gh_lists.specs.declared.handshake.Actor.TheVariants as actor
 use Rattle.gh_world.specs.declared.runner.Runner.{Runner}
 use Rattle.gh_mutator.specs.Sound.{has_room}
 use Rattle.gh_world.specs.Turns.{Stands, statements_by, statement_now, next_point}

@@ -2,7 +2,7 @@
 use Rattle.std.specs.Prelude.{◌≡◌, ℕ, ◌<◌, true, List, ◌∷◌, ◌++◌, length, reverse, slice_index, slice_get, Some}
 use Rattle.gh_base.specs.Lists.{by}
 use Rattle.gh_world.specs.declared.runner.Runner.{Runner}
-use Rattle.gh_world.specs.Order.{begun_in, ended_in, has_left}
+use Rattle.gh_lists.specs.Order.{begun_in, ended_in, has_left}
 use Rattle.gh_world.specs.Runs.{IsRunSoFar}
 use Rattle.gh_world.specs.Turns.{is_over, MayBeOver, statements_by, to_come, turns_of}
 use Rattle.gh_world.specs.Vocabulary.{Entry, Event, MOST_GOROUTINES, Op, Program, Progress, Shows, words_after}

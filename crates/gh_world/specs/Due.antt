@@ -2,8 +2,8 @@
 use Rattle.std.specs.Prelude.{◌≡◌, ℕ, true, false, List, [], ◌∷◌, length, Some, None}
 use Rattle.gh_base.specs.Lists.{by}
 use Rattle.gh_world.specs.After.{KeepsPlace}
-use Rattle.gh_world.specs.Order.{goroutine_of, has_left, in_range, is_over}
-use Rattle.gh_world.specs.Processors.{arena_of, has_more, is_of, may_leave}
+use Rattle.gh_lists.specs.Order.{goroutine_of, has_left, in_range, is_over}
+use Rattle.gh_lists.specs.Processors.{arena_of, has_more, is_of, may_leave}
 use Rattle.gh_world.specs.Turns.{Follows, op_due, to_come, turns_of}
 use Rattle.gh_world.specs.Vocabulary.{Entry, Layout, Next, Op, Program, Progress, WellFormed}
 use Rattle.gh_world.specs.Wishes.{wishes_of}

@@ -5,7 +5,7 @@ use Rattle.gh_lines.specs.Text.{Outcome}
 use Rattle.gh_model.specs.Answers.{ever_after_all}
 use Rattle.gh_model.specs.Ever.{with_end}
 use Rattle.gh_script.specs.Program.{op_of, statement_at}
-use Rattle.gh_world.specs.Order.{acted_in, Answered, ever_of}
+use Rattle.gh_lists.specs.Order.{acted_in, Answered, ever_of}
 use Rattle.gh_world.specs.Runs.{IsExplained, IsRunSoFar}
 use Rattle.gh_world.specs.Vocabulary.{AllAnswer, Answer, Entry, Ever, is_statement, Layout, Op, opening_ever, Program, Shape, WellFormed}
 use Rattle.gh_world.specs.World.{LaysOut, points_in}

@@ -13,13 +13,13 @@ use Rattle.gh_lines.specs.Text.{Outcome, SweptCycle}
 use Rattle.gh_mutator.specs.Deeds.{processor_kind}
 use Rattle.gh_mutator.specs.Listing.{gives}
 use Rattle.gh_script.specs.Program.{op_of}
-use Rattle.gh_world.specs.declared.handshake.Actor.TheVariants.{Leads}
-use Rattle.gh_world.specs.Actors.{AllStands, AwaitedCycle, FreesTheUnreached, FreesWithinTwo}
-use Rattle.gh_world.specs.Credit.{earned_in, lapsed_in, spent_among, spent_in}
+use Rattle.gh_lists.specs.declared.handshake.Actor.TheVariants.{Leads}
+use Rattle.gh_law.specs.Actors.{AllStands, AwaitedCycle}
+use Rattle.gh_law.specs.Below.{FreesTheUnreached, FreesWithinTwo, objects_in, scanned_in}
+use Rattle.gh_law.specs.Credit.{earned_in, lapsed_in, spent_among, spent_in}
 use Rattle.gh_world.specs.Cycles.{AreLive, cycles_in}
-use Rattle.gh_world.specs.Order.{acted_at, acted_in, Answered, before_step, begun_in, ever_of, order_of}
-use Rattle.gh_world.specs.Processors.{arena_of, IsFullFor}
-use Rattle.gh_world.specs.Scanned.{objects_in, scanned_in}
+use Rattle.gh_lists.specs.Order.{acted_at, acted_in, Answered, before_step, begun_in, ever_of, order_of}
+use Rattle.gh_lists.specs.Processors.{arena_of, IsFullFor}
 use Rattle.gh_world.specs.Schedule.{ended_after, IsInTurn}
 use Rattle.gh_world.specs.Turns.{turns_of, answers_to, is_of_seat, is_statement_of}
 use Rattle.gh_world.specs.World.{actor_after, actor_of, actors_of, answer_in, LaysOut, may_begin_of, now_in, pacing_of, setting_of, State, with_goroutine}

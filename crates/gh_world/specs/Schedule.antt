@@ -7,8 +7,8 @@ use Rattle.gh_base.specs.Lists.{Setting, state_of}
 use Rattle.gh_coord.specs.Listing as coord
 use Rattle.gh_mutator.specs.Serving.{has_left_at}
 use Rattle.gh_worker.specs.Listing as worker
-use Rattle.gh_world.specs.declared.handshake.Actor.{Actor}
-use Rattle.gh_world.specs.declared.handshake.Actor.TheVariants.{Runs, Marks, Leads}
+use Rattle.gh_lists.specs.declared.handshake.Actor.{Actor}
+use Rattle.gh_lists.specs.declared.handshake.Actor.TheVariants.{Runs, Marks, Leads}
 
 -- the actor has no step left: the processor has left, the worker is gone, the last cycle is swept
 abbrev pub has_ended : Actor → Bool

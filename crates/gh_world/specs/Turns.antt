@@ -9,7 +9,7 @@ use Rattle.gh_interp.specs.Working.{work_of}
 use Rattle.gh_script.specs.Program.{Program, statements_of, statements_in}
 use Rattle.gh_world.specs.declared.turns.Next.{Next}
 use Rattle.gh_world.specs.declared.turns.Next.TheVariants as next
-use Rattle.gh_world.specs.Order.{goroutine_of}
+use Rattle.gh_lists.specs.Order.{goroutine_of}
 use Rattle.gh_mutator.specs.Serving.{is_statement}
 
 -- ---- the turns

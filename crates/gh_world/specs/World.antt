@@ -13,14 +13,14 @@ use Rattle.gh_mutator.specs.Mutating.{asks, begins, opening}
 use Rattle.gh_base.specs.Lists.{by}
 use Rattle.gh_mutator.specs.PollRoom.{MayStore}
 use Rattle.gh_worker.specs.Listing as worker
-use Rattle.gh_world.specs.declared.handshake.Actor.{Actor}
-use Rattle.gh_world.specs.declared.handshake.Actor.TheVariants as actor
+use Rattle.gh_lists.specs.declared.handshake.Actor.{Actor}
+use Rattle.gh_lists.specs.declared.handshake.Actor.TheVariants as actor
 use Rattle.gh_world.specs.declared.event.Event.TheVariants as event
 use Rattle.gh_world.specs.declared.runner.Runner.{Runner}
 use Rattle.gh_world.specs.declared.turns.Next.TheVariants as next
-use Rattle.gh_world.specs.Handshake.{Pacing, those}
-use Rattle.gh_world.specs.Order.{before_step, begun_in}
-use Rattle.gh_world.specs.Processors.{arena_of, may_begin}
+use Rattle.gh_lists.specs.Handshake.{Pacing, those}
+use Rattle.gh_lists.specs.Order.{before_step, begun_in}
+use Rattle.gh_lists.specs.Processors.{arena_of, may_begin}
 use Rattle.gh_world.specs.Schedule.{ended_after, has_ended, turn_from}
 use Rattle.gh_world.specs.Turns.{total_by, total_of, to_come, Stands, is_over, later, op_due, Follows, goroutine_at, statements_among, statement_now, is_unacted, next_point}
 use Rattle.gh_world.specs.Wishes.{most_cycles, wishes_of}

@@ -3,20 +3,18 @@
 ghost use Rattle.gh_world.specs.Due.{EachKeepsItsPlace, WhatIsDueFits};
 ghost use Rattle.gh_world.specs.Points.{PointsAreStatements, StatementsAreEnough};
 ghost use Rattle.gh_world.specs.Runs.{EveryListOfAScriptStands, EveryOrderHasOneRun, EveryRunIsExplained, EveryRunIsOne, EveryRunStands, NoneIsLonger, RunsEndWhole, RunsGoOn};
-ghost use Rattle.gh_world.specs.Tied.{TiesShowWhatThereIs};
 
-use crate::actors::every_list_of_actors_stands;
-use crate::credit::every_list_balances;
-use crate::handshake::every_list_keeps_the_handshake;
-use crate::numbers::{cycles_are_few, processors_begin_few};
 use gh_base::Op;
 use gh_base::laws::a_state_is_of_its_own_entries;
 use gh_class::size_class_laws;
 use gh_coord::laws::it_goes_on_until_done;
-use gh_cycle::opening::reach_is_decided;
+use gh_law::{every_list_balances, every_list_of_actors_stands};
+use gh_lists::{
+    a_processor_writes_its_own, cycles_are_few, every_list_keeps_the_handshake,
+    every_step_changes_numbers, processors_begin_few,
+};
 use gh_mutator::Processor;
 use gh_mutator::laws::{each_operation_acts_once, only_points_change, polls_make_room};
-use gh_mutator_writes::laws::a_processor_writes_its_own;
 use gh_state::laws::slots_are_read;
 use gh_sweep::laws::set_bits_are_counted;
 use gh_worker::laws::a_worker_writes_its_own;
@@ -47,6 +45,7 @@ pub fn every_run_is_explained()
     a_worker_writes_its_own();
     every_list_keeps_the_handshake();
     cycles_are_few();
+    every_step_changes_numbers();
     every_list_balances();
     processors_begin_few();
     set_bits_are_counted();
@@ -89,15 +88,6 @@ pub fn statements_are_enough()
     every_run_stands();
     only_points_change();
     each_operation_acts_once();
-}
-
-/// A state of marking that is one of a list's heap has what there is: each object that a script reaches is of the
-/// cycle, where it is placed, with the words of its type; a register names there what it names; and what is marked is
-/// not white. So one with nothing in it is of no list after which a script reaches an object.
-pub fn ties_show_what_there_is()
-    ensures { TiesShowWhatThereIs }
-{
-    reach_is_decided();
 }
 
 /// Whoever makes a processor's steps, on whatever words, can take the turns of [`Progress`](crate::Progress): what is due there

@@ -1,4 +1,4 @@
-//! The actors of a heap, the world that runs a script with them, and what every list of their steps keeps.
+//! The world that runs a script with the actors of a heap, and what its runs come to.
 //!
 //! A world has the words of a heap, the processors that run the script's goroutines in turns (`turns`), the
 //! workers that mark and sweep, and the coordinator that opens cycles, ends them and has the spans swept. One step of it
@@ -18,41 +18,28 @@
 //! all that a load of it reads is in place: its name, its pointer bits and its fields. So the words stand
 //! for the heap that never frees after every single step, and not only between statements.
 //!
-//! [`every_run_stands`] says what holds after each step of a run, [`every_run_is_explained`] what whole runs come to,
+//! What every list of the actors' steps keeps is said below: of their numbers and the handshake in `gh_lists`, of the heap in
+//! `gh_law`. Here [`every_run_stands`] says what of it holds after each step of a script's run, [`every_run_is_explained`] what whole runs come to,
 //! [`a_script_has_one_run`] that there is one in each order of steps, [`runs_go_on`] that it goes on until it is whole.
 //! [`points_are_statements`] says which statements its points are, and [`statements_are_enough`] that the heap that never
 //! frees comes to the same along these alone. While a cycle is marked a processor may wait for it while the others store:
 //! their barriers shade what they overwrite and what they write.
 #![tactic(auto)]
 
-mod actors;
-mod credit;
 mod event;
-mod handshake;
 mod laws;
-mod numbers;
 mod progress;
-mod room;
 mod runner;
 mod turns;
 mod wishes;
 mod world;
 
-pub use actors::every_list_of_actors_stands;
-pub use credit::every_list_balances;
 pub use event::{Event, Totals};
-pub use handshake::{Actor, every_list_keeps_the_handshake, every_step_keeps_the_handshake};
 pub use laws::{
     a_script_has_one_run, every_run_is_explained, every_run_stands, points_are_statements,
-    runs_go_on, statements_are_enough, ties_show_what_there_is, what_is_due_fits,
-};
-pub use numbers::{
-    cycles_are_few, every_list_counts_cycles, every_list_counts_plainly, every_list_counts_wants,
-    every_list_numbers_stacks, every_list_opens_few, every_list_rests_workers,
-    processors_begin_few,
+    runs_go_on, statements_are_enough, what_is_due_fits,
 };
 pub use progress::Progress;
-pub use room::every_list_has_room;
 pub use turns::{Next, total_of};
 pub use wishes::{most_cycles, wishes_of};
 pub use world::{World, opening_trigger};

@@ -13,8 +13,8 @@ use Rattle.gh_model.specs.Answers.{Answers, ever_after_all}
 use Rattle.gh_mutator.specs.Acting.{ActsOnce, EachOperationActsOnce}
 use Rattle.gh_mutator.specs.Deeds.{acted, has_point, OnlyPointsChange, point_of}
 use Rattle.gh_mutator.specs.Serving.{has_left_at}
-use Rattle.gh_world.specs.Order.{answered, Answered, before_step, begun_in, ever_of, order_at, order_of}
-use Rattle.gh_world.specs.Processors.{arena_of, FullOnlyThere, IsFullFor}
+use Rattle.gh_lists.specs.Order.{answered, Answered, before_step, begun_in, ever_of, order_at, order_of}
+use Rattle.gh_lists.specs.Processors.{arena_of, FullOnlyThere, IsFullFor}
 use Rattle.gh_world.specs.World.{setting_of}
 use Rattle.gh_world.proofs.Explained.Steps.{full_pointed, IsAnothers, IsItsOwn, no_processors, who_steps}
 

@@ -6,7 +6,7 @@ use Rattle.std.proofs.lemmas.Grind.{reverse_onto}
 use Rattle.std.proofs.lemmas.List.{length-reverse}
 use Rattle.gh_world.specs.Vocabulary.{Act, acts, answer_at, Entry, has_point, Layout, Legal, Op, Program}
 use Rattle.gh_mutator.specs.Deeds.{point_of}
-use Rattle.gh_world.specs.Order.{acted_in, Answered}
+use Rattle.gh_lists.specs.Order.{acted_in, Answered}
 use Rattle.gh_world.specs.RunVocabulary.{ActedBehind, answered, arena_of, before_step, ever_of, FullOnlyThere, order_of, setting_of}
 
 -- what stands in a list with one element more

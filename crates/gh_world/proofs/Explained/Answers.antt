@@ -10,8 +10,8 @@ use Rattle.gh_mutator.specs.Acting.{EachOperationActsOnce}
 use Rattle.gh_mutator.specs.declared.task.Task.TheVariants as task
 use Rattle.gh_mutator.specs.Deeds.{has_point, OnlyPointsChange}
 use Rattle.gh_script.specs.Program.{op_of}
-use Rattle.gh_world.specs.Order.{acted_at, acted_in, Answered, begun_in, order_at, order_of}
-use Rattle.gh_world.specs.Processors.{answers_of, arena_of, ListStands}
+use Rattle.gh_lists.specs.Order.{acted_at, acted_in, Answered, begun_in, order_at, order_of}
+use Rattle.gh_lists.specs.Processors.{answers_of, arena_of, ListStands}
 use Rattle.gh_world.specs.Runs.{acted_by, answers_at, answers_given, AreItsStatements, IsRun}
 use Rattle.gh_world.specs.Schedule.{has_ended}
 use Rattle.gh_world.specs.Turns.{answers_to, is_of_seat, is_statement_of, turns_of}

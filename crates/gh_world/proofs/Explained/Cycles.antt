@@ -6,16 +6,16 @@ use Rattle.gh_base.specs.declared.cell.Ask.TheVariants.{Load, Store}
 use Rattle.gh_base.specs.declared.cell.Cell.TheVariants as cell
 use Rattle.gh_coord.specs.Closing as close
 use Rattle.gh_coord.specs.Listing as coord
-use Rattle.gh_world.specs.declared.handshake.Actor.TheVariants as actor
-use Rattle.gh_world.specs.Counts.{stored_after, stored_in}
+use Rattle.gh_lists.specs.declared.handshake.Actor.TheVariants as actor
+use Rattle.gh_lists.specs.Counts.{stored_after, stored_in}
 use Rattle.gh_world.specs.Vocabulary.{acks_of, Actor, Coordinating, CoordStage, Cycle, Entry, Layout, Legal, Op, Program, started, Words, words_after}
 use Rattle.gh_world.specs.RunVocabulary.{actor_after, alloc_words, AllWereCounted, Ask, Cell, Close, cycles_in, Done, effect, ended_by, EndsCycle, generation_of, IsEnding, IsStartOf, LoadAck, mark_words, marked_objects, may_begin_of, opened_in, Outside, pacing_of, Part, part_of, setting_of, swept_cycle, SweptCycle, unmarked_objects, WasCounted, words_in}
-use Rattle.gh_world.proofs.AllActors.Starts.{legal_start}
-use Rattle.gh_world.proofs.CycleNumbers.Frames.{numbers_of}
-use Rattle.gh_world.proofs.CycleNumbers.Parts.{At, own_of}
+use Rattle.gh_lists.specs.Starts.{legal_start}
+use Rattle.gh_lists.specs.Frames.{numbers_of}
+use Rattle.gh_lists.specs.Parts.{At, own_of}
 use Rattle.gh_world.proofs.Explained.Known.{Changes, changes, counted, Known}
 use Rattle.gh_world.proofs.Explained.Acting.{one_more_at}
-use Rattle.gh_world.proofs.Awaited.Numbers.{begins, ends, same, Spares, tells}
+use Rattle.gh_lists.specs.Changes.{begins, ends, same, Spares, tells}
 
 -- ---- of lists
 

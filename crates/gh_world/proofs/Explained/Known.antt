@@ -5,18 +5,17 @@ use Rattle.gh_coord.specs.Listing.{Coordinating}
 use Rattle.gh_coord.specs.Stopping.{acks_of}
 use Rattle.gh_mutator.specs.Acting.{EachOperationActsOnce}
 use Rattle.gh_mutator.specs.Deeds.{OnlyPointsChange}
-use Rattle.gh_mutator_writes.specs.Writing.{ProcessorWritesItsOwn}
+use Rattle.gh_lists.specs.LemmaVocabulary.{ProcessorWritesItsOwn}
 use Rattle.gh_worker.specs.Writing.{WorkersWriteTheirOwn}
-use Rattle.gh_world.specs.declared.handshake.Actor.TheVariants as actor
-use Rattle.gh_world.specs.Handshake.{KeepsIt}
-use Rattle.gh_world.specs.Numbers.{IsFew, opened_in, part_of}
+use Rattle.gh_lists.specs.declared.handshake.Actor.TheVariants as actor
+use Rattle.gh_lists.specs.Handshake.{KeepsIt}
+use Rattle.gh_lists.specs.Numbers.{IsFew, opened_in, part_of}
 use Rattle.gh_world.specs.Vocabulary.{Entry, Layout, Op, Program, words_after}
 use Rattle.gh_world.specs.Wishes.{most_cycles}
 use Rattle.gh_world.specs.World.{actor_after, may_begin_of, pacing_of, setting_of}
-use Rattle.gh_world.proofs.CycleNumbers.Frames.{numbers_of}
-use Rattle.gh_world.proofs.CycleNumbers.Lists.{holds}
-use Rattle.gh_world.proofs.CycleNumbers.Parts.{At, own_of}
-use Rattle.gh_world.proofs.Awaited.Numbers.{Change, change, rise, Rises}
+use Rattle.gh_lists.specs.Frames.{numbers_of}
+use Rattle.gh_lists.specs.Parts.{At, own_of}
+use Rattle.gh_lists.specs.Changes.{Change, Rises, EveryListHasItsNumbers, EveryStepChangesNumbers, NoNumberFalls}
 
 pub record Known (p : Program) (l : Layout) : Type 0 where
   pub each : EachOperationActsOnce
@@ -25,21 +24,25 @@ pub record Known (p : Program) (l : Layout) : Type 0 where
   pub works : WorkersWriteTheirOwn
   pub keeps : (es : List (Entry Op)) → Legal (setting_of p l) es → KeepsIt (setting_of p l) es
   pub few : (es : List (Entry Op)) → Legal (setting_of p l) es → IsFew es
+  -- what each step is to the numbers of cycles
+  pub changes : EveryStepChangesNumbers
+  pub rises : NoNumberFalls
+  pub numbers : EveryListHasItsNumbers
   -- there is room for each cycle
   pub roomy : (es : List (Entry Op)) → Legal (setting_of p l) es → opened_in es ≤ most_cycles p
 
 module _ (p : Program) (l : Layout) (k : Known p l) (e : Entry Op) (es : List (Entry Op)) (legal : Legal (setting_of p l) (e ∷ es)) where
   -- what the step is to the numbers of cycles
   abbrev pub Changes : Type 0
-  Changes = Change p.shapes l (pacing_of p) (may_begin_of p l) k.writes k.works k.keeps e es
+  Changes = Change p.shapes l (pacing_of p) (may_begin_of p l) e es
 
   pub changes : Changes
-  changes = change p.shapes l (pacing_of p) (may_begin_of p l) k.writes k.works k.keeps e es legal (k.few es legal.0)
+  changes = k.changes p.shapes l (pacing_of p) (may_begin_of p l) e es legal (k.few es legal.0)
 
-  pub rises : Rises p.shapes l (pacing_of p) (may_begin_of p l) k.writes k.works k.keeps e es
-  rises = rise p.shapes l (pacing_of p) (may_begin_of p l) k.writes k.works k.keeps e es legal (k.few es legal.0)
+  pub rises : Rises p.shapes l (pacing_of p) (may_begin_of p l) e es
+  rises = k.rises p.shapes l (pacing_of p) (may_begin_of p l) e es legal (k.few es legal.0)
 
 -- the numbers of cycles, by the part of the cycle that the coordinator is in
 pub counted : (p : Program) (l : Layout) (k : Known p l) (es : List (Entry Op)) (c : Coordinating) → Legal (setting_of p l) es → actor_after p l es (acks_of l) ≡ actor.Leads c →
     At (pacing_of p).room (opened_in es) (numbers_of (words_after (setting_of p l).opening es)) (own_of c) (part_of c.stage)
-counted p l k es c legal led = (holds p.shapes l (pacing_of p) (may_begin_of p l) k.writes k.works k.keeps es legal (k.few es legal) c led).at
+counted p l k es c legal led = k.numbers p.shapes l (pacing_of p) (may_begin_of p l) es c legal (k.few es legal) led

@@ -12,12 +12,12 @@ use Rattle.gh_coord.specs.Stopping as stop
 use Rattle.gh_coord.specs.SweepingAll as all
 use Rattle.gh_coord.specs.Telling as tell
 use Rattle.gh_coord.specs.Watching as watch
-use Rattle.gh_world.specs.declared.handshake.Actor.TheVariants as actor
+use Rattle.gh_lists.specs.declared.handshake.Actor.TheVariants as actor
 use Rattle.gh_world.specs.Vocabulary.{acks_of, Coordinating, CoordStage, Entry, Layout, Legal, Op, Program}
 use Rattle.gh_world.specs.RunVocabulary.{actor_after, after_check, after_close, after_count, after_open, after_stop, after_stop_again, after_sweep, after_tell, after_watch, All, Ask, at_stage, Check, Close, Count, Done, effect, goes_at, GONE, LoadAck, LoadWant, MarkOn, may_begin_of, NotYet, Open, pacing_of, setting_of, Stop, StopAgain, Sweep, Tell, TellStage, Watch, Watched, words_in}
-use Rattle.gh_world.proofs.CycleNumbers.Seats as seats
+use Rattle.gh_lists.specs.Steps as seats
 use Rattle.gh_world.proofs.Explained.Known.{Changes, changes, Known, rises}
-use Rattle.gh_world.proofs.Awaited.Numbers.{begins, ends, same, Spares, tells}
+use Rattle.gh_lists.specs.Changes.{begins, ends, same, Spares, tells}
 
 -- behind the store of its number a cycle is swept
 abbrev HasToldAt : TellStage → (swept : ℕ) → Type 0

@@ -12,11 +12,12 @@ use Rattle.gh_sweep.specs.Bits.{SetBitsAreCounted, sum_below}
 use Rattle.gh_sweep.specs.Counts.{AreWords, count_below, is_set}
 use Rattle.gh_sweep.specs.Shared.{placed, placed_in}
 use Rattle.gh_world.specs.Cycles.{bytes_of, IsAmong}
-use Rattle.gh_world.specs.Processors.{arena_of, ever_after_list, IsPlacedAt, ListStands}
+use Rattle.gh_lists.specs.Processors.{arena_of, ever_after_list, IsPlacedAt, ListStands}
 use Rattle.gh_world.specs.Runs.{words_in}
 use Rattle.gh_world.specs.Vocabulary.{Entry, Ever, Layout, Op, Program, Reach, Words}
 use Rattle.gh_world.specs.World.{setting_of}
-use Rattle.gh_world.proofs.Explained.Listing.{by_words, each_once, is_listed, listed, lists, many_are, Once, sum_is, sum_same, sum_times}
+use Rattle.gh_world.proofs.Explained.Listing.{each_once, is_listed, listed, lists, many_are, Once, sum_is}
+use Rattle.gh_lists.specs.SumsBelow.{by_words, sum_same, sum_times}
 use Rattle.gh_world.proofs.Explained.Slots.{AreNamed, Classes, in_arena, InArena, is_placed, name_at, same_or_not}
 
 -- ---- the bits of alloc words

@@ -5,8 +5,8 @@ use Rattle.gh_base.specs.declared.value.Answer.TheVariants as answer
 use Rattle.gh_base.specs.declared.value.Fault.TheVariants as fault
 use Rattle.gh_base.specs.declared.operation.Op.TheVariants as op
 use Rattle.gh_model.specs.declared.EverValue.TheVariants as values
-use Rattle.gh_world.specs.Actors.{Awaits}
-use Rattle.gh_world.specs.Order.{Answered}
+use Rattle.gh_law.specs.Actors.{Awaits}
+use Rattle.gh_lists.specs.Order.{Answered}
 use Rattle.gh_world.specs.RunVocabulary.{arena_of, before_step, ever_of, fits, FoundNoRoom, FullMeansNoRoom, FullOnlyThere, has_field, is_number, is_pointer_field, load_answer, may_begin_of, pacing_of, setting_of, store_answer, told}
 use Rattle.gh_world.proofs.Explained.Acted.{full_there}
 use Rattle.gh_world.proofs.Explained.Acting.{acts_there, ActsThere, pointed}

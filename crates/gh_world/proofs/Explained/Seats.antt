@@ -8,14 +8,14 @@ use Rattle.std.proofs.lemmas.List.Elements.{filter-append}
 use Rattle.gh_base.specs.declared.operation.Op.TheVariants as op
 use Rattle.gh_mutator.specs.Acting.{EachOperationActsOnce}
 use Rattle.gh_mutator.specs.Sound.{has_room}
-use Rattle.gh_world.specs.Order.{acted_at, acted_in, answered, Answered, before_step, begun_in, ever_of, goroutine_of, has_left, in_range, is_over, order_at, order_of}
-use Rattle.gh_world.specs.Processors.{arena_of, has_more, is_of, may_leave, may_run}
+use Rattle.gh_lists.specs.Order.{acted_at, acted_in, answered, Answered, before_step, begun_in, ever_of, goroutine_of, has_left, in_range, is_over, order_at, order_of}
+use Rattle.gh_lists.specs.Processors.{arena_of, has_more, is_of, may_leave, may_run}
 use Rattle.gh_world.specs.Runs.{acted_by}
 use Rattle.gh_world.specs.Turns.{goroutine_at, is_of_seat, is_statement_of}
 use Rattle.gh_world.specs.Vocabulary.{Act, acts, Arena, Begins, by, Entry, has_names, is_statement, Layout, Legal, Op, processor_kind, Program, state_of}
 use Rattle.gh_world.specs.Wishes.{wishes_of}
 use Rattle.gh_world.specs.World.{setting_of}
-use Rattle.gh_world.proofs.AllActors.Beginning.{both}
+use Rattle.gh_lists.specs.Beginning.{both}
 use Rattle.gh_world.proofs.Explained.Acted.{acts_here, acts_last, reverse_more}
 use Rattle.gh_world.proofs.Explained.Steps.{its_own, no_processors}
 

@@ -13,7 +13,7 @@ use Rattle.gh_heap.specs.Spans.{FitsClass, is_own_class, IsSlotOf, number_of, sl
 use Rattle.gh_state.specs.Slots.{slot_row, SlotsAreRead}
 use Rattle.gh_sweep.specs.Counts.{is_set}
 use Rattle.gh_sweep.specs.Listing.{slot_bytes, slot_bytes_of}
-use Rattle.gh_world.specs.Processors.{IsPlacedAt}
+use Rattle.gh_lists.specs.Processors.{IsPlacedAt}
 use Rattle.gh_world.specs.Vocabulary.{Words}
 
 -- what the table of size classes says

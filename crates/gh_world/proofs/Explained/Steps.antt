@@ -13,8 +13,9 @@ use Rattle.gh_mutator.specs.Register as register
 use Rattle.gh_mutator.specs.Store as store
 use Rattle.gh_mutator.specs.Wait as wait
 use Rattle.gh_world.specs.RunVocabulary.{after_poll, given_at, may_begin_of, pacing_of, Polling, setting_of}
-use Rattle.gh_world.proofs.Awaited.Stepping as steps
+use Rattle.gh_lists.specs.Stepping as steps
 use Rattle.gh_world.proofs.StepFacts.{begin_facts, step_facts}
+use Rattle.gh_lists.specs.Stepping.{not_full}
 
 -- ---- what a step is to an operation with a point
 
@@ -83,11 +84,6 @@ statement_pointed (op.New g d t) e = absurd cc
 statement_pointed op.Poll e = refl
 statement_pointed op.Leave e = refl
 statement_pointed _ e = absurd cc
-
--- what finds no room is a `new`, which has a point
-pub not_full : (b : Bool) (o : Op) (x : Act) → acting b o false ≡ Some x → x.full ≡ true → ⊥
-not_full true o x e f = let same : record { op = o; full = false } ≡ x = cc in let no : false ≡ true = ap (λ (y : Act). y.full) same ∙ f in cc
-not_full false o x e f = cc
 
 new_pointed : (b full : Bool) (g d t : ℕ) (x : Act) → acting b (op.New g d t) full ≡ Some x → has_point x.op ≡ true
 new_pointed true full g d t x e = let same : record { op = op.New g d t; full = full } ≡ x = cc in sym (ap (λ (y : Act). has_point y.op) same)

@@ -2,8 +2,8 @@
 use Rattle.std.proofs.Common.{◌≡◌, ℕ, Bool, true, false, List, ◌∷◌, refl, sym, ap, subst, inl, ◌∙◌}
 use Rattle.gh_world.specs.Vocabulary.{Act, acts, answer_of, Entry, has_point, Layout, Legal, Op, processor_kind, Program, state_of}
 use Rattle.gh_base.specs.declared.operation.Op.TheVariants as op
-use Rattle.gh_world.specs.Actors.{Awaits}
-use Rattle.gh_world.specs.Order.{Answered}
+use Rattle.gh_law.specs.Actors.{Awaits}
+use Rattle.gh_lists.specs.Order.{Answered}
 use Rattle.gh_world.specs.RunVocabulary.{arena_of, before_step, EachGcWaits, ever_of, FoundSwept, FullOnlyThere, IsFullFor, may_begin_of, pacing_of, setting_of, words_in}
 use Rattle.gh_world.proofs.Explained.Acted.{full_there}
 use Rattle.gh_world.proofs.Explained.Acting.{acts_there, ActsThere, pointed}

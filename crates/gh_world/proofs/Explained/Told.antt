@@ -10,7 +10,7 @@ use Rattle.gh_world.specs.Vocabulary.{Answer, begins, by, deeds, Entry, given_by
 use Rattle.gh_mutator.specs.Deeds.{given_at, has_point}
 use Rattle.gh_mutator.specs.Listing.{gives}
 use Rattle.gh_mutator.specs.Serving.{answer_at, has_left_at}
-use Rattle.gh_world.specs.Order.{Answered, before_step, begun_in}
+use Rattle.gh_lists.specs.Order.{Answered, before_step, begun_in}
 use Rattle.gh_world.specs.Runs.{answers_at, answers_given}
 use Rattle.gh_world.specs.Turns.{answers_to, goroutine_at, is_of_seat, statement_now}
 use Rattle.gh_world.specs.World.{answer_in, now_in, setting_of, with_goroutine}

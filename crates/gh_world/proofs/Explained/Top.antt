@@ -9,11 +9,11 @@ use Rattle.gh_coord.specs.Handshake as leading
 use Rattle.gh_coord.specs.Listing as coord
 use Rattle.gh_coord.specs.Listing.{lapsed_at}
 use Rattle.gh_model.specs.declared.EverValue.TheVariants as values
-use Rattle.gh_world.specs.declared.handshake.Actor.TheVariants as actor
-use Rattle.gh_world.specs.Actors.{Awaits}
-use Rattle.gh_world.specs.Counts.{stored_in}
-use Rattle.gh_world.specs.Credit.{CreditStands, EveryListBalances, lapsed_in, spent_in}
-use Rattle.gh_world.specs.Order.{acted_in, Answered}
+use Rattle.gh_lists.specs.declared.handshake.Actor.TheVariants as actor
+use Rattle.gh_law.specs.Actors.{Awaits}
+use Rattle.gh_lists.specs.Counts.{stored_in}
+use Rattle.gh_law.specs.Credit.{CreditStands, EveryListBalances, lapsed_in, spent_in}
+use Rattle.gh_lists.specs.Order.{acted_in, Answered}
 use Rattle.gh_world.specs.Runs.{CreditIsTold, spent_after}
 use Rattle.gh_world.specs.Vocabulary.{acts, Coordinating, Entry, Ever, Layout, Legal, Name, Op, opening_ever, processor_kind, Program, Reach, state_of, statements_of, WellFormed}
 use Rattle.gh_world.specs.RunVocabulary.{actor_after, AllStands, answers_given, AreFew, AreLive, arena_of, before_step, count_of, CyclesAreFew, EachOperationActsOnce, ever_after_list, ever_of, EveryListKeepsIt, EveryListOfAScriptStands, EveryRunIsExplained, has_ended, is_statement_of, IsExplained, IsHeld, IsMade, IsRun, IsStartOf, LaysOut, LeavesTheReached, may_begin_of, OnlyPointsChange, op_of, order_of, outcome_by, pacing_of, ProcessorsBeginFew, ProcessorWritesItsOwn, SetBitsAreCounted, setting_of, SlotsAreRead, total_of, wishes_of, WorkersWriteTheirOwn, swept_cycle}
@@ -28,12 +28,13 @@ use Rattle.gh_world.proofs.Explained.Beyond.{all_leave, held_at_end}
 use Rattle.gh_world.proofs.Explained.Cycles.{cycles_are, is_done, many_ended}
 use Rattle.gh_world.proofs.Explained.Known.{Known}
 use Rattle.gh_world.proofs.Explained.Last.{some_swept}
-use Rattle.gh_world.proofs.Explained.Made.{grows, made_all}
+use Rattle.gh_lists.specs.Made.{grows, made_all}
 use Rattle.gh_world.proofs.Explained.Naming.{IsNamed, named-acted, named-opening, reached-made}
 use Rattle.gh_world.proofs.Explained.NoRoom.{full_means}
 use Rattle.gh_world.proofs.Explained.Slots.{Classes}
 use Rattle.gh_world.proofs.Explained.Swept.{gcs_wait}
 use Rattle.gh_world.proofs.Explained.Totals.{are_live}
+use Rattle.gh_lists.specs.Changes.{EveryListHasItsNumbers, EveryStepChangesNumbers, NoNumberFalls}
 
 pub record Laws : Type 0 where
   pub every : EveryListOfAScriptStands
@@ -42,6 +43,9 @@ pub record Laws : Type 0 where
   pub writes : ProcessorWritesItsOwn
   pub works : WorkersWriteTheirOwn
   pub keeps : EveryListKeepsIt
+  pub changes : EveryStepChangesNumbers
+  pub rises : NoNumberFalls
+  pub numbers : EveryListHasItsNumbers
   pub few : CyclesAreFew
   pub balances : EveryListBalances
   pub begins_few : ProcessorsBeginFew
@@ -72,6 +76,9 @@ module _ (laws : Laws) (p : Program) (l : Layout) (formed : WellFormed p) (out :
     works = laws.works;
     keeps = λ es legal. laws.keeps p.shapes l (pacing_of p) (may_begin_of p l) es legal;
     few = λ es legal. (are_few es legal).few;
+    changes = laws.changes;
+    rises = laws.rises;
+    numbers = laws.numbers;
     roomy = λ es legal. let o = (are_few es legal).opened in let many = many_wishes p l formed out in omega (arith, o, many);
   }
 

@@ -5,17 +5,18 @@ use Rattle.std.proofs.lemmas.Bool.{eqb-true}
 use Rattle.std.proofs.lemmas.Option.{slice_get-get_or}
 use Rattle.gh_base.specs.declared.cell.Cell.TheVariants as cell
 use Rattle.gh_coord.specs.Listing as coord
-use Rattle.gh_world.specs.declared.handshake.Actor.TheVariants as actor
+use Rattle.gh_lists.specs.declared.handshake.Actor.TheVariants as actor
 use Rattle.gh_world.specs.Vocabulary.{acks_of, bit, Coordinating, Cycle, Entry, Ever, Layout, Legal, Name, Op, Program, Reach, row_bit, Words}
 use Rattle.gh_world.specs.RunVocabulary.{actor_after, alloc_words, AllStands, AllWereCounted, AreLive, arena_of, AreWords, Ask, by_field, by_global, effect, EndsCycle, ever_after_list, from_field, from_global, is_set, IsAmong, IsHeld, IsMade, IsMarkedObject, IsPlacedAt, IsStartOf, last_kept, LeavesTheReached, mark_words, marked_by, marked_objects, may_begin_of, pacing_of, page_words, SetBitsAreCounted, setting_of, slot_row, SlotsAreRead, words_in}
-use Rattle.gh_world.proofs.AllActors.Starts.{legal_start, start_of_start, whole}
+use Rattle.gh_lists.specs.Starts.{legal_start, start_of_start, whole}
 use Rattle.gh_world.proofs.Explained.Cycles.{as_many, at_end, ends_by}
 use Rattle.gh_world.proofs.Explained.Known.{Known}
-use Rattle.gh_world.proofs.Explained.Listing.{are_apart, no_more, sum_same}
+use Rattle.gh_world.proofs.Explained.Listing.{are_apart, no_more}
+use Rattle.gh_lists.specs.SumsBelow.{sum_same}
 use Rattle.gh_world.proofs.Explained.Live as live
 use Rattle.gh_world.proofs.Explained.Live.{bytes_by_bits, set_is}
-use Rattle.gh_world.proofs.AllActors.LeadingNames.{same_name}
-use Rattle.gh_world.proofs.AllActors.Resting.{ever_stays}
+use Rattle.gh_lists.specs.Names.{same_name}
+use Rattle.gh_lists.specs.Resting.{ever_stays}
 use Rattle.gh_world.proofs.Explained.Slots.{AreNamed, Classes, is_made, is_placed, name_at}
 
 reached_of_held : (e : Ever) (n : Name) → IsHeld e n → Reach e n

@@ -12,7 +12,7 @@ use Rattle.std.proofs.lemmas.Nat.{mod_below}
 use Rattle.std.proofs.lemmas.Option.{slice_get-map}
 use Rattle.gh_mutator.specs.Acting.{EachOperationActsOnce}
 use Rattle.gh_script.specs.Program.{op_of, statement_at}
-use Rattle.gh_world.specs.Order.{answered, Answered, before_step, begun_in, ever_of, order_at, order_of}
+use Rattle.gh_lists.specs.Order.{answered, Answered, before_step, begun_in, ever_of, order_at, order_of}
 use Rattle.gh_world.specs.Points.{numbers_of, op_at_point, ops_of, PointsAre, PointsAreStatements, statements_acted}
 use Rattle.gh_world.specs.Runs.{IsRunSoFar}
 use Rattle.gh_world.specs.Turns.{goroutine_at, is_of_seat, is_statement_of, next_point, statement_now, statements_by}

@@ -2,7 +2,7 @@ use Rattle.std.proofs.Common.{ap, Option, subst, sym, ◌∙◌, ◌++◌}
 use Rattle.std.specs.Option.{option_to_list}
 use Rattle.gh_base.specs.declared.value.Answer.{Answer}
 use Rattle.gh_script.specs.Program.{Program, WellFormed}
-use Rattle.gh_world.specs.Processors.{arena_of, given_of}
+use Rattle.gh_lists.specs.Processors.{arena_of, given_of}
 use Rattle.gh_world.specs.World.{LaysOut}
 use Rattle.gh_shared.specs.Handles.{plan_of}
 use Rattle.gh_shared.specs.Plans.{setting}

@@ -1,0 +1,336 @@
+-- Steps of workers and of the coordinator outside of marking: they are those of sweeps, or on no word of which anything is said of the heap, its spans, stacks and buffers.
+use Rattle.std.proofs.Common.{◌≡◌, ◌⊎◌, ℕ, ◌<◌, ◌≤◌, ◌==◌, Bool, true, false, refl, sym, ap, subst, ◌∙◌, arith, List, ◌∷◌, None, ◌≢◌, ◌↔◌, cond, Option, Some}
+use Rattle.std.proofs.lemmas.Bool.Decides.{nat_tests}
+use Rattle.gh_base.specs.declared.cell.Ask.{Ask}
+use Rattle.gh_base.specs.declared.cell.Ask.TheVariants.{Load, Store}
+use Rattle.gh_base.specs.declared.cell.Cell.{Cell}
+use Rattle.gh_base.specs.declared.cell.Cell.TheVariants as cell
+use Rattle.gh_base.specs.declared.pack.TheConstants.{END}
+use Rattle.gh_base.specs.Cells.{put, Words, seats_of}
+use Rattle.gh_base.specs.Steps.{effect, cell_of}
+use Rattle.gh_base.specs.Rows.{Row}
+use Rattle.gh_heap.specs.Moves.{IsQuiet, Others, Quiet}
+use Rattle.gh_heap.specs.Spans.{Freeing, Laying}
+use Rattle.gh_worker.specs.Writing.{AcksAlone}
+use Rattle.gh_lists.specs.Handshake.{Pacing, those}
+use Rattle.gh_state.specs.Moves as state
+use Rattle.gh_state.specs.Moves.{Deed}
+use Rattle.gh_state.specs.Routines.{GoesOn}
+use Rattle.gh_sweep.specs.Listing as sweep
+use Rattle.gh_sweep.specs.Listing.{Sweeping}
+use Rattle.gh_sweep.specs.Running.{on_from}
+use Rattle.gh_sweep.specs.declared.sweep.SweepStage.{SweepStage}
+use Rattle.gh_sweep.specs.declared.sweep.SweepStage.TheVariants as sweep_stage
+use Rattle.gh_lists.specs.declared.handshake.Actor.{Actor}
+use Rattle.gh_holds.specs.ActorsHold.{IsOff, NobodyMarks}
+use Rattle.gh_marked.specs.State.{HasState, IsHeapOf, processor_at}
+use Rattle.gh_marked.specs.HeapBytes.{uncounted}
+use Rattle.gh_holds.specs.HoldVocabulary.{actors_after, arena, Arena, Entry, Ever, Heap, IsBounded, Layout, Legal, MarksNothing, Op, Processor, Rests, Right, Shape, State, StateGood, view}
+use Rattle.gh_marked.specs.Sweepers.{IsInSweep, sweep_of}
+use Rattle.gh_holds.specs.Known.{Known}
+use Rattle.gh_holds.proofs.AllActors.Moves.{moves_on}
+use Rattle.gh_lists.specs.Resting.{ever_stays, state_stays}
+use Rattle.gh_holds.proofs.AllActors.Sweepers as sweepers
+use Rattle.gh_holds.proofs.AllActors.Sweepers.{rests_on}
+use Rattle.gh_lists.specs.Seats.{other}
+use Rattle.std.proofs.lemmas.Bool.{eqb-true}
+
+-- what the step leaves, whatever the words are
+pub record IsAside (ask : Ask) : Type 0 where
+  pub quiet : IsQuiet ask
+  pub heap : (w : Words) → effect w ask cell.Heap ≡ w cell.Heap
+  pub page : (w : Words) (i : ℕ) → effect w ask (cell.Page i) ≡ w (cell.Page i)
+  pub alloc : (w : Words) (i : ℕ) → effect w ask (cell.Alloc i) ≡ w (cell.Alloc i)
+  pub mark : (w : Words) (i : ℕ) → effect w ask (cell.Mark i) ≡ w (cell.Mark i)
+  pub birth : (w : Words) (i : ℕ) → effect w ask (cell.Birth i) ≡ w (cell.Birth i)
+  pub global : (w : Words) (i : ℕ) → effect w ask (cell.Global i) ≡ w (cell.Global i)
+  pub buffer : (w : Words) (i : ℕ) → effect w ask (cell.Buffer i) ≡ w (cell.Buffer i)
+  pub scanned : (w : Words) (i : ℕ) → effect w ask (cell.Scanned i) ≡ w (cell.Scanned i)
+
+-- it may be on marks and buffers
+pub record IsBeside (ask : Ask) : Type 0 where
+  pub quiet : IsQuiet ask
+  pub heap : (w : Words) → effect w ask cell.Heap ≡ w cell.Heap
+  pub page : (w : Words) (i : ℕ) → effect w ask (cell.Page i) ≡ w (cell.Page i)
+  pub alloc : (w : Words) (i : ℕ) → effect w ask (cell.Alloc i) ≡ w (cell.Alloc i)
+  pub birth : (w : Words) (i : ℕ) → effect w ask (cell.Birth i) ≡ w (cell.Birth i)
+  pub global : (w : Words) (i : ℕ) → effect w ask (cell.Global i) ≡ w (cell.Global i)
+  pub scanned : (w : Words) (i : ℕ) → effect w ask (cell.Scanned i) ≡ w (cell.Scanned i)
+
+pub beside_of : (ask : Ask) → IsAside ask → IsBeside ask
+beside_of ask is = record { quiet = is.quiet; heap = is.heap; page = is.page; alloc = is.alloc; birth = is.birth; global = is.global; scanned = is.scanned }
+
+-- it leaves the counts of the sweep too
+pub record TellsNothing (ask : Ask) : Type 0 where
+  pub aside : IsAside ask
+  pub tally : (w : Words) → effect w ask cell.Tally ≡ w cell.Tally
+  pub live : (w : Words) → effect w ask cell.Live ≡ w cell.Live
+  pub cursor : (w : Words) → effect w ask cell.Gcur ≡ w cell.Gcur
+
+pub loads : (c : Cell) → IsAside (Load c)
+loads c = record { quiet = tt; heap = λ w. refl; page = λ w i. refl; alloc = λ w i. refl; mark = λ w i. refl; birth = λ w i. refl; global = λ w i. refl; buffer = λ w i. refl; scanned = λ w i. refl }
+
+pub stores_bank : (x : ℕ) → IsAside (Store cell.Bank x)
+stores_bank x = record { quiet = tt; heap = λ w. refl; page = λ w i. refl; alloc = λ w i. refl; mark = λ w i. refl; birth = λ w i. refl; global = λ w i. refl; buffer = λ w i. refl; scanned = λ w i. refl }
+
+pub stores_ack : (a x : ℕ) → IsAside (Store (cell.Ack a) x)
+stores_ack a x = record { quiet = tt; heap = λ w. refl; page = λ w i. refl; alloc = λ w i. refl; mark = λ w i. refl; birth = λ w i. refl; global = λ w i. refl; buffer = λ w i. refl; scanned = λ w i. refl }
+
+pub stores_phase : (x : ℕ) → IsAside (Store cell.Phase x)
+stores_phase x = record { quiet = tt; heap = λ w. refl; page = λ w i. refl; alloc = λ w i. refl; mark = λ w i. refl; birth = λ w i. refl; global = λ w i. refl; buffer = λ w i. refl; scanned = λ w i. refl }
+
+pub stores_trigger : (x : ℕ) → IsAside (Store cell.Trigger x)
+stores_trigger x = record { quiet = tt; heap = λ w. refl; page = λ w i. refl; alloc = λ w i. refl; mark = λ w i. refl; birth = λ w i. refl; global = λ w i. refl; buffer = λ w i. refl; scanned = λ w i. refl }
+
+pub stores_swept : (x : ℕ) → IsAside (Store cell.Swept x)
+stores_swept x = record { quiet = tt; heap = λ w. refl; page = λ w i. refl; alloc = λ w i. refl; mark = λ w i. refl; birth = λ w i. refl; global = λ w i. refl; buffer = λ w i. refl; scanned = λ w i. refl }
+
+pub stores_begun : (x : ℕ) → IsAside (Store cell.Begun x)
+stores_begun x = record { quiet = tt; heap = λ w. refl; page = λ w i. refl; alloc = λ w i. refl; mark = λ w i. refl; birth = λ w i. refl; global = λ w i. refl; buffer = λ w i. refl; scanned = λ w i. refl }
+
+pub stores_want : (x : ℕ) → IsAside (Store cell.Want x)
+stores_want x = record { quiet = tt; heap = λ w. refl; page = λ w i. refl; alloc = λ w i. refl; mark = λ w i. refl; birth = λ w i. refl; global = λ w i. refl; buffer = λ w i. refl; scanned = λ w i. refl }
+
+pub stores_cursor : (x : ℕ) → IsAside (Store cell.Gcur x)
+stores_cursor x = record { quiet = tt; heap = λ w. refl; page = λ w i. refl; alloc = λ w i. refl; mark = λ w i. refl; birth = λ w i. refl; global = λ w i. refl; buffer = λ w i. refl; scanned = λ w i. refl }
+
+pub stores_tally : (x : ℕ) → IsAside (Store cell.Tally x)
+stores_tally x = record { quiet = tt; heap = λ w. refl; page = λ w i. refl; alloc = λ w i. refl; mark = λ w i. refl; birth = λ w i. refl; global = λ w i. refl; buffer = λ w i. refl; scanned = λ w i. refl }
+
+pub stores_live : (x : ℕ) → IsAside (Store cell.Live x)
+stores_live x = record { quiet = tt; heap = λ w. refl; page = λ w i. refl; alloc = λ w i. refl; mark = λ w i. refl; birth = λ w i. refl; global = λ w i. refl; buffer = λ w i. refl; scanned = λ w i. refl }
+
+pub stores_work : (x : ℕ) → IsAside (Store cell.Work x)
+stores_work x = record { quiet = tt; heap = λ w. refl; page = λ w i. refl; alloc = λ w i. refl; mark = λ w i. refl; birth = λ w i. refl; global = λ w i. refl; buffer = λ w i. refl; scanned = λ w i. refl }
+
+pub stores_slack : (x : ℕ) → IsAside (Store cell.Slack x)
+stores_slack x = record { quiet = tt; heap = λ w. refl; page = λ w i. refl; alloc = λ w i. refl; mark = λ w i. refl; birth = λ w i. refl; global = λ w i. refl; buffer = λ w i. refl; scanned = λ w i. refl }
+
+pub loads_only : (c : Cell) → TellsNothing (Load c)
+loads_only c = record { aside = loads c; tally = λ w. refl; live = λ w. refl; cursor = λ w. refl }
+
+pub acks_only : (a x : ℕ) → TellsNothing (Store (cell.Ack a) x)
+acks_only a x = record { aside = stores_ack a x; tally = λ w. refl; live = λ w. refl; cursor = λ w. refl }
+
+pub phase_only : (x : ℕ) → TellsNothing (Store cell.Phase x)
+phase_only x = record { aside = stores_phase x; tally = λ w. refl; live = λ w. refl; cursor = λ w. refl }
+
+pub trigger_only : (x : ℕ) → TellsNothing (Store cell.Trigger x)
+trigger_only x = record { aside = stores_trigger x; tally = λ w. refl; live = λ w. refl; cursor = λ w. refl }
+
+pub swept_only : (x : ℕ) → TellsNothing (Store cell.Swept x)
+swept_only x = record { aside = stores_swept x; tally = λ w. refl; live = λ w. refl; cursor = λ w. refl }
+
+-- a worker at rest writes its acknowledgement alone
+pub acks_aside : (seat : ℕ) (ask : Ask) → AcksAlone seat ask → TellsNothing ask
+acks_aside seat (Load c) is = loads_only c
+acks_aside seat (Store (cell.Ack a) x) is = acks_only a x
+acks_aside seat _ is = absurd is
+
+-- what the step leaves of the words, whatever these are
+pub record IsOfSpans (ask : Ask) : Type 0 where
+  pub scanned : (w : Words) (i : ℕ) → effect w ask (cell.Scanned i) ≡ w (cell.Scanned i)
+  pub birth : (w : Words) (i : ℕ) → effect w ask (cell.Birth i) ≡ w (cell.Birth i)
+  pub global : (w : Words) (i : ℕ) → effect w ask (cell.Global i) ≡ w (cell.Global i)
+  pub buffer : (w : Words) (i : ℕ) → effect w ask (cell.Buffer i) ≡ w (cell.Buffer i)
+
+module _ (m : sweep.Sweeping) where
+  swapped : (b : Bool) (f w : Words) (x : _) → f x ≡ w x → cond b f w x ≡ w x
+  swapped true f w x is = is
+  swapped false f w x is = refl
+
+  pub spans_only : (q : SweepStage) → IsOfSpans (sweep.asks_at m q)
+  spans_only sweep_stage.Begin = record { scanned = λ w i. swapped _ (put w (cell.Page m.page) _) w _ refl; birth = λ w i. swapped _ (put w (cell.Page m.page) _) w _ refl; global = λ w i. swapped _ (put w (cell.Page m.page) _) w _ refl; buffer = λ w i. swapped _ (put w (cell.Page m.page) _) w _ refl }
+  spans_only (sweep_stage.LoadMarks i) = record { scanned = λ w i. refl; birth = λ w i. refl; global = λ w i. refl; buffer = λ w i. refl }
+  spans_only (sweep_stage.ClearBits i marks) = record { scanned = λ w i. refl; birth = λ w i. refl; global = λ w i. refl; buffer = λ w i. refl }
+  spans_only (sweep_stage.ClearMarks i) = record { scanned = λ w i. refl; birth = λ w i. refl; global = λ w i. refl; buffer = λ w i. refl }
+  spans_only _ = record { scanned = λ w i. refl; birth = λ w i. refl; global = λ w i. refl; buffer = λ w i. refl }
+
+module _ (shapes : List Shape) (l : Layout) (pacing : Pacing) (may : ℕ → List (Entry Op) → Op → Bool) (known : Known) where
+  abbrev z : Arena
+  z = arena shapes l pacing may
+
+  -- One entry more of another than a processor.
+  module _ (e : Entry Op) (es : List (Entry Op)) (legal : Legal (those shapes l pacing may) (e ∷ es)) (ge : l.procs ≤ e.actor) (has : HasState shapes l pacing may es) where
+    abbrev s : State
+    s = has.state
+
+    abbrev h : Heap
+    h = has.state.heap
+
+    abbrev a : ℕ
+    a = e.actor
+
+    -- the sweep that the actor runs, before and behind it
+    abbrev pub swept_before : Option Sweeping
+    swept_before = sweep_of (actors_after z pacing may es a)
+
+    abbrev pub swept_then : Option Sweeping
+    swept_then = sweep_of (actors_after z pacing may (e ∷ es) a)
+
+    -- what the step is, and what it leaves
+    pub record Lands : Type 0 where
+      pub move : state.Move
+      pub allowed : state.May z a s move
+      pub words_are : (state.moved z a s move).heap.words ≡ effect h.words e.ask
+      pub ever_is : (state.moved z a s move).heap.ever ≡ h.ever
+      pub right : Right a (view h) false (λ p. false) None → Right a (view (state.moved z a s move).heap) false (λ p. false) None
+      pub scanned : (i : ℕ) → (state.moved z a s move).heap.words (cell.Scanned i) ≡ h.words (cell.Scanned i)
+      pub global : (i : ℕ) → (state.moved z a s move).heap.words (cell.Global i) ≡ h.words (cell.Global i)
+      pub birth : (i : ℕ) → (state.moved z a s move).heap.words (cell.Birth i) ≡ h.words (cell.Birth i)
+      pub pend : (state.moved z a s move).pend ≡ s.pend
+      pub sweeps : IsInSweep a (state.moved z a s move) swept_then
+
+    pub seat : a < seats_of l
+    seat = legal.1.actor
+
+    pub in_sweep : IsInSweep a s swept_before
+    in_sweep = has.sweeps a seat
+
+    -- A step that is none of a sweep: between two cycles, and while spans are swept, it leaves what the sweeps tell.
+    module _ (none : swept_before ≡ None) (aside : IsBeside e.ask) (leaves : s.told ≡ None → TellsNothing e.ask) where
+      abbrev pub quiet_move : state.Move
+      quiet_move = Deed (Quiet e.ask)
+
+      abbrev pub quiet_state : State
+      quiet_state = state.moved z a s quiet_move
+
+      pub quiet_allowed : state.May z a s quiet_move
+      quiet_allowed = record {
+        seat = legal.1.actor;
+        may = aside.quiet;
+        counts = record { heap = aside.heap h.words; tally = λ over. (leaves over).tally h.words; live = λ over. (leaves over).live h.words; marks = λ over i. (leaves over).aside.mark h.words i };
+      }
+
+      pub quiet_good : StateGood z quiet_state
+      quiet_good = known.keeps z a s quiet_move has.good quiet_allowed
+
+      pub quiet_rests : Rests a quiet_state
+      quiet_rests = rests_on known z a s (Quiet e.ask) (subst (IsInSweep a s) none in_sweep)
+
+      -- it runs none then either, or begins one
+      abbrev pub by_quiet : IsInSweep a quiet_state swept_then → Lands
+      by_quiet sweeps = record {
+        move = quiet_move;
+        allowed = quiet_allowed;
+        words_are = refl;
+        ever_is = refl;
+        right = λ r. record { locked = r.locked; holds = r.holds; laying = r.laying; freeing = r.freeing };
+        scanned = aside.scanned h.words;
+        global = aside.global h.words;
+        birth = aside.birth h.words;
+        pend = refl;
+        sweeps = sweeps;
+      }
+
+      abbrev pub by_quiet_none : swept_then ≡ None → Lands
+      by_quiet_none still = by_quiet (subst (IsInSweep a quiet_state) (sym still) quiet_rests)
+
+    -- A step of the sweep that it runs.
+    module _ (m : Sweeping) (is : swept_before ≡ Some m) (asks_is : e.ask ≡ sweep.asks m) (then_is : swept_then ≡ on_from m e.found) where
+      pub runs : IsInSweep a s (Some m)
+      runs = subst (IsInSweep a s) is in_sweep
+
+      pub found_is : e.found ≡ h.words (cell_of (sweep.asks m))
+      found_is = legal.1.found ∙ (ap (λ (w : Words). w (cell_of e.ask)) (sym has.of_list.words_are) ∙ ap (λ (q : Ask). h.words (cell_of q)) asks_is)
+
+      abbrev pub sweep_move : state.Move
+      sweep_move = sweepers.move known z a s has.good seat m runs e.found found_is
+
+      abbrev pub sweep_state : State
+      sweep_state = state.moved z a s sweep_move
+
+      pub sweep_goes : GoesOn z a s m e.found
+      sweep_goes = sweepers.goes_on known z a s has.good seat m runs e.found found_is
+
+      pub sweep_words : sweep_state.heap.words ≡ effect h.words e.ask
+      sweep_words = sweep_goes.words_are ∙ ap (effect h.words) (sym asks_is)
+
+      pub only : IsOfSpans e.ask
+      only = subst IsOfSpans (sym asks_is) (spans_only m m.stage)
+
+      abbrev pub by_sweep : Lands
+      by_sweep = record {
+        move = sweep_move;
+        allowed = sweep_goes.may;
+        words_are = sweep_words;
+        ever_is = sweep_goes.keeps.ever;
+        right = λ r. record {
+          locked = ap (λ (x : ℕ → Bool). x a) sweep_goes.keeps.locked ∙ r.locked;
+          holds = λ p. ap (λ (x : ℕ → ℕ → Bool). x a p) sweep_goes.keeps.holds ∙ r.holds p;
+          laying = ap (λ (x : ℕ → Option Laying). x a) sweep_goes.keeps.laying ∙ r.laying;
+          freeing = ap (λ (x : ℕ → Option Freeing). x a) sweep_goes.keeps.freeing ∙ r.freeing;
+        };
+        scanned = λ i. ap (λ (w : Words). w (cell.Scanned i)) sweep_words ∙ only.scanned h.words i;
+        global = λ i. ap (λ (w : Words). w (cell.Global i)) sweep_words ∙ only.global h.words i;
+        birth = λ i. ap (λ (w : Words). w (cell.Birth i)) sweep_words ∙ only.birth h.words i;
+        pend = (sweepers.rows_stay known z a s m m.stage e.found).pend;
+        sweeps = sweepers.sweeps_on known z a s has.good seat m runs e.found found_is swept_then then_is;
+      }
+
+      pub sweep_buffers : (b : ℕ) → sweep_state.heap.words (cell.Buffer b) ≡ h.words (cell.Buffer b)
+      sweep_buffers b = ap (λ (w : Words). w (cell.Buffer b)) sweep_words ∙ only.buffer h.words b
+
+    -- The state behind it.
+    module _ (x : Lands) where
+      abbrev pub then : State
+      then = state.moved z a s x.move
+
+      pub others_leave : (b : ℕ) → b ≢ a → Others z b (view h) (view then.heap)
+      others_leave b differs = (known.state_leaves z b a s x.move differs has.good x.allowed).heap
+
+      pub of_list : IsHeapOf shapes l pacing may (e ∷ es) then.heap
+      of_list = moves_on shapes l pacing may known e es h has.of_list has.good.heap then.heap others_leave (record {
+        words_are = x.words_are ∙ ap (λ (w : Words). effect w e.ask) has.of_list.words_are;
+        ever_is = x.ever_is ∙ (has.of_list.ever_is ∙ sym (ever_stays shapes l pacing may known.points e es legal ge));
+        bounded = subst (IsBounded z) (sym x.ever_is) has.of_list.bounded;
+        stacks = λ g. subst (λ (v : Ever). (then.heap.words (cell.Scanned g) ≡ END) ↔ (v.ended g ≡ true)) (sym x.ever_is) ((λ y. (has.of_list.stacks g).0 (sym (x.scanned g) ∙ y)), (λ y. x.scanned g ∙ (has.of_list.stacks g).1 y));
+        others_stacks = λ b g differs its. x.scanned g;
+        globals = λ i le. x.global i ∙ has.of_list.globals i le;
+        own = λ lt. absurd (omega (arith, lt, ge));
+        right = λ le. x.right (has.of_list.others e.actor le);
+      })
+
+      -- each processor is as it was
+      pub was_there : (b : ℕ) → b < l.procs → processor_at shapes l pacing may (e ∷ es) b ≡ processor_at shapes l pacing may es b
+      was_there b lt = state_stays shapes l pacing may e es b (apart (e.actor == b) refl) where
+        apart : (y : Bool) → (e.actor == b) ≡ y → (e.actor == b) ≡ false
+        apart false y = y
+        apart true y = absurd (let same : e.actor ≡ b = grind (arith, nat_tests) in omega (arith, same, lt, ge))
+
+      pub good_then : StateGood z then
+      good_then = known.keeps z a s x.move has.good x.allowed
+
+      pub sweeps_then : (b : ℕ) → b < seats_of l → IsInSweep b then (sweep_of (actors_after z pacing may (e ∷ es) b))
+      sweeps_then b less = go (a == b) refl where
+        go : (y : Bool) → (a == b) ≡ y → IsInSweep b then (sweep_of (actors_after z pacing may (e ∷ es) b))
+        go true y = subst (λ (n : ℕ). IsInSweep n then (sweep_of (actors_after z pacing may (e ∷ es) n))) (eqb-true a b y) x.sweeps
+        go false y = subst (λ (q : Actor). IsInSweep b then (sweep_of q)) (sym (other shapes l pacing e es b y)) (sweepers.lasts known z b s then (sweep_of (actors_after z pacing may es b)) (known.state_leaves z b a s x.move (λ same. absurd (grind (arith, nat_tests))) has.good x.allowed) (has.sweeps b less))
+
+      abbrev pub has_then : HasState shapes l pacing may (e ∷ es)
+      has_then = record {
+        state = then;
+        of_list = of_list;
+        good = good_then;
+        placing = λ b lt. ap (λ (r : Row). r b) x.pend ∙ (has.placing b lt ∙ ap (λ (m : Processor). uncounted m.task) (sym (was_there b lt)));
+        others_place = λ b le. ap (λ (r : Row). r b) x.pend ∙ has.others_place b le;
+        sweeps = sweeps_then;
+      }
+
+      -- nobody marks still, where it leaves the buffers
+      pub nobody_marks : ((b : ℕ) → then.heap.words (cell.Buffer b) ≡ h.words (cell.Buffer b)) → (cycle then_cycle : ℕ) → then_cycle ≡ cycle → NobodyMarks shapes l pacing may es cycle h.words → NobodyMarks shapes l pacing may (e ∷ es) then_cycle then.heap.words
+      nobody_marks buffers cycle then_cycle same y = record {
+        buffers = λ b. buffers b ∙ y.buffers b;
+        stacks = λ g. subst (λ (n : ℕ). (n < then_cycle) ⊎ (n ≡ END)) (sym (x.scanned g)) (subst (λ (n : ℕ). (h.words (cell.Scanned g) < n) ⊎ (h.words (cell.Scanned g) ≡ END)) (sym same) (y.stacks g));
+        processors = λ b lt. subst MarksNothing (sym (was_there b lt)) (y.processors b lt);
+      }
+
+  -- No cycle is under way, and what is swept stays so.
+  module _ (e : Entry Op) (es : List (Entry Op)) (legal : Legal (those shapes l pacing may) (e ∷ es)) (ge : l.procs ≤ e.actor) (cycle page : ℕ) (q : IsOff shapes l pacing may es cycle page) (x : Lands e es legal ge q.has) where
+    abbrev pub off_then : ((b : ℕ) → (then e es legal ge q.has x).heap.words (cell.Buffer b) ≡ q.has.state.heap.words (cell.Buffer b)) → (later : ℕ) → later ≡ cycle → IsOff shapes l pacing may (e ∷ es) later page
+    off_then buffers later same = record {
+      has = has_then e es legal ge q.has x;
+      over = (sweepers.end_stays known z e.actor q.has.state x.move).1 ∙ q.over;
+      passed = known.walkers.own z e.actor q.has.state x.move page q.has.good x.allowed q.passed;
+      nobody = nobody_marks e es legal ge q.has x buffers cycle later same q.nobody;
+    }

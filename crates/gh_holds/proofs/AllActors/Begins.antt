@@ -1,0 +1,175 @@
+-- Where a cycle is about to begin the heap is known to marking, and each processor stands still with nothing in hand.
+use Rattle.std.proofs.Common.{◌≡◌, ◌≢◌, inl, ℕ, ◌+◌, ◌^◌, ◌<◌, ◌≤◌, Bool, true, false, cond, refl, sym, ap, subst, ◌∙◌, arith, List, [], length, slice_index_or, Some, None}
+use Rattle.std.proofs.lemmas.Nat.Bits.{bit_at-zero}
+use Rattle.std.specs.Prelude.{◌/◌}
+use Rattle.gh_base.specs.declared.cell.Cell.TheVariants as cell
+use Rattle.gh_base.specs.declared.limits.TheConstants.{MOST_GOROUTINES}
+use Rattle.gh_base.specs.declared.value.Value.TheVariants as value
+use Rattle.gh_coord.specs.Handshake as leading
+use Rattle.gh_cycle.specs.Beside.{IsBeside}
+use Rattle.gh_cycle.specs.Opening.{IsAtRest, IsOpened}
+use Rattle.gh_cycle.specs.Since.{HasGoneOn}
+use Rattle.gh_heap.specs.Objects.{Place}
+use Rattle.gh_model.specs.declared.EverValue.TheVariants as ever_value
+use Rattle.gh_mutator.specs.MarkFacts.{KnowsStacks}
+use Rattle.gh_mutator.specs.ProcessorMarks.{StandsWithNothing}
+use Rattle.gh_phase.specs.declared.view.RunPhase.TheVariants as run
+use Rattle.gh_stack.specs.Facts.{named}
+use Rattle.gh_lists.specs.declared.handshake.Actor.TheVariants as actor
+use Rattle.gh_lists.specs.Numbers.{open_part}
+use Rattle.gh_holds.specs.ActorsHold.{HasCleared}
+use Rattle.gh_holds.proofs.Vocabulary.{actors_after, ahead_at, Arena, arena, AreRegisters, Begun, bit_at, Coordinating, CoordStage, Cycle, END, Entry, Ever, EverValue, Hands, HasCursor, HoldsAt, IsAsItShould, IsBeginning, IsInLimits, IsLed, IsOf, IsReady, IsToBegin, Layout, Legal, mark_words, MarkFacts, Marking, MayBegin, Means, nothing, Op, Open, Pacing, part_of, Processor, processor_at, reference_of, register_at, REGISTERS, row_bit, Shape, Stands, those, Value, view, Words, words, ◌%◌}
+use Rattle.gh_holds.specs.Drawing.{drawn_first}
+use Rattle.gh_holds.specs.Known.{Known, ListsKnown}
+use Rattle.gh_lists.specs.Resting.{run_is}
+use Rattle.gh_holds.proofs.AllActors.Tied.{is_of_heap}
+use Rattle.gh_marked.specs.Checking.{begin_post}
+
+-- What a value names, by the two ways to say it.
+pub same_name : (place : Place) (made : ℕ → ℕ) (v : EverValue) (w : Value) → Means place made v w → reference_of place v ≡ named w
+same_name place made ever_value.Nil value.Nil m = refl
+same_name place made (ever_value.Int i) (value.Int j) m = refl
+same_name place made (ever_value.Ref n) (value.Ref r) m = sym m.0
+same_name place made ever_value.Nil (value.Int j) m = absurd m
+same_name place made ever_value.Nil (value.Ref r) m = absurd m
+same_name place made (ever_value.Int i) value.Nil m = absurd m
+same_name place made (ever_value.Int i) (value.Ref r) m = absurd m
+same_name place made (ever_value.Ref n) value.Nil m = absurd m
+same_name place made (ever_value.Ref n) (value.Int j) m = absurd m
+
+some_name : (place : Place) (made : ℕ → ℕ) (v : EverValue) (r : ℕ) → Means place made v (value.Ref r) → 1 ≤ r
+some_name place made ever_value.Nil r m = absurd m
+some_name place made (ever_value.Int i) r m = absurd m
+some_name place made (ever_value.Ref n) r m = let is : r ≡ place n + 1 = m.0 in omega (arith, is)
+
+clear_bit : (w : Words) (o : ℕ) → w (cell.Mark (o / 64)) ≡ 0 → row_bit (mark_words w) o ≡ 0
+unfolding row_bit
+clear_bit w o is = ap (λ (v : ℕ). bit_at v (o % 64)) is ∙ bit_at-zero (o % 64)
+
+begun_part : (p : CoordStage) → IsBeginning p → part_of p ≡ Begun
+begun_part (Open o) b = ap open_part b
+begun_part _ b = absurd b
+
+module _ (shapes : List Shape) (l : Layout) (pacing : Pacing) (may : ℕ → List (Entry Op) → Op → Bool) (limits : IsInLimits l) (known : Known) (lists : ListsKnown shapes l pacing may)
+    (es : List (Entry Op)) (c : Coordinating) (legal : Legal (those shapes l pacing may) es) (led : IsLed shapes l pacing may es c) (b : IsBeginning c.stage) where
+  abbrev z : Arena
+  z = arena shapes l pacing may
+
+  pub is_ready : (p : CoordStage) → IsBeginning p → HoldsAt shapes l pacing may es c p → IsReady shapes l pacing may es c × (words shapes l pacing may es cell.Gcur ≡ 0) × ((words shapes l pacing may es cell.Tally ≡ 0) × (words shapes l pacing may es cell.Live ≡ 0))
+  is_ready (Open o) x h = (h.0, subst (HasCursor (words shapes l pacing may es cell.Gcur)) x h.1, subst (HasCleared (words shapes l pacing may es cell.Tally) (words shapes l pacing may es cell.Live)) x h.2)
+  is_ready _ x h = absurd x
+
+  few : c.begun < 2 ^ 48
+  few =
+      let k = lists.counts es c legal led in
+      let part = begun_part c.stage b in
+      let one : (ahead_at (part_of c.stage)).numbered ≡ 1 = ap (λ (x : Rattle.gh_lists.specs.Numbers.Part). (ahead_at x).numbered) part in
+      let opened : (ahead_at (part_of c.stage)).opened ≡ 1 = ap (λ (x : Rattle.gh_lists.specs.Numbers.Part). (ahead_at x).opened) part in
+      let few = lists.few es legal in
+      omega (arith, k.number, k.opened, one, opened, few)
+
+  abbrev cycle : Cycle
+  cycle = record { arena = z; number = c.begun; few = few }
+
+  module _ (r : IsReady shapes l pacing may es c) (cursor : words shapes l pacing may es cell.Gcur ≡ 0) (cleared : (words shapes l pacing may es cell.Tally ≡ 0) × (words shapes l pacing may es cell.Live ≡ 0)) where
+    rest : IsAtRest z c.begun r.has.state.heap
+    rest = record {
+      marks = λ o. clear_bit r.has.state.heap.words o (r.marks (o / 64));
+      buffers = r.nobody.buffers;
+      cursor = ap (λ (w : Words). w cell.Gcur) r.has.of_list.words_are ∙ cursor;
+      scanned = r.nobody.stacks;
+      over = λ g. (r.has.of_list.stacks g).0;
+      none = r.has.of_list.globals;
+    }
+
+    opened : IsOpened cycle r.has.state.heap
+    opened = known.opens cycle r.has.state.heap r.has.good.heap r.has.of_list.bounded rest
+
+    abbrev s : Marking
+    s = opened.marking
+
+    seats : (a : ℕ) → Hands a s nothing
+    seats = (known.marking cycle s opened.opens).seats
+
+    beside : IsBeside z r.has.state.heap s
+    beside = known.beside_begins cycle r.has.state.heap s r.has.good.heap r.has.of_list.bounded rest opened.of_heap opened.registers (λ o a is. absurd (let none : None ≡ Some o = ((seats a).has.is_reserved o).1 is in cc))
+
+    module _ (a : ℕ) (m : Processor) (lt : a < l.procs) (is : actors_after z pacing may es a ≡ actor.Runs m) where
+      same : processor_at shapes l pacing may es a ≡ m
+      same = run_is shapes l pacing may es a m lt is
+
+      abbrev it : Processor
+      it = processor_at shapes l pacing may es a
+
+      should : IsAsItShould shapes l pacing may es r.has.state.heap a it
+      should = r.has.of_list.processors a lt
+
+      stands : Stands z a (view r.has.state.heap) it.poll
+      stands = known.runs.stands z a (view r.has.state.heap) it should.pending should.fine
+
+      goes_on : (g : ℕ) → s.words (cell.Scanned g) ≢ END → r.has.state.heap.ever.ended g ≡ false
+      goes_on g other = go (r.has.state.heap.ever.ended g) refl where
+        go : (x : Bool) → r.has.state.heap.ever.ended g ≡ x → r.has.state.heap.ever.ended g ≡ false
+        go false x = x
+        go true x = absurd (other (ap (λ (w : Words). w (cell.Scanned g)) opened.of_heap.words ∙ (r.has.of_list.stacks g).1 x))
+
+      few_goroutines : (g : ℕ) → IsOf z a g → g < MOST_GOROUTINES
+      few_goroutines g its = omega (arith, its.0, limits.goroutines_fit.1)
+
+      registers : (g : ℕ) → IsOf z a g → s.words (cell.Scanned g) ≢ END → AreRegisters (s.registers g) (slice_index_or it.poll.local.stacks g [])
+      registers g its other = record {
+        whole = whole;
+        each = λ d below. opened.registers g d ∙ (ap (λ (x : Bool). cond x 0 (reference_of r.has.state.heap.place (r.has.state.heap.ever.register g d))) (goes_on g other) ∙ same_name r.has.state.heap.place r.has.state.heap.ever.made (r.has.state.heap.ever.register g d) (register_at it.poll g d) (means d below));
+        some = λ d reference below holds. some_name r.has.state.heap.place r.has.state.heap.ever.made (r.has.state.heap.ever.register g d) reference (subst (λ (v : Value). Means r.has.state.heap.place r.has.state.heap.ever.made (r.has.state.heap.ever.register g d) v) holds (means d below));
+      } where
+        whole : length (slice_index_or it.poll.local.stacks g []) ≡ REGISTERS
+        whole = stands.sits.registers g (few_goroutines g its)
+
+        means : (d : ℕ) → d < length (slice_index_or it.poll.local.stacks g []) → Means r.has.state.heap.place r.has.state.heap.ever.made (r.has.state.heap.ever.register g d) (register_at it.poll g d)
+        means d below = stands.registers g d its (subst (λ (x : ℕ). d < x) whole below)
+
+      stacks : KnowsStacks cycle a s it.poll.local.stacks it.poll.local.scanned
+      stacks = record {
+        own = λ g below of. (below, of);
+        registers = registers;
+        noted = λ g its. should.notes g its ∙ sym (ap (λ (w : Words). w (cell.Scanned g)) opened.of_heap.words);
+        places = let long = stands.sits.scanned in let fit = limits.goroutines_fit.1 in omega (arith, long, fit);
+      }
+
+      stands_still : StandsWithNothing cycle a s it
+      stands_still = record {
+        stops = (leading.lead_of c).stops;
+        parked = (lists.keeps es legal).processors_wait c run.Off a it led (begin_post c.stage b) (omega (arith, lt)) (is ∙ sym (ap actor.Runs same));
+        layout_is = stands.sits.layout;
+        seat_is = stands.sits.seat;
+        no_buffer = (r.nobody.processors a lt).holds.none;
+        stacks = stacks;
+        nothing_in_hand = seats a;
+      }
+
+      knows : MarkFacts cycle a s m
+      knows = subst (MarkFacts cycle a s) same (known.marks.opens cycle a s it stands_still)
+
+    to_begin : IsToBegin shapes l pacing may es c.begun
+    to_begin = record { lead = c; led = led; stage = b; cycle = refl }
+
+    pub may_begin : MayBegin z pacing may es c
+    may_begin = record {
+      cycle = cycle;
+      shared = s;
+      is = record { arena_is = refl; number_is = refl; words_are = opened.of_heap.words ∙ r.has.of_list.words_are };
+      opens = opened.opens;
+      known = record {
+        arena_is = refl;
+        has = r.has;
+        under_way = r.under_way;
+        beside = beside;
+        cycle = inl to_begin;
+        gone_on = subst (λ (v : Ever). HasGoneOn v r.has.state.heap s) r.has.of_list.ever_is (known.begins_so cycle r.has.state.heap s r.has.good.heap r.has.of_list.bounded opened.of_heap);
+        stood = λ n x p. p;
+        drawn = drawn_first shapes l pacing may known.drawn cycle es s to_begin (opened.of_heap.words ∙ r.has.of_list.words_are) (is_of_heap shapes l pacing may known es r.has cycle s refl (known.marking cycle s opened.opens).good beside) opened.opens;
+        marks_fit = λ i. let none = r.marks i in omega (arith, none);
+        counts = (ap (λ (w : Words). w cell.Tally) r.has.of_list.words_are ∙ cleared.0, ap (λ (w : Words). w cell.Live) r.has.of_list.words_are ∙ cleared.1);
+      };
+      processors = knows;
+    }

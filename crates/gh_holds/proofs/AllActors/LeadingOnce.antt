@@ -1,0 +1,190 @@
+-- A cycle begins once: from the store of its phase on the coordinator opens none before the next request is cleared.
+use Rattle.std.proofs.Common.{◌≡◌, ◌⊎◌, inl, inr, ℕ, suc, ◌+◌, ◌≤◌, ◌==◌, Bool, true, false, cond, refl, sym, ap, subst, ◌∙◌, arith, List, [], ◌∷◌, Option, Some, None}
+use Rattle.gh_coord.specs.declared.open.OpenStage.TheVariants as open_stage
+use Rattle.gh_coord.specs.Closing as close
+use Rattle.gh_coord.specs.Counting as count
+use Rattle.gh_coord.specs.Listing as coord
+use Rattle.gh_coord.specs.Opening as opens_by
+use Rattle.gh_coord.specs.Stopping as stop
+use Rattle.gh_coord.specs.SweepingAll as over
+use Rattle.gh_coord.specs.Telling as tell
+use Rattle.gh_coord.specs.Watching as watch
+use Rattle.gh_lists.specs.Lists.{BeginsCycle}
+use Rattle.gh_lists.specs.Starts.{legal_start, compared}
+use Rattle.gh_holds.proofs.Vocabulary.{acks_of, All, Ask, Check, Close, Coordinating, CoordStage, Count, Counted, Done, Entry, IsBeginning, IsLed, IsStartOf, Layout, Legal, LoadAck, LoadWant, MarkOn, nat_tests, NotYet, Op, Open, opened_after, opened_in, OpenStage, Pacing, Shape, Stop, StopAgain, Sweep, Tell, those, Watch, Watched}
+use Rattle.gh_holds.specs.Known.{Known, ListsKnown}
+use Rattle.gh_holds.proofs.AllActors.LeadingNumbers.{beginning, numbers_at}
+use Rattle.gh_holds.proofs.AllActors.LeadingSeat.{asked_at, busy, goes_at as goes_by, led_then}
+use Rattle.gh_lists.specs.Seats.{other}
+use Rattle.gh_lists.specs.Counting.{rises}
+use Rattle.gh_lists.specs.Steps.{led_by}
+
+-- it opens no cycle, but may be about to clear the request for one
+abbrev IsToClear : OpenStage → Type 0
+IsToClear open_stage.ClearWant = Unit {0}
+IsToClear _ = ⊥
+
+abbrev IsPast : CoordStage → Type 0
+IsPast (Open o) = IsToClear o.stage
+IsPast _ = Unit {0}
+
+module _ (u : Coordinating) where
+  acks : (i : ℕ) (gone more : Bool) → IsPast (cond gone (cond more (coord.at_stage u (LoadAck (i + 1))) (coord.stops_world (record u { is_last = true }))) (coord.at_stage u LoadWant)).stage
+  acks i true true = tt
+  acks i true false = tt
+  acks i false more = tt
+
+  wants : (none : Bool) → IsPast (cond none (coord.at_stage u (LoadAck 0)) (coord.stops_world u)).stage
+  wants true = tt
+  wants false = tt
+
+  stops : (st : stop.Stopping) (out : Option (Unit {0})) → IsPast (coord.after_stop (coord.at_stage u (Stop st)) out).stage
+  stops st None = tt
+  stops st (Some x) = tt
+
+  watches : (w : watch.Watching) (out : Option Watched) → IsPast (coord.after_watch (coord.at_stage u (Watch w)) out).stage
+  watches w None = tt
+  watches w (Some All) = tt
+  watches w (Some NotYet) = tt
+
+  stops_again : (st : stop.Stopping) (out : Option (Unit {0})) → IsPast (coord.after_stop_again (coord.at_stage u (StopAgain st)) out).stage
+  stops_again st None = tt
+  stops_again st (Some x) = tt
+
+  checks : (w : watch.Watching) (out : Option Watched) → IsPast (coord.after_check (coord.at_stage u (Check w)) out).stage
+  checks w None = tt
+  checks w (Some All) = tt
+  checks w (Some NotYet) = tt
+
+  closes : (x : close.Closing) (out : Option ℕ) → IsPast (coord.after_close (coord.at_stage u (Close x)) out).stage
+  closes x None = tt
+  closes x (Some lapsed) = tt
+
+  sweeps : (w : over.SweepingAll) (out : Option (Unit {0})) → IsPast (coord.after_sweep (coord.at_stage u (Sweep w)) out).stage
+  sweeps w None = tt
+  sweeps w (Some x) = tt
+
+  counts : (w : count.Counting) (out : Option Counted) → IsPast (coord.after_count (coord.at_stage u (Count w)) out).stage
+  counts w None = tt
+  counts w (Some x) = tt
+
+  tells : (t : tell.Telling) (out : Option (Unit {0})) → IsPast (coord.after_tell (coord.at_stage u (Tell t)) out).stage
+  tells t None = tt
+  tells t (Some x) = go u.is_last where
+    go : (b : Bool) → IsPast (cond b Done (LoadAck 0))
+    go true = tt
+    go false = tt
+
+  -- a step that clears the request counts one cycle more
+  clears : (o : opens_by.CycleOpening) (p : OpenStage) → o.stage ≡ p → IsToClear p → (before : ℕ) → opened_after (opens_by.asks_at o o.stage) before ≡ suc before
+  clears o open_stage.ClearWant is past before = ap (λ (q : OpenStage). opened_after (opens_by.asks_at o q) before) is
+  clears o _ is past before = absurd past
+
+  stays_past : (c : Coordinating) (p : CoordStage) (found : ℕ) → coord.is_busy p ≡ true → IsPast p → IsPast (coord.goes_at u p found).stage ⊎ ((before : ℕ) → opened_after (coord.asks_at c p) before ≡ suc before)
+  stays_past c (LoadAck i) found b past = inl (acks i _ _)
+  stays_past c LoadWant found b past = inl (wants _)
+  stays_past c (Stop st) found b past = inl (stops (stop.goes st found) (stop.gives st found))
+  stays_past c (Open o) found b past = inr (clears o o.stage refl past)
+  stays_past c (Watch w) found b past = inl (watches (watch.goes w found) (watch.gives w found))
+  stays_past c (StopAgain st) found b past = inl (stops_again (stop.goes st found) (stop.gives st found))
+  stays_past c (Check w) found b past = inl (checks (watch.goes w found) (watch.gives w found))
+  stays_past c MarkOn found b past = inl tt
+  stays_past c (Close x) found b past = inl (closes (close.goes x found) (close.gives x found))
+  stays_past c (Sweep w) found b past = inl (sweeps (over.goes w found) (over.gives w found))
+  stays_past c (Count w) found b past = inl (counts (count.goes w found) (count.gives w found))
+  stays_past c (Tell t) found b past = inl (tells (tell.goes t found) (tell.gives t found))
+  stays_past c Done found b past = absurd cc
+
+  -- where a cycle begins
+  begins_past : (p : CoordStage) (found : ℕ) → IsBeginning p → IsPast (coord.goes_at u p found).stage
+  begins_past (Open o) found is = rw is tt
+  begins_past _ found is = absurd is
+
+begins_none : (c : Coordinating) (p : CoordStage) → IsBeginning p → (before : ℕ) → opened_after (coord.asks_at c p) before ≡ before
+begins_none c (Open o) is before = ap (λ (q : OpenStage). opened_after (opens_by.asks_at o q) before) is
+begins_none c _ is before = absurd is
+
+not_past : (p : CoordStage) → IsBeginning p → IsPast p → ⊥
+not_past (Open o) is past = subst IsToClear is past
+not_past _ is past = is
+
+module _ (shapes : List Shape) (l : Layout) (pacing : Pacing) (may : ℕ → List (Entry Op) → Op → Bool) (known : Known) (lists : ListsKnown shapes l pacing may) where
+  abbrev Lawful : List (Entry Op) → Type 0
+  Lawful es = Legal (those shapes l pacing may) es
+
+  abbrev Led : List (Entry Op) → Coordinating → Type 0
+  Led es c = IsLed shapes l pacing may es c
+
+  -- so many cycles were opened before, and as long as no more are the coordinator is past the opening
+  record PastSince (opened : ℕ) (es : List (Entry Op)) : Type 0 where
+    least : opened ≤ opened_in es
+    past : opened_in es ≡ opened → (c : Coordinating) → Led es c → IsPast c.stage
+
+  one_led : (es : List (Entry Op)) (c d : Coordinating) → Led es c → Led es d → c ≡ d
+  one_led es c d x y = let both = sym x ∙ y in cc
+
+  -- one entry more
+  module _ (opened : ℕ) (e : Entry Op) (es : List (Entry Op)) (legal : Lawful (e ∷ es)) (p : PastSince opened es) where
+    up : opened_in es ≤ opened_in (e ∷ es)
+    up = rises e.ask (opened_in es)
+
+    past_by_lead : (c : Coordinating) → Led es c → e.actor ≡ acks_of l → opened_in (e ∷ es) ≡ opened → (d : Coordinating) → Led (e ∷ es) d → IsPast d.stage
+    past_by_lead c led by same d led_d =
+        let then : Led (e ∷ es) (coord.goes_at (coord.counted c) c.stage e.found) = subst (Led (e ∷ es)) (goes_by shapes l pacing may known lists e es legal c led by c.stage refl) (led_then shapes l pacing may known lists e es legal c led by) in
+        subst (λ (x : Coordinating). IsPast x.stage) (one_led (e ∷ es) (coord.goes_at (coord.counted c) c.stage e.found) d then led_d) (go (stays_past (coord.counted c) c c.stage e.found (busy shapes l pacing may known lists e es legal c led by) (p.past before c led))) where
+          before : opened_in es ≡ opened
+          before = let a = up in let b = p.least in omega (arith, a, b, same)
+
+          go : IsPast (coord.goes_at (coord.counted c) c.stage e.found).stage ⊎ ((n : ℕ) → opened_after (coord.asks_at c c.stage) n ≡ suc n) → IsPast (coord.goes_at (coord.counted c) c.stage e.found).stage
+          go (inl x) = x
+          go (inr more) = absurd (let x : opened_in (e ∷ es) ≡ suc (opened_in es) = ap (λ (q : Ask). opened_after q (opened_in es)) (asked_at shapes l pacing may known lists e es legal c led by c.stage refl) ∙ more (opened_in es) in let y = before in omega (arith, x, y, same))
+
+    past_by_other : (e.actor == acks_of l) ≡ false → opened_in (e ∷ es) ≡ opened → (d : Coordinating) → Led (e ∷ es) d → IsPast d.stage
+    past_by_other x same d led_d = p.past (let a = up in let b = p.least in omega (arith, a, b, same)) d (sym (other shapes l pacing e es (acks_of l) x) ∙ led_d)
+
+    past_on : PastSince opened (e ∷ es)
+    past_on = record { least = (let a = up in let b = p.least in omega (arith, a, b)); past = go (e.actor == acks_of l) refl } where
+      go : (b : Bool) → (e.actor == acks_of l) ≡ b → opened_in (e ∷ es) ≡ opened → (d : Coordinating) → Led (e ∷ es) d → IsPast d.stage
+      go true x = let y = led_by shapes l pacing may es in past_by_lead y.lead y.led_by (grind (arith, nat_tests))
+      go false x = past_by_other x
+
+  past_since : (opened : ℕ) (start es : List (Entry Op)) → IsStartOf start es → Lawful es → PastSince opened start → PastSince opened es
+  past_since opened start [] is legal p = subst (PastSince opened) is p
+  past_since opened start (e ∷ es) (inl is) legal p = subst (PastSince opened) is p
+  past_since opened start (e ∷ es) (inr is) legal p = past_on opened e es legal (past_since opened start es is legal.0 p)
+
+  -- from where a cycle begins
+  past_begun : (k : ℕ) (d : Entry Op) (ds : List (Entry Op)) → Lawful (d ∷ ds) → BeginsCycle shapes l pacing may k (d ∷ ds) → PastSince k (d ∷ ds)
+  past_begun k d ds legal x = record { least = (let a = opened_is in omega (arith, a)); past = λ same c led. subst (λ (y : Coordinating). IsPast y.stage) (one_led (d ∷ ds) (coord.goes_at (coord.counted x.lead) x.lead.stage d.found) c then led) (begins_past (coord.counted x.lead) x.lead.stage d.found x.stage) } where
+    then : Led (d ∷ ds) (coord.goes_at (coord.counted x.lead) x.lead.stage d.found)
+    then = subst (Led (d ∷ ds)) (goes_by shapes l pacing may known lists d ds legal x.lead x.led x.by x.lead.stage refl) (led_then shapes l pacing may known lists d ds legal x.lead x.led x.by)
+
+    opened_is : opened_in (d ∷ ds) ≡ k
+    opened_is =
+        let n = numbers_at shapes l pacing may known lists ds x.lead x.lead.stage 1 1 0 legal.0 x.led refl (beginning x.lead.stage x.stage) in
+        let a = n.0 in
+        let b = n.1 in
+        let c = x.cycle in
+        let o : opened_in (d ∷ ds) ≡ opened_in ds = ap (λ (q : Ask). opened_after q (opened_in ds)) (asked_at shapes l pacing may known lists d ds legal x.lead x.led x.by x.lead.stage refl) ∙ begins_none x.lead x.lead.stage x.stage (opened_in ds) in
+        omega (arith, a, b, c, o)
+
+  begins_before : (k : ℕ) (d f : Entry Op) (ds fs : List (Entry Op)) → Lawful (f ∷ fs) → BeginsCycle shapes l pacing may k (d ∷ ds) → BeginsCycle shapes l pacing may k (f ∷ fs) → IsStartOf (d ∷ ds) fs → ⊥
+  begins_before k d f ds fs legal x y start =
+      let p = past_since k (d ∷ ds) fs start legal.0 (past_begun k d ds (legal_start (those shapes l pacing may) (d ∷ ds) fs start legal.0) x) in
+      let n = numbers_at shapes l pacing may known lists fs y.lead y.lead.stage 1 1 0 legal.0 y.led refl (beginning y.lead.stage y.stage) in
+      let a = n.0 in
+      let b = n.1 in
+      let c = y.cycle in
+      not_past y.lead.stage y.stage (p.past (omega (arith, a, b, c)) y.lead y.led)
+
+  begins_at : (k : ℕ) (first second : List (Entry Op)) → Lawful second → BeginsCycle shapes l pacing may k first → BeginsCycle shapes l pacing may k second → IsStartOf first second → first ≡ second
+  begins_at k [] second legal x y start = absurd x
+  begins_at k (d ∷ ds) [] legal x y start = absurd y
+  begins_at k (d ∷ ds) (f ∷ fs) legal x y (inl is) = is
+  begins_at k (d ∷ ds) (f ∷ fs) legal x y (inr is) = absurd (begins_before k d f ds fs legal x y is)
+
+  pub begins_once : (k : ℕ) (first second es : List (Entry Op)) → Lawful es → IsStartOf first es → IsStartOf second es → BeginsCycle shapes l pacing may k first → BeginsCycle shapes l pacing may k second → first ≡ second
+  begins_once k first second es legal of_first of_second x y = go (compared first second es of_first of_second) where
+    go : IsStartOf first second ⊎ IsStartOf second first → first ≡ second
+    go (inl s) = begins_at k first second (legal_start (those shapes l pacing may) second es of_second legal) x y s
+    go (inr s) = sym (begins_at k second first (legal_start (those shapes l pacing may) first es of_first legal) y x s)

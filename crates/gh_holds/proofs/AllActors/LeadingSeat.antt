@@ -1,0 +1,137 @@
+-- The entry of the coordinator: which step it is, where it leads, and what of the processors it leaves; and a world that is stopped, in which nobody holds anything.
+use Rattle.std.proofs.Common.{◌≡◌, ℕ, ◌<◌, ◌≤◌, Bool, true, false, ltb, refl, sym, ap, subst, ◌∙◌, arith, List, ◌∷◌, None}
+use Rattle.gh_coord.specs.Handshake as leading
+use Rattle.gh_coord.specs.Listing as coord
+use Rattle.gh_mutator.specs.Sweeping as mutator
+use Rattle.gh_mutator.specs.declared.new.NewStage.TheVariants as new
+use Rattle.gh_mutator.specs.declared.task.Task.TheVariants as task
+use Rattle.gh_worker.specs.Listing as worker
+use Rattle.gh_lists.specs.declared.handshake.Actor.TheVariants as actor
+use Rattle.gh_lists.specs.Handshake.{asks}
+use Rattle.gh_marked.specs.HeapBytes.{uncounted_new}
+use Rattle.gh_marked.specs.Sweepers.{sweep_of}
+use Rattle.gh_holds.proofs.Vocabulary.{acks_of, Actor, actors, actors_after, Arena, arena, Coordinating, CoordStage, Entry, Heap, is_busy, IsHeapOf, IsLed, IsParked, Layout, Legal, nat_tests, new_stage_at, NewStage, Op, Pacing, Polling, processor_at, Right, RunPhase, seats_of, Shape, stage_at, stage_of, started, Stopped, Sweep, Task, those, uncounted, view}
+use Rattle.gh_holds.specs.Known.{Known, ListsKnown}
+use Rattle.gh_lists.specs.Resting.{runs_are}
+use Rattle.gh_lists.specs.Seats.{IsSeated, lead_started, leads, seated}
+
+-- nobody has the lock, holds a span, lays one out or frees the pages of one
+pub record IsStill (h : Heap) : Type 0 where
+  pub unlocked : (a : ℕ) → h.locked a ≡ false
+  pub none_held : (a p : ℕ) → h.holds a p ≡ false
+  pub none_laid : (a : ℕ) → h.laying a ≡ None
+  pub none_freed : (a : ℕ) → h.freeing a ≡ None
+
+-- what was placed and not counted is of a processor that makes an object, so it is not parked
+parked_new : (p : Polling) (stops : ℕ) (s : NewStage) → IsParked stops (new_stage_at p s) → uncounted_new s ≡ 0
+parked_new p stops (new.Search waited q) parked = refl
+parked_new p stops (new.Wait x) parked = refl
+parked_new p stops (new.Place x) parked = absurd parked
+parked_new p stops (new.Want n) parked = refl
+parked_new p stops (new.Assist n x) parked = refl
+
+parked_at : (p : Polling) (stops : ℕ) (q : Task) → IsParked stops (stage_at p q) → uncounted q ≡ 0
+parked_at p stops (task.New x) parked = parked_new p stops x.stage parked
+parked_at p stops _ parked = refl
+
+-- nor does a parked processor sweep a span, nor the coordinator that has stopped the world
+parked_search : (p : Polling) (stops : ℕ) (s : NewStage) → IsParked stops (new_stage_at p s) → mutator.sweep_new s ≡ None
+parked_search p stops (new.Search waited q) parked = absurd parked
+parked_search p stops (new.Wait x) parked = refl
+parked_search p stops (new.Place x) parked = refl
+parked_search p stops (new.Want n) parked = refl
+parked_search p stops (new.Assist n x) parked = refl
+
+parked_sweeps_none : (p : Polling) (stops : ℕ) (q : Task) → IsParked stops (stage_at p q) → mutator.sweep_at q ≡ None
+parked_sweeps_none p stops (task.New x) parked = parked_search p stops x.stage parked
+parked_sweeps_none p stops _ parked = refl
+
+lead_sweeps_none : (p : CoordStage) (phase : RunPhase) → leading.post_at p ≡ Stopped phase → coord.sweep_at p ≡ None
+lead_sweeps_none (Sweep w) phase is = absurd cc
+lead_sweeps_none _ phase is = refl
+
+module _ (shapes : List Shape) (l : Layout) (pacing : Pacing) (may : ℕ → List (Entry Op) → Op → Bool) where
+  abbrev at : List (Entry Op) → ℕ → Actor
+  at es a = actors_after (arena shapes l pacing may) pacing may es a
+
+  abbrev Led : List (Entry Op) → Coordinating → Type 0
+  Led es c = IsLed shapes l pacing may es c
+
+  module _ (known : Known) (lists : ListsKnown shapes l pacing may) where
+    abbrev z : Arena
+    z = arena shapes l pacing may
+
+    -- Where the world is stopped.
+    module _ (es : List (Entry Op)) (legal : Legal (those shapes l pacing may) es) (c : Coordinating) (led : Led es c) (phase : RunPhase) (post : leading.post_at c.stage ≡ Stopped phase) where
+      pub parked : (a : ℕ) → a < l.procs → IsParked (leading.lead_of c).stops (stage_of (processor_at shapes l pacing may es a))
+      parked a lt = (lists.keeps es legal).processors_wait c phase a (processor_at shapes l pacing may es a) led post (omega (arith, lt)) (runs_are shapes l pacing may es a lt)
+
+      pub owes_nothing : (a : ℕ) → a < l.procs → uncounted (processor_at shapes l pacing may es a).task ≡ 0
+      owes_nothing a lt = parked_at (processor_at shapes l pacing may es a).poll _ (processor_at shapes l pacing may es a).task (parked a lt)
+
+      -- nobody sweeps
+      pub stopped_sweeps_none : (b : ℕ) → b < seats_of l → sweep_of (at es b) ≡ None
+      stopped_sweeps_none b lt = go (at es b) refl where
+        seat_of : (q : Actor) → at es b ≡ q → IsSeated l b q
+        seat_of q i = subst (IsSeated l b) i (seated shapes l pacing es b)
+
+        go : (q : Actor) → at es b ≡ q → sweep_of (at es b) ≡ None
+        go (actor.Runs m) i =
+            let less : b < l.procs = seat_of (actor.Runs m) i in
+            ap sweep_of i ∙ parked_sweeps_none m.poll _ m.task ((lists.keeps es legal).processors_wait c phase b m led post (omega (arith, less)) i)
+        go (actor.Marks w) i =
+            let waits = (lists.keeps es legal).workers_wait c phase b w led post (seat_of (actor.Marks w) i).1 i in
+            ap sweep_of i ∙ ap worker.sweep_at waits.is_at
+        go (actor.Leads d) i =
+            let least = (seat_of (actor.Leads d) i).0 in
+            let same : b ≡ acks_of l = omega (arith, least, lt) in
+            ap sweep_of (ap (at es) same ∙ led) ∙ lead_sweeps_none c.stage phase post
+
+      module _ (h : Heap) (of : IsHeapOf shapes l pacing may es h) where
+        has_nothing : (a : ℕ) → Right a (view h) false (λ p. false) None
+        has_nothing a = go (ltb a l.procs) refl where
+          go : (b : Bool) → ltb a l.procs ≡ b → Right a (view h) false (λ p. false) None
+          go true x = let lt : a < l.procs = grind (arith, nat_tests) in (known.runs.parked z a (view h) _ _ _ (parked a lt) (of.processors a lt).fine).0
+          go false x = of.others a (grind (arith, nat_tests))
+
+        pub is_still : IsStill h
+        is_still = record {
+          unlocked = λ a. (has_nothing a).locked;
+          none_held = λ a p. (has_nothing a).holds p;
+          none_laid = λ a. (has_nothing a).laying;
+          none_freed = λ a. (has_nothing a).freeing;
+        }
+
+    -- The entry.
+    module _ (e : Entry Op) (es : List (Entry Op)) (legal : Legal (those shapes l pacing may) (e ∷ es)) (c : Coordinating) (led : Led es c) (by : e.actor ≡ acks_of l) where
+      pub from : l.procs ≤ e.actor
+      from = omega (arith, by)
+
+      led_there : at es e.actor ≡ actor.Leads c
+      led_there = ap (at es) by ∙ led
+
+      begun_is : started (actors shapes l pacing) e.begun (at es e.actor) ≡ actor.Leads c
+      begun_is = ap (started (actors shapes l pacing) e.begun) led_there ∙ lead_started shapes l pacing e.begun c
+
+      pub busy : coord.is_busy c.stage ≡ true
+      busy = sym (ap is_busy begun_is) ∙ legal.1.runs
+
+      pub asked : e.ask ≡ coord.asks c
+      asked = legal.1.asks ∙ ap asks begun_is
+
+      pub led_then : Led (e ∷ es) (coord.goes c e.found)
+      led_then = sym (ap (at (e ∷ es)) by) ∙ leads shapes l pacing e es c led_there
+
+      -- at this stage
+      pub asked_at : (p : CoordStage) → c.stage ≡ p → e.ask ≡ coord.asks_at c p
+      asked_at p is = asked ∙ ap (coord.asks_at c) is
+
+      pub goes_at : (p : CoordStage) → c.stage ≡ p → coord.goes c e.found ≡ coord.goes_at (coord.counted c) p e.found
+      goes_at p is = ap (λ (q : CoordStage). coord.goes_at (coord.counted c) q e.found) is
+
+      -- the sweep that it runs, before and behind the step
+      pub sweeps_before : (p : CoordStage) → c.stage ≡ p → sweep_of (at es e.actor) ≡ coord.sweep_at p
+      sweeps_before p is = ap sweep_of led_there ∙ ap coord.sweep_at is
+
+      pub sweeps_then : (p : CoordStage) → c.stage ≡ p → sweep_of (at (e ∷ es) e.actor) ≡ coord.sweep_in (coord.goes_at (coord.counted c) p e.found)
+      sweeps_then p is = ap sweep_of (leads shapes l pacing e es c led_there) ∙ ap coord.sweep_in (goes_at p is)

@@ -1,0 +1,207 @@
+-- The coordinator walks over all pages while the world runs: what holds of the walk behind each of its steps.
+use Rattle.std.proofs.Common.{◌≡◌, ◌≢◌, ◌⊎◌, inl, inr, ℕ, ◌+◌, ◌<◌, ◌≤◌, ◌==◌, Bool, true, false, cond, ltb, refl, sym, ap, subst, ◌∙◌, arith, Option, None, eq-eqb}
+use Rattle.gh_base.specs.declared.cell.Cell.TheVariants as cell
+use Rattle.gh_coord.specs.declared.sweep_all.SweepAllStage.TheVariants as all
+use Rattle.gh_coord.specs.SweepingAll as over_all
+use Rattle.gh_state.specs.Moves as state
+use Rattle.gh_sweep.specs.declared.sweep.SweepStage.TheVariants as sweep_stage
+use Rattle.gh_sweep.specs.Facts.{FactsAt, HasNotNumber}
+use Rattle.gh_sweep.specs.Listing as sweep
+use Rattle.gh_sweep.specs.Moves as moves
+use Rattle.gh_sweep.specs.Shared.{Done}
+use Rattle.gh_sweep.specs.Sweepers as sweepers
+use Rattle.gh_holds.specs.ActorsHold.{IsBegun, page_at, Walks, WalksAt}
+use Rattle.gh_holds.specs.HoldVocabulary.{generation_of, head_word, PassedBefore, Runs, State, StateGood, SweepingAll}
+use Rattle.gh_holds.proofs.Vocabulary.{Arena, Body, cell_of, effect, Free, Head, Layout, Load, Lost, nat_tests, page_of, PageWord, put, SpanHead, SweepAllStage, SweepEnd, SweepStage, Swept, Words}
+use Rattle.gh_holds.specs.Known.{Known}
+
+module _ (m : sweep.Sweeping) where
+  swapped : (b : Bool) (f w : Words) (x : _) → f x ≡ w x → cond b f w x ≡ w x
+  swapped true f w x is = is
+  swapped false f w x is = refl
+
+  -- the numbers of cycles are let alone by a sweep
+  pub numbers_stay : (q : SweepStage) (w : Words) → (effect w (sweep.asks_at m q) cell.Swept ≡ w cell.Swept) × (effect w (sweep.asks_at m q) cell.Gen ≡ w cell.Gen)
+  numbers_stay sweep_stage.Begin w = (swapped _ (put w (cell.Page m.page) _) w _ refl, swapped _ (put w (cell.Page m.page) _) w _ refl)
+  numbers_stay _ w = (refl, refl)
+
+module _ (z : Arena) (known : Known) (w : SweepingAll) where
+  -- a page more is passed
+  one_more : (t : State) (page : ℕ) → PassedBefore t page → t.far page ≡ Done → PassedBefore t (page + 1)
+  one_more t page passed this p lt = go (p == page) refl where
+    go : (b : Bool) → (p == page) ≡ b → t.far p ≡ Done
+    go true x = let same : p ≡ page = grind (arith, nat_tests) in ap t.far same ∙ this
+    go false x = passed p (let differs : p ≢ page = (λ y. absurd (grind (arith, nat_tests))) in omega (arith, lt, differs))
+
+  -- the page is passed, and the next one is looked at, if there is one
+  next_page : (t : State) (page : ℕ) → w.layout ≡ t.end.layout → w.generation ≡ generation_of t.end → PassedBefore t (page + 1) → Walks t (over_all.at_stage w (over_all.behind w page))
+  next_page t page layout_is generation_is passed = go (ltb (page + 1) w.layout.pages) refl where
+    same : w.layout.pages ≡ t.end.layout.pages
+    same = ap (λ (y : Layout). y.pages) layout_is
+
+    go : (b : Bool) → ltb (page + 1) w.layout.pages ≡ b → Walks t (over_all.at_stage w (cond b (all.LoadPage (page + 1)) all.Ended))
+    go true x = record {
+      layout_is = layout_is;
+      generation_is = generation_is;
+      passed = passed;
+      stage_is = subst (λ (n : ℕ). page + 1 < n) same (grind (arith, nat_tests));
+    }
+    go false x = record {
+      layout_is = layout_is;
+      generation_is = generation_is;
+      passed = λ p lt. passed p (let up : w.layout.pages ≤ page + 1 = grind (arith, nat_tests) in omega (arith, lt, same, up));
+      stage_is = tt;
+    }
+
+  module _ (s : State) (good : StateGood z s) (walks : Walks s w) where
+    -- a head with neither of the two numbers before it has that of the sweep generation
+    number_is : (page : ℕ) (g : SpanHead) → page_of (s.heap.words (cell.Page page)) ≡ Head g → g.number + 2 ≢ w.generation → g.number + 1 ≢ w.generation → g.number ≡ s.heap.words cell.Gen
+    number_is page g is not_two not_one = go (g.number == s.heap.words cell.Gen) refl where
+      generation : w.generation ≡ s.heap.words cell.Gen
+      generation = walks.generation_is ∙ sym good.sweep.generation
+
+      go : (b : Bool) → (g.number == s.heap.words cell.Gen) ≡ b → g.number ≡ s.heap.words cell.Gen
+      go true x = grind (arith, nat_tests)
+      go false x = absurd (none (known.walkers.waits z s page g good is (λ y. absurd (grind (arith, nat_tests)))).1) where
+        none : (g.number + 2 ≡ s.heap.words cell.Gen) ⊎ (g.number + 1 ≡ s.heap.words cell.Gen) → ⊥
+        none (inl two) = not_two (two ∙ sym generation)
+        none (inr one) = not_one (one ∙ sym generation)
+
+    -- so it is passed
+    passes : (page : ℕ) → PassedBefore s page → ((g : SpanHead) → page_of (s.heap.words (cell.Page page)) ≡ Head g → (g.number + 2 ≢ w.generation) × (g.number + 1 ≢ w.generation)) → Walks s (over_all.at_stage w (over_all.behind w page))
+    passes page passed none = next_page s page walks.layout_is walks.generation_is (known.walkers.passes z s page good (λ g is. number_is page g is (none g is).0 (none g is).1) passed)
+
+    -- the word of a page is found
+    module _ (page : ℕ) (found : ℕ) (found_is : found ≡ s.heap.words (cell.Page page)) where
+      no_head : (x : PageWord) → page_of (s.heap.words (cell.Page page)) ≡ x → ((g : SpanHead) → x ≢ Head g) → (g : SpanHead) → page_of (s.heap.words (cell.Page page)) ≡ Head g → (g.number + 2 ≢ w.generation) × (g.number + 1 ≢ w.generation)
+      no_head x is other g is_g = absurd (other g (sym is ∙ is_g))
+
+      one_head : (g h : SpanHead) → page_of (s.heap.words (cell.Page page)) ≡ Head g → page_of (s.heap.words (cell.Page page)) ≡ Head h → h ≡ g
+      one_head g h is_g is_h = let both = sym is_h ∙ is_g in cc
+
+      numbers_of : (g : SpanHead) → page_of (s.heap.words (cell.Page page)) ≡ Head g → g.number + 2 ≢ w.generation → g.number + 1 ≢ w.generation → (h : SpanHead) → page_of (s.heap.words (cell.Page page)) ≡ Head h → (h.number + 2 ≢ w.generation) × (h.number + 1 ≢ w.generation)
+      numbers_of g is_g not_two not_one h is_h = let same = ap (λ (x : SpanHead). x.number) (one_head g h is_g is_h) in ((λ x. not_two (ap (λ (i : ℕ). i + 2) (sym same) ∙ x)), (λ x. not_one (ap (λ (i : ℕ). i + 1) (sym same) ∙ x)))
+
+      -- another sweeps the span
+      awaits : page < s.end.layout.pages → PassedBefore s page → (g : SpanHead) → page_of (s.heap.words (cell.Page page)) ≡ Head g → g.number + 1 ≡ w.generation → Walks s (over_all.at_stage w (all.Await page))
+      awaits within passed g is_g number = record {
+        layout_is = walks.layout_is;
+        generation_is = walks.generation_is;
+        passed = passed;
+        stage_is = (within, λ n two h is_h. λ x. absurd (let same = ap (λ (y : SpanHead). y.number) (one_head g h is_g is_h) in let gen = walks.generation_is in omega (arith, same, gen, number, two, x)));
+      }
+
+      -- for the first time
+      module _ (is : w.stage ≡ all.LoadPage page) where
+        within : page < s.end.layout.pages
+        within = subst (λ (p : SweepAllStage). WalksAt s p) is walks.stage_is
+
+        passed : PassedBefore s page
+        passed = subst (λ (p : SweepAllStage). PassedBefore s (page_at s p)) is walks.passed
+
+        begins : (g : SpanHead) → Walks s (over_all.at_stage w (all.Sweep page (sweep.opening w.layout page g)))
+        begins g = record { layout_is = walks.layout_is; generation_is = walks.generation_is; passed = passed; stage_is = (within, refl) }
+
+        at_head : (g : SpanHead) → page_of (s.heap.words (cell.Page page)) ≡ Head g → (b d : Bool) → (g.number + 2 == w.generation) ≡ b → (g.number + 1 == w.generation) ≡ d → Walks s (over_all.at_stage w (cond b (all.Sweep page (sweep.opening w.layout page g)) (cond d (all.Await page) (over_all.behind w page))))
+        at_head g is_g true d x y = begins g
+        at_head g is_g false true x y = awaits within passed g is_g (grind (arith, nat_tests))
+        at_head g is_g false false x y = passes page passed (numbers_of g is_g (λ n. absurd (grind (arith, nat_tests))) (λ n. absurd (grind (arith, nat_tests))))
+
+        pub loaded : Walks s (over_all.goes_at w (all.LoadPage page) found)
+        loaded = go (page_of found) (ap page_of (sym found_is)) where
+          go : (x : PageWord) → page_of (s.heap.words (cell.Page page)) ≡ x → Walks s (over_all.after_load w page x)
+          go Free i = passes page passed (no_head Free i (λ g y. absurd cc))
+          go (Head g) i = at_head g i (g.number + 2 == w.generation) (g.number + 1 == w.generation) refl refl
+          go (Body b) i = passes page passed (no_head (Body b) i (λ g y. absurd cc))
+
+      -- and once more, until the sweep of another has ended
+      module _ (is : w.stage ≡ all.Await page) where
+        stage_at : (page < s.end.layout.pages) × IsBegun s page
+        stage_at = subst (λ (p : SweepAllStage). WalksAt s p) is walks.stage_is
+
+        passed_below : PassedBefore s page
+        passed_below = subst (λ (p : SweepAllStage). PassedBefore s (page_at s p)) is walks.passed
+
+        not_unswept : (g : SpanHead) → page_of (s.heap.words (cell.Page page)) ≡ Head g → g.number + 2 ≢ w.generation
+        not_unswept g is_g two = stage_at.1 g.number (two ∙ walks.generation_is) g is_g refl
+
+        by_number : (g : SpanHead) → page_of (s.heap.words (cell.Page page)) ≡ Head g → (b : Bool) → (g.number + 1 == w.generation) ≡ b → Walks s (over_all.at_stage w (cond b (all.Await page) (over_all.behind w page)))
+        by_number g is_g true x = awaits stage_at.0 passed_below g is_g (grind (arith, nat_tests))
+        by_number g is_g false x = passes page passed_below (numbers_of g is_g (not_unswept g is_g) (λ n. absurd (grind (arith, nat_tests))))
+
+        pub awaited : Walks s (over_all.goes_at w (all.Await page) found)
+        awaited = go (page_of found) (ap page_of (sym found_is)) where
+          go : (x : PageWord) → page_of (s.heap.words (cell.Page page)) ≡ x → Walks s (over_all.after_await w page x)
+          go Free i = passes page passed_below (no_head Free i (λ g y. absurd cc))
+          go (Head g) i = by_number g i (g.number + 1 == w.generation) refl
+          go (Body b) i = passes page passed_below (no_head (Body b) i (λ g y. absurd cc))
+
+    -- a step of the sweep of a span that it runs
+    module _ (a page : ℕ) (m : sweep.Sweeping) (is : w.stage ≡ all.Sweep page m) (runs : Runs a s m) (busy : sweep.is_busy m.stage ≡ true) (found : ℕ) (found_is : found ≡ s.heap.words (cell_of (sweep.asks m))) (may : state.May z a s (state.Sweep (sweepers.move_of m found))) where
+      abbrev then : State
+      then = state.moved z a s (state.Sweep (sweepers.move_of m found))
+
+      at_page : (page < s.end.layout.pages) × (m.page ≡ page)
+      at_page = subst (λ (p : SweepAllStage). WalksAt s p) is walks.stage_is
+
+      passed_then : PassedBefore then page
+      passed_then = known.walkers.own z a s (state.Sweep (sweepers.move_of m found)) page good may (subst (λ (p : SweepAllStage). PassedBefore s (page_at s p)) is walks.passed)
+
+      abbrev Next : State → sweep.Sweeping → Option SweepEnd → Type 0
+      Next t x out = Walks t (over_all.after_sweep (over_all.at_stage w (all.Sweep page x)) page out)
+
+      goes_on : (x : sweep.Sweeping) → x.page ≡ m.page → Next then x None
+      goes_on x page_is = record { layout_is = walks.layout_is; generation_is = walks.generation_is; passed = passed_then; stage_is = (at_page.0, page_is ∙ at_page.1) }
+
+      abbrev Behind : SweepStage → Type 0
+      Behind q = Next then (sweep.at_stage m q) (sweep.given_at q)
+
+      behind : (b : Bool) (i : ℕ) → Behind (cond b (sweep_stage.LoadMarks i) sweep_stage.AddTally)
+      behind true i = goes_on _ refl
+      behind false i = goes_on _ refl
+
+      -- the span is swept
+      ended : m.stage ≡ sweep_stage.Finish → Behind (sweep_stage.Ended (Swept (sweep.swept_span m)))
+      ended y = next_page then page walks.layout_is walks.generation_is (one_more then page passed_then swept_page) where
+        swept_page : then.far page ≡ Done
+        swept_page = ap (λ (q : SweepStage). (state.moved z a s (state.Sweep (sweepers.move_at m q found))).far page) y ∙ rw (eq-eqb m.page page at_page.1) refl
+
+      -- the sweep begins, or another has begun it
+      begun : m.stage ≡ sweep_stage.Begin → Behind (cond (sweep.wrote m found) (sweep_stage.LoadMarks 0) (sweep_stage.Ended Lost))
+      begun y = go (sweep.wrote m found) refl where
+        lost : sweep.wrote m found ≡ false → HasNotNumber m.head.number (s.heap.words (cell.Page m.page))
+        lost x = by (subst (λ (q : SweepStage). FactsAt m s.heap.words q) y runs.fine.facts).head_is where
+          here : found ≡ s.heap.words (cell.Page m.page)
+          here = found_is ∙ ap (λ (q : SweepStage). s.heap.words (cell_of (sweep.asks_at m q))) y
+
+          by : (s.heap.words (cell.Page m.page) ≡ head_word m.head) ⊎ HasNotNumber m.head.number (s.heap.words (cell.Page m.page)) → HasNotNumber m.head.number (s.heap.words (cell.Page m.page))
+          by (inl same) = absurd (let yes : sweep.wrote m found ≡ true = eq-eqb found (head_word m.head) (here ∙ same) in let no : true ≡ false = sym yes ∙ x in cc)
+          by (inr other) = other
+
+        then_by : (b : Bool) → sweep.wrote m found ≡ b → then ≡ state.moved z a s (state.Sweep (cond b (moves.Starts m.page m.head) (moves.Quiet (Load (cell.Page m.page)))))
+        then_by b x = ap (λ (q : SweepStage). state.moved z a s (state.Sweep (sweepers.move_at m q found))) y ∙ ap (λ (c : Bool). state.moved z a s (state.Sweep (cond c (moves.Starts m.page m.head) (moves.Quiet (Load (cell.Page m.page)))))) x
+
+        go : (b : Bool) → sweep.wrote m found ≡ b → Behind (cond b (sweep_stage.LoadMarks 0) (sweep_stage.Ended Lost))
+        go true x = goes_on _ refl
+        go false x = record {
+          layout_is = walks.layout_is;
+          generation_is = walks.generation_is;
+          passed = passed_then;
+          stage_is = (at_page.0, subst (λ (t : State). IsBegun t page) (sym (then_by false x)) begun_there);
+        } where
+          begun_there : IsBegun s page
+          begun_there n two = subst (λ (p : ℕ). HasNotNumber n (s.heap.words (cell.Page p))) at_page.1 (subst (λ (i : ℕ). HasNotNumber i (s.heap.words (cell.Page m.page))) (let number = runs.fine.number in omega (arith, number, two)) (lost x))
+
+      by_stage : (q : SweepStage) → m.stage ≡ q → sweep.is_busy q ≡ true → Next then (sweep.goes_at m q found) (sweep.given (sweep.goes_at m q found))
+      by_stage sweep_stage.Begin y b = begun y
+      by_stage (sweep_stage.LoadMarks i) y b = goes_on _ refl
+      by_stage (sweep_stage.ClearBits i marks) y b = goes_on _ refl
+      by_stage (sweep_stage.ClearMarks i) y b = behind (ltb (i + 1) (sweep.bit_words m.head)) (i + 1)
+      by_stage sweep_stage.AddTally y b = goes_on _ refl
+      by_stage sweep_stage.AddLive y b = goes_on _ refl
+      by_stage sweep_stage.AddHeap y b = goes_on _ refl
+      by_stage sweep_stage.Finish y b = ended y
+      by_stage (sweep_stage.Ended end) y b = absurd cc
+
+      pub stepped : Walks then (over_all.goes_at w (all.Sweep page m) found)
+      stepped = by_stage m.stage refl busy

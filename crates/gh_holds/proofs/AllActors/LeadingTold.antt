@@ -1,0 +1,201 @@
+-- The coordinator reads what the sweep has counted, keeps it, and tells that the cycle is swept: what holds behind each of its steps.
+use Rattle.std.proofs.Common.{◌≡◌, ◌⊎◌, inl, inr, ℕ, zero, suc, ◌+◌, Bool, true, false, cond, ltb, refl, sym, ap, subst, ◌∙◌, List, [], ◌∷◌, ◌++◌, length, slice_get, Option, Some, None}
+use Rattle.gh_coord.specs.declared.count.CountStage.TheVariants as counting
+use Rattle.gh_coord.specs.declared.cycles.Cycle.{Cycle as CycleNumbers}
+use Rattle.gh_coord.specs.declared.tell.TellStage.TheVariants as telling
+use Rattle.gh_coord.specs.Counting as count
+use Rattle.gh_coord.specs.Listing as coord
+use Rattle.gh_coord.specs.Telling as tell
+use Rattle.gh_holds.specs.Objects.{standing_objects, WasCounted}
+use Rattle.gh_state.specs.Cycles.{AllIsTold}
+use Rattle.gh_sweep.specs.AtEnd.{BitsAreObjects}
+use Rattle.gh_holds.specs.ActorsHold.{EndedSo, HasRead, IsCounting, IsRead, IsTold}
+use Rattle.gh_holds.specs.HoldVocabulary.{alloc_at, AllWereCounted, marked_objects, marks_at, State, TallyWord, tally_of}
+use Rattle.gh_holds.proofs.Vocabulary.{acks_of, Arena, arena, Ask, cell_of, Coordinating, CoordStage, Count, Counted, CountStage, Done, Entry, HoldsAt, IsLed, IsTelling, Layout, Legal, LoadAck, Op, Pacing, Shape, Tell, TellStage, those, Words, words}
+use Rattle.gh_holds.proofs.AllActors.Aside.{loads_only, phase_only, swept_only, TellsNothing, trigger_only}
+use Rattle.gh_lists.specs.Going.{NotAcks}
+use Rattle.gh_holds.specs.Known.{Known, ListsKnown}
+use Rattle.gh_holds.proofs.AllActors.LeadingAside.{IsBehind, told_on}
+use Rattle.gh_holds.proofs.AllActors.LeadingSeat.{asked_at, busy}
+use Rattle.gh_holds.proofs.AllActors.Starts.{counted_on}
+
+-- each request is a load, or stores the trigger, the last swept cycle or the phase
+counts_tell : (p : CountStage) → TellsNothing (count.asks_at p)
+counts_tell counting.LoadTally = loads_only _
+counts_tell _ = loads_only _
+
+tells_tell : (t : tell.Telling) (p : TellStage) → TellsNothing (tell.asks_at t p)
+tells_tell t telling.StoreTrigger = trigger_only _
+tells_tell t telling.StoreSwept = swept_only _
+tells_tell t telling.StorePhase = phase_only _
+tells_tell t telling.Ended = loads_only _
+
+-- an item of the list with one more is one of the list, or that one
+one_of : (xs : List CycleNumbers) (x y : CycleNumbers) (i : ℕ) → slice_get (xs ++ x ∷ []) i ≡ Some y → ((j : ℕ) × (slice_get xs j ≡ Some y)) ⊎ (y ≡ x)
+one_of [] x y zero is = inr cc
+one_of [] x y (suc i) is = absurd cc
+one_of (w ∷ xs) x y zero is = inl (0, is)
+one_of (w ∷ xs) x y (suc i) is = go (one_of xs x y i is) where
+  go : ((j : ℕ) × (slice_get xs j ≡ Some y)) ⊎ (y ≡ x) → ((j : ℕ) × (slice_get (w ∷ xs) j ≡ Some y)) ⊎ (y ≡ x)
+  go (inl k) = inl (suc k.0, k.1)
+  go (inr k) = inr k
+
+-- no span is swept behind a step of counting or of telling
+module _ (u : Coordinating) where
+  counts_sweep : (x : count.Counting) (out : Option Counted) → coord.sweep_in (coord.after_count (coord.at_stage u (Count x)) out) ≡ None
+  counts_sweep x None = refl
+  counts_sweep x (Some y) = refl
+
+  tells_sweep : (t : tell.Telling) (out : Option (Unit {0})) → coord.sweep_in (coord.after_tell (coord.at_stage u (Tell t)) out) ≡ None
+  tells_sweep t None = refl
+  tells_sweep t (Some y) = go u.is_last where
+    go : (b : Bool) → coord.sweep_at (cond b Done (LoadAck 0)) ≡ None
+    go true = refl
+    go false = refl
+
+module _ (shapes : List Shape) (l : Layout) (pacing : Pacing) (may : ℕ → List (Entry Op) → Op → Bool) (known : Known) (lists : ListsKnown shapes l pacing may) where
+  abbrev z : Arena
+  z = arena shapes l pacing may
+
+  abbrev pub Told : List (Entry Op) → Coordinating → Type 0
+  Told es c = IsTold shapes l pacing may es c
+
+  abbrev Behind : List (Entry Op) → Coordinating → Type 0
+  Behind es c = IsBehind shapes l pacing may known lists es c l.pages
+
+  pub told_at : (es : List (Entry Op)) (c : Coordinating) (p : TellStage) → IsTelling shapes l pacing may es c p → Told es c
+  told_at es c telling.Ended k = absurd k
+  told_at es c telling.StoreTrigger k = k
+  told_at es c telling.StoreSwept k = k
+  told_at es c telling.StorePhase k = k
+
+  module _ (e : Entry Op) (es : List (Entry Op)) (legal : Legal (those shapes l pacing may) (e ∷ es)) (c : Coordinating) (led : IsLed shapes l pacing may es c) (by : e.actor ≡ acks_of l) where
+    abbrev u : Coordinating
+    u = coord.counted c
+
+    abbrev To : Coordinating → Type 0
+    To d = HoldsAt shapes l pacing may (e ∷ es) d d.stage
+
+    asks_so : (p : CoordStage) → c.stage ≡ p → e.ask ≡ coord.asks_at c p
+    asks_so p is = asked_at shapes l pacing may known lists e es legal c led by p is
+
+    -- What is counted is read.
+    module _ (x : count.Counting) (is : c.stage ≡ Count x) (k : IsCounting shapes l pacing may es c x.stage) where
+      counts_no_acks : NotAcks c.stage
+      counts_no_acks = subst NotAcks (sym is) tt
+
+      none_counted : TellsNothing e.ask
+      none_counted = subst TellsNothing (sym (asks_so (Count x) is)) (counts_tell x.stage)
+
+      abbrev here : State
+      here = k.quiet.has.state
+
+      all_told : AllIsTold here
+      all_told = known.swept z here k.quiet.has.good k.quiet.over (known.walkers.all z here k.quiet.has.good k.quiet.passed)
+
+      abbrev counting_on : (d : Coordinating) → d.begun ≡ c.begun → Behind (e ∷ es) d
+      counting_on d same = told_on shapes l pacing may known lists e es legal c led by (ap coord.sweep_at is) (ap (λ (p : CoordStage). coord.sweep_in (coord.goes_at u p e.found)) is ∙ counts_sweep u (count.goes x e.found) (count.gives x e.found)) none_counted counts_no_acks l.pages (record { off = k.quiet; behind = k.behind }) d same
+
+      -- the word that it finds
+      found_at : (p : CountStage) → x.stage ≡ p → e.found ≡ here.heap.words (cell_of (count.asks_at p))
+      found_at p y =
+          let asks : e.ask ≡ count.asks_at p = asks_so (Count x) is ∙ ap count.asks_at y in
+          legal.1.found ∙ (ap (λ (w : Words). w (cell_of e.ask)) (sym k.quiet.has.of_list.words_are) ∙ ap (λ (q : Ask). here.heap.words (cell_of q)) asks)
+
+      count_busy : count.is_busy x.stage ≡ true
+      count_busy = subst (λ (p : CoordStage). coord.is_busy p ≡ true) is (busy shapes l pacing may known lists e es legal c led by)
+
+      read_now : x.stage ≡ counting.LoadTally → IsRead shapes l pacing may here.end (tally_of e.found)
+      read_now y =
+          let same = found_at counting.LoadTally y in
+          record { marked = ap (λ (i : ℕ). (tally_of i).marked) same ∙ all_told.marked; freed = ap (λ (i : ℕ). (tally_of i).freed) same ∙ all_told.freed }
+
+      count_goes : (p : CountStage) → x.stage ≡ p → count.is_busy p ≡ true → To (coord.after_count (coord.at_stage u (Count (count.goes_at x p e.found))) (count.given (count.goes_at x p e.found)))
+      count_goes counting.LoadTally y b = record { quiet = (counting_on c refl).off; behind = (counting_on c refl).behind; read = read_now y }
+      count_goes (counting.LoadLive t) y b = record { quiet = (counting_on c refl).off; behind = (counting_on c refl).behind; live = found_at (counting.LoadLive t) y ∙ all_told.live }
+      count_goes (counting.Ended t) y b = absurd cc
+
+      pub counts : To (coord.goes_at u (Count x) e.found)
+      counts = count_goes x.stage refl count_busy
+
+      -- The cycle that is kept is as it was counted.
+      module _ (before : AllWereCounted shapes l pacing may es c) where
+        abbrev Were : Coordinating → Type 0
+        Were d = AllWereCounted shapes l pacing may (e ∷ es) d
+
+        were : Were c
+        were = counted_on shapes l pacing may e es c before
+
+        new_counted : (t : TallyWord) → IsRead shapes l pacing may here.end t → WasCounted shapes l pacing may (e ∷ es) (coord.cycle_of c.begun t)
+        new_counted t read = record {
+          ended = so.ended;
+          start = inr so.start;
+          ends = so.ends;
+          marked = rw (sym so.alloc, sym so.marks, sym pages) (read.marked ∙ bits.marked);
+          freed = rw (sym so.alloc, sym so.marks, sym pages) (read.freed ∙ bits.freed);
+          all = all_is;
+        } where
+          so : EndedSo shapes l pacing may es c.begun k.quiet.has.state
+          so = k.behind.ended
+
+          bits : BitsAreObjects k.quiet.has.state.end
+          bits = known.bits k.quiet.has.state.end k.quiet.has.good.ended
+
+          pages : k.quiet.has.state.end.layout.pages ≡ l.pages
+          pages = ap (λ (y : Layout). y.pages) k.quiet.has.good.layout
+
+          all_is : t.marked + t.freed ≡ standing_objects (words shapes l pacing may k.behind.ended.ended) l.pages
+          all_is =
+              let m = read.marked ∙ bits.marked in
+              let f = read.freed ∙ bits.freed in
+              rw (sym k.behind.ended.alloc, sym pages) (ap (λ (i : ℕ). i + t.freed) m ∙ (ap (λ (i : ℕ). marked_objects (alloc_at k.quiet.has.state.end) (marks_at k.quiet.has.state.end) 0 k.quiet.has.state.end.layout.pages + i) f ∙ bits.all))
+
+        kept_counted : (t : TallyWord) → IsRead shapes l pacing may here.end t → (b : Bool) (i : ℕ) (y : CycleNumbers) → slice_get (cond b (c.cycles.items ++ coord.cycle_of c.begun t ∷ []) c.cycles.items) i ≡ Some y → WasCounted shapes l pacing may (e ∷ es) y
+        kept_counted t read false i y at = were i y at
+        kept_counted t read true i y at = go (one_of c.cycles.items (coord.cycle_of c.begun t) y i at) where
+          go : ((j : ℕ) × (slice_get c.cycles.items j ≡ Some y)) ⊎ (y ≡ coord.cycle_of c.begun t) → WasCounted shapes l pacing may (e ∷ es) y
+          go (inl w) = were w.0 y w.1
+          go (inr w) = subst (WasCounted shapes l pacing may (e ∷ es)) (sym w) (new_counted t read)
+
+        read_tally : (p : CountStage) → x.stage ≡ p → HasRead shapes l pacing may here.end p
+        read_tally p y = subst (HasRead shapes l pacing may here.end) y k.read
+
+        kept_goes : (p : CountStage) → x.stage ≡ p → count.is_busy p ≡ true → Were (coord.after_count (coord.at_stage u (Count (count.goes_at x p e.found))) (count.given (count.goes_at x p e.found)))
+        kept_goes counting.LoadTally y b = were
+        kept_goes (counting.LoadLive t) y b = λ i v at. kept_counted t (read_tally (counting.LoadLive t) y) (ltb (length c.cycles.items) c.cycles.room) i v at
+        kept_goes (counting.Ended t) y b = absurd cc
+
+        pub keeps : Were (coord.goes_at u (Count x) e.found)
+        keeps = kept_goes x.stage refl count_busy
+
+    -- It is told.
+    module _ (t : tell.Telling) (is : c.stage ≡ Tell t) (k : Told es c) where
+      tells_no_acks : NotAcks c.stage
+      tells_no_acks = subst NotAcks (sym is) tt
+
+      none_told : TellsNothing e.ask
+      none_told = subst TellsNothing (sym (asks_so (Tell t) is)) (tells_tell t t.stage)
+
+      abbrev telling_on : Behind (e ∷ es) c
+      telling_on = told_on shapes l pacing may known lists e es legal c led by (ap coord.sweep_at is) (ap (λ (p : CoordStage). coord.sweep_in (coord.goes_at u p e.found)) is ∙ tells_sweep u (tell.goes t e.found) (tell.gives t e.found)) none_told tells_no_acks l.pages (record { off = k.quiet; behind = k.behind }) c refl
+
+      pub told_then : Told (e ∷ es) c
+      told_then = record { quiet = telling_on.off; behind = telling_on.behind; live = k.live }
+
+      -- in the last cycle it is done, else it goes on to the next
+      ended_goes : (b : Bool) → To (coord.at_stage (coord.at_stage u (Tell (record t { stage = telling.Ended }))) (cond b Done (LoadAck 0)))
+      ended_goes true = record { quiet = told_then.quiet; behind = told_then.behind; live = told_then.live }
+      ended_goes false = told_then.quiet
+
+      stored_goes : (last : Bool) → To (coord.after_tell (coord.at_stage u (Tell (record t { stage = cond last telling.StorePhase telling.Ended }))) (tell.given_at (cond last telling.StorePhase telling.Ended)))
+      stored_goes true = record { quiet = told_then.quiet; behind = told_then.behind; live = told_then.live }
+      stored_goes false = ended_goes u.is_last
+
+      tell_goes : (p : TellStage) → To (coord.after_tell (coord.at_stage u (Tell (record t { stage = tell.behind t.is_last p }))) (tell.given_at (tell.behind t.is_last p)))
+      tell_goes telling.StoreTrigger = record { quiet = told_then.quiet; behind = told_then.behind; live = told_then.live }
+      tell_goes telling.StoreSwept = stored_goes t.is_last
+      tell_goes telling.StorePhase = ended_goes u.is_last
+      tell_goes telling.Ended = ended_goes u.is_last
+
+      pub tells : To (coord.goes_at u (Tell t) e.found)
+      tells = tell_goes t.stage

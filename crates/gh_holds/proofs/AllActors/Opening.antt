@@ -1,0 +1,125 @@
+-- Before the first step the heap is empty and calm, every processor is at rest, and no cycle was begun.
+use Rattle.std.proofs.Common.{◌≡◌, ℕ, ◌%◌, ◌<◌, Bool, true, false, cond, ltb, List, [], None, refl, sym, subst, ◌∙◌, arith, inl, inr, lit<}
+use Rattle.std.proofs.lemmas.Nat.Bits.{bit_at-zero}
+use Rattle.gh_base.specs.declared.value.Name.{Name}
+use Rattle.gh_base.specs.Cells.{seats_of}
+use Rattle.gh_base.specs.Rows.{alloc_words, row_bit}
+use Rattle.gh_coord.specs.Listing as coord
+use Rattle.gh_state.specs.Cycles.{opening}
+use Rattle.gh_model.specs.Ever.{from_field, from_global, from_register, opening_ever}
+use Rattle.gh_mutator.specs.Processor.{opening_processor}
+use Rattle.gh_worker.specs.Listing as worker
+use Rattle.gh_lists.specs.declared.handshake.Actor.TheVariants as actor
+use Rattle.gh_marked.specs.Sweepers.{IsInSweep, sweep_of}
+use Rattle.gh_lists.specs.Lists.{BeginsCycle}
+use Rattle.gh_holds.specs.ActorsHold.{Holds, IsQuiet}
+use Rattle.gh_marked.specs.State.{IsAsItShould, IsHeapOf}
+use Rattle.gh_holds.specs.HoldVocabulary.{acks_of, actors_after, arena, Arena, Coordinating, Entry, Good, Heap, IsLed, Layout, Op, opening_words, Pacing, Reach, Shape, State, view}
+use Rattle.gh_lists.specs.Going.{at_seat}
+use Rattle.gh_holds.specs.Known.{Known}
+
+nothing_reached : (n : Name) → Reach opening_ever n → ⊥
+nothing_reached n (from_global k n' e) = absurd (cc)
+nothing_reached n (from_register g d n' runs e) = absurd (cc)
+nothing_reached n (from_field m k n' r e) = nothing_reached m r
+
+module _ (shapes : List Shape) (l : Layout) (pacing : Pacing) (may : ℕ → List (Entry Op) → Op → Bool) (known : Known) where
+  abbrev z : Arena
+  z = arena shapes l pacing may
+
+  abbrev h : Heap
+  h = record { words = opening_words pacing.trigger; locked = λ a. false; holds = λ a p. false; laying = λ a. None; freeing = λ a. None; place = λ n. 0; ever = opening_ever }
+
+  no_bit : (x : ℕ) → row_bit (alloc_words (opening_words pacing.trigger)) x ≡ 1 → ⊥
+  unfolding row_bit
+  no_bit x set = let none = sym (bit_at-zero (x % 64)) ∙ set in omega (arith, none)
+
+  good : Good z (view h)
+  good = record {
+    lock = λ a. (λ e. absurd (omega arith), λ e. absurd (cc));
+    spans = λ p h e. absurd (cc);
+    whole = λ p h e kept. absurd (cc);
+    generation = lit< tt;
+    numbers = λ p h e. absurd (cc);
+    owners = λ a p. (λ e. absurd (omega arith), λ e. absurd (cc));
+    laying = λ a y e. absurd (cc);
+    freeing = λ a y e. absurd (cc);
+    words = λ i. lit< tt;
+    bits = λ x set. absurd (no_bit x set);
+    reached = λ n r. absurd (nothing_reached n r);
+    slots = λ n made placed. absurd (omega arith);
+    pointers = λ n k made placed lt. absurd (omega arith);
+    fields = λ n k made placed lt. absurd (omega arith);
+    globals = λ k lt. (refl, refl);
+    names = record { few = λ g. omega arith; none = λ g le. refl };
+  }
+
+  as_it_should : (a : ℕ) → a < l.procs → IsAsItShould shapes l pacing may [] h a (opening_processor l a)
+  as_it_should a lt = record {
+    sound = known.writes.sound_first l a;
+    pending = None;
+    fine = known.runs.opens z a (view h) lt refl refl (record { locked = refl; holds = λ p. refl; laying = refl; freeing = refl });
+    answers = refl;
+    notes = λ g its. known.notes.first l a g;
+    ended = λ g its x. absurd (elim x [ inl y ↦ cc | inr y ↦ cc ]);
+    ends = λ g its x. absurd (cc);
+    left = λ x g its. absurd (cc);
+  }
+
+  of_list : IsHeapOf shapes l pacing may [] h
+  of_list = record {
+    words_are = refl;
+    ever_is = refl;
+    bounded = known.bounds.opening z;
+    processors = as_it_should;
+    others = λ a le. record { locked = refl; holds = λ p. refl; laying = refl; freeing = refl };
+    stacks = λ g. (λ e. absurd (omega arith), λ e. absurd (cc));
+    globals = λ i le. refl;
+  }
+
+  abbrev first : Coordinating
+  first = coord.opening l (acks_of l) pacing.gogc pacing.minheap pacing.room
+
+  abbrev s : State
+  s = opening z h pacing.trigger
+
+  -- nobody sweeps
+  sweeps : (a : ℕ) → a < seats_of l → IsInSweep a s (sweep_of (actors_after z pacing may [] a))
+  sweeps a below = subst (IsInSweep a s) (sym (none (ltb a l.procs) (ltb a (acks_of l)))) (record { none = λ p is. absurd (cc); told = refl }) where
+    none : (b d : Bool) → sweep_of (cond b (actor.Runs (opening_processor l a)) (cond d (actor.Marks (worker.opening l a)) (actor.Leads (coord.opening l a pacing.gogc pacing.minheap pacing.room)))) ≡ None
+    none true d = known.processors_sweep.at_first l a
+    none false true = known.workers_sweep.at_first l a
+    none false false = known.coordinator_sweeps.at_first l a pacing.gogc pacing.minheap pacing.room
+
+  quiet : IsQuiet shapes l pacing may [] first
+  quiet = record {
+    has = record {
+      state = s;
+      of_list = of_list;
+      good = known.heaps_open z h pacing.trigger good nothing_reached;
+      placing = λ a lt. refl;
+      others_place = λ a le. refl;
+      sweeps = sweeps;
+    };
+    over = refl;
+    passed = λ p below. refl;
+    nobody = record { buffers = λ b. refl; stacks = λ g. inl (omega arith); processors = λ a lt. known.calm.first l a };
+  }
+
+  holds_first : Holds shapes l pacing may [] first
+  holds_first = record {
+    at = quiet;
+    was = record {
+      full = tt;
+      frees = λ k begun swept of_begun of_swept begins sweeps. absurd (subst (BeginsCycle shapes l pacing may k) of_begun begins);
+      ends = λ e before k of step. absurd (cc);
+    };
+    counted = λ i y is. absurd (cc);
+  }
+
+  is_first : (c : Coordinating) → IsLed shapes l pacing may [] c → first ≡ c
+  is_first c led = let both : actor.Leads first ≡ actor.Leads c = sym (at_seat shapes l pacing may) ∙ led in cc
+
+  -- before the first step
+  pub opens : (c : Coordinating) → IsLed shapes l pacing may [] c → Holds shapes l pacing may [] c
+  opens c led = subst (Holds shapes l pacing may []) (is_first c led) holds_first

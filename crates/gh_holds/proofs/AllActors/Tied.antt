@@ -1,0 +1,96 @@
+-- What is known while a cycle is marked ties the state of marking to the list; and one that is of a list's heap has what there is.
+use Rattle.std.proofs.Common.{◌≡◌, ◌≢◌, ◌↔◌, ℕ, ◌+◌, ◌<◌, Bool, true, false, sym, ap, subst, ◌∙◌, arith, List}
+use Rattle.gh_base.specs.declared.cell.Cell.TheVariants as cell
+use Rattle.gh_base.specs.declared.pack.TheConstants.{END}
+use Rattle.gh_cycle.specs.Beside.{IsBeside, IsOfCycle}
+use Rattle.gh_cycle.specs.Reached.{TheReachedWereMade}
+use Rattle.gh_heap.specs.Objects.{points, shape_for, size_for}
+use Rattle.gh_marks.specs.Colours.{mark_of, White}
+use Rattle.gh_model.specs.declared.EverValue.TheVariants as ever_value
+use Rattle.gh_model.specs.Ever.{from_register}
+use Rattle.gh_marked.specs.State.{HasState, processor_at}
+use Rattle.gh_marked.specs.Tied.{HasObject, IsOfHeap, IsTied, ShowsWhatThereIs, TiesShowWhatThereIs}
+use Rattle.gh_holds.proofs.Vocabulary.{Arena, arena, Coordinating, Cycle, Entry, Ever, ever, Good, IsPlacedAt, Layout, mark_words, Marking, MarkingGood, Name, Op, Pacing, Reach, reference_of, REGISTERS, row_bit, Shape, view, Words, words}
+use Rattle.gh_holds.specs.Known.{Known}
+use Rattle.gh_lists.specs.Resting.{runs_are}
+use Rattle.gh_marked.specs.Marked.{IsInMarking}
+
+module _ (shapes : List Shape) (l : Layout) (pacing : Pacing) (may : ℕ → List (Entry Op) → Op → Bool) (known : Known) (es : List (Entry Op)) where
+  abbrev z : Arena
+  z = arena shapes l pacing may
+
+  pub is_of_heap : (has : HasState shapes l pacing may es) (y : Cycle) (s : Marking) → y.arena ≡ z → MarkingGood y s → IsBeside z has.state.heap s → IsOfHeap shapes l pacing es y s
+  is_of_heap has y s arena_is good beside = record {
+    heap = has.state.heap;
+    words_are = has.of_list.words_are;
+    ever_is = has.of_list.ever_is;
+    bounded = has.of_list.bounded;
+    heap_good = has.good.heap;
+    good = good;
+    beside = beside;
+    objects = known.objects y has.state.heap s (subst (λ (x : Arena). Good x (view has.state.heap)) (sym arena_is) has.good.heap) good (subst (λ (x : Arena). IsBeside x has.state.heap s) (sym arena_is) beside);
+    over = λ g. subst (λ (w : Words). (w (cell.Scanned g) ≡ END) ↔ ((ever shapes l pacing may es).ended g ≡ true)) has.of_list.words_are (subst (λ (v : Ever). (has.state.heap.words (cell.Scanned g) ≡ END) ↔ (v.ended g ≡ true)) has.of_list.ever_is (has.of_list.stacks g));
+  }
+
+  pub is_tied : (c : Coordinating) (m : IsInMarking z pacing may es c) → IsTied shapes l pacing es m.cycle m.shared
+  is_tied c m = record {
+    of_heap = is_of_heap m.known.has m.cycle m.shared m.known.arena_is m.good m.known.beside;
+    processors = λ a lt. m.processors a (processor_at shapes l pacing may es a) lt (runs_are shapes l pacing may es a lt);
+    workers = λ a w lt is. m.workers a w lt is;
+    others = m.coordinator;
+  }
+
+-- A state of marking that is one of a list's heap.
+module _ (were_made : TheReachedWereMade) (shapes : List Shape) (l : Layout) (pacing : Pacing) (es : List (Entry Op)) (c : Cycle) (s : Marking) (t : IsOfHeap shapes l pacing es c s) where
+  abbrev any : ℕ → List (Entry Op) → Op → Bool
+  any a xs o = true
+
+  abbrev w : Words
+  w = words shapes l pacing any es
+
+  abbrev v : Ever
+  v = ever shapes l pacing any es
+
+  -- what a script reaches is placed where the heap says
+  placed : (n : Name) → Reach v n → IsPlacedAt w n (t.heap.place n)
+  placed n r =
+      let p = t.heap_good.reached n (subst (λ (e : Ever). Reach e n) (sym t.ever_is) r) in
+      subst (λ (x : Words). IsPlacedAt x n (t.heap.place n)) t.words_are (record { set = p.set; says = p.says })
+
+  there : (n : Name) → Reach v n → Reach t.heap.ever n
+  there n r = subst (λ (e : Ever). Reach e n) (sym t.ever_is) r
+
+  of_cycle : (n : Name) → Reach v n → IsOfCycle t.heap s n
+  of_cycle n r = record { made = were_made (arena shapes l pacing any) t.heap.ever t.bounded n (there n r); placed = t.heap_good.reached n (there n r); since = t.beside.reached n (there n r) }
+
+  object : (n : Name) → Reach v n → HasObject shapes l pacing es s n
+  object n r = record {
+    at = t.heap.place n;
+    placed = placed n r;
+    since = t.beside.reached n (there n r);
+    some = (t.objects (t.heap.place n) (t.beside.reached n (there n r))).some;
+    size = t.beside.size n (of_cycle n r) ∙ ap (λ (e : Ever). size_for shapes e.type_of n) t.ever_is;
+    pointer = λ k lt. t.beside.pointer n k (of_cycle n r) (subst (λ (e : Ever). k < size_for shapes e.type_of n) (sym t.ever_is) lt) ∙ ap (λ (e : Ever). points shapes e.type_of n k) t.ever_is;
+    noscan = t.beside.noscan n (of_cycle n r) ∙ ap (λ (e : Ever). (shape_for shapes e.type_of n).noscan) t.ever_is;
+  }
+
+  register : (g d : ℕ) (n : Name) → g < l.goroutines → d < REGISTERS → v.ended g ≡ false → v.register g d ≡ ever_value.Ref n → s.registers g d ≡ t.heap.place n + 1
+  register g d n lt few goes is =
+      t.beside.registers g d lt few (subst (λ (e : Ever). e.ended g ≡ false) (sym t.ever_is) goes)
+      ∙ (ap (λ (e : Ever). reference_of t.heap.place (e.register g d)) t.ever_is ∙ ap (reference_of t.heap.place) is)
+
+  not_white : (a : ℕ) → row_bit (mark_words w) a ≡ 1 → s.colour a ≢ White
+  not_white a set is =
+      let bit : row_bit (mark_words s.words) a ≡ 0 = t.good.marks a ∙ ap mark_of is in
+      let same : row_bit (mark_words s.words) a ≡ row_bit (mark_words w) a = ap (λ (x : Words). row_bit (mark_words x) a) (t.beside.words ∙ t.words_are) in
+      omega (arith, bit, same, set)
+
+  shows : ShowsWhatThereIs shapes l pacing es s
+  shows = record {
+    objects = object;
+    registers = λ g d n lt few goes is. (t.heap.place n, placed n (from_register g d n goes is), register g d n lt few goes is);
+    marks = not_white;
+  }
+
+pub ties_show : TheReachedWereMade → TiesShowWhatThereIs
+ties_show made shapes l pacing es c s t = shows made shapes l pacing es c s t

@@ -1,0 +1,82 @@
+-- What may begin by its tests may begin by the heap: its goroutine goes on, and its registers, global and type are there.
+use Rattle.std.proofs.Common.{◌≡◌, ℕ, ◌<◌, Bool, true, false, not, ltb, eqb, length, List, Option, Some, refl, subst}
+use Rattle.std.specs.Prelude.{◌&&◌}
+use Rattle.std.proofs.lemmas.Bool.{eqb-true, ltb-true}
+use Rattle.gh_base.specs.declared.limits.TheConstants.{MOST_STATEMENTS}
+use Rattle.gh_base.specs.declared.operation.Op.TheVariants as op
+use Rattle.gh_heap.specs.Moves.{Runs}
+use Rattle.gh_mutator_heap.specs.Facts.{MayBegin}
+use Rattle.gh_lists.specs.Beginning.{both}
+use Rattle.gh_lists.specs.LemmaVocabulary.{Arena, Entry, has_names, IsOf, made_by, Op, Processor, REGISTERS, View}
+use Rattle.gh_lists.specs.Order.{ended_in, goroutine_of, in_range, is_over}
+use Rattle.gh_lists.specs.Processors.{is_of, may_run}
+
+not-true : (b : Bool) → not b ≡ true → b ≡ false
+not-true true e = absurd (cc)
+not-true false e = refl
+
+module _ (z : Arena) (a : ℕ) (v : View) (m : Processor) (es : List (Entry Op)) (ended : (g : ℕ) → IsOf z a g → v.ever.ended g ≡ true → ended_in es g ≡ true) (counts : (g : ℕ) → IsOf z a g → made_by m g ≡ v.ever.made g) where
+  runs : (g : ℕ) → ltb g z.layout.goroutines ≡ true → eqb (z.seat_of g) a ≡ true → not (ended_in es g) ≡ true → Runs z v a g
+  runs g below here going = record { of = of; goes_on = go (v.ever.ended g) refl } where
+    of : IsOf z a g
+    of = (ltb-true g z.layout.goroutines below, eqb-true (z.seat_of g) a here)
+
+    go : (b : Bool) → v.ever.ended g ≡ b → v.ever.ended g ≡ false
+    go true e = absurd (cc (not-true (ended_in es g) going, ended g of e))
+    go false e = e
+
+  -- the tests of an operation of goroutine g
+  of-goroutine : (o : Op) (g : ℕ) → goroutine_of o ≡ Some g → may_run z a m es o ≡ true → ltb g z.layout.goroutines ≡ true → Runs z v a g
+  of-goroutine o g e may below =
+      let x = both _ (not (is_over es (goroutine_of o))) may in
+      let y = both _ (has_names m o) x.0 in
+      let w = both (in_range z.layout.goroutines z.layout.globals (length z.shapes) o) (is_of z a (goroutine_of o)) y.0 in
+      runs g below (subst (λ (q : Option ℕ). is_of z a q ≡ true) e w.1) (subst (λ (q : Option ℕ). not (is_over es q) ≡ true) e x.1)
+
+  range : (o : Op) → may_run z a m es o ≡ true → in_range z.layout.goroutines z.layout.globals (length z.shapes) o ≡ true
+  range o may =
+      let x = both _ (not (is_over es (goroutine_of o))) may in
+      let y = both _ (has_names m o) x.0 in
+      (both (in_range z.layout.goroutines z.layout.globals (length z.shapes) o) (is_of z a (goroutine_of o)) y.0).0
+
+  names : (o : Op) → may_run z a m es o ≡ true → has_names m o ≡ true
+  names o may =
+      let x = both _ (not (is_over es (goroutine_of o))) may in
+      (both _ (has_names m o) x.0).1
+
+  pub may-begin : (o : Op) → may_run z a m es o ≡ true → MayBegin z a v o
+  may-begin (op.New g d t) may =
+      let r = range (op.New g d t) may in
+      let x = both (ltb g z.layout.goroutines && ltb d REGISTERS) (ltb t (length z.shapes)) r in
+      let y = both (ltb g z.layout.goroutines) (ltb d REGISTERS) x.0 in
+      let run = of-goroutine (op.New g d t) g refl may y.0 in
+      (run, ltb-true d REGISTERS y.1, ltb-true t (length z.shapes) x.1, subst (λ (n : ℕ). n < MOST_STATEMENTS) (counts g run.of) (ltb-true (made_by m g) MOST_STATEMENTS (names (op.New g d t) may)))
+  may-begin (op.Load g d b k) may =
+      let x = both (ltb g z.layout.goroutines && ltb d REGISTERS) (ltb b REGISTERS) (range (op.Load g d b k) may) in
+      let y = both (ltb g z.layout.goroutines) (ltb d REGISTERS) x.0 in
+      (of-goroutine (op.Load g d b k) g refl may y.0, ltb-true d REGISTERS y.1, ltb-true b REGISTERS x.1)
+  may-begin (op.Store g b k c) may =
+      let x = both (ltb g z.layout.goroutines && ltb b REGISTERS) (ltb c REGISTERS) (range (op.Store g b k c) may) in
+      let y = both (ltb g z.layout.goroutines) (ltb b REGISTERS) x.0 in
+      (of-goroutine (op.Store g b k c) g refl may y.0, ltb-true b REGISTERS y.1, ltb-true c REGISTERS x.1)
+  may-begin (op.GetGlobal g d k) may =
+      let x = both (ltb g z.layout.goroutines && ltb d REGISTERS) (ltb k z.layout.globals) (range (op.GetGlobal g d k) may) in
+      let y = both (ltb g z.layout.goroutines) (ltb d REGISTERS) x.0 in
+      (of-goroutine (op.GetGlobal g d k) g refl may y.0, ltb-true d REGISTERS y.1, ltb-true k z.layout.globals x.1)
+  may-begin (op.SetGlobal g k c) may =
+      let x = both (ltb g z.layout.goroutines && ltb k z.layout.globals) (ltb c REGISTERS) (range (op.SetGlobal g k c) may) in
+      let y = both (ltb g z.layout.goroutines) (ltb k z.layout.globals) x.0 in
+      (of-goroutine (op.SetGlobal g k c) g refl may y.0, ltb-true c REGISTERS x.1, ltb-true k z.layout.globals y.1)
+  may-begin (op.Int g d n) may =
+      let y = both (ltb g z.layout.goroutines) (ltb d REGISTERS) (range (op.Int g d n) may) in
+      (of-goroutine (op.Int g d n) g refl may y.0, ltb-true d REGISTERS y.1)
+  may-begin (op.Move g d c) may =
+      let x = both (ltb g z.layout.goroutines && ltb d REGISTERS) (ltb c REGISTERS) (range (op.Move g d c) may) in
+      let y = both (ltb g z.layout.goroutines) (ltb d REGISTERS) x.0 in
+      (of-goroutine (op.Move g d c) g refl may y.0, ltb-true d REGISTERS y.1, ltb-true c REGISTERS x.1)
+  may-begin (op.Nil g d) may =
+      let y = both (ltb g z.layout.goroutines) (ltb d REGISTERS) (range (op.Nil g d) may) in
+      (of-goroutine (op.Nil g d) g refl may y.0, ltb-true d REGISTERS y.1)
+  may-begin (op.Gc g) may = tt
+  may-begin (op.End g) may = of-goroutine (op.End g) g refl may (range (op.End g) may)
+  may-begin _ may = tt

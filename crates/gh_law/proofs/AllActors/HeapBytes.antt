@@ -1,0 +1,126 @@
+-- The heap's count of bytes over the words and the actors alone: the one state has it with the bytes of each slot and what each seat has yet to count and to take off; the page words tell the first, and the actors' own stages the others.
+use Rattle.std.proofs.Common.{◌≡◌, ◌≢◌, inl, inr, ℕ, zero, suc, ◌+◌, ◌*◌, ◌/◌, ◌%◌, ◌<◌, ◌≤◌, Bool, refl, sym, ap, subst, ◌∙◌, arith, List, Option, Some, None}
+use Rattle.std.specs.Prelude.{count_ones}
+use Rattle.std.proofs.lemmas.Bool.{cases_lt}
+use Rattle.std.proofs.lemmas.Bool.Decides.{eqb_tells}
+use Rattle.std.proofs.lemmas.Nat.{ones_le_self}
+use Rattle.std.proofs.lemmas.Nat.Bits.{bit_at-zero, same_from_bits_below}
+use Rattle.std.specs.Int.{bit_at}
+use Rattle.gh_base.specs.declared.cell.Cell.TheVariants as cell
+use Rattle.gh_base.specs.declared.pack.PageWord.TheVariants.{Head}
+use Rattle.gh_base.specs.declared.pack.SpanHead.{SpanHead}
+use Rattle.gh_heap.specs.Rights.{Frees, IsKept}
+use Rattle.gh_state.specs.Slots.{SlotsAreRead}
+use Rattle.gh_sweep.specs.Bits.{sum_below}
+use Rattle.gh_sweep.specs.Listing.{Sweeping}
+use Rattle.gh_sweep.specs.Shared.{Due, InSpan, owed, placed_in}
+use Rattle.gh_lists.specs.declared.handshake.Actor.TheVariants as actor
+use Rattle.gh_holds.specs.Below.{HeapIsCounted, uncounted_at, untaken, untaken_at, IsInSweep, sweep_of}
+use Rattle.gh_law.proofs.Vocabulary.{placed, slot_row, Actor, actors_after, alloc_words, arena, Entry, HasState, Layout, Op, Pacing, page_of, page_words, row_bit, seats_of, Shape, State, Words}
+use Rattle.gh_lists.specs.Wants.{total}
+use Rattle.gh_holds.specs.Known.{Known}
+use Rattle.gh_lists.specs.Resting.{runs_are}
+use Rattle.gh_lists.specs.Seats.{IsSeated, seated}
+use Rattle.gh_lists.specs.SumsBelow.{sum_more, sum_none, sum_same}
+
+sum_is_total : (f g : ℕ → ℕ) (n : ℕ) → ((a : ℕ) → a < n → f a ≡ g a) → sum_below f n ≡ total g n
+sum_is_total f g zero h = sum_none f
+sum_is_total f g (suc n) h =
+    let rest : sum_below f n ≡ total g n = sum_is_total f g n (λ a lt. h a (omega (arith, lt))) in
+    let last = h n (omega arith) in
+    omega (arith, rest, last, sum_more f n)
+
+-- where no bit is set no slot is taken
+no_bytes : (word bytes : ℕ) → word ≡ 0 → count_ones word * bytes ≡ 0
+no_bytes word bytes is =
+    let none : count_ones 0 ≡ 0 = omega (arith, ones_le_self 0) in
+    let product : count_ones word * bytes ≡ 0 * bytes = ap (λ (n : ℕ). count_ones n * bytes) is ∙ ap (λ (n : ℕ). n * bytes) none in
+    omega (arith, product)
+
+module _ (shapes : List Shape) (l : Layout) (pacing : Pacing) (may : ℕ → List (Entry Op) → Op → Bool) (known : Known) (read : SlotsAreRead) (es : List (Entry Op)) (has : HasState shapes l pacing may es) where
+  abbrev s : State
+  s = has.state
+
+  abbrev now : Words
+  now = has.state.heap.words
+
+  abbrev at : ℕ → Actor
+  at a = actors_after (arena shapes l pacing may) pacing may es a
+
+  -- The bytes of slots.
+
+  -- where a bit is set nobody frees the span: no object stands in one that is being freed
+  kept : (i : ℕ) → now (cell.Alloc i) ≢ 0 → (c : InSpan (page_words now) i) → IsKept s.heap.freeing c.p
+  kept i some c a y frees first = some (same_from_bits_below 64 (now (cell.Alloc i)) 0 (has.good.heap.words i) (omega arith) (λ j low. no_bit j low ∙ sym (bit_at-zero j))) where
+    f : Frees (page_words now) (alloc_words now) s.heap.locked a y
+    f = has.good.heap.freeing a y frees
+
+    same_head : f.being.h ≡ c.h
+    same_head = let both : Head f.being.h ≡ Head c.h = sym f.being.head ∙ (ap (λ (p : ℕ). page_of (now (cell.Page p))) first ∙ c.head) in cc
+
+    size : c.h.pages ≡ y.pages
+    size = ap (λ (h : SpanHead). h.pages) (sym same_head) ∙ f.being.size
+
+    bit_in : (j : ℕ) → j < 64 → bit_at (now (cell.Alloc i)) j ≡ row_bit (alloc_words now) (64 * i + j)
+    bit_in j low =
+        let word : (64 * i + j) / 64 ≡ i = omega (arith, low) in
+        let within : (64 * i + j) % 64 ≡ j = omega (arith, low) in
+        sym (known.rows.bit_of (alloc_words now) i (64 * i + j) word ∙ ap (λ (n : ℕ). bit_at (now (cell.Alloc i)) n) within)
+
+    no_bit : (j : ℕ) → j < 64 → bit_at (now (cell.Alloc i)) j ≡ 0
+    no_bit j low =
+        let from = c.from in
+        let below = c.below in
+        bit_in j low ∙ f.empty (64 * i + j) (omega (arith, from, first)) (omega (arith, below, size, first, low))
+
+  same_slot : (i : ℕ) → now (cell.Alloc i) ≢ 0 → s.slot i ≡ slot_row (page_words now) i
+  same_slot i some =
+      let c = has.good.sweep.inside i some in
+      has.good.sweep.slots i c ∙ sym (read l.pages (page_words now) i c (has.good.heap.whole c.p c.h c.head (kept i some c)))
+
+  same_bytes : (i : ℕ) → placed_in (alloc_words now) s.slot i ≡ placed_in (alloc_words now) (slot_row (page_words now)) i
+  same_bytes i = elim (eqb_tells (now (cell.Alloc i)) 0) [
+    | inl y ↦ no_bytes (now (cell.Alloc i)) (s.slot i) y.1 ∙ sym (no_bytes (now (cell.Alloc i)) (slot_row (page_words now) i) y.1)
+    | inr n ↦ ap (λ (x : ℕ). count_ones (now (cell.Alloc i)) * x) (same_slot i n.1)
+  ]
+
+  -- What each seat has yet to count and to take off.
+
+  others_count_none : (a : ℕ) → l.procs ≤ a → (x : Actor) → at a ≡ x → uncounted_at x ≡ 0
+  others_count_none a ge (actor.Runs m) is = absurd (let lt : a < l.procs = subst (IsSeated l a) is (seated shapes l pacing es a) in omega (arith, lt, ge))
+  others_count_none a ge (actor.Marks w) is = refl
+  others_count_none a ge (actor.Leads c) is = refl
+
+  pend_is : (a : ℕ) → s.pend a ≡ uncounted_at (at a)
+  pend_is a = elim (cases_lt a l.procs) [
+    | inl lt ↦ has.placing a lt ∙ ap uncounted_at (sym (runs_are shapes l pacing may es a lt))
+    | inr ge ↦ has.others_place a ge ∙ sym (others_count_none a ge (at a) refl)
+  ]
+
+  due_of : (a : ℕ) (x : Option Sweeping) → IsInSweep a s x → (s.due a).cleared ≡ untaken x
+  due_of a None r = ap (λ (d : Due). d.cleared) r.told
+  due_of a (Some m) r = ap (λ (d : Due). d.cleared) r.0.fine.due
+
+  due_is : (a : ℕ) → a < seats_of l → (s.due a).cleared ≡ untaken_at (at a)
+  due_is a lt = due_of a (sweep_of (at a)) (has.sweeps a lt)
+
+  -- All of them.
+
+  abbrev to_count : ℕ
+  to_count = total (λ a. uncounted_at (at a)) (seats_of l)
+
+  abbrev to_take : ℕ
+  to_take = total (λ a. untaken_at (at a)) (seats_of l)
+
+  by_ghosts : now cell.Heap + sum_below s.pend (seats_of l) ≡ placed (alloc_words now) s.slot (16 * l.pages) + owed (λ d. d.cleared) s.due (seats_of l)
+  by_ghosts = subst (λ (k : Layout). now cell.Heap + sum_below s.pend (seats_of k) ≡ placed (alloc_words now) s.slot (16 * k.pages) + owed (λ d. d.cleared) s.due (seats_of k)) has.good.layout has.good.sweep.counted.heap
+
+  by_words : now cell.Heap + to_count ≡ placed (alloc_words now) (slot_row (page_words now)) (16 * l.pages) + to_take
+  by_words =
+      let placing : sum_below s.pend (seats_of l) ≡ to_count = sum_is_total s.pend (λ a. uncounted_at (at a)) (seats_of l) (λ a lt. pend_is a) in
+      let taking : sum_below (λ a. (s.due a).cleared) (seats_of l) ≡ to_take = sum_is_total (λ a. (s.due a).cleared) (λ a. untaken_at (at a)) (seats_of l) due_is in
+      let standing : placed (alloc_words now) s.slot (16 * l.pages) ≡ placed (alloc_words now) (slot_row (page_words now)) (16 * l.pages) = sum_same (placed_in (alloc_words now) s.slot) (placed_in (alloc_words now) (slot_row (page_words now))) (16 * l.pages) (λ i lt. same_bytes i) in
+      ap (λ (n : ℕ). now cell.Heap + n) (sym placing) ∙ (by_ghosts ∙ (ap (λ (n : ℕ). n + owed (λ d. d.cleared) s.due (seats_of l)) standing ∙ ap (λ (n : ℕ). placed (alloc_words now) (slot_row (page_words now)) (16 * l.pages) + n) taking))
+
+  pub heap_bytes : HeapIsCounted shapes l pacing may es
+  heap_bytes = subst (λ (w : Words). w cell.Heap + to_count ≡ placed (alloc_words w) (slot_row (page_words w)) (16 * l.pages) + to_take) has.of_list.words_are by_words

@@ -1,0 +1,374 @@
+-- What the handshake of a stop says of phases, by the actors at their seats; and that nobody marks while no cycle is marked: processors and workers are calm then, and the coordinator sets no mark and writes no buffer.
+use Rattle.std.proofs.Common.{◌≡◌, ◌≢◌, ◌⊎◌, inl, inr, ℕ, ◌+◌, ◌<◌, Bool, true, false, refl, sym, ap, subst, ◌∙◌, arith, List, [], ◌∷◌, ◌++◌, Option, Some, None}
+use Rattle.std.proofs.lemmas.Bool.Decides.{nat_tests}
+use Rattle.gh_base.specs.declared.cell.Ask.TheVariants as ask
+use Rattle.gh_base.specs.declared.cell.Cell.TheVariants as cell
+use Rattle.gh_phase.specs.declared.view.RunPhase.TheVariants.{Finished}
+use Rattle.gh_sweep.specs.declared.sweep.SweepStage.TheVariants as sweep_stage
+use Rattle.gh_sweep.specs.Listing as sweep
+use Rattle.gh_sweep.specs.Listing.{Sweeping}
+use Rattle.gh_coord.specs.declared.close.CloseStage.TheVariants as close_stage
+use Rattle.gh_coord.specs.declared.count.CountStage.TheVariants as count_stage
+use Rattle.gh_coord.specs.declared.open.OpenStage.TheVariants as open_stage
+use Rattle.gh_coord.specs.declared.stop.StopStage.TheVariants as stop_stage
+use Rattle.gh_coord.specs.declared.sweep_all.SweepAllStage.TheVariants as all_stage
+use Rattle.gh_coord.specs.declared.tell.TellStage.TheVariants as tell_stage
+use Rattle.gh_coord.specs.declared.watch.WatchStage.TheVariants as watch_stage
+use Rattle.gh_coord.specs.Closing as close
+use Rattle.gh_coord.specs.Counting as count
+use Rattle.gh_coord.specs.Handshake as leading
+use Rattle.gh_coord.specs.Opening as open_
+use Rattle.gh_coord.specs.Stopping as stop
+use Rattle.gh_coord.specs.SweepingAll as all
+use Rattle.gh_coord.specs.Telling as tell
+use Rattle.gh_coord.specs.Watching as watch
+use Rattle.gh_mutator.specs.declared.leave.LeaveStage.TheVariants as leave_stage
+use Rattle.gh_mutator.specs.declared.new.NewStage.TheVariants as new_stage
+use Rattle.gh_mutator.specs.declared.poll.PollStage.TheVariants as poll_stage
+use Rattle.gh_mutator.specs.declared.task.Task.TheVariants as task
+use Rattle.gh_mutator.specs.declared.wait.Wait.{Wait}
+use Rattle.gh_mutator.specs.declared.wait.WaitStage.TheVariants as wait_stage
+use Rattle.gh_mutator_writes.specs.Calm.{IsWrittenCalmly}
+use Rattle.gh_mutator_heap.specs.Facts.{FactsAt, NewFacts}
+use Rattle.gh_mutator.specs.Give.{none_cached}
+use Rattle.gh_mutator.specs.ProcessorPlaces.{SoundNewAt}
+use Rattle.gh_mutator.specs.Sweeping.{sweep_in}
+use Rattle.gh_mutator.specs.Handshake.{polls_at, PollsOn, PollsSoundAt, waits_at, WaitsSoundAt}
+use Rattle.gh_worker.specs.declared.worker.WorkerStage.TheVariants as worker_stage
+use Rattle.gh_worker.specs.Handshake as working
+use Rattle.gh_worker.specs.Writing.{AcksAlone}
+use Rattle.gh_lists.specs.declared.handshake.Actor.TheVariants as actor
+use Rattle.gh_lists.specs.Handshake as handshake
+use Rattle.gh_law.specs.Phases.{EndsInOrder, FindsTheStop, IsMarkingStep, IsStopped, MarksInPhase, PhasesAreKnown, PhasesStand, StandsEmpty, StandsStill}
+use Rattle.gh_holds.specs.Below.{IsInSweep, sweep_of}
+use Rattle.gh_law.proofs.Vocabulary.{answers_of, given_of, opening_words, View, acks_of, Actor, actors_after, Answer, Arena, arena, Ask, asks_at, Begins, Check, Close, CloseStage, Coordinating, CoordStage, Count, CountStage, Done, Entry, HasState, Holds, HoldsAt, is_busy, is_busy_at, is_some, IsClosing, IsLed, IsQuiet, IsStartOf, IsTelling, KeepsIt, Kind, last_phase, Layout, leaves_at, LeaveStage, Legal, LoadAck, LoadWant, MarkOn, MarksNothing, new_polls, new_stage_at, NewStage, NobodyMarks, only_polls, Op, Open, OpenStage, option_to_list, Pacing, place_of, Polling, PollStage, Processor, processor_at, processor_kind, Resumes, ResumeStage, Shape, SoundAt, SoundPlace, stage_at, stage_of, started, Stop, StopAgain, StopStage, Sweep, SweepAllStage, SweepStage, Task, Tell, TellStage, those, view, waiting, WaitStage, Watch, WatchStage, words, Words, Working, WorkerStage, WritesOf}
+use Rattle.gh_lists.specs.Going.{goes_then, IsGoing}
+use Rattle.gh_holds.specs.Known.{Known, ListsKnown}
+use Rattle.gh_lists.specs.Sweeping.{idle_sweeps_none, asks_by_sweep}
+use Rattle.gh_lists.specs.Resting.{run_is}
+use Rattle.gh_holds.specs.StackWords.{calm_now}
+use Rattle.gh_lists.specs.Starts.{legal_start}
+use Rattle.gh_lists.specs.Seats.{IsSeated, seated}
+use Rattle.gh_lists.specs.Steps as seats
+
+-- Who goes on after a stop stands empty.
+
+polls_empty : (p : Polling) (s : PollStage) (stops : ℕ) (stage : ResumeStage) → polls_at p s ≡ Resumes stops stage → PollsSoundAt p s → (p.local.cache ≡ none_cached) × (p.local.held ≡ None)
+polls_empty p (poll_stage.Resuming r) stops stage is sound = (sound.no_span, sound.no_buffer)
+polls_empty p _ stops stage is sound = absurd (cc)
+
+poll_empty : (p : Polling) (stops : ℕ) (stage : ResumeStage) → polls_at p p.stage ≡ Resumes stops stage → PollsOn p → (p.local.cache ≡ none_cached) × (p.local.held ≡ None)
+poll_empty p stops stage is on = polls_empty p p.stage stops stage is on.sound.1
+
+wait_empty : (w : Wait) (p : Polling) (s : WaitStage) (stops : ℕ) (stage : ResumeStage) → waits_at (waiting w p) s ≡ Resumes stops stage → WaitsSoundAt (waiting w p) s → (p.local.cache ≡ none_cached) × (p.local.held ≡ None)
+wait_empty w p wait_stage.Polling stops stage is sound = poll_empty p stops stage is sound
+wait_empty w p _ stops stage is sound = absurd (cc)
+
+leave_awake : (s : LeaveStage) (stops : ℕ) (stage : ResumeStage) → leaves_at s ≡ Resumes stops stage → ⊥
+leave_awake (leave_stage.Giving g) stops stage is = cc
+leave_awake leave_stage.Leave stops stage is = cc
+leave_awake leave_stage.Left stops stage is = cc
+
+task_empty : (p : Polling) (t : Task) (stops : ℕ) (stage : ResumeStage) → stage_at p t ≡ Resumes stops stage → SoundAt p t → (only_polls t ≡ true) × (p.local.cache ≡ none_cached) × (p.local.held ≡ None)
+task_empty p (task.New x) stops stage is sound = by_stage x.stage is sound where
+  by_stage : (q : NewStage) → new_stage_at p q ≡ Resumes stops stage → SoundNewAt p q → (new_polls q ≡ true) × (p.local.cache ≡ none_cached) × (p.local.held ≡ None)
+  by_stage (new_stage.Wait w) y on = let x = wait_empty w p w.stage stops stage y on.0.1 in (refl, x.0, x.1)
+  by_stage _ y on = absurd (cc)
+task_empty p (task.Gc g x) stops stage is sound = let y = wait_empty x p x.stage stops stage is sound.0.1 in (refl, y.0, y.1)
+task_empty p task.Poll stops stage is sound = let y = poll_empty p stops stage is sound in (refl, y.0, y.1)
+task_empty p (task.Leave x) stops stage is sound = absurd (leave_awake x.stage stops stage is)
+task_empty p _ stops stage is sound = absurd (cc)
+
+stands_empty : (m : Processor) (stops : ℕ) (stage : ResumeStage) → stage_of m ≡ Resumes stops stage → SoundPlace m → StandsEmpty m
+stands_empty m stops stage is sound = let x = task_empty m.poll m.task stops stage is sound.1 in record { waits = x.0; no_span = x.1; no_buffer = x.2 }
+
+-- and nothing is pending of it
+none_pending : (z : Arena) (a : ℕ) (v : View) (m : Processor) (pending : Option Answer) (t : Task) → only_polls t ≡ true → FactsAt z a v m pending t → pending ≡ None
+none_pending z a v m pending (task.New x) polls is = by_stage x.stage polls is where
+  by_stage : (q : NewStage) → new_polls q ≡ true → NewFacts z a v m x.wanted pending q → pending ≡ None
+  by_stage (new_stage.Wait w) y facts = facts.1
+  by_stage _ y facts = absurd (cc)
+none_pending z a v m pending (task.Gc g x) polls is = is
+none_pending z a v m pending task.Poll polls is = is
+none_pending z a v m pending (task.Leave x) polls is = is
+none_pending z a v m pending _ polls is = absurd (cc)
+
+worker_empty : (w : Working) (s : WorkerStage) (stops : ℕ) (stage : ResumeStage) → working.stands_at s ≡ Resumes stops stage → working.SoundAt w s → w.held ≡ None
+worker_empty w (worker_stage.Resuming r) stops stage is sound = sound.none
+worker_empty w _ stops stage is sound = absurd (cc)
+
+-- Who is calm makes no step that marks.
+
+calm_none : (m : Processor) → sweep_in m ≡ None → (q : Ask) → WritesOf (IsWrittenCalmly m) q → IsMarkingStep q → ⊥
+calm_none m none (ask.Or (cell.Mark i) bits) w x = let no : false ≡ true = sym (ap (λ (y : Option Sweeping). is_some y) none) ∙ w in absurd (cc)
+calm_none m none (ask.Store (cell.Buffer b) value) w x = w
+calm_none m none (ask.Swap (cell.Buffer b) old new) w x = w
+calm_none m none (ask.Store (cell.Entry b j) value) w x = w
+calm_none m none _ w x = x
+
+rest_none : (seat : ℕ) (q : Ask) → AcksAlone seat q → IsMarkingStep q → ⊥
+rest_none seat (ask.Or (cell.Mark i) bits) w x = w
+rest_none seat (ask.Store (cell.Buffer b) value) w x = w
+rest_none seat (ask.Swap (cell.Buffer b) old new) w x = w
+rest_none seat (ask.Store (cell.Entry b j) value) w x = w
+rest_none seat _ w x = x
+
+-- Nor does the coordinator.
+
+stop_none : (st : stop.Stopping) (p : StopStage) → IsMarkingStep (stop.asks_at st p) → ⊥
+stop_none st stop_stage.StorePhase x = x
+stop_none st (stop_stage.Await i) x = x
+stop_none st stop_stage.Ended x = x
+
+open_none : (o : open_.CycleOpening) (p : OpenStage) → IsMarkingStep (open_.asks_at o p) → ⊥
+open_none o open_stage.ClearWant x = x
+open_none o open_stage.ClearGcur x = x
+open_none o open_stage.ClearTally x = x
+open_none o open_stage.ClearLive x = x
+open_none o open_stage.StoreTrigger x = x
+open_none o open_stage.LoadHeap x = x
+open_none o open_stage.StoreWork x = x
+open_none o open_stage.StoreSlack x = x
+open_none o open_stage.StoreBegun x = x
+open_none o open_stage.StorePhase x = x
+open_none o open_stage.Ended x = x
+
+watch_none : (v : watch.Watching) (p : WatchStage) → IsMarkingStep (watch.asks_at v p) → ⊥
+watch_none v (watch_stage.Look i) x = x
+watch_none v (watch_stage.Ended y) x = x
+
+close_none : (c : close.Closing) (p : CloseStage) → IsMarkingStep (close.asks_at c p) → ⊥
+close_none c close_stage.LoadBank x = x
+close_none c close_stage.ClearBank x = x
+close_none c close_stage.StoreGen x = x
+close_none c close_stage.StorePhase x = x
+close_none c close_stage.Ended x = x
+
+span_none : (m : sweep.Sweeping) (p : SweepStage) → IsMarkingStep (sweep.asks_at m p) → ⊥
+span_none m sweep_stage.Begin x = x
+span_none m (sweep_stage.LoadMarks i) x = x
+span_none m (sweep_stage.ClearBits i marks) x = x
+span_none m (sweep_stage.ClearMarks i) x = x
+span_none m sweep_stage.AddTally x = x
+span_none m sweep_stage.AddLive x = x
+span_none m sweep_stage.AddHeap x = x
+span_none m sweep_stage.Finish x = x
+span_none m (sweep_stage.Ended end) x = x
+
+all_none : (v : all.SweepingAll) (p : SweepAllStage) → IsMarkingStep (all.asks_at v p) → ⊥
+all_none v (all_stage.LoadPage i) x = x
+all_none v (all_stage.Sweep i m) x = span_none m m.stage x
+all_none v (all_stage.Await i) x = x
+all_none v all_stage.Ended x = x
+
+count_none : (p : CountStage) → IsMarkingStep (count.asks_at p) → ⊥
+count_none count_stage.LoadTally x = x
+count_none (count_stage.LoadLive t) x = x
+count_none (count_stage.Ended y) x = x
+
+tell_none : (t : tell.Telling) (p : TellStage) → IsMarkingStep (tell.asks_at t p) → ⊥
+tell_none t tell_stage.StoreTrigger x = x
+tell_none t tell_stage.StoreSwept x = x
+tell_none t tell_stage.StorePhase x = x
+tell_none t tell_stage.Ended x = x
+
+lead_none : (c : Coordinating) (p : CoordStage) → IsMarkingStep (asks_at c p) → ⊥
+lead_none c (LoadAck i) x = x
+lead_none c LoadWant x = x
+lead_none c (Stop st) x = stop_none st st.stage x
+lead_none c (Open o) x = open_none o o.stage x
+lead_none c (Watch v) x = watch_none v v.stage x
+lead_none c (StopAgain st) x = stop_none st st.stage x
+lead_none c (Check v) x = watch_none v v.stage x
+lead_none c MarkOn x = x
+lead_none c (Close y) x = close_none y y.stage x
+lead_none c (Sweep v) x = all_none v v.stage x
+lead_none c (Count y) x = count_none y.stage x
+lead_none c (Tell t) x = tell_none t t.stage x
+lead_none c Done x = x
+
+module _ (shapes : List Shape) (l : Layout) (pacing : Pacing) (may : ℕ → List (Entry Op) → Op → Bool) (known : Known) (lists : ListsKnown shapes l pacing may) where
+  abbrev z : Arena
+  z = arena shapes l pacing may
+
+  abbrev kind : Kind Processor Op
+  kind = processor_kind shapes l
+
+  abbrev Lawful : List (Entry Op) → Type 0
+  Lawful es = Legal (those shapes l pacing may) es
+
+  abbrev Led : List (Entry Op) → Coordinating → Type 0
+  Led es c = IsLed shapes l pacing may es c
+
+  abbrev at : List (Entry Op) → ℕ → Actor
+  at es a = actors_after z pacing may es a
+
+  -- A cycle is marked, or nobody marks, at whatever stage the coordinator is.
+  module _ (es : List (Entry Op)) (c : Coordinating) where
+    record NobodyThen (p : CoordStage) : Type 0 where
+      off : leading.Marks p → ⊥
+      has : HasState shapes l pacing may es
+      cycle : ℕ
+      nobody : NobodyMarks shapes l pacing may es cycle has.state.heap.words
+
+    told_quiet : (p : TellStage) → IsTelling shapes l pacing may es c p → IsQuiet shapes l pacing may es c
+    told_quiet tell_stage.Ended h = absurd h
+    told_quiet tell_stage.StoreTrigger h = h.quiet
+    told_quiet tell_stage.StoreSwept h = h.quiet
+    told_quiet tell_stage.StorePhase h = h.quiet
+
+    quiet_then : (p : CoordStage) → (leading.Marks p → ⊥) → IsQuiet shapes l pacing may es c → NobodyThen p
+    quiet_then p off q = record { off = off; has = q.has; cycle = c.begun + 1; nobody = q.nobody }
+
+    closing_nobody : (y : close.Closing) (p : CloseStage) → y.stage ≡ p → close.is_busy p ≡ true → IsClosing shapes l pacing may es c p → leading.Marks (Close y) ⊎ NobodyThen (Close y)
+    closing_nobody y close_stage.StorePhase at going h = inr (record { off = λ on. absurd (let no : false ≡ true = sym (ap close.is_marking at) ∙ on in cc); has = h.has; cycle = c.begun + 1; nobody = h.nobody })
+    closing_nobody y close_stage.Ended at going h = absurd h
+    closing_nobody y _ at going h = inl (ap close.is_marking at)
+
+    marks_or_nobody : (p : CoordStage) → IsGoing p → HoldsAt shapes l pacing may es c p → leading.Marks p ⊎ NobodyThen p
+    marks_or_nobody (Open o) going h = inr (record { off = λ x. x; has = h.0.has; cycle = c.begun; nobody = h.0.nobody })
+    marks_or_nobody (Watch w) going h = inl tt
+    marks_or_nobody (StopAgain st) going h = inl tt
+    marks_or_nobody (Check w) going h = inl tt
+    marks_or_nobody MarkOn going h = inl tt
+    marks_or_nobody (Close y) going h = closing_nobody y y.stage refl going h
+    marks_or_nobody (Sweep w) going s = inr (record { off = λ x. x; has = s.has; cycle = c.begun + 1; nobody = s.nobody })
+    marks_or_nobody (Count y) going h = inr (quiet_then (Count y) (λ x. x) h.quiet)
+    marks_or_nobody (Tell t) going h = inr (quiet_then (Tell t) (λ x. x) (told_quiet t.stage h))
+    marks_or_nobody (LoadAck i) going q = inr (quiet_then (LoadAck i) (λ x. x) q)
+    marks_or_nobody LoadWant going q = inr (quiet_then LoadWant (λ x. x) q)
+    marks_or_nobody (Stop st) going q = inr (quiet_then (Stop st) (λ x. x) q)
+    marks_or_nobody Done going h = inr (quiet_then Done (λ x. x) h.quiet)
+
+    -- where none is marked no buffer has an entry, and nobody holds one
+    all_empty : Led es c → HoldsAt shapes l pacing may es c c.stage → (leading.Marks c.stage → ⊥) → (b : ℕ) → words shapes l pacing may es (cell.Buffer b) ≡ 0
+    all_empty led h off b = elim (marks_or_nobody c.stage (goes_then shapes l pacing may es c led) h) [
+      | inl on ↦ absurd (off on)
+      | inr x ↦ sym (ap (λ (w : Words). w (cell.Buffer b)) x.has.of_list.words_are) ∙ x.nobody.buffers b
+    ]
+
+  -- An entry behind a list.
+  module _ (e : Entry Op) (es : List (Entry Op)) (legal : Lawful (e ∷ es)) (c : Coordinating) (led : Led es c) where
+    module _ (has : HasState shapes l pacing may es) where
+      idle : (m : Processor) → at es e.actor ≡ actor.Runs m → (o : Option Op) → Begins (those shapes l pacing may) e.actor es o → (p : Op) → o ≡ Some p → is_busy_at m.task ≡ false
+      idle m is None b p same = absurd (cc)
+      idle m is (Some o) b p same = sym (ap is_busy is) ∙ b.0
+
+      -- what a processor sweeps, before it begins an operation and then
+      sweeps_before : (m : Processor) → seats.RunsIt shapes l pacing may e es m → IsInSweep e.actor has.state (sweep_in m)
+      sweeps_before m x = subst (λ (y : Actor). IsInSweep e.actor has.state (sweep_of y)) x.is (has.sweeps e.actor legal.1.actor)
+
+      in_sweep : (m : Processor) → seats.RunsIt shapes l pacing may e es m → (o : Option Op) → ((p : Op) → o ≡ Some p → is_busy_at m.task ≡ false) → IsInSweep e.actor has.state (sweep_in (started kind o m))
+      in_sweep m x None rests = sweeps_before m x
+      in_sweep m x (Some o) rests =
+          let none = idle_sweeps_none m.task (rests o refl) in
+          subst (IsInSweep e.actor has.state) (sym (known.processors_sweep.begun shapes l m o none)) (subst (IsInSweep e.actor has.state) none (sweeps_before m x))
+
+      -- nobody marks with it where no cycle is marked
+      nobody_marks : (leading.Marks c.stage → ⊥) → ((a : ℕ) → a < l.procs → MarksNothing (processor_at shapes l pacing may es a)) → IsMarkingStep e.ask → ⊥
+      nobody_marks off calm = by (seats.step shapes l pacing may e es known.writes legal (lists.keeps es legal.0)) where
+        runs : (m : Processor) → seats.RunsIt shapes l pacing may e es m → (z : Option Sweeping) → sweep_in (started kind e.begun m) ≡ z → IsMarkingStep e.ask → ⊥
+        runs m x None none y =
+            let calm_there : MarksNothing m = subst MarksNothing (run_is shapes l pacing may es e.actor m x.seat x.is) (calm e.actor x.seat) in
+            let quiet = calm_now shapes l known e.begun m x.sound_it (idle m x.is e.begun legal.1.begins) calm_there in
+            calm_none (started kind e.begun m) none e.ask (subst (WritesOf (IsWrittenCalmly (started kind e.begun m))) (sym x.asked) (known.calm.writes (started kind e.begun m) quiet)) y
+        runs m x (Some sw) is y =
+            let busy = (subst (IsInSweep e.actor has.state) is (in_sweep m x e.begun (idle m x.is e.begun legal.1.begins))).1 in
+            span_none sw sw.stage (subst IsMarkingStep (x.asked ∙ (known.processors_sweep.on shapes (started kind e.begun m) sw is busy).asks_so) y)
+
+        works : (w : Working) → seats.WorksIt shapes l pacing may e es w → IsMarkingStep e.ask → ⊥
+        works w x y = elim (asks_by_sweep w w.stage) [
+          | inl none ↦ rest_none w.seat e.ask (subst (AcksAlone w.seat) (sym x.asked) (known.workers_calm.writes w x.sound_it (lists.rests es legal.0 c e.actor w led off x.is) none x.busy)) y
+          | inr s ↦ span_none s.0 s.0.stage (subst IsMarkingStep (x.asked ∙ s.1) y)
+        ]
+
+        by : seats.Step shapes l pacing may e es → IsMarkingStep e.ask → ⊥
+        by (seats.by_processor m x s) y = runs m x (sweep_in (started kind e.begun m)) refl y
+        by (seats.by_worker w x s) y = works w x y
+        by (seats.by_lead d x) y = lead_none d d.stage (subst IsMarkingStep x.asked y)
+
+    pub marks_in_cycle : HoldsAt shapes l pacing may es c c.stage → IsMarkingStep e.ask → leading.Marks c.stage
+    marks_in_cycle h y = elim (marks_or_nobody es c c.stage (goes_then shapes l pacing may es c led) h) [
+      | inl on ↦ on
+      | inr x ↦ absurd (nobody_marks x.has x.off x.nobody.processors y)
+    ]
+
+    -- in a stopped world
+    pub stands_there : IsStopped c → e.actor ≢ acks_of l → FindsTheStop shapes l pacing may e es c
+    stands_there stopped other =
+        let within : e.actor < acks_of l + 1 = legal.1.actor in
+        let below : e.actor < acks_of l = grind (arith, nat_tests, within, other) in
+        let x = (lists.steps e es legal).still (leading.lead_of c) stopped.0 (ap place_of led) stopped.1 below in
+        record { asks = x.0; found = x.1; place = x.2 }
+
+  -- A list.
+  module _ (es : List (Entry Op)) (legal : Lawful es) where
+    keeps : KeepsIt (those shapes l pacing may) es
+    keeps = lists.keeps es legal
+
+    runs_below : (a : ℕ) (m : Processor) → at es a ≡ actor.Runs m → a < acks_of l
+    runs_below a m is = let lt : a < l.procs = subst (IsSeated l a) is (seated shapes l pacing es a) in omega (arith, lt)
+
+    works_below : (a : ℕ) (w : Working) → at es a ≡ actor.Marks w → a < acks_of l
+    works_below a w is = seats.worker_seat shapes l pacing may es a w is
+
+    sound_at : (a : ℕ) (x : Actor) → a < acks_of l → at es a ≡ x → handshake.Sound l x
+    sound_at a x lt is = subst (handshake.Sound l) is (keeps.shakes.all_sound a (omega (arith, lt)))
+
+    empty : (a : ℕ) (m : Processor) (stops : ℕ) (stage : ResumeStage) → at es a ≡ actor.Runs m → stage_of m ≡ Resumes stops stage → StandsEmpty m
+    empty a m stops stage is y = stands_empty m stops stage y (sound_at a (actor.Runs m) (runs_below a m is) is).0.place
+
+    answered : HasState shapes l pacing may es → (a : ℕ) (m : Processor) (stops : ℕ) (stage : ResumeStage) → at es a ≡ actor.Runs m → stage_of m ≡ Resumes stops stage → answers_of z (opening_words pacing.trigger) a es ≡ given_of z (opening_words pacing.trigger) a es
+    answered has a m stops stage is y =
+        let lt : a < l.procs = subst (IsSeated l a) is (seated shapes l pacing es a) in
+        let x = has.of_list.processors a lt in
+        let polls : only_polls (processor_at shapes l pacing may es a).task ≡ true = subst (λ (p : Processor). only_polls p.task ≡ true) (sym (run_is shapes l pacing may es a m lt is)) (empty a m stops stage is y).waits in
+        let none = none_pending z a (view has.state.heap) (processor_at shapes l pacing may es a) x.pending (processor_at shapes l pacing may es a).task polls x.fine.task in
+        x.answers ∙ ap (λ (p : Option Answer). option_to_list p ++ given_of z (opening_words pacing.trigger) a es) none
+
+    phases_known : HasState shapes l pacing may es → PhasesAreKnown shapes l pacing may es
+    phases_known has = record {
+      processors = λ a m is. keeps.processors_know a m (runs_below a m is) is;
+      workers = λ a w is. keeps.workers_know a w (works_below a w is) is;
+      resuming = empty;
+      answered = answered has;
+      workers_resuming = λ a w stops stage is y. worker_empty w w.stage stops stage y (sound_at a (actor.Marks w) (works_below a w is) is);
+    }
+
+    marks_in_phase : (c : Coordinating) → Led es c → MarksInPhase shapes l pacing may es c
+    marks_in_phase c led = record {
+      processors = λ a m is. keeps.processors_mark c a m led (runs_below a m is) is;
+      workers = λ a w is. keeps.workers_mark c a w led (works_below a w is) is;
+      working = λ a w is. keeps.marking c a w led (works_below a w is) is;
+    }
+
+    stands_still : (c : Coordinating) → Led es c → IsStopped c → StandsStill shapes l pacing may es c
+    stands_still c led x = record {
+      processors = λ a m is. keeps.processors_wait c x.0 a m led x.1 (runs_below a m is) is;
+      workers = λ a w is. keeps.workers_wait c x.0 a w led x.1 (works_below a w is) is;
+    }
+
+    ends_in_order : (c : Coordinating) → Led es c → EndsInOrder shapes l pacing may es c
+    ends_in_order c led = record {
+      begins = keeps.processors_gone c led;
+      workers_leave = λ a w is. keeps.workers_leave a w (works_below a w is) is;
+    }
+
+  finished_on : (start es : List (Entry Op)) → Lawful es → IsStartOf start es → last_phase start ≡ Finished → last_phase es ≡ Finished
+  finished_on start [] legal of is = subst (λ (x : List (Entry Op)). last_phase x ≡ Finished) of is
+  finished_on start (e ∷ es) legal (inl of) is = subst (λ (x : List (Entry Op)). last_phase x ≡ Finished) of is
+  finished_on start (e ∷ es) legal (inr of) is = (lists.steps e es legal).finished (finished_on start es legal.0 of is)
+
+  pub phases_stand : ((es : List (Entry Op)) → Lawful es → HasState shapes l pacing may es) → ((es : List (Entry Op)) → Lawful es → (c : Coordinating) → Led es c → Holds shapes l pacing may es c) → (es : List (Entry Op)) → Lawful es → PhasesStand shapes l pacing may es
+  phases_stand has holds es legal = record {
+    known = phases_known es legal (has es legal);
+    marking = marks_in_phase es legal;
+    stopped = stands_still es legal;
+    last = ends_in_order es legal;
+    buffers = λ c led off. all_empty es c led (holds es legal c led).at off;
+    marks = λ e before c of led. marks_in_cycle e before (start e before of) c led (holds before (start e before of).0 c led).at;
+    still = λ e before c of led. stands_there e before (start e before of) c led;
+    finished = λ earlier of. finished_on earlier es legal of;
+  } where
+    start : (e : Entry Op) (before : List (Entry Op)) → IsStartOf (e ∷ before) es → Lawful (e ∷ before)
+    start e before of = legal_start (those shapes l pacing may) (e ∷ before) es of legal

@@ -1,0 +1,224 @@
+-- A stack is scanned at most once in a cycle. Only a processor writes the number of a cycle into a stack's word, that of the cycle which has begun last, where it has noted another number of the stack; and its notes are the words. From a scan on the word is this number, that of an end, or a later one: so a second scan in the cycle would find it.
+use Rattle.std.proofs.Common.{◌≡◌, ◌≢◌, ◌⊎◌, inl, inr, ℕ, suc, ◌%◌, ◌<◌, ◌≤◌, Bool, true, cond, refl, sym, ap, subst, ◌∙◌, arith, List, [], ◌∷◌, slice_index, Option, Some, None, eq-eqb}
+use Rattle.gh_base.specs.declared.cell.Cell.TheVariants as cell
+use Rattle.gh_base.specs.Orders.{before_step}
+use Rattle.gh_coord.specs.Handshake as leading
+use Rattle.gh_coord.specs.Listing as coord
+use Rattle.gh_mutator_heap.specs.PollHeap.{Sits}
+use Rattle.gh_mutator_writes.specs.Writing.{EndsStack, StaysThere}
+use Rattle.gh_sweep.specs.declared.sweep.SweepStage.TheVariants as sweep_stage
+use Rattle.gh_sweep.specs.Listing as sweep
+use Rattle.gh_sweep.specs.Listing.{Sweeping}
+use Rattle.gh_worker.specs.Listing as worker
+use Rattle.gh_lists.specs.Marking.{IsStartOf}
+use Rattle.gh_law.specs.Scans.{ScansIn, ScansOnce}
+use Rattle.gh_law.proofs.Vocabulary.{acts, Arena, arena, Ask, asks, Coordinating, deeds, effect, END, Entry, Ever, ever, HasState, Heap, IsAsItShould, IsAwake, IsLed, IsWritten, Kind, Layout, Legal, nat_tests, Op, Pacing, Party, party_of, Processor, processor_at, processor_kind, Shape, stage_of, started, Store, SweepStage, takes, TellsScan, those, view, Words, words, WritesItsOwn, WritesOf}
+use Rattle.gh_phase.specs.declared.view.View.{View}
+use Rattle.gh_holds.specs.Endings.{acted_stays}
+use Rattle.gh_holds.specs.Known.{Known, ListsKnown}
+use Rattle.gh_lists.specs.Resting.{run_is}
+use Rattle.gh_lists.specs.Starts.{legal_start}
+use Rattle.gh_lists.specs.Sweeping.{asks_by_sweep}
+use Rattle.gh_lists.specs.Steps as seats
+use Rattle.gh_lists.specs.Awake.{knows_begun, was_awake}
+use Rattle.gh_lists.specs.Aside.{aside as lead_aside}
+use Rattle.gh_lists.specs.Writing.{awake_at, knows_at}
+
+module _ (shapes : List Shape) (l : Layout) (pacing : Pacing) (may : ℕ → List (Entry Op) → Op → Bool) (known : Known) (lists : ListsKnown shapes l pacing may) (has : (es : List (Entry Op)) → Legal (those shapes l pacing may) es → HasState shapes l pacing may es) where
+  abbrev kind : Kind Processor Op
+  kind = processor_kind shapes l
+
+  abbrev z : Arena
+  z = arena shapes l pacing may
+
+  abbrev Lawful : List (Entry Op) → Type 0
+  Lawful es = Legal (those shapes l pacing may) es
+
+  abbrev told : List (Entry Op) → Words
+  told es = words shapes l pacing may es
+
+  abbrev Led : List (Entry Op) → Coordinating → Type 0
+  Led es c = IsLed shapes l pacing may es c
+
+  ended_on : (e : Entry Op) (es : List (Entry Op)) (g : ℕ) → (ever shapes l pacing may es).ended g ≡ true → (ever shapes l pacing may (e ∷ es)).ended g ≡ true
+  ended_on e es g is = ap (λ (x : Ever). x.ended g) ((known.points shapes l).follows es e) ∙ acted_stays shapes (before_step kind (deeds shapes) es e) e.found (ever shapes l pacing may es) g (acts (before_step kind (deeds shapes) es e) e.found) is
+
+  -- a stack whose goroutine has ended says so still
+  over_on : (e : Entry Op) (es : List (Entry Op)) (g : ℕ) → Lawful (e ∷ es) → told es (cell.Scanned g) ≡ END → told (e ∷ es) (cell.Scanned g) ≡ END
+  over_on e es g legal is =
+      let here = (has es legal.0).of_list in
+      let then = (has (e ∷ es) legal).of_list in
+      let over = (here.stacks g).0 (ap (λ (w : Words). w (cell.Scanned g)) here.words_are ∙ is) in
+      let over_then = ended_on e es g (ap (λ (x : Ever). x.ended g) (sym here.ever_is) ∙ over) in
+      sym (ap (λ (w : Words). w (cell.Scanned g)) then.words_are) ∙ (then.stacks g).1 (ap (λ (x : Ever). x.ended g) then.ever_is ∙ over_then)
+
+  -- An entry that scans a stack.
+  module _ (e : Entry Op) (es : List (Entry Op)) (legal : Lawful (e ∷ es)) (k g : ℕ) (scans : ScansIn k g e) where
+    -- it is a processor's, which tells of the scan
+    record IsByProcessor : Type 0 where
+      m : Processor
+      runs : seats.RunsIt shapes l pacing may e es m
+      tells : TellsScan (started kind e.begun m) g
+
+    -- no worker writes the word, nor does a sweep, and the coordinator leaves it, whatever the words are
+    sweeps_no_stack : (sw : Sweeping) (p : SweepStage) → sweep.asks_at sw p ≡ Store (cell.Scanned g) k → ⊥
+    sweeps_no_stack sw (sweep_stage.ClearMarks i) is = cc
+    sweeps_no_stack sw sweep_stage.Finish is = cc
+    sweeps_no_stack sw _ is = cc
+
+    no_worker : (w : worker.Working) → seats.WorksIt shapes l pacing may e es w → ⊥
+    no_worker w x = elim (asks_by_sweep w w.stage) [
+      | inl none ↦ subst (λ (q : Ask). WritesItsOwn w.seat q) (sym x.asked ∙ scans.0) (known.workers_write w x.sound_it none x.busy)
+      | inr y ↦ sweeps_no_stack y.0 y.0.stage (sym y.1 ∙ (sym x.asked ∙ scans.0))
+    ]
+
+    abbrev others : Words
+    others c = suc k
+
+    no_lead : (c : coord.Coordinating) → seats.LeadsIt shapes l pacing may e es c → ⊥
+    no_lead c x =
+        let left : effect others (Store (cell.Scanned g) k) (cell.Scanned g) ≡ suc k = subst (λ (q : Ask). effect others q (cell.Scanned g) ≡ suc k) (sym x.asked ∙ scans.0) ((lead_aside others c c.stage x.sound_it.1).scanned g) in
+        let stored : effect others (Store (cell.Scanned g) k) (cell.Scanned g) ≡ k = ap (λ (b : Bool). cond b k (suc k)) (eq-eqb g g refl) in
+        let no : k ≡ suc k = sym stored ∙ left in
+        absurd (omega (arith, no))
+
+    by_processor : IsByProcessor
+    by_processor = by (seats.step shapes l pacing may e es known.writes legal (lists.keeps es legal.0)) where
+      tells : (m : Processor) → seats.RunsIt shapes l pacing may e es m → EndsStack (started kind e.begun m) g ⊎ TellsScan (started kind e.begun m) g → TellsScan (started kind e.begun m) g
+      tells m x (inl ends) = absurd (scans.1 (let same : Store (cell.Scanned g) k ≡ Store (cell.Scanned g) END = sym scans.0 ∙ (x.asked ∙ ends.tells) in cc))
+      tells m x (inr y) = y
+
+      by : seats.Step shapes l pacing may e es → IsByProcessor
+      by (seats.by_processor m x s) = record { m = m; runs = x; tells = tells m x (subst (WritesOf (IsWritten (started kind e.begun m))) (sym x.asked ∙ scans.0) (known.writes.writes (started kind e.begun m) x.sound_then)) }
+      by (seats.by_worker w x s) = absurd (no_worker w x)
+      by (seats.by_lead c x) = absurd (no_lead c x)
+
+    abbrev m : Processor
+    m = by_processor.m
+
+    abbrev now : Processor
+    now = started kind e.begun by_processor.m
+
+    abbrev runs : seats.RunsIt shapes l pacing may e es by_processor.m
+    runs = by_processor.runs
+
+    abbrev tells : TellsScan (started kind e.begun by_processor.m) g
+    tells = by_processor.tells
+
+    asked : asks now ≡ Store (cell.Scanned g) k
+    asked = sym runs.asked ∙ scans.0
+
+    number : k ≡ now.poll.local.view.begun
+    number = let same : Store (cell.Scanned g) k ≡ Store (cell.Scanned g) now.poll.local.view.begun = sym asked ∙ tells.tells in cc
+
+    -- it is awake, and knows the cycle that has begun last, and that it is marked
+    awake : IsAwake (stage_of now)
+    awake = awake_at 0 (party_of now) (stage_of now) (asks now) (party_of (takes shapes now 0)) (stage_of (takes shapes now 0)) g k asked (known.places.takes_so shapes now 0 runs.sound_then.place runs.busy)
+
+    view_is : (party_of now).view ≡ now.poll.local.view
+    view_is = knows_at now g k now.task (sym asked)
+
+    pub of_last : told es cell.Begun ≡ k
+    of_last = sym (number ∙ (ap (λ (v : View). v.begun) (sym view_is) ∙ knows_begun shapes l pacing may known.places known.writes lists.keeps e.actor m e.begun es legal.0 runs.seat runs.is runs.sound_it legal.1.begins awake))
+
+    was : (party_of now ≡ party_of m) × IsAwake (stage_of m)
+    was = was_awake shapes l pacing may known.places known.writes lists.keeps e.actor m e.begun es runs.is runs.sound_it legal.1.begins awake
+
+    pub is_marked : (c : Coordinating) → Led es c → leading.Marks c.stage
+    is_marked c led = ((lists.keeps es legal.0).processors_mark c e.actor m led (omega (arith, runs.seat)) runs.is was.1).0
+        (ap (λ (p : Party). p.view.phase) (sym was.0) ∙ (ap (λ (v : View). v.phase) view_is ∙ tells.marking))
+
+    -- The goroutine is its own, of which it has noted another number.
+
+    abbrev h : Heap
+    h = (has es legal.0).state.heap
+
+    same : processor_at shapes l pacing may es e.actor ≡ m
+    same = run_is shapes l pacing may es e.actor m runs.seat runs.is
+
+    it_is : IsAsItShould shapes l pacing may es h e.actor (processor_at shapes l pacing may es e.actor)
+    it_is = (has es legal.0).of_list.processors e.actor runs.seat
+
+    sits : Sits z e.actor m.poll
+    sits = subst (λ (p : Processor). Sits z e.actor p.poll) same (known.runs.stands z e.actor (view h) (processor_at shapes l pacing may es e.actor) it_is.pending it_is.fine).sits
+
+    there : (o : Option Op) → StaysThere m (started kind o m)
+    there None = record { layout = refl; seat = refl }
+    there (Some o) = known.writes.begins_there shapes l m o runs.sound_it
+
+    notes_stay : (o : Option Op) → (started kind o m).poll.local.scanned ≡ m.poll.local.scanned
+    notes_stay None = refl
+    notes_stay (Some o) = known.notes.begins shapes l m o runs.sound_it
+
+    layout_is : now.poll.layout ≡ l
+    layout_is = (there e.begun).layout ∙ sits.layout
+
+    pub by_its_own : g % l.procs ≡ e.actor
+    by_its_own = ap (λ (y : Layout). g % y.procs) (sym layout_is) ∙ (tells.own ∙ ((there e.begun).seat ∙ sits.seat))
+
+    is_there : g < l.goroutines
+    is_there = subst (λ (y : Layout). g < y.goroutines) layout_is tells.there
+
+    note : slice_index now.poll.local.scanned g ≡ told es (cell.Scanned g)
+    note = ap (λ (xs : List ℕ). slice_index xs g) (notes_stay e.begun ∙ ap (λ (p : Processor). p.poll.local.scanned) (sym same)) ∙ (it_is.notes g (is_there, by_its_own) ∙ ap (λ (w : Words). w (cell.Scanned g)) (has es legal.0).of_list.words_are)
+
+    other_noted : told es (cell.Scanned g) ≢ k
+    other_noted is = tells.unscanned (λ x. scans.1 (number ∙ x)) (note ∙ (is ∙ number))
+
+    pub then_is : told (e ∷ es) (cell.Scanned g) ≡ k
+    then_is = ap (λ (q : Ask). effect (told es) q (cell.Scanned g)) scans.0 ∙ ap (λ (b : Bool). cond b k (told es (cell.Scanned g))) (eq-eqb g g refl)
+
+    not_over : told es (cell.Scanned g) ≢ END
+    not_over is = scans.1 (sym then_is ∙ over_on e es g legal is)
+
+    -- so before it the stack was scanned in a cycle before, if at all
+    pub scanned_before : told es (cell.Scanned g) < k
+    scanned_before = elim (lists.numbers es legal.0 g) [
+      | inl over ↦ absurd (not_over over)
+      | inr below ↦ (let last = of_last in let other = other_noted in grind (arith, nat_tests, last, below, other))
+    ]
+
+  -- From a scan on no cycle before it has begun last, and the word is the number of an end, or none before that of the scan.
+  record IsSince (k g : ℕ) (es : List (Entry Op)) : Type 0 where
+    begun : k ≤ told es cell.Begun
+    word : (told es (cell.Scanned g) ≡ END) ⊎ (k ≤ told es (cell.Scanned g))
+
+  module _ (e : Entry Op) (es : List (Entry Op)) (legal : Lawful (e ∷ es)) where
+    rises : told es cell.Begun ≤ told (e ∷ es) cell.Begun
+    rises = (lists.rises e es legal).begun
+
+    since_on : (k g : ℕ) → IsSince k g es → IsSince k g (e ∷ es)
+    since_on k g x = record {
+      begun = let up = rises in let b = x.begun in omega (arith, up, b);
+      word = elim (lists.stacks e es legal g) [
+        | inl same ↦ elim x.word [ inl y ↦ inl (same ∙ y) | inr y ↦ inr (omega (arith, same, y)) ]
+        | inr wrote ↦ elim wrote [ inl y ↦ inl y | inr y ↦ inr (let b = x.begun in omega (arith, y, b)) ]
+      ];
+    }
+
+    at_scan : (k g : ℕ) → ScansIn k g e → IsSince k g (e ∷ es)
+    at_scan k g scans = record {
+      begun = let up = rises in let last = of_last e es legal k g scans in omega (arith, up, last);
+      word = inr (let is = then_is e es legal k g scans in omega (arith, is));
+    }
+
+  since : (f : Entry Op) (earlier es : List (Entry Op)) (k g : ℕ) → ScansIn k g f → Lawful es → IsStartOf (f ∷ earlier) es → IsSince k g es
+  since f earlier [] k g scans legal of = absurd (cc)
+  since f earlier (e ∷ es) k g scans legal (inl of) = subst (IsSince k g) of (at_scan f earlier (subst Lawful (sym of) legal) k g scans)
+  since f earlier (e ∷ es) k g scans legal (inr of) = since_on e es legal k g (since f earlier es k g scans legal.0 of)
+
+  pub scans_once : (es : List (Entry Op)) → Lawful es → ScansOnce shapes l pacing may es
+  scans_once es legal = record {
+    of_cycle = λ e before k g of scans. of_last e before (at e before of) k g scans;
+    marked = λ e before k g of scans c led. is_marked e before (at e before of) k g scans c led;
+    its_own = λ e before k g of scans. sym (by_its_own e before (at e before of) k g scans);
+    once = λ e f before earlier k g of earlier_of scans scanned. twice e f before earlier k g (at e before of) earlier_of scans scanned;
+  } where
+    at : (e : Entry Op) (before : List (Entry Op)) → IsStartOf (e ∷ before) es → Lawful (e ∷ before)
+    at e before of = legal_start (those shapes l pacing may) (e ∷ before) es of legal
+
+    twice : (e f : Entry Op) (before earlier : List (Entry Op)) (k g : ℕ) → Lawful (e ∷ before) → IsStartOf (f ∷ earlier) before → ScansIn k g e → ScansIn k g f → ⊥
+    twice e f before earlier k g lawful of scans scanned = elim (since f earlier before k g scanned lawful.0 of).word [
+      | inl over ↦ not_over e before lawful k g scans over
+      | inr from ↦ (let below = scanned_before e before lawful k g scans in omega (arith, from, below))
+    ]

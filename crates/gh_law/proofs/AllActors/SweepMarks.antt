@@ -1,0 +1,301 @@
+-- What the one state says of the numbers of spans, and of marks while no cycle is marked: of each word of bits it says whether a sweep has cut it and cleared its marks.
+use Rattle.std.proofs.Common.{◌≡◌, ◌⊎◌, inl, inr, ℕ, ◌+◌, ◌-◌, ◌*◌, ◌/◌, ◌<◌, ◌≤◌, ◌==◌, Bool, true, false, cond, ltb, refl, sym, ap, subst, ◌∙◌, arith, List, [], ◌∷◌, Option, Some, None}
+use Rattle.std.proofs.lemmas.Bool.Decides.{nat_tests}
+use Rattle.std.proofs.lemmas.Nat.Bits.{bit_at-zero}
+use Rattle.std.specs.Int.{bit_at}
+use Rattle.gh_base.specs.declared.cell.Cell.TheVariants as cell
+use Rattle.gh_base.specs.declared.pack.SpanHead.{SpanHead}
+use Rattle.gh_heap.specs.Spans.{owner_in}
+use Rattle.gh_sweep.specs.declared.sweep.SweepStage.TheVariants as sweep_stage
+use Rattle.gh_sweep.specs.Listing.{bit_words, Sweeping}
+use Rattle.gh_sweep.specs.Moves.{Sweeps}
+use Rattle.gh_sweep.specs.Shared.{By, Done, Far, InSpan, IsNumbered, SaysFar, Unswept}
+use Rattle.gh_sweep.specs.Shared as sweep
+use Rattle.gh_sweep.specs.Sound.{reached}
+use Rattle.gh_sweep.specs.Sweepers.{has_span, HasReached, marks_cleared}
+use Rattle.gh_state.specs.Shared.{marks_in, sweep_over, Told, sweep_of as spans_of}
+use Rattle.gh_coord.specs.declared.close.CloseStage.TheVariants as closing
+use Rattle.gh_coord.specs.Closing as closes_by
+use Rattle.gh_coord.specs.declared.tell.TellStage.TheVariants as telling
+use Rattle.gh_coord.specs.declared.coord.CoordStage.TheVariants as coord_at
+use Rattle.gh_coord.specs.Handshake as leading
+use Rattle.gh_coord.specs.Listing as coord
+use Rattle.gh_worker.specs.Listing as worker
+use Rattle.gh_mutator.specs.declared.new.NewStage.TheVariants as new_stage
+use Rattle.gh_mutator.specs.declared.task.Task.TheVariants as task
+use Rattle.gh_mutator_heap.specs.Facts.{KnowsAt, KnowsNew}
+use Rattle.gh_mutator_heap.specs.PollHeap.{Rests}
+use Rattle.gh_lists.specs.declared.handshake.Actor.TheVariants as actor
+use Rattle.gh_law.specs.SweepMarks.{AllAreSwept, CachedAreSwept, IsRunning, IsUncut, MarksAreLeft, OwnedAreSwept, SaysHowFar, SpansAreNumbered, SweepsStand}
+use Rattle.gh_holds.specs.Below.{IsUnderWay, IsMarking, IsInSweep, sweep_of}
+use Rattle.gh_law.proofs.Vocabulary.{generation_of as generation_at, marks_at, Runs, View, ◌%◌, acks_of, Actor, actors_after, alloc_words, Arena, arena, Check, Close, CloseStage, Coordinating, CoordStage, Count, CycleEnd, Entry, Ever, ever, HasState, Head, HoldsAt, IsBeginning, IsClosing, IsInLimits, IsLed, IsTelling, Layout, Legal, mark_words, MarkOn, Name, new_polls, NewStage, Op, Open, opening_processor, Pacing, page_of, PageWord, page_words, Polling, processor_at, Reach, Row, row_bit, seats_of, Shape, State, StopAgain, Sweep, SweepStage, Task, Tell, TellStage, those, view, Watch, Words, words}
+use Rattle.gh_lists.specs.Going.{goes_then, IsGoing}
+use Rattle.gh_holds.specs.Known.{Known}
+use Rattle.gh_holds.specs.HasAt.{has_at}
+use Rattle.gh_lists.specs.Seats.{other}
+use Rattle.gh_holds.specs.Standing.{once}
+
+-- bits of two rows are the same where their words are
+same_bit : (row other : Row) (x : ℕ) → row (x / 64) ≡ other (x / 64) → row_bit row x ≡ row_bit other x
+unfolding row_bit
+same_bit row other x is = ap (λ (v : ℕ). bit_at v (x % 64)) is
+
+no_bit : (row : Row) (x : ℕ) → row (x / 64) ≡ 0 → row_bit row x ≡ 1 → ⊥
+unfolding row_bit
+no_bit row x is set = let same : 0 ≡ 1 = sym (bit_at-zero (x % 64)) ∙ (sym (ap (λ (v : ℕ). bit_at v (x % 64)) is) ∙ set) in absurd (omega (arith, same))
+
+-- What a head's number says of how far its span is.
+
+how_far : (generation : ℕ) (h : SpanHead) (f : Far) → IsNumbered generation h f → SaysHowFar generation h
+how_far generation h Unswept is = inr (is.1, inl is.0)
+how_far generation h (By a) is = inr (is.1, inr is.0)
+how_far generation h Done is = inl is
+
+unswept_is : (generation : ℕ) (h : SpanHead) (f : Far) → IsNumbered generation h f → h.number + 2 ≡ generation → f ≡ Unswept
+unswept_is generation h Unswept is number = refl
+unswept_is generation h (By a) is number = let other = is.0 in absurd (omega (arith, number, other))
+unswept_is generation h Done is number = absurd (omega (arith, number, is))
+
+done_is : (generation : ℕ) (h : SpanHead) (f : Far) → IsNumbered generation h f → h.number ≡ generation → f ≡ Done
+done_is generation h Unswept is number = let other = is.0 in absurd (omega (arith, number, other))
+done_is generation h (By a) is number = let other = is.0 in absurd (omega (arith, number, other))
+done_is generation h Done is number = refl
+
+number_is : (generation : ℕ) (h : SpanHead) (f : Far) → IsNumbered generation h f → f ≡ Done → h.number ≡ generation
+number_is generation h f is done = subst (IsNumbered generation h) done is
+
+-- How far the sweep of a span is.
+sweeps_so : (a : ℕ) (s : sweep.Shared) (m : Sweeping) (p : SweepStage) → has_span p ≡ true → HasReached a s m p → Sweeps a m.page m.head (reached m.head p) (marks_cleared m.head p) s
+sweeps_so a s m sweep_stage.Begin own is = absurd (cc)
+sweeps_so a s m (sweep_stage.LoadMarks i) own is = is
+sweeps_so a s m (sweep_stage.Ended end) own is = absurd (cc)
+sweeps_so a s m _ own is = is
+
+-- A processor that runs knows what it has cached.
+new_rests : (z : Arena) (a : ℕ) (v : View) (p : Polling) (t : Task) → IsRunning t → KnowsAt z a v p t → Rests z a v p
+new_rests z a v p task.Left run is = absurd (run.there refl)
+new_rests z a v p (task.New x) run is = by_stage x.stage run.runs is where
+  by_stage : (q : NewStage) → new_polls q ≡ false → KnowsNew z a v p q → Rests z a v p
+  by_stage (new_stage.Wait w) polls y = absurd (cc)
+  by_stage (new_stage.Search waited y) polls k = k
+  by_stage (new_stage.Place y) polls k = k
+  by_stage (new_stage.Want n) polls k = k
+  by_stage (new_stage.Assist n y) polls k = k
+new_rests z a v p (task.Gc g x) run is = absurd (let no = run.runs in cc)
+new_rests z a v p task.Poll run is = absurd (let no = run.runs in cc)
+new_rests z a v p (task.Leave x) run is = absurd (let no = run.runs in cc)
+new_rests z a v p _ run is = is
+
+module _ (shapes : List Shape) (l : Layout) (pacing : Pacing) (may : ℕ → List (Entry Op) → Op → Bool) (es : List (Entry Op)) (has : HasState shapes l pacing may es) where
+  abbrev s : State
+  s = has.state
+
+  -- who sweeps, at each seat
+  abbrev pub sweeps : ℕ → Option Sweeping
+  sweeps who = sweep_of (actors_after (arena shapes l pacing may) pacing may es who)
+
+  abbrev e : CycleEnd
+  e = has.state.end
+
+  abbrev now : Words
+  now = has.state.heap.words
+
+  abbrev good : sweep.Good has.state.end (sweep.view (spans_of has.state))
+  good = has.good.sweep
+
+  told_are : now ≡ words shapes l pacing may es
+  told_are = has.of_list.words_are
+
+  generation : now cell.Gen ≡ generation_at e
+  generation = good.generation
+
+  number_at : (p : ℕ) (h : SpanHead) → page_of (now (cell.Page p)) ≡ Head h → IsNumbered (now cell.Gen) h (s.far p)
+  number_at p h is = subst (λ (n : ℕ). IsNumbered n h (s.far p)) (sym generation) (subst (λ (x : PageWord). SaysFar (generation_at e) x (s.far p)) is (good.numbers p))
+
+  numbers_now : SpansAreNumbered now
+  numbers_now p h is = how_far (now cell.Gen) h (s.far p) (number_at p h is)
+
+  owned_now : OwnedAreSwept now
+  owned_now p h is owned = (has.good.heap.numbers p h is).owned owned
+
+  swept_now : ((p : ℕ) → s.far p ≡ Done) → AllAreSwept now
+  swept_now far p h is = number_is (now cell.Gen) h (s.far p) (number_at p h is) (far p)
+
+  pub spans_numbered : SpansAreNumbered (words shapes l pacing may es)
+  spans_numbered = subst SpansAreNumbered told_are numbers_now
+
+  pub owned_swept : OwnedAreSwept (words shapes l pacing may es)
+  owned_swept = subst OwnedAreSwept told_are owned_now
+
+  pub all_swept : ((p : ℕ) → s.far p ≡ Done) → AllAreSwept (words shapes l pacing may es)
+  all_swept far = subst AllAreSwept told_are (swept_now far)
+
+  -- what a processor has cached
+  pub cached_swept : (a : ℕ) → a < l.procs → CachedAreSwept (words shapes l pacing may es) a (processor_at shapes l pacing may es a)
+  cached_swept a lt = subst (λ (w : Words). CachedAreSwept w a (processor_at shapes l pacing may es a)) told_are go where
+    go : CachedAreSwept now a (processor_at shapes l pacing may es a)
+    go run c k few is =
+        let rests = new_rests (arena shapes l pacing may) a (view s.heap) (processor_at shapes l pacing may es a).poll (processor_at shapes l pacing may es a).task run (has.of_list.processors a lt).fine.knows in
+        let held = (rests.knows.caches c k few is).span in
+        let owner : held.h.owner ≡ a + 1 = ap owner_in (sym held.head) ∙ (has.good.heap.owners a k.head).1 held.held in
+        record { h = held.h; head = held.head; owner = owner; swept = owned_now k.head held.h held.head (λ none. let no : 0 ≡ a + 1 = sym none ∙ owner in absurd (omega (arith, no))) }
+
+  -- While the marks are a sweep's.
+  module _ (over : s.told ≡ None) where
+    mark_is : (i : ℕ) → now (cell.Mark i) ≡ cond (s.clear i) 0 (marks_at e i)
+    mark_is i = ap (λ (t : Option Told). marks_in t (now (cell.Mark i))) (sym over) ∙ good.marks i
+
+    clear_mark : (i : ℕ) → s.clear i ≡ true → now (cell.Mark i) ≡ 0
+    clear_mark i is = mark_is i ∙ ap (λ (b : Bool). cond b 0 (marks_at e i)) is
+
+    kept_mark : (i : ℕ) → s.clear i ≡ false → now (cell.Mark i) ≡ marks_at e i
+    kept_mark i is = mark_is i ∙ ap (λ (b : Bool). cond b 0 (marks_at e i)) is
+
+    cleared : (i : ℕ) → ((x : InSpan (page_words now) i) → x.h.number ≡ now cell.Gen) → now (cell.Mark i) ≡ 0
+    cleared i swept = go (s.clear i) refl where
+      go : (b : Bool) → s.clear i ≡ b → now (cell.Mark i) ≡ 0
+      go true is = clear_mark i is
+      go false is = let left = good.unswept i is in absurd (left.unswept (done_is (now cell.Gen) left.span.h (s.far left.span.p) (number_at left.span.p left.span.h left.span.head) (swept left.span)))
+
+    -- an object that is reached in a word that is not cut is marked
+    in_uncut : (n : Name) (a : ℕ) → (a ≡ s.heap.place n) → Reach s.heap.ever n → s.cut (a / 64) ≡ false → row_bit (mark_words now) a ≡ 1
+    in_uncut n a here reach uncut = go (s.clear (a / 64)) refl where
+      go : (b : Bool) → s.clear (a / 64) ≡ b → row_bit (mark_words now) a ≡ 1
+      go true is = absurd (let cut = good.order (a / 64) is in let no : true ≡ false = sym cut ∙ uncut in cc)
+      go false is = same_bit (mark_words now) (marks_at e) a (kept_mark (a / 64) is) ∙ subst (λ (x : ℕ). row_bit (marks_at e) x ≡ 1) (sym here) (has.good.reached n reach (subst (λ (x : ℕ). s.cut (x / 64) ≡ false) here uncut))
+
+    in_unswept : (n : Name) (a : ℕ) → (a ≡ s.heap.place n) → Reach s.heap.ever n → (x : InSpan (page_words now) (a / 64)) → x.h.number + 2 ≡ now cell.Gen → row_bit (mark_words now) a ≡ 1
+    in_unswept n a here reach x number = in_uncut n a here reach (good.untouched (a / 64) x (unswept_is (now cell.Gen) x.h (s.far x.p) (number_at x.p x.h x.head) number)).0
+
+    stand : (x : ℕ) → row_bit (mark_words now) x ≡ 1 → row_bit (alloc_words now) x ≡ 1
+    stand x set = go (s.clear (x / 64)) refl where
+      go : (b : Bool) → s.clear (x / 64) ≡ b → row_bit (alloc_words now) x ≡ 1
+      go true is = absurd (no_bit (mark_words now) x (clear_mark (x / 64) is) set)
+      go false is = good.stand x (sym (same_bit (mark_words now) (marks_at e) x (kept_mark (x / 64) is)) ∙ set)
+
+    module _ (limits : IsInLimits l) (known : Known) (runs : (who : ℕ) (m : Sweeping) → sweeps who ≡ Some m → Runs who s m) where
+      -- a sweep has not cut the words that it has not reached
+      uncut : (who i : ℕ) (m : Sweeping) → sweeps who ≡ Some m → IsUncut m i → s.cut i ≡ false
+      uncut who i m is u =
+          let x = sweeps_so who (sweep_over s s.heap.words) m m.stage u.begun (runs who m is).fine.is_at in
+          let from = u.from in let below = u.below in
+          let there : i ≡ 16 * m.page + (i - 16 * m.page) = omega (arith, from) in
+          let within : i - 16 * m.page < bit_words m.head = omega (arith, from, below) in
+          let behind : reached m.head m.stage ≤ i - 16 * m.page = omega (arith, from) in
+          ap s.cut there ∙ (x.are_cut (i - 16 * m.page) within ∙ grind (arith, nat_tests, behind))
+
+      left_now : MarksAreLeft now s.heap.ever sweeps
+      left_now = record {
+        cleared = cleared;
+        unswept = λ n a reach at x number. in_unswept n a (once shapes l pacing may limits known es has n a reach at) reach x number;
+        uncut = λ n a who m reach at is in_it. in_uncut n a (once shapes l pacing may limits known es has n a reach at) reach (uncut who (a / 64) m is in_it);
+        stand = stand;
+      }
+
+      pub marks_left : MarksAreLeft (words shapes l pacing may es) (ever shapes l pacing may es) sweeps
+      marks_left = subst (λ (x : Ever). MarksAreLeft (words shapes l pacing may es) x sweeps) has.of_list.ever_is (subst (λ (w : Words). MarksAreLeft w s.heap.ever sweeps) told_are left_now)
+
+  -- While a cycle is opened no mark is set, each span is swept, and nobody sweeps.
+  module _ (far : (p : ℕ) → s.far p ≡ Done) (none : (i : ℕ) → now (cell.Mark i) ≡ 0) (nobody : (who : ℕ) → sweeps who ≡ None) where
+    none_left : MarksAreLeft now s.heap.ever sweeps
+    none_left = record {
+      cleared = λ i swept. none i;
+      unswept = λ n a reach at x number. let swept = number_is (now cell.Gen) x.h (s.far x.p) (number_at x.p x.h x.head) (far x.p) in absurd (omega (arith, swept, number));
+      uncut = λ n a who m reach at is in_it. absurd (let no : None ≡ Some m = sym (nobody who) ∙ is in cc);
+      stand = λ x set. absurd (no_bit (mark_words now) x (none (x / 64)) set);
+    }
+
+    pub no_marks_left : MarksAreLeft (words shapes l pacing may es) (ever shapes l pacing may es) sweeps
+    no_marks_left = subst (λ (x : Ever). MarksAreLeft (words shapes l pacing may es) x sweeps) has.of_list.ever_is (subst (λ (w : Words). MarksAreLeft w s.heap.ever sweeps) told_are none_left)
+
+-- At a seat that is none nobody steps, so nobody sweeps.
+module _ (shapes : List Shape) (l : Layout) (pacing : Pacing) (may : ℕ → List (Entry Op) → Op → Bool) (known : Known) where
+  none_first : (who : ℕ) → sweep_of (actors_after (arena shapes l pacing may) pacing may [] who) ≡ None
+  none_first who = go (ltb who l.procs) (ltb who (acks_of l)) where
+    go : (b d : Bool) → sweep_of (cond b (actor.Runs (opening_processor l who)) (cond d (actor.Marks (worker.opening l who)) (actor.Leads (coord.opening l who pacing.gogc pacing.minheap pacing.room)))) ≡ None
+    go true d = known.processors_sweep.at_first l who
+    go false true = known.workers_sweep.at_first l who
+    go false false = known.coordinator_sweeps.at_first l who pacing.gogc pacing.minheap pacing.room
+
+  none_beyond : (es : List (Entry Op)) → Legal (those shapes l pacing may) es → (who : ℕ) → seats_of l ≤ who → sweep_of (actors_after (arena shapes l pacing may) pacing may es who) ≡ None
+  none_beyond [] legal who from = none_first who
+  none_beyond (e ∷ es) legal who from = ap sweep_of (other shapes l pacing e es who (apart (e.actor == who) refl)) ∙ none_beyond es legal.0 who from where
+    apart : (b : Bool) → (e.actor == who) ≡ b → (e.actor == who) ≡ false
+    apart false x = x
+    apart true x = absurd (let same : e.actor ≡ who = grind (arith, nat_tests) in let lt : e.actor < seats_of l = legal.1.actor in omega (arith, same, lt, from))
+
+-- By the coordinator's stage.
+module _ (shapes : List Shape) (l : Layout) (pacing : Pacing) (may : ℕ → List (Entry Op) → Op → Bool) (limits : IsInLimits l) (known : Known) (es : List (Entry Op)) (c : Coordinating) where
+  abbrev at : List (Entry Op) → ℕ → Actor
+  at xs who = actors_after (arena shapes l pacing may) pacing may xs who
+
+  -- each span is swept while a cycle is opened and marked
+  far_done : (has : HasState shapes l pacing may es) → IsUnderWay has.state → (p : ℕ) → has.state.far p ≡ Done
+  far_done has under p = has.good.told under.0 under.1 p
+
+  swept_at : (p : CoordStage) → (leading.Marks p → IsMarking shapes l pacing may es) → HoldsAt shapes l pacing may es c p → IsBeginning p ⊎ leading.Marks p → AllAreSwept (words shapes l pacing may es)
+  swept_at (Open o) marking h (inl b) = all_swept shapes l pacing may es h.0.has (far_done h.0.has h.0.under_way)
+  swept_at _ marking h (inl b) = absurd b
+  swept_at _ marking h (inr on) = let k = (marking on).known in all_swept shapes l pacing may es k.has (far_done k.has k.under_way)
+
+  abbrev Left : Type 0
+  Left = MarksAreLeft (words shapes l pacing may es) (ever shapes l pacing may es) (λ who. sweep_of (at es who))
+
+  module _ (legal : Legal (those shapes l pacing may) es) where
+    runs_there : (has : HasState shapes l pacing may es) (who : ℕ) (m : Sweeping) → sweep_of (at es who) ≡ Some m → Runs who has.state m
+    runs_there has who m is = go (ltb who (seats_of l)) refl where
+      go : (b : Bool) → ltb who (seats_of l) ≡ b → Runs who has.state m
+      go true x = (subst (IsInSweep who has.state) is (has.sweeps who (grind (arith, nat_tests)))).0
+      go false x = absurd (let no : None ≡ Some m = sym (none_beyond shapes l pacing may known es legal who (grind (arith, nat_tests))) ∙ is in cc)
+
+    none_runs : (has : HasState shapes l pacing may es) → IsUnderWay has.state → (who : ℕ) (x : Option Sweeping) → sweep_of (at es who) ≡ x → x ≡ None
+    none_runs has under who None is = refl
+    none_runs has under who (Some m) is = absurd (let no : None ≡ Some under.0 = sym (runs_there has who m is).quiet ∙ under.1 in cc)
+
+    off_left : (has : HasState shapes l pacing may es) → has.state.told ≡ None → Left
+    off_left has over = marks_left shapes l pacing may es has over limits known (runs_there has)
+
+    told_left : (p : TellStage) → IsTelling shapes l pacing may es c p → Left
+    told_left telling.Ended h = absurd h
+    told_left telling.StoreTrigger h = off_left h.quiet.has h.quiet.over
+    told_left _ h = off_left h.quiet.has h.quiet.over
+
+    closing_left : (y : closes_by.Closing) (p : CloseStage) → y.stage ≡ p → (leading.Marks (Close y) → ⊥) → IsClosing shapes l pacing may es c p → Left
+    closing_left y closing.StorePhase at off h = off_left h.has h.over
+    closing_left y closing.Ended at off h = absurd h
+    closing_left y _ at off h = absurd (off (ap closes_by.is_marking at))
+
+    opening_left : (has : HasState shapes l pacing may es) → IsUnderWay has.state → ((i : ℕ) → has.state.heap.words (cell.Mark i) ≡ 0) → Left
+    opening_left has under none = no_marks_left shapes l pacing may es has (far_done has under) none (λ who. none_runs has under who (sweep_of (at es who)) refl)
+
+    left_at : (p : CoordStage) → IsGoing p → (leading.Marks p → ⊥) → HoldsAt shapes l pacing may es c p → Left
+    left_at (Open o) going off h = opening_left h.0.has h.0.under_way h.0.marks
+    left_at (Watch w) going off h = absurd (off tt)
+    left_at (StopAgain st) going off h = absurd (off tt)
+    left_at (Check w) going off h = absurd (off tt)
+    left_at MarkOn going off h = absurd (off tt)
+    left_at (Close y) going off h = closing_left y y.stage refl off h
+    left_at (Sweep w) going off s = off_left s.has s.over
+    left_at (Count x) going off h = off_left h.quiet.has h.quiet.over
+    left_at (Tell t) going off h = told_left t.stage h
+    left_at coord_at.Done going off h = off_left h.quiet.has h.quiet.over
+    left_at _ going off q = off_left q.has q.over
+
+  module _ (legal : Legal (those shapes l pacing may) es) (led : IsLed shapes l pacing may es c) (marking : leading.Marks c.stage → IsMarking shapes l pacing may es) (h : HoldsAt shapes l pacing may es c c.stage) where
+    going : IsGoing c.stage
+    going = goes_then shapes l pacing may es c led
+
+    has : HasState shapes l pacing may es
+    has = has_at shapes l pacing may es c c.stage going marking h
+
+    one_lead : (d : Coordinating) → IsLed shapes l pacing may es d → c ≡ d
+    one_lead d too = let both : actor.Leads c ≡ actor.Leads d = sym led ∙ too in cc
+
+    pub sweeps_stand : SweepsStand shapes l pacing may es
+    sweeps_stand = record {
+      numbers = spans_numbered shapes l pacing may es has;
+      owned = owned_swept shapes l pacing may es has;
+      cached = cached_swept shapes l pacing may es has;
+      marked = λ d too. subst (λ (x : Coordinating). IsBeginning x.stage ⊎ leading.Marks x.stage → AllAreSwept (words shapes l pacing may es)) (one_lead d too) (swept_at c.stage marking h);
+      marks = λ d too. subst (λ (x : Coordinating). (leading.Marks x.stage → ⊥) → Left) (one_lead d too) (λ off. left_at legal c.stage going off h);
+    }

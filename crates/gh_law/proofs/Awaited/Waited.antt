@@ -1,0 +1,305 @@
+-- Where an operation of a processor has waited for a cycle, it is the last that the processor began, and a cycle that began behind its first entry was swept.
+use Rattle.std.proofs.Common.{◌≡◌, ℕ, ◌<◌, ◌≤◌, Bool, true, false, cond, eqb, List, [], ◌∷◌, ◌++◌, Option, Some, None, refl, sym, ap, subst, ◌∙◌, arith, inl, inr}
+use Rattle.std.specs.Option.{option_to_list}
+use Rattle.std.proofs.lemmas.Bool.{cases_lt}
+use Rattle.gh_law.specs.Vocabulary.{Act, acts_at, asks, Assist, begins, by, cell_of, deeds, Entry, has_left_at, has_point, is_busy_at, Kind, Layout, Legal, NewStage, Op, Place, Processor, processor_kind, Search, Shape, started, state_of, takes, Task, Wait, Want, Words}
+use Rattle.gh_base.specs.declared.cell.Ask.TheVariants as ask
+use Rattle.gh_base.specs.declared.cell.Cell.TheVariants as cell
+use Rattle.gh_base.specs.declared.operation.Op.TheVariants as op
+use Rattle.gh_base.specs.Orders.{DeedsFit, done_at}
+use Rattle.gh_mutator.specs.declared.task.Task.TheVariants as task
+use Rattle.gh_mutator.specs.Deeds.{point_of}
+use Rattle.gh_law.specs.Actors.{AwaitedCycle, Awaits, HasAwaited}
+use Rattle.gh_lists.specs.Lists.{words}
+use Rattle.gh_lists.specs.Handshake.{Pacing, those}
+use Rattle.gh_law.proofs.Vocabulary.{Ask, before_step, begun_in, IsAwake, IsStartOf, party_at, party_of, Polling, stage_at, stage_of}
+use Rattle.gh_mutator.specs.Listing.{asks_at}
+use Rattle.gh_holds.specs.Known.{Known, ListsKnown}
+use Rattle.gh_lists.specs.Resting.{runs_are}
+use Rattle.gh_lists.specs.Starts.{legal_start, whole}
+use Rattle.gh_lists.specs.Changes.{Rises}
+use Rattle.gh_lists.specs.Stepping.{IsAnothers, IsItsOwn, its_own, no_processors, who_steps}
+use Rattle.gh_law.proofs.Awaited.Swept.{rises, swept_since}
+use Rattle.gh_holds.specs.EveryList.{InCycles}
+use Rattle.gh_law.proofs.Awaited.Waiting.{first_sees_none, first_waits, full_searches, gc_acts, HasSeenCycle, HasWaited, HasWaitedAt, IsSearching, IsSearchingAt, loads_swept, more_swept, SearchesAgainAt, steps_on}
+
+-- Where it searches, or rests, a processor knows the number of cycles begun.
+
+searching_knows : (p : Polling) (t : Task) → IsSearching t → IsAwake (stage_at p t) × ((party_at p t).view ≡ p.local.view)
+searching_knows p (task.New x) h = go x.stage h where
+  go : (st : NewStage) → IsSearchingAt st → IsAwake (stage_at p (task.New (record x { stage = st }))) × ((party_at p (task.New (record x { stage = st }))).view ≡ p.local.view)
+  go (Search w s) h = (tt, refl)
+  go (Wait y) h = absurd h
+  go (Place y) h = absurd h
+  go (Want n) h = absurd h
+  go (Assist n y) h = absurd h
+searching_knows p task.Idle h = absurd h
+searching_knows p _ h = absurd h
+
+resting_knows : (p : Polling) (t : Task) → is_busy_at t ≡ false → has_left_at t ≡ false → IsAwake (stage_at p t) × ((party_at p t).view ≡ p.local.view)
+resting_knows p task.Idle idle here = (tt, refl)
+resting_knows p task.Left idle here = absurd cc
+resting_knows p _ idle here = absurd cc
+
+same_view : (shapes : List Shape) (m : Processor) (o : Op) → (begins shapes m o).poll.local.view ≡ m.poll.local.view
+same_view shapes m (op.New g d t) = refl
+same_view shapes m _ = refl
+
+-- what it is where its wait is over
+again_at : (low swept : ℕ) (st : NewStage) → HasWaitedAt low swept st → SearchesAgainAt st → low < swept
+again_at low swept (Search true s) h a = h
+again_at low swept (Search false s) h a = absurd a
+again_at low swept _ h a = absurd a
+
+again : (m : Processor) (low swept found : ℕ) (t : Task) (o : Op) → HasWaited low swept t → HasSeenCycle found t o → (asks_at m t ≡ ask.Load cell.Swept → found ≤ swept) → low < swept
+again m low swept found (task.New x) o h a so = again_at low swept x.stage h a.1
+again m low swept found (task.Gc g x) o h a so = let le = so (loads_swept m x a.1.0) in let lt = a.1.1 in omega (arith, le, lt, h)
+again m low swept found task.Idle o h a so = absurd a
+again m low swept found _ o h a so = absurd a
+
+again_busy : (found : ℕ) (t : Task) (o : Op) → HasSeenCycle found t o → is_busy_at t ≡ true
+again_busy found (task.New x) o a = refl
+again_busy found (task.Gc g x) o a = refl
+again_busy found task.Idle o a = absurd a
+again_busy found _ o a = absurd a
+
+-- a point of an operation is what its step does
+acts_of : (x : Option Act) (y : Act) → point_of x ≡ Some y → x ≡ Some y
+acts_of None y is = absurd cc
+acts_of (Some x) y is = go (has_point x.op) is where
+  go : (b : Bool) → cond b (Some x) None ≡ Some y → Some x ≡ Some y
+  go true e = e
+  go false e = absurd cc
+
+start_behind : (since xs : List (Entry Op)) → IsStartOf xs (since ++ xs)
+start_behind [] xs = whole xs
+start_behind (e ∷ since) xs = inr (start_behind since xs)
+
+module _ (shapes : List Shape) (l : Layout) (pacing : Pacing) (may : ℕ → List (Entry Op) → Op → Bool) (known : Known) (lists : ListsKnown shapes l pacing may) where
+  abbrev Lawful : List (Entry Op) → Type 0
+  Lawful es = Legal (those shapes l pacing may) es
+
+  abbrev told : List (Entry Op) → Words
+  told es = words shapes l pacing may es
+
+  abbrev k : Kind Processor Op
+  k = processor_kind shapes l
+
+  fit : DeedsFit k (deeds shapes)
+  fit = known.fit shapes l
+
+  up : (e : Entry Op) (es : List (Entry Op)) → Lawful (e ∷ es) → Rises shapes l pacing may e es
+  up e es legal = rises shapes l pacing may known lists e es legal
+
+  -- The processor at a seat.
+  module _ (a : ℕ) (lt : a < l.procs) where
+    abbrev own : List (Entry Op) → Processor
+    own es = state_of k a es
+
+    abbrev Its : (es : List (Entry Op)) (e : Entry Op) → Lawful (e ∷ es) → Type 0
+    Its es e legal = IsItsOwn shapes l pacing may es e legal a lt
+
+    abbrev Others : (es : List (Entry Op)) (e : Entry Op) → Lawful (e ∷ es) → Type 0
+    Others es e legal = IsAnothers shapes l pacing may es e legal a lt
+
+    -- where the operation that runs began, which is the one that is to act if one is, and that it has waited since
+    record Began (es : List (Entry Op)) (o : Op) : Type 0 where
+      earlier : List (Entry Op)
+      first : Entry Op
+      since : List (Entry Op)
+      there : es ≡ since ++ first ∷ earlier
+      by_it : first.actor ≡ a
+      began : first.begun ≡ Some o
+      none_since : begun_in (by a since) ≡ []
+      low : told earlier cell.Begun ≤ told es cell.Begun
+      waited : HasWaited (told earlier cell.Begun) (told es cell.Swept) (own es).task
+      unacted : (q : Op) → (deeds shapes).unacted (own es) ≡ Some q → q ≡ o
+
+    abbrev IsBegun : List (Entry Op) → Type 0
+    IsBegun es = is_busy_at (own es).task ≡ true → (o : Op) × Began es o
+
+    -- what an awake processor knows
+    exact : (es : List (Entry Op)) → Lawful es → IsAwake (stage_of (own es)) → (party_of (own es)).view.begun ≡ told es cell.Begun
+    exact es legal awake = ((lists.keeps es legal).processors_know a (own es) (omega (arith, lt)) (runs_are shapes l pacing may es a lt) awake).begun_is
+
+    -- what is to act behind a step was so before it
+    still_unacted : (m : Processor) (found : ℕ) (q : Op) → is_busy_at m.task ≡ true → (deeds shapes).unacted (takes shapes m found) ≡ Some q → (deeds shapes).unacted m ≡ Some q
+    still_unacted m found q busy is = go ((deeds shapes).acts m found) refl where
+      go : (x : Option Act) → (deeds shapes).acts m found ≡ x → (deeds shapes).unacted m ≡ Some q
+      go None none = sym (fit.goes_on m found busy none) ∙ is
+      go (Some x) some = absurd (let no : None ≡ Some q = sym (fit.acts_once m found x busy some) ∙ is in cc)
+
+    module _ (es : List (Entry Op)) (e : Entry Op) (legal : Lawful (e ∷ es)) where
+      abbrev m : Processor
+      m = before_step shapes l es e
+
+      -- one entry more, by which it begins nothing
+      longer : (o : Op) (b : Began es o) → begun_in (by a (e ∷ b.since)) ≡ [] → HasWaited (told b.earlier cell.Begun) (told (e ∷ es) cell.Swept) (own (e ∷ es)).task → ((q : Op) → (deeds shapes).unacted (own (e ∷ es)) ≡ Some q → q ≡ o) → Began (e ∷ es) o
+      longer o b none waited unacted = record {
+        earlier = b.earlier;
+        first = b.first;
+        since = e ∷ b.since;
+        there = ap (λ (xs : List (Entry Op)). e ∷ xs) b.there;
+        by_it = b.by_it;
+        began = b.began;
+        none_since = none;
+        low = let more = (up e es legal).begun in let low = b.low in omega (arith, more, low);
+        waited = waited;
+        unacted = unacted;
+      }
+
+      found_there : Its es e legal → asks m ≡ ask.Load cell.Swept → e.found ≡ told es cell.Swept
+      found_there x is = legal.1.found ∙ ap (λ (q : Ask). told es (cell_of q)) (x.asked ∙ is)
+
+      found_is : Its es e legal → asks m ≡ ask.Load cell.Swept → e.found ≤ told (e ∷ es) cell.Swept
+      found_is x is =
+          let found = found_there x is in
+          let more = (up e es legal).swept in
+          omega (arith, found, more)
+
+      own_step : (x : Its es e legal) (low : ℕ) → HasWaited low (told es cell.Swept) m.task → (IsSearching m.task → low ≤ m.poll.local.view.begun) → HasWaited low (told (e ∷ es) cell.Swept) (own (e ∷ es)).task
+      own_step x low h knows =
+          let h' = more_swept low (told es cell.Swept) (told (e ∷ es) cell.Swept) m.task (up e es legal).swept h in
+          subst (λ (n : Processor). HasWaited low (told (e ∷ es) cell.Swept) n.task) (sym x.after) (steps_on shapes m low (told (e ∷ es) cell.Swept) e.found m.task refl x.busy h' knows (found_is x))
+
+      own_unacted : (x : Its es e legal) (o : Op) → ((q : Op) → (deeds shapes).unacted m ≡ Some q → q ≡ o) → (q : Op) → (deeds shapes).unacted (own (e ∷ es)) ≡ Some q → q ≡ o
+      own_unacted x o before q is = before q (still_unacted m e.found q x.busy (ap (λ (n : Processor). (deeds shapes).unacted n) (sym x.after) ∙ is))
+
+      begun_here : (since : List (Entry Op)) → eqb e.actor a ≡ true → begun_in (by a (e ∷ since)) ≡ option_to_list e.begun ++ begun_in (by a since)
+      begun_here since here = ap (λ (b : Bool). begun_in (cond b (e ∷ by a since) (by a since))) here
+
+      begun_aside : (since : List (Entry Op)) → eqb e.actor a ≡ false → begun_in (by a (e ∷ since)) ≡ begun_in (by a since)
+      begun_aside since apart = ap (λ (b : Bool). begun_in (cond b (e ∷ by a since) (by a since))) apart
+
+      goes_on : (x : Its es e legal) → e.begun ≡ None → IsBegun es → (o : Op) × Began (e ∷ es) o
+      goes_on x none before =
+          let same : m ≡ own es = x.before ∙ ap (λ (b : Option Op). started k b (own es)) none in
+          let b = before (ap (λ (n : Processor). is_busy_at n.task) (sym same) ∙ x.busy) in
+          let low = told b.1.earlier cell.Begun in
+          let h = subst (λ (n : Processor). HasWaited low (told es cell.Swept) n.task) (sym same) b.1.waited in
+          let quiet : begun_in (by a (e ∷ b.1.since)) ≡ [] = begun_here b.1.since x.here ∙ ap (λ (q : Option Op). option_to_list q ++ begun_in (by a b.1.since)) none ∙ b.1.none_since in (
+            b.0,
+            longer b.0 b.1 quiet (own_step x low h (λ s. knows low b.1.low same (subst (λ (n : Processor). IsSearching n.task) same s)))
+                (own_unacted x b.0 (λ q is. b.1.unacted q (ap (λ (n : Processor). (deeds shapes).unacted n) (sym same) ∙ is))),
+          ) where
+            knows : (low : ℕ) → low ≤ told es cell.Begun → m ≡ own es → IsSearching (own es).task → low ≤ m.poll.local.view.begun
+            knows low le same s =
+                let w = searching_knows (own es).poll (own es).task s in
+                let view = exact es legal.0 w.0 in
+                let known : m.poll.local.view.begun ≡ told es cell.Begun = ap (λ (n : Processor). n.poll.local.view.begun) same ∙ sym (ap (λ v. v.begun) w.1) ∙ view in
+                omega (arith, le, known)
+
+      begins_now : (x : Its es e legal) (o : Op) → e.begun ≡ Some o → (o : Op) × Began (e ∷ es) o
+      begins_now x o is = go (has_left_at (own es).task) refl where
+        rested : is_busy_at (own es).task ≡ false
+        rested = x.rested o is
+
+        at_first : m ≡ k.begins (own es) o
+        at_first = x.before ∙ ap (λ (b : Option Op). started k b (own es)) is
+
+        unacted : (q : Op) → (deeds shapes).unacted m ≡ Some q → q ≡ o
+        unacted q to_act = pointed_one (has_point o) (sym (fit.begins (own es) o rested (sym (ap (λ (n : Processor). is_busy_at n.task) at_first) ∙ x.busy)) ∙ sym (ap (λ (n : Processor). (deeds shapes).unacted n) at_first) ∙ to_act) where
+          pointed_one : (b : Bool) → cond b (Some o) None ≡ Some q → q ≡ o
+          pointed_one true e = cc
+          pointed_one false e = absurd cc
+
+        go : (b : Bool) → has_left_at (own es).task ≡ b → (o : Op) × Began (e ∷ es) o
+        go true left = absurd (let b = sym x.busy ∙ ap (λ (n : Processor). is_busy_at n.task) (at_first ∙ ap (λ (b : Bool). cond b (own es) (begins shapes (own es) o)) left) ∙ rested in cc)
+        go false left =
+            let same : m ≡ begins shapes (own es) o = at_first ∙ ap (λ (b : Bool). cond b (own es) (begins shapes (own es) o)) left in
+            let low = told es cell.Begun in
+            let w = resting_knows (own es).poll (own es).task rested left in
+            let knows : (own es).poll.local.view.begun ≡ low = sym (ap (λ v. v.begun) w.1) ∙ exact es legal.0 w.0 in
+            let known : m.poll.local.view.begun ≡ low = ap (λ (n : Processor). n.poll.local.view.begun) same ∙ ap (λ v. v.begun) (same_view shapes (own es) o) ∙ knows in
+            let h = subst (λ (n : Processor). HasWaited low (told es cell.Swept) n.task) (sym same) (first_waits shapes (own es) o low (told es cell.Swept) (omega (arith, knows))) in (
+              o,
+              record {
+                earlier = es;
+                first = e;
+                since = [];
+                there = refl;
+                by_it = x.its;
+                began = is;
+                none_since = refl;
+                low = (up e es legal).begun;
+                waited = own_step x low h (λ s. omega (arith, known));
+                unacted = own_unacted x o unacted;
+              },
+            )
+
+      more : IsBegun es → IsBegun (e ∷ es)
+      more before busy = elim (who_steps shapes l pacing may es e legal a lt) [ inl x ↦ mine x e.begun refl | inr x ↦ other x ] where
+        mine : Its es e legal → (b : Option Op) → e.begun ≡ b → (o : Op) × Began (e ∷ es) o
+        mine x None is = goes_on x is before
+        mine x (Some o) is = begins_now x o is
+
+        other : Others es e legal → (o : Op) × Began (e ∷ es) o
+        other x =
+            let b = before (ap (λ (n : Processor). is_busy_at n.task) (sym x.after) ∙ busy) in
+            let low = told b.1.earlier cell.Begun in (
+              b.0,
+              longer b.0 b.1 (begun_aside b.1.since x.apart ∙ b.1.none_since) (subst (λ (n : Processor). HasWaited low (told (e ∷ es) cell.Swept) n.task) (sym x.after) (more_swept low (told es cell.Swept) (told (e ∷ es) cell.Swept) (own es).task (up e es legal).swept b.1.waited))
+                  (λ q is. b.1.unacted q (ap (λ (n : Processor). (deeds shapes).unacted n) (sym x.after) ∙ is)),
+            )
+
+    is_begun : (es : List (Entry Op)) → Lawful es → IsBegun es
+    is_begun [] legal busy = absurd cc
+    is_begun (e ∷ es) legal busy = more es e legal (is_begun es legal.0) busy
+
+    -- what it acts on behind a wait is the last that it began, and has waited for a cycle
+    module _ (in_cycles : InCycles shapes l pacing may) (es : List (Entry Op)) (e : Entry Op) (legal : Lawful (e ∷ es)) (x : Its es e legal) (act : Act) (acts : (deeds shapes).acts (before_step shapes l es e) e.found ≡ Some act) (sees : HasSeenCycle e.found (before_step shapes l es e).task act.op) where
+      from_begun : e.begun ≡ None → AwaitedCycle shapes l pacing may a es act.op
+      from_begun none =
+          let same : before_step shapes l es e ≡ own es = x.before ∙ ap (λ (b : Option Op). started k b (own es)) none in
+          let s = subst (λ (n : Processor). HasSeenCycle e.found n.task act.op) same sees in
+          let b = is_begun es legal.0 (again_busy e.found (own es).task act.op s) in
+          let later : told b.1.earlier cell.Begun < told es cell.Swept = again (own es) (told b.1.earlier cell.Begun) (told es cell.Swept) e.found (own es).task act.op b.1.waited s (λ loads. let found = found_there es e legal x (ap asks same ∙ loads) in omega (arith, found)) in
+          let one : act.op ≡ b.0 = b.1.unacted act.op (ap (λ (n : Processor). (deeds shapes).unacted n) (sym same) ∙ fit.acts_for (before_step shapes l es e) e.found act x.busy acts) in
+          let start : IsStartOf (b.1.first ∷ b.1.earlier) es = subst (λ (xs : List (Entry Op)). IsStartOf (b.1.first ∷ b.1.earlier) xs) (sym b.1.there) (start_behind b.1.since (b.1.first ∷ b.1.earlier)) in
+          let seat : b.1.first.actor < l.procs = let by_it = b.1.by_it in omega (arith, lt, by_it) in
+          record {
+            earlier = b.1.earlier;
+            first = b.1.first;
+            since = b.1.since;
+            there = b.1.there;
+            by_it = b.1.by_it;
+            began = b.1.began ∙ ap Some (sym one);
+            none_since = b.1.none_since;
+            cycle = swept_since shapes l pacing may known lists in_cycles b.1.first b.1.earlier es legal.0 start seat later;
+          }
+
+      waited_own : AwaitedCycle shapes l pacing may a es act.op
+      waited_own = mine e.begun refl where
+        mine : (b : Option Op) → e.begun ≡ b → AwaitedCycle shapes l pacing may a es act.op
+        mine None none = from_begun none
+        mine (Some o) begins_it = absurd (go (has_left_at (own es).task) (subst (λ (n : Processor). HasSeenCycle e.found n.task act.op) first sees)) where
+          first : before_step shapes l es e ≡ cond (has_left_at (own es).task) (own es) (begins shapes (own es) o)
+          first = x.before ∙ ap (λ (b : Option Op). started k b (own es)) begins_it
+
+          go : (c : Bool) → HasSeenCycle e.found (cond c (own es) (begins shapes (own es) o)).task act.op → ⊥
+          go true s = let busy = again_busy e.found (own es).task act.op s in let no : true ≡ false = sym busy ∙ x.rested o begins_it in cc
+          go false s = first_sees_none shapes (own es) e.found o act.op s
+
+  -- So it is with what acts in a legal list.
+  module _ (in_cycles : InCycles shapes l pacing may) (es : List (Entry Op)) (e : Entry Op) (legal : Lawful (e ∷ es)) (act : Act) (acts : done_at k (deeds shapes) es e ≡ Some act) where
+    abbrev now : Processor
+    now = before_step shapes l es e
+
+    does : acts_at now now.task e.found ≡ Some act
+    does = acts_of (acts_at now now.task e.found) act acts
+
+    awaited : HasSeenCycle e.found now.task act.op → AwaitedCycle shapes l pacing may e.actor es act.op
+    awaited sees = elim (cases_lt e.actor l.procs) [
+      | inl lt ↦ waited_own e.actor lt in_cycles es e legal (its_own shapes l pacing may es e legal e.actor lt refl) act acts sees
+      | inr le ↦ absurd (let no : None ≡ Some act = sym (no_processors shapes l pacing may es e legal le).acts_not ∙ does in cc)
+    ]
+
+    has_awaited : HasAwaited shapes l pacing may e es act
+    has_awaited = record {
+      gc = λ g is. awaited (gc_acts now now.task e.found g act does is).0;
+      answered = λ g is. (gc_acts now now.task e.found g act does is).1;
+      full = λ is. awaited (full_searches now now.task e.found act does is);
+    }
+
+  pub awaits : InCycles shapes l pacing may → (es : List (Entry Op)) → Lawful es → Awaits shapes l pacing may es
+  awaits in_cycles es legal e before act start acts = has_awaited in_cycles before e (legal_start (those shapes l pacing may) (e ∷ before) es start legal) act acts

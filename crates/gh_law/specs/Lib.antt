@@ -1,0 +1,9 @@
+pub mod Actors
+pub mod Asked
+pub mod Below
+pub mod Credit
+pub mod Phases
+pub mod Room
+pub mod Scans
+pub mod SweepMarks
+pub mod Vocabulary

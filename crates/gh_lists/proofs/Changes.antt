@@ -1,0 +1,127 @@
+-- The numbers of cycles along a list: each step leaves them, or it is the coordinator's that begins a cycle, ends its marking or tells that it is swept, and one number is one cycle later.
+use Rattle.std.proofs.Common.{◌≡◌, ℕ, suc, ◌+◌, Bool, refl, sym, ap, subst, ◌∙◌, arith, List, ◌∷◌}
+use Rattle.gh_base.specs.declared.cell.Ask.TheVariants.{Store}
+use Rattle.gh_base.specs.declared.cell.Cell.TheVariants as cell
+use Rattle.gh_coord.specs.declared.close.CloseStage.TheVariants as close_stage
+use Rattle.gh_coord.specs.declared.open.OpenStage.TheVariants as open_stage
+use Rattle.gh_coord.specs.declared.tell.TellStage.TheVariants as tell_stage
+use Rattle.gh_coord.specs.Closing as close
+use Rattle.gh_coord.specs.Handshake as leading
+use Rattle.gh_coord.specs.Listing as coord
+use Rattle.gh_coord.specs.Opening as opens_by
+use Rattle.gh_coord.specs.Telling as tell
+use Rattle.gh_worker.specs.Listing as worker
+use Rattle.gh_lists.specs.Lists.{IsTelling}
+use Rattle.gh_lists.specs.Numbers.{Counted, Opened}
+use Rattle.gh_lists.proofs.Vocabulary.{CoordStage, Entry, Kind, Layout, Legal, Op, OpenStage, Processor, processor_kind, Shape, started, Words, Ask, Check, Checked, Close, CloseStage, Count, Done, effect, IsFew, KeepsIt, LoadAck, LoadWant, MarkOn, Open, opened_in, Pacing, Part, part_of, ProcessorWritesItsOwn, Stop, StopAgain, Sweep, Tell, TellStage, Watch, WorkersWriteTheirOwn}
+use Rattle.gh_lists.specs.Frames.{leaves, Numbers, numbers_of}
+use Rattle.gh_lists.proofs.CycleNumbers.Leading.{Is, Reads}
+use Rattle.gh_lists.proofs.CycleNumbers.Lists.{holds}
+use Rattle.gh_lists.specs.Parts.{At, own_of}
+use Rattle.gh_lists.specs.Quiet.{all_quiet, count_quiet, stop_quiet, watch_quiet, worker_quiet}
+use Rattle.gh_lists.specs.Steps as seats
+use Rattle.gh_lists.specs.Writing.{leaves_numbers}
+use Rattle.gh_lists.specs.Changes.{Spares, Change, same, begins, ends, tells, Rises}
+
+spares : (ask : Ask) → ((w : Words) → numbers_of (effect w ask) ≡ numbers_of w) → Spares ask
+spares ask h = record { gen = λ w. ap (λ (n : Numbers). n.gen) (h w); begun = λ w. ap (λ (n : Numbers). n.begun) (h w); swept = λ w. ap (λ (n : Numbers). n.swept) (h w) }
+
+-- what the coordinator's step is to the numbers
+pub data Does (c : coord.Coordinating) (p : CoordStage) (ask : Ask) : Type 0 where
+  spares_them : Spares ask → Does c p ask
+  begins_it : part_of p ≡ Opened → ask ≡ Store cell.Begun c.begun → Does c p ask
+  ends_it : part_of p ≡ Checked → (x : close.Closing) → p ≡ Close x → x.stage ≡ close_stage.StoreGen → ask ≡ Store cell.Gen c.generation → Does c p ask
+  tells_it : part_of p ≡ Counted → IsTelling p → ask ≡ Store cell.Swept c.begun → Does c p ask
+
+module _ (c : coord.Coordinating) where
+  opening : (o : opens_by.CycleOpening) (p : OpenStage) → o.cycle ≡ c.begun → Does c (Open (record o { stage = p })) (opens_by.asks_at o p)
+  opening o open_stage.ClearWant e = spares_them (record { gen = λ w. refl; begun = λ w. refl; swept = λ w. refl })
+  opening o open_stage.ClearGcur e = spares_them (record { gen = λ w. refl; begun = λ w. refl; swept = λ w. refl })
+  opening o open_stage.ClearTally e = spares_them (record { gen = λ w. refl; begun = λ w. refl; swept = λ w. refl })
+  opening o open_stage.ClearLive e = spares_them (record { gen = λ w. refl; begun = λ w. refl; swept = λ w. refl })
+  opening o open_stage.StoreTrigger e = spares_them (record { gen = λ w. refl; begun = λ w. refl; swept = λ w. refl })
+  opening o open_stage.LoadHeap e = spares_them (record { gen = λ w. refl; begun = λ w. refl; swept = λ w. refl })
+  opening o open_stage.StoreWork e = spares_them (record { gen = λ w. refl; begun = λ w. refl; swept = λ w. refl })
+  opening o open_stage.StoreSlack e = spares_them (record { gen = λ w. refl; begun = λ w. refl; swept = λ w. refl })
+  opening o open_stage.StoreBegun e = begins_it refl (ap (Store cell.Begun) e)
+  opening o open_stage.StorePhase e = spares_them (record { gen = λ w. refl; begun = λ w. refl; swept = λ w. refl })
+  opening o open_stage.Ended e = spares_them (record { gen = λ w. refl; begun = λ w. refl; swept = λ w. refl })
+
+  closing : (x : close.Closing) (p : CloseStage) → x.generation ≡ c.generation → Does c (Close (record x { stage = p })) (close.asks_at x p)
+  closing x close_stage.LoadBank e = spares_them (record { gen = λ w. refl; begun = λ w. refl; swept = λ w. refl })
+  closing x close_stage.ClearBank e = spares_them (record { gen = λ w. refl; begun = λ w. refl; swept = λ w. refl })
+  closing x close_stage.StoreGen e = ends_it refl (record x { stage = close_stage.StoreGen }) refl refl (ap (Store cell.Gen) e)
+  closing x close_stage.StorePhase e = spares_them (record { gen = λ w. refl; begun = λ w. refl; swept = λ w. refl })
+  closing x close_stage.Ended e = spares_them (record { gen = λ w. refl; begun = λ w. refl; swept = λ w. refl })
+
+  telling : (t : tell.Telling) (p : TellStage) → t.cycle ≡ c.begun → Does c (Tell (record t { stage = p })) (tell.asks_at t p)
+  telling t tell_stage.StoreTrigger e = spares_them (record { gen = λ w. refl; begun = λ w. refl; swept = λ w. refl })
+  telling t tell_stage.StoreSwept e = tells_it refl refl (ap (Store cell.Swept) e)
+  telling t tell_stage.StorePhase e = spares_them (record { gen = λ w. refl; begun = λ w. refl; swept = λ w. refl })
+  telling t tell_stage.Ended e = spares_them (record { gen = λ w. refl; begun = λ w. refl; swept = λ w. refl })
+
+  does : (p : CoordStage) → leading.SoundAt c p → Reads c p → Does c p (coord.asks_at c p)
+  does (LoadAck i) s r = spares_them (record { gen = λ w. refl; begun = λ w. refl; swept = λ w. refl })
+  does LoadWant s r = spares_them (record { gen = λ w. refl; begun = λ w. refl; swept = λ w. refl })
+  does (Stop st) s r = spares_them (spares (coord.asks_at c (Stop st)) (λ w. (stop_quiet w st st.stage).numbers))
+  does (Open o) s r = opening o o.stage (ap (λ (x : opens_by.CycleOpening). x.cycle) s.0)
+  does (Watch v) s r = spares_them (spares (coord.asks_at c (Watch v)) (λ w. (watch_quiet w v v.stage).numbers))
+  does (StopAgain st) s r = spares_them (spares (coord.asks_at c (StopAgain st)) (λ w. (stop_quiet w st st.stage).numbers))
+  does (Check v) s r = spares_them (spares (coord.asks_at c (Check v)) (λ w. (watch_quiet w v v.stage).numbers))
+  does MarkOn s r = spares_them (record { gen = λ w. refl; begun = λ w. refl; swept = λ w. refl })
+  does (Close x) s r = closing x x.stage (ap (λ (y : close.Closing). y.generation) s)
+  does (Sweep v) s r = spares_them (spares (coord.asks_at c (Sweep v)) (λ w. (all_quiet w v v.stage).numbers))
+  does (Count x) s r = spares_them (spares (coord.asks_at c (Count x)) (λ w. (count_quiet w x.stage).numbers))
+  does (Tell t) s r = telling t t.stage r
+  does Done s r = spares_them (record { gen = λ w. refl; begun = λ w. refl; swept = λ w. refl })
+
+module _ (shapes : List Shape) (l : Layout) (pacing : Pacing) (may : ℕ → List (Entry Op) → Op → Bool)
+    (writes : ProcessorWritesItsOwn) (works : WorkersWriteTheirOwn)
+    (keeps : (es : List (Entry Op)) → Legal (seats.it shapes l pacing may) es → KeepsIt (seats.it shapes l pacing may) es) where
+  abbrev k : Kind Processor Op
+  k = processor_kind shapes l
+
+  abbrev words : List (Entry Op) → Words
+  words es = seats.words shapes l pacing may es
+
+  pub change : (e : Entry Op) (es : List (Entry Op)) → Legal (seats.it shapes l pacing may) (e ∷ es) → IsFew es → Change shapes l pacing may e es
+  change e es legal few = by (seats.step shapes l pacing may e es writes legal (keeps es legal.0)) where
+    by_lead : (c : coord.Coordinating) (x : seats.LeadsIt shapes l pacing may e es c) → Is pacing.room (opened_in es) (numbers_of (words es)) c c.stage → Does c c.stage (coord.asks c) → Change shapes l pacing may e es
+    by_lead c x h (spares_them y) = same (subst Spares (sym x.asked) y)
+    by_lead c x h (begins_it part ask) =
+        let at = subst (λ (q : Part). At pacing.room (opened_in es) (numbers_of (words es)) (own_of c) q) part h.at in
+        let value : c.begun ≡ suc (words es cell.Begun) = let a = at.number_is in let b = at.begun_is in omega (arith, a, b) in
+        begins (x.asked ∙ ask ∙ ap (Store cell.Begun) value)
+    by_lead c x h (ends_it part close_is stage_is stores ask) =
+        let at = subst (λ (q : Part). At pacing.room (opened_in es) (numbers_of (words es)) (own_of c) q) part h.at in
+        let value : c.generation ≡ words es cell.Gen + 2 = let a = at.generation_is in let b = at.gen_is in omega (arith, a, b) in
+        ends (record {
+          lead = c;
+          led = x.is;
+          closing_it = close_is;
+          at = stage_is;
+          stores = stores;
+          actor_is = x.seat;
+          ask_is = x.asked ∙ ask ∙ ap (Store cell.Gen) value;
+          number = let a = at.number_is in let b = at.begun_is in omega (arith, a, b);
+          gen = let a = at.number_is in let b = at.gen_is in omega (arith, a, b);
+        })
+    by_lead c x h (tells_it part at_it ask) =
+        let at = subst (λ (q : Part). At pacing.room (opened_in es) (numbers_of (words es)) (own_of c) q) part h.at in
+        let value : c.begun ≡ suc (words es cell.Swept) = let a = at.number_is in omega (arith, a) in
+        tells (record { lead = c; led = x.is; telling_it = at_it; actor_is = x.seat; ask_is = x.asked ∙ ask ∙ ap (Store cell.Swept) value; number = value })
+
+    by : seats.Step shapes l pacing may e es → Change shapes l pacing may e es
+    by (seats.by_processor m x s) = same (subst Spares (sym x.asked) (spares (k.asks (started k e.begun m)) (λ w. (leaves w (k.asks (started k e.begun m)) (leaves_numbers writes (started k e.begun m) x.sound_then)).numbers)))
+    by (seats.by_worker v x s) = same (subst Spares (sym x.asked) (spares (worker.asks v) (λ w. (worker_quiet w works v x.sound_it x.busy).numbers)))
+    by (seats.by_lead c x) =
+        let h = holds shapes l pacing may writes works keeps es legal.0 few c x.is in
+        by_lead c x h (does c c.stage x.sound_it.1 h.reads)
+
+  pub rise : (e : Entry Op) (es : List (Entry Op)) → Legal (seats.it shapes l pacing may) (e ∷ es) → IsFew es → Rises shapes l pacing may e es
+  rise e es legal few = by (change e es legal few) where
+    by : Change shapes l pacing may e es → Rises shapes l pacing may e es
+    by (same y) = record { begun = let s = y.begun (words es) in omega (arith, s); swept = let s = y.swept (words es) in omega (arith, s) }
+    by (begins is) = record { begun = let s = ap (λ (q : Ask). effect (words es) q cell.Begun) is in omega (arith, s); swept = let s = ap (λ (q : Ask). effect (words es) q cell.Swept) is in omega (arith, s) }
+    by (ends y) = record { begun = let s = ap (λ (q : Ask). effect (words es) q cell.Begun) y.ask_is in omega (arith, s); swept = let s = ap (λ (q : Ask). effect (words es) q cell.Swept) y.ask_is in omega (arith, s) }
+    by (tells y) = record { begun = let s = ap (λ (q : Ask). effect (words es) q cell.Begun) y.ask_is in omega (arith, s); swept = let s = ap (λ (q : Ask). effect (words es) q cell.Swept) y.ask_is in omega (arith, s) }

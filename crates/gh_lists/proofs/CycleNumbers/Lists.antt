@@ -1,0 +1,135 @@
+-- The numbers of cycles after every legal list.
+use Rattle.std.proofs.Common.{◌≡◌, ℕ, ◌+◌, ◌*◌, ◌⊎◌, inl, inr, Bool, true, refl, sym, subst, ◌∙◌, arith, List, [], ◌∷◌}
+use Rattle.gh_coord.specs.declared.close.CloseStage.TheVariants as close_stage
+use Rattle.gh_coord.specs.declared.open.OpenStage.TheVariants as open_stage
+use Rattle.gh_coord.specs.declared.tell.TellStage.TheVariants as tell_stage
+use Rattle.gh_coord.specs.Closing as close
+use Rattle.gh_coord.specs.Opening as opens_by
+use Rattle.gh_coord.specs.Handshake as leading
+use Rattle.gh_coord.specs.Listing as coord
+use Rattle.gh_lists.specs.declared.handshake.Actor.TheVariants as actor
+use Rattle.gh_lists.specs.Handshake.{Sound}
+use Rattle.gh_lists.specs.Numbers.{open_part, tell_part}
+use Rattle.gh_lists.proofs.Vocabulary.{ahead_at, Ask, Check, Close, close_part, CloseStage, CoordStage, Count, CountsCycles, effect, Entry, generation_of, IsBeginning, IsFew, KeepsIt, Kind, Layout, Legal, MarkOn, Op, Open, opened_after, opened_in, OpenStage, Pacing, Part, part_of, Processor, processor_kind, ProcessorWritesItsOwn, Shape, started, StopAgain, Sweep, Tell, TellStage, Watch, WorkersWriteTheirOwn, ◌↔◌}
+use Rattle.gh_lists.specs.Frames.{Leaves, leaves, Numbers, numbers_of}
+use Rattle.gh_lists.proofs.CycleNumbers.Leading.{goes_so, Is}
+use Rattle.gh_lists.specs.Quiet.{leaves_all, worker_quiet}
+use Rattle.gh_lists.specs.Steps as seats
+use Rattle.gh_lists.specs.Writing.{leaves_numbers}
+use Rattle.gh_lists.specs.Counting.{rises}
+
+-- One cycle more has begun than has ended while it is marked, and where it is about to be.
+module _ (swept begun gen : ℕ) where
+  abbrev IsAt : Part → Type 0
+  IsAt part = (begun ≡ swept + (ahead_at part).begun) × (gen ≡ generation_of (swept + (ahead_at part).ended))
+
+  abbrev MarkedWhere : (Type 0) → Type 0
+  MarkedWhere X = gen ≡ 2 * begun ↔ X
+
+  alike : {X : Type 0} (d : ℕ) → begun ≡ swept + d → gen ≡ generation_of (swept + d) → (X → ⊥) → MarkedWhere X
+  alike d b g none = (λ e. absurd (omega (arith, b, g, e)), λ x. absurd (none x))
+
+  one_more : {X : Type 0} → begun ≡ swept + 1 → gen ≡ generation_of (swept + 0) → X → MarkedWhere X
+  one_more b g is = (λ e. is, λ x. omega (arith, b, g))
+
+  neither : ⊥ ⊎ ⊥ → ⊥
+  neither (inl x) = x
+  neither (inr x) = x
+
+  open_marked : (p : OpenStage) → opens_by.is_busy p ≡ true → IsAt (open_part p) → MarkedWhere (⊥ ⊎ (p ≡ open_stage.StorePhase))
+  open_marked open_stage.StorePhase s h = one_more h.0 h.1 (inr refl)
+  open_marked open_stage.Ended s h = absurd cc
+  open_marked _ s h = alike 0 h.0 h.1 (λ x. elim x [ inl y ↦ y | inr y ↦ cc ])
+
+  close_marked : (p : CloseStage) → IsAt (close_part p) → MarkedWhere ((close.is_marking p ≡ true) ⊎ ⊥)
+  close_marked close_stage.LoadBank h = one_more h.0 h.1 (inl refl)
+  close_marked close_stage.StorePhase h = alike 1 h.0 h.1 (λ x. elim x [ inl y ↦ cc | inr y ↦ y ])
+  close_marked close_stage.Ended h = alike 1 h.0 h.1 (λ x. elim x [ inl y ↦ cc | inr y ↦ y ])
+  close_marked _ h = one_more h.0 h.1 (inl refl)
+
+  tell_marked : (p : TellStage) → IsAt (tell_part p) → MarkedWhere (⊥ ⊎ ⊥)
+  tell_marked tell_stage.StoreTrigger h = alike 1 h.0 h.1 neither
+  tell_marked tell_stage.StoreSwept h = alike 1 h.0 h.1 neither
+  tell_marked tell_stage.StorePhase h = alike 0 h.0 h.1 neither
+  tell_marked tell_stage.Ended h = alike 0 h.0 h.1 neither
+
+  marked : (c : coord.Coordinating) (p : CoordStage) → leading.SoundAt c p → IsAt (part_of p) → MarkedWhere (leading.Marks p ⊎ IsBeginning p)
+  marked c (Open o) s h = open_marked o.stage s.1 h
+  marked c (Watch w) s h = one_more h.0 h.1 (inl tt)
+  marked c (StopAgain st) s h = one_more h.0 h.1 (inl tt)
+  marked c (Check w) s h = one_more h.0 h.1 (inl tt)
+  marked c MarkOn s h = one_more h.0 h.1 (inl tt)
+  marked c (Close x) s h = close_marked x.stage h
+  marked c (Sweep w) s h = alike 1 h.0 h.1 neither
+  marked c (Count x) s h = alike 1 h.0 h.1 neither
+  marked c (Tell t) s h = tell_marked t.stage h
+  marked c _ s h = alike 0 h.0 h.1 neither
+
+module _ (shapes : List Shape) (l : Layout) (pacing : Pacing) (may : ℕ → List (Entry Op) → Op → Bool)
+    (writes : ProcessorWritesItsOwn) (works : WorkersWriteTheirOwn)
+    (keeps : (es : List (Entry Op)) → Legal (seats.it shapes l pacing may) es → KeepsIt (seats.it shapes l pacing may) es) where
+  abbrev k : Kind Processor Op
+  k = processor_kind shapes l
+
+  abbrev Led : List (Entry Op) → coord.Coordinating → Type 0
+  Led es c = seats.at shapes l pacing may es (seats.n shapes l pacing may) ≡ actor.Leads c
+
+  abbrev told : List (Entry Op) → Numbers
+  told es = numbers_of (seats.words shapes l pacing may es)
+
+  abbrev Holds : List (Entry Op) → coord.Coordinating → Type 0
+  Holds es c = Is pacing.room (opened_in es) (told es) c c.stage
+
+  at_first : (c : coord.Coordinating) → Led [] c → Holds [] c
+  at_first c led = subst (λ (x : coord.Coordinating). Holds [] x) (sym (seats.first_lead shapes l pacing may c led)) (record {
+    at = record {
+      opened_is = omega arith;
+      begun_is = omega arith;
+      gen_is = omega arith;
+      number_is = omega arith;
+      generation_is = omega arith;
+      keeps = record { room_is = refl; many_are = omega arith; numbered = λ i x is. absurd cc };
+    };
+    reads = tt;
+  })
+
+  -- a step of another leaves all
+  module _ (e : Entry Op) (es : List (Entry Op)) where
+    few_before : IsFew (e ∷ es) → IsFew es
+    few_before few = let up = rises e.ask (opened_in es) in omega (arith, few, up)
+
+    beside : Leaves (seats.words shapes l pacing may es) e.ask → (c : coord.Coordinating) → Holds es c → Holds (e ∷ es) c
+    beside x c h = rw (x.opens_none (opened_in es), x.numbers) h
+
+    by_lead : (c to : coord.Coordinating) → seats.LeadsIt shapes l pacing may e es c → to ≡ coord.goes c e.found → IsFew es → Holds es c → Holds (e ∷ es) to
+    by_lead c to x then few h =
+        let next = goes_so pacing.room (opened_in es) (seats.words shapes l pacing may es) c (coord.counted c).marks c.stage e.found x.sound_it.1 few x.busy x.found h in
+        subst (λ (y : coord.Coordinating). Holds (e ∷ es) y) (sym then) (subst (λ (q : Ask). Is pacing.room (opened_after q (opened_in es)) (numbers_of (effect (seats.words shapes l pacing may es) q)) (coord.goes c e.found) (coord.goes c e.found).stage) (sym x.asked) next)
+
+    by_step : seats.Step shapes l pacing may e es → IsFew (e ∷ es) → ((c : coord.Coordinating) → Led es c → Holds es c) → (c : coord.Coordinating) → Led (e ∷ es) c → Holds (e ∷ es) c
+    by_step (seats.by_processor m x stays) few before c led =
+        let free = subst (λ (q : Ask). Leaves (seats.words shapes l pacing may es) q) (sym x.asked) (leaves (seats.words shapes l pacing may es) _ (leaves_numbers writes (started k e.begun m) x.sound_then)) in
+        beside free c (before c (sym stays ∙ led))
+    by_step (seats.by_worker w x stays) few before c led =
+        let free = subst (λ (q : Ask). Leaves (seats.words shapes l pacing may es) q) (sym x.asked) (leaves_all (seats.words shapes l pacing may es) _ (worker_quiet (seats.words shapes l pacing may es) works w x.sound_it x.busy)) in
+        beside free c (before c (sym stays ∙ led))
+    by_step (seats.by_lead b x) few before c led =
+        by_lead b c x (let both : actor.Leads c ≡ actor.Leads (coord.goes b e.found) = sym led ∙ x.then in cc) (few_before few) (before b x.is)
+
+  pub holds : (es : List (Entry Op)) → Legal (seats.it shapes l pacing may) es → IsFew es → (c : coord.Coordinating) → Led es c → Holds es c
+  holds [] legal few c led = at_first c led
+  holds (e ∷ es) legal few c led = by_step e es (seats.step shapes l pacing may e es writes legal (keeps es legal.0)) few (λ x was. holds es legal.0 (few_before e es few) x was) c led
+
+  lead_sound : (es : List (Entry Op)) (c : coord.Coordinating) → Legal (seats.it shapes l pacing may) es → Led es c → leading.Sound c
+  lead_sound es c legal led = (subst (Sound l) led ((keeps es legal).shakes.all_sound (seats.n shapes l pacing may) (omega arith))).1
+
+  pub counts : (es : List (Entry Op)) (c : coord.Coordinating) → Legal (seats.it shapes l pacing may) es → IsFew es → Led es c → CountsCycles (seats.it shapes l pacing may) pacing.room es c
+  counts es c legal few led = let s = lead_sound es c legal led in let h = (holds es legal few c led).at in record {
+    opened = h.opened_is;
+    begun = h.begun_is;
+    gen = h.gen_is;
+    number = h.number_is;
+    generation = h.generation_is;
+    marks = marked (told es).swept (told es).begun (told es).gen c c.stage s.1 (h.begun_is, h.gen_is);
+    cycles = h.keeps;
+  }

@@ -1,0 +1,121 @@
+-- The numbers of cycles are how often the list stores each: with each store of one it is one cycle later.
+use Rattle.std.proofs.Common.{◌≡◌, ℕ, suc, ◌+◌, ◌*◌, ◌≤◌, Bool, true, false, refl, sym, ap, subst, arith, List, [], ◌∷◌}
+use Rattle.gh_base.specs.declared.cell.Ask.TheVariants.{Store}
+use Rattle.gh_base.specs.declared.cell.Cell.TheVariants as cell
+use Rattle.gh_base.specs.Cells.{put, same_cell}
+use Rattle.gh_coord.specs.declared.close.CloseStage.TheVariants as close_stage
+use Rattle.gh_coord.specs.declared.open.OpenStage.TheVariants as open_stage
+use Rattle.gh_coord.specs.declared.tell.TellStage.TheVariants as tell_stage
+use Rattle.gh_lists.specs.Counts.{about_to_tell, CountsPlainly, stored_after, stored_in, stores, told_by}
+use Rattle.gh_lists.specs.Numbers.{close_part, KeepsCycles, open_part, tell_part}
+use Rattle.gh_lists.proofs.Vocabulary.{ahead_at, Ask, Cell, Close, CloseStage, CoordStage, Coordinating, CountsCycles, effect, Entry, IsFew, KeepsIt, Layout, Legal, Op, Open, opened_in, OpenStage, Outside, Pacing, Part, part_of, ProcessorWritesItsOwn, Shape, Tell, TellStage, Words, WorkersWriteTheirOwn}
+use Rattle.gh_lists.proofs.Changes.{change}
+use Rattle.gh_lists.specs.Changes.{begins, Change, ends, same, tells}
+use Rattle.gh_lists.specs.Counting.{rises, opened_in_stored}
+use Rattle.gh_lists.specs.Steps as seats
+
+-- what leaves a word whatever it is does not store it
+not_stored : (ask : Ask) (c : Cell) → ((w : Words) → effect w ask c ≡ w c) → stores c ask ≡ false
+not_stored (Store at value) c leaves = go (same_cell at c) refl where
+  go : (b : Bool) → same_cell at c ≡ b → b ≡ false
+  go true is = absurd (
+      let w : Words = λ x. suc value in
+      let same_value : put w at value c ≡ suc value = leaves w in
+      let stored : put w at value c ≡ value = rw is refl in
+      omega (arith, same_value, stored))
+  go false is = refl
+not_stored _ c leaves = refl
+
+-- how far the parts of a cycle are apart
+record InTurn (p : Part) : Type 0 where
+  opened_first : (ahead_at p).begun ≤ (ahead_at p).opened
+  begun_then : (ahead_at p).ended ≤ (ahead_at p).begun
+  one : (ahead_at p).opened ≤ 1
+
+in_turn : (p : Part) → InTurn p
+in_turn Outside = record { opened_first = omega arith; begun_then = omega arith; one = omega arith }
+in_turn _ = record { opened_first = omega arith; begun_then = omega arith; one = omega arith }
+
+-- the cycle that is about to be told
+open_kept : (p : OpenStage) → (ahead_at (open_part p)).kept ≡ 0
+open_kept open_stage.ClearWant = refl
+open_kept open_stage.ClearGcur = refl
+open_kept open_stage.StorePhase = refl
+open_kept open_stage.Ended = refl
+open_kept _ = refl
+
+close_kept : (p : CloseStage) → (ahead_at (close_part p)).kept ≡ 0
+close_kept close_stage.StorePhase = refl
+close_kept close_stage.Ended = refl
+close_kept _ = refl
+
+tell_kept : (p : TellStage) → (ahead_at (tell_part p)).kept ≡ told_by p
+tell_kept tell_stage.StoreTrigger = refl
+tell_kept tell_stage.StoreSwept = refl
+tell_kept _ = refl
+
+kept_at : (p : CoordStage) → (ahead_at (part_of p)).kept ≡ about_to_tell p
+kept_at (Open o) = open_kept o.stage
+kept_at (Close c) = close_kept c.stage
+kept_at (Tell t) = tell_kept t.stage
+kept_at _ = refl
+
+module _ (shapes : List Shape) (l : Layout) (pacing : Pacing) (may : ℕ → List (Entry Op) → Op → Bool)
+    (writes : ProcessorWritesItsOwn) (works : WorkersWriteTheirOwn)
+    (keeps : (es : List (Entry Op)) → Legal (seats.it shapes l pacing may) es → KeepsIt (seats.it shapes l pacing may) es) where
+  abbrev told : List (Entry Op) → Words
+  told es = seats.words shapes l pacing may es
+
+  record Stored (words : Words) (begun gen swept : ℕ) : Type 0 where
+    begun_is : words cell.Begun ≡ begun
+    gen_is : words cell.Gen ≡ 2 + 2 * gen
+    swept_is : words cell.Swept ≡ swept
+
+  abbrev StoredIn : List (Entry Op) → Type 0
+  StoredIn es = Stored (told es) (stored_in cell.Begun es) (stored_in cell.Gen es) (stored_in cell.Swept es)
+
+  abbrev After : List (Entry Op) → Ask → Type 0
+  After es q = Stored (effect (told es) q) (stored_after cell.Begun q (stored_in cell.Begun es)) (stored_after cell.Gen q (stored_in cell.Gen es)) (stored_after cell.Swept q (stored_in cell.Swept es))
+
+  one_more : (e : Entry Op) (es : List (Entry Op)) → Change shapes l pacing may e es → StoredIn es → StoredIn (e ∷ es)
+  one_more e es (same y) h = rw (not_stored e.ask cell.Begun y.begun, not_stored e.ask cell.Gen y.gen, not_stored e.ask cell.Swept y.swept) (record {
+    begun_is = let s = y.begun (told es) in let b = h.begun_is in omega (arith, s, b);
+    gen_is = let s = y.gen (told es) in let b = h.gen_is in omega (arith, s, b);
+    swept_is = let s = y.swept (told es) in let b = h.swept_is in omega (arith, s, b);
+  })
+  one_more e es (begins is) h = subst (After es) (sym is) (record { begun_is = ap suc h.begun_is; gen_is = h.gen_is; swept_is = h.swept_is })
+  one_more e es (ends y) h = subst (After es) (sym y.ask_is) (record { begun_is = h.begun_is; gen_is = let b = h.gen_is in omega (arith, b); swept_is = h.swept_is })
+  one_more e es (tells y) h = subst (After es) (sym y.ask_is) (record { begun_is = h.begun_is; gen_is = h.gen_is; swept_is = ap suc h.swept_is })
+
+  few_before : (e : Entry Op) (es : List (Entry Op)) → IsFew (e ∷ es) → IsFew es
+  few_before e es few = let up = rises e.ask (opened_in es) in omega (arith, few, up)
+
+  stored : (es : List (Entry Op)) → Legal (seats.it shapes l pacing may) es → IsFew es → StoredIn es
+  stored [] legal few = record { begun_is = refl; gen_is = refl; swept_is = refl }
+  stored (e ∷ es) legal few = let rest = few_before e es few in one_more e es (change shapes l pacing may writes works keeps e es legal rest) (stored es legal.0 rest)
+
+  pub plainly : (es : List (Entry Op)) (c : Coordinating) → Legal (seats.it shapes l pacing may) es → IsFew es → CountsCycles (seats.it shapes l pacing may) pacing.room es c → CountsPlainly (seats.it shapes l pacing may) pacing.room es c
+  plainly es c legal few h =
+      let s = stored es legal few in
+      let turn = in_turn (part_of c.stage) in
+      let begun = s.begun_is in
+      let gen = s.gen_is in
+      let swept = s.swept_is in
+      let want = opened_in_stored es in
+      let opened = h.opened in
+      let number = h.begun in
+      let generation = h.gen in
+      record {
+        begun = begun;
+        swept = swept;
+        gen = gen;
+        opened_first = let a = turn.opened_first in omega (arith, a, begun, swept, want, opened, number);
+        begun_then = let a = turn.begun_then in omega (arith, a, begun, swept, gen, number, generation);
+        ended_then = omega (arith, swept, gen, generation);
+        one_at_once = let a = turn.one in omega (arith, a, swept, want, opened);
+        marks = (
+          λ x. h.marks.0 (omega (arith, x, begun, gen)),
+          λ x. let y = h.marks.1 x in omega (arith, y, begun, gen),
+        );
+        kept = subst (λ (n : ℕ). KeepsCycles pacing.room n c.cycles) (let k = kept_at c.stage in omega (arith, k, swept)) h.cycles;
+      }

@@ -1,0 +1,129 @@
+-- The numbers at the stacks after every legal list.
+use Rattle.std.proofs.Common.{◌≡◌, ℕ, ◌≤◌, ◌==◌, ◌⊎◌, inl, inr, Bool, true, false, cond, eqb, refl, sym, ap, subst, ◌∙◌, arith, List, [], ◌∷◌}
+use Rattle.gh_base.specs.declared.cell.Cell.TheVariants as cell
+use Rattle.gh_coord.specs.Listing as coord
+use Rattle.gh_worker.specs.Listing as worker
+use Rattle.gh_lists.specs.declared.handshake.Actor.TheVariants as actor
+use Rattle.gh_lists.specs.Waits.{StacksAreNumbered}
+use Rattle.gh_lists.proofs.Vocabulary.{Add, ahead_at, And, Ask, Cell, CountsCycles, effect, END, Entry, IsFew, KeepsIt, Kind, Layout, Legal, Load, Op, opened_in, Or, Outside, Pacing, Part, part_of, Party, party_of, Processor, processor_kind, ProcessorInHandshake, ProcessorWritesItsOwn, put, same_cell, Shape, Stage, stage_of, started, Store, Swap, Words, WorkersWriteTheirOwn}
+use Rattle.gh_lists.specs.Frames.{Leaves as Leaves_, leaves, Numbers}
+use Rattle.gh_lists.specs.Counting.{rises}
+use Rattle.gh_lists.specs.Quiet.{leaves_all, Quiet, worker_quiet}
+use Rattle.gh_lists.specs.Aside.{Aside, aside as lead_aside}
+use Rattle.gh_lists.specs.Steps as seats
+use Rattle.gh_lists.specs.Writing.{IsNumberOf, leaves_numbers, NumbersStack, numbers_stack}
+use Rattle.gh_lists.specs.Awake.{knows_begun}
+
+begun_behind : (part : Part) → (ahead_at part).begun ≤ (ahead_at part).numbered
+begun_behind Outside = omega arith
+begun_behind _ = omega arith
+
+abbrev IsStack : Cell → Type 0
+IsStack c = (h : ℕ) × (c ≡ cell.Scanned h)
+
+which : (c : Cell) (g : ℕ) → (same_cell c (cell.Scanned g) ≡ false) ⊎ IsStack c
+which (cell.Scanned i) g = inr (i, refl)
+which _ g = inl refl
+
+module _ (words : Words) (g : ℕ) where
+  abbrev Same : Ask → Type 0
+  Same ask = effect words ask (cell.Scanned g) ≡ words (cell.Scanned g)
+
+  put_same : (c : Cell) (value : ℕ) → same_cell c (cell.Scanned g) ≡ false → put words c value (cell.Scanned g) ≡ words (cell.Scanned g)
+  put_same c value e = rw e refl
+
+  swap_same : (c : Cell) (old new : ℕ) → same_cell c (cell.Scanned g) ≡ false → (yes : Bool) → cond yes (put words c new) words (cell.Scanned g) ≡ words (cell.Scanned g)
+  swap_same c old new e true = put_same c new e
+  swap_same c old new e false = refl
+
+  -- a processor's
+  module _ (party : Party) (stage : Stage) where
+    abbrev Leads : Ask → Type 0
+    Leads ask = Same ask ⊎ IsNumberOf party stage (effect words ask (cell.Scanned g))
+
+    stored : (h value : ℕ) → IsNumberOf party stage value → (b : Bool) → (cond b value (words (cell.Scanned g)) ≡ words (cell.Scanned g)) ⊎ IsNumberOf party stage (cond b value (words (cell.Scanned g)))
+    stored h value n true = inr n
+    stored h value n false = inl refl
+
+    by_store : (c : Cell) (value : ℕ) → NumbersStack party stage (Store c value) → (same_cell c (cell.Scanned g) ≡ false) ⊎ IsStack c → Leads (Store c value)
+    by_store c value n (inl e) = inl (put_same c value e)
+    by_store c value n (inr h) = rw h.1 (stored h.0 value (subst (λ (d : Cell). NumbersStack party stage (Store d value)) h.1 n) (h.0 == g))
+
+    pub numbered : (ask : Ask) → NumbersStack party stage ask → Leads ask
+    numbered (Load c) n = inl refl
+    numbered (Store c value) n = by_store c value n (which c g)
+    numbered (Or c bits) n = elim (which c g) [ inl e ↦ inl (put_same c _ e) | inr h ↦ absurd (subst (λ (d : Cell). NumbersStack party stage (Or d bits)) h.1 n) ]
+    numbered (And c bits) n = elim (which c g) [ inl e ↦ inl (put_same c _ e) | inr h ↦ absurd (subst (λ (d : Cell). NumbersStack party stage (And d bits)) h.1 n) ]
+    numbered (Add c more) n = elim (which c g) [ inl e ↦ inl (put_same c _ e) | inr h ↦ absurd (subst (λ (d : Cell). NumbersStack party stage (Add d more)) h.1 n) ]
+    numbered (Swap c old new) n = elim (which c g) [ inl e ↦ inl (swap_same c old new e (eqb (words c) old)) | inr h ↦ absurd (subst (λ (d : Cell). NumbersStack party stage (Swap d old new)) h.1 n) ]
+
+module _ (shapes : List Shape) (l : Layout) (pacing : Pacing) (may : ℕ → List (Entry Op) → Op → Bool) (places : ProcessorInHandshake) (writes : ProcessorWritesItsOwn)
+    (keeps : (es : List (Entry Op)) → Legal (seats.it shapes l pacing may) es → KeepsIt (seats.it shapes l pacing may) es) where
+  abbrev k : Kind Processor Op
+  k = processor_kind shapes l
+
+  module _ (works : WorkersWriteTheirOwn)
+      (counts : (es : List (Entry Op)) (c : coord.Coordinating) → Legal (seats.it shapes l pacing may) es → IsFew es → seats.at shapes l pacing may es (seats.n shapes l pacing may) ≡ actor.Leads c → CountsCycles (seats.it shapes l pacing may) pacing.room es c) where
+    abbrev words : List (Entry Op) → Words
+    words es = seats.words shapes l pacing may es
+
+    abbrev AllNumbered : List (Entry Op) → Type 0
+    AllNumbered es = StacksAreNumbered (words es)
+
+    few_before : (e : Entry Op) (es : List (Entry Op)) → IsFew (e ∷ es) → IsFew es
+    few_before e es few = let up = rises e.ask (opened_in es) in omega (arith, few, up)
+
+    module _ (e : Entry Op) (es : List (Entry Op)) (legal : Legal (seats.it shapes l pacing may) (e ∷ es)) (few : IsFew (e ∷ es)) where
+      free : (m : Processor) → seats.RunsIt shapes l pacing may e es m → Leaves_ (words es) e.ask
+      free m x = subst (λ (q : Ask). Leaves_ (words es) q) (sym x.asked) (leaves (words es) _ (leaves_numbers writes (started k e.begun m) x.sound_then))
+
+      worker_free : (w : worker.Working) → seats.WorksIt shapes l pacing may e es w → Quiet (words es) e.ask
+      worker_free w x = subst (λ (q : Ask). Quiet (words es) q) (sym x.asked) (worker_quiet (words es) works w x.sound_it x.busy)
+
+      lead_free : (c : coord.Coordinating) → seats.LeadsIt shapes l pacing may e es c → Aside (words es) c.begun e.ask
+      lead_free c x = subst (λ (q : Ask). Aside (words es) c.begun q) (sym x.asked) (lead_aside (words es) c c.stage x.sound_it.1)
+
+      as_many : Leaves_ (words es) e.ask → words es cell.Begun ≤ words (e ∷ es) cell.Begun
+      as_many y = let same : words (e ∷ es) cell.Begun ≡ words es cell.Begun = ap (λ (n : Numbers). n.begun) y.numbers in omega (arith, same)
+
+      lead_rises : (c : coord.Coordinating) → CountsCycles (seats.it shapes l pacing may) pacing.room es c → (words (e ∷ es) cell.Begun ≡ words es cell.Begun) ⊎ (e.ask ≡ Store cell.Begun c.begun) → words es cell.Begun ≤ words (e ∷ es) cell.Begun
+      lead_rises c n (inl same) = omega (arith, same)
+      lead_rises c n (inr stored) =
+          let now : words (e ∷ es) cell.Begun ≡ c.begun = ap (λ (q : Ask). effect (words es) q cell.Begun) stored in
+          let a = n.begun in let b = n.number in let d = begun_behind (part_of c.stage) in
+          omega (arith, now, a, b, d)
+
+      -- no step takes the number of cycles begun back
+      pub begun_rises : words es cell.Begun ≤ words (e ∷ es) cell.Begun
+      begun_rises = by (seats.step shapes l pacing may e es writes legal (keeps es legal.0)) where
+        by : seats.Step shapes l pacing may e es → words es cell.Begun ≤ words (e ∷ es) cell.Begun
+        by (seats.by_processor m x s) = as_many (free m x)
+        by (seats.by_worker w x s) = as_many (leaves_all (words es) e.ask (worker_free w x))
+        by (seats.by_lead c x) = lead_rises c (counts es c legal.0 (few_before e es few) x.is) (lead_free c x).begun
+
+      -- A step leaves a stack's word, or writes the number of an end, or that of the cycle that has begun last.
+      pub stack_goes : (g : ℕ) → (words (e ∷ es) (cell.Scanned g) ≡ words es (cell.Scanned g)) ⊎ ((words (e ∷ es) (cell.Scanned g) ≡ END) ⊎ (words (e ∷ es) (cell.Scanned g) ≡ words es cell.Begun))
+      stack_goes g = by (seats.step shapes l pacing may e es writes legal (keeps es legal.0)) where
+        written : (m : Processor) (x : seats.RunsIt shapes l pacing may e es m) → IsNumberOf (party_of (started k e.begun m)) (stage_of (started k e.begun m)) (words (e ∷ es) (cell.Scanned g)) →
+            (words (e ∷ es) (cell.Scanned g) ≡ END) ⊎ (words (e ∷ es) (cell.Scanned g) ≡ words es cell.Begun)
+        written m x (inl y) = inl y
+        written m x (inr y) = inr (y.1 ∙ knows_begun shapes l pacing may places writes keeps e.actor m e.begun es legal.0 x.seat x.is x.sound_it legal.1.begins y.0)
+
+        by : seats.Step shapes l pacing may e es → (words (e ∷ es) (cell.Scanned g) ≡ words es (cell.Scanned g)) ⊎ ((words (e ∷ es) (cell.Scanned g) ≡ END) ⊎ (words (e ∷ es) (cell.Scanned g) ≡ words es cell.Begun))
+        by (seats.by_processor m x s) =
+            elim (numbered (words es) g (party_of (started k e.begun m)) (stage_of (started k e.begun m)) e.ask (subst (λ (q : Ask). NumbersStack (party_of (started k e.begun m)) (stage_of (started k e.begun m)) q) (sym x.asked) (numbers_stack places writes shapes (started k e.begun m) x.sound_then x.busy))) [
+              | inl y ↦ inl y
+              | inr y ↦ inr (written m x y)
+            ]
+        by (seats.by_worker w x s) = inl ((worker_free w x).scanned g)
+        by (seats.by_lead c x) = inl ((lead_free c x).scanned g)
+
+      next : AllNumbered es → AllNumbered (e ∷ es)
+      next h g = elim (stack_goes g) [
+        | inl same ↦ elim (h g) [ inl y ↦ inl (same ∙ y) | inr y ↦ inr (let up = begun_rises in omega (arith, same, y, up)) ]
+        | inr wrote ↦ elim wrote [ inl y ↦ inl y | inr y ↦ inr (let up = begun_rises in omega (arith, y, up)) ]
+      ]
+
+    pub are_numbered : (es : List (Entry Op)) → Legal (seats.it shapes l pacing may) es → IsFew es → AllNumbered es
+    are_numbered [] legal few g = inr (omega arith)
+    are_numbered (e ∷ es) legal few g = next e es legal few (are_numbered es legal.0 (few_before e es few)) g

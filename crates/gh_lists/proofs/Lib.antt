@@ -1,0 +1,6 @@
+pub mod Vocabulary
+pub mod Knowing
+pub mod LastCycle
+pub mod CycleNumbers
+pub mod Shaking
+pub mod Changes

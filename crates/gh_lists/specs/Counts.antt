@@ -1,0 +1,63 @@
+-- The numbers of cycles over every legal list of all actors, by how often the list stores each.
+use Rattle.std.specs.Prelude.{◌≡◌, ◌↔◌, ℕ, suc, ◌+◌, ◌*◌, ◌≤◌, ◌⊎◌, Bool, false, if◌then◌else◌, List, [], ◌∷◌}
+use Rattle.gh_base.specs.declared.cell.Ask.{Ask}
+use Rattle.gh_base.specs.declared.cell.Ask.TheVariants.{Store}
+use Rattle.gh_base.specs.declared.cell.Cell.{Cell}
+use Rattle.gh_base.specs.declared.cell.Cell.TheVariants as cell
+use Rattle.gh_base.specs.Cells.{same_cell}
+use Rattle.gh_coord.specs.declared.coord.CoordStage.TheVariants.{Tell}
+use Rattle.gh_coord.specs.declared.tell.TellStage.{TellStage}
+use Rattle.gh_coord.specs.declared.tell.TellStage.TheVariants.{StoreSwept, StoreTrigger}
+use Rattle.gh_coord.specs.Handshake as leading
+use Rattle.gh_lists.specs.declared.handshake.Actor.TheVariants as actor
+use Rattle.gh_lists.specs.Handshake.{Pacing, those}
+use Rattle.gh_lists.specs.Marking.{IsBeginning}
+use Rattle.gh_lists.specs.Numbers.{IsFew, KeepsCycles}
+use Rattle.gh_lists.specs.Vocabulary.{acks_of, Actor, Coordinating, CoordStage, Entry, Layout, Legal, Op, Setting, Shape, state_of, Words, words_after}
+
+-- the step stores this word
+abbrev pub stores : Cell → Ask → Bool
+stores c (Store at value) = same_cell at c
+stores c _ = false
+
+-- one more where it does
+abbrev pub stored_after : Cell → Ask → (before : ℕ) → ℕ
+stored_after c ask before = if stores c ask then suc before else before
+
+-- how many entries of the list store this word
+abbrev pub stored_in : Cell → List (Entry Op) → ℕ
+stored_in c [] = 0
+stored_in c (e ∷ es) = stored_after c e.ask (stored_in c es)
+
+-- the last cycle that has ended is in the coordinator's list, and is not told to be swept yet: 1, or 0
+abbrev pub told_by : TellStage → ℕ
+told_by StoreTrigger = 1
+told_by StoreSwept = 1
+told_by _ = 0
+
+abbrev pub about_to_tell : CoordStage → ℕ
+about_to_tell (Tell t) = told_by t.stage
+about_to_tell _ = 0
+
+module _ (s : Setting Actor Op) (room : ℕ) (es : List (Entry Op)) (c : Coordinating) where
+  abbrev words : Words
+  words = words_after s.opening es
+
+  pub record CountsPlainly : Type 0 where
+    -- each number says how often it was stored
+    pub begun : words cell.Begun ≡ stored_in cell.Begun es
+    pub swept : words cell.Swept ≡ stored_in cell.Swept es
+    pub gen : words cell.Gen ≡ 2 + 2 * stored_in cell.Gen es
+    -- a cycle is opened, then its number stands as begun, then its marking ends with the next sweep generation, then it is swept; and no other is opened before
+    pub opened_first : stored_in cell.Begun es ≤ stored_in cell.Want es
+    pub begun_then : stored_in cell.Gen es ≤ stored_in cell.Begun es
+    pub ended_then : stored_in cell.Swept es ≤ stored_in cell.Gen es
+    pub one_at_once : stored_in cell.Want es ≤ stored_in cell.Swept es + 1
+    -- a number stands as begun whose marking has not ended exactly while a cycle is marked, and where the store of that phase is next
+    pub marks : stored_in cell.Begun es ≡ stored_in cell.Gen es + 1 ↔ (leading.Marks c.stage ⊎ IsBeginning c.stage)
+    -- The coordinator's list of cycles has them in their order, and none is left out as long as there is room: those that are swept, and the one that it is about to tell.
+    pub kept : KeepsCycles room (stored_in cell.Swept es + about_to_tell c.stage) c.cycles
+
+abbrev pub EveryListCountsPlainly : Type 0
+EveryListCountsPlainly = (shapes : List Shape) (l : Layout) (pacing : Pacing) (may_begin : ℕ → List (Entry Op) → Op → Bool) (es : List (Entry Op)) (c : Coordinating) →
+    Legal (those shapes l pacing may_begin) es → IsFew es → state_of (those shapes l pacing may_begin).kind (acks_of l) es ≡ actor.Leads c → CountsPlainly (those shapes l pacing may_begin) pacing.room es c

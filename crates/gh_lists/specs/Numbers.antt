@@ -1,0 +1,144 @@
+-- The numbers of cycles over every legal list of all actors: in the words, with the coordinator, and in its list of cycles.
+use Rattle.std.specs.Prelude.{◌≡◌, ℕ, suc, ◌+◌, ◌*◌, ◌^◌, ◌≤◌, ◌⊎◌, ◌↔◌, Bool, true, false, if◌then◌else◌, min, List, [], ◌∷◌, length, slice_get, Some}
+use Rattle.gh_base.specs.declared.cell.Ask.{Ask}
+use Rattle.gh_base.specs.declared.cell.Ask.TheVariants.{Store, Or}
+use Rattle.gh_base.specs.declared.cell.Cell.TheVariants as cell
+use Rattle.gh_coord.specs.declared.close.CloseStage.{CloseStage}
+use Rattle.gh_coord.specs.declared.close.CloseStage.TheVariants as close_stage
+use Rattle.gh_coord.specs.declared.coord.CoordStage.TheVariants.{LoadAck, LoadWant, Stop, Open, Watch, StopAgain, Check, MarkOn, Close, Sweep, Count, Tell, Done}
+use Rattle.gh_coord.specs.declared.open.OpenStage.TheVariants as open_stage
+use Rattle.gh_coord.specs.declared.tell.TellStage.{TellStage}
+use Rattle.gh_coord.specs.declared.tell.TellStage.TheVariants as tell_stage
+use Rattle.gh_coord.specs.Handshake as leading
+use Rattle.gh_lists.specs.declared.handshake.Actor.TheVariants as actor
+use Rattle.gh_lists.specs.Handshake.{Pacing, those}
+use Rattle.gh_lists.specs.Marking.{IsBeginning}
+use Rattle.gh_lists.specs.Vocabulary.{acks_of, Actor, CoordStage, Coordinating, Cycle, Entry, Kept, Layout, Legal, Op, OpenStage, Setting, Shape, state_of, Words, words_after}
+
+-- Where the coordinator is in a cycle.
+
+pub data Part : Type 0 where
+  -- the last cycle is told, and the next has no number yet
+  Outside : Part
+  -- the next has its number, and is still asked for
+  Numbered : Part
+  -- the request is cleared
+  Opened : Part
+  -- its number stands as begun
+  Begun : Part
+  -- it is checked that nothing is left to be marked, and the next sweep generation has its number
+  Checked : Part
+  -- which stands
+  Ended : Part
+  -- what the sweep has counted is read
+  Counted : Part
+
+abbrev pub open_part : OpenStage → Part
+open_part open_stage.ClearWant = Numbered
+open_part open_stage.StorePhase = Begun
+open_part open_stage.Ended = Begun
+open_part _ = Opened
+
+abbrev pub close_part : CloseStage → Part
+close_part close_stage.StorePhase = Ended
+close_part close_stage.Ended = Ended
+close_part _ = Checked
+
+abbrev pub tell_part : TellStage → Part
+tell_part tell_stage.StoreTrigger = Counted
+tell_part tell_stage.StoreSwept = Counted
+tell_part _ = Outside
+
+abbrev pub part_of : CoordStage → Part
+part_of (LoadAck i) = Outside
+part_of LoadWant = Outside
+part_of (Stop st) = Outside
+part_of (Open o) = open_part o.stage
+part_of (Watch w) = Begun
+part_of (StopAgain st) = Begun
+part_of (Check w) = Begun
+part_of MarkOn = Begun
+part_of (Close c) = close_part c.stage
+part_of (Sweep w) = Ended
+part_of (Count c) = Ended
+part_of (Tell t) = tell_part t.stage
+part_of Done = Outside
+
+-- How many cycles more than are swept have a number, are opened, have begun, have a sweep generation, have ended, and are kept.
+pub record Ahead : Type 0 where
+  pub numbered : ℕ
+  pub opened : ℕ
+  pub begun : ℕ
+  pub generation : ℕ
+  pub ended : ℕ
+  pub kept : ℕ
+
+abbrev pub ahead_at : Part → Ahead
+ahead_at Outside = record { numbered = 0; opened = 0; begun = 0; generation = 0; ended = 0; kept = 0 }
+ahead_at Numbered = record { numbered = 1; opened = 0; begun = 0; generation = 0; ended = 0; kept = 0 }
+ahead_at Opened = record { numbered = 1; opened = 1; begun = 0; generation = 0; ended = 0; kept = 0 }
+ahead_at Begun = record { numbered = 1; opened = 1; begun = 1; generation = 0; ended = 0; kept = 0 }
+ahead_at Checked = record { numbered = 1; opened = 1; begun = 1; generation = 1; ended = 0; kept = 0 }
+ahead_at Ended = record { numbered = 1; opened = 1; begun = 1; generation = 1; ended = 1; kept = 0 }
+ahead_at Counted = record { numbered = 1; opened = 1; begun = 1; generation = 1; ended = 1; kept = 1 }
+
+-- the generation of the heap once so many cycles have ended
+abbrev pub generation_of : (ended : ℕ) → ℕ
+generation_of ended = 2 + 2 * ended
+
+-- So many cycles are kept: in their order, by their numbers from 1 on, and none is left out as long as there is room.
+pub record KeepsCycles (room many : ℕ) (c : Kept) : Type 0 where
+  pub room_is : c.room ≡ room
+  pub many_are : length c.items ≡ min many room
+  pub numbered : (i : ℕ) (x : Cycle) → slice_get c.items i ≡ Some x → x.k ≡ suc i
+
+-- How often a cycle was opened, and how often one was asked for.
+
+abbrev pub opens_one : Ask → Bool
+opens_one (Store cell.Want value) = true
+opens_one _ = false
+
+abbrev pub asks_for_one : Ask → Bool
+asks_for_one (Or cell.Want bits) = true
+asks_for_one _ = false
+
+abbrev pub opened_after : Ask → (before : ℕ) → ℕ
+opened_after ask before = if opens_one ask then suc before else before
+
+abbrev pub asked_after : Ask → (before : ℕ) → ℕ
+asked_after ask before = if asks_for_one ask then suc before else before
+
+abbrev pub opened_in : List (Entry Op) → ℕ
+opened_in [] = 0
+opened_in (e ∷ es) = opened_after e.ask (opened_in es)
+
+abbrev pub asked_in : List (Entry Op) → ℕ
+asked_in [] = 0
+asked_in (e ∷ es) = asked_after e.ask (asked_in es)
+
+-- so few that no number begins anew
+abbrev pub IsFew : List (Entry Op) → Type 0
+IsFew es = opened_in es + 2 ≤ 2 ^ 33
+
+-- What every legal list keeps, as long as the cycles are so few.
+module _ (s : Setting Actor Op) (room : ℕ) (es : List (Entry Op)) (c : Coordinating) where
+  abbrev words : Words
+  words = words_after s.opening es
+
+  abbrev ahead : Ahead
+  ahead = ahead_at (part_of c.stage)
+
+  pub record CountsCycles : Type 0 where
+    pub opened : opened_in es ≡ words cell.Swept + ahead.opened
+    -- the words, and the coordinator's own numbers
+    pub begun : words cell.Begun ≡ words cell.Swept + ahead.begun
+    pub gen : words cell.Gen ≡ generation_of (words cell.Swept + ahead.ended)
+    pub number : c.begun ≡ words cell.Swept + ahead.numbered
+    pub generation : c.generation ≡ generation_of (words cell.Swept + ahead.generation)
+    -- one cycle more has begun than has ended exactly while it is marked, and where the store of that phase is next
+    pub marks : words cell.Gen ≡ 2 * words cell.Begun ↔ (leading.Marks c.stage ⊎ IsBeginning c.stage)
+    pub cycles : KeepsCycles room (words cell.Swept + ahead.kept) c.cycles
+
+abbrev pub EveryListCountsCycles : Type 0
+EveryListCountsCycles = (shapes : List Shape) (l : Layout) (pacing : Pacing) (may_begin : ℕ → List (Entry Op) → Op → Bool) (es : List (Entry Op)) (c : Coordinating) →
+    Legal (those shapes l pacing may_begin) es → IsFew es → state_of (those shapes l pacing may_begin).kind (acks_of l) es ≡ actor.Leads c → CountsCycles (those shapes l pacing may_begin) pacing.room es c

@@ -1,0 +1,166 @@
+-- What an entry of a legal list is: a step of a processor, of a worker, or of the coordinator.
+use Rattle.std.proofs.Common.{◌≡◌, ℕ, ◌+◌, ◌<◌, ◌≤◌, Bool, true, false, cond, ltb, refl, sym, ap, subst, ◌∙◌, arith, List, [], ◌∷◌, Option, Some, None}
+use Rattle.std.proofs.lemmas.Bool.Decides.{nat_tests}
+use Rattle.gh_base.specs.declared.cell.Ask.{Ask}
+use Rattle.gh_base.specs.declared.layout.Layout.{Layout}
+use Rattle.gh_base.specs.declared.machine.Entry.{Entry}
+use Rattle.gh_base.specs.declared.operation.Op.{Op}
+use Rattle.gh_base.specs.declared.shape.Shape.{Shape}
+use Rattle.gh_base.specs.Cells.{Words}
+use Rattle.gh_base.specs.Lists.{Begins, Kind, Legal, Setting, started, state_of, words_after}
+use Rattle.gh_base.specs.Steps.{cell_of}
+use Rattle.gh_mutator.specs.declared.processor.Processor.{Processor}
+use Rattle.gh_mutator.specs.Deeds.{processor_kind}
+use Rattle.gh_mutator.specs.Running.{IsSound}
+use Rattle.gh_mutator_writes.specs.Writing.{ProcessorWritesItsOwn}
+use Rattle.gh_coord.specs.Handshake as leading
+use Rattle.gh_coord.specs.Listing as coord
+use Rattle.gh_coord.specs.Stopping.{acks_of}
+use Rattle.gh_worker.specs.Handshake as working
+use Rattle.gh_worker.specs.Listing as worker
+use Rattle.gh_lists.specs.declared.handshake.Actor.{Actor}
+use Rattle.gh_lists.specs.declared.handshake.Actor.TheVariants as actor
+use Rattle.gh_lists.specs.Handshake.{asks, is_busy, KeepsIt, Pacing, Sound, those}
+use Rattle.gh_lists.specs.Seats.{IsSeated, lead_started, leads, other, run_started, runs, seated, worker_started, works}
+
+module _ (shapes : List Shape) (l : Layout) (pacing : Pacing) (may : ℕ → List (Entry Op) → Op → Bool) where
+  abbrev k : Kind Processor Op
+  k = processor_kind shapes l
+
+  abbrev pub n : ℕ
+  n = acks_of l
+
+  abbrev pub it : Setting Actor Op
+  it = those shapes l pacing may
+
+  abbrev pub at : List (Entry Op) → ℕ → Actor
+  at es a = state_of it.kind a es
+
+  abbrev pub words : List (Entry Op) → Words
+  words es = words_after it.opening es
+
+  -- before the first step
+  pub first_lead : (c : coord.Coordinating) → at [] n ≡ actor.Leads c → c ≡ coord.opening l n pacing.gogc pacing.minheap pacing.room
+  first_lead c led = go (ltb n l.procs) (ltb n n) led where
+    go : (b d : Bool) → cond b (actor.Runs (k.start n)) (cond d (actor.Marks (worker.opening l n)) (actor.Leads (coord.opening l n pacing.gogc pacing.minheap pacing.room))) ≡ actor.Leads c → c ≡ coord.opening l n pacing.gogc pacing.minheap pacing.room
+    go true d x = absurd cc
+    go false true x = absurd cc
+    go false false x = cc
+
+  -- who is at the coordinator's seat
+  pub record LedBy (es : List (Entry Op)) : Type 0 where
+    pub lead : coord.Coordinating
+    pub led_by : at es n ≡ actor.Leads lead
+
+  pub led_by : (es : List (Entry Op)) → LedBy es
+  led_by es = go (at es n) refl where
+    go : (m : Actor) → at es n ≡ m → LedBy es
+    go (actor.Leads c) is = record { lead = c; led_by = is }
+    go (actor.Runs m) is = absurd (let lt : n < l.procs = subst (IsSeated l n) is (seated shapes l pacing es n) in omega (arith, lt))
+    go (actor.Marks w) is = absurd (let lt : n < n = (subst (IsSeated l n) is (seated shapes l pacing es n)).1 in omega (arith, lt))
+
+  pub worker_seat : (es : List (Entry Op)) (a : ℕ) (w : worker.Working) → at es a ≡ actor.Marks w → a < n
+  worker_seat es a w is = (subst (IsSeated l a) is (seated shapes l pacing es a)).1
+
+  module _ (e : Entry Op) (es : List (Entry Op)) where
+    -- a processor's, which may have begun an operation
+    pub record RunsIt (m : Processor) : Type 0 where
+      pub is : at es e.actor ≡ actor.Runs m
+      pub seat : e.actor < l.procs
+      pub then : at (e ∷ es) e.actor ≡ actor.Runs (k.takes (started k e.begun m) e.found)
+      pub sound_it : IsSound m
+      pub sound_then : IsSound (started k e.begun m)
+      pub busy : k.busy (started k e.begun m) ≡ true
+      pub asked : e.ask ≡ k.asks (started k e.begun m)
+
+    pub record WorksIt (w : worker.Working) : Type 0 where
+      pub is : at es e.actor ≡ actor.Marks w
+      pub from : l.procs ≤ e.actor
+      pub seat : e.actor < n
+      pub then : at (e ∷ es) e.actor ≡ actor.Marks (worker.goes w e.found)
+      pub sound_it : working.Sound w
+      pub busy : worker.is_busy w.stage ≡ true
+      pub asked : e.ask ≡ worker.asks w
+
+    pub record LeadsIt (c : coord.Coordinating) : Type 0 where
+      pub is : at es n ≡ actor.Leads c
+      pub seat : e.actor ≡ n
+      pub then : at (e ∷ es) n ≡ actor.Leads (coord.goes c e.found)
+      pub sound_it : leading.Sound c
+      pub busy : coord.is_busy c.stage ≡ true
+      pub asked : e.ask ≡ coord.asks c
+      pub found : e.found ≡ words es (cell_of (coord.asks c))
+
+    pub data Step : Type 0 where
+      by_processor : (m : Processor) → RunsIt m → at (e ∷ es) n ≡ at es n → Step
+      by_worker : (w : worker.Working) → WorksIt w → at (e ∷ es) n ≡ at es n → Step
+      by_lead : (c : coord.Coordinating) → LeadsIt c → Step
+
+    module _ (writes : ProcessorWritesItsOwn) (legal : Legal it (e ∷ es)) (keeps : KeepsIt it es) where
+      abbrev begun : Actor
+      begun = started it.kind e.begun (at es e.actor)
+
+      within : e.actor < n + 1
+      within = legal.1.actor
+
+      sound_of : (m : Actor) → at es e.actor ≡ m → Sound l m
+      sound_of m is = subst (Sound l) is (keeps.shakes.all_sound e.actor within)
+
+      seat_of : (m : Actor) → at es e.actor ≡ m → IsSeated l e.actor m
+      seat_of m is = subst (IsSeated l e.actor) is (seated shapes l pacing es e.actor)
+
+      busy_of : (m : Actor) → begun ≡ m → is_busy m ≡ true
+      busy_of m is = sym (ap is_busy is) ∙ legal.1.runs
+
+      asked_of : (m : Actor) → begun ≡ m → e.ask ≡ asks m
+      asked_of m is = legal.1.asks ∙ ap asks is
+
+      sound_begun : (m : Processor) (o : Option Op) → at es e.actor ≡ actor.Runs m → Begins it e.actor es o → IsSound m → IsSound (started k o m)
+      sound_begun m None is b s = s
+      sound_begun m (Some o) is b s = writes.sound_begins shapes l m o s (sym (ap is_busy is) ∙ b.0)
+
+      stays : e.actor < n → at (e ∷ es) n ≡ at es n
+      stays lt = other shapes l pacing e es n (grind (arith, nat_tests, lt))
+
+      by : (m : Actor) → at es e.actor ≡ m → Step
+      by (actor.Runs m) is =
+          let lt : e.actor < l.procs = seat_of (actor.Runs m) is in
+          let begun_is : begun ≡ actor.Runs (started k e.begun m) = ap (started it.kind e.begun) is ∙ run_started shapes l pacing e.begun m in
+          by_processor m (record {
+            is = is;
+            seat = lt;
+            then = runs shapes l pacing e es m is;
+            sound_it = (sound_of (actor.Runs m) is).0;
+            sound_then = sound_begun m e.begun is legal.1.begins (sound_of (actor.Runs m) is).0;
+            busy = busy_of (actor.Runs (started k e.begun m)) begun_is;
+            asked = asked_of (actor.Runs (started k e.begun m)) begun_is;
+          }) (stays (omega (arith, lt)))
+      by (actor.Marks w) is =
+          let lt : e.actor < n = (seat_of (actor.Marks w) is).1 in
+          let begun_is : begun ≡ actor.Marks w = ap (started it.kind e.begun) is ∙ worker_started shapes l pacing e.begun w in
+          by_worker w (record {
+            is = is;
+            from = (seat_of (actor.Marks w) is).0;
+            seat = lt;
+            then = works shapes l pacing e es w is;
+            sound_it = sound_of (actor.Marks w) is;
+            busy = busy_of (actor.Marks w) begun_is;
+            asked = asked_of (actor.Marks w) begun_is;
+          }) (stays lt)
+      by (actor.Leads c) is =
+          let ge : n ≤ e.actor = (seat_of (actor.Leads c) is).0 in
+          let end : e.actor ≡ n = omega (arith, ge, within) in
+          let begun_is : begun ≡ actor.Leads c = ap (started it.kind e.begun) is ∙ lead_started shapes l pacing e.begun c in
+          let asked_it : e.ask ≡ coord.asks c = asked_of (actor.Leads c) begun_is in
+          by_lead c (record {
+            is = sym (ap (at es) end) ∙ is;
+            seat = end;
+            then = sym (ap (at (e ∷ es)) end) ∙ leads shapes l pacing e es c is;
+            sound_it = (sound_of (actor.Leads c) is).1;
+            busy = busy_of (actor.Leads c) begun_is;
+            asked = asked_it;
+            found = legal.1.found ∙ ap (λ (q : Ask). words es (cell_of q)) asked_it;
+          })
+
+      pub step : Step
+      step = by (at es e.actor) refl

@@ -1,0 +1,233 @@
+-- What holds while a cycle is marked, after every legal list; and what holds behind the coordinator's check.
+use Rattle.std.proofs.Common.{◌≡◌, ◌≢◌, ℕ, ◌+◌, ◌<◌, ◌≤◌, ◌==◌, Bool, true, false, cond, ltb, refl, sym, ap, subst, ◌∙◌, arith, inl, inr, Some, None, List, [], ◌∷◌}
+use Rattle.gh_base.specs.declared.cell.Cell.TheVariants as cell
+use Rattle.gh_marks.specs.Colours.{Black, Buffered, Colour, IsShaded, mark_of, Pending, Placing, Taken, White}
+use Rattle.gh_marks.specs.Ends.{IsDone, IsFound}
+use Rattle.gh_marks.specs.Laws.{MarkingEndsClean, WhatIsFoundIsDone}
+use Rattle.gh_phase.specs.declared.view.RunPhase.TheVariants as run
+use Rattle.gh_coord.specs.Handshake as leading
+use Rattle.gh_coord.specs.Listing as coord
+use Rattle.gh_worker.specs.Listing as worker
+use Rattle.gh_worker.specs.MarkFacts as marks
+use Rattle.gh_lists.specs.declared.handshake.Actor.TheVariants as actor
+use Rattle.gh_lists.specs.Handshake.{asks}
+use Rattle.gh_lists.specs.Marking.{IsLedBy, setting, words}
+use Rattle.gh_lists.specs.Starts.{legal_start, whole}
+use Rattle.gh_marked.proofs.Vocabulary.{acks_of, Actor, actors, actors_after, Arena, Ask, buffer_of, buffers_of, cell_of, ChangesOneCell, Close, CoordStage, Cycle, effect, EndsClean, Entry, Hands, holder_in, is_busy, IsChecked, IsInLimits, IsStartOf, KeepsIt, Layout, Legal, ltb-false, ltb-true, mark_words, Marking as Shared, nat_tests, nothing, Op, opening_processor, Pacing, place_of, row_bit, RunPhase, started, StepKeepsIt, Stopped, WaitsWithNone, Words}
+use Rattle.gh_marked.proofs.CycleMarking.Apart.{stays_clear}
+use Rattle.gh_marked.specs.Marked.{IsInMarking, KnowsHeap, MarksToTheEnd, StepsByMoves, WasMarked}
+use Rattle.gh_marked.specs.Checking.{begins as begins_cycle, checked_lasts, CheckedAt, Found, Goes, goes_on, goes_so, leaves, still_stopped}
+use Rattle.gh_marked.proofs.CycleMarking.Looking.{none_sweeps}
+use Rattle.gh_marked.proofs.CycleMarking.Moving as moving
+use Rattle.gh_marked.proofs.CycleMarking.Moving.{Known}
+use Rattle.gh_lists.specs.Steps as seats
+use Rattle.gh_lists.specs.Seats.{IsSeated, lead_started, leads, other, seated}
+
+module _ (arena : Arena) (pacing : Pacing) (may : ℕ → List (Entry Op) → Op → Bool)
+    (limits : IsInLimits arena.layout) (known : Known) (polls : StepsByMoves arena pacing may) (heap : KnowsHeap arena pacing may)
+    (keeps : (es : List (Entry Op)) → Legal (setting arena pacing may) es → KeepsIt (setting arena pacing may) es)
+    (step_keeps : (e : Entry Op) (es : List (Entry Op)) → Legal (setting arena pacing may) (e ∷ es) → StepKeepsIt (setting arena pacing may) e es)
+    (one : ChangesOneCell) (done : WhatIsFoundIsDone) (clean : MarkingEndsClean) where
+  abbrev n : ℕ
+  n = acks_of arena.layout
+
+  abbrev at : List (Entry Op) → ℕ → Actor
+  at = actors_after arena pacing may
+
+  abbrev told : List (Entry Op) → Words
+  told = words arena pacing may
+
+  abbrev Led : List (Entry Op) → coord.Coordinating → Type 0
+  Led = IsLedBy arena pacing may
+
+  abbrev In : List (Entry Op) → coord.Coordinating → Type 0
+  In = IsInMarking arena pacing may
+
+  abbrev Lawful : List (Entry Op) → Type 0
+  Lawful = Legal (setting arena pacing may)
+
+  record Holds (es : List (Entry Op)) (c : coord.Coordinating) : Type 0 where
+    marking : In es c
+    checked : CheckedAt arena.layout c.begun (told es) c.stage
+
+  seat_of : (es : List (Entry Op)) (a : ℕ) (m : Actor) → at es a ≡ m → IsSeated arena.layout a m
+  seat_of es a m is = subst (IsSeated arena.layout a) is (seated arena.shapes arena.layout pacing es a)
+
+  -- before the first step nothing is marked
+  none_at_first : (c : coord.Coordinating) → Led [] c → leading.Marks c.stage → ⊥
+  none_at_first c led on = go (ltb n arena.layout.procs) (ltb n n) led where
+    go : (b d : Bool) → cond b (actor.Runs (opening_processor arena.layout n)) (cond d (actor.Marks (worker.opening arena.layout n)) (actor.Leads (coord.opening arena.layout n pacing.gogc pacing.minheap pacing.room))) ≡ actor.Leads c → ⊥
+    go true d x = absurd cc
+    go false true x = absurd cc
+    go false false x =
+        let is : coord.opening arena.layout n pacing.gogc pacing.minheap pacing.room ≡ c = cc in
+        subst (λ (y : coord.Coordinating). leading.Marks y.stage) (sym is) on
+
+  -- Where the coordinator has checked it.
+  module _ (es : List (Entry Op)) (legal : Lawful es) (c : coord.Coordinating) (led : Led es c) (i : In es c) (f : Found arena.layout c.begun (told es)) (post : leading.post_at c.stage ≡ Stopped run.Mark) where
+    abbrev z : Cycle
+    z = i.cycle
+
+    abbrev s : Shared
+    s = i.shared
+
+    kept : KeepsIt (setting arena pacing may) es
+    kept = keeps es legal
+
+    -- nobody has anything in hand
+    empty_handed : (a : ℕ) → Hands a s nothing
+    empty_handed a = go (at es a) refl where
+      among : (b : Bool) → ltb a n ≡ b → (a < n → Hands a s nothing) → Hands a s nothing
+      among true x f = f (ltb-true _ _ x)
+      among false x f = i.coordinator a (ltb-false _ _ x)
+
+      worker_has : (w : worker.Working) → WaitsWithNone (leading.lead_of c).stops w → marks.Facts z a s w → Hands a s nothing
+      worker_has w waits facts = (subst (marks.StageFacts z a s w.held) waits.is_at facts.stage_is).0
+
+      go : (m : Actor) → at es a ≡ m → Hands a s nothing
+      go (actor.Runs m) is =
+          let lt : a < arena.layout.procs = seat_of es a (actor.Runs m) is in
+          (known.processors.waits z a s m (leading.lead_of c).stops (kept.processors_wait c run.Mark a m led post (omega (arith, lt)) is) (i.processors a m lt is)).nothing_in_hand
+      go (actor.Marks w) is =
+          let lt : a < n = (seat_of es a (actor.Marks w) is).1 in
+          worker_has w (kept.workers_wait c run.Mark a w led post lt is) (i.workers a w lt is)
+      go (actor.Leads x) is = i.coordinator a (seat_of es a (actor.Leads x) is).0
+
+    empty : (b : ℕ) → holder_in (told es (cell.Buffer b)) ≡ 0 → (buffer_of (told es (cell.Buffer b))).count ≡ 0
+    empty b free = go (ltb b (buffers_of arena.layout)) refl where
+      go : (x : Bool) → ltb b (buffers_of arena.layout) ≡ x → (buffer_of (told es (cell.Buffer b))).count ≡ 0
+      go true x = f.empty b (ltb-true _ _ x) free
+      go false x = ap (λ (v : ℕ). (buffer_of v).count) (stays_clear (setting arena pacing may) one b (ltb-false _ _ x) refl es legal)
+
+    is_found : IsFound z s
+    is_found = record {
+      seats = empty_handed;
+      empty = λ b. subst (λ (w : Words). holder_in (w (cell.Buffer b)) ≡ 0 → (buffer_of (w (cell.Buffer b))).count ≡ 0) (sym i.is.words_are) (empty b);
+      cursor = subst (λ (x : Arena). x.layout.globals ≤ s.words cell.Gcur) (sym i.is.arena_is) (subst (λ (w : Words). arena.layout.globals ≤ w cell.Gcur) (sym i.is.words_are) f.cursor);
+      stacks = λ g m. subst (λ (w : Words). z.number ≤ w (cell.Scanned g)) (sym i.is.words_are) (subst (λ (x : ℕ). x ≤ told es (cell.Scanned g)) (sym i.is.number_is) (f.stacks g (subst (λ (x : Arena). g < x.layout.goroutines) i.is.arena_is m)));
+    }
+
+    is_done : IsDone z s
+    is_done = done z s i.good is_found
+
+    -- what is not of the cycle is not shaded, and nobody is placing
+    dead : (o : ℕ) → s.since o ≡ false → row_bit (mark_words s.words) o ≡ 0
+    dead o other_than = go (s.colour o) refl where
+      clash : {A : Type 0} (x : Colour) → s.colour o ≡ x → IsShaded x → A
+      clash x e y = absurd (let yes : s.since o ≡ true = i.good.objects.shaded o (rw e y) in let both : true ≡ false = sym yes ∙ other_than in cc)
+
+      go : (x : Colour) → s.colour o ≡ x → row_bit (mark_words s.words) o ≡ 0
+      go White e = i.good.marks o ∙ ap mark_of e
+      go (Placing b) e = absurd (let none : None ≡ Some o = ((empty_handed b).has.is_reserved o).1 e in cc)
+      go (Pending b) e = clash (Pending b) e tt
+      go (Buffered b j) e = clash (Buffered b j) e tt
+      go (Taken b) e = clash (Taken b) e tt
+      go Black e = clash Black e tt
+
+    ends : EndsClean z s
+    ends = record { done = is_done; reached = clean z s i.good is_done; dead = dead }
+
+  -- behind the check all is found, in a stopped world
+  behind : (l : Layout) (number : ℕ) (w : Words) (p : CoordStage) → leading.Marks p → IsChecked p → CheckedAt l number w p → Found l number w × (leading.post_at p ≡ Stopped run.Mark)
+  behind l number w (Close x) on y h = (h, still_stopped x.stage on)
+  behind l number w _ on y h = absurd y
+
+  to_the_end : (es : List (Entry Op)) (c : coord.Coordinating) → Lawful es → Led es c → leading.Marks c.stage → Holds es c → MarksToTheEnd arena pacing may es c
+  to_the_end es c legal led on h = record {
+    marking = h.marking;
+    ends = λ x. let y = behind arena.layout c.begun (told es) c.stage on x h.checked in ends es legal c led h.marking y.0 y.1;
+  }
+
+  -- The list as it was.
+  abbrev HeldBefore : List (Entry Op) → Type 0
+  HeldBefore es = (start : List (Entry Op)) (c : coord.Coordinating) → IsStartOf start es → Led start c → leading.Marks c.stage → Holds start c
+
+  was_marked : (es : List (Entry Op)) → Lawful es → HeldBefore es → WasMarked arena pacing may es
+  was_marked es legal before start c of led on = to_the_end start c (legal_start (setting arena pacing may) start es of legal) led on (before start c of led on)
+
+  module _ (e : Entry Op) (es : List (Entry Op)) (legal : Lawful (e ∷ es)) where
+    abbrev a : ℕ
+    a = e.actor
+
+    others_stay : (b : ℕ) → b ≢ a → at (e ∷ es) b ≡ at es b
+    others_stay b differs = other arena.shapes arena.layout pacing e es b (grind (arith, nat_tests, differs))
+
+    -- a step of a processor or a worker
+    module _ (c : coord.Coordinating) (led : Led es c) (on : leading.Marks c.stage) (h : Holds es c) (among : a < n) where
+      -- the coordinator stays as it is
+      led_still : Led (e ∷ es) c
+      led_still = others_stay n (λ x. absurd (omega (arith, x, among))) ∙ led
+
+      -- where the world is stopped it changes no word
+      still : (phase : RunPhase) → leading.post_at c.stage ≡ Stopped phase → told (e ∷ es) ≡ told es
+      still phase post = ap (effect (told es)) ((step_keeps e es legal).still (leading.lead_of c) phase (ap place_of led) post among).0
+
+      by : (m : Actor) → at es a ≡ m → In (e ∷ es) c
+      by (actor.Runs m) is = moving.by_processor arena pacing may known polls heap e es c c legal led led_still on refl h.marking m on (seat_of es a (actor.Runs m) is) is
+      by (actor.Marks w) is = moving.by_worker arena pacing may known polls heap e es c c legal led led_still on refl h.marking w (none_sweeps arena.shapes arena.layout pacing may known.read keeps es c legal.0 led on a w among is) (seat_of es a (actor.Marks w) is).0 among is
+      by (actor.Leads x) is = absurd (let ge : n ≤ a = (seat_of es a (actor.Leads x) is).0 in omega (arith, ge, among))
+
+      by_others : Holds (e ∷ es) c
+      by_others = record { marking = by (at es a) refl; checked = checked_lasts arena.layout c.begun (told es) (told (e ∷ es)) c.stage on still h.checked }
+
+    -- a step of the coordinator
+    module _ (c to : coord.Coordinating) (end : a ≡ n) (led : Led es c) (then : to ≡ coord.goes c e.found) (led_then : Led (e ∷ es) to) (on : leading.Marks to.stage) (before : HeldBefore es) where
+      here : at es a ≡ actor.Leads c
+      here = ap (at es) end ∙ led
+
+      abbrev begun : Actor
+      begun = started (actors arena.shapes arena.layout pacing) e.begun (at es a)
+
+      begun_is : begun ≡ actor.Leads c
+      begun_is = ap (started (actors arena.shapes arena.layout pacing) e.begun) here ∙ lead_started arena.shapes arena.layout pacing e.begun c
+
+      busy : coord.is_busy c.stage ≡ true
+      busy = sym (ap is_busy begun_is) ∙ legal.1.runs
+
+      asked : e.ask ≡ coord.asks c
+      asked = legal.1.asks ∙ ap asks begun_is
+
+      found : e.found ≡ told es (cell_of (coord.asks c))
+      found = legal.1.found ∙ ap (λ (q : Ask). told es (cell_of q)) asked
+
+      goes_by : Goes arena.layout c.begun (told es) c c.stage (coord.goes c e.found)
+      goes_by = goes_so arena.layout c.begun (told es) c (coord.counted c).marks (seat_of es n (actor.Leads c) led).1 refl c.stage e.found busy found
+
+      checked_then : to.begun ≡ c.begun → CheckedAt arena.layout c.begun (effect (told es) (coord.asks c)) to.stage → CheckedAt arena.layout to.begun (told (e ∷ es)) to.stage
+      checked_then same x = subst (λ (b : ℕ). CheckedAt arena.layout b (told (e ∷ es)) to.stage) (sym same) (subst (λ (q : Ask). CheckedAt arena.layout c.begun (effect (told es) q) to.stage) (sym asked) x)
+
+      by_lead : Goes arena.layout c.begun (told es) c c.stage to → Holds (e ∷ es) to
+      by_lead (begins_cycle b quiet same x) = record {
+        marking = moving.by_coordinator arena pacing may known polls heap e es c to legal led led_then on same (moving.begins arena pacing may known polls heap es c legal.0 led b (was_marked es legal.0 before) (keeps es legal.0)) end here quiet;
+        checked = checked_then same x;
+      }
+      by_lead (goes_on was quiet same x) = record {
+        marking = moving.by_coordinator arena pacing may known polls heap e es c to legal led led_then on same (before es c (whole es) led was).marking end here quiet;
+        checked = checked_then same (x (before es c (whole es) led was).checked);
+      }
+      by_lead (leaves off) = absurd (off on)
+
+      by_it : Holds (e ∷ es) to
+      by_it = by_lead (subst (λ (y : coord.Coordinating). Goes arena.layout c.begun (told es) c c.stage y) (sym then) goes_by)
+
+  follows : (e : Entry Op) (es : List (Entry Op)) → Lawful (e ∷ es) → HeldBefore es → (c : coord.Coordinating) → Led (e ∷ es) c → leading.Marks c.stage → Holds (e ∷ es) c
+  follows e es legal before c led on = go (e.actor == n) refl where
+    go : (b : Bool) → (e.actor == n) ≡ b → Holds (e ∷ es) c
+    go false x =
+        let was : Led es c = sym (other arena.shapes arena.layout pacing e es n x) ∙ led in
+        let within : e.actor < n + 1 = legal.1.actor in
+        by_others e es legal c was on (before es c (whole es) was on) (grind (arith, nat_tests, x, within))
+    go true x =
+        let end : e.actor ≡ n = grind (arith, nat_tests) in
+        let b = seats.led_by arena.shapes arena.layout pacing may es in
+        let then : at (e ∷ es) n ≡ actor.Leads (coord.goes b.lead e.found) = sym (ap (at (e ∷ es)) end) ∙ leads arena.shapes arena.layout pacing e es b.lead (ap (at es) end ∙ b.led_by) in
+        by_it e es legal b.lead c end b.led_by (let both : actor.Leads c ≡ actor.Leads (coord.goes b.lead e.found) = sym led ∙ then in cc) led on before
+
+  held : (es : List (Entry Op)) → Lawful es → HeldBefore es
+  held [] legal start c of led on = absurd (none_at_first c (subst (λ (x : List (Entry Op)). Led x c) of led) on)
+  held (e ∷ es) legal start c (inl of) led on =
+      subst (λ (x : List (Entry Op)). Holds x c) (sym of) (follows e es legal (held es legal.0) c (subst (λ (x : List (Entry Op)). Led x c) of led) on)
+  held (e ∷ es) legal start c (inr of) led on = held es legal.0 start c of led on
+
+  pub marks_to_the_end : (es : List (Entry Op)) (c : coord.Coordinating) → Lawful es → Led es c → leading.Marks c.stage → MarksToTheEnd arena pacing may es c
+  marks_to_the_end es c legal led on = was_marked es legal (held es legal) es c (whole es) led on

@@ -1,0 +1,277 @@
+-- One entry more while a cycle is marked, by the actor that makes it: its step is made of moves of marking, and what is known of all others lasts. And the begin of a cycle.
+use Rattle.std.proofs.Common.{◌≡◌, ◌≢◌, ℕ, suc, ◌+◌, ◌/◌, ◌%◌, ◌<◌, ◌≤◌, ◌==◌, Bool, true, false, refl, sym, ap, subst, ◌∙◌, arith, List, ◌∷◌, Some, None}
+use Rattle.std.proofs.Math.Nat.{mul-le-mul_right}
+use Rattle.gh_base.specs.declared.cell.Cell.TheVariants as cell
+use Rattle.gh_marks.specs.Laws.{Begins, EachHandFollows, EachHandLasts, EachStepGoesByMoves, StepsGoByMoves}
+use Rattle.gh_marks.specs.Moves.{goes, moved, Others, Quiet, SameExtent, stays, Steps}
+use Rattle.gh_phase.specs.declared.view.RunPhase.TheVariants as run
+use Rattle.gh_phase.specs.Listing as resume
+use Rattle.gh_coord.specs.Handshake as leading
+use Rattle.gh_coord.specs.Listing as coord
+use Rattle.gh_worker.specs.declared.worker.WorkerStage.TheVariants.{Resuming}
+use Rattle.gh_mutator.specs.ProcessorMarks.{MarksByMoves}
+use Rattle.gh_worker.specs.Handshake as working
+use Rattle.gh_worker.specs.Listing as worker
+use Rattle.gh_worker.specs.MarkFacts as marks
+use Rattle.gh_lists.specs.declared.handshake.Actor.TheVariants as actor
+use Rattle.gh_lists.specs.Handshake.{asks, Sound}
+use Rattle.gh_lists.specs.Counts.{stored_in}
+use Rattle.gh_lists.specs.Marking.{IsLedBy, setting, words}
+use Rattle.gh_marked.specs.Scanned.{done_by, most_scanned, scanned_by}
+use Rattle.gh_marked.proofs.Vocabulary.{acks_of, Actor, actors, actors_after, Acts, alloc_words, Arena, Ask, bit_at, cell_of, Cycle, effect, Entry, Hands, is_busy, IsBeginning, KeepsIt, Kind, Legal, MarkFacts, Marking as Shared, MarkingBegins, MarkingGood as Good, nat_tests, nothing, Op, PackedWordsAreReadBack, Pacing, Party, place_of, Processor, processor_kind, Row, row_bit, seats_of, started, WaitsWithNone, Went, Words, WorkerStage}
+use Rattle.gh_marked.specs.Marked.{IsInMarking, Knows, KnowsHeap, LeavesObjects, MayBegin, StepsByMoves, WasMarked}
+use Rattle.gh_marked.specs.Beside.{LeavesHeap, works_so}
+use Rattle.gh_marked.specs.Checking.{IsLight, begin_post}
+use Rattle.gh_marked.proofs.CycleMarking.Placing.{places_none}
+use Rattle.gh_lists.specs.Seats.{IsSeated, lead_started, leads, other, runs, seated, worker_started, works}
+use Rattle.gh_marked.specs.Levels.{beyond_goes}
+use Rattle.gh_marked.proofs.Scanned.Routines.{has_step}
+use Rattle.gh_marked.specs.Weights.{counted, stored_rises}
+use Rattle.gh_marked.proofs.Scanned.Works as scanned
+
+-- a bit is that of its word
+same_bit : (r q : Row) (o : ℕ) → r (o / 64) ≡ q (o / 64) → row_bit q o ≡ 1 → row_bit r o ≡ 1
+unfolding row_bit
+same_bit r q o e h = ap (λ (v : ℕ). bit_at v (o % 64)) e ∙ h
+
+-- Moves that take no slot leave the objects of the cycle: one that came to be would have taken one.
+pub record SameObjects (s t : Shared) : Type 0 where
+  pub since : (o : ℕ) → t.since o ≡ s.since o
+  pub extents : (o : ℕ) → s.since o ≡ true → SameExtent s.extents t.extents o
+
+pub objects_stay : EachStepGoesByMoves → (z : Cycle) (a : ℕ) (s t : Shared) → Good z s → Went z a s t → ((x : ℕ) → t.words (cell.Alloc x) ≡ s.words (cell.Alloc x)) → SameObjects s t
+objects_stay steps z a s t good went slots = record { since = λ o. by o (t.since o) (s.since o) refl refl; extents = others.keeps.extents } where
+  step : StepsGoByMoves z a s t
+  step = steps z a s t good went
+
+  others : Others z (suc a) s t
+  others = step.others (suc a) (λ e. omega (arith, e))
+
+  placed : (o : ℕ) → t.since o ≡ true → row_bit (alloc_words s.words) o ≡ 1
+  placed o e = same_bit (alloc_words s.words) (alloc_words t.words) o (sym (slots (o / 64))) (step.good.objects.placed o e)
+
+  by : (o : ℕ) (now was : Bool) → t.since o ≡ now → s.since o ≡ was → t.since o ≡ s.since o
+  by o true true e f = e ∙ sym f
+  by o false false e f = e ∙ sym f
+  by o true false e f = absurd (let d = step.dead o (record { placed = placed o e; dead = f }) in let no : true ≡ false = sym e ∙ d.dead in cc)
+  by o false true e f = absurd (let no : true ≡ false = sym (others.keeps.since o f) ∙ e in cc)
+
+is_one : (a b : ℕ) → (a == b) ≡ true → a ≡ b
+is_one a b x = grind (arith, nat_tests, x)
+
+is_other : (a b : ℕ) → (a == b) ≡ false → b ≢ a
+is_other a b x y = grind (arith, nat_tests, x, y)
+
+-- what gh_base, gh_marks, gh_mutator and gh_worker say
+pub record Known : Type 0 where
+  pub read : PackedWordsAreReadBack
+  pub processors : MarksByMoves
+  pub workers : marks.WorksByMoves
+  pub begin : MarkingBegins
+  pub steps : EachStepGoesByMoves
+  pub follow : EachHandFollows
+  pub last : EachHandLasts
+
+module _ (arena : Arena) (pacing : Pacing) (may : ℕ → List (Entry Op) → Op → Bool)
+    (known : Known) (polls : StepsByMoves arena pacing may) (heap : KnowsHeap arena pacing may) where
+  abbrev k : Kind Processor Op
+  k = processor_kind arena.shapes arena.layout
+
+  abbrev n : ℕ
+  n = acks_of arena.layout
+
+  abbrev at : List (Entry Op) → ℕ → Actor
+  at = actors_after arena pacing may
+
+  abbrev In : List (Entry Op) → coord.Coordinating → Type 0
+  In = IsInMarking arena pacing may
+
+  module _ (e : Entry Op) (es : List (Entry Op)) (c to : coord.Coordinating) (legal : Legal (setting arena pacing may) (e ∷ es)) (led : IsLedBy arena pacing may es c) (led_then : IsLedBy arena pacing may (e ∷ es) to) (on_then : leading.Marks to.stage) (begun_is : to.begun ≡ c.begun) (i : In es c) where
+    abbrev z : Cycle
+    z = i.cycle
+
+    abbrev s : Shared
+    s = i.shared
+
+    abbrev a : ℕ
+    a = e.actor
+
+    -- where its seat's step leads to this state
+    module _ (t : Shared) (went : Went z a s t) (words_are : t.words ≡ words arena pacing may (e ∷ es)) (heap_is : Knows arena pacing may z t (e ∷ es))
+        (own_processor : (m : Processor) → at (e ∷ es) a ≡ actor.Runs m → MarkFacts z a t m)
+        (own_worker : (w : worker.Working) → at (e ∷ es) a ≡ actor.Marks w → marks.Facts z a t w)
+        (own_hand : n ≤ a → Hands a t nothing) where
+      step : StepsGoByMoves z a s t
+      step = known.steps z a s t i.good went
+
+      same : (b : ℕ) → (a == b) ≡ true → a ≡ b
+      same b x = is_one a b x
+
+      differs : (b : ℕ) → (a == b) ≡ false → b ≢ a
+      differs b x = is_other a b x
+
+      processors : (b : ℕ) (m : Processor) → b < arena.layout.procs → at (e ∷ es) b ≡ actor.Runs m → MarkFacts z b t m
+      processors b m lt is = go (a == b) refl where
+        go : (x : Bool) → (a == b) ≡ x → MarkFacts z b t m
+        go true x = subst (λ (y : ℕ). MarkFacts z y t m) (same b x) (own_processor m (ap (at (e ∷ es)) (same b x) ∙ is))
+        go false x = known.processors.lasts z b s t m (step.others b (differs b x)) (i.processors b m lt (sym (other arena.shapes arena.layout pacing e es b x) ∙ is))
+
+      workers : (b : ℕ) (w : worker.Working) → b < n → at (e ∷ es) b ≡ actor.Marks w → marks.Facts z b t w
+      workers b w lt is = go (a == b) refl where
+        go : (x : Bool) → (a == b) ≡ x → marks.Facts z b t w
+        go true x = subst (λ (y : ℕ). marks.Facts z y t w) (same b x) (own_worker w (ap (at (e ∷ es)) (same b x) ∙ is))
+        go false x = known.workers.lasts z b s t w (step.others b (differs b x)) (i.workers b w lt (sym (other arena.shapes arena.layout pacing e es b x) ∙ is))
+
+      coordinator : (b : ℕ) → n ≤ b → Hands b t nothing
+      coordinator b le = go (a == b) refl where
+        go : (x : Bool) → (a == b) ≡ x → Hands b t nothing
+        go true x = subst (λ (y : ℕ). Hands y t nothing) (same b x) (own_hand (subst (λ (y : ℕ). n ≤ y) (sym (same b x)) le))
+        go false x = known.last z b s t nothing (step.others b (differs b x)) (i.coordinator b le)
+
+      -- what its seat is done with is counted
+      scans : (m : Actor) → at es a ≡ m → scanned_by arena.shapes arena.layout pacing e es + counted arena.layout s ≤ counted arena.layout t
+      scans m is = subst (λ (x : Actor). done_by x e.found + counted arena.layout s ≤ counted arena.layout t) (sym is) (subst (λ (r : Arena). done_by m e.found + counted r.layout s ≤ counted r.layout t) i.is.arena_is (go m is)) where
+        go : (m : Actor) → at es a ≡ m → done_by m e.found + counted z.arena.layout s ≤ counted z.arena.layout t
+        go (actor.Runs m) is = scanned.none_done known.steps z a s t i.good (heap.objects z s es i.good i.known) i.none_beyond went
+        go (actor.Marks w) is = scanned.works known.steps z a s t i.good (heap.objects z s es i.good i.known) i.none_beyond went w e.found (has_step arena.shapes arena.layout pacing es a w is)
+            (i.workers a w (subst (IsSeated arena.layout a) is (seated arena.shapes arena.layout pacing es a)).1 is) (own_worker (worker.goes w e.found) (works arena.shapes arena.layout pacing e es w is))
+        go (actor.Leads x) is = scanned.none_done known.steps z a s t i.good (heap.objects z s es i.good i.known) i.none_beyond went
+
+      next : In (e ∷ es) to
+      next = record {
+        cycle = z;
+        shared = t;
+        is = record { arena_is = i.is.arena_is; number_is = i.is.number_is ∙ sym begun_is; words_are = words_are };
+        good = step.good;
+        known = heap_is;
+        processors = processors;
+        workers = workers;
+        coordinator = coordinator;
+        scanned = let before = i.scanned in let more = scans (at es a) refl in let ended = mul-le-mul_right (most_scanned arena.layout) (stored_rises cell.Gen e.ask (stored_in cell.Gen es)) in omega (arith, before, more, ended);
+        none_beyond = beyond_goes z a s t went i.none_beyond;
+      }
+
+    -- the words behind the step
+    words_then : (t : Shared) (ask : Ask) → t.words ≡ effect s.words ask → e.ask ≡ ask → t.words ≡ words arena pacing may (e ∷ es)
+    words_then t ask is asked = is ∙ (ap (effect s.words) (sym asked) ∙ ap (λ (w : Words). effect w e.ask) i.is.words_are)
+
+    -- whoever steps so leaves the objects
+    leaves_objects : (t : Shared) (ask : Ask) → Went z a s t → t.words ≡ effect s.words ask → LeavesHeap ask → LeavesObjects s t
+    leaves_objects t ask went is h = record {
+      since = objects.since;
+      extents = objects.extents;
+      page = λ x. ap (λ (w : Words). w (cell.Page x)) is ∙ h.page s.words x;
+      alloc = slots;
+      bitmap = λ x. ap (λ (w : Words). w (cell.Bitmap x)) is ∙ h.bitmap s.words x;
+    } where
+      slots : (x : ℕ) → t.words (cell.Alloc x) ≡ s.words (cell.Alloc x)
+      slots x = ap (λ (w : Words). w (cell.Alloc x)) is ∙ h.alloc s.words x
+
+      objects : SameObjects s t
+      objects = objects_stay known.steps z a s t i.good went slots
+
+    -- by a processor
+    pub by_processor : (m : Processor) → leading.Marks c.stage → a < arena.layout.procs → at es a ≡ actor.Runs m → In (e ∷ es) to
+    by_processor m on lt is = next land.then land.went (words_then land.then e.ask land.words_are refl) land.after.1
+        (λ p now. subst (MarkFacts z a land.then) (let both : actor.Runs (k.takes (started k e.begun m) e.found) ≡ actor.Runs p = sym then ∙ now in cc) land.after.0)
+        (λ w now. absurd (let both : actor.Runs (k.takes (started k e.begun m) e.found) ≡ actor.Marks w = sym then ∙ now in cc))
+        (λ le. absurd (omega arith)) where
+          land : Steps z a s e.ask (λ t. MarkFacts z a t (k.takes (started k e.begun m) e.found) × Knows arena pacing may z t (e ∷ es))
+          land = polls e es c legal led on z s m i.is i.good i.known lt is (i.processors a m lt is)
+
+          then : at (e ∷ es) a ≡ actor.Runs (k.takes (started k e.begun m) e.found)
+          then = runs arena.shapes arena.layout pacing e es m is
+
+    -- by a worker, which sweeps no span
+    pub by_worker : (w : worker.Working) → worker.sweep_in w ≡ None → arena.layout.procs ≤ a → a < n → at es a ≡ actor.Marks w → In (e ∷ es) to
+    by_worker w none ge lt is = next land.then land.went then_words (heap.lasts e es c to legal led led_then on_then z s land.then i.is i.good (known.steps z a s land.then i.good land.went).good i.known ge land.went (leaves_objects land.then (worker.asks w) land.went land.words_are (works_so w none busy)) (places_none z a land.then (worker.goes w (s.words (cell_of (worker.asks w)))) land.after) then_words)
+        (λ p now. absurd (let both : actor.Marks (worker.goes w e.found) ≡ actor.Runs p = sym then ∙ now in cc))
+        (λ v now. subst (marks.Facts z a land.then) (let both : actor.Marks (worker.goes w e.found) ≡ actor.Marks v = sym then ∙ now in cc) (subst (λ (x : ℕ). marks.Facts z a land.then (worker.goes w x)) (sym found) land.after))
+        (λ le. absurd (omega arith)) where
+          land : Steps z a s (worker.asks w) (λ t. marks.Facts z a t (worker.goes w (s.words (cell_of (worker.asks w)))))
+          land = known.workers.own_step z a s w i.good (heap.objects z s es i.good i.known) none (i.workers a w lt is)
+
+          asked : e.ask ≡ worker.asks w
+          asked = legal.1.asks ∙ ap asks (ap (started (actors arena.shapes arena.layout pacing) e.begun) is ∙ worker_started arena.shapes arena.layout pacing e.begun w)
+
+          busy : worker.is_busy w.stage ≡ true
+          busy = sym (ap is_busy (ap (started (actors arena.shapes arena.layout pacing) e.begun) is ∙ worker_started arena.shapes arena.layout pacing e.begun w)) ∙ legal.1.runs
+
+          told : e.found ≡ words arena pacing may es (cell_of (worker.asks w))
+          told = legal.1.found ∙ ap (λ (q : Ask). words arena pacing may es (cell_of q)) asked
+
+          found : e.found ≡ s.words (cell_of (worker.asks w))
+          found = told ∙ ap (λ (x : Words). x (cell_of (worker.asks w))) (sym i.is.words_are)
+
+          then : at (e ∷ es) a ≡ actor.Marks (worker.goes w e.found)
+          then = works arena.shapes arena.layout pacing e es w is
+
+          then_words : land.then.words ≡ words arena pacing may (e ∷ es)
+          then_words = words_then land.then (worker.asks w) land.words_are asked
+
+    -- by the coordinator
+    pub by_coordinator : a ≡ n → at es a ≡ actor.Leads c → IsLight (coord.asks c) → In (e ∷ es) to
+    by_coordinator end is light = next t went then_words (heap.lasts e es c to legal led led_then on_then z s t i.is i.good (known.steps z a s t i.good went).good i.known (omega (arith, end)) went (leaves_objects t (coord.asks c) went refl light.aside) (λ o is. absurd (let none : None ≡ Some o = ((i.coordinator a (omega (arith, end))).has.is_reserved o).1 is in cc)) then_words)
+        (λ p now. absurd (let both : actor.Leads (coord.goes c e.found) ≡ actor.Runs p = sym then ∙ now in cc))
+        (λ v now. absurd (let both : actor.Leads (coord.goes c e.found) ≡ actor.Marks v = sym then ∙ now in cc))
+        (λ le. (known.follow z a s nothing i.good (i.coordinator a le)).quiet (coord.asks c) (light.quiet s)) where
+          t : Shared
+          t = moved z a s (Quiet (coord.asks c))
+
+          went : Went z a s t
+          went = goes s (Quiet (coord.asks c)) stays (light.quiet s)
+
+          asked : e.ask ≡ coord.asks c
+          asked = legal.1.asks ∙ ap asks (ap (started (actors arena.shapes arena.layout pacing) e.begun) is ∙ lead_started arena.shapes arena.layout pacing e.begun c)
+
+          then : at (e ∷ es) a ≡ actor.Leads (coord.goes c e.found)
+          then = leads arena.shapes arena.layout pacing e es c is
+
+          then_words : t.words ≡ words arena pacing may (e ∷ es)
+          then_words = words_then t (coord.asks c) refl asked
+
+  -- The begin of a cycle: the world is stopped, and nobody has anything in hand.
+  module _ (es : List (Entry Op)) (c : coord.Coordinating) (legal : Legal (setting arena pacing may) es) (led : IsLedBy arena pacing may es c) (b : IsBeginning c.stage)
+      (was : WasMarked arena pacing may es) (keeps : KeepsIt (setting arena pacing may) es) where
+    pub opened : MayBegin arena pacing may es c
+    opened = heap.begins es c legal led b was
+
+    begun : Begins opened.cycle opened.shared
+    begun = known.begin opened.cycle opened.shared opened.opens
+
+    -- a worker that waits is at its seat
+    seat_at : (w : worker.Working) (a : ℕ) (r : resume.Resuming) → w.stage ≡ Resuming r → working.Sound w → (working.party_of w).seat ≡ a → w.seat ≡ a
+    seat_at w a r e s is =
+        let on : working.GoesOnWithNone w.seat w.held w.scan_work r = subst (working.SoundAt w) e s in
+        sym on.seat_is ∙ (ap (λ (x : WorkerStage). (working.party_at w x).seat) (sym e) ∙ is)
+
+    worker_knows : (a : ℕ) (w : worker.Working) → a < n → at es a ≡ actor.Marks w → marks.Facts opened.cycle a opened.shared w
+    worker_knows a w lt is = record {
+      layout_is = (subst (IsSeated arena.layout a) is (seated arena.shapes arena.layout pacing es a)).2 ∙ ap (λ (x : Arena). x.layout) (sym opened.is.arena_is);
+      seat_in = subst (λ (x : Arena). a < seats_of x.layout) (sym opened.is.arena_is) (omega (arith, lt));
+      seat_is = seat_at w a waits.routine waits.is_at (subst (Sound arena.layout) is (keeps.shakes.all_sound a (omega arith))) seat;
+      stage_is = subst (marks.StageFacts opened.cycle a opened.shared w.held) (sym waits.is_at) (begun.seats a, waits.none);
+    } where
+      waits : WaitsWithNone (leading.lead_of c).stops w
+      waits = keeps.workers_wait c run.Off a w led (begin_post c.stage b) lt is
+
+      seat : (working.party_of w).seat ≡ a
+      seat =
+          let each = keeps.shakes.each a lt in
+          let both : Acts (working.party_of w) (working.stage_of w) ≡ Acts each.0 each.1 = ap place_of (sym is) ∙ each.2 in
+          let parties : working.party_of w ≡ each.0 = cc in
+          ap (λ (x : Party). x.seat) parties ∙ each.3
+
+    pub begins : In es c
+    begins = record {
+      cycle = opened.cycle;
+      shared = opened.shared;
+      is = opened.is;
+      good = begun.good;
+      known = opened.known;
+      processors = opened.processors;
+      workers = worker_knows;
+      coordinator = λ a le. begun.seats a;
+      scanned = let before = heap.scanned es c legal led b was in omega (arith, before);
+      none_beyond = λ i le. opened.opens.untouched i;
+    }

@@ -1,0 +1,184 @@
+-- A step of a worker while a cycle is marked: what it is done with is counted then, once for all. An object whose scan ends was taken before and is black behind; a global is scanned behind, or the object that it names has come into a buffer.
+use Rattle.std.proofs.Common.{◌≡◌, ◌≢◌, inl, inr, ℕ, ◌+◌, ◌*◌, ◌%◌, ◌<◌, ◌≤◌, ◌==◌, Bool, true, false, cond, ltb, Option, Some, None, refl, sym, ap, ◌∙◌, arith}
+use Rattle.std.proofs.lemmas.Bool.Decides.{eqb_tells}
+use Rattle.gh_marks.specs.Colours.{Black, Claimed, Cycle, Pending, Progress, Read, Scanned, Shared, Taken, Untouched}
+use Rattle.gh_marks.specs.Good.{Good}
+use Rattle.gh_marks.specs.Knows.{KnowsObjects}
+use Rattle.gh_marks.specs.Laws.{EachStepGoesByMoves, StepsGoByMoves}
+use Rattle.gh_marks.specs.Moves.{Went}
+use Rattle.gh_marks.specs.Seats.{ClaimOf, Hands, NoClaim, nothing, ReadOf}
+use Rattle.gh_scan.specs.declared.scan.ScanStage.TheVariants as scan_at
+use Rattle.gh_scan.specs.Facts as scan_facts
+use Rattle.gh_scan.specs.Listing as scan
+use Rattle.gh_shade.specs.declared.shade.Shaded.TheVariants as shaded
+use Rattle.gh_shade.specs.declared.shade.ShadeStage.TheVariants as shade_at
+use Rattle.gh_shade.specs.Facts as shade_facts
+use Rattle.gh_shade.specs.Listing as shade
+use Rattle.gh_wbuf.specs.RoomFinding as room
+use Rattle.gh_worker.specs.declared.worker.WorkerStage.TheVariants as at
+use Rattle.gh_worker.specs.Listing as worker
+use Rattle.gh_worker.specs.Vocabulary.{CREDIT_SLACK}
+use Rattle.gh_credit.specs.Earning as earn
+use Rattle.gh_worker.specs.MarkFacts as marks
+use Rattle.gh_worker.specs.Works.{word_of, words_done, words_of}
+use Rattle.gh_marked.proofs.Vocabulary.{Held, ScanStage, Shaded, ShadeStage, Working, WorkerStage}
+use Rattle.gh_marked.specs.Levels.{colour_goes, far, global_goes, global_there, level, NoneBeyond}
+use Rattle.gh_marked.proofs.Scanned.Routines.{HasStep}
+use Rattle.gh_marked.specs.Weights.{AllGoOn, black_last, by_entry, by_global, by_object, counted, entered_high, grows}
+
+-- The scan of an object ends with the words of its slot.
+module _ (words : ℕ) where
+  next_gives : (m : scan.Scanning) (next : Option ℕ) → scan.given (scan.at_next m next) ≡ Some words → words ≡ m.slot
+  next_gives m None is = cc
+  next_gives m (Some x) is = absurd (go (x % 64 == 0) is) where
+    go : (b : Bool) → scan.given_at (cond b scan_at.LoadBitmap scan_at.LoadField) ≡ Some words → ⊥
+    go true x = cc
+    go false x = cc
+
+  behind_gives : (m : scan.Scanning) → scan.given (scan.behind m) ≡ Some words → words ≡ m.slot
+  behind_gives m is = next_gives m (scan.next_from m.bits (scan.end m) (m.at + 1)) is
+
+  bits_give : (m : scan.Scanning) (found : ℕ) (b : Bool) → scan.given (cond b (record m { bits = found; stage = scan_at.LoadField }) (scan.behind (record m { bits = found }))) ≡ Some words → words ≡ m.slot
+  bits_give m found true is = absurd cc
+  bits_give m found false is = behind_gives (record m { bits = found }) is
+
+  field_gives : (m : scan.Scanning) (sh : shade.Shading) (b : Bool) → scan.given (cond b (scan.behind m) (scan.at_stage m (scan_at.Shading sh))) ≡ Some words → words ≡ m.slot
+  field_gives m sh true is = behind_gives m is
+  field_gives m sh false is = absurd cc
+
+  shade_gives : (m : scan.Scanning) (sh : shade.Shading) (out : Option Shaded) → scan.given (scan.after_shade m sh out) ≡ Some words → words ≡ m.slot
+  shade_gives m sh None is = absurd cc
+  shade_gives m sh (Some shaded.Done) is = behind_gives (record m { held = sh.held }) is
+  shade_gives m sh (Some shaded.WantsRoom) is = absurd cc
+
+  room_gives : (m : scan.Scanning) (sh : shade.Shading) (r : room.RoomFinding) (out : Option Held) → scan.given (scan.after_room m sh r out) ≡ Some words → ⊥
+  room_gives m sh r None is = cc
+  room_gives m sh r (Some h) is = cc
+
+-- its words, and that the seat has taken the object
+record Scans (a : ℕ) (s : Shared) (o words : ℕ) : Type 0 where
+  words_are : words ≡ s.extents.size o
+  taken : s.colour o ≡ Taken a
+
+module _ (z : Cycle) (a : ℕ) (s : Shared) (m : scan.Scanning) (found words : ℕ) where
+  abbrev o : ℕ
+  o = scan.object_of m.reference
+
+  ends_at : (p : ScanStage) → scan.is_busy p ≡ true → scan_facts.StageFacts z a s nothing m p → scan.given (scan.goes_at m p found) ≡ Some words → Scans a s o words
+  ends_at scan_at.LoadPage busy f is = absurd cc
+  ends_at scan_at.LoadBitmap busy f is = record { words_are = bits_give words m found (scan.is_pointer found m.at) is ∙ f.0.slot_is; taken = (f.1.has.is_taken o).0 refl }
+  ends_at scan_at.LoadField busy f is = record { words_are = field_gives words m _ (found == 0) is ∙ f.0.slot_is; taken = (f.2.has.is_taken o).0 refl }
+  ends_at (scan_at.Shading sh) busy f is = record { words_are = shade_gives words m (shade.goes sh found) (shade.gives sh found) is ∙ f.0.is_at.slot_is; taken = (f.1.hands.has.is_taken o).0 refl }
+  ends_at (scan_at.FindRoom sh r) busy f is = absurd (room_gives words m sh (room.goes r found) (room.gives r found) is)
+  ends_at (scan_at.Ended x) busy f is = absurd cc
+
+-- The states before and behind the step.
+module _ (steps : EachStepGoesByMoves) (z : Cycle) (a : ℕ) (s t : Shared) (good : Good z s) (knows : KnowsObjects z s) (none : NoneBeyond z s) (went : Went z a s t) where
+  abbrev C : Shared → ℕ
+  C x = counted z.arena.layout x
+
+  step : StepsGoByMoves z a s t
+  step = steps z a s t good went
+
+  size_stays : (o : ℕ) → s.since o ≡ true → t.extents.size o ≡ s.extents.size o
+  size_stays o since = ((step.others (a + 1) (λ e. omega (arith, e))).keeps.extents o since).size
+
+  all : AllGoOn z.arena.layout s t
+  all = record { colours = colour_goes steps z a s good t went; globals = global_goes steps z a s good t went; sizes = λ o black. size_stays o (good.objects.shaded o (rw black tt)) }
+
+  goes_on : C s ≤ C t
+  goes_on = grows z.arena.layout s t all
+
+  -- what is done with nothing
+  pub none_done : 0 + C s ≤ C t
+  none_done = let more = goes_on in omega (arith, more)
+
+  within : (o : ℕ) → s.since o ≡ true → o < 1024 * z.arena.layout.pages
+  within o since = let k = knows o since in let some = k.some in let end = k.within in omega (arith, some, end)
+
+  -- an object was taken, and is in nobody's hands
+  scans_object : (o words : ℕ) → s.since o ≡ true → Scans a s o words → t.colour o ≢ Taken a → words + C s ≤ C t
+  scans_object o words since x gone =
+      let black : t.colour o ≡ Black = elim (all.colours o) [ inl same ↦ absurd (gone (same ∙ x.taken)) | inr up ↦ black_last (t.colour o) (let was = ap level x.taken in omega (arith, was, up)) ] in
+      let more = by_object z.arena.layout s t all o (within o since) (ap level x.taken) black in
+      let same = size_stays o since in
+      let are = x.words_are in
+      omega (arith, more, same, are)
+
+  -- it was pending, and has come into a buffer
+  enters_object : (o : ℕ) → s.colour o ≡ Pending a → t.colour o ≢ Pending a → 1 + C s ≤ C t
+  enters_object o pending gone =
+      let since : s.since o ≡ true = good.objects.shaded o (rw pending tt) in
+      let up : 2 ≤ level (t.colour o) = elim (all.colours o) [ inl same ↦ absurd (gone (same ∙ pending)) | inr up ↦ (let was = ap level pending in omega (arith, was, up)) ] in
+      let more = by_entry z.arena.layout s t all o (within o since) (rw pending refl) (entered_high (t.colour o) up) in
+      omega (arith, more)
+
+  -- a global was the seat's, and is not any more
+  scans_global : (i : ℕ) → 1 ≤ far (s.progress i) → far (s.progress i) < 3 → 3 ≤ far (t.progress i) → 1 + C s ≤ C t
+  scans_global i some before is = let more = by_global z.arena.layout s t all i (global_there z s none i some) before is in omega (arith, more)
+
+  read_global : (i value : ℕ) → s.progress i ≡ Read a value → t.progress i ≢ Read a value → 1 + C s ≤ C t
+  read_global i value read gone =
+      let was = ap far read in
+      let is : 3 ≤ far (t.progress i) = elim (all.globals i) [ inl same ↦ absurd (gone (same ∙ read)) | inr up ↦ omega (arith, was, up) ] in
+      scans_global i (omega (arith, was)) (omega (arith, was)) is
+
+  claimed_global : (i : ℕ) → s.progress i ≡ Claimed a → t.progress i ≢ Claimed a → ((value : ℕ) → t.progress i ≢ Read a value) → 1 + C s ≤ C t
+  claimed_global i claimed gone unread = scans_global i (omega (arith, was)) (omega (arith, was)) (by (t.progress i) refl) where
+    was : far (s.progress i) ≡ 1
+    was = ap far claimed
+
+    up : (p : Progress) → t.progress i ≡ p → 1 < far p
+    up p is = elim (all.globals i) [ inl same ↦ absurd (gone (same ∙ claimed)) | inr lt ↦ (let f = ap far is in omega (arith, was, lt, f)) ]
+
+    by : (p : Progress) → t.progress i ≡ p → 3 ≤ far p
+    by Untouched is = absurd (let x = up Untouched is in omega (arith, x))
+    by (Claimed b) is = absurd (let x = up (Claimed b) is in omega (arith, x))
+    by Scanned is = omega arith
+    by (Read b value) is = elim (eqb_tells b a) [
+      | inl y ↦ absurd (unread value (is ∙ ap (λ (x : ℕ). Read x value) y.1))
+      | inr n ↦ absurd (let before : s.progress i ≡ Read b value = ((step.others b n.1).read i value).1 is in let both : Claimed a ≡ Read b value = sym claimed ∙ before in cc)
+    ]
+
+  module _ (w : Working) (found : ℕ) where
+    abbrev Facts : Working → Type 0
+    Facts to = marks.StageFacts z a t to.held to.stage
+
+    -- where it is done with something it has nothing in hand but its buffer
+    done_with : (held : Option Held) (words : ℕ) → Facts (worker.done_with w held words) → Hands a t (marks.in_hand held NoClaim)
+    done_with held words g = go (ltb (worker.counted w.scan_work words) CREDIT_SLACK) g where
+      go : (b : Bool) → marks.StageFacts z a t held (cond b at.LoadPhase (at.Earning (earn.opening w.layout (worker.counted w.scan_work words)))) → Hands a t (marks.in_hand held NoClaim)
+      go true g = g
+      go false g = g
+
+    after_scan : (m : scan.Scanning) → scan.is_busy m.stage ≡ true → scan_facts.Facts z a s nothing m → (out : Option ℕ) → scan.gives m found ≡ out → Facts (worker.after_scan w (scan.goes m found) out) → words_of out + C s ≤ C t
+    after_scan m busy f None is g = none_done
+    after_scan m busy f (Some words) is g = scans_object (scan.object_of m.reference) words f.known (ends_at z a s m found words m.stage busy f.stage_is is) (λ taken. let no : None ≡ Some (scan.object_of m.reference) = ((done_with (scan.held_at (scan.goes m found).held (scan.goes m found).stage) words g).has.is_taken (scan.object_of m.reference)).1 taken in cc)
+
+    after_global : (i : ℕ) (sh : shade.Shading) → Hands a s (marks.in_hand w.held (ClaimOf i)) → (b : Bool) → Facts (cond b (worker.done_with w w.held 1) (worker.at_stage w (at.Shading sh))) → cond b 1 0 + C s ≤ C t
+    after_global i sh f true g = claimed_global i ((f.has.is_claimed i).0 refl) (λ is. let no : NoClaim ≡ ClaimOf i = (then.has.is_claimed i).1 is in cc) (λ value is. let no : NoClaim ≡ ReadOf i value = (then.has.is_read i value).1 is in cc) where
+      then : Hands a t (marks.in_hand w.held NoClaim)
+      then = done_with w.held 1 g
+    after_global i sh f false g = none_done
+
+    -- a shading that ends, of the value of a global
+    shade_ends : (i : ℕ) (sh : shade.Shading) (held : Option Held) → Hands a t (marks.in_hand held NoClaim) → (p : ShadeStage) → shade.is_busy p ≡ true → Hands a s (shade_facts.in_hand (marks.in_hand None (marks.claim_at i sh.reference p)) sh.held (shade_facts.pending_at (shade.object_of sh.reference) p)) → shade.given (shade.goes_at sh p found) ≡ Some shaded.Done → 1 + C s ≤ C t
+    shade_ends i sh held g shade_at.LoadPage busy f is = absurd cc
+    shade_ends i sh held g (shade_at.SetMark noscan) busy f is = read_global i sh.reference ((f.has.is_read i sh.reference).0 refl) (λ x. let no : NoClaim ≡ ReadOf i sh.reference = (g.has.is_read i sh.reference).1 x in cc)
+    shade_ends i sh held g shade_at.WaitForRoom busy f is = absurd cc
+    shade_ends i sh held g shade_at.Enter busy f is = enters_object (shade.object_of sh.reference) ((f.has.is_pending (shade.object_of sh.reference)).0 refl) (λ x. let no : None ≡ Some (shade.object_of sh.reference) = (g.has.is_pending (shade.object_of sh.reference)).1 x in cc)
+    shade_ends i sh held g shade_at.Ended busy f is = absurd cc
+
+    after_shade : (i : ℕ) (sh : shade.Shading) → shade.is_busy sh.stage ≡ true → shade_facts.Facts z a s (marks.in_hand None (marks.claim_at i sh.reference sh.stage)) sh → (out : Option Shaded) → shade.gives sh found ≡ out → Facts (worker.after_shade w (shade.goes sh found) out) → word_of out + C s ≤ C t
+    after_shade i sh busy f None is g = none_done
+    after_shade i sh busy f (Some shaded.Done) is g = shade_ends i sh (shade.goes sh found).held (done_with (shade.goes sh found).held 1 g) sh.stage busy f.hands is
+    after_shade i sh busy f (Some shaded.WantsRoom) is g = none_done
+
+    done_at : (p : WorkerStage) → HasStep p → marks.StageFacts z a s w.held p → Facts (worker.goes_at w p found) → words_done p found + C s ≤ C t
+    done_at (at.Scanning m) busy f g = after_scan m busy f (scan.gives m found) refl g
+    done_at (at.LoadGlobal i) busy f g = after_global i _ f.1 (found == 0) g
+    done_at (at.Shading sh) busy f g = after_shade f.0 sh busy f.1 (shade.gives sh found) refl g
+    done_at _ busy f g = none_done
+
+    pub works : HasStep w.stage → marks.Facts z a s w → marks.Facts z a t (worker.goes w found) → words_done w.stage found + C s ≤ C t
+    works busy f g = done_at w.stage busy f.stage_is g.stage_is

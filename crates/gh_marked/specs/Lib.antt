@@ -1,0 +1,15 @@
+pub mod Beside
+pub mod Checking
+pub mod Drawn
+pub mod EveryCycle
+pub mod HeapBytes
+pub mod HoldVocabulary
+pub mod LemmaVocabulary
+pub mod Levels
+pub mod Marked
+pub mod Scanned
+pub mod State
+pub mod Sweepers
+pub mod Tied
+pub mod Vocabulary
+pub mod Weights

@@ -1,0 +1,92 @@
+-- How many words workers scan, in every legal list of steps of all actors: each global is counted once in a cycle of marking, and of objects there is a most.
+use Rattle.std.specs.Prelude.{◌≡◌, ℕ, ◌+◌, ◌*◌, ◌≤◌, ◌==◌, if◌then◌else◌, min, List, [], ◌∷◌}
+use Rattle.gh_base.specs.Cells.{seats_of}
+use Rattle.gh_base.specs.declared.cell.Cell.TheVariants as cell
+use Rattle.gh_coord.specs.Handshake as leading
+use Rattle.gh_scan.specs.Listing as scan
+use Rattle.gh_shade.specs.Listing as shade
+use Rattle.gh_worker.specs.declared.worker.WorkerStage.{WorkerStage}
+use Rattle.gh_worker.specs.declared.worker.WorkerStage.TheVariants as at
+use Rattle.gh_worker.specs.Works.{word_of, words_done, words_of}
+use Rattle.gh_lists.specs.declared.handshake.Actor.TheVariants.{Marks}
+use Rattle.gh_lists.specs.Counts.{stored_in}
+use Rattle.gh_lists.specs.Handshake.{actors, Pacing}
+use Rattle.gh_marked.specs.Vocabulary.{Actor, Coordinating, Entry, Layout, Op, opening_words, Shape, state_of, words_after}
+use Rattle.gh_lists.specs.Wants.{total}
+
+-- the words that are done with a step of this actor: a worker's
+abbrev pub done_by : Actor → (found : ℕ) → ℕ
+done_by (Marks w) found = words_done w.stage found
+done_by _ found = 0
+
+-- Of these, one where the step is done with a global: it found none there, or the shading of what it names ends.
+abbrev pub global_done : WorkerStage → (found : ℕ) → ℕ
+global_done (at.LoadGlobal i) found = if found == 0 then 1 else 0
+global_done (at.Shading sh) found = word_of (shade.gives sh found)
+global_done _ found = 0
+
+abbrev pub global_by : Actor → (found : ℕ) → ℕ
+global_by (Marks w) found = global_done w.stage found
+global_by _ found = 0
+
+-- and the words of the object whose scan ends with it
+abbrev pub object_done : WorkerStage → (found : ℕ) → ℕ
+object_done (at.Scanning s) found = words_of (scan.gives s found)
+object_done _ found = 0
+
+abbrev pub objects_by : Actor → (found : ℕ) → ℕ
+objects_by (Marks w) found = object_done w.stage found
+objects_by _ found = 0
+
+-- a worker has a global in hand from where it has moved the cursor past it until it is done with it: 1, or 0
+abbrev pub global_held : WorkerStage → ℕ
+global_held (at.LoadGlobal i) = 1
+global_held (at.Shading sh) = 1
+global_held (at.FindRoom sh r) = 1
+global_held _ = 0
+
+abbrev pub global_at : Actor → ℕ
+global_at (Marks w) = global_held w.stage
+global_at _ = 0
+
+-- the most that are scanned in a cycle: one for each global; the words of the objects, which share none; and one for each object that a global names
+abbrev pub most_scanned : Layout → ℕ
+most_scanned l = l.globals + 2 * (1024 * l.pages)
+
+module _ (shapes : List Shape) (l : Layout) (pacing : Pacing) where
+  -- what the entry behind the list is done with
+  abbrev pub scanned_by : Entry Op → List (Entry Op) → ℕ
+  scanned_by e es = done_by (state_of (actors shapes l pacing) e.actor es) e.found
+
+  abbrev pub scanned_in : List (Entry Op) → ℕ
+  scanned_in [] = 0
+  scanned_in (e ∷ es) = scanned_in es + scanned_by e es
+
+  -- of it, the globals, and the words of objects
+  abbrev pub globals_in : List (Entry Op) → ℕ
+  globals_in [] = 0
+  globals_in (e ∷ es) = globals_in es + global_by (state_of (actors shapes l pacing) e.actor es) e.found
+
+  abbrev pub objects_in : List (Entry Op) → ℕ
+  objects_in [] = 0
+  objects_in (e ∷ es) = objects_in es + objects_by (state_of (actors shapes l pacing) e.actor es) e.found
+
+  -- how many globals workers have in hand
+  abbrev pub globals_held : List (Entry Op) → ℕ
+  globals_held es = total (λ a. global_at (state_of (actors shapes l pacing) a es)) (seats_of l)
+
+  -- no more in the list than in as many cycles as have begun
+  abbrev pub FewAreScanned : List (Entry Op) → Type 0
+  FewAreScanned es = scanned_in es ≤ words_after (opening_words pacing.trigger) es cell.Begun * most_scanned l
+
+  -- In each cycle each global is counted exactly once.
+  pub record GlobalsAreCounted (es : List (Entry Op)) (c : Coordinating) : Type 0 where
+    -- what is scanned are the words of objects, and one for each global
+    pub parts : scanned_in es ≡ globals_in es + objects_in es
+    -- while no cycle is marked each global was counted as often as the marking of a cycle has ended
+    pub once : (leading.Marks c.stage → ⊥) → globals_in es ≡ stored_in cell.Gen es * l.globals
+    -- while one is marked so is, besides, each that the cursor has passed in it, but for those that workers have in hand
+    pub so_far : leading.Marks c.stage → globals_in es + globals_held es ≡ stored_in cell.Gen es * l.globals + min (words_after (opening_words pacing.trigger) es cell.Gcur) l.globals
+    -- so at all times as often as marking has ended at the least, and at the most as often as a cycle has begun
+    pub least : stored_in cell.Gen es * l.globals ≤ globals_in es
+    pub most : globals_in es ≤ stored_in cell.Begun es * l.globals

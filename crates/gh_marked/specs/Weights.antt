@@ -1,0 +1,214 @@
+-- How much is scanned so far in a cycle, at most: a word for each object that came into a buffer, the words of each black one, and a word for each scanned global. It only grows, and is no more than there is.
+use Rattle.std.proofs.Common.{◌≡◌, ◌≢◌, inl, inr, ℕ, zero, suc, ◌+◌, ◌*◌, ◌<◌, ◌≤◌, ◌==◌, Bool, true, false, cond, ltb, refl, ap, arith}
+use Rattle.std.proofs.lemmas.Bool.Decides.{nat_tests}
+use Rattle.gh_base.specs.declared.cell.Ask.{Ask}
+use Rattle.gh_base.specs.declared.cell.Cell.{Cell}
+use Rattle.gh_base.specs.declared.layout.Layout.{Layout}
+use Rattle.gh_marks.specs.Colours.{Black, Buffered, Colour, Progress, Scanned, Shared, Taken}
+use Rattle.gh_lists.specs.Counts.{stored_after, stores}
+use Rattle.gh_marked.specs.Scanned.{most_scanned}
+use Rattle.gh_lists.specs.Wants.{total}
+use Rattle.gh_lists.specs.Sums.{total_below}
+use Rattle.gh_marked.specs.Levels.{far, GoesOn, level}
+
+-- Sums.
+
+-- they rise, and at this place by so much
+total_rises : (f g : ℕ → ℕ) (n p more : ℕ) → ((i : ℕ) → f i ≤ g i) → p < n → f p + more ≤ g p → total f n + more ≤ total g n
+total_rises f g zero p more h m x = absurd (omega (arith, m))
+total_rises f g (suc n) p more h m x = go (n == p) refl (λ y. total_rises f g n p more h y x) where
+  go : (b : Bool) → (n == p) ≡ b → (p < n → total f n + more ≤ total g n) → total f (suc n) + more ≤ total g (suc n)
+  go true e before =
+      let is : n ≡ p = grind (arith, nat_tests, e) in
+      let rest = total_below f g n (λ i y. h i) in
+      let one : f n ≡ f p = ap f is in
+      let other : g n ≡ g p = ap g is in
+      omega (arith, rest, one, other, x)
+  go false e before =
+      let differs : n ≢ p = grind (arith, nat_tests, e) in
+      let rest = before (omega (arith, m, differs)) in
+      let last = h n in
+      omega (arith, rest, last)
+
+-- no more than one each
+total_ones : (f : ℕ → ℕ) (n : ℕ) → ((i : ℕ) → f i ≤ 1) → total f n ≤ n
+total_ones f zero h = omega arith
+total_ones f (suc n) h = let rest = total_ones f n h in let last = h n in omega (arith, rest, last)
+
+-- Pieces that begin below n, end by the most, and share nothing.
+abbrev pub ArePacked : (piece : ℕ → ℕ) → Type 0
+ArePacked piece = (o p : ℕ) → o < p → 0 < piece o → 0 < piece p → o + piece o ≤ p
+
+total_packed : (piece : ℕ → ℕ) (n most : ℕ) → ArePacked piece → ((o : ℕ) → o < n → 0 < piece o → o + piece o ≤ most) → total piece n ≤ most
+total_packed piece zero most apart ends = omega arith
+total_packed piece (suc n) most apart ends = go (ltb 0 (piece n)) refl (total_packed piece n n apart) (total_packed piece n most apart) where
+  go : (b : Bool) → ltb 0 (piece n) ≡ b → (((o : ℕ) → o < n → 0 < piece o → o + piece o ≤ n) → total piece n ≤ n) → (((o : ℕ) → o < n → 0 < piece o → o + piece o ≤ most) → total piece n ≤ most) → total piece (suc n) ≤ most
+  go true e below same =
+      let some : 0 < piece n = grind (arith, nat_tests, e) in
+      let rest = below (λ o lt x. apart o n lt x some) in
+      let last = ends n (omega arith) some in
+      omega (arith, rest, last)
+  go false e below same =
+      let none : piece n ≤ 0 = grind (arith, nat_tests, e) in
+      let rest = same (λ o lt x. ends o (omega (arith, lt)) x) in
+      omega (arith, rest, none)
+
+-- Of one object, and of one global.
+
+-- it came into a buffer, or it is black
+abbrev pub entered : Colour → ℕ
+entered (Buffered b j) = 1
+entered (Taken a) = 1
+entered Black = 1
+entered _ = 0
+
+abbrev pub whole : (size : ℕ) → Colour → ℕ
+whole size Black = size
+whole size _ = 0
+
+abbrev pub is_scanned : Progress → ℕ
+is_scanned Scanned = 1
+is_scanned _ = 0
+
+pub entered_high : (c : Colour) → 2 ≤ level c → entered c ≡ 1
+entered_high (Buffered b j) le = refl
+entered_high (Taken a) le = refl
+entered_high Black le = refl
+entered_high _ le = absurd (omega (arith, le))
+
+pub black_last : (c : Colour) → 3 < level c → c ≡ Black
+black_last Black lt = refl
+black_last _ lt = absurd (omega (arith, lt))
+
+scanned_last : (p : Progress) → 3 ≤ far p → is_scanned p ≡ 1
+scanned_last Scanned le = refl
+scanned_last _ le = absurd (omega (arith, le))
+
+level_most : (c : Colour) → level c ≤ 4
+level_most Black = omega arith
+level_most _ = omega arith
+
+far_most : (p : Progress) → far p ≤ 3
+far_most Scanned = omega arith
+far_most _ = omega arith
+
+entered_rises : (c d : Colour) → GoesOn level c d → entered c ≤ entered d
+entered_rises c d (inl e) = let same = ap entered e in omega (arith, same)
+entered_rises (Buffered b j) d (inr lt) = let one = entered_high d (omega (arith, lt)) in omega (arith, one)
+entered_rises (Taken a) d (inr lt) = let one = entered_high d (omega (arith, lt)) in omega (arith, one)
+entered_rises Black d (inr lt) = let one = entered_high d (omega (arith, lt)) in omega (arith, one)
+entered_rises _ d (inr lt) = omega arith
+
+whole_rises : (size then : ℕ) (c d : Colour) → GoesOn level c d → (c ≡ Black → then ≡ size) → whole size c ≤ whole then d
+whole_rises size then Black d (inl e) same = let is = ap (whole then) e in let stays = same refl in omega (arith, is, stays)
+whole_rises size then Black d (inr lt) same = absurd (let most = level_most d in omega (arith, lt, most))
+whole_rises size then _ d goes same = omega arith
+
+scanned_rises : (p q : Progress) → GoesOn far p q → is_scanned p ≤ is_scanned q
+scanned_rises p q (inl e) = let same = ap is_scanned e in omega (arith, same)
+scanned_rises Scanned q (inr lt) = absurd (let most = far_most q in omega (arith, lt, most))
+scanned_rises _ q (inr lt) = omega arith
+
+entered_one : (c : Colour) → entered c ≤ 1
+entered_one Black = omega arith
+entered_one _ = omega arith
+
+scanned_one : (p : Progress) → is_scanned p ≤ 1
+scanned_one Scanned = omega arith
+scanned_one _ = omega arith
+
+-- Of a state of marking.
+abbrev pub entry_at : Shared → (o : ℕ) → ℕ
+entry_at s o = entered (s.colour o)
+
+abbrev pub words_at : Shared → (o : ℕ) → ℕ
+words_at s o = whole (s.extents.size o) (s.colour o)
+
+abbrev pub scanned_at : Shared → (i : ℕ) → ℕ
+scanned_at s i = is_scanned (s.progress i)
+
+module _ (l : Layout) where
+  abbrev words : ℕ
+  words = 1024 * l.pages
+
+  abbrev pub counted : Shared → ℕ
+  counted s = total (entry_at s) words + total (words_at s) words + total (scanned_at s) l.globals
+
+  -- what has become of each, and the objects that were black have their words still
+  pub record AllGoOn (s t : Shared) : Type 0 where
+    pub colours : (o : ℕ) → GoesOn level (s.colour o) (t.colour o)
+    pub globals : (i : ℕ) → GoesOn far (s.progress i) (t.progress i)
+    pub sizes : (o : ℕ) → s.colour o ≡ Black → t.extents.size o ≡ s.extents.size o
+
+  module _ (s t : Shared) (all : AllGoOn s t) where
+    enter : (o : ℕ) → entry_at s o ≤ entry_at t o
+    enter o = entered_rises (s.colour o) (t.colour o) (all.colours o)
+
+    blacken : (o : ℕ) → words_at s o ≤ words_at t o
+    blacken o = whole_rises (s.extents.size o) (t.extents.size o) (s.colour o) (t.colour o) (all.colours o) (all.sizes o)
+
+    scan : (i : ℕ) → scanned_at s i ≤ scanned_at t i
+    scan i = scanned_rises (s.progress i) (t.progress i) (all.globals i)
+
+    more_enter : total (entry_at s) words ≤ total (entry_at t) words
+    more_enter = total_below (entry_at s) (entry_at t) words (λ o lt. enter o)
+
+    more_blacken : total (words_at s) words ≤ total (words_at t) words
+    more_blacken = total_below (words_at s) (words_at t) words (λ o lt. blacken o)
+
+    more_scan : total (scanned_at s) l.globals ≤ total (scanned_at t) l.globals
+    more_scan = total_below (scanned_at s) (scanned_at t) l.globals (λ i lt. scan i)
+
+    pub grows : counted s ≤ counted t
+    grows = let x = more_enter in let y = more_blacken in let w = more_scan in omega (arith, x, y, w)
+
+    -- an object came into a buffer, or is black
+    pub by_entry : (o : ℕ) → o < words → entry_at s o ≡ 0 → entry_at t o ≡ 1 → counted s + 1 ≤ counted t
+    by_entry o lt none one =
+        let x = total_rises (entry_at s) (entry_at t) words o 1 enter lt (omega (arith, none, one)) in
+        let y = more_blacken in
+        let w = more_scan in
+        omega (arith, x, y, w)
+
+    not_black : (size : ℕ) (c : Colour) → level c ≡ 3 → whole size c ≡ 0
+    not_black size Black is = absurd (omega (arith, is))
+    not_black size _ is = refl
+
+    -- an object is black that was not
+    pub by_object : (o : ℕ) → o < words → level (s.colour o) ≡ 3 → t.colour o ≡ Black → counted s + t.extents.size o ≤ counted t
+    by_object o lt was black =
+        let none : words_at s o ≡ 0 = not_black (s.extents.size o) (s.colour o) was in
+        let all_of : words_at t o ≡ t.extents.size o = ap (whole (t.extents.size o)) black in
+        let x = more_enter in
+        let y = total_rises (words_at s) (words_at t) words o (t.extents.size o) blacken lt (omega (arith, none, all_of)) in
+        let w = more_scan in
+        omega (arith, x, y, w)
+
+    not_yet : (p : Progress) → far p < 3 → is_scanned p ≡ 0
+    not_yet Scanned lt = absurd (omega (arith, lt))
+    not_yet _ lt = refl
+
+    -- a global is scanned that was not
+    pub by_global : (i : ℕ) → i < l.globals → far (s.progress i) < 3 → 3 ≤ far (t.progress i) → counted s + 1 ≤ counted t
+    by_global i lt was is =
+        let none : scanned_at s i ≡ 0 = not_yet (s.progress i) was in
+        let one : scanned_at t i ≡ 1 = scanned_last (t.progress i) is in
+        let x = more_enter in
+        let y = more_blacken in
+        let w = total_rises (scanned_at s) (scanned_at t) l.globals i 1 scan lt (omega (arith, none, one)) in
+        omega (arith, x, y, w)
+
+  -- where the black objects lie in the heap and share no word it is no more than there is
+  pub counted_most : (s : Shared) → ArePacked (words_at s) → ((o : ℕ) → 0 < words_at s o → o + words_at s o ≤ words) → counted s ≤ most_scanned l
+  counted_most s apart ends =
+      let x = total_ones (entry_at s) words (λ o. entered_one (s.colour o)) in
+      let y = total_packed (words_at s) words words apart (λ o lt some. ends o some) in
+      let w = total_ones (scanned_at s) l.globals (λ i. scanned_one (s.progress i)) in
+      omega (arith, x, y, w)
+
+-- no store is undone
+pub stored_rises : (c : Cell) (ask : Ask) (before : ℕ) → before ≤ stored_after c ask before
+stored_rises c ask before = go (stores c ask) where
+  go : (b : Bool) → before ≤ cond b (suc before) before
+  go true = omega arith
+  go false = omega arith

@@ -1,6 +1,0 @@
-use Rattle.gh_world.proofs.CycleNumbers.Few.{few}
-use Rattle.gh_world.proofs.numbers.cycles_are_few.Goals as goal
-
-pub returns : goal.returns
-returns c shapes l pacing may seat_of counts begins es legal =
-    few shapes l pacing may c.a_processor_writes_its_own.ensures c.a_worker_writes_its_own.ensures (c.every_list_keeps_the_handshake.ensures shapes l pacing may) seat_of counts begins (c.every_list_counts_wants.ensures shapes l pacing may) es legal

@@ -1,6 +1,0 @@
-use Rattle.gh_world.proofs.CycleNumbers.Resting.{rest}
-use Rattle.gh_world.proofs.numbers.every_list_rests_workers.Goals as goal
-
-pub returns : goal.returns
-returns c shapes l pacing may es legal =
-    rest shapes l pacing may c.a_processor_writes_its_own.ensures c.calm_workers_mark_nothing.ensures (c.every_list_keeps_the_handshake.ensures shapes l pacing may) es legal
