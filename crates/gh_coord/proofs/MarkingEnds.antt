@@ -21,7 +21,7 @@ use Rattle.gh_coord.specs.SweepingAll as all
 use Rattle.gh_coord.specs.Telling as tell
 use Rattle.gh_coord.specs.Watching as watch
 use Rattle.gh_coord.proofs.QuietParts.{count_quiet, sweep_quiet, watch_quiet}
-use Rattle.gh_coord.proofs.Stepping.{same_ask}
+use Rattle.gh_coord.proofs.Stepping.{Run, same_ask}
 use Rattle.gh_coord.proofs.Vocabulary.{after_check, after_close, after_count, after_open, after_stop, after_stop_again, after_sweep, after_tell, after_watch, All, Ask, asks, asks_at, at_stage, by_ack, by_last, by_out, by_want, by_watched, Check, Close, CloseStage, Coordinating, CoordStage, Count, counted, Done, goes_at, GONE, IsQuiet, Layout, Load, LoadAck, LoadWant, MarkOn, nat_tests, NotYet, Open, OpenStage, phase_word, Stop, StopAgain, StopStage, Store, Sweep, Tell, TellStage, Watch, WatchStage}
 
 -- what the tests of the listing say of the words
@@ -39,18 +39,18 @@ left b e = by (b.holder == 0) (b.count == 0) refl refl e where
   by true true f g e = inr (grind (arith, nat_tests))
   by true false f g e = absurd (cc)
 
-module _ (l : Layout) (seat gogc minheap room : ℕ) (found : ℕ → ℕ) where
+module _ (run : Run) where
   abbrev now : ℕ → Coordinating
-  now n = state l seat gogc minheap room found n
+  now n = state run.layout run.seat run.gogc run.minheap run.room run.found n
 
   abbrev Found : (first last : ℕ) → Cell → (ℕ → Type 0) → Type 0
-  Found first last at IsSo = Finds l seat gogc minheap room found first last at IsSo
+  Found first last at IsSo = Finds run.layout run.seat run.gogc run.minheap run.room run.found first last at IsSo
 
   abbrev IsAcked : (stops v : ℕ) → Type 0
   IsAcked stops v = (v ≡ stops) ⊎ (v ≡ GONE)
 
   abbrev IsWanted : (begun : ℕ) → Cell → (v : ℕ) → Type 0
-  IsWanted begun at v = watch.is_wanted l begun at v ≡ true
+  IsWanted begun at v = watch.is_wanted run.layout begun at v ≡ true
 
   -- since the world was told to stop, and the first so many have acknowledged that
   record Stopped (stops n actors : ℕ) : Type 0 where
@@ -68,8 +68,8 @@ module _ (l : Layout) (seat gogc minheap room : ℕ) (found : ℕ → ℕ) where
     is_by : last ≤ n
     stores : asks (now first) ≡ Store cell.Phase (phase_word (record { stops = stops; phase = phase.Stop }))
     leaves : (m : ℕ) → first < m → m < n → LeavesMarks (asks (now m))
-    acknowledged : (i : ℕ) → i < stop.acks_of l → Found first last (cell.Ack i) (IsAcked stops)
-    each : (i : ℕ) → i < words → Found last n (watch.cell_at l i) (IsWanted begun (watch.cell_at l i))
+    acknowledged : (i : ℕ) → i < stop.acks_of run.layout → Found first last (cell.Ack i) (IsAcked stops)
+    each : (i : ℕ) → i < words → Found last n (watch.cell_at run.layout i) (IsWanted begun (watch.cell_at run.layout i))
 
   abbrev StopKnows : (stops n : ℕ) → StopStage → Type 0
   StopKnows stops n p.StorePhase = Unit {0}
@@ -77,23 +77,23 @@ module _ (l : Layout) (seat gogc minheap room : ℕ) (found : ℕ → ℕ) where
   StopKnows stops n p.Ended = ⊥
 
   abbrev CheckKnows : (stops begun n : ℕ) → WatchStage → Type 0
-  CheckKnows stops begun n (w.Look i) = (i < watch.words_of l) × Looked stops begun n i
+  CheckKnows stops begun n (w.Look i) = (i < watch.words_of run.layout) × Looked stops begun n i
   CheckKnows stops begun n (w.Ended watched) = ⊥
 
   record StopIs (stops n : ℕ) (st : stop.Stopping) : Type 0 where
-    layout_is : st.layout ≡ l
+    layout_is : st.layout ≡ run.layout
     stops_is : st.stops ≡ stops
     knows : StopKnows stops n st.stage
 
   record CheckIs (stops begun n : ℕ) (x : watch.Watching) : Type 0 where
-    layout_is : x.layout ≡ l
+    layout_is : x.layout ≡ run.layout
     cycle_is : x.cycle ≡ begun
     knows : CheckKnows stops begun n x.stage
 
   abbrev CloseKnows : (stops begun n : ℕ) → CloseStage → Type 0
   CloseKnows stops begun n c.StorePhase = Unit {0}
   CloseKnows stops begun n c.Ended = ⊥
-  CloseKnows stops begun n _ = Looked stops begun n (watch.words_of l)
+  CloseKnows stops begun n _ = Looked stops begun n (watch.words_of run.layout)
 
   abbrev Knows : (stops begun n : ℕ) → CoordStage → Type 0
   Knows stops begun n (StopAgain st) = StopIs stops n st
@@ -102,7 +102,7 @@ module _ (l : Layout) (seat gogc minheap room : ℕ) (found : ℕ → ℕ) where
   Knows stops begun n _ = Unit {0}
 
   record Has (n : ℕ) (s : Coordinating) : Type 0 where
-    layout_is : s.layout ≡ l
+    layout_is : s.layout ≡ run.layout
     knows : Knows s.stops s.begun n s.stage
 
   -- what was found is found by any later step
@@ -126,7 +126,7 @@ module _ (l : Layout) (seat gogc minheap room : ℕ) (found : ℕ → ℕ) where
     waits : (i : ℕ) → Stopped stops n i → LeavesMarks (asks (now n)) → Stopped stops (suc n) i
     waits i k one = let before : k.first < n = k.is_before in record { first = k.first; is_before = omega arith; stores = k.stores; leaves = leaves_on k.first n k.leaves one; each = λ j lt. later k.first n (cell.Ack j) (IsAcked stops) (k.each j lt) }
 
-    finds_ack : (i : ℕ) → Stopped stops n i → asks (now n) ≡ Load (cell.Ack i) → stop.is_acknowledged stops (found n) ≡ true → Stopped stops (suc n) (i + 1)
+    finds_ack : (i : ℕ) → Stopped stops n i → asks (now n) ≡ Load (cell.Ack i) → stop.is_acknowledged stops (run.found n) ≡ true → Stopped stops (suc n) (i + 1)
     unfolding waits
     finds_ack i k loads is =
         let before : k.first < n = k.is_before in
@@ -136,7 +136,7 @@ module _ (l : Layout) (seat gogc minheap room : ℕ) (found : ℕ → ℕ) where
           is_before = omega arith;
           stores = k.stores;
           leaves = on.leaves;
-          each = one_more (λ j. Found k.first (suc n) (cell.Ack j) (IsAcked stops)) i on.each (record { by = n; is_behind = omega arith; is_before = omega arith; loads = loads; is_so = acked stops (found n) is });
+          each = one_more (λ j. Found k.first (suc n) (cell.Ack j) (IsAcked stops)) i on.each (record { by = n; is_behind = omega arith; is_before = omega arith; loads = loads; is_so = acked stops (run.found n) is });
         }
 
   module _ (stops begun n : ℕ) where
@@ -152,10 +152,10 @@ module _ (l : Layout) (seat gogc minheap room : ℕ) (found : ℕ → ℕ) where
           stores = k.stores;
           leaves = leaves_on k.first n k.leaves one;
           acknowledged = k.acknowledged;
-          each = λ j lt. later k.last n (watch.cell_at l j) (IsWanted begun (watch.cell_at l j)) (k.each j lt);
+          each = λ j lt. later k.last n (watch.cell_at run.layout j) (IsWanted begun (watch.cell_at run.layout j)) (k.each j lt);
         }
 
-    finds_word : (i : ℕ) → Looked stops begun n i → asks (now n) ≡ Load (watch.cell_at l i) → watch.is_wanted l begun (watch.cell_at l i) (found n) ≡ true → Looked stops begun (suc n) (i + 1)
+    finds_word : (i : ℕ) → Looked stops begun n i → asks (now n) ≡ Load (watch.cell_at run.layout i) → watch.is_wanted run.layout begun (watch.cell_at run.layout i) (run.found n) ≡ true → Looked stops begun (suc n) (i + 1)
     unfolding looks_on
     finds_word i k loads is =
         let on = looks_on i k (subst LeavesMarks (sym loads) tt) in
@@ -168,26 +168,26 @@ module _ (l : Layout) (seat gogc minheap room : ℕ) (found : ℕ → ℕ) where
           stores = k.stores;
           leaves = on.leaves;
           acknowledged = k.acknowledged;
-          each = one_more (λ j. Found k.last (suc n) (watch.cell_at l j) (IsWanted begun (watch.cell_at l j))) i on.each (record { by = n; is_behind = by; is_before = omega arith; loads = loads; is_so = is });
+          each = one_more (λ j. Found k.last (suc n) (watch.cell_at run.layout j) (IsWanted begun (watch.cell_at run.layout j))) i on.each (record { by = n; is_behind = by; is_before = omega arith; loads = loads; is_so = is });
         }
 
-  module _ (n : ℕ) (s : Coordinating) (here : s.layout ≡ l) where
+  module _ (n : ℕ) (s : Coordinating) (here : s.layout ≡ run.layout) where
     -- the end of marking
     close_step : (cl : close.Closing) (stage : CloseStage) (v : ℕ) → cl.stage ≡ stage → asks (now n) ≡ close.asks_at cl stage → CloseKnows s.stops s.begun n stage → Has (suc n) (after_close (at_stage s (Close (close.goes_at cl stage v))) (close.given (close.goes_at cl stage v)))
     close_step cl c.StoreGen v e asked k = record { layout_is = here; knows = tt }
     close_step cl c.StorePhase v e asked k = record { layout_is = here; knows = tt }
     close_step cl c.Ended v e asked k = absurd k
-    close_step cl _ v e asked k = record { layout_is = here; knows = looks_on s.stops s.begun n (watch.words_of l) k (subst LeavesMarks (sym asked) tt) }
+    close_step cl _ v e asked k = record { layout_is = here; knows = looks_on s.stops s.begun n (watch.words_of run.layout) k (subst LeavesMarks (sym asked) tt) }
 
     -- the second stop
-    module _ (st : stop.Stopping) (st_in : st.layout ≡ l) (numbered : st.stops ≡ s.stops) where
+    module _ (st : stop.Stopping) (st_in : st.layout ≡ run.layout) (numbered : st.stops ≡ s.stops) where
       abbrev stopped : StopStage → Coordinating
       stopped stage = after_stop_again (at_stage s (StopAgain (record st { stage = stage }))) (stop.given_at stage)
 
       awaits : (i : ℕ) → Stopped s.stops (suc n) i → Has (suc n) (stopped (p.Await i))
       awaits i k = record { layout_is = here; knows = record { layout_is = st_in; stops_is = numbered; knows = k } }
 
-      checks : (i : ℕ) → stop.acks_of l ≤ i → Stopped s.stops (suc n) i → Has (suc n) (stopped p.Ended)
+      checks : (i : ℕ) → stop.acks_of run.layout ≤ i → Stopped s.stops (suc n) i → Has (suc n) (stopped p.Ended)
       checks i most k = record {
         layout_is = here;
         knows = record {
@@ -197,18 +197,18 @@ module _ (l : Layout) (seat gogc minheap room : ℕ) (found : ℕ → ℕ) where
         };
       }
 
-      await_step : (i v : ℕ) → v ≡ found n → asks (now n) ≡ Load (cell.Ack i) → Stopped s.stops n i → (is more : Bool) → stop.is_acknowledged st.stops v ≡ is → ltb (i + 1) (stop.acks_of st.layout) ≡ more →
+      await_step : (i v : ℕ) → v ≡ run.found n → asks (now n) ≡ Load (cell.Ack i) → Stopped s.stops n i → (is more : Bool) → stop.is_acknowledged st.stops v ≡ is → ltb (i + 1) (stop.acks_of st.layout) ≡ more →
           Has (suc n) (stopped (cond is (cond more (p.Await (i + 1)) p.Ended) (p.Await i)))
       await_step i v told loads k is more e f = by is more e f where
         more_are : stop.is_acknowledged st.stops v ≡ true → Stopped s.stops (suc n) (i + 1)
-        more_are a = finds_ack s.stops n i k loads (ap (λ (x : ℕ). stop.is_acknowledged x (found n)) (sym numbered) ∙ ap (λ (x : ℕ). stop.is_acknowledged st.stops x) (sym told) ∙ a)
+        more_are a = finds_ack s.stops n i k loads (ap (λ (x : ℕ). stop.is_acknowledged x (run.found n)) (sym numbered) ∙ ap (λ (x : ℕ). stop.is_acknowledged st.stops x) (sym told) ∙ a)
 
         by : (is more : Bool) → stop.is_acknowledged st.stops v ≡ is → ltb (i + 1) (stop.acks_of st.layout) ≡ more → Has (suc n) (stopped (cond is (cond more (p.Await (i + 1)) p.Ended) (p.Await i)))
         by true true e f = awaits (i + 1) (more_are e)
         by true false e f = checks (i + 1) (subst (λ (x : Layout). stop.acks_of x ≤ i + 1) st_in (ltb-false _ _ f)) (more_are e)
         by false more e f = awaits i (waits s.stops n i k (subst LeavesMarks (sym loads) tt))
 
-      again_step : (stage : StopStage) (v : ℕ) → v ≡ found n → asks (now n) ≡ stop.asks_at st stage → StopKnows s.stops n stage →
+      again_step : (stage : StopStage) (v : ℕ) → v ≡ run.found n → asks (now n) ≡ stop.asks_at st stage → StopKnows s.stops n stage →
           Has (suc n) (after_stop_again (at_stage s (StopAgain (stop.goes_at st stage v))) (stop.given (stop.goes_at st stage v)))
       again_step p.StorePhase v told asked k = awaits 0 (record {
         first = n;
@@ -221,34 +221,34 @@ module _ (l : Layout) (seat gogc minheap room : ℕ) (found : ℕ → ℕ) where
       again_step p.Ended v told asked k = absurd k
 
     -- the check
-    module _ (x : watch.Watching) (x_in : x.layout ≡ l) (numbered : x.cycle ≡ s.begun) where
+    module _ (x : watch.Watching) (x_in : x.layout ≡ run.layout) (numbered : x.cycle ≡ s.begun) where
       abbrev checked : WatchStage → Coordinating
       checked stage = after_check (at_stage s (Check (record x { stage = stage }))) (watch.given_at stage)
 
-      look_step : (i v : ℕ) → v ≡ found n → asks (now n) ≡ Load (watch.cell_at x.layout i) → Looked s.stops s.begun n i → i < watch.words_of l → (is more : Bool) → watch.is_wanted x.layout x.cycle (watch.cell_at x.layout i) v ≡ is → ltb (i + 1) (watch.words_of x.layout) ≡ more →
+      look_step : (i v : ℕ) → v ≡ run.found n → asks (now n) ≡ Load (watch.cell_at x.layout i) → Looked s.stops s.begun n i → i < watch.words_of run.layout → (is more : Bool) → watch.is_wanted x.layout x.cycle (watch.cell_at x.layout i) v ≡ is → ltb (i + 1) (watch.words_of x.layout) ≡ more →
           Has (suc n) (checked (cond is (cond more (w.Look (i + 1)) (w.Ended All)) (w.Ended NotYet)))
       look_step i v told loads k within is more e f = by is more e f where
         finds : watch.is_wanted x.layout x.cycle (watch.cell_at x.layout i) v ≡ true → Looked s.stops s.begun (suc n) (i + 1)
         finds a =
             finds_word s.stops s.begun n i k (loads ∙ ap (λ (y : Layout). Load (watch.cell_at y i)) x_in)
-            (ap (λ (y : ℕ). watch.is_wanted l y (watch.cell_at l i) (found n)) (sym numbered) ∙ ap (λ (y : Layout). watch.is_wanted y x.cycle (watch.cell_at y i) (found n)) (sym x_in) ∙ ap (λ (y : ℕ). watch.is_wanted x.layout x.cycle (watch.cell_at x.layout i) y) (sym told) ∙ a)
+            (ap (λ (y : ℕ). watch.is_wanted run.layout y (watch.cell_at run.layout i) (run.found n)) (sym numbered) ∙ ap (λ (y : Layout). watch.is_wanted y x.cycle (watch.cell_at y i) (run.found n)) (sym x_in) ∙ ap (λ (y : ℕ). watch.is_wanted x.layout x.cycle (watch.cell_at x.layout i) y) (sym told) ∙ a)
 
         by : (is more : Bool) → watch.is_wanted x.layout x.cycle (watch.cell_at x.layout i) v ≡ is → ltb (i + 1) (watch.words_of x.layout) ≡ more → Has (suc n) (checked (cond is (cond more (w.Look (i + 1)) (w.Ended All)) (w.Ended NotYet)))
         by true true e f =
-            let further : i + 1 < watch.words_of l = subst (λ (y : Layout). i + 1 < watch.words_of y) x_in (ltb-true _ _ f) in
+            let further : i + 1 < watch.words_of run.layout = subst (λ (y : Layout). i + 1 < watch.words_of y) x_in (ltb-true _ _ f) in
             record { layout_is = here; knows = record { layout_is = x_in; cycle_is = numbered; knows = (further, finds e) } }
         by true false e f =
-            let last : watch.words_of l ≤ i + 1 = subst (λ (y : Layout). watch.words_of y ≤ i + 1) x_in (ltb-false _ _ f) in
-            let end : i + 1 ≡ watch.words_of l = omega arith in
+            let last : watch.words_of run.layout ≤ i + 1 = subst (λ (y : Layout). watch.words_of y ≤ i + 1) x_in (ltb-false _ _ f) in
+            let end : i + 1 ≡ watch.words_of run.layout = omega arith in
             record { layout_is = here; knows = subst (λ (j : ℕ). Looked s.stops s.begun (suc n) j) end (finds e) }
         by false more e f = record { layout_is = here; knows = tt }
 
-      check_step : (stage : WatchStage) (v : ℕ) → v ≡ found n → asks (now n) ≡ watch.asks_at x stage → CheckKnows s.stops s.begun n stage →
+      check_step : (stage : WatchStage) (v : ℕ) → v ≡ run.found n → asks (now n) ≡ watch.asks_at x stage → CheckKnows s.stops s.begun n stage →
           Has (suc n) (after_check (at_stage s (Check (watch.goes_at x stage v))) (watch.given (watch.goes_at x stage v)))
       check_step (w.Look i) v told asked k = look_step i v told asked k.1 k.0 _ _ refl refl
       check_step (w.Ended watched) v told asked k = absurd k
 
-    step_at : (stage : CoordStage) (v : ℕ) → v ≡ found n → s.stage ≡ stage → asks (now n) ≡ asks_at s stage → Knows s.stops s.begun n stage → Has (suc n) (goes_at s stage v)
+    step_at : (stage : CoordStage) (v : ℕ) → v ≡ run.found n → s.stage ≡ stage → asks (now n) ≡ asks_at s stage → Knows s.stops s.begun n stage → Has (suc n) (goes_at s stage v)
     step_at (LoadAck i) v told is asked k = by_ack (Has (suc n)) s i (record { layout_is = here; knows = tt }) (record { layout_is = here; knows = tt }) (record { layout_is = here; knows = tt }) _ _
     step_at LoadWant v told is asked k = by_want (Has (suc n)) s (record { layout_is = here; knows = tt }) (record { layout_is = here; knows = tt }) _
     step_at (Stop st) v told is asked k = by_out (Has (suc n)) (after_stop (at_stage s (Stop (stop.goes st v)))) (record { layout_is = here; knows = tt }) (λ u. record { layout_is = here; knows = tt }) (stop.gives st v)
@@ -268,12 +268,12 @@ module _ (l : Layout) (seat gogc minheap room : ℕ) (found : ℕ → ℕ) where
   has (suc n) =
       let h = has n in
       let s : Coordinating = now n in
-      step_at n (counted s) h.layout_is s.stage (found n) refl refl (sym (same_ask s s.stage)) h.knows
+      step_at n (counted s) h.layout_is s.stage (run.found n) refl refl (sym (same_ask s s.stage)) h.knows
 
   -- the words that are watched, each by its name
-  module _ (n : ℕ) (k : Looked (now n).stops (now n).begun n (watch.words_of l)) where
+  module _ (n : ℕ) (k : Looked (now n).stops (now n).begun n (watch.words_of run.layout)) where
     so : (first last : ℕ) (at : Cell) (P Q : ℕ → Type 0) → ((v : ℕ) → P v → Q v) → Found first last at P → Found first last at Q
-    so first last at P Q to f = record { by = f.by; is_behind = f.is_behind; is_before = f.is_before; loads = f.loads; is_so = to (found f.by) f.is_so }
+    so first last at P Q to f = record { by = f.by; is_behind = f.is_behind; is_before = f.is_before; loads = f.loads; is_so = to (run.found f.by) f.is_so }
 
     abbrev begun : ℕ
     begun = (now n).begun
@@ -281,41 +281,41 @@ module _ (l : Layout) (seat gogc minheap room : ℕ) (found : ℕ → ℕ) where
     abbrev Saw : Cell → Type 0
     Saw at = Found k.last n at (IsWanted begun at)
 
-    stack_at : (i g : ℕ) → i ≡ g + 1 → g < l.goroutines → watch.cell_at l i ≡ cell.Scanned g
-    stack_at i g is lt = by (i == 0) (ltb (i - 1) l.goroutines) refl refl where
+    stack_at : (i g : ℕ) → i ≡ g + 1 → g < run.layout.goroutines → watch.cell_at run.layout i ≡ cell.Scanned g
+    stack_at i g is lt = by (i == 0) (ltb (i - 1) run.layout.goroutines) refl refl where
       one : i - 1 ≡ g
       one = omega arith
 
-      by : (x y : Bool) → (i == 0) ≡ x → ltb (i - 1) l.goroutines ≡ y → cond x cell.Gcur (cond y (cell.Scanned (i - 1)) (cell.Buffer (i - 1 - l.goroutines))) ≡ cell.Scanned g
+      by : (x y : Bool) → (i == 0) ≡ x → ltb (i - 1) run.layout.goroutines ≡ y → cond x cell.Gcur (cond y (cell.Scanned (i - 1)) (cell.Buffer (i - 1 - run.layout.goroutines))) ≡ cell.Scanned g
       by true y e f = absurd (grind (arith, nat_tests))
       by false true e f = ap (λ (j : ℕ). cell.Scanned j) one
-      by false false e f = let ge : l.goroutines ≤ i - 1 = ltb-false _ _ f in absurd (omega arith)
+      by false false e f = let ge : run.layout.goroutines ≤ i - 1 = ltb-false _ _ f in absurd (omega arith)
 
-    buffer_at : (i b : ℕ) → i ≡ l.goroutines + b + 1 → watch.cell_at l i ≡ cell.Buffer b
-    buffer_at i b is = by (i == 0) (ltb (i - 1) l.goroutines) refl refl where
-      one : i - 1 - l.goroutines ≡ b
+    buffer_at : (i b : ℕ) → i ≡ run.layout.goroutines + b + 1 → watch.cell_at run.layout i ≡ cell.Buffer b
+    buffer_at i b is = by (i == 0) (ltb (i - 1) run.layout.goroutines) refl refl where
+      one : i - 1 - run.layout.goroutines ≡ b
       one = omega arith
 
-      by : (x y : Bool) → (i == 0) ≡ x → ltb (i - 1) l.goroutines ≡ y → cond x cell.Gcur (cond y (cell.Scanned (i - 1)) (cell.Buffer (i - 1 - l.goroutines))) ≡ cell.Buffer b
+      by : (x y : Bool) → (i == 0) ≡ x → ltb (i - 1) run.layout.goroutines ≡ y → cond x cell.Gcur (cond y (cell.Scanned (i - 1)) (cell.Buffer (i - 1 - run.layout.goroutines))) ≡ cell.Buffer b
       by true y e f = absurd (grind (arith, nat_tests))
-      by false true e f = let lt : i - 1 < l.goroutines = ltb-true _ _ f in absurd (omega arith)
+      by false true e f = let lt : i - 1 < run.layout.goroutines = ltb-true _ _ f in absurd (omega arith)
       by false false e f = ap (λ (j : ℕ). cell.Buffer j) one
 
-    is_clean : NothingIsLeft l seat gogc minheap room found n
+    is_clean : NothingIsLeft run.layout run.seat run.gogc run.minheap run.room run.found n
     is_clean = record {
       stop = k.first;
       stopped = k.last;
       is_before = k.is_before;
       stops = k.stores;
       acknowledged = k.acknowledged;
-      globals = so k.last n cell.Gcur (IsWanted begun cell.Gcur) (λ v. l.globals ≤ v) (λ v e. leb-true _ _ e) (k.each 0 (omega arith));
+      globals = so k.last n cell.Gcur (IsWanted begun cell.Gcur) (λ v. run.layout.globals ≤ v) (λ v e. leb-true _ _ e) (k.each 0 (omega arith));
       stacks = λ g lt. so k.last n (cell.Scanned g) (IsWanted begun (cell.Scanned g)) (λ v. begun ≤ v) (λ v e. leb-true _ _ e) (subst Saw (stack_at (g + 1) g refl lt) (k.each (g + 1) (omega arith)));
-      buffers = λ i lt. so k.last n (cell.Buffer i) (IsWanted begun (cell.Buffer i)) (λ v. HasNothingLeft (buffer_of v)) (λ v e. left (buffer_of v) e) (subst Saw (buffer_at (l.goroutines + i + 1) i refl) (k.each (l.goroutines + i + 1) (omega arith)));
+      buffers = λ i lt. so k.last n (cell.Buffer i) (IsWanted begun (cell.Buffer i)) (λ v. HasNothingLeft (buffer_of v)) (λ v e. left (buffer_of v) e) (subst Saw (buffer_at (run.layout.goroutines + i + 1) i refl) (k.each (run.layout.goroutines + i + 1) (omega arith)));
       leaves = k.leaves;
     }
 
   -- where it stores the generation
-  close_at : (cl : close.Closing) (stage : CloseStage) (stops cycle n g : ℕ) → CloseKnows stops cycle n stage → close.asks_at cl stage ≡ Store cell.Gen g → Looked stops cycle n (watch.words_of l)
+  close_at : (cl : close.Closing) (stage : CloseStage) (stops cycle n g : ℕ) → CloseKnows stops cycle n stage → close.asks_at cl stage ≡ Store cell.Gen g → Looked stops cycle n (watch.words_of run.layout)
   close_at cl c.StorePhase stops cycle n g k e = absurd (cc)
   close_at cl c.Ended stops cycle n g k e = absurd k
   close_at cl _ stops cycle n g k e = k
@@ -335,17 +335,17 @@ pub tell_never : (te : tell.Telling) (stage : TellStage) (g : ℕ) → tell.asks
 tell_never te t.StoreTrigger g e = cc
 tell_never te _ g e = cc
 
-module _ (l : Layout) (seat gogc minheap room : ℕ) (found : ℕ → ℕ) (n g : ℕ) (s : Coordinating) where
+module _ (run : Run) (n g : ℕ) (s : Coordinating) where
   abbrev Checked : Type 0
-  Checked = Looked l seat gogc minheap room found s.stops s.begun n (watch.words_of l)
+  Checked = Looked run s.stops s.begun n (watch.words_of run.layout)
 
-  is_checked : (stage : CoordStage) → Knows l seat gogc minheap room found s.stops s.begun n stage → asks_at s stage ≡ Store cell.Gen g → Checked
+  is_checked : (stage : CoordStage) → Knows run s.stops s.begun n stage → asks_at s stage ≡ Store cell.Gen g → Checked
   is_checked (Stop st) k e = absurd (stop_never st st.stage g e)
   is_checked (Open op) k e = absurd (open_never op op.stage g e)
   is_checked (Watch x) k e = absurd (never _ g (watch_quiet x x.stage) e)
   is_checked (StopAgain st) k e = absurd (stop_never st st.stage g e)
   is_checked (Check x) k e = absurd (never _ g (watch_quiet x x.stage) e)
-  is_checked (Close cl) k e = close_at l seat gogc minheap room found cl cl.stage s.stops s.begun n g k e
+  is_checked (Close cl) k e = close_at run cl cl.stage s.stops s.begun n g k e
   is_checked (Sweep sw) k e = absurd (never _ g (sweep_quiet sw sw.stage) e)
   is_checked (Count co) k e = absurd (never _ g (count_quiet co.stage) e)
   is_checked (Tell te) k e = absurd (tell_never te te.stage g e)
@@ -353,4 +353,6 @@ module _ (l : Layout) (seat gogc minheap room : ℕ) (found : ℕ → ℕ) (n g 
 
 pub marking_ends_clean : MarkingEndsClean
 marking_ends_clean l seat gogc minheap room found n g e =
-    is_clean l seat gogc minheap room found n (is_checked l seat gogc minheap room found n g (state l seat gogc minheap room found n) (state l seat gogc minheap room found n).stage (has l seat gogc minheap room found n).knows e)
+    let run : Run = record { layout = l; seat = seat; gogc = gogc; minheap = minheap; room = room; found = found } in
+    let s : Coordinating = now run n in
+    is_clean run n (is_checked run n g s s.stage (has run n).knows e)

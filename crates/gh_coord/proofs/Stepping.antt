@@ -1,7 +1,16 @@
--- What is asked for where the steps that store the phase word are counted.
-use Rattle.std.proofs.Common.{◌≡◌, refl}
+-- A run of the coordinator, and what is asked for where the steps that store the phase word are counted.
+use Rattle.std.proofs.Common.{◌≡◌, ℕ, refl}
 use Rattle.gh_coord.specs.Listing.{asks_at, Coordinating, counted}
-use Rattle.gh_coord.specs.Vocabulary.{CoordStage, LoadAck}
+use Rattle.gh_coord.specs.Vocabulary.{CoordStage, Layout, LoadAck}
+
+-- a coordinator's layout, the numbers that it is opened with, and what each of its steps is told
+pub record Run : Type 0 where
+  pub layout : Layout
+  pub seat : ℕ
+  pub gogc : ℕ
+  pub minheap : ℕ
+  pub room : ℕ
+  pub found : ℕ → ℕ
 
 -- counting the steps that store the phase word leaves what is asked for
 pub same_ask : (s : Coordinating) (stage : CoordStage) → asks_at (counted s) stage ≡ asks_at s stage

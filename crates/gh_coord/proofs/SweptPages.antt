@@ -24,7 +24,7 @@ use Rattle.gh_coord.specs.Telling as tell
 use Rattle.gh_coord.specs.Watching as watch
 use Rattle.gh_coord.proofs.MarkingEnds.{never, tell_never}
 use Rattle.gh_coord.proofs.QuietParts.{count_quiet, sweep_quiet}
-use Rattle.gh_coord.proofs.Stepping.{same_ask}
+use Rattle.gh_coord.proofs.Stepping.{Run, same_ask}
 use Rattle.gh_coord.proofs.Vocabulary.{after_check, after_close, after_count, after_open, after_stop, after_stop_again, after_sweep, after_tell, after_watch, Ask, asks, asks_at, at_stage, by_ack, by_last, by_out, by_want, by_watched, Check, Close, CloseStage, Coordinating, CoordStage, Count, counted, CountStage, Done, goes_at, Layout, Load, LoadAck, LoadWant, MarkOn, nat_tests, Open, OpenStage, Stop, StopAgain, StopStage, Store, Sweep, sweep_at, sweep_in, SweepAllStage, SweepStage, Tell, Watch, WatchStage}
 
 -- a sweep stays at its page
@@ -39,22 +39,22 @@ page_stays sw span.AddHeap v = refl
 page_stays sw span.Finish v = refl
 page_stays sw (span.Ended end) v = refl
 
-module _ (l : Layout) (seat gogc minheap room : ℕ) (found : ℕ → ℕ) where
+module _ (run : Run) where
   abbrev now : ℕ → Coordinating
-  now n = state l seat gogc minheap room found n
+  now n = state run.layout run.seat run.gogc run.minheap run.room run.found n
 
   -- the step stores no sweep generation
   abbrev StoresNone : Ask → Type 0
   StoresNone step = (other : ℕ) → step ≡ Store cell.Gen other → ⊥
 
   abbrev Passed : (generation n page : ℕ) → Type 0
-  Passed generation n page = HasPassed l seat gogc minheap room found n generation page
+  Passed generation n page = HasPassed run.layout run.seat run.gogc run.minheap run.room run.found n generation page
 
   abbrev Begins : (generation page by : ℕ) → Type 0
-  Begins generation page by = FindsBegun l seat gogc minheap room found generation page by
+  Begins generation page by = FindsBegun run.layout run.seat run.gogc run.minheap run.room run.found generation page by
 
   abbrev Ends : (generation page by : ℕ) → Type 0
-  Ends generation page by = FindsDone l seat gogc minheap room found generation page by
+  Ends generation page by = FindsDone run.layout run.seat run.gogc run.minheap run.room run.found generation page by
 
   -- the pages below this are passed
   abbrev Below : (generation n pages : ℕ) → Type 0
@@ -74,18 +74,18 @@ module _ (l : Layout) (seat gogc minheap room : ℕ) (found : ℕ → ℕ) where
   WalkKnows generation n a.Ended = ⊥
 
   record WalkIs (generation n : ℕ) (x : all.SweepingAll) : Type 0 where
-    layout_is : x.layout ≡ l
+    layout_is : x.layout ≡ run.layout
     generation_is : x.generation ≡ generation
     knows : WalkKnows generation n x.stage
 
   abbrev Knows : (generation n : ℕ) → CoordStage → Type 0
   Knows generation n (Sweep x) = WalkIs generation n x
-  Knows generation n (Count co) = Below generation n l.pages
-  Knows generation n (Tell te) = Below generation n l.pages
+  Knows generation n (Count co) = Below generation n run.layout.pages
+  Knows generation n (Tell te) = Below generation n run.layout.pages
   Knows generation n _ = Unit {0}
 
   record Has (n : ℕ) (s : Coordinating) : Type 0 where
-    layout_is : s.layout ≡ l
+    layout_is : s.layout ≡ run.layout
     knows : Knows s.generation n s.stage
 
   module _ (generation n : ℕ) (none : StoresNone (asks (now n))) where
@@ -116,7 +116,7 @@ module _ (l : Layout) (seat gogc minheap room : ℕ) (found : ℕ → ℕ) where
       by true e = stay pages k page (ltb-true _ _ e)
       by false e = let ge : pages ≤ page = ltb-false _ _ e in let is : pages ≡ page = omega arith in subst (λ (x : ℕ). Passed generation (suc n) x) is here
 
-    swept_here : (page : ℕ) → HasSwept l seat gogc minheap room found page n → Passed generation (suc n) page
+    swept_here : (page : ℕ) → HasSwept run.layout run.seat run.gogc run.minheap run.room run.found page n → Passed generation (suc n) page
     swept_here page is = record { first = n; by = n; is_behind = omega arith; is_before = omega arith; is_so = inl is; since = since_on n (λ m from lt. absurd (omega arith)) }
 
     done_here : (page : ℕ) → Begun generation (suc n) page → Ends generation page n → Passed generation (suc n) page
@@ -124,11 +124,11 @@ module _ (l : Layout) (seat gogc minheap room : ℕ) (found : ℕ → ℕ) where
         let before : h.first < suc n = h.is_before in
         record { first = h.first; by = n; is_behind = omega arith; is_before = omega arith; is_so = inr (h.is_so, is); since = h.since }
 
-  module _ (n : ℕ) (s : Coordinating) (here : s.layout ≡ l) where
+  module _ (n : ℕ) (s : Coordinating) (here : s.layout ≡ run.layout) where
     abbrev walks_to : all.SweepingAll → Coordinating
     walks_to y = after_sweep (at_stage s (Sweep y)) (all.given y)
 
-    module _ (x : all.SweepingAll) (x_in : x.layout ≡ l) (numbered : x.generation ≡ s.generation) (none : StoresNone (asks (now n))) where
+    module _ (x : all.SweepingAll) (x_in : x.layout ≡ run.layout) (numbered : x.generation ≡ s.generation) (none : StoresNone (asks (now n))) where
       abbrev walked : SweepAllStage → Coordinating
       walked stage = walks_to (all.at_stage x stage)
 
@@ -141,7 +141,7 @@ module _ (l : Layout) (seat gogc minheap room : ℕ) (found : ℕ → ℕ) where
         by : (b : Bool) → ltb (page + 1) x.layout.pages ≡ b → Has (suc n) (walked (cond b (a.LoadPage (page + 1)) a.Ended))
         by true e = record { layout_is = here; knows = record { layout_is = x_in; generation_is = numbered; knows = most } }
         by false e =
-            let last : l.pages ≤ page + 1 = subst (λ (y : Layout). y.pages ≤ page + 1) x_in (ltb-false _ _ e) in
+            let last : run.layout.pages ≤ page + 1 = subst (λ (y : Layout). y.pages ≤ page + 1) x_in (ltb-false _ _ e) in
             record { layout_is = here; knows = λ i lt. most i (omega arith) }
 
       waits : (page : ℕ) → Begun s.generation (suc n) page → Below s.generation n page → Has (suc n) (walked (a.Await page))
@@ -149,13 +149,13 @@ module _ (l : Layout) (seat gogc minheap room : ℕ) (found : ℕ → ℕ) where
 
       -- by the page's word
       module _ (page : ℕ) (loads : asks (now n) ≡ Load (cell.Page page)) where
-        begun : (word : PageWord) → page_of (found n) ≡ word → IsNone 2 s.generation word → Begun s.generation (suc n) page
+        begun : (word : PageWord) → page_of (run.found n) ≡ word → IsNone 2 s.generation word → Begun s.generation (suc n) page
         begun word is so = begun_here s.generation n none page (inl (record { loads = loads; is_so = subst (IsNone 2 s.generation) (sym is) so }))
 
-        done : (word : PageWord) → page_of (found n) ≡ word → IsNone 1 s.generation word → Begun s.generation (suc n) page → Passed s.generation (suc n) page
+        done : (word : PageWord) → page_of (run.found n) ≡ word → IsNone 1 s.generation word → Begun s.generation (suc n) page → Passed s.generation (suc n) page
         done word is so h = done_here s.generation n none page h (record { loads = loads; is_so = subst (IsNone 1 s.generation) (sym is) so })
 
-        load_step : (word : PageWord) → page_of (found n) ≡ word → Below s.generation n page → Has (suc n) (walks_to (all.after_load x page word))
+        load_step : (word : PageWord) → page_of (run.found n) ≡ word → Below s.generation n page → Has (suc n) (walks_to (all.after_load x page word))
         load_step (Head h) is k = by (h.number + 2 == x.generation) (h.number + 1 == x.generation) refl refl where
           by : (b d : Bool) → (h.number + 2 == x.generation) ≡ b → (h.number + 1 == x.generation) ≡ d → Has (suc n) (walked (cond b (a.Sweep page (sweep.opening x.layout page h)) (cond d (a.Await page) (all.behind_of x.layout.pages page))))
           by true d e f = record { layout_is = here; knows = record { layout_is = x_in; generation_is = numbered; knows = (refl, stay s.generation n none page k) } }
@@ -164,7 +164,7 @@ module _ (l : Layout) (seat gogc minheap room : ℕ) (found : ℕ → ℕ) where
         load_step Free is k = behind page k (done Free is tt (begun Free is tt))
         load_step (Body b) is k = behind page k (done (Body b) is tt (begun (Body b) is tt))
 
-        await_step : (word : PageWord) → page_of (found n) ≡ word → Begun s.generation n page → Below s.generation n page → Has (suc n) (walks_to (all.after_await x page word))
+        await_step : (word : PageWord) → page_of (run.found n) ≡ word → Begun s.generation n page → Below s.generation n page → Has (suc n) (walks_to (all.after_await x page word))
         await_step (Head h) is was k = by (h.number + 1 == x.generation) refl where
           by : (d : Bool) → (h.number + 1 == x.generation) ≡ d → Has (suc n) (walked (cond d (a.Await page) (all.behind_of x.layout.pages page)))
           by true f = waits page (begun_on s.generation n none page was) k
@@ -173,38 +173,38 @@ module _ (l : Layout) (seat gogc minheap room : ℕ) (found : ℕ → ℕ) where
         await_step (Body b) is was k = behind page k (done (Body b) is tt (begun_on s.generation n none page was))
 
       -- by what its own sweep gives
-      swept_step : (page : ℕ) (sw : sweep.Sweeping) (out : Option SweepEnd) → sweep_in (now n) ≡ Some sw → sw.page ≡ page → sweep.gives sw (found n) ≡ out → Below s.generation n page →
-          Has (suc n) (walks_to (all.after_sweep (all.at_stage x (a.Sweep page (sweep.goes sw (found n)))) page out))
-      swept_step page sw None runs at is k = record { layout_is = here; knows = record { layout_is = x_in; generation_is = numbered; knows = (page_stays sw sw.stage (found n) ∙ at, stay s.generation n none page k) } }
+      swept_step : (page : ℕ) (sw : sweep.Sweeping) (out : Option SweepEnd) → sweep_in (now n) ≡ Some sw → sw.page ≡ page → sweep.gives sw (run.found n) ≡ out → Below s.generation n page →
+          Has (suc n) (walks_to (all.after_sweep (all.at_stage x (a.Sweep page (sweep.goes sw (run.found n)))) page out))
+      swept_step page sw None runs at is k = record { layout_is = here; knows = record { layout_is = x_in; generation_is = numbered; knows = (page_stays sw sw.stage (run.found n) ∙ at, stay s.generation n none page k) } }
       swept_step page sw (Some Lost) runs at is k = waits page (begun_here s.generation n none page (inr (record { sw = sw; runs = runs; page_is = at; ends = is }))) k
       swept_step page sw (Some (Swept span)) runs at is k = behind page k (swept_here s.generation n none page (span, record { sw = sw; runs = runs; page_is = at; ends = is }))
 
-      walk_step : (stage : SweepAllStage) → sweep_in (now n) ≡ all.sweep_at stage → asks (now n) ≡ all.asks_at x stage → WalkKnows s.generation n stage → Has (suc n) (walks_to (all.goes_at x stage (found n)))
-      walk_step (a.LoadPage page) runs asked k = load_step page asked (page_of (found n)) refl k
+      walk_step : (stage : SweepAllStage) → sweep_in (now n) ≡ all.sweep_at stage → asks (now n) ≡ all.asks_at x stage → WalkKnows s.generation n stage → Has (suc n) (walks_to (all.goes_at x stage (run.found n)))
+      walk_step (a.LoadPage page) runs asked k = load_step page asked (page_of (run.found n)) refl k
       walk_step (a.Sweep page sw) runs asked k = swept_step page sw _ runs k.0 refl k.1
-      walk_step (a.Await page) runs asked k = await_step page asked (page_of (found n)) refl k.0 k.1
+      walk_step (a.Await page) runs asked k = await_step page asked (page_of (run.found n)) refl k.0 k.1
       walk_step a.Ended runs asked k = absurd k
 
-    step_at : (stage : CoordStage) → (now n).stage ≡ stage → s.stage ≡ stage → asks (now n) ≡ asks_at s stage → Knows s.generation n stage → Has (suc n) (goes_at s stage (found n))
+    step_at : (stage : CoordStage) → (now n).stage ≡ stage → s.stage ≡ stage → asks (now n) ≡ asks_at s stage → Knows s.generation n stage → Has (suc n) (goes_at s stage (run.found n))
     step_at (LoadAck i) was is asked k = by_ack (Has (suc n)) s i (record { layout_is = here; knows = tt }) (record { layout_is = here; knows = tt }) (record { layout_is = here; knows = tt }) _ _
     step_at LoadWant was is asked k = by_want (Has (suc n)) s (record { layout_is = here; knows = tt }) (record { layout_is = here; knows = tt }) _
-    step_at (Stop st) was is asked k = by_out (Has (suc n)) (after_stop (at_stage s (Stop (stop.goes st (found n))))) (record { layout_is = here; knows = tt }) (λ u. record { layout_is = here; knows = tt }) (stop.gives st (found n))
-    step_at (Open op) was is asked k = by_out (Has (suc n)) (after_open (at_stage s (Open (opens.goes op (found n))))) (record { layout_is = here; knows = tt }) (λ u. record { layout_is = here; knows = tt }) (opens.gives op (found n))
-    step_at (Watch y) was is asked k = by_watched (Has (suc n)) (after_watch (at_stage s (Watch (watch.goes y (found n))))) (record { layout_is = here; knows = tt }) (record { layout_is = here; knows = tt }) (record { layout_is = here; knows = tt }) (watch.gives y (found n))
-    step_at (StopAgain st) was is asked k = by_out (Has (suc n)) (after_stop_again (at_stage s (StopAgain (stop.goes st (found n))))) (record { layout_is = here; knows = tt }) (λ u. record { layout_is = here; knows = tt }) (stop.gives st (found n))
-    step_at (Check y) was is asked k = by_watched (Has (suc n)) (after_check (at_stage s (Check (watch.goes y (found n))))) (record { layout_is = here; knows = tt }) (record { layout_is = here; knows = tt }) (record { layout_is = here; knows = tt }) (watch.gives y (found n))
+    step_at (Stop st) was is asked k = by_out (Has (suc n)) (after_stop (at_stage s (Stop (stop.goes st (run.found n))))) (record { layout_is = here; knows = tt }) (λ u. record { layout_is = here; knows = tt }) (stop.gives st (run.found n))
+    step_at (Open op) was is asked k = by_out (Has (suc n)) (after_open (at_stage s (Open (opens.goes op (run.found n))))) (record { layout_is = here; knows = tt }) (λ u. record { layout_is = here; knows = tt }) (opens.gives op (run.found n))
+    step_at (Watch y) was is asked k = by_watched (Has (suc n)) (after_watch (at_stage s (Watch (watch.goes y (run.found n))))) (record { layout_is = here; knows = tt }) (record { layout_is = here; knows = tt }) (record { layout_is = here; knows = tt }) (watch.gives y (run.found n))
+    step_at (StopAgain st) was is asked k = by_out (Has (suc n)) (after_stop_again (at_stage s (StopAgain (stop.goes st (run.found n))))) (record { layout_is = here; knows = tt }) (λ u. record { layout_is = here; knows = tt }) (stop.gives st (run.found n))
+    step_at (Check y) was is asked k = by_watched (Has (suc n)) (after_check (at_stage s (Check (watch.goes y (run.found n))))) (record { layout_is = here; knows = tt }) (record { layout_is = here; knows = tt }) (record { layout_is = here; knows = tt }) (watch.gives y (run.found n))
     step_at MarkOn was is asked k = record { layout_is = here; knows = tt }
     step_at (Close cl) was is asked k =
-        by_out (Has (suc n)) (after_close (at_stage s (Close (close.goes cl (found n))))) (record { layout_is = here; knows = tt })
+        by_out (Has (suc n)) (after_close (at_stage s (Close (close.goes cl (run.found n))))) (record { layout_is = here; knows = tt })
         (λ lapsed. record { layout_is = here; knows = record { layout_is = here; generation_is = refl; knows = λ page lt. absurd (omega arith) } })
-        (close.gives cl (found n))
+        (close.gives cl (run.found n))
     step_at (Sweep x) was is asked k = walk_step x k.layout_is k.generation_is (λ v e. never _ v (sweep_quiet x x.stage) (sym asked ∙ e)) x.stage (ap sweep_at was) asked k.knows
     step_at (Count co) was is asked k =
-        let on = stay s.generation n (λ v e. never _ v (count_quiet co.stage) (sym asked ∙ e)) l.pages k in
-        by_out (Has (suc n)) (after_count (at_stage s (Count (count.goes co (found n))))) (record { layout_is = here; knows = on }) (λ read. record { layout_is = here; knows = on }) (count.gives co (found n))
+        let on = stay s.generation n (λ v e. never _ v (count_quiet co.stage) (sym asked ∙ e)) run.layout.pages k in
+        by_out (Has (suc n)) (after_count (at_stage s (Count (count.goes co (run.found n))))) (record { layout_is = here; knows = on }) (λ read. record { layout_is = here; knows = on }) (count.gives co (run.found n))
     step_at (Tell te) was is asked k =
-        let on = stay s.generation n (λ v e. tell_never te te.stage v (sym asked ∙ e)) l.pages k in
-        by_out (Has (suc n)) (after_tell (at_stage s (Tell (tell.goes te (found n))))) (record { layout_is = here; knows = on }) (λ u. by_last (Has (suc n)) s (record { layout_is = here; knows = tt }) (record { layout_is = here; knows = tt }) s.is_last) (tell.gives te (found n))
+        let on = stay s.generation n (λ v e. tell_never te te.stage v (sym asked ∙ e)) run.layout.pages k in
+        by_out (Has (suc n)) (after_tell (at_stage s (Tell (tell.goes te (run.found n))))) (record { layout_is = here; knows = on }) (λ u. by_last (Has (suc n)) s (record { layout_is = here; knows = tt }) (record { layout_is = here; knows = tt }) s.is_last) (tell.gives te (run.found n))
     step_at Done was is asked k = record { layout_is = here; knows = subst (λ (stage : CoordStage). Knows s.generation (suc n) stage) (sym is) tt }
 
   has : (n : ℕ) → Has n (now n)
@@ -243,8 +243,8 @@ count_tells : (stage : CountStage) (v : ℕ) → count.asks_at stage ≡ Store c
 count_tells r.LoadTally v e = cc
 count_tells _ v e = cc
 
-module _ (l : Layout) (seat gogc minheap room : ℕ) (found : ℕ → ℕ) (n v : ℕ) (s : Coordinating) where
-  tells_at : (stage : CoordStage) → Knows l seat gogc minheap room found s.generation n stage → asks_at s stage ≡ Store cell.Swept v → Below l seat gogc minheap room found s.generation n l.pages
+module _ (run : Run) (n v : ℕ) (s : Coordinating) where
+  tells_at : (stage : CoordStage) → Knows run s.generation n stage → asks_at s stage ≡ Store cell.Swept v → Below run s.generation n run.layout.pages
   tells_at (Stop st) k e = absurd (stop_tells st st.stage v e)
   tells_at (Open op) k e = absurd (open_tells op op.stage v e)
   tells_at (Watch x) k e = absurd (watch_tells x x.stage v e)
@@ -258,5 +258,6 @@ module _ (l : Layout) (seat gogc minheap room : ℕ) (found : ℕ → ℕ) (n v 
 
 pub tells_once_swept : TellsOnceAllAreSwept
 tells_once_swept l seat gogc minheap room found n cycle page e lt =
-    let s : Coordinating = state l seat gogc minheap room found n in
-    tells_at l seat gogc minheap room found n cycle s s.stage (has l seat gogc minheap room found n).knows e page lt
+    let run : Run = record { layout = l; seat = seat; gogc = gogc; minheap = minheap; room = room; found = found } in
+    let s : Coordinating = now run n in
+    tells_at run n cycle s s.stage (has run n).knows e page lt

@@ -1,5 +1,5 @@
 -- What holds after every list of all actors, by the coordinator's stage: while no cycle is under way, spans being swept or not, nobody marks; while a cycle is opened the world is stopped; and while it is marked it is known to marking.
-use Rattle.std.specs.Prelude.{◌≡◌, ℕ, ◌+◌, ◌^◌, ◌<◌, ◌⊎◌, Bool, true, List, None}
+use Rattle.std.specs.Prelude.{◌≡◌, ℕ, ◌+◌, ◌^◌, ◌<◌, ◌⊎◌, true, List, None}
 use Rattle.gh_base.specs.declared.cell.Cell.TheVariants as cell
 use Rattle.gh_base.specs.declared.pack.TheConstants.{END}
 use Rattle.gh_coord.specs.declared.close.CloseStage.{CloseStage}
@@ -16,9 +16,11 @@ use Rattle.gh_coord.specs.declared.tell.TellStage.TheVariants as telling
 use Rattle.gh_coord.specs.SweepingAll as over
 use Rattle.gh_sweep.specs.Facts.{HasNotNumber}
 use Rattle.gh_sweep.specs.Shared.{freed_at, in_all, kept_at, live_at}
-use Rattle.gh_holds.specs.HoldVocabulary.{alloc_at, alloc_words, AllWereCounted, arena, Arena, Coordinating, CoordStage, CycleEnd, EndsAllMarked, EndsCycle, Entry, ever, FreesTheUnreached, FullOnlyThere, generation_of, IsAsItEnded, IsLed, IsMade, IsPlacedAt, IsStartOf, Layout, mark_words, marks_at, MarksNothing, Name, Op, opening_words, Pacing, PassedBefore, Processor, row_bit, Shape, State, SweepingAll, TallyWord, Words, words}
+use Rattle.gh_marked.specs.HoldVocabulary.{alloc_at, alloc_words, arena, Arena, Coordinating, CoordStage, CycleEnd, EndsCycle, Entry, ever, FullOnlyThere, generation_of, IsAsItEnded, IsLed, IsMade, IsPlacedAt, IsStartOf, mark_words, marks_at, MarksNothing, Name, Op, opening_words, PassedBefore, Processor, row_bit, State, SweepingAll, TallyWord, Words, words}
 use Rattle.gh_marked.specs.State as state
 use Rattle.gh_marked.specs.State.{IsUnderWay}
+use Rattle.gh_lists.specs.Handshake.{Setup}
+use Rattle.gh_holds.specs.Objects.{AllWereCounted, EndsAllMarked, FreesTheUnreached}
 
 -- The coordinator goes over all pages, and sweeps each span that nobody sweeps yet.
 
@@ -61,48 +63,48 @@ HasCleared tally live opening.ClearTally = Unit {0}
 HasCleared tally live opening.ClearLive = tally ≡ 0
 HasCleared tally live _ = (tally ≡ 0) × (live ≡ 0)
 
-module _ (shapes : List Shape) (l : Layout) (pacing : Pacing) (may : ℕ → List (Entry Op) → Op → Bool) where
+module _ (setup : Setup) where
   abbrev z : Arena
-  z = arena shapes l pacing may
+  z = arena setup
 
   abbrev processor_at : List (Entry Op) → (a : ℕ) → Processor
-  processor_at es a = state.processor_at shapes l pacing may es a
+  processor_at es a = state.processor_at setup es a
 
   abbrev IsInCycle : (es : List (Entry Op)) (k : ℕ) → Type 0
-  IsInCycle es k = state.IsInCycle shapes l pacing may es k
+  IsInCycle es k = state.IsInCycle setup es k
 
   abbrev HasState : (es : List (Entry Op)) → Type 0
-  HasState es = state.HasState shapes l pacing may es
+  HasState es = state.HasState setup es
 
   -- what was said before of the list's starts
   pub record WasSo (es : List (Entry Op)) : Type 0 where
-    pub full : FullOnlyThere z (opening_words pacing.trigger) es
-    pub frees : FreesTheUnreached shapes l pacing may es
-    pub ends : EndsAllMarked shapes l pacing may es
+    pub full : FullOnlyThere z (opening_words setup.pacing.trigger) es
+    pub frees : FreesTheUnreached setup es
+    pub ends : EndsAllMarked setup es
 
   -- an object stands there that was made since the list
   pub record IsNewThere (ended es : List (Entry Op)) (x : ℕ) : Type 0 where
     pub name : Name
-    pub not_yet : IsMade (ever shapes l pacing may ended).made name → ⊥
+    pub not_yet : IsMade (ever setup ended).made name → ⊥
     -- its birth word tells it apart
     pub few : name.k < 2 ^ 32
-    pub placed : IsPlacedAt (words shapes l pacing may es) name x
+    pub placed : IsPlacedAt (words setup es) name x
 
   -- What has changed since it ended, where the bits were these.
   pub record EndedSo (es : List (Entry Op)) (k : ℕ) (s : State) : Type 0 where
     pub ended : List (Entry Op)
     pub start : IsStartOf ended es
-    pub ends : EndsCycle shapes l pacing may k ended
-    pub alloc : alloc_at s.end ≡ alloc_words (words shapes l pacing may ended)
-    pub marks : marks_at s.end ≡ mark_words (words shapes l pacing may ended)
+    pub ends : EndsCycle setup k ended
+    pub alloc : alloc_at s.end ≡ alloc_words (words setup ended)
+    pub marks : marks_at s.end ≡ mark_words (words setup ended)
     -- an object that was made by then, and is placed, was placed there
-    pub stood : (n : Name) (x : ℕ) → IsMade (ever shapes l pacing may ended).made n → IsPlacedAt (words shapes l pacing may es) n x → IsPlacedAt (words shapes l pacing may ended) n x
+    pub stood : (n : Name) (x : ℕ) → IsMade (ever setup ended).made n → IsPlacedAt (words setup es) n x → IsPlacedAt (words setup ended) n x
     -- one of since that stands was marked then, or was made later
-    pub since : (x : ℕ) → s.since x ≡ true → row_bit (alloc_words (words shapes l pacing may es)) x ≡ 1 → (row_bit (marks_at s.end) x ≡ 1) ⊎ IsNewThere ended es x
+    pub since : (x : ℕ) → s.since x ≡ true → row_bit (alloc_words (words setup es)) x ≡ 1 → (row_bit (marks_at s.end) x ≡ 1) ⊎ IsNewThere ended es x
     -- what was made by then is made
-    pub made : (n : Name) → IsMade (ever shapes l pacing may ended).made n → IsMade (ever shapes l pacing may es).made n
+    pub made : (n : Name) → IsMade (ever setup ended).made n → IsMade (ever setup es).made n
     -- behind the last cycle no value changes, and nothing is made
-    pub last : (c : Coordinating) → IsLed shapes l pacing may es c → c.is_last ≡ true → (ever shapes l pacing may es ≡ ever shapes l pacing may ended) × IsAsItEnded s
+    pub last : (c : Coordinating) → IsLed setup es c → c.is_last ≡ true → (ever setup es ≡ ever setup ended) × IsAsItEnded s
 
   -- the cycle that ended last, and has not begun anew
   pub record HasEnded (es : List (Entry Op)) (k : ℕ) (s : State) : Type 0 where
@@ -113,7 +115,7 @@ module _ (shapes : List Shape) (l : Layout) (pacing : Pacing) (may : ℕ → Lis
   pub record NobodyMarks (es : List (Entry Op)) (cycle : ℕ) (words : Words) : Type 0 where
     pub buffers : (b : ℕ) → words (cell.Buffer b) ≡ 0
     pub stacks : (g : ℕ) → (words (cell.Scanned g) < cycle) ⊎ (words (cell.Scanned g) ≡ END)
-    pub processors : (a : ℕ) → a < l.procs → MarksNothing (processor_at es a)
+    pub processors : (a : ℕ) → a < setup.layout.procs → MarksNothing (processor_at es a)
 
   -- No cycle is under way. The spans that begin before this page are swept.
   pub record IsOff (es : List (Entry Op)) (cycle page : ℕ) : Type 0 where
@@ -132,7 +134,7 @@ module _ (shapes : List Shape) (l : Layout) (pacing : Pacing) (may : ℕ → Lis
 
   -- Between two cycles each span is swept.
   abbrev pub IsQuiet : (es : List (Entry Op)) (c : Coordinating) → Type 0
-  IsQuiet es c = IsOff es (c.begun + 1) l.pages
+  IsQuiet es c = IsOff es (c.begun + 1) setup.layout.pages
 
   -- The world is stopped, and a cycle is opened: no mark is set, no buffer has an entry, and each stack was scanned in a cycle before, if at all.
   pub record IsReady (es : List (Entry Op)) (c : Coordinating) : Type 0 where
@@ -160,7 +162,7 @@ module _ (shapes : List Shape) (l : Layout) (pacing : Pacing) (may : ℕ → Lis
   -- By the coordinator's stage.
 
   abbrev pub IsOpening : List (Entry Op) → Coordinating → OpenStage → Type 0
-  IsOpening es c stage = IsReady es c × HasCursor (words shapes l pacing may es cell.Gcur) stage × HasCleared (words shapes l pacing may es cell.Tally) (words shapes l pacing may es cell.Live) stage
+  IsOpening es c stage = IsReady es c × HasCursor (words setup es cell.Gcur) stage × HasCleared (words setup es cell.Tally) (words setup es cell.Live) stage
 
   pub record IsCounting (es : List (Entry Op)) (c : Coordinating) (stage : CountStage) : Type 0 where
     pub quiet : IsQuiet es c
@@ -197,4 +199,4 @@ module _ (shapes : List Shape) (l : Layout) (pacing : Pacing) (may : ℕ → Lis
     pub record Holds : Type 0 where
       pub at : HoldsAt c.stage
       pub was : WasSo es
-      pub counted : AllWereCounted shapes l pacing may es c
+      pub counted : AllWereCounted setup es c

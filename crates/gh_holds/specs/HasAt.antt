@@ -1,5 +1,5 @@
 -- At each stage of the coordinator there is the one state of the heap and its sweep.
-use Rattle.std.proofs.Common.{◌≡◌, ℕ, Bool, true, refl, List}
+use Rattle.std.proofs.Common.{◌≡◌, ℕ, true, refl, List}
 use Rattle.gh_coord.specs.declared.coord.CoordStage.{CoordStage}
 use Rattle.gh_coord.specs.declared.close.CloseStage.{CloseStage}
 use Rattle.gh_coord.specs.declared.close.CloseStage.TheVariants as closing
@@ -10,22 +10,23 @@ use Rattle.gh_coord.specs.Closing as close
 use Rattle.gh_coord.specs.Handshake as leading
 use Rattle.gh_holds.specs.ActorsHold.{HoldsAt, IsClosing, IsTelling}
 use Rattle.gh_marked.specs.State.{HasState, IsMarking}
-use Rattle.gh_holds.specs.LemmaVocabulary.{Coordinating, Entry, Layout, Op, Pacing, Shape}
+use Rattle.gh_marked.specs.LemmaVocabulary.{Coordinating, Entry, Op}
 use Rattle.gh_lists.specs.Going.{IsGoing}
+use Rattle.gh_lists.specs.Handshake.{Setup}
 
-module _ (shapes : List Shape) (l : Layout) (pacing : Pacing) (may : ℕ → List (Entry Op) → Op → Bool) (es : List (Entry Op)) (c : Coordinating) where
-  told_has : (p : TellStage) → IsTelling shapes l pacing may es c p → HasState shapes l pacing may es
+module _ (setup : Setup) (es : List (Entry Op)) (c : Coordinating) where
+  told_has : (p : TellStage) → IsTelling setup es c p → HasState setup es
   told_has telling.StoreTrigger h = h.quiet.has
   told_has telling.Ended h = absurd h
   told_has _ h = h.quiet.has
 
-  closing_has : (p : CloseStage) → close.is_busy p ≡ true → (close.is_marking p ≡ true → IsMarking shapes l pacing may es) → IsClosing shapes l pacing may es c p → HasState shapes l pacing may es
+  closing_has : (p : CloseStage) → close.is_busy p ≡ true → (close.is_marking p ≡ true → IsMarking setup es) → IsClosing setup es c p → HasState setup es
   closing_has closing.StorePhase going marked h = h.has
   closing_has closing.Ended going marked h = absurd h
   closing_has closing.LoadBank going marked h = (marked refl).known.has
   closing_has _ going marked h = (marked refl).known.has
 
-  pub has_at : (p : CoordStage) → IsGoing p → (leading.Marks p → IsMarking shapes l pacing may es) → HoldsAt shapes l pacing may es c p → HasState shapes l pacing may es
+  pub has_at : (p : CoordStage) → IsGoing p → (leading.Marks p → IsMarking setup es) → HoldsAt setup es c p → HasState setup es
   has_at (Open o) going marked h = h.0.has
   has_at (Watch w) going marked h = (marked tt).known.has
   has_at (StopAgain st) going marked h = (marked tt).known.has

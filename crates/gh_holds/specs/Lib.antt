@@ -1,17 +1,7 @@
 pub mod ActorsHold
 pub mod Below
-pub mod Drawing
-pub mod Endings
 pub mod EveryList
 pub mod HasAt
-pub mod HoldVocabulary
-pub mod Known
-pub mod LemmaVocabulary
-pub mod MayBegin
 pub mod Objects
 pub mod OfLists
-pub mod OwnEntries
-pub mod Spans
-pub mod StackWords
 pub mod Standing
-pub mod Vocabulary

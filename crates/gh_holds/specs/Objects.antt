@@ -1,6 +1,6 @@
 -- What becomes of objects in lists of steps of all actors: which are marked where a cycle's marking ends, which stand until then, which are freed, and which are counted and left.
-use Rattle.std.specs.Prelude.{◌≡◌, ◌↔◌, ℕ, ◌+◌, ◌*◌, ◌<◌, ◌≤◌, Bool, true, List, ◌∷◌, slice_get, Some, ◌⊎◌}
-use Rattle.gh_holds.specs.Vocabulary.{Entry, Ever, Layout, Name, Op, opening_words, Reach, row_bit, Shape, Words}
+use Rattle.std.specs.Prelude.{◌≡◌, ◌↔◌, ℕ, ◌+◌, ◌*◌, ◌<◌, ◌≤◌, true, List, ◌∷◌, slice_get, Some, ◌⊎◌}
+use Rattle.gh_marked.specs.Vocabulary.{Entry, Ever, Name, Op, opening_words, Reach, row_bit, Words}
 use Rattle.gh_base.specs.declared.cell.Cell.TheVariants as cell
 use Rattle.gh_base.specs.declared.pack.TheConstants.{END}
 use Rattle.gh_base.specs.Rows.{alloc_words, mark_words, page_words}
@@ -16,12 +16,12 @@ use Rattle.gh_marks.specs.Seats.{Hands, nothing}
 use Rattle.gh_sweep.specs.Counts.{AreWords, count_below, is_set, marked_objects, unmarked_objects}
 use Rattle.gh_state.specs.Slots.{slot_row}
 use Rattle.gh_sweep.specs.Shared.{placed}
-use Rattle.gh_lists.specs.Handshake.{Pacing}
 use Rattle.gh_lists.specs.Marking.{EndsClean, IsStartOf, IsStateOf}
 use Rattle.gh_lists.specs.Processors.{arena_of, at_seat, IsPlacedAt, StandsForThese}
 use Rattle.gh_marked.specs.Tied.{IsTied}
 use Rattle.gh_lists.specs.Lists.{IsEnding}
 use Rattle.gh_lists.specs.Lists as lists
+use Rattle.gh_lists.specs.Handshake.{Setup}
 
 -- all objects that stand
 abbrev pub standing_objects : Words → (pages : ℕ) → ℕ
@@ -32,31 +32,28 @@ pub record AreNamed (made : ℕ → ℕ) (words : Words) : Type 0 where
   pub named : (x : ℕ) → row_bit (alloc_words words) x ≡ 1 → (n : Name) × IsMade made n × IsPlacedAt words n x
   pub fits : AreWords (alloc_words words)
 
--- A heap of these shapes.
-module _ (shapes : List Shape) (l : Layout) (pacing : Pacing) (may : ℕ → List (Entry Op) → Op → Bool) where
+-- A heap that is set up so.
+module _ (setup : Setup) where
   abbrev arena : Arena
-  arena = arena_of shapes l
+  arena = arena_of setup.shapes setup.layout
 
   abbrev words : List (Entry Op) → Words
-  words es = lists.words shapes l pacing may es
+  words es = lists.words setup es
 
   abbrev ever : List (Entry Op) → Ever
-  ever es = lists.ever shapes l pacing may es
-
-  abbrev IsLed : List (Entry Op) → Coordinating → Type 0
-  IsLed es c = lists.IsLed shapes l pacing may es c
+  ever es = lists.ever setup es
 
   abbrev IsStepIn : (at : CoordStage → Type 0) (k : ℕ) (e : Entry Op) (es : List (Entry Op)) → Type 0
-  IsStepIn at k e es = lists.IsStepIn shapes l pacing may at k e es
+  IsStepIn at k e es = lists.IsStepIn setup at k e es
 
   abbrev BeginsCycle : (k : ℕ) → List (Entry Op) → Type 0
-  BeginsCycle k es = lists.BeginsCycle shapes l pacing may k es
+  BeginsCycle k es = lists.BeginsCycle setup k es
 
   abbrev EndsCycle : (k : ℕ) → List (Entry Op) → Type 0
-  EndsCycle k es = lists.EndsCycle shapes l pacing may k es
+  EndsCycle k es = lists.EndsCycle setup k es
 
   abbrev SweepsCycle : (k : ℕ) → List (Entry Op) → Type 0
-  SweepsCycle k es = lists.SweepsCycle shapes l pacing may k es
+  SweepsCycle k es = lists.SweepsCycle setup k es
 
   -- an object that was made by when a cycle began, and was not reached then, is placed nowhere once the cycle is swept
   abbrev pub FreesTheUnreached : List (Entry Op) → Type 0
@@ -76,12 +73,12 @@ module _ (shapes : List Shape) (l : Layout) (pacing : Pacing) (may : ℕ → Lis
   pub record EndsMarked (es : List (Entry Op)) (c : Coordinating) : Type 0 where
     pub cycle : Cycle
     pub shared : Shared
-    pub is : IsStateOf arena pacing may es c cycle shared
-    pub tied : IsTied shapes l pacing es cycle shared
+    pub is : IsStateOf arena setup.pacing setup.may es c cycle shared
+    pub tied : IsTied setup es cycle shared
     pub clean : EndsClean cycle shared
     -- the cursor is past the globals, the word of each stack is the cycle's or END, no buffer has an entry, and no actor has anything in hand
-    pub cursor : l.globals ≤ words es cell.Gcur
-    pub stacks : (g : ℕ) → g < l.goroutines → (words es (cell.Scanned g) ≡ c.begun) ⊎ (words es (cell.Scanned g) ≡ END)
+    pub cursor : setup.layout.globals ≤ words es cell.Gcur
+    pub stacks : (g : ℕ) → g < setup.layout.goroutines → (words es (cell.Scanned g) ≡ c.begun) ⊎ (words es (cell.Scanned g) ≡ END)
     pub buffers : (b : ℕ) → words es (cell.Buffer b) ≡ 0
     pub hands : (a : ℕ) → Hands a shared nothing
     pub reached : (n : Name) → Reach (ever es) n → IsMarkedObject (words es) n
@@ -118,7 +115,7 @@ module _ (shapes : List Shape) (l : Layout) (pacing : Pacing) (may : ℕ → Lis
 
   -- each has one address, its slot and its values, and shares no word with another; and no two are placed at one address
   pub record StandApart (es : List (Entry Op)) : Type 0 where
-    pub stand : StandsForThese arena (IsStanding es) (words es) (ever es) (at_seat arena (opening_words pacing.trigger) es)
+    pub stand : StandsForThese arena (IsStanding es) (words es) (ever es) (at_seat arena (opening_words setup.pacing.trigger) es)
     pub one_name : (n m : Name) (a : ℕ) → IsMade (ever es).made n → IsMade (ever es).made m → IsPlacedAt (words es) n a → IsPlacedAt (words es) m a → n ≡ m
 
   -- the numbers of a cycle are those of the objects that were placed and marked where it ended, and of those placed and not marked
@@ -126,9 +123,9 @@ module _ (shapes : List Shape) (l : Layout) (pacing : Pacing) (may : ℕ → Lis
     pub ended : List (Entry Op)
     pub start : IsStartOf ended es
     pub ends : EndsCycle y.k ended
-    pub marked : y.marked ≡ marked_objects (alloc_words (words ended)) (mark_words (words ended)) 0 l.pages
-    pub freed : y.freed ≡ unmarked_objects (alloc_words (words ended)) (mark_words (words ended)) 0 l.pages
-    pub all : y.marked + y.freed ≡ standing_objects (words ended) l.pages
+    pub marked : y.marked ≡ marked_objects (alloc_words (words ended)) (mark_words (words ended)) 0 setup.layout.pages
+    pub freed : y.freed ≡ unmarked_objects (alloc_words (words ended)) (mark_words (words ended)) 0 setup.layout.pages
+    pub all : y.marked + y.freed ≡ standing_objects (words ended) setup.layout.pages
 
   abbrev pub AllWereCounted : List (Entry Op) → Coordinating → Type 0
   AllWereCounted es c = (i : ℕ) (y : CycleNumbers) → slice_get c.cycles.items i ≡ Some y → WasCounted es y
@@ -146,9 +143,9 @@ module _ (shapes : List Shape) (l : Layout) (pacing : Pacing) (may : ℕ → Lis
 
   -- Once all is over every goroutine has ended, so a script reaches what the globals reach. The objects that stand are those, and so were those that the last cycle marked; and the bytes that the coordinator keeps are theirs.
   pub record LeavesTheReached (es : List (Entry Op)) (c : Coordinating) : Type 0 where
-    pub over : (g : ℕ) → g < l.goroutines → (ever es).ended g ≡ true
+    pub over : (g : ℕ) → g < setup.layout.goroutines → (ever es).ended g ≡ true
     pub left : (n : Name) → IsMade (ever es).made n → ((a : ℕ) × IsPlacedAt (words es) n a) ↔ Reach (ever es) n
     -- where the last cycle's marking ended no value was another than now
     pub unchanged : (ended : List (Entry Op)) → IsStartOf ended es → EndsCycle c.begun ended → ever es ≡ ever ended
     pub marked : (ended : List (Entry Op)) → IsStartOf ended es → EndsCycle c.begun ended → (n : Name) → IsMade (ever es).made n → IsMarkedObject (words ended) n ↔ Reach (ever es) n
-    pub live : c.live ≡ placed (alloc_words (words es)) (slot_row (page_words (words es))) (16 * l.pages)
+    pub live : c.live ≡ placed (alloc_words (words es)) (slot_row (page_words (words es))) (16 * setup.layout.pages)

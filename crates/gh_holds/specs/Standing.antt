@@ -4,33 +4,34 @@ use Rattle.gh_heap.specs.Laws.{HeapIsApart}
 use Rattle.gh_heap.specs.Objects.{Holds, points, size_for}
 use Rattle.gh_holds.specs.Objects.{AreNamed, StandApart}
 use Rattle.gh_lists.specs.Processors.{StandsFor, StandsForThese}
-use Rattle.gh_holds.specs.LemmaVocabulary.{alloc_words, Arena, arena, birth_words, bit, Entry, Ever, ever, Good, HasState, Heap, IsHeapOf, IsInLimits, IsMade, IsOf, IsPlacedAt, Layout, mod_below, Name, Op, Pacing, Placed, Processor, processor_at, Reach, row_bit, Shape, Stands, view, Words, words}
-use Rattle.gh_holds.specs.Known.{Known}
+use Rattle.gh_marked.specs.LemmaVocabulary.{alloc_words, Arena, arena, birth_words, bit, Entry, Ever, ever, Good, HasState, Heap, IsHeapOf, IsInLimits, IsMade, IsOf, IsPlacedAt, mod_below, Name, Op, Placed, Processor, processor_at, Reach, row_bit, Stands, view, Words, words}
+use Rattle.gh_marked.specs.Known.{Known}
 use Rattle.gh_lists.specs.Names.{placed_there, same_name}
+use Rattle.gh_lists.specs.Handshake.{Setup}
 
 bit_is : (b : Bool) → eqb (bit b) 1 ≡ b
 bit_is true = refl
 bit_is false = refl
 
-module _ (shapes : List Shape) (l : Layout) (pacing : Pacing) (may : ℕ → List (Entry Op) → Op → Bool) (limits : IsInLimits l) (known : Known) (es : List (Entry Op)) (has : HasState shapes l pacing may es) where
+module _ (setup : Setup) (limits : IsInLimits setup.layout) (known : Known) (es : List (Entry Op)) (has : HasState setup es) where
   abbrev z : Arena
-  z = arena shapes l pacing may
+  z = arena setup
 
   abbrev h : Heap
   h = has.state.heap
 
-  abbrev of : IsHeapOf shapes l pacing may es has.state.heap
+  abbrev of : IsHeapOf setup es has.state.heap
   of = has.of_list
 
   abbrev good : Good z (view has.state.heap)
   good = has.good.heap
 
   abbrev at : ℕ → Processor
-  at a = processor_at shapes l pacing may es a
+  at a = processor_at setup es a
 
   -- there is a processor for each goroutine
-  few : (a g : ℕ) → IsOf z a g → a < l.procs
-  few a g of = subst (λ (x : ℕ). x < l.procs) of.1 (mod_below g l.procs limits.procs_fit.0)
+  few : (a g : ℕ) → IsOf z a g → a < setup.layout.procs
+  few a g of = subst (λ (x : ℕ). x < setup.layout.procs) of.1 (mod_below g setup.layout.procs limits.procs_fit.0)
 
   apart : HeapIsApart z (view h)
   apart = known.apart z (view h) good
@@ -63,18 +64,18 @@ module _ (shapes : List Shape) (l : Layout) (pacing : Pacing) (may : ℕ → Lis
     slot = λ n r. good.slots n (made n r) (placed n r);
     fields = λ n j r lt.
         let p = placed n r in
-        let is : eqb (row_bit (view h).bitmap (h.place n + j)) 1 ≡ points shapes h.ever.type_of n j = ap (λ (x : ℕ). eqb x 1) (good.pointers n j (made n r) p lt) ∙ bit_is (points shapes h.ever.type_of n j) in
+        let is : eqb (row_bit (view h).bitmap (h.place n + j)) 1 ≡ points setup.shapes h.ever.type_of n j = ap (λ (x : ℕ). eqb x 1) (good.pointers n j (made n r) p lt) ∙ bit_is (points setup.shapes h.ever.type_of n j) in
         subst (λ (b : Bool). Holds h.place h.ever.made b (h.ever.field n j) ((view h).field (h.place n + j))) (sym is) (good.fields n j (made n r) p lt);
     apart = λ n m i j r q ne li lj.
         let x = good.slots n (made n r) (placed n r) in
         let y = good.slots m (made m q) (placed m q) in
-        apart.slots x.p y.p x.i y.i (h.place n) (h.place m) (size_for shapes h.ever.type_of n) (size_for shapes h.ever.type_of m) i j x.h y.h x.slot y.slot (λ e. ne (apart.once n m (made n r) (made m q) (placed n r) (placed m q) e)) li lj;
+        apart.slots x.p y.p x.i y.i (h.place n) (h.place m) (size_for setup.shapes h.ever.type_of n) (size_for setup.shapes h.ever.type_of m) i j x.h y.h x.slot y.slot (λ e. ne (apart.once n m (made n r) (made m q) (placed n r) (placed m q) e)) li lj;
     globals = good.globals;
     registers = λ a g d its lt. (stands a g d its).registers g d its lt;
   }
 
-  pub stands_for : StandsFor z (words shapes l pacing may es) (ever shapes l pacing may es) at
-  stands_for = subst (λ (e : Ever). StandsFor z (words shapes l pacing may es) e at) of.ever_is (subst (λ (w : Words). StandsFor z w h.ever at) of.words_are (these (Reach h.ever) made good.reached))
+  pub stands_for : StandsFor z (words setup es) (ever setup es) at
+  stands_for = subst (λ (e : Ever). StandsFor z (words setup es) e at) of.ever_is (subst (λ (w : Words). StandsFor z w h.ever at) of.words_are (these (Reach h.ever) made good.reached))
 
   -- all that stand
   abbrev Standing : Words → Ever → Name → Type 0
@@ -89,10 +90,10 @@ module _ (shapes : List Shape) (l : Layout) (pacing : Pacing) (may : ℕ → Lis
   abbrev Apart : Words → Ever → Type 0
   Apart w e = StandsForThese z (Standing w e) w e at × ((n m : Name) (a : ℕ) → IsMade e.made n → IsMade e.made m → IsPlacedAt w n a → IsPlacedAt w m a → n ≡ m)
 
-  pub stand_apart : StandApart shapes l pacing may es
+  pub stand_apart : StandApart setup es
   stand_apart =
-      let there : Apart (words shapes l pacing may es) (ever shapes l pacing may es) = subst (λ (e : Ever). Apart (words shapes l pacing may es) e) of.ever_is (subst (λ (w : Words). Apart w h.ever) of.words_are (these (Standing h.words h.ever) (λ n s. s.0) stood_there, one_name)) in
+      let there : Apart (words setup es) (ever setup es) = subst (λ (e : Ever). Apart (words setup es) e) of.ever_is (subst (λ (w : Words). Apart w h.ever) of.words_are (these (Standing h.words h.ever) (λ n s. s.0) stood_there, one_name)) in
       record { stand = there.0; one_name = there.1 }
 
-  pub named : AreNamed (ever shapes l pacing may es).made (words shapes l pacing may es)
-  named = subst (λ (e : Ever). AreNamed e.made (words shapes l pacing may es)) of.ever_is (subst (λ (w : Words). AreNamed h.ever.made w) of.words_are (record { named = λ x set. let b = good.bits x set in (b.0, b.1, record { set = set; says = b.3 }); fits = good.words }))
+  pub named : AreNamed (ever setup es).made (words setup es)
+  named = subst (λ (e : Ever). AreNamed e.made (words setup es)) of.ever_is (subst (λ (w : Words). AreNamed h.ever.made w) of.words_are (record { named = λ x set. let b = good.bits x set in (b.0, b.1, record { set = set; says = b.3 }); fits = good.words }))

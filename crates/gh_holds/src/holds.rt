@@ -7,7 +7,7 @@
 //! holds.
 
 ghost use Rattle.gh_holds.specs.EveryList.{EveryListHolds};
-ghost use Rattle.gh_holds.specs.Known.{Known};
+ghost use Rattle.gh_marked.specs.Known.{Known};
 ghost use Rattle.gh_holds.specs.OfLists.{LawsOfLists};
 
 use gh_assist::laws::taking_and_scanning_are_within;

@@ -4,3 +4,4 @@ pub mod AllActors
 pub mod HavingRoom
 pub mod Crediting
 pub mod Within
+pub mod Named

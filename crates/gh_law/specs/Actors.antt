@@ -1,13 +1,12 @@
 -- Lists of steps of all actors of a heap, the newest first: processors, workers and the coordinator. Which are legal, and what every legal one keeps: the words stand for the heap that never frees, each cycle frees what no script reached where it began, and who waits for a cycle goes on once one that began later is swept.
-use Rattle.std.specs.Prelude.{◌≡◌, ℕ, ◌+◌, ◌<◌, ◌≤◌, Bool, true, List, [], ◌∷◌, ◌++◌, Option, Some}
-use Rattle.gh_law.specs.Vocabulary.{Act, Actor, by, cell_of, deeds, Entry, Ever, InRange, Layout, Legal, Op, opening_words, processor_kind, Shape, started, Words}
+use Rattle.std.specs.Prelude.{◌≡◌, ℕ, ◌+◌, ◌<◌, ◌≤◌, true, List, [], ◌∷◌, ◌++◌, Option, Some}
+use Rattle.gh_law.specs.Vocabulary.{Act, Actor, by, cell_of, deeds, Entry, Ever, InRange, Legal, Op, opening_words, processor_kind, started, Words}
 use Rattle.gh_base.specs.declared.limits.TheConstants.{MOST_STATEMENTS}
 use Rattle.gh_base.specs.declared.operation.Op.TheVariants as op
 use Rattle.gh_base.specs.declared.value.Answer.TheVariants as answer
 use Rattle.gh_base.specs.Cells.{seats_of}
 use Rattle.gh_base.specs.Lists.{Begins}
 use Rattle.gh_base.specs.Orders.{done_at}
-use Rattle.gh_coord.specs.declared.coord.CoordStage.{CoordStage}
 use Rattle.gh_coord.specs.declared.coord.CoordStage.TheVariants.{Done}
 use Rattle.gh_coord.specs.Handshake as leading
 use Rattle.gh_coord.specs.Listing.{Coordinating}
@@ -16,75 +15,66 @@ use Rattle.gh_mutator_heap.specs.Facts.{ShapesAreGood}
 use Rattle.gh_mutator.specs.Listing.{gives}
 use Rattle.gh_law.specs.Asked.{AllWereAsked, WasOpened}
 use Rattle.gh_lists.specs.Counts.{CountsPlainly}
-use Rattle.gh_holds.specs.Below.{CycleIsDrawn, HeapIsCounted, FewAreScanned, GlobalsAreCounted}
-use Rattle.gh_lists.specs.Handshake.{actors, asks, is_busy, Pacing, those}
+use Rattle.gh_holds.specs.Below.{CycleIsDrawn, FewAreScanned, GlobalsAreCounted, HeapIsCounted, SpansStand}
+use Rattle.gh_lists.specs.Handshake.{actors, asks, is_busy, those, Setup}
 use Rattle.gh_lists.specs.Marking.{actors_after, IsInLimits, IsStartOf}
 use Rattle.gh_lists.specs.Order.{before_step, begun_in}
 use Rattle.gh_lists.specs.Processors.{arena_of, ListStands}
 use Rattle.gh_law.specs.Phases.{PhasesStand}
 use Rattle.gh_law.specs.Scans.{ScansOnce}
-use Rattle.gh_holds.specs.Spans.{SpansStand}
 use Rattle.gh_law.specs.SweepMarks.{SweepsStand}
 use Rattle.gh_lists.specs.Wants.{total}
-use Rattle.gh_lists.specs.Lists.{may_of}
 use Rattle.gh_lists.specs.Lists as lists
 use Rattle.gh_holds.specs.Objects.{AreNamed}
 use Rattle.gh_holds.specs.Objects as objects
+use Rattle.gh_lists.specs.Lists.{Given, setup_for}
 
--- A heap of these shapes.
-module _ (shapes : List Shape) (l : Layout) (pacing : Pacing) (may : ℕ → List (Entry Op) → Op → Bool) where
+-- A heap that is set up so.
+module _ (setup : Setup) where
   abbrev arena : Arena
-  arena = arena_of shapes l
+  arena = arena_of setup.shapes setup.layout
 
   abbrev words : List (Entry Op) → Words
-  words es = lists.words shapes l pacing may es
+  words es = lists.words setup es
 
   abbrev ever : List (Entry Op) → Ever
-  ever es = lists.ever shapes l pacing may es
+  ever es = lists.ever setup es
 
   abbrev IsLed : List (Entry Op) → Coordinating → Type 0
-  IsLed es c = lists.IsLed shapes l pacing may es c
-
-  abbrev IsStepIn : (at : CoordStage → Type 0) (k : ℕ) (e : Entry Op) (es : List (Entry Op)) → Type 0
-  IsStepIn at k e es = lists.IsStepIn shapes l pacing may at k e es
+  IsLed es c = lists.IsLed setup es c
 
   abbrev BeginsCycle : (k : ℕ) → List (Entry Op) → Type 0
-  BeginsCycle k es = lists.BeginsCycle shapes l pacing may k es
-
-  abbrev EndsCycle : (k : ℕ) → List (Entry Op) → Type 0
-  EndsCycle k es = lists.EndsCycle shapes l pacing may k es
+  BeginsCycle k es = lists.BeginsCycle setup k es
 
   abbrev SweepsCycle : (k : ℕ) → List (Entry Op) → Type 0
-  SweepsCycle k es = lists.SweepsCycle shapes l pacing may k es
+  SweepsCycle k es = lists.SweepsCycle setup k es
 
   abbrev FreesTheUnreached : List (Entry Op) → Type 0
-  FreesTheUnreached es = objects.FreesTheUnreached shapes l pacing may es
+  FreesTheUnreached es = objects.FreesTheUnreached setup es
 
   abbrev FreesWithinTwo : List (Entry Op) → Type 0
-  FreesWithinTwo es = objects.FreesWithinTwo shapes l pacing may es
+  FreesWithinTwo es = objects.FreesWithinTwo setup es
 
   abbrev EndsAllMarked : List (Entry Op) → Type 0
-  EndsAllMarked es = objects.EndsAllMarked shapes l pacing may es
+  EndsAllMarked es = objects.EndsAllMarked setup es
 
   abbrev StandsUntilItsEnd : List (Entry Op) → Type 0
-  StandsUntilItsEnd es = objects.StandsUntilItsEnd shapes l pacing may es
+  StandsUntilItsEnd es = objects.StandsUntilItsEnd setup es
 
   abbrev StandsSoFar : List (Entry Op) → Coordinating → Type 0
-  StandsSoFar es c = objects.StandsSoFar shapes l pacing may es c
+  StandsSoFar es c = objects.StandsSoFar setup es c
 
   abbrev StandApart : List (Entry Op) → Type 0
-  StandApart es = objects.StandApart shapes l pacing may es
+  StandApart es = objects.StandApart setup es
 
   abbrev AllWereCounted : List (Entry Op) → Coordinating → Type 0
-  AllWereCounted es c = objects.AllWereCounted shapes l pacing may es c
+  AllWereCounted es c = objects.AllWereCounted setup es c
 
   abbrev CountsAreSaid : List (Entry Op) → Coordinating → Type 0
-  CountsAreSaid es c = objects.CountsAreSaid shapes l pacing may es c
+  CountsAreSaid es c = objects.CountsAreSaid setup es c
 
   abbrev LeavesTheReached : List (Entry Op) → Coordinating → Type 0
-  LeavesTheReached es c = objects.LeavesTheReached shapes l pacing may es c
-
-  -- After a list: the words, the heap that never frees, and who is at the coordinator's seat. What a processor is depends on its own entries alone.
+  LeavesTheReached es c = objects.LeavesTheReached setup es c
 
   -- Of an operation that waits for a cycle.
 
@@ -116,64 +106,64 @@ module _ (shapes : List Shape) (l : Layout) (pacing : Pacing) (may : ℕ → Lis
   -- Where a `gc` acts with this entry it is answered `swept` with it, and has waited for a cycle; and so has a `new` that acts where it finds no room.
   pub record HasAwaited (e : Entry Op) (before : List (Entry Op)) (x : Act) : Type 0 where
     pub gc : (g : ℕ) → x.op ≡ op.Gc g → AwaitedCycle e.actor before x.op
-    pub answered : (g : ℕ) → x.op ≡ op.Gc g → gives (before_step shapes l before e) e.found ≡ Some answer.Swept
+    pub answered : (g : ℕ) → x.op ≡ op.Gc g → gives (before_step setup.shapes setup.layout before e) e.found ≡ Some answer.Swept
     pub full : x.full ≡ true → AwaitedCycle e.actor before x.op
 
   abbrev pub Awaits : List (Entry Op) → Type 0
-  Awaits es = (e : Entry Op) (before : List (Entry Op)) (x : Act) → IsStartOf (e ∷ before) es → done_at (processor_kind shapes l) (deeds shapes) before e ≡ Some x → HasAwaited e before x
+  Awaits es = (e : Entry Op) (before : List (Entry Op)) (x : Act) → IsStartOf (e ∷ before) es → done_at (processor_kind setup.shapes setup.layout) (deeds setup.shapes) before e ≡ Some x → HasAwaited e before x
 
   -- each cycle that begins was opened, and no other since; so each was asked for, but the last
   abbrev pub AllWereOpened : List (Entry Op) → Type 0
-  AllWereOpened es = (k : ℕ) (begun : List (Entry Op)) → IsStartOf begun es → BeginsCycle k begun → WasOpened shapes l pacing may k begun
+  AllWereOpened es = (k : ℕ) (begun : List (Entry Op)) → IsStartOf begun es → BeginsCycle k begun → WasOpened setup k begun
 
   -- Of the next step of an actor: of a processor, a worker or the coordinator.
 
   -- the actor behind the list, where this operation begins, or none does
   abbrev pub next_of : List (Entry Op) → (a : ℕ) → Option Op → Actor
-  next_of es a o = started (actors shapes l pacing) o (actors_after arena pacing may es a)
+  next_of es a o = started (actors setup) o (actors_after arena setup.pacing setup.may es a)
 
   -- the actor may step so: all that a legal entry of it needs, but that the word that it asks for is there
   pub record MayStep (es : List (Entry Op)) (a : ℕ) (o : Option Op) : Type 0 where
-    pub seat : a < seats_of l
-    pub begins : Begins (those shapes l pacing may) a es o
+    pub seat : a < seats_of setup.layout
+    pub begins : Begins (those setup) a es o
     pub runs : is_busy (next_of es a o) ≡ true
 
   -- each step that an actor may make is on a word that there is; so that condition is always met
   abbrev pub StepsWithin : List (Entry Op) → Type 0
-  StepsWithin es = (a : ℕ) (o : Option Op) → MayStep es a o → InRange l (cell_of (asks (next_of es a o)))
+  StepsWithin es = (a : ℕ) (o : Option Op) → MayStep es a o → InRange setup.layout (cell_of (asks (next_of es a o)))
 
   pub record AllStands (es : List (Entry Op)) : Type 0 where
-    pub stands : ListStands arena (opening_words pacing.trigger) es
+    pub stands : ListStands arena (opening_words setup.pacing.trigger) es
     pub awaits : Awaits es
     pub within : StepsWithin es
     pub objects : AreNamed (ever es).made (words es)
     pub apart : StandApart es
-    pub asked : AllWereAsked shapes l pacing may es
+    pub asked : AllWereAsked setup es
     pub opened : AllWereOpened es
-    pub numbers : (c : Coordinating) → IsLed es c → CountsPlainly (those shapes l pacing may) pacing.room es c
+    pub numbers : (c : Coordinating) → IsLed es c → CountsPlainly (those setup) setup.pacing.room es c
     pub frees : FreesTheUnreached es
     pub frees_within_two : FreesWithinTwo es
     pub ends : EndsAllMarked es
     pub until : StandsUntilItsEnd es
     pub standing : (c : Coordinating) → IsLed es c → leading.Marks c.stage → StandsSoFar es c
     -- a stack is scanned once in a cycle; what the numbers of spans say, and what a sweep has left; who knows of a phase, and who marks
-    pub scans : ScansOnce shapes l pacing may es
+    pub scans : ScansOnce setup es
     -- in each cycle workers scan no more words than there are
-    pub scanned : FewAreScanned shapes l pacing es
+    pub scanned : FewAreScanned setup es
     -- and they count each global exactly once
-    pub globals : (c : Coordinating) → IsLed es c → GlobalsAreCounted shapes l pacing es c
-    pub sweeps : SweepsStand shapes l pacing may es
+    pub globals : (c : Coordinating) → IsLed es c → GlobalsAreCounted setup es c
+    pub sweeps : SweepsStand setup es
     -- which spans there are, and who owns how many
-    pub spans : SpansStand shapes l (words es)
-    pub phases : PhasesStand shapes l pacing may es
-    pub drawn : (c : Coordinating) → IsLed es c → leading.Marks c.stage → CycleIsDrawn shapes l pacing may es c
+    pub spans : SpansStand setup.shapes setup.layout (words es)
+    pub phases : PhasesStand setup es
+    pub drawn : (c : Coordinating) → IsLed es c → leading.Marks c.stage → CycleIsDrawn setup es c
     pub counts : (c : Coordinating) → IsLed es c → AllWereCounted es c
     pub said : (c : Coordinating) → IsLed es c → CountsAreSaid es c
     -- at every moment the heap's word is the bytes of the slots of all objects that stand, less those that are placed and not counted yet, and with those that sweeps have cleared and not taken off yet
-    pub heap_bytes : HeapIsCounted shapes l pacing may es
+    pub heap_bytes : HeapIsCounted setup es
     pub last : (c : Coordinating) → IsLed es c → c.stage ≡ Done → LeavesTheReached es c
 
 -- Whatever the types' shapes, the heap's layout, its pacing, how many objects and cycles each goroutine may ask for, and however many processors and workers there are: after every legal list of their steps, in every order, also while a cycle is marked.
 abbrev pub EveryListOfActorsStands : Type 0
-EveryListOfActorsStands = (shapes : List Shape) (l : Layout) (pacing : Pacing) (counts : ℕ → ℕ) (es : List (Entry Op)) → ShapesAreGood shapes → IsInLimits l → total counts l.goroutines ≤ MOST_STATEMENTS →
-    Legal (those shapes l pacing (may_of shapes l counts)) es → AllStands shapes l pacing (may_of shapes l counts) es
+EveryListOfActorsStands = (given : Given) (es : List (Entry Op)) → ShapesAreGood given.shapes → IsInLimits given.layout → total given.counts given.layout.goroutines ≤ MOST_STATEMENTS →
+    Legal (those (setup_for given)) es → AllStands (setup_for given) es

@@ -1,5 +1,5 @@
 -- Who asks for a cycle, and where one is opened: over lists of steps of all actors, the newest first.
-use Rattle.std.specs.Prelude.{◌≡◌, ℕ, ◌<◌, ◌⊎◌, Bool, true, false, List, ◌∷◌}
+use Rattle.std.specs.Prelude.{◌≡◌, ℕ, ◌<◌, ◌⊎◌, true, false, List, ◌∷◌}
 use Rattle.gh_base.specs.declared.cell.Ask.TheVariants.{Or}
 use Rattle.gh_base.specs.declared.cell.Cell.TheVariants as cell
 use Rattle.gh_base.specs.declared.pack.TheConstants.{GONE}
@@ -8,7 +8,7 @@ use Rattle.gh_coord.specs.declared.open.OpenStage.TheVariants.{ClearWant}
 use Rattle.gh_base.specs.Lists.{by as own}
 use Rattle.gh_mutator_writes.specs.Writing.{BeginsToWait}
 use Rattle.gh_mutator.specs.Asking.{CountsUpTo, SeesReached}
-use Rattle.gh_lists.specs.Handshake.{Pacing, those}
+use Rattle.gh_lists.specs.Handshake.{those, Setup}
 use Rattle.gh_lists.specs.Marking.{IsLedBy, IsStartOf}
 use Rattle.gh_lists.specs.Numbers.{opens_one}
 use Rattle.gh_lists.specs.Order.{before_step}
@@ -38,14 +38,14 @@ module _ (shapes : List Shape) (l : Layout) where
     pub counted : CountsUpTo (before_step shapes l before counts).task counts.found bytes
     pub its_last : own a es ≡ looks ∷ counts ∷ own a before
 
-module _ (shapes : List Shape) (l : Layout) (pacing : Pacing) (may : ℕ → List (Entry Op) → Op → Bool) where
+module _ (setup : Setup) where
   abbrev Led : List (Entry Op) → Coordinating → Type 0
-  Led es c = IsLedBy (arena_of shapes l) pacing may es c
+  Led es c = IsLedBy (arena_of setup.shapes setup.layout) setup.pacing setup.may es c
 
   -- With this entry behind the list a processor asks for a cycle: in a `gc`, or in a `new` whose first search has found nothing, where it begins to wait; or in a `new` that saw the trigger reached, as marking was off.
   pub record AsksForCycle (e : Entry Op) (es : List (Entry Op)) : Type 0 where
-    pub by : e.actor < l.procs
-    pub where_it_may : BeginsToWait (before_step shapes l es e).task ⊎ SawTriggerReached shapes l e.actor es
+    pub by : e.actor < setup.layout.procs
+    pub where_it_may : BeginsToWait (before_step setup.shapes setup.layout es e).task ⊎ SawTriggerReached setup.shapes setup.layout e.actor es
     pub asks : e.ask ≡ Or cell.Want 1
 
   -- With an entry of the list a processor has asked for a cycle, and none was opened since.
@@ -59,13 +59,13 @@ module _ (shapes : List Shape) (l : Layout) (pacing : Pacing) (may : ℕ → Lis
   -- the cycle is the last: each processor has left
   pub record IsLast (es : List (Entry Op)) (c : Coordinating) : Type 0 where
     pub is_last : c.is_last ≡ true
-    pub left : (a : ℕ) → a < l.procs → words_after (those shapes l pacing may).opening es (cell.Ack a) ≡ GONE
+    pub left : (a : ℕ) → a < setup.layout.procs → words_after (those setup).opening es (cell.Ack a) ≡ GONE
 
   -- With this entry behind the list the coordinator clears the word of the request: cycle k is opened. It was asked for, or is the last.
   pub record OpensCycle (k : ℕ) (e : Entry Op) (es : List (Entry Op)) : Type 0 where
     pub lead : Coordinating
     pub led : Led es lead
-    pub by : e.actor ≡ acks_of l
+    pub by : e.actor ≡ acks_of setup.layout
     pub clears : IsClearing lead.stage
     pub cycle : lead.begun ≡ k
     pub asked : IsLast es lead ⊎ WasAsked es

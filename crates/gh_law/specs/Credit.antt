@@ -1,5 +1,5 @@
 -- Credit, over every legal list of steps of all actors (Go's `bgScanCredit`): what workers have added to the bank, what was taken out of it, and what has lapsed where marking was ended. All is counted in words of the heap, and by what the list's steps do to the bank's word alone.
-use Rattle.std.specs.Prelude.{◌≡◌, ℕ, ◌+◌, ◌^◌, ◌<◌, ◌≤◌, Bool, List, [], ◌∷◌}
+use Rattle.std.specs.Prelude.{◌≡◌, ℕ, ◌+◌, ◌^◌, ◌<◌, ◌≤◌, List, [], ◌∷◌}
 use Rattle.gh_base.specs.declared.cell.Ask.{Ask}
 use Rattle.gh_base.specs.declared.cell.Ask.TheVariants.{Store}
 use Rattle.gh_base.specs.declared.cell.Cell.TheVariants as cell
@@ -12,11 +12,11 @@ use Rattle.gh_credit.specs.Earning.{handed_by}
 use Rattle.gh_mutator_heap.specs.Facts.{ShapesAreGood}
 use Rattle.gh_mutator.specs.Spending.{spent_of}
 use Rattle.gh_lists.specs.declared.handshake.Actor.TheVariants as actor
-use Rattle.gh_lists.specs.Lists.{IsLed, may_of, words}
-use Rattle.gh_lists.specs.Handshake.{Pacing, those}
+use Rattle.gh_lists.specs.Lists.{IsLed, words, Given, setup_for}
+use Rattle.gh_lists.specs.Handshake.{those, Setup}
 use Rattle.gh_lists.specs.Marking.{IsInLimits}
 use Rattle.gh_holds.specs.Below.{scanned_in}
-use Rattle.gh_law.specs.Vocabulary.{Actor, Coordinating, Entry, Layout, Legal, Op, Shape, state_of}
+use Rattle.gh_law.specs.Vocabulary.{Actor, Coordinating, Entry, Legal, Op, state_of}
 use Rattle.gh_lists.specs.Wants.{total}
 
 -- by a store the word that it replaced has lapsed
@@ -55,29 +55,29 @@ left_among at n = total (λ a. left_at (at a)) n
 abbrev pub spent_among : (ℕ → Actor) → (n : ℕ) → ℕ
 spent_among at n = total (λ a. spent_at (at a)) n
 
-module _ (shapes : List Shape) (l : Layout) (pacing : Pacing) (may : ℕ → List (Entry Op) → Op → Bool) where
+module _ (setup : Setup) where
   -- the actor after the list
   abbrev pub at : List (Entry Op) → ℕ → Actor
-  at es a = state_of (those shapes l pacing may).kind a es
+  at es a = state_of (those setup).kind a es
 
   -- nothing is left to hand over, nothing is in the bank, and the coordinator knows what has lapsed
   pub record IsSettled (es : List (Entry Op)) (c : Coordinating) : Type 0 where
-    pub none_left : left_among (at es) (seats_of l) ≡ 0
-    pub empty : words shapes l pacing may es cell.Bank ≡ 0
+    pub none_left : left_among (at es) (seats_of setup.layout) ≡ 0
+    pub empty : words setup es cell.Bank ≡ 0
     pub lapsed : lapsed_in es ≡ lapsed_at c.lapsed c.stage
 
   pub record CreditStands (es : List (Entry Op)) : Type 0 where
     -- at every moment what was earned was spent, has lapsed, or is in the bank
-    pub balanced : earned_in es ≡ spent_in es + lapsed_in es + words shapes l pacing may es cell.Bank
+    pub balanced : earned_in es ≡ spent_in es + lapsed_in es + words setup es cell.Bank
     -- it is the words that workers have scanned, but for those that they have still to hand over
-    pub scanned : scanned_in shapes l pacing es ≡ earned_in es + left_among (at es) (seats_of l)
-    pub few : scanned_in shapes l pacing es < 2 ^ 48
+    pub scanned : scanned_in setup es ≡ earned_in es + left_among (at es) (seats_of setup.layout)
+    pub few : scanned_in setup es < 2 ^ 48
     -- what processors have drawn is what was spent
-    pub drawn : spent_in es ≡ spent_among (at es) (seats_of l)
+    pub drawn : spent_in es ≡ spent_among (at es) (seats_of setup.layout)
     -- while no cycle is marked all is settled
-    pub settled : (c : Coordinating) → IsLed shapes l pacing may es c → (leading.Marks c.stage → ⊥) → IsSettled es c
+    pub settled : (c : Coordinating) → IsLed setup es c → (leading.Marks c.stage → ⊥) → IsSettled es c
 
 -- Whatever the types' shapes, the heap's layout, its pacing, how many objects and cycles each goroutine may ask for, and however many processors and workers there are: after every legal list of their steps, in every order.
 abbrev pub EveryListBalances : Type 0
-EveryListBalances = (shapes : List Shape) (l : Layout) (pacing : Pacing) (counts : ℕ → ℕ) (es : List (Entry Op)) → ShapesAreGood shapes → IsInLimits l → total counts l.goroutines ≤ MOST_STATEMENTS →
-    Legal (those shapes l pacing (may_of shapes l counts)) es → CreditStands shapes l pacing (may_of shapes l counts) es
+EveryListBalances = (given : Given) (es : List (Entry Op)) → ShapesAreGood given.shapes → IsInLimits given.layout → total given.counts given.layout.goroutines ≤ MOST_STATEMENTS →
+    Legal (those (setup_for given)) es → CreditStands (setup_for given) es

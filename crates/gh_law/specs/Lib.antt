@@ -2,6 +2,7 @@ pub mod Actors
 pub mod Asked
 pub mod Below
 pub mod Credit
+pub mod Names
 pub mod Phases
 pub mod Room
 pub mod Scans

@@ -1,5 +1,5 @@
 -- Phases, in every legal list of steps of all actors: what each actor knows of them, who marks and when, and that nobody but the coordinator moves in a stopped world.
-use Rattle.std.specs.Prelude.{◌≡◌, ◌≢◌, ◌↔◌, ℕ, ◌<◌, Bool, true, List, ◌∷◌, None}
+use Rattle.std.specs.Prelude.{◌≡◌, ◌≢◌, ◌↔◌, ℕ, ◌<◌, true, List, ◌∷◌, None}
 use Rattle.gh_base.specs.declared.cell.Ask.{Ask}
 use Rattle.gh_base.specs.declared.cell.Ask.TheVariants as ask
 use Rattle.gh_base.specs.declared.cell.Cell.TheVariants as cell
@@ -17,10 +17,10 @@ use Rattle.gh_worker.specs.Handshake as working
 use Rattle.gh_worker.specs.Listing.{Working}
 use Rattle.gh_lists.specs.declared.handshake.Actor.{Actor}
 use Rattle.gh_lists.specs.declared.handshake.Actor.TheVariants as actor
-use Rattle.gh_lists.specs.Handshake.{IsExact, Pacing, place_of, WaitsWithNone}
+use Rattle.gh_lists.specs.Handshake.{IsExact, place_of, WaitsWithNone, Setup}
 use Rattle.gh_lists.specs.Marking.{actors_after, IsLedBy, IsStartOf}
 use Rattle.gh_lists.specs.Processors.{answers_of, arena_of, given_of}
-use Rattle.gh_law.specs.Vocabulary.{acks_of, Coordinating, Entry, Layout, Op, opening_words, Processor, Shape, Words, words_after}
+use Rattle.gh_law.specs.Vocabulary.{acks_of, Coordinating, Entry, Op, opening_words, Processor, Words, words_after}
 
 -- The world is stopped: from where the coordinator has found the last acknowledgement of a stop until it stores a phase that is no stop.
 abbrev pub IsStopped : Coordinating → Type 0
@@ -40,16 +40,16 @@ pub record StandsEmpty (m : Processor) : Type 0 where
   pub no_span : m.poll.local.cache ≡ none_cached
   pub no_buffer : m.poll.local.held ≡ None
 
--- A heap of these shapes.
-module _ (shapes : List Shape) (l : Layout) (pacing : Pacing) (may : ℕ → List (Entry Op) → Op → Bool) where
+-- A heap that is set up so.
+module _ (setup : Setup) where
   abbrev told : List (Entry Op) → Words
-  told es = words_after (opening_words pacing.trigger) es
+  told es = words_after (opening_words setup.pacing.trigger) es
 
   abbrev IsLed : List (Entry Op) → Coordinating → Type 0
-  IsLed es c = IsLedBy (arena_of shapes l) pacing may es c
+  IsLed es c = IsLedBy (arena_of setup.shapes setup.layout) setup.pacing setup.may es c
 
   abbrev at : List (Entry Op) → (a : ℕ) → Actor
-  at es a = actors_after (arena_of shapes l) pacing may es a
+  at es a = actors_after (arena_of setup.shapes setup.layout) setup.pacing setup.may es a
 
   -- the step behind the list finds the word of the coordinator's stop at the phase, and leaves its actor's place
   pub record FindsTheStop (e : Entry Op) (es : List (Entry Op)) (c : Coordinating) : Type 0 where
@@ -66,7 +66,7 @@ module _ (shapes : List Shape) (l : Layout) (pacing : Pacing) (may : ℕ → Lis
       pub workers : (a : ℕ) (w : Working) → at es a ≡ actor.Marks w → IsAwake (working.stage_of w) → IsCurrent (last_phase es) (told es) (working.party_of w).view
       -- who is not awake stands empty until it has gone on, and has given each answer that its operations have had
       pub resuming : (a : ℕ) (m : Processor) (stops : ℕ) (stage : ResumeStage) → at es a ≡ actor.Runs m → stage_of m ≡ Resumes stops stage → StandsEmpty m
-      pub answered : (a : ℕ) (m : Processor) (stops : ℕ) (stage : ResumeStage) → at es a ≡ actor.Runs m → stage_of m ≡ Resumes stops stage → answers_of (arena_of shapes l) (opening_words pacing.trigger) a es ≡ given_of (arena_of shapes l) (opening_words pacing.trigger) a es
+      pub answered : (a : ℕ) (m : Processor) (stops : ℕ) (stage : ResumeStage) → at es a ≡ actor.Runs m → stage_of m ≡ Resumes stops stage → answers_of (arena_of setup.shapes setup.layout) (opening_words setup.pacing.trigger) a es ≡ given_of (arena_of setup.shapes setup.layout) (opening_words setup.pacing.trigger) a es
       pub workers_resuming : (a : ℕ) (w : Working) (stops : ℕ) (stage : ResumeStage) → at es a ≡ actor.Marks w → working.stage_of w ≡ Resumes stops stage → w.held ≡ None
 
     -- Who marks.
@@ -86,7 +86,7 @@ module _ (shapes : List Shape) (l : Layout) (pacing : Pacing) (may : ℕ → Lis
     -- The last cycle.
     pub record EndsInOrder (c : Coordinating) : Type 0 where
       -- it begins once each processor is gone
-      pub begins : c.is_last ≡ true → (a : ℕ) → a < l.procs → told es (cell.Ack a) ≡ GONE
+      pub begins : c.is_last ≡ true → (a : ℕ) → a < setup.layout.procs → told es (cell.Ack a) ≡ GONE
       -- and no worker leaves before the last phase is stored
       pub workers_leave : (a : ℕ) (w : Working) → at es a ≡ actor.Marks w → working.IsLeaving w.stage → last_phase es ≡ Finished
 
@@ -100,6 +100,6 @@ module _ (shapes : List Shape) (l : Layout) (pacing : Pacing) (may : ℕ → Lis
       -- Of every start of the list: who marks with its newest entry does so while a cycle is marked;
       pub marks : (e : Entry Op) (before : List (Entry Op)) (c : Coordinating) → IsStartOf (e ∷ before) es → IsLed before c → IsMarkingStep e.ask → leading.Marks c.stage
       -- and in a stopped world that entry is the coordinator's, or a load of the phase that finds the stop
-      pub still : (e : Entry Op) (before : List (Entry Op)) (c : Coordinating) → IsStartOf (e ∷ before) es → IsLed before c → IsStopped c → e.actor ≢ acks_of l → FindsTheStop e before c
+      pub still : (e : Entry Op) (before : List (Entry Op)) (c : Coordinating) → IsStartOf (e ∷ before) es → IsLed before c → IsStopped c → e.actor ≢ acks_of setup.layout → FindsTheStop e before c
       -- no phase follows the last
       pub finished : (start : List (Entry Op)) → IsStartOf start es → last_phase start ≡ Finished → last_phase es ≡ Finished

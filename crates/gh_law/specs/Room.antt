@@ -5,10 +5,10 @@ use Rattle.gh_base.specs.declared.limits.TheConstants.{MOST_STATEMENTS}
 use Rattle.gh_base.specs.Cells.{buffers_of}
 use Rattle.gh_room.specs.Room.{HasRoom}
 use Rattle.gh_mutator_heap.specs.Facts.{ShapesAreGood}
-use Rattle.gh_lists.specs.Lists.{may_of, words}
-use Rattle.gh_lists.specs.Handshake.{Pacing, those}
+use Rattle.gh_lists.specs.Lists.{words, Given, setup_for}
+use Rattle.gh_lists.specs.Handshake.{those}
 use Rattle.gh_lists.specs.Marking.{IsInLimits}
-use Rattle.gh_law.specs.Vocabulary.{Entry, Layout, Legal, Op, Shape, Words}
+use Rattle.gh_law.specs.Vocabulary.{Entry, Layout, Legal, Op, Words}
 use Rattle.gh_lists.specs.Wants.{total}
 
 -- Such a buffer, by its word: whoever loads that word finds room there.
@@ -19,5 +19,5 @@ pub record RoomStands (l : Layout) (words : Words) : Type 0 where
 
 -- At every moment there is one, after every legal list: so where a search for room passes all buffers, and takes none, others have stepped meanwhile.
 abbrev pub EveryListHasRoom : Type 0
-EveryListHasRoom = (shapes : List Shape) (l : Layout) (pacing : Pacing) (counts : ℕ → ℕ) (es : List (Entry Op)) → ShapesAreGood shapes → IsInLimits l → total counts l.goroutines ≤ MOST_STATEMENTS →
-    Legal (those shapes l pacing (may_of shapes l counts)) es → RoomStands l (words shapes l pacing (may_of shapes l counts) es)
+EveryListHasRoom = (given : Given) (es : List (Entry Op)) → ShapesAreGood given.shapes → IsInLimits given.layout → total given.counts given.layout.goroutines ≤ MOST_STATEMENTS →
+    Legal (those (setup_for given)) es → RoomStands given.layout (words (setup_for given) es)

@@ -1,26 +1,26 @@
 -- That a stack is scanned at most once in a cycle, in every legal list of steps of all actors, and where that is.
-use Rattle.std.specs.Prelude.{◌≡◌, ◌≢◌, ℕ, ◌%◌, Bool, List, ◌∷◌}
+use Rattle.std.specs.Prelude.{◌≡◌, ◌≢◌, ℕ, ◌%◌, List, ◌∷◌}
 use Rattle.gh_base.specs.declared.cell.Ask.TheVariants.{Store}
 use Rattle.gh_base.specs.declared.cell.Cell.TheVariants as cell
 use Rattle.gh_base.specs.declared.pack.TheConstants.{END}
 use Rattle.gh_coord.specs.Handshake as leading
-use Rattle.gh_lists.specs.Handshake.{Pacing}
 use Rattle.gh_lists.specs.Marking.{IsLedBy, IsStartOf}
 use Rattle.gh_lists.specs.Processors.{arena_of}
-use Rattle.gh_law.specs.Vocabulary.{Coordinating, Entry, Layout, Op, opening_words, Shape, words_after}
+use Rattle.gh_law.specs.Vocabulary.{Coordinating, Entry, Op, opening_words, words_after}
+use Rattle.gh_lists.specs.Handshake.{Setup}
 
 -- With this entry the stack of goroutine g is scanned in cycle k: the cycle's number is stored into the stack's word. (What is stored where a goroutine ends is the number of no cycle.)
 abbrev pub ScansIn : (k g : ℕ) → Entry Op → Type 0
 ScansIn k g e = (e.ask ≡ Store (cell.Scanned g) k) × (k ≢ END)
 
-module _ (shapes : List Shape) (l : Layout) (pacing : Pacing) (may : ℕ → List (Entry Op) → Op → Bool) where
+module _ (setup : Setup) where
   -- Of every start of the list whose newest entry scans a stack.
   pub record ScansOnce (es : List (Entry Op)) : Type 0 where
     -- the cycle is the one that has begun last
-    pub of_cycle : (e : Entry Op) (before : List (Entry Op)) (k g : ℕ) → IsStartOf (e ∷ before) es → ScansIn k g e → words_after (opening_words pacing.trigger) before cell.Begun ≡ k
+    pub of_cycle : (e : Entry Op) (before : List (Entry Op)) (k g : ℕ) → IsStartOf (e ∷ before) es → ScansIn k g e → words_after (opening_words setup.pacing.trigger) before cell.Begun ≡ k
     -- which is marked then
-    pub marked : (e : Entry Op) (before : List (Entry Op)) (k g : ℕ) → IsStartOf (e ∷ before) es → ScansIn k g e → (c : Coordinating) → IsLedBy (arena_of shapes l) pacing may before c → leading.Marks c.stage
+    pub marked : (e : Entry Op) (before : List (Entry Op)) (k g : ℕ) → IsStartOf (e ∷ before) es → ScansIn k g e → (c : Coordinating) → IsLedBy (arena_of setup.shapes setup.layout) setup.pacing setup.may before c → leading.Marks c.stage
     -- the goroutine's own processor scans
-    pub its_own : (e : Entry Op) (before : List (Entry Op)) (k g : ℕ) → IsStartOf (e ∷ before) es → ScansIn k g e → e.actor ≡ g % l.procs
+    pub its_own : (e : Entry Op) (before : List (Entry Op)) (k g : ℕ) → IsStartOf (e ∷ before) es → ScansIn k g e → e.actor ≡ g % setup.layout.procs
     -- no two entries scan one stack in one cycle
     pub once : (e f : Entry Op) (before earlier : List (Entry Op)) (k g : ℕ) → IsStartOf (e ∷ before) es → IsStartOf (f ∷ earlier) before → ScansIn k g e → ScansIn k g f → ⊥

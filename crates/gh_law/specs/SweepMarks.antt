@@ -1,5 +1,5 @@
 -- What the numbers of spans say, and which marks and objects a sweep has left, in every legal list of steps of all actors: over the words.
-use Rattle.std.specs.Prelude.{◌≡◌, ◌≢◌, ℕ, ◌+◌, ◌*◌, ◌/◌, ◌<◌, ◌≤◌, ◌⊎◌, Bool, true, false, List, Option, Some}
+use Rattle.std.specs.Prelude.{◌≡◌, ◌≢◌, ℕ, ◌+◌, ◌*◌, ◌/◌, ◌<◌, ◌≤◌, ◌⊎◌, true, false, List, Option, Some}
 use Rattle.gh_base.specs.declared.cell.Cell.TheVariants as cell
 use Rattle.gh_base.specs.declared.pack.PageWord.TheVariants.{Head}
 use Rattle.gh_base.specs.declared.pack.SpanHead.{SpanHead}
@@ -17,11 +17,11 @@ use Rattle.gh_mutator.specs.declared.task.Task.{Task}
 use Rattle.gh_mutator.specs.declared.task.Task.TheVariants as task
 use Rattle.gh_mutator.specs.Local.{cached_in}
 use Rattle.gh_mutator.specs.ProcessorMarks.{only_polls}
-use Rattle.gh_lists.specs.Handshake.{Pacing}
 use Rattle.gh_lists.specs.Marking.{actors_after, IsBeginning, IsLedBy}
 use Rattle.gh_lists.specs.Processors.{arena_of, at_seat, ever_after_list, IsPlacedAt}
 use Rattle.gh_holds.specs.Below.{sweep_of}
-use Rattle.gh_law.specs.Vocabulary.{Coordinating, Entry, Ever, Layout, Name, Op, opening_words, Processor, Reach, Shape, Words, words_after}
+use Rattle.gh_law.specs.Vocabulary.{Coordinating, Entry, Ever, Name, Op, opening_words, Processor, Reach, Words, words_after}
+use Rattle.gh_lists.specs.Handshake.{Setup}
 
 -- Spans.
 
@@ -77,14 +77,14 @@ pub record MarksAreLeft (words : Words) (ever : Ever) (sweeps : ℕ → Option S
   pub stand : (x : ℕ) → row_bit (mark_words words) x ≡ 1 → row_bit (alloc_words words) x ≡ 1
 
 -- After a list.
-module _ (shapes : List Shape) (l : Layout) (pacing : Pacing) (may : ℕ → List (Entry Op) → Op → Bool) (es : List (Entry Op)) where
+module _ (setup : Setup) (es : List (Entry Op)) where
   abbrev told : Words
-  told = words_after (opening_words pacing.trigger) es
+  told = words_after (opening_words setup.pacing.trigger) es
 
   pub record SweepsStand : Type 0 where
     pub numbers : SpansAreNumbered told
     pub owned : OwnedAreSwept told
-    pub cached : (a : ℕ) → a < l.procs → CachedAreSwept told a (at_seat (arena_of shapes l) (opening_words pacing.trigger) es a)
+    pub cached : (a : ℕ) → a < setup.layout.procs → CachedAreSwept told a (at_seat (arena_of setup.shapes setup.layout) (opening_words setup.pacing.trigger) es a)
     -- a cycle begins and is marked once each span is swept
-    pub marked : (c : Coordinating) → IsLedBy (arena_of shapes l) pacing may es c → IsBeginning c.stage ⊎ leading.Marks c.stage → AllAreSwept told
-    pub marks : (c : Coordinating) → IsLedBy (arena_of shapes l) pacing may es c → (leading.Marks c.stage → ⊥) → MarksAreLeft told (ever_after_list (arena_of shapes l) (opening_words pacing.trigger) es) (λ who. sweep_of (actors_after (arena_of shapes l) pacing may es who))
+    pub marked : (c : Coordinating) → IsLedBy (arena_of setup.shapes setup.layout) setup.pacing setup.may es c → IsBeginning c.stage ⊎ leading.Marks c.stage → AllAreSwept told
+    pub marks : (c : Coordinating) → IsLedBy (arena_of setup.shapes setup.layout) setup.pacing setup.may es c → (leading.Marks c.stage → ⊥) → MarksAreLeft told (ever_after_list (arena_of setup.shapes setup.layout) (opening_words setup.pacing.trigger) es) (λ who. sweep_of (actors_after (arena_of setup.shapes setup.layout) setup.pacing setup.may es who))

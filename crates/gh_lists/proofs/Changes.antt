@@ -1,5 +1,5 @@
 -- The numbers of cycles along a list: each step leaves them, or it is the coordinator's that begins a cycle, ends its marking or tells that it is swept, and one number is one cycle later.
-use Rattle.std.proofs.Common.{◌≡◌, ℕ, suc, ◌+◌, Bool, refl, sym, ap, subst, ◌∙◌, arith, List, ◌∷◌}
+use Rattle.std.proofs.Common.{◌≡◌, ℕ, suc, ◌+◌, refl, sym, ap, subst, ◌∙◌, arith, List, ◌∷◌}
 use Rattle.gh_base.specs.declared.cell.Ask.TheVariants.{Store}
 use Rattle.gh_base.specs.declared.cell.Cell.TheVariants as cell
 use Rattle.gh_coord.specs.declared.close.CloseStage.TheVariants as close_stage
@@ -13,7 +13,7 @@ use Rattle.gh_coord.specs.Telling as tell
 use Rattle.gh_worker.specs.Listing as worker
 use Rattle.gh_lists.specs.Lists.{IsTelling}
 use Rattle.gh_lists.specs.Numbers.{Counted, Opened}
-use Rattle.gh_lists.proofs.Vocabulary.{CoordStage, Entry, Kind, Layout, Legal, Op, OpenStage, Processor, processor_kind, Shape, started, Words, Ask, Check, Checked, Close, CloseStage, Count, Done, effect, IsFew, KeepsIt, LoadAck, LoadWant, MarkOn, Open, opened_in, Pacing, Part, part_of, ProcessorWritesItsOwn, Stop, StopAgain, Sweep, Tell, TellStage, Watch, WorkersWriteTheirOwn}
+use Rattle.gh_lists.proofs.Vocabulary.{CoordStage, Entry, Kind, Legal, Op, OpenStage, Processor, processor_kind, started, Words, Ask, Check, Checked, Close, CloseStage, Count, Done, effect, IsFew, KeepsIt, LoadAck, LoadWant, MarkOn, Open, opened_in, Part, part_of, ProcessorWritesItsOwn, Stop, StopAgain, Sweep, Tell, TellStage, Watch, WorkersWriteTheirOwn}
 use Rattle.gh_lists.specs.Frames.{leaves, Numbers, numbers_of}
 use Rattle.gh_lists.proofs.CycleNumbers.Leading.{Is, Reads}
 use Rattle.gh_lists.proofs.CycleNumbers.Lists.{holds}
@@ -22,6 +22,7 @@ use Rattle.gh_lists.specs.Quiet.{all_quiet, count_quiet, stop_quiet, watch_quiet
 use Rattle.gh_lists.specs.Steps as seats
 use Rattle.gh_lists.specs.Writing.{leaves_numbers}
 use Rattle.gh_lists.specs.Changes.{Spares, Change, same, begins, ends, tells, Rises}
+use Rattle.gh_lists.specs.Handshake.{Setup}
 
 spares : (ask : Ask) → ((w : Words) → numbers_of (effect w ask) ≡ numbers_of w) → Spares ask
 spares ask h = record { gen = λ w. ap (λ (n : Numbers). n.gen) (h w); begun = λ w. ap (λ (n : Numbers). n.begun) (h w); swept = λ w. ap (λ (n : Numbers). n.swept) (h w) }
@@ -75,25 +76,25 @@ module _ (c : coord.Coordinating) where
   does (Tell t) s r = telling t t.stage r
   does Done s r = spares_them (record { gen = λ w. refl; begun = λ w. refl; swept = λ w. refl })
 
-module _ (shapes : List Shape) (l : Layout) (pacing : Pacing) (may : ℕ → List (Entry Op) → Op → Bool)
+module _ (setup : Setup)
     (writes : ProcessorWritesItsOwn) (works : WorkersWriteTheirOwn)
-    (keeps : (es : List (Entry Op)) → Legal (seats.it shapes l pacing may) es → KeepsIt (seats.it shapes l pacing may) es) where
+    (keeps : (es : List (Entry Op)) → Legal (seats.it setup) es → KeepsIt (seats.it setup) es) where
   abbrev k : Kind Processor Op
-  k = processor_kind shapes l
+  k = processor_kind setup.shapes setup.layout
 
   abbrev words : List (Entry Op) → Words
-  words es = seats.words shapes l pacing may es
+  words es = seats.words setup es
 
-  pub change : (e : Entry Op) (es : List (Entry Op)) → Legal (seats.it shapes l pacing may) (e ∷ es) → IsFew es → Change shapes l pacing may e es
-  change e es legal few = by (seats.step shapes l pacing may e es writes legal (keeps es legal.0)) where
-    by_lead : (c : coord.Coordinating) (x : seats.LeadsIt shapes l pacing may e es c) → Is pacing.room (opened_in es) (numbers_of (words es)) c c.stage → Does c c.stage (coord.asks c) → Change shapes l pacing may e es
+  pub change : (e : Entry Op) (es : List (Entry Op)) → Legal (seats.it setup) (e ∷ es) → IsFew es → Change setup e es
+  change e es legal few = by (seats.step setup e es writes legal (keeps es legal.0)) where
+    by_lead : (c : coord.Coordinating) (x : seats.LeadsIt setup e es c) → Is setup.pacing.room (opened_in es) (numbers_of (words es)) c c.stage → Does c c.stage (coord.asks c) → Change setup e es
     by_lead c x h (spares_them y) = same (subst Spares (sym x.asked) y)
     by_lead c x h (begins_it part ask) =
-        let at = subst (λ (q : Part). At pacing.room (opened_in es) (numbers_of (words es)) (own_of c) q) part h.at in
+        let at = subst (λ (q : Part). At setup.pacing.room (opened_in es) (numbers_of (words es)) (own_of c) q) part h.at in
         let value : c.begun ≡ suc (words es cell.Begun) = let a = at.number_is in let b = at.begun_is in omega (arith, a, b) in
         begins (x.asked ∙ ask ∙ ap (Store cell.Begun) value)
     by_lead c x h (ends_it part close_is stage_is stores ask) =
-        let at = subst (λ (q : Part). At pacing.room (opened_in es) (numbers_of (words es)) (own_of c) q) part h.at in
+        let at = subst (λ (q : Part). At setup.pacing.room (opened_in es) (numbers_of (words es)) (own_of c) q) part h.at in
         let value : c.generation ≡ words es cell.Gen + 2 = let a = at.generation_is in let b = at.gen_is in omega (arith, a, b) in
         ends (record {
           lead = c;
@@ -107,20 +108,20 @@ module _ (shapes : List Shape) (l : Layout) (pacing : Pacing) (may : ℕ → Lis
           gen = let a = at.number_is in let b = at.gen_is in omega (arith, a, b);
         })
     by_lead c x h (tells_it part at_it ask) =
-        let at = subst (λ (q : Part). At pacing.room (opened_in es) (numbers_of (words es)) (own_of c) q) part h.at in
+        let at = subst (λ (q : Part). At setup.pacing.room (opened_in es) (numbers_of (words es)) (own_of c) q) part h.at in
         let value : c.begun ≡ suc (words es cell.Swept) = let a = at.number_is in omega (arith, a) in
         tells (record { lead = c; led = x.is; telling_it = at_it; actor_is = x.seat; ask_is = x.asked ∙ ask ∙ ap (Store cell.Swept) value; number = value })
 
-    by : seats.Step shapes l pacing may e es → Change shapes l pacing may e es
+    by : seats.Step setup e es → Change setup e es
     by (seats.by_processor m x s) = same (subst Spares (sym x.asked) (spares (k.asks (started k e.begun m)) (λ w. (leaves w (k.asks (started k e.begun m)) (leaves_numbers writes (started k e.begun m) x.sound_then)).numbers)))
     by (seats.by_worker v x s) = same (subst Spares (sym x.asked) (spares (worker.asks v) (λ w. (worker_quiet w works v x.sound_it x.busy).numbers)))
     by (seats.by_lead c x) =
-        let h = holds shapes l pacing may writes works keeps es legal.0 few c x.is in
+        let h = holds setup writes works keeps es legal.0 few c x.is in
         by_lead c x h (does c c.stage x.sound_it.1 h.reads)
 
-  pub rise : (e : Entry Op) (es : List (Entry Op)) → Legal (seats.it shapes l pacing may) (e ∷ es) → IsFew es → Rises shapes l pacing may e es
+  pub rise : (e : Entry Op) (es : List (Entry Op)) → Legal (seats.it setup) (e ∷ es) → IsFew es → Rises setup e es
   rise e es legal few = by (change e es legal few) where
-    by : Change shapes l pacing may e es → Rises shapes l pacing may e es
+    by : Change setup e es → Rises setup e es
     by (same y) = record { begun = let s = y.begun (words es) in omega (arith, s); swept = let s = y.swept (words es) in omega (arith, s) }
     by (begins is) = record { begun = let s = ap (λ (q : Ask). effect (words es) q cell.Begun) is in omega (arith, s); swept = let s = ap (λ (q : Ask). effect (words es) q cell.Swept) is in omega (arith, s) }
     by (ends y) = record { begun = let s = ap (λ (q : Ask). effect (words es) q cell.Begun) y.ask_is in omega (arith, s); swept = let s = ap (λ (q : Ask). effect (words es) q cell.Swept) y.ask_is in omega (arith, s) }

@@ -1,5 +1,5 @@
 -- What every legal list of processors, workers and a coordinator keeps of the handshake.
-use Rattle.std.proofs.Common.{◌≡◌, ℕ, ◌<◌, ◌⊎◌, Bool, refl, sym, ap, subst, ◌∙◌, arith, inl, inr, List, [], ◌∷◌}
+use Rattle.std.proofs.Common.{◌≡◌, ℕ, ◌<◌, ◌⊎◌, refl, sym, ap, subst, ◌∙◌, arith, inl, inr, List, [], ◌∷◌}
 use Rattle.gh_base.specs.declared.cell.Cell.TheVariants as cell
 use Rattle.gh_phase.specs.declared.resume.ResumeStage.TheVariants.{Acknowledge, LoadPhase}
 use Rattle.gh_phase.specs.declared.view.RunPhase.TheVariants as run
@@ -13,10 +13,10 @@ use Rattle.gh_worker.specs.declared.worker.WorkerStage.TheVariants as work
 use Rattle.gh_worker.specs.Handshake as working
 use Rattle.gh_worker.specs.Listing as worker
 use Rattle.gh_lists.specs.declared.handshake.Actor.TheVariants as actor
-use Rattle.gh_lists.specs.Handshake.{IsExact, Sound}
-use Rattle.gh_lists.proofs.Vocabulary.{acks_of, Actor, Acts, Awake, Entry, GONE, Gone, IsAwake, IsParked, KeepsIt, last_of, last_phase, Layout, Lead, Leads, LeadsHandshake, Legal, Op, Pacing, Party, party_of, phase_of, phase_word, PhaseWord, place_of, Processor, Resumes, ResumeStage, RunPhase, Shape, Stage, stage_of, Stopped, WaitsWithNone, WorkersKeepHandshake, WorkerStage, ◌↔◌}
+use Rattle.gh_lists.specs.Handshake.{IsExact, Sound, Setup}
+use Rattle.gh_lists.proofs.Vocabulary.{acks_of, Actor, Acts, Awake, Entry, GONE, Gone, IsAwake, IsParked, KeepsIt, last_of, last_phase, Lead, Leads, Legal, Op, Party, party_of, place_of, Processor, Resumes, ResumeStage, RunPhase, Stage, stage_of, Stopped, WaitsWithNone, WorkerStage, ◌↔◌}
 use Rattle.gh_lists.specs.Seats.{IsSeated, seated}
-use Rattle.gh_lists.proofs.LastCycle.{Ends, follows, it, opens, state, words}
+use Rattle.gh_lists.proofs.LastCycle.{Cited, Ends, follows, it, opens, state, words}
 
 -- who is awake does not wait at a stop
 awake_moves : (stops : ℕ) (s : Stage) → IsAwake s → IsParked stops s → ⊥
@@ -30,12 +30,12 @@ reads : (last known : RunPhase) → (known ≡ last) ⊎ ((last ≡ run.Finished
 reads last known (inl e) = (λ x. sym e ∙ x, λ y. e ∙ y)
 reads last known (inr e) = (λ x. absurd (let no : run.Off ≡ run.Mark = sym e.1 ∙ x in cc), λ y. absurd (let no : run.Finished ≡ run.Mark = sym e.0 ∙ y in cc))
 
-module _ (shapes : List Shape) (l : Layout) (pacing : Pacing) (may : ℕ → List (Entry Op) → Op → Bool) where
+module _ (setup : Setup) where
   abbrev place : Actor → Place
   place = place_of
 
   abbrev n : ℕ
-  n = acks_of l
+  n = acks_of setup.layout
 
   -- the coordinator, where a place is its
   leads_at : (m : Actor) (lead : Lead) → place m ≡ Leads lead → (c : coord.Coordinating) × (m ≡ actor.Leads c) × (leading.lead_of c ≡ lead)
@@ -43,68 +43,68 @@ module _ (shapes : List Shape) (l : Layout) (pacing : Pacing) (may : ℕ → Lis
   leads_at (actor.Runs m) lead e = absurd cc
   leads_at (actor.Marks w) lead e = absurd cc
 
-  layout_of : (m : Actor) (c : coord.Coordinating) → m ≡ actor.Leads c → Sound l m → c.layout ≡ l
-  layout_of m c e s = (subst (λ (y : Actor). Sound l y) e s).0
+  layout_of : (m : Actor) (c : coord.Coordinating) → m ≡ actor.Leads c → Sound setup.layout m → c.layout ≡ setup.layout
+  layout_of m c e s = (subst (λ (y : Actor). Sound setup.layout y) e s).0
 
-  sound_of : (m : Actor) (c : coord.Coordinating) → m ≡ actor.Leads c → Sound l m → leading.Sound c
-  sound_of m c e s = (subst (λ (y : Actor). Sound l y) e s).1
+  sound_of : (m : Actor) (c : coord.Coordinating) → m ≡ actor.Leads c → Sound setup.layout m → leading.Sound c
+  sound_of m c e s = (subst (λ (y : Actor). Sound setup.layout y) e s).1
 
-  worker_sound : (m : Actor) (w : worker.Working) → m ≡ actor.Marks w → Sound l m → working.Sound w
-  worker_sound m w e s = subst (λ (y : Actor). Sound l y) e s
+  worker_sound : (m : Actor) (w : worker.Working) → m ≡ actor.Marks w → Sound setup.layout m → working.Sound w
+  worker_sound m w e s = subst (λ (y : Actor). Sound setup.layout y) e s
 
-  module _ (back : (p : PhaseWord) → phase_of (phase_word p) ≡ p) (leads : LeadsHandshake) (works : WorkersKeepHandshake)
-      (shakes : (es : List (Entry Op)) → Legal (it shapes l pacing may) es → Shakes (it shapes l pacing may) n (Sound l) place es)
-      (gone : (e : Entry Op) (es : List (Entry Op)) → Legal (it shapes l pacing may) (e ∷ es) → GoneStay (it shapes l pacing may) n place e es)
-      (stays : (e : Entry Op) (es : List (Entry Op)) → Legal (it shapes l pacing may) (e ∷ es) → FinishedStays e es) where
-    layouts : (es : List (Entry Op)) (h : Legal (it shapes l pacing may) es) (c : coord.Coordinating) → state shapes l pacing may es n ≡ actor.Leads c → c.layout ≡ l
-    layouts es h c e = layout_of (state shapes l pacing may es n) c e ((shakes es h).all_sound n (omega arith))
+  module _ (cited : Cited)
+      (shakes : (es : List (Entry Op)) → Legal (it setup) es → Shakes (it setup) n (Sound setup.layout) place es)
+      (gone : (e : Entry Op) (es : List (Entry Op)) → Legal (it setup) (e ∷ es) → GoneStay (it setup) n place e es)
+      (stays : (e : Entry Op) (es : List (Entry Op)) → Legal (it setup) (e ∷ es) → FinishedStays e es) where
+    layouts : (es : List (Entry Op)) (h : Legal (it setup) es) (c : coord.Coordinating) → state setup es n ≡ actor.Leads c → c.layout ≡ setup.layout
+    layouts es h c e = layout_of (state setup es n) c e ((shakes es h).all_sound n (omega arith))
 
     -- a worker at its load of the phase is awake
     awake_at : (w : worker.Working) (s : WorkerStage) → s ≡ work.LoadPhase → IsAwake (working.stands_at s) × (working.party_at w s ≡ record { seat = w.seat; view = w.view })
     awake_at w s e = rw e (tt, refl)
 
-    currents : (es : List (Entry Op)) → Legal (it shapes l pacing may) es → (a : ℕ) (w : worker.Working) → a < n → state shapes l pacing may es a ≡ actor.Marks w → w.stage ≡ work.LoadPhase → IsCurrent (last_phase es) (words shapes l pacing may es) w.view
+    currents : (es : List (Entry Op)) → Legal (it setup) es → (a : ℕ) (w : worker.Working) → a < n → state setup es a ≡ actor.Marks w → w.stage ≡ work.LoadPhase → IsCurrent (last_phase es) (words setup es) w.view
     currents es h a w lt at e =
         let y = awake_at w w.stage e in
-        subst (λ (p : Party). IsCurrent (last_phase es) (words shapes l pacing may es) p.view) y.1 ((shakes es h).views a (working.party_of w) (working.stage_of w) lt (ap place at) y.0)
+        subst (λ (p : Party). IsCurrent (last_phase es) (words setup es) p.view) y.1 ((shakes es h).views a (working.party_of w) (working.stage_of w) lt (ap place at) y.0)
 
-    ends : (es : List (Entry Op)) → Legal (it shapes l pacing may) es → Ends shapes l pacing may es
-    ends [] h = opens shapes l pacing may
-    ends (e ∷ es) h = let x = shakes es h.0 in follows shapes l pacing may place back leads works es e h.1 (ends es h.0) x.lead x.led (gone e es h) (stays e es h) (layouts es h.0) (currents es h.0)
+    ends : (es : List (Entry Op)) → Legal (it setup) es → Ends setup es
+    ends [] h = opens setup
+    ends (e ∷ es) h = let x = shakes es h.0 in follows setup cited es e (record { may = h.1; was = ends es h.0; lead = x.lead; led = x.led; gone = gone e es h; stays = stays e es h; layout_is = layouts es h.0; current = currents es h.0 })
 
-    module _ (es : List (Entry Op)) (h : Legal (it shapes l pacing may) es) where
-      x : Shakes (it shapes l pacing may) n (Sound l) place es
+    module _ (es : List (Entry Op)) (h : Legal (it setup) es) where
+      x : Shakes (it setup) n (Sound setup.layout) place es
       x = shakes es h
 
-      i : Ends shapes l pacing may es
+      i : Ends setup es
       i = ends es h
 
       -- every processor has left once the last cycle is swept
-      left : (a : ℕ) → a < l.procs → last_phase es ≡ run.Finished → words shapes l pacing may es (cell.Ack a) ≡ GONE
+      left : (a : ℕ) → a < setup.layout.procs → last_phase es ≡ run.Finished → words setup es (cell.Ack a) ≡ GONE
       left a m f =
-          let c = leads_at (state shapes l pacing may es n) x.lead x.leads in
-          let sound_it = sound_of (state shapes l pacing may es n) c.0 c.1 (x.all_sound n (omega arith)) in
+          let c = leads_at (state setup es n) x.lead x.leads in
+          let sound_it = sound_of (state setup es n) c.0 c.1 (x.all_sound n (omega arith)) in
           let last : last_of (leading.post_at c.0.stage) ≡ run.Finished = ap (λ (y : Lead). last_of y.post) c.2 ∙ (sym x.led.last_is ∙ f) in
-          i.last c.0 c.1 (leads.finishes c.0 sound_it last) a m
+          i.last c.0 c.1 (cited.leads.finishes c.0 sound_it last) a m
 
       gone_sleeps : (s : Stage) → s ≡ Gone → IsAwake s → ⊥
       gone_sleeps s e a = rw e at a
 
-      exact : (a : ℕ) (m : Processor) → a < n → state shapes l pacing may es a ≡ actor.Runs m → IsAwake (stage_of m) → IsExact (last_phase es) (words shapes l pacing may es) (party_of m).view
+      exact : (a : ℕ) (m : Processor) → a < n → state setup es a ≡ actor.Runs m → IsAwake (stage_of m) → IsExact (last_phase es) (words setup es) (party_of m).view
       exact a m lt e awake = record { phase_is = elim c.phase_is [ inl y ↦ y | inr y ↦ absurd (late y.0) ]; generation_is = c.generation_is; begun_is = c.begun_is } where
-        c : IsCurrent (last_phase es) (words shapes l pacing may es) (party_of m).view
+        c : IsCurrent (last_phase es) (words setup es) (party_of m).view
         c = x.views a (party_of m) (stage_of m) lt (ap place e) awake
 
         late : last_phase es ≡ run.Finished → ⊥
         late f =
-            let low : a < l.procs = subst (IsSeated l a) e (seated shapes l pacing es a) in
+            let low : a < setup.layout.procs = subst (IsSeated setup.layout a) e (seated setup es a) in
             gone_sleeps (stage_of m) ((x.gone a (party_of m) (stage_of m) lt (ap place e)).0 (left a low f)) awake
 
       -- where the world is stopped
-      stopped_lead : (c : coord.Coordinating) → state shapes l pacing may es n ≡ actor.Leads c → x.lead ≡ leading.lead_of c
+      stopped_lead : (c : coord.Coordinating) → state setup es n ≡ actor.Leads c → x.lead ≡ leading.lead_of c
       stopped_lead c e = let both : Leads x.lead ≡ Leads (leading.lead_of c) = sym x.leads ∙ ap place e in cc
 
-      parked : (c : coord.Coordinating) (phase : RunPhase) (a : ℕ) (p : Party) (s : Stage) → state shapes l pacing may es n ≡ actor.Leads c → leading.post_at c.stage ≡ Stopped phase → a < n → place (state shapes l pacing may es a) ≡ Acts p s → IsParked (leading.lead_of c).stops s
+      parked : (c : coord.Coordinating) (phase : RunPhase) (a : ℕ) (p : Party) (s : Stage) → state setup es n ≡ actor.Leads c → leading.post_at c.stage ≡ Stopped phase → a < n → place (state setup es a) ≡ Acts p s → IsParked (leading.lead_of c).stops s
       parked c phase a p s e post lt at =
           let same = stopped_lead c e in
           subst (λ (y : Lead). IsParked y.stops s) same (x.stopped phase a p s (ap (λ (y : Lead). y.post) same ∙ post) lt at)
@@ -122,11 +122,11 @@ module _ (shapes : List Shape) (l : Layout) (pacing : Pacing) (may : ℕ → Lis
       waits stops w _ e sound_it on p = absurd p
 
       -- who is awake is not where the world is stopped
-      running : (c : coord.Coordinating) (a : ℕ) (p : Party) (s : Stage) → state shapes l pacing may es n ≡ actor.Leads c → a < n → place (state shapes l pacing may es a) ≡ Acts p s → IsAwake s → (phase : RunPhase) → leading.post_at c.stage ≡ Stopped phase → ⊥
+      running : (c : coord.Coordinating) (a : ℕ) (p : Party) (s : Stage) → state setup es n ≡ actor.Leads c → a < n → place (state setup es a) ≡ Acts p s → IsAwake s → (phase : RunPhase) → leading.post_at c.stage ≡ Stopped phase → ⊥
       running c a p s e lt at awake phase post = awake_moves (leading.lead_of c).stops s awake (parked c phase a p s e post lt at)
 
       -- so it knows that marking is on exactly while a cycle is marked
-      marks_so : (c : coord.Coordinating) (a : ℕ) (p : Party) (s : Stage) → state shapes l pacing may es n ≡ actor.Leads c → a < n → place (state shapes l pacing may es a) ≡ Acts p s → IsAwake s → p.view.phase ≡ run.Mark ↔ leading.Marks c.stage
+      marks_so : (c : coord.Coordinating) (a : ℕ) (p : Party) (s : Stage) → state setup es n ≡ actor.Leads c → a < n → place (state setup es a) ≡ Acts p s → IsAwake s → p.view.phase ≡ run.Mark ↔ leading.Marks c.stage
       marks_so c a p s e lt at awake = (λ y. on.0 (sym last ∙ known.0 y), λ y. known.1 (last ∙ on.1 y)) where
         same : x.lead ≡ leading.lead_of c
         same = stopped_lead c e
@@ -135,7 +135,7 @@ module _ (shapes : List Shape) (l : Layout) (pacing : Pacing) (may : ℕ → Lis
         last = x.led.last_is ∙ ap (λ (y : Lead). last_of y.post) same
 
         on : last_of (leading.post_at c.stage) ≡ run.Mark ↔ leading.Marks c.stage
-        on = leads.marks_on c (sound_of (state shapes l pacing may es n) c e (x.all_sound n (omega arith))) (running c a p s e lt at awake)
+        on = cited.leads.marks_on c (sound_of (state setup es n) c e (x.all_sound n (omega arith))) (running c a p s e lt at awake)
 
         known : p.view.phase ≡ run.Mark ↔ (last_phase es ≡ run.Mark)
         known = reads (last_phase es) p.view.phase (x.views a p s lt at awake).phase_is
@@ -150,24 +150,24 @@ module _ (shapes : List Shape) (l : Layout) (pacing : Pacing) (may : ℕ → Lis
       marks_awake w work.Done m = absurd m
       marks_awake w _ m = (tt, refl)
 
-      marking : (c : coord.Coordinating) (a : ℕ) (w : worker.Working) → state shapes l pacing may es n ≡ actor.Leads c → a < n → state shapes l pacing may es a ≡ actor.Marks w → working.IsMarking w.stage → leading.Marks c.stage
+      marking : (c : coord.Coordinating) (a : ℕ) (w : worker.Working) → state setup es n ≡ actor.Leads c → a < n → state setup es a ≡ actor.Marks w → working.IsMarking w.stage → leading.Marks c.stage
       marking c a w e lt at m =
           let y = marks_awake w w.stage m in
           (marks_so c a (working.party_of w) (working.stage_of w) e lt (ap place at) y.0).0 (ap (λ (p : Party). p.view.phase) y.1 ∙ i.marks a w lt at m)
 
       -- a stop is behind a phase that is not the last
-      stop_goes_on : (c : coord.Coordinating) (phase : RunPhase) → state shapes l pacing may es n ≡ actor.Leads c → leading.post_at c.stage ≡ Stopped phase → last_phase es ≡ run.Finished → ⊥
+      stop_goes_on : (c : coord.Coordinating) (phase : RunPhase) → state setup es n ≡ actor.Leads c → leading.post_at c.stage ≡ Stopped phase → last_phase es ≡ run.Finished → ⊥
       stop_goes_on c phase e post f =
           let same = stopped_lead c e in
           let last : phase ≡ run.Finished = sym (ap last_of post) ∙ (ap (λ (y : Lead). last_of y.post) (sym same) ∙ (sym x.led.last_is ∙ f)) in
-          leads.stops_go_on c phase post last
+          cited.leads.stops_go_on c phase post last
 
-      waiting : (c : coord.Coordinating) (phase : RunPhase) (a : ℕ) (w : worker.Working) → state shapes l pacing may es n ≡ actor.Leads c → leading.post_at c.stage ≡ Stopped phase → a < n → state shapes l pacing may es a ≡ actor.Marks w → WaitsWithNone (leading.lead_of c).stops w
+      waiting : (c : coord.Coordinating) (phase : RunPhase) (a : ℕ) (w : worker.Working) → state setup es n ≡ actor.Leads c → leading.post_at c.stage ≡ Stopped phase → a < n → state setup es a ≡ actor.Marks w → WaitsWithNone (leading.lead_of c).stops w
       waiting c phase a w e post lt at =
-          let sound_it = worker_sound (state shapes l pacing may es a) w at (x.all_sound a (omega arith)) in
+          let sound_it = worker_sound (state setup es a) w at (x.all_sound a (omega arith)) in
           waits (leading.lead_of c).stops w w.stage refl sound_it (λ y. stop_goes_on c phase e post (i.leaves a w at y)) (parked c phase a (working.party_of w) (working.stage_of w) e post lt (ap place at))
 
-      pub keeps_it : KeepsIt (it shapes l pacing may) es
+      pub keeps_it : KeepsIt (it setup) es
       keeps_it = record {
         shakes = x;
         processors_know = exact;

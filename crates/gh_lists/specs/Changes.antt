@@ -1,5 +1,5 @@
 -- What a step is to the numbers of cycles: each leaves them, or it is the coordinator's that begins a cycle, ends its marking or tells that it is swept, and one number is one cycle later.
-use Rattle.std.proofs.Common.{◌≡◌, ℕ, suc, ◌+◌, ◌≤◌, Bool, List, ◌∷◌}
+use Rattle.std.proofs.Common.{◌≡◌, ℕ, suc, ◌+◌, ◌≤◌, List, ◌∷◌}
 use Rattle.gh_base.specs.declared.cell.Ask.TheVariants.{Store}
 use Rattle.gh_base.specs.declared.cell.Cell.TheVariants as cell
 use Rattle.gh_coord.specs.declared.close.CloseStage.TheVariants as close_stage
@@ -7,12 +7,12 @@ use Rattle.gh_coord.specs.Closing as close
 use Rattle.gh_coord.specs.Listing as coord
 use Rattle.gh_lists.specs.declared.handshake.Actor.TheVariants as actor
 use Rattle.gh_lists.specs.Lists.{IsTelling}
-use Rattle.gh_lists.specs.LemmaVocabulary.{Entry, Layout, Legal, Op, Shape, Words, Ask, Close, effect, generation_of, IsFew, opened_in, Pacing, part_of}
+use Rattle.gh_lists.specs.LemmaVocabulary.{Entry, Legal, Op, Words, Ask, Close, effect, generation_of, IsFew, opened_in, part_of}
 use Rattle.gh_lists.specs.Frames.{numbers_of}
 use Rattle.gh_lists.specs.Parts.{At, own_of}
 use Rattle.gh_base.specs.Lists.{state_of, words_after}
 use Rattle.gh_coord.specs.Stopping.{acks_of}
-use Rattle.gh_lists.specs.Handshake.{those}
+use Rattle.gh_lists.specs.Handshake.{those, Setup}
 
 -- whatever the words are, these three stay
 pub record Spares (ask : Ask) : Type 0 where
@@ -20,18 +20,18 @@ pub record Spares (ask : Ask) : Type 0 where
   pub begun : (w : Words) → effect w ask cell.Begun ≡ w cell.Begun
   pub swept : (w : Words) → effect w ask cell.Swept ≡ w cell.Swept
 
-module _ (shapes : List Shape) (l : Layout) (pacing : Pacing) (may : ℕ → List (Entry Op) → Op → Bool) where
+module _ (setup : Setup) where
   abbrev words : List (Entry Op) → Words
-  words es = words_after (those shapes l pacing may).opening es
+  words es = words_after (those setup).opening es
 
   -- the coordinator ends the marking of a cycle that has begun
   pub record Ends (e : Entry Op) (es : List (Entry Op)) : Type 0 where
     pub lead : coord.Coordinating
-    pub led : state_of (those shapes l pacing may).kind (acks_of l) es ≡ actor.Leads lead
+    pub led : state_of (those setup).kind (acks_of setup.layout) es ≡ actor.Leads lead
     pub closing_it : close.Closing
     pub at : lead.stage ≡ Close closing_it
     pub stores : closing_it.stage ≡ close_stage.StoreGen
-    pub actor_is : e.actor ≡ acks_of l
+    pub actor_is : e.actor ≡ acks_of setup.layout
     pub ask_is : e.ask ≡ Store cell.Gen (words es cell.Gen + 2)
     pub number : words es cell.Begun ≡ lead.begun
     pub gen : words es cell.Gen + 2 ≡ generation_of lead.begun
@@ -39,9 +39,9 @@ module _ (shapes : List Shape) (l : Layout) (pacing : Pacing) (may : ℕ → Lis
   -- it tells that a cycle is swept
   pub record Tells (e : Entry Op) (es : List (Entry Op)) : Type 0 where
     pub lead : coord.Coordinating
-    pub led : state_of (those shapes l pacing may).kind (acks_of l) es ≡ actor.Leads lead
+    pub led : state_of (those setup).kind (acks_of setup.layout) es ≡ actor.Leads lead
     pub telling_it : IsTelling lead.stage
-    pub actor_is : e.actor ≡ acks_of l
+    pub actor_is : e.actor ≡ acks_of setup.layout
     pub ask_is : e.ask ≡ Store cell.Swept (suc (words es cell.Swept))
     pub number : lead.begun ≡ suc (words es cell.Swept)
 
@@ -60,12 +60,12 @@ module _ (shapes : List Shape) (l : Layout) (pacing : Pacing) (may : ℕ → Lis
 -- In every legal list each step is one of these, and no number is ever less.
 
 abbrev pub EveryStepChangesNumbers : Type 0
-EveryStepChangesNumbers = (shapes : List Shape) (l : Layout) (pacing : Pacing) (may : ℕ → List (Entry Op) → Op → Bool) (e : Entry Op) (es : List (Entry Op)) → Legal (those shapes l pacing may) (e ∷ es) → IsFew es → Change shapes l pacing may e es
+EveryStepChangesNumbers = (setup : Setup) (e : Entry Op) (es : List (Entry Op)) → Legal (those setup) (e ∷ es) → IsFew es → Change setup e es
 
 abbrev pub NoNumberFalls : Type 0
-NoNumberFalls = (shapes : List Shape) (l : Layout) (pacing : Pacing) (may : ℕ → List (Entry Op) → Op → Bool) (e : Entry Op) (es : List (Entry Op)) → Legal (those shapes l pacing may) (e ∷ es) → IsFew es → Rises shapes l pacing may e es
+NoNumberFalls = (setup : Setup) (e : Entry Op) (es : List (Entry Op)) → Legal (those setup) (e ∷ es) → IsFew es → Rises setup e es
 
 -- The numbers after the list, and the coordinator's own, are those of the part of the cycle that it is in.
 abbrev pub EveryListHasItsNumbers : Type 0
-EveryListHasItsNumbers = (shapes : List Shape) (l : Layout) (pacing : Pacing) (may : ℕ → List (Entry Op) → Op → Bool) (es : List (Entry Op)) (c : coord.Coordinating) → Legal (those shapes l pacing may) es → IsFew es → state_of (those shapes l pacing may).kind (acks_of l) es ≡ actor.Leads c →
-    At pacing.room (opened_in es) (numbers_of (words_after (those shapes l pacing may).opening es)) (own_of c) (part_of c.stage)
+EveryListHasItsNumbers = (setup : Setup) (es : List (Entry Op)) (c : coord.Coordinating) → Legal (those setup) es → IsFew es → state_of (those setup).kind (acks_of setup.layout) es ≡ actor.Leads c →
+    At setup.pacing.room (opened_in es) (numbers_of (words_after (those setup).opening es)) (own_of c) (part_of c.stage)

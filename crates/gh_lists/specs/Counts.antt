@@ -10,10 +10,10 @@ use Rattle.gh_coord.specs.declared.tell.TellStage.{TellStage}
 use Rattle.gh_coord.specs.declared.tell.TellStage.TheVariants.{StoreSwept, StoreTrigger}
 use Rattle.gh_coord.specs.Handshake as leading
 use Rattle.gh_lists.specs.declared.handshake.Actor.TheVariants as actor
-use Rattle.gh_lists.specs.Handshake.{Pacing, those}
+use Rattle.gh_lists.specs.Handshake.{those, Setup}
 use Rattle.gh_lists.specs.Marking.{IsBeginning}
 use Rattle.gh_lists.specs.Numbers.{IsFew, KeepsCycles}
-use Rattle.gh_lists.specs.Vocabulary.{acks_of, Actor, Coordinating, CoordStage, Entry, Layout, Legal, Op, Setting, Shape, state_of, Words, words_after}
+use Rattle.gh_lists.specs.Vocabulary.{acks_of, Actor, Coordinating, CoordStage, Entry, Legal, Op, Setting, state_of, Words, words_after}
 
 -- the step stores this word
 abbrev pub stores : Cell → Ask → Bool
@@ -59,5 +59,5 @@ module _ (s : Setting Actor Op) (room : ℕ) (es : List (Entry Op)) (c : Coordin
     pub kept : KeepsCycles room (stored_in cell.Swept es + about_to_tell c.stage) c.cycles
 
 abbrev pub EveryListCountsPlainly : Type 0
-EveryListCountsPlainly = (shapes : List Shape) (l : Layout) (pacing : Pacing) (may_begin : ℕ → List (Entry Op) → Op → Bool) (es : List (Entry Op)) (c : Coordinating) →
-    Legal (those shapes l pacing may_begin) es → IsFew es → state_of (those shapes l pacing may_begin).kind (acks_of l) es ≡ actor.Leads c → CountsPlainly (those shapes l pacing may_begin) pacing.room es c
+EveryListCountsPlainly = (setup : Setup) (es : List (Entry Op)) (c : Coordinating) →
+    Legal (those setup) es → IsFew es → state_of (those setup).kind (acks_of setup.layout) es ≡ actor.Leads c → CountsPlainly (those setup) setup.pacing.room es c

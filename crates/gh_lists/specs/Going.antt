@@ -11,8 +11,9 @@ use Rattle.gh_coord.specs.SweepingAll as sweep
 use Rattle.gh_coord.specs.Telling as tell
 use Rattle.gh_coord.specs.Watching as watch
 use Rattle.gh_lists.specs.declared.handshake.Actor.TheVariants as actor
-use Rattle.gh_lists.specs.LemmaVocabulary.{acks_of, Actor, actors_after, after_check, after_close, after_count, after_open, after_stop, after_stop_again, after_sweep, after_tell, after_watch, All, arena, at_stage, Check, Close, CloseStage, Coordinating, CoordStage, Count, Counted, counted, Done, Entry, goes, goes_at, GONE, IsLed, Layout, LoadAck, LoadWant, MarkOn, nat_lt, nat_tests, NotYet, Op, Open, Pacing, Shape, Stop, StopAgain, stops_world, Sweep, Tell, Watch, Watched}
+use Rattle.gh_lists.specs.LemmaVocabulary.{acks_of, Actor, actors_after, after_check, after_close, after_count, after_open, after_stop, after_stop_again, after_sweep, after_tell, after_watch, All, arena, at_stage, Check, Close, CloseStage, Coordinating, CoordStage, Count, Counted, counted, Done, Entry, goes, goes_at, GONE, IsLed, LoadAck, LoadWant, MarkOn, nat_lt, nat_tests, NotYet, Op, Open, Stop, StopAgain, stops_world, Sweep, Tell, Watch, Watched}
 use Rattle.gh_lists.specs.Seats.{leads, other}
+use Rattle.gh_lists.specs.Handshake.{Setup}
 
 -- where it ends marking it has a step to make
 abbrev pub IsGoing : CoordStage → Type 0
@@ -166,24 +167,24 @@ no_acks u _ found on = tt
 pub last_was : (u : Coordinating) (p : CoordStage) (found : ℕ) → leading.Marks (goes_at u p found).stage → (goes_at u p found).is_last ≡ true → u.is_last ≡ true
 last_was u p found on is = sym (keeps_last u p found (no_acks u p found on)) ∙ is
 
-module _ (shapes : List Shape) (l : Layout) (pacing : Pacing) (may : ℕ → List (Entry Op) → Op → Bool) where
+module _ (setup : Setup) where
   abbrev n : ℕ
-  n = acks_of l
+  n = acks_of setup.layout
 
   abbrev at : List (Entry Op) → ℕ → Actor
-  at es a = actors_after (arena shapes l pacing may) pacing may es a
+  at es a = actors_after (arena setup) setup.pacing setup.may es a
 
   -- who is at the coordinator's seat
   pub record IsLedThen (es : List (Entry Op)) : Type 0 where
     pub lead : Coordinating
-    pub led_by : IsLed shapes l pacing may es lead
+    pub led_by : IsLed setup es lead
     pub going : IsGoing lead.stage
 
   -- at the begin
   abbrev opening : Coordinating
-  opening = coord.opening l n pacing.gogc pacing.minheap pacing.room
+  opening = coord.opening setup.layout n setup.pacing.gogc setup.pacing.minheap setup.pacing.room
 
-  no_processor : ltb n l.procs ≡ false
+  no_processor : ltb n setup.layout.procs ≡ false
   no_processor = grind (arith, nat_tests)
 
   no_worker : ltb n n ≡ false
@@ -198,12 +199,12 @@ module _ (shapes : List Shape) (l : Layout) (pacing : Pacing) (may : ℕ → Lis
   one_more : (e : Entry Op) (es : List (Entry Op)) → IsLedThen es → IsLedThen (e ∷ es)
   one_more e es x = go (e.actor == n) refl where
     go : (b : Bool) → (e.actor == n) ≡ b → IsLedThen (e ∷ es)
-    go false b = record { lead = x.lead; led_by = other shapes l pacing e es n b ∙ x.led_by; going = x.going }
+    go false b = record { lead = x.lead; led_by = other setup e es n b ∙ x.led_by; going = x.going }
     go true b =
         let end : e.actor ≡ n = grind (arith, nat_tests) in
         record {
           lead = goes x.lead e.found;
-          led_by = sym (ap (at (e ∷ es)) end) ∙ leads shapes l pacing e es x.lead (ap (at es) end ∙ x.led_by);
+          led_by = sym (ap (at (e ∷ es)) end) ∙ leads setup e es x.lead (ap (at es) end ∙ x.led_by);
           going = goes_on (counted x.lead) x.lead.stage e.found x.going;
         }
 
@@ -211,5 +212,5 @@ module _ (shapes : List Shape) (l : Layout) (pacing : Pacing) (may : ℕ → Lis
   led_then [] = first
   led_then (e ∷ es) = one_more e es (led_then es)
 
-  pub goes_then : (es : List (Entry Op)) (c : Coordinating) → IsLed shapes l pacing may es c → IsGoing c.stage
+  pub goes_then : (es : List (Entry Op)) (c : Coordinating) → IsLed setup es c → IsGoing c.stage
   goes_then es c led = let x = led_then es in let both : actor.Leads x.lead ≡ actor.Leads c = sym x.led_by ∙ led in let same : x.lead ≡ c = cc in subst (λ (d : Coordinating). IsGoing d.stage) same x.going

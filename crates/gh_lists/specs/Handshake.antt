@@ -38,6 +38,13 @@ pub record Pacing : Type 0 where
   pub room : ℕ
   pub trigger : ℕ
 
+-- what no step of a heap changes: the types of its objects, its layout, the coordinator's numbers, and what a processor may begin
+pub record Setup : Type 0 where
+  pub shapes : List Shape
+  pub layout : Layout
+  pub pacing : Pacing
+  pub may : ℕ → List (Entry Op) → Op → Bool
+
 -- the actor at each seat: the processors, the workers, the coordinator
 abbrev pub start : (l : Layout) (pacing : Pacing) → (a : ℕ) → Actor
 start l pacing a =
@@ -66,12 +73,12 @@ is_busy (actor.Runs m) = mutator.is_busy_at m.task
 is_busy (actor.Marks w) = worker.is_busy w.stage
 is_busy (actor.Leads c) = coord.is_busy c.stage
 
-abbrev pub actors : (shapes : List Shape) (l : Layout) (pacing : Pacing) → Kind Actor Op
-actors shapes l pacing = record { start = start l pacing; begins = begins shapes l; asks = asks; takes = takes shapes; busy = is_busy }
+abbrev pub actors : Setup → Kind Actor Op
+actors setup = record { start = start setup.layout setup.pacing; begins = begins setup.shapes setup.layout; asks = asks; takes = takes setup.shapes; busy = is_busy }
 
 -- The lists of all actors of a heap, by what a processor may begin.
-abbrev pub those : (shapes : List Shape) (l : Layout) (pacing : Pacing) (may_begin : ℕ → List (Entry Op) → Op → Bool) → Setting Actor Op
-those shapes l pacing may_begin = record { kind = actors shapes l pacing; layout = l; actors = seats_of l; opening = opening_words pacing.trigger; may_begin = may_begin }
+abbrev pub those : Setup → Setting Actor Op
+those setup = record { kind = actors setup; layout = setup.layout; actors = seats_of setup.layout; opening = opening_words setup.pacing.trigger; may_begin = setup.may }
 
 -- where each stands
 abbrev pub place_of : Actor → Place
@@ -119,7 +126,7 @@ pub record KeepsIt (s : Setting Actor Op) (es : List (Entry Op)) : Type 0 where
   pub processors_gone : (c : coord.Coordinating) → state_of s.kind (acks_of s.layout) es ≡ actor.Leads c → c.is_last ≡ true → (a : ℕ) → a < s.layout.procs → words_after s.opening es (cell.Ack a) ≡ GONE
 
 abbrev pub EveryListKeepsIt : Type 0
-EveryListKeepsIt = (shapes : List Shape) (l : Layout) (pacing : Pacing) (may_begin : ℕ → List (Entry Op) → Op → Bool) (es : List (Entry Op)) → Legal (those shapes l pacing may_begin) es → KeepsIt (those shapes l pacing may_begin) es
+EveryListKeepsIt = (setup : Setup) (es : List (Entry Op)) → Legal (those setup) es → KeepsIt (those setup) es
 
 -- what one entry more leaves: who is gone, the last phase, and in a stopped world every place but the coordinator's
 pub record StepKeepsIt (s : Setting Actor Op) (e : Entry Op) (es : List (Entry Op)) : Type 0 where
@@ -128,4 +135,4 @@ pub record StepKeepsIt (s : Setting Actor Op) (e : Entry Op) (es : List (Entry O
   pub still : NobodyMoves s (acks_of s.layout) place_of e es
 
 abbrev pub EveryStepKeepsIt : Type 0
-EveryStepKeepsIt = (shapes : List Shape) (l : Layout) (pacing : Pacing) (may_begin : ℕ → List (Entry Op) → Op → Bool) (e : Entry Op) (es : List (Entry Op)) → Legal (those shapes l pacing may_begin) (e ∷ es) → StepKeepsIt (those shapes l pacing may_begin) e es
+EveryStepKeepsIt = (setup : Setup) (e : Entry Op) (es : List (Entry Op)) → Legal (those setup) (e ∷ es) → StepKeepsIt (those setup) e es

@@ -9,7 +9,7 @@ use Rattle.gh_coord.specs.declared.tell.TellStage.TheVariants.{StoreSwept}
 use Rattle.gh_coord.specs.Listing.{Coordinating}
 use Rattle.gh_coord.specs.Stopping.{acks_of}
 use Rattle.gh_heap.specs.Rights.{Arena}
-use Rattle.gh_lists.specs.Handshake.{Pacing, those}
+use Rattle.gh_lists.specs.Handshake.{Pacing, those, Setup}
 use Rattle.gh_lists.specs.Marking.{IsBeginning, IsLedBy}
 use Rattle.gh_lists.specs.Processors.{arena_of, ever_after_list, may_begin}
 use Rattle.gh_lists.specs.Wants.{AreFew, total}
@@ -28,25 +28,35 @@ IsTelling _ = ⊥
 abbrev pub may_of : List Shape → Layout → (counts : ℕ → ℕ) → ℕ → List (Entry Op) → Op → Bool
 may_of shapes l counts a es o = may_begin (arena_of shapes l) counts a (state_of (processor_kind shapes l) a es) es o
 
--- A heap of these shapes.
-module _ (shapes : List Shape) (l : Layout) (pacing : Pacing) (may : ℕ → List (Entry Op) → Op → Bool) where
+-- what no step of a heap changes whose goroutines begin at most so many `new` and `gc`
+pub record Given : Type 0 where
+  pub shapes : List Shape
+  pub layout : Layout
+  pub pacing : Pacing
+  pub counts : ℕ → ℕ
+
+abbrev pub setup_for : Given → Setup
+setup_for given = record { shapes = given.shapes; layout = given.layout; pacing = given.pacing; may = may_of given.shapes given.layout given.counts }
+
+-- A heap that is set up so.
+module _ (setup : Setup) where
   abbrev pub arena : Arena
-  arena = arena_of shapes l
+  arena = arena_of setup.shapes setup.layout
 
   abbrev pub words : List (Entry Op) → Words
-  words es = words_after (opening_words pacing.trigger) es
+  words es = words_after (opening_words setup.pacing.trigger) es
 
   abbrev pub ever : List (Entry Op) → Ever
-  ever es = ever_after_list arena (opening_words pacing.trigger) es
+  ever es = ever_after_list arena (opening_words setup.pacing.trigger) es
 
   abbrev pub IsLed : List (Entry Op) → Coordinating → Type 0
-  IsLed es c = IsLedBy arena pacing may es c
+  IsLed es c = IsLedBy arena setup.pacing setup.may es c
 
   -- The entry behind this list is the coordinator's, at such a stage of this cycle.
   pub record IsStepIn (at : CoordStage → Type 0) (k : ℕ) (e : Entry Op) (es : List (Entry Op)) : Type 0 where
     pub lead : Coordinating
     pub led : IsLed es lead
-    pub by : e.actor ≡ acks_of l
+    pub by : e.actor ≡ acks_of setup.layout
     pub stage : at lead.stage
     pub cycle : lead.begun ≡ k
 
@@ -66,4 +76,4 @@ module _ (shapes : List Shape) (l : Layout) (pacing : Pacing) (may : ℕ → Lis
 
 -- No more cycles are opened in a list than twice as many as goroutines may begin `new` and `gc`, and the last.
 abbrev pub EveryListOpensFew : Type 0
-EveryListOpensFew = (shapes : List Shape) (l : Layout) (pacing : Pacing) (counts : ℕ → ℕ) (es : List (Entry Op)) → total counts l.goroutines ≤ MOST_STATEMENTS → Legal (those shapes l pacing (may_of shapes l counts)) es → AreFew counts l es
+EveryListOpensFew = (given : Given) (es : List (Entry Op)) → total given.counts given.layout.goroutines ≤ MOST_STATEMENTS → Legal (those (setup_for given)) es → AreFew given.counts given.layout es

@@ -17,7 +17,7 @@ use Rattle.gh_coord.specs.Listing as coord
 use Rattle.gh_coord.specs.Stopping.{acks_of}
 use Rattle.gh_lists.specs.declared.handshake.Actor.{Actor}
 use Rattle.gh_lists.specs.declared.handshake.Actor.TheVariants as actor
-use Rattle.gh_lists.specs.Handshake.{Pacing, those}
+use Rattle.gh_lists.specs.Handshake.{Pacing, Setup, those}
 
 -- its next step stores the phase of marking: with that a cycle begins
 abbrev pub IsBeginning : CoordStage → Type 0
@@ -46,8 +46,11 @@ IsStartOf start (e ∷ es) = (start ≡ e ∷ es) ⊎ IsStartOf start es
 
 -- The lists of a heap.
 module _ (arena : Arena) (pacing : Pacing) (may_begin : ℕ → List (Entry Op) → Op → Bool) where
+  abbrev pub setup_in : Setup
+  setup_in = record { shapes = arena.shapes; layout = arena.layout; pacing = pacing; may = may_begin }
+
   abbrev pub setting : Setting Actor Op
-  setting = those arena.shapes arena.layout pacing may_begin
+  setting = those setup_in
 
   -- all actors, the coordinator, and the words, after the list
   abbrev pub actors_after : List (Entry Op) → ℕ → Actor

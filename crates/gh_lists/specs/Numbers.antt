@@ -11,9 +11,9 @@ use Rattle.gh_coord.specs.declared.tell.TellStage.{TellStage}
 use Rattle.gh_coord.specs.declared.tell.TellStage.TheVariants as tell_stage
 use Rattle.gh_coord.specs.Handshake as leading
 use Rattle.gh_lists.specs.declared.handshake.Actor.TheVariants as actor
-use Rattle.gh_lists.specs.Handshake.{Pacing, those}
+use Rattle.gh_lists.specs.Handshake.{those, Setup}
 use Rattle.gh_lists.specs.Marking.{IsBeginning}
-use Rattle.gh_lists.specs.Vocabulary.{acks_of, Actor, CoordStage, Coordinating, Cycle, Entry, Kept, Layout, Legal, Op, OpenStage, Setting, Shape, state_of, Words, words_after}
+use Rattle.gh_lists.specs.Vocabulary.{acks_of, Actor, CoordStage, Coordinating, Cycle, Entry, Kept, Legal, Op, OpenStage, Setting, state_of, Words, words_after}
 
 -- Where the coordinator is in a cycle.
 
@@ -140,5 +140,5 @@ module _ (s : Setting Actor Op) (room : ℕ) (es : List (Entry Op)) (c : Coordin
     pub cycles : KeepsCycles room (words cell.Swept + ahead.kept) c.cycles
 
 abbrev pub EveryListCountsCycles : Type 0
-EveryListCountsCycles = (shapes : List Shape) (l : Layout) (pacing : Pacing) (may_begin : ℕ → List (Entry Op) → Op → Bool) (es : List (Entry Op)) (c : Coordinating) →
-    Legal (those shapes l pacing may_begin) es → IsFew es → state_of (those shapes l pacing may_begin).kind (acks_of l) es ≡ actor.Leads c → CountsCycles (those shapes l pacing may_begin) pacing.room es c
+EveryListCountsCycles = (setup : Setup) (es : List (Entry Op)) (c : Coordinating) →
+    Legal (those setup) es → IsFew es → state_of (those setup).kind (acks_of setup.layout) es ≡ actor.Leads c → CountsCycles (those setup) setup.pacing.room es c

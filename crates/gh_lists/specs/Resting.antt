@@ -11,85 +11,85 @@ use Rattle.gh_worker.specs.Listing as worker
 use Rattle.gh_lists.specs.declared.handshake.Actor.{Actor}
 use Rattle.gh_lists.specs.declared.handshake.Actor.TheVariants as actor
 use Rattle.gh_lists.specs.Lists.{arena, ever}
-use Rattle.gh_lists.specs.Handshake.{actors, is_busy, Pacing, takes as takes_actor, those}
-use Rattle.gh_lists.specs.LemmaVocabulary.{acks_of, actors_after, answers_of, Entry, given_of, Layout, Legal, Op, opening_words, Processor, Shape, started, state_of}
+use Rattle.gh_lists.specs.Handshake.{actors, is_busy, takes as takes_actor, those, Setup}
+use Rattle.gh_lists.specs.LemmaVocabulary.{acks_of, actors_after, answers_of, Entry, given_of, Legal, Op, opening_words, Processor, started, state_of}
 use Rattle.gh_lists.specs.Seats.{IsSeated, run_started, seated}
 
-module _ (shapes : List Shape) (l : Layout) (pacing : Pacing) (may : ℕ → List (Entry Op) → Op → Bool) where
+module _ (setup : Setup) where
   abbrev at : List (Entry Op) → ℕ → Actor
-  at es a = actors_after (arena shapes l pacing may) pacing may es a
+  at es a = actors_after (arena setup) setup.pacing setup.may es a
 
   -- who is no processor begins nothing
-  nothing_begins : (o : Option Op) (x : Actor) → ((m : Processor) → x ≢ actor.Runs m) → is_busy (started (actors shapes l pacing) o x) ≡ true →
+  nothing_begins : (o : Option Op) (x : Actor) → ((m : Processor) → x ≢ actor.Runs m) → is_busy (started (actors setup) o x) ≡ true →
       (y : Op) → o ≡ Some y → is_busy x ≡ false → ⊥
   nothing_begins None x other runs y e idle = absurd cc
   nothing_begins (Some o) (actor.Runs m) other runs y e idle = absurd (other m refl)
   nothing_begins (Some o) (actor.Marks w) other runs y e idle = absurd (let both : true ≡ false = sym runs ∙ idle in cc)
   nothing_begins (Some o) (actor.Leads c) other runs y e idle = absurd (let both : true ≡ false = sym runs ∙ idle in cc)
 
-  pub begins_none : (a : ℕ) (es : List (Entry Op)) (o : Option Op) → l.procs ≤ a → Begins (those shapes l pacing may) a es o → is_busy (started (actors shapes l pacing) o (at es a)) ≡ true → o ≡ None
+  pub begins_none : (a : ℕ) (es : List (Entry Op)) (o : Option Op) → setup.layout.procs ≤ a → Begins (those setup) a es o → is_busy (started (actors setup) o (at es a)) ≡ true → o ≡ None
   begins_none a es None ge begins runs = refl
   begins_none a es (Some y) ge begins runs = absurd (nothing_begins (Some y) (at es a) no_processor runs y refl begins.0) where
     no_processor : (m : Processor) → at es a ≢ actor.Runs m
-    no_processor m is = absurd (let lt : a < l.procs = subst (IsSeated l a) is (seated shapes l pacing es a) in omega (arith, lt, ge))
+    no_processor m is = absurd (let lt : a < setup.layout.procs = subst (IsSeated setup.layout a) is (seated setup es a) in omega (arith, lt, ge))
 
-  module _ (e : Entry Op) (es : List (Entry Op)) (legal : Legal (those shapes l pacing may) (e ∷ es)) (ge : l.procs ≤ e.actor) where
+  module _ (e : Entry Op) (es : List (Entry Op)) (legal : Legal (those setup) (e ∷ es)) (ge : setup.layout.procs ≤ e.actor) where
     pub begins_nothing : e.begun ≡ None
     begins_nothing = begins_none e.actor es e.begun ge legal.1.begins legal.1.runs
 
     -- the step of a worker or of the coordinator
-    pub rests_on : state_of (processor_kind shapes l) e.actor es ≡ opening_processor l e.actor → before_step (processor_kind shapes l) (deeds shapes) es e ≡ opening_processor l e.actor
-    rests_on is = ap (λ (o : Option Op). started (processor_kind shapes l) o (state_of (processor_kind shapes l) e.actor es)) begins_nothing ∙ is
+    pub rests_on : state_of (processor_kind setup.shapes setup.layout) e.actor es ≡ opening_processor setup.layout e.actor → before_step (processor_kind setup.shapes setup.layout) (deeds setup.shapes) es e ≡ opening_processor setup.layout e.actor
+    rests_on is = ap (λ (o : Option Op). started (processor_kind setup.shapes setup.layout) o (state_of (processor_kind setup.shapes setup.layout) e.actor es)) begins_nothing ∙ is
 
   -- a processor that nobody is rests
-  still : (e : Entry Op) (es : List (Entry Op)) → Legal (those shapes l pacing may) (e ∷ es) → (a : ℕ) → l.procs ≤ a → state_of (processor_kind shapes l) a es ≡ opening_processor l a → state_of (processor_kind shapes l) a (e ∷ es) ≡ opening_processor l a
+  still : (e : Entry Op) (es : List (Entry Op)) → Legal (those setup) (e ∷ es) → (a : ℕ) → setup.layout.procs ≤ a → state_of (processor_kind setup.shapes setup.layout) a es ≡ opening_processor setup.layout a → state_of (processor_kind setup.shapes setup.layout) a (e ∷ es) ≡ opening_processor setup.layout a
   still e es legal a ge before = go (e.actor == a) refl where
-    go : (b : Bool) → (e.actor == a) ≡ b → cond b ((processor_kind shapes l).takes (started (processor_kind shapes l) e.begun (state_of (processor_kind shapes l) a es)) e.found) (state_of (processor_kind shapes l) a es) ≡ opening_processor l a
+    go : (b : Bool) → (e.actor == a) ≡ b → cond b ((processor_kind setup.shapes setup.layout).takes (started (processor_kind setup.shapes setup.layout) e.begun (state_of (processor_kind setup.shapes setup.layout) a es)) e.found) (state_of (processor_kind setup.shapes setup.layout) a es) ≡ opening_processor setup.layout a
     go false x = before
     go true x =
         let same : e.actor ≡ a = grind (arith, nat_tests) in
-        let none : e.begun ≡ None = begins_nothing e es legal (subst (λ (y : ℕ). l.procs ≤ y) (sym same) ge) in
-        ap (λ (o : Option Op). (processor_kind shapes l).takes (started (processor_kind shapes l) o (state_of (processor_kind shapes l) a es)) e.found) none ∙ ap (λ (m : Processor). (processor_kind shapes l).takes m e.found) before
+        let none : e.begun ≡ None = begins_nothing e es legal (subst (λ (y : ℕ). setup.layout.procs ≤ y) (sym same) ge) in
+        ap (λ (o : Option Op). (processor_kind setup.shapes setup.layout).takes (started (processor_kind setup.shapes setup.layout) o (state_of (processor_kind setup.shapes setup.layout) a es)) e.found) none ∙ ap (λ (m : Processor). (processor_kind setup.shapes setup.layout).takes m e.found) before
 
-  pub rests : (es : List (Entry Op)) → Legal (those shapes l pacing may) es → (a : ℕ) → l.procs ≤ a → state_of (processor_kind shapes l) a es ≡ opening_processor l a
+  pub rests : (es : List (Entry Op)) → Legal (those setup) es → (a : ℕ) → setup.layout.procs ≤ a → state_of (processor_kind setup.shapes setup.layout) a es ≡ opening_processor setup.layout a
   rests [] legal a ge = refl
   rests (e ∷ es) legal a ge = still e es legal a ge (rests es legal.0 a ge)
 
   -- so the heap that never frees stays where another steps than a processor
-  pub ever_stays : OnlyPointsChange → (e : Entry Op) (es : List (Entry Op)) → Legal (those shapes l pacing may) (e ∷ es) → l.procs ≤ e.actor → ever shapes l pacing may (e ∷ es) ≡ ever shapes l pacing may es
+  pub ever_stays : OnlyPointsChange → (e : Entry Op) (es : List (Entry Op)) → Legal (those setup) (e ∷ es) → setup.layout.procs ≤ e.actor → ever setup (e ∷ es) ≡ ever setup es
   ever_stays points e es legal ge =
-      (points shapes l).follows es e ∙ ap (λ (m : Processor). acted shapes (ever shapes l pacing may es) (acts m e.found)) (rests_on e es legal ge (rests es legal.0 e.actor ge))
+      (points setup.shapes setup.layout).follows es e ∙ ap (λ (m : Processor). acted setup.shapes (ever setup es) (acts m e.found)) (rests_on e es legal ge (rests es legal.0 e.actor ge))
 
   -- What the entries of others leave of what an actor's own say.
   module _ (e : Entry Op) (es : List (Entry Op)) (a : ℕ) (other : (e.actor == a) ≡ false) where
-    pub answers_stay : answers_of (arena shapes l pacing may) (opening_words pacing.trigger) a (e ∷ es) ≡ answers_of (arena shapes l pacing may) (opening_words pacing.trigger) a es
+    pub answers_stay : answers_of (arena setup) (opening_words setup.pacing.trigger) a (e ∷ es) ≡ answers_of (arena setup) (opening_words setup.pacing.trigger) a es
     answers_stay = rw other refl
 
-    pub given_stay : given_of (arena shapes l pacing may) (opening_words pacing.trigger) a (e ∷ es) ≡ given_of (arena shapes l pacing may) (opening_words pacing.trigger) a es
+    pub given_stay : given_of (arena setup) (opening_words setup.pacing.trigger) a (e ∷ es) ≡ given_of (arena setup) (opening_words setup.pacing.trigger) a es
     given_stay = rw other refl
 
-    pub state_stays : state_of (processor_kind shapes l) a (e ∷ es) ≡ state_of (processor_kind shapes l) a es
+    pub state_stays : state_of (processor_kind setup.shapes setup.layout) a (e ∷ es) ≡ state_of (processor_kind setup.shapes setup.layout) a es
     state_stays = rw other refl
 
     pub own_stay : by a (e ∷ es) ≡ by a es
     own_stay = rw other refl
 
   -- At a processor's seat.
-  runs_first : (a : ℕ) → a < l.procs → at [] a ≡ actor.Runs (opening_processor l a)
-  runs_first a lt = go (ltb a l.procs) refl where
-    go : (b : Bool) → ltb a l.procs ≡ b → cond b (actor.Runs (opening_processor l a)) (cond (ltb a (acks_of l)) (actor.Marks (worker.opening l a)) (actor.Leads (coord.opening l a pacing.gogc pacing.minheap pacing.room))) ≡ actor.Runs (opening_processor l a)
+  runs_first : (a : ℕ) → a < setup.layout.procs → at [] a ≡ actor.Runs (opening_processor setup.layout a)
+  runs_first a lt = go (ltb a setup.layout.procs) refl where
+    go : (b : Bool) → ltb a setup.layout.procs ≡ b → cond b (actor.Runs (opening_processor setup.layout a)) (cond (ltb a (acks_of setup.layout)) (actor.Marks (worker.opening setup.layout a)) (actor.Leads (coord.opening setup.layout a setup.pacing.gogc setup.pacing.minheap setup.pacing.room))) ≡ actor.Runs (opening_processor setup.layout a)
     go true x = refl
     go false x = absurd (grind (arith, nat_tests))
 
-  runs_on : (e : Entry Op) (es : List (Entry Op)) (a : ℕ) → at es a ≡ actor.Runs (state_of (processor_kind shapes l) a es) → at (e ∷ es) a ≡ actor.Runs (state_of (processor_kind shapes l) a (e ∷ es))
+  runs_on : (e : Entry Op) (es : List (Entry Op)) (a : ℕ) → at es a ≡ actor.Runs (state_of (processor_kind setup.shapes setup.layout) a es) → at (e ∷ es) a ≡ actor.Runs (state_of (processor_kind setup.shapes setup.layout) a (e ∷ es))
   runs_on e es a is = go (e.actor == a) refl where
-    go : (b : Bool) → (e.actor == a) ≡ b → cond b (takes_actor shapes (started (actors shapes l pacing) e.begun (at es a)) e.found) (at es a) ≡ actor.Runs (cond b ((processor_kind shapes l).takes (started (processor_kind shapes l) e.begun (state_of (processor_kind shapes l) a es)) e.found) (state_of (processor_kind shapes l) a es))
+    go : (b : Bool) → (e.actor == a) ≡ b → cond b (takes_actor setup.shapes (started (actors setup) e.begun (at es a)) e.found) (at es a) ≡ actor.Runs (cond b ((processor_kind setup.shapes setup.layout).takes (started (processor_kind setup.shapes setup.layout) e.begun (state_of (processor_kind setup.shapes setup.layout) a es)) e.found) (state_of (processor_kind setup.shapes setup.layout) a es))
     go false x = is
-    go true x = ap (λ (y : Actor). takes_actor shapes y e.found) (ap (started (actors shapes l pacing) e.begun) is ∙ run_started shapes l pacing e.begun (state_of (processor_kind shapes l) a es))
+    go true x = ap (λ (y : Actor). takes_actor setup.shapes y e.found) (ap (started (actors setup) e.begun) is ∙ run_started setup e.begun (state_of (processor_kind setup.shapes setup.layout) a es))
 
-  pub runs_are : (es : List (Entry Op)) (a : ℕ) → a < l.procs → at es a ≡ actor.Runs (state_of (processor_kind shapes l) a es)
+  pub runs_are : (es : List (Entry Op)) (a : ℕ) → a < setup.layout.procs → at es a ≡ actor.Runs (state_of (processor_kind setup.shapes setup.layout) a es)
   runs_are [] a lt = runs_first a lt
   runs_are (e ∷ es) a lt = runs_on e es a (runs_are es a lt)
 
-  pub run_is : (es : List (Entry Op)) (a : ℕ) (m : Processor) → a < l.procs → at es a ≡ actor.Runs m → state_of (processor_kind shapes l) a es ≡ m
-  run_is es a m lt is = let both : actor.Runs (state_of (processor_kind shapes l) a es) ≡ actor.Runs m = sym (runs_are es a lt) ∙ is in cc
+  pub run_is : (es : List (Entry Op)) (a : ℕ) (m : Processor) → a < setup.layout.procs → at es a ≡ actor.Runs m → state_of (processor_kind setup.shapes setup.layout) a es ≡ m
+  run_is es a m lt is = let both : actor.Runs (state_of (processor_kind setup.shapes setup.layout) a es) ≡ actor.Runs m = sym (runs_are es a lt) ∙ is in cc

@@ -4,7 +4,6 @@ use Rattle.std.proofs.lemmas.Bool.Decides.{nat_tests}
 use Rattle.gh_base.specs.declared.layout.Layout.{Layout}
 use Rattle.gh_base.specs.declared.machine.Entry.{Entry}
 use Rattle.gh_base.specs.declared.operation.Op.{Op}
-use Rattle.gh_base.specs.declared.shape.Shape.{Shape}
 use Rattle.gh_base.specs.Lists.{Kind, started, state_of}
 use Rattle.gh_coord.specs.Stays as coord_ends
 use Rattle.gh_coord.specs.Listing as coord
@@ -15,7 +14,7 @@ use Rattle.gh_worker.specs.Stays as worker_ends
 use Rattle.gh_worker.specs.Listing as worker
 use Rattle.gh_lists.specs.declared.handshake.Actor.{Actor}
 use Rattle.gh_lists.specs.declared.handshake.Actor.TheVariants as actor
-use Rattle.gh_lists.specs.Handshake.{actors, Pacing, start, takes}
+use Rattle.gh_lists.specs.Handshake.{actors, start, takes, Setup}
 
 -- processors, then workers, then the coordinator, each with the heap's layout
 abbrev pub IsSeated : Layout → (a : ℕ) → Actor → Type 0
@@ -23,12 +22,12 @@ IsSeated l a (actor.Runs m) = a < l.procs
 IsSeated l a (actor.Marks w) = (l.procs ≤ a) × (a < acks_of l) × (w.layout ≡ l)
 IsSeated l a (actor.Leads c) = (acks_of l ≤ a) × (c.layout ≡ l)
 
-module _ (shapes : List Shape) (l : Layout) (pacing : Pacing) where
+module _ (setup : Setup) where
   abbrev k : Kind Processor Op
-  k = processor_kind shapes l
+  k = processor_kind setup.shapes setup.layout
 
   abbrev all : Kind Actor Op
-  all = actors shapes l pacing
+  all = actors setup
 
   -- what is begun, by each kind of actor
   pub run_started : (o : Option Op) (m : Processor) → started all o (actor.Runs m) ≡ actor.Runs (started k o m)
@@ -43,19 +42,19 @@ module _ (shapes : List Shape) (l : Layout) (pacing : Pacing) where
   lead_started None c = refl
   lead_started (Some o) c = refl
 
-  first : (a : ℕ) → IsSeated l a (start l pacing a)
-  first a = go (ltb a l.procs) (ltb a (acks_of l)) refl refl where
-    go : (b d : Bool) → ltb a l.procs ≡ b → ltb a (acks_of l) ≡ d → IsSeated l a (cond b (actor.Runs (k.start a)) (cond d (actor.Marks (worker.opening l a)) (actor.Leads (coord.opening l a pacing.gogc pacing.minheap pacing.room))))
+  first : (a : ℕ) → IsSeated setup.layout a (start setup.layout setup.pacing a)
+  first a = go (ltb a setup.layout.procs) (ltb a (acks_of setup.layout)) refl refl where
+    go : (b d : Bool) → ltb a setup.layout.procs ≡ b → ltb a (acks_of setup.layout) ≡ d → IsSeated setup.layout a (cond b (actor.Runs (k.start a)) (cond d (actor.Marks (worker.opening setup.layout a)) (actor.Leads (coord.opening setup.layout a setup.pacing.gogc setup.pacing.minheap setup.pacing.room))))
     go true d e f = grind (arith, nat_tests)
     go false true e f = (grind (arith, nat_tests), grind (arith, nat_tests), refl)
     go false false e f = (grind (arith, nat_tests), refl)
 
-  begun : (a : ℕ) (o : Option Op) (m : Actor) → IsSeated l a m → IsSeated l a (started all o m)
+  begun : (a : ℕ) (o : Option Op) (m : Actor) → IsSeated setup.layout a m → IsSeated setup.layout a (started all o m)
   begun a None m s = s
   begun a (Some o) (actor.Runs m) s = s
   begun a (Some o) _ s = s
 
-  taken : (a found : ℕ) (m : Actor) → IsSeated l a m → IsSeated l a (takes shapes m found)
+  taken : (a found : ℕ) (m : Actor) → IsSeated setup.layout a m → IsSeated setup.layout a (takes setup.shapes m found)
   taken a found (actor.Runs m) s = s
   taken a found (actor.Marks w) s = (s.0, s.1, worker_ends.stays w found ∙ s.2)
   taken a found (actor.Leads c) s = (s.0, coord_ends.stays c found ∙ s.1)
@@ -63,27 +62,27 @@ module _ (shapes : List Shape) (l : Layout) (pacing : Pacing) where
   abbrev state : List (Entry Op) → ℕ → Actor
   state es a = state_of all a es
 
-  next : (e : Entry Op) (a : ℕ) (m : Actor) (b : Bool) → IsSeated l a m → IsSeated l a (cond b (takes shapes (started all e.begun m) e.found) m)
+  next : (e : Entry Op) (a : ℕ) (m : Actor) (b : Bool) → IsSeated setup.layout a m → IsSeated setup.layout a (cond b (takes setup.shapes (started all e.begun m) e.found) m)
   next e a m true s = taken a e.found (started all e.begun m) (begun a e.begun m s)
   next e a m false s = s
 
-  pub seated : (es : List (Entry Op)) (a : ℕ) → IsSeated l a (state es a)
+  pub seated : (es : List (Entry Op)) (a : ℕ) → IsSeated setup.layout a (state es a)
   seated [] a = first a
   seated (e ∷ es) a = next e a (state es a) (e.actor == a) (seated es a)
 
   -- one entry more
   module _ (e : Entry Op) (es : List (Entry Op)) where
-    pub own : state (e ∷ es) e.actor ≡ takes shapes (started all e.begun (state es e.actor)) e.found
+    pub own : state (e ∷ es) e.actor ≡ takes setup.shapes (started all e.begun (state es e.actor)) e.found
     own = rw (eq-eqb e.actor e.actor refl) refl
 
     pub other : (a : ℕ) → (e.actor == a) ≡ false → state (e ∷ es) a ≡ state es a
     other a x = rw x refl
 
     pub runs : (m : Processor) → state es e.actor ≡ actor.Runs m → state (e ∷ es) e.actor ≡ actor.Runs (k.takes (started k e.begun m) e.found)
-    runs m is = own ∙ ap (λ (y : Actor). takes shapes y e.found) (ap (started all e.begun) is ∙ run_started e.begun m)
+    runs m is = own ∙ ap (λ (y : Actor). takes setup.shapes y e.found) (ap (started all e.begun) is ∙ run_started e.begun m)
 
     pub works : (w : worker.Working) → state es e.actor ≡ actor.Marks w → state (e ∷ es) e.actor ≡ actor.Marks (worker.goes w e.found)
-    works w is = own ∙ ap (λ (y : Actor). takes shapes y e.found) (ap (started all e.begun) is ∙ worker_started e.begun w)
+    works w is = own ∙ ap (λ (y : Actor). takes setup.shapes y e.found) (ap (started all e.begun) is ∙ worker_started e.begun w)
 
     pub leads : (c : coord.Coordinating) → state es e.actor ≡ actor.Leads c → state (e ∷ es) e.actor ≡ actor.Leads (coord.goes c e.found)
-    leads c is = own ∙ ap (λ (y : Actor). takes shapes y e.found) (ap (started all e.begun) is ∙ lead_started e.begun c)
+    leads c is = own ∙ ap (λ (y : Actor). takes setup.shapes y e.found) (ap (started all e.begun) is ∙ lead_started e.begun c)

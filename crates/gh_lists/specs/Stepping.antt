@@ -4,10 +4,10 @@ use Rattle.std.proofs.lemmas.Bool.{eqb-false, eqb-true}
 use Rattle.gh_mutator.specs.Listing.{gives}
 use Rattle.gh_lists.specs.declared.handshake.Actor.TheVariants as actor
 use Rattle.gh_lists.specs.Lists.{arena}
-use Rattle.gh_lists.specs.Handshake.{actors, Pacing, those}
+use Rattle.gh_lists.specs.Handshake.{actors, those, Setup}
 use Rattle.gh_lists.specs.Marking.{actors_after}
 use Rattle.gh_lists.specs.Order.{before_step}
-use Rattle.gh_lists.specs.LemmaVocabulary.{Actor, acts, asks, Begins, Entry, is_busy_at, is_serving, Kind, Layout, Legal, Op, opening_processor, Processor, processor_kind, Shape, started, state_of, takes, Act, acting}
+use Rattle.gh_lists.specs.LemmaVocabulary.{Actor, acts, asks, Begins, Entry, is_busy_at, is_serving, Kind, Legal, Op, opening_processor, Processor, processor_kind, started, state_of, takes, Act, acting}
 use Rattle.gh_lists.specs.Resting.{begins_none, rests, runs_are}
 use Rattle.gh_lists.specs.Seats.{run_started}
 
@@ -16,15 +16,15 @@ pub not_full : (b : Bool) (o : Op) (x : Act) → acting b o false ≡ Some x →
 not_full true o x e f = let same : record { op = o; full = false } ≡ x = cc in let no : false ≡ true = ap (λ (y : Act). y.full) same ∙ f in cc
 not_full false o x e f = cc
 
-module _ (shapes : List Shape) (l : Layout) (pacing : Pacing) (may : ℕ → List (Entry Op) → Op → Bool) (es : List (Entry Op)) (e : Entry Op) (legal : Legal (those shapes l pacing may) (e ∷ es)) where
+module _ (setup : Setup) (es : List (Entry Op)) (e : Entry Op) (legal : Legal (those setup) (e ∷ es)) where
   abbrev m : Processor
-  m = before_step shapes l es e
+  m = before_step setup.shapes setup.layout es e
 
   abbrev everyone : Kind Actor Op
-  everyone = actors shapes l pacing
+  everyone = actors setup
 
-  begun_is : (a : ℕ) → a < l.procs → (o : Option Op) → started everyone o (actors_after (arena shapes l pacing may) pacing may es a) ≡ actor.Runs (started (processor_kind shapes l) o (state_of (processor_kind shapes l) a es))
-  begun_is a lt o = ap (λ (x : Actor). started everyone o x) (runs_are shapes l pacing may es a lt) ∙ run_started shapes l pacing o (state_of (processor_kind shapes l) a es)
+  begun_is : (a : ℕ) → a < setup.layout.procs → (o : Option Op) → started everyone o (actors_after (arena setup) setup.pacing setup.may es a) ≡ actor.Runs (started (processor_kind setup.shapes setup.layout) o (state_of (processor_kind setup.shapes setup.layout) a es))
+  begun_is a lt o = ap (λ (x : Actor). started everyone o x) (runs_are setup es a lt) ∙ run_started setup o (state_of (processor_kind setup.shapes setup.layout) a es)
 
   -- who is no processor has no operation begun
   pub record IsNoProcessors : Type 0 where
@@ -33,10 +33,10 @@ module _ (shapes : List Shape) (l : Layout) (pacing : Pacing) (may : ℕ → Lis
     pub gives_not : gives m e.found ≡ None
     pub idle : is_serving m.task ≡ false
 
-  pub no_processors : l.procs ≤ e.actor → IsNoProcessors
+  pub no_processors : setup.layout.procs ≤ e.actor → IsNoProcessors
   no_processors le =
-      let none = begins_none shapes l pacing may e.actor es e.begun le legal.1.begins legal.1.runs in
-      let rest : m ≡ opening_processor l e.actor = ap (λ (o : Option Op). started (processor_kind shapes l) o (state_of (processor_kind shapes l) e.actor es)) none ∙ rests shapes l pacing may es legal.0 e.actor le in
+      let none = begins_none setup e.actor es e.begun le legal.1.begins legal.1.runs in
+      let rest : m ≡ opening_processor setup.layout e.actor = ap (λ (o : Option Op). started (processor_kind setup.shapes setup.layout) o (state_of (processor_kind setup.shapes setup.layout) e.actor es)) none ∙ rests setup es legal.0 e.actor le in
       record {
         none = none;
         acts_not = ap (λ (y : Processor). acts y e.found) rest;
@@ -45,19 +45,19 @@ module _ (shapes : List Shape) (l : Layout) (pacing : Pacing) (may : ℕ → Lis
       }
 
   -- The processor at a seat.
-  module _ (a : ℕ) (lt : a < l.procs) where
+  module _ (a : ℕ) (lt : a < setup.layout.procs) where
     abbrev own : List (Entry Op) → Processor
-    own xs = state_of (processor_kind shapes l) a xs
+    own xs = state_of (processor_kind setup.shapes setup.layout) a xs
 
     -- the step is its own, on an operation that is begun
     pub record IsItsOwn : Type 0 where
       pub its : e.actor ≡ a
       pub here : eqb e.actor a ≡ true
-      pub before : m ≡ started (processor_kind shapes l) e.begun (own es)
+      pub before : m ≡ started (processor_kind setup.shapes setup.layout) e.begun (own es)
       pub busy : is_busy_at m.task ≡ true
       pub asked : e.ask ≡ asks m
       pub rested : (o : Op) → e.begun ≡ Some o → is_busy_at (own es).task ≡ false
-      pub after : own (e ∷ es) ≡ takes shapes m e.found
+      pub after : own (e ∷ es) ≡ takes setup.shapes m e.found
 
     -- or another's
     pub record IsAnothers : Type 0 where
@@ -68,8 +68,8 @@ module _ (shapes : List Shape) (l : Layout) (pacing : Pacing) (may : ℕ → Lis
     pub its_own : e.actor ≡ a → IsItsOwn
     its_own same =
         let here : eqb e.actor a ≡ true = eq-eqb e.actor a same in
-        let there : e.actor < l.procs = omega (arith, same, lt) in
-        let before : m ≡ started (processor_kind shapes l) e.begun (own es) = ap (λ (b : ℕ). started (processor_kind shapes l) e.begun (state_of (processor_kind shapes l) b es)) same in
+        let there : e.actor < setup.layout.procs = omega (arith, same, lt) in
+        let before : m ≡ started (processor_kind setup.shapes setup.layout) e.begun (own es) = ap (λ (b : ℕ). started (processor_kind setup.shapes setup.layout) e.begun (state_of (processor_kind setup.shapes setup.layout) b es)) same in
         record {
           its = same;
           here = here;
@@ -77,18 +77,18 @@ module _ (shapes : List Shape) (l : Layout) (pacing : Pacing) (may : ℕ → Lis
           busy = sym (ap everyone.busy (begun_is e.actor there e.begun)) ∙ legal.1.runs;
           asked = legal.1.asks ∙ ap everyone.asks (begun_is e.actor there e.begun);
           rested = λ o is. rested same there o is;
-          after = ap (λ (b : Bool). cond b (takes shapes (started (processor_kind shapes l) e.begun (own es)) e.found) (own es)) here ∙ ap (λ (y : Processor). takes shapes y e.found) (sym before);
+          after = ap (λ (b : Bool). cond b (takes setup.shapes (started (processor_kind setup.shapes setup.layout) e.begun (own es)) e.found) (own es)) here ∙ ap (λ (y : Processor). takes setup.shapes y e.found) (sym before);
         } where
-          rested : e.actor ≡ a → e.actor < l.procs → (o : Op) → e.begun ≡ Some o → is_busy_at (own es).task ≡ false
+          rested : e.actor ≡ a → e.actor < setup.layout.procs → (o : Op) → e.begun ≡ Some o → is_busy_at (own es).task ≡ false
           rested same there o is =
-              let begins = subst (λ (b : Option Op). Begins (those shapes l pacing may) e.actor es b) is legal.1.begins in
-              ap (λ (b : ℕ). is_busy_at (state_of (processor_kind shapes l) b es).task) (sym same) ∙ sym (ap everyone.busy (runs_are shapes l pacing may es e.actor there)) ∙ begins.0
+              let begins = subst (λ (b : Option Op). Begins (those setup) e.actor es b) is legal.1.begins in
+              ap (λ (b : ℕ). is_busy_at (state_of (processor_kind setup.shapes setup.layout) b es).task) (sym same) ∙ sym (ap everyone.busy (runs_are setup es e.actor there)) ∙ begins.0
 
     anothers : eqb e.actor a ≡ false → IsAnothers
     anothers apart = record {
       other = eqb-false e.actor a apart;
       apart = apart;
-      after = ap (λ (b : Bool). cond b (takes shapes (started (processor_kind shapes l) e.begun (own es)) e.found) (own es)) apart;
+      after = ap (λ (b : Bool). cond b (takes setup.shapes (started (processor_kind setup.shapes setup.layout) e.begun (own es)) e.found) (own es)) apart;
     }
 
     pub who_steps : IsItsOwn ⊎ IsAnothers

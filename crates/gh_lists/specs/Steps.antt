@@ -2,10 +2,8 @@
 use Rattle.std.proofs.Common.{◌≡◌, ℕ, ◌+◌, ◌<◌, ◌≤◌, Bool, true, false, cond, ltb, refl, sym, ap, subst, ◌∙◌, arith, List, [], ◌∷◌, Option, Some, None}
 use Rattle.std.proofs.lemmas.Bool.Decides.{nat_tests}
 use Rattle.gh_base.specs.declared.cell.Ask.{Ask}
-use Rattle.gh_base.specs.declared.layout.Layout.{Layout}
 use Rattle.gh_base.specs.declared.machine.Entry.{Entry}
 use Rattle.gh_base.specs.declared.operation.Op.{Op}
-use Rattle.gh_base.specs.declared.shape.Shape.{Shape}
 use Rattle.gh_base.specs.Cells.{Words}
 use Rattle.gh_base.specs.Lists.{Begins, Kind, Legal, Setting, started, state_of, words_after}
 use Rattle.gh_base.specs.Steps.{cell_of}
@@ -20,18 +18,18 @@ use Rattle.gh_worker.specs.Handshake as working
 use Rattle.gh_worker.specs.Listing as worker
 use Rattle.gh_lists.specs.declared.handshake.Actor.{Actor}
 use Rattle.gh_lists.specs.declared.handshake.Actor.TheVariants as actor
-use Rattle.gh_lists.specs.Handshake.{asks, is_busy, KeepsIt, Pacing, Sound, those}
+use Rattle.gh_lists.specs.Handshake.{asks, is_busy, KeepsIt, Sound, those, Setup}
 use Rattle.gh_lists.specs.Seats.{IsSeated, lead_started, leads, other, run_started, runs, seated, worker_started, works}
 
-module _ (shapes : List Shape) (l : Layout) (pacing : Pacing) (may : ℕ → List (Entry Op) → Op → Bool) where
+module _ (setup : Setup) where
   abbrev k : Kind Processor Op
-  k = processor_kind shapes l
+  k = processor_kind setup.shapes setup.layout
 
   abbrev pub n : ℕ
-  n = acks_of l
+  n = acks_of setup.layout
 
   abbrev pub it : Setting Actor Op
-  it = those shapes l pacing may
+  it = those setup
 
   abbrev pub at : List (Entry Op) → ℕ → Actor
   at es a = state_of it.kind a es
@@ -40,9 +38,9 @@ module _ (shapes : List Shape) (l : Layout) (pacing : Pacing) (may : ℕ → Lis
   words es = words_after it.opening es
 
   -- before the first step
-  pub first_lead : (c : coord.Coordinating) → at [] n ≡ actor.Leads c → c ≡ coord.opening l n pacing.gogc pacing.minheap pacing.room
-  first_lead c led = go (ltb n l.procs) (ltb n n) led where
-    go : (b d : Bool) → cond b (actor.Runs (k.start n)) (cond d (actor.Marks (worker.opening l n)) (actor.Leads (coord.opening l n pacing.gogc pacing.minheap pacing.room))) ≡ actor.Leads c → c ≡ coord.opening l n pacing.gogc pacing.minheap pacing.room
+  pub first_lead : (c : coord.Coordinating) → at [] n ≡ actor.Leads c → c ≡ coord.opening setup.layout n setup.pacing.gogc setup.pacing.minheap setup.pacing.room
+  first_lead c led = go (ltb n setup.layout.procs) (ltb n n) led where
+    go : (b d : Bool) → cond b (actor.Runs (k.start n)) (cond d (actor.Marks (worker.opening setup.layout n)) (actor.Leads (coord.opening setup.layout n setup.pacing.gogc setup.pacing.minheap setup.pacing.room))) ≡ actor.Leads c → c ≡ coord.opening setup.layout n setup.pacing.gogc setup.pacing.minheap setup.pacing.room
     go true d x = absurd cc
     go false true x = absurd cc
     go false false x = cc
@@ -56,17 +54,17 @@ module _ (shapes : List Shape) (l : Layout) (pacing : Pacing) (may : ℕ → Lis
   led_by es = go (at es n) refl where
     go : (m : Actor) → at es n ≡ m → LedBy es
     go (actor.Leads c) is = record { lead = c; led_by = is }
-    go (actor.Runs m) is = absurd (let lt : n < l.procs = subst (IsSeated l n) is (seated shapes l pacing es n) in omega (arith, lt))
-    go (actor.Marks w) is = absurd (let lt : n < n = (subst (IsSeated l n) is (seated shapes l pacing es n)).1 in omega (arith, lt))
+    go (actor.Runs m) is = absurd (let lt : n < setup.layout.procs = subst (IsSeated setup.layout n) is (seated setup es n) in omega (arith, lt))
+    go (actor.Marks w) is = absurd (let lt : n < n = (subst (IsSeated setup.layout n) is (seated setup es n)).1 in omega (arith, lt))
 
   pub worker_seat : (es : List (Entry Op)) (a : ℕ) (w : worker.Working) → at es a ≡ actor.Marks w → a < n
-  worker_seat es a w is = (subst (IsSeated l a) is (seated shapes l pacing es a)).1
+  worker_seat es a w is = (subst (IsSeated setup.layout a) is (seated setup es a)).1
 
   module _ (e : Entry Op) (es : List (Entry Op)) where
     -- a processor's, which may have begun an operation
     pub record RunsIt (m : Processor) : Type 0 where
       pub is : at es e.actor ≡ actor.Runs m
-      pub seat : e.actor < l.procs
+      pub seat : e.actor < setup.layout.procs
       pub then : at (e ∷ es) e.actor ≡ actor.Runs (k.takes (started k e.begun m) e.found)
       pub sound_it : IsSound m
       pub sound_then : IsSound (started k e.begun m)
@@ -75,7 +73,7 @@ module _ (shapes : List Shape) (l : Layout) (pacing : Pacing) (may : ℕ → Lis
 
     pub record WorksIt (w : worker.Working) : Type 0 where
       pub is : at es e.actor ≡ actor.Marks w
-      pub from : l.procs ≤ e.actor
+      pub from : setup.layout.procs ≤ e.actor
       pub seat : e.actor < n
       pub then : at (e ∷ es) e.actor ≡ actor.Marks (worker.goes w e.found)
       pub sound_it : working.Sound w
@@ -103,11 +101,11 @@ module _ (shapes : List Shape) (l : Layout) (pacing : Pacing) (may : ℕ → Lis
       within : e.actor < n + 1
       within = legal.1.actor
 
-      sound_of : (m : Actor) → at es e.actor ≡ m → Sound l m
-      sound_of m is = subst (Sound l) is (keeps.shakes.all_sound e.actor within)
+      sound_of : (m : Actor) → at es e.actor ≡ m → Sound setup.layout m
+      sound_of m is = subst (Sound setup.layout) is (keeps.shakes.all_sound e.actor within)
 
-      seat_of : (m : Actor) → at es e.actor ≡ m → IsSeated l e.actor m
-      seat_of m is = subst (IsSeated l e.actor) is (seated shapes l pacing es e.actor)
+      seat_of : (m : Actor) → at es e.actor ≡ m → IsSeated setup.layout e.actor m
+      seat_of m is = subst (IsSeated setup.layout e.actor) is (seated setup es e.actor)
 
       busy_of : (m : Actor) → begun ≡ m → is_busy m ≡ true
       busy_of m is = sym (ap is_busy is) ∙ legal.1.runs
@@ -117,19 +115,19 @@ module _ (shapes : List Shape) (l : Layout) (pacing : Pacing) (may : ℕ → Lis
 
       sound_begun : (m : Processor) (o : Option Op) → at es e.actor ≡ actor.Runs m → Begins it e.actor es o → IsSound m → IsSound (started k o m)
       sound_begun m None is b s = s
-      sound_begun m (Some o) is b s = writes.sound_begins shapes l m o s (sym (ap is_busy is) ∙ b.0)
+      sound_begun m (Some o) is b s = writes.sound_begins setup.shapes setup.layout m o s (sym (ap is_busy is) ∙ b.0)
 
       stays : e.actor < n → at (e ∷ es) n ≡ at es n
-      stays lt = other shapes l pacing e es n (grind (arith, nat_tests, lt))
+      stays lt = other setup e es n (grind (arith, nat_tests, lt))
 
       by : (m : Actor) → at es e.actor ≡ m → Step
       by (actor.Runs m) is =
-          let lt : e.actor < l.procs = seat_of (actor.Runs m) is in
-          let begun_is : begun ≡ actor.Runs (started k e.begun m) = ap (started it.kind e.begun) is ∙ run_started shapes l pacing e.begun m in
+          let lt : e.actor < setup.layout.procs = seat_of (actor.Runs m) is in
+          let begun_is : begun ≡ actor.Runs (started k e.begun m) = ap (started it.kind e.begun) is ∙ run_started setup e.begun m in
           by_processor m (record {
             is = is;
             seat = lt;
-            then = runs shapes l pacing e es m is;
+            then = runs setup e es m is;
             sound_it = (sound_of (actor.Runs m) is).0;
             sound_then = sound_begun m e.begun is legal.1.begins (sound_of (actor.Runs m) is).0;
             busy = busy_of (actor.Runs (started k e.begun m)) begun_is;
@@ -137,12 +135,12 @@ module _ (shapes : List Shape) (l : Layout) (pacing : Pacing) (may : ℕ → Lis
           }) (stays (omega (arith, lt)))
       by (actor.Marks w) is =
           let lt : e.actor < n = (seat_of (actor.Marks w) is).1 in
-          let begun_is : begun ≡ actor.Marks w = ap (started it.kind e.begun) is ∙ worker_started shapes l pacing e.begun w in
+          let begun_is : begun ≡ actor.Marks w = ap (started it.kind e.begun) is ∙ worker_started setup e.begun w in
           by_worker w (record {
             is = is;
             from = (seat_of (actor.Marks w) is).0;
             seat = lt;
-            then = works shapes l pacing e es w is;
+            then = works setup e es w is;
             sound_it = sound_of (actor.Marks w) is;
             busy = busy_of (actor.Marks w) begun_is;
             asked = asked_of (actor.Marks w) begun_is;
@@ -150,12 +148,12 @@ module _ (shapes : List Shape) (l : Layout) (pacing : Pacing) (may : ℕ → Lis
       by (actor.Leads c) is =
           let ge : n ≤ e.actor = (seat_of (actor.Leads c) is).0 in
           let end : e.actor ≡ n = omega (arith, ge, within) in
-          let begun_is : begun ≡ actor.Leads c = ap (started it.kind e.begun) is ∙ lead_started shapes l pacing e.begun c in
+          let begun_is : begun ≡ actor.Leads c = ap (started it.kind e.begun) is ∙ lead_started setup e.begun c in
           let asked_it : e.ask ≡ coord.asks c = asked_of (actor.Leads c) begun_is in
           by_lead c (record {
             is = sym (ap (at es) end) ∙ is;
             seat = end;
-            then = sym (ap (at (e ∷ es)) end) ∙ leads shapes l pacing e es c is;
+            then = sym (ap (at (e ∷ es)) end) ∙ leads setup e es c is;
             sound_it = (sound_of (actor.Leads c) is).1;
             busy = busy_of (actor.Leads c) begun_is;
             asked = asked_it;

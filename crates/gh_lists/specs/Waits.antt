@@ -1,14 +1,14 @@
 -- The words of the stacks, and workers at rest, over every legal list of all actors.
-use Rattle.std.specs.Prelude.{◌≡◌, ℕ, ◌≤◌, ◌⊎◌, Bool, List, ◌∷◌}
+use Rattle.std.specs.Prelude.{◌≡◌, ℕ, ◌≤◌, ◌⊎◌, List, ◌∷◌}
 use Rattle.gh_base.specs.declared.cell.Cell.TheVariants as cell
 use Rattle.gh_base.specs.declared.pack.TheConstants.{END}
 use Rattle.gh_coord.specs.Handshake as leading
 use Rattle.gh_worker.specs.Listing.{Working}
 use Rattle.gh_worker.specs.Writing.{IsCalm}
 use Rattle.gh_lists.specs.declared.handshake.Actor.TheVariants as actor
-use Rattle.gh_lists.specs.Handshake.{Pacing, those}
+use Rattle.gh_lists.specs.Handshake.{those, Setup}
 use Rattle.gh_lists.specs.Numbers.{IsFew}
-use Rattle.gh_lists.specs.Vocabulary.{acks_of, Actor, Coordinating, Entry, Layout, Legal, Op, Setting, Shape, state_of, Words, words_after}
+use Rattle.gh_lists.specs.Vocabulary.{acks_of, Actor, Coordinating, Entry, Legal, Op, Setting, state_of, Words, words_after}
 
 -- each stack's goroutine has ended, or its number is that of a cycle that has begun
 abbrev pub StacksAreNumbered : Words → Type 0
@@ -23,12 +23,12 @@ abbrev pub WorkersRest : Setting Actor Op → List (Entry Op) → Type 0
 WorkersRest s es = (c : Coordinating) (a : ℕ) (w : Working) → state_of s.kind (acks_of s.layout) es ≡ actor.Leads c → (leading.Marks c.stage → ⊥) → state_of s.kind a es ≡ actor.Marks w → IsCalm w
 
 abbrev pub EveryListNumbersStacks : Type 0
-EveryListNumbersStacks = (shapes : List Shape) (l : Layout) (pacing : Pacing) (may_begin : ℕ → List (Entry Op) → Op → Bool) (es : List (Entry Op)) →
-    Legal (those shapes l pacing may_begin) es → IsFew es → StacksAreNumbered (words_after (those shapes l pacing may_begin).opening es)
+EveryListNumbersStacks = (setup : Setup) (es : List (Entry Op)) →
+    Legal (those setup) es → IsFew es → StacksAreNumbered (words_after (those setup).opening es)
 
 abbrev pub EveryStepNumbersStacks : Type 0
-EveryStepNumbersStacks = (shapes : List Shape) (l : Layout) (pacing : Pacing) (may_begin : ℕ → List (Entry Op) → Op → Bool) (e : Entry Op) (es : List (Entry Op)) →
-    Legal (those shapes l pacing may_begin) (e ∷ es) → IsFew (e ∷ es) → (g : ℕ) → StackGoes (words_after (those shapes l pacing may_begin).opening es) (words_after (those shapes l pacing may_begin).opening (e ∷ es)) g
+EveryStepNumbersStacks = (setup : Setup) (e : Entry Op) (es : List (Entry Op)) →
+    Legal (those setup) (e ∷ es) → IsFew (e ∷ es) → (g : ℕ) → StackGoes (words_after (those setup).opening es) (words_after (those setup).opening (e ∷ es)) g
 
 abbrev pub EveryListRestsWorkers : Type 0
-EveryListRestsWorkers = (shapes : List Shape) (l : Layout) (pacing : Pacing) (may_begin : ℕ → List (Entry Op) → Op → Bool) (es : List (Entry Op)) → Legal (those shapes l pacing may_begin) es → WorkersRest (those shapes l pacing may_begin) es
+EveryListRestsWorkers = (setup : Setup) (es : List (Entry Op)) → Legal (those setup) es → WorkersRest (those setup) es

@@ -6,10 +6,10 @@ use Rattle.gh_base.specs.Packing.{bit}
 use Rattle.gh_coord.specs.declared.coord.CoordStage.TheVariants.{LoadAck, LoadWant, Stop, Open}
 use Rattle.gh_coord.specs.declared.open.OpenStage.TheVariants.{ClearWant}
 use Rattle.gh_lists.specs.declared.handshake.Actor.TheVariants as actor
-use Rattle.gh_lists.specs.Handshake.{Pacing, those}
+use Rattle.gh_lists.specs.Handshake.{those, Setup}
 use Rattle.gh_lists.specs.Numbers.{asked_in, IsFew, opened_in}
 use Rattle.gh_lists.specs.Processors.{asked_by, asks_collector, may_begin as may_begin_at}
-use Rattle.gh_lists.specs.Vocabulary.{acks_of, Actor, Arena, CoordStage, Coordinating, Entry, Layout, Legal, Op, OpenStage, Processor, Setting, Shape, state_of, words_after}
+use Rattle.gh_lists.specs.Vocabulary.{acks_of, Actor, Arena, CoordStage, Coordinating, Entry, Layout, Legal, Op, OpenStage, Processor, Setting, state_of, words_after}
 
 -- it looks whether a cycle is to be opened
 abbrev pub IsIdle : CoordStage → Type 0
@@ -44,8 +44,8 @@ pub record CountsWants (s : Setting Actor Op) (es : List (Entry Op)) (c : Coordi
   pub wanted : IsToOpen c.stage → (c.is_last ≡ true) ⊎ (words_after s.opening es cell.Want ≡ 1)
 
 abbrev pub EveryListCountsWants : Type 0
-EveryListCountsWants = (shapes : List Shape) (l : Layout) (pacing : Pacing) (may_begin : ℕ → List (Entry Op) → Op → Bool) (es : List (Entry Op)) (c : Coordinating) →
-    Legal (those shapes l pacing may_begin) es → state_of (those shapes l pacing may_begin).kind (acks_of l) es ≡ actor.Leads c → CountsWants (those shapes l pacing may_begin) es c
+EveryListCountsWants = (setup : Setup) (es : List (Entry Op)) (c : Coordinating) →
+    Legal (those setup) es → state_of (those setup).kind (acks_of setup.layout) es ≡ actor.Leads c → CountsWants (those setup) es c
 
 -- How few cycles there are.
 
@@ -73,8 +73,8 @@ pub record AreFew (counts : ℕ → ℕ) (l : Layout) (es : List (Entry Op)) : T
   pub few : IsFew es
 
 abbrev pub CyclesAreFew : Type 0
-CyclesAreFew = (shapes : List Shape) (l : Layout) (pacing : Pacing) (may_begin : ℕ → List (Entry Op) → Op → Bool) (seat_of counts : ℕ → ℕ) → BeginsFew l may_begin seat_of counts →
-    (es : List (Entry Op)) → Legal (those shapes l pacing may_begin) es → AreFew counts l es
+CyclesAreFew = (setup : Setup) (seat_of counts : ℕ → ℕ) → BeginsFew setup.layout setup.may seat_of counts →
+    (es : List (Entry Op)) → Legal (those setup) es → AreFew counts setup.layout es
 
 -- so it is where a goroutine has its count of statements
 abbrev pub ProcessorsBeginFew : Type 0

@@ -1,3 +1,4 @@
 pub mod Vocabulary
 pub mod CycleMarking
 pub mod Scanned
+pub mod OneStep

@@ -1,6 +1,6 @@
 -- A cycle in the picture of the argument for the write barrier (`gh_tri`): from where it begins on, each step of the list, of whichever actor, is a list of moves of the picture, each of which may be made, and of changes of registers.
-use Rattle.std.specs.Prelude.{◌≡◌, ℕ, ◌+◌, ◌≤◌, Bool, List, ◌∷◌}
-use Rattle.gh_marked.specs.Vocabulary.{Coordinating, Entry, Layout, Op, opening_words, Shape, Words, words_after}
+use Rattle.std.specs.Prelude.{◌≡◌, ℕ, ◌+◌, ◌≤◌, List, ◌∷◌}
+use Rattle.gh_marked.specs.Vocabulary.{Coordinating, Entry, Op, opening_words, Words, words_after}
 use Rattle.gh_base.specs.Rows.{Row}
 use Rattle.gh_tri.specs.Invariants.{Invariants, IsMarkingDone, IsOpening}
 use Rattle.gh_tri.specs.Steps.{Goes}
@@ -9,27 +9,27 @@ use Rattle.gh_marks.specs.Colours.{Cycle, Shared as Marking}
 use Rattle.gh_marks.specs.Moves.{Went}
 use Rattle.gh_marks.specs.Picture.{ThePictureSays}
 use Rattle.gh_marks.specs.Shows.{Shows}
-use Rattle.gh_lists.specs.Handshake.{Pacing}
 use Rattle.gh_lists.specs.Marking.{IsBeginning, IsChecked, IsLedBy, IsStateOf}
 use Rattle.gh_lists.specs.Processors.{arena_of}
 use Rattle.gh_marked.specs.Tied.{IsOfHeap, IsTied}
+use Rattle.gh_lists.specs.Handshake.{Setup}
 
-module _ (shapes : List Shape) (l : Layout) (pacing : Pacing) (may : ℕ → List (Entry Op) → Op → Bool) where
+module _ (setup : Setup) where
   -- the words after the list
   abbrev told : List (Entry Op) → Words
-  told es = words_after (opening_words pacing.trigger) es
+  told es = words_after (opening_words setup.pacing.trigger) es
 
   -- with the next entry cycle k begins
   pub record IsToBegin (es : List (Entry Op)) (k : ℕ) : Type 0 where
     pub lead : Coordinating
-    pub led : IsLedBy (arena_of shapes l) pacing may es lead
+    pub led : IsLedBy (arena_of setup.shapes setup.layout) setup.pacing setup.may es lead
     pub stage : IsBeginning lead.stage
     pub cycle : lead.begun ≡ k
 
   -- Behind the list the picture shows this state of marking, which is one of its heap. Where the cycle begins it comes of one as at a cycle's begin; and each entry since is moves of marking of its actor, which are moves of the picture.
   pub data Drawing (z : Cycle) : List (Entry Op) → Marking → Tricolour → Type 0 where
-    begins : (es : List (Entry Op)) (s : Marking) (first picture : Tricolour) (at : Row) → IsToBegin es z.number → s.words ≡ told es → IsOfHeap shapes l pacing es z s → IsOpening first → Goes first picture → Shows z s at picture → Drawing z es s picture
-    steps : (e : Entry Op) (es : List (Entry Op)) (s t : Marking) (before picture : Tricolour) (at : Row) → Drawing z es s before → Went z e.actor s t → t.words ≡ told (e ∷ es) → IsOfHeap shapes l pacing (e ∷ es) z t → Goes before picture → Shows z t at picture → Drawing z (e ∷ es) t picture
+    begins : (es : List (Entry Op)) (s : Marking) (first picture : Tricolour) (at : Row) → IsToBegin es z.number → s.words ≡ told es → IsOfHeap setup es z s → IsOpening first → Goes first picture → Shows z s at picture → Drawing z es s picture
+    steps : (e : Entry Op) (es : List (Entry Op)) (s t : Marking) (before picture : Tricolour) (at : Row) → Drawing z es s before → Went z e.actor s t → t.words ≡ told (e ∷ es) → IsOfHeap setup (e ∷ es) z t → Goes before picture → Shows z t at picture → Drawing z (e ∷ es) t picture
 
   -- there is such a picture, with room for so many objects more
   pub record IsDrawnSo (z : Cycle) (s : Marking) (es : List (Entry Op)) (room : ℕ) : Type 0 where
@@ -43,8 +43,8 @@ module _ (shapes : List Shape) (l : Layout) (pacing : Pacing) (may : ℕ → Lis
   pub record CycleIsDrawn (es : List (Entry Op)) (c : Coordinating) : Type 0 where
     pub cycle : Cycle
     pub shared : Marking
-    pub is : IsStateOf (arena_of shapes l) pacing may es c cycle shared
-    pub tied : IsTied shapes l pacing es cycle shared
+    pub is : IsStateOf (arena_of setup.shapes setup.layout) setup.pacing setup.may es c cycle shared
+    pub tied : IsTied setup es cycle shared
     pub picture : Tricolour
     pub drawing : Drawing cycle es shared picture
     pub invariants : Invariants picture

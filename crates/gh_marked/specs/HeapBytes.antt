@@ -1,5 +1,5 @@
 -- The heap's count of bytes, in every legal list of steps of all actors: it is the bytes of the slots of the objects that stand, less those that are placed and not counted yet, and with those that are cleared and not taken off yet.
-use Rattle.std.specs.Prelude.{◌≡◌, ℕ, ◌+◌, ◌*◌, Bool, List, Option, Some, None}
+use Rattle.std.specs.Prelude.{◌≡◌, ℕ, ◌+◌, ◌*◌, List, Option, Some, None}
 use Rattle.gh_alloc.specs.declared.place.PlaceStage.{PlaceStage}
 use Rattle.gh_alloc.specs.declared.place.PlaceStage.TheVariants as making
 use Rattle.gh_base.specs.declared.cell.Cell.TheVariants as cell
@@ -14,12 +14,12 @@ use Rattle.gh_sweep.specs.Listing.{Sweeping}
 use Rattle.gh_sweep.specs.Shared.{placed}
 use Rattle.gh_sweep.specs.Sweepers.{owes}
 use Rattle.gh_lists.specs.declared.handshake.Actor.TheVariants as actor
-use Rattle.gh_lists.specs.Handshake.{Pacing}
 use Rattle.gh_lists.specs.Marking.{actors_after}
 use Rattle.gh_lists.specs.Processors.{arena_of}
 use Rattle.gh_marked.specs.Sweepers.{sweep_of}
-use Rattle.gh_marked.specs.Vocabulary.{Actor, Entry, Layout, Op, opening_words, Shape, Words, words_after}
+use Rattle.gh_marked.specs.Vocabulary.{Actor, Entry, Op, opening_words, Words, words_after}
 use Rattle.gh_lists.specs.Wants.{total}
+use Rattle.gh_lists.specs.Handshake.{Setup}
 
 -- The bytes that a processor has placed and not counted yet: those of the slot in which it has made an object, from the step that sets the alloc bit to the one that adds to the heap's word.
 
@@ -49,16 +49,16 @@ untaken (Some m) = (owes m).cleared
 abbrev pub untaken_at : Actor → ℕ
 untaken_at x = untaken (sweep_of x)
 
-module _ (shapes : List Shape) (l : Layout) (pacing : Pacing) (may : ℕ → List (Entry Op) → Op → Bool) where
+module _ (setup : Setup) where
   -- the words, and the actor at a seat, after the list
   abbrev told : List (Entry Op) → Words
-  told es = words_after (opening_words pacing.trigger) es
+  told es = words_after (opening_words setup.pacing.trigger) es
 
   abbrev at : List (Entry Op) → ℕ → Actor
-  at es a = actors_after (arena_of shapes l) pacing may es a
+  at es a = actors_after (arena_of setup.shapes setup.layout) setup.pacing setup.may es a
 
   -- The heap's word with what is placed and not counted is what stands with what is cleared and not taken off. How many bytes a slot has the page words say.
   abbrev pub HeapIsCounted : List (Entry Op) → Type 0
   HeapIsCounted es =
-      told es cell.Heap + total (λ a. uncounted_at (at es a)) (seats_of l)
-      ≡ placed (alloc_words (told es)) (slot_row (page_words (told es))) (16 * l.pages) + total (λ a. untaken_at (at es a)) (seats_of l)
+      told es cell.Heap + total (λ a. uncounted_at (at es a)) (seats_of setup.layout)
+      ≡ placed (alloc_words (told es)) (slot_row (page_words (told es))) (16 * setup.layout.pages) + total (λ a. untaken_at (at es a)) (seats_of setup.layout)

@@ -17,7 +17,7 @@ use Rattle.gh_lists.specs.declared.handshake.Actor.TheVariants as actor
 use Rattle.gh_marked.specs.State.{IsKnown}
 use Rattle.gh_lists.specs.Counts.{stored_in}
 use Rattle.gh_marked.specs.HoldVocabulary.{acks_of, actors_after, Arena, Entry, IsBeginning, IsStartOf, MarkFacts, Op, Pacing, Processor, processor_kind}
-use Rattle.gh_lists.specs.Marking.{EndsClean, IsChecked, IsLedBy, IsStateOf, setting, words}
+use Rattle.gh_lists.specs.Marking.{setup_in, EndsClean, IsChecked, IsLedBy, IsStateOf, setting, words}
 use Rattle.gh_marked.specs.Scanned.{most_scanned, scanned_in}
 use Rattle.gh_marked.specs.Levels.{NoneBeyond}
 use Rattle.gh_marked.specs.Weights.{counted}
@@ -33,7 +33,7 @@ pub record LeavesObjects (s t : Shared) : Type 0 where
 module _ (arena : Arena) (pacing : Pacing) (may_begin : ℕ → List (Entry Op) → Op → Bool) where
   -- what is known of the heap besides, after the list
   abbrev pub Knows : Cycle → Shared → List (Entry Op) → Type 0
-  Knows c s es = IsKnown arena.shapes arena.layout pacing may_begin c s es
+  Knows c s es = IsKnown (setup_in arena pacing may_begin) c s es
 
   -- each processor knows what its stage says
   abbrev pub ProcessorsKnow : List (Entry Op) → Cycle → Shared → Type 0
@@ -66,7 +66,7 @@ module _ (arena : Arena) (pacing : Pacing) (may_begin : ℕ → List (Entry Op) 
     -- the coordinator has nothing in hand, and nobody is at a seat behind it
     pub coordinator : (a : ℕ) → acks_of arena.layout ≤ a → Hands a shared nothing
     -- what workers have scanned is no more than the cycles before had, and so much of this one
-    pub scanned : scanned_in arena.shapes arena.layout pacing es ≤ stored_in cell.Gen es * most_scanned arena.layout + counted arena.layout shared
+    pub scanned : scanned_in (setup_in arena pacing may_begin) es ≤ stored_in cell.Gen es * most_scanned arena.layout + counted arena.layout shared
     pub none_beyond : NoneBeyond cycle shared
 
   -- and where the coordinator has checked it, all that is reached is marked
@@ -83,7 +83,7 @@ module _ (arena : Arena) (pacing : Pacing) (may_begin : ℕ → List (Entry Op) 
     -- where a cycle begins; what was marked before may be used for that
     pub begins : (es : List (Entry Op)) (c : coord.Coordinating) → Legal (setting arena pacing may_begin) es → IsLedBy arena pacing may_begin es c → IsBeginning c.stage → WasMarked es → MayBegin es c
     -- by then workers have scanned no more than the cycles had that have ended
-    pub scanned : (es : List (Entry Op)) (c : coord.Coordinating) → Legal (setting arena pacing may_begin) es → IsLedBy arena pacing may_begin es c → IsBeginning c.stage → WasMarked es → scanned_in arena.shapes arena.layout pacing es ≤ stored_in cell.Gen es * most_scanned arena.layout
+    pub scanned : (es : List (Entry Op)) (c : coord.Coordinating) → Legal (setting arena pacing may_begin) es → IsLedBy arena pacing may_begin es c → IsBeginning c.stage → WasMarked es → scanned_in (setup_in arena pacing may_begin) es ≤ stored_in cell.Gen es * most_scanned arena.layout
     -- while it is marked, the words that are read of an object of the cycle say what its words are
     pub objects : (z : Cycle) (s : Shared) (es : List (Entry Op)) → Good z s → Knows z s es → KnowsObjects z s
     -- and what is known of it lasts while workers and the coordinator step, by moves of theirs that fill no slot, as long as the cycle is marked

@@ -10,8 +10,8 @@ use Rattle.gh_worker.specs.declared.worker.WorkerStage.TheVariants as at
 use Rattle.gh_worker.specs.Works.{word_of, words_done, words_of}
 use Rattle.gh_lists.specs.declared.handshake.Actor.TheVariants.{Marks}
 use Rattle.gh_lists.specs.Counts.{stored_in}
-use Rattle.gh_lists.specs.Handshake.{actors, Pacing}
-use Rattle.gh_marked.specs.Vocabulary.{Actor, Coordinating, Entry, Layout, Op, opening_words, Shape, state_of, words_after}
+use Rattle.gh_lists.specs.Handshake.{actors, Setup}
+use Rattle.gh_marked.specs.Vocabulary.{Actor, Coordinating, Entry, Layout, Op, opening_words, state_of, words_after}
 use Rattle.gh_lists.specs.Wants.{total}
 
 -- the words that are done with a step of this actor: a worker's
@@ -53,10 +53,10 @@ global_at _ = 0
 abbrev pub most_scanned : Layout → ℕ
 most_scanned l = l.globals + 2 * (1024 * l.pages)
 
-module _ (shapes : List Shape) (l : Layout) (pacing : Pacing) where
+module _ (setup : Setup) where
   -- what the entry behind the list is done with
   abbrev pub scanned_by : Entry Op → List (Entry Op) → ℕ
-  scanned_by e es = done_by (state_of (actors shapes l pacing) e.actor es) e.found
+  scanned_by e es = done_by (state_of (actors setup) e.actor es) e.found
 
   abbrev pub scanned_in : List (Entry Op) → ℕ
   scanned_in [] = 0
@@ -65,28 +65,28 @@ module _ (shapes : List Shape) (l : Layout) (pacing : Pacing) where
   -- of it, the globals, and the words of objects
   abbrev pub globals_in : List (Entry Op) → ℕ
   globals_in [] = 0
-  globals_in (e ∷ es) = globals_in es + global_by (state_of (actors shapes l pacing) e.actor es) e.found
+  globals_in (e ∷ es) = globals_in es + global_by (state_of (actors setup) e.actor es) e.found
 
   abbrev pub objects_in : List (Entry Op) → ℕ
   objects_in [] = 0
-  objects_in (e ∷ es) = objects_in es + objects_by (state_of (actors shapes l pacing) e.actor es) e.found
+  objects_in (e ∷ es) = objects_in es + objects_by (state_of (actors setup) e.actor es) e.found
 
   -- how many globals workers have in hand
   abbrev pub globals_held : List (Entry Op) → ℕ
-  globals_held es = total (λ a. global_at (state_of (actors shapes l pacing) a es)) (seats_of l)
+  globals_held es = total (λ a. global_at (state_of (actors setup) a es)) (seats_of setup.layout)
 
   -- no more in the list than in as many cycles as have begun
   abbrev pub FewAreScanned : List (Entry Op) → Type 0
-  FewAreScanned es = scanned_in es ≤ words_after (opening_words pacing.trigger) es cell.Begun * most_scanned l
+  FewAreScanned es = scanned_in es ≤ words_after (opening_words setup.pacing.trigger) es cell.Begun * most_scanned setup.layout
 
   -- In each cycle each global is counted exactly once.
   pub record GlobalsAreCounted (es : List (Entry Op)) (c : Coordinating) : Type 0 where
     -- what is scanned are the words of objects, and one for each global
     pub parts : scanned_in es ≡ globals_in es + objects_in es
     -- while no cycle is marked each global was counted as often as the marking of a cycle has ended
-    pub once : (leading.Marks c.stage → ⊥) → globals_in es ≡ stored_in cell.Gen es * l.globals
+    pub once : (leading.Marks c.stage → ⊥) → globals_in es ≡ stored_in cell.Gen es * setup.layout.globals
     -- while one is marked so is, besides, each that the cursor has passed in it, but for those that workers have in hand
-    pub so_far : leading.Marks c.stage → globals_in es + globals_held es ≡ stored_in cell.Gen es * l.globals + min (words_after (opening_words pacing.trigger) es cell.Gcur) l.globals
+    pub so_far : leading.Marks c.stage → globals_in es + globals_held es ≡ stored_in cell.Gen es * setup.layout.globals + min (words_after (opening_words setup.pacing.trigger) es cell.Gcur) setup.layout.globals
     -- so at all times as often as marking has ended at the least, and at the most as often as a cycle has begun
-    pub least : stored_in cell.Gen es * l.globals ≤ globals_in es
-    pub most : globals_in es ≤ stored_in cell.Begun es * l.globals
+    pub least : stored_in cell.Gen es * setup.layout.globals ≤ globals_in es
+    pub most : globals_in es ≤ stored_in cell.Begun es * setup.layout.globals

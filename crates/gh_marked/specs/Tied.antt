@@ -17,21 +17,21 @@ use Rattle.gh_mutator.specs.ProcessorMarks.{MarkFacts}
 use Rattle.gh_worker.specs.Listing.{Working}
 use Rattle.gh_worker.specs.MarkFacts.{Facts as WorkerFacts}
 use Rattle.gh_lists.specs.declared.handshake.Actor.TheVariants.{Marks}
-use Rattle.gh_marked.specs.Vocabulary.{acks_of, Arena, Entry, Ever, Layout, Name, Op, opening_words, processor_kind, Reach, row_bit, Shape, state_of, view, Words, words_after}
-use Rattle.gh_lists.specs.Handshake.{actors, Pacing}
+use Rattle.gh_marked.specs.Vocabulary.{acks_of, Arena, Entry, Ever, Name, Op, opening_words, processor_kind, Reach, row_bit, state_of, view, Words, words_after}
+use Rattle.gh_lists.specs.Handshake.{actors, Setup}
 use Rattle.gh_lists.specs.Processors.{arena_of, ever_after_list, IsPlacedAt}
 
-module _ (shapes : List Shape) (l : Layout) (pacing : Pacing) where
+module _ (setup : Setup) where
   abbrev z : Arena
-  z = arena_of shapes l
+  z = arena_of setup.shapes setup.layout
 
   -- the words after the list, and the heap that never frees
 
   abbrev told : List (Entry Op) → Words
-  told es = words_after (opening_words pacing.trigger) es
+  told es = words_after (opening_words setup.pacing.trigger) es
 
   abbrev ever_told : List (Entry Op) → Ever
-  ever_told es = ever_after_list z (opening_words pacing.trigger) es
+  ever_told es = ever_after_list z (opening_words setup.pacing.trigger) es
 
   -- The state of marking is one of the heap after the list.
   pub record IsOfHeap (es : List (Entry Op)) (c : Cycle) (s : Marking) : Type 0 where
@@ -53,10 +53,10 @@ module _ (shapes : List Shape) (l : Layout) (pacing : Pacing) where
   -- And each actor has in hand, and knows, what its stage says. A processor has in its registers what marking has there; and in a store, from the load of the old value on, it knows that the field holds what was loaded, nil or a marked object, and behind its second shade that what it stores is nil or marked.
   pub record IsTied (es : List (Entry Op)) (c : Cycle) (s : Marking) : Type 0 where
     pub of_heap : IsOfHeap es c s
-    pub processors : (a : ℕ) → a < l.procs → MarkFacts c a s (state_of (processor_kind shapes l) a es)
-    pub workers : (a : ℕ) (w : Working) → a < acks_of l → state_of (actors shapes l pacing) a es ≡ Marks w → WorkerFacts c a s w
+    pub processors : (a : ℕ) → a < setup.layout.procs → MarkFacts c a s (state_of (processor_kind setup.shapes setup.layout) a es)
+    pub workers : (a : ℕ) (w : Working) → a < acks_of setup.layout → state_of (actors setup) a es ≡ Marks w → WorkerFacts c a s w
     -- the coordinator has nothing, and nobody is at a seat behind it
-    pub others : (a : ℕ) → acks_of l ≤ a → Hands a s nothing
+    pub others : (a : ℕ) → acks_of setup.layout ≤ a → Hands a s nothing
 
   -- So marking has what there is.
 
@@ -66,15 +66,15 @@ module _ (shapes : List Shape) (l : Layout) (pacing : Pacing) where
     pub placed : IsPlacedAt (told es) n at
     pub since : s.since at ≡ true
     pub some : 0 < s.extents.size at
-    pub size : s.extents.size at ≡ size_for shapes (ever_told es).type_of n
-    pub pointer : (k : ℕ) → k < size_for shapes (ever_told es).type_of n → s.extents.pointer at k ≡ points shapes (ever_told es).type_of n k
-    pub noscan : s.extents.noscan at ≡ (shape_for shapes (ever_told es).type_of n).noscan
+    pub size : s.extents.size at ≡ size_for setup.shapes (ever_told es).type_of n
+    pub pointer : (k : ℕ) → k < size_for setup.shapes (ever_told es).type_of n → s.extents.pointer at k ≡ points setup.shapes (ever_told es).type_of n k
+    pub noscan : s.extents.noscan at ≡ (shape_for setup.shapes (ever_told es).type_of n).noscan
 
   -- Each object that a script reaches; what a register of a goroutine that goes on names; and what is marked. A state of marking with nothing in it is one of no list after which a script reaches an object.
   pub record ShowsWhatThereIs (es : List (Entry Op)) (s : Marking) : Type 0 where
     pub objects : (n : Name) → Reach (ever_told es) n → HasObject es s n
-    pub registers : (g d : ℕ) (n : Name) → g < l.goroutines → d < REGISTERS → (ever_told es).ended g ≡ false → (ever_told es).register g d ≡ Ref n → (a : ℕ) × IsPlacedAt (told es) n a × (s.registers g d ≡ a + 1)
+    pub registers : (g d : ℕ) (n : Name) → g < setup.layout.goroutines → d < REGISTERS → (ever_told es).ended g ≡ false → (ever_told es).register g d ≡ Ref n → (a : ℕ) × IsPlacedAt (told es) n a × (s.registers g d ≡ a + 1)
     pub marks : (a : ℕ) → row_bit (mark_words (told es)) a ≡ 1 → s.colour a ≢ White
 
 abbrev pub TiesShowWhatThereIs : Type 0
-TiesShowWhatThereIs = (shapes : List Shape) (l : Layout) (pacing : Pacing) (es : List (Entry Op)) (c : Cycle) (s : Marking) → IsOfHeap shapes l pacing es c s → ShowsWhatThereIs shapes l pacing es s
+TiesShowWhatThereIs = (setup : Setup) (es : List (Entry Op)) (c : Cycle) (s : Marking) → IsOfHeap setup es c s → ShowsWhatThereIs setup es s

@@ -7,9 +7,12 @@ pub use Rattle.gh_base.specs.declared.machine.Entry.{Entry}
 pub use Rattle.gh_base.specs.declared.operation.Op.{Op}
 pub use Rattle.gh_base.specs.declared.shape.Shape.{Shape}
 pub use Rattle.gh_base.specs.declared.value.Name.{Name}
+pub use Rattle.gh_base.specs.Shapes.{shape_at}
 pub use Rattle.gh_model.specs.Ever.{Ever, Reach}
 pub use Rattle.gh_heap.specs.Rights.{Arena, view}
+pub use Rattle.gh_alloc.specs.Find.{span_for}
 pub use Rattle.gh_mutator.specs.Deeds.{processor_kind}
+pub use Rattle.gh_mutator.specs.New.{sought_for}
 pub use Rattle.gh_coord.specs.Listing.{Coordinating}
 pub use Rattle.gh_coord.specs.Stopping.{acks_of}
 pub use Rattle.gh_lists.specs.declared.handshake.Actor.{Actor}

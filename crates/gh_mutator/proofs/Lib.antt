@@ -3,8 +3,6 @@ pub mod Asking
 pub mod Changes
 pub mod ClassFacts
 pub mod Deeds
-pub mod Ending
-pub mod Faults
 pub mod Fields
 pub mod Giving
 pub mod GlobalSteps

@@ -3,8 +3,6 @@
 ghost use Rattle.gh_mutator.specs.Acting.{EachOperationActsOnce};
 ghost use Rattle.gh_mutator.specs.Asking.{ProcessorsAskAtTheTrigger};
 ghost use Rattle.gh_mutator.specs.Deeds.{OnlyPointsChange, ProcessorsDeedsFit};
-ghost use Rattle.gh_mutator.specs.Ending.{OperationsEnd};
-ghost use Rattle.gh_mutator.specs.Faults.{FaultsChangeNothing};
 ghost use Rattle.gh_mutator.specs.Handshake.{LeavesInHandshake, PollsInHandshake, WaitsInHandshake};
 ghost use Rattle.gh_mutator.specs.MarkFacts.{LeavesByMoves, PollsByMoves, WaitsByMoves};
 ghost use Rattle.gh_mutator.specs.PollRoom.{PollsMakeRoom};
@@ -17,7 +15,7 @@ ghost use Rattle.gh_mutator.specs.Wanting.{WhatIsWantedFits};
 
 use gh_alloc::laws::{allocation_is_quiet, an_object_asks_at_the_trigger, searches_run_sweeps};
 use gh_assist::laws::{assists_are_quiet, assists_by_moves};
-use gh_barrier::laws::{writes_by_moves, writing_ends};
+use gh_barrier::laws::writes_by_moves;
 use gh_class::size_class_laws;
 use gh_marks::laws::{facts_last, hands_follow, own_moves_leave, steps_go_by_moves};
 use gh_phase::laws::going_on_keeps_the_handshake;
@@ -25,21 +23,6 @@ use gh_scan::laws::marking_is_quiet;
 use gh_shade::laws::shades_by_moves;
 use gh_stack::laws::stacks_are_scanned_by_moves;
 use gh_wbuf::laws::buffers_pass_by_moves;
-
-/// Whatever its steps find, an operation that neither makes an object nor waits for others ends after a few of
-/// them: a load after at most 4, a store after 3, a load of a global after 2, and each other statement, and the
-/// end of a goroutine, after 1. While marking is on, as the processor knows, a store ends after at most 10, and one of a
-/// global after 8: there they have a write barrier.
-pub fn operations_end()
-    ensures { OperationsEnd }
-{
-    writing_ends();
-}
-
-/// A statement that is answered a fault has loaded words alone, and leaves the processor as it was.
-pub fn faults_change_nothing()
-    ensures { FaultsChangeNothing }
-{}
 
 /// An operation that is begun acts once, before it ends, whatever its steps find: also one that has no point.
 pub fn each_operation_acts_once()

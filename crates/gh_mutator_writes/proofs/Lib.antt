@@ -1,4 +1,6 @@
 pub mod Calm
+pub mod Ending
+pub mod Faults
 pub mod Full
 pub mod Refusing
 pub mod Spending

@@ -1,5 +1,7 @@
-//! Laws of the words that a processor writes. The functions do nothing; what they ensure is proved.
+//! Laws of the words that a processor writes, and of how many steps it takes. The functions do nothing; what they ensure is proved.
 
+ghost use Rattle.gh_mutator.specs.Ending.{OperationsEnd};
+ghost use Rattle.gh_mutator.specs.Faults.{FaultsChangeNothing};
 ghost use Rattle.gh_mutator_writes.specs.Calm.{CalmProcessorsMarkNothing};
 ghost use Rattle.gh_mutator_writes.specs.Full.{FullChangesLittle};
 ghost use Rattle.gh_mutator_writes.specs.Spending.{ProcessorsSpend};
@@ -7,10 +9,26 @@ ghost use Rattle.gh_mutator_writes.specs.Writing.{ProcessorWritesItsOwn, StacksA
 
 use gh_alloc::laws::an_object_is_marked_before_it_is_made;
 use gh_assist::laws::{assists_are_quiet, assists_pay};
+use gh_barrier::laws::writing_ends;
 use gh_base::laws::cells_are_told;
 use gh_mutator::laws::{
     a_processor_marks_by_moves, objects_ask_at_the_trigger, the_processor_keeps_the_handshake,
 };
+
+/// Whatever its steps find, an operation that neither makes an object nor waits for others ends after a few of
+/// them: a load after at most 4, a store after 3, a load of a global after 2, and each other statement, and the
+/// end of a goroutine, after 1. While marking is on, as the processor knows, a store ends after at most 10, and one of a
+/// global after 8: there they have a write barrier.
+pub fn operations_end()
+    ensures { OperationsEnd }
+{
+    writing_ends();
+}
+
+/// A statement that is answered a fault has loaded words alone, and leaves the processor as it was.
+pub fn faults_change_nothing()
+    ensures { FaultsChangeNothing }
+{}
 
 /// A `new` that is answered `full` has waited: a cycle that began after it did was swept. Each step beside those of
 /// the wait loaded a word, took or freed the heap's lock, wrote a page word, or was one that a sweep makes: it swapped a

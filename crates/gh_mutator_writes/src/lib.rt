@@ -10,6 +10,8 @@
 //!   marking is on (`specs/Calm.antt`).
 //! * What it counts as spent is what it takes out of the bank (`specs/Spending.antt`).
 //! * A `new` that is answered `full` has only looked for a slot and waited (`specs/Full.antt`).
+//! * How many steps an operation takes that waits for nobody, and that a fault has loaded words alone, are read off by going
+//!   through the statements in the same way (`proofs/Ending.antt`, `proofs/Faults.antt`).
 //! * Whatever word a store overwrites, the processor goes over to the same (`specs/Blind.antt`).
 #![tactic(auto)]
 

@@ -30,7 +30,7 @@ use Rattle.gh_world.specs.Below.{IsStanding as IsStandingObject, AllStands, IsPa
 use Rattle.gh_lists.specs.Lists as lists
 use Rattle.gh_lists.specs.Processors.{arena_of, IsAnothers, IsPlacedAt, NoRoomFor}
 use Rattle.gh_lists.specs.Wants.{total}
-use Rattle.gh_world.specs.World.{LaysOut, may_begin_of, pacing_of}
+use Rattle.gh_world.specs.World.{LaysOut, setup_of}
 use Rattle.gh_plenty.specs.Plenty.{all_objects, HasPlenty, objects_of}
 use Rattle.gh_plenty.proofs.Codes.{digits, one, up}
 use Rattle.gh_plenty.proofs.Counting.{HaveTheirOwn, no_more_pairs}
@@ -55,12 +55,12 @@ lie_within c least whole some fit one_page = record { some = omega (arith, some)
       let eighth : slot_of c * i ≡ 8 * (slot_of c / 8 * i) = ap (λ (n : ℕ). n * i) bytes ∙ omega arith in
       omega (arith, up, more, turned, fit, one_page, least, eighth)
 
-module _ (p : Program) (l : Layout) (es : List (Entry Op)) (plenty : HasPlenty p) (laid : LaysOut p l) (stands : AllStands p.shapes l (pacing_of p) (may_begin_of p l) es) (lie : LieWithin (slots_of plenty.class) (slot_of plenty.class / 8)) where
+module _ (p : Program) (l : Layout) (es : List (Entry Op)) (plenty : HasPlenty p) (stands : AllStands (setup_of p l) es) (lie : LieWithin (slots_of plenty.class) (slot_of plenty.class / 8)) where
   abbrev pub ever : Ever
-  ever = lists.ever p.shapes l (pacing_of p) (may_begin_of p l) es
+  ever = lists.ever (setup_of p l) es
 
   abbrev pub w : Words
-  w = lists.words p.shapes l (pacing_of p) (may_begin_of p l) es
+  w = lists.words (setup_of p l) es
 
   abbrev slots : ℕ
   slots = slots_of plenty.class
@@ -112,6 +112,26 @@ module _ (p : Program) (l : Layout) (es : List (Entry Op)) (plenty : HasPlenty p
     stands_there : (n : Name) → IsMade ever.made n → IsPlacedAt w n (1024 * q + i * words) → v ≡ total (objects_of p) n.g + n.k → Has q i v
     is_cached : (a : ℕ) (s : IsSpanAt q) → a < l.procs → s.h.owner ≡ a + 1 → v ≡ all_objects p + (slots * a + i) → Has q i v
 
+  -- One slot has one number.
+
+  record SameSlot (q i x j : ℕ) : Type 0 where
+    page : q ≡ x
+    slot : i ≡ j
+
+  -- an object stands in one slot
+  module _ (q i x j : ℕ) (few_i : i < slots) (few_j : j < slots) where
+    apart : (n : Name) → IsMade ever.made n → IsPlacedAt w n (1024 * q + i * words) → IsPlacedAt w n (1024 * x + j * words) → SameSlot q i x j
+    apart n made here there =
+        let standing : IsStandingObject (setup_of p l) es n = (made, (1024 * q + i * words, here)) in
+        let first = stands.apart.stand.once n (1024 * q + i * words) standing here in
+        let second = stands.apart.stand.once n (1024 * x + j * words) standing there in
+        let in_page = lie.within i few_i in let in_other = lie.within j few_j in
+        let turned : i * words ≡ words * i = mul_comm i words in
+        let also : j * words ≡ words * j = mul_comm j words in
+        let page : q ≡ x = omega (arith, first, second, in_page, in_other, turned, also) in
+        let rows : words * i + 0 ≡ words * j + 0 = omega (arith, first, second, in_page, in_other, turned, also, page) in
+        record { page = page; slot = (digits words i 0 j 0 lie.wide lie.wide rows).digit }
+
   module _ (few : (g : ℕ) → ever.made g ≤ objects_of p g) (none : (g : ℕ) → length p.goroutines ≤ g → ever.made g ≡ 0) where
     abbrev bound : ℕ
     bound = all_objects p + slots * l.procs
@@ -132,30 +152,13 @@ module _ (p : Program) (l : Layout) (es : List (Entry Op)) (plenty : HasPlenty p
         let more : slots * suc a ≡ slots * a + slots = omega arith in
         omega (arith, le, more, small)
 
-    -- One slot has one number.
-
+    -- and one number is that of one slot
     module _ (q i x j v : ℕ) (few_i : i < slots) (few_j : j < slots) where
-      record SameSlot : Type 0 where
-        page : q ≡ x
-        slot : i ≡ j
-
-      apart : (n : Name) → IsMade ever.made n → IsPlacedAt w n (1024 * q + i * words) → IsPlacedAt w n (1024 * x + j * words) → SameSlot
-      apart n made here there =
-          let standing : IsStandingObject p.shapes l (pacing_of p) (may_begin_of p l) es n = (made, (1024 * q + i * words, here)) in
-          let first = stands.apart.stand.once n (1024 * q + i * words) standing here in
-          let second = stands.apart.stand.once n (1024 * x + j * words) standing there in
-          let in_page = lie.within i few_i in let in_other = lie.within j few_j in
-          let turned : i * words ≡ words * i = mul_comm i words in
-          let also : j * words ≡ words * j = mul_comm j words in
-          let page : q ≡ x = omega (arith, first, second, in_page, in_other, turned, also) in
-          let rows : words * i + 0 ≡ words * j + 0 = omega (arith, first, second, in_page, in_other, turned, also, page) in
-          record { page = page; slot = (digits words i 0 j 0 lie.wide lie.wide rows).digit }
-
-      same : Has q i v → Has x j v → SameSlot
+      same : Has q i v → Has x j v → SameSlot q i x j
       same (stands_there n made here is) (stands_there m also there too) =
           let y = one (objects_of p) n.g n.k m.g m.k (is_named n made) (is_named m also) (sym is ∙ too) in
           let name : n ≡ m = λ r. record { g = y.kind r; k = y.thing r } in
-          apart n made here (subst (λ (k : Name). IsPlacedAt w k (1024 * x + j * words)) (sym name) there)
+          apart q i x j few_i few_j n made here (subst (λ (k : Name). IsPlacedAt w k (1024 * x + j * words)) (sym name) there)
       same (stands_there n made here is) (is_cached b s lt owner too) = absurd (let less = below_all n made in omega (arith, less, is, too))
       same (is_cached a s lt owner is) (stands_there m also there too) = absurd (let less = below_all m also in omega (arith, less, is, too))
       same (is_cached a s lt owner is) (is_cached b r less own too) =
@@ -211,8 +214,8 @@ module _ (p : Program) (l : Layout) (es : List (Entry Op)) (plenty : HasPlenty p
         column = λ q i x j v few_i few_j one other. (same q i x j v few_i few_j one other).slot;
       }
 
-      pub no_room_is_none : ⊥
-      no_room_is_none =
+      pub no_room_is_none : LaysOut p l → ⊥
+      no_room_is_none laid =
           let le : l.pages * slots ≤ bound = no_more_pairs l.pages slots bound Has own_numbers in
           let pages : l.pages * slots ≡ p.settings.arena * slots = ap (λ (n : ℕ). n * slots) laid.pages_are in
           let procs : slots * l.procs ≡ p.settings.procs * slots = mul_comm slots l.procs ∙ ap (λ (n : ℕ). n * slots) laid.procs_are in

@@ -20,7 +20,7 @@ use Rattle.gh_lists.specs.Order.{has_left, in_range, is_over, order_of}
 use Rattle.gh_lists.specs.Processors.{arena_of, has_more, is_of, IsFullFor, may_leave, may_run, NoRoomFor}
 use Rattle.gh_world.specs.Runs.{Awaited, EveryListOfAScriptStands, FoundNoRoom, IsExplained, words_in}
 use Rattle.gh_world.specs.Wishes.{wishes_of}
-use Rattle.gh_world.specs.World.{LaysOut, may_begin_of, pacing_of, setting_of}
+use Rattle.gh_world.specs.World.{LaysOut, may_begin_of, setting_of, setup_of}
 use Rattle.gh_plenty.specs.Plenty.{HasPlenty, NeverFull, objects_of}
 use Rattle.gh_plenty.proofs.Crowded.{LieWithin, no_room_is_none, the_type}
 use Rattle.gh_plenty.proofs.Made.{ever, later_more, made_few, made_in, of_others, of_script}
@@ -69,7 +69,7 @@ module _ (p : Program) (l : Layout) (es : List (Entry Op)) (o : Outcome) (plenty
     legal : Legal (setting_of p l) f.step.before
     legal = (behind p l f.step.later (f.step.entry ∷ f.step.before) (subst (Legal (setting_of p l)) f.step.there run.run.legal)).0
 
-    stands : AllStands p.shapes l (pacing_of p) (may_begin_of p l) f.step.before
+    stands : AllStands (setup_of p l) f.step.before
     stands = every p l f.step.before formed laid legal
 
     so_far : (g : ℕ) → (ever p l changed f.step.before).made g ≤ made_in g (order_of p.shapes l es)
@@ -89,7 +89,7 @@ module _ (p : Program) (l : Layout) (es : List (Entry Op)) (o : Outcome) (plenty
     refused : (y : Op) → x ≡ y → IsFullFor (arena_of p.shapes l) f.step.entry.actor (words_in p l before) (state_of (processor_kind p.shapes l) f.step.entry.actor before) y → ⊥
     refused (op.New g d t) is room =
         let type : t < length p.shapes = type_of p l f.step.entry.actor before g d t legal (subst (Awaited p l f.step.entry.actor before) is f.waited) in
-        no_room_is_none p l before plenty laid stands lie few none f.step.entry.actor _ (subst (λ (s : Shape). NoRoomFor (arena_of p.shapes l) f.step.entry.actor (words_in p l before) (state_of (processor_kind p.shapes l) f.step.entry.actor before) (sought_for s)) (the_type p l before plenty laid stands lie t type) room)
+        no_room_is_none p l before plenty stands lie few none f.step.entry.actor _ (subst (λ (s : Shape). NoRoomFor (arena_of p.shapes l) f.step.entry.actor (words_in p l before) (state_of (processor_kind p.shapes l) f.step.entry.actor before) (sought_for s)) (the_type p l before plenty stands lie t type) room) laid
     refused _ is room = absurd room
 
     pub none_refused : ⊥

@@ -95,6 +95,13 @@ pub record Midway (p : Program) (xs rest : List Answered) (taken : Told) (lists 
   pub answers : AllAnswer p.shapes (ever_of lists) (ops_of rest) (answers_of rest)
   pub ends : ever_after_all p.shapes (ever_of lists) (ops_of rest) (answers_of rest) ≡ ever_along p.shapes xs
 
+-- What is behind an operation of goroutine g that is given this answer: one of its statements less is to come, and one of its answers is taken.
+pub record Takes (p : Program) (g : ℕ) (o : Op) (a : Answer) (told told_then : Told) (lists then : Lists) : Type 0 where
+  pub shapes : then.shapes ≡ lists.shapes
+  pub left : then.left ≡ spent lists.left g
+  pub after : ever_of then ≡ ever_after p.shapes (ever_of lists) o (given_answer p.shapes (ever_of lists) o (Some a))
+  pub taken : (h : ℕ) → left_of told_then h ≡ cond (eqb h g) (drop 1 (left_of told h)) (left_of told h)
+
 -- the next statement
 module _ (p : Program) (xs more : List Answered) (x : Answered) (told : Told) (lists : Lists) (g n : ℕ) (m : Midway p xs (x ∷ more) told lists) (at : op_at_point p (g, n) ≡ Some x.op) where
   here : IsThere p g x.op
@@ -125,10 +132,9 @@ module _ (p : Program) (xs more : List Answered) (x : Answered) (told : Told) (l
   given = gives p.shapes (ever_of lists) x.op x.answer m.answers.0
 
   -- and behind it
-  module _ (told_then : Told) (then : Lists) (shapes : then.shapes ≡ lists.shapes) (left : then.left ≡ spent lists.left g) (after : ever_of then ≡ ever_after p.shapes (ever_of lists) x.op (given_answer p.shapes (ever_of lists) x.op (Some x.answer)))
-      (taken : (h : ℕ) → left_of told_then h ≡ cond (eqb h g) (drop 1 (left_of told h)) (left_of told h)) where
+  module _ (told_then : Told) (then : Lists) (t : Takes p g x.op x.answer told told_then lists then) where
     left_then : (h : ℕ) → h < length p.goroutines → get_or then.left h 0 ≡ length (acted_by h more)
-    left_then h lt = ap (λ (ns : List ℕ). get_or ns h 0) left ∙ go (eqb h g) refl where
+    left_then h lt = ap (λ (ns : List ℕ). get_or ns h 0) t.left ∙ go (eqb h g) refl where
       go : (b : Bool) → eqb h g ≡ b → get_or (set lists.left g (get_or lists.left g 0 - 1)) h 0 ≡ length (acted_by h more)
       go true e =
           let same : h ≡ g = eqb-true h g e in
@@ -140,7 +146,7 @@ module _ (p : Program) (xs more : List Answered) (x : Answered) (told : Told) (l
           get_or-set_other lists.left g h (get_or lists.left g 0 - 1) 0 other ∙ m.left h lt ∙ ap length (others h other)
 
     told_are : (h : ℕ) → h < length p.goroutines → left_of told_then h ≡ answers_of (acted_by h more)
-    told_are h lt = taken h ∙ go (eqb h g) refl where
+    told_are h lt = t.taken h ∙ go (eqb h g) refl where
       go : (b : Bool) → eqb h g ≡ b → cond b (drop 1 (left_of told h)) (left_of told h) ≡ answers_of (acted_by h more)
       go true e = let same : h ≡ g = eqb-true h g e in rw same (ap (drop 1) (m.told g there ∙ ap answers_of own))
       go false e =
@@ -148,12 +154,12 @@ module _ (p : Program) (xs more : List Answered) (x : Answered) (told : Told) (l
           m.told h lt ∙ ap answers_of (others h other)
 
     after_is : ever_of then ≡ ever_after p.shapes (ever_of lists) x.op x.answer
-    after_is = after ∙ ap (ever_after p.shapes (ever_of lists) x.op) given
+    after_is = t.after ∙ ap (ever_after p.shapes (ever_of lists) x.op) given
 
     pub goes_on : Midway p xs more told_then then
     goes_on = record {
-      shapes = shapes ∙ m.shapes;
-      many = ap length left ∙ length-set lists.left g (get_or lists.left g 0 - 1) ∙ m.many;
+      shapes = t.shapes ∙ m.shapes;
+      many = ap length t.left ∙ length-set lists.left g (get_or lists.left g 0 - 1) ∙ m.many;
       left = left_then;
       told = told_are;
       answers = subst (λ (e : Ever). AllAnswer p.shapes e (ops_of more) (answers_of more)) (sym after_is) m.answers.1;
@@ -211,8 +217,6 @@ module _ (p : Program) (points : List (ℕ × ℕ)) (answers : List (ℕ × Answ
             subst (λ (x : Answer). given_answer p.shapes (ever_of lists) next.op (Some x) ≡ x) (sym (told_so b is))
             (given p xs (drop (i + 1) xs) next told lists point.0 point.1 before_it point_at)
 
-        pub next_goes_on : (b : Answer) → a ≡ Some b → (told_then : Told) (then : Lists) → then.shapes ≡ lists.shapes → then.left ≡ spent lists.left point.0 →
-            ever_of then ≡ ever_after p.shapes (ever_of lists) next.op (given_answer p.shapes (ever_of lists) next.op (Some b)) → ((h : ℕ) → left_of told_then h ≡ cond (eqb h point.0) (drop 1 (left_of told h)) (left_of told h)) → Midway p xs (drop (i + 1) xs) told_then then
-        next_goes_on b is told_then then shapes left after rest =
-            goes_on p xs (drop (i + 1) xs) next told lists point.0 point.1 before_it point_at told_then then shapes left
-            (subst (λ (x : Answer). ever_of then ≡ ever_after p.shapes (ever_of lists) next.op (given_answer p.shapes (ever_of lists) next.op (Some x))) (told_so b is) after) rest
+        pub next_goes_on : (b : Answer) → a ≡ Some b → (told_then : Told) (then : Lists) → Takes p point.0 next.op b told told_then lists then → Midway p xs (drop (i + 1) xs) told_then then
+        next_goes_on b is told_then then t =
+            goes_on p xs (drop (i + 1) xs) next told lists point.0 point.1 before_it point_at told_then then (subst (λ (x : Answer). Takes p point.0 next.op x told told_then lists then) (told_so b is) t)

@@ -183,23 +183,6 @@ module _ (p : Program) (l : Layout) where
 
 -- ---- who has ended after a step, and who goes on
 
-module _ (w v : State) (actor : ℕ) (happened : Event) (es : List (Entry Op)) (before : IsAfter w es) (a : Appends v actor es happened) (script : script_of v ≡ script_of w) (layout : layout_of v ≡ layout_of w) (count : actors_of v ≡ actors_of w) (there : actor < actors_of w) (on : is_done w actor ≡ false) where
-  -- what it has come to by the list
-  after_it : (b : ℕ) → b < actors_of w → is_done v b ≡ has_ended (actor_after (script_of w) (layout_of w) (a.e ∷ es) b)
-  after_it b lt = ap has_ended (a.after.actors b (omega (arith, count, lt))) ∙ ap (λ (q : Program). has_ended (actor_after q (layout_of v) (a.e ∷ es) b)) script ∙ ap (λ (k : Layout). has_ended (actor_after (script_of w) k (a.e ∷ es) b)) layout
-
-  says : happened ≡ event_of (script_of w) (layout_of w) es a.e
-  says = a.says ∙ ap (λ (q : Program). event_of q (layout_of v) es a.e) script ∙ ap (λ (k : Layout). event_of (script_of w) k es a.e) layout
-
-  own : is_finished happened ≡ has_ended (takes (script_of w).shapes (started (setting_of (script_of w) (layout_of w)).kind a.e.begun (actor_after (script_of w) (layout_of w) es a.e.actor)) a.e.found)
-  own = ap is_finished says ∙ finished_in (script_of w) (layout_of w) es a.e (ap (λ (b : ℕ). has_ended (actor_after (script_of w) (layout_of w) es b)) a.by ∙ sym (ap has_ended (before.actors actor there)) ∙ on)
-
-  ended_then : (b : ℕ) → b < actors_of w → is_done v b ≡ cond (eqb actor b) (is_finished happened) (is_done w b)
-  ended_then b lt = after_it b lt ∙ go (eqb a.e.actor b) refl ∙ ap (λ (c : ℕ). cond (eqb c b) (is_finished happened) (is_done w b)) a.by where
-    go : (c : Bool) → eqb a.e.actor b ≡ c → has_ended (cond c (takes (script_of w).shapes (started (setting_of (script_of w) (layout_of w)).kind a.e.begun (actor_after (script_of w) (layout_of w) es b)) a.e.found) (actor_after (script_of w) (layout_of w) es b)) ≡ cond c (is_finished happened) (is_done w b)
-    go true same = sym (own ∙ ap (λ (d : ℕ). has_ended (takes (script_of w).shapes (started (setting_of (script_of w) (layout_of w)).kind a.e.begun (actor_after (script_of w) (layout_of w) es d)) a.e.found)) (eqb-true a.e.actor b same))
-    go false other = sym (ap has_ended (before.actors b lt))
-
 -- those that go on, where this one has ended or nobody has
 module _ (f g : ℕ → Bool) (actor : ℕ) where
   taken_out : (b m : ℕ) → ((x : ℕ) → x < b + m → f x ≡ cond (eqb actor x) true (g x)) → filter (λ x. not (f x)) (range_with_len b m) ≡ filter (λ x. not (eqb actor x)) (filter (λ x. not (g x)) (range_with_len b m))
@@ -215,12 +198,38 @@ module _ (f g : ℕ → Bool) (actor : ℕ) where
   alike b zero h = refl
   alike b (suc m) h = rw (h b (omega arith), alike (b + 1) m (λ x lt. h x (omega (arith, lt)))) refl
 
-module _ (w v : State) (actor : ℕ) (happened : Event) (es : List (Entry Op)) (before : IsAfter w es) (a : Appends v actor es happened) (script : script_of v ≡ script_of w) (layout : layout_of v ≡ layout_of w) (count : actors_of v ≡ actors_of w) (there : actor < actors_of w) (on : is_done w actor ≡ false) where
+-- a step of this actor, which is not done, from the world after the list, and what the world keeps in it
+pub record Stepped (w v : State) (actor : ℕ) (happened : Event) (es : List (Entry Op)) : Type 0 where
+  pub before : IsAfter w es
+  pub appends : Appends v actor es happened
+  pub script : script_of v ≡ script_of w
+  pub layout : layout_of v ≡ layout_of w
+  pub count : actors_of v ≡ actors_of w
+  pub there : actor < actors_of w
+  pub on : is_done w actor ≡ false
+
+module _ (w v : State) (actor : ℕ) (happened : Event) (es : List (Entry Op)) (s : Stepped w v actor happened es) where
+  -- what it has come to by the list
+  after_it : (b : ℕ) → b < actors_of w → is_done v b ≡ has_ended (actor_after (script_of w) (layout_of w) (s.appends.e ∷ es) b)
+  after_it b lt = ap has_ended (s.appends.after.actors b (omega (arith, s.count, lt))) ∙ ap (λ (q : Program). has_ended (actor_after q (layout_of v) (s.appends.e ∷ es) b)) s.script ∙ ap (λ (k : Layout). has_ended (actor_after (script_of w) k (s.appends.e ∷ es) b)) s.layout
+
+  says : happened ≡ event_of (script_of w) (layout_of w) es s.appends.e
+  says = s.appends.says ∙ ap (λ (q : Program). event_of q (layout_of v) es s.appends.e) s.script ∙ ap (λ (k : Layout). event_of (script_of w) k es s.appends.e) s.layout
+
+  own : is_finished happened ≡ has_ended (takes (script_of w).shapes (started (setting_of (script_of w) (layout_of w)).kind s.appends.e.begun (actor_after (script_of w) (layout_of w) es s.appends.e.actor)) s.appends.e.found)
+  own = ap is_finished says ∙ finished_in (script_of w) (layout_of w) es s.appends.e (ap (λ (b : ℕ). has_ended (actor_after (script_of w) (layout_of w) es b)) s.appends.by ∙ sym (ap has_ended (s.before.actors actor s.there)) ∙ s.on)
+
+  ended_then : (b : ℕ) → b < actors_of w → is_done v b ≡ cond (eqb actor b) (is_finished happened) (is_done w b)
+  ended_then b lt = after_it b lt ∙ go (eqb s.appends.e.actor b) refl ∙ ap (λ (c : ℕ). cond (eqb c b) (is_finished happened) (is_done w b)) s.appends.by where
+    go : (c : Bool) → eqb s.appends.e.actor b ≡ c → has_ended (cond c (takes (script_of w).shapes (started (setting_of (script_of w) (layout_of w)).kind s.appends.e.begun (actor_after (script_of w) (layout_of w) es b)) s.appends.e.found) (actor_after (script_of w) (layout_of w) es b)) ≡ cond c (is_finished happened) (is_done w b)
+    go true same = sym (own ∙ ap (λ (d : ℕ). has_ended (takes (script_of w).shapes (started (setting_of (script_of w) (layout_of w)).kind s.appends.e.begun (actor_after (script_of w) (layout_of w) es d)) s.appends.e.found)) (eqb-true s.appends.e.actor b same))
+    go false other = sym (ap has_ended (s.before.actors b lt))
+
   then' : (b : ℕ) → b < 0 + actors_of w → is_done v b ≡ cond (eqb actor b) (is_finished happened) (is_done w b)
-  then' b lt = ended_then w v actor happened es before a script layout count there on b (omega (arith, lt))
+  then' b lt = ended_then b (omega (arith, lt))
 
   same_range : going (seen_of v) ≡ filter (λ b. not (is_done v b)) (range_with_len 0 (actors_of w))
-  same_range = ap (λ (n : ℕ). filter (λ b. not (is_done v b)) (range_with_len 0 n)) count
+  same_range = ap (λ (n : ℕ). filter (λ b. not (is_done v b)) (range_with_len 0 n)) s.count
 
   -- its actor is done
   pub going_less : is_finished happened ≡ true → going (seen_of v) ≡ filter (λ b. not (eqb actor b)) (going (seen_of w))
@@ -230,7 +239,7 @@ module _ (w v : State) (actor : ℕ) (happened : Event) (es : List (Entry Op)) (
   pub going_same : is_finished happened ≡ false → going (seen_of v) ≡ going (seen_of w)
   going_same is = same_range ∙ alike (is_done v) (is_done w) actor 0 (actors_of w) (λ b lt. then' b lt ∙ ap (λ (c : Bool). cond (eqb actor b) c (is_done w b)) is ∙ go b (eqb actor b) refl) where
     go : (b : ℕ) (c : Bool) → eqb actor b ≡ c → cond c false (is_done w b) ≡ is_done w b
-    go b true same = sym on ∙ ap (is_done w) (eqb-true actor b same)
+    go b true same = sym s.on ∙ ap (is_done w) (eqb-true actor b same)
     go b false other = refl
 
 -- ---- what is kept, where there is a generator
@@ -239,9 +248,9 @@ keep_by : {A B : Type 0} (o : Option ℕ) → IfSome o (λ x. A) → (A → B) �
 keep_by None h f = h
 keep_by (Some x) h f = f h
 
-module _ (w v : State) (actor : ℕ) (happened : Event) (es : List (Entry Op)) (before : IsAfter w es) (a : Appends v actor es happened) (script : script_of v ≡ script_of w) (layout : layout_of v ≡ layout_of w) (count : actors_of v ≡ actors_of w) (there : actor < actors_of w) (on : is_done w actor ≡ false) (c : place.Place) (kept : List ℕ) (all : Keeps c kept w) where
+module _ (w v : State) (actor : ℕ) (happened : Event) (es : List (Entry Op)) (s : Stepped w v actor happened es) (c : place.Place) (kept : List ℕ) (all : Keeps c kept w) where
   pub keeps_on : is_finished happened ≡ false → Keeps c kept v
-  keeps_on is = keep_by c.drawn all (λ h. h ∙ sym (going_same w v actor happened es before a script layout count there on is))
+  keeps_on is = keep_by c.drawn all (λ h. h ∙ sym (going_same w v actor happened es s is))
 
   pub keeps_less : (less : List ℕ) → less ≡ filter (λ b. not (eqb actor b)) kept → is_finished happened ≡ true → Keeps c less v
-  keeps_less less items is = keep_by c.drawn all (λ h. items ∙ ap (filter (λ b. not (eqb actor b))) h ∙ sym (going_less w v actor happened es before a script layout count there on is))
+  keeps_less less items is = keep_by c.drawn all (λ h. items ∙ ap (filter (λ b. not (eqb actor b))) h ∙ sym (going_less w v actor happened es s is))

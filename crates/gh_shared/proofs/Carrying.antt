@@ -27,7 +27,7 @@ use Rattle.gh_shared.specs.Calls.{IsClosedAfter}
 use Rattle.gh_shared.specs.Machines.{actor_of, asks, begins, goes, is_coordinator, IsCoordinator, opening}
 use Rattle.gh_shared.specs.Plans.{Planned, setting}
 use Rattle.gh_shared.specs.Shown.{as_actor, CarriesSo, count_among, drawn_beside, drawn_by, first_of, leader_of}
-use Rattle.gh_shared.proofs.Drawing.{both_words, drawn_all, drawn_both, drawn_on, none_drawn, one_word, same_state}
+use Rattle.gh_shared.proofs.Drawing.{both_words, drawn_all, drawn_both, drawn_on, Joined, none_drawn, one_word, same_state}
 use Rattle.gh_shared.proofs.Ready.{OfItsOwn}
 
 -- ---- how many
@@ -180,35 +180,35 @@ module _ (law : OfItsOwn) (p : Planned) where
       carried_on me.0.actors me.0.log me'.0.log a x x' carried drawn led (λ c ne. ap (by c) ran.log ∙ by_others a b y founds me.0.log c ne) (same_kind y x' founds ran.machine ∙ kind) (state ∙ ap (λ (q : Planned). state_of (setting q).kind a me'.0.log) (ran.plan ∙ sym plan)) kept
 
   -- two are joined
-  pub carried_both : (xs ys zs : List ℕ) (log other log' : List (Entry Op)) (a b : ℕ) (x y : ActorMachine) (n m d e : ℕ) (led that : Option Coordinating) → ((c : ℕ) → has zs c ≡ (has xs c || has ys c)) → ((c : ℕ) → has xs c ≡ true → has ys c ≡ false) → has xs a ≡ true → has ys b ≡ true
-      → ((c : ℕ) → has xs c ≡ true → by c log' ≡ by c log) → ((c : ℕ) → has xs c ≡ false → by c log' ≡ by c other) → actor_of y ≡ state_of (setting p).kind b other → CarriesSo p xs log a x n d led → CarriesSo p ys other b y m e that → CarriesSo p zs log' a x (n + m) ((d + (e + drawn_by y) % 2 ^ 64) % 2 ^ 64) (first_of led (leader_of y that))
-  carried_both xs ys zs log other log' a b x y n m d e led that both apart mine its own theirs state kept kept' = record {
+  pub carried_both : (v w v' : View Planned Op) (a b : ℕ) (x y : ActorMachine) (n m d e : ℕ) (led that : Option Coordinating) → Joined v w v' → Carries v a → Carries w b → actor_of y ≡ state_of (setting p).kind b w.log → CarriesSo p v.actors v.log a x n d led → CarriesSo p w.actors w.log b y m e that
+      → CarriesSo p v'.actors v'.log a x (n + m) ((d + (e + drawn_by y) % 2 ^ 64) % 2 ^ 64) (first_of led (leader_of y that))
+  carried_both v w v' a b x y n m d e led that joined mine its state kept kept' = record {
     known = kept.known;
     last = kept.last;
-    counted = let all = count_both xs ys zs both apart (seats_of p.layout) in let one = kept.counted in let two = kept'.counted in omega (arith, all, one, two);
+    counted = let all = count_both v.actors w.actors v'.actors joined.both joined.apart (seats_of p.layout) in let one = kept.counted in let two = kept'.counted in omega (arith, all, one, two);
     summed =
-        both_words d e (drawn_by y) (total (drawn_beside p a xs log) (seats_of p.layout)) (total (drawn_beside p b ys other) (seats_of p.layout)) kept.summed kept'.summed
-        ∙ ap (λ (s : Actor). (total (drawn_beside p a xs log) (seats_of p.layout) + (total (drawn_beside p b ys other) (seats_of p.layout) + spent_at s)) % 2 ^ 64) state
-        ∙ ap (λ (k : ℕ). k % 2 ^ 64) (sym (drawn_both p law a b xs ys zs log other log' both apart mine its own theirs kept'.known));
-    none = λ out. no_one (has xs (acks_of p.layout)) refl (has ys (acks_of p.layout)) refl (sym (both (acks_of p.layout)) ∙ out);
-    leader = λ holds. from_led (leader_of x (first_of led (leader_of y that))) (state_of (setting p).kind (acks_of p.layout) log') (go (has xs (acks_of p.layout)) refl (sym (both (acks_of p.layout)) ∙ holds));
+        both_words d e (drawn_by y) (total (drawn_beside p a v.actors v.log) (seats_of p.layout)) (total (drawn_beside p b w.actors w.log) (seats_of p.layout)) kept.summed kept'.summed
+        ∙ ap (λ (s : Actor). (total (drawn_beside p a v.actors v.log) (seats_of p.layout) + (total (drawn_beside p b w.actors w.log) (seats_of p.layout) + spent_at s)) % 2 ^ 64) state
+        ∙ ap (λ (k : ℕ). k % 2 ^ 64) (sym (drawn_both p law a b v w v' joined mine its kept'.known));
+    none = λ out. no_one (has v.actors (acks_of p.layout)) refl (has w.actors (acks_of p.layout)) refl (sym (joined.both (acks_of p.layout)) ∙ out);
+    leader = λ holds. from_led (leader_of x (first_of led (leader_of y that))) (state_of (setting p).kind (acks_of p.layout) v'.log) (go (has v.actors (acks_of p.layout)) refl (sym (joined.both (acks_of p.layout)) ∙ holds));
   } where
     not_it : (z : ℕ) (zs : List ℕ) (u : ActorMachine) → has zs z ≡ true → has zs (acks_of p.layout) ≡ false → (IsCoordinator u → z ≡ acks_of p.layout) → IsCoordinator u → ⊥
     not_it z zs u there out last is = true≢false (sym there ∙ ap (has zs) (last is) ∙ out)
 
-    no_one : (t : Bool) → has xs (acks_of p.layout) ≡ t → (u : Bool) → has ys (acks_of p.layout) ≡ u → (has xs (acks_of p.layout) || has ys (acks_of p.layout)) ≡ false → first_of led (leader_of y that) ≡ None
-    no_one true r u s e = absurd (true≢false (sym (ap (λ (v : Bool). v || has ys (acks_of p.layout)) r) ∙ e))
+    no_one : (t : Bool) → has v.actors (acks_of p.layout) ≡ t → (u : Bool) → has w.actors (acks_of p.layout) ≡ u → (has v.actors (acks_of p.layout) || has w.actors (acks_of p.layout)) ≡ false → first_of led (leader_of y that) ≡ None
+    no_one true r u s e = absurd (true≢false (sym (ap (λ (t : Bool). t || has w.actors (acks_of p.layout)) r) ∙ e))
     no_one false r true s e = absurd (true≢false (sym (λ i. r i || s i) ∙ e))
-    no_one false r false s e = ap (λ (o : Option Coordinating). first_of o (leader_of y that)) (kept.none r) ∙ no_leader y that (not_it b ys y its s (to_last y b (acks_of p.layout) kept'.last).0) ∙ kept'.none s
+    no_one false r false s e = ap (λ (o : Option Coordinating). first_of o (leader_of y that)) (kept.none r) ∙ no_leader y that (not_it b w.actors y its s (to_last y b (acks_of p.layout) kept'.last).0) ∙ kept'.none s
 
-    go : (t : Bool) → has xs (acks_of p.layout) ≡ t → (has xs (acks_of p.layout) || has ys (acks_of p.layout)) ≡ true → Led log' x (first_of led (leader_of y that))
+    go : (t : Bool) → has v.actors (acks_of p.layout) ≡ t → (has v.actors (acks_of p.layout) || has w.actors (acks_of p.layout)) ≡ true → Led v'.log x (first_of led (leader_of y that))
     go true r e =
-        let was = to_led (leader_of x led) (state_of (setting p).kind (acks_of p.layout) log) (kept.leader r) in
-        (was.0, still_leads x led (leader_of y that) was.0 was.1, was.2 ∙ same_state law (setting p).kind (acks_of p.layout) log log' (sym (own (acks_of p.layout) r)))
+        let was = to_led (leader_of x led) (state_of (setting p).kind (acks_of p.layout) v.log) (kept.leader r) in
+        (was.0, still_leads x led (leader_of y that) was.0 was.1, was.2 ∙ same_state law (setting p).kind (acks_of p.layout) v.log v'.log (sym (joined.own (acks_of p.layout) r)))
     go false r e =
-        let was = to_led (leader_of y that) (state_of (setting p).kind (acks_of p.layout) other) (kept'.leader (sym (ap (λ (v : Bool). v || has ys (acks_of p.layout)) r) ∙ e)) in
+        let was = to_led (leader_of y that) (state_of (setting p).kind (acks_of p.layout) w.log) (kept'.leader (sym (ap (λ (t : Bool). t || has w.actors (acks_of p.layout)) r) ∙ e)) in
         let here : first_of led (leader_of y that) ≡ leader_of y that = ap (λ (o : Option Coordinating). first_of o (leader_of y that)) (kept.none r) in
-        (was.0, no_leader x (first_of led (leader_of y that)) (not_it a xs x mine r (to_last x a (acks_of p.layout) kept.last).0) ∙ here ∙ was.1, was.2 ∙ same_state law (setting p).kind (acks_of p.layout) other log' (sym (theirs (acks_of p.layout) r)))
+        (was.0, no_leader x (first_of led (leader_of y that)) (not_it a v.actors x mine r (to_last x a (acks_of p.layout) kept.last).0) ∙ here ∙ was.1, was.2 ∙ same_state law (setting p).kind (acks_of p.layout) w.log v'.log (sym (joined.theirs (acks_of p.layout) r)))
 
 -- ---- before the first step
 

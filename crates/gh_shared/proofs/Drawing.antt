@@ -6,7 +6,8 @@ use Rattle.gh_base.specs.declared.machine.Entry.{Entry}
 use Rattle.gh_base.specs.declared.operation.Op.{Op}
 use Rattle.gh_base.specs.Cells.{seats_of}
 use Rattle.gh_base.specs.Lists.{by, Kind, state_of}
-use Rattle.gh_table.specs.Views.{has}
+use Rattle.gh_table.specs.declared.plan.View.{View}
+use Rattle.gh_table.specs.Views.{Carries, has}
 use Rattle.gh_lists.specs.declared.handshake.Actor.{Actor}
 use Rattle.gh_world.specs.Below.{spent_at}
 use Rattle.gh_lists.specs.Wants.{total}
@@ -45,6 +46,13 @@ if_none false d n e = refl
 pub same_state : OfItsOwn → (k : Kind Actor Op) (a : ℕ) (es fs : List (Entry Op)) → by a es ≡ by a fs → state_of k a es ≡ state_of k a fs
 same_state law k a es fs same = law k a es ∙ ap (state_of k a) same ∙ sym (law k a fs)
 
+-- where v and w, which have no actor in common, are joined, v' carries the actors of both, with their entries
+pub record Joined (v w v' : View Planned Op) : Type 0 where
+  pub both : (c : ℕ) → has v'.actors c ≡ (has v.actors c || has w.actors c)
+  pub apart : (c : ℕ) → has v.actors c ≡ true → has w.actors c ≡ false
+  pub own : (c : ℕ) → has v.actors c ≡ true → by c v'.log ≡ by c v.log
+  pub theirs : (c : ℕ) → has v.actors c ≡ false → by c v'.log ≡ by c w.log
+
 module _ (p : Planned) where
   -- what an actor has drawn by these entries
   abbrev drawn : List (Entry Op) → ℕ → ℕ
@@ -73,30 +81,29 @@ module _ (p : Planned) where
       go c false d e = refl
 
     -- two are joined
-    module _ (a b : ℕ) (xs ys zs : List ℕ) (log other log' : List (Entry Op)) (both : (c : ℕ) → has zs c ≡ (has xs c || has ys c)) (apart : (c : ℕ) → has xs c ≡ true → has ys c ≡ false) (mine : has xs a ≡ true) (its : has ys b ≡ true)
-        (own : (c : ℕ) → has xs c ≡ true → by c log' ≡ by c log) (theirs : (c : ℕ) → has xs c ≡ false → by c log' ≡ by c other) (lt : b < seats_of p.layout) where
+    module _ (a b : ℕ) (v w v' : View Planned Op) (joined : Joined v w v') (mine : Carries v a) (its : Carries w b) (lt : b < seats_of p.layout) where
       abbrev all : ℕ → ℕ
-      all c = if has ys c then drawn other c else 0
+      all c = if has w.actors c then drawn w.log c else 0
 
-      one_each : (c : ℕ) → drawn_beside p a zs log' c ≡ drawn_beside p a xs log c + all c
-      one_each c = ap (λ (t : Bool). if t && not (a == c) then drawn log' c else 0) (both c) ∙ go (has xs c) refl (has ys c) refl (a == c) refl where
-        go : (t : Bool) → has xs c ≡ t → (u : Bool) → has ys c ≡ u → (d : Bool) → (a == c) ≡ d → (if (t || u) && not d then drawn log' c else 0) ≡ (if t && not d then drawn log c else 0) + (if u then drawn other c else 0)
-        go true r true s d e = absurd (true≢false (sym s ∙ apart c r))
+      one_each : (c : ℕ) → drawn_beside p a v'.actors v'.log c ≡ drawn_beside p a v.actors v.log c + all c
+      one_each c = ap (λ (t : Bool). if t && not (a == c) then drawn v'.log c else 0) (joined.both c) ∙ go (has v.actors c) refl (has w.actors c) refl (a == c) refl where
+        go : (t : Bool) → has v.actors c ≡ t → (u : Bool) → has w.actors c ≡ u → (d : Bool) → (a == c) ≡ d → (if (t || u) && not d then drawn v'.log c else 0) ≡ (if t && not d then drawn v.log c else 0) + (if u then drawn w.log c else 0)
+        go true r true s d e = absurd (true≢false (sym s ∙ joined.apart c r))
         go true r false s true e = refl
-        go true r false s false e = let same = same_drawn c log' log (own c r) in omega (arith, same)
-        go false r true s true e = absurd (true≢false (sym mine ∙ ap (has xs) (eqb-true a c e) ∙ r))
-        go false r true s false e = let same = same_drawn c log' other (theirs c r) in omega (arith, same)
+        go true r false s false e = let same = same_drawn c v'.log v.log (joined.own c r) in omega (arith, same)
+        go false r true s true e = absurd (true≢false (sym mine ∙ ap (has v.actors) (eqb-true a c e) ∙ r))
+        go false r true s false e = let same = same_drawn c v'.log w.log (joined.theirs c r) in omega (arith, same)
         go false r false s d e = refl
 
-      but_its : (c : ℕ) → c ≢ b → all c ≡ drawn_beside p b ys other c
-      but_its c ne = sym (if_both (has ys c) (b == c) (drawn other c) (ne_eqb b c (λ e. ne (sym e))))
+      but_its : (c : ℕ) → c ≢ b → all c ≡ drawn_beside p b w.actors w.log c
+      but_its c ne = sym (if_both (has w.actors c) (b == c) (drawn w.log c) (ne_eqb b c (λ e. ne (sym e))))
 
-      pub drawn_both : beside a zs log' ≡ beside a xs log + (beside b ys other + drawn other b)
+      pub drawn_both : beside a v'.actors v'.log ≡ beside a v.actors v.log + (beside b w.actors w.log + drawn w.log b)
       drawn_both =
-          let sum = total_both (drawn_beside p a xs log) all (drawn_beside p a zs log') (seats_of p.layout) (λ c m. one_each c) in
-          let one = total_at (drawn_beside p b ys other) all (seats_of p.layout) b lt (λ c m ne. but_its c ne) in
-          let none : drawn_beside p b ys other b ≡ 0 = if_none (has ys b) (b == b) (drawn other b) (eq-eqb b b refl) in
-          let is : all b ≡ drawn other b = ap (λ (t : Bool). if t then drawn other b else 0) its in
+          let sum = total_both (drawn_beside p a v.actors v.log) all (drawn_beside p a v'.actors v'.log) (seats_of p.layout) (λ c m. one_each c) in
+          let one = total_at (drawn_beside p b w.actors w.log) all (seats_of p.layout) b lt (λ c m ne. but_its c ne) in
+          let none : drawn_beside p b w.actors w.log b ≡ 0 = if_none (has w.actors b) (b == b) (drawn w.log b) (eq-eqb b b refl) in
+          let is : all b ≡ drawn w.log b = ap (λ (t : Bool). if t then drawn w.log b else 0) its in
           omega (arith, sum, one, none, is)
 
     -- where all are carried

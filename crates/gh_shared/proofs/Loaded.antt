@@ -1,5 +1,5 @@
 -- The five ways through a load whose steps are made at once.
-use Rattle.std.proofs.Common.{◌≡◌, ℕ, ◌+◌, ◌-◌, arith, Bool, true, false, [], ◌∷◌, refl, sym, ap, ◌∙◌, subst, Option, Some, None}
+use Rattle.std.proofs.Common.{◌≡◌, ℕ, ◌+◌, ◌-◌, arith, Bool, true, false, List, [], ◌∷◌, refl, sym, ap, ◌∙◌, Option, Some, None}
 use Rattle.gh_base.specs.declared.cell.Ask.TheVariants as ask
 use Rattle.gh_base.specs.declared.cell.Cell.{Cell}
 use Rattle.gh_base.specs.declared.cell.Cell.TheVariants as cell
@@ -14,6 +14,8 @@ use Rattle.gh_base.specs.declared.value.Value.{Value}
 use Rattle.gh_base.specs.declared.value.Value.TheVariants as value
 use Rattle.gh_base.specs.Lists.{by}
 use Rattle.gh_base.specs.Packing.{name_of}
+use Rattle.gh_mutator.specs.declared.load.Load.{Load}
+use Rattle.gh_mutator.specs.declared.load.LoadStage.{LoadStage}
 use Rattle.gh_mutator.specs.declared.load.LoadStage.TheVariants.{Bits, Birth, Field, NilBase, Page}
 use Rattle.gh_mutator.specs.declared.step.Then.TheVariants.{Ends}
 use Rattle.gh_mutator.specs.AtOnce.{bits_cell, object_in}
@@ -23,8 +25,7 @@ use Rattle.gh_mutator.specs.Load as load
 use Rattle.gh_mutator.specs.Mutating as mutating
 use Rattle.gh_mutator.specs.Mutating.{Mutating}
 use Rattle.gh_mutator.specs.Processor.{register_of, set_register}
-use Rattle.gh_table.specs.Rule.{actor_in, MayAsk, Tells}
-use Rattle.gh_table.specs.Runs.{SawLegalList}
+use Rattle.gh_table.specs.Rule.{actor_in, Tells}
 use Rattle.gh_table.specs.Views.{Carries}
 use Rattle.gh_world.specs.World.{may_begin_of}
 use Rattle.gh_shared.specs.declared.machine.ActorMachine.TheVariants.{Runs}
@@ -32,123 +33,113 @@ use Rattle.gh_shared.specs.AtOnce.{RanAtOnce}
 use Rattle.gh_shared.specs.Machines.{actor_of, IsProcessorOf, ProcessorMay}
 use Rattle.gh_shared.specs.Plans.{Planned, setting}
 use Rattle.gh_shared.proofs.Loading.{at_load, begins_none, begins_page, birth_ends, birth_gives, bits_goes, field_ends, field_gives, field_refers, load_at, none_gives, none_goes, page_ends, page_gives, page_goes, with_value}
-use Rattle.gh_shared.proofs.Midway.{ends_at_once, goes_on_so, may_first, may_next, Midway, Seen, starts}
+use Rattle.gh_shared.proofs.Midway.{ends_at_once, goes_on_so, MayStart, Midway, Seen, starts}
 
 -- where none of these is found there is none
 pub no_object : (x y : Option ℕ) → x ≡ y → ((at : ℕ) → x ≡ Some at → ⊥) → y ≡ None
 no_object None y e never = sym e
 no_object (Some at) y e never = absurd (never at refl)
 
-module _ (a : ℕ) (m : Mutating) (me : Seen) (g d b k : ℕ) where
-  abbrev pub o : Op
+-- a load that a processor may begin at its seat, and the layout that its heap keeps
+pub record MayLoad : Type 0 where
+  pub actor : ℕ
+  pub machine : Mutating
+  pub seat : Seen
+  pub g : ℕ
+  pub d : ℕ
+  pub b : ℕ
+  pub k : ℕ
+  pub layout : Layout
+  pub start : MayStart actor (op.Load g d b k) machine seat
+  pub laid : layout ≡ machine.processor.poll.layout
+
+-- where the layout is that of the plan
+abbrev pub may_load : {m : Mutating} {g d b k : ℕ} (a : ℕ) (me : Seen) {key : Planned} {l : Layout} → me.0.plan ≡ key → l ≡ key.layout → IsProcessorOf me.0.plan m → actor_of (Runs m) ≡ actor_in setting me.0 a → ProcessorMay m (op.Load g d b k) → Carries me.0 a → may_begin_of me.0.plan.script me.0.plan.layout a (by a me.0.log) (op.Load g d b k) ≡ true → MayLoad
+may_load {m} {g} {d} {b} {k} a me {l} plan laid belongs state may carries allowed = record {
+  actor = a;
+  machine = m;
+  seat = me;
+  g = g;
+  d = d;
+  b = b;
+  k = k;
+  layout = l;
+  start = record { belongs = belongs; state = state; may = may; carries = carries; allowed = allowed };
+  laid = laid ∙ ap (λ (p : Planned). p.layout) (sym plan) ∙ sym belongs.layout;
+}
+
+module _ (x : MayLoad) where
+  open x use {actor as a, machine as m, seat as me, g, d, b, k, layout as l, start, laid}
+
+  abbrev o : Op
   o = op.Load g d b k
 
-  -- the load may begin, in a heap of this layout
-  pub record MayLoad (l : Layout) : Type 0 where
-    pub belongs : IsProcessorOf me.0.plan m
-    pub state : actor_of (Runs m) ≡ actor_in setting me.0 a
-    pub may : ProcessorMay m (op.Load g d b k)
-    pub carries : Carries me.0 a
-    pub allowed : may_begin_of me.0.plan.script me.0.plan.layout a (by a me.0.log) (op.Load g d b k) ≡ true
-    pub layout : l ≡ m.processor.poll.layout
+  -- the load at this stage
+  abbrev at_stage : (at : ℕ) → LoadStage → Load
+  at_stage at s = load_at m g d b k at s
 
-  -- that of its plan
-  pub may_load : (key : Planned) (l : Layout) → me.0.plan ≡ key → l ≡ key.layout → IsProcessorOf me.0.plan m → actor_of (Runs m) ≡ actor_in setting me.0 a → ProcessorMay m (op.Load g d b k) → Carries me.0 a → may_begin_of me.0.plan.script me.0.plan.layout a (by a me.0.log) (op.Load g d b k) ≡ true → MayLoad l
-  may_load key l plan laid belongs state may carries allowed = record {
-    belongs = belongs;
-    state = state;
-    may = may;
-    carries = carries;
-    allowed = allowed;
-    layout = laid ∙ ap (λ (p : Planned). p.layout) (sym plan) ∙ sym belongs.layout;
-  }
+  -- by these steps it has come to y, which loads this cell next
+  abbrev Asks : Mutating → Seen → List ℕ → Cell → Type 0
+  Asks y me' founds c = Midway a o m me y me' founds (ask.Load c)
 
-  module _ (l : Layout) (so : MayLoad l) where
-    -- ---- no object
+  -- the step that loads this cell, with which b is begun, if any, finds n
+  abbrev Finds : Option Op → Cell → ℕ → Seen → Seen → Type 0
+  Finds b c n me' me'' = Tells setting a b (ask.Load c) n me' me''
 
-    none_at : object_in (register_of m.processor g b) ≡ None → Midway a o m me (at_load m (load_at m g d b k 0 NilBase)) me []
-    none_at e = subst (λ (x : Mutating). Midway a o m me x me []) (begins_none m g d b k e) (starts a o m me so.belongs so.state so.may)
+  -- it has ended, and is answered this
+  abbrev EndsAs : Mutating → Seen → Answer → Type 0
+  EndsAs m' me' given = RanAtOnce a o 4 m me m' me' given
 
-    pub may_none : object_in (register_of m.processor g b) ≡ None → MayAsk setting me.0 a (Some o) (ask.Load cell.Touch)
-    may_none e = may_first a o m me so.belongs so.state so.may so.carries so.allowed (ask.Load cell.Touch) (sym (ap mutating.asks (begins_none m g d b k e)))
+  -- ---- no object
 
-    pub ran_none : object_in (register_of m.processor g b) ≡ None → (me1 : Seen) (n1 : ℕ) → Tells setting a (Some o) (ask.Load cell.Touch) n1 me me1 → SawLegalList setting a me me1 → (m' : Mutating) → m' ≡ rested m m.processor (answer.Fault fault.NilBase) → RanAtOnce a o 4 m me m' me1 (answer.Fault fault.NilBase)
-    ran_none e me1 n1 tells saw m' is =
-        ends_at_once a o m me (at_load m (load_at m g d b k 0 NilBase)) me me1 [] n1 (none_at e) (ask.Load cell.Touch) refl tells saw 4 m' (answer.Fault fault.NilBase) (omega arith)
-        (is ∙ sym (none_goes m g d b k 0 n1)) (none_gives m g d b k 0 n1) (ap mutating.is_busy is)
+  pub asks_none : object_in (register_of m.processor g b) ≡ None → Asks (at_load m (at_stage 0 NilBase)) me [] cell.Touch
+  asks_none e = starts start (begins_none m g d b k e) refl
 
-    -- ---- an object
+  pub ran_none : {me1 : Seen} {n1 : ℕ} {m' : Mutating} → Asks (at_load m (at_stage 0 NilBase)) me [] cell.Touch → Finds (Some o) cell.Touch n1 me me1 → m' ≡ rested m m.processor (answer.Fault fault.NilBase) → EndsAs m' me1 (answer.Fault fault.NilBase)
+  ran_none {n1} there finds is = ends_at_once there finds (omega arith) (is ∙ sym (none_goes m g d b k 0 n1)) (none_gives m g d b k 0 n1) (ap mutating.is_busy is)
 
-    module _ (at : ℕ) (object : object_in (register_of m.processor g b) ≡ Some at) (page_at : Cell) (page_is : page_at ≡ page_cell l at) where
-      page_asks : ask.Load page_at ≡ mutating.asks (at_load m (load_at m g d b k at Page))
-      page_asks = ap ask.Load (page_is ∙ ap (λ (y : Layout). page_cell y at) so.layout)
+  -- ---- an object
 
-      at_page : Midway a o m me (at_load m (load_at m g d b k at Page)) me []
-      at_page = subst (λ (x : Mutating). Midway a o m me x me []) (begins_page m g d b k at object) (starts a o m me so.belongs so.state so.may)
+  pub asks_page : {at : ℕ} {c : Cell} → object_in (register_of m.processor g b) ≡ Some at → c ≡ page_cell l at → Asks (at_load m (at_stage at Page)) me [] c
+  asks_page {at} object is = starts start (begins_page m g d b k at object) (ap ask.Load (is ∙ ap (λ (y : Layout). page_cell y at) laid))
 
-      pub may_page : MayAsk setting me.0 a (Some o) (ask.Load page_at)
-      may_page = may_first a o m me so.belongs so.state so.may so.carries so.allowed (ask.Load page_at) (page_asks ∙ sym (ap mutating.asks (begins_page m g d b k at object)))
+  -- with its page word
+  module _ {at : ℕ} {c : Cell} (there : Asks (at_load m (at_stage at Page)) me [] c) {me1 : Seen} {n1 : ℕ} (finds : Finds (Some o) c n1 me me1) where
+    -- that has no such field
+    pub ran_page : {m' : Mutating} → has_field k n1 ≡ false → m' ≡ rested m m.processor (answer.Fault fault.Field) → EndsAs m' me1 (answer.Fault fault.Field)
+    ran_page has is = ends_at_once there finds (omega arith) (is ∙ sym (page_ends m g d b k at n1 has)) (page_gives m g d b k at n1 has) (ap mutating.is_busy is)
 
-      module _ (me1 : Seen) (n1 : ℕ) (tells1 : Tells setting a (Some o) (ask.Load page_at) n1 me me1) (saw1 : SawLegalList setting a me me1) where
-        -- that has no such field
-        pub ran_page : has_field k n1 ≡ false → (m' : Mutating) → m' ≡ rested m m.processor (answer.Fault fault.Field) → RanAtOnce a o 4 m me m' me1 (answer.Fault fault.Field)
-        ran_page has m' is =
-            ends_at_once a o m me (at_load m (load_at m g d b k at Page)) me me1 [] n1 at_page (ask.Load page_at) page_asks tells1 saw1 4 m' (answer.Fault fault.Field) (omega arith)
-            (is ∙ sym (page_ends m g d b k at n1 has)) (page_gives m g d b k at n1 has) (ap mutating.is_busy is)
+    pub asks_bits : {c' : Cell} → has_field k n1 ≡ true → c' ≡ bits_cell l (at + k) → Asks (at_load m (at_stage at Bits)) me1 (n1 ∷ []) c'
+    asks_bits has is = goes_on_so there finds (page_goes m g d b k at n1 has) (ap ask.Load (is ∙ ap (λ (y : Layout). bits_cell y (at + k)) laid))
 
-        module _ (has : has_field k n1 ≡ true) (bits_at : Cell) (bits_is : bits_at ≡ bits_cell l (at + k)) where
-          bits_asks : ask.Load bits_at ≡ mutating.asks (at_load m (load_at m g d b k at Bits))
-          bits_asks = ap ask.Load (bits_is ∙ ap (λ (y : Layout). bits_cell y (at + k)) so.layout)
+  -- with the word of its bitmap
+  module _ {at : ℕ} {c : Cell} {me1 : Seen} {n1 : ℕ} (there : Asks (at_load m (at_stage at Bits)) me1 (n1 ∷ []) c) {me2 : Seen} {n2 : ℕ} (finds : Finds None c n2 me1 me2) where
+    pub asks_field : {pointer : Bool} {c' : Cell} → pointer ≡ is_pointer_by l (at + k) n2 → c' ≡ field_cell l (at + k) → Asks (at_load m (at_stage at (Field pointer))) me2 (n2 ∷ n1 ∷ []) c'
+    asks_field {pointer} by_bit is =
+        goes_on_so there finds (bits_goes m g d b k at n2 pointer (by_bit ∙ ap (λ (y : Layout). is_pointer_by y (at + k) n2) laid)) (ap ask.Load (is ∙ ap (λ (y : Layout). field_cell y (at + k)) laid))
 
-          at_bits : Midway a o m me (at_load m (load_at m g d b k at Bits)) me1 (n1 ∷ [])
-          at_bits = goes_on_so a o m me (at_load m (load_at m g d b k at Page)) me me1 [] n1 at_page (ask.Load page_at) page_asks tells1 saw1 (at_load m (load_at m g d b k at Bits)) (page_goes m g d b k at n1 has)
+  -- with the field, whose value is v
+  module _ {at : ℕ} {pointer : Bool} {c : Cell} {me2 : Seen} {n1 n2 : ℕ} (there : Asks (at_load m (at_stage at (Field pointer))) me2 (n2 ∷ n1 ∷ []) c) {me3 : Seen} {n3 : ℕ} (finds : Finds None c n3 me2 me3) {v : Value} (value_is : v ≡ value_of l.pages pointer n3) where
+    value_so : v ≡ value_of m.processor.poll.layout.pages pointer n3
+    value_so = value_is ∙ ap (λ (y : Layout). value_of y.pages pointer n3) laid
 
-          pub may_bits : MayAsk setting me1.0 a None (ask.Load bits_at)
-          may_bits = may_next a o m me (at_load m (load_at m g d b k at Bits)) me1 n1 [] at_bits so.carries refl (ask.Load bits_at) bits_asks
+    -- nil or a number
+    ran_field : {m' : Mutating} {given : Answer} → told (load.naming (at_stage at (Field pointer))) v ≡ Ends given → m' ≡ rested m (set_register m.processor g d v) given → EndsAs m' me3 given
+    ran_field {given} e is = ends_at_once there finds (omega arith) (is ∙ sym (field_ends m g d b k at pointer n3 v value_so given e)) (field_gives m g d b k at pointer n3 v value_so given e) (ap mutating.is_busy is)
 
-          module _ (me2 : Seen) (n2 : ℕ) (tells2 : Tells setting a None (ask.Load bits_at) n2 me1 me2) (saw2 : SawLegalList setting a me1 me2) (pointer : Bool) (pointer_is : pointer ≡ is_pointer_by l (at + k) n2) (field_at : Cell) (field_is : field_at ≡ field_cell l (at + k)) where
-            field_asks : ask.Load field_at ≡ mutating.asks (at_load m (load_at m g d b k at (Field pointer)))
-            field_asks = ap ask.Load (field_is ∙ ap (λ (y : Layout). field_cell y (at + k)) so.layout)
+    pub ran_nil : {m' : Mutating} → v ≡ value.Nil → m' ≡ rested m (set_register m.processor g d v) answer.Nil → EndsAs m' me3 answer.Nil
+    ran_nil e is = ran_field (ap (told (load.naming (at_stage at (Field pointer)))) e) is
 
-            at_field : Midway a o m me (at_load m (load_at m g d b k at (Field pointer))) me2 (n2 ∷ n1 ∷ [])
-            at_field =
-                goes_on_so a o m me (at_load m (load_at m g d b k at Bits)) me1 me2 (n1 ∷ []) n2 at_bits (ask.Load bits_at) bits_asks tells2 saw2 (at_load m (load_at m g d b k at (Field pointer)))
-                (bits_goes m g d b k at n2 pointer (pointer_is ∙ ap (λ (y : Layout). is_pointer_by y (at + k) n2) so.layout))
+    pub ran_int : {m' : Mutating} {i : ℕ} → v ≡ value.Int i → m' ≡ rested m (set_register m.processor g d v) (answer.Int i) → EndsAs m' me3 (answer.Int i)
+    ran_int e is = ran_field (ap (told (load.naming (at_stage at (Field pointer)))) e) is
 
-            pub may_field : MayAsk setting me2.0 a None (ask.Load field_at)
-            may_field = may_next a o m me (at_load m (load_at m g d b k at (Field pointer))) me2 n2 (n1 ∷ []) at_field so.carries refl (ask.Load field_at) field_asks
+    -- a reference
+    pub asks_birth : {r : ℕ} {c' : Cell} → v ≡ value.Ref r → c' ≡ birth_cell l (r - 1) → Asks (at_load (with_value m g d v) (at_stage at (Birth (r - 1)))) me3 (n3 ∷ n2 ∷ n1 ∷ []) c'
+    asks_birth {r} refers is = goes_on_so there finds (field_refers m g d b k at pointer n3 v value_so r refers) (ap ask.Load (is ∙ ap (λ (y : Layout). birth_cell y (r - 1)) laid))
 
-            module _ (me3 : Seen) (n3 : ℕ) (tells3 : Tells setting a None (ask.Load field_at) n3 me2 me3) (saw3 : SawLegalList setting a me2 me3) (v : Value) (value_is : v ≡ value_of l.pages pointer n3) (m' : Mutating) (takes : (given : Answer) → m' ≡ rested m (set_register m.processor g d v) given) where
-              value_so : v ≡ value_of m.processor.poll.layout.pages pointer n3
-              value_so = value_is ∙ ap (λ (y : Layout). value_of y.pages pointer n3) so.layout
-
-              -- nil or a number
-              pub ran_field : (given : Answer) → told (load.naming (load_at m g d b k at (Field pointer))) v ≡ Ends given → RanAtOnce a o 4 m me m' me3 given
-              ran_field given e =
-                  ends_at_once a o m me (at_load m (load_at m g d b k at (Field pointer))) me2 me3 (n2 ∷ n1 ∷ []) n3 at_field (ask.Load field_at) field_asks tells3 saw3 4 m' given (omega arith)
-                  (takes given ∙ sym (field_ends m g d b k at pointer n3 v value_so given e)) (field_gives m g d b k at pointer n3 v value_so given e) (ap mutating.is_busy (takes given))
-
-              pub ran_nil : v ≡ value.Nil → RanAtOnce a o 4 m me m' me3 answer.Nil
-              ran_nil e = ran_field answer.Nil (ap (told (load.naming (load_at m g d b k at (Field pointer)))) e)
-
-              pub ran_int : (i : ℕ) → v ≡ value.Int i → RanAtOnce a o 4 m me m' me3 (answer.Int i)
-              ran_int i e = ran_field (answer.Int i) (ap (told (load.naming (load_at m g d b k at (Field pointer)))) e)
-
-              -- a reference
-              module _ (r : ℕ) (refers : v ≡ value.Ref r) (birth_at : Cell) (birth_is : birth_at ≡ birth_cell l (r - 1)) where
-                birth_asks : ask.Load birth_at ≡ mutating.asks (at_load (with_value m g d v) (load_at m g d b k at (Birth (r - 1))))
-                birth_asks = ap ask.Load (birth_is ∙ ap (λ (y : Layout). birth_cell y (r - 1)) so.layout)
-
-                at_birth : Midway a o m me (at_load (with_value m g d v) (load_at m g d b k at (Birth (r - 1)))) me3 (n3 ∷ n2 ∷ n1 ∷ [])
-                at_birth =
-                    goes_on_so a o m me (at_load m (load_at m g d b k at (Field pointer))) me2 me3 (n2 ∷ n1 ∷ []) n3 at_field (ask.Load field_at) field_asks tells3 saw3 (at_load (with_value m g d v) (load_at m g d b k at (Birth (r - 1))))
-                    (field_refers m g d b k at pointer n3 v value_so r refers)
-
-                pub may_birth : MayAsk setting me3.0 a None (ask.Load birth_at)
-                may_birth = may_next a o m me (at_load (with_value m g d v) (load_at m g d b k at (Birth (r - 1)))) me3 n3 (n2 ∷ n1 ∷ []) at_birth so.carries refl (ask.Load birth_at) birth_asks
-
-                pub ran_birth : (me4 : Seen) (n4 : ℕ) → Tells setting a None (ask.Load birth_at) n4 me3 me4 → SawLegalList setting a me3 me4 → (name : Name) → name ≡ name_of l.goroutines n4 → RanAtOnce a o 4 m me m' me4 (answer.Ref name)
-                ran_birth me4 n4 tells4 saw4 name name_is =
-                    let same : answer.Ref name ≡ answer.Ref (name_of m.processor.poll.layout.goroutines n4) = ap answer.Ref (name_is ∙ ap (λ (y : Layout). name_of y.goroutines n4) so.layout) in
-                    ends_at_once a o m me (at_load (with_value m g d v) (load_at m g d b k at (Birth (r - 1)))) me3 me4 (n3 ∷ n2 ∷ n1 ∷ []) n4 at_birth (ask.Load birth_at) birth_asks tells4 saw4 4 m' (answer.Ref name) (omega arith)
-                    (takes (answer.Ref (name_of m.processor.poll.layout.goroutines n4)) ∙ sym (birth_ends m g d b k at v (r - 1) n4)) (birth_gives m g d b k at v (r - 1) n4 ∙ ap Some (sym same)) (ap mutating.is_busy (takes answer.Nil))
+  -- with the name of the object found
+  module _ {at i : ℕ} (v : Value) {c : Cell} {me3 : Seen} {n1 n2 n3 : ℕ} (there : Asks (at_load (with_value m g d v) (at_stage at (Birth i))) me3 (n3 ∷ n2 ∷ n1 ∷ []) c) {me4 : Seen} {n4 : ℕ} (finds : Finds None c n4 me3 me4) where
+    pub ran_birth : {m' : Mutating} {name : Name} → name ≡ name_of l.goroutines n4 → m' ≡ rested m (set_register m.processor g d v) (answer.Ref name) → EndsAs m' me4 (answer.Ref name)
+    ran_birth {name} name_is is =
+        let same : answer.Ref name ≡ answer.Ref (name_of m.processor.poll.layout.goroutines n4) = ap answer.Ref (name_is ∙ ap (λ (y : Layout). name_of y.goroutines n4) laid) in
+        ends_at_once there finds (omega arith) (is ∙ ap (rested m (set_register m.processor g d v)) same ∙ sym (birth_ends m g d b k at v i n4)) (birth_gives m g d b k at v i n4 ∙ ap Some (sym same)) (ap mutating.is_busy is)

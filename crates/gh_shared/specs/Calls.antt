@@ -17,7 +17,6 @@ use Rattle.gh_world.specs.Below.{AllStands, spent_among}
 use Rattle.gh_lists.specs.Order.{ends, goroutine_of, leaves}
 use Rattle.gh_mutator.specs.Listing.{is_busy_at}
 use Rattle.gh_lists.specs.Processors.{answers_of, AnswersAsEver, arena_of, asks_collector, at_seat, given_of}
-use Rattle.gh_world.specs.World.{may_begin_of, pacing_of}
 use Rattle.gh_shared.specs.declared.handle.Handle.{Handle}
 use Rattle.gh_shared.specs.declared.heap.Heap.{Heap}
 use Rattle.gh_shared.specs.declared.machine.ActorMachine.{ActorMachine}
@@ -25,6 +24,7 @@ use Rattle.gh_shared.specs.Handles.{carries_of, ended_of, IsOf, left_of, machine
 use Rattle.gh_shared.specs.Machines.{asks, begins, gives, goes, IsProcessor}
 use Rattle.gh_shared.specs.Plans.{Planned, setting}
 use Rattle.gh_shared.specs.Shown.{left_by, runs_by}
+use Rattle.gh_world.specs.World.{setup_of}
 
 -- the handle of a processor of this heap that has not ended
 pub record IsGoing (heap : Heap) (h : Handle) : Type 0 where
@@ -85,7 +85,7 @@ pub record OperatedWithin (heap : Heap) (o : Op) (most : ℕ) (h h' : Handle) (a
 
 -- all stands that stands after each legal list of a script
 abbrev pub EveryListStands : Planned → Type 0
-EveryListStands p = (es : List (Entry Op)) → Legal (setting p) es → AllStands p.script.shapes p.layout (pacing_of p.script) (may_begin_of p.script p.layout) es
+EveryListStands p = (es : List (Entry Op)) → Legal (setting p) es → AllStands (setup_of p.script p.layout) es
 
 -- The processor was answered as the heap that never frees answers it; and where it rests behind the list, exactly what that heap answers it was given.
 pub record WasAnswered (p : Planned) (a : ℕ) (es : List (Entry Op)) : Type 0 where

@@ -19,7 +19,8 @@ use crate::machine::ActorMachine;
 use crate::plan::AnyActor;
 use gh_base::laws::a_state_is_of_its_own_entries;
 use gh_base::{Answer, Op};
-use gh_mutator::laws::{faults_change_nothing, operations_end, polls_make_room};
+use gh_mutator::laws::polls_make_room;
+use gh_mutator_writes::laws::{faults_change_nothing, operations_end};
 use std::sync::Wait;
 
 impl Heap {

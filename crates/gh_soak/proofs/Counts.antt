@@ -6,7 +6,8 @@ use Rattle.std.proofs.lemmas.List.Sums.{sum_by-append, sum_by-cons}
 use Rattle.gh_base.specs.declared.shape.Shape.{Shape}
 use Rattle.gh_base.specs.declared.value.Name.{Name}
 use Rattle.gh_model.specs.Ever.{Ever}
-use Rattle.gh_world.specs.Cycles.{AreLive, bytes_of, IsAmong}
+use Rattle.gh_world.specs.Cycles.{AreLive, bytes_of}
+use Rattle.gh_world.specs.RunVocabulary.{IsAmong}
 
 among_append : (n : Name) (xs ys : List Name) → IsAmong n (xs ++ ys) → IsAmong n xs ⊎ IsAmong n ys
 among_append n [] ys h = inr h

@@ -263,23 +263,41 @@ target-word l (Add c x) h below = below c h
 target-word l (Swap c x y) h below = below c h
 
 -- a store is told no word: the one that it overwrites is the word of its entry
-pub any_found : {K A O : Type 0} (of : K → Setting A O) (p : K) (slots id : ℕ) (me : Me (Unit {0}) (View K O)) (a : ℕ) (b : Option O) (r : Ask) (i : ℕ) (f : ℕ → ℕ)
-    → Allows (HoldsOneList of p) slots id me i f (λ n w. Tells of a b r n me w) → Allows (HoldsOneList of p) slots id me i f (λ n w. (found : ℕ) × Tells of a b r found me w)
-any_found of p slots id me a b r i f allows s holds homes view low = let x = allows s holds homes view low in (x.0, x.1, x.2, x.3, (slice_index s.words i, x.4))
+pub any_found : {S V : Type 0} (rule : State S V → Type 0) (slots id : ℕ) (me : Me S V) (i : ℕ) (f : ℕ → ℕ) (tells : ℕ → Me S V → Type 0) → Allows rule slots id me i f tells → Allows rule slots id me i f (λ n w. (found : ℕ) × tells found w)
+any_found rule slots id me i f tells allows s holds homes view low = let x = allows s holds homes view low in (x.0, x.1, x.2, x.3, (slice_index s.words i, x.4))
 
--- the step that a note names, at a request of a known kind
-module _ {K A O : Type 0} (settles : Settles A O) (of : K → Setting A O) where
-  -- of a table with so many words: the layout, what is known of it, the seat's table, and its place there
-  pub asked : (p : K) (l : Layout) (words : ℕ) → IsLaidOut of p words l → StepsAreShown l → WordsAreBelow l → {T : Type 0} (mine its : T) → mine ≡ its → (slots id : ℕ) (me : Me (Unit {0}) (View K O)) (na : ℕ) (nb : Option O) (nr : Ask) (a : ℕ) (b : Option O) (r : Ask) (q q' : Req) (f : ℕ → ℕ)
-      → (na ≡ a) × (nb ≡ b) × (nr ≡ r) → q ≡ request l r → q ≡ q' → MayAsk of me.0 a b r → InRange l (cell_of r) → ((n : ℕ) → f n ≡ leaves q' n)
-      → (mine ≡ its) × (target q' < words) × Allows (HoldsOneList of p) slots id me (target q') f (λ n w. Tells of na nb nr n me w)
-  asked p l words laid shown below mine its table slots id me na nb nr a b r q q' f note asks is may within does =
-      let same : q' ≡ request l r = sym is ∙ asks in
-      let of_plan : q' ≡ request (of p).layout r = same ∙ ap (λ (x : Layout). request x r) laid.layout in
-      let lt : target q' < words = subst (λ (x : Req). target x < words) (sym same) (subst (λ (n : ℕ). target (request l r) < n) (sym laid.long) (target-word l r within below)) in
-      let P : ℕ × Option O × Ask → Type 0 = λ t. MayAsk of me.0 t.0 t.1 t.2 × InRange (of p).layout (cell_of t.2) × (q' ≡ request (of p).layout t.2) in
-      let all : P (na, nb, nr) = subst P (λ j. (sym note.0 j, sym note.1 j, sym note.2 j)) (may, subst (λ (x : Layout). InRange x (cell_of r)) laid.layout within, of_plan) in (
-        table,
-        lt,
-        steps settles of p (subst StepsAreShown laid.layout shown) slots id me na nb nr (target q') f all.0 all.1 (ap target all.2) (λ n. does n ∙ ap (λ (x : Req). leaves x n) all.2),
-      )
+-- A step that a note names: what is known of the table's layout, the seat, the step's entry as the seat may make it and as it is noted, and the request for it
+pub record NotedStep {K A O : Type 0} (of : K → Setting A O) : Type 0 where
+  pub plan : K
+  pub layout : Layout
+  pub words : ℕ
+  pub laid : IsLaidOut of plan words layout
+  pub shown : StepsAreShown layout
+  pub below : WordsAreBelow layout
+  pub slots : ℕ
+  pub id : ℕ
+  pub me : Me (Unit {0}) (View K O)
+  pub actor : ℕ
+  pub begun : Option O
+  pub ask : Ask
+  pub may : MayAsk of me.0 actor begun ask
+  pub within : InRange layout (cell_of ask)
+  pub noted_actor : ℕ
+  pub noted_begun : Option O
+  pub noted_ask : Ask
+  pub note : (noted_actor ≡ actor) × (noted_begun ≡ begun) × (noted_ask ≡ ask)
+  pub made : Req
+  pub is_made : made ≡ request layout ask
+
+-- it keeps the rule, at a request of a known kind
+pub asked : {K A O : Type 0} (settles : Settles A O) (of : K → Setting A O) (x : NotedStep of) (made : Req) (f : ℕ → ℕ) → x.made ≡ made → ((n : ℕ) → f n ≡ leaves made n)
+    → (target made < x.words) × Allows (HoldsOneList of x.plan) x.slots x.id x.me (target made) f (λ n w. Tells of x.noted_actor x.noted_begun x.noted_ask n x.me w)
+asked {K} {A} {O} settles of x made f is does =
+    let same : made ≡ request x.layout x.ask = sym is ∙ x.is_made in
+    let of_plan : made ≡ request (of x.plan).layout x.ask = same ∙ ap (λ (l : Layout). request l x.ask) x.laid.layout in
+    let lt : target made < x.words = subst (λ (q : Req). target q < x.words) (sym same) (subst (λ (n : ℕ). target (request x.layout x.ask) < n) (sym x.laid.long) (target-word x.layout x.ask x.within x.below)) in
+    let P : ℕ × Option O × Ask → Type 0 = λ t. MayAsk of x.me.0 t.0 t.1 t.2 × InRange (of x.plan).layout (cell_of t.2) × (made ≡ request (of x.plan).layout t.2) in
+    let all : P (x.noted_actor, x.noted_begun, x.noted_ask) = subst P (λ j. (sym x.note.0 j, sym x.note.1 j, sym x.note.2 j)) (x.may, subst (λ (l : Layout). InRange l (cell_of x.ask)) x.laid.layout x.within, of_plan) in (
+      lt,
+      steps settles of x.plan (subst StepsAreShown x.laid.layout x.shown) x.slots x.id x.me x.noted_actor x.noted_begun x.noted_ask (target made) f all.0 all.1 (ap target all.2) (λ n. does n ∙ ap (λ (q : Req). leaves q n) all.2),
+    )

@@ -82,9 +82,9 @@ module _ {M Out : Type 0} (r : Listing M Out) where
       true≢false (sym (told_busy m ns goes e.steps (omega (arith, e.few, long))) ∙ e.ended)
 
 -- a run grows by a step
-module _ {S K O M : Type 0} (asks : M → Ask) (goes : M → ℕ → M) where
-  pub ran_more : (a : ℕ) (b : Option O) (n : ℕ) (ns : List ℕ) (m m' m'' : M) (me me' me'' : Me S (View K O)) → begun_next b ns ≡ None → Ran asks goes a b m me m' me' ns → Ran asks goes a None m' me' m'' me'' (n ∷ []) → Ran asks goes a b m me m'' me'' (n ∷ ns)
-  ran_more a b n ns m m' m'' me me' me'' none r s = record {
+module _ {K O M : Type 0} (asks : M → Ask) (goes : M → ℕ → M) where
+  pub ran_more : (a : ℕ) (b : Option O) (n : ℕ) (ns : List ℕ) (m : M) {m' m'' : M} {me me' me'' : Me (Unit {0}) (View K O)} → begun_next b ns ≡ None → Ran asks goes a b m me m' me' ns → Ran asks goes a None m' me' m'' me'' (n ∷ []) → Ran asks goes a b m me m'' me'' (n ∷ ns)
+  ran_more a b n ns m none r s = record {
     log = s.log ∙ (λ i. entry a (sym none i) (asks (r.machine i)) n ∷ r.log i);
     plan = s.plan ∙ r.plan;
     actors = s.actors ∙ r.actors;

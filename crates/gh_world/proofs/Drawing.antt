@@ -2,14 +2,12 @@
 use Rattle.std.proofs.Common.{◌≡◌, ℕ, zero, suc, ◌+◌, ◌-◌, ◌≤◌, length, refl, ap, ◌∙◌, arith, Option, Some, None}
 use Rattle.std.specs.Prelude.{slice_get}
 use Rattle.gh_coord.specs.Listing as coord
-use Rattle.gh_mutator.specs.Spending.{spent_of}
 use Rattle.gh_worker.specs.Listing as worker
-use Rattle.gh_world.specs.declared.runner.Runner.{Runner}
 use Rattle.gh_law.specs.Credit.{spent_among, spent_at}
 use Rattle.gh_world.specs.Runs.{drawn_of}
 use Rattle.gh_lists.specs.Wants.{total}
 use Rattle.gh_world.specs.World.{actor_of, State, worker_or}
-use Rattle.gh_world.proofs.Parts.{other_here, runner_here}
+use Rattle.gh_world.proofs.Parts.{other_here}
 
 total_more : (f : ℕ → ℕ) (n k : ℕ) → ((i : ℕ) → n ≤ i → f i ≡ 0) → total f (n + k) ≡ total f n
 total_more f n zero none = let is : n + 0 ≡ n = omega arith in ap (total f) is
@@ -22,13 +20,6 @@ total_more f n (suc k) none =
 none_other : (c : coord.Coordinating) (o : Option worker.Working) → spent_at (worker_or c o) ≡ 0
 none_other c (Some w) = refl
 none_other c None = refl
-
--- of the first n actors and the next
-pub drawn_next : (w : State) (n : ℕ) (x : Runner) → slice_get w.runners n ≡ Some x → spent_among (actor_of w) (n + 1) ≡ spent_among (actor_of w) n + spent_of x.mutator.processor
-drawn_next w n x is =
-    let it : n + 1 ≡ suc n = omega arith in
-    let here = ap spent_at (runner_here w n x is) in
-    ap (spent_among (actor_of w)) it ∙ omega (arith, here)
 
 pub drawn_all : (w : State) → drawn_of w ≡ spent_among (actor_of w) (length w.runners)
 drawn_all w =

@@ -8,10 +8,7 @@ pub mod Acting
 pub mod NoRoom
 pub mod Swept
 pub mod Cycles
-pub mod Listing
-pub mod Slots
 pub mod Live
-pub mod Naming
 pub mod Last
 pub mod Beyond
 pub mod Totals

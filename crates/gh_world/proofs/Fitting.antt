@@ -13,7 +13,7 @@ use Rattle.gh_coord.specs.Listing as coord
 use Rattle.gh_worker.specs.Stays.{stays as worker_stays}
 use Rattle.gh_worker.specs.Listing as worker
 use Rattle.gh_world.specs.declared.runner.Runner.{Runner}
-use Rattle.gh_world.specs.World.{answered_by, AreOpening, AreTurns, Begins, FitOthers, FitRunners, FitTurns, FitWords, IsOpening, LaysOut, op_at_turn, counts_after, last_after, begun_as, done_or, found_by, IsStepOfWorker, Polled, State, stated_after, stated_by, workers_at}
+use Rattle.gh_world.specs.World.{answered_by, AreOpening, AreTurns, Begins, Fit, FitOthers, FitRunners, FitTurns, FitWords, IsOpening, LaysOut, op_at_turn, counts_after, last_after, begun_as, done_or, found_by, IsStepOfWorker, Polled, State, stated_after, stated_by, workers_at}
 use Rattle.gh_world.specs.declared.event.Event.TheVariants as event
 use Rattle.gh_world.proofs.Vocabulary.{acts, Answer, begins_at, begins, bit, cell_of, changed, Event, Follows, get_or-map-range_with_len, get_or_from_slice_get, gives_at, GoesOnUntilDone, goroutine_at, has_left_at, has_names, InRange, is_busy_at, is_over, is_point, is_some, is_statement, is_unacted, later, Layout, length-map-range_with_len, most_cycles, Mutating, Next, Op, op_at, op_due, opening_processor, opening_progress, Processor, Program, Progress, progress_after, read_after_set, read_replicate, request, set, Shape, slice_get, slice_get_within, statement_answer, statements_among, takes, target, to_come, total_of, turns_of, WellFormed}
 use Rattle.gh_world.proofs.StepFacts.{step_facts, begin_facts, StepFacts, BeginFacts, begins_busy}
@@ -223,23 +223,23 @@ module _ (p : Program) (l : Layout) (runners : List Runner) (points room : ℕ) 
     }
 
 -- a step of one of them on what it has begun
-module _ (polls : PollsMakeRoom) (p : Program) (l : Layout) (script : WellFormed p) (layout : LaysOut p l) (runners : List Runner) (points room : ℕ) (f : FitRunners p l runners points room) (a : ℕ) (x y : Runner) (is : slice_get runners a ≡ Some x) (begins : Begins p a x y) (fits : FitTurns p l a y.mutator y.progress) (busy : is_busy_at y.mutator.processor.task ≡ true) (found : ℕ) where
+module _ (polls : PollsMakeRoom) (w : State) (points room : ℕ) (f : Fit w points room) (a : ℕ) (x y : Runner) (is : slice_get w.runners a ≡ Some x) (begins : Begins w.script a x y) (fits : FitTurns w.script w.layout a y.mutator y.progress) (busy : is_busy_at y.mutator.processor.task ≡ true) (found : ℕ) where
   owed : bit (is_point (acts y.mutator.processor found)) + bit (is_unacted (op_at (mutating.goes y.mutator found).processor.task)) + x.progress.stated ≤ bit (is_unacted (op_at x.mutator.processor.task)) + y.progress.stated
   owed =
-      let begun = owes_begun p l script layout a x.mutator x.progress (f.each a x is) begins.o begins.is in
+      let begun = owes_begun w.script w.layout f.base.script f.base.layout a x.mutator x.progress (f.running.each a x is) begins.o begins.is in
       let mutator : bit (is_unacted (op_at y.mutator.processor.task)) ≡ bit (is_unacted (op_at (begun_as x.mutator begins.o).processor.task)) = ap (λ (m : Mutating). bit (is_unacted (op_at m.processor.task))) begins.mutator in
       let stated : y.progress.stated ≡ stated_after x.progress begins.o = ap (λ (t : Progress). t.stated) begins.progress in
       let once = owes_stepped y.mutator found busy in
       omega (arith, begun, mutator, stated, once)
 
-  pub ran : FitRunners p l (set runners a (record { mutator = mutating.goes y.mutator found; progress = y.progress })) (points + bit (is_point (acts y.mutator.processor found))) room
-  ran = fit_run p l runners points room f a x (record { mutator = mutating.goes y.mutator found; progress = y.progress }) is (fit_stepped p l script layout a y.mutator y.progress fits polls found busy) (bit (is_point (acts y.mutator.processor found))) owed
+  pub ran : FitRunners w.script w.layout (set w.runners a (record { mutator = mutating.goes y.mutator found; progress = y.progress })) (points + bit (is_point (acts y.mutator.processor found))) room
+  ran = fit_run w.script w.layout w.runners points room f.running a x (record { mutator = mutating.goes y.mutator found; progress = y.progress }) is (fit_stepped w.script w.layout f.base.script f.base.layout a y.mutator y.progress fits polls found busy) (bit (is_point (acts y.mutator.processor found))) owed
 
   -- there is room for a point
   pub point_room : (b : Bool) → b ≡ is_point (acts y.mutator.processor found) → b ≡ true → points < room
   point_room b same set =
       let one : bit (is_point (acts y.mutator.processor found)) ≡ 1 = ap bit (sym same ∙ set) in
-      let few = stated_all p l _ _ room ran in
+      let few = stated_all w.script w.layout _ _ room ran in
       omega (arith, one, few, ran.pointed, ran.reserved)
 
 -- before the first step

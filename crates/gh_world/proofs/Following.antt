@@ -1,10 +1,9 @@
 -- The turn behind the one that begins an operation, whatever the code does.
 use Rattle.std.proofs.Common.{◌≡◌, ℕ, zero, suc, ◌+◌, ◌-◌, ◌≤◌, Bool, true, false, List, [], ◌∷◌, length, refl, subst, ◌∙◌, Some, arith, ◌⊎◌, inl, inr}
 use Rattle.gh_base.specs.declared.operation.Op.TheVariants as op
-use Rattle.gh_interp.specs.Working.{work_of}
 use Rattle.gh_world.specs.declared.turns.Next.TheVariants as next
 use Rattle.gh_world.specs.Turns.{Follows, has_turn, HasTurn, is_over, is_poll_due, is_run_due, IsPast, later, MayBeOver, op_due, Stands, to_come}
-use Rattle.gh_world.specs.Vocabulary.{Next, Op, Program}
+use Rattle.gh_world.specs.Vocabulary.{Next, Op, Program, work_of}
 use Rattle.gh_world.proofs.Turning.{count-le, follows_run, has_one, later_after, later_here, later_none, none_from, over_here, over_next, passed, turn_stands, turns_from}
 
 -- the first goroutine from g on that has a turn in round r

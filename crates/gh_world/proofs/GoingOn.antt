@@ -1,7 +1,6 @@
 -- A run of a script so far goes on by a step of any actor that has not ended: a processor's next step is that of its turns, and each step is on a word that there is. It is whole when all have ended.
 use Rattle.std.proofs.Common.{◌≡◌, ℕ, ◌+◌, ◌<◌, ◌≤◌, Bool, true, false, cond, ltb, eqb, not, ◌||◌, List, [], ◌∷◌, ◌++◌, length, reverse, refl, sym, ap, subst, ◌∙◌, Option, Some, None, arith}
 use Rattle.std.proofs.lemmas.List.{append_cancel_left, append-nil}
-use Rattle.gh_base.specs.Reading.{read_replicate}
 use Rattle.gh_coord.specs.GoingOn.{HasNext}
 use Rattle.gh_coord.specs.Listing as coord
 use Rattle.gh_mutator.specs.PollRoom.{PollsMakeRoom}
@@ -13,8 +12,8 @@ use Rattle.gh_lists.specs.Handshake.{takes as takes_by}
 use Rattle.gh_world.specs.Runs.{GoesOnBy, has_ended_in, IsRun, IsRunSoFar}
 use Rattle.gh_world.specs.Schedule.{ended_after as ended_at, has_ended}
 use Rattle.gh_world.specs.Turns.{is_run_due, Stands}
-use Rattle.gh_world.specs.World.{LaysOut, MadeAtMost, Polled, may_begin_of, pacing_of}
-use Rattle.gh_world.proofs.Vocabulary.{acks_of, Actor, actor_after, acts, Begins, begins, begins_at, begun_in, bit, by, cell_of, ended_in, ends, Entry, eqb-true, gives_at, GoesOnUntilDone, has_left, has_left_at, is_busy_at, is_leaving, is_over, is_statement, Kind, Layout, leaves, Legal, made_by, MayBeOver, Next, Op, op_due, opening_processor, option_to_list, Processor, processor_kind, Program, setting_of, started, state_of, statements_among, takes, Task, to_come, total_of, turns_of, WellFormed, words_after}
+use Rattle.gh_world.specs.World.{LaysOut, MadeAtMost, Polled, pacing_of, setup_of}
+use Rattle.gh_world.proofs.Vocabulary.{acks_of, Actor, actor_after, acts, Begins, begins, begins_at, begun_in, bit, by, cell_of, ended_in, ends, Entry, eqb-true, gives_at, GoesOnUntilDone, has_left, has_left_at, is_busy_at, is_leaving, is_over, is_statement, Kind, Layout, leaves, Legal, made_by, MayBeOver, Next, Op, op_due, opening_processor, option_to_list, Processor, processor_kind, Program, setting_of, started, state_of, statements_among, takes, Task, to_come, total_of, turns_of, WellFormed, words_after, read_replicate}
 use Rattle.gh_world.proofs.MayBegin.{due_begins, ended_then, left_then}
 use Rattle.gh_lists.specs.Seats.{IsSeated, seated}
 use Rattle.gh_world.proofs.Due.{due_runs, false_unless, has_due, idle_not_leaving, none_to_come, not_over}
@@ -47,7 +46,7 @@ module _ (p : Program) (l : Layout) where
     pub own : (a : ℕ) (es : List (Entry Op)) → state_of one a es ≡ state_of one a (by a es)
     pub on : GoesOnUntilDone
     pub polls : PollsMakeRoom
-    pub stands : (es : List (Entry Op)) → IsRunSoFar p l es → AllStands p.shapes l (pacing_of p) (may_begin_of p l) es
+    pub stands : (es : List (Entry Op)) → IsRunSoFar p l es → AllStands (setup_of p l) es
 
   -- ---- the coordinator has a further step as long as it is not done
 
@@ -280,14 +279,14 @@ module _ (p : Program) (l : Layout) (formed : WellFormed p) (lays : LaysOut p l)
     goes_on a lt going = go (actor_after p l es a) refl where
       go : (x : Actor) → actor_after p l es a ≡ x → GoesOnBy p l es a
       go (actor.Runs m) is =
-          let low : a < l.procs = subst (IsSeated l a) is (seated p.shapes l (pacing_of p) es a) in
+          let low : a < l.procs = subst (IsSeated l a) is (seated (setup_of p l) es a) in
           of_processor a low (sym (ap has_ended (is_processor p l a low es)) ∙ going)
       go (actor.Marks w) is =
-          let high : l.procs ≤ a = (subst (IsSeated l a) is (seated p.shapes l (pacing_of p) es a)).0 in
+          let high : l.procs ≤ a = (subst (IsSeated l a) is (seated (setup_of p l) es a)).0 in
           of_other a (actor.Marks w) is high lt (not_false (worker.is_busy w.stage) (sym (ap has_ended is) ∙ going))
       go (actor.Leads c) is =
           let next : HasNext c = subst (HasNextAt p l laws.on) is (next_at p l laws.on es r.legal a) in
-          let high : acks_of l ≤ a = (subst (IsSeated l a) is (seated p.shapes l (pacing_of p) es a)).0 in
+          let high : acks_of l ≤ a = (subst (IsSeated l a) is (seated (setup_of p l) es a)).0 in
           of_other a (actor.Leads c) is (omega (arith, high)) lt (next ∙ ap not (sym (ap has_ended is) ∙ going))
 
     pub ends_whole : ((a : ℕ) → a < (setting_of p l).actors → has_ended_in p l es a) → IsRun p l es

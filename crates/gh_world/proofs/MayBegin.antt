@@ -2,14 +2,13 @@
 use Rattle.std.proofs.Common.{◌≡◌, ℕ, ◌+◌, ◌<◌, ◌≤◌, Bool, true, false, eqb, ◌||◌, List, [], ◌∷◌, ◌++◌, reverse, refl, sym, ◌∙◌, ap, subst, Some, arith}
 use Rattle.std.specs.Prelude.{not}
 use Rattle.gh_base.specs.declared.operation.Op.TheVariants as op
-use Rattle.gh_interp.specs.Working.{work_of}
 use Rattle.gh_mutator.specs.Sound.{has_room}
 use Rattle.gh_world.specs.declared.turns.Next.TheVariants as next
 use Rattle.gh_world.specs.Due.{FitsIn}
 use Rattle.gh_lists.specs.Order.{goroutine_of}
 use Rattle.gh_lists.specs.Processors.{arena_of, has_more, is_of, may_begin}
 use Rattle.gh_world.specs.Turns.{Stands}
-use Rattle.gh_world.specs.Vocabulary.{most_objects, statements_of}
+use Rattle.gh_world.specs.Vocabulary.{most_objects, statements_of, work_of}
 use Rattle.gh_world.specs.Wishes.{wishes_of}
 use Rattle.gh_world.specs.World.{LaysOut, MadeAtMost}
 use Rattle.gh_world.proofs.Vocabulary.{Actor, Begins, begun_in, by, ended_in, ends, Entry, eq-eqb, Follows, has_left, has_names, is_busy_at, is_leave, is_over, is_statement, later, Layout, leaves, may_leave, MayBeOver, Next, Op, op_due, Processor, processor_kind, Program, setting_of, slice_get, state_of, statements_among, to_come, total_of, turns_of, WellFormed, ◌%◌}

@@ -7,7 +7,7 @@ use Rattle.gh_law.specs.Actors.{AllStands, EveryListOfActorsStands}
 use Rattle.gh_world.specs.Vocabulary.{Entry, Layout, Legal, Op, Program, WellFormed}
 use Rattle.gh_lists.specs.Wants.{total}
 use Rattle.gh_world.specs.Wishes.{wishes_in, wishes_of}
-use Rattle.gh_world.specs.World.{LaysOut, may_begin_of, pacing_of, setting_of}
+use Rattle.gh_world.specs.World.{LaysOut, setting_of, given_for, setup_of}
 use Rattle.gh_world.proofs.Wishing.{few_wishes, total_wishes}
 
 pub shapes_good : (p : Program) → WellFormed p → ShapesAreGood p.shapes
@@ -20,5 +20,5 @@ module _ (p : Program) (l : Layout) (formed : WellFormed p) (out : LaysOut p l) 
   pub few_in_all : total (wishes_of p) l.goroutines ≤ MOST_STATEMENTS
   few_in_all = let many = many_wishes in let few = few_wishes p.goroutines in let most = formed.few_statements in omega (arith, many, few, most)
 
-  pub all_stand : EveryListOfActorsStands → (es : List (Entry Op)) → Legal (setting_of p l) es → AllStands p.shapes l (pacing_of p) (may_begin_of p l) es
-  all_stand every es legal = every p.shapes l (pacing_of p) (wishes_of p) es (shapes_good p formed) l.limits few_in_all legal
+  pub all_stand : EveryListOfActorsStands → (es : List (Entry Op)) → Legal (setting_of p l) es → AllStands (setup_of p l) es
+  all_stand every es legal = every (given_for p l) es (shapes_good p formed) l.limits few_in_all legal

@@ -6,15 +6,14 @@ use Rattle.gh_worker.specs.Listing as worker
 use Rattle.gh_mutator.specs.Mutating.{asks, goes}
 use Rattle.gh_world.specs.declared.runner.Runner.{Runner}
 use Rattle.gh_world.specs.Turns.{next_point, total_of}
-use Rattle.gh_world.specs.Vocabulary.{is_last}
+use Rattle.gh_world.specs.Vocabulary.{is_last, CoordStage}
 use Rattle.gh_world.specs.After.{Appends, IsAfter}
-use Rattle.gh_coord.specs.declared.coord.CoordStage.{CoordStage}
 use Rattle.gh_coord.specs.declared.coord.CoordStage.TheVariants.{Close}
 use Rattle.gh_world.specs.World.{AllDone, answered_of, Begins, event_at, Fit, FitRunners, FitTurns, FitWords, Ran, State, IsStepOfCoordinator, IsStepOfProcessor, IsStepOfWorker, begun_as, found_by, is_done, now_of, worker_or}
 use Rattle.gh_world.specs.Schedule.{has_ended}
 use Rattle.gh_world.proofs.Vocabulary.{acts, answered_in, begins, bit, by, cell_of, changed, Entry, Event, has_left_at, InRange, is_busy_at, is_point, Layout, Mutating, Next, Op, Processor, processor_kind, Program, Progress, progress_after, request, set, Shape, slice_get, slice_get_past, slice_get_within, started, state_of, statement_answer, StepsAreShown, takes}
 use Rattle.gh_world.proofs.Fitting.{answered_all, busy_begun, due_room, fits_again, marks_few, marks_more, point_room, ran}
-use Rattle.gh_world.proofs.Parts.{After, in_parts, of_parts, other_here, runner_here}
+use Rattle.gh_world.proofs.Parts.{After, in_parts, of_parts, other_here, parts_of, runner_here}
 use Rattle.gh_world.proofs.Turning.{total_by-le}
 use Rattle.gh_world.proofs.OtherSteps.{lead_entry, lead_says, lead_tells, led, work_entry, work_says, work_tells, worked}
 use Rattle.gh_world.proofs.WorldFacts.{due_at, follows, says, tells, entry_of, Knows, runner_of}
@@ -103,8 +102,8 @@ module _ (w : State) (f : Kept w) (a : ℕ) (x : Runner) (is : slice_get w.runne
       subst (λ (z : State). Appends z a es happened) (sym is_so) (record {
         e = e;
         by = refl;
-        after = of_parts (stepped w a (with_begun b new)) (e ∷ es) (subst (λ (n : ℕ). After p l (stepped w a (with_begun b new)).words (set w.runners a (runner_of p.shapes (takes p.shapes (with_begun b new).mutator.processor (found_by w (asks (with_begun b new).mutator))) n (progress_after x.progress b new))) w.workers w.coord (stepped w a (with_begun b new)).points (e ∷ es)) (sym marks)
-            (follows p l f.fit.base.script f.fit.base.layout a seat own shown w.words w.runners w.workers w.coord w.points es parts x.mutator.shapes x.mutator.processor x.mutator.marks x.progress b new is k)) f.fit.others.many;
+        after = of_parts (stepped w a (with_begun b new)) (e ∷ es) (subst (λ (n : ℕ). After p l (record (parts_of (stepped w a (with_begun b new))) { runners = set w.runners a (runner_of p.shapes (takes p.shapes (with_begun b new).mutator.processor (found_by w (asks (with_begun b new).mutator))) n (progress_after x.progress b new)) }) (e ∷ es)) (sym marks)
+            (follows p l f.fit.base.script f.fit.base.layout a seat own shown (parts_of w) es parts x.mutator.shapes x.mutator.processor x.mutator.marks x.progress b new is k)) f.fit.others.many;
         says = said;
         answers = ap answered_in said ∙ tells p l f.fit.base.script f.fit.base.layout a seat w.words x.mutator.processor es b r.processor;
       })
@@ -121,10 +120,10 @@ module _ (polls : PollsMakeRoom) (w : State) (points room : ℕ) (f : Fit w poin
   found_there = found_by w (asks r.begun.mutator)
 
   pub room_there : b ≡ true → points < room
-  room_there = point_room polls w.script w.layout f.base.script f.base.layout w.runners points room f.running a x r.begun is r.begins r.fits r.busy found_there b r.point
+  room_there = point_room polls w points room f a x r.begun is r.begins r.fits r.busy found_there b r.point
 
   pub ran_there : FitRunners w.script w.layout (set w.runners a z) (points + bit b) room
-  ran_there = rw (r.goes, r.point) (ran polls w.script w.layout f.base.script f.base.layout w.runners points room f.running a x r.begun is r.begins r.fits r.busy found_there)
+  ran_there = rw (r.goes, r.point) (ran polls w points room f a x r.begun is r.begins r.fits r.busy found_there)
 
   pub words_there : FitWords w.script w.layout list
   words_there = fits_again _ _ _ _ (request w.layout (asks r.begun.mutator)) r.words f.base
@@ -164,11 +163,11 @@ appends_work w v a i es happened shown f at going st after =
     let next = worker.goes st.before_it (found_by w (worker.asks st.before_it)) in
     let workers : length (set w.workers i next) ≡ w.layout.workers = length-set w.workers i next ∙ f.fit.others.many in
     subst (λ (y : State). Appends y a es happened) (sym st.others) (record {
-      e = work_entry w.script w.layout shown w.words w.runners w.workers w.coord w.points es parts procs i st.before_it st.is few busy st.within;
+      e = work_entry w.script w.layout shown (parts_of w) es parts i st.before_it st.is few busy st.within;
       by = omega (arith, at, procs);
-      after = of_parts _ _ (worked w.script w.layout shown w.words w.runners w.workers w.coord w.points es parts procs i st.before_it st.is few busy st.within) workers;
-      says = st.says ∙ work_says w.script w.layout shown w.words w.runners w.workers w.coord w.points es parts procs i st.before_it st.is few busy st.within;
-      answers = work_tells w.script w.layout shown w.words w.runners w.workers w.coord w.points es parts procs i st.before_it st.is few busy st.within happened st.says;
+      after = of_parts _ _ (worked w.script w.layout shown (parts_of w) es parts i st.before_it st.is few busy st.within) workers;
+      says = st.says ∙ work_says w.script w.layout shown (parts_of w) es parts i st.before_it st.is few busy st.within;
+      answers = work_tells w.script w.layout shown (parts_of w) es parts i st.before_it st.is few busy st.within happened st.says;
     })
 
 -- it answers no statement
@@ -202,11 +201,11 @@ appends_lead w v a es happened shown f at going st after =
     let many = f.fit.others.many in
     let parts = in_parts w es after in
     subst (λ (y : State). Appends y a es happened) (sym st.others) (record {
-      e = lead_entry w.script w.layout shown w.words w.runners w.workers w.coord w.points es parts procs busy st.within;
+      e = lead_entry w.script w.layout shown (parts_of w) es parts busy st.within;
       by = omega (arith, at, procs, many);
-      after = of_parts _ _ (led w.script w.layout shown w.words w.runners w.workers w.coord w.points es parts procs busy st.within many) many;
-      says = st.says ∙ lead_says w.script w.layout shown w.words w.runners w.workers w.coord w.points es parts procs busy st.within;
-      answers = lead_tells w.script w.layout shown w.words w.runners w.workers w.coord w.points es parts procs busy st.within happened st.says;
+      after = of_parts _ _ (led w.script w.layout shown (parts_of w) es parts busy st.within many) many;
+      says = st.says ∙ lead_says w.script w.layout shown (parts_of w) es parts busy st.within;
+      answers = lead_tells w.script w.layout shown (parts_of w) es parts busy st.within happened st.says;
     })
 
 pub few_lead : (w v : State) (happened : Event) → Kept w → IsStepOfCoordinator w v happened → answered_of v ≤ total_of v.script

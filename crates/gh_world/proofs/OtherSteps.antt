@@ -1,18 +1,17 @@
 -- One step of a worker, or of the coordinator, in a world is one entry more of a legal list; and what a world is before its first step.
 use Rattle.std.proofs.Common.{◌≡◌, ℕ, ◌+◌, ◌<◌, ◌≤◌, true, false, eqb, ltb, List, [], ◌∷◌, ◌++◌, length, get_or, refl, sym, ◌∙◌, ap, Option, Some, None, arith}
 use Rattle.std.proofs.lemmas.List.{append-nil}
-use Rattle.gh_world.specs.Vocabulary.{Shows}
+use Rattle.gh_world.specs.Vocabulary.{Shows, Cycle}
 use Rattle.gh_base.specs.Steps.{IsShown}
 use Rattle.gh_coord.specs.Listing as coord
 use Rattle.gh_worker.specs.Listing as worker
 use Rattle.gh_lists.specs.declared.handshake.Actor.TheVariants as actor
 use Rattle.gh_world.specs.Turns.{next_point}
-use Rattle.gh_coord.specs.declared.cycles.Cycle.{Cycle}
 use Rattle.gh_world.specs.declared.runner.Runner.{Runner}
 use Rattle.gh_world.specs.World.{AreOpening, done_or, event_by, IsOpening, now_in, now_of, points_in, told_event, workers_at}
 use Rattle.gh_world.specs.declared.event.Event.TheVariants as event
 use Rattle.gh_world.proofs.Vocabulary.{acks_of, Actor, actor_after, acts, answer_in, answered_in, Ask, cell_of, changed, Entry, eq-eqb, Event, event_of, get_or-map-range_with_len, get_or_from_slice_get, InRange, is_point, Layout, Legal, length-map-range_with_len, most_cycles, Mutating, nat_tests, Op, opening_processor, Processor, processor_kind, Program, Progress, read_replicate, request, set, setting_of, slice_get, slice_get_within, state_of, statement_answer, StepsAreShown, target, with_goroutine, words_after}
-use Rattle.gh_world.proofs.Parts.{After, IsRunnerAt}
+use Rattle.gh_world.proofs.Parts.{After, IsRunnerAt, Parts}
 use Rattle.gh_world.proofs.Resting.{rests}
 use Rattle.gh_world.proofs.Runners.{each_set, runner_stays}
 use Rattle.gh_world.proofs.Turning.{opens_at}
@@ -51,30 +50,30 @@ module _ (p : Program) (l : Layout) where
   other_at : (a b found : ℕ) (ask : Ask) (es : List (Entry Op)) → (a ≡ b → ⊥) → actor_after p l (entry_by a ask found ∷ es) b ≡ actor_after p l es b
   other_at a b found ask es apart = let f : eqb a b ≡ false = grind (arith, nat_tests) in rw f refl
 
-  module _ (shown : StepsAreShown l) (list : List ℕ) (runners : List Runner) (workers : List worker.Working) (c : coord.Coordinating) (points : List (ℕ × ℕ)) (es : List (Entry Op)) (h : After p l list runners workers c points es) (procs : length runners ≡ l.procs) where
+  module _ (shown : StepsAreShown l) (w : Parts) (es : List (Entry Op)) (h : After p l w es) where
     module _ (ask : Ask) (within : InRange l (cell_of ask)) where
-      step_shown : IsShown l list (words_after (setting_of p l).opening es) ask
-      step_shown = shown list (words_after (setting_of p l).opening es) ask within h.words
+      step_shown : IsShown l w.words (words_after (setting_of p l).opening es) ask
+      step_shown = shown w.words (words_after (setting_of p l).opening es) ask within h.words
 
     -- the processors stay as they are
-    runners_stay : (b : ℕ) → l.procs ≤ b → (found : ℕ) (ask : Ask) (a : ℕ) (x : Runner) → slice_get runners a ≡ Some x → IsRunnerAt p l a x (entry_by b ask found ∷ es)
-    runners_stay b le found ask a x is = let low : a < length runners = slice_get_within runners a x is in runner_stays p l a x (entry_by b ask found) es (λ q. omega (arith, low, procs, le, q)) (h.running a x is)
+    runners_stay : (b : ℕ) → l.procs ≤ b → (found : ℕ) (ask : Ask) (a : ℕ) (x : Runner) → slice_get w.runners a ≡ Some x → IsRunnerAt p l a x (entry_by b ask found ∷ es)
+    runners_stay b le found ask a x is = let low : a < length w.runners = slice_get_within w.runners a x is in runner_stays p l a x (entry_by b ask found) es (λ q. omega (arith, low, h.many, le, q)) (h.running a x is)
 
     -- ---- a worker
 
-    module _ (i : ℕ) (x : worker.Working) (is : slice_get workers i ≡ Some x) (few : i < l.workers) (busy : worker.is_busy x.stage ≡ true) (within : InRange l (cell_of (worker.asks x))) where
+    module _ (i : ℕ) (x : worker.Working) (is : slice_get w.workers i ≡ Some x) (few : i < l.workers) (busy : worker.is_busy x.stage ≡ true) (within : InRange l (cell_of (worker.asks x))) where
       abbrev pub work_entry : Entry Op
-      work_entry = entry_by (l.procs + i) (worker.asks x) (found_by list (worker.asks x))
+      work_entry = entry_by (l.procs + i) (worker.asks x) (found_by w.words (worker.asks x))
 
       abbrev next : worker.Working
-      next = worker.goes x (found_by list (worker.asks x))
+      next = worker.goes x (found_by w.words (worker.asks x))
 
-      works_on : (j : ℕ) (y : worker.Working) → slice_get (set workers i next) j ≡ Some y → actor_after p l (work_entry ∷ es) (l.procs + j) ≡ actor.Marks y
-      works_on = each_set (λ (j : ℕ) (y : worker.Working). actor_after p l (work_entry ∷ es) (l.procs + j) ≡ actor.Marks y) workers i x next is
-          (own_at (l.procs + i) (l.procs + i) (found_by list (worker.asks x)) (worker.asks x) es refl ∙ ap (λ (n : Actor). (setting_of p l).kind.takes n (found_by list (worker.asks x))) (h.marking i x is))
-          (λ j y apart e. other_at (l.procs + i) (l.procs + j) (found_by list (worker.asks x)) (worker.asks x) es (λ q. apart (omega (arith, q))) ∙ h.marking j y e)
+      works_on : (j : ℕ) (y : worker.Working) → slice_get (set w.workers i next) j ≡ Some y → actor_after p l (work_entry ∷ es) (l.procs + j) ≡ actor.Marks y
+      works_on = each_set (λ (j : ℕ) (y : worker.Working). actor_after p l (work_entry ∷ es) (l.procs + j) ≡ actor.Marks y) w.workers i x next is
+          (own_at (l.procs + i) (l.procs + i) (found_by w.words (worker.asks x)) (worker.asks x) es refl ∙ ap (λ (n : Actor). (setting_of p l).kind.takes n (found_by w.words (worker.asks x))) (h.marking i x is))
+          (λ j y apart e. other_at (l.procs + i) (l.procs + j) (found_by w.words (worker.asks x)) (worker.asks x) es (λ q. apart (omega (arith, q))) ∙ h.marking j y e)
 
-      pub worked : After p l (changed (request l (worker.asks x)) list) runners (set workers i next) c points (work_entry ∷ es)
+      pub worked : After p l (record w { words = changed (request l (worker.asks x)) w.words; workers = set w.workers i next }) (work_entry ∷ es)
       worked =
           let mine = h.marking i x is in
           let step = step_shown (worker.asks x) within in
@@ -93,33 +92,33 @@ module _ (p : Program) (l : Layout) where
             );
             words = step.after;
             many = h.many;
-            running = runners_stay (l.procs + i) behind (found_by list (worker.asks x)) (worker.asks x);
+            running = runners_stay (l.procs + i) behind (found_by w.words (worker.asks x)) (worker.asks x);
             marking = works_on;
-            coordinator = other_at (l.procs + i) (acks_of l) (found_by list (worker.asks x)) (worker.asks x) es (λ q. omega (arith, few, q)) ∙ h.coordinator;
-            pointed = h.pointed ∙ same_points (l.procs + i) (found_by list (worker.asks x)) (worker.asks x) behind es h.legal;
+            coordinator = other_at (l.procs + i) (acks_of l) (found_by w.words (worker.asks x)) (worker.asks x) es (λ q. omega (arith, few, q)) ∙ h.coordinator;
+            pointed = h.pointed ∙ same_points (l.procs + i) (found_by w.words (worker.asks x)) (worker.asks x) behind es h.legal;
           }
 
-      pub work_says : done_or (worker.gives x (found_by list (worker.asks x))) event.Moved ≡ event_of p l es work_entry
-      work_says = ap (λ (n : Actor). event_by (now_in (work_entry ∷ es)) n (found_by list (worker.asks x))) (sym (h.marking i x is))
+      pub work_says : done_or (worker.gives x (found_by w.words (worker.asks x))) event.Moved ≡ event_of p l es work_entry
+      work_says = ap (λ (n : Actor). event_by (now_in (work_entry ∷ es)) n (found_by w.words (worker.asks x))) (sym (h.marking i x is))
 
-      pub work_tells : (happened : Event) → happened ≡ done_or (worker.gives x (found_by list (worker.asks x))) event.Moved → answered_in happened ≡ with_goroutine (now_in (work_entry ∷ es)).0 (answer_in p.shapes l es work_entry)
-      work_tells happened says = ap answered_in says ∙ no_answer (worker.gives x (found_by list (worker.asks x))) None ∙ none_answered (l.procs + i) (found_by list (worker.asks x)) (worker.asks x) (omega arith) es h.legal
+      pub work_tells : (happened : Event) → happened ≡ done_or (worker.gives x (found_by w.words (worker.asks x))) event.Moved → answered_in happened ≡ with_goroutine (now_in (work_entry ∷ es)).0 (answer_in p.shapes l es work_entry)
+      work_tells happened says = ap answered_in says ∙ no_answer (worker.gives x (found_by w.words (worker.asks x))) None ∙ none_answered (l.procs + i) (found_by w.words (worker.asks x)) (worker.asks x) (omega arith) es h.legal
 
     -- ---- the coordinator
 
-    module _ (busy : coord.is_busy c.stage ≡ true) (within : InRange l (cell_of (coord.asks c))) where
+    module _ (busy : coord.is_busy w.coord.stage ≡ true) (within : InRange l (cell_of (coord.asks w.coord))) where
       abbrev pub lead_entry : Entry Op
-      lead_entry = entry_by (acks_of l) (coord.asks c) (found_by list (coord.asks c))
+      lead_entry = entry_by (acks_of l) (coord.asks w.coord) (found_by w.words (coord.asks w.coord))
 
-      marks_on : (many : length workers ≡ l.workers) (j : ℕ) (y : worker.Working) → slice_get workers j ≡ Some y → actor_after p l (lead_entry ∷ es) (l.procs + j) ≡ actor.Marks y
+      marks_on : (many : length w.workers ≡ l.workers) (j : ℕ) (y : worker.Working) → slice_get w.workers j ≡ Some y → actor_after p l (lead_entry ∷ es) (l.procs + j) ≡ actor.Marks y
       marks_on many j y e =
-          let low : j < length workers = slice_get_within workers j y e in
-          other_at (acks_of l) (l.procs + j) (found_by list (coord.asks c)) (coord.asks c) es (λ q. omega (arith, low, many, q)) ∙ h.marking j y e
+          let low : j < length w.workers = slice_get_within w.workers j y e in
+          other_at (acks_of l) (l.procs + j) (found_by w.words (coord.asks w.coord)) (coord.asks w.coord) es (λ q. omega (arith, low, many, q)) ∙ h.marking j y e
 
-      pub led : length workers ≡ l.workers → After p l (changed (request l (coord.asks c)) list) runners workers (coord.goes c (found_by list (coord.asks c))) points (lead_entry ∷ es)
+      pub led : length w.workers ≡ l.workers → After p l (record w { words = changed (request l (coord.asks w.coord)) w.words; coord = coord.goes w.coord (found_by w.words (coord.asks w.coord)) }) (lead_entry ∷ es)
       led many =
           let mine = h.coordinator in
-          let step = step_shown (coord.asks c) within in
+          let step = step_shown (coord.asks w.coord) within in
           let behind : l.procs ≤ acks_of l = omega arith in
           record {
             legal = (
@@ -135,17 +134,17 @@ module _ (p : Program) (l : Layout) where
             );
             words = step.after;
             many = h.many;
-            running = runners_stay (acks_of l) behind (found_by list (coord.asks c)) (coord.asks c);
+            running = runners_stay (acks_of l) behind (found_by w.words (coord.asks w.coord)) (coord.asks w.coord);
             marking = marks_on many;
-            coordinator = own_at (acks_of l) (acks_of l) (found_by list (coord.asks c)) (coord.asks c) es refl ∙ ap (λ (n : Actor). (setting_of p l).kind.takes n (found_by list (coord.asks c))) mine;
-            pointed = h.pointed ∙ same_points (acks_of l) (found_by list (coord.asks c)) (coord.asks c) behind es h.legal;
+            coordinator = own_at (acks_of l) (acks_of l) (found_by w.words (coord.asks w.coord)) (coord.asks w.coord) es refl ∙ ap (λ (n : Actor). (setting_of p l).kind.takes n (found_by w.words (coord.asks w.coord))) mine;
+            pointed = h.pointed ∙ same_points (acks_of l) (found_by w.words (coord.asks w.coord)) (coord.asks w.coord) behind es h.legal;
           }
 
-      pub lead_says : done_or (coord.gives c (found_by list (coord.asks c))) (told_event (coord.told_at c.cycles c.stage)) ≡ event_of p l es lead_entry
-      lead_says = ap (λ (n : Actor). event_by (now_in (lead_entry ∷ es)) n (found_by list (coord.asks c))) (sym h.coordinator)
+      pub lead_says : done_or (coord.gives w.coord (found_by w.words (coord.asks w.coord))) (told_event (coord.told_at w.coord.cycles w.coord.stage)) ≡ event_of p l es lead_entry
+      lead_says = ap (λ (n : Actor). event_by (now_in (lead_entry ∷ es)) n (found_by w.words (coord.asks w.coord))) (sym h.coordinator)
 
-      pub lead_tells : (happened : Event) → happened ≡ done_or (coord.gives c (found_by list (coord.asks c))) (told_event (coord.told_at c.cycles c.stage)) → answered_in happened ≡ with_goroutine (now_in (lead_entry ∷ es)).0 (answer_in p.shapes l es lead_entry)
-      lead_tells happened says = ap answered_in says ∙ no_answer (coord.gives c (found_by list (coord.asks c))) (coord.told_at c.cycles c.stage) ∙ none_answered (acks_of l) (found_by list (coord.asks c)) (coord.asks c) (omega arith) es h.legal
+      pub lead_tells : (happened : Event) → happened ≡ done_or (coord.gives w.coord (found_by w.words (coord.asks w.coord))) (told_event (coord.told_at w.coord.cycles w.coord.stage)) → answered_in happened ≡ with_goroutine (now_in (lead_entry ∷ es)).0 (answer_in p.shapes l es lead_entry)
+      lead_tells happened says = ap answered_in says ∙ no_answer (coord.gives w.coord (found_by w.words (coord.asks w.coord))) (coord.told_at w.coord.cycles w.coord.stage) ∙ none_answered (acks_of l) (found_by w.words (coord.asks w.coord)) (coord.asks w.coord) (omega arith) es h.legal
 
   -- ---- before the first step
 
@@ -176,7 +175,7 @@ module _ (p : Program) (l : Layout) where
       rw (above, same) refl
 
   pub after_opens : (list : List ℕ) (runners : List Runner) → Shows l list (setting_of p l).opening → AreOpening p l runners →
-      After p l list runners (workers_at l) (coord.opening l (acks_of l) p.settings.gogc p.settings.minheap (most_cycles p)) [] []
+      After p l (record { words = list; runners = runners; workers = workers_at l; coord = coord.opening l (acks_of l) p.settings.gogc p.settings.minheap (most_cycles p); points = [] }) []
   after_opens list runners shows opening = record {
     legal = tt;
     words = shows;

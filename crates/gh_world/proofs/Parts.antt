@@ -3,7 +3,6 @@ use Rattle.std.proofs.Common.{◌≡◌, ℕ, ◌+◌, ◌-◌, ◌<◌, ◌≤�
 use Rattle.std.specs.Prelude.{slice_get, slice_index, sum_by}
 use Rattle.std.specs.Option.{option_to_list}
 use Rattle.std.proofs.lemmas.Option.{slice_get_cases, slice_get_past, slice_get_within}
-use Rattle.gh_base.specs.Lists.{by}
 use Rattle.gh_coord.specs.Listing as coord
 use Rattle.gh_worker.specs.Listing as worker
 use Rattle.gh_lists.specs.declared.handshake.Actor.TheVariants as actor
@@ -11,7 +10,7 @@ use Rattle.gh_world.specs.declared.runner.Runner.{Runner}
 use Rattle.gh_world.specs.After.{IsAfter, KeepsPlace}
 use Rattle.gh_lists.specs.Order.{begun_in, ended_in, has_left}
 use Rattle.gh_world.specs.Turns.{is_over, MayBeOver, statements_by, to_come, turns_of}
-use Rattle.gh_world.specs.Vocabulary.{acks_of, Entry, Layout, Legal, MOST_GOROUTINES, Op, Processor, processor_kind, Program, Shows, state_of, words_after}
+use Rattle.gh_world.specs.Vocabulary.{acks_of, Entry, Layout, Legal, MOST_GOROUTINES, Op, Processor, processor_kind, Program, Shows, state_of, words_after, by}
 use Rattle.gh_world.specs.World.{actor_after, actor_of, actors_of, marks_at, marks_by, marks_of, now_by, points_in, runner_or, setting_of, State, worker_or}
 use Rattle.gh_world.proofs.Resting.{is_processor}
 
@@ -25,15 +24,26 @@ pub record IsRunnerAt (p : Program) (l : Layout) (a : ℕ) (x : Runner) (es : Li
   pub left : has_left (by a es) ≡ true → is_over x.progress.next ≡ true
   pub marked : x.mutator.marks ≡ marks_at p.shapes l a es
 
--- These are the words, the processors, the workers, the coordinator and the points after the list.
-pub record After (p : Program) (l : Layout) (list : List ℕ) (runners : List Runner) (workers : List worker.Working) (c : coord.Coordinating) (points : List (ℕ × ℕ)) (es : List (Entry Op)) : Type 0 where
+-- the words, the processors, the workers, the coordinator and the points of a world
+pub record Parts : Type 0 where
+  pub words : List ℕ
+  pub runners : List Runner
+  pub workers : List worker.Working
+  pub coord : coord.Coordinating
+  pub points : List (ℕ × ℕ)
+
+abbrev pub parts_of : State → Parts
+parts_of w = record { words = w.words; runners = w.runners; workers = w.workers; coord = w.coord; points = w.points }
+
+-- So they stand after the list.
+pub record After (p : Program) (l : Layout) (w : Parts) (es : List (Entry Op)) : Type 0 where
   pub legal : Legal (setting_of p l) es
-  pub words : Shows l list (words_after (setting_of p l).opening es)
-  pub running : (a : ℕ) (x : Runner) → slice_get runners a ≡ Some x → IsRunnerAt p l a x es
-  pub marking : (i : ℕ) (x : worker.Working) → slice_get workers i ≡ Some x → actor_after p l es (l.procs + i) ≡ actor.Marks x
-  pub many : length runners ≡ l.procs
-  pub coordinator : actor_after p l es (acks_of l) ≡ actor.Leads c
-  pub pointed : points ≡ points_in p.shapes l es
+  pub words : Shows l w.words (words_after (setting_of p l).opening es)
+  pub running : (a : ℕ) (x : Runner) → slice_get w.runners a ≡ Some x → IsRunnerAt p l a x es
+  pub marking : (i : ℕ) (x : worker.Working) → slice_get w.workers i ≡ Some x → actor_after p l es (l.procs + i) ≡ actor.Marks x
+  pub many : length w.runners ≡ l.procs
+  pub coordinator : actor_after p l es (acks_of l) ≡ actor.Leads w.coord
+  pub pointed : w.points ≡ points_in p.shapes l es
 
 -- the actors of a world by their numbers
 pub runner_here : (w : State) (a : ℕ) (x : Runner) → slice_get w.runners a ≡ Some x → actor_of w a ≡ actor.Runs x.mutator.processor
@@ -65,7 +75,7 @@ module _ (w : State) (es : List (Entry Op)) where
   l = w.layout
 
   abbrev InParts : Type 0
-  InParts = After p l w.words w.runners w.workers w.coord w.points es
+  InParts = After p l (parts_of w) es
 
   -- an actor's marks, by the processor that there is, or is not
   marks_here : (a : ℕ) (o : Option Runner) → slice_get w.runners a ≡ o → marks_of w a ≡ marks_by (sum_by (λ (x : Runner). x.mutator.marks) (option_to_list o)) (runner_or (worker_or w.coord (slice_get w.workers (a - length w.runners))) o)

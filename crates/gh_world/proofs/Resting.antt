@@ -1,11 +1,10 @@
 -- In each legal list of a script the processors are at the first seats; who is at another begins nothing.
 use Rattle.std.proofs.Common.{◌≡◌, ℕ, ◌<◌, ◌≤◌, true, ap, ◌∙◌, List, Option, None}
 use Rattle.gh_base.specs.Lists.{Begins, Kind, Legal, started, state_of}
-use Rattle.gh_lists.specs.declared.handshake.Actor.{Actor}
 use Rattle.gh_lists.specs.declared.handshake.Actor.TheVariants as actor
 use Rattle.gh_lists.specs.Handshake.{actors}
-use Rattle.gh_world.specs.Vocabulary.{Entry, Layout, Op, opening_processor, Processor, processor_kind, Program}
-use Rattle.gh_world.specs.World.{actor_after, may_begin_of, pacing_of, setting_of}
+use Rattle.gh_world.specs.Vocabulary.{Entry, Layout, Op, opening_processor, Processor, processor_kind, Program, Actor}
+use Rattle.gh_world.specs.World.{actor_after, setting_of, setup_of}
 use Rattle.gh_lists.specs.Resting as resting
 use Rattle.gh_lists.specs.Seats.{run_started}
 
@@ -14,17 +13,17 @@ module _ (p : Program) (l : Layout) where
   one = processor_kind p.shapes l
 
   abbrev all : Kind Actor Op
-  all = actors p.shapes l (pacing_of p)
+  all = actors (setup_of p l)
 
   pub is_processor : (a : ℕ) → a < l.procs → (es : List (Entry Op)) → actor_after p l es a ≡ actor.Runs (state_of one a es)
-  is_processor a lt es = resting.runs_are p.shapes l (pacing_of p) (may_begin_of p l) es a lt
+  is_processor a lt es = resting.runs_are (setup_of p l) es a lt
 
   pub begun_is : (a : ℕ) → a < l.procs → (es : List (Entry Op)) (o : Option Op) → started all o (actor_after p l es a) ≡ actor.Runs (started one o (state_of one a es))
-  begun_is a lt es o = ap (λ (m : Actor). started all o m) (is_processor a lt es) ∙ run_started p.shapes l (pacing_of p) o (state_of one a es)
+  begun_is a lt es o = ap (λ (m : Actor). started all o m) (is_processor a lt es) ∙ run_started (setup_of p l) o (state_of one a es)
 
   pub other_none : (a : ℕ) (es : List (Entry Op)) (o : Option Op) → l.procs ≤ a → Begins (setting_of p l) a es o → all.busy (started all o (actor_after p l es a)) ≡ true → o ≡ None
-  other_none a es o le begins runs = resting.begins_none p.shapes l (pacing_of p) (may_begin_of p l) a es o le begins runs
+  other_none a es o le begins runs = resting.begins_none (setup_of p l) a es o le begins runs
 
   -- at its seat a processor would rest
   pub rests : (a : ℕ) → l.procs ≤ a → (es : List (Entry Op)) → Legal (setting_of p l) es → state_of one a es ≡ opening_processor l a
-  rests a le es legal = resting.rests p.shapes l (pacing_of p) (may_begin_of p l) es legal a le
+  rests a le es legal = resting.rests (setup_of p l) es legal a le

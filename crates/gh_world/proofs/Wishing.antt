@@ -7,9 +7,8 @@ use Rattle.std.proofs.lemmas.List.{length-append, take_more}
 use Rattle.std.proofs.lemmas.List.Elements.{filter-append}
 use Rattle.std.proofs.lemmas.List.Sums.{sum_by-cons}
 use Rattle.std.proofs.lemmas.Option.{get_or_from_slice_get, slice_get_within}
-use Rattle.gh_script.specs.declared.statement.Stmt.{Stmt}
 use Rattle.gh_script.specs.Program.{Goroutine, Program, statement_at, statements_in, statements_of}
-use Rattle.gh_world.specs.Vocabulary.{no_goroutine}
+use Rattle.gh_world.specs.Vocabulary.{no_goroutine, Stmt}
 use Rattle.gh_lists.specs.Wants.{total}
 use Rattle.gh_world.specs.Wishes.{may_ask, wishes_among, wishes_in}
 

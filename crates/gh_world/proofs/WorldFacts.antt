@@ -4,8 +4,6 @@ use Rattle.gh_mutator.specs.declared.task.Task.TheVariants as task
 use Rattle.gh_mutator.specs.Serving.{answer_at as answer_at_task}
 use Rattle.gh_world.specs.Vocabulary.{is_serving, is_last}
 use Rattle.gh_base.specs.Steps.{IsShown}
-use Rattle.gh_coord.specs.Listing as coord
-use Rattle.gh_worker.specs.Listing as worker
 use Rattle.gh_lists.specs.declared.handshake.Actor.TheVariants as actor
 use Rattle.gh_world.specs.declared.runner.Runner.{Runner}
 use Rattle.gh_mutator.specs.Sound.{has_room}
@@ -15,7 +13,7 @@ use Rattle.gh_world.proofs.Vocabulary.{acks_of, Actor, actor_after, acts, Answer
 use Rattle.gh_world.proofs.Due.{due_goroutine, false_unless}
 use Rattle.gh_world.proofs.MayBegin.{due_begins, ended_then, left_then}
 use Rattle.gh_world.proofs.OneRun.{one_more}
-use Rattle.gh_world.proofs.Parts.{After, IsRunnerAt}
+use Rattle.gh_world.proofs.Parts.{After, IsRunnerAt, Parts}
 use Rattle.gh_world.proofs.Resting.{begun_is, is_processor}
 use Rattle.gh_world.proofs.Runners.{each_set, runner_stays}
 
@@ -168,21 +166,22 @@ module _ (p : Program) (l : Layout) (runnable : WellFormed p) (laid : LaysOut p 
       }
 
   -- what follows the list by one step more
-  abbrev pub Goes : List ℕ → List Runner → List worker.Working → coord.Coordinating → List (ℕ × ℕ) → List (Entry Op) → (marks : ℕ) → Progress → Option Op → Next → Processor → Type 0
-  Goes list runners workers c points es marks t b new m =
-      After p l (changed (request l (asks (begun m b))) list) (set runners a (runner_then list m marks t b new)) workers c (points ++ next_point (is_point (acts (begun m b) (found_at list (begun m b)))) (now_then t b)) (entry_of list m b ∷ es)
+  abbrev pub Goes : Parts → List (Entry Op) → (marks : ℕ) → Progress → Option Op → Next → Processor → Type 0
+  Goes w es marks t b new m =
+      let points = w.points ++ next_point (is_point (acts (begun m b) (found_at w.words (begun m b)))) (now_then t b) in
+      After p l (record w { words = changed (request l (asks (begun m b))) w.words; runners = set w.runners a (runner_then w.words m marks t b new); points = points }) (entry_of w.words m b ∷ es)
 
   apart : (e : Entry Op) (es : List (Entry Op)) (c : ℕ) → (e.actor ≡ c → ⊥) → {x : Actor} → actor_after p l es c ≡ x → actor_after p l (e ∷ es) c ≡ x
   apart e es c differ is = let other : eqb e.actor c ≡ false = false_unless (eqb e.actor c) (λ t. differ (eqb-true e.actor c t)) in rw other is
 
-  follows_at : OwnEntries → StepsAreShown l → (list : List ℕ) (runners : List Runner) (workers : List worker.Working) (c : coord.Coordinating) (points : List (ℕ × ℕ)) (es : List (Entry Op)) → After p l list runners workers c points es →
-      (shapes : List Shape) (marks : ℕ) (t : Progress) (b : Option Op) (new : Next) → let m = state_of (processor_kind p.shapes l) a es in slice_get runners a ≡ Some (runner_of shapes m marks t) → Knows m t b new → Goes list runners workers c points es marks t b new m
-  follows_at own shown list runners workers c points es h shapes marks t b new is k =
+  follows_at : OwnEntries → StepsAreShown l → (w : Parts) (es : List (Entry Op)) → After p l w es →
+      (shapes : List Shape) (marks : ℕ) (t : Progress) (b : Option Op) (new : Next) → let m = state_of (processor_kind p.shapes l) a es in slice_get w.runners a ≡ Some (runner_of shapes m marks t) → Knows m t b new → Goes w es marks t b new m
+  follows_at own shown w es h shapes marks t b new is k =
       let m = state_of (processor_kind p.shapes l) a es in
-      let e = entry_of list m b in
+      let e = entry_of w.words m b in
       let r = h.running a (runner_of shapes m marks t) is in
-      let step : IsShown l list (words_after (setting_of p l).opening es) (asks (begun m b)) = shown list (words_after (setting_of p l).opening es) (asks (begun m b)) k.within h.words in
-      let now = now_at t b new marks shapes es m r k ∙ sym (ap statement_now (its_next list m b es)) in
+      let step : IsShown l w.words (words_after (setting_of p l).opening es) (asks (begun m b)) = shown w.words (words_after (setting_of p l).opening es) (asks (begun m b)) k.within h.words in
+      let now = now_at t b new marks shapes es m r k ∙ sym (ap statement_now (its_next w.words m b es)) in
       record {
         legal = (
           h.legal,
@@ -196,20 +195,20 @@ module _ (p : Program) (l : Layout) (runnable : WellFormed p) (laid : LaysOut p 
           },
         );
         words = step.after;
-        many = length-set runners a (runner_then list m marks t b new) ∙ h.many;
-        running = each_set (λ (d : ℕ) (x : Runner). IsRunnerAt p l d x (e ∷ es)) runners a (runner_of shapes m marks t) (runner_then list m marks t b new) is (runner_at list shapes marks t es b new r k)
+        many = length-set w.runners a (runner_then w.words m marks t b new) ∙ h.many;
+        running = each_set (λ (d : ℕ) (x : Runner). IsRunnerAt p l d x (e ∷ es)) w.runners a (runner_of shapes m marks t) (runner_then w.words m marks t b new) is (runner_at w.words shapes marks t es b new r k)
             (λ d x differ there. runner_stays p l d x e es differ (h.running d x there));
         marking = λ i x there. apart e es (l.procs + i) (λ q. omega (arith, seat, q)) (h.marking i x there);
         coordinator = apart e es (acks_of l) (λ q. omega (arith, seat, q)) h.coordinator;
-        pointed = ap (λ (ps : List (ℕ × ℕ)). ps ++ next_point (is_point (acts (begun m b) (found_at list (begun m b)))) (now_then t b)) h.pointed
-            ∙ ap (λ (x : ℕ × ℕ). points_in p.shapes l es ++ next_point (is_point (acts (begun m b) (found_at list (begun m b)))) x) now;
+        pointed = ap (λ (ps : List (ℕ × ℕ)). ps ++ next_point (is_point (acts (begun m b) (found_at w.words (begun m b)))) (now_then t b)) h.pointed
+            ∙ ap (λ (x : ℕ × ℕ). points_in p.shapes l es ++ next_point (is_point (acts (begun m b) (found_at w.words (begun m b)))) x) now;
       }
 
-  pub follows : OwnEntries → StepsAreShown l → (list : List ℕ) (runners : List Runner) (workers : List worker.Working) (c : coord.Coordinating) (points : List (ℕ × ℕ)) (es : List (Entry Op)) → After p l list runners workers c points es →
-      (shapes : List Shape) (m : Processor) (marks : ℕ) (t : Progress) (b : Option Op) (new : Next) → slice_get runners a ≡ Some (runner_of shapes m marks t) → Knows m t b new → Goes list runners workers c points es marks t b new m
-  follows own shown list runners workers c points es h shapes m marks t b new is = subst Goal (sym (h.running a (runner_of shapes m marks t) is).processor) (follows_at own shown list runners workers c points es h shapes marks t b new) is where
+  pub follows : OwnEntries → StepsAreShown l → (w : Parts) (es : List (Entry Op)) → After p l w es →
+      (shapes : List Shape) (m : Processor) (marks : ℕ) (t : Progress) (b : Option Op) (new : Next) → slice_get w.runners a ≡ Some (runner_of shapes m marks t) → Knows m t b new → Goes w es marks t b new m
+  follows own shown w es h shapes m marks t b new is = subst Goal (sym (h.running a (runner_of shapes m marks t) is).processor) (follows_at own shown w es h shapes marks t b new) is where
     Goal : Processor → Type 0
-    Goal n = slice_get runners a ≡ Some (runner_of shapes n marks t) → Knows n t b new → Goes list runners workers c points es marks t b new n
+    Goal n = slice_get w.runners a ≡ Some (runner_of shapes n marks t) → Knows n t b new → Goes w es marks t b new n
 
   -- what the step says
   says_at : (list : List ℕ) (t : Progress) (es : List (Entry Op)) (b : Option Op) → let m = state_of (processor_kind p.shapes l) a es in now_then t b ≡ statement_now (option_to_list b ++ begun_in (by a es)) →

@@ -1,5 +1,5 @@
 -- What a list says of its cycles, and what is live at its end: by the words where each cycle ended, and by the heap that never frees.
-use Rattle.std.specs.Prelude.{◌≡◌, ◌≢◌, ◌↔◌, ℕ, ◌*◌, List, [], ◌∷◌, ◌++◌, length, sum_by, AllPairs, ◌⊎◌}
+use Rattle.std.specs.Prelude.{◌≡◌, ◌≢◌, ◌↔◌, ℕ, ◌*◌, List, [], ◌∷◌, ◌++◌, length, sum_by, AllPairs}
 use Rattle.gh_base.specs.declared.cell.Ask.{Ask}
 use Rattle.gh_base.specs.declared.cell.Ask.TheVariants.{Store}
 use Rattle.gh_base.specs.declared.cell.Cell.TheVariants as cell
@@ -15,6 +15,7 @@ use Rattle.gh_lines.specs.Text.{SweptCycle}
 use Rattle.gh_model.specs.declared.EverValue.TheVariants.{Ref}
 use Rattle.gh_model.specs.Ever.{Ever, field_count, shape_of}
 use Rattle.gh_sweep.specs.Counts.{marked_objects, unmarked_objects}
+use Rattle.gh_law.specs.Names.{IsAmong}
 
 -- A cycle ends with the step that stores the next sweep generation: its number, and how many objects are placed and marked, and placed and white, there.
 abbrev pub ended_by : Layout → Words → Ask → List SweptCycle
@@ -38,11 +39,6 @@ pub data IsHeld (e : Ever) : Name → Type 0 where
 -- the bytes of the object's slot
 abbrev pub bytes_of : List Shape → Ever → Name → ℕ
 bytes_of shapes e n = 8 * field_count (shape_of shapes e n)
-
--- the name is among these
-abbrev pub IsAmong : Name → List Name → Type 0
-IsAmong n [] = ⊥
-IsAmong n (m ∷ more) = (n ≡ m) ⊎ IsAmong n more
 
 -- So many objects are held by the globals, and so many bytes are those of their slots.
 pub record AreLive (shapes : List Shape) (e : Ever) (objects bytes : ℕ) : Type 0 where

@@ -32,7 +32,8 @@ pub use Rattle.gh_lists.specs.Processors.{arena_of, ever_after_list, FullOnlyThe
 pub use Rattle.gh_lists.specs.Wants.{AreFew, CyclesAreFew, ProcessorsBeginFew}
 pub use Rattle.gh_law.specs.Below.{AllWereCounted, IsMarkedObject, LeavesTheReached, WasCounted}
 pub use Rattle.gh_law.specs.Actors.{AllStands}
-pub use Rattle.gh_world.specs.Cycles.{AreLive, by_field, by_global, cycles_in, ended_by, IsAmong, IsHeld}
+pub use Rattle.gh_law.specs.Names.{IsAmong}
+pub use Rattle.gh_world.specs.Cycles.{AreLive, by_field, by_global, cycles_in, ended_by, IsHeld}
 pub use Rattle.gh_world.specs.Runs.{ActedBehind, answers_given, EachGcWaits, EveryListOfAScriptStands, EveryRunIsExplained, FoundNoRoom, FoundSwept, FullMeansNoRoom, IsExplained, IsRun, marked_by, outcome_by, swept_cycle, words_in}
 pub use Rattle.gh_world.specs.Schedule.{has_ended}
 pub use Rattle.gh_world.specs.Turns.{count_of, is_statement_of, total_of}

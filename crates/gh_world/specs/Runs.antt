@@ -22,7 +22,7 @@ use Rattle.gh_lists.specs.Order.{acted_at, acted_in, Answered, before_step, begu
 use Rattle.gh_lists.specs.Processors.{arena_of, IsFullFor}
 use Rattle.gh_world.specs.Schedule.{ended_after, IsInTurn}
 use Rattle.gh_world.specs.Turns.{turns_of, answers_to, is_of_seat, is_statement_of}
-use Rattle.gh_world.specs.World.{actor_after, actor_of, actors_of, answer_in, LaysOut, may_begin_of, now_in, pacing_of, setting_of, State, with_goroutine}
+use Rattle.gh_world.specs.World.{actor_after, actor_of, actors_of, answer_in, LaysOut, now_in, setting_of, State, with_goroutine, setup_of}
 
 module _ (p : Program) (l : Layout) where
   -- the words after the list
@@ -98,7 +98,7 @@ module _ (p : Program) (l : Layout) where
 
   -- the operation is the last that the actor began in the list, and has waited for a cycle
   abbrev pub Awaited : (a : ℕ) → List (Entry Op) → Op → Type 0
-  Awaited a es o = AwaitedCycle p.shapes l (pacing_of p) (may_begin_of p l) a es o
+  Awaited a es o = AwaitedCycle (setup_of p l) a es o
 
   -- The operation acted in the list, behind i others, where there was no room; and behind its first entry a cycle began that was swept by then.
   pub record FoundNoRoom (es : List (Entry Op)) (i : ℕ) (o : Op) : Type 0 where
@@ -127,9 +127,9 @@ module _ (p : Program) (l : Layout) where
     pub spent : o.spent ≡ spent_in es
     pub lapsed : o.lapsed ≡ lapsed_in es
     pub balanced : o.earned ≡ o.spent + o.lapsed
-    pub scanned : o.earned ≡ scanned_in p.shapes l (pacing_of p) es
+    pub scanned : o.earned ≡ scanned_in (setup_of p l) es
     -- in each cycle one for each global, and the others are those of objects
-    pub globals : o.earned ≡ length o.cycles * l.globals + objects_in p.shapes l (pacing_of p) es
+    pub globals : o.earned ≡ length o.cycles * l.globals + objects_in (setup_of p l) es
     pub few : o.earned < 2 ^ 48
 
   -- The operations of each processor are its turns, in the order of their points, and nobody else acts; so the order of all points is one interleaving of the processors' turns. In it each goroutine's statements stand each once and in their order. Their answers are exactly those of the heap that never frees, save `full`, and whichever is answered `full`, there was no room where it acted, and a cycle that began behind its first entry was swept. Each `gc` is answered `swept`, where such a cycle was swept. The statements' answers are those given, of each processor in the order of its turns. What the coordinator tells is so: each cycle kept what was marked where it ended, and freed what was white there. Each cycle frees every object that no script reached when it began, and what is lost meanwhile goes with the second cycle that ends after that. Credit that workers earned was spent or has lapsed. What is live is what the globals of the heap that never frees hold at the end.
@@ -151,8 +151,8 @@ module _ (p : Program) (l : Layout) where
     pub swept : EachGcWaits es
     pub cycles : o.cycles ≡ cycles_in l (setting_of p l).opening es
     -- an object that no script reached when a cycle began is placed nowhere once that is swept; one that a script loses, once the second cycle that ends after that is
-    pub frees : FreesTheUnreached p.shapes l (pacing_of p) (may_begin_of p l) es
-    pub frees_within_two : FreesWithinTwo p.shapes l (pacing_of p) (may_begin_of p l) es
+    pub frees : FreesTheUnreached (setup_of p l) es
+    pub frees_within_two : FreesWithinTwo (setup_of p l) es
     pub credit : CreditIsTold es o
     pub live : AreLive p.shapes (ever_of p.shapes l es) o.objects o.bytes
 
@@ -160,11 +160,11 @@ module _ (p : Program) (l : Layout) where
 
 -- Whatever the script, and whatever run of it so far, in every order of steps: all stands that stands after each legal list of all actors. A whole run is one to which nothing is to come.
 abbrev pub EveryRunStands : Type 0
-EveryRunStands = (p : Program) (l : Layout) (es : List (Entry Op)) → WellFormed p → LaysOut p l → IsRunSoFar p l es → AllStands p.shapes l (pacing_of p) (may_begin_of p l) es
+EveryRunStands = (p : Program) (l : Layout) (es : List (Entry Op)) → WellFormed p → LaysOut p l → IsRunSoFar p l es → AllStands (setup_of p l) es
 
 -- And so it does after each legal list of a script's processors, workers and coordinator, in whatever order the processors' operations are.
 abbrev pub EveryListOfAScriptStands : Type 0
-EveryListOfAScriptStands = (p : Program) (l : Layout) (es : List (Entry Op)) → WellFormed p → LaysOut p l → Legal (setting_of p l) es → AllStands p.shapes l (pacing_of p) (may_begin_of p l) es
+EveryListOfAScriptStands = (p : Program) (l : Layout) (es : List (Entry Op)) → WellFormed p → LaysOut p l → Legal (setting_of p l) es → AllStands (setup_of p l) es
 
 -- Whatever the script, and whatever run of it, in every order of steps: what it is answered and what its coordinator tells is explained.
 abbrev pub EveryRunIsExplained : Type 0

@@ -18,7 +18,8 @@ use Rattle.gh_lists.specs.declared.handshake.Actor.TheVariants as actor
 use Rattle.gh_world.specs.declared.event.Event.TheVariants as event
 use Rattle.gh_world.specs.declared.runner.Runner.{Runner}
 use Rattle.gh_world.specs.declared.turns.Next.TheVariants as next
-use Rattle.gh_lists.specs.Handshake.{Pacing, those}
+use Rattle.gh_lists.specs.Handshake.{Pacing, Setup, those}
+use Rattle.gh_lists.specs.Lists.{Given}
 use Rattle.gh_lists.specs.Order.{before_step, begun_in}
 use Rattle.gh_lists.specs.Processors.{arena_of, may_begin}
 use Rattle.gh_world.specs.Schedule.{ended_after, has_ended, turn_from}
@@ -35,9 +36,17 @@ pacing_of p = record { gogc = p.settings.gogc; minheap = p.settings.minheap; roo
 abbrev pub may_begin_of : Program → Layout → ℕ → List (Entry Op) → Op → Bool
 may_begin_of p l a es o = may_begin (arena_of p.shapes l) (wishes_of p) a (state_of (processor_kind p.shapes l) a es) es o
 
+-- what no step of a script's heap changes
+abbrev pub setup_of : Program → Layout → Setup
+setup_of p l = record { shapes = p.shapes; layout = l; pacing = pacing_of p; may = may_begin_of p l }
+
+-- with how many `new` and `gc` each goroutine has
+abbrev pub given_for : Program → Layout → Given
+given_for p l = record { shapes = p.shapes; layout = l; pacing = pacing_of p; counts = wishes_of p }
+
 -- what a list is of: the processors of a heap of this layout, its workers and the coordinator
 abbrev pub setting_of : Program → Layout → Setting Actor Op
-setting_of p l = those p.shapes l (pacing_of p) (may_begin_of p l)
+setting_of p l = those (setup_of p l)
 
 -- the layout is that of the script's settings
 abbrev pub LaysOut : Program → Layout → Type 0

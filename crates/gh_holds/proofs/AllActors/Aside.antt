@@ -12,7 +12,7 @@ use Rattle.gh_base.specs.Rows.{Row}
 use Rattle.gh_heap.specs.Moves.{IsQuiet, Others, Quiet}
 use Rattle.gh_heap.specs.Spans.{Freeing, Laying}
 use Rattle.gh_worker.specs.Writing.{AcksAlone}
-use Rattle.gh_lists.specs.Handshake.{Pacing, those}
+use Rattle.gh_lists.specs.Handshake.{those, Setup}
 use Rattle.gh_state.specs.Moves as state
 use Rattle.gh_state.specs.Moves.{Deed}
 use Rattle.gh_state.specs.Routines.{GoesOn}
@@ -25,13 +25,13 @@ use Rattle.gh_lists.specs.declared.handshake.Actor.{Actor}
 use Rattle.gh_holds.specs.ActorsHold.{IsOff, NobodyMarks}
 use Rattle.gh_marked.specs.State.{HasState, IsHeapOf, processor_at}
 use Rattle.gh_marked.specs.HeapBytes.{uncounted}
-use Rattle.gh_holds.specs.HoldVocabulary.{actors_after, arena, Arena, Entry, Ever, Heap, IsBounded, Layout, Legal, MarksNothing, Op, Processor, Rests, Right, Shape, State, StateGood, view}
+use Rattle.gh_marked.specs.HoldVocabulary.{actors_after, arena, Arena, Entry, Ever, Heap, IsBounded, Legal, MarksNothing, Op, Processor, Rests, Right, State, StateGood, view}
 use Rattle.gh_marked.specs.Sweepers.{IsInSweep, sweep_of}
-use Rattle.gh_holds.specs.Known.{Known}
-use Rattle.gh_holds.proofs.AllActors.Moves.{moves_on}
+use Rattle.gh_marked.specs.Known.{Known}
+use Rattle.gh_marked.proofs.OneStep.Moves.{moves_on}
 use Rattle.gh_lists.specs.Resting.{ever_stays, state_stays}
-use Rattle.gh_holds.proofs.AllActors.Sweepers as sweepers
-use Rattle.gh_holds.proofs.AllActors.Sweepers.{rests_on}
+use Rattle.gh_marked.proofs.OneStep.Sweepers as sweepers
+use Rattle.gh_marked.proofs.OneStep.Sweepers.{rests_on}
 use Rattle.gh_lists.specs.Seats.{other}
 use Rattle.std.proofs.lemmas.Bool.{eqb-true}
 
@@ -146,12 +146,12 @@ module _ (m : sweep.Sweeping) where
   spans_only (sweep_stage.ClearMarks i) = record { scanned = λ w i. refl; birth = λ w i. refl; global = λ w i. refl; buffer = λ w i. refl }
   spans_only _ = record { scanned = λ w i. refl; birth = λ w i. refl; global = λ w i. refl; buffer = λ w i. refl }
 
-module _ (shapes : List Shape) (l : Layout) (pacing : Pacing) (may : ℕ → List (Entry Op) → Op → Bool) (known : Known) where
+module _ (setup : Setup) (known : Known) where
   abbrev z : Arena
-  z = arena shapes l pacing may
+  z = arena setup
 
   -- One entry more of another than a processor.
-  module _ (e : Entry Op) (es : List (Entry Op)) (legal : Legal (those shapes l pacing may) (e ∷ es)) (ge : l.procs ≤ e.actor) (has : HasState shapes l pacing may es) where
+  module _ (e : Entry Op) (es : List (Entry Op)) (legal : Legal (those setup) (e ∷ es)) (ge : setup.layout.procs ≤ e.actor) (has : HasState setup es) where
     abbrev s : State
     s = has.state
 
@@ -163,10 +163,10 @@ module _ (shapes : List Shape) (l : Layout) (pacing : Pacing) (may : ℕ → Lis
 
     -- the sweep that the actor runs, before and behind it
     abbrev pub swept_before : Option Sweeping
-    swept_before = sweep_of (actors_after z pacing may es a)
+    swept_before = sweep_of (actors_after z setup.pacing setup.may es a)
 
     abbrev pub swept_then : Option Sweeping
-    swept_then = sweep_of (actors_after z pacing may (e ∷ es) a)
+    swept_then = sweep_of (actors_after z setup.pacing setup.may (e ∷ es) a)
 
     -- what the step is, and what it leaves
     pub record Lands : Type 0 where
@@ -181,7 +181,7 @@ module _ (shapes : List Shape) (l : Layout) (pacing : Pacing) (may : ℕ → Lis
       pub pend : (state.moved z a s move).pend ≡ s.pend
       pub sweeps : IsInSweep a (state.moved z a s move) swept_then
 
-    pub seat : a < seats_of l
+    pub seat : a < seats_of setup.layout
     seat = legal.1.actor
 
     pub in_sweep : IsInSweep a s swept_before
@@ -279,10 +279,10 @@ module _ (shapes : List Shape) (l : Layout) (pacing : Pacing) (may : ℕ → Lis
       pub others_leave : (b : ℕ) → b ≢ a → Others z b (view h) (view then.heap)
       others_leave b differs = (known.state_leaves z b a s x.move differs has.good x.allowed).heap
 
-      pub of_list : IsHeapOf shapes l pacing may (e ∷ es) then.heap
-      of_list = moves_on shapes l pacing may known e es h has.of_list has.good.heap then.heap others_leave (record {
+      pub of_list : IsHeapOf setup (e ∷ es) then.heap
+      of_list = moves_on setup known e es h has.of_list has.good.heap then.heap others_leave (record {
         words_are = x.words_are ∙ ap (λ (w : Words). effect w e.ask) has.of_list.words_are;
-        ever_is = x.ever_is ∙ (has.of_list.ever_is ∙ sym (ever_stays shapes l pacing may known.points e es legal ge));
+        ever_is = x.ever_is ∙ (has.of_list.ever_is ∙ sym (ever_stays setup known.points e es legal ge));
         bounded = subst (IsBounded z) (sym x.ever_is) has.of_list.bounded;
         stacks = λ g. subst (λ (v : Ever). (then.heap.words (cell.Scanned g) ≡ END) ↔ (v.ended g ≡ true)) (sym x.ever_is) ((λ y. (has.of_list.stacks g).0 (sym (x.scanned g) ∙ y)), (λ y. x.scanned g ∙ (has.of_list.stacks g).1 y));
         others_stacks = λ b g differs its. x.scanned g;
@@ -292,8 +292,8 @@ module _ (shapes : List Shape) (l : Layout) (pacing : Pacing) (may : ℕ → Lis
       })
 
       -- each processor is as it was
-      pub was_there : (b : ℕ) → b < l.procs → processor_at shapes l pacing may (e ∷ es) b ≡ processor_at shapes l pacing may es b
-      was_there b lt = state_stays shapes l pacing may e es b (apart (e.actor == b) refl) where
+      pub was_there : (b : ℕ) → b < setup.layout.procs → processor_at setup (e ∷ es) b ≡ processor_at setup es b
+      was_there b lt = state_stays setup e es b (apart (e.actor == b) refl) where
         apart : (y : Bool) → (e.actor == b) ≡ y → (e.actor == b) ≡ false
         apart false y = y
         apart true y = absurd (let same : e.actor ≡ b = grind (arith, nat_tests) in omega (arith, same, lt, ge))
@@ -301,13 +301,13 @@ module _ (shapes : List Shape) (l : Layout) (pacing : Pacing) (may : ℕ → Lis
       pub good_then : StateGood z then
       good_then = known.keeps z a s x.move has.good x.allowed
 
-      pub sweeps_then : (b : ℕ) → b < seats_of l → IsInSweep b then (sweep_of (actors_after z pacing may (e ∷ es) b))
+      pub sweeps_then : (b : ℕ) → b < seats_of setup.layout → IsInSweep b then (sweep_of (actors_after z setup.pacing setup.may (e ∷ es) b))
       sweeps_then b less = go (a == b) refl where
-        go : (y : Bool) → (a == b) ≡ y → IsInSweep b then (sweep_of (actors_after z pacing may (e ∷ es) b))
-        go true y = subst (λ (n : ℕ). IsInSweep n then (sweep_of (actors_after z pacing may (e ∷ es) n))) (eqb-true a b y) x.sweeps
-        go false y = subst (λ (q : Actor). IsInSweep b then (sweep_of q)) (sym (other shapes l pacing e es b y)) (sweepers.lasts known z b s then (sweep_of (actors_after z pacing may es b)) (known.state_leaves z b a s x.move (λ same. absurd (grind (arith, nat_tests))) has.good x.allowed) (has.sweeps b less))
+        go : (y : Bool) → (a == b) ≡ y → IsInSweep b then (sweep_of (actors_after z setup.pacing setup.may (e ∷ es) b))
+        go true y = subst (λ (n : ℕ). IsInSweep n then (sweep_of (actors_after z setup.pacing setup.may (e ∷ es) n))) (eqb-true a b y) x.sweeps
+        go false y = subst (λ (q : Actor). IsInSweep b then (sweep_of q)) (sym (other setup e es b y)) (sweepers.lasts known z b s then (sweep_of (actors_after z setup.pacing setup.may es b)) (known.state_leaves z b a s x.move (λ same. absurd (grind (arith, nat_tests))) has.good x.allowed) (has.sweeps b less))
 
-      abbrev pub has_then : HasState shapes l pacing may (e ∷ es)
+      abbrev pub has_then : HasState setup (e ∷ es)
       has_then = record {
         state = then;
         of_list = of_list;
@@ -318,7 +318,7 @@ module _ (shapes : List Shape) (l : Layout) (pacing : Pacing) (may : ℕ → Lis
       }
 
       -- nobody marks still, where it leaves the buffers
-      pub nobody_marks : ((b : ℕ) → then.heap.words (cell.Buffer b) ≡ h.words (cell.Buffer b)) → (cycle then_cycle : ℕ) → then_cycle ≡ cycle → NobodyMarks shapes l pacing may es cycle h.words → NobodyMarks shapes l pacing may (e ∷ es) then_cycle then.heap.words
+      pub nobody_marks : ((b : ℕ) → then.heap.words (cell.Buffer b) ≡ h.words (cell.Buffer b)) → (cycle then_cycle : ℕ) → then_cycle ≡ cycle → NobodyMarks setup es cycle h.words → NobodyMarks setup (e ∷ es) then_cycle then.heap.words
       nobody_marks buffers cycle then_cycle same y = record {
         buffers = λ b. buffers b ∙ y.buffers b;
         stacks = λ g. subst (λ (n : ℕ). (n < then_cycle) ⊎ (n ≡ END)) (sym (x.scanned g)) (subst (λ (n : ℕ). (h.words (cell.Scanned g) < n) ⊎ (h.words (cell.Scanned g) ≡ END)) (sym same) (y.stacks g));
@@ -326,8 +326,8 @@ module _ (shapes : List Shape) (l : Layout) (pacing : Pacing) (may : ℕ → Lis
       }
 
   -- No cycle is under way, and what is swept stays so.
-  module _ (e : Entry Op) (es : List (Entry Op)) (legal : Legal (those shapes l pacing may) (e ∷ es)) (ge : l.procs ≤ e.actor) (cycle page : ℕ) (q : IsOff shapes l pacing may es cycle page) (x : Lands e es legal ge q.has) where
-    abbrev pub off_then : ((b : ℕ) → (then e es legal ge q.has x).heap.words (cell.Buffer b) ≡ q.has.state.heap.words (cell.Buffer b)) → (later : ℕ) → later ≡ cycle → IsOff shapes l pacing may (e ∷ es) later page
+  module _ (e : Entry Op) (es : List (Entry Op)) (legal : Legal (those setup) (e ∷ es)) (ge : setup.layout.procs ≤ e.actor) (cycle page : ℕ) (q : IsOff setup es cycle page) (x : Lands e es legal ge q.has) where
+    abbrev pub off_then : ((b : ℕ) → (then e es legal ge q.has x).heap.words (cell.Buffer b) ≡ q.has.state.heap.words (cell.Buffer b)) → (later : ℕ) → later ≡ cycle → IsOff setup (e ∷ es) later page
     off_then buffers later same = record {
       has = has_then e es legal ge q.has x;
       over = (sweepers.end_stays known z e.actor q.has.state x.move).1 ∙ q.over;

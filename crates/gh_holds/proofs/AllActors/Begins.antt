@@ -17,13 +17,14 @@ use Rattle.gh_phase.specs.declared.view.RunPhase.TheVariants as run
 use Rattle.gh_stack.specs.Facts.{named}
 use Rattle.gh_lists.specs.declared.handshake.Actor.TheVariants as actor
 use Rattle.gh_lists.specs.Numbers.{open_part}
-use Rattle.gh_holds.specs.ActorsHold.{HasCleared}
-use Rattle.gh_holds.proofs.Vocabulary.{actors_after, ahead_at, Arena, arena, AreRegisters, Begun, bit_at, Coordinating, CoordStage, Cycle, END, Entry, Ever, EverValue, Hands, HasCursor, HoldsAt, IsAsItShould, IsBeginning, IsInLimits, IsLed, IsOf, IsReady, IsToBegin, Layout, Legal, mark_words, MarkFacts, Marking, MayBegin, Means, nothing, Op, Open, Pacing, part_of, Processor, processor_at, reference_of, register_at, REGISTERS, row_bit, Shape, Stands, those, Value, view, Words, words, ◌%◌}
-use Rattle.gh_holds.specs.Drawing.{drawn_first}
-use Rattle.gh_holds.specs.Known.{Known, ListsKnown}
+use Rattle.gh_holds.specs.ActorsHold.{HasCleared, HasCursor, HoldsAt, IsReady}
+use Rattle.gh_marked.proofs.Vocabulary.{actors_after, ahead_at, Arena, arena, AreRegisters, Begun, bit_at, Coordinating, CoordStage, Cycle, END, Entry, Ever, EverValue, Hands, IsAsItShould, IsBeginning, IsLed, IsOf, IsToBegin, Legal, mark_words, MarkFacts, Marking, MayBegin, Means, nothing, Op, Open, part_of, Processor, processor_at, reference_of, register_at, REGISTERS, row_bit, Stands, those, Value, view, Words, words, ◌%◌}
+use Rattle.gh_marked.specs.Drawing.{drawn_first}
+use Rattle.gh_marked.specs.Known.{ListsKnown}
 use Rattle.gh_lists.specs.Resting.{run_is}
 use Rattle.gh_holds.proofs.AllActors.Tied.{is_of_heap}
 use Rattle.gh_marked.specs.Checking.{begin_post}
+use Rattle.gh_lists.specs.Handshake.{Setup}
 
 -- What a value names, by the two ways to say it.
 pub same_name : (place : Place) (made : ℕ → ℕ) (v : EverValue) (w : Value) → Means place made v w → reference_of place v ≡ named w
@@ -50,13 +51,13 @@ begun_part : (p : CoordStage) → IsBeginning p → part_of p ≡ Begun
 begun_part (Open o) b = ap open_part b
 begun_part _ b = absurd b
 
-module _ (shapes : List Shape) (l : Layout) (pacing : Pacing) (may : ℕ → List (Entry Op) → Op → Bool) (limits : IsInLimits l) (known : Known) (lists : ListsKnown shapes l pacing may)
-    (es : List (Entry Op)) (c : Coordinating) (legal : Legal (those shapes l pacing may) es) (led : IsLed shapes l pacing may es c) (b : IsBeginning c.stage) where
+module _ (setup : Setup) (lists : ListsKnown setup)
+    (es : List (Entry Op)) (c : Coordinating) (legal : Legal (those setup) es) (led : IsLed setup es c) (b : IsBeginning c.stage) where
   abbrev z : Arena
-  z = arena shapes l pacing may
+  z = arena setup
 
-  pub is_ready : (p : CoordStage) → IsBeginning p → HoldsAt shapes l pacing may es c p → IsReady shapes l pacing may es c × (words shapes l pacing may es cell.Gcur ≡ 0) × ((words shapes l pacing may es cell.Tally ≡ 0) × (words shapes l pacing may es cell.Live ≡ 0))
-  is_ready (Open o) x h = (h.0, subst (HasCursor (words shapes l pacing may es cell.Gcur)) x h.1, subst (HasCleared (words shapes l pacing may es cell.Tally) (words shapes l pacing may es cell.Live)) x h.2)
+  pub is_ready : (p : CoordStage) → IsBeginning p → HoldsAt setup es c p → IsReady setup es c × (words setup es cell.Gcur ≡ 0) × ((words setup es cell.Tally ≡ 0) × (words setup es cell.Live ≡ 0))
+  is_ready (Open o) x h = (h.0, subst (HasCursor (words setup es cell.Gcur)) x h.1, subst (HasCleared (words setup es cell.Tally) (words setup es cell.Live)) x h.2)
   is_ready _ x h = absurd x
 
   few : c.begun < 2 ^ 48
@@ -71,7 +72,7 @@ module _ (shapes : List Shape) (l : Layout) (pacing : Pacing) (may : ℕ → Lis
   abbrev cycle : Cycle
   cycle = record { arena = z; number = c.begun; few = few }
 
-  module _ (r : IsReady shapes l pacing may es c) (cursor : words shapes l pacing may es cell.Gcur ≡ 0) (cleared : (words shapes l pacing may es cell.Tally ≡ 0) × (words shapes l pacing may es cell.Live ≡ 0)) where
+  module _ (r : IsReady setup es c) (cursor : words setup es cell.Gcur ≡ 0) (cleared : (words setup es cell.Tally ≡ 0) × (words setup es cell.Live ≡ 0)) where
     rest : IsAtRest z c.begun r.has.state.heap
     rest = record {
       marks = λ o. clear_bit r.has.state.heap.words o (r.marks (o / 64));
@@ -83,29 +84,29 @@ module _ (shapes : List Shape) (l : Layout) (pacing : Pacing) (may : ℕ → Lis
     }
 
     opened : IsOpened cycle r.has.state.heap
-    opened = known.opens cycle r.has.state.heap r.has.good.heap r.has.of_list.bounded rest
+    opened = lists.known.opens cycle r.has.state.heap r.has.good.heap r.has.of_list.bounded rest
 
     abbrev s : Marking
     s = opened.marking
 
     seats : (a : ℕ) → Hands a s nothing
-    seats = (known.marking cycle s opened.opens).seats
+    seats = (lists.known.marking cycle s opened.opens).seats
 
     beside : IsBeside z r.has.state.heap s
-    beside = known.beside_begins cycle r.has.state.heap s r.has.good.heap r.has.of_list.bounded rest opened.of_heap opened.registers (λ o a is. absurd (let none : None ≡ Some o = ((seats a).has.is_reserved o).1 is in cc))
+    beside = lists.known.beside_begins cycle r.has.state.heap s r.has.good.heap r.has.of_list.bounded rest opened.of_heap opened.registers (λ o a is. absurd (let none : None ≡ Some o = ((seats a).has.is_reserved o).1 is in cc))
 
-    module _ (a : ℕ) (m : Processor) (lt : a < l.procs) (is : actors_after z pacing may es a ≡ actor.Runs m) where
-      same : processor_at shapes l pacing may es a ≡ m
-      same = run_is shapes l pacing may es a m lt is
+    module _ (a : ℕ) (m : Processor) (lt : a < setup.layout.procs) (is : actors_after z setup.pacing setup.may es a ≡ actor.Runs m) where
+      same : processor_at setup es a ≡ m
+      same = run_is setup es a m lt is
 
       abbrev it : Processor
-      it = processor_at shapes l pacing may es a
+      it = processor_at setup es a
 
-      should : IsAsItShould shapes l pacing may es r.has.state.heap a it
+      should : IsAsItShould setup es r.has.state.heap a it
       should = r.has.of_list.processors a lt
 
       stands : Stands z a (view r.has.state.heap) it.poll
-      stands = known.runs.stands z a (view r.has.state.heap) it should.pending should.fine
+      stands = lists.known.runs.stands z a (view r.has.state.heap) it should.pending should.fine
 
       goes_on : (g : ℕ) → s.words (cell.Scanned g) ≢ END → r.has.state.heap.ever.ended g ≡ false
       goes_on g other = go (r.has.state.heap.ever.ended g) refl where
@@ -114,7 +115,7 @@ module _ (shapes : List Shape) (l : Layout) (pacing : Pacing) (may : ℕ → Lis
         go true x = absurd (other (ap (λ (w : Words). w (cell.Scanned g)) opened.of_heap.words ∙ (r.has.of_list.stacks g).1 x))
 
       few_goroutines : (g : ℕ) → IsOf z a g → g < MOST_GOROUTINES
-      few_goroutines g its = omega (arith, its.0, limits.goroutines_fit.1)
+      few_goroutines g its = omega (arith, its.0, lists.limits.goroutines_fit.1)
 
       registers : (g : ℕ) → IsOf z a g → s.words (cell.Scanned g) ≢ END → AreRegisters (s.registers g) (slice_index_or it.poll.local.stacks g [])
       registers g its other = record {
@@ -133,7 +134,7 @@ module _ (shapes : List Shape) (l : Layout) (pacing : Pacing) (may : ℕ → Lis
         own = λ g below of. (below, of);
         registers = registers;
         noted = λ g its. should.notes g its ∙ sym (ap (λ (w : Words). w (cell.Scanned g)) opened.of_heap.words);
-        places = let long = stands.sits.scanned in let fit = limits.goroutines_fit.1 in omega (arith, long, fit);
+        places = let long = stands.sits.scanned in let fit = lists.limits.goroutines_fit.1 in omega (arith, long, fit);
       }
 
       stands_still : StandsWithNothing cycle a s it
@@ -148,12 +149,12 @@ module _ (shapes : List Shape) (l : Layout) (pacing : Pacing) (may : ℕ → Lis
       }
 
       knows : MarkFacts cycle a s m
-      knows = subst (MarkFacts cycle a s) same (known.marks.opens cycle a s it stands_still)
+      knows = subst (MarkFacts cycle a s) same (lists.known.marks.opens cycle a s it stands_still)
 
-    to_begin : IsToBegin shapes l pacing may es c.begun
+    to_begin : IsToBegin setup es c.begun
     to_begin = record { lead = c; led = led; stage = b; cycle = refl }
 
-    pub may_begin : MayBegin z pacing may es c
+    pub may_begin : MayBegin z setup.pacing setup.may es c
     may_begin = record {
       cycle = cycle;
       shared = s;
@@ -165,9 +166,9 @@ module _ (shapes : List Shape) (l : Layout) (pacing : Pacing) (may : ℕ → Lis
         under_way = r.under_way;
         beside = beside;
         cycle = inl to_begin;
-        gone_on = subst (λ (v : Ever). HasGoneOn v r.has.state.heap s) r.has.of_list.ever_is (known.begins_so cycle r.has.state.heap s r.has.good.heap r.has.of_list.bounded opened.of_heap);
+        gone_on = subst (λ (v : Ever). HasGoneOn v r.has.state.heap s) r.has.of_list.ever_is (lists.known.begins_so cycle r.has.state.heap s r.has.good.heap r.has.of_list.bounded opened.of_heap);
         stood = λ n x p. p;
-        drawn = drawn_first shapes l pacing may known.drawn cycle es s to_begin (opened.of_heap.words ∙ r.has.of_list.words_are) (is_of_heap shapes l pacing may known es r.has cycle s refl (known.marking cycle s opened.opens).good beside) opened.opens;
+        drawn = drawn_first setup lists.known.drawn cycle es s to_begin (opened.of_heap.words ∙ r.has.of_list.words_are) (is_of_heap setup lists.known es r.has cycle s refl (lists.known.marking cycle s opened.opens).good beside) opened.opens;
         marks_fit = λ i. let none = r.marks i in omega (arith, none);
         counts = (ap (λ (w : Words). w cell.Tally) r.has.of_list.words_are ∙ cleared.0, ap (λ (w : Words). w cell.Live) r.has.of_list.words_are ∙ cleared.1);
       };

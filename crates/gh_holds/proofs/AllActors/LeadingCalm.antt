@@ -9,15 +9,16 @@ use Rattle.gh_coord.specs.Stopping as stop
 use Rattle.gh_coord.specs.Handshake as leading
 use Rattle.gh_phase.specs.declared.view.RunPhase.TheVariants as run
 use Rattle.gh_state.specs.Cycles.{AreSwept, opened, Opens}
-use Rattle.gh_holds.specs.ActorsHold.{HasCleared, IsOpening}
-use Rattle.gh_holds.specs.HoldVocabulary.{Rests, State}
+use Rattle.gh_holds.specs.ActorsHold.{HasCleared, HasCursor, HoldsAt, IsOpening, IsQuiet, IsReady, NobodyMarks}
+use Rattle.gh_marked.specs.HoldVocabulary.{Rests, State}
 use Rattle.gh_marked.specs.Sweepers.{IsInSweep, sweep_of}
-use Rattle.gh_holds.proofs.Vocabulary.{acks_of, actors_after, ahead_at, Arena, arena, Ask, Coordinating, CoordStage, effect, Entry, GONE, HasCursor, HoldsAt, IsLed, IsQuiet, IsReady, Layout, Legal, LoadAck, LoadWant, NobodyMarks, Op, Open, OpenStage, Pacing, part_of, seats_of, Shape, Stop, Stopped, StopStage, those, Words, words}
+use Rattle.gh_marked.proofs.Vocabulary.{actors_after, ahead_at, Arena, arena, Ask, Coordinating, CoordStage, effect, Entry, GONE, IsLed, Legal, LoadAck, LoadWant, Op, Open, OpenStage, part_of, seats_of, Stop, Stopped, StopStage, those, Words, words}
 use Rattle.gh_holds.proofs.AllActors.Aside as aside_of
 use Rattle.gh_holds.proofs.AllActors.Aside.{beside_of, IsAside, Lands, loads, loads_only, phase_only, stores_begun, stores_cursor, stores_live, stores_phase, stores_slack, stores_tally, stores_trigger, stores_want, stores_work, TellsNothing}
-use Rattle.gh_holds.specs.Known.{Known, ListsKnown}
+use Rattle.gh_marked.specs.Known.{ListsKnown}
 use Rattle.gh_holds.proofs.AllActors.LeadingAside.{quiet_on}
-use Rattle.gh_holds.proofs.AllActors.LeadingSeat.{asked_at, from, led_then, goes_at as goes_by, stopped_sweeps_none, sweeps_before, sweeps_then}
+use Rattle.gh_holds.proofs.AllActors.LeadingSeat.{asked_at, ByLead, from, led_then, goes_at as goes_by, stopped_sweeps_none, sweeps_before, sweeps_then}
+use Rattle.gh_lists.specs.Handshake.{Setup}
 
 -- each request of an opening leaves the heap as it is
 opens_aside : (o : opens_by.CycleOpening) (p : OpenStage) → IsAside (opens_by.asks_at o p)
@@ -76,131 +77,131 @@ stops_tell st stopping.StorePhase = phase_only _
 stops_tell st (stopping.Await ack) = loads_only _
 stops_tell st stopping.Ended = loads_only _
 
-module _ (shapes : List Shape) (l : Layout) (pacing : Pacing) (may : ℕ → List (Entry Op) → Op → Bool) (known : Known) (lists : ListsKnown shapes l pacing may) where
+module _ (setup : Setup) (lists : ListsKnown setup) where
   abbrev z : Arena
-  z = arena shapes l pacing may
+  z = arena setup
 
   -- In a world that is stopped for it, a cycle is ready to be opened, with the next number.
-  module _ (es : List (Entry Op)) (legal : Legal (those shapes l pacing may) es) (c d : Coordinating) (led : IsLed shapes l pacing may es d) (post : leading.post_at d.stage ≡ Stopped run.Off) (later : d.begun ≡ c.begun + 1) (q : IsQuiet shapes l pacing may es c) where
+  module _ (es : List (Entry Op)) (legal : Legal (those setup) es) (c d : Coordinating) (led : IsLed setup es d) (post : leading.post_at d.stage ≡ Stopped run.Off) (later : d.begun ≡ c.begun + 1) (q : IsQuiet setup es c) where
     all_swept : AreSwept q.has.state
-    all_swept = known.walkers.all z q.has.state q.has.good q.passed
+    all_swept = lists.known.walkers.all z q.has.state q.has.good q.passed
 
     opens_so : Opens z q.has.state
-    opens_so = known.cycles_open z q.has.state q.has.good q.over all_swept
+    opens_so = lists.known.cycles_open z q.has.state q.has.good q.over all_swept
 
-    sweeps_none : (b : ℕ) → b < seats_of l → IsInSweep b (opened q.has.state) (sweep_of (actors_after z pacing may es b))
+    sweeps_none : (b : ℕ) → b < seats_of setup.layout → IsInSweep b (opened q.has.state) (sweep_of (actors_after z setup.pacing setup.may es b))
     sweeps_none b lt =
-        let none : sweep_of (actors_after z pacing may es b) ≡ None = stopped_sweeps_none shapes l pacing may known lists es legal d led run.Off post b lt in
+        let none : sweep_of (actors_after z setup.pacing setup.may es b) ≡ None = stopped_sweeps_none setup lists es legal d led run.Off post b lt in
         subst (IsInSweep b (opened q.has.state)) (sym none) (rests_opened b q.has.state (subst (IsInSweep b q.has.state) none (q.has.sweeps b lt)))
 
-    pub ready : IsReady shapes l pacing may es d
+    pub ready : IsReady setup es d
     ready = record {
       has = record { state = opened q.has.state; of_list = q.has.of_list; good = opens_so.good; placing = q.has.placing; others_place = q.has.others_place; sweeps = sweeps_none };
       under_way = (record { tally = q.has.state.heap.words cell.Tally; live = q.has.state.heap.words cell.Live }, refl);
       marks = opens_so.marks;
-      nobody = subst (λ (n : ℕ). NobodyMarks shapes l pacing may es n q.has.state.heap.words) (sym later) q.nobody;
+      nobody = subst (λ (n : ℕ). NobodyMarks setup es n q.has.state.heap.words) (sym later) q.nobody;
     }
 
   -- The entry.
-  module _ (e : Entry Op) (es : List (Entry Op)) (legal : Legal (those shapes l pacing may) (e ∷ es)) (c : Coordinating) (led : IsLed shapes l pacing may es c) (by : e.actor ≡ acks_of l) where
+  module _ (e : Entry Op) (es : List (Entry Op)) (by : ByLead setup e es) where
     abbrev u : Coordinating
-    u = coord.counted c
+    u = coord.counted by.lead
 
     abbrev To : Coordinating → Type 0
-    To d = HoldsAt shapes l pacing may (e ∷ es) d d.stage
+    To d = HoldsAt setup (e ∷ es) d d.stage
 
-    ge : l.procs ≤ e.actor
-    ge = from shapes l pacing may known lists e es legal c led by
+    ge : setup.layout.procs ≤ e.actor
+    ge = from setup lists e es by
 
-    asks_so : (p : CoordStage) → c.stage ≡ p → e.ask ≡ coord.asks_at c p
-    asks_so p is = asked_at shapes l pacing may known lists e es legal c led by p is
+    asks_so : (p : CoordStage) → by.lead.stage ≡ p → e.ask ≡ coord.asks_at by.lead p
+    asks_so p is = asked_at setup lists e es by p is
 
     -- between two cycles
-    still_quiet : (p : CoordStage) → c.stage ≡ p → coord.sweep_at p ≡ None → coord.sweep_in (coord.goes_at u p e.found) ≡ None → TellsNothing (coord.asks_at c p) → (d : Coordinating) → d.begun ≡ c.begun → IsQuiet shapes l pacing may es c → IsQuiet shapes l pacing may (e ∷ es) d
-    still_quiet p is none still tells d same q = quiet_on shapes l pacing may known lists e es legal c led by (ap coord.sweep_at is ∙ none) (ap (λ (y : CoordStage). coord.sweep_in (coord.goes_at u y e.found)) is ∙ still) (subst TellsNothing (sym (asks_so p is)) tells) (c.begun + 1) l.pages q (d.begun + 1) (ap (λ (n : ℕ). n + 1) same)
+    still_quiet : (p : CoordStage) → by.lead.stage ≡ p → coord.sweep_at p ≡ None → coord.sweep_in (coord.goes_at u p e.found) ≡ None → TellsNothing (coord.asks_at by.lead p) → (d : Coordinating) → d.begun ≡ by.lead.begun → IsQuiet setup es by.lead → IsQuiet setup (e ∷ es) d
+    still_quiet p is none still tells d same q = quiet_on setup lists e es by (ap coord.sweep_at is ∙ none) (ap (λ (y : CoordStage). coord.sweep_in (coord.goes_at u y e.found)) is ∙ still) (subst TellsNothing (sym (asks_so p is)) tells) (by.lead.begun + 1) setup.layout.pages q (d.begun + 1) (ap (λ (n : ℕ). n + 1) same)
 
-    pub acks : (i : ℕ) → c.stage ≡ LoadAck i → IsQuiet shapes l pacing may es c → To (coord.goes_at u (LoadAck i) e.found)
+    pub acks : (i : ℕ) → by.lead.stage ≡ LoadAck i → IsQuiet setup es by.lead → To (coord.goes_at u (LoadAck i) e.found)
     acks i is q = go (e.found == GONE) (ltb (i + 1) u.layout.procs) where
-      so : IsQuiet shapes l pacing may (e ∷ es) c
-      so = still_quiet (LoadAck i) is refl (acks_sweep u (e.found == GONE) (ltb (i + 1) u.layout.procs) i) (loads_only _) c refl q
+      so : IsQuiet setup (e ∷ es) by.lead
+      so = still_quiet (LoadAck i) is refl (acks_sweep u (e.found == GONE) (ltb (i + 1) u.layout.procs) i) (loads_only _) by.lead refl q
 
       go : (b f : Bool) → To (cond b (cond f (coord.at_stage u (LoadAck (i + 1))) (coord.stops_world (record u { is_last = true }))) (coord.at_stage u LoadWant))
       go true true = so
       go true false = so
       go false f = so
 
-    pub wants : c.stage ≡ LoadWant → IsQuiet shapes l pacing may es c → To (coord.goes_at u LoadWant e.found)
+    pub wants : by.lead.stage ≡ LoadWant → IsQuiet setup es by.lead → To (coord.goes_at u LoadWant e.found)
     wants is q = go (e.found == 0) where
-      so : IsQuiet shapes l pacing may (e ∷ es) c
-      so = still_quiet LoadWant is refl (wants_sweep u (e.found == 0)) (loads_only _) c refl q
+      so : IsQuiet setup (e ∷ es) by.lead
+      so = still_quiet LoadWant is refl (wants_sweep u (e.found == 0)) (loads_only _) by.lead refl q
 
       go : (b : Bool) → To (cond b (coord.at_stage u (LoadAck 0)) (coord.stops_world u))
       go true = so
       go false = so
 
     -- the number of the cycle that is to be opened
-    module _ (st : stop.Stopping) (is : c.stage ≡ Stop st) where
-      same_swept : words shapes l pacing may (e ∷ es) cell.Swept ≡ words shapes l pacing may es cell.Swept
+    module _ (st : stop.Stopping) (is : by.lead.stage ≡ Stop st) where
+      same_swept : words setup (e ∷ es) cell.Swept ≡ words setup es cell.Swept
       same_swept = rw (asks_so (Stop st) is) (go st.stage) where
-        go : (p : StopStage) → effect (words shapes l pacing may es) (stop.asks_at st p) cell.Swept ≡ words shapes l pacing may es cell.Swept
+        go : (p : StopStage) → effect (words setup es) (stop.asks_at st p) cell.Swept ≡ words setup es cell.Swept
         go stopping.StorePhase = refl
         go _ = refl
 
-      was_number : c.begun ≡ words shapes l pacing may es cell.Swept + 0
-      was_number = (subst (λ (p : CoordStage). c.begun ≡ words shapes l pacing may es cell.Swept + (ahead_at (part_of p)).numbered) is (lists.counts es c legal.0 led).number)
+      was_number : by.lead.begun ≡ words setup es cell.Swept + 0
+      was_number = (subst (λ (p : CoordStage). by.lead.begun ≡ words setup es cell.Swept + (ahead_at (part_of p)).numbered) is (lists.counts es by.lead by.legal.0 by.led).number)
 
-      module _ (d : Coordinating) (work : ℕ) (goal : Option ℕ) (led_d : IsLed shapes l pacing may (e ∷ es) d) (at : d.stage ≡ Open (opens_by.opening u.layout u.stops (coord.next_cycle u.begun) work goal)) where
-        pub next_number : d.begun ≡ c.begun + 1
+      module _ (d : Coordinating) (work : ℕ) (goal : Option ℕ) (led_d : IsLed setup (e ∷ es) d) (at : d.stage ≡ Open (opens_by.opening u.layout u.stops (coord.next_cycle u.begun) work goal)) where
+        pub next_number : d.begun ≡ by.lead.begun + 1
         next_number =
-            let now : d.begun ≡ words shapes l pacing may (e ∷ es) cell.Swept + 1 = subst (λ (p : CoordStage). d.begun ≡ words shapes l pacing may (e ∷ es) cell.Swept + (ahead_at (part_of p)).numbered) at (lists.counts (e ∷ es) d legal led_d).number in
+            let now : d.begun ≡ words setup (e ∷ es) cell.Swept + 1 = subst (λ (p : CoordStage). d.begun ≡ words setup (e ∷ es) cell.Swept + (ahead_at (part_of p)).numbered) at (lists.counts (e ∷ es) d by.legal led_d).number in
             omega (arith, now, was_number, same_swept)
 
-      pub stops : IsQuiet shapes l pacing may es c → To (coord.goes_at u (Stop st) e.found)
+      pub stops : IsQuiet setup es by.lead → To (coord.goes_at u (Stop st) e.found)
       stops q = go (stop.gives st e.found) refl where
-        quiet_then : IsQuiet shapes l pacing may (e ∷ es) c
-        quiet_then = still_quiet (Stop st) is refl (stops_sweep u (stop.goes st e.found) (stop.gives st e.found)) (stops_tell st st.stage) c refl q
+        quiet_then : IsQuiet setup (e ∷ es) by.lead
+        quiet_then = still_quiet (Stop st) is refl (stops_sweep u (stop.goes st e.found) (stop.gives st e.found)) (stops_tell st st.stage) by.lead refl q
 
         go : (out : Option (Unit {0})) → stop.gives st e.found ≡ out → To (coord.after_stop (coord.at_stage u (Stop (stop.goes st e.found))) out)
         go None x = quiet_then
         go (Some y) x =
-            let d_is : coord.goes c e.found ≡ coord.opens (coord.at_stage u (Stop (stop.goes st e.found))) = goes_by shapes l pacing may known lists e es legal c led by (Stop st) is ∙ ap (coord.after_stop (coord.at_stage u (Stop (stop.goes st e.found)))) x in
-            let led_d : IsLed shapes l pacing may (e ∷ es) (coord.opens (coord.at_stage u (Stop (stop.goes st e.found)))) = subst (IsLed shapes l pacing may (e ∷ es)) d_is (led_then shapes l pacing may known lists e es legal c led by) in
-            (ready (e ∷ es) legal c _ led_d refl (next_number _ _ _ led_d refl) quiet_then, tt, tt)
+            let d_is : coord.goes by.lead e.found ≡ coord.opens (coord.at_stage u (Stop (stop.goes st e.found))) = goes_by setup lists e es by (Stop st) is ∙ ap (coord.after_stop (coord.at_stage u (Stop (stop.goes st e.found)))) x in
+            let led_d : IsLed setup (e ∷ es) (coord.opens (coord.at_stage u (Stop (stop.goes st e.found)))) = subst (IsLed setup (e ∷ es)) d_is (led_then setup lists e es by) in
+            (ready (e ∷ es) by.legal by.lead _ led_d refl (next_number _ _ _ led_d refl) quiet_then, tt, tt)
 
     -- while a cycle is opened
-    module _ (o : opens_by.CycleOpening) (is : c.stage ≡ Open o) (r : IsOpening shapes l pacing may es c o.stage) where
+    module _ (o : opens_by.CycleOpening) (is : by.lead.stage ≡ Open o) (r : IsOpening setup es by.lead o.stage) where
       aside : IsAside e.ask
       aside = subst IsAside (sym (asks_so (Open o) is)) (opens_aside o o.stage)
 
       under : r.0.has.state.told ≡ None → TellsNothing e.ask
       under over = absurd (let no : None ≡ Some r.0.under_way.0 = sym over ∙ r.0.under_way.1 in cc)
 
-      before : sweep_of (actors_after z pacing may es e.actor) ≡ None
-      before = sweeps_before shapes l pacing may known lists e es legal c led by (Open o) is
+      before : sweep_of (actors_after z setup.pacing setup.may es e.actor) ≡ None
+      before = sweeps_before setup lists e es by (Open o) is
 
-      behind : sweep_of (actors_after z pacing may (e ∷ es) e.actor) ≡ None
-      behind = sweeps_then shapes l pacing may known lists e es legal c led by (Open o) is ∙ opens_sweep u (opens_by.goes o e.found) (opens_by.gives o e.found)
+      behind : sweep_of (actors_after z setup.pacing setup.may (e ∷ es) e.actor) ≡ None
+      behind = sweeps_then setup lists e es by (Open o) is ∙ opens_sweep u (opens_by.goes o e.found) (opens_by.gives o e.found)
 
-      abbrev land : Lands shapes l pacing may known e es legal ge r.0.has
-      land = aside_of.by_quiet_none shapes l pacing may known e es legal ge r.0.has before (beside_of e.ask aside) under behind
+      abbrev land : Lands setup lists.known e es by.legal ge r.0.has
+      land = aside_of.by_quiet_none setup lists.known e es by.legal ge r.0.has before (beside_of e.ask aside) under behind
 
-      ready_then : (d : Coordinating) → d.begun ≡ c.begun → IsReady shapes l pacing may (e ∷ es) d
+      ready_then : (d : Coordinating) → d.begun ≡ by.lead.begun → IsReady setup (e ∷ es) d
       ready_then d same = record {
-        has = aside_of.has_then shapes l pacing may known e es legal ge r.0.has land;
+        has = aside_of.has_then setup lists.known e es by.legal ge r.0.has land;
         under_way = r.0.under_way;
         marks = λ i. aside.mark r.0.has.state.heap.words i ∙ r.0.marks i;
-        nobody = aside_of.nobody_marks shapes l pacing may known e es legal ge r.0.has land (aside.buffer r.0.has.state.heap.words) c.begun d.begun same r.0.nobody;
+        nobody = aside_of.nobody_marks setup lists.known e es by.legal ge r.0.has land (aside.buffer r.0.has.state.heap.words) by.lead.begun d.begun same r.0.nobody;
       }
 
-      so : (d : Coordinating) → d.begun ≡ c.begun → IsOpening shapes l pacing may (e ∷ es) d (opens_by.behind o.stage)
+      so : (d : Coordinating) → d.begun ≡ by.lead.begun → IsOpening setup (e ∷ es) d (opens_by.behind o.stage)
       so d same = (
         ready_then d same,
-        subst (λ (q : Ask). HasCursor (effect (words shapes l pacing may es) q cell.Gcur) (opens_by.behind o.stage)) (sym (asks_so (Open o) is)) (opens_cursor o o.stage (words shapes l pacing may es) r.1),
-        subst (λ (q : Ask). HasCleared (effect (words shapes l pacing may es) q cell.Tally) (effect (words shapes l pacing may es) q cell.Live) (opens_by.behind o.stage)) (sym (asks_so (Open o) is)) (opens_counts o o.stage (words shapes l pacing may es) r.2),
+        subst (λ (q : Ask). HasCursor (effect (words setup es) q cell.Gcur) (opens_by.behind o.stage)) (sym (asks_so (Open o) is)) (opens_cursor o o.stage (words setup es) r.1),
+        subst (λ (q : Ask). HasCleared (effect (words setup es) q cell.Tally) (effect (words setup es) q cell.Live) (opens_by.behind o.stage)) (sym (asks_so (Open o) is)) (opens_counts o o.stage (words setup es) r.2),
       )
 
-      there : (p : OpenStage) → o.stage ≡ p → (d : Coordinating) → d.begun ≡ c.begun → IsOpening shapes l pacing may (e ∷ es) d (opens_by.behind p)
-      there p x d same = subst (λ (y : OpenStage). IsOpening shapes l pacing may (e ∷ es) d (opens_by.behind y)) x (so d same)
+      there : (p : OpenStage) → o.stage ≡ p → (d : Coordinating) → d.begun ≡ by.lead.begun → IsOpening setup (e ∷ es) d (opens_by.behind p)
+      there p x d same = subst (λ (y : OpenStage). IsOpening setup (e ∷ es) d (opens_by.behind y)) x (so d same)
 
       by_stage : (p : OpenStage) → o.stage ≡ p → To (coord.after_open (coord.at_stage u (Open (opens_by.goes_at o p e.found))) (opens_by.given_at (opens_by.behind p)))
       by_stage opening.StorePhase x = tt

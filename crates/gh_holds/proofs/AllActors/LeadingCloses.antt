@@ -9,18 +9,18 @@ use Rattle.gh_coord.specs.SweepingAll as over_all
 use Rattle.gh_model.specs.Ever.{Reach}
 use Rattle.gh_phase.specs.declared.view.RunPhase.TheVariants as run
 use Rattle.gh_state.specs.Cycles.{ended as ended_state, IsOver, next_words}
-use Rattle.gh_lists.specs.Handshake.{Sound as ActorSound}
-use Rattle.gh_holds.specs.ActorsHold.{HasEnded, NobodyMarks, Walks}
+use Rattle.gh_lists.specs.Handshake.{Sound as ActorSound, Setup}
+use Rattle.gh_holds.specs.ActorsHold.{EndedSo, HasEnded, IsSweeping, NobodyMarks, Walks}
 use Rattle.gh_marked.specs.State.{HasState}
 use Rattle.gh_marked.specs.Sweepers.{IsInSweep, sweep_of}
-use Rattle.gh_holds.specs.HoldVocabulary.{IsAsItEnded, Name, Rests, row_bit, State, StateGood}
-use Rattle.gh_holds.proofs.Vocabulary.{acks_of, actors_after, ahead_at, alloc_words, Arena, arena, By, Checked, Close, close_part, CloseStage, Coordinating, CoordStage, effect, END, EndedSo, Entry, eqb-true, far_in, Free, Heap, IsBeginning, IsEnding, IsInCycle, IsInLimits, IsLed, IsSweeping, IsToBegin, Layout, Legal, mark_words, MarksNothing, MarksToTheEnd, nat_tests, Op, Pacing, page_of, PageWord, Part, part_of, Processor, processor_at, put, seats_of, Shape, ShapesAreGood, Stopped, Store, those, uncounted, Words, words}
+use Rattle.gh_marked.specs.HoldVocabulary.{IsAsItEnded, Name, Rests, row_bit, State, StateGood}
+use Rattle.gh_marked.proofs.Vocabulary.{acks_of, actors_after, ahead_at, alloc_words, Arena, arena, By, Checked, Close, close_part, CloseStage, Coordinating, CoordStage, effect, END, Entry, eqb-true, far_in, Free, Heap, IsBeginning, IsEnding, IsInCycle, IsLed, IsToBegin, Layout, mark_words, MarksNothing, MarksToTheEnd, nat_tests, Op, page_of, PageWord, Part, part_of, Processor, processor_at, put, seats_of, Stopped, Store, uncounted, Words, words}
 use Rattle.gh_holds.proofs.AllActors.Aside.{IsOfSpans, phase_only, TellsNothing}
 use Rattle.gh_lists.specs.Going.{NotAcks}
-use Rattle.gh_holds.specs.Known.{Known, ListsKnown}
+use Rattle.gh_marked.specs.Known.{ListsKnown}
 use Rattle.gh_holds.proofs.AllActors.LeadingEnds.{buffers, facts, none_placing, post, reached_are_marked, still_at}
 use Rattle.gh_holds.proofs.AllActors.LeadingAside.{last_stays, told_on}
-use Rattle.gh_holds.proofs.AllActors.LeadingSeat.{asked_at, from, goes_at as goes_by, is_still, IsStill, led_then, owes_nothing, stopped_sweeps_none}
+use Rattle.gh_holds.proofs.AllActors.LeadingSeat.{asked_at, ByLead, from, goes_at as goes_by, is_still, IsStill, led_then, owes_nothing, stopped_sweeps_none}
 use Rattle.gh_holds.proofs.AllActors.LeadingSwept.{apart, behind_of, heap_on, nobody_on, sweeping_of}
 use Rattle.gh_lists.specs.Resting.{state_stays}
 use Rattle.gh_holds.proofs.AllActors.SinceEnd.{in_cycle_on, LastStays}
@@ -35,59 +35,59 @@ nobody_sweeps _ b is = absurd cc
 no_beginning : (p : CoordStage) (x : close.Closing) → p ≡ Close x → IsBeginning p → ⊥
 no_beginning p x is b = subst IsBeginning is b
 
-module _ (shapes : List Shape) (l : Layout) (pacing : Pacing) (may : ℕ → List (Entry Op) → Op → Bool) (good : ShapesAreGood shapes) (limits : IsInLimits l) (known : Known) (lists : ListsKnown shapes l pacing may) where
+module _ (setup : Setup) (lists : ListsKnown setup) where
   abbrev z : Arena
-  z = arena shapes l pacing may
+  z = arena setup
 
   abbrev Ends : List (Entry Op) → Coordinating → Type 0
-  Ends es c = MarksToTheEnd z pacing may es c
+  Ends es c = MarksToTheEnd z setup.pacing setup.may es c
 
-  module _ (e : Entry Op) (es : List (Entry Op)) (legal : Legal (those shapes l pacing may) (e ∷ es)) (c : Coordinating) (led : IsLed shapes l pacing may es c) (by : e.actor ≡ acks_of l) (x : close.Closing) (is : c.stage ≡ Close x) (at : x.stage ≡ closing.StoreGen) (on : leading.Marks c.stage) (mark : Ends es c) where
+  module _ (e : Entry Op) (es : List (Entry Op)) (by : ByLead setup e es) (x : close.Closing) (is : by.lead.stage ≡ Close x) (at : x.stage ≡ closing.StoreGen) (on : leading.Marks by.lead.stage) (mark : Ends es by.lead) where
     abbrev s : State
     s = mark.marking.known.has.state
 
     abbrev h : Heap
     h = mark.marking.known.has.state.heap
 
-    words_here : h.words ≡ words shapes l pacing may es
+    words_here : h.words ≡ words setup es
     words_here = mark.marking.known.has.of_list.words_are
 
     -- The numbers.
 
-    checked : part_of c.stage ≡ Checked
+    checked : part_of by.lead.stage ≡ Checked
     checked = ap part_of is ∙ ap close_part at
 
     abbrev swept : ℕ
-    swept = words shapes l pacing may es cell.Swept
+    swept = words setup es cell.Swept
 
     gen_is : h.words cell.Gen ≡ 2 + 2 * (swept + 0)
-    gen_is = ap (λ (w : Words). w cell.Gen) words_here ∙ ((lists.counts es c legal.0 led).gen ∙ ap (λ (p : Part). 2 + 2 * (swept + (ahead_at p).ended)) checked)
+    gen_is = ap (λ (w : Words). w cell.Gen) words_here ∙ ((lists.counts es by.lead by.legal.0 by.led).gen ∙ ap (λ (p : Part). 2 + 2 * (swept + (ahead_at p).ended)) checked)
 
-    generation_is : c.generation ≡ 2 + 2 * (swept + 1)
-    generation_is = (lists.counts es c legal.0 led).generation ∙ ap (λ (p : Part). 2 + 2 * (swept + (ahead_at p).generation)) checked
+    generation_is : by.lead.generation ≡ 2 + 2 * (swept + 1)
+    generation_is = (lists.counts es by.lead by.legal.0 by.led).generation ∙ ap (λ (p : Part). 2 + 2 * (swept + (ahead_at p).generation)) checked
 
-    begun_is : words shapes l pacing may es cell.Begun ≡ c.begun
+    begun_is : words setup es cell.Begun ≡ by.lead.begun
     begun_is =
-        let k = lists.counts es c legal.0 led in
+        let k = lists.counts es by.lead by.legal.0 by.led in
         let a = k.begun ∙ ap (λ (p : Part). swept + (ahead_at p).begun) checked in
         let b = k.number ∙ ap (λ (p : Part). swept + (ahead_at p).numbered) checked in
         omega (arith, a, b)
 
     room : h.words cell.Gen + 2 < 2 ^ 34
     room =
-        let few = lists.few es legal.0 in
-        let opened = (lists.counts es c legal.0 led).opened ∙ ap (λ (p : Part). swept + (ahead_at p).opened) checked in
+        let few = lists.few es by.legal.0 in
+        let opened = (lists.counts es by.lead by.legal.0 by.led).opened ∙ ap (λ (p : Part). swept + (ahead_at p).opened) checked in
         let gen = gen_is in
         omega (arith, few, opened, gen)
 
-    sound : (c.layout ≡ l) × leading.Sound c
-    sound = subst (ActorSound l) led ((lists.keeps es legal.0).shakes.all_sound (acks_of l) (omega arith))
+    sound : (by.lead.layout ≡ setup.layout) × leading.Sound by.lead
+    sound = subst (ActorSound setup.layout) by.led ((lists.keeps es by.legal.0).shakes.all_sound (acks_of setup.layout) (omega arith))
 
-    stored : x.generation ≡ c.generation
-    stored = ap (λ (v : close.Closing). v.generation) (subst (leading.SoundAt c) is sound.1.1)
+    stored : x.generation ≡ by.lead.generation
+    stored = ap (λ (v : close.Closing). v.generation) (subst (leading.SoundAt by.lead) is sound.1.1)
 
     asked : e.ask ≡ Store cell.Gen x.generation
-    asked = asked_at shapes l pacing may known lists e es legal c led by (Close x) is ∙ ap (close.asks_at x) at
+    asked = asked_at setup lists e es by (Close x) is ∙ ap (close.asks_at x) at
 
     next : h.words cell.Gen + 2 ≡ x.generation
     next = let a = gen_is in let b = generation_is in let d = stored in omega (arith, a, b, d)
@@ -100,21 +100,21 @@ module _ (shapes : List Shape) (l : Layout) (pacing : Pacing) (may : ℕ → Lis
 
     -- Marking is over: nobody holds anything, and each processor has counted what it placed.
 
-    stopped : leading.post_at c.stage ≡ Stopped run.Mark
-    stopped = post shapes l pacing may good limits known lists es legal.0 c led x is on mark
+    stopped : leading.post_at by.lead.stage ≡ Stopped run.Mark
+    stopped = post setup lists es by.legal.0 by.lead by.led x is on mark
 
     still : IsStill h
-    still = is_still shapes l pacing may known lists es legal.0 c led run.Mark stopped h mark.marking.known.has.of_list
+    still = is_still setup lists es by.legal.0 by.lead by.led run.Mark stopped h mark.marking.known.has.of_list
 
     pends : (a : ℕ) → s.pend a ≡ 0
-    pends a = go (ltb a l.procs) refl where
-      go : (b : Bool) → ltb a l.procs ≡ b → s.pend a ≡ 0
-      go true y = let lt : a < l.procs = grind (arith, nat_tests) in mark.marking.known.has.placing a lt ∙ owes_nothing shapes l pacing may known lists es legal.0 c led run.Mark stopped a lt
+    pends a = go (ltb a setup.layout.procs) refl where
+      go : (b : Bool) → ltb a setup.layout.procs ≡ b → s.pend a ≡ 0
+      go true y = let lt : a < setup.layout.procs = grind (arith, nat_tests) in mark.marking.known.has.placing a lt ∙ owes_nothing setup lists es by.legal.0 by.lead by.led run.Mark stopped a lt
       go false y = mark.marking.known.has.others_place a (grind (arith, nat_tests))
 
     -- what a script reaches is marked
     reached : (n : Name) → Reach h.ever n → row_bit (mark_words h.words) (h.place n) ≡ 1
-    reached n r = subst (λ (w : Words). row_bit (mark_words w) (h.place n) ≡ 1) mark.marking.known.beside.words (reached_are_marked shapes l pacing may good limits known lists es legal.0 c led x is on mark n r)
+    reached n r = subst (λ (w : Words). row_bit (mark_words w) (h.place n) ≡ 1) mark.marking.known.beside.words (reached_are_marked setup lists es by.legal.0 by.lead by.led x is on mark n r)
 
     is_over : IsOver s
     is_over = record {
@@ -124,7 +124,7 @@ module _ (shapes : List Shape) (l : Layout) (pacing : Pacing) (may : ℕ → Lis
       none_laid = still.none_laid;
       none_freed = still.none_freed;
       owes_none = pends;
-      stand = known.stand mark.marking.cycle h mark.marking.shared mark.marking.good mark.marking.known.beside.words (none_placing shapes l pacing may good limits known lists es legal.0 c led x is on mark);
+      stand = lists.known.stand mark.marking.cycle h mark.marking.shared mark.marking.good mark.marking.known.beside.words (none_placing setup lists es by.legal.0 by.lead by.led x is on mark);
       marks_fit = mark.marking.known.marks_fit;
       reached = reached;
       tally = mark.marking.known.counts.0;
@@ -138,17 +138,17 @@ module _ (shapes : List Shape) (l : Layout) (pacing : Pacing) (may : ℕ → Lis
     then = ended_state s
 
     good_then : StateGood z then
-    good_then = known.cycles_end z s mark.marking.known.has.good is_over
+    good_then = lists.known.cycles_end z s mark.marking.known.has.good is_over
 
-    pages : s.end.layout.pages ≡ l.pages
+    pages : s.end.layout.pages ≡ setup.layout.pages
     pages = ap (λ (y : Layout). y.pages) mark.marking.known.has.good.layout
 
-    walks : Walks then (over_all.opening c.layout c.generation)
+    walks : Walks then (over_all.opening by.lead.layout by.lead.generation)
     walks = record {
       layout_is = sound.0 ∙ sym mark.marking.known.has.good.layout;
       generation_is = sym stored ∙ sym next;
       passed = λ p lt. absurd (omega (arith, lt));
-      stage_is = let some = limits.pages_fit.0 in omega (arith, some, pages);
+      stage_is = let some = lists.limits.pages_fit.0 in omega (arith, some, pages);
     }
 
     rests : (b : ℕ) → Rests b then
@@ -159,41 +159,41 @@ module _ (shapes : List Shape) (l : Layout) (pacing : Pacing) (may : ℕ → Lis
     closes_to p y = ap (λ (q : CloseStage). close.goes_at x q e.found) (sym y)
 
     abbrev behind_it : Coordinating
-    behind_it = coord.at_stage (coord.counted c) (Close (close.at_stage x closing.StorePhase))
+    behind_it = coord.at_stage (coord.counted by.lead) (Close (close.at_stage x closing.StorePhase))
 
-    leads_to : coord.goes c e.found ≡ behind_it
-    leads_to = goes_by shapes l pacing may known lists e es legal c led by (Close x) is ∙ ap (λ (y : close.Closing). coord.after_close (coord.at_stage (coord.counted c) (Close y)) (close.given y)) (sym (closes_to closing.StoreGen at))
+    leads_to : coord.goes by.lead e.found ≡ behind_it
+    leads_to = goes_by setup lists e es by (Close x) is ∙ ap (λ (y : close.Closing). coord.after_close (coord.at_stage (coord.counted by.lead) (Close y)) (close.given y)) (sym (closes_to closing.StoreGen at))
 
-    led_behind : IsLed shapes l pacing may (e ∷ es) behind_it
-    led_behind = subst (IsLed shapes l pacing may (e ∷ es)) leads_to (led_then shapes l pacing may known lists e es legal c led by)
+    led_behind : IsLed setup (e ∷ es) behind_it
+    led_behind = subst (IsLed setup (e ∷ es)) leads_to (led_then setup lists e es by)
 
-    sweeps_none : (b : ℕ) → b < seats_of l → IsInSweep b then (sweep_of (actors_after z pacing may (e ∷ es) b))
-    sweeps_none b lt = subst (IsInSweep b then) (sym (stopped_sweeps_none shapes l pacing may known lists (e ∷ es) legal behind_it led_behind run.Mark refl b lt)) (rests b)
+    sweeps_none : (b : ℕ) → b < seats_of setup.layout → IsInSweep b then (sweep_of (actors_after z setup.pacing setup.may (e ∷ es) b))
+    sweeps_none b lt = subst (IsInSweep b then) (sym (stopped_sweeps_none setup lists (e ∷ es) by.legal behind_it led_behind run.Mark refl b lt)) (rests b)
 
     -- and the objects of since are those that are marked
     as_it_ended : IsAsItEnded then
     as_it_ended = record { none_freed = still.none_freed; slots = λ i. refl; since = λ i set. eqb-true (row_bit (mark_words h.words) i) 1 set }
 
-    in_cycle : IsInCycle shapes l pacing may es c.begun
+    in_cycle : IsInCycle setup es by.lead.begun
     in_cycle = go mark.marking.known.cycle where
-      same : mark.marking.cycle.number ≡ c.begun
+      same : mark.marking.cycle.number ≡ by.lead.begun
       same = mark.marking.is.number_is
 
-      go : IsToBegin shapes l pacing may es mark.marking.cycle.number ⊎ IsInCycle shapes l pacing may es mark.marking.cycle.number → IsInCycle shapes l pacing may es c.begun
-      go (inr k) = subst (IsInCycle shapes l pacing may es) same k
-      go (inl b) = absurd (no_beginning c.stage x is (let one : b.lead ≡ c = (let both = sym b.led ∙ led in cc) in subst (λ (d : Coordinating). IsBeginning d.stage) one b.stage))
+      go : IsToBegin setup es mark.marking.cycle.number ⊎ IsInCycle setup es mark.marking.cycle.number → IsInCycle setup es by.lead.begun
+      go (inr k) = subst (IsInCycle setup es) same k
+      go (inl b) = absurd (no_beginning by.lead.stage x is (let one : b.lead ≡ by.lead = (let both = sym b.led ∙ by.led in cc) in subst (λ (d : Coordinating). IsBeginning d.stage) one b.stage))
 
-    seat_from : l.procs ≤ e.actor
-    seat_from = from shapes l pacing may known lists e es legal c led by
+    seat_from : setup.layout.procs ≤ e.actor
+    seat_from = from setup lists e es by
 
-    last : LastStays shapes l pacing may e es s then
-    last d led_d is_last = let x = last_stays shapes l pacing may known lists e es legal c led by (subst NotAcks (sym is) tt) s s (record { end = refl; since = refl; slot = refl; ever = refl; freeing = refl }) d led_d is_last in (x.0, x.1, λ y. as_it_ended)
+    last : LastStays setup e es s then
+    last d led_d is_last = let x = last_stays setup lists e es by (subst NotAcks (sym is) tt) s s (record { end = refl; since = refl; slot = refl; ever = refl; freeing = refl }) d led_d is_last in (x.0, x.1, λ y. as_it_ended)
 
-    ended : EndedSo shapes l pacing may (e ∷ es) c.begun then
+    ended : EndedSo setup (e ∷ es) by.lead.begun then
     ended = record {
       ended = e ∷ es;
       start = whole (e ∷ es);
-      ends = record { lead = c; led = led; by = by; stage = subst IsEnding (sym is) at; cycle = refl };
+      ends = record { lead = by.lead; led = by.led; by = by.seat; stage = subst IsEnding (sym is) at; cycle = refl };
       alloc = ap alloc_words (words_so ∙ ap (λ (w : Words). effect w e.ask) words_here);
       marks = ap mark_words (words_so ∙ ap (λ (w : Words). effect w e.ask) words_here);
       stood = λ n i made p. p;
@@ -202,59 +202,59 @@ module _ (shapes : List Shape) (l : Layout) (pacing : Pacing) (may : ℕ → Lis
       last = λ d led_d y. (refl, as_it_ended);
     }
 
-    behind : HasEnded shapes l pacing may (e ∷ es) c.begun then
-    behind = record { cycle = in_cycle_on shapes l pacing may e es c.begun s then last in_cycle; ended = ended }
+    behind : HasEnded setup (e ∷ es) by.lead.begun then
+    behind = record { cycle = in_cycle_on setup e es by.lead.begun s then last in_cycle; ended = ended }
 
     -- each stack was scanned in this cycle or before, if at all
-    scanned : (g : ℕ) → (h.words (cell.Scanned g) < c.begun + 1) ⊎ (h.words (cell.Scanned g) ≡ END)
-    scanned g = go (lists.numbers es legal.0 g) where
-      here : h.words (cell.Scanned g) ≡ words shapes l pacing may es (cell.Scanned g)
+    scanned : (g : ℕ) → (h.words (cell.Scanned g) < by.lead.begun + 1) ⊎ (h.words (cell.Scanned g) ≡ END)
+    scanned g = go (lists.numbers es by.legal.0 g) where
+      here : h.words (cell.Scanned g) ≡ words setup es (cell.Scanned g)
       here = ap (λ (w : Words). w (cell.Scanned g)) words_here
 
-      go : (words shapes l pacing may es (cell.Scanned g) ≡ END) ⊎ (words shapes l pacing may es (cell.Scanned g) ≤ words shapes l pacing may es cell.Begun) → (h.words (cell.Scanned g) < c.begun + 1) ⊎ (h.words (cell.Scanned g) ≡ END)
+      go : (words setup es (cell.Scanned g) ≡ END) ⊎ (words setup es (cell.Scanned g) ≤ words setup es cell.Begun) → (h.words (cell.Scanned g) < by.lead.begun + 1) ⊎ (h.words (cell.Scanned g) ≡ END)
       go (inl i) = inr (here ∙ i)
       go (inr i) = let b = begun_is in inl (omega (arith, here, i, b))
 
-    calm_now : (a : ℕ) → a < l.procs → MarksNothing (processor_at shapes l pacing may es a)
-    calm_now a lt = known.calm.behind mark.marking.cycle a mark.marking.shared (processor_at shapes l pacing may es a) _ (still_at shapes l pacing may good limits known lists es legal.0 c led x is on mark a lt) (facts shapes l pacing may good limits known lists es legal.0 c led x is on mark a lt)
+    calm_now : (a : ℕ) → a < setup.layout.procs → MarksNothing (processor_at setup es a)
+    calm_now a lt = lists.known.calm.behind mark.marking.cycle a mark.marking.shared (processor_at setup es a) _ (still_at setup lists es by.legal.0 by.lead by.led x is on mark a lt) (facts setup lists es by.legal.0 by.lead by.led x is on mark a lt)
 
-    nobody : NobodyMarks shapes l pacing may es (c.begun + 1) h.words
-    nobody = record { buffers = λ b. buffers shapes l pacing may good limits known lists es legal.0 c led x is on mark b; stacks = scanned; processors = calm_now }
+    nobody : NobodyMarks setup es (by.lead.begun + 1) h.words
+    nobody = record { buffers = λ b. buffers setup lists es by.legal.0 by.lead by.led x is on mark b; stacks = scanned; processors = calm_now }
 
-    abbrev has_then : HasState shapes l pacing may (e ∷ es)
+    abbrev has_then : HasState setup (e ∷ es)
     has_then = record {
       state = then;
-      of_list = heap_on shapes l pacing may known lists e es legal c led by stopped h mark.marking.known.has.of_list (next_words h.words) words_so only;
+      of_list = heap_on setup lists e es by stopped h mark.marking.known.has.of_list (next_words h.words) words_so only;
       good = good_then;
-      placing = λ a lt. sym (owes_nothing shapes l pacing may known lists es legal.0 c led run.Mark stopped a lt) ∙ ap (λ (m : Processor). uncounted m.task) (sym (state_stays shapes l pacing may e es a (apart shapes l pacing may known lists e es legal seat_from a lt)));
+      placing = λ a lt. sym (owes_nothing setup lists es by.legal.0 by.lead by.led run.Mark stopped a lt) ∙ ap (λ (m : Processor). uncounted m.task) (sym (state_stays setup e es a (apart setup lists e es by.legal seat_from a lt)));
       others_place = λ a le. refl;
       sweeps = sweeps_none;
     }
 
-    pub sweeping : (d : Coordinating) → d.begun ≡ c.begun → IsSweeping shapes l pacing may (e ∷ es) d (over_all.opening c.layout c.generation)
+    pub sweeping : (d : Coordinating) → d.begun ≡ by.lead.begun → IsSweeping setup (e ∷ es) d (over_all.opening by.lead.layout by.lead.generation)
     sweeping d same = record {
       has = has_then;
       over = refl;
       walks = walks;
-      behind = subst (λ (k : ℕ). HasEnded shapes l pacing may (e ∷ es) k then) (sym same) behind;
-      nobody = nobody_on shapes l pacing may known lists e es legal c led by stopped h mark.marking.known.has.of_list (next_words h.words) words_so only (c.begun + 1) (d.begun + 1) (ap (λ (k : ℕ). k + 1) same) nobody;
+      behind = subst (λ (k : ℕ). HasEnded setup (e ∷ es) k then) (sym same) behind;
+      nobody = nobody_on setup lists e es by stopped h mark.marking.known.has.of_list (next_words h.words) words_so only (by.lead.begun + 1) (d.begun + 1) (ap (λ (k : ℕ). k + 1) same) nobody;
     }
 
   -- With the store of the phase the world runs, and the walk begins.
-  module _ (e : Entry Op) (es : List (Entry Op)) (legal : Legal (those shapes l pacing may) (e ∷ es)) (c : Coordinating) (led : IsLed shapes l pacing may es c) (by : e.actor ≡ acks_of l) (x : close.Closing) (is : c.stage ≡ Close x) (at : x.stage ≡ closing.StorePhase) (k : IsSweeping shapes l pacing may es c (over_all.opening c.layout c.generation)) where
-    at_close : c.stage ≡ Close (close.at_stage x closing.StorePhase)
+  module _ (e : Entry Op) (es : List (Entry Op)) (by : ByLead setup e es) (x : close.Closing) (is : by.lead.stage ≡ Close x) (at : x.stage ≡ closing.StorePhase) (k : IsSweeping setup es by.lead (over_all.opening by.lead.layout by.lead.generation)) where
+    at_close : by.lead.stage ≡ Close (close.at_stage x closing.StorePhase)
     at_close = is ∙ ap (λ (p : CloseStage). Close (close.at_stage x p)) at
 
     tells : TellsNothing e.ask
-    tells = subst TellsNothing (sym (asked_at shapes l pacing may known lists e es legal c led by (Close (close.at_stage x closing.StorePhase)) at_close)) (phase_only _)
+    tells = subst TellsNothing (sym (asked_at setup lists e es by (Close (close.at_stage x closing.StorePhase)) at_close)) (phase_only _)
 
-    none : coord.sweep_at c.stage ≡ None
+    none : coord.sweep_at by.lead.stage ≡ None
     none = ap coord.sweep_at at_close
 
-    still_none : coord.sweep_in (coord.goes_at (coord.counted c) c.stage e.found) ≡ None
-    still_none = ap (λ (p : CoordStage). coord.sweep_in (coord.goes_at (coord.counted c) p e.found)) at_close
+    still_none : coord.sweep_in (coord.goes_at (coord.counted by.lead) by.lead.stage e.found) ≡ None
+    still_none = ap (λ (p : CoordStage). coord.sweep_in (coord.goes_at (coord.counted by.lead) p e.found)) at_close
 
-    pub runs_on : (d : Coordinating) → d.begun ≡ c.begun → IsSweeping shapes l pacing may (e ∷ es) d (over_all.opening c.layout c.generation)
-    runs_on d same = sweeping_of shapes l pacing may known lists (e ∷ es) d (over_all.opening c.layout c.generation) 0
-        (told_on shapes l pacing may known lists e es legal c led by none still_none tells (subst NotAcks (sym is) tt) 0 (behind_of shapes l pacing may known lists es c (over_all.opening c.layout c.generation) k) d same)
+    pub runs_on : (d : Coordinating) → d.begun ≡ by.lead.begun → IsSweeping setup (e ∷ es) d (over_all.opening by.lead.layout by.lead.generation)
+    runs_on d same = sweeping_of setup lists (e ∷ es) d (over_all.opening by.lead.layout by.lead.generation) 0
+        (told_on setup lists e es by none still_none tells (subst NotAcks (sym is) tt) 0 (behind_of setup lists es by.lead (over_all.opening by.lead.layout by.lead.generation) k) d same)
         (record { layout_is = k.walks.layout_is; generation_is = k.walks.generation_is; passed = k.walks.passed; stage_is = k.walks.stage_is })

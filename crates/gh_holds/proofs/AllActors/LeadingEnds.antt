@@ -1,5 +1,5 @@
 -- Where a cycle's marking ends: nobody has anything in hand, the marked objects are those that a script reaches, and with the store of the next sweep generation they are swept.
-use Rattle.std.proofs.Common.{◌≡◌, ◌≢◌, ◌⊎◌, inl, inr, ℕ, zero, suc, ◌-◌, ◌<◌, ◌≤◌, refl, sym, ap, subst, ◌∙◌, arith, List, Some, None, Bool, true}
+use Rattle.std.proofs.Common.{◌≡◌, ◌≢◌, ◌⊎◌, inl, inr, ℕ, zero, suc, ◌-◌, ◌<◌, ◌≤◌, refl, sym, ap, subst, ◌∙◌, arith, List, Some, None, true}
 use Rattle.std.proofs.lemmas.Bool.{cases_lt}
 use Rattle.gh_base.specs.declared.cell.Cell.TheVariants as cell
 use Rattle.gh_base.specs.declared.pack.TheConstants.{END}
@@ -14,45 +14,47 @@ use Rattle.gh_phase.specs.declared.view.RunPhase.TheVariants as run
 use Rattle.gh_worker.specs.Listing as worker
 use Rattle.gh_worker.specs.MarkFacts as worker_marks
 use Rattle.gh_lists.specs.declared.handshake.Actor.TheVariants as actor
-use Rattle.gh_holds.proofs.Vocabulary.{acks_of, Actor, actors_after, alloc_words, Arena, arena, birth_words, Close, CloseStage, Coordinating, Cycle, EndsClean, EndsMarked, Entry, Ever, ever, Good, Hands, Heap, holder_in, IsBeginning, IsBounded, IsChecked, IsHeapOf, IsInCycle, IsInLimits, IsKnown, IsLed, IsMade, IsMarkedObject, IsParked, IsPlacedAt, IsToBegin, Layout, Legal, mark_words, MarkFacts, MarksToTheEnd, Name, nothing, Op, Pacing, Placed, processor_at, Reach, Row, row_bit, Shape, ShapesAreGood, stage_of, Stopped, those, view, WaitsWithNone, Words, words}
+use Rattle.gh_marked.proofs.Vocabulary.{acks_of, Actor, actors_after, alloc_words, Arena, arena, birth_words, Close, CloseStage, Coordinating, Cycle, EndsClean, Entry, Ever, ever, Good, Hands, Heap, holder_in, IsBeginning, IsBounded, IsChecked, IsHeapOf, IsInCycle, IsKnown, IsLed, IsMade, IsParked, IsPlacedAt, IsToBegin, Legal, mark_words, MarkFacts, MarksToTheEnd, Name, nothing, Op, Placed, processor_at, Reach, Row, row_bit, stage_of, Stopped, those, view, WaitsWithNone, Words, words}
 use Rattle.gh_lists.specs.Lists.{BeginsCycle}
 use Rattle.gh_marked.specs.State.{began, began_words}
-use Rattle.gh_holds.proofs.AllActors.Beside.{not_beginning}
-use Rattle.gh_holds.specs.Known.{Known, ListsKnown}
+use Rattle.gh_marked.proofs.OneStep.Beside.{not_beginning}
+use Rattle.gh_marked.specs.Known.{ListsKnown}
 use Rattle.gh_lists.specs.Names.{placed_there}
 use Rattle.gh_holds.proofs.AllActors.LeadingSeat.{parked}
 use Rattle.gh_lists.specs.Resting.{runs_are}
 use Rattle.gh_holds.proofs.AllActors.Stood.{Stays}
 use Rattle.gh_holds.proofs.AllActors.Tied.{is_tied}
 use Rattle.gh_lists.specs.Seats.{IsSeated, seated}
+use Rattle.gh_lists.specs.Handshake.{Setup}
+use Rattle.gh_holds.specs.Objects.{EndsMarked, IsMarkedObject}
 
 -- the world is stopped until the phase behind the next sweep generation is stored
 closing_post : (p : CloseStage) → close.is_marking p ≡ true → leading.close_post p ≡ Stopped run.Mark
 closing_post closing.Ended on = absurd cc
 closing_post _ on = refl
 
-module _ (shapes : List Shape) (l : Layout) (pacing : Pacing) (may : ℕ → List (Entry Op) → Op → Bool) (good : ShapesAreGood shapes) (limits : IsInLimits l) (known : Known) (lists : ListsKnown shapes l pacing may) where
+module _ (setup : Setup) (lists : ListsKnown setup) where
   abbrev z : Arena
-  z = arena shapes l pacing may
+  z = arena setup
 
   abbrev at : List (Entry Op) → ℕ → Actor
-  at es a = actors_after z pacing may es a
+  at es a = actors_after z setup.pacing setup.may es a
 
   abbrev Ends : List (Entry Op) → Coordinating → Type 0
-  Ends es c = MarksToTheEnd z pacing may es c
+  Ends es c = MarksToTheEnd z setup.pacing setup.may es c
 
   -- Where the coordinator has checked that nothing is left to be marked.
-  module _ (es : List (Entry Op)) (legal : Legal (those shapes l pacing may) es) (c : Coordinating) (led : IsLed shapes l pacing may es c) (x : close.Closing) (is : c.stage ≡ Close x) (on : leading.Marks c.stage) (mark : Ends es c) where
+  module _ (es : List (Entry Op)) (legal : Legal (those setup) es) (c : Coordinating) (led : IsLed setup es c) (x : close.Closing) (is : c.stage ≡ Close x) (on : leading.Marks c.stage) (mark : Ends es c) where
     abbrev y : Cycle
     y = mark.marking.cycle
 
-    k : IsKnown shapes l pacing may mark.marking.cycle mark.marking.shared es
+    k : IsKnown setup mark.marking.cycle mark.marking.shared es
     k = mark.marking.known
 
     abbrev h : Heap
     h = mark.marking.known.has.state.heap
 
-    of : IsHeapOf shapes l pacing may es mark.marking.known.has.state.heap
+    of : IsHeapOf setup es mark.marking.known.has.state.heap
     of = mark.marking.known.has.of_list
 
     pub clean : EndsClean mark.marking.cycle mark.marking.shared
@@ -61,27 +63,27 @@ module _ (shapes : List Shape) (l : Layout) (pacing : Pacing) (may : ℕ → Lis
     pub post : leading.post_at c.stage ≡ Stopped run.Mark
     post = ap leading.post_at is ∙ closing_post x.stage (subst leading.Marks is on)
 
-    pub facts : (a : ℕ) → a < l.procs → MarkFacts mark.marking.cycle a mark.marking.shared (processor_at shapes l pacing may es a)
-    facts a lt = mark.marking.processors a (processor_at shapes l pacing may es a) lt (runs_are shapes l pacing may es a lt)
+    pub facts : (a : ℕ) → a < setup.layout.procs → MarkFacts mark.marking.cycle a mark.marking.shared (processor_at setup es a)
+    facts a lt = mark.marking.processors a (processor_at setup es a) lt (runs_are setup es a lt)
 
-    pub still_at : (a : ℕ) → a < l.procs → IsParked (leading.lead_of c).stops (stage_of (processor_at shapes l pacing may es a))
-    still_at a lt = parked shapes l pacing may known lists es legal c led run.Mark post a lt
+    pub still_at : (a : ℕ) → a < setup.layout.procs → IsParked (leading.lead_of c).stops (stage_of (processor_at setup es a))
+    still_at a lt = parked setup lists es legal c led run.Mark post a lt
 
     -- nobody has anything in hand
     seats : (a : ℕ) → Hands a mark.marking.shared nothing
     seats a = go (at es a) refl where
-      seat_of : (m : Actor) → at es a ≡ m → IsSeated l a m
-      seat_of m i = subst (IsSeated l a) i (seated shapes l pacing es a)
+      seat_of : (m : Actor) → at es a ≡ m → IsSeated setup.layout a m
+      seat_of m i = subst (IsSeated setup.layout a) i (seated setup es a)
 
       worker_has : (w : worker.Working) → WaitsWithNone (leading.lead_of c).stops w → worker_marks.Facts mark.marking.cycle a mark.marking.shared w → Hands a mark.marking.shared nothing
       worker_has w waits f = (subst (worker_marks.StageFacts mark.marking.cycle a mark.marking.shared w.held) waits.is_at f.stage_is).0
 
       go : (m : Actor) → at es a ≡ m → Hands a mark.marking.shared nothing
       go (actor.Runs m) i =
-          let lt : a < l.procs = seat_of (actor.Runs m) i in
-          (known.marks.waits mark.marking.cycle a mark.marking.shared (processor_at shapes l pacing may es a) _ (still_at a lt) (facts a lt)).nothing_in_hand
+          let lt : a < setup.layout.procs = seat_of (actor.Runs m) i in
+          (lists.known.marks.waits mark.marking.cycle a mark.marking.shared (processor_at setup es a) _ (still_at a lt) (facts a lt)).nothing_in_hand
       go (actor.Marks w) i =
-          let lt : a < acks_of l = (seat_of (actor.Marks w) i).1 in
+          let lt : a < acks_of setup.layout = (seat_of (actor.Marks w) i).1 in
           worker_has w ((lists.keeps es legal).workers_wait c run.Mark a w led post lt i) (mark.marking.workers a w lt i)
       go (actor.Leads d) i = mark.marking.coordinator a (seat_of (actor.Leads d) i).0
 
@@ -113,23 +115,23 @@ module _ (shapes : List Shape) (l : Layout) (pacing : Pacing) (may : ℕ → Lis
 
     -- The cursor is past the globals, and each stack is scanned or has ended.
 
-    shared_words : mark.marking.shared.words ≡ words shapes l pacing may es
+    shared_words : mark.marking.shared.words ≡ words setup es
     shared_words = mark.marking.is.words_are
 
-    cursor_at : (n : ℕ) → l.globals ≡ n → n ≤ words shapes l pacing may es cell.Gcur
+    cursor_at : (n : ℕ) → setup.layout.globals ≡ n → n ≤ words setup es cell.Gcur
     cursor_at zero i = omega arith
     cursor_at (suc n) i = go (cases_lt n (mark.marking.shared.words cell.Gcur)) where
-      same : mark.marking.shared.words cell.Gcur ≡ words shapes l pacing may es cell.Gcur
+      same : mark.marking.shared.words cell.Gcur ≡ words setup es cell.Gcur
       same = ap (λ (w : Words). w cell.Gcur) shared_words
 
       last : n < mark.marking.cycle.arena.layout.globals
-      last = let globals : mark.marking.cycle.arena.layout.globals ≡ l.globals = ap (λ (r : Arena). r.layout.globals) mark.marking.known.arena_is in omega (arith, globals, i)
+      last = let globals : mark.marking.cycle.arena.layout.globals ≡ setup.layout.globals = ap (λ (r : Arena). r.layout.globals) mark.marking.known.arena_is in omega (arith, globals, i)
 
-      go : (n < mark.marking.shared.words cell.Gcur) ⊎ (mark.marking.shared.words cell.Gcur ≤ n) → suc n ≤ words shapes l pacing may es cell.Gcur
+      go : (n < mark.marking.shared.words cell.Gcur) ⊎ (mark.marking.shared.words cell.Gcur ≤ n) → suc n ≤ words setup es cell.Gcur
       go (inl past) = omega (arith, past, same)
       go (inr at) = absurd (let untouched = mark.marking.good.cursor.ahead n last at in let scanned = clean.done.globals n last in let no : Untouched ≡ Scanned = sym untouched ∙ scanned in cc)
 
-    stack_at : (g : ℕ) → g < l.goroutines → (words shapes l pacing may es (cell.Scanned g) ≡ c.begun) ⊎ (words shapes l pacing may es (cell.Scanned g) ≡ END)
+    stack_at : (g : ℕ) → g < setup.layout.goroutines → (words setup es (cell.Scanned g) ≡ c.begun) ⊎ (words setup es (cell.Scanned g) ≡ END)
     stack_at g lt =
         let there = clean.done.stacks g (subst (λ (r : Arena). g < r.layout.goroutines) (sym mark.marking.known.arena_is) lt) in
         subst (λ (w : Words). (w (cell.Scanned g) ≡ c.begun) ⊎ (w (cell.Scanned g) ≡ END)) shared_words (subst (λ (k : ℕ). (mark.marking.shared.words (cell.Scanned g) ≡ k) ⊎ (mark.marking.shared.words (cell.Scanned g) ≡ END)) mark.marking.is.number_is there)
@@ -149,40 +151,40 @@ module _ (shapes : List Shape) (l : Layout) (pacing : Pacing) (may : ℕ → Lis
     beside_there = subst (λ (r : Arena). IsBeside r h mark.marking.shared) (sym arena_is) mark.marking.known.beside
 
     pub reached_are_marked : (n : Name) → Reach h.ever n → IsMarked (mark_words mark.marking.shared.words) (h.place n)
-    reached_are_marked = known.reached mark.marking.cycle h mark.marking.shared good_there (subst (λ (r : Arena). ShapesFit r.shapes) (sym arena_is) good.fit) bounded_there beside_there clean.reached
+    reached_are_marked = lists.known.reached mark.marking.cycle h mark.marking.shared good_there (subst (λ (r : Arena). ShapesFit r.shapes) (sym arena_is) lists.good.fit) bounded_there beside_there clean.reached
 
-    marks_are : mark_words mark.marking.shared.words ≡ mark_words (words shapes l pacing may es)
+    marks_are : mark_words mark.marking.shared.words ≡ mark_words (words setup es)
     marks_are = ap mark_words mark.marking.is.words_are
 
     -- where the cycle began, and what has become of the heap since
     record Began : Type 0 where
-      cycle_is : IsInCycle shapes l pacing may es c.begun
-      since : HasGoneOn (ever shapes l pacing may cycle_is.begun) h mark.marking.shared
-      stood : Stays (words shapes l pacing may cycle_is.begun) (words shapes l pacing may es)
+      cycle_is : IsInCycle setup es c.begun
+      since : HasGoneOn (ever setup cycle_is.begun) h mark.marking.shared
+      stood : Stays (words setup cycle_is.begun) (words setup es)
 
     began_at : Began
     began_at = go mark.marking.known.cycle mark.marking.known.gone_on mark.marking.known.stood where
-      go : (y : IsToBegin shapes l pacing may es mark.marking.cycle.number ⊎ IsInCycle shapes l pacing may es mark.marking.cycle.number) → HasGoneOn (began shapes l pacing may es mark.marking.cycle.number y) h mark.marking.shared → Stays (began_words shapes l pacing may es mark.marking.cycle.number y) (words shapes l pacing may es) → Began
+      go : (y : IsToBegin setup es mark.marking.cycle.number ⊎ IsInCycle setup es mark.marking.cycle.number) → HasGoneOn (began setup es mark.marking.cycle.number y) h mark.marking.shared → Stays (began_words setup es mark.marking.cycle.number y) (words setup es) → Began
       go (inl b) g so = let same : b.lead ≡ c = (let both = sym b.led ∙ led in cc) in absurd (not_beginning c.stage on (subst (λ (d : Coordinating). IsBeginning d.stage) same b.stage))
-      go (inr i) g so = record { cycle_is = record { begun = i.begun; start = i.start; begins = subst (λ (k : ℕ). BeginsCycle shapes l pacing may k i.begun) mark.marking.is.number_is i.begins; last = i.last }; since = g; stood = so }
+      go (inr i) g so = record { cycle_is = record { begun = i.begun; start = i.start; begins = subst (λ (k : ℕ). BeginsCycle setup k i.begun) mark.marking.is.number_is i.begins; last = i.last }; since = g; stood = so }
 
     module _ (n : Name) where
       -- what stands there and is marked was reached where the cycle began, or made since
-      was_reached : IsMade (ever shapes l pacing may began_at.cycle_is.begun).made n → IsMarkedObject shapes l pacing may (words shapes l pacing may es) n → Reach (ever shapes l pacing may began_at.cycle_is.begun) n
+      was_reached : IsMade (ever setup began_at.cycle_is.begun).made n → IsMarkedObject setup (words setup es) n → Reach (ever setup began_at.cycle_is.begun) n
       was_reached made (a, at_a, set) =
           let there : Placed (alloc_words h.words) (birth_words h.words) (λ m. a) n = subst (λ (w : Words). Placed (alloc_words w) (birth_words w) (λ m. a) n) (sym of.words_are) at_a in
           let here = placed_there z (view h) mark.marking.known.has.good.heap n a (began_at.since.made n made) there.set there.says in
-          known.marked mark.marking.cycle h mark.marking.shared (ever shapes l pacing may began_at.cycle_is.begun) mark.marking.good mark.marking.known.beside.words none_placing began_at.since n here.1
+          lists.known.marked mark.marking.cycle h mark.marking.shared (ever setup began_at.cycle_is.begun) mark.marking.good mark.marking.known.beside.words none_placing began_at.since n here.1
           (subst (λ (o : ℕ). IsMarked (mark_words mark.marking.shared.words) o) (sym here.0) (subst (λ (w : Row). row_bit w a ≡ 1) (sym marks_are) set)) made
 
-      is_marked : Reach (ever shapes l pacing may es) n → IsMarkedObject shapes l pacing may (words shapes l pacing may es) n
+      is_marked : Reach (ever setup es) n → IsMarkedObject setup (words setup es) n
       is_marked r =
           let there : Reach h.ever n = subst (λ (v : Ever). Reach v n) (sym of.ever_is) r in
           let p = mark.marking.known.has.good.heap.reached n there in
           (h.place n, subst (λ (w : Words). Placed (alloc_words w) (birth_words w) (λ m. h.place n) n) of.words_are (record { set = p.set; says = p.says }), subst (λ (w : Row). row_bit w (h.place n) ≡ 1) marks_are (reached_are_marked n there))
 
       -- where it is placed it is marked, if a script reaches it
-      not_unmarked : (a : ℕ) → IsMade (ever shapes l pacing may es).made n → IsPlacedAt (words shapes l pacing may es) n a → row_bit (mark_words (words shapes l pacing may es)) a ≡ 0 → Reach (ever shapes l pacing may es) n → ⊥
+      not_unmarked : (a : ℕ) → IsMade (ever setup es).made n → IsPlacedAt (words setup es) n a → row_bit (mark_words (words setup es)) a ≡ 0 → Reach (ever setup es) n → ⊥
       not_unmarked a made at_a none r =
           let there : Placed (alloc_words h.words) (birth_words h.words) (λ m. a) n = subst (λ (w : Words). Placed (alloc_words w) (birth_words w) (λ m. a) n) (sym of.words_are) at_a in
           let here = placed_there z (view h) mark.marking.known.has.good.heap n a (subst (λ (v : Ever). IsMade v.made n) (sym of.ever_is) made) there.set there.says in
@@ -190,14 +192,14 @@ module _ (shapes : List Shape) (l : Layout) (pacing : Pacing) (may : ℕ → Lis
           let set_there = subst (λ (w : Row). row_bit w a ≡ 1) marks_are set in
           omega (arith, none, set_there)
 
-    pub ends_marked : EndsMarked shapes l pacing may es c
+    pub ends_marked : EndsMarked setup es c
     ends_marked = record {
       cycle = mark.marking.cycle;
       shared = mark.marking.shared;
       is = mark.marking.is;
-      tied = is_tied shapes l pacing may known es c mark.marking;
+      tied = is_tied setup lists.known es c mark.marking;
       clean = clean;
-      cursor = cursor_at l.globals refl;
+      cursor = cursor_at setup.layout.globals refl;
       stacks = stack_at;
       buffers = λ b. subst (λ (w : Words). w (cell.Buffer b) ≡ 0) of.words_are (buffers b);
       hands = seats;

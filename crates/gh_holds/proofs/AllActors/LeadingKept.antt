@@ -8,11 +8,14 @@ use Rattle.gh_coord.specs.Stopping as stop
 use Rattle.gh_coord.specs.SweepingAll as over
 use Rattle.gh_coord.specs.Telling as tell
 use Rattle.gh_coord.specs.Watching as watch
-use Rattle.gh_holds.specs.HoldVocabulary.{AllWereCounted}
-use Rattle.gh_holds.proofs.Vocabulary.{acks_of, All, Check, Close, Coordinating, CoordStage, Count, Done, Entry, GONE, HoldsAt, IsLed, Layout, Legal, LoadAck, LoadWant, MarkOn, NotYet, Op, Open, Pacing, Shape, Stop, StopAgain, Sweep, Tell, those, Watch, Watched}
-use Rattle.gh_holds.specs.Known.{Known, ListsKnown}
+use Rattle.gh_marked.proofs.Vocabulary.{All, Check, Close, Coordinating, CoordStage, Count, Done, Entry, GONE, LoadAck, LoadWant, MarkOn, NotYet, Op, Open, Stop, StopAgain, Sweep, Tell, Watch, Watched}
+use Rattle.gh_marked.specs.Known.{ListsKnown}
+use Rattle.gh_holds.proofs.AllActors.LeadingSeat.{ByLead}
 use Rattle.gh_holds.proofs.AllActors.LeadingTold as told
 use Rattle.gh_holds.proofs.AllActors.Starts.{counted_on}
+use Rattle.gh_lists.specs.Handshake.{Setup}
+use Rattle.gh_holds.specs.Objects.{AllWereCounted}
+use Rattle.gh_holds.specs.ActorsHold.{HoldsAt}
 
 -- but where it has read the counts, a step leaves the list of cycles
 module _ (u : Coordinating) where
@@ -62,21 +65,21 @@ module _ (u : Coordinating) where
   tells_same t None = refl
   tells_same t (Some x) = refl
 
-module _ (shapes : List Shape) (l : Layout) (pacing : Pacing) (may : ℕ → List (Entry Op) → Op → Bool) (known : Known) (lists : ListsKnown shapes l pacing may) where
-  module _ (e : Entry Op) (es : List (Entry Op)) (legal : Legal (those shapes l pacing may) (e ∷ es)) (c : Coordinating) (led : IsLed shapes l pacing may es c) (by : e.actor ≡ acks_of l) where
+module _ (setup : Setup) (lists : ListsKnown setup) where
+  module _ (e : Entry Op) (es : List (Entry Op)) (by : ByLead setup e es) where
     abbrev u : Coordinating
-    u = coord.counted c
+    u = coord.counted by.lead
 
     -- The list of cycles.
-    module _ (before : AllWereCounted shapes l pacing may es c) where
-      same_list : (d : Coordinating) → d.cycles ≡ c.cycles → AllWereCounted shapes l pacing may (e ∷ es) d
-      same_list d same i y is = counted_on shapes l pacing may e es c before i y (subst (λ (k : Kept). slice_get k.items i ≡ Some y) same is)
+    module _ (before : AllWereCounted setup es by.lead) where
+      same_list : (d : Coordinating) → d.cycles ≡ by.lead.cycles → AllWereCounted setup (e ∷ es) d
+      same_list d same i y is = counted_on setup e es by.lead before i y (subst (λ (k : Kept). slice_get k.items i ≡ Some y) same is)
 
-      same_at : (p : CoordStage) → (coord.goes_at u p e.found).cycles ≡ c.cycles → AllWereCounted shapes l pacing may (e ∷ es) (coord.goes_at u p e.found)
+      same_at : (p : CoordStage) → (coord.goes_at u p e.found).cycles ≡ by.lead.cycles → AllWereCounted setup (e ∷ es) (coord.goes_at u p e.found)
       same_at p same = same_list (coord.goes_at u p e.found) same
 
-      pub counted : (p : CoordStage) → c.stage ≡ p → HoldsAt shapes l pacing may es c p → AllWereCounted shapes l pacing may (e ∷ es) (coord.goes_at u p e.found)
-      counted (LoadAck i) is h = same_at (LoadAck i) (acks u i (e.found == GONE) (ltb (i + 1) c.layout.procs))
+      pub counted : (p : CoordStage) → by.lead.stage ≡ p → HoldsAt setup es by.lead p → AllWereCounted setup (e ∷ es) (coord.goes_at u p e.found)
+      counted (LoadAck i) is h = same_at (LoadAck i) (acks u i (e.found == GONE) (ltb (i + 1) by.lead.layout.procs))
       counted LoadWant is h = same_at LoadWant (wants u (e.found == 0))
       counted (Stop st) is h = same_at (Stop st) (stops u (stop.goes st e.found) (stop.gives st e.found))
       counted (Open o) is h = same_at (Open o) (opens u (opens_by.goes o e.found) (opens_by.gives o e.found))
@@ -86,6 +89,6 @@ module _ (shapes : List Shape) (l : Layout) (pacing : Pacing) (may : ℕ → Lis
       counted MarkOn is h = same_at MarkOn refl
       counted (Close x) is h = same_at (Close x) (closes u (close.goes x e.found) (close.gives x e.found))
       counted (Sweep w) is h = same_at (Sweep w) (sweeps u (over.goes w e.found) (over.gives w e.found))
-      counted (Count x) is h = told.keeps shapes l pacing may known lists e es legal c led by x is h before
+      counted (Count x) is h = told.keeps setup lists e es by x is h before
       counted (Tell t) is h = same_at (Tell t) (tells_same u (tell.goes t e.found) (tell.gives t e.found))
       counted Done is h = same_at Done refl

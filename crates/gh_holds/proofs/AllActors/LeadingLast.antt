@@ -1,5 +1,5 @@
 -- Once all is over: every processor is gone, so each goroutine has ended, and the objects that stand are those that a script reaches.
-use Rattle.std.proofs.Common.{◌≡◌, ◌≢◌, ◌↔◌, inl, inr, ◌⊎◌, ℕ, ◌*◌, ◌%◌, ◌^◌, ◌<◌, ◌≤◌, Bool, true, refl, sym, ap, subst, ◌∙◌, arith, List, [], ◌∷◌}
+use Rattle.std.proofs.Common.{◌≡◌, ◌≢◌, ◌↔◌, inl, inr, ◌⊎◌, ℕ, ◌*◌, ◌%◌, ◌^◌, ◌<◌, ◌≤◌, true, refl, sym, ap, subst, ◌∙◌, arith, List, [], ◌∷◌}
 use Rattle.gh_base.specs.declared.cell.Cell.TheVariants as cell
 use Rattle.gh_coord.specs.Closing as close
 use Rattle.gh_coord.specs.Handshake as leading
@@ -12,20 +12,21 @@ use Rattle.gh_phase.specs.declared.resume.ResumeStage.TheVariants as resume_stag
 use Rattle.gh_phase.specs.declared.view.RunPhase.TheVariants as run
 use Rattle.gh_phase.specs.ResumePlaces.{stands_at}
 use Rattle.gh_lists.specs.Lists.{BeginsCycle}
-use Rattle.gh_lists.specs.Handshake.{Sound as ActorSound}
+use Rattle.gh_lists.specs.Handshake.{Sound as ActorSound, Setup}
 use Rattle.gh_state.specs.Cycles.{AllIsTold, AreSwept}
-use Rattle.gh_holds.specs.ActorsHold.{IsNewThere, IsTold}
+use Rattle.gh_holds.specs.ActorsHold.{EndedSo, IsNewThere, IsTold}
 use Rattle.gh_marked.specs.State.{HasState}
-use Rattle.gh_holds.specs.HoldVocabulary.{CountsAreExact, marks_at, State}
-use Rattle.gh_holds.proofs.Vocabulary.{acks_of, acts, alloc_words, Arena, arena, Ask, birth_words, Close, Coordinating, CoordStage, Done, effect, EndedSo, EndsAllMarked, EndsCycle, Entry, Ever, ever, Gone, Heap, is_last_task, IsEnding, IsInLimits, IsLed, IsMade, IsMarkedObject, IsOf, IsPlacedAt, IsStartOf, IsStepIn, last_of, last_phase, Layout, Lead, Leads, LeavesTheReached, Legal, mod_below, Name, new_stage_at, NewStage, Op, Pacing, page_words, party_of, place_of, Placed, placed, Polling, polls_at, PollStage, processor_at, processor_kind, Reach, ResumeStage, Row, row_bit, Shape, slot_row, stage_at, stage_of, started, Store, Task, those, view, Waiting, waiting, waits_at, WaitStage, Words, words}
-use Rattle.gh_holds.specs.Known.{Known, ListsKnown}
+use Rattle.gh_marked.specs.HoldVocabulary.{CountsAreExact, marks_at, State}
+use Rattle.gh_marked.proofs.Vocabulary.{acks_of, acts, alloc_words, Arena, arena, Ask, birth_words, Close, Coordinating, CoordStage, Done, effect, EndsCycle, Entry, Ever, ever, Gone, Heap, is_last_task, IsEnding, IsLed, IsMade, IsOf, IsPlacedAt, IsStartOf, IsStepIn, last_of, last_phase, Layout, Lead, Leads, Legal, mod_below, Name, new_stage_at, NewStage, Op, page_words, party_of, place_of, Placed, placed, Polling, polls_at, PollStage, processor_at, processor_kind, Reach, ResumeStage, Row, row_bit, slot_row, stage_at, stage_of, started, Store, Task, those, view, Waiting, waiting, waits_at, WaitStage, Words, words}
+use Rattle.gh_marked.specs.Known.{ListsKnown}
 use Rattle.gh_lists.specs.Names.{few_there, same_name}
 use Rattle.gh_holds.proofs.AllActors.LeadingNumbers.{ends_once}
 use Rattle.gh_holds.proofs.AllActors.LeadingOnce.{begins_once}
-use Rattle.gh_holds.proofs.AllActors.LeadingSeat.{asked_at, from}
+use Rattle.gh_holds.proofs.AllActors.LeadingSeat.{asked_at, by_step, from}
 use Rattle.gh_lists.specs.Resting.{ever_stays, runs_are}
 use Rattle.gh_lists.specs.Starts.{legal_start, start_of_start}
 use Rattle.gh_lists.specs.Made.{acted_no_fewer}
+use Rattle.gh_holds.specs.Objects.{EndsAllMarked, IsMarkedObject, LeavesTheReached}
 
 -- Who is gone has left.
 
@@ -62,93 +63,93 @@ pub ends_by : (c : Coordinating) (p : CoordStage) → IsEnding p → (x : ℕ) �
 ends_by c (Close y) is = (y.generation, ap (close.asks_at y) is)
 ends_by c _ is = absurd is
 
-module _ (shapes : List Shape) (l : Layout) (pacing : Pacing) (may : ℕ → List (Entry Op) → Op → Bool) (limits : IsInLimits l) (known : Known) (lists : ListsKnown shapes l pacing may) where
+module _ (setup : Setup) (lists : ListsKnown setup) where
   abbrev z : Arena
-  z = arena shapes l pacing may
+  z = arena setup
 
   -- no fewer objects were made behind more entries
-  made_grows : (g : ℕ) (start es : List (Entry Op)) → IsStartOf start es → (ever shapes l pacing may start).made g ≤ (ever shapes l pacing may es).made g
-  made_grows g start [] is = let same = ap (λ (xs : List (Entry Op)). (ever shapes l pacing may xs).made g) is in omega (arith, same)
-  made_grows g start (e ∷ es) (inl is) = let same = ap (λ (xs : List (Entry Op)). (ever shapes l pacing may xs).made g) is in omega (arith, same)
+  made_grows : (g : ℕ) (start es : List (Entry Op)) → IsStartOf start es → (ever setup start).made g ≤ (ever setup es).made g
+  made_grows g start [] is = let same = ap (λ (xs : List (Entry Op)). (ever setup xs).made g) is in omega (arith, same)
+  made_grows g start (e ∷ es) (inl is) = let same = ap (λ (xs : List (Entry Op)). (ever setup xs).made g) is in omega (arith, same)
   made_grows g start (e ∷ es) (inr is) =
       let before = made_grows g start es is in
-      let more = acted_no_fewer shapes g (ever shapes l pacing may es) (acts (started (processor_kind shapes l) e.begun (processor_at shapes l pacing may es e.actor)) e.found) in
-      let follows = ap (λ (v : Ever). v.made g) ((known.points shapes l).follows es e) in
+      let more = acted_no_fewer setup.shapes g (ever setup es) (acts (started (processor_kind setup.shapes setup.layout) e.begun (processor_at setup es e.actor)) e.found) in
+      let follows = ap (λ (v : Ever). v.made g) ((lists.known.points setup.shapes setup.layout).follows es e) in
       omega (arith, before, more, follows)
 
-  pub still_made : (start es : List (Entry Op)) → IsStartOf start es → (n : Name) → IsMade (ever shapes l pacing may start).made n → IsMade (ever shapes l pacing may es).made n
+  pub still_made : (start es : List (Entry Op)) → IsStartOf start es → (n : Name) → IsMade (ever setup start).made n → IsMade (ever setup es).made n
   still_made start es is n made = let more = made_grows n.g start es is in omega (arith, made, more)
 
   -- the objects that are marked where a cycle ends are so behind the store that ends it
-  module _ (d : Entry Op) (ds : List (Entry Op)) (legal : Legal (those shapes l pacing may) (d ∷ ds)) (k : ℕ) (x : IsStepIn shapes l pacing may IsEnding k d ds) (n : Name) where
+  module _ (d : Entry Op) (ds : List (Entry Op)) (legal : Legal (those setup) (d ∷ ds)) (k : ℕ) (x : IsStepIn setup IsEnding k d ds) (n : Name) where
     stores : (i : ℕ) × (d.ask ≡ Store cell.Gen i)
-    stores = let s = ends_by x.lead x.lead.stage x.stage in (s.0, asked_at shapes l pacing may known lists d ds legal x.lead x.led x.by x.lead.stage refl ∙ s.1)
+    stores = let s = ends_by x.lead x.lead.stage x.stage in (s.0, asked_at setup lists d ds (by_step setup IsEnding k d ds legal x) x.lead.stage refl ∙ s.1)
 
     abbrev Is : Words → Type 0
-    Is w = IsMarkedObject shapes l pacing may w n
+    Is w = IsMarkedObject setup w n
 
-    marked_then : Is (words shapes l pacing may (d ∷ ds)) → Is (words shapes l pacing may ds)
-    marked_then i = subst (λ (q : Ask). Is (effect (words shapes l pacing may ds) q)) stores.1 i
+    marked_then : Is (words setup (d ∷ ds)) → Is (words setup ds)
+    marked_then i = subst (λ (q : Ask). Is (effect (words setup ds) q)) stores.1 i
 
-    marked_now : Is (words shapes l pacing may ds) → Is (words shapes l pacing may (d ∷ ds))
-    marked_now i = subst (λ (q : Ask). Is (effect (words shapes l pacing may ds) q)) (sym stores.1) i
+    marked_now : Is (words setup ds) → Is (words setup (d ∷ ds))
+    marked_now i = subst (λ (q : Ask). Is (effect (words setup ds) q)) (sym stores.1) i
 
-    ever_then : ever shapes l pacing may (d ∷ ds) ≡ ever shapes l pacing may ds
-    ever_then = ever_stays shapes l pacing may known.points d ds legal (from shapes l pacing may known lists d ds legal x.lead x.led x.by)
+    ever_then : ever setup (d ∷ ds) ≡ ever setup ds
+    ever_then = ever_stays setup lists.known.points d ds legal (from setup lists d ds (by_step setup IsEnding k d ds legal x))
 
   -- What stands once a cycle is swept was marked where it ended, if it had been made by then; so, if it had been made where the cycle began, a script reached it there.
-  module _ (es : List (Entry Op)) (legal : Legal (those shapes l pacing may) es) (c : Coordinating) (j : IsTold shapes l pacing may es c) (ends : EndsAllMarked shapes l pacing may es) where
+  module _ (es : List (Entry Op)) (legal : Legal (those setup) es) (c : Coordinating) (j : IsTold setup es c) (ends : EndsAllMarked setup es) where
     abbrev here : State
     here = j.quiet.has.state
 
-    abbrev so : EndedSo shapes l pacing may es c.begun here
+    abbrev so : EndedSo setup es c.begun here
     so = j.behind.ended
 
     pub swept : AreSwept here
-    swept = known.walkers.all z here j.quiet.has.good j.quiet.passed
+    swept = lists.known.walkers.all z here j.quiet.has.good j.quiet.passed
 
     pub all_told : AllIsTold here
-    all_told = known.swept z here j.quiet.has.good j.quiet.over swept
+    all_told = lists.known.swept z here j.quiet.has.good j.quiet.over swept
 
-    module _ (n : Name) (made : IsMade (ever shapes l pacing may so.ended).made n) (a : ℕ) (at : IsPlacedAt (words shapes l pacing may es) n a) where
+    module _ (n : Name) (made : IsMade (ever setup so.ended).made n) (a : ℕ) (at : IsPlacedAt (words setup es) n a) where
       -- no other name stands there
-      one_name : (m : Name) → m.k < 2 ^ 32 → IsPlacedAt (words shapes l pacing may es) m a → m ≡ n
+      one_name : (m : Name) → m.k < 2 ^ 32 → IsPlacedAt (words setup es) m a → m ≡ n
       one_name m few there =
           let made_here : IsMade here.heap.ever.made n = subst (λ (v : Ever). IsMade v.made n) (sym j.quiet.has.of_list.ever_is) (so.made n made) in
           same_name m n few (few_there z (view here.heap) j.quiet.has.good.heap n made_here) (sym there.says ∙ at.says)
 
       set_at : row_bit (marks_at here.end) a ≡ 1
       set_at = go (so.since a (all_told.objects a (subst (λ (w : Words). row_bit (alloc_words w) a ≡ 1) (sym j.quiet.has.of_list.words_are) at.set)) at.set) where
-        go : (row_bit (marks_at here.end) a ≡ 1) ⊎ IsNewThere shapes l pacing may so.ended es a → row_bit (marks_at here.end) a ≡ 1
+        go : (row_bit (marks_at here.end) a ≡ 1) ⊎ IsNewThere setup so.ended es a → row_bit (marks_at here.end) a ≡ 1
         go (inl x) = x
-        go (inr x) = absurd (x.not_yet (subst (λ (m : Name). IsMade (ever shapes l pacing may so.ended).made m) (sym (one_name x.name x.few x.placed)) made))
+        go (inr x) = absurd (x.not_yet (subst (λ (m : Name). IsMade (ever setup so.ended).made m) (sym (one_name x.name x.few x.placed)) made))
 
-      marked_there : IsMarkedObject shapes l pacing may (words shapes l pacing may so.ended) n
+      marked_there : IsMarkedObject setup (words setup so.ended) n
       marked_there = (a, so.stood n a made at, ap (λ (r : Row). row_bit r a) (sym so.marks) ∙ set_at)
 
     -- the list where it began, by that where it ended
-    began_in : (ended : List (Entry Op)) → IsStartOf ended es → EndsCycle shapes l pacing may c.begun ended → (begun : List (Entry Op)) → IsStartOf begun es → BeginsCycle shapes l pacing may c.begun begun → IsStartOf begun ended
+    began_in : (ended : List (Entry Op)) → IsStartOf ended es → EndsCycle setup c.begun ended → (begun : List (Entry Op)) → IsStartOf begun es → BeginsCycle setup c.begun begun → IsStartOf begun ended
     began_in [] start step begun of_begun begins = absurd step
     began_in (d ∷ ds) start step begun of_begun begins =
         let m = ends d ds c.begun start step in
-        let one : m.begun ≡ begun = begins_once shapes l pacing may known lists c.begun m.begun begun es legal (start_of_start m.begun (d ∷ ds) es (inr m.start) start) of_begun (subst (λ (i : ℕ). BeginsCycle shapes l pacing may i m.begun) step.cycle m.begins) begins in
+        let one : m.begun ≡ begun = begins_once setup lists c.begun m.begun begun es legal (start_of_start m.begun (d ∷ ds) es (inr m.start) start) of_begun (subst (λ (i : ℕ). BeginsCycle setup i m.begun) step.cycle m.begins) begins in
         subst (λ (ys : List (Entry Op)). IsStartOf ys (d ∷ ds)) one (inr m.start)
 
-    by_end : (ended : List (Entry Op)) → IsStartOf ended es → EndsCycle shapes l pacing may c.begun ended → (begun : List (Entry Op)) → IsStartOf begun es → BeginsCycle shapes l pacing may c.begun begun → (n : Name) → IsMade (ever shapes l pacing may begun).made n → IsMarkedObject shapes l pacing may (words shapes l pacing may ended) n → Reach (ever shapes l pacing may begun) n
+    by_end : (ended : List (Entry Op)) → IsStartOf ended es → EndsCycle setup c.begun ended → (begun : List (Entry Op)) → IsStartOf begun es → BeginsCycle setup c.begun begun → (n : Name) → IsMade (ever setup begun).made n → IsMarkedObject setup (words setup ended) n → Reach (ever setup begun) n
     by_end [] start step begun of_begun begins n made set = absurd step
     by_end (d ∷ ds) start step begun of_begun begins n made set =
-        let legal_d = legal_start (those shapes l pacing may) (d ∷ ds) es start legal in
+        let legal_d = legal_start (those setup) (d ∷ ds) es start legal in
         let m = ends d ds c.begun start step in
-        let one : m.begun ≡ begun = begins_once shapes l pacing may known lists c.begun m.begun begun es legal (start_of_start m.begun (d ∷ ds) es (inr m.start) start) of_begun (subst (λ (i : ℕ). BeginsCycle shapes l pacing may i m.begun) step.cycle m.begins) begins in
-        let there : IsMade (ever shapes l pacing may m.begun).made n = subst (λ (ys : List (Entry Op)). IsMade (ever shapes l pacing may ys).made n) (sym one) made in
-        subst (λ (ys : List (Entry Op)). Reach (ever shapes l pacing may ys) n) one (m.marked n there (marked_then d ds legal_d c.begun step n set))
+        let one : m.begun ≡ begun = begins_once setup lists c.begun m.begun begun es legal (start_of_start m.begun (d ∷ ds) es (inr m.start) start) of_begun (subst (λ (i : ℕ). BeginsCycle setup i m.begun) step.cycle m.begins) begins in
+        let there : IsMade (ever setup m.begun).made n = subst (λ (ys : List (Entry Op)). IsMade (ever setup ys).made n) (sym one) made in
+        subst (λ (ys : List (Entry Op)). Reach (ever setup ys) n) one (m.marked n there (marked_then d ds legal_d c.begun step n set))
 
-    pub marked_were : (begun : List (Entry Op)) → IsStartOf begun es → BeginsCycle shapes l pacing may c.begun begun → (n : Name) → IsMade (ever shapes l pacing may begun).made n → (a : ℕ) → IsPlacedAt (words shapes l pacing may es) n a → Reach (ever shapes l pacing may begun) n
+    pub marked_were : (begun : List (Entry Op)) → IsStartOf begun es → BeginsCycle setup c.begun begun → (n : Name) → IsMade (ever setup begun).made n → (a : ℕ) → IsPlacedAt (words setup es) n a → Reach (ever setup begun) n
     marked_were begun of_begun begins n made a at = by_end so.ended so.start so.ends begun of_begun begins n made (marked_there n (still_made begun so.ended (began_in so.ended so.start so.ends begun of_begun begins) n made) a at)
 
   -- Where the coordinator is done.
-  module _ (es : List (Entry Op)) (legal : Legal (those shapes l pacing may) es) (c : Coordinating) (led : IsLed shapes l pacing may es c) (done : c.stage ≡ Done) (j : IsTold shapes l pacing may es c) (ends : EndsAllMarked shapes l pacing may es) where
-    abbrev has : HasState shapes l pacing may es
+  module _ (es : List (Entry Op)) (legal : Legal (those setup) es) (c : Coordinating) (led : IsLed setup es c) (done : c.stage ≡ Done) (j : IsTold setup es c) (ends : EndsAllMarked setup es) where
+    abbrev has : HasState setup es
     has = j.quiet.has
 
     abbrev h : Heap
@@ -161,72 +162,72 @@ module _ (shapes : List Shape) (l : Layout) (pacing : Pacing) (may : ℕ → Lis
         let lead_is : shakes.lead ≡ leading.lead_of c = cc in
         shakes.led.last_is ∙ (ap (λ (x : Lead). last_of x.post) lead_is ∙ ap (λ (p : CoordStage). last_of (leading.post_at p)) done)
 
-    module _ (a : ℕ) (lt : a < l.procs) where
-      gone : stage_of (processor_at shapes l pacing may es a) ≡ Gone
+    module _ (a : ℕ) (lt : a < setup.layout.procs) where
+      gone : stage_of (processor_at setup es a) ≡ Gone
       gone =
           let keeps = lists.keeps es legal in
-          let there = ap place_of (runs_are shapes l pacing may es a lt) in
-          (keeps.shakes.gone a (party_of (processor_at shapes l pacing may es a)) (stage_of (processor_at shapes l pacing may es a)) (omega (arith, lt)) there).0 (keeps.processors_left a lt finished)
+          let there = ap place_of (runs_are setup es a lt) in
+          (keeps.shakes.gone a (party_of (processor_at setup es a)) (stage_of (processor_at setup es a)) (omega (arith, lt)) there).0 (keeps.processors_left a lt finished)
 
-      left_there : is_last_task (processor_at shapes l pacing may es a).task ≡ true
-      left_there = has_left (processor_at shapes l pacing may es a).poll (processor_at shapes l pacing may es a).task gone
+      left_there : is_last_task (processor_at setup es a).task ≡ true
+      left_there = has_left (processor_at setup es a).poll (processor_at setup es a).task gone
 
-      pub all_ended : (g : ℕ) → IsOf z a g → (ever shapes l pacing may es).ended g ≡ true
+      pub all_ended : (g : ℕ) → IsOf z a g → (ever setup es).ended g ≡ true
       all_ended g its = subst (λ (v : Ever). v.ended g ≡ true) has.of_list.ever_is ((has.of_list.processors a lt).left left_there g its)
 
-    over : (g : ℕ) → g < l.goroutines → (ever shapes l pacing may es).ended g ≡ true
-    over g lt = all_ended (g % l.procs) (mod_below g l.procs (let some = limits.procs_fit.0 in omega (arith, some))) g (lt, refl)
+    over : (g : ℕ) → g < setup.layout.goroutines → (ever setup es).ended g ≡ true
+    over g lt = all_ended (g % setup.layout.procs) (mod_below g setup.layout.procs (let some = lists.limits.procs_fit.0 in omega (arith, some))) g (lt, refl)
 
     -- it was the last
     was_last : c.is_last ≡ true
     was_last =
-        let sound = subst (ActorSound l) led ((lists.keeps es legal).shakes.all_sound (acks_of l) (omega arith)) in
+        let sound = subst (ActorSound setup.layout) led ((lists.keeps es legal).shakes.all_sound (acks_of setup.layout) (omega arith)) in
         subst (leading.SoundAt c) done sound.1.1
 
     -- the last cycle has changed no value
-    same_ever : ever shapes l pacing may es ≡ ever shapes l pacing may j.behind.cycle.begun
+    same_ever : ever setup es ≡ ever setup j.behind.cycle.begun
     same_ever = j.behind.cycle.last c led was_last
 
     -- nothing has changed since its marking ended
-    unchanged : (ended : List (Entry Op)) → IsStartOf ended es → EndsCycle shapes l pacing may c.begun ended → ever shapes l pacing may es ≡ ever shapes l pacing may ended
+    unchanged : (ended : List (Entry Op)) → IsStartOf ended es → EndsCycle setup c.begun ended → ever setup es ≡ ever setup ended
     unchanged ended start x =
-        let one : ended ≡ j.behind.ended.ended = ends_once shapes l pacing may known lists c.begun ended j.behind.ended.ended es legal start j.behind.ended.start x j.behind.ended.ends in
-        (j.behind.ended.last c led was_last).0 ∙ sym (ap (ever shapes l pacing may) one)
+        let one : ended ≡ j.behind.ended.ended = ends_once setup lists c.begun ended j.behind.ended.ended es legal start j.behind.ended.start x j.behind.ended.ends in
+        (j.behind.ended.last c led was_last).0 ∙ sym (ap (ever setup) one)
 
-    module _ (n : Name) (made : IsMade (ever shapes l pacing may es).made n) where
-      made_then : IsMade (ever shapes l pacing may j.behind.cycle.begun).made n
+    module _ (n : Name) (made : IsMade (ever setup es).made n) where
+      made_then : IsMade (ever setup j.behind.cycle.begun).made n
       made_then = subst (λ (v : Ever). IsMade v.made n) same_ever made
 
-      stands : ((a : ℕ) × IsPlacedAt (words shapes l pacing may es) n a) → Reach (ever shapes l pacing may es) n
+      stands : ((a : ℕ) × IsPlacedAt (words setup es) n a) → Reach (ever setup es) n
       stands (a, at) = subst (λ (v : Ever). Reach v n) (sym same_ever) (marked_were es legal c j ends j.behind.cycle.begun j.behind.cycle.start j.behind.cycle.begins n made_then a at)
 
-      is_left : Reach (ever shapes l pacing may es) n → ((a : ℕ) × IsPlacedAt (words shapes l pacing may es) n a)
+      is_left : Reach (ever setup es) n → ((a : ℕ) × IsPlacedAt (words setup es) n a)
       is_left r =
           let p = has.good.heap.reached n (subst (λ (v : Ever). Reach v n) (sym has.of_list.ever_is) r) in
           (h.place n, subst (λ (w : Words). Placed (alloc_words w) (birth_words w) (λ m. h.place n) n) has.of_list.words_are (record { set = p.set; says = p.says }))
 
       -- the last cycle's
-      marked_at : (ended : List (Entry Op)) → IsStartOf ended es → EndsCycle shapes l pacing may c.begun ended → ever shapes l pacing may es ≡ ever shapes l pacing may ended → IsMarkedObject shapes l pacing may (words shapes l pacing may ended) n ↔ Reach (ever shapes l pacing may es) n
+      marked_at : (ended : List (Entry Op)) → IsStartOf ended es → EndsCycle setup c.begun ended → ever setup es ≡ ever setup ended → IsMarkedObject setup (words setup ended) n ↔ Reach (ever setup es) n
       marked_at [] start x same = absurd x
       marked_at (d ∷ ds) start x same =
-          let legal_d = legal_start (those shapes l pacing may) (d ∷ ds) es start legal in
+          let legal_d = legal_start (those setup) (d ∷ ds) es start legal in
           let same_d = same ∙ ever_then d ds legal_d c.begun x n in (
             (λ i. subst (λ (v : Ever). Reach v n) (sym same_ever) (by_end es legal c j ends (d ∷ ds) start x j.behind.cycle.begun j.behind.cycle.start j.behind.cycle.begins n made_then i)),
             (λ r. marked_now d ds legal_d c.begun x n ((ends d ds c.begun start x).reached n (subst (λ (v : Ever). Reach v n) same_d r))),
           )
 
-      marked : (ended : List (Entry Op)) → IsStartOf ended es → EndsCycle shapes l pacing may c.begun ended → IsMarkedObject shapes l pacing may (words shapes l pacing may ended) n ↔ Reach (ever shapes l pacing may es) n
+      marked : (ended : List (Entry Op)) → IsStartOf ended es → EndsCycle setup c.begun ended → IsMarkedObject setup (words setup ended) n ↔ Reach (ever setup es) n
       marked ended start x = marked_at ended start x (unchanged ended start x)
 
     -- the bytes that were counted are those of the slots that are taken
-    live_is : c.live ≡ placed (alloc_words (words shapes l pacing may es)) (slot_row (page_words (words shapes l pacing may es))) (16 * l.pages)
+    live_is : c.live ≡ placed (alloc_words (words setup es)) (slot_row (page_words (words setup es))) (16 * setup.layout.pages)
     live_is =
-        let exact : CountsAreExact has.state.end h.words = known.told z has.state has.good j.quiet.over (swept es legal c j ends) (j.behind.ended.last c led was_last).1 in
-        let pages : has.state.end.layout.pages ≡ l.pages = ap (λ (y : Layout). y.pages) has.good.layout in
-        let told : h.words cell.Live ≡ placed (alloc_words h.words) (slot_row (page_words h.words)) (16 * l.pages) = subst (λ (i : ℕ). h.words cell.Live ≡ placed (alloc_words h.words) (slot_row (page_words h.words)) (16 * i)) pages exact.live in
-        j.live ∙ (sym (all_told es legal c j ends).live ∙ (told ∙ ap (λ (w : Words). placed (alloc_words w) (slot_row (page_words w)) (16 * l.pages)) has.of_list.words_are))
+        let exact : CountsAreExact has.state.end h.words = lists.known.told z has.state has.good j.quiet.over (swept es legal c j ends) (j.behind.ended.last c led was_last).1 in
+        let pages : has.state.end.layout.pages ≡ setup.layout.pages = ap (λ (y : Layout). y.pages) has.good.layout in
+        let told : h.words cell.Live ≡ placed (alloc_words h.words) (slot_row (page_words h.words)) (16 * setup.layout.pages) = subst (λ (i : ℕ). h.words cell.Live ≡ placed (alloc_words h.words) (slot_row (page_words h.words)) (16 * i)) pages exact.live in
+        j.live ∙ (sym (all_told es legal c j ends).live ∙ (told ∙ ap (λ (w : Words). placed (alloc_words w) (slot_row (page_words w)) (16 * setup.layout.pages)) has.of_list.words_are))
 
-    pub left_now : LeavesTheReached shapes l pacing may es c
+    pub left_now : LeavesTheReached setup es c
     left_now = record {
       over = over;
       left = λ n made. (stands n made, is_left n made);

@@ -18,13 +18,14 @@ use Rattle.gh_coord.specs.Telling as tell
 use Rattle.gh_coord.specs.Watching as watch
 use Rattle.gh_lists.specs.Lists.{IsTelling, SweepsCycle}
 use Rattle.gh_lists.specs.Starts.{legal_start, compared}
-use Rattle.gh_holds.proofs.Vocabulary.{acks_of, ahead_at, Ask, Check, Close, CloseStage, Coordinating, CoordStage, Count, CountStage, Done, effect, EndsCycle, Entry, generation_of, IsBeginning, IsEnding, IsLed, IsStartOf, Layout, Legal, LoadAck, nat_tests, Op, Open, opened_in, OpenStage, Pacing, part_of, Shape, Stop, StopAgain, StopStage, Sweep, SweepAllStage, Tell, TellStage, those, Watch, WatchStage, Words, words}
-use Rattle.gh_holds.specs.Known.{Known, ListsKnown}
-use Rattle.gh_holds.proofs.AllActors.LeadingSeat.{asked_at, goes_at as goes_by, led_then}
+use Rattle.gh_marked.proofs.Vocabulary.{acks_of, ahead_at, Ask, Check, Close, CloseStage, Coordinating, CoordStage, Count, CountStage, Done, effect, EndsCycle, Entry, generation_of, IsBeginning, IsEnding, IsLed, IsStartOf, Legal, LoadAck, nat_tests, Op, Open, opened_in, OpenStage, part_of, Stop, StopAgain, StopStage, Sweep, SweepAllStage, Tell, TellStage, those, Watch, WatchStage, Words, words}
+use Rattle.gh_marked.specs.Known.{ListsKnown}
+use Rattle.gh_holds.proofs.AllActors.LeadingSeat.{asked_at, by_step, ByLead, goes_at as goes_by, led_then}
 use Rattle.gh_holds.proofs.AllActors.LeadingSweep.{numbers_stay}
 use Rattle.gh_lists.specs.Seats.{other}
 use Rattle.gh_lists.specs.Counting.{rises}
 use Rattle.gh_lists.specs.Steps.{led_by}
+use Rattle.gh_lists.specs.Handshake.{Setup}
 
 -- The words of the generation and of the last swept cycle, by the coordinator's step: but for the two stores, they are as they were.
 
@@ -129,18 +130,18 @@ telling : (u : Coordinating) (p : CoordStage) (found : ℕ) → IsTelling p → 
 telling u (Tell t) found is = rw is (record { now = record { opened_is = refl; numbered_is = refl; ended_is = refl }; after = tells_numbered u t t.is_last; begun = tells_begun u t t.is_last })
 telling u _ found is = absurd is
 
-module _ (shapes : List Shape) (l : Layout) (pacing : Pacing) (may : ℕ → List (Entry Op) → Op → Bool) (known : Known) (lists : ListsKnown shapes l pacing may) where
+module _ (setup : Setup) (lists : ListsKnown setup) where
   abbrev Lawful : List (Entry Op) → Type 0
-  Lawful es = Legal (those shapes l pacing may) es
+  Lawful es = Legal (those setup) es
 
   abbrev Led : List (Entry Op) → Coordinating → Type 0
-  Led es c = IsLed shapes l pacing may es c
+  Led es c = IsLed setup es c
 
   abbrev swept : List (Entry Op) → ℕ
-  swept es = words shapes l pacing may es cell.Swept
+  swept es = words setup es cell.Swept
 
   abbrev gen : List (Entry Op) → ℕ
-  gen es = words shapes l pacing may es cell.Gen
+  gen es = words setup es cell.Gen
 
   -- the numbers at a list whose coordinator is at such a stage
   pub numbers_at : (es : List (Entry Op)) (c : Coordinating) (p : CoordStage) (opened numbered ended : ℕ) → Lawful es → Led es c → c.stage ≡ p → Numbered p opened numbered ended → (opened_in es ≡ swept es + opened) × (c.begun ≡ swept es + numbered) × (gen es ≡ generation_of (swept es + ended))
@@ -157,27 +158,27 @@ module _ (shapes : List Shape) (l : Layout) (pacing : Pacing) (may : ℕ → Lis
     pub gen_up : gen es ≤ gen then
 
   -- A step of the coordinator at such a stage.
-  module _ (e : Entry Op) (es : List (Entry Op)) (legal : Lawful (e ∷ es)) (c : Coordinating) (led : Led es c) (by : e.actor ≡ acks_of l) where
+  module _ (e : Entry Op) (es : List (Entry Op)) (by : ByLead setup e es) where
     abbrev u : Coordinating
-    u = coord.counted c
+    u = coord.counted by.lead
 
-    led_at : (p : CoordStage) → c.stage ≡ p → Led (e ∷ es) (coord.goes_at u p e.found)
-    led_at p is = subst (Led (e ∷ es)) (goes_by shapes l pacing may known lists e es legal c led by p is) (led_then shapes l pacing may known lists e es legal c led by)
+    led_at : (p : CoordStage) → by.lead.stage ≡ p → Led (e ∷ es) (coord.goes_at u p e.found)
+    led_at p is = subst (Led (e ∷ es)) (goes_by setup lists e es by p is) (led_then setup lists e es by)
 
     more : opened_in es ≤ opened_in (e ∷ es)
     more = rises e.ask (opened_in es)
 
     -- where it ends a cycle
     pub record Ended : Type 0 where
-      pub gen_before : gen es + 2 ≡ generation_of c.begun
-      pub gen_then : gen (e ∷ es) ≡ generation_of c.begun
+      pub gen_before : gen es + 2 ≡ generation_of by.lead.begun
+      pub gen_then : gen (e ∷ es) ≡ generation_of by.lead.begun
       pub up : Rises es (e ∷ es)
 
-    pub ends_it : IsEnding c.stage → Ended
+    pub ends_it : IsEnding by.lead.stage → Ended
     ends_it is =
-        let x = ending u c.stage e.found is in
-        let a = numbers_at es c c.stage 1 1 0 legal.0 led refl x.now in
-        let b = numbers_at (e ∷ es) (coord.goes_at u c.stage e.found) (coord.goes_at u c.stage e.found).stage 1 1 1 legal (led_at c.stage refl) refl x.after in
+        let x = ending u by.lead.stage e.found is in
+        let a = numbers_at es by.lead by.lead.stage 1 1 0 by.legal.0 by.led refl x.now in
+        let b = numbers_at (e ∷ es) (coord.goes_at u by.lead.stage e.found) (coord.goes_at u by.lead.stage e.found).stage 1 1 1 by.legal (led_at by.lead.stage refl) refl x.after in
         let same = x.begun in
         let m = more in
         let a0 = a.0 in
@@ -194,14 +195,14 @@ module _ (shapes : List Shape) (l : Layout) (pacing : Pacing) (may : ℕ → Lis
 
     -- where it tells that one is swept
     pub record Told : Type 0 where
-      pub swept_then : c.begun ≤ swept (e ∷ es)
+      pub swept_then : by.lead.begun ≤ swept (e ∷ es)
       pub up : Rises es (e ∷ es)
 
-    pub tells_it : IsTelling c.stage → Told
+    pub tells_it : IsTelling by.lead.stage → Told
     tells_it is =
-        let x = telling u c.stage e.found is in
-        let a = numbers_at es c c.stage 1 1 1 legal.0 led refl x.now in
-        let b = numbers_at (e ∷ es) (coord.goes_at u c.stage e.found) (coord.goes_at u c.stage e.found).stage 0 0 0 legal (led_at c.stage refl) refl x.after in
+        let x = telling u by.lead.stage e.found is in
+        let a = numbers_at es by.lead by.lead.stage 1 1 1 by.legal.0 by.led refl x.now in
+        let b = numbers_at (e ∷ es) (coord.goes_at u by.lead.stage e.found) (coord.goes_at u by.lead.stage e.found).stage 0 0 0 by.legal (led_at by.lead.stage refl) refl x.after in
         let m = more in
         let a0 = a.0 in
         let a1 = a.1 in
@@ -214,20 +215,20 @@ module _ (shapes : List Shape) (l : Layout) (pacing : Pacing) (may : ℕ → Lis
         }
 
     pub lead_rises : Rises es (e ∷ es)
-    lead_rises = go (keeps_at (words shapes l pacing may es) c c.stage) where
-      go : IsEnding c.stage ⊎ (IsTelling c.stage ⊎ Keeps (words shapes l pacing may es) (coord.asks_at c c.stage)) → Rises es (e ∷ es)
+    lead_rises = go (keeps_at (words setup es) by.lead by.lead.stage) where
+      go : IsEnding by.lead.stage ⊎ (IsTelling by.lead.stage ⊎ Keeps (words setup es) (coord.asks_at by.lead by.lead.stage)) → Rises es (e ∷ es)
       go (inl is) = (ends_it is).up
       go (inr (inl is)) = (tells_it is).up
       go (inr (inr k)) =
-          let asked : e.ask ≡ coord.asks_at c c.stage = asked_at shapes l pacing may known lists e es legal c led by c.stage refl in
-          let s : swept (e ∷ es) ≡ swept es = ap (λ (q : Ask). effect (words shapes l pacing may es) q cell.Swept) asked ∙ k.0 in
-          let g : gen (e ∷ es) ≡ gen es = ap (λ (q : Ask). effect (words shapes l pacing may es) q cell.Gen) asked ∙ k.1 in
+          let asked : e.ask ≡ coord.asks_at by.lead by.lead.stage = asked_at setup lists e es by by.lead.stage refl in
+          let s : swept (e ∷ es) ≡ swept es = ap (λ (q : Ask). effect (words setup es) q cell.Swept) asked ∙ k.0 in
+          let g : gen (e ∷ es) ≡ gen es = ap (λ (q : Ask). effect (words setup es) q cell.Gen) asked ∙ k.1 in
           record { swept_up = omega (arith, s); gen_up = omega (arith, g) }
 
   -- a step of another leaves the coordinator
-  other_rises : (e : Entry Op) (es : List (Entry Op)) → Lawful (e ∷ es) → (c : Coordinating) → Led es c → (e.actor == acks_of l) ≡ false → Rises es (e ∷ es)
+  other_rises : (e : Entry Op) (es : List (Entry Op)) → Lawful (e ∷ es) → (c : Coordinating) → Led es c → (e.actor == acks_of setup.layout) ≡ false → Rises es (e ∷ es)
   other_rises e es legal c led x =
-      let there : Led (e ∷ es) c = other shapes l pacing e es (acks_of l) x ∙ led in
+      let there : Led (e ∷ es) c = other setup e es (acks_of setup.layout) x ∙ led in
       let a = lists.counts es c legal.0 led in
       let b = lists.counts (e ∷ es) c legal there in
       let a0 = a.opened in
@@ -238,10 +239,10 @@ module _ (shapes : List Shape) (l : Layout) (pacing : Pacing) (may : ℕ → Lis
       record { swept_up = omega (arith, a0, b0, m); gen_up = omega (arith, a0, b0, m, a2, b2) }
 
   one_rises : (e : Entry Op) (es : List (Entry Op)) → Lawful (e ∷ es) → Rises es (e ∷ es)
-  one_rises e es legal = go (e.actor == acks_of l) refl where
-    go : (b : Bool) → (e.actor == acks_of l) ≡ b → Rises es (e ∷ es)
-    go true x = let y = led_by shapes l pacing may es in lead_rises e es legal y.lead y.led_by (grind (arith, nat_tests))
-    go false x = let y = led_by shapes l pacing may es in other_rises e es legal y.lead y.led_by x
+  one_rises e es legal = go (e.actor == acks_of setup.layout) refl where
+    go : (b : Bool) → (e.actor == acks_of setup.layout) ≡ b → Rises es (e ∷ es)
+    go true x = let y = led_by setup es in lead_rises e es (record { legal = legal; lead = y.lead; led = y.led_by; seat = grind (arith, nat_tests) })
+    go false x = let y = led_by setup es in other_rises e es legal y.lead y.led_by x
 
   same_rises : (es : List (Entry Op)) → Rises es es
   same_rises es = record { swept_up = omega arith; gen_up = omega arith }
@@ -259,10 +260,10 @@ module _ (shapes : List Shape) (l : Layout) (pacing : Pacing) (may : ℕ → Lis
       record { swept_up = omega (arith, a, b); gen_up = omega (arith, c, d) }
 
   -- where a cycle is about to begin, none of its number is swept yet
-  pub fresh : (k : ℕ) (es swept_by : List (Entry Op)) (c : Coordinating) → Lawful es → Led es c → IsBeginning c.stage → c.begun ≡ k → IsStartOf swept_by es → SweepsCycle shapes l pacing may k swept_by → ⊥
+  pub fresh : (k : ℕ) (es swept_by : List (Entry Op)) (c : Coordinating) → Lawful es → Led es c → IsBeginning c.stage → c.begun ≡ k → IsStartOf swept_by es → SweepsCycle setup k swept_by → ⊥
   fresh k es [] c legal led at is start sweeps = sweeps
   fresh k es (d ∷ ds) c legal led at is start sweeps =
-      let told = tells_it d ds (legal_start (those shapes l pacing may) (d ∷ ds) es start legal) sweeps.lead sweeps.led sweeps.by sweeps.stage in
+      let told = tells_it d ds (by_step setup IsTelling k d ds (legal_start (those setup) (d ∷ ds) es start legal) sweeps) sweeps.stage in
       let up = (start_rises (d ∷ ds) es start legal).swept_up in
       let n = (numbers_at es c c.stage 1 1 0 legal led refl (beginning c.stage at)).1 in
       let t = told.swept_then in
@@ -270,10 +271,10 @@ module _ (shapes : List Shape) (l : Layout) (pacing : Pacing) (may : ℕ → Lis
       absurd (omega (arith, up, n, t, i, is))
 
   -- a cycle ends once
-  ends_before : (k : ℕ) (d f : Entry Op) (ds fs : List (Entry Op)) → Lawful (f ∷ fs) → EndsCycle shapes l pacing may k (d ∷ ds) → EndsCycle shapes l pacing may k (f ∷ fs) → IsStartOf (d ∷ ds) fs → ⊥
+  ends_before : (k : ℕ) (d f : Entry Op) (ds fs : List (Entry Op)) → Lawful (f ∷ fs) → EndsCycle setup k (d ∷ ds) → EndsCycle setup k (f ∷ fs) → IsStartOf (d ∷ ds) fs → ⊥
   ends_before k d f ds fs legal x y start =
-      let a = ends_it d ds (legal_start (those shapes l pacing may) (d ∷ ds) fs start legal.0) x.lead x.led x.by x.stage in
-      let b = ends_it f fs legal y.lead y.led y.by y.stage in
+      let a = ends_it d ds (by_step setup IsEnding k d ds (legal_start (those setup) (d ∷ ds) fs start legal.0) x) x.stage in
+      let b = ends_it f fs (by_step setup IsEnding k f fs legal y) y.stage in
       let up = (start_rises (d ∷ ds) fs start legal.0).gen_up in
       let a2 = a.gen_then in
       let b2 = b.gen_before in
@@ -281,14 +282,14 @@ module _ (shapes : List Shape) (l : Layout) (pacing : Pacing) (may : ℕ → Lis
       let j = y.cycle in
       absurd (omega (arith, up, a2, b2, i, j))
 
-  ends_at : (k : ℕ) (first second : List (Entry Op)) → Lawful second → EndsCycle shapes l pacing may k first → EndsCycle shapes l pacing may k second → IsStartOf first second → first ≡ second
+  ends_at : (k : ℕ) (first second : List (Entry Op)) → Lawful second → EndsCycle setup k first → EndsCycle setup k second → IsStartOf first second → first ≡ second
   ends_at k [] second legal x y start = absurd x
   ends_at k (d ∷ ds) [] legal x y start = absurd y
   ends_at k (d ∷ ds) (f ∷ fs) legal x y (inl is) = is
   ends_at k (d ∷ ds) (f ∷ fs) legal x y (inr is) = absurd (ends_before k d f ds fs legal x y is)
 
-  pub ends_once : (k : ℕ) (first second es : List (Entry Op)) → Lawful es → IsStartOf first es → IsStartOf second es → EndsCycle shapes l pacing may k first → EndsCycle shapes l pacing may k second → first ≡ second
+  pub ends_once : (k : ℕ) (first second es : List (Entry Op)) → Lawful es → IsStartOf first es → IsStartOf second es → EndsCycle setup k first → EndsCycle setup k second → first ≡ second
   ends_once k first second es legal of_first of_second x y = go (compared first second es of_first of_second) where
     go : IsStartOf first second ⊎ IsStartOf second first → first ≡ second
-    go (inl s) = ends_at k first second (legal_start (those shapes l pacing may) second es of_second legal) x y s
-    go (inr s) = sym (ends_at k second first (legal_start (those shapes l pacing may) first es of_first legal) y x s)
+    go (inl s) = ends_at k first second (legal_start (those setup) second es of_second legal) x y s
+    go (inr s) = sym (ends_at k second first (legal_start (those setup) first es of_first legal) y x s)

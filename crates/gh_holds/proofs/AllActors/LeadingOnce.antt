@@ -11,13 +11,14 @@ use Rattle.gh_coord.specs.Telling as tell
 use Rattle.gh_coord.specs.Watching as watch
 use Rattle.gh_lists.specs.Lists.{BeginsCycle}
 use Rattle.gh_lists.specs.Starts.{legal_start, compared}
-use Rattle.gh_holds.proofs.Vocabulary.{acks_of, All, Ask, Check, Close, Coordinating, CoordStage, Count, Counted, Done, Entry, IsBeginning, IsLed, IsStartOf, Layout, Legal, LoadAck, LoadWant, MarkOn, nat_tests, NotYet, Op, Open, opened_after, opened_in, OpenStage, Pacing, Shape, Stop, StopAgain, Sweep, Tell, those, Watch, Watched}
-use Rattle.gh_holds.specs.Known.{Known, ListsKnown}
+use Rattle.gh_marked.proofs.Vocabulary.{acks_of, All, Ask, Check, Close, Coordinating, CoordStage, Count, Counted, Done, Entry, IsBeginning, IsLed, IsStartOf, Legal, LoadAck, LoadWant, MarkOn, nat_tests, NotYet, Op, Open, opened_after, opened_in, OpenStage, Stop, StopAgain, Sweep, Tell, those, Watch, Watched}
+use Rattle.gh_marked.specs.Known.{ListsKnown}
 use Rattle.gh_holds.proofs.AllActors.LeadingNumbers.{beginning, numbers_at}
-use Rattle.gh_holds.proofs.AllActors.LeadingSeat.{asked_at, busy, goes_at as goes_by, led_then}
+use Rattle.gh_holds.proofs.AllActors.LeadingSeat.{asked_at, busy, by_step, ByLead, goes_at as goes_by, led_then}
 use Rattle.gh_lists.specs.Seats.{other}
 use Rattle.gh_lists.specs.Counting.{rises}
 use Rattle.gh_lists.specs.Steps.{led_by}
+use Rattle.gh_lists.specs.Handshake.{Setup}
 
 -- it opens no cycle, but may be about to clear the request for one
 abbrev IsToClear : OpenStage → Type 0
@@ -108,12 +109,12 @@ not_past : (p : CoordStage) → IsBeginning p → IsPast p → ⊥
 not_past (Open o) is past = subst IsToClear is past
 not_past _ is past = is
 
-module _ (shapes : List Shape) (l : Layout) (pacing : Pacing) (may : ℕ → List (Entry Op) → Op → Bool) (known : Known) (lists : ListsKnown shapes l pacing may) where
+module _ (setup : Setup) (lists : ListsKnown setup) where
   abbrev Lawful : List (Entry Op) → Type 0
-  Lawful es = Legal (those shapes l pacing may) es
+  Lawful es = Legal (those setup) es
 
   abbrev Led : List (Entry Op) → Coordinating → Type 0
-  Led es c = IsLed shapes l pacing may es c
+  Led es c = IsLed setup es c
 
   -- so many cycles were opened before, and as long as no more are the coordinator is past the opening
   record PastSince (opened : ℕ) (es : List (Entry Op)) : Type 0 where
@@ -128,24 +129,24 @@ module _ (shapes : List Shape) (l : Layout) (pacing : Pacing) (may : ℕ → Lis
     up : opened_in es ≤ opened_in (e ∷ es)
     up = rises e.ask (opened_in es)
 
-    past_by_lead : (c : Coordinating) → Led es c → e.actor ≡ acks_of l → opened_in (e ∷ es) ≡ opened → (d : Coordinating) → Led (e ∷ es) d → IsPast d.stage
-    past_by_lead c led by same d led_d =
-        let then : Led (e ∷ es) (coord.goes_at (coord.counted c) c.stage e.found) = subst (Led (e ∷ es)) (goes_by shapes l pacing may known lists e es legal c led by c.stage refl) (led_then shapes l pacing may known lists e es legal c led by) in
-        subst (λ (x : Coordinating). IsPast x.stage) (one_led (e ∷ es) (coord.goes_at (coord.counted c) c.stage e.found) d then led_d) (go (stays_past (coord.counted c) c c.stage e.found (busy shapes l pacing may known lists e es legal c led by) (p.past before c led))) where
+    past_by_lead : ByLead setup e es → opened_in (e ∷ es) ≡ opened → (d : Coordinating) → Led (e ∷ es) d → IsPast d.stage
+    past_by_lead by same d led_d =
+        let then : Led (e ∷ es) (coord.goes_at (coord.counted by.lead) by.lead.stage e.found) = subst (Led (e ∷ es)) (goes_by setup lists e es by by.lead.stage refl) (led_then setup lists e es by) in
+        subst (λ (x : Coordinating). IsPast x.stage) (one_led (e ∷ es) (coord.goes_at (coord.counted by.lead) by.lead.stage e.found) d then led_d) (go (stays_past (coord.counted by.lead) by.lead by.lead.stage e.found (busy setup lists e es by) (p.past before by.lead by.led))) where
           before : opened_in es ≡ opened
           before = let a = up in let b = p.least in omega (arith, a, b, same)
 
-          go : IsPast (coord.goes_at (coord.counted c) c.stage e.found).stage ⊎ ((n : ℕ) → opened_after (coord.asks_at c c.stage) n ≡ suc n) → IsPast (coord.goes_at (coord.counted c) c.stage e.found).stage
+          go : IsPast (coord.goes_at (coord.counted by.lead) by.lead.stage e.found).stage ⊎ ((n : ℕ) → opened_after (coord.asks_at by.lead by.lead.stage) n ≡ suc n) → IsPast (coord.goes_at (coord.counted by.lead) by.lead.stage e.found).stage
           go (inl x) = x
-          go (inr more) = absurd (let x : opened_in (e ∷ es) ≡ suc (opened_in es) = ap (λ (q : Ask). opened_after q (opened_in es)) (asked_at shapes l pacing may known lists e es legal c led by c.stage refl) ∙ more (opened_in es) in let y = before in omega (arith, x, y, same))
+          go (inr more) = absurd (let x : opened_in (e ∷ es) ≡ suc (opened_in es) = ap (λ (q : Ask). opened_after q (opened_in es)) (asked_at setup lists e es by by.lead.stage refl) ∙ more (opened_in es) in let y = before in omega (arith, x, y, same))
 
-    past_by_other : (e.actor == acks_of l) ≡ false → opened_in (e ∷ es) ≡ opened → (d : Coordinating) → Led (e ∷ es) d → IsPast d.stage
-    past_by_other x same d led_d = p.past (let a = up in let b = p.least in omega (arith, a, b, same)) d (sym (other shapes l pacing e es (acks_of l) x) ∙ led_d)
+    past_by_other : (e.actor == acks_of setup.layout) ≡ false → opened_in (e ∷ es) ≡ opened → (d : Coordinating) → Led (e ∷ es) d → IsPast d.stage
+    past_by_other x same d led_d = p.past (let a = up in let b = p.least in omega (arith, a, b, same)) d (sym (other setup e es (acks_of setup.layout) x) ∙ led_d)
 
     past_on : PastSince opened (e ∷ es)
-    past_on = record { least = (let a = up in let b = p.least in omega (arith, a, b)); past = go (e.actor == acks_of l) refl } where
-      go : (b : Bool) → (e.actor == acks_of l) ≡ b → opened_in (e ∷ es) ≡ opened → (d : Coordinating) → Led (e ∷ es) d → IsPast d.stage
-      go true x = let y = led_by shapes l pacing may es in past_by_lead y.lead y.led_by (grind (arith, nat_tests))
+    past_on = record { least = (let a = up in let b = p.least in omega (arith, a, b)); past = go (e.actor == acks_of setup.layout) refl } where
+      go : (b : Bool) → (e.actor == acks_of setup.layout) ≡ b → opened_in (e ∷ es) ≡ opened → (d : Coordinating) → Led (e ∷ es) d → IsPast d.stage
+      go true x = let y = led_by setup es in past_by_lead (record { legal = legal; lead = y.lead; led = y.led_by; seat = grind (arith, nat_tests) })
       go false x = past_by_other x
 
   past_since : (opened : ℕ) (start es : List (Entry Op)) → IsStartOf start es → Lawful es → PastSince opened start → PastSince opened es
@@ -154,37 +155,37 @@ module _ (shapes : List Shape) (l : Layout) (pacing : Pacing) (may : ℕ → Lis
   past_since opened start (e ∷ es) (inr is) legal p = past_on opened e es legal (past_since opened start es is legal.0 p)
 
   -- from where a cycle begins
-  past_begun : (k : ℕ) (d : Entry Op) (ds : List (Entry Op)) → Lawful (d ∷ ds) → BeginsCycle shapes l pacing may k (d ∷ ds) → PastSince k (d ∷ ds)
+  past_begun : (k : ℕ) (d : Entry Op) (ds : List (Entry Op)) → Lawful (d ∷ ds) → BeginsCycle setup k (d ∷ ds) → PastSince k (d ∷ ds)
   past_begun k d ds legal x = record { least = (let a = opened_is in omega (arith, a)); past = λ same c led. subst (λ (y : Coordinating). IsPast y.stage) (one_led (d ∷ ds) (coord.goes_at (coord.counted x.lead) x.lead.stage d.found) c then led) (begins_past (coord.counted x.lead) x.lead.stage d.found x.stage) } where
     then : Led (d ∷ ds) (coord.goes_at (coord.counted x.lead) x.lead.stage d.found)
-    then = subst (Led (d ∷ ds)) (goes_by shapes l pacing may known lists d ds legal x.lead x.led x.by x.lead.stage refl) (led_then shapes l pacing may known lists d ds legal x.lead x.led x.by)
+    then = subst (Led (d ∷ ds)) (goes_by setup lists d ds (by_step setup IsBeginning k d ds legal x) x.lead.stage refl) (led_then setup lists d ds (by_step setup IsBeginning k d ds legal x))
 
     opened_is : opened_in (d ∷ ds) ≡ k
     opened_is =
-        let n = numbers_at shapes l pacing may known lists ds x.lead x.lead.stage 1 1 0 legal.0 x.led refl (beginning x.lead.stage x.stage) in
+        let n = numbers_at setup lists ds x.lead x.lead.stage 1 1 0 legal.0 x.led refl (beginning x.lead.stage x.stage) in
         let a = n.0 in
         let b = n.1 in
         let c = x.cycle in
-        let o : opened_in (d ∷ ds) ≡ opened_in ds = ap (λ (q : Ask). opened_after q (opened_in ds)) (asked_at shapes l pacing may known lists d ds legal x.lead x.led x.by x.lead.stage refl) ∙ begins_none x.lead x.lead.stage x.stage (opened_in ds) in
+        let o : opened_in (d ∷ ds) ≡ opened_in ds = ap (λ (q : Ask). opened_after q (opened_in ds)) (asked_at setup lists d ds (by_step setup IsBeginning k d ds legal x) x.lead.stage refl) ∙ begins_none x.lead x.lead.stage x.stage (opened_in ds) in
         omega (arith, a, b, c, o)
 
-  begins_before : (k : ℕ) (d f : Entry Op) (ds fs : List (Entry Op)) → Lawful (f ∷ fs) → BeginsCycle shapes l pacing may k (d ∷ ds) → BeginsCycle shapes l pacing may k (f ∷ fs) → IsStartOf (d ∷ ds) fs → ⊥
+  begins_before : (k : ℕ) (d f : Entry Op) (ds fs : List (Entry Op)) → Lawful (f ∷ fs) → BeginsCycle setup k (d ∷ ds) → BeginsCycle setup k (f ∷ fs) → IsStartOf (d ∷ ds) fs → ⊥
   begins_before k d f ds fs legal x y start =
-      let p = past_since k (d ∷ ds) fs start legal.0 (past_begun k d ds (legal_start (those shapes l pacing may) (d ∷ ds) fs start legal.0) x) in
-      let n = numbers_at shapes l pacing may known lists fs y.lead y.lead.stage 1 1 0 legal.0 y.led refl (beginning y.lead.stage y.stage) in
+      let p = past_since k (d ∷ ds) fs start legal.0 (past_begun k d ds (legal_start (those setup) (d ∷ ds) fs start legal.0) x) in
+      let n = numbers_at setup lists fs y.lead y.lead.stage 1 1 0 legal.0 y.led refl (beginning y.lead.stage y.stage) in
       let a = n.0 in
       let b = n.1 in
       let c = y.cycle in
       not_past y.lead.stage y.stage (p.past (omega (arith, a, b, c)) y.lead y.led)
 
-  begins_at : (k : ℕ) (first second : List (Entry Op)) → Lawful second → BeginsCycle shapes l pacing may k first → BeginsCycle shapes l pacing may k second → IsStartOf first second → first ≡ second
+  begins_at : (k : ℕ) (first second : List (Entry Op)) → Lawful second → BeginsCycle setup k first → BeginsCycle setup k second → IsStartOf first second → first ≡ second
   begins_at k [] second legal x y start = absurd x
   begins_at k (d ∷ ds) [] legal x y start = absurd y
   begins_at k (d ∷ ds) (f ∷ fs) legal x y (inl is) = is
   begins_at k (d ∷ ds) (f ∷ fs) legal x y (inr is) = absurd (begins_before k d f ds fs legal x y is)
 
-  pub begins_once : (k : ℕ) (first second es : List (Entry Op)) → Lawful es → IsStartOf first es → IsStartOf second es → BeginsCycle shapes l pacing may k first → BeginsCycle shapes l pacing may k second → first ≡ second
+  pub begins_once : (k : ℕ) (first second es : List (Entry Op)) → Lawful es → IsStartOf first es → IsStartOf second es → BeginsCycle setup k first → BeginsCycle setup k second → first ≡ second
   begins_once k first second es legal of_first of_second x y = go (compared first second es of_first of_second) where
     go : IsStartOf first second ⊎ IsStartOf second first → first ≡ second
-    go (inl s) = begins_at k first second (legal_start (those shapes l pacing may) second es of_second legal) x y s
-    go (inr s) = sym (begins_at k second first (legal_start (those shapes l pacing may) first es of_first legal) y x s)
+    go (inl s) = begins_at k first second (legal_start (those setup) second es of_second legal) x y s
+    go (inr s) = sym (begins_at k second first (legal_start (those setup) first es of_first legal) y x s)

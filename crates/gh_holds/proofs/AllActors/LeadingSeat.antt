@@ -7,11 +7,11 @@ use Rattle.gh_mutator.specs.declared.new.NewStage.TheVariants as new
 use Rattle.gh_mutator.specs.declared.task.Task.TheVariants as task
 use Rattle.gh_worker.specs.Listing as worker
 use Rattle.gh_lists.specs.declared.handshake.Actor.TheVariants as actor
-use Rattle.gh_lists.specs.Handshake.{asks}
+use Rattle.gh_lists.specs.Handshake.{asks, Setup}
 use Rattle.gh_marked.specs.HeapBytes.{uncounted_new}
 use Rattle.gh_marked.specs.Sweepers.{sweep_of}
-use Rattle.gh_holds.proofs.Vocabulary.{acks_of, Actor, actors, actors_after, Arena, arena, Coordinating, CoordStage, Entry, Heap, is_busy, IsHeapOf, IsLed, IsParked, Layout, Legal, nat_tests, new_stage_at, NewStage, Op, Pacing, Polling, processor_at, Right, RunPhase, seats_of, Shape, stage_at, stage_of, started, Stopped, Sweep, Task, those, uncounted, view}
-use Rattle.gh_holds.specs.Known.{Known, ListsKnown}
+use Rattle.gh_marked.proofs.Vocabulary.{acks_of, Actor, actors, actors_after, Arena, arena, Coordinating, CoordStage, Entry, Heap, is_busy, IsHeapOf, IsLed, IsParked, IsStepIn, Legal, nat_tests, new_stage_at, NewStage, Op, Polling, processor_at, Right, RunPhase, seats_of, stage_at, stage_of, started, Stopped, Sweep, Task, those, uncounted, view}
+use Rattle.gh_marked.specs.Known.{ListsKnown}
 use Rattle.gh_lists.specs.Resting.{runs_are}
 use Rattle.gh_lists.specs.Seats.{IsSeated, lead_started, leads, seated}
 
@@ -50,48 +50,59 @@ lead_sweeps_none : (p : CoordStage) (phase : RunPhase) → leading.post_at p ≡
 lead_sweeps_none (Sweep w) phase is = absurd cc
 lead_sweeps_none _ phase is = refl
 
-module _ (shapes : List Shape) (l : Layout) (pacing : Pacing) (may : ℕ → List (Entry Op) → Op → Bool) where
+-- the newest entry is of the coordinator, who was this before it
+pub record ByLead (setup : Setup) (e : Entry Op) (es : List (Entry Op)) : Type 0 where
+  pub legal : Legal (those setup) (e ∷ es)
+  pub lead : Coordinating
+  pub led : IsLed setup es lead
+  pub seat : e.actor ≡ acks_of setup.layout
+
+-- a step of the coordinator is such an entry
+abbrev pub by_step : (setup : Setup) (at : CoordStage → Type 0) (k : ℕ) (e : Entry Op) (es : List (Entry Op)) → Legal (those setup) (e ∷ es) → IsStepIn setup at k e es → ByLead setup e es
+by_step setup at k e es legal x = record { legal = legal; lead = x.lead; led = x.led; seat = x.by }
+
+module _ (setup : Setup) where
   abbrev at : List (Entry Op) → ℕ → Actor
-  at es a = actors_after (arena shapes l pacing may) pacing may es a
+  at es a = actors_after (arena setup) setup.pacing setup.may es a
 
   abbrev Led : List (Entry Op) → Coordinating → Type 0
-  Led es c = IsLed shapes l pacing may es c
+  Led es c = IsLed setup es c
 
-  module _ (known : Known) (lists : ListsKnown shapes l pacing may) where
+  module _ (lists : ListsKnown setup) where
     abbrev z : Arena
-    z = arena shapes l pacing may
+    z = arena setup
 
     -- Where the world is stopped.
-    module _ (es : List (Entry Op)) (legal : Legal (those shapes l pacing may) es) (c : Coordinating) (led : Led es c) (phase : RunPhase) (post : leading.post_at c.stage ≡ Stopped phase) where
-      pub parked : (a : ℕ) → a < l.procs → IsParked (leading.lead_of c).stops (stage_of (processor_at shapes l pacing may es a))
-      parked a lt = (lists.keeps es legal).processors_wait c phase a (processor_at shapes l pacing may es a) led post (omega (arith, lt)) (runs_are shapes l pacing may es a lt)
+    module _ (es : List (Entry Op)) (legal : Legal (those setup) es) (c : Coordinating) (led : Led es c) (phase : RunPhase) (post : leading.post_at c.stage ≡ Stopped phase) where
+      pub parked : (a : ℕ) → a < setup.layout.procs → IsParked (leading.lead_of c).stops (stage_of (processor_at setup es a))
+      parked a lt = (lists.keeps es legal).processors_wait c phase a (processor_at setup es a) led post (omega (arith, lt)) (runs_are setup es a lt)
 
-      pub owes_nothing : (a : ℕ) → a < l.procs → uncounted (processor_at shapes l pacing may es a).task ≡ 0
-      owes_nothing a lt = parked_at (processor_at shapes l pacing may es a).poll _ (processor_at shapes l pacing may es a).task (parked a lt)
+      pub owes_nothing : (a : ℕ) → a < setup.layout.procs → uncounted (processor_at setup es a).task ≡ 0
+      owes_nothing a lt = parked_at (processor_at setup es a).poll _ (processor_at setup es a).task (parked a lt)
 
       -- nobody sweeps
-      pub stopped_sweeps_none : (b : ℕ) → b < seats_of l → sweep_of (at es b) ≡ None
+      pub stopped_sweeps_none : (b : ℕ) → b < seats_of setup.layout → sweep_of (at es b) ≡ None
       stopped_sweeps_none b lt = go (at es b) refl where
-        seat_of : (q : Actor) → at es b ≡ q → IsSeated l b q
-        seat_of q i = subst (IsSeated l b) i (seated shapes l pacing es b)
+        seat_of : (q : Actor) → at es b ≡ q → IsSeated setup.layout b q
+        seat_of q i = subst (IsSeated setup.layout b) i (seated setup es b)
 
         go : (q : Actor) → at es b ≡ q → sweep_of (at es b) ≡ None
         go (actor.Runs m) i =
-            let less : b < l.procs = seat_of (actor.Runs m) i in
+            let less : b < setup.layout.procs = seat_of (actor.Runs m) i in
             ap sweep_of i ∙ parked_sweeps_none m.poll _ m.task ((lists.keeps es legal).processors_wait c phase b m led post (omega (arith, less)) i)
         go (actor.Marks w) i =
             let waits = (lists.keeps es legal).workers_wait c phase b w led post (seat_of (actor.Marks w) i).1 i in
             ap sweep_of i ∙ ap worker.sweep_at waits.is_at
         go (actor.Leads d) i =
             let least = (seat_of (actor.Leads d) i).0 in
-            let same : b ≡ acks_of l = omega (arith, least, lt) in
+            let same : b ≡ acks_of setup.layout = omega (arith, least, lt) in
             ap sweep_of (ap (at es) same ∙ led) ∙ lead_sweeps_none c.stage phase post
 
-      module _ (h : Heap) (of : IsHeapOf shapes l pacing may es h) where
+      module _ (h : Heap) (of : IsHeapOf setup es h) where
         has_nothing : (a : ℕ) → Right a (view h) false (λ p. false) None
-        has_nothing a = go (ltb a l.procs) refl where
-          go : (b : Bool) → ltb a l.procs ≡ b → Right a (view h) false (λ p. false) None
-          go true x = let lt : a < l.procs = grind (arith, nat_tests) in (known.runs.parked z a (view h) _ _ _ (parked a lt) (of.processors a lt).fine).0
+        has_nothing a = go (ltb a setup.layout.procs) refl where
+          go : (b : Bool) → ltb a setup.layout.procs ≡ b → Right a (view h) false (λ p. false) None
+          go true x = let lt : a < setup.layout.procs = grind (arith, nat_tests) in (lists.known.runs.parked z a (view h) _ _ _ (parked a lt) (of.processors a lt).fine).0
           go false x = of.others a (grind (arith, nat_tests))
 
         pub is_still : IsStill h
@@ -103,35 +114,35 @@ module _ (shapes : List Shape) (l : Layout) (pacing : Pacing) (may : ℕ → Lis
         }
 
     -- The entry.
-    module _ (e : Entry Op) (es : List (Entry Op)) (legal : Legal (those shapes l pacing may) (e ∷ es)) (c : Coordinating) (led : Led es c) (by : e.actor ≡ acks_of l) where
-      pub from : l.procs ≤ e.actor
-      from = omega (arith, by)
+    module _ (e : Entry Op) (es : List (Entry Op)) (by : ByLead setup e es) where
+      pub from : setup.layout.procs ≤ e.actor
+      from = let seat = by.seat in omega (arith, seat)
 
-      led_there : at es e.actor ≡ actor.Leads c
-      led_there = ap (at es) by ∙ led
+      led_there : at es e.actor ≡ actor.Leads by.lead
+      led_there = ap (at es) by.seat ∙ by.led
 
-      begun_is : started (actors shapes l pacing) e.begun (at es e.actor) ≡ actor.Leads c
-      begun_is = ap (started (actors shapes l pacing) e.begun) led_there ∙ lead_started shapes l pacing e.begun c
+      begun_is : started (actors setup) e.begun (at es e.actor) ≡ actor.Leads by.lead
+      begun_is = ap (started (actors setup) e.begun) led_there ∙ lead_started setup e.begun by.lead
 
-      pub busy : coord.is_busy c.stage ≡ true
-      busy = sym (ap is_busy begun_is) ∙ legal.1.runs
+      pub busy : coord.is_busy by.lead.stage ≡ true
+      busy = sym (ap is_busy begun_is) ∙ by.legal.1.runs
 
-      pub asked : e.ask ≡ coord.asks c
-      asked = legal.1.asks ∙ ap asks begun_is
+      pub asked : e.ask ≡ coord.asks by.lead
+      asked = by.legal.1.asks ∙ ap asks begun_is
 
-      pub led_then : Led (e ∷ es) (coord.goes c e.found)
-      led_then = sym (ap (at (e ∷ es)) by) ∙ leads shapes l pacing e es c led_there
+      pub led_then : Led (e ∷ es) (coord.goes by.lead e.found)
+      led_then = sym (ap (at (e ∷ es)) by.seat) ∙ leads setup e es by.lead led_there
 
       -- at this stage
-      pub asked_at : (p : CoordStage) → c.stage ≡ p → e.ask ≡ coord.asks_at c p
-      asked_at p is = asked ∙ ap (coord.asks_at c) is
+      pub asked_at : (p : CoordStage) → by.lead.stage ≡ p → e.ask ≡ coord.asks_at by.lead p
+      asked_at p is = asked ∙ ap (coord.asks_at by.lead) is
 
-      pub goes_at : (p : CoordStage) → c.stage ≡ p → coord.goes c e.found ≡ coord.goes_at (coord.counted c) p e.found
-      goes_at p is = ap (λ (q : CoordStage). coord.goes_at (coord.counted c) q e.found) is
+      pub goes_at : (p : CoordStage) → by.lead.stage ≡ p → coord.goes by.lead e.found ≡ coord.goes_at (coord.counted by.lead) p e.found
+      goes_at p is = ap (λ (q : CoordStage). coord.goes_at (coord.counted by.lead) q e.found) is
 
       -- the sweep that it runs, before and behind the step
-      pub sweeps_before : (p : CoordStage) → c.stage ≡ p → sweep_of (at es e.actor) ≡ coord.sweep_at p
+      pub sweeps_before : (p : CoordStage) → by.lead.stage ≡ p → sweep_of (at es e.actor) ≡ coord.sweep_at p
       sweeps_before p is = ap sweep_of led_there ∙ ap coord.sweep_at is
 
-      pub sweeps_then : (p : CoordStage) → c.stage ≡ p → sweep_of (at (e ∷ es) e.actor) ≡ coord.sweep_in (coord.goes_at (coord.counted c) p e.found)
-      sweeps_then p is = ap sweep_of (leads shapes l pacing e es c led_there) ∙ ap coord.sweep_in (goes_at p is)
+      pub sweeps_then : (p : CoordStage) → by.lead.stage ≡ p → sweep_of (at (e ∷ es) e.actor) ≡ coord.sweep_in (coord.goes_at (coord.counted by.lead) p e.found)
+      sweeps_then p is = ap sweep_of (leads setup e es by.lead led_there) ∙ ap coord.sweep_in (goes_at p is)

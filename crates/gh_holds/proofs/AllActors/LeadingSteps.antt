@@ -1,29 +1,31 @@
 -- One entry more of the coordinator, at whatever stage: all that holds of lists holds then.
-use Rattle.std.proofs.Common.{◌≡◌, ℕ, Bool, true, refl, sym, ap, subst, List, ◌∷◌, Option, Some, None}
+use Rattle.std.proofs.Common.{◌≡◌, true, refl, sym, ap, subst, List, ◌∷◌, Option, Some, None}
 use Rattle.gh_coord.specs.declared.close.CloseStage.TheVariants as closing
 use Rattle.gh_coord.specs.Closing as close
 use Rattle.gh_coord.specs.Handshake as leading
 use Rattle.gh_coord.specs.Listing as coord
 use Rattle.gh_coord.specs.Stopping as stop
 use Rattle.gh_coord.specs.Watching as watch
-use Rattle.gh_holds.proofs.Vocabulary.{acks_of, All, Check, Close, CloseStage, Coordinating, CoordStage, Count, Done, Entry, Holds, HoldsAt, IsClosing, IsInLimits, IsLed, Layout, Legal, LoadAck, LoadWant, MarkOn, NotYet, Op, Open, Pacing, Shape, ShapesAreGood, Stop, StopAgain, Sweep, Tell, those, WasSo, Watch, Watched}
-use Rattle.gh_holds.specs.Known.{Known, ListsKnown}
+use Rattle.gh_marked.proofs.Vocabulary.{All, Check, Close, CloseStage, Coordinating, CoordStage, Count, Done, Entry, LoadAck, LoadWant, MarkOn, NotYet, Op, Open, Stop, StopAgain, Sweep, Tell, Watch, Watched}
+use Rattle.gh_marked.specs.Known.{ListsKnown}
 use Rattle.gh_holds.proofs.AllActors.LeadingCalm as calm
 use Rattle.gh_holds.proofs.AllActors.LeadingCloses.{runs_on, sweeping}
 use Rattle.gh_holds.proofs.AllActors.LeadingKept as kept
-use Rattle.gh_holds.proofs.AllActors.LeadingSeat.{busy}
+use Rattle.gh_holds.proofs.AllActors.LeadingSeat.{busy, ByLead}
 use Rattle.gh_holds.proofs.AllActors.LeadingSwept.{sweeps}
 use Rattle.gh_holds.proofs.AllActors.LeadingTold as told
 use Rattle.gh_holds.proofs.AllActors.LeadingWas.{Was, was_on}
 use Rattle.gh_lists.specs.Starts.{whole}
+use Rattle.gh_lists.specs.Handshake.{Setup}
+use Rattle.gh_holds.specs.ActorsHold.{Holds, HoldsAt, IsClosing, WasSo}
 
-module _ (shapes : List Shape) (l : Layout) (pacing : Pacing) (may : ℕ → List (Entry Op) → Op → Bool) (good : ShapesAreGood shapes) (limits : IsInLimits l) (known : Known) (lists : ListsKnown shapes l pacing may) where
-  module _ (e : Entry Op) (es : List (Entry Op)) (legal : Legal (those shapes l pacing may) (e ∷ es)) (was : Was shapes l pacing may good limits known lists es) (c : Coordinating) (led : IsLed shapes l pacing may es c) (by : e.actor ≡ acks_of l) where
+module _ (setup : Setup) (lists : ListsKnown setup) where
+  module _ (e : Entry Op) (es : List (Entry Op)) (was : Was setup lists es) (by : ByLead setup e es) where
     abbrev u : Coordinating
-    u = coord.counted c
+    u = coord.counted by.lead
 
     abbrev To : Coordinating → Type 0
-    To d = HoldsAt shapes l pacing may (e ∷ es) d d.stage
+    To d = HoldsAt setup (e ∷ es) d d.stage
 
     -- While a cycle is marked nothing is said here.
 
@@ -41,36 +43,36 @@ module _ (shapes : List Shape) (l : Layout) (pacing : Pacing) (may : ℕ → Lis
     checks w (Some All) = tt
     checks w (Some NotYet) = tt
 
-    closes : (x : close.Closing) → c.stage ≡ Close x → (p : CloseStage) → x.stage ≡ p → close.is_busy p ≡ true → IsClosing shapes l pacing may es c p → To (coord.after_close (coord.at_stage u (Close (close.goes_at x p e.found))) (close.given (close.goes_at x p e.found)))
+    closes : (x : close.Closing) → by.lead.stage ≡ Close x → (p : CloseStage) → x.stage ≡ p → close.is_busy p ≡ true → IsClosing setup es by.lead p → To (coord.after_close (coord.at_stage u (Close (close.goes_at x p e.found))) (close.given (close.goes_at x p e.found)))
     closes x is closing.LoadBank at b h = tt
     closes x is closing.ClearBank at b h = tt
-    closes x is closing.StoreGen at b h = sweeping shapes l pacing may good limits known lists e es legal c led by x is at (subst leading.Marks (sym is) (ap close.is_marking at)) (was es c (whole es) led (subst leading.Marks (sym is) (ap close.is_marking at))) _ refl
-    closes x is closing.StorePhase at b h = runs_on shapes l pacing may good limits known lists e es legal c led by x is at h _ refl
+    closes x is closing.StoreGen at b h = sweeping setup lists e es by x is at (subst leading.Marks (sym is) (ap close.is_marking at)) (was es by.lead (whole es) by.led (subst leading.Marks (sym is) (ap close.is_marking at))) _ refl
+    closes x is closing.StorePhase at b h = runs_on setup lists e es by x is at h _ refl
     closes x is closing.Ended at b h = absurd cc
 
-    busy_at : (p : CoordStage) → c.stage ≡ p → coord.is_busy p ≡ true
-    busy_at p is = subst (λ (q : CoordStage). coord.is_busy q ≡ true) is (busy shapes l pacing may known lists e es legal c led by)
+    busy_at : (p : CoordStage) → by.lead.stage ≡ p → coord.is_busy p ≡ true
+    busy_at p is = subst (λ (q : CoordStage). coord.is_busy q ≡ true) is (busy setup lists e es by)
 
-    at_stage : (p : CoordStage) → c.stage ≡ p → HoldsAt shapes l pacing may es c p → To (coord.goes_at u p e.found)
-    at_stage (LoadAck i) is h = calm.acks shapes l pacing may known lists e es legal c led by i is h
-    at_stage LoadWant is h = calm.wants shapes l pacing may known lists e es legal c led by is h
-    at_stage (Stop st) is h = calm.stops shapes l pacing may known lists e es legal c led by st is h
-    at_stage (Open o) is h = calm.opens shapes l pacing may known lists e es legal c led by o is h
+    at_stage : (p : CoordStage) → by.lead.stage ≡ p → HoldsAt setup es by.lead p → To (coord.goes_at u p e.found)
+    at_stage (LoadAck i) is h = calm.acks setup lists e es by i is h
+    at_stage LoadWant is h = calm.wants setup lists e es by is h
+    at_stage (Stop st) is h = calm.stops setup lists e es by st is h
+    at_stage (Open o) is h = calm.opens setup lists e es by o is h
     at_stage (Watch w) is h = watches (watch.goes w e.found) (watch.gives w e.found)
     at_stage (StopAgain st) is h = stops_again (stop.goes st e.found) (stop.gives st e.found)
     at_stage (Check w) is h = checks (watch.goes w e.found) (watch.gives w e.found)
     at_stage MarkOn is h = tt
     at_stage (Close x) is h = closes x is x.stage refl (busy_at (Close x) is) h
-    at_stage (Sweep w) is h = sweeps shapes l pacing may known lists e es legal c led by w is h
-    at_stage (Count x) is h = told.counts shapes l pacing may known lists e es legal c led by x is h
-    at_stage (Tell t) is h = told.tells shapes l pacing may known lists e es legal c led by t is (told.told_at shapes l pacing may known lists es c t.stage h)
+    at_stage (Sweep w) is h = sweeps setup lists e es by w is h
+    at_stage (Count x) is h = told.counts setup lists e es by x is h
+    at_stage (Tell t) is h = told.tells setup lists e es by t is (told.told_at setup lists es by.lead t.stage h)
     at_stage Done is h = absurd (let b = busy_at Done is in cc)
 
-    pub leads : Holds shapes l pacing may es c → Holds shapes l pacing may (e ∷ es) (coord.goes c e.found)
+    pub leads : Holds setup es by.lead → Holds setup (e ∷ es) (coord.goes by.lead e.found)
     leads h = record {
-      at = at_stage c.stage refl h.at;
+      at = at_stage by.lead.stage refl h.at;
       was = was_then;
-      counted = kept.counted shapes l pacing may known lists e es legal c led by h.counted c.stage refl h.at;
+      counted = kept.counted setup lists e es by h.counted by.lead.stage refl h.at;
     } where
-      was_then : WasSo shapes l pacing may (e ∷ es)
-      was_then = was_on shapes l pacing may good limits known lists e es legal was c led by h.at h.was
+      was_then : WasSo setup (e ∷ es)
+      was_then = was_on setup lists e es was by h.at h.was

@@ -11,9 +11,9 @@ use Rattle.gh_sweep.specs.Moves as moves
 use Rattle.gh_sweep.specs.Shared.{Done}
 use Rattle.gh_sweep.specs.Sweepers as sweepers
 use Rattle.gh_holds.specs.ActorsHold.{IsBegun, page_at, Walks, WalksAt}
-use Rattle.gh_holds.specs.HoldVocabulary.{generation_of, head_word, PassedBefore, Runs, State, StateGood, SweepingAll}
-use Rattle.gh_holds.proofs.Vocabulary.{Arena, Body, cell_of, effect, Free, Head, Layout, Load, Lost, nat_tests, page_of, PageWord, put, SpanHead, SweepAllStage, SweepEnd, SweepStage, Swept, Words}
-use Rattle.gh_holds.specs.Known.{Known}
+use Rattle.gh_marked.specs.HoldVocabulary.{generation_of, head_word, PassedBefore, Runs, State, StateGood, SweepingAll}
+use Rattle.gh_marked.proofs.Vocabulary.{Arena, Body, cell_of, effect, Free, Head, Layout, Load, Lost, nat_tests, page_of, PageWord, put, SpanHead, SweepAllStage, SweepEnd, SweepStage, Swept, Words}
+use Rattle.gh_marked.specs.Known.{Known}
 
 module _ (m : sweep.Sweeping) where
   swapped : (b : Bool) (f w : Words) (x : _) → f x ≡ w x → cond b f w x ≡ w x
@@ -137,15 +137,22 @@ module _ (z : Arena) (known : Known) (w : SweepingAll) where
           go (Body b) i = passes page passed_below (no_head (Body b) i (λ g y. absurd cc))
 
     -- a step of the sweep of a span that it runs
-    module _ (a page : ℕ) (m : sweep.Sweeping) (is : w.stage ≡ all.Sweep page m) (runs : Runs a s m) (busy : sweep.is_busy m.stage ≡ true) (found : ℕ) (found_is : found ≡ s.heap.words (cell_of (sweep.asks m))) (may : state.May z a s (state.Sweep (sweepers.move_of m found))) where
+    pub record StepsInSpan (a page : ℕ) (m : sweep.Sweeping) (found : ℕ) : Type 0 where
+      pub is : w.stage ≡ all.Sweep page m
+      pub runs : Runs a s m
+      pub busy : sweep.is_busy m.stage ≡ true
+      pub found_is : found ≡ s.heap.words (cell_of (sweep.asks m))
+      pub may : state.May z a s (state.Sweep (sweepers.move_of m found))
+
+    module _ (a page : ℕ) (m : sweep.Sweeping) (found : ℕ) (step : StepsInSpan a page m found) where
       abbrev then : State
       then = state.moved z a s (state.Sweep (sweepers.move_of m found))
 
       at_page : (page < s.end.layout.pages) × (m.page ≡ page)
-      at_page = subst (λ (p : SweepAllStage). WalksAt s p) is walks.stage_is
+      at_page = subst (λ (p : SweepAllStage). WalksAt s p) step.is walks.stage_is
 
       passed_then : PassedBefore then page
-      passed_then = known.walkers.own z a s (state.Sweep (sweepers.move_of m found)) page good may (subst (λ (p : SweepAllStage). PassedBefore s (page_at s p)) is walks.passed)
+      passed_then = known.walkers.own z a s (state.Sweep (sweepers.move_of m found)) page good step.may (subst (λ (p : SweepAllStage). PassedBefore s (page_at s p)) step.is walks.passed)
 
       abbrev Next : State → sweep.Sweeping → Option SweepEnd → Type 0
       Next t x out = Walks t (over_all.after_sweep (over_all.at_stage w (all.Sweep page x)) page out)
@@ -170,9 +177,9 @@ module _ (z : Arena) (known : Known) (w : SweepingAll) where
       begun : m.stage ≡ sweep_stage.Begin → Behind (cond (sweep.wrote m found) (sweep_stage.LoadMarks 0) (sweep_stage.Ended Lost))
       begun y = go (sweep.wrote m found) refl where
         lost : sweep.wrote m found ≡ false → HasNotNumber m.head.number (s.heap.words (cell.Page m.page))
-        lost x = by (subst (λ (q : SweepStage). FactsAt m s.heap.words q) y runs.fine.facts).head_is where
+        lost x = by (subst (λ (q : SweepStage). FactsAt m s.heap.words q) y step.runs.fine.facts).head_is where
           here : found ≡ s.heap.words (cell.Page m.page)
-          here = found_is ∙ ap (λ (q : SweepStage). s.heap.words (cell_of (sweep.asks_at m q))) y
+          here = step.found_is ∙ ap (λ (q : SweepStage). s.heap.words (cell_of (sweep.asks_at m q))) y
 
           by : (s.heap.words (cell.Page m.page) ≡ head_word m.head) ⊎ HasNotNumber m.head.number (s.heap.words (cell.Page m.page)) → HasNotNumber m.head.number (s.heap.words (cell.Page m.page))
           by (inl same) = absurd (let yes : sweep.wrote m found ≡ true = eq-eqb found (head_word m.head) (here ∙ same) in let no : true ≡ false = sym yes ∙ x in cc)
@@ -190,7 +197,7 @@ module _ (z : Arena) (known : Known) (w : SweepingAll) where
           stage_is = (at_page.0, subst (λ (t : State). IsBegun t page) (sym (then_by false x)) begun_there);
         } where
           begun_there : IsBegun s page
-          begun_there n two = subst (λ (p : ℕ). HasNotNumber n (s.heap.words (cell.Page p))) at_page.1 (subst (λ (i : ℕ). HasNotNumber i (s.heap.words (cell.Page m.page))) (let number = runs.fine.number in omega (arith, number, two)) (lost x))
+          begun_there n two = subst (λ (p : ℕ). HasNotNumber n (s.heap.words (cell.Page p))) at_page.1 (subst (λ (i : ℕ). HasNotNumber i (s.heap.words (cell.Page m.page))) (let number = step.runs.fine.number in omega (arith, number, two)) (lost x))
 
       by_stage : (q : SweepStage) → m.stage ≡ q → sweep.is_busy q ≡ true → Next then (sweep.goes_at m q found) (sweep.given (sweep.goes_at m q found))
       by_stage sweep_stage.Begin y b = begun y
@@ -204,4 +211,4 @@ module _ (z : Arena) (known : Known) (w : SweepingAll) where
       by_stage (sweep_stage.Ended end) y b = absurd cc
 
       pub stepped : Walks then (over_all.goes_at w (all.Sweep page m) found)
-      stepped = by_stage m.stage refl busy
+      stepped = by_stage m.stage refl step.busy

@@ -10,41 +10,41 @@ use Rattle.gh_phase.specs.declared.view.RunPhase.TheVariants as run
 use Rattle.gh_state.specs.Moves as state
 use Rattle.gh_sweep.specs.Listing as sweep
 use Rattle.gh_sweep.specs.Running.{on_from}
-use Rattle.gh_lists.specs.Handshake.{Sound as ActorSound}
-use Rattle.gh_holds.specs.ActorsHold.{NobodyMarks, page_at, Walks}
-use Rattle.gh_holds.specs.HoldVocabulary.{PassedBefore, State, SweepingAll}
+use Rattle.gh_lists.specs.Handshake.{Sound as ActorSound, Setup}
+use Rattle.gh_holds.specs.ActorsHold.{HoldsAt, IsSweeping, NobodyMarks, page_at, Walks}
+use Rattle.gh_marked.specs.HoldVocabulary.{PassedBefore, State, SweepingAll}
 use Rattle.gh_marked.specs.Sweepers.{IsInSweep, sweep_of}
-use Rattle.gh_holds.proofs.Vocabulary.{acks_of, actors_after, Answer, Arena, arena, Ask, by, cell_of, Coordinating, CoordStage, effect, END, ended_in, Entry, Heap, HoldsAt, IsAsItShould, IsHeapOf, IsLed, IsSweeping, Layout, Legal, Load, MarksNothing, nat_tests, Op, option_to_list, Pacing, Processor, processor_at, Right, Shape, Stopped, Sweep, SweepAllStage, those, view, Words, words}
+use Rattle.gh_marked.proofs.Vocabulary.{acks_of, actors_after, Answer, Arena, arena, Ask, by, cell_of, Coordinating, CoordStage, effect, END, ended_in, Entry, Heap, IsAsItShould, IsHeapOf, Layout, Legal, Load, MarksNothing, nat_tests, Op, option_to_list, Processor, processor_at, Right, Stopped, Sweep, SweepAllStage, those, view, Words, words}
 use Rattle.gh_holds.proofs.AllActors.Aside as aside_of
 use Rattle.gh_holds.proofs.AllActors.Aside.{beside_of, IsOfSpans, Lands, loads_only, TellsNothing}
 use Rattle.gh_lists.specs.Going.{NotAcks}
-use Rattle.gh_holds.specs.Known.{Known, ListsKnown}
+use Rattle.gh_marked.specs.Known.{ListsKnown}
 use Rattle.gh_holds.proofs.AllActors.LeadingAside.{goes_on, IsBehind}
-use Rattle.gh_holds.proofs.AllActors.LeadingSeat.{asked_at, busy, from, parked, sweeps_before, sweeps_then}
+use Rattle.gh_holds.proofs.AllActors.LeadingSeat.{asked_at, busy, ByLead, from, parked, sweeps_before, sweeps_then}
 use Rattle.gh_holds.proofs.AllActors.LeadingSweep.{awaited, loaded, stepped}
 use Rattle.gh_lists.specs.Resting.{answers_stay, ever_stays, given_stay, own_stay, state_stays}
 use Rattle.gh_holds.proofs.AllActors.SinceEnd.{quiet_keeps_end, sweep_keeps_end}
-use Rattle.gh_holds.proofs.AllActors.Sweepers as sweepers
+use Rattle.gh_marked.proofs.OneStep.Sweepers as sweepers
 
 -- the heap with other words
 abbrev pub with_words : Heap → Words → Heap
 with_words h words = record h { words = words }
 
-module _ (shapes : List Shape) (l : Layout) (pacing : Pacing) (may : ℕ → List (Entry Op) → Op → Bool) (known : Known) (lists : ListsKnown shapes l pacing may) where
+module _ (setup : Setup) (lists : ListsKnown setup) where
   abbrev z : Arena
-  z = arena shapes l pacing may
+  z = arena setup
 
-  module _ (e : Entry Op) (es : List (Entry Op)) (legal : Legal (those shapes l pacing may) (e ∷ es)) (ge : l.procs ≤ e.actor) where
-    pub apart : (a : ℕ) → a < l.procs → (e.actor == a) ≡ false
+  module _ (e : Entry Op) (es : List (Entry Op)) (legal : Legal (those setup) (e ∷ es)) (ge : setup.layout.procs ≤ e.actor) where
+    pub apart : (a : ℕ) → a < setup.layout.procs → (e.actor == a) ≡ false
     apart a lt = go (e.actor == a) refl where
       go : (b : Bool) → (e.actor == a) ≡ b → (e.actor == a) ≡ false
       go false x = x
       go true x = absurd (let same : e.actor ≡ a = grind (arith, nat_tests) in omega (arith, same, lt, ge))
 
   -- A stopped world, and a step of the coordinator on words of spans and counts.
-  module _ (e : Entry Op) (es : List (Entry Op)) (legal : Legal (those shapes l pacing may) (e ∷ es)) (c : Coordinating) (led : IsLed shapes l pacing may es c) (by_it : e.actor ≡ acks_of l) (post : leading.post_at c.stage ≡ Stopped run.Mark) (h : Heap) (of : IsHeapOf shapes l pacing may es h) (w : Words) (words_are : w ≡ effect h.words e.ask) (only : IsOfSpans e.ask) where
-    ge : l.procs ≤ e.actor
-    ge = from shapes l pacing may known lists e es legal c led by_it
+  module _ (e : Entry Op) (es : List (Entry Op)) (by_it : ByLead setup e es) (post : leading.post_at by_it.lead.stage ≡ Stopped run.Mark) (h : Heap) (of : IsHeapOf setup es h) (w : Words) (words_are : w ≡ effect h.words e.ask) (only : IsOfSpans e.ask) where
+    ge : setup.layout.procs ≤ e.actor
+    ge = from setup lists e es by_it
 
     abbrev then : Heap
     then = with_words h w
@@ -56,48 +56,48 @@ module _ (shapes : List Shape) (l : Layout) (pacing : Pacing) (may : ℕ → Lis
     buffer b = ap (λ (x : Words). x (cell.Buffer b)) words_are ∙ only.buffer h.words b
 
     -- nobody marks still
-    pub nobody_on : (cycle later : ℕ) → later ≡ cycle → NobodyMarks shapes l pacing may es cycle h.words → NobodyMarks shapes l pacing may (e ∷ es) later w
-    nobody_on cycle later same n = subst (λ (k : ℕ). NobodyMarks shapes l pacing may (e ∷ es) k w) (sym same) (record {
+    pub nobody_on : (cycle later : ℕ) → later ≡ cycle → NobodyMarks setup es cycle h.words → NobodyMarks setup (e ∷ es) later w
+    nobody_on cycle later same n = subst (λ (k : ℕ). NobodyMarks setup (e ∷ es) k w) (sym same) (record {
       buffers = λ b. buffer b ∙ n.buffers b;
       stacks = λ g. subst (λ (i : ℕ). (i < cycle) ⊎ (i ≡ END)) (sym (scanned g)) (n.stacks g);
-      processors = λ a lt. subst MarksNothing (sym (state_stays shapes l pacing may e es a (apart e es legal ge a lt))) (n.processors a lt);
+      processors = λ a lt. subst MarksNothing (sym (state_stays setup e es a (apart e es by_it.legal ge a lt))) (n.processors a lt);
     })
 
     right : (a : ℕ) → Right a (view h) false (λ p. false) None → Right a (view then) false (λ p. false) None
     right a r = record { locked = r.locked; holds = r.holds; laying = r.laying; freeing = r.freeing }
 
-    module _ (a : ℕ) (lt : a < l.procs) where
+    module _ (a : ℕ) (lt : a < setup.layout.procs) where
       m : Processor
-      m = processor_at shapes l pacing may es a
+      m = processor_at setup es a
 
-      it : IsAsItShould shapes l pacing may es h a (processor_at shapes l pacing may es a)
+      it : IsAsItShould setup es h a (processor_at setup es a)
       it = of.processors a lt
 
       aside : (e.actor == a) ≡ false
-      aside = apart e es legal ge a lt
+      aside = apart e es by_it.legal ge a lt
 
       own_same : (g : ℕ) → ended_in (by a (e ∷ es)) g ≡ ended_in (by a es) g
-      own_same g = ap (λ (ys : List (Entry Op)). ended_in ys g) (own_stay shapes l pacing may e es a aside)
+      own_same g = ap (λ (ys : List (Entry Op)). ended_in ys g) (own_stay setup e es a aside)
 
-      same : IsAsItShould shapes l pacing may (e ∷ es) then a (processor_at shapes l pacing may es a)
+      same : IsAsItShould setup (e ∷ es) then a (processor_at setup es a)
       same = record {
         sound = it.sound;
         pending = it.pending;
-        fine = known.runs.stopped z a (view h) (view then) (processor_at shapes l pacing may es a) it.pending _ (parked shapes l pacing may known lists es legal.0 c led run.Mark post a lt) (record { locked = refl; holds = λ p. refl; laying = refl; freeing = refl; place = refl; ever = refl }) it.fine;
-        answers = answers_stay shapes l pacing may e es a aside ∙ (it.answers ∙ ap (λ (y : List Answer). option_to_list it.pending ++ y) (sym (given_stay shapes l pacing may e es a aside)));
+        fine = lists.known.runs.stopped z a (view h) (view then) (processor_at setup es a) it.pending _ (parked setup lists es by_it.legal.0 by_it.lead by_it.led run.Mark post a lt) (record { locked = refl; holds = λ p. refl; laying = refl; freeing = refl; place = refl; ever = refl }) it.fine;
+        answers = answers_stay setup e es a aside ∙ (it.answers ∙ ap (λ (y : List Answer). option_to_list it.pending ++ y) (sym (given_stay setup e es a aside)));
         notes = λ g its. it.notes g its ∙ sym (scanned g);
         ended = λ g its y. own_same g ∙ it.ended g its y;
         ends = λ g its y. it.ends g its (sym (own_same g) ∙ y);
         left = λ last g its. it.left last g its;
       }
 
-      pub stands : IsAsItShould shapes l pacing may (e ∷ es) then a (processor_at shapes l pacing may (e ∷ es) a)
-      stands = subst (λ (p : Processor). IsAsItShould shapes l pacing may (e ∷ es) then a p) (sym (state_stays shapes l pacing may e es a aside)) same
+      pub stands : IsAsItShould setup (e ∷ es) then a (processor_at setup (e ∷ es) a)
+      stands = subst (λ (p : Processor). IsAsItShould setup (e ∷ es) then a p) (sym (state_stays setup e es a aside)) same
 
-    pub heap_on : IsHeapOf shapes l pacing may (e ∷ es) then
+    pub heap_on : IsHeapOf setup (e ∷ es) then
     heap_on = record {
       words_are = words_are ∙ ap (λ (x : Words). effect x e.ask) of.words_are;
-      ever_is = of.ever_is ∙ sym (ever_stays shapes l pacing may known.points e es legal ge);
+      ever_is = of.ever_is ∙ sym (ever_stays setup lists.known.points e es by_it.legal ge);
       bounded = of.bounded;
       processors = stands;
       others = λ a le. right a (of.others a le);
@@ -108,21 +108,21 @@ module _ (shapes : List Shape) (l : Layout) (pacing : Pacing) (may : ℕ → Lis
   -- What holds while it is swept, as what is behind its page and the walk.
 
   abbrev pub Behind : List (Entry Op) → Coordinating → ℕ → Type 0
-  Behind es c page = IsBehind shapes l pacing may known lists es c page
+  Behind es c page = IsBehind setup lists es c page
 
-  abbrev pub behind_of : (es : List (Entry Op)) (c : Coordinating) (w : SweepingAll) (s : IsSweeping shapes l pacing may es c w) → Behind es c (page_at s.has.state w.stage)
+  abbrev pub behind_of : (es : List (Entry Op)) (c : Coordinating) (w : SweepingAll) (s : IsSweeping setup es c w) → Behind es c (page_at s.has.state w.stage)
   behind_of es c w s = record { off = record { has = s.has; over = s.over; passed = s.walks.passed; nobody = s.nobody }; behind = s.behind }
 
-  abbrev pub sweeping_of : (es : List (Entry Op)) (c : Coordinating) (w : SweepingAll) (page : ℕ) (b : Behind es c page) → Walks b.off.has.state w → IsSweeping shapes l pacing may es c w
+  abbrev pub sweeping_of : (es : List (Entry Op)) (c : Coordinating) (w : SweepingAll) (page : ℕ) (b : Behind es c page) → Walks b.off.has.state w → IsSweeping setup es c w
   sweeping_of es c w page b walks = record { has = b.off.has; over = b.off.over; walks = walks; behind = b.behind; nobody = b.off.nobody }
 
   -- The entry.
-  module _ (e : Entry Op) (es : List (Entry Op)) (legal : Legal (those shapes l pacing may) (e ∷ es)) (c : Coordinating) (led : IsLed shapes l pacing may es c) (by_it : e.actor ≡ acks_of l) (w : SweepingAll) (is : c.stage ≡ Sweep w) (s : IsSweeping shapes l pacing may es c w) where
+  module _ (e : Entry Op) (es : List (Entry Op)) (by_it : ByLead setup e es) (w : SweepingAll) (is : by_it.lead.stage ≡ Sweep w) (s : IsSweeping setup es by_it.lead w) where
     abbrev u : Coordinating
-    u = coord.counted c
+    u = coord.counted by_it.lead
 
     abbrev To : Coordinating → Type 0
-    To d = HoldsAt shapes l pacing may (e ∷ es) d d.stage
+    To d = HoldsAt setup (e ∷ es) d d.stage
 
     abbrev now : State
     now = s.has.state
@@ -130,80 +130,80 @@ module _ (shapes : List Shape) (l : Layout) (pacing : Pacing) (may : ℕ → Lis
     abbrev page : ℕ
     page = page_at now w.stage
 
-    abbrev before : Behind es c page
-    before = behind_of es c w s
+    abbrev before : Behind es by_it.lead page
+    before = behind_of es by_it.lead w s
 
-    abbrev seat_from : l.procs ≤ e.actor
-    seat_from = from shapes l pacing may known lists e es legal c led by_it
+    abbrev seat_from : setup.layout.procs ≤ e.actor
+    seat_from = from setup lists e es by_it
 
-    other : NotAcks c.stage
+    other : NotAcks by_it.lead.stage
     other = subst NotAcks (sym is) tt
 
     abbrev Step : Type 0
-    Step = Lands shapes l pacing may known e es legal seat_from s.has
+    Step = Lands setup lists.known e es by_it.legal seat_from s.has
 
     abbrev Still : SweepingAll → Type 0
-    Still x = (d : Coordinating) → d.begun ≡ c.begun → IsSweeping shapes l pacing may (e ∷ es) d x
+    Still x = (d : Coordinating) → d.begun ≡ by_it.lead.begun → IsSweeping setup (e ∷ es) d x
 
     asks_so : (p : SweepAllStage) → w.stage ≡ p → e.ask ≡ over.asks_at w p
-    asks_so p x = asked_at shapes l pacing may known lists e es legal c led by_it (Sweep w) is ∙ ap (over.asks_at w) x
+    asks_so p x = asked_at setup lists e es by_it (Sweep w) is ∙ ap (over.asks_at w) x
 
     found_so : (p : SweepAllStage) → w.stage ≡ p → e.found ≡ now.heap.words (cell_of (over.asks_at w p))
     found_so p x =
-        let here : e.found ≡ words shapes l pacing may es (cell_of e.ask) = legal.1.found in
+        let here : e.found ≡ words setup es (cell_of e.ask) = by_it.legal.1.found in
         (here ∙ ap (λ (y : Words). y (cell_of e.ask)) (sym s.has.of_list.words_are)) ∙ ap (λ (q : Ask). now.heap.words (cell_of q)) (asks_so p x)
 
     -- the sweep that it runs
-    swept_before : (p : SweepAllStage) → w.stage ≡ p → sweep_of (actors_after z pacing may es e.actor) ≡ over.sweep_at p
-    swept_before p x = sweeps_before shapes l pacing may known lists e es legal c led by_it (Sweep w) is ∙ ap over.sweep_at x
+    swept_before : (p : SweepAllStage) → w.stage ≡ p → sweep_of (actors_after z setup.pacing setup.may es e.actor) ≡ over.sweep_at p
+    swept_before p x = sweeps_before setup lists e es by_it (Sweep w) is ∙ ap over.sweep_at x
 
-    swept_in : (p : SweepAllStage) → w.stage ≡ p → coord.sweep_in c ≡ over.sweep_at p
+    swept_in : (p : SweepAllStage) → w.stage ≡ p → coord.sweep_in by_it.lead ≡ over.sweep_at p
     swept_in p x = ap coord.sweep_at is ∙ ap over.sweep_at x
 
-    swept_then : sweep_of (actors_after z pacing may (e ∷ es) e.actor) ≡ coord.sweep_in (coord.goes c e.found)
-    swept_then = sweeps_then shapes l pacing may known lists e es legal c led by_it c.stage refl
+    swept_then : sweep_of (actors_after z setup.pacing setup.may (e ∷ es) e.actor) ≡ coord.sweep_in (coord.goes by_it.lead e.found)
+    swept_then = sweeps_then setup lists e es by_it by_it.lead.stage refl
 
-    sound : (c.layout ≡ l) × leading.Sound c
-    sound = subst (ActorSound l) led ((lists.keeps es legal.0).shakes.all_sound (acks_of l) (omega arith))
+    sound : (by_it.lead.layout ≡ setup.layout) × leading.Sound by_it.lead
+    sound = subst (ActorSound setup.layout) by_it.led ((lists.keeps es by_it.legal.0).shakes.all_sound (acks_of setup.layout) (omega arith))
 
-    generation : c.generation ≡ now.heap.words cell.Gen
+    generation : by_it.lead.generation ≡ now.heap.words cell.Gen
     generation =
-        let own : w.generation ≡ c.generation = (subst (leading.SoundAt c) is sound.1.1).1 in
+        let own : w.generation ≡ by_it.lead.generation = (subst (leading.SoundAt by_it.lead) is sound.1.1).1 in
         sym own ∙ (s.walks.generation_is ∙ sym s.has.good.sweep.generation)
 
     -- A load: the sweep of a span may begin with it.
-    module _ (at : ℕ) (asks : e.ask ≡ Load (cell.Page at)) (none : sweep_of (actors_after z pacing may es e.actor) ≡ None) (runs_none : coord.sweep_in c ≡ None) where
+    module _ (at : ℕ) (asks : e.ask ≡ Load (cell.Page at)) (none : sweep_of (actors_after z setup.pacing setup.may es e.actor) ≡ None) (runs_none : coord.sweep_in by_it.lead ≡ None) where
       tells : TellsNothing e.ask
       tells = subst TellsNothing (sym asks) (loads_only _)
 
       abbrev loaded_state : State
-      loaded_state = aside_of.quiet_state shapes l pacing may known e es legal seat_from s.has none (beside_of e.ask tells.aside) (λ over. tells)
+      loaded_state = aside_of.quiet_state setup lists.known e es by_it.legal seat_from s.has none (beside_of e.ask tells.aside) (λ over. tells)
 
       same_words : (x : _) → loaded_state.heap.words x ≡ now.heap.words x
       same_words x = ap (λ (q : Ask). effect now.heap.words q x) asks
 
-      begins_then : IsInSweep e.actor loaded_state (sweep_of (actors_after z pacing may (e ∷ es) e.actor))
-      begins_then = sweepers.begins_or_rests known z e.actor loaded_state
-          (aside_of.quiet_good shapes l pacing may known e es legal seat_from s.has none (beside_of e.ask tells.aside) (λ over. tells))
-          (aside_of.quiet_rests shapes l pacing may known e es legal seat_from s.has none (beside_of e.ask tells.aside) (λ over. tells))
-          c.layout c.generation (coord.asks c) e.found (sweep_of (actors_after z pacing may (e ∷ es) e.actor))
+      begins_then : IsInSweep e.actor loaded_state (sweep_of (actors_after z setup.pacing setup.may (e ∷ es) e.actor))
+      begins_then = sweepers.begins_or_rests lists.known z e.actor loaded_state
+          (aside_of.quiet_good setup lists.known e es by_it.legal seat_from s.has none (beside_of e.ask tells.aside) (λ over. tells))
+          (aside_of.quiet_rests setup lists.known e es by_it.legal seat_from s.has none (beside_of e.ask tells.aside) (λ over. tells))
+          by_it.lead.layout by_it.lead.generation (coord.asks by_it.lead) e.found (sweep_of (actors_after z setup.pacing setup.may (e ∷ es) e.actor))
           (sound.0 ∙ sym s.has.good.layout)
           (generation ∙ sym (same_words cell.Gen))
-          (legal.1.found ∙ (ap (λ (y : Words). y (cell_of e.ask)) (sym s.has.of_list.words_are) ∙ (sym (same_words (cell_of e.ask)) ∙ ap (λ (q : Ask). loaded_state.heap.words (cell_of q)) (asked_at shapes l pacing may known lists e es legal c led by_it c.stage refl))))
-          (λ m same. known.coordinator_sweeps.begins c e.found m sound.1 runs_none (sym swept_then ∙ same))
+          (by_it.legal.1.found ∙ (ap (λ (y : Words). y (cell_of e.ask)) (sym s.has.of_list.words_are) ∙ (sym (same_words (cell_of e.ask)) ∙ ap (λ (q : Ask). loaded_state.heap.words (cell_of q)) (asked_at setup lists e es by_it by_it.lead.stage refl))))
+          (λ m same. lists.known.coordinator_sweeps.begins by_it.lead e.found m sound.1 runs_none (sym swept_then ∙ same))
 
       abbrev load : Step
-      load = aside_of.by_quiet shapes l pacing may known e es legal seat_from s.has none (beside_of e.ask tells.aside) (λ over. tells) begins_then
+      load = aside_of.by_quiet setup lists.known e es by_it.legal seat_from s.has none (beside_of e.ask tells.aside) (λ over. tells) begins_then
 
-      abbrev loads_on : (d : Coordinating) → d.begun ≡ c.begun → Behind (e ∷ es) d page
-      loads_on d same = goes_on shapes l pacing may known lists e es legal c led by_it other page before load (tells.aside.buffer now.heap.words) (quiet_keeps_end z e.actor now e.ask) d same
+      abbrev loads_on : (d : Coordinating) → d.begun ≡ by_it.lead.begun → Behind (e ∷ es) d page
+      loads_on d same = goes_on setup lists e es by_it other page before load (tells.aside.buffer now.heap.words) (quiet_keeps_end z e.actor now e.ask) d same
 
       -- the walk behind it
       walks_then : (x : SweepingAll) → Walks now x → Walks loaded_state x
       walks_then x y = subst (λ (q : Ask). Walks (state.moved z e.actor now (state.Deed (Quiet q))) x) (sym asks) (record { layout_is = y.layout_is; generation_is = y.generation_is; passed = y.passed; stage_is = y.stage_is })
 
       loads_still : (x : SweepingAll) → Walks now x → Still x
-      loads_still x y d same = record { has = aside_of.has_then shapes l pacing may known e es legal seat_from s.has load; over = (loads_on d same).off.over; walks = walks_then x y; behind = (loads_on d same).behind; nobody = (loads_on d same).off.nobody }
+      loads_still x y d same = record { has = aside_of.has_then setup lists.known e es by_it.legal seat_from s.has load; over = (loads_on d same).off.over; walks = walks_then x y; behind = (loads_on d same).behind; nobody = (loads_on d same).off.nobody }
 
     -- A step of the sweep that it runs.
     module _ (at : ℕ) (m : sweep.Sweeping) (x : w.stage ≡ all.Sweep at m) where
@@ -211,29 +211,29 @@ module _ (shapes : List Shape) (l : Layout) (pacing : Pacing) (may : ℕ → Lis
       asks_m = asks_so (all.Sweep at m) x
 
       runs_m : IsInSweep e.actor now (Some m)
-      runs_m = subst (IsInSweep e.actor now) (swept_before (all.Sweep at m) x) (s.has.sweeps e.actor legal.1.actor)
+      runs_m = subst (IsInSweep e.actor now) (swept_before (all.Sweep at m) x) (s.has.sweeps e.actor by_it.legal.1.actor)
 
-      then_m : sweep_of (actors_after z pacing may (e ∷ es) e.actor) ≡ on_from m e.found
-      then_m = swept_then ∙ (known.coordinator_sweeps.on c m (swept_in (all.Sweep at m) x) runs_m.1).goes_so e.found
+      then_m : sweep_of (actors_after z setup.pacing setup.may (e ∷ es) e.actor) ≡ on_from m e.found
+      then_m = swept_then ∙ (lists.known.coordinator_sweeps.on by_it.lead m (swept_in (all.Sweep at m) x) runs_m.1).goes_so e.found
 
       abbrev step : Step
-      step = aside_of.by_sweep shapes l pacing may known e es legal seat_from s.has m (swept_before (all.Sweep at m) x) asks_m then_m
+      step = aside_of.by_sweep setup lists.known e es by_it.legal seat_from s.has m (swept_before (all.Sweep at m) x) asks_m then_m
 
-      abbrev sweeps_on : (d : Coordinating) → d.begun ≡ c.begun → Behind (e ∷ es) d page
-      sweeps_on d same = goes_on shapes l pacing may known lists e es legal c led by_it other page before step
-          (aside_of.sweep_buffers shapes l pacing may known e es legal seat_from s.has m (swept_before (all.Sweep at m) x) asks_m then_m)
+      abbrev sweeps_on : (d : Coordinating) → d.begun ≡ by_it.lead.begun → Behind (e ∷ es) d page
+      sweeps_on d same = goes_on setup lists e es by_it other page before step
+          (aside_of.sweep_buffers setup lists.known e es by_it.legal seat_from s.has m (swept_before (all.Sweep at m) x) asks_m then_m)
           (sweep_keeps_end z e.actor now _ step.allowed.of_sweep) d same
 
       walks_m : Walks (state.moved z e.actor now step.move) (over.goes_at w (all.Sweep at m) e.found)
-      walks_m = stepped z known w now s.has.good s.walks e.actor at m x runs_m.0 runs_m.1 e.found (found_so (all.Sweep at m) x) step.allowed
+      walks_m = stepped z lists.known w now s.has.good s.walks e.actor at m e.found (record { is = x; runs = runs_m.0; busy = runs_m.1; found_is = found_so (all.Sweep at m) x; may = step.allowed })
 
       sweeps_still : Still (over.goes_at w (all.Sweep at m) e.found)
-      sweeps_still d same = record { has = aside_of.has_then shapes l pacing may known e es legal seat_from s.has step; over = (sweeps_on d same).off.over; walks = walks_m; behind = (sweeps_on d same).behind; nobody = (sweeps_on d same).off.nobody }
+      sweeps_still d same = record { has = aside_of.has_then setup lists.known e es by_it.legal seat_from s.has step; over = (sweeps_on d same).off.over; walks = walks_m; behind = (sweeps_on d same).behind; nobody = (sweeps_on d same).off.nobody }
 
     goes_so : (p : SweepAllStage) → w.stage ≡ p → over.is_busy p ≡ true → Still (over.goes_at w p e.found)
-    goes_so (all.LoadPage at) x b = loads_still at (asks_so (all.LoadPage at) x) (swept_before (all.LoadPage at) x) (swept_in (all.LoadPage at) x) _ (loaded z known w now s.has.good s.walks at e.found (found_so (all.LoadPage at) x) x)
+    goes_so (all.LoadPage at) x b = loads_still at (asks_so (all.LoadPage at) x) (swept_before (all.LoadPage at) x) (swept_in (all.LoadPage at) x) _ (loaded z lists.known w now s.has.good s.walks at e.found (found_so (all.LoadPage at) x) x)
     goes_so (all.Sweep at m) x b = sweeps_still at m x
-    goes_so (all.Await at) x b = loads_still at (asks_so (all.Await at) x) (swept_before (all.Await at) x) (swept_in (all.Await at) x) _ (awaited z known w now s.has.good s.walks at e.found (found_so (all.Await at) x) x)
+    goes_so (all.Await at) x b = loads_still at (asks_so (all.Await at) x) (swept_before (all.Await at) x) (swept_in (all.Await at) x) _ (awaited z lists.known w now s.has.good s.walks at e.found (found_so (all.Await at) x) x)
     goes_so all.Ended x b = absurd cc
 
     abbrev After : SweepingAll → SweepAllStage → Coordinating
@@ -242,7 +242,7 @@ module _ (shapes : List Shape) (l : Layout) (pacing : Pacing) (may : ℕ → Lis
     -- all pages are passed: it goes on to count
     counts : (x : SweepingAll) → x.stage ≡ all.Ended → Still x → To (After x all.Ended)
     counts x at still =
-        let k : IsSweeping shapes l pacing may (e ∷ es) c x = still c refl in
+        let k : IsSweeping setup (e ∷ es) by_it.lead x = still by_it.lead refl in
         let passed : PassedBefore k.has.state k.has.state.end.layout.pages = subst (λ (q : SweepAllStage). PassedBefore k.has.state (page_at k.has.state q)) at k.walks.passed in
         record {
           quiet = record { has = k.has; over = k.over; passed = subst (PassedBefore k.has.state) (ap (λ (y : Layout). y.pages) k.has.good.layout) passed; nobody = k.nobody };
@@ -257,7 +257,7 @@ module _ (shapes : List Shape) (l : Layout) (pacing : Pacing) (may : ℕ → Lis
     finish x (all.Await i) at still = still _ refl
 
     busy_so : over.is_busy w.stage ≡ true
-    busy_so = subst (λ (p : CoordStage). coord.is_busy p ≡ true) is (busy shapes l pacing may known lists e es legal c led by_it)
+    busy_so = subst (λ (p : CoordStage). coord.is_busy p ≡ true) is (busy setup lists e es by_it)
 
     pub sweeps : To (coord.goes_at u (Sweep w) e.found)
     sweeps = finish (over.goes w e.found) (over.goes w e.found).stage refl (goes_so w.stage refl busy_so)

@@ -6,18 +6,19 @@ use Rattle.gh_coord.specs.declared.tell.TellStage.TheVariants as telling
 use Rattle.gh_coord.specs.Counting as count
 use Rattle.gh_coord.specs.Listing as coord
 use Rattle.gh_coord.specs.Telling as tell
-use Rattle.gh_holds.specs.Objects.{standing_objects, WasCounted}
+use Rattle.gh_holds.specs.Objects.{AllWereCounted, standing_objects, WasCounted}
 use Rattle.gh_state.specs.Cycles.{AllIsTold}
 use Rattle.gh_sweep.specs.AtEnd.{BitsAreObjects}
-use Rattle.gh_holds.specs.ActorsHold.{EndedSo, HasRead, IsCounting, IsRead, IsTold}
-use Rattle.gh_holds.specs.HoldVocabulary.{alloc_at, AllWereCounted, marked_objects, marks_at, State, TallyWord, tally_of}
-use Rattle.gh_holds.proofs.Vocabulary.{acks_of, Arena, arena, Ask, cell_of, Coordinating, CoordStage, Count, Counted, CountStage, Done, Entry, HoldsAt, IsLed, IsTelling, Layout, Legal, LoadAck, Op, Pacing, Shape, Tell, TellStage, those, Words, words}
+use Rattle.gh_holds.specs.ActorsHold.{EndedSo, HasRead, HoldsAt, IsCounting, IsRead, IsTelling, IsTold}
+use Rattle.gh_marked.specs.HoldVocabulary.{alloc_at, marked_objects, marks_at, State, TallyWord, tally_of}
+use Rattle.gh_marked.proofs.Vocabulary.{Arena, arena, Ask, cell_of, Coordinating, CoordStage, Count, Counted, CountStage, Done, Entry, Layout, LoadAck, Op, Tell, TellStage, Words, words}
 use Rattle.gh_holds.proofs.AllActors.Aside.{loads_only, phase_only, swept_only, TellsNothing, trigger_only}
 use Rattle.gh_lists.specs.Going.{NotAcks}
-use Rattle.gh_holds.specs.Known.{Known, ListsKnown}
+use Rattle.gh_marked.specs.Known.{ListsKnown}
 use Rattle.gh_holds.proofs.AllActors.LeadingAside.{IsBehind, told_on}
-use Rattle.gh_holds.proofs.AllActors.LeadingSeat.{asked_at, busy}
+use Rattle.gh_holds.proofs.AllActors.LeadingSeat.{asked_at, busy, ByLead}
 use Rattle.gh_holds.proofs.AllActors.Starts.{counted_on}
+use Rattle.gh_lists.specs.Handshake.{Setup}
 
 -- each request is a load, or stores the trigger, the last swept cycle or the phase
 counts_tell : (p : CountStage) → TellsNothing (count.asks_at p)
@@ -53,35 +54,35 @@ module _ (u : Coordinating) where
     go true = refl
     go false = refl
 
-module _ (shapes : List Shape) (l : Layout) (pacing : Pacing) (may : ℕ → List (Entry Op) → Op → Bool) (known : Known) (lists : ListsKnown shapes l pacing may) where
+module _ (setup : Setup) (lists : ListsKnown setup) where
   abbrev z : Arena
-  z = arena shapes l pacing may
+  z = arena setup
 
   abbrev pub Told : List (Entry Op) → Coordinating → Type 0
-  Told es c = IsTold shapes l pacing may es c
+  Told es c = IsTold setup es c
 
   abbrev Behind : List (Entry Op) → Coordinating → Type 0
-  Behind es c = IsBehind shapes l pacing may known lists es c l.pages
+  Behind es c = IsBehind setup lists es c setup.layout.pages
 
-  pub told_at : (es : List (Entry Op)) (c : Coordinating) (p : TellStage) → IsTelling shapes l pacing may es c p → Told es c
+  pub told_at : (es : List (Entry Op)) (c : Coordinating) (p : TellStage) → IsTelling setup es c p → Told es c
   told_at es c telling.Ended k = absurd k
   told_at es c telling.StoreTrigger k = k
   told_at es c telling.StoreSwept k = k
   told_at es c telling.StorePhase k = k
 
-  module _ (e : Entry Op) (es : List (Entry Op)) (legal : Legal (those shapes l pacing may) (e ∷ es)) (c : Coordinating) (led : IsLed shapes l pacing may es c) (by : e.actor ≡ acks_of l) where
+  module _ (e : Entry Op) (es : List (Entry Op)) (by : ByLead setup e es) where
     abbrev u : Coordinating
-    u = coord.counted c
+    u = coord.counted by.lead
 
     abbrev To : Coordinating → Type 0
-    To d = HoldsAt shapes l pacing may (e ∷ es) d d.stage
+    To d = HoldsAt setup (e ∷ es) d d.stage
 
-    asks_so : (p : CoordStage) → c.stage ≡ p → e.ask ≡ coord.asks_at c p
-    asks_so p is = asked_at shapes l pacing may known lists e es legal c led by p is
+    asks_so : (p : CoordStage) → by.lead.stage ≡ p → e.ask ≡ coord.asks_at by.lead p
+    asks_so p is = asked_at setup lists e es by p is
 
     -- What is counted is read.
-    module _ (x : count.Counting) (is : c.stage ≡ Count x) (k : IsCounting shapes l pacing may es c x.stage) where
-      counts_no_acks : NotAcks c.stage
+    module _ (x : count.Counting) (is : by.lead.stage ≡ Count x) (k : IsCounting setup es by.lead x.stage) where
+      counts_no_acks : NotAcks by.lead.stage
       counts_no_acks = subst NotAcks (sym is) tt
 
       none_counted : TellsNothing e.ask
@@ -91,42 +92,42 @@ module _ (shapes : List Shape) (l : Layout) (pacing : Pacing) (may : ℕ → Lis
       here = k.quiet.has.state
 
       all_told : AllIsTold here
-      all_told = known.swept z here k.quiet.has.good k.quiet.over (known.walkers.all z here k.quiet.has.good k.quiet.passed)
+      all_told = lists.known.swept z here k.quiet.has.good k.quiet.over (lists.known.walkers.all z here k.quiet.has.good k.quiet.passed)
 
-      abbrev counting_on : (d : Coordinating) → d.begun ≡ c.begun → Behind (e ∷ es) d
-      counting_on d same = told_on shapes l pacing may known lists e es legal c led by (ap coord.sweep_at is) (ap (λ (p : CoordStage). coord.sweep_in (coord.goes_at u p e.found)) is ∙ counts_sweep u (count.goes x e.found) (count.gives x e.found)) none_counted counts_no_acks l.pages (record { off = k.quiet; behind = k.behind }) d same
+      abbrev counting_on : (d : Coordinating) → d.begun ≡ by.lead.begun → Behind (e ∷ es) d
+      counting_on d same = told_on setup lists e es by (ap coord.sweep_at is) (ap (λ (p : CoordStage). coord.sweep_in (coord.goes_at u p e.found)) is ∙ counts_sweep u (count.goes x e.found) (count.gives x e.found)) none_counted counts_no_acks setup.layout.pages (record { off = k.quiet; behind = k.behind }) d same
 
       -- the word that it finds
       found_at : (p : CountStage) → x.stage ≡ p → e.found ≡ here.heap.words (cell_of (count.asks_at p))
       found_at p y =
           let asks : e.ask ≡ count.asks_at p = asks_so (Count x) is ∙ ap count.asks_at y in
-          legal.1.found ∙ (ap (λ (w : Words). w (cell_of e.ask)) (sym k.quiet.has.of_list.words_are) ∙ ap (λ (q : Ask). here.heap.words (cell_of q)) asks)
+          by.legal.1.found ∙ (ap (λ (w : Words). w (cell_of e.ask)) (sym k.quiet.has.of_list.words_are) ∙ ap (λ (q : Ask). here.heap.words (cell_of q)) asks)
 
       count_busy : count.is_busy x.stage ≡ true
-      count_busy = subst (λ (p : CoordStage). coord.is_busy p ≡ true) is (busy shapes l pacing may known lists e es legal c led by)
+      count_busy = subst (λ (p : CoordStage). coord.is_busy p ≡ true) is (busy setup lists e es by)
 
-      read_now : x.stage ≡ counting.LoadTally → IsRead shapes l pacing may here.end (tally_of e.found)
+      read_now : x.stage ≡ counting.LoadTally → IsRead setup here.end (tally_of e.found)
       read_now y =
           let same = found_at counting.LoadTally y in
           record { marked = ap (λ (i : ℕ). (tally_of i).marked) same ∙ all_told.marked; freed = ap (λ (i : ℕ). (tally_of i).freed) same ∙ all_told.freed }
 
       count_goes : (p : CountStage) → x.stage ≡ p → count.is_busy p ≡ true → To (coord.after_count (coord.at_stage u (Count (count.goes_at x p e.found))) (count.given (count.goes_at x p e.found)))
-      count_goes counting.LoadTally y b = record { quiet = (counting_on c refl).off; behind = (counting_on c refl).behind; read = read_now y }
-      count_goes (counting.LoadLive t) y b = record { quiet = (counting_on c refl).off; behind = (counting_on c refl).behind; live = found_at (counting.LoadLive t) y ∙ all_told.live }
+      count_goes counting.LoadTally y b = record { quiet = (counting_on by.lead refl).off; behind = (counting_on by.lead refl).behind; read = read_now y }
+      count_goes (counting.LoadLive t) y b = record { quiet = (counting_on by.lead refl).off; behind = (counting_on by.lead refl).behind; live = found_at (counting.LoadLive t) y ∙ all_told.live }
       count_goes (counting.Ended t) y b = absurd cc
 
       pub counts : To (coord.goes_at u (Count x) e.found)
       counts = count_goes x.stage refl count_busy
 
       -- The cycle that is kept is as it was counted.
-      module _ (before : AllWereCounted shapes l pacing may es c) where
+      module _ (before : AllWereCounted setup es by.lead) where
         abbrev Were : Coordinating → Type 0
-        Were d = AllWereCounted shapes l pacing may (e ∷ es) d
+        Were d = AllWereCounted setup (e ∷ es) d
 
-        were : Were c
-        were = counted_on shapes l pacing may e es c before
+        were : Were by.lead
+        were = counted_on setup e es by.lead before
 
-        new_counted : (t : TallyWord) → IsRead shapes l pacing may here.end t → WasCounted shapes l pacing may (e ∷ es) (coord.cycle_of c.begun t)
+        new_counted : (t : TallyWord) → IsRead setup here.end t → WasCounted setup (e ∷ es) (coord.cycle_of by.lead.begun t)
         new_counted t read = record {
           ended = so.ended;
           start = inr so.start;
@@ -135,51 +136,51 @@ module _ (shapes : List Shape) (l : Layout) (pacing : Pacing) (may : ℕ → Lis
           freed = rw (sym so.alloc, sym so.marks, sym pages) (read.freed ∙ bits.freed);
           all = all_is;
         } where
-          so : EndedSo shapes l pacing may es c.begun k.quiet.has.state
+          so : EndedSo setup es by.lead.begun k.quiet.has.state
           so = k.behind.ended
 
           bits : BitsAreObjects k.quiet.has.state.end
-          bits = known.bits k.quiet.has.state.end k.quiet.has.good.ended
+          bits = lists.known.bits k.quiet.has.state.end k.quiet.has.good.ended
 
-          pages : k.quiet.has.state.end.layout.pages ≡ l.pages
+          pages : k.quiet.has.state.end.layout.pages ≡ setup.layout.pages
           pages = ap (λ (y : Layout). y.pages) k.quiet.has.good.layout
 
-          all_is : t.marked + t.freed ≡ standing_objects (words shapes l pacing may k.behind.ended.ended) l.pages
+          all_is : t.marked + t.freed ≡ standing_objects (words setup k.behind.ended.ended) setup.layout.pages
           all_is =
               let m = read.marked ∙ bits.marked in
               let f = read.freed ∙ bits.freed in
               rw (sym k.behind.ended.alloc, sym pages) (ap (λ (i : ℕ). i + t.freed) m ∙ (ap (λ (i : ℕ). marked_objects (alloc_at k.quiet.has.state.end) (marks_at k.quiet.has.state.end) 0 k.quiet.has.state.end.layout.pages + i) f ∙ bits.all))
 
-        kept_counted : (t : TallyWord) → IsRead shapes l pacing may here.end t → (b : Bool) (i : ℕ) (y : CycleNumbers) → slice_get (cond b (c.cycles.items ++ coord.cycle_of c.begun t ∷ []) c.cycles.items) i ≡ Some y → WasCounted shapes l pacing may (e ∷ es) y
+        kept_counted : (t : TallyWord) → IsRead setup here.end t → (b : Bool) (i : ℕ) (y : CycleNumbers) → slice_get (cond b (by.lead.cycles.items ++ coord.cycle_of by.lead.begun t ∷ []) by.lead.cycles.items) i ≡ Some y → WasCounted setup (e ∷ es) y
         kept_counted t read false i y at = were i y at
-        kept_counted t read true i y at = go (one_of c.cycles.items (coord.cycle_of c.begun t) y i at) where
-          go : ((j : ℕ) × (slice_get c.cycles.items j ≡ Some y)) ⊎ (y ≡ coord.cycle_of c.begun t) → WasCounted shapes l pacing may (e ∷ es) y
+        kept_counted t read true i y at = go (one_of by.lead.cycles.items (coord.cycle_of by.lead.begun t) y i at) where
+          go : ((j : ℕ) × (slice_get by.lead.cycles.items j ≡ Some y)) ⊎ (y ≡ coord.cycle_of by.lead.begun t) → WasCounted setup (e ∷ es) y
           go (inl w) = were w.0 y w.1
-          go (inr w) = subst (WasCounted shapes l pacing may (e ∷ es)) (sym w) (new_counted t read)
+          go (inr w) = subst (WasCounted setup (e ∷ es)) (sym w) (new_counted t read)
 
-        read_tally : (p : CountStage) → x.stage ≡ p → HasRead shapes l pacing may here.end p
-        read_tally p y = subst (HasRead shapes l pacing may here.end) y k.read
+        read_tally : (p : CountStage) → x.stage ≡ p → HasRead setup here.end p
+        read_tally p y = subst (HasRead setup here.end) y k.read
 
         kept_goes : (p : CountStage) → x.stage ≡ p → count.is_busy p ≡ true → Were (coord.after_count (coord.at_stage u (Count (count.goes_at x p e.found))) (count.given (count.goes_at x p e.found)))
         kept_goes counting.LoadTally y b = were
-        kept_goes (counting.LoadLive t) y b = λ i v at. kept_counted t (read_tally (counting.LoadLive t) y) (ltb (length c.cycles.items) c.cycles.room) i v at
+        kept_goes (counting.LoadLive t) y b = λ i v at. kept_counted t (read_tally (counting.LoadLive t) y) (ltb (length by.lead.cycles.items) by.lead.cycles.room) i v at
         kept_goes (counting.Ended t) y b = absurd cc
 
         pub keeps : Were (coord.goes_at u (Count x) e.found)
         keeps = kept_goes x.stage refl count_busy
 
     -- It is told.
-    module _ (t : tell.Telling) (is : c.stage ≡ Tell t) (k : Told es c) where
-      tells_no_acks : NotAcks c.stage
+    module _ (t : tell.Telling) (is : by.lead.stage ≡ Tell t) (k : Told es by.lead) where
+      tells_no_acks : NotAcks by.lead.stage
       tells_no_acks = subst NotAcks (sym is) tt
 
       none_told : TellsNothing e.ask
       none_told = subst TellsNothing (sym (asks_so (Tell t) is)) (tells_tell t t.stage)
 
-      abbrev telling_on : Behind (e ∷ es) c
-      telling_on = told_on shapes l pacing may known lists e es legal c led by (ap coord.sweep_at is) (ap (λ (p : CoordStage). coord.sweep_in (coord.goes_at u p e.found)) is ∙ tells_sweep u (tell.goes t e.found) (tell.gives t e.found)) none_told tells_no_acks l.pages (record { off = k.quiet; behind = k.behind }) c refl
+      abbrev telling_on : Behind (e ∷ es) by.lead
+      telling_on = told_on setup lists e es by (ap coord.sweep_at is) (ap (λ (p : CoordStage). coord.sweep_in (coord.goes_at u p e.found)) is ∙ tells_sweep u (tell.goes t e.found) (tell.gives t e.found)) none_told tells_no_acks setup.layout.pages (record { off = k.quiet; behind = k.behind }) by.lead refl
 
-      pub told_then : Told (e ∷ es) c
+      pub told_then : Told (e ∷ es) by.lead
       told_then = record { quiet = telling_on.off; behind = telling_on.behind; live = k.live }
 
       -- in the last cycle it is done, else it goes on to the next

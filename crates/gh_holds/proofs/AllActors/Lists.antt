@@ -7,97 +7,97 @@ use Rattle.gh_coord.specs.declared.coord.CoordStage.TheVariants.{Done, Tell}
 use Rattle.gh_coord.specs.declared.tell.TellStage.{TellStage}
 use Rattle.gh_coord.specs.Handshake as leading
 use Rattle.gh_holds.specs.Objects.{LeavesTheReached}
-use Rattle.gh_lists.specs.Lists.{IsEnding, IsTelling, may_of}
+use Rattle.gh_lists.specs.Lists.{IsEnding, IsTelling, may_of, Given, setup_for}
 use Rattle.gh_holds.specs.ActorsHold.{Holds, HoldsAt, IsTelling as IsTold}
 use Rattle.gh_marked.specs.State.{HasState, IsInCycle, IsMarking}
-use Rattle.gh_holds.specs.HoldVocabulary.{acks_of, Coordinating, Entry, IsBeginning, IsInLimits, IsStartOf, Layout, Op, Pacing, Shape, ShapesAreGood, words}
+use Rattle.gh_marked.specs.HoldVocabulary.{acks_of, Coordinating, Entry, IsBeginning, IsStartOf, Op, words}
 use Rattle.gh_lists.specs.Handshake.{those}
 use Rattle.gh_marked.specs.Scanned.{GlobalsAreCounted}
 use Rattle.gh_lists.specs.Starts.{legal_start, whole}
 use Rattle.gh_holds.proofs.AllActors.Begins.{is_ready}
-use Rattle.gh_holds.proofs.AllActors.ForTypes.{for_types}
+use Rattle.gh_marked.proofs.OneStep.ForTypes.{for_types}
 use Rattle.gh_lists.specs.Going.{goes_then, led_then}
-use Rattle.gh_holds.specs.Known.{Known, ListsKnown}
+use Rattle.gh_marked.specs.Known.{ListsKnown}
 use Rattle.gh_holds.proofs.AllActors.LeadingLast.{left_now}
 use Rattle.gh_holds.proofs.AllActors.Scanned.{few_scanned}
 use Rattle.gh_holds.proofs.AllActors.Steps as steps
 use Rattle.gh_holds.proofs.AllActors.Top as top
 use Rattle.gh_holds.proofs.AllActors.Until.{so_far, until}
-use Rattle.gh_holds.proofs.AllActors.Wanted.{Wanted}
+use Rattle.gh_marked.proofs.OneStep.Wanted.{Wanted}
 use Rattle.gh_holds.proofs.AllActors.WithinTwo.{within_two}
 use Rattle.gh_holds.specs.EveryList.{InCycles, HoldsAfter}
 use Rattle.gh_marked.specs.Drawn.{CycleIsDrawn}
-use Rattle.gh_holds.specs.Drawing.{is_drawn}
+use Rattle.gh_marked.specs.Drawing.{is_drawn}
 use Rattle.gh_holds.specs.HasAt.{has_at}
 use Rattle.gh_holds.proofs.AllActors.Tied.{is_tied}
 use Rattle.gh_marked.specs.Marked.{MarksToTheEnd}
 use Rattle.gh_marked.specs.EveryCycle.{EveryCycleIsMarked, EveryGlobalIsCounted}
 
-module _ (shapes : List Shape) (l : Layout) (pacing : Pacing) (counts : ℕ → ℕ) (good : ShapesAreGood shapes) (limits : IsInLimits l) (known : Known) (wanted : Wanted) (lists : ListsKnown shapes l pacing (may_of shapes l counts)) (marks : EveryCycleIsMarked) (counted : EveryGlobalIsCounted) where
+module _ (given : Given) (wanted : Wanted) (lists : ListsKnown (setup_for given)) (marks : EveryCycleIsMarked) (counted : EveryGlobalIsCounted) where
   abbrev Lawful : List (Entry Op) → Type 0
-  Lawful = steps.Lawful shapes l pacing counts good limits known wanted lists
+  Lawful = steps.Lawful given wanted lists
 
   abbrev Led : List (Entry Op) → Coordinating → Type 0
-  Led = steps.Led shapes l pacing counts good limits known wanted lists
+  Led = steps.Led given wanted lists
 
   -- while a cycle is marked
-  marked : (es : List (Entry Op)) (c : Coordinating) → Lawful es → Led es c → leading.Marks c.stage → MarksToTheEnd (steps.z shapes l pacing counts good limits known wanted lists) pacing (may_of shapes l counts) es c
-  marked es c legal led on = marks (steps.z shapes l pacing counts good limits known wanted lists) pacing (may_of shapes l counts) limits (steps.polls shapes l pacing counts good limits known wanted lists) (top.knows_heap shapes l pacing counts good limits known wanted lists) es c legal led on
+  marked : (es : List (Entry Op)) (c : Coordinating) → Lawful es → Led es c → leading.Marks c.stage → MarksToTheEnd (steps.z given wanted lists) given.pacing (may_of given.shapes given.layout given.counts) es c
+  marked es c legal led on = marks (steps.z given wanted lists) given.pacing (may_of given.shapes given.layout given.counts) lists.limits (steps.polls given wanted lists) (top.knows_heap given wanted lists) es c legal led on
 
-  is_marking : (es : List (Entry Op)) (c : Coordinating) → Lawful es → Led es c → leading.Marks c.stage → IsMarking shapes l pacing (may_of shapes l counts) es
+  is_marking : (es : List (Entry Op)) (c : Coordinating) → Lawful es → Led es c → leading.Marks c.stage → IsMarking (setup_for given) es
   is_marking es c legal led on = let m = (marked es c legal led on).marking in record { cycle = m.cycle; shared = m.shared; known = m.known }
 
   -- and at each start where one was marked
-  was_marked : (es : List (Entry Op)) → Lawful es → steps.Was shapes l pacing counts good limits known wanted lists es
-  was_marked es legal start c of led on = marked start c (legal_start (those shapes l pacing (may_of shapes l counts)) start es of legal) led on
+  was_marked : (es : List (Entry Op)) → Lawful es → steps.Was given wanted lists es
+  was_marked es legal start c of led on = marked start c (legal_start (those (setup_for given)) start es of legal) led on
 
-  holds : (es : List (Entry Op)) → Lawful es → (c : Coordinating) → Led es c → Holds shapes l pacing (may_of shapes l counts) es c
-  holds es legal c led = top.holds shapes l pacing counts good limits known wanted lists es legal (was_marked es legal) c led
+  holds : (es : List (Entry Op)) → Lawful es → (c : Coordinating) → Led es c → Holds (setup_for given) es c
+  holds es legal c led = top.holds given wanted lists es legal (was_marked es legal) c led
 
-  has : (es : List (Entry Op)) → Lawful es → HasState shapes l pacing (may_of shapes l counts) es
+  has : (es : List (Entry Op)) → Lawful es → HasState (setup_for given) es
   has es legal =
-      let x = led_then shapes l pacing (may_of shapes l counts) es in
-      has_at shapes l pacing (may_of shapes l counts) es x.lead x.lead.stage (goes_then shapes l pacing (may_of shapes l counts) es x.lead x.led_by) (λ on. is_marking es x.lead legal x.led_by on) (holds es legal x.lead x.led_by).at
+      let x = led_then (setup_for given) es in
+      has_at (setup_for given) es x.lead x.lead.stage (goes_then (setup_for given) es x.lead x.led_by) (λ on. is_marking es x.lead legal x.led_by on) (holds es legal x.lead x.led_by).at
 
   -- where the coordinator tells that a cycle is swept, it has begun
-  cycle_at : (es : List (Entry Op)) (c : Coordinating) (p : CoordStage) → IsTelling p → HoldsAt shapes l pacing (may_of shapes l counts) es c p → IsInCycle shapes l pacing (may_of shapes l counts) es c.begun
-  cycle_at es c (Tell t) is h = (subst (λ (s : TellStage). IsTold shapes l pacing (may_of shapes l counts) es c s) is h).behind.cycle
+  cycle_at : (es : List (Entry Op)) (c : Coordinating) (p : CoordStage) → IsTelling p → HoldsAt (setup_for given) es c p → IsInCycle (setup_for given) es c.begun
+  cycle_at es c (Tell t) is h = (subst (λ (s : TellStage). IsTold (setup_for given) es c s) is h).behind.cycle
   cycle_at es c _ is h = absurd is
 
-  in_cycles : InCycles shapes l pacing (may_of shapes l counts)
+  in_cycles : InCycles (setup_for given)
   in_cycles es c legal led telling = cycle_at es c c.stage telling (holds es legal c led).at
 
   -- and what is left once all is over
-  left : (es : List (Entry Op)) → Lawful es → (c : Coordinating) → Led es c → Holds shapes l pacing (may_of shapes l counts) es c → c.stage ≡ Done → LeavesTheReached shapes l pacing (may_of shapes l counts) es c
-  left es legal c led h is = left_now shapes l pacing (may_of shapes l counts) limits known lists es legal c led is (subst (HoldsAt shapes l pacing (may_of shapes l counts) es c) is h.at) h.was.ends
+  left : (es : List (Entry Op)) → Lawful es → (c : Coordinating) → Led es c → Holds (setup_for given) es c → c.stage ≡ Done → LeavesTheReached (setup_for given) es c
+  left es legal c led h is = left_now (setup_for given) lists es legal c led is (subst (HoldsAt (setup_for given) es c) is h.at) h.was.ends
 
   -- The cursor of globals: its word does not begin anew while a cycle is marked; it is 0 where one begins, and past the globals where its marking ends.
 
-  cursor_small : (es : List (Entry Op)) (c : Coordinating) → Lawful es → Led es c → leading.Marks c.stage → words shapes l pacing (may_of shapes l counts) es cell.Gcur + 1 < 2 ^ 64
+  cursor_small : (es : List (Entry Op)) (c : Coordinating) → Lawful es → Led es c → leading.Marks c.stage → words (setup_for given) es cell.Gcur + 1 < 2 ^ 64
   cursor_small es c legal led on = let m = (marked es c legal led on).marking in subst (λ (w : Words). w cell.Gcur + 1 < 2 ^ 64) m.is.words_are (wanted.small m.cycle m.shared m.good)
 
-  cursor_clear : (es : List (Entry Op)) (c : Coordinating) → Lawful es → Led es c → IsBeginning c.stage → words shapes l pacing (may_of shapes l counts) es cell.Gcur ≡ 0
-  cursor_clear es c legal led at_first = (is_ready shapes l pacing (may_of shapes l counts) limits known lists es c legal led at_first c.stage at_first (holds es legal c led).at).1
+  cursor_clear : (es : List (Entry Op)) (c : Coordinating) → Lawful es → Led es c → IsBeginning c.stage → words (setup_for given) es cell.Gcur ≡ 0
+  cursor_clear es c legal led at_first = (is_ready (setup_for given) lists es c legal led at_first c.stage at_first (holds es legal c led).at).1
 
-  cursor_passed : (e : Entry Op) (es : List (Entry Op)) (c : Coordinating) → Lawful (e ∷ es) → Led es c → e.actor ≡ acks_of l → IsEnding c.stage → l.globals ≤ words shapes l pacing (may_of shapes l counts) es cell.Gcur
+  cursor_passed : (e : Entry Op) (es : List (Entry Op)) (c : Coordinating) → Lawful (e ∷ es) → Led es c → e.actor ≡ acks_of given.layout → IsEnding c.stage → given.layout.globals ≤ words (setup_for given) es cell.Gcur
   cursor_passed e es c legal led seat ending =
-      let x = led_then shapes l pacing (may_of shapes l counts) (e ∷ es) in
+      let x = led_then (setup_for given) (e ∷ es) in
       ((holds (e ∷ es) legal x.lead x.led_by).was.ends e es c.begun (whole (e ∷ es)) (record { lead = c; led = led; by = seat; stage = ending; cycle = refl })).cursor
 
-  globals : (es : List (Entry Op)) → Lawful es → (c : Coordinating) → Led es c → GlobalsAreCounted shapes l pacing es c
-  globals es legal c led = counted shapes l pacing (may_of shapes l counts) lists.few (record { small = cursor_small; clear = cursor_clear; passed = cursor_passed }) es c legal led
+  globals : (es : List (Entry Op)) → Lawful es → (c : Coordinating) → Led es c → GlobalsAreCounted (setup_for given) es c
+  globals es legal c led = counted (setup_for given) lists.few (record { small = cursor_small; clear = cursor_clear; passed = cursor_passed }) es c legal led
 
-  drawn : (es : List (Entry Op)) (c : Coordinating) → Lawful es → Led es c → leading.Marks c.stage → CycleIsDrawn shapes l pacing (may_of shapes l counts) es c
+  drawn : (es : List (Entry Op)) (c : Coordinating) → Lawful es → Led es c → leading.Marks c.stage → CycleIsDrawn (setup_for given) es c
   drawn es c legal led on =
       let m = marked es c legal led on in
       let k = m.marking in
-      is_drawn shapes l pacing (may_of shapes l counts) known.drawn k.cycle es c k.shared k.is (is_tied shapes l pacing (may_of shapes l counts) known es c k) m.ends (k.known.drawn 0)
+      is_drawn (setup_for given) lists.known.drawn k.cycle es c k.shared k.is (is_tied (setup_for given) lists.known es c k) m.ends (k.known.drawn 0)
 
-  pub held : (es : List (Entry Op)) → Lawful es → HoldsAfter shapes l pacing (may_of shapes l counts) es
+  pub held : (es : List (Entry Op)) → Lawful es → HoldsAfter (setup_for given) es
   held es legal =
-      let x = led_then shapes l pacing (may_of shapes l counts) es in
+      let x = led_then (setup_for given) es in
       let was = (holds es legal x.lead x.led_by).was in
-      let states : (start : List (Entry Op)) → IsStartOf start es → HasState shapes l pacing (may_of shapes l counts) start = λ start of. has start (legal_start (those shapes l pacing (may_of shapes l counts)) start es of legal) in
+      let states : (start : List (Entry Op)) → IsStartOf start es → HasState (setup_for given) start = λ start of. has start (legal_start (those (setup_for given)) start es of legal) in
       record {
         has = has es legal;
         holds = λ c led. holds es legal c led;
@@ -105,10 +105,10 @@ module _ (shapes : List Shape) (l : Layout) (pacing : Pacing) (counts : ℕ → 
         left = λ c led done. left es legal c led (holds es legal c led) done;
         marking = λ c led on. is_marking es c legal led on;
         drawn = λ c led on. drawn es c legal led on;
-        so_far = λ c led on. so_far shapes l pacing (may_of shapes l counts) limits known lists es legal states c led on (marked es c legal led on);
-        scanned = few_scanned shapes l pacing (may_of shapes l counts) known lists es legal (was_marked es legal);
+        so_far = λ c led on. so_far (setup_for given) lists es legal states c led on (marked es c legal led on);
+        scanned = few_scanned (setup_for given) lists es legal (was_marked es legal);
         globals = globals es legal;
-        until = until shapes l pacing (may_of shapes l counts) limits known lists es legal states was.ends;
-        within_two = within_two shapes l pacing counts good limits known wanted lists has in_cycles es legal was.frees;
-        types = for_types shapes l pacing counts good limits known wanted lists has es legal;
+        until = until (setup_for given) lists es legal states was.ends;
+        within_two = within_two given wanted lists has in_cycles es legal was.frees;
+        types = for_types given wanted lists has es legal;
       }

@@ -17,9 +17,10 @@ use Rattle.gh_coord.specs.Opening as opens_by
 use Rattle.gh_coord.specs.Stopping as stop
 use Rattle.gh_coord.specs.Watching as watch
 use Rattle.gh_worker.specs.Writing.{IsWritten}
-use Rattle.gh_holds.proofs.Vocabulary.{Add, And, Arena, arena, AreWords, Ask, Cell, cell_of, ChangesOneCell, Check, Close, CloseStage, Coordinating, CoordStage, Cycle, effect, Entry, Good, IsBeginning, IsKnown, Layout, left, Load, mark_words, Marking, MarkingGood, MarkOn, Op, Open, OpenStage, Or, Pacing, same_cell, Shape, StopAgain, StopStage, Store, Swap, view, Watch, WatchStage, Went, Words, WritesItsOwn}
+use Rattle.gh_marked.proofs.Vocabulary.{Add, And, Arena, arena, AreWords, Ask, Cell, cell_of, ChangesOneCell, Check, Close, CloseStage, Coordinating, CoordStage, Cycle, effect, Entry, Good, IsBeginning, IsKnown, left, Load, mark_words, Marking, MarkingGood, MarkOn, Op, Open, OpenStage, Or, same_cell, StopAgain, StopStage, Store, Swap, view, Watch, WatchStage, Went, Words, WritesItsOwn}
 use Rattle.gh_holds.proofs.AllActors.Aside.{beside_of, IsBeside, loads, stores_bank, stores_phase}
-use Rattle.gh_holds.specs.Known.{Known}
+use Rattle.gh_marked.specs.Known.{Known}
+use Rattle.gh_lists.specs.Handshake.{Setup}
 
 -- Words that a worker writes.
 
@@ -100,11 +101,11 @@ pub words_stay : MarksStayWords → (z : Cycle) (a : ℕ) (s t : Marking) → We
 words_stay known z a s t stays h = h
 words_stay known z a s t (goes v m w may) h = known.moves z a v m may (words_stay known z a s v w h)
 
-module _ (shapes : List Shape) (l : Layout) (pacing : Pacing) (may : ℕ → List (Entry Op) → Op → Bool) (known : Known) where
+module _ (setup : Setup) (known : Known) where
   abbrev z : Arena
-  z = arena shapes l pacing may
+  z = arena setup
 
-  pub objects : (c : Cycle) (s : Marking) (es : List (Entry Op)) → MarkingGood c s → IsKnown shapes l pacing may c s es → KnowsObjects c s
+  pub objects : (c : Cycle) (s : Marking) (es : List (Entry Op)) → MarkingGood c s → IsKnown setup c s es → KnowsObjects c s
   objects c s es good k = known.objects c k.has.state.heap s (subst (λ (x : Arena). Good x (view k.has.state.heap)) (sym k.arena_is) k.has.good.heap) good (subst (λ (x : Arena). GoesTogether x k.has.state.heap s) (sym k.arena_is) k.beside)
 
   -- The entries of the coordinator that leave the cycle marked.

@@ -1,5 +1,5 @@
 -- Before the first step the heap is empty and calm, every processor is at rest, and no cycle was begun.
-use Rattle.std.proofs.Common.{◌≡◌, ℕ, ◌%◌, ◌<◌, Bool, true, false, cond, ltb, List, [], None, refl, sym, subst, ◌∙◌, arith, inl, inr, lit<}
+use Rattle.std.proofs.Common.{◌≡◌, ℕ, ◌%◌, ◌<◌, Bool, true, false, cond, ltb, [], None, refl, sym, subst, ◌∙◌, arith, inl, inr, lit<}
 use Rattle.std.proofs.lemmas.Nat.Bits.{bit_at-zero}
 use Rattle.gh_base.specs.declared.value.Name.{Name}
 use Rattle.gh_base.specs.Cells.{seats_of}
@@ -14,23 +14,24 @@ use Rattle.gh_marked.specs.Sweepers.{IsInSweep, sweep_of}
 use Rattle.gh_lists.specs.Lists.{BeginsCycle}
 use Rattle.gh_holds.specs.ActorsHold.{Holds, IsQuiet}
 use Rattle.gh_marked.specs.State.{IsAsItShould, IsHeapOf}
-use Rattle.gh_holds.specs.HoldVocabulary.{acks_of, actors_after, arena, Arena, Coordinating, Entry, Good, Heap, IsLed, Layout, Op, opening_words, Pacing, Reach, Shape, State, view}
+use Rattle.gh_marked.specs.HoldVocabulary.{acks_of, actors_after, arena, Arena, Coordinating, Good, Heap, IsLed, opening_words, Reach, State, view}
 use Rattle.gh_lists.specs.Going.{at_seat}
-use Rattle.gh_holds.specs.Known.{Known}
+use Rattle.gh_marked.specs.Known.{Known}
+use Rattle.gh_lists.specs.Handshake.{Setup}
 
 nothing_reached : (n : Name) → Reach opening_ever n → ⊥
 nothing_reached n (from_global k n' e) = absurd (cc)
 nothing_reached n (from_register g d n' runs e) = absurd (cc)
 nothing_reached n (from_field m k n' r e) = nothing_reached m r
 
-module _ (shapes : List Shape) (l : Layout) (pacing : Pacing) (may : ℕ → List (Entry Op) → Op → Bool) (known : Known) where
+module _ (setup : Setup) (known : Known) where
   abbrev z : Arena
-  z = arena shapes l pacing may
+  z = arena setup
 
   abbrev h : Heap
-  h = record { words = opening_words pacing.trigger; locked = λ a. false; holds = λ a p. false; laying = λ a. None; freeing = λ a. None; place = λ n. 0; ever = opening_ever }
+  h = record { words = opening_words setup.pacing.trigger; locked = λ a. false; holds = λ a p. false; laying = λ a. None; freeing = λ a. None; place = λ n. 0; ever = opening_ever }
 
-  no_bit : (x : ℕ) → row_bit (alloc_words (opening_words pacing.trigger)) x ≡ 1 → ⊥
+  no_bit : (x : ℕ) → row_bit (alloc_words (opening_words setup.pacing.trigger)) x ≡ 1 → ⊥
   unfolding row_bit
   no_bit x set = let none = sym (bit_at-zero (x % 64)) ∙ set in omega (arith, none)
 
@@ -54,19 +55,19 @@ module _ (shapes : List Shape) (l : Layout) (pacing : Pacing) (may : ℕ → Lis
     names = record { few = λ g. omega arith; none = λ g le. refl };
   }
 
-  as_it_should : (a : ℕ) → a < l.procs → IsAsItShould shapes l pacing may [] h a (opening_processor l a)
+  as_it_should : (a : ℕ) → a < setup.layout.procs → IsAsItShould setup [] h a (opening_processor setup.layout a)
   as_it_should a lt = record {
-    sound = known.writes.sound_first l a;
+    sound = known.writes.sound_first setup.layout a;
     pending = None;
     fine = known.runs.opens z a (view h) lt refl refl (record { locked = refl; holds = λ p. refl; laying = refl; freeing = refl });
     answers = refl;
-    notes = λ g its. known.notes.first l a g;
+    notes = λ g its. known.notes.first setup.layout a g;
     ended = λ g its x. absurd (elim x [ inl y ↦ cc | inr y ↦ cc ]);
     ends = λ g its x. absurd (cc);
     left = λ x g its. absurd (cc);
   }
 
-  of_list : IsHeapOf shapes l pacing may [] h
+  of_list : IsHeapOf setup [] h
   of_list = record {
     words_are = refl;
     ever_is = refl;
@@ -78,48 +79,48 @@ module _ (shapes : List Shape) (l : Layout) (pacing : Pacing) (may : ℕ → Lis
   }
 
   abbrev first : Coordinating
-  first = coord.opening l (acks_of l) pacing.gogc pacing.minheap pacing.room
+  first = coord.opening setup.layout (acks_of setup.layout) setup.pacing.gogc setup.pacing.minheap setup.pacing.room
 
   abbrev s : State
-  s = opening z h pacing.trigger
+  s = opening z h setup.pacing.trigger
 
   -- nobody sweeps
-  sweeps : (a : ℕ) → a < seats_of l → IsInSweep a s (sweep_of (actors_after z pacing may [] a))
-  sweeps a below = subst (IsInSweep a s) (sym (none (ltb a l.procs) (ltb a (acks_of l)))) (record { none = λ p is. absurd (cc); told = refl }) where
-    none : (b d : Bool) → sweep_of (cond b (actor.Runs (opening_processor l a)) (cond d (actor.Marks (worker.opening l a)) (actor.Leads (coord.opening l a pacing.gogc pacing.minheap pacing.room)))) ≡ None
-    none true d = known.processors_sweep.at_first l a
-    none false true = known.workers_sweep.at_first l a
-    none false false = known.coordinator_sweeps.at_first l a pacing.gogc pacing.minheap pacing.room
+  sweeps : (a : ℕ) → a < seats_of setup.layout → IsInSweep a s (sweep_of (actors_after z setup.pacing setup.may [] a))
+  sweeps a below = subst (IsInSweep a s) (sym (none (ltb a setup.layout.procs) (ltb a (acks_of setup.layout)))) (record { none = λ p is. absurd (cc); told = refl }) where
+    none : (b d : Bool) → sweep_of (cond b (actor.Runs (opening_processor setup.layout a)) (cond d (actor.Marks (worker.opening setup.layout a)) (actor.Leads (coord.opening setup.layout a setup.pacing.gogc setup.pacing.minheap setup.pacing.room)))) ≡ None
+    none true d = known.processors_sweep.at_first setup.layout a
+    none false true = known.workers_sweep.at_first setup.layout a
+    none false false = known.coordinator_sweeps.at_first setup.layout a setup.pacing.gogc setup.pacing.minheap setup.pacing.room
 
-  quiet : IsQuiet shapes l pacing may [] first
+  quiet : IsQuiet setup [] first
   quiet = record {
     has = record {
       state = s;
       of_list = of_list;
-      good = known.heaps_open z h pacing.trigger good nothing_reached;
+      good = known.heaps_open z h setup.pacing.trigger good nothing_reached;
       placing = λ a lt. refl;
       others_place = λ a le. refl;
       sweeps = sweeps;
     };
     over = refl;
     passed = λ p below. refl;
-    nobody = record { buffers = λ b. refl; stacks = λ g. inl (omega arith); processors = λ a lt. known.calm.first l a };
+    nobody = record { buffers = λ b. refl; stacks = λ g. inl (omega arith); processors = λ a lt. known.calm.first setup.layout a };
   }
 
-  holds_first : Holds shapes l pacing may [] first
+  holds_first : Holds setup [] first
   holds_first = record {
     at = quiet;
     was = record {
       full = tt;
-      frees = λ k begun swept of_begun of_swept begins sweeps. absurd (subst (BeginsCycle shapes l pacing may k) of_begun begins);
+      frees = λ k begun swept of_begun of_swept begins sweeps. absurd (subst (BeginsCycle setup k) of_begun begins);
       ends = λ e before k of step. absurd (cc);
     };
     counted = λ i y is. absurd (cc);
   }
 
-  is_first : (c : Coordinating) → IsLed shapes l pacing may [] c → first ≡ c
-  is_first c led = let both : actor.Leads first ≡ actor.Leads c = sym (at_seat shapes l pacing may) ∙ led in cc
+  is_first : (c : Coordinating) → IsLed setup [] c → first ≡ c
+  is_first c led = let both : actor.Leads first ≡ actor.Leads c = sym (at_seat setup) ∙ led in cc
 
   -- before the first step
-  pub opens : (c : Coordinating) → IsLed shapes l pacing may [] c → Holds shapes l pacing may [] c
-  opens c led = subst (Holds shapes l pacing may []) (is_first c led) holds_first
+  pub opens : (c : Coordinating) → IsLed setup [] c → Holds setup [] c
+  opens c led = subst (Holds setup []) (is_first c led) holds_first

@@ -9,13 +9,13 @@ use Rattle.gh_coord.specs.Handshake as leading
 use Rattle.gh_coord.specs.Opening as opens_by
 use Rattle.gh_coord.specs.Telling as tells_by
 use Rattle.gh_sweep.specs.Shared.{in_all, live_at}
-use Rattle.gh_holds.specs.ActorsHold.{HasRead, page_at}
+use Rattle.gh_holds.specs.ActorsHold.{HasEnded, HasRead, Holds, HoldsAt, IsClosing, IsCounting, IsOff, IsQuiet, IsSweeping, IsTelling, IsTold, page_at}
 use Rattle.gh_lists.specs.Handshake as handshake
-use Rattle.gh_holds.specs.HoldVocabulary.{CycleEnd, SweepingAll}
-use Rattle.gh_holds.proofs.Vocabulary.{acks_of, Arena, arena, Check, Close, CloseStage, Coordinating, CoordStage, Count, CountStage, Done, Entry, eqb-true, HasEnded, Holds, HoldsAt, IsClosing, IsCounting, IsInLimits, IsLed, IsOff, IsQuiet, IsSweeping, IsTelling, IsTold, KeepsIt, last_of, last_phase, Layout, Lead, Leads, Legal, LoadAck, LoadWant, MarkOn, may_of, Op, Open, OpenStage, Pacing, place_of, RunPhase, Shape, ShapesAreGood, State, Stop, StopAgain, Stopped, Sweep, Tell, TellStage, those, WasMarked, Watch}
+use Rattle.gh_marked.specs.HoldVocabulary.{CycleEnd, SweepingAll}
+use Rattle.gh_marked.proofs.Vocabulary.{acks_of, Arena, arena, Check, Close, CloseStage, Coordinating, CoordStage, Count, CountStage, Done, Entry, eqb-true, IsLed, KeepsIt, last_of, last_phase, Lead, Leads, Legal, LoadAck, LoadWant, MarkOn, may_of, Op, Open, OpenStage, place_of, RunPhase, State, Stop, StopAgain, Stopped, Sweep, Tell, TellStage, those, WasMarked, Watch}
 use Rattle.gh_holds.proofs.AllActors.Gone.{gone_rests}
-use Rattle.gh_holds.specs.Known.{Known, ListsKnown}
-use Rattle.gh_holds.proofs.AllActors.Landing as landing
+use Rattle.gh_marked.specs.Known.{ListsKnown}
+use Rattle.gh_marked.proofs.OneStep.Landing as landing
 use Rattle.gh_holds.proofs.AllActors.Others.{was_by_others}
 use Rattle.gh_holds.proofs.AllActors.Quieting as quieting
 use Rattle.gh_holds.proofs.AllActors.Quieting.{IsCalmStage}
@@ -24,32 +24,30 @@ use Rattle.gh_holds.proofs.AllActors.Starts.{counted_on}
 use Rattle.gh_lists.specs.Starts.{whole}
 use Rattle.gh_holds.proofs.AllActors.Still.{IsStill, is_still}
 use Rattle.gh_holds.proofs.AllActors.StillHolds.{holds_still}
-use Rattle.gh_holds.proofs.AllActors.Sweepers as sweepers
+use Rattle.gh_marked.proofs.OneStep.Sweepers as sweepers
 use Rattle.gh_holds.proofs.AllActors.Walking.{walks_last}
-use Rattle.gh_holds.proofs.AllActors.Wanted.{Wanted}
+use Rattle.gh_marked.proofs.OneStep.Wanted.{Wanted}
 use Rattle.gh_holds.proofs.AllActors.Was.{heap_refuses, RefusesRightly, still_refuses}
 use Rattle.gh_lists.specs.Seats.{other}
+use Rattle.gh_lists.specs.Lists.{Given, setup_for}
 
 -- while a cycle is opened the world is stopped
 open_stopped : (p : OpenStage) → opens_by.is_busy p ≡ true → leading.open_post p ≡ Stopped run.Off
 open_stopped opening.Ended busy = absurd (cc)
 open_stopped _ busy = refl
 
-module _ (shapes : List Shape) (l : Layout) (pacing : Pacing) (counts : ℕ → ℕ) (good : ShapesAreGood shapes) (limits : IsInLimits l) (known : Known) (wanted : Wanted) (lists : ListsKnown shapes l pacing (may_of shapes l counts))
-    (e : Entry Op) (es : List (Entry Op)) (legal : Legal (those shapes l pacing (may_of shapes l counts)) (e ∷ es)) (was : WasMarked (arena shapes l pacing (may_of shapes l counts)) pacing (may_of shapes l counts) es) (c : Coordinating) (led : IsLed shapes l pacing (may_of shapes l counts) es c) (lt : e.actor < l.procs) where
-  abbrev may : ℕ → List (Entry Op) → Op → Bool
-  may = may_of shapes l counts
-
+module _ (given : Given) (wanted : Wanted) (lists : ListsKnown (setup_for given))
+    (e : Entry Op) (es : List (Entry Op)) (legal : Legal (those (setup_for given)) (e ∷ es)) (was : WasMarked (arena (setup_for given)) given.pacing (may_of given.shapes given.layout given.counts) es) (c : Coordinating) (led : IsLed (setup_for given) es c) (lt : e.actor < given.layout.procs) where
   abbrev z : Arena
-  z = arena shapes l pacing may
+  z = arena (setup_for given)
 
   abbrev H : List (Entry Op) → Type 0
-  H xs = Holds shapes l pacing may xs c
+  H xs = Holds (setup_for given) xs c
 
-  among : e.actor < acks_of l
+  among : e.actor < acks_of given.layout
   among = omega (arith, lt)
 
-  keeps : KeepsIt (those shapes l pacing may) es
+  keeps : KeepsIt (those (setup_for given)) es
   keeps = lists.keeps es legal.0
 
   -- The last cycle is swept, and each processor is gone.
@@ -61,84 +59,84 @@ module _ (shapes : List Shape) (l : Layout) (pacing : Pacing) (counts : ℕ → 
       keeps.shakes.led.last_is ∙ (ap (λ (x : Lead). last_of x.post) same ∙ ap (λ (p : CoordStage). last_of (leading.post_at p)) done)
 
   not_done : c.stage ≡ Done → ⊥
-  not_done done = gone_rests shapes l pacing may known lists e es legal lt (keeps.processors_left e.actor lt (phase_is done))
+  not_done done = gone_rests (setup_for given) lists e es legal lt (keeps.processors_left e.actor lt (phase_is done))
 
-  other_seat : (e.actor == acks_of l) ≡ false
-  other_seat = go (e.actor == acks_of l) refl where
-    go : (b : Bool) → (e.actor == acks_of l) ≡ b → (e.actor == acks_of l) ≡ false
+  other_seat : (e.actor == acks_of given.layout) ≡ false
+  other_seat = go (e.actor == acks_of given.layout) refl where
+    go : (b : Bool) → (e.actor == acks_of given.layout) ≡ b → (e.actor == acks_of given.layout) ≡ false
     go false is = is
-    go true is = absurd (let same = eqb-true e.actor (acks_of l) is in omega (arith, same, lt))
+    go true is = absurd (let same = eqb-true e.actor (acks_of given.layout) is in omega (arith, same, lt))
 
   -- in the last cycle each is gone, so that none steps
-  not_last : (d : Coordinating) → IsLed shapes l pacing may (e ∷ es) d → d.is_last ≡ true → ⊥
-  not_last d led_d is = gone_rests shapes l pacing may known lists e es legal lt (keeps.processors_gone d (sym (other shapes l pacing e es (acks_of l) other_seat) ∙ led_d) is e.actor lt)
+  not_last : (d : Coordinating) → IsLed (setup_for given) (e ∷ es) d → d.is_last ≡ true → ⊥
+  not_last d led_d is = gone_rests (setup_for given) lists e es legal lt (keeps.processors_gone d (sym (other (setup_for given) e es (acks_of given.layout) other_seat) ∙ led_d) is e.actor lt)
 
   -- Where the world is stopped nothing changes.
   module _ (phase : RunPhase) (post : leading.post_at c.stage ≡ Stopped phase) where
-    still : IsStill shapes l pacing may e es
-    still = is_still shapes l pacing may wanted.read lists e es legal c phase led post among
+    still : IsStill (setup_for given) e es
+    still = is_still (setup_for given) wanted.read lists e es legal c phase led post among
 
-    pub stopped_now : (p : CoordStage) → HoldsAt shapes l pacing may es c p → HoldsAt shapes l pacing may (e ∷ es) c p × RefusesRightly shapes l pacing may e es
-    stopped_now p h = (holds_still shapes l pacing may e es still.changes c p h, still_refuses shapes l pacing may e es still)
+    pub stopped_now : (p : CoordStage) → HoldsAt (setup_for given) es c p → HoldsAt (setup_for given) (e ∷ es) c p × RefusesRightly (setup_for given) e es
+    stopped_now p h = (holds_still (setup_for given) e es still.changes c p h, still_refuses (setup_for given) e es still)
 
   stopped_at : (p : CoordStage) (phase : RunPhase) → c.stage ≡ p → leading.post_at p ≡ Stopped phase → leading.post_at c.stage ≡ Stopped phase
   stopped_at p phase is post = ap leading.post_at is ∙ post
 
   open_busy : (o : opens_by.CycleOpening) → c.stage ≡ Open o → opens_by.is_busy o.stage ≡ true
-  open_busy o is = (subst (leading.SoundAt c) is (subst (handshake.Sound l) led (keeps.shakes.all_sound (acks_of l) (omega arith))).1.1).1
+  open_busy o is = (subst (leading.SoundAt c) is (subst (handshake.Sound given.layout) led (keeps.shakes.all_sound (acks_of given.layout) (omega arith))).1.1).1
 
   abbrev Now : CoordStage → Type 0
-  Now p = HoldsAt shapes l pacing may (e ∷ es) c p × RefusesRightly shapes l pacing may e es
+  Now p = HoldsAt (setup_for given) (e ∷ es) c p × RefusesRightly (setup_for given) e es
 
   -- No cycle is under way, and the world runs.
-  module _ (calm : IsCalmStage c.stage) (cycle page : ℕ) (q : IsOff shapes l pacing may es cycle page) where
-    abbrev land : landing.Lands shapes l pacing counts good limits known wanted e es legal lt q.has
-    land = quieting.land shapes l pacing counts good limits known wanted lists e es legal lt c led calm cycle page q
+  module _ (calm : IsCalmStage c.stage) (cycle page : ℕ) (q : IsOff (setup_for given) es cycle page) where
+    abbrev land : landing.Lands given lists.good lists.limits lists.known wanted e es legal lt q.has
+    land = quieting.land given wanted lists e es legal lt c led calm cycle page q
 
     abbrev s : State
     s = q.has.state
 
-    abbrev off : IsOff shapes l pacing may (e ∷ es) cycle page
-    off = quieting.off_then shapes l pacing counts good limits known wanted lists e es legal lt c led calm cycle page q
+    abbrev off : IsOff (setup_for given) (e ∷ es) cycle page
+    off = quieting.off_then given wanted lists e es legal lt c led calm cycle page q
 
-    refuses : RefusesRightly shapes l pacing may e es
-    refuses = heap_refuses shapes l pacing may e es legal lt known q.has land.after.does.full
+    refuses : RefusesRightly (setup_for given) e es
+    refuses = heap_refuses (setup_for given) e es legal lt lists.known q.has land.after.does.full
 
     end_is : off.has.state.end ≡ s.end
-    end_is = (sweepers.end_stays known z e.actor s land.move).0
+    end_is = (sweepers.end_stays lists.known z e.actor s land.move).0
 
-    behind : (k : ℕ) → HasEnded shapes l pacing may es k s → HasEnded shapes l pacing may (e ∷ es) k off.has.state
-    behind k h = has_ended_on shapes l pacing may e es known z e.actor s land.move q.has.good land.allowed q.has.of_list.words_are off.has.of_list.words_are q.has.of_list.ever_is off.has.of_list.ever_is k (λ d led_d is. absurd (not_last d led_d is)) h
+    behind : (k : ℕ) → HasEnded (setup_for given) es k s → HasEnded (setup_for given) (e ∷ es) k off.has.state
+    behind k h = has_ended_on (setup_for given) e es lists.known z e.actor s land.move (record { good = q.has.good; may = land.allowed; words_were = q.has.of_list.words_are; words_are = off.has.of_list.words_are; ever_was = q.has.of_list.ever_is; ever_is = off.has.of_list.ever_is }) k (λ d led_d is. absurd (not_last d led_d is)) h
 
-  quiet_now : IsCalmStage c.stage → (q : IsQuiet shapes l pacing may es c) → IsQuiet shapes l pacing may (e ∷ es) c × RefusesRightly shapes l pacing may e es
-  quiet_now calm q = (off calm (c.begun + 1) l.pages q, refuses calm (c.begun + 1) l.pages q)
+  quiet_now : IsCalmStage c.stage → (q : IsQuiet (setup_for given) es c) → IsQuiet (setup_for given) (e ∷ es) c × RefusesRightly (setup_for given) e es
+  quiet_now calm q = (off calm (c.begun + 1) given.layout.pages q, refuses calm (c.begun + 1) given.layout.pages q)
 
-  told_then : IsCalmStage c.stage → IsTold shapes l pacing may es c → IsTold shapes l pacing may (e ∷ es) c × RefusesRightly shapes l pacing may e es
+  told_then : IsCalmStage c.stage → IsTold (setup_for given) es c → IsTold (setup_for given) (e ∷ es) c × RefusesRightly (setup_for given) e es
   told_then calm h = (
     record {
-      quiet = off calm (c.begun + 1) l.pages h.quiet;
-      behind = behind calm (c.begun + 1) l.pages h.quiet c.begun h.behind;
-      live = h.live ∙ ap (λ (x : CycleEnd). in_all x (live_at x)) (sym (end_is calm (c.begun + 1) l.pages h.quiet));
+      quiet = off calm (c.begun + 1) given.layout.pages h.quiet;
+      behind = behind calm (c.begun + 1) given.layout.pages h.quiet c.begun h.behind;
+      live = h.live ∙ ap (λ (x : CycleEnd). in_all x (live_at x)) (sym (end_is calm (c.begun + 1) given.layout.pages h.quiet));
     },
-    refuses calm (c.begun + 1) l.pages h.quiet,
+    refuses calm (c.begun + 1) given.layout.pages h.quiet,
   )
 
-  counting_then : IsCalmStage c.stage → (p : CountStage) → IsCounting shapes l pacing may es c p → IsCounting shapes l pacing may (e ∷ es) c p × RefusesRightly shapes l pacing may e es
+  counting_then : IsCalmStage c.stage → (p : CountStage) → IsCounting (setup_for given) es c p → IsCounting (setup_for given) (e ∷ es) c p × RefusesRightly (setup_for given) e es
   counting_then calm p h = (
     record {
-      quiet = off calm (c.begun + 1) l.pages h.quiet;
-      behind = behind calm (c.begun + 1) l.pages h.quiet c.begun h.behind;
-      read = subst (λ (x : CycleEnd). HasRead shapes l pacing may x p) (sym (end_is calm (c.begun + 1) l.pages h.quiet)) h.read;
+      quiet = off calm (c.begun + 1) given.layout.pages h.quiet;
+      behind = behind calm (c.begun + 1) given.layout.pages h.quiet c.begun h.behind;
+      read = subst (λ (x : CycleEnd). HasRead (setup_for given) x p) (sym (end_is calm (c.begun + 1) given.layout.pages h.quiet)) h.read;
     },
-    refuses calm (c.begun + 1) l.pages h.quiet,
+    refuses calm (c.begun + 1) given.layout.pages h.quiet,
   )
 
-  sweeping_then : IsCalmStage c.stage → (w : SweepingAll) → IsSweeping shapes l pacing may es c w → IsSweeping shapes l pacing may (e ∷ es) c w × RefusesRightly shapes l pacing may e es
+  sweeping_then : IsCalmStage c.stage → (w : SweepingAll) → IsSweeping (setup_for given) es c w → IsSweeping (setup_for given) (e ∷ es) c w × RefusesRightly (setup_for given) e es
   sweeping_then calm w h = (
     record {
       has = (off calm (c.begun + 1) page q).has;
       over = (off calm (c.begun + 1) page q).over;
-      walks = walks_last known z e.actor (acks_of l) (λ same. omega (arith, same, lt)) h.has.state (land calm (c.begun + 1) page q).move h.has.good (land calm (c.begun + 1) page q).allowed w h.walks;
+      walks = walks_last lists.known z e.actor (acks_of given.layout) (λ same. omega (arith, same, lt)) h.has.state (land calm (c.begun + 1) page q).move h.has.good (land calm (c.begun + 1) page q).allowed w h.walks;
       behind = behind calm (c.begun + 1) page q c.begun h.behind;
       nobody = (off calm (c.begun + 1) page q).nobody;
     },
@@ -147,28 +145,28 @@ module _ (shapes : List Shape) (l : Layout) (pacing : Pacing) (counts : ℕ → 
     page : ℕ
     page = page_at h.has.state w.stage
 
-    q : IsOff shapes l pacing may es (c.begun + 1) page
+    q : IsOff (setup_for given) es (c.begun + 1) page
     q = record { has = h.has; over = h.over; passed = h.walks.passed; nobody = h.nobody }
 
-  marks_now : leading.Marks c.stage → RefusesRightly shapes l pacing may e es
+  marks_now : leading.Marks c.stage → RefusesRightly (setup_for given) e es
   marks_now on = let k = (was es c (whole es) led on).marking.known in
-      heap_refuses shapes l pacing may e es legal lt known k.has (landing.lands shapes l pacing counts good limits known wanted e es legal lt k.has (λ over. absurd (let no : None ≡ Some k.under_way.0 = sym over ∙ k.under_way.1 in cc))).after.does.full
+      heap_refuses (setup_for given) e es legal lt lists.known k.has (landing.lands given lists.good lists.limits lists.known wanted e es legal lt k.has (λ over. absurd (let no : None ≡ Some k.under_way.0 = sym over ∙ k.under_way.1 in cc))).after.does.full
 
   calm_at : (p : CoordStage) → c.stage ≡ p → IsCalmStage p → IsCalmStage c.stage
   calm_at p is calm = subst IsCalmStage (sym is) calm
 
-  told_now : (t : tells_by.Telling) → c.stage ≡ Tell t → (p : TellStage) → IsTelling shapes l pacing may es c p → IsTelling shapes l pacing may (e ∷ es) c p × RefusesRightly shapes l pacing may e es
+  told_now : (t : tells_by.Telling) → c.stage ≡ Tell t → (p : TellStage) → IsTelling (setup_for given) es c p → IsTelling (setup_for given) (e ∷ es) c p × RefusesRightly (setup_for given) e es
   told_now t is telling.Ended h = absurd h
   told_now t is telling.StoreTrigger h = told_then (calm_at (Tell t) is tt) h
   told_now t is telling.StoreSwept h = told_then (calm_at (Tell t) is tt) h
   told_now t is telling.StorePhase h = told_then (calm_at (Tell t) is tt) h
 
-  closing_now : (y : closes_by.Closing) → c.stage ≡ Close y → (p : CloseStage) → y.stage ≡ p → IsClosing shapes l pacing may es c p → Now (Close y)
+  closing_now : (y : closes_by.Closing) → c.stage ≡ Close y → (p : CloseStage) → y.stage ≡ p → IsClosing (setup_for given) es c p → Now (Close y)
   closing_now y is closing.Ended at h = absurd h
-  closing_now y is closing.LoadBank at h = stopped_now run.Mark (stopped_at (Close y) run.Mark is (ap leading.close_post at)) (Close y) (subst (IsClosing shapes l pacing may es c) (sym at) h)
-  closing_now y is _ at h = stopped_now run.Mark (stopped_at (Close y) run.Mark is (ap leading.close_post at)) (Close y) (subst (IsClosing shapes l pacing may es c) (sym at) h)
+  closing_now y is closing.LoadBank at h = stopped_now run.Mark (stopped_at (Close y) run.Mark is (ap leading.close_post at)) (Close y) (subst (IsClosing (setup_for given) es c) (sym at) h)
+  closing_now y is _ at h = stopped_now run.Mark (stopped_at (Close y) run.Mark is (ap leading.close_post at)) (Close y) (subst (IsClosing (setup_for given) es c) (sym at) h)
 
-  now_at : (p : CoordStage) → c.stage ≡ p → HoldsAt shapes l pacing may es c p → Now p
+  now_at : (p : CoordStage) → c.stage ≡ p → HoldsAt (setup_for given) es c p → Now p
   now_at (LoadAck i) is q = quiet_now (calm_at (LoadAck i) is tt) q
   now_at LoadWant is q = quiet_now (calm_at LoadWant is tt) q
   now_at (Stop st) is q = quiet_now (calm_at (Stop st) is tt) q
@@ -186,6 +184,6 @@ module _ (shapes : List Shape) (l : Layout) (pacing : Pacing) (counts : ℕ → 
   pub by_processor : H es → H (e ∷ es)
   by_processor h = let now = now_at c.stage refl h.at in record {
     at = now.0;
-    was = was_by_others shapes l pacing may known e es legal among now.1 h.was;
-    counted = counted_on shapes l pacing may e es c h.counted;
+    was = was_by_others (setup_for given) lists.known e es legal among now.1 h.was;
+    counted = counted_on (setup_for given) e es c h.counted;
   }

@@ -8,20 +8,21 @@ use Rattle.gh_phase.specs.declared.view.RunPhase.TheVariants as run
 use Rattle.gh_phase.specs.Handshake.{is_stop, run_word}
 use Rattle.gh_mutator.specs.declared.task.Task.TheVariants as task
 use Rattle.gh_mutator_writes.specs.Calm.{FindsNoMarking}
-use Rattle.gh_holds.proofs.Vocabulary.{Arena, arena, Ask, asks, cell_of, Coordinating, CoordStage, Count, Done, END, Entry, Heap, is_busy_at, IsInLimits, IsLed, IsSound, KeepsIt, last_of, last_phase, Layout, Lead, Leads, Legal, LoadAck, LoadWant, MarksNothing, may_of, nat_tests, Op, Pacing, place_of, Processor, processor_at, processor_kind, Shape, ShapesAreGood, started, State, Stop, stop_word, StopStage, Sweep, Tell, TellStage, those, Words}
-use Rattle.gh_holds.specs.Endings.{is_end}
+use Rattle.gh_marked.proofs.Vocabulary.{Arena, arena, Ask, asks, cell_of, Coordinating, CoordStage, Count, Done, END, Entry, Heap, is_busy_at, IsLed, IsSound, KeepsIt, last_of, last_phase, Lead, Leads, Legal, LoadAck, LoadWant, MarksNothing, nat_tests, Op, place_of, Processor, processor_at, processor_kind, started, Stop, stop_word, StopStage, Sweep, Tell, TellStage, those, Words}
+use Rattle.gh_marked.specs.Endings.{is_end}
 use Rattle.gh_holds.specs.ActorsHold.{IsOff}
-use Rattle.gh_holds.specs.Known.{Known, ListsKnown}
-use Rattle.gh_holds.proofs.AllActors.Landing as landing
-use Rattle.gh_holds.proofs.AllActors.OwnSide as own_side
-use Rattle.gh_holds.proofs.AllActors.Ranging.{begins_so}
+use Rattle.gh_marked.specs.Known.{ListsKnown}
+use Rattle.gh_marked.proofs.OneStep.Landing as landing
+use Rattle.gh_marked.proofs.OneStep.OwnSide as own_side
+use Rattle.gh_marked.proofs.OneStep.Ranging.{begins_so}
 use Rattle.gh_lists.specs.Resting.{state_stays}
-use Rattle.gh_holds.specs.StackWords as stacks
-use Rattle.gh_holds.specs.StackWords.{TellsStacks}
-use Rattle.gh_holds.proofs.AllActors.Stepping as stepping
-use Rattle.gh_holds.proofs.AllActors.Sweepers as sweepers
-use Rattle.gh_holds.proofs.AllActors.Wanted.{Wanted}
+use Rattle.gh_marked.specs.StackWords as stacks
+use Rattle.gh_marked.specs.StackWords.{TellsStacks}
+use Rattle.gh_marked.proofs.OneStep.Stepping as stepping
+use Rattle.gh_marked.proofs.OneStep.Sweepers as sweepers
+use Rattle.gh_marked.proofs.OneStep.Wanted.{Wanted}
 use Rattle.gh_lists.specs.Phase.{is_last}
+use Rattle.gh_lists.specs.Lists.{Given, setup_for}
 
 -- no cycle is under way, and the world may run
 abbrev pub IsCalmStage : CoordStage → Type 0
@@ -59,20 +60,17 @@ not_marking _ calm is = calm
 same : (a b : ℕ) → (a == b) ≡ true → a ≡ b
 same a b x = grind (arith, nat_tests)
 
-module _ (shapes : List Shape) (l : Layout) (pacing : Pacing) (counts : ℕ → ℕ) (good : ShapesAreGood shapes) (limits : IsInLimits l) (known : Known) (wanted : Wanted) (lists : ListsKnown shapes l pacing (may_of shapes l counts))
-    (e : Entry Op) (es : List (Entry Op)) (legal : Legal (those shapes l pacing (may_of shapes l counts)) (e ∷ es)) (lt : e.actor < l.procs) (c : Coordinating) (led : IsLed shapes l pacing (may_of shapes l counts) es c) (calm_stage : IsCalmStage c.stage)
-    (cycle page : ℕ) (q : IsOff shapes l pacing (may_of shapes l counts) es cycle page) where
-  abbrev may : ℕ → List (Entry Op) → Op → Bool
-  may = may_of shapes l counts
-
+module _ (given : Given) (wanted : Wanted) (lists : ListsKnown (setup_for given))
+    (e : Entry Op) (es : List (Entry Op)) (legal : Legal (those (setup_for given)) (e ∷ es)) (lt : e.actor < given.layout.procs) (c : Coordinating) (led : IsLed (setup_for given) es c) (calm_stage : IsCalmStage c.stage)
+    (cycle page : ℕ) (q : IsOff (setup_for given) es cycle page) where
   abbrev z : Arena
-  z = arena shapes l pacing may
+  z = arena (setup_for given)
 
   abbrev a : ℕ
   a = e.actor
 
   abbrev m : Processor
-  m = processor_at shapes l pacing may es a
+  m = processor_at (setup_for given) es a
 
   abbrev calm : MarksNothing m
   calm = q.nobody.processors a lt
@@ -81,35 +79,35 @@ module _ (shapes : List Shape) (l : Layout) (pacing : Pacing) (counts : ℕ → 
   sound = (q.has.of_list.processors a lt).sound
 
   idle : (o : Op) → e.begun ≡ Some o → is_busy_at m.task ≡ false
-  idle o x = (begins_so shapes l pacing counts known e es legal lt o x).idle
+  idle o x = (begins_so given lists.known e es legal lt o x).idle
 
-  pub tells : TellsStacks q.has.state.heap.words (started (processor_kind shapes l) e.begun m)
-  tells = stacks.calm_tells shapes l known e.begun m sound idle calm q.has.state.heap.words
+  pub tells : TellsStacks q.has.state.heap.words (started (processor_kind given.shapes given.layout) e.begun m)
+  tells = stacks.calm_tells given.shapes given.layout lists.known e.begun m sound idle calm q.has.state.heap.words
 
-  pub calm_now : MarksNothing (started (processor_kind shapes l) e.begun m)
-  calm_now = stacks.calm_now shapes l known e.begun m sound idle calm
+  pub calm_now : MarksNothing (started (processor_kind given.shapes given.layout) e.begun m)
+  calm_now = stacks.calm_now given.shapes given.layout lists.known e.begun m sound idle calm
 
-  abbrev pub land : landing.Lands shapes l pacing counts good limits known wanted e es legal lt q.has
-  land = landing.lands shapes l pacing counts good limits known wanted e es legal lt q.has (λ over. calm_now)
+  abbrev pub land : landing.Lands given lists.good lists.limits lists.known wanted e es legal lt q.has
+  land = landing.lands given lists.good lists.limits lists.known wanted e es legal lt q.has (λ over. calm_now)
 
   abbrev now : Processor
-  now = own_side.now shapes l pacing counts good limits known wanted e es legal lt q.has land tells
+  now = own_side.now given lists.good lists.limits lists.known wanted e es legal lt q.has land tells
 
   abbrev h : Heap
   h = q.has.state.heap
 
   abbrev t : Heap
-  t = own_side.t shapes l pacing counts good limits known wanted e es legal lt q.has land tells
+  t = own_side.t given lists.good lists.limits lists.known wanted e es legal lt q.has land tells
 
   abbrev found : ℕ
   found = h.words (cell_of (asks now))
 
   abbrev then : Processor
-  then = own_side.then shapes l pacing counts good limits known wanted e es legal lt q.has land tells
+  then = own_side.then given lists.good lists.limits lists.known wanted e es legal lt q.has land tells
 
   -- It finds no marking.
 
-  keeps : KeepsIt (those shapes l pacing may) es
+  keeps : KeepsIt (those (setup_for given)) es
   keeps = lists.keeps es legal.0
 
   lead_is : keeps.shakes.lead ≡ leading.lead_of c
@@ -124,36 +122,32 @@ module _ (shapes : List Shape) (l : Layout) (pacing : Pacing) (counts : ℕ → 
     word = ap (λ (x : Ask). h.words (cell_of x)) loads ∙ (ap (λ (w : Words). w cell.Phase) q.has.of_list.words_are ∙ keeps.shakes.led.phase_is)
 
   calm_then : MarksNothing then
-  calm_then = known.calm.lasts shapes now found (own_side.sound_now shapes l pacing counts good limits known wanted e es legal lt q.has land tells).place (own_side.busy shapes l pacing counts good limits known wanted e es legal lt q.has land tells) calm_now finds
+  calm_then = lists.known.calm.lasts given.shapes now found (own_side.sound_now given lists.good lists.limits lists.known wanted e es legal lt q.has land tells).place (own_side.busy given lists.good lists.limits lists.known wanted e es legal lt q.has land tells) calm_now finds
 
-  pub processors : (b : ℕ) → b < l.procs → MarksNothing (processor_at shapes l pacing may (e ∷ es) b)
+  pub processors : (b : ℕ) → b < given.layout.procs → MarksNothing (processor_at (setup_for given) (e ∷ es) b)
   processors b less = go (a == b) refl where
-    go : (x : Bool) → (a == b) ≡ x → MarksNothing (processor_at shapes l pacing may (e ∷ es) b)
-    go true x = subst (λ (n : ℕ). MarksNothing (processor_at shapes l pacing may (e ∷ es) n)) (same a b x) (subst MarksNothing (sym (own_side.then_is shapes l pacing counts good limits known wanted e es legal lt q.has land tells)) calm_then)
-    go false x = subst MarksNothing (sym (state_stays shapes l pacing may e es b x)) (q.nobody.processors b less)
+    go : (x : Bool) → (a == b) ≡ x → MarksNothing (processor_at (setup_for given) (e ∷ es) b)
+    go true x = subst (λ (n : ℕ). MarksNothing (processor_at (setup_for given) (e ∷ es) n)) (same a b x) (subst MarksNothing (sym (own_side.then_is given lists.good lists.limits lists.known wanted e es legal lt q.has land tells)) calm_then)
+    go false x = subst MarksNothing (sym (state_stays (setup_for given) e es b x)) (q.nobody.processors b less)
 
   -- Stacks and buffers.
 
   word_stays : (g : ℕ) → (now.task ≡ task.End g → ⊥) → t.words (cell.Scanned g) ≡ h.words (cell.Scanned g)
-  word_stays g other = ap (λ (w : Words). w (cell.Scanned g)) land.words_are ∙ stacks.calm_word shapes l known e.begun m sound idle calm h.words g other
+  word_stays g other = ap (λ (w : Words). w (cell.Scanned g)) land.words_are ∙ stacks.calm_word given.shapes given.layout lists.known e.begun m sound idle calm h.words g other
 
   pub old : (g : ℕ) → (t.words (cell.Scanned g) < cycle) ⊎ (t.words (cell.Scanned g) ≡ END)
   old g = elim (is_end now.task g) [
-    | inl x ↦ inr (own_side.word_ends shapes l pacing counts good limits known wanted e es legal lt q.has land tells g x)
+    | inl x ↦ inr (own_side.word_ends given lists.good lists.limits lists.known wanted e es legal lt q.has land tells g x)
     | inr other ↦ subst (λ (n : ℕ). (n < cycle) ⊎ (n ≡ END)) (sym (word_stays g other)) (q.nobody.stacks g)
   ]
 
   pub buffers : (b : ℕ) → t.words (cell.Buffer b) ≡ 0
-  buffers b = ap (λ (w : Words). w (cell.Buffer b)) land.words_are ∙ (known.calm.leaves now h.words (cell.Buffer b) calm_now (λ w. w) ∙ q.nobody.buffers b)
+  buffers b = ap (λ (w : Words). w (cell.Buffer b)) land.words_are ∙ (lists.known.calm.leaves now h.words (cell.Buffer b) calm_now (λ w. w) ∙ q.nobody.buffers b)
 
-  -- The state then.
-  abbrev pub then_state : State
-  then_state = own_side.state_then shapes l pacing counts good limits known wanted e es legal lt q.has land tells
-
-  abbrev pub off_then : IsOff shapes l pacing may (e ∷ es) cycle page
+  abbrev pub off_then : IsOff (setup_for given) (e ∷ es) cycle page
   off_then = record {
-    has = stepping.has_then shapes l pacing counts good limits known wanted e es legal lt q.has land tells;
-    over = (sweepers.end_stays known z a q.has.state land.move).1 ∙ q.over;
-    passed = known.walkers.own z a q.has.state land.move page q.has.good land.allowed q.passed;
+    has = stepping.has_then given lists.good lists.limits lists.known wanted e es legal lt q.has land tells;
+    over = (sweepers.end_stays lists.known z a q.has.state land.move).1 ∙ q.over;
+    passed = lists.known.walkers.own z a q.has.state land.move page q.has.good land.allowed q.passed;
     nobody = record { buffers = buffers; stacks = old; processors = processors };
   }

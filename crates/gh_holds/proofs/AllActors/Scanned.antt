@@ -14,15 +14,16 @@ use Rattle.gh_worker.specs.Works.{words_done}
 use Rattle.gh_lists.specs.declared.handshake.Actor.TheVariants as actor
 use Rattle.gh_lists.specs.Counts.{CountsPlainly, stored_in, stores}
 use Rattle.gh_marked.specs.Scanned.{done_by, FewAreScanned, most_scanned, scanned_by, scanned_in}
-use Rattle.gh_holds.proofs.Vocabulary.{Actor, alloc_words, Arena, arena, Coordinating, Entry, Good, Heap, IsLed, Layout, Legal, Marking, nat_tests, Op, Pacing, Placed, row_bit, Shape, SpanHead, those, view, WasMarked, Words, WorkerStage}
+use Rattle.gh_marked.proofs.Vocabulary.{Actor, alloc_words, Arena, arena, Coordinating, Entry, Good, Heap, IsLed, Legal, Marking, nat_tests, Op, Placed, row_bit, SpanHead, those, view, WasMarked, Words, WorkerStage}
 use Rattle.gh_lists.specs.Going.{led_then}
-use Rattle.gh_holds.specs.Known.{Known, ListsKnown}
+use Rattle.gh_marked.specs.Known.{ListsKnown}
 use Rattle.gh_holds.proofs.AllActors.Marks.{objects}
 use Rattle.gh_lists.specs.Starts.{whole as all_of}
 use Rattle.gh_marked.specs.Marked.{IsInMarking}
 use Rattle.gh_lists.specs.Leaving.{ends_marking, marks_or_not}
 use Rattle.gh_lists.specs.Steps as seats
 use Rattle.gh_marked.specs.Weights.{ArePacked, counted, counted_most, stored_rises, whole}
+use Rattle.gh_lists.specs.Handshake.{Setup}
 
 -- a worker that is done with something takes, scans or shades
 done_or_marking : (p : WorkerStage) (found : ℕ) → (words_done p found ≡ 0) ⊎ working.IsMarking p
@@ -35,12 +36,12 @@ black_of : (size : ℕ) (c : Colour) → 0 < whole size c → (c ≡ Black) × (
 black_of size Black some = (refl, refl)
 black_of size _ some = absurd (omega (arith, some))
 
-module _ (shapes : List Shape) (l : Layout) (pacing : Pacing) (may : ℕ → List (Entry Op) → Op → Bool) (known : Known) where
+module _ (setup : Setup) (lists : ListsKnown setup) where
   abbrev z : Arena
-  z = arena shapes l pacing may
+  z = arena setup
 
   -- While a cycle is marked.
-  module _ (es : List (Entry Op)) (c : Coordinating) (m : IsInMarking z pacing may es c) where
+  module _ (es : List (Entry Op)) (c : Coordinating) (m : IsInMarking z setup.pacing setup.may es c) where
     abbrev h : Heap
     h = m.known.has.state.heap
 
@@ -55,19 +56,19 @@ module _ (shapes : List Shape) (l : Layout) (pacing : Pacing) (may : ℕ → Lis
       p : ℕ
       head : SpanHead
       i : ℕ
-      slot : IsSlotOf l.pages (view h).page p head i o (s.extents.size o)
+      slot : IsSlotOf setup.layout.pages (view h).page p head i o (s.extents.size o)
 
     slotted : (o : ℕ) → s.since o ≡ true → HasSlot o
     slotted o since =
         let set : row_bit (alloc_words h.words) o ≡ 1 = subst (λ (w : Words). row_bit (alloc_words w) o ≡ 1) m.known.beside.words (m.good.objects.placed o since) in
         let b = good.bits o set in
         let placed : Placed (view h).alloc (view h).birth h.place b.0 = record { set = subst (λ (x : ℕ). row_bit (alloc_words h.words) x ≡ 1) (sym b.2) set; says = ap (view h).birth b.2 ∙ b.3 } in
-        let has : InSlot shapes l.pages (view h).page h.place h.ever.type_of b.0 = good.slots b.0 b.1 placed in
-        let size : s.extents.size (h.place b.0) ≡ size_for shapes h.ever.type_of b.0 = m.known.beside.size b.0 (record { made = b.1; placed = placed; since = subst (λ (x : ℕ). s.since x ≡ true) (sym b.2) since }) in
-        subst HasSlot b.2 (record { p = has.p; head = has.h; i = has.i; slot = subst (λ (x : ℕ). IsSlotOf l.pages (view h).page has.p has.h has.i (h.place b.0) x) (sym size) has.slot })
+        let has : InSlot setup.shapes setup.layout.pages (view h).page h.place h.ever.type_of b.0 = good.slots b.0 b.1 placed in
+        let size : s.extents.size (h.place b.0) ≡ size_for setup.shapes h.ever.type_of b.0 = m.known.beside.size b.0 (record { made = b.1; placed = placed; since = subst (λ (x : ℕ). s.since x ≡ true) (sym b.2) since }) in
+        subst HasSlot b.2 (record { p = has.p; head = has.h; i = has.i; slot = subst (λ (x : ℕ). IsSlotOf setup.layout.pages (view h).page has.p has.h has.i (h.place b.0) x) (sym size) has.slot })
 
     apart : HeapIsApart z (view h)
-    apart = known.apart z (view h) good
+    apart = lists.known.apart z (view h) good
 
     abbrev piece : ℕ → ℕ
     piece o = whole (s.extents.size o) (s.colour o)
@@ -87,76 +88,75 @@ module _ (shapes : List Shape) (l : Layout) (pacing : Pacing) (may : ℕ → Lis
           absurd (apart.slots x.p y.p x.i y.i o p (s.extents.size o) (s.extents.size p) (p - o) 0 x.head y.head x.slot y.slot (λ same. omega (arith, same, lt)) (omega (arith, lt, below, size)) (omega (arith, some_too, size_too)) (omega (arith, lt)))
       go false e = grind (arith, nat_tests, e)
 
-    within : (o : ℕ) → 0 < piece o → o + piece o ≤ 1024 * l.pages
+    within : (o : ℕ) → 0 < piece o → o + piece o ≤ 1024 * setup.layout.pages
     within o some =
-        let end = (objects shapes l pacing may known m.cycle s es m.good m.known o (since_of o some)).within in
-        let there : o + s.extents.size o ≤ 1024 * l.pages = subst (λ (r : Arena). o + s.extents.size o ≤ 1024 * r.layout.pages) m.known.arena_is end in
+        let end = (objects setup lists.known m.cycle s es m.good m.known o (since_of o some)).within in
+        let there : o + s.extents.size o ≤ 1024 * setup.layout.pages = subst (λ (r : Arena). o + s.extents.size o ≤ 1024 * r.layout.pages) m.known.arena_is end in
         let size = (black_of (s.extents.size o) (s.colour o) some).1 in
         omega (arith, there, size)
 
-    few_counted : counted l s ≤ most_scanned l
-    few_counted = counted_most l s packed within
+    few_counted : counted setup.layout s ≤ most_scanned setup.layout
+    few_counted = counted_most setup.layout s packed within
 
-  module _ (lists : ListsKnown shapes l pacing may) where
-    abbrev Lawful : List (Entry Op) → Type 0
-    Lawful = Legal (those shapes l pacing may)
+  abbrev Lawful : List (Entry Op) → Type 0
+  Lawful = Legal (those setup)
 
-    abbrev Few : List (Entry Op) → Type 0
-    Few es = scanned_in shapes l pacing es ≤ stored_in cell.Gen es * most_scanned l
+  abbrev Few : List (Entry Op) → Type 0
+  Few es = scanned_in setup es ≤ stored_in cell.Gen es * most_scanned setup.layout
 
-    module _ (e : Entry Op) (es : List (Entry Op)) where
-      -- who is done with nothing
-      none_more : scanned_by shapes l pacing e es ≡ 0 → Few es → Few (e ∷ es)
-      none_more none few = let ended = mul-le-mul_right (most_scanned l) (stored_rises cell.Gen e.ask (stored_in cell.Gen es)) in omega (arith, none, few, ended)
+  module _ (e : Entry Op) (es : List (Entry Op)) where
+    -- who is done with nothing
+    none_more : scanned_by setup e es ≡ 0 → Few es → Few (e ∷ es)
+    none_more none few = let ended = mul-le-mul_right (most_scanned setup.layout) (stored_rises cell.Gen e.ask (stored_in cell.Gen es)) in omega (arith, none, few, ended)
 
-      done_is : (m : Actor) → seats.at shapes l pacing may es e.actor ≡ m → scanned_by shapes l pacing e es ≡ done_by m e.found
-      done_is m is = ap (λ (x : Actor). done_by x e.found) is
+    done_is : (m : Actor) → seats.at setup es e.actor ≡ m → scanned_by setup e es ≡ done_by m e.found
+    done_is m is = ap (λ (x : Actor). done_by x e.found) is
 
-      -- the step that ends a cycle's marking
-      cycle_more : (lead : Coordinating) → scanned_by shapes l pacing e es ≡ 0 → stores cell.Gen e.ask ≡ true → IsInMarking z pacing may es lead → Few (e ∷ es)
-      cycle_more lead none stored m =
-          let before = m.scanned in
-          let most = few_counted es lead m in
-          let one : stored_in cell.Gen (e ∷ es) ≡ suc (stored_in cell.Gen es) = ap (λ (b : Bool). cond b (suc (stored_in cell.Gen es)) (stored_in cell.Gen es)) stored in
-          let ended = ap (λ (n : ℕ). n * most_scanned l) one in
-          omega (arith, before, most, none, ended)
+    -- the step that ends a cycle's marking
+    cycle_more : (lead : Coordinating) → scanned_by setup e es ≡ 0 → stores cell.Gen e.ask ≡ true → IsInMarking z setup.pacing setup.may es lead → Few (e ∷ es)
+    cycle_more lead none stored m =
+        let before = m.scanned in
+        let most = few_counted es lead m in
+        let one : stored_in cell.Gen (e ∷ es) ≡ suc (stored_in cell.Gen es) = ap (λ (b : Bool). cond b (suc (stored_in cell.Gen es)) (stored_in cell.Gen es)) stored in
+        let ended = ap (λ (n : ℕ). n * most_scanned setup.layout) one in
+        omega (arith, before, most, none, ended)
 
-    -- while no cycle is marked
-    pub rests : (es : List (Entry Op)) → Lawful es → WasMarked z pacing may es → (c : Coordinating) → IsLed shapes l pacing may es c → (leading.Marks c.stage → ⊥) → Few es
-    rests [] legal was c led off = omega arith
-    rests (e ∷ es) legal was c led off = by (λ d led_was still. rests es legal.0 (λ start x of. was start x (inr of)) d led_was still) (seats.step shapes l pacing may e es known.writes legal (lists.keeps es legal.0)) where
-      by : ((d : Coordinating) → IsLed shapes l pacing may es d → (leading.Marks d.stage → ⊥) → Few es) → seats.Step shapes l pacing may e es → Few (e ∷ es)
-      by before (seats.by_processor m x stays) = none_more e es (done_is e es (actor.Runs m) x.is) (before c (sym stays ∙ led) off)
-      by before (seats.by_worker w x stays) = none_more e es (done_is e es (actor.Marks w) x.is ∙ none) (before c (sym stays ∙ led) off) where
-        none : words_done w.stage e.found ≡ 0
-        none = elim (done_or_marking w.stage e.found) [ inl is ↦ is | inr marking ↦ absurd (off ((lists.keeps es legal.0).marking c e.actor w (sym stays ∙ led) x.seat x.is marking)) ]
-      by before (seats.by_lead lead x) = go (marks_or_not lead.stage) where
-        none : scanned_by shapes l pacing e es ≡ 0
-        none = done_is e es (actor.Leads lead) (ap (seats.at shapes l pacing may es) x.seat ∙ x.is)
+  -- while no cycle is marked
+  pub rests : (es : List (Entry Op)) → Lawful es → WasMarked z setup.pacing setup.may es → (c : Coordinating) → IsLed setup es c → (leading.Marks c.stage → ⊥) → Few es
+  rests [] legal was c led off = omega arith
+  rests (e ∷ es) legal was c led off = by (λ d led_was still. rests es legal.0 (λ start x of. was start x (inr of)) d led_was still) (seats.step setup e es lists.known.writes legal (lists.keeps es legal.0)) where
+    by : ((d : Coordinating) → IsLed setup es d → (leading.Marks d.stage → ⊥) → Few es) → seats.Step setup e es → Few (e ∷ es)
+    by before (seats.by_processor m x stays) = none_more e es (done_is e es (actor.Runs m) x.is) (before c (sym stays ∙ led) off)
+    by before (seats.by_worker w x stays) = none_more e es (done_is e es (actor.Marks w) x.is ∙ none) (before c (sym stays ∙ led) off) where
+      none : words_done w.stage e.found ≡ 0
+      none = elim (done_or_marking w.stage e.found) [ inl is ↦ is | inr marking ↦ absurd (off ((lists.keeps es legal.0).marking c e.actor w (sym stays ∙ led) x.seat x.is marking)) ]
+    by before (seats.by_lead lead x) = go (marks_or_not lead.stage) where
+      none : scanned_by setup e es ≡ 0
+      none = done_is e es (actor.Leads lead) (ap (seats.at setup es) x.seat ∙ x.is)
 
-        to : coord.goes lead e.found ≡ c
-        to = let both : actor.Leads (coord.goes lead e.found) ≡ actor.Leads c = sym x.then ∙ led in cc
+      to : coord.goes lead e.found ≡ c
+      to = let both : actor.Leads (coord.goes lead e.found) ≡ actor.Leads c = sym x.then ∙ led in cc
 
-        go : leading.Marks lead.stage ⊎ (leading.Marks lead.stage → ⊥) → Few (e ∷ es)
-        go (inr still) = none_more e es none (before lead x.is still)
-        go (inl on) = elim (ends_marking lead e.found on) [
-          | inl goes ↦ absurd (off (subst (λ (y : Coordinating). leading.Marks y.stage) to goes))
-          | inr stored ↦ cycle_more e es lead none (ap (stores cell.Gen) x.asked ∙ stored) (was es lead (inr (all_of es)) x.is on).marking
-        ]
+      go : leading.Marks lead.stage ⊎ (leading.Marks lead.stage → ⊥) → Few (e ∷ es)
+      go (inr still) = none_more e es none (before lead x.is still)
+      go (inl on) = elim (ends_marking lead e.found on) [
+        | inl goes ↦ absurd (off (subst (λ (y : Coordinating). leading.Marks y.stage) to goes))
+        | inr stored ↦ cycle_more e es lead none (ap (stores cell.Gen) x.asked ∙ stored) (was es lead (inr (all_of es)) x.is on).marking
+      ]
 
-    pub few_scanned : (es : List (Entry Op)) → Lawful es → WasMarked z pacing may es → FewAreScanned shapes l pacing es
-    few_scanned es legal was = let x = led_then shapes l pacing may es in go x.lead x.led_by (marks_or_not x.lead.stage) where
-      go : (c : Coordinating) → IsLed shapes l pacing may es c → leading.Marks c.stage ⊎ (leading.Marks c.stage → ⊥) → FewAreScanned shapes l pacing es
-      go c led (inl on) =
-          let plain : CountsPlainly (those shapes l pacing may) pacing.room es c = lists.plainly es c legal led in
-          let m = (was es c (all_of es) led on).marking in
-          let before = m.scanned in
-          let most = few_counted es c m in
-          let is = ap (λ (n : ℕ). n * most_scanned l) (plain.begun ∙ plain.marks.1 (inl on)) in
-          omega (arith, before, most, is)
-      go c led (inr off) =
-          let plain : CountsPlainly (those shapes l pacing may) pacing.room es c = lists.plainly es c legal led in
-          let few = rests es legal was c led off in
-          let ended = mul-le-mul_right (most_scanned l) plain.begun_then in
-          let is = ap (λ (n : ℕ). n * most_scanned l) plain.begun in
-          omega (arith, few, ended, is)
+  pub few_scanned : (es : List (Entry Op)) → Lawful es → WasMarked z setup.pacing setup.may es → FewAreScanned setup es
+  few_scanned es legal was = let x = led_then setup es in go x.lead x.led_by (marks_or_not x.lead.stage) where
+    go : (c : Coordinating) → IsLed setup es c → leading.Marks c.stage ⊎ (leading.Marks c.stage → ⊥) → FewAreScanned setup es
+    go c led (inl on) =
+        let plain : CountsPlainly (those setup) setup.pacing.room es c = lists.plainly es c legal led in
+        let m = (was es c (all_of es) led on).marking in
+        let before = m.scanned in
+        let most = few_counted es c m in
+        let is = ap (λ (n : ℕ). n * most_scanned setup.layout) (plain.begun ∙ plain.marks.1 (inl on)) in
+        omega (arith, before, most, is)
+    go c led (inr off) =
+        let plain : CountsPlainly (those setup) setup.pacing.room es c = lists.plainly es c legal led in
+        let few = rests es legal was c led off in
+        let ended = mul-le-mul_right (most_scanned setup.layout) plain.begun_then in
+        let is = ap (λ (n : ℕ). n * most_scanned setup.layout) plain.begun in
+        omega (arith, few, ended, is)

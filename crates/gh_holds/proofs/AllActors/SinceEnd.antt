@@ -14,11 +14,12 @@ use Rattle.gh_sweep.specs.Moves as sweep
 use Rattle.gh_sweep.specs.Shared.{alloc_at, CycleEnd, marks_at}
 use Rattle.gh_holds.specs.ActorsHold.{EndedSo, HasEnded, IsNewThere}
 use Rattle.gh_marked.specs.State.{IsInCycle}
-use Rattle.gh_holds.specs.HoldVocabulary.{alloc_words, Arena, birth_words, Coordinating, Entry, Ever, ever, Good, Heap, IsLed, IsMade, IsPlacedAt, Layout, Name, Op, Pacing, row_bit, Shape, State, StateGood, view, Words, words}
-use Rattle.gh_holds.proofs.Vocabulary.{Add, And, Ask, bit_at, Cell, cell_of, effect, left, Load, Or, Row, same_cell, Store, Swap}
-use Rattle.gh_holds.specs.Known.{Known}
+use Rattle.gh_marked.specs.HoldVocabulary.{alloc_words, Arena, birth_words, Coordinating, Entry, Ever, ever, Good, Heap, IsLed, IsMade, IsPlacedAt, Name, Op, row_bit, State, StateGood, view, Words, words}
+use Rattle.gh_marked.proofs.Vocabulary.{Add, And, Ask, bit_at, Cell, cell_of, effect, left, Load, Or, Row, same_cell, Store, Swap}
+use Rattle.gh_marked.specs.Known.{Known}
 use Rattle.gh_lists.specs.Names.{same_name}
 use Rattle.gh_holds.proofs.AllActors.Stood.{move_stays}
+use Rattle.gh_lists.specs.Handshake.{Setup}
 
 -- an object stands there that was not made by then
 record IsNew (made : ℕ → ℕ) (v : Words) (x : ℕ) : Type 0 where
@@ -220,67 +221,71 @@ module _ (z : Arena) (a : ℕ) (s : State) where
   end_stays (state.Sweep m) = refl
   end_stays state.Count = refl
 
-  -- by the moves of a sweep, by the count of what was placed, and by a quiet step
+  -- by the moves of a sweep, and by a quiet step
   pub sweep_keeps_end : (m : sweep.Move) → state.IsOfSweep m → KeepsEnd s (state.moved z a s (state.Sweep m))
   sweep_keeps_end (sweep.Lays p h) of = absurd of
   sweep_keeps_end (sweep.Places x) of = absurd of
   sweep_keeps_end _ of = record { end = refl; since = refl; slot = refl; ever = refl; freeing = refl }
 
-  pub count_keeps_end : KeepsEnd s (state.moved z a s state.Count)
-  count_keeps_end = record { end = refl; since = refl; slot = refl; ever = refl; freeing = refl }
-
   pub quiet_keeps_end : (step : Ask) → KeepsEnd s (state.moved z a s (state.Deed (heap.Quiet step)))
   quiet_keeps_end step = record { end = refl; since = refl; slot = refl; ever = refl; freeing = refl }
 
 -- One entry more, whose step is this move.
-module _ (shapes : List Shape) (l : Layout) (pacing : Pacing) (may_begin : ℕ → List (Entry Op) → Op → Bool) (e : Entry Op) (es : List (Entry Op)) where
+module _ (setup : Setup) (e : Entry Op) (es : List (Entry Op)) where
   -- in the last cycle it is so before, and nothing of its end changes
   abbrev pub LastStays : (s t : State) → Type 0
-  LastStays s t = (c : Coordinating) → IsLed shapes l pacing may_begin (e ∷ es) c → c.is_last ≡ true →
-      ((d : Coordinating) × IsLed shapes l pacing may_begin es d × (d.is_last ≡ true)) × (ever shapes l pacing may_begin (e ∷ es) ≡ ever shapes l pacing may_begin es) × (IsAsItEnded s → IsAsItEnded t)
+  LastStays s t = (c : Coordinating) → IsLed setup (e ∷ es) c → c.is_last ≡ true →
+      ((d : Coordinating) × IsLed setup es d × (d.is_last ≡ true)) × (ever setup (e ∷ es) ≡ ever setup es) × (IsAsItEnded s → IsAsItEnded t)
 
   module _ (k : ℕ) (s t : State) (last : LastStays s t) where
-    pub in_cycle_on : IsInCycle shapes l pacing may_begin es k → IsInCycle shapes l pacing may_begin (e ∷ es) k
+    pub in_cycle_on : IsInCycle setup es k → IsInCycle setup (e ∷ es) k
     in_cycle_on i = record { begun = i.begun; start = inr i.start; begins = i.begins; last = λ c led is. let x = last c led is in x.1 ∙ i.last x.0.0 x.0.1 x.0.2 }
 
-  module _ (known : Known) (z : Arena) (a : ℕ) (s : State) (m : state.Move) (good : StateGood z s) (may : state.May z a s m)
-      (words_were : s.heap.words ≡ words shapes l pacing may_begin es) (words_are : (state.moved z a s m).heap.words ≡ words shapes l pacing may_begin (e ∷ es))
-      (ever_was : s.heap.ever ≡ ever shapes l pacing may_begin es) (ever_is : (state.moved z a s m).heap.ever ≡ ever shapes l pacing may_begin (e ∷ es)) where
+  -- the state before the move and behind it is that of the lists
+  pub record MovesBy (z : Arena) (a : ℕ) (s : State) (m : state.Move) : Type 0 where
+    pub good : StateGood z s
+    pub may : state.May z a s m
+    pub words_were : s.heap.words ≡ words setup es
+    pub words_are : (state.moved z a s m).heap.words ≡ words setup (e ∷ es)
+    pub ever_was : s.heap.ever ≡ ever setup es
+    pub ever_is : (state.moved z a s m).heap.ever ≡ ever setup (e ∷ es)
+
+  module _ (known : Known) (z : Arena) (a : ℕ) (s : State) (m : state.Move) (moves : MovesBy z a s m) where
     abbrev then : State
     then = state.moved z a s m
 
     abbrev before : Words
-    before = words shapes l pacing may_begin es
+    before = words setup es
 
     abbrev behind : Words
-    behind = words shapes l pacing may_begin (e ∷ es)
+    behind = words setup (e ∷ es)
 
     -- of lists
-    pub made_then : (n : Name) → IsMade (ever shapes l pacing may_begin es).made n → IsMade (ever shapes l pacing may_begin (e ∷ es)).made n
-    made_then n is = subst (λ (y : Ever). IsMade y.made n) ever_is (made_on known z a s good m n (subst (λ (y : Ever). IsMade y.made n) (sym ever_was) is))
+    pub made_then : (n : Name) → IsMade (ever setup es).made n → IsMade (ever setup (e ∷ es)).made n
+    made_then n is = subst (λ (y : Ever). IsMade y.made n) moves.ever_is (made_on known z a s moves.good m n (subst (λ (y : Ever). IsMade y.made n) (sym moves.ever_was) is))
 
-    pub placed_back : (n : Name) (x : ℕ) → IsMade (ever shapes l pacing may_begin es).made n → IsPlacedAt behind n x → IsPlacedAt before n x
-    placed_back n x is p = subst (λ (y : Words). IsPlacedAt y n x) words_were (back known z a s good m may n x (subst (λ (y : Ever). IsMade y.made n) (sym ever_was) is) (subst (λ (y : Words). IsPlacedAt y n x) (sym words_are) p))
+    pub placed_back : (n : Name) (x : ℕ) → IsMade (ever setup es).made n → IsPlacedAt behind n x → IsPlacedAt before n x
+    placed_back n x is p = subst (λ (y : Words). IsPlacedAt y n x) moves.words_were (back known z a s moves.good m moves.may n x (subst (λ (y : Ever). IsMade y.made n) (sym moves.ever_was) is) (subst (λ (y : Words). IsPlacedAt y n x) (sym moves.words_are) p))
 
     pub placed_on : (n : Name) (x : ℕ) → IsPlacedAt before n x → row_bit (alloc_words behind) x ≡ 1 → IsPlacedAt behind n x
-    placed_on n x p set = subst (λ (y : Words). IsPlacedAt y n x) words_are (on known z a s good m may n x (subst (λ (y : Words). IsPlacedAt y n x) (sym words_were) p) (subst (λ (y : Words). row_bit (alloc_words y) x ≡ 1) (sym words_are) set))
+    placed_on n x p set = subst (λ (y : Words). IsPlacedAt y n x) moves.words_are (on known z a s moves.good m moves.may n x (subst (λ (y : Words). IsPlacedAt y n x) (sym moves.words_were) p) (subst (λ (y : Words). row_bit (alloc_words y) x ≡ 1) (sym moves.words_are) set))
 
-    pub new_on : (ended : List (Entry Op)) (x : ℕ) → IsNewThere shapes l pacing may_begin ended es x → row_bit (alloc_words behind) x ≡ 1 → IsNewThere shapes l pacing may_begin ended (e ∷ es) x
+    pub new_on : (ended : List (Entry Op)) (x : ℕ) → IsNewThere setup ended es x → row_bit (alloc_words behind) x ≡ 1 → IsNewThere setup ended (e ∷ es) x
     new_on ended x new set = record { name = new.name; not_yet = new.not_yet; few = new.few; placed = placed_on new.name x new.placed set }
 
     module _ (k : ℕ) (last : LastStays s then) where
-      since_then : (o : EndedSo shapes l pacing may_begin es k s) (x : ℕ) → then.since x ≡ true → row_bit (alloc_words behind) x ≡ 1 → (row_bit (marks_at s.end) x ≡ 1) ⊎ IsNewThere shapes l pacing may_begin o.ended (e ∷ es) x
-      since_then o x is set = elim (since known z a s good m may x is (subst (λ (y : Words). row_bit (alloc_words y) x ≡ 1) (sym words_are) set)) [
-        | inl was ↦ elim (o.since x was.0 (subst (λ (y : Words). row_bit (alloc_words y) x ≡ 1) words_were was.1)) [ inl marked ↦ inl marked | inr new ↦ inr (new_on o.ended x new set) ]
+      since_then : (o : EndedSo setup es k s) (x : ℕ) → then.since x ≡ true → row_bit (alloc_words behind) x ≡ 1 → (row_bit (marks_at s.end) x ≡ 1) ⊎ IsNewThere setup o.ended (e ∷ es) x
+      since_then o x is set = elim (since known z a s moves.good m moves.may x is (subst (λ (y : Words). row_bit (alloc_words y) x ≡ 1) (sym moves.words_are) set)) [
+        | inl was ↦ elim (o.since x was.0 (subst (λ (y : Words). row_bit (alloc_words y) x ≡ 1) moves.words_were was.1)) [ inl marked ↦ inl marked | inr new ↦ inr (new_on o.ended x new set) ]
         | inr new ↦ inr (record {
           name = new.0;
-          not_yet = λ made. new.1 (subst (λ (y : Ever). IsMade y.made new.0) (sym ever_was) (o.made new.0 made));
+          not_yet = λ made. new.1 (subst (λ (y : Ever). IsMade y.made new.0) (sym moves.ever_was) (o.made new.0 made));
           few = new.2;
-          placed = subst (λ (y : Words). IsPlacedAt y new.0 x) words_are new.3;
+          placed = subst (λ (y : Words). IsPlacedAt y new.0 x) moves.words_are new.3;
         })
       ]
 
-      pub ended_on : EndedSo shapes l pacing may_begin es k s → EndedSo shapes l pacing may_begin (e ∷ es) k then
+      pub ended_on : EndedSo setup es k s → EndedSo setup (e ∷ es) k then
       ended_on o = record {
         ended = o.ended;
         start = inr o.start;
@@ -288,10 +293,10 @@ module _ (shapes : List Shape) (l : Layout) (pacing : Pacing) (may_begin : ℕ �
         alloc = ap (λ (y : CycleEnd). alloc_at y) (end_stays z a s m) ∙ o.alloc;
         marks = ap (λ (y : CycleEnd). marks_at y) (end_stays z a s m) ∙ o.marks;
         stood = λ n x made p. o.stood n x made (placed_back n x (o.made n made) p);
-        since = λ x is set. subst (λ (y : CycleEnd). (row_bit (marks_at y) x ≡ 1) ⊎ IsNewThere shapes l pacing may_begin o.ended (e ∷ es) x) (sym (end_stays z a s m)) (since_then o x is set);
+        since = λ x is set. subst (λ (y : CycleEnd). (row_bit (marks_at y) x ≡ 1) ⊎ IsNewThere setup o.ended (e ∷ es) x) (sym (end_stays z a s m)) (since_then o x is set);
         made = λ n made. made_then n (o.made n made);
         last = λ c led is. let x = last c led is in let was = o.last x.0.0 x.0.1 x.0.2 in (x.1 ∙ was.0, x.2 was.1);
       }
 
-      pub has_ended_on : HasEnded shapes l pacing may_begin es k s → HasEnded shapes l pacing may_begin (e ∷ es) k then
+      pub has_ended_on : HasEnded setup es k s → HasEnded setup (e ∷ es) k then
       has_ended_on h = record { cycle = in_cycle_on k s then last h.cycle; ended = ended_on h.ended }

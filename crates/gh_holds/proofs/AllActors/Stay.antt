@@ -13,77 +13,77 @@ use Rattle.gh_lists.specs.declared.handshake.Actor.TheVariants as actor
 use Rattle.gh_holds.specs.ActorsHold.{EndedSo, HasEnded, IsCounting, IsNewThere, IsQuiet, IsReady, IsSweeping, IsTold, NobodyMarks}
 use Rattle.gh_marked.specs.State.{HasState, IsAsItShould, IsHeapOf, IsInCycle, processor_at}
 use Rattle.gh_marked.specs.HeapBytes.{uncounted}
-use Rattle.gh_holds.specs.HoldVocabulary.{acks_of, actors_after, alloc_words, Answer, answers_of, arena, Arena, Coordinating, ended_in, Entry, Ever, ever, given_of, Heap, IsLed, IsMade, IsPlacedAt, Layout, Legal, MarksNothing, Op, opening_words, Pacing, Processor, row_bit, Shape, State, SweepingAll, Words, words}
-use Rattle.gh_lists.specs.Handshake.{those}
+use Rattle.gh_marked.specs.HoldVocabulary.{acks_of, actors_after, alloc_words, Answer, answers_of, arena, Arena, Coordinating, ended_in, Entry, Ever, ever, given_of, Heap, IsLed, IsMade, IsPlacedAt, Legal, MarksNothing, Op, opening_words, Processor, row_bit, State, SweepingAll, Words, words}
+use Rattle.gh_lists.specs.Handshake.{those, Setup}
 use Rattle.gh_marked.specs.Sweepers.{IsInSweep, sweep_of}
-use Rattle.gh_holds.specs.Known.{Known, ListsKnown}
+use Rattle.gh_marked.specs.Known.{Known, ListsKnown}
 use Rattle.gh_lists.specs.Resting.{answers_stay, ever_stays, given_stay, own_stay, state_stays}
 use Rattle.gh_lists.specs.Seats.{other, works}
 
-module _ (shapes : List Shape) (l : Layout) (pacing : Pacing) (may : ℕ → List (Entry Op) → Op → Bool) (e : Entry Op) (es : List (Entry Op)) where
+module _ (setup : Setup) (e : Entry Op) (es : List (Entry Op)) where
   abbrev z : Arena
-  z = arena shapes l pacing may
+  z = arena setup
 
   abbrev at : List (Entry Op) → ℕ → Actor
-  at xs a = actors_after z pacing may xs a
+  at xs a = actors_after z setup.pacing setup.may xs a
 
   pub record ChangesNothing : Type 0 where
-    pub words_are : words shapes l pacing may (e ∷ es) ≡ words shapes l pacing may es
-    pub ever_is : ever shapes l pacing may (e ∷ es) ≡ ever shapes l pacing may es
-    pub processors : (a : ℕ) → a < l.procs → processor_at shapes l pacing may (e ∷ es) a ≡ processor_at shapes l pacing may es a
-    pub answers : (a : ℕ) → a < l.procs → answers_of z (opening_words pacing.trigger) a (e ∷ es) ≡ answers_of z (opening_words pacing.trigger) a es
-    pub given : (a : ℕ) → a < l.procs → given_of z (opening_words pacing.trigger) a (e ∷ es) ≡ given_of z (opening_words pacing.trigger) a es
-    pub ended : (a : ℕ) → a < l.procs → (g : ℕ) → ended_in (by a (e ∷ es)) g ≡ ended_in (by a es) g
+    pub words_are : words setup (e ∷ es) ≡ words setup es
+    pub ever_is : ever setup (e ∷ es) ≡ ever setup es
+    pub processors : (a : ℕ) → a < setup.layout.procs → processor_at setup (e ∷ es) a ≡ processor_at setup es a
+    pub answers : (a : ℕ) → a < setup.layout.procs → answers_of z (opening_words setup.pacing.trigger) a (e ∷ es) ≡ answers_of z (opening_words setup.pacing.trigger) a es
+    pub given : (a : ℕ) → a < setup.layout.procs → given_of z (opening_words setup.pacing.trigger) a (e ∷ es) ≡ given_of z (opening_words setup.pacing.trigger) a es
+    pub ended : (a : ℕ) → a < setup.layout.procs → (g : ℕ) → ended_in (by a (e ∷ es)) g ≡ ended_in (by a es) g
     -- nor is it the coordinator's
-    pub led : (c : Coordinating) → IsLed shapes l pacing may (e ∷ es) c → IsLed shapes l pacing may es c
+    pub led : (c : Coordinating) → IsLed setup (e ∷ es) c → IsLed setup es c
     -- and each seat runs the sweep that it ran, if it ran one
     pub sweeps : (a : ℕ) → sweep_of (at (e ∷ es) a) ≡ sweep_of (at es a)
 
-  pub led_by_it : e.actor < acks_of l → (c : Coordinating) → IsLed shapes l pacing may (e ∷ es) c → IsLed shapes l pacing may es c
-  led_by_it among c is = sym (other shapes l pacing e es (acks_of l) (apart (e.actor == acks_of l) refl)) ∙ is where
-    apart : (b : Bool) → (e.actor == acks_of l) ≡ b → (e.actor == acks_of l) ≡ false
+  pub led_by_it : e.actor < acks_of setup.layout → (c : Coordinating) → IsLed setup (e ∷ es) c → IsLed setup es c
+  led_by_it among c is = sym (other setup e es (acks_of setup.layout) (apart (e.actor == acks_of setup.layout) refl)) ∙ is where
+    apart : (b : Bool) → (e.actor == acks_of setup.layout) ≡ b → (e.actor == acks_of setup.layout) ≡ false
     apart false x = x
-    apart true x = absurd (let same : e.actor ≡ acks_of l = grind (arith, nat_tests) in omega (arith, same, among))
+    apart true x = absurd (let same : e.actor ≡ acks_of setup.layout = grind (arith, nat_tests) in omega (arith, same, among))
 
   -- what the entry's own actor sweeps says so of all
   pub sweeps_same : sweep_of (at (e ∷ es) e.actor) ≡ sweep_of (at es e.actor) → (a : ℕ) → sweep_of (at (e ∷ es) a) ≡ sweep_of (at es a)
   sweeps_same own a = go (e.actor == a) refl where
     go : (b : Bool) → (e.actor == a) ≡ b → sweep_of (at (e ∷ es) a) ≡ sweep_of (at es a)
-    go false x = ap sweep_of (other shapes l pacing e es a x)
+    go false x = ap sweep_of (other setup e es a x)
     go true x = let same : e.actor ≡ a = grind (arith, nat_tests) in subst (λ (n : ℕ). sweep_of (at (e ∷ es) n) ≡ sweep_of (at es n)) same own
 
   -- where the world is stopped a worker waits at the stop, before its step and behind it, and sweeps nothing
-  module _ (lists : ListsKnown shapes l pacing may) (legal : Legal (those shapes l pacing may) (e ∷ es)) (c : Coordinating) (phase : RunPhase) (led : IsLed shapes l pacing may es c) (post : leading.post_at c.stage ≡ Stopped phase) (among : e.actor < acks_of l) where
-    sweeps_none : (xs : List (Entry Op)) → Legal (those shapes l pacing may) xs → IsLed shapes l pacing may xs c → (w : Working) → at xs e.actor ≡ actor.Marks w → sweep_of (at xs e.actor) ≡ None
+  module _ (lists : ListsKnown setup) (legal : Legal (those setup) (e ∷ es)) (c : Coordinating) (phase : RunPhase) (led : IsLed setup es c) (post : leading.post_at c.stage ≡ Stopped phase) (among : e.actor < acks_of setup.layout) where
+    sweeps_none : (xs : List (Entry Op)) → Legal (those setup) xs → IsLed setup xs c → (w : Working) → at xs e.actor ≡ actor.Marks w → sweep_of (at xs e.actor) ≡ None
     sweeps_none xs lawful led_there w is = ap sweep_of is ∙ ap sweep_at ((lists.keeps xs lawful).workers_wait c phase e.actor w led_there post among is).is_at
 
-    led_then : IsLed shapes l pacing may (e ∷ es) c
-    led_then = other shapes l pacing e es (acks_of l) (apart (e.actor == acks_of l) refl) ∙ led where
-      apart : (b : Bool) → (e.actor == acks_of l) ≡ b → (e.actor == acks_of l) ≡ false
+    led_then : IsLed setup (e ∷ es) c
+    led_then = other setup e es (acks_of setup.layout) (apart (e.actor == acks_of setup.layout) refl) ∙ led where
+      apart : (b : Bool) → (e.actor == acks_of setup.layout) ≡ b → (e.actor == acks_of setup.layout) ≡ false
       apart false x = x
-      apart true x = absurd (let same : e.actor ≡ acks_of l = grind (arith, nat_tests) in omega (arith, same, among))
+      apart true x = absurd (let same : e.actor ≡ acks_of setup.layout = grind (arith, nat_tests) in omega (arith, same, among))
 
     pub worker_sweeps_none : (w : Working) → at es e.actor ≡ actor.Marks w → sweep_of (at (e ∷ es) e.actor) ≡ sweep_of (at es e.actor)
-    worker_sweeps_none w is = sweeps_none (e ∷ es) legal led_then (goes w e.found) (works shapes l pacing e es w is) ∙ sym (sweeps_none es legal.0 led w is)
+    worker_sweeps_none w is = sweeps_none (e ∷ es) legal led_then (goes w e.found) (works setup e es w is) ∙ sym (sweeps_none es legal.0 led w is)
 
   -- a step of another than a processor that changes no word
-  pub changes_nothing : (known : Known) → Legal (those shapes l pacing may) (e ∷ es) → l.procs ≤ e.actor → e.actor < acks_of l → words shapes l pacing may (e ∷ es) ≡ words shapes l pacing may es → sweep_of (at (e ∷ es) e.actor) ≡ sweep_of (at es e.actor) → ChangesNothing
+  pub changes_nothing : (known : Known) → Legal (those setup) (e ∷ es) → setup.layout.procs ≤ e.actor → e.actor < acks_of setup.layout → words setup (e ∷ es) ≡ words setup es → sweep_of (at (e ∷ es) e.actor) ≡ sweep_of (at es e.actor) → ChangesNothing
   changes_nothing known legal ge among same own = record {
     words_are = same;
-    ever_is = ever_stays shapes l pacing may known.points e es legal ge;
-    processors = λ a lt. state_stays shapes l pacing may e es a (apart a lt (e.actor == a) refl);
-    answers = λ a lt. answers_stay shapes l pacing may e es a (apart a lt (e.actor == a) refl);
-    given = λ a lt. given_stay shapes l pacing may e es a (apart a lt (e.actor == a) refl);
-    ended = λ a lt g. ap (λ (ys : List (Entry Op)). ended_in ys g) (own_stay shapes l pacing may e es a (apart a lt (e.actor == a) refl));
+    ever_is = ever_stays setup known.points e es legal ge;
+    processors = λ a lt. state_stays setup e es a (apart a lt (e.actor == a) refl);
+    answers = λ a lt. answers_stay setup e es a (apart a lt (e.actor == a) refl);
+    given = λ a lt. given_stay setup e es a (apart a lt (e.actor == a) refl);
+    ended = λ a lt g. ap (λ (ys : List (Entry Op)). ended_in ys g) (own_stay setup e es a (apart a lt (e.actor == a) refl));
     led = led_by_it among;
     sweeps = sweeps_same own;
   } where
-    apart : (a : ℕ) → a < l.procs → (b : Bool) → (e.actor == a) ≡ b → (e.actor == a) ≡ false
+    apart : (a : ℕ) → a < setup.layout.procs → (b : Bool) → (e.actor == a) ≡ b → (e.actor == a) ≡ false
     apart a lt false x = x
     apart a lt true x = absurd (let is : e.actor ≡ a = grind (arith, nat_tests) in omega (arith, is, lt, ge))
 
   module _ (still : ChangesNothing) where
-    should_stay : (h : Heap) (a : ℕ) → a < l.procs → IsAsItShould shapes l pacing may es h a (processor_at shapes l pacing may es a) → IsAsItShould shapes l pacing may (e ∷ es) h a (processor_at shapes l pacing may es a)
+    should_stay : (h : Heap) (a : ℕ) → a < setup.layout.procs → IsAsItShould setup es h a (processor_at setup es a) → IsAsItShould setup (e ∷ es) h a (processor_at setup es a)
     should_stay h a lt is = record {
       sound = is.sound;
       pending = is.pending;
@@ -95,24 +95,24 @@ module _ (shapes : List Shape) (l : Layout) (pacing : Pacing) (may : ℕ → Lis
       left = is.left;
     }
 
-    pub heap_stays : (h : Heap) → IsHeapOf shapes l pacing may es h → IsHeapOf shapes l pacing may (e ∷ es) h
+    pub heap_stays : (h : Heap) → IsHeapOf setup es h → IsHeapOf setup (e ∷ es) h
     heap_stays h of = record {
       words_are = of.words_are ∙ sym still.words_are;
       ever_is = of.ever_is ∙ sym still.ever_is;
       bounded = of.bounded;
-      processors = λ a lt. subst (λ (p : Processor). IsAsItShould shapes l pacing may (e ∷ es) h a p) (sym (still.processors a lt)) (should_stay h a lt (of.processors a lt));
+      processors = λ a lt. subst (λ (p : Processor). IsAsItShould setup (e ∷ es) h a p) (sym (still.processors a lt)) (should_stay h a lt (of.processors a lt));
       others = of.others;
       stacks = of.stacks;
       globals = of.globals;
     }
 
-    pub in_cycle_stays : (k : ℕ) → IsInCycle shapes l pacing may es k → IsInCycle shapes l pacing may (e ∷ es) k
+    pub in_cycle_stays : (k : ℕ) → IsInCycle setup es k → IsInCycle setup (e ∷ es) k
     in_cycle_stays k i = record { begun = i.begun; start = inr i.start; begins = i.begins; last = λ c led is. still.ever_is ∙ i.last c (still.led c led) is }
 
-    new_stays : (ended : List (Entry Op)) (x : ℕ) → IsNewThere shapes l pacing may ended es x → IsNewThere shapes l pacing may ended (e ∷ es) x
+    new_stays : (ended : List (Entry Op)) (x : ℕ) → IsNewThere setup ended es x → IsNewThere setup ended (e ∷ es) x
     new_stays ended x new = record { name = new.name; not_yet = new.not_yet; few = new.few; placed = subst (λ (w : Words). IsPlacedAt w new.name x) (sym still.words_are) new.placed }
 
-    pub ended_stays : (k : ℕ) (s : State) → EndedSo shapes l pacing may es k s → EndedSo shapes l pacing may (e ∷ es) k s
+    pub ended_stays : (k : ℕ) (s : State) → EndedSo setup es k s → EndedSo setup (e ∷ es) k s
     ended_stays k s i = record {
       ended = i.ended;
       start = inr i.start;
@@ -125,10 +125,10 @@ module _ (shapes : List Shape) (l : Layout) (pacing : Pacing) (may : ℕ → Lis
       last = λ c led is. let was = i.last c (still.led c led) is in (still.ever_is ∙ was.0, was.1);
     }
 
-    pub has_ended_stays : (k : ℕ) (s : State) → HasEnded shapes l pacing may es k s → HasEnded shapes l pacing may (e ∷ es) k s
+    pub has_ended_stays : (k : ℕ) (s : State) → HasEnded setup es k s → HasEnded setup (e ∷ es) k s
     has_ended_stays k s h = record { cycle = in_cycle_stays k h.cycle; ended = ended_stays k s h.ended }
 
-    abbrev pub has_stays : HasState shapes l pacing may es → HasState shapes l pacing may (e ∷ es)
+    abbrev pub has_stays : HasState setup es → HasState setup (e ∷ es)
     has_stays has = record {
       state = has.state;
       of_list = heap_stays has.state.heap has.of_list;
@@ -138,16 +138,16 @@ module _ (shapes : List Shape) (l : Layout) (pacing : Pacing) (may : ℕ → Lis
       sweeps = λ a lt. subst (IsInSweep a has.state) (sym (still.sweeps a)) (has.sweeps a lt);
     }
 
-    pub nobody_marks : (cycle then_cycle : ℕ) → then_cycle ≡ cycle → (w : Words) → NobodyMarks shapes l pacing may es cycle w → NobodyMarks shapes l pacing may (e ∷ es) then_cycle w
-    nobody_marks cycle then_cycle same w x = subst (λ (n : ℕ). NobodyMarks shapes l pacing may (e ∷ es) n w) (sym same) (record { buffers = x.buffers; stacks = x.stacks; processors = λ a lt. subst MarksNothing (sym (still.processors a lt)) (x.processors a lt) })
+    pub nobody_marks : (cycle then_cycle : ℕ) → then_cycle ≡ cycle → (w : Words) → NobodyMarks setup es cycle w → NobodyMarks setup (e ∷ es) then_cycle w
+    nobody_marks cycle then_cycle same w x = subst (λ (n : ℕ). NobodyMarks setup (e ∷ es) n w) (sym same) (record { buffers = x.buffers; stacks = x.stacks; processors = λ a lt. subst MarksNothing (sym (still.processors a lt)) (x.processors a lt) })
 
-    abbrev pub quiet_stays : (c : Coordinating) → IsQuiet shapes l pacing may es c → IsQuiet shapes l pacing may (e ∷ es) c
+    abbrev pub quiet_stays : (c : Coordinating) → IsQuiet setup es c → IsQuiet setup (e ∷ es) c
     quiet_stays c q = record { has = has_stays q.has; over = q.over; passed = q.passed; nobody = nobody_marks (c.begun + 1) (c.begun + 1) refl q.has.state.heap.words q.nobody }
 
-    pub ready_stays : (c : Coordinating) → IsReady shapes l pacing may es c → IsReady shapes l pacing may (e ∷ es) c
+    pub ready_stays : (c : Coordinating) → IsReady setup es c → IsReady setup (e ∷ es) c
     ready_stays c r = record { has = has_stays r.has; under_way = r.under_way; marks = r.marks; nobody = nobody_marks c.begun c.begun refl r.has.state.heap.words r.nobody }
 
-    pub sweeping_stays : (c : Coordinating) (w : SweepingAll) → IsSweeping shapes l pacing may es c w → IsSweeping shapes l pacing may (e ∷ es) c w
+    pub sweeping_stays : (c : Coordinating) (w : SweepingAll) → IsSweeping setup es c w → IsSweeping setup (e ∷ es) c w
     sweeping_stays c w s = record {
       has = has_stays s.has;
       over = s.over;
@@ -156,8 +156,8 @@ module _ (shapes : List Shape) (l : Layout) (pacing : Pacing) (may : ℕ → Lis
       nobody = nobody_marks (c.begun + 1) (c.begun + 1) refl s.has.state.heap.words s.nobody;
     }
 
-    pub counting_stays : (c : Coordinating) (stage : CountStage) → IsCounting shapes l pacing may es c stage → IsCounting shapes l pacing may (e ∷ es) c stage
+    pub counting_stays : (c : Coordinating) (stage : CountStage) → IsCounting setup es c stage → IsCounting setup (e ∷ es) c stage
     counting_stays c stage h = record { quiet = quiet_stays c h.quiet; behind = has_ended_stays c.begun h.quiet.has.state h.behind; read = h.read }
 
-    pub told_stays : (c : Coordinating) → IsTold shapes l pacing may es c → IsTold shapes l pacing may (e ∷ es) c
+    pub told_stays : (c : Coordinating) → IsTold setup es c → IsTold setup (e ∷ es) c
     told_stays c h = record { quiet = quiet_stays c h.quiet; behind = has_ended_stays c.begun h.quiet.has.state h.behind; live = h.live }

@@ -7,53 +7,54 @@ use Rattle.gh_mutator.specs.declared.task.Task.TheVariants as task
 use Rattle.gh_mutator.specs.Deeds.{meaning}
 use Rattle.gh_lists.specs.declared.handshake.Actor.TheVariants as actor
 use Rattle.gh_lists.specs.Handshake as handshake
-use Rattle.gh_holds.specs.HoldVocabulary.{given_of, opening_words}
+use Rattle.gh_marked.specs.HoldVocabulary.{given_of, opening_words}
 use Rattle.gh_marked.specs.Sweepers.{sweep_of}
-use Rattle.gh_holds.proofs.Vocabulary.{acks_of, Act, Actor, actors, actors_after, acts, Answer, Answered, answered, answered_by, arena, Begins, begins as begun_at, by, Coordinating, deeds, done_at, effect, ended_in, Entry, ever, given_at, gives, has_left_at, is_busy, is_busy_at, IsLed, IsParked, IsSound, Kind, Layout, Legal, Load, nat_tests, Op, opening_processor, option_to_list, Pacing, PackedWordsAreReadBack, place_of, point_of, Processor, processor_at, processor_kind, RunPhase, Shape, stage_of, started, stop_word, Stopped, takes, Task, those, Words, words, Working}
-use Rattle.gh_holds.specs.Known.{ListsKnown}
+use Rattle.gh_marked.proofs.Vocabulary.{acks_of, Act, Actor, actors, actors_after, acts, Answer, Answered, answered, answered_by, arena, Begins, begins as begun_at, by, Coordinating, deeds, done_at, effect, ended_in, Entry, ever, given_at, gives, has_left_at, is_busy, is_busy_at, IsLed, IsParked, IsSound, Kind, Layout, Legal, Load, nat_tests, Op, opening_processor, option_to_list, PackedWordsAreReadBack, place_of, point_of, Processor, processor_at, processor_kind, RunPhase, Shape, stage_of, started, stop_word, Stopped, takes, Task, those, Words, words, Working}
+use Rattle.gh_marked.specs.Known.{ListsKnown}
 use Rattle.gh_lists.specs.Resting.{begins_nothing, rests, rests_on, runs_are, state_stays}
 use Rattle.gh_holds.proofs.AllActors.Stay.{ChangesNothing, led_by_it, sweeps_same, worker_sweeps_none}
 use Rattle.gh_holds.proofs.AllActors.Waiting.{StandsStill, stands_still}
 use Rattle.gh_lists.specs.Seats.{IsSeated, run_started, seated}
+use Rattle.gh_lists.specs.Handshake.{Setup}
 
 -- one that has left begins nothing
 pub left_stays : (shapes : List Shape) (l : Layout) (o : Option Op) (m : Processor) → m.task ≡ task.Left → started (processor_kind shapes l) o m ≡ m
 left_stays shapes l None m is = refl
 left_stays shapes l (Some o) m is = ap (λ (t : Task). cond (has_left_at t) m (begun_at shapes m o)) is
 
-module _ (shapes : List Shape) (l : Layout) (pacing : Pacing) (may : ℕ → List (Entry Op) → Op → Bool) where
+module _ (setup : Setup) where
   abbrev k : Kind Processor Op
-  k = processor_kind shapes l
+  k = processor_kind setup.shapes setup.layout
 
   abbrev all : Kind Actor Op
-  all = actors shapes l pacing
+  all = actors setup
 
   abbrev at : List (Entry Op) → ℕ → Actor
-  at es a = actors_after (arena shapes l pacing may) pacing may es a
+  at es a = actors_after (arena setup) setup.pacing setup.may es a
 
   abbrev first : Words
-  first = opening_words pacing.trigger
+  first = opening_words setup.pacing.trigger
 
   -- what the entry leaves is all, and it is no point
   pub record IsStill (e : Entry Op) (es : List (Entry Op)) : Type 0 where
-    pub changes : ChangesNothing shapes l pacing may e es
-    pub no_point : done_at k (deeds shapes) es e ≡ None
+    pub changes : ChangesNothing setup e es
+    pub no_point : done_at k (deeds setup.shapes) es e ≡ None
 
   module _ (e : Entry Op) (es : List (Entry Op)) where
     -- so it is of a step that loads, of an actor that has begun nothing, does nothing by it and stays as it was
     pub record LeavesAll : Type 0 where
       pub loads : e.ask ≡ Load cell.Phase
       pub none_begun : e.begun ≡ None
-      pub no_point : done_at k (deeds shapes) es e ≡ None
-      pub no_answer : (deeds shapes).gives (before_step k (deeds shapes) es e) e.found ≡ None
-      pub own : e.actor < l.procs → processor_at shapes l pacing may (e ∷ es) e.actor ≡ processor_at shapes l pacing may es e.actor
+      pub no_point : done_at k (deeds setup.shapes) es e ≡ None
+      pub no_answer : (deeds setup.shapes).gives (before_step k (deeds setup.shapes) es e) e.found ≡ None
+      pub own : e.actor < setup.layout.procs → processor_at setup (e ∷ es) e.actor ≡ processor_at setup es e.actor
       pub sweeps : sweep_of (at (e ∷ es) e.actor) ≡ sweep_of (at es e.actor)
 
-    module _ (among : e.actor < acks_of l) (x : LeavesAll) where
+    module _ (among : e.actor < acks_of setup.layout) (x : LeavesAll) where
       pub leaves_all : IsStill e es
       leaves_all = record { changes = changes; no_point = x.no_point } where
         answered_before : ℕ → List (Answered Act Answer)
-        answered_before a = answered_by k (deeds shapes) (meaning shapes) a es
+        answered_before a = answered_by k (deeds setup.shapes) (meaning setup.shapes) a es
 
         either : {A : Type 0} (b : Bool) (xs : List A) → cond b xs xs ≡ xs
         either true xs = refl
@@ -63,103 +64,103 @@ module _ (shapes : List Shape) (l : Layout) (pacing : Pacing) (may : ℕ → Lis
         ends a g true = ap (λ (o : Option Op). ended_in (record e { begun = o } ∷ by a es) g) x.none_begun
         ends a g false = refl
 
-        same : (a : ℕ) → a < l.procs → (b : Bool) → (e.actor == a) ≡ b → processor_at shapes l pacing may (e ∷ es) a ≡ processor_at shapes l pacing may es a
-        same a lt true y = let is : e.actor ≡ a = grind (arith, nat_tests) in subst (λ (n : ℕ). processor_at shapes l pacing may (e ∷ es) n ≡ processor_at shapes l pacing may es n) is (x.own (subst (λ (n : ℕ). n < l.procs) (sym is) lt))
-        same a lt false y = state_stays shapes l pacing may e es a y
+        same : (a : ℕ) → a < setup.layout.procs → (b : Bool) → (e.actor == a) ≡ b → processor_at setup (e ∷ es) a ≡ processor_at setup es a
+        same a lt true y = let is : e.actor ≡ a = grind (arith, nat_tests) in subst (λ (n : ℕ). processor_at setup (e ∷ es) n ≡ processor_at setup es n) is (x.own (subst (λ (n : ℕ). n < setup.layout.procs) (sym is) lt))
+        same a lt false y = state_stays setup e es a y
 
-        changes : ChangesNothing shapes l pacing may e es
+        changes : ChangesNothing setup e es
         changes = record {
-          words_are = ap (effect (words shapes l pacing may es)) x.loads;
-          ever_is = ap (left_at (meaning shapes) (ever shapes l pacing may es)) x.no_point;
+          words_are = ap (effect (words setup es)) x.loads;
+          ever_is = ap (left_at (meaning setup.shapes) (ever setup es)) x.no_point;
           processors = λ a lt. same a lt (e.actor == a) refl;
-          answers = λ a lt. ap (λ (o : Option Act). map (λ (y : Answered Act Answer). y.answer) (cond (e.actor == a) (option_to_list (answered (meaning shapes) (ever shapes l pacing may es) o) ++ answered_before a) (answered_before a))) x.no_point ∙ ap (map (λ (y : Answered Act Answer). y.answer)) (either (e.actor == a) (answered_before a));
-          given = λ a lt. ap (λ (o : Option Answer). cond (e.actor == a) (option_to_list o ++ given_of (arena shapes l pacing may) first a es) (given_of (arena shapes l pacing may) first a es)) x.no_answer ∙ either (e.actor == a) (given_of (arena shapes l pacing may) first a es);
+          answers = λ a lt. ap (λ (o : Option Act). map (λ (y : Answered Act Answer). y.answer) (cond (e.actor == a) (option_to_list (answered (meaning setup.shapes) (ever setup es) o) ++ answered_before a) (answered_before a))) x.no_point ∙ ap (map (λ (y : Answered Act Answer). y.answer)) (either (e.actor == a) (answered_before a));
+          given = λ a lt. ap (λ (o : Option Answer). cond (e.actor == a) (option_to_list o ++ given_of (arena setup) first a es) (given_of (arena setup) first a es)) x.no_answer ∙ either (e.actor == a) (given_of (arena setup) first a es);
           ended = λ a lt g. ends a g (e.actor == a);
-          led = led_by_it shapes l pacing may e es among;
-          sweeps = sweeps_same shapes l pacing may e es x.sweeps;
+          led = led_by_it setup e es among;
+          sweeps = sweeps_same setup e es x.sweeps;
         }
 
-  module _ (back : PackedWordsAreReadBack) (lists : ListsKnown shapes l pacing may) (e : Entry Op) (es : List (Entry Op)) (legal : Legal (those shapes l pacing may) (e ∷ es))
-      (c : Coordinating) (phase : RunPhase) (led : IsLed shapes l pacing may es c) (post : leading.post_at c.stage ≡ Stopped phase) (among : e.actor < acks_of l) where
+  module _ (back : PackedWordsAreReadBack) (lists : ListsKnown setup) (e : Entry Op) (es : List (Entry Op)) (legal : Legal (those setup) (e ∷ es))
+      (c : Coordinating) (phase : RunPhase) (led : IsLed setup es c) (post : leading.post_at c.stage ≡ Stopped phase) (among : e.actor < acks_of setup.layout) where
     abbrev stops : ℕ
     stops = (leading.lead_of c).stops
 
     moves_nobody : (e.ask ≡ Load cell.Phase) × (e.found ≡ stop_word stops)
     moves_nobody = let x = (lists.steps e es legal).still (leading.lead_of c) phase (ap place_of led) post among in (x.0, x.1)
 
-    module _ (lt : e.actor < l.procs) where
+    module _ (lt : e.actor < setup.layout.procs) where
       abbrev m : Processor
-      m = processor_at shapes l pacing may es e.actor
+      m = processor_at setup es e.actor
 
       abbrev here : at es e.actor ≡ actor.Runs m
-      here = runs_are shapes l pacing may es e.actor lt
+      here = runs_are setup es e.actor lt
 
-      sound : IsSound m × (m.poll.layout ≡ l)
-      sound = subst (handshake.Sound l) here ((lists.keeps es legal.0).shakes.all_sound e.actor (omega (arith, among)))
+      sound : IsSound m × (m.poll.layout ≡ setup.layout)
+      sound = subst (handshake.Sound setup.layout) here ((lists.keeps es legal.0).shakes.all_sound e.actor (omega (arith, among)))
 
       parked : IsParked stops (stage_of m)
       parked = (lists.keeps es legal.0).processors_wait c phase e.actor m led post among here
 
       runs : is_busy_at (started k e.begun m).task ≡ true
-      runs = sym (ap is_busy (ap (started all e.begun) here ∙ run_started shapes l pacing e.begun m)) ∙ legal.1.runs
+      runs = sym (ap is_busy (ap (started all e.begun) here ∙ run_started setup e.begun m)) ∙ legal.1.runs
 
       not_left : m.task ≡ task.Left → ⊥
-      not_left is = let no : false ≡ true = sym (ap is_busy_at is) ∙ (sym (ap (λ (x : Processor). is_busy_at x.task) (left_stays shapes l e.begun m is)) ∙ runs) in cc
+      not_left is = let no : false ≡ true = sym (ap is_busy_at is) ∙ (sym (ap (λ (x : Processor). is_busy_at x.task) (left_stays setup.shapes setup.layout e.begun m is)) ∙ runs) in cc
 
-      waits : StandsStill back stops shapes m
-      waits = elim (stands_still back stops shapes m sound.0.place parked) [ inl x ↦ x | inr x ↦ absurd (not_left x) ]
+      waits : StandsStill back stops setup.shapes m
+      waits = elim (stands_still back stops setup.shapes m sound.0.place parked) [ inl x ↦ x | inr x ↦ absurd (not_left x) ]
 
       none_begun : e.begun ≡ None
       none_begun = go e.begun refl where
         go : (o : Option Op) → e.begun ≡ o → o ≡ None
         go None is = refl
         go (Some y) is =
-            let b = subst (λ (x : Option Op). Begins (those shapes l pacing may) e.actor es x) is legal.1.begins in
+            let b = subst (λ (x : Option Op). Begins (those setup) e.actor es x) is legal.1.begins in
             absurd (let no : true ≡ false = sym waits.busy ∙ (sym (ap is_busy here) ∙ b.0) in cc)
 
-      before : before_step k (deeds shapes) es e ≡ m
+      before : before_step k (deeds setup.shapes) es e ≡ m
       before = ap (λ (o : Option Op). started k o m) none_begun
 
-      own_is : processor_at shapes l pacing may (e ∷ es) e.actor ≡ m
-      own_is = rw (eq-eqb e.actor e.actor refl) (ap (λ (x : Processor). takes shapes x e.found) before ∙ (ap (takes shapes m) moves_nobody.1 ∙ waits.stays))
+      own_is : processor_at setup (e ∷ es) e.actor ≡ m
+      own_is = rw (eq-eqb e.actor e.actor refl) (ap (λ (x : Processor). takes setup.shapes x e.found) before ∙ (ap (takes setup.shapes m) moves_nobody.1 ∙ waits.stays))
 
       by_processor : LeavesAll e es
       by_processor = record {
         loads = moves_nobody.0;
         none_begun = none_begun;
-        no_point = ap (λ (x : Processor). (deeds shapes).acts x e.found) before ∙ (ap (λ (n : ℕ). point_of (acts m n)) moves_nobody.1 ∙ ap point_of waits.no_act);
-        no_answer = ap (λ (x : Processor). (deeds shapes).gives x e.found) before ∙ (ap (λ (n : ℕ). given_at m.task (gives m n)) moves_nobody.1 ∙ waits.no_answer);
+        no_point = ap (λ (x : Processor). (deeds setup.shapes).acts x e.found) before ∙ (ap (λ (n : ℕ). point_of (acts m n)) moves_nobody.1 ∙ ap point_of waits.no_act);
+        no_answer = ap (λ (x : Processor). (deeds setup.shapes).gives x e.found) before ∙ (ap (λ (n : ℕ). given_at m.task (gives m n)) moves_nobody.1 ∙ waits.no_answer);
         own = λ less. own_is;
-        sweeps = ap sweep_of (runs_are shapes l pacing may (e ∷ es) e.actor lt ∙ (ap actor.Runs own_is ∙ sym here));
+        sweeps = ap sweep_of (runs_are setup (e ∷ es) e.actor lt ∙ (ap actor.Runs own_is ∙ sym here));
       }
 
-    module _ (ge : l.procs ≤ e.actor) where
-      before_rests : before_step k (deeds shapes) es e ≡ opening_processor l e.actor
-      before_rests = rests_on shapes l pacing may e es legal ge (rests shapes l pacing may es legal.0 e.actor ge)
+    module _ (ge : setup.layout.procs ≤ e.actor) where
+      before_rests : before_step k (deeds setup.shapes) es e ≡ opening_processor setup.layout e.actor
+      before_rests = rests_on setup e es legal ge (rests setup es legal.0 e.actor ge)
 
       -- who is neither a processor nor the coordinator is a worker
       works : (w : Working) × (at es e.actor ≡ actor.Marks w)
       works = go (at es e.actor) refl where
-        seat : (y : Actor) → at es e.actor ≡ y → IsSeated l e.actor y
-        seat y is = subst (IsSeated l e.actor) is (seated shapes l pacing es e.actor)
+        seat : (y : Actor) → at es e.actor ≡ y → IsSeated setup.layout e.actor y
+        seat y is = subst (IsSeated setup.layout e.actor) is (seated setup es e.actor)
 
         go : (y : Actor) → at es e.actor ≡ y → (w : Working) × (at es e.actor ≡ actor.Marks w)
         go (actor.Marks w) is = (w, is)
-        go (actor.Runs y) is = absurd (let less : e.actor < l.procs = seat (actor.Runs y) is in omega (arith, less, ge))
+        go (actor.Runs y) is = absurd (let less : e.actor < setup.layout.procs = seat (actor.Runs y) is in omega (arith, less, ge))
         go (actor.Leads y) is = absurd (let last = (seat (actor.Leads y) is).0 in omega (arith, last, among))
 
       by_worker : LeavesAll e es
       by_worker = record {
         loads = moves_nobody.0;
-        none_begun = begins_nothing shapes l pacing may e es legal ge;
-        no_point = ap (λ (x : Processor). (deeds shapes).acts x e.found) before_rests;
-        no_answer = ap (λ (x : Processor). (deeds shapes).gives x e.found) before_rests;
+        none_begun = begins_nothing setup e es legal ge;
+        no_point = ap (λ (x : Processor). (deeds setup.shapes).acts x e.found) before_rests;
+        no_answer = ap (λ (x : Processor). (deeds setup.shapes).gives x e.found) before_rests;
         own = λ less. absurd (omega (arith, less, ge));
-        sweeps = worker_sweeps_none shapes l pacing may e es lists legal c phase led post among works.0 works.1;
+        sweeps = worker_sweeps_none setup e es lists legal c phase led post among works.0 works.1;
       }
 
     pub is_still : IsStill e es
-    is_still = leaves_all e es among (go (ltb e.actor l.procs) refl) where
-      go : (b : Bool) → ltb e.actor l.procs ≡ b → LeavesAll e es
+    is_still = leaves_all e es among (go (ltb e.actor setup.layout.procs) refl) where
+      go : (b : Bool) → ltb e.actor setup.layout.procs ≡ b → LeavesAll e es
       go true x = by_processor (grind (arith, nat_tests))
       go false x = by_worker (grind (arith, nat_tests))

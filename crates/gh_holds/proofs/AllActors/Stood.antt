@@ -5,7 +5,7 @@ use Rattle.gh_base.specs.declared.cell.Cell.TheVariants as cell
 use Rattle.gh_base.specs.Packing.{birth_word}
 use Rattle.gh_base.specs.Rows.{RowsAreWritten}
 use Rattle.gh_heap.specs.Moves as heap
-use Rattle.gh_holds.proofs.Vocabulary.{Add, alloc_words, And, Arena, Ask, Cell, cell_of, ChangesOneCell, effect, Heap, IsPlacedAt, left, Load, Name, Or, row_bit, same_cell, Store, Swap, view, Words}
+use Rattle.gh_marked.proofs.Vocabulary.{Add, alloc_words, And, Arena, Ask, Cell, cell_of, ChangesOneCell, effect, Heap, IsPlacedAt, left, Load, Name, Or, row_bit, same_cell, Store, Swap, view, Words}
 use Rattle.gh_holds.proofs.AllActors.Aside.{IsBeside}
 
 -- what is placed by the one words is so by the others

@@ -1,5 +1,5 @@
 -- What is known while a cycle is marked ties the state of marking to the list; and one that is of a list's heap has what there is.
-use Rattle.std.proofs.Common.{◌≡◌, ◌≢◌, ◌↔◌, ℕ, ◌+◌, ◌<◌, Bool, true, false, sym, ap, subst, ◌∙◌, arith, List}
+use Rattle.std.proofs.Common.{◌≡◌, ◌≢◌, ◌↔◌, ℕ, ◌+◌, ◌<◌, true, false, sym, ap, subst, ◌∙◌, arith, List}
 use Rattle.gh_base.specs.declared.cell.Cell.TheVariants as cell
 use Rattle.gh_base.specs.declared.pack.TheConstants.{END}
 use Rattle.gh_cycle.specs.Beside.{IsBeside, IsOfCycle}
@@ -10,16 +10,17 @@ use Rattle.gh_model.specs.declared.EverValue.TheVariants as ever_value
 use Rattle.gh_model.specs.Ever.{from_register}
 use Rattle.gh_marked.specs.State.{HasState, processor_at}
 use Rattle.gh_marked.specs.Tied.{HasObject, IsOfHeap, IsTied, ShowsWhatThereIs, TiesShowWhatThereIs}
-use Rattle.gh_holds.proofs.Vocabulary.{Arena, arena, Coordinating, Cycle, Entry, Ever, ever, Good, IsPlacedAt, Layout, mark_words, Marking, MarkingGood, Name, Op, Pacing, Reach, reference_of, REGISTERS, row_bit, Shape, view, Words, words}
-use Rattle.gh_holds.specs.Known.{Known}
+use Rattle.gh_marked.proofs.Vocabulary.{Arena, arena, Coordinating, Cycle, Entry, Ever, ever, Good, IsPlacedAt, mark_words, Marking, MarkingGood, Name, Op, Reach, reference_of, REGISTERS, row_bit, view, Words, words}
+use Rattle.gh_marked.specs.Known.{Known}
 use Rattle.gh_lists.specs.Resting.{runs_are}
 use Rattle.gh_marked.specs.Marked.{IsInMarking}
+use Rattle.gh_lists.specs.Handshake.{Setup}
 
-module _ (shapes : List Shape) (l : Layout) (pacing : Pacing) (may : ℕ → List (Entry Op) → Op → Bool) (known : Known) (es : List (Entry Op)) where
+module _ (setup : Setup) (known : Known) (es : List (Entry Op)) where
   abbrev z : Arena
-  z = arena shapes l pacing may
+  z = arena setup
 
-  pub is_of_heap : (has : HasState shapes l pacing may es) (y : Cycle) (s : Marking) → y.arena ≡ z → MarkingGood y s → IsBeside z has.state.heap s → IsOfHeap shapes l pacing es y s
+  pub is_of_heap : (has : HasState setup es) (y : Cycle) (s : Marking) → y.arena ≡ z → MarkingGood y s → IsBeside z has.state.heap s → IsOfHeap setup es y s
   is_of_heap has y s arena_is good beside = record {
     heap = has.state.heap;
     words_are = has.of_list.words_are;
@@ -29,27 +30,24 @@ module _ (shapes : List Shape) (l : Layout) (pacing : Pacing) (may : ℕ → Lis
     good = good;
     beside = beside;
     objects = known.objects y has.state.heap s (subst (λ (x : Arena). Good x (view has.state.heap)) (sym arena_is) has.good.heap) good (subst (λ (x : Arena). IsBeside x has.state.heap s) (sym arena_is) beside);
-    over = λ g. subst (λ (w : Words). (w (cell.Scanned g) ≡ END) ↔ ((ever shapes l pacing may es).ended g ≡ true)) has.of_list.words_are (subst (λ (v : Ever). (has.state.heap.words (cell.Scanned g) ≡ END) ↔ (v.ended g ≡ true)) has.of_list.ever_is (has.of_list.stacks g));
+    over = λ g. subst (λ (w : Words). (w (cell.Scanned g) ≡ END) ↔ ((ever setup es).ended g ≡ true)) has.of_list.words_are (subst (λ (v : Ever). (has.state.heap.words (cell.Scanned g) ≡ END) ↔ (v.ended g ≡ true)) has.of_list.ever_is (has.of_list.stacks g));
   }
 
-  pub is_tied : (c : Coordinating) (m : IsInMarking z pacing may es c) → IsTied shapes l pacing es m.cycle m.shared
+  pub is_tied : (c : Coordinating) (m : IsInMarking z setup.pacing setup.may es c) → IsTied setup es m.cycle m.shared
   is_tied c m = record {
     of_heap = is_of_heap m.known.has m.cycle m.shared m.known.arena_is m.good m.known.beside;
-    processors = λ a lt. m.processors a (processor_at shapes l pacing may es a) lt (runs_are shapes l pacing may es a lt);
+    processors = λ a lt. m.processors a (processor_at setup es a) lt (runs_are setup es a lt);
     workers = λ a w lt is. m.workers a w lt is;
     others = m.coordinator;
   }
 
 -- A state of marking that is one of a list's heap.
-module _ (were_made : TheReachedWereMade) (shapes : List Shape) (l : Layout) (pacing : Pacing) (es : List (Entry Op)) (c : Cycle) (s : Marking) (t : IsOfHeap shapes l pacing es c s) where
-  abbrev any : ℕ → List (Entry Op) → Op → Bool
-  any a xs o = true
-
+module _ (were_made : TheReachedWereMade) (setup : Setup) (es : List (Entry Op)) (c : Cycle) (s : Marking) (t : IsOfHeap setup es c s) where
   abbrev w : Words
-  w = words shapes l pacing any es
+  w = words setup es
 
   abbrev v : Ever
-  v = ever shapes l pacing any es
+  v = ever setup es
 
   -- what a script reaches is placed where the heap says
   placed : (n : Name) → Reach v n → IsPlacedAt w n (t.heap.place n)
@@ -61,20 +59,20 @@ module _ (were_made : TheReachedWereMade) (shapes : List Shape) (l : Layout) (pa
   there n r = subst (λ (e : Ever). Reach e n) (sym t.ever_is) r
 
   of_cycle : (n : Name) → Reach v n → IsOfCycle t.heap s n
-  of_cycle n r = record { made = were_made (arena shapes l pacing any) t.heap.ever t.bounded n (there n r); placed = t.heap_good.reached n (there n r); since = t.beside.reached n (there n r) }
+  of_cycle n r = record { made = were_made (arena setup) t.heap.ever t.bounded n (there n r); placed = t.heap_good.reached n (there n r); since = t.beside.reached n (there n r) }
 
-  object : (n : Name) → Reach v n → HasObject shapes l pacing es s n
+  object : (n : Name) → Reach v n → HasObject setup es s n
   object n r = record {
     at = t.heap.place n;
     placed = placed n r;
     since = t.beside.reached n (there n r);
     some = (t.objects (t.heap.place n) (t.beside.reached n (there n r))).some;
-    size = t.beside.size n (of_cycle n r) ∙ ap (λ (e : Ever). size_for shapes e.type_of n) t.ever_is;
-    pointer = λ k lt. t.beside.pointer n k (of_cycle n r) (subst (λ (e : Ever). k < size_for shapes e.type_of n) (sym t.ever_is) lt) ∙ ap (λ (e : Ever). points shapes e.type_of n k) t.ever_is;
-    noscan = t.beside.noscan n (of_cycle n r) ∙ ap (λ (e : Ever). (shape_for shapes e.type_of n).noscan) t.ever_is;
+    size = t.beside.size n (of_cycle n r) ∙ ap (λ (e : Ever). size_for setup.shapes e.type_of n) t.ever_is;
+    pointer = λ k lt. t.beside.pointer n k (of_cycle n r) (subst (λ (e : Ever). k < size_for setup.shapes e.type_of n) (sym t.ever_is) lt) ∙ ap (λ (e : Ever). points setup.shapes e.type_of n k) t.ever_is;
+    noscan = t.beside.noscan n (of_cycle n r) ∙ ap (λ (e : Ever). (shape_for setup.shapes e.type_of n).noscan) t.ever_is;
   }
 
-  register : (g d : ℕ) (n : Name) → g < l.goroutines → d < REGISTERS → v.ended g ≡ false → v.register g d ≡ ever_value.Ref n → s.registers g d ≡ t.heap.place n + 1
+  register : (g d : ℕ) (n : Name) → g < setup.layout.goroutines → d < REGISTERS → v.ended g ≡ false → v.register g d ≡ ever_value.Ref n → s.registers g d ≡ t.heap.place n + 1
   register g d n lt few goes is =
       t.beside.registers g d lt few (subst (λ (e : Ever). e.ended g ≡ false) (sym t.ever_is) goes)
       ∙ (ap (λ (e : Ever). reference_of t.heap.place (e.register g d)) t.ever_is ∙ ap (reference_of t.heap.place) is)
@@ -85,7 +83,7 @@ module _ (were_made : TheReachedWereMade) (shapes : List Shape) (l : Layout) (pa
       let same : row_bit (mark_words s.words) a ≡ row_bit (mark_words w) a = ap (λ (x : Words). row_bit (mark_words x) a) (t.beside.words ∙ t.words_are) in
       omega (arith, bit, same, set)
 
-  shows : ShowsWhatThereIs shapes l pacing es s
+  shows : ShowsWhatThereIs setup es s
   shows = record {
     objects = object;
     registers = λ g d n lt few goes is. (t.heap.place n, placed n (from_register g d n goes is), register g d n lt few goes is);
@@ -93,4 +91,4 @@ module _ (were_made : TheReachedWereMade) (shapes : List Shape) (l : Layout) (pa
   }
 
 pub ties_show : TheReachedWereMade → TiesShowWhatThereIs
-ties_show made shapes l pacing es c s t = shows made shapes l pacing es c s t
+ties_show made setup es c s t = shows made setup es c s t

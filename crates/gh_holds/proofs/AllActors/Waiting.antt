@@ -22,7 +22,7 @@ use Rattle.gh_mutator.specs.New as new
 use Rattle.gh_mutator.specs.Poll as poll
 use Rattle.gh_mutator.specs.Processor.{at_poll, at_task}
 use Rattle.gh_mutator.specs.Wait as wait
-use Rattle.gh_holds.proofs.Vocabulary.{acting, acts, acts_at, after_gc, after_poll, asks, given_at, gives, gives_at, is_busy_at, is_some, IsParked, leaves_at, LeaveStage, Leaving, Load, New, new_stage_at, NewStage, once_ended, PackedWordsAreReadBack, phase_of, PhaseWord, Polling, polls_at, PollStage, Processor, Resumed, ResumeStage, run_phase, Shape, SoundAt, SoundPlace, stage_at, stage_of, stop_word, takes, takes_at, Task, waits_at, WaitStage}
+use Rattle.gh_marked.proofs.Vocabulary.{acting, acts, acts_at, after_gc, after_poll, asks, given_at, gives, gives_at, is_busy_at, is_some, IsParked, leaves_at, LeaveStage, Leaving, Load, New, new_stage_at, NewStage, once_ended, PackedWordsAreReadBack, phase_of, PhaseWord, Polling, polls_at, PollStage, Processor, Resumed, ResumeStage, run_phase, Shape, SoundAt, SoundPlace, stage_at, stage_of, stop_word, takes, takes_at, Task, waits_at, WaitStage}
 
 -- where the poll waits
 pub record WaitsAt (stops : ℕ) (p : Polling) : Type 0 where

@@ -5,9 +5,9 @@ use Rattle.gh_coord.specs.declared.sweep_all.SweepAllStage.TheVariants as all
 use Rattle.gh_state.specs.Moves as state
 use Rattle.gh_sweep.specs.Facts.{HasNotNumber}
 use Rattle.gh_holds.specs.ActorsHold.{IsBegun, page_at, Walks, WalksAt}
-use Rattle.gh_holds.specs.HoldVocabulary.{Arena, CycleEnd, generation_of, PassedBefore, State, StateGood, SweepingAll}
-use Rattle.gh_holds.specs.Known.{Known}
-use Rattle.gh_holds.proofs.AllActors.Sweepers as sweepers
+use Rattle.gh_marked.specs.HoldVocabulary.{Arena, CycleEnd, generation_of, PassedBefore, State, StateGood, SweepingAll}
+use Rattle.gh_marked.specs.Known.{Known}
+use Rattle.gh_marked.proofs.OneStep.Sweepers as sweepers
 
 -- A move of the actor at seat a; the walk is that of another, at seat b.
 module _ (known : Known) (z : Arena) (a b : ℕ) (differs : b ≢ a) (s : State) (m : state.Move) (good : StateGood z s) (may : state.May z a s m) where

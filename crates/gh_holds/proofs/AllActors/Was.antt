@@ -1,71 +1,71 @@
 -- Where an entry of a processor says `full`, there was no room: a search that finds none does so by its rights, behind its wait; polls, waits and leaves say nothing of it, and in a stopped world nobody does.
-use Rattle.std.proofs.Common.{◌≡◌, ℕ, ◌<◌, Bool, true, sym, ap, subst, ◌∙◌, List, ◌∷◌, Option, Some, None}
+use Rattle.std.proofs.Common.{◌≡◌, ℕ, ◌<◌, true, sym, ap, subst, ◌∙◌, List, ◌∷◌, Option, Some, None}
 use Rattle.gh_lists.specs.declared.handshake.Actor.TheVariants as actor
-use Rattle.gh_lists.specs.Handshake.{asks as asks_by}
+use Rattle.gh_lists.specs.Handshake.{asks as asks_by, Setup}
 use Rattle.gh_mutator_heap.specs.Facts.{FullAt}
-use Rattle.gh_holds.proofs.Vocabulary.{Act, Actor, actors, acts, Arena, arena, Ask, asks, cell_of, deeds, done_at, Entry, HasState, Heap, IsFullFor, IsHeapOf, Kind, Layout, Legal, Op, Pacing, Processor, processor_at, processor_kind, Shape, started, state_of, those, view, Words, words}
-use Rattle.gh_holds.specs.Known.{Known}
-use Rattle.gh_holds.proofs.AllActors.Refusals.{full_for, full_searches, goes_on, IsSearchedAgain, point_is}
+use Rattle.gh_marked.proofs.Vocabulary.{Act, Actor, actors, acts, Arena, arena, Ask, asks, cell_of, deeds, done_at, Entry, HasState, Heap, IsFullFor, IsHeapOf, Kind, Legal, Op, Processor, processor_at, processor_kind, started, state_of, those, view, Words, words}
+use Rattle.gh_marked.specs.Known.{Known}
+use Rattle.gh_marked.proofs.OneStep.Refusals.{full_for, full_searches, goes_on, IsSearchedAgain, point_is}
 use Rattle.gh_lists.specs.Resting.{runs_are}
 use Rattle.gh_holds.proofs.AllActors.Still.{IsStill}
 use Rattle.gh_lists.specs.Seats.{run_started}
 
-module _ (shapes : List Shape) (l : Layout) (pacing : Pacing) (may : ℕ → List (Entry Op) → Op → Bool) (e : Entry Op) (es : List (Entry Op)) where
+module _ (setup : Setup) (e : Entry Op) (es : List (Entry Op)) where
   abbrev z : Arena
-  z = arena shapes l pacing may
+  z = arena setup
 
   abbrev k : Kind Processor Op
-  k = processor_kind shapes l
+  k = processor_kind setup.shapes setup.layout
 
   abbrev all : Kind Actor Op
-  all = actors shapes l pacing
+  all = actors setup
 
   -- the point of the entry, if it is one
   abbrev point : Option Act
-  point = done_at k (deeds shapes) es e
+  point = done_at k (deeds setup.shapes) es e
 
   -- where it says that there was no room, there was none
   abbrev pub RefusesRightly : Type 0
-  RefusesRightly = (x : Act) → point ≡ Some x → x.full ≡ true → IsFullFor z e.actor (words shapes l pacing may es) (processor_at shapes l pacing may es e.actor) x.op
+  RefusesRightly = (x : Act) → point ≡ Some x → x.full ≡ true → IsFullFor z e.actor (words setup es) (processor_at setup es e.actor) x.op
 
   pub no_point_refuses : point ≡ None → RefusesRightly
   no_point_refuses none x is full = absurd (let no : None ≡ Some x = sym none ∙ is in cc)
 
-  pub still_refuses : IsStill shapes l pacing may e es → RefusesRightly
+  pub still_refuses : IsStill setup e es → RefusesRightly
   still_refuses still = no_point_refuses still.no_point
 
-  module _ (legal : Legal (those shapes l pacing may) (e ∷ es)) where
-    module _ (lt : e.actor < l.procs) where
+  module _ (legal : Legal (those setup) (e ∷ es)) where
+    module _ (lt : e.actor < setup.layout.procs) where
       abbrev m : Processor
-      m = processor_at shapes l pacing may es e.actor
+      m = processor_at setup es e.actor
 
       abbrev now : Processor
       now = started k e.begun m
 
       here : started all e.begun (state_of all e.actor es) ≡ actor.Runs now
-      here = ap (started all e.begun) (runs_are shapes l pacing may es e.actor lt) ∙ run_started shapes l pacing e.begun m
+      here = ap (started all e.begun) (runs_are setup es e.actor lt) ∙ run_started setup e.begun m
 
       searched : (x : Act) → point ≡ Some x → x.full ≡ true → IsSearchedAgain now.task
       searched x is full = full_searches now now.task e.found x (point_is (acts now e.found) x is) full
 
       -- and a search sees what there is, whoever sweeps meanwhile
-      module _ (known : Known) (has : HasState shapes l pacing may es) (sees : (y : Act) → acts now (has.state.heap.words (cell_of (asks now))) ≡ Some y → y.full ≡ true → FullAt z e.actor (view has.state.heap) now y.op) where
+      module _ (known : Known) (has : HasState setup es) (sees : (y : Act) → acts now (has.state.heap.words (cell_of (asks now))) ≡ Some y → y.full ≡ true → FullAt z e.actor (view has.state.heap) now y.op) where
         abbrev h : Heap
         h = has.state.heap
 
-        abbrev of : IsHeapOf shapes l pacing may es has.state.heap
+        abbrev of : IsHeapOf setup es has.state.heap
         of = has.of_list
 
         pub heap_refuses : RefusesRightly
         heap_refuses x is full = subst (λ (w : Words). IsFullFor z e.actor w m x.op) of.words_are (full_for z h has.good.heap of.others e.actor m x.op (subst (λ (p : Processor). FullAt z e.actor (view h) p x.op) now_is (sees x act full))) where
           now_is : now ≡ m
-          now_is = ap (λ (o : Option Op). started k o m) (goes_on shapes l e.begun m (searched x is full))
+          now_is = ap (λ (o : Option Op). started k o m) (goes_on setup.shapes setup.layout e.begun m (searched x is full))
 
           asked : e.ask ≡ asks now
           asked = legal.1.asks ∙ ap asks_by here
 
           found : e.found ≡ h.words (cell_of (asks now))
-          found = legal.1.found ∙ (ap (λ (q : Ask). words shapes l pacing may es (cell_of q)) asked ∙ ap (λ (w : Words). w (cell_of (asks now))) (sym of.words_are))
+          found = legal.1.found ∙ (ap (λ (q : Ask). words setup es (cell_of q)) asked ∙ ap (λ (w : Words). w (cell_of (asks now))) (sym of.words_are))
 
           act : acts now (h.words (cell_of (asks now))) ≡ Some x
           act = ap (acts now) (sym found) ∙ point_is (acts now e.found) x is

@@ -1,5 +1,5 @@
 -- One entry more of a worker, outside of marking: it is a step of the sweep that it runs, or its step is on no word of which anything is said of the heap.
-use Rattle.std.proofs.Common.{◌≡◌, ℕ, ◌+◌, ◌<◌, ◌≤◌, Bool, true, refl, sym, ap, subst, ◌∙◌, arith, List, ◌∷◌, Option, Some, None}
+use Rattle.std.proofs.Common.{◌≡◌, ℕ, ◌+◌, ◌<◌, ◌≤◌, true, refl, sym, ap, subst, ◌∙◌, arith, List, ◌∷◌, Option, Some, None}
 use Rattle.gh_base.specs.declared.cell.Cell.TheVariants as cell
 use Rattle.gh_coord.specs.declared.close.CloseStage.TheVariants as closing
 use Rattle.gh_coord.specs.declared.open.OpenStage.TheVariants as opening
@@ -16,36 +16,37 @@ use Rattle.gh_sweep.specs.Sweepers.{move_of}
 use Rattle.gh_worker.specs.Listing as worker
 use Rattle.gh_worker.specs.Writing.{IsCalm}
 use Rattle.gh_lists.specs.declared.handshake.Actor.TheVariants as actor
-use Rattle.gh_holds.specs.ActorsHold.{HasRead}
+use Rattle.gh_holds.specs.ActorsHold.{HasEnded, HasRead, Holds, HoldsAt, IsClosing, IsCounting, IsQuiet, IsSweeping, IsTelling, IsTold}
 use Rattle.gh_lists.specs.Handshake as handshake
-use Rattle.gh_holds.specs.HoldVocabulary.{SweepingAll}
+use Rattle.gh_marked.specs.HoldVocabulary.{SweepingAll}
 use Rattle.gh_marked.specs.Sweepers.{IsInSweep}
-use Rattle.gh_holds.proofs.Vocabulary.{acks_of, actors_after, Arena, arena, Close, CloseStage, Coordinating, CoordStage, Count, CountStage, CycleEnd, Done, effect, Entry, HasEnded, HasState, Holds, HoldsAt, IsClosing, IsCounting, IsInLimits, IsLed, IsQuiet, IsSweeping, IsTelling, IsTold, Layout, Legal, LoadAck, LoadWant, Op, Open, OpenStage, Pacing, place_of, RunPhase, Shape, State, Stop, Stopped, Sweep, Tell, TellStage, those, Words, words}
+use Rattle.gh_marked.proofs.Vocabulary.{acks_of, actors_after, Arena, arena, Close, CloseStage, Coordinating, CoordStage, Count, CountStage, CycleEnd, Done, effect, Entry, HasState, IsLed, Legal, LoadAck, LoadWant, Op, Open, OpenStage, place_of, RunPhase, State, Stop, Stopped, Sweep, Tell, TellStage, those, Words, words}
 use Rattle.gh_holds.proofs.AllActors.Aside as aside
 use Rattle.gh_holds.proofs.AllActors.Aside.{acks_aside, TellsNothing}
-use Rattle.gh_holds.specs.Known.{Known, ListsKnown}
+use Rattle.gh_marked.specs.Known.{ListsKnown}
 use Rattle.gh_holds.proofs.AllActors.Others.{no_full, was_by_others}
 use Rattle.gh_lists.specs.Resting.{ever_stays}
 use Rattle.gh_holds.proofs.AllActors.SinceEnd.{as_it_ended, has_ended_on, KeepsEnd, LastStays, quiet_keeps_end, sweep_keeps_end}
 use Rattle.gh_holds.proofs.AllActors.Starts.{counted_on}
 use Rattle.gh_holds.proofs.AllActors.Stay.{changes_nothing, ChangesNothing, led_by_it, sweeping_stays, worker_sweeps_none}
 use Rattle.gh_holds.proofs.AllActors.StillHolds.{holds_still}
-use Rattle.gh_holds.proofs.AllActors.Sweepers as sweepers
+use Rattle.gh_marked.proofs.OneStep.Sweepers as sweepers
 use Rattle.gh_holds.proofs.AllActors.Walking.{walks_last}
-use Rattle.gh_holds.proofs.AllActors.WorkersSweep as sweeping
+use Rattle.gh_marked.proofs.OneStep.WorkersSweep as sweeping
+use Rattle.gh_lists.specs.Handshake.{Setup}
 
 -- while a cycle is opened the world is stopped
 open_stopped : (p : OpenStage) → opens_by.is_busy p ≡ true → leading.open_post p ≡ Stopped run.Off
 open_stopped opening.Ended busy = absurd (cc)
 open_stopped _ busy = refl
 
-module _ (shapes : List Shape) (l : Layout) (pacing : Pacing) (may : ℕ → List (Entry Op) → Op → Bool) (limits : IsInLimits l) (known : Known) (lists : ListsKnown shapes l pacing may)
-    (e : Entry Op) (es : List (Entry Op)) (legal : Legal (those shapes l pacing may) (e ∷ es)) (c : Coordinating) (led : IsLed shapes l pacing may es c) (among : e.actor < acks_of l) where
+module _ (setup : Setup) (lists : ListsKnown setup)
+    (e : Entry Op) (es : List (Entry Op)) (legal : Legal (those setup) (e ∷ es)) (c : Coordinating) (led : IsLed setup es c) (among : e.actor < acks_of setup.layout) where
   abbrev z : Arena
-  z = arena shapes l pacing may
+  z = arena setup
 
   abbrev told : List (Entry Op) → Words
-  told xs = words shapes l pacing may xs
+  told xs = words setup xs
 
   -- where the world is stopped no word changes
   pub told_stays : (phase : RunPhase) → leading.post_at c.stage ≡ Stopped phase → told (e ∷ es) ≡ told es
@@ -55,66 +56,66 @@ module _ (shapes : List Shape) (l : Layout) (pacing : Pacing) (may : ℕ → Lis
   post_is p phase is post = ap leading.post_at is ∙ post
 
   open_busy : (o : opens_by.CycleOpening) → c.stage ≡ Open o → opens_by.is_busy o.stage ≡ true
-  open_busy o is = (subst (leading.SoundAt c) is (subst (handshake.Sound l) led ((lists.keeps es legal.0).shakes.all_sound (acks_of l) (omega arith))).1.1).1
+  open_busy o is = (subst (leading.SoundAt c) is (subst (handshake.Sound setup.layout) led ((lists.keeps es legal.0).shakes.all_sound (acks_of setup.layout) (omega arith))).1.1).1
 
-  module _ (w : worker.Working) (ge : l.procs ≤ e.actor) (is : actors_after z pacing may es e.actor ≡ actor.Marks w) where
+  module _ (w : worker.Working) (ge : setup.layout.procs ≤ e.actor) (is : actors_after z setup.pacing setup.may es e.actor ≡ actor.Marks w) where
     -- in a stopped world nothing changes
-    nothing : (phase : RunPhase) → leading.post_at c.stage ≡ Stopped phase → ChangesNothing shapes l pacing may e es
-    nothing phase post = changes_nothing shapes l pacing may e es known legal ge among (told_stays phase post) (worker_sweeps_none shapes l pacing may e es lists legal c phase led post among w is)
+    nothing : (phase : RunPhase) → leading.post_at c.stage ≡ Stopped phase → ChangesNothing setup e es
+    nothing phase post = changes_nothing setup e es lists.known legal ge among (told_stays phase post) (worker_sweeps_none setup e es lists legal c phase led post among w is)
 
     -- Outside of marking, the world running or not.
-    module _ (off : leading.Marks c.stage → ⊥) (has : HasState shapes l pacing may es) where
+    module _ (off : leading.Marks c.stage → ⊥) (has : HasState setup es) where
       -- what its step is and leaves, and that it leaves buffers and what the state says of the end of the last cycle
       pub record WorkerLands : Type 0 where
-        pub lands : aside.Lands shapes l pacing may known e es legal ge has
-        pub buffers : (b : ℕ) → (aside.then shapes l pacing may known e es legal ge has lands).heap.words (cell.Buffer b) ≡ has.state.heap.words (cell.Buffer b)
-        pub ends : KeepsEnd has.state (aside.then shapes l pacing may known e es legal ge has lands)
+        pub lands : aside.Lands setup lists.known e es legal ge has
+        pub buffers : (b : ℕ) → (aside.then setup lists.known e es legal ge has lands).heap.words (cell.Buffer b) ≡ has.state.heap.words (cell.Buffer b)
+        pub ends : KeepsEnd has.state (aside.then setup lists.known e es legal ge has lands)
 
       asked : e.ask ≡ worker.asks w
-      asked = sweeping.asked shapes l pacing may known lists e es legal w is
+      asked = sweeping.asked setup lists e es legal w is
 
       -- it runs a sweep
       module _ (sw : Sweeping) (runs : worker.sweep_in w ≡ Some sw) where
-        swept : aside.swept_before shapes l pacing may known e es legal ge has ≡ Some sw
-        swept = sweeping.sweeps_before shapes l pacing may known lists e es legal w is ∙ runs
+        swept : aside.swept_before setup lists.known e es legal ge has ≡ Some sw
+        swept = sweeping.sweeps_before setup lists e es legal w is ∙ runs
 
         its_busy : sweep.is_busy sw.stage ≡ true
-        its_busy = (subst (IsInSweep e.actor has.state) swept (has.sweeps e.actor (aside.seat shapes l pacing may known e es legal ge has))).1
+        its_busy = (subst (IsInSweep e.actor has.state) swept (has.sweeps e.actor (aside.seat setup lists.known e es legal ge has))).1
 
         asks_is : e.ask ≡ sweep.asks sw
-        asks_is = asked ∙ (sweeping.goes_on shapes l pacing may known lists e es legal w is sw runs its_busy).asks_so
+        asks_is = asked ∙ (sweeping.goes_on setup lists e es legal w is sw runs its_busy).asks_so
 
-        then_is : aside.swept_then shapes l pacing may known e es legal ge has ≡ on_from sw e.found
-        then_is = sweeping.sweeps_then shapes l pacing may known lists e es legal w is ∙ (sweeping.goes_on shapes l pacing may known lists e es legal w is sw runs its_busy).goes_so e.found
+        then_is : aside.swept_then setup lists.known e es legal ge has ≡ on_from sw e.found
+        then_is = sweeping.sweeps_then setup lists e es legal w is ∙ (sweeping.goes_on setup lists e es legal w is sw runs its_busy).goes_so e.found
 
         lands_sweeping : WorkerLands
         lands_sweeping = record {
-          lands = aside.by_sweep shapes l pacing may known e es legal ge has sw swept asks_is then_is;
-          buffers = aside.sweep_buffers shapes l pacing may known e es legal ge has sw swept asks_is then_is;
-          ends = sweep_keeps_end z e.actor has.state (move_of sw e.found) (aside.sweep_goes shapes l pacing may known e es legal ge has sw swept asks_is then_is).may.of_sweep;
+          lands = aside.by_sweep setup lists.known e es legal ge has sw swept asks_is then_is;
+          buffers = aside.sweep_buffers setup lists.known e es legal ge has sw swept asks_is then_is;
+          ends = sweep_keeps_end z e.actor has.state (move_of sw e.found) (aside.sweep_goes setup lists.known e es legal ge has sw swept asks_is then_is).may.of_sweep;
         }
 
       -- it runs none
       module _ (none : worker.sweep_in w ≡ None) where
-        unswept : aside.swept_before shapes l pacing may known e es legal ge has ≡ None
-        unswept = sweeping.sweeps_before shapes l pacing may known lists e es legal w is ∙ none
+        unswept : aside.swept_before setup lists.known e es legal ge has ≡ None
+        unswept = sweeping.sweeps_before setup lists e es legal w is ∙ none
 
         calm : IsCalm w
         calm = lists.rests es legal.0 c e.actor w led off is
 
         tells : TellsNothing e.ask
-        tells = subst TellsNothing (sym asked) (acks_aside w.seat (worker.asks w) (known.workers_calm.writes w (sweeping.sound shapes l pacing may known lists e es legal w is) calm none (sweeping.busy shapes l pacing may known lists e es legal w is)))
+        tells = subst TellsNothing (sym asked) (acks_aside w.seat (worker.asks w) (lists.known.workers_calm.writes w (sweeping.sound setup lists e es legal w is) calm none (sweeping.busy setup lists e es legal w is)))
 
         abbrev beside : aside.IsBeside e.ask
         beside = aside.beside_of e.ask tells.aside
 
-        sweeps : IsInSweep e.actor (aside.quiet_state shapes l pacing may known e es legal ge has unswept beside (λ over. tells)) (aside.swept_then shapes l pacing may known e es legal ge has)
-        sweeps = sweeping.begins_or_rests shapes l pacing may known lists e es legal w is has none (aside.quiet_state shapes l pacing may known e es legal ge has unswept beside (λ over. tells))
-            (aside.quiet_good shapes l pacing may known e es legal ge has unswept beside (λ over. tells)) (aside.quiet_rests shapes l pacing may known e es legal ge has unswept beside (λ over. tells)) refl
+        sweeps : IsInSweep e.actor (aside.quiet_state setup lists.known e es legal ge has unswept beside (λ over. tells)) (aside.swept_then setup lists.known e es legal ge has)
+        sweeps = sweeping.begins_or_rests setup lists e es legal w is has none (aside.quiet_state setup lists.known e es legal ge has unswept beside (λ over. tells))
+            (aside.quiet_good setup lists.known e es legal ge has unswept beside (λ over. tells)) (aside.quiet_rests setup lists.known e es legal ge has unswept beside (λ over. tells)) refl
 
         lands_quiet : WorkerLands
         lands_quiet = record {
-          lands = aside.by_quiet shapes l pacing may known e es legal ge has unswept beside (λ over. tells) sweeps;
+          lands = aside.by_quiet setup lists.known e es legal ge has unswept beside (λ over. tells) sweeps;
           buffers = λ b. tells.aside.buffer has.state.heap.words b;
           ends = quiet_keeps_end z e.actor has.state e.ask;
         }
@@ -127,70 +128,70 @@ module _ (shapes : List Shape) (l : Layout) (pacing : Pacing) (may : ℕ → Lis
 
     -- What holds behind it.
     module _ (off : leading.Marks c.stage → ⊥) where
-      abbrev lands_on : (has : HasState shapes l pacing may es) → aside.Lands shapes l pacing may known e es legal ge has
+      abbrev lands_on : (has : HasState setup es) → aside.Lands setup lists.known e es legal ge has
       lands_on has = (worker_lands off has).lands
 
-      abbrev then : HasState shapes l pacing may es → State
-      then has = aside.then shapes l pacing may known e es legal ge has (lands_on has)
+      abbrev then : HasState setup es → State
+      then has = aside.then setup lists.known e es legal ge has (lands_on has)
 
-      end_stays : (has : HasState shapes l pacing may es) → (then has).end ≡ has.state.end
-      end_stays has = (sweepers.end_stays known z e.actor has.state (lands_on has).move).0
+      end_stays : (has : HasState setup es) → (then has).end ≡ has.state.end
+      end_stays has = (sweepers.end_stays lists.known z e.actor has.state (lands_on has).move).0
 
-      abbrev quiet_on : IsQuiet shapes l pacing may es c → IsQuiet shapes l pacing may (e ∷ es) c
-      quiet_on q = aside.off_then shapes l pacing may known e es legal ge (c.begun + 1) l.pages q (lands_on q.has) (worker_lands off q.has).buffers (c.begun + 1) refl
+      abbrev quiet_on : IsQuiet setup es c → IsQuiet setup (e ∷ es) c
+      quiet_on q = aside.off_then setup lists.known e es legal ge (c.begun + 1) setup.layout.pages q (lands_on q.has) (worker_lands off q.has).buffers (c.begun + 1) refl
 
-      last_stays : (has : HasState shapes l pacing may es) → LastStays shapes l pacing may e es has.state (then has)
-      last_stays has d led_d last = ((d, led_by_it shapes l pacing may e es among d led_d, last), ever_stays shapes l pacing may known.points e es legal ge, as_it_ended has.state (then has) (worker_lands off has).ends)
+      last_stays : (has : HasState setup es) → LastStays setup e es has.state (then has)
+      last_stays has d led_d last = ((d, led_by_it setup e es among d led_d, last), ever_stays setup lists.known.points e es legal ge, as_it_ended has.state (then has) (worker_lands off has).ends)
 
-      behind_on : (has : HasState shapes l pacing may es) → HasEnded shapes l pacing may es c.begun has.state → HasEnded shapes l pacing may (e ∷ es) c.begun (then has)
+      behind_on : (has : HasState setup es) → HasEnded setup es c.begun has.state → HasEnded setup (e ∷ es) c.begun (then has)
       behind_on has h =
-          let of = aside.of_list shapes l pacing may known e es legal ge has (lands_on has) in
-          has_ended_on shapes l pacing may e es known z e.actor has.state (lands_on has).move has.good (lands_on has).allowed has.of_list.words_are of.words_are has.of_list.ever_is of.ever_is c.begun (last_stays has) h
+          let of = aside.of_list setup lists.known e es legal ge has (lands_on has) in
+          has_ended_on setup e es lists.known z e.actor has.state (lands_on has).move (record { good = has.good; may = (lands_on has).allowed; words_were = has.of_list.words_are; words_are = of.words_are; ever_was = has.of_list.ever_is; ever_is = of.ever_is }) c.begun (last_stays has) h
 
-      not_lead : acks_of l ≡ e.actor → ⊥
+      not_lead : acks_of setup.layout ≡ e.actor → ⊥
       not_lead same = omega (arith, same, among)
 
-      sweeping_on : (v : SweepingAll) → IsSweeping shapes l pacing may es c v → IsSweeping shapes l pacing may (e ∷ es) c v
+      sweeping_on : (v : SweepingAll) → IsSweeping setup es c v → IsSweeping setup (e ∷ es) c v
       sweeping_on v s = record {
-        has = aside.has_then shapes l pacing may known e es legal ge s.has (lands_on s.has);
-        over = (sweepers.end_stays known z e.actor s.has.state (lands_on s.has).move).1 ∙ s.over;
-        walks = walks_last known z e.actor (acks_of l) (λ same. absurd (not_lead same)) s.has.state (lands_on s.has).move s.has.good (lands_on s.has).allowed v s.walks;
+        has = aside.has_then setup lists.known e es legal ge s.has (lands_on s.has);
+        over = (sweepers.end_stays lists.known z e.actor s.has.state (lands_on s.has).move).1 ∙ s.over;
+        walks = walks_last lists.known z e.actor (acks_of setup.layout) (λ same. absurd (not_lead same)) s.has.state (lands_on s.has).move s.has.good (lands_on s.has).allowed v s.walks;
         behind = behind_on s.has s.behind;
-        nobody = aside.nobody_marks shapes l pacing may known e es legal ge s.has (lands_on s.has) (worker_lands off s.has).buffers (c.begun + 1) (c.begun + 1) refl s.nobody;
+        nobody = aside.nobody_marks setup lists.known e es legal ge s.has (lands_on s.has) (worker_lands off s.has).buffers (c.begun + 1) (c.begun + 1) refl s.nobody;
       }
 
-      counting_on : (p : CountStage) → IsCounting shapes l pacing may es c p → IsCounting shapes l pacing may (e ∷ es) c p
+      counting_on : (p : CountStage) → IsCounting setup es c p → IsCounting setup (e ∷ es) c p
       counting_on p h = record {
         quiet = quiet_on h.quiet;
         behind = behind_on h.quiet.has h.behind;
-        read = subst (λ (x : CycleEnd). HasRead shapes l pacing may x p) (sym (end_stays h.quiet.has)) h.read;
+        read = subst (λ (x : CycleEnd). HasRead setup x p) (sym (end_stays h.quiet.has)) h.read;
       }
 
-      told_on : IsTold shapes l pacing may es c → IsTold shapes l pacing may (e ∷ es) c
+      told_on : IsTold setup es c → IsTold setup (e ∷ es) c
       told_on h = record {
         quiet = quiet_on h.quiet;
         behind = behind_on h.quiet.has h.behind;
         live = h.live ∙ ap (λ (x : CycleEnd). in_all x (live_at x)) (sym (end_stays h.quiet.has));
       }
 
-      telling_on : (p : TellStage) → IsTelling shapes l pacing may es c p → IsTelling shapes l pacing may (e ∷ es) c p
+      telling_on : (p : TellStage) → IsTelling setup es c p → IsTelling setup (e ∷ es) c p
       telling_on telling.StoreTrigger h = told_on h
       telling_on telling.Ended h = h
       telling_on _ h = told_on h
 
-    closing_on : (y : closes_by.Closing) → c.stage ≡ Close y → (p : CloseStage) → y.stage ≡ p → IsClosing shapes l pacing may es c p → IsClosing shapes l pacing may (e ∷ es) c p
-    closing_on y x closing.StorePhase at h = sweeping_stays shapes l pacing may e es (nothing run.Mark (post_is (Close y) run.Mark x (ap leading.close_post at))) c _ h
+    closing_on : (y : closes_by.Closing) → c.stage ≡ Close y → (p : CloseStage) → y.stage ≡ p → IsClosing setup es c p → IsClosing setup (e ∷ es) c p
+    closing_on y x closing.StorePhase at h = sweeping_stays setup e es (nothing run.Mark (post_is (Close y) run.Mark x (ap leading.close_post at))) c _ h
     closing_on y x closing.Ended at h = h
     closing_on y x _ at h = h
 
     off_at : (p : CoordStage) → c.stage ≡ p → (leading.Marks p → ⊥) → leading.Marks c.stage → ⊥
     off_at p x off = subst (λ (q : CoordStage). leading.Marks q → ⊥) (sym x) off
 
-    pub at_then : (p : CoordStage) → c.stage ≡ p → HoldsAt shapes l pacing may es c p → HoldsAt shapes l pacing may (e ∷ es) c p
+    pub at_then : (p : CoordStage) → c.stage ≡ p → HoldsAt setup es c p → HoldsAt setup (e ∷ es) c p
     at_then (LoadAck i) x h = quiet_on (off_at (LoadAck i) x (λ y. y)) h
     at_then LoadWant x h = quiet_on (off_at LoadWant x (λ y. y)) h
     at_then (Stop st) x h = quiet_on (off_at (Stop st) x (λ y. y)) h
-    at_then (Open o) x h = holds_still shapes l pacing may e es (nothing run.Off (post_is (Open o) run.Off x (open_stopped o.stage (open_busy o x)))) c (Open o) h
+    at_then (Open o) x h = holds_still setup e es (nothing run.Off (post_is (Open o) run.Off x (open_stopped o.stage (open_busy o x)))) c (Open o) h
     at_then (Close y) x h = closing_on y x y.stage refl h
     at_then (Sweep v) x h = sweeping_on (off_at (Sweep v) x (λ y. y)) v h
     at_then (Count y) x h = counting_on (off_at (Count y) x (λ y. y)) y.stage h
@@ -198,9 +199,9 @@ module _ (shapes : List Shape) (l : Layout) (pacing : Pacing) (may : ℕ → Lis
     at_then Done x h = told_on (off_at Done x (λ y. y)) h
     at_then _ x h = tt
 
-    pub holds_on : Holds shapes l pacing may es c → Holds shapes l pacing may (e ∷ es) c
+    pub holds_on : Holds setup es c → Holds setup (e ∷ es) c
     holds_on h = record {
       at = at_then c.stage refl h.at;
-      was = was_by_others shapes l pacing may known e es legal among (no_full shapes l pacing may known e es legal ge) h.was;
-      counted = counted_on shapes l pacing may e es c h.counted;
+      was = was_by_others setup lists.known e es legal among (no_full setup lists.known e es legal ge) h.was;
+      counted = counted_on setup e es c h.counted;
     }

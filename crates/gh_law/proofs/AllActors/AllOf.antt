@@ -1,17 +1,15 @@
 -- After every legal list of all actors all stands, by what holds after it.
-use Rattle.std.proofs.Common.{ℕ, List}
+use Rattle.std.proofs.Common.{List}
 use Rattle.gh_coord.specs.Handshake as leading
 use Rattle.gh_law.specs.Actors.{AllStands}
-use Rattle.gh_lists.specs.Lists.{may_of, IsLed}
+use Rattle.gh_lists.specs.Lists.{IsLed, Given, setup_for}
 use Rattle.gh_holds.specs.ActorsHold.{Holds}
-use Rattle.gh_holds.specs.Below.{HasState, IsMarking}
-use Rattle.gh_law.proofs.Vocabulary.{Coordinating, Entry, IsInLimits, Layout, Op, Pacing, Shape, ShapesAreGood, words, Legal}
+use Rattle.gh_holds.specs.Below.{HasState, IsMarking, ListsKnown, SpansStand}
+use Rattle.gh_law.proofs.Vocabulary.{Coordinating, Entry, Op, words, Legal}
 use Rattle.gh_lists.specs.Handshake.{those}
-use Rattle.gh_holds.specs.Spans.{SpansStand}
 use Rattle.gh_law.proofs.AllActors.Asked.{all_asked, all_opened}
 use Rattle.gh_lists.specs.Going.{led_then}
 use Rattle.gh_law.proofs.AllActors.HeapBytes.{heap_bytes}
-use Rattle.gh_holds.specs.Known.{Known, ListsKnown}
 use Rattle.gh_law.proofs.AllActors.OwnedSpans.{one_of_each, owners_stand}
 use Rattle.gh_law.proofs.AllActors.Phases.{phases_stand}
 use Rattle.gh_law.proofs.AllActors.Saying.{all_stands}
@@ -22,36 +20,41 @@ use Rattle.gh_law.proofs.Awaited.Waited.{awaits}
 use Rattle.gh_law.proofs.Within.Actors.{steps_within}
 use Rattle.gh_state.specs.Slots.{SlotsAreRead}
 
-module _ (shapes : List Shape) (l : Layout) (pacing : Pacing) (counts : ℕ → ℕ) (good : ShapesAreGood shapes) (limits : IsInLimits l) (known : Known) (slots : SlotsAreRead) (lists : ListsKnown shapes l pacing (may_of shapes l counts))
-    (held : (es : List (Entry Op)) → Legal (those shapes l pacing (may_of shapes l counts)) es → HoldsAfter shapes l pacing (may_of shapes l counts) es) where
+module _ (given : Given) (slots : SlotsAreRead) (lists : ListsKnown (setup_for given))
+    (held : (es : List (Entry Op)) → Legal (those (setup_for given)) es → HoldsAfter (setup_for given) es) where
   abbrev Lawful : List (Entry Op) → Type 0
-  Lawful es = Legal (those shapes l pacing (may_of shapes l counts)) es
+  Lawful es = Legal (those (setup_for given)) es
 
-  has : (es : List (Entry Op)) → Lawful es → HasState shapes l pacing (may_of shapes l counts) es
+  has : (es : List (Entry Op)) → Lawful es → HasState (setup_for given) es
   has es legal = (held es legal).has
 
-  holds : (es : List (Entry Op)) → Lawful es → (c : Coordinating) → IsLed shapes l pacing (may_of shapes l counts) es c → Holds shapes l pacing (may_of shapes l counts) es c
+  holds : (es : List (Entry Op)) → Lawful es → (c : Coordinating) → IsLed (setup_for given) es c → Holds (setup_for given) es c
   holds es legal c led = (held es legal).holds c led
 
-  in_cycles : InCycles shapes l pacing (may_of shapes l counts)
+  in_cycles : InCycles (setup_for given)
   in_cycles es c legal led telling = (held es legal).begun c led telling
 
-  spans_stand : (es : List (Entry Op)) → Lawful es → SpansStand shapes l (words shapes l pacing (may_of shapes l counts) es)
+  spans_stand : (es : List (Entry Op)) → Lawful es → SpansStand given.shapes given.layout (words (setup_for given) es)
   spans_stand es legal = record {
     types = (held es legal).types;
-    owners = owners_stand shapes l pacing (may_of shapes l counts) es (has es legal);
-    owned = one_of_each shapes l pacing (may_of shapes l counts) es (has es legal);
+    owners = owners_stand (setup_for given) es (has es legal);
+    owned = one_of_each (setup_for given) es (has es legal);
   }
 
-  pub list_stands : (es : List (Entry Op)) → Lawful es → AllStands shapes l pacing (may_of shapes l counts) es
+  pub list_stands : (es : List (Entry Op)) → Lawful es → AllStands (setup_for given) es
   list_stands es legal =
-      let x = led_then shapes l pacing (may_of shapes l counts) es in
+      let x = led_then (setup_for given) es in
       let now = held es legal in
-      let at_stage = now.holds x.lead x.led_by in
-      let marking : leading.Marks x.lead.stage → IsMarking shapes l pacing (may_of shapes l counts) es = λ on. now.marking x.lead x.led_by on in
-      all_stands shapes l pacing (may_of shapes l counts) es x.lead limits known x.led_by at_stage now.has marking now.drawn (awaits shapes l pacing (may_of shapes l counts) known lists in_cycles es legal) (all_asked shapes l pacing (may_of shapes l counts) known.writes known.workers_write lists.keeps lists.wants es legal) (all_opened shapes l pacing (may_of shapes l counts) known.writes known.workers_write lists.keeps lists.wants es legal) (λ d led. lists.plainly es d legal led) (steps_within shapes l pacing counts good limits known es now.has)
-      now.within_two now.until now.so_far
-      (scans_once shapes l pacing (may_of shapes l counts) known lists has es legal) now.scanned now.globals (sweeps_stand shapes l pacing (may_of shapes l counts) limits known es x.lead legal x.led_by marking at_stage.at) (spans_stand es legal)
-      (phases_stand shapes l pacing (may_of shapes l counts) known lists has holds es legal)
-      (heap_bytes shapes l pacing (may_of shapes l counts) known slots es now.has)
-      (λ done. now.left x.lead x.led_by done)
+      let marking : leading.Marks x.lead.stage → IsMarking (setup_for given) es = λ on. now.marking x.lead x.led_by on in
+      all_stands (setup_for given) es lists now x.lead x.led_by (record {
+        awaits = awaits (setup_for given) lists in_cycles es legal;
+        within = steps_within given lists.good lists.limits lists.known es now.has;
+        asked = all_asked (setup_for given) lists.known.writes lists.known.workers_write lists.keeps lists.wants es legal;
+        opened = all_opened (setup_for given) lists.known.writes lists.known.workers_write lists.keeps lists.wants es legal;
+        numbers = λ d led. lists.plainly es d legal led;
+        scans = scans_once (setup_for given) lists has es legal;
+        sweeps = sweeps_stand (setup_for given) lists.limits lists.known es x.lead legal x.led_by marking (now.holds x.lead x.led_by).at;
+        spans = spans_stand es legal;
+        phases = phases_stand (setup_for given) lists has holds es legal;
+        bytes = heap_bytes (setup_for given) lists.known slots es now.has;
+      })

@@ -12,7 +12,7 @@ use Rattle.gh_mutator_writes.specs.Writing.{BeginsToWait}
 use Rattle.gh_lists.specs.Numbers.{asks_for_one, opens_one}
 use Rattle.gh_lists.specs.Order.{before_step}
 use Rattle.gh_lists.specs.Wants.{CountsWants, IsToOpen}
-use Rattle.gh_law.proofs.Vocabulary.{Ask, asked_after, asks, Coordinating, CoordStage, effect, Entry, IsBeginning, IsStartOf, IsWanting, IsWritten, KeepsIt, Layout, Legal, Op, Open, Or, Pacing, Processor, processor_kind, ProcessorWritesItsOwn, Shape, started, state_of, Store, those, Words, Working, WorkersWriteTheirOwn, WritesOf}
+use Rattle.gh_law.proofs.Vocabulary.{Ask, asked_after, asks, Coordinating, CoordStage, effect, Entry, IsBeginning, IsStartOf, IsWanting, IsWritten, KeepsIt, Legal, Op, Open, Or, Processor, processor_kind, ProcessorWritesItsOwn, started, state_of, Store, those, Words, Working, WorkersWriteTheirOwn, WritesOf}
 use Rattle.gh_lists.specs.Resting.{runs_are}
 use Rattle.gh_lists.specs.Starts.{legal_start}
 use Rattle.gh_law.proofs.AllActors.Triggered.{asked as trigger_asked, saw}
@@ -21,6 +21,7 @@ use Rattle.gh_lists.specs.Quiet.{worker_quiet}
 use Rattle.gh_law.proofs.AllActors.Opened.{clears, IsOpened, none_opened, opened}
 use Rattle.gh_lists.specs.Steps as seats
 use Rattle.gh_lists.specs.Writing.{leaves_numbers}
+use Rattle.gh_lists.specs.Handshake.{Setup}
 
 -- a start of a list is no longer than it
 no_longer : (start es : List (Entry Op)) → IsStartOf start es → length start ≤ length es
@@ -74,77 +75,77 @@ clears_one : (c : Coordinating) (p : CoordStage) → IsClearing p → opens_one 
 clears_one c (Open o) is = rw is refl
 clears_one c _ is = absurd is
 
-module _ (shapes : List Shape) (l : Layout) (pacing : Pacing) (may : ℕ → List (Entry Op) → Op → Bool)
+module _ (setup : Setup)
     (writes : ProcessorWritesItsOwn) (works : WorkersWriteTheirOwn)
-    (keeps : (es : List (Entry Op)) → Legal (those shapes l pacing may) es → KeepsIt (those shapes l pacing may) es)
-    (wants : (es : List (Entry Op)) (c : Coordinating) → Legal (those shapes l pacing may) es → seats.at shapes l pacing may es (seats.n shapes l pacing may) ≡ actor.Leads c → CountsWants (those shapes l pacing may) es c) where
+    (keeps : (es : List (Entry Op)) → Legal (those setup) es → KeepsIt (those setup) es)
+    (wants : (es : List (Entry Op)) (c : Coordinating) → Legal (those setup) es → seats.at setup es (seats.n setup) ≡ actor.Leads c → CountsWants (those setup) es c) where
   abbrev Lawful : List (Entry Op) → Type 0
-  Lawful es = Legal (those shapes l pacing may) es
+  Lawful es = Legal (those setup) es
 
   abbrev Led : List (Entry Op) → Coordinating → Type 0
-  Led es c = seats.at shapes l pacing may es (seats.n shapes l pacing may) ≡ actor.Leads c
+  Led es c = seats.at setup es (seats.n setup) ≡ actor.Leads c
 
   abbrev told : List (Entry Op) → Words
-  told es = seats.words shapes l pacing may es
+  told es = seats.words setup es
 
   abbrev Asked : List (Entry Op) → Type 0
-  Asked es = told es cell.Want ≡ 1 → WasAsked shapes l pacing may es
+  Asked es = told es cell.Want ≡ 1 → WasAsked setup es
 
   abbrev Opened : List (Entry Op) → Coordinating → Type 0
-  Opened es c = IsOpened c.stage → WasOpened shapes l pacing may c.begun es
+  Opened es c = IsOpened c.stage → WasOpened setup c.begun es
 
   module _ (e : Entry Op) (es : List (Entry Op)) where
-    asked_more : opens_one e.ask ≡ false → WasAsked shapes l pacing may es → WasAsked shapes l pacing may (e ∷ es)
+    asked_more : opens_one e.ask ≡ false → WasAsked setup es → WasAsked setup (e ∷ es)
     asked_more none x = record { entry = x.entry; earlier = x.earlier; start = inr x.start; asks = x.asks; since = none_more (x.entry ∷ x.earlier) e es none x.since }
 
-    opened_more : (k : ℕ) → opens_one e.ask ≡ false → WasOpened shapes l pacing may k es → WasOpened shapes l pacing may k (e ∷ es)
+    opened_more : (k : ℕ) → opens_one e.ask ≡ false → WasOpened setup k es → WasOpened setup k (e ∷ es)
     opened_more k none x = record { entry = x.entry; earlier = x.earlier; start = inr x.start; opens = x.opens; since = none_more (x.entry ∷ x.earlier) e es none x.since }
 
     module _ (legal : Lawful (e ∷ es)) where
-      step : seats.Step shapes l pacing may e es
-      step = seats.step shapes l pacing may e es writes legal (keeps es legal.0)
+      step : seats.Step setup e es
+      step = seats.step setup e es writes legal (keeps es legal.0)
 
-      leaves_by : (m : Processor) → seats.RunsIt shapes l pacing may e es m → Leaves (told es) e.ask
-      leaves_by m x = subst (λ (q : Ask). Leaves (told es) q) (sym x.asked) (leaves (told es) _ (leaves_numbers writes (started (processor_kind shapes l) e.begun m) x.sound_then))
+      leaves_by : (m : Processor) → seats.RunsIt setup e es m → Leaves (told es) e.ask
+      leaves_by m x = subst (λ (q : Ask). Leaves (told es) q) (sym x.asked) (leaves (told es) _ (leaves_numbers writes (started (processor_kind setup.shapes setup.layout) e.begun m) x.sound_then))
 
       -- a worker opens no cycle and asks for none, sweeping or not
-      working : (w : Working) → seats.WorksIt shapes l pacing may e es w → LeavesRequest (told es) e.ask
+      working : (w : Working) → seats.WorksIt setup e es w → LeavesRequest (told es) e.ask
       working w x =
           let quiet = worker_quiet (told es) works w x.sound_it x.busy in
           subst (λ (q : Ask). LeavesRequest (told es) q) (sym x.asked) (record { opens_none = none_opened (worker.asks w) quiet.opens_none; same = quiet.want })
 
       -- a processor that asks
-      asker : (m : Processor) → seats.RunsIt shapes l pacing may e es m → asks_for_one e.ask ≡ true → AsksForCycle shapes l pacing may e es
+      asker : (m : Processor) → seats.RunsIt setup e es m → asks_for_one e.ask ≡ true → AsksForCycle setup e es
       asker m x one =
-          let k = processor_kind shapes l in
-          let both : actor.Runs m ≡ actor.Runs (state_of k e.actor es) = sym x.is ∙ runs_are shapes l pacing may es e.actor x.seat in
+          let k = processor_kind setup.shapes setup.layout in
+          let both : actor.Runs m ≡ actor.Runs (state_of k e.actor es) = sym x.is ∙ runs_are setup es e.actor x.seat in
           let own : m ≡ state_of k e.actor es = cc in
           let w = asks_by (started k e.begun m) (asks (started k e.begun m)) refl (writes.writes (started k e.begun m) x.sound_then) (sym (ap asks_for_one x.asked) ∙ one) in
           record { by = x.seat; where_it_may = where_it_may (subst (λ (y : Processor). IsWanting (started k e.begun y).task) own w.0); asks = x.asked ∙ w.1 } where
-            where_it_may : IsWanting (before_step shapes l es e).task → BeginsToWait (before_step shapes l es e).task ⊎ SawTriggerReached shapes l e.actor es
+            where_it_may : IsWanting (before_step setup.shapes setup.layout es e).task → BeginsToWait (before_step setup.shapes setup.layout es e).task ⊎ SawTriggerReached setup.shapes setup.layout e.actor es
             where_it_may (inl waits) = inl waits
-            where_it_may (inr saw_it) = inr (saw shapes l writes e.actor es (trigger_asked shapes l writes e.actor (state_of (processor_kind shapes l) e.actor es) e.begun saw_it))
+            where_it_may (inr saw_it) = inr (saw setup.shapes setup.layout writes e.actor es (trigger_asked setup.shapes setup.layout writes e.actor (state_of (processor_kind setup.shapes setup.layout) e.actor es) e.begun saw_it))
 
-      asked_by : (m : Processor) → seats.RunsIt shapes l pacing may e es m → Asked es → Asked (e ∷ es)
+      asked_by : (m : Processor) → seats.RunsIt setup e es m → Asked es → Asked (e ∷ es)
       asked_by m x before set = go y.want where
         y : Leaves (told es) e.ask
         y = leaves_by m x
 
-        go : (((before : ℕ) → asked_after e.ask before ≡ before) × (told (e ∷ es) cell.Want ≡ told es cell.Want)) ⊎ (((before : ℕ) → asked_after e.ask before ≡ suc before) × (told (e ∷ es) cell.Want ≡ bit_or (told es cell.Want) 1)) → WasAsked shapes l pacing may (e ∷ es)
+        go : (((before : ℕ) → asked_after e.ask before ≡ before) × (told (e ∷ es) cell.Want ≡ told es cell.Want)) ⊎ (((before : ℕ) → asked_after e.ask before ≡ suc before) × (told (e ∷ es) cell.Want ≡ bit_or (told es cell.Want) 1)) → WasAsked setup (e ∷ es)
         go (inl z) = asked_more (none_opened e.ask y.opens_none) (before (sym z.1 ∙ set))
         go (inr z) = record { entry = e; earlier = es; start = inl refl; asks = asker m x (asks_one e.ask z.0); since = none_behind (e ∷ es) }
 
-      asked_working : (w : Working) → seats.WorksIt shapes l pacing may e es w → Asked es → Asked (e ∷ es)
+      asked_working : (w : Working) → seats.WorksIt setup e es w → Asked es → Asked (e ∷ es)
       asked_working w x before set = let y = working w x in asked_more y.opens_none (before (sym y.same ∙ set))
 
       -- the coordinator clears the request where it opens a cycle, or leaves it
-      leading : (c : Coordinating) → seats.LeadsIt shapes l pacing may e es c → (IsClearing c.stage × (e.ask ≡ Store cell.Want 0)) ⊎ ((opens_one e.ask ≡ false) × (told (e ∷ es) cell.Want ≡ told es cell.Want))
+      leading : (c : Coordinating) → seats.LeadsIt setup e es c → (IsClearing c.stage × (e.ask ≡ Store cell.Want 0)) ⊎ ((opens_one e.ask ≡ false) × (told (e ∷ es) cell.Want ≡ told es cell.Want))
       leading c x = elim (clears (told es) c c.stage) [
         | inl y ↦ inl (y.0, x.asked ∙ y.1)
         | inr y ↦ inr (ap opens_one x.asked ∙ y.0, ap (λ (q : Ask). effect (told es) q cell.Want) x.asked ∙ y.1)
       ]
 
-      asked_leading : (c : Coordinating) → seats.LeadsIt shapes l pacing may e es c → Asked es → Asked (e ∷ es)
+      asked_leading : (c : Coordinating) → seats.LeadsIt setup e es c → Asked es → Asked (e ∷ es)
       asked_leading c x before set = elim (leading c x) [
         | inl y ↦ absurd (let cleared : told (e ∷ es) cell.Want ≡ 0 = ap (λ (q : Ask). effect (told es) q cell.Want) y.1 in omega (arith, cleared, set))
         | inr y ↦ asked_more y.0 (before (sym y.1 ∙ set))
@@ -152,13 +153,13 @@ module _ (shapes : List Shape) (l : Layout) (pacing : Pacing) (may : ℕ → Lis
 
       pub asked_on : Asked es → Asked (e ∷ es)
       asked_on before = go step where
-        go : seats.Step shapes l pacing may e es → Asked (e ∷ es)
+        go : seats.Step setup e es → Asked (e ∷ es)
         go (seats.by_processor m x stays) = asked_by m x before
         go (seats.by_worker w x stays) = asked_working w x before
         go (seats.by_lead c x) = asked_leading c x before
 
       -- with this entry a cycle is opened
-      opens_by_lead : (c : Coordinating) → seats.LeadsIt shapes l pacing may e es c → IsClearing c.stage → Asked es → OpensCycle shapes l pacing may c.begun e es
+      opens_by_lead : (c : Coordinating) → seats.LeadsIt setup e es c → IsClearing c.stage → Asked es → OpensCycle setup c.begun e es
       opens_by_lead c x clearing asked = record {
         lead = c;
         led = x.is;
@@ -171,15 +172,15 @@ module _ (shapes : List Shape) (l : Layout) (pacing : Pacing) (may : ℕ → Lis
         ];
       }
 
-      opens_here : opens_one e.ask ≡ true → Asked es → (k : ℕ) × OpensCycle shapes l pacing may k e es
+      opens_here : opens_one e.ask ≡ true → Asked es → (k : ℕ) × OpensCycle setup k e es
       opens_here opens asked = go step where
-        lead : (c : Coordinating) → seats.LeadsIt shapes l pacing may e es c → (k : ℕ) × OpensCycle shapes l pacing may k e es
+        lead : (c : Coordinating) → seats.LeadsIt setup e es c → (k : ℕ) × OpensCycle setup k e es
         lead c x = elim (leading c x) [
           | inl y ↦ (c.begun, opens_by_lead c x y.0 asked)
           | inr y ↦ absurd (let both : true ≡ false = sym opens ∙ y.0 in cc)
         ]
 
-        go : seats.Step shapes l pacing may e es → (k : ℕ) × OpensCycle shapes l pacing may k e es
+        go : seats.Step setup e es → (k : ℕ) × OpensCycle setup k e es
         go (seats.by_processor m x stays) = absurd (let both : true ≡ false = sym opens ∙ none_opened e.ask (leaves_by m x).opens_none in cc)
         go (seats.by_worker w x stays) = absurd (let both : true ≡ false = sym opens ∙ (working w x).opens_none in cc)
         go (seats.by_lead c x) = lead c x
@@ -190,11 +191,11 @@ module _ (shapes : List Shape) (l : Layout) (pacing : Pacing) (may : ℕ → Lis
         beside : opens_one e.ask ≡ false → Led es to → Opened (e ∷ es) to
         beside none was there = opened_more to.begun none (before to was there)
 
-        lead : (c : Coordinating) → seats.LeadsIt shapes l pacing may e es c → to ≡ coord.goes c e.found → Opened (e ∷ es) to
+        lead : (c : Coordinating) → seats.LeadsIt setup e es c → to ≡ coord.goes c e.found → Opened (e ∷ es) to
         lead c x then there =
             let from = opened c (coord.counted c).marks c.stage e.found x.busy (subst (λ (y : Coordinating). IsOpened y.stage) then there) in
             let same : to.begun ≡ c.begun = ap (λ (y : Coordinating). y.begun) then ∙ from.1 in
-            subst (λ (k : ℕ). WasOpened shapes l pacing may k (e ∷ es)) (sym same) (elim (leading c x) [
+            subst (λ (k : ℕ). WasOpened setup k (e ∷ es)) (sym same) (elim (leading c x) [
               | inl y ↦ record { entry = e; earlier = es; start = inl refl; opens = opens_by_lead c x y.0 asked; since = none_behind (e ∷ es) }
               | inr y ↦ elim from.0 [
                 | inl clearing ↦ absurd (let one : opens_one e.ask ≡ true = ap opens_one x.asked ∙ clears_one c c.stage clearing in let both : true ≡ false = sym one ∙ y.0 in cc)
@@ -202,7 +203,7 @@ module _ (shapes : List Shape) (l : Layout) (pacing : Pacing) (may : ℕ → Lis
               ]
             ])
 
-        go : seats.Step shapes l pacing may e es → Opened (e ∷ es) to
+        go : seats.Step setup e es → Opened (e ∷ es) to
         go (seats.by_processor m x stays) = beside (none_opened e.ask (leaves_by m x).opens_none) (sym stays ∙ led)
         go (seats.by_worker w x stays) = beside ((working w x).opens_none) (sym stays ∙ led)
         go (seats.by_lead c x) = lead c x (let both : actor.Leads to ≡ actor.Leads (coord.goes c e.found) = sym led ∙ x.then in cc)
@@ -212,21 +213,21 @@ module _ (shapes : List Shape) (l : Layout) (pacing : Pacing) (may : ℕ → Lis
   asked (e ∷ es) legal set = asked_on e es legal (asked es legal.0) set
 
   open_since : (es : List (Entry Op)) → Lawful es → (c : Coordinating) → Led es c → Opened es c
-  open_since [] legal c led there = absurd (subst (λ (x : Coordinating). IsOpened x.stage) (seats.first_lead shapes l pacing may c led) there)
+  open_since [] legal c led there = absurd (subst (λ (x : Coordinating). IsOpened x.stage) (seats.first_lead setup c led) there)
   open_since (e ∷ es) legal c led there = opened_on e es legal (asked es legal.0) (λ d was. open_since es legal.0 d was) c led there
 
-  pub all_asked : (es : List (Entry Op)) → Lawful es → AllWereAsked shapes l pacing may es
-  all_asked es legal e before of opens = let there = legal_start (those shapes l pacing may) (e ∷ before) es of legal in opens_here e before there opens (asked before there.0)
+  pub all_asked : (es : List (Entry Op)) → Lawful es → AllWereAsked setup es
+  all_asked es legal e before of opens = let there = legal_start (those setup) (e ∷ before) es of legal in opens_here e before there opens (asked before there.0)
 
-  begun_opened : (k : ℕ) (begun : List (Entry Op)) → Lawful begun → BeginsCycle shapes l pacing may k begun → WasOpened shapes l pacing may k begun
+  begun_opened : (k : ℕ) (begun : List (Entry Op)) → Lawful begun → BeginsCycle setup k begun → WasOpened setup k begun
   begun_opened k [] legal is = absurd is
   begun_opened k (e ∷ es) legal is =
       let there = open_since es legal.0 is.lead is.led (is_open is.lead.stage is.stage) in
-      subst (λ (n : ℕ). WasOpened shapes l pacing may n (e ∷ es)) is.cycle (opened_more e es is.lead.begun none there)
+      subst (λ (n : ℕ). WasOpened setup n (e ∷ es)) is.cycle (opened_more e es is.lead.begun none there)
     where
       none : opens_one e.ask ≡ false
       none = go (step e es legal) where
-        lead : (c : Coordinating) → seats.LeadsIt shapes l pacing may e es c → opens_one e.ask ≡ false
+        lead : (c : Coordinating) → seats.LeadsIt setup e es c → opens_one e.ask ≡ false
         lead c x =
             let both : actor.Leads c ≡ actor.Leads is.lead = sym x.is ∙ is.led in
             let same : is.lead ≡ c = cc in
@@ -235,10 +236,10 @@ module _ (shapes : List Shape) (l : Layout) (pacing : Pacing) (may : ℕ → Lis
               | inr y ↦ y.0
             ]
 
-        go : seats.Step shapes l pacing may e es → opens_one e.ask ≡ false
+        go : seats.Step setup e es → opens_one e.ask ≡ false
         go (seats.by_processor m x stays) = none_opened e.ask (leaves_by e es legal m x).opens_none
         go (seats.by_worker w x stays) = (working e es legal w x).opens_none
         go (seats.by_lead c x) = lead c x
 
-  pub all_opened : (es : List (Entry Op)) → Lawful es → AllWereOpened shapes l pacing may es
-  all_opened es legal k begun of begins = begun_opened k begun (legal_start (those shapes l pacing may) begun es of legal) begins
+  pub all_opened : (es : List (Entry Op)) → Lawful es → AllWereOpened setup es
+  all_opened es legal k begun of begins = begun_opened k begun (legal_start (those setup) begun es of legal) begins

@@ -1,5 +1,5 @@
 -- The heap's count of bytes over the words and the actors alone: the one state has it with the bytes of each slot and what each seat has yet to count and to take off; the page words tell the first, and the actors' own stages the others.
-use Rattle.std.proofs.Common.{◌≡◌, ◌≢◌, inl, inr, ℕ, zero, suc, ◌+◌, ◌*◌, ◌/◌, ◌%◌, ◌<◌, ◌≤◌, Bool, refl, sym, ap, subst, ◌∙◌, arith, List, Option, Some, None}
+use Rattle.std.proofs.Common.{◌≡◌, ◌≢◌, inl, inr, ℕ, zero, suc, ◌+◌, ◌*◌, ◌/◌, ◌%◌, ◌<◌, ◌≤◌, refl, sym, ap, subst, ◌∙◌, arith, List, Option, Some, None}
 use Rattle.std.specs.Prelude.{count_ones}
 use Rattle.std.proofs.lemmas.Bool.{cases_lt}
 use Rattle.std.proofs.lemmas.Bool.Decides.{eqb_tells}
@@ -15,13 +15,13 @@ use Rattle.gh_sweep.specs.Bits.{sum_below}
 use Rattle.gh_sweep.specs.Listing.{Sweeping}
 use Rattle.gh_sweep.specs.Shared.{Due, InSpan, owed, placed_in}
 use Rattle.gh_lists.specs.declared.handshake.Actor.TheVariants as actor
-use Rattle.gh_holds.specs.Below.{HeapIsCounted, uncounted_at, untaken, untaken_at, IsInSweep, sweep_of}
-use Rattle.gh_law.proofs.Vocabulary.{placed, slot_row, Actor, actors_after, alloc_words, arena, Entry, HasState, Layout, Op, Pacing, page_of, page_words, row_bit, seats_of, Shape, State, Words}
+use Rattle.gh_holds.specs.Below.{HeapIsCounted, IsInSweep, Known, sweep_of, uncounted_at, untaken, untaken_at}
+use Rattle.gh_law.proofs.Vocabulary.{placed, slot_row, Actor, actors_after, alloc_words, arena, Entry, HasState, Layout, Op, page_of, page_words, row_bit, seats_of, State, Words}
 use Rattle.gh_lists.specs.Wants.{total}
-use Rattle.gh_holds.specs.Known.{Known}
 use Rattle.gh_lists.specs.Resting.{runs_are}
 use Rattle.gh_lists.specs.Seats.{IsSeated, seated}
 use Rattle.gh_lists.specs.SumsBelow.{sum_more, sum_none, sum_same}
+use Rattle.gh_lists.specs.Handshake.{Setup}
 
 sum_is_total : (f g : ℕ → ℕ) (n : ℕ) → ((a : ℕ) → a < n → f a ≡ g a) → sum_below f n ≡ total g n
 sum_is_total f g zero h = sum_none f
@@ -37,7 +37,7 @@ no_bytes word bytes is =
     let product : count_ones word * bytes ≡ 0 * bytes = ap (λ (n : ℕ). count_ones n * bytes) is ∙ ap (λ (n : ℕ). n * bytes) none in
     omega (arith, product)
 
-module _ (shapes : List Shape) (l : Layout) (pacing : Pacing) (may : ℕ → List (Entry Op) → Op → Bool) (known : Known) (read : SlotsAreRead) (es : List (Entry Op)) (has : HasState shapes l pacing may es) where
+module _ (setup : Setup) (known : Known) (read : SlotsAreRead) (es : List (Entry Op)) (has : HasState setup es) where
   abbrev s : State
   s = has.state
 
@@ -45,7 +45,7 @@ module _ (shapes : List Shape) (l : Layout) (pacing : Pacing) (may : ℕ → Lis
   now = has.state.heap.words
 
   abbrev at : ℕ → Actor
-  at a = actors_after (arena shapes l pacing may) pacing may es a
+  at a = actors_after (arena setup) setup.pacing setup.may es a
 
   -- The bytes of slots.
 
@@ -76,7 +76,7 @@ module _ (shapes : List Shape) (l : Layout) (pacing : Pacing) (may : ℕ → Lis
   same_slot : (i : ℕ) → now (cell.Alloc i) ≢ 0 → s.slot i ≡ slot_row (page_words now) i
   same_slot i some =
       let c = has.good.sweep.inside i some in
-      has.good.sweep.slots i c ∙ sym (read l.pages (page_words now) i c (has.good.heap.whole c.p c.h c.head (kept i some c)))
+      has.good.sweep.slots i c ∙ sym (read setup.layout.pages (page_words now) i c (has.good.heap.whole c.p c.h c.head (kept i some c)))
 
   same_bytes : (i : ℕ) → placed_in (alloc_words now) s.slot i ≡ placed_in (alloc_words now) (slot_row (page_words now)) i
   same_bytes i = elim (eqb_tells (now (cell.Alloc i)) 0) [
@@ -86,14 +86,14 @@ module _ (shapes : List Shape) (l : Layout) (pacing : Pacing) (may : ℕ → Lis
 
   -- What each seat has yet to count and to take off.
 
-  others_count_none : (a : ℕ) → l.procs ≤ a → (x : Actor) → at a ≡ x → uncounted_at x ≡ 0
-  others_count_none a ge (actor.Runs m) is = absurd (let lt : a < l.procs = subst (IsSeated l a) is (seated shapes l pacing es a) in omega (arith, lt, ge))
+  others_count_none : (a : ℕ) → setup.layout.procs ≤ a → (x : Actor) → at a ≡ x → uncounted_at x ≡ 0
+  others_count_none a ge (actor.Runs m) is = absurd (let lt : a < setup.layout.procs = subst (IsSeated setup.layout a) is (seated setup es a) in omega (arith, lt, ge))
   others_count_none a ge (actor.Marks w) is = refl
   others_count_none a ge (actor.Leads c) is = refl
 
   pend_is : (a : ℕ) → s.pend a ≡ uncounted_at (at a)
-  pend_is a = elim (cases_lt a l.procs) [
-    | inl lt ↦ has.placing a lt ∙ ap uncounted_at (sym (runs_are shapes l pacing may es a lt))
+  pend_is a = elim (cases_lt a setup.layout.procs) [
+    | inl lt ↦ has.placing a lt ∙ ap uncounted_at (sym (runs_are setup es a lt))
     | inr ge ↦ has.others_place a ge ∙ sym (others_count_none a ge (at a) refl)
   ]
 
@@ -101,26 +101,26 @@ module _ (shapes : List Shape) (l : Layout) (pacing : Pacing) (may : ℕ → Lis
   due_of a None r = ap (λ (d : Due). d.cleared) r.told
   due_of a (Some m) r = ap (λ (d : Due). d.cleared) r.0.fine.due
 
-  due_is : (a : ℕ) → a < seats_of l → (s.due a).cleared ≡ untaken_at (at a)
+  due_is : (a : ℕ) → a < seats_of setup.layout → (s.due a).cleared ≡ untaken_at (at a)
   due_is a lt = due_of a (sweep_of (at a)) (has.sweeps a lt)
 
   -- All of them.
 
   abbrev to_count : ℕ
-  to_count = total (λ a. uncounted_at (at a)) (seats_of l)
+  to_count = total (λ a. uncounted_at (at a)) (seats_of setup.layout)
 
   abbrev to_take : ℕ
-  to_take = total (λ a. untaken_at (at a)) (seats_of l)
+  to_take = total (λ a. untaken_at (at a)) (seats_of setup.layout)
 
-  by_ghosts : now cell.Heap + sum_below s.pend (seats_of l) ≡ placed (alloc_words now) s.slot (16 * l.pages) + owed (λ d. d.cleared) s.due (seats_of l)
+  by_ghosts : now cell.Heap + sum_below s.pend (seats_of setup.layout) ≡ placed (alloc_words now) s.slot (16 * setup.layout.pages) + owed (λ d. d.cleared) s.due (seats_of setup.layout)
   by_ghosts = subst (λ (k : Layout). now cell.Heap + sum_below s.pend (seats_of k) ≡ placed (alloc_words now) s.slot (16 * k.pages) + owed (λ d. d.cleared) s.due (seats_of k)) has.good.layout has.good.sweep.counted.heap
 
-  by_words : now cell.Heap + to_count ≡ placed (alloc_words now) (slot_row (page_words now)) (16 * l.pages) + to_take
+  by_words : now cell.Heap + to_count ≡ placed (alloc_words now) (slot_row (page_words now)) (16 * setup.layout.pages) + to_take
   by_words =
-      let placing : sum_below s.pend (seats_of l) ≡ to_count = sum_is_total s.pend (λ a. uncounted_at (at a)) (seats_of l) (λ a lt. pend_is a) in
-      let taking : sum_below (λ a. (s.due a).cleared) (seats_of l) ≡ to_take = sum_is_total (λ a. (s.due a).cleared) (λ a. untaken_at (at a)) (seats_of l) due_is in
-      let standing : placed (alloc_words now) s.slot (16 * l.pages) ≡ placed (alloc_words now) (slot_row (page_words now)) (16 * l.pages) = sum_same (placed_in (alloc_words now) s.slot) (placed_in (alloc_words now) (slot_row (page_words now))) (16 * l.pages) (λ i lt. same_bytes i) in
-      ap (λ (n : ℕ). now cell.Heap + n) (sym placing) ∙ (by_ghosts ∙ (ap (λ (n : ℕ). n + owed (λ d. d.cleared) s.due (seats_of l)) standing ∙ ap (λ (n : ℕ). placed (alloc_words now) (slot_row (page_words now)) (16 * l.pages) + n) taking))
+      let placing : sum_below s.pend (seats_of setup.layout) ≡ to_count = sum_is_total s.pend (λ a. uncounted_at (at a)) (seats_of setup.layout) (λ a lt. pend_is a) in
+      let taking : sum_below (λ a. (s.due a).cleared) (seats_of setup.layout) ≡ to_take = sum_is_total (λ a. (s.due a).cleared) (λ a. untaken_at (at a)) (seats_of setup.layout) due_is in
+      let standing : placed (alloc_words now) s.slot (16 * setup.layout.pages) ≡ placed (alloc_words now) (slot_row (page_words now)) (16 * setup.layout.pages) = sum_same (placed_in (alloc_words now) s.slot) (placed_in (alloc_words now) (slot_row (page_words now))) (16 * setup.layout.pages) (λ i lt. same_bytes i) in
+      ap (λ (n : ℕ). now cell.Heap + n) (sym placing) ∙ (by_ghosts ∙ (ap (λ (n : ℕ). n + owed (λ d. d.cleared) s.due (seats_of setup.layout)) standing ∙ ap (λ (n : ℕ). placed (alloc_words now) (slot_row (page_words now)) (16 * setup.layout.pages) + n) taking))
 
-  pub heap_bytes : HeapIsCounted shapes l pacing may es
-  heap_bytes = subst (λ (w : Words). w cell.Heap + to_count ≡ placed (alloc_words w) (slot_row (page_words w)) (16 * l.pages) + to_take) has.of_list.words_are by_words
+  pub heap_bytes : HeapIsCounted setup es
+  heap_bytes = subst (λ (w : Words). w cell.Heap + to_count ≡ placed (alloc_words w) (slot_row (page_words w)) (16 * setup.layout.pages) + to_take) has.of_list.words_are by_words

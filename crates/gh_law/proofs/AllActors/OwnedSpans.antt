@@ -53,9 +53,9 @@ use Rattle.gh_mutator.specs.Poll.{Polling}
 use Rattle.gh_mutator_heap.specs.PollHeap.{CachesAll, CachesFrom, give_held_at, GiveStageFacts, KnowsSpans, leave_held_at, LeaveStageFacts, lists, no_page, PollFacts, poll_held_at, PollStageFacts, Rests, WaitFacts, WaitStageFacts, waits_held, waits_held_at}
 use Rattle.gh_mutator.specs.Processor.{cached_for}
 use Rattle.gh_mutator.specs.Wait.{Waiting, waiting}
-use Rattle.gh_holds.specs.Below.{HasState, processor_at}
-use Rattle.gh_law.proofs.Vocabulary.{Answer, Arena, arena, Entry, Fine, Heap, Layout, NewStage, Op, Pacing, page_of, Processor, Shape, Task, View, view, words}
-use Rattle.gh_holds.specs.Spans.{OwnersAreProcessors, OwnsOneOfEach}
+use Rattle.gh_holds.specs.Below.{HasState, OwnersAreProcessors, OwnsOneOfEach, processor_at}
+use Rattle.gh_law.proofs.Vocabulary.{Answer, Arena, arena, Entry, Fine, Heap, NewStage, Op, page_of, Processor, Task, View, view, words}
+use Rattle.gh_lists.specs.Handshake.{Setup}
 
 -- What a cache lists.
 
@@ -332,9 +332,9 @@ module _ (z : Arena) (a : ℕ) (v : View) where
       record { at = o.at; each = λ p h held there. o.each p h (sym (fine.right.holds p) ∙ held) there }
 
 -- After a list.
-module _ (shapes : List Shape) (l : Layout) (pacing : Pacing) (may : ℕ → List (Entry Op) → Op → Bool) (es : List (Entry Op)) (has : HasState shapes l pacing may es) where
+module _ (setup : Setup) (es : List (Entry Op)) (has : HasState setup es) where
   abbrev z : Arena
-  z = arena shapes l pacing may
+  z = arena setup
 
   abbrev h : Heap
   h = has.state.heap
@@ -343,8 +343,8 @@ module _ (shapes : List Shape) (l : Layout) (pacing : Pacing) (may : ℕ → Lis
   holder : (p a : ℕ) (k : SpanHead) → page_of (h.words (cell.Page p)) ≡ Head k → k.owner ≡ a + 1 → h.holds a p ≡ true
   holder p a k there owner = (has.good.heap.owners a p).0 (ap owner_in there ∙ owner)
 
-  is_processor : (p a : ℕ) → h.holds a p ≡ true → a < l.procs
-  is_processor p a held = elim (cases_lt a l.procs) [
+  is_processor : (p a : ℕ) → h.holds a p ≡ true → a < setup.layout.procs
+  is_processor p a held = elim (cases_lt a setup.layout.procs) [
     | inl lt ↦ lt
     | inr le ↦ absurd (let no : false ≡ true = sym ((has.of_list.others a le).holds p) ∙ held in cc)
   ]
@@ -352,7 +352,7 @@ module _ (shapes : List Shape) (l : Layout) (pacing : Pacing) (may : ℕ → Lis
   seat : (n : ℕ) → n ≢ 0 → n ≡ (n - 1) + 1
   seat n some = omega (arith, some)
 
-  owners_now : OwnersAreProcessors l h.words
+  owners_now : OwnersAreProcessors setup.layout h.words
   owners_now p k there some = let own = holder p (k.owner - 1) k there (seat k.owner some) in (k.owner - 1, is_processor p (k.owner - 1) own, seat k.owner some)
 
   one_now : OwnsOneOfEach h.words
@@ -361,18 +361,18 @@ module _ (shapes : List Shape) (l : Layout) (pacing : Pacing) (may : ℕ → Lis
       let first : h.holds a p ≡ true = holder p a k there (seat k.owner some) in
       let second : h.holds a q ≡ true = holder q a g also (sym owner ∙ seat k.owner some) in
       let is = has.of_list.processors a (is_processor p a first) in
-      let o = held_by_class z a (view h) (processor_at shapes l pacing may es a) is.pending is.fine in
+      let o = held_by_class z a (view h) (processor_at setup es a) is.pending is.fine in
       let one : o.at k.class k.noscan ≡ Some p = o.each p k first there in
       let other : o.at g.class g.noscan ≡ Some q = o.each q g second also in
       let same : o.at k.class k.noscan ≡ o.at g.class g.noscan = ap (λ (c : SizeClass). o.at c k.noscan) class ∙ ap (λ (n : Bool). o.at g.class n) noscan in
       let both : Some p ≡ Some q = sym one ∙ (same ∙ other) in
       cc
 
-  told_are : h.words ≡ words shapes l pacing may es
+  told_are : h.words ≡ words setup es
   told_are = has.of_list.words_are
 
-  pub owners_stand : OwnersAreProcessors l (words shapes l pacing may es)
-  owners_stand = subst (OwnersAreProcessors l) told_are owners_now
+  pub owners_stand : OwnersAreProcessors setup.layout (words setup es)
+  owners_stand = subst (OwnersAreProcessors setup.layout) told_are owners_now
 
-  pub one_of_each : OwnsOneOfEach (words shapes l pacing may es)
+  pub one_of_each : OwnsOneOfEach (words setup es)
   one_of_each = subst OwnsOneOfEach told_are one_now

@@ -1,5 +1,5 @@
 -- What the handshake of a stop says of phases, by the actors at their seats; and that nobody marks while no cycle is marked: processors and workers are calm then, and the coordinator sets no mark and writes no buffer.
-use Rattle.std.proofs.Common.{◌≡◌, ◌≢◌, ◌⊎◌, inl, inr, ℕ, ◌+◌, ◌<◌, Bool, true, false, refl, sym, ap, subst, ◌∙◌, arith, List, [], ◌∷◌, ◌++◌, Option, Some, None}
+use Rattle.std.proofs.Common.{◌≡◌, ◌≢◌, ◌⊎◌, inl, inr, ℕ, ◌+◌, ◌<◌, true, false, refl, sym, ap, subst, ◌∙◌, arith, List, [], ◌∷◌, ◌++◌, Option, Some, None}
 use Rattle.std.proofs.lemmas.Bool.Decides.{nat_tests}
 use Rattle.gh_base.specs.declared.cell.Ask.TheVariants as ask
 use Rattle.gh_base.specs.declared.cell.Cell.TheVariants as cell
@@ -40,16 +40,15 @@ use Rattle.gh_worker.specs.Writing.{AcksAlone}
 use Rattle.gh_lists.specs.declared.handshake.Actor.TheVariants as actor
 use Rattle.gh_lists.specs.Handshake as handshake
 use Rattle.gh_law.specs.Phases.{EndsInOrder, FindsTheStop, IsMarkingStep, IsStopped, MarksInPhase, PhasesAreKnown, PhasesStand, StandsEmpty, StandsStill}
-use Rattle.gh_holds.specs.Below.{IsInSweep, sweep_of}
-use Rattle.gh_law.proofs.Vocabulary.{answers_of, given_of, opening_words, View, acks_of, Actor, actors_after, Answer, Arena, arena, Ask, asks_at, Begins, Check, Close, CloseStage, Coordinating, CoordStage, Count, CountStage, Done, Entry, HasState, Holds, HoldsAt, is_busy, is_busy_at, is_some, IsClosing, IsLed, IsQuiet, IsStartOf, IsTelling, KeepsIt, Kind, last_phase, Layout, leaves_at, LeaveStage, Legal, LoadAck, LoadWant, MarkOn, MarksNothing, new_polls, new_stage_at, NewStage, NobodyMarks, only_polls, Op, Open, OpenStage, option_to_list, Pacing, place_of, Polling, PollStage, Processor, processor_at, processor_kind, Resumes, ResumeStage, Shape, SoundAt, SoundPlace, stage_at, stage_of, started, Stop, StopAgain, StopStage, Sweep, SweepAllStage, SweepStage, Task, Tell, TellStage, those, view, waiting, WaitStage, Watch, WatchStage, words, Words, Working, WorkerStage, WritesOf}
+use Rattle.gh_holds.specs.Below.{calm_now, IsInSweep, ListsKnown, sweep_of}
+use Rattle.gh_law.proofs.Vocabulary.{answers_of, given_of, opening_words, View, acks_of, Actor, actors_after, Answer, Arena, arena, Ask, asks_at, Begins, Check, Close, CloseStage, Coordinating, CoordStage, Count, CountStage, Done, Entry, HasState, Holds, HoldsAt, is_busy, is_busy_at, is_some, IsClosing, IsLed, IsQuiet, IsStartOf, IsTelling, KeepsIt, Kind, last_phase, leaves_at, LeaveStage, Legal, LoadAck, LoadWant, MarkOn, MarksNothing, new_polls, new_stage_at, NewStage, NobodyMarks, only_polls, Op, Open, OpenStage, option_to_list, place_of, Polling, PollStage, Processor, processor_at, processor_kind, Resumes, ResumeStage, SoundAt, SoundPlace, stage_at, stage_of, started, Stop, StopAgain, StopStage, Sweep, SweepAllStage, SweepStage, Task, Tell, TellStage, those, view, waiting, WaitStage, Watch, WatchStage, words, Words, Working, WorkerStage, WritesOf}
 use Rattle.gh_lists.specs.Going.{goes_then, IsGoing}
-use Rattle.gh_holds.specs.Known.{Known, ListsKnown}
 use Rattle.gh_lists.specs.Sweeping.{idle_sweeps_none, asks_by_sweep}
 use Rattle.gh_lists.specs.Resting.{run_is}
-use Rattle.gh_holds.specs.StackWords.{calm_now}
 use Rattle.gh_lists.specs.Starts.{legal_start}
 use Rattle.gh_lists.specs.Seats.{IsSeated, seated}
 use Rattle.gh_lists.specs.Steps as seats
+use Rattle.gh_lists.specs.Handshake.{Setup}
 
 -- Who goes on after a stop stands empty.
 
@@ -187,45 +186,45 @@ lead_none c (Count y) x = count_none y.stage x
 lead_none c (Tell t) x = tell_none t t.stage x
 lead_none c Done x = x
 
-module _ (shapes : List Shape) (l : Layout) (pacing : Pacing) (may : ℕ → List (Entry Op) → Op → Bool) (known : Known) (lists : ListsKnown shapes l pacing may) where
+module _ (setup : Setup) (lists : ListsKnown setup) where
   abbrev z : Arena
-  z = arena shapes l pacing may
+  z = arena setup
 
   abbrev kind : Kind Processor Op
-  kind = processor_kind shapes l
+  kind = processor_kind setup.shapes setup.layout
 
   abbrev Lawful : List (Entry Op) → Type 0
-  Lawful es = Legal (those shapes l pacing may) es
+  Lawful es = Legal (those setup) es
 
   abbrev Led : List (Entry Op) → Coordinating → Type 0
-  Led es c = IsLed shapes l pacing may es c
+  Led es c = IsLed setup es c
 
   abbrev at : List (Entry Op) → ℕ → Actor
-  at es a = actors_after z pacing may es a
+  at es a = actors_after z setup.pacing setup.may es a
 
   -- A cycle is marked, or nobody marks, at whatever stage the coordinator is.
   module _ (es : List (Entry Op)) (c : Coordinating) where
     record NobodyThen (p : CoordStage) : Type 0 where
       off : leading.Marks p → ⊥
-      has : HasState shapes l pacing may es
+      has : HasState setup es
       cycle : ℕ
-      nobody : NobodyMarks shapes l pacing may es cycle has.state.heap.words
+      nobody : NobodyMarks setup es cycle has.state.heap.words
 
-    told_quiet : (p : TellStage) → IsTelling shapes l pacing may es c p → IsQuiet shapes l pacing may es c
+    told_quiet : (p : TellStage) → IsTelling setup es c p → IsQuiet setup es c
     told_quiet tell_stage.Ended h = absurd h
     told_quiet tell_stage.StoreTrigger h = h.quiet
     told_quiet tell_stage.StoreSwept h = h.quiet
     told_quiet tell_stage.StorePhase h = h.quiet
 
-    quiet_then : (p : CoordStage) → (leading.Marks p → ⊥) → IsQuiet shapes l pacing may es c → NobodyThen p
+    quiet_then : (p : CoordStage) → (leading.Marks p → ⊥) → IsQuiet setup es c → NobodyThen p
     quiet_then p off q = record { off = off; has = q.has; cycle = c.begun + 1; nobody = q.nobody }
 
-    closing_nobody : (y : close.Closing) (p : CloseStage) → y.stage ≡ p → close.is_busy p ≡ true → IsClosing shapes l pacing may es c p → leading.Marks (Close y) ⊎ NobodyThen (Close y)
+    closing_nobody : (y : close.Closing) (p : CloseStage) → y.stage ≡ p → close.is_busy p ≡ true → IsClosing setup es c p → leading.Marks (Close y) ⊎ NobodyThen (Close y)
     closing_nobody y close_stage.StorePhase at going h = inr (record { off = λ on. absurd (let no : false ≡ true = sym (ap close.is_marking at) ∙ on in cc); has = h.has; cycle = c.begun + 1; nobody = h.nobody })
     closing_nobody y close_stage.Ended at going h = absurd h
     closing_nobody y _ at going h = inl (ap close.is_marking at)
 
-    marks_or_nobody : (p : CoordStage) → IsGoing p → HoldsAt shapes l pacing may es c p → leading.Marks p ⊎ NobodyThen p
+    marks_or_nobody : (p : CoordStage) → IsGoing p → HoldsAt setup es c p → leading.Marks p ⊎ NobodyThen p
     marks_or_nobody (Open o) going h = inr (record { off = λ x. x; has = h.0.has; cycle = c.begun; nobody = h.0.nobody })
     marks_or_nobody (Watch w) going h = inl tt
     marks_or_nobody (StopAgain st) going h = inl tt
@@ -241,92 +240,92 @@ module _ (shapes : List Shape) (l : Layout) (pacing : Pacing) (may : ℕ → Lis
     marks_or_nobody Done going h = inr (quiet_then Done (λ x. x) h.quiet)
 
     -- where none is marked no buffer has an entry, and nobody holds one
-    all_empty : Led es c → HoldsAt shapes l pacing may es c c.stage → (leading.Marks c.stage → ⊥) → (b : ℕ) → words shapes l pacing may es (cell.Buffer b) ≡ 0
-    all_empty led h off b = elim (marks_or_nobody c.stage (goes_then shapes l pacing may es c led) h) [
+    all_empty : Led es c → HoldsAt setup es c c.stage → (leading.Marks c.stage → ⊥) → (b : ℕ) → words setup es (cell.Buffer b) ≡ 0
+    all_empty led h off b = elim (marks_or_nobody c.stage (goes_then setup es c led) h) [
       | inl on ↦ absurd (off on)
       | inr x ↦ sym (ap (λ (w : Words). w (cell.Buffer b)) x.has.of_list.words_are) ∙ x.nobody.buffers b
     ]
 
   -- An entry behind a list.
   module _ (e : Entry Op) (es : List (Entry Op)) (legal : Lawful (e ∷ es)) (c : Coordinating) (led : Led es c) where
-    module _ (has : HasState shapes l pacing may es) where
-      idle : (m : Processor) → at es e.actor ≡ actor.Runs m → (o : Option Op) → Begins (those shapes l pacing may) e.actor es o → (p : Op) → o ≡ Some p → is_busy_at m.task ≡ false
+    module _ (has : HasState setup es) where
+      idle : (m : Processor) → at es e.actor ≡ actor.Runs m → (o : Option Op) → Begins (those setup) e.actor es o → (p : Op) → o ≡ Some p → is_busy_at m.task ≡ false
       idle m is None b p same = absurd (cc)
       idle m is (Some o) b p same = sym (ap is_busy is) ∙ b.0
 
       -- what a processor sweeps, before it begins an operation and then
-      sweeps_before : (m : Processor) → seats.RunsIt shapes l pacing may e es m → IsInSweep e.actor has.state (sweep_in m)
+      sweeps_before : (m : Processor) → seats.RunsIt setup e es m → IsInSweep e.actor has.state (sweep_in m)
       sweeps_before m x = subst (λ (y : Actor). IsInSweep e.actor has.state (sweep_of y)) x.is (has.sweeps e.actor legal.1.actor)
 
-      in_sweep : (m : Processor) → seats.RunsIt shapes l pacing may e es m → (o : Option Op) → ((p : Op) → o ≡ Some p → is_busy_at m.task ≡ false) → IsInSweep e.actor has.state (sweep_in (started kind o m))
+      in_sweep : (m : Processor) → seats.RunsIt setup e es m → (o : Option Op) → ((p : Op) → o ≡ Some p → is_busy_at m.task ≡ false) → IsInSweep e.actor has.state (sweep_in (started kind o m))
       in_sweep m x None rests = sweeps_before m x
       in_sweep m x (Some o) rests =
           let none = idle_sweeps_none m.task (rests o refl) in
-          subst (IsInSweep e.actor has.state) (sym (known.processors_sweep.begun shapes l m o none)) (subst (IsInSweep e.actor has.state) none (sweeps_before m x))
+          subst (IsInSweep e.actor has.state) (sym (lists.known.processors_sweep.begun setup.shapes setup.layout m o none)) (subst (IsInSweep e.actor has.state) none (sweeps_before m x))
 
       -- nobody marks with it where no cycle is marked
-      nobody_marks : (leading.Marks c.stage → ⊥) → ((a : ℕ) → a < l.procs → MarksNothing (processor_at shapes l pacing may es a)) → IsMarkingStep e.ask → ⊥
-      nobody_marks off calm = by (seats.step shapes l pacing may e es known.writes legal (lists.keeps es legal.0)) where
-        runs : (m : Processor) → seats.RunsIt shapes l pacing may e es m → (z : Option Sweeping) → sweep_in (started kind e.begun m) ≡ z → IsMarkingStep e.ask → ⊥
+      nobody_marks : (leading.Marks c.stage → ⊥) → ((a : ℕ) → a < setup.layout.procs → MarksNothing (processor_at setup es a)) → IsMarkingStep e.ask → ⊥
+      nobody_marks off calm = by (seats.step setup e es lists.known.writes legal (lists.keeps es legal.0)) where
+        runs : (m : Processor) → seats.RunsIt setup e es m → (z : Option Sweeping) → sweep_in (started kind e.begun m) ≡ z → IsMarkingStep e.ask → ⊥
         runs m x None none y =
-            let calm_there : MarksNothing m = subst MarksNothing (run_is shapes l pacing may es e.actor m x.seat x.is) (calm e.actor x.seat) in
-            let quiet = calm_now shapes l known e.begun m x.sound_it (idle m x.is e.begun legal.1.begins) calm_there in
-            calm_none (started kind e.begun m) none e.ask (subst (WritesOf (IsWrittenCalmly (started kind e.begun m))) (sym x.asked) (known.calm.writes (started kind e.begun m) quiet)) y
+            let calm_there : MarksNothing m = subst MarksNothing (run_is setup es e.actor m x.seat x.is) (calm e.actor x.seat) in
+            let quiet = calm_now setup.shapes setup.layout lists.known e.begun m x.sound_it (idle m x.is e.begun legal.1.begins) calm_there in
+            calm_none (started kind e.begun m) none e.ask (subst (WritesOf (IsWrittenCalmly (started kind e.begun m))) (sym x.asked) (lists.known.calm.writes (started kind e.begun m) quiet)) y
         runs m x (Some sw) is y =
             let busy = (subst (IsInSweep e.actor has.state) is (in_sweep m x e.begun (idle m x.is e.begun legal.1.begins))).1 in
-            span_none sw sw.stage (subst IsMarkingStep (x.asked ∙ (known.processors_sweep.on shapes (started kind e.begun m) sw is busy).asks_so) y)
+            span_none sw sw.stage (subst IsMarkingStep (x.asked ∙ (lists.known.processors_sweep.on setup.shapes (started kind e.begun m) sw is busy).asks_so) y)
 
-        works : (w : Working) → seats.WorksIt shapes l pacing may e es w → IsMarkingStep e.ask → ⊥
+        works : (w : Working) → seats.WorksIt setup e es w → IsMarkingStep e.ask → ⊥
         works w x y = elim (asks_by_sweep w w.stage) [
-          | inl none ↦ rest_none w.seat e.ask (subst (AcksAlone w.seat) (sym x.asked) (known.workers_calm.writes w x.sound_it (lists.rests es legal.0 c e.actor w led off x.is) none x.busy)) y
+          | inl none ↦ rest_none w.seat e.ask (subst (AcksAlone w.seat) (sym x.asked) (lists.known.workers_calm.writes w x.sound_it (lists.rests es legal.0 c e.actor w led off x.is) none x.busy)) y
           | inr s ↦ span_none s.0 s.0.stage (subst IsMarkingStep (x.asked ∙ s.1) y)
         ]
 
-        by : seats.Step shapes l pacing may e es → IsMarkingStep e.ask → ⊥
+        by : seats.Step setup e es → IsMarkingStep e.ask → ⊥
         by (seats.by_processor m x s) y = runs m x (sweep_in (started kind e.begun m)) refl y
         by (seats.by_worker w x s) y = works w x y
         by (seats.by_lead d x) y = lead_none d d.stage (subst IsMarkingStep x.asked y)
 
-    pub marks_in_cycle : HoldsAt shapes l pacing may es c c.stage → IsMarkingStep e.ask → leading.Marks c.stage
-    marks_in_cycle h y = elim (marks_or_nobody es c c.stage (goes_then shapes l pacing may es c led) h) [
+    pub marks_in_cycle : HoldsAt setup es c c.stage → IsMarkingStep e.ask → leading.Marks c.stage
+    marks_in_cycle h y = elim (marks_or_nobody es c c.stage (goes_then setup es c led) h) [
       | inl on ↦ on
       | inr x ↦ absurd (nobody_marks x.has x.off x.nobody.processors y)
     ]
 
     -- in a stopped world
-    pub stands_there : IsStopped c → e.actor ≢ acks_of l → FindsTheStop shapes l pacing may e es c
+    pub stands_there : IsStopped c → e.actor ≢ acks_of setup.layout → FindsTheStop setup e es c
     stands_there stopped other =
-        let within : e.actor < acks_of l + 1 = legal.1.actor in
-        let below : e.actor < acks_of l = grind (arith, nat_tests, within, other) in
+        let within : e.actor < acks_of setup.layout + 1 = legal.1.actor in
+        let below : e.actor < acks_of setup.layout = grind (arith, nat_tests, within, other) in
         let x = (lists.steps e es legal).still (leading.lead_of c) stopped.0 (ap place_of led) stopped.1 below in
         record { asks = x.0; found = x.1; place = x.2 }
 
   -- A list.
   module _ (es : List (Entry Op)) (legal : Lawful es) where
-    keeps : KeepsIt (those shapes l pacing may) es
+    keeps : KeepsIt (those setup) es
     keeps = lists.keeps es legal
 
-    runs_below : (a : ℕ) (m : Processor) → at es a ≡ actor.Runs m → a < acks_of l
-    runs_below a m is = let lt : a < l.procs = subst (IsSeated l a) is (seated shapes l pacing es a) in omega (arith, lt)
+    runs_below : (a : ℕ) (m : Processor) → at es a ≡ actor.Runs m → a < acks_of setup.layout
+    runs_below a m is = let lt : a < setup.layout.procs = subst (IsSeated setup.layout a) is (seated setup es a) in omega (arith, lt)
 
-    works_below : (a : ℕ) (w : Working) → at es a ≡ actor.Marks w → a < acks_of l
-    works_below a w is = seats.worker_seat shapes l pacing may es a w is
+    works_below : (a : ℕ) (w : Working) → at es a ≡ actor.Marks w → a < acks_of setup.layout
+    works_below a w is = seats.worker_seat setup es a w is
 
-    sound_at : (a : ℕ) (x : Actor) → a < acks_of l → at es a ≡ x → handshake.Sound l x
-    sound_at a x lt is = subst (handshake.Sound l) is (keeps.shakes.all_sound a (omega (arith, lt)))
+    sound_at : (a : ℕ) (x : Actor) → a < acks_of setup.layout → at es a ≡ x → handshake.Sound setup.layout x
+    sound_at a x lt is = subst (handshake.Sound setup.layout) is (keeps.shakes.all_sound a (omega (arith, lt)))
 
     empty : (a : ℕ) (m : Processor) (stops : ℕ) (stage : ResumeStage) → at es a ≡ actor.Runs m → stage_of m ≡ Resumes stops stage → StandsEmpty m
     empty a m stops stage is y = stands_empty m stops stage y (sound_at a (actor.Runs m) (runs_below a m is) is).0.place
 
-    answered : HasState shapes l pacing may es → (a : ℕ) (m : Processor) (stops : ℕ) (stage : ResumeStage) → at es a ≡ actor.Runs m → stage_of m ≡ Resumes stops stage → answers_of z (opening_words pacing.trigger) a es ≡ given_of z (opening_words pacing.trigger) a es
+    answered : HasState setup es → (a : ℕ) (m : Processor) (stops : ℕ) (stage : ResumeStage) → at es a ≡ actor.Runs m → stage_of m ≡ Resumes stops stage → answers_of z (opening_words setup.pacing.trigger) a es ≡ given_of z (opening_words setup.pacing.trigger) a es
     answered has a m stops stage is y =
-        let lt : a < l.procs = subst (IsSeated l a) is (seated shapes l pacing es a) in
+        let lt : a < setup.layout.procs = subst (IsSeated setup.layout a) is (seated setup es a) in
         let x = has.of_list.processors a lt in
-        let polls : only_polls (processor_at shapes l pacing may es a).task ≡ true = subst (λ (p : Processor). only_polls p.task ≡ true) (sym (run_is shapes l pacing may es a m lt is)) (empty a m stops stage is y).waits in
-        let none = none_pending z a (view has.state.heap) (processor_at shapes l pacing may es a) x.pending (processor_at shapes l pacing may es a).task polls x.fine.task in
-        x.answers ∙ ap (λ (p : Option Answer). option_to_list p ++ given_of z (opening_words pacing.trigger) a es) none
+        let polls : only_polls (processor_at setup es a).task ≡ true = subst (λ (p : Processor). only_polls p.task ≡ true) (sym (run_is setup es a m lt is)) (empty a m stops stage is y).waits in
+        let none = none_pending z a (view has.state.heap) (processor_at setup es a) x.pending (processor_at setup es a).task polls x.fine.task in
+        x.answers ∙ ap (λ (p : Option Answer). option_to_list p ++ given_of z (opening_words setup.pacing.trigger) a es) none
 
-    phases_known : HasState shapes l pacing may es → PhasesAreKnown shapes l pacing may es
+    phases_known : HasState setup es → PhasesAreKnown setup es
     phases_known has = record {
       processors = λ a m is. keeps.processors_know a m (runs_below a m is) is;
       workers = λ a w is. keeps.workers_know a w (works_below a w is) is;
@@ -335,20 +334,20 @@ module _ (shapes : List Shape) (l : Layout) (pacing : Pacing) (may : ℕ → Lis
       workers_resuming = λ a w stops stage is y. worker_empty w w.stage stops stage y (sound_at a (actor.Marks w) (works_below a w is) is);
     }
 
-    marks_in_phase : (c : Coordinating) → Led es c → MarksInPhase shapes l pacing may es c
+    marks_in_phase : (c : Coordinating) → Led es c → MarksInPhase setup es c
     marks_in_phase c led = record {
       processors = λ a m is. keeps.processors_mark c a m led (runs_below a m is) is;
       workers = λ a w is. keeps.workers_mark c a w led (works_below a w is) is;
       working = λ a w is. keeps.marking c a w led (works_below a w is) is;
     }
 
-    stands_still : (c : Coordinating) → Led es c → IsStopped c → StandsStill shapes l pacing may es c
+    stands_still : (c : Coordinating) → Led es c → IsStopped c → StandsStill setup es c
     stands_still c led x = record {
       processors = λ a m is. keeps.processors_wait c x.0 a m led x.1 (runs_below a m is) is;
       workers = λ a w is. keeps.workers_wait c x.0 a w led x.1 (works_below a w is) is;
     }
 
-    ends_in_order : (c : Coordinating) → Led es c → EndsInOrder shapes l pacing may es c
+    ends_in_order : (c : Coordinating) → Led es c → EndsInOrder setup es c
     ends_in_order c led = record {
       begins = keeps.processors_gone c led;
       workers_leave = λ a w is. keeps.workers_leave a w (works_below a w is) is;
@@ -359,7 +358,7 @@ module _ (shapes : List Shape) (l : Layout) (pacing : Pacing) (may : ℕ → Lis
   finished_on start (e ∷ es) legal (inl of) is = subst (λ (x : List (Entry Op)). last_phase x ≡ Finished) of is
   finished_on start (e ∷ es) legal (inr of) is = (lists.steps e es legal).finished (finished_on start es legal.0 of is)
 
-  pub phases_stand : ((es : List (Entry Op)) → Lawful es → HasState shapes l pacing may es) → ((es : List (Entry Op)) → Lawful es → (c : Coordinating) → Led es c → Holds shapes l pacing may es c) → (es : List (Entry Op)) → Lawful es → PhasesStand shapes l pacing may es
+  pub phases_stand : ((es : List (Entry Op)) → Lawful es → HasState setup es) → ((es : List (Entry Op)) → Lawful es → (c : Coordinating) → Led es c → Holds setup es c) → (es : List (Entry Op)) → Lawful es → PhasesStand setup es
   phases_stand has holds es legal = record {
     known = phases_known es legal (has es legal);
     marking = marks_in_phase es legal;
@@ -371,4 +370,4 @@ module _ (shapes : List Shape) (l : Layout) (pacing : Pacing) (may : ℕ → Lis
     finished = λ earlier of. finished_on earlier es legal of;
   } where
     start : (e : Entry Op) (before : List (Entry Op)) → IsStartOf (e ∷ before) es → Lawful (e ∷ before)
-    start e before of = legal_start (those shapes l pacing may) (e ∷ before) es of legal
+    start e before of = legal_start (those setup) (e ∷ before) es of legal

@@ -1,5 +1,5 @@
 -- What every list says, by what holds after it: outside of marking by the coordinator's stage, and while a cycle is marked by what is known of the heap.
-use Rattle.std.proofs.Common.{◌≡◌, ℕ, Bool, sym, ap, subst, ◌∙◌, List}
+use Rattle.std.proofs.Common.{◌≡◌, ℕ, sym, ap, ◌∙◌, List}
 use Rattle.gh_base.specs.declared.cell.Cell.{Cell}
 use Rattle.gh_base.specs.declared.cell.Cell.TheVariants as cell
 use Rattle.gh_base.specs.Cells.{Words}
@@ -7,112 +7,120 @@ use Rattle.gh_coord.specs.declared.coord.CoordStage.{CoordStage}
 use Rattle.gh_coord.specs.declared.coord.CoordStage.TheVariants.{Check, Close, Count, Done, LoadAck, LoadWant, MarkOn, Open, Stop, StopAgain, Sweep, Tell, Watch}
 use Rattle.gh_coord.specs.declared.tell.TellStage.{TellStage}
 use Rattle.gh_coord.specs.declared.tell.TellStage.TheVariants as telling
-use Rattle.gh_coord.specs.Handshake as leading
-use Rattle.gh_lists.specs.declared.handshake.Actor.TheVariants as actor
 use Rattle.gh_law.specs.Actors.{AllStands, AllWereOpened, Awaits, StepsWithin}
-use Rattle.gh_holds.specs.Objects.{AllWereCounted, CountsAreSaid, FreesWithinTwo, IsTold, LeavesTheReached, StandsSoFar, StandsUntilItsEnd}
+use Rattle.gh_holds.specs.EveryList.{HoldsAfter}
+use Rattle.gh_holds.specs.Objects.{CountsAreSaid, IsTold}
 use Rattle.gh_holds.specs.ActorsHold as hold
-use Rattle.gh_holds.specs.ActorsHold.{Holds, HoldsAt, IsTelling}
-use Rattle.gh_holds.specs.Below.{HasState, IsAsItShould, processor_at, IsMarking, CycleIsDrawn, HeapIsCounted, FewAreScanned, GlobalsAreCounted}
+use Rattle.gh_holds.specs.ActorsHold.{HoldsAt, IsTelling}
+use Rattle.gh_holds.specs.Below.{HasState, HeapIsCounted, IsAsItShould, ListsKnown, processor_at, SpansStand}
 use Rattle.gh_law.specs.Asked.{AllWereAsked}
 use Rattle.gh_lists.specs.Counts.{CountsPlainly}
-use Rattle.gh_lists.specs.Handshake.{those}
-use Rattle.gh_law.proofs.Vocabulary.{arena, Arena, Coordinating, Entry, IsInLimits, IsLed, Layout, Op, opening_words, Pacing, Shape, view, words}
+use Rattle.gh_lists.specs.Handshake.{those, Setup}
+use Rattle.gh_law.proofs.Vocabulary.{arena, Arena, Coordinating, Entry, IsLed, Op, opening_words, view, words}
 use Rattle.gh_law.specs.Phases.{PhasesStand}
 use Rattle.gh_lists.specs.Processors.{AnswersAsEver, ListStands}
 use Rattle.gh_law.specs.Scans.{ScansOnce}
-use Rattle.gh_holds.specs.Spans.{SpansStand}
 use Rattle.gh_law.specs.SweepMarks.{SweepsStand}
-use Rattle.gh_holds.specs.Known.{Known}
 use Rattle.gh_law.proofs.AllActors.Pending.{none_unacted}
 use Rattle.gh_holds.specs.Standing.{named, stand_apart, stands_for}
 
-module _ (shapes : List Shape) (l : Layout) (pacing : Pacing) (may : ℕ → List (Entry Op) → Op → Bool) (es : List (Entry Op)) (c : Coordinating) where
+-- What is shown of a list beside what holds after it.
+pub record Shown (setup : Setup) (es : List (Entry Op)) : Type 0 where
+  pub awaits : Awaits setup es
+  pub within : StepsWithin setup es
+  pub asked : AllWereAsked setup es
+  pub opened : AllWereOpened setup es
+  pub numbers : (c : Coordinating) → IsLed setup es c → CountsPlainly (those setup) setup.pacing.room es c
+  pub scans : ScansOnce setup es
+  pub sweeps : SweepsStand setup es
+  pub spans : SpansStand setup.shapes setup.layout (words setup es)
+  pub phases : PhasesStand setup es
+  pub bytes : HeapIsCounted setup es
+
+module _ (setup : Setup) (es : List (Entry Op)) (lists : ListsKnown setup) (now : HoldsAfter setup es) where
   abbrev z : Arena
-  z = arena shapes l pacing may
+  z = arena setup
 
-  module _ (limits : IsInLimits l) (known : Known) (led : IsLed shapes l pacing may es c) where
-    module _ (h : Holds shapes l pacing may es c) (now : HasState shapes l pacing may es) (marked : leading.Marks c.stage → IsMarking shapes l pacing may es) (drawn : (d : Coordinating) → IsLed shapes l pacing may es d → leading.Marks d.stage → CycleIsDrawn shapes l pacing may es d) (awaits : Awaits shapes l pacing may es) (asked : AllWereAsked shapes l pacing may es) (opened : AllWereOpened shapes l pacing may es) (numbers : (d : Coordinating) → IsLed shapes l pacing may es d → CountsPlainly (those shapes l pacing may) pacing.room es d) (within : StepsWithin shapes l pacing may es) (within_two : FreesWithinTwo shapes l pacing may es) (until : StandsUntilItsEnd shapes l pacing may es) (standing : (d : Coordinating) → IsLed shapes l pacing may es d → leading.Marks d.stage → StandsSoFar shapes l pacing may es d)
-        (scans : ScansOnce shapes l pacing may es) (scanned : FewAreScanned shapes l pacing es) (globals : (d : Coordinating) → IsLed shapes l pacing may es d → GlobalsAreCounted shapes l pacing es d) (sweeps : SweepsStand shapes l pacing may es) (spans : SpansStand shapes l (words shapes l pacing may es)) (phases : PhasesStand shapes l pacing may es) (bytes : HeapIsCounted shapes l pacing may es) (left : c.stage ≡ Done → LeavesTheReached shapes l pacing may es c) where
-      answered : (a : ℕ) → IsAsItShould shapes l pacing may es now.state.heap a (processor_at shapes l pacing may es a) → AnswersAsEver z (opening_words pacing.trigger) a es
-      answered a is = record {
-        pending = is.pending;
-        answers = is.answers;
-        resting = λ idle. known.runs.rests z a (view now.state.heap) (processor_at shapes l pacing may es a) is.pending idle is.fine;
-        unacted = λ o to_act. none_unacted z a (view now.state.heap) (processor_at shapes l pacing may es a) is.pending (processor_at shapes l pacing may es a).task o to_act is.fine.task;
-      }
+  abbrev here : HasState setup es
+  here = now.has
 
-      stands : ListStands z (opening_words pacing.trigger) es
-      stands = record {
-        stands = stands_for shapes l pacing may limits known es now;
-        answers = λ a lt. answered a (now.of_list.processors a lt);
-        full = h.was.full;
-      }
+  answered : (a : ℕ) → IsAsItShould setup es here.state.heap a (processor_at setup es a) → AnswersAsEver z (opening_words setup.pacing.trigger) a es
+  answered a is = record {
+    pending = is.pending;
+    answers = is.answers;
+    resting = λ idle. lists.known.runs.rests z a (view here.state.heap) (processor_at setup es a) is.pending idle is.fine;
+    unacted = λ o to_act. none_unacted z a (view here.state.heap) (processor_at setup es a) is.pending (processor_at setup es a).task o to_act is.fine.task;
+  }
 
-      -- what the words of the counts say where a cycle is told
-      live_so : hold.IsTold shapes l pacing may es c → words shapes l pacing may es cell.Live ≡ c.live
-      live_so k =
-          let here = k.quiet.has.state in
-          let all_told = known.swept z here k.quiet.has.good k.quiet.over (known.walkers.all z here k.quiet.has.good k.quiet.passed) in
-          ap (λ (w : Words). w cell.Live) (sym k.quiet.has.of_list.words_are) ∙ all_told.live ∙ sym k.live
+  cleared : (k : HasState setup es) (at : Cell) → k.state.heap.words at ≡ 0 → words setup es at ≡ 0
+  cleared k at none = ap (λ (w : Words). w at) (sym k.of_list.words_are) ∙ none
 
-      live_told : (p : TellStage) → IsTelling shapes l pacing may es c p → words shapes l pacing may es cell.Live ≡ c.live
-      live_told telling.StoreTrigger h = live_so h
-      live_told telling.StoreSwept h = live_so h
-      live_told telling.StorePhase h = live_so h
-      live_told telling.Ended h = absurd h
+  module _ (c : Coordinating) (led : IsLed setup es c) where
+    stands : ListStands z (opening_words setup.pacing.trigger) es
+    stands = record {
+      stands = stands_for setup lists.limits lists.known es here;
+      answers = λ a lt. answered a (here.of_list.processors a lt);
+      full = (now.holds c led).was.full;
+    }
 
-      one_lead : (d : Coordinating) → IsLed shapes l pacing may es d → c ≡ d
-      one_lead d led_too = let both : actor.Leads c ≡ actor.Leads d = sym led ∙ led_too in cc
+    -- what the words of the counts say where a cycle is told
+    live_so : hold.IsTold setup es c → words setup es cell.Live ≡ c.live
+    live_so k =
+        let there = k.quiet.has.state in
+        let all_told = lists.known.swept z there k.quiet.has.good k.quiet.over (lists.known.walkers.all z there k.quiet.has.good k.quiet.passed) in
+        ap (λ (w : Words). w cell.Live) (sym k.quiet.has.of_list.words_are) ∙ all_told.live ∙ sym k.live
 
-      live_said : (p : CoordStage) → HoldsAt shapes l pacing may es c p → IsTold shapes l pacing may p → words shapes l pacing may es cell.Live ≡ c.live
-      live_said (Tell t) h told = live_told t.stage h
-      live_said Done h told = live_so h
-      live_said (LoadAck i) h told = absurd told
-      live_said LoadWant h told = absurd told
-      live_said (Stop st) h told = absurd told
-      live_said (Open o) h told = absurd told
-      live_said (Watch w) h told = absurd told
-      live_said (StopAgain st) h told = absurd told
-      live_said (Check w) h told = absurd told
-      live_said MarkOn h told = absurd told
-      live_said (Close y) h told = absurd told
-      live_said (Sweep w) h told = absurd told
-      live_said (Count y) h told = absurd told
+    live_told : (p : TellStage) → IsTelling setup es c p → words setup es cell.Live ≡ c.live
+    live_told telling.StoreTrigger h = live_so h
+    live_told telling.StoreSwept h = live_so h
+    live_told telling.StorePhase h = live_so h
+    live_told telling.Ended h = absurd h
 
-      cleared : (k : HasState shapes l pacing may es) (at : Cell) → k.state.heap.words at ≡ 0 → words shapes l pacing may es at ≡ 0
-      cleared k at none = ap (λ (w : Words). w at) (sym k.of_list.words_are) ∙ none
+    live_said : (p : CoordStage) → HoldsAt setup es c p → IsTold setup p → words setup es cell.Live ≡ c.live
+    live_said (Tell t) h told = live_told t.stage h
+    live_said Done h told = live_so h
+    live_said (LoadAck i) h told = absurd told
+    live_said LoadWant h told = absurd told
+    live_said (Stop st) h told = absurd told
+    live_said (Open o) h told = absurd told
+    live_said (Watch w) h told = absurd told
+    live_said (StopAgain st) h told = absurd told
+    live_said (Check w) h told = absurd told
+    live_said MarkOn h told = absurd told
+    live_said (Close y) h told = absurd told
+    live_said (Sweep w) h told = absurd told
+    live_said (Count y) h told = absurd told
 
-      said : CountsAreSaid shapes l pacing may es c
-      said = record {
-        cleared = λ on. let k = (marked on).known in (cleared k.has cell.Tally k.counts.0, cleared k.has cell.Live k.counts.1);
-        live = live_said c.stage h.at;
-      }
+    said : CountsAreSaid setup es c
+    said = record {
+      cleared = λ on. let k = (now.marking c led on).known in (cleared k.has cell.Tally k.counts.0, cleared k.has cell.Live k.counts.1);
+      live = live_said c.stage (now.holds c led).at;
+    }
 
-      pub all_stands : AllStands shapes l pacing may es
-      all_stands = record {
-        stands = stands;
-        awaits = awaits;
-        within = within;
-        asked = asked;
-        opened = opened;
-        numbers = numbers;
-        objects = named shapes l pacing may limits known es now;
-        apart = stand_apart shapes l pacing may limits known es now;
-        frees = h.was.frees;
-        frees_within_two = within_two;
-        ends = h.was.ends;
-        until = until;
-        standing = standing;
-        scans = scans;
-        scanned = scanned;
-        globals = globals;
-        sweeps = sweeps;
-        spans = spans;
-        phases = phases;
-        drawn = drawn;
-        said = λ d too. subst (CountsAreSaid shapes l pacing may es) (one_lead d too) said;
-        counts = λ d too. subst (AllWereCounted shapes l pacing may es) (one_lead d too) h.counted;
-        heap_bytes = bytes;
-        last = λ d too done. subst (LeavesTheReached shapes l pacing may es) (one_lead d too) (left (ap (λ (x : Coordinating). x.stage) (one_lead d too) ∙ done));
-      }
+  pub all_stands : (c : Coordinating) → IsLed setup es c → Shown setup es → AllStands setup es
+  all_stands c led shown = record {
+    stands = stands c led;
+    awaits = shown.awaits;
+    within = shown.within;
+    asked = shown.asked;
+    opened = shown.opened;
+    numbers = shown.numbers;
+    objects = named setup lists.limits lists.known es here;
+    apart = stand_apart setup lists.limits lists.known es here;
+    frees = (now.holds c led).was.frees;
+    frees_within_two = now.within_two;
+    ends = (now.holds c led).was.ends;
+    until = now.until;
+    standing = now.so_far;
+    scans = shown.scans;
+    scanned = now.scanned;
+    globals = now.globals;
+    sweeps = shown.sweeps;
+    spans = shown.spans;
+    phases = shown.phases;
+    drawn = now.drawn;
+    said = said;
+    counts = λ d too. (now.holds d too).counted;
+    heap_bytes = shown.bytes;
+    last = now.left;
+  }

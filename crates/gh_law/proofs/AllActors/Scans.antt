@@ -12,10 +12,9 @@ use Rattle.gh_sweep.specs.Listing.{Sweeping}
 use Rattle.gh_worker.specs.Listing as worker
 use Rattle.gh_lists.specs.Marking.{IsStartOf}
 use Rattle.gh_law.specs.Scans.{ScansIn, ScansOnce}
-use Rattle.gh_law.proofs.Vocabulary.{acts, Arena, arena, Ask, asks, Coordinating, deeds, effect, END, Entry, Ever, ever, HasState, Heap, IsAsItShould, IsAwake, IsLed, IsWritten, Kind, Layout, Legal, nat_tests, Op, Pacing, Party, party_of, Processor, processor_at, processor_kind, Shape, stage_of, started, Store, SweepStage, takes, TellsScan, those, view, Words, words, WritesItsOwn, WritesOf}
+use Rattle.gh_law.proofs.Vocabulary.{acts, Arena, arena, Ask, asks, Coordinating, deeds, effect, END, Entry, Ever, ever, HasState, Heap, IsAsItShould, IsAwake, IsLed, IsWritten, Kind, Layout, Legal, nat_tests, Op, Party, party_of, Processor, processor_at, processor_kind, stage_of, started, Store, SweepStage, takes, TellsScan, those, view, Words, words, WritesItsOwn, WritesOf}
 use Rattle.gh_phase.specs.declared.view.View.{View}
-use Rattle.gh_holds.specs.Endings.{acted_stays}
-use Rattle.gh_holds.specs.Known.{Known, ListsKnown}
+use Rattle.gh_holds.specs.Below.{acted_stays, ListsKnown}
 use Rattle.gh_lists.specs.Resting.{run_is}
 use Rattle.gh_lists.specs.Starts.{legal_start}
 use Rattle.gh_lists.specs.Sweeping.{asks_by_sweep}
@@ -23,25 +22,26 @@ use Rattle.gh_lists.specs.Steps as seats
 use Rattle.gh_lists.specs.Awake.{knows_begun, was_awake}
 use Rattle.gh_lists.specs.Aside.{aside as lead_aside}
 use Rattle.gh_lists.specs.Writing.{awake_at, knows_at}
+use Rattle.gh_lists.specs.Handshake.{Setup}
 
-module _ (shapes : List Shape) (l : Layout) (pacing : Pacing) (may : ℕ → List (Entry Op) → Op → Bool) (known : Known) (lists : ListsKnown shapes l pacing may) (has : (es : List (Entry Op)) → Legal (those shapes l pacing may) es → HasState shapes l pacing may es) where
+module _ (setup : Setup) (lists : ListsKnown setup) (has : (es : List (Entry Op)) → Legal (those setup) es → HasState setup es) where
   abbrev kind : Kind Processor Op
-  kind = processor_kind shapes l
+  kind = processor_kind setup.shapes setup.layout
 
   abbrev z : Arena
-  z = arena shapes l pacing may
+  z = arena setup
 
   abbrev Lawful : List (Entry Op) → Type 0
-  Lawful es = Legal (those shapes l pacing may) es
+  Lawful es = Legal (those setup) es
 
   abbrev told : List (Entry Op) → Words
-  told es = words shapes l pacing may es
+  told es = words setup es
 
   abbrev Led : List (Entry Op) → Coordinating → Type 0
-  Led es c = IsLed shapes l pacing may es c
+  Led es c = IsLed setup es c
 
-  ended_on : (e : Entry Op) (es : List (Entry Op)) (g : ℕ) → (ever shapes l pacing may es).ended g ≡ true → (ever shapes l pacing may (e ∷ es)).ended g ≡ true
-  ended_on e es g is = ap (λ (x : Ever). x.ended g) ((known.points shapes l).follows es e) ∙ acted_stays shapes (before_step kind (deeds shapes) es e) e.found (ever shapes l pacing may es) g (acts (before_step kind (deeds shapes) es e) e.found) is
+  ended_on : (e : Entry Op) (es : List (Entry Op)) (g : ℕ) → (ever setup es).ended g ≡ true → (ever setup (e ∷ es)).ended g ≡ true
+  ended_on e es g is = ap (λ (x : Ever). x.ended g) ((lists.known.points setup.shapes setup.layout).follows es e) ∙ acted_stays setup.shapes (before_step kind (deeds setup.shapes) es e) e.found (ever setup es) g (acts (before_step kind (deeds setup.shapes) es e) e.found) is
 
   -- a stack whose goroutine has ended says so still
   over_on : (e : Entry Op) (es : List (Entry Op)) (g : ℕ) → Lawful (e ∷ es) → told es (cell.Scanned g) ≡ END → told (e ∷ es) (cell.Scanned g) ≡ END
@@ -57,7 +57,7 @@ module _ (shapes : List Shape) (l : Layout) (pacing : Pacing) (may : ℕ → Lis
     -- it is a processor's, which tells of the scan
     record IsByProcessor : Type 0 where
       m : Processor
-      runs : seats.RunsIt shapes l pacing may e es m
+      runs : seats.RunsIt setup e es m
       tells : TellsScan (started kind e.begun m) g
 
     -- no worker writes the word, nor does a sweep, and the coordinator leaves it, whatever the words are
@@ -66,16 +66,16 @@ module _ (shapes : List Shape) (l : Layout) (pacing : Pacing) (may : ℕ → Lis
     sweeps_no_stack sw sweep_stage.Finish is = cc
     sweeps_no_stack sw _ is = cc
 
-    no_worker : (w : worker.Working) → seats.WorksIt shapes l pacing may e es w → ⊥
+    no_worker : (w : worker.Working) → seats.WorksIt setup e es w → ⊥
     no_worker w x = elim (asks_by_sweep w w.stage) [
-      | inl none ↦ subst (λ (q : Ask). WritesItsOwn w.seat q) (sym x.asked ∙ scans.0) (known.workers_write w x.sound_it none x.busy)
+      | inl none ↦ subst (λ (q : Ask). WritesItsOwn w.seat q) (sym x.asked ∙ scans.0) (lists.known.workers_write w x.sound_it none x.busy)
       | inr y ↦ sweeps_no_stack y.0 y.0.stage (sym y.1 ∙ (sym x.asked ∙ scans.0))
     ]
 
     abbrev others : Words
     others c = suc k
 
-    no_lead : (c : coord.Coordinating) → seats.LeadsIt shapes l pacing may e es c → ⊥
+    no_lead : (c : coord.Coordinating) → seats.LeadsIt setup e es c → ⊥
     no_lead c x =
         let left : effect others (Store (cell.Scanned g) k) (cell.Scanned g) ≡ suc k = subst (λ (q : Ask). effect others q (cell.Scanned g) ≡ suc k) (sym x.asked ∙ scans.0) ((lead_aside others c c.stage x.sound_it.1).scanned g) in
         let stored : effect others (Store (cell.Scanned g) k) (cell.Scanned g) ≡ k = ap (λ (b : Bool). cond b k (suc k)) (eq-eqb g g refl) in
@@ -83,13 +83,13 @@ module _ (shapes : List Shape) (l : Layout) (pacing : Pacing) (may : ℕ → Lis
         absurd (omega (arith, no))
 
     by_processor : IsByProcessor
-    by_processor = by (seats.step shapes l pacing may e es known.writes legal (lists.keeps es legal.0)) where
-      tells : (m : Processor) → seats.RunsIt shapes l pacing may e es m → EndsStack (started kind e.begun m) g ⊎ TellsScan (started kind e.begun m) g → TellsScan (started kind e.begun m) g
+    by_processor = by (seats.step setup e es lists.known.writes legal (lists.keeps es legal.0)) where
+      tells : (m : Processor) → seats.RunsIt setup e es m → EndsStack (started kind e.begun m) g ⊎ TellsScan (started kind e.begun m) g → TellsScan (started kind e.begun m) g
       tells m x (inl ends) = absurd (scans.1 (let same : Store (cell.Scanned g) k ≡ Store (cell.Scanned g) END = sym scans.0 ∙ (x.asked ∙ ends.tells) in cc))
       tells m x (inr y) = y
 
-      by : seats.Step shapes l pacing may e es → IsByProcessor
-      by (seats.by_processor m x s) = record { m = m; runs = x; tells = tells m x (subst (WritesOf (IsWritten (started kind e.begun m))) (sym x.asked ∙ scans.0) (known.writes.writes (started kind e.begun m) x.sound_then)) }
+      by : seats.Step setup e es → IsByProcessor
+      by (seats.by_processor m x s) = record { m = m; runs = x; tells = tells m x (subst (WritesOf (IsWritten (started kind e.begun m))) (sym x.asked ∙ scans.0) (lists.known.writes.writes (started kind e.begun m) x.sound_then)) }
       by (seats.by_worker w x s) = absurd (no_worker w x)
       by (seats.by_lead c x) = absurd (no_lead c x)
 
@@ -99,7 +99,7 @@ module _ (shapes : List Shape) (l : Layout) (pacing : Pacing) (may : ℕ → Lis
     abbrev now : Processor
     now = started kind e.begun by_processor.m
 
-    abbrev runs : seats.RunsIt shapes l pacing may e es by_processor.m
+    abbrev runs : seats.RunsIt setup e es by_processor.m
     runs = by_processor.runs
 
     abbrev tells : TellsScan (started kind e.begun by_processor.m) g
@@ -113,16 +113,16 @@ module _ (shapes : List Shape) (l : Layout) (pacing : Pacing) (may : ℕ → Lis
 
     -- it is awake, and knows the cycle that has begun last, and that it is marked
     awake : IsAwake (stage_of now)
-    awake = awake_at 0 (party_of now) (stage_of now) (asks now) (party_of (takes shapes now 0)) (stage_of (takes shapes now 0)) g k asked (known.places.takes_so shapes now 0 runs.sound_then.place runs.busy)
+    awake = awake_at 0 (party_of now) (stage_of now) (asks now) (party_of (takes setup.shapes now 0)) (stage_of (takes setup.shapes now 0)) g k asked (lists.known.places.takes_so setup.shapes now 0 runs.sound_then.place runs.busy)
 
     view_is : (party_of now).view ≡ now.poll.local.view
     view_is = knows_at now g k now.task (sym asked)
 
     pub of_last : told es cell.Begun ≡ k
-    of_last = sym (number ∙ (ap (λ (v : View). v.begun) (sym view_is) ∙ knows_begun shapes l pacing may known.places known.writes lists.keeps e.actor m e.begun es legal.0 runs.seat runs.is runs.sound_it legal.1.begins awake))
+    of_last = sym (number ∙ (ap (λ (v : View). v.begun) (sym view_is) ∙ knows_begun setup lists.known.places lists.known.writes lists.keeps e.actor m e.begun es legal.0 runs.seat runs.is runs.sound_it legal.1.begins awake))
 
     was : (party_of now ≡ party_of m) × IsAwake (stage_of m)
-    was = was_awake shapes l pacing may known.places known.writes lists.keeps e.actor m e.begun es runs.is runs.sound_it legal.1.begins awake
+    was = was_awake setup lists.known.places lists.known.writes lists.keeps e.actor m e.begun es runs.is runs.sound_it legal.1.begins awake
 
     pub is_marked : (c : Coordinating) → Led es c → leading.Marks c.stage
     is_marked c led = ((lists.keeps es legal.0).processors_mark c e.actor m led (omega (arith, runs.seat)) runs.is was.1).0
@@ -133,30 +133,30 @@ module _ (shapes : List Shape) (l : Layout) (pacing : Pacing) (may : ℕ → Lis
     abbrev h : Heap
     h = (has es legal.0).state.heap
 
-    same : processor_at shapes l pacing may es e.actor ≡ m
-    same = run_is shapes l pacing may es e.actor m runs.seat runs.is
+    same : processor_at setup es e.actor ≡ m
+    same = run_is setup es e.actor m runs.seat runs.is
 
-    it_is : IsAsItShould shapes l pacing may es h e.actor (processor_at shapes l pacing may es e.actor)
+    it_is : IsAsItShould setup es h e.actor (processor_at setup es e.actor)
     it_is = (has es legal.0).of_list.processors e.actor runs.seat
 
     sits : Sits z e.actor m.poll
-    sits = subst (λ (p : Processor). Sits z e.actor p.poll) same (known.runs.stands z e.actor (view h) (processor_at shapes l pacing may es e.actor) it_is.pending it_is.fine).sits
+    sits = subst (λ (p : Processor). Sits z e.actor p.poll) same (lists.known.runs.stands z e.actor (view h) (processor_at setup es e.actor) it_is.pending it_is.fine).sits
 
     there : (o : Option Op) → StaysThere m (started kind o m)
     there None = record { layout = refl; seat = refl }
-    there (Some o) = known.writes.begins_there shapes l m o runs.sound_it
+    there (Some o) = lists.known.writes.begins_there setup.shapes setup.layout m o runs.sound_it
 
     notes_stay : (o : Option Op) → (started kind o m).poll.local.scanned ≡ m.poll.local.scanned
     notes_stay None = refl
-    notes_stay (Some o) = known.notes.begins shapes l m o runs.sound_it
+    notes_stay (Some o) = lists.known.notes.begins setup.shapes setup.layout m o runs.sound_it
 
-    layout_is : now.poll.layout ≡ l
+    layout_is : now.poll.layout ≡ setup.layout
     layout_is = (there e.begun).layout ∙ sits.layout
 
-    pub by_its_own : g % l.procs ≡ e.actor
+    pub by_its_own : g % setup.layout.procs ≡ e.actor
     by_its_own = ap (λ (y : Layout). g % y.procs) (sym layout_is) ∙ (tells.own ∙ ((there e.begun).seat ∙ sits.seat))
 
-    is_there : g < l.goroutines
+    is_there : g < setup.layout.goroutines
     is_there = subst (λ (y : Layout). g < y.goroutines) layout_is tells.there
 
     note : slice_index now.poll.local.scanned g ≡ told es (cell.Scanned g)
@@ -207,7 +207,7 @@ module _ (shapes : List Shape) (l : Layout) (pacing : Pacing) (may : ℕ → Lis
   since f earlier (e ∷ es) k g scans legal (inl of) = subst (IsSince k g) of (at_scan f earlier (subst Lawful (sym of) legal) k g scans)
   since f earlier (e ∷ es) k g scans legal (inr of) = since_on e es legal k g (since f earlier es k g scans legal.0 of)
 
-  pub scans_once : (es : List (Entry Op)) → Lawful es → ScansOnce shapes l pacing may es
+  pub scans_once : (es : List (Entry Op)) → Lawful es → ScansOnce setup es
   scans_once es legal = record {
     of_cycle = λ e before k g of scans. of_last e before (at e before of) k g scans;
     marked = λ e before k g of scans c led. is_marked e before (at e before of) k g scans c led;
@@ -215,7 +215,7 @@ module _ (shapes : List Shape) (l : Layout) (pacing : Pacing) (may : ℕ → Lis
     once = λ e f before earlier k g of earlier_of scans scanned. twice e f before earlier k g (at e before of) earlier_of scans scanned;
   } where
     at : (e : Entry Op) (before : List (Entry Op)) → IsStartOf (e ∷ before) es → Lawful (e ∷ before)
-    at e before of = legal_start (those shapes l pacing may) (e ∷ before) es of legal
+    at e before of = legal_start (those setup) (e ∷ before) es of legal
 
     twice : (e f : Entry Op) (before earlier : List (Entry Op)) (k g : ℕ) → Lawful (e ∷ before) → IsStartOf (f ∷ earlier) before → ScansIn k g e → ScansIn k g f → ⊥
     twice e f before earlier k g lawful of scans scanned = elim (since f earlier before k g scanned lawful.0 of).word [

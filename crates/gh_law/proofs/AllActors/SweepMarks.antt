@@ -27,13 +27,13 @@ use Rattle.gh_mutator_heap.specs.Facts.{KnowsAt, KnowsNew}
 use Rattle.gh_mutator_heap.specs.PollHeap.{Rests}
 use Rattle.gh_lists.specs.declared.handshake.Actor.TheVariants as actor
 use Rattle.gh_law.specs.SweepMarks.{AllAreSwept, CachedAreSwept, IsRunning, IsUncut, MarksAreLeft, OwnedAreSwept, SaysHowFar, SpansAreNumbered, SweepsStand}
-use Rattle.gh_holds.specs.Below.{IsUnderWay, IsMarking, IsInSweep, sweep_of}
-use Rattle.gh_law.proofs.Vocabulary.{generation_of as generation_at, marks_at, Runs, View, ◌%◌, acks_of, Actor, actors_after, alloc_words, Arena, arena, Check, Close, CloseStage, Coordinating, CoordStage, Count, CycleEnd, Entry, Ever, ever, HasState, Head, HoldsAt, IsBeginning, IsClosing, IsInLimits, IsLed, IsTelling, Layout, Legal, mark_words, MarkOn, Name, new_polls, NewStage, Op, Open, opening_processor, Pacing, page_of, PageWord, page_words, Polling, processor_at, Reach, Row, row_bit, seats_of, Shape, State, StopAgain, Sweep, SweepStage, Task, Tell, TellStage, those, view, Watch, Words, words}
+use Rattle.gh_holds.specs.Below.{IsInSweep, IsMarking, IsUnderWay, Known, sweep_of}
+use Rattle.gh_law.proofs.Vocabulary.{generation_of as generation_at, marks_at, Runs, View, ◌%◌, acks_of, Actor, actors_after, alloc_words, Arena, arena, Check, Close, CloseStage, Coordinating, CoordStage, Count, CycleEnd, Entry, Ever, ever, HasState, Head, HoldsAt, IsBeginning, IsClosing, IsInLimits, IsLed, IsTelling, Legal, mark_words, MarkOn, Name, new_polls, NewStage, Op, Open, opening_processor, page_of, PageWord, page_words, Polling, processor_at, Reach, Row, row_bit, seats_of, State, StopAgain, Sweep, SweepStage, Task, Tell, TellStage, those, view, Watch, Words, words}
 use Rattle.gh_lists.specs.Going.{goes_then, IsGoing}
-use Rattle.gh_holds.specs.Known.{Known}
 use Rattle.gh_holds.specs.HasAt.{has_at}
 use Rattle.gh_lists.specs.Seats.{other}
 use Rattle.gh_holds.specs.Standing.{once}
+use Rattle.gh_lists.specs.Handshake.{Setup}
 
 -- bits of two rows are the same where their words are
 same_bit : (row other : Row) (x : ℕ) → row (x / 64) ≡ other (x / 64) → row_bit row x ≡ row_bit other x
@@ -86,13 +86,13 @@ new_rests z a v p task.Poll run is = absurd (let no = run.runs in cc)
 new_rests z a v p (task.Leave x) run is = absurd (let no = run.runs in cc)
 new_rests z a v p _ run is = is
 
-module _ (shapes : List Shape) (l : Layout) (pacing : Pacing) (may : ℕ → List (Entry Op) → Op → Bool) (es : List (Entry Op)) (has : HasState shapes l pacing may es) where
+module _ (setup : Setup) (es : List (Entry Op)) (has : HasState setup es) where
   abbrev s : State
   s = has.state
 
   -- who sweeps, at each seat
   abbrev pub sweeps : ℕ → Option Sweeping
-  sweeps who = sweep_of (actors_after (arena shapes l pacing may) pacing may es who)
+  sweeps who = sweep_of (actors_after (arena setup) setup.pacing setup.may es who)
 
   abbrev e : CycleEnd
   e = has.state.end
@@ -103,7 +103,7 @@ module _ (shapes : List Shape) (l : Layout) (pacing : Pacing) (may : ℕ → Lis
   abbrev good : sweep.Good has.state.end (sweep.view (spans_of has.state))
   good = has.good.sweep
 
-  told_are : now ≡ words shapes l pacing may es
+  told_are : now ≡ words setup es
   told_are = has.of_list.words_are
 
   generation : now cell.Gen ≡ generation_at e
@@ -121,21 +121,21 @@ module _ (shapes : List Shape) (l : Layout) (pacing : Pacing) (may : ℕ → Lis
   swept_now : ((p : ℕ) → s.far p ≡ Done) → AllAreSwept now
   swept_now far p h is = number_is (now cell.Gen) h (s.far p) (number_at p h is) (far p)
 
-  pub spans_numbered : SpansAreNumbered (words shapes l pacing may es)
+  pub spans_numbered : SpansAreNumbered (words setup es)
   spans_numbered = subst SpansAreNumbered told_are numbers_now
 
-  pub owned_swept : OwnedAreSwept (words shapes l pacing may es)
+  pub owned_swept : OwnedAreSwept (words setup es)
   owned_swept = subst OwnedAreSwept told_are owned_now
 
-  pub all_swept : ((p : ℕ) → s.far p ≡ Done) → AllAreSwept (words shapes l pacing may es)
+  pub all_swept : ((p : ℕ) → s.far p ≡ Done) → AllAreSwept (words setup es)
   all_swept far = subst AllAreSwept told_are (swept_now far)
 
   -- what a processor has cached
-  pub cached_swept : (a : ℕ) → a < l.procs → CachedAreSwept (words shapes l pacing may es) a (processor_at shapes l pacing may es a)
-  cached_swept a lt = subst (λ (w : Words). CachedAreSwept w a (processor_at shapes l pacing may es a)) told_are go where
-    go : CachedAreSwept now a (processor_at shapes l pacing may es a)
+  pub cached_swept : (a : ℕ) → a < setup.layout.procs → CachedAreSwept (words setup es) a (processor_at setup es a)
+  cached_swept a lt = subst (λ (w : Words). CachedAreSwept w a (processor_at setup es a)) told_are go where
+    go : CachedAreSwept now a (processor_at setup es a)
     go run c k few is =
-        let rests = new_rests (arena shapes l pacing may) a (view s.heap) (processor_at shapes l pacing may es a).poll (processor_at shapes l pacing may es a).task run (has.of_list.processors a lt).fine.knows in
+        let rests = new_rests (arena setup) a (view s.heap) (processor_at setup es a).poll (processor_at setup es a).task run (has.of_list.processors a lt).fine.knows in
         let held = (rests.knows.caches c k few is).span in
         let owner : held.h.owner ≡ a + 1 = ap owner_in (sym held.head) ∙ (has.good.heap.owners a k.head).1 held.held in
         record { h = held.h; head = held.head; owner = owner; swept = owned_now k.head held.h held.head (λ none. let no : 0 ≡ a + 1 = sym none ∙ owner in absurd (omega (arith, no))) }
@@ -173,7 +173,7 @@ module _ (shapes : List Shape) (l : Layout) (pacing : Pacing) (may : ℕ → Lis
       go true is = absurd (no_bit (mark_words now) x (clear_mark (x / 64) is) set)
       go false is = good.stand x (sym (same_bit (mark_words now) (marks_at e) x (kept_mark (x / 64) is)) ∙ set)
 
-    module _ (limits : IsInLimits l) (known : Known) (runs : (who : ℕ) (m : Sweeping) → sweeps who ≡ Some m → Runs who s m) where
+    module _ (limits : IsInLimits setup.layout) (known : Known) (runs : (who : ℕ) (m : Sweeping) → sweeps who ≡ Some m → Runs who s m) where
       -- a sweep has not cut the words that it has not reached
       uncut : (who i : ℕ) (m : Sweeping) → sweeps who ≡ Some m → IsUncut m i → s.cut i ≡ false
       uncut who i m is u =
@@ -187,13 +187,13 @@ module _ (shapes : List Shape) (l : Layout) (pacing : Pacing) (may : ℕ → Lis
       left_now : MarksAreLeft now s.heap.ever sweeps
       left_now = record {
         cleared = cleared;
-        unswept = λ n a reach at x number. in_unswept n a (once shapes l pacing may limits known es has n a reach at) reach x number;
-        uncut = λ n a who m reach at is in_it. in_uncut n a (once shapes l pacing may limits known es has n a reach at) reach (uncut who (a / 64) m is in_it);
+        unswept = λ n a reach at x number. in_unswept n a (once setup limits known es has n a reach at) reach x number;
+        uncut = λ n a who m reach at is in_it. in_uncut n a (once setup limits known es has n a reach at) reach (uncut who (a / 64) m is in_it);
         stand = stand;
       }
 
-      pub marks_left : MarksAreLeft (words shapes l pacing may es) (ever shapes l pacing may es) sweeps
-      marks_left = subst (λ (x : Ever). MarksAreLeft (words shapes l pacing may es) x sweeps) has.of_list.ever_is (subst (λ (w : Words). MarksAreLeft w s.heap.ever sweeps) told_are left_now)
+      pub marks_left : MarksAreLeft (words setup es) (ever setup es) sweeps
+      marks_left = subst (λ (x : Ever). MarksAreLeft (words setup es) x sweeps) has.of_list.ever_is (subst (λ (w : Words). MarksAreLeft w s.heap.ever sweeps) told_are left_now)
 
   -- While a cycle is opened no mark is set, each span is swept, and nobody sweeps.
   module _ (far : (p : ℕ) → s.far p ≡ Done) (none : (i : ℕ) → now (cell.Mark i) ≡ 0) (nobody : (who : ℕ) → sweeps who ≡ None) where
@@ -205,70 +205,70 @@ module _ (shapes : List Shape) (l : Layout) (pacing : Pacing) (may : ℕ → Lis
       stand = λ x set. absurd (no_bit (mark_words now) x (none (x / 64)) set);
     }
 
-    pub no_marks_left : MarksAreLeft (words shapes l pacing may es) (ever shapes l pacing may es) sweeps
-    no_marks_left = subst (λ (x : Ever). MarksAreLeft (words shapes l pacing may es) x sweeps) has.of_list.ever_is (subst (λ (w : Words). MarksAreLeft w s.heap.ever sweeps) told_are none_left)
+    pub no_marks_left : MarksAreLeft (words setup es) (ever setup es) sweeps
+    no_marks_left = subst (λ (x : Ever). MarksAreLeft (words setup es) x sweeps) has.of_list.ever_is (subst (λ (w : Words). MarksAreLeft w s.heap.ever sweeps) told_are none_left)
 
 -- At a seat that is none nobody steps, so nobody sweeps.
-module _ (shapes : List Shape) (l : Layout) (pacing : Pacing) (may : ℕ → List (Entry Op) → Op → Bool) (known : Known) where
-  none_first : (who : ℕ) → sweep_of (actors_after (arena shapes l pacing may) pacing may [] who) ≡ None
-  none_first who = go (ltb who l.procs) (ltb who (acks_of l)) where
-    go : (b d : Bool) → sweep_of (cond b (actor.Runs (opening_processor l who)) (cond d (actor.Marks (worker.opening l who)) (actor.Leads (coord.opening l who pacing.gogc pacing.minheap pacing.room)))) ≡ None
-    go true d = known.processors_sweep.at_first l who
-    go false true = known.workers_sweep.at_first l who
-    go false false = known.coordinator_sweeps.at_first l who pacing.gogc pacing.minheap pacing.room
+module _ (setup : Setup) (known : Known) where
+  none_first : (who : ℕ) → sweep_of (actors_after (arena setup) setup.pacing setup.may [] who) ≡ None
+  none_first who = go (ltb who setup.layout.procs) (ltb who (acks_of setup.layout)) where
+    go : (b d : Bool) → sweep_of (cond b (actor.Runs (opening_processor setup.layout who)) (cond d (actor.Marks (worker.opening setup.layout who)) (actor.Leads (coord.opening setup.layout who setup.pacing.gogc setup.pacing.minheap setup.pacing.room)))) ≡ None
+    go true d = known.processors_sweep.at_first setup.layout who
+    go false true = known.workers_sweep.at_first setup.layout who
+    go false false = known.coordinator_sweeps.at_first setup.layout who setup.pacing.gogc setup.pacing.minheap setup.pacing.room
 
-  none_beyond : (es : List (Entry Op)) → Legal (those shapes l pacing may) es → (who : ℕ) → seats_of l ≤ who → sweep_of (actors_after (arena shapes l pacing may) pacing may es who) ≡ None
+  none_beyond : (es : List (Entry Op)) → Legal (those setup) es → (who : ℕ) → seats_of setup.layout ≤ who → sweep_of (actors_after (arena setup) setup.pacing setup.may es who) ≡ None
   none_beyond [] legal who from = none_first who
-  none_beyond (e ∷ es) legal who from = ap sweep_of (other shapes l pacing e es who (apart (e.actor == who) refl)) ∙ none_beyond es legal.0 who from where
+  none_beyond (e ∷ es) legal who from = ap sweep_of (other setup e es who (apart (e.actor == who) refl)) ∙ none_beyond es legal.0 who from where
     apart : (b : Bool) → (e.actor == who) ≡ b → (e.actor == who) ≡ false
     apart false x = x
-    apart true x = absurd (let same : e.actor ≡ who = grind (arith, nat_tests) in let lt : e.actor < seats_of l = legal.1.actor in omega (arith, same, lt, from))
+    apart true x = absurd (let same : e.actor ≡ who = grind (arith, nat_tests) in let lt : e.actor < seats_of setup.layout = legal.1.actor in omega (arith, same, lt, from))
 
 -- By the coordinator's stage.
-module _ (shapes : List Shape) (l : Layout) (pacing : Pacing) (may : ℕ → List (Entry Op) → Op → Bool) (limits : IsInLimits l) (known : Known) (es : List (Entry Op)) (c : Coordinating) where
+module _ (setup : Setup) (limits : IsInLimits setup.layout) (known : Known) (es : List (Entry Op)) (c : Coordinating) where
   abbrev at : List (Entry Op) → ℕ → Actor
-  at xs who = actors_after (arena shapes l pacing may) pacing may xs who
+  at xs who = actors_after (arena setup) setup.pacing setup.may xs who
 
   -- each span is swept while a cycle is opened and marked
-  far_done : (has : HasState shapes l pacing may es) → IsUnderWay has.state → (p : ℕ) → has.state.far p ≡ Done
+  far_done : (has : HasState setup es) → IsUnderWay has.state → (p : ℕ) → has.state.far p ≡ Done
   far_done has under p = has.good.told under.0 under.1 p
 
-  swept_at : (p : CoordStage) → (leading.Marks p → IsMarking shapes l pacing may es) → HoldsAt shapes l pacing may es c p → IsBeginning p ⊎ leading.Marks p → AllAreSwept (words shapes l pacing may es)
-  swept_at (Open o) marking h (inl b) = all_swept shapes l pacing may es h.0.has (far_done h.0.has h.0.under_way)
+  swept_at : (p : CoordStage) → (leading.Marks p → IsMarking setup es) → HoldsAt setup es c p → IsBeginning p ⊎ leading.Marks p → AllAreSwept (words setup es)
+  swept_at (Open o) marking h (inl b) = all_swept setup es h.0.has (far_done h.0.has h.0.under_way)
   swept_at _ marking h (inl b) = absurd b
-  swept_at _ marking h (inr on) = let k = (marking on).known in all_swept shapes l pacing may es k.has (far_done k.has k.under_way)
+  swept_at _ marking h (inr on) = let k = (marking on).known in all_swept setup es k.has (far_done k.has k.under_way)
 
   abbrev Left : Type 0
-  Left = MarksAreLeft (words shapes l pacing may es) (ever shapes l pacing may es) (λ who. sweep_of (at es who))
+  Left = MarksAreLeft (words setup es) (ever setup es) (λ who. sweep_of (at es who))
 
-  module _ (legal : Legal (those shapes l pacing may) es) where
-    runs_there : (has : HasState shapes l pacing may es) (who : ℕ) (m : Sweeping) → sweep_of (at es who) ≡ Some m → Runs who has.state m
-    runs_there has who m is = go (ltb who (seats_of l)) refl where
-      go : (b : Bool) → ltb who (seats_of l) ≡ b → Runs who has.state m
+  module _ (legal : Legal (those setup) es) where
+    runs_there : (has : HasState setup es) (who : ℕ) (m : Sweeping) → sweep_of (at es who) ≡ Some m → Runs who has.state m
+    runs_there has who m is = go (ltb who (seats_of setup.layout)) refl where
+      go : (b : Bool) → ltb who (seats_of setup.layout) ≡ b → Runs who has.state m
       go true x = (subst (IsInSweep who has.state) is (has.sweeps who (grind (arith, nat_tests)))).0
-      go false x = absurd (let no : None ≡ Some m = sym (none_beyond shapes l pacing may known es legal who (grind (arith, nat_tests))) ∙ is in cc)
+      go false x = absurd (let no : None ≡ Some m = sym (none_beyond setup known es legal who (grind (arith, nat_tests))) ∙ is in cc)
 
-    none_runs : (has : HasState shapes l pacing may es) → IsUnderWay has.state → (who : ℕ) (x : Option Sweeping) → sweep_of (at es who) ≡ x → x ≡ None
+    none_runs : (has : HasState setup es) → IsUnderWay has.state → (who : ℕ) (x : Option Sweeping) → sweep_of (at es who) ≡ x → x ≡ None
     none_runs has under who None is = refl
     none_runs has under who (Some m) is = absurd (let no : None ≡ Some under.0 = sym (runs_there has who m is).quiet ∙ under.1 in cc)
 
-    off_left : (has : HasState shapes l pacing may es) → has.state.told ≡ None → Left
-    off_left has over = marks_left shapes l pacing may es has over limits known (runs_there has)
+    off_left : (has : HasState setup es) → has.state.told ≡ None → Left
+    off_left has over = marks_left setup es has over limits known (runs_there has)
 
-    told_left : (p : TellStage) → IsTelling shapes l pacing may es c p → Left
+    told_left : (p : TellStage) → IsTelling setup es c p → Left
     told_left telling.Ended h = absurd h
     told_left telling.StoreTrigger h = off_left h.quiet.has h.quiet.over
     told_left _ h = off_left h.quiet.has h.quiet.over
 
-    closing_left : (y : closes_by.Closing) (p : CloseStage) → y.stage ≡ p → (leading.Marks (Close y) → ⊥) → IsClosing shapes l pacing may es c p → Left
+    closing_left : (y : closes_by.Closing) (p : CloseStage) → y.stage ≡ p → (leading.Marks (Close y) → ⊥) → IsClosing setup es c p → Left
     closing_left y closing.StorePhase at off h = off_left h.has h.over
     closing_left y closing.Ended at off h = absurd h
     closing_left y _ at off h = absurd (off (ap closes_by.is_marking at))
 
-    opening_left : (has : HasState shapes l pacing may es) → IsUnderWay has.state → ((i : ℕ) → has.state.heap.words (cell.Mark i) ≡ 0) → Left
-    opening_left has under none = no_marks_left shapes l pacing may es has (far_done has under) none (λ who. none_runs has under who (sweep_of (at es who)) refl)
+    opening_left : (has : HasState setup es) → IsUnderWay has.state → ((i : ℕ) → has.state.heap.words (cell.Mark i) ≡ 0) → Left
+    opening_left has under none = no_marks_left setup es has (far_done has under) none (λ who. none_runs has under who (sweep_of (at es who)) refl)
 
-    left_at : (p : CoordStage) → IsGoing p → (leading.Marks p → ⊥) → HoldsAt shapes l pacing may es c p → Left
+    left_at : (p : CoordStage) → IsGoing p → (leading.Marks p → ⊥) → HoldsAt setup es c p → Left
     left_at (Open o) going off h = opening_left h.0.has h.0.under_way h.0.marks
     left_at (Watch w) going off h = absurd (off tt)
     left_at (StopAgain st) going off h = absurd (off tt)
@@ -281,21 +281,21 @@ module _ (shapes : List Shape) (l : Layout) (pacing : Pacing) (may : ℕ → Lis
     left_at coord_at.Done going off h = off_left h.quiet.has h.quiet.over
     left_at _ going off q = off_left q.has q.over
 
-  module _ (legal : Legal (those shapes l pacing may) es) (led : IsLed shapes l pacing may es c) (marking : leading.Marks c.stage → IsMarking shapes l pacing may es) (h : HoldsAt shapes l pacing may es c c.stage) where
+  module _ (legal : Legal (those setup) es) (led : IsLed setup es c) (marking : leading.Marks c.stage → IsMarking setup es) (h : HoldsAt setup es c c.stage) where
     going : IsGoing c.stage
-    going = goes_then shapes l pacing may es c led
+    going = goes_then setup es c led
 
-    has : HasState shapes l pacing may es
-    has = has_at shapes l pacing may es c c.stage going marking h
+    has : HasState setup es
+    has = has_at setup es c c.stage going marking h
 
-    one_lead : (d : Coordinating) → IsLed shapes l pacing may es d → c ≡ d
+    one_lead : (d : Coordinating) → IsLed setup es d → c ≡ d
     one_lead d too = let both : actor.Leads c ≡ actor.Leads d = sym led ∙ too in cc
 
-    pub sweeps_stand : SweepsStand shapes l pacing may es
+    pub sweeps_stand : SweepsStand setup es
     sweeps_stand = record {
-      numbers = spans_numbered shapes l pacing may es has;
-      owned = owned_swept shapes l pacing may es has;
-      cached = cached_swept shapes l pacing may es has;
-      marked = λ d too. subst (λ (x : Coordinating). IsBeginning x.stage ⊎ leading.Marks x.stage → AllAreSwept (words shapes l pacing may es)) (one_lead d too) (swept_at c.stage marking h);
+      numbers = spans_numbered setup es has;
+      owned = owned_swept setup es has;
+      cached = cached_swept setup es has;
+      marked = λ d too. subst (λ (x : Coordinating). IsBeginning x.stage ⊎ leading.Marks x.stage → AllAreSwept (words setup es)) (one_lead d too) (swept_at c.stage marking h);
       marks = λ d too. subst (λ (x : Coordinating). (leading.Marks x.stage → ⊥) → Left) (one_lead d too) (λ off. left_at legal c.stage going off h);
     }

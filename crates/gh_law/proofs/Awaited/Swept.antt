@@ -1,35 +1,36 @@
 -- Where more cycles are swept than had begun behind a start of the list, one of them began behind it: by the numbers that the coordinator stores, which go up by one, and by what holds where it tells that a cycle is swept.
-use Rattle.std.proofs.Common.{◌≡◌, inl, inr, ℕ, suc, ◌+◌, ◌<◌, ◌≤◌, Bool, refl, sym, ap, subst, arith, List, [], ◌∷◌}
+use Rattle.std.proofs.Common.{◌≡◌, inl, inr, ℕ, suc, ◌+◌, ◌<◌, ◌≤◌, refl, sym, ap, subst, arith, List, [], ◌∷◌}
 use Rattle.std.proofs.lemmas.Bool.{cases_lt}
 use Rattle.gh_base.specs.declared.cell.Cell.TheVariants as cell
 use Rattle.gh_law.specs.Actors.{SweptSince}
 use Rattle.gh_lists.specs.Lists.{BeginsCycle, IsTelling}
-use Rattle.gh_law.proofs.Vocabulary.{ahead_at, Ask, CoordStage, effect, Entry, IsBeginning, IsStartOf, IsStepIn, Layout, Legal, Op, Open, Pacing, part_of, Shape, those, Words, words}
-use Rattle.gh_holds.specs.Known.{Known, ListsKnown}
+use Rattle.gh_law.proofs.Vocabulary.{ahead_at, Ask, CoordStage, effect, Entry, IsBeginning, IsStartOf, IsStepIn, Legal, Op, Open, part_of, those, Words, words}
+use Rattle.gh_holds.specs.Below.{ListsKnown}
 use Rattle.gh_lists.specs.Starts.{compared, legal_start, start_of_start, whole}
 use Rattle.gh_lists.specs.Changes.{begins, Change, ends, Rises, same, tells}
 use Rattle.gh_holds.specs.EveryList.{InCycles}
+use Rattle.gh_lists.specs.Handshake.{Setup}
 
 -- where a cycle begins its number stands, and no other has one
 begins_one : (p : CoordStage) → IsBeginning p → ((ahead_at (part_of p)).begun ≡ 1) × ((ahead_at (part_of p)).numbered ≡ 1)
 begins_one (Open o) is = rw is (refl, refl)
 begins_one _ is = absurd is
 
-module _ (shapes : List Shape) (l : Layout) (pacing : Pacing) (may : ℕ → List (Entry Op) → Op → Bool) (known : Known) (lists : ListsKnown shapes l pacing may) where
+module _ (setup : Setup) (lists : ListsKnown setup) where
   abbrev Lawful : List (Entry Op) → Type 0
-  Lawful es = Legal (those shapes l pacing may) es
+  Lawful es = Legal (those setup) es
 
   abbrev told : List (Entry Op) → Words
-  told es = words shapes l pacing may es
+  told es = words setup es
 
   module _ (e : Entry Op) (es : List (Entry Op)) (legal : Lawful (e ∷ es)) where
     abbrev Changes : Type 0
-    Changes = Change shapes l pacing may e es
+    Changes = Change setup e es
 
     changes : Changes
     changes = lists.changes e es legal
 
-    pub rises : Rises shapes l pacing may e es
+    pub rises : Rises setup e es
     rises = lists.rises e es legal
 
   -- what a start of the list has begun, the list has
@@ -43,7 +44,7 @@ module _ (shapes : List Shape) (l : Layout) (pacing : Pacing) (may : ℕ → Lis
     entry : Entry Op
     before : List (Entry Op)
     of : IsStartOf (entry ∷ before) es
-    step : IsStepIn shapes l pacing may IsTelling k entry before
+    step : IsStepIn setup IsTelling k entry before
 
   is_told : (k : ℕ) (es : List (Entry Op)) → Lawful es → 0 < k → k ≤ told es cell.Swept → IsTold k es
   is_told k [] legal some le = absurd (omega (arith, some, le))
@@ -63,24 +64,24 @@ module _ (shapes : List Shape) (l : Layout) (pacing : Pacing) (may : ℕ → Lis
       | inr was ↦ older (before was)
     ]
 
-  module _ (in_cycles : InCycles shapes l pacing may) (first : Entry Op) (earlier es : List (Entry Op)) (legal : Lawful es) (start : IsStartOf (first ∷ earlier) es) (seat : first.actor < l.procs) (more : told earlier cell.Begun < told es cell.Swept) where
+  module _ (in_cycles : InCycles setup) (first : Entry Op) (earlier es : List (Entry Op)) (legal : Lawful es) (start : IsStartOf (first ∷ earlier) es) (seat : first.actor < setup.layout.procs) (more : told earlier cell.Begun < told es cell.Swept) where
     -- of the cycles that are swept it is the first that had not begun
     abbrev k : ℕ
     k = suc (told earlier cell.Begun)
 
     abbrev Since : Type 0
-    Since = SweptSince shapes l pacing may (first ∷ earlier) es
+    Since = SweptSince setup (first ∷ earlier) es
 
-    not_first : (d : Entry Op) (ds : List (Entry Op)) → IsStepIn shapes l pacing may IsBeginning k d ds → d.actor ≡ first.actor → ⊥
+    not_first : (d : Entry Op) (ds : List (Entry Op)) → IsStepIn setup IsBeginning k d ds → d.actor ≡ first.actor → ⊥
     not_first d ds b is = let by = b.by in omega (arith, is, by, seat)
 
     -- none that has its number behind fewer entries
-    not_earlier : (d : Entry Op) (ds : List (Entry Op)) → IsStepIn shapes l pacing may IsBeginning k d ds → IsStartOf (d ∷ ds) earlier → ⊥
+    not_earlier : (d : Entry Op) (ds : List (Entry Op)) → IsStepIn setup IsBeginning k d ds → IsStartOf (d ∷ ds) earlier → ⊥
     not_earlier d ds b is =
         let of : IsStartOf (first ∷ earlier) es = start in
-        let lawful : Lawful earlier = (legal_start (those shapes l pacing may) (first ∷ earlier) es of legal).0 in
+        let lawful : Lawful earlier = (legal_start (those setup) (first ∷ earlier) es of legal).0 in
         let there : IsStartOf ds earlier = start_of_start ds (d ∷ ds) earlier (inr (whole ds)) is in
-        let counts = lists.counts ds b.lead (legal_start (those shapes l pacing may) ds earlier there lawful) b.led in
+        let counts = lists.counts ds b.lead (legal_start (those setup) ds earlier there lawful) b.led in
         let one = begins_one b.lead.stage b.stage in
         let begun : told ds cell.Begun ≡ told ds cell.Swept + (ahead_at (part_of b.lead.stage)).begun = counts.begun in
         let number : b.lead.begun ≡ told ds cell.Swept + (ahead_at (part_of b.lead.stage)).numbered = counts.number in
@@ -91,7 +92,7 @@ module _ (shapes : List Shape) (l : Layout) (pacing : Pacing) (may : ℕ → Lis
         omega (arith, begun, number, cycle, one_begun, one_numbered, up)
 
     module _ (t : IsTold k es) where
-      since_begun : (begun : List (Entry Op)) → IsStartOf begun t.before → BeginsCycle shapes l pacing may k begun → Since
+      since_begun : (begun : List (Entry Op)) → IsStartOf begun t.before → BeginsCycle setup k begun → Since
       since_begun [] of b = absurd b
       since_begun (d ∷ ds) of b = elim (compared (first ∷ earlier) (d ∷ ds) es start (start_of_start (d ∷ ds) (t.entry ∷ t.before) es (inr of) t.of)) [
         | inl x ↦ elim x [
@@ -106,9 +107,9 @@ module _ (shapes : List Shape) (l : Layout) (pacing : Pacing) (may : ℕ → Lis
 
       is_since : Since
       is_since =
-          let lawful = legal_start (those shapes l pacing may) (t.entry ∷ t.before) es t.of legal in
+          let lawful = legal_start (those setup) (t.entry ∷ t.before) es t.of legal in
           let x = in_cycles t.before t.step.lead lawful.0 t.step.led t.step.stage in
-          since_begun x.begun x.start (subst (λ (i : ℕ). BeginsCycle shapes l pacing may i x.begun) t.step.cycle x.begins)
+          since_begun x.begun x.start (subst (λ (i : ℕ). BeginsCycle setup i x.begun) t.step.cycle x.begins)
 
     pub swept_since : Since
     swept_since = is_since (is_told k es legal (omega arith) (omega (arith, more)))

@@ -1,5 +1,5 @@
 -- Credit is far from the end of its word: a cycle's words are few, and so are cycles.
-use Rattle.std.proofs.Common.{ℕ, ◌+◌, ◌*◌, ◌^◌, ◌<◌, ◌≤◌, Bool, arith, List}
+use Rattle.std.proofs.Common.{ℕ, ◌+◌, ◌*◌, ◌^◌, ◌<◌, ◌≤◌, arith, List}
 use Rattle.std.proofs.lemmas.Nat.{mul-le}
 use Rattle.gh_base.specs.declared.cell.Cell.TheVariants as cell
 use Rattle.gh_base.specs.declared.limits.TheConstants.{MOST_STATEMENTS}
@@ -7,9 +7,10 @@ use Rattle.gh_law.specs.Actors.{AllStands}
 use Rattle.gh_lists.specs.Marking.{IsInLimits}
 use Rattle.gh_holds.specs.Below.{most_scanned, scanned_in}
 use Rattle.gh_lists.specs.Wants.{AreFew, total}
-use Rattle.gh_law.proofs.Vocabulary.{Entry, Layout, Op, Pacing, Shape, words}
+use Rattle.gh_law.proofs.Vocabulary.{Entry, Layout, Op, words}
 use Rattle.gh_lists.specs.Counting.{opened_in_stored}
 use Rattle.gh_lists.specs.Steps as seats
+use Rattle.gh_lists.specs.Handshake.{Setup}
 
 -- in so many cycles at the most
 few_in : (l : Layout) → IsInLimits l → (begun n : ℕ) → begun ≤ 2 * MOST_STATEMENTS + 1 → n ≤ begun * most_scanned l → n < 2 ^ 48
@@ -20,12 +21,12 @@ few_in l limits begun n few le =
     let most = mul-le begun (most_scanned l) 400001 2097408 (omega (arith, few)) all in
     omega (arith, le, most)
 
-pub few_words : (shapes : List Shape) (l : Layout) (pacing : Pacing) (may : ℕ → List (Entry Op) → Op → Bool) (counts : ℕ → ℕ) (es : List (Entry Op)) → IsInLimits l → total counts l.goroutines ≤ MOST_STATEMENTS → AllStands shapes l pacing may es → AreFew counts l es → scanned_in shapes l pacing es < 2 ^ 48
-few_words shapes l pacing may counts es limits fit all few =
-    let led = seats.led_by shapes l pacing may es in
+pub few_words : (setup : Setup) (counts : ℕ → ℕ) (es : List (Entry Op)) → IsInLimits setup.layout → total counts setup.layout.goroutines ≤ MOST_STATEMENTS → AllStands setup es → AreFew counts setup.layout es → scanned_in setup es < 2 ^ 48
+few_words setup counts es limits fit all few =
+    let led = seats.led_by setup es in
     let numbers = all.numbers led.lead led.led_by in
     let is = numbers.begun in
     let le = numbers.opened_first in
     let same = opened_in_stored es in
     let opened = few.opened in
-    few_in l limits (words shapes l pacing may es cell.Begun) (scanned_in shapes l pacing es) (omega (arith, is, le, same, opened, fit)) all.scanned
+    few_in setup.layout limits (words setup es cell.Begun) (scanned_in setup es) (omega (arith, is, le, same, opened, fit)) all.scanned

@@ -19,11 +19,11 @@ use Rattle.gh_worker.specs.Works.{words_done}
 use Rattle.gh_worker.specs.Writing.{AcksAlone, CalmWorkersMarkNothing, IsCalm}
 use Rattle.gh_lists.specs.declared.handshake.Actor.TheVariants as actor
 use Rattle.gh_law.specs.Credit.{at, CreditStands, earned_in, IsSettled, lapsed_by, lapsed_in, left_among, left_at, spent_among, spent_at, spent_in}
-use Rattle.gh_lists.specs.Handshake.{is_busy}
+use Rattle.gh_lists.specs.Handshake.{is_busy, Setup}
 use Rattle.gh_law.specs.Phases.{IsStopped, PhasesStand}
 use Rattle.gh_holds.specs.Below.{done_by, scanned_in}
 use Rattle.gh_lists.specs.Waits.{WorkersRest}
-use Rattle.gh_law.proofs.Vocabulary.{acks_of, Actor, Add, Ask, asks, Begins, cell_of, Coordinating, effect, Entry, KeepsIt, Layout, Legal, Load, nat_tests, Op, Pacing, Processor, processor_kind, ProcessorWritesItsOwn, seats_of, Shape, started, Store, Swap, those, words, WorkersWriteTheirOwn, Working}
+use Rattle.gh_law.proofs.Vocabulary.{acks_of, Actor, Add, Ask, asks, Begins, cell_of, Coordinating, effect, Entry, KeepsIt, Legal, Load, nat_tests, Op, Processor, processor_kind, ProcessorWritesItsOwn, seats_of, started, Store, Swap, those, words, WorkersWriteTheirOwn, Working}
 use Rattle.gh_lists.specs.Sweeping.{asks_by_sweep}
 use Rattle.gh_law.proofs.Crediting.Assisting.{assisting_knows, begun_without, marks_phase}
 use Rattle.gh_law.proofs.Crediting.Bank.{draws_bank, DrawsOnBank, IsBeside, IsClearing, lead_beside, leaves_bank, LeavesBank, processor_beside, sweep_beside, worker_beside}
@@ -33,26 +33,33 @@ use Rattle.gh_lists.specs.Leaving.{marks_or_not}
 use Rattle.gh_lists.specs.Steps as seats
 use Rattle.gh_lists.specs.Sums.{total_at, total_has, total_none, total_same}
 
-module _ (shapes : List Shape) (l : Layout) (pacing : Pacing) (may : ℕ → List (Entry Op) → Op → Bool)
-    (writes : ProcessorWritesItsOwn) (works : WorkersWriteTheirOwn) (calm : CalmWorkersMarkNothing) (earns : WorkersEarn) (spend : ProcessorsSpend)
-    (keeps : (es : List (Entry Op)) → Legal (those shapes l pacing may) es → KeepsIt (those shapes l pacing may) es)
-    (rests : (es : List (Entry Op)) → Legal (those shapes l pacing may) es → WorkersRest (those shapes l pacing may) es)
-    (phases : (es : List (Entry Op)) → Legal (those shapes l pacing may) es → PhasesStand shapes l pacing may es)
-    (few : (es : List (Entry Op)) → Legal (those shapes l pacing may) es → scanned_in shapes l pacing es < 2 ^ 48) where
+-- What is cited of processors and workers, and of the lists of a heap that is set up so.
+pub record Cited (setup : Setup) : Type 0 where
+  pub writes : ProcessorWritesItsOwn
+  pub works : WorkersWriteTheirOwn
+  pub calm : CalmWorkersMarkNothing
+  pub earns : WorkersEarn
+  pub spend : ProcessorsSpend
+  pub keeps : (es : List (Entry Op)) → Legal (those setup) es → KeepsIt (those setup) es
+  pub rests : (es : List (Entry Op)) → Legal (those setup) es → WorkersRest (those setup) es
+  pub phases : (es : List (Entry Op)) → Legal (those setup) es → PhasesStand setup es
+  pub few : (es : List (Entry Op)) → Legal (those setup) es → scanned_in setup es < 2 ^ 48
+
+module _ (setup : Setup) (cited : Cited setup) where
   abbrev n : ℕ
-  n = acks_of l
+  n = acks_of setup.layout
 
   abbrev who : List (Entry Op) → ℕ → Actor
-  who es a = at shapes l pacing may es a
+  who es a = at setup es a
 
   abbrev bank : List (Entry Op) → ℕ
-  bank es = words shapes l pacing may es cell.Bank
+  bank es = words setup es cell.Bank
 
   record Balanced (es : List (Entry Op)) (c : Coordinating) : Type 0 where
     earned : earned_in es ≡ spent_in es + lapsed_in es + bank es
-    drawn : spent_in es ≡ spent_among (who es) (seats_of l)
+    drawn : spent_in es ≡ spent_among (who es) (seats_of setup.layout)
     knows : KnowsBank (lapsed_in es) (bank es) c.lapsed c.stage
-    scanned : scanned_in shapes l pacing es ≡ earned_in es + left_among (who es) (seats_of l)
+    scanned : scanned_in setup es ≡ earned_in es + left_among (who es) (seats_of setup.layout)
     each : (a : ℕ) (w : Working) → who es a ≡ actor.Marks w → w.earned ≤ earned_in es
 
   abbrev Balance : List (Entry Op) → Type 0
@@ -61,38 +68,38 @@ module _ (shapes : List Shape) (l : Layout) (pacing : Pacing) (may : ℕ → Lis
   -- before the first step
 
   first_left : (a : ℕ) → left_at (who [] a) ≡ 0
-  first_left a = go (ltb a l.procs) (ltb a n) where
-    go : (b d : Bool) → left_at (cond b (actor.Runs ((processor_kind shapes l).start a)) (cond d (actor.Marks (worker.opening l a)) (actor.Leads (coord.opening l a pacing.gogc pacing.minheap pacing.room)))) ≡ 0
+  first_left a = go (ltb a setup.layout.procs) (ltb a n) where
+    go : (b d : Bool) → left_at (cond b (actor.Runs ((processor_kind setup.shapes setup.layout).start a)) (cond d (actor.Marks (worker.opening setup.layout a)) (actor.Leads (coord.opening setup.layout a setup.pacing.gogc setup.pacing.minheap setup.pacing.room)))) ≡ 0
     go true d = refl
     go false true = refl
     go false false = refl
 
   first_spent : (a : ℕ) → spent_at (who [] a) ≡ 0
-  first_spent a = go (ltb a l.procs) (ltb a n) where
-    go : (b d : Bool) → spent_at (cond b (actor.Runs ((processor_kind shapes l).start a)) (cond d (actor.Marks (worker.opening l a)) (actor.Leads (coord.opening l a pacing.gogc pacing.minheap pacing.room)))) ≡ 0
-    go true d = spend.at_first l a
+  first_spent a = go (ltb a setup.layout.procs) (ltb a n) where
+    go : (b d : Bool) → spent_at (cond b (actor.Runs ((processor_kind setup.shapes setup.layout).start a)) (cond d (actor.Marks (worker.opening setup.layout a)) (actor.Leads (coord.opening setup.layout a setup.pacing.gogc setup.pacing.minheap setup.pacing.room)))) ≡ 0
+    go true d = cited.spend.at_first setup.layout a
     go false true = refl
     go false false = refl
 
   first_earned : (a : ℕ) (w : Working) → who [] a ≡ actor.Marks w → w.earned ≤ 0
-  first_earned a w is = go (ltb a l.procs) (ltb a n) is where
-    go : (b d : Bool) → cond b (actor.Runs ((processor_kind shapes l).start a)) (cond d (actor.Marks (worker.opening l a)) (actor.Leads (coord.opening l a pacing.gogc pacing.minheap pacing.room))) ≡ actor.Marks w → w.earned ≤ 0
+  first_earned a w is = go (ltb a setup.layout.procs) (ltb a n) is where
+    go : (b d : Bool) → cond b (actor.Runs ((processor_kind setup.shapes setup.layout).start a)) (cond d (actor.Marks (worker.opening setup.layout a)) (actor.Leads (coord.opening setup.layout a setup.pacing.gogc setup.pacing.minheap setup.pacing.room))) ≡ actor.Marks w → w.earned ≤ 0
     go true d x = absurd cc
     go false false x = absurd cc
-    go false true x = let it : worker.opening l a ≡ w = cc in subst (λ (v : Working). v.earned ≤ 0) it (omega arith)
+    go false true x = let it : worker.opening setup.layout a ≡ w = cc in subst (λ (v : Working). v.earned ≤ 0) it (omega arith)
 
   first : Balance []
   first c led =
-      let it = seats.first_lead shapes l pacing may c led in
+      let it = seats.first_lead setup c led in
       record {
         earned = refl;
-        drawn = let none = total_none (λ a. spent_at (who [] a)) (seats_of l) (λ a lt. first_spent a) in omega (arith, none);
+        drawn = let none = total_none (λ a. spent_at (who [] a)) (seats_of setup.layout) (λ a lt. first_spent a) in omega (arith, none);
         knows = subst (λ (x : Coordinating). KnowsBank 0 0 x.lapsed x.stage) (sym it) (record { knows = refl; empty = λ no. refl });
-        scanned = let none = total_none (λ a. left_at (who [] a)) (seats_of l) (λ a lt. first_left a) in omega (arith, none);
+        scanned = let none = total_none (λ a. left_at (who [] a)) (seats_of setup.layout) (λ a lt. first_left a) in omega (arith, none);
         each = first_earned;
       }
 
-  module _ (e : Entry Op) (es : List (Entry Op)) (legal : Legal (those shapes l pacing may) (e ∷ es)) (was : Balance es) where
+  module _ (e : Entry Op) (es : List (Entry Op)) (legal : Legal (those setup) (e ∷ es)) (was : Balance es) where
     -- where the step is not on the bank
     record Stays : Type 0 where
       earned : earned_in (e ∷ es) ≡ earned_in es
@@ -112,52 +119,62 @@ module _ (shapes : List Shape) (l : Layout) (pacing : Pacing) (may : ℕ → Lis
     known s c k = subst (λ (x : ℕ). KnowsBank x (bank (e ∷ es)) c.lapsed c.stage) (sym s.lapsed) (subst (λ (x : ℕ). KnowsBank (lapsed_in es) x c.lapsed c.stage) (sym s.bank_is) k)
 
     others : (a : ℕ) → a ≢ e.actor → who (e ∷ es) a ≡ who es a
-    others a ne = other shapes l pacing e es a (go (e.actor == a) refl) where
+    others a ne = other setup e es a (go (e.actor == a) refl) where
       go : (b : Bool) → (e.actor == a) ≡ b → (e.actor == a) ≡ false
       go true y = absurd (ne (let s = y in grind (arith, nat_tests)))
       go false y = y
 
-    seat_of_it : e.actor < seats_of l
+    seat_of_it : e.actor < seats_of setup.layout
     seat_of_it = legal.1.actor
 
     -- where the actor's count goes up by what is drawn
-    drawn_then : (c : Coordinating) → Balanced es c → spent_at (who (e ∷ es) e.actor) ≡ spent_at (who es e.actor) + drawn_by e.ask e.found → spent_in (e ∷ es) ≡ spent_among (who (e ∷ es)) (seats_of l)
+    drawn_then : (c : Coordinating) → Balanced es c → spent_at (who (e ∷ es) e.actor) ≡ spent_at (who es e.actor) + drawn_by e.ask e.found → spent_in (e ∷ es) ≡ spent_among (who (e ∷ es)) (seats_of setup.layout)
     drawn_then c b counts =
-        let one = total_at (λ a. spent_at (who es a)) (λ a. spent_at (who (e ∷ es) a)) (seats_of l) e.actor seat_of_it (λ a lt ne. ap spent_at (others a ne)) in
+        let one = total_at (λ a. spent_at (who es a)) (λ a. spent_at (who (e ∷ es) a)) (seats_of setup.layout) e.actor seat_of_it (λ a lt ne. ap spent_at (others a ne)) in
         let d = b.drawn in
         omega (arith, one, d, counts)
 
-    -- who steps without being a worker has nothing left, and has scanned nothing
-    module _ (x y : Actor) (is : who es e.actor ≡ x) (then : who (e ∷ es) e.actor ≡ y) (none : left_at x ≡ 0) (none_then : left_at y ≡ 0) (done : done_by x e.found ≡ 0) (not_marks : (w : Working) → y ≡ actor.Marks w → ⊥) (counts : spent_at y ≡ spent_at x + drawn_by e.ask e.found) (earned_same : earned_in (e ∷ es) ≡ earned_in es) (b : (c : Coordinating) → who es n ≡ actor.Leads c → Balanced es c) where
-      left_same : left_among (who (e ∷ es)) (seats_of l) ≡ left_among (who es) (seats_of l)
-      left_same = total_same (λ a. left_at (who es a)) (λ a. left_at (who (e ∷ es) a)) (seats_of l) (λ a lt. go a (e.actor == a) refl) where
+    -- Who steps without being a worker: it has nothing left, has scanned nothing and hands nothing over, and what it spends is counted.
+    record StepsWithoutWork (x y : Actor) : Type 0 where
+      is : who es e.actor ≡ x
+      then : who (e ∷ es) e.actor ≡ y
+      none : left_at x ≡ 0
+      none_then : left_at y ≡ 0
+      done : done_by x e.found ≡ 0
+      not_marks : (w : Working) → y ≡ actor.Marks w → ⊥
+      counts : spent_at y ≡ spent_at x + drawn_by e.ask e.found
+      earned_same : earned_in (e ∷ es) ≡ earned_in es
+
+    module _ (x y : Actor) (step : StepsWithoutWork x y) where
+      left_same : left_among (who (e ∷ es)) (seats_of setup.layout) ≡ left_among (who es) (seats_of setup.layout)
+      left_same = total_same (λ a. left_at (who es a)) (λ a. left_at (who (e ∷ es) a)) (seats_of setup.layout) (λ a lt. go a (e.actor == a) refl) where
         go : (a : ℕ) (t : Bool) → (e.actor == a) ≡ t → left_at (who (e ∷ es) a) ≡ left_at (who es a)
         go a true e_is =
             let end : e.actor ≡ a = (let q = e_is in grind (arith, nat_tests)) in
-            let one : left_at (who (e ∷ es) a) ≡ 0 = ap (λ (i : ℕ). left_at (who (e ∷ es) i)) (sym end) ∙ ap left_at then ∙ none_then in
-            let two : left_at (who es a) ≡ 0 = ap (λ (i : ℕ). left_at (who es i)) (sym end) ∙ ap left_at is ∙ none in
+            let one : left_at (who (e ∷ es) a) ≡ 0 = ap (λ (i : ℕ). left_at (who (e ∷ es) i)) (sym end) ∙ ap left_at step.then ∙ step.none_then in
+            let two : left_at (who es a) ≡ 0 = ap (λ (i : ℕ). left_at (who es i)) (sym end) ∙ ap left_at step.is ∙ step.none in
             one ∙ sym two
-        go a false e_is = ap left_at (other shapes l pacing e es a e_is)
+        go a false e_is = ap left_at (other setup e es a e_is)
 
-      scanned_same : scanned_in shapes l pacing (e ∷ es) ≡ scanned_in shapes l pacing es
-      scanned_same = let d : done_by (who es e.actor) e.found ≡ 0 = ap (λ (z : Actor). done_by z e.found) is ∙ done in omega (arith, d)
+      scanned_same : scanned_in setup (e ∷ es) ≡ scanned_in setup es
+      scanned_same = let d : done_by (who es e.actor) e.found ≡ 0 = ap (λ (z : Actor). done_by z e.found) step.is ∙ step.done in omega (arith, d)
 
       each_then : (c : Coordinating) → who es n ≡ actor.Leads c → (a : ℕ) (w : Working) → who (e ∷ es) a ≡ actor.Marks w → w.earned ≤ earned_in (e ∷ es)
       each_then c led a w at_a = go (e.actor == a) refl where
         go : (t : Bool) → (e.actor == a) ≡ t → w.earned ≤ earned_in (e ∷ es)
-        go true e_is = absurd (not_marks w (sym then ∙ ap (who (e ∷ es)) (let q = e_is in grind (arith, nat_tests)) ∙ at_a))
-        go false e_is = let le = (b c led).each a w (sym (other shapes l pacing e es a e_is) ∙ at_a) in let same = earned_same in omega (arith, le, same)
+        go true e_is = absurd (step.not_marks w (sym step.then ∙ ap (who (e ∷ es)) (let q = e_is in grind (arith, nat_tests)) ∙ at_a))
+        go false e_is = let le = (was c led).each a w (sym (other setup e es a e_is) ∙ at_a) in let same = step.earned_same in omega (arith, le, same)
 
       -- what is spent, what lapses and what is in the bank change together
       balances : (c d : Coordinating) → who es n ≡ actor.Leads c → spent_in (e ∷ es) + lapsed_in (e ∷ es) + bank (e ∷ es) ≡ spent_in es + lapsed_in es + bank es → KnowsBank (lapsed_in (e ∷ es)) (bank (e ∷ es)) d.lapsed d.stage → Balanced (e ∷ es) d
       balances c d led all k =
-          let w = b c led in
+          let w = was c led in
           let a = w.earned in
-          let a1 = earned_same in
+          let a1 = step.earned_same in
           let g = w.scanned in
           let g1 = scanned_same in
           let g2 = left_same in
-          let now : spent_at (who (e ∷ es) e.actor) ≡ spent_at (who es e.actor) + drawn_by e.ask e.found = ap spent_at then ∙ counts ∙ ap (λ (z : Actor). spent_at z + drawn_by e.ask e.found) (sym is) in
+          let now : spent_at (who (e ∷ es) e.actor) ≡ spent_at (who es e.actor) + drawn_by e.ask e.found = ap spent_at step.then ∙ step.counts ∙ ap (λ (z : Actor). spent_at z + drawn_by e.ask e.found) (sym step.is) in
           record {
             earned = omega (arith, a, a1, all);
             drawn = drawn_then c w now;
@@ -175,20 +192,20 @@ module _ (shapes : List Shape) (l : Layout) (pacing : Pacing) (may : ℕ → Lis
 
     -- a processor's step
 
-    module _ (m : Processor) (x : seats.RunsIt shapes l pacing may e es m) (c : Coordinating) (led : who es n ≡ actor.Leads c) where
+    module _ (m : Processor) (x : seats.RunsIt setup e es m) (c : Coordinating) (led : who es n ≡ actor.Leads c) where
       pb : Balanced es c
       pb = was c led
 
       -- the processor with what it begins, if it begins an operation
       abbrev begun : Processor
-      begun = started (processor_kind shapes l) e.begun m
+      begun = started (processor_kind setup.shapes setup.layout) e.begun m
 
       abbrev MayBegin : Option Op → Type 0
-      MayBegin o = Begins (those shapes l pacing may) e.actor es o
+      MayBegin o = Begins (those setup) e.actor es o
 
-      begins_so : (o : Option Op) → MayBegin o → spent_of (started (processor_kind shapes l) o m) ≡ spent_of m
+      begins_so : (o : Option Op) → MayBegin o → spent_of (started (processor_kind setup.shapes setup.layout) o m) ≡ spent_of m
       begins_so None may_it = refl
-      begins_so (Some o) may_it = spend.begins shapes l m o (sym (ap is_busy x.is) ∙ may_it.0)
+      begins_so (Some o) may_it = cited.spend.begins setup.shapes setup.layout m o (sym (ap is_busy x.is) ∙ may_it.0)
 
       begun_spent : spent_of begun ≡ spent_of m
       begun_spent = begins_so e.begun legal.1.begins
@@ -196,72 +213,75 @@ module _ (shapes : List Shape) (l : Layout) (pacing : Pacing) (may : ℕ → Lis
       -- no count leaves its type
       spent_few : spent_of m ≤ spent_in es
       spent_few =
-          let le : spent_of m ≤ spent_among (who es) (seats_of l) = subst (λ (z : Actor). spent_at z ≤ spent_among (who es) (seats_of l)) x.is (total_has (λ a. spent_at (who es a)) (seats_of l) e.actor seat_of_it) in
+          let le : spent_of m ≤ spent_among (who es) (seats_of setup.layout) = subst (λ (z : Actor). spent_at z ≤ spent_among (who es) (seats_of setup.layout)) x.is (total_has (λ a. spent_at (who es a)) (seats_of setup.layout) e.actor seat_of_it) in
           let d = pb.drawn in
           omega (arith, le, d)
 
-      found_is : (q : Ask) → e.ask ≡ q → e.found ≡ words shapes l pacing may es (cell_of q)
-      found_is q is = legal.1.found ∙ ap (λ (z : Ask). words shapes l pacing may es (cell_of z)) is
+      found_is : (q : Ask) → e.ask ≡ q → e.found ≡ words setup es (cell_of q)
+      found_is q is = legal.1.found ∙ ap (λ (z : Ask). words setup es (cell_of z)) is
 
-      count : drawn_by e.ask e.found ≤ bank es → spent_of (takes shapes begun e.found) ≡ spent_of m + drawn_by e.ask e.found
+      count : drawn_by e.ask e.found ≤ bank es → spent_of (takes setup.shapes begun e.found) ≡ spent_of m + drawn_by e.ask e.found
       count most =
           let same : drawn_by e.ask e.found ≡ drawn_by (asks begun) e.found = ap (λ (q : Ask). drawn_by q e.found) x.asked in
           let a = pb.earned in
           let b = pb.scanned in
-          let f = few es legal.0 in
+          let f = cited.few es legal.0 in
           let le = spent_few in
           let first = begun_spent in
-          let then = spend.spends shapes begun e.found x.sound_then x.busy (omega (arith, same, a, b, f, le, first, most)) in
+          let then = cited.spend.spends setup.shapes begun e.found x.sound_then x.busy (omega (arith, same, a, b, f, le, first, most)) in
           omega (arith, same, then, first)
+
+      no_work : drawn_by e.ask e.found ≤ bank es → earned_in (e ∷ es) ≡ earned_in es → StepsWithoutWork (actor.Runs m) (actor.Runs (takes setup.shapes begun e.found))
+      no_work most same = record { is = x.is; then = x.then; none = refl; none_then = refl; done = refl; not_marks = λ w is. cc; counts = count most; earned_same = same }
 
       runs_beside : IsBeside (asks begun) → Balanced (e ∷ es) c
       runs_beside q =
           let s = stays_by _ x.asked q in
           let none = none_drawn s in
-          balances (actor.Runs m) (actor.Runs (takes shapes begun e.found)) x.is x.then refl refl refl (λ w is. cc) (count (omega (arith, none))) s.earned was c c led (all_same s) (known s c pb.knows)
+          balances (actor.Runs m) (actor.Runs (takes setup.shapes begun e.found)) (no_work (omega (arith, none)) s.earned) c c led (all_same s) (known s c pb.knows)
 
       -- A draw: it assists, so the coordinator marks a cycle, and the world is not stopped.
       module _ (d : DrawsOnBank begun (asks begun)) where
         draw_is : e.ask ≡ Swap cell.Bank d.old d.new
         draw_is = x.asked ∙ d.is
 
-        assists_before : (o : Option Op) → MayBegin o → IsAssisting (started (processor_kind shapes l) o m).task → IsAssisting m.task
+        assists_before : (o : Option Op) → MayBegin o → IsAssisting (started (processor_kind setup.shapes setup.layout) o m).task → IsAssisting m.task
         assists_before None may_it a = a
-        assists_before (Some o) may_it a = absurd (begun_without shapes l m o (sym (ap is_busy x.is) ∙ may_it.0) a)
+        assists_before (Some o) may_it a = absurd (begun_without setup.shapes setup.layout m o (sym (ap is_busy x.is) ∙ may_it.0) a)
 
         assists : IsAssisting m.task
         assists = assists_before e.begun legal.1.begins d.assists
 
         runs_on : IsStopped c → ⊥
-        runs_on stopped = let no : Swap cell.Bank d.old d.new ≡ Load cell.Phase = sym draw_is ∙ ((phases (e ∷ es) legal).still e es c (inl refl) led stopped (let lt = x.seat in λ end. omega (arith, lt, end))).asks in cc
+        runs_on stopped = let no : Swap cell.Bank d.old d.new ≡ Load cell.Phase = sym draw_is ∙ ((cited.phases (e ∷ es) legal).still e es c (inl refl) led stopped (let lt = x.seat in λ end. omega (arith, lt, end))).asks in cc
 
         marks_on : leading.Marks c.stage
         marks_on =
             let knows = assisting_knows m.poll m.task assists in
             let seat : e.actor < n = let lt = x.seat in omega (arith, lt) in
-            let marked : (party_of m).view.phase ≡ Mark = ap (λ (v : View). v.phase) knows.1 ∙ marks_phase m.poll.local.view.phase (spend.marking m x.sound_it assists) in
-            ((keeps es legal.0).processors_mark c e.actor m led seat x.is knows.0).0 marked
+            let marked : (party_of m).view.phase ≡ Mark = ap (λ (v : View). v.phase) knows.1 ∙ marks_phase m.poll.local.view.phase (cited.spend.marking m x.sound_it assists) in
+            ((cited.keeps es legal.0).processors_mark c e.actor m led seat x.is knows.0).0 marked
 
         draws_on : Balanced (e ∷ es) c
         draws_on =
             let there : e.found ≡ bank es = found_is (Swap cell.Bank d.old d.new) draw_is in
             let drawn_is : drawn_by e.ask e.found ≡ drawn_by (Swap cell.Bank d.old d.new) (bank es) = ap (λ (q : Ask). drawn_by q e.found) draw_is ∙ ap (drawn_by (Swap cell.Bank d.old d.new)) there in
-            let bank_is : bank (e ∷ es) ≡ effect (words shapes l pacing may es) (Swap cell.Bank d.old d.new) cell.Bank = ap (λ (q : Ask). effect (words shapes l pacing may es) q cell.Bank) draw_is in
-            let falls = draws_bank (words shapes l pacing may es) d.old d.new d.falls in
+            let bank_is : bank (e ∷ es) ≡ effect (words setup es) (Swap cell.Bank d.old d.new) cell.Bank = ap (λ (q : Ask). effect (words setup es) q cell.Bank) draw_is in
+            let falls = draws_bank (words setup es) d.old d.new d.falls in
             let handed_none : handed_by e.ask ≡ 0 = ap handed_by draw_is in
             let lapsed_none : lapsed_by e.ask e.found ≡ 0 = ap (λ (q : Ask). lapsed_by q e.found) draw_is in
             let lapsed_same : lapsed_in (e ∷ es) ≡ lapsed_in es = omega (arith, lapsed_none) in
             let k = may_add c.stage marks_on (λ phase stopped. runs_on (phase, stopped)) (lapsed_in es) (bank es) (bank (e ∷ es)) c.lapsed pb.knows in
-            balances (actor.Runs m) (actor.Runs (takes shapes begun e.found)) x.is x.then refl refl refl (λ w is. cc) (count (omega (arith, drawn_is, falls))) (omega (arith, handed_none)) was c c led
+            balances (actor.Runs m) (actor.Runs (takes setup.shapes begun e.found)) (no_work (omega (arith, drawn_is, falls)) (omega (arith, handed_none))) c c led
             (omega (arith, drawn_is, bank_is, falls, lapsed_same))
             (subst (λ (i : ℕ). KnowsBank i (bank (e ∷ es)) c.lapsed c.stage) (sym lapsed_same) k)
 
       runs_through : Balanced (e ∷ es) c
-      runs_through = elim (processor_beside begun (asks begun) (writes.writes begun x.sound_then) (spend.draws begun x.sound_then x.busy)) [ inl q ↦ runs_beside q | inr d ↦ draws_on d ]
+      runs_through = elim (processor_beside begun (asks begun) (cited.writes.writes begun x.sound_then) (cited.spend.draws begun x.sound_then x.busy)) [ inl q ↦ runs_beside q | inr d ↦ draws_on d ]
 
     -- the coordinator's step
 
-    by_lead : (c : Coordinating) → seats.LeadsIt shapes l pacing may e es c → Balance (e ∷ es)
+    by_lead : (c : Coordinating) → seats.LeadsIt setup e es c → Balance (e ∷ es)
     by_lead c x d led = subst (Balanced (e ∷ es)) then (elim (lead_beside c c.stage) [ inl y ↦ going y | inr y ↦ clearing y ]) where
       then : coord.goes c e.found ≡ d
       then = let both : actor.Leads (coord.goes c e.found) ≡ actor.Leads d = sym x.then ∙ led in cc
@@ -270,7 +290,7 @@ module _ (shapes : List Shape) (l : Layout) (pacing : Pacing) (may : ℕ → Lis
       b = was c x.is
 
       fits : lapsed_in es + bank es < 2 ^ 64
-      fits = let e1 = b.earned in let e2 = b.scanned in let e3 = few es legal.0 in omega (arith, e1, e2, e3)
+      fits = let e1 = b.earned in let e2 = b.scanned in let e3 = cited.few es legal.0 in omega (arith, e1, e2, e3)
 
       was_at : who es e.actor ≡ actor.Leads c
       was_at = ap (who es) x.seat ∙ x.is
@@ -281,24 +301,25 @@ module _ (shapes : List Shape) (l : Layout) (pacing : Pacing) (may : ℕ → Lis
       going : IsBeside (coord.asks c) → Balanced (e ∷ es) (coord.goes c e.found)
       going y =
           let s = stays_by (coord.asks c) x.asked y in
-          let finds : coord.asks c ≡ Load cell.Bank → e.found ≡ bank es = λ is. x.found ∙ ap (λ (q : Ask). words shapes l pacing may es (cell_of q)) is in
+          let finds : coord.asks c ≡ Load cell.Bank → e.found ≡ bank es = λ is. x.found ∙ ap (λ (q : Ask). words setup es (cell_of q)) is in
           let not_clearing : IsClearing c.stage → ⊥ = λ z. subst IsBeside (asks_clearing c c.stage z) y in
           let k = lead_goes c (lapsed_in es) (bank es) e.found fits finds not_clearing x.busy b.knows in
-          balances (actor.Leads c) (actor.Leads (coord.goes c e.found)) was_at now_at refl refl refl (λ w is. cc) (let none = none_drawn s in omega (arith, none)) s.earned was c (coord.goes c e.found) x.is (all_same s) (known s (coord.goes c e.found) k)
+          let no_work : StepsWithoutWork (actor.Leads c) (actor.Leads (coord.goes c e.found)) = record { is = was_at; then = now_at; none = refl; none_then = refl; done = refl; not_marks = λ w is. cc; counts = (let none = none_drawn s in omega (arith, none)); earned_same = s.earned } in
+          balances (actor.Leads c) (actor.Leads (coord.goes c e.found)) no_work c (coord.goes c e.found) x.is (all_same s) (known s (coord.goes c e.found) k)
 
       clearing : IsClearing c.stage → Balanced (e ∷ es) (coord.goes c e.found)
       clearing y =
           let asks_is : e.ask ≡ Store cell.Bank 0 = x.asked ∙ asks_clearing c c.stage y in
-          let found_is : e.found ≡ bank es = x.found ∙ ap (λ (q : Ask). words shapes l pacing may es (cell_of q)) (asks_clearing c c.stage y) in
+          let found_is : e.found ≡ bank es = x.found ∙ ap (λ (q : Ask). words setup es (cell_of q)) (asks_clearing c c.stage y) in
           let k = lead_clears c (lapsed_in es) (bank es) e.found y b.knows in
           let lapsed_now : lapsed_by e.ask e.found ≡ bank es = ap (λ (q : Ask). lapsed_by q e.found) asks_is ∙ found_is in
-          let bank_now : bank (e ∷ es) ≡ 0 = ap (λ (q : Ask). effect (words shapes l pacing may es) q cell.Bank) asks_is in
+          let bank_now : bank (e ∷ es) ≡ 0 = ap (λ (q : Ask). effect (words setup es) q cell.Bank) asks_is in
           let earned_now : handed_by e.ask ≡ 0 = ap handed_by asks_is in
           let spent_now : drawn_by e.ask e.found ≡ 0 = ap (λ (q : Ask). drawn_by q e.found) asks_is in
           let a = b.earned in
           let drawn_none : spent_at (who (e ∷ es) e.actor) ≡ spent_at (who es e.actor) + drawn_by e.ask e.found = ap spent_at now_at ∙ sym (ap (λ (i : ℕ). 0 + i) spent_now) ∙ ap (λ (z : Actor). spent_at z + drawn_by e.ask e.found) (sym was_at) in
           let g = b.scanned in
-          let left = total_same (λ i. left_at (who es i)) (λ i. left_at (who (e ∷ es) i)) (seats_of l) (λ i lt. left_by i (e.actor == i) refl) in
+          let left = total_same (λ i. left_at (who es i)) (λ i. left_at (who (e ∷ es) i)) (seats_of setup.layout) (λ i lt. left_by i (e.actor == i) refl) in
           let done : done_by (who es e.actor) e.found ≡ 0 = ap (λ (z : Actor). done_by z e.found) was_at in
           record {
             earned = omega (arith, a, spent_now, lapsed_now, bank_now, earned_now);
@@ -312,51 +333,51 @@ module _ (shapes : List Shape) (l : Layout) (pacing : Pacing) (may : ℕ → Lis
           left_by i true e_is =
               let end : e.actor ≡ i = (let q = e_is in grind (arith, nat_tests)) in
               ap (λ (j : ℕ). left_at (who (e ∷ es) j)) (sym end) ∙ ap left_at now_at ∙ sym (ap (λ (j : ℕ). left_at (who es j)) (sym end) ∙ ap left_at was_at)
-          left_by i false e_is = ap left_at (other shapes l pacing e es i e_is)
+          left_by i false e_is = ap left_at (other setup e es i e_is)
 
           each_by : (i : ℕ) (w : Working) → who (e ∷ es) i ≡ actor.Marks w → (t : Bool) → (e.actor == i) ≡ t → w.earned ≤ earned_in es + handed_by e.ask
           each_by i w at_i true e_is = absurd (let end : e.actor ≡ i = (let q = e_is in grind (arith, nat_tests)) in let no : actor.Leads (coord.goes c e.found) ≡ actor.Marks w = sym now_at ∙ ap (who (e ∷ es)) end ∙ at_i in cc)
-          each_by i w at_i false e_is = let le = b.each i w (sym (other shapes l pacing e es i e_is) ∙ at_i) in omega (arith, le)
+          each_by i w at_i false e_is = let le = b.each i w (sym (other setup e es i e_is) ∙ at_i) in omega (arith, le)
 
     -- a worker's step
 
-    module _ (w : Working) (x : seats.WorksIt shapes l pacing may e es w) (c : Coordinating) (led : who es n ≡ actor.Leads c) where
+    module _ (w : Working) (x : seats.WorksIt setup e es w) (c : Coordinating) (led : who es n ≡ actor.Leads c) where
       wb : Balanced es c
       wb = was c led
 
-      scanned_now : scanned_in shapes l pacing (e ∷ es) ≡ scanned_in shapes l pacing es + words_done w.stage e.found
-      scanned_now = ap (λ (z : Actor). scanned_in shapes l pacing es + done_by z e.found) x.is
+      scanned_now : scanned_in setup (e ∷ es) ≡ scanned_in setup es + words_done w.stage e.found
+      scanned_now = ap (λ (z : Actor). scanned_in setup es + done_by z e.found) x.is
 
-      left_was : w.scan_work ≤ left_among (who es) (seats_of l)
-      left_was = subst (λ (z : Actor). left_at z ≤ left_among (who es) (seats_of l)) x.is (total_has (λ a. left_at (who es a)) (seats_of l) e.actor seat_of_it)
+      left_was : w.scan_work ≤ left_among (who es) (seats_of setup.layout)
+      left_was = subst (λ (z : Actor). left_at z ≤ left_among (who es) (seats_of setup.layout)) x.is (total_has (λ a. left_at (who es a)) (seats_of setup.layout) e.actor seat_of_it)
 
       earned_was : w.earned ≤ earned_in es
       earned_was = wb.each e.actor w x.is
 
       small : w.earned + w.scan_work + words_done w.stage e.found < 2 ^ 64
-      small = let a = wb.scanned in let d = scanned_now in let f = few (e ∷ es) legal in let g = left_was in let h = earned_was in omega (arith, a, d, f, g, h)
+      small = let a = wb.scanned in let d = scanned_now in let f = cited.few (e ∷ es) legal in let g = left_was in let h = earned_was in omega (arith, a, d, f, g, h)
 
-      left_now : left_among (who (e ∷ es)) (seats_of l) + w.scan_work ≡ left_among (who es) (seats_of l) + (worker.goes w e.found).scan_work
+      left_now : left_among (who (e ∷ es)) (seats_of setup.layout) + w.scan_work ≡ left_among (who es) (seats_of setup.layout) + (worker.goes w e.found).scan_work
       left_now =
-          let one = total_at (λ a. left_at (who es a)) (λ a. left_at (who (e ∷ es) a)) (seats_of l) e.actor seat_of_it (λ a lt ne. ap left_at (others a ne)) in
+          let one = total_at (λ a. left_at (who es a)) (λ a. left_at (who (e ∷ es) a)) (seats_of setup.layout) e.actor seat_of_it (λ a lt ne. ap left_at (others a ne)) in
           let two : left_at (who es e.actor) ≡ w.scan_work = ap left_at x.is in
           let three : left_at (who (e ∷ es) e.actor) ≡ (worker.goes w e.found).scan_work = ap left_at x.then in
           omega (arith, one, two, three)
 
       -- it draws nothing
-      drawn_same : drawn_by e.ask e.found ≡ 0 → spent_in (e ∷ es) ≡ spent_among (who (e ∷ es)) (seats_of l)
+      drawn_same : drawn_by e.ask e.found ≡ 0 → spent_in (e ∷ es) ≡ spent_among (who (e ∷ es)) (seats_of setup.layout)
       drawn_same none = drawn_then c wb (ap spent_at x.then ∙ sym (ap (λ (i : ℕ). 0 + i) none) ∙ ap (λ (z : Actor). spent_at z + drawn_by e.ask e.found) (sym x.is))
 
       handed : handed_by e.ask ≡ handed_by (worker.asks w)
       handed = ap handed_by x.asked
 
       earns_so : (worker.goes w e.found).earned ≡ w.earned + handed_by (worker.asks w)
-      earns_so = (earns.earns w e.found x.sound_it x.busy small).counts
+      earns_so = (cited.earns.earns w e.found x.sound_it x.busy small).counts
 
       counts_so : (worker.goes w e.found).earned + (worker.goes w e.found).scan_work ≡ w.earned + w.scan_work + words_done w.stage e.found
-      counts_so = (earns.earns w e.found x.sound_it x.busy small).keeps
+      counts_so = (cited.earns.earns w e.found x.sound_it x.busy small).keeps
 
-      scanned_then : scanned_in shapes l pacing (e ∷ es) ≡ earned_in (e ∷ es) + left_among (who (e ∷ es)) (seats_of l)
+      scanned_then : scanned_in setup (e ∷ es) ≡ earned_in (e ∷ es) + left_among (who (e ∷ es)) (seats_of setup.layout)
       scanned_then =
           let a = wb.scanned in
           let b = scanned_now in
@@ -378,7 +399,7 @@ module _ (shapes : List Shape) (l : Layout) (pacing : Pacing) (may : ℕ → Lis
             let g = earns_so in
             let i = handed in
             omega (arith, same, g, i, le)
-        go false e_is = let old = wb.each a v (sym (other shapes l pacing e es a e_is) ∙ at_a) in omega (arith, old)
+        go false e_is = let old = wb.each a v (sym (other setup e es a e_is) ∙ at_a) in omega (arith, old)
 
       -- not on the bank
       off_bank : (q : Ask) → worker.asks w ≡ q → IsBeside q → Balanced (e ∷ es) c
@@ -401,12 +422,12 @@ module _ (shapes : List Shape) (l : Layout) (pacing : Pacing) (may : ℕ → Lis
         ask_is = x.asked ∙ is
 
         runs : IsStopped c → ⊥
-        runs stopped = let no : Add cell.Bank more ≡ Load cell.Phase = sym ask_is ∙ ((phases (e ∷ es) legal).still e es c (inl refl) led stopped (let lt = x.seat in λ end. omega (arith, lt, end))).asks in cc
+        runs stopped = let no : Add cell.Bank more ≡ Load cell.Phase = sym ask_is ∙ ((cited.phases (e ∷ es) legal).still e es c (inl refl) led stopped (let lt = x.seat in λ end. omega (arith, lt, end))).asks in cc
 
         marks : leading.Marks c.stage
         marks = elim (marks_or_not c.stage) [
           | inl on ↦ on
-          | inr off ↦ absurd (let quiet : IsCalm w = rests es legal.0 c e.actor w led off x.is in subst (AcksAlone w.seat) is (calm.writes w x.sound_it quiet no_sweep x.busy))
+          | inr off ↦ absurd (let quiet : IsCalm w = cited.rests es legal.0 c e.actor w led off x.is in subst (AcksAlone w.seat) is (cited.calm.writes w x.sound_it quiet no_sweep x.busy))
         ]
 
         hands_over : Balanced (e ∷ es) c
@@ -414,9 +435,9 @@ module _ (shapes : List Shape) (l : Layout) (pacing : Pacing) (may : ℕ → Lis
             let k = may_add c.stage marks (λ phase stopped. runs (phase, stopped)) in
             let a = wb.earned in
             let now : handed_by e.ask ≡ more = ap handed_by ask_is in
-            let f = few (e ∷ es) legal in
+            let f = cited.few (e ∷ es) legal in
             let g = scanned_then in
-            let bank_now : bank (e ∷ es) ≡ bank es + more = ap (λ (q : Ask). effect (words shapes l pacing may es) q cell.Bank) ask_is ∙ omega (arith, a, now, f, g) in
+            let bank_now : bank (e ∷ es) ≡ bank es + more = ap (λ (q : Ask). effect (words setup es) q cell.Bank) ask_is ∙ omega (arith, a, now, f, g) in
             let lapsed_now : lapsed_by e.ask e.found ≡ 0 = ap (λ (q : Ask). lapsed_by q e.found) ask_is in
             let spent_now : drawn_by e.ask e.found ≡ 0 = ap (λ (q : Ask). drawn_by q e.found) ask_is in
             let lapsed_same : lapsed_in (e ∷ es) ≡ lapsed_in es = omega (arith, lapsed_now) in
@@ -430,45 +451,45 @@ module _ (shapes : List Shape) (l : Layout) (pacing : Pacing) (may : ℕ → Lis
 
       works_on : Balanced (e ∷ es) c
       works_on = elim (asks_by_sweep w w.stage) [
-        | inl none ↦ elim (worker_beside w.seat (worker.asks w) (works w x.sound_it none x.busy)) [
+        | inl none ↦ elim (worker_beside w.seat (worker.asks w) (cited.works w x.sound_it none x.busy)) [
           | inl y ↦ off_bank (worker.asks w) refl y
           | inr y ↦ hands_over y.0 y.1 none
         ]
         | inr y ↦ off_bank (sweep.asks y.0) y.1 (sweep_beside y.0 (y.0).stage)
       ]
 
-    by_step : seats.Step shapes l pacing may e es → Balance (e ∷ es)
+    by_step : seats.Step setup e es → Balance (e ∷ es)
     by_step (seats.by_processor m x same) = λ c led. runs_through m x c (sym same ∙ led)
     by_step (seats.by_worker w x same) = λ c led. works_on w x c (sym same ∙ led)
     by_step (seats.by_lead c x) = by_lead c x
 
-  balance : (es : List (Entry Op)) → Legal (those shapes l pacing may) es → Balance es
+  balance : (es : List (Entry Op)) → Legal (those setup) es → Balance es
   balance [] legal = first
-  balance (e ∷ es) legal = by_step e es legal (balance es legal.0) (seats.step shapes l pacing may e es writes legal (keeps es legal.0))
+  balance (e ∷ es) legal = by_step e es legal (balance es legal.0) (seats.step setup e es cited.writes legal (cited.keeps es legal.0))
 
   -- while no cycle is marked
-  module _ (es : List (Entry Op)) (legal : Legal (those shapes l pacing may) es) (c : Coordinating) (led : who es n ≡ actor.Leads c) (off : leading.Marks c.stage → ⊥) where
+  module _ (es : List (Entry Op)) (legal : Legal (those setup) es) (c : Coordinating) (led : who es n ≡ actor.Leads c) (off : leading.Marks c.stage → ⊥) where
     none_at : (a : ℕ) → left_at (who es a) ≡ 0
     none_at a = go (who es a) refl where
       go : (y : Actor) → who es a ≡ y → left_at y ≡ 0
       go (actor.Runs m) is = refl
       go (actor.Leads d) is = refl
-      go (actor.Marks w) is = let quiet : IsCalm w = rests es legal c a w led off is in quiet.handed
+      go (actor.Marks w) is = let quiet : IsCalm w = cited.rests es legal c a w led off is in quiet.handed
 
-    settled : IsSettled shapes l pacing may es c
+    settled : IsSettled setup es c
     settled =
         let b = balance es legal c led in
         let k = off_marks c.stage off (lapsed_in es) (bank es) c.lapsed b.knows in
-        record { none_left = total_none (λ a. left_at (who es a)) (seats_of l) (λ a lt. none_at a); empty = k.0; lapsed = k.1 }
+        record { none_left = total_none (λ a. left_at (who es a)) (seats_of setup.layout) (λ a lt. none_at a); empty = k.0; lapsed = k.1 }
 
-  pub stands : (es : List (Entry Op)) → Legal (those shapes l pacing may) es → CreditStands shapes l pacing may es
+  pub stands : (es : List (Entry Op)) → Legal (those setup) es → CreditStands setup es
   stands es legal =
-      let led = seats.led_by shapes l pacing may es in
+      let led = seats.led_by setup es in
       let b = balance es legal led.lead led.led_by in
       record {
         balanced = b.earned;
         scanned = b.scanned;
-        few = few es legal;
+        few = cited.few es legal;
         drawn = b.drawn;
         settled = λ c is off. settled es legal c is off;
       }

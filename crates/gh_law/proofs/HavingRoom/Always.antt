@@ -1,19 +1,20 @@
 -- At every moment: while a cycle is marked there is a buffer with room, and else all have.
-use Rattle.std.proofs.Common.{inl, inr, ℕ, Bool, refl, sym, subst, arith, List}
+use Rattle.std.proofs.Common.{inl, inr, ℕ, refl, sym, subst, arith, List}
 use Rattle.gh_room.specs.Room.{BuffersHaveRoom, HasRoom}
 use Rattle.gh_law.specs.Actors.{AllStands}
 use Rattle.gh_law.specs.Room.{RoomStands}
-use Rattle.gh_law.proofs.Vocabulary.{Entry, Layout, Op, Pacing, Shape, words}
+use Rattle.gh_law.proofs.Vocabulary.{Entry, Op, words}
 use Rattle.gh_lists.specs.Going.{led_then}
 use Rattle.gh_lists.specs.Leaving.{marks_or_not}
 use Rattle.gh_law.proofs.HavingRoom.Marked.{marked_has_room}
+use Rattle.gh_lists.specs.Handshake.{Setup}
 
 empty_has_room : HasRoom 0
 empty_has_room = record { free = refl; room = omega arith }
 
-module _ (law : BuffersHaveRoom) (shapes : List Shape) (l : Layout) (pacing : Pacing) (may : ℕ → List (Entry Op) → Op → Bool) (es : List (Entry Op)) (all : AllStands shapes l pacing may es) where
-  pub has_room : RoomStands l (words shapes l pacing may es)
-  has_room = let x = led_then shapes l pacing may es in elim (marks_or_not x.lead.stage) [
-    | inl on ↦ marked_has_room law shapes l pacing may es x.lead all x.led_by on
+module _ (law : BuffersHaveRoom) (setup : Setup) (es : List (Entry Op)) (all : AllStands setup es) where
+  pub has_room : RoomStands setup.layout (words setup es)
+  has_room = let x = led_then setup es in elim (marks_or_not x.lead.stage) [
+    | inl on ↦ marked_has_room law setup es x.lead all x.led_by on
     | inr off ↦ record { buffer = 0; there = omega arith; has = subst HasRoom (sym (all.phases.buffers x.lead x.led_by off 0)) empty_has_room }
   ]

@@ -10,15 +10,16 @@ use Rattle.gh_lists.specs.declared.handshake.Actor.TheVariants as actor
 use Rattle.gh_law.specs.Actors.{AllStands}
 use Rattle.gh_holds.specs.Below.{CycleIsDrawn}
 use Rattle.gh_law.specs.Room.{RoomStands}
-use Rattle.gh_law.proofs.Vocabulary.{acks_of, Actor, actors, Arena, Coordinating, Entry, Held, IsLed, Layout, Marking, nat_tests, Op, Pacing, processor_kind, Shape, state_of, words, Words}
+use Rattle.gh_law.proofs.Vocabulary.{acks_of, Actor, actors, Arena, Coordinating, Entry, Held, IsLed, Marking, nat_tests, Op, processor_kind, state_of, words, Words}
 use Rattle.gh_lists.specs.Seats.{IsSeated, seated}
 use Rattle.gh_law.proofs.HavingRoom.Hands.{processor_has, worker_has}
+use Rattle.gh_lists.specs.Handshake.{Setup}
 
 -- a buffered object is of the cycle
 is_shaded : (c : Colour) (b j : ℕ) → c ≡ Buffered b j → IsShaded c
 is_shaded c b j is = subst IsShaded (sym is) tt
 
-module _ (shapes : List Shape) (l : Layout) (pacing : Pacing) (may : ℕ → List (Entry Op) → Op → Bool) (es : List (Entry Op)) (c : Coordinating) (d : CycleIsDrawn shapes l pacing may es c) where
+module _ (setup : Setup) (es : List (Entry Op)) (c : Coordinating) (d : CycleIsDrawn setup es c) where
   abbrev s : Marking
   s = d.shared
 
@@ -35,14 +36,14 @@ module _ (shapes : List Shape) (l : Layout) (pacing : Pacing) (may : ℕ → Lis
   entered : (b j : ℕ) → j < grey.filled b → s.colour (object b j) ≡ Buffered b j
   entered b j lt = d.tied.of_heap.good.entries.entered b j (object b j) lt (names b j lt)
 
-  pages_are : d.cycle.arena.layout.pages ≡ l.pages
+  pages_are : d.cycle.arena.layout.pages ≡ setup.layout.pages
   pages_are = ap (λ (z : Arena). z.layout.pages) d.is.arena_is
 
   -- it lies in the heap
-  within : (b j : ℕ) → j < grey.filled b → grey.entries b j ≤ 1024 * l.pages
+  within : (b j : ℕ) → j < grey.filled b → grey.entries b j ≤ 1024 * setup.layout.pages
   within b j lt =
       let known = d.tied.of_heap.objects (object b j) (d.tied.of_heap.good.objects.shaded (object b j) (is_shaded (s.colour (object b j)) b j (entered b j lt))) in
-      let ends : object b j + s.extents.size (object b j) ≤ 1024 * l.pages = subst (λ (n : ℕ). object b j + s.extents.size (object b j) ≤ 1024 * n) pages_are known.within in
+      let ends : object b j + s.extents.size (object b j) ≤ 1024 * setup.layout.pages = subst (λ (n : ℕ). object b j + s.extents.size (object b j) ≤ 1024 * n) pages_are known.within in
       let some : 0 < s.extents.size (object b j) = known.some in
       let is = names b j lt in
       omega (arith, ends, some, is)
@@ -51,7 +52,7 @@ module _ (shapes : List Shape) (l : Layout) (pacing : Pacing) (may : ℕ → Lis
   both : (b j x k : ℕ) → j < grey.filled b → k < grey.filled x → grey.entries b j ≡ grey.entries x k → Buffered b j ≡ Buffered x k
   both b j x k of_b of_x same = sym (entered b j of_b) ∙ (ap (λ (e : ℕ). s.colour (e - 1)) same ∙ entered x k of_x)
 
-  distinct : AreDistinct (1024 * l.pages) grey
+  distinct : AreDistinct (1024 * setup.layout.pages) grey
   distinct = record {
     some = d.tied.of_heap.good.entries.some;
     within = within;
@@ -62,26 +63,26 @@ module _ (shapes : List Shape) (l : Layout) (pacing : Pacing) (may : ℕ → Lis
   abbrev Has : ℕ → Type 0
   Has a = (held : Option Held) × HoldsBuffer grey a held
 
-  works : (a : ℕ) → l.procs ≤ a → a < acks_of l → Has a
-  works a from below = go (state_of (actors shapes l pacing) a es) refl (seated shapes l pacing es a) where
-    go : (x : Actor) → state_of (actors shapes l pacing) a es ≡ x → IsSeated l a x → Has a
+  works : (a : ℕ) → setup.layout.procs ≤ a → a < acks_of setup.layout → Has a
+  works a from below = go (state_of (actors setup) a es) refl (seated setup es a) where
+    go : (x : Actor) → state_of (actors setup) a es ≡ x → IsSeated setup.layout a x → Has a
     go (actor.Runs m) is at = absurd (omega (arith, from, at))
     go (actor.Marks w) is at = worker_has d.cycle a s w (d.tied.workers a w below is)
-    go (actor.Leads y) is at = let le : acks_of l ≤ a = at.0 in absurd (omega (arith, below, le))
+    go (actor.Leads y) is at = let le : acks_of setup.layout ≤ a = at.0 in absurd (omega (arith, below, le))
 
-  each : (a : ℕ) → a < seats_of l → Has a
-  each a lt = go (ltb a l.procs) (ltb a (acks_of l)) refl refl where
-    go : (b t : Bool) → ltb a l.procs ≡ b → ltb a (acks_of l) ≡ t → Has a
-    go true t e f = processor_has d.cycle a s (state_of (processor_kind shapes l) a es) (d.tied.processors a (grind (arith, nat_tests, e)))
+  each : (a : ℕ) → a < seats_of setup.layout → Has a
+  each a lt = go (ltb a setup.layout.procs) (ltb a (acks_of setup.layout)) refl refl where
+    go : (b t : Bool) → ltb a setup.layout.procs ≡ b → ltb a (acks_of setup.layout) ≡ t → Has a
+    go true t e f = processor_has d.cycle a s (state_of (processor_kind setup.shapes setup.layout) a es) (d.tied.processors a (grind (arith, nat_tests, e)))
     go false true e f = works a (grind (arith, nat_tests, e)) (grind (arith, nat_tests, f))
     go false false e f = (_, (d.tied.others a (grind (arith, nat_tests, f))).holds)
 
-  of_seats : AreOfSeats (seats_of l) grey
+  of_seats : AreOfSeats (seats_of setup.layout) grey
   of_seats = record { each = each; others = λ a le. (d.tied.others a (omega (arith, le))).holds }
 
-  pub drawn_has_room : BuffersHaveRoom → RoomStands l (words shapes l pacing may es)
-  drawn_has_room law = let x = law l grey d.tied.of_heap.good.counts distinct of_seats in
+  pub drawn_has_room : BuffersHaveRoom → RoomStands setup.layout (words setup es)
+  drawn_has_room law = let x = law setup.layout grey d.tied.of_heap.good.counts distinct of_seats in
       record { buffer = x.buffer; there = x.there; has = subst (λ (w : Words). HasRoom (w (cell.Buffer x.buffer))) d.is.words_are x.has }
 
-pub marked_has_room : BuffersHaveRoom → (shapes : List Shape) (l : Layout) (pacing : Pacing) (may : ℕ → List (Entry Op) → Op → Bool) (es : List (Entry Op)) (c : Coordinating) → AllStands shapes l pacing may es → IsLed shapes l pacing may es c → leading.Marks c.stage → RoomStands l (words shapes l pacing may es)
-marked_has_room law shapes l pacing may es c all led on = drawn_has_room shapes l pacing may es c (all.drawn c led on) law
+pub marked_has_room : BuffersHaveRoom → (setup : Setup) (es : List (Entry Op)) (c : Coordinating) → AllStands setup es → IsLed setup es c → leading.Marks c.stage → RoomStands setup.layout (words setup es)
+marked_has_room law setup es c all led on = drawn_has_room setup es c (all.drawn c led on) law

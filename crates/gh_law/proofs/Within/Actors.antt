@@ -1,27 +1,25 @@
 -- The next step of each actor is on a word that there is: a processor's by its rights, a worker's and the coordinator's whatever was found.
-use Rattle.std.proofs.Common.{◌≡◌, ℕ, ◌<◌, ◌≤◌, Bool, refl, sym, ap, subst, ◌∙◌, List, Option, Some, None, arith}
+use Rattle.std.proofs.Common.{◌≡◌, ℕ, ◌<◌, ◌≤◌, refl, sym, ap, subst, ◌∙◌, List, Option, Some, None, arith}
 use Rattle.gh_coord.specs.Listing as coord
 use Rattle.gh_worker.specs.Listing as worker
 use Rattle.gh_lists.specs.declared.handshake.Actor.TheVariants as actor
 use Rattle.gh_law.specs.Actors.{StepsWithin}
 use Rattle.gh_lists.specs.Handshake as handshake
-use Rattle.gh_law.proofs.Vocabulary.{acks_of, Actor, actors, cell_of, Entry, HasState, InRange, IsInLimits, Kind, Layout, may_of, Op, Pacing, processor_at, Shape, ShapesAreGood, started, state_of}
-use Rattle.gh_holds.specs.Known.{Known}
+use Rattle.gh_law.proofs.Vocabulary.{acks_of, Actor, actors, cell_of, Entry, HasState, InRange, IsInLimits, Kind, Op, processor_at, ShapesAreGood, started, state_of}
+use Rattle.gh_holds.specs.Below.{Known}
 use Rattle.gh_lists.specs.Resting.{runs_are}
 use Rattle.gh_lists.specs.Seats.{IsSeated, run_started, seated}
 use Rattle.gh_law.proofs.Within.Leading.{lead_asks}
 use Rattle.gh_law.proofs.Within.Lists.{worker_step_within}
 use Rattle.gh_law.proofs.Within.Processors.{by_rights}
+use Rattle.gh_lists.specs.Lists.{Given, setup_for}
 
-module _ (shapes : List Shape) (l : Layout) (pacing : Pacing) (counts : ℕ → ℕ) (good : ShapesAreGood shapes) (limits : IsInLimits l) (known : Known) where
-  abbrev may : ℕ → List (Entry Op) → Op → Bool
-  may = may_of shapes l counts
-
+module _ (given : Given) (good : ShapesAreGood given.shapes) (limits : IsInLimits given.layout) (known : Known) where
   abbrev all : Kind Actor Op
-  all = actors shapes l pacing
+  all = actors (setup_for given)
 
   abbrev IsWithin : Actor → Type 0
-  IsWithin m = InRange l (cell_of (handshake.asks m))
+  IsWithin m = InRange given.layout (cell_of (handshake.asks m))
 
   -- only a processor begins an operation
   worker_begun : (o : Option Op) (w : worker.Working) → started all o (actor.Marks w) ≡ actor.Marks w
@@ -32,18 +30,18 @@ module _ (shapes : List Shape) (l : Layout) (pacing : Pacing) (counts : ℕ → 
   lead_begun None c = refl
   lead_begun (Some o) c = refl
 
-  pub steps_within : (es : List (Entry Op)) → HasState shapes l pacing may es → StepsWithin shapes l pacing may es
+  pub steps_within : (es : List (Entry Op)) → HasState (setup_for given) es → StepsWithin (setup_for given) es
   steps_within es has a o step = go (state_of all a es) refl where
     go : (m : Actor) → state_of all a es ≡ m → IsWithin (started all o (state_of all a es))
     go (actor.Runs m) is =
-        let seat : a < l.procs = subst (IsSeated l a) is (seated shapes l pacing es a) in
-        let own = ap (started all o) (runs_are shapes l pacing may es a seat) ∙ run_started shapes l pacing o (processor_at shapes l pacing may es a) in
-        subst IsWithin (sym own) (by_rights shapes l pacing counts good known es a o seat step.begins has)
+        let seat : a < given.layout.procs = subst (IsSeated given.layout a) is (seated (setup_for given) es a) in
+        let own = ap (started all o) (runs_are (setup_for given) es a seat) ∙ run_started (setup_for given) o (processor_at (setup_for given) es a) in
+        subst IsWithin (sym own) (by_rights given good known es a o seat step.begins has)
     go (actor.Marks w) is =
         let own = ap (started all o) is ∙ worker_begun o w in
-        subst IsWithin (sym own) (worker_step_within known.taking shapes l pacing may es limits a w is)
+        subst IsWithin (sym own) (worker_step_within known.taking (setup_for given) es limits a w is)
     go (actor.Leads c) is =
         let own = ap (started all o) is ∙ lead_begun o c in
-        let high : acks_of l ≤ a = (subst (IsSeated l a) is (seated shapes l pacing es a)).0 in
-        let last : a ≡ acks_of l = omega (arith, high, step.seat) in
-        subst IsWithin (sym own) (lead_asks shapes l pacing may limits es c (ap (λ (b : ℕ). state_of all b es) (sym last) ∙ is))
+        let high : acks_of given.layout ≤ a = (subst (IsSeated given.layout a) is (seated (setup_for given) es a)).0 in
+        let last : a ≡ acks_of given.layout = omega (arith, high, step.seat) in
+        subst IsWithin (sym own) (lead_asks (setup_for given) limits es c (ap (λ (b : ℕ). state_of all b es) (sym last) ∙ is))

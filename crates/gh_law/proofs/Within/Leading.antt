@@ -12,8 +12,8 @@ use Rattle.gh_mutator.specs.Processor.{opening_processor}
 use Rattle.gh_worker.specs.Listing as worker
 use Rattle.gh_lists.specs.declared.handshake.Actor.{Actor}
 use Rattle.gh_lists.specs.declared.handshake.Actor.TheVariants as actor
-use Rattle.gh_lists.specs.Handshake.{actors, Pacing, takes}
-use Rattle.gh_law.proofs.Vocabulary.{IsInLimits, IsLed, Op, Shape}
+use Rattle.gh_lists.specs.Handshake.{actors, takes, Setup}
+use Rattle.gh_law.proofs.Vocabulary.{IsInLimits, IsLed, Op}
 use Rattle.gh_law.proofs.Within.Coordinators.{first, FitsWhole, goes_on, within}
 
 -- where it is the coordinator
@@ -22,36 +22,36 @@ FitsLead l (actor.Runs m) = Unit {0}
 FitsLead l (actor.Marks w) = Unit {0}
 FitsLead l (actor.Leads c) = (c.layout ≡ l) × FitsWhole c
 
-module _ (shapes : List Shape) (l : Layout) (pacing : Pacing) (limits : IsInLimits l) where
+module _ (setup : Setup) (limits : IsInLimits setup.layout) where
   abbrev all : Kind Actor Op
-  all = actors shapes l pacing
+  all = actors setup
 
-  starts : (a : ℕ) (b d : Bool) → FitsLead l (cond b (actor.Runs (opening_processor l a)) (cond d (actor.Marks (worker.opening l a)) (actor.Leads (coord.opening l a pacing.gogc pacing.minheap pacing.room))))
+  starts : (a : ℕ) (b d : Bool) → FitsLead setup.layout (cond b (actor.Runs (opening_processor setup.layout a)) (cond d (actor.Marks (worker.opening setup.layout a)) (actor.Leads (coord.opening setup.layout a setup.pacing.gogc setup.pacing.minheap setup.pacing.room))))
   starts a true d = tt
   starts a false true = tt
-  starts a false false = (refl, first l a pacing.gogc pacing.minheap pacing.room limits)
+  starts a false false = (refl, first setup.layout a setup.pacing.gogc setup.pacing.minheap setup.pacing.room limits)
 
-  begun : (o : Option Op) (m : Actor) → FitsLead l m → FitsLead l (started all o m)
+  begun : (o : Option Op) (m : Actor) → FitsLead setup.layout m → FitsLead setup.layout (started all o m)
   begun None m f = f
   begun (Some o) (actor.Runs m) f = f
   begun (Some o) _ f = f
 
-  taken : (found : ℕ) (m : Actor) → FitsLead l m → FitsLead l (takes shapes m found)
+  taken : (found : ℕ) (m : Actor) → FitsLead setup.layout m → FitsLead setup.layout (takes setup.shapes m found)
   taken found (actor.Runs m) f = tt
   taken found (actor.Marks w) f = tt
   taken found (actor.Leads c) f = (stays c found ∙ f.0, goes_on c found f.1)
 
-  next : (e : Entry Op) (m : Actor) (b : Bool) → FitsLead l m → FitsLead l (cond b (takes shapes (started all e.begun m) e.found) m)
+  next : (e : Entry Op) (m : Actor) (b : Bool) → FitsLead setup.layout m → FitsLead setup.layout (cond b (takes setup.shapes (started all e.begun m) e.found) m)
   next e m true f = taken e.found (started all e.begun m) (begun e.begun m f)
   next e m false f = f
 
-  fits : (es : List (Entry Op)) (a : ℕ) → FitsLead l (state_of all a es)
-  fits [] a = starts a (ltb a l.procs) (ltb a (acks_of l))
+  fits : (es : List (Entry Op)) (a : ℕ) → FitsLead setup.layout (state_of all a es)
+  fits [] a = starts a (ltb a setup.layout.procs) (ltb a (acks_of setup.layout))
   fits (e ∷ es) a = next e (state_of all a es) (e.actor == a) (fits es a)
 
-module _ (shapes : List Shape) (l : Layout) (pacing : Pacing) (may : ℕ → List (Entry Op) → Op → Bool) (limits : IsInLimits l) (es : List (Entry Op)) (c : coord.Coordinating) (led : IsLed shapes l pacing may es c) where
-  pub lead_within : (c.layout ≡ l) × FitsWhole c
-  lead_within = subst (FitsLead l) led (fits shapes l pacing limits es (acks_of l))
+module _ (setup : Setup) (limits : IsInLimits setup.layout) (es : List (Entry Op)) (c : coord.Coordinating) (led : IsLed setup es c) where
+  pub lead_within : (c.layout ≡ setup.layout) × FitsWhole c
+  lead_within = subst (FitsLead setup.layout) led (fits setup limits es (acks_of setup.layout))
 
-  pub lead_asks : InRange l (cell_of (coord.asks c))
+  pub lead_asks : InRange setup.layout (cell_of (coord.asks c))
   lead_asks = subst (λ (k : Layout). InRange k (cell_of (coord.asks c))) lead_within.0 (within c lead_within.1)

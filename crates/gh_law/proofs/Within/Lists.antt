@@ -4,8 +4,8 @@ use Rattle.gh_assist.specs.Within.{TakingAndScanningAreWithin}
 use Rattle.gh_coord.specs.Listing as coord
 use Rattle.gh_worker.specs.Listing as worker
 use Rattle.gh_lists.specs.declared.handshake.Actor.TheVariants as actor
-use Rattle.gh_lists.specs.Handshake.{start, takes}
-use Rattle.gh_law.proofs.Vocabulary.{acks_of, Actor, actors, cell_of, Entry, InRange, IsInLimits, Kind, Layout, nat_tests, Op, opening_processor, Pacing, Shape, started, state_of, those, Working}
+use Rattle.gh_lists.specs.Handshake.{start, takes, Setup}
+use Rattle.gh_law.proofs.Vocabulary.{acks_of, Actor, actors, cell_of, Entry, InRange, IsInLimits, Kind, Layout, nat_tests, Op, opening_processor, started, state_of, those, Working}
 use Rattle.gh_lists.specs.Seats.{IsSeated, seated}
 use Rattle.gh_law.proofs.Within.Workers.{first, FitsWhole, goes_on, within}
 
@@ -14,15 +14,15 @@ IsFit (actor.Runs m) = Unit {0}
 IsFit (actor.Marks w) = FitsWhole w
 IsFit (actor.Leads c) = Unit {0}
 
-module _ (k : TakingAndScanningAreWithin) (shapes : List Shape) (l : Layout) (pacing : Pacing) (some : 1 ≤ l.pages) where
+module _ (k : TakingAndScanningAreWithin) (setup : Setup) (some : 1 ≤ setup.layout.pages) where
   abbrev all : Kind Actor Op
-  all = actors shapes l pacing
+  all = actors setup
 
-  opens : (a : ℕ) → IsFit (start l pacing a)
-  opens a = go (ltb a l.procs) (ltb a (acks_of l)) refl refl where
-    go : (b d : Bool) → ltb a l.procs ≡ b → ltb a (acks_of l) ≡ d → IsFit (cond b (actor.Runs (opening_processor l a)) (cond d (actor.Marks (worker.opening l a)) (actor.Leads (coord.opening l a pacing.gogc pacing.minheap pacing.room))))
+  opens : (a : ℕ) → IsFit (start setup.layout setup.pacing a)
+  opens a = go (ltb a setup.layout.procs) (ltb a (acks_of setup.layout)) refl refl where
+    go : (b d : Bool) → ltb a setup.layout.procs ≡ b → ltb a (acks_of setup.layout) ≡ d → IsFit (cond b (actor.Runs (opening_processor setup.layout a)) (cond d (actor.Marks (worker.opening setup.layout a)) (actor.Leads (coord.opening setup.layout a setup.pacing.gogc setup.pacing.minheap setup.pacing.room))))
     go true d e x = tt
-    go false true e x = first l a some (grind (arith, nat_tests, e)) (grind (arith, nat_tests, x))
+    go false true e x = first setup.layout a some (grind (arith, nat_tests, e)) (grind (arith, nat_tests, x))
     go false false e x = tt
 
   begun : (o : Option Op) (m : Actor) → IsFit m → IsFit (started all o m)
@@ -31,12 +31,12 @@ module _ (k : TakingAndScanningAreWithin) (shapes : List Shape) (l : Layout) (pa
   begun (Some o) (actor.Marks w) f = f
   begun (Some o) (actor.Leads c) f = tt
 
-  takes_fit : (found : ℕ) (m : Actor) → IsFit m → IsFit (takes shapes m found)
+  takes_fit : (found : ℕ) (m : Actor) → IsFit m → IsFit (takes setup.shapes m found)
   takes_fit found (actor.Runs m) f = tt
   takes_fit found (actor.Marks w) f = goes_on k w found f
   takes_fit found (actor.Leads c) f = tt
 
-  next : (e : Entry Op) (m : Actor) (b : Bool) → IsFit m → IsFit (cond b (takes shapes (started all e.begun m) e.found) m)
+  next : (e : Entry Op) (m : Actor) (b : Bool) → IsFit m → IsFit (cond b (takes setup.shapes (started all e.begun m) e.found) m)
   next e m true f = takes_fit e.found (started all e.begun m) (begun e.begun m f)
   next e m false f = f
 
@@ -44,15 +44,15 @@ module _ (k : TakingAndScanningAreWithin) (shapes : List Shape) (l : Layout) (pa
   fit_after [] a = opens a
   fit_after (e ∷ es) a = next e (state_of all a es) (e.actor == a) (fit_after es a)
 
-  pub fits_after : (es : List (Entry Op)) (a : ℕ) (w : Working) → state_of all a es ≡ actor.Marks w → (w.layout ≡ l) × FitsWhole w
-  fits_after es a w is = ((subst (λ (m : Actor). IsSeated l a m) is (seated shapes l pacing es a)).2, subst (λ (m : Actor). IsFit m) is (fit_after es a))
+  pub fits_after : (es : List (Entry Op)) (a : ℕ) (w : Working) → state_of all a es ≡ actor.Marks w → (w.layout ≡ setup.layout) × FitsWhole w
+  fits_after es a w is = ((subst (λ (m : Actor). IsSeated setup.layout a m) is (seated setup es a)).2, subst (λ (m : Actor). IsFit m) is (fit_after es a))
 
-pub worker_within : TakingAndScanningAreWithin → (shapes : List Shape) (l : Layout) (pacing : Pacing) (may : ℕ → List (Entry Op) → Op → Bool) (es : List (Entry Op)) → IsInLimits l → (a : ℕ) (w : Working) →
-    state_of (those shapes l pacing may).kind a es ≡ actor.Marks w → (w.layout ≡ l) × FitsWhole w
-worker_within k shapes l pacing may es limits a w is = fits_after k shapes l pacing (let e = limits.pages_fit.0 in omega (arith, e)) es a w is
+pub worker_within : TakingAndScanningAreWithin → (setup : Setup) (es : List (Entry Op)) → IsInLimits setup.layout → (a : ℕ) (w : Working) →
+    state_of (those setup).kind a es ≡ actor.Marks w → (w.layout ≡ setup.layout) × FitsWhole w
+worker_within k setup es limits a w is = fits_after k setup (let e = limits.pages_fit.0 in omega (arith, e)) es a w is
 
 -- so each step that a worker asks for is on a word of the heap
-pub worker_step_within : TakingAndScanningAreWithin → (shapes : List Shape) (l : Layout) (pacing : Pacing) (may : ℕ → List (Entry Op) → Op → Bool) (es : List (Entry Op)) → IsInLimits l → (a : ℕ) (w : Working) →
-    state_of (those shapes l pacing may).kind a es ≡ actor.Marks w → InRange l (cell_of (worker.asks w))
-worker_step_within k shapes l pacing may es limits a w is =
-    let whole = worker_within k shapes l pacing may es limits a w is in subst (λ (m : Layout). InRange m (cell_of (worker.asks w))) whole.0 (within k w whole.1)
+pub worker_step_within : TakingAndScanningAreWithin → (setup : Setup) (es : List (Entry Op)) → IsInLimits setup.layout → (a : ℕ) (w : Working) →
+    state_of (those setup).kind a es ≡ actor.Marks w → InRange setup.layout (cell_of (worker.asks w))
+worker_step_within k setup es limits a w is =
+    let whole = worker_within k setup es limits a w is in subst (λ (m : Layout). InRange m (cell_of (worker.asks w))) whole.0 (within k w whole.1)

@@ -7,13 +7,14 @@ use Rattle.gh_lists.specs.declared.handshake.Actor.TheVariants as actor
 use Rattle.gh_lists.specs.Numbers.{asked_in, asks_for_one}
 use Rattle.gh_lists.specs.Processors.{asked_by, asks_collector}
 use Rattle.gh_lists.specs.Wants.{AreFew, BeginsFew, CountsWants, last_at, MayAsk, opened_last, total}
-use Rattle.gh_lists.proofs.Vocabulary.{Actor, Ask, asked_after, Begins, bit, by, CoordStage, Entry, has_left_at, KeepsIt, Kind, Layout, Legal, LoadAck, LoadWant, nat_tests, Op, Open, opened_in, OpenStage, Pacing, Processor, processor_kind, ProcessorWritesItsOwn, Shape, started, Stop, WorkersWriteTheirOwn}
+use Rattle.gh_lists.proofs.Vocabulary.{Actor, Ask, asked_after, Begins, bit, by, CoordStage, Entry, has_left_at, KeepsIt, Kind, Legal, LoadAck, LoadWant, nat_tests, Op, Open, opened_in, OpenStage, Processor, processor_kind, ProcessorWritesItsOwn, started, Stop, WorkersWriteTheirOwn}
 use Rattle.gh_lists.specs.Seats.{other}
 use Rattle.gh_lists.proofs.CycleNumbers.Asking.{asked_once, begun_asks, left, most_asks}
 use Rattle.gh_lists.specs.Quiet.{worker_quiet}
 use Rattle.gh_lists.specs.Sums.{total_at, total_below, total_none, total_same}
 use Rattle.gh_lists.specs.Aside.{aside as lead_aside}
 use Rattle.gh_lists.specs.Steps as seats
+use Rattle.gh_lists.specs.Handshake.{Setup}
 
 -- how many cycles may be asked for by what has begun
 abbrev may_ask : Option Op → ℕ
@@ -46,18 +47,18 @@ last_few last (Stop st) = omega arith
 last_few last (Open o) = open_few last o.stage
 last_few last _ = bit_few last
 
-module _ (shapes : List Shape) (l : Layout) (pacing : Pacing) (may : ℕ → List (Entry Op) → Op → Bool)
+module _ (setup : Setup)
     (writes : ProcessorWritesItsOwn) (works : WorkersWriteTheirOwn)
-    (keeps : (es : List (Entry Op)) → Legal (seats.it shapes l pacing may) es → KeepsIt (seats.it shapes l pacing may) es)
-    (seat_of counts : ℕ → ℕ) (begins : BeginsFew l may seat_of counts) where
+    (keeps : (es : List (Entry Op)) → Legal (seats.it setup) es → KeepsIt (seats.it setup) es)
+    (seat_of counts : ℕ → ℕ) (begins : BeginsFew setup.layout setup.may seat_of counts) where
   abbrev k : Kind Processor Op
-  k = processor_kind shapes l
+  k = processor_kind setup.shapes setup.layout
 
   abbrev at : List (Entry Op) → ℕ → Actor
-  at es a = seats.at shapes l pacing may es a
+  at es a = seats.at setup es a
 
   abbrev Lawful : List (Entry Op) → Type 0
-  Lawful es = Legal (seats.it shapes l pacing may) es
+  Lawful es = Legal (seats.it setup) es
 
   -- What may still be asked for.
 
@@ -70,52 +71,52 @@ module _ (shapes : List Shape) (l : Layout) (pacing : Pacing) (may : ℕ → Lis
   left_at es a = left_of (at es a)
 
   abbrev left_in : List (Entry Op) → ℕ
-  left_in es = total (left_at es) l.procs
+  left_in es = total (left_at es) setup.layout.procs
 
-  first_left : (a : ℕ) → a < l.procs → left_at [] a ≡ 0
-  first_left a m = rw (ltb_so a l.procs m) refl where
+  first_left : (a : ℕ) → a < setup.layout.procs → left_at [] a ≡ 0
+  first_left a m = rw (ltb_so a setup.layout.procs m) refl where
     ltb_so : (a n : ℕ) → a < n → nat_lt a n ≡ true
     ltb_so a n m = grind (arith, nat_tests, m)
 
   module _ (e : Entry Op) (es : List (Entry Op)) (legal : Lawful (e ∷ es)) where
     stays : (a : ℕ) → e.actor ≢ a → left_at (e ∷ es) a ≡ left_at es a
-    stays a differs = ap left_of (other shapes l pacing e es a (grind (arith, nat_tests, differs)))
+    stays a differs = ap left_of (other setup e es a (grind (arith, nat_tests, differs)))
 
-    begun_left : (m : Processor) (o : Option Op) → at es e.actor ≡ actor.Runs m → Begins (seats.it shapes l pacing may) e.actor es o → left (started k o m) ≤ left m + may_ask o
+    begun_left : (m : Processor) (o : Option Op) → at es e.actor ≡ actor.Runs m → Begins (seats.it setup) e.actor es o → left (started k o m) ≤ left m + may_ask o
     begun_left m None is b = omega arith
-    begun_left m (Some o) is b = begun_asks shapes m o (has_left_at m.task)
+    begun_left m (Some o) is b = begun_asks setup.shapes m o (has_left_at m.task)
 
     -- no step of another asks for one
-    aside : l.procs ≤ e.actor → ((before : ℕ) → asked_after e.ask before ≡ before) → asked_in es + left_in es ≤ may_ask_in es → asked_in (e ∷ es) + left_in (e ∷ es) ≤ may_ask_in (e ∷ es)
+    aside : setup.layout.procs ≤ e.actor → ((before : ℕ) → asked_after e.ask before ≡ before) → asked_in es + left_in es ≤ may_ask_in es → asked_in (e ∷ es) + left_in (e ∷ es) ≤ may_ask_in (e ∷ es)
     aside from none h =
-        let same : left_in (e ∷ es) ≡ left_in es = total_same (left_at es) (left_at (e ∷ es)) l.procs (λ a m. stays a (λ x. omega (arith, from, m, x))) in
+        let same : left_in (e ∷ es) ≡ left_in es = total_same (left_at es) (left_at (e ∷ es)) setup.layout.procs (λ a m. stays a (λ x. omega (arith, from, m, x))) in
         let asked : asked_in (e ∷ es) ≡ asked_in es = none (asked_in es) in
         omega (arith, same, asked, h)
 
-    by_processor : (m : Processor) → seats.RunsIt shapes l pacing may e es m → asked_in es + left_in es ≤ may_ask_in es → asked_in (e ∷ es) + left_in (e ∷ es) ≤ may_ask_in (e ∷ es)
+    by_processor : (m : Processor) → seats.RunsIt setup e es m → asked_in es + left_in es ≤ may_ask_in es → asked_in (e ∷ es) + left_in (e ∷ es) ≤ may_ask_in (e ∷ es)
     by_processor m x h =
-        let moved : left_in (e ∷ es) + left_at es e.actor ≡ left_in es + left_at (e ∷ es) e.actor = total_at (left_at es) (left_at (e ∷ es)) l.procs e.actor x.seat (λ a lt differs. stays a (λ y. differs (sym y))) in
+        let moved : left_in (e ∷ es) + left_at es e.actor ≡ left_in es + left_at (e ∷ es) e.actor = total_at (left_at es) (left_at (e ∷ es)) setup.layout.procs e.actor x.seat (λ a lt differs. stays a (λ y. differs (sym y))) in
         let was : left_at es e.actor ≡ left m = ap left_of x.is in
         let now : left_at (e ∷ es) e.actor ≡ left (k.takes (started k e.begun m) e.found) = ap left_of x.then in
         let one = asked_is e.ask in
         let asked : asked_in (e ∷ es) ≡ one.0 + asked_in es = one.1 (asked_in es) in
-        let less : asked_after e.ask (left (k.takes (started k e.begun m) e.found)) ≤ left (started k e.begun m) = subst (λ (q : Ask). asked_after q (left (k.takes (started k e.begun m) e.found)) ≤ left (started k e.begun m)) (sym x.asked) (asked_once shapes (started k e.begun m) e.found (writes.writes (started k e.begun m) x.sound_then)) in
+        let less : asked_after e.ask (left (k.takes (started k e.begun m) e.found)) ≤ left (started k e.begun m) = subst (λ (q : Ask). asked_after q (left (k.takes (started k e.begun m) e.found)) ≤ left (started k e.begun m)) (sym x.asked) (asked_once setup.shapes (started k e.begun m) e.found (writes.writes (started k e.begun m) x.sound_then)) in
         let left_then : asked_after e.ask (left (k.takes (started k e.begun m) e.found)) ≡ one.0 + left (k.takes (started k e.begun m) e.found) = one.1 (left (k.takes (started k e.begun m) e.found)) in
         let more : left (started k e.begun m) ≤ left m + may_ask e.begun = begun_left m e.begun x.is legal.1.begins in
         omega (arith, moved, was, now, asked, less, left_then, more, h)
 
-    by_step : seats.Step shapes l pacing may e es → asked_in es + left_in es ≤ may_ask_in es → asked_in (e ∷ es) + left_in (e ∷ es) ≤ may_ask_in (e ∷ es)
+    by_step : seats.Step setup e es → asked_in es + left_in es ≤ may_ask_in es → asked_in (e ∷ es) + left_in (e ∷ es) ≤ may_ask_in (e ∷ es)
     by_step (seats.by_processor m x s) h = by_processor m x h
-    by_step (seats.by_worker w x s) h = aside x.from (λ n. ap (λ (q : Ask). asked_after q n) x.asked ∙ (worker_quiet (seats.words shapes l pacing may es) works w x.sound_it x.busy).asks_none n) h
-    by_step (seats.by_lead c x) h = aside (let seat = x.seat in omega (arith, seat)) (λ n. ap (λ (q : Ask). asked_after q n) x.asked ∙ (lead_aside (seats.words shapes l pacing may es) c c.stage x.sound_it.1).asks_none n) h
+    by_step (seats.by_worker w x s) h = aside x.from (λ n. ap (λ (q : Ask). asked_after q n) x.asked ∙ (worker_quiet (seats.words setup es) works w x.sound_it x.busy).asks_none n) h
+    by_step (seats.by_lead c x) h = aside (let seat = x.seat in omega (arith, seat)) (λ n. ap (λ (q : Ask). asked_after q n) x.asked ∙ (lead_aside (seats.words setup es) c c.stage x.sound_it.1).asks_none n) h
 
   asked_few : (es : List (Entry Op)) → Lawful es → asked_in es + left_in es ≤ may_ask_in es
-  asked_few [] legal = let none = total_none (left_at []) l.procs first_left in omega (arith, none)
-  asked_few (e ∷ es) legal = by_step e es legal (seats.step shapes l pacing may e es writes legal (keeps es legal.0)) (asked_few es legal.0)
+  asked_few [] legal = let none = total_none (left_at []) setup.layout.procs first_left in omega (arith, none)
+  asked_few (e ∷ es) legal = by_step e es legal (seats.step setup e es writes legal (keeps es legal.0)) (asked_few es legal.0)
 
   -- Which statements have begun.
 
-  may_so : (a : ℕ) (es : List (Entry Op)) (o : Option Op) (g : ℕ) → Begins (seats.it shapes l pacing may) a es o → asks_collector g o ≡ true → MayAsk seat_of counts l.goroutines a (by a es) g
+  may_so : (a : ℕ) (es : List (Entry Op)) (o : Option Op) (g : ℕ) → Begins (seats.it setup) a es o → asks_collector g o ≡ true → MayAsk seat_of counts setup.layout.goroutines a (by a es) g
   may_so a es None g b h = absurd cc
   may_so a es (Some o) g b h = begins.few a (by a es) o g b.1 h
 
@@ -127,7 +128,7 @@ module _ (shapes : List Shape) (l : Layout) (pacing : Pacing) (may : ℕ → Lis
     go rest false true x y = absurd (let of : seat_of g ≡ e.actor = (may_so e.actor es e.begun g legal.1.begins y).of in grind (arith, nat_tests, x, of))
     go rest false false x y = rw y (omega (arith, rest))
 
-  within_counts : (es : List (Entry Op)) (g : ℕ) → g < l.goroutines → Lawful es → asked_by g es ≤ counts g
+  within_counts : (es : List (Entry Op)) (g : ℕ) → g < setup.layout.goroutines → Lawful es → asked_by g es ≤ counts g
   within_counts [] g m legal = omega arith
   within_counts (e ∷ es) g m legal = go (within_counts es g m legal.0) (asks_collector g e.begun) refl where
     go : asked_by g es ≤ counts g → (d : Bool) → asks_collector g e.begun ≡ d → cond d 1 0 + asked_by g es ≤ counts g
@@ -142,9 +143,9 @@ module _ (shapes : List Shape) (l : Layout) (pacing : Pacing) (may : ℕ → Lis
   begun_by es g = asked_by g es
 
   -- one more of this goroutine, or none
-  one_of : (es : List (Entry Op)) (g : ℕ) → g < l.goroutines → total (λ h. cond (g == h) 1 0 + asked_by h es) l.goroutines ≡ 1 + total (begun_by es) l.goroutines
+  one_of : (es : List (Entry Op)) (g : ℕ) → g < setup.layout.goroutines → total (λ h. cond (g == h) 1 0 + asked_by h es) setup.layout.goroutines ≡ 1 + total (begun_by es) setup.layout.goroutines
   one_of es g m =
-      let moved = total_at (begun_by es) (λ h. cond (g == h) 1 0 + asked_by h es) l.goroutines g m (λ i lt differs. other_one i (λ y. differs (sym y))) in
+      let moved = total_at (begun_by es) (λ h. cond (g == h) 1 0 + asked_by h es) setup.layout.goroutines g m (λ i lt differs. other_one i (λ y. differs (sym y))) in
       let here : cond (g == g) 1 0 + asked_by g es ≡ 1 + asked_by g es = this_one (g == g) (grind (arith, nat_tests)) in
       omega (arith, moved, here)
     where
@@ -155,30 +156,30 @@ module _ (shapes : List Shape) (l : Layout) (pacing : Pacing) (may : ℕ → Lis
       this_one true e = refl
       this_one false e = absurd cc
 
-  none_of : (es : List (Entry Op)) → total (λ h. 0 + asked_by h es) l.goroutines ≡ 0 + total (begun_by es) l.goroutines
-  none_of es = let same = total_same (begun_by es) (λ h. 0 + asked_by h es) l.goroutines (λ i m. omega arith) in omega (arith, same)
+  none_of : (es : List (Entry Op)) → total (λ h. 0 + asked_by h es) setup.layout.goroutines ≡ 0 + total (begun_by es) setup.layout.goroutines
+  none_of es = let same = total_same (begun_by es) (λ h. 0 + asked_by h es) setup.layout.goroutines (λ i m. omega arith) in omega (arith, same)
 
-  begun_so : (e : Entry Op) (es : List (Entry Op)) (o : Option Op) → Begins (seats.it shapes l pacing may) e.actor es o → may_ask o + 2 * total (begun_by es) l.goroutines ≤ 2 * total (λ h. cond (asks_collector h o) 1 0 + asked_by h es) l.goroutines
+  begun_so : (e : Entry Op) (es : List (Entry Op)) (o : Option Op) → Begins (seats.it setup) e.actor es o → may_ask o + 2 * total (begun_by es) setup.layout.goroutines ≤ 2 * total (λ h. cond (asks_collector h o) 1 0 + asked_by h es) setup.layout.goroutines
   begun_so e es (Some (op.New g d t)) b = let one = one_of es g (may_so e.actor es (Some (op.New g d t)) g b (grind (arith, nat_tests))).there in omega (arith, one)
   begun_so e es (Some (op.Gc g)) b = let one = one_of es g (may_so e.actor es (Some (op.Gc g)) g b (grind (arith, nat_tests))).there in omega (arith, one)
   begun_so e es _ b = let none = none_of es in omega (arith, none)
 
-  begun_all : (es : List (Entry Op)) → Lawful es → may_ask_in es ≤ 2 * total (begun_by es) l.goroutines
+  begun_all : (es : List (Entry Op)) → Lawful es → may_ask_in es ≤ 2 * total (begun_by es) setup.layout.goroutines
   begun_all [] legal = omega arith
   begun_all (e ∷ es) legal = let now = begun_so e es e.begun legal.1.begins in let rest = begun_all es legal.0 in omega (arith, now, rest)
 
-  pub few : (wants : (es : List (Entry Op)) (c : coord.Coordinating) → Lawful es → at es (seats.n shapes l pacing may) ≡ actor.Leads c → CountsWants (seats.it shapes l pacing may) es c) → (es : List (Entry Op)) → Lawful es → AreFew counts l es
+  pub few : (wants : (es : List (Entry Op)) (c : coord.Coordinating) → Lawful es → at es (seats.n setup) ≡ actor.Leads c → CountsWants (seats.it setup) es c) → (es : List (Entry Op)) → Lawful es → AreFew counts setup.layout es
   few wants es legal = record { asked = asked; opened = opened; few = let most = begins.counts_fit in omega (arith, most, opened) } where
-    asked : asked_in es ≤ 2 * total counts l.goroutines
+    asked : asked_in es ≤ 2 * total counts setup.layout.goroutines
     asked =
         let first = asked_few es legal in
         let second = begun_all es legal in
-        let third = total_below (begun_by es) counts l.goroutines (λ g m. within_counts es g m legal) in
+        let third = total_below (begun_by es) counts setup.layout.goroutines (λ g m. within_counts es g m legal) in
         omega (arith, first, second, third)
 
-    opened : opened_in es ≤ 2 * total counts l.goroutines + 1
+    opened : opened_in es ≤ 2 * total counts setup.layout.goroutines + 1
     opened =
-        let b = seats.led_by shapes l pacing may es in
+        let b = seats.led_by setup es in
         let w = (wants es b.lead legal b.led_by).enough in
         let last = last_few b.lead.is_last b.lead.stage in
         omega (arith, asked, w, last)

@@ -1,5 +1,5 @@
 -- The numbers of cycles after every legal list.
-use Rattle.std.proofs.Common.{◌≡◌, ℕ, ◌+◌, ◌*◌, ◌⊎◌, inl, inr, Bool, true, refl, sym, subst, ◌∙◌, arith, List, [], ◌∷◌}
+use Rattle.std.proofs.Common.{◌≡◌, ℕ, ◌+◌, ◌*◌, ◌⊎◌, inl, inr, true, refl, sym, subst, ◌∙◌, arith, List, [], ◌∷◌}
 use Rattle.gh_coord.specs.declared.close.CloseStage.TheVariants as close_stage
 use Rattle.gh_coord.specs.declared.open.OpenStage.TheVariants as open_stage
 use Rattle.gh_coord.specs.declared.tell.TellStage.TheVariants as tell_stage
@@ -8,9 +8,9 @@ use Rattle.gh_coord.specs.Opening as opens_by
 use Rattle.gh_coord.specs.Handshake as leading
 use Rattle.gh_coord.specs.Listing as coord
 use Rattle.gh_lists.specs.declared.handshake.Actor.TheVariants as actor
-use Rattle.gh_lists.specs.Handshake.{Sound}
+use Rattle.gh_lists.specs.Handshake.{Sound, Setup}
 use Rattle.gh_lists.specs.Numbers.{open_part, tell_part}
-use Rattle.gh_lists.proofs.Vocabulary.{ahead_at, Ask, Check, Close, close_part, CloseStage, CoordStage, Count, CountsCycles, effect, Entry, generation_of, IsBeginning, IsFew, KeepsIt, Kind, Layout, Legal, MarkOn, Op, Open, opened_after, opened_in, OpenStage, Pacing, Part, part_of, Processor, processor_kind, ProcessorWritesItsOwn, Shape, started, StopAgain, Sweep, Tell, TellStage, Watch, WorkersWriteTheirOwn, ◌↔◌}
+use Rattle.gh_lists.proofs.Vocabulary.{ahead_at, Ask, Check, Close, close_part, CloseStage, CoordStage, Count, CountsCycles, effect, Entry, generation_of, IsBeginning, IsFew, KeepsIt, Kind, Legal, MarkOn, Op, Open, opened_after, opened_in, OpenStage, Part, part_of, Processor, processor_kind, ProcessorWritesItsOwn, started, StopAgain, Sweep, Tell, TellStage, Watch, WorkersWriteTheirOwn, ◌↔◌}
 use Rattle.gh_lists.specs.Frames.{Leaves, leaves, Numbers, numbers_of}
 use Rattle.gh_lists.proofs.CycleNumbers.Leading.{goes_so, Is}
 use Rattle.gh_lists.specs.Quiet.{leaves_all, worker_quiet}
@@ -65,23 +65,23 @@ module _ (swept begun gen : ℕ) where
   marked c (Tell t) s h = tell_marked t.stage h
   marked c _ s h = alike 0 h.0 h.1 neither
 
-module _ (shapes : List Shape) (l : Layout) (pacing : Pacing) (may : ℕ → List (Entry Op) → Op → Bool)
+module _ (setup : Setup)
     (writes : ProcessorWritesItsOwn) (works : WorkersWriteTheirOwn)
-    (keeps : (es : List (Entry Op)) → Legal (seats.it shapes l pacing may) es → KeepsIt (seats.it shapes l pacing may) es) where
+    (keeps : (es : List (Entry Op)) → Legal (seats.it setup) es → KeepsIt (seats.it setup) es) where
   abbrev k : Kind Processor Op
-  k = processor_kind shapes l
+  k = processor_kind setup.shapes setup.layout
 
   abbrev Led : List (Entry Op) → coord.Coordinating → Type 0
-  Led es c = seats.at shapes l pacing may es (seats.n shapes l pacing may) ≡ actor.Leads c
+  Led es c = seats.at setup es (seats.n setup) ≡ actor.Leads c
 
   abbrev told : List (Entry Op) → Numbers
-  told es = numbers_of (seats.words shapes l pacing may es)
+  told es = numbers_of (seats.words setup es)
 
   abbrev Holds : List (Entry Op) → coord.Coordinating → Type 0
-  Holds es c = Is pacing.room (opened_in es) (told es) c c.stage
+  Holds es c = Is setup.pacing.room (opened_in es) (told es) c c.stage
 
   at_first : (c : coord.Coordinating) → Led [] c → Holds [] c
-  at_first c led = subst (λ (x : coord.Coordinating). Holds [] x) (sym (seats.first_lead shapes l pacing may c led)) (record {
+  at_first c led = subst (λ (x : coord.Coordinating). Holds [] x) (sym (seats.first_lead setup c led)) (record {
     at = record {
       opened_is = omega arith;
       begun_is = omega arith;
@@ -98,32 +98,32 @@ module _ (shapes : List Shape) (l : Layout) (pacing : Pacing) (may : ℕ → Lis
     few_before : IsFew (e ∷ es) → IsFew es
     few_before few = let up = rises e.ask (opened_in es) in omega (arith, few, up)
 
-    beside : Leaves (seats.words shapes l pacing may es) e.ask → (c : coord.Coordinating) → Holds es c → Holds (e ∷ es) c
+    beside : Leaves (seats.words setup es) e.ask → (c : coord.Coordinating) → Holds es c → Holds (e ∷ es) c
     beside x c h = rw (x.opens_none (opened_in es), x.numbers) h
 
-    by_lead : (c to : coord.Coordinating) → seats.LeadsIt shapes l pacing may e es c → to ≡ coord.goes c e.found → IsFew es → Holds es c → Holds (e ∷ es) to
+    by_lead : (c to : coord.Coordinating) → seats.LeadsIt setup e es c → to ≡ coord.goes c e.found → IsFew es → Holds es c → Holds (e ∷ es) to
     by_lead c to x then few h =
-        let next = goes_so pacing.room (opened_in es) (seats.words shapes l pacing may es) c (coord.counted c).marks c.stage e.found x.sound_it.1 few x.busy x.found h in
-        subst (λ (y : coord.Coordinating). Holds (e ∷ es) y) (sym then) (subst (λ (q : Ask). Is pacing.room (opened_after q (opened_in es)) (numbers_of (effect (seats.words shapes l pacing may es) q)) (coord.goes c e.found) (coord.goes c e.found).stage) (sym x.asked) next)
+        let next = goes_so setup.pacing.room (opened_in es) (seats.words setup es) c (coord.counted c).marks c.stage e.found x.sound_it.1 few x.busy x.found h in
+        subst (λ (y : coord.Coordinating). Holds (e ∷ es) y) (sym then) (subst (λ (q : Ask). Is setup.pacing.room (opened_after q (opened_in es)) (numbers_of (effect (seats.words setup es) q)) (coord.goes c e.found) (coord.goes c e.found).stage) (sym x.asked) next)
 
-    by_step : seats.Step shapes l pacing may e es → IsFew (e ∷ es) → ((c : coord.Coordinating) → Led es c → Holds es c) → (c : coord.Coordinating) → Led (e ∷ es) c → Holds (e ∷ es) c
+    by_step : seats.Step setup e es → IsFew (e ∷ es) → ((c : coord.Coordinating) → Led es c → Holds es c) → (c : coord.Coordinating) → Led (e ∷ es) c → Holds (e ∷ es) c
     by_step (seats.by_processor m x stays) few before c led =
-        let free = subst (λ (q : Ask). Leaves (seats.words shapes l pacing may es) q) (sym x.asked) (leaves (seats.words shapes l pacing may es) _ (leaves_numbers writes (started k e.begun m) x.sound_then)) in
+        let free = subst (λ (q : Ask). Leaves (seats.words setup es) q) (sym x.asked) (leaves (seats.words setup es) _ (leaves_numbers writes (started k e.begun m) x.sound_then)) in
         beside free c (before c (sym stays ∙ led))
     by_step (seats.by_worker w x stays) few before c led =
-        let free = subst (λ (q : Ask). Leaves (seats.words shapes l pacing may es) q) (sym x.asked) (leaves_all (seats.words shapes l pacing may es) _ (worker_quiet (seats.words shapes l pacing may es) works w x.sound_it x.busy)) in
+        let free = subst (λ (q : Ask). Leaves (seats.words setup es) q) (sym x.asked) (leaves_all (seats.words setup es) _ (worker_quiet (seats.words setup es) works w x.sound_it x.busy)) in
         beside free c (before c (sym stays ∙ led))
     by_step (seats.by_lead b x) few before c led =
         by_lead b c x (let both : actor.Leads c ≡ actor.Leads (coord.goes b e.found) = sym led ∙ x.then in cc) (few_before few) (before b x.is)
 
-  pub holds : (es : List (Entry Op)) → Legal (seats.it shapes l pacing may) es → IsFew es → (c : coord.Coordinating) → Led es c → Holds es c
+  pub holds : (es : List (Entry Op)) → Legal (seats.it setup) es → IsFew es → (c : coord.Coordinating) → Led es c → Holds es c
   holds [] legal few c led = at_first c led
-  holds (e ∷ es) legal few c led = by_step e es (seats.step shapes l pacing may e es writes legal (keeps es legal.0)) few (λ x was. holds es legal.0 (few_before e es few) x was) c led
+  holds (e ∷ es) legal few c led = by_step e es (seats.step setup e es writes legal (keeps es legal.0)) few (λ x was. holds es legal.0 (few_before e es few) x was) c led
 
-  lead_sound : (es : List (Entry Op)) (c : coord.Coordinating) → Legal (seats.it shapes l pacing may) es → Led es c → leading.Sound c
-  lead_sound es c legal led = (subst (Sound l) led ((keeps es legal).shakes.all_sound (seats.n shapes l pacing may) (omega arith))).1
+  lead_sound : (es : List (Entry Op)) (c : coord.Coordinating) → Legal (seats.it setup) es → Led es c → leading.Sound c
+  lead_sound es c legal led = (subst (Sound setup.layout) led ((keeps es legal).shakes.all_sound (seats.n setup) (omega arith))).1
 
-  pub counts : (es : List (Entry Op)) (c : coord.Coordinating) → Legal (seats.it shapes l pacing may) es → IsFew es → Led es c → CountsCycles (seats.it shapes l pacing may) pacing.room es c
+  pub counts : (es : List (Entry Op)) (c : coord.Coordinating) → Legal (seats.it setup) es → IsFew es → Led es c → CountsCycles (seats.it setup) setup.pacing.room es c
   counts es c legal few led = let s = lead_sound es c legal led in let h = (holds es legal few c led).at in record {
     opened = h.opened_is;
     begun = h.begun_is;

@@ -8,11 +8,12 @@ use Rattle.gh_coord.specs.declared.open.OpenStage.TheVariants as open_stage
 use Rattle.gh_coord.specs.declared.tell.TellStage.TheVariants as tell_stage
 use Rattle.gh_lists.specs.Counts.{about_to_tell, CountsPlainly, stored_after, stored_in, stores, told_by}
 use Rattle.gh_lists.specs.Numbers.{close_part, KeepsCycles, open_part, tell_part}
-use Rattle.gh_lists.proofs.Vocabulary.{ahead_at, Ask, Cell, Close, CloseStage, CoordStage, Coordinating, CountsCycles, effect, Entry, IsFew, KeepsIt, Layout, Legal, Op, Open, opened_in, OpenStage, Outside, Pacing, Part, part_of, ProcessorWritesItsOwn, Shape, Tell, TellStage, Words, WorkersWriteTheirOwn}
+use Rattle.gh_lists.proofs.Vocabulary.{ahead_at, Ask, Cell, Close, CloseStage, CoordStage, Coordinating, CountsCycles, effect, Entry, IsFew, KeepsIt, Legal, Op, Open, opened_in, OpenStage, Outside, Part, part_of, ProcessorWritesItsOwn, Tell, TellStage, Words, WorkersWriteTheirOwn}
 use Rattle.gh_lists.proofs.Changes.{change}
 use Rattle.gh_lists.specs.Changes.{begins, Change, ends, same, tells}
 use Rattle.gh_lists.specs.Counting.{rises, opened_in_stored}
 use Rattle.gh_lists.specs.Steps as seats
+use Rattle.gh_lists.specs.Handshake.{Setup}
 
 -- what leaves a word whatever it is does not store it
 not_stored : (ask : Ask) (c : Cell) → ((w : Words) → effect w ask c ≡ w c) → stores c ask ≡ false
@@ -60,11 +61,11 @@ kept_at (Close c) = close_kept c.stage
 kept_at (Tell t) = tell_kept t.stage
 kept_at _ = refl
 
-module _ (shapes : List Shape) (l : Layout) (pacing : Pacing) (may : ℕ → List (Entry Op) → Op → Bool)
+module _ (setup : Setup)
     (writes : ProcessorWritesItsOwn) (works : WorkersWriteTheirOwn)
-    (keeps : (es : List (Entry Op)) → Legal (seats.it shapes l pacing may) es → KeepsIt (seats.it shapes l pacing may) es) where
+    (keeps : (es : List (Entry Op)) → Legal (seats.it setup) es → KeepsIt (seats.it setup) es) where
   abbrev told : List (Entry Op) → Words
-  told es = seats.words shapes l pacing may es
+  told es = seats.words setup es
 
   record Stored (words : Words) (begun gen swept : ℕ) : Type 0 where
     begun_is : words cell.Begun ≡ begun
@@ -77,7 +78,7 @@ module _ (shapes : List Shape) (l : Layout) (pacing : Pacing) (may : ℕ → Lis
   abbrev After : List (Entry Op) → Ask → Type 0
   After es q = Stored (effect (told es) q) (stored_after cell.Begun q (stored_in cell.Begun es)) (stored_after cell.Gen q (stored_in cell.Gen es)) (stored_after cell.Swept q (stored_in cell.Swept es))
 
-  one_more : (e : Entry Op) (es : List (Entry Op)) → Change shapes l pacing may e es → StoredIn es → StoredIn (e ∷ es)
+  one_more : (e : Entry Op) (es : List (Entry Op)) → Change setup e es → StoredIn es → StoredIn (e ∷ es)
   one_more e es (same y) h = rw (not_stored e.ask cell.Begun y.begun, not_stored e.ask cell.Gen y.gen, not_stored e.ask cell.Swept y.swept) (record {
     begun_is = let s = y.begun (told es) in let b = h.begun_is in omega (arith, s, b);
     gen_is = let s = y.gen (told es) in let b = h.gen_is in omega (arith, s, b);
@@ -90,11 +91,11 @@ module _ (shapes : List Shape) (l : Layout) (pacing : Pacing) (may : ℕ → Lis
   few_before : (e : Entry Op) (es : List (Entry Op)) → IsFew (e ∷ es) → IsFew es
   few_before e es few = let up = rises e.ask (opened_in es) in omega (arith, few, up)
 
-  stored : (es : List (Entry Op)) → Legal (seats.it shapes l pacing may) es → IsFew es → StoredIn es
+  stored : (es : List (Entry Op)) → Legal (seats.it setup) es → IsFew es → StoredIn es
   stored [] legal few = record { begun_is = refl; gen_is = refl; swept_is = refl }
-  stored (e ∷ es) legal few = let rest = few_before e es few in one_more e es (change shapes l pacing may writes works keeps e es legal rest) (stored es legal.0 rest)
+  stored (e ∷ es) legal few = let rest = few_before e es few in one_more e es (change setup writes works keeps e es legal rest) (stored es legal.0 rest)
 
-  pub plainly : (es : List (Entry Op)) (c : Coordinating) → Legal (seats.it shapes l pacing may) es → IsFew es → CountsCycles (seats.it shapes l pacing may) pacing.room es c → CountsPlainly (seats.it shapes l pacing may) pacing.room es c
+  pub plainly : (es : List (Entry Op)) (c : Coordinating) → Legal (seats.it setup) es → IsFew es → CountsCycles (seats.it setup) setup.pacing.room es c → CountsPlainly (seats.it setup) setup.pacing.room es c
   plainly es c legal few h =
       let s = stored es legal few in
       let turn = in_turn (part_of c.stage) in
@@ -117,5 +118,5 @@ module _ (shapes : List Shape) (l : Layout) (pacing : Pacing) (may : ℕ → Lis
           λ x. h.marks.0 (omega (arith, x, begun, gen)),
           λ x. let y = h.marks.1 x in omega (arith, y, begun, gen),
         );
-        kept = subst (λ (n : ℕ). KeepsCycles pacing.room n c.cycles) (let k = kept_at c.stage in omega (arith, k, swept)) h.cycles;
+        kept = subst (λ (n : ℕ). KeepsCycles setup.pacing.room n c.cycles) (let k = kept_at c.stage in omega (arith, k, swept)) h.cycles;
       }

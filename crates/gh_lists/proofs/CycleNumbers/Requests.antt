@@ -6,12 +6,13 @@ use Rattle.gh_coord.specs.Listing as coord
 use Rattle.gh_lists.specs.declared.handshake.Actor.TheVariants as actor
 use Rattle.gh_lists.specs.Numbers.{asked_in}
 use Rattle.gh_lists.specs.Wants.{CountsWants}
-use Rattle.gh_lists.proofs.Vocabulary.{Ask, asked_after, CoordStage, effect, Entry, KeepsIt, Kind, Layout, Legal, Op, opened_after, opened_in, Pacing, Processor, processor_kind, ProcessorWritesItsOwn, Shape, started, WorkersWriteTheirOwn}
+use Rattle.gh_lists.proofs.Vocabulary.{Ask, asked_after, CoordStage, effect, Entry, KeepsIt, Kind, Legal, Op, opened_after, opened_in, Processor, processor_kind, ProcessorWritesItsOwn, started, WorkersWriteTheirOwn}
 use Rattle.gh_lists.specs.Frames.{Leaves, leaves}
 use Rattle.gh_lists.proofs.CycleNumbers.Wanting.{goes_so, WantsAt}
 use Rattle.gh_lists.specs.Quiet.{leaves_all, worker_quiet}
 use Rattle.gh_lists.specs.Steps as seats
 use Rattle.gh_lists.specs.Writing.{leaves_numbers}
+use Rattle.gh_lists.specs.Handshake.{Setup}
 
 -- a request that is made stands
 raised : (want : ℕ) → want ≤ 1 → bit_or want 1 ≡ 1
@@ -27,23 +28,23 @@ asked_once opened asked want last p h = rw (raised want h.word) (record {
   wanted = λ x. elim (h.wanted x) [ inl y ↦ inl y | inr y ↦ inr refl ];
 })
 
-module _ (shapes : List Shape) (l : Layout) (pacing : Pacing) (may : ℕ → List (Entry Op) → Op → Bool)
+module _ (setup : Setup)
     (writes : ProcessorWritesItsOwn) (works : WorkersWriteTheirOwn)
-    (keeps : (es : List (Entry Op)) → Legal (seats.it shapes l pacing may) es → KeepsIt (seats.it shapes l pacing may) es) where
+    (keeps : (es : List (Entry Op)) → Legal (seats.it setup) es → KeepsIt (seats.it setup) es) where
   abbrev k : Kind Processor Op
-  k = processor_kind shapes l
+  k = processor_kind setup.shapes setup.layout
 
   abbrev Led : List (Entry Op) → coord.Coordinating → Type 0
-  Led es c = seats.at shapes l pacing may es (seats.n shapes l pacing may) ≡ actor.Leads c
+  Led es c = seats.at setup es (seats.n setup) ≡ actor.Leads c
 
   abbrev want : List (Entry Op) → ℕ
-  want es = seats.words shapes l pacing may es cell.Want
+  want es = seats.words setup es cell.Want
 
   abbrev Holds : List (Entry Op) → coord.Coordinating → Type 0
   Holds es c = WantsAt (opened_in es) (asked_in es) (want es) c.is_last c.stage
 
   at_first : (c : coord.Coordinating) → Led [] c → Holds [] c
-  at_first c led = subst (λ (x : coord.Coordinating). Holds [] x) (sym (seats.first_lead shapes l pacing may c led)) (record {
+  at_first c led = subst (λ (x : coord.Coordinating). Holds [] x) (sym (seats.first_lead setup c led)) (record {
     word = omega arith;
     enough = omega arith;
     idle = λ x. refl;
@@ -51,31 +52,31 @@ module _ (shapes : List Shape) (l : Layout) (pacing : Pacing) (may : ℕ → Lis
   })
 
   module _ (e : Entry Op) (es : List (Entry Op)) where
-    beside : Leaves (seats.words shapes l pacing may es) e.ask → (c : coord.Coordinating) → Holds es c → Holds (e ∷ es) c
+    beside : Leaves (seats.words setup es) e.ask → (c : coord.Coordinating) → Holds es c → Holds (e ∷ es) c
     beside x c h = go x.want where
       go : (((before : ℕ) → asked_after e.ask before ≡ before) × (want (e ∷ es) ≡ want es)) ⊎ (((before : ℕ) → asked_after e.ask before ≡ suc before) × (want (e ∷ es) ≡ bit_or (want es) 1)) → Holds (e ∷ es) c
       go (inl y) = rw (x.opens_none (opened_in es), y.0 (asked_in es), y.1) h
       go (inr y) = rw (x.opens_none (opened_in es), y.0 (asked_in es), y.1) (asked_once (opened_in es) (asked_in es) (want es) c.is_last c.stage h)
 
-    by_lead : (c to : coord.Coordinating) → seats.LeadsIt shapes l pacing may e es c → to ≡ coord.goes c e.found → Holds es c → Holds (e ∷ es) to
+    by_lead : (c to : coord.Coordinating) → seats.LeadsIt setup e es c → to ≡ coord.goes c e.found → Holds es c → Holds (e ∷ es) to
     by_lead c to x then h =
-        let next = goes_so (opened_in es) (asked_in es) (seats.words shapes l pacing may es) c (coord.counted c).marks c.stage e.found x.busy x.found h in
+        let next = goes_so (opened_in es) (asked_in es) (seats.words setup es) c (coord.counted c).marks c.stage e.found x.busy x.found h in
         subst (λ (y : coord.Coordinating). Holds (e ∷ es) y) (sym then)
-        (subst (λ (q : Ask). WantsAt (opened_after q (opened_in es)) (asked_after q (asked_in es)) (effect (seats.words shapes l pacing may es) q cell.Want) (coord.goes c e.found).is_last (coord.goes c e.found).stage) (sym x.asked) next)
+        (subst (λ (q : Ask). WantsAt (opened_after q (opened_in es)) (asked_after q (asked_in es)) (effect (seats.words setup es) q cell.Want) (coord.goes c e.found).is_last (coord.goes c e.found).stage) (sym x.asked) next)
 
-    by_step : seats.Step shapes l pacing may e es → ((c : coord.Coordinating) → Led es c → Holds es c) → (c : coord.Coordinating) → Led (e ∷ es) c → Holds (e ∷ es) c
+    by_step : seats.Step setup e es → ((c : coord.Coordinating) → Led es c → Holds es c) → (c : coord.Coordinating) → Led (e ∷ es) c → Holds (e ∷ es) c
     by_step (seats.by_processor m x stays) before c led =
-        let free = subst (λ (q : Ask). Leaves (seats.words shapes l pacing may es) q) (sym x.asked) (leaves (seats.words shapes l pacing may es) _ (leaves_numbers writes (started k e.begun m) x.sound_then)) in
+        let free = subst (λ (q : Ask). Leaves (seats.words setup es) q) (sym x.asked) (leaves (seats.words setup es) _ (leaves_numbers writes (started k e.begun m) x.sound_then)) in
         beside free c (before c (sym stays ∙ led))
     by_step (seats.by_worker w x stays) before c led =
-        let free = subst (λ (q : Ask). Leaves (seats.words shapes l pacing may es) q) (sym x.asked) (leaves_all (seats.words shapes l pacing may es) _ (worker_quiet (seats.words shapes l pacing may es) works w x.sound_it x.busy)) in
+        let free = subst (λ (q : Ask). Leaves (seats.words setup es) q) (sym x.asked) (leaves_all (seats.words setup es) _ (worker_quiet (seats.words setup es) works w x.sound_it x.busy)) in
         beside free c (before c (sym stays ∙ led))
     by_step (seats.by_lead b x) before c led =
         by_lead b c x (let both : actor.Leads c ≡ actor.Leads (coord.goes b e.found) = sym led ∙ x.then in cc) (before b x.is)
 
-  pub holds : (es : List (Entry Op)) → Legal (seats.it shapes l pacing may) es → (c : coord.Coordinating) → Led es c → Holds es c
+  pub holds : (es : List (Entry Op)) → Legal (seats.it setup) es → (c : coord.Coordinating) → Led es c → Holds es c
   holds [] legal c led = at_first c led
-  holds (e ∷ es) legal c led = by_step e es (seats.step shapes l pacing may e es writes legal (keeps es legal.0)) (λ x was. holds es legal.0 x was) c led
+  holds (e ∷ es) legal c led = by_step e es (seats.step setup e es writes legal (keeps es legal.0)) (λ x was. holds es legal.0 x was) c led
 
-  pub wants : (es : List (Entry Op)) (c : coord.Coordinating) → Legal (seats.it shapes l pacing may) es → Led es c → CountsWants (seats.it shapes l pacing may) es c
+  pub wants : (es : List (Entry Op)) (c : coord.Coordinating) → Legal (seats.it setup) es → Led es c → CountsWants (seats.it setup) es c
   wants es c legal led = let h = holds es legal c led in record { word = h.word; enough = h.enough; idle = h.idle; wanted = h.wanted }

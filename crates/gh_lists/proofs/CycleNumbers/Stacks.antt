@@ -5,7 +5,7 @@ use Rattle.gh_coord.specs.Listing as coord
 use Rattle.gh_worker.specs.Listing as worker
 use Rattle.gh_lists.specs.declared.handshake.Actor.TheVariants as actor
 use Rattle.gh_lists.specs.Waits.{StacksAreNumbered}
-use Rattle.gh_lists.proofs.Vocabulary.{Add, ahead_at, And, Ask, Cell, CountsCycles, effect, END, Entry, IsFew, KeepsIt, Kind, Layout, Legal, Load, Op, opened_in, Or, Outside, Pacing, Part, part_of, Party, party_of, Processor, processor_kind, ProcessorInHandshake, ProcessorWritesItsOwn, put, same_cell, Shape, Stage, stage_of, started, Store, Swap, Words, WorkersWriteTheirOwn}
+use Rattle.gh_lists.proofs.Vocabulary.{Add, ahead_at, And, Ask, Cell, CountsCycles, effect, END, Entry, IsFew, KeepsIt, Kind, Legal, Load, Op, opened_in, Or, Outside, Part, part_of, Party, party_of, Processor, processor_kind, ProcessorInHandshake, ProcessorWritesItsOwn, put, same_cell, Stage, stage_of, started, Store, Swap, Words, WorkersWriteTheirOwn}
 use Rattle.gh_lists.specs.Frames.{Leaves as Leaves_, leaves, Numbers}
 use Rattle.gh_lists.specs.Counting.{rises}
 use Rattle.gh_lists.specs.Quiet.{leaves_all, Quiet, worker_quiet}
@@ -13,6 +13,7 @@ use Rattle.gh_lists.specs.Aside.{Aside, aside as lead_aside}
 use Rattle.gh_lists.specs.Steps as seats
 use Rattle.gh_lists.specs.Writing.{IsNumberOf, leaves_numbers, NumbersStack, numbers_stack}
 use Rattle.gh_lists.specs.Awake.{knows_begun}
+use Rattle.gh_lists.specs.Handshake.{Setup}
 
 begun_behind : (part : Part) → (ahead_at part).begun ≤ (ahead_at part).numbered
 begun_behind Outside = omega arith
@@ -57,15 +58,15 @@ module _ (words : Words) (g : ℕ) where
     numbered (Add c more) n = elim (which c g) [ inl e ↦ inl (put_same c _ e) | inr h ↦ absurd (subst (λ (d : Cell). NumbersStack party stage (Add d more)) h.1 n) ]
     numbered (Swap c old new) n = elim (which c g) [ inl e ↦ inl (swap_same c old new e (eqb (words c) old)) | inr h ↦ absurd (subst (λ (d : Cell). NumbersStack party stage (Swap d old new)) h.1 n) ]
 
-module _ (shapes : List Shape) (l : Layout) (pacing : Pacing) (may : ℕ → List (Entry Op) → Op → Bool) (places : ProcessorInHandshake) (writes : ProcessorWritesItsOwn)
-    (keeps : (es : List (Entry Op)) → Legal (seats.it shapes l pacing may) es → KeepsIt (seats.it shapes l pacing may) es) where
+module _ (setup : Setup) (places : ProcessorInHandshake) (writes : ProcessorWritesItsOwn)
+    (keeps : (es : List (Entry Op)) → Legal (seats.it setup) es → KeepsIt (seats.it setup) es) where
   abbrev k : Kind Processor Op
-  k = processor_kind shapes l
+  k = processor_kind setup.shapes setup.layout
 
   module _ (works : WorkersWriteTheirOwn)
-      (counts : (es : List (Entry Op)) (c : coord.Coordinating) → Legal (seats.it shapes l pacing may) es → IsFew es → seats.at shapes l pacing may es (seats.n shapes l pacing may) ≡ actor.Leads c → CountsCycles (seats.it shapes l pacing may) pacing.room es c) where
+      (counts : (es : List (Entry Op)) (c : coord.Coordinating) → Legal (seats.it setup) es → IsFew es → seats.at setup es (seats.n setup) ≡ actor.Leads c → CountsCycles (seats.it setup) setup.pacing.room es c) where
     abbrev words : List (Entry Op) → Words
-    words es = seats.words shapes l pacing may es
+    words es = seats.words setup es
 
     abbrev AllNumbered : List (Entry Op) → Type 0
     AllNumbered es = StacksAreNumbered (words es)
@@ -73,20 +74,20 @@ module _ (shapes : List Shape) (l : Layout) (pacing : Pacing) (may : ℕ → Lis
     few_before : (e : Entry Op) (es : List (Entry Op)) → IsFew (e ∷ es) → IsFew es
     few_before e es few = let up = rises e.ask (opened_in es) in omega (arith, few, up)
 
-    module _ (e : Entry Op) (es : List (Entry Op)) (legal : Legal (seats.it shapes l pacing may) (e ∷ es)) (few : IsFew (e ∷ es)) where
-      free : (m : Processor) → seats.RunsIt shapes l pacing may e es m → Leaves_ (words es) e.ask
+    module _ (e : Entry Op) (es : List (Entry Op)) (legal : Legal (seats.it setup) (e ∷ es)) (few : IsFew (e ∷ es)) where
+      free : (m : Processor) → seats.RunsIt setup e es m → Leaves_ (words es) e.ask
       free m x = subst (λ (q : Ask). Leaves_ (words es) q) (sym x.asked) (leaves (words es) _ (leaves_numbers writes (started k e.begun m) x.sound_then))
 
-      worker_free : (w : worker.Working) → seats.WorksIt shapes l pacing may e es w → Quiet (words es) e.ask
+      worker_free : (w : worker.Working) → seats.WorksIt setup e es w → Quiet (words es) e.ask
       worker_free w x = subst (λ (q : Ask). Quiet (words es) q) (sym x.asked) (worker_quiet (words es) works w x.sound_it x.busy)
 
-      lead_free : (c : coord.Coordinating) → seats.LeadsIt shapes l pacing may e es c → Aside (words es) c.begun e.ask
+      lead_free : (c : coord.Coordinating) → seats.LeadsIt setup e es c → Aside (words es) c.begun e.ask
       lead_free c x = subst (λ (q : Ask). Aside (words es) c.begun q) (sym x.asked) (lead_aside (words es) c c.stage x.sound_it.1)
 
       as_many : Leaves_ (words es) e.ask → words es cell.Begun ≤ words (e ∷ es) cell.Begun
       as_many y = let same : words (e ∷ es) cell.Begun ≡ words es cell.Begun = ap (λ (n : Numbers). n.begun) y.numbers in omega (arith, same)
 
-      lead_rises : (c : coord.Coordinating) → CountsCycles (seats.it shapes l pacing may) pacing.room es c → (words (e ∷ es) cell.Begun ≡ words es cell.Begun) ⊎ (e.ask ≡ Store cell.Begun c.begun) → words es cell.Begun ≤ words (e ∷ es) cell.Begun
+      lead_rises : (c : coord.Coordinating) → CountsCycles (seats.it setup) setup.pacing.room es c → (words (e ∷ es) cell.Begun ≡ words es cell.Begun) ⊎ (e.ask ≡ Store cell.Begun c.begun) → words es cell.Begun ≤ words (e ∷ es) cell.Begun
       lead_rises c n (inl same) = omega (arith, same)
       lead_rises c n (inr stored) =
           let now : words (e ∷ es) cell.Begun ≡ c.begun = ap (λ (q : Ask). effect (words es) q cell.Begun) stored in
@@ -95,23 +96,23 @@ module _ (shapes : List Shape) (l : Layout) (pacing : Pacing) (may : ℕ → Lis
 
       -- no step takes the number of cycles begun back
       pub begun_rises : words es cell.Begun ≤ words (e ∷ es) cell.Begun
-      begun_rises = by (seats.step shapes l pacing may e es writes legal (keeps es legal.0)) where
-        by : seats.Step shapes l pacing may e es → words es cell.Begun ≤ words (e ∷ es) cell.Begun
+      begun_rises = by (seats.step setup e es writes legal (keeps es legal.0)) where
+        by : seats.Step setup e es → words es cell.Begun ≤ words (e ∷ es) cell.Begun
         by (seats.by_processor m x s) = as_many (free m x)
         by (seats.by_worker w x s) = as_many (leaves_all (words es) e.ask (worker_free w x))
         by (seats.by_lead c x) = lead_rises c (counts es c legal.0 (few_before e es few) x.is) (lead_free c x).begun
 
       -- A step leaves a stack's word, or writes the number of an end, or that of the cycle that has begun last.
       pub stack_goes : (g : ℕ) → (words (e ∷ es) (cell.Scanned g) ≡ words es (cell.Scanned g)) ⊎ ((words (e ∷ es) (cell.Scanned g) ≡ END) ⊎ (words (e ∷ es) (cell.Scanned g) ≡ words es cell.Begun))
-      stack_goes g = by (seats.step shapes l pacing may e es writes legal (keeps es legal.0)) where
-        written : (m : Processor) (x : seats.RunsIt shapes l pacing may e es m) → IsNumberOf (party_of (started k e.begun m)) (stage_of (started k e.begun m)) (words (e ∷ es) (cell.Scanned g)) →
+      stack_goes g = by (seats.step setup e es writes legal (keeps es legal.0)) where
+        written : (m : Processor) (x : seats.RunsIt setup e es m) → IsNumberOf (party_of (started k e.begun m)) (stage_of (started k e.begun m)) (words (e ∷ es) (cell.Scanned g)) →
             (words (e ∷ es) (cell.Scanned g) ≡ END) ⊎ (words (e ∷ es) (cell.Scanned g) ≡ words es cell.Begun)
         written m x (inl y) = inl y
-        written m x (inr y) = inr (y.1 ∙ knows_begun shapes l pacing may places writes keeps e.actor m e.begun es legal.0 x.seat x.is x.sound_it legal.1.begins y.0)
+        written m x (inr y) = inr (y.1 ∙ knows_begun setup places writes keeps e.actor m e.begun es legal.0 x.seat x.is x.sound_it legal.1.begins y.0)
 
-        by : seats.Step shapes l pacing may e es → (words (e ∷ es) (cell.Scanned g) ≡ words es (cell.Scanned g)) ⊎ ((words (e ∷ es) (cell.Scanned g) ≡ END) ⊎ (words (e ∷ es) (cell.Scanned g) ≡ words es cell.Begun))
+        by : seats.Step setup e es → (words (e ∷ es) (cell.Scanned g) ≡ words es (cell.Scanned g)) ⊎ ((words (e ∷ es) (cell.Scanned g) ≡ END) ⊎ (words (e ∷ es) (cell.Scanned g) ≡ words es cell.Begun))
         by (seats.by_processor m x s) =
-            elim (numbered (words es) g (party_of (started k e.begun m)) (stage_of (started k e.begun m)) e.ask (subst (λ (q : Ask). NumbersStack (party_of (started k e.begun m)) (stage_of (started k e.begun m)) q) (sym x.asked) (numbers_stack places writes shapes (started k e.begun m) x.sound_then x.busy))) [
+            elim (numbered (words es) g (party_of (started k e.begun m)) (stage_of (started k e.begun m)) e.ask (subst (λ (q : Ask). NumbersStack (party_of (started k e.begun m)) (stage_of (started k e.begun m)) q) (sym x.asked) (numbers_stack places writes setup.shapes (started k e.begun m) x.sound_then x.busy))) [
               | inl y ↦ inl y
               | inr y ↦ inr (written m x y)
             ]
@@ -124,6 +125,6 @@ module _ (shapes : List Shape) (l : Layout) (pacing : Pacing) (may : ℕ → Lis
         | inr wrote ↦ elim wrote [ inl y ↦ inl y | inr y ↦ inr (let up = begun_rises in omega (arith, y, up)) ]
       ]
 
-    pub are_numbered : (es : List (Entry Op)) → Legal (seats.it shapes l pacing may) es → IsFew es → AllNumbered es
+    pub are_numbered : (es : List (Entry Op)) → Legal (seats.it setup) es → IsFew es → AllNumbered es
     are_numbered [] legal few g = inr (omega arith)
     are_numbered (e ∷ es) legal few g = next e es legal few (are_numbered es legal.0 (few_before e es few)) g

@@ -11,23 +11,28 @@ use Rattle.gh_worker.specs.Listing as worker
 use Rattle.gh_worker.specs.MarkFacts as marks
 use Rattle.gh_lists.specs.declared.handshake.Actor.TheVariants as actor
 use Rattle.gh_lists.specs.Handshake.{asks}
-use Rattle.gh_lists.specs.Marking.{IsLedBy, setting, words}
+use Rattle.gh_lists.specs.Marking.{setup_in, IsLedBy, setting, words}
 use Rattle.gh_lists.specs.Starts.{legal_start, whole}
 use Rattle.gh_marked.proofs.Vocabulary.{acks_of, Actor, actors, actors_after, Arena, Ask, buffer_of, buffers_of, cell_of, ChangesOneCell, Close, CoordStage, Cycle, effect, EndsClean, Entry, Hands, holder_in, is_busy, IsChecked, IsInLimits, IsStartOf, KeepsIt, Layout, Legal, ltb-false, ltb-true, mark_words, Marking as Shared, nat_tests, nothing, Op, opening_processor, Pacing, place_of, row_bit, RunPhase, started, StepKeepsIt, Stopped, WaitsWithNone, Words}
 use Rattle.gh_marked.proofs.CycleMarking.Apart.{stays_clear}
-use Rattle.gh_marked.specs.Marked.{IsInMarking, KnowsHeap, MarksToTheEnd, StepsByMoves, WasMarked}
+use Rattle.gh_marked.specs.Marked.{IsInMarking, MarksToTheEnd, WasMarked}
 use Rattle.gh_marked.specs.Checking.{begins as begins_cycle, checked_lasts, CheckedAt, Found, Goes, goes_on, goes_so, leaves, still_stopped}
 use Rattle.gh_marked.proofs.CycleMarking.Looking.{none_sweeps}
 use Rattle.gh_marked.proofs.CycleMarking.Moving as moving
-use Rattle.gh_marked.proofs.CycleMarking.Moving.{Known}
 use Rattle.gh_lists.specs.Steps as seats
 use Rattle.gh_lists.specs.Seats.{IsSeated, lead_started, leads, other, seated}
 
-module _ (arena : Arena) (pacing : Pacing) (may : ℕ → List (Entry Op) → Op → Bool)
-    (limits : IsInLimits arena.layout) (known : Known) (polls : StepsByMoves arena pacing may) (heap : KnowsHeap arena pacing may)
-    (keeps : (es : List (Entry Op)) → Legal (setting arena pacing may) es → KeepsIt (setting arena pacing may) es)
-    (step_keeps : (e : Entry Op) (es : List (Entry Op)) → Legal (setting arena pacing may) (e ∷ es) → StepKeepsIt (setting arena pacing may) e es)
-    (one : ChangesOneCell) (done : WhatIsFoundIsDone) (clean : MarkingEndsClean) where
+-- What is cited of steps and of lists.
+pub record Cited (arena : Arena) (pacing : Pacing) (may : ℕ → List (Entry Op) → Op → Bool) : Type 0 where
+  pub limits : IsInLimits arena.layout
+  pub moves : moving.Moves arena pacing may
+  pub keeps : (es : List (Entry Op)) → Legal (setting arena pacing may) es → KeepsIt (setting arena pacing may) es
+  pub step_keeps : (e : Entry Op) (es : List (Entry Op)) → Legal (setting arena pacing may) (e ∷ es) → StepKeepsIt (setting arena pacing may) e es
+  pub one : ChangesOneCell
+  pub done : WhatIsFoundIsDone
+  pub clean : MarkingEndsClean
+
+module _ (arena : Arena) (pacing : Pacing) (may : ℕ → List (Entry Op) → Op → Bool) (cited : Cited arena pacing may) where
   abbrev n : ℕ
   n = acks_of arena.layout
 
@@ -51,7 +56,7 @@ module _ (arena : Arena) (pacing : Pacing) (may : ℕ → List (Entry Op) → Op
     checked : CheckedAt arena.layout c.begun (told es) c.stage
 
   seat_of : (es : List (Entry Op)) (a : ℕ) (m : Actor) → at es a ≡ m → IsSeated arena.layout a m
-  seat_of es a m is = subst (IsSeated arena.layout a) is (seated arena.shapes arena.layout pacing es a)
+  seat_of es a m is = subst (IsSeated arena.layout a) is (seated (setup_in arena pacing may) es a)
 
   -- before the first step nothing is marked
   none_at_first : (c : coord.Coordinating) → Led [] c → leading.Marks c.stage → ⊥
@@ -72,7 +77,7 @@ module _ (arena : Arena) (pacing : Pacing) (may : ℕ → List (Entry Op) → Op
     s = i.shared
 
     kept : KeepsIt (setting arena pacing may) es
-    kept = keeps es legal
+    kept = cited.keeps es legal
 
     -- nobody has anything in hand
     empty_handed : (a : ℕ) → Hands a s nothing
@@ -87,7 +92,7 @@ module _ (arena : Arena) (pacing : Pacing) (may : ℕ → List (Entry Op) → Op
       go : (m : Actor) → at es a ≡ m → Hands a s nothing
       go (actor.Runs m) is =
           let lt : a < arena.layout.procs = seat_of es a (actor.Runs m) is in
-          (known.processors.waits z a s m (leading.lead_of c).stops (kept.processors_wait c run.Mark a m led post (omega (arith, lt)) is) (i.processors a m lt is)).nothing_in_hand
+          (cited.moves.known.processors.waits z a s m (leading.lead_of c).stops (kept.processors_wait c run.Mark a m led post (omega (arith, lt)) is) (i.processors a m lt is)).nothing_in_hand
       go (actor.Marks w) is =
           let lt : a < n = (seat_of es a (actor.Marks w) is).1 in
           worker_has w (kept.workers_wait c run.Mark a w led post lt is) (i.workers a w lt is)
@@ -97,7 +102,7 @@ module _ (arena : Arena) (pacing : Pacing) (may : ℕ → List (Entry Op) → Op
     empty b free = go (ltb b (buffers_of arena.layout)) refl where
       go : (x : Bool) → ltb b (buffers_of arena.layout) ≡ x → (buffer_of (told es (cell.Buffer b))).count ≡ 0
       go true x = f.empty b (ltb-true _ _ x) free
-      go false x = ap (λ (v : ℕ). (buffer_of v).count) (stays_clear (setting arena pacing may) one b (ltb-false _ _ x) refl es legal)
+      go false x = ap (λ (v : ℕ). (buffer_of v).count) (stays_clear (setting arena pacing may) cited.one b (ltb-false _ _ x) refl es legal)
 
     is_found : IsFound z s
     is_found = record {
@@ -108,7 +113,7 @@ module _ (arena : Arena) (pacing : Pacing) (may : ℕ → List (Entry Op) → Op
     }
 
     is_done : IsDone z s
-    is_done = done z s i.good is_found
+    is_done = cited.done z s i.good is_found
 
     -- what is not of the cycle is not shaded, and nobody is placing
     dead : (o : ℕ) → s.since o ≡ false → row_bit (mark_words s.words) o ≡ 0
@@ -125,7 +130,7 @@ module _ (arena : Arena) (pacing : Pacing) (may : ℕ → List (Entry Op) → Op
       go Black e = clash Black e tt
 
     ends : EndsClean z s
-    ends = record { done = is_done; reached = clean z s i.good is_done; dead = dead }
+    ends = record { done = is_done; reached = cited.clean z s i.good is_done; dead = dead }
 
   -- behind the check all is found, in a stopped world
   behind : (l : Layout) (number : ℕ) (w : Words) (p : CoordStage) → leading.Marks p → IsChecked p → CheckedAt l number w p → Found l number w × (leading.post_at p ≡ Stopped run.Mark)
@@ -150,7 +155,7 @@ module _ (arena : Arena) (pacing : Pacing) (may : ℕ → List (Entry Op) → Op
     a = e.actor
 
     others_stay : (b : ℕ) → b ≢ a → at (e ∷ es) b ≡ at es b
-    others_stay b differs = other arena.shapes arena.layout pacing e es b (grind (arith, nat_tests, differs))
+    others_stay b differs = other (setup_in arena pacing may) e es b (grind (arith, nat_tests, differs))
 
     -- a step of a processor or a worker
     module _ (c : coord.Coordinating) (led : Led es c) (on : leading.Marks c.stage) (h : Holds es c) (among : a < n) where
@@ -160,11 +165,11 @@ module _ (arena : Arena) (pacing : Pacing) (may : ℕ → List (Entry Op) → Op
 
       -- where the world is stopped it changes no word
       still : (phase : RunPhase) → leading.post_at c.stage ≡ Stopped phase → told (e ∷ es) ≡ told es
-      still phase post = ap (effect (told es)) ((step_keeps e es legal).still (leading.lead_of c) phase (ap place_of led) post among).0
+      still phase post = ap (effect (told es)) ((cited.step_keeps e es legal).still (leading.lead_of c) phase (ap place_of led) post among).0
 
       by : (m : Actor) → at es a ≡ m → In (e ∷ es) c
-      by (actor.Runs m) is = moving.by_processor arena pacing may known polls heap e es c c legal led led_still on refl h.marking m on (seat_of es a (actor.Runs m) is) is
-      by (actor.Marks w) is = moving.by_worker arena pacing may known polls heap e es c c legal led led_still on refl h.marking w (none_sweeps arena.shapes arena.layout pacing may known.read keeps es c legal.0 led on a w among is) (seat_of es a (actor.Marks w) is).0 among is
+      by (actor.Runs m) is = moving.by_processor arena pacing may cited.moves e es c c (record { legal = legal; led = led; led_then = led_still; on_then = on; begun_is = refl; i = h.marking }) m on (seat_of es a (actor.Runs m) is) is
+      by (actor.Marks w) is = moving.by_worker arena pacing may cited.moves e es c c (record { legal = legal; led = led; led_then = led_still; on_then = on; begun_is = refl; i = h.marking }) w (none_sweeps (setup_in arena pacing may) cited.moves.known.read cited.keeps es c legal.0 led on a w among is) (seat_of es a (actor.Marks w) is).0 among is
       by (actor.Leads x) is = absurd (let ge : n ≤ a = (seat_of es a (actor.Leads x) is).0 in omega (arith, ge, among))
 
       by_others : Holds (e ∷ es) c
@@ -176,10 +181,10 @@ module _ (arena : Arena) (pacing : Pacing) (may : ℕ → List (Entry Op) → Op
       here = ap (at es) end ∙ led
 
       abbrev begun : Actor
-      begun = started (actors arena.shapes arena.layout pacing) e.begun (at es a)
+      begun = started (actors (setup_in arena pacing may)) e.begun (at es a)
 
       begun_is : begun ≡ actor.Leads c
-      begun_is = ap (started (actors arena.shapes arena.layout pacing) e.begun) here ∙ lead_started arena.shapes arena.layout pacing e.begun c
+      begun_is = ap (started (actors (setup_in arena pacing may)) e.begun) here ∙ lead_started (setup_in arena pacing may) e.begun c
 
       busy : coord.is_busy c.stage ≡ true
       busy = sym (ap is_busy begun_is) ∙ legal.1.runs
@@ -198,11 +203,11 @@ module _ (arena : Arena) (pacing : Pacing) (may : ℕ → List (Entry Op) → Op
 
       by_lead : Goes arena.layout c.begun (told es) c c.stage to → Holds (e ∷ es) to
       by_lead (begins_cycle b quiet same x) = record {
-        marking = moving.by_coordinator arena pacing may known polls heap e es c to legal led led_then on same (moving.begins arena pacing may known polls heap es c legal.0 led b (was_marked es legal.0 before) (keeps es legal.0)) end here quiet;
+        marking = moving.by_coordinator arena pacing may cited.moves e es c to (record { legal = legal; led = led; led_then = led_then; on_then = on; begun_is = same; i = moving.begins arena pacing may cited.moves es c legal.0 led b (was_marked es legal.0 before) (cited.keeps es legal.0) }) end here quiet;
         checked = checked_then same x;
       }
       by_lead (goes_on was quiet same x) = record {
-        marking = moving.by_coordinator arena pacing may known polls heap e es c to legal led led_then on same (before es c (whole es) led was).marking end here quiet;
+        marking = moving.by_coordinator arena pacing may cited.moves e es c to (record { legal = legal; led = led; led_then = led_then; on_then = on; begun_is = same; i = (before es c (whole es) led was).marking }) end here quiet;
         checked = checked_then same (x (before es c (whole es) led was).checked);
       }
       by_lead (leaves off) = absurd (off on)
@@ -214,13 +219,13 @@ module _ (arena : Arena) (pacing : Pacing) (may : ℕ → List (Entry Op) → Op
   follows e es legal before c led on = go (e.actor == n) refl where
     go : (b : Bool) → (e.actor == n) ≡ b → Holds (e ∷ es) c
     go false x =
-        let was : Led es c = sym (other arena.shapes arena.layout pacing e es n x) ∙ led in
+        let was : Led es c = sym (other (setup_in arena pacing may) e es n x) ∙ led in
         let within : e.actor < n + 1 = legal.1.actor in
         by_others e es legal c was on (before es c (whole es) was on) (grind (arith, nat_tests, x, within))
     go true x =
         let end : e.actor ≡ n = grind (arith, nat_tests) in
-        let b = seats.led_by arena.shapes arena.layout pacing may es in
-        let then : at (e ∷ es) n ≡ actor.Leads (coord.goes b.lead e.found) = sym (ap (at (e ∷ es)) end) ∙ leads arena.shapes arena.layout pacing e es b.lead (ap (at es) end ∙ b.led_by) in
+        let b = seats.led_by (setup_in arena pacing may) es in
+        let then : at (e ∷ es) n ≡ actor.Leads (coord.goes b.lead e.found) = sym (ap (at (e ∷ es)) end) ∙ leads (setup_in arena pacing may) e es b.lead (ap (at es) end ∙ b.led_by) in
         by_it e es legal b.lead c end b.led_by (let both : actor.Leads c ≡ actor.Leads (coord.goes b.lead e.found) = sym led ∙ then in cc) led on before
 
   held : (es : List (Entry Op)) → Lawful es → HeldBefore es

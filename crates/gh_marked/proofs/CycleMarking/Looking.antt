@@ -23,8 +23,8 @@ use Rattle.gh_worker.specs.Choices.{by_stop, by_work}
 use Rattle.gh_worker.specs.Handshake as working
 use Rattle.gh_worker.specs.Listing as worker
 use Rattle.gh_lists.specs.declared.handshake.Actor.TheVariants as actor
-use Rattle.gh_lists.specs.Handshake.{asks}
-use Rattle.gh_marked.proofs.Vocabulary.{acks_of, Actor, actors, Ask, cell_of, Entry, Held, IsAwake, KeepsIt, last_phase, Layout, Legal, Op, opening_processor, PackedWordsAreReadBack, Pacing, page_of, PageWord, Party, phase_of, processor_kind, Resumed, run_phase, Shaded, Shape, started, state_of, SweepEnd, takes, those, View, Words, words_after, WorkerStage, Working}
+use Rattle.gh_lists.specs.Handshake.{asks, Setup}
+use Rattle.gh_marked.proofs.Vocabulary.{acks_of, Actor, actors, Ask, cell_of, Entry, Held, IsAwake, KeepsIt, last_phase, Legal, Op, opening_processor, PackedWordsAreReadBack, page_of, PageWord, Party, phase_of, processor_kind, Resumed, run_phase, Shaded, started, state_of, SweepEnd, takes, those, View, Words, words_after, WorkerStage, Working}
 use Rattle.gh_lists.specs.Seats.{IsSeated, leads, other, runs, seated, worker_started, works}
 use Rattle.gh_lists.specs.Phase.{is_last}
 
@@ -131,45 +131,45 @@ module _ (found : ℕ) (w : Working) where
 load_awake : (w : Working) (s : WorkerStage) → s ≡ work.LoadPhase → IsAwake (working.stands_at s) × (working.party_at w s ≡ record { seat = w.seat; view = w.view })
 load_awake w s e = rw e (tt, refl)
 
-module _ (shapes : List Shape) (l : Layout) (pacing : Pacing) (may : ℕ → List (Entry Op) → Op → Bool) (read : PackedWordsAreReadBack)
-    (keeps : (es : List (Entry Op)) → Legal (those shapes l pacing may) es → KeepsIt (those shapes l pacing may) es) where
+module _ (setup : Setup) (read : PackedWordsAreReadBack)
+    (keeps : (es : List (Entry Op)) → Legal (those setup) es → KeepsIt (those setup) es) where
   abbrev n : ℕ
-  n = acks_of l
+  n = acks_of setup.layout
 
   abbrev at : List (Entry Op) → ℕ → Actor
-  at es a = state_of (actors shapes l pacing) a es
+  at es a = state_of (actors setup) a es
 
   abbrev told : List (Entry Op) → Words
-  told es = words_after (those shapes l pacing may).opening es
+  told es = words_after (those setup).opening es
 
   -- what looks for spans knows that marking is off
   abbrev KnowsOff : List (Entry Op) → Type 0
   KnowsOff es = (a : ℕ) (w : Working) → at es a ≡ actor.Marks w → Looks w.stage → w.view.phase ≡ run.Off
 
   at_first : KnowsOff []
-  at_first a w is looks = go (ltb a l.procs) (ltb a n) is where
-    go : (b d : Bool) → cond b (actor.Runs (opening_processor l a)) (cond d (actor.Marks (worker.opening l a)) (actor.Leads (coord.opening l a pacing.gogc pacing.minheap pacing.room))) ≡ actor.Marks w → w.view.phase ≡ run.Off
+  at_first a w is looks = go (ltb a setup.layout.procs) (ltb a n) is where
+    go : (b d : Bool) → cond b (actor.Runs (opening_processor setup.layout a)) (cond d (actor.Marks (worker.opening setup.layout a)) (actor.Leads (coord.opening setup.layout a setup.pacing.gogc setup.pacing.minheap setup.pacing.room))) ≡ actor.Marks w → w.view.phase ≡ run.Off
     go true d x = absurd cc
     go false false x = absurd cc
-    go false true x = absurd (let it : worker.opening l a ≡ w = cc in subst (λ (y : Working). Looks y.stage) (sym it) looks)
+    go false true x = absurd (let it : worker.opening setup.layout a ≡ w = cc in subst (λ (y : Working). Looks y.stage) (sym it) looks)
 
-  module _ (e : Entry Op) (es : List (Entry Op)) (legal : Legal (those shapes l pacing may) (e ∷ es)) (before : KnowsOff es) where
+  module _ (e : Entry Op) (es : List (Entry Op)) (legal : Legal (those setup) (e ∷ es)) (before : KnowsOff es) where
     -- the step of a worker
     by_worker : (v : Working) → at es e.actor ≡ actor.Marks v → (w : Working) → at (e ∷ es) e.actor ≡ actor.Marks w → Looks w.stage → w.view.phase ≡ run.Off
     by_worker v is w now looks = ap (λ (y : Working). y.view.phase) then ∙ (ap (λ (y : View). y.phase) step.view_stays ∙ by step.finds) where
       then : w ≡ worker.goes v e.found
-      then = let both : actor.Marks w ≡ actor.Marks (worker.goes v e.found) = sym now ∙ works shapes l pacing e es v is in cc
+      then = let both : actor.Marks w ≡ actor.Marks (worker.goes v e.found) = sym now ∙ works setup e es v is in cc
 
       step : FindsOff e.found v v.stage (worker.goes v e.found)
       step = finds_at e.found v v.stage (subst (λ (y : Working). Looks y.stage) then looks)
 
       asked : e.ask ≡ worker.asks v
-      asked = legal.1.asks ∙ ap asks (ap (started (actors shapes l pacing) e.begun) is ∙ worker_started shapes l pacing e.begun v)
+      asked = legal.1.asks ∙ ap asks (ap (started (actors setup) e.begun) is ∙ worker_started setup e.begun v)
 
       among : e.actor < n
-      among = (subst (IsSeated l e.actor) is (seated shapes l pacing es e.actor)).1
+      among = (subst (IsSeated setup.layout e.actor) is (seated setup es e.actor)).1
 
-      known : KeepsIt (those shapes l pacing may) es
+      known : KeepsIt (those setup) es
       known = keeps es legal.0
 
       -- by the phase word
@@ -192,18 +192,18 @@ module _ (shapes : List Shape) (l : Layout) (pacing : Pacing) (may : ℕ → Lis
     next a w is looks = go (e.actor == a) refl where
       here : e.actor ≡ a → (m : Actor) → at es e.actor ≡ m → w.view.phase ≡ run.Off
       here end (actor.Marks v) was = by_worker v was w (ap (at (e ∷ es)) end ∙ is) looks
-      here end (actor.Runs m) was = absurd (let both : actor.Runs (takes shapes (started (processor_kind shapes l) e.begun m) e.found) ≡ actor.Marks w = sym (runs shapes l pacing e es m was) ∙ (ap (at (e ∷ es)) end ∙ is) in cc)
-      here end (actor.Leads c) was = absurd (let both : actor.Leads (coord.goes c e.found) ≡ actor.Marks w = sym (leads shapes l pacing e es c was) ∙ (ap (at (e ∷ es)) end ∙ is) in cc)
+      here end (actor.Runs m) was = absurd (let both : actor.Runs (takes setup.shapes (started (processor_kind setup.shapes setup.layout) e.begun m) e.found) ≡ actor.Marks w = sym (runs setup e es m was) ∙ (ap (at (e ∷ es)) end ∙ is) in cc)
+      here end (actor.Leads c) was = absurd (let both : actor.Leads (coord.goes c e.found) ≡ actor.Marks w = sym (leads setup e es c was) ∙ (ap (at (e ∷ es)) end ∙ is) in cc)
 
       go : (b : Bool) → (e.actor == a) ≡ b → w.view.phase ≡ run.Off
       go true y = here (grind (arith, nat_tests, y)) (at es e.actor) refl
-      go false y = before a w (sym (other shapes l pacing e es a y) ∙ is) looks
+      go false y = before a w (sym (other setup e es a y) ∙ is) looks
 
-  knows_off : (es : List (Entry Op)) → Legal (those shapes l pacing may) es → KnowsOff es
+  knows_off : (es : List (Entry Op)) → Legal (those setup) es → KnowsOff es
   knows_off [] legal = at_first
   knows_off (e ∷ es) legal = next e es legal (knows_off es legal.0)
 
-  pub none_sweeps : (es : List (Entry Op)) (c : coord.Coordinating) → Legal (those shapes l pacing may) es → at es n ≡ actor.Leads c → leading.Marks c.stage → (a : ℕ) (w : Working) → a < n → at es a ≡ actor.Marks w → worker.sweep_in w ≡ None
+  pub none_sweeps : (es : List (Entry Op)) (c : coord.Coordinating) → Legal (those setup) es → at es n ≡ actor.Leads c → leading.Marks c.stage → (a : ℕ) (w : Working) → a < n → at es a ≡ actor.Marks w → worker.sweep_in w ≡ None
   none_sweeps es c legal led on a w lt is = go w.stage refl where
     go : (p : WorkerStage) → w.stage ≡ p → worker.sweep_at p ≡ None
     go (work.Sweeping sw) at_it = absurd (

@@ -16,7 +16,7 @@ use Rattle.gh_worker.specs.MarkFacts as marks
 use Rattle.gh_lists.specs.declared.handshake.Actor.TheVariants as actor
 use Rattle.gh_lists.specs.Handshake.{asks, Sound}
 use Rattle.gh_lists.specs.Counts.{stored_in}
-use Rattle.gh_lists.specs.Marking.{IsLedBy, setting, words}
+use Rattle.gh_lists.specs.Marking.{setup_in, IsLedBy, setting, words}
 use Rattle.gh_marked.specs.Scanned.{done_by, most_scanned, scanned_by}
 use Rattle.gh_marked.proofs.Vocabulary.{acks_of, Actor, actors, actors_after, Acts, alloc_words, Arena, Ask, bit_at, cell_of, Cycle, effect, Entry, Hands, is_busy, IsBeginning, KeepsIt, Kind, Legal, MarkFacts, Marking as Shared, MarkingBegins, MarkingGood as Good, nat_tests, nothing, Op, PackedWordsAreReadBack, Pacing, Party, place_of, Processor, processor_kind, Row, row_bit, seats_of, started, WaitsWithNone, Went, Words, WorkerStage}
 use Rattle.gh_marked.specs.Marked.{IsInMarking, Knows, KnowsHeap, LeavesObjects, MayBegin, StepsByMoves, WasMarked}
@@ -72,8 +72,13 @@ pub record Known : Type 0 where
   pub follow : EachHandFollows
   pub last : EachHandLasts
 
-module _ (arena : Arena) (pacing : Pacing) (may : ℕ → List (Entry Op) → Op → Bool)
-    (known : Known) (polls : StepsByMoves arena pacing may) (heap : KnowsHeap arena pacing may) where
+-- What is known of steps, and of the heap beside them.
+pub record Moves (arena : Arena) (pacing : Pacing) (may : ℕ → List (Entry Op) → Op → Bool) : Type 0 where
+  pub known : Known
+  pub polls : StepsByMoves arena pacing may
+  pub heap : KnowsHeap arena pacing may
+
+module _ (arena : Arena) (pacing : Pacing) (may : ℕ → List (Entry Op) → Op → Bool) (moves : Moves arena pacing may) where
   abbrev k : Kind Processor Op
   k = processor_kind arena.shapes arena.layout
 
@@ -86,74 +91,86 @@ module _ (arena : Arena) (pacing : Pacing) (may : ℕ → List (Entry Op) → Op
   abbrev In : List (Entry Op) → coord.Coordinating → Type 0
   In = IsInMarking arena pacing may
 
-  module _ (e : Entry Op) (es : List (Entry Op)) (c to : coord.Coordinating) (legal : Legal (setting arena pacing may) (e ∷ es)) (led : IsLedBy arena pacing may es c) (led_then : IsLedBy arena pacing may (e ∷ es) to) (on_then : leading.Marks to.stage) (begun_is : to.begun ≡ c.begun) (i : In es c) where
+  -- The next entry leaves who leads at this, and a cycle was marked.
+  pub record MarksOn (e : Entry Op) (es : List (Entry Op)) (c : coord.Coordinating) (to : coord.Coordinating) : Type 0 where
+    pub legal : Legal (setting arena pacing may) (e ∷ es)
+    pub led : IsLedBy arena pacing may es c
+    pub led_then : IsLedBy arena pacing may (e ∷ es) to
+    pub on_then : leading.Marks to.stage
+    pub begun_is : to.begun ≡ c.begun
+    pub i : In es c
+
+  module _ (e : Entry Op) (es : List (Entry Op)) (c : coord.Coordinating) (to : coord.Coordinating) (marking_on : MarksOn e es c to) where
     abbrev z : Cycle
-    z = i.cycle
+    z = marking_on.i.cycle
 
     abbrev s : Shared
-    s = i.shared
+    s = marking_on.i.shared
 
     abbrev a : ℕ
     a = e.actor
 
-    -- where its seat's step leads to this state
-    module _ (t : Shared) (went : Went z a s t) (words_are : t.words ≡ words arena pacing may (e ∷ es)) (heap_is : Knows arena pacing may z t (e ∷ es))
-        (own_processor : (m : Processor) → at (e ∷ es) a ≡ actor.Runs m → MarkFacts z a t m)
-        (own_worker : (w : worker.Working) → at (e ∷ es) a ≡ actor.Marks w → marks.Facts z a t w)
-        (own_hand : n ≤ a → Hands a t nothing) where
+    -- The state that its seat's step leads to, and what is known there.
+    record Landed : Type 0 where
+      shared : Shared
+      went : Went z a s shared
+      words_are : shared.words ≡ words arena pacing may (e ∷ es)
+      heap_is : Knows arena pacing may z shared (e ∷ es)
+      own_processor : (m : Processor) → at (e ∷ es) a ≡ actor.Runs m → MarkFacts z a shared m
+      own_worker : (w : worker.Working) → at (e ∷ es) a ≡ actor.Marks w → marks.Facts z a shared w
+      own_hand : n ≤ a → Hands a shared nothing
+
+    module _ (landed : Landed) where
+      abbrev t : Shared
+      t = landed.shared
+
       step : StepsGoByMoves z a s t
-      step = known.steps z a s t i.good went
-
-      same : (b : ℕ) → (a == b) ≡ true → a ≡ b
-      same b x = is_one a b x
-
-      differs : (b : ℕ) → (a == b) ≡ false → b ≢ a
-      differs b x = is_other a b x
+      step = moves.known.steps z a s t marking_on.i.good landed.went
 
       processors : (b : ℕ) (m : Processor) → b < arena.layout.procs → at (e ∷ es) b ≡ actor.Runs m → MarkFacts z b t m
       processors b m lt is = go (a == b) refl where
         go : (x : Bool) → (a == b) ≡ x → MarkFacts z b t m
-        go true x = subst (λ (y : ℕ). MarkFacts z y t m) (same b x) (own_processor m (ap (at (e ∷ es)) (same b x) ∙ is))
-        go false x = known.processors.lasts z b s t m (step.others b (differs b x)) (i.processors b m lt (sym (other arena.shapes arena.layout pacing e es b x) ∙ is))
+        go true x = subst (λ (y : ℕ). MarkFacts z y t m) (is_one a b x) (landed.own_processor m (ap (at (e ∷ es)) (is_one a b x) ∙ is))
+        go false x = moves.known.processors.lasts z b s t m (step.others b (is_other a b x)) (marking_on.i.processors b m lt (sym (other (setup_in arena pacing may) e es b x) ∙ is))
 
       workers : (b : ℕ) (w : worker.Working) → b < n → at (e ∷ es) b ≡ actor.Marks w → marks.Facts z b t w
       workers b w lt is = go (a == b) refl where
         go : (x : Bool) → (a == b) ≡ x → marks.Facts z b t w
-        go true x = subst (λ (y : ℕ). marks.Facts z y t w) (same b x) (own_worker w (ap (at (e ∷ es)) (same b x) ∙ is))
-        go false x = known.workers.lasts z b s t w (step.others b (differs b x)) (i.workers b w lt (sym (other arena.shapes arena.layout pacing e es b x) ∙ is))
+        go true x = subst (λ (y : ℕ). marks.Facts z y t w) (is_one a b x) (landed.own_worker w (ap (at (e ∷ es)) (is_one a b x) ∙ is))
+        go false x = moves.known.workers.lasts z b s t w (step.others b (is_other a b x)) (marking_on.i.workers b w lt (sym (other (setup_in arena pacing may) e es b x) ∙ is))
 
       coordinator : (b : ℕ) → n ≤ b → Hands b t nothing
       coordinator b le = go (a == b) refl where
         go : (x : Bool) → (a == b) ≡ x → Hands b t nothing
-        go true x = subst (λ (y : ℕ). Hands y t nothing) (same b x) (own_hand (subst (λ (y : ℕ). n ≤ y) (sym (same b x)) le))
-        go false x = known.last z b s t nothing (step.others b (differs b x)) (i.coordinator b le)
+        go true x = subst (λ (y : ℕ). Hands y t nothing) (is_one a b x) (landed.own_hand (subst (λ (y : ℕ). n ≤ y) (sym (is_one a b x)) le))
+        go false x = moves.known.last z b s t nothing (step.others b (is_other a b x)) (marking_on.i.coordinator b le)
 
       -- what its seat is done with is counted
-      scans : (m : Actor) → at es a ≡ m → scanned_by arena.shapes arena.layout pacing e es + counted arena.layout s ≤ counted arena.layout t
-      scans m is = subst (λ (x : Actor). done_by x e.found + counted arena.layout s ≤ counted arena.layout t) (sym is) (subst (λ (r : Arena). done_by m e.found + counted r.layout s ≤ counted r.layout t) i.is.arena_is (go m is)) where
+      scans : (m : Actor) → at es a ≡ m → scanned_by (setup_in arena pacing may) e es + counted arena.layout s ≤ counted arena.layout t
+      scans m is = subst (λ (x : Actor). done_by x e.found + counted arena.layout s ≤ counted arena.layout t) (sym is) (subst (λ (r : Arena). done_by m e.found + counted r.layout s ≤ counted r.layout t) marking_on.i.is.arena_is (go m is)) where
         go : (m : Actor) → at es a ≡ m → done_by m e.found + counted z.arena.layout s ≤ counted z.arena.layout t
-        go (actor.Runs m) is = scanned.none_done known.steps z a s t i.good (heap.objects z s es i.good i.known) i.none_beyond went
-        go (actor.Marks w) is = scanned.works known.steps z a s t i.good (heap.objects z s es i.good i.known) i.none_beyond went w e.found (has_step arena.shapes arena.layout pacing es a w is)
-            (i.workers a w (subst (IsSeated arena.layout a) is (seated arena.shapes arena.layout pacing es a)).1 is) (own_worker (worker.goes w e.found) (works arena.shapes arena.layout pacing e es w is))
-        go (actor.Leads x) is = scanned.none_done known.steps z a s t i.good (heap.objects z s es i.good i.known) i.none_beyond went
+        go (actor.Runs m) is = scanned.none_done moves.known.steps z a s t marking_on.i.good (moves.heap.objects z s es marking_on.i.good marking_on.i.known) marking_on.i.none_beyond landed.went
+        go (actor.Marks w) is = scanned.works moves.known.steps z a s t marking_on.i.good (moves.heap.objects z s es marking_on.i.good marking_on.i.known) marking_on.i.none_beyond landed.went w e.found (has_step (setup_in arena pacing may) es a w is)
+            (marking_on.i.workers a w (subst (IsSeated arena.layout a) is (seated (setup_in arena pacing may) es a)).1 is) (landed.own_worker (worker.goes w e.found) (works (setup_in arena pacing may) e es w is))
+        go (actor.Leads x) is = scanned.none_done moves.known.steps z a s t marking_on.i.good (moves.heap.objects z s es marking_on.i.good marking_on.i.known) marking_on.i.none_beyond landed.went
 
       next : In (e ∷ es) to
       next = record {
         cycle = z;
         shared = t;
-        is = record { arena_is = i.is.arena_is; number_is = i.is.number_is ∙ sym begun_is; words_are = words_are };
+        is = record { arena_is = marking_on.i.is.arena_is; number_is = marking_on.i.is.number_is ∙ sym marking_on.begun_is; words_are = landed.words_are };
         good = step.good;
-        known = heap_is;
+        known = landed.heap_is;
         processors = processors;
         workers = workers;
         coordinator = coordinator;
-        scanned = let before = i.scanned in let more = scans (at es a) refl in let ended = mul-le-mul_right (most_scanned arena.layout) (stored_rises cell.Gen e.ask (stored_in cell.Gen es)) in omega (arith, before, more, ended);
-        none_beyond = beyond_goes z a s t went i.none_beyond;
+        scanned = let before = marking_on.i.scanned in let more = scans (at es a) refl in let ended = mul-le-mul_right (most_scanned arena.layout) (stored_rises cell.Gen e.ask (stored_in cell.Gen es)) in omega (arith, before, more, ended);
+        none_beyond = beyond_goes z a s t landed.went marking_on.i.none_beyond;
       }
 
     -- the words behind the step
     words_then : (t : Shared) (ask : Ask) → t.words ≡ effect s.words ask → e.ask ≡ ask → t.words ≡ words arena pacing may (e ∷ es)
-    words_then t ask is asked = is ∙ (ap (effect s.words) (sym asked) ∙ ap (λ (w : Words). effect w e.ask) i.is.words_are)
+    words_then t ask is asked = is ∙ (ap (effect s.words) (sym asked) ∙ ap (λ (w : Words). effect w e.ask) marking_on.i.is.words_are)
 
     -- whoever steps so leaves the objects
     leaves_objects : (t : Shared) (ask : Ask) → Went z a s t → t.words ≡ effect s.words ask → LeavesHeap ask → LeavesObjects s t
@@ -168,76 +185,91 @@ module _ (arena : Arena) (pacing : Pacing) (may : ℕ → List (Entry Op) → Op
       slots x = ap (λ (w : Words). w (cell.Alloc x)) is ∙ h.alloc s.words x
 
       objects : SameObjects s t
-      objects = objects_stay known.steps z a s t i.good went slots
+      objects = objects_stay moves.known.steps z a s t marking_on.i.good went slots
 
     -- by a processor
     pub by_processor : (m : Processor) → leading.Marks c.stage → a < arena.layout.procs → at es a ≡ actor.Runs m → In (e ∷ es) to
-    by_processor m on lt is = next land.then land.went (words_then land.then e.ask land.words_are refl) land.after.1
-        (λ p now. subst (MarkFacts z a land.then) (let both : actor.Runs (k.takes (started k e.begun m) e.found) ≡ actor.Runs p = sym then ∙ now in cc) land.after.0)
-        (λ w now. absurd (let both : actor.Runs (k.takes (started k e.begun m) e.found) ≡ actor.Marks w = sym then ∙ now in cc))
-        (λ le. absurd (omega arith)) where
-          land : Steps z a s e.ask (λ t. MarkFacts z a t (k.takes (started k e.begun m) e.found) × Knows arena pacing may z t (e ∷ es))
-          land = polls e es c legal led on z s m i.is i.good i.known lt is (i.processors a m lt is)
+    by_processor m on lt is = next (record {
+      shared = land.then;
+      went = land.went;
+      words_are = words_then land.then e.ask land.words_are refl;
+      heap_is = land.after.1;
+      own_processor = λ p now. subst (MarkFacts z a land.then) (let both : actor.Runs (k.takes (started k e.begun m) e.found) ≡ actor.Runs p = sym then ∙ now in cc) land.after.0;
+      own_worker = λ w now. absurd (let both : actor.Runs (k.takes (started k e.begun m) e.found) ≡ actor.Marks w = sym then ∙ now in cc);
+      own_hand = λ le. absurd (omega arith);
+    }) where
+      land : Steps z a s e.ask (λ t. MarkFacts z a t (k.takes (started k e.begun m) e.found) × Knows arena pacing may z t (e ∷ es))
+      land = moves.polls e es c marking_on.legal marking_on.led on z s m marking_on.i.is marking_on.i.good marking_on.i.known lt is (marking_on.i.processors a m lt is)
 
-          then : at (e ∷ es) a ≡ actor.Runs (k.takes (started k e.begun m) e.found)
-          then = runs arena.shapes arena.layout pacing e es m is
+      then : at (e ∷ es) a ≡ actor.Runs (k.takes (started k e.begun m) e.found)
+      then = runs (setup_in arena pacing may) e es m is
 
     -- by a worker, which sweeps no span
     pub by_worker : (w : worker.Working) → worker.sweep_in w ≡ None → arena.layout.procs ≤ a → a < n → at es a ≡ actor.Marks w → In (e ∷ es) to
-    by_worker w none ge lt is = next land.then land.went then_words (heap.lasts e es c to legal led led_then on_then z s land.then i.is i.good (known.steps z a s land.then i.good land.went).good i.known ge land.went (leaves_objects land.then (worker.asks w) land.went land.words_are (works_so w none busy)) (places_none z a land.then (worker.goes w (s.words (cell_of (worker.asks w)))) land.after) then_words)
-        (λ p now. absurd (let both : actor.Marks (worker.goes w e.found) ≡ actor.Runs p = sym then ∙ now in cc))
-        (λ v now. subst (marks.Facts z a land.then) (let both : actor.Marks (worker.goes w e.found) ≡ actor.Marks v = sym then ∙ now in cc) (subst (λ (x : ℕ). marks.Facts z a land.then (worker.goes w x)) (sym found) land.after))
-        (λ le. absurd (omega arith)) where
-          land : Steps z a s (worker.asks w) (λ t. marks.Facts z a t (worker.goes w (s.words (cell_of (worker.asks w)))))
-          land = known.workers.own_step z a s w i.good (heap.objects z s es i.good i.known) none (i.workers a w lt is)
+    by_worker w none ge lt is = next (record {
+      shared = land.then;
+      went = land.went;
+      words_are = then_words;
+      heap_is = moves.heap.lasts e es c to marking_on.legal marking_on.led marking_on.led_then marking_on.on_then z s land.then marking_on.i.is marking_on.i.good (moves.known.steps z a s land.then marking_on.i.good land.went).good marking_on.i.known ge land.went (leaves_objects land.then (worker.asks w) land.went land.words_are (works_so w none busy)) (places_none z a land.then (worker.goes w (s.words (cell_of (worker.asks w)))) land.after) then_words;
+      own_processor = λ p now. absurd (let both : actor.Marks (worker.goes w e.found) ≡ actor.Runs p = sym then ∙ now in cc);
+      own_worker = λ v now. subst (marks.Facts z a land.then) (let both : actor.Marks (worker.goes w e.found) ≡ actor.Marks v = sym then ∙ now in cc) (subst (λ (x : ℕ). marks.Facts z a land.then (worker.goes w x)) (sym found) land.after);
+      own_hand = λ le. absurd (omega arith);
+    }) where
+      land : Steps z a s (worker.asks w) (λ t. marks.Facts z a t (worker.goes w (s.words (cell_of (worker.asks w)))))
+      land = moves.known.workers.own_step z a s w marking_on.i.good (moves.heap.objects z s es marking_on.i.good marking_on.i.known) none (marking_on.i.workers a w lt is)
 
-          asked : e.ask ≡ worker.asks w
-          asked = legal.1.asks ∙ ap asks (ap (started (actors arena.shapes arena.layout pacing) e.begun) is ∙ worker_started arena.shapes arena.layout pacing e.begun w)
+      asked : e.ask ≡ worker.asks w
+      asked = marking_on.legal.1.asks ∙ ap asks (ap (started (actors (setup_in arena pacing may)) e.begun) is ∙ worker_started (setup_in arena pacing may) e.begun w)
 
-          busy : worker.is_busy w.stage ≡ true
-          busy = sym (ap is_busy (ap (started (actors arena.shapes arena.layout pacing) e.begun) is ∙ worker_started arena.shapes arena.layout pacing e.begun w)) ∙ legal.1.runs
+      busy : worker.is_busy w.stage ≡ true
+      busy = sym (ap is_busy (ap (started (actors (setup_in arena pacing may)) e.begun) is ∙ worker_started (setup_in arena pacing may) e.begun w)) ∙ marking_on.legal.1.runs
 
-          told : e.found ≡ words arena pacing may es (cell_of (worker.asks w))
-          told = legal.1.found ∙ ap (λ (q : Ask). words arena pacing may es (cell_of q)) asked
+      told : e.found ≡ words arena pacing may es (cell_of (worker.asks w))
+      told = marking_on.legal.1.found ∙ ap (λ (q : Ask). words arena pacing may es (cell_of q)) asked
 
-          found : e.found ≡ s.words (cell_of (worker.asks w))
-          found = told ∙ ap (λ (x : Words). x (cell_of (worker.asks w))) (sym i.is.words_are)
+      found : e.found ≡ s.words (cell_of (worker.asks w))
+      found = told ∙ ap (λ (x : Words). x (cell_of (worker.asks w))) (sym marking_on.i.is.words_are)
 
-          then : at (e ∷ es) a ≡ actor.Marks (worker.goes w e.found)
-          then = works arena.shapes arena.layout pacing e es w is
+      then : at (e ∷ es) a ≡ actor.Marks (worker.goes w e.found)
+      then = works (setup_in arena pacing may) e es w is
 
-          then_words : land.then.words ≡ words arena pacing may (e ∷ es)
-          then_words = words_then land.then (worker.asks w) land.words_are asked
+      then_words : land.then.words ≡ words arena pacing may (e ∷ es)
+      then_words = words_then land.then (worker.asks w) land.words_are asked
 
     -- by the coordinator
     pub by_coordinator : a ≡ n → at es a ≡ actor.Leads c → IsLight (coord.asks c) → In (e ∷ es) to
-    by_coordinator end is light = next t went then_words (heap.lasts e es c to legal led led_then on_then z s t i.is i.good (known.steps z a s t i.good went).good i.known (omega (arith, end)) went (leaves_objects t (coord.asks c) went refl light.aside) (λ o is. absurd (let none : None ≡ Some o = ((i.coordinator a (omega (arith, end))).has.is_reserved o).1 is in cc)) then_words)
-        (λ p now. absurd (let both : actor.Leads (coord.goes c e.found) ≡ actor.Runs p = sym then ∙ now in cc))
-        (λ v now. absurd (let both : actor.Leads (coord.goes c e.found) ≡ actor.Marks v = sym then ∙ now in cc))
-        (λ le. (known.follow z a s nothing i.good (i.coordinator a le)).quiet (coord.asks c) (light.quiet s)) where
-          t : Shared
-          t = moved z a s (Quiet (coord.asks c))
+    by_coordinator end is light = next (record {
+      shared = t;
+      went = went;
+      words_are = then_words;
+      heap_is = moves.heap.lasts e es c to marking_on.legal marking_on.led marking_on.led_then marking_on.on_then z s t marking_on.i.is marking_on.i.good (moves.known.steps z a s t marking_on.i.good went).good marking_on.i.known (omega (arith, end)) went (leaves_objects t (coord.asks c) went refl light.aside) (λ o is. absurd (let none : None ≡ Some o = ((marking_on.i.coordinator a (omega (arith, end))).has.is_reserved o).1 is in cc)) then_words;
+      own_processor = λ p now. absurd (let both : actor.Leads (coord.goes c e.found) ≡ actor.Runs p = sym then ∙ now in cc);
+      own_worker = λ v now. absurd (let both : actor.Leads (coord.goes c e.found) ≡ actor.Marks v = sym then ∙ now in cc);
+      own_hand = λ le. (moves.known.follow z a s nothing marking_on.i.good (marking_on.i.coordinator a le)).quiet (coord.asks c) (light.quiet s);
+    }) where
+      t : Shared
+      t = moved z a s (Quiet (coord.asks c))
 
-          went : Went z a s t
-          went = goes s (Quiet (coord.asks c)) stays (light.quiet s)
+      went : Went z a s t
+      went = goes s (Quiet (coord.asks c)) stays (light.quiet s)
 
-          asked : e.ask ≡ coord.asks c
-          asked = legal.1.asks ∙ ap asks (ap (started (actors arena.shapes arena.layout pacing) e.begun) is ∙ lead_started arena.shapes arena.layout pacing e.begun c)
+      asked : e.ask ≡ coord.asks c
+      asked = marking_on.legal.1.asks ∙ ap asks (ap (started (actors (setup_in arena pacing may)) e.begun) is ∙ lead_started (setup_in arena pacing may) e.begun c)
 
-          then : at (e ∷ es) a ≡ actor.Leads (coord.goes c e.found)
-          then = leads arena.shapes arena.layout pacing e es c is
+      then : at (e ∷ es) a ≡ actor.Leads (coord.goes c e.found)
+      then = leads (setup_in arena pacing may) e es c is
 
-          then_words : t.words ≡ words arena pacing may (e ∷ es)
-          then_words = words_then t (coord.asks c) refl asked
+      then_words : t.words ≡ words arena pacing may (e ∷ es)
+      then_words = words_then t (coord.asks c) refl asked
 
   -- The begin of a cycle: the world is stopped, and nobody has anything in hand.
   module _ (es : List (Entry Op)) (c : coord.Coordinating) (legal : Legal (setting arena pacing may) es) (led : IsLedBy arena pacing may es c) (b : IsBeginning c.stage)
       (was : WasMarked arena pacing may es) (keeps : KeepsIt (setting arena pacing may) es) where
     pub opened : MayBegin arena pacing may es c
-    opened = heap.begins es c legal led b was
+    opened = moves.heap.begins es c legal led b was
 
     begun : Begins opened.cycle opened.shared
-    begun = known.begin opened.cycle opened.shared opened.opens
+    begun = moves.known.begin opened.cycle opened.shared opened.opens
 
     -- a worker that waits is at its seat
     seat_at : (w : worker.Working) (a : ℕ) (r : resume.Resuming) → w.stage ≡ Resuming r → working.Sound w → (working.party_of w).seat ≡ a → w.seat ≡ a
@@ -247,7 +279,7 @@ module _ (arena : Arena) (pacing : Pacing) (may : ℕ → List (Entry Op) → Op
 
     worker_knows : (a : ℕ) (w : worker.Working) → a < n → at es a ≡ actor.Marks w → marks.Facts opened.cycle a opened.shared w
     worker_knows a w lt is = record {
-      layout_is = (subst (IsSeated arena.layout a) is (seated arena.shapes arena.layout pacing es a)).2 ∙ ap (λ (x : Arena). x.layout) (sym opened.is.arena_is);
+      layout_is = (subst (IsSeated arena.layout a) is (seated (setup_in arena pacing may) es a)).2 ∙ ap (λ (x : Arena). x.layout) (sym opened.is.arena_is);
       seat_in = subst (λ (x : Arena). a < seats_of x.layout) (sym opened.is.arena_is) (omega (arith, lt));
       seat_is = seat_at w a waits.routine waits.is_at (subst (Sound arena.layout) is (keeps.shakes.all_sound a (omega arith))) seat;
       stage_is = subst (marks.StageFacts opened.cycle a opened.shared w.held) (sym waits.is_at) (begun.seats a, waits.none);
@@ -272,6 +304,6 @@ module _ (arena : Arena) (pacing : Pacing) (may : ℕ → List (Entry Op) → Op
       processors = opened.processors;
       workers = worker_knows;
       coordinator = λ a le. begun.seats a;
-      scanned = let before = heap.scanned es c legal led b was in omega (arith, before);
+      scanned = let before = moves.heap.scanned es c legal led b was in omega (arith, before);
       none_beyond = λ i le. opened.opens.untouched i;
     }

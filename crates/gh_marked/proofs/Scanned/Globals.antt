@@ -1,5 +1,5 @@
 -- Each global is counted once in a cycle. While one is marked each that the cursor has passed in it is counted, but for those that workers have in hand; where its marking ends the cursor is past all, and nobody has one.
-use Rattle.std.proofs.Common.{◌≡◌, ◌≢◌, inl, inr, ℕ, suc, ◌+◌, ◌*◌, ◌^◌, ◌<◌, ◌≤◌, ◌==◌, min, Bool, true, false, cond, ltb, refl, sym, ap, subst, ◌∙◌, arith, List, [], ◌∷◌}
+use Rattle.std.proofs.Common.{◌≡◌, ◌≢◌, inl, inr, ℕ, suc, ◌+◌, ◌*◌, ◌<◌, ◌≤◌, ◌==◌, min, Bool, true, false, cond, ltb, refl, sym, ap, subst, ◌∙◌, arith, List, [], ◌∷◌}
 use Rattle.std.proofs.Math.Nat.{mul-le-mul_right}
 use Rattle.gh_base.specs.declared.cell.Cell.TheVariants as cell
 use Rattle.gh_coord.specs.declared.close.CloseStage.TheVariants as close_stage
@@ -13,9 +13,10 @@ use Rattle.gh_worker.specs.Writing.{Rests}
 use Rattle.gh_lists.specs.declared.handshake.Actor.TheVariants as actor
 use Rattle.gh_lists.specs.Lists.{IsEnding}
 use Rattle.gh_lists.specs.Counts.{CountsPlainly, stored_in, stores}
+use Rattle.gh_marked.specs.EveryCycle.{CursorGoes}
 use Rattle.gh_marked.specs.Scanned.{global_at, global_by, global_done, global_held, globals_held, globals_in, GlobalsAreCounted, objects_in, scanned_in}
 use Rattle.gh_lists.specs.Waits.{WorkersRest}
-use Rattle.gh_marked.proofs.Vocabulary.{acks_of, Actor, Add, after_close, Ask, at_stage, cell_of, Close, CloseStage, Coordinating, CoordStage, effect, Entry, IsBeginning, IsLed, KeepsIt, Layout, Legal, nat_tests, Op, Open, Pacing, Processor, processor_kind, ProcessorWritesItsOwn, seats_of, Shape, started, Store, those, words, WorkerStage, Working}
+use Rattle.gh_marked.proofs.Vocabulary.{acks_of, Actor, Add, after_close, Ask, at_stage, cell_of, Close, CloseStage, Coordinating, CoordStage, effect, Entry, IsBeginning, IsLed, KeepsIt, Layout, Legal, nat_tests, Op, Open, Processor, processor_kind, ProcessorWritesItsOwn, seats_of, started, Store, those, words, WorkerStage, Working}
 use Rattle.gh_marked.specs.Checking.{begins, Goes, goes_on, goes_so, leaves}
 use Rattle.gh_lists.specs.Seats.{IsSeated, other, seated}
 use Rattle.gh_lists.specs.Leaving.{ends_marking, marks_or_not}
@@ -23,6 +24,7 @@ use Rattle.gh_lists.specs.Steps as seats
 use Rattle.gh_lists.specs.Sums.{total_at, total_none, total_same}
 use Rattle.gh_lists.specs.Writing.{leaves_numbers}
 use Rattle.gh_marked.proofs.Scanned.Claims.{claimed_at, holds, IsClearing, leads_at, leaves_cursor, LeavesCursor, parts_by, works_at}
+use Rattle.gh_lists.specs.Handshake.{Setup}
 
 -- a worker at rest has no global in hand, and is done with none
 rests_none : (p : WorkerStage) → Rests p → global_held p ≡ 0
@@ -78,105 +80,107 @@ module _ (c : Coordinating) where
   ending_off (Close y) found is on = close_ended y y.stage found is on
   ending_off _ found is on = is
 
-module _ (shapes : List Shape) (l : Layout) (pacing : Pacing) (may : ℕ → List (Entry Op) → Op → Bool) (writes : ProcessorWritesItsOwn)
-    (keeps : (es : List (Entry Op)) → Legal (those shapes l pacing may) es → KeepsIt (those shapes l pacing may) es)
-    (rests : (es : List (Entry Op)) → Legal (those shapes l pacing may) es → WorkersRest (those shapes l pacing may) es)
-    (plainly : (es : List (Entry Op)) (c : Coordinating) → Legal (those shapes l pacing may) es → IsLed shapes l pacing may es c → CountsPlainly (those shapes l pacing may) pacing.room es c)
-    (small : (es : List (Entry Op)) (c : Coordinating) → Legal (those shapes l pacing may) es → IsLed shapes l pacing may es c → leading.Marks c.stage → words shapes l pacing may es cell.Gcur + 1 < 2 ^ 64)
-    (clear : (es : List (Entry Op)) (c : Coordinating) → Legal (those shapes l pacing may) es → IsLed shapes l pacing may es c → IsBeginning c.stage → words shapes l pacing may es cell.Gcur ≡ 0)
-    (passed : (e : Entry Op) (es : List (Entry Op)) (c : Coordinating) → Legal (those shapes l pacing may) (e ∷ es) → IsLed shapes l pacing may es c → e.actor ≡ acks_of l → IsEnding c.stage → l.globals ≤ words shapes l pacing may es cell.Gcur) where
+-- What is cited of processors, and of the lists of a heap that is set up so.
+pub record Cited (setup : Setup) : Type 0 where
+  pub writes : ProcessorWritesItsOwn
+  pub keeps : (es : List (Entry Op)) → Legal (those setup) es → KeepsIt (those setup) es
+  pub rests : (es : List (Entry Op)) → Legal (those setup) es → WorkersRest (those setup) es
+  pub plainly : (es : List (Entry Op)) (c : Coordinating) → Legal (those setup) es → IsLed setup es c → CountsPlainly (those setup) setup.pacing.room es c
+  pub cursor : CursorGoes setup
+
+module _ (setup : Setup) (cited : Cited setup) where
   abbrev n : ℕ
-  n = acks_of l
+  n = acks_of setup.layout
 
   abbrev who : List (Entry Op) → ℕ → Actor
-  who es a = seats.at shapes l pacing may es a
+  who es a = seats.at setup es a
 
   abbrev cursor : List (Entry Op) → ℕ
-  cursor es = words shapes l pacing may es cell.Gcur
+  cursor es = words setup es cell.Gcur
 
   abbrev ended : List (Entry Op) → ℕ
   ended es = stored_in cell.Gen es
 
   abbrev counted : List (Entry Op) → ℕ
-  counted es = globals_in shapes l pacing es
+  counted es = globals_in setup es
 
   abbrev held : List (Entry Op) → ℕ
-  held es = globals_held shapes l pacing es
+  held es = globals_held setup es
 
   record Counted (es : List (Entry Op)) (c : Coordinating) : Type 0 where
-    once : (leading.Marks c.stage → ⊥) → counted es ≡ ended es * l.globals
-    so_far : leading.Marks c.stage → counted es + held es ≡ ended es * l.globals + min (cursor es) l.globals
-    least : ended es * l.globals ≤ counted es
+    once : (leading.Marks c.stage → ⊥) → counted es ≡ ended es * setup.layout.globals
+    so_far : leading.Marks c.stage → counted es + held es ≡ ended es * setup.layout.globals + min (cursor es) setup.layout.globals
+    least : ended es * setup.layout.globals ≤ counted es
 
   abbrev Counts : List (Entry Op) → Type 0
   Counts es = (c : Coordinating) → who es n ≡ actor.Leads c → Counted es c
 
   -- while no cycle is marked nobody has a global in hand
-  none_held : (es : List (Entry Op)) → Legal (those shapes l pacing may) es → (c : Coordinating) → who es n ≡ actor.Leads c → (leading.Marks c.stage → ⊥) → held es ≡ 0
-  none_held es legal c led off = total_none (λ a. global_at (who es a)) (seats_of l) (λ a lt. go a (who es a) refl) where
+  none_held : (es : List (Entry Op)) → Legal (those setup) es → (c : Coordinating) → who es n ≡ actor.Leads c → (leading.Marks c.stage → ⊥) → held es ≡ 0
+  none_held es legal c led off = total_none (λ a. global_at (who es a)) (seats_of setup.layout) (λ a lt. go a (who es a) refl) where
     go : (a : ℕ) (y : Actor) → who es a ≡ y → global_at (who es a) ≡ 0
-    go a (actor.Marks w) is = ap global_at is ∙ rests_none w.stage (rests es legal c a w led off is).rests
+    go a (actor.Marks w) is = ap global_at is ∙ rests_none w.stage (cited.rests es legal c a w led off is).rests
     go a (actor.Runs m) is = ap global_at is
     go a (actor.Leads d) is = ap global_at is
 
   -- before the first step
   first : Counts []
-  first c led = record { once = λ off. omega arith; so_far = λ on. absurd (subst (λ (x : Coordinating). leading.Marks x.stage) (seats.first_lead shapes l pacing may c led) on); least = omega arith }
+  first c led = record { once = λ off. omega arith; so_far = λ on. absurd (subst (λ (x : Coordinating). leading.Marks x.stage) (seats.first_lead setup c led) on); least = omega arith }
 
-  module _ (e : Entry Op) (es : List (Entry Op)) (legal : Legal (those shapes l pacing may) (e ∷ es)) (was : Counts es) where
+  module _ (e : Entry Op) (es : List (Entry Op)) (legal : Legal (those setup) (e ∷ es)) (was : Counts es) where
     -- what the step leaves
     ended_same : stores cell.Gen e.ask ≡ false → ended (e ∷ es) ≡ ended es
     ended_same is = ap (λ (b : Bool). cond b (suc (ended es)) (ended es)) is
 
-    whole_same : stores cell.Gen e.ask ≡ false → ended (e ∷ es) * l.globals ≡ ended es * l.globals
-    whole_same is = ap (λ (k : ℕ). k * l.globals) (ended_same is)
+    whole_same : stores cell.Gen e.ask ≡ false → ended (e ∷ es) * setup.layout.globals ≡ ended es * setup.layout.globals
+    whole_same is = ap (λ (k : ℕ). k * setup.layout.globals) (ended_same is)
 
     -- who steps without being a worker has no global in hand, and is done with none
     module _ (x y : Actor) (is : who es e.actor ≡ x) (then : who (e ∷ es) e.actor ≡ y) (none : global_at x ≡ 0) (none_then : global_at y ≡ 0) (done : global_by x e.found ≡ 0) where
       held_same : held (e ∷ es) ≡ held es
-      held_same = total_same (λ a. global_at (who es a)) (λ a. global_at (who (e ∷ es) a)) (seats_of l) (λ a lt. go a (e.actor == a) refl) where
+      held_same = total_same (λ a. global_at (who es a)) (λ a. global_at (who (e ∷ es) a)) (seats_of setup.layout) (λ a lt. go a (e.actor == a) refl) where
         go : (a : ℕ) (t : Bool) → (e.actor == a) ≡ t → global_at (who (e ∷ es) a) ≡ global_at (who es a)
         go a true e_is =
             let end : e.actor ≡ a = (let q = e_is in grind (arith, nat_tests)) in
             let one : global_at (who (e ∷ es) a) ≡ 0 = ap (λ (i : ℕ). global_at (who (e ∷ es) i)) (sym end) ∙ ap global_at then ∙ none_then in
             let two : global_at (who es a) ≡ 0 = ap (λ (i : ℕ). global_at (who es i)) (sym end) ∙ ap global_at is ∙ none in
             one ∙ sym two
-        go a false e_is = ap global_at (other shapes l pacing e es a e_is)
+        go a false e_is = ap global_at (other setup e es a e_is)
 
       counted_same : counted (e ∷ es) ≡ counted es
       counted_same = let d : global_by (who es e.actor) e.found ≡ 0 = ap (λ (z : Actor). global_by z e.found) is ∙ done in omega (arith, d)
 
     -- a processor's step
-    by_processor : (m : Processor) → seats.RunsIt shapes l pacing may e es m → who (e ∷ es) n ≡ who es n → Counts (e ∷ es)
+    by_processor : (m : Processor) → seats.RunsIt setup e es m → who (e ∷ es) n ≡ who es n → Counts (e ∷ es)
     by_processor m x same c led =
         let b : Counted es c = was c (sym same ∙ led) in
-        let q : LeavesCursor e.ask = subst LeavesCursor (sym x.asked) (leaves_cursor _ (leaves_numbers writes (started (processor_kind shapes l) e.begun m) x.sound_then)) in
-        let h = held_same (actor.Runs m) (actor.Runs (takes shapes (started (processor_kind shapes l) e.begun m) e.found)) x.is x.then refl refl refl in
-        let k = counted_same (actor.Runs m) (actor.Runs (takes shapes (started (processor_kind shapes l) e.begun m) e.found)) x.is x.then refl refl refl in
+        let q : LeavesCursor e.ask = subst LeavesCursor (sym x.asked) (leaves_cursor _ (leaves_numbers cited.writes (started (processor_kind setup.shapes setup.layout) e.begun m) x.sound_then)) in
+        let h = held_same (actor.Runs m) (actor.Runs (takes setup.shapes (started (processor_kind setup.shapes setup.layout) e.begun m) e.found)) x.is x.then refl refl refl in
+        let k = counted_same (actor.Runs m) (actor.Runs (takes setup.shapes (started (processor_kind setup.shapes setup.layout) e.begun m) e.found)) x.is x.then refl refl refl in
         let g = whole_same q.ends in
-        let u = q.cursor (words shapes l pacing may es) in
+        let u = q.cursor (words setup es) in
         record {
           once = λ off. let o = b.once off in omega (arith, o, k, g);
-          so_far = λ on. let o = b.so_far on in let same_min = ap (λ (i : ℕ). min i l.globals) u in omega (arith, o, k, g, h, same_min);
+          so_far = λ on. let o = b.so_far on in let same_min = ap (λ (i : ℕ). min i setup.layout.globals) u in omega (arith, o, k, g, h, same_min);
           least = let o = b.least in omega (arith, o, k, g);
         }
 
     -- a worker's
-    module _ (w : Working) (x : seats.WorksIt shapes l pacing may e es w) (c : Coordinating) (led : who es n ≡ actor.Leads c) where
+    module _ (w : Working) (x : seats.WorksIt setup e es w) (c : Coordinating) (led : who es n ≡ actor.Leads c) where
       b : Counted es c
       b = was c led
 
-      seat_in : e.actor < seats_of l
+      seat_in : e.actor < seats_of setup.layout
       seat_in = let lt = x.seat in omega (arith, lt)
 
       others : (a : ℕ) → a ≢ e.actor → who (e ∷ es) a ≡ who es a
-      others a ne = other shapes l pacing e es a (go (e.actor == a) refl) where
+      others a ne = other setup e es a (go (e.actor == a) refl) where
         go : (t : Bool) → (e.actor == a) ≡ t → (e.actor == a) ≡ false
         go true y = absurd (ne (let s = y in grind (arith, nat_tests)))
         go false y = y
 
-      layout_is : w.layout ≡ l
-      layout_is = (subst (IsSeated l e.actor) x.is (seated shapes l pacing es e.actor)).2
+      layout_is : w.layout ≡ setup.layout
+      layout_is = (subst (IsSeated setup.layout e.actor) x.is (seated setup es e.actor)).2
 
       counted_now : counted (e ∷ es) ≡ counted es + global_done w.stage e.found
       counted_now = ap (λ (z : Actor). counted es + global_by z e.found) x.is
@@ -184,30 +188,30 @@ module _ (shapes : List Shape) (l : Layout) (pacing : Pacing) (may : ℕ → Lis
       -- so many more are counted or in hand as the step claims
       both_now : counted (e ∷ es) + held (e ∷ es) ≡ counted es + held es + claimed_at w.layout w.stage e.found
       both_now =
-          let one = total_at (λ a. global_at (who es a)) (λ a. global_at (who (e ∷ es) a)) (seats_of l) e.actor seat_in (λ a lt ne. ap global_at (others a ne)) in
+          let one = total_at (λ a. global_at (who es a)) (λ a. global_at (who (e ∷ es) a)) (seats_of setup.layout) e.actor seat_in (λ a lt ne. ap global_at (others a ne)) in
           let two : global_at (who es e.actor) ≡ global_held w.stage = ap global_at x.is in
           let three : global_at (who (e ∷ es) e.actor) ≡ global_held (worker.goes w e.found).stage = ap global_at x.then in
           let now = counted_now in
           let four = holds w e.found in
           omega (arith, one, two, three, now, four)
 
-      stays_or_moves : (stores cell.Gen e.ask ≡ false) × (leading.Marks c.stage → min (cursor (e ∷ es)) l.globals ≡ min (cursor es) l.globals + claimed_at w.layout w.stage e.found)
+      stays_or_moves : (stores cell.Gen e.ask ≡ false) × (leading.Marks c.stage → min (cursor (e ∷ es)) setup.layout.globals ≡ min (cursor es) setup.layout.globals + claimed_at w.layout w.stage e.found)
       stays_or_moves = elim (works_at w w.stage) [
         | inl y ↦ (
             let q : LeavesCursor e.ask = subst LeavesCursor (sym x.asked) y.0 in
-            (q.ends, λ on. let u = ap (λ (i : ℕ). min i l.globals) (q.cursor (words shapes l pacing may es)) in let none = y.1 e.found in omega (arith, u, none))
+            (q.ends, λ on. let u = ap (λ (i : ℕ). min i setup.layout.globals) (q.cursor (words setup es)) in let none = y.1 e.found in omega (arith, u, none))
             )
         | inr is ↦ (
             let ask_is : e.ask ≡ Add cell.Gcur 1 = x.asked ∙ ap (worker.asks_at w) is in
-            let found_is : e.found ≡ cursor es = legal.1.found ∙ ap (λ (q : Ask). words shapes l pacing may es (cell_of q)) ask_is in
-            let claimed : claimed_at w.layout w.stage e.found ≡ cond (ltb (cursor es) l.globals) 1 0 = ap (λ (p : WorkerStage). claimed_at w.layout p e.found) is ∙ ap (λ (i : ℕ). cond (ltb i w.layout.globals) 1 0) found_is ∙ ap (λ (y : Layout). cond (ltb (cursor es) y.globals) 1 0) layout_is in (
+            let found_is : e.found ≡ cursor es = legal.1.found ∙ ap (λ (q : Ask). words setup es (cell_of q)) ask_is in
+            let claimed : claimed_at w.layout w.stage e.found ≡ cond (ltb (cursor es) setup.layout.globals) 1 0 = ap (λ (p : WorkerStage). claimed_at w.layout p e.found) is ∙ ap (λ (i : ℕ). cond (ltb i w.layout.globals) 1 0) found_is ∙ ap (λ (y : Layout). cond (ltb (cursor es) y.globals) 1 0) layout_is in (
               ap (stores cell.Gen) ask_is,
               λ on.
-                  let few = small es c legal.0 led on in
-                  let now : cursor (e ∷ es) ≡ cursor es + 1 = ap (λ (q : Ask). effect (words shapes l pacing may es) q cell.Gcur) ask_is ∙ omega (arith, few) in
-                  let u = ap (λ (i : ℕ). min i l.globals) now in
-                  let moved = moves_on (cursor es) l.globals in
-                  u ∙ moved ∙ ap (λ (i : ℕ). min (cursor es) l.globals + i) (sym claimed),
+                  let few = cited.cursor.small es c legal.0 led on in
+                  let now : cursor (e ∷ es) ≡ cursor es + 1 = ap (λ (q : Ask). effect (words setup es) q cell.Gcur) ask_is ∙ omega (arith, few) in
+                  let u = ap (λ (i : ℕ). min i setup.layout.globals) now in
+                  let moved = moves_on (cursor es) setup.layout.globals in
+                  u ∙ moved ∙ ap (λ (i : ℕ). min (cursor es) setup.layout.globals + i) (sym claimed),
             )
             )
       ]
@@ -217,13 +221,13 @@ module _ (shapes : List Shape) (l : Layout) (pacing : Pacing) (may : ℕ → Lis
           let g = whole_same stays_or_moves.0 in
           let now = counted_now in
           record {
-            once = λ off. let o = b.once off in let none = rests_done w.stage e.found (rests es legal.0 c e.actor w led off x.is).rests in omega (arith, o, g, now, none);
+            once = λ off. let o = b.once off in let none = rests_done w.stage e.found (cited.rests es legal.0 c e.actor w led off x.is).rests in omega (arith, o, g, now, none);
             so_far = λ on. let o = b.so_far on in let u = stays_or_moves.1 on in let k = both_now in omega (arith, o, g, u, k);
             least = let o = b.least in omega (arith, o, g, now);
           }
 
     -- the coordinator's
-    module _ (c : Coordinating) (x : seats.LeadsIt shapes l pacing may e es c) where
+    module _ (c : Coordinating) (x : seats.LeadsIt setup e es c) where
       before : Counted es c
       before = was c x.is
 
@@ -242,14 +246,14 @@ module _ (shapes : List Shape) (l : Layout) (pacing : Pacing) (may : ℕ → Lis
       k : counted (e ∷ es) ≡ counted es
       k = counted_same (actor.Leads c) (actor.Leads to) was_at now_at refl refl refl
 
-      goes_by : Goes l c.begun (words shapes l pacing may es) c c.stage to
-      goes_by = goes_so l c.begun (words shapes l pacing may es) c (coord.counted c).marks (subst (IsSeated l n) x.is (seated shapes l pacing es n)).1 refl c.stage e.found x.busy x.found
+      goes_by : Goes setup.layout c.begun (words setup es) c c.stage to
+      goes_by = goes_so setup.layout c.begun (words setup es) c (coord.counted c).marks (subst (IsSeated setup.layout n) x.is (seated setup es n)).1 refl c.stage e.found x.busy x.found
 
       asks_is : stores cell.Gen e.ask ≡ stores cell.Gen (coord.asks c)
       asks_is = ap (stores cell.Gen) x.asked
 
       -- where it is not the end of a cycle's marking
-      goes_still : stores cell.Gen e.ask ≡ false → (leading.Marks to.stage → (counted es + held es ≡ ended es * l.globals + min (cursor (e ∷ es)) l.globals)) → Counted (e ∷ es) to
+      goes_still : stores cell.Gen e.ask ≡ false → (leading.Marks to.stage → (counted es + held es ≡ ended es * setup.layout.globals + min (cursor (e ∷ es)) setup.layout.globals)) → Counted (e ∷ es) to
       goes_still none far =
           let g = whole_same none in
           let same = k in
@@ -266,17 +270,17 @@ module _ (shapes : List Shape) (l : Layout) (pacing : Pacing) (may : ℕ → Lis
       leaving : LeavesCursor (coord.asks c) → Counted (e ∷ es) to
       leaving y = goes_still (asks_is ∙ y.ends) (by goes_by) where
         same : cursor (e ∷ es) ≡ cursor es
-        same = ap (λ (q : Ask). effect (words shapes l pacing may es) q cell.Gcur) x.asked ∙ y.cursor (words shapes l pacing may es)
+        same = ap (λ (q : Ask). effect (words setup es) q cell.Gcur) x.asked ∙ y.cursor (words setup es)
 
-        min_same : min (cursor (e ∷ es)) l.globals ≡ min (cursor es) l.globals
-        min_same = ap (λ (i : ℕ). min i l.globals) same
+        min_same : min (cursor (e ∷ es)) setup.layout.globals ≡ min (cursor es) setup.layout.globals
+        min_same = ap (λ (i : ℕ). min i setup.layout.globals) same
 
-        by : Goes l c.begun (words shapes l pacing may es) c c.stage to → leading.Marks to.stage → counted es + held es ≡ ended es * l.globals + min (cursor (e ∷ es)) l.globals
+        by : Goes setup.layout c.begun (words setup es) c c.stage to → leading.Marks to.stage → counted es + held es ≡ ended es * setup.layout.globals + min (cursor (e ∷ es)) setup.layout.globals
         by (begins at_first light begun_is checked) on =
             let off : leading.Marks c.stage → ⊥ = beginning_off c.stage at_first in
             let o = before.once off in
             let none = none_held es legal.0 c x.is off in
-            let zero = clear es c legal.0 x.is at_first in
+            let zero = cited.cursor.clear es c legal.0 x.is at_first in
             let is = same in
             omega (arith, o, none, zero, is)
         by (goes_on on_was light begun_is checked) on = let o = before.so_far on_was in let is = min_same in omega (arith, o, is)
@@ -284,7 +288,7 @@ module _ (shapes : List Shape) (l : Layout) (pacing : Pacing) (may : ℕ → Lis
 
       clearing : IsClearing c.stage → Counted (e ∷ es) to
       clearing y = goes_still (asks_is ∙ ap (stores cell.Gen) (clearing_asks c c.stage y)) (by goes_by) where
-        by : Goes l c.begun (words shapes l pacing may es) c c.stage to → leading.Marks to.stage → counted es + held es ≡ ended es * l.globals + min (cursor (e ∷ es)) l.globals
+        by : Goes setup.layout c.begun (words setup es) c c.stage to → leading.Marks to.stage → counted es + held es ≡ ended es * setup.layout.globals + min (cursor (e ∷ es)) setup.layout.globals
         by (begins at_first light begun_is checked) on = absurd (clearing_other c.stage y at_first)
         by (goes_on on_was light begun_is checked) on = absurd (clearing_off c.stage y on_was)
         by (leaves off) on = absurd (off on)
@@ -294,44 +298,44 @@ module _ (shapes : List Shape) (l : Layout) (pacing : Pacing) (may : ℕ → Lis
           let o = before.so_far (ending_on c.stage y) in
           let off : leading.Marks to.stage → ⊥ = ending_off (coord.counted c) c.stage e.found y in
           let none = none_held (e ∷ es) legal to x.then off in
-          let past = passed e es c legal x.is x.seat y in
+          let past = cited.cursor.passed e es c legal x.is x.seat y in
           let one : ended (e ∷ es) ≡ suc (ended es) = ap (λ (t : Bool). cond t (suc (ended es)) (ended es)) (asks_is ∙ ending_asks c c.stage y) in
-          let more = ap (λ (i : ℕ). i * l.globals) one in
+          let more = ap (λ (i : ℕ). i * setup.layout.globals) one in
           let same = k in
           let held_is = h in
-          let now : counted (e ∷ es) ≡ ended (e ∷ es) * l.globals = omega (arith, o, none, past, more, same, held_is) in
+          let now : counted (e ∷ es) ≡ ended (e ∷ es) * setup.layout.globals = omega (arith, o, none, past, more, same, held_is) in
           record { once = λ _. now; so_far = λ on. absurd (off on); least = omega (arith, now) }
 
       leads_on : Counted (e ∷ es) to
       leads_on = elim (leads_at c c.stage) [ inl y ↦ leaving y | inr y ↦ elim y [ inl q ↦ clearing q | inr q ↦ ending q ] ]
 
-    by_lead : (c : Coordinating) → seats.LeadsIt shapes l pacing may e es c → Counts (e ∷ es)
+    by_lead : (c : Coordinating) → seats.LeadsIt setup e es c → Counts (e ∷ es)
     by_lead c x d led = subst (Counted (e ∷ es)) (let both : actor.Leads (coord.goes c e.found) ≡ actor.Leads d = sym x.then ∙ led in cc) (leads_on c x)
 
-    by_step : seats.Step shapes l pacing may e es → Counts (e ∷ es)
+    by_step : seats.Step setup e es → Counts (e ∷ es)
     by_step (seats.by_processor m x same) = by_processor m x same
     by_step (seats.by_worker w x same) = λ c led. works_on w x c (sym same ∙ led)
     by_step (seats.by_lead c x) = by_lead c x
 
-  counts : (es : List (Entry Op)) → Legal (those shapes l pacing may) es → Counts es
+  counts : (es : List (Entry Op)) → Legal (those setup) es → Counts es
   counts [] legal = first
-  counts (e ∷ es) legal = by_step e es legal (counts es legal.0) (seats.step shapes l pacing may e es writes legal (keeps es legal.0))
+  counts (e ∷ es) legal = by_step e es legal (counts es legal.0) (seats.step setup e es cited.writes legal (cited.keeps es legal.0))
 
-  parts : (es : List (Entry Op)) → scanned_in shapes l pacing es ≡ globals_in shapes l pacing es + objects_in shapes l pacing es
+  parts : (es : List (Entry Op)) → scanned_in setup es ≡ globals_in setup es + objects_in setup es
   parts [] = refl
   parts (e ∷ es) = let rest = parts es in let now = parts_by (who es e.actor) e.found in omega (arith, rest, now)
 
-  pub globals_are_counted : (es : List (Entry Op)) (c : Coordinating) → Legal (those shapes l pacing may) es → IsLed shapes l pacing may es c → GlobalsAreCounted shapes l pacing es c
+  pub globals_are_counted : (es : List (Entry Op)) (c : Coordinating) → Legal (those setup) es → IsLed setup es c → GlobalsAreCounted setup es c
   globals_are_counted es c legal led =
       let b : Counted es c = counts es legal c led in
-      let plain : CountsPlainly (those shapes l pacing may) pacing.room es c = plainly es c legal led in
+      let plain : CountsPlainly (those setup) setup.pacing.room es c = cited.plainly es c legal led in
       record {
         parts = parts es;
         once = b.once;
         so_far = b.so_far;
         least = b.least;
         most = elim (marks_or_not c.stage) [
-          | inl on ↦ (let o = b.so_far on in let is = ap (λ (i : ℕ). i * l.globals) (plain.marks.1 (inl on)) in omega (arith, o, is))
-          | inr off ↦ (let o = b.once off in let le = mul-le-mul_right l.globals plain.begun_then in omega (arith, o, le))
+          | inl on ↦ (let o = b.so_far on in let is = ap (λ (i : ℕ). i * setup.layout.globals) (plain.marks.1 (inl on)) in omega (arith, o, is))
+          | inr off ↦ (let o = b.once off in let le = mul-le-mul_right setup.layout.globals plain.begun_then in omega (arith, o, le))
         ];
       }

@@ -18,8 +18,8 @@ use Rattle.gh_base.specs.declared.pack.PageWord.TheVariants as page_word
 use Rattle.gh_base.specs.declared.pack.Phase.{Phase}
 use Rattle.gh_base.specs.declared.pack.Phase.TheVariants as phase
 use Rattle.gh_lists.specs.declared.handshake.Actor.TheVariants as actor
-use Rattle.gh_lists.specs.Handshake.{start, takes}
-use Rattle.gh_marked.proofs.Vocabulary.{acks_of, Actor, actors, Entry, Held, Kind, Layout, Op, opening_processor, Pacing, page_of, PageWord, phase_of, Resumed, Shaded, Shape, started, state_of, SweepEnd, Working, WorkerStage}
+use Rattle.gh_lists.specs.Handshake.{start, takes, Setup}
+use Rattle.gh_marked.proofs.Vocabulary.{acks_of, Actor, actors, Entry, Held, Kind, Op, opening_processor, page_of, PageWord, phase_of, Resumed, Shaded, started, state_of, SweepEnd, Working, WorkerStage}
 
 abbrev pub HasStep : WorkerStage → Type 0
 HasStep (at.Scanning s) = scan.is_busy s.stage ≡ true
@@ -119,18 +119,18 @@ abbrev Fits : Actor → Type 0
 Fits (actor.Marks w) = HasStep w.stage
 Fits _ = Unit {0}
 
-module _ (shapes : List Shape) (l : Layout) (pacing : Pacing) where
+module _ (setup : Setup) where
   abbrev all : Kind Actor Op
-  all = actors shapes l pacing
+  all = actors setup
 
-  opens : (a : ℕ) → Fits (start l pacing a)
-  opens a = go (ltb a l.procs) (ltb a (acks_of l)) where
-    go : (b d : Bool) → Fits (cond b (actor.Runs (opening_processor l a)) (cond d (actor.Marks (worker.opening l a)) (actor.Leads (coord.opening l a pacing.gogc pacing.minheap pacing.room))))
+  opens : (a : ℕ) → Fits (start setup.layout setup.pacing a)
+  opens a = go (ltb a setup.layout.procs) (ltb a (acks_of setup.layout)) where
+    go : (b d : Bool) → Fits (cond b (actor.Runs (opening_processor setup.layout a)) (cond d (actor.Marks (worker.opening setup.layout a)) (actor.Leads (coord.opening setup.layout a setup.pacing.gogc setup.pacing.minheap setup.pacing.room))))
     go true d = tt
     go false true = tt
     go false false = tt
 
-  taken : (found : ℕ) (m : Actor) → Fits (takes shapes m found)
+  taken : (found : ℕ) (m : Actor) → Fits (takes setup.shapes m found)
   taken found (actor.Runs m) = tt
   taken found (actor.Marks w) = goes_at w w.stage found
   taken found (actor.Leads c) = tt
@@ -138,7 +138,7 @@ module _ (shapes : List Shape) (l : Layout) (pacing : Pacing) where
   fits : (es : List (Entry Op)) (a : ℕ) → Fits (state_of all a es)
   fits [] a = opens a
   fits (e ∷ es) a = go (e.actor == a) (fits es a) where
-    go : (b : Bool) → Fits (state_of all a es) → Fits (cond b (takes shapes (started all e.begun (state_of all a es)) e.found) (state_of all a es))
+    go : (b : Bool) → Fits (state_of all a es) → Fits (cond b (takes setup.shapes (started all e.begun (state_of all a es)) e.found) (state_of all a es))
     go true f = taken e.found (started all e.begun (state_of all a es))
     go false f = f
 

@@ -5,14 +5,13 @@ use Rattle.std.specs.List.{filter}
 use Rattle.std.proofs.lemmas.Bool.{eqb-true}
 use Rattle.std.proofs.lemmas.Grind.{reverse_onto}
 use Rattle.std.proofs.lemmas.List.{map-append}
-use Rattle.gh_world.specs.Vocabulary.{Act, acts, AllAnswer, Answer, answer_at, answer_of, answered_by, Answered as Deed, begins, by, deeds, Entry, Ever, ever_after, is_busy_at, Layout, Legal, meaning, model_after, Op, op_at, opening_ever, Processor, processor_kind, Program, Shape, started, state_of, takes, Words, words_after}
+use Rattle.gh_world.specs.Vocabulary.{Act, acts, AllAnswer, Answer, answer_at, answer_of, answered_by, Answered as Deed, begins, by, deeds, Entry, Ever, ever_after, is_busy_at, Layout, Legal, meaning, model_after, Op, op_at, opening_ever, Processor, processor_kind, Program, Shape, started, state_of, takes, Words, words_after, has_left_at}
 use Rattle.gh_base.specs.declared.value.Answer.TheVariants as answer
 use Rattle.gh_base.specs.declared.operation.Op.TheVariants as op
 use Rattle.gh_base.specs.Orders.{answered as answered_deed, done_at}
 use Rattle.gh_model.specs.Answers.{Answers, ever_after_all}
 use Rattle.gh_mutator.specs.Acting.{ActsOnce, EachOperationActsOnce}
 use Rattle.gh_mutator.specs.Deeds.{acted, has_point, OnlyPointsChange, point_of}
-use Rattle.gh_mutator.specs.Serving.{has_left_at}
 use Rattle.gh_lists.specs.Order.{answered, Answered, before_step, begun_in, ever_of, order_at, order_of}
 use Rattle.gh_lists.specs.Processors.{arena_of, FullOnlyThere, IsFullFor}
 use Rattle.gh_world.specs.World.{setting_of}

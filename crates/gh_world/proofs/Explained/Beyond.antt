@@ -4,14 +4,13 @@ use Rattle.std.specs.List.{filter}
 use Rattle.std.proofs.lemmas.Bool.{cases_lt}
 use Rattle.std.proofs.lemmas.Bool.Decides.{nat_tests}
 use Rattle.gh_base.specs.declared.value.Answer.TheVariants as answer
-use Rattle.gh_base.specs.declared.value.Name.{Name}
 use Rattle.gh_base.specs.declared.operation.Op.TheVariants as op
 use Rattle.gh_model.specs.Answers.{ever_after_all}
 use Rattle.gh_model.specs.declared.EverValue.TheVariants as values
 use Rattle.gh_model.specs.Ever.{from_field, from_global, from_register, makes_object, next_name, sets_global, stores_value, takes_answer, with_object, with_register}
 use Rattle.gh_world.specs.Cycles.{by_field, by_global, IsHeld}
 use Rattle.gh_world.specs.Turns.{is_statement_of}
-use Rattle.gh_world.specs.Vocabulary.{Answer, Ever, ever_after, EverValue, Op, Reach, Shape}
+use Rattle.gh_world.specs.Vocabulary.{Answer, Ever, ever_after, EverValue, Op, Reach, Shape, Name}
 
 module _ (shapes : List Shape) (g d : ℕ) where
   kept : (e : Ever) (h c : ℕ) (v : EverValue) → eqb h g ≡ false → (with_register e h c v).register g d ≡ e.register g d

@@ -9,13 +9,14 @@ use Rattle.gh_coord.specs.Listing as coord
 use Rattle.gh_lists.specs.declared.handshake.Actor.TheVariants as actor
 use Rattle.gh_lists.specs.Counts.{stored_after, stored_in}
 use Rattle.gh_world.specs.Vocabulary.{acks_of, Actor, Coordinating, CoordStage, Cycle, Entry, Layout, Legal, Op, Program, started, Words, words_after}
-use Rattle.gh_world.specs.RunVocabulary.{actor_after, alloc_words, AllWereCounted, Ask, Cell, Close, cycles_in, Done, effect, ended_by, EndsCycle, generation_of, IsEnding, IsStartOf, LoadAck, mark_words, marked_objects, may_begin_of, opened_in, Outside, pacing_of, Part, part_of, setting_of, swept_cycle, SweptCycle, unmarked_objects, WasCounted, words_in}
+use Rattle.gh_world.specs.RunVocabulary.{actor_after, alloc_words, AllWereCounted, Ask, Cell, Close, cycles_in, Done, effect, ended_by, EndsCycle, generation_of, IsEnding, IsStartOf, LoadAck, mark_words, marked_objects, opened_in, Outside, pacing_of, Part, part_of, setting_of, swept_cycle, SweptCycle, unmarked_objects, WasCounted, words_in}
 use Rattle.gh_lists.specs.Starts.{legal_start}
 use Rattle.gh_lists.specs.Frames.{numbers_of}
 use Rattle.gh_lists.specs.Parts.{At, own_of}
 use Rattle.gh_world.proofs.Explained.Known.{Changes, changes, counted, Known}
 use Rattle.gh_world.proofs.Explained.Acting.{one_more_at}
 use Rattle.gh_lists.specs.Changes.{begins, ends, same, Spares, tells}
+use Rattle.gh_world.specs.World.{setup_of}
 
 -- ---- of lists
 
@@ -136,7 +137,7 @@ module _ (p : Program) (l : Layout) (k : Known p l) where
   -- ---- a cycle that has ended is among them
 
   abbrev pub Ending : (number : ℕ) → List (Entry Op) → Type 0
-  Ending number es = EndsCycle p.shapes l (pacing_of p) (may_begin_of p l) number es
+  Ending number es = EndsCycle (setup_of p l) number es
 
   led_asks : (o : Option Op) (c : Coordinating) → (setting_of p l).kind.asks (started (setting_of p l).kind o (actor.Leads c)) ≡ coord.asks c
   led_asks None c = refl
@@ -189,14 +190,14 @@ module _ (p : Program) (l : Layout) (k : Known p l) where
 
   -- ---- what the coordinator keeps
 
-  kept_at : (es : List (Entry Op)) (c : Coordinating) → Legal (setting_of p l) es → AllWereCounted p.shapes l (pacing_of p) (may_begin_of p l) es c → ((i : ℕ) (y : Cycle) → slice_get c.cycles.items i ≡ Some y → y.k ≡ suc i) →
+  kept_at : (es : List (Entry Op)) (c : Coordinating) → Legal (setting_of p l) es → AllWereCounted (setup_of p l) es c → ((i : ℕ) (y : Cycle) → slice_get c.cycles.items i ≡ Some y → y.k ≡ suc i) →
       (i : ℕ) (y : Cycle) → slice_get c.cycles.items i ≡ Some y → slice_get (ended_in es) i ≡ Some (swept_cycle y)
   kept_at es c legal were number i y at =
       let w = were i y at in
       let k_is = number i y at in
       let x : Ending (suc i) w.ended = subst (λ (n : ℕ). Ending n w.ended) k_is w.ends in
       placed i w.ended es w.start legal x ∙ ap Some (told w k_is) where
-        told : (w : WasCounted p.shapes l (pacing_of p) (may_begin_of p l) es y) → y.k ≡ suc i → ended_at (suc i) (words w.ended) ≡ swept_cycle y
+        told : (w : WasCounted (setup_of p l) es y) → y.k ≡ suc i → ended_at (suc i) (words w.ended) ≡ swept_cycle y
         told w k_is = rw (k_is, w.marked, w.freed) refl
 
   is_outside : (c : Coordinating) → coord.is_done c.stage ≡ true → part_of c.stage ≡ Outside
@@ -211,7 +212,7 @@ module _ (p : Program) (l : Layout) (k : Known p l) where
     pub as_many : length c.cycles.items ≡ words es cell.Swept
     as_many = let o = at_end.opened_is in let m = at_end.keeps.many_are in let room = k.roomy es legal in omega (arith, o, m, room)
 
-    pub cycles_are : AllWereCounted p.shapes l (pacing_of p) (may_begin_of p l) es c → map swept_cycle c.cycles.items ≡ ended_in es
+    pub cycles_are : AllWereCounted (setup_of p l) es c → map swept_cycle c.cycles.items ≡ ended_in es
     cycles_are were =
         let g = at_end.gen_is in
         let many = (numbered es legal).many in

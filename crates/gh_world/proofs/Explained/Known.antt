@@ -1,8 +1,5 @@
 -- What the laws of the actors say of a script's run, as its proofs take it.
 use Rattle.std.proofs.Common.{◌≡◌, ◌≤◌, List, ◌∷◌}
-use Rattle.gh_base.specs.Lists.{Legal}
-use Rattle.gh_coord.specs.Listing.{Coordinating}
-use Rattle.gh_coord.specs.Stopping.{acks_of}
 use Rattle.gh_mutator.specs.Acting.{EachOperationActsOnce}
 use Rattle.gh_mutator.specs.Deeds.{OnlyPointsChange}
 use Rattle.gh_lists.specs.LemmaVocabulary.{ProcessorWritesItsOwn}
@@ -10,9 +7,9 @@ use Rattle.gh_worker.specs.Writing.{WorkersWriteTheirOwn}
 use Rattle.gh_lists.specs.declared.handshake.Actor.TheVariants as actor
 use Rattle.gh_lists.specs.Handshake.{KeepsIt}
 use Rattle.gh_lists.specs.Numbers.{IsFew, opened_in, part_of}
-use Rattle.gh_world.specs.Vocabulary.{Entry, Layout, Op, Program, words_after}
+use Rattle.gh_world.specs.Vocabulary.{Entry, Layout, Op, Program, words_after, Legal, Coordinating, acks_of}
 use Rattle.gh_world.specs.Wishes.{most_cycles}
-use Rattle.gh_world.specs.World.{actor_after, may_begin_of, pacing_of, setting_of}
+use Rattle.gh_world.specs.World.{actor_after, pacing_of, setting_of, setup_of}
 use Rattle.gh_lists.specs.Frames.{numbers_of}
 use Rattle.gh_lists.specs.Parts.{At, own_of}
 use Rattle.gh_lists.specs.Changes.{Change, Rises, EveryListHasItsNumbers, EveryStepChangesNumbers, NoNumberFalls}
@@ -34,15 +31,15 @@ pub record Known (p : Program) (l : Layout) : Type 0 where
 module _ (p : Program) (l : Layout) (k : Known p l) (e : Entry Op) (es : List (Entry Op)) (legal : Legal (setting_of p l) (e ∷ es)) where
   -- what the step is to the numbers of cycles
   abbrev pub Changes : Type 0
-  Changes = Change p.shapes l (pacing_of p) (may_begin_of p l) e es
+  Changes = Change (setup_of p l) e es
 
   pub changes : Changes
-  changes = k.changes p.shapes l (pacing_of p) (may_begin_of p l) e es legal (k.few es legal.0)
+  changes = k.changes (setup_of p l) e es legal (k.few es legal.0)
 
-  pub rises : Rises p.shapes l (pacing_of p) (may_begin_of p l) e es
-  rises = k.rises p.shapes l (pacing_of p) (may_begin_of p l) e es legal (k.few es legal.0)
+  pub rises : Rises (setup_of p l) e es
+  rises = k.rises (setup_of p l) e es legal (k.few es legal.0)
 
 -- the numbers of cycles, by the part of the cycle that the coordinator is in
 pub counted : (p : Program) (l : Layout) (k : Known p l) (es : List (Entry Op)) (c : Coordinating) → Legal (setting_of p l) es → actor_after p l es (acks_of l) ≡ actor.Leads c →
     At (pacing_of p).room (opened_in es) (numbers_of (words_after (setting_of p l).opening es)) (own_of c) (part_of c.stage)
-counted p l k es c legal led = k.numbers p.shapes l (pacing_of p) (may_begin_of p l) es c legal (k.few es legal) led
+counted p l k es c legal led = k.numbers (setup_of p l) es c legal (k.few es legal) led

@@ -14,10 +14,11 @@ use Rattle.gh_coord.specs.Telling as tell
 use Rattle.gh_coord.specs.Watching as watch
 use Rattle.gh_lists.specs.declared.handshake.Actor.TheVariants as actor
 use Rattle.gh_world.specs.Vocabulary.{acks_of, Coordinating, CoordStage, Entry, Layout, Legal, Op, Program}
-use Rattle.gh_world.specs.RunVocabulary.{actor_after, after_check, after_close, after_count, after_open, after_stop, after_stop_again, after_sweep, after_tell, after_watch, All, Ask, at_stage, Check, Close, Count, Done, effect, goes_at, GONE, LoadAck, LoadWant, MarkOn, may_begin_of, NotYet, Open, pacing_of, setting_of, Stop, StopAgain, Sweep, Tell, TellStage, Watch, Watched, words_in}
+use Rattle.gh_world.specs.RunVocabulary.{actor_after, after_check, after_close, after_count, after_open, after_stop, after_stop_again, after_sweep, after_tell, after_watch, All, Ask, at_stage, Check, Close, Count, Done, effect, goes_at, GONE, LoadAck, LoadWant, MarkOn, NotYet, Open, setting_of, Stop, StopAgain, Sweep, Tell, TellStage, Watch, Watched, words_in}
 use Rattle.gh_lists.specs.Steps as seats
 use Rattle.gh_world.proofs.Explained.Known.{Changes, changes, Known, rises}
 use Rattle.gh_lists.specs.Changes.{begins, ends, same, Spares, tells}
+use Rattle.gh_world.specs.World.{setup_of}
 
 -- behind the store of its number a cycle is swept
 abbrev HasToldAt : TellStage → (swept : ℕ) → Type 0
@@ -124,7 +125,7 @@ module _ (p : Program) (l : Layout) (k : Known p l) where
   Holds es = (c : Coordinating) → actor_after p l es (acks_of l) ≡ actor.Leads c → HasTold c.stage (swept es)
 
   holds_on : (e : Entry Op) (es : List (Entry Op)) → Legal (setting_of p l) (e ∷ es) → Holds es → Holds (e ∷ es)
-  holds_on e es legal before = by (seats.step p.shapes l (pacing_of p) (may_begin_of p l) e es k.writes legal (k.keeps es legal.0)) where
+  holds_on e es legal before = by (seats.step (setup_of p l) e es k.writes legal (k.keeps es legal.0)) where
     up : swept es ≤ swept (e ∷ es)
     up = (rises p l k e es legal).swept
 
@@ -139,7 +140,7 @@ module _ (p : Program) (l : Layout) (k : Known p l) where
     by_lead : (b : Coordinating) → e.ask ≡ coord.asks b → coord.is_busy b.stage ≡ true → HasTold b.stage (swept es) → HasTold (coord.goes b e.found).stage (swept (e ∷ es))
     by_lead b asked busy h = goes (coord.counted b) (swept es) (swept (e ∷ es)) e.found up b.stage busy h (λ t at is. stores t.cycle (asked ∙ ap (coord.asks_at b) at ∙ ap (tell.asks_at t) is))
 
-    by : seats.Step p.shapes l (pacing_of p) (may_begin_of p l) e es → Holds (e ∷ es)
+    by : seats.Step (setup_of p l) e es → Holds (e ∷ es)
     by (seats.by_processor m x stays) c led = more c.stage (swept es) (swept (e ∷ es)) up (before c (sym stays ∙ led))
     by (seats.by_worker w x stays) c led = more c.stage (swept es) (swept (e ∷ es)) up (before c (sym stays ∙ led))
     by (seats.by_lead b x) c led =
@@ -148,7 +149,7 @@ module _ (p : Program) (l : Layout) (k : Known p l) where
         subst (λ (y : Coordinating). HasTold y.stage (swept (e ∷ es))) same (by_lead b x.asked x.busy (before b x.is))
 
   holds : (es : List (Entry Op)) → Legal (setting_of p l) es → Holds es
-  holds [] legal c led = subst (λ (y : Coordinating). HasTold y.stage (swept [])) (sym (seats.first_lead p.shapes l (pacing_of p) (may_begin_of p l) c led)) tt
+  holds [] legal c led = subst (λ (y : Coordinating). HasTold y.stage (swept [])) (sym (seats.first_lead (setup_of p l) c led)) tt
   holds (e ∷ es) legal c led = holds_on e es legal (holds es legal.0) c led
 
   -- a cycle was swept

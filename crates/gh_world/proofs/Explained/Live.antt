@@ -4,21 +4,23 @@ use Rattle.std.specs.Prelude.{◌/◌, ◌%◌, sum_by}
 use Rattle.std.specs.Int.{bit_at}
 use Rattle.std.proofs.lemmas.Bool.{eqb-false, eqb-true}
 use Rattle.std.proofs.lemmas.Nat.Bits.{bit_at-lt}
-use Rattle.gh_base.specs.declared.value.Name.{Name}
 use Rattle.gh_base.specs.Rows.{alloc_words, page_words, Row, row_bit}
-use Rattle.gh_heap.specs.Objects.{size_for}
+use Rattle.gh_heap.specs.Objects.{IsMade, size_for}
 use Rattle.gh_state.specs.Slots.{slot_row, SlotsAreRead}
 use Rattle.gh_sweep.specs.Bits.{SetBitsAreCounted, sum_below}
 use Rattle.gh_sweep.specs.Counts.{AreWords, count_below, is_set}
 use Rattle.gh_sweep.specs.Shared.{placed, placed_in}
-use Rattle.gh_world.specs.Cycles.{bytes_of, IsAmong}
+use Rattle.gh_law.specs.Names.{IsAmong}
+use Rattle.gh_world.specs.Cycles.{bytes_of}
 use Rattle.gh_lists.specs.Processors.{arena_of, ever_after_list, IsPlacedAt, ListStands}
 use Rattle.gh_world.specs.Runs.{words_in}
-use Rattle.gh_world.specs.Vocabulary.{Entry, Ever, Layout, Op, Program, Reach, Words}
-use Rattle.gh_world.specs.World.{setting_of}
-use Rattle.gh_world.proofs.Explained.Listing.{each_once, is_listed, listed, lists, many_are, Once, sum_is}
+use Rattle.gh_world.specs.Below.{AllStands}
+use Rattle.gh_world.specs.Vocabulary.{Entry, Ever, Layout, Legal, Op, Program, Reach, Words, Name}
+use Rattle.gh_world.specs.World.{setting_of, setup_of}
+use Rattle.gh_world.proofs.Explained.Known.{Known}
+use Rattle.gh_law.proofs.Named.Listing.{each_once, is_listed, listed, lists, many_are, Once, sum_is}
 use Rattle.gh_lists.specs.SumsBelow.{by_words, sum_same, sum_times}
-use Rattle.gh_world.proofs.Explained.Slots.{AreNamed, Classes, in_arena, InArena, is_placed, name_at, same_or_not}
+use Rattle.gh_law.proofs.Named.Slots.{AreNamed, Classes, in_arena, InArena, is_placed, name_at, same_or_not}
 
 -- ---- the bits of alloc words
 
@@ -73,18 +75,33 @@ bytes_by_bits bits alloc slot pages fit =
 
 -- ---- the objects of a list that are reached
 
-module _ (classes : Classes) (read : SlotsAreRead) (p : Program) (l : Layout) (xs : List (Entry Op)) (st : ListStands (arena_of p.shapes l) (setting_of p l).opening xs) (named : AreNamed (ever_after_list (arena_of p.shapes l) (setting_of p l).opening xs).made (words_in p l xs)) where
+-- what is known of every list of a script
+pub record OfEveryList (p : Program) (l : Layout) : Type 0 where
+  pub classes : Classes
+  pub read : SlotsAreRead
+  pub bits : SetBitsAreCounted
+  pub known : Known p l
+  pub stands : (xs : List (Entry Op)) → Legal (setting_of p l) xs → AllStands (setup_of p l) xs
+  pub made : (xs : List (Entry Op)) (n : Name) → let e = ever_after_list (arena_of p.shapes l) (setting_of p l).opening xs in Reach e n → IsMade e.made n
+
+module _ (p : Program) (l : Layout) (every : OfEveryList p l) (xs : List (Entry Op)) (legal : Legal (setting_of p l) xs) where
   abbrev w : Words
   w = words_in p l xs
 
   abbrev e : Ever
   e = ever_after_list (arena_of p.shapes l) (setting_of p l).opening xs
 
-  there : (n : Name) (a : ℕ) → Reach e n → IsPlacedAt w n a → InArena classes l.pages (page_words w) a (size_for p.shapes e.type_of n)
+  abbrev st : ListStands (arena_of p.shapes l) (setting_of p l).opening xs
+  st = (every.stands xs legal).stands
+
+  abbrev named : AreNamed e.made w
+  named = (every.stands xs legal).objects.named
+
+  there : (n : Name) (a : ℕ) → Reach e n → IsPlacedAt w n a → InArena every.classes l.pages (page_words w) a (size_for p.shapes e.type_of n)
   there n a r at =
       let y = st.stands.slot n r in
       let same : st.stands.place n ≡ a = sym (st.stands.once n a r at) in
-      subst (λ (x : ℕ). InArena classes l.pages (page_words w) x (size_for p.shapes e.type_of n)) same (in_arena classes read l.pages (page_words w) y.p y.h y.i (st.stands.place n) (size_for p.shapes e.type_of n) y.slot)
+      subst (λ (x : ℕ). InArena every.classes l.pages (page_words w) x (size_for p.shapes e.type_of n)) same (in_arena every.classes every.read l.pages (page_words w) y.p y.h y.i (st.stands.place n) (size_for p.shapes e.type_of n) y.slot)
 
   pub one_place : (n : Name) (a b : ℕ) → Reach e n → IsPlacedAt w n a → IsPlacedAt w n b → a ≡ b
   one_place n a b r at other = st.stands.once n a r at ∙ sym (st.stands.once n b r other)
@@ -99,34 +116,41 @@ module _ (classes : Classes) (read : SlotsAreRead) (p : Program) (l : Layout) (x
         let om = st.stands.once m a rm pm in
         st.stands.apart n m 0 0 rn rm ne (omega (arith, sn)) (omega (arith, sm)) (omega (arith, on, om))
 
-  -- those of the words that pass a test, where these are the reached ones
-  module _ (test : ℕ → Bool) (sets : (x : ℕ) → test x ≡ true → is_set (alloc_words w) x ≡ true) (reached : (x : ℕ) → test x ≡ true → Reach e (name_at w e.made named x)) (tests : (n : Name) (a : ℕ) → Reach e n → IsPlacedAt w n a → test a ≡ true) (some : (n : Name) → Reach e n → (a : ℕ) × IsPlacedAt w n a) where
+  -- a test that the places of what is reached pass, and no others
+  pub record TellsReached (test : ℕ → Bool) : Type 0 where
+    pub sets : (x : ℕ) → test x ≡ true → is_set (alloc_words w) x ≡ true
+    pub reached : (x : ℕ) → test x ≡ true → Reach e (name_at w e.made named x)
+    pub tests : (n : Name) (a : ℕ) → Reach e n → IsPlacedAt w n a → test a ≡ true
+    pub some : (n : Name) → Reach e n → (a : ℕ) × IsPlacedAt w n a
+
+  -- what stands at the places that pass it
+  module _ (test : ℕ → Bool) (tells : TellsReached test) where
     abbrev pub names : List Name
     names = listed test (name_at w e.made named) (1024 * l.pages)
 
     pub are_listed : (n : Name) → Reach e n → IsAmong n names
     are_listed n r =
-        let y = some n r in
-        let passes = tests n y.0 r y.1 in
+        let y = tells.some n r in
+        let passes = tells.tests n y.0 r y.1 in
         is_listed test (name_at w e.made named) n (1024 * l.pages) (record {
           x = y.0;
           below = (there n y.0 r y.1).within;
           passes = passes;
-          name_is = one_name (name_at w e.made named y.0) n y.0 (reached y.0 passes) r (is_placed w e.made named y.0 (sets y.0 passes)) y.1;
+          name_is = one_name (name_at w e.made named y.0) n y.0 (tells.reached y.0 passes) r (is_placed w e.made named y.0 (tells.sets y.0 passes)) y.1;
         })
 
     pub are_reached : (n : Name) → IsAmong n names → Reach e n
-    are_reached n a = let s = lists test (name_at w e.made named) n (1024 * l.pages) a in subst (Reach e) s.name_is (reached s.x s.passes)
+    are_reached n a = let s = lists test (name_at w e.made named) n (1024 * l.pages) a in subst (Reach e) s.name_is (tells.reached s.x s.passes)
 
     pub once : Once names
     once = each_once test (name_at w e.made named) one (1024 * l.pages) where
       one : (x y : ℕ) → test x ≡ true → test y ≡ true → name_at w e.made named x ≡ name_at w e.made named y → x ≡ y
       one x y tx ty is =
-          let placed_y = subst (λ (n : Name). IsPlacedAt w n y) (sym is) (is_placed w e.made named y (sets y ty)) in
-          one_place (name_at w e.made named x) x y (reached x tx) (is_placed w e.made named x (sets x tx)) placed_y
+          let placed_y = subst (λ (n : Name). IsPlacedAt w n y) (sym is) (is_placed w e.made named y (tells.sets y ty)) in
+          one_place (name_at w e.made named x) x y (tells.reached x tx) (is_placed w e.made named x (tells.sets x tx)) placed_y
 
     pub many : length names ≡ count_below test (1024 * l.pages)
     many = many_are test (name_at w e.made named) (1024 * l.pages)
 
     pub bytes : sum_by (bytes_of p.shapes e) names ≡ sum_below (λ x. cond (test x) (slot_row (page_words w) (x / 64)) 0) (1024 * l.pages)
-    bytes = sum_is test (name_at w e.made named) (bytes_of p.shapes e) (λ x. slot_row (page_words w) (x / 64)) (1024 * l.pages) (λ x t lt. sym (there (name_at w e.made named x) x (reached x t) (is_placed w e.made named x (sets x t))).bytes_are)
+    bytes = sum_is test (name_at w e.made named) (bytes_of p.shapes e) (λ x. slot_row (page_words w) (x / 64)) (1024 * l.pages) (λ x t lt. sym (there (name_at w e.made named x) x (tells.reached x t) (is_placed w e.made named x (tells.sets x t))).bytes_are)

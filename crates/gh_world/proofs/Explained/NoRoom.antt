@@ -7,10 +7,11 @@ use Rattle.gh_base.specs.declared.operation.Op.TheVariants as op
 use Rattle.gh_model.specs.declared.EverValue.TheVariants as values
 use Rattle.gh_law.specs.Actors.{Awaits}
 use Rattle.gh_lists.specs.Order.{Answered}
-use Rattle.gh_world.specs.RunVocabulary.{arena_of, before_step, ever_of, fits, FoundNoRoom, FullMeansNoRoom, FullOnlyThere, has_field, is_number, is_pointer_field, load_answer, may_begin_of, pacing_of, setting_of, store_answer, told}
+use Rattle.gh_world.specs.RunVocabulary.{arena_of, before_step, ever_of, fits, FoundNoRoom, FullMeansNoRoom, FullOnlyThere, has_field, is_number, is_pointer_field, load_answer, setting_of, store_answer, told}
 use Rattle.gh_world.proofs.Explained.Acted.{full_there}
 use Rattle.gh_world.proofs.Explained.Acting.{acts_there, ActsThere, pointed}
 use Rattle.gh_world.proofs.Explained.Steps.{full_pointed}
+use Rattle.gh_world.specs.World.{setup_of}
 
 -- the heap that never frees has room for each object
 told_no_full : (v : EverValue) → told v ≡ answer.Full → ⊥
@@ -46,7 +47,7 @@ ever_no_full shapes e (op.GetGlobal g d k) full = told_no_full (e.global k) full
 ever_no_full shapes e (op.SetGlobal g k v) full = set_no_full (is_number (e.register g v)) full
 ever_no_full shapes e _ full = absurd (cc)
 
-module _ (p : Program) (l : Layout) (awaits : (es : List (Entry Op)) → Legal (setting_of p l) es → Awaits p.shapes l (pacing_of p) (may_begin_of p l) es) where
+module _ (p : Program) (l : Layout) (awaits : (es : List (Entry Op)) → Legal (setting_of p l) es → Awaits (setup_of p l) es) where
   found_none : (es : List (Entry Op)) (i : ℕ) (x : Answered) (full : Bool) → ActsThere p l es i x full → x.answer ≡ answer.Full → FoundNoRoom p l es i x.op
   found_none es i x true t is =
       let s = t.step in

@@ -12,10 +12,11 @@ use Rattle.gh_mutator.specs.Poll as poll
 use Rattle.gh_mutator.specs.Register as register
 use Rattle.gh_mutator.specs.Store as store
 use Rattle.gh_mutator.specs.Wait as wait
-use Rattle.gh_world.specs.RunVocabulary.{after_poll, given_at, may_begin_of, pacing_of, Polling, setting_of}
+use Rattle.gh_world.specs.RunVocabulary.{after_poll, given_at, Polling, setting_of}
 use Rattle.gh_lists.specs.Stepping as steps
 use Rattle.gh_world.proofs.StepFacts.{begin_facts, step_facts}
 use Rattle.gh_lists.specs.Stepping.{not_full}
+use Rattle.gh_world.specs.World.{setup_of}
 
 -- ---- what a step is to an operation with a point
 
@@ -106,20 +107,20 @@ full_pointed m (task.Leave y) found x e f = absurd (not_full (is_some (leave.giv
 
 module _ (p : Program) (l : Layout) (es : List (Entry Op)) (e : Entry Op) (legal : Legal (setting_of p l) (e ∷ es)) where
   abbrev pub IsNoProcessors : Type 0
-  IsNoProcessors = steps.IsNoProcessors p.shapes l (pacing_of p) (may_begin_of p l) es e legal
+  IsNoProcessors = steps.IsNoProcessors (setup_of p l) es e legal
 
   pub no_processors : l.procs ≤ e.actor → IsNoProcessors
-  no_processors = steps.no_processors p.shapes l (pacing_of p) (may_begin_of p l) es e legal
+  no_processors = steps.no_processors (setup_of p l) es e legal
 
   module _ (a : ℕ) (lt : a < l.procs) where
     abbrev pub IsItsOwn : Type 0
-    IsItsOwn = steps.IsItsOwn p.shapes l (pacing_of p) (may_begin_of p l) es e legal a lt
+    IsItsOwn = steps.IsItsOwn (setup_of p l) es e legal a lt
 
     abbrev pub IsAnothers : Type 0
-    IsAnothers = steps.IsAnothers p.shapes l (pacing_of p) (may_begin_of p l) es e legal a lt
+    IsAnothers = steps.IsAnothers (setup_of p l) es e legal a lt
 
     pub its_own : e.actor ≡ a → IsItsOwn
-    its_own = steps.its_own p.shapes l (pacing_of p) (may_begin_of p l) es e legal a lt
+    its_own = steps.its_own (setup_of p l) es e legal a lt
 
     pub who_steps : IsItsOwn ⊎ IsAnothers
-    who_steps = steps.who_steps p.shapes l (pacing_of p) (may_begin_of p l) es e legal a lt
+    who_steps = steps.who_steps (setup_of p l) es e legal a lt

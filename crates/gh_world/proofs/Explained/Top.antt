@@ -3,8 +3,6 @@ use Rattle.std.proofs.Common.{◌≡◌, ℕ, ◌+◌, ◌*◌, ◌%◌, ◌^◌
 use Rattle.std.specs.List.{filter}
 use Rattle.std.proofs.lemmas.Bool.{cases_lt}
 use Rattle.gh_base.specs.declared.cell.Cell.TheVariants as cell
-use Rattle.gh_coord.specs.declared.coord.CoordStage.{CoordStage}
-use Rattle.gh_coord.specs.declared.coord.CoordStage.TheVariants.{Done}
 use Rattle.gh_coord.specs.Handshake as leading
 use Rattle.gh_coord.specs.Listing as coord
 use Rattle.gh_coord.specs.Listing.{lapsed_at}
@@ -15,8 +13,8 @@ use Rattle.gh_lists.specs.Counts.{stored_in}
 use Rattle.gh_law.specs.Credit.{CreditStands, EveryListBalances, lapsed_in, spent_in}
 use Rattle.gh_lists.specs.Order.{acted_in, Answered}
 use Rattle.gh_world.specs.Runs.{CreditIsTold, spent_after}
-use Rattle.gh_world.specs.Vocabulary.{acts, Coordinating, Entry, Ever, Layout, Legal, Name, Op, opening_ever, processor_kind, Program, Reach, state_of, statements_of, WellFormed}
-use Rattle.gh_world.specs.RunVocabulary.{actor_after, AllStands, answers_given, AreFew, AreLive, arena_of, before_step, count_of, CyclesAreFew, EachOperationActsOnce, ever_after_list, ever_of, EveryListKeepsIt, EveryListOfAScriptStands, EveryRunIsExplained, has_ended, is_statement_of, IsExplained, IsHeld, IsMade, IsRun, IsStartOf, LaysOut, LeavesTheReached, may_begin_of, OnlyPointsChange, op_of, order_of, outcome_by, pacing_of, ProcessorsBeginFew, ProcessorWritesItsOwn, SetBitsAreCounted, setting_of, SlotsAreRead, total_of, wishes_of, WorkersWriteTheirOwn, swept_cycle}
+use Rattle.gh_world.specs.Vocabulary.{acts, Coordinating, Entry, Ever, Layout, Legal, Name, Op, opening_ever, processor_kind, Program, Reach, state_of, statements_of, WellFormed, CoordStage}
+use Rattle.gh_world.specs.RunVocabulary.{actor_after, AllStands, answers_given, AreFew, AreLive, arena_of, before_step, count_of, CyclesAreFew, EachOperationActsOnce, ever_after_list, ever_of, EveryListKeepsIt, EveryListOfAScriptStands, EveryRunIsExplained, has_ended, is_statement_of, IsExplained, IsHeld, IsMade, IsRun, IsStartOf, LaysOut, LeavesTheReached, OnlyPointsChange, op_of, order_of, outcome_by, ProcessorsBeginFew, ProcessorWritesItsOwn, SetBitsAreCounted, setting_of, SlotsAreRead, total_of, wishes_of, WorkersWriteTheirOwn, swept_cycle, Done}
 use Rattle.gh_world.proofs.Asking.{asked_of}
 use Rattle.gh_world.proofs.EachOnce.{acted_ops, none_beyond}
 use Rattle.gh_world.proofs.OfScripts.{few_in_all, many_wishes, shapes_good}
@@ -27,14 +25,15 @@ use Rattle.gh_world.proofs.Explained.Answers as answers
 use Rattle.gh_world.proofs.Explained.Beyond.{all_leave, held_at_end}
 use Rattle.gh_world.proofs.Explained.Cycles.{cycles_are, is_done, many_ended}
 use Rattle.gh_world.proofs.Explained.Known.{Known}
-use Rattle.gh_world.proofs.Explained.Last.{some_swept}
+use Rattle.gh_world.proofs.Explained.Live.{OfEveryList}
 use Rattle.gh_lists.specs.Made.{grows, made_all}
-use Rattle.gh_world.proofs.Explained.Naming.{IsNamed, named-acted, named-opening, reached-made}
+use Rattle.gh_law.proofs.Named.Naming.{IsNamed, named-acted, named-opening, reached-made}
 use Rattle.gh_world.proofs.Explained.NoRoom.{full_means}
-use Rattle.gh_world.proofs.Explained.Slots.{Classes}
+use Rattle.gh_law.proofs.Named.Slots.{Classes}
 use Rattle.gh_world.proofs.Explained.Swept.{gcs_wait}
 use Rattle.gh_world.proofs.Explained.Totals.{are_live}
 use Rattle.gh_lists.specs.Changes.{EveryListHasItsNumbers, EveryStepChangesNumbers, NoNumberFalls}
+use Rattle.gh_world.specs.World.{given_for, setup_of}
 
 pub record Laws : Type 0 where
   pub every : EveryListOfAScriptStands
@@ -65,7 +64,7 @@ few_of p g formed =
 module _ (laws : Laws) (p : Program) (l : Layout) (formed : WellFormed p) (out : LaysOut p l) where
   are_few : (es : List (Entry Op)) → Legal (setting_of p l) es → AreFew (wishes_of p) l es
   are_few es legal =
-      laws.few p.shapes l (pacing_of p) (may_begin_of p l) (arena_of p.shapes l).seat_of (wishes_of p)
+      laws.few (setup_of p l) (arena_of p.shapes l).seat_of (wishes_of p)
       (laws.begins_few (arena_of p.shapes l) (wishes_of p) (λ a es. state_of (processor_kind p.shapes l) a es) (few_in_all p l formed out)) es legal
 
   known : Known p l
@@ -74,7 +73,7 @@ module _ (laws : Laws) (p : Program) (l : Layout) (formed : WellFormed p) (out :
     points = laws.points;
     writes = laws.writes;
     works = laws.works;
-    keeps = λ es legal. laws.keeps p.shapes l (pacing_of p) (may_begin_of p l) es legal;
+    keeps = λ es legal. laws.keeps (setup_of p l) es legal;
     few = λ es legal. (are_few es legal).few;
     changes = laws.changes;
     rises = laws.rises;
@@ -82,10 +81,10 @@ module _ (laws : Laws) (p : Program) (l : Layout) (formed : WellFormed p) (out :
     roomy = λ es legal. let o = (are_few es legal).opened in let many = many_wishes p l formed out in omega (arith, o, many);
   }
 
-  every : (es : List (Entry Op)) → Legal (setting_of p l) es → AllStands p.shapes l (pacing_of p) (may_begin_of p l) es
+  every : (es : List (Entry Op)) → Legal (setting_of p l) es → AllStands (setup_of p l) es
   every es legal = laws.every p l es formed out legal
 
-  awaits : (es : List (Entry Op)) → Legal (setting_of p l) es → Awaits p.shapes l (pacing_of p) (may_begin_of p l) es
+  awaits : (es : List (Entry Op)) → Legal (setting_of p l) es → Awaits (setup_of p l) es
   awaits es legal = (every es legal).awaits
 
   -- ---- the heap that never frees
@@ -103,6 +102,9 @@ module _ (laws : Laws) (p : Program) (l : Layout) (formed : WellFormed p) (out :
   made : (xs : List (Entry Op)) (n : Name) → Reach (ever xs) n → IsMade (ever xs).made n
   made xs n r = reached-made (ever xs) (subst IsNamed (sym (same_ever xs)) (is_named xs)) n r
 
+  of_every : OfEveryList p l
+  of_every = record { classes = laws.classes; read = laws.slots; bits = laws.bits; known = known; stands = every; made = made }
+
   more_made : (es start : List (Entry Op)) → IsStartOf start es → (n : Name) → IsMade (ever start).made n → IsMade (ever es).made n
   more_made es start is n lt =
       let up = grows p.shapes n.g l start es is in
@@ -112,7 +114,7 @@ module _ (laws : Laws) (p : Program) (l : Layout) (formed : WellFormed p) (out :
 
   -- ---- at the end of a run
   module _ (es : List (Entry Op)) (c : Coordinating) (run : IsRun p l es) (led : actor_after p l es (l.procs + l.workers) ≡ actor.Leads c) where
-    stands : AllStands p.shapes l (pacing_of p) (may_begin_of p l) es
+    stands : AllStands (setup_of p l) es
     stands = every es run.legal
 
     has : Acted p l es
@@ -121,7 +123,7 @@ module _ (laws : Laws) (p : Program) (l : Layout) (formed : WellFormed p) (out :
     done : coord.is_done c.stage ≡ true
     done = sym (ap has_ended led) ∙ run.done (l.procs + l.workers) (omega arith)
 
-    last : LeavesTheReached p.shapes l (pacing_of p) (may_begin_of p l) es c
+    last : LeavesTheReached (setup_of p l) es c
     last = stands.last c led (is_done c.stage done)
 
     ops : map (λ (a : Answered). a.op) (acted_in p.shapes l es) ≡ reverse (ops_in p l es)
@@ -149,13 +151,12 @@ module _ (laws : Laws) (p : Program) (l : Layout) (formed : WellFormed p) (out :
         omega (arith, most, same, asks, few, lt)
 
     lives : AreLive p.shapes (ever_of p.shapes l es) (outcome_by (answers_given p l es) (spent_after p l es) c).objects c.live
-    lives = subst (λ (e : Ever). AreLive p.shapes e (outcome_by (answers_given p l es) (spent_after p l es) c).objects c.live) (same_ever es)
-        (are_live laws.classes laws.slots laws.bits p l known every (λ xs legal. (every xs legal).objects.named) made es c run.legal led done (some_swept p l known es c run.legal led (is_done c.stage done)) stands.objects.fits (stands.counts c led) last held (more_made es) few_made)
+    lives = subst (λ (e : Ever). AreLive p.shapes e (outcome_by (answers_given p l es) (spent_after p l es) c).objects c.live) (same_ever es) (are_live p l of_every es c run.legal led done held (more_made es) few_made)
 
     -- at the end all credit is settled
     credit : CreditIsTold p l es (outcome_by (answers_given p l es) (spent_after p l es) c)
     credit =
-        let b : CreditStands p.shapes l (pacing_of p) (may_begin_of p l) es = laws.balances p.shapes l (pacing_of p) (wishes_of p) es (shapes_good p formed) l.limits (few_in_all p l formed out) run.legal in
+        let b : CreditStands (setup_of p l) es = laws.balances (given_for p l) es (shapes_good p formed) l.limits (few_in_all p l formed out) run.legal in
         let at_end : c.stage ≡ Done = is_done c.stage done in
         let s = b.settled c led (subst (λ (q : CoordStage). leading.Marks q → ⊥) (sym at_end) (λ x. x)) in
         let lapsed : lapsed_in es ≡ c.lapsed = s.lapsed ∙ ap (lapsed_at c.lapsed) at_end in

@@ -7,17 +7,18 @@ use Rattle.gh_base.specs.declared.cell.Cell.TheVariants as cell
 use Rattle.gh_coord.specs.Listing as coord
 use Rattle.gh_lists.specs.declared.handshake.Actor.TheVariants as actor
 use Rattle.gh_world.specs.Vocabulary.{acks_of, bit, Coordinating, Cycle, Entry, Ever, Layout, Legal, Name, Op, Program, Reach, row_bit, Words}
-use Rattle.gh_world.specs.RunVocabulary.{actor_after, alloc_words, AllStands, AllWereCounted, AreLive, arena_of, AreWords, Ask, by_field, by_global, effect, EndsCycle, ever_after_list, from_field, from_global, is_set, IsAmong, IsHeld, IsMade, IsMarkedObject, IsPlacedAt, IsStartOf, last_kept, LeavesTheReached, mark_words, marked_by, marked_objects, may_begin_of, pacing_of, page_words, SetBitsAreCounted, setting_of, slot_row, SlotsAreRead, words_in}
+use Rattle.gh_world.specs.RunVocabulary.{actor_after, alloc_words, AllStands, AreLive, arena_of, Ask, by_field, by_global, effect, EndsCycle, ever_after_list, from_field, from_global, is_set, IsAmong, IsHeld, IsMade, IsMarkedObject, IsPlacedAt, IsStartOf, last_kept, LeavesTheReached, mark_words, marked_by, marked_objects, page_words, setting_of, slot_row, words_in}
 use Rattle.gh_lists.specs.Starts.{legal_start, start_of_start, whole}
-use Rattle.gh_world.proofs.Explained.Cycles.{as_many, at_end, ends_by}
-use Rattle.gh_world.proofs.Explained.Known.{Known}
-use Rattle.gh_world.proofs.Explained.Listing.{are_apart, no_more}
+use Rattle.gh_world.proofs.Explained.Cycles.{as_many, at_end, ends_by, is_done}
+use Rattle.gh_world.proofs.Explained.Last.{some_swept}
+use Rattle.gh_law.proofs.Named.Listing.{are_apart, no_more}
 use Rattle.gh_lists.specs.SumsBelow.{sum_same}
 use Rattle.gh_world.proofs.Explained.Live as live
-use Rattle.gh_world.proofs.Explained.Live.{bytes_by_bits, set_is}
+use Rattle.gh_world.proofs.Explained.Live.{bytes_by_bits, OfEveryList, set_is}
 use Rattle.gh_lists.specs.Names.{same_name}
 use Rattle.gh_lists.specs.Resting.{ever_stays}
-use Rattle.gh_world.proofs.Explained.Slots.{AreNamed, Classes, is_made, is_placed, name_at}
+use Rattle.gh_law.proofs.Named.Slots.{AreNamed, is_made, is_placed, name_at}
+use Rattle.gh_world.specs.World.{setup_of}
 
 reached_of_held : (e : Ever) (n : Name) → IsHeld e n → Reach e n
 reached_of_held e n (by_global i m is) = from_global i m is
@@ -39,10 +40,7 @@ second_true : (a b : Bool) → (a && b) ≡ true → b ≡ true
 second_true true b e = e
 second_true false b e = absurd cc
 
-module _ (classes : Classes) (read : SlotsAreRead) (bits : SetBitsAreCounted) (p : Program) (l : Layout) (k : Known p l)
-    (every : (xs : List (Entry Op)) → Legal (setting_of p l) xs → AllStands p.shapes l (pacing_of p) (may_begin_of p l) xs)
-    (named : (xs : List (Entry Op)) → Legal (setting_of p l) xs → AreNamed (ever_after_list (arena_of p.shapes l) (setting_of p l).opening xs).made (words_in p l xs))
-    (made : (xs : List (Entry Op)) (n : Name) → Reach (ever_after_list (arena_of p.shapes l) (setting_of p l).opening xs) n → IsMade (ever_after_list (arena_of p.shapes l) (setting_of p l).opening xs).made n) where
+module _ (p : Program) (l : Layout) (every : OfEveryList p l) where
   abbrev words : List (Entry Op) → Words
   words xs = words_in p l xs
 
@@ -50,7 +48,10 @@ module _ (classes : Classes) (read : SlotsAreRead) (bits : SetBitsAreCounted) (p
   ever xs = ever_after_list (arena_of p.shapes l) (setting_of p l).opening xs
 
   abbrev IsMarked : Words → Name → Type 0
-  IsMarked w n = IsMarkedObject p.shapes l (pacing_of p) (may_begin_of p l) w n
+  IsMarked w n = IsMarkedObject (setup_of p l) w n
+
+  abbrev named : (xs : List (Entry Op)) → Legal (setting_of p l) xs → AreNamed (ever xs).made (words xs)
+  named xs legal = (every.stands xs legal).objects.named
 
   -- where the objects that stand are those that are reached
   module _ (es : List (Entry Op)) (legal : Legal (setting_of p l) es) (left : (n : Name) → IsMade (ever es).made n → ((a : ℕ) × IsPlacedAt (words es) n a) ↔ Reach (ever es) n) where
@@ -60,8 +61,14 @@ module _ (classes : Classes) (read : SlotsAreRead) (bits : SetBitsAreCounted) (p
     is_standing : (n : Name) (a : ℕ) → Reach (ever es) n → IsPlacedAt (words es) n a → is_set (alloc_words (words es)) a ≡ true
     is_standing n a r at = set_is (alloc_words (words es)) a at.set
 
+    abbrev set_then : ℕ → Bool
+    set_then = is_set (alloc_words (words es))
+
+    set_tells : live.TellsReached p l every es legal set_then
+    set_tells = record { sets = λ x t. t; reached = stands_reached; tests = is_standing; some = λ n r. (left n (every.made es n r)).1 r }
+
     abbrev standing : List Name
-    standing = live.names classes read p l es (every es legal).stands (named es legal) (is_set (alloc_words (words es))) (λ x t. t) stands_reached is_standing (λ n r. (left n (made es n r)).1 r)
+    standing = live.names p l every es legal set_then set_tells
 
     -- where a cycle's marking ended, as many were marked, if they were the same
     module _ (before : List (Entry Op)) (legal_before : Legal (setting_of p l) before) (grows : (n : Name) → IsMade (ever before).made n → IsMade (ever es).made n) (few : (n : Name) → IsMade (ever es).made n → n.k < 2 ^ 32)
@@ -80,20 +87,23 @@ module _ (classes : Classes) (read : SlotsAreRead) (bits : SetBitsAreCounted) (p
 
       is_marked : (n : Name) (a : ℕ) → Reach (ever before) n → IsPlacedAt w n a → test a ≡ true
       is_marked n a r at =
-          let m = (then n (made before n r)).1 r in
-          let one : m.0 ≡ a = live.one_place classes read p l before (every before legal_before).stands (named before legal_before) n m.0 a r m.1 at in
+          let m = (then n (every.made before n r)).1 r in
+          let one : m.0 ≡ a = live.one_place p l every before legal_before n m.0 a r m.1 at in
           both_true (is_set (alloc_words w) a) (is_set (mark_words w) a) (set_is (alloc_words w) a at.set) (set_is (mark_words w) a (ap (row_bit (mark_words w)) (sym one) ∙ m.2))
 
       some_marked : (n : Name) → Reach (ever before) n → (a : ℕ) × IsPlacedAt w n a
-      some_marked n r = let m = (then n (made before n r)).1 r in (m.0, m.1)
+      some_marked n r = let m = (then n (every.made before n r)).1 r in (m.0, m.1)
+
+      test_tells : live.TellsReached p l every before legal_before test
+      test_tells = record { sets = sets; reached = marks_reached; tests = is_marked; some = some_marked }
 
       abbrev marked : List Name
-      marked = live.names classes read p l before (every before legal_before).stands (named before legal_before) test sets marks_reached is_marked some_marked
+      marked = live.names p l every before legal_before test test_tells
 
       to_standing : (n : Name) → IsAmong n marked → IsAmong n standing
       to_standing n a =
-          let r = live.are_reached classes read p l before (every before legal_before).stands (named before legal_before) test sets marks_reached is_marked some_marked n a in
-          live.are_listed classes read p l es (every es legal).stands (named es legal) (is_set (alloc_words (words es))) (λ x t. t) stands_reached is_standing (λ m q. (left m (made es m q)).1 q) n ((same n (grows n (made before n r))).0 ((then n (made before n r)).1 r))
+          let r = live.are_reached p l every before legal_before test test_tells n a in
+          live.are_listed p l every es legal set_then set_tells n ((same n (grows n (every.made before n r))).0 ((then n (every.made before n r)).1 r))
 
       -- what is marked there was made by then
       was_made : (n : Name) → IsMade (ever es).made n → IsMarked w n → IsMade (ever before).made n
@@ -107,27 +117,35 @@ module _ (classes : Classes) (read : SlotsAreRead) (bits : SetBitsAreCounted) (p
 
       to_marked : (n : Name) → IsAmong n standing → IsAmong n marked
       to_marked n a =
-          let r = live.are_reached classes read p l es (every es legal).stands (named es legal) (is_set (alloc_words (words es))) (λ x t. t) stands_reached is_standing (λ m q. (left m (made es m q)).1 q) n a in
-          live.are_listed classes read p l before (every before legal_before).stands (named before legal_before) test sets marks_reached is_marked some_marked n (there n (made es n r) ((same n (made es n r)).1 r)) where
+          let r = live.are_reached p l every es legal set_then set_tells n a in
+          live.are_listed p l every before legal_before test test_tells n (there n (every.made es n r) ((same n (every.made es n r)).1 r)) where
             there : (n : Name) → IsMade (ever es).made n → IsMarked w n → Reach (ever before) n
             there n of m = (then n (was_made n of m)).0 m
 
       as_marked : length marked ≡ length standing
       as_marked =
-          let one = no_more marked standing (live.once classes read p l before (every before legal_before).stands (named before legal_before) test sets marks_reached is_marked some_marked) to_standing in
-          let other = no_more standing marked (live.once classes read p l es (every es legal).stands (named es legal) (is_set (alloc_words (words es))) (λ x t. t) stands_reached is_standing (λ m q. (left m (made es m q)).1 q)) to_marked in
+          let one = no_more marked standing (live.once p l every before legal_before test test_tells) to_standing in
+          let other = no_more standing marked (live.once p l every es legal set_then set_tells) to_marked in
           omega (arith, one, other)
 
       marked_are : marked_objects (alloc_words w) (mark_words w) 0 l.pages ≡ length standing
       marked_are =
           sum_same (λ x. bit (is_set (alloc_words w) (1024 * 0 + x) && is_set (mark_words w) (1024 * 0 + x))) (λ x. bit (test x)) (1024 * l.pages) (λ x lt. ap (λ (y : ℕ). bit (test y)) (omega arith))
-          ∙ sym (live.many classes read p l before (every before legal_before).stands (named before legal_before) test sets marks_reached is_marked some_marked)
+          ∙ sym (live.many p l every before legal_before test test_tells)
           ∙ as_marked
 
   -- ---- at the end of a run
   module _ (es : List (Entry Op)) (c : Coordinating) (legal : Legal (setting_of p l) es) (led : actor_after p l es (acks_of l) ≡ actor.Leads c) (done : coord.is_done c.stage ≡ true)
-      (some : 1 ≤ words es cell.Swept) (fits : AreWords (alloc_words (words es))) (were : AllWereCounted p.shapes l (pacing_of p) (may_begin_of p l) es c) (last : LeavesTheReached p.shapes l (pacing_of p) (may_begin_of p l) es c)
       (held : (n : Name) → Reach (ever es) n → IsHeld (ever es) n) (grows : (start : List (Entry Op)) → IsStartOf start es → (n : Name) → IsMade (ever start).made n → IsMade (ever es).made n) (few : (n : Name) → IsMade (ever es).made n → n.k < 2 ^ 32) where
+    abbrev stands : AllStands (setup_of p l) es
+    stands = every.stands es legal
+
+    some : 1 ≤ words es cell.Swept
+    some = some_swept p l every.known es c legal led (is_done c.stage done)
+
+    last : LeavesTheReached (setup_of p l) es c
+    last = stands.last c led (is_done c.stage done)
+
     abbrev names : List Name
     names = standing es legal last.left
 
@@ -138,26 +156,26 @@ module _ (classes : Classes) (read : SlotsAreRead) (bits : SetBitsAreCounted) (p
     newest = get_or c.cycles.items (length c.cycles.items - 1) filler
 
     long : length c.cycles.items ≡ words es cell.Swept
-    long = as_many p l k es c legal led done
+    long = as_many p l every.known es c legal led done
 
     is_newest : slice_get c.cycles.items (length c.cycles.items - 1) ≡ Some newest
     is_newest = slice_get-get_or c.cycles.items (length c.cycles.items - 1) filler (omega (arith, long, some))
 
     number_is : newest.k ≡ c.begun
     number_is =
-        let at = at_end p l k es c legal led done in
+        let at = at_end p l every.known es c legal led done in
         let n = at.number_is in
         let m = at.keeps.numbered (length c.cycles.items - 1) newest is_newest in
         omega (arith, n, m, long, some)
 
-    counted_there : (ended : List (Entry Op)) → IsStartOf ended es → EndsCycle p.shapes l (pacing_of p) (may_begin_of p l) newest.k ended → marked_objects (alloc_words (words ended)) (mark_words (words ended)) 0 l.pages ≡ length names
+    counted_there : (ended : List (Entry Op)) → IsStartOf ended es → EndsCycle (setup_of p l) newest.k ended → marked_objects (alloc_words (words ended)) (mark_words (words ended)) 0 l.pages ≡ length names
     counted_there [] start ends = absurd ends
     counted_there (e ∷ before) start ends =
         let legal_ended = legal_start (setting_of p l) (e ∷ before) es start legal in
-        let stores = ends_by p l k newest.k e before legal_ended ends in
-        let begun : EndsCycle p.shapes l (pacing_of p) (may_begin_of p l) c.begun (e ∷ before) = subst (λ (n : ℕ). EndsCycle p.shapes l (pacing_of p) (may_begin_of p l) n (e ∷ before)) number_is ends in
+        let stores = ends_by p l every.known newest.k e before legal_ended ends in
+        let begun : EndsCycle (setup_of p l) c.begun (e ∷ before) = subst (λ (n : ℕ). EndsCycle (setup_of p l) n (e ∷ before)) number_is ends in
         let beyond : l.procs ≤ e.actor = let it = ends.by in omega (arith, it) in
-        let stays : ever es ≡ ever before = last.unchanged (e ∷ before) start begun ∙ ever_stays p.shapes l (pacing_of p) (may_begin_of p l) k.points e before legal_ended beyond in
+        let stays : ever es ≡ ever before = last.unchanged (e ∷ before) start begun ∙ ever_stays (setup_of p l) every.known.points e before legal_ended beyond in
         let now : (n : Name) → IsMade (ever es).made n → IsMarked (effect (words before) e.ask) n ↔ Reach (ever es) n = last.marked (e ∷ before) start begun in
         let was : (n : Name) → IsMade (ever es).made n → IsMarked (words before) n ↔ Reach (ever es) n = subst (λ (q : Ask). (n : Name) → IsMade (ever es).made n → IsMarked (effect (words before) q) n ↔ Reach (ever es) n) stores.1 now in
         ap (λ (q : Ask). marked_objects (alloc_words (effect (words before) q)) (mark_words (effect (words before) q)) 0 l.pages) stores.1
@@ -165,18 +183,20 @@ module _ (classes : Classes) (read : SlotsAreRead) (bits : SetBitsAreCounted) (p
 
     objects_are : marked_by (last_kept c.cycles) ≡ length names
     objects_are =
-        let y = were (length c.cycles.items - 1) newest is_newest in
+        let y = stands.counts c led (length c.cycles.items - 1) newest is_newest in
         ap marked_by is_newest ∙ y.marked ∙ counted_there y.ended y.start y.ends
+
+    abbrev set_at_end : ℕ → Bool
+    set_at_end = set_then es legal last.left
+
+    tells : live.TellsReached p l every es legal set_at_end
+    tells = set_tells es legal last.left
 
     pub are_live : AreLive p.shapes (ever es) (marked_by (last_kept c.cycles)) c.live
     are_live = record {
       names = names;
-      all = λ n. (
-        λ h. live.are_listed classes read p l es (every es legal).stands (named es legal) (is_set (alloc_words (words es))) (λ x t. t) (stands_reached es legal last.left) (is_standing es legal last.left) (λ m q. (last.left m (made es m q)).1 q) n (reached_of_held (ever es) n h),
-        λ a. held n (live.are_reached classes read p l es (every es legal).stands (named es legal) (is_set (alloc_words (words es))) (λ x t. t) (stands_reached es legal last.left) (is_standing es legal last.left) (λ m q. (last.left m (made es m q)).1 q) n a),
-      );
-      once = are_apart names (live.once classes read p l es (every es legal).stands (named es legal) (is_set (alloc_words (words es))) (λ x t. t) (stands_reached es legal last.left) (is_standing es legal last.left) (λ m q. (last.left m (made es m q)).1 q));
+      all = λ n. (λ h. live.are_listed p l every es legal set_at_end tells n (reached_of_held (ever es) n h), λ a. held n (live.are_reached p l every es legal set_at_end tells n a));
+      once = are_apart names (live.once p l every es legal set_at_end tells);
       objects_are = objects_are;
-      bytes_are = last.live ∙ bytes_by_bits bits (alloc_words (words es)) (slot_row (page_words (words es))) l.pages fits
-          ∙ sym (live.bytes classes read p l es (every es legal).stands (named es legal) (is_set (alloc_words (words es))) (λ x t. t) (stands_reached es legal last.left) (is_standing es legal last.left) (λ m q. (last.left m (made es m q)).1 q));
+      bytes_are = last.live ∙ bytes_by_bits every.bits (alloc_words (words es)) (slot_row (page_words (words es))) l.pages stands.objects.fits ∙ sym (live.bytes p l every es legal set_at_end tells);
     }

@@ -8,16 +8,16 @@ use Rattle.gh_base.specs.declared.value.Answer.TheVariants as answer
 use Rattle.gh_model.specs.Answers.{Answers, ever_after_all}
 use Rattle.gh_model.specs.Ever.{load_answer, makes_object, sets_global, store_answer, stores_value, takes_answer, with_end}
 use Rattle.gh_model.specs.declared.EverValue.TheVariants as values
-use Rattle.gh_mutator.specs.Acting.{EachOperationActsOnce}
 use Rattle.gh_lists.specs.Order.{acted_in, Answered, before_step, begun_in, ever_of, in_range, order_of}
 use Rattle.gh_world.specs.Points.{answers_of, ever_along, GoesAlong, ops_of, statements_acted, StatementsAreEnough, with_ends}
-use Rattle.gh_world.specs.RunVocabulary.{AllStands, arena_of, EveryListOfAScriptStands, has_ended, IsExplained, LaysOut, may_begin_of, OnlyPointsChange, pacing_of, setting_of, wishes_of}
+use Rattle.gh_world.specs.RunVocabulary.{AllStands, arena_of, EveryListOfAScriptStands, has_ended, IsExplained, LaysOut, OnlyPointsChange, setting_of, wishes_of, EachOperationActsOnce}
 use Rattle.gh_lines.specs.Text.{Outcome}
 use Rattle.gh_world.specs.Vocabulary.{Act, acted, acts, AllAnswer, Answer, answer_at, Begins, by, Entry, Ever, ever_after, EverValue, is_statement, Layout, Legal, Op, opening_ever, processor_kind, Program, Shape, state_of, WellFormed}
 use Rattle.gh_lists.specs.Beginning.{may_parts}
 use Rattle.gh_world.proofs.Explained.Acted.{acted_all, acts_last, answers_in, ever_is, map-reverse, ops_in}
 use Rattle.gh_world.proofs.Explained.Steps.{its_own, no_processors}
 use Rattle.gh_world.proofs.Explained.Cycles.{is_done}
+use Rattle.gh_world.specs.World.{setup_of}
 
 -- ---- heaps, but for which goroutines have ended
 
@@ -208,7 +208,7 @@ module _ (every : EveryListOfAScriptStands) (points : OnlyPointsChange) (each : 
   abbrev in_order : List Answered
   in_order = acted_in p.shapes l es
 
-  stands : AllStands p.shapes l (pacing_of p) (may_begin_of p l) es
+  stands : AllStands (setup_of p l) es
   stands = every p l es formed out x.run.legal
 
   -- what it comes to along all that acts

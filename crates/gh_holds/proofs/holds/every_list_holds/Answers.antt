@@ -1,8 +1,8 @@
-use Rattle.gh_holds.specs.Drawing.{DrawnKnown}
-use Rattle.gh_holds.specs.Known.{Known}
+use Rattle.gh_marked.specs.Drawing.{DrawnKnown}
+use Rattle.gh_marked.specs.Known.{Known}
 use Rattle.gh_holds.proofs.AllActors.Lists.{held}
 use Rattle.gh_holds.specs.OfLists.{LawsOfLists, lists_known}
-use Rattle.gh_holds.proofs.AllActors.Wanted.{Wanted}
+use Rattle.gh_marked.proofs.OneStep.Wanted.{Wanted}
 use Rattle.gh_holds.proofs.holds.every_list_holds.Goals as goal
 
 module _ (c : goal.After-every_global_is_counted) where
@@ -91,5 +91,5 @@ pub returns-clause-lists : goal.returns-clause-lists
 returns-clause-lists c = laws c
 
 pub returns-clause-holds : goal.returns-clause-holds
-returns-clause-holds c shapes l pacing counts es good limits fit legal =
-    held shapes l pacing counts good limits (known c) (wanted c) (lists_known (laws c) shapes l pacing counts fit) c.every_cycle_is_marked.ensures c.every_global_is_counted.ensures es legal
+returns-clause-holds c given es good limits fit legal =
+    held given (wanted c) (lists_known (laws c) given good limits (known c) fit) c.every_cycle_is_marked.ensures c.every_global_is_counted.ensures es legal

@@ -3,6 +3,6 @@ use Rattle.gh_holds.specs.OfLists.{lists_known}
 use Rattle.gh_law.proofs.actors.every_list_of_actors_stands.Goals as goal
 
 pub returns : goal.returns
-returns c shapes l pacing counts es good limits fit legal =
-    list_stands shapes l pacing counts good limits c.every_list_holds.ensures.known c.slots_are_read.ensures (lists_known c.every_list_holds.ensures.lists shapes l pacing counts fit)
-    (λ xs is. c.every_list_holds.ensures.holds shapes l pacing counts xs good limits fit is) es legal
+returns c given es good limits fit legal =
+    list_stands given c.slots_are_read.ensures (lists_known c.every_list_holds.ensures.lists given good limits c.every_list_holds.ensures.known fit)
+    (λ xs is. c.every_list_holds.ensures.holds given xs good limits fit is) es legal

@@ -1,4 +1,5 @@
-use Rattle.gh_marked.proofs.CycleMarking.Lists.{marks_to_the_end}
+use Rattle.gh_lists.specs.Marking.{setup_in}
+use Rattle.gh_marked.proofs.CycleMarking.Lists.{Cited, marks_to_the_end}
 use Rattle.gh_marked.proofs.CycleMarking.Moving.{Known}
 use Rattle.gh_marked.proofs.marked.every_cycle_is_marked.Goals as goal
 
@@ -13,7 +14,13 @@ returns c arena pacing may limits polls heap es lead legal led on =
       follow = c.hands_follow.ensures;
       last = c.facts_last.ensures.hands;
     } in
-    marks_to_the_end arena pacing may limits known polls heap
-    (c.every_list_keeps_the_handshake.ensures arena.shapes arena.layout pacing may)
-    (c.every_step_keeps_the_handshake.ensures arena.shapes arena.layout pacing may)
-    c.a_step_changes_one_cell.ensures c.marking_ends_clean.ensures.done c.marking_ends_clean.ensures.clean es lead legal led on
+    let cited : Cited arena pacing may = record {
+      limits = limits;
+      moves = record { known = known; polls = polls; heap = heap };
+      keeps = c.every_list_keeps_the_handshake.ensures (setup_in arena pacing may);
+      step_keeps = c.every_step_keeps_the_handshake.ensures (setup_in arena pacing may);
+      one = c.a_step_changes_one_cell.ensures;
+      done = c.marking_ends_clean.ensures.done;
+      clean = c.marking_ends_clean.ensures.clean;
+    } in
+    marks_to_the_end arena pacing may cited es lead legal led on

@@ -55,7 +55,7 @@ loop-g-preserved c = record {
       elim c.match-take.branch [
         | in-Some w ↦ subst (λ (lists : Lists). Midway p xs _ c.take.new.self lists) (sym w.ever-is)
             (next_goes_on p c.args.points.now c.args.answers.now xs along c.loop-g.g-index c.loop-g-test.true c.loop-g.told c.loop-g.ever m c.take.result c.take.ensures.first w.in-Some.answer w.in-Some.is c.take.new.self w.agrees_at-agrees.new.ever
-            w.agrees_at-agrees.ensures.shapes (w.agrees_at-agrees.ensures.left _ at) (w.agrees_at-agrees.ensures.after _ at) c.take.ensures.rest)
+            (record { shapes = w.agrees_at-agrees.ensures.shapes; left = w.agrees_at-agrees.ensures.left _ at; after = w.agrees_at-agrees.ensures.after _ at; taken = c.take.ensures.rest }))
         | in-None w ↦ absurd (told_some p c.args.points.now c.args.answers.now xs along c.loop-g.g-index c.loop-g-test.true c.loop-g.told c.loop-g.ever m c.take.result c.take.ensures.first w.in-None.is)
       ];
 }

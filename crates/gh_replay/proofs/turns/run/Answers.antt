@@ -5,7 +5,7 @@ use Rattle.gh_world.specs.Turns.{total_of}
 use Rattle.gh_world.specs.World.{actors_of, answered_in}
 use Rattle.gh_replay.specs.Places.{Keeps, standing_at}
 use Rattle.gh_replay.specs.Standing.{Standing}
-use Rattle.gh_replay.proofs.Kept.{is_finished, keeps_less, keeps_on}
+use Rattle.gh_replay.proofs.Kept.{is_finished, keeps_less, keeps_on, Stepped}
 use Rattle.gh_replay.proofs.Running.{Midway, more, opens, ran, room_for, roomy}
 use Rattle.gh_replay.proofs.turns.run.Goals as goal
 use Rattle.gh_replay.proofs.turns.run.Goals.{in-Answered, in-Moved, in-Swept, in-Finished}
@@ -36,8 +36,9 @@ loop-left-preserved c =
     let m = c.loop-left.invariant.midway in
     let going = c.in-Some.ensures.going in
     let all : Keeps c.take_turn.new.self c.loop-left.kept.items c.loop-left.world = c.take_turn.ensures.kept in
+    let step : Stepped c.loop-left.world c.step.new.self c.in-Some.actor c.step.result m.turns = record { before = m.after; appends = c.step.ensures.appended m.turns m.after; script = c.step.ensures.script; layout = c.step.ensures.layout; count = c.step.ensures.actors; there = going.0; on = going.1 } in
     let same : is_finished c.step.result ≡ false → Keeps c.take_turn.new.self c.loop-left.kept.items c.step.new.self =
-    keeps_on c.loop-left.world c.step.new.self c.in-Some.actor c.step.result m.turns m.after (c.step.ensures.appended m.turns m.after) c.step.ensures.script c.step.ensures.layout c.step.ensures.actors going.0 going.1 c.take_turn.new.self c.loop-left.kept.items all in
+    keeps_on c.loop-left.world c.step.new.self c.in-Some.actor c.step.result m.turns step c.take_turn.new.self c.loop-left.kept.items all in
     let next : c.take_turn.new.self.next < actors_of c.step.new.self = let there = c.take_turn.ensures.next in let count = c.step.ensures.actors in omega (arith, there, count) in
     elim c.match-step.branch [
       | in-Answered w ↦ record {
@@ -77,7 +78,7 @@ loop-left-preserved c =
         few = c.step.ensures.few;
         within = c.take_turn.ensures.within;
         next = next;
-        kept = rw w.kept-is (keeps_less c.loop-left.world c.step.new.self c.in-Some.actor c.step.result m.turns m.after (c.step.ensures.appended m.turns m.after) c.step.ensures.script c.step.ensures.layout c.step.ensures.actors going.0 going.1 c.take_turn.new.self c.loop-left.kept.items all
+        kept = rw w.kept-is (keeps_less c.loop-left.world c.step.new.self c.in-Some.actor c.step.result m.turns step c.take_turn.new.self c.loop-left.kept.items all
             _ w.take_out.ensures (ap is_finished w.in-Finished.is));
         room = rw (w.answers-is, c.step.ensures.script) c.loop-left.invariant.room;
       }

@@ -1,16 +1,32 @@
 use Rattle.std.proofs.Common.{refl, ap}
 use Rattle.gh_base.specs.declared.cell.Ask.TheVariants as ask
 use Rattle.gh_base.specs.declared.cell.Req.TheVariants.{Load}
-use Rattle.gh_table.proofs.Keeping.{asked}
+use Rattle.gh_table.proofs.Keeping.{asked, NotedStep}
 use Rattle.gh_table.proofs.table.load_word.Goals as goal
 
 pub load-requires : goal.load-requires
 load-requires g c =
-    asked c.a_state_is_of_its_own_entries.ensures g.K.Plan.setting c.args.words.now.key c.args.layout.now c.args.words.now.table_id.words c.requires.words c.steps_are_shown.ensures c.cells_have_words_of_their_own.ensures.below c.args.seat.now.table_id c.args.words.now.table_id c.requires.table.0 c.args.words.now.table_id.slots c.args.seat.now.id c.args.seat.now.me g.N.NextStep.actor g.N.NextStep.begun g.N.NextStep.ask c.args.actor c.args.begun.now (ask.Load c.args.cell) (Load c.word.result) (Load c.word.result)
-    (λ n. n)
-    c.requires.step
-    (ap Load c.word.ensures.at)
-    refl
-    c.requires.may
-    c.requires.within
-    (λ n. refl)
+    let noted : NotedStep g.K.Plan.setting = record {
+      plan = c.args.words.now.key;
+      layout = c.args.layout.now;
+      words = c.args.words.now.table_id.words;
+      laid = c.requires.words;
+      shown = c.steps_are_shown.ensures;
+      below = c.cells_have_words_of_their_own.ensures.below;
+      slots = c.args.words.now.table_id.slots;
+      id = c.args.seat.now.id;
+      me = c.args.seat.now.me;
+      actor = c.args.actor;
+      begun = c.args.begun.now;
+      ask = ask.Load c.args.cell;
+      may = c.requires.may;
+      within = c.requires.within;
+      noted_actor = g.N.NextStep.actor;
+      noted_begun = g.N.NextStep.begun;
+      noted_ask = g.N.NextStep.ask;
+      note = c.requires.step;
+      made = Load c.word.result;
+      is_made = ap Load c.word.ensures.at;
+    } in
+    let step = asked c.a_state_is_of_its_own_entries.ensures g.K.Plan.setting noted (Load c.word.result) (λ n. n) refl (λ n. refl) in
+    (c.requires.table.0, step.0, step.1)

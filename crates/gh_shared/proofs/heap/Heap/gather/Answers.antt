@@ -6,6 +6,7 @@ use Rattle.gh_shared.specs.Plans.{Planned, setting}
 use Rattle.gh_shared.specs.declared.machine.ActorMachine.{ActorMachine}
 use Rattle.gh_shared.specs.Shown.{CarriesSo, drawn_by, first_of, leader_of}
 use Rattle.gh_shared.proofs.Carrying.{carried_both, count_few}
+use Rattle.gh_shared.proofs.Drawing.{Joined}
 use Rattle.gh_shared.proofs.heap.Heap.gather.Goals as goal
 
 pub overflow_add-h : goal.overflow_add-h
@@ -33,8 +34,9 @@ invariant_of-h c =
     let theirs_is = c.leader_of.ensures ∙ ap (λ (x : ActorMachine). leader_of x o.led) j.machine in
     let its : c.drawn_by.result ≡ drawn_by o.hand.machine = c.drawn_by.ensures ∙ ap drawn_by j.machine in
     let state : actor_of o.hand.machine ≡ state_of (setting h.hand.seat.me.0.plan).kind o.hand.actor o.hand.seat.me.0.log = subst (λ (q : Planned). actor_of o.hand.machine ≡ state_of (setting q).kind o.hand.actor o.hand.seat.me.0.log) plan o.hand.state in
+    let joined : Joined h.hand.seat.me.0 o.hand.seat.me.0 new.seat.me.0 = record { both = j.carries; apart = j.apart; own = j.own; theirs = j.other } in
     let led : c.first_of.result ≡ first_of h.led (leader_of o.hand.machine o.led) = c.first_of.ensures ∙ (λ i. first_of (c.take.ensures.value i) (theirs_is i)) in
     record {
       kept = rw (j.same.0, j.same.1, j.same.3, j.own h.hand.actor h.hand.carries) h.kept;
-      carries = rw (j.same.0, j.same.1, j.same.3, led, its) (carried_both c.a_state_is_of_its_own_entries.ensures h.hand.seat.me.0.plan h.hand.seat.me.0.actors o.hand.seat.me.0.actors new.seat.me.0.actors h.hand.seat.me.0.log o.hand.seat.me.0.log new.seat.me.0.log h.hand.actor o.hand.actor h.hand.machine o.hand.machine h.carried o.carried h.drawn o.drawn h.led o.led j.carries j.apart h.hand.carries o.hand.carries j.own j.other state h.carries theirs);
+      carries = rw (j.same.0, j.same.1, j.same.3, led, its) (carried_both c.a_state_is_of_its_own_entries.ensures h.hand.seat.me.0.plan h.hand.seat.me.0 o.hand.seat.me.0 new.seat.me.0 h.hand.actor o.hand.actor h.hand.machine o.hand.machine h.carried o.carried h.drawn o.drawn h.led o.led joined h.hand.carries o.hand.carries state h.carries theirs);
     }

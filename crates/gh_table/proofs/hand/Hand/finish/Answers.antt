@@ -26,7 +26,7 @@ loop-preserved g c =
       (λ es began. inv.2 es (saw_before g.K.Plan.setting now.actor was.seat.me now.seat.me c.go_on.ensures.saw es began)),
       (
         n ∷ inv.3.0,
-        ran_more g.M.Machine.asks g.M.Machine.goes fn.actor None n inv.3.0 fn.machine was.machine now.machine fn.seat.me was.seat.me now.seat.me (left_none inv.3.0) inv.3.1 step,
+        ran_more g.M.Machine.asks g.M.Machine.goes fn.actor None n inv.3.0 fn.machine (left_none inv.3.0) inv.3.1 step,
         goes_more (record { layout = g.M.Machine.layout; busy = g.M.Machine.busy; asks = g.M.Machine.asks; goes = g.M.Machine.goes; gives = g.M.Machine.gives }) fn.machine was.machine n inv.3.0 g.met.M.Machine.ends inv.3.1.machine inv.3.2
             (subst IsNone c.go_on.ensures.step.2 (none_of c.go_on.result c.in_default.not-Some)),
       ),
@@ -41,7 +41,7 @@ returns-in-Some-go_on-clause-ran g c =
     let n = c.go_on.ensures.step.0 in
     let step = subst (λ (a : ℕ). Ran g.M.Machine.asks g.M.Machine.goes a None was.machine was.seat.me now.machine now.seat.me (n ∷ [])) inv.0 c.go_on.ensures.step.1 in (
       n ∷ inv.3.0,
-      ran_more g.M.Machine.asks g.M.Machine.goes fn.actor None n inv.3.0 fn.machine was.machine now.machine fn.seat.me was.seat.me now.seat.me (left_none inv.3.0) inv.3.1 step,
+      ran_more g.M.Machine.asks g.M.Machine.goes fn.actor None n inv.3.0 fn.machine (left_none inv.3.0) inv.3.1 step,
       ap (λ x. g.M.Machine.gives x n) (sym inv.3.1.machine) ∙ (sym c.go_on.ensures.step.2 ∙ c.in-Some-go_on.is),
     )
 

@@ -1,9 +1,8 @@
 use Rattle.std.proofs.Common.{sym, subst}
-use Rattle.gh_world.specs.Turns.{Follows, goroutine_at}
 use Rattle.gh_world.specs.World.{AreTurns}
 use Rattle.gh_world.proofs.Due.{due_goroutine}
 use Rattle.gh_world.proofs.Fitting.{begun_fits, stated_fits, turns_begun}
-use Rattle.gh_world.proofs.Vocabulary.{Progress}
+use Rattle.gh_world.proofs.Vocabulary.{Progress, Follows, goroutine_at}
 use Rattle.gh_world.proofs.progress.Progress.advance.Goals as goal
 
 pub count-requires-clause-there : goal.count-requires-clause-there

@@ -1,9 +1,8 @@
 use Rattle.std.proofs.Common.{◌≡◌, Some, sym, subst, ◌∙◌}
 use Rattle.gh_mutator.specs.Mutating.{begins, layout}
-use Rattle.gh_world.specs.Turns.{op_due}
 use Rattle.gh_world.specs.World.{FitTurns}
 use Rattle.gh_world.proofs.Fitting.{due_room, due_sound, due_named, fit_begun}
-use Rattle.gh_world.proofs.Vocabulary.{Progress}
+use Rattle.gh_world.proofs.Vocabulary.{Progress, op_due}
 use Rattle.gh_world.proofs.runner.Runner.begin_due.Goals as goal
 
 pub begin-requires-clause-op : goal.begin-requires-clause-op

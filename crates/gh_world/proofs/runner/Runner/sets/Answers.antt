@@ -1,6 +1,4 @@
 use Rattle.std.proofs.Common.{◌≡◌, Bool, false, sym, ap, subst, ◌∙◌, Some, slice_index}
-use Rattle.gh_base.specs.Steps.{cell_of, changed, request}
-use Rattle.gh_base.specs.declared.cell.Ask.{Ask}
 use Rattle.gh_base.specs.declared.cell.Req.{Req}
 use Rattle.gh_base.specs.declared.cell.Ask.TheVariants.{Load}
 use Rattle.gh_base.specs.declared.cell.Cell.TheVariants.{Touch}
@@ -9,10 +7,9 @@ use Rattle.gh_base.specs.declared.value.Answer.TheVariants.{Done}
 use Rattle.gh_world.specs.declared.event.Event.TheVariants.{Answered}
 use Rattle.gh_world.specs.declared.runner.Runner.{Runner}
 use Rattle.gh_world.specs.World.{event_at, found_for, now_of}
-use Rattle.gh_world.specs.Turns.{op_due}
 use Rattle.gh_world.proofs.AtOnce.{at_once}
 use Rattle.gh_world.proofs.Fitting.{due_sound}
-use Rattle.gh_world.proofs.Vocabulary.{InRange, Progress, progress_after, statement_answer}
+use Rattle.gh_world.proofs.Vocabulary.{InRange, Progress, progress_after, statement_answer, cell_of, changed, request, Ask, op_due}
 use Rattle.gh_world.proofs.runner.Runner.sets.Goals as goal
 
 pub sets-requires-clause-op : goal.sets-requires-clause-op

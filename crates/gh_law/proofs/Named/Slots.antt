@@ -1,0 +1,122 @@
+-- Where an object stands its slot lies in the arena, and the bytes of the slot are those that the page words say; and the names of the alloc bits that are set.
+use Rattle.std.proofs.Common.{◌≡◌, ◌≢◌, ℕ, ◌+◌, ◌*◌, ◌-◌, ◌<◌, ◌≤◌, ◌⊎◌, inl, inr, Bool, true, false, cond, eqb, refl, sym, ap, ◌∙◌, arith}
+use Rattle.std.specs.Prelude.{◌/◌, ◌%◌}
+use Rattle.std.proofs.lemmas.Bool.{eqb-true, eqb-false}
+use Rattle.gh_base.specs.declared.value.Name.{Name}
+use Rattle.gh_base.specs.declared.pack.SpanHead.{SpanHead}
+use Rattle.gh_base.specs.Rows.{alloc_words, Row, row_bit}
+use Rattle.gh_class.specs.Classes.{IsSizeClass, pages_of, slot_of, slots_of}
+use Rattle.gh_class.specs.declared.class.SizeClass.{SizeClass}
+use Rattle.gh_class.specs.declared.class.SizeClass.TheVariants as size
+use Rattle.gh_heap.specs.Objects.{IsMade}
+use Rattle.gh_heap.specs.Spans.{FitsClass, is_own_class, IsSlotOf, number_of, slot_count, slot_size}
+use Rattle.gh_state.specs.Slots.{slot_row, SlotsAreRead}
+use Rattle.gh_sweep.specs.Counts.{is_set}
+use Rattle.gh_sweep.specs.Listing.{slot_bytes, slot_bytes_of}
+use Rattle.gh_lists.specs.Processors.{IsPlacedAt}
+use Rattle.gh_base.specs.Cells.{Words}
+
+-- what the table of size classes says
+pub record Classes : Type 0 where
+  pub least_slot : (c : ℕ) → c < 25 → 8 ≤ slot_of c
+  pub fit : (c : ℕ) → c < 25 → slots_of c * slot_of c ≤ 8192 * pages_of c
+  pub whole_words : (c : ℕ) → c < 25 → slot_of c % 8 ≡ 0
+
+-- as many slots as lie before, and one more, lie in the span
+pub record Lies (pages i slot bytes : ℕ) : Type 0 where
+  pub some : 1 ≤ slot
+  pub within : i * slot + slot ≤ 1024 * pages
+  pub bytes_are : bytes ≡ 8 * slot
+
+slots_up : (i s z : ℕ) → i < s → i * z + z ≤ s * z
+slots_up i s z lt =
+    let d : s ≡ i + 1 + (s - (i + 1)) = omega (arith, lt) in
+    let all : s * z ≡ i * z + z + (s - (i + 1)) * z = ap (λ (n : ℕ). n * z) d ∙ parts i (s - (i + 1)) z in
+    omega (arith, all) where
+      parts : (i d z : ℕ) → (i + 1 + d) * z ≡ i * z + z + d * z
+      parts i d z = grind arith
+
+module _ (classes : Classes) where
+  small_lies : (c pages i : ℕ) → c < 25 → pages ≡ pages_of c → i < slots_of c → Lies pages i (slot_of c / 8) (slot_of c)
+  small_lies c pages i lt is inside =
+      let least = classes.least_slot c lt in
+      let fit = classes.fit c lt in
+      let whole = classes.whole_words c lt in
+      let eight : slot_of c ≡ 8 * (slot_of c / 8) = omega (arith, whole) in
+      let all : slots_of c * slot_of c ≡ 8 * (slots_of c * (slot_of c / 8)) = ap (λ (n : ℕ). slots_of c * n) eight ∙ turned (slots_of c) (slot_of c / 8) in
+      let up = slots_up i (slots_of c) (slot_of c / 8) inside in
+      record { some = omega (arith, least); within = omega (arith, fit, all, up, is); bytes_are = eight } where
+        turned : (s z : ℕ) → s * (8 * z) ≡ 8 * (s * z)
+        turned s z = grind arith
+
+  large_lies : (pages i : ℕ) → 1 ≤ pages → i < 1 → Lies pages i (1024 * pages) (8192 * pages)
+  large_lies pages i some lt =
+      let none : i * (1024 * pages) ≡ 0 = ap (λ (n : ℕ). n * (1024 * pages)) zeroth ∙ nothing (1024 * pages) in
+      record { some = omega (arith, some); within = omega (arith, none); bytes_are = omega arith } where
+        zeroth : i ≡ 0
+        zeroth = omega (arith, lt)
+
+        nothing : (z : ℕ) → 0 * z ≡ 0
+        nothing z = grind arith
+
+  -- by its class
+  lies_by : (class : SizeClass) (pages i : ℕ) → 1 ≤ pages → IsSizeClass class → (class ≢ size.Large → pages ≡ pages_of (number_of class)) → i < cond (is_own_class class) 1 (slots_of (number_of class)) →
+      Lies pages i (cond (is_own_class class) (1024 * pages) (slot_of (number_of class) / 8)) (slot_bytes_of class pages)
+  lies_by (size.Small c) pages i some fit small inside = small_lies c pages i fit (small (λ e. cc)) inside
+  lies_by size.Large pages i some fit small inside = large_lies pages i some inside
+
+  lies : (h : SpanHead) (i : ℕ) → FitsClass h → i < slot_count h → Lies h.pages i (slot_size h) (slot_bytes h)
+  lies h i fits inside = lies_by h.class h.pages i fits.some fits.class fits.small inside
+
+  pub record InArena (pages : ℕ) (page : Row) (a slot : ℕ) : Type 0 where
+    pub some : 1 ≤ slot
+    pub within : a < 1024 * pages
+    pub bytes_are : slot_row page (a / 64) ≡ 8 * slot
+
+  pub in_arena : SlotsAreRead → (pages : ℕ) (page : Row) (p : ℕ) (h : SpanHead) (i a slot : ℕ) → IsSlotOf pages page p h i a slot → InArena pages page a slot
+  in_arena read pages page p h i a slot s =
+      let y = lies h i s.span.fits s.inside in
+      let size = s.size_is in
+      let at : a ≡ 1024 * p + i * slot_size h = s.at ∙ ap (λ (n : ℕ). 1024 * p + i * n) size in
+      let span = s.span.within in
+      let some = y.some in
+      let up = y.within in
+      record {
+        some = omega (arith, some, size);
+        within = omega (arith, at, span, some, up);
+        bytes_are = read pages page (a / 64) (record { p = p; h = h; head = s.span.head; from = omega (arith, at); below = omega (arith, at, up, some) }) s.span ∙ y.bytes_are ∙ ap (λ (n : ℕ). 8 * n) (sym size);
+      }
+
+-- ---- the name of each alloc bit that is set
+
+-- each is that of an object
+abbrev pub AreNamed : (made : ℕ → ℕ) → Words → Type 0
+AreNamed made words = (x : ℕ) → row_bit (alloc_words words) x ≡ 1 → (n : Name) × IsMade made n × IsPlacedAt words n x
+
+module _ (words : Words) (made : ℕ → ℕ) (named : AreNamed made words) where
+  abbrev pick : (x : ℕ) (b : Bool) → is_set (alloc_words words) x ≡ b → Name
+  pick x true e = (named x (eqb-true (row_bit (alloc_words words) x) 1 e)).0
+  pick x false e = record { g = 0; k = 0 }
+
+  abbrev pub name_at : ℕ → Name
+  name_at x = pick x (is_set (alloc_words words) x) refl
+
+  pub is_placed : (x : ℕ) → is_set (alloc_words words) x ≡ true → IsPlacedAt words (name_at x) x
+  is_placed x set = go (is_set (alloc_words words) x) refl set where
+    go : (b : Bool) (e : is_set (alloc_words words) x ≡ b) → b ≡ true → IsPlacedAt words (pick x b e) x
+    go true e t = (named x (eqb-true (row_bit (alloc_words words) x) 1 e)).2
+    go false e t = absurd cc
+
+  pub is_made : (x : ℕ) → is_set (alloc_words words) x ≡ true → IsMade made (name_at x)
+  is_made x set = go (is_set (alloc_words words) x) refl set where
+    go : (b : Bool) (e : is_set (alloc_words words) x ≡ b) → b ≡ true → IsMade made (pick x b e)
+    go true e t = (named x (eqb-true (row_bit (alloc_words words) x) 1 e)).1
+    go false e t = absurd cc
+
+-- two names are one, or not
+pub same_or_not : (n m : Name) → (n ≡ m) ⊎ (n ≢ m)
+same_or_not n m = go (eqb n.g m.g) (eqb n.k m.k) refl refl where
+  go : (a b : Bool) → eqb n.g m.g ≡ a → eqb n.k m.k ≡ b → (n ≡ m) ⊎ (n ≢ m)
+  go true true e f = inl (ap (λ (g : ℕ). record { g = g; k = n.k }) (eqb-true n.g m.g e) ∙ ap (λ (k : ℕ). record { g = m.g; k = k }) (eqb-true n.k m.k f))
+  go false b e f = inr (λ is. eqb-false n.g m.g e (ap (λ (x : Name). x.g) is))
+  go true false e f = inr (λ is. eqb-false n.k m.k f (ap (λ (x : Name). x.k) is))

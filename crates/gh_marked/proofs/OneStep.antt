@@ -1,0 +1,19 @@
+-- What one step of an actor leaves of what holds: of the one state, of page words and stacks, of what is counted, and of what is known of a processor.
+pub mod Beside
+pub mod Counting
+pub mod EndedStays
+pub mod ForTypes
+pub mod FreshPages
+pub mod Globals
+pub mod Landing
+pub mod Moves
+pub mod OwnSide
+pub mod OwnStep
+pub mod PageWords
+pub mod Placing
+pub mod Ranging
+pub mod Refusals
+pub mod Stepping
+pub mod Sweepers
+pub mod Wanted
+pub mod WorkersSweep

@@ -1,0 +1,123 @@
+-- After every list each page is free, or one of a span for objects of one of the types. So it is where the heap opens, and each entry keeps it: a processor's step is a move over the heap, a sweep gives a span another number, whoever runs it, and no other step writes the word of a page.
+use Rattle.std.proofs.Common.{◌≡◌, inl, ℕ, ◌<◌, refl, sym, ap, subst, ◌∙◌, arith, List, [], ◌∷◌, Option, Some, None}
+use Rattle.gh_base.specs.declared.cell.Cell.TheVariants as cell
+use Rattle.gh_base.specs.declared.pack.PageWord.TheVariants.{Head}
+use Rattle.gh_base.specs.declared.pack.SpanHead.{SpanHead}
+use Rattle.gh_base.specs.Packing.{FitsHead}
+use Rattle.gh_sweep.specs.Facts as sweep_facts
+use Rattle.gh_sweep.specs.Listing as sweep
+use Rattle.gh_sweep.specs.Listing.{Sweeping}
+use Rattle.gh_coord.specs.Listing as coord
+use Rattle.gh_coord.specs.SweepingAll as over
+use Rattle.gh_mutator.specs.Sweeping.{sweep_in}
+use Rattle.gh_worker.specs.Listing as worker
+use Rattle.gh_worker.specs.Writing.{WritesItsOwn}
+use Rattle.gh_marked.specs.HoldVocabulary.{Runs}
+use Rattle.gh_marked.specs.Spans.{IsForTypes, PagesAreForTypes}
+use Rattle.gh_marked.specs.Sweepers.{IsInSweep, sweep_of}
+use Rattle.gh_marked.proofs.Vocabulary.{acks_of, Actor, arena, Arena, Ask, asks, Coordinating, CoordStage, effect, Entry, HasState, Heap, Legal, moved, Op, page_of, Processor, State, Sweep, those, Words, words}
+use Rattle.gh_marked.proofs.OneStep.FreshPages.{fresh_page}
+use Rattle.gh_marked.specs.Known.{ListsKnown}
+use Rattle.gh_marked.proofs.OneStep.Landing as landing
+use Rattle.gh_marked.proofs.OneStep.OwnStep as step
+use Rattle.gh_marked.proofs.OneStep.PageWords as pages
+use Rattle.gh_marked.proofs.OneStep.Wanted.{Wanted}
+use Rattle.gh_lists.specs.Steps as seats
+use Rattle.gh_lists.specs.Lists.{Given, setup_for}
+
+module _ (given : Given) (wanted : Wanted) (lists : ListsKnown (setup_for given)) where
+  abbrev Lawful : List (Entry Op) → Type 0
+  Lawful es = Legal (those (setup_for given)) es
+
+  abbrev told : List (Entry Op) → Words
+  told es = words (setup_for given) es
+
+  abbrev ForPage : ℕ → Type 0
+  ForPage word = IsForTypes given.shapes (page_of word)
+
+  abbrev For : List (Entry Op) → ℕ → Type 0
+  For es q = ForPage (told es (cell.Page q))
+
+  -- One entry more, where the one state stands before it.
+  module _ (e : Entry Op) (es : List (Entry Op)) (legal : Lawful (e ∷ es)) (has : HasState (setup_for given) es) (q : ℕ) (was : For es q) where
+    abbrev s : State
+    s = has.state
+
+    abbrev h : Heap
+    h = has.state.heap
+
+    abbrev z : Arena
+    z = arena (setup_for given)
+
+    -- A sweep of a span, whoever runs it.
+
+    is_swept : (m : Sweeping) (a : ℕ) → Runs a s m → pages.IsSwept wanted.read given.shapes (told es) q was m
+    is_swept m a runs = record {
+      fits = runs.fine.placed.head.head;
+      few = runs.fine.placed.head.number;
+      begun = λ at. ap (λ (w : Words). w (cell.Page m.page)) (sym has.of_list.words_are) ∙ (subst (sweep_facts.FactsAt m h.words) at runs.fine.facts).own;
+    }
+
+    swept : (m : Sweeping) (a : ℕ) → Runs a s m → e.ask ≡ sweep.asks m → For (e ∷ es) q
+    swept m a runs asks_is = subst (λ (ask : Ask). ForPage (effect (told es) ask (cell.Page q))) (sym asks_is) (pages.sweeps wanted.read given.shapes (told es) q was m m.stage refl (is_swept m a runs))
+
+    by_worker : (w : worker.Working) → seats.WorksIt (setup_for given) e es w → For (e ∷ es) q
+    by_worker w x = go (worker.sweep_in w) refl where
+      go : (y : Option Sweeping) → worker.sweep_in w ≡ y → For (e ∷ es) q
+      go None none = pages.worked wanted.read given.shapes (told es) q was lists.known.one w.seat e.ask (subst (WritesItsOwn w.seat) (sym x.asked) (lists.known.workers_write w x.sound_it none x.busy))
+      go (Some m) is =
+          let runs = subst (IsInSweep e.actor s) is (subst (λ (y : Actor). IsInSweep e.actor s (sweep_of y)) x.is (has.sweeps e.actor legal.1.actor)) in
+          swept m e.actor runs.0 (x.asked ∙ (lists.known.workers_sweep.runs.on w m is runs.1).asks_so)
+
+    -- of the coordinator's sweep
+    leads_sweep : (d : Coordinating) (p : CoordStage) → d.stage ≡ p → seats.LeadsIt (setup_for given) e es d → pages.SweepsAt wanted.read given.shapes (told es) q was p
+    leads_sweep d (Sweep v) at x = λ page m is.
+        let in_sweep = subst (λ (y : Actor). IsInSweep (acks_of given.layout) s (sweep_of y)) x.is (has.sweeps (acks_of given.layout) (omega arith)) in
+        let here : coord.sweep_in d ≡ Some m = ap coord.sweep_at at ∙ ap over.sweep_at is in
+        is_swept m (acks_of given.layout) (subst (IsInSweep (acks_of given.layout) s) here in_sweep).0
+    leads_sweep d _ at x = tt
+
+    by_lead : (d : Coordinating) → seats.LeadsIt (setup_for given) e es d → For (e ∷ es) q
+    by_lead d x = subst (λ (ask : Ask). ForPage (effect (told es) ask (cell.Page q))) (sym x.asked) (pages.led wanted.read given.shapes (told es) q was d d.stage (leads_sweep d d.stage refl x))
+
+    module _ (lt : e.actor < given.layout.procs) where
+      abbrev now : Processor
+      now = landing.now given lists.good lists.limits lists.known wanted e es legal lt has
+
+      heads : (p : ℕ) (k : SpanHead) → page_of (h.words (cell.Page p)) ≡ Head k → FitsHead k
+      heads p k is = (has.good.sweep.heads p k is).fits
+
+      was_now : ForPage (h.words (cell.Page q))
+      was_now = subst (λ (w : Words). ForPage (w (cell.Page q))) (sym has.of_list.words_are) was
+
+      asked : e.ask ≡ asks now
+      asked = step.asked given lists.good lists.limits lists.known e es legal lt has
+
+      moves : sweep_in now ≡ None → For (e ∷ es) q
+      moves none =
+          let land = step.land given lists.good lists.limits lists.known e es legal lt has none in
+          let then : ForPage ((moved z e.actor h land.move).words (cell.Page q)) =
+          pages.moved wanted.read given.shapes lists.known.one z e.actor h (omega (arith, lt, lists.limits.procs_fit)) heads q was_now land.move land.may
+          (λ locked free. subst (λ (w : Words). ForPage (w (cell.Page q))) (sym land.words_are)
+          (fresh_page wanted.read z e.actor h q free now _ (step.fine_now given lists.good lists.limits lists.known e es legal lt has) none locked)) in
+          subst (λ (w : Words). ForPage (w (cell.Page q))) (land.words_are ∙ (ap (effect h.words) (sym asked) ∙ ap (λ (w : Words). effect w e.ask) has.of_list.words_are)) then
+
+      by_processor : For (e ∷ es) q
+      by_processor = go (sweep_in now) refl where
+        go : (y : Option Sweeping) → sweep_in now ≡ y → For (e ∷ es) q
+        go None none = moves none
+        go (Some m) is =
+            let runs = subst (IsInSweep e.actor s) is (landing.in_sweep_now given lists.good lists.limits lists.known wanted e es legal lt has) in
+            swept m e.actor runs.0 (asked ∙ (lists.known.processors_sweep.on given.shapes now m is runs.1).asks_so)
+
+    goes_on : For (e ∷ es) q
+    goes_on = by (seats.step (setup_for given) e es lists.known.writes legal (lists.keeps es legal.0)) where
+      by : seats.Step (setup_for given) e es → For (e ∷ es) q
+      by (seats.by_processor m x s) = by_processor x.seat
+      by (seats.by_worker w x s) = by_worker w x
+      by (seats.by_lead d x) = by_lead d x
+
+  module _ (has : (es : List (Entry Op)) → Lawful es → HasState (setup_for given) es) where
+    pub for_types : (es : List (Entry Op)) → Lawful es → PagesAreForTypes given.shapes (told es)
+    for_types [] legal q = inl refl
+    for_types (e ∷ es) legal q = goes_on e es legal (has es legal.0) q (for_types es legal.0 q)

@@ -1,0 +1,215 @@
+-- What one step leaves of the word of a page, whoever makes it. A move of a processor leaves it, frees the page, or gives the span another owner; or it lays a page that was free. A sweep gives the span another number. So the page stays one of a span for objects of one of the types, as long as what is laid is.
+use Rattle.std.proofs.Common.{◌≡◌, inl, inr, ℕ, ◌+◌, ◌^◌, ◌<◌, Bool, true, false, cond, eqb, refl, sym, ap, subst, ◌∙◌, arith, List}
+use Rattle.std.proofs.lemmas.Bool.{eqb-true}
+use Rattle.std.proofs.lemmas.Bool.Decides.{eqb_tells}
+use Rattle.gh_base.specs.declared.cell.Ask.{Ask}
+use Rattle.gh_base.specs.declared.cell.Ask.TheVariants.{Add, And, Load, Or, Store, Swap}
+use Rattle.gh_base.specs.declared.cell.Cell.{Cell}
+use Rattle.gh_base.specs.declared.cell.Cell.TheVariants as cell
+use Rattle.gh_base.specs.declared.pack.PageWord.TheVariants.{Free, Head}
+use Rattle.gh_base.specs.declared.pack.SpanHead.{SpanHead}
+use Rattle.gh_base.specs.Cells.{same_cell}
+use Rattle.gh_base.specs.Packing.{FitsHead, PackedWordsAreReadBack}
+use Rattle.gh_base.specs.Shapes.{shape_at}
+use Rattle.gh_base.specs.Steps.{cell_of, ChangesOneCell, effect, left}
+use Rattle.gh_heap.specs.Moves as heap
+use Rattle.gh_heap.specs.Spans.{owned_by}
+use Rattle.gh_sweep.specs.declared.sweep.SweepStage.{SweepStage}
+use Rattle.gh_sweep.specs.declared.sweep.SweepStage.TheVariants as sweep_stage
+use Rattle.gh_sweep.specs.Listing as sweep
+use Rattle.gh_coord.specs.declared.close.CloseStage.{CloseStage}
+use Rattle.gh_coord.specs.declared.close.CloseStage.TheVariants as close_stage
+use Rattle.gh_coord.specs.declared.coord.CoordStage.TheVariants.{Check, Close, Count, Open, Stop, StopAgain, Sweep, Tell, Watch}
+use Rattle.gh_coord.specs.declared.count.CountStage.{CountStage}
+use Rattle.gh_coord.specs.declared.count.CountStage.TheVariants as count_stage
+use Rattle.gh_coord.specs.declared.open.OpenStage.{OpenStage}
+use Rattle.gh_coord.specs.declared.open.OpenStage.TheVariants as open_stage
+use Rattle.gh_coord.specs.declared.stop.StopStage.{StopStage}
+use Rattle.gh_coord.specs.declared.stop.StopStage.TheVariants as stop_stage
+use Rattle.gh_coord.specs.declared.sweep_all.SweepAllStage.{SweepAllStage}
+use Rattle.gh_coord.specs.declared.sweep_all.SweepAllStage.TheVariants as all_stage
+use Rattle.gh_coord.specs.declared.tell.TellStage.{TellStage}
+use Rattle.gh_coord.specs.declared.tell.TellStage.TheVariants as tell_stage
+use Rattle.gh_coord.specs.declared.watch.WatchStage.{WatchStage}
+use Rattle.gh_coord.specs.declared.watch.WatchStage.TheVariants as watch_stage
+use Rattle.gh_coord.specs.Closing as close
+use Rattle.gh_coord.specs.Counting as count
+use Rattle.gh_coord.specs.Listing.{asks_at}
+use Rattle.gh_coord.specs.Opening as open_
+use Rattle.gh_coord.specs.Stopping as stop
+use Rattle.gh_coord.specs.SweepingAll as all
+use Rattle.gh_coord.specs.Telling as tell
+use Rattle.gh_coord.specs.Watching as watch
+use Rattle.gh_worker.specs.Writing.{IsWritten, WritesItsOwn}
+use Rattle.gh_marked.specs.HoldVocabulary.{Arena, Coordinating, CoordStage, head_word, Heap, page_of, Shape, view, Words}
+use Rattle.gh_marked.specs.Spans.{IsForTypes, IsHeadFor, IsPageFor}
+
+-- the two are heads of one span class, with as many pages
+record AreAlike (h g : SpanHead) : Type 0 where
+  class : g.class ≡ h.class
+  noscan : g.noscan ≡ h.noscan
+  pages : g.pages ≡ h.pages
+
+module _ (read : PackedWordsAreReadBack) (shapes : List Shape) where
+  abbrev ForPage : ℕ → Type 0
+  ForPage word = IsForTypes shapes (page_of word)
+
+  for_alike : (s : Shape) (h g : SpanHead) → AreAlike h g → IsHeadFor s h → IsHeadFor s g
+  for_alike s h g a f = record { class = a.class ∙ f.class; noscan = a.noscan ∙ f.noscan; pages = a.pages ∙ f.pages }
+
+  passes : (word : ℕ) (h g : SpanHead) → FitsHead g → AreAlike h g → page_of word ≡ Head h → ForPage word → ForPage (head_word g)
+  passes word h g fits alike is (inl free) = absurd (let no : Head h ≡ Free = sym is ∙ free in cc)
+  passes word h g fits alike is (inr for) = inr (for.0, for.1, subst (IsPageFor (shape_at shapes for.0)) (sym (read.page (Head g) fits)) (for_alike (shape_at shapes for.0) h g alike (subst (IsPageFor (shape_at shapes for.0)) is for.2)))
+
+  none : ForPage 0
+  none = inl refl
+
+  module _ (w : Words) (q : ℕ) (was : ForPage (w (cell.Page q))) where
+    -- the word of page p is written
+    onto : (p value : ℕ) → (p ≡ q → ForPage value) → ForPage (cond (eqb p q) value (w (cell.Page q)))
+    onto p value is = go (eqb p q) refl where
+      go : (b : Bool) → eqb p q ≡ b → ForPage (cond b value (w (cell.Page q)))
+      go true e = is (eqb-true _ _ e)
+      go false e = was
+
+    -- its span passes to a head like its own
+    onto_head : (p : ℕ) (h g : SpanHead) → FitsHead g → AreAlike h g → page_of (w (cell.Page p)) ≡ Head h → ForPage (cond (eqb p q) (head_word g) (w (cell.Page q)))
+    onto_head p h g fits alike is = onto p (head_word g) (λ here. passes (w (cell.Page q)) h g fits alike (sym (ap (λ (n : ℕ). page_of (w (cell.Page n))) here) ∙ is) was)
+
+    -- A step on another row.
+    module _ (one : ChangesOneCell) where
+      not_page : (c : Cell) → heap.IsAside c → same_cell c (cell.Page q) ≡ false
+      not_page (cell.Page i) is = absurd is
+      not_page _ is = refl
+
+      leaves : (ask : Ask) → same_cell (cell_of ask) (cell.Page q) ≡ false → ForPage (effect w ask (cell.Page q))
+      leaves ask apart = subst ForPage (sym (one w ask (cell.Page q) ∙ ap (λ (b : Bool). cond b (left ask (w (cell_of ask))) (w (cell.Page q))) apart)) was
+
+      quiet : (ask : Ask) → heap.IsQuiet ask → ForPage (effect w ask (cell.Page q))
+      quiet (Load c) is = was
+      quiet (Store c v) is = leaves (Store c v) (not_page c is)
+      quiet (Or c v) is = leaves (Or c v) (not_page c is)
+      quiet (And c v) is = leaves (And c v) (not_page c is)
+      quiet (Add c v) is = leaves (Add c v) (not_page c is)
+      quiet (Swap c v u) is = leaves (Swap c v u) (not_page c is)
+
+      not_worked : (seat : ℕ) (c : Cell) → IsWritten seat c → same_cell c (cell.Page q) ≡ false
+      not_worked seat (cell.Buffer b) is = refl
+      not_worked seat (cell.Entry b j) is = refl
+      not_worked seat (cell.Mark i) is = refl
+      not_worked seat (cell.Ack a) is = refl
+      not_worked seat _ is = absurd is
+
+      -- a worker's
+      pub worked : (seat : ℕ) (ask : Ask) → WritesItsOwn seat ask → ForPage (effect w ask (cell.Page q))
+      worked seat (Load c) is = was
+      worked seat (Store c v) is = leaves (Store c v) (not_worked seat c is)
+      worked seat (Or c v) is = leaves (Or c v) (not_worked seat c is)
+      worked seat (And c v) is = leaves (And c v) (not_worked seat c is)
+      worked seat (Add c v) (inl is) = leaves (Add c v) (ap (λ (x : Cell). same_cell x (cell.Page q)) is.0)
+      worked seat (Add c v) (inr is) = leaves (Add c v) (ap (λ (x : Cell). same_cell x (cell.Page q)) is)
+      worked seat (Swap c v u) is = leaves (Swap c v u) (not_worked seat c is)
+
+    -- A step of the coordinator.
+
+    swap : (p old : ℕ) (h g : SpanHead) → FitsHead g → AreAlike h g → page_of old ≡ Head h → ForPage (effect w (Swap (cell.Page p) old (head_word g)) (cell.Page q))
+    swap p old h g fits alike is = go (eqb (w (cell.Page p)) old) refl where
+      go : (b : Bool) → eqb (w (cell.Page p)) old ≡ b → ForPage (cond b (λ (c : Cell). cond (same_cell (cell.Page p) c) (head_word g) (w c)) w (cell.Page q))
+      go true e = onto_head p h g fits alike (ap page_of (eqb-true _ _ e) ∙ is)
+      go false e = was
+
+    -- the sweep is of a span with this head, which stands there once it has begun
+    pub record IsSwept (m : sweep.Sweeping) : Type 0 where
+      pub fits : FitsHead m.head
+      pub few : m.head.number + 2 < 2 ^ 34
+      pub begun : m.stage ≡ sweep_stage.Finish → w (cell.Page m.page) ≡ head_word (sweep.in_sweep m.head)
+
+    fits_in_sweep : (m : sweep.Sweeping) → IsSwept m → FitsHead (sweep.in_sweep m.head)
+    fits_in_sweep m s = let few = s.few in record { class = s.fits.class; some = s.fits.some; pages = s.fits.pages; owner = s.fits.owner; number = omega (arith, few) }
+
+    fits_once_swept : (m : sweep.Sweeping) → IsSwept m → FitsHead (sweep.once_swept m.head)
+    fits_once_swept m s = record { class = s.fits.class; some = s.fits.some; pages = s.fits.pages; owner = omega arith; number = s.few }
+
+    pub sweeps : (m : sweep.Sweeping) (p : SweepStage) → m.stage ≡ p → IsSwept m → ForPage (effect w (sweep.asks_at m p) (cell.Page q))
+    sweeps m sweep_stage.Begin at s = swap m.page (head_word m.head) m.head (sweep.in_sweep m.head) (fits_in_sweep m s) (record { class = refl; noscan = refl; pages = refl }) (read.page (Head m.head) s.fits)
+    sweeps m sweep_stage.Finish at s =
+        onto_head m.page (sweep.in_sweep m.head) (sweep.once_swept m.head) (fits_once_swept m s) (record { class = refl; noscan = refl; pages = refl }) (ap page_of (s.begun at) ∙ read.page (Head (sweep.in_sweep m.head)) (fits_in_sweep m s))
+    sweeps m _ at s = was
+
+    sweeps_all : (v : all.SweepingAll) (p : SweepAllStage) → ((page : ℕ) (m : sweep.Sweeping) → p ≡ all_stage.Sweep page m → IsSwept m) → ForPage (effect w (all.asks_at v p) (cell.Page q))
+    sweeps_all v (all_stage.LoadPage page) s = was
+    sweeps_all v (all_stage.Sweep page m) s = sweeps m m.stage refl (s page m refl)
+    sweeps_all v (all_stage.Await page) s = was
+    sweeps_all v all_stage.Ended s = was
+
+    stops : (st : stop.Stopping) (p : StopStage) → ForPage (effect w (stop.asks_at st p) (cell.Page q))
+    stops st stop_stage.StorePhase = was
+    stops st _ = was
+
+    opens : (o : open_.CycleOpening) (p : OpenStage) → ForPage (effect w (open_.asks_at o p) (cell.Page q))
+    opens o open_stage.LoadHeap = was
+    opens o _ = was
+
+    watches : (v : watch.Watching) (p : WatchStage) → ForPage (effect w (watch.asks_at v p) (cell.Page q))
+    watches v (watch_stage.Look i) = was
+    watches v (watch_stage.Ended x) = was
+
+    closes : (c : close.Closing) (p : CloseStage) → ForPage (effect w (close.asks_at c p) (cell.Page q))
+    closes c close_stage.LoadBank = was
+    closes c _ = was
+
+    counts : (p : CountStage) → ForPage (effect w (count.asks_at p) (cell.Page q))
+    counts count_stage.LoadTally = was
+    counts _ = was
+
+    tells : (t : tell.Telling) (p : TellStage) → ForPage (effect w (tell.asks_at t p) (cell.Page q))
+    tells t tell_stage.StoreTrigger = was
+    tells t _ = was
+
+    -- of a sweep this is asked
+    abbrev pub SweepsAt : CoordStage → Type 0
+    SweepsAt (Sweep v) = (page : ℕ) (m : sweep.Sweeping) → v.stage ≡ all_stage.Sweep page m → IsSwept m
+    SweepsAt _ = Unit {0}
+
+    pub led : (c : Coordinating) (p : CoordStage) → SweepsAt p → ForPage (effect w (asks_at c p) (cell.Page q))
+    led c (Stop st) s = stops st st.stage
+    led c (Open o) s = opens o o.stage
+    led c (Watch v) s = watches v v.stage
+    led c (StopAgain st) s = stops st st.stage
+    led c (Check v) s = watches v v.stage
+    led c (Close x) s = closes x x.stage
+    led c (Sweep v) s = sweeps_all v v.stage s
+    led c (Count x) s = counts x.stage
+    led c (Tell t) s = tells t t.stage
+    led c _ s = was
+
+  -- A move of a processor.
+  module _ (one : ChangesOneCell) (z : Arena) (a : ℕ) (s : Heap) (few : a + 1 < 2 ^ 8) (heads : (p : ℕ) (h : SpanHead) → page_of (s.words (cell.Page p)) ≡ Head h → FitsHead h) (q : ℕ) (was : ForPage (s.words (cell.Page q))) where
+    abbrev Then : heap.Move → Type 0
+    Then m = ForPage ((heap.moved z a s m).words (cell.Page q))
+
+    fits_owned : (h : SpanHead) (owner : ℕ) → FitsHead h → owner < 2 ^ 8 → FitsHead (owned_by owner h)
+    fits_owned h owner fits lt = record { class = fits.class; some = fits.some; pages = fits.pages; owner = lt; number = fits.number }
+
+    owned : (p owner : ℕ) (h : SpanHead) → owner < 2 ^ 8 → page_of (s.words (cell.Page p)) ≡ Head h → ForPage (cond (eqb p q) (head_word (owned_by owner h)) (s.words (cell.Page q)))
+    owned p owner h lt is = onto_head s.words q was p h (owned_by owner h) (fits_owned h owner (heads p h is) lt) (record { class = refl; noscan = refl; pages = refl }) is
+
+    -- a page is laid only where it was free, with the lock
+    laid : (p value : ℕ) → page_of (s.words (cell.Page p)) ≡ Free → (page_of (s.words (cell.Page q)) ≡ Free → ForPage (cond (eqb p q) value (s.words (cell.Page q)))) → ForPage (cond (eqb p q) value (s.words (cell.Page q)))
+    laid p value free fresh = elim (eqb_tells p q) [
+      | inl is ↦ fresh (sym (ap (λ (n : ℕ). page_of (s.words (cell.Page n))) is.1) ∙ free)
+      | inr other ↦ subst (λ (b : Bool). ForPage (cond b value (s.words (cell.Page q)))) (sym other.0) was
+    ]
+
+    pub moved : (m : heap.Move) → heap.May z a (view s) m → (s.locked a ≡ true → page_of (s.words (cell.Page q)) ≡ Free → Then m) → Then m
+    moved (heap.Quiet step) may fresh = quiet s.words q was one step may
+    moved (heap.Takes step g d value) may fresh = quiet s.words q was one step may.0
+    moved (heap.Ends step g) may fresh = quiet s.words q was one step may.0
+    moved (heap.LayBody y) may fresh = laid (y.first + y.next) _ (may.0.laid.free y.next (omega arith) may.1) (fresh may.0.locked)
+    moved (heap.LayHead y) may fresh = laid y.first _ may.0.laid.head (fresh may.0.locked)
+    moved (heap.FreeBody y) may fresh = onto s.words q was (y.first + y.next) 0 (λ here. none)
+    moved (heap.FreeHead y) may fresh = onto s.words q was y.first 0 (λ here. none)
+    moved (heap.Own p h) may fresh = owned p (a + 1) h few may.0.head
+    moved (heap.Disown p h) may fresh = owned p 0 h (omega arith) may.0.head
+    moved (heap.Publish p h) may fresh = owned p 0 h (omega arith) may.1
+    moved _ may fresh = was

@@ -1,0 +1,208 @@
+-- What a processor has placed and not counted, over a step of it: the step that makes an object adds the bytes of its slot, the one that counts them takes them off, and no other changes that or makes anything.
+use Rattle.std.proofs.Common.{◌≡◌, ℕ, ◌+◌, ◌*◌, ◌%◌, ◌^◌, nat_le, Bool, true, false, cond, refl, ◌⊎◌, inl, inr, List, Option, Some, None}
+use Rattle.gh_base.specs.declared.cell.Cell.TheVariants as cell
+use Rattle.gh_base.specs.declared.operation.Op.TheVariants as op
+use Rattle.gh_base.specs.declared.value.Answer.TheVariants as answer
+use Rattle.gh_model.specs.declared.EverValue.TheVariants as ever_value
+use Rattle.gh_model.specs.Ever.{answer_of, sets_global, stores_value, takes_answer}
+use Rattle.gh_alloc.specs.declared.place.PlaceStage.TheVariants as making
+use Rattle.gh_alloc.specs.Place as place
+use Rattle.gh_alloc.specs.Search as search
+use Rattle.gh_assist.specs.Listing as assist
+use Rattle.gh_bitmap.specs.SetPointers as bits
+use Rattle.gh_mutator.specs.declared.global.GlobalStage.TheVariants as global_stage
+use Rattle.gh_mutator.specs.declared.register.Source.TheVariants as source
+use Rattle.gh_mutator.specs.declared.task.Task.TheVariants as task
+use Rattle.gh_mutator_heap.specs.Facts.{CountsAlone}
+use Rattle.gh_mutator.specs.Global as global
+use Rattle.gh_mutator.specs.Leave as leave
+use Rattle.gh_mutator.specs.Listing.{asks_at}
+use Rattle.gh_mutator.specs.Load as load
+use Rattle.gh_mutator.specs.Local.{marking_at}
+use Rattle.gh_mutator.specs.New as new
+use Rattle.gh_mutator.specs.Poll as poll
+use Rattle.gh_mutator.specs.Register as register
+use Rattle.gh_mutator.specs.Store as store
+use Rattle.gh_mutator.specs.Sweeping.{sweep_at, sweep_new}
+use Rattle.gh_mutator.specs.Wait as wait
+use Rattle.gh_sweep.specs.Listing.{Sweeping}
+use Rattle.gh_marked.proofs.Vocabulary.{acted, acting, acts_at, Add, after_assist, after_gc, after_leave, after_poll, Answer, Assist, Assisting, assisting, assists, At, begins_at, cache_span, CountsObject, Ends, Ever, ever_after, EverValue, follows, Found, Global, GlobalStage, GoesOn, Heap, is_busy_at, is_some, Name, nat_lt, NewStage, NoRoom, Op, Place, PlaceStage, Placing, Processor, Register, register_of, Search, Shape, Source, takes_at, Task, Then, uncounted, Wait, Want, Wanted}
+
+-- No object is made but by a `new`.
+
+abbrev IsNoNew : Op → Type 0
+IsNoNew (op.New g d t) = ⊥
+IsNoNew _ = Unit {0}
+
+module _ (shapes : List Shape) where
+  takes_made : (e : Ever) (g d : ℕ) (x : Answer) (h : ℕ) → (takes_answer e g d x).made h ≡ e.made h
+  takes_made e g d answer.Done h = refl
+  takes_made e g d _ h = refl
+
+  stores_made : (e : Ever) (b : EverValue) (k : ℕ) (v : EverValue) (x : Answer) (h : ℕ) → (stores_value e b k v x).made h ≡ e.made h
+  stores_made e ever_value.Nil k v x h = refl
+  stores_made e (ever_value.Int n) k v x h = refl
+  stores_made e (ever_value.Ref n) k v answer.Done h = refl
+  stores_made e (ever_value.Ref n) k v _ h = refl
+
+  sets_made : (e : Ever) (k : ℕ) (v : EverValue) (x : Answer) (h : ℕ) → (sets_global e k v x).made h ≡ e.made h
+  sets_made e k v answer.Done h = refl
+  sets_made e k v _ h = refl
+
+  after_made : (e : Ever) (o : Op) (x : Answer) → IsNoNew o → (h : ℕ) → (ever_after shapes e o x).made h ≡ e.made h
+  after_made e (op.New g d t) x plain h = absurd plain
+  after_made e (op.Load g d b k) x plain h = takes_made e g d x h
+  after_made e (op.Store g b k v) x plain h = stores_made e (e.register g b) k (e.register g v) x h
+  after_made e (op.GetGlobal g d k) x plain h = takes_made e g d x h
+  after_made e (op.SetGlobal g k v) x plain h = sets_made e k (e.register g v) x h
+  after_made e _ x plain h = refl
+
+  acting_made : (b : Bool) (o : Op) → IsNoNew o → (e : Ever) (h : ℕ) → (acted shapes e (acting b o false)).made h ≡ e.made h
+  acting_made true o plain e h = after_made e o (answer_of shapes e o) plain h
+  acting_made false o plain e h = refl
+
+  refused_made : (b : Bool) (w : Wanted) (e : Ever) (h : ℕ) → (acted shapes e (acting b (new.op_of w) true)).made h ≡ e.made h
+  refused_made true w e h = refl
+  refused_made false w e h = refl
+
+no_new_global : (x : Global) (s : GlobalStage) → IsNoNew (global.op_in x s)
+no_new_global x global_stage.Load = tt
+no_new_global x _ = tt
+
+no_new_register : (x : Register) (s : Source) → IsNoNew (register.op_from x s)
+no_new_register x (source.Int n) = tt
+no_new_register x _ = tt
+
+-- The task behind a step.
+
+-- nothing placed is uncounted there
+abbrev IsPlain : Task → Type 0
+IsPlain t = uncounted t ≡ 0
+
+followed : {S : Type 0} (goes : S → Task) → ((s : S) → IsPlain (goes s)) → (x : Then S) → IsPlain (follows goes x)
+followed goes plain (GoesOn s) = plain s
+followed goes plain (Ends a) = refl
+
+module _ (shapes : List Shape) (m : Processor) (found : ℕ) where
+  pub record Counts (t : Task) : Type 0 where
+    pub asks_is : asks_at m t ≡ Add cell.Heap (uncounted t)
+    pub then : uncounted (takes_at shapes m t found).task ≡ 0
+    pub nothing : (e : Ever) (g : ℕ) → (acted shapes e (acts_at m t found)).made g ≡ e.made g
+    -- words alone change
+    pub alone : (u v : Heap) → CountsAlone t u v → v ≡ record u { words = v.words }
+
+  pub record Makes (t : Task) : Type 0 where
+    pub wanted : Wanted
+    pub placing : Placing
+    pub is : t ≡ task.New (record { wanted = wanted; stage = Place placing })
+    pub stage : placing.stage ≡ making.Alloc
+    pub silent : CountsObject (asks_at m t) t → ⊥
+
+  pub record Keeps (t : Task) : Type 0 where
+    pub same : uncounted (takes_at shapes m t found).task ≡ uncounted t
+    pub silent : CountsObject (asks_at m t) t → ⊥
+    pub nothing : (e : Ever) (g : ℕ) → (acted shapes e (acts_at m t found)).made g ≡ e.made g
+
+  abbrev StepOf : Task → Type 0
+  StepOf t = Counts t ⊎ (Makes t ⊎ Keeps t)
+
+  -- a search
+  searched : (w : Wanted) (waited : Bool) (q : search.Seeking) (y : Processor) (out : Option Found) → IsPlain (new.after_search shapes y w waited q out).task
+  searched w waited q y None = refl
+  searched w waited q y (Some (At a)) = refl
+  searched w true q y (Some NoRoom) = refl
+  searched w false q y (Some NoRoom) = refl
+
+  waited_for : (w : Wanted) (x : wait.Waiting) (out : Option (Unit {0})) → IsPlain (new.after_wait m w x out).task
+  waited_for w x None = refl
+  waited_for w x (Some y) = refl
+
+  -- the making of an object
+  abbrev placing_at : Wanted → Placing → Task
+  placing_at w p = task.New (record { wanted = w; stage = Place p })
+
+  -- behind it an assist may run
+  then_plain : (w : Wanted) (n : Name) (marking : Bool) → IsPlain (cond marking (assists w n (assisting m.poll w)) task.Idle)
+  then_plain w n true = refl
+  then_plain w n false = refl
+
+  assisted : (w : Wanted) (n : Name) (x : Assisting) (out : Option (Unit {0})) → IsPlain (after_assist m w n x out).task
+  assisted w n x None = refl
+  assisted w n x (Some y) = refl
+
+  placed : (w : Wanted) (p : Placing) (s : PlaceStage) → StepOf (placing_at w (place.at_stage p s))
+  placed w p (making.Clear k) = inr (inr (record { same = by (nat_lt (k + 1) p.slot); silent = λ y. absurd (let x = y.0 in cc); nothing = λ e g. refl })) where
+    by : (b : Bool) → uncounted (new.made_task m.poll w (place.at_stage p (cond b (making.Clear (k + 1)) making.Birth)) (place.given_at (cond b (making.Clear (k + 1)) making.Birth))) ≡ 0
+    by true = refl
+    by false = refl
+  placed w p making.Birth = inr (inr (record { same = refl; silent = λ y. absurd (let x = y.0 in cc); nothing = λ e g. refl }))
+  placed w p (making.Bits q) = inr (inr (record { same = by (bits.is_busy (bits.goes q found).stage); silent = λ y. absurd (let x = y.0 in cc); nothing = λ e g. refl })) where
+    by : (b : Bool) → uncounted (new.made_task m.poll w (place.at_stage p (cond b (making.Bits (bits.goes q found)) (place.filled p.marking))) (place.given_at (cond b (making.Bits (bits.goes q found)) (place.filled p.marking)))) ≡ 0
+    by true = refl
+    by false = filled p.marking where
+      filled : (marking : Bool) → uncounted (new.made_task m.poll w (place.at_stage p (place.filled marking)) (place.given_at (place.filled marking))) ≡ 0
+      filled true = refl
+      filled false = refl
+  placed w p making.Mark = inr (inr (record { same = refl; silent = λ y. absurd (let x = y.0 in cc); nothing = λ e g. refl }))
+  placed w p making.Alloc = inr (inl (record { wanted = w; placing = place.at_stage p making.Alloc; is = refl; stage = refl; silent = λ y. absurd (let x = y.0 in cc) }))
+  placed w p (making.Give g) = inr (inr (record { same = refl; silent = λ y. absurd (let x = y.0 in cc); nothing = λ e g. refl }))
+  placed w p making.Count = inl (record { asks_is = refl; then = by p.marking; nothing = λ e g. refl; alone = λ u v x. x }) where
+    by : (marking : Bool) → uncounted (new.made_task m.poll w (place.at_stage p (cond marking (making.Ended false) (making.LoadTrigger ((found + 8 * p.slot) % 2 ^ 64)))) (place.given_at (cond marking (making.Ended false) (making.LoadTrigger ((found + 8 * p.slot) % 2 ^ 64))))) ≡ 0
+    by true = then_plain w p.name (marking_at m.poll)
+    by false = refl
+  placed w p (making.LoadTrigger bytes) = inr (inr (record { same = by (nat_le found bytes); silent = λ y. absurd (let x = y.0 in cc); nothing = λ e g. refl })) where
+    by : (reached : Bool) → uncounted (new.made_task m.poll w (place.at_stage p (making.Ended reached)) (Some reached)) ≡ 0
+    by true = refl
+    by false = then_plain w p.name (marking_at m.poll)
+  placed w p (making.Ended wants) = inr (inr (record { same = then_plain w p.name (marking_at m.poll); silent = λ y. absurd (let x = y.0 in cc); nothing = λ e g. refl }))
+
+  ended_gc : (g : ℕ) (x : wait.Waiting) (out : Option (Unit {0})) → uncounted (after_gc m g x out).task ≡ 0
+  ended_gc g x None = refl
+  ended_gc g x (Some y) = refl
+
+  ended_poll : (x : poll.Polling) (out : Option (Unit {0})) → uncounted (after_poll m x out).task ≡ 0
+  ended_poll x None = refl
+  ended_poll x (Some y) = refl
+
+  ended_leave : (x : leave.Leaving) (out : Option (Unit {0})) → uncounted (after_leave m x out).task ≡ 0
+  ended_leave x None = refl
+  ended_leave x (Some y) = refl
+
+  pub kind : (t : Task) → is_busy_at t ≡ true → StepOf t
+  kind task.Idle busy = absurd (cc)
+  kind task.Left busy = absurd (cc)
+  kind (task.Load x) busy = inr (inr (record { same = followed task.Load (λ s. refl) (load.step m.poll.layout x found).then; silent = λ y. y; nothing = acting_made shapes (load.step m.poll.layout x found).acts (load.op_of x) tt }))
+  kind (task.Store x) busy = inr (inr (record { same = followed task.Store (λ s. refl) (store.step m.poll.layout m.poll.local (register_of m x.g x.v) x found).then; silent = λ y. y; nothing = acting_made shapes (store.step m.poll.layout m.poll.local (register_of m x.g x.v) x found).acts (store.op_of x) tt }))
+  kind (task.Global x) busy = inr (inr (record { same = followed task.Global (λ s. refl) (global.step m.poll.layout (register_of m x.g x.r) x found).then; silent = λ y. y; nothing = acting_made shapes (global.step m.poll.layout (register_of m x.g x.r) x found).acts (global.op_of x) (no_new_global x x.stage) }))
+  kind (task.Register x) busy = inr (inr (record { same = refl; silent = λ y. y; nothing = acting_made shapes true (register.op_of x) (no_new_register x x.source) }))
+  kind (task.New x) busy = new_kind x.wanted x.stage where
+    new_kind : (w : Wanted) (s : NewStage) → StepOf (task.New (record { wanted = w; stage = s }))
+    new_kind w (Search waited q) = inr (inr (record { same = searched w waited (search.goes q found) (cache_span m w.sought (search.goes q found).find.cached) (search.gives q found); silent = λ y. y; nothing = refused_made shapes (new.refuses waited (search.gives q found)) w }))
+    new_kind w (Wait y) = inr (inr (record { same = waited_for w (wait.goes (wait.waiting y m.poll) found) (wait.gives (wait.waiting y m.poll) found); silent = λ y. y; nothing = λ e g. refl }))
+    new_kind w (Place p) = placed w p p.stage
+    new_kind w (Want n) = inr (inr (record { same = refl; silent = λ y. y; nothing = λ e g. refl }))
+    new_kind w (Assist n x) = inr (inr (record { same = assisted w n (assist.goes x found) (assist.gives x found); silent = λ y. y; nothing = λ e g. refl }))
+  kind (task.Gc g x) busy = inr (inr (record { same = ended_gc g (wait.goes (wait.waiting x m.poll) found) (wait.gives (wait.waiting x m.poll) found); silent = λ y. y; nothing = acting_made shapes (is_some (wait.gives (wait.waiting x m.poll) found)) (op.Gc g) tt }))
+  kind task.Poll busy = inr (inr (record { same = ended_poll (poll.goes m.poll found) (poll.gives m.poll found); silent = λ y. y; nothing = acting_made shapes (is_some (poll.gives m.poll found)) op.Poll tt }))
+  kind (task.End g) busy = inr (inr (record { same = refl; silent = λ y. y; nothing = λ e h. refl }))
+  kind (task.Leave x) busy = inr (inr (record { same = ended_leave (leave.goes x found) (leave.gives x found); silent = λ y. y; nothing = acting_made shapes (is_some (leave.gives x found)) op.Leave tt }))
+
+  -- a step of a sweep is one of a search
+  pub sweeps_plain : (t : Task) (sw : Sweeping) → sweep_at t ≡ Some sw → (uncounted t ≡ 0) × (uncounted (takes_at shapes m t found).task ≡ 0)
+  sweeps_plain (task.New x) sw is = by_stage x.wanted x.stage is where
+    by_stage : (w : Wanted) (s : NewStage) → sweep_new s ≡ Some sw → (uncounted (task.New (record { wanted = w; stage = s })) ≡ 0) × (uncounted (takes_at shapes m (task.New (record { wanted = w; stage = s })) found).task ≡ 0)
+    by_stage w (Search waited q) is = (refl, searched w waited (search.goes q found) (cache_span m w.sought (search.goes q found).find.cached) (search.gives q found))
+    by_stage w (Wait y) is = absurd cc
+    by_stage w (Place p) is = absurd cc
+    by_stage w (Want n) is = absurd cc
+    by_stage w (Assist n x) is = absurd cc
+  sweeps_plain _ sw is = absurd cc
+
+-- An operation that begins leaves it so.
+pub begins_plain : (shapes : List Shape) (m : Processor) (o : Op) → uncounted (begins_at shapes m o) ≡ 0
+begins_plain shapes m (op.New g d t) = refl
+begins_plain shapes m _ = refl
+
+pub idle_plain : (t : Task) → is_busy_at t ≡ false → uncounted t ≡ 0
+idle_plain (task.New x) idle = absurd (cc)
+idle_plain _ idle = refl

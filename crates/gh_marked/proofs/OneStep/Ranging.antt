@@ -1,0 +1,137 @@
+-- An operation that is still to act is one of those that may begin: its goroutine, registers and global are there. So the heap that never frees stays bounded.
+use Rattle.std.proofs.Common.{◌≡◌, ℕ, ◌<◌, ◌⊎◌, inl, inr, ◌==◌, Bool, true, false, cond, ltb, refl, sym, ap, subst, ◌∙◌, arith, List, [], ◌∷◌, length, Option, Some, None, eq-eqb}
+use Rattle.std.specs.Prelude.{◌&&◌}
+use Rattle.gh_base.specs.declared.operation.Op.TheVariants as op
+use Rattle.gh_base.specs.declared.value.Answer.TheVariants as answers
+use Rattle.gh_base.specs.Orders.{with_point}
+use Rattle.gh_cycle.specs.Reached.{IsInRange}
+use Rattle.gh_model.specs.Ever.{answer_of}
+use Rattle.gh_lists.specs.declared.handshake.Actor.TheVariants as actor
+use Rattle.gh_marked.proofs.Vocabulary.{Act, acted, Actor, actors, acts, answer_at, Arena, arena, Begins, by, deeds, DeedsFit, Entry, Ever, has_point, in_range, is_busy, is_busy_at, IsBounded, Kind, Legal, ltb-true, may_of, nat_tests, Op, point_of, Processor, processor_at, processor_kind, REGISTERS, started, state_of, takes, those}
+use Rattle.gh_lists.specs.Beginning.{both, may_parts}
+use Rattle.gh_marked.specs.Known.{Known}
+use Rattle.gh_lists.specs.Resting.{runs_are, state_stays}
+use Rattle.gh_lists.specs.Seats.{run_started}
+use Rattle.gh_lists.specs.Lists.{Given, setup_for}
+
+module _ (z : Arena) where
+  abbrev InRange : Op → Type 0
+  InRange o = in_range z.layout.goroutines z.layout.globals (length z.shapes) o ≡ true
+
+  three : (x y w : ℕ) (n : ℕ) → (ltb x n && ltb y REGISTERS && ltb w REGISTERS) ≡ true → (x < n) × (y < REGISTERS) × (w < REGISTERS)
+  three x y w n is = let p = both (ltb x n && ltb y REGISTERS) (ltb w REGISTERS) is in let q = both (ltb x n) (ltb y REGISTERS) p.0 in (ltb-true x n q.0, ltb-true y REGISTERS q.1, ltb-true w REGISTERS p.1)
+
+  two : (x y : ℕ) (n : ℕ) → (ltb x n && ltb y REGISTERS) ≡ true → (x < n) × (y < REGISTERS)
+  two x y n is = let q = both (ltb x n) (ltb y REGISTERS) is in (ltb-true x n q.0, ltb-true y REGISTERS q.1)
+
+  pub op_range : (o : Op) → InRange o → IsInRange z o
+  op_range (op.New g d t) is = let p = both (ltb g z.layout.goroutines && ltb d REGISTERS) (ltb t (length z.shapes)) is in two g d z.layout.goroutines p.0
+  op_range (op.Load g d b k) is = three g d b z.layout.goroutines is
+  op_range (op.Store g b k v) is = three g b v z.layout.goroutines is
+  op_range (op.GetGlobal g d k) is = let p = both (ltb g z.layout.goroutines && ltb d REGISTERS) (ltb k z.layout.globals) is in let q = two g d z.layout.goroutines p.0 in (q.0, q.1, ltb-true k z.layout.globals p.1)
+  op_range (op.SetGlobal g k v) is =
+      let p = both (ltb g z.layout.goroutines && ltb k z.layout.globals) (ltb v REGISTERS) is in
+      let q = both (ltb g z.layout.goroutines) (ltb k z.layout.globals) p.0 in
+      (ltb-true g z.layout.goroutines q.0, ltb-true k z.layout.globals q.1, ltb-true v REGISTERS p.1)
+  op_range (op.Int g d n) is = two g d z.layout.goroutines is
+  op_range (op.Move g d s) is = three g d s z.layout.goroutines is
+  op_range (op.Nil g d) is = two g d z.layout.goroutines is
+  op_range (op.Gc g) is = ltb-true g z.layout.goroutines is
+  op_range (op.End g) is = ltb-true g z.layout.goroutines is
+  op_range op.Poll is = tt
+  op_range op.Leave is = tt
+
+module _ (given : Given) (known : Known) where
+  abbrev may : ℕ → List (Entry Op) → Op → Bool
+  may = may_of given.shapes given.layout given.counts
+
+  abbrev z : Arena
+  z = arena (setup_for given)
+
+  abbrev k : Kind Processor Op
+  k = processor_kind given.shapes given.layout
+
+  abbrev all : Kind Actor Op
+  all = actors (setup_for given)
+
+  fit : DeedsFit k (deeds given.shapes)
+  fit = known.fit given.shapes given.layout
+
+  -- what is still to act at a processor is in range
+  abbrev IsRanged : Processor → Type 0
+  IsRanged m = (o : Op) → (deeds given.shapes).unacted m ≡ Some o → IsInRange z o
+
+  module _ (e : Entry Op) (es : List (Entry Op)) (legal : Legal (those (setup_for given)) (e ∷ es)) (lt : e.actor < given.layout.procs) where
+    abbrev m : Processor
+    m = processor_at (setup_for given) es e.actor
+
+    abbrev now : Processor
+    now = started k e.begun m
+
+    here : state_of all e.actor es ≡ actor.Runs m
+    here = runs_are (setup_for given) es e.actor lt
+
+    pub busy_now : is_busy_at now.task ≡ true
+    busy_now = sym (ap is_busy (ap (started all e.begun) here ∙ run_started (setup_for given) e.begun m)) ∙ legal.1.runs
+
+    -- where an operation begins
+    pub record BeginsSo (o : Op) : Type 0 where
+      pub idle : is_busy_at m.task ≡ false
+      pub may_now : may e.actor (by e.actor es) o ≡ true
+
+    pub begins_so : (o : Op) → e.begun ≡ Some o → BeginsSo o
+    begins_so o is =
+        let b = subst (λ (x : Option Op). Begins (those (setup_for given)) e.actor es x) is legal.1.begins in
+        record { idle = sym (ap is_busy here) ∙ b.0; may_now = b.1 }
+
+    pub unacted_begun : (o : Op) → e.begun ≡ Some o → (deeds given.shapes).unacted now ≡ with_point (deeds given.shapes) (Some o)
+    unacted_begun o is =
+        let b = begins_so o is in
+        let begun : started k e.begun m ≡ k.begins m o = ap (λ (x : Option Op). started k x m) is in
+        ap (deeds given.shapes).unacted begun ∙ fit.begins m o b.idle (sym (ap (λ (x : Processor). is_busy_at x.task) begun) ∙ busy_now)
+
+    pub ranged_now : IsRanged m → IsRanged now
+    ranged_now was o is = go e.begun refl where
+      go : (b : Option Op) → e.begun ≡ b → IsInRange z o
+      go None none = was o (sym (ap (λ (x : Option Op). (deeds given.shapes).unacted (started k x m)) none) ∙ is)
+      go (Some p) some = by_point (has_point p) refl (sym (unacted_begun p some) ∙ is) where
+        by_point : (b : Bool) → has_point p ≡ b → cond (has_point p) (Some p) None ≡ Some o → IsInRange z o
+        by_point true x same =
+            let both_are : Some p ≡ Some o = sym (ap (λ (c : Bool). cond c (Some p) None) x) ∙ same in
+            let one : p ≡ o = cc in
+            subst (IsInRange z) one (op_range z p (may_parts z given.counts e.actor (state_of k e.actor (by e.actor es)) (by e.actor es) p (begins_so p some).may_now).range)
+        by_point false x same = absurd (let no : None ≡ Some o = sym (ap (λ (c : Bool). cond c (Some p) None) x) ∙ same in cc)
+
+    ranged_then : IsRanged m → IsRanged (takes given.shapes now e.found)
+    ranged_then was o is = go ((deeds given.shapes).acts now e.found) refl where
+      go : (x : Option Act) → (deeds given.shapes).acts now e.found ≡ x → IsInRange z o
+      go None none = ranged_now was o (sym (fit.goes_on now e.found busy_now none) ∙ is)
+      go (Some x) some = absurd (let no : None ≡ Some o = sym (fit.acts_once now e.found x busy_now some) ∙ is in cc)
+
+  one_more : (e : Entry Op) (es : List (Entry Op)) → Legal (those (setup_for given)) (e ∷ es) → (a : ℕ) → a < given.layout.procs → IsRanged (processor_at (setup_for given) es a) → IsRanged (processor_at (setup_for given) (e ∷ es) a)
+  one_more e es legal a lt was = go (e.actor == a) refl where
+    go : (b : Bool) → (e.actor == a) ≡ b → IsRanged (processor_at (setup_for given) (e ∷ es) a)
+    go false x = subst IsRanged (sym (state_stays (setup_for given) e es a x)) was
+    go true x =
+        let same : e.actor ≡ a = grind (arith, nat_tests) in
+        subst (λ (n : ℕ). IsRanged (processor_at (setup_for given) es n) → IsRanged (processor_at (setup_for given) (e ∷ es) n)) same
+        (λ w. rw (eq-eqb e.actor e.actor refl) (ranged_then e es legal (subst (λ (n : ℕ). n < given.layout.procs) (sym same) lt) w)) was
+
+  pub ranged : (es : List (Entry Op)) → Legal (those (setup_for given)) es → (a : ℕ) → a < given.layout.procs → IsRanged (processor_at (setup_for given) es a)
+  ranged [] legal a lt o is = absurd (let no : None ≡ Some o = sym (fit.opens a) ∙ is in cc)
+  ranged (e ∷ es) legal a lt o is = one_more e es legal a lt (λ p x. ranged es legal.0 a lt p x) o is
+
+  -- so each point keeps the heap that never frees bounded
+  module _ (e : Entry Op) (es : List (Entry Op)) (legal : Legal (those (setup_for given)) (e ∷ es)) (lt : e.actor < given.layout.procs) (x : Ever) (bounded : IsBounded z x) where
+    answered_so : (y : Act) (b : Bool) → y.full ≡ b → (answer_at given.shapes x y ≡ answer_of given.shapes x y.op) ⊎ (answer_at given.shapes x y ≡ answers.Full)
+    answered_so y true is = inr (ap (λ (b : Bool). cond b answers.Full (answer_of given.shapes x y.op)) is)
+    answered_so y false is = inl (ap (λ (b : Bool). cond b answers.Full (answer_of given.shapes x y.op)) is)
+
+    pub bounded_then : IsBounded z (acted given.shapes x (acts (now e es legal lt) e.found))
+    bounded_then = subst (IsBounded z) ((known.points given.shapes given.layout).alone x (acts (now e es legal lt) e.found)) (go ((deeds given.shapes).acts (now e es legal lt) e.found) refl) where
+      go : (p : Option Act) → (deeds given.shapes).acts (now e es legal lt) e.found ≡ p → IsBounded z (acted given.shapes x (point_of (acts (now e es legal lt) e.found)))
+      go None is = subst (λ (q : Option Act). IsBounded z (acted given.shapes x q)) (sym is) bounded
+      go (Some y) is =
+          let unacted = fit.acts_for (now e es legal lt) e.found y (busy_now e es legal lt) is in
+          subst (λ (q : Option Act). IsBounded z (acted given.shapes x q)) (sym is)
+          (known.bounds.after z x y.op (answer_at given.shapes x y) bounded (ranged_now e es legal lt (ranged es legal.0 e.actor lt) y.op unacted) (answered_so y y.full refl))

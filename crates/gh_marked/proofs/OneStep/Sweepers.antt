@@ -1,0 +1,105 @@
+-- The sweeps that actors run: what is known of one lasts under the moves of others, and goes on with its own steps.
+use Rattle.std.proofs.Common.{◌≡◌, ◌≢◌, ℕ, ◌+◌, ◌<◌, Bool, true, false, cond, refl, sym, ap, subst, ◌∙◌, arith, Option, Some, None}
+use Rattle.gh_base.specs.declared.cell.Cell.TheVariants as cell
+use Rattle.gh_base.specs.declared.pack.PageWord.TheVariants.{Head}
+use Rattle.gh_base.specs.Cells.{seats_of}
+use Rattle.gh_heap.specs.Moves as heap
+use Rattle.gh_state.specs.Moves.{Count, Deed, Move, moved, Others, Sweep}
+use Rattle.gh_state.specs.Routines.{GoesOn}
+use Rattle.gh_sweep.specs.declared.sweep.SweepStage.{SweepStage}
+use Rattle.gh_sweep.specs.declared.sweep.SweepStage.TheVariants as sweep_stage
+use Rattle.gh_sweep.specs.Listing as sweep
+use Rattle.gh_sweep.specs.Listing.{Sweeping}
+use Rattle.gh_sweep.specs.Moves as moves
+use Rattle.gh_sweep.specs.Running.{BeginsSweep, on_from}
+use Rattle.gh_sweep.specs.Sweepers.{move_at, move_of}
+use Rattle.gh_marked.specs.HoldVocabulary.{generation_of, Layout, page_of, Rests, Runs, State, StateGood}
+use Rattle.gh_marked.specs.Sweepers.{IsInSweep}
+use Rattle.gh_marked.proofs.Vocabulary.{Arena, Ask, cell_of, Load}
+use Rattle.gh_marked.specs.Known.{Known}
+
+module _ (known : Known) (z : Arena) (a : ℕ) where
+  -- Under the moves of others.
+
+  pub rests_last : (s t : State) → Others z a s t → Rests a s → Rests a t
+  rests_last s t o r = record { none = λ p is. r.none p (o.sweep.back p is); told = o.sweep.due ∙ r.told }
+
+  pub lasts : (s t : State) (x : Option Sweeping) → Others z a s t → IsInSweep a s x → IsInSweep a t x
+  lasts s t None o r = rests_last s t o r
+  lasts s t (Some m) o r = (known.sweeps.last z a s t m o r.0, r.1)
+
+  -- where a cycle is under way it runs none
+  pub none_under_way : (s : State) → (s.told ≡ None → ⊥) → (x : Option Sweeping) → IsInSweep a s x → x ≡ None
+  none_under_way s under None r = refl
+  none_under_way s under (Some m) r = absurd (under r.0.quiet)
+
+  -- Under its own that are none of a sweep.
+
+  pub rests_on : (s : State) (m : heap.Move) → Rests a s → Rests a (moved z a s (Deed m))
+  rests_on s m r = record { none = r.none; told = r.told }
+
+  pub rests_counted : (s : State) → Rests a s → Rests a (moved z a s Count)
+  rests_counted s r = record { none = r.none; told = r.told }
+
+  -- It begins one where it has found the head of an unswept span.
+  pub begins : (t : State) → StateGood z t → Rests a t → (l : Layout) (generation : ℕ) (step : Ask) (found : ℕ) (m : Sweeping) → l ≡ t.end.layout → generation ≡ t.heap.words cell.Gen → found ≡ t.heap.words (cell_of step) → BeginsSweep l generation step found m → IsInSweep a t (Some m)
+  begins t good rest l generation step found m laid number found_is b = (
+    subst (Runs a t) (sym (b.sweep_is ∙ ap (λ (y : Layout). sweep.opening y b.page b.head) laid)) (known.sweeps.opens z a t b.page b.head good told rest head unswept),
+    ap (λ (y : Sweeping). sweep.is_busy y.stage) b.sweep_is,
+  ) where
+    head : page_of (t.heap.words (cell.Page b.page)) ≡ Head b.head
+    head = ap page_of (sym (found_is ∙ ap (λ (q : Ask). t.heap.words (cell_of q)) b.step_is)) ∙ b.head_is
+
+    differs : b.head.number ≢ t.heap.words cell.Gen
+    differs same = let n = b.number in omega (arith, n, same, number)
+
+    told : t.told ≡ None
+    told = (known.walkers.waits z t b.page b.head good head differs).2
+
+    unswept : b.head.number + 2 ≡ generation_of t.end
+    unswept = b.number ∙ (number ∙ good.sweep.generation)
+
+  pub begins_or_rests : (t : State) → StateGood z t → Rests a t → (l : Layout) (generation : ℕ) (step : Ask) (found : ℕ) (x : Option Sweeping) → l ≡ t.end.layout → generation ≡ t.heap.words cell.Gen → found ≡ t.heap.words (cell_of step) → ((m : Sweeping) → x ≡ Some m → BeginsSweep l generation step found m) → IsInSweep a t x
+  begins_or_rests t good rest l generation step found None laid number found_is b = rest
+  begins_or_rests t good rest l generation step found (Some m) laid number found_is b = begins t good rest l generation step found m laid number found_is (b m refl)
+
+  -- A step of the sweep itself.
+  module _ (s : State) (good : StateGood z s) (seat : a < seats_of z.layout) (m : Sweeping) (is : Runs a s m × (sweep.is_busy m.stage ≡ true)) (found : ℕ) (found_is : found ≡ s.heap.words (cell_of (sweep.asks m))) where
+    abbrev pub move : Move
+    move = Sweep (move_of m found)
+
+    abbrev pub then : State
+    then = moved z a s move
+
+    pub goes_on : GoesOn z a s m found
+    goes_on = subst (GoesOn z a s m) (sym found_is) (known.sweeps.own z a s m good seat is.0 is.1)
+
+    pub good_then : StateGood z then
+    good_then = known.keeps z a s move good goes_on.may
+
+    pub sweeps_on : (x : Option Sweeping) → x ≡ on_from m found → IsInSweep a then x
+    sweeps_on x same = subst (IsInSweep a then) (sym same) (go (sweep.is_busy (sweep.goes m found).stage) refl) where
+      go : (b : Bool) → sweep.is_busy (sweep.goes m found).stage ≡ b → IsInSweep a then (cond b (Some (sweep.goes m found)) None)
+      go true y = (goes_on.runs, y)
+      go false y = known.sweeps.rests a then (sweep.goes m found) goes_on.runs y
+
+  -- What its steps leave: the bytes of slots, the objects of since, and what was placed and not counted.
+
+  pub record RowsStay (s t : State) : Type 0 where
+    pub slot : t.slot ≡ s.slot
+    pub since : t.since ≡ s.since
+    pub pend : t.pend ≡ s.pend
+
+  stay_begins : (s : State) (m : Sweeping) (wrote : Bool) → RowsStay s (moved z a s (Sweep (cond wrote (moves.Starts m.page m.head) (moves.Quiet (Load (cell.Page m.page))))))
+  stay_begins s m true = record { slot = refl; since = refl; pend = refl }
+  stay_begins s m false = record { slot = refl; since = refl; pend = refl }
+
+  pub rows_stay : (s : State) (m : Sweeping) (q : SweepStage) (found : ℕ) → RowsStay s (moved z a s (Sweep (move_at m q found)))
+  rows_stay s m sweep_stage.Begin found = stay_begins s m (sweep.wrote m found)
+  rows_stay s m _ found = record { slot = refl; since = refl; pend = refl }
+
+  -- The end, and whether a cycle is under way, stay under all moves.
+  pub end_stays : (s : State) (m : Move) → ((moved z a s m).end ≡ s.end) × ((moved z a s m).told ≡ s.told)
+  end_stays s (Deed m) = (refl, refl)
+  end_stays s (Sweep m) = (refl, refl)
+  end_stays s Count = (refl, refl)

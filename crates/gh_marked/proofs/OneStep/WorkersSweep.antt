@@ -1,0 +1,108 @@
+-- The step of a worker: where it runs a sweep the step is the sweep's; else it runs none behind it, or has begun one, whatever the coordinator's stage.
+use Rattle.std.proofs.Common.{◌≡◌, ℕ, true, refl, sym, ap, subst, ◌∙◌, List, ◌∷◌, Option, Some, None}
+use Rattle.gh_base.specs.declared.cell.Cell.TheVariants as cell
+use Rattle.gh_sweep.specs.Listing as sweep
+use Rattle.gh_sweep.specs.Listing.{Sweeping}
+use Rattle.gh_sweep.specs.Running.{BeginsSweep, SweepsOn}
+use Rattle.gh_phase.specs.Listing as resume
+use Rattle.gh_wbuf.specs.BufferGiving as give
+use Rattle.gh_worker.specs.declared.worker.WorkerStage.TheVariants as working_at
+use Rattle.gh_worker.specs.Handshake as working
+use Rattle.gh_worker.specs.Listing as worker
+use Rattle.gh_lists.specs.declared.handshake.Actor.TheVariants as actor
+use Rattle.gh_lists.specs.Handshake.{asks, Sound as SoundActor, Setup}
+use Rattle.gh_marked.specs.HoldVocabulary.{Rests}
+use Rattle.gh_marked.specs.Sweepers.{IsInSweep, sweep_of}
+use Rattle.gh_marked.proofs.Vocabulary.{Actor, actors, actors_after, Arena, arena, Ask, cell_of, effect, Entry, HasState, Held, is_busy, IsAwake, Legal, Load, Op, Resumed, started, State, StateGood, those, View, WorkerStage, Words, words}
+use Rattle.gh_marked.specs.Known.{ListsKnown}
+use Rattle.gh_marked.proofs.OneStep.Sweepers as sweepers
+use Rattle.gh_lists.specs.Seats.{IsSeated, seated, worker_started, works}
+
+-- Where a step has begun a sweep, the worker is awake before it, and knows the sweep generation between two polls.
+module _ (w : worker.Working) (m : Sweeping) where
+  record IsAwakeAt (p : WorkerStage) : Type 0 where
+    pub awake : IsAwake (working.stands_at p)
+    pub view_is : (working.party_at w p).view ≡ w.view
+
+  backs_none : (stops : ℕ) (held : Option Held) → worker.sweep_at (worker.gives_back w stops held) ≡ Some m → ⊥
+  backs_none stops None is = cc
+  backs_none stops (Some h) is = cc
+
+  gives_none : (g : give.BufferGiving) (stops : ℕ) (out : Option (Unit {0})) → worker.sweep_at (worker.after_give w g stops out).stage ≡ Some m → ⊥
+  gives_none g stops None is = cc
+  gives_none g stops (Some x) is = cc
+
+  resumes_none : (r : resume.Resuming) (out : Option Resumed) → worker.sweep_at (worker.after_resume w r out).stage ≡ Some m → ⊥
+  resumes_none r None is = cc
+  resumes_none r (Some x) is = cc
+
+  awake_at : (p : WorkerStage) (found : ℕ) → worker.sweep_at (worker.goes_at w p found).stage ≡ Some m → IsAwakeAt p
+  awake_at (working_at.EarningAtStop x stops) found is = absurd (backs_none stops w.held is)
+  awake_at (working_at.GiveBack g stops) found is = absurd (gives_none (give.goes g found) stops (give.gives g found) is)
+  awake_at (working_at.Resuming r) found is = absurd (resumes_none (resume.goes r found) (resume.gives r found) is)
+  awake_at working_at.Leave found is = absurd (cc)
+  awake_at working_at.Done found is = absurd (cc)
+  awake_at _ found is = record { awake = tt; view_is = refl }
+
+module _ (setup : Setup) (lists : ListsKnown setup)
+    (e : Entry Op) (es : List (Entry Op)) (legal : Legal (those setup) (e ∷ es)) (w : worker.Working) (is : actors_after (arena setup) setup.pacing setup.may es e.actor ≡ actor.Marks w) where
+  abbrev z : Arena
+  z = arena setup
+
+  abbrev at : List (Entry Op) → ℕ → Actor
+  at xs a = actors_after z setup.pacing setup.may xs a
+
+  begun_is : started (actors setup) e.begun (at es e.actor) ≡ actor.Marks w
+  begun_is = ap (started (actors setup) e.begun) is ∙ worker_started setup e.begun w
+
+  pub asked : e.ask ≡ worker.asks w
+  asked = legal.1.asks ∙ ap asks begun_is
+
+  pub busy : worker.is_busy w.stage ≡ true
+  busy = sym (ap is_busy begun_is) ∙ legal.1.runs
+
+  pub sound : working.Sound w
+  sound = subst (SoundActor setup.layout) is ((lists.keeps es legal.0).shakes.all_sound e.actor legal.1.actor)
+
+  its_seat : IsSeated setup.layout e.actor (actor.Marks w)
+  its_seat = subst (IsSeated setup.layout e.actor) is (seated setup es e.actor)
+
+  pub sweeps_before : sweep_of (at es e.actor) ≡ worker.sweep_in w
+  sweeps_before = ap sweep_of is
+
+  pub sweeps_then : sweep_of (at (e ∷ es) e.actor) ≡ worker.sweep_in (worker.goes w e.found)
+  sweeps_then = ap sweep_of (works setup e es w is)
+
+  -- It runs a sweep.
+  module _ (sw : Sweeping) (runs : worker.sweep_in w ≡ Some sw) (its_busy : sweep.is_busy sw.stage ≡ true) where
+    pub goes_on : SweepsOn worker.asks worker.goes worker.sweep_in w sw
+    goes_on = lists.known.workers_sweep.runs.on w sw runs its_busy
+
+  -- It runs none. Of a state behind the step, with the words that it leaves.
+  module _ (has : HasState setup es) (none : worker.sweep_in w ≡ None) (t : State) (good : StateGood z t) (rests : Rests e.actor t) (words_are : t.heap.words ≡ effect has.state.heap.words e.ask) where
+    then_by : (x : Option Sweeping) → worker.sweep_in (worker.goes w e.found) ≡ x → IsInSweep e.actor t x
+    then_by None then = rests
+    then_by (Some m) then = sweepers.begins lists.known z e.actor t good rests w.layout w.view.generation (worker.asks w) e.found m laid number loaded b where
+      b : BeginsSweep w.layout w.view.generation (worker.asks w) e.found m
+      b = lists.known.workers_sweep.runs.begins w e.found m none then
+
+      load_is : e.ask ≡ Load (cell.Page b.page)
+      load_is = asked ∙ b.step_is
+
+      same_words : (c : _) → t.heap.words c ≡ words setup es c
+      same_words c = ap (λ (v : Words). v c) words_are ∙ (ap (λ (q : Ask). effect has.state.heap.words q c) load_is ∙ ap (λ (v : Words). v c) has.of_list.words_are)
+
+      laid : w.layout ≡ t.end.layout
+      laid = its_seat.2 ∙ sym good.layout
+
+      awake : IsAwakeAt w m w.stage
+      awake = awake_at w m w.stage e.found then
+
+      number : w.view.generation ≡ t.heap.words cell.Gen
+      number = ap (λ (v : View). v.generation) (sym awake.view_is) ∙ (((lists.keeps es legal.0).workers_know e.actor w its_seat.1 is awake.awake).generation_is ∙ sym (same_words cell.Gen))
+
+      loaded : e.found ≡ t.heap.words (cell_of (worker.asks w))
+      loaded = legal.1.found ∙ (ap (λ (q : Ask). words setup es (cell_of q)) asked ∙ sym (same_words (cell_of (worker.asks w))))
+
+    pub begins_or_rests : IsInSweep e.actor t (sweep_of (at (e ∷ es) e.actor))
+    begins_or_rests = subst (IsInSweep e.actor t) (sym sweeps_then) (then_by (worker.sweep_in (worker.goes w e.found)) refl)

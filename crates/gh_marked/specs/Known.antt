@@ -1,0 +1,101 @@
+-- What lower crates say, as the lemmas of lists of all actors use it.
+use Rattle.std.proofs.Common.{ℕ, List, ◌∷◌}
+use Rattle.gh_assist.specs.Within.{TakingAndScanningAreWithin}
+use Rattle.gh_base.specs.Rows.{RowsAreWritten}
+use Rattle.gh_heap.specs.Laws.{EachFactLasts, EachMoveLeaves, EachMoveReachesNoMore, TheHeapIsApart}
+use Rattle.gh_sweep.specs.AtEnd.{TheBitsAreObjects}
+use Rattle.gh_marks.specs.Laws.{MarksStayWords}
+use Rattle.gh_state.specs.Cycles.{CountsAreTold, CyclesEnd, HeapsOpen, TheSweepIsTold}
+use Rattle.gh_state.specs.Cycles as state
+use Rattle.gh_state.specs.Laws as state_laws
+use Rattle.gh_state.specs.Routines.{SweepsByTheState}
+use Rattle.gh_state.specs.Walkers.{WalkersPass}
+use Rattle.gh_cycle.specs.Beside.{CyclesBeginBeside, MarkingAloneGoesBeside, ObjectsAreKnownBeside, TheMarkedStand, TheReachedAreMarkedBeside}
+use Rattle.gh_cycle.specs.Opening.{CyclesOpen}
+use Rattle.gh_cycle.specs.Reached.{BoundsLast, PlacesAreDecided, TheReachedWereMade}
+use Rattle.gh_cycle.specs.Since.{CyclesBeginSo, TheMarkedWereReached, WhatHasGoneOnLasts}
+use Rattle.gh_mutator_heap.specs.Beside.{GoesOnBesideMarking}
+use Rattle.gh_mutator_writes.specs.Calm.{CalmProcessorsMarkNothing}
+use Rattle.gh_mutator.specs.Deeds.{OnlyPointsChange, ProcessorsDeedsFit}
+use Rattle.gh_mutator.specs.ProcessorMarks.{MarksByMoves}
+use Rattle.gh_mutator_heap.specs.Runs.{RunsByItsRights}
+use Rattle.gh_mutator_heap.specs.Sweeping.{ProcessorsRunSweeps}
+use Rattle.gh_mutator_writes.specs.Writing.{StacksAreNoted}
+use Rattle.gh_worker.specs.Sweeping.{WorkersRunSweeps}
+use Rattle.gh_worker.specs.Writing.{CalmWorkersMarkNothing}
+use Rattle.gh_coord.specs.Sweeping.{TheCoordinatorRunsSweeps}
+use Rattle.gh_lists.specs.Counts.{CountsPlainly}
+use Rattle.gh_lists.specs.Waits.{StackGoes, StacksAreNumbered, WorkersRest}
+use Rattle.gh_lists.specs.Wants.{CountsWants}
+use Rattle.gh_marked.specs.LemmaVocabulary.{ChangesOneCell, Coordinating, CountsCycles, Entry, IsFew, IsLed, KeepsIt, Legal, MarkingBegins, Op, ProcessorInHandshake, ProcessorWritesItsOwn, StepKeepsIt, those, words_after, WorkersWriteTheirOwn}
+use Rattle.gh_marked.specs.Drawing.{DrawnKnown}
+use Rattle.gh_lists.specs.Changes.{Change, Rises}
+use Rattle.gh_lists.specs.Handshake.{Setup}
+use Rattle.gh_lists.specs.Marking.{IsInLimits}
+use Rattle.gh_mutator_heap.specs.Facts.{ShapesAreGood}
+
+-- of steps and moves
+pub record Known : Type 0 where
+  pub one : ChangesOneCell
+  pub rows : RowsAreWritten
+  pub apart : TheHeapIsApart
+  pub keeps : state_laws.EachMoveKeeps
+  pub leaves : EachMoveLeaves
+  pub reaches : EachMoveReachesNoMore
+  pub state_leaves : state_laws.EachMoveLeaves
+  pub last : EachFactLasts
+  pub sweeps : SweepsByTheState
+  pub processors_sweep : ProcessorsRunSweeps
+  pub workers_sweep : WorkersRunSweeps
+  pub coordinator_sweeps : TheCoordinatorRunsSweeps
+  pub walkers : WalkersPass
+  pub bits : TheBitsAreObjects
+  pub runs : RunsByItsRights
+  pub marks : MarksByMoves
+  pub writes : ProcessorWritesItsOwn
+  pub calm : CalmProcessorsMarkNothing
+  pub notes : StacksAreNoted
+  pub points : OnlyPointsChange
+  pub places : ProcessorInHandshake
+  pub workers_write : WorkersWriteTheirOwn
+  pub workers_calm : CalmWorkersMarkNothing
+  pub mark_words : MarksStayWords
+  pub heaps_open : HeapsOpen
+  pub cycles_open : state.CyclesOpen
+  pub cycles_end : CyclesEnd
+  pub swept : TheSweepIsTold
+  pub told : CountsAreTold
+  pub decided : PlacesAreDecided
+  pub made : TheReachedWereMade
+  pub bounds : BoundsLast
+  pub opens : CyclesOpen
+  pub beside_begins : CyclesBeginBeside
+  pub beside_lasts : MarkingAloneGoesBeside
+  pub begins_so : CyclesBeginSo
+  pub gone_on : WhatHasGoneOnLasts
+  pub objects : ObjectsAreKnownBeside
+  pub reached : TheReachedAreMarkedBeside
+  pub marked : TheMarkedWereReached
+  pub stand : TheMarkedStand
+  pub beside : GoesOnBesideMarking
+  pub marking : MarkingBegins
+  pub fit : ProcessorsDeedsFit
+  pub taking : TakingAndScanningAreWithin
+  pub drawn : DrawnKnown
+
+-- of a heap that is set up so, and of its lists
+pub record ListsKnown (setup : Setup) : Type 0 where
+  pub good : ShapesAreGood setup.shapes
+  pub limits : IsInLimits setup.layout
+  pub known : Known
+  pub keeps : (es : List (Entry Op)) → Legal (those setup) es → KeepsIt (those setup) es
+  pub steps : (e : Entry Op) (es : List (Entry Op)) → Legal (those setup) (e ∷ es) → StepKeepsIt (those setup) e es
+  pub few : (es : List (Entry Op)) → Legal (those setup) es → IsFew es
+  pub counts : (es : List (Entry Op)) (c : Coordinating) → Legal (those setup) es → IsLed setup es c → CountsCycles (those setup) setup.pacing.room es c
+  pub plainly : (es : List (Entry Op)) (c : Coordinating) → Legal (those setup) es → IsLed setup es c → CountsPlainly (those setup) setup.pacing.room es c
+  pub wants : (es : List (Entry Op)) (c : Coordinating) → Legal (those setup) es → IsLed setup es c → CountsWants (those setup) es c
+  pub numbers : (es : List (Entry Op)) → Legal (those setup) es → StacksAreNumbered (words_after (those setup).opening es)
+  pub changes : (e : Entry Op) (es : List (Entry Op)) → Legal (those setup) (e ∷ es) → Change setup e es
+  pub rises : (e : Entry Op) (es : List (Entry Op)) → Legal (those setup) (e ∷ es) → Rises setup e es
+  pub stacks : (e : Entry Op) (es : List (Entry Op)) → Legal (those setup) (e ∷ es) → (g : ℕ) → StackGoes (words_after (those setup).opening es) (words_after (those setup).opening (e ∷ es)) g
+  pub rests : (es : List (Entry Op)) → Legal (those setup) es → WorkersRest (those setup) es

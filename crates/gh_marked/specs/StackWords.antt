@@ -1,0 +1,42 @@
+-- What a processor's step does to the words of stacks, and that a calm one tells of no scan.
+use Rattle.std.proofs.Common.{◌≡◌, ◌≢◌, ◌⊎◌, inl, ℕ, false, refl, sym, subst, List, Option, Some, None}
+use Rattle.gh_base.specs.declared.cell.Ask.TheVariants.{Store}
+use Rattle.gh_base.specs.declared.cell.Cell.TheVariants as cell
+use Rattle.gh_base.specs.declared.pack.TheConstants.{END}
+use Rattle.gh_base.specs.Steps.{effect}
+use Rattle.gh_mutator.specs.declared.task.Task.TheVariants as task
+use Rattle.gh_mutator_writes.specs.Calm.{IsWrittenCalmly}
+use Rattle.gh_mutator.specs.Listing.{asks, is_busy_at}
+use Rattle.gh_mutator_writes.specs.Writing.{EndsStack, TellsScan, WritesOf}
+use Rattle.gh_marked.specs.LemmaVocabulary.{IsSound, Layout, MarksNothing, Op, Processor, processor_kind, Shape, started, Words}
+use Rattle.gh_marked.specs.Known.{Known}
+
+-- What a step does to the word of a stack whose goroutine does not end with it: it leaves the word, and notes nothing; or it tells that the stack is scanned, of a goroutine that goes on, and notes that.
+pub record LeavesStack (words : Words) (m : Processor) (g : ℕ) : Type 0 where
+  pub same : effect words (asks m) (cell.Scanned g) ≡ words (cell.Scanned g)
+  pub untold : (number : ℕ) → asks m ≢ Store (cell.Scanned g) number
+
+pub record ScansStack (words : Words) (m : Processor) (g : ℕ) : Type 0 where
+  pub tells : TellsScan m g
+  pub number : m.poll.local.view.begun ≢ END
+  pub goes_on : words (cell.Scanned g) ≢ END
+
+abbrev pub TellsStacks : Words → Processor → Type 0
+TellsStacks words m = (g : ℕ) → (m.task ≡ task.End g → ⊥) → LeavesStack words m g ⊎ ScansStack words m g
+
+-- A calm processor tells of no scan.
+module _ (shapes : List Shape) (l : Layout) (known : Known) (begun : Option Op) (m : Processor) (sound : IsSound m) (idle : (o : Op) → begun ≡ Some o → is_busy_at m.task ≡ false) (calm : MarksNothing m) where
+  abbrev calm_begun : Processor
+  calm_begun = started (processor_kind shapes l) begun m
+
+  pub calm_now : MarksNothing calm_begun
+  calm_now = go begun refl where
+    go : (o : Option Op) → begun ≡ o → MarksNothing calm_begun
+    go None x = subst (λ (y : Option Op). MarksNothing (started (processor_kind shapes l) y m)) (sym x) calm
+    go (Some o) x = subst (λ (y : Option Op). MarksNothing (started (processor_kind shapes l) y m)) (sym x) (known.calm.begins shapes l m o sound.place (idle o x) calm)
+
+  pub calm_word : (words : Words) (g : ℕ) → (calm_begun.task ≡ task.End g → ⊥) → effect words (asks calm_begun) (cell.Scanned g) ≡ words (cell.Scanned g)
+  calm_word words g other = known.calm.leaves calm_begun words (cell.Scanned g) calm_now (λ (x : EndsStack calm_begun g). other x.task_is)
+
+  pub calm_tells : (words : Words) → TellsStacks words calm_begun
+  calm_tells words g other = inl (record { same = calm_word words g other; untold = λ number x. other (subst (WritesOf (IsWrittenCalmly calm_begun)) x (known.calm.writes calm_begun calm_now)).task_is })

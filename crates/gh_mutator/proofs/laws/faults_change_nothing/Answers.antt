@@ -1,5 +1,0 @@
-use Rattle.gh_mutator.proofs.Faults.{faults_change_nothing}
-use Rattle.gh_mutator.proofs.laws.faults_change_nothing.Goals as goal
-
-pub returns : goal.returns
-returns c = faults_change_nothing

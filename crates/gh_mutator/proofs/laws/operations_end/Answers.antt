@@ -1,5 +1,0 @@
-use Rattle.gh_mutator.proofs.Ending.{operations_end}
-use Rattle.gh_mutator.proofs.laws.operations_end.Goals as goal
-
-pub returns : goal.returns
-returns c = operations_end c.writing_ends.ensures

@@ -1,0 +1,141 @@
+-- Each operation that neither makes an object nor polls nor leaves ends after a few steps: each step leaves fewer.
+use Rattle.std.proofs.Common.{◌≡◌, ℕ, zero, suc, ◌+◌, ◌≤◌, Bool, true, false, not, List, Option, Some, None, refl, sym, ap, subst, ◌∙◌, arith}
+use Rattle.gh_mutator.specs.Vocabulary.{EndsWithin, Op, Shape, Value}
+use Rattle.gh_mutator.specs.declared.load.Load.{Load}
+use Rattle.gh_mutator.specs.declared.store.Store.{Store}
+use Rattle.gh_mutator_writes.specs.Vocabulary.{Processor}
+use Rattle.gh_mutator_writes.proofs.Vocabulary.{Ends, Global, GoesOn, Task, Then}
+use Rattle.gh_base.specs.declared.operation.Op.TheVariants as op
+use Rattle.gh_mutator.specs.declared.task.Task.TheVariants as task
+use Rattle.gh_barrier.specs.Ending.{WritingEnds}
+use Rattle.gh_phase.specs.declared.view.View.{View}
+use Rattle.gh_mutator.specs.Ending.{may_wait, most_steps, OperationsEnd}
+use Rattle.gh_mutator.specs.Listing.{begins_at, begun_with, follows, is_busy_at, takes_at}
+use Rattle.gh_mutator.specs.Global as global_listing
+use Rattle.gh_mutator.specs.Load as load_listing
+use Rattle.gh_mutator.specs.Local.{is_mark, marking_at}
+use Rattle.gh_mutator.specs.Mutating.{begins, goes, listing, Mutating}
+use Rattle.gh_mutator.specs.Processor.{keeping, register_of, taking}
+use Rattle.gh_mutator.specs.Store as store_listing
+use Rattle.gh_mutator.proofs.GlobalSteps as global
+use Rattle.gh_mutator.proofs.LoadSteps as load
+use Rattle.gh_mutator.proofs.Steps.{GoesTo}
+use Rattle.gh_mutator.proofs.StoreSteps as store
+use Rattle.gh_mutator.proofs.Telling.{told_first}
+
+-- how many steps are left at most, where no object is made, by whether marking is on
+abbrev left : (marking : Bool) → Task → ℕ
+left marking task.Idle = 0
+left marking task.Left = 0
+left marking (task.Load x) = load.left x
+left marking (task.Store x) = store.left marking x
+left marking (task.Global x) = global.left x
+left marking (task.Register x) = 1
+left marking (task.End g) = 1
+left marking _ = 0
+
+-- it may take many
+abbrev is_long : Task → Bool
+is_long (task.New x) = true
+is_long (task.Gc g x) = true
+is_long task.Poll = true
+is_long (task.Leave x) = true
+is_long (task.Store x) = not (store.writes_on x.stage)
+is_long (task.Global x) = not (global.writes_on x.stage)
+is_long _ = false
+
+-- a step leaves fewer, and not many
+record Fewer (marking : Bool) (t next : Task) : Type 0 where
+  plain : is_long next ≡ false
+  fewer : left marking next + 1 ≤ left marking t
+
+-- where the statement goes on, so
+abbrev Plain : (marking : Bool) {S : Type 0} (into : S → Task) → (most : ℕ) → Then S → Type 0
+Plain marking into most then = GoesTo (λ y. (is_long (into y) ≡ false) × (left marking (into y) + 1 ≤ most)) then
+
+from_step : (marking : Bool) {S : Type 0} (into : S → Task) (t : Task) (then : Then S) → 1 ≤ left marking t → Plain marking into (left marking t) then → Fewer marking t (follows into then)
+from_step marking into t (Ends a) some h = record { plain = refl; fewer = omega arith }
+from_step marking into t (GoesOn y) some h = record { plain = h.0; fewer = h.1 }
+
+load_plain : (marking : Bool) (most : ℕ) (then : Then Load) → GoesTo (λ (y : Load). load.left y + 1 ≤ most) then → Plain marking task.Load most then
+load_plain marking most (GoesOn y) h = (refl, h)
+load_plain marking most (Ends a) h = tt
+
+store_plain : (marking : Bool) (most : ℕ) (then : Then Store) → store.Left marking most then → Plain marking task.Store most then
+store_plain marking most (GoesOn y) h = (ap not h.0, h.1)
+store_plain marking most (Ends a) h = tt
+
+global_plain : (marking : Bool) (most : ℕ) (then : Then Global) → global.Left most then → Plain marking task.Global most then
+global_plain marking most (GoesOn y) h = (ap not h.0, h.1)
+global_plain marking most (Ends a) h = tt
+
+on : (b : Bool) → not b ≡ false → b ≡ true
+on true e = refl
+on false e = absurd (cc)
+
+-- what it knows of the phase stays
+taking_marks : (m : Processor) (g d : ℕ) (v : Option Value) → (taking m g d v).poll.local.view ≡ m.poll.local.view
+taking_marks m g d None = refl
+taking_marks m g d (Some v) = refl
+
+module _ (ends_so : WritingEnds) (shapes : List Shape) where
+  abbrev marks : Processor → Bool
+  marks m = marking_at m.poll
+
+  fewer_at : (m : Processor) (t : Task) (found : ℕ) → is_long t ≡ false → is_busy_at t ≡ true → Fewer (marks m) t (takes_at shapes m t found).task
+  fewer_at m (task.Load x) found plain busy = let h = load.nears m.poll.layout x found in from_step (marks m) task.Load (task.Load x) _ h.0 (load_plain (marks m) _ _ h.1)
+  fewer_at m (task.Store x) found plain busy = let h = store.nears ends_so m.poll.layout m.poll.local (register_of m x.g x.v) x found (on _ plain) in from_step (marks m) task.Store (task.Store x) _ h.0 (store_plain (marks m) _ _ h.1)
+  fewer_at m (task.Global x) found plain busy = let h = global.nears ends_so m.poll.layout (register_of m x.g x.r) x found (on _ plain) in from_step (marks m) task.Global (task.Global x) _ h.0 (global_plain (marks m) _ _ h.1)
+  fewer_at m (task.Register x) found plain busy = record { plain = refl; fewer = omega arith }
+  fewer_at m (task.End g) found plain busy = record { plain = refl; fewer = omega arith }
+  fewer_at m _ found plain busy = absurd (cc)
+
+  marks_stay : (m : Processor) (t : Task) (found : ℕ) → is_long t ≡ false → is_busy_at t ≡ true → marks (takes_at shapes m t found) ≡ marks m
+  marks_stay m (task.Load x) found plain busy = ap (λ (v : View). is_mark v.phase) (taking_marks m x.g x.d (load_listing.step m.poll.layout x found).sets)
+  marks_stay m (task.Store x) found plain busy = ap (λ (v : View). is_mark v.phase) (taking_marks (keeping m (store_listing.held_behind m.poll.local.held x.stage found)) x.g x.v (store_listing.step m.poll.layout m.poll.local (register_of m x.g x.v) x found).sets)
+  marks_stay m (task.Global x) found plain busy = ap (λ (v : View). is_mark v.phase) (taking_marks (keeping m (global_listing.held_behind m.poll.local.held x.stage found)) x.g x.r (global_listing.step m.poll.layout (register_of m x.g x.r) x found).sets)
+  marks_stay m (task.Register x) found plain busy = refl
+  marks_stay m (task.End g) found plain busy = refl
+  marks_stay m _ found plain busy = absurd (cc)
+
+-- one step more
+later : (most : ℕ) (m : Mutating) (found : ℕ → ℕ) → EndsWithin listing most (goes m (found 0)) (λ i. found (suc i)) → EndsWithin listing (suc most) m found
+later most m found h =
+    let few = h.few in
+    record { steps = suc h.steps; few = omega arith; ended = ap (λ (x : Mutating). is_busy_at x.processor.task) (told_first listing m found h.steps) ∙ h.ended }
+
+module _ (ends_so : WritingEnds) where
+  ends_within : (most : ℕ) (m : Mutating) (found : ℕ → ℕ) → is_long m.processor.task ≡ false → left (marking_at m.processor.poll) m.processor.task ≤ most → EndsWithin listing most m found
+  ends_within zero m found plain few = by (is_busy_at m.processor.task) refl where
+    by : (b : Bool) → is_busy_at m.processor.task ≡ b → EndsWithin listing zero m found
+    by false idle = record { steps = 0; few = omega arith; ended = idle }
+    by true busy = let fewer = (fewer_at ends_so m.shapes m.processor m.processor.task (found 0) plain busy).fewer in absurd (omega arith)
+  ends_within (suc most) m found plain few = by (is_busy_at m.processor.task) refl (ends_within most (goes m (found 0)) (λ i. found (suc i))) where
+    by : (b : Bool) → is_busy_at m.processor.task ≡ b → (is_long (goes m (found 0)).processor.task ≡ false → left (marking_at (goes m (found 0)).processor.poll) (goes m (found 0)).processor.task ≤ most → EndsWithin listing most (goes m (found 0)) (λ i. found (suc i))) → EndsWithin listing (suc most) m found
+    by false idle next = record { steps = 0; few = omega arith; ended = idle }
+    by true busy next =
+        let h = fewer_at ends_so m.shapes m.processor m.processor.task (found 0) plain busy in
+        let same = marks_stay ends_so m.shapes m.processor m.processor.task (found 0) plain busy in
+        let fewer = h.fewer in
+        later most m found (next h.plain (subst (λ (b : Bool). left b (goes m (found 0)).processor.task ≤ most) (sym same) (omega arith)))
+
+begins_few : (shapes : List Shape) (m : Processor) (o : Op) → may_wait o ≡ false → (is_long (begins_at shapes m o) ≡ false) × (left (marking_at m.poll) (begins_at shapes m o) ≤ most_steps (marking_at m.poll) o)
+begins_few shapes m (op.New g d t) h = absurd (cc)
+begins_few shapes m (op.Load g d b k) h = (refl, load.begins_left g d b k (register_of m g b))
+begins_few shapes m (op.Store g b k v) h = (ap not (store.begins_on g b k v (register_of m g b)), store.begins_left (marking_at m.poll) g b k v (register_of m g b))
+begins_few shapes m (op.SetGlobal g k v) h = let few = global.begins_store_left m.poll.layout m.poll.local g k v (register_of m g v) in (ap not few.0, few.1)
+begins_few shapes m (op.Gc g) h = absurd (cc)
+begins_few shapes m op.Poll h = absurd (cc)
+begins_few shapes m op.Leave h = absurd (cc)
+begins_few shapes m _ h = (refl, omega arith)
+
+-- what does not wait begins with the phase that is known
+same_phase : (m : Processor) (o : Op) → may_wait o ≡ false → marking_at (begun_with m.poll o) ≡ marking_at m.poll
+same_phase m op.Poll h = absurd (cc)
+same_phase m op.Leave h = absurd (cc)
+same_phase m _ h = refl
+
+pub operations_end : WritingEnds → OperationsEnd
+operations_end ends_so m o found h =
+    let few = begins_few m.shapes m.processor o h in
+    ends_within ends_so (most_steps (marking_at m.processor.poll) o) (begins m o) found few.0 (subst (λ (b : Bool). left b (begins_at m.shapes m.processor o) ≤ most_steps (marking_at m.processor.poll) o) (sym (same_phase m.processor o h)) few.1)

@@ -1,0 +1,209 @@
+-- A statement that is answered a fault has loaded words alone, and has changed nothing of the processor.
+use Rattle.std.proofs.Common.{◌≡◌, ℕ, zero, suc, ◌≤◌, Bool, true, false, cond, List, refl, sym, ap, ◌∙◌, Option, Some, None, arith}
+use Rattle.gh_mutator.specs.Vocabulary.{Answer, Polling}
+use Rattle.gh_base.specs.declared.operation.Op.TheVariants as op
+use Rattle.gh_base.specs.declared.value.Answer.TheVariants as answer
+use Rattle.gh_base.specs.declared.value.Fault.{Fault as Cause}
+use Rattle.gh_alloc.specs.Place as place
+use Rattle.gh_alloc.specs.Search as search
+use Rattle.gh_assist.specs.Listing as assist
+use Rattle.gh_mutator.specs.declared.task.Task.TheVariants as task
+use Rattle.gh_mutator.specs.Faults.{FaultsChangeNothing, is_load}
+use Rattle.gh_mutator.specs.Global as global_listing
+use Rattle.gh_mutator.specs.Leave as leave
+use Rattle.gh_mutator.specs.Listing.{begins_at, once_ended}
+use Rattle.gh_mutator.specs.Load as load_listing
+use Rattle.gh_mutator.specs.Local.{marking_at}
+use Rattle.gh_mutator.specs.Mutating.{begins, gives, goes, listing, marks_after, Mutating}
+use Rattle.gh_mutator.specs.New as new
+use Rattle.gh_mutator.specs.Processor.{keeping}
+use Rattle.gh_mutator.specs.Poll as poll
+use Rattle.gh_mutator.specs.Serving.{answer_at, is_serving}
+use Rattle.gh_mutator.specs.Step.{answered}
+use Rattle.gh_mutator.specs.Store as store_listing
+use Rattle.gh_mutator.specs.Wait as wait
+use Rattle.gh_mutator.specs.Processor.{at_task}
+use Rattle.gh_base.specs.Routines.{told}
+use Rattle.gh_mutator_writes.proofs.Vocabulary.{after_assist, after_gc, after_leave, after_poll, after_search, after_wait, answer_search, applied, asks_at, Assist, Assisting, assisting, assists, At, at_poll, begun_with, cache_span, Ends, follows, Found, gives_at, GoesOn, Held, Leaving, Name, NewStage, NoRoom, Op, Place, Placing, Processor, register_of, rested, Search, Seeking, Shape, Step, takes_at, taking, Task, Then, Value, Wait, Waiting, Want, Wanted}
+use Rattle.gh_mutator.proofs.GlobalSteps as global
+use Rattle.gh_mutator.proofs.LoadSteps as load
+use Rattle.gh_mutator.proofs.Steps.{FaultsFrom, GoesTo}
+use Rattle.gh_mutator.proofs.StoreSteps as store
+use Rattle.gh_mutator.proofs.Telling.{held_before}
+
+-- from here a fault may be answered, and nothing was changed yet
+abbrev may_fault : Task → Bool
+may_fault (task.Load x) = load.may_fault x
+may_fault (task.Store x) = store.may_fault x
+may_fault (task.Global x) = global.may_fault x
+may_fault _ = false
+
+-- a fault is answered only from here, and only here leads to here; no more than the task is changed then
+record FaultsAt (m : Processor) (t : Task) (next : Processor) (given : Option Answer) : Type 0 where
+  here : (cause : Cause) → given ≡ Some (answer.Fault cause) → (may_fault t ≡ true) × (next ≡ at_task m task.Idle)
+  before : may_fault next.task ≡ true → (may_fault t ≡ true) × (next ≡ at_task m next.task) × (given ≡ None)
+
+-- where no fault is answered, and none may be
+none_at : (m : Processor) (t : Task) (next : Processor) (given : Option Answer) → ((cause : Cause) → given ≡ Some (answer.Fault cause) → ⊥) → may_fault next.task ≡ false → FaultsAt m t next given
+none_at m t next given never not = record { here = λ cause e. absurd (never cause e); before = λ e. absurd (cc (e, not)) }
+
+from_step : {S : Type 0} (may : S → Bool) (into : S → Task) (m : Processor) (g d : ℕ) (x : S) (step : Step S) → ((y : S) → may_fault (into y) ≡ may y) → FaultsFrom may x step → FaultsAt m (into x) (applied into m g d step) (answered step.then)
+from_step {S} may into m g d x step is f = by step.then step.sets f.here f.keeps f.before where
+  by : (then : Then S) (sets : Option Value) → ((cause : Cause) → answered then ≡ Some (answer.Fault cause) → may x ≡ true) → ((cause : Cause) → answered then ≡ Some (answer.Fault cause) → sets ≡ None) →
+      GoesTo (λ (y : S). may y ≡ true → (may x ≡ true) × (sets ≡ None)) then → FaultsAt m (into x) (at_task (taking m g d sets) (follows into then)) (answered then)
+  by (Ends a) sets here keeps before = record { here = λ cause e. (is x ∙ here cause e, ap (λ (v : Option Value). at_task (taking m g d v) task.Idle) (keeps cause e)); before = λ e. absurd (cc) }
+  by (GoesOn y) sets here keeps before = record {
+    here = λ cause e. absurd (cc);
+    before = λ e. let h = before (sym (is y) ∙ e) in (is x ∙ h.0, ap (λ (v : Option Value). at_task (taking m g d v) (into y)) h.1, refl);
+  }
+
+-- what a step leaves that may hold another buffer then: where a fault is answered, or may be, it holds the same
+keeps_buffer : (m : Processor) (t : Task) (held : Option Held) (next : Processor) (given : Option Answer) → (may_fault t ≡ true → held ≡ m.poll.local.held) → (with : Option Held → Processor) → with m.poll.local.held ≡ next → (with held).task ≡ next.task → FaultsAt m t next given → FaultsAt m t (with held) given
+keeps_buffer m t held next given still with same task_is f = record {
+  here = λ cause e. let h = f.here cause e in (h.0, ap with (still h.0) ∙ same ∙ h.1);
+  before = λ e.
+      let h = f.before (ap may_fault (sym task_is) ∙ e) in
+      (h.0, ap with (still h.0) ∙ same ∙ h.1 ∙ ap (λ (q : Task). at_task m q) (sym task_is), h.2);
+}
+
+-- an object is looked for or made: no fault is answered
+
+search_quiet : (shapes : List Shape) (m : Processor) (w : Wanted) (waited : Bool) (s : Seeking) (out : Option Found) → may_fault (after_search shapes m w waited s out).task ≡ false
+search_quiet shapes m w waited s None = refl
+search_quiet shapes m w waited s (Some (At a)) = refl
+search_quiet shapes m w true s (Some NoRoom) = refl
+search_quiet shapes m w false s (Some NoRoom) = refl
+
+search_answers : (waited : Bool) (out : Option Found) (cause : Cause) → answer_search waited out ≡ Some (answer.Fault cause) → ⊥
+search_answers waited None cause e = absurd (cc)
+search_answers waited (Some (At a)) cause e = absurd (cc)
+search_answers true (Some NoRoom) cause e = absurd (cc)
+search_answers false (Some NoRoom) cause e = absurd (cc)
+
+wait_quiet : (m : Processor) (w : Wanted) (x : Waiting) (out : Option (Unit {0})) → may_fault (after_wait m w x out).task ≡ false
+wait_quiet m w x None = refl
+wait_quiet m w x (Some y) = refl
+
+made_quiet : (p : Polling) (w : Wanted) (n : Name) (marking : Bool) → may_fault (cond marking (assists w n (assisting p w)) task.Idle) ≡ false
+made_quiet p w n true = refl
+made_quiet p w n false = refl
+
+place_quiet : (p : Polling) (w : Wanted) (x : Placing) (asks : Option Bool) → may_fault (new.made_task p w x asks) ≡ false
+place_quiet p w x None = refl
+place_quiet p w x (Some true) = refl
+place_quiet p w x (Some false) = made_quiet p w x.name (marking_at p)
+
+place_answers : (marking : Bool) (n : Name) (asks : Option Bool) (cause : Cause) → new.answer_made marking n asks ≡ Some (answer.Fault cause) → ⊥
+place_answers marking n None cause e = absurd (cc)
+place_answers marking n (Some true) cause e = absurd (cc)
+place_answers true n (Some false) cause e = absurd (cc)
+place_answers false n (Some false) cause e = absurd (cc)
+
+assist_quiet : (m : Processor) (w : Wanted) (n : Name) (x : Assisting) (out : Option (Unit {0})) → may_fault (after_assist m w n x out).task ≡ false
+assist_quiet m w n x None = refl
+assist_quiet m w n x (Some y) = refl
+
+assist_answers : (n : Name) (out : Option (Unit {0})) (cause : Cause) → new.answer_assist n out ≡ Some (answer.Fault cause) → ⊥
+assist_answers n None cause e = absurd (cc)
+assist_answers n (Some y) cause e = absurd (cc)
+
+new_faults : (shapes : List Shape) (n m : Processor) (t : Task) (w : Wanted) (s : NewStage) (found : ℕ) → FaultsAt n t (new.takes_at shapes m w s found) (new.gives_at (marking_at m.poll) s found)
+new_faults shapes n m t w (Search waited s) found =
+    none_at n t _ _ (search_answers waited (search.gives s found)) (search_quiet shapes (cache_span m w.sought (search.goes s found).find.cached) w waited (search.goes s found) (search.gives s found))
+new_faults shapes n m t w (Wait x) found =
+    none_at n t _ _ (λ cause e. absurd (cc)) (wait_quiet m w (wait.goes (wait.waiting x m.poll) found) (wait.gives (wait.waiting x m.poll) found))
+new_faults shapes n m t w (Place p) found =
+    none_at n t _ _ (place_answers (marking_at m.poll) p.name (place.gives p found)) (place_quiet m.poll w (place.goes p found) (place.gives p found))
+new_faults shapes n m t w (Want u) found = none_at n t _ _ (λ cause e. absurd (cc)) refl
+new_faults shapes n m t w (Assist u x) found = none_at n t _ _ (assist_answers u (assist.gives x found)) (assist_quiet m w u (assist.goes x found) (assist.gives x found))
+
+-- a `gc`, and what is the processor's own
+gc_faults : (n m : Processor) (t : Task) (g : ℕ) (x : Waiting) (out : Option (Unit {0})) → FaultsAt n t (after_gc m g x out) (once_ended out answer.Swept)
+gc_faults n m t g x None = none_at n t _ _ (λ cause e. absurd (cc)) refl
+gc_faults n m t g x (Some y) = none_at n t _ _ (λ cause e. absurd (cc)) refl
+
+poll_faults : (n m : Processor) (t : Task) (p : Polling) (out : Option (Unit {0})) → FaultsAt n t (after_poll m p out) (once_ended out answer.Done)
+poll_faults n m t p None = none_at n t _ _ (λ cause e. absurd (cc)) refl
+poll_faults n m t p (Some y) = none_at n t _ _ (λ cause e. absurd (cc)) refl
+
+leave_faults : (n m : Processor) (t : Task) (x : Leaving) (out : Option (Unit {0})) → FaultsAt n t (after_leave m x out) (once_ended out answer.Done)
+leave_faults n m t x None = none_at n t _ _ (λ cause e. absurd (cc)) refl
+leave_faults n m t x (Some y) = none_at n t _ _ (λ cause e. absurd (cc)) refl
+
+module _ (shapes : List Shape) where
+  faults_at : (m : Processor) (t : Task) (found : ℕ) → FaultsAt m t (takes_at shapes (at_task m t) t found) (gives_at (at_task m t) t found)
+  faults_at m (task.Load x) found = from_step load.may_fault task.Load m x.g x.d x (load_listing.step m.poll.layout x found) (λ y. refl) (load.faults m.poll.layout x found)
+  faults_at m (task.Store x) found = keeps_buffer m (task.Store x) (store_listing.held_behind m.poll.local.held x.stage found) (applied task.Store m x.g x.v (store_listing.step m.poll.layout m.poll.local (register_of m x.g x.v) x found)) _ (store.holds_still m.poll.local.held x.stage found) (λ held. applied task.Store (keeping m held) x.g x.v (store_listing.step m.poll.layout m.poll.local (register_of m x.g x.v) x found)) refl refl
+      (from_step store.may_fault task.Store m x.g x.v x (store_listing.step m.poll.layout m.poll.local (register_of m x.g x.v) x found) (λ y. refl) (store.faults m.poll.layout m.poll.local (register_of m x.g x.v) x found))
+  faults_at m (task.Global x) found = keeps_buffer m (task.Global x) (global_listing.held_behind m.poll.local.held x.stage found) (applied task.Global m x.g x.r (global_listing.step m.poll.layout (register_of m x.g x.r) x found)) _ (global.holds_still m.poll.local.held x.stage found) (λ held. applied task.Global (keeping m held) x.g x.r (global_listing.step m.poll.layout (register_of m x.g x.r) x found)) refl refl
+      (from_step global.may_fault task.Global m x.g x.r x (global_listing.step m.poll.layout (register_of m x.g x.r) x found) (λ y. refl) (global.faults m.poll.layout (register_of m x.g x.r) x found))
+  faults_at m (task.New x) found = new_faults shapes m (at_task m (task.New x)) (task.New x) x.wanted x.stage found
+  faults_at m (task.Gc g x) found = gc_faults m (at_task m (task.Gc g x)) (task.Gc g x) g (wait.goes (wait.waiting x m.poll) found) (wait.gives (wait.waiting x m.poll) found)
+  faults_at m task.Poll found = poll_faults m (at_task m task.Poll) task.Poll (poll.goes m.poll found) (poll.gives m.poll found)
+  faults_at m (task.Leave x) found = leave_faults m (at_task m (task.Leave x)) (task.Leave x) (leave.goes x found) (leave.gives x found)
+  faults_at m _ found = none_at m _ _ _ (λ cause e. absurd (cc)) refl
+
+loads_at : (m : Processor) (t : Task) → may_fault t ≡ true → is_load (asks_at m t) ≡ true
+loads_at m (task.Load x) e = load.loads m.poll.layout x e
+loads_at m (task.Store x) e = store.loads m.poll.layout (register_of m x.g x.v) x e
+loads_at m (task.Global x) e = global.loads m.poll.layout (register_of m x.g x.r) x e
+loads_at m _ e = absurd (cc)
+
+serves_at : (t : Task) → may_fault t ≡ true → is_serving t ≡ true
+serves_at (task.Load x) e = refl
+serves_at (task.Store x) e = refl
+serves_at (task.Global x) e = refl
+serves_at _ e = absurd (cc)
+
+-- The machine.
+
+abbrev faulting : Mutating → Bool
+faulting x = may_fault x.processor.task
+
+faults_here : (x : Mutating) (word : ℕ) → FaultsAt x.processor x.processor.task (goes x word).processor (gives x word)
+faults_here x word = faults_at x.shapes x.processor x.processor.task word
+
+unanswered : (k : ℕ) (t : Task) → marks_after k (answer_at t None) ≡ k
+unanswered k t = by (is_serving t) where
+  by : (b : Bool) → marks_after k (cond b None None) ≡ k
+  by true = refl
+  by false = refl
+
+-- a step to a task from which a fault may be answered changes no more than the task
+keeps : (x : Mutating) (word : ℕ) → faulting (goes x word) ≡ true → goes x word ≡ record x { processor = at_task x.processor (goes x word).processor.task }
+keeps x word e =
+    let h = (faults_here x word).before e in
+    ap (λ (p : Processor). record (goes x word) { processor = p }) h.1
+    ∙ ap (λ (k : ℕ). record x { processor = at_task x.processor (goes x word).processor.task; marks = k }) (ap (λ (a : Option Answer). marks_after x.marks (answer_at x.processor.task a)) h.2 ∙ unanswered x.marks x.processor.task)
+
+stays_until : (m : Mutating) (found : ℕ → ℕ) (i : ℕ) → ((j : ℕ) → j ≤ i → faulting (told listing m found j) ≡ true) → told listing m found i ≡ record m { processor = at_task m.processor (told listing m found i).processor.task }
+stays_until m found zero h = refl
+stays_until m found (suc i) h =
+    keeps (told listing m found i) (found i) (h (suc i) (omega arith))
+    ∙ ap (λ (x : Mutating). record x { processor = at_task x.processor (told listing m found (suc i)).processor.task }) (stays_until m found i (λ j le. h j (omega arith)))
+
+-- the step that answers the fault
+ends_so : (x : Mutating) (word : ℕ) (cause : Cause) → gives x word ≡ Some (answer.Fault cause) → goes x word ≡ rested x x.processor (answer.Fault cause)
+ends_so x word cause e =
+    let h = (faults_here x word).here cause e in
+    let serves : is_serving x.processor.task ≡ true = serves_at x.processor.task h.0 in
+    ap (λ (p : Processor). record (goes x word) { processor = p }) h.1
+    ∙ ap (λ (a : Option Answer). record x { processor = at_task x.processor task.Idle; marks = marks_after x.marks (answer_at x.processor.task a) }) e
+    ∙ ap (λ (b : Bool). record x { processor = at_task x.processor task.Idle; marks = marks_after x.marks (cond b (Some (answer.Fault cause)) None) }) serves
+
+-- what may be answered a fault begins with the poll as it was
+same_poll : (shapes : List Shape) (m : Processor) (o : Op) → may_fault (begins_at shapes m o) ≡ true → begun_with m.poll o ≡ m.poll
+same_poll shapes m op.Poll e = absurd (cc)
+same_poll shapes m op.Leave e = absurd (cc)
+same_poll shapes m _ e = refl
+
+pub faults_change_nothing : FaultsChangeNothing
+faults_change_nothing m o found n cause e =
+    let b = begins m o in
+    let all : (i : ℕ) → i ≤ n → faulting (told listing (begins m o) found i) ≡ true =
+    held_before faulting listing (begins m o) found (λ x word p. ((faults_here x word).before p).0) n ((faults_here (told listing (begins m o) found n) (found n)).here cause e).0 in
+    record {
+      loads = λ i le. loads_at (told listing (begins m o) found i).processor (told listing (begins m o) found i).processor.task (all i le);
+      stays = ends_so (told listing (begins m o) found n) (found n) cause e ∙ ap (λ (x : Mutating). rested x x.processor (answer.Fault cause)) (stays_until (begins m o) found n all)
+          ∙ ap (λ (p : Polling). rested m (at_poll m.processor p) (answer.Fault cause)) (same_poll m.shapes m.processor o (all 0 (omega arith)));
+    }

@@ -1,0 +1,15 @@
+#!/usr/bin/env bash
+# Each line that docs/DEFINITIONS.md quotes in a block stands in a crate's src or specs, but for its indent and its comment.
+set -u
+cd "$(dirname "$0")/.." || exit 1
+export LC_ALL=C
+
+bare() { sed -E 's/^[[:space:]]+//; s/[[:space:]]+--.*$//; s/[[:space:]]+$//' | grep -v '^$' | sort -u; }
+quoted() { awk '/^```/ { inside = !inside; next } inside' docs/DEFINITIONS.md | bare; }
+sources() { find crates -name out -prune -o \( -path '*/specs/*.antt' -o -path '*/src/*.rt' \) -exec cat {} + | bare; }
+
+looked=$(quoted | wc -l)
+missing=$(comm -23 <(quoted) <(sources))
+[ -z "$missing" ] || printf 'check_quotes: docs/DEFINITIONS.md quotes what stands in no source:\n%s\n' "$missing"
+echo "quotes: $looked looked up, $([ -z "$missing" ] && echo 'all there' || echo 'NOT all there')"
+[ -z "$missing" ] && [ "$looked" -gt 0 ]
