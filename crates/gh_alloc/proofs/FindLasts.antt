@@ -5,7 +5,7 @@ use Rattle.gh_class.specs.declared.class.SizeClass.TheVariants as size
 use Rattle.gh_base.specs.Rows.{row_bit}
 use Rattle.gh_class.specs.declared.class.SizeClass.{SizeClass}
 use Rattle.gh_class.specs.Classes.{pages_of, slot_of, slots_of}
-use Rattle.gh_heap.specs.Spans.{is_own_class, number_of, owner_at, owner_in}
+use Rattle.gh_heap.specs.Spans.{is_own_class, number_of_class, owner_at, owner_in}
 use Rattle.gh_heap.specs.Laws.{EachFactLasts, EachMoveKeepsItsOwn, EachRightFollows, WalksGoOn}
 use Rattle.gh_heap.specs.Moves.{Others}
 use Rattle.gh_heap.specs.Rights.{Arena, Good, View}
@@ -52,10 +52,10 @@ cached-lasts z a v w c x g o y = record {
   number : y.span.h.number ≡ v.generation
   number = (g.numbers x.head y.span.h y.span.head).owned (λ none. let is : owner_at v.page x.head ≡ y.span.h.owner = ap owner_in y.span.head in omega (arith, (g.owners a x.head).1 y.span.held, is, none))
 
-  slot : (j : ℕ) (f : SizeClass) → f ≡ size.Small c.class → 1024 * x.head + j * cond (is_own_class f) (1024 * y.span.h.pages) (slot_of (number_of f) / 8) ≡ slots.slot_at (span_at c.class x) j
+  slot : (j : ℕ) (f : SizeClass) → f ≡ size.Small c.class → 1024 * x.head + j * cond (is_own_class f) (1024 * y.span.h.pages) (slot_of (number_of_class f) / 8) ≡ slots.slot_at (span_at c.class x) j
   slot j f e = rw (e) refl
 
-  count : (j : ℕ) (f : SizeClass) → f ≡ size.Small c.class → j < slots_of c.class → j < cond (is_own_class f) 1 (slots_of (number_of f))
+  count : (j : ℕ) (f : SizeClass) → f ≡ size.Small c.class → j < slots_of c.class → j < cond (is_own_class f) 1 (slots_of (number_of_class f))
   count j f e lt = rw (e) lt
 
 caches-last : (z : Arena) (a : ℕ) (v w : View) (wanted : Sought) (cached : Option CachedSpan) → Good z v → Others z a v w → Caches a v wanted cached → Caches a w wanted cached

@@ -2,7 +2,7 @@
 use Rattle.std.proofs.Common.{◌≡◌, ℕ, ◌+◌, ◌*◌, ◌^◌, ◌<◌, ◌≤◌, Bool, true, false, cond, ltb, Option, Some, None, refl, sym, ap, subst, arith, le-leb, ltb-true, ltb-false}
 use Rattle.gh_class.specs.declared.class.SizeClass.TheVariants as size
 use Rattle.gh_cache.specs.Listing as slots
-use Rattle.gh_alloc.specs.FindFacts.{Caches, FactsAt, FindsNone, IsUsedUp, NoneIsTrue, Opens, Seeks, SweepsHere, head_of, is_locked, laying, own, with_span}
+use Rattle.gh_alloc.specs.FindFacts.{Caches, FactsAt, FindsNone, IsUsedUp, NoneIsTrue, Opens, Seeks, SweepsHere, cached_head, is_locked, laying, own, with_span}
 use Rattle.gh_alloc.specs.FindSound.{IsSought}
 use Rattle.gh_alloc.proofs.Vocabulary.{Arena, begin, CachedSpan, End, Ended, Finding, FindStage, first_page, FitsClass, Good, IsFull, Lands, Large, Lock, May, Move, moved, NoRoom, refuses_at, Right, Row, row_bit, Shared, slot_count, slot_size, slot_words_of, Slots, slots_of, Small, Sought, span_at, span_for, SpanHead, sweep_generation_at, sweep_layout_at, Unlock, Unswept, View, view, Words}
 use Rattle.gh_alloc.proofs.FindLasts.{Known}
@@ -91,9 +91,9 @@ used-up w v c d e f x = subst (λ (u : Sought). IsUsedUp u c) (sym e) (subst (λ
 -- a search begins with the cached span, or else with the lock
 module _ (z : Arena) (a : ℕ) (sure : Bool) (v : View) (rest : ℕ → Bool) (f : Finding) where
   abbrev pub Stands : FindStage → Type 0
-  Stands q = Right a v (is_locked q) (with_span (own q) (with_span (head_of f.cached) rest)) (laying q) × FactsAt z a sure v f q × OwnApart rest (own q)
+  Stands q = Right a v (is_locked q) (with_span (own q) (with_span (cached_head f.cached) rest)) (laying q) × FactsAt z a sure v f q × OwnApart rest (own q)
 
-  pub begins : (wanted : Sought) (cached : Option CachedSpan) → f.wanted ≡ wanted → f.cached ≡ cached → Caches a v wanted cached → Right a v false (with_span (head_of f.cached) rest) None → Stands (begin f.layout wanted cached)
+  pub begins : (wanted : Sought) (cached : Option CachedSpan) → f.wanted ≡ wanted → f.cached ≡ cached → Caches a v wanted cached → Right a v false (with_span (cached_head f.cached) rest) None → Stands (begin f.layout wanted cached)
   begins (Small c) (Some x) w y caches right = go (ltb x.cursor (slots_of c.class)) refl where
     go : (b : Bool) → ltb x.cursor (slots_of c.class) ≡ b → Stands (cond b (Slots (slots.opening f.layout (span_at c.class x))) Lock)
     go true e = (right, record { c = c; k = x; for = record { wanted = w; cached = y }; is = refl; left = ltb-true x.cursor (slots_of c.class) e }, none-own rest)

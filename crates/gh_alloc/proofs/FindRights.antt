@@ -18,8 +18,8 @@ use Rattle.gh_central.specs.UnsweptPass as unswept
 use Rattle.gh_sweep.specs.Listing.{Sweeping}
 use Rattle.gh_pages.specs.Facts as carving
 use Rattle.gh_pages.specs.Listing as carve
-use Rattle.gh_alloc.specs.FindFacts.{Caches, Comes, Facts, FactsAt, FindsByItsRights, IsCached, IsCachedFor, IsUsedUp, LooksAgain, NoneLeft, OwnsLarge, OwnStep, Seeks, SweepStep, carve_at, head_for, head_of, held, is_locked, laying, looks, own, pass_at, still, unswept_at, with_span}
-use Rattle.gh_alloc.proofs.Vocabulary.{after_carve, after_pass, after_slots, after_unswept, Again, Arena, asks, At, at_stage, begin, behind_for, CachedSpan, Carve, CarveStage, cell_of, effect, End, Ended, eqb_tells, Finding, FindStage, first_page, FitsClass, Give, given, given_at, given_head, gives, goes, Good, IsSpan, KeepsObjects, Lands, Large, Layout, LeaveLock, Lock, locked_for, moved, NoRoom, number_of, owned_by, pages_of, Pass, put, Quiet, refuses_at, Right, searched, Shared, Slots, slots_of, Small, Sought, span_at, span_for, SpanClass, SpanHead, spans_for, Steps, sweep_at, TakeLock, taken_for, Unlock, Unswept, update, View, view}
+use Rattle.gh_alloc.specs.FindFacts.{Caches, Comes, Facts, FactsAt, FindsByItsRights, IsCached, IsCachedFor, IsUsedUp, LooksAgain, NoneLeft, OwnsLarge, OwnStep, Seeks, SweepStep, carve_at, head_for, cached_head, held, is_locked, laying, looks, own, pass_at, still, unswept_at, with_span}
+use Rattle.gh_alloc.proofs.Vocabulary.{after_carve, after_pass, after_slots, after_unswept, Again, Arena, asks, At, at_stage, begin, behind_for, CachedSpan, Carve, CarveStage, cell_of, effect, End, Ended, eqb_tells, Finding, FindStage, first_page, FitsClass, Give, given, given_at, given_head, gives, goes, Good, IsSpan, KeepsObjects, Lands, Large, Layout, LeaveLock, Lock, locked_for, moved, NoRoom, number_of_class, owned_by, pages_of, Pass, put, Quiet, refuses_at, Right, searched, Shared, Slots, slots_of, Small, Sought, span_at, span_for, SpanClass, SpanHead, spans_for, Steps, sweep_at, TakeLock, taken_for, Unlock, Unswept, update, View, view}
 use Rattle.gh_alloc.proofs.FindLasts.{Known, lasts}
 use Rattle.gh_alloc.proofs.FindWithin.{within}
 use Rattle.gh_alloc.proofs.FindParts.{Apart, begins, few-pages, finds-none, first-is, fits-class, is-apart, is-own, Kept, lands, none-apart, none-own, opens, OwnApart, Stands, sweeps-here, taken-of}
@@ -143,7 +143,7 @@ module _ (k : Known) (z : Arena) (a : ℕ) (sure : Bool) (s : Shared) (rest : �
     facts = k.pass.opens z a sure (view t) (pass.opening l e n c) (record { layout = whose.layout; seat = whose.seat; few = whose.few; number = whose.number ∙ sym same; class = whose.wanted }) refl
   spans-then (Large pages noscan) t good same whose right = carve-then (Large pages noscan) t good same whose tt right
 
-  locked-then : (w : Sought) (c : Option CachedSpan) (t : Shared) → Good z now → Kept s t → Whose w → Looks Lock → Caches a (view t) w c → Apart rest c → IsUsedUp w c → Right a (view t) true (with_span (head_of c) rest) None → On t (at w c (locked_for (at w c Lock) w c))
+  locked-then : (w : Sought) (c : Option CachedSpan) (t : Shared) → Good z now → Kept s t → Whose w → Looks Lock → Caches a (view t) w c → Apart rest c → IsUsedUp w c → Right a (view t) true (with_span (cached_head c) rest) None → On t (at w c (locked_for (at w c Lock) w c))
   locked-then (Small c) (Some x) t good same whose calm caches apart used right = (right, facts-at (Small c) (Some x) (Give (give.opening l x.head (given_head n c))) t same whose caches apart (none-own rest) calm (record { c = c; k = x; for = record { wanted = refl; cached = refl }; is = refl; used = used }))
   locked-then (Small c) None t good same whose calm caches apart used right = spans-then (Small c) t good same whose right
   locked-then (Large pages noscan) (Some x) t good same whose calm caches apart used right = absurd caches
@@ -156,14 +156,14 @@ module _ (k : Known) (z : Arena) (a : ℕ) (sure : Bool) (s : Shared) (rest : �
   caches-with (Large pages noscan) (Some x) lock locked y = y
   caches-with (Large pages noscan) None lock locked y = y
 
-  lock-own : (w : Sought) (c : Option CachedSpan) → Good z now → Whose w → Looks Lock → Caches a now w c → Apart rest c → IsUsedUp w c → Right a now false (with_span (head_of c) rest) None → Step (at w c Lock)
+  lock-own : (w : Sought) (c : Option CachedSpan) → Good z now → Whose w → Looks Lock → Caches a now w c → Apart rest c → IsUsedUp w c → Right a now false (with_span (cached_head c) rest) None → Step (at w c Lock)
   lock-own w c good whose calm caches apart used right = go (eqb (s.words cell.Lock) 0) refl where
     go : (b : Bool) → eqb (s.words cell.Lock) 0 ≡ b → Lands z a s (cond b (put s.words cell.Lock (e + 1)) s.words) (λ t. KeepsObjects now (view t) × (false ≡ true → Leaves now (view t)) × Comes z a sure (view t) rest (given_at (cond b (locked_for (at w c Lock) w c) Lock)) (at w c (cond b (locked_for (at w c Lock) w c) Lock)))
     go true is = record {
       move = TakeLock;
       may = eqb-true (s.words cell.Lock) 0 is;
       words_are = ap (λ (m : ℕ). put s.words cell.Lock (m + 1)) (sym whose.seat);
-      after = ((refl, refl), λ e. absurd (cc), on-then (moved z a s TakeLock) (at w c (locked_for (at w c Lock) w c)) (locked-then w c (moved z a s TakeLock) good refl whose calm (caches-with w c (a + 1) (update s.locked a true) caches) apart used (k.follow z a s false (with_span (head_of c) rest) None right).taken));
+      after = ((refl, refl), λ e. absurd (cc), on-then (moved z a s TakeLock) (at w c (locked_for (at w c Lock) w c)) (locked-then w c (moved z a s TakeLock) good refl whose calm (caches-with w c (a + 1) (update s.locked a true) caches) apart used (k.follow z a s false (with_span (cached_head c) rest) None right).taken));
     }
     go false is = record {
       move = Quiet (ask.Load cell.Lock);
@@ -184,7 +184,7 @@ module _ (k : Known) (z : Arena) (a : ℕ) (sure : Bool) (s : Shared) (rest : �
   head-is h c class noscan pages number = rw (class, noscan, pages, number) refl
 
   small-pages : (h : SpanHead) (c : ℕ) → FitsClass h → h.class ≡ size.Small c → h.pages ≡ pages_of c
-  small-pages h c fits class = fits.small (λ x. small-large c (sym class ∙ x)) ∙ ap (λ (y : SizeClass). pages_of (number_of y)) class where
+  small-pages h c fits class = fits.small (λ x. small-large c (sym class ∙ x)) ∙ ap (λ (y : SizeClass). pages_of (number_of_class y)) class where
     small-large : (c : ℕ) → size.Small c ≡ size.Large → ⊥
     small-large c x = cc
 
@@ -234,7 +234,7 @@ module _ (k : Known) (z : Arena) (a : ℕ) (sure : Bool) (s : Shared) (rest : �
   pass-then c t None m good same whose is r = (r.1, none-at (Small c) (Pass m) t same whose (none-own rest) refl (record { c = c; wanted = refl; cached = refl; is = is; facts = r.2 }))
   pass-then c t (Some None) m good same whose is r = behind-then c t good same whose (subst (λ (y : pass.Pass). passing.HasPassed sure (passing.sought y) (view t) z.layout.pages) is r.2) r.1
   pass-then c t (Some (Some p)) m good same whose is r =
-      let y = subst (λ (y : pass.Pass). passing.IsTaken z a y.wanted (view t).page p) is r.2 in
+      let y = subst (λ (y : pass.Pass). passing.SpanIsTaken z a y.wanted (view t).page p) is r.2 in
       cached-then c p y.h (Pass m) t same whose y.span y.class y.noscan r.1 r.3
 
   pass-leaves : (w : View) (given : Option (Option ℕ)) (m : pass.Pass) → passing.Comes z a sure now w rest given m → Leaves now w
@@ -257,7 +257,7 @@ module _ (k : Known) (z : Arena) (a : ℕ) (sure : Bool) (s : Shared) (rest : �
   unswept-then c t None m good same first whose is r = (r.1, none-at (Small c) (Unswept m) t same whose (none-own rest) refl (record { c = c; wanted = refl; cached = refl; first = first; is = is; facts = r.2 }))
   unswept-then c t (Some None) m good same first whose is r = carve-then (Small c) t good same whose (λ sure-is. absurd (not-last first sure-is)) r.1
   unswept-then c t (Some (Some p)) m good same first whose is r =
-      let y = subst (λ (y : unswept.Unswept). passing.IsTaken z a y.wanted (view t).page p) is r.2 in
+      let y = subst (λ (y : unswept.Unswept). passing.SpanIsTaken z a y.wanted (view t).page p) is r.2 in
       cached-then c p y.h (Unswept m) t same whose y.span y.class y.noscan r.1 r.3
 
   unswept-leaves : (w : View) (given : Option (Option ℕ)) (m : unswept.Unswept) → sweeping.Comes z a now w rest given m → Leaves now w
@@ -288,7 +288,7 @@ module _ (k : Known) (z : Arena) (a : ℕ) (sure : Bool) (s : Shared) (rest : �
   none-goes (Small c) t leaves x = λ is. k.walks.full now (view t) (head_for (at (Small c) None Lock)) z.layout.pages leaves (x is)
   none-goes (Large pages noscan) t leaves x = x
 
-  large-then : (pages : ℕ) (noscan : Bool) (p : ℕ) (m : FindStage) (q : CarveStage) (t : Shared) → Kept s t → Whose (Large pages noscan) → carving.IsFresh z (view t) (carve_at (at (Large pages noscan) None Lock) q) p → Right a (view t) true (update rest p true) None → rest p ≡ false → On t (taken_for (at (Large pages noscan) None m) (Large pages noscan) p)
+  large-then : (pages : ℕ) (noscan : Bool) (p : ℕ) (m : FindStage) (q : CarveStage) (t : Shared) → Kept s t → Whose (Large pages noscan) → carving.SpanIsFresh z (view t) (carve_at (at (Large pages noscan) None Lock) q) p → Right a (view t) true (update rest p true) None → rest p ≡ false → On t (taken_for (at (Large pages noscan) None m) (Large pages noscan) p)
   large-then pages noscan p m q t same whose fresh right apart = subst (λ (i : ℕ). On t (at (Large pages noscan) None (Unlock (End (At (1024 * i)))))) (sym first) (
     subst (λ (i : ℕ). Right a (view t) true (update rest i true) None) page-is right,
     none-at (Large pages noscan) (Unlock (End (At (1024 * p)))) t same whose (is-own rest (1024 * p / 1024) (subst (λ (i : ℕ). rest i ≡ false) page-is apart)) refl (record {
@@ -318,14 +318,14 @@ module _ (k : Known) (z : Arena) (a : ℕ) (sure : Bool) (s : Shared) (rest : �
     first : first_page (at (Large pages noscan) None m) pages p ≡ p
     first = first-is (at (Large pages noscan) None m) pages p (subst (λ (y : Layout). p + pages ≤ y.pages) (sym whose.layout) fresh.span.within)
 
-  fresh-then : (w : Sought) (t : Shared) (p : ℕ) (m : FindStage) (q : CarveStage) → Kept s t → Whose w → carving.IsFresh z (view t) (carve_at (at w None Lock) q) p → Right a (view t) true (update rest p true) None → rest p ≡ false → On t (taken_for (at w None m) w p)
+  fresh-then : (w : Sought) (t : Shared) (p : ℕ) (m : FindStage) (q : CarveStage) → Kept s t → Whose w → carving.SpanIsFresh z (view t) (carve_at (at w None Lock) q) p → Right a (view t) true (update rest p true) None → rest p ≡ false → On t (taken_for (at w None m) w p)
   fresh-then (Small c) t p m q same whose fresh right apart = cached-then c p (carve.fresh_head (carve_at (at (Small c) None Lock) q)) m t same whose fresh.span refl refl right apart
   fresh-then (Large pages noscan) t p m q same whose fresh right apart = large-then pages noscan p m q t same whose fresh right apart
 
   carved : (w : Sought) (t : Shared) (given : Option (Option ℕ)) (m : carve.Carving) → Kept s t → Whose w → NoneLeft z sure now (at w None Lock) w → m ≡ carve_at (at w None Lock) m.stage → carving.Comes z a now (view t) rest given m → On t (after_carve (at w None (Carve m)) given)
   carved w t None m same whose none is r = (r.1, none-at w (Carve m) t same whose (none-own rest) refl (record { cached = refl; none = none-goes w t r.0 none; is = is; facts = r.2 }))
   carved w t (Some None) m same whose none is r = (r.1, none-at w (Unlock (End NoRoom)) t same whose (none-own rest) refl (record { cached = refl; none = none-goes w t r.0 none; no_run = subst (λ (y : carve.Carving). carving.NoRun (view t).page y.span.pages z.layout.pages) is r.2 }))
-  carved w t (Some (Some p)) m same whose none is r = fresh-then w t p (Carve m) m.stage same whose (subst (λ (y : carve.Carving). carving.IsFresh z (view t) y p) is r.2) r.1 r.3
+  carved w t (Some (Some p)) m same whose none is r = fresh-then w t p (Carve m) m.stage same whose (subst (λ (y : carve.Carving). carving.SpanIsFresh z (view t) y p) is r.2) r.1 r.3
 
   carve-leaves : (v : View) (given : Option (Option ℕ)) (m : carve.Carving) → carving.Comes z a now v rest given m → Leaves now v
   carve-leaves v None m r = r.0
@@ -410,7 +410,7 @@ module _ (k : Known) (z : Arena) (a : ℕ) (sure : Bool) (s : Shared) (rest : �
       (subst (λ (y : slots.Searching). Own (Small x.c) (Some x.k) (Slots y)) (sym x.is) (λ good whose y apart free right. slots-own x.c x.k good whose round y (apart x.k refl) x.left right))
   own-at tidy Lock w c x round go idle = λ good whose y apart free right. lock-own w c good whose round y apart x right
   own-at tidy (Give g) w c x round go idle = at-cached (Give g) w c x.c x.k (record { wanted = x.for.wanted; cached = x.for.cached })
-      (subst (λ (y : give.Giving). Own (Small x.c) (Some x.k) (Give y)) (sym x.is) (λ good whose y apart free right. give-own x.c x.k good whose y (apart x.k refl) x.used right))
+      (subst (λ (y : give.SpanGiving). Own (Small x.c) (Some x.k) (Give y)) (sym x.is) (λ good whose y apart free right. give-own x.c x.k good whose y (apart x.k refl) x.used right))
   own-at tidy (Pass p) w c x round go idle = subst (λ (v : Sought). Own v c (Pass p)) (sym x.wanted) (subst (λ (d : Option CachedSpan). Own (Small x.c) d (Pass p)) (sym x.cached)
       (λ good whose y apart free right. pass-own x.c p tidy good whose x.is x.facts right))
   own-at tidy (Unswept m) w c x round go idle = subst (λ (v : Sought). Own v c (Unswept m)) (sym x.wanted) (subst (λ (d : Option CachedSpan). Own (Small x.c) d (Unswept m)) (sym x.cached)

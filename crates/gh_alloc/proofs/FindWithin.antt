@@ -23,7 +23,7 @@ module _ (k : Known) (z : Arena) (a : ℕ) (sure : Bool) (v : View) (f : Finding
   within-at (Give g) x =
       let y = cached x.c x.k x.for in
       let span = good.spans x.k.head y.span.h y.span.head in
-      subst (λ (m : give.Giving). InRange z.layout (cell_of (give.asks m))) (sym x.is) (omega (arith, span.within, span.fits.some))
+      subst (λ (m : give.SpanGiving). InRange z.layout (cell_of (give.asks m))) (sym x.is) (omega (arith, span.within, span.fits.some))
   within-at (Pass p) x = k.pass.within z a sure v p good x.facts
   within-at (Unswept u) x = k.unswept.within z a v u good x.facts
   within-at (Carve m) x = k.carve.within z a v m x.facts

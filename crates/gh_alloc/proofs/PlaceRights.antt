@@ -9,12 +9,12 @@ use Rattle.gh_model.specs.Ever.{field_count, next_name, same_name}
 use Rattle.gh_bitmap.specs.declared.set_pointers.SetStage.TheVariants as bits_stage
 use Rattle.gh_bitmap.specs.Facts as bits
 use Rattle.gh_bitmap.specs.SetPointers as setter
-use Rattle.gh_central.specs.GiveBack.{Giving}
+use Rattle.gh_central.specs.GiveBack.{SpanGiving}
 use Rattle.gh_central.specs.GiveFacts as giving
 use Rattle.gh_alloc.specs.declared.place.PlaceStage.TheVariants.{Give, LoadTrigger, Ended}
 use Rattle.gh_alloc.specs.Place.{asks, asks_at, at_stage, given, given_at, goes}
-use Rattle.gh_alloc.specs.PlaceFacts.{Born, Changes, Comes, CountsAlone, FactsAt, FieldsClear, Filled, For, GivesUp, IsItsSpan, Lasts, Made, Opens, OwnStep, PlacesByItsRights, Unmade, Within, base, held_by, setting}
-use Rattle.gh_alloc.proofs.Vocabulary.{acts_at, Alloc, Arena, Birth, birth_word, bit, Bits, cell_of, Claims, Clear, ClearField, Count, EachRightFollows, eqb_tells, filled, Good, InRange, is_pointer, IsFull, landing, made, Make, Mark, May, moved, Name, Others, page_of, placed_at, PlaceStage, Placing, Quiet, Right, Row, row_bit, RowsAreWritten, Runs, SetBirth, SetStage, Shape, shape_at, Shared, size_class_of, slot_count, slot_size, SpanHead, Steps, TheHeapIsApart, update, View, view}
+use Rattle.gh_alloc.specs.PlaceFacts.{Born, Changes, Comes, CountsAlone, FactsAt, FieldsClear, Filled, For, GivesUp, IsItsSpan, Lasts, Made, Opens, OwnStep, PlacesByItsRights, Unmade, Within, base, held_by, setting_at_stage}
+use Rattle.gh_alloc.proofs.Vocabulary.{Alloc, Arena, Birth, birth_word, bit, Bits, cell_of, Claims, Clear, ClearField, Count, EachRightFollows, eqb_tells, filled, Good, GoroutineRuns, InRange, is_pointer, IsFull, landing, made, Make, makes_its_object_at, Mark, May, moved, Name, Others, page_of, placed_at, PlaceStage, Placing, Quiet, Right, Row, row_bit, RowsAreWritten, SetBirth, SetStage, Shape, shape_at, Shared, size_class_of, slot_count, slot_size, SpanHead, Steps, TheHeapIsApart, update, View, view}
 
 pub record Known : Type 0 where
   pub rows : RowsAreWritten
@@ -39,7 +39,7 @@ opens z a v f p unmade stage = subst (λ (q : PlaceStage). FactsAt z a v f (base
 
 -- What is known lasts.
 
-runs-last : (z : Arena) (a : ℕ) (v w : View) (g : ℕ) → Others z a v w → Runs z v a g → Runs z w a g
+runs-last : (z : Arena) (a : ℕ) (v w : View) (g : ℕ) → Others z a v w → GoroutineRuns z v a g → GoroutineRuns z w a g
 runs-last z a v w g o r = record { of = r.of; goes_on = o.ends g r.of ∙ r.goes_on }
 
 unmade-lasts : (z : Arena) (a : ℕ) (v w : View) (f : For) (p : Placing) → Others z a v w → Unmade z a v f p → Unmade z a w f p
@@ -72,7 +72,7 @@ filled-lasts z a v w f p o x = (unmade-lasts z a v w f p o x.0, born-lasts z a v
 made-lasts : (z : Arena) (a : ℕ) (v w : View) (p : Placing) → Others z a v w → Made v p → Made w p
 made-lasts z a v w p o m = record { made = o.made p.name m.made; at = o.places p.name m.made ∙ m.at }
 
-gives-last : Known → (z : Arena) (a : ℕ) (v w : View) (p : Placing) (g : Giving) → Others z a v w → GivesUp z a v p g → GivesUp z a w p g
+gives-last : Known → (z : Arena) (a : ℕ) (v w : View) (p : Placing) (g : SpanGiving) → Others z a v w → GivesUp z a v p g → GivesUp z a w p g
 gives-last k z a v w p g o x = record {
   head = x.head;
   span = x.span;
@@ -133,7 +133,7 @@ module _ (k : Known) (z : Arena) (a : ℕ) (s : Shared) (f : For) (held : ℕ �
 
   -- what the step at this stage comes to
   abbrev Goes : PlaceStage → Shared → Type 0
-  Goes q t = Changes z f (at_stage p q) (acts_at q) now (view t) × Comes z a (view t) f held (given (goes (at_stage p q) (s.words (cell_of (asks (at_stage p q)))))) (goes (at_stage p q) (s.words (cell_of (asks (at_stage p q))))) × CountsAlone q s t
+  Goes q t = Changes z f (at_stage p q) (makes_its_object_at q) now (view t) × Comes z a (view t) f held (given (goes (at_stage p q) (s.words (cell_of (asks (at_stage p q)))))) (goes (at_stage p q) (s.words (cell_of (asks (at_stage p q))))) × CountsAlone q s t
 
   abbrev Step : PlaceStage → Type 0
   Step q = Steps z a s (asks (at_stage p q)) (Goes q)
@@ -166,7 +166,7 @@ module _ (k : Known) (z : Arena) (a : ℕ) (s : Shared) (f : For) (held : ℕ �
     move = SetBirth p.at p.slot p.name;
     may = x.0.claim;
     words_are = refl;
-    after = ((refl, refl), (right-then, (unmade, born, refl, k.bits.opens z a (view t) (setting p (bits_stage.Clear (p.at / 64))) x.0.places.layout x.0.places.fits unmade.claim x.0.places.some refl)), tt);
+    after = ((refl, refl), (right-then, (unmade, born, refl, k.bits.opens z a (view t) (setting_at_stage p (bits_stage.Clear (p.at / 64))) x.0.places.layout x.0.places.fits unmade.claim x.0.places.some refl)), tt);
   } where
     t : Shared
     t = moved z a s (SetBirth p.at p.slot p.name)
@@ -186,8 +186,8 @@ module _ (k : Known) (z : Arena) (a : ℕ) (s : Shared) (f : For) (held : ℕ �
   filled-then t right x false = (right, x)
 
   -- what its routine comes to
-  bits-then : (t : Shared) → Unmade z a now f (base p) → Born now (base p) → view t ≡ record now { bitmap = (view t).bitmap } → Right a (view t) false held None → (q : SetStage) → bits.Comes z a (view t) (setter.given_at q) (setting p q) →
-      Comes z a (view t) f held (given_at (cond (setter.is_busy q) (Bits (setting p q)) (filled p.marking))) (at_stage p (cond (setter.is_busy q) (Bits (setting p q)) (filled p.marking)))
+  bits-then : (t : Shared) → Unmade z a now f (base p) → Born now (base p) → view t ≡ record now { bitmap = (view t).bitmap } → Right a (view t) false held None → (q : SetStage) → bits.Comes z a (view t) (setter.given_at q) (setting_at_stage p q) →
+      Comes z a (view t) f held (given_at (cond (setter.is_busy q) (Bits (setting_at_stage p q)) (filled p.marking))) (at_stage p (cond (setter.is_busy q) (Bits (setting_at_stage p q)) (filled p.marking)))
   bits-then t u born e right q x = go q x where
     unmade : Unmade z a (view t) f (base p)
     unmade = subst (λ (w : View). Unmade z a w f (base p)) (sym e) (unmade-rows z a now f (base p) now.field now.birth (view t).bitmap u)
@@ -195,14 +195,14 @@ module _ (k : Known) (z : Arena) (a : ℕ) (s : Shared) (f : For) (held : ℕ �
     named : Born (view t) (base p)
     named = subst (λ (w : View). Born w (base p)) (sym e) (record { fields = born.fields; birth = born.birth })
 
-    go : (q : SetStage) → bits.Comes z a (view t) (setter.given_at q) (setting p q) → Comes z a (view t) f held (given_at (cond (setter.is_busy q) (Bits (setting p q)) (filled p.marking))) (at_stage p (cond (setter.is_busy q) (Bits (setting p q)) (filled p.marking)))
+    go : (q : SetStage) → bits.Comes z a (view t) (setter.given_at q) (setting_at_stage p q) → Comes z a (view t) f held (given_at (cond (setter.is_busy q) (Bits (setting_at_stage p q)) (filled p.marking))) (at_stage p (cond (setter.is_busy q) (Bits (setting_at_stage p q)) (filled p.marking)))
     go bits_stage.Ended x = filled-then t right (unmade, named, x.1) p.marking
     go _ x = (right, (unmade, named, refl, x))
 
-  bits-at : (q : SetStage) → Good z now → Right a now false held None → Unmade z a now f (base p) → Born now (base p) → bits.Facts z a now (setting p q) → Step (Bits (setting p q))
+  bits-at : (q : SetStage) → Good z now → Right a now false held None → Unmade z a now f (base p) → Born now (base p) → bits.Facts z a now (setting_at_stage p q) → Step (Bits (setting_at_stage p q))
   bits-at q g right u born x =
-      landing z a s _ _ _ (λ t r. ((ap (λ (w : View). w.ever) r.0, ap (λ (w : View). w.place) r.0), bits-then t u born r.0 r.1 (setter.goes_at (setting p q) q) r.2, tt))
-      (k.bits.own_step z a s false held None (setting p q) g right x)
+      landing z a s _ _ _ (λ t r. ((ap (λ (w : View). w.ever) r.0, ap (λ (w : View). w.place) r.0), bits-then t u born r.0 r.1 (setter.goes_at (setting_at_stage p q) q) r.2, tt))
+      (k.bits.own_step z a s false held None (setting_at_stage p q) g right x)
 
   -- the mark is no word that a right guards
   mark : Right a now false held None → Knows Mark → Step Mark
@@ -295,13 +295,13 @@ module _ (k : Known) (z : Arena) (a : ℕ) (s : Shared) (f : For) (held : ℕ �
           ),
         )
 
-  give-then : (g : Giving) (t : Shared) → Knows (Give g) → (view t).ever ≡ now.ever → (view t).place ≡ now.place → Right a (view t) false (update held g.page false) None → Comes z a (view t) f held None (at_stage p Count)
+  give-then : (g : SpanGiving) (t : Shared) → Knows (Give g) → (view t).ever ≡ now.ever → (view t).place ≡ now.place → Right a (view t) false (update held g.page false) None → Comes z a (view t) f held None (at_stage p Count)
   give-then g t x ever place right = (
     subst (λ (y : Option SpanHead). Right a (view t) false (held_by Count y (p.at / 1024) held) None) (sym x.1.span) (subst (λ (n : ℕ). Right a (view t) false (update held n false) None) x.1.page right),
     record { made = rw (ever) x.0.made; at = rw (place) x.0.at },
   )
 
-  give : (g : Giving) → Good z now → Right a now false held None → Knows (Give g) → Step (Give g)
+  give : (g : SpanGiving) → Good z now → Right a now false held None → Knows (Give g) → Step (Give g)
   give g good right x =
       landing z a s _ _ _ (λ t r. (r.0, give-then g t x r.0.0 r.0.1 r.1, tt))
       (k.give.gives_large z a s false held None g good right x.1.back x.1.large x.1.full)

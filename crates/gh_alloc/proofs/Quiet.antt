@@ -21,44 +21,44 @@ use Rattle.gh_alloc.specs.declared.search.SearchStage.TheVariants as search_stag
 use Rattle.gh_alloc.specs.Find as find
 use Rattle.gh_alloc.specs.Place as place
 use Rattle.gh_alloc.specs.Search as search
-use Rattle.gh_alloc.proofs.Vocabulary.{AllocationIsQuiet, CarveStage, FindStage, GiveStage, IsQuiet, PassStage, PlaceStage, ReclaimStage, SearchStage, SetStage, SlotStage, SweepStage, UnsweptStage}
+use Rattle.gh_alloc.proofs.Vocabulary.{AllocationIsQuiet, CarveStage, FindStage, GiveStage, IsQuietInHandshake, PassStage, PlaceStage, ReclaimStage, SearchStage, SetStage, SlotStage, SweepStage, UnsweptStage}
 
-slots_quiet : (s : slots.Searching) (stage : SlotStage) → IsQuiet (slots.asks_at s stage)
+slots_quiet : (s : slots.Searching) (stage : SlotStage) → IsQuietInHandshake (slots.asks_at s stage)
 slots_quiet s slot_stage.Look = tt
 slots_quiet s (slot_stage.Ended slot) = tt
 
-give_quiet : (g : give.Giving) (stage : GiveStage) → IsQuiet (give.asks_at g stage)
+give_quiet : (g : give.SpanGiving) (stage : GiveStage) → IsQuietInHandshake (give.asks_at g stage)
 give_quiet g give_stage.Write = tt
 give_quiet g give_stage.Ended = tt
 
-pass_quiet : (p : pass.Pass) (stage : PassStage) → IsQuiet (pass.asks_at p stage)
+pass_quiet : (p : pass.Pass) (stage : PassStage) → IsQuietInHandshake (pass.asks_at p stage)
 pass_quiet p (pass_stage.Look page) = tt
 pass_quiet p _ = tt
 
-carve_quiet : (c : carve.Carving) (stage : CarveStage) → IsQuiet (carve.asks_at c stage)
+carve_quiet : (c : carve.Carving) (stage : CarveStage) → IsQuietInHandshake (carve.asks_at c stage)
 carve_quiet c (carve_stage.Look page run) = tt
 carve_quiet c _ = tt
 
-sweep_quiet : (s : sweep.Sweeping) (stage : SweepStage) → IsQuiet (sweep.asks_at s stage)
+sweep_quiet : (s : sweep.Sweeping) (stage : SweepStage) → IsQuietInHandshake (sweep.asks_at s stage)
 sweep_quiet s (sweep_stage.LoadMarks i) = tt
 sweep_quiet s _ = tt
 
-unswept_quiet : (u : unswept.Unswept) (stage : UnsweptStage) → IsQuiet (unswept.asks_at u stage)
+unswept_quiet : (u : unswept.Unswept) (stage : UnsweptStage) → IsQuietInHandshake (unswept.asks_at u stage)
 unswept_quiet u (unswept_stage.Look page) = tt
 unswept_quiet u (unswept_stage.Sweep page h sw) = sweep_quiet sw sw.stage
 unswept_quiet u _ = tt
 
-reclaim_quiet : (r : reclaim.Reclaiming) (stage : ReclaimStage) → IsQuiet (reclaim.asks_at r stage)
+reclaim_quiet : (r : reclaim.Reclaiming) (stage : ReclaimStage) → IsQuietInHandshake (reclaim.asks_at r stage)
 reclaim_quiet r (reclaim_stage.Look page) = tt
 reclaim_quiet r (reclaim_stage.Sweep page pages sw) = sweep_quiet sw sw.stage
 reclaim_quiet r _ = tt
 
-bits_quiet : (s : bits.PointerSetting) (stage : SetStage) → IsQuiet (bits.asks_at s stage)
+bits_quiet : (s : bits.PointerSetting) (stage : SetStage) → IsQuietInHandshake (bits.asks_at s stage)
 bits_quiet s (set_stage.Clear i) = tt
 bits_quiet s (set_stage.Set i) = tt
 bits_quiet s set_stage.Ended = tt
 
-find_quiet : (f : find.Finding) (stage : FindStage) → IsQuiet (find.asks_at f stage)
+find_quiet : (f : find.Finding) (stage : FindStage) → IsQuietInHandshake (find.asks_at f stage)
 find_quiet f (find_stage.Slots s) = slots_quiet s s.stage
 find_quiet f (find_stage.Give g) = give_quiet g g.stage
 find_quiet f (find_stage.Pass p) = pass_quiet p p.stage
@@ -66,12 +66,12 @@ find_quiet f (find_stage.Unswept u) = unswept_quiet u u.stage
 find_quiet f (find_stage.Carve c) = carve_quiet c c.stage
 find_quiet f _ = tt
 
-search_quiet : (f : find.Finding) (stage : SearchStage) → IsQuiet (search.asks_at f stage)
+search_quiet : (f : find.Finding) (stage : SearchStage) → IsQuietInHandshake (search.asks_at f stage)
 search_quiet f search_stage.First = find_quiet f f.stage
 search_quiet f (search_stage.Free r) = reclaim_quiet r r.stage
 search_quiet f search_stage.Second = find_quiet f f.stage
 
-place_quiet : (p : place.Placing) (stage : PlaceStage) → IsQuiet (place.asks_at p stage)
+place_quiet : (p : place.Placing) (stage : PlaceStage) → IsQuietInHandshake (place.asks_at p stage)
 place_quiet p (place_stage.Bits s) = bits_quiet s s.stage
 place_quiet p (place_stage.Give g) = give_quiet g g.stage
 place_quiet p _ = tt

@@ -7,7 +7,7 @@ use Rattle.gh_central.specs.Sweeping.{SweepLeaves}
 use Rattle.gh_sweep.specs.Listing.{Sweeping}
 use Rattle.gh_alloc.specs.Find as find
 use Rattle.gh_alloc.specs.FindFacts as finding
-use Rattle.gh_alloc.specs.SearchFacts.{Comes, FactsAt, FindsNone, Frees, Has, Lasts, LooksAgain, LooksFirst, NoneIsTrue, Opens, OwnStep, Refuses, SeeksByItsRights, SweepStep, SweepsHere, Within, reclaim_at}
+use Rattle.gh_alloc.specs.SearchFacts.{Comes, FactsAt, FindsNone, FreesEmptySpans, Has, Lasts, LooksAgain, LooksFirst, NoneIsTrue, Opens, OwnStep, Refuses, SeeksByItsRights, SweepStep, SweepsHere, Within, reclaim_at}
 use Rattle.gh_alloc.proofs.Vocabulary.{after_first, after_free, Again, Arena, asks_at, At, at_stage, begin, CachedSpan, cell_of, EachFactLasts, effect, EachMoveKeeps, EachMoveKeepsItsOwn, End, Ended, Finding, FindStage, First, Found, Free, frees_at, goes_at, Good, InRange, IsSpan, IsVacant, KeepsObjects, Large, Layout, Lock, moved, NoRoom, Others, Reclaiming, reclaiming as begin_freeing, refuses, Right, SearchStage, Second, Seeking, Shared, Slots, slots_of, Small, Sought, SpanHead, spans_for, Steps, TidyBefore, Unlock, Unswept, View, view, WalksGoOn}
 use Rattle.gh_alloc.specs.Search.{given, given_at, sweep_at, sweep_generation_at, sweep_layout_at}
 use Rattle.gh_alloc.specs.Search as search
@@ -95,8 +95,8 @@ module _ (k : Known) (z : Arena) (a : ℕ) (s : Shared) (rest : ℕ → Bool) wh
 
   -- nothing is cached, and nothing is held for the search
   none-held : (w : View) (f : Finding) → f.cached ≡ None → f.stage ≡ Unlock (End NoRoom) → Right a w (finding.is_locked f.stage) (finding.held f rest) (finding.laying f.stage) → Right a w true rest None
-  none-held w f cached stage right = subst (λ (c : Option CachedSpan). Right a w true (finding.with_span (finding.head_of c) rest) None) cached
-      (subst (λ (q : FindStage). Right a w (finding.is_locked q) (finding.with_span (finding.own q) (finding.with_span (finding.head_of f.cached) rest)) (finding.laying q)) stage right)
+  none-held w f cached stage right = subst (λ (c : Option CachedSpan). Right a w true (finding.with_span (finding.cached_head c) rest) None) cached
+      (subst (λ (q : FindStage). Right a w (finding.is_locked q) (finding.with_span (finding.own q) (finding.with_span (finding.cached_head f.cached) rest)) (finding.laying q)) stage right)
 
   first-then : (t : Shared) (f : Finding) → finding.Comes z a false (view t) rest (find.given f) f → Comes z a (view t) rest (given_at f (after_first f)) (record { find = f; stage = after_first f })
   first-then t f = by f.stage where
@@ -143,7 +143,7 @@ module _ (k : Known) (z : Arena) (a : ℕ) (s : Shared) (rest : ℕ → Bool) wh
     go None c = (c.1, record { seeks = seeks-then; cached = cached; is = is; facts = c.2 })
     go (Some u) c = let x = k.find.again z a true t rest (search.again f) g (λ is. c.2) seeks-again cached (λ is. refl) c.1 in second-on (view t) (spans_for f f.wanted) (search.again f) (x.0, record { facts = x.1; tidy = c.2 })
 
-  free-own : (f : Finding) (r : Reclaiming) → Good z now → Has a now rest (record { find = f; stage = Free r }) → Frees z a now f r → reclaim.sweep_in r ≡ None → Step f (Free r)
+  free-own : (f : Finding) (r : Reclaiming) → Good z now → Has a now rest (record { find = f; stage = Free r }) → FreesEmptySpans z a now f r → reclaim.sweep_in r ≡ None → Step f (Free r)
   free-own f r g right x idle =
       let found : ℕ = s.words (cell_of (reclaim.asks r)) in
       let l = k.free.own_step z a s rest r g right x.facts idle in

@@ -11,10 +11,10 @@ pub use Rattle.gh_base.specs.declared.pack.SpanHead.{SpanHead}
 pub use Rattle.gh_base.specs.declared.shape.Shape.{Shape}
 pub use Rattle.gh_base.specs.declared.value.Name.{Name}
 pub use Rattle.gh_heap.specs.Laws.{EachFactLasts, EachMoveKeeps, EachMoveKeepsItsOwn, EachRightFollows, TheHeapIsApart, WalksGoOn}
-pub use Rattle.gh_heap.specs.Moves.{ClearField, KeepsObjects, landing, Lands, LeaveLock, Make, May, Move, moved, Others, placed_at, Quiet, Runs, SetBirth, Steps, TakeLock, update}
+pub use Rattle.gh_heap.specs.Moves.{ClearField, GoroutineRuns, KeepsObjects, landing, Lands, LeaveLock, Make, May, Move, moved, Others, placed_at, Quiet, SetBirth, Steps, TakeLock, update}
 pub use Rattle.gh_heap.specs.Rights.{Arena, Claims, FullBefore, Good, Right, Shared, TidyBefore, View, view}
-pub use Rattle.gh_heap.specs.Spans.{FitsClass, IsFull, IsSpan, IsVacant, number_of, owned_by, slot_count, slot_size}
-pub use Rattle.gh_phase.specs.Handshake.{IsQuiet}
+pub use Rattle.gh_heap.specs.Spans.{FitsClass, IsFull, IsSpan, IsVacant, number_of_class, owned_by, slot_count, slot_size}
+pub use Rattle.gh_phase.specs.Handshake.{IsQuietInHandshake}
 pub use Rattle.gh_pages.specs.declared.carve.CarveStage.{CarveStage}
 pub use Rattle.gh_bitmap.specs.declared.set_pointers.SetStage.{SetStage}
 pub use Rattle.gh_cache.specs.declared.next_slot.SlotStage.{SlotStage}
@@ -26,7 +26,7 @@ pub use Rattle.gh_central.specs.declared.unswept.UnsweptStage.{UnsweptStage}
 pub use Rattle.gh_sweep.specs.declared.sweep.SweepStage.{SweepStage}
 pub use Rattle.gh_alloc.specs.Find.{after_carve, after_give, after_pass, after_slots, after_unswept, asks, at_stage, begin, behind_for, carving, Finding, finds_none_at, first_page, given, given_at, given_head, gives, goes, locked_for, refuses_at, searched, span_at, span_for, spans_for, sweep_at, sweep_generation_at, sweep_layout_at, taken_for, unlocked}
 pub use Rattle.gh_alloc.specs.Locking.{holds}
-pub use Rattle.gh_alloc.specs.Place.{acts_at, filled, is_busy, listing, made, opening, Placing}
+pub use Rattle.gh_alloc.specs.Place.{filled, is_busy, listing, made, makes_its_object_at, opening, Placing}
 pub use Rattle.gh_alloc.specs.Quiet.{AllocationIsQuiet}
 pub use Rattle.gh_alloc.specs.Search.{after_first, after_free, again, asks_at, frees_at, goes_at, reclaiming, refuses, Seeking}
 pub use Rattle.gh_alloc.specs.Vocabulary.{Again, At, CachedSpan, Carve, End, Ended, FindStage, Found, Give, Large, Layout, Lock, NoRoom, Pass, Slots, Small, Sought, SpanClass, Unlock, Unswept}

@@ -155,6 +155,13 @@ goes_at f (Unlock after) found = record f { sweeps = true; stage = unlocked f af
 -- where it has ended it names the stage, so that what it has given computes there too
 goes_at f (Ended out) found = at_stage f (Ended out)
 
+-- by the word found the routine that it runs goes on in a span, or to a further page
+abbrev pub goes_further_at : FindStage → (found : ℕ) → Bool
+goes_further_at (Pass p) found = pass.goes_on_at p p.stage found
+goes_further_at (Unswept u) found = unswept.looks_on_at u u.stage found
+goes_further_at (Carve c) found = carve.looks_on_at c c.stage found
+goes_further_at _ found = false
+
 -- what it has given: it ends with a slot, or with no room
 abbrev pub given_at : FindStage → Option Found
 given_at (Ended out) = Some out

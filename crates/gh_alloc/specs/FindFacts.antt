@@ -1,7 +1,7 @@
 -- What is known at each stage of the search for a slot while any number of processors change the heap, under which rights, and the laws: what each step of its own is, that it is on a word that there is, that what is known lasts whatever others do, and what is true where it finds no room.
 use Rattle.std.specs.Prelude.{◌≡◌, ℕ, ◌+◌, ◌*◌, ◌/◌, ◌^◌, ◌<◌, ◌≤◌, Bool, true, false, Option, Some, None}
 use Rattle.gh_class.specs.declared.class.SizeClass.TheVariants as size
-use Rattle.gh_cache.specs.Facts.{IsHeld, TakenBelow}
+use Rattle.gh_cache.specs.Facts.{SpanIsHeld, TakenBelow}
 use Rattle.gh_cache.specs.Listing as slots
 use Rattle.gh_central.specs.declared.pass.PassStage.{PassStage}
 use Rattle.gh_central.specs.GiveBack as give
@@ -25,7 +25,7 @@ use Rattle.gh_alloc.specs.Vocabulary.{Arena, cell_of, Claims, Good, InRange, Kee
 
 -- the seat holds the span that is cached for the span class, and its slots before the cursor are taken
 pub record IsCached (a : ℕ) (v : View) (c : SpanClass) (k : CachedSpan) : Type 0 where
-  pub span : IsHeld a v (span_at c.class k) c.noscan
+  pub span : SpanIsHeld a v (span_at c.class k) c.noscan
   pub few : k.cursor ≤ slots_of c.class
   pub taken : TakenBelow v.alloc (span_at c.class k)
 
@@ -74,9 +74,9 @@ abbrev pub own : FindStage → Option ℕ
 own (Unlock (End (At x))) = Some (x / 1024)
 own _ = None
 
-abbrev pub head_of : Option CachedSpan → Option ℕ
-head_of None = None
-head_of (Some k) = Some k.head
+abbrev pub cached_head : Option CachedSpan → Option ℕ
+cached_head None = None
+cached_head (Some k) = Some k.head
 
 -- what the seat holds with that span, where it holds those beside it
 abbrev pub with_span : Option ℕ → (ℕ → Bool) → ℕ → Bool
@@ -84,7 +84,7 @@ with_span None rest = rest
 with_span (Some p) rest = update rest p true
 
 abbrev pub held : Finding → (ℕ → Bool) → ℕ → Bool
-held f rest = with_span (own f.stage) (with_span (head_of f.cached) rest)
+held f rest = with_span (own f.stage) (with_span (cached_head f.cached) rest)
 
 -- The facts.
 
@@ -129,7 +129,7 @@ pub record InSlots (f : Finding) (s : slots.Searching) : Type 0 where
   pub is : s ≡ slots.opening f.layout (span_at c.class k)
   pub left : k.cursor < slots_of c.class
 
-pub record InGive (f : Finding) (g : give.Giving) : Type 0 where
+pub record InGive (f : Finding) (g : give.SpanGiving) : Type 0 where
   pub c : SpanClass
   pub k : CachedSpan
   pub for : IsCachedFor f c k
@@ -199,10 +199,10 @@ pub record FindsSlot (z : Arena) (a : ℕ) (v : View) (c : SpanClass) (k : Cache
   pub class : claim.h.class ≡ size.Small c.class
   pub noscan_is : claim.h.noscan ≡ c.noscan
 
-abbrev pub IsFound : Arena → (a : ℕ) → View → Finding → Sought → Option CachedSpan → (x : ℕ) → Type 0
-IsFound z a v f (Small c) (Some k) x = FindsSlot z a v c k x
-IsFound z a v f (Small c) None x = ⊥
-IsFound z a v f (Large pages noscan) cached x = OwnsLarge z a v f x
+abbrev pub SlotIsFound : Arena → (a : ℕ) → View → Finding → Sought → Option CachedSpan → (x : ℕ) → Type 0
+SlotIsFound z a v f (Small c) (Some k) x = FindsSlot z a v c k x
+SlotIsFound z a v f (Small c) None x = ⊥
+SlotIsFound z a v f (Large pages noscan) cached x = OwnsLarge z a v f x
 
 -- the span in which it lies, if no cache lists it
 abbrev pub own_found : Sought → (x : ℕ) → Option ℕ
@@ -210,11 +210,11 @@ own_found (Small c) x = None
 own_found (Large pages noscan) x = Some (x / 1024)
 
 pub record HasFound (z : Arena) (a : ℕ) (v : View) (rest : ℕ → Bool) (f : Finding) (x : ℕ) : Type 0 where
-  pub right : Right a v false (with_span (own_found f.wanted x) (with_span (head_of f.cached) rest)) None
+  pub right : Right a v false (with_span (own_found f.wanted x) (with_span (cached_head f.cached) rest)) None
   pub caches : Caches a v f.wanted f.cached
   pub apart : (k : CachedSpan) → f.cached ≡ Some k → rest k.head ≡ false
   pub own_apart : (p : ℕ) → own_found f.wanted x ≡ Some p → rest p ≡ false
-  pub found : IsFound z a v f f.wanted f.cached x
+  pub found : SlotIsFound z a v f f.wanted f.cached x
 
 -- What a step comes to in w: the right that its seat has then; and the facts of the next stage, or the slot. A search that finds none ends by a step of who runs it.
 abbrev pub Comes : Arena → (a : ℕ) → (sure : Bool) → (w : View) → (ℕ → Bool) → Option Found → Finding → Type 0
@@ -224,7 +224,7 @@ Comes z a sure w rest (Some NoRoom) f = ⊥
 
 -- begun with what is cached
 abbrev pub Opens : Type 0
-Opens = (z : Arena) (a : ℕ) (v : View) (rest : ℕ → Bool) (f : Finding) → Seeks z a v f → Caches a v f.wanted f.cached → ((k : CachedSpan) → f.cached ≡ Some k → rest k.head ≡ false) → Right a v false (with_span (head_of f.cached) rest) None →
+Opens = (z : Arena) (a : ℕ) (v : View) (rest : ℕ → Bool) (f : Finding) → Seeks z a v f → Caches a v f.wanted f.cached → ((k : CachedSpan) → f.cached ≡ Some k → rest k.head ≡ false) → Right a v false (with_span (cached_head f.cached) rest) None →
     f ≡ opening f.layout f.seat f.generation f.wanted f.cached → Right a v (is_locked f.stage) (held f rest) (laying f.stage) × Facts z a false v rest f
 
 -- with the lock and nothing cached, a span is looked for once more

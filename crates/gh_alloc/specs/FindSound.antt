@@ -33,9 +33,9 @@ IsCached l (Small c) (Some s) = IsCachedSpan l c.class s
 IsCached l _ _ = Unit {0}
 
 -- the slot that it ends with, if it ends, lies in the arena
-abbrev pub IsAfter : Layout → Sought → After → Type 0
-IsAfter l wanted Again = Unit {0}
-IsAfter l wanted (End out) = LiesWithin l wanted out
+abbrev pub AfterLiesWithin : Layout → Sought → After → Type 0
+AfterLiesWithin l wanted Again = Unit {0}
+AfterLiesWithin l wanted (End out) = LiesWithin l wanted out
 
 -- the routine that it runs is of the same heap, for what is wanted, and asks for a step
 abbrev pub IsStage : Layout → Sought → FindStage → Type 0
@@ -44,7 +44,7 @@ IsStage l wanted (Give g) = (g.layout ≡ l) × (give.is_busy g.stage ≡ true)
 IsStage l wanted (Pass p) = (p.layout ≡ l) × (wanted ≡ Small p.wanted) × (pass.is_busy p.stage ≡ true)
 IsStage l wanted (Unswept u) = (u.layout ≡ l) × (wanted ≡ Small u.wanted) × (unswept.is_busy u.stage ≡ true)
 IsStage l wanted (Carve c) = (c.layout ≡ l) × (c.span ≡ span_for wanted) × (carve.is_busy c.stage ≡ true)
-IsStage l wanted (Unlock after) = IsAfter l wanted after
+IsStage l wanted (Unlock after) = AfterLiesWithin l wanted after
 IsStage l wanted (Ended out) = LiesWithin l wanted out
 IsStage l wanted Lock = Unit {0}
 

@@ -77,9 +77,9 @@ abbrev pub is_busy : PlaceStage → Bool
 is_busy p = is_none (given_at p)
 
 -- the object is made by the step at this stage
-abbrev pub acts_at : PlaceStage → Bool
-acts_at Alloc = true
-acts_at _ = false
+abbrev pub makes_its_object_at : PlaceStage → Bool
+makes_its_object_at Alloc = true
+makes_its_object_at _ = false
 
 -- the step that it asks for, what it is after the step found this, what it has given, and what it has given after that step
 abbrev pub asks : Placing → Ask
@@ -98,5 +98,5 @@ abbrev pub listing : Listing Placing Bool
 listing = listing_of (λ p. p.layout) asks goes given
 
 -- its next step makes the object
-abbrev pub acts : Placing → Bool
-acts p = acts_at p.stage
+abbrev pub makes_its_object : Placing → Bool
+makes_its_object p = makes_its_object_at p.stage

@@ -13,12 +13,12 @@ use Rattle.gh_bitmap.specs.declared.set_pointers.SetStage.TheVariants as bits_st
 use Rattle.gh_bitmap.specs.Facts as bits
 use Rattle.gh_bitmap.specs.SetPointers.{PointerSetting, at_stage as bits_at, opening as begin_bits}
 use Rattle.gh_bitmap.specs.Stepping.{FitsSlot}
-use Rattle.gh_central.specs.GiveBack.{Giving}
+use Rattle.gh_central.specs.GiveBack.{SpanGiving}
 use Rattle.gh_central.specs.GiveFacts.{CanGiveBack}
 use Rattle.gh_alloc.specs.declared.place.PlaceStage.{PlaceStage}
 use Rattle.gh_alloc.specs.declared.place.PlaceStage.TheVariants.{Clear, Birth, Bits, Mark, Alloc, Give, Count, LoadTrigger, Ended}
-use Rattle.gh_alloc.specs.Place.{Placing, acts, asks, at_stage, gives, goes}
-use Rattle.gh_alloc.specs.Vocabulary.{Arena, cell_of, Claims, Good, InRange, IsFull, Others, owned_by, placed_at, Right, Runs, Shared, size_class_of, SpanHead, Steps, update, View, view}
+use Rattle.gh_alloc.specs.Place.{Placing, makes_its_object, asks, at_stage, gives, goes}
+use Rattle.gh_alloc.specs.Vocabulary.{Arena, cell_of, Claims, Good, GoroutineRuns, InRange, IsFull, Others, owned_by, placed_at, Right, Shared, size_class_of, SpanHead, Steps, update, View, view}
 
 -- The routine before its first step. What is known is said of it and of the stage.
 abbrev pub base : Placing → Placing
@@ -48,7 +48,7 @@ pub record Places (z : Arena) (f : For) (p : Placing) : Type 0 where
 -- until the object is made: the seat claims its slot, and the name is the next of its goroutine
 pub record Unmade (z : Arena) (a : ℕ) (v : View) (f : For) (p : Placing) : Type 0 where
   pub places : Places z f p
-  pub runs : Runs z v a f.g
+  pub runs : GoroutineRuns z v a f.g
   pub few : v.ever.made f.g < MOST_STATEMENTS
   pub name : p.name ≡ next_name v.ever f.g
   pub claim : Claims z v a p.at p.slot
@@ -71,15 +71,15 @@ pub record Made (v : View) (p : Placing) : Type 0 where
   pub at : v.place p.name ≡ p.at
 
 -- the routine that sets the bits of the slot, at this stage
-abbrev pub setting : Placing → SetStage → PointerSetting
-setting p q = bits_at (begin_bits p.layout p.shape p.at p.slot) q
+abbrev pub setting_at_stage : Placing → SetStage → PointerSetting
+setting_at_stage p q = bits_at (begin_bits p.layout p.shape p.at p.slot) q
 
 -- the slot is as the object's is to be: its fields, its birth word and its pointer bits
 abbrev pub Filled : Arena → (a : ℕ) → View → For → Placing → Type 0
-Filled z a v f p = Unmade z a v f p × Born v p × bits.ToldBelow (setting p bits_stage.Ended) v.bitmap (p.at + p.slot)
+Filled z a v f p = Unmade z a v f p × Born v p × bits.ToldBelow (setting_at_stage p bits_stage.Ended) v.bitmap (p.at + p.slot)
 
 -- a large object's span is given back next
-pub record GivesUp (z : Arena) (a : ℕ) (v : View) (p : Placing) (g : Giving) : Type 0 where
+pub record GivesUp (z : Arena) (a : ℕ) (v : View) (p : Placing) (g : SpanGiving) : Type 0 where
   pub head : SpanHead
   pub span : p.span ≡ Some head
   pub back : CanGiveBack z a v g
@@ -90,7 +90,7 @@ pub record GivesUp (z : Arena) (a : ℕ) (v : View) (p : Placing) (g : Giving) :
 abbrev pub FactsAt : Arena → (a : ℕ) → View → For → Placing → PlaceStage → Type 0
 FactsAt z a v f p (Clear k) = Unmade z a v f p × (k < p.slot) × FieldsClear v.field p.at k
 FactsAt z a v f p Birth = Unmade z a v f p × FieldsClear v.field p.at p.slot
-FactsAt z a v f p (Bits s) = Unmade z a v f p × Born v p × (s ≡ setting p s.stage) × bits.Facts z a v s
+FactsAt z a v f p (Bits s) = Unmade z a v f p × Born v p × (s ≡ setting_at_stage p s.stage) × bits.Facts z a v s
 FactsAt z a v f p Mark = Filled z a v f p
 FactsAt z a v f p Alloc = Filled z a v f p
 FactsAt z a v f p (Give g) = Made v p × GivesUp z a v p g
@@ -132,7 +132,7 @@ Opens = (z : Arena) (a : ℕ) (v : View) (f : For) (p : Placing) → Unmade z a 
 -- a step of its own; it needs no lock
 abbrev pub OwnStep : Type 0
 OwnStep = (z : Arena) (a : ℕ) (s : Shared) (f : For) (held : ℕ → Bool) (p : Placing) → Good z (view s) → Right a (view s) false (held_in p held) None → Facts z a (view s) f p →
-    Steps z a s (asks p) (λ t. Changes z f p (acts p) (view s) (view t) × Comes z a (view t) f held (gives p (s.words (cell_of (asks p)))) (goes p (s.words (cell_of (asks p)))) × CountsAlone p.stage s t)
+    Steps z a s (asks p) (λ t. Changes z f p (makes_its_object p) (view s) (view t) × Comes z a (view t) f held (gives p (s.words (cell_of (asks p)))) (goes p (s.words (cell_of (asks p)))) × CountsAlone p.stage s t)
 
 -- it is on a word that there is
 abbrev pub Within : Type 0

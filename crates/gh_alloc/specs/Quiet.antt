@@ -1,11 +1,11 @@
 -- The routines of allocation write no word of the handshake of a stop.
-use Rattle.gh_phase.specs.Handshake.{IsQuiet}
+use Rattle.gh_phase.specs.Handshake.{IsQuietInHandshake}
 use Rattle.gh_alloc.specs.Find as find
 use Rattle.gh_alloc.specs.Place as place
 use Rattle.gh_alloc.specs.Search as search
 
 -- whatever their numbers, and at each stage
 pub record AllocationIsQuiet : Type 0 where
-  pub finds : (f : find.Finding) → IsQuiet (find.asks f)
-  pub searches : (s : search.Seeking) → IsQuiet (search.asks s)
-  pub places : (p : place.Placing) → IsQuiet (place.asks p)
+  pub finds : (f : find.Finding) → IsQuietInHandshake (find.asks f)
+  pub searches : (s : search.Seeking) → IsQuietInHandshake (search.asks s)
+  pub places : (p : place.Placing) → IsQuietInHandshake (place.asks p)

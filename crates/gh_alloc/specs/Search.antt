@@ -53,6 +53,11 @@ module _ (f : Finding) where
   goes_at (Free r) found = after_free f (reclaim.goes r found) (reclaim.gives r found)
   goes_at Second found = record { find = find.goes f found; stage = if frees_at f.stage then First else Second }
 
+  -- by the word found the first search goes on in a span, or to a further page
+  abbrev pub goes_further_at : SearchStage → (found : ℕ) → Bool
+  goes_further_at First found = find.goes_further_at f.stage found
+  goes_further_at _ found = false
+
   -- what the search has given that it runs
   abbrev pub given_at : SearchStage → Option Found
   given_at (Free r) = None

@@ -49,7 +49,7 @@ abbrev pub reclaim_at : Finding → ReclaimStage → Reclaiming
 reclaim_at f q = record { layout = f.layout; generation = f.generation; stage = q }
 
 -- the first search has ended with none, and pages of empty spans are freed: nothing is cached
-pub record Frees (z : Arena) (a : ℕ) (v : View) (f : Finding) (r : Reclaiming) : Type 0 where
+pub record FreesEmptySpans (z : Arena) (a : ℕ) (v : View) (f : Finding) (r : Reclaiming) : Type 0 where
   pub seeks : finding.Seeks z a v f
   pub cached : f.cached ≡ None
   pub is : r ≡ reclaim_at f r.stage
@@ -67,7 +67,7 @@ pub record LooksFirst (z : Arena) (a : ℕ) (v : View) (rest : ℕ → Bool) (f 
 
 abbrev pub FactsAt : Arena → (a : ℕ) → View → (ℕ → Bool) → Finding → SearchStage → Type 0
 FactsAt z a v rest f First = LooksFirst z a v rest f
-FactsAt z a v rest f (Free r) = Frees z a v f r
+FactsAt z a v rest f (Free r) = FreesEmptySpans z a v f r
 FactsAt z a v rest f Second = LooksAgain z a v rest f
 
 abbrev pub Facts : Arena → (a : ℕ) → View → (ℕ → Bool) → Seeking → Type 0
@@ -76,7 +76,7 @@ Facts z a v rest q = FactsAt z a v rest q.find q.stage
 -- There is no room.
 
 -- the page is not free, nor in a span that nobody owns and in which no object stands
-pub record IsTaken (z : Arena) (v : View) (q : ℕ) : Type 0 where
+pub record PageIsTaken (z : Arena) (v : View) (q : ℕ) : Type 0 where
   pub taken : page_of (v.page q) ≢ page.Free
   pub used : (p : ℕ) (h : SpanHead) → IsSpan z.layout.pages v.page p h → p ≤ q → q < p + h.pages → h.owner ≡ 0 → ¬ IsVacant v.alloc p h
 
@@ -84,7 +84,7 @@ pub record IsTaken (z : Arena) (v : View) (q : ℕ) : Type 0 where
 pub record FindsNone (z : Arena) (v : View) (f : Finding) : Type 0 where
   pub none : finding.FindsNone z true v f
   pub tidy : TidyBefore v.page v.alloc v.generation z.layout.pages
-  pub run : (first : ℕ) → first + (span_for f.wanted).pages ≤ z.layout.pages → (d : ℕ) × (d < (span_for f.wanted).pages) × IsTaken z v (first + d)
+  pub run : (first : ℕ) → first + (span_for f.wanted).pages ≤ z.layout.pages → (d : ℕ) × (d < (span_for f.wanted).pages) × PageIsTaken z v (first + d)
 
 -- The laws.
 
@@ -96,7 +96,7 @@ Comes z a w rest (Some NoRoom) q = ⊥
 
 -- begun with what is cached
 abbrev pub Opens : Type 0
-Opens = (z : Arena) (a : ℕ) (v : View) (rest : ℕ → Bool) (q : Seeking) → finding.Seeks z a v q.find → finding.Caches a v q.find.wanted q.find.cached → ((k : CachedSpan) → q.find.cached ≡ Some k → rest k.head ≡ false) → Right a v false (finding.with_span (finding.head_of q.find.cached) rest) None →
+Opens = (z : Arena) (a : ℕ) (v : View) (rest : ℕ → Bool) (q : Seeking) → finding.Seeks z a v q.find → finding.Caches a v q.find.wanted q.find.cached → ((k : CachedSpan) → q.find.cached ≡ Some k → rest k.head ≡ false) → Right a v false (finding.with_span (finding.cached_head q.find.cached) rest) None →
     q ≡ opening q.find.layout q.find.seat q.find.generation q.find.wanted q.find.cached → Has a v rest q × Facts z a v rest q
 
 -- a step of its own, short of the one that finds no room, where it runs no sweep

@@ -5,7 +5,7 @@ pub use Rattle.gh_base.specs.Cells.{InRange}
 pub use Rattle.gh_base.specs.Steps.{cell_of}
 pub use Rattle.gh_base.specs.declared.layout.Layout.{Layout}
 pub use Rattle.gh_base.specs.declared.pack.SpanHead.{SpanHead}
-pub use Rattle.gh_heap.specs.Moves.{KeepsObjects, Leaves, Others, placed_at, Runs, Steps, update}
+pub use Rattle.gh_heap.specs.Moves.{GoroutineRuns, KeepsObjects, Leaves, Others, placed_at, Steps, update}
 pub use Rattle.gh_heap.specs.Rights.{Arena, Claims, FullBefore, Good, Right, Shared, View, view}
 pub use Rattle.gh_heap.specs.Spans.{IsFull, Laying, owned_by}
 pub use Rattle.gh_alloc.specs.declared.find.After.{After}

@@ -5,12 +5,12 @@ use Rattle.gh_alloc.specs.Vocabulary.{Layout, Sought, Small, Large, Found, At, N
 use Rattle.gh_alloc.specs.Find.{span_for}
 
 -- the words of the slot that is looked for
-abbrev pub words_of : Sought → ℕ
-words_of w = slot_for (span_for w).class (span_for w).pages
+abbrev pub words_sought : Sought → ℕ
+words_sought w = slot_for (span_for w).class (span_for w).pages
 
 -- the slot that was found lies in the arena
 abbrev pub LiesWithin : Layout → Sought → Found → Type 0
-LiesWithin l w (At a) = a + words_of w ≤ 1024 * l.pages
+LiesWithin l w (At a) = a + words_sought w ≤ 1024 * l.pages
 LiesWithin l w NoRoom = Unit {0}
 
 -- the pages of a large object lie in the arena from this page on

@@ -1,11 +1,11 @@
 //! The routine that looks for a slot for an object.
 
-ghost use Rattle.std.specs.Prelude.{◌≡◌, ℕ, ◌+◌, ◌*◌, ◌^◌, ◌<◌, ◌≤◌, ◌↔◌, IfSome, IsTrue, Option, true};
+ghost use Rattle.std.specs.Prelude.{◌≡◌, ℕ, ◌+◌, ◌*◌, ◌^◌, ◌<◌, ◌≤◌, ◌↔◌, IfSome, IsTrue, None, Option, false, true};
 ghost use Rattle.gh_base.specs.Cells.{seats_of};
 ghost use Rattle.gh_central.specs.GiveBack as giving;
 ghost use Rattle.gh_alloc.specs.declared.find.FindStage.TheVariants.{Give};
 ghost use Rattle.gh_alloc.specs.declared.sought.Found.TheVariants.{At, NoRoom};
-ghost use Rattle.gh_alloc.specs.Find.{after_carve, after_give, after_lock, after_pass, after_slots, after_unswept, at_stage, begin, behind_for, carving, finds_none, first_page, given, given_head, gives, goes, is_busy, locked_for, opening, refuses, spans_for, taken, word_at_cursor};
+ghost use Rattle.gh_alloc.specs.Find.{after_carve, after_give, after_lock, after_pass, after_slots, after_unswept, at_stage, begin, behind_for, carving, finds_none, first_page, given, given_head, gives, goes, goes_further_at, is_busy, locked_for, opening, refuses, spans_for, taken, word_at_cursor};
 ghost use Rattle.gh_alloc.specs.FindSound.{FitsPages, IsCached, IsCachedSpan};
 ghost use Rattle.gh_alloc.specs.Search.{again, frees_at, reclaiming};
 ghost use Rattle.gh_alloc.specs.Within.{FitsFrom, FitsGiven, LiesWithin};
@@ -171,6 +171,7 @@ impl Find {
         self.stage = FindStage::Lock;
         if let Sought::Small(class) = self.wanted {
             if let Some(span) = self.cached {
+                // The span is this seat's own, and no other takes a slot of it: it is searched without the lock.
                 if span.cursor < class.class.slots() {
                     let span = span.of_class(class.class);
                     self.stage = FindStage::Slots(NextSlot::new(&self.layout, span));
@@ -231,6 +232,7 @@ impl Find {
     {
         match self.wanted {
             Sought::Small(class) => match self.cached {
+                // No slot is left from its cursor on. It goes back before another is taken: a seat owns at most one span of a class.
                 Some(span) => self.giving(class, span),
                 None => self.spans(),
             },
@@ -283,6 +285,7 @@ impl Find {
         requires { self.old.stage ≡ FindStage.Lock }
         ensures { self.new ≡ after_lock self.old found }
     {
+        // 0 is nobody: the swap has made this seat the one that has the lock. Otherwise another has it, and it is asked for again.
         if found == 0 {
             self.stage = self.locked();
         }
@@ -294,6 +297,7 @@ impl Find {
         ensures { self.new ≡ after_pass self.old (Some out) }
     {
         match out {
+            // No swept span will do. An unswept one may have clear slots that only its sweep tells of, so it comes before fresh pages.
             None => self.stage = self.behind(),
             Some(page) => self.take_span(page),
         }
@@ -316,6 +320,7 @@ impl Find {
         ensures { self.new ≡ after_carve self.old (Some out) }
     {
         match out {
+            // The lock stays held until the next step: `Search` may go on under it.
             None => self.stage = FindStage::Unlock(After::End(Found::NoRoom)),
             Some(page) => self.take_span(page),
         }
@@ -354,8 +359,27 @@ impl Find {
         }
     }
 
+    /// Goes on in the routine that it runs, to the next alloc word of a span or to a further page, where the word found
+    /// leads there, and answers whether it did; where it did not, nothing has changed, and `take_step` makes the step.
+    #[inline(always)]
+    pub(crate) fn goes_on(&mut self, found: u64) -> bool
+        ensures exactly { result ≡ goes_further_at self.old.stage found }
+        ensures goes { IsTrue result → self.new ≡ goes self.old found }
+        ensures gives { IsTrue result → gives self.old found ≡ None }
+        ensures searches { IsTrue result → finds_none (goes self.old found) ≡ false }
+        ensures cached { self.new.cached ≡ self.old.cached }
+        ensures stays { result ≡ false → self.new ≡ self.old }
+    {
+        match &mut self.stage {
+            FindStage::Pass(pass) => pass.goes_on(found),
+            FindStage::Unswept(pass) => pass.goes_on(found),
+            FindStage::Carve(carve) => carve.goes_on(found),
+            _ => false,
+        }
+    }
+
     /// Takes any step. Where a routine has ended, its stage gives way to another at once. It stands apart, since
-    /// most steps of a search go on in a span (`take`) and need none of the memory that the other stages want.
+    /// most steps of a search go on (`goes_on`) and need none of the memory that the other stages want.
     #[inline(never)]
     fn take_step(&mut self, found: u64) -> Option<Found>
         requires { is_busy self.old.stage ≡ true }
@@ -400,6 +424,7 @@ impl Find {
             FindStage::Lock => self.after_lock(found),
             FindStage::Unlock(after) => {
                 let then = *after;
+                // Without the lock anything may change: a search that takes it again looks for unswept spans again.
                 self.sweeps = true;
                 match then {
                     After::Again => self.begin(),
@@ -451,10 +476,8 @@ impl Machine for Find {
         ensures out { result ≡ gives self.old found }
         ensures within { IfSome result (LiesWithin self.old.layout self.old.wanted) }
     {
-        if let FindStage::Pass(pass) = &mut self.stage {
-            if pass.goes_on(found) {
-                return None;
-            }
+        if self.goes_on(found) {
+            return None;
         }
         self.take_step(found)
     }

@@ -7,7 +7,7 @@
 //! who knows that marking is on does not look.
 
 ghost use Rattle.std.specs.Prelude.{◌≡◌, ℕ, ◌+◌, ◌*◌, ◌^◌, ◌<◌, ◌≤◌};
-ghost use Rattle.gh_alloc.specs.Place.{acts, counted, filled, given, made, opening};
+ghost use Rattle.gh_alloc.specs.Place.{counted, filled, given, made, makes_its_object, opening};
 ghost use Rattle.gh_alloc.specs.PlaceSound.{FitsSpanHead};
 ghost use Rattle.gh_alloc.specs.declared.place.PlaceStage.TheVariants.{Bits};
 ghost use Rattle.gh_bitmap.specs.SetPointers as setting;
@@ -125,7 +125,7 @@ impl<'s> Place<'s> {
 
     /// The next step makes the object.
     pub fn acts(&self) -> bool
-        ensures { result ≡ acts self.now }
+        ensures { result ≡ makes_its_object self.now }
     {
         match self.stage {
             PlaceStage::Alloc => true,

@@ -1,10 +1,11 @@
 //! The search for a slot where a collector runs.
 
-ghost use Rattle.std.specs.Prelude.{◌≡◌, ℕ, ◌^◌, ◌<◌, ◌↔◌, IfSome, IsTrue, Option, true};
+ghost use Rattle.std.specs.Prelude.{◌≡◌, ℕ, ◌^◌, ◌<◌, ◌↔◌, IfSome, IsTrue, None, Option, false, true};
 ghost use Rattle.gh_base.specs.Cells.{seats_of};
+ghost use Rattle.gh_alloc.specs.declared.search.SearchStage.TheVariants.{Free};
 ghost use Rattle.gh_alloc.specs.declared.sought.Found.TheVariants.{NoRoom};
 ghost use Rattle.gh_alloc.specs.FindSound.{FitsPages, IsCached};
-ghost use Rattle.gh_alloc.specs.Search.{given, gives, goes, is_busy, opening, refuses};
+ghost use Rattle.gh_alloc.specs.Search.{given, gives, goes, goes_further_at, is_busy, opening, reclaiming, refuses};
 ghost use Rattle.gh_alloc.specs.Within.{LiesWithin};
 
 use crate::find::Find;
@@ -93,6 +94,32 @@ impl Search {
         }
     }
 
+    /// Goes on to the next alloc word of a span or to a further page, where the word found leads there, and answers
+    /// whether it did. Most steps of a search do, and they change one number or two; where it did not, nothing has
+    /// changed, and [`take`](Machine::take) makes the step.
+    #[inline(always)]
+    pub fn goes_on(&mut self, found: u64) -> bool
+        ensures exactly { result ≡ goes_further_at self.old.find self.old.stage found }
+        ensures goes { IsTrue result → self.new ≡ goes self.old found }
+        ensures gives { IsTrue result → gives self.old found ≡ None }
+        ensures cached { self.new.find.cached ≡ self.old.find.cached }
+        ensures stays { result ≡ false → self.new ≡ self.old }
+    {
+        match self.stage {
+            SearchStage::First => self.find.goes_on(found),
+            SearchStage::Free(_) | SearchStage::Second => false,
+        }
+    }
+
+    /// The pages of empty spans are freed next.
+    // It stands apart, so that the other steps clear no memory for the stage.
+    #[inline(never)]
+    fn begin_freeing(&mut self)
+        ensures { self.new ≡ record self.old { stage = Free (reclaiming self.old.find) } }
+    {
+        self.stage = SearchStage::Free(self.find.reclaim());
+    }
+
     /// What it has given.
     fn given(&self) -> Option<Found>
         ensures is { result ≡ given self.now }
@@ -138,9 +165,11 @@ impl Machine for Search {
     {
         match &mut self.stage {
             SearchStage::First => {
+                // Where nothing is found the lock is not freed: empty spans give their pages back first, and what they give must still
+                // be there when it is searched once more.
                 self.find.take(found);
                 if self.find.finds_none() {
-                    self.stage = SearchStage::Free(self.find.reclaim());
+                    self.begin_freeing();
                 }
             }
             SearchStage::Free(reclaim) => {
@@ -150,6 +179,7 @@ impl Machine for Search {
                 }
             }
             SearchStage::Second => {
+                // With the lock gone others may take what was freed, or free more, so the search is a first one again.
                 let frees = self.find.frees_lock();
                 self.find.take(found);
                 if frees {

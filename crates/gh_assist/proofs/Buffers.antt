@@ -23,7 +23,7 @@ use Rattle.gh_shade.specs.Sound.{IsReference}
 use Rattle.gh_wbuf.specs.declared.find_room.RoomStage.{RoomStage}
 use Rattle.gh_wbuf.specs.declared.take_entry.TakeStage.{TakeStage}
 use Rattle.gh_wbuf.specs.declared.try_buffer.TryStage.{TryStage}
-use Rattle.gh_assist.specs.Within.{HasRoom, IsTaken, RoomStageWithin, RoomWithin, TakeStageWithin, TakeWithin, TryWithin}
+use Rattle.gh_assist.specs.Within.{HasRoomForEntry, RoomStageWithin, RoomWithin, TakenIsReference, TakeStageWithin, TakeWithin, TryWithin}
 
 second : (a b : Bool) → a && b ≡ true → b ≡ true
 second true b e = e
@@ -128,9 +128,9 @@ module _ (l : Layout) where
   pub room_goes : (r : room.RoomFinding) (found : ℕ) → RoomWithin l r → RoomWithin l (room.goes r found)
   room_goes r found w = room_goes_at r r.stage found w w.stage
 
-  pub room_gives : (r : room.RoomFinding) (found : ℕ) → RoomWithin l r → HasRoom l (room.gives r found)
+  pub room_gives : (r : room.RoomFinding) (found : ℕ) → RoomWithin l r → HasRoomForEntry l (room.gives r found)
   room_gives r found w = by (room.goes r found).stage (room_goes r found w).stage where
-    by : (p : RoomStage) → RoomStageWithin l p → HasRoom l (room.given_at p)
+    by : (p : RoomStage) → RoomStageWithin l p → HasRoomForEntry l (room.given_at p)
     by (room_at.Ended h) o = o
     by _ o = tt
 
@@ -181,9 +181,9 @@ module _ (l : Layout) where
   pub take_goes : (t : take.EntryTaking) (found : ℕ) → TakeWithin l t → TakeWithin l (take.goes t found)
   take_goes t found w = take_goes_at t t.stage found w w.stage
 
-  pub taken : (t : take.EntryTaking) (found : ℕ) → TakeWithin l t → IsTaken l (take.gives t found)
+  pub taken : (t : take.EntryTaking) (found : ℕ) → TakeWithin l t → TakenIsReference l (take.gives t found)
   taken t found w = by (take.goes t found).stage (take_goes t found w).stage where
-    by : (p : TakeStage) → TakeStageWithin l p → IsTaken l (take.given_at p)
+    by : (p : TakeStage) → TakeStageWithin l p → TakenIsReference l (take.given_at p)
     by (take_at.Ended held entry) o = o.1
     by _ o = tt
 

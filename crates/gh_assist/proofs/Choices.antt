@@ -3,10 +3,10 @@ use Rattle.std.proofs.Common.{◌≡◌, ◌==◌, Bool, true, false, cond, eqb-
 use Rattle.gh_credit.specs.Drawing as draw
 use Rattle.gh_wbuf.specs.EntryTaking as take
 use Rattle.gh_assist.specs.declared.assist.AssistStage.TheVariants.{Drawing, Ended, Taking}
-use Rattle.gh_assist.specs.Listing.{Assisting, at_stage, owes, pays}
+use Rattle.gh_assist.specs.Listing.{Assisting, at_stage, draws_if_owed, pays}
 
 -- where the debt is known
-pub by_owes : (P : Assisting → Type 0) (x : Assisting) → (x.owed ≡ 0 → P (at_stage x Ended)) → P (at_stage x (Drawing (draw.opening x.layout x.owed))) → P (owes x)
+pub by_owes : (P : Assisting → Type 0) (x : Assisting) → (x.owed ≡ 0 → P (at_stage x Ended)) → P (at_stage x (Drawing (draw.opening x.layout x.owed))) → P (draws_if_owed x)
 by_owes P x ended draws = by (x.owed == 0) refl where
   by : (b : Bool) → (x.owed == 0) ≡ b → P (at_stage x (cond b Ended (Drawing (draw.opening x.layout x.owed))))
   by true e = ended (eqb-true _ _ e)

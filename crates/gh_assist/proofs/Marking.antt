@@ -15,7 +15,7 @@ use Rattle.gh_marks.specs.Colours.{Cycle, Shared, Taken}
 use Rattle.gh_marks.specs.Good.{Good}
 use Rattle.gh_marks.specs.Knows.{KnowsObjects}
 use Rattle.gh_marks.specs.Laws.{EachHandFollows, EachHandLasts, EachOwnMoveLeaves, EachStepGoesByMoves, WhatIsKeptGoesOn}
-use Rattle.gh_marks.specs.Moves.{IsQuiet, Keeps, landing, lands_by, lands_still, moved, Others, Quiet, Steps}
+use Rattle.gh_marks.specs.Moves.{IsQuietInMarking, Keeps, landing, lands_by, lands_still, moved, Others, Quiet, Steps}
 use Rattle.gh_marks.specs.Seats.{Hands, nothing}
 use Rattle.gh_scan.specs.declared.scan.ScanStage.{ScanStage}
 use Rattle.gh_scan.specs.declared.scan.ScanStage.TheVariants as scan_stage
@@ -46,7 +46,7 @@ module _ (k : Known) (z : Cycle) (a : ℕ) where
     at_stage : (stage : AssistStage) → StageFacts z a t x.held stage → Facts z a t (assist.at_stage x stage)
     at_stage stage f = record { layout_is = layout_is; seat_is = seat_is; stage_is = f }
 
-    owes : Facts z a t (assist.owes x)
+    owes : Facts z a t (assist.draws_if_owed x)
     owes = by_owes (Facts z a t) x (λ e. at_stage at.Ended h) (at_stage (at.Drawing (draw.opening x.layout x.owed)) h)
 
     begins_take : buffer_facts.TakeFacts z a t nothing (take.opening x.layout x.seat x.held)
@@ -65,13 +65,13 @@ module _ (k : Known) (z : Cycle) (a : ℕ) where
     still c n f = lands_still z a s s.words (λ t. Keeps z a s t × Facts z a t n) refl ((k.go_on z a).stays s, f)
 
     -- a step that marking does not read
-    quiet_step : (held : Option Held) (step : Ask) (n : Assisting) → IsQuiet s step → Hands a s (holding nothing held) → ((t : Shared) → Hands a t (holding nothing held) → Facts z a t n) → Leads step n
+    quiet_step : (held : Option Held) (step : Ask) (n : Assisting) → IsQuietInMarking s step → Hands a s (holding nothing held) → ((t : Shared) → Hands a t (holding nothing held) → Facts z a t n) → Leads step n
     quiet_step held step n may h f = lands_by z a s (effect s.words step) (λ t. Keeps z a s t × Facts z a t n) (Quiet step) may refl
         (k.leave z a s (Quiet step) good may tt, f (moved z a s (Quiet step)) ((k.follow z a s (holding nothing held) good h).quiet step may))
 
     module _ (x : Assisting) (layout_is : x.layout ≡ z.arena.layout) (seat_is : x.seat ≡ a) where
       -- it draws on the bank
-      bank_is_aside : (d : draw.Drawing) (p : DrawStage) → IsQuiet s (draw.asks_at d p)
+      bank_is_aside : (d : draw.Drawing) (p : DrawStage) → IsQuietInMarking s (draw.asks_at d p)
       bank_is_aside d drawing.LoadBank = tt
       bank_is_aside d (drawing.Swap bank) = tt
       bank_is_aside d (drawing.Ended drawn) = tt

@@ -4,7 +4,7 @@ use Rattle.std.specs.Prelude.{is_none}
 use Rattle.gh_base.specs.declared.held.Held.{Held}
 use Rattle.gh_base.specs.declared.layout.Layout.{Layout}
 use Rattle.gh_credit.specs.Drawing as draw
-use Rattle.gh_credit.specs.Drawing.{drawn_by, DrawsCredit, LeavesOrDraws, words_of}
+use Rattle.gh_credit.specs.Drawing.{drawn_by, DrawsCredit, LeavesOrDraws, words_given}
 use Rattle.gh_scan.specs.Listing as scan
 use Rattle.gh_wbuf.specs.declared.take_entry.TakeStage.TheVariants as taking
 use Rattle.gh_wbuf.specs.EntryTaking as take
@@ -12,7 +12,7 @@ use Rattle.gh_assist.specs.declared.assist.AssistStage.{AssistStage}
 use Rattle.gh_assist.specs.declared.assist.AssistStage.TheVariants as at
 use Rattle.gh_assist.specs.Listing as assist
 use Rattle.gh_assist.specs.Listing.{Assisting}
-use Rattle.gh_assist.specs.Paying.{AddsDebt, AssistsPay, FindsNone, LoadsDebt, scanned_by}
+use Rattle.gh_assist.specs.Paying.{AddsDebt, AssistsPay, FindsNoGreyObject, LoadsDebt, scanned_by}
 use Rattle.gh_assist.specs.Sound.{IsSound, SoundStage}
 use Rattle.gh_assist.proofs.Choices.{by_owes, by_pays}
 use Rattle.gh_assist.proofs.Writing.{draws_none, leaves_bank, scans, takes}
@@ -25,7 +25,7 @@ takes_busy l seat (Some h) = by (ltb 0 h.count) where
   by true = refl
   by false = refl
 
-owes_sound : (x : Assisting) → IsSound (assist.owes x)
+owes_sound : (x : Assisting) → IsSound (assist.draws_if_owed x)
 owes_sound x = by_owes IsSound x (λ e. tt) (refl, refl)
 
 pays_sound : (x : Assisting) → IsSound (assist.pays x)
@@ -53,11 +53,11 @@ sound_at x (at.Scanning m) found s = scan_sound x (scan.goes m found) (scan.give
 sound_at x at.Ended found s = tt
 
 -- What is owed, and what is spent, behind each step.
-drawn_owed : (x : Assisting) (d : draw.Drawing) (out : Option ℕ) (drawn : ℕ) → words_of out ≡ drawn → (assist.after_draw x d out).owed ≡ x.owed - (drawn + 0)
+drawn_owed : (x : Assisting) (d : draw.Drawing) (out : Option ℕ) (drawn : ℕ) → words_given out ≡ drawn → (assist.after_draw x d out).owed ≡ x.owed - (drawn + 0)
 drawn_owed x d None drawn e = let none : 0 ≡ drawn = e in omega (arith, none)
 drawn_owed x d (Some words) drawn e = let some : words ≡ drawn = e in omega (arith, some)
 
-drawn_spent : (x : Assisting) (d : draw.Drawing) (out : Option ℕ) (drawn : ℕ) → words_of out ≡ drawn → x.spent + drawn < 2 ^ 64 → (assist.after_draw x d out).spent ≡ x.spent + drawn
+drawn_spent : (x : Assisting) (d : draw.Drawing) (out : Option ℕ) (drawn : ℕ) → words_given out ≡ drawn → x.spent + drawn < 2 ^ 64 → (assist.after_draw x d out).spent ≡ x.spent + drawn
 drawn_spent x d None drawn e lt = let none : 0 ≡ drawn = e in omega (arith, none)
 drawn_spent x d (Some words) drawn e lt = let some : words ≡ drawn = e in omega (arith, some, lt)
 
@@ -71,7 +71,7 @@ taken_spent x t None drawn e = omega (arith, e)
 taken_spent x t (Some None) drawn e = omega (arith, e)
 taken_spent x t (Some (Some reference)) drawn e = omega (arith, e)
 
-scanned_owed : (x : Assisting) (m : scan.Scanning) (out : Option ℕ) (drawn : ℕ) → drawn ≡ 0 → (assist.after_scan x m out).owed ≡ x.owed - (drawn + words_of out)
+scanned_owed : (x : Assisting) (m : scan.Scanning) (out : Option ℕ) (drawn : ℕ) → drawn ≡ 0 → (assist.after_scan x m out).owed ≡ x.owed - (drawn + words_given out)
 scanned_owed x m None drawn e = omega (arith, e)
 scanned_owed x m (Some words) drawn e = omega (arith, e)
 
@@ -83,7 +83,7 @@ scanned_spent x m (Some words) drawn e = omega (arith, e)
 abbrev EndsPaid : Assisting → Type 0
 EndsPaid x = assist.is_busy x.stage ≡ false → x.owed ≡ 0
 
-owes_ends : (x : Assisting) → EndsPaid (assist.owes x)
+owes_ends : (x : Assisting) → EndsPaid (assist.draws_if_owed x)
 owes_ends x = by_owes EndsPaid x (λ z e. z) (λ e. absurd (cc))
 
 pays_ends : (x : Assisting) → EndsPaid (assist.pays x)
@@ -103,7 +103,7 @@ take_ends x t None e = absurd (cc)
 take_ends x t (Some None) e = refl
 take_ends x t (Some (Some reference)) e = absurd (cc)
 
-ends_at : (x : Assisting) (p : AssistStage) (found : ℕ) → assist.is_busy p ≡ true → assist.is_busy (assist.goes_at x p found).stage ≡ false → ((assist.goes_at x p found).owed ≡ 0) ⊎ FindsNone p found
+ends_at : (x : Assisting) (p : AssistStage) (found : ℕ) → assist.is_busy p ≡ true → assist.is_busy (assist.goes_at x p found).stage ≡ false → ((assist.goes_at x p found).owed ≡ 0) ⊎ FindsNoGreyObject p found
 ends_at x at.LoadWork found b e = absurd (cc)
 ends_at x (at.LoadSlack work) found b e = inl (owes_ends (assist.owing x work found) e)
 ends_at x (at.Drawing d) found b e = inl (draw_ends x (draw.goes d found) (draw.gives d found) e)

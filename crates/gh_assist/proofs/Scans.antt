@@ -18,7 +18,7 @@ use Rattle.gh_base.specs.Steps.{cell_of}
 use Rattle.gh_scan.specs.declared.scan.ScanStage.{ScanStage}
 use Rattle.gh_shade.specs.declared.shade.Shaded.{Shaded}
 use Rattle.gh_shade.specs.declared.shade.ShadeStage.{ShadeStage}
-use Rattle.gh_assist.specs.Within.{HasRoom, RoomWithin, ScanStageWithin, ScanWithin, ShadeWithin}
+use Rattle.gh_assist.specs.Within.{HasRoomForEntry, RoomWithin, ScanStageWithin, ScanWithin, ShadeWithin}
 use Rattle.gh_assist.proofs.Buffers.{room_first, room_gives, room_goes, room_holds, room_within}
 
 -- a reference that is taken modulo the heap's words is one
@@ -36,10 +36,10 @@ module _ (l : Layout) where
   shade_first reference held r h = record { layout_is = refl; reference = r; held = h; stage = tt }
 
   -- it is told a buffer with room
-  pub shade_told : (s : shade.Shading) (h : Held) → ShadeWithin l s → HasRoom l (Some h) → ShadeWithin l (shade.told_room s h)
+  pub shade_told : (s : shade.Shading) (h : Held) → ShadeWithin l s → HasRoomForEntry l (Some h) → ShadeWithin l (shade.told_room s h)
   shade_told s h w g = record { layout_is = w.layout_is; reference = w.reference; held = g.0; stage = g.1 }
 
-  marked : (held : Option Held) (ends : Bool) → FitsStage held (shade.after_mark held ends)
+  marked : (held : Option Held) (ends : Bool) → FitsStage held (shade.follows_mark held ends)
   marked held true = tt
   marked None false = tt
   marked (Some h) false = by (ltb h.count ENTRIES) refl where
@@ -109,13 +109,13 @@ module _ (l : Layout) where
   after_shade s sh (Some shaded.Done) w o = behind (record s { held = sh.held }) w.layout_is w.reference o.held
   after_shade s sh (Some shaded.WantsRoom) w o = record { layout_is = w.layout_is; reference = w.reference; held = w.held; stage = (o, subst (λ (m : Layout). RoomWithin l (room.opening m s.seat sh.held)) (sym w.layout_is) (room_first l s.seat sh.held o.held)) }
 
-  after_room : (s : scan.Scanning) (sh : shade.Shading) (r : room.RoomFinding) (out : Option Held) → ScanWithin l s → ShadeWithin l sh → RoomWithin l r → HasRoom l out → ScanWithin l (scan.after_room s sh r out)
+  after_room : (s : scan.Scanning) (sh : shade.Shading) (r : room.RoomFinding) (out : Option Held) → ScanWithin l s → ShadeWithin l sh → RoomWithin l r → HasRoomForEntry l out → ScanWithin l (scan.after_room s sh r out)
   after_room s sh r None w o x g = record { layout_is = w.layout_is; reference = w.reference; held = w.held; stage = (o, x) }
   after_room s sh r (Some h) w o x g = record { layout_is = w.layout_is; reference = w.reference; held = w.held; stage = shade_told sh h o g }
 
   scan_goes_at : (s : scan.Scanning) (p : ScanStage) (found : ℕ) → ScanWithin l s → ScanStageWithin l p → ScanWithin l (scan.goes_at s p found)
   scan_goes_at s scan_at.LoadPage found w o = record { layout_is = w.layout_is; reference = w.reference; held = w.held; stage = tt }
-  scan_goes_at s scan_at.LoadBitmap found w o = by (scan.is_pointer found s.at) where
+  scan_goes_at s scan_at.LoadBitmap found w o = by (scan.bit_says_pointer found s.at) where
     by : (b : Bool) → ScanWithin l (cond b (record s { bits = found; stage = scan_at.LoadField }) (scan.behind (record s { bits = found })))
     by true = record { layout_is = w.layout_is; reference = w.reference; held = w.held; stage = tt }
     by false = behind (record s { bits = found }) w.layout_is w.reference w.held

@@ -14,7 +14,7 @@ use Rattle.gh_assist.specs.declared.assist.AssistStage.{AssistStage}
 use Rattle.gh_assist.specs.declared.assist.AssistStage.TheVariants as at
 use Rattle.gh_assist.specs.Listing as assist
 use Rattle.gh_assist.specs.Listing.{Assisting}
-use Rattle.gh_assist.specs.Within.{AssistsAreWithin, AssistWithin, IsTaken, ScanWithin, StageWithin, TakeWithin, TakingAndScanningAreWithin}
+use Rattle.gh_assist.specs.Within.{AssistsAreWithin, AssistWithin, ScanWithin, StageWithin, TakenIsReference, TakeWithin, TakingAndScanningAreWithin}
 use Rattle.gh_assist.proofs.Buffers.{room_first, room_gives, room_goes, room_within, take_first, take_goes, take_holds, take_within, taken}
 use Rattle.gh_assist.proofs.Choices.{by_owes, by_pays}
 use Rattle.gh_assist.proofs.Scans.{referred, scan_first, scan_goes, scan_holds, scan_within, shade_first, shade_goes, shade_told, shade_within}
@@ -51,13 +51,13 @@ module _ (l : Layout) where
   on : (x : Assisting) (stage : AssistStage) → x.layout ≡ l → IsHeld l x.held → StageWithin l stage → AssistWithin l (assist.at_stage x stage)
   on x stage e h s = record { layout_is = e; held = h; stage = s }
 
-  owes : (x : Assisting) → x.layout ≡ l → IsHeld l x.held → AssistWithin l (assist.owes x)
+  owes : (x : Assisting) → x.layout ≡ l → IsHeld l x.held → AssistWithin l (assist.draws_if_owed x)
   owes x e h = by_owes (AssistWithin l) x (λ z. on x at.Ended e h tt) (on x (at.Drawing (draw.opening x.layout x.owed)) e h tt)
 
   takes_first : (m : Layout) (seat : ℕ) (held : Option Held) → m ≡ l → IsHeld l held → TakeWithin l (take.opening m seat held)
   takes_first m seat held e h = subst (λ (k : Layout). TakeWithin l (take.opening k seat held)) (sym e) (take_first l seat held h)
 
-  scans_first : (m : Layout) (seat reference : ℕ) (held : Option Held) → m ≡ l → IsTaken l (Some (Some reference)) → IsHeld l held → ScanWithin l (scan.opening m seat reference held)
+  scans_first : (m : Layout) (seat reference : ℕ) (held : Option Held) → m ≡ l → TakenIsReference l (Some (Some reference)) → IsHeld l held → ScanWithin l (scan.opening m seat reference held)
   scans_first m seat reference held e r h = subst (λ (k : Layout). ScanWithin l (scan.opening k seat reference held)) (sym e) (scan_first l seat reference held r h)
 
   pays : (x : Assisting) → x.layout ≡ l → IsHeld l x.held → AssistWithin l (assist.pays x)
@@ -68,7 +68,7 @@ module _ (l : Layout) where
     after_draw d None = on x (at.Drawing d) e h tt
     after_draw d (Some drawn) = pays (assist.drawn_for x drawn) e h
 
-    after_take : (t : take.EntryTaking) (out : Option (Option ℕ)) → TakeWithin l t → IsTaken l out → AssistWithin l (assist.after_take x t out)
+    after_take : (t : take.EntryTaking) (out : Option (Option ℕ)) → TakeWithin l t → TakenIsReference l out → AssistWithin l (assist.after_take x t out)
     after_take t None s r = on x (at.Taking t) e h s
     after_take t (Some None) s r = record { layout_is = e; held = take_holds l t s; stage = tt }
     after_take t (Some (Some reference)) s r = record { layout_is = e; held = take_holds l t s; stage = scans_first x.layout x.seat reference (take.held_at t.stage) e r (take_holds l t s) }

@@ -52,8 +52,8 @@ asks_at (Scanning s) = scan.asks s
 asks_at Ended = Load cell.Touch
 
 -- where something is owed it draws on the bank
-abbrev pub owes : Assisting → Assisting
-owes x = at_stage x (if x.owed == 0 then Ended else Drawing (draw.opening x.layout x.owed))
+abbrev pub draws_if_owed : Assisting → Assisting
+draws_if_owed x = at_stage x (if x.owed == 0 then Ended else Drawing (draw.opening x.layout x.owed))
 
 -- while something is owed behind a payment it takes a grey object
 abbrev pub pays : Assisting → Assisting
@@ -64,7 +64,7 @@ abbrev pub owing : Assisting → (work found : ℕ) → Assisting
 owing x work found = record x { owed = (x.owed + debt x.bytes work (slack_in found)) % 2 ^ 64 }
 
 abbrev pub with_debt : Assisting → (work found : ℕ) → Assisting
-with_debt x work found = owes (owing x work found)
+with_debt x work found = draws_if_owed (owing x work found)
 
 -- the number of the words that were drawn stands still at its type's end
 abbrev pub counted : (spent drawn : ℕ) → ℕ

@@ -8,14 +8,14 @@ use Rattle.gh_base.specs.declared.cell.Ask.TheVariants.{Load}
 use Rattle.gh_base.specs.declared.cell.Cell.TheVariants as cell
 use Rattle.gh_base.specs.declared.held.Held.{Held}
 use Rattle.gh_base.specs.declared.layout.Layout.{Layout}
-use Rattle.gh_credit.specs.Drawing.{drawn_by, LeavesOrDraws, words_of}
+use Rattle.gh_credit.specs.Drawing.{drawn_by, LeavesOrDraws, words_given}
 use Rattle.gh_pacer.specs.Pacing.{debt}
 use Rattle.gh_scan.specs.Listing as scan
 use Rattle.gh_wbuf.specs.EntryTaking as take
 
 -- the words of the object whose scan ends with the step
 abbrev pub scanned_by : AssistStage → (found : ℕ) → ℕ
-scanned_by (Scanning s) found = words_of (scan.gives s found)
+scanned_by (Scanning s) found = words_given (scan.gives s found)
 scanned_by _ found = 0
 
 -- the step loads the slack
@@ -24,9 +24,9 @@ AddsDebt (LoadSlack work) = Unit {0}
 AddsDebt _ = ⊥
 
 -- no buffer has a grey object
-abbrev pub FindsNone : AssistStage → (found : ℕ) → Type 0
-FindsNone (Taking t) found = take.gives t found ≡ Some None
-FindsNone _ found = ⊥
+abbrev pub FindsNoGreyObject : AssistStage → (found : ℕ) → Type 0
+FindsNoGreyObject (Taking t) found = take.gives t found ≡ Some None
+FindsNoGreyObject _ found = ⊥
 
 -- the debt of an object is that of its bytes, by the work and the slack as it has loaded them
 pub record LoadsDebt (x : Assisting) : Type 0 where
@@ -44,4 +44,4 @@ pub record AssistsPay : Type 0 where
   -- and it writes the bank by draws alone
   pub draws : (x : Assisting) → LeavesOrDraws (asks x)
   -- it ends only where nothing is owed, or no buffer has a grey object
-  pub ends : (x : Assisting) (found : ℕ) → IsSound x → is_busy x.stage ≡ true → is_busy (goes x found).stage ≡ false → ((goes x found).owed ≡ 0) ⊎ FindsNone x.stage found
+  pub ends : (x : Assisting) (found : ℕ) → IsSound x → is_busy x.stage ≡ true → is_busy (goes x found).stage ≡ false → ((goes x found).owed ≡ 0) ⊎ FindsNoGreyObject x.stage found

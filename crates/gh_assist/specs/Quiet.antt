@@ -25,5 +25,5 @@ WritesSo (ask.Swap c old new) = IsWritten c
 
 pub record AssistsAreQuiet : Type 0 where
   pub writes : (x : Assisting) → WritesSo (asks x)
-  pub handshake : (x : Assisting) → handshake.IsQuiet (asks x)
+  pub handshake : (x : Assisting) → handshake.IsQuietInHandshake (asks x)
   pub rights : (x : Assisting) → rights.IsQuiet (asks x)

@@ -41,23 +41,23 @@ pub record RoomWithin (l : Layout) (r : room.RoomFinding) : Type 0 where
   pub stage : RoomStageWithin l r.stage
 
 -- an entry that is taken is a reference
-abbrev pub IsTaken : Layout → Option (Option ℕ) → Type 0
-IsTaken l (Some (Some reference)) = IsReference l reference
-IsTaken l _ = Unit {0}
+abbrev pub TakenIsReference : Layout → Option (Option ℕ) → Type 0
+TakenIsReference l (Some (Some reference)) = IsReference l reference
+TakenIsReference l _ = Unit {0}
 
 abbrev pub TakeStageWithin : Layout → TakeStage → Type 0
 TakeStageWithin l (take_at.Try t) = TryWithin l t × (try.is_busy t.stage ≡ true)
 TakeStageWithin l (take_at.Take h) = FitsBuffers l h
-TakeStageWithin l (take_at.Ended held entry) = IsHeld l held × IsTaken l (Some entry)
+TakeStageWithin l (take_at.Ended held entry) = IsHeld l held × TakenIsReference l (Some entry)
 
 pub record TakeWithin (l : Layout) (t : take.EntryTaking) : Type 0 where
   pub layout_is : t.layout ≡ l
   pub stage : TakeStageWithin l t.stage
 
 -- a buffer with room for an entry, if one is given
-abbrev pub HasRoom : Layout → Option Held → Type 0
-HasRoom l None = Unit {0}
-HasRoom l (Some h) = FitsBuffers l h × (h.count < ENTRIES)
+abbrev pub HasRoomForEntry : Layout → Option Held → Type 0
+HasRoomForEntry l None = Unit {0}
+HasRoomForEntry l (Some h) = FitsBuffers l h × (h.count < ENTRIES)
 
 pub record ShadeWithin (l : Layout) (s : shade.Shading) : Type 0 where
   pub layout_is : s.layout ≡ l
@@ -81,19 +81,19 @@ pub record TakingAndScanningAreWithin : Type 0 where
   -- looking for room
   pub room_first : (l : Layout) (seat : ℕ) (held : Option Held) → IsHeld l held → RoomWithin l (room.opening l seat held)
   pub room_goes : (l : Layout) (r : room.RoomFinding) (found : ℕ) → RoomWithin l r → RoomWithin l (room.goes r found)
-  pub room_gives : (l : Layout) (r : room.RoomFinding) (found : ℕ) → RoomWithin l r → HasRoom l (room.gives r found)
+  pub room_gives : (l : Layout) (r : room.RoomFinding) (found : ℕ) → RoomWithin l r → HasRoomForEntry l (room.gives r found)
   pub room_within : (l : Layout) (r : room.RoomFinding) → RoomWithin l r → InRange l (cell_of (room.asks r))
   -- taking an entry
   pub take_first : (l : Layout) (seat : ℕ) (held : Option Held) → IsHeld l held → TakeWithin l (take.opening l seat held)
   pub take_goes : (l : Layout) (t : take.EntryTaking) (found : ℕ) → TakeWithin l t → TakeWithin l (take.goes t found)
-  pub taken : (l : Layout) (t : take.EntryTaking) (found : ℕ) → TakeWithin l t → IsTaken l (take.gives t found)
+  pub taken : (l : Layout) (t : take.EntryTaking) (found : ℕ) → TakeWithin l t → TakenIsReference l (take.gives t found)
   pub take_holds : (l : Layout) (t : take.EntryTaking) → TakeWithin l t → IsHeld l (take.held_at t.stage)
   pub take_within : (l : Layout) (t : take.EntryTaking) → TakeWithin l t → InRange l (cell_of (take.asks t))
   -- a found word that is taken modulo the heap's words is a reference
   pub referred : (l : Layout) (found : ℕ) → 1 ≤ l.pages → IsReference l (found % (1024 * l.pages) + 1)
   -- shading
   pub shade_first : (l : Layout) (reference : ℕ) (held : Option Held) → IsReference l reference → IsHeld l held → ShadeWithin l (shade.opening l reference held)
-  pub shade_told : (l : Layout) (s : shade.Shading) (h : Held) → ShadeWithin l s → HasRoom l (Some h) → ShadeWithin l (shade.told_room s h)
+  pub shade_told : (l : Layout) (s : shade.Shading) (h : Held) → ShadeWithin l s → HasRoomForEntry l (Some h) → ShadeWithin l (shade.told_room s h)
   pub shade_goes : (l : Layout) (s : shade.Shading) (found : ℕ) → ShadeWithin l s → ShadeWithin l (shade.goes s found)
   pub shade_within : (l : Layout) (s : shade.Shading) → ShadeWithin l s → InRange l (cell_of (shade.asks s))
   -- the scan of an object

@@ -1,7 +1,7 @@
 //! The assist as a machine of single atomic steps.
 
 ghost use Rattle.std.specs.Prelude.{◌≡◌, ◌^◌, ◌<◌, ◌≤◌, true};
-ghost use Rattle.gh_assist.specs.Listing.{given, goes_at, held_at, is_busy, opening, owes, pays, slack_in, with_debt, work_in};
+ghost use Rattle.gh_assist.specs.Listing.{draws_if_owed, given, goes_at, held_at, is_busy, opening, pays, slack_in, with_debt, work_in};
 ghost use Rattle.gh_assist.specs.Sound.{FitsSlack};
 ghost use Rattle.gh_base.specs.Cells.{seats_of};
 ghost use Rattle.gh_base.specs.Holding.{IsHeld};
@@ -141,7 +141,7 @@ impl Assist {
 
     /// Goes on where the debt is known: where something is owed it draws on the bank.
     fn owes(&mut self)
-        ensures { self.new ≡ owes self.old }
+        ensures { self.new ≡ draws_if_owed self.old }
     {
         self.stage = if self.owed == 0 {
             AssistStage::Ended

@@ -11,8 +11,8 @@ use Rattle.gh_marks.specs.Laws.{EachFactLasts, EachHandFollows, EachHandLasts, E
 use Rattle.gh_marks.specs.Moves as move
 use Rattle.gh_marks.specs.Moves.{BehindBarrier, Keeps, Lands, Others, Steps, Went, landing, landing_on, lands_by, lands_still, moved}
 use Rattle.gh_marks.specs.Seats.{Hands, InHand}
-use Rattle.gh_barrier.specs.Facts.{Facts, IsCell, IsKnown, put_of, StageFacts, Stands, WritesByMoves}
-use Rattle.gh_barrier.proofs.Vocabulary.{after_new, after_old, Ask, asks_at, at_stage, behind_old, bitmap_words, Cell, cell_at, cell_of, Done, effect, Ended, Field, given_at, Global, goes, goes_at, HasTwo, Held, in_hand, LoadOld, mark_words, PointerCell, put, read_as, Shaded, ShadeNew, ShadeOld, shades_new, shades_old, Store, WantsRoom, with_old, word_of, WriteStage, Writing}
+use Rattle.gh_barrier.specs.Facts.{Facts, IsCell, IsKnownPointer, OldValueStands, put_of, StageFacts, WritesByMoves}
+use Rattle.gh_barrier.proofs.Vocabulary.{after_new, after_old, Ask, asks_at, at_stage, behind_old, bitmap_words, Cell, cell_at, cell_of, Done, effect, Ended, Field, given_at, Global, goes, goes_at, HasTwo, Held, in_hand, LoadOld, mark_words, pointer_word, PointerCell, put, read_as, Shaded, ShadeNew, ShadeOld, shades_new, shades_old, Store, WantsRoom, with_old, WriteStage, Writing}
 use Rattle.gh_barrier.proofs.Room.{held-stays, never-wants, place-of, place-then}
 use Rattle.gh_shade.specs.Facts as shade_facts
 use Rattle.gh_shade.specs.Listing.{object_of}
@@ -36,7 +36,7 @@ module _ (k : Known) (z : Cycle) (a : ℕ) (s t : Shared) (keeps : Keeps z a s t
   cell-kept (Field x) h = record { o = h.o; k = h.k; at_is = h.at_is; known = keeps.since h.o h.known; pointer = last.pointer h.o h.k h.known h.pointer }
   cell-kept (Global i) h = tt
 
-  known-kept : (pointer : Option ℕ) → IsKnown s pointer → IsKnown t pointer
+  known-kept : (pointer : Option ℕ) → IsKnownPointer s pointer → IsKnownPointer t pointer
   known-kept None h = tt
   known-kept (Some r) h = (h.0, keeps.since (object_of r) h.1)
 
@@ -45,9 +45,9 @@ module _ (k : Known) (z : Cycle) (a : ℕ) (s t : Shared) (keeps : Keeps z a s t
   word-kept (Field x) h = subst (λ (i : ℕ). (t.words (cell.Field i) ≡ s.words (cell.Field i)) ⊎ IsClean (mark_words t.words) (t.words (cell.Field i))) (sym h.at_is) (keeps.fields h.o h.k h.known h.pointer)
   word-kept (Global i) h = keeps.globals i
 
-  stands-kept : (at : PointerCell) (reference : ℕ) → IsCell s at → Stands s (cell_at at) reference → Stands t (cell_at at) reference
+  stands-kept : (at : PointerCell) (reference : ℕ) → IsCell s at → OldValueStands s (cell_at at) reference → OldValueStands t (cell_at at) reference
   stands-kept at reference is h = by (word-kept at is) h where
-    by : (t.words (cell_at at) ≡ s.words (cell_at at)) ⊎ IsClean (mark_words t.words) (t.words (cell_at at)) → Stands s (cell_at at) reference → Stands t (cell_at at) reference
+    by : (t.words (cell_at at) ≡ s.words (cell_at at)) ⊎ IsClean (mark_words t.words) (t.words (cell_at at)) → OldValueStands s (cell_at at) reference → OldValueStands t (cell_at at) reference
     by (inr c) h = inr c
     by (inl e) (inl f) = inl (e ∙ f)
     by (inl e) (inr c) = inr (λ p x. keeps.marks p (c p (sym e ∙ x)))
@@ -67,29 +67,29 @@ marked-clean : (s : Shared) (r : ℕ) → 1 ≤ r → IsMarked (mark_words s.wor
 marked-clean s r some m o is = let same : object_of r ≡ o = omega arith in subst (λ (x : ℕ). IsMarked (mark_words s.words) x) same m
 
 -- the cell is clean once what was loaded is marked
-shaded-clean : (s : Shared) (c : Cell) (r : ℕ) → 1 ≤ r → IsMarked (mark_words s.words) (object_of r) → Stands s c r → IsClean (mark_words s.words) (s.words c)
+shaded-clean : (s : Shared) (c : Cell) (r : ℕ) → 1 ≤ r → IsMarked (mark_words s.words) (object_of r) → OldValueStands s c r → IsClean (mark_words s.words) (s.words c)
 shaded-clean s c r some m (inl e) = subst (λ (v : ℕ). IsClean (mark_words s.words) v) (sym e) (marked-clean s r some m)
 shaded-clean s c r some m (inr d) = d
 
-since-of : (s : Shared) (pointer : Option ℕ) → IsKnown s pointer → IsSince s.since (word_of pointer)
+since-of : (s : Shared) (pointer : Option ℕ) → IsKnownPointer s pointer → IsSince s.since (pointer_word pointer)
 since-of s None h o is = absurd (omega arith)
 since-of s (Some r) h o is = let some : 1 ≤ r = h.0 in let same : object_of r ≡ o = omega arith in subst (λ (x : ℕ). s.since x ≡ true) same h.1
 
 module _ (k : Known) (z : Cycle) (a : ℕ) (s : Shared) (rest : InHand) where
   -- the old value is shaded, and the new one comes next
-  new-facts : (w : Writing) → w.layout ≡ z.arena.layout → IsCell s w.at → IsKnown s w.pointer → HasPlace w.held → IsClean (mark_words s.words) (s.words (cell_at w.at)) → Hands a s (in_hand rest w.held None) → Facts z a s rest (behind_old w)
+  new-facts : (w : Writing) → w.layout ≡ z.arena.layout → IsCell s w.at → IsKnownPointer s w.pointer → HasPlace w.held → IsClean (mark_words s.words) (s.words (cell_at w.at)) → Hands a s (in_hand rest w.held None) → Facts z a s rest (behind_old w)
   new-facts w layout_is is known place clean x = by w.pointer refl where
     by : (p : Option ℕ) → w.pointer ≡ p → Facts z a s rest (shades_new w p)
-    by None e = record { layout_is = layout_is; is_cell = is; known = known; stage_is = (clean, nil-clean s (word_of w.pointer) (ap word_of e), x) }
+    by None e = record { layout_is = layout_is; is_cell = is; known = known; stage_is = (clean, nil-clean s (pointer_word w.pointer) (ap pointer_word e), x) }
     by (Some r) e =
-        let is-known : IsKnown s (Some r) = subst (λ (p : Option ℕ). IsKnown s p) e known in
+        let is-known : IsKnownPointer s (Some r) = subst (λ (p : Option ℕ). IsKnownPointer s p) e known in
         record { layout_is = layout_is; is_cell = is; known = known; stage_is = (place, clean, e, k.shade.begins z a s rest w.layout r w.held is-known.0 is-known.1 x, refl) }
 
   -- the new value is shaded, and the store comes next
-  store-facts : (w : Writing) (r : ℕ) → w.layout ≡ z.arena.layout → IsCell s w.at → IsKnown s w.pointer → IsClean (mark_words s.words) (s.words (cell_at w.at)) → w.pointer ≡ Some r → 1 ≤ r → IsMarked (mark_words s.words) (object_of r) → Hands a s (in_hand rest w.held None) → Facts z a s rest (at_stage w Store)
-  store-facts w r layout_is is known clean e some m x = record { layout_is = layout_is; is_cell = is; known = known; stage_is = (clean, subst (λ (v : ℕ). IsClean (mark_words s.words) v) (sym (ap word_of e)) (marked-clean s r some m), x) }
+  store-facts : (w : Writing) (r : ℕ) → w.layout ≡ z.arena.layout → IsCell s w.at → IsKnownPointer s w.pointer → IsClean (mark_words s.words) (s.words (cell_at w.at)) → w.pointer ≡ Some r → 1 ≤ r → IsMarked (mark_words s.words) (object_of r) → Hands a s (in_hand rest w.held None) → Facts z a s rest (at_stage w Store)
+  store-facts w r layout_is is known clean e some m x = record { layout_is = layout_is; is_cell = is; known = known; stage_is = (clean, subst (λ (v : ℕ). IsClean (mark_words s.words) v) (sym (ap pointer_word e)) (marked-clean s r some m), x) }
 
-  behind : (w : Writing) → IsKnown s w.pointer → StageFacts z a s rest w Store → BehindBarrier s (s.words (cell_at w.at)) (word_of w.pointer)
+  behind : (w : Writing) → IsKnownPointer s w.pointer → StageFacts z a s rest w Store → BehindBarrier s (s.words (cell_at w.at)) (pointer_word w.pointer)
   behind w known f = record { old = f.0; new = f.1; since = since-of s w.pointer known }
 
   -- the store is this move
@@ -97,7 +97,7 @@ module _ (k : Known) (z : Cycle) (a : ℕ) (s : Shared) (rest : InHand) where
   stores-by (Field x) v b = lands_by z a s (put s.words (cell.Field x) v) (λ t. t ≡ moved z a s (move.PutField x v)) (move.PutField x v) b refl refl
   stores-by (Global i) v b = lands_by z a s (put s.words (cell.Global i) v) (λ t. t ≡ moved z a s (move.PutGlobal i v)) (move.PutGlobal i v) b refl refl
 
-module _ (k : Known) (z : Cycle) (a : ℕ) (s : Shared) (rest : InHand) (g : Good z s) (objects : KnowsObjects z s) (w : Writing) (layout_is : w.layout ≡ z.arena.layout) (is : IsCell s w.at) (known : IsKnown s w.pointer) where
+module _ (k : Known) (z : Cycle) (a : ℕ) (s : Shared) (rest : InHand) (g : Good z s) (objects : KnowsObjects z s) (w : Writing) (layout_is : w.layout ≡ z.arena.layout) (is : IsCell s w.at) (known : IsKnownPointer s w.pointer) where
   abbrev c : Cell
   c = cell_at w.at
 
@@ -139,19 +139,19 @@ module _ (k : Known) (z : Cycle) (a : ℕ) (s : Shared) (rest : InHand) (g : Goo
     is-then : IsCell t w.at
     is-then = cell-kept k z a s t keeps w.at is
 
-    known-then : IsKnown t w.pointer
+    known-then : IsKnownPointer t w.pointer
     known-then = known-kept k z a s t keeps w.pointer known
 
     landed : (n : Writing) → Facts z a t rest n → Lands z a t t.words (λ u. Keeps z a s u × Facts z a u rest n)
     landed n f = lands_still z a t t.words (λ u. Keeps z a s u × Facts z a u rest n) refl (keeps, f)
 
-    old-after : (sh : shade.Shading) (f : ℕ) (out : Option Shaded) → shade.gives sh f ≡ out → shade.is_busy sh.stage ≡ true → HasTwo sh.held → Stands t c (shade.goes sh f).reference → shade_facts.Facts z a t rest (shade.goes sh f) →
+    old-after : (sh : shade.Shading) (f : ℕ) (out : Option Shaded) → shade.gives sh f ≡ out → shade.is_busy sh.stage ≡ true → HasTwo sh.held → OldValueStands t c (shade.goes sh f).reference → shade_facts.Facts z a t rest (shade.goes sh f) →
         Lands z a t t.words (λ u. Keeps z a s u × Facts z a u rest (after_old w (shade.goes sh f) out))
     old-after sh f None e busy two stands facts =
         let two-then : HasTwo (shade.goes sh f).held = subst (λ (h : Option Held). HasTwo h) (sym (held-stays sh f e)) two in
         landed (at_stage w (ShadeOld (shade.goes sh f))) (record { layout_is = layout_is; is_cell = is-then; known = known-then; stage_is = (two-then, stands, facts, ap is_none e) })
     old-after sh f (Some Done) e busy two stands facts =
-        let shaded : shade_facts.IsShaded a t rest (shade.goes sh f) = k.shade.ends z a t rest sh f e facts in
+        let shaded : shade_facts.ObjectIsShaded a t rest (shade.goes sh f) = k.shade.ends z a t rest sh f e facts in
         landed (behind_old (record w { held = (shade.goes sh f).held })) (new-facts k z a t rest (record w { held = (shade.goes sh f).held }) layout_is is-then known-then (place-then sh f two) (shaded-clean t c (shade.goes sh f).reference facts.some shaded.marked stands) shaded.hands)
     old-after sh f (Some WantsRoom) e busy two stands facts = absurd (never-wants sh f busy (place-of sh.held two) e)
 
@@ -161,15 +161,15 @@ module _ (k : Known) (z : Cycle) (a : ℕ) (s : Shared) (rest : InHand) (g : Goo
         let place-on : HasPlace (shade.goes sh f).held = subst (λ (h : Option Held). HasPlace h) (sym (held-stays sh f e)) place in
         landed (at_stage w (ShadeNew (shade.goes sh f))) (record { layout_is = layout_is; is_cell = is-then; known = known-then; stage_is = (place-on, clean, same, facts, ap is_none e) })
     new-after sh f (Some Done) e busy place clean same facts =
-        let shaded : shade_facts.IsShaded a t rest (shade.goes sh f) = k.shade.ends z a t rest sh f e facts in
+        let shaded : shade_facts.ObjectIsShaded a t rest (shade.goes sh f) = k.shade.ends z a t rest sh f e facts in
         landed (record w { held = (shade.goes sh f).held; stage = Store }) (store-facts k z a t rest (record w { held = (shade.goes sh f).held }) (shade.goes sh f).reference layout_is is-then known-then clean same facts.some shaded.marked shaded.hands)
     new-after sh f (Some WantsRoom) e busy place clean same facts = absurd (never-wants sh f busy place e)
 
-  shades-old : (sh : shade.Shading) → HasTwo sh.held → Stands s c sh.reference → shade_facts.Facts z a s rest sh → shade.is_busy sh.stage ≡ true → Leads (shade.asks sh) (goes_at w (ShadeOld sh) (s.words (cell_of (shade.asks sh))))
+  shades-old : (sh : shade.Shading) → HasTwo sh.held → OldValueStands s c sh.reference → shade_facts.Facts z a s rest sh → shade.is_busy sh.stage ≡ true → Leads (shade.asks sh) (goes_at w (ShadeOld sh) (s.words (cell_of (shade.asks sh))))
   shades-old sh two stands facts busy =
       let f : ℕ = s.words (cell_of (shade.asks sh)) in
       landing_on z a s (effect s.words (shade.asks sh)) (λ t. Keeps z a s t × shade_facts.Facts z a t rest (shade.goes sh f)) (λ u. Keeps z a s u × Facts z a u rest (after_old w (shade.goes sh f) (shade.gives sh f)))
-      (λ t went h. old-after t went h.0 sh f (shade.gives sh f) refl busy two (subst (λ (r : ℕ). Stands t c r) (sym (k.shade.same sh f)) (stands-kept k z a s t h.0 w.at sh.reference is stands)) h.1)
+      (λ t went h. old-after t went h.0 sh f (shade.gives sh f) refl busy two (subst (λ (r : ℕ). OldValueStands t c r) (sym (k.shade.same sh f)) (stands-kept k z a s t h.0 w.at sh.reference is stands)) h.1)
       (k.shade.keeps.own_step z a s rest sh g objects facts)
 
   shades-new : (sh : shade.Shading) → HasPlace sh.held → IsClean (mark_words s.words) (s.words c) → w.pointer ≡ Some sh.reference → shade_facts.Facts z a s rest sh → shade.is_busy sh.stage ≡ true → Leads (shade.asks sh) (goes_at w (ShadeNew sh) (s.words (cell_of (shade.asks sh))))
@@ -184,10 +184,10 @@ module _ (k : Known) (z : Cycle) (a : ℕ) (s : Shared) (rest : InHand) (g : Goo
   puts (Field x) v h b hands = lands_by z a s (put s.words (cell.Field x) v) (λ t. Keeps z a s t × Hands a t h) (move.PutField x v) b refl (k.leave z a s (move.PutField x v) g b tt, (k.follow z a s h g hands).put_field x v)
   puts (Global i) v h b hands = lands_by z a s (put s.words (cell.Global i) v) (λ t. Keeps z a s t × Hands a t h) (move.PutGlobal i v) b refl (k.leave z a s (move.PutGlobal i v) g b tt, (k.follow z a s h g hands).put_global i v)
 
-  stores : StageFacts z a s rest w Store → Leads (ask.Store c (word_of w.pointer)) (at_stage w Ended)
-  stores f = landing z a s (put s.words c (word_of w.pointer)) (λ t. Keeps z a s t × Hands a t (in_hand rest w.held None)) (λ t. Keeps z a s t × Facts z a t rest (at_stage w Ended))
+  stores : StageFacts z a s rest w Store → Leads (ask.Store c (pointer_word w.pointer)) (at_stage w Ended)
+  stores f = landing z a s (put s.words c (pointer_word w.pointer)) (λ t. Keeps z a s t × Hands a t (in_hand rest w.held None)) (λ t. Keeps z a s t × Facts z a t rest (at_stage w Ended))
       (λ t went h. (h.0, record { layout_is = layout_is; is_cell = cell-kept k z a s t h.0 w.at is; known = known-kept k z a s t h.0 w.pointer known; stage_is = h.1 }))
-      (puts w.at (word_of w.pointer) (in_hand rest w.held None) (behind k z a s rest w known f) f.2)
+      (puts w.at (pointer_word w.pointer) (in_hand rest w.held None) (behind k z a s rest w known f) f.2)
 
   own-at : (p : WriteStage) → Facts z a s rest w → StageFacts z a s rest w p → Leads (asks_at w p) (goes_at w p (s.words (cell_of (asks_at w p))))
   own-at LoadOld f x = loads x.0 x.1
@@ -201,7 +201,7 @@ module _ (k : Known) (z : Cycle) (a : ℕ) (s t : Shared) (rest : InHand) (w : W
   stage-lasts LoadOld f = (f.0, k.last z a s t (in_hand rest w.held None) o f.1)
   stage-lasts (ShadeOld sh) f = (f.0, stands-kept k z a s t o.keeps w.at sh.reference is f.1, k.shade.keeps.lasts z a s t rest sh o f.2, f.3)
   stage-lasts (ShadeNew sh) f = (f.0, clean-kept k z a s t o.keeps w.at is f.1, f.2, k.shade.keeps.lasts z a s t rest sh o f.3, f.4)
-  stage-lasts Store f = (clean-kept k z a s t o.keeps w.at is f.0, (k.facts z a s t o.keeps).clean (word_of w.pointer) f.1, k.last z a s t (in_hand rest w.held None) o f.2)
+  stage-lasts Store f = (clean-kept k z a s t o.keeps w.at is f.0, (k.facts z a s t o.keeps).clean (pointer_word w.pointer) f.1, k.last z a s t (in_hand rest w.held None) o f.2)
   stage-lasts Ended f = k.last z a s t (in_hand rest w.held None) o f
 
 -- it writes the same pointer to the same cell
@@ -248,7 +248,7 @@ writes-by-moves k = record {
   };
   begins = λ z a s rest at pointer held is known two x. record { layout_is = refl; is_cell = is; known = known; stage_is = (two, x) };
   stores = λ z a s rest w e f. behind k z a s rest w f.known (subst (λ (p : WriteStage). StageFacts z a s rest w p) e f.stage_is);
-  stores_by = λ z a s rest w e f. subst (λ (p : WriteStage). Steps z a s (asks_at w p) (λ t. t ≡ moved z a s (put_of w.at (word_of w.pointer)))) (sym e) (stores-by k z a s rest w.at (word_of w.pointer) (behind k z a s rest w f.known (subst (λ (p : WriteStage). StageFacts z a s rest w p) e f.stage_is)));
+  stores_by = λ z a s rest w e f. subst (λ (p : WriteStage). Steps z a s (asks_at w p) (λ t. t ≡ moved z a s (put_of w.at (pointer_word w.pointer)))) (sym e) (stores-by k z a s rest w.at (pointer_word w.pointer) (behind k z a s rest w f.known (subst (λ (p : WriteStage). StageFacts z a s rest w p) e f.stage_is)));
   ends = λ z a s rest w found e f. ended-then z a s rest (goes w found) (goes w found).stage e f.stage_is;
   same_cell = λ w found. (same-at w w.stage found).at;
   same_pointer = λ w found. (same-at w w.stage found).pointer;

@@ -5,7 +5,7 @@ use Rattle.gh_base.specs.declared.held.Held.{Held}
 use Rattle.gh_shade.specs.declared.shade.Shaded.TheVariants.{Done, WantsRoom}
 use Rattle.gh_shade.specs.declared.shade.ShadeStage.{ShadeStage}
 use Rattle.gh_shade.specs.declared.shade.ShadeStage.TheVariants.{SetMark, WaitForRoom, Enter}
-use Rattle.gh_shade.specs.Listing.{after_mark, given, given_at, gives, goes, goes_at, has_place, is_busy, is_whole, raised, Shading}
+use Rattle.gh_shade.specs.Listing.{follows_mark, given, given_at, gives, goes, goes_at, has_place, is_busy, is_whole, raised, Shading}
 use Rattle.gh_shade.specs.Sound.{HasPlace}
 use Rattle.gh_barrier.specs.Sound.{HasTwo}
 
@@ -34,10 +34,10 @@ pub place-then : (sh : Shading) (found : ℕ) → HasTwo sh.held → HasPlace (g
 place-then sh found two = place-at sh sh.stage found two
 
 -- and with a place for its object it never wishes for room
-mark-never : (whole : Bool) (held : Option Held) → has_place held ≡ true → given_at (after_mark held whole) ≢ Some WantsRoom
+mark-never : (whole : Bool) (held : Option Held) → has_place held ≡ true → given_at (follows_mark held whole) ≢ Some WantsRoom
 mark-never true held e is = absurd (let same : Done ≡ WantsRoom = cc in cc)
 mark-never false held e is =
-    let enters : given_at (after_mark held false) ≡ None = ap (λ (b : Bool). given_at (cond b Enter WaitForRoom)) e in
+    let enters : given_at (follows_mark held false) ≡ None = ap (λ (b : Bool). given_at (cond b Enter WaitForRoom)) e in
     absurd (cc)
 
 never-at : (sh : Shading) (stage : ShadeStage) (found : ℕ) → is_busy stage ≡ true → has_place sh.held ≡ true → given (goes_at sh stage found) ≢ Some WantsRoom

@@ -11,7 +11,7 @@ pub use Rattle.gh_shade.specs.Facts.{in_hand, ShadesByMoves}
 pub use Rattle.gh_shade.specs.declared.shade.ShadeStage.{ShadeStage}
 pub use Rattle.gh_shade.specs.declared.shade.Shaded.{Shaded}
 pub use Rattle.gh_shade.specs.declared.shade.Shaded.TheVariants.{Done, WantsRoom}
-pub use Rattle.gh_barrier.specs.Listing.{after_new, after_old, asks, asks_at, at_stage, behind_old, cell_at, given_at, goes, goes_at, is_busy, listing, opening, read_as, shades_new, shades_old, with_old, word_of, Writing}
+pub use Rattle.gh_barrier.specs.Listing.{after_new, after_old, asks, asks_at, at_stage, behind_old, cell_at, given_at, goes, goes_at, is_busy, listing, opening, pointer_word, read_as, shades_new, shades_old, with_old, Writing}
 pub use Rattle.gh_barrier.specs.Sound.{HasTwo}
 pub use Rattle.gh_barrier.specs.declared.pointer_cell.PointerCell.{PointerCell}
 pub use Rattle.gh_barrier.specs.declared.pointer_cell.PointerCell.TheVariants.{Field, Global}

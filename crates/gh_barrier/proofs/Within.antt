@@ -16,7 +16,7 @@ use Rattle.gh_barrier.specs.declared.write_pointer.WriteStage.{WriteStage}
 use Rattle.gh_barrier.specs.declared.write_pointer.WriteStage.TheVariants.{LoadOld, ShadeOld, ShadeNew, Store, Ended}
 use Rattle.gh_barrier.specs.Listing.{after_new, after_old, asks_at, at_stage, cell_at, goes, goes_at, held_at, opening, read_as, shades_new, shades_old, Writing}
 use Rattle.gh_barrier.specs.Sound.{FitsPointer}
-use Rattle.gh_barrier.specs.Within.{ShadesWithin, StageWithin, WritesWithin, WritingIsWithin}
+use Rattle.gh_barrier.specs.Within.{ShadesWithin, WriteStageWithin, WritesWithin, WritingIsWithin}
 
 -- Shading.
 
@@ -36,7 +36,7 @@ module _ (s : shade.Shading) (now : FitsShade s) where
   enter-or true e = shade-at shade_stage.Enter (has-place s.held e)
   enter-or false e = shade-at shade_stage.WaitForRoom tt
 
-  marked : (ends : Bool) → ShadesWithin s.layout (shade.at_stage s (shade.after_mark s.held ends))
+  marked : (ends : Bool) → ShadesWithin s.layout (shade.at_stage s (shade.follows_mark s.held ends))
   marked true = shade-at shade_stage.Ended tt
   marked false = enter-or (shade.has_place s.held) refl
 
@@ -90,7 +90,7 @@ begins : (l : Layout) (at : PointerCell) (pointer : Option ℕ) (held : Option H
 begins l at pointer held there fits is = record { layout_is = refl; cell = there; pointer = fits; held = is; stage = tt }
 
 module _ (w : Writing) (now : WritesWithin w.layout w) where
-  write-at : (q : WriteStage) → StageWithin w.layout q → WritesWithin w.layout (at_stage w q)
+  write-at : (q : WriteStage) → WriteStageWithin w.layout q → WritesWithin w.layout (at_stage w q)
   write-at q f = record { layout_is = refl; cell = now.cell; pointer = now.pointer; held = now.held; stage = f }
 
   -- with this held between shadings
@@ -110,7 +110,7 @@ module _ (w : Writing) (now : WritesWithin w.layout w) where
   after-new sh None f = write-at (ShadeNew sh) f
   after-new sh (Some out) f = record { layout_is = refl; cell = now.cell; pointer = now.pointer; held = shade-held w.layout sh f; stage = tt }
 
-  goes-at : (q : WriteStage) (found : ℕ) → StageWithin w.layout q → WritesWithin w.layout (goes_at w q found)
+  goes-at : (q : WriteStage) (found : ℕ) → WriteStageWithin w.layout q → WritesWithin w.layout (goes_at w q found)
   goes-at LoadOld found f = old-then (read_as w.layout found) (read-fits w.layout found)
   goes-at (ShadeOld sh) found f = after-old (shade.goes sh found) (shade.gives sh found) (shade-goes w.layout sh found f)
   goes-at (ShadeNew sh) found f = after-new (shade.goes sh found) (shade.gives sh found) (shade-goes w.layout sh found f)
@@ -122,14 +122,14 @@ goes-on l w found f =
     let own : WritesWithin w.layout w = subst (λ (k : Layout). WritesWithin k w) (sym f.layout_is) f in
     subst (λ (k : Layout). WritesWithin k (goes w found)) f.layout_is (goes-at w own w.stage found own.stage)
 
-within-at : (l : Layout) (w : Writing) (q : WriteStage) → InRange l (cell_at w.at) → StageWithin l q → InRange l (cell_of (asks_at w q))
+within-at : (l : Layout) (w : Writing) (q : WriteStage) → InRange l (cell_at w.at) → WriteStageWithin l q → InRange l (cell_of (asks_at w q))
 within-at l w LoadOld there f = there
 within-at l w (ShadeOld sh) there f = shade-within l sh f
 within-at l w (ShadeNew sh) there f = shade-within l sh f
 within-at l w Store there f = there
 within-at l w Ended there f = tt
 
-holds-at : (l : Layout) (held : Option Held) (q : WriteStage) → IsHeld l held → StageWithin l q → IsHeld l (held_at held q)
+holds-at : (l : Layout) (held : Option Held) (q : WriteStage) → IsHeld l held → WriteStageWithin l q → IsHeld l (held_at held q)
 holds-at l held (ShadeOld sh) is f = shade-held l sh f
 holds-at l held (ShadeNew sh) is f = shade-held l sh f
 holds-at l held _ is f = is

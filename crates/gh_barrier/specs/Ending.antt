@@ -13,14 +13,14 @@ shade_left (SetMark noscan) = 2
 shade_left _ = 1
 
 -- the load, two shadings and the store
-abbrev pub left : WriteStage → ℕ
-left LoadOld = 8
-left (ShadeOld sh) = shade_left sh.stage + 4
-left (ShadeNew sh) = shade_left sh.stage + 1
-left Store = 1
-left Ended = 0
+abbrev pub write_left : WriteStage → ℕ
+write_left LoadOld = 8
+write_left (ShadeOld sh) = shade_left sh.stage + 4
+write_left (ShadeNew sh) = shade_left sh.stage + 1
+write_left Store = 1
+write_left Ended = 0
 
 pub record WritingEnds : Type 0 where
-  pub some : (w : Writing) → is_busy w.stage ≡ true → 1 ≤ left w.stage
+  pub some : (w : Writing) → is_busy w.stage ≡ true → 1 ≤ write_left w.stage
   -- each step leaves fewer
-  pub fewer : (w : Writing) (found : ℕ) → is_busy w.stage ≡ true → left (goes w found).stage + 1 ≤ left w.stage
+  pub fewer : (w : Writing) (found : ℕ) → is_busy w.stage ≡ true → write_left (goes w found).stage + 1 ≤ write_left w.stage

@@ -11,7 +11,7 @@ use Rattle.gh_barrier.specs.declared.pointer_cell.PointerCell.{PointerCell}
 use Rattle.gh_barrier.specs.declared.pointer_cell.PointerCell.TheVariants.{Field, Global}
 use Rattle.gh_barrier.specs.declared.write_pointer.WriteStage.{WriteStage}
 use Rattle.gh_barrier.specs.declared.write_pointer.WriteStage.TheVariants.{LoadOld, ShadeOld, ShadeNew, Store, Ended}
-use Rattle.gh_barrier.specs.Listing.{asks, cell_at, gives, goes, listing, opening, word_of, Writing}
+use Rattle.gh_barrier.specs.Listing.{asks, cell_at, gives, goes, listing, opening, pointer_word, Writing}
 use Rattle.gh_barrier.specs.Sound.{HasTwo}
 use Rattle.gh_shade.specs.Facts.{in_hand}
 use Rattle.gh_shade.specs.Facts as shade_facts
@@ -19,7 +19,7 @@ use Rattle.gh_shade.specs.Listing.{is_busy, object_of}
 use Rattle.gh_shade.specs.Sound.{HasPlace}
 
 -- heap word x is a pointer field of an object of the cycle
-pub record IsField (s : Shared) (x : ℕ) : Type 0 where
+pub record IsPointerField (s : Shared) (x : ℕ) : Type 0 where
   pub o : ℕ
   pub k : ℕ
   pub at_is : x ≡ o + k
@@ -27,7 +27,7 @@ pub record IsField (s : Shared) (x : ℕ) : Type 0 where
   pub pointer : IsPointer s.extents o k
 
 abbrev pub IsCell : Shared → PointerCell → Type 0
-IsCell s (Field x) = IsField s x
+IsCell s (Field x) = IsPointerField s x
 IsCell s (Global i) = Unit {0}
 
 -- the move that is a store to the cell
@@ -36,42 +36,42 @@ put_of (Field x) value = PutField x value
 put_of (Global i) value = PutGlobal i value
 
 -- nil, or an object of the cycle
-abbrev pub IsKnown : Shared → (pointer : Option ℕ) → Type 0
-IsKnown s None = Unit {0}
-IsKnown s (Some reference) = (1 ≤ reference) × (s.since (object_of reference) ≡ true)
+abbrev pub IsKnownPointer : Shared → (pointer : Option ℕ) → Type 0
+IsKnownPointer s None = Unit {0}
+IsKnownPointer s (Some reference) = (1 ≤ reference) × (s.since (object_of reference) ≡ true)
 
 -- what was loaded stands there still, or the value that came in its place is clean
-abbrev pub Stands : Shared → Cell → (reference : ℕ) → Type 0
-Stands s c reference = (s.words c ≡ reference) ⊎ IsClean (mark_words s.words) (s.words c)
+abbrev pub OldValueStands : Shared → Cell → (reference : ℕ) → Type 0
+OldValueStands s c reference = (s.words c ≡ reference) ⊎ IsClean (mark_words s.words) (s.words c)
 
 -- a shading that it runs has not ended
 abbrev pub StageFacts : Cycle → (a : ℕ) → Shared → InHand → Writing → WriteStage → Type 0
 StageFacts z a s rest w LoadOld = HasTwo w.held × Hands a s (in_hand rest w.held None)
-StageFacts z a s rest w (ShadeOld sh) = HasTwo sh.held × Stands s (cell_at w.at) sh.reference × shade_facts.Facts z a s rest sh × (is_busy sh.stage ≡ true)
+StageFacts z a s rest w (ShadeOld sh) = HasTwo sh.held × OldValueStands s (cell_at w.at) sh.reference × shade_facts.Facts z a s rest sh × (is_busy sh.stage ≡ true)
 -- the old value is shaded: from here on the cell holds nothing white, whoever stores to it
 StageFacts z a s rest w (ShadeNew sh) = HasPlace sh.held × IsClean (mark_words s.words) (s.words (cell_at w.at)) × (w.pointer ≡ Some sh.reference) × shade_facts.Facts z a s rest sh × (is_busy sh.stage ≡ true)
-StageFacts z a s rest w Store = IsClean (mark_words s.words) (s.words (cell_at w.at)) × IsClean (mark_words s.words) (word_of w.pointer) × Hands a s (in_hand rest w.held None)
+StageFacts z a s rest w Store = IsClean (mark_words s.words) (s.words (cell_at w.at)) × IsClean (mark_words s.words) (pointer_word w.pointer) × Hands a s (in_hand rest w.held None)
 StageFacts z a s rest w Ended = Hands a s (in_hand rest w.held None)
 
 -- it writes to a pointer cell of this heap, and what it writes is nil or an object of the cycle
 pub record Facts (z : Cycle) (a : ℕ) (s : Shared) (rest : InHand) (w : Writing) : Type 0 where
   pub layout_is : w.layout ≡ z.arena.layout
   pub is_cell : IsCell s w.at
-  pub known : IsKnown s w.pointer
+  pub known : IsKnownPointer s w.pointer
   pub stage_is : StageFacts z a s rest w w.stage
 
 module _ (z : Cycle) (a : ℕ) (s : Shared) (rest : InHand) where
   -- the facts hold where it begins
   abbrev pub Begins : Type 0
-  Begins = (at : PointerCell) (pointer : Option ℕ) (held : Option Held) → IsCell s at → IsKnown s pointer → HasTwo held → Hands a s (in_hand rest held None) → Facts z a s rest (opening z.arena.layout at pointer held)
+  Begins = (at : PointerCell) (pointer : Option ℕ) (held : Option Held) → IsCell s at → IsKnownPointer s pointer → HasTwo held → Hands a s (in_hand rest held None) → Facts z a s rest (opening z.arena.layout at pointer held)
 
   -- where it stores, the value that it overwrites then and the one that it writes are marked, if they are not nil
   abbrev pub Stores : Type 0
-  Stores = (w : Writing) → w.stage ≡ Store → Facts z a s rest w → BehindBarrier s (s.words (cell_at w.at)) (word_of w.pointer)
+  Stores = (w : Writing) → w.stage ≡ Store → Facts z a s rest w → BehindBarrier s (s.words (cell_at w.at)) (pointer_word w.pointer)
 
   -- and that step is this move, and nothing besides
   abbrev pub StoresBy : Type 0
-  StoresBy = (w : Writing) → w.stage ≡ Store → Facts z a s rest w → Steps z a s (asks w) (λ t. t ≡ moved z a s (put_of w.at (word_of w.pointer)))
+  StoresBy = (w : Writing) → w.stage ≡ Store → Facts z a s rest w → Steps z a s (asks w) (λ t. t ≡ moved z a s (put_of w.at (pointer_word w.pointer)))
 
   -- where it has ended, the seat has nothing more in hand by it than its buffer
   abbrev pub Ends : Type 0

@@ -21,9 +21,9 @@ cell_at (Field x) = cell.Field x
 cell_at (Global i) = cell.Global i
 
 -- the word of a pointer: 0 is nil
-abbrev pub word_of : (pointer : Option ℕ) → ℕ
-word_of None = 0
-word_of (Some reference) = reference
+abbrev pub pointer_word : (pointer : Option ℕ) → ℕ
+pointer_word None = 0
+pointer_word (Some reference) = reference
 
 -- a found word as a pointer: a reference is taken modulo the heap's words
 abbrev pub read_as : Layout → (found : ℕ) → Option ℕ
@@ -54,7 +54,7 @@ module _ (w : Writing) where
   asks_at LoadOld = ask.Load (cell_at w.at)
   asks_at (ShadeOld sh) = shade.asks sh
   asks_at (ShadeNew sh) = shade.asks sh
-  asks_at Store = ask.Store (cell_at w.at) (word_of w.pointer)
+  asks_at Store = ask.Store (cell_at w.at) (pointer_word w.pointer)
   asks_at Ended = ask.Load cell.Touch
 
   -- the shading of what is named; nil needs none

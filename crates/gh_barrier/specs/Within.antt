@@ -17,10 +17,10 @@ pub record ShadesWithin (l : Layout) (s : Shading) : Type 0 where
   pub layout_is : s.layout ≡ l
   pub fits : FitsShade s
 
-abbrev pub StageWithin : Layout → WriteStage → Type 0
-StageWithin l (ShadeOld sh) = ShadesWithin l sh
-StageWithin l (ShadeNew sh) = ShadesWithin l sh
-StageWithin l _ = Unit {0}
+abbrev pub WriteStageWithin : Layout → WriteStage → Type 0
+WriteStageWithin l (ShadeOld sh) = ShadesWithin l sh
+WriteStageWithin l (ShadeNew sh) = ShadesWithin l sh
+WriteStageWithin l _ = Unit {0}
 
 -- the cell, the object that it is to name and the buffer that is held are of this layout
 pub record WritesWithin (l : Layout) (w : Writing) : Type 0 where
@@ -28,7 +28,7 @@ pub record WritesWithin (l : Layout) (w : Writing) : Type 0 where
   pub cell : InRange l (cell_at w.at)
   pub pointer : FitsPointer l w.pointer
   pub held : IsHeld l w.held
-  pub stage : StageWithin l w.stage
+  pub stage : WriteStageWithin l w.stage
 
 pub record WritingIsWithin : Type 0 where
   pub begins : (l : Layout) (at : PointerCell) (pointer : Option ℕ) (held : Option Held) → InRange l (cell_at at) → FitsPointer l pointer → IsHeld l held → WritesWithin l (opening l at pointer held)

@@ -3,7 +3,7 @@
 ghost use Rattle.std.specs.Prelude.{◌≡◌, ◌≢◌, ◌↔◌, IsTrue, Option, true};
 ghost use Rattle.gh_base.specs.Cells.{InRange};
 ghost use Rattle.gh_base.specs.Holding.{IsHeld};
-ghost use Rattle.gh_barrier.specs.Listing.{after_new, after_old, behind_old, cell_at, given, held_at, is_busy, opening, read_as, with_old, word_of};
+ghost use Rattle.gh_barrier.specs.Listing.{after_new, after_old, behind_old, cell_at, given, held_at, is_busy, opening, pointer_word, read_as, with_old};
 ghost use Rattle.gh_barrier.specs.Sound.{FitsPointer, HasTwo};
 ghost use Rattle.gh_barrier.specs.declared.write_pointer.WriteStage.TheVariants.{Store};
 ghost use Rattle.gh_shade.specs.Listing as shading;
@@ -124,7 +124,7 @@ impl WritePointer {
 
     /// The word of the new value.
     fn word(&self) -> u64
-        ensures { result ≡ word_of self.now.pointer }
+        ensures { result ≡ pointer_word self.now.pointer }
     {
         match self.pointer {
             Some(reference) => reference,

@@ -9,7 +9,7 @@ use Rattle.gh_base.specs.declared.cell.Cell.TheVariants.{Mark, Buffer, Entry}
 use Rattle.gh_base.specs.declared.held.Held.{Held}
 use Rattle.gh_base.specs.declared.pack.TheConstants.{ENTRIES}
 use Rattle.gh_base.specs.Cells.{put, Words}
-use Rattle.gh_base.specs.Holding.{AreBuffersOf, AreCounted, Buffers, BuffersAreHeld, holder_in, Holds, IsIt, KnowsCount, May, Move, moved, Moves, MovesKeep, StepsAreMoves, with_entry}
+use Rattle.gh_base.specs.Holding.{AreBuffersOf, AreCounted, Buffers, BuffersAreHeld, holder_in, HoldsBuffer, IsIt, KnowsCount, May, Move, moved, Moves, MovesKeep, StepsAreMoves, with_entry}
 use Rattle.gh_base.specs.Holding as move
 use Rattle.gh_base.specs.Packing.{buffer_of, buffer_word}
 use Rattle.gh_base.specs.Rows.{Row, with_word}
@@ -44,13 +44,13 @@ small_count n le =
     ap (λ (t : Bool). cond t (n % 256) 0) yes ∙ is
 
 module _ (seat : ℕ) (s : Buffers) (words : Words) (counted : AreCounted s) (shown : AreBuffersOf words s) where
-  loads : (c : Cell) (held : Option Held) → Holds s seat held → Moves seat s words (Load c) held
+  loads : (c : Cell) (held : Option Held) → HoldsBuffer s seat held → Moves seat s words (Load c) held
   loads c held holds = record { move = move.Stays; may = tt; leaves = shown; holds = holds }
 
-  marks : (i bits : ℕ) (held : Option Held) → Holds s seat held → Moves seat s words (Or (Mark i) bits) held
+  marks : (i bits : ℕ) (held : Option Held) → HoldsBuffer s seat held → Moves seat s words (Or (Mark i) bits) held
   marks i bits held holds = record { move = move.Stays; may = tt; leaves = record { word_is = shown.word_is; entry_is = shown.entry_is }; holds = holds }
 
-  gives_back : (h : Held) → Holds s seat (Some h) → Moves seat s words (Store (Buffer h.index) (buffer_word (record { count = h.count; holder = 0 }))) None
+  gives_back : (h : Held) → HoldsBuffer s seat (Some h) → Moves seat s words (Store (Buffer h.index) (buffer_word (record { count = h.count; holder = 0 }))) None
   gives_back h holds =
       let is : h.count + 256 * 0 ≡ s.filled h.index = (let c : s.filled h.index ≡ h.count = holds.count in omega arith) in
       record {
@@ -68,13 +68,13 @@ module _ (seat : ℕ) (s : Buffers) (words : Words) (counted : AreCounted s) (sh
           | elsewhere ne is ↦ ne ((holds.only x).0 (sym (ap holder_in is) ∙ e))
         ]
 
-  swaps_nothing : (b word new : ℕ) (held : Option Held) → Holds s seat held → words (Buffer b) ≢ word → Moves seat s words (Swap (Buffer b) word new) held
+  swaps_nothing : (b word new : ℕ) (held : Option Held) → HoldsBuffer s seat held → words (Buffer b) ≢ word → Moves seat s words (Swap (Buffer b) word new) held
   swaps_nothing b word new held holds ne = record { move = move.Stays; may = tt; leaves = by (eqb (words (Buffer b)) word) refl; holds = holds } where
     by : (t : Bool) → eqb (words (Buffer b)) word ≡ t → AreBuffersOf (cond t (put words (Buffer b) new) words) s
     by true e = absurd (ne (eqb-true _ _ e))
     by false e = shown
 
-  takes_buffer : (b word : ℕ) → Holds s seat None → holder_in word ≡ 0 → words (Buffer b) ≡ word →
+  takes_buffer : (b word : ℕ) → HoldsBuffer s seat None → holder_in word ≡ 0 → words (Buffer b) ≡ word →
       Moves seat s words (Swap (Buffer b) word (buffer_word (record { count = (buffer_of word).count; holder = seat + 1 }))) (Some (record { index = b; count = (buffer_of word).count }))
   takes_buffer b word holds free there =
       let is : s.words b ≡ word = sym (shown.word_is b) ∙ there in
@@ -112,7 +112,7 @@ module _ (seat : ℕ) (s : Buffers) (words : Words) (counted : AreCounted s) (sh
   at_own : (h : Held) (n : ℕ) → with_word s.filled h.index n h.index ≡ n
   at_own h n = ap (λ (t : Bool). cond t n (s.filled h.index)) (eq-eqb h.index h.index refl)
 
-  takes_entry : (h : Held) → Holds s seat (Some h) → 0 < h.count → Moves seat s words (Load (Entry h.index (h.count - 1))) (Some (record { index = h.index; count = h.count - 1 }))
+  takes_entry : (h : Held) → HoldsBuffer s seat (Some h) → 0 < h.count → Moves seat s words (Load (Entry h.index (h.count - 1))) (Some (record { index = h.index; count = h.count - 1 }))
   takes_entry h holds some =
       let count_is : s.filled h.index ≡ h.count = holds.count in
       record {
@@ -122,7 +122,7 @@ module _ (seat : ℕ) (s : Buffers) (words : Words) (counted : AreCounted s) (sh
         holds = record { only = holds.only; count = at_own h (s.filled h.index - 1) ∙ ap (λ (n : ℕ). n - 1) count_is };
       }
 
-  puts_entry : (h : Held) (entry : ℕ) → Holds s seat (Some h) → h.count < ENTRIES → Moves seat s words (Store (Entry h.index h.count) entry) (Some (record { index = h.index; count = h.count + 1 }))
+  puts_entry : (h : Held) (entry : ℕ) → HoldsBuffer s seat (Some h) → h.count < ENTRIES → Moves seat s words (Store (Entry h.index h.count) entry) (Some (record { index = h.index; count = h.count + 1 }))
   puts_entry h entry holds room =
       let count_is : s.filled h.index ≡ h.count = holds.count in
       record {
@@ -180,7 +180,7 @@ module _ (seat : ℕ) (s : Buffers) (counted : AreCounted s) where
 
   module _ (other : ℕ) (apart : other ≢ seat) where
     -- a buffer that another seat holds is not this seat's
-    not_its : (held : Option Held) (b : ℕ) → Holds s other held → holder_in (s.words b) ≡ seat + 1 → ¬ IsIt held b
+    not_its : (held : Option Held) (b : ℕ) → HoldsBuffer s other held → holder_in (s.words b) ≡ seat + 1 → ¬ IsIt held b
     not_its held b holds mine its =
         let theirs : holder_in (s.words b) ≡ other + 1 = (holds.only b).1 its in
         let both : other + 1 ≡ seat + 1 = sym theirs ∙ mine in
@@ -194,13 +194,13 @@ module _ (seat : ℕ) (s : Buffers) (counted : AreCounted s) where
     ]
 
     -- a word that is not the other seat's and stays none
-    only_elsewhere : (held : Option Held) (b v : ℕ) → Holds s other held → (¬ IsIt held b) → holder_in v ≢ other + 1 → (x : ℕ) → (holder_in (with_word s.words b v x) ≡ other + 1) ↔ IsIt held x
+    only_elsewhere : (held : Option Held) (b v : ℕ) → HoldsBuffer s other held → (¬ IsIt held b) → holder_in v ≢ other + 1 → (x : ℕ) → (holder_in (with_word s.words b v x) ≡ other + 1) ↔ IsIt held x
     only_elsewhere held b v holds not_it not_other x = elim (written s.words b v x) [
       | here same is ↦ (λ e. absurd (not_other (sym (ap holder_in is) ∙ e)), λ its. absurd (not_it (subst (IsIt held) (sym same) its)))
       | elsewhere ne is ↦ (λ e. (holds.only x).0 (sym (ap holder_in is) ∙ e), λ its. ap holder_in is ∙ (holds.only x).1 its)
     ]
 
-    keeps_others : (held : Option Held) (m : Move) → May seat s m → Holds s other held → Holds (moved seat s m) other held
+    keeps_others : (held : Option Held) (m : Move) → May seat s m → HoldsBuffer s other held → HoldsBuffer (moved seat s m) other held
     keeps_others held move.Stays may holds = holds
     keeps_others held (move.TakesBuffer b) may holds =
         record {

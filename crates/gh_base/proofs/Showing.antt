@@ -7,11 +7,11 @@ use Rattle.gh_base.specs.declared.cell.Cell.{Cell}
 use Rattle.gh_base.specs.declared.cell.Ask.{Ask}
 use Rattle.gh_base.specs.declared.cell.Ask.TheVariants.{Load, Store, Or, And, Add, Swap}
 use Rattle.gh_base.specs.declared.layout.Layout.{Layout}
-use Rattle.gh_base.specs.Cells.{word_of, InRange, same_cell, Words, put, Shows}
+use Rattle.gh_base.specs.Cells.{word_of, InRange, same_cell, Words, put, ShowsCells}
 use Rattle.gh_base.specs.Steps.{cell_of, effect, request, changed, target, left}
 use Rattle.gh_base.proofs.Apart.{word_below, words_apart, same_cell_tells}
 
-each_put : (l : Layout) (list : List ℕ) (words : Words) (c : Cell) (value : ℕ) → InRange l c → Shows l list words →
+each_put : (l : Layout) (list : List ℕ) (words : Words) (c : Cell) (value : ℕ) → InRange l c → ShowsCells l list words →
     (d : Cell) → InRange l d → (b : Bool) → same_cell c d ≡ b →
     get_or (set list (word_of l c) value) (word_of l d) 0 ≡ cond b value (words d)
 each_put l list words c value h shows d hd true e =
@@ -22,7 +22,7 @@ each_put l list words c value h shows d hd false e =
     rw get_or-set_other (shows.each d hd)
 
 -- a cell is written by writing its word
-pub shows_put : (l : Layout) (list : List ℕ) (words : Words) (c : Cell) (value : ℕ) → InRange l c → Shows l list words → Shows l (set list (word_of l c) value) (put words c value)
+pub shows_put : (l : Layout) (list : List ℕ) (words : Words) (c : Cell) (value : ℕ) → InRange l c → ShowsCells l list words → ShowsCells l (set list (word_of l c) value) (put words c value)
 shows_put l list words c value h shows = record {
   long = simp length-set shows.long;
   each = λ d hd. each_put l list words c value h shows d hd (same_cell c d) refl;
@@ -34,20 +34,20 @@ target-request l (Load c) = refl
 target-request l _ = refl
 
 -- what is found there is what the cell holds
-pub found-request : (l : Layout) (list : List ℕ) (words : Words) (ask : Ask) → InRange l (cell_of ask) → Shows l list words →
+pub found-request : (l : Layout) (list : List ℕ) (words : Words) (ask : Ask) → InRange l (cell_of ask) → ShowsCells l list words →
     get_or list (target (request l ask)) 0 ≡ words (cell_of ask)
 found-request l list words ask h shows = rw (target-request l ask) (shows.each (cell_of ask) h)
 
 -- one request on the list is one step on the cells
-pub shows_effect : (l : Layout) (list : List ℕ) (words : Words) (ask : Ask) → InRange l (cell_of ask) → Shows l list words →
-    Shows l (changed (request l ask) list) (effect words ask)
+pub shows_effect : (l : Layout) (list : List ℕ) (words : Words) (ask : Ask) → InRange l (cell_of ask) → ShowsCells l list words →
+    ShowsCells l (changed (request l ask) list) (effect words ask)
 shows_effect l list words (Load c) h shows = rw (set-get_or) shows
 shows_effect l list words (Store c v) h shows = shows_put l list words c v h shows
 shows_effect l list words (Or c v) h shows = rw (shows.each c h) (shows_put l list words c (bit_or (words c) v) h shows)
 shows_effect l list words (And c v) h shows = rw (shows.each c h) (shows_put l list words c (bit_and (words c) v) h shows)
 shows_effect l list words (Add c v) h shows = rw (shows.each c h) (shows_put l list words c ((words c + v) % 2 ^ 64) h shows)
 shows_effect l list words (Swap c old new) h shows = rw (← shows.each c h) (go (eqb (get_or list (word_of l c) 0) old) refl) where
-  go : (x : Bool) → eqb (get_or list (word_of l c) 0) old ≡ x → Shows l (set list (word_of l c) (cond x new (get_or list (word_of l c) 0))) (cond x (put words c new) words)
+  go : (x : Bool) → eqb (get_or list (word_of l c) 0) old ≡ x → ShowsCells l (set list (word_of l c) (cond x new (get_or list (word_of l c) 0))) (cond x (put words c new) words)
   go true e = shows_put l list words c new h shows
   go false e = rw (set-get_or) shows
 

@@ -142,7 +142,7 @@ opening_words trigger Trigger = trigger
 opening_words trigger _ = 0
 
 -- this list of words is these cells
-pub record Shows (l : Layout) (list : List ℕ) (words : Words) : Type 0 where
+pub record ShowsCells (l : Layout) (list : List ℕ) (words : Words) : Type 0 where
   pub long : length list ≡ length_of l
   pub each : (cell : Cell) → InRange l cell → slice_index list (word_of l cell) ≡ words cell
 

@@ -53,7 +53,7 @@ KnowsCount filled None = Unit {0}
 KnowsCount filled (Some h) = filled h.index ≡ h.count
 
 -- what holds of a seat's machine that holds this: the words say that the seat holds this buffer and no other, and it knows its count
-pub record Holds (s : Buffers) (seat : ℕ) (held : Option Held) : Type 0 where
+pub record HoldsBuffer (s : Buffers) (seat : ℕ) (held : Option Held) : Type 0 where
   pub only : (b : ℕ) → (holder_in (s.words b) ≡ seat + 1) ↔ IsIt held b
   pub count : KnowsCount s.filled held
 
@@ -89,23 +89,23 @@ pub record Moves (seat : ℕ) (s : Buffers) (words : Words) (ask : Ask) (held : 
   pub move : Move
   pub may : May seat s move
   pub leaves : AreBuffersOf (effect words ask) (moved seat s move)
-  pub holds : Holds (moved seat s move) seat held
+  pub holds : HoldsBuffer (moved seat s move) seat held
 
 -- What each kind of step is, where these are the buffers and this is held.
 pub record StepsAreMoves (seat : ℕ) (s : Buffers) (words : Words) : Type 0 where
-  pub loads : (c : Cell) (held : Option Held) → Holds s seat held → Moves seat s words (Load c) held
-  pub gives_back : (h : Held) → Holds s seat (Some h) → Moves seat s words (Store (Buffer h.index) (buffer_word (record { count = h.count; holder = 0 }))) None
-  pub takes_buffer : (b word : ℕ) → Holds s seat None → holder_in word ≡ 0 → words (Buffer b) ≡ word →
+  pub loads : (c : Cell) (held : Option Held) → HoldsBuffer s seat held → Moves seat s words (Load c) held
+  pub gives_back : (h : Held) → HoldsBuffer s seat (Some h) → Moves seat s words (Store (Buffer h.index) (buffer_word (record { count = h.count; holder = 0 }))) None
+  pub takes_buffer : (b word : ℕ) → HoldsBuffer s seat None → holder_in word ≡ 0 → words (Buffer b) ≡ word →
       Moves seat s words (Swap (Buffer b) word (buffer_word (record { count = (buffer_of word).count; holder = seat + 1 }))) (Some (record { index = b; count = (buffer_of word).count }))
-  pub swaps_nothing : (b word new : ℕ) (held : Option Held) → Holds s seat held → words (Buffer b) ≢ word → Moves seat s words (Swap (Buffer b) word new) held
-  pub takes_entry : (h : Held) → Holds s seat (Some h) → 0 < h.count → Moves seat s words (Load (Entry h.index (h.count - 1))) (Some (record { index = h.index; count = h.count - 1 }))
-  pub puts_entry : (h : Held) (entry : ℕ) → Holds s seat (Some h) → h.count < ENTRIES → Moves seat s words (Store (Entry h.index h.count) entry) (Some (record { index = h.index; count = h.count + 1 }))
-  pub marks : (i bits : ℕ) (held : Option Held) → Holds s seat held → Moves seat s words (Or (Mark i) bits) held
+  pub swaps_nothing : (b word new : ℕ) (held : Option Held) → HoldsBuffer s seat held → words (Buffer b) ≢ word → Moves seat s words (Swap (Buffer b) word new) held
+  pub takes_entry : (h : Held) → HoldsBuffer s seat (Some h) → 0 < h.count → Moves seat s words (Load (Entry h.index (h.count - 1))) (Some (record { index = h.index; count = h.count - 1 }))
+  pub puts_entry : (h : Held) (entry : ℕ) → HoldsBuffer s seat (Some h) → h.count < ENTRIES → Moves seat s words (Store (Entry h.index h.count) entry) (Some (record { index = h.index; count = h.count + 1 }))
+  pub marks : (i bits : ℕ) (held : Option Held) → HoldsBuffer s seat held → Moves seat s words (Or (Mark i) bits) held
 
 -- A move that a seat may make keeps what holds of all buffers, and what any other seat holds.
 pub record MovesKeep (seat : ℕ) (s : Buffers) (move : Move) : Type 0 where
   pub counted : AreCounted (moved seat s move)
-  pub others : (other : ℕ) (held : Option Held) → other ≢ seat → Holds s other held → Holds (moved seat s move) other held
+  pub others : (other : ℕ) (held : Option Held) → other ≢ seat → HoldsBuffer s other held → HoldsBuffer (moved seat s move) other held
 
 pub record BuffersAreHeld : Type 0 where
   pub steps : (seat : ℕ) (s : Buffers) (words : Words) → AreCounted s → AreBuffersOf words s → StepsAreMoves seat s words
@@ -115,7 +115,7 @@ pub record BuffersAreHeld : Type 0 where
 module _ {M Out : Type 0} (r : Listing M Out) (held_of : M → Option Held) (Knows : (seat : ℕ) → M → Type 0) where
   pub record Facts (s : Buffers) (seat : ℕ) (m : M) : Type 0 where
     pub knows : Knows seat m
-    pub holds : Holds s seat (held_of m)
+    pub holds : HoldsBuffer s seat (held_of m)
 
   -- its step is a move that the seat may make, and leads to what the next stage says
   pub record OwnStep (s : Buffers) (seat : ℕ) (words : Words) (m : M) : Type 0 where

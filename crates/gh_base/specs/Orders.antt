@@ -61,13 +61,13 @@ pub record Meaning (E D A : Type 0) : Type 0 where
   pub answer : E → D → A
   pub after : E → D → A → E
 
-pub record Answered (D A : Type 0) : Type 0 where
+pub record AnsweredDeed (D A : Type 0) : Type 0 where
   pub deed : D
   pub answer : A
 
 module _ {E D A : Type 0} (n : Meaning E D A) where
   -- a step's deed, answered
-  abbrev pub answered : E → Option D → Option (Answered D A)
+  abbrev pub answered : E → Option D → Option (AnsweredDeed D A)
   answered e None = None
   answered e (Some x) = Some (record { deed = x; answer = n.answer e x })
 
@@ -83,5 +83,5 @@ module _ {M O D A E : Type 0} (k : Kind M O) (d : Deeds M O D A) (n : Meaning E 
   model_after (e ∷ es) = left_at n (model_after es) (done_at k d es e)
 
   -- the points of one actor
-  abbrev pub answered_by : ℕ → List (Entry O) → List (Answered D A)
+  abbrev pub answered_by : ℕ → List (Entry O) → List (AnsweredDeed D A)
   answered_by = said_by (λ es e. answered n (model_after es) (done_at k d es e))

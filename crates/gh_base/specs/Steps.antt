@@ -6,7 +6,7 @@ use Rattle.gh_base.specs.declared.cell.Ask.TheVariants as ask
 use Rattle.gh_base.specs.declared.cell.Req.{Req}
 use Rattle.gh_base.specs.declared.cell.Req.TheVariants as req
 use Rattle.gh_base.specs.declared.layout.Layout.{Layout}
-use Rattle.gh_base.specs.Cells.{InRange, same_cell, Shows, Words, put, word_of}
+use Rattle.gh_base.specs.Cells.{InRange, same_cell, ShowsCells, Words, put, word_of}
 
 -- the cell that a step is on
 abbrev pub cell_of : Ask → Cell
@@ -54,25 +54,25 @@ target (req.Add word more) = word
 target (req.Swap word old new) = word
 
 -- what it leaves where it finds this
-abbrev pub leaves : Req → ℕ → ℕ
-leaves (req.Load word) found = found
-leaves (req.Store word value) found = value
-leaves (req.Or word bits) found = bit_or found bits
-leaves (req.And word bits) found = bit_and found bits
-leaves (req.Add word more) found = (found + more) % 2 ^ 64
-leaves (req.Swap word old new) found = if found == old then new else found
+abbrev pub request_leaves : Req → ℕ → ℕ
+request_leaves (req.Load word) found = found
+request_leaves (req.Store word value) found = value
+request_leaves (req.Or word bits) found = bit_or found bits
+request_leaves (req.And word bits) found = bit_and found bits
+request_leaves (req.Add word more) found = (found + more) % 2 ^ 64
+request_leaves (req.Swap word old new) found = if found == old then new else found
 
 -- the list of words after it: one word differs
 abbrev pub changed : Req → List ℕ → List ℕ
-changed r words = slice_set words (target r) (leaves r (slice_index words (target r)))
+changed r words = slice_set words (target r) (request_leaves r (slice_index words (target r)))
 
 -- the request finds what the step finds, and leaves what it leaves
 pub record IsShown (l : Layout) (list : List ℕ) (words : Words) (step : Ask) : Type 0 where
   pub found : slice_index list (target (request l step)) ≡ words (cell_of step)
-  pub after : Shows l (changed (request l step) list) (effect words step)
+  pub after : ShowsCells l (changed (request l step) list) (effect words step)
 
 abbrev pub StepsAreShown : Layout → Type 0
-StepsAreShown l = (list : List ℕ) (words : Words) (step : Ask) → InRange l (cell_of step) → Shows l list words → IsShown l list words step
+StepsAreShown l = (list : List ℕ) (words : Words) (step : Ask) → InRange l (cell_of step) → ShowsCells l list words → IsShown l list words step
 
 -- a step leaves its cell as it says, and every other cell as it is
 abbrev pub ChangesOneCell : Type 0

@@ -5,7 +5,7 @@
 //! layout's affair (`Layout::word`), so what is said of one row never speaks of another.
 
 ghost use Rattle.std.specs.Prelude.{◌≡◌};
-ghost use Rattle.gh_base.specs.Steps.{leaves, target};
+ghost use Rattle.gh_base.specs.Steps.{request_leaves, target};
 
 /// A word of the heap.
 #[derive(Clone, Copy, Debug, PartialEq, Eq)]
@@ -117,7 +117,7 @@ impl Req {
     /// What it leaves where it finds this.
     #[inline(always)]
     pub fn left(self, found: u64) -> u64
-        ensures { result ≡ leaves self found }
+        ensures { result ≡ request_leaves self found }
     {
         match self {
             Req::Load(_) => found,

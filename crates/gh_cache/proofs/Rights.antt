@@ -12,15 +12,15 @@ use Rattle.gh_class.specs.declared.class.SizeClass.TheVariants as size
 use Rattle.gh_heap.specs.Laws.{TheHeapIsApart}
 use Rattle.gh_heap.specs.Moves.{KeepsObjects, Others, Quiet, Steps}
 use Rattle.gh_heap.specs.Rights.{Arena, Good, Right, Shared, View, view}
-use Rattle.gh_heap.specs.Spans.{IsFull, IsSlotOf, Laying, is_own_class, number_of, owner_at, owner_in, slot_size}
-use Rattle.gh_cache.specs.Facts.{Comes, Facts, IsHeld, Lasts, OwnStep, SearchesByItsRights, TakenBelow, Within}
+use Rattle.gh_heap.specs.Spans.{IsFull, IsSlotOf, Laying, is_own_class, number_of_class, owner_at, owner_in, slot_size}
+use Rattle.gh_cache.specs.Facts.{Comes, Facts, Lasts, OwnStep, SearchesByItsRights, SpanIsHeld, TakenBelow, Within}
 use Rattle.gh_cache.proofs.Vocabulary.{alloc_word, asks, at_stage, bit_at, bit_at-lt, Cached, Ended, given, given_at, gives, goes, goes_at, IsSizeClass, Layout, Look, passed, Searching, slot_at, slot_of, slot_words_of, slots_of, SlotStage}
 
 pub record Known : Type 0 where
   pub apart : TheHeapIsApart
   pub least_slot : (c : ℕ) → c < 25 → 8 ≤ slot_of c
 
-held-lasts : (z : Arena) (a : ℕ) (v w : View) (span : Cached) (noscan : Bool) → Good z v → Others z a v w → IsHeld a v span noscan → IsHeld a w span noscan
+held-lasts : (z : Arena) (a : ℕ) (v w : View) (span : Cached) (noscan : Bool) → Good z v → Others z a v w → SpanIsHeld a v span noscan → SpanIsHeld a w span noscan
 held-lasts z a v w span noscan g o x = record {
   h = x.h;
   head = o.heads span.head x.h x.held x.head;
@@ -41,10 +41,10 @@ lasts z a v w noscan m g o x = record {
   number : x.span.h.number ≡ v.generation
   number = (g.numbers m.span.head x.span.h x.span.head).owned (λ none. let is : owner_at v.page m.span.head ≡ x.span.h.owner = ap owner_in x.span.head in omega (arith, (g.owners a m.span.head).1 x.span.held, is, none))
 
-  slot : (j : ℕ) (f : SizeClass) → f ≡ size.Small m.span.class → 1024 * m.span.head + j * cond (is_own_class f) (1024 * x.span.h.pages) (slot_of (number_of f) / 8) ≡ slot_at m.span j
+  slot : (j : ℕ) (f : SizeClass) → f ≡ size.Small m.span.class → 1024 * m.span.head + j * cond (is_own_class f) (1024 * x.span.h.pages) (slot_of (number_of_class f) / 8) ≡ slot_at m.span j
   slot j f e = rw (e) refl
 
-  count : (j : ℕ) (f : SizeClass) → f ≡ size.Small m.span.class → j < slots_of m.span.class → j < cond (is_own_class f) 1 (slots_of (number_of f))
+  count : (j : ℕ) (f : SizeClass) → f ≡ size.Small m.span.class → j < slots_of m.span.class → j < cond (is_own_class f) 1 (slots_of (number_of_class f))
   count j f e lt = rw (e) lt
 
   still : (j : ℕ) → (j < m.span.cursor → row_bit v.alloc (slot_at m.span j) ≡ 1) → j < m.span.cursor → row_bit w.alloc (slot_at m.span j) ≡ 1
@@ -54,7 +54,7 @@ lasts z a v w noscan m g o x = record {
 
 module _ (k : Known) (z : Arena) (a : ℕ) (v : View) (noscan : Bool) (m : Searching) where
   -- a slot of the span
-  slot_is : (j : ℕ) → Good z v → (x : IsHeld a v m.span noscan) → j < slots_of m.span.class → IsSlotOf z.layout.pages v.page m.span.head x.h j (slot_at m.span j) (slot_words_of m.span.class)
+  slot_is : (j : ℕ) → Good z v → (x : SpanIsHeld a v m.span noscan) → j < slots_of m.span.class → IsSlotOf z.layout.pages v.page m.span.head x.h j (slot_at m.span j) (slot_words_of m.span.class)
   slot_is j g x few = record {
     span = (k.apart z v g).held a m.span.head x.h x.held x.head;
     inside = rw (x.class) few;
@@ -63,7 +63,7 @@ module _ (k : Known) (z : Arena) (a : ℕ) (v : View) (noscan : Bool) (m : Searc
   }
 
   -- the word that has its bit
-  word_is : (j : ℕ) → Good z v → m.layout ≡ z.layout → (x : IsHeld a v m.span noscan) → j < slots_of m.span.class → alloc_word m.layout (slot_at m.span j) ≡ slot_at m.span j / 64
+  word_is : (j : ℕ) → Good z v → m.layout ≡ z.layout → (x : SpanIsHeld a v m.span noscan) → j < slots_of m.span.class → alloc_word m.layout (slot_at m.span j) ≡ slot_at m.span j / 64
   word_is j g layout x few =
       let span = g.spans m.span.head x.h x.head in
       let below : m.span.class < 25 = class_below x.h.class m.span.class x.class span.fits.class in

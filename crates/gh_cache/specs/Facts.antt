@@ -16,7 +16,7 @@ use Rattle.gh_cache.specs.declared.next_slot.SlotStage.TheVariants.{Look}
 use Rattle.gh_cache.specs.Listing.{Searching, asks, gives, goes, slot_at}
 
 -- the seat holds the span, which begins at its head page and is of its class and noscan or not
-pub record IsHeld (a : ℕ) (v : View) (span : Cached) (noscan : Bool) : Type 0 where
+pub record SpanIsHeld (a : ℕ) (v : View) (span : Cached) (noscan : Bool) : Type 0 where
   pub h : SpanHead
   pub head : page_of (v.page span.head) ≡ page.Head h
   pub class : h.class ≡ Small span.class
@@ -29,7 +29,7 @@ TakenBelow alloc span = (j : ℕ) → j < span.cursor → row_bit alloc (slot_at
 
 pub record Facts (z : Arena) (a : ℕ) (v : View) (noscan : Bool) (s : Searching) : Type 0 where
   pub layout : s.layout ≡ z.layout
-  pub span : IsHeld a v s.span noscan
+  pub span : SpanIsHeld a v s.span noscan
   pub stage : s.stage ≡ Look
   pub cursor : s.span.cursor < slots_of s.span.class
   pub taken : TakenBelow v.alloc s.span
@@ -39,20 +39,20 @@ pub record Finds (z : Arena) (a : ℕ) (v : View) (noscan : Bool) (span : Cached
   pub claim : Claims z v a (slot_at span slot) (slot_words_of span.class)
   pub class : claim.h.class ≡ Small span.class
   pub noscan_is : claim.h.noscan ≡ noscan
-  pub span_held : IsHeld a v span noscan
+  pub span_held : SpanIsHeld a v span noscan
   pub here : slot ≡ span.cursor
   pub below : span.cursor < slots_of span.class
   pub taken : TakenBelow v.alloc span
 
 -- all its slots are taken
-pub record IsUsedUp (a : ℕ) (v : View) (noscan : Bool) (span : Cached) : Type 0 where
-  pub span_held : IsHeld a v span noscan
+pub record AllSlotsAreTaken (a : ℕ) (v : View) (noscan : Bool) (span : Cached) : Type 0 where
+  pub span_held : SpanIsHeld a v span noscan
   pub full : IsFull v.alloc span.head span_held.h
 
 -- What a step comes to in w: the facts of the next stage, or of the end.
 abbrev pub Comes : Arena → (a : ℕ) → (w : View) → (noscan : Bool) → Option (Option ℕ) → Searching → Type 0
 Comes z a w noscan None s = Facts z a w noscan s
-Comes z a w noscan (Some None) s = IsUsedUp a w noscan s.span
+Comes z a w noscan (Some None) s = AllSlotsAreTaken a w noscan s.span
 Comes z a w noscan (Some (Some slot)) s = Finds z a w noscan s.span slot
 
 -- a step of its own; it needs no lock

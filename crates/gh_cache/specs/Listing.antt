@@ -38,8 +38,8 @@ abbrev pub is_clear : Cached → ℕ → ℕ → Bool
 is_clear span slot found = bit_at found (slot_at span slot % 64) == 0
 
 -- there is a slot behind the one at the cursor
-abbrev pub has_next : Cached → Bool
-has_next span = nat_lt (span.cursor + 1) (slots_of span.class)
+abbrev pub has_next_slot : Cached → Bool
+has_next_slot span = nat_lt (span.cursor + 1) (slots_of span.class)
 
 -- the slot at the cursor is clear in this word
 abbrev pub is_found : Searching → ℕ → Bool
@@ -52,7 +52,7 @@ module _ (s : Searching) where
 
   -- the cursor moves on
   abbrev pub passed : Searching
-  passed = record s { span = record (s.span) { cursor = s.span.cursor + 1 }; stage = if has_next s.span then Look else Ended None }
+  passed = record s { span = record (s.span) { cursor = s.span.cursor + 1 }; stage = if has_next_slot s.span then Look else Ended None }
 
   abbrev pub goes_at : SlotStage → ℕ → Searching
   goes_at Look found = if is_found s found then at_stage s (Ended (Some s.span.cursor)) else passed

@@ -6,9 +6,9 @@ use Rattle.gh_central.proofs.Vocabulary.{after_page, alloc_word, Arena, asks, at
 use Rattle.gh_central.proofs.Heads.{past-page, past-span}
 use Rattle.gh_central.proofs.HeadTests.{wanted-is, wanted-test}
 use Rattle.gh_central.proofs.Taking as taking
-use Rattle.gh_central.specs.PassFacts.{Comes, Facts, FactsAt, HasPassed, IsSure, IsUnowned, Lasts, LooksAt, LooksInto, Opens, OwnStep, Passes, PassesByItsRights, TakenBelow, Within, sought}
+use Rattle.gh_central.specs.PassFacts.{Comes, Facts, FactsAt, HasPassed, IsSure, IsUnowned, Lasts, LooksAt, LooksInto, Opens, OwnStep, Passes, PassesByItsRights, SlotsTakenBelow, Within, sought}
 use Rattle.gh_central.specs.Slots.{TheTestSaysIt}
-use Rattle.gh_heap.specs.Spans.{is_own_class, number_of}
+use Rattle.gh_heap.specs.Spans.{is_own_class, number_of_class}
 
 pub record Known : Type 0 where
   pub packed : PackedWordsAreReadBack
@@ -46,10 +46,10 @@ stage-lasts k z a sure v w m (Bits p h i) o l x = record {
   within = x.within;
   taken = λ j few below. subst (λ (n : ℕ). row_bit w.alloc n ≡ 1) (slot j h.class x.unowned.class) (o.bits p j h x.unowned.head x.unowned.number (count j h.class x.unowned.class few) (subst (λ (n : ℕ). row_bit v.alloc n ≡ 1) (sym (slot j h.class x.unowned.class)) (x.taken j few below)));
 } where
-  slot : (j : ℕ) (f : SizeClass) → f ≡ Small m.wanted.class → 1024 * p + j * cond (is_own_class f) (1024 * h.pages) (slot_of (number_of f) / 8) ≡ 1024 * p + j * slot_words_of m.wanted.class
+  slot : (j : ℕ) (f : SizeClass) → f ≡ Small m.wanted.class → 1024 * p + j * cond (is_own_class f) (1024 * h.pages) (slot_of (number_of_class f) / 8) ≡ 1024 * p + j * slot_words_of m.wanted.class
   slot j f e = rw (e) refl
 
-  count : (j : ℕ) (f : SizeClass) → f ≡ Small m.wanted.class → j < slots_of m.wanted.class → j < cond (is_own_class f) 1 (slots_of (number_of f))
+  count : (j : ℕ) (f : SizeClass) → f ≡ Small m.wanted.class → j < slots_of m.wanted.class → j < cond (is_own_class f) 1 (slots_of (number_of_class f))
   count j f e lt = rw (e) lt
 stage-lasts k z a sure v w m (Take p h) o l x = taking.unowned-lasts k.last z a v w m.wanted p h o l x
 stage-lasts k z a sure v w m (Ended taken) o l x = x
@@ -137,14 +137,14 @@ module _ (k : Known) (z : Arena) (a : ℕ) (sure : Bool) (s : Shared) (held : �
       let span = g.spans p h x.unowned.head in
       rw (whose.layout) (mod-eq_of_lt (omega (arith, span.within, x.within)))
 
-  more-taken : (p i found : ℕ) (h : SpanHead) → found ≡ now.alloc (16 * p + i) → lacks_at m p i found ≡ false → LooksInto sure m.wanted (sought m) now p h i → TakenBelow m.wanted now.alloc p (i + 1)
+  more-taken : (p i found : ℕ) (h : SpanHead) → found ≡ now.alloc (16 * p + i) → lacks_at m p i found ≡ false → LooksInto sure m.wanted (sought m) now p h i → SlotsTakenBelow m.wanted now.alloc p (i + 1)
   unfolding row_bit
   more-taken p i found h is none x j few below = elim (eqb_tells (slot_at p j / 64) (16 * p + i)) [
     | inl y ↦ rw (y.1) (subst (λ (w : ℕ). bit_at w (slot_at p j % 64) ≡ 1) is (lacks-none p i found none j few y.1))
     | inr n ↦ x.taken j few (omega (arith, n.1))
   ]
 
-  all-taken : (p i : ℕ) (h : SpanHead) → Good z now → Right a now true held None → Passes z a now m → IsUnowned m.wanted now.page now.generation p h → 16 * h.pages ≤ i → TakenBelow m.wanted now.alloc p i → IsFull now.alloc p h
+  all-taken : (p i : ℕ) (h : SpanHead) → Good z now → Right a now true held None → Passes z a now m → IsUnowned m.wanted now.page now.generation p h → 16 * h.pages ≤ i → SlotsTakenBelow m.wanted now.alloc p i → IsFull now.alloc p h
   all-taken p i h g right whose x le taken j few =
       let span = whole g right p h x.head in
       let counted : slot_count h ≡ slots_of m.wanted.class = rw (x.class) refl in

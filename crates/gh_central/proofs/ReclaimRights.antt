@@ -5,7 +5,7 @@ use Rattle.gh_base.specs.declared.pack.PageWord.TheVariants as page
 use Rattle.gh_central.specs.declared.reclaim.ReclaimStage.{ReclaimStage}
 use Rattle.gh_central.specs.declared.reclaim.ReclaimStage.TheVariants.{Look, Sweep, Wait, Bits, Body, Head, Ended}
 use Rattle.gh_central.specs.Reclaim.{Reclaiming, after_page, after_wait, alloc_word, asks, at_stage, body_page, free_from, given_at, gives, goes, goes_at, look_from, sweep_at, unswept}
-use Rattle.gh_central.specs.ReclaimFacts.{ClearBelow, Comes, Facts, FactsAt, FreesFrom, IsIdle, IsReady, IsUnowned, Lasts, LooksAt, LooksInto, Opens, OwnStep, Reclaims, WaitsFor, Within, freed_to, freeing_at}
+use Rattle.gh_central.specs.ReclaimFacts.{ClearBelow, Comes, Facts, FactsAt, FreesFrom, IsIdleSpan, IsReadyToFree, IsUnowned, Lasts, LooksAt, LooksInto, Opens, OwnStep, Reclaims, WaitsFor, Within, freed_to, freeing_at}
 use Rattle.gh_central.proofs.Vocabulary.{Arena, BeingFreed, bit_at, bit_at-trailing_zeros, bit_at-zero, cell_of, EachFactLasts, EachFreeingFollows, EachOwnMoveLeaves, eqb-false, eqb_tells, FreeBody, freed_yet, FreeHead, Freeing, Good, InRange, IsEmpty, IsInUse, IsSpan, KeepsObjects, Layout, Leaves, MayFree, mod-eq_of_lt, mod-lt, moved, Others, PackedWordsAreReadBack, page_of, PageWord, put, Quiet, Right, Rights, row_bit, Shared, SpanHead, Steps, TheHeapIsApart, TidyBefore, trailing_zeros, View, view, WalksGoOn}
 use Rattle.gh_central.proofs.Heads.{past-page, past-span}
 use Rattle.gh_central.proofs.Sweeping.Steps as steps
@@ -32,7 +32,7 @@ module _ (k : Known) (z : Arena) (a : ℕ) (v w : View) (g : Good z v) (o : Othe
   clear-lasts : (p i : ℕ) (h : SpanHead) → v.freeing a ≡ None → page_of (v.page p) ≡ page.Head h → h.owner ≡ 0 → i ≤ 16 * h.pages → ClearBelow v.alloc p i → ClearBelow w.alloc p i
   clear-lasts p i h none head owner few clear x low high = o.clear p x h ((k.apart z v g).locked a p h l none head) owner low (omega (arith, few, high)) (clear x low high)
 
-  vacant-lasts : (p count : ℕ) → v.freeing a ≡ None → IsReady v p count → IsReady w p count
+  vacant-lasts : (p count : ℕ) → v.freeing a ≡ None → IsReadyToFree v p count → IsReadyToFree w p count
   vacant-lasts p count none x = record {
     being = (k.last z a v w o).freed (freed_to p count 1) l x.being x.swept;
     swept =
@@ -192,7 +192,7 @@ module _ (k : Known) (z : Arena) (a : ℕ) (s : Shared) (held : ℕ → Bool) (m
     none : (j : ℕ) → bit_at 0 j ≡ 0
     none j = bit_at-zero j
 
-  is-vacant : (p count : ℕ) → Good z now → Right a now true held None → (x : IsIdle now.page now.generation p count) → 1 ≤ count → IsEmpty now.alloc p count → IsReady now p count
+  is-vacant : (p count : ℕ) → Good z now → Right a now true held None → (x : IsIdleSpan now.page now.generation p count) → 1 ≤ count → IsEmpty now.alloc p count → IsReadyToFree now p count
   is-vacant p count g right x some empty =
       let span = whole g right p x.h x.head in
       record {
@@ -211,7 +211,7 @@ module _ (k : Known) (z : Arena) (a : ℕ) (s : Shared) (held : ℕ → Bool) (m
       }
 
   -- which page is freed first
-  first : (p count : ℕ) → Good z now → Right a now true held None → Reclaims z now m → IsIdle now.page now.generation p count → TidyBefore now.page now.alloc now.generation p → IsEmpty now.alloc p count → (b : Bool) → ltb 1 count ≡ b →
+  first : (p count : ℕ) → Good z now → Right a now true held None → Reclaims z now m → IsIdleSpan now.page now.generation p count → TidyBefore now.page now.alloc now.generation p → IsEmpty now.alloc p count → (b : Bool) → ltb 1 count ≡ b →
       Goes (cond b (Body p count 1) (Head p count))
   first p count g right whose x tidy empty b t = go b t where
     span : IsSpan z.layout.pages now.page p x.h

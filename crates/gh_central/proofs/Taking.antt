@@ -5,7 +5,7 @@ use Rattle.gh_base.specs.declared.cell.Cell.TheVariants as cell
 use Rattle.gh_base.specs.declared.pack.PageWord.TheVariants as page
 use Rattle.gh_class.specs.declared.class.SpanClass.{SpanClass}
 use Rattle.gh_central.proofs.Vocabulary.{Arena, EachFactLasts, EachMoveKeeps, EachOwnMoveLeaves, EachRightFollows, effect, Good, head_word, IsSpan, KeepsObjects, Large, Laying, Leaves, MayPass, moved, Others, Own, owned_by, owner_at, owner_in, PackedWordsAreReadBack, page_of, Right, Shared, Small, SpanHead, Steps, TheHeapIsApart, update, View, view}
-use Rattle.gh_central.specs.PassFacts.{IsTaken, IsUnowned}
+use Rattle.gh_central.specs.PassFacts.{IsUnowned, SpanIsTaken}
 
 pub record Known : Type 0 where
   pub packed : PackedWordsAreReadBack
@@ -32,7 +32,7 @@ not-held z a v l held y p g right none = go (held p) refl where
 
 -- what the store of its head leaves
 abbrev pub Taken : Arena → (a : ℕ) → (v w : View) → (ℕ → Bool) → SpanClass → (p : ℕ) → Type 0
-Taken z a v w held wanted p = KeepsObjects v w × (Leaves v w × Right a w true (update held p true) None × IsTaken z a wanted w.page p × (held p ≡ false))
+Taken z a v w held wanted p = KeepsObjects v w × (Leaves v w × Right a w true (update held p true) None × SpanIsTaken z a wanted w.page p × (held p ≡ false))
 
 module _ (k : Known) (z : Arena) (a : ℕ) (s : Shared) (held : ℕ → Bool) (wanted : SpanClass) (seat : ℕ) (whose : seat ≡ a) where
   abbrev now : View

@@ -13,13 +13,13 @@ use Rattle.gh_central.specs.declared.give.GiveStage.TheVariants.{Write, Ended}
 use Rattle.gh_central.specs.SweptPass.{owned_by}
 
 -- the span's first page and what its head word says, and the routine's stage
-pub record Giving : Type 0 where
+pub record SpanGiving : Type 0 where
   pub layout : Layout
   pub page : ℕ
   pub head : SpanHead
   pub stage : GiveStage
 
-abbrev pub opening : Layout → ℕ → SpanHead → Giving
+abbrev pub opening : Layout → ℕ → SpanHead → SpanGiving
 opening l page h = record { layout = l; page = page; head = h; stage = Write }
 
 -- the page is one of the arena, and the head fits its word
@@ -36,23 +36,23 @@ given_at _ = None
 abbrev pub is_busy : GiveStage → Bool
 is_busy p = is_none (given_at p)
 
-abbrev pub asks_at : Giving → GiveStage → Ask
+abbrev pub asks_at : SpanGiving → GiveStage → Ask
 asks_at g Write = Store (Page g.page) (head_word (owned_by 0 g.head))
 asks_at g Ended = Load Touch
 
 -- the step that it asks for, what it is after the step found this, and what it has given
-abbrev pub asks : Giving → Ask
+abbrev pub asks : SpanGiving → Ask
 asks g = asks_at g g.stage
 
-abbrev pub goes : Giving → ℕ → Giving
+abbrev pub goes : SpanGiving → ℕ → SpanGiving
 goes g found = record g { stage = Ended }
 
-abbrev pub given : Giving → Option (Unit {0})
+abbrev pub given : SpanGiving → Option (Unit {0})
 given g = given_at g.stage
 
 -- and by a step
-abbrev pub gives : Giving → ℕ → Option (Unit {0})
+abbrev pub gives : SpanGiving → ℕ → Option (Unit {0})
 gives g found = given (goes g found)
 
-abbrev pub listing : Listing Giving (Unit {0})
+abbrev pub listing : Listing SpanGiving (Unit {0})
 listing = listing_of (λ g. g.layout) asks goes given

@@ -10,10 +10,10 @@ use Rattle.gh_heap.specs.Moves.{KeepsObjects, Others, Steps, update}
 use Rattle.gh_heap.specs.Rights.{Arena, Good, Right, Shared, View, view}
 use Rattle.gh_heap.specs.Spans.{IsFull, Laying, owned_by}
 use Rattle.gh_central.specs.declared.give.GiveStage.TheVariants.{Write}
-use Rattle.gh_central.specs.GiveBack.{Giving, asks}
+use Rattle.gh_central.specs.GiveBack.{SpanGiving, asks}
 
 -- the head of the span, which the seat holds, is what is written but for its owner
-pub record CanGiveBack (z : Arena) (a : ℕ) (v : View) (g : Giving) : Type 0 where
+pub record CanGiveBack (z : Arena) (a : ℕ) (v : View) (g : SpanGiving) : Type 0 where
   pub stage : g.stage ≡ Write
   pub h : SpanHead
   pub head : page_of (v.page g.page) ≡ page.Head h
@@ -23,21 +23,21 @@ pub record CanGiveBack (z : Arena) (a : ℕ) (v : View) (g : Giving) : Type 0 wh
 
 -- with the lock, the seat does not hold it any more
 abbrev pub GivesBack : Type 0
-GivesBack = (z : Arena) (a : ℕ) (s : Shared) (held : ℕ → Bool) (g : Giving) → Good z (view s) → Right a (view s) true held None → CanGiveBack z a (view s) g →
+GivesBack = (z : Arena) (a : ℕ) (s : Shared) (held : ℕ → Bool) (g : SpanGiving) → Good z (view s) → Right a (view s) true held None → CanGiveBack z a (view s) g →
     Steps z a s (asks g) (λ t. KeepsObjects (view s) (view t) × Right a (view t) true (update held g.page false) None)
 
 -- and a large object's span without it, once the object is made
 abbrev pub GivesLarge : Type 0
-GivesLarge = (z : Arena) (a : ℕ) (s : Shared) (l : Bool) (held : ℕ → Bool) (y : Option Laying) (g : Giving) → Good z (view s) → Right a (view s) l held y → (c : CanGiveBack z a (view s) g) → c.h.class ≡ Large → IsFull (view s).alloc g.page c.h →
+GivesLarge = (z : Arena) (a : ℕ) (s : Shared) (l : Bool) (held : ℕ → Bool) (y : Option Laying) (g : SpanGiving) → Good z (view s) → Right a (view s) l held y → (c : CanGiveBack z a (view s) g) → c.h.class ≡ Large → IsFull (view s).alloc g.page c.h →
     Steps z a s (asks g) (λ t. KeepsObjects (view s) (view t) × Right a (view t) l (update held g.page false) y)
 
 -- it is on a word that there is
 abbrev pub Within : Type 0
-Within = (z : Arena) (a : ℕ) (v : View) (g : Giving) → Good z v → CanGiveBack z a v g → InRange z.layout (cell_of (asks g))
+Within = (z : Arena) (a : ℕ) (v : View) (g : SpanGiving) → Good z v → CanGiveBack z a v g → InRange z.layout (cell_of (asks g))
 
 -- what must be known lasts, whatever others do
 abbrev pub Lasts : Type 0
-Lasts = (z : Arena) (a : ℕ) (v w : View) (g : Giving) → Others z a v w → CanGiveBack z a v g → CanGiveBack z a w g
+Lasts = (z : Arena) (a : ℕ) (v w : View) (g : SpanGiving) → Others z a v w → CanGiveBack z a v g → CanGiveBack z a w g
 
 pub record GivesByItsRights : Type 0 where
   pub gives : GivesBack

@@ -37,8 +37,8 @@ pub record IsUnowned (wanted : SpanClass) (page_words : Row) (generation p : ℕ
   pub number : h.number ≡ generation
 
 -- each slot of the span at page p is taken whose bit stands before alloc word i of the span
-abbrev pub TakenBelow : SpanClass → (alloc : Row) → (p i : ℕ) → Type 0
-TakenBelow wanted alloc p i = (j : ℕ) → j < slots_of wanted.class → (1024 * p + j * slot_words_of wanted.class) / 64 < 16 * p + i → row_bit alloc (1024 * p + j * slot_words_of wanted.class) ≡ 1
+abbrev pub SlotsTakenBelow : SpanClass → (alloc : Row) → (p i : ℕ) → Type 0
+SlotsTakenBelow wanted alloc p i = (j : ℕ) → j < slots_of wanted.class → (1024 * p + j * slot_words_of wanted.class) / 64 < 16 * p + i → row_bit alloc (1024 * p + j * slot_words_of wanted.class) ≡ 1
 
 -- Of the spans that the pass has gone past it claims something only in the last round: then each that nobody owns is swept, and stays so.
 abbrev pub HasPassed : (sure : Bool) → (span : SpanHead) → View → (p : ℕ) → Type 0
@@ -52,7 +52,7 @@ pub record LooksInto (sure : Bool) (wanted : SpanClass) (span : SpanHead) (v : V
   pub unowned : IsUnowned wanted v.page v.generation p h
   pub full : HasPassed sure span v p
   pub within : i < 16 * h.pages
-  pub taken : TakenBelow wanted v.alloc p i
+  pub taken : SlotsTakenBelow wanted v.alloc p i
 
 abbrev pub FactsAt : Arena → (sure : Bool) → Pass → View → PassStage → Type 0
 FactsAt z sure m v (Look p) = LooksAt z sure (sought m) v p
@@ -65,7 +65,7 @@ pub record Facts (z : Arena) (a : ℕ) (sure : Bool) (v : View) (m : Pass) : Typ
   pub stage : FactsAt z sure m v m.stage
 
 -- a span of the span class begins at page p, and this seat owns it
-pub record IsTaken (z : Arena) (a : ℕ) (wanted : SpanClass) (page_words : Row) (p : ℕ) : Type 0 where
+pub record SpanIsTaken (z : Arena) (a : ℕ) (wanted : SpanClass) (page_words : Row) (p : ℕ) : Type 0 where
   pub h : SpanHead
   pub span : IsSpan z.layout.pages page_words p h
   pub class : h.class ≡ Small wanted.class
@@ -76,7 +76,7 @@ pub record IsTaken (z : Arena) (a : ℕ) (wanted : SpanClass) (page_words : Row)
 abbrev pub Comes : Arena → (a : ℕ) → (sure : Bool) → (v w : View) → (ℕ → Bool) → Option (Option ℕ) → Pass → Type 0
 Comes z a sure v w held None m = Leaves v w × Right a w true held None × Facts z a sure w m
 Comes z a sure v w held (Some None) m = Leaves v w × Right a w true held None × HasPassed sure (sought m) w z.layout.pages
-Comes z a sure v w held (Some (Some p)) m = Leaves v w × Right a w true (update held p true) None × IsTaken z a m.wanted w.page p × (held p ≡ false)
+Comes z a sure v w held (Some (Some p)) m = Leaves v w × Right a w true (update held p true) None × SpanIsTaken z a m.wanted w.page p × (held p ≡ false)
 
 abbrev pub Opens : Type 0
 Opens = (z : Arena) (a : ℕ) (sure : Bool) (v : View) (m : Pass) → Passes z a v m → m.stage ≡ Look 0 → Facts z a sure v m

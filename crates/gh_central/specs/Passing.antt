@@ -15,8 +15,8 @@ use Rattle.gh_central.specs.Slots.{LacksSlot}
 use Rattle.gh_central.specs.SweptPass.{Pass, alloc_word, asks, listing, opening, owned_by, pages_gone}
 
 -- one of its first n steps is this, and was told this word
-abbrev pub IsTold : Pass → (ℕ → ℕ) → (n : ℕ) → Ask → ℕ → Type 0
-IsTold m found n ask word = (i : ℕ) × (i < n) × (asks (told listing m found i) ≡ ask) × (found i ≡ word)
+abbrev pub StepWasTold : Pass → (ℕ → ℕ) → (n : ℕ) → Ask → ℕ → Type 0
+StepWasTold m found n ask word = (i : ℕ) × (i < n) × (asks (told listing m found i) ≡ ask) × (found i ≡ word)
 
 -- the head of a span of the wanted span class that nobody owns, and that is swept
 pub record IsWanted (m : Pass) (h : SpanHead) : Type 0 where
@@ -33,11 +33,11 @@ LacksAt m page i word = LacksSlot (slot_words_of m.wanted.class) (slots_of m.wan
 module _ (m : Pass) (found : ℕ → ℕ) (n : ℕ) where
   -- the page was told to be this head
   abbrev pub IsHead : ℕ → SpanHead → Type 0
-  IsHead page h = (word : ℕ) × IsTold m found n (Load (Page page)) word × (page_of word ≡ Head h)
+  IsHead page h = (word : ℕ) × StepWasTold m found n (Load (Page page)) word × (page_of word ≡ Head h)
 
   -- alloc word i of the span at this page was told to be this
   abbrev pub IsBits : (page i word : ℕ) → Type 0
-  IsBits page i word = IsTold m found n (Load (Alloc (alloc_word m page i))) word
+  IsBits page i word = StepWasTold m found n (Load (Alloc (alloc_word m page i))) word
 
   -- each slot that begins in an alloc word of the span is taken, as they were told
   abbrev pub IsFull : ℕ → SpanHead → Type 0
@@ -45,7 +45,7 @@ module _ (m : Pass) (found : ℕ → ℕ) (n : ℕ) where
 
   -- the page was told, or it lies in the span of a head that was told
   abbrev pub IsMet : ℕ → Type 0
-  IsMet page = (first word : ℕ) × IsTold m found n (Load (Page first)) word × (first ≤ page) × (page < first + pages_gone (page_of word))
+  IsMet page = (first word : ℕ) × StepWasTold m found n (Load (Page first)) word × (first ≤ page) × (page < first + pages_gone (page_of word))
 
   -- the pages before this one were met, and a head of a wanted span that was told of one of them is of a full span
   pub record Passes (end : ℕ) : Type 0 where
@@ -59,7 +59,7 @@ module _ (m : Pass) (found : ℕ → ℕ) (n : ℕ) where
     pub wanted : IsWanted m head
     pub lacks : (i word : ℕ) × (i < 16 * head.pages) × IsBits page i word × LacksAt m page i word
     pub first : Passes page
-    pub last : (other word : ℕ) → IsTold m found n (Load (Page other)) word → other ≤ page
+    pub last : (other word : ℕ) → StepWasTold m found n (Load (Page other)) word → other ≤ page
     pub store : asks (told listing m found n) ≡ Store (Page page) (head_word (owned_by (m.seat + 1) head))
 
 -- what it gives if step n is its last

@@ -62,7 +62,7 @@ pub record SweepsIt (z : Arena) (v : View) (p count : ℕ) (sw : Sweeping) : Typ
   pub busy : is_busy sw.stage ≡ true
 
 -- a swept span of so many pages that nobody owns begins at page p
-pub record IsIdle (page_words : Row) (generation p count : ℕ) : Type 0 where
+pub record IsIdleSpan (page_words : Row) (generation p count : ℕ) : Type 0 where
   pub h : SpanHead
   pub head : page_of (page_words p) ≡ page.Head h
   pub owner : h.owner ≡ 0
@@ -74,13 +74,13 @@ abbrev pub ClearBelow : (alloc : Row) → (p i : ℕ) → Type 0
 ClearBelow alloc p i = (x : ℕ) → 1024 * p ≤ x → x < 1024 * p + 64 * i → row_bit alloc x ≡ 0
 
 pub record LooksInto (v : View) (p count i : ℕ) : Type 0 where
-  pub idle : IsIdle v.page v.generation p count
+  pub idle : IsIdleSpan v.page v.generation p count
   pub tidy : TidyBefore v.page v.alloc v.generation p
   pub within : i < 16 * count
   pub clear : ClearBelow v.alloc p i
 
 -- a span that nobody owns begins at page p, and no object stands in it
-pub record IsReady (v : View) (p count : ℕ) : Type 0 where
+pub record IsReadyToFree (v : View) (p count : ℕ) : Type 0 where
   pub being : BeingFreed v.page (freed_to p count 1)
   pub swept : being.h.number ≡ v.generation
   pub empty : IsEmpty v.alloc p count
@@ -91,7 +91,7 @@ pub record FreesFrom (z : Arena) (v : View) (p count distance : ℕ) : Type 0 wh
   pub there : p + count ≤ z.layout.pages
   pub some : 0 < distance
   pub few : distance ≤ count
-  pub vacant : distance ≡ 1 → IsReady v p count
+  pub vacant : distance ≡ 1 → IsReadyToFree v p count
 
 abbrev pub FactsAt : Arena → View → ReclaimStage → Type 0
 FactsAt z v (Look p) = LooksAt z v p

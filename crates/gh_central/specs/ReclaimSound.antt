@@ -7,18 +7,18 @@ use Rattle.gh_central.specs.Reclaim.{Reclaiming}
 use Rattle.gh_sweep.specs.Listing as sweep
 
 -- the page is one of the arena, and a head word has room for the number of pages
-pub record IsSpan (l : Layout) (page pages : ℕ) : Type 0 where
+pub record CanBeASpan (l : Layout) (page pages : ℕ) : Type 0 where
   pub there : page < l.pages
   pub some : 1 ≤ pages
   pub few : pages < 2 ^ 13
 
 abbrev pub IsStage : Layout → ReclaimStage → Type 0
 IsStage l (Look page) = page < l.pages
-IsStage l (Sweep page pages sw) = IsSpan l page pages × (sw.layout ≡ l) × (sweep.is_busy sw.stage ≡ true)
+IsStage l (Sweep page pages sw) = CanBeASpan l page pages × (sw.layout ≡ l) × (sweep.is_busy sw.stage ≡ true)
 IsStage l (Wait page) = page < l.pages
-IsStage l (Bits page pages i) = IsSpan l page pages × (i < 16 * pages)
-IsStage l (Body page pages distance) = IsSpan l page pages × (distance < pages)
-IsStage l (Head page pages) = IsSpan l page pages
+IsStage l (Bits page pages i) = CanBeASpan l page pages × (i < 16 * pages)
+IsStage l (Body page pages distance) = CanBeASpan l page pages × (distance < pages)
+IsStage l (Head page pages) = CanBeASpan l page pages
 IsStage l Ended = Unit {0}
 
 pub record Sound (m : Reclaiming) : Type 0 where

@@ -11,13 +11,13 @@ pub record IsClear (slot first word found i : ℕ) : Type 0 where
 abbrev pub LacksSlot : (slot slots first word found : ℕ) → Type 0
 LacksSlot slot slots first word found = (i : ℕ) × (i < slots) × IsClear slot first word found i
 
-abbrev pub is_clear : (slot first word found i : ℕ) → Bool
-is_clear slot first word found i = ((first + i * slot) / 64 == word) && (bit_at found ((first + i * slot) % 64) == 0)
+abbrev pub slot_is_clear : (slot first word found i : ℕ) → Bool
+slot_is_clear slot first word found i = ((first + i * slot) / 64 == word) && (bit_at found ((first + i * slot) % 64) == 0)
 
 -- the same as a test
 unfoldable pub lacks_slot : (slot slots first word found : ℕ) → Bool
 lacks_slot slot zero first word found = false
-lacks_slot slot (suc i) first word found = is_clear slot first word found i || lacks_slot slot i first word found
+lacks_slot slot (suc i) first word found = slot_is_clear slot first word found i || lacks_slot slot i first word found
 
 abbrev pub TheTestSaysIt : Type 0
 TheTestSaysIt = (slot slots first word found : ℕ) → (lacks_slot slot slots first word found ≡ true) ↔ LacksSlot slot slots first word found

@@ -12,7 +12,7 @@ use Rattle.gh_sweep.specs.Listing.{is_busy, Sweeping}
 use Rattle.gh_central.specs.declared.unswept.UnsweptStage.{UnsweptStage}
 use Rattle.gh_central.specs.declared.unswept.UnsweptStage.TheVariants.{Look, Sweep, Take, Ended}
 use Rattle.gh_central.specs.PassFacts as swept
-use Rattle.gh_central.specs.PassFacts.{IsTaken}
+use Rattle.gh_central.specs.PassFacts.{SpanIsTaken}
 use Rattle.gh_central.specs.ReclaimFacts as reclaiming
 use Rattle.gh_central.specs.Sweeping.{SweepLeaves}
 use Rattle.gh_central.specs.UnsweptPass.{Unswept, asks, gives, goes, sweep_in}
@@ -52,7 +52,7 @@ pub record Facts (z : Arena) (a : ℕ) (v : View) (m : Unswept) : Type 0 where
 abbrev pub Comes : Arena → (a : ℕ) → (v w : View) → (ℕ → Bool) → Option (Option ℕ) → Unswept → Type 0
 Comes z a v w held None m = Leaves v w × Right a w true held None × Facts z a w m
 Comes z a v w held (Some None) m = Leaves v w × Right a w true held None
-Comes z a v w held (Some (Some p)) m = Leaves v w × Right a w true (update held p true) None × IsTaken z a m.wanted w.page p × (held p ≡ false)
+Comes z a v w held (Some (Some p)) m = Leaves v w × Right a w true (update held p true) None × SpanIsTaken z a m.wanted w.page p × (held p ≡ false)
 
 abbrev pub Opens : Type 0
 Opens = (z : Arena) (a : ℕ) (v : View) (m : Unswept) → Passes z a v m → m.stage ≡ Look 0 → Facts z a v m

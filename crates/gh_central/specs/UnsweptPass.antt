@@ -1,5 +1,5 @@
 -- The pass for an unswept span that has room once it is swept: what it asks for at each stage, where that leads, and what it has given.
-use Rattle.std.specs.Prelude.{ℕ, ◌+◌, Bool, nat_lt, ◌==◌, ◌&&◌, if◌then◌else◌, Option, Some, None, is_none}
+use Rattle.std.specs.Prelude.{ℕ, ◌+◌, Bool, true, false, nat_lt, ◌==◌, ◌&&◌, if◌then◌else◌, Option, Some, None, is_none}
 use Rattle.std.specs.Bool.{beq}
 use Rattle.gh_base.specs.declared.cell.Cell.TheVariants as cell
 use Rattle.gh_base.specs.declared.cell.Ask.{Ask}
@@ -44,6 +44,11 @@ given_at _ = None
 abbrev pub is_busy : UnsweptStage → Bool
 is_busy p = is_none (given_at p)
 
+-- it looks at a page
+abbrev pub looks : UnsweptStage → Bool
+looks (Look page) = true
+looks _ = false
+
 module _ (m : Unswept) where
   -- a span of the wanted span class that is not swept, and that nobody sweeps
   abbrev pub is_unswept : SpanHead → Bool
@@ -74,6 +79,10 @@ module _ (m : Unswept) where
   goes_at (Sweep page h sw) found = after_sweep page h (sweep.goes sw found) (sweep.gives sw found)
   goes_at (Take page h) found = Ended (Some page)
   goes_at (Ended taken) found = Ended taken
+
+  -- it looks at a page, and at a further one once the word is found
+  abbrev pub looks_on_at : UnsweptStage → (found : ℕ) → Bool
+  looks_on_at p found = looks p && looks (goes_at p found)
 
 -- the step that it asks for, what it is after the step found this, and what it has given
 abbrev pub asks : Unswept → Ask

@@ -30,9 +30,9 @@ pub struct GiveBack {
 }
 
 impl Model for GiveBack {
-    ghost use Rattle.gh_central.specs.GiveBack.{Giving, CanGive};
+    ghost use Rattle.gh_central.specs.GiveBack.{SpanGiving, CanGive};
 
-    ghost Value = { Giving };
+    ghost Value = { SpanGiving };
 
     ghost view = { λ g. record { layout = g.layout; page = g.page; head = g.head; stage = g.stage } };
 

@@ -1,11 +1,11 @@
 //! The pass over the spans for one that is not swept, and has room once it is.
 
-ghost use Rattle.std.specs.Prelude.{◌≡◌, ◌+◌, ◌^◌, ◌<◌, true};
+ghost use Rattle.std.specs.Prelude.{◌≡◌, ◌+◌, ◌^◌, ◌<◌, IfSome, IsTrue, None, false, true};
 ghost use Rattle.gh_base.specs.Cells.{InRange, seats_of};
 ghost use Rattle.gh_base.specs.Steps.{cell_of};
 ghost use Rattle.gh_base.specs.Packing.{FitsHead, FitsPage, head_word};
 ghost use Rattle.gh_central.specs.SweptPass.{owned_by};
-ghost use Rattle.gh_central.specs.UnsweptPass.{after_page, after_sweep, asks, given, goes_at, is_unswept, look_from, opening};
+ghost use Rattle.gh_central.specs.UnsweptPass.{after_page, after_sweep, asks, given, gives, goes, goes_at, is_unswept, look_from, looks, looks_on_at, opening};
 ghost use Rattle.gh_sweep.specs.Listing as sweeping;
 ghost use Rattle.gh_sweep.specs.Listing.{once_swept};
 ghost use Rattle.gh_sweep.specs.Sound.{FitsSweep};
@@ -182,6 +182,52 @@ impl UnsweptPass {
             // Full, or another's sweep: it is met once. Where no span will do, `Reclaim` sees each swept.
             Some(_) => self.look_from(page + head.pages),
         }
+    }
+
+    /// The page behind the span or the page, where the page was found to be this; `None` for a span that it sweeps.
+    #[inline(always)]
+    fn next_page(&self, page: u32, found: PageWord) -> Option<u32>
+        requires page { page < self.now.layout.pages }
+        requires fits { FitsPage found }
+        ensures looks { IfSome result (λ next. after_page self.now page found ≡ look_from self.now next) }
+        ensures sweeps { result ≡ None → looks (after_page self.now page found) ≡ false }
+    {
+        match found {
+            PageWord::Head(head) => {
+                if self.is_unswept(&head) {
+                    None
+                } else {
+                    Some(page + head.pages)
+                }
+            }
+            PageWord::Free | PageWord::Body(_) => Some(page + 1),
+        }
+    }
+
+    /// Goes on to a further page, where the word found leads there, and answers whether it did: behind a span that it
+    /// does not sweep, or behind a page that is no head. It changes one number then; where it did not, nothing has
+    /// changed, and [`take`](Machine::take) makes the step.
+    #[inline(always)]
+    pub fn goes_on(&mut self, found: u64) -> bool
+        ensures exactly { result ≡ looks_on_at self.old self.old.stage found }
+        ensures goes { IsTrue result → self.new ≡ goes self.old found }
+        ensures gives { IsTrue result → gives self.old found ≡ None }
+        ensures stays { result ≡ false → self.new ≡ self.old }
+    {
+        let UnsweptStage::Look { page } = self.stage else {
+            return false;
+        };
+        let Some(next) = self.next_page(page, PageWord::unpack(found)) else {
+            return false;
+        };
+        if next >= self.layout.pages {
+            return false;
+        }
+        // The page alone is written: the stage has room for a sweep.
+        if let UnsweptStage::Look { page } = &mut self.stage {
+            *page = next;
+        }
+        true
     }
 
     /// Its stage after its step found this.

@@ -3,10 +3,10 @@ use Rattle.std.proofs.Common.{◌≡◌, true, ◌↔◌, refl}
 use Rattle.std.specs.Prelude.{IsNone, not}
 use Rattle.gh_coord.specs.Stays.{ends}
 use Rattle.gh_coord.specs.GoingOn.{GoesOnUntilDone}
-use Rattle.gh_coord.specs.Listing.{given_at, goes, is_busy, is_done}
+use Rattle.gh_coord.specs.Listing.{given_at, goes, is_busy, is_done_at}
 use Rattle.gh_coord.specs.Vocabulary.{CoordStage, Done}
 
-has_next : (stage : CoordStage) → (IsNone (given_at stage) ↔ (is_busy stage ≡ true)) → is_busy stage ≡ not (is_done stage)
+has_next : (stage : CoordStage) → (IsNone (given_at stage) ↔ (is_busy stage ≡ true)) → is_busy stage ≡ not (is_done_at stage)
 has_next Done h = refl
 has_next _ h = h.0 refl
 

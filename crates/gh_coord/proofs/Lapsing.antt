@@ -15,7 +15,7 @@ use Rattle.gh_coord.specs.declared.tell.TellStage.TheVariants as t
 use Rattle.gh_coord.specs.declared.watch.WatchStage.TheVariants as w
 use Rattle.gh_coord.specs.Closing as close
 use Rattle.gh_coord.specs.Counting as count
-use Rattle.gh_coord.specs.Lapsing.{HasLapsed, Lapses, lapsed_of, LeavesOrClears, state, TheBankLapses}
+use Rattle.gh_coord.specs.Lapsing.{HasLapsed, Lapses, lapsed_by_now, LeavesOrClears, state, TheBankLapses}
 use Rattle.gh_coord.specs.Listing.{lapsed_at}
 use Rattle.gh_coord.specs.Opening as opens
 use Rattle.gh_coord.specs.Stopping as stop
@@ -124,10 +124,10 @@ module _ (s m : Coordinating) (found : ℕ) where
 
   -- The load of the bank.
   record LapsesAt (stage : CoordStage) : Type 0 where
-    adds : lapsed_of (goes_at m stage found) ≡ (lapsed_at m.lapsed stage + found) % 2 ^ 64
+    adds : lapsed_by_now (goes_at m stage found) ≡ (lapsed_at m.lapsed stage + found) % 2 ^ 64
     clears : asks (goes_at m stage found) ≡ Store cell.Bank 0
 
-  close_lapses : (e : close.Closing) (stage : CloseStage) → close.asks_at e stage ≡ Load cell.Bank → (lapsed_of (closed (close.goes_at e stage found)) ≡ (e.lapsed + found) % 2 ^ 64) × (asks (closed (close.goes_at e stage found)) ≡ Store cell.Bank 0)
+  close_lapses : (e : close.Closing) (stage : CloseStage) → close.asks_at e stage ≡ Load cell.Bank → (lapsed_by_now (closed (close.goes_at e stage found)) ≡ (e.lapsed + found) % 2 ^ 64) × (asks (closed (close.goes_at e stage found)) ≡ Store cell.Bank 0)
   close_lapses e c.LoadBank is = (refl, refl)
   close_lapses e _ is = absurd (cc)
 
@@ -148,12 +148,12 @@ module _ (s m : Coordinating) (found : ℕ) where
 
   -- Any other step: as much has lapsed as before, and the step behind it clears no bank; where that stores the generation, this one has cleared the bank.
   record Goes (stage : CoordStage) (to : Coordinating) : Type 0 where
-    stays : (asks_at s stage ≡ Load cell.Bank → ⊥) → lapsed_of to ≡ lapsed_at m.lapsed stage
+    stays : (asks_at s stage ≡ Load cell.Bank → ⊥) → lapsed_by_now to ≡ lapsed_at m.lapsed stage
     clears : (value : ℕ) → asks to ≡ Store cell.Bank value → asks_at s stage ≡ Load cell.Bank
     ends : (generation : ℕ) → asks to ≡ Store cell.Gen generation → asks_at s stage ≡ Store cell.Bank 0
 
   -- it leads to another part than the end of marking
-  aside : {stage : CoordStage} (to : Coordinating) → (Closes to.stage → ⊥) → lapsed_of to ≡ lapsed_at m.lapsed stage → Goes stage to
+  aside : {stage : CoordStage} (to : Coordinating) → (Closes to.stage → ⊥) → lapsed_by_now to ≡ lapsed_at m.lapsed stage → Goes stage to
   aside to rests same = record {
     stays = λ other. same;
     clears = λ value e. absurd (not_on (asks to) (Store cell.Bank value) (apart_at to to.stage rests) e);

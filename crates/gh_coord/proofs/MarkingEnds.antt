@@ -12,7 +12,7 @@ use Rattle.gh_coord.specs.declared.open.OpenStage.TheVariants as o
 use Rattle.gh_coord.specs.declared.stop.StopStage.TheVariants as p
 use Rattle.gh_coord.specs.declared.tell.TellStage.TheVariants as t
 use Rattle.gh_coord.specs.declared.watch.WatchStage.TheVariants as w
-use Rattle.gh_coord.specs.MarkingEnds.{Finds, HasNothingLeft, LeavesMarks, MarkingEndsClean, NothingIsLeft, state}
+use Rattle.gh_coord.specs.MarkingEnds.{EndsWithNothingLeft, Finds, HasNothingLeft, LeavesMarks, NothingIsLeft, state}
 use Rattle.gh_coord.specs.Closing as close
 use Rattle.gh_coord.specs.Counting as count
 use Rattle.gh_coord.specs.Opening as opens
@@ -22,7 +22,7 @@ use Rattle.gh_coord.specs.Telling as tell
 use Rattle.gh_coord.specs.Watching as watch
 use Rattle.gh_coord.proofs.QuietParts.{count_quiet, sweep_quiet, watch_quiet}
 use Rattle.gh_coord.proofs.Stepping.{Run, same_ask}
-use Rattle.gh_coord.proofs.Vocabulary.{after_check, after_close, after_count, after_open, after_stop, after_stop_again, after_sweep, after_tell, after_watch, All, Ask, asks, asks_at, at_stage, by_ack, by_last, by_out, by_want, by_watched, Check, Close, CloseStage, Coordinating, CoordStage, Count, counted, Done, goes_at, GONE, IsQuiet, Layout, Load, LoadAck, LoadWant, MarkOn, nat_tests, NotYet, Open, OpenStage, phase_word, Stop, StopAgain, StopStage, Store, Sweep, Tell, TellStage, Watch, WatchStage}
+use Rattle.gh_coord.proofs.Vocabulary.{after_check, after_close, after_count, after_open, after_stop, after_stop_again, after_sweep, after_tell, after_watch, All, Ask, asks, asks_at, at_stage, by_ack, by_last, by_out, by_want, by_watched, Check, Close, CloseStage, Coordinating, CoordStage, Count, counted, Done, goes_at, GONE, IsQuietInHandshake, Layout, Load, LoadAck, LoadWant, MarkOn, nat_tests, NotYet, Open, OpenStage, phase_word, Stop, StopAgain, StopStage, Store, Sweep, Tell, TellStage, Watch, WatchStage}
 
 -- what the tests of the listing say of the words
 acked : (stops v : ℕ) → stop.is_acknowledged stops v ≡ true → (v ≡ stops) ⊎ (v ≡ GONE)
@@ -320,8 +320,8 @@ module _ (run : Run) where
   close_at cl c.Ended stops cycle n g k e = absurd k
   close_at cl _ stops cycle n g k e = k
 
-pub never : (ask : Ask) (g : ℕ) → IsQuiet ask → ask ≡ Store cell.Gen g → ⊥
-never ask g q e = subst IsQuiet e q
+pub never : (ask : Ask) (g : ℕ) → IsQuietInHandshake ask → ask ≡ Store cell.Gen g → ⊥
+never ask g q e = subst IsQuietInHandshake e q
 
 open_never : (op : opens.CycleOpening) (stage : OpenStage) (g : ℕ) → opens.asks_at op stage ≡ Store cell.Gen g → ⊥
 open_never op o.ClearWant g e = cc
@@ -351,7 +351,7 @@ module _ (run : Run) (n g : ℕ) (s : Coordinating) where
   is_checked (Tell te) k e = absurd (tell_never te te.stage g e)
   is_checked _ k e = absurd (cc)
 
-pub marking_ends_clean : MarkingEndsClean
+pub marking_ends_clean : EndsWithNothingLeft
 marking_ends_clean l seat gogc minheap room found n g e =
     let run : Run = record { layout = l; seat = seat; gogc = gogc; minheap = minheap; room = room; found = found } in
     let s : Coordinating = now run n in

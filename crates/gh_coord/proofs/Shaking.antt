@@ -15,7 +15,7 @@ use Rattle.gh_coord.specs.Stays.{sweep_all_number, sweep_all_stays}
 use Rattle.gh_coord.specs.SweepingAll as all
 use Rattle.gh_coord.specs.Telling as tell
 use Rattle.gh_coord.specs.Watching as watch
-use Rattle.gh_coord.proofs.Vocabulary.{acks_of, after_ack, after_check, after_count, after_stop, after_stop_again, after_sweep, after_want, after_watch, All, Ask, asks_at, at_stage, begins, Calm, Check, Close, CloseStage, Coordinating, CoordStage, Count, Counted, counted, cycle_before, Done, ends, FitsNumbers, generation_before, goes_at, GONE, is_acknowledged, is_busy, IsAcked, IsQuiet, Layout, lead_at, lead_of, LeadGoes, LeadsHandshake, Load, LoadAck, LoadWant, Looks, MarkOn, nat_tests, next_cycle, next_generation, Open, OpenStage, quiet, sees, Sound, SoundAt, Stop, stop_before, stop_word, StopAgain, Stopped, stops, stops_world, StopStage, Store, Sweep, Tell, TellStage, Watch, Watched}
+use Rattle.gh_coord.proofs.Vocabulary.{acks_of, after_ack, after_check, after_count, after_stop, after_stop_again, after_sweep, after_want, after_watch, All, Ask, asks_at, at_stage, begins, Calm, Check, Close, CloseStage, Coordinating, CoordStage, Count, Counted, counted, cycle_before, Done, ends, FitsNumbers, generation_before, goes_at, GONE, is_acknowledged, is_busy, IsAcked, IsQuietInHandshake, Layout, lead_at, lead_of, LeadGoes, LeadsHandshake, Load, LoadAck, LoadWant, Looks, MarkOn, nat_tests, next_cycle, next_generation, Open, OpenStage, quiet, sees, Sound, SoundAt, Stop, stop_before, stop_word, StopAgain, Stopped, stops, stops_world, StopStage, Store, Sweep, Tell, TellStage, Watch, Watched}
 use Rattle.gh_coord.proofs.LastCycle.{finds_gone, finishes_at, marks_at, stops_go_on}
 use Rattle.gh_coord.proofs.QuietParts.{count_quiet, sweep_quiet, watch_quiet}
 use Rattle.gh_coord.proofs.Stepping.{same_ask}
@@ -64,7 +64,7 @@ module _ (found : ℕ) (s : Coordinating) (f : FitsNumbers s.stops s.begun s.gen
   fits_raised = raised_stop s.stops s.begun s.generation f
 
   -- idle
-  world_stops : (last : Bool) (ask : Ask) → IsQuiet ask → (stage : CoordStage) → lead_at s stage ≡ record { stops = s.stops; begun = s.begun; generation = s.generation; post = Calm run.Off } →
+  world_stops : (last : Bool) (ask : Ask) → IsQuietInHandshake ask → (stage : CoordStage) → lead_at s stage ≡ record { stops = s.stops; begun = s.begun; generation = s.generation; post = Calm run.Off } →
       Sound (stops_world (record s { is_last = last })) × LeadGoes (acks_of s.layout) found (lead_at s stage) ask (lead_of (stops_world (record s { is_last = last })))
   world_stops last ask q stage e = ((fits_raised, refl), quiet q (rw e (ap (λ (n : ℕ). record { stops = n; begun = s.begun; generation = s.generation; post = Calm run.Off }) (stop_behind s.stops f.stops_fit))))
 
@@ -124,11 +124,11 @@ module _ (found : ℕ) (s : Coordinating) (f : FitsNumbers s.stops s.begun s.gen
   opening o _ busy = ((f, (refl, refl)), quiet tt refl)
 
   -- the look and the check
-  watching : (w v : watch.Watching) (out : Option Watched) → IsQuiet (watch.asks w) → Goes found s (Watch w) (after_watch (at_stage s (Watch v)) out)
+  watching : (w v : watch.Watching) (out : Option Watched) → IsQuietInHandshake (watch.asks w) → Goes found s (Watch w) (after_watch (at_stage s (Watch v)) out)
   watching w v (Some All) q = ((fits_raised, refl), quiet q (ap (λ (n : ℕ). record { stops = n; begun = s.begun; generation = s.generation; post = Calm run.Mark }) (stop_behind s.stops f.stops_fit)))
   watching w v _ q = ((f, tt), quiet q refl)
 
-  checking : (w v : watch.Watching) (out : Option Watched) → IsQuiet (watch.asks w) → Goes found s (Check w) (after_check (at_stage s (Check v)) out)
+  checking : (w v : watch.Watching) (out : Option Watched) → IsQuietInHandshake (watch.asks w) → Goes found s (Check w) (after_check (at_stage s (Check v)) out)
   checking w v (Some All) q = ((raised_generation s.stops s.begun s.generation f, refl), quiet q (ap (λ (n : ℕ). record { stops = s.stops; begun = s.begun; generation = n; post = Stopped run.Mark }) (generation_behind s.generation f.generation_fits)))
   checking w v _ q = ((f, tt), quiet q refl)
 
@@ -145,11 +145,11 @@ module _ (found : ℕ) (s : Coordinating) (f : FitsNumbers s.stops s.begun s.gen
   closing l lapsed _ busy = ((f, refl), quiet tt refl)
 
   -- the sweep, and what it has counted
-  sweeping : (w v : all.SweepingAll) (out : Option (Unit {0})) → (v.layout ≡ s.layout) × (v.generation ≡ s.generation) → IsQuiet (all.asks w) → Goes found s (Sweep w) (after_sweep (at_stage s (Sweep v)) out)
+  sweeping : (w v : all.SweepingAll) (out : Option (Unit {0})) → (v.layout ≡ s.layout) × (v.generation ≡ s.generation) → IsQuietInHandshake (all.asks w) → Goes found s (Sweep w) (after_sweep (at_stage s (Sweep v)) out)
   sweeping w v None e q = ((f, e), quiet q refl)
   sweeping w v (Some u) e q = ((f, tt), quiet q refl)
 
-  counting : (w v : count.Counting) (out : Option Counted) → IsQuiet (count.asks w) → Goes found s (Count w) (after_count (at_stage s (Count v)) out)
+  counting : (w v : count.Counting) (out : Option Counted) → IsQuietInHandshake (count.asks w) → Goes found s (Count w) (after_count (at_stage s (Count v)) out)
   counting w v None q = ((f, tt), quiet q refl)
   counting w v (Some read) q = ((f, (refl, λ e. absurd (cc))), quiet q refl)
 

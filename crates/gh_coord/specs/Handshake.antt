@@ -65,10 +65,10 @@ abbrev pub stored_stop : (stops : ℕ) → StopStage → ℕ
 stored_stop stops stop_stage.StorePhase = stop_before stops
 stored_stop stops _ = stops
 
-abbrev pub stops_at : (stops : ℕ) → CoordStage → ℕ
-stops_at stops (Stop st) = stored_stop stops st.stage
-stops_at stops (StopAgain st) = stored_stop stops st.stage
-stops_at stops _ = stops
+abbrev pub stop_stored_at : (stops : ℕ) → CoordStage → ℕ
+stop_stored_at stops (Stop st) = stored_stop stops st.stage
+stop_stored_at stops (StopAgain st) = stored_stop stops st.stage
+stop_stored_at stops _ = stops
 
 abbrev pub stored_cycle : (begun : ℕ) → OpenStage → ℕ
 stored_cycle begun open_stage.StorePhase = begun
@@ -89,7 +89,7 @@ generation_at generation (Close c) = stored_generation generation c.stage
 generation_at generation _ = generation
 
 abbrev pub lead_at : Coordinating → CoordStage → Lead
-lead_at s stage = record { stops = stops_at s.stops stage; begun = begun_at s.begun stage; generation = generation_at s.generation stage; post = post_at stage }
+lead_at s stage = record { stops = stop_stored_at s.stops stage; begun = begun_at s.begun stage; generation = generation_at s.generation stage; post = post_at stage }
 
 abbrev pub lead_of : Coordinating → Lead
 lead_of s = lead_at s s.stage

@@ -8,8 +8,8 @@ pub record Kept : Type 0 where
   pub room : ℕ
 
 -- with a further one, where there is room for it
-abbrev pub kept : Kept → Cycle → Kept
-kept c cycle = record c { items = (if nat_lt (length c.items) c.room then c.items ++ cycle ∷ [] else c.items) }
+abbrev pub kept_with_cycle : Kept → Cycle → Kept
+kept_with_cycle c cycle = record c { items = (if nat_lt (length c.items) c.room then c.items ++ cycle ∷ [] else c.items) }
 
 -- the one that was kept last, if one was
 abbrev pub last_kept : Kept → Option Cycle

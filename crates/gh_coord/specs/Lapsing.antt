@@ -7,8 +7,8 @@ use Rattle.gh_coord.specs.Listing.{asks, Coordinating, goes, lapsed_at, listing,
 use Rattle.gh_coord.specs.Vocabulary.{Ask, Layout, Load, Store}
 
 -- the credit that has lapsed by now
-abbrev pub lapsed_of : Coordinating → ℕ
-lapsed_of s = lapsed_at s.lapsed s.stage
+abbrev pub lapsed_by_now : Coordinating → ℕ
+lapsed_by_now s = lapsed_at s.lapsed s.stage
 
 -- a step that writes no bank, or stores 0 there
 abbrev pub LeavesOrClears : Ask → Type 0
@@ -22,7 +22,7 @@ LeavesOrClears (ask.Swap c old new) = c ≢ Bank
 
 -- A step that loads the bank: what it found has lapsed, and the next step clears the bank.
 pub record Lapses (s : Coordinating) (found : ℕ) : Type 0 where
-  pub adds : lapsed_of (goes s found) ≡ (lapsed_of s + found) % 2 ^ 64
+  pub adds : lapsed_by_now (goes s found) ≡ (lapsed_by_now s + found) % 2 ^ 64
   pub clears : asks (goes s found) ≡ Store Bank 0
 
 module _ (l : Layout) (seat gogc minheap room : ℕ) (found : ℕ → ℕ) where
@@ -36,13 +36,13 @@ module _ (l : Layout) (seat gogc minheap room : ℕ) (found : ℕ → ℕ) where
     pub is_before : n ≡ suc (suc load)
     pub loads : asks (state load) ≡ Load Bank
     pub clears : asks (state (suc load)) ≡ Store Bank 0
-    pub lapsed_is : lapsed_of (state n) ≡ (lapsed_of (state load) + found load) % 2 ^ 64
+    pub lapsed_is : lapsed_by_now (state n) ≡ (lapsed_by_now (state load) + found load) % 2 ^ 64
 
 pub record TheBankLapses : Type 0 where
-  pub at_first : (l : Layout) (seat gogc minheap room : ℕ) → lapsed_of (opening l seat gogc minheap room) ≡ 0
+  pub at_first : (l : Layout) (seat gogc minheap room : ℕ) → lapsed_by_now (opening l seat gogc minheap room) ≡ 0
   -- what it finds in the bank lapses, and by no other step of the coordinator does credit lapse
   pub lapses : (s : Coordinating) (found : ℕ) → asks s ≡ Load Bank → Lapses s found
-  pub stays : (s : Coordinating) (found : ℕ) → asks s ≢ Load Bank → lapsed_of (goes s found) ≡ lapsed_of s
+  pub stays : (s : Coordinating) (found : ℕ) → asks s ≢ Load Bank → lapsed_by_now (goes s found) ≡ lapsed_by_now s
   -- it writes the bank by the store of 0 behind that load alone
   pub writes : (s : Coordinating) → LeavesOrClears (asks s)
   pub clears_behind : (s : Coordinating) (found value : ℕ) → asks (goes s found) ≡ Store Bank value → asks s ≡ Load Bank

@@ -5,7 +5,7 @@ use Rattle.gh_base.specs.declared.pack.Phase.TheVariants as phase
 use Rattle.gh_base.specs.Routines.{Listing}
 use Rattle.gh_coord.specs.Closing as close
 use Rattle.gh_coord.specs.Counting as count
-use Rattle.gh_coord.specs.Keeping.{Kept, kept, last_kept}
+use Rattle.gh_coord.specs.Keeping.{Kept, kept_with_cycle, last_kept}
 use Rattle.gh_coord.specs.Opening as open_
 use Rattle.gh_coord.specs.Pacing.{next_goal, next_trigger, next_work}
 use Rattle.gh_coord.specs.Stopping as stop
@@ -110,7 +110,7 @@ module _ (s : Coordinating) where
 
   -- the cycle is kept, by what was counted, and the trigger is that of the next
   abbrev pub tells : Counted → Coordinating
-  tells c = record s { live = c.live; cycles = kept s.cycles (cycle_of s.begun c.tally); stage = Tell (tell.opening s.layout (next_trigger s.layout s.gogc s.minheap c.live) s.begun s.stops s.is_last) }
+  tells c = record s { live = c.live; cycles = kept_with_cycle s.cycles (cycle_of s.begun c.tally); stage = Tell (tell.opening s.layout (next_trigger s.layout s.gogc s.minheap c.live) s.begun s.stops s.is_last) }
 
 module _ (s : Coordinating) where
   -- a processor is found to be done, or not
@@ -218,17 +218,17 @@ told_at cycles (Tell t) = if tell.stores_swept t.stage then last_kept cycles els
 told_at cycles _ = None
 
 -- its marks are how often it has stored the phase word, and stand still at the end of their type
-abbrev pub marks_after : (marks : ℕ) → CoordStage → ℕ
-marks_after marks stage = min (marks + bit (stores_phase stage)) (2 ^ 64 - 1)
+abbrev pub phase_marks_after : (marks : ℕ) → CoordStage → ℕ
+phase_marks_after marks stage = min (marks + bit (stores_phase stage)) (2 ^ 64 - 1)
 
 -- the credit that has lapsed by now
 abbrev pub lapsed_at : (lapsed : ℕ) → CoordStage → ℕ
 lapsed_at lapsed (Close c) = c.lapsed
 lapsed_at lapsed _ = lapsed
 
-abbrev pub is_done : CoordStage → Bool
-is_done Done = true
-is_done _ = false
+abbrev pub is_done_at : CoordStage → Bool
+is_done_at Done = true
+is_done_at _ = false
 
 abbrev pub given_at : CoordStage → Option (Unit {0})
 given_at Done = Some tt
@@ -238,7 +238,7 @@ abbrev pub asks : Coordinating → Ask
 asks s = asks_at s s.stage
 
 abbrev pub counted : Coordinating → Coordinating
-counted s = record s { marks = marks_after s.marks s.stage }
+counted s = record s { marks = phase_marks_after s.marks s.stage }
 
 abbrev pub goes : Coordinating → ℕ → Coordinating
 goes s found = goes_at (counted s) s.stage found

@@ -47,6 +47,6 @@ module _ (l : Layout) (seat gogc minheap room : ℕ) (found : ℕ → ℕ) where
     pub leaves : (m : ℕ) → stop < m → m < n → LeavesMarks (asks (state m))
 
 -- the step that ends marking stores the next sweep generation
-abbrev pub MarkingEndsClean : Type 0
-MarkingEndsClean = (l : Layout) (seat gogc minheap room : ℕ) (found : ℕ → ℕ) (n generation : ℕ) →
+abbrev pub EndsWithNothingLeft : Type 0
+EndsWithNothingLeft = (l : Layout) (seat gogc minheap room : ℕ) (found : ℕ → ℕ) (n generation : ℕ) →
     asks (state l seat gogc minheap room found n) ≡ Store Gen generation → NothingIsLeft l seat gogc minheap room found n

@@ -10,7 +10,7 @@ use Rattle.gh_base.specs.Packing.{phase_word}
 use Rattle.gh_base.specs.Routines.{Listing}
 use Rattle.gh_coord.specs.declared.open.OpenStage.{OpenStage}
 use Rattle.gh_coord.specs.declared.open.OpenStage.TheVariants.{ClearWant, ClearGcur, ClearTally, ClearLive, StoreTrigger, LoadHeap, StoreWork, StoreSlack, StoreBegun, StorePhase, Ended}
-use Rattle.gh_coord.specs.Pacing.{taken}
+use Rattle.gh_coord.specs.Pacing.{taken_bytes}
 use Rattle.gh_pacer.specs.declared.pacing.TheConstants.{NEVER}
 use Rattle.gh_pacer.specs.Pacing.{slack}
 
@@ -56,7 +56,7 @@ module _ (o : CycleOpening) where
 
   -- the heap's bytes that it has found by then
   abbrev pub found_at : OpenStage → ℕ → ℕ
-  found_at LoadHeap found = taken found
+  found_at LoadHeap found = taken_bytes found
   found_at _ found = o.heap
 
   abbrev pub goes_at : OpenStage → ℕ → CycleOpening

@@ -4,8 +4,8 @@ use Rattle.gh_pacer.specs.Pacing.{goal, roots, trigger, work}
 use Rattle.gh_base.specs.declared.layout.Layout.{Layout}
 
 -- what is taken of a number of bytes that was found in a word: all of it, where it is that of a heap
-abbrev pub taken : ℕ → ℕ
-taken found = found % 2 ^ 31
+abbrev pub taken_bytes : ℕ → ℕ
+taken_bytes found = found % 2 ^ 31
 
 -- the word that the trigger opens with: nothing is live
 abbrev pub first_trigger : (globals goroutines gogc minheap : ℕ) → ℕ
@@ -14,10 +14,10 @@ first_trigger globals goroutines gogc minheap = trigger 0 (goal 0 (roots globals
 -- The goal, the trigger and the work of the next cycle, where so many bytes were found to be live.
 module _ (l : Layout) (gogc minheap live : ℕ) where
   unfoldable pub next_goal : Option ℕ
-  next_goal = goal (taken live) (roots l.globals l.goroutines) gogc minheap
+  next_goal = goal (taken_bytes live) (roots l.globals l.goroutines) gogc minheap
 
   unfoldable pub next_trigger : ℕ
-  next_trigger = trigger (taken live) next_goal
+  next_trigger = trigger (taken_bytes live) next_goal
 
   unfoldable pub next_work : ℕ
-  next_work = work (taken live) (roots l.globals l.goroutines) next_goal
+  next_work = work (taken_bytes live) (roots l.globals l.goroutines) next_goal

@@ -42,14 +42,14 @@ abbrev pub FitsWatch : Watching → Type 0
 FitsWatch w = FitsWatchStage w.layout w.stage
 
 -- the sweep of the span at this page is of the same heap, and asks for a step
-pub record Sweeps (l : Layout) (page : ℕ) (sw : Sweeping) : Type 0 where
+pub record SweepsPage (l : Layout) (page : ℕ) (sw : Sweeping) : Type 0 where
   pub within : page < l.pages
   pub layout : sw.layout ≡ l
   pub busy : is_busy sw.stage ≡ true
 
 abbrev pub FitsSweepAllStage : Layout → SweepAllStage → Type 0
 FitsSweepAllStage l (sweep.LoadPage page) = page < l.pages
-FitsSweepAllStage l (sweep.Sweep page sw) = Sweeps l page sw
+FitsSweepAllStage l (sweep.Sweep page sw) = SweepsPage l page sw
 FitsSweepAllStage l (sweep.Await page) = page < l.pages
 FitsSweepAllStage l sweep.Ended = Unit {0}
 

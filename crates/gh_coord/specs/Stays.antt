@@ -163,5 +163,5 @@ ends s found busy = (leads_at (counted s) s.stage found).ends busy
 pub stays : (s : Coordinating) (found : ℕ) → (goes s found).layout ≡ s.layout
 stays s found = ap (λ (f : Fixed). f.0) (leads_at (counted s) s.stage found).stays
 
-pub room_stays : (s : Coordinating) (found : ℕ) → (goes s found).cycles.room ≡ s.cycles.room
-room_stays s found = ap (λ (f : Fixed). f.2) (leads_at (counted s) s.stage found).stays
+pub cycle_room_stays : (s : Coordinating) (found : ℕ) → (goes s found).cycles.room ≡ s.cycles.room
+cycle_room_stays s found = ap (λ (f : Fixed). f.2) (leads_at (counted s) s.stage found).stays

@@ -14,7 +14,7 @@ IsNone below generation (Head h) = h.number + below ≢ generation
 IsNone below generation _ = Unit {0}
 
 -- the step loads the page's word, and that says so
-pub record FindsNone (below generation : ℕ) (step : Ask) (found page : ℕ) : Type 0 where
+pub record FindsNoSpanBelow (below generation : ℕ) (step : Ask) (found page : ℕ) : Type 0 where
   pub loads : step ≡ Load (Page page)
   pub is_so : IsNone below generation (page_of found)
 
@@ -32,11 +32,11 @@ module _ (l : Layout) (seat gogc minheap room : ℕ) (found : ℕ → ℕ) where
 
   -- with this step it has found that no unswept span begins at the page: by the word, or since another has begun to sweep it
   abbrev pub FindsBegun : (generation page by : ℕ) → Type 0
-  FindsBegun generation page by = FindsNone 2 generation (asks (state by)) (found by) page ⊎ EndsSweep (sweep_in (state by)) (found by) page Lost
+  FindsBegun generation page by = FindsNoSpanBelow 2 generation (asks (state by)) (found by) page ⊎ EndsSweep (sweep_in (state by)) (found by) page Lost
 
   -- with this step it has found that somebody sweeps no span there
   abbrev pub FindsDone : (generation page by : ℕ) → Type 0
-  FindsDone generation page by = FindsNone 1 generation (asks (state by)) (found by) page
+  FindsDone generation page by = FindsNoSpanBelow 1 generation (asks (state by)) (found by) page
 
   -- with this step it has swept the span there itself
   abbrev pub HasSwept : (page by : ℕ) → Type 0

@@ -6,7 +6,7 @@ ghost use Rattle.gh_base.specs.Packing.{phase_word};
 ghost use Rattle.gh_pacer.specs.declared.pacing.TheConstants.{MOST_GOGC};
 ghost use Rattle.gh_coord.specs.declared.count.Counted.{Counted};
 ghost use Rattle.gh_coord.specs.declared.watch.Watched.{Watched};
-ghost use Rattle.gh_coord.specs.Listing.{after_ack, after_check, after_close, after_count, after_open, after_stop, after_stop_again, after_sweep, after_tell, after_want, after_watch, counted, cycle_of, given, gives, goes, goes_at, is_busy, is_done, is_ending, is_idle, lapsed_at, next_stop, opening, stores_phase, stops_world, told_at, watches};
+ghost use Rattle.gh_coord.specs.Listing.{after_ack, after_check, after_close, after_count, after_open, after_stop, after_stop_again, after_sweep, after_tell, after_want, after_watch, counted, cycle_of, given, gives, goes, goes_at, is_busy, is_done_at, is_ending, is_idle, lapsed_at, next_stop, opening, stores_phase, stops_world, told_at, watches};
 ghost use Rattle.gh_coord.specs.Keeping.{last_kept};
 ghost use Rattle.gh_coord.specs.Pacing.{first_trigger};
 
@@ -148,7 +148,7 @@ impl Coord {
 
     /// The last cycle is swept, and it has no further step.
     pub fn is_done(&self) -> bool
-        ensures { result ≡ is_done self.now.stage }
+        ensures { result ≡ is_done_at self.now.stage }
     {
         matches!(self.stage, CoordStage::Done)
     }
@@ -232,11 +232,13 @@ impl Coord {
         requires { proc < self.old.layout.procs }
         ensures { self.new ≡ after_ack self.old proc found }
     {
+        // Who is not gone may still ask for a cycle, so the request is looked at.
         if found != GONE {
             self.stage = CoordStage::LoadWant;
         } else if proc + 1 < self.layout.procs {
             self.stage = CoordStage::LoadAck(proc + 1);
         } else {
+            // All are gone, and nobody asks any more: one cycle more frees what they have left.
             self.is_last = true;
             self.stop_world();
         }
@@ -304,6 +306,8 @@ impl Coord {
             None => {}
             Some(Watched::NotYet) => self.watch(),
             Some(Watched::All) => {
+                // What was seen one after the other, while others went on, may not hold together. So it is looked at once more where
+                // nobody steps.
                 self.stops = self.next_stop();
                 self.stage = CoordStage::StopAgain(Stop::new(&self.layout, self.stops));
             }
@@ -325,6 +329,7 @@ impl Coord {
     {
         match out {
             None => {}
+            // Somebody had still to give a buffer with entries back when it was looked at first: marking goes on.
             Some(Watched::NotYet) => self.stage = CoordStage::MarkOn,
             Some(Watched::All) => {
                 self.generation = (self.generation + 2) % GENERATIONS;
@@ -339,6 +344,7 @@ impl Coord {
         ensures { self.new ≡ after_close self.old out }
     {
         if let Some(lapsed) = out {
+            // The goroutines run from here on, and whoever meets an unswept span sweeps it. The walk sees to it that none is left.
             self.lapsed = lapsed;
             self.stage = CoordStage::Sweep(SweepAll::new(&self.layout, self.generation));
         }

@@ -1,7 +1,7 @@
 //! The list of swept cycles, whose room is taken once.
 
 ghost use Rattle.std.specs.Prelude.{◌≡◌, ◌≤◌, [], length, IfOk};
-ghost use Rattle.gh_coord.specs.Keeping.{kept, last_kept};
+ghost use Rattle.gh_coord.specs.Keeping.{kept_with_cycle, last_kept};
 
 use std::alloc::{AllocError, Global};
 use std::marker::Model;
@@ -44,7 +44,7 @@ impl Cycles {
 
     /// Adds a cycle, where there is room for it.
     pub fn keep(&mut self, cycle: Cycle)
-        ensures { self.new ≡ kept self.old cycle }
+        ensures { self.new ≡ kept_with_cycle self.old cycle }
     {
         if self.items.len() < self.items.capacity() {
             self.items.push_reserved(cycle);

@@ -3,7 +3,7 @@
 ghost use Rattle.gh_coord.specs.GoingOn.{GoesOnUntilDone};
 ghost use Rattle.gh_coord.specs.Handshake.{LeadsHandshake};
 ghost use Rattle.gh_coord.specs.Lapsing.{TheBankLapses};
-ghost use Rattle.gh_coord.specs.MarkingEnds.{MarkingEndsClean};
+ghost use Rattle.gh_coord.specs.MarkingEnds.{EndsWithNothingLeft};
 ghost use Rattle.gh_coord.specs.Sweeping.{TheCoordinatorRunsSweeps};
 ghost use Rattle.gh_coord.specs.Triggering.{TheTriggerIsByWhatIsLive};
 
@@ -25,7 +25,7 @@ pub fn the_coordinator_leads_the_handshake()
 /// behind that the cursor past the globals, the word of each stack at the cycle's number or above it, and each
 /// buffer held or with no entry. Since it told the world to stop it has written no word but the bank.
 pub fn nothing_is_left_to_mark()
-    ensures { MarkingEndsClean }
+    ensures { EndsWithNothingLeft }
 {}
 
 /// While the coordinator sweeps a span it makes the steps of that sweep until it has ended, and no others. It begins one

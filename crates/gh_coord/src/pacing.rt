@@ -3,7 +3,7 @@
 ghost use Rattle.std.specs.Prelude.{◌≡◌, ◌<◌, ◌≤◌, ◌^◌};
 ghost use Rattle.gh_pacer.specs.Pacing.{FitsGoal, roots};
 ghost use Rattle.gh_pacer.specs.declared.pacing.TheConstants.{MOST_BYTES, MOST_GOGC};
-ghost use Rattle.gh_coord.specs.Pacing.{first_trigger, next_goal, next_trigger, next_work, taken};
+ghost use Rattle.gh_coord.specs.Pacing.{first_trigger, next_goal, next_trigger, next_work, taken_bytes};
 
 use gh_base::Layout;
 use gh_pacer::{goal, roots, trigger, work};
@@ -13,7 +13,7 @@ const NUMBERS: u64 = 1 << 31;
 
 /// What is taken of a number of bytes that was found in a word.
 pub(crate) fn taken(found: u64) -> u64
-    ensures is { result ≡ taken found }
+    ensures is { result ≡ taken_bytes found }
     ensures fits { result < 2 ^ 31 }
 {
     found % NUMBERS

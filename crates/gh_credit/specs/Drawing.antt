@@ -78,14 +78,14 @@ LeavesOrDraws (ask.And c bits) = c ≢ Bank
 LeavesOrDraws (ask.Add c more) = c ≢ Bank
 
 -- the words of what is given, if anything is
-abbrev pub words_of : Option ℕ → ℕ
-words_of None = 0
-words_of (Some words) = words
+abbrev pub words_given : Option ℕ → ℕ
+words_given None = 0
+words_given (Some words) = words
 
 -- What a draw takes, whatever it is told.
 pub record DrawsCredit : Type 0 where
   -- what it gives with a step is what the step takes out of the bank
-  pub counts : (d : Drawing) (found : ℕ) → is_busy d.stage ≡ true → words_of (gives d found) ≡ drawn_by (asks d) found
+  pub counts : (d : Drawing) (found : ℕ) → is_busy d.stage ≡ true → words_given (gives d found) ≡ drawn_by (asks d) found
   -- no more than is owed
   pub at_most : (d : Drawing) (found words : ℕ) → is_busy d.stage ≡ true → gives d found ≡ Some words → words ≤ d.owed
   -- it takes none by its load exactly where the bank is empty, and by its swap exactly where another changed the bank in between

@@ -12,7 +12,7 @@ use Rattle.gh_heap.specs.Objects.{IsMade}
 use Rattle.gh_marks.specs.Colours.{Extents, Untouched, White}
 use Rattle.gh_marks.specs.Ends.{Opens}
 use Rattle.gh_cycle.specs.Marked.{OpenedRegistersFit}
-use Rattle.gh_cycle.specs.Opening.{CyclesOpen, OpenedHeapsAreAtRest, IsAtRest, IsCycleOf, IsOpened, reference_of, register_of}
+use Rattle.gh_cycle.specs.Opening.{CyclesOpen, OpenedHeapsAreAtRest, WordsAreAtRest, IsCycleOf, IsOpened, reference_of, register_for_marking}
 use Rattle.gh_cycle.specs.Reached.{Decided, IsBounded, IsReachedAt, PlacesAreDecided, TheReachedWereMade}
 use Rattle.gh_cycle.specs.Vocabulary.{Name, Words, EverValue, Reach, TheHeapIsApart, Holds, Place, points, shape_for, size_for, Arena, Good, view, Heap, Cycle, IsPointer, IsSince, Marking}
 
@@ -62,7 +62,7 @@ module _ (z : Arena) (h : Heap) (g : Good z (view h)) (b : IsBounded z h.ever) (
       let m = names-it h.place h.ever.made (h.ever.global i) (h.words (cell.Global i)) x (g.globals i l) is in
       (c.since x).1 (m.0, from_global i m.0 m.1, m.2)
 
-  pub registers-since : (s : Marking) → IsCycleOf z h s → (j d : ℕ) → IsSince s.since (register_of h j d)
+  pub registers-since : (s : Marking) → IsCycleOf z h s → (j d : ℕ) → IsSince s.since (register_for_marking h j d)
   registers-since s c j d x = by (h.ever.ended j) refl where
     by : (t : Bool) → h.ever.ended j ≡ t → cond t 0 (reference_of h.place (h.ever.register j d)) ≡ x + 1 → s.since x ≡ true
     by true e is = absurd (omega (arith, is))
@@ -70,7 +70,7 @@ module _ (z : Arena) (h : Heap) (g : Good z (view h)) (b : IsBounded z h.ever) (
         let m = names-reference h.place (h.ever.register j d) x is in
         (c.since x).1 (m.0, from_register j d m.0 e m.1, m.2)
 
-module _ (z : Cycle) (h : Heap) (g : Good z.arena (view h)) (b : IsBounded z.arena h.ever) (rest : IsAtRest z.arena z.number h) (made : TheReachedWereMade) (apart : TheHeapIsApart) (d : Decided (IsReachedAt h)) where
+module _ (z : Cycle) (h : Heap) (g : Good z.arena (view h)) (b : IsBounded z.arena h.ever) (rest : WordsAreAtRest z.arena z.number h) (made : TheReachedWereMade) (apart : TheHeapIsApart) (d : Decided (IsReachedAt h)) where
   no-name : Name
   no-name = record { g = 0; k = 0 }
 
@@ -99,7 +99,7 @@ module _ (z : Cycle) (h : Heap) (g : Good z.arena (view h)) (b : IsBounded z.are
   abbrev marking : Marking
   marking = record {
     words = h.words;
-    registers = register_of h;
+    registers = register_for_marking h;
     colour = λ o. White;
     filled = λ i. 0;
     progress = λ i. Untouched;
@@ -124,7 +124,7 @@ module _ (z : Cycle) (h : Heap) (g : Good z.arena (view h)) (b : IsBounded z.are
     by true e = globals-since z.arena h g b made marking of-heap i (ltb-true _ _ e) x is
     by false e = absurd (omega (arith, rest.none i (ltb-false _ _ e), is))
 
-  ended : (j c : ℕ) → h.words (cell.Scanned j) ≡ END → register_of h j c ≡ 0
+  ended : (j c : ℕ) → h.words (cell.Scanned j) ≡ END → register_for_marking h j c ≡ 0
   ended j c e = rw (rest.over j e) refl
 
   -- each object of the cycle has a slot, and that lies in the heap

@@ -13,7 +13,7 @@ use Rattle.gh_base.specs.declared.value.Name.{Name}
 use Rattle.gh_base.specs.Shapes.{is_pointer, shape_at}
 use Rattle.gh_model.specs.declared.EverValue.{EverValue}
 use Rattle.gh_model.specs.declared.EverValue.TheVariants as ever
-use Rattle.gh_model.specs.Ever.{Ever, answer_of, ever_after, field_count, first_value, fits, has_field, is_number, is_pointer_field, load_answer, next_name, opening_ever, same_name, sets_global, store_answer, stores_value, takes_answer, told, with_end, with_field, with_global, with_object, with_register}
+use Rattle.gh_model.specs.Ever.{Ever, answer_of, ever_after, field_count, first_value, fits, has_field, is_number, is_pointer_field, load_answer, next_name, opening_ever, same_name, sets_global, store_answer, stores_value, takes_answer, answer_of_value, with_end, with_field, with_global, with_object, with_register}
 use Rattle.gh_heap.specs.Objects.{IsMade, size_for}
 use Rattle.gh_heap.specs.Rights.{Arena}
 use Rattle.gh_cycle.specs.Reached.{BoundsLast, IsBounded, IsInRange}
@@ -87,7 +87,7 @@ module _ (z : Arena) (e : Ever) (h : IsBounded z e) where
 -- What a statement leaves.
 
 module _ (z : Arena) (e : Ever) (h : IsBounded z e) where
-  takes : (g d : ℕ) (x : EverValue) → g < z.layout.goroutines → d < REGISTERS → Made e x → IsBounded z (takes_answer e g d (told x))
+  takes : (g d : ℕ) (x : EverValue) → g < z.layout.goroutines → d < REGISTERS → Made e x → IsBounded z (takes_answer e g d (answer_of_value x))
   takes g d ever.Nil lg ld made = register z e h g d ever.Nil lg ld (λ n is. absurd (cc))
   takes g d (ever.Int i) lg ld made = register z e h g d (ever.Int i) lg ld (λ n is. absurd (cc))
   takes g d (ever.Ref m) lg ld made = register z e h g d (ever.Ref m) lg ld made
@@ -96,7 +96,7 @@ module _ (z : Arena) (e : Ever) (h : IsBounded z e) where
   loads g d ever.Nil k lg ld = h
   loads g d (ever.Int i) k lg ld = h
   loads g d (ever.Ref m) k lg ld = by (has_field z.shapes e m k) where
-    by : (b : Bool) → IsBounded z (takes_answer e g d (cond b (told (e.field m k)) (answer.Fault fault.Field)))
+    by : (b : Bool) → IsBounded z (takes_answer e g d (cond b (answer_of_value (e.field m k)) (answer.Fault fault.Field)))
     by true = takes g d (e.field m k) lg ld (λ n is. (h.fields m k n is).1)
     by false = h
 

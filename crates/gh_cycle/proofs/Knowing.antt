@@ -8,7 +8,7 @@ use Rattle.gh_base.specs.Rows.{Row, bitmap_words, page_words}
 use Rattle.gh_class.specs.declared.class.SizeClass.{SizeClass}
 use Rattle.gh_class.specs.declared.class.SizeClass.TheVariants as size
 use Rattle.gh_class.specs.Classes.{IsSizeClass, slot_of, slots_of}
-use Rattle.gh_heap.specs.Spans.{IsSlotOf, body_at, is_own_class, number_of}
+use Rattle.gh_heap.specs.Spans.{IsSlotOf, body_at, is_own_class, number_of_class}
 use Rattle.gh_marks.specs.Knows.{KnowsObject, KnowsObjects}
 use Rattle.gh_cycle.specs.Beside.{IsBeside, ObjectsAreKnownBeside}
 use Rattle.gh_cycle.specs.Vocabulary.{alloc_words, birth_words, IsMade, Name, Placed, Words, TheHeapIsApart, size_for, Arena, Good, view, Heap, Marking}
@@ -20,15 +20,15 @@ use Rattle.gh_cycle.proofs.Said.{IsSaid, said-beside}
 abbrev LeastSlot : Type 0
 LeastSlot = (c : ℕ) → c < 25 → 8 ≤ slot_of c
 
-slot-of-class : (c : SizeClass) (k : ℕ) → slot_for c k ≡ cond (is_own_class c) (1024 * k) (slot_of (number_of c) / 8)
+slot-of-class : (c : SizeClass) (k : ℕ) → slot_for c k ≡ cond (is_own_class c) (1024 * k) (slot_of (number_of_class c) / 8)
 slot-of-class (size.Small c) k = refl
 slot-of-class size.Large k = refl
 
-slot-of-small : (c : SizeClass) (k : ℕ) → c ≢ size.Large → slot_for c 1 ≡ cond (is_own_class c) (1024 * k) (slot_of (number_of c) / 8)
+slot-of-small : (c : SizeClass) (k : ℕ) → c ≢ size.Large → slot_for c 1 ≡ cond (is_own_class c) (1024 * k) (slot_of (number_of_class c) / 8)
 slot-of-small (size.Small c) k ne = refl
 slot-of-small size.Large k ne = absurd (ne refl)
 
-some-slot : LeastSlot → (c : SizeClass) (k : ℕ) → IsSizeClass c → 1 ≤ k → 1 ≤ cond (is_own_class c) (1024 * k) (slot_of (number_of c) / 8)
+some-slot : LeastSlot → (c : SizeClass) (k : ℕ) → IsSizeClass c → 1 ≤ k → 1 ≤ cond (is_own_class c) (1024 * k) (slot_of (number_of_class c) / 8)
 some-slot least (size.Small c) k below some = let l = least c below in omega (arith, l)
 some-slot least size.Large k below some = omega (arith, some)
 
@@ -39,7 +39,7 @@ module _ (pages : ℕ) (row : Row) (p : ℕ) (h : SpanHead) (i a n : ℕ) (o : I
 
   large-first : h.class ≡ size.Large → a / 1024 ≡ p
   large-first large =
-      let few : i < 1 = subst (λ (c : SizeClass). i < cond (is_own_class c) 1 (slots_of (number_of c))) large o.inside in
+      let few : i < 1 = subst (λ (c : SizeClass). i < cond (is_own_class c) 1 (slots_of (number_of_class c))) large o.inside in
       let first : i ≡ 0 = omega (arith, few) in
       let at : a ≡ 1024 * p + 0 * n = o.at ∙ ap (λ (j : ℕ). 1024 * p + j * n) first in
       omega (arith, at)

@@ -12,7 +12,7 @@ use Rattle.gh_marks.specs.Good.{Good as MarkingGood}
 use Rattle.gh_marks.specs.Knows.{KnowsObjects}
 use Rattle.gh_marks.specs.Moves as marks
 use Rattle.gh_cycle.specs.Marked.{RegistersFit}
-use Rattle.gh_cycle.specs.Opening.{IsAtRest, IsCycleOf, RegistersAre}
+use Rattle.gh_cycle.specs.Opening.{IsCycleOf, RegistersAre, WordsAreAtRest}
 use Rattle.gh_cycle.specs.Reached.{IsBounded}
 use Rattle.gh_cycle.specs.Vocabulary.{alloc_words, Arena, birth_words, Cycle, Good, Heap, IsMade, IsMarked, mark_words, Marking, Name, Placed, Placing, points, Reach, row_bit, shape_for, size_for, view, View}
 
@@ -41,7 +41,7 @@ pub record IsBeside (z : Arena) (h : Heap) (s : Marking) : Type 0 where
 
 -- so it is where a cycle begins
 abbrev pub CyclesBeginBeside : Type 0
-CyclesBeginBeside = (z : Cycle) (h : Heap) (s : Marking) → Good z.arena (view h) → IsBounded z.arena h.ever → IsAtRest z.arena z.number h → IsCycleOf z.arena h s → RegistersAre h s → ((o a : ℕ) → s.colour o ≢ Placing a) → IsBeside z.arena h s
+CyclesBeginBeside = (z : Cycle) (h : Heap) (s : Marking) → Good z.arena (view h) → IsBounded z.arena h.ever → WordsAreAtRest z.arena z.number h → IsCycleOf z.arena h s → RegistersAre h s → ((o a : ℕ) → s.colour o ≢ Placing a) → IsBeside z.arena h s
 
 -- page words and pointer bits say of each object of the cycle what marking relies on
 abbrev pub ObjectsAreKnownBeside : Type 0
@@ -59,7 +59,7 @@ SlotsAreReserved = (z : Cycle) (a at size : ℕ) (h : Heap) (s : Marking) → Go
 
 -- A field of a claimed slot is none that marking reads: no object of the cycle has a word there.
 abbrev pub ClaimedFieldsAreAside : Type 0
-ClaimedFieldsAreAside = (z : Cycle) (a at size k : ℕ) (h : Heap) (s : Marking) → Good z.arena (view h) → MarkingGood z s → IsBeside z.arena h s → Claims z.arena (view h) a at size → k < size → marks.IsQuiet s (ask.Store (cell.Field (at + k)) 0)
+ClaimedFieldsAreAside = (z : Cycle) (a at size k : ℕ) (h : Heap) (s : Marking) → Good z.arena (view h) → MarkingGood z s → IsBeside z.arena h s → Claims z.arena (view h) a at size → k < size → marks.IsQuietInMarking s (ask.Store (cell.Field (at + k)) 0)
 
 -- The steps of marking.
 
@@ -68,8 +68,8 @@ pub record MarksAlone (z : Cycle) (a : ℕ) (h k : Heap) (s t : Marking) : Type 
   pub went : marks.Went z a s t
   pub words_are : t.words ≡ k.words
   pub fills : (o : ℕ) → t.colour o ≡ Placing a → ClaimsSlot z.arena (view k) a o
-  pub registers : (g d : ℕ) → heap.Runs z.arena (view h) a g → d < REGISTERS → t.registers g d ≡ s.registers g d
-  pub goes_on : (g : ℕ) → heap.Runs z.arena (view h) a g → t.words (cell.Scanned g) ≢ END
+  pub registers : (g d : ℕ) → heap.GoroutineRuns z.arena (view h) a g → d < REGISTERS → t.registers g d ≡ s.registers g d
+  pub goes_on : (g : ℕ) → heap.GoroutineRuns z.arena (view h) a g → t.words (cell.Scanned g) ≢ END
 
 -- Over the heap such a step may be any move of its seat that leaves the heap that never frees as it is: a span may be given back by it, and no object is made.
 abbrev pub MarkingAloneGoesBeside : Type 0

@@ -54,9 +54,9 @@ pub data TakesFrom (z : Arena) (e : Ever) (g : ℕ) : (value : EverValue) → Ty
 
 -- What marking asks of a step of this seat that does so. It writes no word that marking reads, save by the deed: the end of a goroutine is its stack's word, an object is its alloc bit, set where its mark was set before, and a pointer is written behind the write barrier. A register takes what its goroutine can see.
 abbrev pub MeetsByDeed : Cycle → (a : ℕ) → Heap → Marking → Ask → Deed → Type 0
-MeetsByDeed z a h s step Rests = marks.IsQuiet s step × FillsNone a s
-MeetsByDeed z a h s step (Sets g d value) = marks.IsQuiet s step × FillsNone a s × heap.Runs z.arena (view h) a g × (d < REGISTERS) × TakesFrom z.arena h.ever g value
-MeetsByDeed z a h s step (Ends g) = (step ≡ ask.Store (cell.Scanned g) END) × FillsNone a s × heap.Runs z.arena (view h) a g
+MeetsByDeed z a h s step Rests = marks.IsQuietInMarking s step × FillsNone a s
+MeetsByDeed z a h s step (Sets g d value) = marks.IsQuietInMarking s step × FillsNone a s × heap.GoroutineRuns z.arena (view h) a g × (d < REGISTERS) × TakesFrom z.arena h.ever g value
+MeetsByDeed z a h s step (Ends g) = (step ≡ ask.Store (cell.Scanned g) END) × FillsNone a s × heap.GoroutineRuns z.arena (view h) a g
 MeetsByDeed z a h s step (Makes at g d t) = (step ≡ ask.Or (cell.Alloc (at / 64)) (2 ^ (at % 64))) × (s.colour at ≡ Placing a) × heap.MayMake z.arena (view h) a at g d t
 MeetsByDeed z a h s step (Puts n k value word) = (step ≡ ask.Store (cell.Field (h.place n + k)) word) × FillsNone a s × heap.MayWrite z.arena (view h) a n k value word × (points z.arena.shapes h.ever.type_of n k ≡ true → IsClean (mark_words s.words) (field_words h.words (h.place n + k)) × IsClean (mark_words s.words) word)
 MeetsByDeed z a h s step (PutsGlobal k value word) = (step ≡ ask.Store (cell.Global k) word) × FillsNone a s × heap.MayWriteGlobal z.arena (view h) k value word × IsClean (mark_words s.words) (global_words h.words k) × IsClean (mark_words s.words) word

@@ -4,7 +4,7 @@ use Rattle.gh_heap.specs.Laws as heap
 use Rattle.gh_marks.specs.Laws as marks
 use Rattle.gh_cycle.specs.Reached.{TheReachedWereMade}
 
-pub record Known : Type 0 where
+pub record KnownOfMoves : Type 0 where
   pub rows : RowsAreWritten
   pub apart : heap.TheHeapIsApart
   pub made : TheReachedWereMade

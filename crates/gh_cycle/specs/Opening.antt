@@ -17,7 +17,7 @@ use Rattle.gh_marks.specs.Ends.{Opens}
 use Rattle.gh_cycle.specs.Reached.{IsBounded, IsReachedAt}
 
 -- The words as they are where the cycle of this number begins: no mark is set, no buffer is held or filled, the cursor is at the first global, and the word of each stack is that of a cycle before, or says that its goroutine has ended.
-pub record IsAtRest (z : Arena) (number : ℕ) (h : Heap) : Type 0 where
+pub record WordsAreAtRest (z : Arena) (number : ℕ) (h : Heap) : Type 0 where
   pub marks : (o : ℕ) → row_bit (mark_words h.words) o ≡ 0
   pub buffers : (b : ℕ) → h.words (cell.Buffer b) ≡ 0
   pub cursor : h.words cell.Gcur ≡ 0
@@ -28,7 +28,7 @@ pub record IsAtRest (z : Arena) (number : ℕ) (h : Heap) : Type 0 where
 
 -- A heap that was just opened is so before its first cycle.
 abbrev pub OpenedHeapsAreAtRest : Type 0
-OpenedHeapsAreAtRest = (z : Arena) (trigger number : ℕ) (h : Heap) → 0 < number → h.words ≡ opening_words trigger → IsAtRest z number h
+OpenedHeapsAreAtRest = (z : Arena) (trigger number : ℕ) (h : Heap) → 0 < number → h.words ≡ opening_words trigger → WordsAreAtRest z number h
 
 -- A state of marking is that of this heap: the words are the same, and the objects of the cycle are those that a script reaches, each with the words of its type.
 pub record IsCycleOf (z : Arena) (h : Heap) (s : Marking) : Type 0 where
@@ -44,11 +44,11 @@ reference_of place (values.Ref n) = place n + 1
 reference_of place _ = 0
 
 -- what marking reads of a register: that of a goroutine which has ended names nothing
-abbrev pub register_of : Heap → (g d : ℕ) → ℕ
-register_of h g d = if h.ever.ended g then 0 else reference_of h.place (h.ever.register g d)
+abbrev pub register_for_marking : Heap → (g d : ℕ) → ℕ
+register_for_marking h g d = if h.ever.ended g then 0 else reference_of h.place (h.ever.register g d)
 
 abbrev pub RegistersAre : Heap → Marking → Type 0
-RegistersAre h s = (g d : ℕ) → s.registers g d ≡ register_of h g d
+RegistersAre h s = (g d : ℕ) → s.registers g d ≡ register_for_marking h g d
 
 -- a state of marking in which the cycle opens over the heap
 pub record IsOpened (z : Cycle) (h : Heap) : Type 0 where
@@ -58,4 +58,4 @@ pub record IsOpened (z : Cycle) (h : Heap) : Type 0 where
   pub opens : Opens z marking
 
 abbrev pub CyclesOpen : Type 0
-CyclesOpen = (z : Cycle) (h : Heap) → Good z.arena (view h) → IsBounded z.arena h.ever → IsAtRest z.arena z.number h → IsOpened z h
+CyclesOpen = (z : Cycle) (h : Heap) → Good z.arena (view h) → IsBounded z.arena h.ever → WordsAreAtRest z.arena z.number h → IsOpened z h

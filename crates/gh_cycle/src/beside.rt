@@ -10,7 +10,7 @@
 
 ghost use Rattle.gh_cycle.specs.Beside.{ClaimedFieldsAreAside, CyclesBeginBeside, MarkingAloneGoesBeside, ObjectsAreKnownBeside, SlotsAreReserved, TheMarkedStand, TheReachedAreMarkedBeside};
 ghost use Rattle.gh_cycle.specs.Deeds.{DeedsGoBeside};
-ghost use Rattle.gh_cycle.specs.Known.{Known};
+ghost use Rattle.gh_cycle.specs.Known.{KnownOfMoves};
 
 use crate::opening::reach_is_decided;
 use gh_base::laws::rows_are_written;
@@ -36,7 +36,7 @@ pub fn objects_are_known_beside()
 
 /// The laws of lower crates on which those of steps beside marking rest: of moves over the heap and of moves of marking.
 fn laws_are_known()
-    ensures { Known }
+    ensures { KnownOfMoves }
 {
     rows_are_written();
     the_heap_is_apart();

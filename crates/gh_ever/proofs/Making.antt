@@ -6,7 +6,7 @@ use Rattle.std.proofs.lemmas.Bool.Decides.{nat_tests}
 use Rattle.std.proofs.lemmas.Option.{same_Some}
 use Rattle.gh_base.specs.Shapes.{shape_at, is_pointer}
 use Rattle.gh_model.specs.declared.EverValue.TheVariants as values
-use Rattle.gh_ever.proofs.Vocabulary.{Ever, ever_of, EverValue, Field, first_value, Global, held, IsInKnown, IsKnown, kind_of, Lists, Name, next_name, Object, Place, Register, same_name, set, Sound, spent, unstored, with_object, with_register}
+use Rattle.gh_ever.proofs.Vocabulary.{Ever, ever_of, EverValue, Field, first_value, Global, IsInKnown, IsKnown, kind_of, Lists, Name, next_name, Object, Place, Register, same_name, set, Sound, spent, stored_value, unstored, with_object, with_register}
 use Rattle.gh_ever.proofs.Places.{name_tells, name_itself}
 use Rattle.gh_ever.proofs.Same.{same_ever}
 use Rattle.gh_ever.proofs.Writing.{with_cell, ever-with_cell, sound_put, spent_le, length-spent}
@@ -46,9 +46,9 @@ fresh_unmade v g s = go (kind_of v.objects (fresh v g)) refl where
   go (Some t) e = let below : get_or v.made g 0 < get_or v.made g 0 = s.numbered (fresh v g) t e in absurd (omega arith)
 
 -- nothing was stored in it
-fresh_empty : (v : Lists) (g k : ℕ) → Sound v → held v.cells (Field (fresh v g) k) ≡ None
-fresh_empty v g k s = go (held v.cells (Field (fresh v g) k)) refl where
-  go : (o : Option EverValue) → held v.cells (Field (fresh v g) k) ≡ o → o ≡ None
+fresh_empty : (v : Lists) (g k : ℕ) → Sound v → stored_value v.cells (Field (fresh v g) k) ≡ None
+fresh_empty v g k s = go (stored_value v.cells (Field (fresh v g) k)) refl where
+  go : (o : Option EverValue) → stored_value v.cells (Field (fresh v g) k) ≡ o → o ≡ None
   go None e = refl
   go (Some x) e = let made : IsSome (kind_of v.objects (fresh v g)) = s.places (Field (fresh v g) k) x e in absurd (true≢false (sym made ∙ ap is_some (fresh_unmade v g s)))
 
@@ -60,11 +60,11 @@ kind_after true t o = refl
 kind_after false t o = refl
 
 field_after : (v : Lists) (g t : ℕ) (m : Name) (k : ℕ) → Sound v → (b : Bool) → same_name m (fresh v g) ≡ b →
-    unwrap_or (held v.cells (Field m k)) (unstored v.shapes (cond b (Some t) (kind_of v.objects m)) k) ≡
-    cond b (first_value (is_pointer (shape_at v.shapes t) k)) (unwrap_or (held v.cells (Field m k)) (unstored v.shapes (kind_of v.objects m) k))
+    unwrap_or (stored_value v.cells (Field m k)) (unstored v.shapes (cond b (Some t) (kind_of v.objects m)) k) ≡
+    cond b (first_value (is_pointer (shape_at v.shapes t) k)) (unwrap_or (stored_value v.cells (Field m k)) (unstored v.shapes (kind_of v.objects m) k))
 field_after v g t m k s true e =
     let same : m ≡ fresh v g = name_tells m (fresh v g) e in
-    let empty : held v.cells (Field m k) ≡ None = subst (λ (n : Name). held v.cells (Field n k) ≡ None) (sym same) (fresh_empty v g k s) in
+    let empty : stored_value v.cells (Field m k) ≡ None = subst (λ (n : Name). stored_value v.cells (Field n k) ≡ None) (sym same) (fresh_empty v g k s) in
     rw empty refl
 field_after v g t m k s false e = refl
 
@@ -73,7 +73,7 @@ unfolding ever_of
 ever-with_made v g t s w = same_ever (ever_of (with_made v g t)) (with_object v.shapes (ever_of v) g t)
     (λ h. made_after v g h w)
     (λ m. ap (λ (o : Option ℕ). unwrap_or o 0) (kind_of-push v.objects (fresh v g) t m (fresh_unmade v g s)) ∙ kind_after (same_name m (fresh v g)) t (kind_of v.objects m))
-    (λ m k. ap (λ (o : Option ℕ). unwrap_or (held v.cells (Field m k)) (unstored v.shapes o k)) (kind_of-push v.objects (fresh v g) t m (fresh_unmade v g s)) ∙ field_after v g t m k s (same_name m (fresh v g)) refl)
+    (λ m k. ap (λ (o : Option ℕ). unwrap_or (stored_value v.cells (Field m k)) (unstored v.shapes o k)) (kind_of-push v.objects (fresh v g) t m (fresh_unmade v g s)) ∙ field_after v g t m k s (same_name m (fresh v g)) refl)
     (λ k. refl) (λ h d. refl) (λ h. refl)
 
 -- The lists stay sound.

@@ -4,18 +4,18 @@ use Rattle.std.specs.List.{AllWithin}
 use Rattle.std.proofs.lemmas.List.{get_or_default}
 use Rattle.std.proofs.lemmas.List.Elements.{AllWithin-more}
 use Rattle.gh_ever.specs.declared.cell.Cell.{Cell}
-use Rattle.gh_ever.specs.Cells.{held}
+use Rattle.gh_ever.specs.Cells.{stored_value}
 use Rattle.gh_ever.specs.Lists.{Lists}
 use Rattle.gh_ever.specs.Marks.{unmarked, IsFollowed}
 use Rattle.gh_ever.specs.Sound.{Sound}
 use Rattle.gh_ever.proofs.Reaching.{cell_held}
 
 -- a cell that is read is held at its place
-pub cell_read : (v w : Lists) (xs : List Cell) (i : ℕ) (d : Cell) → w ≡ v → Sound w → xs ≡ w.cells → i < length xs → held v.cells (get_or xs i d).place ≡ Some (get_or xs i d).value
+pub cell_read : (v w : Lists) (xs : List Cell) (i : ℕ) (d : Cell) → w ≡ v → Sound w → xs ≡ w.cells → i < length xs → stored_value v.cells (get_or xs i d).place ≡ Some (get_or xs i d).value
 cell_read v w xs i d e s f h =
     let same : xs ≡ v.cells = f ∙ ap (λ (x : Lists). x.cells) e in
     let sound : Sound v = subst (λ (x : Lists). Sound x) e s in
-    subst (λ (ys : List Cell). i < length ys → held v.cells (get_or ys i d).place ≡ Some (get_or ys i d).value) (sym same) (λ l. cell_held v.cells i d sound.distinct l) h
+    subst (λ (ys : List Cell). i < length ys → stored_value v.cells (get_or ys i d).place ≡ Some (get_or ys i d).value) (sym same) (λ l. cell_held v.cells i d sound.distinct l) h
 
 -- fewer objects are unmarked than at first
 pub fewer_yet : (b : Bool) (first mid new : List Bool) → (b ≡ true → unmarked mid < unmarked first) → (b ≡ false → mid ≡ first) → unmarked new < unmarked mid → unmarked new < unmarked first

@@ -8,7 +8,7 @@ use Rattle.gh_model.specs.Ever.{same_name}
 use Rattle.gh_ever.specs.declared.cell.Place.{Place}
 use Rattle.gh_ever.specs.declared.cell.Place.TheVariants.{Global, Register, Field}
 use Rattle.gh_ever.specs.declared.cell.Cell.{Cell}
-use Rattle.gh_ever.specs.Cells.{held, put, same_place, IsDistinct}
+use Rattle.gh_ever.specs.Cells.{stored_value, put_value, same_place, IsDistinct}
 
 pub name_tells : (n m : Name) → same_name n m ≡ true → n ≡ m
 name_tells n m h =
@@ -53,29 +53,29 @@ place_apart p q r h e = elim (cases_Bool (same_place q p)) [
   | inr f ↦ f
 ]
 
-pub held-put : (cs : List Cell) (p : Place) (v : EverValue) (q : Place) → held (put cs p v) q ≡ cond (same_place q p) (Some v) (held cs q)
+pub held-put : (cs : List Cell) (p : Place) (v : EverValue) (q : Place) → stored_value (put_value cs p v) q ≡ cond (same_place q p) (Some v) (stored_value cs q)
 held-put [] p v q = refl
 held-put (c ∷ cs) p v q = go (same_place p c.place) refl (held-put cs p v q) where
-  further : (b : Bool) → same_place q c.place ≡ b → same_place p c.place ≡ false → held (put cs p v) q ≡ cond (same_place q p) (Some v) (held cs q) →
-      cond b (Some c.value) (held (put cs p v) q) ≡ cond (same_place q p) (Some v) (cond b (Some c.value) (held cs q))
+  further : (b : Bool) → same_place q c.place ≡ b → same_place p c.place ≡ false → stored_value (put_value cs p v) q ≡ cond (same_place q p) (Some v) (stored_value cs q) →
+      cond b (Some c.value) (stored_value (put_value cs p v) q) ≡ cond (same_place q p) (Some v) (cond b (Some c.value) (stored_value cs q))
   further true t f ih = rw (place_apart p q c.place f t) refl
   further false n f ih = ih
 
-  go : (b : Bool) → same_place p c.place ≡ b → held (put cs p v) q ≡ cond (same_place q p) (Some v) (held cs q) →
-      held (cond b (record c { value = v } ∷ cs) (c ∷ put cs p v)) q ≡ cond (same_place q p) (Some v) (cond (same_place q c.place) (Some c.value) (held cs q))
-  go true t ih = subst (λ (x : Place). cond (same_place q c.place) (Some v) (held cs q) ≡ cond (same_place q x) (Some v) (cond (same_place q c.place) (Some c.value) (held cs q))) (sym (place_tells p c.place t)) (there (same_place q c.place)) where
-    there : (b : Bool) → cond b (Some v) (held cs q) ≡ cond b (Some v) (cond b (Some c.value) (held cs q))
+  go : (b : Bool) → same_place p c.place ≡ b → stored_value (put_value cs p v) q ≡ cond (same_place q p) (Some v) (stored_value cs q) →
+      stored_value (cond b (record c { value = v } ∷ cs) (c ∷ put_value cs p v)) q ≡ cond (same_place q p) (Some v) (cond (same_place q c.place) (Some c.value) (stored_value cs q))
+  go true t ih = subst (λ (x : Place). cond (same_place q c.place) (Some v) (stored_value cs q) ≡ cond (same_place q x) (Some v) (cond (same_place q c.place) (Some c.value) (stored_value cs q))) (sym (place_tells p c.place t)) (there (same_place q c.place)) where
+    there : (b : Bool) → cond b (Some v) (stored_value cs q) ≡ cond b (Some v) (cond b (Some c.value) (stored_value cs q))
     there true = refl
     there false = refl
   go false f ih = further (same_place q c.place) refl f ih
 
-pub distinct-put : (cs : List Cell) (p : Place) (v : EverValue) → IsDistinct cs → IsDistinct (put cs p v)
+pub distinct-put : (cs : List Cell) (p : Place) (v : EverValue) → IsDistinct cs → IsDistinct (put_value cs p v)
 distinct-put [] p v d = (refl, tt)
 distinct-put (c ∷ cs) p v d = go (same_place p c.place) refl (distinct-put cs p v d.1) where
   apart : same_place p c.place ≡ false → same_place c.place p ≡ false
   apart f = place_apart p c.place c.place f (place_itself c.place)
 
-  go : (b : Bool) → same_place p c.place ≡ b → IsDistinct (put cs p v) → IsDistinct (cond b (record c { value = v } ∷ cs) (c ∷ put cs p v))
+  go : (b : Bool) → same_place p c.place ≡ b → IsDistinct (put_value cs p v) → IsDistinct (cond b (record c { value = v } ∷ cs) (c ∷ put_value cs p v))
   go true t ih = d
   go false f ih = (held-put cs p v c.place ∙ rw (apart f) d.0, ih)
 

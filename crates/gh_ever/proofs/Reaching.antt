@@ -13,7 +13,7 @@ use Rattle.gh_ever.specs.declared.cell.Place.{Place}
 use Rattle.gh_ever.specs.declared.cell.Place.TheVariants.{Global, Register, Field}
 use Rattle.gh_ever.specs.declared.cell.Cell.{Cell}
 use Rattle.gh_ever.specs.declared.object.Object.{Object}
-use Rattle.gh_ever.specs.Cells.{held, same_place, IsDistinct}
+use Rattle.gh_ever.specs.Cells.{stored_value, same_place, IsDistinct}
 use Rattle.gh_ever.specs.Objects.{kind_of}
 use Rattle.gh_ever.specs.Lists.{Lists, ever_of, unstored}
 use Rattle.gh_ever.specs.Marks.{marked, with_mark, leads, IsSoundMarks, IsFollowed, AreComplete}
@@ -58,10 +58,10 @@ marked_none (o ∷ os) (b ∷ ms) n h = go (same_name n o.name) (marked_none os 
 -- Cells and places.
 
 -- what is held at a place stands in a cell
-pub held_cell : (cs : List Cell) (p : Place) (v : EverValue) → held cs p ≡ Some v → (i : ℕ) × (i < length cs) × ((d : Cell) → get_or cs i d ≡ record { place = p; value = v })
+pub held_cell : (cs : List Cell) (p : Place) (v : EverValue) → stored_value cs p ≡ Some v → (i : ℕ) × (i < length cs) × ((d : Cell) → get_or cs i d ≡ record { place = p; value = v })
 held_cell [] p v h = cc
 held_cell (c ∷ cs) p v h = go (same_place p c.place) refl h (held_cell cs p v) where
-  go : (x : Bool) → same_place p c.place ≡ x → cond x (Some c.value) (held cs p) ≡ Some v → (held cs p ≡ Some v → (i : ℕ) × (i < length cs) × ((d : Cell) → get_or cs i d ≡ record { place = p; value = v })) →
+  go : (x : Bool) → same_place p c.place ≡ x → cond x (Some c.value) (stored_value cs p) ≡ Some v → (stored_value cs p ≡ Some v → (i : ℕ) × (i < length cs) × ((d : Cell) → get_or cs i d ≡ record { place = p; value = v })) →
       (i : ℕ) × (i < length (c ∷ cs)) × ((d : Cell) → get_or (c ∷ cs) i d ≡ record { place = p; value = v })
   go true t h ih =
       let q : c.place ≡ p = sym (place_tells p c.place t) in
@@ -70,13 +70,13 @@ held_cell (c ∷ cs) p v h = go (same_place p c.place) refl h (held_cell cs p v)
   go false f h ih = let found = ih h in (suc found.0, omega (arith, found.1), found.2)
 
 -- where no place has two cells, what stands in a cell is held at its place
-pub cell_held : (cs : List Cell) (i : ℕ) (d : Cell) → IsDistinct cs → i < length cs → held cs (get_or cs i d).place ≡ Some (get_or cs i d).value
+pub cell_held : (cs : List Cell) (i : ℕ) (d : Cell) → IsDistinct cs → i < length cs → stored_value cs (get_or cs i d).place ≡ Some (get_or cs i d).value
 cell_held [] i d h l = absurd (omega arith)
 cell_held (c ∷ cs) zero d h l = rw (place_itself c.place) refl
 cell_held (c ∷ cs) (suc i) d h l = go (get_or cs i d) (same_place (get_or cs i d).place c.place) refl (cell_held cs i d h.1 (omega arith)) where
-  go : (e : Cell) (x : Bool) → same_place e.place c.place ≡ x → held cs e.place ≡ Some e.value → cond x (Some c.value) (held cs e.place) ≡ Some e.value
+  go : (e : Cell) (x : Bool) → same_place e.place c.place ≡ x → stored_value cs e.place ≡ Some e.value → cond x (Some c.value) (stored_value cs e.place) ≡ Some e.value
   go e true t ih =
-      let none : held cs e.place ≡ None = subst (λ (q : Place). held cs q ≡ None) (sym (place_tells e.place c.place t)) h.0 in
+      let none : stored_value cs e.place ≡ None = subst (λ (q : Place). stored_value cs q ≡ None) (sym (place_tells e.place c.place t)) h.0 in
       absurd (cc)
   go e false f ih = ih
 
@@ -87,7 +87,7 @@ not_false true h = sym h
 not_false false h = refl
 
 -- what a place leads to is reachable
-pub leads_reach : (v : Lists) (ms : List Bool) (p : Place) (n : Name) → IsSoundMarks v ms → held v.cells p ≡ Some (values.Ref n) → leads v ms p ≡ true → Reach (ever_of v) n
+pub leads_reach : (v : Lists) (ms : List Bool) (p : Place) (n : Name) → IsSoundMarks v ms → stored_value v.cells p ≡ Some (values.Ref n) → leads v ms p ≡ true → Reach (ever_of v) n
 unfolding ever_of
 leads_reach v ms (Global k) n s h l = from_global k n (ap (λ (o : Option EverValue). unwrap_or o values.Nil) h)
 leads_reach v ms (Register g d) n s h l = from_register g d n (not_false (get_or v.ended g false) l) (ap (λ (o : Option EverValue). unwrap_or o values.Nil) h)
@@ -107,7 +107,7 @@ stored None d n other h = absurd (other h)
 stored (Some x) d n other h = ap Some h
 
 -- where no cell leads further, what a leading place holds is marked
-followed : (v : Lists) (ms : List Bool) (p : Place) (n : Name) → AreComplete v ms → leads v ms p ≡ true → held v.cells p ≡ Some (values.Ref n) → marked v.objects ms n ≡ true
+followed : (v : Lists) (ms : List Bool) (p : Place) (n : Name) → AreComplete v ms → leads v ms p ≡ true → stored_value v.cells p ≡ Some (values.Ref n) → marked v.objects ms n ≡ true
 followed v ms p n all l h =
     let found = held_cell v.cells p (values.Ref n) h in
     let cell : Cell = record { place = p; value = values.Ref n } in
@@ -120,9 +120,9 @@ nil_no_name n h = cc
 -- and so all that is reachable is marked
 pub reach_marked : (v : Lists) (ms : List Bool) → AreComplete v ms → (n : Name) → Reach (ever_of v) n → marked v.objects ms n ≡ true
 unfolding ever_of
-reach_marked v ms all n (from_global k n' h) = followed v ms (Global k) n' all refl (stored (held v.cells (Global k)) values.Nil n' (nil_no_name n') h)
-reach_marked v ms all n (from_register g d n' e h) = followed v ms (Register g d) n' all (ap not e) (stored (held v.cells (Register g d)) values.Nil n' (nil_no_name n') h)
-reach_marked v ms all n (from_field m k n' r h) = followed v ms (Field m k) n' all (reach_marked v ms all m r) (stored (held v.cells (Field m k)) (unstored v.shapes (kind_of v.objects m) k) n' (unstored_no_name v (kind_of v.objects m) k n') h)
+reach_marked v ms all n (from_global k n' h) = followed v ms (Global k) n' all refl (stored (stored_value v.cells (Global k)) values.Nil n' (nil_no_name n') h)
+reach_marked v ms all n (from_register g d n' e h) = followed v ms (Register g d) n' all (ap not e) (stored (stored_value v.cells (Register g d)) values.Nil n' (nil_no_name n') h)
+reach_marked v ms all n (from_field m k n' r h) = followed v ms (Field m k) n' all (reach_marked v ms all m r) (stored (stored_value v.cells (Field m k)) (unstored v.shapes (kind_of v.objects m) k) n' (unstored_no_name v (kind_of v.objects m) k n') h)
 
 -- One step.
 
@@ -133,7 +133,7 @@ sound_with_mark v ms n s r m h = elim (marked_before v.objects ms n m h) [
 ]
 
 -- what a cell leads to is marked, and stays sound
-pub followed_sound : (v w : Lists) (ms new : List Bool) (c : Cell) (n : Name) → w ≡ v → IsSoundMarks v ms → held v.cells c.place ≡ Some c.value → c.value ≡ values.Ref n → leads v ms c.place ≡ true → new ≡ with_mark w.objects ms n → IsSoundMarks v new
+pub followed_sound : (v w : Lists) (ms new : List Bool) (c : Cell) (n : Name) → w ≡ v → IsSoundMarks v ms → stored_value v.cells c.place ≡ Some c.value → c.value ≡ values.Ref n → leads v ms c.place ≡ true → new ≡ with_mark w.objects ms n → IsSoundMarks v new
 followed_sound v w ms new c n e s h i l f =
     let marks : new ≡ with_mark v.objects ms n = f ∙ ap (λ (x : Lists). with_mark x.objects ms n) e in
     let reach : Reach (ever_of v) n = leads_reach v ms c.place n s (h ∙ ap Some i) l in
@@ -142,9 +142,9 @@ followed_sound v w ms new c n e s h i l f =
 same_ref : (n m : Name) → values.Ref n ≡ values.Ref m → n ≡ m
 same_ref n m h = cc
 
-pub followed_marked : (v w : Lists) (ms new : List Bool) (c : Cell) (n : Name) → w ≡ v → Sound w → length w.objects ≤ length ms → held v.cells c.place ≡ Some c.value → c.value ≡ values.Ref n → new ≡ with_mark w.objects ms n → IsFollowed v new c
+pub followed_marked : (v w : Lists) (ms new : List Bool) (c : Cell) (n : Name) → w ≡ v → Sound w → length w.objects ≤ length ms → stored_value v.cells c.place ≡ Some c.value → c.value ≡ values.Ref n → new ≡ with_mark w.objects ms n → IsFollowed v new c
 followed_marked v w ms new c n e s len h i f l m j =
-    let there : held w.cells c.place ≡ Some (values.Ref n) = ap (λ (x : Lists). held x.cells c.place) e ∙ h ∙ ap Some i in
+    let there : stored_value w.cells c.place ≡ Some (values.Ref n) = ap (λ (x : Lists). stored_value x.cells c.place) e ∙ h ∙ ap Some i in
     let at : marked w.objects (with_mark w.objects ms n) n ≡ true = marked_itself w.objects ms n len (s.values c.place (values.Ref n) there) in
     let here : marked v.objects new n ≡ true = ap (λ (x : List Bool). marked v.objects x n) f ∙ subst (λ (x : Lists). marked x.objects (with_mark w.objects ms n) n ≡ true) e at in
     subst (λ (x : Name). marked v.objects new x ≡ true) (same_ref n m (sym i ∙ j)) here

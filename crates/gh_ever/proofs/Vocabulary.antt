@@ -4,7 +4,7 @@ pub use Rattle.gh_base.specs.declared.value.Name.{Name}
 pub use Rattle.gh_model.specs.Ever.{Ever, first_value, next_name, same_name, with_object, with_register}
 pub use Rattle.gh_model.specs.declared.EverValue.{EverValue}
 pub use Rattle.gh_ever.specs.Applied.{spent, with_value}
-pub use Rattle.gh_ever.specs.Cells.{held, put}
+pub use Rattle.gh_ever.specs.Cells.{put_value, stored_value}
 pub use Rattle.gh_ever.specs.Lists.{Lists, unstored}
 unfoldable pub use Rattle.gh_ever.specs.Lists.{ever_of}
 pub use Rattle.gh_ever.specs.Objects.{IsInKnown, IsKnown, kind_of}

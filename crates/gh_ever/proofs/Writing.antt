@@ -10,7 +10,7 @@ use Rattle.gh_model.specs.declared.EverValue.TheVariants as values
 use Rattle.gh_model.specs.Ever.{with_register, with_global, with_field}
 use Rattle.gh_ever.specs.declared.cell.Place.{Place}
 use Rattle.gh_ever.specs.declared.cell.Place.TheVariants.{Global, Register, Field}
-use Rattle.gh_ever.specs.Cells.{held, put, same_place}
+use Rattle.gh_ever.specs.Cells.{put_value, same_place, stored_value}
 use Rattle.gh_ever.specs.Objects.{IsKnown, IsInKnown, kind_of}
 use Rattle.gh_ever.specs.Lists.{Lists, ever_of, unstored}
 use Rattle.gh_ever.specs.Applied.{spent, with_value}
@@ -19,15 +19,15 @@ use Rattle.gh_ever.proofs.Places.{held-put, distinct-put, place_tells}
 use Rattle.gh_ever.proofs.Same.{same_ever}
 
 abbrev pub with_cell : Lists → Place → EverValue → List ℕ → Lists
-with_cell v p x left = record v { cells = put v.cells p x; left = left }
+with_cell v p x left = record v { cells = put_value v.cells p x; left = left }
 
 -- what is found is the new value there, and what was elsewhere
 found : (b : Bool) (x d : EverValue) (o : Option EverValue) → unwrap_or (cond b (Some x) o) d ≡ cond b x (unwrap_or o d)
 found true x d o = refl
 found false x d o = refl
 
-read-put : (v : Lists) (p : Place) (x d : EverValue) (q : Place) → unwrap_or (held (put v.cells p x) q) d ≡ cond (same_place q p) x (unwrap_or (held v.cells q) d)
-read-put v p x d q = ap (λ (o : Option EverValue). unwrap_or o d) (held-put v.cells p x q) ∙ found (same_place q p) x d (held v.cells q)
+read-put : (v : Lists) (p : Place) (x d : EverValue) (q : Place) → unwrap_or (stored_value (put_value v.cells p x) q) d ≡ cond (same_place q p) x (unwrap_or (stored_value v.cells q) d)
+read-put v p x d q = ap (λ (o : Option EverValue). unwrap_or o d) (held-put v.cells p x q) ∙ found (same_place q p) x d (stored_value v.cells q)
 
 pub ever-with_cell : (v : Lists) (p : Place) (x : EverValue) (left : List ℕ) → ever_of (with_cell v p x left) ≡ with_value (ever_of v) p x
 unfolding ever_of
@@ -61,7 +61,7 @@ spent_le left g h = elim (cases_eq h g) [
 pub sum-spent : (left : List ℕ) (g : ℕ) → g < length left → 0 < get_or left g 0 → sum (spent left g) + 1 ≡ sum left
 sum-spent left g h k = omega (arith, sum_by-set (λ (x : ℕ). x) left g (get_or left g 0 - 1) 0 h)
 
-pub sound_put : (v : Lists) (p : Place) (x : EverValue) → Sound v → IsInKnown v.objects p → IsKnown v.objects x → Sound (record v { cells = put v.cells p x })
+pub sound_put : (v : Lists) (p : Place) (x : EverValue) → Sound v → IsInKnown v.objects p → IsKnown v.objects x → Sound (record v { cells = put_value v.cells p x })
 sound_put v p x s inside known = record {
   sized = s.sized;
   counted = s.counted;
@@ -73,11 +73,11 @@ sound_put v p x s inside known = record {
   places = λ q y e. at q y (same_place q p) refl (sym (held-put v.cells p x q) ∙ e);
   distinct = distinct-put v.cells p x s.distinct;
 } where
-  go : (q : Place) (y : EverValue) (b : Bool) → same_place q p ≡ b → cond b (Some x) (held v.cells q) ≡ Some y → IsKnown v.objects y
+  go : (q : Place) (y : EverValue) (b : Bool) → same_place q p ≡ b → cond b (Some x) (stored_value v.cells q) ≡ Some y → IsKnown v.objects y
   go q y true t e = subst (λ (z : EverValue). IsKnown v.objects z) (same_Some x y e) known
   go q y false t e = s.values q y e
 
-  at : (q : Place) (y : EverValue) (b : Bool) → same_place q p ≡ b → cond b (Some x) (held v.cells q) ≡ Some y → IsInKnown v.objects q
+  at : (q : Place) (y : EverValue) (b : Bool) → same_place q p ≡ b → cond b (Some x) (stored_value v.cells q) ≡ Some y → IsInKnown v.objects q
   at q y true t e = subst (λ (z : Place). IsInKnown v.objects z) (sym (place_tells q p t)) inside
   at q y false t e = s.places q y e
 

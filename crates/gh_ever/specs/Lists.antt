@@ -9,7 +9,7 @@ use Rattle.gh_ever.specs.declared.cell.Place.TheVariants as places
 use Rattle.gh_ever.specs.declared.cell.Cell.{Cell}
 use Rattle.gh_ever.specs.declared.object.Object.{Object}
 use Rattle.gh_script.specs.Program.{Program}
-use Rattle.gh_ever.specs.Cells.{held}
+use Rattle.gh_ever.specs.Cells.{stored_value}
 use Rattle.gh_ever.specs.Objects.{kind_of}
 
 pub record Lists : Type 0 where
@@ -30,9 +30,9 @@ unfoldable pub ever_of : Lists → Ever
 ever_of lists = record {
   made = λ g. slice_index lists.made g;
   type_of = λ n. unwrap_or (kind_of lists.objects n) 0;
-  field = λ n k. unwrap_or (held lists.cells (places.Field n k)) (unstored lists.shapes (kind_of lists.objects n) k);
-  global = λ k. unwrap_or (held lists.cells (places.Global k)) values.Nil;
-  register = λ g d. unwrap_or (held lists.cells (places.Register g d)) values.Nil;
+  field = λ n k. unwrap_or (stored_value lists.cells (places.Field n k)) (unstored lists.shapes (kind_of lists.objects n) k);
+  global = λ k. unwrap_or (stored_value lists.cells (places.Global k)) values.Nil;
+  register = λ g d. unwrap_or (stored_value lists.cells (places.Register g d)) values.Nil;
   ended = λ g. slice_index_or lists.ended g false;
 }
 

@@ -6,7 +6,7 @@ use Rattle.gh_base.specs.declared.value.Name.{Name}
 use Rattle.gh_base.specs.Shapes.{shape_at}
 use Rattle.gh_model.specs.declared.EverValue.{EverValue}
 use Rattle.gh_ever.specs.declared.cell.Place.{Place}
-use Rattle.gh_ever.specs.Cells.{held, IsDistinct}
+use Rattle.gh_ever.specs.Cells.{IsDistinct, stored_value}
 use Rattle.gh_ever.specs.Objects.{kind_of, IsKnown, IsInKnown}
 use Rattle.gh_ever.specs.Lists.{Lists}
 
@@ -21,6 +21,6 @@ pub record Sound (lists : Lists) : Type 0 where
   pub fits : (g : ℕ) → slice_index lists.made g + slice_index lists.left g < 2 ^ 32
   pub numbered : (n : Name) (kind : ℕ) → kind_of lists.objects n ≡ Some kind → n.k < slice_index lists.made n.g
   pub typed : (n : Name) (kind : ℕ) → kind_of lists.objects n ≡ Some kind → kind < length lists.shapes
-  pub values : (place : Place) (value : EverValue) → held lists.cells place ≡ Some value → IsKnown lists.objects value
-  pub places : (place : Place) (value : EverValue) → held lists.cells place ≡ Some value → IsInKnown lists.objects place
+  pub values : (place : Place) (value : EverValue) → stored_value lists.cells place ≡ Some value → IsKnown lists.objects value
+  pub places : (place : Place) (value : EverValue) → stored_value lists.cells place ≡ Some value → IsInKnown lists.objects place
   pub distinct : IsDistinct lists.cells

@@ -5,7 +5,7 @@ ghost use Rattle.std.specs.Cmp.Rules.{comparing, hashing};
 ghost use Rattle.std.specs.HashMap.{spare};
 ghost use Rattle.std.proofs.Common.{rules};
 ghost use Rattle.gh_model.specs.Ever.{same_name};
-ghost use Rattle.gh_ever.specs.Cells.{held, put, same_place};
+ghost use Rattle.gh_ever.specs.Cells.{put_value, same_place, stored_value};
 ghost use Rattle.gh_ever.specs.Found.{FindsCells, place_writes};
 
 use gh_base::Name;
@@ -86,7 +86,7 @@ pub type Places = HashMap<Place, usize>;
 /// The value at the place, if one was stored there.
 pub fn held(cells: &Vec<Cell>, places: &Places, place: Place) -> Option<EverValue>
     requires { FindsCells places.now cells.now.items }
-    ensures { result ≡ held cells.now.items place }
+    ensures { result ≡ stored_value cells.now.items place }
 {
     match places.get(&place) {
         Some(i) => Some(cells[*i].value),
@@ -100,7 +100,7 @@ pub fn put(cells: &mut Vec<Cell>, places: &mut Places, place: Place, value: Ever
     requires room { vec_len cells.old < vec_capacity cells.old }
     requires spare { 0 < spare places.old }
     ensures finds { FindsCells places.new cells.new.items }
-    ensures items { cells.new.items ≡ put cells.old.items place value }
+    ensures items { cells.new.items ≡ put_value cells.old.items place value }
     ensures room { vec_capacity cells.new ≡ vec_capacity cells.old }
     ensures len { vec_len cells.new ≤ vec_len cells.old + 1 }
     ensures spare { spare places.old ≤ spare places.new + 1 }

@@ -4,7 +4,7 @@ ghost use Rattle.std.specs.Prelude.{◌≡◌, ◌<◌, ◌^◌, ◌↔◌, IfOk
 ghost use Rattle.gh_base.specs.declared.operation.Op.TheVariants.{End};
 ghost use Rattle.gh_base.specs.declared.value.Answer.TheVariants.{Done};
 ghost use Rattle.gh_model.specs.Ever.{Reach, ever_after, opening_ever};
-ghost use Rattle.gh_script.specs.Program.{op_of};
+ghost use Rattle.gh_script.specs.Program.{statement_as_op};
 ghost use Rattle.gh_ever.specs.Applied.{IsDue, NamesType, given_answer, spent};
 ghost use Rattle.gh_ever.specs.Lists.{counts_of, ever_of, opening_lists};
 ghost use Rattle.gh_ever.specs.Sound.{AreSized};
@@ -69,8 +69,8 @@ impl Ever {
     pub fn apply(&mut self, g: u32, s: &Stmt, told: Option<Answer>) -> Answer
         requires due { IsDue self.old g }
         requires typed { NamesType self.old.shapes s.now }
-        ensures answered { result ≡ given_answer self.old.shapes (ever_of self.old) (op_of g s.now) told }
-        ensures after { ever_of self.new ≡ ever_after self.old.shapes (ever_of self.old) (op_of g s.now) result }
+        ensures answered { result ≡ given_answer self.old.shapes (ever_of self.old) (statement_as_op g s.now) told }
+        ensures after { ever_of self.new ≡ ever_after self.old.shapes (ever_of self.old) (statement_as_op g s.now) result }
         ensures shapes { self.new.shapes ≡ self.old.shapes }
         ensures left { self.new.left ≡ spent self.old.left g }
         ensures ended { self.new.ended ≡ self.old.ended }

@@ -4,8 +4,8 @@ ghost use Rattle.std.specs.Prelude.{◌≡◌, ◌+◌, ◌<◌, ◌≤◌, ◌^
 ghost use Rattle.gh_base.specs.declared.operation.Op.TheVariants.{New, Load, Store, GetGlobal, SetGlobal};
 ghost use Rattle.gh_base.specs.declared.value.Answer.TheVariants as answers;
 ghost use Rattle.gh_model.specs.declared.EverValue.TheVariants.{Ref};
-ghost use Rattle.gh_model.specs.Ever.{has_field, is_pointer_field, load_answer, next_name, store_answer, told, with_end, with_object, with_register};
-ghost use Rattle.gh_script.specs.Program.{op_of};
+ghost use Rattle.gh_model.specs.Ever.{answer_of_value, has_field, is_pointer_field, load_answer, next_name, store_answer, with_end, with_object, with_register};
+ghost use Rattle.gh_script.specs.Program.{statement_as_op};
 ghost use Rattle.gh_ever.specs.Objects.{IsInKnown, IsKnown, kind_of};
 ghost use Rattle.gh_ever.specs.Lists.{ever_of, opening_lists};
 ghost use Rattle.gh_ever.specs.Sound.{AreSized};
@@ -149,7 +149,7 @@ impl Kept {
     /// What a load of field `k` through `base` finds.
     fn find(&self, base: EverValue, k: u32) -> Result<EverValue, Fault>
         requires { IsKnown self.now.objects base }
-        ensures found { IfOk result (λ v. load_answer self.now.shapes (ever_of self.now) base k ≡ told v) }
+        ensures found { IfOk result (λ v. load_answer self.now.shapes (ever_of self.now) base k ≡ answer_of_value v) }
         ensures known { IfOk result (IsKnown self.now.objects) }
         ensures fault { IfErr result (λ f. load_answer self.now.shapes (ever_of self.now) base k ≡ answers.Fault f) }
     {
@@ -319,7 +319,7 @@ impl Kept {
     pub fn apply(&mut self, g: u32, s: &Stmt, told: Option<Answer>) -> Answer
         requires due { IsDue self.old g }
         requires typed { NamesType self.old.shapes s.now }
-        ensures { Applies self.old self.new g (op_of g s.now) told result }
+        ensures { Applies self.old self.new g (statement_as_op g s.now) told result }
     {
         match *s {
             Stmt::New { d, t } => self.new_object(g, d, t, told),

@@ -3,7 +3,7 @@
 
 ghost use Rattle.std.specs.Prelude.{◌≡◌, ◌<◌, ◌≤◌, ◌↔◌, IsTrue, All, Some, false, length, vec_len};
 ghost use Rattle.gh_model.specs.Ever.{Reach};
-ghost use Rattle.gh_ever.specs.Cells.{held};
+ghost use Rattle.gh_ever.specs.Cells.{stored_value};
 ghost use Rattle.gh_ever.specs.Lists.{ever_of};
 ghost use Rattle.gh_ever.specs.Marks.{AreComplete, IsFollowed, IsSoundMarks, leads, marked, unmarked, with_mark};
 
@@ -71,7 +71,7 @@ fn leads(kept: &Kept, marks: &Vec<bool>, place: Place) -> bool
 /// Marks what the cell leads to; whether that set a mark.
 fn follow(kept: &Kept, marks: &mut Vec<bool>, cell: Cell) -> bool
     requires room { length kept.now.objects ≤ vec_len marks.old }
-    requires held { held kept.now.cells cell.place ≡ Some cell.value }
+    requires held { stored_value kept.now.cells cell.place ≡ Some cell.value }
     ensures sound { IsSoundMarks kept.now marks.old.items → IsSoundMarks kept.now marks.new.items }
     ensures followed { result ≡ false → IsFollowed kept.now marks.new.items cell }
     ensures len { vec_len marks.new ≡ vec_len marks.old }

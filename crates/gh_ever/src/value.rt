@@ -2,14 +2,14 @@
 
 ghost use Rattle.std.specs.Prelude.{◌≡◌, ◌<◌, length};
 ghost use Rattle.gh_base.specs.Shapes.{is_pointer, shape_at};
-ghost use Rattle.gh_model.specs.Ever.{first_value, fits, is_number, told};
+ghost use Rattle.gh_model.specs.Ever.{answer_of_value, first_value, fits, is_number};
 
 use gh_base::{Answer, Shapes};
 use gh_model::EverValue;
 
 /// The answer that tells the value.
 pub fn told(value: EverValue) -> Answer
-    ensures { result ≡ told value }
+    ensures { result ≡ answer_of_value value }
 {
     match value {
         EverValue::Nil => Answer::Nil,

@@ -11,8 +11,8 @@ use Rattle.gh_model.specs.Ever.{Ever, opening_ever}
 use Rattle.gh_script.specs.declared.statement.Stmt.{Stmt}
 use Rattle.gh_script.specs.declared.statement.Stmt.TheVariants as statements
 use Rattle.gh_script.specs.Generated.{KeepsTo}
-use Rattle.gh_script.specs.Program.{op_of, Program, statements_of}
-use Rattle.gh_generated.specs.Orders.{AreApart, is_of, IsOrderOf, KeepsToItsOwn, left_by, operations_of}
+use Rattle.gh_script.specs.Program.{Program, statement_as_op, statements_of}
+use Rattle.gh_generated.specs.Orders.{AllKeepToTheirOwn, ever_left_by, is_by_goroutine, IsOrderOf, KeepsToItsOwn, operations_of}
 use Rattle.gh_generated.proofs.Parts.{Apart, own_change, same_change, SamePart, SamePart-self, SamePart-swapped, SamePart-through}
 use Rattle.gh_generated.proofs.Steps.{some_goroutine, step, step_change, step_elsewhere}
 
@@ -21,9 +21,9 @@ abbrev run : List Shape → Ever → List Op → Ever
 run shapes e all = ever_after_all shapes e all (answers_from shapes e all)
 
 abbrev of : ℕ → List Op → List Op
-of g all = filter (is_of g) all
+of g all = filter (is_by_goroutine g) all
 
-part_step : (shapes : List Shape) (g : ℕ) (op : Op) (rest : List Op) (e f : Ever) (b : Bool) → is_of g op ≡ b → KeepsToItsOwn op → Apart e → SamePart g e f
+part_step : (shapes : List Shape) (g : ℕ) (op : Op) (rest : List Op) (e f : Ever) (b : Bool) → is_by_goroutine g op ≡ b → KeepsToItsOwn op → Apart e → SamePart g e f
     → ((x y : Ever) → Apart x → SamePart g x y → SamePart g (run shapes x rest) (run shapes y (of g rest))) → SamePart g (run shapes (step shapes e op) rest) (run shapes f (cond b (op ∷ of g rest) (of g rest)))
 part_step shapes g op rest e f true is keeps a s more =
     let c = step_change shapes g e f op is keeps a s in
@@ -36,7 +36,7 @@ part_step shapes g op rest e f false is keeps a s more =
 part : (shapes : List Shape) (g : ℕ) (all : List Op) (e f : Ever) → All KeepsToItsOwn all → Apart e → SamePart g e f → SamePart g (run shapes e all) (run shapes f (of g all))
 part shapes g [] e f keeps a s = s
 part shapes g (op ∷ rest) e f keeps a s =
-    part_step shapes g op rest e f (is_of g op) refl (All-head KeepsToItsOwn op rest keeps) a s (λ x y b t. part shapes g rest x y (All-tail KeepsToItsOwn op rest keeps) b t)
+    part_step shapes g op rest e f (is_by_goroutine g op) refl (All-head KeepsToItsOwn op rest keeps) a s (λ x y b t. part shapes g rest x y (All-tail KeepsToItsOwn op rest keeps) b t)
 
 -- ---- each operation of an order keeps to its own
 
@@ -49,14 +49,14 @@ rest_kept g op rest true h = All-tail KeepsToItsOwn op (of g rest) h
 rest_kept g op rest false h = h
 
 head_kept : (shapes : List Shape) (op : Op) (rest : List Op) → ((g : ℕ) → All KeepsToItsOwn (of g (op ∷ rest))) → KeepsToItsOwn op
-head_kept shapes op rest h = elim (some_goroutine shapes op) [ inl w ↦ one_kept w.0 op rest (is_of w.0 op) w.1 (h w.0) | inr w ↦ w.0 ]
+head_kept shapes op rest h = elim (some_goroutine shapes op) [ inl w ↦ one_kept w.0 op rest (is_by_goroutine w.0 op) w.1 (h w.0) | inr w ↦ w.0 ]
 
 all_kept : (shapes : List Shape) (all : List Op) → ((g : ℕ) → All KeepsToItsOwn (of g all)) → All KeepsToItsOwn all
 all_kept shapes [] h = All-nil KeepsToItsOwn
 all_kept shapes (op ∷ rest) h =
-    All-cons KeepsToItsOwn op rest (head_kept shapes op rest h) (all_kept shapes rest (λ g. rest_kept g op rest (is_of g op) (h g)))
+    All-cons KeepsToItsOwn op rest (head_kept shapes op rest h) (all_kept shapes rest (λ g. rest_kept g op rest (is_by_goroutine g op) (h g)))
 
-order_kept : (p : Program) (all : List Op) → AreApart p → IsOrderOf p all → All KeepsToItsOwn all
+order_kept : (p : Program) (all : List Op) → AllKeepToTheirOwn p → IsOrderOf p all → All KeepsToItsOwn all
 order_kept p all apart order =
     all_kept p.shapes all (λ g. elim (cases_lt g (length p.goroutines)) [
       | inl lt ↦ subst (All KeepsToItsOwn) (sym (order.each g lt)) (apart g lt)
@@ -73,12 +73,12 @@ same_of p one other g a b = elim (cases_lt g (length p.goroutines)) [
 opening_apart : Apart opening_ever
 opening_apart = record { fields = λ n k. tt; globals = λ g. tt; registers = λ g d. tt }
 
-same_parts : (p : Program) (one other : List Op) (g : ℕ) → AreApart p → IsOrderOf p one → IsOrderOf p other → SamePart g (left_by p.shapes one) (left_by p.shapes other)
+same_parts : (p : Program) (one other : List Op) (g : ℕ) → AllKeepToTheirOwn p → IsOrderOf p one → IsOrderOf p other → SamePart g (ever_left_by p.shapes one) (ever_left_by p.shapes other)
 same_parts p one other g apart a b =
     let x = part p.shapes g one opening_ever opening_ever (order_kept p one apart a) opening_apart (SamePart-self g opening_ever) in
     let y = part p.shapes g other opening_ever opening_ever (order_kept p other apart b) opening_apart (SamePart-self g opening_ever) in
-    let z = subst (λ (l : List Op). SamePart g (left_by p.shapes one) (run p.shapes opening_ever l)) (same_of p one other g a b) x in
-    SamePart-through g (left_by p.shapes one) (run p.shapes opening_ever (of g other)) (left_by p.shapes other) z (SamePart-swapped g (left_by p.shapes other) (run p.shapes opening_ever (of g other)) y)
+    let z = subst (λ (l : List Op). SamePart g (ever_left_by p.shapes one) (run p.shapes opening_ever l)) (same_of p one other g a b) x in
+    SamePart-through g (ever_left_by p.shapes one) (run p.shapes opening_ever (of g other)) (ever_left_by p.shapes other) z (SamePart-swapped g (ever_left_by p.shapes other) (run p.shapes opening_ever (of g other)) y)
 
 -- heaps that have the same of each goroutine are one
 one_heap : (e f : Ever) → ((g : ℕ) → SamePart g e f) → e ≡ f
@@ -91,12 +91,12 @@ one_heap e f s = λ i. record {
   ended = λ g. (s g).ended i;
 }
 
-pub apart_orders : (p : Program) (one other : List Op) → AreApart p → IsOrderOf p one → IsOrderOf p other → left_by p.shapes one ≡ left_by p.shapes other
-apart_orders p one other apart a b = one_heap (left_by p.shapes one) (left_by p.shapes other) (λ g. same_parts p one other g apart a b)
+pub apart_orders : (p : Program) (one other : List Op) → AllKeepToTheirOwn p → IsOrderOf p one → IsOrderOf p other → ever_left_by p.shapes one ≡ ever_left_by p.shapes other
+apart_orders p one other apart a b = one_heap (ever_left_by p.shapes one) (ever_left_by p.shapes other) (λ g. same_parts p one other g apart a b)
 
 -- ---- statements that keep to a global, as operations
 
-statement_kept : (g : ℕ) (statement : Stmt) → KeepsTo g statement → KeepsToItsOwn (op_of g statement)
+statement_kept : (g : ℕ) (statement : Stmt) → KeepsTo g statement → KeepsToItsOwn (statement_as_op g statement)
 statement_kept g (statements.New d t) h = tt
 statement_kept g (statements.Load d b k) h = tt
 statement_kept g (statements.Store b k v) h = tt
@@ -109,6 +109,6 @@ statement_kept g statements.Gc h = tt
 
 pub operations_kept : (p : Program) (g : ℕ) → All (KeepsTo g) (statements_of p g) → All KeepsToItsOwn (operations_of p g)
 operations_kept p g h =
-    All-append KeepsToItsOwn (map (op_of g) (statements_of p g)) (ops.End g ∷ [])
-    (All-map KeepsToItsOwn (op_of g) (statements_of p g) (λ k d lt. statement_kept g _ (h k d lt)))
+    All-append KeepsToItsOwn (map (statement_as_op g) (statements_of p g)) (ops.End g ∷ [])
+    (All-map KeepsToItsOwn (statement_as_op g) (statements_of p g) (λ k d lt. statement_kept g _ (h k d lt)))
     (All-cons KeepsToItsOwn (ops.End g) [] tt (All-nil KeepsToItsOwn))

@@ -10,8 +10,8 @@ use Rattle.gh_base.specs.declared.value.Fault.TheVariants.{Field, Kind}
 use Rattle.gh_base.specs.declared.value.Name.{Name}
 use Rattle.gh_model.specs.declared.EverValue.{EverValue}
 use Rattle.gh_model.specs.declared.EverValue.TheVariants as values
-use Rattle.gh_model.specs.Ever.{answer_of, Ever, ever_after, fits, has_field, is_number, is_pointer_field, load_answer, sets_global, store_answer, stores_value, takes_answer, told, with_register}
-use Rattle.gh_generated.specs.Orders.{is_of, KeepsToItsOwn}
+use Rattle.gh_model.specs.Ever.{answer_of, answer_of_value, Ever, ever_after, fits, has_field, is_number, is_pointer_field, load_answer, sets_global, store_answer, stores_value, takes_answer, with_register}
+use Rattle.gh_generated.specs.Orders.{is_by_goroutine, KeepsToItsOwn}
 use Rattle.gh_generated.proofs.Parts.{Apart, Changes, ends, field, global, IsOwn, nothing, object, other_change, own_change, register, SamePart, SamePart-self}
 
 -- the heap after one operation more, where there is room
@@ -19,15 +19,15 @@ abbrev pub step : List Shape → Ever → Op → Ever
 step shapes e op = ever_after shapes e op (answer_of shapes e op)
 
 module _ (shapes : List Shape) (g : ℕ) (e f : Ever) where
-  told_one : (d : ℕ) (v : EverValue) → IsOwn g v → Changes shapes g e f (takes_answer e g d (told v)) (takes_answer f g d (told v))
+  told_one : (d : ℕ) (v : EverValue) → IsOwn g v → Changes shapes g e f (takes_answer e g d (answer_of_value v)) (takes_answer f g d (answer_of_value v))
   told_one d values.Nil own = register d values.Nil tt
   told_one d (values.Int n) own = register d (values.Int n) tt
   told_one d (values.Ref n) own = register d (values.Ref n) own
 
-  told_change : (d : ℕ) (v w : EverValue) → v ≡ w → IsOwn g v → Changes shapes g e f (takes_answer e g d (told v)) (takes_answer f g d (told w))
-  told_change d v w same own = subst (λ (x : EverValue). Changes shapes g e f (takes_answer e g d (told v)) (takes_answer f g d (told x))) same (told_one d v own)
+  told_change : (d : ℕ) (v w : EverValue) → v ≡ w → IsOwn g v → Changes shapes g e f (takes_answer e g d (answer_of_value v)) (takes_answer f g d (answer_of_value w))
+  told_change d v w same own = subst (λ (x : EverValue). Changes shapes g e f (takes_answer e g d (answer_of_value v)) (takes_answer f g d (answer_of_value x))) same (told_one d v own)
 
-  loaded : (d : ℕ) (there : Bool) (v w : EverValue) → v ≡ w → IsOwn g v → Changes shapes g e f (takes_answer e g d (cond there (told v) (answers.Fault Field))) (takes_answer f g d (cond there (told w) (answers.Fault Field)))
+  loaded : (d : ℕ) (there : Bool) (v w : EverValue) → v ≡ w → IsOwn g v → Changes shapes g e f (takes_answer e g d (cond there (answer_of_value v) (answers.Fault Field))) (takes_answer f g d (cond there (answer_of_value w) (answers.Fault Field)))
   loaded d true v w same own = told_change d v w same own
   loaded d false v w same own = nothing
 
@@ -36,7 +36,7 @@ module _ (shapes : List Shape) (g : ℕ) (e f : Ever) where
   load_change d k (values.Int n) own a s = nothing
   load_change d k (values.Ref n) own a s =
       let there : has_field shapes e n k ≡ has_field shapes f n k = ap (λ (t : ℕ). has_field shapes (record e { type_of = λ m. t }) n k) (s.types n own) in
-      subst (λ (b : Bool). Changes shapes g e f (takes_answer e g d (load_answer shapes e (values.Ref n) k)) (takes_answer f g d (cond b (told (f.field n k)) (answers.Fault Field)))) there
+      subst (λ (b : Bool). Changes shapes g e f (takes_answer e g d (load_answer shapes e (values.Ref n) k)) (takes_answer f g d (cond b (answer_of_value (f.field n k)) (answers.Fault Field)))) there
       (loaded d (has_field shapes e n k) (e.field n k) (f.field n k) (s.fields n k own) (subst (λ (h : ℕ). IsOwn h (e.field n k)) own (a.fields n k)))
 
   stored : (n : Name) (k : ℕ) (v : EverValue) (there right : Bool) → n.g ≡ g → IsOwn g v
@@ -61,7 +61,7 @@ module _ (shapes : List Shape) (g : ℕ) (e f : Ever) where
   abbrev Made : Op → Type 0
   Made op = Changes shapes g e f (step shapes e op) (step shapes f op)
 
-  pub step_change : (op : Op) → is_of g op ≡ true → KeepsToItsOwn op → Apart e → SamePart g e f → Made op
+  pub step_change : (op : Op) → is_by_goroutine g op ≡ true → KeepsToItsOwn op → Apart e → SamePart g e f → Made op
   step_change (ops.New h d t) is keeps a s = subst (λ (x : ℕ). Made (ops.New x d t)) (sym (eqb-true h g is)) (object d t)
   step_change (ops.Load h d b k) is keeps a s =
       subst (λ (x : ℕ). Made (ops.Load x d b k)) (sym (eqb-true h g is))
@@ -89,7 +89,7 @@ module _ (shapes : List Shape) (g : ℕ) (e f : Ever) where
   step_change ops.Leave is keeps a s = absurd cc
 
 -- an operation is of some goroutine, or changes nothing
-pub some_goroutine : (shapes : List Shape) (op : Op) → ((h : ℕ) × (is_of h op ≡ true)) ⊎ (KeepsToItsOwn op × ((e : Ever) → step shapes e op ≡ e))
+pub some_goroutine : (shapes : List Shape) (op : Op) → ((h : ℕ) × (is_by_goroutine h op ≡ true)) ⊎ (KeepsToItsOwn op × ((e : Ever) → step shapes e op ≡ e))
 some_goroutine shapes (ops.New h d t) = inl (h, eq-eqb h h refl)
 some_goroutine shapes (ops.Load h d b k) = inl (h, eq-eqb h h refl)
 some_goroutine shapes (ops.Store h b k v) = inl (h, eq-eqb h h refl)
@@ -108,11 +108,11 @@ differ true p q = cc
 differ false p q = cc
 
 -- an operation that is not of goroutine g leaves its part as it was
-pub step_elsewhere : (shapes : List Shape) (g : ℕ) (e : Ever) (op : Op) → is_of g op ≡ false → KeepsToItsOwn op → Apart e → SamePart g e (step shapes e op) × Apart (step shapes e op)
+pub step_elsewhere : (shapes : List Shape) (g : ℕ) (e : Ever) (op : Op) → is_by_goroutine g op ≡ false → KeepsToItsOwn op → Apart e → SamePart g e (step shapes e op) × Apart (step shapes e op)
 step_elsewhere shapes g e op not_of keeps a = elim (some_goroutine shapes op) [
   | inl w ↦
       let c = step_change shapes w.0 e e op w.1 keeps a (SamePart-self w.0 e) in
-      let ne : g ≢ w.0 = λ same. differ (is_of g op) (ap (λ (x : ℕ). is_of x op) same ∙ w.1) not_of in
+      let ne : g ≢ w.0 = λ same. differ (is_by_goroutine g op) (ap (λ (x : ℕ). is_by_goroutine x op) same ∙ w.1) not_of in
       (other_change shapes w.0 g e e (step shapes e op) (step shapes e op) c ne, own_change shapes w.0 e e (step shapes e op) (step shapes e op) c a)
   | inr w ↦ (subst (SamePart g e) (sym (w.1 e)) (SamePart-self g e), subst Apart (sym (w.1 e)) a)
 ]

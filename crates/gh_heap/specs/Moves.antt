@@ -76,8 +76,8 @@ abbrev pub placed_at : Place → Name → (at : ℕ) → Place
 placed_at place n at m = if same_name m n then at else place m
 
 -- what is being laid out before the page at this distance is written: nothing, before the first
-abbrev pub begun : Laying → Option Laying
-begun y = if y.next == 1 then None else Some y
+abbrev pub laid_so_far : Laying → Option Laying
+laid_so_far y = if y.next == 1 then None else Some y
 
 -- and what is being freed, likewise
 abbrev pub freed_yet : Freeing → Option Freeing
@@ -115,7 +115,7 @@ swept s (Thin i marks) = record s { words = put s.words (cell.Alloc i) (bit_and 
 -- When a seat may make the move: by its rights, and by words that these let it rely on.
 
 -- goroutine g runs on the processor at this seat, and has not ended
-pub record Runs (z : Arena) (v : View) (a g : ℕ) : Type 0 where
+pub record GoroutineRuns (z : Arena) (v : View) (a g : ℕ) : Type 0 where
   pub of : IsOf z a g
   pub goes_on : v.ever.ended g ≡ false
 
@@ -138,7 +138,7 @@ pub record IsReady (z : Arena) (v : View) (a at t : ℕ) (n : Name) : Type 0 whe
   pub birth : v.birth at ≡ birth_word n
 
 pub record MayMake (z : Arena) (v : View) (a at g d t : ℕ) : Type 0 where
-  pub runs : Runs z v a g
+  pub runs : GoroutineRuns z v a g
   pub register : d < REGISTERS
   pub type : t < length z.shapes
   pub few : v.ever.made g < MOST_STATEMENTS
@@ -158,7 +158,7 @@ pub record MayWriteGlobal (z : Arena) (v : View) (k : ℕ) (value : EverValue) (
 
 pub record MayLay (z : Arena) (v : View) (a : ℕ) (y : Laying) : Type 0 where
   pub locked : v.locked a ≡ true
-  pub laying : v.laying a ≡ begun y
+  pub laying : v.laying a ≡ laid_so_far y
   pub freeing : v.freeing a ≡ None
   pub laid : LaidOut z.layout.pages v.page y
   pub fits : FitsClass y.head
@@ -201,11 +201,11 @@ pub record MayThin (z : Arena) (v : View) (i marks : ℕ) : Type 0 where
 
 abbrev pub May : Arena → (a : ℕ) → View → Move → Type 0
 May z a v (Quiet step) = IsQuiet step
-May z a v (Takes step g d value) = IsQuiet step × Runs z v a g × (d < REGISTERS) × IsReached v.ever value
-May z a v (Ends step g) = IsQuiet step × Runs z v a g
+May z a v (Takes step g d value) = IsQuiet step × GoroutineRuns z v a g × (d < REGISTERS) × IsReached v.ever value
+May z a v (Ends step g) = IsQuiet step × GoroutineRuns z v a g
 May z a v TakeLock = v.lock ≡ 0
 May z a v LeaveLock = (v.locked a ≡ true) × (v.laying a ≡ None) × (v.freeing a ≡ None)
-May z a v (Refuse g d) = (v.locked a ≡ true) × (v.laying a ≡ None) × (v.freeing a ≡ None) × Runs z v a g × (d < REGISTERS)
+May z a v (Refuse g d) = (v.locked a ≡ true) × (v.laying a ≡ None) × (v.freeing a ≡ None) × GoroutineRuns z v a g × (d < REGISTERS)
 May z a v (LayBody y) = MayLay z v a y × (y.next < y.head.pages)
 May z a v (LayHead y) = MayLay z v a y × (y.next ≡ y.head.pages)
 May z a v (FreeBody y) = MayFree v a y × (y.next < y.pages)

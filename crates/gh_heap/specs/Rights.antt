@@ -147,7 +147,7 @@ pub record Good (z : Arena) (v : View) : Type 0 where
 -- What a right guards.
 
 -- A slot in which no object stands, in a span that the seat holds: whoever holds the span has it for itself until its alloc bit is set.
-pub record Claim (pages : ℕ) (page alloc : Row) (holds : ℕ → ℕ → Bool) (a at size : ℕ) : Type 0 where
+pub record ClaimedSlot (pages : ℕ) (page alloc : Row) (holds : ℕ → ℕ → Bool) (a at size : ℕ) : Type 0 where
   pub p : ℕ
   pub h : SpanHead
   pub i : ℕ
@@ -156,7 +156,7 @@ pub record Claim (pages : ℕ) (page alloc : Row) (holds : ℕ → ℕ → Bool)
   pub clear : row_bit alloc at ≡ 0
 
 abbrev pub Claims : Arena → View → (a at size : ℕ) → Type 0
-Claims z v a at size = Claim z.layout.pages v.page v.alloc v.holds a at size
+Claims z v a at size = ClaimedSlot z.layout.pages v.page v.alloc v.holds a at size
 
 -- a goroutine of the processor at this seat
 abbrev pub IsOf : Arena → (a g : ℕ) → Type 0

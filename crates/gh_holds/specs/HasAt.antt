@@ -11,7 +11,7 @@ use Rattle.gh_coord.specs.Handshake as leading
 use Rattle.gh_holds.specs.ActorsHold.{HoldsAt, IsClosing, IsTelling}
 use Rattle.gh_marked.specs.State.{HasState, IsMarking}
 use Rattle.gh_marked.specs.LemmaVocabulary.{Coordinating, Entry, Op}
-use Rattle.gh_lists.specs.Going.{IsGoing}
+use Rattle.gh_lists.specs.Going.{ClosingIsBusy}
 use Rattle.gh_lists.specs.Handshake.{Setup}
 
 module _ (setup : Setup) (es : List (Entry Op)) (c : Coordinating) where
@@ -26,7 +26,7 @@ module _ (setup : Setup) (es : List (Entry Op)) (c : Coordinating) where
   closing_has closing.LoadBank going marked h = (marked refl).known.has
   closing_has _ going marked h = (marked refl).known.has
 
-  pub has_at : (p : CoordStage) → IsGoing p → (leading.Marks p → IsMarking setup es) → HoldsAt setup es c p → HasState setup es
+  pub has_at : (p : CoordStage) → ClosingIsBusy p → (leading.Marks p → IsMarking setup es) → HoldsAt setup es c p → HasState setup es
   has_at (Open o) going marked h = h.0.has
   has_at (Watch w) going marked h = (marked tt).known.has
   has_at (StopAgain st) going marked h = (marked tt).known.has

@@ -4,9 +4,9 @@ use Rattle.gh_heap.specs.Laws.{HeapIsApart}
 use Rattle.gh_heap.specs.Objects.{Holds, points, size_for}
 use Rattle.gh_holds.specs.Objects.{AreNamed, StandApart}
 use Rattle.gh_lists.specs.Processors.{StandsFor, StandsForThese}
-use Rattle.gh_marked.specs.LemmaVocabulary.{alloc_words, Arena, arena, birth_words, bit, Entry, Ever, ever, Good, HasState, Heap, IsHeapOf, IsInLimits, IsMade, IsOf, IsPlacedAt, mod_below, Name, Op, Placed, Processor, processor_at, Reach, row_bit, Stands, view, Words, words}
+use Rattle.gh_marked.specs.LemmaVocabulary.{alloc_words, Arena, arena, birth_words, bit, Entry, Ever, ever, Good, HasState, Heap, IsHeapOf, IsInLimits, IsMade, IsOf, IsPlacedAt, KnowsAtAnyTime, mod_below, Name, Op, Placed, Processor, processor_at, Reach, row_bit, view, Words, words}
 use Rattle.gh_marked.specs.Known.{Known}
-use Rattle.gh_lists.specs.Names.{placed_there, same_name}
+use Rattle.gh_lists.specs.Names.{placed_there, same_birth_same_name}
 use Rattle.gh_lists.specs.Handshake.{Setup}
 
 bit_is : (b : Bool) → eqb (bit b) 1 ≡ b
@@ -42,14 +42,14 @@ module _ (setup : Setup) (limits : IsInLimits setup.layout) (known : Known) (es 
   birth_fits : (n : Name) → IsMade h.ever.made n → n.k < 2 ^ 32
   birth_fits n m = omega (arith, m, good.names.few n.g)
 
-  stands : (a g d : ℕ) → IsOf z a g → Stands z a (view h) (at a).poll
+  stands : (a g d : ℕ) → IsOf z a g → KnowsAtAnyTime z a (view h) (at a).poll
   stands a g d its = known.runs.stands z a (view h) (at a) (of.processors a (few a g its)).pending (of.processors a (few a g its)).fine
 
   -- what was made is placed at its place alone
   made_once : (n : Name) (a : ℕ) → IsMade h.ever.made n → IsPlacedAt h.words n a → a ≡ h.place n
   made_once n a m x =
       let b = good.bits a x.set in
-      let same : n ≡ b.0 = same_name n b.0 (birth_fits n m) (birth_fits b.0 b.1) (sym x.says ∙ b.3) in
+      let same : n ≡ b.0 = same_birth_same_name n b.0 (birth_fits n m) (birth_fits b.0 b.1) (sym x.says ∙ b.3) in
       sym b.2 ∙ ap h.place (sym same)
 
   pub once : (n : Name) (a : ℕ) → Reach h.ever n → IsPlacedAt h.words n a → a ≡ h.place n
@@ -85,7 +85,7 @@ module _ (setup : Setup) (limits : IsInLimits setup.layout) (known : Known) (es 
   stood_there n s = (placed_there z (view h) good n s.1.0 s.0 s.1.1.set s.1.1.says).1
 
   one_name : (n m : Name) (a : ℕ) → IsMade h.ever.made n → IsMade h.ever.made m → IsPlacedAt h.words n a → IsPlacedAt h.words m a → n ≡ m
-  one_name n m a made made_too at_a at_a_too = same_name n m (birth_fits n made) (birth_fits m made_too) (sym at_a.says ∙ at_a_too.says)
+  one_name n m a made made_too at_a at_a_too = same_birth_same_name n m (birth_fits n made) (birth_fits m made_too) (sym at_a.says ∙ at_a_too.says)
 
   abbrev Apart : Words → Ever → Type 0
   Apart w e = StandsForThese z (Standing w e) w e at × ((n m : Name) (a : ℕ) → IsMade e.made n → IsMade e.made m → IsPlacedAt w n a → IsPlacedAt w m a → n ≡ m)

@@ -1,7 +1,7 @@
 //! A statement as an operation, and what a goroutine does next.
 
 ghost use Rattle.std.specs.Prelude.{◌≡◌, ◌+◌, ◌^◌, ◌<◌, length};
-ghost use Rattle.gh_script.specs.Program.{op_of};
+ghost use Rattle.gh_script.specs.Program.{statement_as_op};
 ghost use Rattle.gh_interp.specs.Working.{work_of};
 
 use gh_base::Op;
@@ -10,7 +10,7 @@ use gh_script::{Script, Stmt};
 /// The statement as an operation of goroutine `g`: the same registers, type, field, global and number.
 /// No statement is one of the processor's own steps, `Poll`, `End` and `Leave`.
 pub fn operation(g: u32, statement: Stmt) -> Op
-    ensures { result ≡ op_of g statement }
+    ensures { result ≡ statement_as_op g statement }
 {
     match statement {
         Stmt::New { d, t } => Op::New { g, d, t },

@@ -88,6 +88,6 @@ abbrev pub fitting : SinkState → List ℕ → ℕ
 fitting sink bytes = of_piece sink.piece (min (length bytes) (sink.room - length sink.taken))
 
 -- the sink's next call fails at these bytes: by its number, or for want of room
-abbrev pub Refuses : SinkState → List ℕ → Type 0
-Refuses sink bytes =
+abbrev pub SinkRefuses : SinkState → List ℕ → Type 0
+SinkRefuses sink bytes =
     Contains sink.failing (one_more sink.calls) ⊎ ((0 < length bytes) × (sink.room ≤ length sink.taken))

@@ -3,7 +3,7 @@
 ghost use Rattle.std.specs.Prelude.{◌≡◌, ℕ, ◌-◌, ◌<◌, ◌≤◌, ◌↔◌, List, [], ◌++◌, Some, IfOk, OnErr, IsErr, Contains, length, take, drop};
 ghost use Rattle.gh_io.specs.Counts.{one_more};
 ghost use Rattle.gh_io.specs.Streams.{of_piece, fresh_source, source_in_pieces, given, source_after, source_after_fault};
-ghost use Rattle.gh_io.specs.Streams.{fresh_sink, sink_in_pieces, sink_after, sink_after_fault, fitting, Refuses};
+ghost use Rattle.gh_io.specs.Streams.{fresh_sink, sink_in_pieces, sink_after, sink_after_fault, fitting, SinkRefuses};
 
 use crate::sink::Sink;
 use crate::source::{Failed, Source};
@@ -190,7 +190,7 @@ impl Sink for MemSink {
     ghost faults = { λ s. s.faults };
 
     fn write(&mut self, buf: &[u8]) -> Result<usize, Failed>
-        ensures fails { IsErr result ↔ Refuses self.old buf.now }
+        ensures fails { IsErr result ↔ SinkRefuses self.old buf.now }
         ensures count { IfOk result (λ n. n ≡ fitting self.old buf.now) }
         ensures some { IfOk result (λ n. 0 < length buf.now → 0 < n) }
         ensures ok { IfOk result (λ n. self.new ≡ sink_after self.old (take n buf.now)) }

@@ -41,7 +41,7 @@ pub use Rattle.gh_sweep.specs.Shared.{CycleEnd, generation_of, marks_at, placed}
 pub use Rattle.gh_sweep.specs.declared.sweep.SweepEnd.{SweepEnd}
 pub use Rattle.gh_sweep.specs.declared.sweep.SweepEnd.TheVariants.{Lost, Swept}
 pub use Rattle.gh_sweep.specs.declared.sweep.SweepStage.{SweepStage}
-pub use Rattle.gh_state.specs.Routines.{Runs}
+pub use Rattle.gh_state.specs.Routines.{SweepRuns}
 pub use Rattle.gh_state.specs.Shared.{Shared as State}
 pub use Rattle.gh_state.specs.Slots.{slot_row}
 pub use Rattle.gh_alloc.specs.Search.{Seeking}

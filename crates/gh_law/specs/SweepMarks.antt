@@ -38,8 +38,8 @@ abbrev pub OwnedAreSwept : Words → Type 0
 OwnedAreSwept words = (p : ℕ) (h : SpanHead) → page_of (words (cell.Page p)) ≡ Head h → h.owner ≢ 0 → h.number ≡ words cell.Gen
 
 -- each span is
-abbrev pub AllAreSwept : Words → Type 0
-AllAreSwept words = (p : ℕ) (h : SpanHead) → page_of (words (cell.Page p)) ≡ Head h → h.number ≡ words cell.Gen
+abbrev pub EachSpanIsSwept : Words → Type 0
+EachSpanIsSwept words = (p : ℕ) (h : SpanHead) → page_of (words (cell.Page p)) ≡ Head h → h.number ≡ words cell.Gen
 
 -- the processor rests, or runs a statement: it does not wait, poll or leave, and has not left
 pub record IsRunning (t : Task) : Type 0 where
@@ -86,5 +86,5 @@ module _ (setup : Setup) (es : List (Entry Op)) where
     pub owned : OwnedAreSwept told
     pub cached : (a : ℕ) → a < setup.layout.procs → CachedAreSwept told a (at_seat (arena_of setup.shapes setup.layout) (opening_words setup.pacing.trigger) es a)
     -- a cycle begins and is marked once each span is swept
-    pub marked : (c : Coordinating) → IsLedBy (arena_of setup.shapes setup.layout) setup.pacing setup.may es c → IsBeginning c.stage ⊎ leading.Marks c.stage → AllAreSwept told
+    pub marked : (c : Coordinating) → IsLedBy (arena_of setup.shapes setup.layout) setup.pacing setup.may es c → IsBeginning c.stage ⊎ leading.Marks c.stage → EachSpanIsSwept told
     pub marks : (c : Coordinating) → IsLedBy (arena_of setup.shapes setup.layout) setup.pacing setup.may es c → (leading.Marks c.stage → ⊥) → MarksAreLeft told (ever_after_list (arena_of setup.shapes setup.layout) (opening_words setup.pacing.trigger) es) (λ who. sweep_of (actors_after (arena_of setup.shapes setup.layout) setup.pacing setup.may es who))

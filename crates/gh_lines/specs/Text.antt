@@ -62,8 +62,8 @@ answers_by g [] = []
 answers_by g (x ∷ more) = (if x.0 == g then x.1 ∷ [] else []) ++ answers_by g more
 
 -- the lines of the answers: goroutine by goroutine in script order, each by its own statements
-abbrev pub lines_of : Program → List (ℕ × Answer) → List (List ℕ)
-lines_of p answers = flat_map (λ g. lines_from p g 1 (answers_by g answers)) (range_with_len 0 (length p.goroutines))
+abbrev pub answer_lines : Program → List (ℕ × Answer) → List (List ℕ)
+answer_lines p answers = flat_map (λ g. lines_from p g 1 (answers_by g answers)) (range_with_len 0 (length p.goroutines))
 
 -- What is told of a whole run.
 
@@ -97,7 +97,7 @@ line_of_cycle c = cycle_line c.number c.marked c.freed
 
 -- its lines: those of the answers, one for each cycle, the one of the credit, and the one of what is live
 abbrev pub outcome_lines : Program → Outcome → List (List ℕ)
-outcome_lines p o = lines_of p o.answers ++ (map line_of_cycle o.cycles ++ credit_line o.earned o.spent o.lapsed ∷ live_line o.objects o.bytes ∷ [])
+outcome_lines p o = answer_lines p o.answers ++ (map line_of_cycle o.cycles ++ credit_line o.earned o.spent o.lapsed ∷ live_line o.objects o.bytes ∷ [])
 
 abbrev pub turns_line : ℕ → List ℕ
 turns_line n = codes "turns " ++ decimal n ++ codes "\n"

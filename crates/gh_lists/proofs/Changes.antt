@@ -14,10 +14,10 @@ use Rattle.gh_worker.specs.Listing as worker
 use Rattle.gh_lists.specs.Lists.{IsTelling}
 use Rattle.gh_lists.specs.Numbers.{Counted, Opened}
 use Rattle.gh_lists.proofs.Vocabulary.{CoordStage, Entry, Kind, Legal, Op, OpenStage, Processor, processor_kind, started, Words, Ask, Check, Checked, Close, CloseStage, Count, Done, effect, IsFew, KeepsIt, LoadAck, LoadWant, MarkOn, Open, opened_in, Part, part_of, ProcessorWritesItsOwn, Stop, StopAgain, Sweep, Tell, TellStage, Watch, WorkersWriteTheirOwn}
-use Rattle.gh_lists.specs.Frames.{leaves, Numbers, numbers_of}
+use Rattle.gh_lists.specs.Frames.{CycleWords, leaves, numbers_of}
 use Rattle.gh_lists.proofs.CycleNumbers.Leading.{Is, Reads}
 use Rattle.gh_lists.proofs.CycleNumbers.Lists.{holds}
-use Rattle.gh_lists.specs.Parts.{At, own_of}
+use Rattle.gh_lists.specs.Parts.{At, own_counts}
 use Rattle.gh_lists.specs.Quiet.{all_quiet, count_quiet, stop_quiet, watch_quiet, worker_quiet}
 use Rattle.gh_lists.specs.Steps as seats
 use Rattle.gh_lists.specs.Writing.{leaves_numbers}
@@ -25,7 +25,7 @@ use Rattle.gh_lists.specs.Changes.{Spares, Change, same, begins, ends, tells, Ri
 use Rattle.gh_lists.specs.Handshake.{Setup}
 
 spares : (ask : Ask) → ((w : Words) → numbers_of (effect w ask) ≡ numbers_of w) → Spares ask
-spares ask h = record { gen = λ w. ap (λ (n : Numbers). n.gen) (h w); begun = λ w. ap (λ (n : Numbers). n.begun) (h w); swept = λ w. ap (λ (n : Numbers). n.swept) (h w) }
+spares ask h = record { gen = λ w. ap (λ (n : CycleWords). n.gen) (h w); begun = λ w. ap (λ (n : CycleWords). n.begun) (h w); swept = λ w. ap (λ (n : CycleWords). n.swept) (h w) }
 
 -- what the coordinator's step is to the numbers
 pub data Does (c : coord.Coordinating) (p : CoordStage) (ask : Ask) : Type 0 where
@@ -90,11 +90,11 @@ module _ (setup : Setup)
     by_lead : (c : coord.Coordinating) (x : seats.LeadsIt setup e es c) → Is setup.pacing.room (opened_in es) (numbers_of (words es)) c c.stage → Does c c.stage (coord.asks c) → Change setup e es
     by_lead c x h (spares_them y) = same (subst Spares (sym x.asked) y)
     by_lead c x h (begins_it part ask) =
-        let at = subst (λ (q : Part). At setup.pacing.room (opened_in es) (numbers_of (words es)) (own_of c) q) part h.at in
+        let at = subst (λ (q : Part). At setup.pacing.room (opened_in es) (numbers_of (words es)) (own_counts c) q) part h.at in
         let value : c.begun ≡ suc (words es cell.Begun) = let a = at.number_is in let b = at.begun_is in omega (arith, a, b) in
         begins (x.asked ∙ ask ∙ ap (Store cell.Begun) value)
     by_lead c x h (ends_it part close_is stage_is stores ask) =
-        let at = subst (λ (q : Part). At setup.pacing.room (opened_in es) (numbers_of (words es)) (own_of c) q) part h.at in
+        let at = subst (λ (q : Part). At setup.pacing.room (opened_in es) (numbers_of (words es)) (own_counts c) q) part h.at in
         let value : c.generation ≡ words es cell.Gen + 2 = let a = at.generation_is in let b = at.gen_is in omega (arith, a, b) in
         ends (record {
           lead = c;
@@ -108,7 +108,7 @@ module _ (setup : Setup)
           gen = let a = at.number_is in let b = at.gen_is in omega (arith, a, b);
         })
     by_lead c x h (tells_it part at_it ask) =
-        let at = subst (λ (q : Part). At setup.pacing.room (opened_in es) (numbers_of (words es)) (own_of c) q) part h.at in
+        let at = subst (λ (q : Part). At setup.pacing.room (opened_in es) (numbers_of (words es)) (own_counts c) q) part h.at in
         let value : c.begun ≡ suc (words es cell.Swept) = let a = at.number_is in omega (arith, a) in
         tells (record { lead = c; led = x.is; telling_it = at_it; actor_is = x.seat; ask_is = x.asked ∙ ask ∙ ap (Store cell.Swept) value; number = value })
 

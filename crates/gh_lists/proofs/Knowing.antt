@@ -3,7 +3,7 @@ use Rattle.std.proofs.Common.{◌≡◌, ℕ, ◌<◌, ◌⊎◌, refl, sym, ap,
 use Rattle.gh_base.specs.declared.cell.Cell.TheVariants as cell
 use Rattle.gh_phase.specs.declared.resume.ResumeStage.TheVariants.{Acknowledge, LoadPhase}
 use Rattle.gh_phase.specs.declared.view.RunPhase.TheVariants as run
-use Rattle.gh_phase.specs.Handshake.{Place}
+use Rattle.gh_phase.specs.Handshake.{HandshakePlace}
 use Rattle.gh_phase.specs.Listing as resume
 use Rattle.gh_phase.specs.ResumePlaces as resumes
 use Rattle.gh_phase.specs.Shakes.{FinishedStays, GoneStay, IsCurrent, Shakes}
@@ -31,7 +31,7 @@ reads last known (inl e) = (λ x. sym e ∙ x, λ y. e ∙ y)
 reads last known (inr e) = (λ x. absurd (let no : run.Off ≡ run.Mark = sym e.1 ∙ x in cc), λ y. absurd (let no : run.Finished ≡ run.Mark = sym e.0 ∙ y in cc))
 
 module _ (setup : Setup) where
-  abbrev place : Actor → Place
+  abbrev place : Actor → HandshakePlace
   place = place_of
 
   abbrev n : ℕ

@@ -11,7 +11,7 @@ use Rattle.gh_worker.specs.declared.worker.WorkerStage.TheVariants as work
 use Rattle.gh_worker.specs.Handshake.{IsLeaving, IsMarking}
 use Rattle.gh_worker.specs.Listing as worker
 use Rattle.gh_lists.specs.declared.handshake.Actor.TheVariants as actor
-use Rattle.gh_lists.specs.Handshake.{asks, start, takes, Setup}
+use Rattle.gh_lists.specs.Handshake.{asks, start, actor_takes, Setup}
 use Rattle.gh_lists.proofs.Vocabulary.{acks_of, Actor, actors, Ask, cell_of, Entry, GONE, is_busy, Kind, last_phase, Layout, Lead, LeadsHandshake, Load, nat_tests, Op, opening_processor, phase_of, phase_word, PhaseWord, place_of, run_phase, started, state_of, stop_word, those, View, Words, words_after, WorkersKeepHandshake}
 use Rattle.gh_lists.specs.Phase.{is_last}
 
@@ -30,7 +30,7 @@ module _ (setup : Setup) where
     begun_is : begun o m ≡ actor.Marks before
     now : w ≡ worker.goes before found
 
-  was_worker : (o : Option Op) (m : Actor) (found : ℕ) (w : worker.Working) → takes setup.shapes (begun o m) found ≡ actor.Marks w → WasWorker o m found w
+  was_worker : (o : Option Op) (m : Actor) (found : ℕ) (w : worker.Working) → actor_takes setup.shapes (begun o m) found ≡ actor.Marks w → WasWorker o m found w
   was_worker None (actor.Marks v) found w e = record { before = v; was = refl; begun_is = refl; now = cc }
   was_worker (Some o) (actor.Marks v) found w e = record { before = v; was = refl; begun_is = refl; now = cc }
   was_worker None (actor.Runs m) found w e = absurd cc
@@ -44,7 +44,7 @@ module _ (setup : Setup) where
     begun_is : begun o m ≡ actor.Leads before
     now : c ≡ coord.goes before found
 
-  was_coordinator : (o : Option Op) (m : Actor) (found : ℕ) (c : coord.Coordinating) → takes setup.shapes (begun o m) found ≡ actor.Leads c → WasCoordinator o m found c
+  was_coordinator : (o : Option Op) (m : Actor) (found : ℕ) (c : coord.Coordinating) → actor_takes setup.shapes (begun o m) found ≡ actor.Leads c → WasCoordinator o m found c
   was_coordinator None (actor.Leads v) found c e = record { before = v; was = refl; begun_is = refl; now = cc }
   was_coordinator (Some o) (actor.Leads v) found c e = record { before = v; was = refl; begun_is = refl; now = cc }
   was_coordinator None (actor.Runs m) found c e = absurd cc
@@ -142,7 +142,7 @@ module _ (setup : Setup) where
     same : (a : ℕ) → (e.actor == a) ≡ true → e.actor ≡ a
     same a x = grind (arith, nat_tests)
 
-    own_at : (a : ℕ) → (e.actor == a) ≡ true → state (e ∷ es) a ≡ takes setup.shapes (begun setup e.begun (state es a)) e.found
+    own_at : (a : ℕ) → (e.actor == a) ≡ true → state (e ∷ es) a ≡ actor_takes setup.shapes (begun setup e.begun (state es a)) e.found
     own_at a x = rw x refl
 
     -- a worker's step

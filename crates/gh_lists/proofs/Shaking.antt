@@ -3,7 +3,7 @@ use Rattle.std.proofs.Common.{◌≡◌, ℕ, ◌<◌, Bool, true, false, cond, 
 use Rattle.std.proofs.lemmas.Bool.Decides.{nat_tests}
 use Rattle.gh_base.specs.declared.layout.Layout.{Layout}
 use Rattle.gh_base.specs.declared.operation.Op.{Op}
-use Rattle.gh_phase.specs.Handshake.{Acts, Awake, first_lead, first_party, IsHandshake, Leads, LeadGoes, Place, PlaceBegins, PlaceGoes}
+use Rattle.gh_phase.specs.Handshake.{Acts, Awake, first_lead, first_party, IsHandshake, Leads, LeadGoes, HandshakePlace, PlaceBegins, PlaceGoes}
 use Rattle.gh_coord.specs.Stays.{stays}
 use Rattle.gh_coord.specs.Handshake.{LeadsHandshake}
 use Rattle.gh_coord.specs.Handshake as leading
@@ -16,10 +16,10 @@ use Rattle.gh_worker.specs.Handshake.{WorkersKeepHandshake}
 use Rattle.gh_worker.specs.Listing as worker
 use Rattle.gh_lists.specs.declared.handshake.Actor.{Actor}
 use Rattle.gh_lists.specs.declared.handshake.Actor.TheVariants as actor
-use Rattle.gh_lists.specs.Handshake.{Setup, asks, begins, is_busy, place_of, Sound, start, takes, those}
+use Rattle.gh_lists.specs.Handshake.{Setup, asks, begins, is_busy, place_of, Sound, start, actor_takes, those}
 
 module _ (setup : Setup) (places : ProcessorInHandshake) (writes : ProcessorWritesItsOwn) (c : LeadsHandshake) (w : WorkersKeepHandshake) where
-  abbrev place : Actor → Place
+  abbrev place : Actor → HandshakePlace
   place = place_of
 
   begun_sound : (m : Actor) (o : Op) → Sound setup.layout m → is_busy m ≡ false → Sound setup.layout (begins setup.shapes setup.layout m o)
@@ -32,12 +32,12 @@ module _ (setup : Setup) (places : ProcessorInHandshake) (writes : ProcessorWrit
   begun_place (actor.Marks x) o s b = inl refl
   begun_place (actor.Leads x) o s b = inl refl
 
-  taken_sound : (m : Actor) (found : ℕ) → Sound setup.layout m → is_busy m ≡ true → Sound setup.layout (takes setup.shapes m found)
+  taken_sound : (m : Actor) (found : ℕ) → Sound setup.layout m → is_busy m ≡ true → Sound setup.layout (actor_takes setup.shapes m found)
   taken_sound (actor.Runs m) found s b = (writes.sound_takes setup.shapes m found s.0 b, (writes.stays_there setup.shapes m found s.0).layout ∙ s.1)
   taken_sound (actor.Marks x) found s b = w.keeps.stays_sound x found s b
   taken_sound (actor.Leads x) found s b = (stays x found ∙ s.0, c.stays_sound x found s.1 b)
 
-  taken_place : (m : Actor) (found : ℕ) → Sound setup.layout m → is_busy m ≡ true → PlaceGoes (acks_of setup.layout) found (place m) (asks m) (place (takes setup.shapes m found))
+  taken_place : (m : Actor) (found : ℕ) → Sound setup.layout m → is_busy m ≡ true → PlaceGoes (acks_of setup.layout) found (place m) (asks m) (place (actor_takes setup.shapes m found))
   taken_place (actor.Runs m) found s b = places.takes_so setup.shapes m found s.0.place b
   taken_place (actor.Marks x) found s b = w.keeps.goes x found s b
   taken_place (actor.Leads x) found s b = subst (λ (y : Layout). LeadGoes (acks_of y) found (leading.lead_of x) (coord.asks x) (leading.lead_of (coord.goes x found))) s.0 (c.goes x found s.1 b)

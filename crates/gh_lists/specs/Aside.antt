@@ -13,7 +13,7 @@ use Rattle.gh_coord.specs.SweepingAll as all
 use Rattle.gh_coord.specs.Telling as tell
 use Rattle.gh_coord.specs.Watching as watch
 use Rattle.gh_lists.specs.LemmaVocabulary.{Ask, asked_after, asks_at, Check, Close, CloseStage, Coordinating, CoordStage, Count, effect, Open, OpenStage, Stop, StopAgain, Store, Sweep, Tell, TellStage, Watch, Words}
-use Rattle.gh_lists.specs.Frames.{Numbers}
+use Rattle.gh_lists.specs.Frames.{CycleWords}
 use Rattle.gh_lists.specs.Quiet.{all_quiet, count_quiet, Quiet, stop_quiet, watch_quiet}
 
 -- No cycle is asked for, and no stack's word is written. Where the number of cycles begun is written, it is this; and where that of those swept is, it is stored.
@@ -25,7 +25,7 @@ pub record Aside (w : Words) (number : ℕ) (ask : Ask) : Type 0 where
 
 module _ (w : Words) (s : Coordinating) where
   alike : (ask : Ask) → Quiet w ask → Aside w s.begun ask
-  alike ask q = record { asks_none = q.asks_none; scanned = q.scanned; begun = inl (ap (λ (n : Numbers). n.begun) q.numbers); swept = inl (ap (λ (n : Numbers). n.swept) q.numbers) }
+  alike ask q = record { asks_none = q.asks_none; scanned = q.scanned; begun = inl (ap (λ (n : CycleWords). n.begun) q.numbers); swept = inl (ap (λ (n : CycleWords). n.swept) q.numbers) }
 
   open_aside : (o : opens_by.CycleOpening) (p : OpenStage) → o.cycle ≡ s.begun → Aside w s.begun (opens_by.asks_at o p)
   open_aside o open_stage.StoreBegun e = record { asks_none = λ b. refl; scanned = λ g. refl; begun = inr (ap (λ (v : ℕ). Store cell.Begun v) e); swept = inl refl }

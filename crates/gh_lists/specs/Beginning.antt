@@ -7,7 +7,7 @@ use Rattle.gh_base.specs.declared.operation.Op.TheVariants as op
 use Rattle.gh_base.specs.declared.value.Answer.TheVariants as answer
 use Rattle.gh_model.specs.declared.EverValue.TheVariants as ever
 use Rattle.gh_model.specs.Ever.{makes_object, sets_global, stores_value, takes_answer}
-use Rattle.gh_lists.specs.Order.{goroutine_of, in_range, is_over}
+use Rattle.gh_lists.specs.Order.{goroutine_is_over, goroutine_of, in_range}
 use Rattle.gh_lists.specs.Processors.{is_of, may_run, has_more, may_begin}
 use Rattle.gh_mutator.specs.Sound.{has_room}
 
@@ -37,7 +37,7 @@ may_parts z counts a m es o may =
     let x = both (may_run z a m es o && not (has_left es) && has_more counts es o) (may_leave z a es o) v.0 in
     let y = both (may_run z a m es o && not (has_left es)) (has_more counts es o) x.0 in
     let w = both (may_run z a m es o) (not (has_left es)) y.0 in
-    let r = both (in_range z.layout.goroutines z.layout.globals (length z.shapes) o && is_of z a (goroutine_of o) && has_names m o) (not (is_over es (goroutine_of o))) w.0 in
+    let r = both (in_range z.layout.goroutines z.layout.globals (length z.shapes) o && is_of z a (goroutine_of o) && has_names m o) (not (goroutine_is_over es (goroutine_of o))) w.0 in
     let s = both (in_range z.layout.goroutines z.layout.globals (length z.shapes) o && is_of z a (goroutine_of o)) (has_names m o) r.0 in
     record { runs = w.0; leaves = x.1; range = (both (in_range z.layout.goroutines z.layout.globals (length z.shapes) o) (is_of z a (goroutine_of o)) s.0).0; room = v.1 }
 

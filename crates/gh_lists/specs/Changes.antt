@@ -7,9 +7,9 @@ use Rattle.gh_coord.specs.Closing as close
 use Rattle.gh_coord.specs.Listing as coord
 use Rattle.gh_lists.specs.declared.handshake.Actor.TheVariants as actor
 use Rattle.gh_lists.specs.Lists.{IsTelling}
-use Rattle.gh_lists.specs.LemmaVocabulary.{Entry, Legal, Op, Words, Ask, Close, effect, generation_of, IsFew, opened_in, part_of}
+use Rattle.gh_lists.specs.LemmaVocabulary.{Entry, Legal, Op, Words, Ask, Close, effect, generation_after, IsFew, opened_in, part_of}
 use Rattle.gh_lists.specs.Frames.{numbers_of}
-use Rattle.gh_lists.specs.Parts.{At, own_of}
+use Rattle.gh_lists.specs.Parts.{At, own_counts}
 use Rattle.gh_base.specs.Lists.{state_of, words_after}
 use Rattle.gh_coord.specs.Stopping.{acks_of}
 use Rattle.gh_lists.specs.Handshake.{those, Setup}
@@ -34,7 +34,7 @@ module _ (setup : Setup) where
     pub actor_is : e.actor ≡ acks_of setup.layout
     pub ask_is : e.ask ≡ Store cell.Gen (words es cell.Gen + 2)
     pub number : words es cell.Begun ≡ lead.begun
-    pub gen : words es cell.Gen + 2 ≡ generation_of lead.begun
+    pub gen : words es cell.Gen + 2 ≡ generation_after lead.begun
 
   -- it tells that a cycle is swept
   pub record Tells (e : Entry Op) (es : List (Entry Op)) : Type 0 where
@@ -68,4 +68,4 @@ NoNumberFalls = (setup : Setup) (e : Entry Op) (es : List (Entry Op)) → Legal 
 -- The numbers after the list, and the coordinator's own, are those of the part of the cycle that it is in.
 abbrev pub EveryListHasItsNumbers : Type 0
 EveryListHasItsNumbers = (setup : Setup) (es : List (Entry Op)) (c : coord.Coordinating) → Legal (those setup) es → IsFew es → state_of (those setup).kind (acks_of setup.layout) es ≡ actor.Leads c →
-    At setup.pacing.room (opened_in es) (numbers_of (words_after (those setup).opening es)) (own_of c) (part_of c.stage)
+    At setup.pacing.room (opened_in es) (numbers_of (words_after (those setup).opening es)) (own_counts c) (part_of c.stage)

@@ -2,7 +2,7 @@
 use Rattle.std.proofs.Common.{◌≡◌, ℕ, suc, ◌≤◌, Bool, true, false, cond, refl, ap, arith, List, [], ◌∷◌}
 use Rattle.gh_base.specs.declared.cell.Ask.TheVariants.{Store}
 use Rattle.gh_base.specs.declared.cell.Cell.TheVariants as cell
-use Rattle.gh_lists.specs.Counts.{stored_after, stored_in, stores}
+use Rattle.gh_lists.specs.Counts.{stored_after, stored_in, stores_cell}
 use Rattle.gh_lists.specs.Numbers.{opens_one}
 use Rattle.gh_lists.specs.LemmaVocabulary.{Ask, Cell, Entry, Op, opened_after, opened_in}
 
@@ -15,11 +15,11 @@ rises ask before = go (opens_one ask) where
 -- a cycle is opened by a store of the request
 opened_stored : (ask : Ask) (before : ℕ) → stored_after cell.Want ask before ≡ opened_after ask before
 opened_stored ask before = ap (λ (b : Bool). cond b (suc before) before) (is ask) where
-  by_cell : (c : Cell) (value : ℕ) → stores cell.Want (Store c value) ≡ opens_one (Store c value)
+  by_cell : (c : Cell) (value : ℕ) → stores_cell cell.Want (Store c value) ≡ opens_one (Store c value)
   by_cell cell.Want value = refl
   by_cell _ value = refl
 
-  is : (q : Ask) → stores cell.Want q ≡ opens_one q
+  is : (q : Ask) → stores_cell cell.Want q ≡ opens_one q
   is (Store c value) = by_cell c value
   is _ = refl
 

@@ -16,13 +16,13 @@ use Rattle.gh_lists.specs.Numbers.{IsFew, KeepsCycles}
 use Rattle.gh_lists.specs.Vocabulary.{acks_of, Actor, Coordinating, CoordStage, Entry, Legal, Op, Setting, state_of, Words, words_after}
 
 -- the step stores this word
-abbrev pub stores : Cell → Ask → Bool
-stores c (Store at value) = same_cell at c
-stores c _ = false
+abbrev pub stores_cell : Cell → Ask → Bool
+stores_cell c (Store at value) = same_cell at c
+stores_cell c _ = false
 
 -- one more where it does
 abbrev pub stored_after : Cell → Ask → (before : ℕ) → ℕ
-stored_after c ask before = if stores c ask then suc before else before
+stored_after c ask before = if stores_cell c ask then suc before else before
 
 -- how many entries of the list store this word
 abbrev pub stored_in : Cell → List (Entry Op) → ℕ

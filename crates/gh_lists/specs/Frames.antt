@@ -32,16 +32,16 @@ LeavesNumbers (Add c more) = IsNoNumber c
 LeavesNumbers (Swap c old new) = IsNoNumber c
 
 -- the words of cycles
-pub record Numbers : Type 0 where
+pub record CycleWords : Type 0 where
   pub gen : ℕ
   pub begun : ℕ
   pub swept : ℕ
 
-abbrev pub numbers_of : Words → Numbers
+abbrev pub numbers_of : Words → CycleWords
 numbers_of w = record { gen = w cell.Gen; begun = w cell.Begun; swept = w cell.Swept }
 
 -- these stay, and the request stays or is made
-pub record Leaves (words : Words) (ask : Ask) : Type 0 where
+pub record LeavesCycleWords (words : Words) (ask : Ask) : Type 0 where
   pub numbers : numbers_of (effect words ask) ≡ numbers_of words
   pub opens_none : (before : ℕ) → opened_after ask before ≡ before
   pub want : (((before : ℕ) → asked_after ask before ≡ before) × (effect words ask cell.Want ≡ words cell.Want)) ⊎ (((before : ℕ) → asked_after ask before ≡ suc before) × (effect words ask cell.Want ≡ bit_or (words cell.Want) 1))
@@ -67,11 +67,11 @@ apart cell.Slack h = absurd h
 apart _ h = (λ w v. record { numbers = refl; want = refl }, λ v b. refl, λ v b. refl)
 
 module _ (words : Words) where
-  swapped : (c : Cell) (old new : ℕ) → IsApart c → (yes : Bool) → eqb (words c) old ≡ yes → Leaves words (Swap c old new)
+  swapped : (c : Cell) (old new : ℕ) → IsApart c → (yes : Bool) → eqb (words c) old ≡ yes → LeavesCycleWords words (Swap c old new)
   swapped c old new a true e = let x = a.0 words new in record { numbers = rw e x.numbers; opens_none = λ b. refl; want = inl (λ b. refl, rw e x.want) }
   swapped c old new a false e = record { numbers = rw e refl; opens_none = λ b. refl; want = inl (λ b. refl, rw e refl) }
 
-  by_cell : (ask : Ask) → LeavesNumbers ask → Leaves words ask
+  by_cell : (ask : Ask) → LeavesNumbers ask → LeavesCycleWords words ask
   by_cell (Load c) h = record { numbers = refl; opens_none = λ b. refl; want = inl (λ b. refl, refl) }
   by_cell (Store c value) h = let a = apart c h in let x = a.0 words value in record { numbers = x.numbers; opens_none = a.1 value; want = inl (λ b. refl, x.want) }
   by_cell (Or c bits) (inl h) = let a = apart c h in let x = a.0 words (bit_or (words c) bits) in record { numbers = x.numbers; opens_none = λ b. refl; want = inl (a.2 bits, x.want) }
@@ -80,5 +80,5 @@ module _ (words : Words) where
   by_cell (Add c more) h = let x = (apart c h).0 words _ in record { numbers = x.numbers; opens_none = λ b. refl; want = inl (λ b. refl, x.want) }
   by_cell (Swap c old new) h = swapped c old new (apart c h) (eqb (words c) old) refl
 
-  pub leaves : (ask : Ask) → LeavesNumbers ask → Leaves words ask
+  pub leaves : (ask : Ask) → LeavesNumbers ask → LeavesCycleWords words ask
   leaves ask h = by_cell ask h

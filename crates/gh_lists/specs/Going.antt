@@ -16,64 +16,64 @@ use Rattle.gh_lists.specs.Seats.{leads, other}
 use Rattle.gh_lists.specs.Handshake.{Setup}
 
 -- where it ends marking it has a step to make
-abbrev pub IsGoing : CoordStage → Type 0
-IsGoing (Close c) = close.is_busy c.stage ≡ true
-IsGoing _ = Unit {0}
+abbrev pub ClosingIsBusy : CoordStage → Type 0
+ClosingIsBusy (Close c) = close.is_busy c.stage ≡ true
+ClosingIsBusy _ = Unit {0}
 
 -- Each step leads to such a stage.
 
-acks_on : (u : Coordinating) (b d : Bool) (i : ℕ) → IsGoing (cond b (cond d (at_stage u (LoadAck (i + 1))) (stops_world (record u { is_last = true }))) (at_stage u LoadWant)).stage
+acks_on : (u : Coordinating) (b d : Bool) (i : ℕ) → ClosingIsBusy (cond b (cond d (at_stage u (LoadAck (i + 1))) (stops_world (record u { is_last = true }))) (at_stage u LoadWant)).stage
 acks_on u true true i = tt
 acks_on u true false i = tt
 acks_on u false d i = tt
 
-wants_on : (u : Coordinating) (b : Bool) → IsGoing (cond b (at_stage u (LoadAck 0)) (stops_world u)).stage
+wants_on : (u : Coordinating) (b : Bool) → ClosingIsBusy (cond b (at_stage u (LoadAck 0)) (stops_world u)).stage
 wants_on u true = tt
 wants_on u false = tt
 
-stops_on : (u : Coordinating) (st : stop.Stopping) (out : Option (Unit {0})) → IsGoing (after_stop (at_stage u (Stop st)) out).stage
+stops_on : (u : Coordinating) (st : stop.Stopping) (out : Option (Unit {0})) → ClosingIsBusy (after_stop (at_stage u (Stop st)) out).stage
 stops_on u st None = tt
 stops_on u st (Some x) = tt
 
-opens_on : (u : Coordinating) (o : open_.CycleOpening) (out : Option (Unit {0})) → IsGoing (after_open (at_stage u (Open o)) out).stage
+opens_on : (u : Coordinating) (o : open_.CycleOpening) (out : Option (Unit {0})) → ClosingIsBusy (after_open (at_stage u (Open o)) out).stage
 opens_on u o None = tt
 opens_on u o (Some x) = tt
 
-watches_on : (u : Coordinating) (w : watch.Watching) (out : Option Watched) → IsGoing (after_watch (at_stage u (Watch w)) out).stage
+watches_on : (u : Coordinating) (w : watch.Watching) (out : Option Watched) → ClosingIsBusy (after_watch (at_stage u (Watch w)) out).stage
 watches_on u w None = tt
 watches_on u w (Some All) = tt
 watches_on u w (Some NotYet) = tt
 
-stops_again_on : (u : Coordinating) (st : stop.Stopping) (out : Option (Unit {0})) → IsGoing (after_stop_again (at_stage u (StopAgain st)) out).stage
+stops_again_on : (u : Coordinating) (st : stop.Stopping) (out : Option (Unit {0})) → ClosingIsBusy (after_stop_again (at_stage u (StopAgain st)) out).stage
 stops_again_on u st None = tt
 stops_again_on u st (Some x) = tt
 
-checks_on : (u : Coordinating) (w : watch.Watching) (out : Option Watched) → IsGoing (after_check (at_stage u (Check w)) out).stage
+checks_on : (u : Coordinating) (w : watch.Watching) (out : Option Watched) → ClosingIsBusy (after_check (at_stage u (Check w)) out).stage
 checks_on u w None = tt
 checks_on u w (Some All) = refl
 checks_on u w (Some NotYet) = tt
 
-closes_on : (u : Coordinating) (c : close.Closing) (p : CloseStage) → c.stage ≡ p → IsGoing (after_close (at_stage u (Close c)) (close.given_at c p)).stage
+closes_on : (u : Coordinating) (c : close.Closing) (p : CloseStage) → c.stage ≡ p → ClosingIsBusy (after_close (at_stage u (Close c)) (close.given_at c p)).stage
 closes_on u c close_stage.LoadBank is = ap close.is_busy is
 closes_on u c close_stage.Ended is = tt
 closes_on u c _ is = ap close.is_busy is
 
-sweeps_on : (u : Coordinating) (w : sweep.SweepingAll) (out : Option (Unit {0})) → IsGoing (after_sweep (at_stage u (Sweep w)) out).stage
+sweeps_on : (u : Coordinating) (w : sweep.SweepingAll) (out : Option (Unit {0})) → ClosingIsBusy (after_sweep (at_stage u (Sweep w)) out).stage
 sweeps_on u w None = tt
 sweeps_on u w (Some x) = tt
 
-counts_on : (u : Coordinating) (c : count.Counting) (out : Option Counted) → IsGoing (after_count (at_stage u (Count c)) out).stage
+counts_on : (u : Coordinating) (c : count.Counting) (out : Option Counted) → ClosingIsBusy (after_count (at_stage u (Count c)) out).stage
 counts_on u c None = tt
 counts_on u c (Some x) = tt
 
-tells_on : (u : Coordinating) (t : tell.Telling) (out : Option (Unit {0})) → IsGoing (after_tell (at_stage u (Tell t)) out).stage
+tells_on : (u : Coordinating) (t : tell.Telling) (out : Option (Unit {0})) → ClosingIsBusy (after_tell (at_stage u (Tell t)) out).stage
 tells_on u t None = tt
 tells_on u t (Some x) = go u.is_last where
-  go : (b : Bool) → IsGoing (cond b Done (LoadAck 0))
+  go : (b : Bool) → ClosingIsBusy (cond b Done (LoadAck 0))
   go true = tt
   go false = tt
 
-goes_on : (u : Coordinating) (p : CoordStage) (found : ℕ) → IsGoing u.stage → IsGoing (goes_at u p found).stage
+goes_on : (u : Coordinating) (p : CoordStage) (found : ℕ) → ClosingIsBusy u.stage → ClosingIsBusy (goes_at u p found).stage
 goes_on u (LoadAck i) found g = acks_on u (found == GONE) (nat_lt (i + 1) u.layout.procs) i
 goes_on u LoadWant found g = wants_on u (found == 0)
 goes_on u (Stop st) found g = stops_on u (stop.goes st found) (stop.gives st found)
@@ -178,7 +178,7 @@ module _ (setup : Setup) where
   pub record IsLedThen (es : List (Entry Op)) : Type 0 where
     pub lead : Coordinating
     pub led_by : IsLed setup es lead
-    pub going : IsGoing lead.stage
+    pub going : ClosingIsBusy lead.stage
 
   -- at the begin
   abbrev opening : Coordinating
@@ -212,5 +212,5 @@ module _ (setup : Setup) where
   led_then [] = first
   led_then (e ∷ es) = one_more e es (led_then es)
 
-  pub goes_then : (es : List (Entry Op)) (c : Coordinating) → IsLed setup es c → IsGoing c.stage
-  goes_then es c led = let x = led_then es in let both : actor.Leads x.lead ≡ actor.Leads c = sym x.led_by ∙ led in let same : x.lead ≡ c = cc in subst (λ (d : Coordinating). IsGoing d.stage) same x.going
+  pub goes_then : (es : List (Entry Op)) (c : Coordinating) → IsLed setup es c → ClosingIsBusy c.stage
+  goes_then es c led = let x = led_then es in let both : actor.Leads x.lead ≡ actor.Leads c = sym x.led_by ∙ led in let same : x.lead ≡ c = cc in subst (λ (d : Coordinating). ClosingIsBusy d.stage) same x.going

@@ -19,7 +19,7 @@ use Rattle.gh_phase.specs.declared.resume.ResumeStage.TheVariants.{LoadPhase}
 use Rattle.gh_phase.specs.declared.view.RunPhase.{RunPhase}
 use Rattle.gh_phase.specs.declared.view.RunPhase.TheVariants.{Mark, Finished}
 use Rattle.gh_phase.specs.declared.view.View.{View}
-use Rattle.gh_phase.specs.Handshake.{Acts, Leads, Place, Stopped}
+use Rattle.gh_phase.specs.Handshake.{Acts, HandshakePlace, Leads, Stopped}
 use Rattle.gh_phase.specs.Listing as resume
 use Rattle.gh_phase.specs.Shakes.{FinishedStays, GoneStay, IsAwake, IsCurrent, IsParked, last_phase, NobodyMoves, Shakes}
 use Rattle.gh_coord.specs.Handshake as leading
@@ -63,10 +63,10 @@ asks (actor.Runs m) = mutator.asks m
 asks (actor.Marks w) = worker.asks w
 asks (actor.Leads c) = coord.asks c
 
-abbrev pub takes : List Shape → Actor → (found : ℕ) → Actor
-takes shapes (actor.Runs m) found = actor.Runs (mutator.takes shapes m found)
-takes shapes (actor.Marks w) found = actor.Marks (worker.goes w found)
-takes shapes (actor.Leads c) found = actor.Leads (coord.goes c found)
+abbrev pub actor_takes : List Shape → Actor → (found : ℕ) → Actor
+actor_takes shapes (actor.Runs m) found = actor.Runs (mutator.takes shapes m found)
+actor_takes shapes (actor.Marks w) found = actor.Marks (worker.goes w found)
+actor_takes shapes (actor.Leads c) found = actor.Leads (coord.goes c found)
 
 abbrev pub is_busy : Actor → Bool
 is_busy (actor.Runs m) = mutator.is_busy_at m.task
@@ -74,14 +74,14 @@ is_busy (actor.Marks w) = worker.is_busy w.stage
 is_busy (actor.Leads c) = coord.is_busy c.stage
 
 abbrev pub actors : Setup → Kind Actor Op
-actors setup = record { start = start setup.layout setup.pacing; begins = begins setup.shapes setup.layout; asks = asks; takes = takes setup.shapes; busy = is_busy }
+actors setup = record { start = start setup.layout setup.pacing; begins = begins setup.shapes setup.layout; asks = asks; takes = actor_takes setup.shapes; busy = is_busy }
 
 -- The lists of all actors of a heap, by what a processor may begin.
 abbrev pub those : Setup → Setting Actor Op
 those setup = record { kind = actors setup; layout = setup.layout; actors = seats_of setup.layout; opening = opening_words setup.pacing.trigger; may_begin = setup.may }
 
 -- where each stands
-abbrev pub place_of : Actor → Place
+abbrev pub place_of : Actor → HandshakePlace
 place_of (actor.Runs m) = Acts (party_of m) (stage_of m)
 place_of (actor.Marks w) = Acts (working.party_of w) (working.stage_of w)
 place_of (actor.Leads c) = Leads (leading.lead_of c)

@@ -4,7 +4,7 @@ use Rattle.std.proofs.lemmas.Bool.{ltb-true, ltb-false}
 use Rattle.std.proofs.lemmas.Option.{slice_get_within}
 use Rattle.std.specs.Prelude.{min, slice_get}
 use Rattle.gh_coord.specs.declared.cycles.Cycle.{Cycle}
-use Rattle.gh_coord.specs.Keeping.{Kept, kept}
+use Rattle.gh_coord.specs.Keeping.{Kept, kept_with_cycle}
 use Rattle.gh_lists.specs.Numbers.{KeepsCycles}
 
 at_end : (xs : List Cycle) (x : Cycle) → slice_get (xs ++ x ∷ []) (length xs) ≡ Some x
@@ -51,11 +51,11 @@ module _ (room many : ℕ) (c : Kept) (x : Cycle) (h : KeepsCycles room many c) 
         let it : x ≡ y = cc in
         ap (λ (z : Cycle). z.k) (sym it) ∙ (k ∙ ap suc (sym (at_last m) ∙ sym last))
 
-  pub one_more : x.k ≡ suc many → KeepsCycles room (suc many) (kept c x)
+  pub one_more : x.k ≡ suc many → KeepsCycles room (suc many) (kept_with_cycle c x)
   one_more k = record { room_is = h.room_is; many_are = length_so (ltb (length c.items) c.room) refl; numbered = numbered_so k (ltb (length c.items) c.room) refl }
 
   -- it is there where there is room for it
-  pub is_there : many < room → slice_get (kept c x).items many ≡ Some x
+  pub is_there : many < room → slice_get (kept_with_cycle c x).items many ≡ Some x
   is_there m = go (ltb (length c.items) c.room) refl where
     long : length c.items ≡ many
     long = let some = h.many_are in grind (arith, some, m)

@@ -14,7 +14,7 @@ use Rattle.gh_coord.specs.Closing as close
 use Rattle.gh_coord.specs.Listing.{after_check, after_close, after_stop_again, after_watch, asks, asks_at, at_stage, Coordinating, counted, goes, goes_at, is_busy}
 use Rattle.gh_coord.specs.Stopping as stop
 use Rattle.gh_coord.specs.Watching as watch
-use Rattle.gh_lists.specs.Counts.{stores}
+use Rattle.gh_lists.specs.Counts.{stores_cell}
 
 -- a cycle is marked, or none is
 pub marks_or_not : (p : CoordStage) → Marks p ⊎ (Marks p → ⊥)
@@ -29,8 +29,8 @@ marks_or_not (Close y) = go (close.is_marking y.stage) refl where
 marks_or_not _ = inr (λ x. x)
 
 -- no cycle is marked, or the world is stopped
-abbrev pub Leaving : CoordStage → Type 0
-Leaving p = (Marks p → ⊥) ⊎ (post_at p ≡ Stopped run.Mark)
+abbrev pub MayLeaveMarking : CoordStage → Type 0
+MayLeaveMarking p = (Marks p → ⊥) ⊎ (post_at p ≡ Stopped run.Mark)
 
 module _ (u : Coordinating) where
   watch_goes_on : (v : watch.Watching) (out : Option Watched) → Marks (after_watch (at_stage u (Watch v)) out).stage
@@ -46,7 +46,7 @@ module _ (u : Coordinating) where
   close_stops close_stage.Ended b = absurd cc
   close_stops _ b = refl
 
-  leaves_at : (p : CoordStage) (found : ℕ) → is_busy p ≡ true → (Marks (goes_at u p found).stage → ⊥) → Leaving p
+  leaves_at : (p : CoordStage) (found : ℕ) → is_busy p ≡ true → (Marks (goes_at u p found).stage → ⊥) → MayLeaveMarking p
   leaves_at (Watch v) found b off = absurd (off (watch_goes_on (watch.goes v found) (watch.gives v found)))
   leaves_at (StopAgain st) found b off = absurd (off (stop_goes_on (stop.goes st found) (stop.gives st found)))
   leaves_at (Check v) found b off = inr refl
@@ -59,13 +59,13 @@ module _ (u : Coordinating) where
   check_goes_on v (Some All) = refl
   check_goes_on v (Some NotYet) = tt
 
-  close_ends : (c : close.Closing) (p : CloseStage) (found : ℕ) → close.is_marking p ≡ true → Marks (after_close (at_stage u (Close (close.goes_at c p found))) (close.given (close.goes_at c p found))).stage ⊎ (stores cell.Gen (close.asks_at c p) ≡ true)
+  close_ends : (c : close.Closing) (p : CloseStage) (found : ℕ) → close.is_marking p ≡ true → Marks (after_close (at_stage u (Close (close.goes_at c p found))) (close.given (close.goes_at c p found))).stage ⊎ (stores_cell cell.Gen (close.asks_at c p) ≡ true)
   close_ends c close_stage.LoadBank found on = inl refl
   close_ends c close_stage.ClearBank found on = inl refl
   close_ends c close_stage.StoreGen found on = inr refl
   close_ends c _ found on = absurd cc
 
-  ends_at : (p : CoordStage) (found : ℕ) → Marks p → Marks (goes_at u p found).stage ⊎ (stores cell.Gen (asks_at u p) ≡ true)
+  ends_at : (p : CoordStage) (found : ℕ) → Marks p → Marks (goes_at u p found).stage ⊎ (stores_cell cell.Gen (asks_at u p) ≡ true)
   ends_at (Watch v) found on = inl (watch_goes_on (watch.goes v found) (watch.gives v found))
   ends_at (StopAgain st) found on = inl (stop_goes_on (stop.goes st found) (stop.gives st found))
   ends_at (Check v) found on = inl (check_goes_on (watch.goes v found) (watch.gives v found))
@@ -73,9 +73,9 @@ module _ (u : Coordinating) where
   ends_at (Close c) found on = close_ends c c.stage found on
   ends_at _ found on = absurd on
 
-pub leaves_marking : (s : Coordinating) (found : ℕ) → is_busy s.stage ≡ true → (Marks (goes s found).stage → ⊥) → Leaving s.stage
+pub leaves_marking : (s : Coordinating) (found : ℕ) → is_busy s.stage ≡ true → (Marks (goes s found).stage → ⊥) → MayLeaveMarking s.stage
 leaves_marking s found b off = leaves_at (counted s) s.stage found b off
 
 -- the step that ends marking stores the next sweep generation
-pub ends_marking : (s : Coordinating) (found : ℕ) → Marks s.stage → Marks (goes s found).stage ⊎ (stores cell.Gen (asks s) ≡ true)
+pub ends_marking : (s : Coordinating) (found : ℕ) → Marks s.stage → Marks (goes s found).stage ⊎ (stores_cell cell.Gen (asks s) ≡ true)
 ends_marking s found on = ends_at (counted s) s.stage found on

@@ -14,11 +14,11 @@ use Rattle.gh_lists.specs.Processors.{asks_collector}
 use Rattle.gh_lists.specs.LemmaVocabulary.{Act, acts, Answer, answer_at, Entry, Ever, ever_after, EverValue, Layout, Op, Shape}
 
 -- one object more, if the operation makes one for the goroutine
-pub record Makes (before after : ℕ) (may : Bool) : Type 0 where
+pub record MakesAtMostOne (before after : ℕ) (may : Bool) : Type 0 where
   pub no_fewer : before ≤ after
   pub few : after ≤ before + cond may 1 0
 
-none_made : (before after : ℕ) (may : Bool) → after ≡ before → Makes before after may
+none_made : (before after : ℕ) (may : Bool) → after ≡ before → MakesAtMostOne before after may
 none_made before after true e = record { no_fewer = omega (arith, e); few = omega (arith, e) }
 none_made before after false e = record { no_fewer = omega (arith, e); few = omega (arith, e) }
 
@@ -38,22 +38,22 @@ module _ (shapes : List Shape) (g : ℕ) where
   sets e k v _ = refl
 
   -- a new object
-  one_made : (e : Ever) (h : ℕ) → Makes (e.made g) (cond (eqb g h) (e.made h + 1) (e.made g)) (eqb h g)
+  one_made : (e : Ever) (h : ℕ) → MakesAtMostOne (e.made g) (cond (eqb g h) (e.made h + 1) (e.made g)) (eqb h g)
   one_made e h = go (eqb g h) refl where
-    go : (b : Bool) → eqb g h ≡ b → Makes (e.made g) (cond b (e.made h + 1) (e.made g)) (eqb h g)
+    go : (b : Bool) → eqb g h ≡ b → MakesAtMostOne (e.made g) (cond b (e.made h + 1) (e.made g)) (eqb h g)
     go false t = none_made (e.made g) (e.made g) (eqb h g) refl
     go true t =
         let same : g ≡ h = grind (arith, nat_tests, t) in
         let yes : eqb h g ≡ true = grind (arith, nat_tests, t) in
         let made : e.made h ≡ e.made g = ap e.made (sym same) in
-        subst (λ (b : Bool). Makes (e.made g) (e.made h + 1) b) (sym yes) (record { no_fewer = omega (arith, made); few = omega (arith, made) })
+        subst (λ (b : Bool). MakesAtMostOne (e.made g) (e.made h + 1) b) (sym yes) (record { no_fewer = omega (arith, made); few = omega (arith, made) })
 
-  makes : (e : Ever) (h c t : ℕ) (a : Answer) → Makes (e.made g) ((makes_object shapes e h c t a).made g) (eqb h g)
+  makes : (e : Ever) (h c t : ℕ) (a : Answer) → MakesAtMostOne (e.made g) ((makes_object shapes e h c t a).made g) (eqb h g)
   makes e h c t answer.Full = none_made (e.made g) (e.made g) (eqb h g) refl
   makes e h c t answer.Nil = one_made e h
   makes e h c t _ = one_made e h
 
-  pub made_by : (e : Ever) (o : Op) (a : Answer) → Makes (e.made g) ((ever_after shapes e o a).made g) (asks_collector g (Some o))
+  pub made_by : (e : Ever) (o : Op) (a : Answer) → MakesAtMostOne (e.made g) ((ever_after shapes e o a).made g) (asks_collector g (Some o))
   made_by e (op.New h c t) a = makes e h c t a
   made_by e (op.Load h c b k) a = none_made (e.made g) _ false (takes e h c a)
   made_by e (op.Store h b k v) a = none_made (e.made g) _ false (stores e (e.register h b) k (e.register h v) a)

@@ -83,8 +83,8 @@ ahead_at Ended = record { numbered = 1; opened = 1; begun = 1; generation = 1; e
 ahead_at Counted = record { numbered = 1; opened = 1; begun = 1; generation = 1; ended = 1; kept = 1 }
 
 -- the generation of the heap once so many cycles have ended
-abbrev pub generation_of : (ended : ℕ) → ℕ
-generation_of ended = 2 + 2 * ended
+abbrev pub generation_after : (ended : ℕ) → ℕ
+generation_after ended = 2 + 2 * ended
 
 -- So many cycles are kept: in their order, by their numbers from 1 on, and none is left out as long as there is room.
 pub record KeepsCycles (room many : ℕ) (c : Kept) : Type 0 where
@@ -132,9 +132,9 @@ module _ (s : Setting Actor Op) (room : ℕ) (es : List (Entry Op)) (c : Coordin
     pub opened : opened_in es ≡ words cell.Swept + ahead.opened
     -- the words, and the coordinator's own numbers
     pub begun : words cell.Begun ≡ words cell.Swept + ahead.begun
-    pub gen : words cell.Gen ≡ generation_of (words cell.Swept + ahead.ended)
+    pub gen : words cell.Gen ≡ generation_after (words cell.Swept + ahead.ended)
     pub number : c.begun ≡ words cell.Swept + ahead.numbered
-    pub generation : c.generation ≡ generation_of (words cell.Swept + ahead.generation)
+    pub generation : c.generation ≡ generation_after (words cell.Swept + ahead.generation)
     -- one cycle more has begun than has ended exactly while it is marked, and where the store of that phase is next
     pub marks : words cell.Gen ≡ 2 * words cell.Begun ↔ (leading.Marks c.stage ⊎ IsBeginning c.stage)
     pub cycles : KeepsCycles room (words cell.Swept + ahead.kept) c.cycles

@@ -63,9 +63,9 @@ goroutine_of (op.End g) = Some g
 goroutine_of op.Poll = None
 goroutine_of op.Leave = None
 
-abbrev pub is_over : List (Entry Op) → Option ℕ → Bool
-is_over es None = false
-is_over es (Some g) = ended_in es g
+abbrev pub goroutine_is_over : List (Entry Op) → Option ℕ → Bool
+goroutine_is_over es None = false
+goroutine_is_over es (Some g) = ended_in es g
 
 -- What a list says.
 

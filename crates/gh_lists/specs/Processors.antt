@@ -1,7 +1,7 @@
 -- Lists of steps of any number of processors over one heap, the newest first: which are legal, and what every legal one keeps.
 use Rattle.std.specs.Prelude.{◌≡◌, ◌≢◌, ℕ, zero, suc, ◌+◌, ◌%◌, ◌<◌, ◌≤◌, nat_lt, Bool, true, false, not, ◌==◌, ◌&&◌, ◌||◌, if◌then◌else◌, ◌⊎◌, List, [], ◌∷◌, ◌++◌, length, map, Option, Some, None}
 use Rattle.std.specs.Option.{option_to_list}
-use Rattle.gh_lists.specs.Vocabulary.{Act, Answer, Answered, answered_by, Arena, cached_for, deeds, Entry, Ever, given_by, has_names, Head, Holds, is_busy_at, IsFull, IsOf, IsSpan, Layout, meaning, model_after, Name, Op, op_at, page_of, Placed, Processor, processor_kind, Reach, register_of, REGISTERS, row_bit, Shape, shape_at, size_for, Sought, sought_for, span_for, SpanHead, state_of, Words, words_after}
+use Rattle.gh_lists.specs.Vocabulary.{Act, Answer, answered_by, AnsweredDeed, Arena, cached_for, deeds, Entry, Ever, given_by, has_names, Head, Holds, is_busy_at, IsFull, IsOf, IsSpan, Layout, meaning, model_after, Name, Op, op_at, page_of, Placed, Processor, processor_kind, Reach, register_of, REGISTERS, row_bit, Shape, shape_at, size_for, Sought, sought_for, span_for, SpanHead, state_of, Words, words_after}
 use Rattle.gh_base.specs.declared.cell.Cell.TheVariants as cell
 use Rattle.gh_base.specs.declared.operation.Op.TheVariants as op
 use Rattle.gh_base.specs.declared.pack.PageWord.TheVariants.{Free}
@@ -11,7 +11,7 @@ use Rattle.gh_class.specs.declared.class.SizeClass.TheVariants as size
 use Rattle.gh_heap.specs.Objects.{GlobalsGood, InSlot, Means, Place}
 use Rattle.gh_heap.specs.Spans.{IsVacant}
 use Rattle.gh_mutator.specs.Sound.{has_room}
-use Rattle.gh_lists.specs.Order.{ended_in, goroutine_of, has_left, in_range, is_over}
+use Rattle.gh_lists.specs.Order.{ended_in, goroutine_is_over, goroutine_of, has_left, in_range}
 
 -- goroutine i is of processor i modulo their number; spans are given back whether or not each slot is taken
 abbrev pub arena_of : List Shape → Layout → Arena
@@ -50,7 +50,7 @@ may_leave z a es _ = true
 
 -- what each list needs
 abbrev pub may_run : Arena → (a : ℕ) → Processor → List (Entry Op) → Op → Bool
-may_run z a m es o = in_range z.layout.goroutines z.layout.globals (length z.shapes) o && is_of z a (goroutine_of o) && has_names m o && not (is_over es (goroutine_of o))
+may_run z a m es o = in_range z.layout.goroutines z.layout.globals (length z.shapes) o && is_of z a (goroutine_of o) && has_names m o && not (goroutine_is_over es (goroutine_of o))
 
 abbrev pub may_begin : Arena → (counts : ℕ → ℕ) → (a : ℕ) → Processor → List (Entry Op) → Op → Bool
 may_begin z counts a m es o = may_run z a m es o && not (has_left es) && has_more counts es o && may_leave z a es o && has_room m o
@@ -127,7 +127,7 @@ module _ (z : Arena) (opening : Words) where
 
   -- the answers of that heap to the actor's operations, in the order of their points, and those that it gave; the newest first
   abbrev pub answers_of : ℕ → List (Entry Op) → List Answer
-  answers_of a es = map (λ (x : Answered Act Answer). x.answer) (answered_by (processor_kind z.shapes z.layout) (deeds z.shapes) (meaning z.shapes) a es)
+  answers_of a es = map (λ (x : AnsweredDeed Act Answer). x.answer) (answered_by (processor_kind z.shapes z.layout) (deeds z.shapes) (meaning z.shapes) a es)
 
   abbrev pub given_of : ℕ → List (Entry Op) → List Answer
   given_of a es = given_by (processor_kind z.shapes z.layout) (deeds z.shapes) a es

@@ -16,7 +16,7 @@ use Rattle.gh_worker.specs.Handshake as working
 use Rattle.gh_worker.specs.Listing as worker
 use Rattle.gh_worker.specs.Writing.{IsWritten}
 use Rattle.gh_lists.specs.LemmaVocabulary.{Add, And, Ask, asked_after, Cell, CountStage, effect, Load, opened_after, Or, put, StopStage, Store, Swap, SweepAllStage, SweepStage, WatchStage, Words, WorkersWriteTheirOwn, WorkerStage, WritesItsOwn}
-use Rattle.gh_lists.specs.Frames.{Leaves, numbers_of}
+use Rattle.gh_lists.specs.Frames.{LeavesCycleWords, numbers_of}
 
 -- no cycle is opened, asked for, begun, ended or told, and no stack's word is written
 pub record Quiet (w : Words) (ask : Ask) : Type 0 where
@@ -27,7 +27,7 @@ pub record Quiet (w : Words) (ask : Ask) : Type 0 where
   pub numbers : numbers_of (effect w ask) ≡ numbers_of w
 
 -- so they stay
-pub leaves_all : (w : Words) (ask : Ask) → Quiet w ask → Leaves w ask
+pub leaves_all : (w : Words) (ask : Ask) → Quiet w ask → LeavesCycleWords w ask
 leaves_all w ask q = record { numbers = q.numbers; opens_none = q.opens_none; want = inl (q.asks_none, q.want) }
 
 module _ (w : Words) where

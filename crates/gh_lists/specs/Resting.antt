@@ -11,7 +11,7 @@ use Rattle.gh_worker.specs.Listing as worker
 use Rattle.gh_lists.specs.declared.handshake.Actor.{Actor}
 use Rattle.gh_lists.specs.declared.handshake.Actor.TheVariants as actor
 use Rattle.gh_lists.specs.Lists.{arena, ever}
-use Rattle.gh_lists.specs.Handshake.{actors, is_busy, takes as takes_actor, those, Setup}
+use Rattle.gh_lists.specs.Handshake.{actors, is_busy, actor_takes, those, Setup}
 use Rattle.gh_lists.specs.LemmaVocabulary.{acks_of, actors_after, answers_of, Entry, given_of, Legal, Op, opening_words, Processor, started, state_of}
 use Rattle.gh_lists.specs.Seats.{IsSeated, run_started, seated}
 
@@ -83,9 +83,9 @@ module _ (setup : Setup) where
 
   runs_on : (e : Entry Op) (es : List (Entry Op)) (a : ℕ) → at es a ≡ actor.Runs (state_of (processor_kind setup.shapes setup.layout) a es) → at (e ∷ es) a ≡ actor.Runs (state_of (processor_kind setup.shapes setup.layout) a (e ∷ es))
   runs_on e es a is = go (e.actor == a) refl where
-    go : (b : Bool) → (e.actor == a) ≡ b → cond b (takes_actor setup.shapes (started (actors setup) e.begun (at es a)) e.found) (at es a) ≡ actor.Runs (cond b ((processor_kind setup.shapes setup.layout).takes (started (processor_kind setup.shapes setup.layout) e.begun (state_of (processor_kind setup.shapes setup.layout) a es)) e.found) (state_of (processor_kind setup.shapes setup.layout) a es))
+    go : (b : Bool) → (e.actor == a) ≡ b → cond b (actor_takes setup.shapes (started (actors setup) e.begun (at es a)) e.found) (at es a) ≡ actor.Runs (cond b ((processor_kind setup.shapes setup.layout).takes (started (processor_kind setup.shapes setup.layout) e.begun (state_of (processor_kind setup.shapes setup.layout) a es)) e.found) (state_of (processor_kind setup.shapes setup.layout) a es))
     go false x = is
-    go true x = ap (λ (y : Actor). takes_actor setup.shapes y e.found) (ap (started (actors setup) e.begun) is ∙ run_started setup e.begun (state_of (processor_kind setup.shapes setup.layout) a es))
+    go true x = ap (λ (y : Actor). actor_takes setup.shapes y e.found) (ap (started (actors setup) e.begun) is ∙ run_started setup e.begun (state_of (processor_kind setup.shapes setup.layout) a es))
 
   pub runs_are : (es : List (Entry Op)) (a : ℕ) → a < setup.layout.procs → at es a ≡ actor.Runs (state_of (processor_kind setup.shapes setup.layout) a es)
   runs_are [] a lt = runs_first a lt

@@ -14,7 +14,7 @@ use Rattle.gh_worker.specs.Stays as worker_ends
 use Rattle.gh_worker.specs.Listing as worker
 use Rattle.gh_lists.specs.declared.handshake.Actor.{Actor}
 use Rattle.gh_lists.specs.declared.handshake.Actor.TheVariants as actor
-use Rattle.gh_lists.specs.Handshake.{actors, start, takes, Setup}
+use Rattle.gh_lists.specs.Handshake.{actors, start, actor_takes, Setup}
 
 -- processors, then workers, then the coordinator, each with the heap's layout
 abbrev pub IsSeated : Layout → (a : ℕ) → Actor → Type 0
@@ -54,7 +54,7 @@ module _ (setup : Setup) where
   begun a (Some o) (actor.Runs m) s = s
   begun a (Some o) _ s = s
 
-  taken : (a found : ℕ) (m : Actor) → IsSeated setup.layout a m → IsSeated setup.layout a (takes setup.shapes m found)
+  taken : (a found : ℕ) (m : Actor) → IsSeated setup.layout a m → IsSeated setup.layout a (actor_takes setup.shapes m found)
   taken a found (actor.Runs m) s = s
   taken a found (actor.Marks w) s = (s.0, s.1, worker_ends.stays w found ∙ s.2)
   taken a found (actor.Leads c) s = (s.0, coord_ends.stays c found ∙ s.1)
@@ -62,7 +62,7 @@ module _ (setup : Setup) where
   abbrev state : List (Entry Op) → ℕ → Actor
   state es a = state_of all a es
 
-  next : (e : Entry Op) (a : ℕ) (m : Actor) (b : Bool) → IsSeated setup.layout a m → IsSeated setup.layout a (cond b (takes setup.shapes (started all e.begun m) e.found) m)
+  next : (e : Entry Op) (a : ℕ) (m : Actor) (b : Bool) → IsSeated setup.layout a m → IsSeated setup.layout a (cond b (actor_takes setup.shapes (started all e.begun m) e.found) m)
   next e a m true s = taken a e.found (started all e.begun m) (begun a e.begun m s)
   next e a m false s = s
 
@@ -72,17 +72,17 @@ module _ (setup : Setup) where
 
   -- one entry more
   module _ (e : Entry Op) (es : List (Entry Op)) where
-    pub own : state (e ∷ es) e.actor ≡ takes setup.shapes (started all e.begun (state es e.actor)) e.found
+    pub own : state (e ∷ es) e.actor ≡ actor_takes setup.shapes (started all e.begun (state es e.actor)) e.found
     own = rw (eq-eqb e.actor e.actor refl) refl
 
     pub other : (a : ℕ) → (e.actor == a) ≡ false → state (e ∷ es) a ≡ state es a
     other a x = rw x refl
 
     pub runs : (m : Processor) → state es e.actor ≡ actor.Runs m → state (e ∷ es) e.actor ≡ actor.Runs (k.takes (started k e.begun m) e.found)
-    runs m is = own ∙ ap (λ (y : Actor). takes setup.shapes y e.found) (ap (started all e.begun) is ∙ run_started e.begun m)
+    runs m is = own ∙ ap (λ (y : Actor). actor_takes setup.shapes y e.found) (ap (started all e.begun) is ∙ run_started e.begun m)
 
     pub works : (w : worker.Working) → state es e.actor ≡ actor.Marks w → state (e ∷ es) e.actor ≡ actor.Marks (worker.goes w e.found)
-    works w is = own ∙ ap (λ (y : Actor). takes setup.shapes y e.found) (ap (started all e.begun) is ∙ worker_started e.begun w)
+    works w is = own ∙ ap (λ (y : Actor). actor_takes setup.shapes y e.found) (ap (started all e.begun) is ∙ worker_started e.begun w)
 
     pub leads : (c : coord.Coordinating) → state es e.actor ≡ actor.Leads c → state (e ∷ es) e.actor ≡ actor.Leads (coord.goes c e.found)
-    leads c is = own ∙ ap (λ (y : Actor). takes setup.shapes y e.found) (ap (started all e.begun) is ∙ lead_started e.begun c)
+    leads c is = own ∙ ap (λ (y : Actor). actor_takes setup.shapes y e.found) (ap (started all e.begun) is ∙ lead_started e.begun c)

@@ -1,7 +1,7 @@
 -- The names that files with many imports share.
 pub use Rattle.gh_base.specs.Cells.{opening_words, Words}
 pub use Rattle.gh_base.specs.Lists.{by, Legal, Setting, state_of, words_after}
-pub use Rattle.gh_base.specs.Orders.{Answered, answered_by, given_by, model_after}
+pub use Rattle.gh_base.specs.Orders.{answered_by, AnsweredDeed, given_by, model_after}
 pub use Rattle.gh_base.specs.Packing.{page_of}
 unfoldable pub use Rattle.gh_base.specs.Rows.{row_bit}
 pub use Rattle.gh_base.specs.Shapes.{shape_at}

@@ -21,7 +21,7 @@ pub use Rattle.gh_base.specs.declared.machine.Entry.{Entry}
 pub use Rattle.gh_base.specs.declared.operation.Op.{Op}
 pub use Rattle.gh_base.specs.declared.pack.PageWord.{PageWord}
 pub use Rattle.gh_base.specs.declared.shape.Shape.{Shape}
-pub use Rattle.gh_base.specs.Orders.{Answered, answered, answered_by, DeedsFit, done_at}
+pub use Rattle.gh_base.specs.Orders.{answered, answered_by, AnsweredDeed, DeedsFit, done_at}
 pub use Rattle.gh_base.specs.declared.limits.TheConstants.{REGISTERS}
 pub use Rattle.gh_base.specs.declared.pack.PageWord.TheVariants.{Body, Free, Head}
 pub use Rattle.gh_base.specs.declared.pack.PhaseWord.{PhaseWord}
@@ -102,7 +102,7 @@ pub use Rattle.gh_mutator.specs.declared.wait.WaitStage.{WaitStage}
 pub use Rattle.gh_mutator_writes.specs.Calm.{IsCalm as MarksNothing}
 pub use Rattle.gh_mutator_writes.specs.Writing.{CountsObject, IsWritten, TellsScan, WritesOf}
 pub use Rattle.gh_mutator_heap.specs.Facts.{Fine, ShapesAreGood}
-pub use Rattle.gh_mutator_heap.specs.PollHeap.{Stands}
+pub use Rattle.gh_mutator_heap.specs.PollHeap.{KnowsAtAnyTime}
 pub use Rattle.gh_mutator_heap.specs.Runs.{DoesPoints}
 pub use Rattle.gh_worker.specs.Listing.{Working}
 pub use Rattle.gh_worker.specs.declared.worker.WorkerStage.{WorkerStage}
@@ -126,7 +126,7 @@ pub use Rattle.gh_lists.specs.Handshake.{actors, is_busy, KeepsIt, Pacing, place
 pub use Rattle.gh_lists.specs.Lists.{arena, EndsCycle, ever, IsEnding, IsLed, IsStepIn, may_of, words}
 pub use Rattle.gh_lists.specs.Marking.{actors_after, EndsClean, IsBeginning, IsChecked, IsInLimits, IsStartOf}
 pub use Rattle.gh_lists.specs.declared.handshake.Actor.{Actor}
-pub use Rattle.gh_lists.specs.Numbers.{ahead_at, Begun, Checked, close_part, generation_of, opened_after, opened_in, Part, part_of}
+pub use Rattle.gh_lists.specs.Numbers.{ahead_at, Begun, Checked, close_part, generation_after, opened_after, opened_in, Part, part_of}
 pub use Rattle.gh_lists.specs.Order.{ended_in, ends, in_range}
 pub use Rattle.gh_lists.specs.Processors.{IsFullFor, IsPlacedAt, may_leave}
 pub use Rattle.gh_marked.specs.Drawn.{IsToBegin}

@@ -31,8 +31,8 @@ pub record LeavesHeap (ask : Ask) : Type 0 where
 pub loads : (c : Cell) → LeavesHeap (Load c)
 loads c = record { page = λ w i. refl; alloc = λ w i. refl; bitmap = λ w i. refl }
 
-pub stores_phase : (x : ℕ) → LeavesHeap (Store cell.Phase x)
-stores_phase x = record { page = λ w i. refl; alloc = λ w i. refl; bitmap = λ w i. refl }
+pub phase_leaves_heap : (x : ℕ) → LeavesHeap (Store cell.Phase x)
+phase_leaves_heap x = record { page = λ w i. refl; alloc = λ w i. refl; bitmap = λ w i. refl }
 
 pub stores_bank : (x : ℕ) → LeavesHeap (Store cell.Bank x)
 stores_bank x = record { page = λ w i. refl; alloc = λ w i. refl; bitmap = λ w i. refl }

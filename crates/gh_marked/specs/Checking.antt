@@ -1,7 +1,7 @@
 -- What the coordinator's stage says while a cycle is marked: in its check, that the words which it has looked at are as wanted; and behind it, that all are. And where each step of it leads.
 use Rattle.std.proofs.Common.{◌≡◌, ℕ, ◌+◌, ◌-◌, ◌<◌, ◌≤◌, ◌==◌, Bool, true, false, cond, ltb, leb, not, ◌||◌, refl, sym, ap, subst, arith, Option, Some, None, eq-eqb}
 use Rattle.gh_base.specs.declared.cell.Cell.TheVariants as cell
-use Rattle.gh_marks.specs.Moves.{IsQuiet}
+use Rattle.gh_marks.specs.Moves.{IsQuietInMarking}
 use Rattle.gh_phase.specs.declared.view.RunPhase.TheVariants as run
 use Rattle.gh_coord.specs.declared.close.CloseStage.TheVariants as close_stage
 use Rattle.gh_coord.specs.declared.open.OpenStage.TheVariants as open_stage
@@ -18,7 +18,7 @@ use Rattle.gh_coord.specs.Telling as tell
 use Rattle.gh_coord.specs.Watching as watch
 use Rattle.gh_coord.specs.Watching.{cell_at, is_wanted, words_of}
 use Rattle.gh_marked.specs.LemmaVocabulary.{after_check, after_close, after_count, after_open, after_stop, after_stop_again, after_sweep, after_tell, after_watch, All, Ask, asks_at, at_stage, buffer_of, buffers_of, Cell, cell_of, Check, Close, CloseStage, Coordinating, CoordStage, Count, Counted, Done, effect, goes_at, holder_in, IsBeginning, Layout, LoadAck, LoadWant, ltb-false, ltb-true, MarkOn, nat_tests, NotYet, Open, OpenStage, RunPhase, Marking as Shared, Stop, StopAgain, Stopped, stops_world, StopStage, Sweep, Tell, Watch, Watched, WatchStage, Words}
-use Rattle.gh_marked.specs.Beside.{LeavesHeap, loads, stores_bank, stores_phase}
+use Rattle.gh_marked.specs.Beside.{LeavesHeap, loads, phase_leaves_heap, stores_bank}
 use Rattle.gh_coord.specs.Handshake as leading
 
 -- all watched words are as wanted
@@ -80,14 +80,14 @@ module _ (l : Layout) (number : ℕ) (words : Words) where
 
 -- a step that changes no word which marking reads, and none of pages, slots, pointer bits and the cursor
 pub record IsLight (ask : Ask) : Type 0 where
-  pub quiet : (s : Shared) → IsQuiet s ask
+  pub quiet : (s : Shared) → IsQuietInMarking s ask
   pub aside : LeavesHeap ask
 
 -- What a step of the coordinator leads to: a cycle begins; or it goes on to be marked, with what the next stage says; or no cycle is marked then.
-pub data Goes (l : Layout) (number : ℕ) (words : Words) (s : Coordinating) (p : CoordStage) (to : Coordinating) : Type 0 where
-  begins : IsBeginning p → IsLight (asks_at s p) → to.begun ≡ s.begun → CheckedAt l number (effect words (asks_at s p)) to.stage → Goes l number words s p to
-  goes_on : Marks p → IsLight (asks_at s p) → to.begun ≡ s.begun → (CheckedAt l number words p → CheckedAt l number (effect words (asks_at s p)) to.stage) → Goes l number words s p to
-  leaves : (Marks to.stage → ⊥) → Goes l number words s p to
+pub data CoordinatorGoes (l : Layout) (number : ℕ) (words : Words) (s : Coordinating) (p : CoordStage) (to : Coordinating) : Type 0 where
+  begins : IsBeginning p → IsLight (asks_at s p) → to.begun ≡ s.begun → CheckedAt l number (effect words (asks_at s p)) to.stage → CoordinatorGoes l number words s p to
+  goes_on : Marks p → IsLight (asks_at s p) → to.begun ≡ s.begun → (CheckedAt l number words p → CheckedAt l number (effect words (asks_at s p)) to.stage) → CoordinatorGoes l number words s p to
+  leaves : (Marks to.stage → ⊥) → CoordinatorGoes l number words s p to
 
 module _ (l : Layout) (number : ℕ) (words : Words) (s : Coordinating) (marks : ℕ) (layout_is : s.layout ≡ l) (number_is : s.begun ≡ number) where
   -- with its steps counted
@@ -95,7 +95,7 @@ module _ (l : Layout) (number : ℕ) (words : Words) (s : Coordinating) (marks :
   u = record s { marks = marks }
 
   abbrev To : CoordStage → Coordinating → Type 0
-  To p to = Goes l number words s p to
+  To p to = CoordinatorGoes l number words s p to
 
   acks : (i : ℕ) (gone more : Bool) → Marks (cond gone (cond more (at_stage u (LoadAck (i + 1))) (stops_world (record u { is_last = true }))) (at_stage u LoadWant)).stage → ⊥
   acks i true true m = m
@@ -111,7 +111,7 @@ module _ (l : Layout) (number : ℕ) (words : Words) (s : Coordinating) (marks :
   stopped st (Some x) m = m
 
   opening : (o : opens_by.CycleOpening) (p : OpenStage) (found : ℕ) → o.stage ≡ p → opens_by.is_busy p ≡ true → To (Open o) (after_open (at_stage u (Open (opens_by.goes_at o p found))) (opens_by.given_at (opens_by.behind p)))
-  opening o open_stage.StorePhase found e b = begins e (rw e (record { quiet = λ sh. tt; aside = stores_phase _ })) refl tt
+  opening o open_stage.StorePhase found e b = begins e (rw e (record { quiet = λ sh. tt; aside = phase_leaves_heap _ })) refl tt
   opening o open_stage.Ended found e b = absurd cc
   opening o _ found e b = leaves (λ m. m)
 
@@ -125,7 +125,7 @@ module _ (l : Layout) (number : ℕ) (words : Words) (s : Coordinating) (marks :
   watching w v (Some NotYet) = goes_on tt (watching_quiet w w.stage) refl (λ _. tt)
 
   stop_quiet : (st : stop.Stopping) (p : StopStage) → IsLight (stop.asks_at st p)
-  stop_quiet st stop_stage.StorePhase = record { quiet = λ sh. tt; aside = stores_phase _ }
+  stop_quiet st stop_stage.StorePhase = record { quiet = λ sh. tt; aside = phase_leaves_heap _ }
   stop_quiet st (stop_stage.Await i) = record { quiet = λ sh. tt; aside = loads _ }
   stop_quiet st stop_stage.Ended = record { quiet = λ sh. tt; aside = loads _ }
 
@@ -196,7 +196,7 @@ module _ (l : Layout) (number : ℕ) (words : Words) (s : Coordinating) (marks :
   goes_so (Watch w) found b f = watching w (watch.goes w found) (watch.gives w found)
   goes_so (StopAgain st) found b f = stopping_again st (stop.goes st found) (stop.gives st found)
   goes_so (Check w) found b f = checking w w.stage found refl b f
-  goes_so MarkOn found b f = goes_on tt (record { quiet = λ sh. tt; aside = stores_phase _ }) refl (λ _. tt)
+  goes_so MarkOn found b f = goes_on tt (record { quiet = λ sh. tt; aside = phase_leaves_heap _ }) refl (λ _. tt)
   goes_so (Close c) found b f = closing c c.stage found refl b
   goes_so (Sweep w) found b f = leaves (sweeping (all.goes w found) (all.gives w found))
   goes_so (Count w) found b f = leaves (counting (count.goes w found) (count.gives w found))

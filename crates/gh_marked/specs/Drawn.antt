@@ -2,7 +2,7 @@
 use Rattle.std.specs.Prelude.{◌≡◌, ℕ, ◌+◌, ◌≤◌, List, ◌∷◌}
 use Rattle.gh_marked.specs.Vocabulary.{Coordinating, Entry, Op, opening_words, Words, words_after}
 use Rattle.gh_base.specs.Rows.{Row}
-use Rattle.gh_tri.specs.Invariants.{Invariants, IsMarkingDone, IsOpening}
+use Rattle.gh_tri.specs.Invariants.{Invariants, IsMarkingDone, IsOpeningPicture}
 use Rattle.gh_tri.specs.Steps.{Goes}
 use Rattle.gh_tri.specs.Tricolour.{Tricolour}
 use Rattle.gh_marks.specs.Colours.{Cycle, Shared as Marking}
@@ -28,7 +28,7 @@ module _ (setup : Setup) where
 
   -- Behind the list the picture shows this state of marking, which is one of its heap. Where the cycle begins it comes of one as at a cycle's begin; and each entry since is moves of marking of its actor, which are moves of the picture.
   pub data Drawing (z : Cycle) : List (Entry Op) → Marking → Tricolour → Type 0 where
-    begins : (es : List (Entry Op)) (s : Marking) (first picture : Tricolour) (at : Row) → IsToBegin es z.number → s.words ≡ told es → IsOfHeap setup es z s → IsOpening first → Goes first picture → Shows z s at picture → Drawing z es s picture
+    begins : (es : List (Entry Op)) (s : Marking) (first picture : Tricolour) (at : Row) → IsToBegin es z.number → s.words ≡ told es → IsOfHeap setup es z s → IsOpeningPicture first → Goes first picture → Shows z s at picture → Drawing z es s picture
     steps : (e : Entry Op) (es : List (Entry Op)) (s t : Marking) (before picture : Tricolour) (at : Row) → Drawing z es s before → Went z e.actor s t → t.words ≡ told (e ∷ es) → IsOfHeap setup (e ∷ es) z t → Goes before picture → Shows z t at picture → Drawing z (e ∷ es) t picture
 
   -- there is such a picture, with room for so many objects more

@@ -20,12 +20,12 @@ use Rattle.gh_marked.specs.LemmaVocabulary.{Act, acted, acting, acts, acts_at, a
 use Rattle.gh_lists.specs.Beginning.{ends-by, keeps-end, makes-end, sets-end, stores-end}
 
 -- Its step is that of its end, or is not.
-pub is_end : (t : Task) (g : ℕ) → (t ≡ task.End g) ⊎ (t ≡ task.End g → ⊥)
-is_end (task.End h) g = go (h == g) refl where
+pub is_its_end : (t : Task) (g : ℕ) → (t ≡ task.End g) ⊎ (t ≡ task.End g → ⊥)
+is_its_end (task.End h) g = go (h == g) refl where
   go : (b : Bool) → (h == g) ≡ b → (task.End h ≡ task.End g) ⊎ (task.End h ≡ task.End g → ⊥)
   go true x = let same : h ≡ g = grind (arith, nat_tests) in inl (ap task.End same)
   go false x = inr (λ is. let same : h ≡ g = cc in absurd (let yes = eq-eqb h g same in let no : false ≡ true = sym x ∙ yes in cc))
-is_end _ g = inr (λ is. absurd (cc))
+is_its_end _ g = inr (λ is. absurd (cc))
 
 -- the operation that acts is that of the task
 acting_op : (b : Bool) (o : Op) (full : Bool) (p : Act) → acting b o full ≡ Some p → p.op ≡ o

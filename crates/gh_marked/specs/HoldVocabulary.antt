@@ -19,8 +19,8 @@ pub use Rattle.gh_sweep.specs.Counts.{AreWords, marked_objects}
 pub use Rattle.gh_sweep.specs.Shared.{alloc_at, CycleEnd, generation_of, marks_at}
 pub use Rattle.gh_state.specs.Good.{Good as StateGood}
 pub use Rattle.gh_state.specs.Shared.{Shared as State, Told}
-pub use Rattle.gh_state.specs.Cycles.{IsAsItEnded, IsTold as CountsAreExact}
-pub use Rattle.gh_state.specs.Routines.{Rests, Runs}
+pub use Rattle.gh_state.specs.Cycles.{CountsAreExact, IsAsItEnded}
+pub use Rattle.gh_state.specs.Routines.{SeatSweepsNothing, SweepRuns}
 pub use Rattle.gh_state.specs.Walkers.{PassedBefore}
 pub use Rattle.gh_cycle.specs.Beside.{IsBeside}
 pub use Rattle.gh_cycle.specs.Reached.{IsBounded}

@@ -61,7 +61,7 @@ pub use Rattle.gh_mutator.specs.declared.step.Then.TheVariants.{Ends, GoesOn}
 pub use Rattle.gh_mutator.specs.declared.task.Task.{Task}
 pub use Rattle.gh_mutator_writes.specs.Calm.{IsCalm as MarksNothing}
 pub use Rattle.gh_mutator_writes.specs.Writing.{ProcessorWritesItsOwn}
-pub use Rattle.gh_mutator_heap.specs.PollHeap.{Stands}
+pub use Rattle.gh_mutator_heap.specs.PollHeap.{KnowsAtAnyTime}
 pub use Rattle.gh_worker.specs.Listing.{Working}
 pub use Rattle.gh_worker.specs.declared.worker.WorkerStage.{WorkerStage}
 pub use Rattle.gh_worker.specs.Writing.{WorkersWriteTheirOwn}

@@ -24,17 +24,17 @@ far (Read a value) = 2
 far Scanned = 3
 
 -- the second is the first, or comes later
-abbrev pub GoesOn : {A : Type 0} → (A → ℕ) → (x y : A) → Type 0
-GoesOn rank x y = (y ≡ x) ⊎ (rank x < rank y)
+abbrev pub IsNoEarlier : {A : Type 0} → (A → ℕ) → (x y : A) → Type 0
+IsNoEarlier rank x y = (y ≡ x) ⊎ (rank x < rank y)
 
-goes_then : {A : Type 0} (rank : A → ℕ) (x y w : A) → GoesOn rank x y → GoesOn rank y w → GoesOn rank x w
+goes_then : {A : Type 0} (rank : A → ℕ) (x y w : A) → IsNoEarlier rank x y → IsNoEarlier rank y w → IsNoEarlier rank x w
 goes_then rank x y w (inl e) (inl f) = inl (f ∙ e)
 goes_then rank x y w (inl e) (inr g) = let same = ap rank e in inr (omega (arith, same, g))
 goes_then rank x y w (inr g) (inl f) = let same = ap rank f in inr (omega (arith, same, g))
 goes_then rank x y w (inr g) (inr h) = inr (omega (arith, g, h))
 
 -- one of a row goes on
-one_goes : {A : Type 0} (rank : A → ℕ) (row : ℕ → A) (o : ℕ) (then : A) → rank (row o) < rank then → (p : ℕ) → GoesOn rank (row p) (update row o then p)
+one_goes : {A : Type 0} (rank : A → ℕ) (row : ℕ → A) (o : ℕ) (then : A) → rank (row o) < rank then → (p : ℕ) → IsNoEarlier rank (row p) (update row o then p)
 one_goes rank row o then lt p = elim (eqb_tells o p) [ inl y ↦ rw (y.0, ← y.1) (inr lt) | inr n ↦ rw (n.0) (inl refl) ]
 
 from_white : (c : Colour) → mark_of c ≡ 0 → level c ≡ 0
@@ -50,10 +50,10 @@ module _ (z : Cycle) (a : ℕ) (s : Shared) (good : Good z s) where
   was_white o zero = from_white (s.colour o) (sym (good.marks o) ∙ zero)
 
   -- the colour was of this level
-  rises : (o : ℕ) (then : Colour) (n : ℕ) → level (s.colour o) ≡ n → n < level then → (p : ℕ) → GoesOn level (s.colour p) (update s.colour o then p)
+  rises : (o : ℕ) (then : Colour) (n : ℕ) → level (s.colour o) ≡ n → n < level then → (p : ℕ) → IsNoEarlier level (s.colour p) (update s.colour o then p)
   rises o then n is lt = one_goes level s.colour o then (omega (arith, is, lt))
 
-  colours : (m : Move) → May z a s m → (p : ℕ) → GoesOn level (s.colour p) ((moved z a s m).colour p)
+  colours : (m : Move) → May z a s m → (p : ℕ) → IsNoEarlier level (s.colour p) ((moved z a s m).colour p)
   colours (Shade o) may p = rises o (Pending a) 0 (was_white o may.0.white) (omega arith) p
   colours (ShadeFlat o) may p = rises o Black 0 (was_white o may.0.white) (omega arith) p
   colours (Enter b o) may p = rises o (Buffered b (s.filled b)) 1 (ap level may.pending) (omega arith) p
@@ -63,7 +63,7 @@ module _ (z : Cycle) (a : ℕ) (s : Shared) (good : Good z s) where
   colours (Place o size pointer noscan g d) may p = rises o Black 1 (ap level may.reserved) (omega arith) p
   colours _ may p = inl refl
 
-  globals : (m : Move) → May z a s m → (i : ℕ) → GoesOn far (s.progress i) ((moved z a s m).progress i)
+  globals : (m : Move) → May z a s m → (i : ℕ) → IsNoEarlier far (s.progress i) ((moved z a s m).progress i)
   globals (ClaimGlobal i) may j = let first = ap far (good.cursor.ahead i may.1 (omega (arith, may.0))) in one_goes far s.progress i (Claimed a) (omega (arith, first)) j
   globals (ReadGlobal i) may j = let is = ap far may in one_goes far s.progress i (Read a (s.words (cell.Global i))) (omega (arith, is)) j
   globals (ScanGlobal i value) may j = let is = ap far may.0 in one_goes far s.progress i Scanned (omega (arith, is)) j
@@ -94,11 +94,11 @@ global_there z s none i some = there z 0 s none i some
 
 -- The moves of a step.
 module _ (steps : EachStepGoesByMoves) (z : Cycle) (a : ℕ) (s : Shared) (good : Good z s) where
-  pub colour_goes : (t : Shared) → Went z a s t → (o : ℕ) → GoesOn level (s.colour o) (t.colour o)
+  pub colour_goes : (t : Shared) → Went z a s t → (o : ℕ) → IsNoEarlier level (s.colour o) (t.colour o)
   colour_goes t stays o = inl refl
   colour_goes t (goes v m went may) o = goes_then level (s.colour o) (v.colour o) ((moved z a v m).colour o) (colour_goes v went o) (colours z a v (steps z a s v good went).good m may o)
 
-  pub global_goes : (t : Shared) → Went z a s t → (i : ℕ) → GoesOn far (s.progress i) (t.progress i)
+  pub global_goes : (t : Shared) → Went z a s t → (i : ℕ) → IsNoEarlier far (s.progress i) (t.progress i)
   global_goes t stays i = inl refl
   global_goes t (goes v m went may) i = goes_then far (s.progress i) (v.progress i) ((moved z a v m).progress i) (global_goes v went i) (globals z a v (steps z a s v good went).good m may i)
 

@@ -7,7 +7,7 @@ use Rattle.gh_scan.specs.Listing as scan
 use Rattle.gh_shade.specs.Listing as shade
 use Rattle.gh_worker.specs.declared.worker.WorkerStage.{WorkerStage}
 use Rattle.gh_worker.specs.declared.worker.WorkerStage.TheVariants as at
-use Rattle.gh_worker.specs.Works.{word_of, words_done, words_of}
+use Rattle.gh_worker.specs.Works.{scan_words, shading_word, words_done}
 use Rattle.gh_lists.specs.declared.handshake.Actor.TheVariants.{Marks}
 use Rattle.gh_lists.specs.Counts.{stored_in}
 use Rattle.gh_lists.specs.Handshake.{actors, Setup}
@@ -22,7 +22,7 @@ done_by _ found = 0
 -- Of these, one where the step is done with a global: it found none there, or the shading of what it names ends.
 abbrev pub global_done : WorkerStage → (found : ℕ) → ℕ
 global_done (at.LoadGlobal i) found = if found == 0 then 1 else 0
-global_done (at.Shading sh) found = word_of (shade.gives sh found)
+global_done (at.Shading sh) found = shading_word (shade.gives sh found)
 global_done _ found = 0
 
 abbrev pub global_by : Actor → (found : ℕ) → ℕ
@@ -31,7 +31,7 @@ global_by _ found = 0
 
 -- and the words of the object whose scan ends with it
 abbrev pub object_done : WorkerStage → (found : ℕ) → ℕ
-object_done (at.Scanning s) found = words_of (scan.gives s found)
+object_done (at.Scanning s) found = scan_words (scan.gives s found)
 object_done _ found = 0
 
 abbrev pub objects_by : Actor → (found : ℕ) → ℕ
@@ -45,9 +45,9 @@ global_held (at.Shading sh) = 1
 global_held (at.FindRoom sh r) = 1
 global_held _ = 0
 
-abbrev pub global_at : Actor → ℕ
-global_at (Marks w) = global_held w.stage
-global_at _ = 0
+abbrev pub global_in_hand : Actor → ℕ
+global_in_hand (Marks w) = global_held w.stage
+global_in_hand _ = 0
 
 -- the most that are scanned in a cycle: one for each global; the words of the objects, which share none; and one for each object that a global names
 abbrev pub most_scanned : Layout → ℕ
@@ -73,7 +73,7 @@ module _ (setup : Setup) where
 
   -- how many globals workers have in hand
   abbrev pub globals_held : List (Entry Op) → ℕ
-  globals_held es = total (λ a. global_at (state_of (actors setup) a es)) (seats_of setup.layout)
+  globals_held es = total (λ a. global_in_hand (state_of (actors setup) a es)) (seats_of setup.layout)
 
   -- no more in the list than in as many cycles as have begun
   abbrev pub FewAreScanned : List (Entry Op) → Type 0

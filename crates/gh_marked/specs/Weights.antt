@@ -5,11 +5,11 @@ use Rattle.gh_base.specs.declared.cell.Ask.{Ask}
 use Rattle.gh_base.specs.declared.cell.Cell.{Cell}
 use Rattle.gh_base.specs.declared.layout.Layout.{Layout}
 use Rattle.gh_marks.specs.Colours.{Black, Buffered, Colour, Progress, Scanned, Shared, Taken}
-use Rattle.gh_lists.specs.Counts.{stored_after, stores}
+use Rattle.gh_lists.specs.Counts.{stored_after, stores_cell}
 use Rattle.gh_marked.specs.Scanned.{most_scanned}
 use Rattle.gh_lists.specs.Wants.{total}
 use Rattle.gh_lists.specs.Sums.{total_below}
-use Rattle.gh_marked.specs.Levels.{far, GoesOn, level}
+use Rattle.gh_marked.specs.Levels.{far, IsNoEarlier, level}
 
 -- Sums.
 
@@ -62,13 +62,13 @@ entered (Taken a) = 1
 entered Black = 1
 entered _ = 0
 
-abbrev pub whole : (size : ℕ) → Colour → ℕ
-whole size Black = size
-whole size _ = 0
+abbrev pub black_words : (size : ℕ) → Colour → ℕ
+black_words size Black = size
+black_words size _ = 0
 
-abbrev pub is_scanned : Progress → ℕ
-is_scanned Scanned = 1
-is_scanned _ = 0
+abbrev pub scanned_weight : Progress → ℕ
+scanned_weight Scanned = 1
+scanned_weight _ = 0
 
 pub entered_high : (c : Colour) → 2 ≤ level c → entered c ≡ 1
 entered_high (Buffered b j) le = refl
@@ -80,7 +80,7 @@ pub black_last : (c : Colour) → 3 < level c → c ≡ Black
 black_last Black lt = refl
 black_last _ lt = absurd (omega (arith, lt))
 
-scanned_last : (p : Progress) → 3 ≤ far p → is_scanned p ≡ 1
+scanned_last : (p : Progress) → 3 ≤ far p → scanned_weight p ≡ 1
 scanned_last Scanned le = refl
 scanned_last _ le = absurd (omega (arith, le))
 
@@ -92,20 +92,20 @@ far_most : (p : Progress) → far p ≤ 3
 far_most Scanned = omega arith
 far_most _ = omega arith
 
-entered_rises : (c d : Colour) → GoesOn level c d → entered c ≤ entered d
+entered_rises : (c d : Colour) → IsNoEarlier level c d → entered c ≤ entered d
 entered_rises c d (inl e) = let same = ap entered e in omega (arith, same)
 entered_rises (Buffered b j) d (inr lt) = let one = entered_high d (omega (arith, lt)) in omega (arith, one)
 entered_rises (Taken a) d (inr lt) = let one = entered_high d (omega (arith, lt)) in omega (arith, one)
 entered_rises Black d (inr lt) = let one = entered_high d (omega (arith, lt)) in omega (arith, one)
 entered_rises _ d (inr lt) = omega arith
 
-whole_rises : (size then : ℕ) (c d : Colour) → GoesOn level c d → (c ≡ Black → then ≡ size) → whole size c ≤ whole then d
-whole_rises size then Black d (inl e) same = let is = ap (whole then) e in let stays = same refl in omega (arith, is, stays)
+whole_rises : (size then : ℕ) (c d : Colour) → IsNoEarlier level c d → (c ≡ Black → then ≡ size) → black_words size c ≤ black_words then d
+whole_rises size then Black d (inl e) same = let is = ap (black_words then) e in let stays = same refl in omega (arith, is, stays)
 whole_rises size then Black d (inr lt) same = absurd (let most = level_most d in omega (arith, lt, most))
 whole_rises size then _ d goes same = omega arith
 
-scanned_rises : (p q : Progress) → GoesOn far p q → is_scanned p ≤ is_scanned q
-scanned_rises p q (inl e) = let same = ap is_scanned e in omega (arith, same)
+scanned_rises : (p q : Progress) → IsNoEarlier far p q → scanned_weight p ≤ scanned_weight q
+scanned_rises p q (inl e) = let same = ap scanned_weight e in omega (arith, same)
 scanned_rises Scanned q (inr lt) = absurd (let most = far_most q in omega (arith, lt, most))
 scanned_rises _ q (inr lt) = omega arith
 
@@ -113,7 +113,7 @@ entered_one : (c : Colour) → entered c ≤ 1
 entered_one Black = omega arith
 entered_one _ = omega arith
 
-scanned_one : (p : Progress) → is_scanned p ≤ 1
+scanned_one : (p : Progress) → scanned_weight p ≤ 1
 scanned_one Scanned = omega arith
 scanned_one _ = omega arith
 
@@ -122,10 +122,10 @@ abbrev pub entry_at : Shared → (o : ℕ) → ℕ
 entry_at s o = entered (s.colour o)
 
 abbrev pub words_at : Shared → (o : ℕ) → ℕ
-words_at s o = whole (s.extents.size o) (s.colour o)
+words_at s o = black_words (s.extents.size o) (s.colour o)
 
 abbrev pub scanned_at : Shared → (i : ℕ) → ℕ
-scanned_at s i = is_scanned (s.progress i)
+scanned_at s i = scanned_weight (s.progress i)
 
 module _ (l : Layout) where
   abbrev words : ℕ
@@ -136,8 +136,8 @@ module _ (l : Layout) where
 
   -- what has become of each, and the objects that were black have their words still
   pub record AllGoOn (s t : Shared) : Type 0 where
-    pub colours : (o : ℕ) → GoesOn level (s.colour o) (t.colour o)
-    pub globals : (i : ℕ) → GoesOn far (s.progress i) (t.progress i)
+    pub colours : (o : ℕ) → IsNoEarlier level (s.colour o) (t.colour o)
+    pub globals : (i : ℕ) → IsNoEarlier far (s.progress i) (t.progress i)
     pub sizes : (o : ℕ) → s.colour o ≡ Black → t.extents.size o ≡ s.extents.size o
 
   module _ (s t : Shared) (all : AllGoOn s t) where
@@ -170,7 +170,7 @@ module _ (l : Layout) where
         let w = more_scan in
         omega (arith, x, y, w)
 
-    not_black : (size : ℕ) (c : Colour) → level c ≡ 3 → whole size c ≡ 0
+    not_black : (size : ℕ) (c : Colour) → level c ≡ 3 → black_words size c ≡ 0
     not_black size Black is = absurd (omega (arith, is))
     not_black size _ is = refl
 
@@ -178,13 +178,13 @@ module _ (l : Layout) where
     pub by_object : (o : ℕ) → o < words → level (s.colour o) ≡ 3 → t.colour o ≡ Black → counted s + t.extents.size o ≤ counted t
     by_object o lt was black =
         let none : words_at s o ≡ 0 = not_black (s.extents.size o) (s.colour o) was in
-        let all_of : words_at t o ≡ t.extents.size o = ap (whole (t.extents.size o)) black in
+        let all_of : words_at t o ≡ t.extents.size o = ap (black_words (t.extents.size o)) black in
         let x = more_enter in
         let y = total_rises (words_at s) (words_at t) words o (t.extents.size o) blacken lt (omega (arith, none, all_of)) in
         let w = more_scan in
         omega (arith, x, y, w)
 
-    not_yet : (p : Progress) → far p < 3 → is_scanned p ≡ 0
+    not_yet : (p : Progress) → far p < 3 → scanned_weight p ≡ 0
     not_yet Scanned lt = absurd (omega (arith, lt))
     not_yet _ lt = refl
 
@@ -208,7 +208,7 @@ module _ (l : Layout) where
 
 -- no store is undone
 pub stored_rises : (c : Cell) (ask : Ask) (before : ℕ) → before ≤ stored_after c ask before
-stored_rises c ask before = go (stores c ask) where
+stored_rises c ask before = go (stores_cell c ask) where
   go : (b : Bool) → before ≤ cond b (suc before) before
   go true = omega arith
   go false = omega arith

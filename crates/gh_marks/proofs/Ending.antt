@@ -8,8 +8,8 @@ use Rattle.gh_base.specs.Holding.{holder_in}
 use Rattle.gh_base.specs.Packing.{bit, buffer_of}
 use Rattle.gh_base.specs.Rows.{RowsAreWritten, mark_words, row_bit}
 use Rattle.gh_marks.specs.Colours.{Black, Buffered, Claimed, Colour, Cycle, IsGrey, IsShaded, Pending, Placing, Progress, Read, Scanned, Shared, Taken, Untouched, White, mark_of}
-use Rattle.gh_marks.specs.Ends.{IsFound}
-use Rattle.gh_marks.specs.Good.{Good, count_of}
+use Rattle.gh_marks.specs.Ends.{IsFoundAtTheEnd}
+use Rattle.gh_marks.specs.Good.{Good, seats_among}
 use Rattle.gh_marks.specs.Laws.{EachMoveLeavesTheDead, TheCursorIsSmall, TheDeadAreWhite, WhatIsFoundIsDone}
 use Rattle.gh_marks.specs.Moves.{IsDead, May, Move, Place, Quiet, moved}
 use Rattle.gh_marks.specs.Seats.{ClaimOf, NoClaim, ReadOf}
@@ -26,7 +26,7 @@ no-read : {P : Type 0} (i v : ℕ) → NoClaim ≡ ReadOf i v → P
 no-read i v e = cc
 
 -- Nobody has anything, and no buffer has an entry: so nothing is grey, and no global waits.
-module _ (z : Cycle) (s : Shared) (g : Good z s) (f : IsFound z s) where
+module _ (z : Cycle) (s : Shared) (g : Good z s) (f : IsFoundAtTheEnd z s) where
   -- who holds a buffer would have it in hand
   nobody-holds : (b : ℕ) → holder_in (s.words (cell.Buffer b)) ≡ 0
   nobody-holds b = go (holder_in (s.words (cell.Buffer b))) refl where
@@ -103,10 +103,10 @@ pub each-move-leaves-the-dead : RowsAreWritten → EachMoveLeavesTheDead
 each-move-leaves-the-dead k z a s m g may o h = dead-moved k z a s g o h m may
 
 -- The cursor is at most as many behind the last global as there are seats.
-count-few : (passed : ℕ → Bool) (n : ℕ) → count_of passed n ≤ n
+count-few : (passed : ℕ → Bool) (n : ℕ) → seats_among passed n ≤ n
 count-few passed zero = omega arith
 count-few passed (suc n) = by (passed n) (count-few passed n) where
-  by : (b : Bool) → count_of passed n ≤ n → count_of passed n + bit b ≤ suc n
+  by : (b : Bool) → seats_among passed n ≤ n → seats_among passed n + bit b ≤ suc n
   by true h = omega arith
   by false h = omega arith
 

@@ -5,10 +5,10 @@ use Rattle.std.proofs.lemmas.Bool.Decides.{nat_tests, eqb_tells}
 use Rattle.gh_base.specs.declared.cell.Ask.{Ask}
 use Rattle.gh_base.specs.declared.cell.Cell.TheVariants as cell
 use Rattle.gh_base.specs.declared.held.Held.{Held}
-use Rattle.gh_base.specs.Holding.{Holds, IsIt, KnowsCount, holder_in}
+use Rattle.gh_base.specs.Holding.{HoldsBuffer, IsIt, KnowsCount, holder_in}
 use Rattle.gh_base.specs.Rows.{Row, mark_words}
 use Rattle.gh_heap.specs.Moves.{update}
-use Rattle.gh_marks.specs.Colours.{Black, Buffered, Claimed, Colour, Cycle, Pending, Placing, Read, Scanned, Shared, Taken, White, buffers_of, entry_words}
+use Rattle.gh_marks.specs.Colours.{Black, Buffered, Claimed, Colour, Cycle, Pending, Placing, Read, Scanned, Shared, Taken, White, buffers_as_held, entry_words}
 use Rattle.gh_marks.specs.Good.{Good}
 use Rattle.gh_marks.specs.Laws.{EachHandFollows}
 use Rattle.gh_marks.specs.Moves.{Enter, GiveBuffer, May, Quiet, TakeBuffer, moved}
@@ -120,10 +120,10 @@ module _ (z : Cycle) (a : ℕ) (s : Shared) (h : InHand) (g : Good z s) (x : Han
   }
 
   -- what is said of the buffers
-  holds-quiet : (step : Ask) → May z a s (Quiet step) → Holds (buffers_of (moved z a s (Quiet step)).words s.filled) a h.held
+  holds-quiet : (step : Ask) → May z a s (Quiet step) → HoldsBuffer (buffers_as_held (moved z a s (Quiet step)).words s.filled) a h.held
   holds-quiet step may =
       let u : Unread s (moved z a s (Quiet step)).words = unread s step may in
-      subst (λ (r : ReadRows). Holds (record { words = r.buffer; entries = r.entry; filled = s.filled }) a h.held) (sym u.rows_are) x.holds
+      subst (λ (r : ReadRows). HoldsBuffer (record { words = r.buffer; entries = r.entry; filled = s.filled }) a h.held) (sym u.rows_are) x.holds
 
   only-one : (own : Held) → h.held ≡ Some own → (b : ℕ) → (holder_in (s.words (cell.Buffer b)) ≡ a + 1) ↔ (own.index ≡ b)
   only-one own e b = subst (λ (held : Option Held). (holder_in (s.words (cell.Buffer b)) ≡ a + 1) ↔ IsIt held b) e (x.holds.only b)
@@ -131,7 +131,7 @@ module _ (z : Cycle) (a : ℕ) (s : Shared) (h : InHand) (g : Good z s) (x : Han
   count-is : (own : Held) → h.held ≡ Some own → s.filled own.index ≡ own.count
   count-is own e = subst (λ (held : Option Held). KnowsCount s.filled held) e x.holds.count
 
-  holds-take : (b : ℕ) → May z a s (TakeBuffer b) → h.held ≡ None → Holds (buffers_of (moved z a s (TakeBuffer b)).words s.filled) a (Some (record { index = b; count = s.filled b }))
+  holds-take : (b : ℕ) → May z a s (TakeBuffer b) → h.held ≡ None → HoldsBuffer (buffers_as_held (moved z a s (TakeBuffer b)).words s.filled) a (Some (record { index = b; count = s.filled b }))
   holds-take b may none = record { only = only; count = refl } where
     nobody : (d : ℕ) → holder_in (s.words (cell.Buffer d)) ≡ a + 1 → ⊥
     nobody d e = subst (λ (held : Option Held). IsIt held d) none ((x.holds.only d).0 e)
@@ -145,7 +145,7 @@ module _ (z : Cycle) (a : ℕ) (s : Shared) (h : InHand) (g : Good z s) (x : Han
       | inr n ↦ rw (n.0) ((λ e. absurd (nobody d e)), (λ e. absurd (n.1 e)))
     ]
 
-  holds-give : (own : Held) → h.held ≡ Some own → Holds (buffers_of (moved z a s (GiveBuffer own.index)).words s.filled) a None
+  holds-give : (own : Held) → h.held ≡ Some own → HoldsBuffer (buffers_as_held (moved z a s (GiveBuffer own.index)).words s.filled) a None
   holds-give own e = record { only = only; count = tt } where
     none : s.filled own.index / 256 ≡ a + 1 → ⊥
     none k = omega (arith, k, g.counts.few own.index)
@@ -156,10 +156,10 @@ module _ (z : Cycle) (a : ℕ) (s : Shared) (h : InHand) (g : Good z s) (x : Han
       | inr n ↦ rw (n.0) ((λ k. n.1 ((only-one own e d).0 k)), (λ k. absurd k))
     ]
 
-  holds-enter : (own : Held) (entry : ℕ → Row) → h.held ≡ Some own → Holds (record { words = (buffers_of s.words s.filled).words; entries = entry; filled = update s.filled own.index (s.filled own.index + 1) }) a (Some (record { index = own.index; count = own.count + 1 }))
+  holds-enter : (own : Held) (entry : ℕ → Row) → h.held ≡ Some own → HoldsBuffer (record { words = (buffers_as_held s.words s.filled).words; entries = entry; filled = update s.filled own.index (s.filled own.index + 1) }) a (Some (record { index = own.index; count = own.count + 1 }))
   holds-enter own entry e = record { only = only-one own e; count = grind (arith, nat_tests, count-is own e) }
 
-  holds-less : (own : Held) → h.held ≡ Some own → Holds (buffers_of s.words (update s.filled own.index (s.filled own.index - 1))) a (Some (record { index = own.index; count = own.count - 1 }))
+  holds-less : (own : Held) → h.held ≡ Some own → HoldsBuffer (buffers_as_held s.words (update s.filled own.index (s.filled own.index - 1))) a (Some (record { index = own.index; count = own.count - 1 }))
   holds-less own e = record { only = only-one own e; count = grind (arith, nat_tests, count-is own e) }
 
 pub hands-follow : EachHandFollows

@@ -2,9 +2,9 @@
 use Rattle.std.proofs.Common.{◌≡◌, ℕ, ◌+◌, refl, sym, ◌∙◌, inl, inr, ◌⊎◌, Option, Some, None}
 use Rattle.gh_base.specs.declared.cell.Cell.TheVariants as cell
 use Rattle.gh_base.specs.declared.held.Held.{Held}
-use Rattle.gh_base.specs.Holding.{Holds, KnowsCount}
+use Rattle.gh_base.specs.Holding.{HoldsBuffer, KnowsCount}
 use Rattle.gh_base.specs.Rows.{Row, mark_words}
-use Rattle.gh_marks.specs.Colours.{Cycle, Extents, IsClean, IsMarked, IsPointer, Shared, buffers_of}
+use Rattle.gh_marks.specs.Colours.{Cycle, Extents, IsClean, IsMarked, IsPointer, Shared, buffers_as_held}
 use Rattle.gh_marks.specs.Laws.{EachFactLasts, EachHandLasts, EachMoveKeeps, EachMoveLeaves, EachMoveLeavesTheDead, EachStepGoesByMoves, StepsGoByMoves}
 use Rattle.gh_marks.specs.Moves.{Keeps, Others, SameExtent, goes, moved, stays}
 use Rattle.gh_marks.proofs.Leaves.{iff-then, others-same, same-iff}
@@ -75,7 +75,7 @@ hands-last z a s t h o x = record {
     is_read = λ i v. iff-then (x.has.is_read i v) (o.read i v);
   };
 } where
-  count : (held : Option Held) → Holds (buffers_of s.words s.filled) a held → KnowsCount t.filled held
+  count : (held : Option Held) → HoldsBuffer (buffers_as_held s.words s.filled) a held → KnowsCount t.filled held
   count None y = tt
   count (Some own) y = o.filled own.index ((y.only own.index).1 refl) ∙ y.count
 

@@ -8,7 +8,7 @@ use Rattle.gh_base.specs.Holding as holding
 use Rattle.gh_base.specs.Rows.{RowsAreWritten, alloc_words, global_words, mark_words}
 use Rattle.gh_heap.specs.Moves.{update}
 use Rattle.gh_tri.specs.Steps.{EachStepKeepsTheInvariants}
-use Rattle.gh_marks.specs.Colours.{Black, Buffered, Colour, Cycle, IsSince, Pending, Placing, Shared, Taken, White, buffers_of, entry_words, mark_of}
+use Rattle.gh_marks.specs.Colours.{Black, Buffered, Colour, Cycle, IsSince, Pending, Placing, Shared, Taken, White, buffers_as_held, entry_words, mark_of}
 use Rattle.gh_marks.specs.Good.{CursorGood, EntriesGood, Good, MarksGood, ObjectsGood, PassesGood, StacksGood}
 use Rattle.gh_marks.specs.Moves.{Blacken, Enter, GiveBuffer, May, MayShade, Move, PutField, PutGlobal, Quiet, Reserve, Shade, ShadeAgain, ShadeFlat, TakeBuffer, TakeEntry, moved, set_mark}
 use Rattle.gh_marks.specs.Picture.{IsDrawn}
@@ -36,8 +36,8 @@ module _ (know : Known) (z : Cycle) (a : ℕ) (s : Shared) (g : Good z s) where
       let d : IsDrawn z (moved z a s m) p.picture room = each-move-is-drawn z a s m p.at p.picture room g may p.shows p.room_left in
       record { picture = d.picture; at = d.at; shows = d.shows; invariants = know.steps p.picture d.picture d.goes p.invariants; room_left = d.room_left }
 
-  counts : (m : holding.Move) → holding.May a (buffers_of s.words s.filled) m → AreCounted (holding.moved a (buffers_of s.words s.filled) m)
-  counts m may = (know.held.keep a (buffers_of s.words s.filled) m g.counts may).counted
+  counts : (m : holding.Move) → holding.May a (buffers_as_held s.words s.filled) m → AreCounted (holding.moved a (buffers_as_held s.words s.filled) m)
+  counts m may = (know.held.keep a (buffers_as_held s.words s.filled) m g.counts may).counted
 
   pub good-quiet : (step : _) → Kept (Quiet step)
   good-quiet step may = record {

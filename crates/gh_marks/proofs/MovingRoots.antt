@@ -8,7 +8,7 @@ use Rattle.gh_base.specs.Packing.{bit}
 use Rattle.gh_base.specs.Rows.{field_words, global_words, mark_words}
 use Rattle.gh_heap.specs.Moves.{update}
 use Rattle.gh_marks.specs.Colours.{Black, Buffered, Cycle, IsPointer, IsSince, Placing, Shared, entry_words, scanned_words}
-use Rattle.gh_marks.specs.Good.{Good, ValuesGood, count_of}
+use Rattle.gh_marks.specs.Good.{Good, ValuesGood, seats_among}
 use Rattle.gh_marks.specs.Laws.{EachMoveKeeps}
 use Rattle.gh_marks.specs.Moves.{Blacken, ClaimGlobal, EndStack, Enter, GiveBuffer, May, Move, PassGlobals, Place, PutField, PutGlobal, Quiet, ReadGlobal, Reserve, ScanGlobal, ScanStack, SetRegister, Shade, ShadeAgain, ShadeFlat, TakeBuffer, TakeEntry, moved}
 use Rattle.gh_marks.proofs.Bits.{alloc-other, alloc-same, marked-again}
@@ -16,15 +16,15 @@ use Rattle.gh_marks.proofs.Keeps.{entries-apart, stacks-set, values-set}
 use Rattle.gh_marks.proofs.Moving.{Known, good-again, good-blacken, good-enter, good-flat, good-give_buffer, good-put_field, good-put_global, good-quiet, good-reserve, good-shade, good-take_buffer, good-take_entry, pictured}
 
 -- one seat more is counted, and no seat behind those counted matters
-count-behind : (passed : ℕ → Bool) (a n : ℕ) → n ≤ a → count_of (update passed a true) n ≡ count_of passed n
+count-behind : (passed : ℕ → Bool) (a n : ℕ) → n ≤ a → seats_among (update passed a true) n ≡ seats_among passed n
 count-behind passed a zero le = refl
-count-behind passed a (suc n) le = elim (eqb_tells a n) [ inl y ↦ absurd (omega (arith, y.1)) | inr m ↦ (let same : count_of (update passed a true) n ≡ count_of passed n = count-behind passed a n (omega arith) in rw (m.0) (ap (λ (c : ℕ). c + bit (passed n)) same)) ]
+count-behind passed a (suc n) le = elim (eqb_tells a n) [ inl y ↦ absurd (omega (arith, y.1)) | inr m ↦ (let same : seats_among (update passed a true) n ≡ seats_among passed n = count-behind passed a n (omega arith) in rw (m.0) (ap (λ (c : ℕ). c + bit (passed n)) same)) ]
 
-count-passed : (passed : ℕ → Bool) (a n : ℕ) → a < n → passed a ≡ false → count_of (update passed a true) n ≡ count_of passed n + 1
+count-passed : (passed : ℕ → Bool) (a n : ℕ) → a < n → passed a ≡ false → seats_among (update passed a true) n ≡ seats_among passed n + 1
 count-passed passed a zero lt first = absurd (omega arith)
 count-passed passed a (suc n) lt first = elim (eqb_tells a n) [
-  | inl y ↦ (let same : count_of (update passed a true) n ≡ count_of passed n = count-behind passed a n (omega (arith, y.1)) in let none : passed n ≡ false = ap passed (sym y.1) ∙ first in rw (y.0, none, same) (omega arith))
-  | inr m ↦ (let more : count_of (update passed a true) n ≡ count_of passed n + 1 = count-passed passed a n (omega (arith, m.1)) first in rw (m.0, more) (omega arith))
+  | inl y ↦ (let same : seats_among (update passed a true) n ≡ seats_among passed n = count-behind passed a n (omega (arith, y.1)) in let none : passed n ≡ false = ap passed (sym y.1) ∙ first in rw (y.0, none, same) (omega arith))
+  | inr m ↦ (let more : seats_among (update passed a true) n ≡ seats_among passed n + 1 = count-passed passed a n (omega (arith, m.1)) first in rw (m.0, more) (omega arith))
 ]
 
 module _ (know : Known) (z : Cycle) (a : ℕ) (s : Shared) (g : Good z s) where

@@ -10,7 +10,7 @@ use Rattle.gh_base.specs.Cells.{Words, put}
 use Rattle.gh_base.specs.Rows.{Row, alloc_words, buffer_words, global_words, mark_words}
 use Rattle.gh_base.specs.Steps.{effect}
 use Rattle.gh_marks.specs.Colours.{IsPointer, Shared, entry_words, scanned_words}
-use Rattle.gh_marks.specs.Moves.{IsAside, IsQuiet}
+use Rattle.gh_marks.specs.Moves.{IsAside, IsQuietInMarking}
 
 -- the rows that marking reads, save that of the fields
 pub record ReadRows : Type 0 where
@@ -53,7 +53,7 @@ put-aside s (cell.Ack i) v q = record { rows_are = refl; fields = λ o k i l. re
 put-aside s (cell.Scanned g) v q = absurd q
 put-aside s _ v q = record { rows_are = refl; fields = λ o k i l. refl }
 
-pub unread : (s : Shared) (step : Ask) → IsQuiet s step → Unread s (effect s.words step)
+pub unread : (s : Shared) (step : Ask) → IsQuietInMarking s step → Unread s (effect s.words step)
 unread s (ask.Load c) q = same s
 unread s (ask.Store c v) q = put-aside s c v q
 unread s (ask.Or c v) q = put-aside s c (bit_or (s.words c) v) q

@@ -12,13 +12,13 @@ use Rattle.gh_base.specs.Steps.{effect}
 use Rattle.gh_heap.specs.Rights.{WordsGood as AreWords}
 use Rattle.gh_marks.specs.Colours.{Cycle, Shared}
 use Rattle.gh_marks.specs.Laws.{MarksStayWords}
-use Rattle.gh_marks.specs.Moves.{IsAside, IsQuiet, May, Move, moved, Quiet, Reserve, set_mark, Shade, ShadeAgain, ShadeFlat, with_bit}
+use Rattle.gh_marks.specs.Moves.{IsAside, IsQuietInMarking, May, Move, moved, Quiet, Reserve, set_mark, Shade, ShadeAgain, ShadeFlat, with_bit}
 
 put_aside : (s : Shared) (c : Cell) (v i : ℕ) → IsAside s c → put s.words c v (cell.Mark i) ≡ s.words (cell.Mark i)
 put_aside s (cell.Mark p) v i q = absurd q
 put_aside s _ v i q = refl
 
-quiet_marks : (s : Shared) (step : Ask) (i : ℕ) → IsQuiet s step → effect s.words step (cell.Mark i) ≡ s.words (cell.Mark i)
+quiet_marks : (s : Shared) (step : Ask) (i : ℕ) → IsQuietInMarking s step → effect s.words step (cell.Mark i) ≡ s.words (cell.Mark i)
 quiet_marks s (ask.Load c) i q = refl
 quiet_marks s (ask.Store c v) i q = put_aside s c v i q
 quiet_marks s (ask.Or c v) i q = put_aside s c (bit_or (s.words c) v) i q

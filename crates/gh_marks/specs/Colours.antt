@@ -64,8 +64,8 @@ abbrev pub scanned_words : Words → Row
 scanned_words words g = words (cell.Scanned g)
 
 -- the buffers, as gh_base speaks of who holds which
-abbrev pub buffers_of : Words → Row → Buffers
-buffers_of words filled = record { words = buffer_words words; entries = entry_words words; filled = filled }
+abbrev pub buffers_as_held : Words → Row → Buffers
+buffers_as_held words filled = record { words = buffer_words words; entries = entry_words words; filled = filled }
 
 -- the rows that paths are made of
 pub record Rows : Type 0 where
@@ -119,11 +119,11 @@ IsShaded (Taken a) = Unit {0}
 IsShaded Black = Unit {0}
 
 -- the global is not scanned yet
-abbrev pub Waits : Progress → Type 0
-Waits Untouched = Unit {0}
-Waits (Claimed a) = Unit {0}
-Waits (Read a v) = Unit {0}
-Waits Scanned = ⊥
+abbrev pub GlobalWaits : Progress → Type 0
+GlobalWaits Untouched = Unit {0}
+GlobalWaits (Claimed a) = Unit {0}
+GlobalWaits (Read a v) = Unit {0}
+GlobalWaits Scanned = ⊥
 
 -- word k of the object is a pointer field
 abbrev pub IsPointer : Extents → (o k : ℕ) → Type 0
@@ -132,7 +132,7 @@ IsPointer e o k = (k < e.size o) × (e.pointer o k ≡ true) × (e.noscan o ≡ 
 -- A white object that marking will still find: a path through white objects leads to it from a field of a grey object or from a global that is not scanned. A stack that is scanned may hold such an object, though nothing will look at the stack again.
 pub data Protected (globals : ℕ) (r : Rows) : ℕ → Type 0 where
   from_grey : (p k o : ℕ) → IsGrey (r.colour p) → IsPointer r.extents p k → r.field (p + k) ≡ o + 1 → row_bit r.mark o ≡ 0 → Protected globals r o
-  from_global : (i o : ℕ) → Waits (r.progress i) → i < globals → r.global i ≡ o + 1 → row_bit r.mark o ≡ 0 → Protected globals r o
+  from_global : (i o : ℕ) → GlobalWaits (r.progress i) → i < globals → r.global i ≡ o + 1 → row_bit r.mark o ≡ 0 → Protected globals r o
   from_white : (p k o : ℕ) → Protected globals r p → IsPointer r.extents p k → r.field (p + k) ≡ o + 1 → row_bit r.mark o ≡ 0 → Protected globals r o
 
 -- marked or protected

@@ -28,7 +28,7 @@ pub record Opens (z : Cycle) (s : Shared) : Type 0 where
   pub registers : (g d : ℕ) → IsSince s.since (s.registers g d)
 
 -- What the coordinator finds at the end of marking, while each seat has acknowledged a stop, with nothing in hand: no buffer that nobody holds has an entry, the cursor is past the last global, and no stack's word is that of a cycle before. The seats gave their buffers back before they acknowledged, so it has to look after that: an entry that a seat still held would be seen by nobody.
-pub record IsFound (z : Cycle) (s : Shared) : Type 0 where
+pub record IsFoundAtTheEnd (z : Cycle) (s : Shared) : Type 0 where
   pub seats : (a : ℕ) → Hands a s nothing
   pub empty : (b : ℕ) → holder_in (s.words (cell.Buffer b)) ≡ 0 → (buffer_of (s.words (cell.Buffer b))).count ≡ 0
   pub cursor : z.arena.layout.globals ≤ s.words cell.Gcur

@@ -6,7 +6,7 @@ use Rattle.gh_base.specs.Cells.{seats_of}
 use Rattle.gh_base.specs.Holding.{AreCounted}
 use Rattle.gh_base.specs.Packing.{bit}
 use Rattle.gh_base.specs.Rows.{Row, row_bit, alloc_words, field_words, global_words, mark_words}
-use Rattle.gh_marks.specs.Colours.{Buffered, Colour, Cycle, Extents, IsClean, IsGrey, IsPointer, IsShaded, IsSince, Placing, Progress, Read, Shared, Untouched, buffers_of, entry_words, mark_of, scanned_words}
+use Rattle.gh_marks.specs.Colours.{Buffered, Colour, Cycle, Extents, IsClean, IsGrey, IsPointer, IsShaded, IsSince, Placing, Progress, Read, Shared, Untouched, buffers_as_held, entry_words, mark_of, scanned_words}
 use Rattle.gh_marks.specs.Shows.{IsPictured}
 
 -- A heap word's mark bit is set exactly where its colour is not white.
@@ -42,14 +42,14 @@ pub record CursorGood (globals gcur : ℕ) (global : Row) (progress : ℕ → Pr
   pub read : (i a v : ℕ) → progress i ≡ Read a v → (global i ≡ v) ⊎ IsClean mark (global i)
 
 -- how many of the first so many seats these are
-abbrev pub count_of : (ℕ → Bool) → (seats : ℕ) → ℕ
-count_of passed zero = 0
-count_of passed (suc n) = count_of passed n + bit (passed n)
+abbrev pub seats_among : (ℕ → Bool) → (seats : ℕ) → ℕ
+seats_among passed zero = 0
+seats_among passed (suc n) = seats_among passed n + bit (passed n)
 
 -- A seat raises the cursor past the last global at most once in a cycle, since it looks at the cursor before: so the cursor's word never begins anew.
 pub record PassesGood (globals seats gcur : ℕ) (passed : ℕ → Bool) : Type 0 where
   pub behind : (a : ℕ) → passed a ≡ true → globals < gcur
-  pub few : gcur ≤ globals + count_of passed seats
+  pub few : gcur ≤ globals + seats_among passed seats
 
 -- The stack of a goroutine that has ended holds nothing.
 pub record StacksGood (number : ℕ) (scanned : Row) (registers : ℕ → Row) : Type 0 where
@@ -60,7 +60,7 @@ pub record StacksGood (number : ℕ) (scanned : Row) (registers : ℕ → Row) :
 pub record Good (z : Cycle) (s : Shared) : Type 0 where
   pub marks : MarksGood (mark_words s.words) s.colour
   pub objects : ObjectsGood (alloc_words s.words) s.colour s.since s.extents
-  pub counts : AreCounted (buffers_of s.words s.filled)
+  pub counts : AreCounted (buffers_as_held s.words s.filled)
   pub entries : EntriesGood (entry_words s.words) s.filled s.colour
   pub values : ValuesGood s.extents (field_words s.words) (global_words s.words) s.registers s.since
   pub cursor : CursorGood z.arena.layout.globals (s.words cell.Gcur) (global_words s.words) s.progress (mark_words s.words)

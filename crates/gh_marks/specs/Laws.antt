@@ -7,7 +7,7 @@ use Rattle.gh_base.specs.Cells.{opening_words}
 use Rattle.gh_base.specs.Rows.{mark_words, row_bit}
 use Rattle.gh_heap.specs.Rights.{IsOf, WordsGood as AreWords}
 use Rattle.gh_marks.specs.Colours.{Cycle, IsClean, IsPointer, IsSince, Shared}
-use Rattle.gh_marks.specs.Ends.{EachReachedIsMarked, IsDone, IsFound, Opens}
+use Rattle.gh_marks.specs.Ends.{EachReachedIsMarked, IsDone, IsFoundAtTheEnd, Opens}
 use Rattle.gh_marks.specs.Good.{Good}
 use Rattle.gh_marks.specs.Moves.{Blacken, ClaimGlobal, EndStack, Enter, GiveBuffer, IsDead, Keeps, LeavesStacks, May, Move, Others, PassGlobals, Place, PutField, PutGlobal, Quiet, ReadGlobal, Reserve, ScanGlobal, ScanStack, SetRegister, Shade, ShadeAgain, ShadeFlat, TakeBuffer, TakeEntry, Went, moved}
 use Rattle.gh_marks.specs.Seats.{ClaimOf, Hands, InHand, NoClaim, ReadOf, nothing}
@@ -103,7 +103,7 @@ MarkingBegins = (z : Cycle) (s : Shared) → Opens z s → Begins z s
 
 -- The end of marking. Where the coordinator finds all as it should be, nothing is left to be marked; and then each object that a path leads to is marked: so it is in the picture.
 abbrev pub WhatIsFoundIsDone : Type 0
-WhatIsFoundIsDone = (z : Cycle) (s : Shared) → Good z s → IsFound z s → IsDone z s
+WhatIsFoundIsDone = (z : Cycle) (s : Shared) → Good z s → IsFoundAtTheEnd z s → IsDone z s
 
 abbrev pub MarkingEndsClean : Type 0
 MarkingEndsClean = (z : Cycle) (s : Shared) → Good z s → IsDone z s → EachReachedIsMarked z s

@@ -60,9 +60,9 @@ IsAside s (cell.Entry b j) = ⊥
 IsAside s (cell.Scanned g) = ⊥
 IsAside s _ = Unit {0}
 
-abbrev pub IsQuiet : Shared → Ask → Type 0
-IsQuiet s (ask.Load c) = Unit {0}
-IsQuiet s step = IsAside s (cell_of step)
+abbrev pub IsQuietInMarking : Shared → Ask → Type 0
+IsQuietInMarking s (ask.Load c) = Unit {0}
+IsQuietInMarking s step = IsAside s (cell_of step)
 
 -- the bit of heap word o in its word of a row
 abbrev pub with_bit : (word o : ℕ) → ℕ
@@ -173,7 +173,7 @@ pub record MayPlace (z : Cycle) (a : ℕ) (s : Shared) (o size : ℕ) (pointer :
   pub clear : (k : ℕ) → k < size → pointer k ≡ true → s.words (cell.Field (o + k)) ≡ 0
 
 abbrev pub May : Cycle → (a : ℕ) → Shared → Move → Type 0
-May z a s (Quiet step) = IsQuiet s step
+May z a s (Quiet step) = IsQuietInMarking s step
 May z a s (Shade o) = MayShade s o × (s.extents.noscan o ≡ false)
 May z a s (ShadeFlat o) = MayShade s o × (s.extents.noscan o ≡ true)
 May z a s (ShadeAgain o) = IsMarked (mark_words s.words) o

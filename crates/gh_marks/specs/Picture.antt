@@ -3,7 +3,7 @@ use Rattle.std.specs.Prelude.{◌≡◌, ℕ, ◌+◌, ◌<◌, ◌≤◌}
 use Rattle.gh_base.specs.declared.cell.Cell.TheVariants as cell
 use Rattle.gh_base.specs.declared.limits.TheConstants.{REGISTERS}
 use Rattle.gh_base.specs.Rows.{Row, mark_words}
-use Rattle.gh_tri.specs.Invariants.{Invariants, IsMarkingDone, IsOpening}
+use Rattle.gh_tri.specs.Invariants.{Invariants, IsMarkingDone, IsOpeningPicture}
 use Rattle.gh_tri.specs.Steps.{Goes}
 use Rattle.gh_tri.specs.Tricolour.{Tricolour}
 use Rattle.gh_marks.specs.Colours.{Black, Cycle, IsClean, IsPointer, IsSafe, Scanned, Shared, rows}
@@ -36,7 +36,7 @@ EachStepIsDrawn = (z : Cycle) (a : ℕ) (s t : Shared) (went : Went z a s t) (at
 -- Where a cycle begins it is drawn, from a picture as at a cycle's begin: the stacks of goroutines that have ended are scanned first.
 pub record BeginsDrawn (z : Cycle) (s : Shared) (room : ℕ) : Type 0 where
   pub first : Tricolour
-  pub opens : IsOpening first
+  pub opens : IsOpeningPicture first
   pub drawn : IsDrawn z s first room
 
 abbrev pub CyclesBeginDrawn : Type 0

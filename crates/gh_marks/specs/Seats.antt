@@ -1,9 +1,9 @@
 -- What a seat has in hand. Each thing is tied to the shared state both ways, so that nothing has to be counted: what no seat says that it has, nobody has.
 use Rattle.std.specs.Prelude.{◌≡◌, ℕ, ◌<◌, ◌↔◌, Option, Some, None}
 use Rattle.gh_base.specs.declared.held.Held.{Held}
-use Rattle.gh_base.specs.Holding.{Holds}
+use Rattle.gh_base.specs.Holding.{HoldsBuffer}
 use Rattle.gh_base.specs.Rows.{Row}
-use Rattle.gh_marks.specs.Colours.{Claimed, Colour, IsClean, Pending, Placing, Progress, Read, Shared, Taken, buffers_of}
+use Rattle.gh_marks.specs.Colours.{Claimed, Colour, IsClean, Pending, Placing, Progress, Read, Shared, Taken, buffers_as_held}
 
 -- a global that the seat has claimed, or whose value it has read
 pub data Claim : Type 0 where
@@ -32,7 +32,7 @@ pub record Has (colour : ℕ → Colour) (progress : ℕ → Progress) (a : ℕ)
 
 -- and the words of the buffers
 pub record Hands (a : ℕ) (s : Shared) (h : InHand) : Type 0 where
-  pub holds : Holds (buffers_of s.words s.filled) a h.held
+  pub holds : HoldsBuffer (buffers_as_held s.words s.filled) a h.held
   pub has : Has s.colour s.progress a h.pending h.scanning h.placing h.claim
 
 -- the first few of a row, or of the words of an object, are clean

@@ -95,14 +95,14 @@ with_end e g = record e { ended = λ h. if h == g then true else e.ended h }
 
 -- What a statement answers. The faults are looked for in the order nil base, field, kind.
 
-abbrev pub told : EverValue → Answer
-told values.Nil = answers.Nil
-told (values.Int n) = answers.Int n
-told (values.Ref n) = answers.Ref n
+abbrev pub answer_of_value : EverValue → Answer
+answer_of_value values.Nil = answers.Nil
+answer_of_value (values.Int n) = answers.Int n
+answer_of_value (values.Ref n) = answers.Ref n
 
 -- a load of field k through the value
 abbrev pub load_answer : List Shape → Ever → EverValue → ℕ → Answer
-load_answer shapes e (values.Ref n) k = if has_field shapes e n k then told (e.field n k) else answers.Fault Field
+load_answer shapes e (values.Ref n) k = if has_field shapes e n k then answer_of_value (e.field n k) else answers.Fault Field
 load_answer shapes e _ k = answers.Fault NilBase
 
 -- a store of v in field k through the value
@@ -114,7 +114,7 @@ abbrev pub answer_of : List Shape → Ever → Op → Answer
 answer_of shapes e (New g d t) = answers.Ref (next_name e g)
 answer_of shapes e (Load g d b k) = load_answer shapes e (e.register g b) k
 answer_of shapes e (Store g b k v) = store_answer shapes e (e.register g b) k (e.register g v)
-answer_of shapes e (GetGlobal g d k) = told (e.global k)
+answer_of shapes e (GetGlobal g d k) = answer_of_value (e.global k)
 answer_of shapes e (SetGlobal g k v) = if is_number (e.register g v) then answers.Fault Kind else answers.Done
 answer_of shapes e (Int g d n) = answers.Done
 answer_of shapes e (Move g d s) = answers.Done

@@ -9,7 +9,7 @@ use Rattle.gh_alloc.specs.declared.sought.Sought.TheVariants.{Small, Large}
 use Rattle.gh_mutator.specs.Cached.{SoundCached}
 use Rattle.gh_mutator.specs.GiveSound.{FitsCache}
 use Rattle.gh_mutator.specs.Listing.{applied, follows}
-use Rattle.gh_mutator.specs.Local.{cache_with, register_in, stacks_with}
+use Rattle.gh_mutator.specs.Local.{cache_with, register_in_stacks, stacks_with}
 use Rattle.gh_mutator.specs.declared.poll.Local.{Local}
 use Rattle.gh_mutator.specs.PollSound.{FitsLocal}
 use Rattle.gh_mutator.specs.Processor.{at_poll, at_task, taking}
@@ -18,7 +18,7 @@ use Rattle.gh_base.specs.Reading.{read_after_set}
 use Rattle.gh_mutator.proofs.Steps.{GoesTo, SetsNear, StepSound}
 
 -- what holds of a value that a register takes, and of what all registers held before
-pub registers_after : (P : Value → Type 0) (stacks : List (List Value)) (g d i j : ℕ) (v : Value) → P v → P value.Nil → P (register_in stacks i j) → ((e : ℕ) → P (register_in stacks g e)) → P (register_in (stacks_with stacks g d v) i j)
+pub registers_after : (P : Value → Type 0) (stacks : List (List Value)) (g d i j : ℕ) (v : Value) → P v → P value.Nil → P (register_in_stacks stacks i j) → ((e : ℕ) → P (register_in_stacks stacks g e)) → P (register_in_stacks (stacks_with stacks g d v) i j)
 registers_after P stacks g d i j v new nil old own =
     read_after_set (λ (stack : List Value). P (get_or stack j value.Nil)) stacks g i (set (get_or stacks g []) d v) [] (λ e. read_after_set P (get_or stacks g []) d j v value.Nil (λ f. new) (own j)) old
 

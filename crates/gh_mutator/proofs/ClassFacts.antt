@@ -1,7 +1,7 @@
 -- Facts of all size classes, and of what an object of a type wants.
 use Rattle.std.proofs.Common.{◌≡◌, ℕ, ◌*◌, ◌/◌, ◌%◌, ◌^◌, ◌<◌, ◌≤◌, Bool, true, false, cond, leb, List, length, refl, subst, arith}
 use Rattle.gh_alloc.specs.FindSound.{IsSought}
-use Rattle.gh_alloc.specs.Within.{words_of}
+use Rattle.gh_alloc.specs.Within.{words_sought}
 use Rattle.gh_alloc.specs.declared.sought.Sought.{Sought}
 use Rattle.gh_alloc.specs.declared.sought.Sought.TheVariants.{Large, Small}
 use Rattle.std.proofs.lemmas.Bool.{leb-true}
@@ -87,7 +87,7 @@ wanted_sound laws shapes g d t fit there register =
     wanted_sound_at laws (leb (8 * (shape_at shapes t).words) 32768) shapes g d t (shape_at shapes t).words (shape_at shapes t).noscan refl (fit t there).some_word (fit t there).few_words there register
 
 -- the words of a slot that is sought are fewer than 2^23
-pub sought_small : ClassLaws → (w : Sought) → IsSought w → words_of w < 2 ^ 23
+pub sought_small : ClassLaws → (w : Sought) → IsSought w → words_sought w < 2 ^ 23
 sought_small laws (Small c) is = let most = laws.greatest_slot c.class is in omega (arith, most)
 sought_small laws (Large pages noscan) is = let few = is.1 in omega (arith, few)
 

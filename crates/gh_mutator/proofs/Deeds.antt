@@ -31,7 +31,7 @@ use Rattle.gh_mutator.specs.Leave as leave
 use Rattle.gh_mutator.specs.Listing.{Act, acting, acts, acts_at, begins_at, op_at}
 use Rattle.gh_mutator.specs.Load as load
 use Rattle.gh_mutator.specs.Local.{is_mark, marking_at}
-use Rattle.gh_mutator.specs.New.{op_of as new_op, refuses, searches, unacted}
+use Rattle.gh_mutator.specs.New.{op_of as new_op, refuses_behind_wait, searches, unacted}
 use Rattle.gh_mutator.specs.Poll as poll
 use Rattle.gh_mutator.specs.Step.{ends, goes_on}
 use Rattle.gh_mutator.specs.Store as store
@@ -106,7 +106,7 @@ module _ (shapes : List Shape) (m : Processor) where
 
   search_acts : (w : Wanted) (waited : Bool) (s : Seeking) (found : ℕ) → ActsAt (searches w waited s) found
   search_acts w waited s found = go waited (search.gives s found) where
-    go : (b : Bool) (out : Option Found) → ActsOnce (Some (new_op w)) (op_at (after_search shapes (cache_span m w.sought (search.goes s found).find.cached) w b (search.goes s found) out).task) (acting (refuses b out) (new_op w) true)
+    go : (b : Bool) (out : Option Found) → ActsOnce (Some (new_op w)) (op_at (after_search shapes (cache_span m w.sought (search.goes s found).find.cached) w b (search.goes s found) out).task) (acting (refuses_behind_wait b out) (new_op w) true)
     go true None = refl
     go false None = refl
     go true (Some (At a)) = refl
@@ -121,7 +121,7 @@ module _ (shapes : List Shape) (m : Processor) where
 
   -- the making is at q, and then at n
   abbrev PlaceActs : Wanted → Placing → (q n : PlaceStage) → Type 0
-  PlaceActs w p q n = ActsOnce (unacted w (Place (place.at_stage p q))) (op_at (after_place m w (place.acts_at q) p.at (place.at_stage p n)).task) (acting (place.acts_at q) (new_op w) false)
+  PlaceActs w p q n = ActsOnce (unacted w (Place (place.at_stage p q))) (op_at (after_place m w (place.makes_its_object_at q) p.at (place.at_stage p n)).task) (acting (place.makes_its_object_at q) (new_op w) false)
 
   -- behind it an assist may run, for which nothing is to act any more
   then_none : (w : Wanted) (p : Placing) (marking : Bool) → op_at (cond marking (assists w p.name (assisting m.poll w)) task.Idle) ≡ None

@@ -10,7 +10,7 @@ use Rattle.gh_class.specs.declared.class.SizeClass.{SizeClass}
 use Rattle.gh_class.specs.declared.class.SizeClass.TheVariants.{Small, Large}
 use Rattle.gh_class.specs.Classes.{IsSizeClass}
 use Rattle.gh_mutator.specs.Fields.{has_field, value_of}
-use Rattle.gh_mutator.specs.Sound.{IsField, IsNear}
+use Rattle.gh_mutator.specs.Sound.{IsFieldNumber, IsNear}
 use Rattle.gh_mutator.proofs.ClassFacts.{ClassLaws}
 
 pub value_near : (pages : ℕ) (pointer : Bool) (found : ℕ) → 1 ≤ pages → IsNear pages (value_of pages pointer found)
@@ -48,5 +48,5 @@ slot_in-few laws word = go (eqb (word % 4) 1) (eqb (word % 4) 2) where
   go false false = slot_for-few laws (Small 0) 1 (omega arith) (omega arith)
 
 -- a field that is there is one of a slot
-pub field_there : ClassLaws → (k found : ℕ) → has_field k found ≡ true → IsField k
+pub field_there : ClassLaws → (k found : ℕ) → has_field k found ≡ true → IsFieldNumber k
 field_there laws k found e = omega (arith, ltb-true k (slot_in (page_of found)) e, slot_in-few laws found)

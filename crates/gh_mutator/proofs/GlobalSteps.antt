@@ -6,7 +6,7 @@ use Rattle.gh_base.specs.declared.layout.Layout.{Layout}
 use Rattle.gh_base.specs.declared.value.Value.{Value}
 use Rattle.gh_base.specs.declared.value.Value.TheVariants as value
 use Rattle.gh_barrier.specs.declared.pointer_cell.PointerCell.TheVariants as pointer_cell
-use Rattle.gh_barrier.specs.Ending.{left as write_left, WritingEnds}
+use Rattle.gh_barrier.specs.Ending.{write_left, WritingEnds}
 use Rattle.gh_barrier.specs.Stays as write_proved
 use Rattle.gh_barrier.specs.Listing.{Writing as PointerWrite}
 use Rattle.gh_barrier.specs.Listing as write
@@ -17,7 +17,7 @@ use Rattle.gh_mutator.specs.declared.poll.Local.{Local}
 use Rattle.gh_mutator.specs.declared.step.Then.{Then}
 use Rattle.gh_mutator.specs.Barrier.{held_then, with_held, written}
 use Rattle.gh_mutator.specs.Faults.{is_load}
-use Rattle.gh_mutator.specs.Fields.{takes, told, value_of}
+use Rattle.gh_mutator.specs.Fields.{takes, value_of, value_told}
 use Rattle.gh_mutator.specs.Global.{after_write, asks, asks_at, at_stage, begins_store, held_behind, naming, step, step_at}
 use Rattle.gh_mutator.specs.Local.{is_mark}
 use Rattle.gh_mutator.specs.Poll.{Polling}
@@ -53,7 +53,7 @@ module _ (p : Polling) where
     abbrev RoomThen : Option Held → Global → Type 0
     RoomThen h y = GlobalRoom (with_held p h) y.stage
 
-    value_room : (v : Value) → GoesTo (RoomThen p.local.held) (told (naming x) v)
+    value_room : (v : Value) → GoesTo (RoomThen p.local.held) (value_told (naming x) v)
     value_room value.Nil = tt
     value_room (value.Int n) = tt
     value_room (value.Ref r) = tt
@@ -90,7 +90,7 @@ writes_on _ = true
 abbrev pub Left : (most : ℕ) → Then Global → Type 0
 Left most then = GoesTo (λ (y : Global). (writes_on y.stage ≡ true) × (left y + 1 ≤ most)) then
 
-value_nears : (x : Global) (v : Value) → Left 2 (told (naming x) v)
+value_nears : (x : Global) (v : Value) → Left 2 (value_told (naming x) v)
 value_nears x value.Nil = tt
 value_nears x (value.Int n) = tt
 value_nears x (value.Ref r) = (refl, omega arith)

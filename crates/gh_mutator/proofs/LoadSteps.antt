@@ -9,7 +9,7 @@ use Rattle.gh_mutator.specs.declared.load.Load.{Load}
 use Rattle.gh_mutator.specs.declared.load.LoadStage.{LoadStage}
 use Rattle.gh_mutator.specs.declared.load.LoadStage.TheVariants.{Page, Bits, Field, Birth, NilBase}
 use Rattle.gh_mutator.specs.Faults.{is_load}
-use Rattle.gh_mutator.specs.Fields.{has_field, is_pointer_by, takes, told, value_of}
+use Rattle.gh_mutator.specs.Fields.{has_field, is_pointer_by, takes, value_of, value_told}
 use Rattle.gh_mutator.specs.Load.{asks, asks_at, at_stage, begins, naming, step, step_at}
 use Rattle.gh_mutator.specs.Sound.{IsNear, IsRegister, SoundLoad, SoundLoadStage}
 use Rattle.gh_mutator.specs.Step.{ends, goes_on}
@@ -55,7 +55,7 @@ page_nears : (x : Load) (b : Bool) → GoesTo (λ (y : Load). left y + 1 ≤ 4) 
 page_nears x true = omega arith
 page_nears x false = tt
 
-value_nears : (x : Load) (v : Value) → GoesTo (λ (y : Load). left y + 1 ≤ 2) (told (naming x) v)
+value_nears : (x : Load) (v : Value) → GoesTo (λ (y : Load). left y + 1 ≤ 2) (value_told (naming x) v)
 value_nears x value.Nil = tt
 value_nears x (value.Int n) = tt
 value_nears x (value.Ref r) = omega arith

@@ -1,6 +1,9 @@
 -- Own steps of a new object: the search for its slot, the wait for a cycle, and the making of it.
-use Rattle.std.proofs.Common.{◌≡◌, ℕ, ◌+◌, ◌*◌, ◌%◌, ◌^◌, ◌<◌, ◌≤◌, Bool, true, false, cond, ltb, List, get_or, refl, sym, ◌∙◌, ap, subst, Option, Some, None, is_none, arith}
+use Rattle.std.proofs.Common.{◌≡◌, ℕ, ◌+◌, ◌*◌, ◌%◌, ◌^◌, ◌<◌, ◌≤◌, Bool, true, false, cond, ltb, IsTrue, List, get_or, refl, sym, ◌∙◌, ap, subst, Option, Some, None, is_none, arith}
+use Rattle.std.proofs.lemmas.List.{set-get_or}
+use Rattle.gh_base.specs.Reading.{set_twice}
 use Rattle.gh_base.specs.declared.value.Value.TheVariants as value
+use Rattle.gh_class.specs.Classes.{span_index}
 use Rattle.gh_cache.specs.Listing as slots
 use Rattle.gh_alloc.specs.declared.find.FindStage.TheVariants as finding
 use Rattle.gh_alloc.specs.declared.place.PlaceStage.TheVariants as making
@@ -12,7 +15,7 @@ use Rattle.gh_assist.specs.Listing as assist
 use Rattle.gh_assist.specs.Stays as assists_stay
 use Rattle.gh_mutator.specs.declared.task.Task.TheVariants as task
 use Rattle.gh_mutator.specs.declared.new.New.{New}
-use Rattle.gh_mutator.specs.Local.{marking_at}
+use Rattle.gh_mutator.specs.Local.{cache_with, cached_in, marking_at}
 use Rattle.gh_mutator.specs.New.{after_found, is_made, made_task, made_then, placing, searches, seeking, takes_at, waits, wants, with_payment}
 use Rattle.gh_mutator.specs.NewParts.{made_at, MakingFits}
 use Rattle.gh_mutator.specs.Poll.{Polling}
@@ -41,11 +44,11 @@ unmade_before p (making.LoadTrigger bytes) found e = absurd (cc)
 unmade_before p (making.Ended wants) found e = absurd (cc)
 unmade_before p _ found e = refl
 
-acts_unmade : (q : PlaceStage) → place.acts_at q ≡ true → is_made q ≡ false
+acts_unmade : (q : PlaceStage) → place.makes_its_object_at q ≡ true → is_made q ≡ false
 acts_unmade making.Alloc e = refl
 acts_unmade _ e = absurd (cc)
 
-made_after : (p : Placing) (q : PlaceStage) (found : ℕ) → place.acts_at q ≡ true → is_made (place.goes_at p q found) ≡ true
+made_after : (p : Placing) (q : PlaceStage) (found : ℕ) → place.makes_its_object_at q ≡ true → is_made (place.goes_at p q found) ≡ true
 made_after p making.Alloc found e = by p.span where
   by : (s : Option _) → is_made (place.made p s) ≡ true
   by None = refl
@@ -67,8 +70,17 @@ search_begins m w = by w.sought (cached_for m w.sought) where
   by (Large pages noscan) (Some k) = refl
   by (Large pages noscan) None = refl
 
-search_sound : (m : Processor) (w : Wanted) → SoundSearch m.poll.layout w (seeking m w)
-search_sound m w = record { busy = search_begins m w; layout = refl; wanted = refl }
+-- it begins with the span that is cached for what is sought, and a span that is cached anew is cached
+search_caches : (cache : List (Option CachedSpan)) (x : Sought) → cache_with cache x (cached_in cache x) ≡ cache
+search_caches cache (Small c) = set-get_or cache (span_index c) None
+search_caches cache (Large pages noscan) = refl
+
+caches_on : (cache : List (Option CachedSpan)) (x : Sought) (c : Option CachedSpan) → cache_with (cache_with cache x c) x c ≡ cache_with cache x c
+caches_on cache (Small k) c = set_twice cache (span_index k) c c
+caches_on cache (Large pages noscan) c = refl
+
+search_sound : (m : Processor) (w : Wanted) → SoundSearch m.poll w (seeking m w)
+search_sound m w = record { busy = search_begins m w; layout = refl; wanted = refl; cached = search_caches m.poll.local.cache w.sought }
 
 module _ (shapes : List Shape) where
   -- the cached span has changed, and the task is not looked at
@@ -81,9 +93,9 @@ module _ (shapes : List Shape) where
   found_on n w true NoRoom s wanted name = taken shapes (at_task n task.Idle) w.g w.d (Some value.Nil) task.Idle s tt tt
   found_on n w false NoRoom s wanted name = moved shapes (at_task n task.Idle) (waits w (wait.opening n.poll)) s (wanted, record { busy = refl; polls = tt }, name)
 
-  search_on : (n : Processor) (w : Wanted) (waited : Bool) (x : Seeking) (out : Option Found) → Sound shapes (at_task n task.Idle) → SoundWanted shapes w → made_by n w.g < most_objects → x.find.layout ≡ n.poll.layout → x.find.wanted ≡ w.sought → (out ≡ None → search.is_busy x.find x.stage ≡ true) → Sound shapes (after_search shapes n w waited x out)
-  search_on n w waited x None s wanted name layout wants busy = moved shapes (at_task n task.Idle) (searches w waited x) s (wanted, record { busy = busy refl; layout = layout; wanted = wants }, name)
-  search_on n w waited x (Some out) s wanted name layout wants busy = found_on n w waited out s wanted name
+  search_on : (n : Processor) (w : Wanted) (waited : Bool) (x : Seeking) (out : Option Found) → Sound shapes (at_task n task.Idle) → SoundWanted shapes w → made_by n w.g < most_objects → x.find.layout ≡ n.poll.layout → x.find.wanted ≡ w.sought → cache_with n.poll.local.cache w.sought x.find.cached ≡ n.poll.local.cache → (out ≡ None → search.is_busy x.find x.stage ≡ true) → Sound shapes (after_search shapes n w waited x out)
+  search_on n w waited x None s wanted name layout wants cached busy = moved shapes (at_task n task.Idle) (searches w waited x) s (wanted, record { busy = busy refl; layout = layout; wanted = wants; cached = cached }, name)
+  search_on n w waited x (Some out) s wanted name layout wants cached busy = found_on n w waited out s wanted name
 
   -- one object more
   counts : (m : Processor) (g i : ℕ) → Sound shapes m → made_by m g < most_objects → get_or (set m.made g (made_by m g + 1)) i 0 ≤ most_objects
@@ -128,11 +140,11 @@ module _ (shapes : List Shape) where
   new_sound m w (Search waited x) found s here fits =
       search_on (cache_span m w.sought (search.goes x found).find.cached) w waited (search.goes x found) (search.gives x found)
       (recached m w.sought (search.goes x found).find.cached s) here.0 here.2 (stays x found ∙ here.1.layout) (search_wants x found ∙ here.1.wanted)
-      (λ e. ap is_none e)
+      (caches_on m.poll.local.cache w.sought (search.goes x found).find.cached) (λ e. ap is_none e)
   new_sound m w (Wait x) found s here fits =
       wait_on m w (wait.goes (wait.waiting x m.poll) found) (wait.gives (wait.waiting x m.poll) found) s here.0 here.2 (wait_stays (wait.waiting x m.poll) found) (wait_stacks (wait.waiting x m.poll) found) (wait_fits (wait.waiting x m.poll) found)
   new_sound m w (Place p) found s here fits =
-      place_on m w (place.acts p) (place.gives p found) p.at (place.goes p found) s here.0 here.1.layout (λ e. subst (λ (l : Layout). p.at + 1 ≤ 1024 * l.pages) here.1.layout (at_within p.layout (place.acts p) p.at (fits p refl) e)) refl
+      place_on m w (place.makes_its_object p) (place.gives p found) p.at (place.goes p found) s here.0 here.1.layout (λ e. subst (λ (l : Layout). p.at + 1 ≤ 1024 * l.pages) here.1.layout (at_within p.layout (place.makes_its_object p) p.at (fits p refl) e)) refl
       (λ e. here.2 (acts_unmade p.stage e)) (made_after p p.stage found) (λ e unmade. here.2 (unmade_before p p.stage found unmade))
   new_sound m w (Want n) found s here fits = moved shapes m task.Idle s tt
   new_sound m w (Assist n x) found s here fits = assist_on m w n (assist.goes x found) (assist.gives x found) s here.0 (assists_stay.stays x found ∙ here.1.layout) refl
@@ -141,3 +153,24 @@ module _ (shapes : List Shape) where
   take_sound m n found next s at fits goes =
       subst (λ (x : Processor). Sound shapes x) (sym (goes ∙ ap (λ (t : Task). takes_by shapes m t found) at))
       (new_sound m n.wanted n.stage found s (subst (λ (t : Task). SoundTask shapes m.poll m.made t) at s.task) fits)
+
+  -- Where the search goes on with the span that it has cached, nothing else changes.
+  pub searches_on : (m : Processor) (w : Wanted) (waited : Bool) (x : Seeking) (found : ℕ) → Sound shapes m → m.task ≡ searches w waited x → search.gives x found ≡ None → (search.goes x found).find.cached ≡ x.find.cached → at_task m (searches w waited (search.goes x found)) ≡ takes shapes m found
+  searches_on m w waited x found s at none same =
+      let here = subst (λ (t : Task). SoundTask shapes m.poll m.made t) at s.task in
+      let cached = ap (cache_with m.poll.local.cache w.sought) same ∙ here.1.cached in
+      sym (ap (λ (t : Task). takes_by shapes m t found) at
+      ∙ ap (after_search shapes (cache_span m w.sought (search.goes x found).find.cached) w waited (search.goes x found)) none
+      ∙ ap (λ (c : List (Option CachedSpan)). at_task (at_poll m (record (m.poll) { local = record (m.poll.local) { cache = c } })) (searches w waited (search.goes x found))) cached)
+
+  -- So what is known of the processor stays, where the code says whether the search has gone on.
+  pub going_on_sound : (m : Processor) (n : New) (waited went : Bool) (x y : Seeking) (found : ℕ) → Sound shapes m → m.task ≡ task.New n → n.stage ≡ Search waited x → (IsTrue went → y ≡ search.goes x found) → (IsTrue went → search.gives x found ≡ None) → y.find.cached ≡ x.find.cached → (went ≡ false → y ≡ x) → Sound shapes (at_task m (searches n.wanted waited y))
+  going_on_sound m n waited true x y found s at is goes gives same still =
+      let on : m.task ≡ searches n.wanted waited x = at ∙ ap (λ (k : NewStage). task.New (record { wanted = n.wanted; stage = k })) is in
+      let to = goes refl in
+      let next = searches_on m n.wanted waited x found s on (gives refl) (ap (λ (z : Seeking). z.find.cached) (sym to) ∙ same) in
+      subst (λ (z : Seeking). Sound shapes (at_task m (searches n.wanted waited z))) (sym to)
+      (take_sound m n found (at_task m (searches n.wanted waited (search.goes x found))) s at (λ p e. absurd (cc (is, e))) next)
+  going_on_sound m n waited false x y found s at is goes gives same still =
+      let on : m.task ≡ searches n.wanted waited x = at ∙ ap (λ (k : NewStage). task.New (record { wanted = n.wanted; stage = k })) is in
+      subst (λ (z : Seeking). Sound shapes (at_task m (searches n.wanted waited z))) (sym (still refl)) (subst (λ (t : Task). Sound shapes (at_task m t)) on s)

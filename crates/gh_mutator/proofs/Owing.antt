@@ -183,7 +183,7 @@ module _ (shapes : List Shape) (p : Polling) (made : List ℕ) (found : ℕ) whe
   new_drops : (w : Wanted) (q : NewStage) → (IsAssisting (with_stage w q) → ⊥) → DropsAt (with_stage w q)
   new_drops w (Search waited y) rests = same (search_owes shapes (running p made (with_stage w (Search waited y))) w waited (search.goes y found).find.cached (search.goes y found) (search.gives y found))
   new_drops w (Wait x) rests = behind (wait_then (running p made (with_stage w (Wait x))) w (wait.goes (wait.waiting x p) found) (wait.gives (wait.waiting x p) found)) (wait_drops (wait.waiting x p) found)
-  new_drops w (Place y) rests = same (place_owes (running p made (with_stage w (Place y))) w (place.acts y) y.at (place.goes y found))
+  new_drops w (Place y) rests = same (place_owes (running p made (with_stage w (Place y))) w (place.makes_its_object y) y.at (place.goes y found))
   new_drops w (Want n) rests = same refl
   new_drops w (Assist n x) rests = absurd (rests tt)
 

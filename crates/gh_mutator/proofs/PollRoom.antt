@@ -26,7 +26,7 @@ use Rattle.gh_mutator.specs.Local.{is_mark}
 use Rattle.gh_mutator.specs.MarkStack as mark
 use Rattle.gh_mutator.specs.Poll as poll
 use Rattle.gh_mutator.specs.Poll.{after_mark, after_resume, after_room, at_stage, by_phase, counted, due, given, giving, goes, goes_at, has_two, marks_then, resumed, scanned, scans, stops_then}
-use Rattle.gh_mutator.specs.PollRoom.{LooksForRoom, MakesRoom, MayStore, PollsMakeRoom, RoomAt, RoomBehind, TriesForRoom}
+use Rattle.gh_mutator.specs.PollRoom.{HasRoomToStore, LooksForRoom, MakesRoom, PollsMakeRoom, RoomAt, RoomBehind, TriesForRoom}
 use Rattle.gh_mutator.specs.Sound.{has_room}
 use Rattle.gh_mutator.specs.Vocabulary.{Op, Polling, Processor, Shape, Task}
 
@@ -169,7 +169,7 @@ takes_none p poll_stage.Ended found is waits x = x
 
 -- The processor.
 
-polled : (m : Processor) (p : Polling) (q : PollStage) → p.stage ≡ q → MakesRoom p → MayStore (after_poll m p (given q))
+polled : (m : Processor) (p : Polling) (q : PollStage) → p.stage ≡ q → MakesRoom p → HasRoomToStore (after_poll m p (given q))
 polled m p poll_stage.Ended is k = subst (RoomAt p) is k.stage
 polled m p poll_stage.LoadPhase is k = k
 polled m p (poll_stage.Giving g number) is k = k
@@ -177,7 +177,7 @@ polled m p (poll_stage.Resuming r) is k = k
 polled m p (poll_stage.Marking g x) is k = k
 polled m p (poll_stage.FindRoom r) is k = k
 
-goes_on : (shapes : List Shape) (m : Processor) (found : ℕ) (t : Task) → m.task ≡ t → RoomBehind m.poll t → MayStore (takes_at shapes m t found)
+goes_on : (shapes : List Shape) (m : Processor) (found : ℕ) (t : Task) → m.task ≡ t → RoomBehind m.poll t → HasRoomToStore (takes_at shapes m t found)
 goes_on shapes m found task.Idle is k = subst (RoomBehind m.poll) (sym is) k
 goes_on shapes m found task.Poll is k = polled m (goes m.poll found) (goes m.poll found).stage refl (goes_so m.poll m.poll.stage found k.no_wait refl k.stage)
 goes_on shapes m found _ is k = absurd k

@@ -12,10 +12,10 @@ use Rattle.gh_mutator.specs.Barrier.{with_held}
 use Rattle.gh_mutator.specs.Global as global_listing
 use Rattle.gh_mutator.specs.Leave as leave
 use Rattle.gh_mutator.specs.Load as load_listing
-use Rattle.gh_mutator.specs.Local.{register_in, with_register}
+use Rattle.gh_mutator.specs.Local.{register_in_stacks, with_register_value}
 use Rattle.gh_mutator.specs.Poll as poll
 use Rattle.gh_mutator.specs.Processor.{at_poll, at_task, keeping, opening_processor}
-use Rattle.gh_mutator.specs.Register.{read_of, step, value_from}
+use Rattle.gh_mutator.specs.Register.{read_of, step, value_of_source}
 use Rattle.gh_mutator.specs.Serving.{is_making}
 use Rattle.gh_mutator.specs.Sound.{GlobalRoom, IsNear, most_objects, Sound, SoundGlobal, SoundLoad, SoundRegister, SoundStore, SoundTask, StoreRoom}
 use Rattle.gh_mutator.specs.Stays.{leave_stays, poll_stacks, poll_stays, wait_stacks, wait_stays}
@@ -36,14 +36,14 @@ rows_of zero i = inr refl
 rows_of (suc n) zero = inl refl
 rows_of (suc n) (suc i) = rows_of n i
 
-nil_first : (pages g d : ℕ) → IsNear pages (register_in (replicate 32 (replicate 16 value.Nil)) g d)
+nil_first : (pages g d : ℕ) → IsNear pages (register_in_stacks (replicate 32 (replicate 16 value.Nil)) g d)
 nil_first pages g d = by (get_or (replicate 32 (replicate 16 value.Nil)) g []) (rows_of 32 g) where
   by : (row : List Value) → (row ≡ replicate 16 value.Nil) ⊎ (row ≡ []) → IsNear pages (get_or row d value.Nil)
   by row (inl e) = rw e (subst (IsNear pages) (sym (read_replicate 16 d value.Nil)) tt)
   by row (inr e) = rw e tt
 
 -- a value that a register takes
-register_near : (pages : ℕ) (held : Value) (s : Source) → IsNear pages held → IsNear pages (value_from held s)
+register_near : (pages : ℕ) (held : Value) (s : Source) → IsNear pages held → IsNear pages (value_of_source held s)
 register_near pages held (source.Int n) near = tt
 register_near pages held (source.Move s) near = near
 register_near pages held source.Nil near = tt
@@ -123,8 +123,8 @@ module _ (shapes : List Shape) where
   set_at : (m : Processor) (x : Register) → Sound shapes m → Sound shapes (takes_at shapes m (task.Register x) 0)
   set_at m x s = applied_sound shapes SoundRegister task.Register m x.g x.d (step (register_of m x.g (read_of x)) x) s (register_sound m.poll.layout.pages (register_of m x.g (read_of x)) x (s.registers _ _)) (λ y p e b f. f)
 
-  pub set_sound : (m : Processor) (p : Polling) (x : Register) → Sound shapes m → m.task ≡ task.Idle → p ≡ with_register m.poll x.g x.d (value_from (register_of m x.g (read_of x)) x.source) → Sound shapes (at_poll m p)
-  set_sound m p x s idle is = rw is (subst (λ (t : Task). Sound shapes (record { poll = with_register m.poll x.g x.d (value_from (register_of m x.g (read_of x)) x.source); made = m.made; task = t })) (sym idle) (set_at m x s))
+  pub set_sound : (m : Processor) (p : Polling) (x : Register) → Sound shapes m → m.task ≡ task.Idle → p ≡ with_register_value m.poll x.g x.d (value_of_source (register_of m x.g (read_of x)) x.source) → Sound shapes (at_poll m p)
+  set_sound m p x s idle is = rw is (subst (λ (t : Task). Sound shapes (record { poll = with_register_value m.poll x.g x.d (value_of_source (register_of m x.g (read_of x)) x.source); made = m.made; task = t })) (sym idle) (set_at m x s))
 
   plain_sound : ClassLaws → (m : Processor) (found : ℕ) → is_making m.task ≡ false → Sound shapes m → Sound shapes (takes shapes m found)
   plain_sound laws m found plain s = plain_at laws m m.task found plain s s.task

@@ -5,10 +5,10 @@ use Rattle.gh_base.specs.declared.value.Value.{Value}
 use Rattle.gh_base.specs.declared.value.Value.TheVariants as value
 use Rattle.gh_stack.specs.declared.scan_stack.StackStage.{StackStage}
 use Rattle.gh_stack.specs.declared.scan_stack.StackStage.TheVariants.{Shade, Store, Ended}
-use Rattle.gh_stack.specs.Listing.{after_shade, first_of, is_busy, is_waiting, opening, StackScan, told_shaded, wish_of}
+use Rattle.gh_stack.specs.Listing.{after_shade, first_reference, is_busy, is_waiting, opening, StackScan, told_shaded, wish_of}
 use Rattle.gh_mutator.specs.MarkStack.{goes_on}
 
-pub first_going : (i : ℕ) (values : List Value) → goes_on (first_of i values) ≡ true
+pub first_going : (i : ℕ) (values : List Value) → goes_on (first_reference i values) ≡ true
 first_going i [] = refl
 first_going i (value.Ref r ∷ values) = refl
 first_going i (value.Nil ∷ values) = first_going (i + 1) values

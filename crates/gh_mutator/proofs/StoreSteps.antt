@@ -7,7 +7,7 @@ use Rattle.gh_base.specs.declared.value.Answer.TheVariants as answer
 use Rattle.gh_base.specs.declared.value.Fault.TheVariants as fault
 use Rattle.gh_base.specs.declared.value.Value.{Value}
 use Rattle.gh_base.specs.declared.value.Value.TheVariants as value
-use Rattle.gh_barrier.specs.Ending.{left as write_left, WritingEnds}
+use Rattle.gh_barrier.specs.Ending.{write_left, WritingEnds}
 use Rattle.gh_barrier.specs.Stays as write_proved
 use Rattle.gh_barrier.specs.Listing.{Writing as PointerWrite}
 use Rattle.gh_barrier.specs.Listing as write
@@ -22,7 +22,7 @@ use Rattle.gh_mutator.specs.Fields.{has_field, is_pointer_by, kinds_differ}
 use Rattle.gh_mutator.specs.GiveSound.{Runs}
 use Rattle.gh_mutator.specs.Local.{is_mark}
 use Rattle.gh_mutator.specs.Poll.{Polling}
-use Rattle.gh_mutator.specs.Sound.{IsField, IsRegister, SoundStore, SoundStoreStage, StoreRoom}
+use Rattle.gh_mutator.specs.Sound.{IsFieldNumber, IsRegister, SoundStore, SoundStoreStage, StoreRoom}
 use Rattle.gh_mutator.specs.Step.{ends, goes_on}
 use Rattle.gh_mutator.specs.Store.{after_write, asks, asks_at, at_stage, begins, by_kind, held_behind, pointer_cell_at, step, step_at, stores}
 use Rattle.gh_mutator.proofs.ClassFacts.{ClassLaws}
@@ -35,7 +35,7 @@ module _ (l : Layout) (own : Local) (held : Value) (x : Store) (register : IsReg
   sound_at : (s : StoreStage) → SoundStoreStage x.k s → SoundStore l.pages (at_stage x s)
   sound_at s h = record { register = register; within = within; stage = h }
 
-  stores_sound : (w : PointerWrite) (b : Bool) → IsField x.k → SoundStoreStage x.k (cond b (Writing w) Field)
+  stores_sound : (w : PointerWrite) (b : Bool) → IsFieldNumber x.k → SoundStoreStage x.k (cond b (Writing w) Field)
   stores_sound w true h = tt
   stores_sound w false h = h
 

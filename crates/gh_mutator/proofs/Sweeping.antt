@@ -124,7 +124,7 @@ module _ (shapes : List Shape) (m : Processor) (found : ℕ) where
     by : (n : NewStage) → (SearchesAt n → ⊥) → sweep_in (new.takes_at shapes m x.wanted n found) ≡ None
     by (Search waited y) not = absurd (not tt)
     by (Wait y) not = waited_none m x.wanted (wait.goes (wait.waiting y m.poll) found) (wait.gives (wait.waiting y m.poll) found)
-    by (Place y) not = placed_none m x.wanted (place.acts y) (place.gives y found) y.at (place.goes y found)
+    by (Place y) not = placed_none m x.wanted (place.makes_its_object y) (place.gives y found) y.at (place.goes y found)
     by (Want n) not = refl
     by (Assist n y) not = assisted_none m x.wanted n (assist.goes y found) (assist.gives y found)
   others_at (task.Gc g x) is none not = gc_none m g (wait.goes (wait.waiting x m.poll) found) (wait.gives (wait.waiting x m.poll) found)

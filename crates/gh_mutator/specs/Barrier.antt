@@ -32,11 +32,11 @@ pub record WritesIt (l : Layout) (at : PointerCell) (v : Value) (w : Writing) : 
   pub busy : write.is_busy w.stage ≡ true
 
 -- what is held behind a step of the write
-abbrev pub held_by : Writing → Option Held
-held_by w = write.held_at w.held w.stage
+abbrev pub held_behind_write : Writing → Option Held
+held_behind_write w = write.held_at w.held w.stage
 
 abbrev pub held_then : Writing → (found : ℕ) → Option Held
-held_then w found = held_by (write.goes w found)
+held_then w found = held_behind_write (write.goes w found)
 
 -- the processor holds this
 abbrev pub with_held : Polling → Option Held → Polling

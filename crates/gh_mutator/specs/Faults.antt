@@ -21,7 +21,7 @@ abbrev pub rested : Mutating → Processor → Answer → Mutating
 rested m p a = record m { processor = at_task p Idle; marks = marks_after m.marks (Some a) }
 
 -- the operation begun at m is answered this fault by its step number n, counted from 0
-pub record ChangesNothing (m : Mutating) (o : Op) (found : ℕ → ℕ) (n : ℕ) (cause : Cause) : Type 0 where
+pub record FaultChangesNothing (m : Mutating) (o : Op) (found : ℕ → ℕ) (n : ℕ) (cause : Cause) : Type 0 where
   -- no step up to that one writes a word
   pub loads : (i : ℕ) → i ≤ n → is_load (asks (told listing (begins m o) found i)) ≡ true
   -- and the processor is what it was: its registers, its numbers of objects, its cached spans
@@ -30,4 +30,4 @@ pub record ChangesNothing (m : Mutating) (o : Op) (found : ℕ → ℕ) (n : ℕ
 -- whatever the steps find
 abbrev pub FaultsChangeNothing : Type 0
 FaultsChangeNothing = (m : Mutating) (o : Op) (found : ℕ → ℕ) (n : ℕ) (cause : Cause) →
-    gives (told listing (begins m o) found n) (found n) ≡ Some (Fault cause) → ChangesNothing m o found n cause
+    gives (told listing (begins m o) found n) (found n) ≡ Some (Fault cause) → FaultChangesNothing m o found n cause

@@ -55,15 +55,15 @@ kinds_differ pointer v = if pointer then is_number_value v else not (is_number_v
 -- Steps of a statement whose register takes what was found.
 
 -- what the value is told as; of a reference, the name of its object is loaded first
-abbrev pub told : {S : Type 0} → (naming : ℕ → S) → Value → Then S
-told naming value.Nil = Ends answer.Nil
-told naming (value.Int n) = Ends (answer.Int n)
-told naming (value.Ref r) = GoesOn (naming (r - 1))
+abbrev pub value_told : {S : Type 0} → (naming : ℕ → S) → Value → Then S
+value_told naming value.Nil = Ends answer.Nil
+value_told naming (value.Int n) = Ends (answer.Int n)
+value_told naming (value.Ref r) = GoesOn (naming (r - 1))
 
 -- the register takes the value, and the statement acts
 abbrev pub takes : {S : Type 0} → (naming : ℕ → S) → Value → Step S
-takes naming v = record { then = told naming v; sets = Some v; acts = true }
+takes naming v = record { then = value_told naming v; sets = Some v; acts = true }
 
 -- the birth word was found of the object whose reference was taken
-abbrev pub names : {S : Type 0} → Layout → (found : ℕ) → Step S
-names l found = record { then = Ends (answer.Ref (name_of l.goroutines found)); sets = None; acts = false }
+abbrev pub ends_with_name : {S : Type 0} → Layout → (found : ℕ) → Step S
+ends_with_name l found = record { then = Ends (answer.Ref (name_of l.goroutines found)); sets = None; acts = false }

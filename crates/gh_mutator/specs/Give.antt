@@ -37,14 +37,14 @@ abbrev pub head_store : (generation class : ℕ) → CachedSpan → Ask
 head_store generation class s = Store (cell.Page s.head) (head_word (given_head generation (span_class class)))
 
 -- the first of these spans, numbered from this class on, that is cached; where none is, the lock is freed
-abbrev pub first_of : (class : ℕ) → List (Option CachedSpan) → GiveStage
-first_of class [] = Unlock
-first_of class (Some s ∷ spans) = GiveSpan class s
-first_of class (None ∷ spans) = first_of (class + 1) spans
+abbrev pub first_cached : (class : ℕ) → List (Option CachedSpan) → GiveStage
+first_cached class [] = Unlock
+first_cached class (Some s ∷ spans) = GiveSpan class s
+first_cached class (None ∷ spans) = first_cached (class + 1) spans
 
 -- so from this class on
 abbrev pub stage_from : List (Option CachedSpan) → (class : ℕ) → GiveStage
-stage_from cache class = first_of class (drop class cache)
+stage_from cache class = first_cached class (drop class cache)
 
 -- no span is cached
 abbrev pub none_cached : List (Option CachedSpan)

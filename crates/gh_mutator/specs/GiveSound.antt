@@ -15,7 +15,7 @@ abbrev pub FitsCache : Layout → List (Option CachedSpan) → Type 0
 FitsCache l cache = (i : ℕ) → SoundCached l.pages (i / 2) (slice_index_or cache i None)
 
 -- the span that is given back is one of the span class of this number
-pub record FitsSpan (l : Layout) (class : ℕ) (s : CachedSpan) : Type 0 where
+pub record FitsCachedSpan (l : Layout) (class : ℕ) (s : CachedSpan) : Type 0 where
   pub among : class < SPAN_CLASSES
   pub span : SoundCached l.pages (class / 2) (Some s)
 
@@ -25,7 +25,7 @@ pub record Runs (l own : Layout) (is_busy : Bool) : Type 0 where
   pub busy : is_busy ≡ true
 
 abbrev pub FitsStage : Layout → GiveStage → Type 0
-FitsStage l (GiveSpan class s) = FitsSpan l class s
+FitsStage l (GiveSpan class s) = FitsCachedSpan l class s
 FitsStage l (GiveBuffer b) = Runs l b.layout (buffer.is_busy b.stage)
 FitsStage l _ = Unit {0}
 

@@ -2,14 +2,14 @@
 use Rattle.std.proofs.Common.{◌≡◌, ℕ, ◌+◌, List, [], ◌∷◌, length, replicate, Option, Some, None, refl, ap, ◌∙◌}
 use Rattle.gh_class.specs.declared.class.TheConstants.{SPAN_CLASSES}
 use Rattle.gh_mutator.specs.declared.give.GiveStage.TheVariants.{Lock, GiveSpan, Unlock, GiveBuffer, Ended}
-use Rattle.gh_mutator.specs.Give.{begins, first_of, Giving, giving_buffer, none_cached, opening}
+use Rattle.gh_mutator.specs.Give.{begins, first_cached, Giving, giving_buffer, none_cached, opening}
 use Rattle.gh_mutator.specs.MarkVocabulary.{CachedSpan, GiveStage, Held, Layout}
 
 abbrev no_span : Option CachedSpan
 no_span = None
 
 -- where no span is cached
-none_left : (i : ℕ) (spans : List (Option CachedSpan)) → first_of i spans ≡ Unlock → spans ≡ replicate (length spans) no_span
+none_left : (i : ℕ) (spans : List (Option CachedSpan)) → first_cached i spans ≡ Unlock → spans ≡ replicate (length spans) no_span
 none_left i [] e = refl
 none_left i (Some s ∷ spans) e = absurd (cc)
 none_left i (None ∷ spans) e = ap (λ (xs : List (Option CachedSpan)). no_span ∷ xs) (none_left (i + 1) spans e)
@@ -24,15 +24,15 @@ pub buffer_fine : (g : Giving) (held : Option Held) → g.held ≡ held → g.ca
 buffer_fine g None e none = (none, e)
 buffer_fine g (Some h) e none = none
 
-pub first_fine : (g : Giving) (i : ℕ) (spans : List (Option CachedSpan)) → FineAt g (first_of i spans)
+pub first_fine : (g : Giving) (i : ℕ) (spans : List (Option CachedSpan)) → FineAt g (first_cached i spans)
 first_fine g i [] = tt
 first_fine g i (Some s ∷ spans) = tt
 first_fine g i (None ∷ spans) = first_fine g (i + 1) spans
 
 pub opening_fine : (l : Layout) (seat generation : ℕ) (cache : List (Option CachedSpan)) (held : Option Held) → length cache ≡ SPAN_CLASSES →
     FineAt (opening l seat generation cache held) (opening l seat generation cache held).stage
-opening_fine l seat generation cache held room = by (first_of 0 cache) refl where
-  by : (stage : GiveStage) → first_of 0 cache ≡ stage → FineAt (opening l seat generation cache held) (begins l held stage)
+opening_fine l seat generation cache held room = by (first_cached 0 cache) refl where
+  by : (stage : GiveStage) → first_cached 0 cache ≡ stage → FineAt (opening l seat generation cache held) (begins l held stage)
   by Unlock e = buffer_fine (opening l seat generation cache held) held refl (none_left 0 cache e ∙ ap (λ (n : ℕ). replicate n no_span) room)
   by Lock e = tt
   by (GiveSpan i s) e = tt

@@ -20,7 +20,7 @@ use Rattle.gh_mutator.specs.declared.global.GlobalStage.TheVariants.{Load, Birth
 use Rattle.gh_mutator.specs.declared.poll.Local.{Local}
 use Rattle.gh_mutator.specs.declared.step.Step.{Step}
 use Rattle.gh_mutator.specs.Barrier.{held_then, written}
-use Rattle.gh_mutator.specs.Fields.{birth_cell, names, takes, value_of, word_of_value}
+use Rattle.gh_mutator.specs.Fields.{birth_cell, ends_with_name, takes, value_of, word_of_value}
 use Rattle.gh_mutator.specs.Local.{is_mark}
 use Rattle.gh_mutator.specs.Step.{ends, goes_on}
 
@@ -70,7 +70,7 @@ module _ (l : Layout) (held : Value) (x : Global) where
 
   abbrev pub step_at : GlobalStage → (found : ℕ) → Step Global
   step_at Load found = takes (naming x) (value_of l.pages true found)
-  step_at (Birth at) found = names l found
+  step_at (Birth at) found = ends_with_name l found
   step_at Store found = ends answer.Done
   step_at (Writing w) found = after_write x (write.goes w found) (write.gives w found)
   step_at Number found = ends (answer.Fault fault.Kind)

@@ -109,6 +109,11 @@ takes_at shapes m (task.Leave x) found = after_leave m (leave.goes x found) (lea
 abbrev pub takes : List Shape → Processor → (found : ℕ) → Processor
 takes shapes m found = takes_at shapes m m.task found
 
+-- It makes an object, and by the word found the search for its slot goes on in a span, or to a further page.
+abbrev pub search_goes_on : Task → (found : ℕ) → Bool
+search_goes_on (task.New x) found = new.goes_further_at x.stage found
+search_goes_on _ found = false
+
 -- What is answered to the operation that ends with the step, if one does.
 
 -- where a routine has ended, this

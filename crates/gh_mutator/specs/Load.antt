@@ -15,7 +15,7 @@ use Rattle.gh_mutator.specs.declared.load.Load.{Load}
 use Rattle.gh_mutator.specs.declared.load.LoadStage.{LoadStage}
 use Rattle.gh_mutator.specs.declared.load.LoadStage.TheVariants.{Page, Bits, Field, Birth, NilBase}
 use Rattle.gh_mutator.specs.declared.step.Step.{Step}
-use Rattle.gh_mutator.specs.Fields.{birth_cell, field_cell, has_field, is_pointer_by, names, page_cell, takes, value_of}
+use Rattle.gh_mutator.specs.Fields.{birth_cell, ends_with_name, field_cell, has_field, is_pointer_by, page_cell, takes, value_of}
 use Rattle.gh_mutator.specs.Step.{ends, goes_on}
 
 abbrev pub op_of : Load → Op
@@ -46,7 +46,7 @@ module _ (l : Layout) (x : Load) where
   step_at Page found = if has_field x.k found then goes_on (at_stage x Bits) else ends (answer.Fault fault.Field)
   step_at Bits found = goes_on (at_stage x (Field (is_pointer_by l (x.at + x.k) found)))
   step_at (Field pointer) found = takes (naming x) (value_of l.pages pointer found)
-  step_at (Birth at) found = names l found
+  step_at (Birth at) found = ends_with_name l found
 
 -- the step that it asks for, and what that step does where it found this
 abbrev pub asks : Layout → Load → Ask

@@ -44,24 +44,24 @@ passes p found = not (is_busy p.stage) && is_some (run_phase (phase_of found).ph
 
 -- Registers.
 
-abbrev pub register_in : List (List Value) → (g d : ℕ) → Value
-register_in stacks g d = slice_index_or (slice_index_or stacks g []) d value.Nil
+abbrev pub register_in_stacks : List (List Value) → (g d : ℕ) → Value
+register_in_stacks stacks g d = slice_index_or (slice_index_or stacks g []) d value.Nil
 
 -- what register d of goroutine g holds
 abbrev pub register_at : Polling → (g d : ℕ) → Value
-register_at p g d = register_in p.local.stacks g d
+register_at p g d = register_in_stacks p.local.stacks g d
 
 abbrev pub stacks_with : List (List Value) → (g d : ℕ) → Value → List (List Value)
 stacks_with stacks g d v = slice_set stacks g (slice_set (slice_index_or stacks g []) d v)
 
 -- it takes this value
-abbrev pub with_register : Polling → (g d : ℕ) → Value → Polling
-with_register p g d v = record p { local = record (p.local) { stacks = stacks_with p.local.stacks g d v } }
+abbrev pub with_register_value : Polling → (g d : ℕ) → Value → Polling
+with_register_value p g d v = record p { local = record (p.local) { stacks = stacks_with p.local.stacks g d v } }
 
 -- or this one, if there is one
-abbrev pub with_value : Polling → (g d : ℕ) → Option Value → Polling
-with_value p g d None = p
-with_value p g d (Some v) = with_register p g d v
+abbrev pub with_value_if_any : Polling → (g d : ℕ) → Option Value → Polling
+with_value_if_any p g d None = p
+with_value_if_any p g d (Some v) = with_register_value p g d v
 
 -- Cached spans.
 

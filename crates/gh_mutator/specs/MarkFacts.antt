@@ -26,8 +26,8 @@ use Rattle.gh_mutator.specs.Poll as poll
 use Rattle.gh_mutator.specs.Wait as wait
 
 -- it holds this and has nothing else in hand
-abbrev pub holding : Option Held → InHand
-holding held = buffer_facts.holding nothing held
+abbrev pub holding_only : Option Held → InHand
+holding_only held = buffer_facts.holding nothing held
 
 -- What a processor alone knows of its stacks is what the shared state says of them. The goroutines that it takes for its own are those of its seat; the registers of each that goes on name what it has in them, and the cycle in which it noted a stack as scanned is that in the stack's word.
 pub record KnowsStacks (z : Cycle) (a : ℕ) (s : Shared) (stacks : List (List Value)) (notes : List ℕ) : Type 0 where
@@ -58,13 +58,13 @@ KnowsCycle z s = s.words cell.Begun ≡ z.number
 pub record IsBetween (z : Cycle) (a : ℕ) (s : Shared) (local : Local) : Type 0 where
   pub stacks : KnowsStacks z a s local.stacks local.scanned
   pub number : KnowsNumber z local.view
-  pub hands : Hands a s (holding local.held)
+  pub hands : Hands a s (holding_only local.held)
 
 -- The giving back.
 abbrev pub GiveStageFacts : Cycle → (a : ℕ) → Shared → Option Held → GiveStage → Type 0
 GiveStageFacts z a s held (give_stage.GiveBuffer b) = buffer_facts.GiveFacts z a s nothing b
 GiveStageFacts z a s held give_stage.Ended = Hands a s nothing × (held ≡ None)
-GiveStageFacts z a s held _ = Hands a s (holding held)
+GiveStageFacts z a s held _ = Hands a s (holding_only held)
 
 pub record GiveFacts (z : Cycle) (a : ℕ) (s : Shared) (g : give.Giving) : Type 0 where
   pub layout_is : g.layout ≡ z.arena.layout
@@ -86,7 +86,7 @@ pending reference = record nothing { pending = Some (shade.object_of reference) 
 abbrev pub ScanStageFacts : Cycle → (a : ℕ) → Shared → Option Held → stack.StackScan → MarkStackStage → Type 0
 ScanStageFacts z a s held m (mark_stage.Shading sh) = ShadesWish z a s m sh.reference × shade_facts.Facts z a s nothing sh
 ScanStageFacts z a s held m (mark_stage.FindRoom sh r) = ShadesWish z a s m sh.reference × LooksForRoom s sh.reference × buffer_facts.RoomFacts z a s (pending sh.reference) r
-ScanStageFacts z a s held m mark_stage.Store = stack_facts.Facts z a s m × (m.stage ≡ stack_stage.Store) × Hands a s (holding held)
+ScanStageFacts z a s held m mark_stage.Store = stack_facts.Facts z a s m × (m.stage ≡ stack_stage.Store) × Hands a s (holding_only held)
 ScanStageFacts z a s held m mark_stage.Ended = ⊥
 
 -- it is the scan of this goroutine's stack
@@ -97,17 +97,17 @@ pub record ScanFacts (z : Cycle) (a : ℕ) (s : Shared) (g : ℕ) (m : mark.Stac
   pub stage_is : ScanStageFacts z a s m.held m.scan m.stage
 
 -- A poll that is no part of a wait ends with a buffer that has room for the two entries of a write barrier, while marking is on.
-abbrev pub HasRoom : (waits : Bool) → Local → Type 0
-HasRoom waits local = waits ≡ false → local.view.phase ≡ Mark → poll.has_two local.held ≡ true
+abbrev pub PollEndsWithRoom : (waits : Bool) → Local → Type 0
+PollEndsWithRoom waits local = waits ≡ false → local.view.phase ≡ Mark → poll.has_two local.held ≡ true
 
 -- A poll.
 abbrev pub PollStageFacts : Cycle → (a : ℕ) → Shared → (waits : Bool) → Local → PollStage → Type 0
-PollStageFacts z a s waits local poll_stage.LoadPhase = KnowsNumber z local.view × Hands a s (holding local.held)
+PollStageFacts z a s waits local poll_stage.LoadPhase = KnowsNumber z local.view × Hands a s (holding_only local.held)
 PollStageFacts z a s waits local (poll_stage.Giving g stops) = GiveFacts z a s g
 PollStageFacts z a s waits local (poll_stage.Resuming r) = Hands a s nothing × (local.held ≡ None) × (resume.is_busy r ≡ true)
 PollStageFacts z a s waits local (poll_stage.Marking g m) = (local.view.begun ≡ z.number) × ScanFacts z a s g m
 PollStageFacts z a s waits local (poll_stage.FindRoom r) = KnowsNumber z local.view × buffer_facts.RoomFacts z a s nothing r
-PollStageFacts z a s waits local poll_stage.Ended = KnowsNumber z local.view × HasRoom waits local × Hands a s (holding local.held)
+PollStageFacts z a s waits local poll_stage.Ended = KnowsNumber z local.view × PollEndsWithRoom waits local × Hands a s (holding_only local.held)
 
 pub record PollFacts (z : Cycle) (a : ℕ) (s : Shared) (p : poll.Polling) : Type 0 where
   pub layout_is : p.layout ≡ z.arena.layout
@@ -140,7 +140,7 @@ pub record PollsByMoves : Type 0 where
   pub own_step : (z : Cycle) (a : ℕ) (s : Shared) (p : poll.Polling) → Good z s → KnowsObjects z s → KnowsCycle z s → PollFacts z a s p →
       Steps z a s (poll.asks p) (λ t. PollFacts z a t (poll.goes p (s.words (cell_of (poll.asks p)))))
   pub lasts : (z : Cycle) (a : ℕ) (s t : Shared) (p : poll.Polling) → Others z a s t → PollFacts z a s p → PollFacts z a t p
-  pub ends : (z : Cycle) (a : ℕ) (s : Shared) (p : poll.Polling) → poll.is_busy p.stage ≡ false → PollFacts z a s p → RestFacts z a s p × HasRoom p.waits p.local
+  pub ends : (z : Cycle) (a : ℕ) (s : Shared) (p : poll.Polling) → poll.is_busy p.stage ≡ false → PollFacts z a s p → RestFacts z a s p × PollEndsWithRoom p.waits p.local
   -- where it acknowledges a stop it has nothing in hand
   pub stops : (z : Cycle) (a i number : ℕ) (s : Shared) (p : poll.Polling) → poll.asks p ≡ ask.Store (cell.Ack i) number → PollFacts z a s p → Hands a s nothing
 
@@ -153,7 +153,7 @@ pub record WaitsByMoves : Type 0 where
   pub stops : (z : Cycle) (a i number : ℕ) (s : Shared) (w : wait.Waiting) → wait.asks w ≡ ask.Store (cell.Ack i) number → WaitFacts z a s w → Hands a s nothing
 
 pub record LeavesByMoves : Type 0 where
-  pub begins : (z : Cycle) (a seat generation : ℕ) (s : Shared) (l : Layout) (cache : List (Option CachedSpan)) (held : Option Held) → l ≡ z.arena.layout → Hands a s (holding held) →
+  pub begins : (z : Cycle) (a seat generation : ℕ) (s : Shared) (l : Layout) (cache : List (Option CachedSpan)) (held : Option Held) → l ≡ z.arena.layout → Hands a s (holding_only held) →
       LeaveFacts z a s (leave.opening l seat generation cache held).stage
   -- and its steps change no stack
   pub own_step : (z : Cycle) (a : ℕ) (s : Shared) (w : leave.Leaving) → Good z s → KnowsObjects z s → LeaveFacts z a s w.stage →

@@ -13,20 +13,20 @@ use Rattle.gh_mutator.specs.GiveSound.{Runs}
 use Rattle.gh_mutator.specs.MarkStack.{StackMarking}
 
 -- the scan waits until what it wishes for is shaded
-pub record Shades (l : Layout) (scan : stack.StackScan) (sh : shade.Shading) : Type 0 where
+pub record StackScanShades (l : Layout) (scan : stack.StackScan) (sh : shade.Shading) : Type 0 where
   pub runs : Runs l sh.layout (shade.is_busy sh.stage)
   pub scan_waits : stack.is_waiting scan.stage ≡ true
 
 -- and the shading for the room that is looked for
-pub record Waits (l : Layout) (scan : stack.StackScan) (sh : shade.Shading) (r : room.RoomFinding) : Type 0 where
+pub record StackShadingWaits (l : Layout) (scan : stack.StackScan) (sh : shade.Shading) (r : room.RoomFinding) : Type 0 where
   pub shade_in : sh.layout ≡ l
   pub waits : sh.stage ≡ WaitForRoom
   pub runs : Runs l r.layout (room.is_busy r.stage)
   pub scan_waits : stack.is_waiting scan.stage ≡ true
 
 abbrev pub FitsStage : Layout → stack.StackScan → MarkStackStage → Type 0
-FitsStage l scan (Shading sh) = Shades l scan sh
-FitsStage l scan (FindRoom sh r) = Waits l scan sh r
+FitsStage l scan (Shading sh) = StackScanShades l scan sh
+FitsStage l scan (FindRoom sh r) = StackShadingWaits l scan sh r
 FitsStage l scan Store = stack.is_busy scan.stage ≡ true
 FitsStage l scan _ = Unit {0}
 

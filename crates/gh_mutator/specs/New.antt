@@ -91,6 +91,11 @@ asks_at m (Place p) = place.asks p
 asks_at m (Want n) = ask.Or cell.Want 1
 asks_at m (Assist n x) = assist.asks x
 
+-- by the word found the search goes on in a span, or to a further page
+abbrev pub goes_further_at : NewStage → (found : ℕ) → Bool
+goes_further_at (Search waited s) found = search.goes_further_at s.find s.stage found
+goes_further_at _ found = false
+
 -- the search has ended, and has found this: the object is made there; where there is no room, a cycle is waited for, and behind that the register is nil
 abbrev pub after_found : List Shape → Processor → Wanted → (waited : Bool) → Found → Processor
 after_found shapes m w waited (At a) = at_task m (makes w (placing shapes m w a))
@@ -138,14 +143,14 @@ after_assist m w n x (Some y) = at_task (at_poll m (with_payment m.poll x)) task
 abbrev pub takes_at : List Shape → Processor → Wanted → NewStage → (found : ℕ) → Processor
 takes_at shapes m w (Search waited s) found = after_search shapes (cache_span m w.sought (search.goes s found).find.cached) w waited (search.goes s found) (search.gives s found)
 takes_at shapes m w (Wait x) found = after_wait m w (wait.goes (wait.waiting x m.poll) found) (wait.gives (wait.waiting x m.poll) found)
-takes_at shapes m w (Place p) found = after_place m w (place.acts p) p.at (place.goes p found)
+takes_at shapes m w (Place p) found = after_place m w (place.makes_its_object p) p.at (place.goes p found)
 takes_at shapes m w (Want n) found = at_task m task.Idle
 takes_at shapes m w (Assist n x) found = after_assist m w n (assist.goes x found) (assist.gives x found)
 
 -- the search behind the wait has found no room
-abbrev pub refuses : (waited : Bool) → Option Found → Bool
-refuses true (Some NoRoom) = true
-refuses _ _ = false
+abbrev pub refuses_behind_wait : (waited : Bool) → Option Found → Bool
+refuses_behind_wait true (Some NoRoom) = true
+refuses_behind_wait _ _ = false
 
 -- what the statement is answered, if it ends with the step
 abbrev pub answer_found : (waited : Bool) → Found → Option Answer
@@ -174,9 +179,9 @@ gives_at marking (Assist n x) found = answer_assist n (assist.gives x found)
 
 -- the statement acts by the step, and whether it then found no room
 abbrev pub acts_at : NewStage → (found : ℕ) → Bool
-acts_at (Search waited s) found = refuses waited (search.gives s found)
+acts_at (Search waited s) found = refuses_behind_wait waited (search.gives s found)
 acts_at (Wait x) found = false
-acts_at (Place p) found = place.acts p
+acts_at (Place p) found = place.makes_its_object p
 acts_at (Want n) found = false
 acts_at (Assist n x) found = false
 

@@ -7,7 +7,7 @@ use Rattle.gh_mutator.specs.Processor.{at_task}
 
 -- a step of the making makes the object in the slot at this heap word
 abbrev pub made_at : Placing → Option ℕ
-made_at p = if place.acts p then Some p.at else None
+made_at p = if place.makes_its_object p then Some p.at else None
 
 -- the processor at the next stage, once the object is made in the slot at this heap word, if it is, and the making is over, where it says whether a cycle is to be asked for
 abbrev pub made_by_step : Processor → Wanted → Option ℕ → Processor

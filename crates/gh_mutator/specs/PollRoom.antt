@@ -38,8 +38,8 @@ RoomBehind p task.Idle = has_entries p ≡ true
 RoomBehind p task.Poll = MakesRoom p
 RoomBehind p _ = ⊥
 
-abbrev pub MayStore : Processor → Type 0
-MayStore m = RoomBehind m.poll m.task
+abbrev pub HasRoomToStore : Processor → Type 0
+HasRoomToStore m = RoomBehind m.poll m.task
 
 -- it looks for a buffer with room
 abbrev pub LooksForRoom : PollStage → Type 0
@@ -48,9 +48,9 @@ LooksForRoom _ = ⊥
 
 pub record PollsMakeRoom : Type 0 where
   -- it is so from the begin of the poll on, until another operation begins
-  pub begins : (shapes : List Shape) (m : Processor) → MayStore (begins shapes m op.Poll)
-  pub goes_on : (shapes : List Shape) (m : Processor) (found : ℕ) → MayStore m → MayStore (takes shapes m found)
+  pub begins : (shapes : List Shape) (m : Processor) → HasRoomToStore (begins shapes m op.Poll)
+  pub goes_on : (shapes : List Shape) (m : Processor) (found : ℕ) → HasRoomToStore m → HasRoomToStore (takes shapes m found)
   -- and then any operation may begin
-  pub room : (m : Processor) (o : Op) → is_busy_at m.task ≡ false → MayStore m → has_room m o ≡ true
+  pub room : (m : Processor) (o : Op) → is_busy_at m.task ≡ false → HasRoomToStore m → has_room m o ≡ true
   -- a poll of a wait takes none: no step of it leads to the search for room
   pub waits_take_none : (p : Polling) (found : ℕ) → p.waits ≡ true → LooksForRoom (goes p found).stage → LooksForRoom p.stage

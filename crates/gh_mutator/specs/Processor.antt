@@ -10,7 +10,7 @@ use Rattle.gh_mutator.specs.declared.processor.Processor.{Processor}
 use Rattle.gh_mutator.specs.declared.task.Task.{Task}
 use Rattle.gh_mutator.specs.declared.task.Task.TheVariants.{Idle}
 use Rattle.gh_mutator.specs.Barrier.{with_held}
-use Rattle.gh_mutator.specs.Local.{cached_at, first_local, register_at, with_cached, with_register, with_value}
+use Rattle.gh_mutator.specs.Local.{cached_at, first_local, register_at, with_cached, with_register_value, with_value_if_any}
 use Rattle.gh_mutator.specs.Poll.{Polling, resting}
 
 abbrev pub at_task : Processor → Task → Processor
@@ -24,11 +24,11 @@ abbrev pub register_of : Processor → (g d : ℕ) → Value
 register_of m g d = register_at m.poll g d
 
 abbrev pub set_register : Processor → (g d : ℕ) → Value → Processor
-set_register m g d v = at_poll m (with_register m.poll g d v)
+set_register m g d v = at_poll m (with_register_value m.poll g d v)
 
 -- register d of goroutine g takes the value, if there is one
 abbrev pub taking : Processor → (g d : ℕ) → Option Value → Processor
-taking m g d v = at_poll m (with_value m.poll g d v)
+taking m g d v = at_poll m (with_value_if_any m.poll g d v)
 
 -- the buffer that it holds is this, if it holds one
 abbrev pub keeping : Processor → Option Held → Processor

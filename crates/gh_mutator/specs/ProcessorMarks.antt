@@ -14,7 +14,7 @@ use Rattle.gh_mutator.specs.Barrier.{has_entries}
 use Rattle.gh_mutator.specs.Fields.{is_number_value}
 use Rattle.gh_mutator.specs.Listing.{asks, begins, takes}
 use Rattle.gh_mutator.specs.Local.{register_at}
-use Rattle.gh_mutator.specs.MarkFacts.{IsBetween, holding, KnowsCycle, KnowsNumber, KnowsStacks, LeaveFacts, PollFacts, WaitFacts}
+use Rattle.gh_mutator.specs.MarkFacts.{IsBetween, holding_only, KnowsCycle, KnowsNumber, KnowsStacks, LeaveFacts, PollFacts, WaitFacts}
 use Rattle.gh_mutator.specs.MarkVocabulary.{Cycle, Good, Hands, IsParked, KnowsObjects, Local, Others, Shared, Steps, cell_of, nothing, stage_of}
 use Rattle.gh_mutator.specs.Vocabulary.{Assist, Assisting, GlobalStage, NewStage, Op, Place, Polling, Processor, Search, Shape, Store, StoreStage, Task, Wait, Want}
 use Rattle.gh_mutator.specs.Wait.{waiting}
@@ -35,7 +35,7 @@ pub record IsPlacing (z : Cycle) (a : ℕ) (s : Shared) (local : Local) (x : Pla
   pub marking : x.marking ≡ true
   pub stacks : KnowsStacks z a s local.stacks local.scanned
   pub number : KnowsNumber z local.view
-  pub hands : Hands a s (record (holding local.held) { placing = reserved_at x.at x.stage })
+  pub hands : Hands a s (record (holding_only local.held) { placing = reserved_at x.at x.stage })
 
 -- an assist behind the making of an object
 pub record IsAssisting (z : Cycle) (a : ℕ) (s : Shared) (local : Local) (x : Assisting) : Type 0 where

@@ -7,7 +7,7 @@ use Rattle.gh_alloc.specs.Place.{Placing}
 use Rattle.gh_alloc.specs.Place as place
 use Rattle.gh_alloc.specs.Search.{Seeking}
 use Rattle.gh_alloc.specs.Search as search
-use Rattle.gh_phase.specs.Handshake.{IsQuiet}
+use Rattle.gh_phase.specs.Handshake.{IsQuietInHandshake}
 use Rattle.gh_mutator.specs.declared.global.Global.{Global}
 use Rattle.gh_mutator.specs.declared.load.Load.{Load}
 use Rattle.gh_mutator.specs.declared.register.Register.{Register}
@@ -21,13 +21,13 @@ use Rattle.gh_mutator.specs.Store as store
 
 pub record ProcessorIsQuiet : Type 0 where
   -- the parts of a poll and a leave
-  pub gives_back : (g : give.Giving) → IsQuiet (give.asks g)
-  pub marks_a_stack : (m : mark.StackMarking) → IsQuiet (mark.asks m)
+  pub gives_back : (g : give.Giving) → IsQuietInHandshake (give.asks g)
+  pub marks_a_stack : (m : mark.StackMarking) → IsQuietInHandshake (mark.asks m)
   -- the statements
-  pub loads : (l : Layout) (x : Load) → IsQuiet (load.asks l x)
-  pub stores : (l : Layout) (held : Value) (x : Store) → IsQuiet (store.asks l held x)
-  pub globals : (l : Layout) (held : Value) (x : Global) → IsQuiet (global.asks l held x)
-  pub registers : (x : Register) → IsQuiet (register.asks x)
-  pub searches : (s : Seeking) → IsQuiet (search.asks s)
-  pub makes : (p : Placing) → IsQuiet (place.asks p)
-  pub assists : (x : Assisting) → IsQuiet (assist.asks x)
+  pub loads : (l : Layout) (x : Load) → IsQuietInHandshake (load.asks l x)
+  pub stores : (l : Layout) (held : Value) (x : Store) → IsQuietInHandshake (store.asks l held x)
+  pub globals : (l : Layout) (held : Value) (x : Global) → IsQuietInHandshake (global.asks l held x)
+  pub registers : (x : Register) → IsQuietInHandshake (register.asks x)
+  pub searches : (s : Seeking) → IsQuietInHandshake (search.asks s)
+  pub makes : (p : Placing) → IsQuietInHandshake (place.asks p)
+  pub assists : (x : Assisting) → IsQuietInHandshake (assist.asks x)

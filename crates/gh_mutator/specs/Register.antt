@@ -34,14 +34,14 @@ abbrev pub read_of : Register → ℕ
 read_of x = read_from x x.source
 
 -- the value that the register takes, where the one that is read holds this
-abbrev pub value_from : (held : Value) → Source → Value
-value_from held (Int n) = value.Int n
-value_from held (Move s) = held
-value_from held Nil = value.Nil
+abbrev pub value_of_source : (held : Value) → Source → Value
+value_of_source held (Int n) = value.Int n
+value_of_source held (Move s) = held
+value_of_source held Nil = value.Nil
 
 -- the step that it asks for, and what that step does
 abbrev pub asks : Register → Ask
 asks x = ask.Load cell.Touch
 
 abbrev pub step : (held : Value) → Register → Step Register
-step held x = record { then = Ends answer.Done; sets = Some (value_from held x.source); acts = true }
+step held x = record { then = Ends answer.Done; sets = Some (value_of_source held x.source); acts = true }

@@ -8,7 +8,7 @@ use Rattle.gh_alloc.specs.Place as place
 use Rattle.gh_assist.specs.Listing as assist
 use Rattle.gh_alloc.specs.Search as search
 use Rattle.gh_alloc.specs.FindSound.{IsSought}
-use Rattle.gh_alloc.specs.Within.{words_of}
+use Rattle.gh_alloc.specs.Within.{words_sought}
 use Rattle.gh_barrier.specs.Listing as write
 use Rattle.gh_mutator.specs.declared.global.GlobalStage.TheVariants as global
 use Rattle.gh_mutator.specs.declared.load.Load.{Load}
@@ -20,6 +20,7 @@ use Rattle.gh_mutator.specs.declared.task.Task.TheVariants as task
 use Rattle.gh_mutator.specs.Barrier.{has_entries}
 use Rattle.gh_mutator.specs.GiveSound.{Runs}
 use Rattle.gh_mutator.specs.Leave as leave
+use Rattle.gh_mutator.specs.Local.{cache_with}
 use Rattle.gh_mutator.specs.New.{is_made}
 use Rattle.gh_mutator.specs.Poll as poll
 use Rattle.gh_mutator.specs.Processor.{made_by, register_of}
@@ -59,8 +60,8 @@ IsNear pages (value.Ref r) = r ≤ 1024 * pages
 IsNear pages _ = Unit {0}
 
 -- the words of a slot are at most those of 8191 pages
-abbrev pub IsField : (k : ℕ) → Type 0
-IsField k = k < 2 ^ 23
+abbrev pub IsFieldNumber : (k : ℕ) → Type 0
+IsFieldNumber k = k < 2 ^ 23
 
 -- a store of a pointer makes two entries at the most, while marking is on
 abbrev pub has_room : Processor → Op → Bool
@@ -72,8 +73,8 @@ has_room m _ = true
 
 -- behind the page word the field is known to be there
 abbrev pub SoundLoadStage : (k : ℕ) → LoadStage → Type 0
-SoundLoadStage k load.Bits = IsField k
-SoundLoadStage k (load.Field pointer) = IsField k
+SoundLoadStage k load.Bits = IsFieldNumber k
+SoundLoadStage k (load.Field pointer) = IsFieldNumber k
 SoundLoadStage k _ = Unit {0}
 
 pub record SoundLoad (pages : ℕ) (x : Load) : Type 0 where
@@ -82,8 +83,8 @@ pub record SoundLoad (pages : ℕ) (x : Load) : Type 0 where
   pub stage : SoundLoadStage x.k x.stage
 
 abbrev pub SoundStoreStage : (k : ℕ) → StoreStage → Type 0
-SoundStoreStage k store.Bits = IsField k
-SoundStoreStage k store.Field = IsField k
+SoundStoreStage k store.Bits = IsFieldNumber k
+SoundStoreStage k store.Field = IsFieldNumber k
 SoundStoreStage k _ = Unit {0}
 
 pub record SoundStore (pages : ℕ) (x : Store) : Type 0 where
@@ -116,25 +117,26 @@ pub record SoundWanted (shapes : List Shape) (w : Wanted) : Type 0 where
   pub type : w.t < length shapes
   pub sought : IsSought w.sought
   pub slot : 1 ≤ w.slot
-  pub words : w.slot ≡ words_of w.sought
+  pub words : w.slot ≡ words_sought w.sought
 
--- the search is for this object, in this heap, and it is not over
-pub record SoundSearch (l : Layout) (w : Wanted) (s : Seeking) : Type 0 where
+-- the search is for this object, in this heap, and it is not over; the span that it has cached is cached with the poll, where to cache it changes nothing
+pub record SoundSearch (p : Polling) (w : Wanted) (s : Seeking) : Type 0 where
   pub busy : search.is_busy s.find s.stage ≡ true
-  pub layout : s.find.layout ≡ l
+  pub layout : s.find.layout ≡ p.layout
   pub wanted : s.find.wanted ≡ w.sought
+  pub cached : cache_with p.local.cache w.sought s.find.cached ≡ p.local.cache
 
 -- the making is one in this heap, and it is not over
 pub record SoundPlace (l : Layout) (p : Placing) : Type 0 where
   pub busy : place.is_busy p.stage ≡ true
   pub layout : p.layout ≡ l
 
-abbrev pub SoundStage : Polling → Wanted → NewStage → Type 0
-SoundStage p w (new.Search waited s) = SoundSearch p.layout w s
-SoundStage p w (new.Wait x) = FitsWait p x
-SoundStage p w (new.Place x) = SoundPlace p.layout x
-SoundStage p w (new.Want n) = Unit {0}
-SoundStage p w (new.Assist n x) = Runs p.layout x.layout (assist.is_busy x.stage)
+abbrev pub SoundNewStage : Polling → Wanted → NewStage → Type 0
+SoundNewStage p w (new.Search waited s) = SoundSearch p w s
+SoundNewStage p w (new.Wait x) = FitsWait p x
+SoundNewStage p w (new.Place x) = SoundPlace p.layout x
+SoundNewStage p w (new.Want n) = Unit {0}
+SoundNewStage p w (new.Assist n x) = Runs p.layout x.layout (assist.is_busy x.stage)
 
 -- there is a further name for the object that is being made
 abbrev pub HasName : (made : ℕ) → NewStage → Type 0
@@ -157,7 +159,7 @@ SoundTask shapes p made (task.Load x) = SoundLoad p.layout.pages x
 SoundTask shapes p made (task.Store x) = SoundStore p.layout.pages x × StoreRoom p x.stage
 SoundTask shapes p made (task.Global x) = SoundGlobal p.layout.globals x × GlobalRoom p x.stage
 SoundTask shapes p made (task.Register x) = SoundRegister x
-SoundTask shapes p made (task.New x) = SoundWanted shapes x.wanted × SoundStage p x.wanted x.stage × HasName (slice_index made x.wanted.g) x.stage
+SoundTask shapes p made (task.New x) = SoundWanted shapes x.wanted × SoundNewStage p x.wanted x.stage × HasName (slice_index made x.wanted.g) x.stage
 SoundTask shapes p made (task.Gc g x) = FitsWait p x
 SoundTask shapes p made task.Poll = poll.is_busy p.stage ≡ true
 SoundTask shapes p made (task.End g) = g < p.layout.goroutines

@@ -20,12 +20,12 @@ abbrev pub spent_new : Polling → NewStage → ℕ
 spent_new p (Assist n x) = x.spent
 spent_new p _ = p.local.spent
 
-abbrev pub spent_at : Polling → Task → ℕ
-spent_at p (task.New x) = spent_new p x.stage
-spent_at p _ = p.local.spent
+abbrev pub spent_in_task : Polling → Task → ℕ
+spent_in_task p (task.New x) = spent_new p x.stage
+spent_in_task p _ = p.local.spent
 
 abbrev pub spent_of : Processor → ℕ
-spent_of m = spent_at m.poll m.task
+spent_of m = spent_in_task m.poll m.task
 
 -- What it owes; while it assists, the assist counts that too.
 abbrev pub owed_new : Polling → NewStage → ℕ

@@ -295,7 +295,7 @@ waits_stay m after stays x found = stays (wait.goes (wait.waiting x m.poll) foun
 new_stays : (shapes : List Shape) (m : Processor) (w : Wanted) (s : NewStage) (found : ℕ) → (new.takes_at shapes m w s found).poll.layout ≡ m.poll.layout
 new_stays shapes m w (Search waited s) found = search_stays shapes (cache_span m w.sought (search.goes s found).find.cached) w waited (search.goes s found) (search.gives s found)
 new_stays shapes m w (Wait x) found = waits_stay m (after_wait m w) (λ y. once (In y.poll) (after_wait m w y) refl (λ u. refl)) x found
-new_stays shapes m w (Place p) found = place_stays m w (place.acts p) p.at (place.goes p found)
+new_stays shapes m w (Place p) found = place_stays m w (place.makes_its_object p) p.at (place.goes p found)
 new_stays shapes m w (Want n) found = refl
 new_stays shapes m w (Assist n x) found = assist_stays m w n (assist.goes x found) (assist.gives x found)
 

@@ -7,7 +7,7 @@ ghost use Rattle.gh_base.specs.Steps.{cell_of};
 ghost use Rattle.gh_class.specs.declared.class.TheConstants.{SPAN_CLASSES};
 ghost use Rattle.gh_wbuf.specs.BufferGiving as buffers;
 ghost use Rattle.gh_mutator.specs.Give.{given, giving_buffer, goes_at, head_store, is_busy, none_cached, opening, span_class, stage_from};
-ghost use Rattle.gh_mutator.specs.GiveSound.{FitsCache, FitsSpan, FitsStage, Runs};
+ghost use Rattle.gh_mutator.specs.GiveSound.{FitsCache, FitsCachedSpan, FitsStage, Runs};
 
 use gh_alloc::{CachedSpan, given_head};
 use gh_base::{Ask, Cell, Held, Layout, Machine, PageWord, Req};
@@ -172,7 +172,7 @@ impl Give {
 
     /// The step that gives this span back.
     fn give_span(&self, class: u32, span: CachedSpan) -> Ask
-        requires { FitsSpan self.now.layout class span }
+        requires { FitsCachedSpan self.now.layout class span }
         ensures is { result ≡ head_store self.now.generation class span }
         ensures within { InRange self.now.layout (cell_of result) }
     {

@@ -5,7 +5,7 @@ ghost use Rattle.gh_base.specs.Cells.{InRange};
 ghost use Rattle.gh_base.specs.Steps.{cell_of, request};
 ghost use Rattle.gh_base.specs.declared.layout.Layout.{Layout};
 ghost use Rattle.gh_base.specs.declared.value.Value.{Value};
-ghost use Rattle.gh_mutator.specs.Fields.{told};
+ghost use Rattle.gh_mutator.specs.Fields.{value_told};
 ghost use Rattle.gh_barrier.specs.Listing as writes;
 ghost use Rattle.gh_mutator.specs.Barrier.{has_entries, held_then, with_held};
 ghost use Rattle.gh_mutator.specs.GiveSound.{Runs};
@@ -120,7 +120,7 @@ impl Global {
     /// What a found value is told as; of a reference the name is loaded first.
     fn told(&self, value: Value) -> Then<Global>
         requires { IsNear 1024 value }
-        ensures { result ≡ told (naming self.now) value }
+        ensures { result ≡ value_told (naming self.now) value }
     {
         match value {
             Value::Nil => Then::Ends(Answer::Nil),

@@ -5,7 +5,7 @@ ghost use Rattle.std.specs.Prelude.{◌≡◌};
 ghost use Rattle.gh_base.specs.Cells.{InRange};
 ghost use Rattle.gh_base.specs.Steps.{cell_of};
 ghost use Rattle.gh_base.specs.declared.layout.Layout.{Layout};
-ghost use Rattle.gh_mutator.specs.Fields.{told};
+ghost use Rattle.gh_mutator.specs.Fields.{value_told};
 ghost use Rattle.gh_mutator.specs.Load.{asks, at_stage, begins, naming, step};
 ghost use Rattle.gh_mutator.specs.Sound.{IsNear, SoundLoad};
 
@@ -92,7 +92,7 @@ impl Load {
     /// What a found value is told as; of a reference the name is loaded first.
     fn told(self, value: Value) -> Then<Load>
         requires { IsNear 1024 value }
-        ensures { result ≡ told (naming self) value }
+        ensures { result ≡ value_told (naming self) value }
     {
         match value {
             Value::Nil => Then::Ends(Answer::Nil),

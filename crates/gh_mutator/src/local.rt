@@ -7,7 +7,7 @@
 ghost use Rattle.std.specs.Prelude.{◌≡◌, ◌^◌, ◌<◌, true};
 ghost use Rattle.gh_alloc.specs.FindSound.{IsCached};
 ghost use Rattle.gh_mutator.specs.Leave.{is_busy};
-ghost use Rattle.gh_mutator.specs.Local.{cached_at, first_local, leaving, marking_at, register_at, with_cached, with_ended, with_nothing, with_register};
+ghost use Rattle.gh_mutator.specs.Local.{cached_at, first_local, leaving, marking_at, register_at, with_cached, with_ended, with_nothing, with_register_value};
 ghost use Rattle.gh_mutator.specs.PollSound.{FitsLocal};
 ghost use Rattle.gh_mutator.specs.Sound.{IsRegister};
 
@@ -86,7 +86,7 @@ impl Poll {
     /// Register `d` of goroutine `g` takes a value.
     pub(crate) fn set_register(&mut self, g: u32, d: u32, value: Value)
         requires { IsRegister g d }
-        ensures { self.new ≡ with_register self.old g d value }
+        ensures { self.new ≡ with_register_value self.old g d value }
     {
         self.local.stacks[g as usize][d as usize] = value;
     }

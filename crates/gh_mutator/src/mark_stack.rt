@@ -9,7 +9,7 @@ ghost use Rattle.gh_scan.specs.Listing.{reference_in};
 ghost use Rattle.gh_stack.specs.Listing as stacks;
 ghost use Rattle.gh_mutator.specs.GiveSound.{Runs};
 ghost use Rattle.gh_mutator.specs.MarkStack.{given, goes_at, goes_on, is_busy, opening, stage_of};
-ghost use Rattle.gh_mutator.specs.MarkStackSound.{FitsStage, Waits};
+ghost use Rattle.gh_mutator.specs.MarkStackSound.{FitsStage, StackShadingWaits};
 
 use gh_base::{Ask, Cell, Held, Layout, Machine, Req, Value};
 use gh_shade::{Shade, Shaded};
@@ -149,7 +149,7 @@ impl MarkStack {
 
     /// Takes a step of this search for room, which that shading waits for.
     fn find_room(&mut self, shade: &Shade, room: &FindRoom, found: u64)
-        requires waits { Waits self.old.layout self.old.scan shade.now room.now }
+        requires waits { StackShadingWaits self.old.layout self.old.scan shade.now room.now }
         ensures { self.new ≡ goes_at self.old (MarkStackStage.FindRoom shade.now room.now) found }
     {
         let (mut shade, mut room) = (*shade, *room);

@@ -1,6 +1,6 @@
 //! The machine of a processor.
 
-ghost use Rattle.std.specs.Prelude.{◌≡◌, ℕ, ◌*◌, ◌<◌, IfSome, IsTrue, Some, true, false};
+ghost use Rattle.std.specs.Prelude.{◌≡◌, ℕ, ◌*◌, ◌<◌, IfSome, IsTrue, None, Some, true, false};
 ghost use Rattle.gh_base.specs.declared.cell.Ask.TheVariants as ask;
 ghost use Rattle.gh_base.specs.declared.cell.Cell.TheVariants as cell;
 ghost use Rattle.gh_base.specs.declared.operation.Op.TheVariants as ops;
@@ -8,6 +8,7 @@ ghost use Rattle.gh_base.specs.declared.value.Answer.{Answer};
 ghost use Rattle.gh_base.specs.declared.value.Answer.TheVariants as answers;
 ghost use Rattle.gh_mutator.specs.AtOnce.{object_in};
 ghost use Rattle.gh_mutator.specs.Faults.{rested};
+ghost use Rattle.gh_mutator.specs.Listing.{search_goes_on};
 ghost use Rattle.gh_mutator.specs.Mutating.{acts, asks, begins, goes, is_busy, opening, passes, sets};
 ghost use Rattle.gh_mutator.specs.Barrier.{has_entries};
 ghost use Rattle.gh_mutator.specs.Processor.{register_of, set_register};
@@ -17,6 +18,7 @@ ghost use Rattle.gh_base.specs.Shapes.{ShapesFit};
 ghost use Rattle.gh_mutator.specs.Sound.{has_names, has_room, IsNear, IsRegister, SoundOp};
 ghost use Rattle.gh_mutator.specs.Spending.{spent_of};
 
+use crate::new::NewStage;
 use crate::processor::Processor;
 use crate::task::Task;
 use gh_base::{Answer, Layout, Machine, Op, Req, Shapes, Value};
@@ -211,6 +213,30 @@ impl<'s> Mutator<'s> {
         ensures { result ≡ is_point (acts self.now found) }
     {
         self.processor.is_point(self.shapes, found)
+    }
+
+    /// Makes the step that found this at once, where by it the search of a `new` goes on to the next alloc word of a span or
+    /// to a further page, and answers whether that is so; where not, nothing has changed, and [`take`](Machine::take) makes
+    /// the step. Such a step answers nothing and is the point of no statement.
+    ///
+    /// In a large arena most steps of a `new` are such. Each changes a number or two of the search, where `take` goes
+    /// through all that a processor may be at.
+    #[inline(always)]
+    pub fn goes_on(&mut self, found: u64) -> bool
+        ensures exactly { result ≡ search_goes_on self.old.processor.task found }
+        ensures goes { IsTrue result → self.new ≡ goes self.old found }
+        ensures last { IsTrue result → is_last self.old.processor.task ≡ false }
+        ensures point { IsTrue result → is_point (acts self.old found) ≡ false }
+        ensures answer { IsTrue result → statement_answer self.old.processor found ≡ None }
+        ensures stays { result ≡ false → self.new ≡ self.old }
+    {
+        match &mut self.processor.task {
+            Task::New(new) => match &mut new.stage {
+                NewStage::Search { search, .. } => search.goes_on(found),
+                _ => false,
+            },
+            _ => false,
+        }
     }
 
     /// The words that it has drawn from the bank of credit. The number stands at `u64::MAX`, which no run reaches.

@@ -173,10 +173,12 @@ impl Poll {
             return false;
         }
         let word = PhaseWord::unpack(found);
+        // A stop is served stage by stage: what is held goes back before it is acknowledged.
         if RunPhase::of(word.phase).is_none() {
             return false;
         }
         match self.local.view.phase {
+            // While marking is on a poll may scan a stack, and sees to a buffer with room.
             RunPhase::Mark => false,
             RunPhase::Off | RunPhase::Finished => {
                 self.waits = false;
@@ -190,6 +192,8 @@ impl Poll {
         ensures is { result ≡ room_stage self.now.layout self.now.seat self.now.waits self.now.local.held }
         ensures fits { FitsStage self.now.layout result }
     {
+        // Within a wait no buffer is taken: the coordinator cannot see into one that is held, and the cycle that is waited for
+        // might never end.
         if self.waits || has_two(self.local.held) {
             PollStage::Ended
         } else {
@@ -210,6 +214,7 @@ impl Poll {
         ensures is { result ≡ due self.now }
         ensures there { IfSome result (λ g. g < self.now.layout.goroutines) }
     {
+        // A scan takes many steps, so three polls of four go without: statements go on between two stacks.
         if self.local.polls % 4 == 0 {
             let cycle = self.local.view.begun;
             first_due(&self.layout, self.seat, cycle, &self.local.scanned)
@@ -251,6 +256,8 @@ impl Poll {
         if give.is_busy() {
             self.stage = PollStage::Giving(*give, stops);
         } else {
+            // Nothing is cached or held any more: whoever stops the world finds each entry in a buffer that nobody holds, and each
+            // span without an owner.
             self.local.cache = give.cache();
             self.local.held = give.held();
             let resume = Resume::new(&self.layout, self.seat, stops, self.local.view);
@@ -295,6 +302,7 @@ impl Poll {
             None => self.stage = PollStage::Resuming(resume),
             Some(resumed) => {
                 self.local.view = resumed.view;
+                // Each cycle scans its stacks anew, and begins with one at once.
                 if resumed.another_cycle {
                     self.local.polls = 0;
                 }

@@ -2,7 +2,7 @@
 //! statement takes a step.
 
 ghost use Rattle.std.specs.Prelude.{◌≡◌};
-ghost use Rattle.gh_mutator.specs.Register.{read_of, step, value_from};
+ghost use Rattle.gh_mutator.specs.Register.{read_of, step, value_of_source};
 
 use crate::step::{Step, Then};
 use gh_base::{Answer, Value};
@@ -39,7 +39,7 @@ impl Register {
 
     /// The value that the register takes, where the one that is read holds this.
     fn value(self, held: Value) -> Value
-        ensures { result ≡ value_from held self.source }
+        ensures { result ≡ value_of_source held self.source }
     {
         match self.source {
             Source::Int(number) => Value::Int(number),

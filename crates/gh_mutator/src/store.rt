@@ -10,7 +10,7 @@ ghost use Rattle.gh_mutator.specs.Listing.{applied};
 ghost use Rattle.gh_mutator.specs.Processor.{keeping, register_of};
 ghost use Rattle.gh_mutator.specs.Step.{answered};
 ghost use Rattle.gh_mutator.specs.declared.task.Task.TheVariants as task;
-ghost use Rattle.gh_mutator.specs.Sound.{IsField, IsNear, SoundStore, StoreRoom};
+ghost use Rattle.gh_mutator.specs.Sound.{IsFieldNumber, IsNear, SoundStore, StoreRoom};
 ghost use Rattle.gh_mutator.specs.Store.{after_write, asks, at_stage, begins, by_kind, held_behind, step, stores};
 
 use crate::field::{
@@ -102,7 +102,7 @@ impl Store {
     /// Behind the bitmap word, which says whether the field is a pointer.
     fn by_kind(&self, poll: &Poll, held: Value, pointer: bool) -> Step<Store>
         requires sound { SoundStore poll.now.layout.pages self.now }
-        requires field { IsField self.now.k }
+        requires field { IsFieldNumber self.now.k }
         requires room { has_entries poll.now ≡ true }
         requires near { IsNear poll.now.layout.pages held }
         ensures { result ≡ by_kind poll.now.layout poll.now.local held self.now pointer }

@@ -2,7 +2,7 @@
 use Rattle.std.specs.Prelude.{◌≡◌, ◌≢◌, ℕ, ◌+◌, ◌^◌, ◌<◌, ◌≤◌, Bool, true, false, List, ◌++◌, length, slice_index, Option, Some, None}
 use Rattle.std.specs.Option.{option_to_list}
 use Rattle.gh_mutator.specs.Vocabulary.{Answer, cell_of, IsOf, MOST_GOROUTINES, Name, Op, Placing, Polling, REGISTERS, Seeking, Shape, shape_at, Small, Sought, SpanClass}
-use Rattle.gh_mutator_heap.specs.Vocabulary.{Arena, Ever, EverValue, fits, FitsShape, Good, is_number, IsMade, MOST_STATEMENTS, page_of, points, Runs, Shared, size_for, SpanHead, Steps, View, view, Assist, Global, GlobalStage, Load, LoadStage, NewStage, Place, Processor, Register, Search, Source, Store, StoreStage, Task, Wait, Want, Wanted}
+use Rattle.gh_mutator_heap.specs.Vocabulary.{Arena, Ever, EverValue, fits, FitsShape, Good, is_number, IsMade, MOST_STATEMENTS, page_of, points, GoroutineRuns, Shared, size_for, SpanHead, Steps, View, view, Assist, Global, GlobalStage, Load, LoadStage, NewStage, Place, Processor, Register, Search, Source, Store, StoreStage, Task, Wait, Want, Wanted}
 use Rattle.gh_base.specs.declared.operation.Op.TheVariants as op
 use Rattle.gh_base.specs.declared.pack.PageWord.TheVariants as page
 use Rattle.gh_base.specs.declared.value.Answer.TheVariants as answer
@@ -28,7 +28,7 @@ use Rattle.gh_mutator.specs.Deeds.{acted, answer_at}
 use Rattle.gh_mutator.specs.Listing.{Act, acts, asks, gives, takes}
 use Rattle.gh_mutator.specs.Local.{cache_with, register_at}
 use Rattle.gh_mutator.specs.New.{is_made, own_span, sought_for, wanted_of}
-use Rattle.gh_mutator_heap.specs.PollHeap.{leave_held, leave_locked, LeaveFacts, lists, no_page, poll_held, poll_locked, PollFacts, Rests, Stands, WaitFacts, waits_held, waits_locked}
+use Rattle.gh_mutator_heap.specs.PollHeap.{KnowsAtAnyTime, leave_held, leave_locked, LeaveFacts, lists, no_page, poll_held, poll_locked, PollFacts, Rests, WaitFacts, waits_held, waits_locked}
 use Rattle.gh_mutator.specs.Processor.{cached_for}
 use Rattle.gh_mutator.specs.Store.{pointer_cell_at}
 use Rattle.gh_mutator.specs.Wait.{waiting}
@@ -113,7 +113,7 @@ module _ (z : Arena) (a : ℕ) (v : View) (p : Polling) where
   KnowsNew _ = Rests z a v p
 
   abbrev pub KnowsAt : Task → Type 0
-  KnowsAt task.Left = Stands z a v p
+  KnowsAt task.Left = KnowsAtAnyTime z a v p
   KnowsAt (task.New x) = KnowsNew x.stage
   KnowsAt (task.Gc g x) = WaitFacts z a v (waiting x p)
   KnowsAt task.Poll = PollFacts z a v p
@@ -129,7 +129,7 @@ IsPlain _ = Unit {0}
 
 -- register b of goroutine g names the object at heap word a
 pub record Through (z : Arena) (a : ℕ) (v : View) (g b at : ℕ) (n : Name) : Type 0 where
-  pub runs : Runs z v a g
+  pub runs : GoroutineRuns z v a g
   pub register : b < REGISTERS
   pub names : v.ever.register g b ≡ ever.Ref n
   pub made : IsMade v.ever.made n
@@ -153,7 +153,7 @@ LoadFacts z a v x pending load_stage.Page = Loads z a v x pending
 LoadFacts z a v x pending load_stage.Bits = (l : Loads z a v x pending) × (x.k < size_for z.shapes v.ever.type_of l.n)
 LoadFacts z a v x pending (load_stage.Field p) = (l : Loads z a v x pending) × (x.k < size_for z.shapes v.ever.type_of l.n) × (p ≡ points z.shapes v.ever.type_of l.n x.k)
 LoadFacts z a v x pending (load_stage.Birth at) = Takes z a v x.g x.d at pending
-LoadFacts z a v x pending load_stage.NilBase = Runs z v a x.g × (x.b < REGISTERS) × IsPlain (v.ever.register x.g x.b) × (pending ≡ None)
+LoadFacts z a v x pending load_stage.NilBase = GoroutineRuns z v a x.g × (x.b < REGISTERS) × IsPlain (v.ever.register x.g x.b) × (pending ≡ None)
 
 pub record Stores (z : Arena) (a : ℕ) (v : View) (x : Store) (pending : Option Answer) : Type 0 where
   pub n : Name
@@ -168,23 +168,23 @@ StoreFacts z a v p x pending store_stage.Bits = (l : Stores z a v x pending) × 
 StoreFacts z a v p x pending store_stage.Field = (l : Stores z a v x pending) × (x.k < size_for z.shapes v.ever.type_of l.n) × (fits (points z.shapes v.ever.type_of l.n x.k) (v.ever.register x.g x.v) ≡ true)
 StoreFacts z a v p x pending (store_stage.Writing w) =
     (l : Stores z a v x pending) × (x.k < size_for z.shapes v.ever.type_of l.n) × (fits (points z.shapes v.ever.type_of l.n x.k) (v.ever.register x.g x.v) ≡ true) × WritesIt z.layout (pointer_cell_at p.layout (x.at + x.k)) (register_at p x.g x.v) w
-StoreFacts z a v p x pending store_stage.NilBase = Runs z v a x.g × (x.b < REGISTERS) × IsPlain (v.ever.register x.g x.b) × (pending ≡ None)
+StoreFacts z a v p x pending store_stage.NilBase = GoroutineRuns z v a x.g × (x.b < REGISTERS) × IsPlain (v.ever.register x.g x.b) × (pending ≡ None)
 
 abbrev pub GlobalFacts : Arena → (a : ℕ) → View → Polling → Global → Option Answer → GlobalStage → Type 0
-GlobalFacts z a v p x pending global_stage.Load = Runs z v a x.g × (x.r < REGISTERS) × (x.k < z.layout.globals) × (pending ≡ None)
+GlobalFacts z a v p x pending global_stage.Load = GoroutineRuns z v a x.g × (x.r < REGISTERS) × (x.k < z.layout.globals) × (pending ≡ None)
 GlobalFacts z a v p x pending (global_stage.Birth at) = Takes z a v x.g x.r at pending
-GlobalFacts z a v p x pending global_stage.Store = Runs z v a x.g × (x.r < REGISTERS) × (x.k < z.layout.globals) × (is_number (v.ever.register x.g x.r) ≡ false) × (pending ≡ None)
+GlobalFacts z a v p x pending global_stage.Store = GoroutineRuns z v a x.g × (x.r < REGISTERS) × (x.k < z.layout.globals) × (is_number (v.ever.register x.g x.r) ≡ false) × (pending ≡ None)
 GlobalFacts z a v p x pending (global_stage.Writing w) =
-    Runs z v a x.g × (x.r < REGISTERS) × (x.k < z.layout.globals) × (is_number (v.ever.register x.g x.r) ≡ false) × WritesIt z.layout (pointer_cell.Global x.k) (register_at p x.g x.r) w × (pending ≡ None)
-GlobalFacts z a v p x pending global_stage.Number = Runs z v a x.g × (is_number (v.ever.register x.g x.r) ≡ true) × (pending ≡ None)
+    GoroutineRuns z v a x.g × (x.r < REGISTERS) × (x.k < z.layout.globals) × (is_number (v.ever.register x.g x.r) ≡ false) × WritesIt z.layout (pointer_cell.Global x.k) (register_at p x.g x.r) w × (pending ≡ None)
+GlobalFacts z a v p x pending global_stage.Number = GoroutineRuns z v a x.g × (is_number (v.ever.register x.g x.r) ≡ true) × (pending ≡ None)
 
 abbrev pub RegisterFacts : Arena → (a : ℕ) → View → Register → Option Answer → Source → Type 0
-RegisterFacts z a v x pending (source.Move s) = Runs z v a x.g × (x.d < REGISTERS) × (s < REGISTERS) × (pending ≡ None)
-RegisterFacts z a v x pending _ = Runs z v a x.g × (x.d < REGISTERS) × (pending ≡ None)
+RegisterFacts z a v x pending (source.Move s) = GoroutineRuns z v a x.g × (x.d < REGISTERS) × (s < REGISTERS) × (pending ≡ None)
+RegisterFacts z a v x pending _ = GoroutineRuns z v a x.g × (x.d < REGISTERS) × (pending ≡ None)
 
 -- an object is to be made
 pub record Wants (z : Arena) (a : ℕ) (v : View) (w : Wanted) : Type 0 where
-  pub runs : Runs z v a w.g
+  pub runs : GoroutineRuns z v a w.g
   pub register : w.d < REGISTERS
   pub type : w.t < length z.shapes
   pub few : v.ever.made w.g < MOST_STATEMENTS
@@ -228,7 +228,7 @@ FactsAt z a v m pending (task.Store x) = StoreFacts z a v m.poll x pending x.sta
 FactsAt z a v m pending (task.Global x) = GlobalFacts z a v m.poll x pending x.stage
 FactsAt z a v m pending (task.Register x) = RegisterFacts z a v x pending x.source
 FactsAt z a v m pending (task.New x) = NewFacts z a v m x.wanted pending x.stage
-FactsAt z a v m pending (task.End g) = Runs z v a g × (pending ≡ None)
+FactsAt z a v m pending (task.End g) = GoroutineRuns z v a g × (pending ≡ None)
 FactsAt z a v m pending _ = pending ≡ None
 
 pub record Fine (z : Arena) (a : ℕ) (v : View) (m : Processor) (pending : Option Answer) : Type 0 where
@@ -246,7 +246,7 @@ pub record FoundNone (z : Arena) (a : ℕ) (v : View) (m : Processor) (sought : 
   pub full : (c : SpanClass) (p : ℕ) (h : SpanHead) → sought ≡ Small c → page_of (v.page p) ≡ page.Head h → h.class ≡ size.Small c.class → h.noscan ≡ c.noscan → h.owner ≡ 0 → IsFull v.alloc p h
   pub swept : (p : ℕ) (h : SpanHead) → page_of (v.page p) ≡ page.Head h → h.number ≡ v.generation
   pub in_use : (p : ℕ) (h : SpanHead) → page_of (v.page p) ≡ page.Head h → h.owner ≡ 0 → IsInUse v.alloc p h
-  pub no_run : (first : ℕ) → first + (span_for sought).pages ≤ z.layout.pages → (d : ℕ) × (d < (span_for sought).pages) × search.IsTaken z v (first + d)
+  pub no_run : (first : ℕ) → first + (span_for sought).pages ≤ z.layout.pages → (d : ℕ) × (d < (span_for sought).pages) × search.PageIsTaken z v (first + d)
 
 abbrev pub FullAt : Arena → (a : ℕ) → View → Processor → Op → Type 0
 FullAt z a v m (op.New g d t) = FoundNone z a v m (sought_for (shape_at z.shapes t))
@@ -282,13 +282,13 @@ Lasts = (z : Arena) (a : ℕ) (v w : View) (m : Processor) (pending : Option Ans
 
 -- What may begin: of a goroutine of this processor that has not ended, with registers, global and type in range, and a name for what is to be made; and at any time a `gc`, a poll and a leave.
 abbrev pub MayBegin : Arena → (a : ℕ) → View → Op → Type 0
-MayBegin z a v (op.New g d t) = Runs z v a g × (d < REGISTERS) × (t < length z.shapes) × (v.ever.made g < MOST_STATEMENTS)
-MayBegin z a v (op.Load g d b k) = Runs z v a g × (d < REGISTERS) × (b < REGISTERS)
-MayBegin z a v (op.Store g b k x) = Runs z v a g × (b < REGISTERS) × (x < REGISTERS)
-MayBegin z a v (op.GetGlobal g d k) = Runs z v a g × (d < REGISTERS) × (k < z.layout.globals)
-MayBegin z a v (op.SetGlobal g k x) = Runs z v a g × (x < REGISTERS) × (k < z.layout.globals)
-MayBegin z a v (op.Int g d n) = Runs z v a g × (d < REGISTERS)
-MayBegin z a v (op.Move g d s) = Runs z v a g × (d < REGISTERS) × (s < REGISTERS)
-MayBegin z a v (op.Nil g d) = Runs z v a g × (d < REGISTERS)
-MayBegin z a v (op.End g) = Runs z v a g
+MayBegin z a v (op.New g d t) = GoroutineRuns z v a g × (d < REGISTERS) × (t < length z.shapes) × (v.ever.made g < MOST_STATEMENTS)
+MayBegin z a v (op.Load g d b k) = GoroutineRuns z v a g × (d < REGISTERS) × (b < REGISTERS)
+MayBegin z a v (op.Store g b k x) = GoroutineRuns z v a g × (b < REGISTERS) × (x < REGISTERS)
+MayBegin z a v (op.GetGlobal g d k) = GoroutineRuns z v a g × (d < REGISTERS) × (k < z.layout.globals)
+MayBegin z a v (op.SetGlobal g k x) = GoroutineRuns z v a g × (x < REGISTERS) × (k < z.layout.globals)
+MayBegin z a v (op.Int g d n) = GoroutineRuns z v a g × (d < REGISTERS)
+MayBegin z a v (op.Move g d s) = GoroutineRuns z v a g × (d < REGISTERS) × (s < REGISTERS)
+MayBegin z a v (op.Nil g d) = GoroutineRuns z v a g × (d < REGISTERS)
+MayBegin z a v (op.End g) = GoroutineRuns z v a g
 MayBegin z a v _ = Unit {0}

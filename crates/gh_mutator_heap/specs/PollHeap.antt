@@ -35,13 +35,13 @@ pub record Sits (z : Arena) (a : ℕ) (p : Polling) : Type 0 where
   pub held : IsHeld z.layout p.local.held
 
 -- the registers of its goroutines hold what they hold in the heap that never frees
-abbrev pub RegistersFit : Arena → (a : ℕ) → View → Polling → Type 0
-RegistersFit z a v p = (g d : ℕ) → IsOf z a g → d < REGISTERS → Means v.place v.ever.made (v.ever.register g d) (register_at p g d)
+abbrev pub PollRegistersFit : Arena → (a : ℕ) → View → Polling → Type 0
+PollRegistersFit z a v p = (g d : ℕ) → IsOf z a g → d < REGISTERS → Means v.place v.ever.made (v.ever.register g d) (register_at p g d)
 
 -- what it knows at any time, whatever it is at
-pub record Stands (z : Arena) (a : ℕ) (v : View) (p : Polling) : Type 0 where
+pub record KnowsAtAnyTime (z : Arena) (a : ℕ) (v : View) (p : Polling) : Type 0 where
   pub sits : Sits z a p
-  pub registers : RegistersFit z a v p
+  pub registers : PollRegistersFit z a v p
 
 -- it holds each span that it has cached, and the slots before its cursor are taken
 abbrev pub CachesAll : (a : ℕ) → View → List (Option CachedSpan) → Type 0
@@ -53,7 +53,7 @@ pub record KnowsSpans (a : ℕ) (v : View) (p : Polling) : Type 0 where
   pub caches : CachesAll a v p.local.cache
 
 pub record Rests (z : Arena) (a : ℕ) (v : View) (p : Polling) : Type 0 where
-  pub stands : Stands z a v p
+  pub stands : KnowsAtAnyTime z a v p
   pub knows : KnowsSpans a v p
 
 -- Its rights.
@@ -180,7 +180,7 @@ PollStageFacts z a v p (poll_stage.FindRoom r) = KnowsSpans a v p × FindsWithin
 PollStageFacts z a v p _ = KnowsSpans a v p
 
 pub record PollFacts (z : Arena) (a : ℕ) (v : View) (p : Polling) : Type 0 where
-  pub stands : Stands z a v p
+  pub stands : KnowsAtAnyTime z a v p
   pub stage_is : PollStageFacts z a v p p.stage
 
 -- a wait: while it polls it knows what the poll does
@@ -197,7 +197,7 @@ LeaveStageFacts z a v (leave_stage.Giving g) = GiveFacts z a v g
 LeaveStageFacts z a v _ = Unit {0}
 
 pub record LeaveFacts (z : Arena) (a : ℕ) (v : View) (p : Polling) (x : Leaving) : Type 0 where
-  pub stands : Stands z a v p
+  pub stands : KnowsAtAnyTime z a v p
   pub seat_is : x.seat ≡ a
   pub stage_is : LeaveStageFacts z a v x.stage
 

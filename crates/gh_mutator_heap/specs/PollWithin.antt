@@ -24,18 +24,18 @@ pub record FindsWithin (l : Layout) (r : RoomFinding) : Type 0 where
   pub fits : FitsRoom r
   pub tries : TriesWithin r.stage
 
-pub record ShadesWithin (l : Layout) (s : ShadeState) : Type 0 where
+pub record StackShadesWithin (l : Layout) (s : ShadeState) : Type 0 where
   pub layout_is : s.layout ≡ l
   pub fits : FitsShade s
 
-abbrev pub ScanStageWithin : Layout → MarkStackStage → Type 0
-ScanStageWithin l (Shading s) = ShadesWithin l s
-ScanStageWithin l (FindRoom s r) = ShadesWithin l s × FindsWithin l r
-ScanStageWithin l _ = Unit {0}
+abbrev pub MarkStackStageWithin : Layout → MarkStackStage → Type 0
+MarkStackStageWithin l (Shading s) = StackShadesWithin l s
+MarkStackStageWithin l (FindRoom s r) = StackShadesWithin l s × FindsWithin l r
+MarkStackStageWithin l _ = Unit {0}
 
 pub record ScansWithin (l : Layout) (m : StackMarking) : Type 0 where
   pub layout_is : m.layout ≡ l
   pub seat : m.seat < seats_of l
   pub goroutine : m.scan.goroutine < l.goroutines
   pub held : IsHeld l m.held
-  pub stage : ScanStageWithin l m.stage
+  pub stage : MarkStackStageWithin l m.stage

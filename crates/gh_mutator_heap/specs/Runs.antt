@@ -10,7 +10,7 @@ use Rattle.gh_mutator_heap.specs.Vocabulary.{Arena, Good, Shared, Steps, SweepLe
 use Rattle.gh_mutator.specs.Deeds.{given_at, point_of, processor_kind}
 use Rattle.gh_mutator_heap.specs.Facts.{Does, Fine, Lasts, MayBegin, ShapesAreGood, answered_at}
 use Rattle.gh_mutator.specs.Listing.{acts, asks, gives, is_busy_at}
-use Rattle.gh_mutator_heap.specs.PollHeap.{Has, KeepsGhosts, no_page, Stands}
+use Rattle.gh_mutator_heap.specs.PollHeap.{Has, KeepsGhosts, KnowsAtAnyTime, no_page}
 use Rattle.gh_mutator.specs.Processor.{opening_processor}
 use Rattle.gh_mutator.specs.ProcessorPlaces.{stage_of}
 use Rattle.gh_mutator.specs.Serving.{has_left_at}
@@ -59,7 +59,7 @@ Parked = (z : Arena) (a : ℕ) (v : View) (m : Processor) (pending : Option Answ
 
 -- at every moment it sits at its seat, and its registers hold what they hold in the heap that never frees
 abbrev pub StandsAlways : Type 0
-StandsAlways = (z : Arena) (a : ℕ) (v : View) (m : Processor) (pending : Option Answer) → Fine z a v m pending → Stands z a v m.poll
+StandsAlways = (z : Arena) (a : ℕ) (v : View) (m : Processor) (pending : Option Answer) → Fine z a v m pending → KnowsAtAnyTime z a v m.poll
 
 pub record RunsByItsRights : Type 0 where
   pub opens : Opens

@@ -11,11 +11,11 @@ pub use Rattle.gh_central.specs.Sweeping.{SweepLeaves}
 pub use Rattle.gh_class.specs.Classes.{IsSizeClass, pages_of, size_class_of, slot_of, slot_words_of}
 pub use Rattle.gh_class.specs.declared.class.TheConstants.{SPAN_CLASSES}
 pub use Rattle.gh_heap.specs.Laws.{EachRightFollows, KeepsItsOwn, TheHeapIsApart}
-pub use Rattle.gh_heap.specs.Moves.{IsReached, KeepsObjects, moved, Quiet, Runs, Steps, Takes}
+pub use Rattle.gh_heap.specs.Moves.{GoroutineRuns, IsReached, KeepsObjects, moved, Quiet, Steps, Takes}
 pub use Rattle.gh_heap.specs.Objects.{Holds, IsMade, Means, points, size_for}
 pub use Rattle.gh_heap.specs.Rights.{Arena, Good, Right, Shared, view, View}
 pub use Rattle.gh_heap.specs.Spans.{slot_size}
-pub use Rattle.gh_model.specs.Ever.{answer_of, Ever, ever_after, fits, is_number, Reach, takes_answer, told, with_register}
+pub use Rattle.gh_model.specs.Ever.{answer_of, answer_of_value, Ever, ever_after, fits, is_number, Reach, takes_answer, with_register}
 pub use Rattle.gh_model.specs.declared.EverValue.{EverValue}
 pub use Rattle.gh_mutator.specs.declared.give.GiveStage.{GiveStage}
 pub use Rattle.gh_mutator.specs.declared.global.Global.{Global}

@@ -8,7 +8,7 @@ use Rattle.gh_alloc.specs.Search as search
 use Rattle.gh_assist.specs.Listing as assist
 use Rattle.gh_mutator.specs.declared.task.Task.TheVariants as task
 use Rattle.gh_mutator.specs.declared.wait.WaitStage.TheVariants as wait_stage
-use Rattle.gh_mutator_writes.specs.Full.{after, FullChangesLittle, HasWaited, is_waiting}
+use Rattle.gh_mutator_writes.specs.Full.{after, FullChangesLittle, HasWaited, new_is_waiting}
 use Rattle.gh_mutator.specs.Local.{cached_in, marking_at, stacks_with}
 use Rattle.gh_mutator.specs.Mutating.{asks, begins, gives, goes, listing, marks_after, Mutating}
 use Rattle.gh_mutator.specs.New.{gives_at as gives_new, seeking, takes_at as takes_new, made_task, answer_assist, answer_made}
@@ -225,15 +225,15 @@ module _ (m : Mutating) (g d t : ℕ) (found : ℕ → ℕ) where
       false_true q = absurd (cc)
 
   -- each step that is none of the wait looks for a slot
-  looks_at : (i : ℕ) (p : Polling) (s : NewStage) → Facts i p s → is_waiting (state p s).processor.task ≡ false → is_looking (asks (state p s)) ≡ true
+  looks_at : (i : ℕ) (p : Polling) (s : NewStage) → Facts i p s → new_is_waiting (state p s).processor.task ≡ false → is_looking (asks (state p s)) ≡ true
   looks_at i p (Search waited s) f e = search_looks s
   looks_at i p (Wait x) f e = absurd (cc)
   looks_at i p (Place q) f e = absurd f
   looks_at i p (Want n) f e = absurd f
   looks_at i p (Assist n x) f e = absurd f
 
-  looks : (i : ℕ) → Stands i (now i) → is_waiting (now i).processor.task ≡ false → is_looking (asks (now i)) ≡ true
-  looks i st e = subst (λ (x : Mutating). is_looking (asks x) ≡ true) (sym st.is) (looks_at i st.p st.s st.facts (subst (λ (x : Mutating). is_waiting x.processor.task ≡ false) st.is e))
+  looks : (i : ℕ) → Stands i (now i) → new_is_waiting (now i).processor.task ≡ false → is_looking (asks (now i)) ≡ true
+  looks i st e = subst (λ (x : Mutating). is_looking (asks x) ≡ true) (sym st.is) (looks_at i st.p st.s st.facts (subst (λ (x : Mutating). new_is_waiting x.processor.task ≡ false) st.is e))
 
   -- what the step leaves that answers `full`
   record Leaves (n : ℕ) (x : Mutating) : Type 0 where

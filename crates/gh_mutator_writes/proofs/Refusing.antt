@@ -34,7 +34,7 @@ slots_look : (s : slots.Searching) (p : SlotStage) → is_looking (slots.asks_at
 slots_look s slot_stage.Look = refl
 slots_look s (slot_stage.Ended slot) = refl
 
-give_look : (g : give.Giving) (p : GiveStage) → is_looking (give.asks_at g p) ≡ true
+give_look : (g : give.SpanGiving) (p : GiveStage) → is_looking (give.asks_at g p) ≡ true
 give_look g give_stage.Write = refl
 give_look g give_stage.Ended = refl
 
@@ -104,7 +104,7 @@ module _ (c : SpanClass) where
   lock_kept f None true = refl
   lock_kept f cached false = tt
 
-  give_kept : (f : Finding) (g : give.Giving) (cached : Option CachedSpan) (out : Option (Unit {0})) → Kept (find.after_give (of_class f (seek.Give g) cached) out)
+  give_kept : (f : Finding) (g : give.SpanGiving) (cached : Option CachedSpan) (out : Option (Unit {0})) → Kept (find.after_give (of_class f (seek.Give g) cached) out)
   give_kept f g cached None = tt
   give_kept f g cached (Some x) = refl
 

@@ -18,7 +18,7 @@ use Rattle.gh_mutator.specs.Poll as poll
 use Rattle.gh_mutator.specs.Processor.{keeping}
 use Rattle.gh_mutator.specs.Register as register
 use Rattle.gh_mutator_writes.specs.Spending.{ProcessorsSpend}
-use Rattle.gh_mutator.specs.Spending.{spent_at, spent_of}
+use Rattle.gh_mutator.specs.Spending.{spent_in_task, spent_of}
 use Rattle.gh_mutator.specs.Stays.{assist_spent, poll_spent, wait_spent}
 use Rattle.gh_mutator.specs.Store as store
 use Rattle.gh_mutator.specs.Vocabulary.{Polling}
@@ -50,7 +50,7 @@ module _ (m : Processor) (rests : IsAssisting m.task → ⊥) where
 abbrev SpentSo : Processor → ℕ → Type 0
 SpentSo m spent = spent_of m ≡ spent
 
-into_spent : {S : Type 0} (into : S → Task) (m : Processor) (g d : ℕ) (sets : Option Value) (then : Then S) → ((p : Polling) (y : S) → spent_at p (into y) ≡ p.local.spent) → spent_at (taking m g d sets).poll (follows into then) ≡ m.poll.local.spent
+into_spent : {S : Type 0} (into : S → Task) (m : Processor) (g d : ℕ) (sets : Option Value) (then : Then S) → ((p : Polling) (y : S) → spent_in_task p (into y) ≡ p.local.spent) → spent_in_task (taking m g d sets).poll (follows into then) ≡ m.poll.local.spent
 into_spent into m g d None (GoesOn y) plain = plain m.poll y
 into_spent into m g d None (Ends a) plain = refl
 into_spent into m g d (Some v) (GoesOn y) plain = plain (taking m g d (Some v)).poll y
@@ -79,11 +79,11 @@ wait_then m w x None = refl
 wait_then m w x (Some u) = refl
 
 -- an assist begins with what is spent so far
-then_spent : (p q : Polling) (w : Wanted) (n : Name) (marking : Bool) → q.local.spent ≡ p.local.spent → spent_at q (cond marking (assists w n (assisting p w)) task.Idle) ≡ p.local.spent
+then_spent : (p q : Polling) (w : Wanted) (n : Name) (marking : Bool) → q.local.spent ≡ p.local.spent → spent_in_task q (cond marking (assists w n (assisting p w)) task.Idle) ≡ p.local.spent
 then_spent p q w n true e = refl
 then_spent p q w n false e = e
 
-made_spent : (p q : Polling) (w : Wanted) (x : Placing) (out : Option Bool) → q.local.spent ≡ p.local.spent → spent_at q (new.made_task p w x out) ≡ p.local.spent
+made_spent : (p q : Polling) (w : Wanted) (x : Placing) (out : Option Bool) → q.local.spent ≡ p.local.spent → spent_in_task q (new.made_task p w x out) ≡ p.local.spent
 made_spent p q w x None e = e
 made_spent p q w x (Some true) e = e
 made_spent p q w x (Some false) e = then_spent p q w x.name (marking_at p) e
@@ -101,10 +101,10 @@ running p made t = record { poll = p; made = made; task = t }
 module _ (shapes : List Shape) (p : Polling) (made : List ℕ) (found : ℕ) where
   -- the step, at this task
   record Spends (t : Task) : Type 0 where
-    spends : spent_of (takes_at shapes (running p made t) t found) ≡ spent_at p t + drawn_by (asks (running p made t)) found
+    spends : spent_of (takes_at shapes (running p made t) t found) ≡ spent_in_task p t + drawn_by (asks (running p made t)) found
 
   -- where it does not assist
-  plainly : (t : Task) → (IsAssisting t → ⊥) → WritesOf (IsWritten (running p made t)) (asks (running p made t)) → spent_of (takes_at shapes (running p made t) t found) ≡ spent_at p t → Spends t
+  plainly : (t : Task) → (IsAssisting t → ⊥) → WritesOf (IsWritten (running p made t)) (asks (running p made t)) → spent_of (takes_at shapes (running p made t) t found) ≡ spent_in_task p t → Spends t
   plainly t rests w stays = record { spends = stays ∙ by (draws_none (running p made t) rests (asks (running p made t)) found w) } where
     by : {a b : ℕ} → b ≡ 0 → a ≡ a + b
     by e = omega arith
@@ -113,14 +113,14 @@ module _ (shapes : List Shape) (p : Polling) (made : List ℕ) (found : ℕ) whe
     assisted : (w : Wanted) (n : Name) (x : Assisting) → SoundAssistAt p (Assist n x) → x.spent + drawn_by (assist.asks x) found < 2 ^ 64 → Spends (assists w n x)
     assisted w n x s most = record { spends = assist_spent (running p made (assists w n x)) w n (assist.goes x found) (assist.gives x found) ∙ pay.spends x found s.1 most }
 
-    new_spends : (w : Wanted) (q : NewStage) → let t : Task = task.New (record { wanted = w; stage = q }) in SoundAssistAt p q → WritesOf (IsWritten (running p made t)) (asks (running p made t)) → spent_at p t + drawn_by (asks (running p made t)) found < 2 ^ 64 → Spends t
+    new_spends : (w : Wanted) (q : NewStage) → let t : Task = task.New (record { wanted = w; stage = q }) in SoundAssistAt p q → WritesOf (IsWritten (running p made t)) (asks (running p made t)) → spent_in_task p t + drawn_by (asks (running p made t)) found < 2 ^ 64 → Spends t
     new_spends w (Search waited y) s writes most = plainly (with_stage w (Search waited y)) (λ a. a) writes (search_spent shapes (running p made (with_stage w (Search waited y))) w waited (search.goes y found).find.cached (search.goes y found) (search.gives y found))
     new_spends w (Wait x) s writes most = plainly (with_stage w (Wait x)) (λ a. a) writes (wait_then (running p made (with_stage w (Wait x))) w (wait.goes (wait.waiting x p) found) (wait.gives (wait.waiting x p) found) ∙ wait_spent (wait.waiting x p) found)
-    new_spends w (Place y) s writes most = plainly (with_stage w (Place y)) (λ a. a) writes (place_spent (running p made (with_stage w (Place y))) w (place.acts y) y.at (place.goes y found))
+    new_spends w (Place y) s writes most = plainly (with_stage w (Place y)) (λ a. a) writes (place_spent (running p made (with_stage w (Place y))) w (place.makes_its_object y) y.at (place.goes y found))
     new_spends w (Want n) s writes most = plainly (with_stage w (Want n)) (λ a. a) writes refl
     new_spends w (Assist n x) s writes most = assisted w n x s most
 
-    spends_at : (t : Task) → SoundAssist p t → is_busy_at t ≡ true → WritesOf (IsWritten (running p made t)) (asks (running p made t)) → spent_at p t + drawn_by (asks (running p made t)) found < 2 ^ 64 → Spends t
+    spends_at : (t : Task) → SoundAssist p t → is_busy_at t ≡ true → WritesOf (IsWritten (running p made t)) (asks (running p made t)) → spent_in_task p t + drawn_by (asks (running p made t)) found < 2 ^ 64 → Spends t
     spends_at task.Idle s busy writes most = absurd (cc)
     spends_at task.Left s busy writes most = absurd (cc)
     spends_at (task.Load x) s busy writes most = plainly (task.Load x) (λ a. a) writes (let step = load.step p.layout x found in into_spent task.Load (running p made (task.Load x)) x.g x.d step.sets step.then (λ q y. refl))
@@ -167,7 +167,7 @@ marking_at_task p (task.New x) s is = marking_in p x.stage s is
 marking_at_task p _ s is = absurd is
 
 -- Where it begins.
-rests_so : (p : Polling) (t : Task) → is_busy_at t ≡ false → spent_at p t ≡ p.local.spent
+rests_so : (p : Polling) (t : Task) → is_busy_at t ≡ false → spent_in_task p t ≡ p.local.spent
 rests_so p task.Idle rests = refl
 rests_so p task.Left rests = refl
 rests_so p _ rests = absurd (cc)

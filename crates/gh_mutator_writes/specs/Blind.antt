@@ -32,7 +32,7 @@ use Rattle.gh_mutator.specs.declared.store.StoreStage.TheVariants as store_stage
 use Rattle.gh_mutator.specs.declared.task.Task.TheVariants as task
 use Rattle.gh_mutator.specs.declared.wait.WaitStage.{WaitStage}
 use Rattle.gh_mutator.specs.declared.wait.WaitStage.TheVariants as wait_stage
-use Rattle.gh_mutator.specs.Barrier.{held_by}
+use Rattle.gh_mutator.specs.Barrier.{held_behind_write}
 use Rattle.gh_mutator.specs.Give as give
 use Rattle.gh_mutator.specs.Global as global
 use Rattle.gh_mutator.specs.Leave as leave
@@ -112,7 +112,7 @@ stored l own v x stage found = (store.held_behind own.held stage found, store.st
 store_blind : (l : Layout) (own : Local) (v : Value) (x : Store) (stage : StoreStage) (found other : ℕ) → is_store (store.asks_at l v x stage) ≡ true → stored l own v x stage found ≡ stored l own v x stage other
 store_blind l own v x store_stage.Page found other e = absurd (cc)
 store_blind l own v x store_stage.Bits found other e = absurd (cc)
-store_blind l own v x (store_stage.Writing w) found other e = ap (λ (y : write.Writing). (held_by y, store.after_write x y (write.given y))) (writing.blind w found other e)
+store_blind l own v x (store_stage.Writing w) found other e = ap (λ (y : write.Writing). (held_behind_write y, store.after_write x y (write.given y))) (writing.blind w found other e)
 store_blind l own v x _ found other e = refl
 
 -- so of a global, where this buffer was held
@@ -122,7 +122,7 @@ global_step l held v x stage found = (global.held_behind held stage found, globa
 global_blind : (l : Layout) (held : Option Held) (v : Value) (x : Global) (stage : GlobalStage) (found other : ℕ) → is_store (global.asks_at l v x stage) ≡ true → global_step l held v x stage found ≡ global_step l held v x stage other
 global_blind l held v x global_stage.Load found other e = absurd (cc)
 global_blind l held v x (global_stage.Birth at) found other e = absurd (cc)
-global_blind l held v x (global_stage.Writing w) found other e = ap (λ (y : write.Writing). (held_by y, global.after_write x y (write.given y))) (writing.blind w found other e)
+global_blind l held v x (global_stage.Writing w) found other e = ap (λ (y : write.Writing). (held_behind_write y, global.after_write x y (write.given y))) (writing.blind w found other e)
 global_blind l held v x _ found other e = refl
 
 -- ---- the processor
@@ -134,7 +134,7 @@ new_step shapes m w s found = (new.takes_at shapes m w s found, new.gives_at (ma
 new_blind : (shapes : List Shape) (m : Processor) (w : Wanted) (s : NewStage) (found other : ℕ) → is_store (new.asks_at m s) ≡ true → new_step shapes m w s found ≡ new_step shapes m w s other
 new_blind shapes m w (Search waited s) found other e = ap (λ (x : Seeking). (after_search shapes (cache_span m w.sought x.find.cached) w waited x (search.given x), answer_search waited (search.given x))) (search_blind s found other e)
 new_blind shapes m w (Wait x) found other e = ap (λ (y : Waiting). (after_wait m w y (wait.given y.wait.stage), None)) (wait_blind (wait.waiting x m.poll) found other e)
-new_blind shapes m w (Place p) found other e = ap (λ (x : Placing). (after_place m w (place.acts p) p.at x, answer_made (marking_at m.poll) p.name (place.given x))) (place_blind p found other e)
+new_blind shapes m w (Place p) found other e = ap (λ (x : Placing). (after_place m w (place.makes_its_object p) p.at x, answer_made (marking_at m.poll) p.name (place.given x))) (place_blind p found other e)
 new_blind shapes m w (Want n) found other e = refl
 new_blind shapes m w (Assist n x) found other e = ap (λ (y : Assisting). (after_assist m w n y (assist.given y), answer_assist n (assist.given y))) (assisting.blind x found other e)
 

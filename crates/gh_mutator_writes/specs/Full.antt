@@ -34,9 +34,9 @@ abbrev pub waits_at : NewStage → Bool
 waits_at (Wait x) = true
 waits_at _ = false
 
-abbrev pub is_waiting : Task → Bool
-is_waiting (task.New x) = waits_at x.stage
-is_waiting _ = false
+abbrev pub new_is_waiting : Task → Bool
+new_is_waiting (task.New x) = waits_at x.stage
+new_is_waiting _ = false
 
 module _ (m : Mutating) (g d t : ℕ) (found : ℕ → ℕ) where
   -- the `new` begun at m after so many steps
@@ -53,7 +53,7 @@ module _ (m : Mutating) (g d t : ℕ) (found : ℕ → ℕ) where
   -- it is answered `full` by its step number n, counted from 0
   pub record ChangesLittle (n : ℕ) : Type 0 where
     -- each step up to that one looks for a slot, or is one of the wait for a cycle
-    pub looks : (i : ℕ) → i ≤ n → is_waiting (after i).processor.task ≡ false → is_looking (asks (after i)) ≡ true
+    pub looks : (i : ℕ) → i ≤ n → new_is_waiting (after i).processor.task ≡ false → is_looking (asks (after i)) ≡ true
     -- a cycle that began after it did was swept
     pub waited : HasWaited n
     -- The processor is what it was, beside what the wait's polls have changed of what it alone knows:

@@ -50,7 +50,7 @@ module _ (P : Cell → Type 0) (r : OfSpans P) where
   slots_write s slot_stage.Look = tt
   slots_write s (slot_stage.Ended slot) = tt
 
-  pub give_writes : (g : give.Giving) (q : GiveStage) → WritesOf P (give.asks_at g q)
+  pub give_writes : (g : give.SpanGiving) (q : GiveStage) → WritesOf P (give.asks_at g q)
   give_writes g give_stage.Write = r.page g.page
   give_writes g give_stage.Ended = tt
 

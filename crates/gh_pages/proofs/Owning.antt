@@ -10,13 +10,13 @@ use Rattle.gh_base.specs.Packing.{PackedWordsAreReadBack, head_word, page_of}
 use Rattle.gh_base.specs.Rows.{Row}
 use Rattle.gh_base.specs.Steps.{cell_of}
 use Rattle.gh_heap.specs.Laws.{EachFactLasts, EachMoveKeeps, EachOwnMoveLeaves, EachRightFollows, TheHeapIsApart}
-use Rattle.gh_heap.specs.Moves.{KeepsObjects, LayBody, LayHead, Leaves, MayLay, Others, Quiet, Steps, begun, moved, update}
+use Rattle.gh_heap.specs.Moves.{KeepsObjects, LayBody, LayHead, Leaves, MayLay, Others, Quiet, Steps, laid_so_far, moved, update}
 use Rattle.gh_heap.specs.Rights.{Arena, Good, Right, Shared, View, view}
 use Rattle.gh_heap.specs.Spans.{IsSpan, LaidOut, Laying, owner_at, owner_in}
 use Rattle.gh_pages.specs.declared.carve.CarveStage.{CarveStage}
 use Rattle.gh_pages.specs.declared.carve.CarveStage.TheVariants.{Look, Body, Head, Ended}
 use Rattle.gh_pages.specs.Facts.{Carves, CarvesByItsRights, Comes, Facts, FactsAt, FreeBefore, Lasts, Looks, NoRun, NoRunBefore, Opens, OwnStep, Within, fresh_from, laying_at}
-use Rattle.gh_pages.specs.Listing.{Carving, after_look, asks, at_stage, first_store, fresh_head, given_at, gives, goes, goes_at, is_free, is_last, next_store}
+use Rattle.gh_pages.specs.Listing.{Carving, after_look, asks, at_stage, first_store, fresh_head, given_at, gives, goes, goes_at, is_free, is_last_page, next_store}
 
 pub record Known : Type 0 where
   pub packed : PackedWordsAreReadBack
@@ -161,7 +161,7 @@ module _ (k : Known) (z : Arena) (a : ℕ) (s : Shared) (held : ℕ → Bool) (c
     go true e = (stays g, right, record { whose = whose-at z a now c (Body first (0 + 1)) whose; stage = (laid, ltb-true 1 c.span.pages e) })
     go false e =
         let one : c.span.pages ≡ 1 = omega (arith, laid.few, ltb-false 1 c.span.pages e) in
-        (stays g, subst (λ (n : ℕ). Right a now true held (begun (fresh_from c first n))) (sym one) right, record { whose = whose-at z a now c (Head first) whose; stage = subst (λ (n : ℕ). LaidOut z.layout.pages now.page (fresh_from c first n)) (sym one) laid })
+        (stays g, subst (λ (n : ℕ). Right a now true held (laid_so_far (fresh_from c first n))) (sym one) right, record { whose = whose-at z a now c (Head first) whose; stage = subst (λ (n : ℕ). LaidOut z.layout.pages now.page (fresh_from c first n)) (sym one) laid })
 
   -- after a look at page p, with so many free pages in a row up to it
   looked : (p row : ℕ) → Good z now → Right a now true held None → Carves z a now c → p < z.layout.pages → row ≤ c.span.pages → FreeBefore now.page (p + 1) row → (row < c.span.pages → NoRunBefore now.page c.span.pages (p + 1) row) →
@@ -177,7 +177,7 @@ module _ (k : Known) (z : Arena) (a : ℕ) (s : Shared) (held : ℕ → Bool) (c
         let all : p + 1 ≡ z.layout.pages = omega (arith, there, subst (λ (l : Layout). l.pages ≤ p + 1) whose.layout last) in
         (stays g, right, subst (λ (n : ℕ). NoRun now.page c.span.pages n) all (none (omega arith)).none)
 
-    go : (b : Bool) → eqb row c.span.pages ≡ b → Goes (cond b (first_store c.span (p + 1 - c.span.pages)) (cond (is_last c p) (Ended None) (Look (p + 1) row)))
+    go : (b : Bool) → eqb row c.span.pages ≡ b → Goes (cond b (first_store c.span (p + 1 - c.span.pages)) (cond (is_last_page c p) (Ended None) (Look (p + 1) row)))
     go true e = begins (p + 1 - c.span.pages) g right whose (begun-at (eqb-true row c.span.pages e))
     go false e = ends (eqb-false row c.span.pages e) (ltb (p + 1) c.layout.pages) refl
 
@@ -189,10 +189,10 @@ module _ (k : Known) (z : Arena) (a : ℕ) (s : Shared) (held : ℕ → Bool) (c
 
   -- The stores.
 
-  may-lay : (first d : ℕ) → Right a now true held (begun (fresh_from c first d)) → Carves z a now c → LaidOut z.layout.pages now.page (fresh_from c first d) → MayLay z now a (fresh_from c first d)
+  may-lay : (first d : ℕ) → Right a now true held (laid_so_far (fresh_from c first d)) → Carves z a now c → LaidOut z.layout.pages now.page (fresh_from c first d) → MayLay z now a (fresh_from c first d)
   may-lay first d right whose laid = record { locked = right.locked; laying = right.laying; freeing = right.freeing; laid = laid; fits = whose.class; word = whose.word; owner = ap (λ (x : ℕ). x + 1) whose.seat; number = whose.number }
 
-  body : (first d : ℕ) → Good z now → Right a now true held (begun (fresh_from c first d)) → Carves z a now c → LaidOut z.layout.pages now.page (fresh_from c first d) → d < c.span.pages →
+  body : (first d : ℕ) → Good z now → Right a now true held (laid_so_far (fresh_from c first d)) → Carves z a now c → LaidOut z.layout.pages now.page (fresh_from c first d) → d < c.span.pages →
       Steps z a s (asks (at_stage c (Body first d))) (λ t. KeepsObjects now (view t) × Comes z a now (view t) held (given_at (next_store c.span first d)) (at_stage c (next_store c.span first d)))
   body first d g right whose laid more = record { move = LayBody y; may = may; words_are = refl; after = ((refl, refl), go (ltb (d + 1) c.span.pages) refl) } where
     y : Laying
@@ -205,7 +205,7 @@ module _ (k : Known) (z : Arena) (a : ℕ) (s : Shared) (held : ℕ → Bool) (c
     t = moved z a s (LayBody y)
 
     after : Right a (view t) true held (Some (fresh_from c first (d + 1)))
-    after = (k.follow z a s true held (begun y) right).body y
+    after = (k.follow z a s true held (laid_so_far y) right).body y
 
     whose-then : Carves z a (view t) c
     whose-then = record { layout = whose.layout; seat = whose.seat; number = whose.number; class = whose.class; word = whose.word }
@@ -216,7 +216,7 @@ module _ (k : Known) (z : Arena) (a : ℕ) (s : Shared) (held : ℕ → Bool) (c
     leaves : Leaves now (view t)
     leaves = (k.leave z a s g).body y may
 
-    begun-then : (n : ℕ) → n ≡ d + 1 → Right a (view t) true held (begun (fresh_from c first n))
+    begun-then : (n : ℕ) → n ≡ d + 1 → Right a (view t) true held (laid_so_far (fresh_from c first n))
     begun-then n e = rw (e, test) after where
       test : eqb (d + 1) 1 ≡ false
       test = not-same (d + 1) 1 (λ x. omega (arith, laid.some))
@@ -227,9 +227,9 @@ module _ (k : Known) (z : Arena) (a : ℕ) (s : Shared) (held : ℕ → Bool) (c
         let all : c.span.pages ≡ d + 1 = omega (arith, more, ltb-false (d + 1) c.span.pages e) in
         (leaves, begun-then c.span.pages all, record { whose = whose-at z a (view t) c (Head first) whose-then; stage = subst (λ (n : ℕ). LaidOut z.layout.pages (view t).page (fresh_from c first n)) (sym all) laid-then })
 
-  head : (first : ℕ) → Good z now → Right a now true held (begun (fresh_from c first c.span.pages)) → Carves z a now c → LaidOut z.layout.pages now.page (fresh_from c first c.span.pages) →
+  head : (first : ℕ) → Good z now → Right a now true held (laid_so_far (fresh_from c first c.span.pages)) → Carves z a now c → LaidOut z.layout.pages now.page (fresh_from c first c.span.pages) →
       Steps z a s (asks (at_stage c (Head first))) (λ t. KeepsObjects now (view t) × Comes z a now (view t) held (Some (Some first)) (at_stage c (Ended (Some first))))
-  head first g right whose laid = record { move = LayHead y; may = may; words_are = refl; after = ((refl, refl), (leaves, right-then, record { span = span; empty = λ x low high. (k.apart z now g).laid y x laid low high }, not-held z a now true held (begun y) first g right (ap owner_in laid.head))) } where
+  head first g right whose laid = record { move = LayHead y; may = may; words_are = refl; after = ((refl, refl), (leaves, right-then, record { span = span; empty = λ x low high. (k.apart z now g).laid y x laid low high }, not-held z a now true held (laid_so_far y) first g right (ap owner_in laid.head))) } where
     y : Laying
     y = fresh_from c first c.span.pages
 
@@ -240,7 +240,7 @@ module _ (k : Known) (z : Arena) (a : ℕ) (s : Shared) (held : ℕ → Bool) (c
     t = moved z a s (LayHead y)
 
     right-then : Right a (view t) true (update held first true) None
-    right-then = (k.follow z a s true held (begun y) right).laid y
+    right-then = (k.follow z a s true held (laid_so_far y) right).laid y
 
     leaves : Leaves now (view t)
     leaves = (k.leave z a s g).head y may

@@ -5,7 +5,7 @@ use Rattle.gh_base.specs.Cells.{InRange}
 use Rattle.gh_base.specs.Packing.{FitsHead, page_of}
 use Rattle.gh_base.specs.Rows.{Row}
 use Rattle.gh_base.specs.Steps.{cell_of}
-use Rattle.gh_heap.specs.Moves.{KeepsObjects, Leaves, Others, Steps, begun, update}
+use Rattle.gh_heap.specs.Moves.{KeepsObjects, Leaves, Others, Steps, laid_so_far, update}
 use Rattle.gh_heap.specs.Rights.{Arena, Good, Right, Shared, View, view}
 use Rattle.gh_heap.specs.Spans.{FitsClass, IsEmpty, IsSpan, LaidOut, Laying}
 use Rattle.gh_pages.specs.declared.carve.CarveStage.{CarveStage}
@@ -18,8 +18,8 @@ fresh_from c first next = record { first = first; head = fresh_head c; next = ne
 
 -- The right that a stage stands for, beside the lock: what is being laid out.
 abbrev pub laying_at : Carving → CarveStage → Option Laying
-laying_at c (Body first distance) = begun (fresh_from c first distance)
-laying_at c (Head first) = begun (fresh_from c first c.span.pages)
+laying_at c (Body first distance) = laid_so_far (fresh_from c first distance)
+laying_at c (Head first) = laid_so_far (fresh_from c first c.span.pages)
 laying_at c _ = None
 
 abbrev pub laying : Carving → Option Laying
@@ -65,7 +65,7 @@ pub record Facts (z : Arena) (a : ℕ) (v : View) (c : Carving) : Type 0 where
   pub stage : FactsAt z c v.page c.stage
 
 -- a fresh span stands at page `first`, held by who laid it out
-pub record IsFresh (z : Arena) (v : View) (c : Carving) (first : ℕ) : Type 0 where
+pub record SpanIsFresh (z : Arena) (v : View) (c : Carving) (first : ℕ) : Type 0 where
   pub span : IsSpan z.layout.pages v.page first (fresh_head c)
   pub empty : IsEmpty v.alloc first c.span.pages
 
@@ -73,7 +73,7 @@ pub record IsFresh (z : Arena) (v : View) (c : Carving) (first : ℕ) : Type 0 w
 abbrev pub Comes : Arena → (a : ℕ) → (v w : View) → (ℕ → Bool) → Option (Option ℕ) → Carving → Type 0
 Comes z a v w held None c = Leaves v w × Right a w true held (laying c) × Facts z a w c
 Comes z a v w held (Some None) c = Leaves v w × Right a w true held None × NoRun w.page c.span.pages z.layout.pages
-Comes z a v w held (Some (Some first)) c = Leaves v w × Right a w true (update held first true) None × IsFresh z w c first × (held first ≡ false)
+Comes z a v w held (Some (Some first)) c = Leaves v w × Right a w true (update held first true) None × SpanIsFresh z w c first × (held first ≡ false)
 
 abbrev pub Opens : Type 0
 Opens = (z : Arena) (a : ℕ) (v : View) (c : Carving) → Carves z a v c → c.stage ≡ Look 0 0 → Facts z a v c

@@ -1,5 +1,5 @@
 -- Fresh pages for a span: what is asked for at each stage, where that leads, and what it has given.
-use Rattle.std.specs.Prelude.{ℕ, ◌+◌, ◌-◌, Bool, true, false, not, nat_lt, ◌==◌, if◌then◌else◌, Option, Some, None, is_none}
+use Rattle.std.specs.Prelude.{ℕ, ◌+◌, ◌-◌, Bool, true, false, not, nat_lt, ◌==◌, ◌&&◌, if◌then◌else◌, Option, Some, None, is_none}
 use Rattle.gh_base.specs.declared.cell.Cell.TheVariants.{Touch, Page}
 use Rattle.gh_base.specs.declared.cell.Ask.{Ask}
 use Rattle.gh_base.specs.declared.cell.Ask.TheVariants.{Load, Store}
@@ -53,8 +53,8 @@ next_store span first distance = if nat_lt (distance + 1) span.pages then Body f
 abbrev pub first_store : Span → ℕ → CarveStage
 first_store span first = next_store span first 0
 
-abbrev pub is_last : Carving → ℕ → Bool
-is_last c page = not (nat_lt (page + 1) c.layout.pages)
+abbrev pub is_last_page : Carving → ℕ → Bool
+is_last_page c page = not (nat_lt (page + 1) c.layout.pages)
 
 module _ (c : Carving) where
   abbrev pub asks_at : CarveStage → Ask
@@ -66,13 +66,22 @@ module _ (c : Carving) where
   abbrev pub after_look : ℕ → ℕ → CarveStage
   after_look page row =
       if row == c.span.pages then first_store c.span (page + 1 - c.span.pages)
-      else if is_last c page then Ended None else Look (page + 1) row
+      else if is_last_page c page then Ended None else Look (page + 1) row
 
   abbrev pub goes_at : CarveStage → ℕ → CarveStage
   goes_at (Look page run) found = after_look page (row_after run found)
   goes_at (Body first distance) found = next_store c.span first distance
   goes_at (Head first) found = Ended (Some first)
   goes_at (Ended taken) found = Ended taken
+
+-- it looks at a page
+abbrev pub looks : CarveStage → Bool
+looks (Look page run) = true
+looks _ = false
+
+-- it looks at a page, and at the next one once the word is found
+abbrev pub looks_on_at : Carving → CarveStage → (found : ℕ) → Bool
+looks_on_at c p found = looks p && looks (goes_at c p found)
 
 -- what it has given at a stage
 abbrev pub given_at : CarveStage → Option (Option ℕ)

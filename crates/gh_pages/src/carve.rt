@@ -1,10 +1,10 @@
 //! The routine that looks for the pages of a span and writes their page words.
 
-ghost use Rattle.std.specs.Prelude.{◌≡◌, ◌+◌, ◌^◌, ◌<◌, ◌≤◌};
+ghost use Rattle.std.specs.Prelude.{◌≡◌, ◌+◌, ◌^◌, ◌<◌, ◌≤◌, IsTrue, None, false};
 ghost use Rattle.gh_base.specs.Cells.{InRange, seats_of};
 ghost use Rattle.gh_base.specs.Steps.{cell_of};
 ghost use Rattle.gh_base.specs.Packing.{body_word, head_word};
-ghost use Rattle.gh_pages.specs.Listing.{after_look, asks, fresh_body, fresh_head, given, goes_at, is_last, next_store, opening, row_after};
+ghost use Rattle.gh_pages.specs.Listing.{after_look, asks, fresh_body, fresh_head, given, gives, goes, goes_at, is_last_page, looks_on_at, next_store, opening, row_after};
 ghost use Rattle.gh_pages.specs.Sound.{FitsSpan};
 
 use gh_base::{Ask, Cell, Layout, Machine, PageWord, Req, SpanBody, SpanHead};
@@ -175,7 +175,7 @@ impl Carve {
     /// No page of the arena lies behind this one.
     fn is_last(&self, page: u32) -> bool
         requires { page + 1 < 2 ^ 32 }
-        ensures { result ≡ is_last self.now page }
+        ensures { result ≡ is_last_page self.now page }
     {
         page + 1 >= self.layout.pages
     }
@@ -196,6 +196,29 @@ impl Carve {
                 run: row,
             }
         }
+    }
+
+    /// Goes on to the next page, where the word found leads there, and answers whether it did. It changes two numbers
+    /// then; where it did not, nothing has changed, and [`take`](Machine::take) makes the step.
+    #[inline(always)]
+    pub fn goes_on(&mut self, found: u64) -> bool
+        ensures exactly { result ≡ looks_on_at self.old self.old.stage found }
+        ensures goes { IsTrue result → self.new ≡ goes self.old found }
+        ensures gives { IsTrue result → gives self.old found ≡ None }
+        ensures stays { result ≡ false → self.new ≡ self.old }
+    {
+        let CarveStage::Look { page, run } = self.stage else {
+            return false;
+        };
+        let row = row_after(run, found);
+        if row == self.span.pages || self.is_last(page) {
+            return false;
+        }
+        if let CarveStage::Look { page, run } = &mut self.stage {
+            *page += 1;
+            *run = row;
+        }
+        true
     }
 
     /// Its stage after its step found this.

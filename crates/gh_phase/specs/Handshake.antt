@@ -16,7 +16,7 @@ use Rattle.gh_phase.specs.declared.view.RunPhase.{RunPhase}
 use Rattle.gh_phase.specs.declared.view.RunPhase.TheVariants.{Off, Mark, Finished}
 use Rattle.gh_phase.specs.declared.view.View.{View}
 use Rattle.gh_phase.specs.Resumes.{IsStop}
-use Rattle.gh_phase.specs.Views.{first_view, generation_of, run_phase}
+use Rattle.gh_phase.specs.Views.{first_view, generation_found, run_phase}
 
 -- the numbers of stops, of cycles and of sweep generations begin anew where their words end
 abbrev pub next_stop : ℕ → ℕ
@@ -77,7 +77,7 @@ with_phase v (Some phase) = record v { phase = phase }
 abbrev pub resume_view : View → ResumeStage → (found : ℕ) → View
 resume_view v Acknowledge found = v
 resume_view v LoadPhase found = with_phase v (run_phase (phase_of found).phase)
-resume_view v LoadGeneration found = record v { generation = generation_of found }
+resume_view v LoadGeneration found = record v { generation = generation_found found }
 resume_view v LoadBegun found = record v { begun = found }
 resume_view v (Ended another_cycle) found = v
 
@@ -89,13 +89,13 @@ IsFree Begun = ⊥
 IsFree (Ack i) = ⊥
 IsFree _ = Unit {0}
 
-abbrev pub IsQuiet : Ask → Type 0
-IsQuiet (Load cell) = Unit {0}
-IsQuiet (Store cell value) = IsFree cell
-IsQuiet (Or cell bits) = IsFree cell
-IsQuiet (And cell bits) = IsFree cell
-IsQuiet (Add cell more) = IsFree cell
-IsQuiet (Swap cell old new) = IsFree cell
+abbrev pub IsQuietInHandshake : Ask → Type 0
+IsQuietInHandshake (Load cell) = Unit {0}
+IsQuietInHandshake (Store cell value) = IsFree cell
+IsQuietInHandshake (Or cell bits) = IsFree cell
+IsQuietInHandshake (And cell bits) = IsFree cell
+IsQuietInHandshake (Add cell more) = IsFree cell
+IsQuietInHandshake (Swap cell old new) = IsFree cell
 
 -- who is awake stays so; or has found a stop, and acknowledges it at once where nothing is to be given back; or is about to leave
 abbrev pub FromAwake : (found : ℕ) → Ask → Stage → Type 0
@@ -108,8 +108,8 @@ FromAwake found ask Gone = ⊥
 
 -- a step of a processor or a worker, by where it stood; one that is gone makes none
 abbrev pub StageGoes : (found : ℕ) → Party → Stage → Ask → Party → Stage → Type 0
-StageGoes found from Awake ask to stage = (to ≡ from) × IsQuiet ask × FromAwake found ask stage
-StageGoes found from (Gives stops) ask to stage = (to ≡ from) × IsQuiet ask × ((stage ≡ Gives stops) ⊎ (stage ≡ Resumes stops Acknowledge))
+StageGoes found from Awake ask to stage = (to ≡ from) × IsQuietInHandshake ask × FromAwake found ask stage
+StageGoes found from (Gives stops) ask to stage = (to ≡ from) × IsQuietInHandshake ask × ((stage ≡ Gives stops) ⊎ (stage ≡ Resumes stops Acknowledge))
 StageGoes found from (Resumes stops at) ask to stage = (to ≡ record from { view = resume_view from.view at found }) × (ask ≡ resume_asks from.seat stops at) × (stage ≡ resume_goes stops at found)
 StageGoes found from Leaves ask to stage = (to ≡ from) × (ask ≡ Store (Ack from.seat) GONE) × (stage ≡ Gone)
 StageGoes found from Gone ask to stage = ⊥
@@ -164,7 +164,7 @@ behind_ack n phase ack = if nat_lt (ack + 1) n then Looks phase (ack + 1) else S
 
 -- A step of the coordinator of n processors and workers: it writes no word of the handshake; or stores a stop; or sees an acknowledgement; or begins a cycle, or another sweep generation, in a stopped world; or stores a phase that is no stop, in a stopped world or behind a phase that is off.
 pub data LeadGoes (n found : ℕ) (from : Lead) (ask : Ask) (to : Lead) : Type 0 where
-  quiet : IsQuiet ask → to ≡ from → LeadGoes n found from ask to
+  quiet : IsQuietInHandshake ask → to ≡ from → LeadGoes n found from ask to
   stops : (phase : RunPhase) → phase ≢ Finished → from.post ≡ Calm phase → ask ≡ Store Phase (stop_word (next_stop from.stops)) → to ≡ record from { stops = next_stop from.stops; post = Looks phase 0 } → LeadGoes n found from ask to
   sees : (phase : RunPhase) (ack : ℕ) → from.post ≡ Looks phase ack → ask ≡ Load (Ack ack) → IsAcked from.stops found → to ≡ record from { post = behind_ack n phase ack } → LeadGoes n found from ask to
   begins : (phase : RunPhase) → from.post ≡ Stopped phase → ask ≡ Store Begun (next_cycle from.begun) → to ≡ record from { begun = next_cycle from.begun } → LeadGoes n found from ask to
@@ -174,17 +174,17 @@ pub data LeadGoes (n found : ℕ) (from : Lead) (ask : Ask) (to : Lead) : Type 0
 
 -- All actors.
 
-pub data Place : Type 0 where
-  Acts : (party : Party) → (stage : Stage) → Place
-  Leads : (lead : Lead) → Place
+pub data HandshakePlace : Type 0 where
+  Acts : (party : Party) → (stage : Stage) → HandshakePlace
+  Leads : (lead : Lead) → HandshakePlace
 
-abbrev pub PlaceGoes : (n found : ℕ) → Place → Ask → Place → Type 0
+abbrev pub PlaceGoes : (n found : ℕ) → HandshakePlace → Ask → HandshakePlace → Type 0
 PlaceGoes n found (Acts from stage) ask (Acts to next) = StageGoes found from stage ask to next
 PlaceGoes n found (Leads from) ask (Leads to) = LeadGoes n found from ask to
 PlaceGoes n found _ ask _ = ⊥
 
 -- an operation that is begun keeps the place, or begins to leave with nothing to give back
-abbrev pub PlaceBegins : Place → Place → Type 0
+abbrev pub PlaceBegins : HandshakePlace → HandshakePlace → Type 0
 PlaceBegins from to = (to ≡ from) ⊎ ((party : Party) × (from ≡ Acts party Awake) × (to ≡ Acts party Leaves))
 
 abbrev pub first_party : (seat : ℕ) → Party
@@ -199,7 +199,7 @@ pub record KeepsHandshake {M Out : Type 0} (r : Listing M Out) (sound : M → Ty
   pub goes : (m : M) (found : ℕ) → sound m → r.busy m ≡ true → StageGoes found (party m) (stage m) (r.asks m) (party (r.goes m found)) (stage (r.goes m found))
 
 -- The actors of the setting are in the handshake: n processors and workers, and the coordinator at the seat behind them. `sound` is what holds of a private state whatever it was told.
-pub record IsHandshake {M O : Type 0} (setting : Setting M O) (n : ℕ) (sound : M → Type 0) (place : M → Place) : Type 0 where
+pub record IsHandshake {M O : Type 0} (setting : Setting M O) (n : ℕ) (sound : M → Type 0) (place : M → HandshakePlace) : Type 0 where
   pub actors : setting.actors ≡ n + 1
   pub phase : setting.opening Phase ≡ run_word 0 Off
   pub gen : setting.opening Gen ≡ first_lead.generation

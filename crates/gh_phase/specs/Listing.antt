@@ -12,7 +12,7 @@ use Rattle.gh_phase.specs.declared.resume.ResumeStage.{ResumeStage}
 use Rattle.gh_phase.specs.declared.resume.ResumeStage.TheVariants.{Acknowledge, LoadPhase, LoadGeneration, LoadBegun, Ended}
 use Rattle.gh_phase.specs.declared.view.RunPhase.{RunPhase}
 use Rattle.gh_phase.specs.declared.view.View.{View}
-use Rattle.gh_phase.specs.Views.{generation_of, run_phase}
+use Rattle.gh_phase.specs.Views.{generation_found, run_phase}
 
 -- an actor that goes on after a stop: the number of the stop, what it knows so far, and its stage
 pub record Resuming : Type 0 where
@@ -29,8 +29,8 @@ abbrev pub at_stage : Resuming → ResumeStage → Resuming
 at_stage r stage = record r { stage = stage }
 
 -- it ends with what it knows now, and whether another number of cycles has begun than it knew of
-abbrev pub resumed : View → (begun : ℕ) → Resumed
-resumed view begun = record { view = record view { begun = begun }; another_cycle = not (begun == view.begun) }
+abbrev pub resumed_with : View → (begun : ℕ) → Resumed
+resumed_with view begun = record { view = record view { begun = begun }; another_cycle = not (begun == view.begun) }
 
 module _ (r : Resuming) where
   abbrev pub asks_at : ResumeStage → Ask
@@ -52,8 +52,8 @@ module _ (r : Resuming) where
   abbrev pub goes_at : ResumeStage → ℕ → Resuming
   goes_at Acknowledge found = at_stage r LoadPhase
   goes_at LoadPhase found = after_phase (phase_of found).stops (run_phase (phase_of found).phase)
-  goes_at LoadGeneration found = record r { view = record (r.view) { generation = generation_of found }; stage = LoadBegun }
-  goes_at LoadBegun found = record r { view = record (r.view) { begun = found }; stage = Ended (resumed r.view found).another_cycle }
+  goes_at LoadGeneration found = record r { view = record (r.view) { generation = generation_found found }; stage = LoadBegun }
+  goes_at LoadBegun found = record r { view = record (r.view) { begun = found }; stage = Ended (resumed_with r.view found).another_cycle }
   goes_at (Ended another_cycle) found = at_stage r (Ended another_cycle)
 
 -- what it has given: what it knows then

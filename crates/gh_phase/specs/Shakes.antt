@@ -12,7 +12,7 @@ use Rattle.gh_phase.specs.declared.resume.ResumeStage.TheVariants.{LoadPhase}
 use Rattle.gh_phase.specs.declared.view.RunPhase.{RunPhase}
 use Rattle.gh_phase.specs.declared.view.RunPhase.TheVariants.{Off, Finished}
 use Rattle.gh_phase.specs.declared.view.View.{View}
-use Rattle.gh_phase.specs.Handshake.{Acts, Awake, Gives, Gone, is_stop, last_of, Lead, Leads, Leaves, Party, Place, Resumes, run_word, Stage, stop_word, Stopped}
+use Rattle.gh_phase.specs.Handshake.{Acts, Awake, Gives, Gone, HandshakePlace, is_stop, last_of, Lead, Leads, Leaves, Party, Resumes, run_word, Stage, stop_word, Stopped}
 use Rattle.gh_phase.specs.Views.{run_phase}
 
 -- it is not gone, and does not acknowledge a stop or go on after it
@@ -55,8 +55,8 @@ pub record IsLed (phase : RunPhase) (words : Words) (l : Lead) : Type 0 where
   pub begun_is : words Begun ≡ l.begun
   pub last_is : phase ≡ last_of l.post
 
-module _ {M O : Type 0} (setting : Setting M O) (n : ℕ) (sound : M → Type 0) (place : M → Place) (es : List (Entry O)) where
-  abbrev pub place_of : ℕ → Place
+module _ {M O : Type 0} (setting : Setting M O) (n : ℕ) (sound : M → Type 0) (place : M → HandshakePlace) (es : List (Entry O)) where
+  abbrev pub place_of : ℕ → HandshakePlace
   place_of a = place (state_of setting.kind a es)
 
   abbrev pub words : Words
@@ -81,7 +81,7 @@ abbrev pub FinishedStays : {O : Type 0} → Entry O → List (Entry O) → Type 
 FinishedStays e es = last_phase es ≡ Finished → last_phase (e ∷ es) ≡ Finished
 
 -- what one entry more leaves
-module _ {M O : Type 0} (setting : Setting M O) (n : ℕ) (place : M → Place) (e : Entry O) (es : List (Entry O)) where
+module _ {M O : Type 0} (setting : Setting M O) (n : ℕ) (place : M → HandshakePlace) (e : Entry O) (es : List (Entry O)) where
   -- who is gone stays gone
   abbrev pub GoneStay : Type 0
   GoneStay = (a : ℕ) → a < n → words_after setting.opening es (Ack a) ≡ GONE → words_after setting.opening (e ∷ es) (Ack a) ≡ GONE

@@ -14,8 +14,8 @@ run_phase phase.Stop = None
 run_phase phase.Finished = Some Finished
 
 -- the sweep generation is kept in a page word's bits
-abbrev pub generation_of : (found : ℕ) → ℕ
-generation_of found = found % 2 ^ 34
+abbrev pub generation_found : (found : ℕ) → ℕ
+generation_found found = found % 2 ^ 34
 
 pub record FitsView (v : View) : Type 0 where
   pub generation : v.generation < 2 ^ 34

@@ -6,11 +6,11 @@
 /// those of the handshake, whatever else they do.
 pub trait InHandshake {
     ghost use Rattle.gh_base.specs.declared.layout.Layout.{Layout};
-    ghost use Rattle.gh_phase.specs.Handshake.{Place};
+    ghost use Rattle.gh_phase.specs.Handshake.{HandshakePlace};
 
     // What holds of it in a heap of this layout, whatever it was told.
     ghost sound: { Layout → Self → Type 0 };
 
     // Where it stands.
-    ghost place: { Self → Place };
+    ghost place: { Self → HandshakePlace };
 }

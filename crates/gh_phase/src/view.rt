@@ -1,7 +1,7 @@
 //! What an actor knows of the phase between two stops.
 
 ghost use Rattle.std.specs.Prelude.{◌≡◌, ◌%◌, ◌^◌};
-ghost use Rattle.gh_phase.specs.Views.{FitsView, first_view, generation_of, run_phase};
+ghost use Rattle.gh_phase.specs.Views.{FitsView, first_view, generation_found, run_phase};
 
 use gh_base::Phase;
 
@@ -60,7 +60,7 @@ impl View {
 
 /// The sweep generation that was found.
 pub(crate) fn generation(found: u64) -> u64
-    ensures { result ≡ generation_of found }
+    ensures { result ≡ generation_found found }
 {
     found % GENERATIONS
 }

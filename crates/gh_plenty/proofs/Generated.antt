@@ -5,7 +5,7 @@ use Rattle.gh_class.specs.Classes.{class_number, page_counts, pages_of, size_cla
 use Rattle.gh_script.specs.Generated.{generated_program, HasItsSize, node_shape}
 use Rattle.gh_script.specs.Program.{statements_of}
 use Rattle.gh_lists.specs.Wants.{total}
-use Rattle.gh_plenty.specs.Plenty.{all_objects, HasPlenty, makes, objects_of}
+use Rattle.gh_plenty.specs.Plenty.{all_objects, HasPlenty, is_new_statement, objects_of}
 use Rattle.gh_plenty.proofs.Counts.{count-le}
 
 -- the class of a node
@@ -23,7 +23,7 @@ node_slots = refl
 
 module _ (seed size : ℕ) (small : size ≤ 200000) (has : HasItsSize size (generated_program seed size)) where
   few : (g : ℕ) → g < 4 → objects_of (generated_program seed size) g ≤ size / 4
-  few g lt = let le = count-le makes (statements_of (generated_program seed size) g) in let is = has.statements g lt in omega (arith, le, is)
+  few g lt = let le = count-le is_new_statement (statements_of (generated_program seed size) g) in let is = has.statements g lt in omega (arith, le, is)
 
   in_all : all_objects (generated_program seed size) ≤ 4 * (size / 4)
   in_all =

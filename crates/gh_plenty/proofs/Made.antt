@@ -19,11 +19,11 @@ use Rattle.gh_mutator.specs.Deeds.{acted, deeds, meaning, OnlyPointsChange, proc
 use Rattle.gh_mutator.specs.Listing.{Act, acts}
 use Rattle.gh_script.specs.declared.statement.Stmt.{Stmt}
 use Rattle.gh_script.specs.declared.statement.Stmt.TheVariants as statements
-use Rattle.gh_script.specs.Program.{op_of, Program, statements_of}
+use Rattle.gh_script.specs.Program.{Program, statement_as_op, statements_of}
 use Rattle.gh_lists.specs.Order.{acted_in, Answered, answered, before_step, ever_of, order_of}
 use Rattle.gh_world.specs.Runs.{acted_by, IsExplained}
 use Rattle.gh_world.specs.Turns.{is_statement_of}
-use Rattle.gh_plenty.specs.Plenty.{makes, objects_of}
+use Rattle.gh_plenty.specs.Plenty.{is_new_statement, objects_of}
 use Rattle.gh_plenty.proofs.Counts.{count, count-append, count-filter, count-map, count-reverse, count-same}
 
 -- the operation makes an object of goroutine g
@@ -124,7 +124,7 @@ module _ (p : Program) (l : Layout) (es : List (Entry Op)) (o : Outcome) (run : 
       count-filter (λ (x : Answered). makes_for g x.op) (λ (x : Answered). is_statement_of g x.op) (acted_in p.shapes l es) is_its
       ∙ count-reverse (λ (x : Answered). makes_for g x.op) (order_of p.shapes l es)
 
-  of_statement : (s : Stmt) → makes_for g (op_of g s) ≡ makes s
+  of_statement : (s : Stmt) → makes_for g (statement_as_op g s) ≡ is_new_statement s
   of_statement (statements.New d t) = eq-eqb g g refl
   of_statement (statements.Load d b k) = refl
   of_statement (statements.Store b k v) = refl
@@ -139,7 +139,7 @@ module _ (p : Program) (l : Layout) (es : List (Entry Op)) (o : Outcome) (run : 
   of_script =
       sym all_its ∙ (sym (count-map (makes_for g) (λ (x : Answered). x.op) (acted_by g (acted_in p.shapes l es)))
       ∙ (ap (count (makes_for g)) (run.each g).statements
-      ∙ (count-map (makes_for g) (op_of g) (statements_of p g) ∙ count-same (λ (s : Stmt). makes_for g (op_of g s)) makes (statements_of p g) of_statement)))
+      ∙ (count-map (makes_for g) (statement_as_op g) (statements_of p g) ∙ count-same (λ (s : Stmt). makes_for g (statement_as_op g s)) is_new_statement (statements_of p g) of_statement)))
 
   -- nobody else makes any
   pub of_others : length p.goroutines ≤ g → made_in g (order_of p.shapes l es) ≡ 0

@@ -16,7 +16,7 @@ use Rattle.gh_mutator.specs.New.{sought_for}
 use Rattle.gh_script.specs.Program.{Program, WellFormed}
 use Rattle.gh_world.specs.Below.{AllStands}
 use Rattle.gh_mutator.specs.Sound.{has_names, has_room}
-use Rattle.gh_lists.specs.Order.{has_left, in_range, is_over, order_of}
+use Rattle.gh_lists.specs.Order.{goroutine_is_over, has_left, in_range, order_of}
 use Rattle.gh_lists.specs.Processors.{arena_of, has_more, is_of, IsFullFor, may_leave, may_run, NoRoomFor}
 use Rattle.gh_world.specs.Runs.{Awaited, EveryListOfAScriptStands, FoundNoRoom, IsExplained, words_in}
 use Rattle.gh_world.specs.Wishes.{wishes_of}
@@ -50,7 +50,7 @@ module _ (p : Program) (l : Layout) where
       let c = first-of (all && not (has_left es) && has_more (wishes_of p) es o) (may_leave z a es o) b in
       let e = first-of all (not (has_left es)) (first-of (all && not (has_left es)) (has_more (wishes_of p) es o) c) in
       let range = in_range l.goroutines l.globals (length p.shapes) o in
-      let f = first-of (range && is_of z a (Some g) && has_names m o) (not (is_over es (Some g))) e in
+      let f = first-of (range && is_of z a (Some g) && has_names m o) (not (goroutine_is_over es (Some g))) e in
       let r = first-of range (is_of z a (Some g)) (first-of (range && is_of z a (Some g)) (has_names m o) f) in
       ltb-true t (length p.shapes) (last-of (nat_lt g l.goroutines && nat_lt d REGISTERS) (nat_lt t (length p.shapes)) r)
 

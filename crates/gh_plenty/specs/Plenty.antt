@@ -19,13 +19,13 @@ use Rattle.gh_lists.specs.Wants.{total}
 use Rattle.gh_world.specs.World.{LaysOut}
 
 -- the statement makes an object
-abbrev pub makes : Stmt → Bool
-makes (New d t) = true
-makes _ = false
+abbrev pub is_new_statement : Stmt → Bool
+is_new_statement (New d t) = true
+is_new_statement _ = false
 
 -- how many objects goroutine g makes
 abbrev pub objects_of : Program → (g : ℕ) → ℕ
-objects_of p g = length (filter makes (statements_of p g))
+objects_of p g = length (filter is_new_statement (statements_of p g))
 
 -- and how many all goroutines make
 abbrev pub all_objects : Program → ℕ

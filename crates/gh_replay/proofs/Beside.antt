@@ -21,16 +21,16 @@ use Rattle.gh_world.specs.Points.{answers_of, ever_along, op_at_point, ops_of}
 use Rattle.gh_world.specs.Runs.{acted_by}
 use Rattle.gh_world.specs.Turns.{is_statement_of}
 use Rattle.gh_replay.specs.declared.check.Told.{Told}
-use Rattle.gh_replay.specs.Check.{AreAlong, left_of}
-use Rattle.gh_replay.proofs.Vocabulary.{Answer, goroutine_at, Op, op_of, Program}
+use Rattle.gh_replay.specs.Check.{answers_untaken, AreAlong}
+use Rattle.gh_replay.proofs.Vocabulary.{Answer, its_goroutine, Op, Program, statement_as_op}
 
 -- ---- statements
 
-statement_is : (g : ℕ) (s : Stmt) → is_statement (op_of g s) ≡ true
+statement_is : (g : ℕ) (s : Stmt) → is_statement (statement_as_op g s) ≡ true
 statement_is g (stmts.New d t) = refl
 statement_is g _ = refl
 
-goroutine_is : (g : ℕ) (s : Stmt) → goroutine_at (op_of g s) ≡ g
+goroutine_is : (g : ℕ) (s : Stmt) → its_goroutine (statement_as_op g s) ≡ g
 goroutine_is g (stmts.New d t) = refl
 goroutine_is g _ = refl
 
@@ -45,21 +45,21 @@ none_beyond p g n le = ap (λ (x : Goroutine). cond (eqb n 0) None (slice_get x.
 record IsThere (p : Program) (g : ℕ) (o : Op) : Type 0 where
   below : g < length p.goroutines
   statement : is_statement o ≡ true
-  its : goroutine_at o ≡ g
+  its : its_goroutine o ≡ g
 
 is_there : (p : Program) (g n : ℕ) (o : Op) → op_at_point p (g, n) ≡ Some o → IsThere p g o
 is_there p g n o at = go (statement_at p g n) refl at where
-  go : (s : Option Stmt) → statement_at p g n ≡ s → option_map (op_of g) s ≡ Some o → IsThere p g o
+  go : (s : Option Stmt) → statement_at p g n ≡ s → option_map (statement_as_op g) s ≡ Some o → IsThere p g o
   go None e f = absurd cc
   go (Some s) e f =
-      let is : op_of g s ≡ o = cc in
+      let is : statement_as_op g s ≡ o = cc in
       record {
         below = elim (cases_lt g (length p.goroutines)) [
           | inl lt ↦ lt
           | inr le ↦ absurd (let none = none_beyond p g n le in cc)
         ];
         statement = ap is_statement (sym is) ∙ statement_is g s;
-        its = ap goroutine_at (sym is) ∙ goroutine_is g s;
+        its = ap its_goroutine (sym is) ∙ goroutine_is g s;
       }
 
 -- it takes over what was answered
@@ -91,7 +91,7 @@ pub record Midway (p : Program) (xs rest : List Answered) (taken : Told) (lists 
   pub shapes : lists.shapes ≡ p.shapes
   pub many : length lists.left ≡ length p.goroutines
   pub left : (g : ℕ) → g < length p.goroutines → get_or lists.left g 0 ≡ length (acted_by g rest)
-  pub told : (g : ℕ) → g < length p.goroutines → left_of taken g ≡ answers_of (acted_by g rest)
+  pub told : (g : ℕ) → g < length p.goroutines → answers_untaken taken g ≡ answers_of (acted_by g rest)
   pub answers : AllAnswer p.shapes (ever_of lists) (ops_of rest) (answers_of rest)
   pub ends : ever_after_all p.shapes (ever_of lists) (ops_of rest) (answers_of rest) ≡ ever_along p.shapes xs
 
@@ -100,7 +100,7 @@ pub record Takes (p : Program) (g : ℕ) (o : Op) (a : Answer) (told told_then :
   pub shapes : then.shapes ≡ lists.shapes
   pub left : then.left ≡ spent lists.left g
   pub after : ever_of then ≡ ever_after p.shapes (ever_of lists) o (given_answer p.shapes (ever_of lists) o (Some a))
-  pub taken : (h : ℕ) → left_of told_then h ≡ cond (eqb h g) (drop 1 (left_of told h)) (left_of told h)
+  pub taken : (h : ℕ) → answers_untaken told_then h ≡ cond (eqb h g) (drop 1 (answers_untaken told h)) (answers_untaken told h)
 
 -- the next statement
 module _ (p : Program) (xs more : List Answered) (x : Answered) (told : Told) (lists : Lists) (g n : ℕ) (m : Midway p xs (x ∷ more) told lists) (at : op_at_point p (g, n) ≡ Some x.op) where
@@ -111,7 +111,7 @@ module _ (p : Program) (xs more : List Answered) (x : Answered) (told : Told) (l
   there = here.below
 
   test : (h : ℕ) → is_statement_of h x.op ≡ eqb g h
-  test h = ap (λ (b : Bool). b && eqb (goroutine_at x.op) h) here.statement ∙ ap (λ (k : ℕ). eqb k h) here.its
+  test h = ap (λ (b : Bool). b && eqb (its_goroutine x.op) h) here.statement ∙ ap (λ (k : ℕ). eqb k h) here.its
 
   own : acted_by g (x ∷ more) ≡ x ∷ acted_by g more
   own = ap (λ (b : Bool). cond b (x ∷ acted_by g more) (acted_by g more)) (test g ∙ eq-eqb g g refl)
@@ -125,7 +125,7 @@ module _ (p : Program) (xs more : List Answered) (x : Answered) (told : Told) (l
   pub due : IsDue lists g
   due = let many = m.many in let left = m.left g there in let one = ap length own in (omega (arith, many, there), omega (arith, left, one))
 
-  pub first : slice_get (left_of told g) 0 ≡ Some x.answer
+  pub first : slice_get (answers_untaken told g) 0 ≡ Some x.answer
   first = ap (λ (as' : List Answer). slice_get as' 0) (m.told g there ∙ ap answers_of own)
 
   pub given : given_answer p.shapes (ever_of lists) x.op (Some x.answer) ≡ x.answer
@@ -145,9 +145,9 @@ module _ (p : Program) (xs more : List Answered) (x : Answered) (told : Told) (l
           let other : h ≡ g → ⊥ = λ same. let no : eqb h g ≡ true = eq-eqb h g same in absurd cc in
           get_or-set_other lists.left g h (get_or lists.left g 0 - 1) 0 other ∙ m.left h lt ∙ ap length (others h other)
 
-    told_are : (h : ℕ) → h < length p.goroutines → left_of told_then h ≡ answers_of (acted_by h more)
+    told_are : (h : ℕ) → h < length p.goroutines → answers_untaken told_then h ≡ answers_of (acted_by h more)
     told_are h lt = t.taken h ∙ go (eqb h g) refl where
-      go : (b : Bool) → eqb h g ≡ b → cond b (drop 1 (left_of told h)) (left_of told h) ≡ answers_of (acted_by h more)
+      go : (b : Bool) → eqb h g ≡ b → cond b (drop 1 (answers_untaken told h)) (answers_untaken told h) ≡ answers_of (acted_by h more)
       go true e = let same : h ≡ g = eqb-true h g e in rw same (ap (drop 1) (m.told g there ∙ ap answers_of own))
       go false e =
           let other : h ≡ g → ⊥ = λ same. let no : eqb h g ≡ true = eq-eqb h g same in absurd cc in
@@ -202,7 +202,7 @@ module _ (p : Program) (points : List (ℕ × ℕ)) (answers : List (ℕ × Answ
       next_due = due p xs (drop (i + 1) xs) next told lists point.0 point.1 before_it point_at
 
       -- it is told the answer that the statement was given, and answers it so
-      module _ (a : Option Answer) (taken : a ≡ slice_get (left_of told point.0) 0) where
+      module _ (a : Option Answer) (taken : a ≡ slice_get (answers_untaken told point.0) 0) where
         pub told_is : a ≡ Some next.answer
         told_is = taken ∙ first p xs (drop (i + 1) xs) next told lists point.0 point.1 before_it point_at
 

@@ -4,15 +4,15 @@ use Rattle.std.proofs.lemmas.Bool.{eq-eqb}
 use Rattle.gh_replay.specs.declared.schedule.Turn.{Turn}
 use Rattle.gh_replay.specs.declared.schedule.Until.TheVariants.{Without}
 use Rattle.gh_replay.specs.Scheduled.{OthersTakeTurns, reached_in, stands_in}
-use Rattle.gh_replay.specs.Standing.{passed, Reached, Standing, to_come, who, who_of, without}
+use Rattle.gh_replay.specs.Standing.{ActorsSoFar, passed, Standing, to_come, who, who_of, with_actor_ended}
 use Rattle.gh_replay.proofs.Choosing.{behind_there, either_false, next_low}
 use Rattle.gh_replay.proofs.OneRun.{stands_low}
 
 -- whoever steps by it is another
-another : (r : Reached) (s : Standing) (a b n : ℕ) (more : List Turn) → s.next < r.actors → to_come r s.items ≡ record { actor = a; until = Without n } ∷ more → who r s ≡ Some b → eqb a b ≡ false
+another : (r : ActorsSoFar) (s : Standing) (a b n : ℕ) (more : List Turn) → s.next < r.actors → to_come r s.items ≡ record { actor = a; until = Without n } ∷ more → who r s ≡ Some b → eqb a b ≡ false
 another r s a b n more low first is =
     let here : who_of r (record { actor = a; until = Without n } ∷ more) (passed r s) ≡ Some b = ap (λ (xs : List Turn). who_of r xs (passed r s)) (sym first) ∙ is in
-    let there = behind_there (without a r) (passed r s).next b s.drawn (next_low r s.items s.next low) here in
+    let there = behind_there (with_actor_ended a r) (passed r s).next b s.drawn (next_low r s.items s.next low) here in
     (either_false (eqb a b) (r.ended b) there.1).0
 
 pub by_others : OthersTakeTurns

@@ -11,7 +11,7 @@ use Rattle.gh_world.specs.Schedule.{behind, first_going, in_order_from, turn_fro
 use Rattle.gh_replay.specs.declared.schedule.Turn.{Turn}
 use Rattle.gh_replay.specs.declared.schedule.Until.{Until}
 use Rattle.gh_replay.specs.declared.schedule.Until.TheVariants.{Steps, Marks, Without}
-use Rattle.gh_replay.specs.Standing.{going, is_gone, is_over, is_over_by, moved, next_of, one_less, passed, Reached, Standing, stands_behind, stands_by, to_come, who, who_behind, who_by, who_of, without}
+use Rattle.gh_replay.specs.Standing.{ActorsSoFar, going, is_gone, is_over, is_over_by, moved, next_of, one_less, passed, Standing, stands_behind, stands_by, to_come, who, who_behind, who_by, who_of, with_actor_ended}
 
 -- ---- whose turn it is
 
@@ -100,12 +100,12 @@ none_kept ended b (suc m) all = rw (all b (omega arith)) (none_kept ended (b + 1
 -- ---- in ascending order or drawn
 
 -- whoever it is, it is there, and has not ended
-pub behind_there : (r : Reached) (next a : ℕ) (o : Option ℕ) → next < r.actors → who_behind r next o ≡ Some a → (a < r.actors) × (r.ended a ≡ false)
+pub behind_there : (r : ActorsSoFar) (next a : ℕ) (o : Option ℕ) → next < r.actors → who_behind r next o ≡ Some a → (a < r.actors) × (r.ended a ≡ false)
 behind_there r next a None low q = (some_there r.ended r.actors next a low q, some_going r.ended (in_order_from next r.actors) a q)
 behind_there r next a (Some x) low q = let h = drawn_of r.ended 0 r.actors ((mix_u64 x).0 % length (going r)) a q in let lt = h.0 in (omega (arith, lt), h.1)
 
 -- where it is nobody, all have ended
-behind_none : (r : Reached) (next : ℕ) (o : Option ℕ) → who_behind r next o ≡ None → (a : ℕ) → a < r.actors → r.ended a ≡ true
+behind_none : (r : ActorsSoFar) (next : ℕ) (o : Option ℕ) → who_behind r next o ≡ None → (a : ℕ) → a < r.actors → r.ended a ≡ true
 behind_none r next None q a lt = none_going r.ended r.actors next q a lt
 behind_none r next (Some x) q a lt = none_drawn r.ended 0 r.actors (none_at (going r) (mix_u64 x).0 q) a (omega arith) (omega (arith, lt))
 
@@ -116,36 +116,36 @@ either_false true c e = absurd cc
 either_false false c e = (refl, e)
 
 -- an actor that is not gone
-pub not_gone : (r : Reached) (a : ℕ) → is_gone r a ≡ false → (a < r.actors) × (r.ended a ≡ false)
+pub not_gone : (r : ActorsSoFar) (a : ℕ) → is_gone r a ≡ false → (a < r.actors) × (r.ended a ≡ false)
 not_gone r a e =
     let both = either_false (nat_le r.actors a) (r.ended a) e in
     let le = both.0 in
     (grind (arith, nat_tests), both.1)
 
 -- by an item that has not ended
-by_there : (r : Reached) (s : Standing) (b a : ℕ) (u : Until) → s.next < r.actors → is_over_by r b u ≡ false → who_by r b u s ≡ Some a → (a < r.actors) × (r.ended a ≡ false)
+by_there : (r : ActorsSoFar) (s : Standing) (b a : ℕ) (u : Until) → s.next < r.actors → is_over_by r b u ≡ false → who_by r b u s ≡ Some a → (a < r.actors) × (r.ended a ≡ false)
 by_there r s b a (Steps n) low f q = let same : b ≡ a = cc in not_gone r a (ap (is_gone r) (sym same) ∙ (either_false (is_gone r b) (eqb n 0) f).0)
 by_there r s b a (Marks m) low f q = let same : b ≡ a = cc in not_gone r a (ap (is_gone r) (sym same) ∙ (either_false (is_gone r b) (nat_le m (r.marks b)) f).0)
-by_there r s b a (Without n) low f q = let h = behind_there (without b r) s.next a s.drawn low q in (h.0, (either_false (eqb b a) (r.ended a) h.1).1)
+by_there r s b a (Without n) low f q = let h = behind_there (with_actor_ended b r) s.next a s.drawn low q in (h.0, (either_false (eqb b a) (r.ended a) h.1).1)
 
-by_some : (r : Reached) (s : Standing) (b : ℕ) (u : Until) → is_over_by r b u ≡ false → who_by r b u s ≡ None → ⊥
+by_some : (r : ActorsSoFar) (s : Standing) (b : ℕ) (u : Until) → is_over_by r b u ≡ false → who_by r b u s ≡ None → ⊥
 by_some r s b (Steps n) f q = absurd cc
 by_some r s b (Marks m) f q = absurd cc
 by_some r s b (Without n) f q =
-    let none : length (going (without b r)) ≡ 0 = none_kept (without b r).ended 0 r.actors (λ a lt. behind_none (without b r) s.next s.drawn q a (omega (arith, lt))) in
-    let some : eqb (length (going (without b r))) 0 ≡ false = (either_false (eqb n 0) (eqb (length (going (without b r))) 0) f).1 in
+    let none : length (going (with_actor_ended b r)) ≡ 0 = none_kept (with_actor_ended b r).ended 0 r.actors (λ a lt. behind_none (with_actor_ended b r) s.next s.drawn q a (omega (arith, lt))) in
+    let some : eqb (length (going (with_actor_ended b r))) 0 ≡ false = (either_false (eqb n 0) (eqb (length (going (with_actor_ended b r))) 0) f).1 in
     let no : true ≡ false = ap (λ (k : ℕ). eqb k 0) (sym none) ∙ some in
     absurd cc
 
 -- the first item to come has not ended
-head_going : (r : Reached) (xs : List Turn) (t : Turn) (more : List Turn) → to_come r xs ≡ t ∷ more → is_over r t ≡ false
+head_going : (r : ActorsSoFar) (xs : List Turn) (t : Turn) (more : List Turn) → to_come r xs ≡ t ∷ more → is_over r t ≡ false
 head_going r [] t more e = absurd cc
 head_going r (x ∷ xs) t more e = go (head_going r xs t more) (is_over r x) refl e where
   go : (to_come r xs ≡ t ∷ more → is_over r t ≡ false) → (b : Bool) → is_over r x ≡ b → cond b (to_come r xs) (x ∷ xs) ≡ t ∷ more → is_over r t ≡ false
   go later true f q = later q
   go later false f q = let same : x ≡ t = cc in ap (is_over r) (sym same) ∙ f
 
-pub next_low : (r : Reached) (xs : List Turn) (next : ℕ) → next < r.actors → next_of r xs next < r.actors
+pub next_low : (r : ActorsSoFar) (xs : List Turn) (next : ℕ) → next < r.actors → next_of r xs next < r.actors
 next_low r [] next low = low
 next_low r (t ∷ more) next low = go (is_over r t) where
   go : (b : Bool) → cond b 0 next < r.actors
@@ -153,18 +153,18 @@ next_low r (t ∷ more) next low = go (is_over r t) where
   go false = low
 
 -- whoever steps next is there, and has not ended
-pub who_there : (r : Reached) (s : Standing) (a : ℕ) → s.next < r.actors → who r s ≡ Some a → (a < r.actors) × (r.ended a ≡ false)
+pub who_there : (r : ActorsSoFar) (s : Standing) (a : ℕ) → s.next < r.actors → who r s ≡ Some a → (a < r.actors) × (r.ended a ≡ false)
 who_there r s a low e = go (to_come r s.items) refl e where
   go : (xs : List Turn) → to_come r s.items ≡ xs → who_of r xs (passed r s) ≡ Some a → (a < r.actors) × (r.ended a ≡ false)
   go [] f q = behind_there r (next_of r s.items s.next) a s.drawn (next_low r s.items s.next low) q
   go (t ∷ more) f q = by_there r (passed r s) t.actor a t.until (next_low r s.items s.next low) (head_going r s.items t more f) q
 
-pub is_there : (r : Reached) (s : Standing) (o : Option ℕ) → s.next < r.actors → o ≡ who r s → IfSome o (λ a. (a < r.actors) × (r.ended a ≡ false))
+pub is_there : (r : ActorsSoFar) (s : Standing) (o : Option ℕ) → s.next < r.actors → o ≡ who r s → IfSome o (λ a. (a < r.actors) × (r.ended a ≡ false))
 is_there r s None low e = tt
 is_there r s (Some a) low e = who_there r s a low (sym e)
 
 -- where nobody does, all have ended
-pub none_left : (r : Reached) (s : Standing) → who r s ≡ None → (a : ℕ) → a < r.actors → r.ended a ≡ true
+pub none_left : (r : ActorsSoFar) (s : Standing) → who r s ≡ None → (a : ℕ) → a < r.actors → r.ended a ≡ true
 none_left r s e a lt = go (to_come r s.items) refl e where
   go : (xs : List Turn) → to_come r s.items ≡ xs → who_of r xs (passed r s) ≡ None → r.ended a ≡ true
   go [] f q = behind_none r (next_of r s.items s.next) s.drawn q a lt
@@ -177,7 +177,7 @@ behind_low n a some = go (ltb (a + 1) n) refl where
   go false e = some
 
 -- the next turn stays that of an actor that there is
-pub moved_low : (r : Reached) (a : ℕ) (s : Standing) → s.next < r.actors → (moved r a s).next < r.actors
+pub moved_low : (r : ActorsSoFar) (a : ℕ) (s : Standing) → s.next < r.actors → (moved r a s).next < r.actors
 moved_low r a s low = go (to_come r s.items) where
   by_item : (u : Until) (items : List Turn) → (stands_by r a u items (passed r s)).next < r.actors
   by_item (Steps n) items = next_low r s.items s.next low
@@ -191,12 +191,12 @@ moved_low r a s low = go (to_come r s.items) where
 -- ---- actors that have come to the same
 
 -- those that there are have
-pub record Agree (r q : Reached) : Type 0 where
+pub record Agree (r q : ActorsSoFar) : Type 0 where
   pub actors : r.actors ≡ q.actors
   pub ended : (a : ℕ) → a < r.actors → r.ended a ≡ q.ended a
   pub marks : (a : ℕ) → a < r.actors → r.marks a ≡ q.marks a
 
-module _ (r q : Reached) (h : Agree r q) where
+module _ (r q : ActorsSoFar) (h : Agree r q) where
   same_filter : (b m : ℕ) → b + m ≤ r.actors → filter (λ a. not (r.ended a)) (range_with_len b m) ≡ filter (λ a. not (q.ended a)) (range_with_len b m)
   same_filter b zero le = refl
   same_filter b (suc m) le = rw (h.ended b (omega (arith, le)), same_filter (b + 1) m (omega (arith, le))) refl
@@ -217,12 +217,12 @@ module _ (r q : Reached) (h : Agree r q) where
   same_behind next None low = same_turn next low
   same_behind next (Some x) low = ap (λ (as' : List ℕ). slice_get as' ((mix_u64 x).0 % length as')) same_going
 
-  but_for : (b : ℕ) → Agree (without b r) (without b q)
+  but_for : (b : ℕ) → Agree (with_actor_ended b r) (with_actor_ended b q)
   but_for b = record { actors = h.actors; ended = λ a lt. ap (λ (c : Bool). eqb b a || c) (h.ended a lt); marks = h.marks }
 
-module _ (r q : Reached) (h : Agree r q) where
+module _ (r q : ActorsSoFar) (h : Agree r q) where
   same_over_by : (a : ℕ) (u : Until) → is_over_by r a u ≡ is_over_by q a u
-  same_over_by a (Without n) = ap (λ (xs : List ℕ). eqb n 0 || eqb (length xs) 0) (same_going (without a r) (without a q) (but_for r q h a))
+  same_over_by a (Without n) = ap (λ (xs : List ℕ). eqb n 0 || eqb (length xs) 0) (same_going (with_actor_ended a r) (with_actor_ended a q) (but_for r q h a))
   same_over_by a (Steps n) = ap (λ (b : Bool). b || eqb n 0) (elim (cases_lt a r.actors) [
     | inl lt ↦ rw (h.actors, h.ended a lt) refl
     | inr le ↦
@@ -254,7 +254,7 @@ module _ (r q : Reached) (h : Agree r q) where
   same_by : (a : ℕ) (u : Until) (s : Standing) → s.next < r.actors → who_by r a u s ≡ who_by q a u s
   same_by a (Steps n) s low = refl
   same_by a (Marks m) s low = refl
-  same_by a (Without n) s low = same_behind (without a r) (without a q) (but_for r q h a) s.next s.drawn low
+  same_by a (Without n) s low = same_behind (with_actor_ended a r) (with_actor_ended a q) (but_for r q h a) s.next s.drawn low
 
   same_of : (xs : List Turn) (s : Standing) → s.next < r.actors → who_of r xs s ≡ who_of q xs s
   same_of [] s low = same_behind r q h s.next s.drawn low

@@ -4,11 +4,11 @@ use Rattle.std.specs.Prelude.{slice_get}
 use Rattle.std.specs.List.{filter, range_with_len}
 use Rattle.std.proofs.lemmas.List.{append-nil, at_drop_more, drop_all}
 use Rattle.gh_replay.specs.declared.schedule.Turn.{Turn}
-use Rattle.gh_replay.specs.Standing.{going, is_over, Reached, to_come}
+use Rattle.gh_replay.specs.Standing.{ActorsSoFar, going, is_over, to_come}
 
 -- ---- items
 
-module _ (r : Reached) (xs : List Turn) where
+module _ (r : ActorsSoFar) (xs : List Turn) where
   -- the item at this place has ended
   pub come_past : (i : ℕ) (d : Turn) → i < length xs → is_over r (get_or xs i d) ≡ true → to_come r (drop (i + 1) xs) ≡ to_come r (drop i xs)
   come_past i d lt e = sym (at_drop_more (to_come r) xs i d lt ∙ ap (λ (b : Bool). cond b (to_come r (drop (i + 1) xs)) (get_or xs i d ∷ drop (i + 1) xs)) e)
@@ -24,13 +24,13 @@ module _ (r : Reached) (xs : List Turn) where
 -- ---- actors
 
 -- those from this one on
-abbrev pub going_from : Reached → ℕ → List ℕ
+abbrev pub going_from : ActorsSoFar → ℕ → List ℕ
 going_from r a = filter (λ b. not (r.ended b)) (range_with_len a (r.actors - a))
 
 pub next_range : (n a : ℕ) → a < n → range_with_len a (n - a) ≡ a ∷ range_with_len (a + 1) (n - (a + 1))
 next_range n a lt = let e : n - a ≡ suc (n - (a + 1)) = omega (arith, lt) in ap (range_with_len a) e
 
-module _ (r : Reached) (a : ℕ) (lt : a < r.actors) where
+module _ (r : ActorsSoFar) (a : ℕ) (lt : a < r.actors) where
   here : going_from r a ≡ cond (not (r.ended a)) (a ∷ going_from r (a + 1)) (going_from r (a + 1))
   here = ap (filter (λ b. not (r.ended b))) (next_range r.actors a lt)
 
@@ -40,22 +40,22 @@ module _ (r : Reached) (a : ℕ) (lt : a < r.actors) where
   pub is_passed : r.ended a ≡ true → going_from r a ≡ going_from r (a + 1)
   is_passed e = here ∙ ap (λ (b : Bool). cond (not b) (a ∷ going_from r (a + 1)) (going_from r (a + 1))) e
 
-pub none_from : (r : Reached) (a : ℕ) → r.actors ≤ a → going_from r a ≡ []
+pub none_from : (r : ActorsSoFar) (a : ℕ) → r.actors ≤ a → going_from r a ≡ []
 none_from r a le = let e : r.actors - a ≡ 0 = omega (arith, le) in ap (λ (m : ℕ). filter (λ b. not (r.ended b)) (range_with_len a m)) e
 
 -- ---- they are kept, from the first on
 
-pub from_first : (r : Reached) → going_from r 0 ≡ going r
+pub from_first : (r : ActorsSoFar) → going_from r 0 ≡ going r
 from_first r = let e : r.actors - 0 ≡ r.actors = omega arith in ap (λ (m : ℕ). filter (λ b. not (r.ended b)) (range_with_len 0 m)) e
 
-module _ (r : Reached) (a : ℕ) (xs : List ℕ) (lt : a < r.actors) (so_far : xs ++ going_from r a ≡ going r) where
+module _ (r : ActorsSoFar) (a : ℕ) (xs : List ℕ) (lt : a < r.actors) (so_far : xs ++ going_from r a ≡ going r) where
   pub joins : r.ended a ≡ false → (xs ++ a ∷ []) ++ going_from r (a + 1) ≡ going r
   joins e = append_assoc xs (a ∷ []) (going_from r (a + 1)) ∙ sym (ap (λ (as' : List ℕ). xs ++ as') (goes_on r a lt e)) ∙ so_far
 
   pub joins_not : r.ended a ≡ true → xs ++ going_from r (a + 1) ≡ going r
   joins_not e = sym (ap (λ (as' : List ℕ). xs ++ as') (is_passed r a lt e)) ∙ so_far
 
-pub all_joined : (r : Reached) (a : ℕ) (xs : List ℕ) → r.actors ≤ a → xs ++ going_from r a ≡ going r → xs ≡ going r
+pub all_joined : (r : ActorsSoFar) (a : ℕ) (xs : List ℕ) → r.actors ≤ a → xs ++ going_from r a ≡ going r → xs ≡ going r
 all_joined r a xs le so_far = sym (ap (λ (as' : List ℕ). xs ++ as') (none_from r a le) ∙ append-nil xs) ∙ so_far
 
 -- none is chosen among none

@@ -37,11 +37,11 @@ use Rattle.gh_world.specs.declared.event.Event.{Event}
 use Rattle.gh_world.specs.declared.event.Event.TheVariants as event
 use Rattle.gh_lists.specs.declared.handshake.Actor.{Actor}
 use Rattle.gh_lists.specs.declared.handshake.Actor.TheVariants as actor
-use Rattle.gh_lists.specs.Handshake.{takes}
+use Rattle.gh_lists.specs.Handshake.{actor_takes}
 use Rattle.gh_world.specs.Schedule.{has_ended}
 use Rattle.gh_world.specs.World.{done_or, event_at, event_by, event_of, told_event}
 use Rattle.gh_replay.specs.declared.place.Place as place
-use Rattle.gh_replay.specs.Places.{Keeps, seen_of}
+use Rattle.gh_replay.specs.Places.{KeepsThoseGoing, seen_of}
 use Rattle.gh_replay.specs.Standing.{going}
 use Rattle.gh_replay.proofs.Vocabulary.{actor_after, actors_of, Answer, Appends, Entry, is_done, IsAfter, Layout, layout_of, now_in, Op, Program, script_of, setting_of, State}
 
@@ -151,7 +151,7 @@ not_false : (b : Bool) → not b ≡ false → b ≡ true
 not_false true e = refl
 not_false false e = absurd cc
 
-given_done : (stage : CoordStage) → is_some (coord.given_at stage) ≡ coord.is_done stage
+given_done : (stage : CoordStage) → is_some (coord.given_at stage) ≡ coord.is_done_at stage
 given_done (coord_stage.LoadAck i) = refl
 given_done coord_stage.LoadWant = refl
 given_done (coord_stage.Stop st) = refl
@@ -166,7 +166,7 @@ given_done (coord_stage.Count c) = refl
 given_done (coord_stage.Tell t) = refl
 given_done coord_stage.Done = refl
 
-finished_by : (shapes : List Shape) (now : ℕ × ℕ) (x : Actor) (found : ℕ) → has_ended x ≡ false → is_finished (event_by now x found) ≡ has_ended (takes shapes x found)
+finished_by : (shapes : List Shape) (now : ℕ × ℕ) (x : Actor) (found : ℕ) → has_ended x ≡ false → is_finished (event_by now x found) ≡ has_ended (actor_takes shapes x found)
 finished_by shapes now (actor.Runs m) found on = of_last now (is_last m.task) _ ∙ sym (left_by shapes m m.task found refl on)
 finished_by shapes now (actor.Marks w) found on = of_out (worker.gives w found) event.Moved refl ∙ none_busy (worker.gives w found) (worker.is_busy (worker.goes w found).stage) (worker_ends.ends w found (not_false (worker.is_busy w.stage) on))
 finished_by shapes now (actor.Leads c) found on = of_out (coord.gives c found) _ (of_told (coord.told_at c.cycles c.stage)) ∙ given_done (coord.goes c found).stage
@@ -178,7 +178,7 @@ module _ (p : Program) (l : Layout) where
   started_on (Some o) (actor.Marks w) on = on
   started_on (Some o) (actor.Leads c) on = on
 
-  finished_in : (es : List (Entry Op)) (e : Entry Op) → has_ended (actor_after p l es e.actor) ≡ false → is_finished (event_of p l es e) ≡ has_ended (takes p.shapes (started (setting_of p l).kind e.begun (actor_after p l es e.actor)) e.found)
+  finished_in : (es : List (Entry Op)) (e : Entry Op) → has_ended (actor_after p l es e.actor) ≡ false → is_finished (event_of p l es e) ≡ has_ended (actor_takes p.shapes (started (setting_of p l).kind e.begun (actor_after p l es e.actor)) e.found)
   finished_in es e on = finished_by p.shapes (now_in (e ∷ es)) (started (setting_of p l).kind e.begun (actor_after p l es e.actor)) e.found (started_on e.begun (actor_after p l es e.actor) on)
 
 -- ---- who has ended after a step, and who goes on
@@ -216,13 +216,13 @@ module _ (w v : State) (actor : ℕ) (happened : Event) (es : List (Entry Op)) (
   says : happened ≡ event_of (script_of w) (layout_of w) es s.appends.e
   says = s.appends.says ∙ ap (λ (q : Program). event_of q (layout_of v) es s.appends.e) s.script ∙ ap (λ (k : Layout). event_of (script_of w) k es s.appends.e) s.layout
 
-  own : is_finished happened ≡ has_ended (takes (script_of w).shapes (started (setting_of (script_of w) (layout_of w)).kind s.appends.e.begun (actor_after (script_of w) (layout_of w) es s.appends.e.actor)) s.appends.e.found)
+  own : is_finished happened ≡ has_ended (actor_takes (script_of w).shapes (started (setting_of (script_of w) (layout_of w)).kind s.appends.e.begun (actor_after (script_of w) (layout_of w) es s.appends.e.actor)) s.appends.e.found)
   own = ap is_finished says ∙ finished_in (script_of w) (layout_of w) es s.appends.e (ap (λ (b : ℕ). has_ended (actor_after (script_of w) (layout_of w) es b)) s.appends.by ∙ sym (ap has_ended (s.before.actors actor s.there)) ∙ s.on)
 
   ended_then : (b : ℕ) → b < actors_of w → is_done v b ≡ cond (eqb actor b) (is_finished happened) (is_done w b)
   ended_then b lt = after_it b lt ∙ go (eqb s.appends.e.actor b) refl ∙ ap (λ (c : ℕ). cond (eqb c b) (is_finished happened) (is_done w b)) s.appends.by where
-    go : (c : Bool) → eqb s.appends.e.actor b ≡ c → has_ended (cond c (takes (script_of w).shapes (started (setting_of (script_of w) (layout_of w)).kind s.appends.e.begun (actor_after (script_of w) (layout_of w) es b)) s.appends.e.found) (actor_after (script_of w) (layout_of w) es b)) ≡ cond c (is_finished happened) (is_done w b)
-    go true same = sym (own ∙ ap (λ (d : ℕ). has_ended (takes (script_of w).shapes (started (setting_of (script_of w) (layout_of w)).kind s.appends.e.begun (actor_after (script_of w) (layout_of w) es d)) s.appends.e.found)) (eqb-true s.appends.e.actor b same))
+    go : (c : Bool) → eqb s.appends.e.actor b ≡ c → has_ended (cond c (actor_takes (script_of w).shapes (started (setting_of (script_of w) (layout_of w)).kind s.appends.e.begun (actor_after (script_of w) (layout_of w) es b)) s.appends.e.found) (actor_after (script_of w) (layout_of w) es b)) ≡ cond c (is_finished happened) (is_done w b)
+    go true same = sym (own ∙ ap (λ (d : ℕ). has_ended (actor_takes (script_of w).shapes (started (setting_of (script_of w) (layout_of w)).kind s.appends.e.begun (actor_after (script_of w) (layout_of w) es d)) s.appends.e.found)) (eqb-true s.appends.e.actor b same))
     go false other = sym (ap has_ended (s.before.actors b lt))
 
   then' : (b : ℕ) → b < 0 + actors_of w → is_done v b ≡ cond (eqb actor b) (is_finished happened) (is_done w b)
@@ -248,9 +248,9 @@ keep_by : {A B : Type 0} (o : Option ℕ) → IfSome o (λ x. A) → (A → B) �
 keep_by None h f = h
 keep_by (Some x) h f = f h
 
-module _ (w v : State) (actor : ℕ) (happened : Event) (es : List (Entry Op)) (s : Stepped w v actor happened es) (c : place.Place) (kept : List ℕ) (all : Keeps c kept w) where
-  pub keeps_on : is_finished happened ≡ false → Keeps c kept v
+module _ (w v : State) (actor : ℕ) (happened : Event) (es : List (Entry Op)) (s : Stepped w v actor happened es) (c : place.Place) (kept : List ℕ) (all : KeepsThoseGoing c kept w) where
+  pub keeps_on : is_finished happened ≡ false → KeepsThoseGoing c kept v
   keeps_on is = keep_by c.drawn all (λ h. h ∙ sym (going_same w v actor happened es s is))
 
-  pub keeps_less : (less : List ℕ) → less ≡ filter (λ b. not (eqb actor b)) kept → is_finished happened ≡ true → Keeps c less v
+  pub keeps_less : (less : List ℕ) → less ≡ filter (λ b. not (eqb actor b)) kept → is_finished happened ≡ true → KeepsThoseGoing c less v
   keeps_less less items is = keep_by c.drawn all (λ h. items ∙ ap (filter (λ b. not (eqb actor b))) h ∙ sym (going_less w v actor happened es s is))

@@ -5,7 +5,7 @@ use Rattle.std.specs.List.{list_all}
 use Rattle.std.proofs.lemmas.List.{at_drop_more, at_drop_all}
 use Rattle.std.proofs.lemmas.Bool.{lt-ltb}
 use Rattle.std.proofs.lemmas.Bool.Decides.{nat_tests}
-use Rattle.gh_script.specs.Words.{is_digit, value_from, digits_value_of, number_of}
+use Rattle.gh_script.specs.Words.{is_digit, value_from, digits_value_of, number_spelled}
 use Rattle.gh_replay.specs.ListText.{ranged, within}
 
 -- the word has no byte, or more than 20
@@ -16,8 +16,8 @@ unfit word = eqb (length word) 0 || ltb 20 (length word)
 abbrev tested : List ℕ → (unfit_is all small : Bool) → Option ℕ
 tested word unfit_is all small = cond unfit_is None (cond (all && small) (Some (value_from 0 word)) None)
 
-number_by : (word : List ℕ) → number_of word ≡ tested word (unfit word) (list_all is_digit word) (ltb (value_from 0 word) (2 ^ 64))
-unfolding number_of digits_value_of
+number_by : (word : List ℕ) → number_spelled word ≡ tested word (unfit word) (list_all is_digit word) (ltb (value_from 0 word) (2 ^ 64))
+unfolding number_spelled digits_value_of
 number_by word = refl
 
 pub unfit_has_none : (least most : ℕ) (word : List ℕ) → unfit word ≡ true → None ≡ ranged least most word

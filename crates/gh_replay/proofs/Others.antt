@@ -6,7 +6,7 @@ use Rattle.std.proofs.lemmas.Bool.Decides.{nat_tests}
 use Rattle.std.proofs.lemmas.List.{at_drop_more}
 use Rattle.rand_xoshiro.specs.SplitMix64.{mix_u64}
 use Rattle.gh_world.specs.Schedule.{first_going, turn_from}
-use Rattle.gh_replay.specs.Standing.{going, Reached, who_behind, without}
+use Rattle.gh_replay.specs.Standing.{ActorsSoFar, going, who_behind, with_actor_ended}
 use Rattle.gh_replay.proofs.Going.{next_range}
 
 -- ---- in ascending order
@@ -64,7 +64,7 @@ none_kept ended (x ∷ xs) e = go (ended x) (none_kept ended xs) e where
   go true ih q = ih q
   go false ih q = absurd cc
 
-module _ (r : Reached) (m : ℕ) where
+module _ (r : ActorsSoFar) (m : ℕ) where
   pub some_in : (a : ℕ) → m ≡ r.actors → first_within r.ended 0 m ≡ Some a → eqb (length (going r)) 0 ≡ false
   some_in a same e =
       let all : m - 0 ≡ r.actors = omega (arith, same) in
@@ -93,16 +93,16 @@ kept_but f actor (x ∷ xs) = go (eqb actor x) (f x) refl (kept_but f actor xs) 
   go false true is ih = ih
   go false false is ih = rw is (ap (λ (ys : List ℕ). x ∷ ys) ih)
 
-pub going_but : (r : Reached) (actor : ℕ) → going (without actor r) ≡ filter (λ x. not (eqb actor x)) (going r)
+pub going_but : (r : ActorsSoFar) (actor : ℕ) → going (with_actor_ended actor r) ≡ filter (λ x. not (eqb actor x)) (going r)
 going_but r actor = kept_but r.ended actor (range_with_len 0 r.actors)
 
-pub chosen_but : (r : Reached) (actor next w x : ℕ) (kept : List ℕ) (drawn o : Option ℕ) → drawn ≡ Some x → w ≡ (mix_u64 x).0 → IfSome drawn (λ y. kept ≡ going r) →
-    o ≡ slice_get (filter (λ b. not (eqb actor b)) kept) (w % length (filter (λ b. not (eqb actor b)) kept)) → o ≡ who_behind (without actor r) next drawn
+pub chosen_but : (r : ActorsSoFar) (actor next w x : ℕ) (kept : List ℕ) (drawn o : Option ℕ) → drawn ≡ Some x → w ≡ (mix_u64 x).0 → IfSome drawn (λ y. kept ≡ going r) →
+    o ≡ slice_get (filter (λ b. not (eqb actor b)) kept) (w % length (filter (λ b. not (eqb actor b)) kept)) → o ≡ who_behind (with_actor_ended actor r) next drawn
 chosen_but r actor next w x kept None o is word all says = absurd cc
 chosen_but r actor next w x kept (Some y) o is word all says =
-    let same : filter (λ b. not (eqb actor b)) kept ≡ going (without actor r) = ap (filter (λ b. not (eqb actor b))) all ∙ sym (going_but r actor) in
+    let same : filter (λ b. not (eqb actor b)) kept ≡ going (with_actor_ended actor r) = ap (filter (λ b. not (eqb actor b))) all ∙ sym (going_but r actor) in
     let drew : w ≡ (mix_u64 y).0 = let one : y ≡ x = cc in word ∙ ap (λ (z : ℕ). (mix_u64 z).0) (sym one) in
-    says ∙ ap (λ (xs : List ℕ). slice_get xs (w % length xs)) same ∙ ap (λ (v : ℕ). slice_get (going (without actor r)) (v % length (going (without actor r)))) drew
+    says ∙ ap (λ (xs : List ℕ). slice_get xs (w % length xs)) same ∙ ap (λ (v : ℕ). slice_get (going (with_actor_ended actor r)) (v % length (going (with_actor_ended actor r)))) drew
 
 -- one after the other
 abbrev pub but : ℕ → List ℕ → List ℕ

@@ -14,7 +14,7 @@ use Rattle.gh_world.specs.Turns.{is_statement_of}
 use Rattle.gh_replay.specs.Report.{IsReportOf, ReportState}
 use Rattle.gh_model.specs.declared.EverValue.{EverValue}
 use Rattle.gh_model.specs.declared.EverValue.TheVariants as values
-use Rattle.gh_model.specs.Ever.{Ever, opening_ever, ever_after, told, load_answer, store_answer, has_field, is_pointer_field, fits, first_value, is_number, same_name, next_name, with_register, with_field, with_object, takes_answer, stores_value, sets_global, makes_object}
+use Rattle.gh_model.specs.Ever.{Ever, opening_ever, ever_after, answer_of_value, load_answer, store_answer, has_field, is_pointer_field, fits, first_value, is_number, same_name, next_name, with_register, with_field, with_object, takes_answer, stores_value, sets_global, makes_object}
 use Rattle.gh_model.specs.Answers.{Answers, AllAnswer}
 use Rattle.gh_replay.proofs.Vocabulary.{Answer, MakerStands, Op, Program}
 
@@ -40,7 +40,7 @@ module _ (shapes : List Shape) (n : ℕ) where
   own_if true v w p q = p
   own_if false v w p q = q
 
-  told_own : (v : EverValue) → Own v → OwnAnswer (told v)
+  told_own : (v : EverValue) → Own v → OwnAnswer (answer_of_value v)
   told_own values.Nil o = tt
   told_own (values.Int k) o = tt
   told_own (values.Ref m) o = o
@@ -53,7 +53,7 @@ module _ (shapes : List Shape) (n : ℕ) where
   load_own e values.Nil k h = tt
   load_own e (values.Int i) k h = tt
   load_own e (values.Ref m) k h = go (has_field shapes e m k) where
-    go : (b : Bool) → OwnAnswer (cond b (told (e.field m k)) (answers.Fault Field))
+    go : (b : Bool) → OwnAnswer (cond b (answer_of_value (e.field m k)) (answers.Fault Field))
     go true = told_own (e.field m k) (h.fields m k)
     go false = tt
 

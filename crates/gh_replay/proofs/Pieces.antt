@@ -8,7 +8,7 @@ use Rattle.std.proofs.lemmas.List.{append-nil, take_all}
 use Rattle.std.proofs.lemmas.List.Sums.{fails_before_first, position_or_len_is}
 use Rattle.std.proofs.lemmas.List.Splits.{slice_split_first, slice_split_none, length-slice_split}
 use Rattle.std.proofs.lemmas.Option.{slice_get_past, slice_get-get_or}
-use Rattle.gh_replay.specs.ListText.{is_comma, is_sign, list_of, ranged, turn_at, turn_of, turn_with, turns_of, until_of}
+use Rattle.gh_replay.specs.ListText.{is_comma, is_sign, list_of, ranged, turn_at, turn_read, turn_with, turns_read, until_of}
 use Rattle.gh_replay.specs.declared.list.TheConstants.{MOST_ITEMS}
 use Rattle.gh_replay.specs.declared.schedule.Turn.{Turn}
 use Rattle.gh_replay.specs.declared.schedule.Until.{Until}
@@ -23,12 +23,12 @@ pub no_until : (a : Option ℕ) → turn_with a None ≡ None
 no_until None = refl
 no_until (Some x) = refl
 
-pub unsigned : (piece : List ℕ) (i : ℕ) → i ≡ position_or_len is_sign piece → length piece ≤ i → None ≡ turn_of piece
-unfolding turn_of
+pub unsigned : (piece : List ℕ) (i : ℕ) → i ≡ position_or_len is_sign piece → length piece ≤ i → None ≡ turn_read piece
+unfolding turn_read
 unsigned piece i e le = sym (ap (turn_at piece) (sym e) ∙ ap (λ (o : Option ℕ). turn_with (ranged 0 255 (take i piece)) (until_of o (drop (i + 1) piece))) (slice_get_past piece i le) ∙ no_until (ranged 0 255 (take i piece)))
 
-pub signed : (piece rest : List ℕ) (i : ℕ) (a : Option ℕ) (u : Option Until) → i ≡ position_or_len is_sign piece → i < length piece → a ≡ ranged 0 255 (take i piece) → rest ≡ drop (i + 1) piece → u ≡ until_of (Some (get_or piece i 0)) rest → turn_with a u ≡ turn_of piece
-unfolding turn_of
+pub signed : (piece rest : List ℕ) (i : ℕ) (a : Option ℕ) (u : Option Until) → i ≡ position_or_len is_sign piece → i < length piece → a ≡ ranged 0 255 (take i piece) → rest ≡ drop (i + 1) piece → u ≡ until_of (Some (get_or piece i 0)) rest → turn_with a u ≡ turn_read piece
+unfolding turn_read
 signed piece rest i a u e lt first behind last =
     let there : slice_get piece i ≡ Some (get_or piece i 0) = slice_get-get_or piece i 0 lt in
     rw (first, last, behind) (ap (λ (o : Option ℕ). turn_with (ranged 0 255 (take i piece)) (until_of o (drop (i + 1) piece))) (sym there) ∙ ap (turn_at piece) e)
@@ -48,38 +48,38 @@ some_pieces text = omega (arith, length-slice_split is_comma text)
 
 -- the items so far, and those that pieces spell
 abbrev pub with : List Turn → List (List ℕ) → Option (List Turn)
-with turns pieces = option_map (λ ts. turns ++ ts) (turns_of pieces)
+with turns pieces = option_map (λ ts. turns ++ ts) (turns_read pieces)
 
-pub with_more : (turns : List Turn) (t : Turn) (piece : List ℕ) (pieces : List (List ℕ)) → turn_of piece ≡ Some t → with turns (piece ∷ pieces) ≡ with (turns ++ t ∷ []) pieces
-unfolding turns_of
-with_more turns t piece pieces e = rw e (go (turns_of pieces)) where
+pub with_more : (turns : List Turn) (t : Turn) (piece : List ℕ) (pieces : List (List ℕ)) → turn_read piece ≡ Some t → with turns (piece ∷ pieces) ≡ with (turns ++ t ∷ []) pieces
+unfolding turns_read
+with_more turns t piece pieces e = rw e (go (turns_read pieces)) where
   go : (o : Option (List Turn)) → option_map (λ ts. turns ++ ts) (option_map (λ ts. t ∷ ts) o) ≡ option_map (λ ts. (turns ++ t ∷ []) ++ ts) o
   go None = refl
   go (Some ts) = ap Some (sym (append_assoc turns (t ∷ []) ts))
 
-with_none : (turns : List Turn) (piece : List ℕ) (pieces : List (List ℕ)) → turn_of piece ≡ None → with turns (piece ∷ pieces) ≡ None
-unfolding turns_of
+with_none : (turns : List Turn) (piece : List ℕ) (pieces : List (List ℕ)) → turn_read piece ≡ None → with turns (piece ∷ pieces) ≡ None
+unfolding turns_read
 with_none turns piece pieces e = rw e refl
 
-none_listed : (text : List ℕ) → turns_of (slice_split is_comma text) ≡ None → None ≡ list_of text
+none_listed : (text : List ℕ) → turns_read (slice_split is_comma text) ≡ None → None ≡ list_of text
 unfolding list_of
 none_listed text e = rw e (go (nat_le (length (slice_split is_comma text)) MOST_ITEMS)) where
   go : (b : Bool) → ◌≡◌ {A = Option (List Turn)} None (cond b None None)
   go true = refl
   go false = refl
 
-module _ (text rest : List ℕ) (turns : List Turn) (end : ℕ) (here : with turns (slice_split is_comma rest) ≡ turns_of (slice_split is_comma text)) (is : end ≡ position_or_len is_comma rest) where
-  pub stops : turn_of (take end rest) ≡ None → None ≡ list_of text
+module _ (text rest : List ℕ) (turns : List Turn) (end : ℕ) (here : with turns (slice_split is_comma rest) ≡ turns_read (slice_split is_comma text)) (is : end ≡ position_or_len is_comma rest) where
+  pub stops : turn_read (take end rest) ≡ None → None ≡ list_of text
   stops e = none_listed text (sym here ∙ elim (cases_lt end (length rest)) [
     | inl lt ↦ ap (with turns) (split_more rest end is lt) ∙ with_none turns (take end rest) (slice_split is_comma (drop (end + 1) rest)) e
     | inr le ↦ ap (with turns) (split_last rest end is le) ∙ with_none turns (take end rest) [] e
   ])
 
-  pub goes_on : (t : Turn) → turn_of (take end rest) ≡ Some t → end < length rest → with (turns ++ t ∷ []) (slice_split is_comma (drop (end + 1) rest)) ≡ turns_of (slice_split is_comma text)
+  pub goes_on : (t : Turn) → turn_read (take end rest) ≡ Some t → end < length rest → with (turns ++ t ∷ []) (slice_split is_comma (drop (end + 1) rest)) ≡ turns_read (slice_split is_comma text)
   goes_on t e lt = sym (ap (with turns) (split_more rest end is lt) ∙ with_more turns t (take end rest) (slice_split is_comma (drop (end + 1) rest)) e) ∙ here
 
-  pub ends : (t : Turn) → turn_of (take end rest) ≡ Some t → length rest ≤ end → length turns < MOST_ITEMS → length turns + length (slice_split is_comma rest) ≡ length (slice_split is_comma text) → Some (turns ++ t ∷ []) ≡ list_of text
-  unfolding list_of turns_of
+  pub ends : (t : Turn) → turn_read (take end rest) ≡ Some t → length rest ≤ end → length turns < MOST_ITEMS → length turns + length (slice_split is_comma rest) ≡ length (slice_split is_comma text) → Some (turns ++ t ∷ []) ≡ list_of text
+  unfolding list_of turns_read
   ends t e le few count =
       let one : length (slice_split is_comma rest) ≡ 1 = ap length (split_last rest end is le) in
       let fits : nat_le (length (slice_split is_comma text)) MOST_ITEMS ≡ true = grind (arith, nat_tests) in

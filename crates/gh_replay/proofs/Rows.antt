@@ -8,7 +8,7 @@ use Rattle.std.proofs.lemmas.Option.{get_or_from_slice_get, slice_get-map, slice
 use Rattle.gh_base.specs.declared.value.Answer.{Answer}
 use Rattle.std.specs.Option.{option_map}
 use Rattle.gh_coord.specs.declared.cycles.Cycle.{Cycle}
-use Rattle.gh_lines.specs.Text.{MakerStands, SweptCycle, answer_line, answers_by, credit_line, cycle_line, has_line, line_of_cycle, lines_from, lines_of, live_line, outcome_lines}
+use Rattle.gh_lines.specs.Text.{MakerStands, SweptCycle, answer_line, answers_by, credit_line, cycle_line, has_line, line_of_cycle, lines_from, answer_lines, live_line, outcome_lines}
 use Rattle.gh_world.specs.Runs.{swept_cycle}
 use Rattle.gh_world.specs.declared.event.Totals.{Totals}
 use Rattle.gh_script.specs.Program.{Program}
@@ -39,12 +39,12 @@ lines-all p xs (g ∷ gs) =
     ∙ sym (map-append (line_of p) (rows_from g 1 (answers_by g xs)) (flat_map (λ h. rows_from h 1 (answers_by h xs)) gs))
 
 -- the lines of a report are those of its rows
-pub lines-are : (p : Program) (report : ReportState) → IsReportOf p report → lines_of p report.outcome.answers ≡ map (line_of p) (rows_of report.goroutines report.outcome.answers)
+pub lines-are : (p : Program) (report : ReportState) → IsReportOf p report → answer_lines p report.outcome.answers ≡ map (line_of p) (rows_of report.goroutines report.outcome.answers)
 lines-are p report r =
     lines-all p report.outcome.answers (range_with_len 0 (length p.goroutines))
     ∙ ap (λ n. map (line_of p) (rows_of n report.outcome.answers)) (sym r.goroutines_are)
 
-pub lines-long : (p : Program) (report : ReportState) → IsReportOf p report → length (lines_of p report.outcome.answers) ≡ length (rows_of report.goroutines report.outcome.answers)
+pub lines-long : (p : Program) (report : ReportState) → IsReportOf p report → length (answer_lines p report.outcome.answers) ≡ length (rows_of report.goroutines report.outcome.answers)
 lines-long p report r = ap length (lines-are p report r) ∙ length-map _ (line_of p)
 
 -- ---- each row has a line
@@ -86,11 +86,11 @@ module _ (p : Program) (report seen : ReportState) (rows : List Row) (i : ℕ) (
   rows-are : rows ≡ rows_of report.goroutines report.outcome.answers
   rows-are = are ∙ ap (λ (s : ReportState). rows_of s.goroutines s.outcome.answers) is
 
-  pub rows-long : length (lines_of p report.outcome.answers) ≡ length rows
+  pub rows-long : length (answer_lines p report.outcome.answers) ≡ length rows
   rows-long = lines-long p report r ∙ ap length (sym rows-are)
 
   -- the row that is found has a line
-  pub row-lined : (x : Row) → i < length (lines_of p report.outcome.answers) → x ≡ get_or rows i x → HasLine p (length p.goroutines) x
+  pub row-lined : (x : Row) → i < length (answer_lines p report.outcome.answers) → x ≡ get_or rows i x → HasLine p (length p.goroutines) x
   row-lined x below found =
       let n : report.goroutines ≡ length p.goroutines = r.goroutines_are in
       let each : AllByRecursion (HasLine p (length p.goroutines)) (rows_of report.goroutines report.outcome.answers) = all-lined p (length p.goroutines) 0 report.goroutines report.outcome.answers (omega (arith, n)) (answers_stand p report r) in
@@ -98,7 +98,7 @@ module _ (p : Program) (report seen : ReportState) (rows : List Row) (i : ℕ) (
       (all-at (HasLine p (length p.goroutines)) rows i x (subst (AllByRecursion (HasLine p (length p.goroutines))) (sym rows-are) each) (omega (arith, below, rows-long)))
 
   -- and that is the report's line
-  pub line-at : (x : Row) (line : List ℕ) → i < length (lines_of p report.outcome.answers) → x ≡ get_or rows i x → line ≡ line_of p x → slice_get (lines_of p report.outcome.answers) i ≡ Some line
+  pub line-at : (x : Row) (line : List ℕ) → i < length (answer_lines p report.outcome.answers) → x ≡ get_or rows i x → line ≡ line_of p x → slice_get (answer_lines p report.outcome.answers) i ≡ Some line
   line-at x line below found e =
       let some : slice_get rows i ≡ Some (get_or rows i x) = slice_get-get_or rows i x (omega (arith, below, rows-long)) in
       ap (λ (ls : List (List ℕ)). slice_get ls i) (lines-are p report r ∙ ap (map (line_of p)) (sym rows-are))
@@ -112,7 +112,7 @@ told cycles = map swept_cycle cycles
 -- what is seen of a report that holds these rows, these cycles and these totals is this
 module _ (p : Program) (report seen : ReportState) (rows : List Row) (cycles : List Cycle) (totals : Totals) (i : ℕ) (r : IsReportOf p report) (are : rows ≡ rows_of seen.goroutines seen.outcome.answers) (is : seen ≡ report) (kept : told cycles ≡ seen.outcome.cycles) (credit : (totals.earned ≡ seen.outcome.earned) × (totals.spent ≡ seen.outcome.spent) × (totals.lapsed ≡ seen.outcome.lapsed)) (live : (totals.objects ≡ seen.outcome.objects) × (totals.live ≡ seen.outcome.bytes)) where
   abbrev first : List (List ℕ)
-  first = lines_of p report.outcome.answers
+  first = answer_lines p report.outcome.answers
 
   abbrev last : List (List ℕ)
   last = credit_line report.outcome.earned report.outcome.spent report.outcome.lapsed ∷ live_line report.outcome.objects report.outcome.bytes ∷ []

@@ -5,7 +5,7 @@ use Rattle.gh_coord.specs.Keeping.{last_kept}
 use Rattle.gh_world.specs.declared.event.Event.{Event}
 use Rattle.gh_world.specs.declared.event.Event.TheVariants as event
 use Rattle.gh_world.specs.Schedule.{ended_after}
-use Rattle.gh_replay.specs.Places.{Ran, seen_of}
+use Rattle.gh_replay.specs.Places.{RanWithinBudget, seen_of}
 use Rattle.gh_replay.proofs.Vocabulary.{actor_after, actors_of, AllDone, Answer, answer_in, answered_in, answered_of, answers_given, Appends, Coordinating, drawn_of, Entry, EveryRunIsExplained, is_done, IsAfter, IsExplained, IsReplayed, IsRun, IsScheduled, IsUnfinished, Layout, layout_of, LaysOut, marked_by, moved, now_in, Op, opening, Outcome, outcome_by, Plan, Program, reached_in, script_of, setting_of, spent_after, Standing, stands_in, State, swept_cycle, total_of, WellFormed, who, with_goroutine}
 use Rattle.gh_world.specs.Below.{spent_at}
 use Rattle.gh_world.specs.Points.{PointsAreStatements, StatementsAreEnough}
@@ -97,7 +97,7 @@ opens w plan budget s answers after stands empty =
     let no_answers : length answers ≡ 0 = ap (λ (xs : List (ℕ × Answer)). length xs) empty in
     record { turns = []; after = after; long = omega arith; scheduled = tt; stands = stands; given = empty; counted = omega (arith, none, no_answers) }
 
-pub ran : (w : State) (plan : Plan) (budget left : ℕ) (s : Standing) (answers : List (ℕ × Answer)) → Midway w plan budget left s answers → (¬ AllDone w → left ≡ 0) → Ran w plan budget answers
+pub ran : (w : State) (plan : Plan) (budget left : ℕ) (s : Standing) (answers : List (ℕ × Answer)) → Midway w plan budget left s answers → (¬ AllDone w → left ≡ 0) → RanWithinBudget w plan budget answers
 ran w plan budget left s answers m none = record {
   turns = m.turns;
   after = m.after;
@@ -116,7 +116,7 @@ drawn_is w es after =
     ap (total (λ (a : ℕ). spent_at (actor_after (script_of w) (layout_of w) es a))) seats
     ∙ total_same (λ (a : ℕ). spent_at (actor_of w a)) (λ (a : ℕ). spent_at (actor_after (script_of w) (layout_of w) es a)) (actors_of w) (λ a lt. ap spent_at (sym (after.actors a lt)))
 
-module _ (law : EveryRunIsExplained) (w : State) (plan : Plan) (budget : ℕ) (answers : List (ℕ × Answer)) (r : Ran w plan budget answers) (whole : (es : List (Entry Op)) → IsAfter w es → IsRun (script_of w) (layout_of w) es) where
+module _ (law : EveryRunIsExplained) (w : State) (plan : Plan) (budget : ℕ) (answers : List (ℕ × Answer)) (r : RanWithinBudget w plan budget answers) (whole : (es : List (Entry Op)) → IsAfter w es → IsRun (script_of w) (layout_of w) es) where
   -- of the world's own script
   replayed : LaysOut (script_of w) (layout_of w) → WellFormed (script_of w) → IsReplayed (script_of w) plan budget (outcome_by answers (drawn_of w) w.coord)
   replayed lays formed = record {
@@ -142,12 +142,12 @@ module _ (law : EveryRunIsExplained) (w : State) (plan : Plan) (budget : ℕ) (a
       }
 
 -- the world's script and layout, where they are these
-pub finished : EveryRunIsExplained → (w : State) (p : Program) (plan : Plan) (budget : ℕ) (answers : List (ℕ × Answer)) → WellFormed p → script_of w ≡ p → LaysOut p (layout_of w) → Ran w plan budget answers → ((es : List (Entry Op)) → IsAfter w es → IsRun (script_of w) (layout_of w) es) → IsReplayed p plan budget (outcome_by answers (drawn_of w) w.coord)
+pub finished : EveryRunIsExplained → (w : State) (p : Program) (plan : Plan) (budget : ℕ) (answers : List (ℕ × Answer)) → WellFormed p → script_of w ≡ p → LaysOut p (layout_of w) → RanWithinBudget w plan budget answers → ((es : List (Entry Op)) → IsAfter w es → IsRun (script_of w) (layout_of w) es) → IsReplayed p plan budget (outcome_by answers (drawn_of w) w.coord)
 finished law w p plan budget answers formed script lays r whole = subst Goal script (replayed law w plan budget answers r whole) lays formed where
   Goal : Program → Type 0
   Goal q = LaysOut q (layout_of w) → WellFormed q → IsReplayed q plan budget (outcome_by answers (drawn_of w) w.coord)
 
-pub beside : PointsAreStatements → StatementsAreEnough → EveryRunIsExplained → (w : State) (p : Program) (plan : Plan) (budget : ℕ) (answers : List (ℕ × Answer)) → WellFormed p → script_of w ≡ p → LaysOut p (layout_of w) → Ran w plan budget answers → ((es : List (Entry Op)) → IsAfter w es → IsRun (script_of w) (layout_of w) es) →
+pub beside : PointsAreStatements → StatementsAreEnough → EveryRunIsExplained → (w : State) (p : Program) (plan : Plan) (budget : ℕ) (answers : List (ℕ × Answer)) → WellFormed p → script_of w ≡ p → LaysOut p (layout_of w) → RanWithinBudget w plan budget answers → ((es : List (Entry Op)) → IsAfter w es → IsRun (script_of w) (layout_of w) es) →
     RunsBeside p plan budget (outcome_by answers (drawn_of w) w.coord) (points_of w) answers
 beside points enough law w p plan budget answers formed script lays r whole = subst Goal script (beside_own law w plan budget answers r whole points enough) lays formed where
   Goal : Program → Type 0
@@ -159,7 +159,7 @@ pub record Going (w : State) : Type 0 where
   pub there : who < seats_of (layout_of w)
   pub going : (es : List (Entry Op)) → IsAfter w es → ended_after (setting_of (script_of w) (layout_of w)) es who ≡ false
 
-pub unfinished : (w : State) (p : Program) (plan : Plan) (budget : ℕ) (answers : List (ℕ × Answer)) → WellFormed p → script_of w ≡ p → LaysOut p (layout_of w) → Ran w plan budget answers → ¬ AllDone w → Going w → IsUnfinished p plan budget
+pub unfinished : (w : State) (p : Program) (plan : Plan) (budget : ℕ) (answers : List (ℕ × Answer)) → WellFormed p → script_of w ≡ p → LaysOut p (layout_of w) → RanWithinBudget w plan budget answers → ¬ AllDone w → Going w → IsUnfinished p plan budget
 unfinished w p plan budget answers formed script lays r going g = subst Goal script here lays formed where
   Goal : Program → Type 0
   Goal q = LaysOut q (layout_of w) → WellFormed q → IsUnfinished q plan budget

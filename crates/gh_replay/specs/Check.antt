@@ -27,14 +27,14 @@ abbrev pub HaveStatements : Program → List (ℕ × ℕ) → List (ℕ × Answe
 HaveStatements p points answers = (xs : List Answered) × AreAlong p points answers xs
 
 -- the lists before any statement of the script
-pub record IsOpening (p : Program) (lists : Lists) : Type 0 where
+pub record AreOpeningLists (p : Program) (lists : Lists) : Type 0 where
   pub shapes : lists.shapes ≡ p.shapes
   pub left : lists.left ≡ counts_of p
   pub ever : ever_of lists ≡ opening_ever
 
 -- the heap that never frees after these statements, once all goroutines have ended
-abbrev pub at_end : Program → List Answered → Ever
-at_end p xs = with_ends (ever_along p.shapes xs) (length p.goroutines)
+abbrev pub ever_at_end : Program → List Answered → Ever
+ever_at_end p xs = with_ends (ever_along p.shapes xs) (length p.goroutines)
 
 -- The lists stand for the heap that never frees after the run, whichever list of turns it is that the schedule gives.
 abbrev pub IsEverAfter : Program → Plan → ℕ → Outcome → Lists → Type 0
@@ -43,5 +43,5 @@ IsEverAfter p plan budget outcome lists = (r : IsReplayed p plan budget outcome)
 -- Of the code's own.
 
 -- the answers of goroutine g that are not taken yet
-abbrev pub left_of : Told → ℕ → List Answer
-left_of told g = answers_by g (drop (slice_index told.places g) told.answers.now)
+abbrev pub answers_untaken : Told → ℕ → List Answer
+answers_untaken told g = answers_by g (drop (slice_index told.places g) told.answers.now)

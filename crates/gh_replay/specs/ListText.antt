@@ -1,7 +1,7 @@
 -- How the list of a schedule is spelled: items, separated by single commas.
 use Rattle.std.specs.Prelude.{ℕ, ◌+◌, ◌^◌, ◌==◌, ◌&&◌, ◌||◌, Bool, if◌then◌else◌, nat_le, List, [], ◌∷◌, length, take, drop, Option, Some, None, option_map, option_and_then, slice_get}
 use Rattle.std.specs.List.{position_or_len, slice_split}
-use Rattle.gh_script.specs.Words.{number_of}
+use Rattle.gh_script.specs.Words.{number_spelled}
 use Rattle.gh_replay.specs.declared.list.TheConstants.{MOST_ITEMS}
 use Rattle.gh_replay.specs.declared.schedule.Turn.{Turn}
 use Rattle.gh_replay.specs.declared.schedule.Until.{Until}
@@ -19,7 +19,7 @@ abbrev pub within : (least most : ℕ) → ℕ → Option ℕ
 within least most n = if nat_le least n && nat_le n most then Some n else None
 
 abbrev pub ranged : (least most : ℕ) → List ℕ → Option ℕ
-ranged least most word = option_and_then (within least most) (number_of word)
+ranged least most word = option_and_then (within least most) (number_spelled word)
 
 -- how long an item goes on with this sign and this word: behind a star 1 to 1,000,000 steps, behind an at sign up to 2 ^ 32 marks, behind an exclamation mark 1 to 1,000,000 turns of others
 abbrev pub until_of : Option ℕ → List ℕ → Option Until
@@ -37,18 +37,18 @@ turn_with (Some a) until = option_map (λ u. record { actor = a; until = u }) un
 abbrev pub turn_at : List ℕ → ℕ → Option Turn
 turn_at piece i = turn_with (ranged 0 255 (take i piece)) (until_of (slice_get piece i) (drop (i + 1) piece))
 
-unfoldable pub turn_of : List ℕ → Option Turn
-turn_of piece = turn_at piece (position_or_len is_sign piece)
+unfoldable pub turn_read : List ℕ → Option Turn
+turn_read piece = turn_at piece (position_or_len is_sign piece)
 
 -- the items that pieces spell, where each spells one
 abbrev pub joined : Option Turn → Option (List Turn) → Option (List Turn)
 joined None more = None
 joined (Some t) more = option_map (λ ts. t ∷ ts) more
 
-unfoldable pub turns_of : List (List ℕ) → Option (List Turn)
-turns_of [] = Some []
-turns_of (piece ∷ pieces) = joined (turn_of piece) (turns_of pieces)
+unfoldable pub turns_read : List (List ℕ) → Option (List Turn)
+turns_read [] = Some []
+turns_read (piece ∷ pieces) = joined (turn_read piece) (turns_read pieces)
 
 -- the items that a text spells: what stands between its commas are 1 to MOST_ITEMS of them
 unfoldable pub list_of : List ℕ → Option (List Turn)
-list_of text = if nat_le (length (slice_split is_comma text)) MOST_ITEMS then turns_of (slice_split is_comma text) else None
+list_of text = if nat_le (length (slice_split is_comma text)) MOST_ITEMS then turns_read (slice_split is_comma text) else None

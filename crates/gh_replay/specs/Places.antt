@@ -9,10 +9,10 @@ use Rattle.gh_world.specs.World.{actors_of, AllDone, is_done, layout_of, marks_o
 use Rattle.gh_replay.specs.declared.place.Place.{Place}
 use Rattle.gh_replay.specs.Plan.{Plan}
 use Rattle.gh_replay.specs.Scheduled.{IsScheduled}
-use Rattle.gh_replay.specs.Standing.{going, Reached, Standing}
+use Rattle.gh_replay.specs.Standing.{ActorsSoFar, going, Standing}
 
 -- what the actors of a world have come to
-abbrev pub seen_of : State → Reached
+abbrev pub seen_of : State → ActorsSoFar
 seen_of w = record { actors = actors_of w; ended = is_done w; marks = marks_of w }
 
 -- where the schedule stands there
@@ -20,11 +20,11 @@ abbrev pub standing_at : Place → Standing
 standing_at c = record { items = drop c.at c.list.items; next = c.next; drawn = c.drawn }
 
 -- where a generator draws, the actors that have not ended are kept
-abbrev pub Keeps : Place → List ℕ → State → Type 0
-Keeps c kept w = IfSome c.drawn (λ x. kept ≡ going (seen_of w))
+abbrev pub KeepsThoseGoing : Place → List ℕ → State → Type 0
+KeepsThoseGoing c kept w = IfSome c.drawn (λ x. kept ≡ going (seen_of w))
 
 -- the world has taken turns within the budget, all of it where it is not done, and has answered so
-pub record Ran (w : State) (plan : Plan) (budget : ℕ) (answers : List (ℕ × Answer)) : Type 0 where
+pub record RanWithinBudget (w : State) (plan : Plan) (budget : ℕ) (answers : List (ℕ × Answer)) : Type 0 where
   pub turns : List (Entry Op)
   pub after : IsAfter w turns
   pub few : length turns ≤ budget

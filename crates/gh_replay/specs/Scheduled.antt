@@ -9,11 +9,11 @@ use Rattle.gh_world.specs.World.{actor_after, marks_at, marks_by, setting_of}
 use Rattle.gh_replay.specs.declared.schedule.Turn.{Turn}
 use Rattle.gh_replay.specs.declared.schedule.Until.TheVariants.{Without}
 use Rattle.gh_replay.specs.Plan.{no_plan, Plan}
-use Rattle.gh_replay.specs.Standing.{moved, opening, Reached, Standing, to_come, who}
+use Rattle.gh_replay.specs.Standing.{ActorsSoFar, moved, opening, Standing, to_come, who}
 
 module _ (p : Program) (l : Layout) where
   -- what the actors have come to after the list
-  abbrev pub reached_in : List (Entry Op) → Reached
+  abbrev pub reached_in : List (Entry Op) → ActorsSoFar
   reached_in es = record { actors = (setting_of p l).actors; ended = ended_after (setting_of p l) es; marks = λ a. marks_by (marks_at p.shapes l a es) (actor_after p l es a) }
 
   -- where the schedule stands after the list

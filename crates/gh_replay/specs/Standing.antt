@@ -9,14 +9,14 @@ use Rattle.gh_replay.specs.declared.schedule.Until.TheVariants.{Steps, Marks, Wi
 use Rattle.gh_replay.specs.Plan.{Plan}
 
 -- what the actors have come to: how many there are, which of them have ended, and the marks of each
-pub record Reached : Type 0 where
+pub record ActorsSoFar : Type 0 where
   pub actors : ℕ
   pub ended : ℕ → Bool
   pub marks : ℕ → ℕ
 
 -- all that, were this actor among those that have ended
-abbrev pub without : ℕ → Reached → Reached
-without a r = record { actors = r.actors; ended = λ b. a == b || r.ended b; marks = r.marks }
+abbrev pub with_actor_ended : ℕ → ActorsSoFar → ActorsSoFar
+with_actor_ended a r = record { actors = r.actors; ended = λ b. a == b || r.ended b; marks = r.marks }
 
 -- where a schedule stands: the items to come, the first of them with the turns that it has left; whose turn it would be in ascending order, by the first item or behind all; and the state of SplitMix64, where there is a seed
 pub record Standing : Type 0 where
@@ -37,7 +37,7 @@ until_then (Without n) = Without (n - 1)
 abbrev pub one_less : Turn → Turn
 one_less t = record { actor = t.actor; until = until_then t.until }
 
-module _ (r : Reached) where
+module _ (r : ActorsSoFar) where
   -- the actors that have not ended, in ascending order
   abbrev pub going : List ℕ
   going = filter (λ a. not (r.ended a)) (range_with_len 0 r.actors)
@@ -51,7 +51,7 @@ module _ (r : Reached) where
   abbrev pub behind_it : ℕ → List Turn → Standing → Standing
   behind_it a items s = record { items = items; next = behind r.actors a; drawn = option_map (λ x. (mix_u64 x).1) s.drawn }
 
-module _ (r : Reached) where
+module _ (r : ActorsSoFar) where
   -- the actor does not exist or has ended
   abbrev pub is_gone : ℕ → Bool
   is_gone a = nat_le r.actors a || r.ended a
@@ -60,7 +60,7 @@ module _ (r : Reached) where
   abbrev pub is_over_by : ℕ → Until → Bool
   is_over_by a (Steps n) = is_gone a || n == 0
   is_over_by a (Marks m) = is_gone a || nat_le m (r.marks a)
-  is_over_by a (Without n) = n == 0 || length (going (without a r)) == 0
+  is_over_by a (Without n) = n == 0 || length (going (with_actor_ended a r)) == 0
 
   abbrev pub is_over : Turn → Bool
   is_over t = is_over_by t.actor t.until
@@ -81,7 +81,7 @@ module _ (r : Reached) where
 
   -- who steps next by an item: its actor, or where others do, as behind all items, were its actor among those that have ended
   abbrev pub who_by : ℕ → Until → Standing → Option ℕ
-  who_by a (Without n) s = who_behind (without a r) s.next s.drawn
+  who_by a (Without n) s = who_behind (with_actor_ended a r) s.next s.drawn
   who_by a _ s = Some a
 
   abbrev pub who_of : List Turn → Standing → Option ℕ

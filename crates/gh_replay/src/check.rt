@@ -15,7 +15,7 @@ ghost use Rattle.gh_ever.specs.Applied.{given_answer, IsDue, spent};
 ghost use Rattle.gh_ever.specs.Lists.{ever_of};
 ghost use Rattle.gh_lines.specs.Text.{answers_by};
 ghost use Rattle.gh_model.specs.Ever.{ever_after};
-ghost use Rattle.gh_replay.specs.Check.{AreAlong, at_end, HaveStatements, IsOpening, left_of};
+ghost use Rattle.gh_replay.specs.Check.{answers_untaken, AreAlong, AreOpeningLists, ever_at_end, HaveStatements};
 ghost use Rattle.gh_lists.specs.Order.{Answered};
 ghost use Rattle.gh_world.specs.Points.{ever_along, op_at_point, with_ends};
 
@@ -49,7 +49,7 @@ fn answer_index(answers: &[(u32, Answer)], g: u32, from: usize) -> Option<usize>
 impl<'a> Told<'a> {
     /// All of them.
     fn opening(answers: &'a [(u32, Answer)]) -> Told<'a>
-        ensures { (g : ℕ) → left_of result g ≡ answers_by g answers.now }
+        ensures { (g : ℕ) → answers_untaken result g ≡ answers_by g answers.now }
     {
         Told {
             answers,
@@ -60,8 +60,8 @@ impl<'a> Told<'a> {
     /// The next answer of goroutine `g`, where there is one more.
     fn take(&mut self, g: u32) -> Option<Answer>
         requires { g < MOST_GOROUTINES }
-        ensures first { result ≡ slice_get (left_of self.old g) 0 }
-        ensures rest { (h : ℕ) → left_of self.new h ≡ (if h == g then drop 1 (left_of self.old h) else left_of self.old h) }
+        ensures first { result ≡ slice_get (answers_untaken self.old g) 0 }
+        ensures rest { (h : ℕ) → answers_untaken self.new h ≡ (if h == g then drop 1 (answers_untaken self.old h) else answers_untaken self.old h) }
     {
         let i = answer_index(self.answers, g, self.places[g as usize])?;
         self.places[g as usize] = i + 1;
@@ -95,7 +95,7 @@ fn agrees_along(
     points: &[(u32, u32)],
     answers: &[(u32, Answer)],
 ) -> bool
-    requires opens { IsOpening script.now ever.old }
+    requires opens { AreOpeningLists script.now ever.old }
     requires statements { HaveStatements script.now points.now answers.now }
     ensures agrees { result ≡ true }
     ensures ever { (xs : List Answered) → AreAlong script.now points.now answers.now xs → ever_of ever.new ≡ ever_along script.now.shapes xs }
@@ -133,10 +133,10 @@ pub fn run_beside(
     points: &[(u32, u32)],
     answers: &[(u32, Answer)],
 ) -> Option<Ever>
-    requires opens { IfSome ever (IsOpening script.now) }
+    requires opens { IfSome ever (AreOpeningLists script.now) }
     requires statements { HaveStatements script.now points.now answers.now }
     ensures kept { is_some result ≡ is_some ever }
-    ensures ever { (xs : List Answered) → AreAlong script.now points.now answers.now xs → IfSome result (λ lists. ever_of lists ≡ at_end script.now xs) }
+    ensures ever { (xs : List Answered) → AreAlong script.now points.now answers.now xs → IfSome result (λ lists. ever_of lists ≡ ever_at_end script.now xs) }
 {
     let mut ever = ever?;
     if !agrees_along(&mut ever, script, points, answers) {

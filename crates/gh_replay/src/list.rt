@@ -3,7 +3,7 @@
 ghost use Rattle.std.specs.Prelude.{◌≡◌, ◌+◌, ◌<◌, ◌≤◌, ◌^◌, IfOk, IfSome, drop, length, option_map, Some};
 ghost use Rattle.std.specs.List.{position_or_len};
 ghost use Rattle.gh_script.specs.Words.{is_digit};
-ghost use Rattle.gh_replay.specs.ListText.{is_comma, is_sign, list_of, ranged, turn_of, until_of};
+ghost use Rattle.gh_replay.specs.ListText.{is_comma, is_sign, list_of, ranged, turn_read, until_of};
 
 use crate::schedule::{Turn, Until};
 use std::alloc::{AllocError, Global};
@@ -79,7 +79,7 @@ fn behind(text: &[u8], i: usize) -> &[u8]
 
 /// The item that a piece spells.
 fn turn(piece: &[u8]) -> Option<Turn>
-    ensures { result ≡ turn_of piece.now }
+    ensures { result ≡ turn_read piece.now }
 {
     let i = sign_index(piece);
     if i == piece.len() {

@@ -7,7 +7,7 @@ ghost use Rattle.gh_base.specs.Cells.{seats_of};
 ghost use Rattle.rand_xoshiro.specs.SplitMix64.{mix_u64};
 ghost use Rattle.gh_world.specs.Schedule.{behind, first_going, turn_from};
 ghost use Rattle.gh_world.specs.World.{actors_of, is_done, layout_of, AllDone};
-ghost use Rattle.gh_replay.specs.Places.{Keeps, seen_of, standing_at};
+ghost use Rattle.gh_replay.specs.Places.{KeepsThoseGoing, seen_of, standing_at};
 ghost use Rattle.gh_replay.specs.Standing.{
   going,
   is_gone,
@@ -21,7 +21,7 @@ ghost use Rattle.gh_replay.specs.Standing.{
   who,
   who_at,
   who_behind,
-  without,
+  with_actor_ended,
 };
 
 use crate::schedule::{Schedule, Turn, Until};
@@ -48,7 +48,7 @@ impl Place {
         requires room { IfSome schedule.seed (λ seed. actors_of world.now ≤ vec_capacity kept.old) }
         ensures stands { standing_at result ≡ opening schedule }
         ensures within { result.at ≤ length result.list.items }
-        ensures kept { Keeps result kept.new.items world.now }
+        ensures kept { KeepsThoseGoing result kept.new.items world.now }
     {
         let Schedule { list, seed } = schedule;
         let drawn = match seed {
@@ -71,12 +71,12 @@ impl Place {
     pub fn take_turn(&mut self, world: &World, kept: &Vec<u8>) -> Option<u8>
         requires within { self.old.at ≤ length self.old.list.items }
         requires next { self.old.next < actors_of world.now }
-        requires kept { Keeps self.old kept.now.items world.now }
+        requires kept { KeepsThoseGoing self.old kept.now.items world.now }
         ensures who { result ≡ who (seen_of world.now) (standing_at self.old) }
         ensures moved { IfSome result (λ a. standing_at self.new ≡ moved (seen_of world.now) a (standing_at self.old)) }
         ensures within { self.new.at ≤ length self.new.list.items }
         ensures next { self.new.next < actors_of world.now }
-        ensures kept { Keeps self.new kept.now.items world.now }
+        ensures kept { KeepsThoseGoing self.new kept.now.items world.now }
         ensures going { IfSome result (λ a. (a < actors_of world.now) × (is_done world.now a ≡ false)) }
         ensures over { result ≡ None → AllDone world.now }
         ensures seats { actors_of world.now ≡ seats_of (layout_of world.now) }
@@ -106,12 +106,12 @@ impl Place {
     fn take_next(&mut self, world: &World, kept: &Vec<u8>) -> Option<u8>
         requires within { self.old.at ≤ length self.old.list.items }
         requires next { self.old.next < actors_of world.now }
-        requires kept { Keeps self.old kept.now.items world.now }
+        requires kept { KeepsThoseGoing self.old kept.now.items world.now }
         ensures who { result ≡ who_at (seen_of world.now) (standing_at self.old) }
         ensures moved { IfSome result (λ a. standing_at self.new ≡ moved_at (seen_of world.now) a (standing_at self.old)) }
         ensures within { self.new.at ≤ length self.new.list.items }
         ensures next { self.new.next < actors_of world.now }
-        ensures kept { Keeps self.new kept.now.items world.now }
+        ensures kept { KeepsThoseGoing self.new kept.now.items world.now }
         ensures seats { actors_of world.now ≡ seats_of (layout_of world.now) }
     {
         let actors = world.actors();
@@ -220,7 +220,7 @@ fn is_over(world: &World, turn: Turn) -> bool
 /// The first actor from `low` on and below `high` that is not done and is another than this.
 fn first_other(world: &World, actor: u8, low: u8, high: u8) -> Option<u8>
     requires { high ≤ actors_of world.now }
-    ensures { result ≡ first_going (without actor (seen_of world.now)).ended (range_with_len low (high - low)) }
+    ensures { result ≡ first_going (with_actor_ended actor (seen_of world.now)).ended (range_with_len low (high - low)) }
 {
     for other in low..high {
         if !is_out(world, actor, other) {
@@ -233,14 +233,14 @@ fn first_other(world: &World, actor: u8, low: u8, high: u8) -> Option<u8>
 /// The other actor is this one, or is done.
 fn is_out(world: &World, actor: u8, other: u8) -> bool
     requires { other < actors_of world.now }
-    ensures { result ≡ (without actor (seen_of world.now)).ended other }
+    ensures { result ≡ (with_actor_ended actor (seen_of world.now)).ended other }
 {
     actor == other || world.is_done(other)
 }
 
 /// All but this actor are done.
 fn is_alone(world: &World, actor: u8) -> bool
-    ensures { result ≡ (length (going (without actor (seen_of world.now))) == 0) }
+    ensures { result ≡ (length (going (with_actor_ended actor (seen_of world.now))) == 0) }
 {
     match first_other(world, actor, 0, world.actors()) {
         Some(_) => false,
@@ -286,7 +286,7 @@ fn who_else(
 ) -> Option<u8>
     requires next { next < actors_of world.now }
     requires kept { IfSome drawn.old (λ x. kept.now.items ≡ going (seen_of world.now)) }
-    ensures who { result ≡ who_behind (without actor (seen_of world.now)) next drawn.old }
+    ensures who { result ≡ who_behind (with_actor_ended actor (seen_of world.now)) next drawn.old }
     ensures drawn { drawn.new ≡ option_map (λ x. (mix_u64 x).1) drawn.old }
 {
     match drawn {
@@ -298,7 +298,7 @@ fn who_else(
 /// Who steps next where others than this actor take turns.
 fn in_turn_else(world: &World, actor: u8, next: u8) -> Option<u8>
     requires { next < actors_of world.now }
-    ensures { result ≡ turn_from (without actor (seen_of world.now)).ended (actors_of world.now) next }
+    ensures { result ≡ turn_from (with_actor_ended actor (seen_of world.now)).ended (actors_of world.now) next }
 {
     match first_other(world, actor, next, world.actors()) {
         Some(other) => Some(other),

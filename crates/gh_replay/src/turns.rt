@@ -5,7 +5,7 @@ ghost use Rattle.std.specs.Vec.{vec_capacity};
 ghost use Rattle.gh_lines.specs.Text.{Outcome};
 ghost use Rattle.gh_replay.specs.declared.fault.ReplayFault.TheVariants.{OutOfTurns};
 ghost use Rattle.gh_replay.specs.Check.{IsEverAfter};
-ghost use Rattle.gh_replay.specs.Places.{Ran};
+ghost use Rattle.gh_replay.specs.Places.{RanWithinBudget};
 ghost use Rattle.gh_replay.specs.Replayed.{IsReplayed, IsUnfinished};
 ghost use Rattle.gh_replay.specs.Report.{is_checked, IsReportOf};
 ghost use Rattle.gh_world.specs.Turns.{total_of};
@@ -94,7 +94,7 @@ fn run(
     requires seats { IfSome schedule.seed (λ seed. actors_of world.old ≤ vec_capacity kept.old) }
     ensures script { script_of world.new ≡ script_of world.old }
     ensures layout { layout_of world.new ≡ layout_of world.old }
-    ensures ran { Ran world.new schedule budget answers.new.items }
+    ensures ran { RanWithinBudget world.new schedule budget answers.new.items }
     ensures few { length answers.new.items ≤ total_of (script_of world.new) }
 {
     let mut place = Place::opening(world, schedule, kept);

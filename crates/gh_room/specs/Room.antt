@@ -4,7 +4,7 @@ use Rattle.gh_base.specs.declared.held.Held.{Held}
 use Rattle.gh_base.specs.declared.layout.Layout.{Layout}
 use Rattle.gh_base.specs.declared.pack.TheConstants.{ENTRIES}
 use Rattle.gh_base.specs.Cells.{buffers_of, seats_of}
-use Rattle.gh_base.specs.Holding.{AreCounted, Buffers, holder_in, Holds}
+use Rattle.gh_base.specs.Holding.{AreCounted, Buffers, holder_in, HoldsBuffer}
 use Rattle.gh_base.specs.Packing.{buffer_of}
 
 -- The entries below the counts of all buffers name heap words, 1 more than each, and no two the same. So they are no more than the heap has words.
@@ -16,8 +16,8 @@ pub record AreDistinct (heap_words : ℕ) (s : Buffers) : Type 0 where
 
 -- Each of the first so many seats holds one buffer or none, and nobody else holds any.
 pub record AreOfSeats (seats : ℕ) (s : Buffers) : Type 0 where
-  pub each : (a : ℕ) → a < seats → (held : Option Held) × Holds s a held
-  pub others : (a : ℕ) → seats ≤ a → Holds s a None
+  pub each : (a : ℕ) → a < seats → (held : Option Held) × HoldsBuffer s a held
+  pub others : (a : ℕ) → seats ≤ a → HoldsBuffer s a None
 
 -- by its word nobody holds the buffer, and two entries more go into it
 pub record HasRoom (word : ℕ) : Type 0 where

@@ -13,7 +13,7 @@ use Rattle.gh_script.specs.Program.{Program}
 use Rattle.gh_shared.specs.declared.handle.Handle.{Handle}
 use Rattle.gh_shared.specs.declared.heap.Heap.{Heap}
 use Rattle.gh_shared.specs.Calls.{Gathered}
-use Rattle.gh_shared.specs.Handles.{carries_of, IsOf, number_of, own_of, view_of}
+use Rattle.gh_shared.specs.Handles.{carries_of, IsHandleOf, number_of, own_of, view_of}
 use Rattle.gh_shared.specs.Shown.{count_among}
 use Rattle.gh_table.specs.Views.{has}
 
@@ -48,7 +48,7 @@ one_among a (suc n) lt = go (a == n) refl (λ less. one_among a n less) where
 module _ {G : Type 0} (p : Program) (heap : Heap) (done : List (HeapJob G)) where
   -- the handle carries the last of n jobs and the first k, with their entries
   pub record Gathers (n k : ℕ) (h : Handle) : Type 0 where
-    pub of : IsOf heap h
+    pub of : IsHandleOf heap h
     pub many : carries_of h ≡ k + 1
     pub others : (a : ℕ) → k ≤ a → suc a < n → has (view_of h).actors a ≡ false
     pub own : (a : ℕ) (j : HeapJob G) → a < n → (a < k) ⊎ (suc a ≡ n) → slice_get done a ≡ Some j → (has (view_of h).actors a ≡ true) × (by a (view_of h).log ≡ own_of j.handle)
@@ -98,7 +98,7 @@ module _ {G : Type 0} (p : Program) (heap : Heap) (done : List (HeapJob G)) wher
     ];
   }
 
-  pub gathers_more : (n k : ℕ) (h h' : Handle) (j : HeapJob G) → Gathers p heap done n k h → IsThere k j → suc k < n → IsOf heap h' → Gathered h j.handle h' → Gathers p heap done n (suc k) h'
+  pub gathers_more : (n k : ℕ) (h h' : Handle) (j : HeapJob G) → Gathers p heap done n k h → IsThere k j → suc k < n → IsHandleOf heap h' → Gathered h j.handle h' → Gathers p heap done n (suc k) h'
   gathers_more n k h h' j was t lt of g = record {
     of = of;
     many = let many = g.many in let before = was.many in let one = one_carried k j t in omega (arith, many, before, one);
@@ -126,7 +126,7 @@ module _ {G : Type 0} (p : Program) (heap : Heap) (done : List (HeapJob G)) wher
     pub rest_are : EachFrom IsThere k rest
     pub gathers : Gathers p heap done (length done) k h
 
-  pub midway_more : (j : HeapJob G) (rest all : List (HeapJob G)) (h h' : Handle) → all ≡ j ∷ rest → Midway all h → IsOf heap h' → Gathered h j.handle h' → Midway rest h'
+  pub midway_more : (j : HeapJob G) (rest all : List (HeapJob G)) (h h' : Handle) → all ≡ j ∷ rest → Midway all h → IsHandleOf heap h' → Gathered h j.handle h' → Midway rest h'
   midway_more j rest all h h' is m of g =
       let long = ap length is in
       let many = m.many in
@@ -138,7 +138,7 @@ module _ {G : Type 0} (p : Program) (heap : Heap) (done : List (HeapJob G)) wher
         gathers = gathers_more (length done) m.k h h' j m.gathers each.0 (omega (arith, long, many)) of g;
       }
 
-  pub next_there : (j : HeapJob G) (rest all : List (HeapJob G)) (h : Handle) → all ≡ j ∷ rest → Midway all h → IsOf heap j.handle
+  pub next_there : (j : HeapJob G) (rest all : List (HeapJob G)) (h : Handle) → all ≡ j ∷ rest → Midway all h → IsHandleOf heap j.handle
   next_there j rest all h is m = (each_rest IsThere m.k j rest all is m.rest_are).0.is.end.of
 
   each_there : EachFrom (IsDoneOf p heap) 0 done → EachFrom IsThere 0 done
@@ -163,7 +163,7 @@ module _ {G : Type 0} (p : Program) (heap : Heap) (done : List (HeapJob G)) wher
       }
 
   pub record AllGathered (h : Handle) : Type 0 where
-    pub of : IsOf heap h
+    pub of : IsHandleOf heap h
     pub all : carries_of h ≡ length done
     pub own : (a : ℕ) (j : HeapJob G) → slice_get done a ≡ Some j → by a (view_of h).log ≡ own_of j.handle
 

@@ -13,7 +13,7 @@ use Rattle.gh_base.specs.Lists.{by, Legal, started, state_of}
 use Rattle.gh_base.specs.Orders.{given_by}
 use Rattle.gh_coord.specs.Listing as coord
 use Rattle.gh_coord.specs.Listing.{Coordinating}
-use Rattle.gh_coord.specs.Stays.{room_stays}
+use Rattle.gh_coord.specs.Stays.{cycle_room_stays}
 use Rattle.gh_coord.specs.Stopping.{acks_of}
 use Rattle.gh_lines.specs.Text.{answers_by}
 use Rattle.gh_mutator.specs.declared.processor.Processor.{Processor}
@@ -34,14 +34,14 @@ use Rattle.gh_shared.specs.declared.machine.ActorMachine.{ActorMachine}
 use Rattle.gh_shared.specs.declared.machine.ActorMachine.TheVariants.{Leads, Marks, Runs}
 use Rattle.gh_shared.specs.Calls.{IsClosedAfter}
 use Rattle.gh_shared.specs.Handles.{ended_at, ended_of, IsHeapOf, machine_of, number_of, own_of, plan_of, view_of}
-use Rattle.gh_shared.specs.Machines.{actor_of}
+use Rattle.gh_shared.specs.Machines.{machine_actor}
 use Rattle.gh_shared.specs.Plans.{Planned, setting}
 use Rattle.gh_shared.proofs.Ready.{OfItsOwn}
 use Rattle.gh_table.specs.declared.plan.View.{View}
 use Rattle.gh_worker.specs.Listing as worker
 use Rattle.gh_lists.specs.declared.handshake.Actor.{Actor}
 use Rattle.gh_lists.specs.declared.handshake.Actor.TheVariants as actor
-use Rattle.gh_lists.specs.Handshake.{start, takes}
+use Rattle.gh_lists.specs.Handshake.{actor_takes, start}
 use Rattle.gh_lists.specs.Order.{begun_in}
 use Rattle.gh_world.specs.Runs.{answers_at, answers_given, EveryRunIsExplained, IsRun, outcome_by, spent_after}
 use Rattle.gh_world.specs.Schedule.{has_ended}
@@ -64,9 +64,9 @@ left_idle task.Left e = refl
 left_idle task.Idle e = refl
 left_idle _ e = absurd cc
 
-ended_has : (h : Handle) → ended_of h ≡ true → has_ended (actor_of (machine_of h)) ≡ true
+ended_has : (h : Handle) → ended_of h ≡ true → has_ended (machine_actor (machine_of h)) ≡ true
 ended_has h over = go (machine_of h) refl over where
-  go : (x : ActorMachine) → machine_of h ≡ x → ended_at x (own_of h) ≡ true → has_ended (actor_of x) ≡ true
+  go : (x : ActorMachine) → machine_of h ≡ x → ended_at x (own_of h) ≡ true → has_ended (machine_actor x) ≡ true
   go (Runs m) is e = let rests = h.kept.rests m is in left_then m.processor.task rests.idle (rests.leaves ∙ e)
   go (Marks w) is e = e
   go (Leads c) is e = e
@@ -145,18 +145,18 @@ module _ (q : Planned) where
     go false true d e = absurd cc
     go false false d e = let same : opening a ≡ d = cc in ap (λ (x : Coordinating). x.cycles.room) (sym same)
 
-  takes_roomy : (x : Actor) (o : Option Op) (found : ℕ) → Roomy x → Roomy (takes q.script.shapes (started (setting q).kind o x) found)
+  takes_roomy : (x : Actor) (o : Option Op) (found : ℕ) → Roomy x → Roomy (actor_takes q.script.shapes (started (setting q).kind o x) found)
   takes_roomy (actor.Runs m) None found is c e = absurd cc
   takes_roomy (actor.Runs m) (Some o) found is c e = absurd cc
   takes_roomy (actor.Marks w) None found is c e = absurd cc
   takes_roomy (actor.Marks w) (Some o) found is c e = absurd cc
-  takes_roomy (actor.Leads d) None found is c e = let same : coord.goes d found ≡ c = cc in ap (λ (x : Coordinating). x.cycles.room) (sym same) ∙ room_stays d found ∙ is d refl
-  takes_roomy (actor.Leads d) (Some o) found is c e = let same : coord.goes d found ≡ c = cc in ap (λ (x : Coordinating). x.cycles.room) (sym same) ∙ room_stays d found ∙ is d refl
+  takes_roomy (actor.Leads d) None found is c e = let same : coord.goes d found ≡ c = cc in ap (λ (x : Coordinating). x.cycles.room) (sym same) ∙ cycle_room_stays d found ∙ is d refl
+  takes_roomy (actor.Leads d) (Some o) found is c e = let same : coord.goes d found ≡ c = cc in ap (λ (x : Coordinating). x.cycles.room) (sym same) ∙ cycle_room_stays d found ∙ is d refl
 
   roomy_after : (a : ℕ) (es : List (Entry Op)) → Roomy (state_of (setting q).kind a es)
   roomy_after a [] = opens_roomy a
   roomy_after a (e ∷ es) = go (eqb e.actor a) (roomy_after a es) where
-    go : (b : Bool) → Roomy (state_of (setting q).kind a es) → Roomy (cond b (takes q.script.shapes (started (setting q).kind e.begun (state_of (setting q).kind a es)) e.found) (state_of (setting q).kind a es))
+    go : (b : Bool) → Roomy (state_of (setting q).kind a es) → Roomy (cond b (actor_takes q.script.shapes (started (setting q).kind e.begun (state_of (setting q).kind a es)) e.found) (state_of (setting q).kind a es))
     go true is = takes_roomy (state_of (setting q).kind a es) e.begun e.found is
     go false is = is
 
@@ -202,7 +202,7 @@ module _ {G : Type 0} (heap : Heap) (law : OfItsOwn) (done : List (HeapJob G)) (
   over a lt =
       let i = its a lt in
       let h = i.job.handle in
-      let same : state_of (setting q).kind a list ≡ actor_of (machine_of h) =
+      let same : state_of (setting q).kind a list ≡ machine_actor (machine_of h) =
       law (setting q).kind a list
       ∙ ap (state_of (setting q).kind a) (i.entries ∙ ap (λ (n : ℕ). by n (view_of h).log) i.which)
       ∙ sym (law (setting q).kind a (view_of h).log)

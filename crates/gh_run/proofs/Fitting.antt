@@ -19,10 +19,10 @@ use Rattle.gh_shared.specs.Shown.{left_by, runs_by}
 use Rattle.gh_world.specs.declared.progress.Progress.{Progress}
 use Rattle.gh_world.specs.declared.turns.Next.{Next}
 use Rattle.gh_world.specs.declared.turns.Next.TheVariants as next
-use Rattle.gh_world.specs.Due.{FitsIn, WhatIsDueFits}
+use Rattle.gh_world.specs.Due.{FitsOwnEntries, WhatIsDueFits}
 use Rattle.gh_lists.specs.Order.{ended_in, goroutine_of}
 use Rattle.gh_lists.specs.Processors.{all_ended, arena_of, asked_by}
-use Rattle.gh_world.specs.Turns.{is_over as over_at, is_run_due, op_due}
+use Rattle.gh_world.specs.Turns.{is_run_due, leave_is_begun, op_due}
 use Rattle.gh_world.specs.Wishes.{wishes_of}
 use Rattle.gh_world.specs.World.{LaysOut}
 use Rattle.gh_lists.specs.Beginning.{both}
@@ -78,7 +78,7 @@ module _ (q : Planned) (a : ℕ) (x : ActorMachine) (own : List (Entry Op)) wher
     runs : RunsIt q a x own (goroutine_of o)
     fits : Fits q a x own o
 
-  begins : (o : Op) → FitsIn q.script L a own o → (has_point o ≡ true → 2 ≤ room_at x) → Begins o
+  begins : (o : Op) → FitsOwnEntries q.script L a own o → (has_point o ≡ true → 2 ≤ room_at x) → Begins o
   begins (op.New g d t) f room =
       let r = both _ (nat_lt t (length q.script.shapes)) f.ranged in let s = both _ (nat_lt d _) r.0 in
       record { runs = its_runs g s.0 f.its f.going; fits = (less d _ s.1, less t _ r.1, one_left g f.asking) }
@@ -115,7 +115,7 @@ run_due p (next.Run r g) o due h = refl
 run_due p next.Leave o due h = let same : op.Leave ≡ o = cc in absurd (let no : false ≡ true = ap has_point same ∙ h in cc)
 run_due p next.Over o due h = absurd cc
 
-pub going_on : (p : Program) (n : Next) (o : Op) → op_due p n ≡ Some o → over_at n ≡ false
+pub going_on : (p : Program) (n : Next) (o : Op) → op_due p n ≡ Some o → leave_is_begun n ≡ false
 going_on p (next.Poll r g) o due = refl
 going_on p (next.Run r g) o due = refl
 going_on p next.Leave o due = refl
@@ -128,7 +128,7 @@ due_may p heap h t answers room o law formed b due =
     let is : p ≡ q.script = sym b.script.script ∙ ap (λ (x : Planned). x.script) (sym b.of.plan) in
     let out : LaysOut p q.layout = subst (λ (x : Planned). LaysOut p x.layout) (sym b.of.plan) b.script.layout in
     let fits = law p q.layout (number_of h) t (view_of h).log o formed out b.turns b.place due in
-    let its = begins q (number_of h) (machine_of h) (own_of h) o (subst (λ (x : Program). FitsIn x q.layout (number_of h) (own_of h) o) is fits) (λ e. b.polled (run_due p t.next o due e)) in
+    let its = begins q (number_of h) (machine_of h) (own_of h) o (subst (λ (x : Program). FitsOwnEntries x q.layout (number_of h) (own_of h) o) is fits) (λ e. b.polled (run_due p t.next o due e)) in
     record {
       going = record { of = b.of; processor = b.processor; going = b.left ∙ going_on p t.next o due };
       runs = its.runs;

@@ -18,7 +18,7 @@ use Rattle.gh_mutator.specs.Mutating.{Mutating}
 use Rattle.gh_mutator.specs.Serving.{has_left_at}
 use Rattle.gh_shared.specs.declared.machine.ActorMachine.{ActorMachine}
 use Rattle.gh_shared.specs.declared.machine.ActorMachine.TheVariants.{Runs}
-use Rattle.gh_shared.specs.Machines.{answered, asks, gives, goes}
+use Rattle.gh_shared.specs.Machines.{asks, ends_with_answer, gives, goes}
 use Rattle.gh_shared.specs.Plans.{Planned}
 use Rattle.gh_shared.proofs.Keeping.{runs_after}
 use Rattle.gh_table.specs.Runs.{begun_next, entries_made, Gave, machine_after}
@@ -54,7 +54,7 @@ not_some (Some a) e = absurd cc
 ends_none : (m : Mutating) (found : ℕ) → mutating.is_busy (mutating.goes m found) ≡ true → mutating.gives m found ≡ None
 ends_none m found busy = not_some (mutating.gives m found) (sym busy ∙ (step_facts m.shapes m.processor m.processor.task found (busy_before m found busy)).ends)
 
-answered_so : (x : Option Answer) (a : Answer) → answered x ≡ Some (Some a) → x ≡ Some a
+answered_so : (x : Option Answer) (a : Answer) → ends_with_answer x ≡ Some (Some a) → x ≡ Some a
 answered_so None a e = absurd cc
 answered_so (Some b) a e = let same : b ≡ a = cc in ap Some same
 

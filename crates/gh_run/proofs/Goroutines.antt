@@ -11,8 +11,8 @@ use Rattle.gh_lines.specs.Text.{answers_by}
 use Rattle.gh_mutator.specs.Deeds.{has_point}
 use Rattle.gh_mutator.specs.Serving.{is_statement}
 use Rattle.gh_run.specs.Jobs.{of_goroutine, told, told_in_order}
-use Rattle.gh_script.specs.Program.{op_of, Program, statements_of}
-use Rattle.gh_world.specs.Turns.{goroutine_at, is_statement_of, turns_of}
+use Rattle.gh_script.specs.Program.{Program, statement_as_op, statements_of}
+use Rattle.gh_world.specs.Turns.{is_statement_of, its_goroutine, turns_of}
 use Rattle.gh_world.proofs.EachOnce.{turns_mine}
 use Rattle.gh_world.proofs.Explained.Seats.{filter-reverse}
 
@@ -21,8 +21,8 @@ by_append g [] ys = refl
 by_append g (x ∷ xs) ys = ap (λ (zs : List Answer). cond (eqb x.0 g) (x.1 ∷ []) [] ++ zs) (by_append g xs ys) ∙ sym (append_assoc (cond (eqb x.0 g) (x.1 ∷ []) []) (answers_by g xs) (answers_by g ys))
 
 one_told : (g : ℕ) (o : Op) (x : Answer) → length (answers_by g (told o x)) ≡ cond (is_statement_of g o) 1 0
-one_told g o x = go (is_statement o) (eqb (goroutine_at o) g) refl where
-  go : (b c : Bool) → eqb (goroutine_at o) g ≡ c → length (answers_by g (cond b ((goroutine_at o, x) ∷ []) [])) ≡ cond (b && c) 1 0
+one_told g o x = go (is_statement o) (eqb (its_goroutine o) g) refl where
+  go : (b c : Bool) → eqb (its_goroutine o) g ≡ c → length (answers_by g (cond b ((its_goroutine o, x) ∷ []) [])) ≡ cond (b && c) 1 0
   go false c e = refl
   go true true e = ap (λ (d : Bool). length (cond d (x ∷ []) [] ++ [])) e
   go true false e = ap (λ (d : Bool). length (cond d (x ∷ []) [] ++ [])) e
@@ -55,7 +55,7 @@ pub few_answers : (p : Program) (g : ℕ) (begun : List Op) (xs : List Answer) �
 few_answers p g begun xs turns =
     let told_few = few_told g (filter has_point begun) xs in
     let less = few_kept (is_statement_of g) has_point begun in
-    let same = sym (length-reverse (filter (is_statement_of g) begun)) ∙ ap length (sym (filter-reverse (is_statement_of g) begun)) ∙ ap (λ (os : List Op). length (filter (is_statement_of g) os)) turns ∙ ap length (turns_mine p g (g % p.settings.procs) (eq-eqb _ _ refl)) ∙ length-map (statements_of p g) (op_of g) in
+    let same = sym (length-reverse (filter (is_statement_of g) begun)) ∙ ap length (sym (filter-reverse (is_statement_of g) begun)) ∙ ap (λ (os : List Op). length (filter (is_statement_of g) os)) turns ∙ ap length (turns_mine p g (g % p.settings.procs) (eq-eqb _ _ refl)) ∙ length-map (statements_of p g) (statement_as_op g) in
     omega (arith, told_few, less, same)
 
 -- ---- the first answers

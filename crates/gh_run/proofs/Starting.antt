@@ -28,7 +28,7 @@ use Rattle.gh_world.specs.declared.turns.Next.TheVariants as next
 use Rattle.gh_world.specs.After.{KeepsPlace}
 use Rattle.gh_world.specs.Due.{EachKeepsItsPlace}
 use Rattle.gh_lists.specs.Order.{begun_in}
-use Rattle.gh_world.specs.Turns.{is_over, op_due, to_come}
+use Rattle.gh_world.specs.Turns.{leave_is_begun, op_due, to_come}
 use Rattle.gh_world.specs.Wishes.{most_cycles}
 use Rattle.gh_world.specs.World.{opening_progress}
 
@@ -77,13 +77,13 @@ processor_else (Leads c) worker leads = absurd (leads tt)
 
 -- ---- a processor
 
-none_to_come : (p : Program) (a : ℕ) (n : Next) → is_over n ≡ true → to_come p a n ≡ []
+none_to_come : (p : Program) (a : ℕ) (n : Next) → leave_is_begun n ≡ true → to_come p a n ≡ []
 none_to_come p a (next.Poll r g) e = absurd cc
 none_to_come p a (next.Run r g) e = absurd cc
 none_to_come p a next.Leave e = absurd cc
 none_to_come p a next.Over e = refl
 
-none_due : (p : Program) (n : Next) → op_due p n ≡ None → is_over n ≡ true
+none_due : (p : Program) (n : Next) → op_due p n ≡ None → leave_is_begun n ≡ true
 none_due p (next.Poll r g) e = absurd cc
 none_due p (next.Run r g) e = absurd cc
 none_due p next.Leave e = absurd cc

@@ -25,7 +25,7 @@ use Rattle.gh_shared.specs.declared.machine.ActorMachine.{ActorMachine}
 use Rattle.gh_shared.specs.declared.machine.ActorMachine.TheVariants.{Leads, Marks, Runs}
 use Rattle.gh_shared.specs.Calls.{Operated}
 use Rattle.gh_shared.specs.Handles.{ended_at, ended_of, machine_of, number_of, own_of, plan_of, view_of}
-use Rattle.gh_shared.specs.Machines.{actor_of, asks, begins, Belongs, gives, goes, IsProcessor, IsProcessorOf}
+use Rattle.gh_shared.specs.Machines.{asks, begins, Belongs, gives, goes, IsProcessor, IsProcessorOf, machine_actor}
 use Rattle.gh_shared.specs.Plans.{Planned, setting}
 use Rattle.gh_shared.proofs.Keeping.{by_made}
 use Rattle.gh_shared.proofs.Ready.{has_room_then, OfItsOwn}
@@ -38,7 +38,7 @@ use Rattle.gh_world.specs.After.{KeepsPlace}
 use Rattle.gh_world.specs.Due.{EachKeepsItsPlace, PlacesAreKept}
 use Rattle.gh_lists.specs.Order.{begun_in, has_left}
 use Rattle.gh_lists.specs.Processors.{arena_of, given_of}
-use Rattle.gh_world.specs.Turns.{Follows, goroutine_at, is_poll_due, is_run_due, op_due, statements_among, to_come}
+use Rattle.gh_world.specs.Turns.{Follows, is_poll_due, is_run_due, its_goroutine, op_due, statements_among, to_come}
 use Rattle.gh_world.specs.World.{AreTurns, progress_after}
 use Rattle.gh_world.proofs.Due.{leaves_is}
 use Rattle.gh_world.proofs.Explained.Steps.{statement_pointed}
@@ -62,7 +62,7 @@ told_more : (o : Op) (os : List Op) (x : Answer) (gs : List Answer) → told_in_
 told_more o os x gs = go (has_point o) refl where
   go : (b : Bool) → has_point o ≡ b → told_in_order (cond b (o ∷ filter has_point os) (filter has_point os)) (option_to_list (cond b (Some x) None) ++ gs) ≡ told_in_order (filter has_point os) gs ++ told o x
   go true e = refl
-  go false e = sym (ap (λ (b : Bool). told_in_order (filter has_point os) gs ++ cond b ((goroutine_at o, x) ∷ []) []) (statement_pointed o e) ∙ append-nil (told_in_order (filter has_point os) gs))
+  go false e = sym (ap (λ (b : Bool). told_in_order (filter has_point os) gs ++ cond b ((its_goroutine o, x) ∷ []) []) (statement_pointed o e) ∙ append-nil (told_in_order (filter has_point os) gs))
 
 not_left : (t : Task) (l : Bool) → is_leaving t ≡ l → l ≡ false → has_left_at t ≡ false
 not_left task.Left l e f = absurd (let no : true ≡ false = e ∙ f in cc)
@@ -80,7 +80,7 @@ module _ (law : OfItsOwn) (h h' : Handle) (o : Op) (founds : List ℕ) (x : Answ
       let rests = h.kept.rests m is in
       let belongs : IsProcessorOf q m = subst (Belongs q) is h.hand.belongs in
       let own : by a (view_of h').log ≡ given.Made a m o (own_of h) founds = ap (by a) log ∙ by_made a (Some o) (begins (Runs m) o) founds (view_of h).log in
-      let whole : actor.Runs m.processor ≡ actor.Runs (state_of (processor_kind q.script.shapes q.layout) a (own_of h)) = sym (ap actor_of is) ∙ h.hand.state ∙ law (setting q).kind a (view_of h).log ∙ is_processor q.script q.layout a rests.seat (own_of h) in
+      let whole : actor.Runs m.processor ≡ actor.Runs (state_of (processor_kind q.script.shapes q.layout) a (own_of h)) = sym (ap machine_actor is) ∙ h.hand.state ∙ law (setting q).kind a (view_of h).log ∙ is_processor q.script q.layout a rests.seat (own_of h) in
       let state : state_of (processor_kind q.script.shapes q.layout) a (own_of h) ≡ m.processor = cc in
       let there : has_left_at m.processor.task ≡ false = not_left m.processor.task (has_left (own_of h)) rests.leaves (subst (λ (y : ActorMachine). ended_at y (own_of h) ≡ false) is going) in
       ap (answers_in q a) own
@@ -103,7 +103,7 @@ poll_due p next.Over o due e = absurd cc
 
 told_long : (o : Op) (x : Answer) → length (told o x) ≡ bit (is_statement o)
 told_long o x = go (is_statement o) where
-  go : (b : Bool) → length {A = ℕ × Answer} (cond b ((goroutine_at o, x) ∷ []) []) ≡ bit b
+  go : (b : Bool) → length {A = ℕ × Answer} (cond b ((its_goroutine o, x) ∷ []) []) ≡ bit b
   go true = refl
   go false = refl
 

@@ -13,21 +13,21 @@ use Rattle.gh_run.specs.declared.job.HeapJob.{HeapJob}
 use Rattle.gh_script.specs.Program.{Program}
 use Rattle.gh_shared.specs.declared.handle.Handle.{Handle}
 use Rattle.gh_shared.specs.declared.heap.Heap.{Heap}
-use Rattle.gh_shared.specs.Handles.{ended_of, IsFresh, IsHeapOf, IsOf, machine_of, number_of, own_of, plan_of, room_of, view_of}
+use Rattle.gh_shared.specs.Handles.{ended_of, IsFresh, IsHandleOf, IsHeapOf, machine_of, number_of, own_of, plan_of, room_of, view_of}
 use Rattle.gh_shared.specs.Machines.{IsProcessor}
 use Rattle.gh_shared.specs.Plans.{Planned, setting}
 use Rattle.gh_world.specs.declared.progress.Progress.{Progress}
 use Rattle.gh_world.specs.After.{KeepsPlace}
 use Rattle.gh_lists.specs.Order.{begun_in}
 use Rattle.gh_lists.specs.Processors.{arena_of, given_of}
-use Rattle.gh_world.specs.Turns.{goroutine_at, is_over, is_run_due, statements_among, to_come, total_by, turns_of}
+use Rattle.gh_world.specs.Turns.{is_run_due, its_goroutine, leave_is_begun, statements_among, to_come, total_by, turns_of}
 use Rattle.gh_world.specs.World.{AreTurns, opening_progress}
 
 -- ---- answers
 
 -- an answer with its goroutine, where the operation is a statement
 abbrev pub told : Op → Answer → List (ℕ × Answer)
-told o answer = if is_statement o then (goroutine_at o, answer) ∷ [] else []
+told o answer = if is_statement o then (its_goroutine o, answer) ∷ [] else []
 
 -- the answers of the statements among these operations, each with its goroutine and the first of them first, where these are the operations and their answers, the newest first
 abbrev pub told_in_order : List Op → List Answer → List (ℕ × Answer)
@@ -67,19 +67,19 @@ module _ (p : Program) (heap : Heap) (h : Handle) (t : Progress) (answers : List
     pub first : t ≡ opening_progress t.next
     pub come : to_come p (number_of h) t.next ≡ turns_of p (number_of h)
     pub turns : AreTurns p (number_of h) t
-    pub going : is_over t.next ≡ false
+    pub going : leave_is_begun t.next ≡ false
     pub none : answers ≡ []
     pub roomy : total_by p (number_of h) ≤ room
 
   -- A processor between two of its turns: it keeps its place among them, has kept what its entries give, and there is room for the answers of the statements that are to come. Before what follows a poll a store has room for its entries.
   pub record IsBetweenTurns : Type 0 where
     pub script : IsHeapOf p heap
-    pub of : IsOf heap h
+    pub of : IsHandleOf heap h
     pub alone : (view_of h).actors ≡ number_of h ∷ []
     pub processor : IsProcessor (machine_of h)
     pub turns : AreTurns p (number_of h) t
     pub place : KeepsPlace p (number_of h) t (view_of h).log
-    pub left : ended_of h ≡ is_over t.next
+    pub left : ended_of h ≡ leave_is_begun t.next
     pub polled : is_run_due t.next ≡ true → 2 ≤ room_of h
     pub kept : answers ≡ answers_in (plan_of heap) (number_of h) (own_of h)
     pub roomy : length answers + statements_among (to_come p (number_of h) t.next) ≤ room
@@ -87,7 +87,7 @@ module _ (p : Program) (heap : Heap) (h : Handle) (t : Progress) (answers : List
 -- The actor has ended. What a processor has begun is its turns, and its answers are what its entries give.
 pub record IsAtEnd (p : Program) (heap : Heap) (h : Handle) (answers : List (ℕ × Answer)) : Type 0 where
   pub script : IsHeapOf p heap
-  pub of : IsOf heap h
+  pub of : IsHandleOf heap h
   pub alone : (view_of h).actors ≡ number_of h ∷ []
   pub over : ended_of h ≡ true
   pub turns : number_of h < (plan_of heap).layout.procs → reverse (begun_in (own_of h)) ≡ turns_of p (number_of h)

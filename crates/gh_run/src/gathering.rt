@@ -7,7 +7,7 @@ ghost use Rattle.gh_base.specs.Lists.{by};
 ghost use Rattle.gh_lines.specs.Text.{answers_by};
 ghost use Rattle.gh_run.specs.Jobs.{AreDoneOf};
 ghost use Rattle.gh_run.specs.declared.job.HeapJob.{HeapJob};
-ghost use Rattle.gh_shared.specs.Handles.{carries_of, own_of, plan_of, view_of, IsHeapOf, IsOf};
+ghost use Rattle.gh_shared.specs.Handles.{carries_of, own_of, plan_of, view_of, IsHeapOf, IsHandleOf};
 ghost use Rattle.gh_world.specs.Turns.{total_of};
 
 use crate::job::HeapJob;
@@ -45,7 +45,7 @@ pub fn gathered<'h, 's, G>(
 ) -> Handle<'s>
     requires script { IsHeapOf script.now heap.now }
     requires done { AreDoneOf script.now heap.now done.items }
-    ensures of { IsOf heap.now result }
+    ensures of { IsHandleOf heap.now result }
     ensures all { carries_of result ≡ seats_of (plan_of heap.now).layout }
     ensures own { (a : ℕ) (j : HeapJob G) → slice_get done.entry.items a ≡ Some j → by a (view_of result).log ≡ own_of j.handle }
 {

@@ -5,13 +5,13 @@ ghost use Rattle.std.specs.Vec.{vec_capacity};
 ghost use Rattle.gh_lines.specs.Text.{answers_by};
 ghost use Rattle.gh_mutator.specs.Serving.{is_statement};
 ghost use Rattle.gh_run.specs.Jobs.{answer_among, of_goroutine, told};
-ghost use Rattle.gh_world.specs.Turns.{goroutine_at};
+ghost use Rattle.gh_world.specs.Turns.{its_goroutine};
 
 use gh_base::{Answer, Op};
 
 /// The goroutine of a statement; none for a step of the processor's own.
 fn statement_goroutine(op: Op) -> Option<u32>
-    ensures { result ≡ (if is_statement op then Some (goroutine_at op) else None) }
+    ensures { result ≡ (if is_statement op then Some (its_goroutine op) else None) }
 {
     match op {
         Op::New { g, .. }

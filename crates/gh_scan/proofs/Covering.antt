@@ -1,6 +1,6 @@
 -- The scan of an object has loaded the bitmap word of each word of the slot and the field of each pointer once it ends, by rows that agree with what it was told.
 use Rattle.std.proofs.Common.{◌≡◌, ◌≢◌, ℕ, zero, suc, ◌+◌, ◌-◌, ◌*◌, ◌/◌, ◌%◌, ◌<◌, ◌≤◌, ◌==◌, ◌||◌, ltb, Bool, true, false, cond, List, Option, Some, None, refl, sym, ap, subst, ◌∙◌, arith, eqb-true, eq-eqb, ltb-true, ltb-false}
-use Rattle.gh_scan.proofs.Vocabulary.{after, after_room, after_shade, AreTold, asks, at_next, begun, behind, Bitmap, bits_of, Cell, Done, Ended, EndsWith, Field, FindRoom, from, goes, Held, is_loaded, is_pointer, Layout, listing, Load, LoadBitmap, LoadField, LoadPage, mul-mod_right, next_in, object_of, reference_in, Row, Scanning, ScanStage, Shaded, Shading, slot_told, WantsRoom}
+use Rattle.gh_scan.proofs.Vocabulary.{after, after_room, after_shade, AreTold, asks, at_next, begun, behind, bit_says_pointer, Bitmap, bits_of, Cell, Done, Ended, EndsWith, Field, FindRoom, from, goes, Held, is_loaded, Layout, listing, Load, LoadBitmap, LoadField, LoadPage, mul-mod_right, next_in, object_of, reference_in, Row, Scanning, ScanStage, Shaded, Shading, slot_told, WantsRoom}
 use Rattle.gh_scan.proofs.Order.{in_order}
 use Rattle.gh_scan.proofs.Ending.{has_ended}
 use Rattle.gh_scan.proofs.Scanning.{AtField, Finds, Is, is_at, Knows}
@@ -66,7 +66,7 @@ module _ (bits fields : Row) (l : Layout) where
   -- heap word x is done with, where these cells were loaded
   pub record IsCovered (Has : Cell → Type 0) (x : ℕ) : Type 0 where
     pub bit : Has (bit_cell x)
-    pub field : is_pointer (bits_of bits fields l x) x ≡ true → Has (field_cell x)
+    pub field : bit_says_pointer (bits_of bits fields l x) x ≡ true → Has (field_cell x)
 
   module _ (first above : ℕ) where
     abbrev Before : (Has : Cell → Type 0) (x : ℕ) → Type 0
@@ -99,9 +99,9 @@ module _ (bits fields : Row) (l : Layout) where
           let lt : x < y = ltb-true _ _ e in
           let same : y / 64 ≡ x / 64 = same_bits x y (omega arith) (λ u above_x upto. (neither _ _ (off u (omega arith) (omega arith))).0) in
           let bit : Has (bit_cell x) = (before x from_first (omega arith)).bit in
-          let no : is_pointer w y ≡ false = (neither _ _ (off y (omega arith) high)).1 in
+          let no : bit_says_pointer w y ≡ false = (neither _ _ (off y (omega arith) high)).1 in
           let here : w ≡ bits_of bits fields l y = word ∙ ap (λ (q : ℕ). bits (q % (16 * l.pages))) (sym same) in
-          let not_pointer : is_pointer (bits_of bits fields l y) y ≡ false = ap (λ (u : ℕ). is_pointer u y) (sym here) ∙ no in
+          let not_pointer : bit_says_pointer (bits_of bits fields l y) y ≡ false = ap (λ (u : ℕ). bit_says_pointer u y) (sym here) ∙ no in
           record { bit = subst (λ (q : ℕ). Has (Bitmap (q % (16 * l.pages)))) (sym same) bit; field = λ on. never _ on not_pointer }
 
   module _ (seat reference slot : ℕ) where
@@ -152,14 +152,14 @@ module _ (bits fields : Row) (l : Layout) where
       step : (v : ℕ) (h : Option Held) (x w : ℕ) (stage : ScanStage) (done : List ℕ) → Knows bits fields l seat reference slot x w done stage → Finds bits fields l seat reference slot v (state h x w stage) →
           object_of reference ≤ x → ((c : Cell) → asks (state h x w stage) ≡ Load c → New c) → CoversIn Old (state h x w stage) → CoversIn New (goes (state h x w stage) v)
       step v h x w LoadPage done k f low now before = absurd k
-      step v h x w LoadBitmap done k f low now before = by (is_pointer v x) refl where
+      step v h x w LoadBitmap done k f low now before = by (bit_says_pointer v x) refl where
         v_is : v ≡ bits_of bits fields l x
         v_is = f.bits_are (x / 64 % (16 * l.pages)) refl
 
-        by : (b : Bool) → is_pointer v x ≡ b → CoversIn New (cond b (state h x v LoadField) (behind (state h x v LoadBitmap)))
+        by : (b : Bool) → bit_says_pointer v x ≡ b → CoversIn New (cond b (state h x v LoadField) (behind (state h x v LoadBitmap)))
         by true e = (grown x before, now (bit_cell x) refl)
         by false e =
-            let off : is_pointer (bits_of bits fields l x) x ≡ false = ap (λ (u : ℕ). is_pointer u x) (sym v_is) ∙ e in
+            let off : bit_says_pointer (bits_of bits fields l x) x ≡ false = ap (λ (u : ℕ). bit_says_pointer u x) (sym v_is) ∙ e in
             let this : IsCovered New x = record { bit = now (bit_cell x) refl; field = λ on. never _ on off } in
             go New h x v LoadBitmap low k.below v_is (with_this (object_of reference) high New x (grown x before) this)
       step v h x w LoadField done k f low now before = by (v == 0) where
@@ -225,10 +225,10 @@ module _ (l : Layout) (seat reference : ℕ) (held : Option Held) (found : ℕ �
         subst (λ (g : ScanStage). Covers bits fields l (object_of reference) (object_of reference + slot) (Has (suc n)) (state_n (suc n)).at g) ended (covers n) x low below
 
     -- a field that is loaded is that of a pointer
-    pub pointer_at : (n : ℕ) → (state_n (suc n)).stage ≡ LoadField → is_pointer (bits_of bits fields l (state_n (suc n)).at) (state_n (suc n)).at ≡ true
+    pub pointer_at : (n : ℕ) → (state_n (suc n)).stage ≡ LoadField → bit_says_pointer (bits_of bits fields l (state_n (suc n)).at) (state_n (suc n)).at ≡ true
     pointer_at n e =
         let i = is_at l seat reference held found some bits fields told_rows n in
         let stage : i.stage ≡ LoadField = sym (ap (λ (t : Scanning). t.stage) i.is) ∙ e in
         let knows : AtField bits fields l seat reference slot i.at i.word (begun_n (suc n)) = subst (λ (g : ScanStage). Knows bits fields l seat reference slot i.at i.word (begun_n (suc n)) g) stage i.knows in
-        let set : is_pointer (bits_of bits fields l i.at) i.at ≡ true = ap (λ (u : ℕ). is_pointer u i.at) (sym knows.word) ∙ knows.pointer in
-        subst (λ (t : Scanning). is_pointer (bits_of bits fields l t.at) t.at ≡ true) (sym i.is) set
+        let set : bit_says_pointer (bits_of bits fields l i.at) i.at ≡ true = ap (λ (u : ℕ). bit_says_pointer u i.at) (sym knows.word) ∙ knows.pointer in
+        subst (λ (t : Scanning). bit_says_pointer (bits_of bits fields l t.at) t.at ≡ true) (sym i.is) set

@@ -6,8 +6,8 @@ use Rattle.gh_base.specs.declared.layout.Layout.{Layout}
 use Rattle.gh_base.specs.Routines.{EndsWith, GoesOn}
 use Rattle.gh_scan.specs.declared.scan.ScanStage.{ScanStage}
 use Rattle.gh_scan.specs.declared.scan.ScanStage.TheVariants.{LoadPage, LoadBitmap, LoadField, Shading, FindRoom, Ended}
-use Rattle.gh_scan.specs.Listing.{after_room, after_shade, at_next, behind, end, given, given_at, goes_at, is_busy, is_loaded, is_pointer, listing, next_from, next_in, object_of, reference_in, Scanning}
-use Rattle.gh_scan.specs.Scans.{after, DoneWith, EndsAtOnce, from, IsDone, NoneLeft, slot_told}
+use Rattle.gh_scan.specs.Listing.{after_room, after_shade, at_next, behind, bit_says_pointer, end, given, given_at, goes_at, is_busy, is_loaded, listing, next_from, next_in, object_of, reference_in, Scanning}
+use Rattle.gh_scan.specs.Scans.{after, DoneWith, EndsAtOnce, from, IsDoneWithWord, NoneLeft, slot_told}
 use Rattle.gh_shade.specs.declared.shade.Shaded.{Shaded}
 use Rattle.gh_shade.specs.declared.shade.Shaded.TheVariants.{Done, WantsRoom}
 use Rattle.gh_shade.specs.Listing as shade
@@ -71,8 +71,8 @@ abbrev on_field : (s : Scanning) (v : ℕ) → Bool → Scanning
 on_field s v b = cond b (behind s) (record s { stage = Shading (shade.opening s.layout (reference_in s.layout v) s.held) })
 
 -- it ends where it is done with the word that it is at, and nothing is left
-ends_at : (s : Scanning) (stage : ScanStage) (v : ℕ) → IsDone stage s.at v → Quiet s (goes_at s stage v).bits → given (goes_at s stage v) ≡ Some s.slot
-ends_at s LoadBitmap v done quiet = by (is_pointer v s.at) done quiet where
+ends_at : (s : Scanning) (stage : ScanStage) (v : ℕ) → IsDoneWithWord stage s.at v → Quiet s (goes_at s stage v).bits → given (goes_at s stage v) ≡ Some s.slot
+ends_at s LoadBitmap v done quiet = by (bit_says_pointer v s.at) done quiet where
   by : (b : Bool) → b ≡ false → Quiet s (on_bit s v b).bits → given (on_bit s v b) ≡ Some s.slot
   by true never q = absurd (cc)
   by false e q = behind_ends (record s { bits = v }) (subst (λ (w : ℕ). Quiet s w) (bits_stay (record s { bits = v }) (next_from v (end s) (s.at + 1))) q)
@@ -88,10 +88,10 @@ ends_at s (Shading sh) v done quiet = by (shade.gives sh v) done quiet where
 ends_at s _ v done quiet = absurd done
 
 -- and only there
-only_at : (s : Scanning) (stage : ScanStage) (v out : ℕ) → is_busy stage ≡ true → given (goes_at s stage v) ≡ Some out → IsDone stage s.at v × Quiet s (goes_at s stage v).bits
+only_at : (s : Scanning) (stage : ScanStage) (v out : ℕ) → is_busy stage ≡ true → given (goes_at s stage v) ≡ Some out → IsDoneWithWord stage s.at v × Quiet s (goes_at s stage v).bits
 only_at s LoadPage v out busy e = absurd (cc)
-only_at s LoadBitmap v out busy e = by (is_pointer v s.at) refl e where
-  by : (b : Bool) → is_pointer v s.at ≡ b → given (on_bit s v b) ≡ Some out → (b ≡ false) × Quiet s (on_bit s v b).bits
+only_at s LoadBitmap v out busy e = by (bit_says_pointer v s.at) refl e where
+  by : (b : Bool) → bit_says_pointer v s.at ≡ b → given (on_bit s v b) ≡ Some out → (b ≡ false) × Quiet s (on_bit s v b).bits
   by true z never = absurd (cc)
   by false z e = (refl, subst (λ (w : ℕ). Quiet s w) (sym (bits_stay (record s { bits = v }) (next_from v (end s) (s.at + 1)))) (ends_behind (record s { bits = v }) out e))
 only_at s LoadField v out busy e = by (v == 0) refl e where

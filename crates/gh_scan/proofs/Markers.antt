@@ -13,8 +13,8 @@ use Rattle.gh_shade.specs.Facts as shade_facts
 use Rattle.gh_shade.specs.Listing as shade
 use Rattle.gh_wbuf.specs.Facts as room_facts
 use Rattle.gh_wbuf.specs.RoomFinding as room
-use Rattle.gh_scan.specs.Facts.{BitsAre, Facts, IsAt, IsField, ScansByMoves, Shades, StageFacts, besides, in_hand}
-use Rattle.gh_scan.proofs.Vocabulary.{after_room, after_shade, asks_at, at_stage, behind, bit_at, bitmap_words, Cell, cell_of, Done, effect, Ended, FindRoom, given_at, goes, goes_at, Held, is_pointer, Layout, Load, LoadBitmap, LoadField, LoadPage, mark_words, mod-eq_of_lt, object_of, reference_in, RowsAreWritten, Scanning, ScanStage, Shaded, Shading, WantsRoom, with_bits, with_field}
+use Rattle.gh_scan.specs.Facts.{BitsAre, Facts, IsAt, IsAtPointerField, ScansByMoves, Shades, StageFacts, besides, in_hand}
+use Rattle.gh_scan.proofs.Vocabulary.{after_room, after_shade, asks_at, at_stage, behind, bit_at, bit_says_pointer, bitmap_words, Cell, cell_of, Done, effect, Ended, FindRoom, given_at, goes, goes_at, Held, Layout, Load, LoadBitmap, LoadField, LoadPage, mark_words, mod-eq_of_lt, object_of, reference_in, RowsAreWritten, Scanning, ScanStage, Shaded, Shading, WantsRoom, with_bits, with_found_field}
 use Rattle.gh_scan.proofs.MarkersAt.{IsDone, KnownOfFacts, at-kept, field-kept, goes-behind, shades-kept}
 
 pub record Known : Type 0 where
@@ -80,7 +80,7 @@ module _ (k : Known) (z : Cycle) (a : ℕ) (s : Shared) (rest : InHand) (g : Goo
         bit-one (s.extents.pointer o j) (bit_at (s.words (cell.Bitmap (m.at / 64 % (16 * m.layout.pages)))) ((o + j) % 64)) (ap (λ (i : ℕ). bit_at (s.words (cell.Bitmap i)) ((o + j) % 64)) (group ∙ sym e) ∙ word)
 
     bitmap : Leads (Load (cell.Bitmap (m.at / 64 % (16 * m.layout.pages)))) (with_bits m (s.words (cell.Bitmap (m.at / 64 % (16 * m.layout.pages)))))
-    bitmap = by (is_pointer f m.at) refl where
+    bitmap = by (bit_says_pointer f m.at) refl where
       f : ℕ
       f = s.words (cell.Bitmap (m.at / 64 % (16 * m.layout.pages)))
 
@@ -90,10 +90,10 @@ module _ (k : Known) (z : Cycle) (a : ℕ) (s : Shared) (rest : InHand) (g : Goo
       less : m.at - o < s.extents.size o
       less = omega (arith, is_at.below, is_at.from)
 
-      same : is_pointer f m.at ≡ s.extents.pointer o (m.at - o)
-      same = ap (is_pointer f) index ∙ bits-are (m.at - o) less (ap (λ (n : ℕ). n / 64) (sym index))
+      same : bit_says_pointer f m.at ≡ s.extents.pointer o (m.at - o)
+      same = ap (bit_says_pointer f) index ∙ bits-are (m.at - o) less (ap (λ (n : ℕ). n / 64) (sym index))
 
-      by : (b : Bool) → is_pointer f m.at ≡ b → Leads (Load (cell.Bitmap (m.at / 64 % (16 * m.layout.pages)))) (cond b (record m { bits = f; stage = LoadField }) (behind (record m { bits = f })))
+      by : (b : Bool) → bit_says_pointer f m.at ≡ b → Leads (Load (cell.Bitmap (m.at / 64 % (16 * m.layout.pages)))) (cond b (record m { bits = f; stage = LoadField }) (behind (record m { bits = f })))
       by true e = still (cell.Bitmap (m.at / 64 % (16 * m.layout.pages))) (record m { bits = f; stage = LoadField }) (record {
         layout_is = layout_is;
         seat_is = seat_is;
@@ -109,13 +109,13 @@ module _ (k : Known) (z : Cycle) (a : ℕ) (s : Shared) (rest : InHand) (g : Goo
         clean = λ j l at. absurd (none j l at e);
         hands = x;
       }) where
-        none : (j : ℕ) → IsPointer s.extents o j → o + j ≡ m.at → is_pointer f m.at ≡ false → ⊥
-        none j l at e = let is : is_pointer f (o + j) ≡ true = bits-are j l.0 (ap (λ (n : ℕ). n / 64) at) ∙ l.1 in
-            let not : is_pointer f (o + j) ≡ false = ap (is_pointer f) at ∙ e in
+        none : (j : ℕ) → IsPointer s.extents o j → o + j ≡ m.at → bit_says_pointer f m.at ≡ false → ⊥
+        none j l at e = let is : bit_says_pointer f (o + j) ≡ true = bits-are j l.0 (ap (λ (n : ℕ). n / 64) at) ∙ l.1 in
+            let not : bit_says_pointer f (o + j) ≡ false = ap (bit_says_pointer f) at ∙ e in
             cc
 
-    field : IsField s o m.bits m.at → Leads (Load (cell.Field (m.at % (1024 * m.layout.pages)))) (with_field m (s.words (cell.Field (m.at % (1024 * m.layout.pages)))))
-    field h = subst (λ (i : ℕ). Leads (Load (cell.Field i)) (with_field m (s.words (cell.Field i)))) (sym (mod-eq_of_lt in_heap)) (by (eqb v 0) refl) where
+    field : IsAtPointerField s o m.bits m.at → Leads (Load (cell.Field (m.at % (1024 * m.layout.pages)))) (with_found_field m (s.words (cell.Field (m.at % (1024 * m.layout.pages)))))
+    field h = subst (λ (i : ℕ). Leads (Load (cell.Field i)) (with_found_field m (s.words (cell.Field i)))) (sym (mod-eq_of_lt in_heap)) (by (eqb v 0) refl) where
       v : ℕ
       v = s.words (cell.Field m.at)
 
@@ -178,7 +178,7 @@ module _ (k : Known) (z : Cycle) (a : ℕ) (s : Shared) (rest : InHand) (g : Goo
         n : Scanning
         n = record m { held = (shade.goes sh f).held }
 
-        shaded : shade_facts.IsShaded a t (besides rest o) (shade.goes sh f)
+        shaded : shade_facts.ObjectIsShaded a t (besides rest o) (shade.goes sh f)
         shaded = k.shade.ends z a t (besides rest o) sh f e facts
 
         at-then : Shades t o m.slot m.at m.bits (shade.goes sh f).reference

@@ -10,8 +10,8 @@ use Rattle.gh_marks.specs.Laws.{EachFactLasts, EachHandFollows, EachOwnMoveLeave
 use Rattle.gh_marks.specs.Moves.{Blacken, Keeps, Lands, SameExtent, lands_by, lands_still}
 use Rattle.gh_marks.specs.Seats.{Hands, InHand}
 use Rattle.gh_scan.specs.declared.scan.ScanStage.TheVariants.{LoadBitmap, LoadField, Ended}
-use Rattle.gh_scan.specs.Facts.{BitsAre, CleanBefore, Facts, IsAt, IsField, Shades, Stands, in_hand}
-use Rattle.gh_scan.specs.Listing.{at_next, at_stage, behind, end, is_loaded, is_pointer, loads_at, next_from, next_in, object_of, Scanning}
+use Rattle.gh_scan.specs.Facts.{BitsAre, CleanBefore, Facts, IsAt, IsAtPointerField, Shades, FoundStillStands, in_hand}
+use Rattle.gh_scan.specs.Listing.{at_next, at_stage, behind, bit_says_pointer, end, is_loaded, loads_at, next_from, next_in, object_of, Scanning}
 
 -- what the laws of gh_marks say, as far as it is of one seat's facts
 pub record KnownOfFacts : Type 0 where
@@ -49,19 +49,19 @@ skips-from bits above x le = let sum : x + (above - x) ≡ above = omega arith i
 -- a word for which nothing is loaded
 no-group : (bits y : ℕ) → is_loaded bits y ≡ false → y % 64 ≢ 0
 no-group bits y e z = let yes : eqb (y % 64) 0 ≡ true = eq-eqb _ _ z in absurd (by (eqb (y % 64) 0) yes e) where
-  by : (b : Bool) → b ≡ true → (b || is_pointer bits y) ≡ false → ⊥
+  by : (b : Bool) → b ≡ true → (b || bit_says_pointer bits y) ≡ false → ⊥
   by true p q = cc
   by false p q = cc
 
-no-pointer : (bits y : ℕ) → is_loaded bits y ≡ false → is_pointer bits y ≡ false
+no-pointer : (bits y : ℕ) → is_loaded bits y ≡ false → bit_says_pointer bits y ≡ false
 no-pointer bits y e = by (eqb (y % 64) 0) e where
-  by : (b : Bool) → (b || is_pointer bits y) ≡ false → is_pointer bits y ≡ false
+  by : (b : Bool) → (b || bit_says_pointer bits y) ≡ false → bit_says_pointer bits y ≡ false
   by true q = absurd (cc)
   by false q = q
 
-is-pointer : (bits y : ℕ) → is_loaded bits y ≡ true → eqb (y % 64) 0 ≡ false → is_pointer bits y ≡ true
+is-pointer : (bits y : ℕ) → is_loaded bits y ≡ true → eqb (y % 64) 0 ≡ false → bit_says_pointer bits y ≡ true
 is-pointer bits y e f = by (eqb (y % 64) 0) f e where
-  by : (b : Bool) → b ≡ false → (b || is_pointer bits y) ≡ true → is_pointer bits y ≡ true
+  by : (b : Bool) → b ≡ false → (b || bit_says_pointer bits y) ≡ true → bit_says_pointer bits y ≡ true
   by true p q = absurd (cc)
   by false p q = q
 
@@ -89,7 +89,7 @@ module _ (k : KnownOfFacts) (z : Cycle) (a : ℕ) (s t : Shared) (o : ℕ) (know
     clean = λ j l lt. let was : IsPointer s.extents o j = last.pointer_was o j known l in last.field o j known was (h.clean j was lt);
   }
 
-  pub field-kept : (bits at : ℕ) → IsField s o bits at → IsField t o bits at
+  pub field-kept : (bits at : ℕ) → IsAtPointerField s o bits at → IsAtPointerField t o bits at
   field-kept bits at h = record {
     k = h.k;
     at_is = h.at_is;
@@ -103,9 +103,9 @@ module _ (k : KnownOfFacts) (z : Cycle) (a : ℕ) (s t : Shared) (o : ℕ) (know
   word-kept was is reference (inl e) (inl f) = inl (e ∙ f)
   word-kept was is reference (inl e) (inr c) = inr (λ p x. keeps.marks p (c p (sym e ∙ x)))
 
-  stands-kept : (bits at reference : ℕ) → IsField s o bits at → Stands s at reference → Stands t at reference
-  stands-kept bits at reference f h = subst (λ (x : ℕ). Stands t x reference) (sym f.at_is)
-      (word-kept (s.words (cell.Field (o + f.k))) (t.words (cell.Field (o + f.k))) reference (keeps.fields o f.k known f.pointer) (subst (λ (x : ℕ). Stands s x reference) f.at_is h))
+  stands-kept : (bits at reference : ℕ) → IsAtPointerField s o bits at → FoundStillStands s at reference → FoundStillStands t at reference
+  stands-kept bits at reference f h = subst (λ (x : ℕ). FoundStillStands t x reference) (sym f.at_is)
+      (word-kept (s.words (cell.Field (o + f.k))) (t.words (cell.Field (o + f.k))) reference (keeps.fields o f.k known f.pointer) (subst (λ (x : ℕ). FoundStillStands s x reference) f.at_is h))
 
   pub shades-kept : (slot at bits reference : ℕ) → Shades s o slot at bits reference → Shades t o slot at bits reference
   shades-kept slot at bits reference h = record { is_at = at-kept slot at h.is_at; is_field = field-kept bits at h.is_field; stands = stands-kept bits at reference h.is_field h.stands }
@@ -139,8 +139,8 @@ module _ (k : KnownOfFacts) (z : Cycle) (a : ℕ) (t : Shared) (rest : InHand) (
       later more =
           let off : is_loaded n.bits (o + j) ≡ false = none (o + j) (omega arith) below in
           let group : (o + j) / 64 ≡ n.at / 64 = one-group n.at (o + j) (omega arith) (λ v x y. no-group n.bits v (none v (omega arith) (omega arith))) in
-          let is : is_pointer n.bits (o + j) ≡ true = d.bits_are j l.0 group ∙ l.1 in
-          let not : is_pointer n.bits (o + j) ≡ false = no-pointer n.bits (o + j) off in
+          let is : bit_says_pointer n.bits (o + j) ≡ true = d.bits_are j l.0 group ∙ l.1 in
+          let not : bit_says_pointer n.bits (o + j) ≡ false = no-pointer n.bits (o + j) off in
           cc
 
       by : (b c : Bool) → ltb (o + j) n.at ≡ b → eqb (o + j) n.at ≡ c → IsClean (mark_words t.words) (t.words (cell.Field (o + j)))
@@ -184,8 +184,8 @@ module _ (k : KnownOfFacts) (z : Cycle) (a : ℕ) (t : Shared) (rest : InHand) (
           let group : q / 64 ≡ n.at / 64 = one-group n.at q (omega (arith, h.0)) (λ v x y. begins v x y off) in
           let index : q ≡ o + (q - o) = omega (arith, is_at.from) in
           let less : q - o < t.extents.size o = omega (arith, is_at.below, is_at.from) in
-          let same : is_pointer n.bits (o + (q - o)) ≡ t.extents.pointer o (q - o) = d.bits_are (q - o) less (ap (λ (x : ℕ). x / 64) (sym index) ∙ group) in
-          let set : t.extents.pointer o (q - o) ≡ true = sym same ∙ ap (is_pointer n.bits) (sym index) ∙ is-pointer n.bits q h.2 e in
+          let same : bit_says_pointer n.bits (o + (q - o)) ≡ t.extents.pointer o (q - o) = d.bits_are (q - o) less (ap (λ (x : ℕ). x / 64) (sym index) ∙ group) in
+          let set : t.extents.pointer o (q - o) ≡ true = sym same ∙ ap (bit_says_pointer n.bits) (sym index) ∙ is-pointer n.bits q h.2 e in
           still LoadField (record {
             layout_is = d.layout_is;
             seat_is = d.seat_is;

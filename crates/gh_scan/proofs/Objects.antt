@@ -1,6 +1,6 @@
 -- The law of the scan of an object, put together.
 use Rattle.std.proofs.Common.{◌≡◌, ◌≢◌, ◌↔◌, ℕ, zero, suc, ◌+◌, ◌*◌, ◌/◌, ◌%◌, ◌<◌, ◌≤◌, ltb, Bool, true, false, Option, refl, sym, ap, subst, ◌∙◌, arith, eqb-true, eq-eqb, ltb-true, ltb-false}
-use Rattle.gh_scan.proofs.Vocabulary.{after, AreTold, asks, asks_at, bit_at, Bitmap, bitmap_words, Cell, cell_of, CellsAreTold, Ended, EndsWith, Field, field_words, FindRoom, from, Held, InSlot, is_busy, is_pointer, Layout, LiesInHeap, listing, Load, LoadBitmap, LoadField, mod-eq_of_lt, object_of, pointer_bit, row_bit, Scanning, ScansInOrder, ScansObject, ScanStage, ShadesAsTold, Shading, slot_told, Touch, WasLoaded, Words, words_told}
+use Rattle.gh_scan.proofs.Vocabulary.{after, AreTold, asks, asks_at, bit_at, bit_says_pointer, Bitmap, bitmap_words, Cell, cell_of, CellsAreTold, Ended, EndsWith, Field, field_words, FindRoom, from, Held, InSlot, is_busy, Layout, LiesInHeap, listing, Load, LoadBitmap, LoadField, mod-eq_of_lt, object_of, pointer_bit, row_bit, Scanning, ScansInOrder, ScansObject, ScanStage, ShadesAsTold, Shading, slot_told, Touch, WasLoaded, Words, words_told}
 use Rattle.gh_scan.proofs.Covering.{covered, Has, IsCovered, pointer_at}
 use Rattle.gh_scan.proofs.Ending.{at_once, rests}
 use Rattle.gh_scan.proofs.Order.{end_is, in_order, layout_is, slot_is}
@@ -37,11 +37,11 @@ module _ (l : Layout) (seat reference : ℕ) (held : Option Held) (found : ℕ �
       mod-eq_of_lt small
 
   -- the bit of a heap word, and the listing's test of it
-  test_of : (words : Words) (x : ℕ) → x < 1024 * l.pages → pointer_bit words x ≡ 1 → is_pointer (words (Bitmap (x / 64 % (16 * l.pages)))) x ≡ true
-  test_of words x lt set = ap (λ (i : ℕ). is_pointer (words (Bitmap i)) x) (whole_bits x lt) ∙ eq-eqb _ _ (sym (bit_is words x) ∙ set)
+  test_of : (words : Words) (x : ℕ) → x < 1024 * l.pages → pointer_bit words x ≡ 1 → bit_says_pointer (words (Bitmap (x / 64 % (16 * l.pages)))) x ≡ true
+  test_of words x lt set = ap (λ (i : ℕ). bit_says_pointer (words (Bitmap i)) x) (whole_bits x lt) ∙ eq-eqb _ _ (sym (bit_is words x) ∙ set)
 
-  bit_by : (words : Words) (x : ℕ) → x < 1024 * l.pages → is_pointer (words (Bitmap (x / 64 % (16 * l.pages)))) x ≡ true → pointer_bit words x ≡ 1
-  bit_by words x lt set = bit_is words x ∙ eqb-true _ _ (sym (ap (λ (i : ℕ). is_pointer (words (Bitmap i)) x) (whole_bits x lt)) ∙ set)
+  bit_by : (words : Words) (x : ℕ) → x < 1024 * l.pages → bit_says_pointer (words (Bitmap (x / 64 % (16 * l.pages)))) x ≡ true → pointer_bit words x ≡ 1
+  bit_by words x lt set = bit_is words x ∙ eqb-true _ _ (sym (ap (λ (i : ℕ). bit_says_pointer (words (Bitmap i)) x) (whole_bits x lt)) ∙ set)
 
   -- where the slot lies in the heap, the words told make such rows
   module _ (cells : CellsAreTold) (lies : LiesInHeap l seat reference held found) where

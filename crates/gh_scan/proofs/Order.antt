@@ -5,7 +5,7 @@ use Rattle.gh_base.specs.declared.layout.Layout.{Layout}
 use Rattle.gh_base.specs.Routines.{EndsWith, GoesOn}
 use Rattle.gh_scan.specs.declared.scan.ScanStage.{ScanStage}
 use Rattle.gh_scan.specs.declared.scan.ScanStage.TheVariants.{LoadPage, LoadBitmap, LoadField, Shading, FindRoom, Ended}
-use Rattle.gh_scan.specs.Listing.{after_room, after_shade, at_next, behind, end, given, given_at, goes, is_busy, is_loaded, is_pointer, listing, next_in, object_of, reference_in, Scanning}
+use Rattle.gh_scan.specs.Listing.{after_room, after_shade, at_next, behind, bit_says_pointer, end, given, given_at, goes, is_busy, is_loaded, listing, next_in, object_of, reference_in, Scanning}
 use Rattle.gh_scan.specs.Scans.{after, from, ScansInOrder, slot_told}
 use Rattle.gh_shade.specs.declared.shade.Shaded.{Shaded}
 use Rattle.gh_shade.specs.declared.shade.Shaded.TheVariants.{Done, WantsRoom}
@@ -71,7 +71,7 @@ module _ (l : Layout) (seat reference slot : ℕ) where
 
   step : (v : ℕ) (h : Option Held) (x w : ℕ) (stage : ScanStage) → Lies x stage → Is x (goes (state h x w stage) v)
   step v h x w LoadPage k = absurd k
-  step v h x w LoadBitmap k = by (is_pointer v x) where
+  step v h x w LoadBitmap k = by (bit_says_pointer v x) where
     by : (b : Bool) → Is x (cond b (state h x v LoadField) (behind (state h x v LoadBitmap)))
     by true = record { held = h; at = x; word = v; stage = LoadField; is = refl; lies = k; up = same x }
     by false = go h x v LoadBitmap k

@@ -9,7 +9,7 @@ use Rattle.gh_base.specs.Routines.{EndsWith}
 use Rattle.gh_base.specs.Rows.{Row}
 use Rattle.gh_scan.specs.declared.scan.ScanStage.{ScanStage}
 use Rattle.gh_scan.specs.declared.scan.ScanStage.TheVariants.{LoadPage, LoadBitmap, LoadField, Shading, FindRoom, Ended}
-use Rattle.gh_scan.specs.Listing.{after_room, after_shade, asks, asks_at, at_next, behind, given, given_at, goes, goes_at, is_pointer, listing, next_in, object_of, reference_in, Scanning}
+use Rattle.gh_scan.specs.Listing.{after_room, after_shade, asks, asks_at, at_next, behind, bit_says_pointer, given, given_at, goes, goes_at, listing, next_in, object_of, reference_in, Scanning}
 use Rattle.gh_scan.specs.Scans.{after, AreTold, begun, begun_between, bits_of, field_of, from, references_at, references_in, shaded_at, slot_told, StepsAt}
 use Rattle.gh_shade.specs.declared.shade.Shaded.{Shaded}
 use Rattle.gh_shade.specs.declared.shade.Shaded.TheVariants.{Done, WantsRoom}
@@ -39,10 +39,10 @@ module _ (bits fields : Row) (l : Layout) where
       let e : end - x ≡ suc (end - (x + 1)) = omega arith in
       ap (λ (n : ℕ). refs n x) e
 
-  none_at : (x : ℕ) → is_pointer (bits_of bits fields l x) x ≡ false → references_at bits fields l x ≡ []
+  none_at : (x : ℕ) → bit_says_pointer (bits_of bits fields l x) x ≡ false → references_at bits fields l x ≡ []
   none_at x e = ap (λ (b : Bool). cond b (cond (field_of bits fields l x == 0) [] (reference_in l (field_of bits fields l x) ∷ [])) []) e
 
-  field_at : (x : ℕ) (b : Bool) → is_pointer (bits_of bits fields l x) x ≡ true → (field_of bits fields l x == 0) ≡ b → references_at bits fields l x ≡ cond b [] (reference_in l (field_of bits fields l x) ∷ [])
+  field_at : (x : ℕ) (b : Bool) → bit_says_pointer (bits_of bits fields l x) x ≡ true → (field_of bits fields l x == 0) ≡ b → references_at bits fields l x ≡ cond b [] (reference_in l (field_of bits fields l x) ∷ [])
   field_at x b e z =
       ap (λ (c : Bool). cond c (cond (field_of bits fields l x == 0) [] (reference_in l (field_of bits fields l x) ∷ [])) []) e
       ∙ ap (λ (c : Bool). cond {A = List ℕ} c [] (reference_in l (field_of bits fields l x) ∷ [])) z
@@ -52,7 +52,7 @@ module _ (bits fields : Row) (l : Layout) where
     below : z < end
     same : list ≡ refs_from end z
     word : (z % 64 == 0) ≡ false → w ≡ bits_of bits fields l z
-    pointer : (z % 64 == 0) ≡ false → is_pointer w z ≡ true
+    pointer : (z % 64 == 0) ≡ false → bit_says_pointer w z ≡ true
 
   abbrev Reaches : (w end : ℕ) → List ℕ → Option ℕ → Type 0
   Reaches w end list None = list ≡ []
@@ -62,18 +62,18 @@ module _ (bits fields : Row) (l : Layout) where
   reach w end zero y e h = refl
   reach w end (suc k) y e h =
       let sum : (y + 1) + k ≡ end = omega arith in
-      by (λ later. reach w end k (y + 1) sum later) (y % 64 == 0) (is_pointer w y) refl refl where
+      by (λ later. reach w end k (y + 1) sum later) (y % 64 == 0) (bit_says_pointer w y) refl refl where
         here : refs (suc k) y ≡ refs_from end y
         here =
             let n : suc k ≡ end - y = omega arith in
             ap (λ (m : ℕ). refs m y) n
 
-        by : ((((y + 1) % 64 == 0) ≡ false → w ≡ bits_of bits fields l (y + 1)) → Reaches w end (refs k (y + 1)) (next_in w k (y + 1))) → (z p : Bool) → (y % 64 == 0) ≡ z → is_pointer w y ≡ p → Reaches w end (refs (suc k) y) (cond (z || p) (Some y) (next_in w k (y + 1)))
+        by : ((((y + 1) % 64 == 0) ≡ false → w ≡ bits_of bits fields l (y + 1)) → Reaches w end (refs k (y + 1)) (next_in w k (y + 1))) → (z p : Bool) → (y % 64 == 0) ≡ z → bit_says_pointer w y ≡ p → Reaches w end (refs (suc k) y) (cond (z || p) (Some y) (next_in w k (y + 1)))
         by rest true p ez ep = record { below = omega arith; same = here; word = λ ne. absurd (cc); pointer = λ ne. absurd (cc) }
         by rest false true ez ep = record { below = omega arith; same = here; word = h; pointer = λ ne. ep }
         by rest false false ez ep =
             let w_is : w ≡ bits_of bits fields l y = h ez in
-            let off : is_pointer (bits_of bits fields l y) y ≡ false = ap (λ (v : ℕ). is_pointer v y) (sym w_is) ∙ ep in
+            let off : bit_says_pointer (bits_of bits fields l y) y ≡ false = ap (λ (v : ℕ). bit_says_pointer v y) (sym w_is) ∙ ep in
             let skip : refs (suc k) y ≡ refs k (y + 1) = ap (λ (ls : List ℕ). ls ++ refs k (y + 1)) (none_at y off) in
             let later : ((y + 1) % 64 == 0) ≡ false → w ≡ bits_of bits fields l (y + 1) = λ ne. w_is ∙ ap (λ (q : ℕ). bits (q % (16 * l.pages))) (sym (same_word y ne)) in
             subst (λ (ls : List ℕ). Reaches w end ls (next_in w k (y + 1))) (sym skip) (rest later)
@@ -96,7 +96,7 @@ module _ (bits fields : Row) (l : Layout) where
       pub below : x < stop
       pub left : done ++ refs_from stop x ≡ all
       pub word : w ≡ bits_of bits fields l x
-      pub pointer : is_pointer w x ≡ true
+      pub pointer : bit_says_pointer w x ≡ true
 
     pub record AtShade (x w : ℕ) (done : List ℕ) : Type 0 where
       pub below : x < stop
@@ -153,14 +153,14 @@ module _ (bits fields : Row) (l : Layout) where
       step : (h : Option Held) (x w : ℕ) (stage : ScanStage) (done : List ℕ) → Knows x w done stage → Finds (state h x w stage) →
           Is (goes (state h x w stage) v) (done ++ begun_between stage (goes (state h x w stage) v).stage)
       step h x w LoadPage done k f = absurd k
-      step h x w LoadBitmap done k f = by (is_pointer v x) refl where
+      step h x w LoadBitmap done k f = by (bit_says_pointer v x) refl where
         v_is : v ≡ bits_of bits fields l x
         v_is = f.bits_are (x / 64 % (16 * l.pages)) refl
 
-        by : (b : Bool) → is_pointer v x ≡ b → Is (cond b (state h x v LoadField) (behind (state h x v LoadBitmap))) (done ++ shaded_at (cond b (state h x v LoadField) (behind (state h x v LoadBitmap))).stage)
+        by : (b : Bool) → bit_says_pointer v x ≡ b → Is (cond b (state h x v LoadField) (behind (state h x v LoadBitmap))) (done ++ shaded_at (cond b (state h x v LoadField) (behind (state h x v LoadBitmap))).stage)
         by true e = with_none _ done [] refl (record { held = h; at = x; word = v; stage = LoadField; is = refl; knows = record { below = k.below; left = k.left; word = v_is; pointer = e } })
         by false e =
-            let off : is_pointer (bits_of bits fields l x) x ≡ false = ap (λ (u : ℕ). is_pointer u x) (sym v_is) ∙ e in
+            let off : bit_says_pointer (bits_of bits fields l x) x ≡ false = ap (λ (u : ℕ). bit_says_pointer u x) (sym v_is) ∙ e in
             let skip : refs_from stop x ≡ refs_from stop (x + 1) = first stop x k.below ∙ ap (λ (ls : List ℕ). ls ++ refs_from stop (x + 1)) (none_at x off) in
             let on = go h x v LoadBitmap done (record { below = k.below; left = ap (λ (ls : List ℕ). done ++ ls) (sym skip) ∙ k.left; word = v_is }) in
             with_none _ done _ on.1 on.0
@@ -168,8 +168,8 @@ module _ (bits fields : Row) (l : Layout) where
         v_is : v ≡ field_of bits fields l x
         v_is = f.fields_are (x % (1024 * l.pages)) refl
 
-        on_bit : is_pointer (bits_of bits fields l x) x ≡ true
-        on_bit = ap (λ (u : ℕ). is_pointer u x) (sym k.word) ∙ k.pointer
+        on_bit : bit_says_pointer (bits_of bits fields l x) x ≡ true
+        on_bit = ap (λ (u : ℕ). bit_says_pointer u x) (sym k.word) ∙ k.pointer
 
         by : (b : Bool) → (v == 0) ≡ b → Is (cond b (behind (state h x w LoadField)) (state h x w (Shading (shade.opening l (reference_in l v) h)))) (done ++ shaded_at (cond b (behind (state h x w LoadField)) (state h x w (Shading (shade.opening l (reference_in l v) h)))).stage)
         by true e =

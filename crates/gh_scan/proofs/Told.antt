@@ -1,6 +1,6 @@
 -- In a slot that lies in the heap each bitmap word and each field is asked for once, so that what was told is what some rows hold.
 use Rattle.std.proofs.Common.{◌≡◌, ◌≢◌, ℕ, zero, suc, ◌+◌, ◌-◌, ◌*◌, ◌/◌, ◌%◌, ◌<◌, ◌≤◌, ◌==◌, Bool, true, false, cond, Option, Some, None, refl, sym, ap, ◌∙◌, arith, below_more, eqb-true}
-use Rattle.gh_scan.proofs.Vocabulary.{after, after_room, after_shade, asks, asks_at, at_next, behind, Bitmap, Cell, cell_of, CellsAreTold, Done, end, Ended, Field, FindRoom, goes_at, Held, is_busy, is_pointer, Layout, LiesInHeap, Load, LoadBitmap, LoadField, LoadPage, mod-eq_of_lt, next_from, object_of, put, reference_in, RoomStage, Scanning, ScansInOrder, ScanStage, Shaded, ShadeStage, Shading, slot_told, TryStage, WantsRoom, Words, words_told}
+use Rattle.gh_scan.proofs.Vocabulary.{after, after_room, after_shade, asks, asks_at, at_next, behind, bit_says_pointer, Bitmap, Cell, cell_of, CellsAreTold, Done, end, Ended, Field, FindRoom, goes_at, Held, is_busy, Layout, LiesInHeap, Load, LoadBitmap, LoadField, LoadPage, mod-eq_of_lt, next_from, object_of, put, reference_in, RoomStage, Scanning, ScansInOrder, ScanStage, Shaded, ShadeStage, Shading, slot_told, TryStage, WantsRoom, Words, words_told}
 use Rattle.gh_scan.proofs.Order.{Between, next_between}
 use Rattle.gh_shade.specs.declared.shade.ShadeStage.TheVariants as shade_stage
 use Rattle.gh_shade.specs.Listing as shade
@@ -97,7 +97,7 @@ behind_passes s = by (next_from s.bits (end s) (s.at + 1)) (next_between (s.at +
 
 passes_at : (s : Scanning) (stage : ScanStage) (v : ℕ) → s.stage ≡ stage → Passes (bits_passed s.at stage) (fields_passed s.at stage) (goes_at s stage v)
 passes_at s LoadPage v is = record { bits_up = omega arith; fields_up = omega arith }
-passes_at s LoadBitmap v is = by (is_pointer v s.at) where
+passes_at s LoadBitmap v is = by (bit_says_pointer v s.at) where
   by : (b : Bool) → Passes (s.at / 64 + 1) s.at (cond b (record s { bits = v; stage = LoadField }) (behind (record s { bits = v })))
   by true = record { bits_up = same (s.at / 64 + 1); fields_up = same s.at }
   by false = less (s.at / 64 + 1) (s.at + 1) s.at (behind (record s { bits = v })) (one_more s.at) (behind_passes (record s { bits = v }))

@@ -8,7 +8,7 @@ use Rattle.gh_marks.specs.Routines.{KeepsItsFacts}
 use Rattle.gh_marks.specs.Seats.{Hands, InHand}
 use Rattle.gh_scan.specs.declared.scan.ScanStage.{ScanStage}
 use Rattle.gh_scan.specs.declared.scan.ScanStage.TheVariants.{LoadPage, LoadBitmap, LoadField, Shading, FindRoom, Ended}
-use Rattle.gh_scan.specs.Listing.{gives, goes, is_pointer, listing, object_of, opening, Scanning}
+use Rattle.gh_scan.specs.Listing.{bit_says_pointer, gives, goes, listing, object_of, opening, Scanning}
 use Rattle.gh_shade.specs.Facts as shade_facts
 use Rattle.gh_shade.specs.Listing as shade
 use Rattle.gh_wbuf.specs.Facts as room_facts
@@ -26,18 +26,18 @@ pub record IsAt (s : Shared) (o slot at : ℕ) : Type 0 where
 
 -- its bitmap word says which words of the object are pointer fields, as far as it is the word that has their bits
 abbrev pub BitsAre : Extents → (o bits at : ℕ) → Type 0
-BitsAre e o bits at = (k : ℕ) → k < e.size o → (o + k) / 64 ≡ at / 64 → is_pointer bits (o + k) ≡ e.pointer o k
+BitsAre e o bits at = (k : ℕ) → k < e.size o → (o + k) / 64 ≡ at / 64 → bit_says_pointer bits (o + k) ≡ e.pointer o k
 
 -- it is at a pointer field
-pub record IsField (s : Shared) (o bits at : ℕ) : Type 0 where
+pub record IsAtPointerField (s : Shared) (o bits at : ℕ) : Type 0 where
   pub k : ℕ
   pub at_is : at ≡ o + k
   pub pointer : IsPointer s.extents o k
   pub bits_are : BitsAre s.extents o bits at
 
 -- what it found there stands there still, or the word that came in its place is clean
-abbrev pub Stands : Shared → (at reference : ℕ) → Type 0
-Stands s at reference = (s.words (cell.Field at) ≡ reference) ⊎ IsClean (mark_words s.words) (s.words (cell.Field at))
+abbrev pub FoundStillStands : Shared → (at reference : ℕ) → Type 0
+FoundStillStands s at reference = (s.words (cell.Field at) ≡ reference) ⊎ IsClean (mark_words s.words) (s.words (cell.Field at))
 
 -- what the seat has in hand
 abbrev pub in_hand : InHand → Option Held → (scanning : Option ℕ) → InHand
@@ -50,13 +50,13 @@ besides rest o = record rest { scanning = Some o }
 -- while it shades what it found
 pub record Shades (s : Shared) (o slot at bits reference : ℕ) : Type 0 where
   pub is_at : IsAt s o slot at
-  pub is_field : IsField s o bits at
-  pub stands : Stands s at reference
+  pub is_field : IsAtPointerField s o bits at
+  pub stands : FoundStillStands s at reference
 
 abbrev pub StageFacts : Cycle → (a : ℕ) → Shared → InHand → Scanning → ScanStage → Type 0
 StageFacts z a s rest m LoadPage = Hands a s (in_hand rest m.held (Some (object_of m.reference)))
 StageFacts z a s rest m LoadBitmap = IsAt s (object_of m.reference) m.slot m.at × Hands a s (in_hand rest m.held (Some (object_of m.reference)))
-StageFacts z a s rest m LoadField = IsAt s (object_of m.reference) m.slot m.at × IsField s (object_of m.reference) m.bits m.at × Hands a s (in_hand rest m.held (Some (object_of m.reference)))
+StageFacts z a s rest m LoadField = IsAt s (object_of m.reference) m.slot m.at × IsAtPointerField s (object_of m.reference) m.bits m.at × Hands a s (in_hand rest m.held (Some (object_of m.reference)))
 StageFacts z a s rest m (Shading sh) = Shades s (object_of m.reference) m.slot m.at m.bits sh.reference × shade_facts.Facts z a s (besides rest (object_of m.reference)) sh
 StageFacts z a s rest m (FindRoom sh r) =
     Shades s (object_of m.reference) m.slot m.at m.bits sh.reference × (1 ≤ sh.reference) × IsMarked (mark_words s.words) (shade.object_of sh.reference)

@@ -38,12 +38,12 @@ abbrev pub object_of : (reference : ℕ) → ℕ
 object_of reference = reference - 1
 
 -- the bit of heap word x in this bitmap word: the word is a pointer field
-abbrev pub is_pointer : (bits x : ℕ) → Bool
-is_pointer bits x = bit_at bits (x % 64) == 1
+abbrev pub bit_says_pointer : (bits x : ℕ) → Bool
+bit_says_pointer bits x = bit_at bits (x % 64) == 1
 
 -- something is loaded for heap word x: a new bitmap word, or the field
 abbrev pub is_loaded : (bits x : ℕ) → Bool
-is_loaded bits x = (x % 64 == 0) || is_pointer bits x
+is_loaded bits x = (x % 64 == 0) || bit_says_pointer bits x
 
 -- the first such among so many heap words from x on
 abbrev pub next_in : (bits words x : ℕ) → Option ℕ
@@ -92,11 +92,11 @@ behind s = at_next s (next_from s.bits (end s) (s.at + 1))
 
 -- the bitmap word of the word that it is at is this
 abbrev pub with_bits : Scanning → (found : ℕ) → Scanning
-with_bits s found = if is_pointer found s.at then record s { bits = found; stage = LoadField } else behind (record s { bits = found })
+with_bits s found = if bit_says_pointer found s.at then record s { bits = found; stage = LoadField } else behind (record s { bits = found })
 
 -- the field holds this
-abbrev pub with_field : Scanning → (found : ℕ) → Scanning
-with_field s found = if found == 0 then behind s else at_stage s (Shading (shade.opening s.layout (reference_in s.layout found) s.held))
+abbrev pub with_found_field : Scanning → (found : ℕ) → Scanning
+with_found_field s found = if found == 0 then behind s else at_stage s (Shading (shade.opening s.layout (reference_in s.layout found) s.held))
 
 -- after a step of shading, by what that gave
 abbrev pub after_shade : Scanning → shade.Shading → Option Shaded → Scanning
@@ -112,7 +112,7 @@ after_room s sh r (Some h) = at_stage s (Shading (shade.told_room sh h))
 abbrev pub goes_at : Scanning → ScanStage → ℕ → Scanning
 goes_at s LoadPage found = record s { slot = slot_in (page_of found); at = object_of s.reference; stage = LoadBitmap }
 goes_at s LoadBitmap found = with_bits s found
-goes_at s LoadField found = with_field s found
+goes_at s LoadField found = with_found_field s found
 goes_at s (Shading sh) found = after_shade s (shade.goes sh found) (shade.gives sh found)
 goes_at s (FindRoom sh r) found = after_room s sh (room.goes r found) (room.gives r found)
 goes_at s (Ended words) found = at_stage s (Ended words)

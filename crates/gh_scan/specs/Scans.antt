@@ -12,7 +12,7 @@ use Rattle.gh_base.specs.Rows.{bitmap_words, field_words, pointer_bit, Row}
 use Rattle.gh_base.specs.Steps.{cell_of}
 use Rattle.gh_scan.specs.declared.scan.ScanStage.{ScanStage}
 use Rattle.gh_scan.specs.declared.scan.ScanStage.TheVariants.{LoadBitmap, LoadField, Shading, FindRoom}
-use Rattle.gh_scan.specs.Listing.{asks, goes, is_loaded, is_pointer, listing, object_of, opening, reference_in, Scanning}
+use Rattle.gh_scan.specs.Listing.{asks, bit_says_pointer, goes, is_loaded, listing, object_of, opening, reference_in, Scanning}
 use Rattle.gh_shade.specs.declared.shade.Shaded.TheVariants.{Done, WantsRoom}
 use Rattle.gh_shade.specs.Listing as shade
 use Rattle.gh_wbuf.specs.RoomFinding as room
@@ -27,7 +27,7 @@ module _ (bits fields : Row) (l : Layout) where
 
   -- that of heap word x, if its bit is set and it is not nil
   abbrev pub references_at : (x : ℕ) → List ℕ
-  references_at x = if is_pointer (bits_of x) x then (if field_of x == 0 then [] else reference_in l (field_of x) ∷ []) else []
+  references_at x = if bit_says_pointer (bits_of x) x then (if field_of x == 0 then [] else reference_in l (field_of x) ∷ []) else []
 
   -- those of so many heap words from x on, in ascending order of the words
   abbrev pub references_in : (words x : ℕ) → List ℕ
@@ -69,11 +69,11 @@ StepsAt s (FindRoom sh r) = StepsOfRoom s sh r
 StepsAt s _ = LoadsOne s
 
 -- with a step at this stage that found v it is done with heap word x: it is no pointer field, it is nil, or what it refers to is shaded
-abbrev pub IsDone : ScanStage → (x v : ℕ) → Type 0
-IsDone LoadBitmap x v = is_pointer v x ≡ false
-IsDone LoadField x v = v ≡ 0
-IsDone (Shading sh) x v = shade.gives sh v ≡ Some Done
-IsDone _ x v = ⊥
+abbrev pub IsDoneWithWord : ScanStage → (x v : ℕ) → Type 0
+IsDoneWithWord LoadBitmap x v = bit_says_pointer v x ≡ false
+IsDoneWithWord LoadField x v = v ≡ 0
+IsDoneWithWord (Shading sh) x v = shade.gives sh v ≡ Some Done
+IsDoneWithWord _ x v = ⊥
 
 module _ (l : Layout) (seat reference : ℕ) (held : Option Held) (found : ℕ → ℕ) where
   abbrev pub from : Scanning
@@ -134,7 +134,7 @@ module _ (l : Layout) (seat reference : ℕ) (held : Option Held) (found : ℕ �
 
   -- with step n it is done with the heap word that it is at
   abbrev pub DoneWith : (n : ℕ) → Type 0
-  DoneWith n = IsDone (after n).stage (after n).at (found n)
+  DoneWith n = IsDoneWithWord (after n).stage (after n).at (found n)
 
   -- nothing is left to be loaded behind that word: each later word of the slot has the same bitmap word, and is no pointer field by it
   abbrev pub NoneLeft : (n : ℕ) → Type 0

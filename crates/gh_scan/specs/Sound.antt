@@ -17,14 +17,14 @@ pub record Runs (l own : Layout) (is_busy : Bool) : Type 0 where
   pub busy : is_busy ≡ true
 
 -- the shading waits for the room that is looked for
-pub record Waits (l : Layout) (sh : shade.Shading) (r : room.RoomFinding) : Type 0 where
+pub record ShadingWaits (l : Layout) (sh : shade.Shading) (r : room.RoomFinding) : Type 0 where
   pub shade_in : sh.layout ≡ l
   pub waits : sh.stage ≡ WaitForRoom
   pub runs : Runs l r.layout (room.is_busy r.stage)
 
 abbrev pub FitsStage : Layout → ScanStage → Type 0
 FitsStage l (Shading sh) = Runs l sh.layout (shade.is_busy sh.stage)
-FitsStage l (FindRoom sh r) = Waits l sh r
+FitsStage l (FindRoom sh r) = ShadingWaits l sh r
 FitsStage l _ = Unit {0}
 
 pub record FitsScan (s : Scanning) : Type 0 where

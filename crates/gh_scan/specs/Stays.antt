@@ -3,7 +3,7 @@ use Rattle.std.specs.Prelude.{◌≡◌, ℕ, Bool, true, false, cond, ◌==◌,
 use Rattle.gh_base.specs.declared.held.Held.{Held}
 use Rattle.gh_scan.specs.declared.scan.ScanStage.{ScanStage}
 use Rattle.gh_scan.specs.declared.scan.ScanStage.TheVariants.{LoadBitmap, LoadField, Shading, FindRoom}
-use Rattle.gh_scan.specs.Listing.{after_room, after_shade, at_next, behind, end, goes, goes_at, is_pointer, next_from, Scanning}
+use Rattle.gh_scan.specs.Listing.{after_room, after_shade, at_next, behind, bit_says_pointer, end, goes, goes_at, next_from, Scanning}
 use Rattle.gh_shade.specs.declared.shade.Shaded.{Shaded}
 use Rattle.gh_shade.specs.declared.shade.Shaded.TheVariants.{Done, WantsRoom}
 use Rattle.gh_shade.specs.Listing as shade
@@ -30,7 +30,7 @@ room_stays s sh r None = refl
 room_stays s sh r (Some own) = refl
 
 stays_at : (s : Scanning) (stage : ScanStage) (found : ℕ) → (goes_at s stage found).layout ≡ s.layout
-stays_at s LoadBitmap found = either_stays s _ _ (is_pointer found s.at) refl (behind_stays (record s { bits = found }))
+stays_at s LoadBitmap found = either_stays s _ _ (bit_says_pointer found s.at) refl (behind_stays (record s { bits = found }))
 stays_at s LoadField found = either_stays s _ _ (found == 0) (behind_stays s) refl
 stays_at s (Shading sh) found = shade_stays s (shade.goes sh found) (shade.gives sh found)
 stays_at s (FindRoom sh r) found = room_stays s sh (room.goes r found) (room.gives r found)

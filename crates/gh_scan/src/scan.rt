@@ -5,8 +5,8 @@ ghost use Rattle.gh_base.specs.Cells.{InRange, seats_of};
 ghost use Rattle.gh_base.specs.Holding.{IsHeld};
 ghost use Rattle.gh_base.specs.Packing.{page_of, slot_in};
 ghost use Rattle.gh_base.specs.Steps.{cell_of};
-ghost use Rattle.gh_scan.specs.Listing.{at_next, behind, given, goes_at, held_at, is_busy, is_loaded, is_pointer, loads_at, next_from, object_of, opening, reference_in, with_bits, with_field};
-ghost use Rattle.gh_scan.specs.Sound.{Runs, Waits};
+ghost use Rattle.gh_scan.specs.Listing.{at_next, behind, bit_says_pointer, given, goes_at, held_at, is_busy, is_loaded, loads_at, next_from, object_of, opening, reference_in, with_bits, with_found_field};
+ghost use Rattle.gh_scan.specs.Sound.{Runs, ShadingWaits};
 ghost use Rattle.gh_shade.specs.Listing as shades;
 ghost use Rattle.gh_shade.specs.Sound.{IsReference};
 
@@ -75,7 +75,7 @@ fn slot_words(found: u64) -> u32
 
 /// By this bitmap word heap word `x` is a pointer field.
 fn is_pointer(bits: u64, x: u32) -> bool
-    ensures { result ≡ is_pointer bits x }
+    ensures { result ≡ bit_says_pointer bits x }
 {
     (bits >> (x % 64)) & 1 == 1
 }
@@ -177,7 +177,7 @@ impl Scan {
 
     /// Goes on by what the field holds: nil, or a reference.
     fn read_field(&mut self, found: u64)
-        ensures { self.new ≡ with_field self.old found }
+        ensures { self.new ≡ with_found_field self.old found }
     {
         if found == 0 {
             self.go_on();
@@ -209,7 +209,7 @@ impl Scan {
 
     /// Takes a step of this search for room, which that shading waits for.
     fn find_room(&mut self, shade: Shade, room: FindRoom, found: u64)
-        requires { Waits self.old.layout shade room }
+        requires { ShadingWaits self.old.layout shade room }
         ensures { self.new ≡ goes_at self.old (ScanStage.FindRoom shade room) found }
     {
         let (mut shade, mut room) = (shade, room);

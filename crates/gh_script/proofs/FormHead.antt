@@ -1,7 +1,7 @@
 -- A line of a script where no goroutine is open: one of the head, or one that begins a goroutine.
 use Rattle.std.proofs.Common.{◌≡◌, ℕ, suc, ◌+◌, ◌<◌, ◌≤◌, Bool, true, false, cond, ltb, leb, ◌||◌, List, [], ◌∷◌, ◌++◌, length, map, Option, Some, None, refl, sym, ap, ◌∙◌, subst, append_assoc, arith, inl, inr, get_or, All, is_some, is_none, ◌≢◌, AllPairs, leb-false, lt-ltb, append-nil}
 use Rattle.gh_script.specs.declared.key.Key.TheVariants as keys
-use Rattle.gh_script.proofs.Vocabulary.{All-nil, All-push, all_pairs_push, AreApart, Arena, begun, blank_draft, bytes_eq, bytes_eq-Decides, cases_lt, cause_at, continued, Draft, fails_before_first, fields_of, flat_map, Given, given_at, given_by_key, Globals, Gogc, Goroutine, goroutine_by, goroutines_begun, is_type_key, IsHead, IsHeadKey, IsRoutine, IsTaken, Key, key_of, length_push, map_push, Minheap, names_by, Nothing, nothing_given, number_in, Open, option_to_list, position_or_len, Procs, Routine, routine_lines, Sentence, Setting, settings_by, shape_with, type_of, types_in, with_given, Workers}
+use Rattle.gh_script.proofs.Vocabulary.{All-nil, All-push, all_pairs_push, AreApart, Arena, blank_draft, bytes_eq, bytes_eq-Decides, cases_lt, cause_at, continued, Draft, fails_before_first, fields_of, flat_map, Given, given_at, given_by_key, Globals, Gogc, Goroutine, goroutine_by, goroutines_begun, is_type_key, IsHead, IsHeadKey, IsRoutine, IsTaken, just_begun, Key, key_of, length_push, map_push, Minheap, names_by, Nothing, nothing_given, number_in, Open, option_to_list, position_or_len, Procs, Routine, routine_lines, Sentence, Setting, settings_by, shape_with, type_of, types_in, with_given, Workers}
 use Rattle.gh_script.proofs.Allowed.{allowed, left_false, type_few}
 use Rattle.gh_script.proofs.FormSaid.{alone_go, alone_set, alone_type, Between, fold_push, IsSeen, Running, some_key, Story, taken_by, Told, types_push, types_push_other}
 
@@ -140,7 +140,7 @@ between_go said draft line h c e = record {
   frames = [];
   block = Nothing;
   lines = ap (λ (l : List Sentence). l ++ line ∷ []) h.lines ∙ append_assoc h.head (flat_map routine_lines h.routines) (line ∷ []);
-  told = told_same draft (record draft { current = Some (begun line.second) }) h.head h.told refl refl refl;
+  told = told_same draft (record draft { current = Some (just_begun line.second) }) h.head h.told refl refl refl;
   right = h.right;
   begins = (e, alone_go draft line c);
   outer = tt;

@@ -1,7 +1,7 @@
 -- A line of a script where a goroutine is open, and where it has too many statements.
 use Rattle.std.proofs.Common.{◌≡◌, ℕ, suc, ◌+◌, ◌<◌, true, false, eqb, leb, ◌&&◌, ◌||◌, List, [], ◌∷◌, ◌++◌, length, Option, Some, None, refl, sym, ap, ◌∙◌, subst, append_assoc, arith, inl, inr, ◌⊎◌, unwrap_or, is_some, is_none, leb-false, append-nil}
 use Rattle.gh_script.specs.declared.key.Key.TheVariants as keys
-use Rattle.gh_script.proofs.Vocabulary.{All-push, are_too_many, Block, cases_lt, cause_at, continued, Draft, ended, flat_map, flat_map_more, Goroutine, goroutine_by, goroutines_begun, inside, is_too_long, IsBlock, IsRoutine, kept, Key, key_of, lines_in, map_push, names_by, Nothing, number_in, Open, option_and_then, option_map, option_to_list, Repeat, repeat, Repeated, repeats_open, routine_lines, Say, Sentence, settings_by, statement_by_key, statement_of, statements_by, Stmt, with_closed, with_repeat, with_statement, written_out}
+use Rattle.gh_script.proofs.Vocabulary.{All-push, are_too_many, Block, block_ended, cases_lt, cause_at, continued, Draft, flat_map, flat_map_more, Goroutine, goroutine_by, goroutines_begun, inside, is_too_long, IsBlock, IsRoutine, kept, Key, key_of, lines_in, map_push, names_by, Nothing, number_in, Open, option_and_then, option_map, option_to_list, Repeat, repeat, Repeated, repeats_open, routine_lines, Say, Sentence, settings_by, statement_by_key, statement_of, statements_by, Stmt, with_closed, with_repeat, with_statement, written_out}
 use Rattle.gh_script.proofs.Allowed.{allowed, right_false}
 use Rattle.gh_script.proofs.Written.{kept_none, kept_some, written_behind, ended_repeat}
 use Rattle.gh_script.proofs.FormSaid.{AreFrames, Frame, inside_end, inside_none, inside_repeat, inside_told, lines_within, Lost, open_by, repeats_by, Running, statements_within, Story, taken_by}
@@ -104,7 +104,7 @@ running_repeat said draft line h c e = record {
 
 -- `end` closes the innermost `repeat`
 running_close : (said : List Sentence) (draft : Draft) (line : Sentence) (h : Running said draft) (f : Frame) (fs : List Frame) → h.frames ≡ f ∷ fs → cause_at draft keys.End line ≡ None → key_of line.first ≡ Some keys.End
-    → Story (said ++ line ∷ []) (ended draft (Some (open_by (names_by h.head) h.go (f ∷ fs) h.block)))
+    → Story (said ++ line ∷ []) (block_ended draft (Some (open_by (names_by h.head) h.go (f ∷ fs) h.block)))
 running_close said draft line h f fs e c k =
     let outer : AreFrames (settings_by h.head) (names_by h.head) (f ∷ fs) = subst (AreFrames (settings_by h.head) (names_by h.head)) e h.outer in
     let inner : IsBlock (settings_by h.head) (names_by h.head) (length fs + 1) h.block =
@@ -123,7 +123,7 @@ running_close said draft line h f fs e c k =
 
 -- `end` closes the goroutine
 running_over : (said : List Sentence) (draft : Draft) (line : Sentence) (h : Running said draft) → h.frames ≡ [] → cause_at draft keys.End line ≡ None → key_of line.first ≡ Some keys.End
-    → Story (said ++ line ∷ []) (ended draft (Some (open_by (names_by h.head) h.go [] h.block)))
+    → Story (said ++ line ∷ []) (block_ended draft (Some (open_by (names_by h.head) h.go [] h.block)))
 running_over said draft line h e c k =
     let inner : IsBlock (settings_by h.head) (names_by h.head) 0 h.block = subst (λ (n : ℕ). IsBlock (settings_by h.head) (names_by h.head) n h.block) (ap length e) h.inner in
     let right : IsRoutine (settings_by h.head) (names_by h.head) (record { go = h.go; block = h.block; last = line }) =
@@ -134,7 +134,7 @@ running_over said draft line h e c k =
       lines = routine_more h.head (flat_map routine_lines h.routines) (lines_within h.frames h.block) (line ∷ []) h.go said h.lines
           ∙ ap (λ (l : List Frame). h.head ++ (flat_map routine_lines h.routines ++ h.go ∷ (lines_within l h.block ++ line ∷ []))) e
           ∙ ap (λ (l : List Sentence). h.head ++ l) (flat_map_more routine_lines [] h.routines (record { go = h.go; block = h.block; last = line }));
-      told = told_same draft (ended draft (Some (open_by (names_by h.head) h.go [] h.block))) h.head h.told refl refl refl;
+      told = told_same draft (block_ended draft (Some (open_by (names_by h.head) h.go [] h.block))) h.head h.told refl refl refl;
       right = All-push (IsRoutine (settings_by h.head) (names_by h.head)) h.routines (record { go = h.go; block = h.block; last = line }) h.right right;
       closed = ap (λ (l : List Goroutine). l ++ goroutine_by (names_by h.head) (record { go = h.go; block = h.block; last = line }) ∷ []) h.closed
           ∙ sym (map_push (goroutine_by (names_by h.head)) h.routines (record { go = h.go; block = h.block; last = line }));
@@ -142,7 +142,7 @@ running_over said draft line h e c k =
     })
 
 running_end : (said : List Sentence) (draft : Draft) (line : Sentence) (h : Running said draft) (frames : List Frame) → h.frames ≡ frames → cause_at draft keys.End line ≡ None → key_of line.first ≡ Some keys.End
-    → Story (said ++ line ∷ []) (ended draft (Some (open_by (names_by h.head) h.go frames h.block)))
+    → Story (said ++ line ∷ []) (block_ended draft (Some (open_by (names_by h.head) h.go frames h.block)))
 running_end said draft line h [] e c k = running_over said draft line h e c k
 running_end said draft line h (f ∷ fs) e c k = running_close said draft line h f fs e c k
 
@@ -152,7 +152,7 @@ running_step said draft (keys.Setting x) line h c e = absurd (one_begun draft _ 
 running_step said draft keys.Type line h c e = absurd (one_begun draft _ h.current (allowed draft keys.Type line c).nesting)
 running_step said draft keys.Go line h c e = absurd (one_open draft.current _ h.current (allowed draft keys.Go line c).nesting)
 running_step said draft keys.Repeat line h c e = inr (inl (running_repeat said draft line h c e))
-running_step said draft keys.End line h c e = subst (Story (said ++ line ∷ [])) (sym (ap (ended draft) h.current)) (running_end said draft line h h.frames refl c e)
+running_step said draft keys.End line h c e = subst (Story (said ++ line ∷ [])) (sym (ap (block_ended draft) h.current)) (running_end said draft line h h.frames refl c e)
 running_step said draft keys.New line h c e = running_say said draft keys.New line _ h (let a = allowed draft keys.New line c in inside_none draft keys.New line a a.limit a.twice a.unknown refl) e refl
 running_step said draft keys.Load line h c e = running_say said draft keys.Load line _ h (let a = allowed draft keys.Load line c in inside_none draft keys.Load line a a.limit a.twice a.unknown refl) e refl
 running_step said draft keys.Store line h c e = running_say said draft keys.Store line _ h (let a = allowed draft keys.Store line c in inside_none draft keys.Store line a a.limit a.twice a.unknown refl) e refl
@@ -170,11 +170,11 @@ lost_none closed o g e none f h =
     let long : is_too_long closed o ≡ true = ap (is_too_long closed) e ∙ ap (λ (l : List Repeat). eqb (length l) 0 && are_too_many closed g.statements) f ∙ ap (are_too_many closed) none in
     cc
 
-lost_end : (draft : Draft) (g : Open) (repeats : List Repeat) → draft.current ≡ Some g → g.statements ≡ None → g.repeats ≡ repeats → is_too_long draft.closed draft.current ≡ false → Lost (ended draft draft.current)
+lost_end : (draft : Draft) (g : Open) (repeats : List Repeat) → draft.current ≡ Some g → g.statements ≡ None → g.repeats ≡ repeats → is_too_long draft.closed draft.current ≡ false → Lost (block_ended draft draft.current)
 lost_end draft g [] e none f h = absurd (lost_none draft.closed draft.current g e none f h)
 lost_end draft g (innermost ∷ others) e none f h = record {
   g = with_closed g (innermost ∷ others);
-  current = ap (λ (o : Option Open). (ended draft o).current) e ∙ ap (λ (d : Draft). d.current) (ended_repeat draft g innermost others f);
+  current = ap (λ (o : Option Open). (block_ended draft o).current) e ∙ ap (λ (d : Draft). d.current) (ended_repeat draft g innermost others f);
   none = ap (option_and_then (written_out innermost)) none;
 }
 

@@ -1,7 +1,7 @@
 -- A text that spells a program spells a well-formed one; each text has one reading.
 use Rattle.std.proofs.Common.{◌≡◌, ℕ, ◌+◌, ◌*◌, ◌<◌, ◌≤◌, Bool, true, false, cond, eqb, ltb, not, List, [], ◌∷◌, length, take, Option, Some, None, Result, Ok, Err, refl, sym, ap, subst, arith, inl, inr, ◌⊎◌, unwrap_or, All, is_some, IfOk, lt-ltb, take_all, length-take-le}
 use Rattle.gh_script.specs.declared.fault.ParseError.{ParseError}
-use Rattle.gh_script.specs.Outcome.{Ends}
+use Rattle.gh_script.specs.Outcome.{EndsAsRead}
 use Rattle.gh_script.proofs.Vocabulary.{All-nil, Arena, AreOpenStatements, AreStatements, AreWithin, blank_draft, cases_lt, Draft, eqb-false, FitsShape, Given, given_at, Globals, globals_in, go_on, Gogc, is_utf8, IsNamed, IsNewName, IsOpenNamed, IsPacked, IsSound, least, line_fault, lines_of, Minheap, Missing, most, most_bytes, Nesting, nothing_given, Procs, Program, program_in, read_end, read_line, read_lines, reading_of, Refused, ScriptFault, sentence_of, Setting, Settings, settings_in, Size, Spells, then_end, Utf8, WellFormed, Why, words_of, Workers}
 use Rattle.gh_script.proofs.ShapeLaws.{All-ShapesFit}
 use Rattle.gh_script.proofs.Sound.{IsSound-read_line}
@@ -101,7 +101,7 @@ unfolding reading_of
 WellFormed-Spells text p h =
     text_formed (ltb most_bytes (length text)) (not (is_utf8 text)) (length (lines_of text)) (read_lines blank_draft 0 (lines_of text)) p (λ draft e. IsSound-read_lines blank_draft draft 0 (lines_of text) IsSound-blank e) h
 
-pub Ends-formed : (text : List ℕ) (r : Result Program ParseError) → Ends r (reading_of text) → IfOk r WellFormed
+pub Ends-formed : (text : List ℕ) (r : Result Program ParseError) → EndsAsRead r (reading_of text) → IfOk r WellFormed
 Ends-formed text (Ok p) h = WellFormed-Spells text p h
 Ends-formed text (Err e) h = tt
 

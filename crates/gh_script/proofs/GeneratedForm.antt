@@ -23,9 +23,9 @@ use Rattle.gh_script.specs.Form.{AreApart, Block, goroutine_by, HasForm, inside,
 use Rattle.gh_script.specs.Generated.{generated_goroutine, generated_name, generated_program, generated_text, GeneratedGoroutinesKeepApart, GeneratedScriptsHaveTheirSize, goroutine_lines, HasItsSize, head_lines, KeepsTo, node_shape, spaced, state_behind, statement_by, statement_words, statements_drawn, word_drawn}
 use Rattle.gh_script.specs.Grammar.{cause_at}
 use Rattle.gh_script.specs.Program.{AreNamedApart, Goroutine, no_goroutine, Program, statements_in, statements_of}
-use Rattle.gh_script.specs.ShapeText.{are_counts, are_letters, count_of, fields_of, fits_behind, fits_limits, items_of, packed, shape_with, spread, word_of}
+use Rattle.gh_script.specs.ShapeText.{are_counts, are_letters, bits_as_number, fields_behind_letter, fields_of, fits_behind, fits_limits, items_of, packed, shape_with, spread}
 use Rattle.gh_script.specs.Text.{Sentence, sentence_of, lines_of}
-use Rattle.gh_script.specs.Words.{block_key_of, digits_value_of, is_name, key_of, number_of, setting_of, statement_key_of, value_from}
+use Rattle.gh_script.specs.Words.{block_key_of, digits_value_of, is_name, key_of, number_spelled, setting_named, statement_key_of, value_from}
 use Rattle.gh_script.proofs.FormSaid.{cause_none, taken_by}
 use Rattle.gh_script.proofs.GeneratedWords.{given, IsSaid, IsSaid-statement_by, KeepsTo-statement_by, name_line, names, one_digit}
 use Rattle.gh_script.proofs.Spelled.{both_true, is_line, is_utf8-text_of, left_true, length-text_of-le, right_true, sayings-text_of}
@@ -40,11 +40,11 @@ unfolding spaced
 head_fits = refl
 
 head_given : settings_by head ≡ given
-unfolding key_of setting_of block_key_of statement_key_of number_of digits_value_of value_from
+unfolding key_of setting_named block_key_of statement_key_of number_spelled digits_value_of value_from
 head_given = refl
 
 head_names : names_by head ≡ names
-unfolding key_of setting_of block_key_of statement_key_of
+unfolding key_of setting_named block_key_of statement_key_of
 head_names = refl
 
 -- a number for each setting, and another for all else
@@ -66,7 +66,7 @@ all_apart [] = true
 all_apart (line ∷ lines) = list_all (are_apart line) lines && all_apart lines
 
 head_apart : all_apart head ≡ true
-unfolding key_of setting_of block_key_of statement_key_of
+unfolding key_of setting_named block_key_of statement_key_of
 head_apart = refl
 
 AreApart-are_apart : (one other : Sentence) → are_apart one other ≡ true → AreApart one other
@@ -96,11 +96,11 @@ All-Each P [] h = All-nil P
 All-Each P (x ∷ xs) h = All-cons P x xs h.0 (All-Each P xs h.1)
 
 head_heads : All IsHead head
-unfolding key_of setting_of block_key_of statement_key_of
+unfolding key_of setting_named block_key_of statement_key_of
 head_heads = All-Each IsHead head (tt, (tt, (tt, (tt, (tt, (tt, (tt, tt)))))))
 
 head_taken : All (IsTaken blank_draft) head
-unfolding key_of setting_of block_key_of statement_key_of number_of digits_value_of value_from cause_at type_of is_name are_letters are_counts fits_limits fits_behind items_of count_of
+unfolding key_of setting_named block_key_of statement_key_of number_spelled digits_value_of value_from cause_at type_of is_name are_letters are_counts fits_limits fits_behind items_of fields_behind_letter
 head_taken =
     All-Each (IsTaken blank_draft) head (
       taken_by blank_draft (sentence_of (codes "procs" ∷ codes "4" ∷ [])) (keys.Setting Procs) refl refl,
@@ -123,7 +123,7 @@ head_taken =
     )
 
 head_shapes : node_shape ∷ [] ≡ shapes_by head
-unfolding key_of setting_of block_key_of statement_key_of shape_with fields_of spread items_of count_of packed word_of
+unfolding key_of setting_named block_key_of statement_key_of shape_with fields_of spread items_of fields_behind_letter packed bits_as_number
 head_shapes = refl
 
 -- ---- goroutines
@@ -192,7 +192,7 @@ unfolding has_goroutine
 no_goroutine_yet word = refl
 
 IsRoutine-routine_of : (g : Goroutine) → IsRight g → IsRoutine given names (routine_of g)
-unfolding key_of setting_of block_key_of statement_key_of
+unfolding key_of setting_named block_key_of statement_key_of
 IsRoutine-routine_of g h =
     let named = h.named in
     record {

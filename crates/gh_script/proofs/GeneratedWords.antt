@@ -12,7 +12,7 @@ use Rattle.gh_script.specs.declared.statement.Stmt.TheVariants.{New, Load, Store
 use Rattle.gh_script.specs.Form.{inside, IsTaken, statement_by_key}
 use Rattle.gh_script.specs.Generated.{generated_name, KeepsTo, register_word, statement_by, statement_words}
 use Rattle.gh_script.specs.Text.{sentence_of}
-use Rattle.gh_script.specs.Words.{register_of, number_of, digits_value_of, value_from, is_name, key_of, setting_of, block_key_of, statement_key_of}
+use Rattle.gh_script.specs.Words.{register_named, number_spelled, digits_value_of, value_from, is_name, key_of, setting_named, block_key_of, statement_key_of}
 use Rattle.gh_script.specs.Draft.{type_of}
 use Rattle.gh_script.proofs.FormSaid.{cause_none, taken_by}
 use Rattle.gh_script.proofs.Spelled.{is_plain, is_line, both_true, line_made}
@@ -21,8 +21,8 @@ use Rattle.gh_script.proofs.Spelled.{is_plain, is_line, both_true, line_made}
 
 -- the words for a number of one digit: a register, the number and a goroutine's name
 pub record OneDigit (n : ℕ) (digit : List ℕ) : Type 0 where
-  pub register : register_of (codes "r" ++ digit) ≡ Some n
-  pub number : number_of digit ≡ Some n
+  pub register : register_named (codes "r" ++ digit) ≡ Some n
+  pub number : number_spelled digit ≡ Some n
   pub register_plain : is_plain (codes "r" ++ digit) ≡ true
   pub number_plain : is_plain digit ≡ true
   pub register_long : length (codes "r" ++ digit) ≡ 2
@@ -31,7 +31,7 @@ pub record OneDigit (n : ℕ) (digit : List ℕ) : Type 0 where
   pub name_plain : list_all is_plain (codes "go" ∷ (codes "g" ++ digit) ∷ []) ≡ true
 
 digit_spelt : (n : ℕ) → n < 4 → OneDigit n ((48 + n) ∷ [])
-unfolding register_of number_of digits_value_of value_from is_name
+unfolding register_named number_spelled digits_value_of value_from is_name
 digit_spelt zero h = record { register = refl; number = refl; register_plain = refl; number_plain = refl; register_long = refl; number_long = refl; name = refl; name_plain = refl }
 digit_spelt (suc zero) h = record { register = refl; number = refl; register_plain = refl; number_plain = refl; register_long = refl; number_long = refl; name = refl; name_plain = refl }
 digit_spelt (suc (suc zero)) h = record { register = refl; number = refl; register_plain = refl; number_plain = refl; register_long = refl; number_long = refl; name = refl; name_plain = refl }
@@ -71,8 +71,8 @@ pub record Says (line : List (List ℕ)) (statement : Stmt) : Type 0 where
   pub said : statement_by_key names (sentence_of line) (key_of (sentence_of line).first) ≡ Some statement
   pub taken : IsTaken (inside given names) (sentence_of line)
 
-pub new_says : (d : ℕ) (rd : List ℕ) → register_of rd ≡ Some d → is_plain rd ≡ true → length rd ≡ 2 → Says (codes "new" ∷ rd ∷ codes "node" ∷ []) (New d 0)
-unfolding key_of setting_of block_key_of statement_key_of type_of is_name
+pub new_says : (d : ℕ) (rd : List ℕ) → register_named rd ≡ Some d → is_plain rd ≡ true → length rd ≡ 2 → Says (codes "new" ∷ rd ∷ codes "node" ∷ []) (New d 0)
+unfolding key_of setting_named block_key_of statement_key_of type_of is_name
 new_says d rd e p l = record {
   fits = line_made (codes "new") (rd ∷ codes "node" ∷ []) (three_plain (codes "new") rd (codes "node") refl p refl) (omega arith);
   said = rw e refl;
@@ -80,9 +80,9 @@ new_says d rd e p l = record {
       (cause_none (inside given names) keys.New (sentence_of (codes "new" ∷ rd ∷ codes "node" ∷ [])) (record { word = rw e refl; number = refl; limit = refl; twice = refl; unknown = refl; nesting = refl }));
 }
 
-pub store_says : (b k v : ℕ) (rb dk rv : List ℕ) → register_of rb ≡ Some b → number_of dk ≡ Some k → register_of rv ≡ Some v → is_plain rb ≡ true → is_plain dk ≡ true → is_plain rv ≡ true
+pub store_says : (b k v : ℕ) (rb dk rv : List ℕ) → register_named rb ≡ Some b → number_spelled dk ≡ Some k → register_named rv ≡ Some v → is_plain rb ≡ true → is_plain dk ≡ true → is_plain rv ≡ true
     → length rb ≡ 2 → length dk ≡ 1 → length rv ≡ 2 → k < 4 → Says (codes "store" ∷ rb ∷ dk ∷ rv ∷ []) (Store b k v)
-unfolding key_of setting_of block_key_of statement_key_of
+unfolding key_of setting_named block_key_of statement_key_of
 store_says b k v rb dk rv e f g p q r l m n few = record {
   fits = line_made (codes "store") (rb ∷ dk ∷ rv ∷ []) (four_plain (codes "store") rb dk rv refl p q r) (omega arith);
   said = rw (e, f, g) refl;
@@ -90,9 +90,9 @@ store_says b k v rb dk rv e f g p q r l m n few = record {
       (cause_none (inside given names) keys.Store (sentence_of (codes "store" ∷ rb ∷ dk ∷ rv ∷ [])) (record { word = rw (e, g) refl; number = rw f refl; limit = rw f (le-ltb 65535 k (omega arith)); twice = refl; unknown = refl; nesting = refl }));
 }
 
-pub load_says : (d b k : ℕ) (rd rb dk : List ℕ) → register_of rd ≡ Some d → register_of rb ≡ Some b → number_of dk ≡ Some k → is_plain rd ≡ true → is_plain rb ≡ true → is_plain dk ≡ true
+pub load_says : (d b k : ℕ) (rd rb dk : List ℕ) → register_named rd ≡ Some d → register_named rb ≡ Some b → number_spelled dk ≡ Some k → is_plain rd ≡ true → is_plain rb ≡ true → is_plain dk ≡ true
     → length rd ≡ 2 → length rb ≡ 2 → length dk ≡ 1 → k < 4 → Says (codes "load" ∷ rd ∷ rb ∷ dk ∷ []) (Load d b k)
-unfolding key_of setting_of block_key_of statement_key_of
+unfolding key_of setting_named block_key_of statement_key_of
 load_says d b k rd rb dk e f g p q r l m n few = record {
   fits = line_made (codes "load") (rd ∷ rb ∷ dk ∷ []) (four_plain (codes "load") rd rb dk refl p q r) (omega arith);
   said = rw (e, f, g) refl;
@@ -100,8 +100,8 @@ load_says d b k rd rb dk e f g p q r l m n few = record {
       (cause_none (inside given names) keys.Load (sentence_of (codes "load" ∷ rd ∷ rb ∷ dk ∷ [])) (record { word = rw (e, f) refl; number = rw g refl; limit = rw g (le-ltb 65535 k (omega arith)); twice = refl; unknown = refl; nesting = refl }));
 }
 
-pub set_says : (k v : ℕ) (dk rv : List ℕ) → number_of dk ≡ Some k → register_of rv ≡ Some v → is_plain dk ≡ true → is_plain rv ≡ true → length dk ≡ 1 → length rv ≡ 2 → k < 4 → Says (codes "gstore" ∷ dk ∷ rv ∷ []) (SetGlobal k v)
-unfolding key_of setting_of block_key_of statement_key_of
+pub set_says : (k v : ℕ) (dk rv : List ℕ) → number_spelled dk ≡ Some k → register_named rv ≡ Some v → is_plain dk ≡ true → is_plain rv ≡ true → length dk ≡ 1 → length rv ≡ 2 → k < 4 → Says (codes "gstore" ∷ dk ∷ rv ∷ []) (SetGlobal k v)
+unfolding key_of setting_named block_key_of statement_key_of
 set_says k v dk rv e f p q l m few = record {
   fits = line_made (codes "gstore") (dk ∷ rv ∷ []) (three_plain (codes "gstore") dk rv refl p q) (omega arith);
   said = rw (e, f) refl;
@@ -109,8 +109,8 @@ set_says k v dk rv e f p q l m few = record {
       (cause_none (inside given names) keys.SetGlobal (sentence_of (codes "gstore" ∷ dk ∷ rv ∷ [])) (record { word = rw f refl; number = rw e refl; limit = rw e (lt-leb 4 k few); twice = refl; unknown = refl; nesting = refl }));
 }
 
-pub get_says : (d k : ℕ) (rd dk : List ℕ) → register_of rd ≡ Some d → number_of dk ≡ Some k → is_plain rd ≡ true → is_plain dk ≡ true → length rd ≡ 2 → length dk ≡ 1 → k < 4 → Says (codes "gload" ∷ rd ∷ dk ∷ []) (GetGlobal d k)
-unfolding key_of setting_of block_key_of statement_key_of
+pub get_says : (d k : ℕ) (rd dk : List ℕ) → register_named rd ≡ Some d → number_spelled dk ≡ Some k → is_plain rd ≡ true → is_plain dk ≡ true → length rd ≡ 2 → length dk ≡ 1 → k < 4 → Says (codes "gload" ∷ rd ∷ dk ∷ []) (GetGlobal d k)
+unfolding key_of setting_named block_key_of statement_key_of
 get_says d k rd dk e f p q l m few = record {
   fits = line_made (codes "gload") (rd ∷ dk ∷ []) (three_plain (codes "gload") rd dk refl p q) (omega arith);
   said = rw (e, f) refl;
@@ -118,8 +118,8 @@ get_says d k rd dk e f p q l m few = record {
       (cause_none (inside given names) keys.GetGlobal (sentence_of (codes "gload" ∷ rd ∷ dk ∷ [])) (record { word = rw e refl; number = rw f refl; limit = rw f (lt-leb 4 k few); twice = refl; unknown = refl; nesting = refl }));
 }
 
-pub move_says : (d s : ℕ) (rd rs : List ℕ) → register_of rd ≡ Some d → register_of rs ≡ Some s → is_plain rd ≡ true → is_plain rs ≡ true → length rd ≡ 2 → length rs ≡ 2 → Says (codes "move" ∷ rd ∷ rs ∷ []) (Move d s)
-unfolding key_of setting_of block_key_of statement_key_of
+pub move_says : (d s : ℕ) (rd rs : List ℕ) → register_named rd ≡ Some d → register_named rs ≡ Some s → is_plain rd ≡ true → is_plain rs ≡ true → length rd ≡ 2 → length rs ≡ 2 → Says (codes "move" ∷ rd ∷ rs ∷ []) (Move d s)
+unfolding key_of setting_named block_key_of statement_key_of
 move_says d s rd rs e f p q l m = record {
   fits = line_made (codes "move") (rd ∷ rs ∷ []) (three_plain (codes "move") rd rs refl p q) (omega arith);
   said = rw (e, f) refl;
@@ -127,8 +127,8 @@ move_says d s rd rs e f p q l m = record {
       (cause_none (inside given names) keys.Move (sentence_of (codes "move" ∷ rd ∷ rs ∷ [])) (record { word = rw (e, f) refl; number = refl; limit = refl; twice = refl; unknown = refl; nesting = refl }));
 }
 
-pub nil_says : (d : ℕ) (rd : List ℕ) → register_of rd ≡ Some d → is_plain rd ≡ true → length rd ≡ 2 → Says (codes "nil" ∷ rd ∷ []) (Nil d)
-unfolding key_of setting_of block_key_of statement_key_of
+pub nil_says : (d : ℕ) (rd : List ℕ) → register_named rd ≡ Some d → is_plain rd ≡ true → length rd ≡ 2 → Says (codes "nil" ∷ rd ∷ []) (Nil d)
+unfolding key_of setting_named block_key_of statement_key_of
 nil_says d rd e p l = record {
   fits = line_made (codes "nil") (rd ∷ []) (two_plain (codes "nil") rd refl p) (omega arith);
   said = rw e refl;

@@ -5,7 +5,7 @@ use Rattle.std.specs.List.{position_or_len, prefix_len, before_first, after_firs
 use Rattle.std.proofs.lemmas.List.Sums.{position_or_len_is, prefix_len_is, passes_at_first}
 use Rattle.std.proofs.lemmas.List.{drop_more, take_all, drop_all, nil_from_length, length-take, length-drop}
 use Rattle.std.proofs.lemmas.Bool.{cases_lt}
-use Rattle.gh_script.specs.Text.{with_front, with_word, pieces, is_blank, is_filled, words_of, word_at, sentence_of}
+use Rattle.gh_script.specs.Text.{with_front, word_in_front, pieces, is_blank, is_filled, words_of, word_at, sentence_of}
 
 -- a loop that ends without having met the test
 pub met_nowhere : (test : ℕ → Bool) (xs : List ℕ) (n : ℕ) → length xs ≤ n → ((k : ℕ) → k < n → test (get_or xs k 0) ≡ false) → length xs ≡ position_or_len test xs
@@ -97,7 +97,7 @@ word_alone line n at some all =
 pub words_of-word : (line : List ℕ) (n : ℕ) → n ≡ position_or_len is_blank line → 0 < n → n ≤ length line → words_of line ≡ take n line ∷ words_of (drop n line)
 words_of-word line n at some within = elim (cases_lt n (length line)) [ inl lt ↦ word_before line n at some lt | inr le ↦ word_alone line n at some (omega arith) ]
 
-with_word_filled : (word : List ℕ) (others : List (List ℕ)) → 0 < length word → with_word word others ≡ word ∷ others
+with_word_filled : (word : List ℕ) (others : List (List ℕ)) → 0 < length word → word_in_front word others ≡ word ∷ others
 with_word_filled [] others h = absurd (omega arith)
 with_word_filled (c ∷ cs) others h = refl
 
@@ -110,7 +110,7 @@ word_wide line rest start end at from ends any =
     rw ends past
 
 next_cases : (line rest : List ℕ) (start end : ℕ) → start ≡ prefix_len is_blank line → rest ≡ drop start line → end ≡ position_or_len is_blank rest → end ≤ length rest
-    → words_of line ≡ with_word (take end rest) (words_of (drop end rest))
+    → words_of line ≡ word_in_front (take end rest) (words_of (drop end rest))
 next_cases line [] start end at from ends within =
     let e : end ≡ 0 = omega arith in
     let same : words_of (drop start line) ≡ words_of line = rw at (words_of-skip line) in
@@ -123,7 +123,7 @@ next_cases line (c ∷ cs) start end at from ends within =
 
 -- the first word and what follows it
 pub words_of-next : (line rest : List ℕ) (start end : ℕ) (word others : List ℕ) → start ≡ prefix_len is_blank line → rest ≡ drop start line → end ≡ position_or_len is_blank rest → end ≤ length rest
-    → word ≡ take end rest → others ≡ drop end rest → words_of line ≡ with_word word (words_of others)
+    → word ≡ take end rest → others ≡ drop end rest → words_of line ≡ word_in_front word (words_of others)
 words_of-next line rest start end word others at from ends within one two = rw (one, two) (next_cases line rest start end at from ends within)
 
 pub empty_word : (line rest : List ℕ) (start end : ℕ) (word others : List ℕ) → start ≡ prefix_len is_blank line → rest ≡ drop start line → end ≡ position_or_len is_blank rest → end ≤ length rest
@@ -142,10 +142,10 @@ not_met_nowhere test xs n long holds = sym (prefix_len_is test xs (length xs) 0 
 
 -- a word, and the words after it
 pub record Goes (words : List (List ℕ)) (word : List ℕ) (others : List (List ℕ)) : Type 0 where
-  pub cut : words ≡ with_word word others
+  pub cut : words ≡ word_in_front word others
   pub none : length word ≡ 0 → others ≡ []
 
-pub goes : (words : List (List ℕ)) (word rest : List ℕ) → words ≡ with_word word (words_of rest) → (length word ≡ 0 → length rest ≡ 0) → Goes words word (words_of rest)
+pub goes : (words : List (List ℕ)) (word rest : List ℕ) → words ≡ word_in_front word (words_of rest) → (length word ≡ 0 → length rest ≡ 0) → Goes words word (words_of rest)
 goes words word rest cut none = record { cut = cut; none = λ h. ap words_of (nil_from_length rest (none h)) ∙ words_of-nil }
 
 goes_at : (words : List (List ℕ)) (word : List ℕ) (others : List (List ℕ)) → Goes words word others → (word ≡ word_at words 0) × ((k : ℕ) → word_at words (suc k) ≡ word_at others k)

@@ -13,7 +13,7 @@ use Rattle.gh_script.specs.Program.{Program}
 use Rattle.gh_script.specs.Text.{lines_of}
 use Rattle.gh_script.specs.Draft.{Draft, IsSound, blank_draft}
 use Rattle.gh_script.specs.Grammar.{read_lines, then_end, read_end, reading_of, line_fault}
-use Rattle.gh_script.specs.Outcome.{ReadsAll, Ends}
+use Rattle.gh_script.specs.Outcome.{ReadsAll, EndsAsRead}
 
 not_true : (b : Bool) → (b ≡ true → ⊥) → false ≡ b
 not_true true h = absurd (h refl)
@@ -35,13 +35,13 @@ unfolding reading_of
 reading_of-text text h e = rw (le-ltb 4194304 (length text) h, e) refl
 
 -- a line was refused
-pub Ends-refused : (e : ParseError) (new : Draft) (n : ℕ) (read : Result Draft ScriptFault) (whole : Result Program ScriptFault) → ReadsAll (Err e) new n read → whole ≡ then_end n read → Ends (Err e) whole
+pub Ends-refused : (e : ParseError) (new : Draft) (n : ℕ) (read : Result Draft ScriptFault) (whole : Result Program ScriptFault) → ReadsAll (Err e) new n read → whole ≡ then_end n read → EndsAsRead (Err e) whole
 Ends-refused errors.NoMemory new n read whole h e = tt
 Ends-refused (errors.Script f) new n read whole h e = e ∙ ap (then_end n) h
 
 -- all lines were read
 pub Ends-read : (result : Result Program ParseError) (new : Draft) (n count : ℕ) (read : Result Draft ScriptFault) (whole : Result Program ScriptFault) → ReadsAll (Ok count) new n read → whole ≡ then_end n read
-    → Ends result (read_end count new) → Ends result whole
+    → EndsAsRead result (read_end count new) → EndsAsRead result whole
 Ends-read result new n count read whole h e end =
     let same : whole ≡ read_end count new = e ∙ ap (then_end n) h.0 ∙ ap (λ (k : ℕ). read_end k new) (sym h.1) in
     rw same end

@@ -13,7 +13,7 @@ use Rattle.gh_class.specs.declared.class.TheConstants.{MOST_TYPE_WORDS}
 use Rattle.gh_base.specs.declared.shape.Shape.{Shape}
 use Rattle.gh_base.specs.Shapes.{is_pointer, no_shape, FitsShape, ShapesFit}
 use Rattle.gh_script.specs.Program.{IsPacked}
-use Rattle.gh_script.specs.ShapeText.{is_kind, Item, items_of, are_letters, fields_in, count_fits, total_in, fits_behind, fits_limits, fields_of, word_of, packed, shape_with}
+use Rattle.gh_script.specs.ShapeText.{is_kind, Item, items_of, are_letters, fields_in, count_fits, total_in, fits_behind, fits_limits, fields_of, bits_as_number, packed, shape_with}
 use Rattle.gh_script.proofs.Items.{length-fields_of, length-spread, items_of-first}
 use Rattle.gh_script.proofs.Names.{and_left}
 use Rattle.gh_script.proofs.Packing.{word_of-lt}
@@ -27,18 +27,18 @@ half true w = omega arith
 half false w = omega arith
 
 -- bit j of a word is field j
-word_of-bit : (bits : List Bool) (j : ℕ) → bit_at (word_of bits) j ≡ cond (get_or bits j false) 1 0
-unfolding word_of
+word_of-bit : (bits : List Bool) (j : ℕ) → bit_at (bits_as_number bits) j ≡ cond (get_or bits j false) 1 0
+unfolding bits_as_number
 word_of-bit [] j = bit_at-zero j
-word_of-bit (bit ∷ bits) zero = bit_at_lowest (word_of (bit ∷ bits)) ∙ lowest bit (word_of bits)
-word_of-bit (bit ∷ bits) (suc j) = bit_at-suc (word_of (bit ∷ bits)) j ∙ ap (λ (n : ℕ). bit_at n j) (half bit (word_of bits)) ∙ word_of-bit bits j
+word_of-bit (bit ∷ bits) zero = bit_at_lowest (bits_as_number (bit ∷ bits)) ∙ lowest bit (bits_as_number bits)
+word_of-bit (bit ∷ bits) (suc j) = bit_at-suc (bits_as_number (bit ∷ bits)) j ∙ ap (λ (n : ℕ). bit_at n j) (half bit (bits_as_number bits)) ∙ word_of-bit bits j
 
-packed_at : (fields : List Bool) (i : ℕ) → get_or (packed fields) i 0 ≡ word_of (take 64 (drop (64 * i) fields))
-unfolding packed word_of
+packed_at : (fields : List Bool) (i : ℕ) → get_or (packed fields) i 0 ≡ bits_as_number (take 64 (drop (64 * i) fields))
+unfolding packed bits_as_number
 packed_at fields i = elim (cases_lt i ((length fields + 63) / 64)) [
-  | inl lt ↦ get_or-map-range_with_len (λ k. word_of (take 64 (drop (64 * k) fields))) 0 ((length fields + 63) / 64) i i 0 lt (omega arith)
+  | inl lt ↦ get_or-map-range_with_len (λ k. bits_as_number (take 64 (drop (64 * k) fields))) 0 ((length fields + 63) / 64) i i 0 lt (omega arith)
   | inr le ↦
-      let words = length-map-range_with_len (λ k. word_of (take 64 (drop (64 * k) fields))) 0 ((length fields + 63) / 64) in
+      let words = length-map-range_with_len (λ k. bits_as_number (take 64 (drop (64 * k) fields))) 0 ((length fields + 63) / 64) in
       let past : get_or (packed fields) i 0 ≡ 0 = get_or_past (packed fields) i 0 (omega arith) in
       let none : drop (64 * i) fields ≡ [] = drop_all (64 * i) fields (omega arith) in
       past ∙ rw none refl
@@ -81,7 +81,7 @@ field_none fields k none = elim (cases_lt k (length fields)) [
 pub IsPacked-shape_with : (fields : List Bool) → IsPacked (shape_with fields)
 unfolding shape_with packed
 IsPacked-shape_with fields = record {
-  packed = length-map-range_with_len (λ k. word_of (take 64 (drop (64 * k) fields))) 0 ((length fields + 63) / 64);
+  packed = length-map-range_with_len (λ k. bits_as_number (take 64 (drop (64 * k) fields))) 0 ((length fields + 63) / 64);
   narrow = λ i. rw (packed_at fields i) (word_of-lt (take 64 (drop (64 * i) fields)) 64 (omega (arith, length-take 64 (drop (64 * i) fields))));
 }
 

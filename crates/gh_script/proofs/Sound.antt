@@ -1,7 +1,7 @@
 -- Each line that is read keeps the draft sound.
 use Rattle.std.proofs.Common.{◌≡◌, ℕ, ◌+◌, ◌-◌, ◌^◌, ◌<◌, ◌≤◌, Bool, true, false, not, cond, eqb, ltb, leb, ◌&&◌, ◌||◌, List, [], ◌∷◌, ◌++◌, length, take, drop, Option, Some, None, Result, Ok, refl, sym, ap, ◌∙◌, subst, arith, inl, inr, ◌⊎◌, unwrap_or, is_some, All, ◌≢◌, sum_by, leb-true, leb-false, ltb-false, ltb-true}
 use Rattle.gh_script.specs.declared.key.Key.TheVariants as keys
-use Rattle.gh_script.proofs.Vocabulary.{All-append, All-cons, All-drop, All-head, All-nil, All-push, All-take, all_pairs_push, are_letters, are_too_many, Arena, AreNamedApart, AreOpenStatements, AreStatements, begun, bytes_eq, bytes_eq-Decides, cause_at, continued, digits_value_of, Draft, ended, fields_of, FitsShape, Given, given_at, Globals, globals_in, Gogc, Goroutine, goroutine_of, goroutines_begun, has_goroutine, is_digit, is_name, is_skipped, is_too_long, IsNamed, IsNewName, IsOpenNamed, IsPacked, IsSound, IsStatement, kept, Key, key_of, length_push, list_all, list_any, Minheap, nil_from_length, number_in, number_of, Open, option_and_then, option_map, option_to_list, Procs, read_cause, read_key, read_line, register_in, register_of, Repeat, repeat, Sentence, Setting, shape_with, statement_of, statements_in, Stmt, sum_by-append, value_from, Why, with_closed, with_given, with_repeat, with_statement, Workers, written_out}
+use Rattle.gh_script.proofs.Vocabulary.{All-append, All-cons, All-drop, All-head, All-nil, All-push, All-take, all_pairs_push, are_letters, are_too_many, Arena, AreNamedApart, AreOpenStatements, AreStatements, block_ended, bytes_eq, bytes_eq-Decides, cause_at, continued, digits_value_of, Draft, fields_of, finished_goroutine, FitsShape, Given, given_at, Globals, globals_in, Gogc, Goroutine, goroutines_begun, has_goroutine, is_digit, is_name, is_skipped, is_too_long, IsNamed, IsNewName, IsOpenNamed, IsPacked, IsSound, IsStatement, just_begun, kept, Key, key_of, length_push, list_all, list_any, Minheap, nil_from_length, number_in, number_spelled, Open, option_and_then, option_map, option_to_list, Procs, read_cause, read_key, read_line, register_in, register_named, Repeat, repeat, Sentence, Setting, shape_with, statement_of, statements_in, Stmt, sum_by-append, value_from, Why, with_closed, with_given, with_repeat, with_statement, Workers, written_out}
 use Rattle.gh_script.proofs.Allowed.{allowed, left_false, right_false, not_false, setting_small, load_small, store_small, get_small, set_small, type_fits, type_few, type_of-lt}
 use Rattle.gh_script.proofs.Names.{and_right}
 use Rattle.gh_script.proofs.Repeated.{All-repeat}
@@ -15,7 +15,7 @@ digit_small d n true h = h refl
 digit_small d n false h = omega arith
 
 register_small : (word : List ℕ) → register_in word < 16
-unfolding register_of
+unfolding register_named
 register_small (r ∷ d ∷ []) = digit_small d (d - 48) (eqb r 114 && is_digit d) (λ h. omega (arith, leb-true d 57 (and_right (leb 48 d) (leb d 57) (and_right (eqb r 114) (is_digit d) h))))
 register_small (r ∷ t ∷ d ∷ []) = digit_small d (10 + (d - 48)) (((eqb r 114 && eqb t 49) && leb 48 d) && leb d 53) (λ h. omega (arith, leb-true d 53 (and_right ((eqb r 114 && eqb t 49) && leb 48 d) (leb d 53) h)))
 register_small _ = omega arith
@@ -31,7 +31,7 @@ none_or limit true o pos h = pos
 none_or limit false o pos h = h
 
 number_small : (word : List ℕ) → number_in word < 2 ^ 64
-unfolding number_of digits_value_of
+unfolding number_spelled digits_value_of
 number_small word = none_or (2 ^ 64) (eqb (length word) 0 || ltb 20 (length word)) (cond (list_all is_digit word && ltb (value_from 0 word) (2 ^ 64)) (Some (value_from 0 word)) None) (omega arith) (value_small (2 ^ 64) (value_from 0 word) (list_all is_digit word) (omega arith))
 
 -- ---- statements
@@ -156,11 +156,11 @@ begin_sound draft line s h =
       shapes_packed = s.shapes_packed;
       goroutines = omega arith;
       closed_names = s.closed_names;
-      open_names = All-cons IsOpenNamed (begun line.second) [] name (All-nil IsOpenNamed);
+      open_names = All-cons IsOpenNamed (just_begun line.second) [] name (All-nil IsOpenNamed);
       names_apart = s.names_apart;
-      open_apart = All-cons (IsNewName draft.closed) (begun line.second) [] (new_name draft line.second a.twice) (All-nil (IsNewName draft.closed));
+      open_apart = All-cons (IsNewName draft.closed) (just_begun line.second) [] (new_name draft line.second a.twice) (All-nil (IsNewName draft.closed));
       statements = s.statements;
-      open_statements = All-cons (AreOpenStatements (globals_in draft.given) (length draft.names)) (begun line.second) [] (All-nil (IsStatement (globals_in draft.given) (length draft.names))) (All-nil (AreOpenStatements (globals_in draft.given) (length draft.names)));
+      open_statements = All-cons (AreOpenStatements (globals_in draft.given) (length draft.names)) (just_begun line.second) [] (All-nil (IsStatement (globals_in draft.given) (length draft.names))) (All-nil (AreOpenStatements (globals_in draft.given) (length draft.names)));
       few_statements = s.few_statements;
     }
 
@@ -278,7 +278,7 @@ few_in : (closed : List Goroutine) (o : Option (List Stmt)) → are_too_many clo
 few_in closed None h = absurd cc
 few_in closed (Some ss) h = ltb-false 200000 (sum_by statements_in closed + length ss) h
 
-close_sound : (draft : Draft) (g : Open) → IsSound draft → draft.current ≡ Some g → are_too_many draft.closed g.statements ≡ false → IsSound (record draft { closed = draft.closed ++ goroutine_of g ∷ []; current = None })
+close_sound : (draft : Draft) (g : Open) → IsSound draft → draft.current ≡ Some g → are_too_many draft.closed g.statements ≡ false → IsSound (record draft { closed = draft.closed ++ finished_goroutine g ∷ []; current = None })
 close_sound draft g s e few =
     let k = keeps draft g s e in
     let total = few_in draft.closed g.statements few in
@@ -289,18 +289,18 @@ close_sound draft g s e few =
       named = s.named;
       shapes_fit = s.shapes_fit;
       shapes_packed = s.shapes_packed;
-      goroutines = omega (arith, length_push draft.closed (goroutine_of g), s.goroutines, one);
-      closed_names = All-push IsNamed draft.closed (goroutine_of g) s.closed_names k.name;
+      goroutines = omega (arith, length_push draft.closed (finished_goroutine g), s.goroutines, one);
+      closed_names = All-push IsNamed draft.closed (finished_goroutine g) s.closed_names k.name;
       open_names = All-nil IsOpenNamed;
-      names_apart = all_pairs_push AreNamedApart draft.closed (goroutine_of g) s.names_apart k.apart;
-      open_apart = All-nil (IsNewName (draft.closed ++ goroutine_of g ∷ []));
-      statements = All-push (AreStatements (globals_in draft.given) (length draft.names)) draft.closed (goroutine_of g) s.statements k.said;
+      names_apart = all_pairs_push AreNamedApart draft.closed (finished_goroutine g) s.names_apart k.apart;
+      open_apart = All-nil (IsNewName (draft.closed ++ finished_goroutine g ∷ []));
+      statements = All-push (AreStatements (globals_in draft.given) (length draft.names)) draft.closed (finished_goroutine g) s.statements k.said;
       open_statements = All-nil (AreOpenStatements (globals_in draft.given) (length draft.names));
-      few_statements = omega (arith, sum_by-append statements_in draft.closed (goroutine_of g ∷ []), total);
+      few_statements = omega (arith, sum_by-append statements_in draft.closed (finished_goroutine g ∷ []), total);
     }
 
 end_by : (draft : Draft) (g : Open) (none : Bool) → IsSound draft → draft.current ≡ Some g → (none && are_too_many draft.closed g.statements) ≡ false
-    → IsSound (cond none (record draft { closed = draft.closed ++ goroutine_of g ∷ []; current = None }) (record draft { current = Some (with_closed g g.repeats) }))
+    → IsSound (cond none (record draft { closed = draft.closed ++ finished_goroutine g ∷ []; current = None }) (record draft { current = Some (with_closed g g.repeats) }))
 end_by draft g true s e h = close_sound draft g s e h
 end_by draft g false s e h =
     let k = keeps draft g s e in
@@ -312,7 +312,7 @@ end_by draft g false s e h =
       said = closed_said (IsStatement (globals_in draft.given) (length draft.names)) g g.repeats k.said;
     }))
 
-end_sound : (draft : Draft) (current : Option Open) → IsSound draft → draft.current ≡ current → is_too_long draft.closed current ≡ false → IsSound (ended draft current)
+end_sound : (draft : Draft) (current : Option Open) → IsSound draft → draft.current ≡ current → is_too_long draft.closed current ≡ false → IsSound (block_ended draft current)
 end_sound draft None s e h = s
 end_sound draft (Some g) s e h = end_by draft g (eqb (length g.repeats) 0) s e h
 

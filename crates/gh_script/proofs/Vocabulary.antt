@@ -9,7 +9,7 @@ pub use Rattle.std.specs.List.{flat_map, list_all, list_any, position_or_len, re
 pub use Rattle.std.specs.Option.{option_and_then, option_map, option_to_list}
 pub use Rattle.std.specs.Str.{bytes_eq, is_utf8}
 pub use Rattle.gh_base.specs.Shapes.{FitsShape}
-pub use Rattle.gh_script.specs.Draft.{are_too_many, AreOpenStatements, begun, blank_draft, Draft, ended, given_at, globals_in, goroutine_of, goroutines_begun, is_too_long, IsNewName, IsOpenNamed, IsSound, nothing_given, Open, program_in, repeats_open, settings_in, with_closed, with_given, with_repeat, with_statement}
+pub use Rattle.gh_script.specs.Draft.{are_too_many, AreOpenStatements, blank_draft, block_ended, Draft, finished_goroutine, given_at, globals_in, goroutines_begun, is_too_long, IsNewName, IsOpenNamed, IsSound, just_begun, nothing_given, Open, program_in, repeats_open, settings_in, with_closed, with_given, with_repeat, with_statement}
 unfoldable pub use Rattle.gh_script.specs.Draft.{has_goroutine, kept, type_of, written_out}
 pub use Rattle.gh_script.specs.Form.{AreApart, Block, given_by_key, goroutine_by, HasForm, inside, is_type_key, IsBlock, IsHead, IsHeadKey, IsRoutine, IsTaken, IsTakenAs, lines_in, names_by, Nothing, Repeated, Routine, routine_lines, said_in, Say, settings_by, shapes_by, statement_by_key, statements_by, types_in}
 unfoldable pub use Rattle.gh_script.specs.Form.{sayings}
@@ -20,7 +20,7 @@ pub use Rattle.gh_script.specs.Program.{AreNamedApart, AreStatements, AreWithin,
 pub use Rattle.gh_script.specs.ShapeText.{are_letters, fields_of, fits_limits, shape_with}
 pub use Rattle.gh_script.specs.Text.{lines_of, Sentence, sentence_of, words_of}
 pub use Rattle.gh_script.specs.Words.{is_digit, is_name, key_of, value_from}
-unfoldable pub use Rattle.gh_script.specs.Words.{digits_value_of, number_of, register_of}
+unfoldable pub use Rattle.gh_script.specs.Words.{digits_value_of, number_spelled, register_named}
 pub use Rattle.gh_script.specs.declared.fault.ScriptFault.{ScriptFault}
 pub use Rattle.gh_script.specs.declared.fault.Why.{Why}
 pub use Rattle.gh_script.specs.declared.fault.Why.TheVariants.{Limit, Missing, Nesting, Number, Size, Twice, Unknown, Utf8, Word}

@@ -6,7 +6,7 @@ use Rattle.std.proofs.lemmas.List.{take_all, drop_all, length-append, length-tak
 use Rattle.std.proofs.Math.Seq.{take-append_seam, drop-append_seam}
 use Rattle.gh_script.specs.declared.goroutine.Repeat.{Repeat}
 use Rattle.gh_script.specs.declared.statement.Stmt.{Stmt}
-use Rattle.gh_script.specs.Draft.{Draft, Open, kept, written_out, with_closed, goroutine_of, ended}
+use Rattle.gh_script.specs.Draft.{Draft, Open, kept, written_out, with_closed, finished_goroutine, block_ended}
 use Rattle.gh_script.proofs.Repeated.{length-repeat}
 
 pub kept_none : (ss : List Stmt) → 200000 < length ss → kept ss ≡ None
@@ -66,7 +66,7 @@ pub some_repeat : (innermost : Repeat) (others : List Repeat) → eqb (length (i
 some_repeat innermost others = not_zero (length others) (eqb (suc (length others)) 0) refl
 
 -- `end` closes the innermost open `repeat`
-pub ended_repeat : (draft : Draft) (g : Open) (innermost : Repeat) (others : List Repeat) → g.repeats ≡ innermost ∷ others → ended draft (Some g) ≡ record draft { current = Some (with_closed g (innermost ∷ others)) }
+pub ended_repeat : (draft : Draft) (g : Open) (innermost : Repeat) (others : List Repeat) → g.repeats ≡ innermost ∷ others → block_ended draft (Some g) ≡ record draft { current = Some (with_closed g (innermost ∷ others)) }
 ended_repeat draft g innermost others e =
-    ap (λ (l : List Repeat). cond (eqb (length l) 0) (record draft { closed = draft.closed ++ goroutine_of g ∷ []; current = None }) (record draft { current = Some (with_closed g l) })) e
-    ∙ ap (λ (b : Bool). cond b (record draft { closed = draft.closed ++ goroutine_of g ∷ []; current = None }) (record draft { current = Some (with_closed g (innermost ∷ others)) })) (some_repeat innermost others)
+    ap (λ (l : List Repeat). cond (eqb (length l) 0) (record draft { closed = draft.closed ++ finished_goroutine g ∷ []; current = None }) (record draft { current = Some (with_closed g l) })) e
+    ∙ ap (λ (b : Bool). cond b (record draft { closed = draft.closed ++ finished_goroutine g ∷ []; current = None }) (record draft { current = Some (with_closed g (innermost ∷ others)) })) (some_repeat innermost others)

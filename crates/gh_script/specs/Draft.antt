@@ -90,8 +90,8 @@ unfoldable pub kept : List Stmt → Option (List Stmt)
 kept statements = if nat_lt most_statements (length statements) then None else Some statements
 
 -- a goroutine that has just begun
-abbrev pub begun : List ℕ → Open
-begun name = record { name = name; statements = Some []; repeats = [] }
+abbrev pub just_begun : List ℕ → Open
+just_begun name = record { name = name; statements = Some []; repeats = [] }
 
 -- a goroutine with one more statement
 abbrev pub with_statement : Option Stmt → Open → Open
@@ -111,14 +111,14 @@ with_closed g [] = g
 with_closed g (innermost ∷ others) = record g { statements = option_and_then (written_out innermost) g.statements; repeats = others }
 
 -- a goroutine that ends
-abbrev pub goroutine_of : Open → Goroutine
-goroutine_of g = record { name = g.name; statements = unwrap_or g.statements [] }
+abbrev pub finished_goroutine : Open → Goroutine
+finished_goroutine g = record { name = g.name; statements = unwrap_or g.statements [] }
 
 -- `end` closes the open goroutine where it has no open `repeat`, and its innermost `repeat` where it has one
-abbrev pub ended : Draft → Option Open → Draft
-ended draft None = draft
-ended draft (Some g) =
-    if length g.repeats == 0 then record draft { closed = draft.closed ++ goroutine_of g ∷ []; current = None }
+abbrev pub block_ended : Draft → Option Open → Draft
+block_ended draft None = draft
+block_ended draft (Some g) =
+    if length g.repeats == 0 then record draft { closed = draft.closed ++ finished_goroutine g ∷ []; current = None }
     else record draft { current = Some (with_closed g g.repeats) }
 
 -- with the statements of the closed goroutines these are more than a script may have

@@ -15,7 +15,7 @@ use Rattle.gh_script.specs.Program.{Program, Goroutine, AreNamedApart, statement
 use Rattle.gh_script.specs.Text.{Sentence, sentence_of, lines_of, words_of}
 use Rattle.gh_script.specs.Words.{key_of}
 use Rattle.gh_script.specs.ShapeText.{fields_of, shape_with}
-use Rattle.gh_script.specs.Draft.{Draft, blank_draft, nothing_given, begun, with_given, settings_in}
+use Rattle.gh_script.specs.Draft.{Draft, blank_draft, nothing_given, just_begun, with_given, settings_in}
 use Rattle.gh_script.specs.Grammar.{cause_at, is_skipped, number_in, statement_of}
 
 -- a line's words
@@ -67,7 +67,7 @@ statement_by_key names line None = None
 
 -- a draft with these settings and types' names, and a goroutine open
 abbrev pub inside : Given → List (List ℕ) → Draft
-inside given names = record { given = given; names = names; shapes = []; closed = []; current = Some (begun []) }
+inside given names = record { given = given; names = names; shapes = []; closed = []; current = Some (just_begun []) }
 
 -- the line meets no cause after those of the draft
 abbrev pub IsTaken : Draft → Sentence → Type 0

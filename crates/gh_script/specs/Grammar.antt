@@ -15,18 +15,18 @@ use Rattle.gh_script.specs.declared.statement.Stmt.TheVariants as statements
 use Rattle.gh_script.specs.Limits.{most_bytes, most_types, most_goroutines, most_times, most_repeats, most_field, least, most}
 use Rattle.gh_script.specs.Program.{Program}
 use Rattle.gh_script.specs.Text.{Sentence, sentence_of, lines_of, words_of}
-use Rattle.gh_script.specs.Words.{key_of, register_of, number_of, is_name}
+use Rattle.gh_script.specs.Words.{key_of, register_named, number_spelled, is_name}
 use Rattle.gh_script.specs.ShapeText.{are_letters, are_counts, fits_limits, fields_of, shape_with}
-use Rattle.gh_script.specs.Draft.{Draft, blank_draft, given_at, with_given, globals_in, type_of, has_goroutine, goroutines_begun, repeats_open, begun, with_statement, with_repeat, ended, is_too_long, program_in}
+use Rattle.gh_script.specs.Draft.{Draft, blank_draft, given_at, with_given, globals_in, type_of, has_goroutine, goroutines_begun, repeats_open, just_begun, with_statement, with_repeat, block_ended, is_too_long, program_in}
 
 -- ---- what a line's words say
 
 -- the number, or the register, that a word spells
 abbrev pub number_in : List ℕ → ℕ
-number_in word = unwrap_or (number_of word) 0
+number_in word = unwrap_or (number_spelled word) 0
 
 abbrev pub register_in : List ℕ → ℕ
-register_in word = unwrap_or (register_of word) 0
+register_in word = unwrap_or (register_named word) 0
 
 -- how many words a line has
 abbrev pub words_in : Key → ℕ
@@ -48,7 +48,7 @@ words_in keys.Gc = 1
 -- ---- the table of causes
 
 abbrev pub is_no_register : List ℕ → Bool
-is_no_register word = is_none (register_of word)
+is_no_register word = is_none (register_named word)
 
 -- Word: the number of words differs, or a register, a name or the letters of a shape are misspelt
 abbrev pub is_misspelt : Key → Sentence → Bool
@@ -71,7 +71,7 @@ abbrev pub is_word_fault : Key → Sentence → Bool
 is_word_fault key line = not (line.count == words_in key) || is_misspelt key line
 
 abbrev pub is_no_number : List ℕ → Bool
-is_no_number word = is_none (number_of word)
+is_no_number word = is_none (number_spelled word)
 
 -- Number: something else stands where a number belongs
 abbrev pub is_number_fault : Key → Sentence → Bool
@@ -158,9 +158,9 @@ statement_of names key line = None
 unfoldable pub continued : Draft → Key → Sentence → Draft
 continued draft (keys.Setting x) line = record draft { given = with_given draft.given x (number_in line.second) }
 continued draft keys.Type line = record draft { names = draft.names ++ line.second ∷ []; shapes = draft.shapes ++ shape_with (fields_of line.third) ∷ [] }
-continued draft keys.Go line = record draft { current = Some (begun line.second) }
+continued draft keys.Go line = record draft { current = Some (just_begun line.second) }
 continued draft keys.Repeat line = record draft { current = option_map (with_repeat (number_in line.second)) draft.current }
-continued draft keys.End line = ended draft draft.current
+continued draft keys.End line = block_ended draft draft.current
 continued draft key line = record draft { current = option_map (with_statement (statement_of draft.names key line)) draft.current }
 
 -- ---- lines

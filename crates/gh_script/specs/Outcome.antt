@@ -21,16 +21,16 @@ ReadsAll (Err NoMemory) new count read = Unit {0}
 ReadsAll (Err (Script fault)) new count read = read ≡ Err fault
 
 -- at the text's end: the program, or the first fault
-abbrev pub Ends : Result Program ParseError → Result Program ScriptFault → Type 0
-Ends (Ok script) read = read ≡ Ok script
-Ends (Err NoMemory) read = Unit {0}
-Ends (Err (Script fault)) read = read ≡ Err fault
+abbrev pub EndsAsRead : Result Program ParseError → Result Program ScriptFault → Type 0
+EndsAsRead (Ok script) read = read ≡ Ok script
+EndsAsRead (Err NoMemory) read = Unit {0}
+EndsAsRead (Err (Script fault)) read = read ≡ Err fault
 
 -- the program was taken
-abbrev pub Takes : Result Program ParseError → Program → Type 0
-Takes (Ok script) program = script ≡ program
-Takes (Err NoMemory) program = Unit {0}
-Takes (Err (Script fault)) program = ⊥
+abbrev pub TakesProgram : Result Program ParseError → Program → Type 0
+TakesProgram (Ok script) program = script ≡ program
+TakesProgram (Err NoMemory) program = Unit {0}
+TakesProgram (Err (Script fault)) program = ⊥
 
 -- the text was refused for this cause at this line
 abbrev pub Faults : Result Program ParseError → ℕ → Why → Type 0

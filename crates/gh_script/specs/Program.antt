@@ -38,16 +38,16 @@ abbrev pub statement_at : Program → ℕ → ℕ → Option Stmt
 statement_at p g n = if n == 0 then None else slice_get (statements_of p g) (n - 1)
 
 -- a statement as an operation of goroutine g
-abbrev pub op_of : ℕ → Stmt → Op
-op_of g (New d t) = ops.New g d t
-op_of g (Load d b k) = ops.Load g d b k
-op_of g (Store b k v) = ops.Store g b k v
-op_of g (GetGlobal d k) = ops.GetGlobal g d k
-op_of g (SetGlobal k v) = ops.SetGlobal g k v
-op_of g (Int d n) = ops.Int g d n
-op_of g (Move d s) = ops.Move g d s
-op_of g (Nil d) = ops.Nil g d
-op_of g Gc = ops.Gc g
+abbrev pub statement_as_op : ℕ → Stmt → Op
+statement_as_op g (New d t) = ops.New g d t
+statement_as_op g (Load d b k) = ops.Load g d b k
+statement_as_op g (Store b k v) = ops.Store g b k v
+statement_as_op g (GetGlobal d k) = ops.GetGlobal g d k
+statement_as_op g (SetGlobal k v) = ops.SetGlobal g k v
+statement_as_op g (Int d n) = ops.Int g d n
+statement_as_op g (Move d s) = ops.Move g d s
+statement_as_op g (Nil d) = ops.Nil g d
+statement_as_op g Gc = ops.Gc g
 
 -- ---- what each script that is taken keeps
 

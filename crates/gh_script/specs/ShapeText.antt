@@ -3,7 +3,7 @@ use Rattle.std.specs.Prelude.{ℕ, ◌+◌, ◌*◌, ◌/◌, ◌==◌, ◌&&◌
 use Rattle.std.specs.List.{list_all, list_any, before_first, range_with_len}
 use Rattle.gh_class.specs.declared.class.TheConstants.{MOST_TYPE_WORDS}
 use Rattle.gh_base.specs.declared.shape.Shape.{Shape}
-use Rattle.gh_script.specs.Words.{number_of}
+use Rattle.gh_script.specs.Words.{number_spelled}
 
 -- p, a pointer, or n, a number
 abbrev pub is_kind : ℕ → Bool
@@ -27,18 +27,18 @@ unfoldable pub are_letters : List ℕ → Bool
 are_letters word = is_kind (slice_index word 0) && list_all has_no_stray (items_of word)
 
 -- how many fields what stands behind a letter says: 1, or the number behind the star
-unfoldable pub count_of : List ℕ → Option ℕ
-count_of tail = if length tail == 0 then Some 1 else number_of (drop 1 tail)
+unfoldable pub fields_behind_letter : List ℕ → Option ℕ
+fields_behind_letter tail = if length tail == 0 then Some 1 else number_spelled (drop 1 tail)
 
 abbrev pub has_count : Item → Bool
-has_count item = is_some (count_of item.tail)
+has_count item = is_some (fields_behind_letter item.tail)
 
 -- numbers stand in the places of numbers
 unfoldable pub are_counts : List ℕ → Bool
 are_counts word = list_all has_count (items_of word)
 
 abbrev pub fields_in : Item → ℕ
-fields_in item = unwrap_or (count_of item.tail) 0
+fields_in item = unwrap_or (fields_behind_letter item.tail) 0
 
 abbrev pub count_fits : Item → Bool
 count_fits item = nat_le 1 (fields_in item) && nat_le (fields_in item) MOST_TYPE_WORDS
@@ -64,13 +64,13 @@ unfoldable pub fields_of : List ℕ → List Bool
 fields_of word = spread (items_of word)
 
 -- the number whose bit j is set where the j-th is
-unfoldable pub word_of : List Bool → ℕ
-word_of [] = 0
-word_of (bit ∷ bits) = (if bit then 1 else 0) + 2 * word_of bits
+unfoldable pub bits_as_number : List Bool → ℕ
+bits_as_number [] = 0
+bits_as_number (bit ∷ bits) = (if bit then 1 else 0) + 2 * bits_as_number bits
 
 -- 64 fields a word
 unfoldable pub packed : List Bool → List ℕ
-packed fields = map (λ i. word_of (take 64 (drop (64 * i) fields))) (range_with_len 0 ((length fields + 63) / 64))
+packed fields = map (λ i. bits_as_number (take 64 (drop (64 * i) fields))) (range_with_len 0 ((length fields + 63) / 64))
 
 -- a shape with these fields
 unfoldable pub shape_with : List Bool → Shape

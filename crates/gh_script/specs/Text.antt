@@ -36,9 +36,9 @@ unfoldable pub words_of : List ℕ → List (List ℕ)
 words_of line = filter is_filled (pieces is_blank line)
 
 -- a word before others, where it isn't empty
-abbrev pub with_word : List ℕ → List (List ℕ) → List (List ℕ)
-with_word [] others = others
-with_word (c ∷ cs) others = (c ∷ cs) ∷ others
+abbrev pub word_in_front : List ℕ → List (List ℕ) → List (List ℕ)
+word_in_front [] others = others
+word_in_front (c ∷ cs) others = (c ∷ cs) ∷ others
 
 -- a line's first four words, each empty where the line has fewer, and how many words it has
 pub record Sentence : Type 0 where

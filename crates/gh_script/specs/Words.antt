@@ -9,8 +9,8 @@ use Rattle.gh_script.specs.declared.key.Key.{Key}
 use Rattle.gh_script.specs.declared.key.Key.TheVariants as keys
 
 -- the settings by name
-unfoldable pub setting_of : List ℕ → Option Setting
-setting_of word =
+unfoldable pub setting_named : List ℕ → Option Setting
+setting_named word =
     if bytes_eq word (codes "procs") then Some settings.Procs else
     (if bytes_eq word (codes "workers") then Some settings.Workers else
     (if bytes_eq word (codes "arena") then Some settings.Arena else
@@ -46,7 +46,7 @@ first_some (Some key) other = Some key
 
 -- what a line is, as its first word says
 unfoldable pub key_of : List ℕ → Option Key
-key_of word = first_some (option_map keys.Setting (setting_of word)) (first_some (block_key_of word) (statement_key_of word))
+key_of word = first_some (option_map keys.Setting (setting_named word)) (first_some (block_key_of word) (statement_key_of word))
 
 abbrev pub is_digit : ℕ → Bool
 is_digit c = nat_le 48 c && nat_le c 57
@@ -56,12 +56,12 @@ abbrev pub is_letter : ℕ → Bool
 is_letter c = nat_le 97 c && nat_le c 122
 
 -- the register that a word names: r0 to r15
-unfoldable pub register_of : List ℕ → Option ℕ
-register_of [] = None
-register_of (r ∷ []) = None
-register_of (r ∷ d ∷ []) = if r == 114 && is_digit d then Some (d - 48) else None
-register_of (r ∷ t ∷ d ∷ []) = if r == 114 && t == 49 && nat_le 48 d && nat_le d 53 then Some (10 + (d - 48)) else None
-register_of (r ∷ t ∷ d ∷ e ∷ more) = None
+unfoldable pub register_named : List ℕ → Option ℕ
+register_named [] = None
+register_named (r ∷ []) = None
+register_named (r ∷ d ∷ []) = if r == 114 && is_digit d then Some (d - 48) else None
+register_named (r ∷ t ∷ d ∷ []) = if r == 114 && t == 49 && nat_le 48 d && nat_le d 53 then Some (10 + (d - 48)) else None
+register_named (r ∷ t ∷ d ∷ e ∷ more) = None
 
 -- the number that digits spell behind the number before them
 unfoldable pub value_from : ℕ → List ℕ → ℕ
@@ -73,8 +73,8 @@ unfoldable pub digits_value_of : List ℕ → Option ℕ
 digits_value_of word = if list_all is_digit word && nat_lt (value_from 0 word) (2 ^ 64) then Some (value_from 0 word) else None
 
 -- a number is 1 to 20 decimal digits, up to 2 ^ 64 - 1
-unfoldable pub number_of : List ℕ → Option ℕ
-number_of word = if length word == 0 || nat_lt 20 (length word) then None else digits_value_of word
+unfoldable pub number_spelled : List ℕ → Option ℕ
+number_spelled word = if length word == 0 || nat_lt 20 (length word) then None else digits_value_of word
 
 abbrev pub is_name_byte : ℕ → Bool
 is_name_byte c = is_letter c || is_digit c

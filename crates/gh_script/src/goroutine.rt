@@ -3,7 +3,7 @@
 ghost use Rattle.std.specs.Prelude.{◌≡◌, ◌≤◌, ◌++◌, drop, length, slice_get, take, IfOk, OnOk, Some};
 ghost use Rattle.std.specs.List.{repeat};
 ghost use Rattle.std.specs.Option.{option_map};
-ghost use Rattle.gh_script.specs.Draft.{goroutine_of, with_closed, with_repeat, with_statement, written_out};
+ghost use Rattle.gh_script.specs.Draft.{finished_goroutine, with_closed, with_repeat, with_statement, written_out};
 
 use crate::statement::Stmt;
 use gh_base::limits;
@@ -125,7 +125,7 @@ impl Open {
 
     /// The goroutine when it ends.
     pub fn into_goroutine(self, alloc: Global) -> Goroutine
-        ensures { result ≡ goroutine_of self }
+        ensures { result ≡ finished_goroutine self }
     {
         let Open {
             name,

@@ -3,7 +3,7 @@
 ghost use Rattle.std.specs.Prelude.{◌≡◌, ◌+◌, ◌<◌, ◌≤◌, drop, length};
 ghost use Rattle.std.specs.List.{position_or_len, prefix_len};
 ghost use Rattle.gh_script.specs.Said.{said};
-ghost use Rattle.gh_script.specs.Text.{is_blank, is_feed, sentence_of, with_word, without_return, words_of};
+ghost use Rattle.gh_script.specs.Text.{is_blank, is_feed, sentence_of, without_return, word_in_front, words_of};
 
 fn is_blank(b: u8) -> bool
     ensures { result ≡ is_blank b }
@@ -79,7 +79,7 @@ fn blank_count(line: &[u8]) -> usize
 
 /// The first word, and what follows it; both are empty where there is no word.
 fn next_word(line: &[u8]) -> (&[u8], &[u8])
-    ensures cut { words_of line.now ≡ with_word result.0.now (words_of result.1.now) }
+    ensures cut { words_of line.now ≡ word_in_front result.0.now (words_of result.1.now) }
     ensures none { length result.0.now ≡ 0 → length result.1.now ≡ 0 }
     ensures rest { length result.0.now + length result.1.now ≤ length line.now }
 {

@@ -10,7 +10,7 @@ ghost use Rattle.gh_script.specs.Text.{lines_of, sentence_of, words_of};
 ghost use Rattle.gh_script.specs.Said.{said};
 ghost use Rattle.gh_script.specs.Draft.{IsSound};
 ghost use Rattle.gh_script.specs.Grammar.{is_skipped, read_end, read_line, read_lines, reading_of, Refused, Spells};
-ghost use Rattle.gh_script.specs.Outcome.{Continues, Ends, Faults, ReadsAll, Takes};
+ghost use Rattle.gh_script.specs.Outcome.{Continues, EndsAsRead, Faults, ReadsAll, TakesProgram};
 
 use crate::cause::cause;
 use crate::draft::Draft;
@@ -84,7 +84,7 @@ fn lines(alloc: Global, draft: &mut Draft, text: &[u8]) -> Result<u32, ParseErro
 #[tactic(auto, unfolding(crate::specs::Grammar::read_end))]
 fn finish(draft: Draft, lines: u32) -> Result<Script, ParseError>
     requires { IsSound draft }
-    ensures { Ends result (read_end lines draft) }
+    ensures { EndsAsRead result (read_end lines draft) }
 {
     let settings = settings(&draft.given);
     let Draft {
@@ -119,7 +119,7 @@ fn is_text(bytes: &[u8]) -> bool
 }
 
 fn read(alloc: Global, text: &[u8]) -> Result<Script, ParseError>
-    ensures { Ends result (reading_of text.now) }
+    ensures { EndsAsRead result (reading_of text.now) }
 {
     if text.len() > MOST_BYTES {
         let why = Why::Size;
@@ -144,7 +144,7 @@ fn read(alloc: Global, text: &[u8]) -> Result<Script, ParseError>
 pub fn parse(alloc: Global, text: &[u8]) -> Result<Script, ParseError>
     ensures spelled { IfOk result (λ script. Spells text.now script) }
     ensures refused { (fault : ScriptFault) → result ≡ Err (ParseError.Script fault) → Refused text.now fault.line fault.why }
-    ensures taken { (program : Program) → Spells text.now program → Takes result program }
+    ensures taken { (program : Program) → Spells text.now program → TakesProgram result program }
     ensures faulted { (line : ℕ) (why : Why) → Refused text.now line why → Faults result line why }
     ensures formed { IfOk result WellFormed }
 {

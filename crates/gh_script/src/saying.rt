@@ -5,7 +5,7 @@ ghost use Rattle.std.specs.Option.{option_map};
 ghost use Rattle.gh_script.specs.Said.{said};
 ghost use Rattle.gh_script.specs.Words.{is_name};
 ghost use Rattle.gh_script.specs.ShapeText.{fields_of, fits_limits, shape_with};
-ghost use Rattle.gh_script.specs.Draft.{begun, ended, IsSound, with_given, with_repeat, with_statement};
+ghost use Rattle.gh_script.specs.Draft.{block_ended, IsSound, just_begun, with_given, with_repeat, with_statement};
 ghost use Rattle.gh_script.specs.Grammar.{cause_at, continued, number_in, register_in, statement_of};
 
 use crate::cause;
@@ -110,7 +110,7 @@ impl Draft {
 
     fn begin(&mut self, alloc: Global, name: &[u8]) -> Result<(), AllocError>
         requires { IsTrue (is_name name.now) }
-        ensures { OnOk result (self.new ≡ record self.old { current = Some (begun name.now) }) }
+        ensures { OnOk result (self.new ≡ record self.old { current = Some (just_begun name.now) }) }
     {
         let name = name_text(alloc, name)?;
         self.current = Some(Open {
@@ -132,7 +132,7 @@ impl Draft {
     }
 
     fn end(&mut self, alloc: Global) -> Result<(), AllocError>
-        ensures { OnOk result (self.new ≡ ended self.old self.old.current) }
+        ensures { OnOk result (self.new ≡ block_ended self.old self.old.current) }
     {
         if let Some(mut g) = self.current.take() {
             if g.repeats.is_empty() {

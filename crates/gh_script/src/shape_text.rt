@@ -5,7 +5,8 @@ ghost use Rattle.std.specs.List.{list_all, list_any, position_or_len};
 ghost use Rattle.gh_script.specs.ShapeText.{
   are_counts,
   are_letters,
-  count_of,
+  bits_as_number,
+  fields_behind_letter,
   fields_in,
   fields_of,
   fits_limits,
@@ -16,7 +17,6 @@ ghost use Rattle.gh_script.specs.ShapeText.{
   packed,
   shape_with,
   spread,
-  word_of,
 };
 ghost use Rattle.gh_script.specs.ShapeSaid.{item_seen, with_item, PassesLimits};
 
@@ -76,9 +76,9 @@ fn has_no_stray(item: &Item) -> bool
 }
 
 /// How many fields an item has; `None` where a number's place has none.
-#[tactic(auto, unfolding(crate::specs::ShapeText::count_of))]
+#[tactic(auto, unfolding(crate::specs::ShapeText::fields_behind_letter))]
 fn count(item: &Item) -> Option<u64>
-    ensures { result ≡ count_of item.now.tail.now }
+    ensures { result ≡ fields_behind_letter item.now.tail.now }
 {
     if item.tail.is_empty() {
         Some(1)
@@ -221,7 +221,7 @@ fn fields(alloc: Global, word: &[u8]) -> Result<Vec<bool>, AllocError>
 /// At most 64 fields as a word, a bit each, the first lowest.
 fn word_of_fields(fields: &[bool]) -> u64
     requires { length fields.now ≤ 64 }
-    ensures { result ≡ word_of fields.now }
+    ensures { result ≡ bits_as_number fields.now }
 {
     let mut word = 0;
     let mut i = fields.len();
@@ -236,7 +236,7 @@ fn word_of_fields(fields: &[bool]) -> u64
 fn packed_word(fields: &[bool], i: usize) -> u64
     requires many { length fields.now ≤ MOST_TYPE_WORDS }
     requires within { 64 * i ≤ length fields.now }
-    ensures { result ≡ word_of (take 64 (drop (64 * i) fields.now)) }
+    ensures { result ≡ bits_as_number (take 64 (drop (64 * i) fields.now)) }
 {
     let rest = &fields[64 * i..];
     word_of_fields(&rest[..rest.len().min(64)])

@@ -10,17 +10,17 @@ ghost use Rattle.gh_script.specs.Words.{
   is_name,
   is_name_byte,
   key_of,
-  number_of,
-  register_of,
-  setting_of,
+  number_spelled,
+  register_named,
+  setting_named,
   statement_key_of,
 };
 
 use crate::key::{Key, Setting};
 
-#[tactic(auto, unfolding(crate::specs::Words::setting_of))]
+#[tactic(auto, unfolding(crate::specs::Words::setting_named))]
 fn setting(word: &[u8]) -> Option<Setting>
-    ensures { result ≡ setting_of word.now }
+    ensures { result ≡ setting_named word.now }
 {
     if word == b"procs".as_slice() {
         Some(Setting::Procs)
@@ -110,9 +110,9 @@ fn is_letter(b: u8) -> bool
 }
 
 /// The register that a word names, `r0` to `r15`.
-#[tactic(auto, unfolding(crate::specs::Words::register_of))]
+#[tactic(auto, unfolding(crate::specs::Words::register_named))]
 pub fn register(word: &[u8]) -> Option<u32>
-    ensures { result ≡ register_of word.now }
+    ensures { result ≡ register_named word.now }
 {
     match word {
         [r, d] if *r == b'r' && is_digit(*d) => Some(u32::from(*d - b'0')),
@@ -171,9 +171,9 @@ fn digits_value(digits: &[u8]) -> Option<u64>
 }
 
 /// The number that a word spells.
-#[tactic(auto, unfolding(crate::specs::Words::number_of))]
+#[tactic(auto, unfolding(crate::specs::Words::number_spelled))]
 pub fn number(word: &[u8]) -> Option<u64>
-    ensures { result ≡ number_of word.now }
+    ensures { result ≡ number_spelled word.now }
 {
     if word.is_empty() || word.len() > 20 {
         None

@@ -10,8 +10,8 @@ use Rattle.gh_marks.specs.Laws.{EachHandFollows, EachHandLasts, EachOwnMoveLeave
 use Rattle.gh_marks.specs.Moves as move
 use Rattle.gh_marks.specs.Moves.{Keeps, MayEnter, Steps, lands_by, lands_still, moved, set_mark}
 use Rattle.gh_marks.specs.Seats.{Hands, InHand}
-use Rattle.gh_shade.specs.Facts.{Facts, IsShaded, ShadesByMoves, StageFacts, WaitsForRoom, in_hand, pending_at}
-use Rattle.gh_shade.proofs.Vocabulary.{after_mark, asks_at, at_stage, bit_at, Cell, Done, Ended, Enter, enters, Entry, given_at, goes, goes_at, has_place, HasPlace, Held, is_whole, LoadPage, Mark, mark_words, object_of, Page, page_noscan, page_of, put, raised, row_bit, RowsAreWritten, SetMark, ShadeStage, Shading, Touch, WaitForRoom, WantsRoom}
+use Rattle.gh_shade.specs.Facts.{Facts, ObjectIsShaded, ShadesByMoves, StageFacts, WaitsForRoom, in_hand, pending_at}
+use Rattle.gh_shade.proofs.Vocabulary.{asks_at, at_stage, bit_at, Cell, Done, Ended, Enter, enters, Entry, follows_mark, given_at, goes, goes_at, has_place, HasPlace, Held, is_whole, LoadPage, Mark, mark_words, object_of, Page, page_noscan, page_of, put, raised, row_bit, RowsAreWritten, SetMark, ShadeStage, Shading, Touch, WaitForRoom, WantsRoom}
 use Rattle.gh_shade.proofs.Knowing.{placed}
 
 pub record Known : Type 0 where
@@ -69,16 +69,16 @@ module _ (k : Known) (z : Cycle) (a : ℕ) (s : Shared) (rest : InHand) (g : Goo
   bit-is : bit_at (s.words (Mark (o / 64))) (o % 64) ≡ row_bit (mark_words s.words) o
   bit-is = sym (k.rows.bit_of (mark_words s.words) (o / 64) o refl)
 
-  marks : (noscan : Bool) → 1 ≤ m.reference → s.since o ≡ true → s.extents.noscan o ≡ noscan → Hands a s (in_hand rest m.held None) → ToMark (after_mark m.held (is_whole m noscan (s.words (Mark (o / 64)))))
+  marks : (noscan : Bool) → 1 ≤ m.reference → s.since o ≡ true → s.extents.noscan o ≡ noscan → Hands a s (in_hand rest m.held None) → ToMark (follows_mark m.held (is_whole m noscan (s.words (Mark (o / 64)))))
   marks noscan some known kind x = by (eqb (bit_at (s.words (Mark (o / 64))) (o % 64)) 1) refl where
     clear : (n : ℕ) → n < 2 → eqb n 1 ≡ false → n ≡ 0
     clear n few e = let other : n ≢ 1 = λ is. absurd (cc (e, eq-eqb n 1 is)) in omega arith
 
-    kinds : (b : Bool) → noscan ≡ b → row_bit (mark_words s.words) o ≡ 0 → ToMark (after_mark m.held b)
+    kinds : (b : Bool) → noscan ≡ b → row_bit (mark_words s.words) o ≡ 0 → ToMark (follows_mark m.held b)
     kinds true e zero = flat some zero known (kind ∙ e) x
     kinds false e zero = entry some zero known (kind ∙ e) x (has_place m.held) refl
 
-    by : (b : Bool) → eqb (bit_at (s.words (Mark (o / 64))) (o % 64)) 1 ≡ b → ToMark (after_mark m.held (b || noscan))
+    by : (b : Bool) → eqb (bit_at (s.words (Mark (o / 64))) (o % 64)) 1 ≡ b → ToMark (follows_mark m.held (b || noscan))
     by true e = again some (sym bit-is ∙ eqb-true _ _ e) x
     by false e = kinds noscan refl (sym bit-is ∙ clear (bit_at (s.words (Mark (o / 64))) (o % 64)) (bit_at-lt (s.words (Mark (o / 64))) (o % 64)) e)
 
@@ -120,7 +120,7 @@ same-at : (m : Shading) (p : ShadeStage) (f : ℕ) → (goes_at m p f).reference
 same-at m LoadPage f = refl
 same-at m _ f = refl
 
-shaded-then : (z : Cycle) (a : ℕ) (s : Shared) (rest : InHand) (n : Shading) → n.stage ≡ Ended → Facts z a s rest n → IsShaded a s rest n
+shaded-then : (z : Cycle) (a : ℕ) (s : Shared) (rest : InHand) (n : Shading) → n.stage ≡ Ended → Facts z a s rest n → ObjectIsShaded a s rest n
 shaded-then z a s rest n e f = record {
   marked = subst (λ (r : ShadeStage). StageFacts s (object_of n.reference) n.held r) e f.stage_is;
   hands = subst (λ (r : ShadeStage). Hands a s (in_hand rest n.held (pending_at (object_of n.reference) r))) e f.hands;

@@ -8,7 +8,7 @@ pub use Rattle.gh_base.specs.declared.cell.Cell.{Cell}
 pub use Rattle.gh_base.specs.declared.cell.Cell.TheVariants.{Entry, Mark, Page, Touch}
 pub use Rattle.gh_base.specs.declared.held.Held.{Held}
 pub use Rattle.gh_base.specs.declared.layout.Layout.{Layout}
-pub use Rattle.gh_shade.specs.Listing.{after_mark, asks_at, at_stage, enters, given_at, goes, goes_at, has_place, is_busy, is_set, is_whole, listing, object_of, opening, raised, Shading}
+pub use Rattle.gh_shade.specs.Listing.{asks_at, at_stage, enters, follows_mark, given_at, goes, goes_at, has_place, is_busy, is_whole, listing, mark_is_set, object_of, opening, raised, Shading}
 pub use Rattle.gh_shade.specs.Sound.{HasPlace}
 pub use Rattle.gh_shade.specs.declared.shade.ShadeStage.{ShadeStage}
 pub use Rattle.gh_shade.specs.declared.shade.ShadeStage.TheVariants.{Ended, Enter, LoadPage, SetMark, WaitForRoom}

@@ -39,7 +39,7 @@ pub record Facts (z : Cycle) (a : ℕ) (s : Shared) (rest : InHand) (m : Shading
   pub hands : Hands a s (in_hand rest m.held (pending_at (object_of m.reference) m.stage))
 
 -- shaded: the object is marked, and in nobody's hands by this
-pub record IsShaded (a : ℕ) (s : Shared) (rest : InHand) (m : Shading) : Type 0 where
+pub record ObjectIsShaded (a : ℕ) (s : Shared) (rest : InHand) (m : Shading) : Type 0 where
   pub marked : IsMarked (mark_words s.words) (object_of m.reference)
   pub hands : Hands a s (in_hand rest m.held None)
 
@@ -60,7 +60,7 @@ module _ (z : Cycle) (a : ℕ) (s : Shared) (rest : InHand) where
 
   -- what they come to where it ends with a step
   abbrev pub Ends : Type 0
-  Ends = (m : Shading) (found : ℕ) → gives m found ≡ Some Done → Facts z a s rest (goes m found) → IsShaded a s rest (goes m found)
+  Ends = (m : Shading) (found : ℕ) → gives m found ≡ Some Done → Facts z a s rest (goes m found) → ObjectIsShaded a s rest (goes m found)
 
   abbrev pub Wants : Type 0
   Wants = (m : Shading) (found : ℕ) → gives m found ≡ Some WantsRoom → Facts z a s rest (goes m found) → WaitsForRoom a s rest (goes m found)

@@ -54,8 +54,8 @@ abbrev pub bit_of : (object : ℕ) → ℕ
 bit_of object = 2 ^ (object % 64)
 
 -- it is set in this word
-abbrev pub is_set : (object word : ℕ) → Bool
-is_set object word = bit_at word (object % 64) == 1
+abbrev pub mark_is_set : (object word : ℕ) → Bool
+mark_is_set object word = bit_at word (object % 64) == 1
 
 -- a buffer is held, and an entry goes into it
 abbrev pub has_place : Option Held → Bool
@@ -73,8 +73,8 @@ raised None = None
 raised (Some h) = Some (record h { count = h.count + 1 })
 
 -- what follows the mark, where that ends it and where not
-abbrev pub after_mark : Option Held → (ends : Bool) → ShadeStage
-after_mark held ends = if ends then Ended else if has_place held then Enter else WaitForRoom
+abbrev pub follows_mark : Option Held → (ends : Bool) → ShadeStage
+follows_mark held ends = if ends then Ended else if has_place held then Enter else WaitForRoom
 
 module _ (s : Shading) where
   abbrev pub object : ℕ
@@ -89,11 +89,11 @@ module _ (s : Shading) where
 
   -- the object needs no entry: its bit was set, or it has no pointer fields
   abbrev pub is_whole : (noscan : Bool) → (word : ℕ) → Bool
-  is_whole noscan word = is_set object word || noscan
+  is_whole noscan word = mark_is_set object word || noscan
 
   abbrev pub goes_at : ShadeStage → ℕ → Shading
   goes_at LoadPage found = at_stage s (SetMark (page_noscan (page_of found)))
-  goes_at (SetMark noscan) found = at_stage s (after_mark s.held (is_whole noscan found))
+  goes_at (SetMark noscan) found = at_stage s (follows_mark s.held (is_whole noscan found))
   goes_at WaitForRoom found = at_stage s WaitForRoom
   goes_at Enter found = record s { held = raised s.held; stage = Ended }
   goes_at Ended found = at_stage s Ended

@@ -4,7 +4,7 @@ ghost use Rattle.std.specs.Prelude.{◌≡◌, ◌*◌, ◌<◌, Option, true};
 ghost use Rattle.gh_base.specs.Cells.{InRange};
 ghost use Rattle.gh_base.specs.Holding.{FitsBuffers, IsHeld};
 ghost use Rattle.gh_base.specs.Steps.{cell_of};
-ghost use Rattle.gh_shade.specs.Listing.{after_mark, asks, begins, enters, given, gives, goes, is_busy, object_of, opening, raised, told_room};
+ghost use Rattle.gh_shade.specs.Listing.{asks, begins, enters, follows_mark, given, gives, goes, is_busy, object_of, opening, raised, told_room};
 ghost use Rattle.gh_shade.specs.Sound.{FitsValue, HasPlace, IsReference};
 
 use gh_base::{Ask, Cell, ENTRIES, Held, Layout, Machine, PageWord, Req, Value};
@@ -150,7 +150,7 @@ impl Shade {
 
     /// What follows the mark: the object goes into the held buffer, if that has a place.
     fn after_mark(&self, ends: bool) -> ShadeStage
-        ensures { result ≡ after_mark self.now.held ends }
+        ensures { result ≡ follows_mark self.now.held ends }
     {
         if ends {
             return ShadeStage::Ended;

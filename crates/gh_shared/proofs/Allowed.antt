@@ -19,7 +19,7 @@ use Rattle.gh_mutator.specs.Mutating.{Mutating}
 use Rattle.gh_mutator.specs.Processor.{made_by}
 use Rattle.gh_mutator.specs.Serving.{has_left_at, is_leaving}
 use Rattle.gh_mutator.specs.Sound.{has_names, has_room, most_objects, SoundOp}
-use Rattle.gh_lists.specs.Order.{ended_in, goroutine_of, has_left, in_range, is_over}
+use Rattle.gh_lists.specs.Order.{ended_in, goroutine_is_over, goroutine_of, has_left, in_range}
 use Rattle.gh_lists.specs.Processors.{all_ended, arena_of, asked_by, has_more, is_of, may_leave}
 use Rattle.gh_world.specs.Wishes.{wishes_of}
 use Rattle.gh_world.specs.World.{may_begin_of}
@@ -29,7 +29,7 @@ use Rattle.gh_shared.specs.Calls.{Fits, RunsIt}
 use Rattle.gh_shared.specs.Machines.{IsProcessorOf, ProcessorMay}
 use Rattle.gh_shared.specs.Plans.{Planned}
 use Rattle.gh_shared.proofs.Rooms.{room_so}
-use Rattle.gh_shared.specs.Shown.{asked_in, CountsSo, left_by, ProcessorRests, runs_by}
+use Rattle.gh_shared.specs.Shown.{CountsSo, left_by, ProcessorRests, requests_begun, runs_by}
 
 -- ---- truth values
 
@@ -82,7 +82,7 @@ module _ (p : Planned) (a : ℕ) (m : Mutating) (own : List (Entry Op)) (procs :
   pub left_is : (g : ℕ) → It g → get_or left g 0 + asked_by g own ≡ wishes_of p.script g
   left_is g h = counts.each_left g (get_or left g 0) (slice_get-get_or left g 0 (let lt = below g h in let many = counts.many_left in omega (arith, lt, many)))
 
-  fewer : (g : ℕ) → It g → 1 ≤ left_by p own g → asked_in own < most_objects
+  fewer : (g : ℕ) → It g → 1 ≤ left_by p own g → requests_begun own < most_objects
   fewer g h one =
       let is = left_is g h in
       let part = sum_by_more_le (λ (n : ℕ). n) left g 0 (let lt = below g h in let many = counts.many_left in omega (arith, lt, many)) in
@@ -107,7 +107,7 @@ module _ (p : Planned) (a : ℕ) (m : Mutating) (own : List (Entry Op)) (procs :
     ranged : in_range L.goroutines L.globals (length p.script.shapes) o ≡ true
     its : is_of (arena_of p.script.shapes L) a (goroutine_of o) ≡ true
     names : has_names m.processor o ≡ true
-    goes : not (is_over own (goroutine_of o)) ≡ true
+    goes : not (goroutine_is_over own (goroutine_of o)) ≡ true
     asks : has_more (wishes_of p.script) own o ≡ true
     leaves : may_leave (arena_of p.script.shapes L) a own o ≡ true
     room : has_room m.processor o ≡ true

@@ -24,9 +24,9 @@ use Rattle.gh_lists.specs.declared.handshake.Actor.TheVariants as actor
 use Rattle.gh_shared.specs.declared.machine.ActorMachine.{ActorMachine}
 use Rattle.gh_shared.specs.declared.machine.ActorMachine.TheVariants.{Leads, Marks, Runs}
 use Rattle.gh_shared.specs.Calls.{IsClosedAfter}
-use Rattle.gh_shared.specs.Machines.{actor_of, asks, begins, goes, is_coordinator, IsCoordinator, opening}
+use Rattle.gh_shared.specs.Machines.{asks, begins, goes, is_coordinator, IsCoordinator, machine_actor, opening}
 use Rattle.gh_shared.specs.Plans.{Planned, setting}
-use Rattle.gh_shared.specs.Shown.{as_actor, CarriesSo, count_among, drawn_beside, drawn_by, first_of, leader_of}
+use Rattle.gh_shared.specs.Shown.{as_actor, CarriesSo, count_among, credit_drawn, drawn_beside, first_of, leader_of}
 use Rattle.gh_shared.proofs.Drawing.{both_words, drawn_all, drawn_both, drawn_on, Joined, none_drawn, one_word, same_state}
 use Rattle.gh_shared.proofs.Ready.{OfItsOwn}
 
@@ -152,7 +152,7 @@ module _ (law : OfItsOwn) (p : Planned) where
   Led log x led = LedAs (leader_of x led) (state_of (setting p).kind (acks_of p.layout) log)
 
   -- the actor has gone on
-  pub carried_on : (xs : List ℕ) (log log' : List (Entry Op)) (a : ℕ) (x x' : ActorMachine) (carried drawn : ℕ) (led : Option Coordinating) → ((c : ℕ) → a ≢ c → by c log' ≡ by c log) → IsCoordinator x' ≡ IsCoordinator x → actor_of x' ≡ state_of (setting p).kind a log' → CarriesSo p xs log a x carried drawn led → CarriesSo p xs log' a x' carried drawn led
+  pub carried_on : (xs : List ℕ) (log log' : List (Entry Op)) (a : ℕ) (x x' : ActorMachine) (carried drawn : ℕ) (led : Option Coordinating) → ((c : ℕ) → a ≢ c → by c log' ≡ by c log) → IsCoordinator x' ≡ IsCoordinator x → machine_actor x' ≡ state_of (setting p).kind a log' → CarriesSo p xs log a x carried drawn led → CarriesSo p xs log' a x' carried drawn led
   carried_on xs log log' a x x' carried drawn led others kind state kept = record {
     known = kept.known;
     last = from_last x' a (acks_of p.layout) ((λ is. was.0 (subst (λ (T : Type 0). T) kind is)), (λ e. subst (λ (T : Type 0). T) (sym kind) (was.1 e)));
@@ -169,25 +169,25 @@ module _ (law : OfItsOwn) (p : Planned) where
         let nox : IsCoordinator x → ⊥ = λ is. never (subst (λ (T : Type 0). T) (sym k) is) in
         (led_so.0, no_leader y led never ∙ sym (no_leader x led nox) ∙ led_so.1, led_so.2 ∙ same_state law (setting p).kind (acks_of p.layout) log log' (sym (others (acks_of p.layout) (λ e. nox (was.1 e)))))
 
-    go : (y : ActorMachine) → IsCoordinator y ≡ IsCoordinator x → actor_of y ≡ state_of (setting p).kind a log' → Led log x led → Led log' y led
+    go : (y : ActorMachine) → IsCoordinator y ≡ IsCoordinator x → machine_actor y ≡ state_of (setting p).kind a log' → Led log x led → Led log' y led
     go (Runs m) k st l = elsewhere (Runs m) k (λ is. is) l
     go (Marks w) k st l = elsewhere (Marks w) k (λ is. is) l
     go (Leads c) k st l = (c, refl, st ∙ ap (λ (b : ℕ). state_of (setting p).kind b log') (was.0 (subst (λ (T : Type 0). T) k tt)))
 
   -- by these steps
-  pub went_on : (a : ℕ) (x x' : ActorMachine) (b : Option Op) (y : ActorMachine) (me me' : Me (Unit {0}) (View Planned Op)) (founds : List ℕ) (carried drawn : ℕ) (led : Option Coordinating) → p ≡ me.0.plan → IsCoordinator y ≡ IsCoordinator x → Ran asks goes a b y me x' me' founds → actor_of x' ≡ actor_in setting me'.0 a → CarriesSo p me.0.actors me.0.log a x carried drawn led → CarriesSo p me.0.actors me'.0.log a x' carried drawn led
+  pub went_on : (a : ℕ) (x x' : ActorMachine) (b : Option Op) (y : ActorMachine) (me me' : Me (Unit {0}) (View Planned Op)) (founds : List ℕ) (carried drawn : ℕ) (led : Option Coordinating) → p ≡ me.0.plan → IsCoordinator y ≡ IsCoordinator x → Ran asks goes a b y me x' me' founds → machine_actor x' ≡ actor_in setting me'.0 a → CarriesSo p me.0.actors me.0.log a x carried drawn led → CarriesSo p me.0.actors me'.0.log a x' carried drawn led
   went_on a x x' b y me me' founds carried drawn led plan kind ran state kept =
       carried_on me.0.actors me.0.log me'.0.log a x x' carried drawn led (λ c ne. ap (by c) ran.log ∙ by_others a b y founds me.0.log c ne) (same_kind y x' founds ran.machine ∙ kind) (state ∙ ap (λ (q : Planned). state_of (setting q).kind a me'.0.log) (ran.plan ∙ sym plan)) kept
 
   -- two are joined
-  pub carried_both : (v w v' : View Planned Op) (a b : ℕ) (x y : ActorMachine) (n m d e : ℕ) (led that : Option Coordinating) → Joined v w v' → Carries v a → Carries w b → actor_of y ≡ state_of (setting p).kind b w.log → CarriesSo p v.actors v.log a x n d led → CarriesSo p w.actors w.log b y m e that
-      → CarriesSo p v'.actors v'.log a x (n + m) ((d + (e + drawn_by y) % 2 ^ 64) % 2 ^ 64) (first_of led (leader_of y that))
+  pub carried_both : (v w v' : View Planned Op) (a b : ℕ) (x y : ActorMachine) (n m d e : ℕ) (led that : Option Coordinating) → Joined v w v' → Carries v a → Carries w b → machine_actor y ≡ state_of (setting p).kind b w.log → CarriesSo p v.actors v.log a x n d led → CarriesSo p w.actors w.log b y m e that
+      → CarriesSo p v'.actors v'.log a x (n + m) ((d + (e + credit_drawn y) % 2 ^ 64) % 2 ^ 64) (first_of led (leader_of y that))
   carried_both v w v' a b x y n m d e led that joined mine its state kept kept' = record {
     known = kept.known;
     last = kept.last;
     counted = let all = count_both v.actors w.actors v'.actors joined.both joined.apart (seats_of p.layout) in let one = kept.counted in let two = kept'.counted in omega (arith, all, one, two);
     summed =
-        both_words d e (drawn_by y) (total (drawn_beside p a v.actors v.log) (seats_of p.layout)) (total (drawn_beside p b w.actors w.log) (seats_of p.layout)) kept.summed kept'.summed
+        both_words d e (credit_drawn y) (total (drawn_beside p a v.actors v.log) (seats_of p.layout)) (total (drawn_beside p b w.actors w.log) (seats_of p.layout)) kept.summed kept'.summed
         ∙ ap (λ (s : Actor). (total (drawn_beside p a v.actors v.log) (seats_of p.layout) + (total (drawn_beside p b w.actors w.log) (seats_of p.layout) + spent_at s)) % 2 ^ 64) state
         ∙ ap (λ (k : ℕ). k % 2 ^ 64) (sym (drawn_both p law a b v w v' joined mine its kept'.known));
     none = λ out. no_one (has v.actors (acks_of p.layout)) refl (has w.actors (acks_of p.layout)) refl (sym (joined.both (acks_of p.layout)) ∙ out);
@@ -224,7 +224,7 @@ module _ (p : Planned) (a : ℕ) (lt : a < seats_of p.layout) where
   last_is : (x : ActorMachine) → x ≡ opening p a → is_coordinator x ≡ (a == acks_of p.layout)
   last_is x is = ap is_coordinator is ∙ stands_last (nat_lt a p.layout.procs) refl (nat_lt a (acks_of p.layout)) refl
 
-  pub carried_first : (x : ActorMachine) → x ≡ opening p a → actor_of x ≡ state_of (setting p).kind a [] → CarriesSo p (a ∷ []) [] a x 1 0 None
+  pub carried_first : (x : ActorMachine) → x ≡ opening p a → machine_actor x ≡ state_of (setting p).kind a [] → CarriesSo p (a ∷ []) [] a x 1 0 None
   carried_first x is state = record {
     known = lt;
     last = last_is x is;
@@ -237,14 +237,14 @@ module _ (p : Planned) (a : ℕ) (lt : a < seats_of p.layout) where
     alone true q e = eqb-true a (acks_of p.layout) q
     alone false q e = absurd cc
 
-    go : (y : ActorMachine) → IsCoordinator y ↔ (a ≡ acks_of p.layout) → actor_of y ≡ state_of (setting p).kind a [] → a ≡ acks_of p.layout → LedAs (leader_of y None) (state_of (setting p).kind (acks_of p.layout) [])
+    go : (y : ActorMachine) → IsCoordinator y ↔ (a ≡ acks_of p.layout) → machine_actor y ≡ state_of (setting p).kind a [] → a ≡ acks_of p.layout → LedAs (leader_of y None) (state_of (setting p).kind (acks_of p.layout) [])
     go (Runs m) last st e = absurd (last.1 e)
     go (Marks w) last st e = absurd (last.1 e)
     go (Leads c) last st e = (c, refl, st ∙ ap (λ (b : ℕ). state_of (setting p).kind b []) e)
 
-pub carries_so : (p : Planned) (a : ℕ) (x : ActorMachine) (v : View Planned Op) → a < seats_of p.layout → v ≡ one_carried p a → x ≡ opening p a → actor_of x ≡ actor_in setting v a → CarriesSo v.plan v.actors v.log a x 1 0 None
+pub carries_so : (p : Planned) (a : ℕ) (x : ActorMachine) (v : View Planned Op) → a < seats_of p.layout → v ≡ one_carried p a → x ≡ opening p a → machine_actor x ≡ actor_in setting v a → CarriesSo v.plan v.actors v.log a x 1 0 None
 carries_so p a x v lt view is state =
-    subst (λ (u : View Planned Op). CarriesSo u.plan u.actors u.log a x 1 0 None) (sym view) (carried_first p a lt x is (subst (λ (u : View Planned Op). actor_of x ≡ actor_in setting u a) view state))
+    subst (λ (u : View Planned Op). CarriesSo u.plan u.actors u.log a x 1 0 None) (sym view) (carried_first p a lt x is (subst (λ (u : View Planned Op). machine_actor x ≡ actor_in setting u a) view state))
 
 -- ---- the close
 
@@ -265,10 +265,10 @@ module _ (law : OfItsOwn) (p : Planned) (v : View Planned Op) (a : ℕ) (x : Act
   pub led_none : leader_of x led ≡ None → ⊥
   led_none e = let never : None ≡ Some led_so.0 = sym e ∙ led_so.1 in absurd cc
 
-  pub closed_so : (c : Coordinating) (ws : List ℕ) → leader_of x led ≡ Some c → actor_of x ≡ actor_in setting v a → IsAfterOneList setting p v ws → IsClosedAfter p v c ((drawn + drawn_by x) % 2 ^ 64) ws
+  pub closed_so : (c : Coordinating) (ws : List ℕ) → leader_of x led ≡ Some c → machine_actor x ≡ actor_in setting v a → IsAfterOneList setting p v ws → IsClosedAfter p v c ((drawn + credit_drawn x) % 2 ^ 64) ws
   closed_so c ws e state after =
       let sum = total (drawn_beside p a v.actors v.log) (seats_of p.layout) in
-      let own : actor_of x ≡ state_of (setting p).kind a v.log = subst (λ (q : Planned). actor_of x ≡ state_of (setting q).kind a v.log) plan state in
+      let own : machine_actor x ≡ state_of (setting p).kind a v.log = subst (λ (q : Planned). machine_actor x ≡ state_of (setting q).kind a v.log) plan state in
       let same : c ≡ led_so.0 = (let is : Some c ≡ Some led_so.0 = sym e ∙ led_so.1 in cc) in
       record {
         list = after.list;
@@ -277,5 +277,5 @@ module _ (law : OfItsOwn) (p : Planned) (v : View Planned Op) (a : ℕ) (x : Act
         entries = λ b lt. after.entries b (it_is_carried b lt);
         seen = after.seen (acks_of p.layout) last_is_carried;
         coordinator = ap (λ (d : Coordinating). actor.Leads d) same ∙ led_so.2 ∙ same_state law (setting p).kind (acks_of p.layout) v.log after.list (sym (after.entries (acks_of p.layout) last_is_carried));
-        spent = one_word drawn (drawn_by x) sum its_own.summed ∙ ap (λ (s : Actor). (sum + spent_at s) % 2 ^ 64) own ∙ ap (λ (k : ℕ). k % 2 ^ 64) (sym (drawn_all p law a v.actors v.log after.list its_own.known it_is_carried (λ b lt. after.entries b (it_is_carried b lt))));
+        spent = one_word drawn (credit_drawn x) sum its_own.summed ∙ ap (λ (s : Actor). (sum + spent_at s) % 2 ^ 64) own ∙ ap (λ (k : ℕ). k % 2 ^ 64) (sym (drawn_all p law a v.actors v.log after.list its_own.known it_is_carried (λ b lt. after.entries b (it_is_carried b lt))));
       }

@@ -21,7 +21,7 @@ use Rattle.gh_shared.specs.declared.machine.ActorMachine.TheVariants.{Leads, Mar
 use Rattle.gh_shared.specs.Handles.{ended_at}
 use Rattle.gh_shared.specs.Machines.{asks, goes, is_busy, IsOther}
 use Rattle.gh_shared.specs.Plans.{Planned}
-use Rattle.gh_shared.specs.Shown.{asked_in, GoesOn, IsKept}
+use Rattle.gh_shared.specs.Shown.{CoordinatorGoesOn, IsKeptByHandle, requests_begun}
 use Rattle.gh_shared.proofs.Keeping.{by_made, same_then}
 
 -- ---- the entries
@@ -35,7 +35,7 @@ module _ (a : ℕ) (x : ActorMachine) (own : List (Entry Op)) where
   same_asked g (n ∷ []) = refl
   same_asked g (n ∷ (k ∷ ks)) = let rest = same_asked g (k ∷ ks) in omega (arith, rest)
 
-  same_all : (founds : List ℕ) → asked_in (Made founds) ≡ 0 + asked_in own
+  same_all : (founds : List ℕ) → requests_begun (Made founds) ≡ 0 + requests_begun own
   same_all [] = omega arith
   same_all (n ∷ []) = refl
   same_all (n ∷ (k ∷ ks)) = let rest = same_all (k ∷ ks) in omega (arith, rest)
@@ -60,7 +60,7 @@ leads_after : (c : Coordinating) (founds : List ℕ) → machine_after goes (Lea
 leads_after c [] = refl
 leads_after c (n ∷ ns) = ap (λ (x : ActorMachine). goes x n) (leads_after c ns)
 
-done_is : (t : CoordStage) → coord.is_done t ≡ true → t ≡ Done
+done_is : (t : CoordStage) → coord.is_done_at t ≡ true → t ≡ Done
 done_is Done e = refl
 done_is _ e = absurd cc
 
@@ -73,14 +73,14 @@ next_on s found law h = go (coord.is_busy s.stage) refl where
   go : (b : Bool) → coord.is_busy s.stage ≡ b → HasNext (coord.goes s found)
   go true e = law.step s found e
   go false e =
-      let done : coord.is_done s.stage ≡ true = not_false (coord.is_done s.stage) (sym e ∙ h) in
+      let done : coord.is_done_at s.stage ≡ true = not_false (coord.is_done_at s.stage) (sym e ∙ h) in
       subst (λ (t : CoordStage). HasNext (coord.goes_at (coord.counted s) t found)) (sym (done_is s.stage done)) h
 
 next_after : (c : Coordinating) (founds : List ℕ) → GoesOnUntilDone → HasNext c → HasNext (machine_after coord.goes c founds)
 next_after c [] law h = h
 next_after c (n ∷ ns) law h = next_on (machine_after coord.goes c ns) n law (next_after c ns law h)
 
-goes_on_after : (x x' : ActorMachine) (founds : List ℕ) → GoesOnUntilDone → GoesOn x → IsOther x → x' ≡ machine_after goes x founds → GoesOn x'
+goes_on_after : (x x' : ActorMachine) (founds : List ℕ) → GoesOnUntilDone → CoordinatorGoesOn x → IsOther x → x' ≡ machine_after goes x founds → CoordinatorGoesOn x'
 goes_on_after (Runs m) x' founds law h is after c e = absurd is
 goes_on_after (Marks w) x' founds law h is after c e = let no : Marks (machine_after worker.goes w founds) ≡ Leads c = sym (marks_after w founds) ∙ sym after ∙ e in absurd cc
 goes_on_after (Leads d) x' founds law h is after c e =
@@ -95,7 +95,7 @@ no_processor (Leads d) x' founds is after n e = let no : Leads (machine_after co
 
 -- ---- all of it
 
-pub busy_at : (x : ActorMachine) (own : List (Entry Op)) → GoesOn x → IsOther x → ended_at x own ≡ false → is_busy x ≡ true
+pub busy_at : (x : ActorMachine) (own : List (Entry Op)) → CoordinatorGoesOn x → IsOther x → ended_at x own ≡ false → is_busy x ≡ true
 busy_at (Runs m) own h is going = absurd is
 busy_at (Marks w) own h is going = go (worker.is_busy w.stage) going where
   go : (b : Bool) → not b ≡ false → b ≡ true
@@ -104,22 +104,22 @@ busy_at (Marks w) own h is going = go (worker.is_busy w.stage) going where
 busy_at (Leads c) own h is going = h c refl ∙ ap not going
 
 pub kept_on : (p : Planned) (a : ℕ) (x x' : ActorMachine) (me me' : Me (Unit {0}) (View Planned Op)) (founds : List ℕ) (procs : ℕ) (left : List ℕ) (over : List Bool) (gone : Bool) → GoesOnUntilDone →
-    IsKept p a x (by a me.0.log) procs left over gone → IsOther x → Ran asks goes a None x me x' me' founds → IsKept p a x' (by a me'.0.log) procs left over gone
+    IsKeptByHandle p a x (by a me.0.log) procs left over gone → IsOther x → Ran asks goes a None x me x' me' founds → IsKeptByHandle p a x' (by a me'.0.log) procs left over gone
 kept_on p a x x' me me' founds procs left over gone law kept is ran =
     let own = by a me.0.log in
     let made : List (Entry Op) = entries_made asks goes a None x founds ++ own in
     let own_is : by a me'.0.log ≡ made = ap (by a) ran.log ∙ by_made a None x founds me.0.log in
-    let all : IsKept p a x' made procs left over gone = record {
+    let all : IsKeptByHandle p a x' made procs left over gone = record {
       counts = same_then p own made procs left over gone kept.counts (λ g. same_asked a x own g founds) (same_all a x own founds) (λ g. same_ended a x own g founds) gone (kept.counts.has_gone ∙ sym (same_left a x own founds));
       rests = λ m e. absurd (no_processor x x' founds is ran.machine m e);
       goes_on = goes_on_after x x' founds law kept.goes_on is ran.machine;
     } in
-    subst (λ (es : List (Entry Op)). IsKept p a x' es procs left over gone) (sym own_is) all
+    subst (λ (es : List (Entry Op)). IsKeptByHandle p a x' es procs left over gone) (sym own_is) all
 
-done_by : (x : ActorMachine) (own : List (Entry Op)) → GoesOn x → ((m : Mutating) → x ≡ Runs m → ⊥) → is_busy x ≡ false → ended_at x own ≡ true
+done_by : (x : ActorMachine) (own : List (Entry Op)) → CoordinatorGoesOn x → ((m : Mutating) → x ≡ Runs m → ⊥) → is_busy x ≡ false → ended_at x own ≡ true
 done_by (Runs m) own h never idle = absurd (never m refl)
 done_by (Marks w) own h never idle = ap not idle
-done_by (Leads c) own h never idle = not_false (coord.is_done c.stage) (sym idle ∙ h c refl)
+done_by (Leads c) own h never idle = not_false (coord.is_done_at c.stage) (sym idle ∙ h c refl)
 
-pub is_done_then : (x x' : ActorMachine) (founds : List ℕ) (own : List (Entry Op)) → GoesOnUntilDone → GoesOn x → IsOther x → x' ≡ machine_after goes x founds → is_busy x' ≡ false → ended_at x' own ≡ true
+pub is_done_then : (x x' : ActorMachine) (founds : List ℕ) (own : List (Entry Op)) → GoesOnUntilDone → CoordinatorGoesOn x → IsOther x → x' ≡ machine_after goes x founds → is_busy x' ≡ false → ended_at x' own ≡ true
 is_done_then x x' founds own law h is after idle = done_by x' own (goes_on_after x x' founds law h is after) (λ m e. no_processor x x' founds is after m e) idle

@@ -10,7 +10,7 @@ use Rattle.gh_base.specs.Lists.{by}
 use Rattle.gh_base.specs.Routines.{told}
 use Rattle.gh_mutator.specs.declared.task.Task.{Task}
 use Rattle.gh_mutator.specs.declared.task.Task.TheVariants.{Idle, Left}
-use Rattle.gh_mutator.specs.Faults.{ChangesNothing, FaultsChangeNothing, is_load, rested}
+use Rattle.gh_mutator.specs.Faults.{FaultChangesNothing, FaultsChangeNothing, is_load, rested}
 use Rattle.gh_mutator.specs.Listing.{is_busy_at}
 use Rattle.gh_mutator.specs.Mutating as mutating
 use Rattle.gh_mutator.specs.Mutating.{Mutating}
@@ -26,7 +26,7 @@ use Rattle.gh_shared.specs.declared.machine.ActorMachine.TheVariants.{Leads, Mar
 use Rattle.gh_shared.specs.Calls.{Operated}
 use Rattle.gh_shared.specs.Faults.{FaultLeavesAll, LeavesAll}
 use Rattle.gh_shared.specs.Handles.{ended_at, ended_of, machine_of, number_of, own_of, room_at, view_of}
-use Rattle.gh_shared.specs.Machines.{actor_of, answered, asks, begins, gives, goes, IsProcessor}
+use Rattle.gh_shared.specs.Machines.{asks, begins, ends_with_answer, gives, goes, IsProcessor, machine_actor}
 use Rattle.gh_shared.specs.Shown.{ProcessorRests}
 use Rattle.gh_shared.proofs.Keeping.{by_made, runs_after}
 
@@ -83,7 +83,7 @@ all_loads a b m (n ∷ ns) found same loads =
 
 -- ---- the processor
 
-answered_is : (x : Option Answer) (given : Answer) → answered x ≡ Some (Some given) → x ≡ Some given
+answered_is : (x : Option Answer) (given : Answer) → ends_with_answer x ≡ Some (Some given) → x ≡ Some given
 answered_is None given e = absurd cc
 answered_is (Some y) given e = cc
 
@@ -93,7 +93,7 @@ idle_is Left idle stays = absurd cc
 idle_is _ idle stays = absurd cc
 
 -- a fault by the last of these steps
-faulted : (m : Mutating) (o : Op) (n : ℕ) (ns : List ℕ) (cause : Fault) → FaultsChangeNothing → Gave goes gives (Runs (mutating.begins m o)) (n ∷ ns) (Some (answer.Fault cause)) → ChangesNothing m o (found_of (n ∷ ns)) (length ns) cause
+faulted : (m : Mutating) (o : Op) (n : ℕ) (ns : List ℕ) (cause : Fault) → FaultsChangeNothing → Gave goes gives (Runs (mutating.begins m o)) (n ∷ ns) (Some (answer.Fault cause)) → FaultChangesNothing m o (found_of (n ∷ ns)) (length ns) cause
 faulted m o n ns cause law gave =
     let b = mutating.begins m o in
     let found : ℕ → ℕ = found_of (n ∷ ns) in
@@ -102,10 +102,10 @@ faulted m o n ns cause law gave =
     law m o found (length ns) cause (ap (λ (x : Mutating). mutating.gives x (found (length ns))) behind ∙ ap (mutating.gives (machine_after mutating.goes b ns)) (found_here n ns) ∙ by_last)
 
 -- the processor behind it
-rests_so : (m : Mutating) (o : Op) (n : ℕ) (ns : List ℕ) (cause : Fault) → ChangesNothing m o (found_of (n ∷ ns)) (length ns) cause → machine_after goes (begins (Runs m) o) (n ∷ ns) ≡ Runs (rested m m.processor (answer.Fault cause))
+rests_so : (m : Mutating) (o : Op) (n : ℕ) (ns : List ℕ) (cause : Fault) → FaultChangesNothing m o (found_of (n ∷ ns)) (length ns) cause → machine_after goes (begins (Runs m) o) (n ∷ ns) ≡ Runs (rested m m.processor (answer.Fault cause))
 rests_so m o n ns cause c = runs_after (mutating.begins m o) (n ∷ ns) ∙ ap Runs (sym (told_all (mutating.begins m o) (n ∷ ns)) ∙ c.stays)
 
-stays_idle : (m : Mutating) (cause : Fault) → m.processor.task ≡ Idle → actor_of (Runs (rested m m.processor (answer.Fault cause))) ≡ actor_of (Runs m)
+stays_idle : (m : Mutating) (cause : Fault) → m.processor.task ≡ Idle → machine_actor (Runs (rested m m.processor (answer.Fault cause))) ≡ machine_actor (Runs m)
 stays_idle m cause idle = ap (λ (t : Task). actor.Runs (at_task m.processor t)) (sym idle)
 
 -- ---- the call
@@ -135,7 +135,7 @@ module _ (heap : Heap) (o : Op) (h h' : Handle) (given : Answer) (founds : List 
         added = entries_made asks goes (number_of h) (Some o) (Runs (mutating.begins m o)) (n ∷ ns);
         own = own;
         loads = all_loads (number_of h) (Some o) (mutating.begins m o) (n ∷ ns) (found_of (n ∷ ns)) (λ i lt. refl) (λ i lt. c.loads i (at_most i (length ns) lt));
-        stays = ap actor_of ends ∙ stays_idle m cause idle ∙ ap actor_of (sym at);
+        stays = ap machine_actor ends ∙ stays_idle m cause idle ∙ ap machine_actor (sym at);
         room = ap room_at ends ∙ ap room_at (sym at);
       }
 

@@ -18,18 +18,18 @@ use Rattle.gh_table.specs.Rule.{actor_in}
 use Rattle.gh_table.specs.Views.{Carries, one_carried}
 use Rattle.gh_shared.specs.declared.machine.ActorMachine.{ActorMachine}
 use Rattle.gh_shared.specs.declared.machine.ActorMachine.TheVariants.{Leads, Marks, Runs}
-use Rattle.gh_shared.specs.Machines.{actor_of, Belongs, opening}
+use Rattle.gh_shared.specs.Machines.{Belongs, machine_actor, opening}
 use Rattle.gh_base.specs.Lists.{by}
 use Rattle.gh_world.specs.World.{LaysOut}
 use Rattle.gh_shared.specs.Counting.{CountsFirst}
 use Rattle.gh_shared.specs.Plans.{Planned, setting}
-use Rattle.gh_shared.specs.Shown.{GoesOn, IsKept, ProcessorRests, Rests}
+use Rattle.gh_shared.specs.Shown.{CoordinatorGoesOn, IsKeptByHandle, ProcessorRests, RestsIfProcessor}
 
 -- what a hand is made of
 pub record IsTied (a : ℕ) (m : ActorMachine) (v : View Planned Op) : Type 0 where
   pub carries : Carries v a
   pub belongs : Belongs v.plan m
-  pub state : actor_of m ≡ actor_in setting v a
+  pub state : machine_actor m ≡ actor_in setting v a
 
 module _ (p : Planned) (a : ℕ) where
   abbrev first_of : Bool → Bool → ActorMachine
@@ -40,7 +40,7 @@ module _ (p : Planned) (a : ℕ) where
   it_belongs false true = refl
   it_belongs false false = refl
 
-  it_acts : (b c : Bool) → actor_of (first_of b c) ≡ (if b then actor.Runs (opening_processor p.layout a) else if c then actor.Marks (worker.opening p.layout a) else actor.Leads (coord.opening p.layout a p.script.settings.gogc p.script.settings.minheap (most_cycles p.script)))
+  it_acts : (b c : Bool) → machine_actor (first_of b c) ≡ (if b then actor.Runs (opening_processor p.layout a) else if c then actor.Marks (worker.opening p.layout a) else actor.Leads (coord.opening p.layout a p.script.settings.gogc p.script.settings.minheap (most_cycles p.script)))
   it_acts true c = refl
   it_acts false true = refl
   it_acts false false = refl
@@ -58,7 +58,7 @@ opens_so p a m v view machine = subst (λ (n : ActorMachine). IsTied a n v) (sym
 -- ---- what is kept of it
 
 module _ (p : Planned) (a : ℕ) where
-  rests_first : (b c : Bool) → nat_lt a p.layout.procs ≡ b → Rests p a (first_of p a b c) []
+  rests_first : (b c : Bool) → nat_lt a p.layout.procs ≡ b → RestsIfProcessor p a (first_of p a b c) []
   rests_first true c lt m e =
       let here : ProcessorRests p a (mutating.opening p.layout a p.script.shapes) [] = record {
         seat = (grind (arith, nat_tests));
@@ -71,14 +71,14 @@ module _ (p : Planned) (a : ℕ) where
   rests_first false true lt m e = absurd cc
   rests_first false false lt m e = absurd cc
 
-  goes_on_first : (b c : Bool) → GoesOn (first_of p a b c)
+  goes_on_first : (b c : Bool) → CoordinatorGoesOn (first_of p a b c)
   goes_on_first true c x e = absurd cc
   goes_on_first false true x e = absurd cc
   goes_on_first false false x e =
       let same : coord.opening p.layout a p.script.settings.gogc p.script.settings.minheap (most_cycles p.script) ≡ x = cc in
-      subst (λ (y : Coordinating). coord.is_busy y.stage ≡ not (coord.is_done y.stage)) same refl
+      subst (λ (y : Coordinating). coord.is_busy y.stage ≡ not (coord.is_done_at y.stage)) same refl
 
-  pub kept_first : (procs : ℕ) (left : List ℕ) (over : List Bool) (gone : Bool) → CountsFirst p.script procs left over gone → LaysOut p.script p.layout → IsKept p a (opening p a) [] procs left over gone
+  pub kept_first : (procs : ℕ) (left : List ℕ) (over : List Bool) (gone : Bool) → CountsFirst p.script procs left over gone → LaysOut p.script p.layout → IsKeptByHandle p a (opening p a) [] procs left over gone
   kept_first procs left over gone is lays = record {
     counts = record {
       procs_are = is.procs_are ∙ sym lays.procs_are;
@@ -93,9 +93,9 @@ module _ (p : Planned) (a : ℕ) where
     goes_on = goes_on_first (nat_lt a p.layout.procs) (nat_lt a (acks_of p.layout));
   }
 
-pub kept_so : (p : Planned) (a : ℕ) (m : ActorMachine) (v : View Planned Op) (procs : ℕ) (left : List ℕ) (over : List Bool) (gone : Bool) → v ≡ one_carried p a → m ≡ opening p a → CountsFirst p.script procs left over gone → LaysOut p.script p.layout → IsKept v.plan a m (by a v.log) procs left over gone
+pub kept_so : (p : Planned) (a : ℕ) (m : ActorMachine) (v : View Planned Op) (procs : ℕ) (left : List ℕ) (over : List Bool) (gone : Bool) → v ≡ one_carried p a → m ≡ opening p a → CountsFirst p.script procs left over gone → LaysOut p.script p.layout → IsKeptByHandle v.plan a m (by a v.log) procs left over gone
 kept_so p a m v procs left over gone view machine is lays =
-    subst (λ (n : ActorMachine). IsKept v.plan a n (by a v.log) procs left over gone) (sym machine) (subst (λ (u : View Planned Op). IsKept u.plan a (opening p a) (by a u.log) procs left over gone) (sym view) (kept_first p a procs left over gone is lays))
+    subst (λ (n : ActorMachine). IsKeptByHandle v.plan a n (by a v.log) procs left over gone) (sym machine) (subst (λ (u : View Planned Op). IsKeptByHandle u.plan a (opening p a) (by a u.log) procs left over gone) (sym view) (kept_first p a procs left over gone is lays))
 
 -- what holds of each of these handles, and of one more behind them, holds of each then
 pub each_more : {A : Type 0} (Q : ℕ → A → Type 0) (xs : List A) (y : A) → ((i : ℕ) (x : A) → slice_get xs i ≡ Some x → Q i x) → Q (length xs) y → (i : ℕ) (x : A) → slice_get (xs ++ y ∷ []) i ≡ Some x → Q i x

@@ -34,7 +34,7 @@ use Rattle.gh_shared.specs.Calls.{Fits, RunsIt}
 use Rattle.gh_shared.specs.Counting.{gone_after, HasOneAt, left_after, MayCount, over_after}
 use Rattle.gh_shared.specs.Machines.{asks, begins, gives, goes, is_busy, IsProcessorOf}
 use Rattle.gh_shared.specs.Plans.{Planned}
-use Rattle.gh_shared.specs.Shown.{asked_in, asks_for_cycle, CountsSo, IsKept, left_by, ProcessorRests, runs_by}
+use Rattle.gh_shared.specs.Shown.{asks_for_cycle, CountsSo, IsKeptByHandle, left_by, ProcessorRests, requests_begun, runs_by}
 use Rattle.gh_shared.proofs.Allowed.{below, it_runs, left_is}
 
 -- ---- the entries
@@ -42,7 +42,7 @@ use Rattle.gh_shared.proofs.Allowed.{below, it_runs, left_is}
 -- by these entries one operation more was begun
 pub record OneMore (o : Op) (own own' : List (Entry Op)) : Type 0 where
   pub asked : (g : ℕ) → asked_by g own' ≡ (if asks_collector g (Some o) then 1 else 0) + asked_by g own
-  pub all : asked_in own' ≡ (if asks_for_cycle (Some o) then 1 else 0) + asked_in own
+  pub all : requests_begun own' ≡ (if asks_for_cycle (Some o) then 1 else 0) + requests_begun own
   pub ended : (g : ℕ) → ended_in own' g ≡ (ends (Some o) g || ended_in own g)
   pub left : has_left own' ≡ (leaves (Some o) || has_left own)
 
@@ -54,7 +54,7 @@ module _ (a : ℕ) (o : Op) (m : ActorMachine) (own : List (Entry Op)) where
   more_asked g n [] = refl
   more_asked g n (k ∷ ks) = let rest = more_asked g k ks in omega (arith, rest)
 
-  more_all : (n : ℕ) (ns : List ℕ) → asked_in (Made (n ∷ ns)) ≡ (if asks_for_cycle (Some o) then 1 else 0) + asked_in own
+  more_all : (n : ℕ) (ns : List ℕ) → requests_begun (Made (n ∷ ns)) ≡ (if asks_for_cycle (Some o) then 1 else 0) + requests_begun own
   more_all n [] = refl
   more_all n (k ∷ ks) = let rest = more_all k ks in omega (arith, rest)
 
@@ -82,7 +82,7 @@ ran_more a o x x' me me' (n ∷ ns) out ran gave = subst (OneMore o (by a me.0.l
 
 -- one of these is begun
 module _ (p : Planned) (own own' : List (Entry Op)) (procs : ℕ) (left : List ℕ) (over : List Bool) (gone : Bool) (counts : CountsSo p own procs left over gone) where
-  asks_then : (g : ℕ) → HasOneAt left g → ((j : ℕ) → asked_by j own' ≡ (if g == j then 1 else 0) + asked_by j own) → asked_in own' ≡ 1 + asked_in own → ((j : ℕ) → ended_in own' j ≡ ended_in own j) → has_left own' ≡ has_left own → CountsSo p own' procs (set left g (get_or left g 0 - 1)) over gone
+  asks_then : (g : ℕ) → HasOneAt left g → ((j : ℕ) → asked_by j own' ≡ (if g == j then 1 else 0) + asked_by j own) → requests_begun own' ≡ 1 + requests_begun own → ((j : ℕ) → ended_in own' j ≡ ended_in own j) → has_left own' ≡ has_left own → CountsSo p own' procs (set left g (get_or left g 0 - 1)) over gone
   asks_then g has asked all ended gone_is =
       let one = has.1 in
       let sum = sum_by-set (λ (n : ℕ). n) left g (get_or left g 0 - 1) 0 has.0 in
@@ -99,7 +99,7 @@ module _ (p : Planned) (own own' : List (Entry Op)) (procs : ℕ) (left : List �
         few = omega (arith, sum, few, all, one);
       }
 
-  pub same_then : ((j : ℕ) → asked_by j own' ≡ 0 + asked_by j own) → asked_in own' ≡ 0 + asked_in own → ((j : ℕ) → ended_in own' j ≡ ended_in own j) → (g' : Bool) → g' ≡ has_left own' → CountsSo p own' procs left over g'
+  pub same_then : ((j : ℕ) → asked_by j own' ≡ 0 + asked_by j own) → requests_begun own' ≡ 0 + requests_begun own → ((j : ℕ) → ended_in own' j ≡ ended_in own j) → (g' : Bool) → g' ≡ has_left own' → CountsSo p own' procs left over g'
   same_then asked all ended g' gone_is = record {
     procs_are = counts.procs_are;
     many_left = counts.many_left;
@@ -110,7 +110,7 @@ module _ (p : Planned) (own own' : List (Entry Op)) (procs : ℕ) (left : List �
     few = let few = counts.few in omega (arith, few, all);
   }
 
-  ends_then : (g : ℕ) → g < length over → ((j : ℕ) → asked_by j own' ≡ 0 + asked_by j own) → asked_in own' ≡ 0 + asked_in own → ((j : ℕ) → ended_in own' j ≡ ((g == j) || ended_in own j)) → has_left own' ≡ has_left own → CountsSo p own' procs left (set over g true) gone
+  ends_then : (g : ℕ) → g < length over → ((j : ℕ) → asked_by j own' ≡ 0 + asked_by j own) → requests_begun own' ≡ 0 + requests_begun own → ((j : ℕ) → ended_in own' j ≡ ((g == j) || ended_in own j)) → has_left own' ≡ has_left own → CountsSo p own' procs left (set over g true) gone
   ends_then g there asked all ended gone_is = record {
     procs_are = counts.procs_are;
     many_left = counts.many_left;
@@ -232,8 +232,8 @@ module _ (p : Planned) (a : ℕ) (m : Mutating) (own : List (Entry Op)) (procs :
   may_count op.Leave r f = tt
 
 pub kept_then : (p : Planned) (a : ℕ) (m : Mutating) (o : Op) (me me' : Me (Unit {0}) (View Planned Op)) (x : ActorMachine) (founds : List ℕ) (out : Option Answer) (procs : ℕ) (left : List ℕ) (over : List Bool) (gone : Bool) →
-    IsKept p a (Runs m) (by a me.0.log) procs left over gone → has_left (by a me.0.log) ≡ false → MayCount left over o → Ran asks goes a (Some o) (begins (Runs m) o) me x me' founds → Gave goes gives (begins (Runs m) o) founds out → is_busy x ≡ false →
-    IsKept p a x (by a me'.0.log) procs (left_after left o) (over_after over o) (gone_after gone o)
+    IsKeptByHandle p a (Runs m) (by a me.0.log) procs left over gone → has_left (by a me.0.log) ≡ false → MayCount left over o → Ran asks goes a (Some o) (begins (Runs m) o) me x me' founds → Gave goes gives (begins (Runs m) o) founds out → is_busy x ≡ false →
+    IsKeptByHandle p a x (by a me'.0.log) procs (left_after left o) (over_after over o) (gone_after gone o)
 kept_then p a m o me me' x [] out procs left over gone kept stays may ran gave idle = absurd gave
 kept_then p a m o me me' x (n ∷ ns) out procs left over gone kept stays may ran gave idle =
     let own = by a me.0.log in
@@ -244,9 +244,9 @@ kept_then p a m o me me' x (n ∷ ns) out procs left over gone kept stays may ra
     let is : x ≡ Runs after = ran.machine ∙ runs_after (mutating.begins m o) (n ∷ ns) in
     let still : mutating.is_busy after ≡ false = subst (λ (y : ActorMachine). is_busy y ≡ false) is idle in
     let rests : ProcessorRests p a after made = rests_then p a m own made o (n ∷ ns) (kept.rests m refl) stays one still in
-    let all : IsKept p a x made procs (left_after left o) (over_after over o) (gone_after gone o) = record {
+    let all : IsKeptByHandle p a x made procs (left_after left o) (over_after over o) (gone_after gone o) = record {
       counts = counts_then p own made procs left over gone kept.counts o may one;
       rests = λ m' e. let same : after ≡ m' = cc in subst (λ (y : Mutating). ProcessorRests p a y made) same rests;
       goes_on = λ c e. let no : Runs after ≡ Leads c = sym is ∙ e in absurd cc;
     } in
-    subst (λ (es : List (Entry Op)). IsKept p a x es procs (left_after left o) (over_after over o) (gone_after gone o)) (sym own_is) all
+    subst (λ (es : List (Entry Op)). IsKeptByHandle p a x es procs (left_after left o) (over_after over o) (gone_after gone o)) (sym own_is) all

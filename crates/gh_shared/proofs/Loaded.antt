@@ -20,7 +20,7 @@ use Rattle.gh_mutator.specs.declared.load.LoadStage.TheVariants.{Bits, Birth, Fi
 use Rattle.gh_mutator.specs.declared.step.Then.TheVariants.{Ends}
 use Rattle.gh_mutator.specs.AtOnce.{bits_cell, object_in}
 use Rattle.gh_mutator.specs.Faults.{rested}
-use Rattle.gh_mutator.specs.Fields.{birth_cell, field_cell, has_field, is_pointer_by, page_cell, told, value_of}
+use Rattle.gh_mutator.specs.Fields.{birth_cell, field_cell, has_field, is_pointer_by, page_cell, value_of, value_told}
 use Rattle.gh_mutator.specs.Load as load
 use Rattle.gh_mutator.specs.Mutating as mutating
 use Rattle.gh_mutator.specs.Mutating.{Mutating}
@@ -30,7 +30,7 @@ use Rattle.gh_table.specs.Views.{Carries}
 use Rattle.gh_world.specs.World.{may_begin_of}
 use Rattle.gh_shared.specs.declared.machine.ActorMachine.TheVariants.{Runs}
 use Rattle.gh_shared.specs.AtOnce.{RanAtOnce}
-use Rattle.gh_shared.specs.Machines.{actor_of, IsProcessorOf, ProcessorMay}
+use Rattle.gh_shared.specs.Machines.{IsProcessorOf, machine_actor, ProcessorMay}
 use Rattle.gh_shared.specs.Plans.{Planned, setting}
 use Rattle.gh_shared.proofs.Loading.{at_load, begins_none, begins_page, birth_ends, birth_gives, bits_goes, field_ends, field_gives, field_refers, load_at, none_gives, none_goes, page_ends, page_gives, page_goes, with_value}
 use Rattle.gh_shared.proofs.Midway.{ends_at_once, goes_on_so, MayStart, Midway, Seen, starts}
@@ -54,7 +54,7 @@ pub record MayLoad : Type 0 where
   pub laid : layout ≡ machine.processor.poll.layout
 
 -- where the layout is that of the plan
-abbrev pub may_load : {m : Mutating} {g d b k : ℕ} (a : ℕ) (me : Seen) {key : Planned} {l : Layout} → me.0.plan ≡ key → l ≡ key.layout → IsProcessorOf me.0.plan m → actor_of (Runs m) ≡ actor_in setting me.0 a → ProcessorMay m (op.Load g d b k) → Carries me.0 a → may_begin_of me.0.plan.script me.0.plan.layout a (by a me.0.log) (op.Load g d b k) ≡ true → MayLoad
+abbrev pub may_load : {m : Mutating} {g d b k : ℕ} (a : ℕ) (me : Seen) {key : Planned} {l : Layout} → me.0.plan ≡ key → l ≡ key.layout → IsProcessorOf me.0.plan m → machine_actor (Runs m) ≡ actor_in setting me.0 a → ProcessorMay m (op.Load g d b k) → Carries me.0 a → may_begin_of me.0.plan.script me.0.plan.layout a (by a me.0.log) (op.Load g d b k) ≡ true → MayLoad
 may_load {m} {g} {d} {b} {k} a me {l} plan laid belongs state may carries allowed = record {
   actor = a;
   machine = m;
@@ -124,14 +124,14 @@ module _ (x : MayLoad) where
     value_so = value_is ∙ ap (λ (y : Layout). value_of y.pages pointer n3) laid
 
     -- nil or a number
-    ran_field : {m' : Mutating} {given : Answer} → told (load.naming (at_stage at (Field pointer))) v ≡ Ends given → m' ≡ rested m (set_register m.processor g d v) given → EndsAs m' me3 given
+    ran_field : {m' : Mutating} {given : Answer} → value_told (load.naming (at_stage at (Field pointer))) v ≡ Ends given → m' ≡ rested m (set_register m.processor g d v) given → EndsAs m' me3 given
     ran_field {given} e is = ends_at_once there finds (omega arith) (is ∙ sym (field_ends m g d b k at pointer n3 v value_so given e)) (field_gives m g d b k at pointer n3 v value_so given e) (ap mutating.is_busy is)
 
     pub ran_nil : {m' : Mutating} → v ≡ value.Nil → m' ≡ rested m (set_register m.processor g d v) answer.Nil → EndsAs m' me3 answer.Nil
-    ran_nil e is = ran_field (ap (told (load.naming (at_stage at (Field pointer)))) e) is
+    ran_nil e is = ran_field (ap (value_told (load.naming (at_stage at (Field pointer)))) e) is
 
     pub ran_int : {m' : Mutating} {i : ℕ} → v ≡ value.Int i → m' ≡ rested m (set_register m.processor g d v) (answer.Int i) → EndsAs m' me3 (answer.Int i)
-    ran_int e is = ran_field (ap (told (load.naming (at_stage at (Field pointer)))) e) is
+    ran_int e is = ran_field (ap (value_told (load.naming (at_stage at (Field pointer)))) e) is
 
     -- a reference
     pub asks_birth : {r : ℕ} {c' : Cell} → v ≡ value.Ref r → c' ≡ birth_cell l (r - 1) → Asks (at_load (with_value m g d v) (at_stage at (Birth (r - 1)))) me3 (n3 ∷ n2 ∷ n1 ∷ []) c'

@@ -17,7 +17,7 @@ use Rattle.gh_mutator.specs.declared.step.Then.TheVariants.{Ends}
 use Rattle.gh_mutator.specs.declared.task.Task.TheVariants as task
 use Rattle.gh_mutator.specs.AtOnce.{object_in}
 use Rattle.gh_mutator.specs.Faults.{rested}
-use Rattle.gh_mutator.specs.Fields.{has_field, is_pointer_by, takes, told, value_of}
+use Rattle.gh_mutator.specs.Fields.{has_field, is_pointer_by, takes, value_of, value_told}
 use Rattle.gh_mutator.specs.Listing.{follows}
 use Rattle.gh_mutator.specs.Load as load
 use Rattle.gh_mutator.specs.Mutating as mutating
@@ -104,15 +104,15 @@ module _ (m : Mutating) (g d b k : ℕ) where
       field_step = ap (takes (load.naming at_field)) (sym is)
 
       -- that is told at once
-      pub field_ends : (given : Answer) → told (load.naming at_field) v ≡ Ends given → mutating.goes (at_load m at_field) n ≡ rested m (set_register m.processor g d v) given
+      pub field_ends : (given : Answer) → value_told (load.naming at_field) v ≡ Ends given → mutating.goes (at_load m at_field) n ≡ rested m (set_register m.processor g d v) given
       field_ends given e = goes_so at_field n (takes (load.naming at_field) v) field_step ∙ ap (λ (t : Then Load). after_step m at_field (record { then = t; sets = Some v; acts = true })) e
 
-      pub field_gives : (given : Answer) → told (load.naming at_field) v ≡ Ends given → mutating.gives (at_load m at_field) n ≡ Some given
+      pub field_gives : (given : Answer) → value_told (load.naming at_field) v ≡ Ends given → mutating.gives (at_load m at_field) n ≡ Some given
       field_gives given e = gives_so at_field n (takes (load.naming at_field) v) field_step ∙ ap answered e
 
       -- or that is a reference, of which the name is loaded next
       pub field_refers : (r : ℕ) → v ≡ value.Ref r → mutating.goes (at_load m at_field) n ≡ at_load (with_value m g d v) (load_at at (Birth (r - 1)))
-      field_refers r e = goes_so at_field n (takes (load.naming at_field) v) field_step ∙ ap (λ (w : Value). after_step m at_field (record { then = told (load.naming at_field) w; sets = Some v; acts = true })) e
+      field_refers r e = goes_so at_field n (takes (load.naming at_field) v) field_step ∙ ap (λ (w : Value). after_step m at_field (record { then = value_told (load.naming at_field) w; sets = Some v; acts = true })) e
 
     -- with the name
     pub birth_ends : (v : Value) (i n : ℕ) → mutating.goes (at_load (with_value m g d v) (load_at at (Birth i))) n ≡ rested m (set_register m.processor g d v) (answer.Ref (name_of l.goroutines n))

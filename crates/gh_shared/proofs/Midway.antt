@@ -18,7 +18,7 @@ use Rattle.gh_world.specs.World.{may_begin_of}
 use Rattle.gh_shared.specs.declared.machine.ActorMachine.{ActorMachine}
 use Rattle.gh_shared.specs.declared.machine.ActorMachine.TheVariants.{Runs}
 use Rattle.gh_shared.specs.AtOnce.{RanAtOnce}
-use Rattle.gh_shared.specs.Machines.{actor_of, answered, asks, gives, goes, IsProcessorOf, ProcessorMay}
+use Rattle.gh_shared.specs.Machines.{asks, ends_with_answer, gives, goes, IsProcessorOf, machine_actor, ProcessorMay}
 use Rattle.gh_shared.specs.MachinesAct.{asks_is, begins_is, belongs_begun, busy_is, still_belongs, takes_is}
 use Rattle.gh_shared.specs.Plans.{Planned, setting}
 
@@ -33,7 +33,7 @@ module _ (a : ℕ) (o : Op) (m : Mutating) (me : Seen) where
   -- the processor may begin the operation at this seat
   pub record MayStart : Type 0 where
     pub belongs : IsProcessorOf me.0.plan m
-    pub state : actor_of (Runs m) ≡ actor_in setting me.0 a
+    pub state : machine_actor (Runs m) ≡ actor_in setting me.0 a
     pub may : ProcessorMay m o
     pub carries : Carries me.0 a
     pub allowed : may_begin_of me.0.plan.script me.0.plan.layout a (by a me.0.log) o ≡ true
@@ -42,7 +42,7 @@ module _ (a : ℕ) (o : Op) (m : Mutating) (me : Seen) where
   pub record Midway (x : Mutating) (me' : Seen) (founds : List ℕ) (r : Ask) : Type 0 where
     pub start : MayStart
     pub ran : Ran asks goes a (Some o) (Runs (mutating.begins m o)) me (Runs x) me' founds
-    pub state : actor_of (Runs x) ≡ started (setting me'.0.plan).kind (begun_next (Some o) founds) (actor_in setting me'.0 a)
+    pub state : machine_actor (Runs x) ≡ started (setting me'.0.plan).kind (begun_next (Some o) founds) (actor_in setting me'.0 a)
     pub belongs : IsProcessorOf me'.0.plan x
     pub slots : me'.1 ≡ me.1
     pub seen : (es : List (Entry Op)) → BeganAsEach me'.0.seen es → BeganAsEach me.0.seen es
@@ -101,7 +101,7 @@ module _ {a : ℕ} {o : Op} {m : Mutating} {me : Seen} {x : Mutating} {me' : See
     machine = ap (λ (y : ActorMachine). goes y n) there.ran.machine;
   }
 
-  state_on : actor_of (Runs (mutating.goes x n)) ≡ actor_in setting me''.0 a
+  state_on : machine_actor (Runs (mutating.goes x n)) ≡ actor_in setting me''.0 a
   state_on =
       sym (takes_is me'.0.plan (Runs x) n there.belongs)
       ∙ ap (λ (s : Actor). (setting me'.0.plan).kind.takes s n) there.state
@@ -132,7 +132,7 @@ module _ {a : ℕ} {o : Op} {m : Mutating} {me : Seen} {x : Mutating} {me' : See
     founds = n ∷ founds;
     few = few;
     ran = ran_on;
-    gave = ap (λ (z : ActorMachine). gives z n) (sym there.ran.machine) ∙ ap answered gave;
+    gave = ap (λ (z : ActorMachine). gives z n) (sym there.ran.machine) ∙ ap ends_with_answer gave;
     saw = saw_since setting a me me' me'' there.seen saw;
     idle = ap mutating.is_busy (sym to) ∙ idle;
     belongs = belongs_on;

@@ -8,7 +8,7 @@ use Rattle.gh_base.specs.declared.operation.Op.TheVariants as op
 use Rattle.gh_base.specs.Routines.{EndsWithin, told}
 use Rattle.gh_mutator.specs.Ending.{may_wait, most_steps, OperationsEnd}
 use Rattle.gh_mutator.specs.Local.{marking_at}
-use Rattle.gh_mutator.specs.PollRoom.{MayStore, PollsMakeRoom}
+use Rattle.gh_mutator.specs.PollRoom.{HasRoomToStore, PollsMakeRoom}
 use Rattle.gh_base.specs.Lists.{by, Kind, state_of}
 use Rattle.gh_mutator.specs.Deeds.{processor_kind}
 use Rattle.gh_mutator.specs.Mutating as mutating
@@ -27,9 +27,9 @@ use Rattle.gh_shared.specs.Calls.{Fits, RunsIt, ShowsAfter}
 use Rattle.gh_shared.specs.declared.handle.Handle.{Handle}
 use Rattle.gh_shared.specs.Counting.{gone_after, left_after, MayCount, over_after}
 use Rattle.gh_shared.specs.Handles.{ended_at, ended_of, machine_of, number_of, own_of, room_at, view_of}
-use Rattle.gh_shared.specs.Machines.{actor_of, answered, asks, begins, Belongs, gives, goes, is_busy, IsProcessor, listing, MayBegin}
+use Rattle.gh_shared.specs.Machines.{asks, begins, Belongs, ends_with_answer, gives, goes, is_busy, IsProcessor, listing, machine_actor, MachineMayBegin}
 use Rattle.gh_shared.specs.Plans.{Planned, setting}
-use Rattle.gh_shared.specs.Shown.{IsKept, left_by, runs_by}
+use Rattle.gh_shared.specs.Shown.{IsKeptByHandle, left_by, runs_by}
 use Rattle.gh_shared.proofs.Allowed.{allowed}
 use Rattle.gh_shared.proofs.Rooms.{room_so}
 use Rattle.gh_shared.proofs.Keeping.{kept_then, may_count, OneMore, ran_more, runs_after}
@@ -39,11 +39,11 @@ abbrev pub OfItsOwn : Type 0
 OfItsOwn = (k : Kind Actor Op) (a : ℕ) (es : List (Entry Op)) → state_of k a es ≡ state_of k a (by a es)
 
 pub record Ready (p : Planned) (a : ℕ) (x : ActorMachine) (own : List (Entry Op)) (left : List ℕ) (over : List Bool) (o : Op) : Type 0 where
-  pub may : MayBegin x o
+  pub may : MachineMayBegin x o
   pub allowed : may_begin_of p.script p.layout a own o ≡ true
   pub counts : MayCount left over o
 
-pub ready : (p : Planned) (a : ℕ) (x : ActorMachine) (log : List (Entry Op)) (procs : ℕ) (left : List ℕ) (over : List Bool) (gone : Bool) (o : Op) → OfItsOwn → IsKept p a x (by a log) procs left over gone → Belongs p x → actor_of x ≡ state_of (setting p).kind a log → IsProcessor x → ended_at x (by a log) ≡ false → RunsIt p a x (by a log) (goroutine_of o) → Fits p a x (by a log) o → Ready p a x (by a log) left over o
+pub ready : (p : Planned) (a : ℕ) (x : ActorMachine) (log : List (Entry Op)) (procs : ℕ) (left : List ℕ) (over : List Bool) (gone : Bool) (o : Op) → OfItsOwn → IsKeptByHandle p a x (by a log) procs left over gone → Belongs p x → machine_actor x ≡ state_of (setting p).kind a log → IsProcessor x → ended_at x (by a log) ≡ false → RunsIt p a x (by a log) (goroutine_of o) → Fits p a x (by a log) o → Ready p a x (by a log) left over o
 ready p a (Marks w) log procs left over gone o law kept belongs state is going runs fits = absurd is
 ready p a (Leads c) log procs left over gone o law kept belongs state is going runs fits = absurd is
 ready p a (Runs m) log procs left over gone o law kept belongs state is going runs fits =
@@ -58,15 +58,15 @@ ready p a (Runs m) log procs left over gone o law kept belongs state is going ru
     run_it o r = r
 
 module _ (p : Planned) (a : ℕ) (x : ActorMachine) (o : Op) (me me' : Me (Unit {0}) (View Planned Op)) (x' : ActorMachine) (founds : List ℕ) (out : Option Answer) (procs : ℕ) (left : List ℕ) (over : List Bool) (gone : Bool) where
-  pub kept_after : IsKept p a x (by a me.0.log) procs left over gone → IsProcessor x → ended_at x (by a me.0.log) ≡ false → MayCount left over o → Ran asks goes a (Some o) (begins x o) me x' me' founds → Gave goes gives (begins x o) founds out → is_busy x' ≡ false → IsKept p a x' (by a me'.0.log) procs (left_after left o) (over_after over o) (gone_after gone o)
+  pub kept_after : IsKeptByHandle p a x (by a me.0.log) procs left over gone → IsProcessor x → ended_at x (by a me.0.log) ≡ false → MayCount left over o → Ran asks goes a (Some o) (begins x o) me x' me' founds → Gave goes gives (begins x o) founds out → is_busy x' ≡ false → IsKeptByHandle p a x' (by a me'.0.log) procs (left_after left o) (over_after over o) (gone_after gone o)
   kept_after = go x where
-    go : (x : ActorMachine) → IsKept p a x (by a me.0.log) procs left over gone → IsProcessor x → ended_at x (by a me.0.log) ≡ false → MayCount left over o → Ran asks goes a (Some o) (begins x o) me x' me' founds → Gave goes gives (begins x o) founds out → is_busy x' ≡ false → IsKept p a x' (by a me'.0.log) procs (left_after left o) (over_after over o) (gone_after gone o)
+    go : (x : ActorMachine) → IsKeptByHandle p a x (by a me.0.log) procs left over gone → IsProcessor x → ended_at x (by a me.0.log) ≡ false → MayCount left over o → Ran asks goes a (Some o) (begins x o) me x' me' founds → Gave goes gives (begins x o) founds out → is_busy x' ≡ false → IsKeptByHandle p a x' (by a me'.0.log) procs (left_after left o) (over_after over o) (gone_after gone o)
     go (Runs m) kept is going may ran gave idle = kept_then p a m o me me' x' founds out procs left over gone kept going may ran gave idle
     go (Marks w) kept is going may ran gave idle = absurd is
     go (Leads c) kept is going may ran gave idle = absurd is
 
 -- a processor ends an operation with an answer
-answered_some : (x : Option Answer) → answered x ≡ Some None → ⊥
+answered_some : (x : Option Answer) → ends_with_answer x ≡ Some None → ⊥
 answered_some None e = absurd cc
 answered_some (Some y) e = absurd cc
 
@@ -147,7 +147,7 @@ either_few i j n le me false = me
 
 -- ---- a poll makes room
 
-stores : (m : Mutating) (founds : List ℕ) → PollsMakeRoom → MayStore m.processor → MayStore (machine_after mutating.goes m founds).processor
+stores : (m : Mutating) (founds : List ℕ) → PollsMakeRoom → HasRoomToStore m.processor → HasRoomToStore (machine_after mutating.goes m founds).processor
 stores m [] law may = may
 stores m (n ∷ ns) law may = law.goes_on (machine_after mutating.goes m ns).shapes (machine_after mutating.goes m ns).processor n (stores m ns law may)
 

@@ -9,7 +9,7 @@ use Rattle.gh_table.specs.declared.plan.View.{View}
 use Rattle.gh_table.specs.Rule.{actor_in}
 use Rattle.gh_table.specs.Runs.{Gave, Ran, SawLegalList}
 use Rattle.gh_shared.specs.declared.machine.ActorMachine.TheVariants.{Runs}
-use Rattle.gh_shared.specs.Machines.{actor_of, asks, begins, gives, goes, IsProcessorOf}
+use Rattle.gh_shared.specs.Machines.{asks, begins, gives, goes, IsProcessorOf, machine_actor}
 use Rattle.gh_shared.specs.Plans.{Planned, setting}
 
 -- The processor m has run the operation to its end, by exactly the steps of its machine, so many at the most. It is m' now: what the machine is after them, and what the actor is after its entries.
@@ -21,5 +21,5 @@ pub record RanAtOnce (a : ℕ) (o : Op) (most : ℕ) (m : Mutating) (me : Me (Un
   pub saw : SawLegalList setting a me me'
   pub idle : mutating.is_busy m' ≡ false
   pub belongs : IsProcessorOf me'.0.plan m'
-  pub state : actor_of (Runs m') ≡ actor_in setting me'.0 a
+  pub state : machine_actor (Runs m') ≡ actor_in setting me'.0 a
   pub slots : me'.1 ≡ me.1

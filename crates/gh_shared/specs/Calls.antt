@@ -5,7 +5,7 @@ use Rattle.gh_base.specs.declared.machine.Entry.{Entry}
 use Rattle.gh_base.specs.declared.operation.Op.{Op}
 use Rattle.gh_base.specs.declared.operation.Op.TheVariants as op
 use Rattle.gh_base.specs.declared.value.Answer.{Answer}
-use Rattle.gh_base.specs.Cells.{seats_of, Shows}
+use Rattle.gh_base.specs.Cells.{seats_of, ShowsCells}
 use Rattle.gh_base.specs.Lists.{by, Legal, state_of, words_after}
 use Rattle.gh_coord.specs.Listing.{Coordinating}
 use Rattle.gh_coord.specs.Stopping.{acks_of}
@@ -20,7 +20,7 @@ use Rattle.gh_lists.specs.Processors.{answers_of, AnswersAsEver, arena_of, asks_
 use Rattle.gh_shared.specs.declared.handle.Handle.{Handle}
 use Rattle.gh_shared.specs.declared.heap.Heap.{Heap}
 use Rattle.gh_shared.specs.declared.machine.ActorMachine.{ActorMachine}
-use Rattle.gh_shared.specs.Handles.{carries_of, ended_of, IsOf, left_of, machine_of, number_of, own_of, room_at, runs_in, view_of}
+use Rattle.gh_shared.specs.Handles.{carries_of, ended_of, IsHandleOf, left_of, machine_of, number_of, own_of, room_at, runs_in, view_of}
 use Rattle.gh_shared.specs.Machines.{asks, begins, gives, goes, IsProcessor}
 use Rattle.gh_shared.specs.Plans.{Planned, setting}
 use Rattle.gh_shared.specs.Shown.{left_by, runs_by}
@@ -28,7 +28,7 @@ use Rattle.gh_world.specs.World.{setup_of}
 
 -- the handle of a processor of this heap that has not ended
 pub record IsGoing (heap : Heap) (h : Handle) : Type 0 where
-  pub of : IsOf heap h
+  pub of : IsHandleOf heap h
   pub processor : IsProcessor (machine_of h)
   pub going : ended_of h ≡ false
 
@@ -68,7 +68,7 @@ pub record ShowsAfter (o : Op) (h h' : Handle) : Type 0 where
 
 -- The operation was begun and ran to its end. The actor's entries are as before, followed by exactly its own; the answer is what the machine answers after them; and the seat has seen a legal list with them, which stands now.
 pub record Operated (heap : Heap) (o : Op) (h h' : Handle) (answer : Answer) (founds : List ℕ) : Type 0 where
-  pub of : IsOf heap h'
+  pub of : IsHandleOf heap h'
   pub number : number_of h' ≡ number_of h
   pub ran : Ran asks goes (number_of h) (Some o) (begins (machine_of h) o) h.hand.seat.me (machine_of h') h'.hand.seat.me founds
   pub gave : Gave goes gives (begins (machine_of h) o) founds (Some answer)
@@ -100,7 +100,7 @@ AnswersAreEvers p = (es : List (Entry Op)) (a : ℕ) → Legal (setting p) es �
 
 -- The actor has made these steps and no others, and is done by them
 pub record RanToItsEnd (heap : Heap) (h h' : Handle) (founds : List ℕ) : Type 0 where
-  pub of : IsOf heap h'
+  pub of : IsHandleOf heap h'
   pub number : number_of h' ≡ number_of h
   pub ran : Ran asks goes (number_of h) None (machine_of h) h.hand.seat.me (machine_of h') h'.hand.seat.me founds
   pub saw : SawLegalList setting (number_of h') h.hand.seat.me h'.hand.seat.me
@@ -122,7 +122,7 @@ pub record Gathered (h other h' : Handle) : Type 0 where
 pub record IsClosedAfter (p : Planned) (v : View Planned Op) (c : Coordinating) (drawn : ℕ) (ws : List ℕ) : Type 0 where
   pub list : List (Entry Op)
   pub legal : Legal (setting p) list
-  pub words : Shows p.layout ws (words_after (setting p).opening list)
+  pub words : ShowsCells p.layout ws (words_after (setting p).opening list)
   pub entries : (a : ℕ) → a < seats_of p.layout → by a list ≡ by a v.log
   pub seen : BeganAsEach v.seen list
   pub coordinator : actor.Leads c ≡ state_of (setting p).kind (acks_of p.layout) list

@@ -62,13 +62,13 @@ carries_of h = count_among (view_of h).actors (seats_of (view_of h).plan.layout)
 abbrev pub ended_at : ActorMachine → List (Entry Op) → Bool
 ended_at (Runs m) own = has_left own
 ended_at (Marks w) own = not (worker.is_busy w.stage)
-ended_at (Leads c) own = coord.is_done c.stage
+ended_at (Leads c) own = coord.is_done_at c.stage
 
 abbrev pub ended_of : Handle → Bool
 ended_of h = ended_at (machine_of h) (own_of h)
 
 -- the handle is one of this heap
-pub record IsOf (heap : Heap) (h : Handle) : Type 0 where
+pub record IsHandleOf (heap : Heap) (h : Handle) : Type 0 where
   pub table : h.hand.seat.table_id ≡ heap.table.shared.table_id
   pub plan : (view_of h).plan ≡ plan_of heap
 
@@ -80,7 +80,7 @@ pub record IsHeapOf (p : Program) (heap : Heap) : Type 0 where
 
 -- the actor of this number, before its first step, whom this handle carries and no other
 pub record IsFresh (heap : Heap) (a : ℕ) (h : Handle) : Type 0 where
-  pub of : IsOf heap h
+  pub of : IsHandleOf heap h
   pub number : number_of h ≡ a
   pub machine : machine_of h ≡ opening (plan_of heap) a
   pub view : view_of h ≡ one_carried (plan_of heap) a

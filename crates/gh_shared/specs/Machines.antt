@@ -21,10 +21,10 @@ use Rattle.gh_shared.specs.Plans.{Planned}
 
 -- ---- its steps
 
-abbrev pub layout : ActorMachine → Layout
-layout (Runs m) = mutating.layout m
-layout (Marks w) = w.layout
-layout (Leads c) = c.layout
+abbrev pub machine_layout : ActorMachine → Layout
+machine_layout (Runs m) = mutating.layout m
+machine_layout (Marks w) = w.layout
+machine_layout (Leads c) = c.layout
 
 abbrev pub is_busy : ActorMachine → Bool
 is_busy (Runs m) = mutating.is_busy m
@@ -42,28 +42,28 @@ goes (Marks w) found = Marks (worker.goes w found)
 goes (Leads c) found = Leads (coord.goes c found)
 
 -- a processor ends an operation with an answer
-abbrev pub answered : Option Answer → Option (Option Answer)
-answered None = None
-answered (Some answer) = Some (Some answer)
+abbrev pub ends_with_answer : Option Answer → Option (Option Answer)
+ends_with_answer None = None
+ends_with_answer (Some answer) = Some (Some answer)
 
 -- a worker and the coordinator end with none
-abbrev pub ended : Option (Unit {0}) → Option (Option Answer)
-ended None = None
-ended (Some u) = Some None
+abbrev pub ends_with_none : Option (Unit {0}) → Option (Option Answer)
+ends_with_none None = None
+ends_with_none (Some u) = Some None
 
 abbrev pub gives : ActorMachine → ℕ → Option (Option Answer)
-gives (Runs m) found = answered (mutating.gives m found)
-gives (Marks w) found = ended (worker.gives w found)
-gives (Leads c) found = ended (coord.gives c found)
+gives (Runs m) found = ends_with_answer (mutating.gives m found)
+gives (Marks w) found = ends_with_none (worker.gives w found)
+gives (Leads c) found = ends_with_none (coord.gives c found)
 
 abbrev pub listing : Listing ActorMachine (Option Answer)
-listing = record { layout = layout; busy = is_busy; asks = asks; goes = goes; gives = gives }
+listing = record { layout = machine_layout; busy = is_busy; asks = asks; goes = goes; gives = gives }
 
 -- what it counts of itself: answered statements, scanned words, or how often the phase word was stored
-abbrev pub marked : ActorMachine → ℕ
-marked (Runs m) = m.marks
-marked (Marks w) = w.marks
-marked (Leads c) = c.marks
+abbrev pub machine_marks : ActorMachine → ℕ
+machine_marks (Runs m) = m.marks
+machine_marks (Marks w) = w.marks
+machine_marks (Leads c) = c.marks
 
 -- ---- which actor it is
 
@@ -93,10 +93,10 @@ IsOther (Runs m) = ⊥
 IsOther (Marks w) = Unit {0}
 IsOther (Leads c) = Unit {0}
 
-abbrev pub actor_of : ActorMachine → Actor
-actor_of (Runs m) = actor.Runs m.processor
-actor_of (Marks w) = actor.Marks w
-actor_of (Leads c) = actor.Leads c
+abbrev pub machine_actor : ActorMachine → Actor
+machine_actor (Runs m) = actor.Runs m.processor
+machine_actor (Marks w) = actor.Marks w
+machine_actor (Leads c) = actor.Leads c
 
 -- the processor has the script's shapes, and the heap's layout
 pub record IsProcessorOf (p : Planned) (m : Mutating) : Type 0 where
@@ -127,10 +127,10 @@ pub record ProcessorMay (m : Mutating) (o : Op) : Type 0 where
   pub room : has_room m.processor o ≡ true
 
 -- operations are begun by processors alone
-abbrev pub MayBegin : ActorMachine → Op → Type 0
-MayBegin (Runs m) o = ProcessorMay m o
-MayBegin (Marks w) o = ⊥
-MayBegin (Leads c) o = ⊥
+abbrev pub MachineMayBegin : ActorMachine → Op → Type 0
+MachineMayBegin (Runs m) o = ProcessorMay m o
+MachineMayBegin (Marks w) o = ⊥
+MachineMayBegin (Leads c) o = ⊥
 
 abbrev pub begins : ActorMachine → Op → ActorMachine
 begins (Runs m) o = Runs (mutating.begins m o)

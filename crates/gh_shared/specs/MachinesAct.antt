@@ -21,7 +21,7 @@ use Rattle.gh_worker.specs.Stays as worker
 use Rattle.gh_lists.specs.declared.handshake.Actor.TheVariants as actor
 use Rattle.gh_shared.specs.declared.machine.ActorMachine.{ActorMachine}
 use Rattle.gh_shared.specs.declared.machine.ActorMachine.TheVariants.{Leads, Marks, Runs}
-use Rattle.gh_shared.specs.Machines.{actor_of, answered, asks, begins, Belongs, ended, gives, goes, is_busy, IsProcessorOf, layout, MayBegin}
+use Rattle.gh_shared.specs.Machines.{asks, begins, Belongs, ends_with_answer, ends_with_none, gives, goes, is_busy, IsProcessorOf, machine_actor, machine_layout, MachineMayBegin}
 use Rattle.gh_shared.specs.Plans.{Planned, setting}
 use Rattle.std.proofs.Common.{ap, sym, ◌∙◌, refl}
 use Rattle.std.proofs.Props.{props}
@@ -37,30 +37,30 @@ belongs_once p (Runs m) = processor_once p m
 belongs_once p (Marks w) = layout_once w.layout p.layout
 belongs_once p (Leads c) = layout_once c.layout p.layout
 
-pub layout_is : (p : Planned) (m : ActorMachine) → Belongs p m → layout m ≡ (setting p).layout
+pub layout_is : (p : Planned) (m : ActorMachine) → Belongs p m → machine_layout m ≡ (setting p).layout
 layout_is p (Runs m) of = of.layout
 layout_is p (Marks w) of = of
 layout_is p (Leads c) of = of
 
-pub busy_is : (p : Planned) (m : ActorMachine) → Belongs p m → (setting p).kind.busy (actor_of m) ≡ is_busy m
+pub busy_is : (p : Planned) (m : ActorMachine) → Belongs p m → (setting p).kind.busy (machine_actor m) ≡ is_busy m
 busy_is p (Runs m) of = refl
 busy_is p (Marks w) of = refl
 busy_is p (Leads c) of = refl
 
-pub asks_is : (p : Planned) (m : ActorMachine) → Belongs p m → (setting p).kind.asks (actor_of m) ≡ asks m
+pub asks_is : (p : Planned) (m : ActorMachine) → Belongs p m → (setting p).kind.asks (machine_actor m) ≡ asks m
 asks_is p (Runs m) of = refl
 asks_is p (Marks w) of = refl
 asks_is p (Leads c) of = refl
 
-pub takes_is : (p : Planned) (m : ActorMachine) (found : ℕ) → Belongs p m → (setting p).kind.takes (actor_of m) found ≡ actor_of (goes m found)
+pub takes_is : (p : Planned) (m : ActorMachine) (found : ℕ) → Belongs p m → (setting p).kind.takes (machine_actor m) found ≡ machine_actor (goes m found)
 takes_is p (Runs m) found of = ap (λ (shapes : List Shape). actor.Runs (listing.takes shapes m.processor found)) (sym of.shapes)
 takes_is p (Marks w) found of = refl
 takes_is p (Leads c) found of = refl
 
 pub stores_blindly : (m : ActorMachine) (found other : ℕ) → is_store (asks m) ≡ true → (goes m found ≡ goes m other) × (gives m found ≡ gives m other)
-stores_blindly (Runs m) found other e = (ap Runs (runs_blindly.blind m found other e), ap answered (runs_blindly.blind_gives m found other e))
-stores_blindly (Marks w) found other e = let same = marks_blindly.blind w found other e in (ap Marks same, ap (λ (x : Working). ended (working.given x)) same)
-stores_blindly (Leads c) found other e = let same = leads_blindly.blind c found other e in (ap Leads same, ap (λ (x : Coordinating). ended (leading.given x)) same)
+stores_blindly (Runs m) found other e = (ap Runs (runs_blindly.blind m found other e), ap ends_with_answer (runs_blindly.blind_gives m found other e))
+stores_blindly (Marks w) found other e = let same = marks_blindly.blind w found other e in (ap Marks same, ap (λ (x : Working). ends_with_none (working.given x)) same)
+stores_blindly (Leads c) found other e = let same = leads_blindly.blind c found other e in (ap Leads same, ap (λ (x : Coordinating). ends_with_none (leading.given x)) same)
 
 pub still_belongs : (p : Planned) (m : ActorMachine) (found : ℕ) → Belongs p m → Belongs p (goes m found)
 still_belongs p (Runs m) found of = record { shapes = of.shapes; layout = mutator.stays m found ∙ of.layout }
@@ -69,7 +69,7 @@ still_belongs p (Leads c) found of = coord.stays c found ∙ of
 
 -- ---- what a processor begins
 
-pub idle : (m : ActorMachine) (o : Op) → MayBegin m o → is_busy m ≡ false
+pub idle : (m : ActorMachine) (o : Op) → MachineMayBegin m o → is_busy m ≡ false
 idle (Runs m) o may = may.idle
 idle (Marks w) o may = absurd may
 idle (Leads c) o may = absurd may
@@ -88,12 +88,12 @@ processor_runs m op.Poll = refl
 processor_runs m (op.End g) = refl
 processor_runs m op.Leave = refl
 
-pub runs : (m : ActorMachine) (o : Op) → MayBegin m o → is_busy (begins m o) ≡ true
+pub runs : (m : ActorMachine) (o : Op) → MachineMayBegin m o → is_busy (begins m o) ≡ true
 runs (Runs m) o may = processor_runs m o
 runs (Marks w) o may = absurd may
 runs (Leads c) o may = absurd may
 
-pub begins_is : (p : Planned) (m : ActorMachine) (o : Op) → Belongs p m → MayBegin m o → (setting p).kind.begins (actor_of m) o ≡ actor_of (begins m o)
+pub begins_is : (p : Planned) (m : ActorMachine) (o : Op) → Belongs p m → MachineMayBegin m o → (setting p).kind.begins (machine_actor m) o ≡ machine_actor (begins m o)
 begins_is p (Runs m) o of may = rw may.there (ap (λ (shapes : List Shape). actor.Runs (listing.begins shapes m.processor o)) (sym of.shapes))
 begins_is p (Marks w) o of may = absurd may
 begins_is p (Leads c) o of may = absurd may

@@ -9,13 +9,13 @@ use Rattle.gh_worker.specs.Listing as working
 use Rattle.gh_coord.specs.Listing as leading
 use Rattle.gh_shared.specs.declared.machine.ActorMachine.{ActorMachine}
 use Rattle.gh_shared.specs.declared.machine.ActorMachine.TheVariants.{Leads, Marks, Runs}
-use Rattle.gh_shared.specs.Machines.{answered, ended, gives, goes, is_busy, layout}
+use Rattle.gh_shared.specs.Machines.{ends_with_answer, ends_with_none, gives, goes, is_busy, machine_layout}
 
-answered_none : (P : Type 0) (x : Option Answer) → (IsNone x ↔ P) → IsNone (answered x) ↔ P
+answered_none : (P : Type 0) (x : Option Answer) → (IsNone x ↔ P) → IsNone (ends_with_answer x) ↔ P
 answered_none P None h = h
 answered_none P (Some a) h = h
 
-ended_none : (P : Type 0) (x : Option (Unit {0})) → (IsNone x ↔ P) → IsNone (ended x) ↔ P
+ended_none : (P : Type 0) (x : Option (Unit {0})) → (IsNone x ↔ P) → IsNone (ends_with_none x) ↔ P
 ended_none P None h = h
 ended_none P (Some a) h = h
 
@@ -24,7 +24,7 @@ ends (Runs m) found busy = answered_none (mutating.is_busy (mutating.goes m foun
 ends (Marks w) found busy = ended_none (working.is_busy (working.goes w found).stage ≡ true) (working.gives w found) (worker.ends w found busy)
 ends (Leads c) found busy = ended_none (leading.is_busy (leading.goes c found).stage ≡ true) (leading.gives c found) (coord.ends c found busy)
 
-pub stays : (m : ActorMachine) (found : ℕ) → layout (goes m found) ≡ layout m
+pub stays : (m : ActorMachine) (found : ℕ) → machine_layout (goes m found) ≡ machine_layout m
 stays (Runs m) found = mutator.stays m found
 stays (Marks w) found = worker.stays w found
 stays (Leads c) found = coord.stays c found

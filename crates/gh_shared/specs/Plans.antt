@@ -40,8 +40,8 @@ no_layout = record {
   };
 }
 
-pub nothing : Planned
-nothing = record { script = no_program; layout = no_layout }
+pub nothing_planned : Planned
+nothing_planned = record { script = no_program; layout = no_layout }
 
 pub no_actor : Actor
 no_actor = Runs (opening_processor no_layout 0)

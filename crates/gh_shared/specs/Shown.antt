@@ -23,7 +23,7 @@ use Rattle.gh_world.specs.Wishes.{wishes_of}
 use Rattle.gh_world.specs.World.{MadeAtMost}
 use Rattle.gh_shared.specs.declared.machine.ActorMachine.{ActorMachine}
 use Rattle.gh_shared.specs.declared.machine.ActorMachine.TheVariants.{Leads, Runs}
-use Rattle.gh_shared.specs.Machines.{actor_of, is_coordinator}
+use Rattle.gh_shared.specs.Machines.{is_coordinator, machine_actor}
 use Rattle.gh_shared.specs.Plans.{Planned, setting}
 
 -- goroutine g is one of the processor at seat a, and has not ended by these entries
@@ -41,9 +41,9 @@ asks_for_cycle (Some (op.Gc g)) = true
 asks_for_cycle _ = false
 
 -- how many of them were begun
-abbrev pub asked_in : List (Entry Op) → ℕ
-asked_in [] = 0
-asked_in (e ∷ es) = (if asks_for_cycle e.begun then 1 else 0) + asked_in es
+abbrev pub requests_begun : List (Entry Op) → ℕ
+requests_begun [] = 0
+requests_begun (e ∷ es) = (if asks_for_cycle e.begun then 1 else 0) + requests_begun es
 
 -- the counts of a handle are those by its actor's entries
 pub record CountsSo (p : Planned) (own : List (Entry Op)) (procs : ℕ) (left : List ℕ) (over : List Bool) (gone : Bool) : Type 0 where
@@ -53,28 +53,28 @@ pub record CountsSo (p : Planned) (own : List (Entry Op)) (procs : ℕ) (left : 
   pub each_left : (g n : ℕ) → slice_get left g ≡ Some n → n + asked_by g own ≡ wishes_of p.script g
   pub each_over : (g : ℕ) (b : Bool) → slice_get over g ≡ Some b → b ≡ ended_in own g
   pub has_gone : gone ≡ has_left own
-  pub few : asked_in own + sum_by (λ (n : ℕ). n) left ≤ most_objects
+  pub few : requests_begun own + sum_by (λ (n : ℕ). n) left ≤ most_objects
 
 -- a processor rests between two calls, and has made no more objects than `new` were begun
 pub record ProcessorRests (p : Planned) (a : ℕ) (m : Mutating) (own : List (Entry Op)) : Type 0 where
   pub seat : a < p.layout.procs
   pub idle : mutating.is_busy m ≡ false
   pub leaves : is_leaving m.processor.task ≡ has_left own
-  pub made : MadeAtMost (asked_in own) m.processor
+  pub made : MadeAtMost (requests_begun own) m.processor
 
 -- if it is one
-abbrev pub Rests : Planned → (a : ℕ) → ActorMachine → List (Entry Op) → Type 0
-Rests p a x own = (m : Mutating) → x ≡ Runs m → ProcessorRests p a m own
+abbrev pub RestsIfProcessor : Planned → (a : ℕ) → ActorMachine → List (Entry Op) → Type 0
+RestsIfProcessor p a x own = (m : Mutating) → x ≡ Runs m → ProcessorRests p a m own
 
 -- the coordinator has a further step exactly where it is not done, if it is one
-abbrev pub GoesOn : ActorMachine → Type 0
-GoesOn x = (c : Coordinating) → x ≡ Leads c → coord.is_busy c.stage ≡ not (coord.is_done c.stage)
+abbrev pub CoordinatorGoesOn : ActorMachine → Type 0
+CoordinatorGoesOn x = (c : Coordinating) → x ≡ Leads c → coord.is_busy c.stage ≡ not (coord.is_done_at c.stage)
 
 -- what a handle keeps of its actor between two calls
-pub record IsKept (p : Planned) (a : ℕ) (m : ActorMachine) (own : List (Entry Op)) (procs : ℕ) (left : List ℕ) (over : List Bool) (gone : Bool) : Type 0 where
+pub record IsKeptByHandle (p : Planned) (a : ℕ) (m : ActorMachine) (own : List (Entry Op)) (procs : ℕ) (left : List ℕ) (over : List Bool) (gone : Bool) : Type 0 where
   pub counts : CountsSo p own procs left over gone
-  pub rests : Rests p a m own
-  pub goes_on : GoesOn m
+  pub rests : RestsIfProcessor p a m own
+  pub goes_on : CoordinatorGoesOn m
 
 -- ---- what the seat carries
 
@@ -99,8 +99,8 @@ first_of None led = led
 first_of (Some c) led = Some c
 
 -- the words of credit that the actor has drawn
-abbrev pub drawn_by : ActorMachine → ℕ
-drawn_by x = spent_at (actor_of x)
+abbrev pub credit_drawn : ActorMachine → ℕ
+credit_drawn x = spent_at (machine_actor x)
 
 -- what actor c has drawn by these entries, where it is among the actors xs and is not a
 abbrev pub drawn_beside : Planned → (a : ℕ) → (xs : List ℕ) → List (Entry Op) → (c : ℕ) → ℕ

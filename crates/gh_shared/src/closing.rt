@@ -7,8 +7,8 @@ ghost use Rattle.std.specs.Slots.{slots_items, slots_len, IsFull};
 ghost use Rattle.gh_base.specs.Cells.{length_of, seats_of};
 ghost use Rattle.gh_coord.specs.Listing.{lapsed_at};
 ghost use Rattle.gh_shared.specs.Calls.{Gathered, IsClosedAfter};
-ghost use Rattle.gh_shared.specs.Handles.{carries_of, machine_of, number_of, plan_of, view_of, IsOf};
-ghost use Rattle.gh_shared.specs.Shown.{drawn_by, first_of, leader_of};
+ghost use Rattle.gh_shared.specs.Handles.{carries_of, machine_of, number_of, plan_of, view_of, IsHandleOf};
+ghost use Rattle.gh_shared.specs.Shown.{credit_drawn, first_of, leader_of};
 
 use crate::handle::Handle;
 use crate::heap::Heap;
@@ -52,7 +52,7 @@ fn first_of(led: Option<Coord>, other: Option<Coord>) -> Option<Coord>
 
 /// The words of credit that the actor has drawn: none, if it is no processor.
 fn drawn_by<'s>(machine: &ActorMachine<'s>) -> u64
-    ensures { result ≡ drawn_by machine.now }
+    ensures { result ≡ credit_drawn machine.now }
 {
     match machine {
         ActorMachine::Runs(processor) => processor.spent(),
@@ -63,9 +63,9 @@ fn drawn_by<'s>(machine: &ActorMachine<'s>) -> u64
 impl Heap {
     /// The handle takes over what the other carries, whose actor steps no more.
     pub fn gather<'s>(&self, h: &mut Handle<'s>, other: Handle<'s>)
-        requires of { IsOf self.now h.old }
-        requires other { IsOf self.now other }
-        ensures of { IsOf self.now h.new }
+        requires of { IsHandleOf self.now h.old }
+        requires other { IsHandleOf self.now other }
+        ensures of { IsHandleOf self.now h.new }
         ensures same { (number_of h.new ≡ number_of h.old) × (machine_of h.new ≡ machine_of h.old) }
         ensures gathered { Gathered h.old other.entry h.new }
     {
@@ -88,7 +88,7 @@ impl Heap {
     /// actor exactly the entries of the handle; the cycles are those that the coordinator has kept by then, and the credit that was
     /// spent is what all processors have drawn.
     pub fn close<'s>(self, last: Handle<'s>) -> Closed
-        requires of { IsOf self last }
+        requires of { IsHandleOf self last }
         requires all { carries_of last ≡ seats_of (plan_of self).layout }
         ensures after { IsClosedAfter (plan_of self) (view_of last.entry) result.coordinator result.drawn (slots_items result.words.words) }
         ensures many { slots_len result.words.words ≡ length_of (plan_of self).layout }

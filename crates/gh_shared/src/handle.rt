@@ -1,7 +1,7 @@
 //! The right to run an actor of a heap.
 
 ghost use Rattle.gh_base.specs.Lists.{by};
-ghost use Rattle.gh_shared.specs.Shown.{CarriesSo, IsKept};
+ghost use Rattle.gh_shared.specs.Shown.{CarriesSo, IsKeptByHandle};
 
 use crate::counts::Counts;
 use crate::machine::ActorMachine;
@@ -22,6 +22,6 @@ pub struct Handle<'s> {
     pub drawn: u64,
     /// The coordinator's machine, once the coordinator's handle was gathered.
     pub led: Option<Coord>,
-    pub ghost kept: { IsKept hand.seat.me.0.plan hand.actor hand.machine (by hand.actor hand.seat.me.0.log) counts.procs counts.left.items counts.over.items counts.gone },
+    pub ghost kept: { IsKeptByHandle hand.seat.me.0.plan hand.actor hand.machine (by hand.actor hand.seat.me.0.log) counts.procs counts.left.items counts.over.items counts.gone },
     pub ghost carries: { CarriesSo hand.seat.me.0.plan hand.seat.me.0.actors hand.seat.me.0.log hand.actor hand.machine carried drawn led },
 }

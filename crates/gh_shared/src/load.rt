@@ -14,7 +14,7 @@ ghost use Rattle.gh_table.specs.Views.{Carries};
 ghost use Rattle.gh_world.specs.World.{may_begin_of};
 ghost use Rattle.gh_shared.specs.declared.machine.ActorMachine.TheVariants.{Runs};
 ghost use Rattle.gh_shared.specs.AtOnce.{RanAtOnce};
-ghost use Rattle.gh_shared.specs.Machines.{actor_of, IsProcessorOf, ProcessorMay};
+ghost use Rattle.gh_shared.specs.Machines.{IsProcessorOf, machine_actor, ProcessorMay};
 ghost use Rattle.gh_shared.specs.Plans.{setting};
 
 use crate::heap::Heap;
@@ -44,7 +44,7 @@ impl Heap {
         requires table { (seat.old.table_id ≡ self.now.table.shared.table_id) × (seat.old.me.0.plan ≡ self.now.table.shared.key) }
         requires carries { Carries seat.old.me.0 actor }
         requires belongs { IsProcessorOf seat.old.me.0.plan processor.old }
-        requires state { actor_of (Runs processor.old) ≡ actor_in setting seat.old.me.0 actor }
+        requires state { machine_actor (Runs processor.old) ≡ actor_in setting seat.old.me.0 actor }
         requires may { ProcessorMay processor.old (ops.Load g d b k) }
         requires allowed { may_begin_of seat.old.me.0.plan.script seat.old.me.0.plan.layout actor (by actor seat.old.me.0.log) (ops.Load g d b k) ≡ true }
         ensures same { seat.new.table_id ≡ seat.old.table_id }

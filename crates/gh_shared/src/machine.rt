@@ -21,13 +21,13 @@ pub enum ActorMachine<'s> {
 }
 
 impl<'s> Machine for ActorMachine<'s> {
-    ghost use Rattle.gh_shared.specs.Machines.{asks, gives, goes, is_busy, layout};
+    ghost use Rattle.gh_shared.specs.Machines.{asks, gives, goes, is_busy, machine_layout};
     ghost use Rattle.gh_shared.specs.MachinesEnd as proved;
 
     /// The answer of an operation; none where a worker or the coordinator is done.
     type Out = Option<Answer>;
 
-    ghost layout = { layout };
+    ghost layout = { machine_layout };
 
     ghost busy = { is_busy };
 
@@ -68,10 +68,10 @@ impl<'s> Machine for ActorMachine<'s> {
 }
 
 impl<'s> Acts<HeapPlan, AnyActor, Op> for ActorMachine<'s> {
-    ghost use Rattle.gh_shared.specs.Machines.{actor_of, Belongs};
+    ghost use Rattle.gh_shared.specs.Machines.{Belongs, machine_actor};
     ghost use Rattle.gh_shared.specs.MachinesAct as proved;
 
-    ghost acts_as = { actor_of };
+    ghost acts_as = { machine_actor };
 
     ghost belongs = { Belongs };
 
@@ -91,9 +91,9 @@ impl<'s> Acts<HeapPlan, AnyActor, Op> for ActorMachine<'s> {
 }
 
 impl<'s> Marked for ActorMachine<'s> {
-    ghost use Rattle.gh_shared.specs.Machines.{marked};
+    ghost use Rattle.gh_shared.specs.Machines.{machine_marks};
 
-    ghost marked = { marked };
+    ghost marked = { machine_marks };
 
     fn marks(&self) -> u64 {
         match self {
@@ -105,10 +105,10 @@ impl<'s> Marked for ActorMachine<'s> {
 }
 
 impl<'s> Operates<HeapPlan, AnyActor, Op> for ActorMachine<'s> {
-    ghost use Rattle.gh_shared.specs.Machines.{begins, MayBegin};
+    ghost use Rattle.gh_shared.specs.Machines.{begins, MachineMayBegin};
     ghost use Rattle.gh_shared.specs.MachinesAct as proved;
 
-    ghost may = { MayBegin };
+    ghost may = { MachineMayBegin };
 
     ghost begins = { begins };
 

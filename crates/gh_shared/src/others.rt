@@ -2,7 +2,7 @@
 
 ghost use Rattle.std.specs.Prelude.{◌≡◌, ℕ, List, false};
 ghost use Rattle.gh_shared.specs.Calls.{RanToItsEnd};
-ghost use Rattle.gh_shared.specs.Handles.{ended_of, machine_of, IsOf};
+ghost use Rattle.gh_shared.specs.Handles.{ended_of, machine_of, IsHandleOf};
 ghost use Rattle.gh_shared.specs.Machines.{IsCoordinator, IsOther, IsWorker};
 
 use crate::handle::Handle;
@@ -18,7 +18,7 @@ impl Heap {
     /// Runs a worker until it is done. It returns only then: behind the last cycle. The gate is called between two steps,
     /// whenever the worker has scanned more words.
     pub fn work<'s, R: Wait, G: Gate>(&self, rt: &R, h: &mut Handle<'s>, gate: &G)
-        requires of { IsOf self.now h.old }
+        requires of { IsHandleOf self.now h.old }
         requires worker { IsWorker (machine_of h.old) }
         requires going { ended_of h.old ≡ false }
         ensures { (founds : List ℕ) × RanToItsEnd self.now h.old h.new founds }
@@ -29,7 +29,7 @@ impl Heap {
     /// Runs the coordinator until the last cycle is swept. It returns only then. The gate is called between two steps,
     /// whenever the coordinator has stored the phase word.
     pub fn coordinate<'s, R: Wait, G: Gate>(&self, rt: &R, h: &mut Handle<'s>, gate: &G)
-        requires of { IsOf self.now h.old }
+        requires of { IsHandleOf self.now h.old }
         requires coordinator { IsCoordinator (machine_of h.old) }
         requires going { ended_of h.old ≡ false }
         ensures { (founds : List ℕ) × RanToItsEnd self.now h.old h.new founds }
@@ -39,7 +39,7 @@ impl Heap {
 
     /// Runs an actor that is no processor until it is done.
     fn run<'s, R: Wait, G: Gate>(&self, rt: &R, h: &mut Handle<'s>, gate: &G)
-        requires of { IsOf self.now h.old }
+        requires of { IsHandleOf self.now h.old }
         requires other { IsOther (machine_of h.old) }
         requires going { ended_of h.old ≡ false }
         ensures { (founds : List ℕ) × RanToItsEnd self.now h.old h.new founds }

@@ -37,9 +37,9 @@ impl Model for HeapPlan {
 }
 
 impl Plan<AnyActor, Op> for HeapPlan {
-    ghost use Rattle.gh_shared.specs.Plans.{nothing, setting};
+    ghost use Rattle.gh_shared.specs.Plans.{nothing_planned, setting};
 
     ghost setting = { setting };
 
-    ghost nothing = { nothing };
+    ghost nothing = { nothing_planned };
 }

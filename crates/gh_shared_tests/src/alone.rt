@@ -2,7 +2,7 @@
 
 ghost use Rattle.std.specs.Prelude.{◌≡◌, ℕ, IfSome, Some, slice_get};
 ghost use Rattle.gh_shared.specs.declared.handle.Handle.{Handle};
-ghost use Rattle.gh_shared.specs.Handles.{IsHeapOf, IsOf};
+ghost use Rattle.gh_shared.specs.Handles.{IsHandleOf, IsHeapOf};
 
 use gh_base::{Answer, Name};
 use gh_script::{Script, parse};
@@ -20,9 +20,9 @@ fn played<'s, R: Wait>(
     script: &Script,
     mut h: Handle<'s>,
 ) -> (Handle<'s>, Told)
-    requires of { IsOf heap.now h }
+    requires of { IsHandleOf heap.now h }
     requires script { IsHeapOf script.now heap.now }
-    ensures { IsOf heap.now result.0 }
+    ensures { IsHandleOf heap.now result.0 }
 {
     if !h.is_processor() || h.ended() || !h.runs(0) || h.left(0) < 1 {
         return (h, None);
@@ -44,9 +44,9 @@ fn played<'s, R: Wait>(
 
 /// The last of the handles.
 fn last_of<'s>(heap: &Heap, handles: &mut Vec<Handle<'s>>) -> Option<Handle<'s>>
-    requires { (a : ℕ) (h : Handle) → slice_get handles.old.items a ≡ Some h → IsOf heap.now h }
-    ensures rest { (a : ℕ) (h : Handle) → slice_get handles.new.items a ≡ Some h → IsOf heap.now h }
-    ensures last { IfSome result (IsOf heap.now) }
+    requires { (a : ℕ) (h : Handle) → slice_get handles.old.items a ≡ Some h → IsHandleOf heap.now h }
+    ensures rest { (a : ℕ) (h : Handle) → slice_get handles.new.items a ≡ Some h → IsHandleOf heap.now h }
+    ensures last { IfSome result (IsHandleOf heap.now) }
 {
     handles.pop()
 }

@@ -2,7 +2,7 @@
 
 ghost use Rattle.std.specs.Prelude.{◌≡◌, All, IfOk, IfSome};
 ghost use Rattle.gh_shared.specs.declared.heap.Heap.{Heap};
-ghost use Rattle.gh_shared.specs.Handles.{AreFresh, IsHeapOf, IsOf};
+ghost use Rattle.gh_shared.specs.Handles.{AreFresh, IsHandleOf, IsHeapOf};
 
 use gh_base::{Answer, Name};
 use gh_gate::{Job, Open, Spawner, Threads};
@@ -54,9 +54,9 @@ struct Runner<'h, 's> {
 impl<'h, 's> Job for Runner<'h, 's> {
     ghost Which = { Heap };
 
-    ghost started = { λ j. IsOf j.heap.now j.handle × IsHeapOf j.script.now j.heap.now };
+    ghost started = { λ j. IsHandleOf j.heap.now j.handle × IsHeapOf j.script.now j.heap.now };
 
-    ghost ended = { λ j. IsOf j.heap.now j.handle };
+    ghost ended = { λ j. IsHandleOf j.heap.now j.handle };
 
     ghost which = { λ j. j.heap.now };
 
@@ -91,9 +91,9 @@ fn plays<'s, R: Wait>(
     rounds: u32,
     told: &mut Told,
 )
-    requires of { IsOf heap.now h.old }
+    requires of { IsHandleOf heap.now h.old }
     requires script { IsHeapOf script.now heap.now }
-    ensures { IsOf heap.now h.new }
+    ensures { IsHandleOf heap.now h.new }
 {
     told.made = makes(rt, heap, script, h);
     told.field = stores(rt, heap, h);
@@ -107,9 +107,9 @@ fn plays<'s, R: Wait>(
 
 /// Register 0 names a new object.
 fn makes<'s, R: Wait>(rt: &R, heap: &Heap, script: &Script, h: &mut Handle<'s>) -> Option<Answer>
-    requires of { IsOf heap.now h.old }
+    requires of { IsHandleOf heap.now h.old }
     requires script { IsHeapOf script.now heap.now }
-    ensures { IsOf heap.now h.new }
+    ensures { IsHandleOf heap.now h.new }
 {
     let g = h.actor();
     if !h.is_processor() || h.ended() || !h.runs(g) || h.left(g) < 1 {
@@ -123,8 +123,8 @@ fn makes<'s, R: Wait>(rt: &R, heap: &Heap, script: &Script, h: &mut Handle<'s>) 
 
 /// Field 1 of the object takes 7, and is loaded.
 fn stores<'s, R: Wait>(rt: &R, heap: &Heap, h: &mut Handle<'s>) -> Option<Answer>
-    requires of { IsOf heap.now h.old }
-    ensures { IsOf heap.now h.new }
+    requires of { IsHandleOf heap.now h.old }
+    ensures { IsHandleOf heap.now h.new }
 {
     let g = h.actor();
     if !h.is_processor() || h.ended() || !h.runs(g) {
@@ -138,9 +138,9 @@ fn stores<'s, R: Wait>(rt: &R, heap: &Heap, h: &mut Handle<'s>) -> Option<Answer
 
 /// Global 0 takes the object, and is loaded.
 fn races<'s, R: Wait>(rt: &R, heap: &Heap, script: &Script, h: &mut Handle<'s>) -> Option<Answer>
-    requires of { IsOf heap.now h.old }
+    requires of { IsHandleOf heap.now h.old }
     requires script { IsHeapOf script.now heap.now }
-    ensures { IsOf heap.now h.new }
+    ensures { IsHandleOf heap.now h.new }
 {
     let g = h.actor();
     if !h.is_processor() || h.ended() || !h.runs(g) || script.settings().globals == 0 {
@@ -164,8 +164,8 @@ fn counts(told: &mut Told, g: u32, found: Option<Answer>) {
 
 /// Asks for a cycle, and waits for it.
 fn collects<'s, R: Wait>(rt: &R, heap: &Heap, h: &mut Handle<'s>) -> Option<Answer>
-    requires of { IsOf heap.now h.old }
-    ensures { IsOf heap.now h.new }
+    requires of { IsHandleOf heap.now h.old }
+    ensures { IsHandleOf heap.now h.new }
 {
     let g = h.actor();
     if !h.is_processor() || h.ended() || !h.runs(g) || h.left(g) < 1 {
@@ -176,8 +176,8 @@ fn collects<'s, R: Wait>(rt: &R, heap: &Heap, h: &mut Handle<'s>) -> Option<Answ
 
 /// The goroutine ends, and its processor leaves.
 fn leaves<'s, R: Wait>(rt: &R, heap: &Heap, h: &mut Handle<'s>)
-    requires of { IsOf heap.now h.old }
-    ensures { IsOf heap.now h.new }
+    requires of { IsHandleOf heap.now h.old }
+    ensures { IsHandleOf heap.now h.new }
 {
     let g = h.actor();
     if !h.is_processor() || h.ended() || !h.runs(g) {
@@ -197,9 +197,9 @@ fn jobs_of<'h, 's>(
     handles: Vec<Handle<'s>>,
     rounds: u32,
 ) -> Result<Vec<Runner<'h, 's>>, AllocError>
-    requires handles { All (IsOf heap.now) handles.items }
+    requires handles { All (IsHandleOf heap.now) handles.items }
     requires script { IsHeapOf script.now heap.now }
-    ensures { IfOk result (λ jobs. All (λ j. (j.heap.now ≡ heap.now) × IsOf heap.now j.handle × IsHeapOf j.script.now heap.now) jobs.items) }
+    ensures { IfOk result (λ jobs. All (λ j. (j.heap.now ≡ heap.now) × IsHandleOf heap.now j.handle × IsHeapOf j.script.now heap.now) jobs.items) }
 {
     let mut jobs = Vec::new(alloc);
     for handle in handles {
@@ -220,8 +220,8 @@ fn gathered<'h, 's>(
     heap: &Heap,
     mut done: Vec<Runner<'h, 's>>,
 ) -> Result<Option<(Handle<'s>, Vec<Told>)>, AllocError>
-    requires { All (λ j. IsOf heap.now j.handle) done.items }
-    ensures { IfOk result (λ ran. IfSome ran (λ r. IsOf heap.now r.0)) }
+    requires { All (λ j. IsHandleOf heap.now j.handle) done.items }
+    ensures { IfOk result (λ ran. IfSome ran (λ r. IsHandleOf heap.now r.0)) }
 {
     let Some(
         Runner {
@@ -253,7 +253,7 @@ fn run_all<'s, R: thread::Threads + Wait + Sync>(
 ) -> Result<Option<(Handle<'s>, Vec<Told>)>, AllocError>
     requires handles { AreFresh heap.now handles.items }
     requires script { IsHeapOf script.now heap.now }
-    ensures { IfOk result (λ ran. IfSome ran (λ r. IsOf heap.now r.0)) }
+    ensures { IfOk result (λ ran. IfSome ran (λ r. IsHandleOf heap.now r.0)) }
 {
     let jobs = jobs_of(alloc, heap, script, handles, rounds)?;
     let Ok(done) = Threads::new().all(rt, jobs) else {

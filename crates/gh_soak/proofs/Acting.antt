@@ -15,7 +15,7 @@ use Rattle.gh_base.specs.declared.operation.Op.TheVariants as op
 use Rattle.gh_base.specs.declared.shape.Shape.{Shape}
 use Rattle.gh_base.specs.declared.value.Answer.{Answer}
 use Rattle.gh_base.specs.declared.value.Answer.TheVariants as answers
-use Rattle.gh_generated.specs.Orders.{is_of, IsOrderOf, left_by, operations_of}
+use Rattle.gh_generated.specs.Orders.{ever_left_by, is_by_goroutine, IsOrderOf, operations_of}
 use Rattle.gh_lines.specs.Text.{Outcome}
 use Rattle.gh_model.specs.Answers.{AllAnswer, answers_from, Answers, ever_after_all}
 use Rattle.gh_model.specs.Ever.{answer_of, Ever, ever_after, opening_ever}
@@ -51,14 +51,14 @@ reversed_none xs e = sym (reverse-reverse xs) ∙ ap reverse e
 module _ (g : ℕ) where
   -- the operations of the goroutine among these
   abbrev mine : List Answered → List Op
-  mine xs = filter (is_of g) (ops_of xs)
+  mine xs = filter (is_by_goroutine g) (ops_of xs)
 
   mine_append : (xs ys : List Answered) → mine (xs ++ ys) ≡ mine xs ++ mine ys
-  mine_append xs ys = ap (filter (is_of g)) (map-append (λ (a : Answered). a.op) xs ys) ∙ filter-append (is_of g) (ops_of xs) (ops_of ys)
+  mine_append xs ys = ap (filter (is_by_goroutine g)) (map-append (λ (a : Answered). a.op) xs ys) ∙ filter-append (is_by_goroutine g) (ops_of xs) (ops_of ys)
 
   mine_reverse : (xs : List Answered) → mine (reverse xs) ≡ reverse (mine xs)
   mine_reverse [] = refl
-  mine_reverse (x ∷ xs) = ap mine (reverse_more x xs) ∙ mine_append (reverse xs) (x ∷ []) ∙ ap (λ (os : List Op). os ++ mine (x ∷ [])) (mine_reverse xs) ∙ go (is_of g x.op) where
+  mine_reverse (x ∷ xs) = ap mine (reverse_more x xs) ∙ mine_append (reverse xs) (x ∷ []) ∙ ap (λ (os : List Op). os ++ mine (x ∷ [])) (mine_reverse xs) ∙ go (is_by_goroutine g x.op) where
     go : (b : Bool) → reverse (mine xs) ++ cond b (x.op ∷ []) [] ≡ reverse (cond b (x.op ∷ mine xs) (mine xs))
     go true = sym (reverse_more x.op (mine xs))
     go false = append-nil (reverse (mine xs))
@@ -101,9 +101,9 @@ module _ (g : ℕ) where
 
 module _ (p : Program) (l : Layout) (es : List (Entry Op)) (o : Outcome) (out : LaysOut p l) (x : IsExplained p l es o) where
   -- what an actor does of a goroutine, where its turns have nothing of it
-  none_by : (g b : ℕ) → filter (is_of g) (turns_of p b) ≡ [] → mine g (acted_at p.shapes l b es) ≡ []
+  none_by : (g b : ℕ) → filter (is_by_goroutine g) (turns_of p b) ≡ [] → mine g (acted_at p.shapes l b es) ≡ []
   none_by g b none = elim (cases_lt b l.procs) [
-    | inl lt ↦ ap (filter (is_of g)) (x.acted b lt) ∙ none
+    | inl lt ↦ ap (filter (is_by_goroutine g)) (x.acted b lt) ∙ none
     | inr le ↦ ap (mine g) (x.alone b le)
   ]
 
@@ -115,7 +115,7 @@ module _ (p : Program) (l : Layout) (es : List (Entry Op)) (o : Outcome) (out : 
       let below = mod_below g p.settings.procs (omega (arith, procs, some)) in
       let there : a < l.procs = omega (arith, procs, below) in
       one_acts g p.shapes l a es (λ b ne. none_by g b (turns_away p g b (other b ne)))
-      ∙ ap (filter (is_of g)) (x.acted a there)
+      ∙ ap (filter (is_by_goroutine g)) (x.acted a there)
       ∙ turns_mine p g a lt (eq-eqb a a refl) where
         other : (b : ℕ) → b ≢ g % p.settings.procs → is_of_seat p b g ≡ false
         other b ne = go (is_of_seat p b g) refl where
@@ -177,7 +177,7 @@ all_ever shapes e (x ∷ xs) all none =
     let rest = all_ever shapes (ever_after shapes e x.op x.answer) xs all.1 (λ i a is. none (suc i) a is) in
     ap (λ (more : List Answer). x.answer ∷ more) rest ∙ ap (λ (a : Answer). a ∷ answers_from shapes (ever_after shapes e x.op a) (ops_of xs)) first
 
-pub leaves : (p : Program) (l : Layout) (es : List (Entry Op)) (o : Outcome) → IsExplained p l es o → NeverFull p l es → ever_of p.shapes l es ≡ left_by p.shapes (ops_of (acted_in p.shapes l es))
+pub leaves : (p : Program) (l : Layout) (es : List (Entry Op)) (o : Outcome) → IsExplained p l es o → NeverFull p l es → ever_of p.shapes l es ≡ ever_left_by p.shapes (ops_of (acted_in p.shapes l es))
 leaves p l es o x never =
     let all : AllAnswer p.shapes opening_ever (ops_of (acted_in p.shapes l es)) (answers_of (acted_in p.shapes l es)) = subst (λ (as' : List Answer). AllAnswer p.shapes opening_ever (ops_of (acted_in p.shapes l es)) as') (sym x.answered) x.ever in
     left_so p.shapes l es

@@ -11,11 +11,11 @@ use Rattle.std.proofs.lemmas.List.Sums.{get_or-le-sum_by}
 use Rattle.std.proofs.lemmas.Option.{slice_get-get_or, slice_get_past}
 use Rattle.gh_base.specs.declared.operation.Op.{Op}
 use Rattle.gh_base.specs.declared.operation.Op.TheVariants as op
-use Rattle.gh_generated.specs.Orders.{is_of, operations_of}
+use Rattle.gh_generated.specs.Orders.{is_by_goroutine, operations_of}
 use Rattle.gh_interp.specs.Working.{work_at}
 use Rattle.gh_script.specs.declared.statement.Stmt.{Stmt}
 use Rattle.gh_script.specs.declared.statement.Stmt.TheVariants as statements
-use Rattle.gh_script.specs.Program.{Goroutine, no_goroutine, op_of, Program, statements_in, statements_of}
+use Rattle.gh_script.specs.Program.{Goroutine, no_goroutine, Program, statement_as_op, statements_in, statements_of}
 use Rattle.gh_world.specs.Turns.{count_of, has_turn, is_of_seat, round_of, total_of, turn_of, turns_of}
 
 -- ---- lists
@@ -30,7 +30,7 @@ pieces {X} xs r d = elim (cases_lt r (length xs)) [
 -- ---- whose an operation is
 
 -- what goroutine h does is of goroutine h
-work_is : (g h : ℕ) (s : Option Stmt) → is_of g (work_at h s) ≡ eqb h g
+work_is : (g h : ℕ) (s : Option Stmt) → is_by_goroutine g (work_at h s) ≡ eqb h g
 work_is g h None = refl
 work_is g h (Some (statements.New d t)) = refl
 work_is g h (Some (statements.Load d b k)) = refl
@@ -53,7 +53,7 @@ leb_first n = grind (arith, nat_tests)
 
 module _ (p : Program) (g : ℕ) where
   abbrev pub mine : List Op → List Op
-  mine os = filter (is_of g) os
+  mine os = filter (is_by_goroutine g) os
 
   -- what stands at place r of what it does
   abbrev piece : ℕ → List Op
@@ -69,15 +69,15 @@ module _ (p : Program) (g : ℕ) where
   ]
 
   many_operations : length (operations_of p g) ≡ count_of p g + 1
-  many_operations = length-append (map (op_of g) (statements_of p g)) (op.End g ∷ []) ∙ ap (λ (n : ℕ). n + 1) (length-map (statements_of p g) (op_of g))
+  many_operations = length-append (map (statement_as_op g) (statements_of p g)) (op.End g ∷ []) ∙ ap (λ (n : ℕ). n + 1) (length-map (statements_of p g) (statement_as_op g))
 
   -- in round r the goroutine does what stands at place r, if anything
-  turn_piece : (xs : List Stmt) (r : ℕ) → mine (cond (leb r (length xs)) (op.Poll ∷ work_at g (slice_get xs r) ∷ []) []) ≡ option_to_list (slice_get (map (op_of g) xs ++ op.End g ∷ []) r)
+  turn_piece : (xs : List Stmt) (r : ℕ) → mine (cond (leb r (length xs)) (op.Poll ∷ work_at g (slice_get xs r) ∷ []) []) ≡ option_to_list (slice_get (map (statement_as_op g) xs ++ op.End g ∷ []) r)
   turn_piece [] zero = ap (λ (b : Bool). cond b (op.End g ∷ []) []) (eq-eqb g g refl)
   turn_piece [] (suc r) = ap (λ (b : Bool). mine (cond b (op.Poll ∷ op.End g ∷ []) [])) (past r) where
     past : (n : ℕ) → leb (suc n) 0 ≡ false
     past n = grind (arith, nat_tests)
-  turn_piece (x ∷ xs) zero = ap (λ (b : Bool). mine (cond b (op.Poll ∷ op_of g x ∷ []) [])) (leb_first (suc (length xs))) ∙ ap (λ (b : Bool). cond b (op_of g x ∷ []) []) (work_is g g (Some x) ∙ eq-eqb g g refl)
+  turn_piece (x ∷ xs) zero = ap (λ (b : Bool). mine (cond b (op.Poll ∷ statement_as_op g x ∷ []) [])) (leb_first (suc (length xs))) ∙ ap (λ (b : Bool). cond b (statement_as_op g x ∷ []) []) (work_is g g (Some x) ∙ eq-eqb g g refl)
   turn_piece (x ∷ xs) (suc r) = ap (λ (b : Bool). mine (cond b (op.Poll ∷ work_at g (slice_get xs r) ∷ []) [])) (leb_both r (length xs)) ∙ turn_piece xs r
 
   -- Among the turns of one processor.
@@ -92,7 +92,7 @@ module _ (p : Program) (g : ℕ) where
     none_of : (r n h : ℕ) → ((k : ℕ) → h ≤ k → k < h + n → mine (turn_of p a r k) ≡ []) → mine (flat_map (turn_of p a r) (range_with_len h n)) ≡ []
     none_of r zero h none = refl
     none_of r (suc n) h none =
-        filter-append (is_of g) (turn_of p a r h) (flat_map (turn_of p a r) (range_with_len (h + 1) n))
+        filter-append (is_by_goroutine g) (turn_of p a r h) (flat_map (turn_of p a r) (range_with_len (h + 1) n))
         ∙ ap (λ (os : List Op). os ++ mine (flat_map (turn_of p a r) (range_with_len (h + 1) n))) (none h (omega arith) (omega arith))
         ∙ none_of r n (h + 1) (λ k low high. none k (omega arith) (omega arith))
 
@@ -100,14 +100,14 @@ module _ (p : Program) (g : ℕ) where
     no_rounds : (n r : ℕ) → ((k : ℕ) → mine (round_of p a k) ≡ []) → mine (flat_map (round_of p a) (range_with_len r n)) ≡ []
     no_rounds zero r none = refl
     no_rounds (suc n) r none =
-        filter-append (is_of g) (round_of p a r) (flat_map (round_of p a) (range_with_len (r + 1) n))
+        filter-append (is_by_goroutine g) (round_of p a r) (flat_map (round_of p a) (range_with_len (r + 1) n))
         ∙ ap (λ (os : List Op). os ++ mine (flat_map (round_of p a) (range_with_len (r + 1) n))) (none r)
         ∙ no_rounds n (r + 1) none
 
     none_among : ((k : ℕ) → mine (round_of p a k) ≡ []) → mine (turns_of p a) ≡ []
     unfolding turns_of
     none_among none =
-        filter-append (is_of g) (flat_map (round_of p a) (range_with_len 0 (total_of p + 1))) (op.Leave ∷ [])
+        filter-append (is_by_goroutine g) (flat_map (round_of p a) (range_with_len 0 (total_of p + 1))) (op.Leave ∷ [])
         ∙ append-nil (mine (flat_map (round_of p a) (range_with_len 0 (total_of p + 1))))
         ∙ no_rounds (total_of p + 1) 0 none
 
@@ -132,11 +132,11 @@ module _ (p : Program) (g : ℕ) where
       here : (r n h : ℕ) → h ≤ g → g < h + n → mine (flat_map (turn_of p a r) (range_with_len h n)) ≡ piece r
       here r zero h low high = absurd (omega arith)
       here r (suc n) h low high = elim (cases_lt h g) [
-        | inl below ↦ filter-append (is_of g) (turn_of p a r h) (flat_map (turn_of p a r) (range_with_len (h + 1) n))
+        | inl below ↦ filter-append (is_by_goroutine g) (turn_of p a r h) (flat_map (turn_of p a r) (range_with_len (h + 1) n))
             ∙ ap (λ (os : List Op). os ++ mine (flat_map (turn_of p a r) (range_with_len (h + 1) n))) (turn_other r h (λ same. omega arith))
             ∙ here r n (h + 1) (omega arith) (omega arith)
         | inr le ↦ let same : g ≡ h = omega arith in subst (λ (k : ℕ). mine (flat_map (turn_of p a r) (range_with_len k (suc n))) ≡ piece r) same
-            (filter-append (is_of g) (turn_of p a r g) (flat_map (turn_of p a r) (range_with_len (g + 1) n))
+            (filter-append (is_by_goroutine g) (turn_of p a r g) (flat_map (turn_of p a r) (range_with_len (g + 1) n))
             ∙ ap (λ (os : List Op). os ++ mine (flat_map (turn_of p a r) (range_with_len (g + 1) n))) (turn_mine r)
             ∙ ap (λ (os : List Op). piece r ++ os) (none_of r n (g + 1) (λ k low high. turn_other r k (λ same. omega arith)))
             ∙ append-nil (piece r))
@@ -145,7 +145,7 @@ module _ (p : Program) (g : ℕ) where
       rounds_mine : (n r : ℕ) → count_of p g < r + n → mine (flat_map (round_of p a) (range_with_len r n)) ≡ drop r (operations_of p g)
       rounds_mine zero r few = sym (drop_all r (operations_of p g) (let many = many_operations in omega (arith, many, few)))
       rounds_mine (suc n) r few =
-          filter-append (is_of g) (round_of p a r) (flat_map (round_of p a) (range_with_len (r + 1) n))
+          filter-append (is_by_goroutine g) (round_of p a r) (flat_map (round_of p a) (range_with_len (r + 1) n))
           ∙ ap (λ (os : List Op). os ++ mine (flat_map (round_of p a) (range_with_len (r + 1) n))) (here r (length p.goroutines) 0 (omega arith) (omega (arith, lt)))
           ∙ ap (λ (os : List Op). piece r ++ os) (rounds_mine n (r + 1) (omega (arith, few)))
           ∙ pieces (operations_of p g) r op.Poll
@@ -154,28 +154,28 @@ module _ (p : Program) (g : ℕ) where
       pub turns_mine : mine (turns_of p a) ≡ operations_of p g
       unfolding turns_of
       turns_mine =
-          filter-append (is_of g) (flat_map (round_of p a) (range_with_len 0 (total_of p + 1))) (op.Leave ∷ [])
+          filter-append (is_by_goroutine g) (flat_map (round_of p a) (range_with_len 0 (total_of p + 1))) (op.Leave ∷ [])
           ∙ append-nil (mine (flat_map (round_of p a) (range_with_len 0 (total_of p + 1))))
           ∙ rounds_mine (total_of p + 1) 0 (omega (arith, few_statements))
 
   -- ---- one goroutine behind the other
 
-  own_work : (h : ℕ) (xs : List Stmt) → h ≡ g → mine (map (op_of h) xs ++ op.End h ∷ []) ≡ map (op_of h) xs ++ op.End h ∷ []
+  own_work : (h : ℕ) (xs : List Stmt) → h ≡ g → mine (map (statement_as_op h) xs ++ op.End h ∷ []) ≡ map (statement_as_op h) xs ++ op.End h ∷ []
   own_work h [] same = ap (λ (b : Bool). cond b (op.End h ∷ []) []) (eq-eqb h g same)
   own_work h (x ∷ xs) same =
-      ap (λ (b : Bool). cond b (op_of h x ∷ mine (map (op_of h) xs ++ op.End h ∷ [])) (mine (map (op_of h) xs ++ op.End h ∷ []))) (work_is g h (Some x) ∙ eq-eqb h g same)
-      ∙ ap (λ (os : List Op). op_of h x ∷ os) (own_work h xs same)
+      ap (λ (b : Bool). cond b (statement_as_op h x ∷ mine (map (statement_as_op h) xs ++ op.End h ∷ [])) (mine (map (statement_as_op h) xs ++ op.End h ∷ []))) (work_is g h (Some x) ∙ eq-eqb h g same)
+      ∙ ap (λ (os : List Op). statement_as_op h x ∷ os) (own_work h xs same)
 
-  other_work : (h : ℕ) (xs : List Stmt) → h ≢ g → mine (map (op_of h) xs ++ op.End h ∷ []) ≡ []
+  other_work : (h : ℕ) (xs : List Stmt) → h ≢ g → mine (map (statement_as_op h) xs ++ op.End h ∷ []) ≡ []
   other_work h [] ne = ap (λ (b : Bool). cond b (op.End h ∷ []) []) (differs h g ne)
   other_work h (x ∷ xs) ne =
-      ap (λ (b : Bool). cond b (op_of h x ∷ mine (map (op_of h) xs ++ op.End h ∷ [])) (mine (map (op_of h) xs ++ op.End h ∷ []))) (work_is g h (Some x) ∙ differs h g ne)
+      ap (λ (b : Bool). cond b (statement_as_op h x ∷ mine (map (statement_as_op h) xs ++ op.End h ∷ [])) (mine (map (statement_as_op h) xs ++ op.End h ∷ []))) (work_is g h (Some x) ∙ differs h g ne)
       ∙ other_work h xs ne
 
   none_in : (n h : ℕ) → ((k : ℕ) → h ≤ k → k < h + n → k ≢ g) → mine (flat_map (operations_of p) (range_with_len h n)) ≡ []
   none_in zero h none = refl
   none_in (suc n) h none =
-      filter-append (is_of g) (operations_of p h) (flat_map (operations_of p) (range_with_len (h + 1) n))
+      filter-append (is_by_goroutine g) (operations_of p h) (flat_map (operations_of p) (range_with_len (h + 1) n))
       ∙ ap (λ (os : List Op). os ++ mine (flat_map (operations_of p) (range_with_len (h + 1) n))) (other_work h (statements_of p h) (none h (omega arith) (omega arith)))
       ∙ none_in n (h + 1) (λ k low high. none k (omega arith) (omega arith))
 
@@ -185,11 +185,11 @@ module _ (p : Program) (g : ℕ) where
   one_of : (n h : ℕ) → h ≤ g → g < h + n → mine (flat_map (operations_of p) (range_with_len h n)) ≡ operations_of p g
   one_of zero h low high = absurd (omega arith)
   one_of (suc n) h low high = elim (cases_lt h g) [
-    | inl below ↦ filter-append (is_of g) (operations_of p h) (flat_map (operations_of p) (range_with_len (h + 1) n))
+    | inl below ↦ filter-append (is_by_goroutine g) (operations_of p h) (flat_map (operations_of p) (range_with_len (h + 1) n))
         ∙ ap (λ (os : List Op). os ++ mine (flat_map (operations_of p) (range_with_len (h + 1) n))) (other_work h (statements_of p h) (λ same. omega arith))
         ∙ one_of n (h + 1) (omega arith) (omega arith)
     | inr le ↦ let same : g ≡ h = omega arith in subst (λ (k : ℕ). mine (flat_map (operations_of p) (range_with_len k (suc n))) ≡ operations_of p g) same
-        (filter-append (is_of g) (operations_of p g) (flat_map (operations_of p) (range_with_len (g + 1) n))
+        (filter-append (is_by_goroutine g) (operations_of p g) (flat_map (operations_of p) (range_with_len (g + 1) n))
         ∙ ap (λ (os : List Op). os ++ mine (flat_map (operations_of p) (range_with_len (g + 1) n))) (own_work g (statements_of p g) refl)
         ∙ ap (λ (os : List Op). operations_of p g ++ os) (none_in n (g + 1) (λ k low high same. omega arith))
         ∙ append-nil (operations_of p g))

@@ -5,7 +5,7 @@ use Rattle.gh_base.specs.declared.layout.Layout.{Layout}
 use Rattle.gh_base.specs.declared.machine.Entry.{Entry}
 use Rattle.gh_base.specs.declared.operation.Op.{Op}
 use Rattle.gh_base.specs.declared.shape.Shape.{Shape}
-use Rattle.gh_generated.specs.Orders.{IsOrderOf, left_by, operations_of}
+use Rattle.gh_generated.specs.Orders.{ever_left_by, IsOrderOf, operations_of}
 use Rattle.gh_lines.specs.Text.{Outcome}
 use Rattle.gh_model.specs.Ever.{Ever}
 use Rattle.gh_plenty.specs.Plenty.{NeverFull}
@@ -24,7 +24,7 @@ one_after_another p = flat_map (operations_of p) (range_with_len 0 (length p.gor
 
 -- so many objects and bytes are live where the goroutines run so, in the heap that never frees, and there is room for each object
 abbrev pub AreLiveThen : Program → (objects bytes : ℕ) → Type 0
-AreLiveThen p objects bytes = AreLive p.shapes (left_by p.shapes (one_after_another p)) objects bytes
+AreLiveThen p objects bytes = AreLive p.shapes (ever_left_by p.shapes (one_after_another p)) objects bytes
 
 -- ---- laws
 
@@ -37,7 +37,7 @@ RunsAreOrders = (p : Program) (l : Layout) (es : List (Entry Op)) (o : Outcome) 
 
 -- And where nothing in it was answered `full`, it left the heap that this order leaves.
 abbrev pub RunsLeaveTheirHeap : Type 0
-RunsLeaveTheirHeap = (p : Program) (l : Layout) (es : List (Entry Op)) (o : Outcome) → IsExplained p l es o → NeverFull p l es → ever_of p.shapes l es ≡ left_by p.shapes (ops_of (acted_in p.shapes l es))
+RunsLeaveTheirHeap = (p : Program) (l : Layout) (es : List (Entry Op)) (o : Outcome) → IsExplained p l es o → NeverFull p l es → ever_of p.shapes l es ≡ ever_left_by p.shapes (ops_of (acted_in p.shapes l es))
 
 -- there is one count of what is live in a heap, and one of its bytes
 abbrev pub WhatIsLiveIsOne : Type 0

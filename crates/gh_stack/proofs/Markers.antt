@@ -18,7 +18,7 @@ use Rattle.gh_marks.specs.Seats.{CleanBelow}
 use Rattle.gh_stack.specs.declared.scan_stack.StackStage.{StackStage}
 use Rattle.gh_stack.specs.declared.scan_stack.StackStage.TheVariants.{Shade, Store, Ended}
 use Rattle.gh_stack.specs.Facts.{AreRegisters, Begins, Facts, IsWish, StacksAreScannedByMoves, StageFacts, named}
-use Rattle.gh_stack.specs.Listing.{StackScan, after_shade, asks, asks_at, first_of, opening, wish_of}
+use Rattle.gh_stack.specs.Listing.{StackScan, after_shade, asks, asks_at, first_reference, opening, wish_of}
 
 -- one register more is clean
 clean-more : (mark row : Row) (i : ℕ) → CleanBelow mark row i → IsClean mark (row i) → CleanBelow mark row (i + 1)
@@ -48,7 +48,7 @@ module _ (s : Shared) (g : ℕ) where
   here i v values h = let index : i ≡ i + 0 = omega arith in ap row index ∙ h.each 0 (omega arith)
 
   -- the first reference from there on
-  first : (i : ℕ) (values : List Value) → AreFrom i values → CleanBelow (mark_words s.words) row i → StageFacts s g (first_of i values)
+  first : (i : ℕ) (values : List Value) → AreFrom i values → CleanBelow (mark_words s.words) row i → StageFacts s g (first_reference i values)
   first i [] h c = let all : i ≡ REGISTERS = omega (arith, h.all) in subst (λ (n : ℕ). CleanBelow (mark_words s.words) row n) all c
   first i (value.Ref reference ∷ values) h c = record { within = omega (arith, h.all); names = here i (value.Ref reference) values h; some = h.some 0 reference (omega arith) refl; before = c }
   first i (value.Nil ∷ values) h c = first (i + 1) values (behind i value.Nil values h) (clean-more (mark_words s.words) row i c (clean-nil (mark_words s.words) (row i) (here i value.Nil values h)))

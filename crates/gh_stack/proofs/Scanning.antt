@@ -6,8 +6,8 @@ use Rattle.gh_base.specs.declared.value.Value.{Value}
 use Rattle.gh_base.specs.declared.value.Value.TheVariants as value
 use Rattle.gh_stack.specs.declared.scan_stack.StackStage.{StackStage}
 use Rattle.gh_stack.specs.declared.scan_stack.StackStage.TheVariants.{Shade, Store}
-use Rattle.gh_stack.specs.Listing.{asks, first_of, gives, goes, is_busy, stage_from, StackScan, wish_of}
-use Rattle.gh_stack.specs.Scans.{references, ScansStack, shaded}
+use Rattle.gh_stack.specs.Listing.{asks, first_reference, gives, goes, is_busy, shade_stage_from, StackScan, wish_of}
+use Rattle.gh_stack.specs.Scans.{references, ScansStack, shaded_times}
 
 -- the values behind the first of those from a register on
 pub drop_next : (i : ℕ) (xs : List Value) (v : Value) (vs : List Value) → drop i xs ≡ v ∷ vs → drop (i + 1) xs ≡ vs
@@ -23,30 +23,30 @@ module _ (l : Layout) (goroutine cycle : ℕ) (registers : List Value) where
 
   -- from this stage on these references are wished
   record Wishes (stage : StackStage) (refs : List ℕ) : Type 0 where
-    wishes : (n : ℕ) → n < length refs → wish_of (shaded (at stage) n).stage ≡ Some (slice_index refs n)
-    waits : (n : ℕ) → n < length refs → is_busy (shaded (at stage) n).stage ≡ false
-    behind : shaded (at stage) (length refs) ≡ at Store
+    wishes : (n : ℕ) → n < length refs → wish_of (shaded_times (at stage) n).stage ≡ Some (slice_index refs n)
+    waits : (n : ℕ) → n < length refs → is_busy (shaded_times (at stage) n).stage ≡ false
+    behind : shaded_times (at stage) (length refs) ≡ at Store
 
-  from_here : (values : List Value) (i : ℕ) → drop i registers ≡ values → Wishes (first_of i values) (references values)
+  from_here : (values : List Value) (i : ℕ) → drop i registers ≡ values → Wishes (first_reference i values) (references values)
   from_here [] i e = record { wishes = λ n lt. absurd (omega arith); waits = λ n lt. absurd (omega arith); behind = refl }
   from_here (value.Nil ∷ values) i e = from_here values (i + 1) (drop_next i registers value.Nil values e)
   from_here (value.Int n ∷ values) i e = from_here values (i + 1) (drop_next i registers (value.Int n) values e)
   from_here (value.Ref r ∷ values) i e =
       let next : drop (i + 1) registers ≡ values = drop_next i registers (value.Ref r) values e in
-      more (subst (λ (vs : List Value). Wishes (first_of (i + 1) vs) (references values)) (sym next) (from_here values (i + 1) next)) where
-        more : Wishes (stage_from registers (i + 1)) (references values) → Wishes (Shade i r) (r ∷ references values)
+      more (subst (λ (vs : List Value). Wishes (first_reference (i + 1) vs) (references values)) (sym next) (from_here values (i + 1) next)) where
+        more : Wishes (shade_stage_from registers (i + 1)) (references values) → Wishes (Shade i r) (r ∷ references values)
         more rest = record { wishes = wishes; waits = waits; behind = rest.behind } where
-          wishes : (n : ℕ) → n < length (r ∷ references values) → wish_of (shaded (at (Shade i r)) n).stage ≡ Some (slice_index (r ∷ references values) n)
+          wishes : (n : ℕ) → n < length (r ∷ references values) → wish_of (shaded_times (at (Shade i r)) n).stage ≡ Some (slice_index (r ∷ references values) n)
           wishes zero lt = refl
           wishes (suc n) lt = rest.wishes n (omega arith)
 
-          waits : (n : ℕ) → n < length (r ∷ references values) → is_busy (shaded (at (Shade i r)) n).stage ≡ false
+          waits : (n : ℕ) → n < length (r ∷ references values) → is_busy (shaded_times (at (Shade i r)) n).stage ≡ false
           waits zero lt = refl
           waits (suc n) lt = rest.waits n (omega arith)
 
   pub scans : ScansStack l goroutine cycle registers
   scans =
-      let all : Wishes (first_of 0 registers) (references registers) = from_here registers 0 refl in
+      let all : Wishes (first_reference 0 registers) (references registers) = from_here registers 0 refl in
       record {
         wishes = all.wishes;
         waits = all.waits;

@@ -20,18 +20,18 @@ pub record StackScan : Type 0 where
   pub stage : StackStage
 
 -- the first of these registers, numbered from here on, that holds a reference; where none does, the store
-abbrev pub first_of : (register : ℕ) → List Value → StackStage
-first_of register [] = Store
-first_of register (value.Ref reference ∷ values) = Shade register reference
-first_of register (value.Nil ∷ values) = first_of (register + 1) values
-first_of register (value.Int n ∷ values) = first_of (register + 1) values
+abbrev pub first_reference : (register : ℕ) → List Value → StackStage
+first_reference register [] = Store
+first_reference register (value.Ref reference ∷ values) = Shade register reference
+first_reference register (value.Nil ∷ values) = first_reference (register + 1) values
+first_reference register (value.Int n ∷ values) = first_reference (register + 1) values
 
 -- so from this register on
-abbrev pub stage_from : List Value → (register : ℕ) → StackStage
-stage_from registers register = first_of register (drop register registers)
+abbrev pub shade_stage_from : List Value → (register : ℕ) → StackStage
+shade_stage_from registers register = first_reference register (drop register registers)
 
 abbrev pub opening : Layout → (goroutine cycle : ℕ) → List Value → StackScan
-opening l goroutine cycle registers = record { layout = l; goroutine = goroutine; cycle = cycle; registers = registers; stage = stage_from registers 0 }
+opening l goroutine cycle registers = record { layout = l; goroutine = goroutine; cycle = cycle; registers = registers; stage = shade_stage_from registers 0 }
 
 abbrev pub at_stage : StackScan → StackStage → StackScan
 at_stage s stage = record s { stage = stage }
@@ -47,7 +47,7 @@ is_waiting _ = false
 
 -- and where it goes once that is shaded
 abbrev pub after_shade : List Value → StackStage → StackStage
-after_shade registers (Shade register reference) = stage_from registers (register + 1)
+after_shade registers (Shade register reference) = shade_stage_from registers (register + 1)
 after_shade registers stage = stage
 
 abbrev pub told_shaded : StackScan → StackScan

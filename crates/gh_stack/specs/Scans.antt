@@ -15,9 +15,9 @@ references (value.Nil ∷ values) = references values
 references (value.Int n ∷ values) = references values
 
 -- once it was told so many times that its wish is shaded
-abbrev pub shaded : StackScan → ℕ → StackScan
-shaded s zero = s
-shaded s (suc n) = shaded (told_shaded s) n
+abbrev pub shaded_times : StackScan → ℕ → StackScan
+shaded_times s zero = s
+shaded_times s (suc n) = shaded_times (told_shaded s) n
 
 module _ (l : Layout) (goroutine cycle : ℕ) (registers : List Value) where
   abbrev from : StackScan
@@ -25,14 +25,14 @@ module _ (l : Layout) (goroutine cycle : ℕ) (registers : List Value) where
 
   pub record ScansStack : Type 0 where
     -- its wishes are the references of the registers, one after the other; it asks for no step meanwhile
-    pub wishes : (n : ℕ) → n < length (references registers) → wish_of (shaded from n).stage ≡ Some (slice_index (references registers) n)
-    pub waits : (n : ℕ) → n < length (references registers) → is_busy (shaded from n).stage ≡ false
+    pub wishes : (n : ℕ) → n < length (references registers) → wish_of (shaded_times from n).stage ≡ Some (slice_index (references registers) n)
+    pub waits : (n : ℕ) → n < length (references registers) → is_busy (shaded_times from n).stage ≡ false
     -- once each is shaded, and not before, it wishes no more, and its only step stores the cycle
-    pub no_more : wish_of (shaded from (length (references registers))).stage ≡ None
-    pub busy : is_busy (shaded from (length (references registers))).stage ≡ true
-    pub stores : asks (shaded from (length (references registers))) ≡ Store (Scanned goroutine) cycle
-    pub gives_then : (found : ℕ) → gives (shaded from (length (references registers))) found ≡ Some tt
-    pub over : (found : ℕ) → is_busy (goes (shaded from (length (references registers))) found).stage ≡ false
+    pub no_more : wish_of (shaded_times from (length (references registers))).stage ≡ None
+    pub busy : is_busy (shaded_times from (length (references registers))).stage ≡ true
+    pub stores : asks (shaded_times from (length (references registers))) ≡ Store (Scanned goroutine) cycle
+    pub gives_then : (found : ℕ) → gives (shaded_times from (length (references registers))) found ≡ Some tt
+    pub over : (found : ℕ) → is_busy (goes (shaded_times from (length (references registers))) found).stage ≡ false
 
 abbrev pub StacksAreScanned : Type 0
 StacksAreScanned = (l : Layout) (goroutine cycle : ℕ) (registers : List Value) → ScansStack l goroutine cycle registers

@@ -10,7 +10,7 @@ abbrev pub FitsStage : StackStage → Type 0
 FitsStage (Shade register reference) = register < REGISTERS
 FitsStage _ = Unit {0}
 
-pub record FitsScan (s : StackScan) : Type 0 where
+pub record FitsStackScan (s : StackScan) : Type 0 where
   pub goroutine : s.goroutine < s.layout.goroutines
   pub registers : length s.registers ≡ REGISTERS
   pub stage : FitsStage s.stage

@@ -4,7 +4,7 @@ ghost use Rattle.std.specs.Prelude.{◌≡◌, ◌<◌, ◌↔◌, IsTrue, lengt
 ghost use Rattle.gh_base.specs.Cells.{InRange};
 ghost use Rattle.gh_base.specs.Steps.{cell_of};
 ghost use Rattle.gh_stack.specs.Sound.{FitsStage};
-ghost use Rattle.gh_stack.specs.Listing.{asks, given, is_busy, is_waiting, opening, stage_from, told_shaded, wish_of};
+ghost use Rattle.gh_stack.specs.Listing.{asks, given, is_busy, is_waiting, opening, shade_stage_from, told_shaded, wish_of};
 
 use gh_base::limits::REGISTERS;
 use gh_base::{Ask, Cell, Layout, Machine, Req, Value};
@@ -45,13 +45,13 @@ pub struct ScanStack {
 
 impl Model for ScanStack {
     ghost use Rattle.gh_stack.specs.Listing.{StackScan};
-    ghost use Rattle.gh_stack.specs.Sound.{FitsScan};
+    ghost use Rattle.gh_stack.specs.Sound.{FitsStackScan};
 
     ghost Value = { StackScan };
 
     ghost view = { λ s. record { layout = s.layout; goroutine = s.goroutine; cycle = s.cycle; registers = s.registers; stage = s.stage } };
 
-    ghost invariant = { λ s. FitsScan (record { layout = s.layout; goroutine = s.goroutine; cycle = s.cycle; registers = s.registers; stage = s.stage }) };
+    ghost invariant = { λ s. FitsStackScan (record { layout = s.layout; goroutine = s.goroutine; cycle = s.cycle; registers = s.registers; stage = s.stage }) };
 
     ghost inverse = { λ s. record { layout = s.layout; goroutine = s.goroutine; cycle = s.cycle; registers = s.registers; stage = s.stage } };
 }
@@ -59,7 +59,7 @@ impl Model for ScanStack {
 /// What follows from this register on: the first that holds a reference, or the store.
 fn stage_from(registers: &[Value], from: u32) -> StackStage
     requires { length registers.now ≡ REGISTERS }
-    ensures is { result ≡ stage_from registers.now from }
+    ensures is { result ≡ shade_stage_from registers.now from }
     ensures fits { FitsStage result }
 {
     for register in from..REGISTERS {

@@ -19,10 +19,10 @@ use Rattle.gh_heap.specs.Spans.{owner_in}
 use Rattle.gh_sweep.specs.AtEnd.{EndsWell}
 use Rattle.gh_sweep.specs.Bits.{sum_below}
 use Rattle.gh_sweep.specs.Shared as spans
-use Rattle.gh_sweep.specs.Shared.{By, CycleEnd, Done, Due, Far, generation_of, HasEnded, InSpan, left, marks_at, nothing, owed, SaysFar}
-use Rattle.gh_state.specs.Cycles.{AllIsTold, AreSwept, CyclesEnd, CyclesOpen, end_of, ended, HeapsOpen, IsOver, opening, opening_end, Opens, TheSweepIsTold}
+use Rattle.gh_sweep.specs.Shared.{By, CycleEnd, Done, Due, Far, generation_of, HasEnded, InSpan, left_uncut, marks_at, nothing_due, owed, SaysFar}
+use Rattle.gh_state.specs.Cycles.{AllIsTold, AreSwept, cycle_ended, CyclesEnd, CyclesOpen, end_of, HeapsOpen, IsOver, opening, opening_end, Opens, TheSweepIsTold}
 use Rattle.gh_state.specs.Good.{Good}
-use Rattle.gh_state.specs.Shared.{Shared, sweep_of, Told}
+use Rattle.gh_state.specs.Shared.{seen_by_sweep, Shared, Told}
 use Rattle.gh_state.proofs.Beside.{no_word, zero_one}
 use Rattle.gh_state.proofs.Swept.{done_by}
 
@@ -64,15 +64,15 @@ module _ (e : CycleEnd) (v : spans.View) (g : spans.Good e v) (done : (p : ℕ) 
   no_marks : (i : ℕ) → v.mark i ≡ 0
   no_marks i = g.marks i ∙ ap (λ (b : Bool). cond b 0 (marks_at e i)) (all_clear i)
 
-  none_due : (a : ℕ) → v.due a ≡ nothing
+  none_due : (a : ℕ) → v.due a ≡ nothing_due
   none_due a = g.told a (λ p by. done_by_none (sym (done p) ∙ by)) where
     done_by_none : Done ≡ By a → ⊥
     done_by_none x = cc
 
-  none_owed : (part : Due → ℕ) → part nothing ≡ 0 → owed part v.due (seats_of e.layout) ≡ 0
+  none_owed : (part : Due → ℕ) → part nothing_due ≡ 0 → owed part v.due (seats_of e.layout) ≡ 0
   none_owed part none = sum_none (λ a. part (v.due a)) (seats_of e.layout) (λ a. ap part (none_due a) ∙ none)
 
-  none_left : (each : ℕ → ℕ) (n : ℕ) → left each v.cut n ≡ 0
+  none_left : (each : ℕ → ℕ) (n : ℕ) → left_uncut each v.cut n ≡ 0
   none_left each n = sum_none (λ i. cond (v.cut i) 0 (each i)) n (λ i. ap (λ (b : Bool). cond b 0 (each i)) (all_cut i))
 
 all_done : (z : Arena) (s : Shared) → Good z s → AreSwept s → (p : ℕ) → s.far p ≡ Done
@@ -98,7 +98,7 @@ opens_at z was g swept = record {
       untouched = g.sweep.untouched;
       unswept = g.sweep.unswept;
       order = g.sweep.order;
-      marks = λ i. sym (no_marks was.end (spans.view (sweep_of (record was { told = None }))) g.sweep done i) ∙ g.sweep.marks i;
+      marks = λ i. sym (no_marks was.end (spans.view (seen_by_sweep (record was { told = None }))) g.sweep done i) ∙ g.sweep.marks i;
       uncut = g.sweep.uncut;
       uncut_slots = g.sweep.uncut_slots;
       slots = g.sweep.slots;
@@ -116,7 +116,7 @@ opens_at z was g swept = record {
     reached = g.reached;
     told = λ t is. done;
   };
-  marks = no_marks was.end (spans.view (sweep_of (record was { told = None }))) g.sweep done;
+  marks = no_marks was.end (spans.view (seen_by_sweep (record was { told = None }))) g.sweep done;
 } where
   done : (p : ℕ) → was.far p ≡ Done
   done = all_done z (record was { told = None }) g swept
@@ -128,12 +128,12 @@ opens z s g none swept = subst (λ (b : Option Told). Good z (record s { told = 
 
 told_at : (z : Arena) (was : Shared) → Good z (record was { told = None }) → AreSwept was → AllIsTold (record was { told = None })
 told_at z was g swept = record {
-  objects = λ x set. g.sweep.only_since x (all_cut was.end (spans.view (sweep_of (record was { told = None }))) g.sweep done (x / 64)) set;
-  marks = no_marks was.end (spans.view (sweep_of (record was { told = None }))) g.sweep done;
-  marked = omega (arith, g.sweep.tallied.marked, none_owed was.end (spans.view (sweep_of (record was { told = None }))) g.sweep done (λ d. d.kept) refl, none_left was.end (spans.view (sweep_of (record was { told = None }))) g.sweep done (spans.kept_at was.end) (spans.bit_words_of was.end));
-  freed = omega (arith, g.sweep.tallied.freed, none_owed was.end (spans.view (sweep_of (record was { told = None }))) g.sweep done (λ d. d.freed) refl, none_left was.end (spans.view (sweep_of (record was { told = None }))) g.sweep done (spans.freed_at was.end) (spans.bit_words_of was.end));
-  live = omega (arith, g.sweep.lives, none_owed was.end (spans.view (sweep_of (record was { told = None }))) g.sweep done (λ d. d.live) refl, none_left was.end (spans.view (sweep_of (record was { told = None }))) g.sweep done (spans.live_at was.end) (spans.bit_words_of was.end));
-  heap = omega (arith, g.sweep.counted.heap, none_owed was.end (spans.view (sweep_of (record was { told = None }))) g.sweep done (λ d. d.cleared) refl);
+  objects = λ x set. g.sweep.only_since x (all_cut was.end (spans.view (seen_by_sweep (record was { told = None }))) g.sweep done (x / 64)) set;
+  marks = no_marks was.end (spans.view (seen_by_sweep (record was { told = None }))) g.sweep done;
+  marked = omega (arith, g.sweep.tallied.marked, none_owed was.end (spans.view (seen_by_sweep (record was { told = None }))) g.sweep done (λ d. d.kept) refl, none_left was.end (spans.view (seen_by_sweep (record was { told = None }))) g.sweep done (spans.kept_at was.end) (spans.bit_words_of was.end));
+  freed = omega (arith, g.sweep.tallied.freed, none_owed was.end (spans.view (seen_by_sweep (record was { told = None }))) g.sweep done (λ d. d.freed) refl, none_left was.end (spans.view (seen_by_sweep (record was { told = None }))) g.sweep done (spans.freed_at was.end) (spans.bit_words_of was.end));
+  live = omega (arith, g.sweep.lives, none_owed was.end (spans.view (seen_by_sweep (record was { told = None }))) g.sweep done (λ d. d.live) refl, none_left was.end (spans.view (seen_by_sweep (record was { told = None }))) g.sweep done (spans.live_at was.end) (spans.bit_words_of was.end));
+  heap = omega (arith, g.sweep.counted.heap, none_owed was.end (spans.view (seen_by_sweep (record was { told = None }))) g.sweep done (λ d. d.cleared) refl);
 } where
   done : (p : ℕ) → was.far p ≡ Done
   done = all_done z (record was { told = None }) g swept
@@ -186,10 +186,10 @@ module _ (k : Known) (z : Arena) (s : Shared) (g : Good z s) (o : IsOver s) wher
     known = λ x set. eq-eqb (row_bit (mark_words s.heap.words) x) 1 set;
     tally = o.tally;
     live = o.live;
-    heap = omega (arith, g.sweep.counted.heap, none_owed s.end (spans.view (sweep_of s)) g.sweep done (λ d. d.cleared) refl, sum_none s.pend (seats_of s.end.layout) o.owes_none);
+    heap = omega (arith, g.sweep.counted.heap, none_owed s.end (spans.view (seen_by_sweep s)) g.sweep done (λ d. d.cleared) refl, sum_none s.pend (seats_of s.end.layout) o.owes_none);
   }
 
-  pub ends_here : Good z (ended s)
+  pub ends_here : Good z (cycle_ended s)
   ends_here = record {
     layout = g.layout;
     ended = has_ended;

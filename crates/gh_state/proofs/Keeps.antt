@@ -21,10 +21,10 @@ use Rattle.gh_sweep.specs.Listing.{bit_words, in_sweep}
 use Rattle.gh_sweep.specs.Moves as sweep
 use Rattle.gh_sweep.specs.Shared as spans
 use Rattle.gh_sweep.specs.Shared.{By, Done, generation_of, marks_at, SaysFar}
-use Rattle.gh_state.specs.Good.{Good, ReachedGood}
+use Rattle.gh_state.specs.Good.{Good, ReachedAreMarked}
 use Rattle.gh_state.specs.Laws.{EachMoveKeeps}
 use Rattle.gh_state.specs.Moves.{Count, Deed, IsOfSweep, May, MaySweep, moved, Sweep}
-use Rattle.gh_state.specs.Shared.{Shared, sweep_of, Told}
+use Rattle.gh_state.specs.Shared.{seen_by_sweep, Shared, Told}
 use Rattle.gh_state.proofs.Beside.{deed}
 use Rattle.gh_state.proofs.Known.{Known}
 
@@ -39,8 +39,8 @@ module _ (k : Known) (z : Arena) (a : ℕ) (was : Shared) (g : Good z (record wa
   abbrev gen : ℕ
   gen = generation_of s.end
 
-  by : (m : sweep.Move) → sweep.May s.end a (sweep_of s) m → spans.Good s.end (spans.view (sweep.moved a (sweep_of s) m))
-  by m may = k.sweep s.end a (sweep_of s) m g.ended g.sweep may
+  by : (m : sweep.Move) → sweep.May s.end a (seen_by_sweep s) m → spans.Good s.end (spans.view (sweep.moved a (seen_by_sweep s) m))
+  by m may = k.sweep s.end a (seen_by_sweep s) m g.ended g.sweep may
 
   -- the head of a span that is not swept
   module _ (p : ℕ) (h : SpanHead) (head : page_of (v.page p) ≡ Head h) (waits : h.number ≢ v.generation) where
@@ -54,7 +54,7 @@ module _ (k : Known) (z : Arena) (a : ℕ) (was : Shared) (g : Good z (record wa
     unowned = elim (eqb_tells h.owner 0) [ inl y ↦ y.1 | inr n ↦ absurd (waits ((g.heap.numbers p h head).owned n.1)) ]
 
   -- the heap moves that a sweep's moves are
-  pub starts_may : (p : ℕ) (h : SpanHead) → sweep.May s.end a (sweep_of s) (sweep.Starts p h) → heap.MayRenumber v p h (h.number + 1)
+  pub starts_may : (p : ℕ) (h : SpanHead) → sweep.May s.end a (seen_by_sweep s) (sweep.Starts p h) → heap.MayRenumber v p h (h.number + 1)
   starts_may p h may =
       let is = g.sweep.generation in
       let n = may.1 in
@@ -62,21 +62,21 @@ module _ (k : Known) (z : Arena) (a : ℕ) (was : Shared) (g : Good z (record wa
       record { head = may.0; owner = unowned p h may.0 waits; waits = waits; few = omega (arith, is, n) }
 
   -- what the head says of a span that is being swept
-  swept_by : (p : ℕ) (h : SpanHead) (r c : ℕ) → sweep.Sweeps a p h r c (sweep_of s) → (h.number + 1) + 1 ≡ gen
+  swept_by : (p : ℕ) (h : SpanHead) (r c : ℕ) → sweep.Sweeps a p h r c (seen_by_sweep s) → (h.number + 1) + 1 ≡ gen
   swept_by p h r c w = let n : SaysFar gen (Head (in_sweep h)) (By a) = subst (λ (f : spans.Far). SaysFar gen (Head (in_sweep h)) f) w.by (subst (λ x. SaysFar gen x (s.far p)) w.head (g.sweep.numbers p)) in n.0
 
   -- as nobody owns it
   abbrev pub swept_head : SpanHead → SpanHead
   swept_head h = record h { owner = 0; number = h.number + 1 }
 
-  pub ends_may : (p : ℕ) (h : SpanHead) → sweep.May s.end a (sweep_of s) (sweep.Ends p h) → heap.MayRenumber v p (swept_head h) (h.number + 2)
+  pub ends_may : (p : ℕ) (h : SpanHead) → sweep.May s.end a (seen_by_sweep s) (sweep.Ends p h) → heap.MayRenumber v p (swept_head h) (h.number + 2)
   ends_may p h may =
       let is = g.sweep.generation in
       let n = swept_by p h (bit_words h) (bit_words h) may.0 in
       let waits : h.number + 1 ≢ v.generation = λ same. omega (arith, same, is, n) in
       record { head = may.0.head ∙ ap (λ (o : ℕ). Head (record h { owner = o; number = h.number + 1 })) (unowned p (in_sweep h) may.0.head waits); owner = refl; waits = waits; few = omega (arith, is, n) }
 
-  starts : (p : ℕ) (h : SpanHead) → sweep.May s.end a (sweep_of s) (sweep.Starts p h) → Good z (moved z a s (Sweep (sweep.Starts p h)))
+  starts : (p : ℕ) (h : SpanHead) → sweep.May s.end a (seen_by_sweep s) (sweep.Starts p h) → Good z (moved z a s (Sweep (sweep.Starts p h)))
   starts p h may = record {
     layout = g.layout;
     ended = g.ended;
@@ -86,7 +86,7 @@ module _ (k : Known) (z : Arena) (a : ℕ) (was : Shared) (g : Good z (record wa
     told = λ t is. absurd (cc is);
   }
 
-  ends : (p : ℕ) (h : SpanHead) → sweep.May s.end a (sweep_of s) (sweep.Ends p h) → Good z (moved z a s (Sweep (sweep.Ends p h)))
+  ends : (p : ℕ) (h : SpanHead) → sweep.May s.end a (seen_by_sweep s) (sweep.Ends p h) → Good z (moved z a s (Sweep (sweep.Ends p h)))
   ends p h may = record {
     layout = g.layout;
     ended = g.ended;
@@ -97,7 +97,7 @@ module _ (k : Known) (z : Arena) (a : ℕ) (was : Shared) (g : Good z (record wa
   }
 
   -- a word of alloc bits is cut to its marks: what a script reaches there was marked
-  module _ (p : ℕ) (h : SpanHead) (i : ℕ) (may : sweep.May s.end a (sweep_of s) (sweep.Cuts p h i)) where
+  module _ (p : ℕ) (h : SpanHead) (i : ℕ) (may : sweep.May s.end a (seen_by_sweep s) (sweep.Cuts p h i)) where
     abbrev j : ℕ
     j = 16 * p + i
 
@@ -120,7 +120,7 @@ module _ (k : Known) (z : Arena) (a : ℕ) (was : Shared) (g : Good z (record wa
         let few = may.2 in
         record { p = p; h = in_sweep h; span = whole p (in_sweep h) may.1.head waits; from = omega arith; below = omega arith; waits = waits; reached = stays }
 
-    reached_then : ReachedGood (marks_at s.end) (update s.cut j true) s.heap.place s.heap.ever
+    reached_then : ReachedAreMarked (marks_at s.end) (update s.cut j true) s.heap.place s.heap.ever
     reached_then n r uncut = g.reached n r (was_uncut (s.heap.place n / 64) uncut) where
       was_uncut : (x : ℕ) → update s.cut j true x ≡ false → s.cut x ≡ false
       was_uncut x e = elim (eqb_tells j x) [
@@ -134,10 +134,10 @@ module _ (k : Known) (z : Arena) (a : ℕ) (was : Shared) (g : Good z (record wa
     cuts = record { layout = g.layout; ended = g.ended; heap = (k.besides z s.heap (heap.Thin j (s.heap.words (cell.Mark j))) g.heap cuts_may).good; sweep = by (sweep.Cuts p h i) may; reached = reached_then; told = λ t is. absurd (cc is) }
 
   -- the heap reads none of the words
-  plain : (m : sweep.Move) → rights.Good z (rights.view (moved z a s (Sweep m)).heap) → spans.Good s.end (spans.view (sweep_of (moved z a s (Sweep m)))) → (moved z a s (Sweep m)).cut ≡ s.cut → Good z (moved z a s (Sweep m))
-  plain m heap sweep same = record { layout = g.layout; ended = g.ended; heap = heap; sweep = sweep; reached = subst (λ (c : ℕ → Bool). ReachedGood (marks_at s.end) c s.heap.place s.heap.ever) (sym same) g.reached; told = λ t is. absurd (cc is) }
+  plain : (m : sweep.Move) → rights.Good z (rights.view (moved z a s (Sweep m)).heap) → spans.Good s.end (spans.view (seen_by_sweep (moved z a s (Sweep m)))) → (moved z a s (Sweep m)).cut ≡ s.cut → Good z (moved z a s (Sweep m))
+  plain m heap sweep same = record { layout = g.layout; ended = g.ended; heap = heap; sweep = sweep; reached = subst (λ (c : ℕ → Bool). ReachedAreMarked (marks_at s.end) c s.heap.place s.heap.ever) (sym same) g.reached; told = λ t is. absurd (cc is) }
 
-  pub sweeps : (m : sweep.Move) → IsOfSweep m → sweep.May s.end a (sweep_of s) m → Good z (moved z a s (Sweep m))
+  pub sweeps : (m : sweep.Move) → IsOfSweep m → sweep.May s.end a (seen_by_sweep s) m → Good z (moved z a s (Sweep m))
   sweeps (sweep.Quiet (ask.Load c)) of may = plain (sweep.Quiet (ask.Load c)) g.heap g.sweep refl
   sweeps (sweep.Starts p h) of may = starts p h may
   sweeps (sweep.Cuts p h i) of may = cuts p h i may
@@ -154,7 +154,7 @@ counts k z a s g may = record {
   layout = g.layout;
   ended = g.ended;
   heap = g.heap;
-  sweep = k.sweep s.end a (sweep_of s) sweep.Counts g.ended g.sweep (subst (λ (l : Layout). a < seats_of l) (sym g.layout) may);
+  sweep = k.sweep s.end a (seen_by_sweep s) sweep.Counts g.ended g.sweep (subst (λ (l : Layout). a < seats_of l) (sym g.layout) may);
   reached = g.reached;
   told = g.told;
 }

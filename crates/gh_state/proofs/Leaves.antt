@@ -20,7 +20,7 @@ use Rattle.gh_sweep.specs.Shared.{Shared as Sweeps}
 use Rattle.gh_state.specs.Good.{Good}
 use Rattle.gh_state.specs.Laws.{EachMoveLeaves}
 use Rattle.gh_state.specs.Moves.{Count, CountsStay, Deed, IsOfSweep, MayDeed, MaySweep, moved, Others, Sweep}
-use Rattle.gh_state.specs.Shared.{marks_in, Shared, sweep_of, Told}
+use Rattle.gh_state.specs.Shared.{marks_in, seen_by_sweep, Shared, Told}
 use Rattle.gh_state.proofs.Beside as beside
 use Rattle.gh_state.proofs.Keeps as keeps
 use Rattle.gh_state.proofs.Known.{Known}
@@ -74,14 +74,14 @@ module _ (k : Known) (l : Lasting) (z : Arena) (a b : ℕ) (s : Shared) (ne : a 
   v = rights.view s.heap
 
   abbrev Left : heap.Move → Type 0
-  Left m = OthersLeave s.end a (sweep_of s) (sweep_of (moved z b s (Deed m)))
+  Left m = OthersLeave s.end a (seen_by_sweep s) (seen_by_sweep (moved z b s (Deed m)))
 
-  by : (m : sweep.Move) → sweep.May s.end b (sweep_of s) m → OthersLeave s.end a (sweep_of s) (sweep.moved b (sweep_of s) m)
-  by m may = l.sweep s.end a b (sweep_of s) m ne g.ended g.sweep may
+  by : (m : sweep.Move) → sweep.May s.end b (seen_by_sweep s) m → OthersLeave s.end a (seen_by_sweep s) (sweep.moved b (seen_by_sweep s) m)
+  by m may = l.sweep s.end a b (seen_by_sweep s) m ne g.ended g.sweep may
 
   -- the move changes none of the rows
-  none : (m : heap.Move) → Same a (sweep_of s) (sweep_of (moved z b s (Deed m))) → Left m
-  none m r = as_rows s.end a (sweep_of s) (sweep_of s) _ (stays s.end a (sweep_of s)) r
+  none : (m : heap.Move) → Same a (seen_by_sweep s) (seen_by_sweep (moved z b s (Deed m))) → Left m
+  none m r = as_rows s.end a (seen_by_sweep s) (seen_by_sweep s) _ (stays s.end a (seen_by_sweep s)) r
 
   quiet_step : (step : Ask) → heap.IsQuiet step → CountsStay s.told s.heap.words (effect s.heap.words step) → Left (heap.Quiet step)
   quiet_step step q c = let r = quiet_stays s.heap.words step q in none (heap.Quiet step) (record {
@@ -99,8 +99,8 @@ module _ (k : Known) (l : Lasting) (z : Arena) (a b : ℕ) (s : Shared) (ne : a 
     marks i None e = c.marks e i
 
   -- it is this move of the sweep's rows
-  as_move : (m : heap.Move) (n : sweep.Move) → sweep.May s.end b (sweep_of s) n → Same a (sweep.moved b (sweep_of s) n) (sweep_of (moved z b s (Deed m))) → Left m
-  as_move m n may r = as_rows s.end a (sweep_of s) (sweep.moved b (sweep_of s) n) _ (by n may) r
+  as_move : (m : heap.Move) (n : sweep.Move) → sweep.May s.end b (seen_by_sweep s) n → Same a (sweep.moved b (seen_by_sweep s) n) (seen_by_sweep (moved z b s (Deed m))) → Left m
+  as_move m n may r = as_rows s.end a (seen_by_sweep s) (sweep.moved b (seen_by_sweep s) n) _ (by n may) r
 
   others : (m : heap.Move) → MayDeed z b s m → Left m → Others z a s (moved z b s (Deed m))
   others m may left = record { end = refl; told = refl; heap = l.heap z a b s.heap m ne g.heap may.may; sweep = left }
@@ -134,20 +134,20 @@ module _ (k : Known) (l : Lasting) (z : Arena) (a b : ℕ) (s : Shared) (ne : a 
   heap_rests = l.heap z a b s.heap (heap.Quiet (ask.Load cell.Touch)) ne g.heap tt
 
   pub counts : b < seats_of z.layout → Others z a s (moved z b s Count)
-  counts may = record { end = refl; told = refl; heap = heap_rests; sweep = as_rows s.end a (sweep_of s) (sweep.moved b (sweep_of s) sweep.Counts) _ (by sweep.Counts (subst (λ x. b < seats_of x) (sym g.layout) may)) (same (λ p. refl) (λ i. refl) (λ i. refl) refl refl refl refl refl) }
+  counts may = record { end = refl; told = refl; heap = heap_rests; sweep = as_rows s.end a (seen_by_sweep s) (sweep.moved b (seen_by_sweep s) sweep.Counts) _ (by sweep.Counts (subst (λ x. b < seats_of x) (sym g.layout) may)) (same (λ p. refl) (λ i. refl) (λ i. refl) refl refl refl refl refl) }
 
 -- A move of a sweep.
 module _ (k : Known) (l : Lasting) (z : Arena) (a b : ℕ) (was : Shared) (ne : a ≢ b) (g : Good z (record was { told = None })) where
   abbrev q : Shared
   q = record was { told = None }
 
-  moves : (m : sweep.Move) → sweep.May q.end b (sweep_of q) m → heap.Others z a (rights.view q.heap) (rights.view (moved z b q (Sweep m)).heap) → Same a (sweep.moved b (sweep_of q) m) (sweep_of (moved z b q (Sweep m))) → Others z a q (moved z b q (Sweep m))
-  moves m may heap r = record { end = refl; told = refl; heap = heap; sweep = as_rows q.end a (sweep_of q) (sweep.moved b (sweep_of q) m) _ (l.sweep q.end a b (sweep_of q) m ne g.ended g.sweep may) r }
+  moves : (m : sweep.Move) → sweep.May q.end b (seen_by_sweep q) m → heap.Others z a (rights.view q.heap) (rights.view (moved z b q (Sweep m)).heap) → Same a (sweep.moved b (seen_by_sweep q) m) (seen_by_sweep (moved z b q (Sweep m))) → Others z a q (moved z b q (Sweep m))
+  moves m may heap r = record { end = refl; told = refl; heap = heap; sweep = as_rows q.end a (seen_by_sweep q) (sweep.moved b (seen_by_sweep q) m) _ (l.sweep q.end a b (seen_by_sweep q) m ne g.ended g.sweep may) r }
 
   rows : {t u : Sweeps} → ((p : ℕ) → u.words (cell.Page p) ≡ t.words (cell.Page p)) → ((i : ℕ) → u.words (cell.Alloc i) ≡ t.words (cell.Alloc i)) → ((i : ℕ) → u.words (cell.Mark i) ≡ t.words (cell.Mark i)) → u.far ≡ t.far → u.cut ≡ t.cut → u.clear ≡ t.clear → u.due ≡ t.due → u.pend a ≡ t.pend a → Same a t u
   rows pages alloc marks far cut clear due pend = record { pages = pages; alloc = alloc; marks = marks; far = far; cut = cut; clear = clear; due = due; pend = pend }
 
-  pub sweeps : (m : sweep.Move) → IsOfSweep m → sweep.May q.end b (sweep_of q) m → Others z a q (moved z b q (Sweep m))
+  pub sweeps : (m : sweep.Move) → IsOfSweep m → sweep.May q.end b (seen_by_sweep q) m → Others z a q (moved z b q (Sweep m))
   sweeps (sweep.Quiet (ask.Load c)) of may = moves (sweep.Quiet (ask.Load c)) may (heap_rests k l z a b q ne g) (rows (λ p. refl) (λ i. refl) (λ i. refl) refl refl refl refl refl)
   sweeps (sweep.Starts p h) of may = moves (sweep.Starts p h) may ((k.besides z q.heap (heap.Renumber p h (h.number + 1)) g.heap (keeps.starts_may k z b was g p h may)).others a) (rows (λ p. refl) (λ i. refl) (λ i. refl) refl refl refl refl refl)
   sweeps (sweep.Cuts p h i) of may = moves (sweep.Cuts p h i) may ((k.besides z q.heap (heap.Thin (16 * p + i) (q.heap.words (cell.Mark (16 * p + i)))) g.heap (keeps.cuts_may k z b was g p h i may)).others a) (rows (λ p. refl) (λ i. refl) (λ i. refl) refl refl refl refl refl)

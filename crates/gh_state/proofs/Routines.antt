@@ -17,11 +17,11 @@ use Rattle.gh_sweep.specs.Moves.{OthersLeave}
 use Rattle.gh_sweep.specs.Shared as spans
 use Rattle.gh_sweep.specs.Shared.{generation_of}
 use Rattle.gh_sweep.specs.Shared.{Shared as Sweeps}
-use Rattle.gh_sweep.specs.Sweepers.{Fine, move_at, move_of, SweepsAmongOthers}
+use Rattle.gh_sweep.specs.Sweepers.{move_at, move_of, SweepIsFine, SweepsAmongOthers}
 use Rattle.gh_state.specs.Good.{Good}
 use Rattle.gh_state.specs.Moves.{IsOfSweep, May, Others, Sweep}
-use Rattle.gh_state.specs.Routines.{GoesOn, Rests, Runs, SweepsByTheState, SweepsLeave}
-use Rattle.gh_state.specs.Shared.{marks_in, Shared, sweep_of, sweep_over, Told}
+use Rattle.gh_state.specs.Routines.{GoesOn, SeatSweepsNothing, SweepRuns, SweepsByTheState, SweepsLeave}
+use Rattle.gh_state.specs.Shared.{marks_in, seen_by_sweep, Shared, sweep_over, Told}
 
 -- the moves of a sweep
 
@@ -44,10 +44,10 @@ module _ (z : Arena) (a : ℕ) (was : Shared) where
   abbrev raw : Sweeps
   raw = sweep_over s s.heap.words
 
-  spans_are : (p : ℕ) (h : SpanHead) (r c : ℕ) → sweep.Sweeps a p h r c raw → sweep.Sweeps a p h r c (sweep_of s)
+  spans_are : (p : ℕ) (h : SpanHead) (r c : ℕ) → sweep.Sweeps a p h r c raw → sweep.Sweeps a p h r c (seen_by_sweep s)
   spans_are p h r c w = record { by = w.by; head = w.head; are_cut = w.are_cut; are_clear = w.are_clear }
 
-  may_here : (m : sweep.Move) → IsOfSweep m → sweep.May s.end a raw m → sweep.May s.end a (sweep_of s) m
+  may_here : (m : sweep.Move) → IsOfSweep m → sweep.May s.end a raw m → sweep.May s.end a (seen_by_sweep s) m
   may_here (sweep.Quiet (ask.Load c)) of may = may
   may_here (sweep.Starts p h) of may = may
   may_here (sweep.Cuts p h i) of may = (may.0, spans_are p h i i may.1, may.2)
@@ -61,11 +61,11 @@ module _ (z : Arena) (a : ℕ) (was : Shared) where
   raw_good : Good z s → spans.Good s.end (spans.view raw)
   raw_good g = g.sweep
 
-  module _ (k : SweepsAmongOthers) (leave : SweepsLeave) (g : Good z s) (seat : a < seats_of z.layout) (m : Sweeping) (fine : Fine s.end a raw m) (busy : is_busy m.stage ≡ true) where
+  module _ (k : SweepsAmongOthers) (leave : SweepsLeave) (g : Good z s) (seat : a < seats_of z.layout) (m : Sweeping) (fine : SweepIsFine s.end a raw m) (busy : is_busy m.stage ≡ true) where
     abbrev found : ℕ
     found = s.heap.words (cell_of (asks m))
 
-    lands : sweep.Lands s.end a raw (move_of m found) (effect s.heap.words (asks m)) (λ t. Fine s.end a t (goes m found))
+    lands : sweep.Lands s.end a raw (move_of m found) (effect s.heap.words (asks m)) (λ t. SweepIsFine s.end a t (goes m found))
     lands = k.own s.end a raw m g.ended (raw_good g) (subst (λ (x : Layout). a < seats_of x) (sym g.layout) seat) fine busy
 
     allowed : May z a s (Sweep (move_of m found))
@@ -80,7 +80,7 @@ module _ (z : Arena) (a : ℕ) (was : Shared) where
     }
 
 -- what others leave of it
-unhushed : (a : ℕ) (s t : Shared) → s.told ≡ None → t.told ≡ None → OthersLeave s.end a (sweep_of s) (sweep_of t) → OthersLeave s.end a (sweep_over s s.heap.words) (sweep_over t t.heap.words)
+unhushed : (a : ℕ) (s t : Shared) → s.told ≡ None → t.told ≡ None → OthersLeave s.end a (seen_by_sweep s) (seen_by_sweep t) → OthersLeave s.end a (sweep_over s s.heap.words) (sweep_over t t.heap.words)
 unhushed a s t is then o = record {
   mine = λ p h by head. let m = o.mine p h by head in record { by = m.by; head = m.head; cut = m.cut; clear = m.clear; alloc = m.alloc; marks = λ i l. marks (16 * p + i) s.told t.told is then (m.marks i l) };
   back = o.back;
@@ -94,10 +94,10 @@ unhushed a s t is then o = record {
   marks i (Some x) c e f same = absurd (cc e)
   marks i None (Some x) e f same = absurd (cc f)
 
-last_here : SweepsAmongOthers → (z : Arena) (a : ℕ) (s t : Shared) (m : Sweeping) → Others z a s t → Runs a s m → Runs a t m
+last_here : SweepsAmongOthers → (z : Arena) (a : ℕ) (s t : Shared) (m : Sweeping) → Others z a s t → SweepRuns a s m → SweepRuns a t m
 last_here k z a s t m o r =
     let then : t.told ≡ None = o.told ∙ r.quiet in
-    record { quiet = then; fine = subst (λ x. Fine x a (sweep_over t t.heap.words) m) (sym o.end) (k.last s.end a (sweep_over s s.heap.words) (sweep_over t t.heap.words) m (unhushed a s t r.quiet then o.sweep) r.fine) }
+    record { quiet = then; fine = subst (λ x. SweepIsFine x a (sweep_over t t.heap.words) m) (sym o.end) (k.last s.end a (sweep_over s s.heap.words) (sweep_over t t.heap.words) m (unhushed a s t r.quiet then o.sweep) r.fine) }
 
 pub sweeps : SweepsAmongOthers → SweepsLeave → SweepsByTheState
 sweeps k leave = record {
@@ -106,12 +106,12 @@ sweeps k leave = record {
   last = last_here k;
   rests = λ a s m r busy. k.rests s.end a (sweep_over s s.heap.words) m r.fine busy;
 } where
-  opens_here : (z : Arena) (a : ℕ) (s : Shared) (p : ℕ) (h : SpanHead) → Good z s → s.told ≡ None → Rests a s → page_of (s.heap.words (cell.Page p)) ≡ Head h → h.number + 2 ≡ generation_of s.end → Fine s.end a (sweep_over s s.heap.words) (opening s.end.layout p h)
+  opens_here : (z : Arena) (a : ℕ) (s : Shared) (p : ℕ) (h : SpanHead) → Good z s → s.told ≡ None → SeatSweepsNothing a s → page_of (s.heap.words (cell.Page p)) ≡ Head h → h.number + 2 ≡ generation_of s.end → SweepIsFine s.end a (sweep_over s s.heap.words) (opening s.end.layout p h)
   opens_here z a s p h g quiet rests head number =
-      subst (λ (b : Option Told). Good z (record s { told = b }) → Fine s.end a (sweep_over s s.heap.words) (opening s.end.layout p h)) (sym quiet)
+      subst (λ (b : Option Told). Good z (record s { told = b }) → SweepIsFine s.end a (sweep_over s s.heap.words) (opening s.end.layout p h)) (sym quiet)
       (λ good. k.opens s.end a (sweep_over s s.heap.words) p h good.ended (raw_good z a s good) rests head number) g
 
-  own_at : (z : Arena) (a : ℕ) (s : Shared) (m : Sweeping) → Good z s → a < seats_of z.layout → Runs a s m → is_busy m.stage ≡ true → GoesOn z a s m (s.heap.words (cell_of (asks m)))
+  own_at : (z : Arena) (a : ℕ) (s : Shared) (m : Sweeping) → Good z s → a < seats_of z.layout → SweepRuns a s m → is_busy m.stage ≡ true → GoesOn z a s m (s.heap.words (cell_of (asks m)))
   own_at z a s m g seat r busy =
       subst (λ (b : Option Told). Good z (record s { told = b }) → GoesOn z a (record s { told = b }) m (s.heap.words (cell_of (asks m)))) (sym r.quiet)
       (λ good. own_here z a s k leave good seat m r.fine busy) g

@@ -16,7 +16,7 @@ use Rattle.gh_sweep.specs.Moves as sweep
 use Rattle.gh_state.specs.Good.{Good}
 use Rattle.gh_state.specs.Moves.{IsOfSweep, MaySweep, moved, Sweep}
 use Rattle.gh_state.specs.Routines.{SweepKeeps, SweepsLeave}
-use Rattle.gh_state.specs.Shared.{Shared, sweep_of, Told}
+use Rattle.gh_state.specs.Shared.{seen_by_sweep, Shared, Told}
 use Rattle.gh_state.proofs.Keeps as keeps
 use Rattle.gh_state.proofs.Known.{Known}
 
@@ -81,7 +81,7 @@ module _ (k : Known) (own : laws.EachOwnMoveLeaves) (z : Arena) (a : ℕ) (was :
           let low = may.few in
           k.packed.page (Head (numbered_by number h)) (record { class = f.fits.class; some = f.fits.some; pages = omega (arith, most.1); owner = omega (arith, may.owner); number = omega arith })
 
-  leaves_here : (m : sweep.Move) → IsOfSweep m → sweep.May q.end a (sweep_of q) m → SweepKeeps q (moved z a q (Sweep m))
+  leaves_here : (m : sweep.Move) → IsOfSweep m → sweep.May q.end a (seen_by_sweep q) m → SweepKeeps q (moved z a q (Sweep m))
   leaves_here (sweep.Quiet (ask.Load c)) of may = same (sweep.Quiet (ask.Load c)) refl refl
   leaves_here (sweep.Starts p h) of may = renumbered p h (h.number + 1) (keeps.starts_may k z a was g p h may) _ refl refl
   leaves_here (sweep.Cuts p h i) of may = record {

@@ -14,7 +14,7 @@ use Rattle.gh_heap.specs.Rights.{Arena}
 use Rattle.gh_heap.specs.Spans.{IsSpan}
 use Rattle.gh_sweep.specs.AtEnd.{BitsAreObjects, TheBitsAreObjects}
 use Rattle.gh_sweep.specs.Shared.{alloc_at, InSpan, live_at, marks_at, placed_in}
-use Rattle.gh_state.specs.Cycles.{AllIsTold, AreSwept, CountsAreTold, IsAsItEnded, IsTold, TheSweepIsTold}
+use Rattle.gh_state.specs.Cycles.{AllIsTold, AreSwept, CountsAreExact, CountsAreTold, IsAsItEnded, TheSweepIsTold}
 use Rattle.gh_state.specs.Good.{Good}
 use Rattle.gh_state.specs.Shared.{Shared}
 use Rattle.gh_state.specs.Slots.{slot_row, SlotsAreRead}
@@ -99,7 +99,7 @@ module _ (k : Known) (z : Arena) (s : Shared) (g : Good z s) (none : s.told ≡ 
       ∙ ap (λ (n : ℕ). count_ones (s.heap.words (cell.Alloc i)) * n) (sym (was.slots i))
       ∙ same_bytes i
 
-  pub told : IsTold s.end s.heap.words
+  pub told : CountsAreExact s.end s.heap.words
   told = record {
     marked = all.marked ∙ objects.marked;
     freed = all.freed ∙ objects.freed;

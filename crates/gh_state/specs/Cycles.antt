@@ -59,13 +59,13 @@ abbrev pub end_of : Shared → CycleEnd
 end_of s = record { layout = s.end.layout; words = next_words s.heap.words; slot = s.slot; since = λ x. is_set (mark_words s.heap.words) x }
 
 -- each span is unswept then
-abbrev pub ended : Shared → Shared
-ended s =
+abbrev pub cycle_ended : Shared → Shared
+cycle_ended s =
     let w = at_end (end_of s) in
     record { heap = record (s.heap) { words = next_words s.heap.words }; told = None; end = end_of s; far = w.far; cut = w.cut; clear = w.clear; slot = w.slot; since = w.since; due = w.due; pend = w.pend }
 
 abbrev pub CyclesEnd : Type 0
-CyclesEnd = (z : Arena) (s : Shared) → Good z s → IsOver s → Good z (ended s)
+CyclesEnd = (z : Arena) (s : Shared) → Good z s → IsOver s → Good z (cycle_ended s)
 
 -- A heap opens as one where a cycle has ended of which no object is left.
 abbrev pub opening_end : Layout → (trigger : ℕ) → CycleEnd
@@ -94,7 +94,7 @@ abbrev pub TheSweepIsTold : Type 0
 TheSweepIsTold = (z : Arena) (s : Shared) → Good z s → s.told ≡ None → AreSwept s → AllIsTold s
 
 -- The counts once all is swept: the objects that were marked where the cycle ended and those that were not, and the bytes of the slots that are taken.
-pub record IsTold (e : CycleEnd) (words : Words) : Type 0 where
+pub record CountsAreExact (e : CycleEnd) (words : Words) : Type 0 where
   pub marked : (tally_of (words cell.Tally)).marked ≡ marked_objects (alloc_at e) (marks_at e) 0 e.layout.pages
   pub freed : (tally_of (words cell.Tally)).freed ≡ unmarked_objects (alloc_at e) (marks_at e) 0 e.layout.pages
   pub live : words cell.Live ≡ placed (alloc_words words) (slot_row (page_words words)) (16 * e.layout.pages)
@@ -106,4 +106,4 @@ pub record IsAsItEnded (s : Shared) : Type 0 where
   pub since : (x : ℕ) → s.since x ≡ true → row_bit (marks_at s.end) x ≡ 1
 
 abbrev pub CountsAreTold : Type 0
-CountsAreTold = (z : Arena) (s : Shared) → Good z s → s.told ≡ None → AreSwept s → IsAsItEnded s → IsTold s.end s.heap.words
+CountsAreTold = (z : Arena) (s : Shared) → Good z s → s.told ≡ None → AreSwept s → IsAsItEnded s → CountsAreExact s.end s.heap.words

@@ -11,7 +11,7 @@ use Rattle.gh_heap.specs.Rights as rights
 use Rattle.gh_heap.specs.Rights.{Arena}
 use Rattle.gh_sweep.specs.Moves as sweep
 use Rattle.gh_sweep.specs.Moves.{slots_laid}
-use Rattle.gh_state.specs.Shared.{Shared, sweep_of, sweep_over, Told}
+use Rattle.gh_state.specs.Shared.{seen_by_sweep, Shared, sweep_over, Told}
 
 -- A change by one step, words and ghosts together.
 pub data Move : Type 0 where
@@ -76,7 +76,7 @@ pub record MayDeed (z : Arena) (a : ℕ) (s : Shared) (m : heap.Move) : Type 0 w
 pub record MaySweep (z : Arena) (a : ℕ) (s : Shared) (m : sweep.Move) : Type 0 where
   pub quiet : s.told ≡ None
   pub of_sweep : IsOfSweep m
-  pub may : sweep.May s.end a (sweep_of s) m
+  pub may : sweep.May s.end a (seen_by_sweep s) m
 
 abbrev pub May : Arena → (a : ℕ) → Shared → Move → Type 0
 May z a s (Deed m) = MayDeed z a s m
@@ -88,4 +88,4 @@ pub record Others (z : Arena) (a : ℕ) (s t : Shared) : Type 0 where
   pub end : t.end ≡ s.end
   pub told : t.told ≡ s.told
   pub heap : heap.Others z a (rights.view s.heap) (rights.view t.heap)
-  pub sweep : sweep.OthersLeave s.end a (sweep_of s) (sweep_of t)
+  pub sweep : sweep.OthersLeave s.end a (seen_by_sweep s) (seen_by_sweep t)

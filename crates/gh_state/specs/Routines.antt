@@ -13,7 +13,7 @@ use Rattle.gh_heap.specs.Spans.{numbered_by}
 use Rattle.gh_sweep.specs.Listing.{asks, goes, is_busy, opening, Sweeping}
 use Rattle.gh_sweep.specs.Moves as sweep
 use Rattle.gh_sweep.specs.Shared.{generation_of}
-use Rattle.gh_sweep.specs.Sweepers.{Fine, IsAtRest, move_of}
+use Rattle.gh_sweep.specs.Sweepers.{IsAtRest, move_of, SweepIsFine}
 use Rattle.gh_state.specs.Good.{Good}
 use Rattle.gh_state.specs.Moves.{May, moved, Others, Sweep}
 use Rattle.gh_state.specs.Shared.{Shared, sweep_over}
@@ -34,26 +34,26 @@ abbrev pub SweepsLeave : Type 0
 SweepsLeave = (z : Arena) (a : ℕ) (s : Shared) (m : sweep.Move) → Good z s → May z a s (Sweep m) → SweepKeeps s (moved z a s (Sweep m))
 
 -- what is known of a sweep that the seat runs: no cycle is under way, and what gh_sweep says of it
-pub record Runs (a : ℕ) (s : Shared) (m : Sweeping) : Type 0 where
+pub record SweepRuns (a : ℕ) (s : Shared) (m : Sweeping) : Type 0 where
   pub quiet : s.told ≡ None
-  pub fine : Fine s.end a (sweep_over s s.heap.words) m
+  pub fine : SweepIsFine s.end a (sweep_over s s.heap.words) m
 
 -- the seat runs none, and has told all
-abbrev pub Rests : (a : ℕ) → Shared → Type 0
-Rests a s = IsAtRest a (sweep_over s s.heap.words)
+abbrev pub SeatSweepsNothing : (a : ℕ) → Shared → Type 0
+SeatSweepsNothing a s = IsAtRest a (sweep_over s s.heap.words)
 
 -- what a step of a sweep comes to, where it finds this: it is a move of the sweep, which the seat may make, and leads on
 pub record GoesOn (z : Arena) (a : ℕ) (s : Shared) (m : Sweeping) (found : ℕ) : Type 0 where
   pub may : May z a s (Sweep (move_of m found))
   pub words_are : (moved z a s (Sweep (move_of m found))).heap.words ≡ effect s.heap.words (asks m)
-  pub runs : Runs a (moved z a s (Sweep (move_of m found))) (goes m found)
+  pub runs : SweepRuns a (moved z a s (Sweep (move_of m found))) (goes m found)
   pub keeps : SweepKeeps s (moved z a s (Sweep (move_of m found)))
 
 pub record SweepsByTheState : Type 0 where
   -- it may be begun, by whomever, where the page's word is found to be the head of an unswept span
-  pub opens : (z : Arena) (a : ℕ) (s : Shared) (p : ℕ) (h : SpanHead) → Good z s → s.told ≡ None → Rests a s → page_of (s.heap.words (cell.Page p)) ≡ Head h → h.number + 2 ≡ generation_of s.end → Runs a s (opening s.end.layout p h)
+  pub opens : (z : Arena) (a : ℕ) (s : Shared) (p : ℕ) (h : SpanHead) → Good z s → s.told ≡ None → SeatSweepsNothing a s → page_of (s.heap.words (cell.Page p)) ≡ Head h → h.number + 2 ≡ generation_of s.end → SweepRuns a s (opening s.end.layout p h)
   -- each of its steps is a move, and leads on
-  pub own : (z : Arena) (a : ℕ) (s : Shared) (m : Sweeping) → Good z s → a < seats_of z.layout → Runs a s m → is_busy m.stage ≡ true → GoesOn z a s m (s.heap.words (cell_of (asks m)))
+  pub own : (z : Arena) (a : ℕ) (s : Shared) (m : Sweeping) → Good z s → a < seats_of z.layout → SweepRuns a s m → is_busy m.stage ≡ true → GoesOn z a s m (s.heap.words (cell_of (asks m)))
   -- and what is known lasts
-  pub last : (z : Arena) (a : ℕ) (s t : Shared) (m : Sweeping) → Others z a s t → Runs a s m → Runs a t m
-  pub rests : (a : ℕ) (s : Shared) (m : Sweeping) → Runs a s m → is_busy m.stage ≡ false → Rests a s
+  pub last : (z : Arena) (a : ℕ) (s t : Shared) (m : Sweeping) → Others z a s t → SweepRuns a s m → SweepRuns a t m
+  pub rests : (a : ℕ) (s : Shared) (m : Sweeping) → SweepRuns a s m → is_busy m.stage ≡ false → SeatSweepsNothing a s

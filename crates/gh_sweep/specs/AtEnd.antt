@@ -6,7 +6,7 @@ use Rattle.gh_base.specs.declared.pack.PageWord.TheVariants.{Free, Head, Body}
 use Rattle.gh_base.specs.Packing.{page_of}
 use Rattle.gh_base.specs.Rows.{page_words, Row}
 use Rattle.gh_sweep.specs.Counts.{count_below, is_set, marked_objects, unmarked_objects}
-use Rattle.gh_sweep.specs.Shared.{alloc_at, CycleEnd, Done, Far, freed_at, Good, HasEnded, in_all, kept_at, marks_at, nothing, Shared, Unswept, view}
+use Rattle.gh_sweep.specs.Shared.{alloc_at, CycleEnd, Done, Far, freed_at, Good, HasEnded, in_all, kept_at, marks_at, nothing_due, Shared, Unswept, view}
 use Rattle.gh_sweep.specs.Sweepers.{IsAtRest}
 
 -- Each span is unswept, nobody sweeps, and nothing is cut, cleared or owed.
@@ -39,7 +39,7 @@ at_end e = record {
   clear = in_no_span (page_words e.words);
   slot = e.slot;
   since = e.since;
-  due = λ a. nothing;
+  due = λ a. nothing_due;
   pend = λ a. 0;
 }
 

@@ -125,8 +125,8 @@ abbrev pub Others : Sweeping → (before after : Words) → Type 0
 Others s before after = OthersAt s before after s.stage
 
 -- the two spans have no page in common
-abbrev pub AreApart : (s t : Sweeping) → Type 0
-AreApart s t = (s.page + s.head.pages ≤ t.page) ⊎ (t.page + t.head.pages ≤ s.page)
+abbrev pub SpansAreApart : (s t : Sweeping) → Type 0
+SpansAreApart s t = (s.page + s.head.pages ≤ t.page) ⊎ (t.page + t.head.pages ≤ s.page)
 
 -- of one span and the same number, and the second has not begun
 pub record IsBehind (s t : Sweeping) : Type 0 where
@@ -140,4 +140,4 @@ pub record SweepKeepsItsFacts : Type 0 where
   -- its facts last under what others do
   pub last : (s : Sweeping) (before after : Words) → IsPlaced s → Others s before after → Facts s before → Facts s after
   -- the steps of another sweep are of these: of another span, or of the same where one of the two has begun and the other has not
-  pub others : (s t : Sweeping) (words : Words) → IsPlaced s → IsPlaced t → AreApart s t ⊎ IsBehind s t → Others t words (effect words (asks s))
+  pub others : (s t : Sweeping) (words : Words) → IsPlaced s → IsPlaced t → SpansAreApart s t ⊎ IsBehind s t → Others t words (effect words (asks s))

@@ -15,7 +15,7 @@ use Rattle.gh_heap.specs.Spans.{owned_by}
 use Rattle.gh_sweep.specs.Bits.{freed_in, kept_in}
 use Rattle.gh_sweep.specs.Facts.{HasNotNumber}
 use Rattle.gh_sweep.specs.Listing.{bit_words, in_sweep, negative, once_swept, slot_bytes}
-use Rattle.gh_sweep.specs.Shared.{AreDisjoint, By, CycleEnd, Done, Due, generation_of, Good, HasEnded, InSpan, nothing, Shared, view}
+use Rattle.gh_sweep.specs.Shared.{AreDisjoint, By, CycleEnd, Done, Due, generation_of, Good, HasEnded, InSpan, nothing_due, Shared, view}
 
 -- A change of the shared state by one step, words and ghosts together. A span is named by its first page and its head: where it is swept, the head as it was found unswept.
 pub data Move : Type 0 where
@@ -86,19 +86,19 @@ module _ (a : ℕ) (s : Shared) where
 -- When an actor may make the move.
 
 -- rows of which nothing is said here
-abbrev pub IsBeside : Cell → Type 0
-IsBeside cell.Gen = ⊥
-IsBeside cell.Heap = ⊥
-IsBeside cell.Tally = ⊥
-IsBeside cell.Live = ⊥
-IsBeside (cell.Page i) = ⊥
-IsBeside (cell.Alloc i) = ⊥
-IsBeside (cell.Mark i) = ⊥
-IsBeside _ = Unit {0}
+abbrev pub IsBesideSweeps : Cell → Type 0
+IsBesideSweeps cell.Gen = ⊥
+IsBesideSweeps cell.Heap = ⊥
+IsBesideSweeps cell.Tally = ⊥
+IsBesideSweeps cell.Live = ⊥
+IsBesideSweeps (cell.Page i) = ⊥
+IsBesideSweeps (cell.Alloc i) = ⊥
+IsBesideSweeps (cell.Mark i) = ⊥
+IsBesideSweeps _ = Unit {0}
 
 abbrev pub ChangesNothing : Ask → Type 0
 ChangesNothing (ask.Load c) = Unit {0}
-ChangesNothing step = IsBeside (cell_of step)
+ChangesNothing step = IsBesideSweeps (cell_of step)
 
 -- The actor sweeps the span at page p, whose head was found to be h; it has cut so many of its words, and cleared the marks of so many.
 pub record Sweeps (a p : ℕ) (h : SpanHead) (cut clear : ℕ) (s : Shared) : Type 0 where
@@ -120,8 +120,8 @@ pub record MayLay (e : CycleEnd) (page : Row) (p : ℕ) (h : SpanHead) : Type 0 
   pub apart : (q : ℕ) (g : SpanHead) → page_of (page q) ≡ Head g → AreDisjoint p h q g
 
 -- no alloc bit of the span is set
-abbrev pub IsEmpty : (alloc : Row) → (p : ℕ) → SpanHead → Type 0
-IsEmpty alloc p h = (i : ℕ) → 16 * p ≤ i → i < 16 * (p + h.pages) → alloc i ≡ 0
+abbrev pub HasNoAllocBit : (alloc : Row) → (p : ℕ) → SpanHead → Type 0
+HasNoAllocBit alloc p h = (i : ℕ) → 16 * p ≤ i → i < 16 * (p + h.pages) → alloc i ≡ 0
 
 -- no object begins at heap word x, in a swept span
 pub record MayPlace (e : CycleEnd) (page alloc : Row) (x : ℕ) : Type 0 where
@@ -144,10 +144,10 @@ module _ (e : CycleEnd) (a : ℕ) (s : Shared) where
   May TellsTally = IsSeat
   May TellsLive = IsSeat
   May TellsHeap = IsSeat
-  May (Ends p h) = Sweeps a p h (bit_words h) (bit_words h) s × (s.due a ≡ nothing)
+  May (Ends p h) = Sweeps a p h (bit_words h) (bit_words h) s × (s.due a ≡ nothing_due)
   May (Passes p h owner) = HasHead (s.words (cell.Page p)) (generation_of e) h × (owner < 2 ^ 8)
   May (Lays p h) = MayLay e (page_words s.words) p h
-  May (Frees p h) = HasHead (s.words (cell.Page p)) (generation_of e) h × IsEmpty (alloc_words s.words) p h
+  May (Frees p h) = HasHead (s.words (cell.Page p)) (generation_of e) h × HasNoAllocBit (alloc_words s.words) p h
   May (Turns p word) = IsNoHead (s.words (cell.Page p)) × IsNoHead word
   May (Places x) = IsSeat × MayPlace e (page_words s.words) (alloc_words s.words) x
   May Counts = IsSeat

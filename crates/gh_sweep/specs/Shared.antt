@@ -47,8 +47,8 @@ pub record Due : Type 0 where
   pub live : ℕ
   pub cleared : ℕ
 
-abbrev pub nothing : Due
-nothing = record { kept = 0; freed = 0; live = 0; cleared = 0 }
+abbrev pub nothing_due : Due
+nothing_due = record { kept = 0; freed = 0; live = 0; cleared = 0 }
 
 -- The words; by first page, how far each span is; by word of bits, whether its alloc bits are cut to the marks, whether its marks are cleared (a word in no unswept span needs neither), and the bytes of a slot of the span that it lies in; by heap word, whether the object that begins there is of since; and by seat, what the actor has yet to tell, and the bytes that it placed and has not counted.
 pub record Shared : Type 0 where
@@ -155,8 +155,8 @@ abbrev pub OrderGood : (cut clear : ℕ → Bool) → Type 0
 OrderGood cut clear = (i : ℕ) → clear i ≡ true → cut i ≡ true
 
 -- marks that are not cleared are as they were
-abbrev pub MarksGood : (was mark : Row) → (clear : ℕ → Bool) → Type 0
-MarksGood was mark clear = (i : ℕ) → mark i ≡ (if clear i then 0 else was i)
+abbrev pub UnclearedMarksStand : (was mark : Row) → (clear : ℕ → Bool) → Type 0
+UnclearedMarksStand was mark clear = (i : ℕ) → mark i ≡ (if clear i then 0 else was i)
 
 -- what is not cut is as it was
 abbrev pub UncutGood : (was row : Row) → (cut : ℕ → Bool) → Type 0
@@ -191,15 +191,15 @@ SinceGood alloc cut since = (x : ℕ) → cut (x / 64) ≡ true → row_bit allo
 
 -- who sweeps no span has nothing to tell
 abbrev pub DueGood : (ℕ → Far) → (ℕ → Due) → Type 0
-DueGood far due = (a : ℕ) → ((p : ℕ) → far p ≢ By a) → due a ≡ nothing
+DueGood far due = (a : ℕ) → ((p : ℕ) → far p ≢ By a) → due a ≡ nothing_due
 
 -- what all actors have yet to tell
 abbrev pub owed : (Due → ℕ) → (ℕ → Due) → (seats : ℕ) → ℕ
 owed part due seats = sum_below (λ a. part (due a)) seats
 
 -- what is in the words that are not cut, of so much in each word
-abbrev pub left : (ℕ → ℕ) → (cut : ℕ → Bool) → (words : ℕ) → ℕ
-left each cut words = sum_below (λ i. if cut i then 0 else each i) words
+abbrev pub left_uncut : (ℕ → ℕ) → (cut : ℕ → Bool) → (words : ℕ) → ℕ
+left_uncut each cut words = sum_below (λ i. if cut i then 0 else each i) words
 
 -- the objects of a word that were marked where the cycle ended, those that were not, and their bytes
 abbrev pub kept_at : CycleEnd → ℕ → ℕ
@@ -220,12 +220,12 @@ in_all e each = sum_below each (bit_words_of e)
 
 -- what the tally's word tells, what is untold and what is unswept are the objects where the cycle ended
 pub record TallyGood (e : CycleEnd) (word : ℕ) (cut : ℕ → Bool) (due : ℕ → Due) : Type 0 where
-  pub marked : (tally_of word).marked + owed (λ d. d.kept) due (seats_of e.layout) + left (kept_at e) cut (bit_words_of e) ≡ in_all e (kept_at e)
-  pub freed : (tally_of word).freed + owed (λ d. d.freed) due (seats_of e.layout) + left (freed_at e) cut (bit_words_of e) ≡ in_all e (freed_at e)
+  pub marked : (tally_of word).marked + owed (λ d. d.kept) due (seats_of e.layout) + left_uncut (kept_at e) cut (bit_words_of e) ≡ in_all e (kept_at e)
+  pub freed : (tally_of word).freed + owed (λ d. d.freed) due (seats_of e.layout) + left_uncut (freed_at e) cut (bit_words_of e) ≡ in_all e (freed_at e)
 
 -- so are the bytes of those kept
 abbrev pub LiveGood : CycleEnd → (word : ℕ) → (cut : ℕ → Bool) → (ℕ → Due) → Type 0
-LiveGood e word cut due = word + owed (λ d. d.live) due (seats_of e.layout) + left (live_at e) cut (bit_words_of e) ≡ in_all e (live_at e)
+LiveGood e word cut due = word + owed (λ d. d.live) due (seats_of e.layout) + left_uncut (live_at e) cut (bit_words_of e) ≡ in_all e (live_at e)
 
 -- the bytes of the objects that stand
 abbrev pub placed_in : (alloc slot : Row) → ℕ → ℕ
@@ -244,7 +244,7 @@ pub record HeapGood (e : CycleEnd) (word : ℕ) (alloc slot : Row) (cut : ℕ �
   -- what was not counted stands in words that are cut
   pub pending : sum_below pend (seats_of e.layout) ≤ placed_behind alloc slot cut (bit_words_of e)
   -- what is not taken off was freed
-  pub freed : owed (λ d. d.cleared) due (seats_of e.layout) + left (cleared_at e) cut (bit_words_of e) ≤ in_all e (cleared_at e)
+  pub freed : owed (λ d. d.cleared) due (seats_of e.layout) + left_uncut (cleared_at e) cut (bit_words_of e) ≤ in_all e (cleared_at e)
 
 pub record Good (e : CycleEnd) (v : View) : Type 0 where
   pub generation : v.generation ≡ generation_of e
@@ -254,7 +254,7 @@ pub record Good (e : CycleEnd) (v : View) : Type 0 where
   pub untouched : UntouchedGood v.page v.far v.cut v.clear
   pub unswept : LeftGood v.page v.far v.clear
   pub order : OrderGood v.cut v.clear
-  pub marks : MarksGood (marks_at e) v.mark v.clear
+  pub marks : UnclearedMarksStand (marks_at e) v.mark v.clear
   pub uncut : UncutGood (alloc_at e) v.alloc v.cut
   pub uncut_slots : UncutGood e.slot v.slot v.cut
   pub slots : SlotsGood v.page v.slot

@@ -8,7 +8,7 @@ use Rattle.gh_base.specs.Steps.{cell_of, effect}
 use Rattle.gh_sweep.specs.Facts.{Facts, IsPlaced}
 use Rattle.gh_sweep.specs.Listing.{asks, asks_at, goes, is_busy, opening, slot_bytes, Sweeping, wrote}
 use Rattle.gh_sweep.specs.Moves.{Clears, Cuts, Ends, Lands, Move, OthersLeave, Quiet, Starts, Sweeps, TellsHeap, TellsLive, TellsTally}
-use Rattle.gh_sweep.specs.Shared.{By, CycleEnd, Due, generation_of, Good, HasEnded, nothing, Shared, view}
+use Rattle.gh_sweep.specs.Shared.{By, CycleEnd, Due, generation_of, Good, HasEnded, nothing_due, Shared, view}
 use Rattle.gh_sweep.specs.Sound.{reached}
 use Rattle.gh_sweep.specs.Vocabulary.{AddHeap, AddLive, AddTally, Begin, ClearBits, ClearMarks, Ended, Finish, Load, LoadMarks, SpanHead, SweepStage}
 
@@ -36,15 +36,15 @@ module _ (m : Sweeping) where
   all_owed = record { kept = m.kept; freed = m.freed; live = m.kept * slot_bytes m.head; cleared = m.freed * slot_bytes m.head }
 
   abbrev pub owes_at : SweepStage → Due
-  owes_at Begin = nothing
+  owes_at Begin = nothing_due
   owes_at (LoadMarks i) = all_owed
   owes_at (ClearBits i marks) = all_owed
   owes_at (ClearMarks i) = all_owed
   owes_at AddTally = all_owed
   owes_at AddLive = bytes_owed
   owes_at AddHeap = record { kept = 0; freed = 0; live = 0; cleared = m.freed * slot_bytes m.head }
-  owes_at Finish = nothing
-  owes_at (Ended end) = nothing
+  owes_at Finish = nothing_due
+  owes_at (Ended end) = nothing_due
 
 abbrev pub owes : Sweeping → Due
 owes m = owes_at m m.stage
@@ -72,7 +72,7 @@ HasReached a s m (Ended end) = Unit {0}
 HasReached a s m stage = Sweeps a m.page m.head (reached m.head stage) (marks_cleared m.head stage) s
 
 -- What holds of the sweep that an actor runs: the spans that are the actor's are those of its stage, which says too what it has yet to tell.
-pub record Fine (e : CycleEnd) (a : ℕ) (s : Shared) (m : Sweeping) : Type 0 where
+pub record SweepIsFine (e : CycleEnd) (a : ℕ) (s : Shared) (m : Sweeping) : Type 0 where
   pub placed : IsPlaced m
   pub number : m.head.number + 2 ≡ generation_of e
   pub right : (p : ℕ) → (s.far p ≡ By a) ↔ IsOwn m p
@@ -83,15 +83,15 @@ pub record Fine (e : CycleEnd) (a : ℕ) (s : Shared) (m : Sweeping) : Type 0 wh
 -- the actor sweeps nothing, and has told all
 pub record IsAtRest (a : ℕ) (s : Shared) : Type 0 where
   pub none : (p : ℕ) → s.far p ≢ By a
-  pub told : s.due a ≡ nothing
+  pub told : s.due a ≡ nothing_due
 
 pub record SweepsAmongOthers : Type 0 where
   -- a sweep may be begun where the page's word is found to have the head of an unswept span
-  pub opens : (e : CycleEnd) (a : ℕ) (s : Shared) (p : ℕ) (h : SpanHead) → HasEnded e → Good e (view s) → IsAtRest a s → page_of (s.words (Page p)) ≡ Head h → h.number + 2 ≡ generation_of e → Fine e a s (opening e.layout p h)
+  pub opens : (e : CycleEnd) (a : ℕ) (s : Shared) (p : ℕ) (h : SpanHead) → HasEnded e → Good e (view s) → IsAtRest a s → page_of (s.words (Page p)) ≡ Head h → h.number + 2 ≡ generation_of e → SweepIsFine e a s (opening e.layout p h)
   -- each of its steps is its move, which it may make, and the same holds of it then
-  pub own : (e : CycleEnd) (a : ℕ) (s : Shared) (m : Sweeping) → HasEnded e → Good e (view s) → a < seats_of e.layout → Fine e a s m → is_busy m.stage ≡ true →
-      Lands e a s (move_of m (s.words (cell_of (asks m)))) (effect s.words (asks m)) (λ t. Fine e a t (goes m (s.words (cell_of (asks m)))))
+  pub own : (e : CycleEnd) (a : ℕ) (s : Shared) (m : Sweeping) → HasEnded e → Good e (view s) → a < seats_of e.layout → SweepIsFine e a s m → is_busy m.stage ≡ true →
+      Lands e a s (move_of m (s.words (cell_of (asks m)))) (effect s.words (asks m)) (λ t. SweepIsFine e a t (goes m (s.words (cell_of (asks m)))))
   -- and that lasts under the moves of others
-  pub last : (e : CycleEnd) (a : ℕ) (s t : Shared) (m : Sweeping) → OthersLeave e a s t → Fine e a s m → Fine e a t m
+  pub last : (e : CycleEnd) (a : ℕ) (s t : Shared) (m : Sweeping) → OthersLeave e a s t → SweepIsFine e a s m → SweepIsFine e a t m
   -- once it has ended the actor is at rest
-  pub rests : (e : CycleEnd) (a : ℕ) (s : Shared) (m : Sweeping) → Fine e a s m → is_busy m.stage ≡ false → IsAtRest a s
+  pub rests : (e : CycleEnd) (a : ℕ) (s : Shared) (m : Sweeping) → SweepIsFine e a s m → is_busy m.stage ≡ false → IsAtRest a s

@@ -269,6 +269,8 @@ impl Machine for Sweep {
     fn take(&mut self, found: u64) -> Option<SweepEnd> {
         match self.stage {
             SweepStage::Begin => {
+                // Another word means that another has swapped the head first, and the span is its to sweep. So each object is kept or
+                // freed, and counted, by one sweep.
                 self.stage = if found != self.found_word() {
                     SweepStage::Ended(SweepEnd::Lost)
                 } else {
@@ -276,8 +278,11 @@ impl Machine for Sweep {
                 };
             }
             SweepStage::LoadMarks(i) => self.stage = SweepStage::ClearBits(i, found),
+            // The alloc bits are cut before the marks are cleared. So in each word an object that stands and is to stay is marked until
+            // the objects that are to go are gone: a mark is what tells them apart.
             SweepStage::ClearBits(i, marks) => self.count(i, marks, found),
             SweepStage::ClearMarks(i) => self.stage = self.behind(i),
+            // All three counts come before the head's last word: who finds each span swept reads counts that are whole.
             SweepStage::AddTally => self.stage = SweepStage::AddLive,
             SweepStage::AddLive => self.stage = SweepStage::AddHeap,
             SweepStage::AddHeap => self.stage = SweepStage::Finish,

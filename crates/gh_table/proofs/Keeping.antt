@@ -12,9 +12,9 @@ use Rattle.gh_base.specs.declared.cell.Ask.TheVariants.{Load, Store, Or, And, Ad
 use Rattle.gh_base.specs.declared.cell.Req.{Req}
 use Rattle.gh_base.specs.declared.layout.Layout.{Layout}
 use Rattle.gh_base.specs.declared.machine.Entry.{Entry}
-use Rattle.gh_base.specs.Cells.{InRange, length_of, Shows, WordsAreBelow}
+use Rattle.gh_base.specs.Cells.{InRange, length_of, ShowsCells, WordsAreBelow}
 use Rattle.gh_base.specs.Lists.{Setting, by, Begins, Legal, MayFollow, started, state_of, words_after}
-use Rattle.gh_base.specs.Steps.{cell_of, changed, effect, leaves, request, StepsAreShown, target}
+use Rattle.gh_base.specs.Steps.{cell_of, changed, effect, request, request_leaves, StepsAreShown, target}
 use Rattle.gh_table.specs.declared.plan.View.{View}
 use Rattle.gh_table.specs.Rule.{actor_in, BeginsIn, Fits, HoldsOneList, IsAfterOneList, IsLaidOut, MayAsk, NoSeatCarries, Tells, TellsOnce}
 use Rattle.gh_table.specs.Views.{all_carried, BeganAsEach, Carries, entry, has, joined, leaving, of_others, of_these, Once, spent, staying, with_entry}
@@ -61,7 +61,7 @@ module _ {K A O : Type 0} (settles : Settles A O) (of : K → Setting A O) where
 
   -- the step r of the actor a, of the word i, which becomes f of what it was
   pub steps : (p : K) → StepsAreShown (of p).layout → (slots id : ℕ) (me : Me (Unit {0}) (View K O)) (a : ℕ) (b : Option O) (r : Ask) (i : ℕ) (f : ℕ → ℕ)
-      → MayAsk of me.0 a b r → InRange (of p).layout (cell_of r) → i ≡ target (request (of p).layout r) → ((n : ℕ) → f n ≡ leaves (request (of p).layout r) n)
+      → MayAsk of me.0 a b r → InRange (of p).layout (cell_of r) → i ≡ target (request (of p).layout r) → ((n : ℕ) → f n ≡ request_leaves (request (of p).layout r) n)
       → Allows (HoldsOneList of p) slots id me i f (λ n w. Tells of a b r n me w)
   steps p shown slots id me a b r i f may within here does st kept len at word =
       let l : Layout = (of p).layout in
@@ -70,7 +70,7 @@ module _ {K A O : Type 0} (settles : Settles A O) (of : K → Setting A O) where
       let mine : Fits p (of p).actors kept.owner kept.list id me.0 a = kept.views id me.0 at a may.carries in
       let there = shown st.words (words_after (of p).opening kept.list) r within kept.words in
       let found : n ≡ words_after (of p).opening kept.list (cell_of r) = ap (λ (j : ℕ). slice_index st.words j) here ∙ there.found in
-      let now : slice_set st.words i (f n) ≡ changed (request l r) st.words = (λ j. slice_set st.words (here j) ((does n ∙ ap (λ (k : ℕ). leaves (request l r) (slice_index st.words k)) here) j)) in
+      let now : slice_set st.words i (f n) ≡ changed (request l r) st.words = (λ j. slice_set st.words (here j) ((does n ∙ ap (λ (k : ℕ). request_leaves (request l r) (slice_index st.words k)) here) j)) in
       let follows : MayFollow (of p) kept.list e = may_follow p kept.list me.0 a b r n mine.plan mine.known mine.entries within may found in (
         with_entry me.0 kept.list e,
         keeps,
@@ -79,7 +79,7 @@ module _ {K A O : Type 0} (settles : Settles A O) (of : K → Setting A O) where
           list = e ∷ kept.list;
           owner = kept.owner;
           legal = (kept.legal, follows);
-          words = subst (λ (ws : List ℕ). Shows l ws (effect (words_after (of p).opening kept.list) r)) (sym now) there.after;
+          words = subst (λ (ws : List ℕ). ShowsCells l ws (effect (words_after (of p).opening kept.list) r)) (sym now) there.after;
           views = (λ j v is c holds. ⊎_elim
               (λ (t : (j ≡ id) × (with_entry me.0 kept.list e ≡ v)).
               let own : Fits p (of p).actors kept.owner (e ∷ kept.list) id (with_entry me.0 kept.list e) c = fits_more p (of p).actors kept.owner kept.list id me.0 e c (kept.views id me.0 at c (subst (λ (u : View K O). Carries u c) (sym t.1) holds)) in
@@ -214,7 +214,7 @@ module _ {K A O : Type 0} (of : K → Setting A O) (p : K) where
             (none_before c (set st.views id (joined v w)) other w (spent q) there (or_right_false (has v.actors c) (has w.actors c) either_no) none)));
       }
 
-  pub opens : (ws : List ℕ) → Shows (of p).layout ws (of p).opening → HoldsOneList of p (opening {S = Unit {0}} ws [] (all_carried p (of p).actors))
+  pub opens : (ws : List ℕ) → ShowsCells (of p).layout ws (of p).opening → HoldsOneList of p (opening {S = Unit {0}} ws [] (all_carried p (of p).actors))
   opens ws e = record { list = []; owner = (λ _. 0); legal = tt; words = e; views = one; once = single; others = (λ a none. refl) }
     where
       single : (id : ℕ) (v : View K O) → get_elem? (all_carried p (of p).actors ∷ []) id ≡ some v → Once v.actors
@@ -245,7 +245,7 @@ module _ {K A O : Type 0} (of : K → Setting A O) (p : K) where
       let kept : HoldsOneList of p f.0 = f.1.0 in record {
         list = kept.list;
         legal = kept.legal;
-        words = subst (λ (l : List ℕ). Shows (of p).layout l (words_after (of p).opening kept.list)) f.2 kept.words;
+        words = subst (λ (l : List ℕ). ShowsCells (of p).layout l (words_after (of p).opening kept.list)) f.2 kept.words;
         entries = (λ a holds. (kept.views id v f.1.1 a holds).entries);
         seen = (λ a holds. (kept.views id v f.1.1 a holds).seen);
       }
@@ -290,7 +290,7 @@ pub record NotedStep {K A O : Type 0} (of : K → Setting A O) : Type 0 where
   pub is_made : made ≡ request layout ask
 
 -- it keeps the rule, at a request of a known kind
-pub asked : {K A O : Type 0} (settles : Settles A O) (of : K → Setting A O) (x : NotedStep of) (made : Req) (f : ℕ → ℕ) → x.made ≡ made → ((n : ℕ) → f n ≡ leaves made n)
+pub asked : {K A O : Type 0} (settles : Settles A O) (of : K → Setting A O) (x : NotedStep of) (made : Req) (f : ℕ → ℕ) → x.made ≡ made → ((n : ℕ) → f n ≡ request_leaves made n)
     → (target made < x.words) × Allows (HoldsOneList of x.plan) x.slots x.id x.me (target made) f (λ n w. Tells of x.noted_actor x.noted_begun x.noted_ask n x.me w)
 asked {K} {A} {O} settles of x made f is does =
     let same : made ≡ request x.layout x.ask = sym is ∙ x.is_made in
@@ -299,5 +299,5 @@ asked {K} {A} {O} settles of x made f is does =
     let P : ℕ × Option O × Ask → Type 0 = λ t. MayAsk of x.me.0 t.0 t.1 t.2 × InRange (of x.plan).layout (cell_of t.2) × (made ≡ request (of x.plan).layout t.2) in
     let all : P (x.noted_actor, x.noted_begun, x.noted_ask) = subst P (λ j. (sym x.note.0 j, sym x.note.1 j, sym x.note.2 j)) (x.may, subst (λ (l : Layout). InRange l (cell_of x.ask)) x.laid.layout x.within, of_plan) in (
       lt,
-      steps settles of x.plan (subst StepsAreShown x.laid.layout x.shown) x.slots x.id x.me x.noted_actor x.noted_begun x.noted_ask (target made) f all.0 all.1 (ap target all.2) (λ n. does n ∙ ap (λ (q : Req). leaves q n) all.2),
+      steps settles of x.plan (subst StepsAreShown x.laid.layout x.shown) x.slots x.id x.me x.noted_actor x.noted_begun x.noted_ask (target made) f all.0 all.1 (ap target all.2) (λ n. does n ∙ ap (λ (q : Req). request_leaves q n) all.2),
     )

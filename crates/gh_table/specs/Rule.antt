@@ -7,7 +7,7 @@ use Rattle.gh_base.specs.declared.cell.Ask.{Ask}
 use Rattle.gh_base.specs.declared.layout.Layout.{Layout}
 use Rattle.gh_base.specs.declared.machine.Entry.{Entry}
 use Rattle.gh_base.specs.Blind.{is_store}
-use Rattle.gh_base.specs.Cells.{length_of, Shows}
+use Rattle.gh_base.specs.Cells.{length_of, ShowsCells}
 use Rattle.gh_base.specs.Lists.{by, Legal, Setting, started, state_of, words_after}
 use Rattle.gh_table.specs.declared.plan.View.{View}
 use Rattle.gh_table.specs.Views.{BeganAsEach, Carries, entry, has, Once, with_entry}
@@ -32,7 +32,7 @@ module _ {S K A O : Type 0} (of : K → Setting A O) where
     pub list : List (Entry O)
     pub owner : ℕ → ℕ
     pub legal : Legal (of p) list
-    pub words : Shows (of p).layout st.words (words_after (of p).opening list)
+    pub words : ShowsCells (of p).layout st.words (words_after (of p).opening list)
     pub views : (id : ℕ) (v : View K O) → get_elem? st.views id ≡ some v → (a : ℕ) → Carries v a → Fits p (of p).actors owner list id v a
     pub once : (id : ℕ) (v : View K O) → get_elem? st.views id ≡ some v → Once v.actors
     pub others : (a : ℕ) → NoSeatCarries st.views a → by a list ≡ []
@@ -60,7 +60,7 @@ module _ {K A O : Type 0} (of : K → Setting A O) where
   pub record IsAfterOneList (p : K) (v : View K O) (ws : List ℕ) : Type 0 where
     pub list : List (Entry O)
     pub legal : Legal (of p) list
-    pub words : Shows (of p).layout ws (words_after (of p).opening list)
+    pub words : ShowsCells (of p).layout ws (words_after (of p).opening list)
     pub entries : (a : ℕ) → Carries v a → by a list ≡ by a v.log
     pub seen : (a : ℕ) → Carries v a → BeganAsEach v.seen list
 

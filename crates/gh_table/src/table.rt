@@ -3,7 +3,7 @@
 ghost use Rattle.std.specs.Prelude.{◌≡◌, ℕ, ◌<◌, ◌+◌, ◌-◌, ◌||◌, true, false, [], ◌++◌, length, IfOk};
 ghost use Rattle.std.specs.Slots.{slots_items, slots_len, IsFull};
 ghost use Rattle.gh_base.specs.declared.cell.Ask.TheVariants as ask;
-ghost use Rattle.gh_base.specs.Cells.{InRange, Shows};
+ghost use Rattle.gh_base.specs.Cells.{InRange, ShowsCells};
 ghost use Rattle.gh_base.specs.Lists.{by, started};
 ghost use Rattle.gh_table.specs.Rule.{actor_in, BeginsIn, IsAfterOneList, IsLaidOut, IsTold, MayAsk, Tells};
 ghost use Rattle.gh_table.specs.Runs.{SawLegalList};
@@ -199,7 +199,7 @@ pub fn open<A, O, K: Plan<A, O>>(
     ),
     AllocError,
 >
-    requires shows { Shows (K.setting plan.now).layout words.now (K.setting plan.now).opening }
+    requires shows { ShowsCells (K.setting plan.now).layout words.now (K.setting plan.now).opening }
     ensures table { IfOk result (λ r. (r.0.shared.table_id.words ≡ length words.now) × (r.0.shared.table_id.slots ≡ 0) × (r.0.shared.key ≡ plan.now)) }
     ensures seat { IfOk result (λ r. (r.1.table_id ≡ r.0.shared.table_id) × (r.1.me ≡ (all_carried plan.now (K.setting plan.now).actors, []))) }
 {

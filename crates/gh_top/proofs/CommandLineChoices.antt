@@ -7,8 +7,8 @@ use Rattle.clap.specs.Lexer.{long_of}
 use Rattle.clap.specs.Faults.{settle_fault, use_fault}
 use Rattle.clap.specs.Walk.{Held, Row, has_row, idle, option, reacted, settled, used}
 use Rattle.clap.specs.declared.parser.matches.ValueSource.TheVariants.{CommandLine}
-use Rattle.gh_top.specs.CommandLine.{AnyText, Choice, LineOption, NoValue, Number, Reading, Text, Value, asked_for, begun, choices, flag_value, is_chosen, is_flag, is_none, is_taken_by, is_value, option_named, takes, with_choice}
-use Rattle.gh_top.specs.CommandLineParser.{passes}
+use Rattle.gh_top.specs.CommandLine.{AnyText, Choice, LineOption, NoValue, Number, Reading, Text, Value, asked_for, begun, choices, flag_value, is_chosen, is_flag, is_none, is_taken_by, is_value, option_named, option_takes, with_choice}
+use Rattle.gh_top.specs.CommandLineParser.{no_error_comes}
 use Rattle.gh_top.specs.declared.line.Line.{Line}
 use Rattle.gh_top.proofs.CommandLineEnd.{IsRead, Sub, end_fails, end_good, line_from}
 use Rattle.gh_top.proofs.CommandLineRows.{has_made, made_more, row, rows_made}
@@ -28,12 +28,12 @@ more made name value = made ++ (name, value) ∷ []
 
 -- the value is one choice more
 abbrev takes_it : Sub → LineOption → List Choice → Text → Bool
-takes_it s o made v = not (is_chosen o.name made) && takes s.options o.name v
+takes_it s o made v = not (is_chosen o.name made) && option_takes s.options o.name v
 
 choice_is : (s : Sub) (o : LineOption) → Valued s o → (made : List Choice) (v : Text) (rows : List Row) → rows ≡ rows_made made
-    → passes (use_fault false (built_option o) (v ∷ []) rows) ≡ takes_it s o made v
+    → no_error_comes (use_fault false (built_option o) (v ∷ []) rows) ≡ takes_it s o made v
 choice_is s o is made v rows same =
-    let took : takes s.options o.name v ≡ is_taken_by o.value v = ap (λ (found : Option LineOption). option_map_or (λ (p : LineOption). is_taken_by p.value v) found false) is.named in
+    let took : option_takes s.options o.name v ≡ is_taken_by o.value v = ap (λ (found : Option LineOption). option_map_or (λ (p : LineOption). is_taken_by p.value v) found false) is.named in
     use_passes o rows v is.valued
     ∙ ap₂ (λ (a b : Bool). not a && b) (ap (has_row o.name) same ∙ has_made o.name made) (sym took)
 
@@ -45,14 +45,14 @@ used_more : (s : Sub) (o : LineOption) → Valued s o → (made : List Choice) (
     → used (built_option o) (v ∷ []) rows ≡ rows_made (more made o.name v)
 used_more s o is made v rows same e =
     ap (used (built_option o) (v ∷ [])) same
-    ∙ used_is o v (rows_made made) is.valued (has_made o.name made ∙ not_chosen (is_chosen o.name made) (takes s.options o.name v) e)
+    ∙ used_is o v (rows_made made) is.valued (has_made o.name made ∙ not_chosen (is_chosen o.name made) (option_takes s.options o.name v) e)
     ∙ sym (made_more made (o.name, v))
 
 -- an option that is unknown takes nothing, and no more does a flag
-unknown_takes : (s : Sub) (n v : Text) → option_named s.options n ≡ None → takes s.options n v ≡ false
+unknown_takes : (s : Sub) (n v : Text) → option_named s.options n ≡ None → option_takes s.options n v ≡ false
 unknown_takes s n v u = rw u refl
 
-flag_takes : (s : Sub) (o : LineOption) → Flag s o → (v : Text) → takes s.options o.name v ≡ false
+flag_takes : (s : Sub) (o : LineOption) → Flag s o → (v : Text) → option_takes s.options o.name v ≡ false
 flag_takes s o is v = rw is.named (go o.value is.none)
   where
     go : (w : Value) → is_none w ≡ true → is_taken_by w v ≡ false
@@ -60,7 +60,7 @@ flag_takes s o is v = rw is.named (go o.value is.none)
     go AnyText e = absurd cc
     go NoValue e = refl
 
-chooses_none : (s : Sub) (made : List Choice) (n v : Text) → takes s.options n v ≡ false → with_choice s.options made n v ≡ None
+chooses_none : (s : Sub) (made : List Choice) (n v : Text) → option_takes s.options n v ≡ false → with_choice s.options made n v ≡ None
 chooses_none s made n v t = rw t (nothing (not (is_chosen n made)))
   where
     nothing : (c : Bool) → (if c && false then Some (more made n v) else None) ≡ None
@@ -85,19 +85,19 @@ is_a_flag s o b named is = ap (λ (found : Option LineOption). option_map_or (λ
 
 -- what is held stands for the choices
 record Stands (s : Sub) (made : List Choice) (h : Held) : Type 0 where
-  good : passes (settle_fault (rules s.options) false h) ≡ true
+  good : no_error_comes (settle_fault (rules s.options) false h) ≡ true
   rows : (settled (rules s.options) h).rows ≡ rows_made made
   skip : h.skip ≡ 0
 
 stands_value : (s : Sub) (o : LineOption) → Valued s o → (made : List Choice) (v : Text) → takes_it s o made v ≡ true → Stands s (more made o.name v) (with_value o (rows_made made) v)
 stands_value s o is made v e = record {
-  good = ap passes (settle_is s o is (rows_made made) (v ∷ [])) ∙ choice_is s o is made v (rows_made made) refl ∙ e;
+  good = ap no_error_comes (settle_is s o is (rows_made made) (v ∷ [])) ∙ choice_is s o is made v (rows_made made) refl ∙ e;
   rows = settled_is s o is (rows_made made) (v ∷ []) ∙ used_more s o is made v (rows_made made) refl e;
   skip = refl;
 }
 
-fails_value : (s : Sub) (o : LineOption) → Valued s o → (made : List Choice) (v : Text) → takes_it s o made v ≡ false → passes (settle_fault (rules s.options) false (with_value o (rows_made made) v)) ≡ false
-fails_value s o is made v e = ap passes (settle_is s o is (rows_made made) (v ∷ [])) ∙ choice_is s o is made v (rows_made made) refl ∙ e
+fails_value : (s : Sub) (o : LineOption) → Valued s o → (made : List Choice) (v : Text) → takes_it s o made v ≡ false → no_error_comes (settle_fault (rules s.options) false (with_value o (rows_made made) v)) ≡ false
+fails_value s o is made v e = ap no_error_comes (settle_is s o is (rows_made made) (v ∷ [])) ∙ choice_is s o is made v (rows_made made) refl ∙ e
 
 -- ---- the two places in the walk
 
@@ -120,7 +120,7 @@ given_is : (s : Sub) (o : LineOption) → Valued s o → (made : List Choice) (h
     → given_line s o h v rest ≡ asked_by s rest (begun s.options made (o.name, Some v))
 given_is s o is made h v rest st idle_is = go (takes_it s o made v) refl
   where
-    uses : passes (use_fault false (built_option o) (v ∷ []) (settled (rules s.options) h).rows) ≡ takes_it s o made v
+    uses : no_error_comes (use_fault false (built_option o) (v ∷ []) (settled (rules s.options) h).rows) ≡ takes_it s o made v
     uses = choice_is s o is made v (settled (rules s.options) h).rows st.rows
 
     go : (b : Bool) → takes_it s o made v ≡ b → given_line s o h v rest ≡ asked_by s rest (begun s.options made (o.name, Some v))
@@ -139,7 +139,7 @@ flag_is s o is made h rest st idle_is = go (is_chosen o.name made) refl
     there : has_row o.name (settled (rules s.options) h).rows ≡ is_chosen o.name made
     there = ap (has_row o.name) st.rows ∙ has_made o.name made
 
-    uses : passes (use_fault false (built_option o) [] (settled (rules s.options) h).rows) ≡ not (is_chosen o.name made)
+    uses : no_error_comes (use_fault false (built_option o) [] (settled (rules s.options) h).rows) ≡ not (is_chosen o.name made)
     uses = flag_passes o (settled (rules s.options) h).rows is.none ∙ ap not there
 
     go : (b : Bool) → is_chosen o.name made ≡ b → flag_line s o h rest ≡ asked_by s rest (begun s.options made (o.name, None))

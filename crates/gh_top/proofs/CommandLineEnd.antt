@@ -16,17 +16,17 @@ use Rattle.clap.specs.Simple.{Shape}
 use Rattle.clap.proofs.WalkLemmas.{both}
 use Rattle.clap.specs.declared.parser.matches.ValueSource.TheVariants.{DefaultValue}
 use Rattle.gh_top.specs.CommandLine.{AnyText, Choice, LineOption, NoValue, Number, Text, Value, ended, has_required, is_chosen}
-use Rattle.gh_top.specs.CommandLineParser.{passes, subcommand_shape}
+use Rattle.gh_top.specs.CommandLineParser.{no_error_comes, subcommand_shape}
 use Rattle.gh_top.specs.declared.line.Line.{Line}
 use Rattle.gh_top.proofs.CommandLineRows.{found_row, given_made, given_row, row, rows_made}
 use Rattle.gh_top.proofs.CommandLineRules.{built_option, rules}
 
 -- both pass where either fails
-pub passes_both : (a b : Kinds) → passes (or_else a b) ≡ (passes a && passes b)
+pub passes_both : (a b : Kinds) → no_error_comes (or_else a b) ≡ (no_error_comes a && no_error_comes b)
 passes_both [] b = refl
 passes_both (k ∷ ks) b = refl
 
-pub passes_alone : (a : Kinds) → passes (or_else a []) ≡ passes a
+pub passes_alone : (a : Kinds) → no_error_comes (or_else a []) ≡ no_error_comes a
 passes_alone [] = refl
 passes_alone (k ∷ ks) = refl
 
@@ -123,16 +123,16 @@ found_defaulted name (o ∷ options) rows =
 
 -- the defaults are values that their options take
 abbrev pub fits : LineOption → Bool
-fits o = passes (default_fault [] (built_option o))
+fits o = no_error_comes (default_fault [] (built_option o))
 
-default_passes : (o : LineOption) (rows : List Row) → fits o ≡ true → passes (default_fault rows (built_option o)) ≡ true
+default_passes : (o : LineOption) (rows : List Row) → fits o ≡ true → no_error_comes (default_fault rows (built_option o)) ≡ true
 default_passes o rows f = go (has_row o.name rows) refl
   where
-    go : (b : Bool) → has_row o.name rows ≡ b → passes (default_fault rows (built_option o)) ≡ true
+    go : (b : Bool) → has_row o.name rows ≡ b → no_error_comes (default_fault rows (built_option o)) ≡ true
     go true b = rw b refl
     go false b = rw b f
 
-defaults_pass : (options : List LineOption) (rows : List Row) → list_all fits options ≡ true → passes (defaults_fault rows (rules options)) ≡ true
+defaults_pass : (options : List LineOption) (rows : List Row) → list_all fits options ≡ true → no_error_comes (defaults_fault rows (rules options)) ≡ true
 unfolding defaults_fault
 defaults_pass [] rows all = refl
 defaults_pass (o ∷ options) rows all =
@@ -206,15 +206,15 @@ end_fault s h =
 abbrev pub line_from : Sub → Walk → List Text → Option Line
 line_from s w words =
     let end = (fold (walked (rules s.options) []) w words).held in
-    if passes (or_else (walk_fault (leaf s) [] w words) (end_fault s end)) then s.found (finished (rules s.options) end) else None
+    if no_error_comes (or_else (walk_fault (leaf s) [] w words) (end_fault s end)) then s.found (finished (rules s.options) end) else None
 
 abbrev rest_fault : Sub → List Row → Kinds
 rest_fault s rows = or_else (defaults_fault rows (rules s.options)) (check_fault (leaf s) (defaulted s.options rows) false)
 
 abbrev line_at : Sub → List Row → Option Line
-line_at s rows = if passes (rest_fault s rows) then s.found (defaulted s.options rows) else None
+line_at s rows = if no_error_comes (rest_fault s rows) then s.found (defaulted s.options rows) else None
 
-check_passes : (s : Sub) (made : List Choice) → passes (check_fault (leaf s) (defaulted s.options (rows_made made)) false) ≡ has_required s.options made
+check_passes : (s : Sub) (made : List Choice) → no_error_comes (check_fault (leaf s) (defaulted s.options (rows_made made)) false) ≡ has_required s.options made
 check_passes s made =
     by (list_any (λ a. a.required && not (is_given a.id rows)) (rules s.options))
     ∙ ap not (missing_is s.options made rows (chosen_given s.options made)) ∙ twice (has_required s.options made)
@@ -222,7 +222,7 @@ check_passes s made =
     rows : List Row
     rows = defaulted s.options (rows_made made)
 
-    by : (b : Bool) → passes (check_kinds false false b) ≡ not b
+    by : (b : Bool) → no_error_comes (check_kinds false false b) ≡ not b
     by true = refl
     by false = refl
 
@@ -230,7 +230,7 @@ check_passes s made =
     twice true = refl
     twice false = refl
 
-rest_passes : (s : Sub) → IsRead s → (made : List Choice) → passes (rest_fault s (rows_made made)) ≡ has_required s.options made
+rest_passes : (s : Sub) → IsRead s → (made : List Choice) → no_error_comes (rest_fault s (rows_made made)) ≡ has_required s.options made
 rest_passes s is made =
     passes_both (defaults_fault (rows_made made) (rules s.options)) _
     ∙ ap₂ (λ (a b : Bool). a && b) (defaults_pass s.options (rows_made made) is.fitting) (check_passes s made)
@@ -243,24 +243,24 @@ line_made s is made =
     go true = refl
     go false = refl
 
-end_is : (s : Sub) (w : Walk) → line_from s w [] ≡ (if passes (end_fault s w.held) then s.found (finished (rules s.options) w.held) else None)
+end_is : (s : Sub) (w : Walk) → line_from s w [] ≡ (if no_error_comes (end_fault s w.held) then s.found (finished (rules s.options) w.held) else None)
 unfolding walk_fault
 end_is s w = refl
 
-end_by : (s : Sub) (w : Walk) (b : Bool) (rows : List Row) → passes (settle_fault (rules s.options) false w.held) ≡ b → (settled (rules s.options) w.held).rows ≡ rows
+end_by : (s : Sub) (w : Walk) (b : Bool) (rows : List Row) → no_error_comes (settle_fault (rules s.options) false w.held) ≡ b → (settled (rules s.options) w.held).rows ≡ rows
     → line_from s w [] ≡ (if b then line_at s rows else None)
 end_by s w b rows settles is =
     end_is s w ∙ go (settle_fault (rules s.options) false w.held) ∙ ap₂ (λ (c : Bool) (rs : List Row). if c then line_at s rs else None) settles is
   where
-    go : (k : Kinds) → (if passes (or_else k (rest_fault s (settled (rules s.options) w.held).rows)) then s.found (finished (rules s.options) w.held) else None)
-        ≡ (if passes k then line_at s (settled (rules s.options) w.held).rows else None)
+    go : (k : Kinds) → (if no_error_comes (or_else k (rest_fault s (settled (rules s.options) w.held).rows)) then s.found (finished (rules s.options) w.held) else None)
+        ≡ (if no_error_comes k then line_at s (settled (rules s.options) w.held).rows else None)
     go [] = refl
     go (x ∷ xs) = refl
 
-pub end_fails : (s : Sub) (w : Walk) → passes (settle_fault (rules s.options) false w.held) ≡ false → line_from s w [] ≡ None
+pub end_fails : (s : Sub) (w : Walk) → no_error_comes (settle_fault (rules s.options) false w.held) ≡ false → line_from s w [] ≡ None
 end_fails s w bad = end_by s w false (settled (rules s.options) w.held).rows bad refl
 
 -- the words end where these choices were made
-pub end_good : (s : Sub) → IsRead s → (w : Walk) (made : List Choice) → passes (settle_fault (rules s.options) false w.held) ≡ true → (settled (rules s.options) w.held).rows ≡ rows_made made
+pub end_good : (s : Sub) → IsRead s → (w : Walk) (made : List Choice) → no_error_comes (settle_fault (rules s.options) false w.held) ≡ true → (settled (rules s.options) w.held).rows ≡ rows_made made
     → line_from s w [] ≡ option_and_then s.of (ended s.options made None)
 end_good s read w made good is = end_by s w true (rows_made made) good is ∙ line_made s read made

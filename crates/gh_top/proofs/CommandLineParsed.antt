@@ -13,7 +13,7 @@ use Rattle.clap.specs.Walk.{Names, Row, Rule, Walk, bundle_met, finished, nothin
 use Rattle.clap.proofs.FaultLemmas.{stopped_fault}
 use Rattle.clap.proofs.OnLiterals.{clap_on_literals}
 use Rattle.gh_top.specs.CommandLine.{Text, command_line, replay_options, run_options, script_options}
-use Rattle.gh_top.specs.CommandLineParser.{found_line, found_replay, found_run, found_script, goheap_app, parsed_line, passes}
+use Rattle.gh_top.specs.CommandLineParser.{found_line, found_replay, found_run, found_script, goheap_app, no_error_comes, parsed_line}
 use Rattle.gh_top.specs.declared.line.Line.{Line}
 use Rattle.gh_top.specs.declared.line.Line.TheVariants.{Gen, Soak}
 use Rattle.gh_top.proofs.CommandLineChoices.{parsed_choices}
@@ -46,7 +46,7 @@ soak = codes "soak"
 -- the line where the words come to this fault and the walk ends so
 abbrev line_by : Kinds → Walk → Option Line
 line_by fault end =
-    if passes (or_else fault (or_else (entered_fault (built goheap_app) end.stopped) (or_else (settle_fault top.rules false end.held)
+    if no_error_comes (or_else fault (or_else (entered_fault (built goheap_app) end.stopped) (or_else (settle_fault top.rules false end.held)
     (or_else (defaults_fault (settled top.rules end.held).rows top.rules) (check_fault top (finished top.rules end.held) (is_some (entered (built goheap_app) end.stopped)))))))
     then found_line (entered (built goheap_app) end.stopped) else None
 
@@ -85,7 +85,7 @@ entered_walk _ replays words = stopped_is top.rules names (walk_from nothing_hel
 entered_walk _ generates words = stopped_is top.rules names (walk_from nothing_held) gen [] words
 entered_walk _ soaks words = stopped_is top.rules names (walk_from nothing_held) soak [] words
 
-below : (fault : Kinds) (found : Option Line) → (if passes (or_else fault []) then found else None) ≡ (if passes fault then found else None)
+below : (fault : Kinds) (found : Option Line) → (if no_error_comes (or_else fault []) then found else None) ≡ (if no_error_comes fault then found else None)
 below [] found = refl
 below (k ∷ ks) found = refl
 
@@ -99,11 +99,11 @@ entered_line _ soaks words = below (level_fault (leaf (script_sub soak Soak)) []
 entered_is : (s : Sub) → Entered s → (program : Text) (words : List Text) → parsed_line (program ∷ s.name ∷ words) ≡ parsed s words
 entered_is s is program words = by_walk program (s.name ∷ words) ∙ ap₂ line_by (entered_fault_is s is words) (entered_walk s is words) ∙ entered_line s is words
 
-first_fails : (program name : Text) (rest : List Text) → passes (turn_fault top names (walk_from nothing_held) name) ≡ false → parsed_line (program ∷ name ∷ rest) ≡ None
+first_fails : (program name : Text) (rest : List Text) → no_error_comes (turn_fault top names (walk_from nothing_held) name) ≡ false → parsed_line (program ∷ name ∷ rest) ≡ None
 unfolding walk_fault
 first_fails program name rest bad = go (turn_fault top names (walk_from nothing_held) name) bad
   where
-    go : (fault : Kinds) → passes fault ≡ false
+    go : (fault : Kinds) → no_error_comes fault ≡ false
         → line_by (or_else fault (walk_fault top names (walked top.rules names (walk_from nothing_held) name) rest)) (fold (walked top.rules names) (walk_from nothing_held) (name ∷ rest)) ≡ None
     go [] f = absurd (true≢false f)
     go (k ∷ ks) f = refl
@@ -115,17 +115,17 @@ record IsOther (name : Text) : Type 0 where
   no_gen : bytes_eq gen name ≡ false
   no_soak : bytes_eq soak name ≡ false
 
-turn_fails : (name : Text) → IsOther name → bytes_eq name dashes ≡ false → passes (turn_fault top names (walk_from nothing_held) name) ≡ false
+turn_fails : (name : Text) → IsOther name → bytes_eq name dashes ≡ false → no_error_comes (turn_fault top names (walk_from nothing_held) name) ≡ false
 unfolding flags_fault bundle_met
 turn_fails name o d = go (long_of name) refl (short_of name) refl
   where
-    go : (l : Option (Text × Option Text)) → long_of name ≡ l → (s : Option Text) → short_of name ≡ s → passes (turn_fault top names (walk_from nothing_held) name) ≡ false
+    go : (l : Option (Text × Option Text)) → long_of name ≡ l → (s : Option Text) → short_of name ≡ s → no_error_comes (turn_fault top names (walk_from nothing_held) name) ≡ false
     go (Some p) l s e = rw (o.no_run, o.no_replay, o.no_gen, o.no_soak, d, l) refl
     go None l None s = rw (o.no_run, o.no_replay, o.no_gen, o.no_soak, d, l, s) refl
     go None l (Some []) s = rw (o.no_run, o.no_replay, o.no_gen, o.no_soak, d, l, s) refl
     go None l (Some (x ∷ xs)) s = by (slice_get (chars (x ∷ xs)) 0) refl
       where
-        by : (c : Option ℕ) → slice_get (chars (x ∷ xs)) 0 ≡ c → passes (turn_fault top names (walk_from nothing_held) name) ≡ false
+        by : (c : Option ℕ) → slice_get (chars (x ∷ xs)) 0 ≡ c → no_error_comes (turn_fault top names (walk_from nothing_held) name) ≡ false
         by None c = rw (o.no_run, o.no_replay, o.no_gen, o.no_soak, d, l, s, c) refl
         by (Some y) c = rw (o.no_run, o.no_replay, o.no_gen, o.no_soak, d, l, s, c) refl
 
@@ -191,7 +191,7 @@ parsed_is (program ∷ name ∷ rest) = go (bytes_eq name run) refl (bytes_eq na
 
 -- ---- an error of the parser
 
-other_kind : (kinds : Kinds) (kind : ErrorKind) → (kind ≡ OutOfMemory → ⊥) → (kind ≡ OutOfMemory) ⊎ IsAmong kind kinds → passes kinds ≡ false
+other_kind : (kinds : Kinds) (kind : ErrorKind) → (kind ≡ OutOfMemory → ⊥) → (kind ≡ OutOfMemory) ⊎ IsAmong kind kinds → no_error_comes kinds ≡ false
 other_kind [] kind some (inl memory) = absurd (some memory)
 other_kind [] kind some (inr none) = absurd none
 other_kind (k ∷ ks) kind some among = refl
@@ -201,13 +201,13 @@ pub not_taken : (app : App) (words : List Text) (kind : ErrorKind) → app ≡ g
     → (is_simple_and_free app ≡ true → (kind ≡ OutOfMemory) ⊎ IsAmong kind (fault_of app words)) → command_line words ≡ None
 not_taken app words kind is some among =
     let fault : fault_of app words ≡ fault_of goheap_app words = ap (λ (a : App). fault_of a words) is in
-    let bad : passes (fault_of goheap_app words) ≡ false = ap passes (sym fault) ∙ other_kind (fault_of app words) kind some (among (ap is_simple_and_free is)) in
+    let bad : no_error_comes (fault_of goheap_app words) ≡ false = ap no_error_comes (sym fault) ∙ other_kind (fault_of app words) kind some (among (ap is_simple_and_free is)) in
     sym (parsed_is words) ∙ ap (λ (b : Bool). if b then found_line (subcommand_of goheap_app words) else None) bad
 
 -- where the parser takes the words, its matches are the line
 pub taken : (app : App) (words : List Text) (found : Option (Text × List Row)) → app ≡ goheap_app
     → (is_simple_and_free app ≡ true → fault_of app words ≡ []) → (is_simple app ≡ true → found ≡ subcommand_of app words) → found_line found ≡ command_line words
 taken app words found is passed matches =
-    let good : passes (fault_of goheap_app words) ≡ true = ap passes (sym (ap (λ (a : App). fault_of a words) is) ∙ passed (ap is_simple_and_free is)) in
+    let good : no_error_comes (fault_of goheap_app words) ≡ true = ap no_error_comes (sym (ap (λ (a : App). fault_of a words) is) ∙ passed (ap is_simple_and_free is)) in
     let same : found ≡ subcommand_of goheap_app words = matches (ap is_simple is) ∙ ap (λ (a : App). subcommand_of a words) is in
     ap found_line same ∙ sym (ap (λ (b : Bool). if b then found_line (subcommand_of goheap_app words) else None) good) ∙ parsed_is words

@@ -9,7 +9,7 @@ use Rattle.std.proofs.lemmas.Slice.Eq.{bytes_eq-Decides}
 use Rattle.clap.specs.Lexer.{long_of}
 use Rattle.clap.proofs.WalkLemmas.{both}
 use Rattle.gh_replay.specs.declared.schedule.Turn.{Turn}
-use Rattle.gh_top.specs.CommandLine.{Choice, LineOption, Reading, Text, asked_for, begun, budget, choices, chosen, command_line, ended, flag_value, has_required, is_chosen, is_end, is_flag, is_number_in, is_numeral, is_value, next, number_said, replay_by, replay_of, replay_options, run_of, run_options, script_by, script_of, script_options, seed, size, takes, u64_of, with_choice, with_flag}
+use Rattle.gh_top.specs.CommandLine.{Choice, LineOption, Reading, Text, asked_for, begun, budget, choices, chosen, command_line, ended, flag_value, has_required, is_chosen, is_end, is_flag, is_number_in, is_numeral, is_value, next, number_said, replay_by, replay_of, replay_options, run_of, run_options, script_by, script_asked_for, script_options, seed, size, option_takes, u64_of, with_choice, with_flag}
 use Rattle.gh_top.specs.declared.line.Line.{Line}
 use Rattle.gh_top.specs.declared.line.Line.TheVariants.{Gen, Replay, Soak}
 
@@ -17,7 +17,7 @@ use Rattle.gh_top.specs.declared.line.Line.TheVariants.{Gen, Replay, Soak}
 
 module _ (options : List LineOption) where
   abbrev pub fits : Text → Text → Bool
-  fits name value = is_flag options name || takes options name value
+  fits name value = is_flag options name || option_takes options name value
 
   abbrev pub Taken : List Choice → Type 0
   Taken [] = Unit {0}
@@ -40,10 +40,10 @@ module _ (options : List LineOption) where
   taken_more (c ∷ made) n v t e = (t.0, taken_more made n v t.1 e)
 
   taken_choice : (made : List Choice) (n v : Text) → Taken made → TakenBy (with_choice options made n v)
-  taken_choice made n v t = go (not (is_chosen n made)) (takes options n v) refl
+  taken_choice made n v t = go (not (is_chosen n made)) (option_takes options n v) refl
     where
-      go : (a b : Bool) → takes options n v ≡ b → TakenBy (if a && b then Some (made ++ (n, v) ∷ []) else None)
-      go true true e = taken_more made n v t (fits_taken (is_flag options n) (takes options n v) e)
+      go : (a b : Bool) → option_takes options n v ≡ b → TakenBy (if a && b then Some (made ++ (n, v) ∷ []) else None)
+      go true true e = taken_more made n v t (fits_taken (is_flag options n) (option_takes options n v) e)
       go true false e = tt
       go false b e = tt
 
@@ -51,7 +51,7 @@ module _ (options : List LineOption) where
   taken_flag made n is t = go (not (is_chosen n made))
     where
       go : (a : Bool) → TakenBy (if a then Some (made ++ (n, flag_value) ∷ []) else None)
-      go true = taken_more made n flag_value t (ap (λ (b : Bool). b || takes options n flag_value) is)
+      go true = taken_more made n flag_value t (ap (λ (b : Bool). b || option_takes options n flag_value) is)
       go false = tt
 
   taken_settled : (o : Option (List Choice)) → TakenBy o → TakenIn (option_map (λ (made : List Choice). (made, None)) o)
@@ -186,11 +186,11 @@ replay_asked (Some made) t =
 size_said : (made : List Choice) → Taken script_options made → (n : ℕ) → number_said size made ≡ Some n → IsIn 4 200000 n
 size_said made t n is = said_in_range 4 200000 (chosen (codes "size") made) None n (λ v e. chosen_fits script_options (codes "size") made v t e) (no_default 4 200000) is
 
-gen_asked : (o : Option (List Choice)) → TakenBy script_options o → IsInRange (option_and_then (script_of Gen) o)
+gen_asked : (o : Option (List Choice)) → TakenBy script_options o → IsInRange (option_and_then (script_asked_for Gen) o)
 gen_asked None t = tt
 gen_asked (Some made) t = gen_in (number_said seed made) (number_said size made) (size_said made t)
 
-soak_asked : (o : Option (List Choice)) → TakenBy script_options o → IsInRange (option_and_then (script_of Soak) o)
+soak_asked : (o : Option (List Choice)) → TakenBy script_options o → IsInRange (option_and_then (script_asked_for Soak) o)
 soak_asked None t = tt
 soak_asked (Some made) t = soak_in (number_said seed made) (number_said size made) (size_said made t)
 
@@ -202,7 +202,7 @@ numbers_in_range (program ∷ name ∷ words) = go (bytes_eq name (codes "run"))
     go : (a b c d : Bool)
         → IsInRange (if a then asked_for run_options run_of words
         else (if b then asked_for replay_options replay_of words
-        else (if c then asked_for script_options (script_of Gen) words else (if d then asked_for script_options (script_of Soak) words else None))))
+        else (if c then asked_for script_options (script_asked_for Gen) words else (if d then asked_for script_options (script_asked_for Soak) words else None))))
     go true b c d = run_asked (choices run_options [] None words)
     go false true c d = replay_asked (choices replay_options [] None words) (taken_words replay_options words [] None tt)
     go false false true d = gen_asked (choices script_options [] None words) (taken_words script_options words [] None tt)

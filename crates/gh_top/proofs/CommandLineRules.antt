@@ -9,7 +9,7 @@ use Rattle.clap.specs.Simple.{filled, with_index}
 use Rattle.clap.specs.declared.parser.matches.ValueSource.TheVariants.{CommandLine}
 use Rattle.clap.proofs.WalkLemmas.{find-map}
 use Rattle.gh_top.specs.CommandLine.{AnyText, LineOption, NoValue, Number, Text, Value, flag_value, is_none, is_taken_by, option_named}
-use Rattle.gh_top.specs.CommandLineParser.{option_rule, passes}
+use Rattle.gh_top.specs.CommandLineParser.{no_error_comes, option_rule}
 use Rattle.gh_top.proofs.CommandLineRows.{row, used_row}
 
 -- the rule of an option, as built
@@ -57,11 +57,11 @@ takes_values_is o = go o.value refl
 
 -- a use of an option with one value
 pub use_passes : (o : LineOption) (rows : List Row) (word : Text) → is_none o.value ≡ false
-    → passes (use_fault false (built_option o) (word ∷ []) rows) ≡ (not (has_row o.name rows) && is_taken_by o.value word)
+    → no_error_comes (use_fault false (built_option o) (word ∷ []) rows) ≡ (not (has_row o.name rows) && is_taken_by o.value word)
 use_passes o rows word valued = go o.value refl (has_row o.name rows) refl (is_taken_by o.value word) refl
   where
     go : (v : Value) → o.value ≡ v → (a : Bool) → has_row o.name rows ≡ a → (b : Bool) → is_taken_by o.value word ≡ b
-        → passes (use_fault false (built_option o) (word ∷ []) rows) ≡ (not (has_row o.name rows) && is_taken_by o.value word)
+        → no_error_comes (use_fault false (built_option o) (word ∷ []) rows) ≡ (not (has_row o.name rows) && is_taken_by o.value word)
     go (Number least most) e true a b t = rw (e, a) refl
     go (Number least most) e false a true t = let u : is_taken_by (Number least most) word ≡ true = sym (ap (λ v. is_taken_by v word) e) ∙ t in rw (e, a, u) refl
     go (Number least most) e false a false t = let u : is_taken_by (Number least most) word ≡ false = sym (ap (λ v. is_taken_by v word) e) ∙ t in rw (e, a, u) refl
@@ -79,10 +79,10 @@ used_is o word rows valued none = go o.value refl
     go NoValue e = let no : true ≡ false = sym (ap is_none e) ∙ valued in absurd cc
 
 -- and with none
-pub use_fails : (o : LineOption) (rows : List Row) → is_none o.value ≡ false → passes (use_fault false (built_option o) [] rows) ≡ false
+pub use_fails : (o : LineOption) (rows : List Row) → is_none o.value ≡ false → no_error_comes (use_fault false (built_option o) [] rows) ≡ false
 use_fails o rows valued = go o.value refl
   where
-    go : (v : Value) → o.value ≡ v → passes (use_fault false (built_option o) [] rows) ≡ false
+    go : (v : Value) → o.value ≡ v → no_error_comes (use_fault false (built_option o) [] rows) ≡ false
     go (Number least most) e = rw e refl
     go AnyText e = rw e refl
     go NoValue e = let no : true ≡ false = sym (ap is_none e) ∙ valued in absurd cc
@@ -102,13 +102,13 @@ is_no_value (Number least most) e = absurd cc
 is_no_value AnyText e = absurd cc
 is_no_value NoValue e = refl
 
-pub flag_passes : (o : LineOption) (rows : List Row) → is_none o.value ≡ true → passes (use_fault false (built_option o) [] rows) ≡ not (has_row o.name rows)
+pub flag_passes : (o : LineOption) (rows : List Row) → is_none o.value ≡ true → no_error_comes (use_fault false (built_option o) [] rows) ≡ not (has_row o.name rows)
 flag_passes o rows is = go (has_row o.name rows) refl
   where
     none : o.value ≡ NoValue
     none = is_no_value o.value is
 
-    go : (a : Bool) → has_row o.name rows ≡ a → passes (use_fault false (built_option o) [] rows) ≡ not (has_row o.name rows)
+    go : (a : Bool) → has_row o.name rows ≡ a → no_error_comes (use_fault false (built_option o) [] rows) ≡ not (has_row o.name rows)
     go true a = rw (none, a) refl
     go false a = rw (none, a) refl
 

@@ -4,7 +4,7 @@ use Rattle.std.specs.Prelude.{option_and_then, slice_get}
 use Rattle.std.specs.Option.{option_or}
 use Rattle.clap.specs.Walk.{Row, first_of, one_of, row_text}
 use Rattle.gh_replay.specs.declared.schedule.Turn.{Turn}
-use Rattle.gh_top.specs.CommandLine.{Choice, LineOption, Text, budget, check, chosen, is_given, list, list_said, number_said, replay_by, replay_of, replay_options, run_of, run_options, script_by, script_of, script_options, seed, size, u64_of}
+use Rattle.gh_top.specs.CommandLine.{Choice, LineOption, Text, budget, check, chosen, is_given, list, list_said, number_said, replay_by, replay_of, replay_options, run_of, run_options, script_by, script_asked_for, script_options, seed, size, u64_of}
 use Rattle.gh_top.specs.CommandLineParser.{found_check, found_list, found_replay, found_run, found_script}
 use Rattle.gh_top.specs.declared.line.Line.{Line}
 use Rattle.gh_top.proofs.CommandLineEnd.{IsRead, Sub, default_named, defaulted, found_defaulted}
@@ -18,7 +18,7 @@ replay_sub = record { name = codes "replay"; options = replay_options; found = f
 
 -- `gen` and `soak`
 abbrev pub script_sub : Text → (ℕ → ℕ → Line) → Sub
-script_sub name does = record { name = name; options = script_options; found = found_script does; of = script_of does }
+script_sub name does = record { name = name; options = script_options; found = found_script does; of = script_asked_for does }
 
 -- ---- what is found of an option
 

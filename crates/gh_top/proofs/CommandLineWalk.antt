@@ -9,7 +9,7 @@ use Rattle.clap.specs.Faults.{flags_fault, level_fault, settle_fault, turn_fault
 use Rattle.clap.specs.Kinds.{Kinds, or_else}
 use Rattle.clap.specs.Walk.{Held, Row, Waiting, Walk, arg_by_id, arg_by_long, bundle_met, finished, idle, option, positional, nothing_held, reacted, rows_after, settled, subcommand_met, used, walked}
 use Rattle.gh_top.specs.CommandLine.{LineOption, Text, is_none, option_named}
-use Rattle.gh_top.specs.CommandLineParser.{passes}
+use Rattle.gh_top.specs.CommandLineParser.{no_error_comes}
 use Rattle.gh_top.specs.declared.line.Line.{Line}
 use Rattle.gh_top.proofs.CommandLineEnd.{Sub, end_fails, end_fault, leaf, line_from, passes_alone, passes_both}
 use Rattle.gh_top.proofs.CommandLineRules.{built_option, by_id, by_index, by_long, by_short, one_value, rules, same_text, takes_values_is, use_fails}
@@ -30,7 +30,7 @@ trailed waiting h = record { held = h; waiting = waiting; position = 1; is_trail
 -- the line that the parser gives for the words
 abbrev pub parsed : Sub → List Text → Option Line
 parsed s words =
-    if passes (level_fault (leaf s) [] nothing_held words false []) then s.found (rows_after (rules s.options) [] words) else None
+    if no_error_comes (level_fault (leaf s) [] nothing_held words false []) then s.found (rows_after (rules s.options) [] words) else None
 
 pub from_start : (s : Sub) (words : List Text) → parsed s words ≡ line_from s (at idle (held [] None)) words
 from_start s words = refl
@@ -93,16 +93,16 @@ rule_by_id s o e = by_id s.options o.name ∙ ap (option_map built_option) e
 -- ---- one word
 
 step : (s : Sub) (w : Walk) (word : Text) (rest : List Text)
-    → line_from s w (word ∷ rest) ≡ (if passes (turn_fault (leaf s) [] w word) then line_from s (walked (rules s.options) [] w word) rest else None)
+    → line_from s w (word ∷ rest) ≡ (if no_error_comes (turn_fault (leaf s) [] w word) then line_from s (walked (rules s.options) [] w word) rest else None)
 unfolding walk_fault
 step s w word rest = go (turn_fault (leaf s) [] w word)
   where
     after : Walk
     after = walked (rules s.options) [] w word
 
-    go : (t : Kinds) → (if passes (or_else (or_else t (walk_fault (leaf s) [] after rest)) (end_fault s (fold (walked (rules s.options) []) after rest).held))
+    go : (t : Kinds) → (if no_error_comes (or_else (or_else t (walk_fault (leaf s) [] after rest)) (end_fault s (fold (walked (rules s.options) []) after rest).held))
         then s.found (finished (rules s.options) (fold (walked (rules s.options) []) after rest).held) else None)
-        ≡ (if passes t then line_from s after rest else None)
+        ≡ (if no_error_comes t then line_from s after rest else None)
     go [] = refl
     go (k ∷ ks) = refl
 
@@ -128,7 +128,7 @@ at_other s waiting h word rest p e l u = step s (at waiting h) word rest ∙ rw 
 -- a flag
 abbrev pub flag_line : Sub → LineOption → Held → List Text → Option Line
 flag_line s o h rest =
-    if passes (settle_fault (rules s.options) false h) && passes (use_fault false (built_option o) [] (settled (rules s.options) h).rows)
+    if no_error_comes (settle_fault (rules s.options) false h) && no_error_comes (use_fault false (built_option o) [] (settled (rules s.options) h).rows)
     then line_from s (at idle (reacted (rules s.options) (built_option o) [] h)) rest else None
 
 pub at_flag : (s : Sub) (o : LineOption) → Flag s o → (waiting : Waiting) (h : Held) (word : Text) (rest : List Text) → bytes_eq word dashes ≡ false
@@ -150,7 +150,7 @@ at_flag_given s o is waiting h word rest v e l =
 -- `--name=value`
 abbrev pub given_line : Sub → LineOption → Held → Text → List Text → Option Line
 given_line s o h v rest =
-    if passes (settle_fault (rules s.options) false h) && passes (use_fault false (built_option o) (v ∷ []) (settled (rules s.options) h).rows)
+    if no_error_comes (settle_fault (rules s.options) false h) && no_error_comes (use_fault false (built_option o) (v ∷ []) (settled (rules s.options) h).rows)
     then line_from s (at idle (reacted (rules s.options) (built_option o) (v ∷ []) h)) rest else None
 
 pub at_given : (s : Sub) (o : LineOption) → Valued s o → (waiting : Waiting) (h : Held) (word : Text) (rest : List Text) (v : Text) → bytes_eq word dashes ≡ false
@@ -164,7 +164,7 @@ at_given s o is waiting h word rest v e l =
 -- `--name`
 abbrev pub alone_line : Sub → LineOption → Held → List Text → Option Line
 alone_line s o h rest =
-    if passes (settle_fault (rules s.options) false h)
+    if no_error_comes (settle_fault (rules s.options) false h)
     then line_from s (at (option o.name) (record (settled (rules s.options) h) { pending = Some (o.name, []) })) rest else None
 
 pub at_alone : (s : Sub) (o : LineOption) → Valued s o → (waiting : Waiting) (h : Held) (word : Text) (rest : List Text) → bytes_eq word dashes ≡ false
@@ -182,13 +182,13 @@ unfolding walked flags_fault bundle_met
 at_plain s h word rest k e l = step s (at idle h) word rest ∙ go (short_of word) refl
   where
     go : (t : Option Text) → short_of word ≡ t
-        → (if passes (turn_fault (leaf s) [] (at idle h) word) then line_from s (walked (rules s.options) [] (at idle h) word) rest else None) ≡ None
+        → (if no_error_comes (turn_fault (leaf s) [] (at idle h) word) then line_from s (walked (rules s.options) [] (at idle h) word) rest else None) ≡ None
     go None t = rw (e, l, t, by_index s.options 1) refl
     go (Some []) t = rw (e, l, t, by_index s.options 1) refl
     go (Some (x ∷ xs)) t = by (slice_get (chars (x ∷ xs)) 0) refl
       where
         by : (c : Option ℕ) → slice_get (chars (x ∷ xs)) 0 ≡ c
-            → (if passes (turn_fault (leaf s) [] (at idle h) word) then line_from s (walked (rules s.options) [] (at idle h) word) rest else None) ≡ None
+            → (if no_error_comes (turn_fault (leaf s) [] (at idle h) word) then line_from s (walked (rules s.options) [] (at idle h) word) rest else None) ≡ None
         by None c = rw (e, l, t, k, c, by_index s.options 1) refl
         by (Some y) c = rw (e, l, t, k, c, by_short s.options y) refl
 
@@ -215,7 +215,7 @@ at_value s o is rows word rest e l n = step s (wanting o rows) word rest ∙ go 
     no_letter t is = sym (ap (option_and_then (λ (letters : Text). slice_get (chars letters) 0)) is) ∙ n
 
     go : (t : Option Text) → short_of word ≡ t
-        → (if passes (turn_fault (leaf s) [] (wanting o rows) word) then line_from s (walked (rules s.options) [] (wanting o rows) word) rest else None)
+        → (if no_error_comes (turn_fault (leaf s) [] (wanting o rows) word) then line_from s (walked (rules s.options) [] (wanting o rows) word) rest else None)
         ≡ line_from s (at idle (with_value o rows word)) rest
     go None t = rw (e, l, t, rule, same_text o.name, one_value o is.valued) refl
     go (Some []) t = rw (e, l, t, rule, same_text o.name, one_value o is.valued) refl
@@ -245,23 +245,23 @@ pub settled_is : (s : Sub) (o : LineOption) → Valued s o → (rows : List Row)
     → (settled (rules s.options) (held rows (Some (o.name, values)))).rows ≡ used (built_option o) values rows
 settled_is s o is rows values = rw (rule_by_id s o is.named) refl
 
-pub wanting_fails : (s : Sub) (o : LineOption) → Valued s o → (rows : List Row) → passes (settle_fault (rules s.options) false (held rows (Some (o.name, [])))) ≡ false
-wanting_fails s o is rows = ap passes (settle_is s o is rows []) ∙ use_fails o rows is.valued
+pub wanting_fails : (s : Sub) (o : LineOption) → Valued s o → (rows : List Row) → no_error_comes (settle_fault (rules s.options) false (held rows (Some (o.name, [])))) ≡ false
+wanting_fails s o is rows = ap no_error_comes (settle_is s o is rows []) ∙ use_fails o rows is.valued
 
-pub trailed_fails : (s : Sub) (waiting : Waiting) (h : Held) (words : List Text) → passes (settle_fault (rules s.options) false h) ≡ false → line_from s (trailed waiting h) words ≡ None
+pub trailed_fails : (s : Sub) (waiting : Waiting) (h : Held) (words : List Text) → no_error_comes (settle_fault (rules s.options) false h) ≡ false → line_from s (trailed waiting h) words ≡ None
 trailed_fails s waiting h [] bad = end_fails s (trailed waiting h) bad
 trailed_fails s waiting h (word ∷ rest) bad = after_end s waiting h word rest
 
 -- what is pending fails at a long option, whatever follows
 pub long_fails : (s : Sub) (n : Text) (v : Option Text) (waiting : Waiting) (h : Held) (word : Text) (rest : List Text) → Which s n → bytes_eq word dashes ≡ false → long_of word ≡ Some (n, v)
-    → passes (settle_fault (rules s.options) false h) ≡ false → line_from s (at waiting h) (word ∷ rest) ≡ None
+    → no_error_comes (settle_fault (rules s.options) false h) ≡ false → line_from s (at waiting h) (word ∷ rest) ≡ None
 long_fails s n v waiting h word rest (unknown u) e l bad = at_other s waiting h word rest (n, v) e l u
 long_fails s _ None waiting h word rest (flag o is) e l bad = at_flag s o is waiting h word rest e l ∙ rw bad refl
 long_fails s _ (Some v) waiting h word rest (flag o is) e l bad = at_flag_given s o is waiting h word rest v e l
 long_fails s _ None waiting h word rest (known o is) e l bad = at_alone s o is waiting h word rest e l ∙ rw bad refl
 long_fails s _ (Some v) waiting h word rest (known o is) e l bad = at_given s o is waiting h word rest v e l ∙ rw bad refl
 
-pub doomed : (s : Sub) (h : Held) (words : List Text) → h.skip ≡ 0 → passes (settle_fault (rules s.options) false h) ≡ false → line_from s (at idle h) words ≡ None
+pub doomed : (s : Sub) (h : Held) (words : List Text) → h.skip ≡ 0 → no_error_comes (settle_fault (rules s.options) false h) ≡ false → line_from s (at idle h) words ≡ None
 doomed s h [] k bad = end_fails s (at idle h) bad
 doomed s h (word ∷ rest) k bad = go (bytes_eq word dashes) refl (long_of word) refl
   where

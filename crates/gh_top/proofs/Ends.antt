@@ -16,15 +16,15 @@ use Rattle.gh_top.specs.declared.status.Status.TheVariants as statuses
 use Rattle.gh_top.specs.declared.found.Found.{Found}
 use Rattle.gh_top.specs.declared.found.Found.TheVariants.{BadWords, BadScript, Ran, OutOfTurns, Generated, Soaked, ReadFault, NoThread, NoMemory}
 use Rattle.gh_top.specs.CommandLine.{Text, command_line}
-use Rattle.gh_top.specs.Outcome.{AreRefused, ComesTo, Ends, IsForThreads, IsTelling, ReadsScript, Says, Streams}
-use Rattle.gh_top.specs.Found.{IsCutOff, IsFound, IsRan, IsSilent, IsTold, Matches, MatchesLine, said_of, status_of}
+use Rattle.gh_top.specs.Outcome.{AreRefused, ComesTo, Ends, IsForThreads, ReadsScript, Says, Streams, TellsInFull}
+use Rattle.gh_top.specs.Found.{FoundIsWritten, IsCutOff, IsFound, IsRan, IsSilent, Matches, MatchesLine, said_of, status_of}
 
 -- ---- what was found may be said
 
 unchecked : (p : Program) (outcome : Outcome) → replay_text p outcome false ≡ concat (outcome_lines p outcome)
 unchecked p outcome = ap concat (append-nil (outcome_lines p outcome))
 
-comes : (line : Line) (text : List ℕ) (f : Found) → MatchesLine line text f → IsTelling (status_of f) → ComesTo line text (status_of f) (said_of f)
+comes : (line : Line) (text : List ℕ) (f : Found) → MatchesLine line text f → TellsInFull (status_of f) → ComesTo line text (status_of f) (said_of f)
 comes (Replay plan budget check) text (BadScript fault) m tells = (fault.line, fault.why, m, refl)
 comes (Replay plan budget check) text (Ran p report) m tells = (p, m.0, report.outcome, m.1, ap (replay_text p report.outcome) m.2)
 comes (Replay plan budget check) text (OutOfTurns n) m tells = (m.1, m.2, m.3, rw m.0 refl)
@@ -46,7 +46,7 @@ comes (Soak seed size) text NoThread m tells = absurd tells
 comes (Soak seed size) text NoMemory m tells = absurd tells
 comes (Soak seed size) text _ m tells = absurd m
 
-pub says : (words : List Text) (text : List ℕ) (f : Found) → Matches words text f → IsTelling (status_of f) → Says words text (status_of f) (said_of f)
+pub says : (words : List Text) (text : List ℕ) (f : Found) → Matches words text f → TellsInFull (status_of f) → Says words text (status_of f) (said_of f)
 says words text BadWords m tells = (m, refl)
 says words text NoMemory m tells = absurd tells
 says words text (BadScript fault) m tells = (m.0, m.1, comes m.0 text (BadScript fault) m.2 tells)
@@ -58,7 +58,7 @@ says words text ReadFault m tells = absurd tells
 says words text NoThread m tells = absurd tells
 
 -- what is not silent tells
-telling : (f : Found) → (IsSilent f → ⊥) → IsTelling (status_of f)
+telling : (f : Found) → (IsSilent f → ⊥) → TellsInFull (status_of f)
 telling ReadFault loud = absurd (loud tt)
 telling NoThread loud = absurd (loud tt)
 telling NoMemory loud = absurd (loud tt)
@@ -285,7 +285,7 @@ OneScript = (text : List ℕ) (p q : Program) → Spells text p → Spells text 
 
 module _ (not_both : NeverBoth) (one_script : OneScript) (never : NotBoth) (words : List Text) (before after : Streams) (f : Found) (status : Status)
     (found : IsFound (Matches words) before.left after.left before.read_faults after.read_faults f) where
-  pub told-ends : IsTold f before.taken after.taken before.write_faults after.write_faults status → Ends words before after status
+  pub told-ends : FoundIsWritten f before.taken after.taken before.write_faults after.write_faults status → Ends words before after status
   told-ends t = subst (Ends words before after) (sym t.so) (record {
     said = λ text left tells. (said_of f, says words text f (found.told text left) tells, t.whole);
     explained = λ tells. (found.explained.0, (said_of f, says words found.explained.0 f found.explained.1 tells, t.whole));

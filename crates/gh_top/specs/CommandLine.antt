@@ -83,8 +83,8 @@ abbrev pub is_flag : List LineOption → Text → Bool
 is_flag options name = option_map_or (λ o. is_none o.value) (option_named options name) false
 
 -- the option of this name takes the value
-abbrev pub takes : List LineOption → Text → Text → Bool
-takes options name value = option_map_or (λ o. is_taken_by o.value value) (option_named options name) false
+abbrev pub option_takes : List LineOption → Text → Text → Bool
+option_takes options name value = option_map_or (λ o. is_taken_by o.value value) (option_named options name) false
 
 -- ---- the words behind a subcommand
 
@@ -102,7 +102,7 @@ chosen name made = option_map (λ c. c.1) (find (λ c. bytes_eq c.0 name) made)
 -- one choice more, of a value that the option takes, and of no option a second time
 abbrev pub with_choice : List LineOption → List Choice → Text → Text → Option (List Choice)
 with_choice options made name value =
-    if not (is_chosen name made) && takes options name value then Some (made ++ (name, value) ∷ []) else None
+    if not (is_chosen name made) && option_takes options name value then Some (made ++ (name, value) ∷ []) else None
 
 -- one flag more, and none a second time
 abbrev pub with_flag : List Choice → Text → Option (List Choice)
@@ -154,12 +154,12 @@ choices options made waiting (word ∷ rest) =
 -- ---- what the choices say
 
 -- the word that counts for an option
-abbrev pub said : LineOption → List Choice → Option Text
-said option made = option_or (chosen option.name made) option.default
+abbrev pub word_said : LineOption → List Choice → Option Text
+word_said option made = option_or (chosen option.name made) option.default
 
 -- the number of it
 abbrev pub number_said : LineOption → List Choice → Option ℕ
-number_said option made = option_and_then u64_of (said option made)
+number_said option made = option_and_then u64_of (word_said option made)
 
 -- the list that a text spells, and the empty one where there is no text
 abbrev pub list_said : Option Text → Option (List Turn)
@@ -215,7 +215,7 @@ replay_by None drawn items checked = None
 
 -- the replay that the choices ask for, none where the list is none
 abbrev pub replay_of : List Choice → Option Line
-replay_of made = replay_by (number_said budget made) (number_said seed made) (list_said (said list made)) (is_given (said check made))
+replay_of made = replay_by (number_said budget made) (number_said seed made) (list_said (word_said list made)) (is_given (word_said check made))
 
 -- what is asked for of the script that is generated from a seed, of a size
 abbrev pub script_by : (ℕ → ℕ → Line) → Option ℕ → Option ℕ → Option Line
@@ -223,8 +223,8 @@ script_by does (Some drawn) (Some many) = Some (does drawn many)
 script_by does (Some drawn) None = None
 script_by does None many = None
 
-abbrev pub script_of : (ℕ → ℕ → Line) → List Choice → Option Line
-script_of does made = script_by does (number_said seed made) (number_said size made)
+abbrev pub script_asked_for : (ℕ → ℕ → Line) → List Choice → Option Line
+script_asked_for does made = script_by does (number_said seed made) (number_said size made)
 
 -- ---- the line
 
@@ -237,8 +237,8 @@ abbrev pub subcommand_line : Text → List Text → Option Line
 subcommand_line name words =
     if bytes_eq name (codes "run") then asked_for run_options run_of words
     else (if bytes_eq name (codes "replay") then asked_for replay_options replay_of words
-    else (if bytes_eq name (codes "gen") then asked_for script_options (script_of line.Gen) words
-    else (if bytes_eq name (codes "soak") then asked_for script_options (script_of line.Soak) words
+    else (if bytes_eq name (codes "gen") then asked_for script_options (script_asked_for line.Gen) words
+    else (if bytes_eq name (codes "soak") then asked_for script_options (script_asked_for line.Soak) words
     else None)))
 
 -- what the words ask for, none where the command does not take them: the program's name, a

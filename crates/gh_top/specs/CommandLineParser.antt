@@ -94,11 +94,11 @@ found_line (Some found) =
     else None)))
 
 -- no kind of error comes
-abbrev pub passes : Kinds → Bool
-passes [] = true
-passes (kind ∷ kinds) = false
+abbrev pub no_error_comes : Kinds → Bool
+no_error_comes [] = true
+no_error_comes (kind ∷ kinds) = false
 
 -- the line of the words by the parser's matches, where it takes the words
 abbrev pub parsed_line : List Text → Option Line
 parsed_line words =
-    if passes (fault_of goheap_app words) then found_line (subcommand_of goheap_app words) else None
+    if no_error_comes (fault_of goheap_app words) then found_line (subcommand_of goheap_app words) else None

@@ -113,7 +113,7 @@ pub record IsReading (left left_now : Option (List ℕ)) (faults faults_now : �
   pub never_falls : faults ≤ faults_now
 
 -- all that was found was written
-pub record IsTold (found : Found) (taken taken_now : Option (List ℕ)) (faults faults_now : ℕ) (status : Status) : Type 0 where
+pub record FoundIsWritten (found : Found) (taken taken_now : Option (List ℕ)) (faults faults_now : ℕ) (status : Status) : Type 0 where
   pub so : status ≡ status_of found
   pub whole : Appends taken taken_now (said_of found)
   pub silent : IsSilent found → taken_now ≡ taken

@@ -53,12 +53,12 @@ ReadsScript words = IsRun words ⊎ ((plan : Plan) × (budget : ℕ) × (check :
 -- ---- what is said
 
 -- what a call may end with after it has written all that it has to say
-abbrev pub IsTelling : Status → Type 0
-IsTelling Ok = Unit {0}
-IsTelling BadWords = Unit {0}
-IsTelling BadScript = Unit {0}
-IsTelling OutOfTurns = Unit {0}
-IsTelling _ = ⊥
+abbrev pub TellsInFull : Status → Type 0
+TellsInFull Ok = Unit {0}
+TellsInFull BadWords = Unit {0}
+TellsInFull BadScript = Unit {0}
+TellsInFull OutOfTurns = Unit {0}
+TellsInFull _ = ⊥
 
 -- the text is refused, and this is its line
 abbrev pub IsRefusal : List ℕ → List ℕ → Type 0
@@ -111,9 +111,9 @@ WritesWell before after = ¬ Rose before.write_faults after.write_faults
 -- A call with these words that began with such streams, and left them so, ended with this status.
 pub record Ends (words : List (List ℕ)) (before after : Streams) (status : Status) : Type 0 where
   -- What was written is all of what is to be said of the words and the text: of a replay that is `Ok`, and of a run by threads, the lines of the answers that the heap that never frees gives to the script that the text spells, those of the cycles, each with its numbers, the one of the credit, and the one of what the globals reach at the end; and with `--check` the line `agrees`.
-  pub said : (text : List ℕ) → before.left ≡ Some text → IsTelling status → Said words text status before.taken after.taken
+  pub said : (text : List ℕ) → before.left ≡ Some text → TellsInFull status → Said words text status before.taken after.taken
   -- Of a source that does not tell its bytes, the same is known for some text.
-  pub explained : IsTelling status → (text : List ℕ) × Said words text status before.taken after.taken
+  pub explained : TellsInFull status → (text : List ℕ) × Said words text status before.taken after.taken
   pub read_to_end : (text : List ℕ) → before.left ≡ Some text → ReadsScript words → status ≡ Ok → after.left ≡ Some []
   -- Each answer and its cause.
   pub bad_words : status ≡ BadWords → AreRefused words

@@ -6,7 +6,7 @@ ghost use Rattle.gh_io.specs.Counts.{Rose};
 ghost use Rattle.gh_io.specs.Streams.{TookPart};
 ghost use Rattle.gh_replay.specs.Report.{is_checked, IsReportOf, replay_text};
 ghost use Rattle.gh_lines.specs.Text.{live_line, statements_line};
-ghost use Rattle.gh_top.specs.Found.{IsCutOff, IsSilent, IsTellable, IsTold, said_of, status_of};
+ghost use Rattle.gh_top.specs.Found.{FoundIsWritten, IsCutOff, IsSilent, IsTellable, said_of, status_of};
 
 use crate::found::Found;
 use crate::status::Status;
@@ -19,7 +19,7 @@ use gh_script::Script;
 /// Writes what there is to say of what was found: how the call ends then.
 pub fn tell<K: Sink>(found: &Found, out: &mut K) -> Status
     requires { IsTellable found.now }
-    ensures { IsTold found.now (K.taken out.old) (K.taken out.new) (K.faults out.old) (K.faults out.new) result
+    ensures { FoundIsWritten found.now (K.taken out.old) (K.taken out.new) (K.faults out.old) (K.faults out.new) result
         ⊎ IsCutOff found.now (K.taken out.old) (K.taken out.new) (K.faults out.old) (K.faults out.new) result }
 {
     match say(found, out) {

@@ -5,9 +5,9 @@ use Rattle.std.proofs.lemmas.Bool.{cases_lt}
 use Rattle.gh_tri.specs.declared.Colour.TheVariants.{White, Grey, Black}
 use Rattle.gh_tri.specs.declared.Move.{Move}
 use Rattle.gh_tri.specs.declared.Move.TheVariants.{Load, ReadOld, Shade, Store, ScanField, Blacken, Allocate, ScanRegister}
-use Rattle.gh_tri.specs.Tricolour.{Tricolour, put, put_row, shaded, moved, MayLoad, MayStore, MayAllocate, IsMarked, IsGreyStack, IsBlackStack}
-use Rattle.gh_tri.specs.Invariants.{HasScanLeft, Invariants, IsMarkingDone, IsReached, globals, held, field, after, EachMay, KeepsTheInvariants, Opens, MarkedWhatIsReached, EveryMoveKeepsTheInvariants, NoWhiteObjectIsReached}
-use Rattle.gh_tri.specs.Changes.{Drop, Copy, MayCopy, changed, ChangesKeepTheInvariants}
+use Rattle.gh_tri.specs.Tricolour.{Tricolour, put1, put_row, shaded, moved, MayLoad, MayStore, MayAllocate, IsMarked, IsGreyStack, IsBlackStack}
+use Rattle.gh_tri.specs.Invariants.{HasScanLeft, Invariants, IsMarkingDone, IsReachedInPicture, globals, held, field, after, EachMay, KeepsTheInvariants, Opens, MarkedWhatIsReached, EveryMoveKeepsTheInvariants, NoWhiteObjectIsReached}
+use Rattle.gh_tri.specs.Changes.{Drop, Copy, MayCopy, changed_picture, ChangesKeepTheInvariants}
 use Rattle.gh_tri.proofs.Tells.{differ, put-tells, shaded-named, marked-tells}
 use Rattle.gh_tri.proofs.Protecting.{IsSafe, safe-field, none-protected}
 use Rattle.gh_tri.proofs.Steps.{keeps-register, keeps-read, keeps-shaded, keeps-value, keeps-scanned, keeps-black, keeps-made, keeps-seen}
@@ -34,12 +34,12 @@ keeps-store p s o f new i may =
 
 keeps-allocate : (p : Tricolour) (s r : ℕ) → Invariants p → MayAllocate p s r → Invariants (moved p (Allocate s r))
 keeps-allocate p s r i may =
-    keeps-register (record p { objects = p.objects + 1; colour = put p.colour p.objects Black; value = put_row p.value p.objects None; scanned = put_row p.scanned p.objects true })
+    keeps-register (record p { objects = p.objects + 1; colour = put1 p.colour p.objects Black; value = put_row p.value p.objects None; scanned = put_row p.scanned p.objects true })
     s r (Some p.objects) (keeps-made p i)
     (λ o e. let same : p.objects ≡ o = cc in omega arith)
     (λ dark o e. inl (marked o e))
     (λ left seen o e. marked o e) where
-      marked : (o : ℕ) → Some p.objects ≡ Some o → put p.colour p.objects Black o ≢ White
+      marked : (o : ℕ) → Some p.objects ≡ Some o → put1 p.colour p.objects Black o ≢ White
       marked o e = elim (put-tells p.colour p.objects Black o) [
         | inl y ↦ (λ h. let clash : Black ≡ White = sym y.1 ∙ h in cc)
         | inr n ↦ absurd (n.0 (cc))
@@ -60,7 +60,7 @@ keeps-moved p (ScanRegister s r) i may =
     keeps-seen (record p { colour = shaded p.colour (p.register s r) }) s r
     (keeps-shaded p (p.register s r) i (i.unmade_objects.registers s r)) may.within (λ w e. shaded-named p.colour (p.register s r) w e)
 
-keeps-copy : (p : Tricolour) (s d r : ℕ) → Invariants p → MayCopy p s d r → Invariants (changed p (Copy s d r))
+keeps-copy : (p : Tricolour) (s d r : ℕ) → Invariants p → MayCopy p s d r → Invariants (changed_picture p (Copy s d r))
 keeps-copy p s d r i may =
     keeps-register p s d (p.register s r) i (i.unmade_objects.registers s r)
     (λ dark o e. i.black_stacks.black s r o dark may.from.within e)
@@ -119,7 +119,7 @@ no-grey p i done o e = elim (cases_lt o p.objects) [
 ]
 
 -- where marking is done, what is reached is marked
-reached-marked : (p : Tricolour) → Invariants p → IsMarkingDone p → (o : ℕ) → IsReached p o → IsMarked p o
+reached-marked : (p : Tricolour) → Invariants p → IsMarkingDone p → (o : ℕ) → IsReachedInPicture p o → IsMarked p o
 reached-marked p i done o globals = i.marked_objects.globals
 reached-marked p i done o (held s r w lt within e) = elim (i.black_stacks.black s r w (done.stacks s lt) within e) [
   | inl m ↦ m

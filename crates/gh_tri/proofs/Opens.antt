@@ -12,9 +12,9 @@ use Rattle.std.proofs.lemmas.Bool.Decides.{nat_tests}
 use Rattle.gh_tri.specs.declared.Colour.{Colour}
 use Rattle.gh_tri.specs.declared.Colour.TheVariants.{White, Grey}
 use Rattle.gh_tri.specs.Tables.{cells, by_three}
-use Rattle.gh_tri.specs.Opening.{AreCells, AreObjects, placed, opened}
-use Rattle.gh_tri.specs.Tricolour.{put, put2}
-use Rattle.gh_tri.specs.Invariants.{IsOpening}
+use Rattle.gh_tri.specs.Opening.{AreCells, AreObjects, put_in_table, opened_picture}
+use Rattle.gh_tri.specs.Tricolour.{put1, put2}
+use Rattle.gh_tri.specs.Invariants.{IsOpeningPicture}
 use Rattle.gh_tri.proofs.Tells.{put-tells, put2-tells}
 use Rattle.gh_tri.proofs.Cells.{cells-in, cells-out, cells-past}
 use Rattle.gh_tri.proofs.Showing.{put2-made}
@@ -37,8 +37,8 @@ pub row-in : (rows columns : ℕ) (xs : List (ℕ × ℕ × ℕ)) (i : ℕ) (d :
 row-in rows columns xs i d lt all = both-lt (get_or xs i d).0 rows (get_or xs i d).1 columns (all-at (λ e. nat_lt e.0 rows && nat_lt e.1 columns) xs i d lt all)
 
 -- a step of the loop that places the triples
-pub placed-more : (f g : ℕ → ℕ → Option ℕ) (xs : List (ℕ × ℕ × ℕ)) (i : ℕ) → i < length xs → g ≡ put2 f (get_or xs i (0, 0, 0)).0 (get_or xs i (0, 0, 0)).1 (Some (get_or xs i (0, 0, 0)).2) → placed g (drop (i + 1) xs) ≡ placed f (drop i xs)
-placed-more f g xs i lt e = ap (λ t. placed t (drop (i + 1) xs)) e ∙ sym (ap (placed f) (drop_more xs i (0, 0, 0) lt))
+pub placed-more : (f g : ℕ → ℕ → Option ℕ) (xs : List (ℕ × ℕ × ℕ)) (i : ℕ) → i < length xs → g ≡ put2 f (get_or xs i (0, 0, 0)).0 (get_or xs i (0, 0, 0)).1 (Some (get_or xs i (0, 0, 0)).2) → put_in_table g (drop (i + 1) xs) ≡ put_in_table f (drop i xs)
+placed-more f g xs i lt e = ap (λ t. put_in_table t (drop (i + 1) xs)) e ∙ sym (ap (put_in_table f) (drop_more xs i (0, 0, 0) lt))
 
 split : (x y : Bool) → IsTrue (x && y) → (x ≡ true) × IsTrue y
 split true y h = (refl, h)
@@ -64,7 +64,7 @@ more-cells m n columns (e ∷ es) le h =
     (both-true e.0 n e.1 columns (omega arith) head.1) (more-cells m n columns es le parts.1)
 
 -- what is placed is an object
-pub placed-made : (f : ℕ → ℕ → Option ℕ) (xs : List (ℕ × ℕ × ℕ)) (n : ℕ) → AreObjects n xs → ((a b w : ℕ) → f a b ≡ Some w → w < n) → (a b w : ℕ) → placed f xs a b ≡ Some w → w < n
+pub placed-made : (f : ℕ → ℕ → Option ℕ) (xs : List (ℕ × ℕ × ℕ)) (n : ℕ) → AreObjects n xs → ((a b w : ℕ) → f a b ≡ Some w → w < n) → (a b w : ℕ) → put_in_table f xs a b ≡ Some w → w < n
 placed-made f [] n h fs a b w e = fs a b w e
 placed-made f (x ∷ xs) n h fs a b w e =
     let parts = split (nat_lt x.2 n) (list_all (λ e. nat_lt e.2 n) xs) h in
@@ -72,7 +72,7 @@ placed-made f (x ∷ xs) n h fs a b w e =
     (put2-made f (put2 f x.0 x.1 (Some x.2)) x.0 x.1 (Some x.2) n refl fs (λ u same. let one : x.2 ≡ u = cc in let below : x.2 < n = lt-from x.2 n parts.0 in omega arith)) a b w e
 
 -- outside of the cells nothing is placed
-pub placed-out : (f : ℕ → ℕ → Option ℕ) (rows columns : ℕ) (xs : List (ℕ × ℕ × ℕ)) (a b : ℕ) → AreCells rows columns xs → (rows ≤ a) ⊎ (columns ≤ b) → f a b ≡ None → placed f xs a b ≡ None
+pub placed-out : (f : ℕ → ℕ → Option ℕ) (rows columns : ℕ) (xs : List (ℕ × ℕ × ℕ)) (a b : ℕ) → AreCells rows columns xs → (rows ≤ a) ⊎ (columns ≤ b) → f a b ≡ None → put_in_table f xs a b ≡ None
 placed-out f rows columns [] a b h out e = e
 placed-out f rows columns (x ∷ xs) a b h out e =
     let parts = split (nat_lt x.0 rows && nat_lt x.1 columns) (list_all (λ e. nat_lt e.0 rows && nat_lt e.1 columns) xs) h in
@@ -131,7 +131,7 @@ unscanned-tells objects fields o f h = elim (cases_lt o objects) [
   clash objects fields o f a b h = grind (arith, nat_tests)
 
 -- an opened picture is an opening
-pub opening-is : (objects room fields stacks : ℕ) (edges held : List (ℕ × ℕ × ℕ)) → 0 < objects → AreCells objects fields edges → AreObjects objects edges → AreCells stacks 16 held → AreObjects objects held → IsOpening (opened objects room fields stacks edges held)
+pub opening-is : (objects room fields stacks : ℕ) (edges held : List (ℕ × ℕ × ℕ)) → 0 < objects → AreCells objects fields edges → AreObjects objects edges → AreCells stacks 16 held → AreObjects objects held → IsOpeningPicture (opened_picture objects room fields stacks edges held)
 opening-is objects room fields stacks edges held some edge_cells edge_objects held_cells held_objects = record {
   some = some;
   grey = refl;
@@ -143,25 +143,25 @@ opening-is objects room fields stacks edges held some edge_cells edge_objects he
   fields = λ o f w e. placed-made (λ o f. None) edges objects edge_objects (λ a b u h. cc) o f w e;
   registers = λ s r w e. placed-made (λ s r. None) held objects held_objects (λ a b u h. cc) s r w e;
 } where
-  white : (o : ℕ) → 0 < o → put (λ o. White) 0 Grey o ≡ White
+  white : (o : ℕ) → 0 < o → put1 (λ o. White) 0 Grey o ≡ White
   white o lt = elim (put-tells (λ o. White) 0 Grey o) [ inl y ↦ absurd (omega arith) | inr n ↦ n.1 ]
 
 -- tables that show it
 pub opens : (objects room fields stacks : ℕ) (edges held : List (ℕ × ℕ × ℕ)) (colour : ℕ → Colour) (value : ℕ → ℕ → Option ℕ) (scanned : ℕ → ℕ → Bool) (register : ℕ → ℕ → Option ℕ) (seen : ℕ → ℕ → Bool) (read : ℕ → ℕ → ℕ → Option (Option ℕ)) →
-    colour ≡ put (λ o. White) 0 Grey → value ≡ placed (λ o f. None) edges → scanned ≡ (λ o f. cond (nat_lt o objects && nat_lt f fields) false true) → register ≡ placed (λ s r. None) held → seen ≡ (λ s r. false) → read ≡ (λ s o f. None) →
-    record (opened objects room fields stacks edges held) { colour = colour; value = value; scanned = scanned; register = register; seen = seen; read = read } ≡ opened objects room fields stacks edges held
+    colour ≡ put1 (λ o. White) 0 Grey → value ≡ put_in_table (λ o f. None) edges → scanned ≡ (λ o f. cond (nat_lt o objects && nat_lt f fields) false true) → register ≡ put_in_table (λ s r. None) held → seen ≡ (λ s r. false) → read ≡ (λ s o f. None) →
+    record (opened_picture objects room fields stacks edges held) { colour = colour; value = value; scanned = scanned; register = register; seen = seen; read = read } ≡ opened_picture objects room fields stacks edges held
 opens objects room fields stacks edges held colour value scanned register seen read a b d e g h =
-    λ i. record (opened objects room fields stacks edges held) { colour = a i; value = b i; scanned = d i; register = e i; seen = g i; read = h i }
+    λ i. record (opened_picture objects room fields stacks edges held) { colour = a i; value = b i; scanned = d i; register = e i; seen = g i; read = h i }
 
 -- what is placed in a table that was empty
-pub placed-first : (g : ℕ → ℕ → Option ℕ) (n k : ℕ) (items : List (Option ℕ)) (xs : List (ℕ × ℕ × ℕ)) → g ≡ placed (cells None n items) xs → items ≡ replicate k None → g ≡ placed (λ i j. None) xs
-placed-first g n k items xs e h = e ∙ ap (λ t. placed t xs) (cells-replicate None n k items h)
+pub placed-first : (g : ℕ → ℕ → Option ℕ) (n k : ℕ) (items : List (Option ℕ)) (xs : List (ℕ × ℕ × ℕ)) → g ≡ put_in_table (cells None n items) xs → items ≡ replicate k None → g ≡ put_in_table (λ i j. None) xs
+placed-first g n k items xs e h = e ∙ ap (λ t. put_in_table t xs) (cells-replicate None n k items h)
 
 pub cells-of : (m n a b : ℕ) (xs : List (ℕ × ℕ × ℕ)) → m ≡ a → n ≡ b → AreCells a b xs → AreCells m n xs
 cells-of m n a b xs e h cells = rw (e, h) cells
 
-pub first-made : (g : ℕ → ℕ → Option ℕ) (xs : List (ℕ × ℕ × ℕ)) (n : ℕ) → g ≡ placed (λ i j. None) xs → AreObjects n xs → (a b w : ℕ) → g a b ≡ Some w → w < n
+pub first-made : (g : ℕ → ℕ → Option ℕ) (xs : List (ℕ × ℕ × ℕ)) (n : ℕ) → g ≡ put_in_table (λ i j. None) xs → AreObjects n xs → (a b w : ℕ) → g a b ≡ Some w → w < n
 first-made g xs n e h a b w same = placed-made (λ i j. None) xs n h (λ a b u none. cc) a b w (sym (ap (λ (k : ℕ → ℕ → Option ℕ). k a b) e) ∙ same)
 
-pub first-empty : (g : ℕ → ℕ → Option ℕ) (xs : List (ℕ × ℕ × ℕ)) (rows columns : ℕ) → g ≡ placed (λ i j. None) xs → AreCells rows columns xs → (a b : ℕ) → rows ≤ a → g a b ≡ None
+pub first-empty : (g : ℕ → ℕ → Option ℕ) (xs : List (ℕ × ℕ × ℕ)) (rows columns : ℕ) → g ≡ put_in_table (λ i j. None) xs → AreCells rows columns xs → (a b : ℕ) → rows ≤ a → g a b ≡ None
 first-empty g xs rows columns e h a b le = ap (λ (k : ℕ → ℕ → Option ℕ). k a b) e ∙ placed-out (λ i j. None) rows columns xs a b h (inl le) refl

@@ -4,7 +4,7 @@ use Rattle.std.proofs.lemmas.Bool.{cases_lt}
 use Rattle.std.proofs.lemmas.Bool.Decides.{nat_tests}
 use Rattle.gh_tri.specs.declared.Move.{Move}
 use Rattle.gh_tri.specs.declared.Move.TheVariants.{ScanField, Blacken, ScanRegister}
-use Rattle.gh_tri.specs.Tricolour.{Tricolour, put2, moved, IsField, IsRegister, MayBlacken}
+use Rattle.gh_tri.specs.Tricolour.{Tricolour, put2, moved, IsField, IsStackRegister, MayBlacken}
 use Rattle.gh_tri.specs.Invariants.{after}
 use Rattle.gh_tri.specs.Runs.{field_scans, object_scan, register_scans}
 use Rattle.gh_tri.proofs.Tells.{put2-tells}
@@ -72,10 +72,10 @@ object-may p q o n e made all =
       below : (f : ℕ) → f < p.fields → f < n
       below f lt = omega arith
 
-pub register-may : (p q : Tricolour) (s n : ℕ) → q ≡ after p (register_scans s n) → s < p.stacks → n < 16 → IsRegister q s n
+pub register-may : (p q : Tricolour) (s n : ℕ) → q ≡ after p (register_scans s n) → s < p.stacks → n < 16 → IsStackRegister q s n
 register-may p q s n e stack within =
     let k = register_scans-sizes p s n in
-    subst (λ (t : Tricolour). IsRegister t s n) (sym e) (record { stack = rw (k.stacks) stack; within = within })
+    subst (λ (t : Tricolour). IsStackRegister t s n) (sym e) (record { stack = rw (k.stacks) stack; within = within })
 
 -- the scan of an object ends in the black object
 pub object-ends : (p q r : Tricolour) (o n : ℕ) → q ≡ after p (field_scans o n) → n ≡ p.fields → r ≡ moved q (Blacken o) → r ≡ after p (object_scan o p.fields)

@@ -5,7 +5,7 @@ use Rattle.gh_tri.specs.declared.Move.TheVariants.{Store, ScanField, Allocate, S
 use Rattle.gh_tri.specs.declared.Move.{Move}
 use Rattle.gh_tri.specs.Invariants.{Invariants}
 use Rattle.gh_tri.proofs.Tells.{put2-tells}
-use Rattle.gh_tri.specs.Changes.{Change, changed, MayChange}
+use Rattle.gh_tri.specs.Changes.{Change, changed_picture, MayChange}
 use Rattle.gh_tri.proofs.Keeping.{keeps-moved, keeps-changed}
 use Rattle.std.proofs.Common.{subst, List, length, get_or-set_other, get_or-set_same}
 use Rattle.std.proofs.Math.ListN.{set}
@@ -14,7 +14,7 @@ use Rattle.gh_tri.specs.declared.Colour.{Colour}
 use Rattle.gh_tri.specs.declared.Colour.TheVariants.{White, Black}
 use Rattle.std.specs.Prelude.{Bool, true}
 use Rattle.gh_tri.specs.Colours.{colours_of}
-use Rattle.gh_tri.specs.Tricolour.{put, shaded}
+use Rattle.gh_tri.specs.Tricolour.{put1, shaded}
 use Rattle.gh_tri.proofs.Tells.{put-tells}
 
 pub put2-made : (f g : ℕ → ℕ → Option ℕ) (i j : ℕ) (v : Option ℕ) (n : ℕ) → g ≡ put2 f i j v → ((a b w : ℕ) → f a b ≡ Some w → w < n) → ((w : ℕ) → v ≡ Some w → w < n) → (a b w : ℕ) → g a b ≡ Some w → w < n
@@ -28,13 +28,13 @@ pub keeps-shown : (p q : Tricolour) (m : Move) → q ≡ moved p m → May p m �
 keeps-shown p q m e may i = subst Invariants (sym e) (keeps-moved p m i may)
 
 -- and after a change of registers
-pub keeps-changed-shown : (p q : Tricolour) (c : Change) → q ≡ changed p c → MayChange p c → Invariants p → Invariants q
+pub keeps-changed-shown : (p q : Tricolour) (c : Change) → q ≡ changed_picture p c → MayChange p c → Invariants p → Invariants q
 keeps-changed-shown p q c e may i = subst Invariants (sym e) (keeps-changed p c i may)
 
 -- a colour that is written
-pub colours-set : (xs : List Colour) (o : ℕ) (c : Colour) → o < length xs → colours_of (set xs o c) ≡ put (colours_of xs) o c
+pub colours-set : (xs : List Colour) (o : ℕ) (c : Colour) → o < length xs → colours_of (set xs o c) ≡ put1 (colours_of xs) o c
 colours-set xs o c lt = fun_ext (λ a. at xs o c lt a) where
-  at : (xs : List Colour) (o : ℕ) (c : Colour) → o < length xs → (a : ℕ) → colours_of (set xs o c) a ≡ put (colours_of xs) o c a
+  at : (xs : List Colour) (o : ℕ) (c : Colour) → o < length xs → (a : ℕ) → colours_of (set xs o c) a ≡ put1 (colours_of xs) o c a
   at xs o c lt a = elim (put-tells (colours_of xs) o c a) [
     | inl y ↦ ap (colours_of (set xs o c)) (sym y.0) ∙ (get_or-set_same xs o c White lt ∙ sym y.1)
     | inr n ↦ get_or-set_other xs o a c White (λ e. n.0 (sym e)) ∙ sym n.1
@@ -50,7 +50,7 @@ field_scanned p o f colour scanned a b = λ i. record p { colour = a i; scanned 
 pub register_scanned : (p : Tricolour) (s r : ℕ) (colour : ℕ → Colour) (seen : ℕ → ℕ → Bool) → colour ≡ shaded p.colour (p.register s r) → seen ≡ put2 p.seen s r true → record p { colour = colour; seen = seen } ≡ moved p (ScanRegister s r)
 register_scanned p s r colour seen a b = λ i. record p { colour = a i; seen = b i }
 
-pub allocated : (p : Tricolour) (s r : ℕ) (colour : ℕ → Colour) (register : ℕ → ℕ → Option ℕ) → colour ≡ put p.colour p.objects Black → p.value ≡ put_row p.value p.objects None → p.scanned ≡ put_row p.scanned p.objects true → register ≡ put2 p.register s r (Some p.objects) → record p { objects = p.objects + 1; colour = colour; register = register } ≡ moved p (Allocate s r)
+pub allocated : (p : Tricolour) (s r : ℕ) (colour : ℕ → Colour) (register : ℕ → ℕ → Option ℕ) → colour ≡ put1 p.colour p.objects Black → p.value ≡ put_row p.value p.objects None → p.scanned ≡ put_row p.scanned p.objects true → register ≡ put2 p.register s r (Some p.objects) → record p { objects = p.objects + 1; colour = colour; register = register } ≡ moved p (Allocate s r)
 allocated p s r colour register a b d e = λ i. record p { objects = p.objects + 1; colour = a i; value = b i; scanned = d i; register = e i }
 
 -- after a field that is made is written, what is not made is still empty

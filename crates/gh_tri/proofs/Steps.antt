@@ -2,7 +2,7 @@
 use Rattle.std.proofs.Common.{◌≡◌, ◌≢◌, ℕ, ◌+◌, ◌<◌, Bool, true, false, refl, sym, ◌∙◌, ap, subst, inl, inr, ◌⊎◌, Option, Some, None, arith}
 use Rattle.std.proofs.lemmas.Bool.Decides.{eqb_tells}
 use Rattle.gh_tri.specs.declared.Colour.TheVariants.{White, Black}
-use Rattle.gh_tri.specs.Tricolour.{Tricolour, put, put2, put3, put_row, shaded, IsMarked, NilOrMarked, NilOrMade, IsBlackStack}
+use Rattle.gh_tri.specs.Tricolour.{Tricolour, put1, put2, put3, put_row, shaded, IsMarked, NilOrMarked, NilOrMade, IsBlackStack}
 use Rattle.gh_tri.specs.Invariants.{HasScanLeft, Invariants}
 use Rattle.gh_tri.proofs.Tells.{differ, put-tells, put2-tells, put3-tells, put_row-tells, shaded-tells, shaded-marks, shaded-grey, shaded-white, shaded-black}
 use Rattle.gh_tri.proofs.Protecting.{IsSafe, Guards, safe-kept}
@@ -244,7 +244,7 @@ keeps-scanned p o f i clean =
       }
 
 -- an object whose fields are all scanned becomes black
-pub keeps-black : (p : Tricolour) (o : ℕ) → Invariants p → o < p.objects → ((f : ℕ) → f < p.fields → p.scanned o f ≡ true) → Invariants (record p { colour = put p.colour o Black })
+pub keeps-black : (p : Tricolour) (o : ℕ) → Invariants p → o < p.objects → ((f : ℕ) → f < p.fields → p.scanned o f ≡ true) → Invariants (record p { colour = put1 p.colour o Black })
 keeps-black p o i in_range done =
     record {
       scanned_fields = λ a b h w e. marks w (i.scanned_fields a b h w e);
@@ -277,22 +277,22 @@ keeps-black p o i in_range done =
         reads = i.unmade_objects.reads;
       };
     } where
-      marks : (w : ℕ) → p.colour w ≢ White → put p.colour o Black w ≢ White
+      marks : (w : ℕ) → p.colour w ≢ White → put1 p.colour o Black w ≢ White
       marks w h = elim (put-tells p.colour o Black w) [
         | inl y ↦ (λ e. let clash : Black ≡ White = sym y.1 ∙ e in cc)
         | inr n ↦ (λ e. h (sym n.1 ∙ e))
       ]
 
-      holds : (t a b : ℕ) (u : Option ℕ) → p.read t a b ≡ Some u → (p.value a b ≡ u) ⊎ ((w : ℕ) → p.value a b ≡ Some w → put p.colour o Black w ≢ White)
+      holds : (t a b : ℕ) (u : Option ℕ) → p.read t a b ≡ Some u → (p.value a b ≡ u) ⊎ ((w : ℕ) → p.value a b ≡ Some w → put1 p.colour o Black w ≢ White)
       holds t a b u e = elim (i.barrier_order.holds t a b u e) [
         | inl same ↦ inl same
         | inr h ↦ inr (λ w x. marks w (h w x))
       ]
 
-      clean : (a f w : ℕ) → o ≡ a → f < p.fields → p.value a f ≡ Some w → put p.colour o Black w ≢ White
+      clean : (a f w : ℕ) → o ≡ a → f < p.fields → p.value a f ≡ Some w → put1 p.colour o Black w ≢ White
       clean a f w y lt e = marks w (i.scanned_fields a f (ap (λ c. p.scanned c f) (sym y) ∙ done f lt) w e)
 
-      guards : Guards p (record p { colour = put p.colour o Black })
+      guards : Guards p (record p { colour = put1 p.colour o Black })
       guards = record {
         marks = marks;
         edges = λ a b w e. inl (record { within = e.within; holds = e.holds });
@@ -308,7 +308,7 @@ keeps-black p o i in_range done =
       }
 
 -- the next object is made, black, with all its fields nil and scanned
-pub keeps-made : (p : Tricolour) → Invariants p → Invariants (record p { objects = p.objects + 1; colour = put p.colour p.objects Black; value = put_row p.value p.objects None; scanned = put_row p.scanned p.objects true })
+pub keeps-made : (p : Tricolour) → Invariants p → Invariants (record p { objects = p.objects + 1; colour = put1 p.colour p.objects Black; value = put_row p.value p.objects None; scanned = put_row p.scanned p.objects true })
 keeps-made p i =
     record {
       scanned_fields = λ a b h w e. elim (put_row-tells p.value p.objects None a b) [
@@ -359,13 +359,13 @@ keeps-made p i =
       more : (w : ℕ) → w < p.objects → w < p.objects + 1
       more w h = omega arith
 
-      marks : (w : ℕ) → p.colour w ≢ White → put p.colour p.objects Black w ≢ White
+      marks : (w : ℕ) → p.colour w ≢ White → put1 p.colour p.objects Black w ≢ White
       marks w h = elim (put-tells p.colour p.objects Black w) [
         | inl y ↦ (λ e. let clash : Black ≡ White = sym y.1 ∙ e in cc)
         | inr n ↦ (λ e. h (sym n.1 ∙ e))
       ]
 
-      holds : (t a b : ℕ) (u : Option ℕ) → p.read t a b ≡ Some u → (put_row p.value p.objects None a b ≡ u) ⊎ ((w : ℕ) → put_row p.value p.objects None a b ≡ Some w → put p.colour p.objects Black w ≢ White)
+      holds : (t a b : ℕ) (u : Option ℕ) → p.read t a b ≡ Some u → (put_row p.value p.objects None a b ≡ u) ⊎ ((w : ℕ) → put_row p.value p.objects None a b ≡ Some w → put1 p.colour p.objects Black w ≢ White)
       holds t a b u e = elim (put_row-tells p.value p.objects None a b) [
         | inl y ↦ inr (λ w x. let none : None ≡ Some w = sym y.1 ∙ x in cc)
         | inr n ↦ elim (i.barrier_order.holds t a b u e) [
@@ -377,7 +377,7 @@ keeps-made p i =
       holds_nothing : (a b w : ℕ) → p.objects ≡ a → p.value a b ≡ Some w → ⊥
       holds_nothing a b w y e = let none : None ≡ Some w = sym (i.unmade_objects.empty a b (omega arith)) ∙ e in cc
 
-      guards : Guards p (record p { objects = p.objects + 1; colour = put p.colour p.objects Black; value = put_row p.value p.objects None; scanned = put_row p.scanned p.objects true })
+      guards : Guards p (record p { objects = p.objects + 1; colour = put1 p.colour p.objects Black; value = put_row p.value p.objects None; scanned = put_row p.scanned p.objects true })
       guards = record {
         marks = marks;
         edges = λ a b w e. elim (put_row-tells p.value p.objects None a b) [

@@ -4,12 +4,12 @@ use Rattle.std.specs.Prelude.{◌&&◌}
 use Rattle.std.proofs.lemmas.Bool.Decides.{eqb_tells}
 use Rattle.gh_tri.specs.declared.Colour.{Colour}
 use Rattle.gh_tri.specs.declared.Colour.TheVariants.{White, Grey, Black}
-use Rattle.gh_tri.specs.Tricolour.{put, put2, put3, put_row, names, greyed, shaded}
+use Rattle.gh_tri.specs.Tricolour.{put1, put2, put3, put_row, names, greyed, shaded}
 
 pub differ : {b : Bool} → b ≡ true → b ≡ false → ⊥
 differ x y = cc
 
-pub put-tells : {A : Type 0} (f : ℕ → A) (i : ℕ) (x : A) (a : ℕ) → ((i ≡ a) × (put f i x a ≡ x)) ⊎ ((i ≢ a) × (put f i x a ≡ f a))
+pub put-tells : {A : Type 0} (f : ℕ → A) (i : ℕ) (x : A) (a : ℕ) → ((i ≡ a) × (put1 f i x a ≡ x)) ⊎ ((i ≢ a) × (put1 f i x a ≡ f a))
 put-tells f i x a = elim (eqb_tells i a) [
   | inl y ↦ inl (y.1, ap (λ b. cond b x (f a)) y.0)
   | inr n ↦ inr (n.1, ap (λ b. cond b x (f a)) n.0)

@@ -61,7 +61,7 @@ pub record Invariants (p : Tricolour) : Type 0 where
 
 -- As at a cycle's begin: object 0 is grey, all others are white, all stacks are grey, no store is under way, and what is
 -- not made is nowhere named.
-pub record IsOpening (p : Tricolour) : Type 0 where
+pub record IsOpeningPicture (p : Tricolour) : Type 0 where
   pub some : 0 < p.objects
   pub grey : p.colour 0 ≡ Grey
   pub white : (o : ℕ) → 0 < o → p.colour o ≡ White
@@ -89,10 +89,10 @@ pub record IsMarkingDone (p : Tricolour) : Type 0 where
   pub stacks : (s : ℕ) → s < p.stacks → IsBlackStack p s
 
 -- A path of fields leads to the object from object 0 or from a register.
-pub data IsReached (p : Tricolour) : ℕ → Type 0 where
-  globals : IsReached p 0
-  held : (s r o : ℕ) → s < p.stacks → r < 16 → p.register s r ≡ Some o → IsReached p o
-  field : (o f w : ℕ) → IsReached p o → Edge p o f w → IsReached p w
+pub data IsReachedInPicture (p : Tricolour) : ℕ → Type 0 where
+  globals : IsReachedInPicture p 0
+  held : (s r o : ℕ) → s < p.stacks → r < 16 → p.register s r ≡ Some o → IsReachedInPicture p o
+  field : (o f w : ℕ) → IsReachedInPicture p o → Edge p o f w → IsReachedInPicture p w
 
 -- Each move keeps the invariants, whichever picture has them.
 abbrev pub KeepsTheInvariants : Type 0
@@ -100,18 +100,18 @@ KeepsTheInvariants = (p : Tricolour) (m : Move) → Invariants p → May p m →
 
 -- An opening picture has the invariants.
 abbrev pub Opens : Type 0
-Opens = (p : Tricolour) → IsOpening p → Invariants p
+Opens = (p : Tricolour) → IsOpeningPicture p → Invariants p
 
 -- Where the invariants hold and marking is done, no white object is reached.
 abbrev pub MarkedWhatIsReached : Type 0
-MarkedWhatIsReached = (p : Tricolour) → Invariants p → IsMarkingDone p → (o : ℕ) → p.colour o ≡ White → ¬ IsReached p o
+MarkedWhatIsReached = (p : Tricolour) → Invariants p → IsMarkingDone p → (o : ℕ) → p.colour o ≡ White → ¬ IsReachedInPicture p o
 
 -- Whatever the moves: while each may be made when its turn comes, the invariants hold.
 abbrev pub EveryMoveKeepsTheInvariants : Type 0
-EveryMoveKeepsTheInvariants = (p : Tricolour) (moves : List Move) → IsOpening p → EachMay p moves → Invariants (after p moves)
+EveryMoveKeepsTheInvariants = (p : Tricolour) (moves : List Move) → IsOpeningPicture p → EachMay p moves → Invariants (after p moves)
 
 -- And once marking is done, no white object is reached.
 abbrev pub NoWhiteObjectIsReached : Type 0
 NoWhiteObjectIsReached =
-    (p : Tricolour) (moves : List Move) → IsOpening p → EachMay p moves → IsMarkingDone (after p moves)
-    → (o : ℕ) → (after p moves).colour o ≡ White → ¬ IsReached (after p moves) o
+    (p : Tricolour) (moves : List Move) → IsOpeningPicture p → EachMay p moves → IsMarkingDone (after p moves)
+    → (o : ℕ) → (after p moves).colour o ≡ White → ¬ IsReachedInPicture (after p moves) o

@@ -9,8 +9,8 @@ abbrev pub shades : Tricolour → Option ℕ → Tricolour
 shades p v = record p { colour = shaded p.colour v }
 
 -- A write with its barrier: the old value and then the new one are shaded, and the field has the new value.
-abbrev pub written : Tricolour → ℕ → ℕ → ℕ → Option ℕ → Tricolour
-written p s o f new =
+abbrev pub written_with_barrier : Tricolour → ℕ → ℕ → ℕ → Option ℕ → Tricolour
+written_with_barrier p s o f new =
     record p {
       colour = shaded (shaded p.colour (p.value o f)) new;
       value = put2 p.value o f new;

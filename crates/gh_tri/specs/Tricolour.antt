@@ -30,8 +30,8 @@ pub record Tricolour : Type 0 where
   pub read : ℕ → ℕ → ℕ → Option (Option ℕ)
 
 -- a function with one value replaced
-abbrev pub put : {A : Type 0} → (ℕ → A) → ℕ → A → ℕ → A
-put f i x a = if i == a then x else f a
+abbrev pub put1 : {A : Type 0} → (ℕ → A) → ℕ → A → ℕ → A
+put1 f i x a = if i == a then x else f a
 
 abbrev pub put2 : {A : Type 0} → (ℕ → ℕ → A) → ℕ → ℕ → A → ℕ → ℕ → A
 put2 f i j x a b = if (i == a) && (j == b) then x else f a b
@@ -65,11 +65,11 @@ moved p (ReadOld s o f) = record p { read = put3 p.read s o f (Some (p.value o f
 moved p (Shade o) = record p { colour = shaded p.colour (Some o) }
 moved p (Store s o f new) = record p { value = put2 p.value o f new; read = put3 p.read s o f None }
 moved p (ScanField o f) = record p { colour = shaded p.colour (p.value o f); scanned = put2 p.scanned o f true }
-moved p (Blacken o) = record p { colour = put p.colour o Black }
+moved p (Blacken o) = record p { colour = put1 p.colour o Black }
 moved p (Allocate s r) =
     record p {
       objects = p.objects + 1;
-      colour = put p.colour p.objects Black;
+      colour = put1 p.colour p.objects Black;
       value = put_row p.value p.objects None;
       scanned = put_row p.scanned p.objects true;
       register = put2 p.register s r (Some p.objects);
@@ -96,23 +96,23 @@ abbrev pub IsGreyStack : Tricolour → ℕ → Type 0
 IsGreyStack p s = (r : ℕ) → r < 16 → p.seen s r ≡ false
 
 -- object o is object 0, or stands in a register of stack s
-abbrev pub IsHeld : Tricolour → ℕ → ℕ → Type 0
-IsHeld p s o = (o ≡ 0) ⊎ ((r : ℕ) × (r < 16) × (p.register s r ≡ Some o))
+abbrev pub StackHolds : Tricolour → ℕ → ℕ → Type 0
+StackHolds p s o = (o ≡ 0) ⊎ ((r : ℕ) × (r < 16) × (p.register s r ≡ Some o))
 
 -- a field of an object that is made
 pub record IsField (p : Tricolour) (o f : ℕ) : Type 0 where
   pub made : o < p.objects
   pub within : f < p.fields
 
-pub record IsRegister (p : Tricolour) (s r : ℕ) : Type 0 where
+pub record IsStackRegister (p : Tricolour) (s r : ℕ) : Type 0 where
   pub stack : s < p.stacks
   pub within : r < 16
 
 -- The stack can reach the object, and its scan has not begun or has ended.
 pub record MayLoad (p : Tricolour) (s r o f : ℕ) : Type 0 where
-  pub into : IsRegister p s r
+  pub into : IsStackRegister p s r
   pub from : IsField p o f
-  pub held : IsHeld p s o
+  pub held : StackHolds p s o
   pub scan : IsGreyStack p s ⊎ IsBlackStack p s
 
 -- The stack has read the field, and what it read there and the new value are shaded.
@@ -128,7 +128,7 @@ pub record MayBlacken (p : Tricolour) (o : ℕ) : Type 0 where
   pub fields : (f : ℕ) → f < p.fields → p.scanned o f ≡ true
 
 pub record MayAllocate (p : Tricolour) (s r : ℕ) : Type 0 where
-  pub into : IsRegister p s r
+  pub into : IsStackRegister p s r
   pub room : p.objects < p.limit
 
 -- when a move may be made
@@ -140,4 +140,4 @@ May p (Store s o f new) = MayStore p s o f new
 May p (ScanField o f) = IsField p o f
 May p (Blacken o) = MayBlacken p o
 May p (Allocate s r) = MayAllocate p s r
-May p (ScanRegister s r) = IsRegister p s r
+May p (ScanRegister s r) = IsStackRegister p s r

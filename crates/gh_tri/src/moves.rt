@@ -45,9 +45,9 @@ pub struct Picture {
 #[tactic(auto, unfolding(crate::specs::Shown::picture_of))]
 impl Picture {
     ghost use Rattle.gh_tri.specs.Shown.{picture_of};
-    ghost use Rattle.gh_tri.specs.Tricolour.{May, moved, IsField, IsRegister, NilOrMade};
-    ghost use Rattle.gh_tri.specs.Opening.{AreCells, AreObjects, opened};
-    ghost use Rattle.gh_tri.specs.Invariants.{Invariants, IsOpening};
+    ghost use Rattle.gh_tri.specs.Tricolour.{May, moved, IsField, IsStackRegister, NilOrMade};
+    ghost use Rattle.gh_tri.specs.Opening.{AreCells, AreObjects, opened_picture};
+    ghost use Rattle.gh_tri.specs.Invariants.{Invariants, IsOpeningPicture};
     ghost use Rattle.gh_tri.specs.declared.Move.TheVariants.{Load, ReadOld, Shade, Store, ScanField, Blacken, Allocate, ScanRegister};
 
     /// A picture as at a cycle's begin. Object 0, whose fields are the globals, is grey, the objects 1 to `objects - 1` are
@@ -69,8 +69,8 @@ impl Picture {
         requires edge_objects { AreObjects objects edges.now }
         requires held_registers { AreCells stacks 16 held.now }
         requires held_objects { AreObjects objects held.now }
-        ensures opened { IfOk result (λ p. picture_of p ≡ opened objects room fields stacks edges.now held.now) }
-        ensures opening { IfOk result (λ p. IsOpening (picture_of p)) }
+        ensures opened { IfOk result (λ p. picture_of p ≡ opened_picture objects room fields stacks edges.now held.now) }
+        ensures opening { IfOk result (λ p. IsOpeningPicture (picture_of p)) }
         ensures invariants { IfOk result (λ p. Invariants (picture_of p)) }
     {
         let limit = objects + room;
@@ -127,7 +127,7 @@ impl Picture {
 
     /// What a register of a stack holds.
     pub fn register(&self, stack: u32, reg: u32) -> Option<u32>
-        requires { IsRegister (picture_of self.now) stack reg }
+        requires { IsStackRegister (picture_of self.now) stack reg }
         ensures answer { result ≡ (picture_of self.now).register stack reg }
         ensures made { NilOrMade (picture_of self.now) result }
     {

@@ -2,7 +2,7 @@
 
 ghost use Rattle.std.specs.Prelude.{◌≡◌, ℕ, ◌<◌, ◌≤◌, length, IfOk, Some, true};
 ghost use Rattle.gh_tri.specs.Tables.{cells};
-ghost use Rattle.gh_tri.specs.Tricolour.{shaded, put, put2};
+ghost use Rattle.gh_tri.specs.Tricolour.{shaded, put1, put2};
 ghost use Rattle.gh_tri.specs.declared.Colour.TheVariants.{White, Grey};
 ghost use Rattle.gh_tri.specs.Colours.{colours_of};
 
@@ -25,7 +25,7 @@ pub fn shade_in(colours: &mut Vec<Colour>, value: Option<u32>)
 /// The colours of so many objects as at a cycle's begin: object 0 is grey, and the others are white.
 pub fn first_colours(alloc: Global, count: u32) -> Result<Vec<Colour>, AllocError>
     requires { 0 < count }
-    ensures colours { IfOk result (λ v. colours_of v.items ≡ put (λ o. White) 0 Grey) }
+    ensures colours { IfOk result (λ v. colours_of v.items ≡ put1 (λ o. White) 0 Grey) }
     ensures count { IfOk result (λ v. length v.items ≡ count) }
 {
     let mut colours = repeated(alloc, count as usize, Colour::White)?;

@@ -2,7 +2,7 @@
 
 ghost use Rattle.std.specs.Prelude.{◌≡◌, ℕ, ◌+◌, ◌*◌, ◌<◌, ◌≤◌, length, replicate, IfOk, None};
 ghost use Rattle.gh_tri.specs.Tables.{cells};
-ghost use Rattle.gh_tri.specs.Opening.{AreCells, placed};
+ghost use Rattle.gh_tri.specs.Opening.{AreCells, put_in_table};
 
 use std::alloc::{AllocError, Global};
 
@@ -70,7 +70,7 @@ pub fn repeated<T: Copy>(alloc: Global, count: usize, value: T) -> Result<Vec<T>
 /// Puts the object of each triple into its row and column.
 pub fn place(table: &mut Table<Option<u32>>, entries: &[(u32, u32, u32)])
     requires { AreCells table.old.rows table.old.columns entries.now }
-    ensures cells { cells None table.new.columns table.new.items.items ≡ placed (cells None table.old.columns table.old.items.items) entries.now }
+    ensures cells { cells None table.new.columns table.new.items.items ≡ put_in_table (cells None table.old.columns table.old.items.items) entries.now }
     ensures rows { table.new.rows ≡ table.old.rows }
     ensures columns { table.new.columns ≡ table.old.columns }
 {

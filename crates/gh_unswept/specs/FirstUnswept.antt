@@ -18,7 +18,7 @@ use Rattle.gh_sweep.specs.declared.sweep.SweptSpan.{SweptSpan}
 use Rattle.gh_sweep.specs.Listing.{gives, once_swept, Sweeping}
 
 -- the head of a span of the wanted span class that is not swept, and that nobody sweeps
-pub record IsWanted (m : Unswept) (h : SpanHead) : Type 0 where
+pub record IsWantedUnswept (m : Unswept) (h : SpanHead) : Type 0 where
   pub class : h.class ≡ Small m.wanted.class
   pub noscan : h.noscan ≡ m.wanted.noscan
   pub unswept : h.number + 2 ≡ m.generation
@@ -57,22 +57,22 @@ module _ (m : Unswept) (found : ℕ → ℕ) (n : ℕ) where
   -- The pages before this one were met. Each wanted span that was told of there it has swept, and no slot is clear in it; or another was first to sweep it.
   pub record Passes (end : ℕ) : Type 0 where
     pub met : (page : ℕ) → page < end → IsMet page
-    pub none : (page : ℕ) → page < end → (h : SpanHead) → IsHead page h → IsWanted m h → HasNoneClear page h ⊎ EndsSweep page h Lost
+    pub none : (page : ℕ) → page < end → (h : SpanHead) → IsHead page h → IsWantedUnswept m h → HasNoneClear page h ⊎ EndsSweep page h Lost
 
   -- at this page stands a wanted span that has a clear slot once it is swept, and it is the first; its head word gets the seat as owner
   pub record Takes (page : ℕ) : Type 0 where
     pub head : SpanHead
     pub stands : IsHead page head
-    pub wanted : IsWanted m head
+    pub wanted : IsWantedUnswept m head
     pub clear : HasClear page head
     pub first : Passes page
     pub last : (other word : ℕ) → IsTold (Load (Page other)) word → other ≤ page
     pub store : asks (told listing m found n) ≡ Store (Page page) (head_word (owned_by (m.seat + 1) (once_swept head)))
 
 -- what it gives if step n is its last
-pub record TakesTheFirst (m : Unswept) (found : ℕ → ℕ) (n : ℕ) : Type 0 where
+pub record TakesFirstUnswept (m : Unswept) (found : ℕ → ℕ) (n : ℕ) : Type 0 where
   pub some : (page : ℕ) → GoesOn listing m found n → EndsWith listing m found n (Some page) → Takes m found n page
   pub none : GoesOn listing m found n → EndsWith listing m found n None → Passes m found (suc n) m.layout.pages
 
 abbrev pub TheUnsweptPassTakesTheFirst : Type 0
-TheUnsweptPassTakesTheFirst = (l : Layout) (seat generation : ℕ) (wanted : SpanClass) (found : ℕ → ℕ) (n : ℕ) → TakesTheFirst (opening l seat generation wanted) found n
+TheUnsweptPassTakesTheFirst = (l : Layout) (seat generation : ℕ) (wanted : SpanClass) (found : ℕ → ℕ) (n : ℕ) → TakesFirstUnswept (opening l seat generation wanted) found n

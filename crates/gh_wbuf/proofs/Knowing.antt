@@ -9,7 +9,7 @@ use Rattle.gh_wbuf.specs.BufferGiving as giving
 use Rattle.gh_wbuf.specs.EntryTaking as taking
 use Rattle.gh_wbuf.specs.RoomFinding as finding
 use Rattle.gh_wbuf.specs.Trying as try
-use Rattle.gh_wbuf.proofs.Vocabulary.{AreBuffersOf, AreCounted, Buffer, buffer_of, buffer_word, Buffers, BuffersAreHeld, BuffersAreKept, cell_of, Claim, Ended, ENTRIES, Entry, Facts, FitsTryStage, GiveBack, GiveKnows, GiveStage, Held, Holds, IsFreeAt, KeepsItsBuffer, Layout, Listing, Look, May, Move, Moves, OwnStep, Room, RoomKnows, RoomStage, RoomStageKnows, RoomTryKnows, StepsAreMoves, Swap, TakeKnows, TakeStage, TakeStageKnows, TakeTryKnows, Trying, TryKnows, TryStage, Words}
+use Rattle.gh_wbuf.proofs.Vocabulary.{AreBuffersOf, AreCounted, Buffer, buffer_of, buffer_word, Buffers, BuffersAreHeld, BuffersAreKept, cell_of, Claim, Ended, ENTRIES, Entry, Facts, FitsTryStage, GiveBack, GiveKnows, GiveStage, Held, HoldsBuffer, IsFreeAt, KeepsItsBuffer, Layout, Listing, Look, May, Move, Moves, OwnStep, Room, RoomKnows, RoomStage, RoomStageKnows, RoomTryKnows, StepsAreMoves, Swap, TakeKnows, TakeStage, TakeStageKnows, TakeTryKnows, Trying, TryKnows, TryStage, Words}
 use Rattle.gh_wbuf.proofs.Taking.{claims_nothing, fine_try, took}
 use Rattle.gh_wbuf.proofs.Tries.{open_yes}
 use Rattle.gh_wbuf.proofs.Trying.{same_step}
@@ -70,11 +70,11 @@ module _ (law : BuffersAreHeld) where
     steps : StepsAreMoves seat s words
     steps = law.steps seat s words counted shown
 
-    gives_any : (t : Trying) (held : Option Held) → Holds s seat held → Moves seat s words (try.back_at t held) None
+    gives_any : (t : Trying) (held : Option Held) → HoldsBuffer s seat held → Moves seat s words (try.back_at t held) None
     gives_any t None holds = steps.loads _ None holds
     gives_any t (Some h) holds = steps.gives_back h holds
 
-    try_moves : (t : Trying) (p : TryStage) → t.seat ≡ seat → FitsTryStage t.wish p → IsFreeAt t.held p → Holds s seat t.held →
+    try_moves : (t : Trying) (p : TryStage) → t.seat ≡ seat → FitsTryStage t.wish p → IsFreeAt t.held p → HoldsBuffer s seat t.held →
         Moves seat s words (try.asks_at t p) (try.goes_at t p (words (cell_of (try.asks_at t p)))).held
     try_moves t Look is opened free holds = steps.loads _ t.held holds
     try_moves t (GiveBack word) is opened free holds = gives_any t t.held holds
@@ -83,13 +83,13 @@ module _ (law : BuffersAreHeld) where
           Moves seat s words (Swap (Buffer t.index) word (buffer_word (record { count = (buffer_of word).count; holder = t.seat + 1 }))) (try.claimed t word b).held
       by true e =
           subst (λ (a : ℕ). Moves seat s words (Swap (Buffer t.index) word (buffer_word (record { count = (buffer_of word).count; holder = a + 1 }))) (Some (try.taken t.index word))) (sym is)
-          (steps.takes_buffer t.index word (subst (Holds s seat) free holds) (open_yes t.wish word opened).free (eqb-true _ _ e))
+          (steps.takes_buffer t.index word (subst (HoldsBuffer s seat) free holds) (open_yes t.wish word opened).free (eqb-true _ _ e))
       by false e =
           let ne : words (Buffer t.index) ≢ word = λ z. absurd (cc (e, eq-eqb _ _ z)) in
           steps.swaps_nothing t.index word _ t.held holds ne
     try_moves t (Ended out) is opened free holds = steps.loads _ t.held holds
 
-    try_own : (t : Trying) → TryKnows seat t → Holds s seat t.held → Moves seat s words (try.asks t) (try.goes t (words (cell_of (try.asks t)))).held
+    try_own : (t : Trying) → TryKnows seat t → HoldsBuffer s seat t.held → Moves seat s words (try.asks t) (try.goes t (words (cell_of (try.asks t)))).held
     try_own t k holds = try_moves t t.stage k.seat_is k.opened k.free holds
 
     -- the search for room
@@ -100,7 +100,7 @@ module _ (law : BuffersAreHeld) where
     room_holds r t index (Some None) lost won = lost refl
     room_holds r t index (Some (Some h)) lost won = won h refl
 
-    room_moves : (r : finding.RoomFinding) (p : RoomStage) → RoomStageKnows seat p → Holds s seat (finding.held_at p) →
+    room_moves : (r : finding.RoomFinding) (p : RoomStage) → RoomStageKnows seat p → HoldsBuffer s seat (finding.held_at p) →
         Moves seat s words (finding.asks_at r p) (finding.held_at (finding.goes_at r p (words (cell_of (finding.asks_at r p)))).stage)
     room_moves r (room.GiveBack h) k holds = steps.gives_back h holds
     room_moves r (room.Try t) k holds =
@@ -124,7 +124,7 @@ module _ (law : BuffersAreHeld) where
     take_holds r t index (Some None) won = behind_holds r.layout r.seat index t.held
     take_holds r t index (Some (Some h)) won = won h refl
 
-    take_moves : (r : taking.EntryTaking) (p : TakeStage) → TakeStageKnows seat p → Holds s seat (taking.held_at p) →
+    take_moves : (r : taking.EntryTaking) (p : TakeStage) → TakeStageKnows seat p → HoldsBuffer s seat (taking.held_at p) →
         Moves seat s words (taking.asks_at r p) (taking.held_at (taking.goes_at r p (words (cell_of (taking.asks_at r p)))).stage)
     take_moves r (take.Try t) k holds =
         let f : ℕ = words (cell_of (try.asks t)) in
@@ -134,7 +134,7 @@ module _ (law : BuffersAreHeld) where
     take_moves r (take.Take h) k holds = steps.takes_entry h holds k
     take_moves r (take.Ended held entry) k holds = steps.loads _ _ holds
 
-    give_moves : (g : giving.BufferGiving) (p : GiveStage) → Holds s seat (giving.held_at p) → Moves seat s words (giving.asks_at p) None
+    give_moves : (g : giving.BufferGiving) (p : GiveStage) → HoldsBuffer s seat (giving.held_at p) → Moves seat s words (giving.asks_at p) None
     give_moves g (give.Give h) holds = steps.gives_back h holds
     give_moves g give.Ended holds = steps.loads _ None holds
 

@@ -9,7 +9,7 @@ use Rattle.gh_wbuf.specs.declared.give_buffer.GiveStage.TheVariants as give
 use Rattle.gh_wbuf.specs.BufferGiving as giving
 use Rattle.gh_wbuf.specs.RoomFinding as finding
 use Rattle.gh_wbuf.specs.Trying as try
-use Rattle.gh_wbuf.proofs.Vocabulary.{AreBuffersOf, Buffer, buffer_of, buffer_word, buffers_of, BuffersAreHeld, BuffersAreKept, cell_of, Claim, Cycle, effect, Ended, ENTRIES, FitsTryStage, GiveBack, GiveBuffer, GiveFacts, GiveStage, Good, Hands, HasBuffer, Held, holder_in, holding, InHand, IsFreeAt, Keeps, landing, lands_by, lands_still, Load, Look, moved, nat_tests, put, RoomFacts, RoomStage, RoomStageKnows, Shared, Steps, Swap, TakeBuffer, Touch, TryFacts, Trying, TryKnows, TryStage}
+use Rattle.gh_wbuf.proofs.Vocabulary.{AreBuffersOf, Buffer, buffer_of, buffer_word, buffers_as_held, BuffersAreHeld, BuffersAreKept, cell_of, Claim, Cycle, effect, Ended, ENTRIES, FitsTryStage, GiveBack, GiveBuffer, GiveFacts, GiveStage, Good, Hands, HasBuffer, Held, holder_in, holding, InHand, IsFreeAt, Keeps, landing, lands_by, lands_still, Load, Look, moved, nat_tests, put, RoomFacts, RoomStage, RoomStageKnows, Shared, Steps, Swap, TakeBuffer, Touch, TryFacts, Trying, TryKnows, TryStage}
 use Rattle.gh_wbuf.proofs.Knowing.{given_held, lost_none, room_holds}
 use Rattle.gh_wbuf.proofs.Tries.{open_yes}
 
@@ -31,7 +31,7 @@ module _ (k : Known) (z : Cycle) (a : ℕ) (s : Shared) (rest : InHand) (g : Goo
   abbrev pub Holding : Ask → Option Held → Type 0
   Holding ask held = Steps z a s ask (λ t. Keeps z a s t × Hands a t (holding rest held))
 
-  pub shown : AreBuffersOf s.words (buffers_of s.words s.filled)
+  pub shown : AreBuffersOf s.words (buffers_as_held s.words s.filled)
   shown = record { word_is = λ b. refl; entry_is = λ b j. refl }
 
   pub loads : (c : Cell) (held : Option Held) → Hands a s (holding rest held) → Holding (Load c) held
@@ -84,7 +84,7 @@ module _ (k : Known) (z : Cycle) (a : ℕ) (s : Shared) (rest : InHand) (g : Goo
   finds-at r (room.Try t) knows x =
       let f : ℕ = s.words (cell_of (try.asks t)) in
       subst (Holding (try.asks t))
-      (room_holds k.held a (buffers_of s.words s.filled) s.words g.counts shown r (try.goes t f) t.index (try.gives t f) (lost_none t t.stage f knows.none) (λ h e. given_held t t.stage f h knows.busy e))
+      (room_holds k.held a (buffers_as_held s.words s.filled) s.words g.counts shown r (try.goes t f) t.index (try.gives t f) (lost_none t t.stage f knows.none) (λ h e. given_held t t.stage f h knows.busy e))
       (tries t knows.tries x)
   finds-at r (room.Ended h) knows x = loads Touch (Some h) x
 
@@ -96,7 +96,7 @@ module _ (k : Known) (z : Cycle) (a : ℕ) (s : Shared) (rest : InHand) (g : Goo
   own-try : (t : Trying) → TryFacts z a s rest t → Steps z a s (try.asks t) (λ u. Keeps z a s u × TryFacts z a u rest (try.goes t (s.words (cell_of (try.asks t)))))
   own-try t f =
       let n : Trying = try.goes t (s.words (cell_of (try.asks t))) in
-      let knows : TryKnows a n = (k.kept.tries.own_step (buffers_of s.words s.filled) a s.words t g.counts shown (record { knows = f.knows; holds = f.hands.holds })).knows in
+      let knows : TryKnows a n = (k.kept.tries.own_step (buffers_as_held s.words s.filled) a s.words t g.counts shown (record { knows = f.knows; holds = f.hands.holds })).knows in
       landing z a s (effect s.words (try.asks t)) (λ u. Keeps z a s u × Hands a u (holding rest n.held)) (λ u. Keeps z a s u × TryFacts z a u rest n)
       (λ u w h. (h.0, record { knows = knows; hands = h.1 }))
       (tries t f.knows f.hands)
@@ -105,7 +105,7 @@ module _ (k : Known) (z : Cycle) (a : ℕ) (s : Shared) (rest : InHand) (g : Goo
   own-find r f =
       let n : finding.RoomFinding = finding.goes r (s.words (cell_of (finding.asks r))) in
       landing z a s (effect s.words (finding.asks r)) (λ u. Keeps z a s u × Hands a u (holding rest (finding.held_at n.stage))) (λ u. Keeps z a s u × RoomFacts z a u rest n)
-      (λ u w h. (h.0, record { knows = (k.kept.finds.own_step (buffers_of s.words s.filled) a s.words r g.counts shown (record { knows = f.knows; holds = f.hands.holds })).knows; hands = h.1 }))
+      (λ u w h. (h.0, record { knows = (k.kept.finds.own_step (buffers_as_held s.words s.filled) a s.words r g.counts shown (record { knows = f.knows; holds = f.hands.holds })).knows; hands = h.1 }))
       (finds-at r r.stage f.knows.stage f.hands)
 
   own-give : (m : giving.BufferGiving) → GiveFacts z a s rest m → Steps z a s (giving.asks m) (λ u. Keeps z a s u × GiveFacts z a u rest (giving.goes m (s.words (cell_of (giving.asks m)))))

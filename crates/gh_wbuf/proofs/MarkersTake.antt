@@ -8,7 +8,7 @@ use Rattle.gh_wbuf.specs.declared.take_entry.TakeStage.TheVariants as take
 use Rattle.gh_wbuf.specs.EntryTaking as taking
 use Rattle.gh_wbuf.specs.RoomFinding as finding
 use Rattle.gh_wbuf.specs.Trying as try
-use Rattle.gh_wbuf.proofs.Vocabulary.{Buffered, buffers_of, BuffersPassByMoves, cell_of, Cycle, effect, ENTRIES, FactsBegin, Good, Hands, Held, holding, InHand, Keeps, landing, lands_by, Layout, MayTakeEntry, moved, RoomKnows, RoomStage, RoomStageKnows, Shared, Steps, TakeComes, TakeEntry, TakeKnows, TakesByMoves, TakeStage, TakeStageKnows, Took, Trying}
+use Rattle.gh_wbuf.proofs.Vocabulary.{Buffered, buffers_as_held, BuffersPassByMoves, cell_of, Cycle, effect, ENTRIES, FactsBegin, Good, Hands, Held, holding, InHand, Keeps, landing, lands_by, Layout, MayTakeEntry, moved, RoomKnows, RoomStage, RoomStageKnows, Shared, Steps, TakeComes, TakeEntry, TakeKnows, TakesByMoves, TakeStage, TakeStageKnows, Took, Trying}
 use Rattle.gh_wbuf.proofs.Knowing.{given_held, room_next}
 use Rattle.gh_wbuf.proofs.Markers.{Known, keep-finds, keep-gives, keep-tries, shown, tries}
 
@@ -95,7 +95,7 @@ keep-takes : Known → TakesByMoves
 keep-takes k = record {
   own_step = λ z a s rest t g objects f.
       takes-at k z a s rest g objects t t.stage f.layout_is f.idle f.knows.stage f.hands
-      ((k.kept.takes.own_step (buffers_of s.words s.filled) a s.words t g.counts (shown k z a s rest g) (record { knows = f.knows; holds = f.hands.holds })).knows) f.busy;
+      ((k.kept.takes.own_step (buffers_as_held s.words s.filled) a s.words t g.counts (shown k z a s rest g) (record { knows = f.knows; holds = f.hands.holds })).knows) f.busy;
   lasts = λ z a s u rest t o f. record { layout_is = f.layout_is; knows = f.knows; hands = k.last z a s u (holding rest (taking.held_at t.stage)) o f.hands; idle = f.idle; busy = f.busy };
 }
 

@@ -1,7 +1,7 @@
 -- The names that files of proofs with many imports share.
 pub use Rattle.std.proofs.lemmas.Bool.Decides.{nat_tests}
 pub use Rattle.gh_base.specs.Cells.{put, Words}
-pub use Rattle.gh_base.specs.Holding.{AreBuffersOf, AreCounted, Buffers, BuffersAreHeld, Facts, holder_in, Holds, KeepsItsBuffer, May, Move, Moves, OwnStep, StepsAreMoves}
+pub use Rattle.gh_base.specs.Holding.{AreBuffersOf, AreCounted, Buffers, BuffersAreHeld, Facts, holder_in, HoldsBuffer, KeepsItsBuffer, May, Move, Moves, OwnStep, StepsAreMoves}
 pub use Rattle.gh_base.specs.Packing.{buffer_of, buffer_word}
 pub use Rattle.gh_base.specs.Routines.{EndsWith, GoesOn, IsFolded, Listing, told}
 pub use Rattle.gh_base.specs.Steps.{cell_of, effect}
@@ -10,7 +10,7 @@ pub use Rattle.gh_base.specs.declared.cell.Cell.TheVariants.{Buffer, Touch}
 pub use Rattle.gh_base.specs.declared.held.Held.{Held}
 pub use Rattle.gh_base.specs.declared.layout.Layout.{Layout}
 pub use Rattle.gh_base.specs.declared.pack.TheConstants.{ENTRIES}
-pub use Rattle.gh_marks.specs.Colours.{Buffered, buffers_of, Cycle, Shared}
+pub use Rattle.gh_marks.specs.Colours.{Buffered, buffers_as_held, Cycle, Shared}
 pub use Rattle.gh_marks.specs.Good.{Good}
 pub use Rattle.gh_marks.specs.Moves.{GiveBuffer, HasBuffer, Keeps, landing, lands_by, lands_still, MayTakeEntry, moved, Steps, TakeBuffer, TakeEntry}
 pub use Rattle.gh_marks.specs.Seats.{Hands, InHand}

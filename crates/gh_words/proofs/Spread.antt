@@ -5,18 +5,18 @@ use Rattle.std.proofs.lemmas.Bool.{cases_eq, cases_lt}
 use Rattle.std.proofs.lemmas.List.{ext_get_or, get_or-set_same, get_or-set_other, get_or_append_left, get_or_past, get_or_push, length-set, length_push}
 use Rattle.std.proofs.lemmas.List.FromFn.{get_or-map-range_with_len, length-map-range_with_len}
 use Rattle.gh_base.specs.Reading.{read_replicate}
-use Rattle.gh_words.specs.Blocks.{FitBlocks, Stands, number_at, place_at, spread}
+use Rattle.gh_words.specs.Blocks.{FitBlocks, BlockStands, number_at, place_at, spread_numbers}
 use Rattle.gh_words.specs.declared.plain.Plain.TheInside.{Inside}
 use Rattle.gh_words.specs.declared.plain.TheConstants.{BLOCK, NOWHERE}
 
 -- the blocks show a list whose numbers are theirs
-pub shows : (used : List (List ℕ)) (places : List ℕ) (n : ℕ) (list : List ℕ) → length list ≡ n → ((i : ℕ) → i < n → number_at used places i ≡ get_or list i 0) → spread used places n ≡ list
+pub shows : (used : List (List ℕ)) (places : List ℕ) (n : ℕ) (list : List ℕ) → length list ≡ n → ((i : ℕ) → i < n → number_at used places i ≡ get_or list i 0) → spread_numbers used places n ≡ list
 shows used places n list long each =
     let all = length-map-range_with_len (number_at used places) 0 n in
-    ext_get_or 0 (spread used places n) list (all ∙ sym long) (λ i lt. let low : i < n = omega (arith, all) in get_or-map-range_with_len (number_at used places) 0 n i i 0 low (omega arith) ∙ each i low)
+    ext_get_or 0 (spread_numbers used places n) list (all ∙ sym long) (λ i lt. let low : i < n = omega (arith, all) in get_or-map-range_with_len (number_at used places) 0 n i i 0 low (omega arith) ∙ each i low)
 
 -- what a list of words says of the list that it shows
-module _ (s : Inside) (list : List ℕ) (view : spread s.used.items s.places.items s.count ≡ list) where
+module _ (s : Inside) (list : List ℕ) (view : spread_numbers s.used.items s.places.items s.count ≡ list) where
   pub shown_long : s.count ≡ length list
   shown_long = sym (length-map-range_with_len (number_at s.used.items s.places.items) 0 s.count) ∙ ap length view
 
@@ -49,7 +49,7 @@ module _ (used : List (List ℕ)) (places : List ℕ) (room b : ℕ) (fits : Fit
         ])
   ]
 
-  pub begun : Stands b (length used) used more places noted
+  pub begun : BlockStands b (length used) used more places noted
   begun = record {
     here = omega (arith, length_push used (replicate BLOCK 0));
     noted = sym (get_or-set_same places b (length used) NOWHERE there);
@@ -83,5 +83,5 @@ module _ (used : List (List ℕ)) (places : List ℕ) (room n i v : ℕ) (list :
         ])
   ]
 
-  pub spread_written : spread now places n ≡ set list i v
+  pub spread_written : spread_numbers now places n ≡ set list i v
   spread_written = shows now places n (set list i v) (length-set list i v ∙ long) number_written

@@ -12,8 +12,8 @@ abbrev pub number_at : List (List ℕ) → List ℕ → ℕ → ℕ
 number_at used places i = slice_index_or (slice_index_or used (place_at places (i / BLOCK)) []) (i % BLOCK) 0
 
 -- the first n numbers of all blocks
-abbrev pub spread : List (List ℕ) → List ℕ → (n : ℕ) → List ℕ
-spread used places n = map (number_at used places) (range_with_len 0 n)
+abbrev pub spread_numbers : List (List ℕ) → List ℕ → (n : ℕ) → List ℕ
+spread_numbers used places n = map (number_at used places) (range_with_len 0 n)
 
 -- the used blocks are whole; a block stands at a place of its own, or nowhere; there is room for all that stand nowhere; and no place is NOWHERE
 pub record FitBlocks (used : List (List ℕ)) (places : List ℕ) (room : ℕ) : Type 0 where
@@ -24,7 +24,7 @@ pub record FitBlocks (used : List (List ℕ)) (places : List ℕ) (room : ℕ) :
   pub few : room < NOWHERE
 
 -- this block stands at this place from now on, and no number is changed by it
-pub record Stands (block place : ℕ) (used used_now : List (List ℕ)) (places places_now : List ℕ) : Type 0 where
+pub record BlockStands (block place : ℕ) (used used_now : List (List ℕ)) (places places_now : List ℕ) : Type 0 where
   pub here : place < length used_now
   pub noted : place ≡ place_at places_now block
   pub many : length places_now ≡ length places

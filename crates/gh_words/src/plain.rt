@@ -5,9 +5,9 @@
 
 ghost use Rattle.std.specs.Prelude.{◌≡◌, ◌^◌, ◌<◌, ◌≤◌, IfOk, length, replicate, slice_index};
 ghost use Rattle.std.specs.Vec.{vec_capacity};
-ghost use Rattle.gh_base.specs.Cells.{length_of, opening_words, Shows};
+ghost use Rattle.gh_base.specs.Cells.{length_of, opening_words, ShowsCells};
 ghost use Rattle.gh_base.specs.Steps.{changed, target};
-ghost use Rattle.gh_words.specs.Blocks.{place_at, FitBlocks, Stands};
+ghost use Rattle.gh_words.specs.Blocks.{place_at, FitBlocks, BlockStands};
 ghost use Rattle.gh_words.specs.declared.plain.TheConstants.{BLOCK};
 
 use gh_base::{Ask, Cell, Layout, Req};
@@ -44,7 +44,7 @@ impl Words for Vec<u64> {
 /// trigger, in bytes.
 fn open<W: Words>(words: &mut W, layout: &Layout, trigger: u64)
     requires { W.list words.old ≡ replicate (length_of layout.now) 0 }
-    ensures { Shows layout.now (W.list words.new) (opening_words trigger) }
+    ensures { ShowsCells layout.now (W.list words.new) (opening_words trigger) }
 {
     words.step(layout.request(Ask::Store(Cell::Gen, 2)));
     words.step(layout.request(Ask::Store(Cell::Slack, 1)));
@@ -54,7 +54,7 @@ fn open<W: Words>(words: &mut W, layout: &Layout, trigger: u64)
 /// The words of a heap of this layout as it opens, in one list: 0 each, save the sweep generation 2, the slack 1, and the
 /// trigger, in bytes.
 pub fn opening_list(alloc: Global, layout: &Layout, trigger: u64) -> Result<Vec<u64>, AllocError>
-    ensures { IfOk result (λ words. Shows layout.now words.items (opening_words trigger)) }
+    ensures { IfOk result (λ words. ShowsCells layout.now words.items (opening_words trigger)) }
 {
     let mut words = vec![in alloc; 0; layout.words() as usize]?;
     open(&mut words, layout, trigger);
@@ -81,12 +81,12 @@ pub struct Plain {
 impl Model for Plain {
     ghost use Rattle.std.specs.Prelude.{List, ℕ, ◌*◌, ◌≤◌, length};
     ghost use Rattle.std.specs.Vec.{vec_capacity};
-    ghost use Rattle.gh_words.specs.Blocks.{spread, FitBlocks};
+    ghost use Rattle.gh_words.specs.Blocks.{spread_numbers, FitBlocks};
     ghost use Rattle.gh_words.specs.declared.plain.TheConstants.{BLOCK};
 
     ghost Value = { List ℕ };
 
-    ghost view = { λ p. spread p.used.items p.places.items p.count };
+    ghost view = { λ p. spread_numbers p.used.items p.places.items p.count };
 
     ghost invariant = { λ p.
         (p.count ≤ length p.places.items * BLOCK)
@@ -101,7 +101,7 @@ fn begin(used: &mut Vec<[u64; BLOCK]>, places: &mut Vec<u32>, block: usize) -> u
     requires unused { length used.old.items ≤ place_at places.old.items block }
     requires fits { FitBlocks used.old.items places.old.items (vec_capacity used.old) }
     ensures fits { FitBlocks used.new.items places.new.items (vec_capacity used.new) }
-    ensures stands { Stands block result used.old.items used.new.items places.old.items places.new.items }
+    ensures stands { BlockStands block result used.old.items used.new.items places.old.items places.new.items }
 {
     let place = used.len();
     used.push_reserved([0; BLOCK]);
@@ -115,7 +115,7 @@ fn place_of(used: &mut Vec<[u64; BLOCK]>, places: &mut Vec<u32>, block: usize) -
     requires there { block < length places.old.items }
     requires fits { FitBlocks used.old.items places.old.items (vec_capacity used.old) }
     ensures fits { FitBlocks used.new.items places.new.items (vec_capacity used.new) }
-    ensures stands { Stands block result used.old.items used.new.items places.old.items places.new.items }
+    ensures stands { BlockStands block result used.old.items used.new.items places.old.items places.new.items }
 {
     let place = places[block] as usize;
     if place < used.len() {
@@ -129,7 +129,7 @@ impl Plain {
     /// The words of a heap of this layout as it opens: 0 each, save the sweep generation 2, the
     /// slack 1, and the trigger, in bytes. It takes all the memory that there is need for.
     pub fn new(alloc: Global, layout: &Layout, trigger: u64) -> Result<Plain, AllocError>
-        ensures { IfOk result (λ words. Shows layout.now words (opening_words trigger)) }
+        ensures { IfOk result (λ words. ShowsCells layout.now words (opening_words trigger)) }
     {
         let mut words = Plain::cleared(alloc, layout.words() as usize)?;
         open(&mut words, layout, trigger);

@@ -20,7 +20,7 @@ use Rattle.gh_wbuf.specs.RoomFinding as room
 use Rattle.gh_worker.specs.declared.worker.WorkerStage.{WorkerStage}
 use Rattle.gh_worker.specs.declared.worker.WorkerStage.TheVariants.{LoadPage, Sweeping, EarningAtStop, GiveBack, Resuming, Taking, Scanning, Earning, LoadGlobal, Shading, FindRoom}
 use Rattle.gh_worker.specs.Listing.{Working, after_give, after_page, after_resume, after_room, after_scan, after_shade, after_sweep, after_take, at_stage, counted, done_with, goes_at, page_done}
-use Rattle.gh_worker.specs.Works.{CountsWords, after, scanned, word_of, words_done, words_of}
+use Rattle.gh_worker.specs.Works.{CountsWords, after, scanned, shading_word, words_done, scan_words}
 
 -- it hands over what it has scanned
 abbrev pub IsEarning : WorkerStage → Type 0
@@ -58,7 +58,7 @@ module _ (w : Working) (P : (d marks scan_work earned : ℕ) → Type 0) (same :
   take_so t (Some None) = same
   take_so t (Some (Some reference)) = same
 
-  scan_so : (sc : scan.Scanning) (out : Option ℕ) → Counts (words_of out) (after_scan w sc out)
+  scan_so : (sc : scan.Scanning) (out : Option ℕ) → Counts (scan_words out) (after_scan w sc out)
   scan_so sc None = same
   scan_so sc (Some words) = more words
 
@@ -66,7 +66,7 @@ module _ (w : Working) (P : (d marks scan_work earned : ℕ) → Type 0) (same :
   global_so sh true = more 1
   global_so sh false = same
 
-  shade_so : (sh : shade.Shading) (out : Option Shaded) → Counts (word_of out) (after_shade w sh out)
+  shade_so : (sh : shade.Shading) (out : Option Shaded) → Counts (shading_word out) (after_shade w sh out)
   shade_so sh None = same
   shade_so sh (Some shaded.Done) = more 1
   shade_so sh (Some shaded.WantsRoom) = same

@@ -31,8 +31,8 @@ scans-global k z a i t n good f marked = lands_by z a t t.words (λ u. Shading z
 
 module _ (k : Known) (z : Cycle) (a : ℕ) (s : Shared) (g : Good z s) (objects : KnowsObjects z s) (w : Working) (layout_is : w.layout ≡ z.arena.layout) (seat_is : w.seat ≡ a) (seat_in : a < seats_of z.arena.layout) where
   -- behind the mark the global is scanned, at whichever stage that leads to
-  behind-mark : (i : ℕ) (t : Shared) (m : shade.Shading) (whole : Bool) → Good z t → Shading z a t (ReadOf i m.reference) (shade.at_stage m (shade.after_mark m.held whole)) →
-      Lands z a t t.words (λ u. Shading z a u (claim_at i m.reference (shade.after_mark m.held whole)) (shade.at_stage m (shade.after_mark m.held whole)))
+  behind-mark : (i : ℕ) (t : Shared) (m : shade.Shading) (whole : Bool) → Good z t → Shading z a t (ReadOf i m.reference) (shade.at_stage m (shade.follows_mark m.held whole)) →
+      Lands z a t t.words (λ u. Shading z a u (claim_at i m.reference (shade.follows_mark m.held whole)) (shade.at_stage m (shade.follows_mark m.held whole)))
   behind-mark i t m true good f = scans-global k z a i t (shade.at_stage m Ended) good f f.stage_is
   behind-mark i t m false good f = by (shade.has_place m.held) f where
     by : (b : Bool) → Shading z a t (ReadOf i m.reference) (shade.at_stage m (cond b Enter WaitForRoom)) → Lands z a t t.words (λ u. Shading z a u (claim_at i m.reference (cond b Enter WaitForRoom)) (shade.at_stage m (cond b Enter WaitForRoom)))

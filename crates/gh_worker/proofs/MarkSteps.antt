@@ -17,7 +17,7 @@ use Rattle.gh_wbuf.specs.EntryTaking as take
 use Rattle.gh_wbuf.specs.Facts as buffer_facts
 use Rattle.gh_sweep.specs.Listing as sweep
 use Rattle.gh_worker.specs.declared.worker.WorkerStage.TheVariants as worker
-use Rattle.gh_worker.proofs.Vocabulary.{Add, after_give, after_global, after_page, after_resume, after_scan, after_take, Ask, at_stage, by_phase, by_stop, by_work, Cell, cell_of, ClaimGlobal, ClaimOf, counted, Cycle, done_with, EarnStage, effect, Facts, Body, Finished, Free, gives_back, goes_at, Good, handed_over, Hands, Head, Held, in_hand, InHand, IsQuiet, Keeps, KnowsObject, KnowsObjects, landing, landing_on, Lands, lands_by, lands_still, Layout, Load, Mark, moved, NoClaim, nothing, Off, page_done, page_of, PageWord, PassGlobals, Phase, phase_of, put, Quiet, ReadGlobal, ReadOf, reference_in, Resumed, ResumeStage, ScanGlobal, ScanStage, seats_of, Shared, StageFacts, Steps, Stop, stops_at, Store, Taken, Went, WorkerStage, Working}
+use Rattle.gh_worker.proofs.Vocabulary.{Add, after_give, after_global, after_page, after_resume, after_scan, after_take, Ask, at_stage, by_phase, by_stop, by_work, Cell, cell_of, ClaimGlobal, ClaimOf, counted, Cycle, done_with, EarnStage, effect, Facts, Body, Finished, Free, gives_back, goes_at, Good, handed_over, Hands, Head, Held, in_hand, InHand, IsQuietInMarking, Keeps, KnowsObject, KnowsObjects, landing, landing_on, Lands, lands_by, lands_still, Layout, Load, Mark, moved, NoClaim, nothing, Off, page_done, page_of, PageWord, PassGlobals, Phase, phase_of, put, Quiet, ReadGlobal, ReadOf, reference_in, Resumed, ResumeStage, ScanGlobal, ScanStage, seats_of, Shared, StageFacts, Steps, Stop, stops_at, Store, Taken, Went, WorkerStage, Working}
 
 pub record Known : Type 0 where
   pub last : EachHandLasts
@@ -86,13 +86,13 @@ module _ (k : Known) (z : Cycle) (a : ℕ) (s : Shared) (g : Good z s) (objects 
         then t f (Some x) = record { layout_is = layout_is; seat_is = seat_is; seat_in = seat_in; stage_is = (f.hands, refl) }
 
   -- a step that marking does not read
-  quiet-step : (hand : InHand) (step : Ask) (n : Working) → IsQuiet s step → Hands a s hand → ((t : Shared) → Hands a t hand → Facts z a t n) → Leads step n
+  quiet-step : (hand : InHand) (step : Ask) (n : Working) → IsQuietInMarking s step → Hands a s hand → ((t : Shared) → Hands a t hand → Facts z a t n) → Leads step n
   quiet-step hand step n may x f = lands_by z a s (effect s.words step) (λ t. Facts z a t n) (Quiet step) may refl (f (moved z a s (Quiet step)) ((k.follow z a s hand g x).quiet step may))
 
   -- what is scanned is handed over
   earns-to : (m : earn.Earning) (p : EarnStage) (stage : WorkerStage) → Hands a s (in_hand w.held NoClaim) → ((t : Shared) → Hands a t (in_hand w.held NoClaim) → StageFacts z a t w.held stage) → Leads (earn.asks_at m p) (handed_over w stage)
   earns-to m p stage x f = quiet-step (in_hand w.held NoClaim) (earn.asks_at m p) (handed_over w stage) (quiet p) x (λ t h. record { layout_is = layout_is; seat_is = seat_is; seat_in = seat_in; stage_is = f t h }) where
-    quiet : (q : EarnStage) → IsQuiet s (earn.asks_at m q)
+    quiet : (q : EarnStage) → IsQuietInMarking s (earn.asks_at m q)
     quiet earning.Add = tt
     quiet earning.Ended = tt
 

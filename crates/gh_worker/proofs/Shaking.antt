@@ -4,7 +4,7 @@ use Rattle.std.specs.Prelude.{is_none}
 use Rattle.gh_base.specs.declared.cell.Cell.TheVariants as cell
 use Rattle.gh_credit.specs.declared.earn.EarnStage.TheVariants as earning
 use Rattle.gh_credit.specs.Earning as earn
-use Rattle.gh_phase.specs.Handshake.{Awake, FromAwake, IsQuiet, StageGoes}
+use Rattle.gh_phase.specs.Handshake.{Awake, FromAwake, IsQuietInHandshake, StageGoes}
 use Rattle.gh_phase.specs.Listing as resume
 use Rattle.gh_phase.specs.ResumePlaces.{ResumesInHandshake}
 use Rattle.gh_phase.specs.ResumePlaces as resumes
@@ -22,7 +22,7 @@ use Rattle.gh_worker.proofs.Vocabulary.{Add, after_give, after_page, after_resum
 use Rattle.gh_worker.proofs.Phases.{leaves_at, marks_at}
 
 -- what is scanned is handed over by no word of the handshake
-earn_quiet : (x : earn.Earning) (p : EarnStage) → IsQuiet (earn.asks_at x p)
+earn_quiet : (x : earn.Earning) (p : EarnStage) → IsQuietInHandshake (earn.asks_at x p)
 earn_quiet x earning.Add = tt
 earn_quiet x earning.Ended = tt
 
@@ -111,7 +111,7 @@ module _ (found : ℕ) (w : Working) where
     goes_on (Some out) e = ends_so out e
 
 -- a sweep writes no word of the handshake
-sweep_quiet : (sw : sweep.Sweeping) (p : SweepStage) → IsQuiet (sweep.asks_at sw p)
+sweep_quiet : (sw : sweep.Sweeping) (p : SweepStage) → IsQuietInHandshake (sweep.asks_at sw p)
 sweep_quiet sw sweeping.Begin = tt
 sweep_quiet sw (sweeping.LoadMarks i) = tt
 sweep_quiet sw (sweeping.ClearBits i marks) = tt
@@ -122,7 +122,7 @@ sweep_quiet sw sweeping.AddHeap = tt
 sweep_quiet sw sweeping.Finish = tt
 sweep_quiet sw (sweeping.Ended end) = tt
 
-awakes : (found : ℕ) (w to : Working) (ask : Ask) → IsQuiet ask → FromAwakeTo found ask w to → Sound to × StageGoes found (record { seat = w.seat; view = w.view }) Awake ask (party_of to) (stage_of to)
+awakes : (found : ℕ) (w to : Working) (ask : Ask) → IsQuietInHandshake ask → FromAwakeTo found ask w to → Sound to × StageGoes found (record { seat = w.seat; view = w.view }) Awake ask (party_of to) (stage_of to)
 awakes found w to ask q f = (f.0, (f.1, q, f.2))
 
 module _ (q : MarkingIsQuiet) (h : ResumesInHandshake) where

@@ -14,7 +14,7 @@ pub use Rattle.gh_base.specs.declared.pack.Phase.TheVariants.{Finished, Mark, Of
 pub use Rattle.gh_marks.specs.Colours.{Cycle, IsClean, IsMarked, Shared, Taken}
 pub use Rattle.gh_marks.specs.Good.{Good}
 pub use Rattle.gh_marks.specs.Knows.{KnowsObject, KnowsObjects}
-pub use Rattle.gh_marks.specs.Moves.{ClaimGlobal, IsQuiet, Keeps, landing, landing_on, Lands, lands_by, lands_still, moved, Others, PassGlobals, Quiet, ReadGlobal, ScanGlobal, Steps, Went}
+pub use Rattle.gh_marks.specs.Moves.{ClaimGlobal, IsQuietInMarking, Keeps, landing, landing_on, Lands, lands_by, lands_still, moved, Others, PassGlobals, Quiet, ReadGlobal, ScanGlobal, Steps, Went}
 pub use Rattle.gh_marks.specs.Seats.{ClaimOf, Hands, InHand, NoClaim, nothing, ReadOf}
 pub use Rattle.gh_credit.specs.declared.earn.EarnStage.{EarnStage}
 pub use Rattle.gh_phase.specs.Views.{run_phase}

@@ -21,7 +21,7 @@ use Rattle.gh_wbuf.specs.EntryTaking as take
 use Rattle.gh_wbuf.specs.RoomFinding as room
 use Rattle.gh_wbuf.specs.Trying as try
 use Rattle.gh_worker.specs.declared.worker.WorkerStage.TheVariants as work
-use Rattle.gh_worker.specs.Writing.{AcksAlone, CalmWorkersMarkNothing, IsCalm, Rests, WorkersWriteTheirOwn, WritesItsOwn}
+use Rattle.gh_worker.specs.Writing.{AcksAlone, CalmWorkersMarkNothing, IsCalm, IsOutsideMarking, WorkersWriteTheirOwn, WritesItsOwn}
 use Rattle.gh_worker.proofs.Vocabulary.{after_page, after_resume, after_sweep, Ask, asks_at, at_stage, Body, by_phase, EarnStage, Free, gives_back, goes_at, GoesOnWithNone, Head, Held, is_busy, IsMarking, page_done, page_of, PageWord, Phase, phase_of, Resumed, ResumeStage, RoomStage, ScanStage, ShadeStage, Sound, SoundAt, stops_at, sweep_at, SweepEnd, TakeStage, TryStage, WorkerStage, Working}
 
 -- a routine of marking writes these words by no addition
@@ -100,7 +100,7 @@ acks : (seat : ℕ) (r : resume.Resuming) (p : ResumeStage) → r.seat ≡ seat 
 acks seat r resuming.Acknowledge e = e
 acks seat r _ e = tt
 
-acks_at : (w : Working) (p : WorkerStage) → SoundAt w p → Rests p → sweep_at p ≡ None → is_busy p ≡ true → AcksAlone w.seat (asks_at w p)
+acks_at : (w : Working) (p : WorkerStage) → SoundAt w p → IsOutsideMarking p → sweep_at p ≡ None → is_busy p ≡ true → AcksAlone w.seat (asks_at w p)
 acks_at w work.LoadPhase s c e b = tt
 acks_at w work.LoadPage s c e b = tt
 acks_at w (work.Sweeping sw) s c e b = absurd cc
@@ -109,14 +109,14 @@ acks_at w work.Leave s c e b = refl
 acks_at w work.Done s c e b = absurd cc
 acks_at w _ s c e b = absurd c
 
-back_calm : (w : Working) (stops : ℕ) (held : Option Held) → held ≡ None → Rests (gives_back w stops held)
+back_calm : (w : Working) (stops : ℕ) (held : Option Held) → held ≡ None → IsOutsideMarking (gives_back w stops held)
 back_calm w stops None e = tt
 back_calm w stops (Some h) e = absurd cc
 
-stops_calm : (w : Working) (stops : ℕ) → w.held ≡ None → w.scan_work ≡ 0 → Rests (stops_at w stops w.held)
+stops_calm : (w : Working) (stops : ℕ) → w.held ≡ None → w.scan_work ≡ 0 → IsOutsideMarking (stops_at w stops w.held)
 stops_calm w stops e z = rw z (back_calm w stops w.held e)
 
-loads_calm : (w : Working) (stops : ℕ) (phase : Phase) → w.held ≡ None → w.scan_work ≡ 0 → Rests (by_phase w stops phase) ⊎ IsMarking (by_phase w stops phase)
+loads_calm : (w : Working) (stops : ℕ) (phase : Phase) → w.held ≡ None → w.scan_work ≡ 0 → IsOutsideMarking (by_phase w stops phase) ⊎ IsMarking (by_phase w stops phase)
 loads_calm w stops kind.Off e z = inl tt
 loads_calm w stops kind.Mark e z = inr tt
 loads_calm w stops kind.Stop e z = inl (stops_calm w stops e z)
@@ -141,7 +141,7 @@ sweeps_calm w sw (Some end) e z = record { none = e; handed = z; rests = tt }
 abbrev Stays : Working → Type 0
 Stays to = IsCalm to ⊎ IsMarking to.stage
 
-stays_at : (w : Working) (p : WorkerStage) (found : ℕ) → w.held ≡ None → w.scan_work ≡ 0 → Rests p → is_busy p ≡ true → Stays (goes_at w p found)
+stays_at : (w : Working) (p : WorkerStage) (found : ℕ) → w.held ≡ None → w.scan_work ≡ 0 → IsOutsideMarking p → is_busy p ≡ true → Stays (goes_at w p found)
 stays_at w work.LoadPhase found e z c b = elim (loads_calm w (phase_of found).stops (phase_of found).phase e z) [ inl x ↦ inl (record { none = e; handed = z; rests = x }) | inr y ↦ inr y ]
 stays_at w work.LoadPage found e z c b = inl (pages_calm w (page_of found) e z)
 stays_at w (work.Sweeping sw) found e z c b = inl (sweeps_calm w (sweep.goes sw found) (sweep.gives sw found) e z)
@@ -151,7 +151,7 @@ stays_at w work.Done found e z c b = absurd cc
 stays_at w _ found e z c b = absurd c
 
 stopped : (w : Working) (r : resume.Resuming) → Sound w → w.stage ≡ work.Resuming r → IsCalm w
-stopped w r s e = let x : GoesOnWithNone w.seat w.held w.scan_work r = subst (SoundAt w) e s in record { none = x.none; handed = x.handed; rests = subst Rests (sym e) tt }
+stopped w r s e = let x : GoesOnWithNone w.seat w.held w.scan_work r = subst (SoundAt w) e s in record { none = x.none; handed = x.handed; rests = subst IsOutsideMarking (sym e) tt }
 
 pub calm_marks_nothing : CalmWorkersMarkNothing
 calm_marks_nothing = record {

@@ -176,10 +176,10 @@ goes_at w Leave found = at_stage w Done
 goes_at w Done found = at_stage w Done
 
 -- its next step loads the phase or a page's word
-abbrev pub is_idle : WorkerStage → Bool
-is_idle LoadPhase = true
-is_idle LoadPage = true
-is_idle _ = false
+abbrev pub loads_phase_or_page : WorkerStage → Bool
+loads_phase_or_page LoadPhase = true
+loads_phase_or_page LoadPage = true
+loads_phase_or_page _ = false
 
 -- it ends where it is done
 abbrev pub given_at : WorkerStage → Option (Unit {0})

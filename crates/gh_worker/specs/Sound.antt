@@ -6,7 +6,7 @@ use Rattle.gh_credit.specs.Earning as earn
 use Rattle.gh_phase.specs.Listing as resume
 use Rattle.gh_phase.specs.Views.{FitsView}
 use Rattle.gh_scan.specs.Listing as scan
-use Rattle.gh_scan.specs.Sound.{Runs, Waits}
+use Rattle.gh_scan.specs.Sound.{Runs, ShadingWaits}
 use Rattle.gh_shade.specs.Listing as shade
 use Rattle.gh_sweep.specs.Listing as sweep
 use Rattle.gh_wbuf.specs.BufferGiving as give
@@ -35,7 +35,7 @@ FitsStage l (Scanning s) = Runs l s.layout (scan.is_busy s.stage)
 FitsStage l (Earning e) = Runs l e.layout (earn.is_busy e.stage)
 FitsStage l (LoadGlobal i) = i < l.globals
 FitsStage l (Shading sh) = Runs l sh.layout (shade.is_busy sh.stage)
-FitsStage l (FindRoom sh r) = Waits l sh r
+FitsStage l (FindRoom sh r) = ShadingWaits l sh r
 FitsStage l _ = Unit {0}
 
 pub record FitsWorker (w : Working) : Type 0 where

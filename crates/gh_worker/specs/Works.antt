@@ -7,18 +7,18 @@ use Rattle.gh_worker.specs.Listing.{Working, listing, opening}
 use Rattle.gh_worker.specs.Vocabulary.{Layout, LoadGlobal, Scanning, Shaded, Shading, told, WorkerStage}
 
 -- the words that are done with a step: those of an object whose scan ends, and one for a global that is nil or whose shading ends
-abbrev pub words_of : Option ℕ → ℕ
-words_of None = 0
-words_of (Some words) = words
+abbrev pub scan_words : Option ℕ → ℕ
+scan_words None = 0
+scan_words (Some words) = words
 
-abbrev pub word_of : Option Shaded → ℕ
-word_of (Some shaded.Done) = 1
-word_of _ = 0
+abbrev pub shading_word : Option Shaded → ℕ
+shading_word (Some shaded.Done) = 1
+shading_word _ = 0
 
 abbrev pub words_done : WorkerStage → (found : ℕ) → ℕ
-words_done (Scanning s) found = words_of (scan.gives s found)
+words_done (Scanning s) found = scan_words (scan.gives s found)
 words_done (LoadGlobal i) found = if found == 0 then 1 else 0
-words_done (Shading sh) found = word_of (shade.gives sh found)
+words_done (Shading sh) found = shading_word (shade.gives sh found)
 words_done _ found = 0
 
 module _ (l : Layout) (seat : ℕ) (found : ℕ → ℕ) where

@@ -32,20 +32,20 @@ abbrev pub WorkersWriteTheirOwn : Type 0
 WorkersWriteTheirOwn = (w : Working) → Sound w → sweep_in w ≡ None → is_busy w.stage ≡ true → WritesItsOwn w.seat (asks w)
 
 -- it loads the phase or a page, sweeps, goes on after a stop, or leaves
-abbrev pub Rests : WorkerStage → Type 0
-Rests LoadPhase = Unit {0}
-Rests LoadPage = Unit {0}
-Rests (Sweeping sw) = Unit {0}
-Rests (Resuming r) = Unit {0}
-Rests Leave = Unit {0}
-Rests Done = Unit {0}
-Rests _ = ⊥
+abbrev pub IsOutsideMarking : WorkerStage → Type 0
+IsOutsideMarking LoadPhase = Unit {0}
+IsOutsideMarking LoadPage = Unit {0}
+IsOutsideMarking (Sweeping sw) = Unit {0}
+IsOutsideMarking (Resuming r) = Unit {0}
+IsOutsideMarking Leave = Unit {0}
+IsOutsideMarking Done = Unit {0}
+IsOutsideMarking _ = ⊥
 
 -- it marks nothing, holds no buffer, and has nothing to hand over
 pub record IsCalm (w : Working) : Type 0 where
   pub none : w.held ≡ None
   pub handed : w.scan_work ≡ 0
-  pub rests : Rests w.stage
+  pub rests : IsOutsideMarking w.stage
 
 -- a load, or a store of this seat's acknowledgement
 abbrev pub AcksAlone : (seat : ℕ) → Ask → Type 0

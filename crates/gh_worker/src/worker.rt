@@ -6,12 +6,12 @@ ghost use Rattle.gh_base.specs.Packing.{page_of};
 ghost use Rattle.gh_credit.specs.Earning as earns;
 ghost use Rattle.gh_phase.specs.Listing as resumes;
 ghost use Rattle.gh_scan.specs.Listing as scans;
-ghost use Rattle.gh_scan.specs.Sound.{Runs, Waits};
+ghost use Rattle.gh_scan.specs.Sound.{Runs, ShadingWaits};
 ghost use Rattle.gh_shade.specs.Listing as shades;
 ghost use Rattle.gh_sweep.specs.Listing as sweeps;
 ghost use Rattle.gh_wbuf.specs.EntryTaking as takes;
 ghost use Rattle.gh_worker.specs.Handshake.{IsMarking};
-ghost use Rattle.gh_worker.specs.Listing.{after_global, after_page, done_with, given, gives, gives_back, goes, goes_at, handed_over, held_at, is_busy, is_idle, opening, page_done, page_past, resuming, stops_at, with_work};
+ghost use Rattle.gh_worker.specs.Listing.{after_global, after_page, done_with, given, gives, gives_back, goes, goes_at, handed_over, held_at, is_busy, loads_phase_or_page, opening, page_done, page_past, resuming, stops_at, with_work};
 ghost use Rattle.gh_worker.specs.Sound.{IsWorkersSeat};
 
 use gh_base::{Ask, Cell, GONE, Held, Layout, Machine, PageWord, Phase, PhaseWord, Req};
@@ -126,7 +126,7 @@ impl Worker {
 
     /// It loads the phase, or the word of a page: while marking is off, and no span is unswept, each step is one of these in turn.
     pub fn is_idle(&self) -> bool
-        ensures { result ≡ is_idle self.now.stage }
+        ensures { result ≡ loads_phase_or_page self.now.stage }
     {
         matches!(self.stage, WorkerStage::LoadPhase | WorkerStage::LoadPage)
     }
@@ -259,7 +259,7 @@ impl Worker {
     // Mostly marking is off still, and the page in no unswept span: both are passed here, and all else by a call.
     #[inline(always)]
     pub fn idle(&mut self, found: u64)
-        requires { is_idle self.old.stage ≡ true }
+        requires { loads_phase_or_page self.old.stage ≡ true }
         ensures goes { self.new ≡ goes self.old found }
         ensures goes_on { gives self.old found ≡ Option.None }
     {
@@ -435,7 +435,7 @@ impl Worker {
 
     /// Takes a step of this search for room, which that shading waits for.
     fn find_room(&mut self, shade: &Shade, room: &FindRoom, found: u64)
-        requires { Waits self.old.layout shade.now room.now }
+        requires { ShadingWaits self.old.layout shade.now room.now }
         ensures { self.new ≡ goes_at self.old (WorkerStage.FindRoom shade.now room.now) found }
     {
         let (mut shade, mut room) = (*shade, *room);

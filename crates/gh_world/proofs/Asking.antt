@@ -9,7 +9,7 @@ use Rattle.std.proofs.lemmas.List.{length-append}
 use Rattle.gh_world.specs.Vocabulary.{statements_of, Stmt, work_at}
 use Rattle.gh_base.specs.declared.operation.Op.TheVariants as op
 use Rattle.gh_script.specs.declared.statement.Stmt.TheVariants as stmts
-use Rattle.gh_script.specs.Program.{op_of}
+use Rattle.gh_script.specs.Program.{statement_as_op}
 use Rattle.gh_lists.specs.Processors.{asked_by, asks_collector}
 use Rattle.gh_world.specs.Turns.{count_of, is_of_seat, is_statement_of, round_of, turn_of}
 use Rattle.gh_world.specs.Wishes.{may_ask, wishes_among, wishes_of}
@@ -75,22 +75,22 @@ asked_mine g (o ∷ os) = go (is_statement_of g o) refl (asked_mine g os) where
     by true f = absurd (let t = asks_mine g o f in let no : true ≡ false = sym t ∙ e in cc)
     by false f = let none : one_if (asks g o) ≡ 0 = ap one_if f in omega (arith, asked_more g o os, none, ih)
 
-asks_is : (g : ℕ) (s : Stmt) → asks g (op_of g s) ≡ may_ask s
+asks_is : (g : ℕ) (s : Stmt) → asks g (statement_as_op g s) ≡ may_ask s
 asks_is g (stmts.New d t) = eq-eqb g g refl
 asks_is g stmts.Gc = eq-eqb g g refl
 asks_is g _ = refl
 
-asked_map : (g : ℕ) (ss : List Stmt) → asked_among g (map (op_of g) ss) ≡ wishes_among ss
+asked_map : (g : ℕ) (ss : List Stmt) → asked_among g (map (statement_as_op g) ss) ≡ wishes_among ss
 asked_map g [] = refl
 asked_map g (s ∷ ss) =
-    let here : one_if (asks g (op_of g s)) ≡ one_if (may_ask s) = ap one_if (asks_is g s) in
+    let here : one_if (asks g (statement_as_op g s)) ≡ one_if (may_ask s) = ap one_if (asks_is g s) in
     let wishes : wishes_among (s ∷ ss) ≡ one_if (may_ask s) + wishes_among ss = go (may_ask s) in
-    omega (arith, asked_more g (op_of g s) (map (op_of g) ss), here, wishes, asked_map g ss) where
+    omega (arith, asked_more g (statement_as_op g s) (map (statement_as_op g) ss), here, wishes, asked_map g ss) where
       go : (b : Bool) → length (cond b (s ∷ filter may_ask ss) (filter may_ask ss)) ≡ one_if b + wishes_among ss
       go true = omega arith
       go false = omega arith
 
-pub asked_of : (p : Program) (g : ℕ) (os : List Op) → filter (is_statement_of g) os ≡ map (op_of g) (statements_of p g) → asked_among g os ≡ wishes_of p g
+pub asked_of : (p : Program) (g : ℕ) (os : List Op) → filter (is_statement_of g) os ≡ map (statement_as_op g) (statements_of p g) → asked_among g os ≡ wishes_of p g
 asked_of p g os mine = asked_mine g os ∙ ap (asked_among g) mine ∙ asked_map g (statements_of p g)
 
 -- a goroutine asks as often among the turns of its processor, and never among another's

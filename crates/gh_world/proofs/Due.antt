@@ -8,11 +8,11 @@ use Rattle.std.proofs.lemmas.Option.{get_or_from_slice_get}
 use Rattle.gh_world.specs.Vocabulary.{Op, Shape, Layout, Entry, IsLayoutOf, bit, Stmt, Program, no_goroutine, statements_of, WellFormed, Processor, Task, Idle, Next, most_objects, has_names, is_statement, is_leaving, has_left_at, work_at, work_of, is_busy_at, made_by}
 use Rattle.gh_base.specs.declared.operation.Op.TheVariants as op
 use Rattle.gh_script.specs.declared.statement.Stmt.TheVariants.{New, Store, GetGlobal, SetGlobal, Int, Nil, Gc}
-use Rattle.gh_script.specs.Program.{goroutine_at as goroutine_there, op_of, IsStatement, AreStatements}
+use Rattle.gh_script.specs.Program.{goroutine_at as goroutine_there, statement_as_op, IsStatement, AreStatements}
 use Rattle.gh_world.specs.declared.turns.Next.TheVariants as next
-use Rattle.gh_lists.specs.Order.{in_range, goroutine_of, is_over as is_ended, ends, ended_in, leaves}
+use Rattle.gh_lists.specs.Order.{in_range, goroutine_of, goroutine_is_over, ends, ended_in, leaves}
 use Rattle.gh_mutator.specs.Sound.{SoundOp}
-use Rattle.gh_world.specs.Turns.{count_of, total_of, to_come, Stands, MayBeOver, IsPast, is_over, op_due, is_leave, goroutine_at, statements_among}
+use Rattle.gh_world.specs.Turns.{count_of, total_of, to_come, Stands, MayBeOver, IsPast, leave_is_begun, op_due, is_leave, its_goroutine, statements_among}
 use Rattle.gh_world.specs.World.{MadeAtMost}
 use Rattle.gh_world.proofs.Turning.{goroutine_is, has_statement}
 
@@ -26,7 +26,7 @@ both_true true true e f = refl
 both_true true false e f = f
 both_true false b e f = e
 
-statement_runs : (p : Program) (l : Layout) (g : ℕ) (s : Stmt) → IsStatement p.settings.globals (length p.shapes) s → g < 32 → g < l.goroutines → l.globals ≡ p.settings.globals → Runs p.shapes l (op_of g s)
+statement_runs : (p : Program) (l : Layout) (g : ℕ) (s : Stmt) → IsStatement p.settings.globals (length p.shapes) s → g < 32 → g < l.goroutines → l.globals ≡ p.settings.globals → Runs p.shapes l (statement_as_op g s)
 statement_runs p l g (New d t) h few gs k = record { sound = ((few, h.0), h.1); ranged = both_true _ _ (both_true _ _ (lt-ltb _ _ gs) (lt-ltb _ _ h.0)) (lt-ltb _ _ h.1) }
 statement_runs p l g (Store b x v) h few gs k = record { sound = ((few, h.0), h.2); ranged = both_true _ _ (both_true _ _ (lt-ltb _ _ gs) (lt-ltb _ _ h.0)) (lt-ltb _ _ h.2) }
 statement_runs p l g (GetGlobal d x) h few gs k = let there : x < l.globals = omega (arith, h.1) in record { sound = ((few, h.0), there); ranged = both_true _ _ (both_true _ _ (lt-ltb _ _ gs) (lt-ltb _ _ h.0)) (lt-ltb _ _ there) }
@@ -61,14 +61,14 @@ module _ (p : Program) (l : Layout) (r : WellFormed p) (lay : IsLayoutOf p.setti
   due_runs a next.Over o h e = absurd cc
 
 -- a statement that is due is one of a goroutine that there is
-pub due_goroutine : (p : Program) (a : ℕ) (t : Next) (o : Op) → WellFormed p → Stands p a t → op_due p t ≡ Some o → is_statement o ≡ true → goroutine_at o < 32
+pub due_goroutine : (p : Program) (a : ℕ) (t : Next) (o : Op) → WellFormed p → Stands p a t → op_due p t ≡ Some o → is_statement o ≡ true → its_goroutine o < 32
 due_goroutine p a (next.Poll n g) o r h e sure = absurd (let same : op.Poll ≡ o = cc in let no : false ≡ is_statement o = ap is_statement same in cc)
 due_goroutine p a (next.Run n g) o r h e sure = go (slice_get (statements_of p g) n) e where
-  go : (s : Option Stmt) → Some (work_at g s) ≡ Some o → goroutine_at o < 32
+  go : (s : Option Stmt) → Some (work_at g s) ≡ Some o → its_goroutine o < 32
   go None q = absurd (let same : op.End g ≡ o = cc in let no : false ≡ is_statement o = ap is_statement same in cc)
   go (Some s) q =
-      let same : op_of g s ≡ o = cc in
-      let is : goroutine_at o ≡ g = ap goroutine_at (sym same) ∙ goroutine_is g s in
+      let same : statement_as_op g s ≡ o = cc in
+      let is : its_goroutine o ≡ g = ap its_goroutine (sym same) ∙ goroutine_is g s in
       omega (arith, is, h.there, r.few_goroutines)
 due_goroutine p a next.Leave o r h e sure = absurd (let same : op.Leave ≡ o = cc in let no : false ≡ is_statement o = ap is_statement same in cc)
 due_goroutine p a next.Over o r h e sure = absurd cc
@@ -91,15 +91,15 @@ work_goroutine g (Some Gc) = refl
 work_goroutine g _ = refl
 
 -- its goroutine has not ended
-pub not_ended : (p : Program) (a : ℕ) (t : Next) (o : Op) (es : List (Entry Op)) → Stands p a t → op_due p t ≡ Some o → ((g : ℕ) → ended_in es g ≡ true → MayBeOver p t g) → is_ended es (goroutine_of o) ≡ false
-not_ended p a (next.Poll n g) o es h e over = let same : op.Poll ≡ o = cc in ap (λ (x : Op). is_ended es (goroutine_of x)) (sym same)
+pub not_ended : (p : Program) (a : ℕ) (t : Next) (o : Op) (es : List (Entry Op)) → Stands p a t → op_due p t ≡ Some o → ((g : ℕ) → ended_in es g ≡ true → MayBeOver p t g) → goroutine_is_over es (goroutine_of o) ≡ false
+not_ended p a (next.Poll n g) o es h e over = let same : op.Poll ≡ o = cc in ap (λ (x : Op). goroutine_is_over es (goroutine_of x)) (sym same)
 not_ended p a (next.Run n g) o es h e over =
     let same : work_of p n g ≡ o = cc in
-    ap (λ (x : Op). is_ended es (goroutine_of x)) (sym same) ∙ ap (is_ended es) (work_goroutine g (slice_get (statements_of p g) n)) ∙ false_unless (ended_in es g) (λ t. not_past_here p n g h.going (over g t))
-not_ended p a next.Leave o es h e over = let same : op.Leave ≡ o = cc in ap (λ (x : Op). is_ended es (goroutine_of x)) (sym same)
+    ap (λ (x : Op). goroutine_is_over es (goroutine_of x)) (sym same) ∙ ap (goroutine_is_over es) (work_goroutine g (slice_get (statements_of p g) n)) ∙ false_unless (ended_in es g) (λ t. not_past_here p n g h.going (over g t))
+not_ended p a next.Leave o es h e over = let same : op.Leave ≡ o = cc in ap (λ (x : Op). goroutine_is_over es (goroutine_of x)) (sym same)
 not_ended p a next.Over o es h e over = absurd cc
 
-pub not_over : (p : Program) (t : Next) (o : Op) → op_due p t ≡ Some o → is_over t ≡ true → ⊥
+pub not_over : (p : Program) (t : Next) (o : Op) → op_due p t ≡ Some o → leave_is_begun t ≡ true → ⊥
 not_over p (next.Poll n g) o e h = absurd cc
 not_over p _ o e h = absurd cc
 
@@ -121,7 +121,7 @@ pub idle_not_leaving : (t : Task) → is_busy_at t ≡ false → has_left_at t �
 idle_not_leaving Idle h k = refl
 idle_not_leaving _ h k = absurd (cc)
 
-pub has_due : (p : Program) (t : Next) → is_over t ≡ false → (o : Op) × (op_due p t ≡ Some o)
+pub has_due : (p : Program) (t : Next) → leave_is_begun t ≡ false → (o : Op) × (op_due p t ≡ Some o)
 has_due p (next.Poll n g) h = (op.Poll, refl)
 has_due p (next.Run n g) h = (work_of p n g, refl)
 has_due p next.Leave h = (op.Leave, refl)
@@ -134,7 +134,7 @@ none_due p a (next.Run r g) e = absurd cc
 none_due p a next.Leave e = absurd cc
 none_due p a next.Over e = refl
 
-pub none_to_come : (p : Program) (a : ℕ) (t : Next) → is_over t ≡ true → to_come p a t ≡ []
+pub none_to_come : (p : Program) (a : ℕ) (t : Next) → leave_is_begun t ≡ true → to_come p a t ≡ []
 none_to_come p a (next.Poll r g) e = absurd cc
 none_to_come p a next.Over e = refl
 none_to_come p a _ e = absurd cc

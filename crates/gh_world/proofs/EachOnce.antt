@@ -11,9 +11,9 @@ use Rattle.std.proofs.lemmas.Option.{slice_get-get_or, slice_get_past}
 use Rattle.gh_world.specs.Vocabulary.{Answer, Op, Stmt, Program, no_goroutine, statements_of, answers_by, is_statement, work_at}
 use Rattle.gh_base.specs.declared.operation.Op.TheVariants as op
 use Rattle.gh_script.specs.declared.statement.Stmt.TheVariants as stmts
-use Rattle.gh_script.specs.Program.{Goroutine, op_of}
+use Rattle.gh_script.specs.Program.{Goroutine, statement_as_op}
 use Rattle.gh_lists.specs.Order.{Answered}
-use Rattle.gh_world.specs.Turns.{count_of, has_turn, is_of_seat, total_of, turn_of, round_of, turns_of, answers_to, goroutine_at, is_statement_of}
+use Rattle.gh_world.specs.Turns.{count_of, has_turn, is_of_seat, total_of, turn_of, round_of, turns_of, answers_to, its_goroutine, is_statement_of}
 use Rattle.gh_world.specs.Runs.{acted_by}
 use Rattle.gh_world.proofs.Turning.{statement_is, goroutine_is, has_statement, count-le}
 
@@ -29,15 +29,15 @@ module _ (p : Program) (g : ℕ) where
   mine os = filter (is_statement_of g) os
 
   abbrev piece : Option Stmt → List Op
-  piece s = map (op_of g) (option_to_list s)
+  piece s = map (statement_as_op g) (option_to_list s)
 
-  mine_is : (s : Stmt) → is_statement_of g (op_of g s) ≡ true
-  mine_is s = ap (λ (b : Bool). b && eqb (goroutine_at (op_of g s)) g) (statement_is g s) ∙ ap (λ (h : ℕ). eqb h g) (goroutine_is g s) ∙ eq-eqb g g refl
+  mine_is : (s : Stmt) → is_statement_of g (statement_as_op g s) ≡ true
+  mine_is s = ap (λ (b : Bool). b && eqb (its_goroutine (statement_as_op g s)) g) (statement_is g s) ∙ ap (λ (h : ℕ). eqb h g) (goroutine_is g s) ∙ eq-eqb g g refl
 
-  not_mine : (h : ℕ) (s : Stmt) → (h ≡ g → ⊥) → is_statement_of g (op_of h s) ≡ false
+  not_mine : (h : ℕ) (s : Stmt) → (h ≡ g → ⊥) → is_statement_of g (statement_as_op h s) ≡ false
   not_mine h s ne =
       let apart : eqb h g ≡ false = grind (arith, nat_tests) in
-      ap (λ (b : Bool). b && eqb (goroutine_at (op_of h s)) g) (statement_is h s) ∙ ap (λ (k : ℕ). eqb k g) (goroutine_is h s) ∙ apart
+      ap (λ (b : Bool). b && eqb (its_goroutine (statement_as_op h s)) g) (statement_is h s) ∙ ap (λ (k : ℕ). eqb k g) (goroutine_is h s) ∙ apart
 
   -- a goroutine that there is not has no statement
   pub none_beyond : length p.goroutines ≤ g → statements_of p g ≡ []
@@ -56,7 +56,7 @@ module _ (p : Program) (g : ℕ) where
       go : (b : Bool) (s : Option Stmt) → mine (cond b (op.Poll ∷ work_at h s ∷ []) []) ≡ []
       go false s = refl
       go true None = refl
-      go true (Some s) = ap (λ (b : Bool). cond b (op_of h s ∷ []) []) (not_mine h s ne)
+      go true (Some s) = ap (λ (b : Bool). cond b (statement_as_op h s ∷ []) []) (not_mine h s ne)
 
     -- turns in which it has no statement
     none_of : (r n h : ℕ) → ((k : ℕ) → h ≤ k → k < h + n → mine (turn_of p a r k) ≡ []) → mine (flat_map (turn_of p a r) (range_with_len h n)) ≡ []
@@ -74,7 +74,7 @@ module _ (p : Program) (g : ℕ) where
         go false None e t = refl
         go false (Some s) e t = absurd (let past = leb-false r (count_of p g) e in let lt = has_statement p (statements_of p g) r s t in omega arith)
         go true None e t = refl
-        go true (Some s) e t = ap (λ (b : Bool). cond b (op_of g s ∷ []) []) (mine_is s)
+        go true (Some s) e t = ap (λ (b : Bool). cond b (statement_as_op g s ∷ []) []) (mine_is s)
 
       here : (r n h : ℕ) → h ≤ g → g < h + n → mine (flat_map (turn_of p a r) (range_with_len h n)) ≡ piece (slice_get (statements_of p g) r)
       here r zero h low high = absurd (omega arith)
@@ -96,16 +96,16 @@ module _ (p : Program) (g : ℕ) where
             ∙ sym (ap (λ (xs : List Stmt). piece (slice_get xs r)) (none_beyond le) ∙ ap piece (slice_get_past [] r (omega arith)))
       ]
 
-      rounds_mine : (n r : ℕ) → count_of p g ≤ r + n → mine (flat_map (round_of p a) (range_with_len r n)) ≡ map (op_of g) (drop r (statements_of p g))
-      rounds_mine zero r few = ap (map (op_of g)) (sym (drop_all r (statements_of p g) (omega arith)))
+      rounds_mine : (n r : ℕ) → count_of p g ≤ r + n → mine (flat_map (round_of p a) (range_with_len r n)) ≡ map (statement_as_op g) (drop r (statements_of p g))
+      rounds_mine zero r few = ap (map (statement_as_op g)) (sym (drop_all r (statements_of p g) (omega arith)))
       rounds_mine (suc n) r few =
           filter-append (is_statement_of g) (round_of p a r) (flat_map (round_of p a) (range_with_len (r + 1) n))
           ∙ ap (λ (os : List Op). os ++ mine (flat_map (round_of p a) (range_with_len (r + 1) n))) (round_mine r)
           ∙ ap (λ (os : List Op). piece (slice_get (statements_of p g) r) ++ os) (rounds_mine n (r + 1) (omega arith))
-          ∙ pieces (op_of g) (statements_of p g) r
+          ∙ pieces (statement_as_op g) (statements_of p g) r
 
       -- its statements among the turns are those of the script
-      pub turns_mine : mine (turns_of p a) ≡ map (op_of g) (statements_of p g)
+      pub turns_mine : mine (turns_of p a) ≡ map (statement_as_op g) (statements_of p g)
       unfolding turns_of
       turns_mine =
           filter-append (is_statement_of g) (flat_map (round_of p a) (range_with_len 0 (total_of p + 1))) (op.Leave ∷ [])
@@ -149,8 +149,8 @@ module _ (p : Program) (g : ℕ) where
   -- and which answers
   pub acted_answers : (xs : List Answered) → map (λ (a : Answered). a.answer) (acted_by g xs) ≡ answers_by g (answers_to (map (λ (a : Answered). a.op) xs) (map (λ (a : Answered). a.answer) xs))
   acted_answers [] = refl
-  acted_answers (x ∷ xs) = go (is_statement x.op) (eqb (goroutine_at x.op) g) refl (acted_answers xs) where
-    go : (b c : Bool) → eqb (goroutine_at x.op) g ≡ c → map (λ (a : Answered). a.answer) (acted_by g xs) ≡ answers_by g (rest_of xs) → map (λ (a : Answered). a.answer) (cond (b && c) (x ∷ acted_by g xs) (acted_by g xs)) ≡ answers_by g (cond b ((goroutine_at x.op, x.answer) ∷ []) [] ++ rest_of xs)
+  acted_answers (x ∷ xs) = go (is_statement x.op) (eqb (its_goroutine x.op) g) refl (acted_answers xs) where
+    go : (b c : Bool) → eqb (its_goroutine x.op) g ≡ c → map (λ (a : Answered). a.answer) (acted_by g xs) ≡ answers_by g (rest_of xs) → map (λ (a : Answered). a.answer) (cond (b && c) (x ∷ acted_by g xs) (acted_by g xs)) ≡ answers_by g (cond b ((its_goroutine x.op, x.answer) ∷ []) [] ++ rest_of xs)
     go false c e ih = ih
     go true true e ih = ap (λ (as' : List Answer). x.answer ∷ as') ih ∙ ap (λ (d : Bool). cond d (x.answer ∷ []) [] ++ answers_by g (rest_of xs)) (sym e)
     go true false e ih = ih ∙ ap (λ (d : Bool). cond d (x.answer ∷ []) [] ++ answers_by g (rest_of xs)) (sym e)

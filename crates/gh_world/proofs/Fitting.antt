@@ -2,20 +2,20 @@
 use Rattle.std.proofs.Common.{◌≡◌, ℕ, ◌+◌, ◌^◌, ◌<◌, ◌≤◌, Bool, true, false, cond, List, length, replicate, get_or, slice_index, length-set, refl, sym, ◌∙◌, ap, subst, Option, Some, None, arith}
 use Rattle.std.specs.Prelude.{sum_by}
 use Rattle.std.proofs.lemmas.List.Sums.{sum_by-set}
-use Rattle.gh_mutator.specs.PollRoom.{MayStore, PollsMakeRoom}
+use Rattle.gh_mutator.specs.PollRoom.{HasRoomToStore, PollsMakeRoom}
 use Rattle.gh_mutator.specs.Sound.{has_room, SoundOp}
 use Rattle.gh_world.specs.Turns.{is_poll_due, is_run_due, Stands, total_by}
 use Rattle.gh_world.specs.declared.turns.Next.TheVariants as next
 use Rattle.gh_base.specs.declared.operation.Op.TheVariants as op
 use Rattle.gh_base.specs.declared.cell.Req.{Req}
-use Rattle.gh_coord.specs.Stays.{room_stays, stays as coord_stays}
+use Rattle.gh_coord.specs.Stays.{cycle_room_stays, stays as coord_stays}
 use Rattle.gh_coord.specs.Listing as coord
 use Rattle.gh_worker.specs.Stays.{stays as worker_stays}
 use Rattle.gh_worker.specs.Listing as worker
 use Rattle.gh_world.specs.declared.runner.Runner.{Runner}
 use Rattle.gh_world.specs.World.{answered_by, AreOpening, AreTurns, Begins, Fit, FitOthers, FitRunners, FitTurns, FitWords, IsOpening, LaysOut, op_at_turn, counts_after, last_after, begun_as, done_or, found_by, IsStepOfWorker, Polled, State, stated_after, stated_by, workers_at}
 use Rattle.gh_world.specs.declared.event.Event.TheVariants as event
-use Rattle.gh_world.proofs.Vocabulary.{acts, Answer, begins_at, begins, bit, cell_of, changed, Event, Follows, get_or-map-range_with_len, get_or_from_slice_get, gives_at, GoesOnUntilDone, goroutine_at, has_left_at, has_names, InRange, is_busy_at, is_over, is_point, is_some, is_statement, is_unacted, later, Layout, length-map-range_with_len, most_cycles, Mutating, Next, Op, op_at, op_due, opening_processor, opening_progress, Processor, Program, Progress, progress_after, read_after_set, read_replicate, request, set, Shape, slice_get, slice_get_within, statement_answer, statements_among, takes, target, to_come, total_of, turns_of, WellFormed}
+use Rattle.gh_world.proofs.Vocabulary.{acts, Answer, begins_at, begins, bit, cell_of, changed, Event, Follows, get_or-map-range_with_len, get_or_from_slice_get, gives_at, GoesOnUntilDone, its_goroutine, has_left_at, has_names, InRange, is_busy_at, leave_is_begun, is_point, is_some, is_statement, is_unacted, later, Layout, length-map-range_with_len, most_cycles, Mutating, Next, Op, op_at, op_due, opening_processor, opening_progress, Processor, Program, Progress, progress_after, read_after_set, read_replicate, request, set, Shape, slice_get, slice_get_within, statement_answer, statements_among, takes, target, to_come, total_of, turns_of, WellFormed}
 use Rattle.gh_world.proofs.StepFacts.{step_facts, begin_facts, StepFacts, BeginFacts, begins_busy}
 use Rattle.gh_world.proofs.Turning.{opens_at, total_by-le, totals-le, turns_say}
 use Rattle.gh_world.proofs.Runners.{each_set, sum_at, sum_each}
@@ -25,19 +25,19 @@ use Rattle.gh_world.proofs.Due.{due_goroutine, due_runs, due_statement, few_stat
 
 counts_long : (t : Progress) (o : Op) → length t.begun ≡ 32 → length (counts_after t (Some o)) ≡ 32
 counts_long t o long = go (is_statement o) where
-  go : (b : Bool) → length (cond b (set t.begun (goroutine_at o) (get_or t.begun (goroutine_at o) 0 + 1)) t.begun) ≡ 32
+  go : (b : Bool) → length (cond b (set t.begun (its_goroutine o) (get_or t.begun (its_goroutine o) 0 + 1)) t.begun) ≡ 32
   go true = simp length-set long
   go false = long
 
 counts_few : (t : Progress) (o : Op) → ((g : ℕ) → get_or t.begun g 0 ≤ t.stated) → (g : ℕ) → get_or (counts_after t (Some o)) g 0 ≤ t.stated + bit (is_statement o)
 counts_few t o few g = go (is_statement o) where
-  go : (b : Bool) → get_or (cond b (set t.begun (goroutine_at o) (get_or t.begun (goroutine_at o) 0 + 1)) t.begun) g 0 ≤ t.stated + bit b
-  go true = read_after_set (λ (n : ℕ). n ≤ t.stated + 1) t.begun (goroutine_at o) g (get_or t.begun (goroutine_at o) 0 + 1) 0 (λ e. omega (arith, few (goroutine_at o))) (omega (arith, few g))
+  go : (b : Bool) → get_or (cond b (set t.begun (its_goroutine o) (get_or t.begun (its_goroutine o) 0 + 1)) t.begun) g 0 ≤ t.stated + bit b
+  go true = read_after_set (λ (n : ℕ). n ≤ t.stated + 1) t.begun (its_goroutine o) g (get_or t.begun (its_goroutine o) 0 + 1) 0 (λ e. omega (arith, few (its_goroutine o))) (omega (arith, few g))
   go false = omega (arith, few g)
 
-last_few : (t : Progress) (o : Op) → t.last < 32 → (is_statement o ≡ true → goroutine_at o < 32) → last_after t (Some o) < 32
+last_few : (t : Progress) (o : Op) → t.last < 32 → (is_statement o ≡ true → its_goroutine o < 32) → last_after t (Some o) < 32
 last_few t o before new = go (is_statement o) new where
-  go : (b : Bool) → (b ≡ true → goroutine_at o < 32) → cond b (goroutine_at o) t.last < 32
+  go : (b : Bool) → (b ≡ true → its_goroutine o < 32) → cond b (its_goroutine o) t.last < 32
   go true h = h refl
   go false h = before
 
@@ -57,8 +57,8 @@ due_room k p m next.Over o idle due polled = absurd (cc)
 
 pub polled_begun : PollsMakeRoom → (p : Program) (shapes : List Shape) (m : Processor) (t new : Next) (o : Op) → op_due p t ≡ Some o → is_run_due new ≡ is_poll_due t → Polled new (begins shapes m o)
 polled_begun k p shapes m t (next.Run r g) o due behind = by t due behind where
-  by : (t : Next) → op_due p t ≡ Some o → true ≡ is_poll_due t → MayStore (begins shapes m o)
-  by (next.Poll r g) due behind = let same : op.Poll ≡ o = cc in subst (λ (x : Op). MayStore (begins shapes m x)) same (k.begins shapes m)
+  by : (t : Next) → op_due p t ≡ Some o → true ≡ is_poll_due t → HasRoomToStore (begins shapes m o)
+  by (next.Poll r g) due behind = let same : op.Poll ≡ o = cc in subst (λ (x : Op). HasRoomToStore (begins shapes m x)) same (k.begins shapes m)
   by (next.Run r g) due behind = absurd (cc)
   by _ due behind = absurd (cc)
 polled_begun k p shapes m t (next.Poll r g) o due behind = tt
@@ -243,7 +243,7 @@ module _ (polls : PollsMakeRoom) (w : State) (points room : ℕ) (f : Fit w poin
       omega (arith, one, few, ran.pointed, ran.reserved)
 
 -- before the first step
-fit_opening : (p : Program) (l : Layout) (a : ℕ) (first : Next) → to_come p a first ≡ later p a 0 0 → Stands p a first → is_over first ≡ false → FitTurns p l a (mutating.opening l a p.shapes) (opening_progress first)
+fit_opening : (p : Program) (l : Layout) (a : ℕ) (first : Next) → to_come p a first ≡ later p a 0 0 → Stands p a first → leave_is_begun first ≡ false → FitTurns p l a (mutating.opening l a p.shapes) (opening_progress first)
 fit_opening p l a first come stands over =
     record {
       turns = turns_open p a first come stands;
@@ -282,7 +282,7 @@ fits_again p l list new r is f = record { script = f.script; layout = f.layout; 
 
 -- a step of the coordinator, and of a worker, changes no layout; and the coordinator goes on until it is done
 pub others_led : GoesOnUntilDone → (p : Program) (l : Layout) (workers : List worker.Working) (c : coord.Coordinating) (found : ℕ) → coord.is_busy c.stage ≡ true → FitOthers p l workers c → FitOthers p l workers (coord.goes c found)
-others_led on p l workers c found busy f = record { many = f.many; laid = f.laid; leads = coord_stays c found ∙ f.leads; room = room_stays c found ∙ f.room; goes_on = on.step c found busy }
+others_led on p l workers c found busy f = record { many = f.many; laid = f.laid; leads = coord_stays c found ∙ f.leads; room = cycle_room_stays c found ∙ f.room; goes_on = on.step c found busy }
 
 pub others_worked : (p : Program) (l : Layout) (workers : List worker.Working) (c : coord.Coordinating) (i found : ℕ) (x : worker.Working) → slice_get workers i ≡ Some x → FitOthers p l workers c → FitOthers p l (set workers i (worker.goes x found)) c
 others_worked p l workers c i found x is f = record {

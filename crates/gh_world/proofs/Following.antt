@@ -2,7 +2,7 @@
 use Rattle.std.proofs.Common.{◌≡◌, ℕ, zero, suc, ◌+◌, ◌-◌, ◌≤◌, Bool, true, false, List, [], ◌∷◌, length, refl, subst, ◌∙◌, Some, arith, ◌⊎◌, inl, inr}
 use Rattle.gh_base.specs.declared.operation.Op.TheVariants as op
 use Rattle.gh_world.specs.declared.turns.Next.TheVariants as next
-use Rattle.gh_world.specs.Turns.{Follows, has_turn, HasTurn, is_over, is_poll_due, is_run_due, IsPast, later, MayBeOver, op_due, Stands, to_come}
+use Rattle.gh_world.specs.Turns.{Follows, has_turn, HasTurn, is_poll_due, is_run_due, IsPast, later, leave_is_begun, MayBeOver, op_due, Stands, to_come}
 use Rattle.gh_world.specs.Vocabulary.{Next, Op, Program, work_of}
 use Rattle.gh_world.proofs.Turning.{count-le, follows_run, has_one, later_after, later_here, later_none, none_from, over_here, over_next, passed, turn_stands, turns_from}
 
@@ -29,7 +29,7 @@ pub record Coming (p : Program) (a r g : ℕ) : Type 0 where
   pub come : to_come p a turn ≡ later p a r g
   pub stands : Stands p a turn
   pub over : (h : ℕ) → IsPast p r g h → MayBeOver p turn h
-  pub going : is_over turn ≡ false
+  pub going : leave_is_begun turn ≡ false
   pub no_run : is_run_due turn ≡ false
 
 pub coming : (p : Program) (a r g : ℕ) → g ≤ length p.goroutines → Coming p a r g

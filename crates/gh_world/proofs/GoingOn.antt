@@ -8,12 +8,12 @@ use Rattle.gh_worker.specs.Listing as worker
 use Rattle.gh_lists.specs.declared.handshake.Actor.TheVariants as actor
 use Rattle.gh_world.specs.declared.turns.Next.TheVariants as next
 use Rattle.gh_law.specs.Actors.{AllStands}
-use Rattle.gh_lists.specs.Handshake.{takes as takes_by}
+use Rattle.gh_lists.specs.Handshake.{actor_takes}
 use Rattle.gh_world.specs.Runs.{GoesOnBy, has_ended_in, IsRun, IsRunSoFar}
 use Rattle.gh_world.specs.Schedule.{ended_after as ended_at, has_ended}
 use Rattle.gh_world.specs.Turns.{is_run_due, Stands}
 use Rattle.gh_world.specs.World.{LaysOut, MadeAtMost, Polled, pacing_of, setup_of}
-use Rattle.gh_world.proofs.Vocabulary.{acks_of, Actor, actor_after, acts, Begins, begins, begins_at, begun_in, bit, by, cell_of, ended_in, ends, Entry, eqb-true, gives_at, GoesOnUntilDone, has_left, has_left_at, is_busy_at, is_leaving, is_over, is_statement, Kind, Layout, leaves, Legal, made_by, MayBeOver, Next, Op, op_due, opening_processor, option_to_list, Processor, processor_kind, Program, setting_of, started, state_of, statements_among, takes, Task, to_come, total_of, turns_of, WellFormed, words_after, read_replicate}
+use Rattle.gh_world.proofs.Vocabulary.{acks_of, Actor, actor_after, acts, Begins, begins, begins_at, begun_in, bit, by, cell_of, ended_in, ends, Entry, eqb-true, gives_at, GoesOnUntilDone, has_left, has_left_at, is_busy_at, is_leaving, leave_is_begun, is_statement, Kind, Layout, leaves, Legal, made_by, MayBeOver, Next, Op, op_due, opening_processor, option_to_list, Processor, processor_kind, Program, setting_of, started, state_of, statements_among, takes, Task, to_come, total_of, turns_of, WellFormed, words_after, read_replicate}
 use Rattle.gh_world.proofs.MayBegin.{due_begins, ended_then, left_then}
 use Rattle.gh_lists.specs.Seats.{IsSeated, seated}
 use Rattle.gh_world.proofs.Due.{due_runs, false_unless, has_due, idle_not_leaving, none_to_come, not_over}
@@ -63,7 +63,7 @@ module _ (p : Program) (l : Layout) where
       go false true = tt
       go false false = on.at_first l a (pacing_of p).gogc (pacing_of p).minheap (pacing_of p).room
 
-    next_then : (o : Option Op) (x : Actor) (found : ℕ) → all.busy (started all o x) ≡ true → HasNextAt x → HasNextAt (takes_by p.shapes (started all o x) found)
+    next_then : (o : Option Op) (x : Actor) (found : ℕ) → all.busy (started all o x) ≡ true → HasNextAt x → HasNextAt (actor_takes p.shapes (started all o x) found)
     next_then None (actor.Runs m) found busy h = tt
     next_then (Some o) (actor.Runs m) found busy h = tt
     next_then None (actor.Marks w) found busy h = tt
@@ -74,7 +74,7 @@ module _ (p : Program) (l : Layout) where
     next_at : (es : List (Entry Op)) → Lawful es → (a : ℕ) → HasNextAt (actor_after p l es a)
     next_at [] legal a = next_first a
     next_at (e ∷ es) legal a = go (eqb e.actor a) refl (next_at es legal.0 a) where
-      go : (b : Bool) → eqb e.actor a ≡ b → HasNextAt (actor_after p l es a) → HasNextAt (cond b (takes_by p.shapes (started all e.begun (actor_after p l es a)) e.found) (actor_after p l es a))
+      go : (b : Bool) → eqb e.actor a ≡ b → HasNextAt (actor_after p l es a) → HasNextAt (cond b (actor_takes p.shapes (started all e.begun (actor_after p l es a)) e.found) (actor_after p l es a))
       go false x h = h
       go true x h =
           let same : e.actor ≡ a = eqb-true e.actor a x in
@@ -104,11 +104,11 @@ module _ (p : Program) (l : Layout) (formed : WellFormed p) (lays : LaysOut p l)
       made : MadeAtMost stated m
       stands : Stands p a turn
       all : stated + statements_among (to_come p a turn) ≤ total_of p
-      leaves : is_leaving m.task ≡ is_over turn
+      leaves : is_leaving m.task ≡ leave_is_begun turn
       polled : Polled turn m
       turns : turns_of p a ≡ reverse bs ++ to_come p a turn
       ended : (g : ℕ) → over g ≡ true → MayBeOver p turn g
-      left : gone ≡ true → is_over turn ≡ true
+      left : gone ≡ true → leave_is_begun turn ≡ true
 
     -- behind a list, and where this is begun behind it
     abbrev Behind : List (Entry Op) → Type 0

@@ -4,14 +4,14 @@ use Rattle.std.specs.Prelude.{not}
 use Rattle.gh_base.specs.declared.operation.Op.TheVariants as op
 use Rattle.gh_mutator.specs.Sound.{has_room}
 use Rattle.gh_world.specs.declared.turns.Next.TheVariants as next
-use Rattle.gh_world.specs.Due.{FitsIn}
+use Rattle.gh_world.specs.Due.{FitsOwnEntries}
 use Rattle.gh_lists.specs.Order.{goroutine_of}
 use Rattle.gh_lists.specs.Processors.{arena_of, has_more, is_of, may_begin}
 use Rattle.gh_world.specs.Turns.{Stands}
 use Rattle.gh_world.specs.Vocabulary.{most_objects, statements_of, work_of}
 use Rattle.gh_world.specs.Wishes.{wishes_of}
 use Rattle.gh_world.specs.World.{LaysOut, MadeAtMost}
-use Rattle.gh_world.proofs.Vocabulary.{Actor, Begins, begun_in, by, ended_in, ends, Entry, eq-eqb, Follows, has_left, has_names, is_busy_at, is_leave, is_over, is_statement, later, Layout, leaves, may_leave, MayBeOver, Next, Op, op_due, Processor, processor_kind, Program, setting_of, slice_get, state_of, statements_among, to_come, total_of, turns_of, WellFormed, ◌%◌}
+use Rattle.gh_world.proofs.Vocabulary.{Actor, Begins, begun_in, by, ended_in, ends, Entry, eq-eqb, Follows, has_left, has_names, is_busy_at, is_leave, is_statement, later, Layout, leave_is_begun, leaves, may_leave, MayBeOver, Next, Op, op_due, Processor, processor_kind, Program, setting_of, slice_get, state_of, statements_among, to_come, total_of, turns_of, WellFormed, ◌%◌}
 use Rattle.gh_world.proofs.Asking.{all_then, has_wish}
 use Rattle.gh_world.proofs.Due.{both_true, due_runs, due_statement, ends_is, false_unless, few_statements, has_name_at, leaves_is, not_ended, not_over, work_goroutine}
 use Rattle.gh_world.proofs.Resting.{is_processor}
@@ -26,9 +26,9 @@ ended_then p a t o new over follows before g h = go (ends (Some o) g) refl h whe
   go true e q = follows.ends g (ends_is o g e)
   go false e q = follows.over g (before g q)
 
-pub left_then : (p : Program) (a : ℕ) (t : Next) (o : Op) (new : Next) (gone : Bool) → Follows p a t o new → op_due p t ≡ Some o → (gone ≡ true → is_over t ≡ true) → (leaves (Some o) || gone) ≡ true → is_over new ≡ true
+pub left_then : (p : Program) (a : ℕ) (t : Next) (o : Op) (new : Next) (gone : Bool) → Follows p a t o new → op_due p t ≡ Some o → (gone ≡ true → leave_is_begun t ≡ true) → (leaves (Some o) || gone) ≡ true → leave_is_begun new ≡ true
 left_then p a t o new gone follows due before h = go (leaves (Some o)) refl h where
-  go : (c : Bool) → leaves (Some o) ≡ c → (c || gone) ≡ true → is_over new ≡ true
+  go : (c : Bool) → leaves (Some o) ≡ c → (c || gone) ≡ true → leave_is_begun new ≡ true
   go true e q = follows.leaves ∙ sym (leaves_is o) ∙ e
   go false e q = absurd (not_over p t o due (before q))
 
@@ -74,7 +74,7 @@ module _ (p : Program) (l : Layout) (formed : WellFormed p) (lays : LaysOut p l)
   leaves_at es next.Over o due turns = absurd cc
 
   -- so it fits in with what the processor has begun
-  pub due_fits : (es : List (Entry Op)) (t : Next) (o : Op) → op_due p t ≡ Some o → Stands p a t → turns_of p a ≡ reverse (begun_in es) ++ to_come p a t → ((g : ℕ) → ended_in es g ≡ true → MayBeOver p t g) → (has_left es ≡ true → is_over t ≡ true) → FitsIn p l a es o
+  pub due_fits : (es : List (Entry Op)) (t : Next) (o : Op) → op_due p t ≡ Some o → Stands p a t → turns_of p a ≡ reverse (begun_in es) ++ to_come p a t → ((g : ℕ) → ended_in es g ≡ true → MayBeOver p t g) → (has_left es ≡ true → leave_is_begun t ≡ true) → FitsOwnEntries p l a es o
   due_fits es t o due stands turns over left =
       let come = come_due t o due in
       record {
@@ -89,7 +89,7 @@ module _ (p : Program) (l : Layout) (formed : WellFormed p) (lays : LaysOut p l)
   -- where nothing is begun
   pub due_begins : (seat : a < l.procs) → ((es : List (Entry Op)) → state_of (processor_kind p.shapes l) a es ≡ state_of (processor_kind p.shapes l) a (by a es)) → (es : List (Entry Op)) (t : Next) (o : Op) (stated : ℕ) → is_busy_at (state_of (processor_kind p.shapes l) a es).task ≡ false → op_due p t ≡ Some o →
       MadeAtMost stated (state_of (processor_kind p.shapes l) a es) → Stands p a t → stated + statements_among (to_come p a t) ≤ total_of p → turns_of p a ≡ reverse (begun_in (by a es)) ++ to_come p a t →
-      ((g : ℕ) → ended_in (by a es) g ≡ true → MayBeOver p t g) → (has_left (by a es) ≡ true → is_over t ≡ true) → has_room (state_of (processor_kind p.shapes l) a es) o ≡ true → Begins (setting_of p l) a es (Some o)
+      ((g : ℕ) → ended_in (by a es) g ≡ true → MayBeOver p t g) → (has_left (by a es) ≡ true → leave_is_begun t ≡ true) → has_room (state_of (processor_kind p.shapes l) a es) o ≡ true → Begins (setting_of p l) a es (Some o)
   due_begins seat own es t o stated idle due made stands all turns over left room =
       let m = state_of (processor_kind p.shapes l) a es in
       let fs = by a es in

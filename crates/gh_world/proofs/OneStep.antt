@@ -175,7 +175,7 @@ pub few_work : (w v : State) (i : ℕ) (happened : Event) → Kept w → IsStepO
 few_work w v i happened f st = rw st.others (answered_all w.script w.layout w.runners f.noted f.room f.fit.running)
 
 -- behind the workers it is the coordinator that is done, or is not
-lead_done : (w : State) (a : ℕ) → length w.runners + length w.workers ≤ a → coord.is_done w.coord.stage ≡ is_done w a
+lead_done : (w : State) (a : ℕ) → length w.runners + length w.workers ≤ a → coord.is_done_at w.coord.stage ≡ is_done w a
 lead_done w a high =
     let at : a ≡ length w.runners + (a - length w.runners) = omega (arith, high) in
     let none = slice_get_past w.workers (a - length w.runners) (omega (arith, high)) in
@@ -186,7 +186,7 @@ pub busy_lead : (w : State) (a : ℕ) → Kept w → length w.runners + length w
 busy_lead w a f high going = f.fit.others.goes_on ∙ ap not (lead_done w a high ∙ going)
 
 -- one that is done has no credit that is about to lapse
-pub lapsed_at_end : (lapsed : ℕ) (stage : CoordStage) → coord.is_done stage ≡ true → coord.lapsed_at lapsed stage ≡ lapsed
+pub lapsed_at_end : (lapsed : ℕ) (stage : CoordStage) → coord.is_done_at stage ≡ true → coord.lapsed_at lapsed stage ≡ lapsed
 lapsed_at_end lapsed (Close c) done = absurd cc
 lapsed_at_end lapsed _ done = refl
 

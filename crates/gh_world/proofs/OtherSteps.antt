@@ -1,7 +1,7 @@
 -- One step of a worker, or of the coordinator, in a world is one entry more of a legal list; and what a world is before its first step.
 use Rattle.std.proofs.Common.{◌≡◌, ℕ, ◌+◌, ◌<◌, ◌≤◌, true, false, eqb, ltb, List, [], ◌∷◌, ◌++◌, length, get_or, refl, sym, ◌∙◌, ap, Option, Some, None, arith}
 use Rattle.std.proofs.lemmas.List.{append-nil}
-use Rattle.gh_world.specs.Vocabulary.{Shows, Cycle}
+use Rattle.gh_world.specs.Vocabulary.{ShowsCells, Cycle}
 use Rattle.gh_base.specs.Steps.{IsShown}
 use Rattle.gh_coord.specs.Listing as coord
 use Rattle.gh_worker.specs.Listing as worker
@@ -174,7 +174,7 @@ module _ (p : Program) (l : Layout) where
       let same : ltb (acks_of l) (acks_of l) ≡ false = grind (arith, nat_tests) in
       rw (above, same) refl
 
-  pub after_opens : (list : List ℕ) (runners : List Runner) → Shows l list (setting_of p l).opening → AreOpening p l runners →
+  pub after_opens : (list : List ℕ) (runners : List Runner) → ShowsCells l list (setting_of p l).opening → AreOpening p l runners →
       After p l (record { words = list; runners = runners; workers = workers_at l; coord = coord.opening l (acks_of l) p.settings.gogc p.settings.minheap (most_cycles p); points = [] }) []
   after_opens list runners shows opening = record {
     legal = tt;

@@ -9,8 +9,8 @@ use Rattle.gh_lists.specs.declared.handshake.Actor.TheVariants as actor
 use Rattle.gh_world.specs.declared.runner.Runner.{Runner}
 use Rattle.gh_world.specs.After.{IsAfter, KeepsPlace}
 use Rattle.gh_lists.specs.Order.{begun_in, ended_in, has_left}
-use Rattle.gh_world.specs.Turns.{is_over, MayBeOver, statements_by, to_come, turns_of}
-use Rattle.gh_world.specs.Vocabulary.{acks_of, Entry, Layout, Legal, MOST_GOROUTINES, Op, Processor, processor_kind, Program, Shows, state_of, words_after, by}
+use Rattle.gh_world.specs.Turns.{leave_is_begun, MayBeOver, statement_count, to_come, turns_of}
+use Rattle.gh_world.specs.Vocabulary.{acks_of, Entry, Layout, Legal, MOST_GOROUTINES, Op, Processor, processor_kind, Program, ShowsCells, state_of, words_after, by}
 use Rattle.gh_world.specs.World.{actor_after, actor_of, actors_of, marks_at, marks_by, marks_of, now_by, points_in, runner_or, setting_of, State, worker_or}
 use Rattle.gh_world.proofs.Resting.{is_processor}
 
@@ -18,10 +18,10 @@ use Rattle.gh_world.proofs.Resting.{is_processor}
 pub record IsRunnerAt (p : Program) (l : Layout) (a : ℕ) (x : Runner) (es : List (Entry Op)) : Type 0 where
   pub processor : x.mutator.processor ≡ state_of (processor_kind p.shapes l) a es
   pub turns : turns_of p a ≡ reverse (begun_in (by a es)) ++ to_come p a x.progress.next
-  pub counted : (g : ℕ) → g < MOST_GOROUTINES → slice_index x.progress.begun g ≡ statements_by g (begun_in (by a es))
+  pub counted : (g : ℕ) → g < MOST_GOROUTINES → slice_index x.progress.begun g ≡ statement_count g (begun_in (by a es))
   pub now : (x.progress.last, slice_index x.progress.begun x.progress.last) ≡ now_by a es
   pub ended : (g : ℕ) → ended_in (by a es) g ≡ true → MayBeOver p x.progress.next g
-  pub left : has_left (by a es) ≡ true → is_over x.progress.next ≡ true
+  pub left : has_left (by a es) ≡ true → leave_is_begun x.progress.next ≡ true
   pub marked : x.mutator.marks ≡ marks_at p.shapes l a es
 
 -- the words, the processors, the workers, the coordinator and the points of a world
@@ -38,7 +38,7 @@ parts_of w = record { words = w.words; runners = w.runners; workers = w.workers;
 -- So they stand after the list.
 pub record After (p : Program) (l : Layout) (w : Parts) (es : List (Entry Op)) : Type 0 where
   pub legal : Legal (setting_of p l) es
-  pub words : Shows l w.words (words_after (setting_of p l).opening es)
+  pub words : ShowsCells l w.words (words_after (setting_of p l).opening es)
   pub running : (a : ℕ) (x : Runner) → slice_get w.runners a ≡ Some x → IsRunnerAt p l a x es
   pub marking : (i : ℕ) (x : worker.Working) → slice_get w.workers i ≡ Some x → actor_after p l es (l.procs + i) ≡ actor.Marks x
   pub many : length w.runners ≡ l.procs

@@ -2,12 +2,12 @@
 use Rattle.std.proofs.Common.{◌≡◌, ℕ, ◌<◌, Bool, true, false, cond, eqb, ◌||◌, List, [], ◌∷◌, ◌++◌, reverse, refl, sym, ◌∙◌, ap, Option, Some, None}
 use Rattle.gh_world.specs.After.{KeepsPlace}
 use Rattle.gh_world.specs.Due.{EachKeepsItsPlace, WhatIsDueFits}
-use Rattle.gh_world.specs.Turns.{statement_now, statements_by}
+use Rattle.gh_world.specs.Turns.{statement_count, statement_now}
 use Rattle.gh_world.specs.World.{AreTurns}
 use Rattle.gh_world.proofs.Due.{due_goroutine, false_unless}
 use Rattle.gh_world.proofs.MayBegin.{due_fits, ended_then, left_then}
 use Rattle.gh_world.proofs.OneRun.{one_more}
-use Rattle.gh_world.proofs.Vocabulary.{begun_in, by, ended_in, ends, Entry, eq-eqb, eqb-true, Follows, goroutine_at, has_left, is_statement, leaves, Next, Op, op_due, opening_progress, option_to_list, Program, Progress, progress_after, read_replicate, to_come, turns_of, WellFormed}
+use Rattle.gh_world.proofs.Vocabulary.{begun_in, by, ended_in, ends, Entry, eq-eqb, eqb-true, Follows, has_left, is_statement, its_goroutine, leaves, Next, Op, op_due, opening_progress, option_to_list, Program, Progress, progress_after, read_replicate, to_come, turns_of, WellFormed}
 use Rattle.gh_world.proofs.WorldFacts.{counted_after, now_after}
 
 pub what_is_due_fits : WhatIsDueFits
@@ -28,7 +28,7 @@ module _ (p : Program) (a : ℕ) where
     as_before : (fs : List (Entry Op)) → begun_in (by a fs) ≡ begun_in (by a es) → ((g : ℕ) → ended_in (by a fs) g ≡ ended_in (by a es) g) → has_left (by a fs) ≡ has_left (by a es) → KeepsPlace p a t fs
     as_before fs begun ended left = record {
       turns = k.turns ∙ ap (λ (os : List Op). reverse os ++ to_come p a t.next) (sym begun);
-      counted = λ g lt. k.counted g lt ∙ ap (statements_by g) (sym begun);
+      counted = λ g lt. k.counted g lt ∙ ap (statement_count g) (sym begun);
       now = k.now ∙ ap statement_now (sym begun);
       ended = λ g h. k.ended g (sym (ended g) ∙ h);
       left = λ h. k.left (sym left ∙ h);
@@ -57,10 +57,10 @@ module _ (p : Program) (a : ℕ) where
         let own : by a (e ∷ es) ≡ e ∷ by a es = ap (λ (b : Bool). cond b (e ∷ by a es) (by a es)) (ap (λ (n : ℕ). eqb n a) its ∙ eq-eqb a a refl) in
         let bs = begun_in (by a es) in
         let begun : begun_in (by a (e ∷ es)) ≡ o ∷ bs = ap begun_in own ∙ ap (λ (b : Option Op). option_to_list b ++ bs) is in
-        let here : (x : Op) → Some o ≡ Some x → is_statement x ≡ true → goroutine_at x < 32 = λ x same sure. due_goroutine p a t.next x formed turns.stands (due ∙ same) sure in
+        let here : (x : Op) → Some o ≡ Some x → is_statement x ≡ true → its_goroutine x < 32 = λ x same sure. due_goroutine p a t.next x formed turns.stands (due ∙ same) sure in
         record {
           turns = k.turns ∙ ap (λ (os : List Op). reverse bs ++ os) follows.come ∙ sym (one_more o bs (to_come p a new)) ∙ ap (λ (os : List Op). reverse os ++ to_come p a new) (sym begun);
-          counted = λ g lt. counted_after t (Some o) bs turns.columns here k.counted g lt ∙ ap (statements_by g) (sym begun);
+          counted = λ g lt. counted_after t (Some o) bs turns.columns here k.counted g lt ∙ ap (statement_count g) (sym begun);
           now = now_after t (Some o) bs turns.columns here k.counted k.now ∙ ap statement_now (sym begun);
           ended = λ g h. ended_then p a t.next o new (ended_in (by a es)) follows k.ended g (sym (ap (λ (fs : List (Entry Op)). ended_in fs g) own ∙ ap (λ (b : Option Op). ends b g || ended_in (by a es) g) is) ∙ h);
           left = λ h. left_then p a t.next o new (has_left (by a es)) follows due k.left (sym (ap has_left own ∙ ap (λ (b : Option Op). leaves b || has_left (by a es)) is) ∙ h);

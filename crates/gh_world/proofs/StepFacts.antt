@@ -24,7 +24,7 @@ use Rattle.gh_mutator.specs.Barrier.{written}
 use Rattle.gh_mutator.specs.Fields.{has_field, takes}
 use Rattle.gh_mutator.specs.Global as global
 use Rattle.gh_mutator.specs.Load as load
-use Rattle.gh_mutator.specs.New.{answer_assist, answer_made, answer_search, op_of as new_op, refuses}
+use Rattle.gh_mutator.specs.New.{answer_assist, answer_made, answer_search, op_of as new_op, refuses_behind_wait}
 use Rattle.gh_mutator.specs.Leave as leave
 use Rattle.gh_mutator.specs.Local.{is_mark, marking_at}
 use Rattle.gh_mutator.specs.Processor.{keeping}
@@ -174,7 +174,7 @@ module _ (shapes : List Shape) (m : Processor) where
 
   search_facts : (w : Wanted) (waited : Bool) (s : Seeking) (found : ℕ) → FactsAt (searches w waited s) found
   search_facts w waited s found = go waited (search.gives s found) where
-    go : (b : Bool) (out : Option Found) → StepFacts m (searches w b s) (after_search shapes (cache_span m w.sought (search.goes s found).find.cached) w b (search.goes s found) out) (acting (refuses b out) (new_op w) true) (answer_search b out)
+    go : (b : Bool) (out : Option Found) → StepFacts m (searches w b s) (after_search shapes (cache_span m w.sought (search.goes s found).find.cached) w b (search.goes s found) out) (acting (refuses_behind_wait b out) (new_op w) true) (answer_search b out)
     go true None = record { counted = λ g. omega arith; leaves = refl; answered = omega arith; once = refl; ends = refl; serves = refl }
     go false None = record { counted = λ g. omega arith; leaves = refl; answered = omega arith; once = refl; ends = refl; serves = refl }
     go true (Some (At a)) = record { counted = λ g. omega arith; leaves = refl; answered = omega arith; once = refl; ends = refl; serves = refl }

@@ -8,27 +8,27 @@ use Rattle.std.proofs.lemmas.List.Sums.{get_or-le-sum_by, sum_by-cons, sum_by-le
 use Rattle.gh_base.specs.declared.operation.Op.TheVariants as op
 use Rattle.gh_script.specs.declared.statement.Stmt.{Stmt}
 use Rattle.gh_script.specs.declared.statement.Stmt.TheVariants as stmts
-use Rattle.gh_script.specs.Program.{no_goroutine, statements_of, statements_in, op_of}
+use Rattle.gh_script.specs.Program.{no_goroutine, statements_of, statements_in, statement_as_op}
 use Rattle.gh_world.specs.declared.turns.Next.TheVariants as next
 use Rattle.gh_world.specs.Turns.{count_of, has_turn, HasTurn, is_of_seat, IsPast, round_of, Stands, total_by, turn_of}
 use Rattle.gh_interp.specs.Working.{work_at, work_of}
-use Rattle.gh_world.proofs.Vocabulary.{bit, Follows, eqb-true, goroutine_at, is_leave, is_over, is_statement, later, ltb-true, MayBeOver, nat_tests, Next, Op, op_due, Program, slice_get, slice_get-get_or, slice_get_past, statements_among, to_come, total_of, turns_of, ◌%◌}
+use Rattle.gh_world.proofs.Vocabulary.{bit, Follows, eqb-true, its_goroutine, is_leave, leave_is_begun, is_statement, later, ltb-true, MayBeOver, nat_tests, Next, Op, op_due, Program, slice_get, slice_get-get_or, slice_get_past, statements_among, to_come, total_of, turns_of, ◌%◌}
 
 -- ---- statements
 
-pub statement_is : (g : ℕ) (s : Stmt) → is_statement (op_of g s) ≡ true
+pub statement_is : (g : ℕ) (s : Stmt) → is_statement (statement_as_op g s) ≡ true
 statement_is g (stmts.New d t) = refl
 statement_is g _ = refl
 
-pub goroutine_is : (g : ℕ) (s : Stmt) → goroutine_at (op_of g s) ≡ g
+pub goroutine_is : (g : ℕ) (s : Stmt) → its_goroutine (statement_as_op g s) ≡ g
 goroutine_is g (stmts.New d t) = refl
 goroutine_is g _ = refl
 
-pub statement_no_leave : (g : ℕ) (s : Stmt) → is_leave (op_of g s) ≡ false
+pub statement_no_leave : (g : ℕ) (s : Stmt) → is_leave (statement_as_op g s) ≡ false
 statement_no_leave g (stmts.New d t) = refl
 statement_no_leave g _ = refl
 
-no_end : (g h : ℕ) (s : Stmt) → op_of g s ≡ op.End h → ⊥
+no_end : (g h : ℕ) (s : Stmt) → statement_as_op g s ≡ op.End h → ⊥
 no_end g h (stmts.New d t) e = absurd cc
 no_end g h _ e = absurd cc
 
@@ -226,7 +226,7 @@ module _ (p : Program) (a : ℕ) where
     go true true None e t = let live = leb-true r (count_of p g) e in let none = no_statement p (statements_of p g) r t in omega arith
     go true true (Some s) e t =
         let lt : r < count_of p g = has_statement p (statements_of p g) r s t in
-        let one : bit (is_statement (op_of g s)) ≡ 1 = ap bit (statement_is g s) in
+        let one : bit (is_statement (statement_as_op g s)) ≡ 1 = ap bit (statement_is g s) in
         omega (arith, one, lt)
 
   one_round : (r n g : ℕ) → before_round r g n + statements_among (flat_map (turn_of p a r) (range_with_len g n)) ≡ before_round (r + 1) g n
@@ -325,7 +325,7 @@ module _ (p : Program) where
 
 module _ (p : Program) (a : ℕ) where
   -- the turn behind a statement, or behind a goroutine's end
-  pub follows_run : (before : Next) (r g : ℕ) (o : Op) (new : Next) → before ≡ next.Run r g → Stands p a before → op_due p before ≡ Some o → to_come p a new ≡ later p a r (g + 1) → Stands p a new → ((h : ℕ) → IsPast p r (g + 1) h → MayBeOver p new h) → is_over new ≡ false → Follows p a before o new
+  pub follows_run : (before : Next) (r g : ℕ) (o : Op) (new : Next) → before ≡ next.Run r g → Stands p a before → op_due p before ≡ Some o → to_come p a new ≡ later p a r (g + 1) → Stands p a new → ((h : ℕ) → IsPast p r (g + 1) h → MayBeOver p new h) → leave_is_begun new ≡ false → Follows p a before o new
   follows_run before r g o new is stands due come stood over going =
       subst (λ (b : Next). Follows p a b o new) (sym is) (go (subst (Stands p a) is stands) (subst (λ (b : Next). op_due p b ≡ Some o) is due)) where
         go : Stands p a (next.Run r g) → Some (work_of p r g) ≡ Some o → Follows p a (next.Run r g) o new

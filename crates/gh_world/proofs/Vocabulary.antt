@@ -55,7 +55,7 @@ pub use Rattle.gh_script.specs.Program.{Program, WellFormed}
 pub use Rattle.gh_lists.specs.Order.{begun_in, ended_in, ends, has_left, in_range, leaves}
 pub use Rattle.gh_lists.specs.Processors.{all_ended, may_leave}
 pub use Rattle.gh_lists.specs.declared.handshake.Actor.{Actor}
-pub use Rattle.gh_world.specs.Turns.{Follows, goroutine_at, is_leave, is_over, is_unacted, later, MayBeOver, op_due, statements_among, to_come, total_of}
+pub use Rattle.gh_world.specs.Turns.{Follows, is_leave, is_unacted, its_goroutine, later, leave_is_begun, MayBeOver, op_due, statements_among, to_come, total_of}
 unfoldable pub use Rattle.gh_world.specs.Turns.{turns_of}
 pub use Rattle.gh_world.specs.Wishes.{most_cycles}
 pub use Rattle.gh_world.specs.World.{actor_after, answer_in, answered_in, event_of, opening_progress, progress_after, setting_of, with_goroutine}

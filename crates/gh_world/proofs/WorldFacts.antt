@@ -7,9 +7,9 @@ use Rattle.gh_base.specs.Steps.{IsShown}
 use Rattle.gh_lists.specs.declared.handshake.Actor.TheVariants as actor
 use Rattle.gh_world.specs.declared.runner.Runner.{Runner}
 use Rattle.gh_mutator.specs.Sound.{has_room}
-use Rattle.gh_world.specs.Turns.{Stands, statements_by, statement_now, next_point}
-use Rattle.gh_world.specs.World.{counts_after, event_at, event_by, GoesOn, last_after, LaysOut, MadeAtMost, now_by, now_in, op_at_turn, points_in}
-use Rattle.gh_world.proofs.Vocabulary.{acks_of, Actor, actor_after, acts, Answer, answer_in, answered_in, asks, Begins, begun_in, bit, by, cell_of, changed, ended_in, ends, Entry, eq-eqb, eqb-false, eqb-true, event_of, get_or-set_other, get_or-set_same, gives_at, goroutine_at, has_left, InRange, is_busy_at, is_over, is_point, is_some, is_statement, Layout, leaves, MayBeOver, Next, Op, op_due, option_to_list, Processor, processor_kind, Program, Progress, progress_after, request, set, setting_of, Shape, slice_get, started, state_of, statement_answer, statements_among, StepsAreShown, takes, target, Task, to_come, total_of, turns_of, WellFormed, with_goroutine, words_after}
+use Rattle.gh_world.specs.Turns.{Stands, statement_count, statement_now, next_point}
+use Rattle.gh_world.specs.World.{ComesNext, counts_after, event_at, event_by, last_after, LaysOut, MadeAtMost, now_by, now_in, op_at_turn, points_in}
+use Rattle.gh_world.proofs.Vocabulary.{acks_of, Actor, actor_after, acts, Answer, answer_in, answered_in, asks, Begins, begun_in, bit, by, cell_of, changed, ended_in, ends, Entry, eq-eqb, eqb-false, eqb-true, event_of, get_or-set_other, get_or-set_same, gives_at, has_left, InRange, is_busy_at, is_point, is_some, is_statement, its_goroutine, Layout, leave_is_begun, leaves, MayBeOver, Next, Op, op_due, option_to_list, Processor, processor_kind, Program, Progress, progress_after, request, set, setting_of, Shape, slice_get, started, state_of, statement_answer, statements_among, StepsAreShown, takes, target, Task, to_come, total_of, turns_of, WellFormed, with_goroutine, words_after}
 use Rattle.gh_world.proofs.Due.{due_goroutine, false_unless}
 use Rattle.gh_world.proofs.MayBegin.{due_begins, ended_then, left_then}
 use Rattle.gh_world.proofs.OneRun.{one_more}
@@ -19,42 +19,42 @@ use Rattle.gh_world.proofs.Runners.{each_set, runner_stays}
 
 module _ (p : Program) (a : ℕ) where
   -- what has ended may be over behind the turn that is begun
-  ended_after : (t : Next) (b : Option Op) (new : Next) (es : List (Entry Op)) → GoesOn p a t b new → ((g : ℕ) → ended_in es g ≡ true → MayBeOver p t g) → (g : ℕ) → (ends b g || ended_in es g) ≡ true → MayBeOver p new g
+  ended_after : (t : Next) (b : Option Op) (new : Next) (es : List (Entry Op)) → ComesNext p a t b new → ((g : ℕ) → ended_in es g ≡ true → MayBeOver p t g) → (g : ℕ) → (ends b g || ended_in es g) ≡ true → MayBeOver p new g
   ended_after t None new es follows over g h = subst (λ (x : Next). MayBeOver p x g) (sym follows) (over g h)
   ended_after t (Some o) new es follows over g h = ended_then p a t o new (ended_in es) follows over g h
 
-  left_after : (t : Next) (b : Option Op) (new : Next) (es : List (Entry Op)) → GoesOn p a t b new → ((o : Op) → b ≡ Some o → op_due p t ≡ Some o) → (has_left es ≡ true → is_over t ≡ true) → (leaves b || has_left es) ≡ true → is_over new ≡ true
-  left_after t None new es follows due left h = ap is_over follows ∙ left h
+  left_after : (t : Next) (b : Option Op) (new : Next) (es : List (Entry Op)) → ComesNext p a t b new → ((o : Op) → b ≡ Some o → op_due p t ≡ Some o) → (has_left es ≡ true → leave_is_begun t ≡ true) → (leaves b || has_left es) ≡ true → leave_is_begun new ≡ true
+  left_after t None new es follows due left h = ap leave_is_begun follows ∙ left h
   left_after t (Some o) new es follows due left h = left_then p a t o new (has_left es) follows (due o refl) left h
 
 -- the statements begun are counted
-pub counted_after : (t : Progress) (b : Option Op) (bs : List Op) → length t.begun ≡ 32 → ((o : Op) → b ≡ Some o → is_statement o ≡ true → goroutine_at o < 32) → ((g : ℕ) → g < 32 → get_or t.begun g 0 ≡ statements_by g bs) → (g : ℕ) → g < 32 → get_or (counts_after t b) g 0 ≡ statements_by g (option_to_list b ++ bs)
+pub counted_after : (t : Progress) (b : Option Op) (bs : List Op) → length t.begun ≡ 32 → ((o : Op) → b ≡ Some o → is_statement o ≡ true → its_goroutine o < 32) → ((g : ℕ) → g < 32 → get_or t.begun g 0 ≡ statement_count g bs) → (g : ℕ) → g < 32 → get_or (counts_after t b) g 0 ≡ statement_count g (option_to_list b ++ bs)
 counted_after t None bs long few counted g lt = counted g lt
 counted_after t (Some o) bs long few counted g lt = go (is_statement o) refl where
-  go : (c : Bool) → is_statement o ≡ c → get_or (cond c (set t.begun (goroutine_at o) (get_or t.begun (goroutine_at o) 0 + 1)) t.begun) g 0 ≡ bit (c && eqb (goroutine_at o) g) + statements_by g bs
+  go : (c : Bool) → is_statement o ≡ c → get_or (cond c (set t.begun (its_goroutine o) (get_or t.begun (its_goroutine o) 0 + 1)) t.begun) g 0 ≡ bit (c && eqb (its_goroutine o) g) + statement_count g bs
   go false e = omega (arith, counted g lt)
-  go true e = here (eqb (goroutine_at o) g) refl where
-    here : (d : Bool) → eqb (goroutine_at o) g ≡ d → get_or (set t.begun (goroutine_at o) (get_or t.begun (goroutine_at o) 0 + 1)) g 0 ≡ bit d + statements_by g bs
+  go true e = here (eqb (its_goroutine o) g) refl where
+    here : (d : Bool) → eqb (its_goroutine o) g ≡ d → get_or (set t.begun (its_goroutine o) (get_or t.begun (its_goroutine o) 0 + 1)) g 0 ≡ bit d + statement_count g bs
     here true f =
-        let same : goroutine_at o ≡ g = eqb-true (goroutine_at o) g f in
+        let same : its_goroutine o ≡ g = eqb-true (its_goroutine o) g f in
         let set_here = get_or-set_same t.begun g (get_or t.begun g 0 + 1) 0 (omega (arith, long)) in
         rw same (omega (arith, set_here, counted g lt))
     here false f =
-        let apart : goroutine_at o ≡ g → ⊥ = eqb-false (goroutine_at o) g f in
-        let other = get_or-set_other t.begun (goroutine_at o) g (get_or t.begun (goroutine_at o) 0 + 1) 0 (λ q. apart (sym q)) in
+        let apart : its_goroutine o ≡ g → ⊥ = eqb-false (its_goroutine o) g f in
+        let other = get_or-set_other t.begun (its_goroutine o) g (get_or t.begun (its_goroutine o) 0 + 1) 0 (λ q. apart (sym q)) in
         omega (arith, other, counted g lt)
 
 abbrev pub pair_of : ℕ → ℕ → ℕ × ℕ
 pair_of a b = (a, b)
 
-pub now_after : (t : Progress) (b : Option Op) (bs : List Op) → length t.begun ≡ 32 → ((o : Op) → b ≡ Some o → is_statement o ≡ true → goroutine_at o < 32) → ((g : ℕ) → g < 32 → get_or t.begun g 0 ≡ statements_by g bs) → pair_of t.last (get_or t.begun t.last 0) ≡ statement_now bs →
+pub now_after : (t : Progress) (b : Option Op) (bs : List Op) → length t.begun ≡ 32 → ((o : Op) → b ≡ Some o → is_statement o ≡ true → its_goroutine o < 32) → ((g : ℕ) → g < 32 → get_or t.begun g 0 ≡ statement_count g bs) → pair_of t.last (get_or t.begun t.last 0) ≡ statement_now bs →
     pair_of (last_after t b) (get_or (counts_after t b) (last_after t b) 0) ≡ statement_now (option_to_list b ++ bs)
 now_after t None bs long few counted now = now
-now_after t (Some o) bs long few counted now = go (is_statement o) refl (counted_after t (Some o) bs long few counted (goroutine_at o)) where
-  go : (c : Bool) → is_statement o ≡ c → (goroutine_at o < 32 → get_or (cond c (set t.begun (goroutine_at o) (get_or t.begun (goroutine_at o) 0 + 1)) t.begun) (goroutine_at o) 0 ≡ bit (c && eqb (goroutine_at o) (goroutine_at o)) + statements_by (goroutine_at o) bs) →
-      pair_of (cond c (goroutine_at o) t.last) (get_or (cond c (set t.begun (goroutine_at o) (get_or t.begun (goroutine_at o) 0 + 1)) t.begun) (cond c (goroutine_at o) t.last) 0) ≡ cond c (pair_of (goroutine_at o) (bit (c && eqb (goroutine_at o) (goroutine_at o)) + statements_by (goroutine_at o) bs)) (statement_now bs)
+now_after t (Some o) bs long few counted now = go (is_statement o) refl (counted_after t (Some o) bs long few counted (its_goroutine o)) where
+  go : (c : Bool) → is_statement o ≡ c → (its_goroutine o < 32 → get_or (cond c (set t.begun (its_goroutine o) (get_or t.begun (its_goroutine o) 0 + 1)) t.begun) (its_goroutine o) 0 ≡ bit (c && eqb (its_goroutine o) (its_goroutine o)) + statement_count (its_goroutine o) bs) →
+      pair_of (cond c (its_goroutine o) t.last) (get_or (cond c (set t.begun (its_goroutine o) (get_or t.begun (its_goroutine o) 0 + 1)) t.begun) (cond c (its_goroutine o) t.last) 0) ≡ cond c (pair_of (its_goroutine o) (bit (c && eqb (its_goroutine o) (its_goroutine o)) + statement_count (its_goroutine o) bs)) (statement_now bs)
   go false e h = now
-  go true e h = ap (λ (n : ℕ). pair_of (goroutine_at o) n) (h (few o refl e))
+  go true e h = ap (λ (n : ℕ). pair_of (its_goroutine o) n) (h (few o refl e))
 
 -- ---- what a step says of answers
 
@@ -92,7 +92,7 @@ module _ (p : Program) (l : Layout) (runnable : WellFormed p) (laid : LaysOut p 
   -- what a world knows of itself that a further entry rests on
   pub record Knows (m : Processor) (t : Progress) (b : Option Op) (new : Next) : Type 0 where
     pub is : b ≡ op_at_turn p (is_busy_at m.task) t.next
-    pub goes : GoesOn p a t.next b new
+    pub goes : ComesNext p a t.next b new
     pub busy : is_busy_at (begun m b).task ≡ true
     pub within : InRange l (cell_of (asks (begun m b)))
     pub made : MadeAtMost t.stated m
@@ -119,13 +119,13 @@ module _ (p : Program) (l : Layout) (runnable : WellFormed p) (laid : LaysOut p 
   OwnEntries = (es : List (Entry Op)) → state_of (processor_kind p.shapes l) a es ≡ state_of (processor_kind p.shapes l) a (by a es)
 
   begins_next : OwnEntries → (es : List (Entry Op)) (t : Progress) (b : Option Op) (new : Next) → Knows (state_of (processor_kind p.shapes l) a es) t b new → turns_of p a ≡ reverse (begun_in (by a es)) ++ to_come p a t.next →
-      ((g : ℕ) → ended_in (by a es) g ≡ true → MayBeOver p t.next g) → (has_left (by a es) ≡ true → is_over t.next ≡ true) → Begins (setting_of p l) a es b
+      ((g : ℕ) → ended_in (by a es) g ≡ true → MayBeOver p t.next g) → (has_left (by a es) ≡ true → leave_is_begun t.next ≡ true) → Begins (setting_of p l) a es b
   begins_next own es t None new k turns over left = ap (λ (x : Actor). (setting_of p l).kind.busy x) (is_processor p l a seat es) ∙ k.busy
   begins_next own es t (Some o) new k turns over left =
       let due = due_at (state_of (processor_kind p.shapes l) a es) t.next (Some o) o k.is refl in
       due_begins p l runnable laid a seat own es t.next o t.stated due.0 due.1 k.made k.stands k.all turns over left (k.room o refl)
 
-  turns_next : (t : Progress) (b : Option Op) (new : Next) (bs : List Op) → GoesOn p a t.next b new → turns_of p a ≡ reverse bs ++ to_come p a t.next → turns_of p a ≡ reverse (option_to_list b ++ bs) ++ to_come p a new
+  turns_next : (t : Progress) (b : Option Op) (new : Next) (bs : List Op) → ComesNext p a t.next b new → turns_of p a ≡ reverse bs ++ to_come p a t.next → turns_of p a ≡ reverse (option_to_list b ++ bs) ++ to_come p a new
   turns_next t None new bs goes turns = turns ∙ ap (λ (x : Next). reverse bs ++ to_come p a x) (sym goes)
   turns_next t (Some o) new bs goes turns = turns ∙ ap (λ (xs : List Op). reverse bs ++ xs) goes.come ∙ sym (one_more o bs (to_come p a new))
 
@@ -142,7 +142,7 @@ module _ (p : Program) (l : Layout) (runnable : WellFormed p) (laid : LaysOut p 
 
   now_at : (t : Progress) (b : Option Op) (new : Next) (marks : ℕ) (shapes : List Shape) (es : List (Entry Op)) (m : Processor) → IsRunnerAt p l a (runner_of shapes m marks t) es → Knows m t b new → now_then t b ≡ statement_now (option_to_list b ++ begun_in (by a es))
   now_at t b new marks shapes es m r k =
-      let here : (o : Op) → b ≡ Some o → is_statement o ≡ true → goroutine_at o < 32 = λ o e sure. due_goroutine p a t.next o runnable k.stands (due_at m t.next b o k.is e).1 sure in
+      let here : (o : Op) → b ≡ Some o → is_statement o ≡ true → its_goroutine o < 32 = λ o e sure. due_goroutine p a t.next o runnable k.stands (due_at m t.next b o k.is e).1 sure in
       now_after t b (begun_in (by a es)) k.columns here r.counted r.now
 
   -- the processor behind the step
@@ -152,13 +152,13 @@ module _ (p : Program) (l : Layout) (runnable : WellFormed p) (laid : LaysOut p 
       let m = state_of (processor_kind p.shapes l) a es in
       let e = entry_of list m b in
       let due : (o : Op) → b ≡ Some o → op_due p t.next ≡ Some o = λ o is. (due_at m t.next b o k.is is).1 in
-      let here : (o : Op) → b ≡ Some o → is_statement o ≡ true → goroutine_at o < 32 = λ o is sure. due_goroutine p a t.next o runnable k.stands (due o is) sure in
+      let here : (o : Op) → b ≡ Some o → is_statement o ≡ true → its_goroutine o < 32 = λ o is sure. due_goroutine p a t.next o runnable k.stands (due o is) sure in
       let same : eqb a a ≡ true = eq-eqb a a refl in
       let own : by a (e ∷ es) ≡ e ∷ by a es = its_own e es refl in
       record {
         processor = rw same refl;
         turns = turns_next t b new (begun_in (by a es)) k.goes r.turns ∙ ap (λ (fs : List (Entry Op)). reverse (begun_in fs) ++ to_come p a new) (sym own);
-        counted = λ g lt. counted_after t b (begun_in (by a es)) k.columns here r.counted g lt ∙ ap (λ (fs : List (Entry Op)). statements_by g (begun_in fs)) (sym own);
+        counted = λ g lt. counted_after t b (begun_in (by a es)) k.columns here r.counted g lt ∙ ap (λ (fs : List (Entry Op)). statement_count g (begun_in fs)) (sym own);
         now = now_at t b new marks shapes es m r k ∙ ap (λ (fs : List (Entry Op)). statement_now (begun_in fs)) (sym own);
         ended = λ g h. ended_after p a t.next b new (by a es) k.goes r.ended g (ap (λ (fs : List (Entry Op)). ended_in fs g) (sym own) ∙ h);
         left = λ h. left_after p a t.next b new (by a es) k.goes due r.left (ap has_left (sym own) ∙ h);

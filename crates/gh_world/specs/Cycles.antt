@@ -32,9 +32,9 @@ cycles_in l opening [] = []
 cycles_in l opening (e ∷ es) = cycles_in l opening es ++ ended_by l (words_after opening es) e.ask
 
 -- a path of pointer fields leads to the object from a global
-pub data IsHeld (e : Ever) : Name → Type 0 where
-  by_global : (k : ℕ) (n : Name) → e.global k ≡ Ref n → IsHeld e n
-  by_field : (m : Name) (k : ℕ) (n : Name) → IsHeld e m → e.field m k ≡ Ref n → IsHeld e n
+pub data IsHeldByGlobals (e : Ever) : Name → Type 0 where
+  by_global : (k : ℕ) (n : Name) → e.global k ≡ Ref n → IsHeldByGlobals e n
+  by_field : (m : Name) (k : ℕ) (n : Name) → IsHeldByGlobals e m → e.field m k ≡ Ref n → IsHeldByGlobals e n
 
 -- the bytes of the object's slot
 abbrev pub bytes_of : List Shape → Ever → Name → ℕ
@@ -44,7 +44,7 @@ bytes_of shapes e n = 8 * field_count (shape_of shapes e n)
 pub record AreLive (shapes : List Shape) (e : Ever) (objects bytes : ℕ) : Type 0 where
   pub names : List Name
   -- each of them once
-  pub all : (n : Name) → IsHeld e n ↔ IsAmong n names
+  pub all : (n : Name) → IsHeldByGlobals e n ↔ IsAmong n names
   pub once : AllPairs (λ n m. n ≢ m) names
   pub objects_are : objects ≡ length names
   pub bytes_are : bytes ≡ sum_by (bytes_of shapes e) names

@@ -2,7 +2,7 @@
 use Rattle.std.specs.Prelude.{◌≡◌, ℕ, true, false, List, [], ◌∷◌, length, Some, None}
 use Rattle.gh_base.specs.Lists.{by}
 use Rattle.gh_world.specs.After.{KeepsPlace}
-use Rattle.gh_lists.specs.Order.{goroutine_of, has_left, in_range, is_over}
+use Rattle.gh_lists.specs.Order.{goroutine_is_over, goroutine_of, has_left, in_range}
 use Rattle.gh_lists.specs.Processors.{arena_of, has_more, is_of, may_leave}
 use Rattle.gh_world.specs.Turns.{Follows, op_due, to_come, turns_of}
 use Rattle.gh_world.specs.Vocabulary.{Entry, Layout, Next, Op, Program, Progress, WellFormed}
@@ -10,16 +10,16 @@ use Rattle.gh_world.specs.Wishes.{wishes_of}
 use Rattle.gh_world.specs.World.{AreTurns, LaysOut, opening_progress, progress_after}
 
 -- By its own entries the processor at seat a may begin the operation: all that is asked of it there (`may_begin`), but a name for what is to be made, and room for the entries of a barrier.
-pub record FitsIn (p : Program) (l : Layout) (a : ℕ) (own : List (Entry Op)) (o : Op) : Type 0 where
+pub record FitsOwnEntries (p : Program) (l : Layout) (a : ℕ) (own : List (Entry Op)) (o : Op) : Type 0 where
   pub ranged : in_range l.goroutines l.globals (length p.shapes) o ≡ true
   pub its : is_of (arena_of p.shapes l) a (goroutine_of o) ≡ true
-  pub going : is_over own (goroutine_of o) ≡ false
+  pub going : goroutine_is_over own (goroutine_of o) ≡ false
   pub staying : has_left own ≡ false
   pub asking : has_more (wishes_of p) own o ≡ true
   pub leaving : may_leave (arena_of p.shapes l) a own o ≡ true
 
 abbrev pub WhatIsDueFits : Type 0
-WhatIsDueFits = (p : Program) (l : Layout) (a : ℕ) (t : Progress) (es : List (Entry Op)) (o : Op) → WellFormed p → LaysOut p l → AreTurns p a t → KeepsPlace p a t es → op_due p t.next ≡ Some o → FitsIn p l a (by a es) o
+WhatIsDueFits = (p : Program) (l : Layout) (a : ℕ) (t : Progress) (es : List (Entry Op)) (o : Op) → WellFormed p → LaysOut p l → AreTurns p a t → KeepsPlace p a t es → op_due p t.next ≡ Some o → FitsOwnEntries p l a (by a es) o
 
 -- A processor keeps its place among its turns: as it opens; by an entry with which it begins what is due; and by each entry with which it begins nothing, or which is another's.
 pub record PlacesAreKept (p : Program) (a : ℕ) : Type 0 where

@@ -4,7 +4,7 @@ use Rattle.std.specs.List.{filter, range_with_len}
 use Rattle.gh_lines.specs.Text.{Outcome}
 use Rattle.gh_model.specs.Answers.{ever_after_all}
 use Rattle.gh_model.specs.Ever.{with_end}
-use Rattle.gh_script.specs.Program.{op_of, statement_at}
+use Rattle.gh_script.specs.Program.{statement_as_op, statement_at}
 use Rattle.gh_lists.specs.Order.{acted_in, Answered, ever_of}
 use Rattle.gh_world.specs.Runs.{IsExplained, IsRunSoFar}
 use Rattle.gh_world.specs.Vocabulary.{AllAnswer, Answer, Entry, Ever, is_statement, Layout, Op, opening_ever, Program, Shape, WellFormed}
@@ -12,11 +12,11 @@ use Rattle.gh_world.specs.World.{LaysOut, points_in}
 
 -- the statement of a goroutine and a number, counted from 1, as an operation
 abbrev pub op_at_point : Program → ℕ × ℕ → Option Op
-op_at_point p x = option_map (op_of x.0) (statement_at p x.0 x.1)
+op_at_point p x = option_map (statement_as_op x.0) (statement_at p x.0 x.1)
 
 -- the numbers that stand with goroutine g
-abbrev pub numbers_of : ℕ → List (ℕ × ℕ) → List ℕ
-numbers_of g points = map (λ (x : ℕ × ℕ). x.1) (filter (λ (x : ℕ × ℕ). x.0 == g) points)
+abbrev pub numbers_with : ℕ → List (ℕ × ℕ) → List ℕ
+numbers_with g points = map (λ (x : ℕ × ℕ). x.1) (filter (λ (x : ℕ × ℕ). x.0 == g) points)
 
 -- the statements among what has acted: the ends of goroutines, polls and leaves are none
 abbrev pub statements_acted : List Answered → List Answered
@@ -25,7 +25,7 @@ statements_acted acted = filter (λ (a : Answered). is_statement a.op) acted
 -- The points of the list are the statements that acted in it, in their order, and those of each goroutine are its first ones.
 pub record PointsAre (p : Program) (l : Layout) (es : List (Entry Op)) : Type 0 where
   pub statements : map (op_at_point p) (points_in p.shapes l es) ≡ map (λ (a : Answered). Some a.op) (statements_acted (acted_in p.shapes l es))
-  pub numbers : (g : ℕ) → numbers_of g (points_in p.shapes l es) ≡ range_with_len 1 (length (numbers_of g (points_in p.shapes l es)))
+  pub numbers : (g : ℕ) → numbers_with g (points_in p.shapes l es) ≡ range_with_len 1 (length (numbers_with g (points_in p.shapes l es)))
 
 -- the heap that never frees once the first n goroutines have ended
 abbrev pub with_ends : Ever → (n : ℕ) → Ever

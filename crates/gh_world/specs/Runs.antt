@@ -12,7 +12,7 @@ use Rattle.gh_coord.specs.Listing.{Coordinating}
 use Rattle.gh_lines.specs.Text.{Outcome, SweptCycle}
 use Rattle.gh_mutator.specs.Deeds.{processor_kind}
 use Rattle.gh_mutator.specs.Listing.{gives}
-use Rattle.gh_script.specs.Program.{op_of}
+use Rattle.gh_script.specs.Program.{statement_as_op}
 use Rattle.gh_lists.specs.declared.handshake.Actor.TheVariants.{Leads}
 use Rattle.gh_law.specs.Actors.{AllStands, AwaitedCycle}
 use Rattle.gh_law.specs.Below.{FreesTheUnreached, FreesWithinTwo, objects_in, scanned_in}
@@ -83,7 +83,7 @@ acted_by g acted = filter (λ (a : Answered). is_statement_of g a.op) acted
 
 -- these statements of goroutine g are those of the script, each once and in their order, and the answers are theirs, one for one: the n-th answer, from 1, is that of statement n
 pub record AreItsStatements (p : Program) (g : ℕ) (acted : List Answered) (answers : List Answer) : Type 0 where
-  pub statements : map (λ (a : Answered). a.op) acted ≡ map (op_of g) (statements_of p g)
+  pub statements : map (λ (a : Answered). a.op) acted ≡ map (statement_as_op g) (statements_of p g)
   pub answered : map (λ (a : Answered). a.answer) acted ≡ answers
 
 module _ (p : Program) (l : Layout) where

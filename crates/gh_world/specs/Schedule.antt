@@ -14,7 +14,7 @@ use Rattle.gh_lists.specs.declared.handshake.Actor.TheVariants.{Runs, Marks, Lea
 abbrev pub has_ended : Actor → Bool
 has_ended (Runs m) = has_left_at m.task
 has_ended (Marks w) = not (worker.is_busy w.stage)
-has_ended (Leads c) = coord.is_done c.stage
+has_ended (Leads c) = coord.is_done_at c.stage
 
 -- the first of these that has not ended
 abbrev pub first_going : (ended : ℕ → Bool) → List ℕ → Option ℕ

@@ -47,32 +47,32 @@ turns_of p a = flat_map (round_of p a) (range_with_len 0 (total_of p + 1)) ++ op
 -- ---- statements among operations
 
 -- the goroutine of a statement
-abbrev pub goroutine_at : Op → ℕ
-goroutine_at o = unwrap_or (goroutine_of o) 0
+abbrev pub its_goroutine : Op → ℕ
+its_goroutine o = unwrap_or (goroutine_of o) 0
 
 -- it is a statement of goroutine g
 abbrev pub is_statement_of : ℕ → Op → Bool
-is_statement_of g o = is_statement o && (goroutine_at o == g)
+is_statement_of g o = is_statement o && (its_goroutine o == g)
 
 -- how many of the operations are statements, and how many of goroutine g
 abbrev pub statements_among : List Op → ℕ
 statements_among [] = 0
 statements_among (o ∷ os) = bit (is_statement o) + statements_among os
 
-abbrev pub statements_by : ℕ → List Op → ℕ
-statements_by g [] = 0
-statements_by g (o ∷ os) = bit (is_statement o && (goroutine_at o == g)) + statements_by g os
+abbrev pub statement_count : ℕ → List Op → ℕ
+statement_count g [] = 0
+statement_count g (o ∷ os) = bit (is_statement o && (its_goroutine o == g)) + statement_count g os
 
 -- the goroutine and the number of the statement begun last, the newest operation first
 abbrev pub statement_now : List Op → ℕ × ℕ
 statement_now [] = (0, 0)
-statement_now (o ∷ os) = if is_statement o then (goroutine_at o, statements_by (goroutine_at o) (o ∷ os)) else statement_now os
+statement_now (o ∷ os) = if is_statement o then (its_goroutine o, statement_count (its_goroutine o) (o ∷ os)) else statement_now os
 
 -- the answers of the statements among the operations, each with its goroutine
 abbrev pub answers_to : List Op → List Answer → List (ℕ × Answer)
 answers_to [] answers = []
 answers_to (o ∷ os) [] = []
-answers_to (o ∷ os) (a ∷ answers) = (if is_statement o then (goroutine_at o, a) ∷ [] else []) ++ answers_to os answers
+answers_to (o ∷ os) (a ∷ answers) = (if is_statement o then (its_goroutine o, a) ∷ [] else []) ++ answers_to os answers
 
 -- ---- what a step is to a statement
 
@@ -121,9 +121,9 @@ MayBeOver p (next.Run r g) h = IsPast p r g h
 MayBeOver p _ h = Unit {0}
 
 -- the processor has begun its leave
-abbrev pub is_over : Next → Bool
-is_over next.Over = true
-is_over _ = false
+abbrev pub leave_is_begun : Next → Bool
+leave_is_begun next.Over = true
+leave_is_begun _ = false
 
 -- a poll comes next, or what a turn has behind its poll
 abbrev pub is_poll_due : Next → Bool
@@ -151,4 +151,4 @@ pub record Follows (p : Program) (a : ℕ) (before : Next) (o : Op) (new : Next)
   pub stands : Stands p a new
   pub over : (g : ℕ) → MayBeOver p before g → MayBeOver p new g
   pub ends : (g : ℕ) → o ≡ op.End g → MayBeOver p new g
-  pub leaves : is_over new ≡ is_leave o
+  pub leaves : leave_is_begun new ≡ is_leave o

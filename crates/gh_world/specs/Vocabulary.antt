@@ -1,7 +1,7 @@
 -- The names that files with many imports share.
-pub use Rattle.gh_base.specs.Cells.{InRange, IsLayoutOf, length_of, Shows, Words}
+pub use Rattle.gh_base.specs.Cells.{InRange, IsLayoutOf, length_of, ShowsCells, Words}
 pub use Rattle.gh_base.specs.Lists.{Begins, by, Legal, Setting, started, state_of, words_after}
-pub use Rattle.gh_base.specs.Orders.{Answered, answered_by, given_by, model_after}
+pub use Rattle.gh_base.specs.Orders.{answered_by, AnsweredDeed, given_by, model_after}
 pub use Rattle.gh_base.specs.Packing.{bit}
 unfoldable pub use Rattle.gh_base.specs.Rows.{row_bit}
 pub use Rattle.gh_base.specs.Steps.{cell_of, changed, request, target}

@@ -11,7 +11,7 @@ use Rattle.gh_mutator.specs.declared.task.Task.TheVariants.{New}
 use Rattle.gh_mutator.specs.Deeds.{processor_kind}
 use Rattle.gh_mutator.specs.Mutating.{asks, begins, opening}
 use Rattle.gh_base.specs.Lists.{by}
-use Rattle.gh_mutator.specs.PollRoom.{MayStore}
+use Rattle.gh_mutator.specs.PollRoom.{HasRoomToStore}
 use Rattle.gh_worker.specs.Listing as worker
 use Rattle.gh_lists.specs.declared.handshake.Actor.{Actor}
 use Rattle.gh_lists.specs.declared.handshake.Actor.TheVariants as actor
@@ -23,7 +23,7 @@ use Rattle.gh_lists.specs.Lists.{Given}
 use Rattle.gh_lists.specs.Order.{before_step, begun_in}
 use Rattle.gh_lists.specs.Processors.{arena_of, may_begin}
 use Rattle.gh_world.specs.Schedule.{ended_after, has_ended, turn_from}
-use Rattle.gh_world.specs.Turns.{total_by, total_of, to_come, Stands, is_over, later, op_due, Follows, goroutine_at, statements_among, statement_now, is_unacted, next_point}
+use Rattle.gh_world.specs.Turns.{total_by, total_of, to_come, Stands, leave_is_begun, later, op_due, Follows, its_goroutine, statements_among, statement_now, is_unacted, next_point}
 use Rattle.gh_world.specs.Wishes.{most_cycles, wishes_of}
 
 -- ---- the lists of a script
@@ -143,7 +143,7 @@ pub record IsOpening (p : Program) (l : Layout) (a : ℕ) (x : Runner) : Type 0 
   pub progress : x.progress ≡ opening_progress x.progress.next
   pub come : to_come p a x.progress.next ≡ later p a 0 0
   pub stands : Stands p a x.progress.next
-  pub going : is_over x.progress.next ≡ false
+  pub going : leave_is_begun x.progress.next ≡ false
 
 -- the processors of a heap, each before its first step
 pub record AreOpening (p : Program) (l : Layout) (runners : List Runner) : Type 0 where
@@ -177,7 +177,7 @@ pub record FitWords (p : Program) (l : Layout) (list : List ℕ) : Type 0 where
 
 -- of the poll before a statement: the processor polls, or has polled and begun nothing since,
 abbrev pub Polled : Next → Processor → Type 0
-Polled (next.Run r g) m = MayStore m
+Polled (next.Run r g) m = HasRoomToStore m
 Polled _ m = Unit {0}
 
 -- of the turns of the processor at seat a: the next is one of its turns, the statements that have begun and those that are to come are all that its goroutines have, and what is counted of one goroutine is at most what is counted of all,
@@ -194,7 +194,7 @@ pub record FitTurns (p : Program) (l : Layout) (a : ℕ) (m : Mutating) (t : Pro
   pub shapes : m.shapes ≡ p.shapes
   pub laid : m.processor.poll.layout ≡ l
   pub made : MadeAtMost t.stated m.processor
-  pub leaves : is_leaving m.processor.task ≡ is_over t.next
+  pub leaves : is_leaving m.processor.task ≡ leave_is_begun t.next
   pub marked : m.marks + bit (is_serving m.processor.task) ≤ t.stated
   pub polled : Polled t.next m.processor
 
@@ -221,7 +221,7 @@ pub record FitOthers (p : Program) (l : Layout) (workers : List worker.Working) 
   pub laid : (i : ℕ) (x : worker.Working) → slice_get workers i ≡ Some x → x.layout ≡ l
   pub leads : c.layout ≡ l
   pub room : c.cycles.room ≡ most_cycles p
-  pub goes_on : coord.is_busy c.stage ≡ not (coord.is_done c.stage)
+  pub goes_on : coord.is_busy c.stage ≡ not (coord.is_done_at c.stage)
 
 pub record Fit (w : State) (points room : ℕ) : Type 0 where
   pub base : FitWords w.script w.layout w.words
@@ -305,7 +305,7 @@ op_at_turn p false turn = op_due p turn
 -- the progress once an operation is begun
 abbrev pub counts_after : Progress → Option Op → List ℕ
 counts_after t None = t.begun
-counts_after t (Some o) = if is_statement o then slice_set t.begun (goroutine_at o) (slice_index t.begun (goroutine_at o) + 1) else t.begun
+counts_after t (Some o) = if is_statement o then slice_set t.begun (its_goroutine o) (slice_index t.begun (its_goroutine o) + 1) else t.begun
 
 abbrev pub stated_after : Progress → Option Op → ℕ
 stated_after t None = t.stated
@@ -313,16 +313,16 @@ stated_after t (Some o) = t.stated + bit (is_statement o)
 
 abbrev pub last_after : Progress → Option Op → ℕ
 last_after t None = t.last
-last_after t (Some o) = if is_statement o then goroutine_at o else t.last
+last_after t (Some o) = if is_statement o then its_goroutine o else t.last
 
 -- the progress once this is begun, and so much comes next
 abbrev pub progress_after : Progress → Option Op → Next → Progress
 progress_after t o new = record { next = new; begun = counts_after t o; stated = stated_after t o; last = last_after t o }
 
 -- what comes next once it is begun
-abbrev pub GoesOn : Program → (a : ℕ) → Next → Option Op → Next → Type 0
-GoesOn p a before None new = new ≡ before
-GoesOn p a before (Some o) new = Follows p a before o new
+abbrev pub ComesNext : Program → (a : ℕ) → Next → Option Op → Next → Type 0
+ComesNext p a before None new = new ≡ before
+ComesNext p a before (Some o) new = Follows p a before o new
 
 abbrev pub begun_as : Mutating → Option Op → Mutating
 begun_as m None = m
@@ -341,7 +341,7 @@ pub record Begins (p : Program) (a : ℕ) (old new : Runner) : Type 0 where
   pub o : Option Op
   pub is : o ≡ op_at_turn p (is_busy_at old.mutator.processor.task) old.progress.next
   pub mutator : new.mutator ≡ begun_as old.mutator o
-  pub goes : GoesOn p a old.progress.next o new.progress.next
+  pub goes : ComesNext p a old.progress.next o new.progress.next
   pub progress : new.progress ≡ progress_after old.progress o new.progress.next
 
 -- what the processor's step finds in these words, in a heap of this layout

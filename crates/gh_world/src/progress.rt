@@ -5,7 +5,7 @@ ghost use Rattle.std.specs.Vec.{vec_capacity};
 ghost use Rattle.gh_base.specs.Packing.{bit};
 ghost use Rattle.gh_base.specs.declared.limits.TheConstants.{MOST_GOROUTINES};
 ghost use Rattle.gh_mutator.specs.Serving.{is_statement};
-ghost use Rattle.gh_world.specs.Turns.{goroutine_at, is_over, is_poll_due, is_run_due, later, next_point, op_due, to_come, turns_of, Follows};
+ghost use Rattle.gh_world.specs.Turns.{its_goroutine, leave_is_begun, is_poll_due, is_run_due, later, next_point, op_due, to_come, turns_of, Follows};
 ghost use Rattle.gh_world.specs.World.{now_of, opening_progress, progress_after, AreTurns};
 
 use crate::turns::{Next, due, following, next_turn};
@@ -30,7 +30,7 @@ pub struct Progress {
 
 /// The goroutine of a statement; none for a step of the processor's own.
 fn statement_goroutine(op: Op) -> Option<u32>
-    ensures { result ≡ (if is_statement op then Some (goroutine_at op) else None) }
+    ensures { result ≡ (if is_statement op then Some (its_goroutine op) else None) }
 {
     match op {
         Op::New { g, .. }
@@ -53,7 +53,7 @@ impl Progress {
         ensures come { to_come script.now seat result.next ≡ later script.now seat 0 0 }
         ensures all { to_come script.now seat result.next ≡ turns_of script.now seat }
         ensures turns { AreTurns script.now seat result }
-        ensures going { is_over result.next ≡ false }
+        ensures going { leave_is_begun result.next ≡ false }
     {
         Progress {
             next: next_turn(script, seat, 0, 0),
@@ -91,8 +91,8 @@ impl Progress {
 
     /// Counts an operation that has begun, where it is a statement.
     fn count(&mut self, op: Op)
-        requires there { IsTrue (is_statement op) → goroutine_at op < MOST_GOROUTINES }
-        requires few { slice_index self.old.begun (goroutine_at op) + 1 < 2 ^ 32 }
+        requires there { IsTrue (is_statement op) → its_goroutine op < MOST_GOROUTINES }
+        requires few { slice_index self.old.begun (its_goroutine op) + 1 < 2 ^ 32 }
         requires fits { self.old.stated + 1 < 2 ^ 32 }
         ensures { self.new ≡ progress_after self.old (Some op) self.old.next }
     {

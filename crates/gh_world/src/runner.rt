@@ -177,9 +177,12 @@ impl<'s> Runner<'s> {
         ensures point { let found = slice_index words.old (target (request (mutating.layout self.old.mutator) (asks self.old.mutator))) in
             result.1 ≡ is_point (mutating.acts self.old.mutator found) }
     {
+        let found = words.step(self.mutator.next());
+        if self.mutator.goes_on(found) {
+            return (Event::Moved, false);
+        }
         let is_serving = self.mutator.is_serving();
         let is_last = self.mutator.is_last();
-        let found = words.step(self.mutator.next());
         let is_point = self.mutator.is_point(found);
         let ended = self.mutator.take(found);
         let answer = if is_serving { ended } else { None };

@@ -6,7 +6,7 @@ ghost use Rattle.std.specs.List.{flat_map, range_with_len};
 ghost use Rattle.gh_base.specs.declared.operation.Op.{Op};
 ghost use Rattle.gh_base.specs.declared.operation.Op.TheVariants as ops;
 ghost use Rattle.gh_interp.specs.Working.{work_of};
-ghost use Rattle.gh_world.specs.Turns.{has_turn, later, op_due, to_come, total_of, turn_of, is_over, is_poll_due, is_run_due, Follows, HasTurn, IsPast, MayBeOver, Stands};
+ghost use Rattle.gh_world.specs.Turns.{has_turn, later, op_due, to_come, total_of, turn_of, leave_is_begun, is_poll_due, is_run_due, Follows, HasTurn, IsPast, MayBeOver, Stands};
 
 use gh_base::{Op, modulo};
 use gh_interp::work;
@@ -59,7 +59,7 @@ pub fn next_turn(script: &Script, seat: u32, round: u32, g: u32) -> Next
     ensures come { to_come script.now seat result ≡ later script.now seat round g }
     ensures stands { Stands script.now seat result }
     ensures over { (h : ℕ) → IsPast script.now round g h → MayBeOver script.now result h }
-    ensures going { is_over result ≡ false }
+    ensures going { leave_is_begun result ≡ false }
     ensures polls { is_run_due result ≡ false }
 {
     if let Some(g) = first_turn(script, seat, round, g) {

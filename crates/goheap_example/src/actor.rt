@@ -3,7 +3,7 @@
 ghost use Rattle.std.specs.Prelude.{◌≡◌, All, IfOk, IfSome};
 ghost use Rattle.gh_base.specs.Cells.{seats_of};
 ghost use Rattle.gh_shared.specs.declared.heap.Heap.{Heap};
-ghost use Rattle.gh_shared.specs.Handles.{carries_of, plan_of, AreFresh, IsHeapOf, IsOf};
+ghost use Rattle.gh_shared.specs.Handles.{carries_of, plan_of, AreFresh, IsHeapOf, IsHandleOf};
 ghost use Rattle.goheap_example.specs.Actors.{AreOf};
 
 use crate::play;
@@ -28,9 +28,9 @@ pub struct Actor<'h, 's> {
 impl<'h, 's> Job for Actor<'h, 's> {
     ghost Which = { Heap };
 
-    ghost started = { λ j. IsOf j.heap.now j.handle × IsHeapOf j.script.now j.heap.now };
+    ghost started = { λ j. IsHandleOf j.heap.now j.handle × IsHeapOf j.script.now j.heap.now };
 
-    ghost ended = { λ j. IsOf j.heap.now j.handle };
+    ghost ended = { λ j. IsHandleOf j.heap.now j.handle };
 
     ghost which = { λ j. j.heap.now };
 
@@ -56,7 +56,7 @@ fn actors_of<'h, 's>(
     script: &'h Script,
     handles: Vec<Handle<'s>>,
 ) -> Result<Vec<Actor<'h, 's>>>
-    requires handles { All (IsOf heap.now) handles.items }
+    requires handles { All (IsHandleOf heap.now) handles.items }
     requires script { IsHeapOf script.now heap.now }
     ensures { IfOk result (λ actors. AreOf heap.now actors.items) }
 {
@@ -82,7 +82,7 @@ pub fn run_all<'s, R: thread::Threads + Wait + Sync>(
 ) -> Result<(Handle<'s>, Option<Answer>)>
     requires handles { AreFresh heap.now handles.items }
     requires script { IsHeapOf script.now heap.now }
-    ensures of { IfOk result (λ ran. IsOf heap.now ran.0) }
+    ensures of { IfOk result (λ ran. IsHandleOf heap.now ran.0) }
     ensures all { IfOk result (λ ran. carries_of ran.0 ≡ seats_of (plan_of heap.now).layout) }
 {
     let actors = actors_of(alloc, heap, script, handles)?;
@@ -103,8 +103,8 @@ fn gathered<'h, 's>(
     heap: &Heap,
     mut done: Vec<Actor<'h, 's>>,
 ) -> Option<(Handle<'s>, Option<Answer>)>
-    requires { All (λ j. IsOf heap.now j.handle) done.items }
-    ensures { IfSome result (λ r. IsOf heap.now r.0) }
+    requires { All (λ j. IsHandleOf heap.now j.handle) done.items }
+    ensures { IfSome result (λ r. IsHandleOf heap.now r.0) }
 {
     let Actor {
         handle: mut all,

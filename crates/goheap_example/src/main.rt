@@ -5,7 +5,7 @@
 #![tactic(auto)]
 
 // README.md shows this, from here on.
-ghost use Rattle.gh_shared.specs.Handles.{IsHeapOf, IsOf};
+ghost use Rattle.gh_shared.specs.Handles.{IsHandleOf, IsHeapOf};
 
 mod actor;
 
@@ -22,9 +22,9 @@ const SCRIPT: &str =
 
 // What goroutine 0 does on its processor. It answers what it has loaded.
 fn play<'s, R: Wait>(rt: &R, heap: &Heap, script: &Script, h: &mut Handle<'s>) -> Option<Answer>
-    requires of { IsOf heap.now h.old }
+    requires of { IsHandleOf heap.now h.old }
     requires script { IsHeapOf script.now heap.now }
-    ensures { IsOf heap.now h.new }
+    ensures { IsHandleOf heap.now h.new }
 {
     if !h.is_processor() || h.ended() || !h.runs(0) || h.left(0) < 2 {
         return None;

@@ -2,7 +2,7 @@
 
 ghost use Rattle.std.specs.Prelude.{◌≡◌, ◌≤◌, All, IfSome, true};
 ghost use Rattle.gh_shared.specs.Calls.{IsGoing};
-ghost use Rattle.gh_shared.specs.Handles.{AreFresh, IsHeapOf, IsOf, room_of, runs_in};
+ghost use Rattle.gh_shared.specs.Handles.{AreFresh, IsHandleOf, IsHeapOf, room_of, runs_in};
 
 use crate::Work;
 use gh_base::Answer;
@@ -99,7 +99,7 @@ fn worked<'s, R: Wait>(
     times: u32,
 ) -> u64
     requires script { IsHeapOf script.now heap.now }
-    requires of { IsOf heap.now h.old }
+    requires of { IsHandleOf heap.now h.old }
 {
     if !h.is_processor() || h.ended() || !h.runs(0) || h.left(0) < 1 {
         return 0;
@@ -120,9 +120,9 @@ fn worked<'s, R: Wait>(
 
 /// The last of the handles.
 fn last_of<'s>(heap: &Heap, handles: &mut Vec<Handle<'s>>) -> Option<Handle<'s>>
-    requires { All (IsOf heap.now) handles.old.items }
-    ensures rest { All (IsOf heap.now) handles.new.items }
-    ensures last { IfSome result (IsOf heap.now) }
+    requires { All (IsHandleOf heap.now) handles.old.items }
+    ensures rest { All (IsHandleOf heap.now) handles.new.items }
+    ensures last { IfSome result (IsHandleOf heap.now) }
 {
     handles.pop()
 }

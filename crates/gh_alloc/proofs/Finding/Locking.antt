@@ -39,7 +39,7 @@ slots_asks : (s : slots.Searching) (p : SlotStage) (held : Bool) (w : ℕ) → l
 slots_asks s slots_stage.Look held w = refl
 slots_asks s (slots_stage.Ended slot) held w = refl
 
-give_asks : (g : give.Giving) (p : GiveStage) (held : Bool) (w : ℕ) → lock_after held (give.asks_at g p) w ≡ held
+give_asks : (g : give.SpanGiving) (p : GiveStage) (held : Bool) (w : ℕ) → lock_after held (give.asks_at g p) w ≡ held
 give_asks g give_stage.Write held w = refl
 give_asks g give_stage.Ended held w = refl
 

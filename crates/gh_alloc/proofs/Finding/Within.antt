@@ -11,7 +11,7 @@ use Rattle.gh_cache.specs.declared.next_slot.SlotStage.TheVariants as stage
 use Rattle.gh_alloc.specs.Vocabulary.{Layout, SpanClass, Sought, Small, Large, CachedSpan, At, FindStage, Slots}
 use Rattle.gh_alloc.specs.Find.{Finding, move_cursor, span_for, word_at_cursor}
 use Rattle.gh_alloc.specs.FindSound.{IsCached, IsStage, Sound}
-use Rattle.gh_alloc.specs.Within.{LiesWithin, words_of}
+use Rattle.gh_alloc.specs.Within.{LiesWithin, words_sought}
 
 -- a slot of a span in the arena lies in the arena
 slot_fits : (head cursor slots size pages total : ℕ) → cursor < slots → slots * size ≤ 8192 * pages → head + pages ≤ total → 1024 * head + cursor * (size / 8) + size / 8 ≤ 1024 * total
@@ -29,7 +29,7 @@ record IsAtSlot (l : Layout) (cursor class : ℕ) : Type 0 where
 
 module _ (fit : (c : ℕ) → c < CLASSES → slots_of c * slot_of c ≤ 8192 * pages_of c) where
   small_fits : (l : Layout) (c : SpanClass) (cached : Option CachedSpan) (cursor : ℕ) → IsAtSlot l cursor c.class → IsCached l (Small c) cached →
-      word_at_cursor (Small c) (move_cursor cursor cached) + words_of (Small c) ≤ 1024 * l.pages
+      word_at_cursor (Small c) (move_cursor cursor cached) + words_sought (Small c) ≤ 1024 * l.pages
   small_fits l c (Some s) cursor at within = slot_fits s.head cursor (slots_of c.class) (slot_of c.class) (pages_of c.class) l.pages at.below (fit c.class at.among) within.pages
   small_fits l c None cursor at within =
       let some : 0 < slots_of c.class = let h = at.below in omega arith in
@@ -38,7 +38,7 @@ module _ (fit : (c : ℕ) → c < CLASSES → slots_of c * slot_of c ≤ 8192 * 
       omega arith
 
   word_fits : (l : Layout) (w : Sought) (cached : Option CachedSpan) (cursor class : ℕ) → IsAtSlot l cursor class → size.Small class ≡ (span_for w).class → IsCached l w cached →
-      word_at_cursor w (move_cursor cursor cached) + words_of w ≤ 1024 * l.pages
+      word_at_cursor w (move_cursor cursor cached) + words_sought w ≤ 1024 * l.pages
   word_fits l (Small c) cached cursor class at same within = small_fits l c cached cursor (let is : class ≡ c.class = cc in subst (λ (n : ℕ). IsAtSlot l cursor n) is at) within
   word_fits l (Large pages noscan) cached cursor class at same within = absurd (cc)
 
@@ -48,7 +48,7 @@ module _ (fit : (c : ℕ) → c < CLASSES → slots_of c * slot_of c ≤ 8192 * 
 
   look_fits : (f : Finding) (s : slots.Searching) (p : SlotStage) (found : ℕ) → slots_sound.FitsArena s.layout s.span → slots_sound.IsStage s.span p → IsStage f.layout f.wanted (Slots (slots.at_stage s p)) → IsCached f.layout f.wanted f.cached → (out : Option ℕ) → slots.given (slots.goes_at s p found) ≡ Some out →
       IfSome out (λ _. LiesWithin f.layout f.wanted (At (word_at_cursor f.wanted (move_cursor (slots.goes_at s p found).span.cursor f.cached))))
-  look_fits f s stage.Look found span here runs within = by (slots.is_found s found) (slots.has_next s.span) where
+  look_fits f s stage.Look found span here runs within = by (slots.is_found s found) (slots.has_next_slot s.span) where
     in_heap : pages_of s.span.class ≤ f.layout.pages
     in_heap = subst (λ (l : Layout). pages_of s.span.class ≤ l.pages) runs.0 (let h : s.span.head + pages_of s.span.class ≤ s.layout.pages = span.pages in omega arith)
 

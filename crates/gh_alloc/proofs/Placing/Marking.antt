@@ -23,7 +23,7 @@ bits_set_none s (set_stage.Clear k) i w e = absurd (cc)
 bits_set_none s (set_stage.Set k) i w e = absurd (cc)
 bits_set_none s set_stage.Ended i w e = absurd (cc)
 
-give_sets_none : (g : give.Giving) (q : GiveStage) (i w : ℕ) → give.asks_at g q ≢ Or (cell.Alloc i) w
+give_sets_none : (g : give.SpanGiving) (q : GiveStage) (i w : ℕ) → give.asks_at g q ≢ Or (cell.Alloc i) w
 give_sets_none g give_stage.Write i w e = absurd (cc)
 give_sets_none g give_stage.Ended i w e = absurd (cc)
 
@@ -38,7 +38,7 @@ bits_mark_none s (set_stage.Clear k) i e = absurd (cc)
 bits_mark_none s (set_stage.Set k) i e = absurd (cc)
 bits_mark_none s set_stage.Ended i e = absurd (cc)
 
-give_marks_none : (g : give.Giving) (q : GiveStage) (i : ℕ) → cell_of (give.asks_at g q) ≢ cell.Mark i
+give_marks_none : (g : give.SpanGiving) (q : GiveStage) (i : ℕ) → cell_of (give.asks_at g q) ≢ cell.Mark i
 give_marks_none g give_stage.Write i e = absurd (cc)
 give_marks_none g give_stage.Ended i e = absurd (cc)
 

@@ -218,7 +218,7 @@ module _ (s : Seeking) (found : ℕ → ℕ) where
   abbrev Follows : (lock first : ℕ) → Type 0
   Follows lock first = FollowsLock asked found s.find.layout s.find.seat s.find.generation s.find.wanted lock first
 
-  record GiveRuns (lock n : ℕ) (x : give.Giving) : Type 0 where
+  record GiveRuns (lock n : ℕ) (x : give.SpanGiving) : Type 0 where
     follows : lock + 1 ≡ n
     writes : x.stage ≡ Write
     class : SpanClass
@@ -376,13 +376,13 @@ module _ (s : Seeking) (found : ℕ → ℕ) where
       abbrev goes_to : (z : Seeking) → now (suc n) ≡ z → WithLock t.lock (suc n) z.find.stage z.stage → Tracks (suc n)
       goes_to z e k = locks n t.lock t.takes t.free t.held z e k
 
-      abbrev give_on : give.Giving → Finding
+      abbrev give_on : give.SpanGiving → Finding
       give_on x = at_stage (now n).find (Give (give.goes x (found n)))
 
-      abbrev given_on : give.Giving → Finding
+      abbrev given_on : give.SpanGiving → Finding
       given_on x = record (give_on x) { cached = None; stage = spans_for (give_on x) (give_on x).wanted }
 
-      give_step : (x : give.Giving) → (now n).stage ≡ First → (now n).find.stage ≡ Give x → GiveRuns t.lock n x → Tracks (suc n)
+      give_step : (x : give.SpanGiving) → (now n).stage ≡ First → (now n).find.stage ≡ Give x → GiveRuns t.lock n x → Tracks (suc n)
       give_step x e at k = goes_to (first_to n (Give x)) (first_is n (Give x) e at) begun where
         given_back : GivesBack asked found s.find.layout s.find.seat s.find.generation s.find.wanted (t.lock + 1)
         given_back = record { class = k.class; small = k.small; page = k.page; store = ap asked k.follows ∙ first_asks n (Give x) e at ∙ k.store }

@@ -64,7 +64,7 @@ lock-idle : (f : Finding) (b : Bool) → sweep_at (cond b (locked_for f f.wanted
 lock-idle f true = locked-idle f f.wanted f.cached
 lock-idle f false = refl
 
-give-idle : (f : Finding) (g : give.Giving) (out : Option (Unit {0})) → sweep_at (after_give (at_stage f (Give g)) out).stage ≡ None
+give-idle : (f : Finding) (g : give.SpanGiving) (out : Option (Unit {0})) → sweep_at (after_give (at_stage f (Give g)) out).stage ≡ None
 give-idle f g None = refl
 give-idle f g (Some x) = spans-idle f f.wanted
 

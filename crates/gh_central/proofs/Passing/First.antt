@@ -5,7 +5,7 @@ use Rattle.gh_base.specs.declared.cell.Ask.{Ask}
 use Rattle.gh_base.specs.declared.cell.Ask.TheVariants.{Load}
 use Rattle.gh_base.specs.declared.pack.PageWord.TheVariants.{Free, Head, Body}
 use Rattle.gh_base.specs.Routines.{EndsWith, GoesOn, told}
-use Rattle.gh_central.specs.Passing.{IsBits, IsFull, IsHead, IsMet, IsTold, IsWanted, LacksAt, Passes, Takes, TakesTheFirst}
+use Rattle.gh_central.specs.Passing.{IsBits, IsFull, IsHead, IsMet, IsWanted, LacksAt, Passes, StepWasTold, Takes, TakesTheFirst}
 use Rattle.gh_central.proofs.Vocabulary.{after_page, alloc_word, asks, at_stage, beq, Bits, cases_lt, cases_order, Ended, given_at, gives, goes, goes_at, is_busy, is_small, is_wanted, lacks_at, Large, listing, Look, look_from, nat_tests, page_of, pages_gone, PageWord, Pass, PassStage, SizeClass, slot_words_of, slots_of, Small, SpanHead, Take}
 use Rattle.gh_central.proofs.Lacking.{lacks_is, lacks_means}
 use Rattle.gh_central.proofs.Passing.Walking.{some_gone, some_pages}
@@ -57,7 +57,7 @@ module _ (m : Pass) (found : ℕ → ℕ) where
   -- What was told stays told, and one step more is told.
 
   abbrev Told : ℕ → Ask → ℕ → Type 0
-  Told n ask word = IsTold m found n ask word
+  Told n ask word = StepWasTold m found n ask word
 
   -- the next step asks for this
   abbrev Asks : ℕ → Ask → Type 0

@@ -14,7 +14,7 @@ use Rattle.gh_central.proofs.Sweeping.Steps.{goes_on}
 use Rattle.gh_central.specs.declared.reclaim.ReclaimStage.{ReclaimStage}
 use Rattle.gh_central.specs.declared.reclaim.ReclaimStage.TheVariants.{Look, Sweep, Wait, Bits, Body, Head, Ended}
 use Rattle.gh_central.specs.Reclaim.{Reclaiming, after_bits, after_page, after_sweep, after_wait, at_stage, free_from, goes, goes_at, look_from}
-use Rattle.gh_central.specs.ReclaimSound.{IsSpan, IsStage, Sound}
+use Rattle.gh_central.specs.ReclaimSound.{CanBeASpan, IsStage, Sound}
 
 module _ (m : Reclaiming) where
   from_kept : (page : ℕ) → IsStage m.layout (look_from m page)
@@ -23,7 +23,7 @@ module _ (m : Reclaiming) where
     go true e = grind (arith, nat_tests)
     go false e = tt
 
-  free_kept : (page pages distance : ℕ) → IsSpan m.layout page pages → IsStage m.layout (free_from page pages distance)
+  free_kept : (page pages distance : ℕ) → CanBeASpan m.layout page pages → IsStage m.layout (free_from page pages distance)
   free_kept page pages distance s = go (ltb distance pages) refl where
     go : (b : Bool) → ltb distance pages ≡ b → IsStage m.layout (cond b (Body page pages distance) (Head page pages))
     go true e = (s, grind (arith, nat_tests))
@@ -42,7 +42,7 @@ module _ (m : Reclaiming) where
     go true false false = here
     go false swept waits = from_kept (page + h.pages)
 
-  sweep_kept : (page pages : ℕ) (sw : Sweeping) (end : Option SweepEnd) → sweep.given sw ≡ end → IsSpan m.layout page pages → sw.layout ≡ m.layout → IsStage m.layout (after_sweep page pages sw end)
+  sweep_kept : (page pages : ℕ) (sw : Sweeping) (end : Option SweepEnd) → sweep.given sw ≡ end → CanBeASpan m.layout page pages → sw.layout ≡ m.layout → IsStage m.layout (after_sweep page pages sw end)
   sweep_kept page pages sw None e s l = (s, l, goes_on sw e)
   sweep_kept page pages sw (Some Lost) e s l = s.there
   sweep_kept page pages sw (Some (Swept span)) e s l = (s, let some = s.some in omega arith)
@@ -55,7 +55,7 @@ module _ (m : Reclaiming) where
     go true = into_kept page h here f
     go false = here
 
-  bits_kept : (page pages i found : ℕ) → IsSpan m.layout page pages → IsStage m.layout (after_bits m page pages i found)
+  bits_kept : (page pages i found : ℕ) → CanBeASpan m.layout page pages → IsStage m.layout (after_bits m page pages i found)
   bits_kept page pages i found s = go (eqb found 0) (ltb (i + 1) (16 * pages)) refl where
     go : (b more : Bool) → ltb (i + 1) (16 * pages) ≡ more → IsStage m.layout (cond b (cond more (Bits page pages (i + 1)) (free_from page pages 1)) (look_from m (page + pages)))
     go true true e = (s, grind (arith, nat_tests))

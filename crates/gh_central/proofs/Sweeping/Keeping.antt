@@ -52,3 +52,9 @@ sound_kept packed m found w h = record { seat = h.seat; generation = h.generatio
 
 pub sound_moved : PackedWordsAreReadBack → (m n : Unswept) (p : UnsweptStage) (found : ℕ) → found < 2 ^ 64 → Sound m → m ≡ n → p ≡ goes_at n n.stage found → Sound (at_stage m p)
 sound_moved packed m n p found w h e g = subst (λ (x : UnsweptStage). Sound (at_stage m x)) (ap (λ (x : Unswept). goes_at x x.stage found) e ∙ sym g) (sound_kept packed m found w h)
+
+-- It goes on to a further page.
+pub looks_on : (m n : Unswept) (page found next : ℕ) → m ≡ n → n.stage ≡ Look page → after_page n page (page_of found) ≡ look_from n next → next < n.layout.pages → at_stage m (Look next) ≡ goes n found
+looks_on m n page found next e is to there =
+    let within : ltb next n.layout.pages ≡ true = grind (arith, nat_tests) in
+    ap (λ (x : Unswept). at_stage x (Look next)) e ∙ sym (ap (λ (p : UnsweptStage). at_stage n (goes_at n p found)) is ∙ ap (at_stage n) (to ∙ ap (λ (b : Bool). cond b (Look next) (Ended None)) within))

@@ -7,7 +7,7 @@ use Rattle.gh_heap.specs.Moves as heap
 use Rattle.gh_marks.specs.Good.{Good as MarkingGood}
 use Rattle.gh_marks.specs.Laws.{StepsGoByMoves}
 use Rattle.gh_cycle.specs.Beside.{ClaimsSlot, IsBeside, IsOfCycle, MarkingAloneGoesBeside, MarksAlone}
-use Rattle.gh_cycle.specs.Known.{Known}
+use Rattle.gh_cycle.specs.Known.{KnownOfMoves}
 use Rattle.gh_cycle.specs.Marked.{RegistersFit}
 use Rattle.gh_cycle.specs.Opening.{reference_of}
 use Rattle.gh_cycle.specs.Vocabulary.{alloc_words, birth_words, Cycle, Ever, Good, Heap, IsMade, Marking, Name, Place, Placed, Placing, Reach, Row, row_bit, view, Words}
@@ -17,7 +17,7 @@ use Rattle.gh_cycle.proofs.Going.Objects.{here}
 use Rattle.gh_cycle.proofs.Going.Plain.{fills-still, there}
 use Rattle.gh_cycle.proofs.Quiet.{with_words}
 
-module _ (k : Known) (z : Cycle) (a : ℕ) (h : Heap) (s t : Marking) (m : heap.Move) (good : Good z.arena (view (here h s))) (marking : MarkingGood z s) (c : IsBeside z.arena (here h s) s) (may : heap.May z.arena a (view (here h s)) m)
+module _ (k : KnownOfMoves) (z : Cycle) (a : ℕ) (h : Heap) (s t : Marking) (m : heap.Move) (good : Good z.arena (view (here h s))) (marking : MarkingGood z s) (c : IsBeside z.arena (here h s) s) (may : heap.May z.arena a (view (here h s)) m)
     (ever : (there z a h s m).ever ≡ h.ever) (alone : MarksAlone z a (here h s) (there z a h s m) s t) where
   abbrev after : Heap
   after = there z a h s m
@@ -85,7 +85,7 @@ module _ (k : Known) (z : Cycle) (a : ℕ) (h : Heap) (s t : Marking) (m : heap.
     goes_on = goes-on;
   })
 
-pub marking-alone-goes : Known → MarkingAloneGoesBeside
+pub marking-alone-goes : KnownOfMoves → MarkingAloneGoesBeside
 marking-alone-goes k z a h s t m good marking beside may ever alone =
     subst (λ (u : Words). Good z.arena (view (with_words h u)) → IsBeside z.arena (with_words h u) s → heap.May z.arena a (view (with_words h u)) m → (heap.moved z.arena a (with_words h u) m).ever ≡ h.ever →
     MarksAlone z a (with_words h u) (heap.moved z.arena a (with_words h u) m) s t → IsBeside z.arena (heap.moved z.arena a (with_words h u) m) t) beside.words

@@ -10,7 +10,7 @@ use Rattle.gh_marks.specs.Moves as marks
 use Rattle.gh_cycle.specs.Beside.{IsOfCycle}
 use Rattle.gh_cycle.specs.Deeds.{from_field, from_global, from_nil, from_number, from_register, TakesFrom}
 use Rattle.gh_cycle.specs.Reached.{TheReachedWereMade}
-use Rattle.gh_cycle.proofs.Vocabulary.{Arena, Cycle, Ever, EverValue, Heap, IsReached, Marking, Name, Place, points, Reach, reference_of, Runs, shape_for, size_for, view}
+use Rattle.gh_cycle.proofs.Vocabulary.{Arena, Cycle, Ever, EverValue, GoroutineRuns, Heap, IsReached, Marking, Name, Place, points, Reach, reference_of, shape_for, size_for, view}
 use Rattle.gh_cycle.proofs.Going.Objects.{here}
 use Rattle.gh_cycle.proofs.Going.Plain.{Together}
 
@@ -38,7 +38,7 @@ none-of place made ever.Nil word holds = absurd (let no = holds.0 in cc)
 none-of place made (ever.Int i) word holds = refl
 none-of place made (ever.Ref n) word holds = absurd (let no = holds.0 in cc)
 
-module _ (made : TheReachedWereMade) (z : Cycle) (a : ℕ) (h : Heap) (s : Marking) (w : Together z h s) (g : ℕ) (runs : Runs z.arena (view (here h s)) a g) where
+module _ (made : TheReachedWereMade) (z : Cycle) (a : ℕ) (h : Heap) (s : Marking) (w : Together z h s) (g : ℕ) (runs : GoroutineRuns z.arena (view (here h s)) a g) where
   abbrev Comes : EverValue → Type 0
   Comes value = marks.MayBring z s g (reference_of h.place value)
 

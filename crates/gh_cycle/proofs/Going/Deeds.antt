@@ -6,7 +6,7 @@ use Rattle.gh_marks.specs.Seats.{Hands, InHand}
 use Rattle.gh_cycle.specs.Beside.{ClaimsSlot, IsBeside, IsOfCycle}
 use Rattle.gh_cycle.specs.Deeds as deed
 use Rattle.gh_cycle.specs.Deeds.{ComesBy, Deed, DeedsGoBeside, hand_behind, MeetsByDeed, StepsBeside}
-use Rattle.gh_cycle.specs.Known.{Known}
+use Rattle.gh_cycle.specs.Known.{KnownOfMoves}
 use Rattle.gh_cycle.specs.Opening.{reference_of}
 use Rattle.gh_cycle.specs.Vocabulary.{alloc_words, Arena, Ask, birth_words, Cycle, effect, Ever, Good, Heap, IsMade, Marking, Name, owner_at, page_words, Place, Placed, Reach, row_bit, view, Words}
 use Rattle.gh_cycle.proofs.Going.Lasting.{beside-lasts}
@@ -54,7 +54,7 @@ module _ (z : Arena) (h k : Heap) (t : Marking) (good : Good z (view h)) (well :
     goes_on = λ g lg runs. c.goes_on g lg (sym (ap (λ (e : Ever). e.ended g) ever) ∙ runs);
   })
 
-module _ (k : Known) (z : Cycle) (a : ℕ) (h : Heap) (s : Marking) (w : Together z h s) (m : heap.Move) (may : heap.May z.arena a (view (here h s)) m) where
+module _ (k : KnownOfMoves) (z : Cycle) (a : ℕ) (h : Heap) (s : Marking) (w : Together z h s) (m : heap.Move) (may : heap.May z.arena a (view (here h s)) m) where
   abbrev after : Heap
   after = there z a h s m
 
@@ -111,7 +111,7 @@ module _ (k : Known) (z : Cycle) (a : ℕ) (h : Heap) (s : Marking) (w : Togethe
   steps-go step (deed.Puts n i value word) by meets = by-other (ap (λ (e : Ever). e.made) by.ever) (ap (λ (e : Ever). e.type_of) by.ever) (deed.Puts n i value word) (heap.Write n i value word) meets.2 (writes k z a h s w n i value word meets.2 meets.3) (λ x. refl) (by.words ∙ ap (effect s.words) meets.0) by.ever refl
   steps-go step (deed.PutsGlobal i value word) by meets = by-other (ap (λ (e : Ever). e.made) by.ever) (ap (λ (e : Ever). e.type_of) by.ever) (deed.PutsGlobal i value word) (heap.WriteGlobal i value word) meets.2 (writes-global k z a h s w i value word meets.2 meets.3 meets.4) (λ x. refl) (by.words ∙ ap (effect s.words) meets.0) by.ever refl
 
-pub deeds-go : Known → DeedsGoBeside
+pub deeds-go : KnownOfMoves → DeedsGoBeside
 deeds-go k z a h s m step d good marking bounded beside may by meets =
     subst (λ (u : Words). Good z.arena (view (with_words h u)) → IsBeside z.arena (with_words h u) s → heap.May z.arena a (view (with_words h u)) m →
     ComesBy z.arena (with_words h u) (heap.moved z.arena a (with_words h u) m) step d → MeetsByDeed z a (with_words h u) s step d → StepsBeside z a (with_words h u) (heap.moved z.arena a (with_words h u) m) s d) beside.words

@@ -5,7 +5,7 @@ use Rattle.gh_base.specs.Shapes.{is_pointer, shape_at}
 use Rattle.gh_model.specs.declared.EverValue.TheVariants as ever
 use Rattle.gh_heap.specs.Moves as heap
 use Rattle.gh_marks.specs.Moves as marks
-use Rattle.gh_cycle.proofs.Vocabulary.{alloc_words, Black, ClaimsSlot, Cycle, eqb_tells, EverValue, field_count, Good, Hands, Heap, InHand, IsMade, IsOfCycle, Known, Marking, Name, next_name, Placed, Placing, points, Reach, reference_of, RegistersFit, row_bit, same_name, shape_for, size_for, update, view, with_object}
+use Rattle.gh_cycle.proofs.Vocabulary.{alloc_words, Black, ClaimsSlot, Cycle, eqb_tells, EverValue, field_count, Good, Hands, Heap, InHand, IsMade, IsOfCycle, KnownOfMoves, Marking, Name, next_name, Placed, Placing, points, Reach, reference_of, RegistersFit, row_bit, same_name, shape_for, size_for, update, view, with_object}
 use Rattle.gh_cycle.proofs.Reaching.{name-itself, name-tells}
 use Rattle.gh_cycle.proofs.Going.Objects.{here}
 use Rattle.gh_cycle.proofs.Going.Plain.{fills-still, GoesBeside, hand_after, there, Together}
@@ -17,7 +17,7 @@ update-here f i x = rw (eq-eqb i i refl) refl
 update-other : {A : Type 0} (f : ℕ → A) (i j : ℕ) (x : A) → i ≢ j → update f i x j ≡ f j
 update-other f i j x ne = elim (eqb_tells i j) [ inl y ↦ absurd (ne y.1) | inr n ↦ rw (n.0) refl ]
 
-module _ (k : Known) (z : Cycle) (a : ℕ) (h : Heap) (s : Marking) (w : Together z h s) (at g d t : ℕ) (may : heap.May z.arena a (view (here h s)) (heap.Make at g d t)) (reserved : s.colour at ≡ Placing a) where
+module _ (k : KnownOfMoves) (z : Cycle) (a : ℕ) (h : Heap) (s : Marking) (w : Together z h s) (at g d t : ℕ) (may : heap.May z.arena a (view (here h s)) (heap.Make at g d t)) (reserved : s.colour at ≡ Placing a) where
   abbrev move : heap.Move
   move = heap.Make at g d t
 

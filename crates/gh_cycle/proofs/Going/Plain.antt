@@ -13,7 +13,7 @@ use Rattle.gh_cycle.specs.Marked.{RegistersFit}
 use Rattle.gh_cycle.specs.Opening.{reference_of}
 use Rattle.gh_cycle.specs.Reached.{IsBounded}
 use Rattle.gh_cycle.specs.Vocabulary.{alloc_words, Ask, birth_words, Cycle, effect, Good, Heap, IsMade, IsMarked, mark_words, Marking, Name, Placed, Placing, Reach, Row, view}
-use Rattle.gh_cycle.specs.Known.{Known}
+use Rattle.gh_cycle.specs.Known.{KnownOfMoves}
 use Rattle.gh_cycle.proofs.Going.Lasting.{beside-lasts}
 use Rattle.gh_cycle.proofs.Going.Objects.{here}
 
@@ -62,13 +62,13 @@ pub record GoesAlong (z : Cycle) (a : ℕ) (h : Heap) (s : Marking) (m : heap.Mo
   pub hands : (x : InHand) → Hands a s x → Hands a t x
 
 -- the slots that others fill they claim still
-pub fills-still : Known → (z : Cycle) (a : ℕ) (h : Heap) (s : Marking) → Good z.arena (view (here h s)) → IsBeside z.arena (here h s) s → (m : heap.Move) → heap.May z.arena a (view (here h s)) m →
+pub fills-still : KnownOfMoves → (z : Cycle) (a : ℕ) (h : Heap) (s : Marking) → Good z.arena (view (here h s)) → IsBeside z.arena (here h s) s → (m : heap.Move) → heap.May z.arena a (view (here h s)) m →
     (o b : ℕ) → b ≢ a → s.colour o ≡ Placing b → ClaimsSlot z.arena (view (there z a h s m)) b o
 fills-still k z a h s g c m may o b ne is =
     let d = c.filling o b is in
     record { size = d.size; claim = (k.heap_facts z.arena b (view (here h s)) (view (there z a h s m)) (k.heap_leaves z.arena b a (here h s) m ne g may)).claim o d.size d.claim }
 
-module _ (k : Known) (z : Cycle) (a : ℕ) (h : Heap) (s : Marking) (w : Together z h s) where
+module _ (k : KnownOfMoves) (z : Cycle) (a : ℕ) (h : Heap) (s : Marking) (w : Together z h s) where
   pub reaches-no-more : (m : heap.Move) → heap.May z.arena a (view (here h s)) m → name_made h.ever m ≡ None → (n : Name) → Reach (there z a h s m).ever n → Reach h.ever n
   reaches-no-more m may none n r = elim (k.reaches z.arena a (here h s) m may n r) [ inl was ↦ was | inr new ↦ absurd (cc (none, new)) ]
 
@@ -107,14 +107,14 @@ module _ (k : Known) (z : Cycle) (a : ℕ) (h : Heap) (s : Marking) (w : Togethe
     }
 
   -- A quiet step leaves the words of stacks, whosever they are.
-  pub stacks-stay : (step : Ask) → marks.IsQuiet s step → (j : ℕ) → j < z.arena.layout.goroutines → effect s.words step (cell.Scanned j) ≡ s.words (cell.Scanned j)
+  pub stacks-stay : (step : Ask) → marks.IsQuietInMarking s step → (j : ℕ) → j < z.arena.layout.goroutines → effect s.words step (cell.Scanned j) ≡ s.words (cell.Scanned j)
   stacks-stay step q j l = elim (eqb_tells (z.arena.seat_of j) a) [
     | inl y ↦ (k.own z a s (marks.Quiet step) w.marking q tt).stacks j (l, y.1)
     | inr n ↦ (k.leaves z (z.arena.seat_of j) a s (marks.Quiet step) n.1 w.marking q).keeps.stacks j (l, refl)
   ]
 
   -- so marking goes along with it
-  pub along-quiet : (m : heap.Move) (step : Ask) → marks.IsQuiet s step → effect s.words step ≡ (there z a h s m).words → GoesAlong z a h s m (marks.moved z a s (marks.Quiet step))
+  pub along-quiet : (m : heap.Move) (step : Ask) → marks.IsQuietInMarking s step → effect s.words step ≡ (there z a h s m).words → GoesAlong z a h s m (marks.moved z a s (marks.Quiet step))
   along-quiet m step q words = record {
     went = marks.goes s (marks.Quiet step) marks.stays q;
     words = words;
@@ -126,7 +126,7 @@ module _ (k : Known) (z : Cycle) (a : ℕ) (h : Heap) (s : Marking) (w : Togethe
   }
 
   -- and with a move by such a step that leaves the heap that never frees
-  pub goes-quiet : (m : heap.Move) (step : Ask) → heap.May z.arena a (view (here h s)) m → marks.IsQuiet s step → effect s.words step ≡ (there z a h s m).words → (there z a h s m).ever ≡ h.ever → IsPlain z a h s m →
+  pub goes-quiet : (m : heap.Move) (step : Ask) → heap.May z.arena a (view (here h s)) m → marks.IsQuietInMarking s step → effect s.words step ≡ (there z a h s m).words → (there z a h s m).ever ≡ h.ever → IsPlain z a h s m →
       ((n : Name) → Placed (alloc_words s.words) (birth_words (there z a h s m).words) h.place n → Placed (alloc_words s.words) (birth_words s.words) h.place n) →
       ((o : ℕ) → s.colour o ≡ Placing a → ClaimsSlot z.arena (view (there z a h s m)) a o) → GoesBeside z a (here h s) s m
   goes-quiet m step may q words same plain placed own = goes-along m may plain (marks.moved z a s (marks.Quiet step)) (along-quiet m step q words) placed own fit goes_on where

@@ -6,7 +6,7 @@ use Rattle.gh_class.specs.Classes.{IsSizeClass}
 use Rattle.gh_class.specs.declared.class.SizeClass.{SizeClass}
 use Rattle.gh_class.specs.declared.class.SizeClass.TheVariants.{Large, Small}
 use Rattle.gh_heap.specs.Rights.{Claims}
-use Rattle.gh_heap.specs.Spans.{is_own_class, number_of}
+use Rattle.gh_heap.specs.Spans.{is_own_class, number_of_class}
 use Rattle.gh_marks.specs.Colours.{Black, Buffered, Colour, IsShaded, Pending, Taken, White}
 use Rattle.gh_marks.specs.Good.{Good as MarkingGood}
 use Rattle.gh_marks.specs.Moves as marks
@@ -18,7 +18,7 @@ use Rattle.gh_cycle.proofs.Going.Objects.{here}
 use Rattle.gh_cycle.proofs.Quiet.{with_words}
 
 -- a slot has a word at least
-some_words : ((c : ℕ) → c < 25 → 8 ≤ slot_of c) → (c : SizeClass) (pages : ℕ) → 1 ≤ pages → IsSizeClass c → 0 < cond (is_own_class c) (1024 * pages) (slot_of (number_of c) / 8)
+some_words : ((c : ℕ) → c < 25 → 8 ≤ slot_of c) → (c : SizeClass) (pages : ℕ) → 1 ≤ pages → IsSizeClass c → 0 < cond (is_own_class c) (1024 * pages) (slot_of (number_of_class c) / 8)
 some_words least (Small c) pages some is = let l = least c is in omega arith
 some_words least Large pages some is = omega arith
 

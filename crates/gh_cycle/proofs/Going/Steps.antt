@@ -7,7 +7,7 @@ use Rattle.gh_base.specs.declared.pack.TheConstants.{END}
 use Rattle.gh_base.specs.Rows.{Row}
 use Rattle.gh_heap.specs.Moves as heap
 use Rattle.gh_marks.specs.Moves as marks
-use Rattle.gh_cycle.proofs.Vocabulary.{alloc_words, Ask, birth_words, ClaimsSlot, Cycle, effect, eqb_tells, Ever, EverValue, Heap, IsReached, IsSince, Known, Marking, Name, nat_tests, Place, Placed, Placing, reference_of, RegistersFit, Runs, update_at, View, view, with_end, with_register, with_words}
+use Rattle.gh_cycle.proofs.Vocabulary.{alloc_words, Ask, birth_words, ClaimsSlot, Cycle, effect, eqb_tells, Ever, EverValue, GoroutineRuns, Heap, IsReached, IsSince, KnownOfMoves, Marking, Name, nat_tests, Place, Placed, Placing, reference_of, RegistersFit, update_at, View, view, with_end, with_register, with_words}
 use Rattle.gh_cycle.specs.Deeds.{TakesFrom}
 use Rattle.gh_cycle.proofs.Beginning.{names-reference}
 use Rattle.gh_cycle.proofs.Going.Coming.{comes, from-reached}
@@ -20,7 +20,7 @@ aside-with : (s : Marking) (registers : ℕ → Row) (c : Cell) → marks.IsAsid
 aside-with s registers cell.Gcur aside = aside
 aside-with s registers _ aside = aside
 
-quiet-with : (s : Marking) (registers : ℕ → Row) (step : Ask) → marks.IsQuiet s step → marks.IsQuiet (record s { registers = registers }) step
+quiet-with : (s : Marking) (registers : ℕ → Row) (step : Ask) → marks.IsQuietInMarking s step → marks.IsQuietInMarking (record s { registers = registers }) step
 quiet-with s registers (ask.Load c) quiet = quiet
 quiet-with s registers (ask.Store c value) quiet = aside-with s registers c quiet
 quiet-with s registers (ask.Or c bits) quiet = aside-with s registers c quiet
@@ -40,7 +40,7 @@ set-fits f e place g d value j c is = elim (eqb_tells g j) [
       ]
 ]
 
-module _ (k : Known) (z : Cycle) (a : ℕ) (h : Heap) (s : Marking) (w : Together z h s) where
+module _ (k : KnownOfMoves) (z : Cycle) (a : ℕ) (h : Heap) (s : Marking) (w : Together z h s) where
   -- what a reached value names is of the cycle
   pub reference-since : (value : EverValue) → IsReached h.ever value → IsSince s.since (reference_of h.place value)
   reference-since value reached o is =
@@ -62,7 +62,7 @@ module _ (k : Known) (z : Cycle) (a : ℕ) (h : Heap) (s : Marking) (w : Togethe
     same-alloc = ap (λ (v : View). v.alloc) same-view
 
   -- A register takes a value by such a step.
-  module _ (m : heap.Move) (may : heap.May z.arena a (view (here h s)) m) (step : Ask) (mq : marks.IsQuiet s step) (g d : ℕ) (value : EverValue) (runs : Runs z.arena (view (here h s)) a g) (from : TakesFrom z.arena h.ever g value) where
+  module _ (m : heap.Move) (may : heap.May z.arena a (view (here h s)) m) (step : Ask) (mq : marks.IsQuietInMarking s step) (g d : ℕ) (value : EverValue) (runs : GoroutineRuns z.arena (view (here h s)) a g) (from : TakesFrom z.arena h.ever g value) where
     abbrev word : ℕ
     word = reference_of h.place value
 

@@ -12,11 +12,11 @@ use Rattle.gh_marks.specs.Seats.{Hands, InHand}
 use Rattle.gh_cycle.specs.Beside.{ClaimsSlot, IsOfCycle}
 use Rattle.gh_cycle.specs.Vocabulary.{Cycle, EverValue, Heap, Holds, IsPointer, IsSince, mark_words, Marking, Name, Placing, points, put, size_for, view}
 use Rattle.gh_cycle.proofs.Beginning.{names-it}
-use Rattle.gh_cycle.specs.Known.{Known}
+use Rattle.gh_cycle.specs.Known.{KnownOfMoves}
 use Rattle.gh_cycle.proofs.Going.Objects.{apart-from, here, name-at}
 use Rattle.gh_cycle.proofs.Going.Plain.{goes-along, GoesAlong, GoesBeside, there, Together}
 
-module _ (k : Known) (z : Cycle) (a : ℕ) (h : Heap) (s : Marking) (w : Together z h s) where
+module _ (k : KnownOfMoves) (z : Cycle) (a : ℕ) (h : Heap) (s : Marking) (w : Together z h s) where
   -- a word that holds a reached value names what is of the cycle
   word-since : (value : EverValue) (word : ℕ) → IsReached h.ever value → Holds h.place h.ever.made true value word → IsSince s.since word
   word-since value word reached holds o is =

@@ -25,7 +25,7 @@ use Rattle.gh_lists.specs.declared.handshake.Actor.{Actor}
 use Rattle.gh_holds.specs.ActorsHold.{IsOff, NobodyMarks}
 use Rattle.gh_marked.specs.State.{HasState, IsHeapOf, processor_at}
 use Rattle.gh_marked.specs.HeapBytes.{uncounted}
-use Rattle.gh_marked.specs.HoldVocabulary.{actors_after, arena, Arena, Entry, Ever, Heap, IsBounded, Legal, MarksNothing, Op, Processor, Rests, Right, State, StateGood, view}
+use Rattle.gh_marked.specs.HoldVocabulary.{actors_after, arena, Arena, Entry, Ever, Heap, IsBounded, Legal, MarksNothing, Op, Processor, Right, SeatSweepsNothing, State, StateGood, view}
 use Rattle.gh_marked.specs.Sweepers.{IsInSweep, sweep_of}
 use Rattle.gh_marked.specs.Known.{Known}
 use Rattle.gh_marked.proofs.OneStep.Moves.{moves_on}
@@ -205,7 +205,7 @@ module _ (setup : Setup) (known : Known) where
       pub quiet_good : StateGood z quiet_state
       quiet_good = known.keeps z a s quiet_move has.good quiet_allowed
 
-      pub quiet_rests : Rests a quiet_state
+      pub quiet_rests : SeatSweepsNothing a quiet_state
       quiet_rests = rests_on known z a s (Quiet e.ask) (subst (IsInSweep a s) none in_sweep)
 
       -- it runs none then either, or begins one

@@ -7,7 +7,7 @@ use Rattle.gh_base.specs.declared.limits.TheConstants.{MOST_GOROUTINES}
 use Rattle.gh_base.specs.declared.value.Value.TheVariants as value
 use Rattle.gh_coord.specs.Handshake as leading
 use Rattle.gh_cycle.specs.Beside.{IsBeside}
-use Rattle.gh_cycle.specs.Opening.{IsAtRest, IsOpened}
+use Rattle.gh_cycle.specs.Opening.{IsOpened, WordsAreAtRest}
 use Rattle.gh_cycle.specs.Since.{HasGoneOn}
 use Rattle.gh_heap.specs.Objects.{Place}
 use Rattle.gh_model.specs.declared.EverValue.TheVariants as ever_value
@@ -18,7 +18,7 @@ use Rattle.gh_stack.specs.Facts.{named}
 use Rattle.gh_lists.specs.declared.handshake.Actor.TheVariants as actor
 use Rattle.gh_lists.specs.Numbers.{open_part}
 use Rattle.gh_holds.specs.ActorsHold.{HasCleared, HasCursor, HoldsAt, IsReady}
-use Rattle.gh_marked.proofs.Vocabulary.{actors_after, ahead_at, Arena, arena, AreRegisters, Begun, bit_at, Coordinating, CoordStage, Cycle, END, Entry, Ever, EverValue, Hands, IsAsItShould, IsBeginning, IsLed, IsOf, IsToBegin, Legal, mark_words, MarkFacts, Marking, MayBegin, Means, nothing, Op, Open, part_of, Processor, processor_at, reference_of, register_at, REGISTERS, row_bit, Stands, those, Value, view, Words, words, ◌%◌}
+use Rattle.gh_marked.proofs.Vocabulary.{actors_after, ahead_at, Arena, arena, AreRegisters, Begun, bit_at, Coordinating, CoordStage, Cycle, END, Entry, Ever, EverValue, Hands, IsAsItShould, IsBeginning, IsLed, IsOf, IsToBegin, KnowsAtAnyTime, Legal, mark_words, MarkFacts, Marking, MayBegin, Means, nothing, Op, Open, part_of, Processor, processor_at, reference_of, register_at, REGISTERS, row_bit, those, Value, view, Words, words, ◌%◌}
 use Rattle.gh_marked.specs.Drawing.{drawn_first}
 use Rattle.gh_marked.specs.Known.{ListsKnown}
 use Rattle.gh_lists.specs.Resting.{run_is}
@@ -73,7 +73,7 @@ module _ (setup : Setup) (lists : ListsKnown setup)
   cycle = record { arena = z; number = c.begun; few = few }
 
   module _ (r : IsReady setup es c) (cursor : words setup es cell.Gcur ≡ 0) (cleared : (words setup es cell.Tally ≡ 0) × (words setup es cell.Live ≡ 0)) where
-    rest : IsAtRest z c.begun r.has.state.heap
+    rest : WordsAreAtRest z c.begun r.has.state.heap
     rest = record {
       marks = λ o. clear_bit r.has.state.heap.words o (r.marks (o / 64));
       buffers = r.nobody.buffers;
@@ -105,7 +105,7 @@ module _ (setup : Setup) (lists : ListsKnown setup)
       should : IsAsItShould setup es r.has.state.heap a it
       should = r.has.of_list.processors a lt
 
-      stands : Stands z a (view r.has.state.heap) it.poll
+      stands : KnowsAtAnyTime z a (view r.has.state.heap) it.poll
       stands = lists.known.runs.stands z a (view r.has.state.heap) it should.pending should.fine
 
       goes_on : (g : ℕ) → s.words (cell.Scanned g) ≢ END → r.has.state.heap.ever.ended g ≡ false

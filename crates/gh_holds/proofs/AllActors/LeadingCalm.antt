@@ -10,7 +10,7 @@ use Rattle.gh_coord.specs.Handshake as leading
 use Rattle.gh_phase.specs.declared.view.RunPhase.TheVariants as run
 use Rattle.gh_state.specs.Cycles.{AreSwept, opened, Opens}
 use Rattle.gh_holds.specs.ActorsHold.{HasCleared, HasCursor, HoldsAt, IsOpening, IsQuiet, IsReady, NobodyMarks}
-use Rattle.gh_marked.specs.HoldVocabulary.{Rests, State}
+use Rattle.gh_marked.specs.HoldVocabulary.{SeatSweepsNothing, State}
 use Rattle.gh_marked.specs.Sweepers.{IsInSweep, sweep_of}
 use Rattle.gh_marked.proofs.Vocabulary.{actors_after, ahead_at, Arena, arena, Ask, Coordinating, CoordStage, effect, Entry, GONE, IsLed, Legal, LoadAck, LoadWant, Op, Open, OpenStage, part_of, seats_of, Stop, Stopped, StopStage, those, Words, words}
 use Rattle.gh_holds.proofs.AllActors.Aside as aside_of
@@ -68,7 +68,7 @@ module _ (u : Coordinating) where
   opens_sweep o (Some y) = refl
 
 -- who rests does so still where a cycle is opened
-rests_opened : (a : ℕ) (s : State) → Rests a s → Rests a (opened s)
+rests_opened : (a : ℕ) (s : State) → SeatSweepsNothing a s → SeatSweepsNothing a (opened s)
 rests_opened a s r = record { none = r.none; told = r.told }
 
 -- each request of a stop is a load, or stores the phase

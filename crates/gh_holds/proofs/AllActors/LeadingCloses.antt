@@ -8,12 +8,12 @@ use Rattle.gh_coord.specs.Listing as coord
 use Rattle.gh_coord.specs.SweepingAll as over_all
 use Rattle.gh_model.specs.Ever.{Reach}
 use Rattle.gh_phase.specs.declared.view.RunPhase.TheVariants as run
-use Rattle.gh_state.specs.Cycles.{ended as ended_state, IsOver, next_words}
+use Rattle.gh_state.specs.Cycles.{cycle_ended, IsOver, next_words}
 use Rattle.gh_lists.specs.Handshake.{Sound as ActorSound, Setup}
 use Rattle.gh_holds.specs.ActorsHold.{EndedSo, HasEnded, IsSweeping, NobodyMarks, Walks}
 use Rattle.gh_marked.specs.State.{HasState}
 use Rattle.gh_marked.specs.Sweepers.{IsInSweep, sweep_of}
-use Rattle.gh_marked.specs.HoldVocabulary.{IsAsItEnded, Name, Rests, row_bit, State, StateGood}
+use Rattle.gh_marked.specs.HoldVocabulary.{IsAsItEnded, Name, row_bit, SeatSweepsNothing, State, StateGood}
 use Rattle.gh_marked.proofs.Vocabulary.{acks_of, actors_after, ahead_at, alloc_words, Arena, arena, By, Checked, Close, close_part, CloseStage, Coordinating, CoordStage, effect, END, Entry, eqb-true, far_in, Free, Heap, IsBeginning, IsEnding, IsInCycle, IsLed, IsToBegin, Layout, mark_words, MarksNothing, MarksToTheEnd, nat_tests, Op, page_of, PageWord, Part, part_of, Processor, processor_at, put, seats_of, Stopped, Store, uncounted, Words, words}
 use Rattle.gh_holds.proofs.AllActors.Aside.{IsOfSpans, phase_only, TellsNothing}
 use Rattle.gh_lists.specs.Going.{NotAcks}
@@ -135,7 +135,7 @@ module _ (setup : Setup) (lists : ListsKnown setup) where
     -- So each span is unswept, and nobody sweeps.
 
     abbrev then : State
-    then = ended_state s
+    then = cycle_ended s
 
     good_then : StateGood z then
     good_then = lists.known.cycles_end z s mark.marking.known.has.good is_over
@@ -151,7 +151,7 @@ module _ (setup : Setup) (lists : ListsKnown setup) where
       stage_is = let some = lists.limits.pages_fit.0 in omega (arith, some, pages);
     }
 
-    rests : (b : ℕ) → Rests b then
+    rests : (b : ℕ) → SeatSweepsNothing b then
     rests b = record { none = λ p i. absurd (nobody_sweeps (page_of (h.words (cell.Page p))) b i); told = refl }
 
     -- where its step leads the world is stopped still

@@ -19,7 +19,7 @@ use Rattle.gh_marked.specs.State.{HasState}
 use Rattle.gh_marked.specs.HoldVocabulary.{CountsAreExact, marks_at, State}
 use Rattle.gh_marked.proofs.Vocabulary.{acks_of, acts, alloc_words, Arena, arena, Ask, birth_words, Close, Coordinating, CoordStage, Done, effect, EndsCycle, Entry, Ever, ever, Gone, Heap, is_last_task, IsEnding, IsLed, IsMade, IsOf, IsPlacedAt, IsStartOf, IsStepIn, last_of, last_phase, Layout, Lead, Leads, Legal, mod_below, Name, new_stage_at, NewStage, Op, page_words, party_of, place_of, Placed, placed, Polling, polls_at, PollStage, processor_at, processor_kind, Reach, ResumeStage, Row, row_bit, slot_row, stage_at, stage_of, started, Store, Task, those, view, Waiting, waiting, waits_at, WaitStage, Words, words}
 use Rattle.gh_marked.specs.Known.{ListsKnown}
-use Rattle.gh_lists.specs.Names.{few_there, same_name}
+use Rattle.gh_lists.specs.Names.{few_there, same_birth_same_name}
 use Rattle.gh_holds.proofs.AllActors.LeadingNumbers.{ends_once}
 use Rattle.gh_holds.proofs.AllActors.LeadingOnce.{begins_once}
 use Rattle.gh_holds.proofs.AllActors.LeadingSeat.{asked_at, by_step, from}
@@ -116,7 +116,7 @@ module _ (setup : Setup) (lists : ListsKnown setup) where
       one_name : (m : Name) → m.k < 2 ^ 32 → IsPlacedAt (words setup es) m a → m ≡ n
       one_name m few there =
           let made_here : IsMade here.heap.ever.made n = subst (λ (v : Ever). IsMade v.made n) (sym j.quiet.has.of_list.ever_is) (so.made n made) in
-          same_name m n few (few_there z (view here.heap) j.quiet.has.good.heap n made_here) (sym there.says ∙ at.says)
+          same_birth_same_name m n few (few_there z (view here.heap) j.quiet.has.good.heap n made_here) (sym there.says ∙ at.says)
 
       set_at : row_bit (marks_at here.end) a ≡ 1
       set_at = go (so.since a (all_told.objects a (subst (λ (w : Words). row_bit (alloc_words w) a ≡ 1) (sym j.quiet.has.of_list.words_are) at.set)) at.set) where

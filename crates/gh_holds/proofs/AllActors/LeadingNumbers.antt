@@ -18,7 +18,7 @@ use Rattle.gh_coord.specs.Telling as tell
 use Rattle.gh_coord.specs.Watching as watch
 use Rattle.gh_lists.specs.Lists.{IsTelling, SweepsCycle}
 use Rattle.gh_lists.specs.Starts.{legal_start, compared}
-use Rattle.gh_marked.proofs.Vocabulary.{acks_of, ahead_at, Ask, Check, Close, CloseStage, Coordinating, CoordStage, Count, CountStage, Done, effect, EndsCycle, Entry, generation_of, IsBeginning, IsEnding, IsLed, IsStartOf, Legal, LoadAck, nat_tests, Op, Open, opened_in, OpenStage, part_of, Stop, StopAgain, StopStage, Sweep, SweepAllStage, Tell, TellStage, those, Watch, WatchStage, Words, words}
+use Rattle.gh_marked.proofs.Vocabulary.{acks_of, ahead_at, Ask, Check, Close, CloseStage, Coordinating, CoordStage, Count, CountStage, Done, effect, EndsCycle, Entry, generation_after, IsBeginning, IsEnding, IsLed, IsStartOf, Legal, LoadAck, nat_tests, Op, Open, opened_in, OpenStage, part_of, Stop, StopAgain, StopStage, Sweep, SweepAllStage, Tell, TellStage, those, Watch, WatchStage, Words, words}
 use Rattle.gh_marked.specs.Known.{ListsKnown}
 use Rattle.gh_holds.proofs.AllActors.LeadingSeat.{asked_at, by_step, ByLead, goes_at as goes_by, led_then}
 use Rattle.gh_holds.proofs.AllActors.LeadingSweep.{numbers_stay}
@@ -144,13 +144,13 @@ module _ (setup : Setup) (lists : ListsKnown setup) where
   gen es = words setup es cell.Gen
 
   -- the numbers at a list whose coordinator is at such a stage
-  pub numbers_at : (es : List (Entry Op)) (c : Coordinating) (p : CoordStage) (opened numbered ended : ℕ) → Lawful es → Led es c → c.stage ≡ p → Numbered p opened numbered ended → (opened_in es ≡ swept es + opened) × (c.begun ≡ swept es + numbered) × (gen es ≡ generation_of (swept es + ended))
+  pub numbers_at : (es : List (Entry Op)) (c : Coordinating) (p : CoordStage) (opened numbered ended : ℕ) → Lawful es → Led es c → c.stage ≡ p → Numbered p opened numbered ended → (opened_in es ≡ swept es + opened) × (c.begun ≡ swept es + numbered) × (gen es ≡ generation_after (swept es + ended))
   numbers_at es c p opened numbered ended legal led is n =
       let k = lists.counts es c legal led in
       let o : opened_of c.stage ≡ opened = ap opened_of is ∙ n.opened_is in
       let m : numbered_of c.stage ≡ numbered = ap numbered_of is ∙ n.numbered_is in
       let x : ended_of c.stage ≡ ended = ap ended_of is ∙ n.ended_is in
-      (k.opened ∙ ap (λ (i : ℕ). swept es + i) o, k.number ∙ ap (λ (i : ℕ). swept es + i) m, k.gen ∙ ap (λ (i : ℕ). generation_of (swept es + i)) x)
+      (k.opened ∙ ap (λ (i : ℕ). swept es + i) o, k.number ∙ ap (λ (i : ℕ). swept es + i) m, k.gen ∙ ap (λ (i : ℕ). generation_after (swept es + i)) x)
 
   -- the numbers that rise
   pub record Rises (es then : List (Entry Op)) : Type 0 where
@@ -170,8 +170,8 @@ module _ (setup : Setup) (lists : ListsKnown setup) where
 
     -- where it ends a cycle
     pub record Ended : Type 0 where
-      pub gen_before : gen es + 2 ≡ generation_of by.lead.begun
-      pub gen_then : gen (e ∷ es) ≡ generation_of by.lead.begun
+      pub gen_before : gen es + 2 ≡ generation_after by.lead.begun
+      pub gen_then : gen (e ∷ es) ≡ generation_after by.lead.begun
       pub up : Rises es (e ∷ es)
 
     pub ends_it : IsEnding by.lead.stage → Ended

@@ -11,7 +11,7 @@ use Rattle.gh_sweep.specs.Moves as moves
 use Rattle.gh_sweep.specs.Shared.{Done}
 use Rattle.gh_sweep.specs.Sweepers as sweepers
 use Rattle.gh_holds.specs.ActorsHold.{IsBegun, page_at, Walks, WalksAt}
-use Rattle.gh_marked.specs.HoldVocabulary.{generation_of, head_word, PassedBefore, Runs, State, StateGood, SweepingAll}
+use Rattle.gh_marked.specs.HoldVocabulary.{generation_of, head_word, PassedBefore, State, StateGood, SweepingAll, SweepRuns}
 use Rattle.gh_marked.proofs.Vocabulary.{Arena, Body, cell_of, effect, Free, Head, Layout, Load, Lost, nat_tests, page_of, PageWord, put, SpanHead, SweepAllStage, SweepEnd, SweepStage, Swept, Words}
 use Rattle.gh_marked.specs.Known.{Known}
 
@@ -139,7 +139,7 @@ module _ (z : Arena) (known : Known) (w : SweepingAll) where
     -- a step of the sweep of a span that it runs
     pub record StepsInSpan (a page : ℕ) (m : sweep.Sweeping) (found : ℕ) : Type 0 where
       pub is : w.stage ≡ all.Sweep page m
-      pub runs : Runs a s m
+      pub runs : SweepRuns a s m
       pub busy : sweep.is_busy m.stage ≡ true
       pub found_is : found ≡ s.heap.words (cell_of (sweep.asks m))
       pub may : state.May z a s (state.Sweep (sweepers.move_of m found))

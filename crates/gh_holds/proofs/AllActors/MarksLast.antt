@@ -24,7 +24,7 @@ use Rattle.gh_holds.proofs.AllActors.Stood.{beside_stays, Stays}
 use Rattle.gh_marked.proofs.OneStep.Sweepers as sweepers
 use Rattle.gh_holds.proofs.AllActors.Tied.{is_of_heap}
 use Rattle.gh_marked.proofs.OneStep.WorkersSweep as sweeping
-use Rattle.gh_marked.specs.Checking.{begins, Goes, goes_on, goes_so, leaves}
+use Rattle.gh_marked.specs.Checking.{begins, CoordinatorGoes, goes_on, goes_so, leaves}
 use Rattle.gh_lists.specs.Seats.{IsSeated, lead_started, leads, other, seated}
 
 module _ (setup : Setup) (lists : ListsKnown setup)
@@ -105,13 +105,13 @@ module _ (setup : Setup) (lists : ListsKnown setup)
     goes_is : coord.goes c e.found ≡ still.lead
     goes_is = let end = at_end in one_lead (e ∷ es) (coord.goes c e.found) still.lead (sym (ap (at (e ∷ es)) end) ∙ leads setup e es c is) still.led
 
-    goes_by : Goes setup.layout c.begun (words setup es) c c.stage (coord.goes c e.found)
+    goes_by : CoordinatorGoes setup.layout c.begun (words setup es) c c.stage (coord.goes c e.found)
     goes_by = goes_so setup.layout c.begun (words setup es) c (coord.counted c).marks (seat_of e.actor (actor.Leads c) is).1 refl c.stage e.found lead_busy lead_found
 
     on_goes : leading.Marks (coord.goes c e.found).stage
     on_goes = subst (λ (x : Coordinating). leading.Marks x.stage) (sym goes_is) still.on
 
-    by_goes : Goes setup.layout c.begun (words setup es) c c.stage (coord.goes c e.found) → IsBeside (coord.asks c)
+    by_goes : CoordinatorGoes setup.layout c.begun (words setup es) c c.stage (coord.goes c e.found) → IsBeside (coord.asks c)
     by_goes (begins b quiet same x) = begins_beside setup lists.known c c.stage b
     by_goes (goes_on was quiet same x) = marks_beside setup lists.known c c.stage was (stays_marked setup lists.known (coord.counted c) c.stage e.found on_goes)
     by_goes (leaves off) = absurd (off on_goes)
@@ -119,7 +119,7 @@ module _ (setup : Setup) (lists : ListsKnown setup)
     lead_beside : IsBeside e.ask
     lead_beside = subst IsBeside (sym lead_asked) (by_goes goes_by)
 
-    counts_by : Goes setup.layout c.begun (words setup es) c c.stage (coord.goes c e.found) → LeavesCounts (coord.asks c)
+    counts_by : CoordinatorGoes setup.layout c.begun (words setup es) c c.stage (coord.goes c e.found) → LeavesCounts (coord.asks c)
     counts_by (begins b quiet same x) = begins_counts setup lists.known c c.stage b
     counts_by (goes_on was quiet same x) = marks_counts setup lists.known c c.stage was
     counts_by (leaves off) = absurd (off on_goes)

@@ -9,7 +9,7 @@ use Rattle.gh_phase.specs.Handshake.{is_stop, run_word}
 use Rattle.gh_mutator.specs.declared.task.Task.TheVariants as task
 use Rattle.gh_mutator_writes.specs.Calm.{FindsNoMarking}
 use Rattle.gh_marked.proofs.Vocabulary.{Arena, arena, Ask, asks, cell_of, Coordinating, CoordStage, Count, Done, END, Entry, Heap, is_busy_at, IsLed, IsSound, KeepsIt, last_of, last_phase, Lead, Leads, Legal, LoadAck, LoadWant, MarksNothing, nat_tests, Op, place_of, Processor, processor_at, processor_kind, started, Stop, stop_word, StopStage, Sweep, Tell, TellStage, those, Words}
-use Rattle.gh_marked.specs.Endings.{is_end}
+use Rattle.gh_marked.specs.Endings.{is_its_end}
 use Rattle.gh_holds.specs.ActorsHold.{IsOff}
 use Rattle.gh_marked.specs.Known.{ListsKnown}
 use Rattle.gh_marked.proofs.OneStep.Landing as landing
@@ -136,7 +136,7 @@ module _ (given : Given) (wanted : Wanted) (lists : ListsKnown (setup_for given)
   word_stays g other = ap (λ (w : Words). w (cell.Scanned g)) land.words_are ∙ stacks.calm_word given.shapes given.layout lists.known e.begun m sound idle calm h.words g other
 
   pub old : (g : ℕ) → (t.words (cell.Scanned g) < cycle) ⊎ (t.words (cell.Scanned g) ≡ END)
-  old g = elim (is_end now.task g) [
+  old g = elim (is_its_end now.task g) [
     | inl x ↦ inr (own_side.word_ends given lists.good lists.limits lists.known wanted e es legal lt q.has land tells g x)
     | inr other ↦ subst (λ (n : ℕ). (n < cycle) ⊎ (n ≡ END)) (sym (word_stays g other)) (q.nobody.stacks g)
   ]

@@ -12,7 +12,7 @@ use Rattle.gh_worker.specs.declared.worker.WorkerStage.TheVariants as at
 use Rattle.gh_worker.specs.Handshake as working
 use Rattle.gh_worker.specs.Works.{words_done}
 use Rattle.gh_lists.specs.declared.handshake.Actor.TheVariants as actor
-use Rattle.gh_lists.specs.Counts.{CountsPlainly, stored_in, stores}
+use Rattle.gh_lists.specs.Counts.{CountsPlainly, stored_in, stores_cell}
 use Rattle.gh_marked.specs.Scanned.{done_by, FewAreScanned, most_scanned, scanned_by, scanned_in}
 use Rattle.gh_marked.proofs.Vocabulary.{Actor, alloc_words, Arena, arena, Coordinating, Entry, Good, Heap, IsLed, Legal, Marking, nat_tests, Op, Placed, row_bit, SpanHead, those, view, WasMarked, Words, WorkerStage}
 use Rattle.gh_lists.specs.Going.{led_then}
@@ -22,7 +22,7 @@ use Rattle.gh_lists.specs.Starts.{whole as all_of}
 use Rattle.gh_marked.specs.Marked.{IsInMarking}
 use Rattle.gh_lists.specs.Leaving.{ends_marking, marks_or_not}
 use Rattle.gh_lists.specs.Steps as seats
-use Rattle.gh_marked.specs.Weights.{ArePacked, counted, counted_most, stored_rises, whole}
+use Rattle.gh_marked.specs.Weights.{ArePacked, black_words, counted, counted_most, stored_rises}
 use Rattle.gh_lists.specs.Handshake.{Setup}
 
 -- a worker that is done with something takes, scans or shades
@@ -32,7 +32,7 @@ done_or_marking (at.LoadGlobal i) found = inr tt
 done_or_marking (at.Shading sh) found = inr tt
 done_or_marking _ found = inl refl
 
-black_of : (size : ℕ) (c : Colour) → 0 < whole size c → (c ≡ Black) × (whole size c ≡ size)
+black_of : (size : ℕ) (c : Colour) → 0 < black_words size c → (c ≡ Black) × (black_words size c ≡ size)
 black_of size Black some = (refl, refl)
 black_of size _ some = absurd (omega (arith, some))
 
@@ -71,7 +71,7 @@ module _ (setup : Setup) (lists : ListsKnown setup) where
     apart = lists.known.apart z (view h) good
 
     abbrev piece : ℕ → ℕ
-    piece o = whole (s.extents.size o) (s.colour o)
+    piece o = black_words (s.extents.size o) (s.colour o)
 
     since_of : (o : ℕ) → 0 < piece o → s.since o ≡ true
     since_of o some = m.good.objects.shaded o (rw ((black_of (s.extents.size o) (s.colour o) some).0) tt)
@@ -113,7 +113,7 @@ module _ (setup : Setup) (lists : ListsKnown setup) where
     done_is m is = ap (λ (x : Actor). done_by x e.found) is
 
     -- the step that ends a cycle's marking
-    cycle_more : (lead : Coordinating) → scanned_by setup e es ≡ 0 → stores cell.Gen e.ask ≡ true → IsInMarking z setup.pacing setup.may es lead → Few (e ∷ es)
+    cycle_more : (lead : Coordinating) → scanned_by setup e es ≡ 0 → stores_cell cell.Gen e.ask ≡ true → IsInMarking z setup.pacing setup.may es lead → Few (e ∷ es)
     cycle_more lead none stored m =
         let before = m.scanned in
         let most = few_counted es lead m in
@@ -141,7 +141,7 @@ module _ (setup : Setup) (lists : ListsKnown setup) where
       go (inr still) = none_more e es none (before lead x.is still)
       go (inl on) = elim (ends_marking lead e.found on) [
         | inl goes ↦ absurd (off (subst (λ (y : Coordinating). leading.Marks y.stage) to goes))
-        | inr stored ↦ cycle_more e es lead none (ap (stores cell.Gen) x.asked ∙ stored) (was es lead (inr (all_of es)) x.is on).marking
+        | inr stored ↦ cycle_more e es lead none (ap (stores_cell cell.Gen) x.asked ∙ stored) (was es lead (inr (all_of es)) x.is on).marking
       ]
 
   pub few_scanned : (es : List (Entry Op)) → Lawful es → WasMarked z setup.pacing setup.may es → FewAreScanned setup es

@@ -17,7 +17,7 @@ use Rattle.gh_marked.specs.State.{IsInCycle}
 use Rattle.gh_marked.specs.HoldVocabulary.{alloc_words, Arena, birth_words, Coordinating, Entry, Ever, ever, Good, Heap, IsLed, IsMade, IsPlacedAt, Name, Op, row_bit, State, StateGood, view, Words, words}
 use Rattle.gh_marked.proofs.Vocabulary.{Add, And, Ask, bit_at, Cell, cell_of, effect, left, Load, Or, Row, same_cell, Store, Swap}
 use Rattle.gh_marked.specs.Known.{Known}
-use Rattle.gh_lists.specs.Names.{same_name}
+use Rattle.gh_lists.specs.Names.{same_birth_same_name}
 use Rattle.gh_holds.proofs.AllActors.Stood.{move_stays}
 use Rattle.gh_lists.specs.Handshake.{Setup}
 
@@ -176,7 +176,7 @@ module _ (known : Known) where
           | inr new ↦
               let most = good.heap.names.few n.g in
               let few : n.k < 2 ^ 32 = omega (arith, is, most) in
-              let one : new.name ≡ n = same_name new.name n new.few few (sym new.placed.says ∙ p.says) in
+              let one : new.name ≡ n = same_birth_same_name new.name n new.few few (sym new.placed.says ∙ p.says) in
               absurd (new.not_yet (subst (λ (y : Name). IsMade made y) (sym one) is))
         ]
 

@@ -9,7 +9,7 @@ use Rattle.gh_lists.specs.declared.handshake.Actor.TheVariants as actor
 use Rattle.gh_lists.specs.Handshake as handshake
 use Rattle.gh_marked.specs.HoldVocabulary.{given_of, opening_words}
 use Rattle.gh_marked.specs.Sweepers.{sweep_of}
-use Rattle.gh_marked.proofs.Vocabulary.{acks_of, Act, Actor, actors, actors_after, acts, Answer, Answered, answered, answered_by, arena, Begins, begins as begun_at, by, Coordinating, deeds, done_at, effect, ended_in, Entry, ever, given_at, gives, has_left_at, is_busy, is_busy_at, IsLed, IsParked, IsSound, Kind, Layout, Legal, Load, nat_tests, Op, opening_processor, option_to_list, PackedWordsAreReadBack, place_of, point_of, Processor, processor_at, processor_kind, RunPhase, Shape, stage_of, started, stop_word, Stopped, takes, Task, those, Words, words, Working}
+use Rattle.gh_marked.proofs.Vocabulary.{acks_of, Act, Actor, actors, actors_after, acts, Answer, answered, answered_by, AnsweredDeed, arena, Begins, begins as begun_at, by, Coordinating, deeds, done_at, effect, ended_in, Entry, ever, given_at, gives, has_left_at, is_busy, is_busy_at, IsLed, IsParked, IsSound, Kind, Layout, Legal, Load, nat_tests, Op, opening_processor, option_to_list, PackedWordsAreReadBack, place_of, point_of, Processor, processor_at, processor_kind, RunPhase, Shape, stage_of, started, stop_word, Stopped, takes, Task, those, Words, words, Working}
 use Rattle.gh_marked.specs.Known.{ListsKnown}
 use Rattle.gh_lists.specs.Resting.{begins_nothing, rests, rests_on, runs_are, state_stays}
 use Rattle.gh_holds.proofs.AllActors.Stay.{ChangesNothing, led_by_it, sweeps_same, worker_sweeps_none}
@@ -53,7 +53,7 @@ module _ (setup : Setup) where
     module _ (among : e.actor < acks_of setup.layout) (x : LeavesAll) where
       pub leaves_all : IsStill e es
       leaves_all = record { changes = changes; no_point = x.no_point } where
-        answered_before : ℕ → List (Answered Act Answer)
+        answered_before : ℕ → List (AnsweredDeed Act Answer)
         answered_before a = answered_by k (deeds setup.shapes) (meaning setup.shapes) a es
 
         either : {A : Type 0} (b : Bool) (xs : List A) → cond b xs xs ≡ xs
@@ -73,7 +73,7 @@ module _ (setup : Setup) where
           words_are = ap (effect (words setup es)) x.loads;
           ever_is = ap (left_at (meaning setup.shapes) (ever setup es)) x.no_point;
           processors = λ a lt. same a lt (e.actor == a) refl;
-          answers = λ a lt. ap (λ (o : Option Act). map (λ (y : Answered Act Answer). y.answer) (cond (e.actor == a) (option_to_list (answered (meaning setup.shapes) (ever setup es) o) ++ answered_before a) (answered_before a))) x.no_point ∙ ap (map (λ (y : Answered Act Answer). y.answer)) (either (e.actor == a) (answered_before a));
+          answers = λ a lt. ap (λ (o : Option Act). map (λ (y : AnsweredDeed Act Answer). y.answer) (cond (e.actor == a) (option_to_list (answered (meaning setup.shapes) (ever setup es) o) ++ answered_before a) (answered_before a))) x.no_point ∙ ap (map (λ (y : AnsweredDeed Act Answer). y.answer)) (either (e.actor == a) (answered_before a));
           given = λ a lt. ap (λ (o : Option Answer). cond (e.actor == a) (option_to_list o ++ given_of (arena setup) first a es) (given_of (arena setup) first a es)) x.no_answer ∙ either (e.actor == a) (given_of (arena setup) first a es);
           ended = λ a lt g. ends a g (e.actor == a);
           led = led_by_it setup e es among;

@@ -16,7 +16,7 @@ use Rattle.gh_law.proofs.Vocabulary.{Ask, asked_after, asks, Coordinating, Coord
 use Rattle.gh_lists.specs.Resting.{runs_are}
 use Rattle.gh_lists.specs.Starts.{legal_start}
 use Rattle.gh_law.proofs.AllActors.Triggered.{asked as trigger_asked, saw}
-use Rattle.gh_lists.specs.Frames.{Leaves, leaves}
+use Rattle.gh_lists.specs.Frames.{leaves, LeavesCycleWords}
 use Rattle.gh_lists.specs.Quiet.{worker_quiet}
 use Rattle.gh_law.proofs.AllActors.Opened.{clears, IsOpened, none_opened, opened}
 use Rattle.gh_lists.specs.Steps as seats
@@ -105,8 +105,8 @@ module _ (setup : Setup)
       step : seats.Step setup e es
       step = seats.step setup e es writes legal (keeps es legal.0)
 
-      leaves_by : (m : Processor) → seats.RunsIt setup e es m → Leaves (told es) e.ask
-      leaves_by m x = subst (λ (q : Ask). Leaves (told es) q) (sym x.asked) (leaves (told es) _ (leaves_numbers writes (started (processor_kind setup.shapes setup.layout) e.begun m) x.sound_then))
+      leaves_by : (m : Processor) → seats.RunsIt setup e es m → LeavesCycleWords (told es) e.ask
+      leaves_by m x = subst (λ (q : Ask). LeavesCycleWords (told es) q) (sym x.asked) (leaves (told es) _ (leaves_numbers writes (started (processor_kind setup.shapes setup.layout) e.begun m) x.sound_then))
 
       -- a worker opens no cycle and asks for none, sweeping or not
       working : (w : Working) → seats.WorksIt setup e es w → LeavesRequest (told es) e.ask
@@ -128,7 +128,7 @@ module _ (setup : Setup)
 
       asked_by : (m : Processor) → seats.RunsIt setup e es m → Asked es → Asked (e ∷ es)
       asked_by m x before set = go y.want where
-        y : Leaves (told es) e.ask
+        y : LeavesCycleWords (told es) e.ask
         y = leaves_by m x
 
         go : (((before : ℕ) → asked_after e.ask before ≡ before) × (told (e ∷ es) cell.Want ≡ told es cell.Want)) ⊎ (((before : ℕ) → asked_after e.ask before ≡ suc before) × (told (e ∷ es) cell.Want ≡ bit_or (told es cell.Want) 1)) → WasAsked setup (e ∷ es)

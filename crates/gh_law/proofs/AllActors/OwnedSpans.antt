@@ -27,7 +27,7 @@ use Rattle.gh_alloc.specs.declared.sought.Sought.{Sought}
 use Rattle.gh_alloc.specs.declared.sought.Sought.TheVariants.{Small, Large}
 use Rattle.gh_alloc.specs.Find.{Finding}
 use Rattle.gh_alloc.specs.FindFacts as finding
-use Rattle.gh_alloc.specs.FindFacts.{head_of, IsCached, own_found, with_span}
+use Rattle.gh_alloc.specs.FindFacts.{cached_head, IsCached, own_found, with_span}
 use Rattle.gh_alloc.specs.FindSound.{IsSought}
 use Rattle.gh_alloc.specs.Place.{Placing}
 use Rattle.gh_alloc.specs.PlaceFacts as place
@@ -110,7 +110,7 @@ of_number i lt = go (eqb (i % 2) 1) refl where
 
 -- where the span of a span class begins, by what is cached; and that of a large object
 abbrev by_class : List (Option CachedSpan) → (large : Option ℕ) → SizeClass → Bool → Option ℕ
-by_class cache large (size.Small c) noscan = head_of (cached_in cache (Small (record { class = c; noscan = noscan })))
+by_class cache large (size.Small c) noscan = cached_head (cached_in cache (Small (record { class = c; noscan = noscan })))
 by_class cache large size.Large noscan = large
 
 -- one more, or one of the rest
@@ -140,7 +140,7 @@ module _ (z : Arena) (a : ℕ) (v : View) where
       let one : s.h ≡ h = cc in
       let class : h.class ≡ size.Small c.class = ap (λ (x : SpanHead). x.class) (sym one) ∙ s.class in
       let noscan : h.noscan ≡ c.noscan = ap (λ (x : SpanHead). x.noscan) (sym one) ∙ s.noscan_is in
-      ap (λ (x : SizeClass). by_class cache large x h.noscan) class ∙ (ap (λ (n : Bool). by_class cache large (size.Small c.class) n) noscan ∙ (ap head_of here ∙ ap Some head))
+      ap (λ (x : SizeClass). by_class cache large x h.noscan) class ∙ (ap (λ (n : Bool). by_class cache large (size.Small c.class) n) noscan ∙ (ap cached_head here ∙ ap Some head))
 
   of_list : (cache : List (Option CachedSpan)) (large : Option ℕ) (from : ℕ) → length cache ≡ SPAN_CLASSES → CachesFrom a v cache from → Are (lists (drop from cache)) (by_class cache large)
   of_list cache large from long caches p h held there =
@@ -196,7 +196,7 @@ module _ (z : Arena) (a : ℕ) (v : View) where
     of_rest (Large pages noscan) large p h held there = of_all cache large rests.stands.sits.cache rests.knows.caches p h held there
 
     -- the span that a search has cached is the processor's
-    of_found : (s : Sought) (o large : Option ℕ) (c : Option CachedSpan) (p : ℕ) (h : SpanHead) → IsSought s → c ≡ cached_in cache s → head_of c ≡ Some p → page_of (v.page p) ≡ Head h → by_class cache large h.class h.noscan ≡ Some p
+    of_found : (s : Sought) (o large : Option ℕ) (c : Option CachedSpan) (p : ℕ) (h : SpanHead) → IsSought s → c ≡ cached_in cache s → cached_head c ≡ Some p → page_of (v.page p) ≡ Head h → by_class cache large h.class h.noscan ≡ Some p
     of_found s o large None p h sought is head there = absurd (cc)
     of_found (Large pages noscan) o large (Some k) p h sought is head there = absurd (let no : Some k ≡ None = is in cc)
     of_found (Small c) o large (Some k) p h sought is head there = let one : k.head ≡ p = cc in of_cached cache large c k p h (sym is) (rests.knows.caches c k sought (sym is)) one there
@@ -218,9 +218,9 @@ module _ (z : Arena) (a : ℕ) (v : View) where
         large p h is class = ap (λ (c : SizeClass). by_class cache (finding.own f.stage) c h.noscan) class ∙ is
 
         each : (p : ℕ) (h : SpanHead) → finding.held f (rest m w) p ≡ true → page_of (v.page p) ≡ Head h → by_class cache (finding.own f.stage) h.class h.noscan ≡ Some p
-        each p h held there = elim (with_cases (finding.own f.stage) (with_span (head_of f.cached) (rest m w)) p held) [
+        each p h held there = elim (with_cases (finding.own f.stage) (with_span (cached_head f.cached) (rest m w)) p held) [
           | inl is ↦ large p h is (of_own f.stage p h facts.stage is there)
-          | inr beside ↦ elim (with_cases (head_of f.cached) (rest m w) p beside) [
+          | inr beside ↦ elim (with_cases (cached_head f.cached) (rest m w) p beside) [
             | inl is ↦ of_found w.sought None (finding.own f.stage) f.cached p h (subst IsSought wanted facts.seeks.wanted) cached is there
             | inr left ↦ of_rest w.sought (finding.own f.stage) p h left there
           ]
@@ -262,7 +262,7 @@ module _ (z : Arena) (a : ℕ) (v : View) where
           let same : h ≡ u.claim.h = cc in
           ap (λ (y : SpanHead). y.class) same ∙ own.2
 
-      of_given : (p : ℕ) (h : SpanHead) (g : give.Giving) → x.at / 1024 ≡ p → page_of (v.page p) ≡ Head h → place.GivesUp z a v (place.base x) g → h.class ≡ size.Large
+      of_given : (p : ℕ) (h : SpanHead) (g : give.SpanGiving) → x.at / 1024 ≡ p → page_of (v.page p) ≡ Head h → place.GivesUp z a v (place.base x) g → h.class ≡ size.Large
       of_given p h g is there u =
           let at : page_of (v.page p) ≡ Head u.back.h = ap (λ (n : ℕ). page_of (v.page n)) (sym (u.page ∙ is)) ∙ u.back.head in
           let both : Head h ≡ Head u.back.h = sym there ∙ at in

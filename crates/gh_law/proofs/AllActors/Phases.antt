@@ -42,7 +42,7 @@ use Rattle.gh_lists.specs.Handshake as handshake
 use Rattle.gh_law.specs.Phases.{EndsInOrder, FindsTheStop, IsMarkingStep, IsStopped, MarksInPhase, PhasesAreKnown, PhasesStand, StandsEmpty, StandsStill}
 use Rattle.gh_holds.specs.Below.{calm_now, IsInSweep, ListsKnown, sweep_of}
 use Rattle.gh_law.proofs.Vocabulary.{answers_of, given_of, opening_words, View, acks_of, Actor, actors_after, Answer, Arena, arena, Ask, asks_at, Begins, Check, Close, CloseStage, Coordinating, CoordStage, Count, CountStage, Done, Entry, HasState, Holds, HoldsAt, is_busy, is_busy_at, is_some, IsClosing, IsLed, IsQuiet, IsStartOf, IsTelling, KeepsIt, Kind, last_phase, leaves_at, LeaveStage, Legal, LoadAck, LoadWant, MarkOn, MarksNothing, new_polls, new_stage_at, NewStage, NobodyMarks, only_polls, Op, Open, OpenStage, option_to_list, place_of, Polling, PollStage, Processor, processor_at, processor_kind, Resumes, ResumeStage, SoundAt, SoundPlace, stage_at, stage_of, started, Stop, StopAgain, StopStage, Sweep, SweepAllStage, SweepStage, Task, Tell, TellStage, those, view, waiting, WaitStage, Watch, WatchStage, words, Words, Working, WorkerStage, WritesOf}
-use Rattle.gh_lists.specs.Going.{goes_then, IsGoing}
+use Rattle.gh_lists.specs.Going.{ClosingIsBusy, goes_then}
 use Rattle.gh_lists.specs.Sweeping.{idle_sweeps_none, asks_by_sweep}
 use Rattle.gh_lists.specs.Resting.{run_is}
 use Rattle.gh_lists.specs.Starts.{legal_start}
@@ -224,7 +224,7 @@ module _ (setup : Setup) (lists : ListsKnown setup) where
     closing_nobody y close_stage.Ended at going h = absurd h
     closing_nobody y _ at going h = inl (ap close.is_marking at)
 
-    marks_or_nobody : (p : CoordStage) → IsGoing p → HoldsAt setup es c p → leading.Marks p ⊎ NobodyThen p
+    marks_or_nobody : (p : CoordStage) → ClosingIsBusy p → HoldsAt setup es c p → leading.Marks p ⊎ NobodyThen p
     marks_or_nobody (Open o) going h = inr (record { off = λ x. x; has = h.0.has; cycle = c.begun; nobody = h.0.nobody })
     marks_or_nobody (Watch w) going h = inl tt
     marks_or_nobody (StopAgain st) going h = inl tt

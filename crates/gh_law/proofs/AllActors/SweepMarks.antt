@@ -13,7 +13,7 @@ use Rattle.gh_sweep.specs.Shared.{By, Done, Far, InSpan, IsNumbered, SaysFar, Un
 use Rattle.gh_sweep.specs.Shared as sweep
 use Rattle.gh_sweep.specs.Sound.{reached}
 use Rattle.gh_sweep.specs.Sweepers.{has_span, HasReached, marks_cleared}
-use Rattle.gh_state.specs.Shared.{marks_in, sweep_over, Told, sweep_of as spans_of}
+use Rattle.gh_state.specs.Shared.{marks_in, sweep_over, Told, seen_by_sweep}
 use Rattle.gh_coord.specs.declared.close.CloseStage.TheVariants as closing
 use Rattle.gh_coord.specs.Closing as closes_by
 use Rattle.gh_coord.specs.declared.tell.TellStage.TheVariants as telling
@@ -26,10 +26,10 @@ use Rattle.gh_mutator.specs.declared.task.Task.TheVariants as task
 use Rattle.gh_mutator_heap.specs.Facts.{KnowsAt, KnowsNew}
 use Rattle.gh_mutator_heap.specs.PollHeap.{Rests}
 use Rattle.gh_lists.specs.declared.handshake.Actor.TheVariants as actor
-use Rattle.gh_law.specs.SweepMarks.{AllAreSwept, CachedAreSwept, IsRunning, IsUncut, MarksAreLeft, OwnedAreSwept, SaysHowFar, SpansAreNumbered, SweepsStand}
+use Rattle.gh_law.specs.SweepMarks.{CachedAreSwept, EachSpanIsSwept, IsRunning, IsUncut, MarksAreLeft, OwnedAreSwept, SaysHowFar, SpansAreNumbered, SweepsStand}
 use Rattle.gh_holds.specs.Below.{IsInSweep, IsMarking, IsUnderWay, Known, sweep_of}
-use Rattle.gh_law.proofs.Vocabulary.{generation_of as generation_at, marks_at, Runs, View, ◌%◌, acks_of, Actor, actors_after, alloc_words, Arena, arena, Check, Close, CloseStage, Coordinating, CoordStage, Count, CycleEnd, Entry, Ever, ever, HasState, Head, HoldsAt, IsBeginning, IsClosing, IsInLimits, IsLed, IsTelling, Legal, mark_words, MarkOn, Name, new_polls, NewStage, Op, Open, opening_processor, page_of, PageWord, page_words, Polling, processor_at, Reach, Row, row_bit, seats_of, State, StopAgain, Sweep, SweepStage, Task, Tell, TellStage, those, view, Watch, Words, words}
-use Rattle.gh_lists.specs.Going.{goes_then, IsGoing}
+use Rattle.gh_law.proofs.Vocabulary.{generation_of as generation_at, marks_at, SweepRuns, View, ◌%◌, acks_of, Actor, actors_after, alloc_words, Arena, arena, Check, Close, CloseStage, Coordinating, CoordStage, Count, CycleEnd, Entry, Ever, ever, HasState, Head, HoldsAt, IsBeginning, IsClosing, IsInLimits, IsLed, IsTelling, Legal, mark_words, MarkOn, Name, new_polls, NewStage, Op, Open, opening_processor, page_of, PageWord, page_words, Polling, processor_at, Reach, Row, row_bit, seats_of, State, StopAgain, Sweep, SweepStage, Task, Tell, TellStage, those, view, Watch, Words, words}
+use Rattle.gh_lists.specs.Going.{ClosingIsBusy, goes_then}
 use Rattle.gh_holds.specs.HasAt.{has_at}
 use Rattle.gh_lists.specs.Seats.{other}
 use Rattle.gh_holds.specs.Standing.{once}
@@ -100,7 +100,7 @@ module _ (setup : Setup) (es : List (Entry Op)) (has : HasState setup es) where
   abbrev now : Words
   now = has.state.heap.words
 
-  abbrev good : sweep.Good has.state.end (sweep.view (spans_of has.state))
+  abbrev good : sweep.Good has.state.end (sweep.view (seen_by_sweep has.state))
   good = has.good.sweep
 
   told_are : now ≡ words setup es
@@ -118,7 +118,7 @@ module _ (setup : Setup) (es : List (Entry Op)) (has : HasState setup es) where
   owned_now : OwnedAreSwept now
   owned_now p h is owned = (has.good.heap.numbers p h is).owned owned
 
-  swept_now : ((p : ℕ) → s.far p ≡ Done) → AllAreSwept now
+  swept_now : ((p : ℕ) → s.far p ≡ Done) → EachSpanIsSwept now
   swept_now far p h is = number_is (now cell.Gen) h (s.far p) (number_at p h is) (far p)
 
   pub spans_numbered : SpansAreNumbered (words setup es)
@@ -127,8 +127,8 @@ module _ (setup : Setup) (es : List (Entry Op)) (has : HasState setup es) where
   pub owned_swept : OwnedAreSwept (words setup es)
   owned_swept = subst OwnedAreSwept told_are owned_now
 
-  pub all_swept : ((p : ℕ) → s.far p ≡ Done) → AllAreSwept (words setup es)
-  all_swept far = subst AllAreSwept told_are (swept_now far)
+  pub all_swept : ((p : ℕ) → s.far p ≡ Done) → EachSpanIsSwept (words setup es)
+  all_swept far = subst EachSpanIsSwept told_are (swept_now far)
 
   -- what a processor has cached
   pub cached_swept : (a : ℕ) → a < setup.layout.procs → CachedAreSwept (words setup es) a (processor_at setup es a)
@@ -173,7 +173,7 @@ module _ (setup : Setup) (es : List (Entry Op)) (has : HasState setup es) where
       go true is = absurd (no_bit (mark_words now) x (clear_mark (x / 64) is) set)
       go false is = good.stand x (sym (same_bit (mark_words now) (marks_at e) x (kept_mark (x / 64) is)) ∙ set)
 
-    module _ (limits : IsInLimits setup.layout) (known : Known) (runs : (who : ℕ) (m : Sweeping) → sweeps who ≡ Some m → Runs who s m) where
+    module _ (limits : IsInLimits setup.layout) (known : Known) (runs : (who : ℕ) (m : Sweeping) → sweeps who ≡ Some m → SweepRuns who s m) where
       -- a sweep has not cut the words that it has not reached
       uncut : (who i : ℕ) (m : Sweeping) → sweeps who ≡ Some m → IsUncut m i → s.cut i ≡ false
       uncut who i m is u =
@@ -233,7 +233,7 @@ module _ (setup : Setup) (limits : IsInLimits setup.layout) (known : Known) (es 
   far_done : (has : HasState setup es) → IsUnderWay has.state → (p : ℕ) → has.state.far p ≡ Done
   far_done has under p = has.good.told under.0 under.1 p
 
-  swept_at : (p : CoordStage) → (leading.Marks p → IsMarking setup es) → HoldsAt setup es c p → IsBeginning p ⊎ leading.Marks p → AllAreSwept (words setup es)
+  swept_at : (p : CoordStage) → (leading.Marks p → IsMarking setup es) → HoldsAt setup es c p → IsBeginning p ⊎ leading.Marks p → EachSpanIsSwept (words setup es)
   swept_at (Open o) marking h (inl b) = all_swept setup es h.0.has (far_done h.0.has h.0.under_way)
   swept_at _ marking h (inl b) = absurd b
   swept_at _ marking h (inr on) = let k = (marking on).known in all_swept setup es k.has (far_done k.has k.under_way)
@@ -242,9 +242,9 @@ module _ (setup : Setup) (limits : IsInLimits setup.layout) (known : Known) (es 
   Left = MarksAreLeft (words setup es) (ever setup es) (λ who. sweep_of (at es who))
 
   module _ (legal : Legal (those setup) es) where
-    runs_there : (has : HasState setup es) (who : ℕ) (m : Sweeping) → sweep_of (at es who) ≡ Some m → Runs who has.state m
+    runs_there : (has : HasState setup es) (who : ℕ) (m : Sweeping) → sweep_of (at es who) ≡ Some m → SweepRuns who has.state m
     runs_there has who m is = go (ltb who (seats_of setup.layout)) refl where
-      go : (b : Bool) → ltb who (seats_of setup.layout) ≡ b → Runs who has.state m
+      go : (b : Bool) → ltb who (seats_of setup.layout) ≡ b → SweepRuns who has.state m
       go true x = (subst (IsInSweep who has.state) is (has.sweeps who (grind (arith, nat_tests)))).0
       go false x = absurd (let no : None ≡ Some m = sym (none_beyond setup known es legal who (grind (arith, nat_tests))) ∙ is in cc)
 
@@ -268,7 +268,7 @@ module _ (setup : Setup) (limits : IsInLimits setup.layout) (known : Known) (es 
     opening_left : (has : HasState setup es) → IsUnderWay has.state → ((i : ℕ) → has.state.heap.words (cell.Mark i) ≡ 0) → Left
     opening_left has under none = no_marks_left setup es has (far_done has under) none (λ who. none_runs has under who (sweep_of (at es who)) refl)
 
-    left_at : (p : CoordStage) → IsGoing p → (leading.Marks p → ⊥) → HoldsAt setup es c p → Left
+    left_at : (p : CoordStage) → ClosingIsBusy p → (leading.Marks p → ⊥) → HoldsAt setup es c p → Left
     left_at (Open o) going off h = opening_left h.0.has h.0.under_way h.0.marks
     left_at (Watch w) going off h = absurd (off tt)
     left_at (StopAgain st) going off h = absurd (off tt)
@@ -282,7 +282,7 @@ module _ (setup : Setup) (limits : IsInLimits setup.layout) (known : Known) (es 
     left_at _ going off q = off_left q.has q.over
 
   module _ (legal : Legal (those setup) es) (led : IsLed setup es c) (marking : leading.Marks c.stage → IsMarking setup es) (h : HoldsAt setup es c c.stage) where
-    going : IsGoing c.stage
+    going : ClosingIsBusy c.stage
     going = goes_then setup es c led
 
     has : HasState setup es
@@ -296,6 +296,6 @@ module _ (setup : Setup) (limits : IsInLimits setup.layout) (known : Known) (es 
       numbers = spans_numbered setup es has;
       owned = owned_swept setup es has;
       cached = cached_swept setup es has;
-      marked = λ d too. subst (λ (x : Coordinating). IsBeginning x.stage ⊎ leading.Marks x.stage → AllAreSwept (words setup es)) (one_lead d too) (swept_at c.stage marking h);
+      marked = λ d too. subst (λ (x : Coordinating). IsBeginning x.stage ⊎ leading.Marks x.stage → EachSpanIsSwept (words setup es)) (one_lead d too) (swept_at c.stage marking h);
       marks = λ d too. subst (λ (x : Coordinating). (leading.Marks x.stage → ⊥) → Left) (one_lead d too) (λ off. left_at legal c.stage going off h);
     }

@@ -77,7 +77,7 @@ new_searches : (w : Wanted) (st : NewStage) (found : ℕ) (x : Act) → acting (
 new_searches w (Search true s) found x e f = (same_op (new.acts_at (Search true s) found) true (new.op_of w) x e, tt)
 new_searches w (Search false s) found x e f = absurd (none_at (new.op_of w) true x e)
 new_searches w (Wait y) found x e f = absurd (none_at (new.op_of w) true x e)
-new_searches w (Place p) found x e f = absurd (not_full (place.acts p) (new.op_of w) x e f)
+new_searches w (Place p) found x e f = absurd (not_full (place.makes_its_object p) (new.op_of w) x e f)
 new_searches w (Want n) found x e f = absurd (none_at (new.op_of w) false x e)
 new_searches w (Assist n y) found x e f = absurd (none_at (new.op_of w) false x e)
 
@@ -218,7 +218,7 @@ module _ (shapes : List Shape) (m : Processor) (low swept found : ℕ) where
   new_steps : (w : Wanted) (st : NewStage) → HasWaitedAt low swept st → (IsSearchingAt st → low ≤ m.poll.local.view.begun) → (new.asks_at m st ≡ ask.Load cell.Swept → found ≤ swept) → HasWaited low swept (new.takes_at shapes m w st found).task
   new_steps w (Search again s) h knows so = finds (cache_span m w.sought (search.goes s found).find.cached) w again (search.goes s found) (search.gives s found) (knows tt) (was_second again s h)
   new_steps w (Wait x) h knows so = waited w x (wait.gives (wait.waiting x m.poll) found) refl h so
-  new_steps w (Place p) h knows so = placed w (place.acts p) p.at (place.goes p found)
+  new_steps w (Place p) h knows so = placed w (place.makes_its_object p) p.at (place.goes p found)
   new_steps w (Want n) h knows so = tt
   new_steps w (Assist n x) h knows so = assisted w n (assist.goes x found) (assist.gives x found)
 

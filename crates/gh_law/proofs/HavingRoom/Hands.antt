@@ -7,8 +7,8 @@ use Rattle.gh_barrier.specs.declared.write_pointer.WriteStage.{WriteStage}
 use Rattle.gh_barrier.specs.declared.write_pointer.WriteStage.TheVariants as write_stage
 use Rattle.gh_barrier.specs.Facts as write
 use Rattle.gh_barrier.specs.Listing.{Writing}
-use Rattle.gh_base.specs.Holding.{Holds as HoldsBuffer}
-use Rattle.gh_marks.specs.Colours.{buffers_of}
+use Rattle.gh_base.specs.Holding.{HoldsBuffer}
+use Rattle.gh_marks.specs.Colours.{buffers_as_held}
 use Rattle.gh_marks.specs.Seats.{InHand}
 use Rattle.gh_mutator.specs.declared.give.GiveStage.{GiveStage}
 use Rattle.gh_mutator.specs.declared.give.GiveStage.TheVariants as give_stage
@@ -36,7 +36,7 @@ use Rattle.gh_law.proofs.Vocabulary.{Cycle, GlobalStage, Hands, Held, LeaveStage
 
 module _ (z : Cycle) (a : ℕ) (s : Marking) where
   abbrev HasSome : Type 0
-  HasSome = (held : Option Held) × HoldsBuffer (buffers_of s.words s.filled) a held
+  HasSome = (held : Option Held) × HoldsBuffer (buffers_as_held s.words s.filled) a held
 
   by_hand : (hand : InHand) → Hands a s hand → HasSome
   by_hand hand h = (hand.held, h.holds)

@@ -2,10 +2,10 @@
 use Rattle.std.proofs.Common.{◌≡◌, ℕ, ◌+◌, ◌-◌, ◌*◌, ◌<◌, ◌≤◌, Bool, true, false, ltb, refl, sym, ap, subst, ◌∙◌, arith, List, Option}
 use Rattle.gh_base.specs.declared.cell.Cell.TheVariants as cell
 use Rattle.gh_base.specs.Cells.{seats_of}
-use Rattle.gh_base.specs.Holding.{Buffers, Holds as HoldsBuffer}
+use Rattle.gh_base.specs.Holding.{Buffers, HoldsBuffer}
 use Rattle.gh_room.specs.Room.{AreDistinct, AreOfSeats, BuffersHaveRoom, HasRoom}
 use Rattle.gh_coord.specs.Handshake as leading
-use Rattle.gh_marks.specs.Colours.{Buffered, buffers_of, Colour, IsShaded}
+use Rattle.gh_marks.specs.Colours.{Buffered, buffers_as_held, Colour, IsShaded}
 use Rattle.gh_lists.specs.declared.handshake.Actor.TheVariants as actor
 use Rattle.gh_law.specs.Actors.{AllStands}
 use Rattle.gh_holds.specs.Below.{CycleIsDrawn}
@@ -24,7 +24,7 @@ module _ (setup : Setup) (es : List (Entry Op)) (c : Coordinating) (d : CycleIsD
   s = d.shared
 
   abbrev grey : Buffers
-  grey = buffers_of d.shared.words d.shared.filled
+  grey = buffers_as_held d.shared.words d.shared.filled
 
   -- the object that an entry names
   abbrev object : (b j : ℕ) → ℕ

@@ -11,7 +11,7 @@ use Rattle.gh_base.specs.declared.value.Name.{Name}
 use Rattle.gh_base.specs.Shapes.{is_pointer, shape_at}
 use Rattle.gh_model.specs.declared.EverValue.{EverValue}
 use Rattle.gh_model.specs.declared.EverValue.TheVariants as ever
-use Rattle.gh_model.specs.Ever.{Ever, Reach, from_field, from_global, from_register, answer_of, ever_after, first_value, fits, has_field, is_number, is_pointer_field, load_answer, next_name, opening_ever, same_name, sets_global, store_answer, stores_value, takes_answer, told, with_end, with_field, with_global, with_object, with_register}
+use Rattle.gh_model.specs.Ever.{Ever, Reach, from_field, from_global, from_register, answer_of, ever_after, first_value, fits, has_field, is_number, is_pointer_field, load_answer, next_name, opening_ever, same_name, sets_global, store_answer, stores_value, takes_answer, answer_of_value, with_end, with_field, with_global, with_object, with_register}
 use Rattle.gh_heap.specs.Objects.{IsMade}
 use Rattle.gh_mutator.specs.Deeds.{acted}
 use Rattle.gh_mutator.specs.Listing.{Act}
@@ -79,7 +79,7 @@ named-object shapes e g t h = record {
 -- What a statement leaves.
 
 module _ (shapes : List Shape) (e : Ever) (h : IsNamed e) where
-  takes : (g d : ℕ) (x : EverValue) → Made e x → IsNamed (takes_answer e g d (told x))
+  takes : (g d : ℕ) (x : EverValue) → Made e x → IsNamed (takes_answer e g d (answer_of_value x))
   takes g d ever.Nil made = named-register e g d ever.Nil h (λ n is. absurd (cc))
   takes g d (ever.Int i) made = named-register e g d (ever.Int i) h (λ n is. absurd (cc))
   takes g d (ever.Ref m) made = named-register e g d (ever.Ref m) h made
@@ -88,7 +88,7 @@ module _ (shapes : List Shape) (e : Ever) (h : IsNamed e) where
   loads g d ever.Nil k = h
   loads g d (ever.Int i) k = h
   loads g d (ever.Ref m) k = by (has_field shapes e m k) where
-    by : (b : Bool) → IsNamed (takes_answer e g d (cond b (told (e.field m k)) (answer.Fault fault.Field)))
+    by : (b : Bool) → IsNamed (takes_answer e g d (cond b (answer_of_value (e.field m k)) (answer.Fault fault.Field)))
     by true = takes g d (e.field m k) (λ n is. h.fields m k n is)
     by false = h
 

@@ -9,7 +9,7 @@ use Rattle.gh_class.specs.Classes.{IsSizeClass, pages_of, slot_of, slots_of}
 use Rattle.gh_class.specs.declared.class.SizeClass.{SizeClass}
 use Rattle.gh_class.specs.declared.class.SizeClass.TheVariants as size
 use Rattle.gh_heap.specs.Objects.{IsMade}
-use Rattle.gh_heap.specs.Spans.{FitsClass, is_own_class, IsSlotOf, number_of, slot_count, slot_size}
+use Rattle.gh_heap.specs.Spans.{FitsClass, is_own_class, IsSlotOf, number_of_class, slot_count, slot_size}
 use Rattle.gh_state.specs.Slots.{slot_row, SlotsAreRead}
 use Rattle.gh_sweep.specs.Counts.{is_set}
 use Rattle.gh_sweep.specs.Listing.{slot_bytes, slot_bytes_of}
@@ -60,8 +60,8 @@ module _ (classes : Classes) where
         nothing z = grind arith
 
   -- by its class
-  lies_by : (class : SizeClass) (pages i : ℕ) → 1 ≤ pages → IsSizeClass class → (class ≢ size.Large → pages ≡ pages_of (number_of class)) → i < cond (is_own_class class) 1 (slots_of (number_of class)) →
-      Lies pages i (cond (is_own_class class) (1024 * pages) (slot_of (number_of class) / 8)) (slot_bytes_of class pages)
+  lies_by : (class : SizeClass) (pages i : ℕ) → 1 ≤ pages → IsSizeClass class → (class ≢ size.Large → pages ≡ pages_of (number_of_class class)) → i < cond (is_own_class class) 1 (slots_of (number_of_class class)) →
+      Lies pages i (cond (is_own_class class) (1024 * pages) (slot_of (number_of_class class) / 8)) (slot_bytes_of class pages)
   lies_by (size.Small c) pages i some fit small inside = small_lies c pages i fit (small (λ e. cc)) inside
   lies_by size.Large pages i some fit small inside = large_lies pages i some inside
 

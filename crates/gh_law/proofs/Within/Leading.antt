@@ -12,7 +12,7 @@ use Rattle.gh_mutator.specs.Processor.{opening_processor}
 use Rattle.gh_worker.specs.Listing as worker
 use Rattle.gh_lists.specs.declared.handshake.Actor.{Actor}
 use Rattle.gh_lists.specs.declared.handshake.Actor.TheVariants as actor
-use Rattle.gh_lists.specs.Handshake.{actors, takes, Setup}
+use Rattle.gh_lists.specs.Handshake.{actors, actor_takes, Setup}
 use Rattle.gh_law.proofs.Vocabulary.{IsInLimits, IsLed, Op}
 use Rattle.gh_law.proofs.Within.Coordinators.{first, FitsWhole, goes_on, within}
 
@@ -36,12 +36,12 @@ module _ (setup : Setup) (limits : IsInLimits setup.layout) where
   begun (Some o) (actor.Runs m) f = f
   begun (Some o) _ f = f
 
-  taken : (found : ℕ) (m : Actor) → FitsLead setup.layout m → FitsLead setup.layout (takes setup.shapes m found)
+  taken : (found : ℕ) (m : Actor) → FitsLead setup.layout m → FitsLead setup.layout (actor_takes setup.shapes m found)
   taken found (actor.Runs m) f = tt
   taken found (actor.Marks w) f = tt
   taken found (actor.Leads c) f = (stays c found ∙ f.0, goes_on c found f.1)
 
-  next : (e : Entry Op) (m : Actor) (b : Bool) → FitsLead setup.layout m → FitsLead setup.layout (cond b (takes setup.shapes (started all e.begun m) e.found) m)
+  next : (e : Entry Op) (m : Actor) (b : Bool) → FitsLead setup.layout m → FitsLead setup.layout (cond b (actor_takes setup.shapes (started all e.begun m) e.found) m)
   next e m true f = taken e.found (started all e.begun m) (begun e.begun m f)
   next e m false f = f
 

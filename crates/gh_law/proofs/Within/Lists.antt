@@ -4,7 +4,7 @@ use Rattle.gh_assist.specs.Within.{TakingAndScanningAreWithin}
 use Rattle.gh_coord.specs.Listing as coord
 use Rattle.gh_worker.specs.Listing as worker
 use Rattle.gh_lists.specs.declared.handshake.Actor.TheVariants as actor
-use Rattle.gh_lists.specs.Handshake.{start, takes, Setup}
+use Rattle.gh_lists.specs.Handshake.{start, actor_takes, Setup}
 use Rattle.gh_law.proofs.Vocabulary.{acks_of, Actor, actors, cell_of, Entry, InRange, IsInLimits, Kind, Layout, nat_tests, Op, opening_processor, started, state_of, those, Working}
 use Rattle.gh_lists.specs.Seats.{IsSeated, seated}
 use Rattle.gh_law.proofs.Within.Workers.{first, FitsWhole, goes_on, within}
@@ -31,12 +31,12 @@ module _ (k : TakingAndScanningAreWithin) (setup : Setup) (some : 1 ≤ setup.la
   begun (Some o) (actor.Marks w) f = f
   begun (Some o) (actor.Leads c) f = tt
 
-  takes_fit : (found : ℕ) (m : Actor) → IsFit m → IsFit (takes setup.shapes m found)
+  takes_fit : (found : ℕ) (m : Actor) → IsFit m → IsFit (actor_takes setup.shapes m found)
   takes_fit found (actor.Runs m) f = tt
   takes_fit found (actor.Marks w) f = goes_on k w found f
   takes_fit found (actor.Leads c) f = tt
 
-  next : (e : Entry Op) (m : Actor) (b : Bool) → IsFit m → IsFit (cond b (takes setup.shapes (started all e.begun m) e.found) m)
+  next : (e : Entry Op) (m : Actor) (b : Bool) → IsFit m → IsFit (cond b (actor_takes setup.shapes (started all e.begun m) e.found) m)
   next e m true f = takes_fit e.found (started all e.begun m) (begun e.begun m f)
   next e m false f = f
 

@@ -1,6 +1,6 @@
 -- Each step of a worker is on a word that there is, whatever is found.
 use Rattle.std.proofs.Common.{◌≡◌, ℕ, ◌+◌, ◌-◌, ◌<◌, ◌≤◌, ◌==◌, Bool, true, false, cond, ltb, Option, Some, None, refl, arith}
-use Rattle.gh_assist.specs.Within.{HasRoom, IsTaken, RoomWithin, ScanWithin, ShadeWithin, TakeWithin, TakingAndScanningAreWithin}
+use Rattle.gh_assist.specs.Within.{HasRoomForEntry, RoomWithin, ScanWithin, ShadeWithin, TakenIsReference, TakeWithin, TakingAndScanningAreWithin}
 use Rattle.gh_base.specs.declared.pack.Phase.{Phase}
 use Rattle.gh_base.specs.declared.pack.PageWord.TheVariants as page_word
 use Rattle.gh_base.specs.declared.pack.Phase.TheVariants as phase
@@ -125,7 +125,7 @@ module _ (k : TakingAndScanningAreWithin) (w : Working) (f : FitsWhole w) where
   after_resume r None s = at_stage (at.Resuming r) s
   after_resume r (Some out) s = record { pages = f.pages; seat = f.seat; held = f.held; page = f.page; stage = tt }
 
-  after_take : (t : take.EntryTaking) (out : Option (Option ℕ)) → TakeWithin l t → IsTaken l out → FitsWhole (worker.after_take w t out)
+  after_take : (t : take.EntryTaking) (out : Option (Option ℕ)) → TakeWithin l t → TakenIsReference l out → FitsWhole (worker.after_take w t out)
   after_take t None s r = at_stage (at.Taking t) s
   after_take t (Some None) s r = on _ at.LoadCursor (k.take_holds l t s) tt
   after_take t (Some (Some reference)) s r = on _ _ (k.take_holds l t s) (k.scan_first l w.seat reference (take.held_at t.stage) r (k.take_holds l t s))
@@ -143,7 +143,7 @@ module _ (k : TakingAndScanningAreWithin) (w : Working) (f : FitsWhole w) where
   after_shade sh (Some shaded.Done) s = done_with sh.held 1 s.held
   after_shade sh (Some shaded.WantsRoom) s = at_stage _ (s, k.room_first l w.seat sh.held s.held)
 
-  after_room : (sh : shade.Shading) (r : room.RoomFinding) (out : Option Held) → ShadeWithin l sh → RoomWithin l r → HasRoom l out → FitsWhole (worker.after_room w sh r out)
+  after_room : (sh : shade.Shading) (r : room.RoomFinding) (out : Option Held) → ShadeWithin l sh → RoomWithin l r → HasRoomForEntry l out → FitsWhole (worker.after_room w sh r out)
   after_room sh r None s x g = at_stage (at.FindRoom sh r) (s, x)
   after_room sh r (Some h) s x g = at_stage _ (k.shade_told l sh h s g)
 

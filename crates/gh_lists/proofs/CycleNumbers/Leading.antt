@@ -14,9 +14,9 @@ use Rattle.gh_coord.specs.SweepingAll as all
 use Rattle.gh_coord.specs.Telling as tell
 use Rattle.gh_coord.specs.Watching as watch
 use Rattle.gh_lists.proofs.Vocabulary.{after_check, after_close, after_count, after_open, after_stop, after_stop_again, after_sweep, after_tell, after_watch, All, Ask, asks_at, at_stage, Begun, cell_of, Check, Checked, Close, CloseStage, Coordinating, CoordStage, Count, CountStage, Done, effect, Ended, goes_at, LoadAck, LoadWant, MarkOn, NotYet, Numbered, Open, opened_after, OpenStage, Outside, Part, part_of, Stop, StopAgain, stops_world, Sweep, Tell, TellStage, Watch, Watched, Words}
-use Rattle.gh_lists.specs.Frames.{Numbers, numbers_of}
+use Rattle.gh_lists.specs.Frames.{CycleWords, numbers_of}
 use Rattle.gh_lists.specs.Quiet.{all_quiet, Quiet, stop_quiet, watch_quiet}
-use Rattle.gh_lists.specs.Parts.{At, Own, own_of, to_begun, to_checked, to_counted, to_ended, to_numbered, to_opened, to_outside}
+use Rattle.gh_lists.specs.Parts.{At, Own, own_counts, to_begun, to_checked, to_counted, to_ended, to_numbered, to_opened, to_outside}
 
 -- what is to be told
 abbrev pub Reads : Coordinating → CoordStage → Type 0
@@ -24,8 +24,8 @@ Reads c (Tell t) = t.cycle ≡ c.begun
 Reads c _ = Unit {0}
 
 module _ (room : ℕ) where
-  pub record Is (opened : ℕ) (n : Numbers) (c : Coordinating) (p : CoordStage) : Type 0 where
-    pub at : At room opened n (own_of c) (part_of p)
+  pub record Is (opened : ℕ) (n : CycleWords) (c : Coordinating) (p : CoordStage) : Type 0 where
+    pub at : At room opened n (own_counts c) (part_of p)
     pub reads : Reads c p
 
   module _ (opened : ℕ) (w : Words) (s : Coordinating) (marks : ℕ) where
@@ -33,11 +33,11 @@ module _ (room : ℕ) where
     abbrev u : Coordinating
     u = record s { marks = marks }
 
-    abbrev n : Numbers
+    abbrev n : CycleWords
     n = numbers_of w
 
     abbrev In : Part → Type 0
-    In part = At room opened n (own_of s) part
+    In part = At room opened n (own_counts s) part
 
     abbrev Next : Ask → Coordinating → Type 0
     Next ask to = Is (opened_after ask opened) (numbers_of (effect w ask)) to to.stage
@@ -57,69 +57,69 @@ module _ (room : ℕ) where
     wants false h = record { at = h; reads = tt }
 
     stopping : (st next : stop.Stopping) (out : Option (Unit {0})) → opened + 2 ≤ 2 ^ 33 → In Outside → Next (stop.asks st) (after_stop (at_stage u (Stop next)) out)
-    stopping st next None few h = record { at = keeps (stop.asks st) (own_of s) Outside (stop_quiet w st st.stage) h; reads = tt }
-    stopping st next (Some x) few h = record { at = keeps (stop.asks st) _ Numbered (stop_quiet w st st.stage) (to_numbered room opened n (own_of s) few h); reads = tt }
+    stopping st next None few h = record { at = keeps (stop.asks st) (own_counts s) Outside (stop_quiet w st st.stage) h; reads = tt }
+    stopping st next (Some x) few h = record { at = keeps (stop.asks st) _ Numbered (stop_quiet w st st.stage) (to_numbered room opened n (own_counts s) few h); reads = tt }
 
     -- a cycle is opened
     opening : (o : opens_by.CycleOpening) (p : OpenStage) (found : ℕ) → opens_by.is_busy p ≡ true → o.cycle ≡ s.begun → In (part_of (Open (record o { stage = p }))) →
         Next (opens_by.asks_at o p) (after_open (at_stage u (Open (opens_by.goes_at o p found))) (opens_by.given_at (opens_by.behind p)))
-    opening o open_stage.ClearWant found b e h = record { at = to_opened room opened n (own_of s) h; reads = tt }
-    opening o open_stage.StoreBegun found b e h = rw e (record { at = to_begun room opened n (own_of s) h; reads = tt })
+    opening o open_stage.ClearWant found b e h = record { at = to_opened room opened n (own_counts s) h; reads = tt }
+    opening o open_stage.StoreBegun found b e h = rw e (record { at = to_begun room opened n (own_counts s) h; reads = tt })
     opening o open_stage.Ended found b e h = absurd cc
     opening o _ found b e h = record { at = h; reads = tt }
 
     -- it is marked
     watching : (v next : watch.Watching) (out : Option Watched) → In Begun → Next (watch.asks v) (after_watch (at_stage u (Watch next)) out)
-    watching v next None h = record { at = keeps (watch.asks v) (own_of s) Begun (watch_quiet w v v.stage) h; reads = tt }
-    watching v next (Some All) h = record { at = keeps (watch.asks v) (own_of s) Begun (watch_quiet w v v.stage) h; reads = tt }
-    watching v next (Some NotYet) h = record { at = keeps (watch.asks v) (own_of s) Begun (watch_quiet w v v.stage) h; reads = tt }
+    watching v next None h = record { at = keeps (watch.asks v) (own_counts s) Begun (watch_quiet w v v.stage) h; reads = tt }
+    watching v next (Some All) h = record { at = keeps (watch.asks v) (own_counts s) Begun (watch_quiet w v v.stage) h; reads = tt }
+    watching v next (Some NotYet) h = record { at = keeps (watch.asks v) (own_counts s) Begun (watch_quiet w v v.stage) h; reads = tt }
 
     stopping_again : (st next : stop.Stopping) (out : Option (Unit {0})) → In Begun → Next (stop.asks st) (after_stop_again (at_stage u (StopAgain next)) out)
-    stopping_again st next None h = record { at = keeps (stop.asks st) (own_of s) Begun (stop_quiet w st st.stage) h; reads = tt }
-    stopping_again st next (Some x) h = record { at = keeps (stop.asks st) (own_of s) Begun (stop_quiet w st st.stage) h; reads = tt }
+    stopping_again st next None h = record { at = keeps (stop.asks st) (own_counts s) Begun (stop_quiet w st st.stage) h; reads = tt }
+    stopping_again st next (Some x) h = record { at = keeps (stop.asks st) (own_counts s) Begun (stop_quiet w st st.stage) h; reads = tt }
 
     checking : (v next : watch.Watching) (out : Option Watched) → opened + 2 ≤ 2 ^ 33 → In Begun → Next (watch.asks v) (after_check (at_stage u (Check next)) out)
-    checking v next None few h = record { at = keeps (watch.asks v) (own_of s) Begun (watch_quiet w v v.stage) h; reads = tt }
-    checking v next (Some All) few h = record { at = keeps (watch.asks v) _ Checked (watch_quiet w v v.stage) (to_checked room opened n (own_of s) few h); reads = tt }
-    checking v next (Some NotYet) few h = record { at = keeps (watch.asks v) (own_of s) Begun (watch_quiet w v v.stage) h; reads = tt }
+    checking v next None few h = record { at = keeps (watch.asks v) (own_counts s) Begun (watch_quiet w v v.stage) h; reads = tt }
+    checking v next (Some All) few h = record { at = keeps (watch.asks v) _ Checked (watch_quiet w v v.stage) (to_checked room opened n (own_counts s) few h); reads = tt }
+    checking v next (Some NotYet) few h = record { at = keeps (watch.asks v) (own_counts s) Begun (watch_quiet w v v.stage) h; reads = tt }
 
     -- its marking is ended
     closing : (c : close.Closing) (p : CloseStage) (found : ℕ) → close.is_busy p ≡ true → c.generation ≡ s.generation → In (part_of (Close (record c { stage = p }))) →
         Next (close.asks_at c p) (after_close (at_stage u (Close (close.goes_at c p found))) (close.given (close.goes_at c p found)))
     closing c close_stage.LoadBank found b e h = record { at = h; reads = tt }
     closing c close_stage.ClearBank found b e h = record { at = h; reads = tt }
-    closing c close_stage.StoreGen found b e h = rw e (record { at = to_ended room opened n (own_of s) h; reads = tt })
+    closing c close_stage.StoreGen found b e h = rw e (record { at = to_ended room opened n (own_counts s) h; reads = tt })
     closing c close_stage.StorePhase found b e h = record { at = h; reads = tt }
     closing c close_stage.Ended found b e h = absurd cc
 
     -- it is swept
     sweeping : (v next : all.SweepingAll) (out : Option (Unit {0})) → In Ended → Next (all.asks v) (after_sweep (at_stage u (Sweep next)) out)
-    sweeping v next None h = record { at = keeps (all.asks v) (own_of s) Ended (all_quiet w v v.stage) h; reads = tt }
-    sweeping v next (Some x) h = record { at = keeps (all.asks v) (own_of s) Ended (all_quiet w v v.stage) h; reads = tt }
+    sweeping v next None h = record { at = keeps (all.asks v) (own_counts s) Ended (all_quiet w v v.stage) h; reads = tt }
+    sweeping v next (Some x) h = record { at = keeps (all.asks v) (own_counts s) Ended (all_quiet w v v.stage) h; reads = tt }
 
     -- what the sweep has counted is read, and told
     counting : (c : count.Counting) (p : CountStage) (found : ℕ) → count.is_busy p ≡ true → In Ended →
         Next (count.asks_at p) (after_count (at_stage u (Count (count.goes_at c p found))) (count.given (count.goes_at c p found)))
     counting c count_stage.LoadTally found b h = record { at = h; reads = tt }
-    counting c (count_stage.LoadLive t) found b h = record { at = to_counted room opened n (own_of s) t h; reads = refl }
+    counting c (count_stage.LoadLive t) found b h = record { at = to_counted room opened n (own_counts s) t h; reads = refl }
     counting c (count_stage.Ended x) found b h = absurd cc
 
     -- behind the last cycle it stores the phase besides
-    told : (m : Numbers) (last : Bool) → At room opened m (own_of s) Outside → Is opened m (at_stage u (cond last Done (LoadAck 0))) (cond last Done (LoadAck 0))
+    told : (m : CycleWords) (last : Bool) → At room opened m (own_counts s) Outside → Is opened m (at_stage u (cond last Done (LoadAck 0))) (cond last Done (LoadAck 0))
     told m true h = record { at = h; reads = tt }
     told m false h = record { at = h; reads = tt }
 
     abbrev behind_swept : tell.Telling → Bool → Coordinating
     behind_swept t last = after_tell (at_stage u (Tell (record t { stage = cond last tell_stage.StorePhase tell_stage.Ended }))) (tell.given_at (cond last tell_stage.StorePhase tell_stage.Ended))
 
-    told_swept : (m : Numbers) (t : tell.Telling) (last : Bool) → t.cycle ≡ s.begun → At room opened m (own_of s) Outside → Is opened m (behind_swept t last) (behind_swept t last).stage
+    told_swept : (m : CycleWords) (t : tell.Telling) (last : Bool) → t.cycle ≡ s.begun → At room opened m (own_counts s) Outside → Is opened m (behind_swept t last) (behind_swept t last).stage
     told_swept m t true e h = record { at = h; reads = e }
     told_swept m t false e h = told m s.is_last h
 
     telling : (t : tell.Telling) (p : TellStage) → tell.is_busy p ≡ true → t.cycle ≡ s.begun → In (part_of (Tell (record t { stage = p }))) →
         Next (tell.asks_at t p) (after_tell (at_stage u (Tell (record t { stage = tell.behind t.is_last p }))) (tell.given_at (tell.behind t.is_last p)))
     telling t tell_stage.StoreTrigger b e h = record { at = h; reads = e }
-    telling t tell_stage.StoreSwept b e h = told_swept (record n { swept = t.cycle }) t t.is_last e (rw e (to_outside room opened n (own_of s) h))
+    telling t tell_stage.StoreSwept b e h = told_swept (record n { swept = t.cycle }) t t.is_last e (rw e (to_outside room opened n (own_counts s) h))
     telling t tell_stage.StorePhase b e h = told n s.is_last h
     telling t tell_stage.Ended b e h = absurd cc
 

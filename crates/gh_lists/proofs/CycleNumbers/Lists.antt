@@ -10,8 +10,8 @@ use Rattle.gh_coord.specs.Listing as coord
 use Rattle.gh_lists.specs.declared.handshake.Actor.TheVariants as actor
 use Rattle.gh_lists.specs.Handshake.{Sound, Setup}
 use Rattle.gh_lists.specs.Numbers.{open_part, tell_part}
-use Rattle.gh_lists.proofs.Vocabulary.{ahead_at, Ask, Check, Close, close_part, CloseStage, CoordStage, Count, CountsCycles, effect, Entry, generation_of, IsBeginning, IsFew, KeepsIt, Kind, Legal, MarkOn, Op, Open, opened_after, opened_in, OpenStage, Part, part_of, Processor, processor_kind, ProcessorWritesItsOwn, started, StopAgain, Sweep, Tell, TellStage, Watch, WorkersWriteTheirOwn, ◌↔◌}
-use Rattle.gh_lists.specs.Frames.{Leaves, leaves, Numbers, numbers_of}
+use Rattle.gh_lists.proofs.Vocabulary.{ahead_at, Ask, Check, Close, close_part, CloseStage, CoordStage, Count, CountsCycles, effect, Entry, generation_after, IsBeginning, IsFew, KeepsIt, Kind, Legal, MarkOn, Op, Open, opened_after, opened_in, OpenStage, Part, part_of, Processor, processor_kind, ProcessorWritesItsOwn, started, StopAgain, Sweep, Tell, TellStage, Watch, WorkersWriteTheirOwn, ◌↔◌}
+use Rattle.gh_lists.specs.Frames.{CycleWords, leaves, LeavesCycleWords, numbers_of}
 use Rattle.gh_lists.proofs.CycleNumbers.Leading.{goes_so, Is}
 use Rattle.gh_lists.specs.Quiet.{leaves_all, worker_quiet}
 use Rattle.gh_lists.specs.Steps as seats
@@ -21,15 +21,15 @@ use Rattle.gh_lists.specs.Counting.{rises}
 -- One cycle more has begun than has ended while it is marked, and where it is about to be.
 module _ (swept begun gen : ℕ) where
   abbrev IsAt : Part → Type 0
-  IsAt part = (begun ≡ swept + (ahead_at part).begun) × (gen ≡ generation_of (swept + (ahead_at part).ended))
+  IsAt part = (begun ≡ swept + (ahead_at part).begun) × (gen ≡ generation_after (swept + (ahead_at part).ended))
 
   abbrev MarkedWhere : (Type 0) → Type 0
   MarkedWhere X = gen ≡ 2 * begun ↔ X
 
-  alike : {X : Type 0} (d : ℕ) → begun ≡ swept + d → gen ≡ generation_of (swept + d) → (X → ⊥) → MarkedWhere X
+  alike : {X : Type 0} (d : ℕ) → begun ≡ swept + d → gen ≡ generation_after (swept + d) → (X → ⊥) → MarkedWhere X
   alike d b g none = (λ e. absurd (omega (arith, b, g, e)), λ x. absurd (none x))
 
-  one_more : {X : Type 0} → begun ≡ swept + 1 → gen ≡ generation_of (swept + 0) → X → MarkedWhere X
+  one_more : {X : Type 0} → begun ≡ swept + 1 → gen ≡ generation_after (swept + 0) → X → MarkedWhere X
   one_more b g is = (λ e. is, λ x. omega (arith, b, g))
 
   neither : ⊥ ⊎ ⊥ → ⊥
@@ -74,7 +74,7 @@ module _ (setup : Setup)
   abbrev Led : List (Entry Op) → coord.Coordinating → Type 0
   Led es c = seats.at setup es (seats.n setup) ≡ actor.Leads c
 
-  abbrev told : List (Entry Op) → Numbers
+  abbrev told : List (Entry Op) → CycleWords
   told es = numbers_of (seats.words setup es)
 
   abbrev Holds : List (Entry Op) → coord.Coordinating → Type 0
@@ -98,7 +98,7 @@ module _ (setup : Setup)
     few_before : IsFew (e ∷ es) → IsFew es
     few_before few = let up = rises e.ask (opened_in es) in omega (arith, few, up)
 
-    beside : Leaves (seats.words setup es) e.ask → (c : coord.Coordinating) → Holds es c → Holds (e ∷ es) c
+    beside : LeavesCycleWords (seats.words setup es) e.ask → (c : coord.Coordinating) → Holds es c → Holds (e ∷ es) c
     beside x c h = rw (x.opens_none (opened_in es), x.numbers) h
 
     by_lead : (c to : coord.Coordinating) → seats.LeadsIt setup e es c → to ≡ coord.goes c e.found → IsFew es → Holds es c → Holds (e ∷ es) to
@@ -108,10 +108,10 @@ module _ (setup : Setup)
 
     by_step : seats.Step setup e es → IsFew (e ∷ es) → ((c : coord.Coordinating) → Led es c → Holds es c) → (c : coord.Coordinating) → Led (e ∷ es) c → Holds (e ∷ es) c
     by_step (seats.by_processor m x stays) few before c led =
-        let free = subst (λ (q : Ask). Leaves (seats.words setup es) q) (sym x.asked) (leaves (seats.words setup es) _ (leaves_numbers writes (started k e.begun m) x.sound_then)) in
+        let free = subst (λ (q : Ask). LeavesCycleWords (seats.words setup es) q) (sym x.asked) (leaves (seats.words setup es) _ (leaves_numbers writes (started k e.begun m) x.sound_then)) in
         beside free c (before c (sym stays ∙ led))
     by_step (seats.by_worker w x stays) few before c led =
-        let free = subst (λ (q : Ask). Leaves (seats.words setup es) q) (sym x.asked) (leaves_all (seats.words setup es) _ (worker_quiet (seats.words setup es) works w x.sound_it x.busy)) in
+        let free = subst (λ (q : Ask). LeavesCycleWords (seats.words setup es) q) (sym x.asked) (leaves_all (seats.words setup es) _ (worker_quiet (seats.words setup es) works w x.sound_it x.busy)) in
         beside free c (before c (sym stays ∙ led))
     by_step (seats.by_lead b x) few before c led =
         by_lead b c x (let both : actor.Leads c ≡ actor.Leads (coord.goes b e.found) = sym led ∙ x.then in cc) (few_before few) (before b x.is)

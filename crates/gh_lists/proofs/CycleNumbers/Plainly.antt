@@ -6,7 +6,7 @@ use Rattle.gh_base.specs.Cells.{put, same_cell}
 use Rattle.gh_coord.specs.declared.close.CloseStage.TheVariants as close_stage
 use Rattle.gh_coord.specs.declared.open.OpenStage.TheVariants as open_stage
 use Rattle.gh_coord.specs.declared.tell.TellStage.TheVariants as tell_stage
-use Rattle.gh_lists.specs.Counts.{about_to_tell, CountsPlainly, stored_after, stored_in, stores, told_by}
+use Rattle.gh_lists.specs.Counts.{about_to_tell, CountsPlainly, stored_after, stored_in, stores_cell, told_by}
 use Rattle.gh_lists.specs.Numbers.{close_part, KeepsCycles, open_part, tell_part}
 use Rattle.gh_lists.proofs.Vocabulary.{ahead_at, Ask, Cell, Close, CloseStage, CoordStage, Coordinating, CountsCycles, effect, Entry, IsFew, KeepsIt, Legal, Op, Open, opened_in, OpenStage, Outside, Part, part_of, ProcessorWritesItsOwn, Tell, TellStage, Words, WorkersWriteTheirOwn}
 use Rattle.gh_lists.proofs.Changes.{change}
@@ -16,7 +16,7 @@ use Rattle.gh_lists.specs.Steps as seats
 use Rattle.gh_lists.specs.Handshake.{Setup}
 
 -- what leaves a word whatever it is does not store it
-not_stored : (ask : Ask) (c : Cell) → ((w : Words) → effect w ask c ≡ w c) → stores c ask ≡ false
+not_stored : (ask : Ask) (c : Cell) → ((w : Words) → effect w ask c ≡ w c) → stores_cell c ask ≡ false
 not_stored (Store at value) c leaves = go (same_cell at c) refl where
   go : (b : Bool) → same_cell at c ≡ b → b ≡ false
   go true is = absurd (

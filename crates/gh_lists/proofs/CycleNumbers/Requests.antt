@@ -7,7 +7,7 @@ use Rattle.gh_lists.specs.declared.handshake.Actor.TheVariants as actor
 use Rattle.gh_lists.specs.Numbers.{asked_in}
 use Rattle.gh_lists.specs.Wants.{CountsWants}
 use Rattle.gh_lists.proofs.Vocabulary.{Ask, asked_after, CoordStage, effect, Entry, KeepsIt, Kind, Legal, Op, opened_after, opened_in, Processor, processor_kind, ProcessorWritesItsOwn, started, WorkersWriteTheirOwn}
-use Rattle.gh_lists.specs.Frames.{Leaves, leaves}
+use Rattle.gh_lists.specs.Frames.{leaves, LeavesCycleWords}
 use Rattle.gh_lists.proofs.CycleNumbers.Wanting.{goes_so, WantsAt}
 use Rattle.gh_lists.specs.Quiet.{leaves_all, worker_quiet}
 use Rattle.gh_lists.specs.Steps as seats
@@ -52,7 +52,7 @@ module _ (setup : Setup)
   })
 
   module _ (e : Entry Op) (es : List (Entry Op)) where
-    beside : Leaves (seats.words setup es) e.ask → (c : coord.Coordinating) → Holds es c → Holds (e ∷ es) c
+    beside : LeavesCycleWords (seats.words setup es) e.ask → (c : coord.Coordinating) → Holds es c → Holds (e ∷ es) c
     beside x c h = go x.want where
       go : (((before : ℕ) → asked_after e.ask before ≡ before) × (want (e ∷ es) ≡ want es)) ⊎ (((before : ℕ) → asked_after e.ask before ≡ suc before) × (want (e ∷ es) ≡ bit_or (want es) 1)) → Holds (e ∷ es) c
       go (inl y) = rw (x.opens_none (opened_in es), y.0 (asked_in es), y.1) h
@@ -66,10 +66,10 @@ module _ (setup : Setup)
 
     by_step : seats.Step setup e es → ((c : coord.Coordinating) → Led es c → Holds es c) → (c : coord.Coordinating) → Led (e ∷ es) c → Holds (e ∷ es) c
     by_step (seats.by_processor m x stays) before c led =
-        let free = subst (λ (q : Ask). Leaves (seats.words setup es) q) (sym x.asked) (leaves (seats.words setup es) _ (leaves_numbers writes (started k e.begun m) x.sound_then)) in
+        let free = subst (λ (q : Ask). LeavesCycleWords (seats.words setup es) q) (sym x.asked) (leaves (seats.words setup es) _ (leaves_numbers writes (started k e.begun m) x.sound_then)) in
         beside free c (before c (sym stays ∙ led))
     by_step (seats.by_worker w x stays) before c led =
-        let free = subst (λ (q : Ask). Leaves (seats.words setup es) q) (sym x.asked) (leaves_all (seats.words setup es) _ (worker_quiet (seats.words setup es) works w x.sound_it x.busy)) in
+        let free = subst (λ (q : Ask). LeavesCycleWords (seats.words setup es) q) (sym x.asked) (leaves_all (seats.words setup es) _ (worker_quiet (seats.words setup es) works w x.sound_it x.busy)) in
         beside free c (before c (sym stays ∙ led))
     by_step (seats.by_lead b x) before c led =
         by_lead b c x (let both : actor.Leads c ≡ actor.Leads (coord.goes b e.found) = sym led ∙ x.then in cc) (before b x.is)

@@ -18,7 +18,7 @@ use Rattle.gh_lists.specs.declared.handshake.Actor.TheVariants as actor
 use Rattle.gh_lists.specs.Handshake.{KeepsIt, Sound, WaitsWithNone, Setup}
 use Rattle.gh_lists.specs.Waits.{WorkersRest}
 use Rattle.gh_lists.specs.Seats.{other}
-use Rattle.gh_lists.specs.Leaving.{leaves_marking, Leaving}
+use Rattle.gh_lists.specs.Leaving.{leaves_marking, MayLeaveMarking}
 use Rattle.gh_lists.specs.Steps as seats
 
 module _ (setup : Setup)
@@ -79,7 +79,7 @@ module _ (setup : Setup)
         was_worker : at es a ≡ actor.Marks w
         was_worker = let end = x.seat in sym (other setup e es a (grind (arith, nat_tests, end, lt))) ∙ is
 
-        by : Leaving b.stage → IsCalm w
+        by : MayLeaveMarking b.stage → IsCalm w
         by (inl y) = before b a w x.is y was_worker
         by (inr y) = waits _ w (subst (Sound setup.layout) was_worker ((keeps es legal.0).shakes.all_sound a (omega (arith, lt)))) ((keeps es legal.0).workers_wait b _ a w x.is y lt was_worker)
 

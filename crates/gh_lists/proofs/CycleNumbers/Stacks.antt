@@ -6,7 +6,7 @@ use Rattle.gh_worker.specs.Listing as worker
 use Rattle.gh_lists.specs.declared.handshake.Actor.TheVariants as actor
 use Rattle.gh_lists.specs.Waits.{StacksAreNumbered}
 use Rattle.gh_lists.proofs.Vocabulary.{Add, ahead_at, And, Ask, Cell, CountsCycles, effect, END, Entry, IsFew, KeepsIt, Kind, Legal, Load, Op, opened_in, Or, Outside, Part, part_of, Party, party_of, Processor, processor_kind, ProcessorInHandshake, ProcessorWritesItsOwn, put, same_cell, Stage, stage_of, started, Store, Swap, Words, WorkersWriteTheirOwn}
-use Rattle.gh_lists.specs.Frames.{Leaves as Leaves_, leaves, Numbers}
+use Rattle.gh_lists.specs.Frames.{LeavesCycleWords, leaves, CycleWords}
 use Rattle.gh_lists.specs.Counting.{rises}
 use Rattle.gh_lists.specs.Quiet.{leaves_all, Quiet, worker_quiet}
 use Rattle.gh_lists.specs.Aside.{Aside, aside as lead_aside}
@@ -75,8 +75,8 @@ module _ (setup : Setup) (places : ProcessorInHandshake) (writes : ProcessorWrit
     few_before e es few = let up = rises e.ask (opened_in es) in omega (arith, few, up)
 
     module _ (e : Entry Op) (es : List (Entry Op)) (legal : Legal (seats.it setup) (e ∷ es)) (few : IsFew (e ∷ es)) where
-      free : (m : Processor) → seats.RunsIt setup e es m → Leaves_ (words es) e.ask
-      free m x = subst (λ (q : Ask). Leaves_ (words es) q) (sym x.asked) (leaves (words es) _ (leaves_numbers writes (started k e.begun m) x.sound_then))
+      free : (m : Processor) → seats.RunsIt setup e es m → LeavesCycleWords (words es) e.ask
+      free m x = subst (λ (q : Ask). LeavesCycleWords (words es) q) (sym x.asked) (leaves (words es) _ (leaves_numbers writes (started k e.begun m) x.sound_then))
 
       worker_free : (w : worker.Working) → seats.WorksIt setup e es w → Quiet (words es) e.ask
       worker_free w x = subst (λ (q : Ask). Quiet (words es) q) (sym x.asked) (worker_quiet (words es) works w x.sound_it x.busy)
@@ -84,8 +84,8 @@ module _ (setup : Setup) (places : ProcessorInHandshake) (writes : ProcessorWrit
       lead_free : (c : coord.Coordinating) → seats.LeadsIt setup e es c → Aside (words es) c.begun e.ask
       lead_free c x = subst (λ (q : Ask). Aside (words es) c.begun q) (sym x.asked) (lead_aside (words es) c c.stage x.sound_it.1)
 
-      as_many : Leaves_ (words es) e.ask → words es cell.Begun ≤ words (e ∷ es) cell.Begun
-      as_many y = let same : words (e ∷ es) cell.Begun ≡ words es cell.Begun = ap (λ (n : Numbers). n.begun) y.numbers in omega (arith, same)
+      as_many : LeavesCycleWords (words es) e.ask → words es cell.Begun ≤ words (e ∷ es) cell.Begun
+      as_many y = let same : words (e ∷ es) cell.Begun ≡ words es cell.Begun = ap (λ (n : CycleWords). n.begun) y.numbers in omega (arith, same)
 
       lead_rises : (c : coord.Coordinating) → CountsCycles (seats.it setup) setup.pacing.room es c → (words (e ∷ es) cell.Begun ≡ words es cell.Begun) ⊎ (e.ask ≡ Store cell.Begun c.begun) → words es cell.Begun ≤ words (e ∷ es) cell.Begun
       lead_rises c n (inl same) = omega (arith, same)

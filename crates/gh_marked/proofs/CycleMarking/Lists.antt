@@ -2,7 +2,7 @@
 use Rattle.std.proofs.Common.{◌≡◌, ◌≢◌, ℕ, ◌+◌, ◌<◌, ◌≤◌, ◌==◌, Bool, true, false, cond, ltb, refl, sym, ap, subst, ◌∙◌, arith, inl, inr, Some, None, List, [], ◌∷◌}
 use Rattle.gh_base.specs.declared.cell.Cell.TheVariants as cell
 use Rattle.gh_marks.specs.Colours.{Black, Buffered, Colour, IsShaded, mark_of, Pending, Placing, Taken, White}
-use Rattle.gh_marks.specs.Ends.{IsDone, IsFound}
+use Rattle.gh_marks.specs.Ends.{IsDone, IsFoundAtTheEnd}
 use Rattle.gh_marks.specs.Laws.{MarkingEndsClean, WhatIsFoundIsDone}
 use Rattle.gh_phase.specs.declared.view.RunPhase.TheVariants as run
 use Rattle.gh_coord.specs.Handshake as leading
@@ -16,7 +16,7 @@ use Rattle.gh_lists.specs.Starts.{legal_start, whole}
 use Rattle.gh_marked.proofs.Vocabulary.{acks_of, Actor, actors, actors_after, Arena, Ask, buffer_of, buffers_of, cell_of, ChangesOneCell, Close, CoordStage, Cycle, effect, EndsClean, Entry, Hands, holder_in, is_busy, IsChecked, IsInLimits, IsStartOf, KeepsIt, Layout, Legal, ltb-false, ltb-true, mark_words, Marking as Shared, nat_tests, nothing, Op, opening_processor, Pacing, place_of, row_bit, RunPhase, started, StepKeepsIt, Stopped, WaitsWithNone, Words}
 use Rattle.gh_marked.proofs.CycleMarking.Apart.{stays_clear}
 use Rattle.gh_marked.specs.Marked.{IsInMarking, MarksToTheEnd, WasMarked}
-use Rattle.gh_marked.specs.Checking.{begins as begins_cycle, checked_lasts, CheckedAt, Found, Goes, goes_on, goes_so, leaves, still_stopped}
+use Rattle.gh_marked.specs.Checking.{begins as begins_cycle, checked_lasts, CheckedAt, CoordinatorGoes, Found, goes_on, goes_so, leaves, still_stopped}
 use Rattle.gh_marked.proofs.CycleMarking.Looking.{none_sweeps}
 use Rattle.gh_marked.proofs.CycleMarking.Moving as moving
 use Rattle.gh_lists.specs.Steps as seats
@@ -104,7 +104,7 @@ module _ (arena : Arena) (pacing : Pacing) (may : ℕ → List (Entry Op) → Op
       go true x = f.empty b (ltb-true _ _ x) free
       go false x = ap (λ (v : ℕ). (buffer_of v).count) (stays_clear (setting arena pacing may) cited.one b (ltb-false _ _ x) refl es legal)
 
-    is_found : IsFound z s
+    is_found : IsFoundAtTheEnd z s
     is_found = record {
       seats = empty_handed;
       empty = λ b. subst (λ (w : Words). holder_in (w (cell.Buffer b)) ≡ 0 → (buffer_of (w (cell.Buffer b))).count ≡ 0) (sym i.is.words_are) (empty b);
@@ -195,13 +195,13 @@ module _ (arena : Arena) (pacing : Pacing) (may : ℕ → List (Entry Op) → Op
       found : e.found ≡ told es (cell_of (coord.asks c))
       found = legal.1.found ∙ ap (λ (q : Ask). told es (cell_of q)) asked
 
-      goes_by : Goes arena.layout c.begun (told es) c c.stage (coord.goes c e.found)
+      goes_by : CoordinatorGoes arena.layout c.begun (told es) c c.stage (coord.goes c e.found)
       goes_by = goes_so arena.layout c.begun (told es) c (coord.counted c).marks (seat_of es n (actor.Leads c) led).1 refl c.stage e.found busy found
 
       checked_then : to.begun ≡ c.begun → CheckedAt arena.layout c.begun (effect (told es) (coord.asks c)) to.stage → CheckedAt arena.layout to.begun (told (e ∷ es)) to.stage
       checked_then same x = subst (λ (b : ℕ). CheckedAt arena.layout b (told (e ∷ es)) to.stage) (sym same) (subst (λ (q : Ask). CheckedAt arena.layout c.begun (effect (told es) q) to.stage) (sym asked) x)
 
-      by_lead : Goes arena.layout c.begun (told es) c c.stage to → Holds (e ∷ es) to
+      by_lead : CoordinatorGoes arena.layout c.begun (told es) c c.stage to → Holds (e ∷ es) to
       by_lead (begins_cycle b quiet same x) = record {
         marking = moving.by_coordinator arena pacing may cited.moves e es c to (record { legal = legal; led = led; led_then = led_then; on_then = on; begun_is = same; i = moving.begins arena pacing may cited.moves es c legal.0 led b (was_marked es legal.0 before) (cited.keeps es legal.0) }) end here quiet;
         checked = checked_then same x;
@@ -213,7 +213,7 @@ module _ (arena : Arena) (pacing : Pacing) (may : ℕ → List (Entry Op) → Op
       by_lead (leaves off) = absurd (off on)
 
       by_it : Holds (e ∷ es) to
-      by_it = by_lead (subst (λ (y : coord.Coordinating). Goes arena.layout c.begun (told es) c c.stage y) (sym then) goes_by)
+      by_it = by_lead (subst (λ (y : coord.Coordinating). CoordinatorGoes arena.layout c.begun (told es) c c.stage y) (sym then) goes_by)
 
   follows : (e : Entry Op) (es : List (Entry Op)) → Lawful (e ∷ es) → HeldBefore es → (c : coord.Coordinating) → Led (e ∷ es) c → leading.Marks c.stage → Holds (e ∷ es) c
   follows e es legal before c led on = go (e.actor == n) refl where

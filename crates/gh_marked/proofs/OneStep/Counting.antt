@@ -7,11 +7,11 @@ use Rattle.gh_class.specs.declared.class.SizeClass.TheVariants.{Large, Small}
 use Rattle.gh_class.specs.Classes.{IsSizeClass, slot_of}
 use Rattle.gh_heap.specs.Moves.{Make, May, Move, placed_at}
 use Rattle.gh_heap.specs.Rights.{Claims}
-use Rattle.gh_heap.specs.Spans.{is_own_class, number_of}
+use Rattle.gh_heap.specs.Spans.{is_own_class, number_of_class}
 use Rattle.std.specs.Prelude.{is_some}
 use Rattle.gh_state.specs.Moves as state
 use Rattle.gh_state.specs.Moves.{Count, CountsStay, Deed, pend_then}
-use Rattle.gh_state.specs.Routines.{Rests}
+use Rattle.gh_state.specs.Routines.{SeatSweepsNothing}
 use Rattle.gh_sweep.specs.Listing.{Sweeping, slot_bytes_of}
 use Rattle.gh_mutator.specs.Sweeping.{IsSweeping, sweep_in}
 use Rattle.gh_sweep.specs.Shared.{InSpan}
@@ -51,7 +51,7 @@ moves_by z a h _ = inr (record { pends = λ slot pend. refl; made = λ g. refl }
 abbrev pub WholeWords : Type 0
 WholeWords = (c : ℕ) → c < 25 → slot_of c % 8 ≡ 0
 
-bytes_of_words : WholeWords → (c : SizeClass) (pages : ℕ) → IsSizeClass c → slot_bytes_of c pages ≡ 8 * cond (is_own_class c) (1024 * pages) (slot_of (number_of c) / 8)
+bytes_of_words : WholeWords → (c : SizeClass) (pages : ℕ) → IsSizeClass c → slot_bytes_of c pages ≡ 8 * cond (is_own_class c) (1024 * pages) (slot_of (number_of_class c) / 8)
 bytes_of_words whole (Small c) pages is = let even = whole c is in omega arith
 bytes_of_words whole Large pages is = omega arith
 
@@ -95,7 +95,7 @@ module _ (known : Known) (whole : WholeWords) (z : Arena) (a : ℕ) (s : State) 
     -- what is not counted then, and how far spans are
     pub own : (state.moved z a s to_move).pend a ≡ uncounted to.task
     pub others : (b : ℕ) → b ≢ a → (state.moved z a s to_move).pend b ≡ s.pend b
-    pub rests : Rests a s → Rests a (state.moved z a s to_move)
+    pub rests : SeatSweepsNothing a s → SeatSweepsNothing a (state.moved z a s to_move)
 
   no_sweep : IsSweeping m → ⊥
   no_sweep is = absurd (let no : false ≡ true = sym (ap (λ (x : Option Sweeping). is_some x) stepped.none) ∙ is in cc)

@@ -8,7 +8,7 @@ use Rattle.gh_base.specs.declared.cell.Cell.TheVariants as cell
 use Rattle.gh_base.specs.declared.pack.TheConstants.{END}
 use Rattle.gh_base.specs.Cells.{same_cell, Words}
 use Rattle.gh_base.specs.Steps.{cell_of, ChangesOneCell, effect, left}
-use Rattle.gh_marks.specs.Moves.{EndStack, goes, IsAside, IsQuiet, May, Move, moved, Quiet, ScanStack, Shade, stays, Went}
+use Rattle.gh_marks.specs.Moves.{EndStack, goes, IsAside, IsQuietInMarking, May, Move, moved, Quiet, ScanStack, Shade, stays, Went}
 use Rattle.gh_marked.specs.HoldVocabulary.{Cycle, Marking}
 
 -- a row that marking does not read is not that of stacks
@@ -20,7 +20,7 @@ module _ (one : ChangesOneCell) (z : Cycle) (a g : ℕ) where
   leaves : (w : Words) (step : Ask) → same_cell (cell_of step) (cell.Scanned g) ≡ false → effect w step (cell.Scanned g) ≡ w (cell.Scanned g)
   leaves w step other = one w step (cell.Scanned g) ∙ ap (λ (b : Bool). cond b (left step (w (cell_of step))) (w (cell.Scanned g))) other
 
-  quietly : (v : Marking) (step : Ask) → IsQuiet v step → effect v.words step (cell.Scanned g) ≡ v.words (cell.Scanned g)
+  quietly : (v : Marking) (step : Ask) → IsQuietInMarking v step → effect v.words step (cell.Scanned g) ≡ v.words (cell.Scanned g)
   quietly v (Load c) is = refl
   quietly v (Store c x) is = leaves v.words (Store c x) (no_stack v c g is)
   quietly v (Or c x) is = leaves v.words (Or c x) (no_stack v c g is)

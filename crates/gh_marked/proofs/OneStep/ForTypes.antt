@@ -12,7 +12,7 @@ use Rattle.gh_coord.specs.SweepingAll as over
 use Rattle.gh_mutator.specs.Sweeping.{sweep_in}
 use Rattle.gh_worker.specs.Listing as worker
 use Rattle.gh_worker.specs.Writing.{WritesItsOwn}
-use Rattle.gh_marked.specs.HoldVocabulary.{Runs}
+use Rattle.gh_marked.specs.HoldVocabulary.{SweepRuns}
 use Rattle.gh_marked.specs.Spans.{IsForTypes, PagesAreForTypes}
 use Rattle.gh_marked.specs.Sweepers.{IsInSweep, sweep_of}
 use Rattle.gh_marked.proofs.Vocabulary.{acks_of, Actor, arena, Arena, Ask, asks, Coordinating, CoordStage, effect, Entry, HasState, Heap, Legal, moved, Op, page_of, Processor, State, Sweep, those, Words, words}
@@ -51,14 +51,14 @@ module _ (given : Given) (wanted : Wanted) (lists : ListsKnown (setup_for given)
 
     -- A sweep of a span, whoever runs it.
 
-    is_swept : (m : Sweeping) (a : ℕ) → Runs a s m → pages.IsSwept wanted.read given.shapes (told es) q was m
+    is_swept : (m : Sweeping) (a : ℕ) → SweepRuns a s m → pages.IsSwept wanted.read given.shapes (told es) q was m
     is_swept m a runs = record {
       fits = runs.fine.placed.head.head;
       few = runs.fine.placed.head.number;
       begun = λ at. ap (λ (w : Words). w (cell.Page m.page)) (sym has.of_list.words_are) ∙ (subst (sweep_facts.FactsAt m h.words) at runs.fine.facts).own;
     }
 
-    swept : (m : Sweeping) (a : ℕ) → Runs a s m → e.ask ≡ sweep.asks m → For (e ∷ es) q
+    swept : (m : Sweeping) (a : ℕ) → SweepRuns a s m → e.ask ≡ sweep.asks m → For (e ∷ es) q
     swept m a runs asks_is = subst (λ (ask : Ask). ForPage (effect (told es) ask (cell.Page q))) (sym asks_is) (pages.sweeps wanted.read given.shapes (told es) q was m m.stage refl (is_swept m a runs))
 
     by_worker : (w : worker.Working) → seats.WorksIt (setup_for given) e es w → For (e ∷ es) q

@@ -143,8 +143,8 @@ module _ (read : PackedWordsAreReadBack) (z : Arena) (a : ℕ) (h : Heap) (q : �
   takes_unswept x (unswept_stage.Ended taken) none f = absurd f
 
   -- the cached span is given back
-  gives_back : (c : SpanClass) (k : CachedSpan) (f : Finding) (g : give_back.Giving) → finding.IsCached a v c k → g ≡ give_back.opening f.layout k.head (find.given_head f.generation c) → For (give_back.asks g)
-  gives_back c k f g cached is = subst (λ (x : give_back.Giving). For (give_back.asks x)) (sym is) (elsewhere k.head _ cached.span.h cached.span.head)
+  gives_back : (c : SpanClass) (k : CachedSpan) (f : Finding) (g : give_back.SpanGiving) → finding.IsCached a v c k → g ≡ give_back.opening f.layout k.head (find.given_head f.generation c) → For (give_back.asks g)
+  gives_back c k f g cached is = subst (λ (x : give_back.SpanGiving). For (give_back.asks x)) (sym is) (elsewhere k.head _ cached.span.h cached.span.head)
 
   module _ (t : ℕ) (type : t < length z.shapes) where
     abbrev span : Span

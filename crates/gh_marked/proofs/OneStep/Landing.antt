@@ -10,7 +10,7 @@ use Rattle.gh_state.specs.Routines.{SweepKeeps}
 use Rattle.gh_sweep.specs.Listing as sweep
 use Rattle.gh_sweep.specs.Listing.{Sweeping}
 use Rattle.gh_sweep.specs.Running.{BeginsSweep, SweepsOn}
-use Rattle.gh_marked.specs.HoldVocabulary.{Rests, State, StateGood}
+use Rattle.gh_marked.specs.HoldVocabulary.{SeatSweepsNothing, State, StateGood}
 use Rattle.gh_marked.specs.Sweepers.{IsInSweep, sweep_of}
 use Rattle.gh_marked.proofs.Vocabulary.{Answer, Arena, arena, Ask, asks, begins, cell_of, DoesPoints, effect, Entry, Fine, has_left_at, HasState, Heap, is_busy_at, IsInLimits, Legal, MarksNothing, may_of, moved, Op, Processor, processor_at, processor_kind, Row, Shape, ShapesAreGood, started, Steps, takes, those, uncounted, view, Words}
 use Rattle.gh_marked.proofs.OneStep.Counting as counting
@@ -134,7 +134,7 @@ module _ (given : Given) (good : ShapesAreGood given.shapes) (limits : IsInLimit
       -- it begins to sweep where it has found an unswept span
       pub sweeps_then : IsInSweep a t (sweep_in (takes given.shapes now found))
       sweeps_then = go (sweep_in (takes given.shapes now found)) refl where
-        rests : Rests a t
+        rests : SeatSweepsNothing a t
         rests = counted.rests (subst (IsInSweep a s) none in_sweep_now)
 
         go : (x : Option Sweeping) → sweep_in (takes given.shapes now found) ≡ x → IsInSweep a t x

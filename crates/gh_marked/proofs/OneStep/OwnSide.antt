@@ -8,9 +8,9 @@ use Rattle.gh_mutator.specs.Deeds.{meaning, pointed}
 use Rattle.gh_mutator_heap.specs.Facts.{answered_at, Does, FactsAt}
 use Rattle.gh_state.specs.Moves as state
 use Rattle.gh_marked.specs.HoldVocabulary.{answers_of, given_of, opening_words, State}
-use Rattle.gh_marked.proofs.Vocabulary.{Act, acted, Actor, actors, acts, Answer, Answered, answered, answered_by, Arena, arena, Ask, asks, begins, by, cell_of, deeds, DeedsFit, effect, END, ended_in, ends, Entry, Ever, ever, Fine, given_at, gives, Good, has_left_at, has_point, HasState, Heap, InRange, is_busy_at, is_last_task, IsAsItShould, IsBounded, IsHeapOf, IsInLimits, IsOf, IsSound, Kind, Layout, left as left_by, Legal, may_leave, may_of, Op, op_at, option_to_list, point_of, Processor, processor_at, processor_kind, ShapesAreGood, Stands, started, state_of, takes, Task, TellsScan, those, view, Words, words, ◌%◌}
+use Rattle.gh_marked.proofs.Vocabulary.{Act, acted, Actor, actors, acts, Answer, answered, answered_by, AnsweredDeed, Arena, arena, Ask, asks, begins, by, cell_of, deeds, DeedsFit, effect, END, ended_in, ends, Entry, Ever, ever, Fine, given_at, gives, Good, has_left_at, has_point, HasState, Heap, InRange, is_busy_at, is_last_task, IsAsItShould, IsBounded, IsHeapOf, IsInLimits, IsOf, IsSound, Kind, KnowsAtAnyTime, Layout, left as left_by, Legal, may_leave, may_of, Op, op_at, option_to_list, point_of, Processor, processor_at, processor_kind, ShapesAreGood, started, state_of, takes, Task, TellsScan, those, view, Words, words, ◌%◌}
 use Rattle.gh_lists.specs.Beginning.{or-true, may_parts}
-use Rattle.gh_marked.specs.Endings.{acted_stays, acts_end, end_ends, ended_by, is_end, last_before, last_begun}
+use Rattle.gh_marked.specs.Endings.{acted_stays, acts_end, end_ends, ended_by, is_its_end, last_before, last_begun}
 use Rattle.gh_marked.proofs.OneStep.Globals.{no_global}
 use Rattle.gh_marked.specs.Known.{Known}
 use Rattle.gh_marked.proofs.OneStep.Landing as landing
@@ -137,7 +137,7 @@ module _ (given : Given) (good : ShapesAreGood given.shapes) (limits : IsInLimit
     goes_on g other y = elim (ended_was g y) [ inl x ↦ x | inr x ↦ absurd (other x) ]
 
     pub stacks : (g : ℕ) → (t.words (cell.Scanned g) ≡ END) ↔ (t.ever.ended g ≡ true)
-    stacks g = elim (is_end now.task g) [
+    stacks g = elim (is_its_end now.task g) [
       | inl x ↦ (λ y. ends_it g x, λ y. word_ends g x)
       | inr other ↦ elim (tells g other) [
         | inl x ↦ (λ y. ended_on g ((of.stacks g).0 (sym (then_word g ∙ x.same) ∙ y)), λ y. then_word g ∙ (x.same ∙ (of.stacks g).1 (goes_on g other y)))
@@ -145,14 +145,14 @@ module _ (given : Given) (good : ShapesAreGood given.shapes) (limits : IsInLimit
       ]
     ]
 
-    stands : Stands z a (view h) now.poll
+    stands : KnowsAtAnyTime z a (view h) now.poll
     stands = known.runs.stands z a (view h) now is.pending fine_now
 
     own_goroutine : (g : ℕ) → TellsScan now g → z.seat_of g ≡ a
     own_goroutine g x = ap (λ (y : Layout). g % y.procs) (sym stands.sits.layout) ∙ (x.own ∙ stands.sits.seat)
 
     pub others_stacks : (b g : ℕ) → b ≢ a → IsOf z b g → t.words (cell.Scanned g) ≡ h.words (cell.Scanned g)
-    others_stacks b g apart its = elim (is_end now.task g) [
+    others_stacks b g apart its = elim (is_its_end now.task g) [
       | inl x ↦ absurd (let f = subst (FactsAt z a (view h) now is.pending) x fine_now.task in apart (sym its.1 ∙ f.0.of.1))
       | inr other ↦ elim (tells g other) [
         | inl x ↦ then_word g ∙ x.same
@@ -176,7 +176,7 @@ module _ (given : Given) (good : ShapesAreGood given.shapes) (limits : IsInLimit
         omega (arith, long, few, below)
 
     notes : (g : ℕ) → IsOf z a g → slice_index then.poll.local.scanned g ≡ t.words (cell.Scanned g)
-    notes g its = elim (is_end now.task g) [
+    notes g its = elim (is_its_end now.task g) [
       | inl x ↦ known.notes.notes given.shapes now found g END sound_now (known.notes.ends now g x) (there g its) ∙ sym (word_ends g x)
       | inr other ↦ elim (tells g other) [
         | inl x ↦ known.notes.keeps given.shapes now found g sound_now x.untold ∙ (ap (λ (xs : List ℕ). slice_index xs g) noted_before ∙ (is.notes g its ∙ sym (then_word g ∙ x.same)))
@@ -278,10 +278,10 @@ module _ (given : Given) (good : ShapesAreGood given.shapes) (limits : IsInLimit
     abbrev first : Words
     first = opening_words given.pacing.trigger
 
-    abbrev answer_of_act : Answered Act Answer → Answer
+    abbrev answer_of_act : AnsweredDeed Act Answer → Answer
     answer_of_act x = x.answer
 
-    answered_first : (x : Ever) (p : Option Act) (xs : List (Answered Act Answer)) → map answer_of_act (option_to_list (answered (meaning given.shapes) x p) ++ xs) ≡ option_to_list (answered_at given.shapes x p) ++ map answer_of_act xs
+    answered_first : (x : Ever) (p : Option Act) (xs : List (AnsweredDeed Act Answer)) → map answer_of_act (option_to_list (answered (meaning given.shapes) x p) ++ xs) ≡ option_to_list (answered_at given.shapes x p) ++ map answer_of_act xs
     answered_first x None xs = refl
     answered_first x (Some p) xs = refl
 

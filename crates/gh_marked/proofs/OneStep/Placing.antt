@@ -177,7 +177,7 @@ module _ (shapes : List Shape) (m : Processor) (found : ℕ) where
   kind (task.Register x) busy = inr (inr (record { same = refl; silent = λ y. y; nothing = acting_made shapes true (register.op_of x) (no_new_register x x.source) }))
   kind (task.New x) busy = new_kind x.wanted x.stage where
     new_kind : (w : Wanted) (s : NewStage) → StepOf (task.New (record { wanted = w; stage = s }))
-    new_kind w (Search waited q) = inr (inr (record { same = searched w waited (search.goes q found) (cache_span m w.sought (search.goes q found).find.cached) (search.gives q found); silent = λ y. y; nothing = refused_made shapes (new.refuses waited (search.gives q found)) w }))
+    new_kind w (Search waited q) = inr (inr (record { same = searched w waited (search.goes q found) (cache_span m w.sought (search.goes q found).find.cached) (search.gives q found); silent = λ y. y; nothing = refused_made shapes (new.refuses_behind_wait waited (search.gives q found)) w }))
     new_kind w (Wait y) = inr (inr (record { same = waited_for w (wait.goes (wait.waiting y m.poll) found) (wait.gives (wait.waiting y m.poll) found); silent = λ y. y; nothing = λ e g. refl }))
     new_kind w (Place p) = placed w p p.stage
     new_kind w (Want n) = inr (inr (record { same = refl; silent = λ y. y; nothing = λ e g. refl }))

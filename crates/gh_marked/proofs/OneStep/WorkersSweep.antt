@@ -11,7 +11,7 @@ use Rattle.gh_worker.specs.Handshake as working
 use Rattle.gh_worker.specs.Listing as worker
 use Rattle.gh_lists.specs.declared.handshake.Actor.TheVariants as actor
 use Rattle.gh_lists.specs.Handshake.{asks, Sound as SoundActor, Setup}
-use Rattle.gh_marked.specs.HoldVocabulary.{Rests}
+use Rattle.gh_marked.specs.HoldVocabulary.{SeatSweepsNothing}
 use Rattle.gh_marked.specs.Sweepers.{IsInSweep, sweep_of}
 use Rattle.gh_marked.proofs.Vocabulary.{Actor, actors, actors_after, Arena, arena, Ask, cell_of, effect, Entry, HasState, Held, is_busy, IsAwake, Legal, Load, Op, Resumed, started, State, StateGood, those, View, WorkerStage, Words, words}
 use Rattle.gh_marked.specs.Known.{ListsKnown}
@@ -79,7 +79,7 @@ module _ (setup : Setup) (lists : ListsKnown setup)
     goes_on = lists.known.workers_sweep.runs.on w sw runs its_busy
 
   -- It runs none. Of a state behind the step, with the words that it leaves.
-  module _ (has : HasState setup es) (none : worker.sweep_in w ≡ None) (t : State) (good : StateGood z t) (rests : Rests e.actor t) (words_are : t.heap.words ≡ effect has.state.heap.words e.ask) where
+  module _ (has : HasState setup es) (none : worker.sweep_in w ≡ None) (t : State) (good : StateGood z t) (rests : SeatSweepsNothing e.actor t) (words_are : t.heap.words ≡ effect has.state.heap.words e.ask) where
     then_by : (x : Option Sweeping) → worker.sweep_in (worker.goes w e.found) ≡ x → IsInSweep e.actor t x
     then_by None then = rests
     then_by (Some m) then = sweepers.begins lists.known z e.actor t good rests w.layout w.view.generation (worker.asks w) e.found m laid number loaded b where

@@ -42,9 +42,9 @@ use Rattle.gh_wbuf.specs.Trying as try
 use Rattle.gh_worker.specs.declared.worker.WorkerStage.TheVariants as at
 use Rattle.gh_worker.specs.Listing as worker
 use Rattle.gh_worker.specs.Vocabulary.{CREDIT_SLACK}
-use Rattle.gh_worker.specs.Works.{word_of, words_done}
+use Rattle.gh_worker.specs.Works.{shading_word, words_done}
 use Rattle.gh_lists.specs.Lists.{IsEnding}
-use Rattle.gh_lists.specs.Counts.{stores}
+use Rattle.gh_lists.specs.Counts.{stores_cell}
 use Rattle.gh_marked.specs.Scanned.{done_by, global_by, global_done, global_held, object_done, objects_by}
 use Rattle.gh_marked.proofs.Vocabulary.{Actor, Add, And, asks_at, Ask, Cell, Check, Close, CloseStage, Coordinating, CoordStage, Count, CountStage, effect, GiveStage, Held, Layout, Load, MarkOn, Open, OpenStage, Or, page_of, PageWord, phase_of, put, Resumed, ResumeStage, RoomStage, ScanStage, Shaded, ShadeStage, Stop, StopAgain, StopStage, Store, Swap, Sweep, SweepAllStage, SweepEnd, SweepStage, TakeStage, Tell, TellStage, TryStage, Watch, WatchStage, Words, WorkerStage, Working}
 use Rattle.gh_lists.specs.declared.handshake.Actor.TheVariants as actor
@@ -126,7 +126,7 @@ module _ (w : Working) where
   after_scan s None = refl
   after_scan s (Some words) = done_with (scan.held_at s.held s.stage) words
 
-  after_shade : (sh : shade.Shading) (out : Option Shaded) → Left (worker.after_shade w sh out) + word_of out ≡ 1
+  after_shade : (sh : shade.Shading) (out : Option Shaded) → Left (worker.after_shade w sh out) + shading_word out ≡ 1
   after_shade sh None = refl
   after_shade sh (Some shaded.Done) = let none = done_with sh.held 1 in omega (arith, none)
   after_shade sh (Some shaded.WantsRoom) = refl
@@ -175,7 +175,7 @@ module _ (w : Working) where
 -- The step leaves the cursor, and ends no cycle's marking.
 pub record LeavesCursor (ask : Ask) : Type 0 where
   pub cursor : (words : Words) → effect words ask cell.Gcur ≡ words cell.Gcur
-  pub ends : stores cell.Gen ask ≡ false
+  pub ends : stores_cell cell.Gen ask ≡ false
 
 loads : (c : Cell) → LeavesCursor (Load c)
 loads c = record { cursor = λ w. refl; ends = refl }
@@ -188,7 +188,7 @@ stores_buffer : (b x : ℕ) → LeavesCursor (Store (cell.Buffer b) x)
 stores_buffer b x = record { cursor = λ w. refl; ends = refl }
 
 -- those of processors
-none_of : (c : Cell) → IsNoNumber c → ((words : Words) (value : ℕ) → put words c value cell.Gcur ≡ words cell.Gcur) × ((value : ℕ) → stores cell.Gen (Store c value) ≡ false)
+none_of : (c : Cell) → IsNoNumber c → ((words : Words) (value : ℕ) → put words c value cell.Gcur ≡ words cell.Gcur) × ((value : ℕ) → stores_cell cell.Gen (Store c value) ≡ false)
 none_of cell.Phase h = absurd h
 none_of cell.Gen h = absurd h
 none_of cell.Begun h = absurd h

@@ -9,15 +9,15 @@ use Rattle.gh_coord.specs.Listing as coord
 use Rattle.gh_mutator.specs.Listing.{takes}
 use Rattle.gh_worker.specs.declared.worker.WorkerStage.TheVariants as at
 use Rattle.gh_worker.specs.Listing as worker
-use Rattle.gh_worker.specs.Writing.{Rests}
+use Rattle.gh_worker.specs.Writing.{IsOutsideMarking}
 use Rattle.gh_lists.specs.declared.handshake.Actor.TheVariants as actor
 use Rattle.gh_lists.specs.Lists.{IsEnding}
-use Rattle.gh_lists.specs.Counts.{CountsPlainly, stored_in, stores}
+use Rattle.gh_lists.specs.Counts.{CountsPlainly, stored_in, stores_cell}
 use Rattle.gh_marked.specs.EveryCycle.{CursorGoes}
-use Rattle.gh_marked.specs.Scanned.{global_at, global_by, global_done, global_held, globals_held, globals_in, GlobalsAreCounted, objects_in, scanned_in}
+use Rattle.gh_marked.specs.Scanned.{global_by, global_done, global_held, global_in_hand, globals_held, globals_in, GlobalsAreCounted, objects_in, scanned_in}
 use Rattle.gh_lists.specs.Waits.{WorkersRest}
 use Rattle.gh_marked.proofs.Vocabulary.{acks_of, Actor, Add, after_close, Ask, at_stage, cell_of, Close, CloseStage, Coordinating, CoordStage, effect, Entry, IsBeginning, IsLed, KeepsIt, Layout, Legal, nat_tests, Op, Open, Processor, processor_kind, ProcessorWritesItsOwn, seats_of, started, Store, those, words, WorkerStage, Working}
-use Rattle.gh_marked.specs.Checking.{begins, Goes, goes_on, goes_so, leaves}
+use Rattle.gh_marked.specs.Checking.{begins, CoordinatorGoes, goes_on, goes_so, leaves}
 use Rattle.gh_lists.specs.Seats.{IsSeated, other, seated}
 use Rattle.gh_lists.specs.Leaving.{ends_marking, marks_or_not}
 use Rattle.gh_lists.specs.Steps as seats
@@ -27,13 +27,13 @@ use Rattle.gh_marked.proofs.Scanned.Claims.{claimed_at, holds, IsClearing, leads
 use Rattle.gh_lists.specs.Handshake.{Setup}
 
 -- a worker at rest has no global in hand, and is done with none
-rests_none : (p : WorkerStage) → Rests p → global_held p ≡ 0
+rests_none : (p : WorkerStage) → IsOutsideMarking p → global_held p ≡ 0
 rests_none (at.LoadGlobal i) r = absurd r
 rests_none (at.Shading sh) r = absurd r
 rests_none (at.FindRoom sh r) x = absurd x
 rests_none _ r = refl
 
-rests_done : (p : WorkerStage) (found : ℕ) → Rests p → global_done p found ≡ 0
+rests_done : (p : WorkerStage) (found : ℕ) → IsOutsideMarking p → global_done p found ≡ 0
 rests_done (at.LoadGlobal i) found r = absurd r
 rests_done (at.Shading sh) found r = absurd r
 rests_done _ found r = refl
@@ -68,7 +68,7 @@ module _ (c : Coordinating) where
   clearing_asks (Open o) is = rw is refl
   clearing_asks _ is = absurd is
 
-  ending_asks : (p : CoordStage) → IsEnding p → stores cell.Gen (coord.asks_at c p) ≡ true
+  ending_asks : (p : CoordStage) → IsEnding p → stores_cell cell.Gen (coord.asks_at c p) ≡ true
   ending_asks (Close y) is = rw is refl
   ending_asks _ is = absurd is
 
@@ -117,11 +117,11 @@ module _ (setup : Setup) (cited : Cited setup) where
 
   -- while no cycle is marked nobody has a global in hand
   none_held : (es : List (Entry Op)) → Legal (those setup) es → (c : Coordinating) → who es n ≡ actor.Leads c → (leading.Marks c.stage → ⊥) → held es ≡ 0
-  none_held es legal c led off = total_none (λ a. global_at (who es a)) (seats_of setup.layout) (λ a lt. go a (who es a) refl) where
-    go : (a : ℕ) (y : Actor) → who es a ≡ y → global_at (who es a) ≡ 0
-    go a (actor.Marks w) is = ap global_at is ∙ rests_none w.stage (cited.rests es legal c a w led off is).rests
-    go a (actor.Runs m) is = ap global_at is
-    go a (actor.Leads d) is = ap global_at is
+  none_held es legal c led off = total_none (λ a. global_in_hand (who es a)) (seats_of setup.layout) (λ a lt. go a (who es a) refl) where
+    go : (a : ℕ) (y : Actor) → who es a ≡ y → global_in_hand (who es a) ≡ 0
+    go a (actor.Marks w) is = ap global_in_hand is ∙ rests_none w.stage (cited.rests es legal c a w led off is).rests
+    go a (actor.Runs m) is = ap global_in_hand is
+    go a (actor.Leads d) is = ap global_in_hand is
 
   -- before the first step
   first : Counts []
@@ -129,23 +129,23 @@ module _ (setup : Setup) (cited : Cited setup) where
 
   module _ (e : Entry Op) (es : List (Entry Op)) (legal : Legal (those setup) (e ∷ es)) (was : Counts es) where
     -- what the step leaves
-    ended_same : stores cell.Gen e.ask ≡ false → ended (e ∷ es) ≡ ended es
+    ended_same : stores_cell cell.Gen e.ask ≡ false → ended (e ∷ es) ≡ ended es
     ended_same is = ap (λ (b : Bool). cond b (suc (ended es)) (ended es)) is
 
-    whole_same : stores cell.Gen e.ask ≡ false → ended (e ∷ es) * setup.layout.globals ≡ ended es * setup.layout.globals
+    whole_same : stores_cell cell.Gen e.ask ≡ false → ended (e ∷ es) * setup.layout.globals ≡ ended es * setup.layout.globals
     whole_same is = ap (λ (k : ℕ). k * setup.layout.globals) (ended_same is)
 
     -- who steps without being a worker has no global in hand, and is done with none
-    module _ (x y : Actor) (is : who es e.actor ≡ x) (then : who (e ∷ es) e.actor ≡ y) (none : global_at x ≡ 0) (none_then : global_at y ≡ 0) (done : global_by x e.found ≡ 0) where
+    module _ (x y : Actor) (is : who es e.actor ≡ x) (then : who (e ∷ es) e.actor ≡ y) (none : global_in_hand x ≡ 0) (none_then : global_in_hand y ≡ 0) (done : global_by x e.found ≡ 0) where
       held_same : held (e ∷ es) ≡ held es
-      held_same = total_same (λ a. global_at (who es a)) (λ a. global_at (who (e ∷ es) a)) (seats_of setup.layout) (λ a lt. go a (e.actor == a) refl) where
-        go : (a : ℕ) (t : Bool) → (e.actor == a) ≡ t → global_at (who (e ∷ es) a) ≡ global_at (who es a)
+      held_same = total_same (λ a. global_in_hand (who es a)) (λ a. global_in_hand (who (e ∷ es) a)) (seats_of setup.layout) (λ a lt. go a (e.actor == a) refl) where
+        go : (a : ℕ) (t : Bool) → (e.actor == a) ≡ t → global_in_hand (who (e ∷ es) a) ≡ global_in_hand (who es a)
         go a true e_is =
             let end : e.actor ≡ a = (let q = e_is in grind (arith, nat_tests)) in
-            let one : global_at (who (e ∷ es) a) ≡ 0 = ap (λ (i : ℕ). global_at (who (e ∷ es) i)) (sym end) ∙ ap global_at then ∙ none_then in
-            let two : global_at (who es a) ≡ 0 = ap (λ (i : ℕ). global_at (who es i)) (sym end) ∙ ap global_at is ∙ none in
+            let one : global_in_hand (who (e ∷ es) a) ≡ 0 = ap (λ (i : ℕ). global_in_hand (who (e ∷ es) i)) (sym end) ∙ ap global_in_hand then ∙ none_then in
+            let two : global_in_hand (who es a) ≡ 0 = ap (λ (i : ℕ). global_in_hand (who es i)) (sym end) ∙ ap global_in_hand is ∙ none in
             one ∙ sym two
-        go a false e_is = ap global_at (other setup e es a e_is)
+        go a false e_is = ap global_in_hand (other setup e es a e_is)
 
       counted_same : counted (e ∷ es) ≡ counted es
       counted_same = let d : global_by (who es e.actor) e.found ≡ 0 = ap (λ (z : Actor). global_by z e.found) is ∙ done in omega (arith, d)
@@ -188,14 +188,14 @@ module _ (setup : Setup) (cited : Cited setup) where
       -- so many more are counted or in hand as the step claims
       both_now : counted (e ∷ es) + held (e ∷ es) ≡ counted es + held es + claimed_at w.layout w.stage e.found
       both_now =
-          let one = total_at (λ a. global_at (who es a)) (λ a. global_at (who (e ∷ es) a)) (seats_of setup.layout) e.actor seat_in (λ a lt ne. ap global_at (others a ne)) in
-          let two : global_at (who es e.actor) ≡ global_held w.stage = ap global_at x.is in
-          let three : global_at (who (e ∷ es) e.actor) ≡ global_held (worker.goes w e.found).stage = ap global_at x.then in
+          let one = total_at (λ a. global_in_hand (who es a)) (λ a. global_in_hand (who (e ∷ es) a)) (seats_of setup.layout) e.actor seat_in (λ a lt ne. ap global_in_hand (others a ne)) in
+          let two : global_in_hand (who es e.actor) ≡ global_held w.stage = ap global_in_hand x.is in
+          let three : global_in_hand (who (e ∷ es) e.actor) ≡ global_held (worker.goes w e.found).stage = ap global_in_hand x.then in
           let now = counted_now in
           let four = holds w e.found in
           omega (arith, one, two, three, now, four)
 
-      stays_or_moves : (stores cell.Gen e.ask ≡ false) × (leading.Marks c.stage → min (cursor (e ∷ es)) setup.layout.globals ≡ min (cursor es) setup.layout.globals + claimed_at w.layout w.stage e.found)
+      stays_or_moves : (stores_cell cell.Gen e.ask ≡ false) × (leading.Marks c.stage → min (cursor (e ∷ es)) setup.layout.globals ≡ min (cursor es) setup.layout.globals + claimed_at w.layout w.stage e.found)
       stays_or_moves = elim (works_at w w.stage) [
         | inl y ↦ (
             let q : LeavesCursor e.ask = subst LeavesCursor (sym x.asked) y.0 in
@@ -205,7 +205,7 @@ module _ (setup : Setup) (cited : Cited setup) where
             let ask_is : e.ask ≡ Add cell.Gcur 1 = x.asked ∙ ap (worker.asks_at w) is in
             let found_is : e.found ≡ cursor es = legal.1.found ∙ ap (λ (q : Ask). words setup es (cell_of q)) ask_is in
             let claimed : claimed_at w.layout w.stage e.found ≡ cond (ltb (cursor es) setup.layout.globals) 1 0 = ap (λ (p : WorkerStage). claimed_at w.layout p e.found) is ∙ ap (λ (i : ℕ). cond (ltb i w.layout.globals) 1 0) found_is ∙ ap (λ (y : Layout). cond (ltb (cursor es) y.globals) 1 0) layout_is in (
-              ap (stores cell.Gen) ask_is,
+              ap (stores_cell cell.Gen) ask_is,
               λ on.
                   let few = cited.cursor.small es c legal.0 led on in
                   let now : cursor (e ∷ es) ≡ cursor es + 1 = ap (λ (q : Ask). effect (words setup es) q cell.Gcur) ask_is ∙ omega (arith, few) in
@@ -246,14 +246,14 @@ module _ (setup : Setup) (cited : Cited setup) where
       k : counted (e ∷ es) ≡ counted es
       k = counted_same (actor.Leads c) (actor.Leads to) was_at now_at refl refl refl
 
-      goes_by : Goes setup.layout c.begun (words setup es) c c.stage to
+      goes_by : CoordinatorGoes setup.layout c.begun (words setup es) c c.stage to
       goes_by = goes_so setup.layout c.begun (words setup es) c (coord.counted c).marks (subst (IsSeated setup.layout n) x.is (seated setup es n)).1 refl c.stage e.found x.busy x.found
 
-      asks_is : stores cell.Gen e.ask ≡ stores cell.Gen (coord.asks c)
-      asks_is = ap (stores cell.Gen) x.asked
+      asks_is : stores_cell cell.Gen e.ask ≡ stores_cell cell.Gen (coord.asks c)
+      asks_is = ap (stores_cell cell.Gen) x.asked
 
       -- where it is not the end of a cycle's marking
-      goes_still : stores cell.Gen e.ask ≡ false → (leading.Marks to.stage → (counted es + held es ≡ ended es * setup.layout.globals + min (cursor (e ∷ es)) setup.layout.globals)) → Counted (e ∷ es) to
+      goes_still : stores_cell cell.Gen e.ask ≡ false → (leading.Marks to.stage → (counted es + held es ≡ ended es * setup.layout.globals + min (cursor (e ∷ es)) setup.layout.globals)) → Counted (e ∷ es) to
       goes_still none far =
           let g = whole_same none in
           let same = k in
@@ -275,7 +275,7 @@ module _ (setup : Setup) (cited : Cited setup) where
         min_same : min (cursor (e ∷ es)) setup.layout.globals ≡ min (cursor es) setup.layout.globals
         min_same = ap (λ (i : ℕ). min i setup.layout.globals) same
 
-        by : Goes setup.layout c.begun (words setup es) c c.stage to → leading.Marks to.stage → counted es + held es ≡ ended es * setup.layout.globals + min (cursor (e ∷ es)) setup.layout.globals
+        by : CoordinatorGoes setup.layout c.begun (words setup es) c c.stage to → leading.Marks to.stage → counted es + held es ≡ ended es * setup.layout.globals + min (cursor (e ∷ es)) setup.layout.globals
         by (begins at_first light begun_is checked) on =
             let off : leading.Marks c.stage → ⊥ = beginning_off c.stage at_first in
             let o = before.once off in
@@ -287,8 +287,8 @@ module _ (setup : Setup) (cited : Cited setup) where
         by (leaves off) on = absurd (off on)
 
       clearing : IsClearing c.stage → Counted (e ∷ es) to
-      clearing y = goes_still (asks_is ∙ ap (stores cell.Gen) (clearing_asks c c.stage y)) (by goes_by) where
-        by : Goes setup.layout c.begun (words setup es) c c.stage to → leading.Marks to.stage → counted es + held es ≡ ended es * setup.layout.globals + min (cursor (e ∷ es)) setup.layout.globals
+      clearing y = goes_still (asks_is ∙ ap (stores_cell cell.Gen) (clearing_asks c c.stage y)) (by goes_by) where
+        by : CoordinatorGoes setup.layout c.begun (words setup es) c c.stage to → leading.Marks to.stage → counted es + held es ≡ ended es * setup.layout.globals + min (cursor (e ∷ es)) setup.layout.globals
         by (begins at_first light begun_is checked) on = absurd (clearing_other c.stage y at_first)
         by (goes_on on_was light begun_is checked) on = absurd (clearing_off c.stage y on_was)
         by (leaves off) on = absurd (off on)

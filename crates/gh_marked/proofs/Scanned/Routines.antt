@@ -18,7 +18,7 @@ use Rattle.gh_base.specs.declared.pack.PageWord.TheVariants as page_word
 use Rattle.gh_base.specs.declared.pack.Phase.{Phase}
 use Rattle.gh_base.specs.declared.pack.Phase.TheVariants as phase
 use Rattle.gh_lists.specs.declared.handshake.Actor.TheVariants as actor
-use Rattle.gh_lists.specs.Handshake.{start, takes, Setup}
+use Rattle.gh_lists.specs.Handshake.{start, actor_takes, Setup}
 use Rattle.gh_marked.proofs.Vocabulary.{acks_of, Actor, actors, Entry, Held, Kind, Op, opening_processor, page_of, PageWord, phase_of, Resumed, Shaded, started, state_of, SweepEnd, Working, WorkerStage}
 
 abbrev pub HasStep : WorkerStage → Type 0
@@ -130,7 +130,7 @@ module _ (setup : Setup) where
     go false true = tt
     go false false = tt
 
-  taken : (found : ℕ) (m : Actor) → Fits (takes setup.shapes m found)
+  taken : (found : ℕ) (m : Actor) → Fits (actor_takes setup.shapes m found)
   taken found (actor.Runs m) = tt
   taken found (actor.Marks w) = goes_at w w.stage found
   taken found (actor.Leads c) = tt
@@ -138,7 +138,7 @@ module _ (setup : Setup) where
   fits : (es : List (Entry Op)) (a : ℕ) → Fits (state_of all a es)
   fits [] a = opens a
   fits (e ∷ es) a = go (e.actor == a) (fits es a) where
-    go : (b : Bool) → Fits (state_of all a es) → Fits (cond b (takes setup.shapes (started all e.begun (state_of all a es)) e.found) (state_of all a es))
+    go : (b : Bool) → Fits (state_of all a es) → Fits (cond b (actor_takes setup.shapes (started all e.begun (state_of all a es)) e.found) (state_of all a es))
     go true f = taken e.found (started all e.begun (state_of all a es))
     go false f = f
 

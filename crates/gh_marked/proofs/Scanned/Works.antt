@@ -20,7 +20,7 @@ use Rattle.gh_worker.specs.Listing as worker
 use Rattle.gh_worker.specs.Vocabulary.{CREDIT_SLACK}
 use Rattle.gh_credit.specs.Earning as earn
 use Rattle.gh_worker.specs.MarkFacts as marks
-use Rattle.gh_worker.specs.Works.{word_of, words_done, words_of}
+use Rattle.gh_worker.specs.Works.{scan_words, shading_word, words_done}
 use Rattle.gh_marked.proofs.Vocabulary.{Held, ScanStage, Shaded, ShadeStage, Working, WorkerStage}
 use Rattle.gh_marked.specs.Levels.{colour_goes, far, global_goes, global_there, level, NoneBeyond}
 use Rattle.gh_marked.proofs.Scanned.Routines.{HasStep}
@@ -66,7 +66,7 @@ module _ (z : Cycle) (a : ℕ) (s : Shared) (m : scan.Scanning) (found words : �
 
   ends_at : (p : ScanStage) → scan.is_busy p ≡ true → scan_facts.StageFacts z a s nothing m p → scan.given (scan.goes_at m p found) ≡ Some words → Scans a s o words
   ends_at scan_at.LoadPage busy f is = absurd cc
-  ends_at scan_at.LoadBitmap busy f is = record { words_are = bits_give words m found (scan.is_pointer found m.at) is ∙ f.0.slot_is; taken = (f.1.has.is_taken o).0 refl }
+  ends_at scan_at.LoadBitmap busy f is = record { words_are = bits_give words m found (scan.bit_says_pointer found m.at) is ∙ f.0.slot_is; taken = (f.1.has.is_taken o).0 refl }
   ends_at scan_at.LoadField busy f is = record { words_are = field_gives words m _ (found == 0) is ∙ f.0.slot_is; taken = (f.2.has.is_taken o).0 refl }
   ends_at (scan_at.Shading sh) busy f is = record { words_are = shade_gives words m (shade.goes sh found) (shade.gives sh found) is ∙ f.0.is_at.slot_is; taken = (f.1.hands.has.is_taken o).0 refl }
   ends_at (scan_at.FindRoom sh r) busy f is = absurd (room_gives words m sh (room.goes r found) (room.gives r found) is)
@@ -151,7 +151,7 @@ module _ (steps : EachStepGoesByMoves) (z : Cycle) (a : ℕ) (s t : Shared) (goo
       go true g = g
       go false g = g
 
-    after_scan : (m : scan.Scanning) → scan.is_busy m.stage ≡ true → scan_facts.Facts z a s nothing m → (out : Option ℕ) → scan.gives m found ≡ out → Facts (worker.after_scan w (scan.goes m found) out) → words_of out + C s ≤ C t
+    after_scan : (m : scan.Scanning) → scan.is_busy m.stage ≡ true → scan_facts.Facts z a s nothing m → (out : Option ℕ) → scan.gives m found ≡ out → Facts (worker.after_scan w (scan.goes m found) out) → scan_words out + C s ≤ C t
     after_scan m busy f None is g = none_done
     after_scan m busy f (Some words) is g = scans_object (scan.object_of m.reference) words f.known (ends_at z a s m found words m.stage busy f.stage_is is) (λ taken. let no : None ≡ Some (scan.object_of m.reference) = ((done_with (scan.held_at (scan.goes m found).held (scan.goes m found).stage) words g).has.is_taken (scan.object_of m.reference)).1 taken in cc)
 
@@ -169,7 +169,7 @@ module _ (steps : EachStepGoesByMoves) (z : Cycle) (a : ℕ) (s t : Shared) (goo
     shade_ends i sh held g shade_at.Enter busy f is = enters_object (shade.object_of sh.reference) ((f.has.is_pending (shade.object_of sh.reference)).0 refl) (λ x. let no : None ≡ Some (shade.object_of sh.reference) = (g.has.is_pending (shade.object_of sh.reference)).1 x in cc)
     shade_ends i sh held g shade_at.Ended busy f is = absurd cc
 
-    after_shade : (i : ℕ) (sh : shade.Shading) → shade.is_busy sh.stage ≡ true → shade_facts.Facts z a s (marks.in_hand None (marks.claim_at i sh.reference sh.stage)) sh → (out : Option Shaded) → shade.gives sh found ≡ out → Facts (worker.after_shade w (shade.goes sh found) out) → word_of out + C s ≤ C t
+    after_shade : (i : ℕ) (sh : shade.Shading) → shade.is_busy sh.stage ≡ true → shade_facts.Facts z a s (marks.in_hand None (marks.claim_at i sh.reference sh.stage)) sh → (out : Option Shaded) → shade.gives sh found ≡ out → Facts (worker.after_shade w (shade.goes sh found) out) → shading_word out + C s ≤ C t
     after_shade i sh busy f None is g = none_done
     after_shade i sh busy f (Some shaded.Done) is g = shade_ends i sh (shade.goes sh found).held (done_with (shade.goes sh found).held 1 g) sh.stage busy f.hands is
     after_shade i sh busy f (Some shaded.WantsRoom) is g = none_done

@@ -8,9 +8,9 @@ use Rattle.gh_base.specs.declared.limits.TheConstants.{REGISTERS}
 use Rattle.gh_base.specs.declared.pack.TheConstants.{END}
 use Rattle.gh_base.specs.Rows.{Row}
 use Rattle.gh_tri.specs.declared.Colour.TheVariants as shade
-use Rattle.gh_tri.specs.Invariants.{IsOpening}
+use Rattle.gh_tri.specs.Invariants.{IsOpeningPicture}
 use Rattle.gh_tri.specs.Steps.{Goes, stays}
-use Rattle.gh_tri.specs.Tricolour.{Tricolour, NilOrMade, NilOrMarked, put}
+use Rattle.gh_tri.specs.Tricolour.{Tricolour, NilOrMade, NilOrMarked, put1}
 use Rattle.gh_marks.specs.Colours.{Cycle, IsSince, Shared}
 use Rattle.gh_marks.specs.Ends.{Opens}
 use Rattle.gh_marks.specs.Picture.{CyclesBeginDrawn}
@@ -54,7 +54,7 @@ module _ (z : Cycle) (s : Shared) (room : ℕ) (opens : Opens z s) where
     limit = objects + room;
     fields = z.arena.layout.globals + words;
     stacks = z.arena.layout.goroutines;
-    colour = put (λ o. shade.White) 0 shade.Grey;
+    colour = put1 (λ o. shade.White) 0 shade.Grey;
     value = value;
     scanned = λ o f. false;
     register = λ g d. value_of s.since (s.registers g d);
@@ -99,7 +99,7 @@ module _ (z : Cycle) (s : Shared) (room : ℕ) (opens : Opens z s) where
   past : (n k : ℕ) → objects ≤ suc n → value (suc n) k ≡ None
   past n k le = elim (lt-tells (suc n) objects) [ inl y ↦ absurd (omega (arith, y.1)) | inr x ↦ ap (λ b. cond b (value_of s.since (pointer_at s (at (suc n)) k)) None) x.0 ]
 
-  opening : IsOpening first
+  opening : IsOpeningPicture first
   opening = record {
     some = omega arith;
     grey = refl;
@@ -186,7 +186,7 @@ module _ (z : Cycle) (s : Shared) (room : ℕ) (opens : Opens z s) where
     some-global : 0 < z.arena.layout.globals
     some-global = let l = z.arena.layout.limits in omega (arith, l.globals_fit.0)
 
-    white : (n : ℕ) → 0 < n → put (λ o. shade.White) 0 shade.Grey n ≡ shade.White
+    white : (n : ℕ) → 0 < n → put1 (λ o. shade.White) 0 shade.Grey n ≡ shade.White
     white n some = elim (eqb_tells 0 n) [ inl y ↦ absurd (omega (arith, y.1)) | inr x ↦ rw (x.0) refl ]
 
     seen : (g d : ℕ) → g < z.arena.layout.goroutines → d < REGISTERS → seen_to z.arena.layout.goroutines g d ≡ over g

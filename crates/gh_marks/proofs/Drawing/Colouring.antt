@@ -9,7 +9,7 @@ use Rattle.gh_tri.specs.declared.Colour.{Colour as Shade}
 use Rattle.gh_tri.specs.declared.Colour.TheVariants as shade
 use Rattle.gh_tri.specs.declared.Move.TheVariants as tri
 use Rattle.gh_tri.specs.Steps.{Goes, moves, stays}
-use Rattle.gh_tri.specs.Tricolour.{Tricolour, NilOrMarked, greyed, put, shaded}
+use Rattle.gh_tri.specs.Tricolour.{Tricolour, NilOrMarked, greyed, put1, shaded}
 use Rattle.gh_marks.specs.Colours.{Black, Cycle, IsClean, IsPointer, Pending, Shared, White}
 use Rattle.gh_marks.specs.Good.{Good}
 use Rattle.gh_marks.specs.Moves.{Blacken, May, Move, Shade as Shades, ShadeFlat, moved}
@@ -21,9 +21,9 @@ use Rattle.gh_marks.proofs.Drawing.Runs.{filled-other, filled_to, goes-black}
 use Rattle.gh_marks.proofs.Drawing.Showing.{shows-coloured, shows-still}
 
 -- a white object is shaded
-white-shaded : (colour : ℕ → Shade) (n : ℕ) → colour n ≡ shade.White → shaded colour (Some n) ≡ put colour n shade.Grey
+white-shaded : (colour : ℕ → Shade) (n : ℕ) → colour n ≡ shade.White → shaded colour (Some n) ≡ put1 colour n shade.Grey
 white-shaded colour n white = fun_ext (λ m. at m) where
-  at : (m : ℕ) → shaded colour (Some n) m ≡ put colour n shade.Grey m
+  at : (m : ℕ) → shaded colour (Some n) m ≡ put1 colour n shade.Grey m
   at m = elim (eqb_tells n m) [ inl y ↦ rw (y.0) (ap greyed (ap colour (sym y.1) ∙ white)) | inr x ↦ rw (x.0) refl ]
 
 module _ (z : Cycle) (a : ℕ) (s : Shared) (at : Row) (p : Tricolour) (room : ℕ) (g : Good z s) (sh : Shows z s at p) (fits : p.objects + (room + 1) ≤ p.limit) where
@@ -36,7 +36,7 @@ module _ (z : Cycle) (a : ℕ) (s : Shared) (at : Row) (p : Tricolour) (room : �
       let t = moved z a s (Shades o) in
       let was : s.colour o ≡ White = white-colour (mark_words s.words) s.colour g.marks o may.0.white in
       record {
-        picture = record p { colour = put p.colour n.0 shade.Grey };
+        picture = record p { colour = put1 p.colour n.0 shade.Grey };
         at = at;
         goes = subst (λ (c : ℕ → Shade). Goes p (record p { colour = c })) (white-shaded p.colour n.0 (sh.colours n.0 n.1 n.2 ∙ ap shade_of (ap s.colour n.3 ∙ was))) (moves p (tri.Shade n.0) stays n.2);
         shows = shows-coloured z (record s { words = t.words }) at p
@@ -50,7 +50,7 @@ module _ (z : Cycle) (a : ℕ) (s : Shared) (at : Row) (p : Tricolour) (room : �
   blacken t o shows known same clean =
       let n = sh.numbers.all o known in
       record {
-        picture = record p { colour = put p.colour n.0 shade.Black; scanned = filled_to true p.scanned n.0 p.fields };
+        picture = record p { colour = put1 p.colour n.0 shade.Black; scanned = filled_to true p.scanned n.0 p.fields };
         at = at;
         goes = goes-black p n.0 n.2 (clean n.0 n.1 n.2 n.3);
         shows = shows-coloured z t at p shows o Black n.0 (filled_to true p.scanned n.0 p.fields) n.1 n.2 n.3 (λ i. filled-other true p.scanned n.0 p.fields 0 i (other n.0 n.1));

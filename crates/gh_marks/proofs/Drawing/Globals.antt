@@ -7,7 +7,7 @@ use Rattle.gh_base.specs.Rows.{Row, mark_words}
 use Rattle.gh_heap.specs.Moves.{update}
 use Rattle.gh_tri.specs.declared.Colour.TheVariants as shade
 use Rattle.gh_tri.specs.Steps.{stays}
-use Rattle.gh_tri.specs.Tricolour.{Tricolour, NilOrMarked, put, put2}
+use Rattle.gh_tri.specs.Tricolour.{Tricolour, NilOrMarked, put1, put2}
 use Rattle.gh_marks.specs.Colours.{Cycle, IsClean, Progress, Scanned, Shared}
 use Rattle.gh_marks.specs.Good.{Good}
 use Rattle.gh_marks.specs.Moves.{May, ScanGlobal, moved}
@@ -88,7 +88,7 @@ module _ (z : Cycle) (a : ℕ) (s : Shared) (at : Row) (p : Tricolour) (room : �
 
     all-done : IsDrawn z (moved z a s (ScanGlobal i value)) p room
     all-done = record {
-      picture = record p { colour = put p.colour 0 shade.Black; scanned = filled_to true p.scanned 0 p.fields };
+      picture = record p { colour = put1 p.colour 0 shade.Black; scanned = filled_to true p.scanned 0 p.fields };
       at = at;
       goes = goes-black p 0 sh.numbers.some clean;
       shows = record {
@@ -109,7 +109,7 @@ module _ (z : Cycle) (a : ℕ) (s : Shared) (at : Row) (p : Tricolour) (room : �
       };
       room_left = omega arith;
     } where
-      other : (n : ℕ) → 0 < n → put p.colour 0 shade.Black n ≡ p.colour n
+      other : (n : ℕ) → 0 < n → put1 p.colour 0 shade.Black n ≡ p.colour n
       other n some = elim (eqb_tells 0 n) [ inl y ↦ absurd (omega (arith, y.1)) | inr x ↦ rw (x.0) refl ]
 
   -- what is no global of the layout is nothing in the picture

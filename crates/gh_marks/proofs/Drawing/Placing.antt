@@ -8,7 +8,7 @@ use Rattle.gh_heap.specs.Moves.{update}
 use Rattle.gh_tri.specs.declared.Colour.TheVariants as shade
 use Rattle.gh_tri.specs.declared.Move.TheVariants.{Allocate}
 use Rattle.gh_tri.specs.Steps.{moves, stays}
-use Rattle.gh_tri.specs.Tricolour.{Tricolour, put, put_row}
+use Rattle.gh_tri.specs.Tricolour.{Tricolour, put1, put_row}
 use Rattle.gh_tri.specs.Tricolour as tri
 use Rattle.gh_marks.specs.Colours.{Black, Cycle, IsPointer, Shared}
 use Rattle.gh_marks.specs.Good.{Good}
@@ -89,15 +89,15 @@ module _ (z : Cycle) (a : ℕ) (s : Shared) (at : Row) (p : Tricolour) (room : �
       once n m some some' (inr below) (inl f) same = absurd (clash m n some f below (sym same))
       once n m some some' (inr below) (inr below') same = sh.numbers.once n m some below some' below' (sym (old-number n below) ∙ (same ∙ old-number m below'))
 
-    colours : (n : ℕ) → 0 < n → Of n → put p.colour p.objects shade.Black n ≡ shade_of (update s.colour o Black (with_number n))
-    colours n some (inl e) = subst (λ k. put p.colour p.objects shade.Black k ≡ shade_of (update s.colour o Black (with_number k))) e (new ∙ sym (ap (λ q. shade_of (update s.colour o Black q)) new-number ∙ black)) where
-      new : put p.colour p.objects shade.Black p.objects ≡ shade.Black
+    colours : (n : ℕ) → 0 < n → Of n → put1 p.colour p.objects shade.Black n ≡ shade_of (update s.colour o Black (with_number n))
+    colours n some (inl e) = subst (λ k. put1 p.colour p.objects shade.Black k ≡ shade_of (update s.colour o Black (with_number k))) e (new ∙ sym (ap (λ q. shade_of (update s.colour o Black q)) new-number ∙ black)) where
+      new : put1 p.colour p.objects shade.Black p.objects ≡ shade.Black
       new = elim (eqb_tells p.objects p.objects) [ inl y ↦ rw (y.0) refl | inr x ↦ absurd (x.1 refl) ]
 
       black : shade_of (update s.colour o Black o) ≡ shade.Black
       black = elim (eqb_tells o o) [ inl y ↦ rw (y.0) refl | inr x ↦ absurd (x.1 refl) ]
     colours n some (inr below) = old ∙ (sh.colours n some below ∙ sym (ap (λ q. shade_of (update s.colour o Black q)) (old-number n below) ∙ kept)) where
-      old : put p.colour p.objects shade.Black n ≡ p.colour n
+      old : put1 p.colour p.objects shade.Black n ≡ p.colour n
       old = elim (eqb_tells p.objects n) [ inl y ↦ absurd (omega (arith, y.1)) | inr x ↦ rw (x.0) refl ]
 
       kept : shade_of (update s.colour o Black (at n)) ≡ shade_of (s.colour (at n))
@@ -132,7 +132,7 @@ module _ (z : Cycle) (a : ℕ) (s : Shared) (at : Row) (p : Tricolour) (room : �
     zero-row : {A : Type 0} (table : ℕ → ℕ → A) (x : A) (i : ℕ) → put_row table p.objects x 0 i ≡ table 0 i
     zero-row table x i = elim (eqb_tells p.objects 0) [ inl y ↦ absurd (let some : 0 < p.objects = sh.numbers.some in omega (arith, y.1)) | inr n ↦ rw (n.0) refl ]
 
-    zero-colour : put p.colour p.objects shade.Black 0 ≡ p.colour 0
+    zero-colour : put1 p.colour p.objects shade.Black 0 ≡ p.colour 0
     zero-colour = elim (eqb_tells p.objects 0) [ inl y ↦ absurd (let some : 0 < p.objects = sh.numbers.some in omega (arith, y.1)) | inr n ↦ rw (n.0) refl ]
 
     named : Names with_number (p.objects + 1) (Some p.objects) (o + 1)

@@ -7,7 +7,7 @@ use Rattle.gh_base.specs.Rows.{Row, mark_words}
 use Rattle.gh_tri.specs.declared.Colour.TheVariants as shade
 use Rattle.gh_tri.specs.Tricolour.{Tricolour, NilOrMade, NilOrMarked}
 use Rattle.gh_tri.specs.Tricolour as tri
-use Rattle.gh_marks.specs.Colours.{Black, Buffered, Claimed, Colour, Cycle, Extents, IsClean, IsGrey, IsMarked, IsPointer, IsSince, Pending, Placing, Progress, Read, Scanned, Shared, Taken, Untouched, Waits, White, mark_of}
+use Rattle.gh_marks.specs.Colours.{Black, Buffered, Claimed, Colour, Cycle, Extents, IsClean, IsGrey, IsMarked, IsPointer, IsSince, Pending, Placing, Progress, Read, Scanned, Shared, Taken, Untouched, GlobalWaits, White, mark_of}
 use Rattle.gh_marks.specs.Good.{MarksGood}
 use Rattle.gh_marks.specs.Shows.{Names, Numbers, Shows, global_at, is_scanned, nothing, object, pointer_at, shade_of}
 
@@ -51,7 +51,7 @@ is-grey (Buffered b j) h = tt
 is-grey (Taken a) h = tt
 is-grey Black h = cc
 
-pub is-waiting : (v : Progress) → is_scanned v ≡ false → Waits v
+pub is-waiting : (v : Progress) → is_scanned v ≡ false → GlobalWaits v
 is-waiting Untouched h = tt
 is-waiting (Claimed a) h = tt
 is-waiting (Read a v) h = tt

@@ -9,7 +9,7 @@ use Rattle.gh_tri.specs.declared.Move.TheVariants.{ReadOld, Store, ScanField, Bl
 use Rattle.gh_tri.specs.Changes.{Drop}
 use Rattle.gh_tri.specs.Steps.{Goes, stays}
 use Rattle.gh_tri.specs.Steps as steps
-use Rattle.gh_tri.specs.Tricolour.{Tricolour, IsField, NilOrMade, NilOrMarked, moved, names, greyed, put, put2, put3, shaded}
+use Rattle.gh_tri.specs.Tricolour.{Tricolour, IsField, NilOrMade, NilOrMarked, moved, names, greyed, put1, put2, put3, shaded}
 
 pub goes-then : (p q r : Tricolour) → Goes p q → Goes q r → Goes p r
 goes-then p q r w stays = w
@@ -71,7 +71,7 @@ module _ (p : Tricolour) where
         (goes-scanned (Scans n) (goes-scans n (omega arith)) o n (record { made = made; within = omega arith }) (clean n (omega arith)))
 
     -- and then it is black
-    pub goes-black : Goes p (record p { colour = put p.colour o shade.Black; scanned = filled_to true p.scanned o p.fields })
+    pub goes-black : Goes p (record p { colour = put1 p.colour o shade.Black; scanned = filled_to true p.scanned o p.fields })
     goes-black = steps.moves (Scans p.fields) (Blacken o) (goes-scans p.fields (omega arith)) (record { made = made; fields = λ f l. filled-at true p.scanned o p.fields f l })
 
   -- ---- a register is scanned that holds nil or a marked object

@@ -7,7 +7,7 @@ use Rattle.gh_base.specs.declared.limits.TheConstants.{REGISTERS}
 use Rattle.gh_base.specs.declared.pack.TheConstants.{END}
 use Rattle.gh_base.specs.Rows.{Row, mark_words, row_bit}
 use Rattle.gh_tri.specs.declared.Colour.TheVariants as shade
-use Rattle.gh_tri.specs.Invariants.{Edge, Invariants, IsMarkingDone, IsReached, MarkedWhatIsReached}
+use Rattle.gh_tri.specs.Invariants.{Edge, Invariants, IsMarkingDone, IsReachedInPicture, MarkedWhatIsReached}
 use Rattle.gh_tri.specs.Invariants as tri
 use Rattle.gh_tri.specs.Tricolour.{Tricolour}
 use Rattle.gh_marks.specs.Colours.{Cycle, IsClean, IsMarked, IsPointer, IsSafe, Protected, Shared, from_global, from_grey, from_white, rows}
@@ -126,7 +126,7 @@ module _ (z : Cycle) (s : Shared) (at : Row) (p : Tricolour) (sh : Shows z s at 
 -- and each object that a path leads to is reached in it
 module _ (z : Cycle) (s : Shared) (at : Row) (p : Tricolour) (sh : Shows z s at p) where
   abbrev Shown : ℕ → Type 0
-  Shown o = (n : ℕ) × (0 < n) × (n < p.objects) × (at n ≡ o) × IsReached p n
+  Shown o = (n : ℕ) × (0 < n) × (n < p.objects) × (at n ≡ o) × IsReachedInPicture p n
 
   shown : (o : ℕ) → Reached z s o → Shown o
   shown o (ends.from_global k o' l e) =

@@ -7,7 +7,7 @@ use Rattle.gh_base.specs.declared.limits.TheConstants.{REGISTERS}
 use Rattle.gh_base.specs.Cells.{Words}
 use Rattle.gh_base.specs.Rows.{Row}
 use Rattle.gh_heap.specs.Moves.{update, update_at}
-use Rattle.gh_tri.specs.Tricolour.{Tricolour, put, put2}
+use Rattle.gh_tri.specs.Tricolour.{Tricolour, put1, put2}
 use Rattle.gh_marks.specs.Colours.{Colour, Cycle, IsPointer, Progress, Shared}
 use Rattle.gh_marks.specs.Shows.{Names, Shows, is_black_stack, is_scanned, pointer_at, shade_of}
 use Rattle.gh_marks.proofs.Drawing.Reading.{global-same, pointer-same}
@@ -55,7 +55,7 @@ module _ (z : Cycle) (s : Shared) (at : Row) (p : Tricolour) (sh : Shows z s at 
   }
 
   -- object n, and the object that it shows, take a colour
-  pub shows-coloured : (o : ℕ) (c : Colour) (n : ℕ) (scanned : ℕ → ℕ → Bool) → 0 < n → n < p.objects → at n ≡ o → ((i : ℕ) → scanned 0 i ≡ p.scanned 0 i) → Shows z (record s { colour = update s.colour o c }) at (record p { colour = put p.colour n (shade_of c); scanned = scanned })
+  pub shows-coloured : (o : ℕ) (c : Colour) (n : ℕ) (scanned : ℕ → ℕ → Bool) → 0 < n → n < p.objects → at n ≡ o → ((i : ℕ) → scanned 0 i ≡ p.scanned 0 i) → Shows z (record s { colour = update s.colour o c }) at (record p { colour = put1 p.colour n (shade_of c); scanned = scanned })
   shows-coloured o c n scanned some below is same = record {
     numbers = sh.numbers;
     stacks = sh.stacks;
@@ -72,10 +72,10 @@ module _ (z : Cycle) (s : Shared) (at : Row) (p : Tricolour) (sh : Shows z s at 
     seen = sh.seen;
     reads = sh.reads;
   } where
-    zero-same : put p.colour n (shade_of c) 0 ≡ p.colour 0
+    zero-same : put1 p.colour n (shade_of c) 0 ≡ p.colour 0
     zero-same = elim (eqb_tells n 0) [ inl y ↦ absurd (omega arith) | inr n' ↦ rw (n'.0) refl ]
 
-    colours : (m : ℕ) → 0 < m → m < p.objects → put p.colour n (shade_of c) m ≡ shade_of (update s.colour o c (at m))
+    colours : (m : ℕ) → 0 < m → m < p.objects → put1 p.colour n (shade_of c) m ≡ shade_of (update s.colour o c (at m))
     colours m some' below' = elim (eqb_tells n m) [
       | inl y ↦ elim (eqb_tells o (at m)) [ inl x ↦ rw (y.0, x.0) refl | inr x ↦ absurd (x.1 (sym is ∙ ap at y.1)) ]
       | inr n' ↦ elim (eqb_tells o (at m)) [ inl x ↦ absurd (n'.1 (sh.numbers.once n m some below some' below' (is ∙ x.1))) | inr x ↦ rw (n'.0, x.0) (sh.colours m some' below') ]

@@ -5,30 +5,30 @@ use Rattle.gh_base.specs.declared.cell.Cell.TheVariants as cell
 use Rattle.gh_wbuf.specs.BufferGiving as buffer
 use Rattle.gh_wbuf.specs.Facts as buffer_facts
 use Rattle.gh_mutator.specs.declared.give.GiveStage.TheVariants.{Lock, GiveSpan, Unlock, GiveBuffer, Ended}
-use Rattle.gh_mutator.specs.Give.{after_buffer, asks, asks_at, begins, first_of, Giving, giving_buffer, goes, goes_at, head_store, is_busy, opening, stage_from}
-use Rattle.gh_mutator.specs.MarkFacts.{GiveFacts, GiveStageFacts, holding}
+use Rattle.gh_mutator.specs.Give.{after_buffer, asks, asks_at, begins, first_cached, Giving, giving_buffer, goes, goes_at, head_store, is_busy, opening, stage_from}
+use Rattle.gh_mutator.specs.MarkFacts.{GiveFacts, GiveStageFacts, holding_only}
 use Rattle.gh_mutator.specs.MarkVocabulary.{CachedSpan, Cycle, GiveStage, Good, Hands, Held, Keeps, KnowsObjects, Layout, Others, Shared, Steps, cell_of, effect, landing, nothing}
 use Rattle.gh_mutator.proofs.Marking.Known.{by_load, by_quiet, Known}
 
 -- where it goes by what is cached, and by what is held
-first_facts : (z : Cycle) (a : ℕ) (t : Shared) (held : Option Held) (class : ℕ) (spans : List (Option CachedSpan)) → Hands a t (holding held) → GiveStageFacts z a t held (first_of class spans)
+first_facts : (z : Cycle) (a : ℕ) (t : Shared) (held : Option Held) (class : ℕ) (spans : List (Option CachedSpan)) → Hands a t (holding_only held) → GiveStageFacts z a t held (first_cached class spans)
 first_facts z a t held class [] x = x
 first_facts z a t held class (Some s ∷ spans) x = x
 first_facts z a t held class (None ∷ spans) x = first_facts z a t held (class + 1) spans x
 
 module _ (k : Known) (z : Cycle) (a : ℕ) where
-  buffer_facts_of : (t : Shared) (l : Layout) (held : Option Held) → l ≡ z.arena.layout → Hands a t (holding held) → GiveStageFacts z a t held (giving_buffer l held)
+  buffer_facts_of : (t : Shared) (l : Layout) (held : Option Held) → l ≡ z.arena.layout → Hands a t (holding_only held) → GiveStageFacts z a t held (giving_buffer l held)
   buffer_facts_of t l None e x = (x, refl)
   buffer_facts_of t l (Some h) e x = subst (λ (l : Layout). buffer_facts.GiveFacts z a t nothing (buffer.opening l h)) (sym e) ((k.buffers.begin z a t nothing (Some h) x).gives h refl)
 
-  begin_facts : (t : Shared) (l : Layout) (held : Option Held) (stage : GiveStage) → l ≡ z.arena.layout → Hands a t (holding held) → GiveStageFacts z a t held (begins l held stage)
+  begin_facts : (t : Shared) (l : Layout) (held : Option Held) (stage : GiveStage) → l ≡ z.arena.layout → Hands a t (holding_only held) → GiveStageFacts z a t held (begins l held stage)
   begin_facts t l held Lock e x = x
   begin_facts t l held (GiveSpan class s) e x = x
   begin_facts t l held Unlock e x = buffer_facts_of t l held e x
   begin_facts t l held (GiveBuffer b) e x = x
   begin_facts t l held Ended e x = x
 
-  pub gives_begin : (t : Shared) (l : Layout) (seat generation : ℕ) (cache : List (Option CachedSpan)) (held : Option Held) → l ≡ z.arena.layout → Hands a t (holding held) → GiveFacts z a t (opening l seat generation cache held)
+  pub gives_begin : (t : Shared) (l : Layout) (seat generation : ℕ) (cache : List (Option CachedSpan)) (held : Option Held) → l ≡ z.arena.layout → Hands a t (holding_only held) → GiveFacts z a t (opening l seat generation cache held)
   gives_begin t l seat generation cache held e x = record { layout_is = e; stage_is = begin_facts t l held (stage_from cache 0) e x }
 
   left_at : (t : Shared) (held : Option Held) (stage : GiveStage) → is_busy stage ≡ false → GiveStageFacts z a t held stage → Hands a t nothing × (held ≡ None)
@@ -47,10 +47,10 @@ module _ (k : Known) (z : Cycle) (a : ℕ) where
     Leads m p = Steps z a s (asks_at m p) (λ t. Keeps z a s t × GiveFacts z a t (goes_at m p (s.words (cell_of (asks_at m p)))))
 
     module _ (m : Giving) (layout_is : m.layout ≡ z.arena.layout) where
-      locks : Hands a s (holding m.held) → Leads m Lock
-      locks x = by_quiet k z a s good (Swap cell.Lock 0 (m.seat + 1)) (holding m.held) (λ t. Keeps z a s t × GiveFacts z a t (goes_at m Lock (s.words cell.Lock))) tt x
+      locks : Hands a s (holding_only m.held) → Leads m Lock
+      locks x = by_quiet k z a s good (Swap cell.Lock 0 (m.seat + 1)) (holding_only m.held) (λ t. Keeps z a s t × GiveFacts z a t (goes_at m Lock (s.words cell.Lock))) tt x
           (λ t kept h. (kept, record { layout_is = layout_is; stage_is = then t h (eqb (s.words cell.Lock) 0) })) where
-            then : (t : Shared) → Hands a t (holding m.held) → (free : Bool) → GiveStageFacts z a t m.held (cond free (stage_from m.cache 0) Lock)
+            then : (t : Shared) → Hands a t (holding_only m.held) → (free : Bool) → GiveStageFacts z a t m.held (cond free (stage_from m.cache 0) Lock)
             then t h true = first_facts z a t m.held 0 (drop 0 m.cache) h
             then t h false = h
 
@@ -60,9 +60,9 @@ module _ (k : Known) (z : Cycle) (a : ℕ) where
 
       gives_at : (p : GiveStage) → GiveStageFacts z a s m.held p → Leads m p
       gives_at Lock x = locks x
-      gives_at (GiveSpan class c) x = by_quiet k z a s good (head_store m.generation class c) (holding m.held) (λ t. Keeps z a s t × GiveFacts z a t (goes_at m (GiveSpan class c) (s.words (cell.Page c.head)))) tt x
+      gives_at (GiveSpan class c) x = by_quiet k z a s good (head_store m.generation class c) (holding_only m.held) (λ t. Keeps z a s t × GiveFacts z a t (goes_at m (GiveSpan class c) (s.words (cell.Page c.head)))) tt x
           (λ t kept h. (kept, record { layout_is = layout_is; stage_is = first_facts z a t m.held (class + 1) (drop (class + 1) m.cache) h }))
-      gives_at Unlock x = by_quiet k z a s good (Store cell.Lock 0) (holding m.held) (λ t. Keeps z a s t × GiveFacts z a t (goes_at m Unlock (s.words cell.Lock))) tt x
+      gives_at Unlock x = by_quiet k z a s good (Store cell.Lock 0) (holding_only m.held) (λ t. Keeps z a s t × GiveFacts z a t (goes_at m Unlock (s.words cell.Lock))) tt x
           (λ t kept h. (kept, record { layout_is = layout_is; stage_is = buffer_facts_of t m.layout m.held layout_is h }))
       gives_at (GiveBuffer b) x =
           let n : ℕ = s.words (cell_of (buffer.asks b)) in
@@ -75,9 +75,9 @@ module _ (k : Known) (z : Cycle) (a : ℕ) where
     gives_on m f = gives_at m f.layout_is m.stage f.stage_is
 
   stage_lasts : (s t : Shared) (held : Option Held) (p : GiveStage) → Others z a s t → GiveStageFacts z a s held p → GiveStageFacts z a t held p
-  stage_lasts s t held Lock o x = k.last z a s t (holding held) o x
-  stage_lasts s t held (GiveSpan class c) o x = k.last z a s t (holding held) o x
-  stage_lasts s t held Unlock o x = k.last z a s t (holding held) o x
+  stage_lasts s t held Lock o x = k.last z a s t (holding_only held) o x
+  stage_lasts s t held (GiveSpan class c) o x = k.last z a s t (holding_only held) o x
+  stage_lasts s t held Unlock o x = k.last z a s t (holding_only held) o x
   stage_lasts s t held (GiveBuffer b) o x = k.buffers.gives.lasts z a s t nothing b o x
   stage_lasts s t held Ended o x = (k.last z a s t nothing o x.0, x.1)
 

@@ -9,7 +9,7 @@ use Rattle.gh_base.specs.declared.cell.Cell.TheVariants as cell
 use Rattle.gh_base.specs.declared.cell.Ask.TheVariants.{Load}
 use Rattle.gh_base.specs.declared.pack.TheConstants.{END}
 use Rattle.gh_marks.specs.Laws.{EachHandFollows, EachHandLasts, EachOwnMoveLeaves, EachStepGoesByMoves, WhatIsKeptGoesOn}
-use Rattle.gh_marks.specs.Moves.{IsQuiet, Quiet, lands_by, lands_still}
+use Rattle.gh_marks.specs.Moves.{IsQuietInMarking, Quiet, lands_by, lands_still}
 use Rattle.gh_shade.specs.Facts.{ShadesByMoves}
 use Rattle.gh_stack.specs.Facts.{StacksAreScannedByMoves}
 use Rattle.gh_wbuf.specs.Facts.{BuffersPassByMoves}
@@ -56,7 +56,7 @@ module _ (z : Cycle) (a : ℕ) (s : Shared) (g : ℕ) (stacks : List (List Value
 
 -- A step on a word that marking does not read, and one that only loads.
 module _ (k : Known) (z : Cycle) (a : ℕ) (s : Shared) (good : Good z s) where
-  pub by_quiet : (step : Ask) (h : InHand) (Then : Shared → Type 0) → IsQuiet s step → Hands a s h → ((t : Shared) → Keeps z a s t → Hands a t h → Then t) → Steps z a s step Then
+  pub by_quiet : (step : Ask) (h : InHand) (Then : Shared → Type 0) → IsQuietInMarking s step → Hands a s h → ((t : Shared) → Keeps z a s t → Hands a t h → Then t) → Steps z a s step Then
   by_quiet step h Then may x f = lands_by z a s (effect s.words step) Then (Quiet step) may refl (f (moved z a s (Quiet step)) (k.leave z a s (Quiet step) good may tt) ((k.follow z a s h good x).quiet step may))
 
   pub by_load : (c : Cell) (Then : Shared → Type 0) → Then s → Steps z a s (Load c) Then

@@ -11,10 +11,10 @@ use Rattle.gh_wbuf.specs.Facts as buffer_facts
 use Rattle.gh_wbuf.specs.RoomFinding as room
 use Rattle.gh_mutator.specs.declared.poll.PollStage.TheVariants.{LoadPhase, Giving, Resuming, Marking, FindRoom, Ended}
 use Rattle.gh_mutator.specs.Give as give
-use Rattle.gh_mutator.specs.MarkFacts.{GiveFacts, HasRoom, IsBetween, KnowsCycle, KnowsNumber, KnowsStacks, PollFacts, PollStageFacts, PollsByMoves, ScanFacts, stacks_last}
+use Rattle.gh_mutator.specs.MarkFacts.{GiveFacts, PollEndsWithRoom, IsBetween, KnowsCycle, KnowsNumber, KnowsStacks, PollFacts, PollStageFacts, PollsByMoves, ScanFacts, stacks_last}
 use Rattle.gh_mutator.specs.MarkStack as mark
 use Rattle.gh_mutator.specs.Poll.{after_mark, after_resume, after_room, asks_at, at_stage, by_phase, counted, due, giving, goes_at, has_two, is_busy, marks_then, Polling, resumed, room_stage, scanned, scans, stops_then}
-use Rattle.gh_mutator.proofs.Vocabulary.{Ask, cell_of, Cycle, effect, Good, Hands, Held, holding, IsOf, IsQuiet, Keeps, KnowsObjects, landing, Layout, Load, Local, MarkingIsQuiet, moved, nat_tests, nothing, Others, phase_of, PollStage, ProcessorIsQuiet, Resumed, ResumeStage, run_phase, RunPhase, ScanStack, Shared, slice_index_or, slice_set, Steps, Store}
+use Rattle.gh_mutator.proofs.Vocabulary.{Ask, cell_of, Cycle, effect, Good, Hands, Held, holding_only, IsOf, IsQuietInHandshake, Keeps, KnowsObjects, landing, Layout, Load, Local, MarkingIsQuiet, moved, nat_tests, nothing, Others, phase_of, PollStage, ProcessorIsQuiet, Resumed, ResumeStage, run_phase, RunPhase, ScanStack, Shared, slice_index_or, slice_set, Steps, Store}
 use Rattle.gh_mutator.specs.Due.{due_scans, IsUnscanned}
 use Rattle.gh_mutator.proofs.Marking.Gives.{gives_begin, gives_last, gives_on, nothing_left}
 use Rattle.gh_mutator.proofs.Marking.Known.{by_load, by_quiet, Known, stacks_scanned}
@@ -22,7 +22,7 @@ use Rattle.gh_mutator.proofs.Marking.Scans.{Comes, scan_begins, scans_last, scan
 
 module _ (k : Known) (z : Cycle) (a : ℕ) where
   -- what it does at its end: it is counted, and a buffer with room is looked for
-  module _ (t : Shared) (l : Layout) (seat : ℕ) (local : Local) (e : l ≡ z.arena.layout) (f : seat ≡ a) (number : KnowsNumber z local.view) (x : Hands a t (holding local.held)) where
+  module _ (t : Shared) (l : Layout) (seat : ℕ) (local : Local) (e : l ≡ z.arena.layout) (f : seat ≡ a) (number : KnowsNumber z local.view) (x : Hands a t (holding_only local.held)) where
     two_or : (waits two : Bool) → has_two local.held ≡ two → PollStageFacts z a t waits local (cond two Ended (FindRoom (room.opening l seat local.held)))
     two_or waits true two = (number, λ turn on. two, x)
     two_or waits false two = (
@@ -82,7 +82,7 @@ module _ (k : Known) (z : Cycle) (a : ℕ) where
       phase_facts stops b None = stops_facts s p (giving p) stops layout_is seat_is stacks (gives_begin k z a s p.layout p.seat p.local.view.generation p.local.cache p.local.held layout_is b.hands)
       phase_facts stops b (Some phase) = marks_facts p layout_is seat_is b p.local.view.phase refl
 
-      loads_phase : KnowsNumber z p.local.view → Hands a s (holding p.local.held) → Leads LoadPhase
+      loads_phase : KnowsNumber z p.local.view → Hands a s (holding_only p.local.held) → Leads LoadPhase
       loads_phase number x =
           let found = phase_of (s.words cell.Phase) in
           by_load k z a s good cell.Phase (λ t. PollFacts z a t (goes_at p LoadPhase (s.words cell.Phase))) (phase_facts found.stops (record { stacks = stacks; number = number; hands = x }) (run_phase found.phase))
@@ -111,9 +111,9 @@ module _ (k : Known) (z : Cycle) (a : ℕ) where
           let n : ℕ = s.words cell.Gen in
           by_load k z a s good cell.Gen (λ t. PollFacts z a t (at_stage p (Resuming (resume.goes_at r resume_stage.LoadGeneration n)))) (still (resume.goes_at r resume_stage.LoadGeneration n) x none refl)
       resumes now r resume_stage.LoadBegun x none busy =
-          let out : Resumed = resume.resumed r.view (s.words cell.Begun) in
+          let out : Resumed = resume.resumed_with r.view (s.words cell.Begun) in
           by_load k z a s good cell.Begun (λ t. PollFacts z a t (marks_then (resumed p out) out.view.phase))
-          (marks_facts (resumed p out) layout_is seat_is (record { stacks = stacks; number = λ on. now; hands = subst (λ (held : Option Held). Hands a s (holding held)) (sym none) x }) out.view.phase refl)
+          (marks_facts (resumed p out) layout_is seat_is (record { stacks = stacks; number = λ on. now; hands = subst (λ (held : Option Held). Hands a s (holding_only held)) (sym none) x }) out.view.phase refl)
       resumes now r (resume_stage.Ended another) x none busy = absurd cc
 
       -- a stack is scanned
@@ -133,7 +133,7 @@ module _ (k : Known) (z : Cycle) (a : ℕ) where
         layout_is = layout_is;
         seat_is = seat_is;
         stacks = stacks_last z a s t p.local.stacks p.local.scanned kept stacks;
-        stage_is = (number, λ turn on. two, subst (λ (held : Option Held). Hands a t (holding held)) (k.buffers.held n r h e) f.hands);
+        stage_is = (number, λ turn on. two, subst (λ (held : Option Held). Hands a t (holding_only held)) (k.buffers.held n r h e) f.hands);
       } where
         two : has_two (Some h) ≡ true
         two = let enough : h.count + 2 ≤ ENTRIES = k.buffers.room a n r h was.knows e in grind (arith, nat_tests)
@@ -161,14 +161,14 @@ module _ (k : Known) (z : Cycle) (a : ℕ) where
       polls_at now Ended x = by_load k z a s good cell.Touch (λ t. PollFacts z a t (at_stage p Ended)) (record { layout_is = layout_is; seat_is = seat_is; stacks = stacks; stage_is = x })
 
   stage_lasts : (s t : Shared) (waits : Bool) (local : Local) (q : PollStage) → Others z a s t → PollStageFacts z a s waits local q → PollStageFacts z a t waits local q
-  stage_lasts s t waits local LoadPhase o x = (x.0, k.last z a s t (holding local.held) o x.1)
+  stage_lasts s t waits local LoadPhase o x = (x.0, k.last z a s t (holding_only local.held) o x.1)
   stage_lasts s t waits local (Giving g stops) o x = gives_last k z a s t g o x
   stage_lasts s t waits local (Resuming r) o x = (k.last z a s t nothing o x.0, x.1, x.2)
   stage_lasts s t waits local (Marking g m) o x = (x.0, scans_last k z a s t g m o x.1)
   stage_lasts s t waits local (FindRoom r) o x = (x.0, k.buffers.finds.lasts z a s t nothing r o x.1)
-  stage_lasts s t waits local Ended o x = (x.0, x.1, k.last z a s t (holding local.held) o x.2)
+  stage_lasts s t waits local Ended o x = (x.0, x.1, k.last z a s t (holding_only local.held) o x.2)
 
-  ended_at : (s : Shared) (waits : Bool) (local : Local) (q : PollStage) → is_busy q ≡ false → KnowsStacks z a s local.stacks local.scanned → PollStageFacts z a s waits local q → IsBetween z a s local × HasRoom waits local
+  ended_at : (s : Shared) (waits : Bool) (local : Local) (q : PollStage) → is_busy q ≡ false → KnowsStacks z a s local.stacks local.scanned → PollStageFacts z a s waits local q → IsBetween z a s local × PollEndsWithRoom waits local
   ended_at s waits local Ended e stacks x = (record { stacks = stacks; number = x.0; hands = x.2 }, x.1)
   ended_at s waits local LoadPhase e stacks x = absurd (cc)
   ended_at s waits local (Giving g stops) e stacks x = absurd (cc)
@@ -177,8 +177,8 @@ module _ (k : Known) (z : Cycle) (a : ℕ) where
   ended_at s waits local (FindRoom r) e stacks x = absurd (cc)
 
 -- where it acknowledges: nothing else that it runs does
-pub acks_nothing : (i number : ℕ) (step : Ask) → IsQuiet step → step ≡ Store (cell.Ack i) number → ⊥
-acks_nothing i number step q e = subst IsQuiet e q
+pub acks_nothing : (i number : ℕ) (step : Ask) → IsQuietInHandshake step → step ≡ Store (cell.Ack i) number → ⊥
+acks_nothing i number step q e = subst IsQuietInHandshake e q
 
 module _ (q : ProcessorIsQuiet) (m : MarkingIsQuiet) (z : Cycle) (a i number : ℕ) (s : Shared) where
   stops_at : (waits : Bool) (local : Local) (p : PollStage) → asks_at p ≡ Store (cell.Ack i) number → PollStageFacts z a s waits local p → Hands a s nothing

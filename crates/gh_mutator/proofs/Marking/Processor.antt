@@ -26,7 +26,7 @@ use Rattle.gh_mutator.specs.ProcessorPlaces.{new_stage_at}
 use Rattle.gh_mutator.specs.Stays.{leaves_on}
 use Rattle.gh_mutator.specs.Vocabulary.{Assist, GlobalStage, Polling, Store, StoreStage}
 use Rattle.gh_mutator.specs.Wait as wait
-use Rattle.gh_mutator.proofs.Vocabulary.{after_gc, after_leave, after_poll, asks_at, begins, cell_of, Cycle, effect, Good, Hands, holding, Keeps, KnowsObjects, landing, leaves_at, LeaveStage, Leaving, Local, NewStage, nothing, Op, Others, Place, polls_at, PollStage, Processor, Search, Shape, Shared, stage_at, Steps, takes_at, Task, Wait, Waiting, waits_at, WaitStage, WaitState, Wanted, Want}
+use Rattle.gh_mutator.proofs.Vocabulary.{after_gc, after_leave, after_poll, asks_at, begins, cell_of, Cycle, effect, Good, Hands, holding_only, Keeps, KnowsObjects, landing, leaves_at, LeaveStage, Leaving, Local, NewStage, nothing, Op, Others, Place, polls_at, PollStage, Processor, Search, Shape, Shared, stage_at, Steps, takes_at, Task, Wait, Waiting, waits_at, WaitStage, WaitState, Wanted, Want}
 use Rattle.gh_mutator.proofs.Marking.Known.{Known}
 
 -- whose it is, and what it knows of its stacks
@@ -111,7 +111,7 @@ module _ (k : Known) (h : PollsByMoves) (v : WaitsByMoves) (l : LeavesByMoves) (
 
   -- what others do
   between_lasts : (s t : Shared) (local : Local) → Others z a s t → IsBetween z a s local → IsBetween z a t local
-  between_lasts s t local o b = record { stacks = stacks_last z a s t local.stacks local.scanned o.keeps b.stacks; number = b.number; hands = k.last z a s t (holding local.held) o b.hands }
+  between_lasts s t local o b = record { stacks = stacks_last z a s t local.stacks local.scanned o.keeps b.stacks; number = b.number; hands = k.last z a s t (holding_only local.held) o b.hands }
 
   new_lasts : (s t : Shared) (p : Polling) (q : NewStage) → Others z a s t → NewFacts z a s p q → NewFacts z a t p q
   new_lasts s t p (Search waited y) o x = between_lasts s t p.local o x
@@ -122,7 +122,7 @@ module _ (k : Known) (h : PollsByMoves) (v : WaitsByMoves) (l : LeavesByMoves) (
     marking = x.marking;
     stacks = stacks_last z a s t p.local.stacks p.local.scanned o.keeps x.stacks;
     number = x.number;
-    hands = k.last z a s t (record (holding p.local.held) { placing = reserved_at y.at y.stage }) o x.hands;
+    hands = k.last z a s t (record (holding_only p.local.held) { placing = reserved_at y.at y.stage }) o x.hands;
   }
 
   writing_lasts : (s t : Shared) (local : Local) (w : PointerWrite) → Others z a s t → IsWriting z a s local w → IsWriting z a t local w

@@ -17,7 +17,7 @@ use Rattle.gh_mutator.specs.MarkFacts.{LooksForRoom, ScanFacts, ScanStageFacts, 
 use Rattle.gh_mutator.specs.MarkStack.{after_room, after_shade, asks, asks_at, by_wish, given, gives, goes, goes_at, goes_on, opening, StackMarking}
 use Rattle.gh_mutator.specs.MarkVocabulary.{KnowsObject}
 use Rattle.gh_mutator.specs.Stays.{found_on, shaded_on}
-use Rattle.gh_mutator.proofs.Vocabulary.{cell_of, Cycle, effect, Good, Hands, Held, holding, IsOf, Keeps, KnowsObjects, landing, Layout, MarkStackStage, moved, nothing, Others, ScanStack, Shaded, Shared, StackStage, Steps, Value}
+use Rattle.gh_mutator.proofs.Vocabulary.{cell_of, Cycle, effect, Good, Hands, Held, holding_only, IsOf, Keeps, KnowsObjects, landing, Layout, MarkStackStage, moved, nothing, Others, ScanStack, Shaded, Shared, StackStage, Steps, Value}
 use Rattle.gh_mutator.proofs.Marking.Known.{Known}
 use Rattle.gh_mutator.proofs.StackMarking.{begins_going, told_going, waits_then}
 
@@ -37,7 +37,7 @@ pub record Scanned (z : Cycle) (a : ℕ) (s t : Shared) (g : ℕ) (held : Option
   pub own : IsOf z.arena a g
   pub goes_on : s.words (cell.Scanned g) ≢ END
   pub then : t ≡ moved z a s (ScanStack g)
-  pub hands : Hands a t (holding held)
+  pub hands : Hands a t (holding_only held)
 
 abbrev pub Comes : Cycle → (a : ℕ) → (s t : Shared) → (g : ℕ) → StackMarking → Option (Unit {0}) → Type 0
 Comes z a s t g m None = Keeps z a s t × ScanFacts z a t g m
@@ -56,7 +56,7 @@ module _ (k : Known) (z : Cycle) (a : ℕ) (s : Shared) (good : Good z s) (objec
       let inside : reference - 1 < 1024 * l.pages = rw e within in
       ap (λ (n : ℕ). n + 1) (mod-eq_of_lt inside) ∙ sym is
 
-  wishes : (t : Shared) (m : stack.StackScan) (l : Layout) (held : Option Held) → Good z t → Keeps z a s t → stack_facts.Facts z a t m → l ≡ z.arena.layout → Hands a t (holding held) → (wish : Option ℕ) → goes_on m.stage ≡ true → stack.wish_of m.stage ≡ wish → ScanStageFacts z a t held m (by_wish l held wish)
+  wishes : (t : Shared) (m : stack.StackScan) (l : Layout) (held : Option Held) → Good z t → Keeps z a s t → stack_facts.Facts z a t m → l ≡ z.arena.layout → Hands a t (holding_only held) → (wish : Option ℕ) → goes_on m.stage ≡ true → stack.wish_of m.stage ≡ wish → ScanStageFacts z a t held m (by_wish l held wish)
   wishes t m l held well kept f e hands None on wish = (f, stores_at m.stage on wish, hands)
   wishes t m l held well kept f e hands (Some reference) on wish =
       let known = k.stacks.wishes z a t m reference well f wish in
@@ -64,7 +64,7 @@ module _ (k : Known) (z : Cycle) (a : ℕ) (s : Shared) (good : Good z s) (objec
       (record { scans = f; wish = wish ∙ ap (λ (r : ℕ). Some r) (sym same) }, k.shade.begins z a t nothing l (reference_in l reference) held (rw same known.some) (ap (λ (r : ℕ). t.since (r - 1)) same ∙ known.known) hands)
 
   -- where it begins, in this very state
-  pub scan_begins : (l : Layout) (seat g cycle : ℕ) (registers : List Value) (held : Option Held) → l ≡ z.arena.layout → seat ≡ a → cycle ≡ z.number → stack_facts.Begins z a s g → stack_facts.AreRegisters (s.registers g) registers → Hands a s (holding held) → ScanFacts z a s g (opening l seat g cycle registers held)
+  pub scan_begins : (l : Layout) (seat g cycle : ℕ) (registers : List Value) (held : Option Held) → l ≡ z.arena.layout → seat ≡ a → cycle ≡ z.number → stack_facts.Begins z a s g → stack_facts.AreRegisters (s.registers g) registers → Hands a s (holding_only held) → ScanFacts z a s g (opening l seat g cycle registers held)
   scan_begins l seat g cycle registers held e seat_is number may are hands = record {
     layout_is = e;
     seat_is = seat_is;
@@ -84,7 +84,7 @@ module _ (k : Known) (z : Cycle) (a : ℕ) (s : Shared) (good : Good z s) (objec
       stage_is = (record { scans = k.stacks.lasts z a s t m.scan kept w.scans; wish = w.wish ∙ ap (λ (r : ℕ). Some r) (sym (k.shade.same sh n)) }, f);
     }
     shaded_then t sh n well kept w (Some shaded.Done) e f =
-        let ended : shade_facts.IsShaded a t nothing (shade.goes sh n) = k.shade.ends z a t nothing sh n e f in
+        let ended : shade_facts.ObjectIsShaded a t nothing (shade.goes sh n) = k.shade.ends z a t nothing sh n e f in
         let wish : stack.wish_of m.scan.stage ≡ Some (shade.goes sh n).reference = w.wish ∙ ap (λ (r : ℕ). Some r) (sym (k.shade.same sh n)) in
         let told : stack_facts.Facts z a t (stack.told_shaded m.scan) = k.stacks.told z a t m.scan (shade.goes sh n).reference (k.stacks.lasts z a s t m.scan kept w.scans) wish ended.marked in
         record {
@@ -146,9 +146,9 @@ module _ (k : Known) (z : Cycle) (a : ℕ) (s : Shared) (good : Good z s) (objec
         (λ t went h. goes_so t _ (found_on m sh (room.goes r n) (room.gives r n)) (h.0, found_then t sh r n h.0 w looks (room.gives r n) refl f h.1))
         (k.buffers.finds.own_step z a s (pending sh.reference) r good objects f)
 
-    stores : stack_facts.Facts z a s m.scan → m.scan.stage ≡ stack_stage.Store → Hands a s (holding m.held) → Leads Store
+    stores : stack_facts.Facts z a s m.scan → m.scan.stage ≡ stack_stage.Store → Hands a s (holding_only m.held) → Leads Store
     stores f is x = landing z a s (effect s.words (stack.asks m.scan)) (λ t. t ≡ moved z a s (ScanStack m.scan.goroutine)) (λ t. Scanned z a s t g m.held)
-        (λ t went e. record { own = subst (λ (h : ℕ). IsOf z.arena a h) of f.own; goes_on = subst (λ (h : ℕ). s.words (cell.Scanned h) ≢ END) of f.goes_on; then = e ∙ ap (λ (h : ℕ). moved z a s (ScanStack h)) of; hands = subst (λ (u : Shared). Hands a u (holding m.held)) (sym e) ((k.follow z a s (holding m.held) good x).scanned_stack m.scan.goroutine) })
+        (λ t went e. record { own = subst (λ (h : ℕ). IsOf z.arena a h) of f.own; goes_on = subst (λ (h : ℕ). s.words (cell.Scanned h) ≢ END) of f.goes_on; then = e ∙ ap (λ (h : ℕ). moved z a s (ScanStack h)) of; hands = subst (λ (u : Shared). Hands a u (holding_only m.held)) (sym e) ((k.follow z a s (holding_only m.held) good x).scanned_stack m.scan.goroutine) })
         (k.stacks.own_step z a s m.scan good f is)
 
     scans_at : (p : MarkStackStage) → ScanStageFacts z a s m.held m.scan p → Leads p
@@ -166,7 +166,7 @@ wish_lasts k z a s t m reference o w = record { scans = k.stacks.lasts z a s t m
 stage_lasts : (k : Known) (z : Cycle) (a : ℕ) (s t : Shared) (held : Option Held) (m : stack.StackScan) (p : MarkStackStage) → Others z a s t → ScanStageFacts z a s held m p → ScanStageFacts z a t held m p
 stage_lasts k z a s t held m (Shading sh) o x = (wish_lasts k z a s t m sh.reference o x.0, k.shade.keeps.lasts z a s t nothing sh o x.1)
 stage_lasts k z a s t held m (FindRoom sh r) o x = (wish_lasts k z a s t m sh.reference o x.0, record { some = x.1.some; marked = o.keeps.marks (shade.object_of sh.reference) x.1.marked }, k.buffers.finds.lasts z a s t (pending sh.reference) r o x.2)
-stage_lasts k z a s t held m Store o x = (k.stacks.lasts z a s t m o.keeps x.0, x.1, k.last z a s t (holding held) o x.2)
+stage_lasts k z a s t held m Store o x = (k.stacks.lasts z a s t m o.keeps x.0, x.1, k.last z a s t (holding_only held) o x.2)
 stage_lasts k z a s t held m Ended o x = x
 
 pub scans_last : (k : Known) (z : Cycle) (a : ℕ) (s t : Shared) (g : ℕ) (m : StackMarking) → Others z a s t → ScanFacts z a s g m → ScanFacts z a t g m

@@ -8,7 +8,7 @@ use Rattle.gh_mutator.specs.declared.leave.LeaveStage.TheVariants as leave_stage
 use Rattle.gh_mutator.specs.declared.wait.WaitStage.TheVariants.{Want, Polling, LoadSwept, Ended}
 use Rattle.gh_mutator.specs.Give as give
 use Rattle.gh_mutator.specs.Leave as leave
-use Rattle.gh_mutator.specs.MarkFacts.{GiveFacts, KnowsCycle, LeaveFacts, LeavesByMoves, PollFacts, PollsByMoves, RestFacts, WaitFacts, WaitStageFacts, WaitsByMoves, holding, stacks_last}
+use Rattle.gh_mutator.specs.MarkFacts.{GiveFacts, KnowsCycle, LeaveFacts, LeavesByMoves, PollFacts, PollsByMoves, RestFacts, WaitFacts, WaitStageFacts, WaitsByMoves, holding_only, stacks_last}
 use Rattle.gh_mutator.specs.MarkVocabulary.{Cycle, Good, Hands, Keeps, KnowsObjects, LeaveStage, Others, ProcessorIsQuiet, Shared, Steps, WaitStage, cell_of, effect, landing, nothing}
 use Rattle.gh_mutator.specs.Poll as poll
 use Rattle.gh_mutator.specs.Wait.{after_poll, asks_at, at_stage, goes_at, is_busy, polling, Waiting}
@@ -20,7 +20,7 @@ pub rest_lasts : (k : Known) (z : Cycle) (a : ℕ) (s t : Shared) (p : poll.Poll
 rest_lasts k z a s t p o r = record {
   layout_is = r.layout_is;
   seat_is = r.seat_is;
-  between = record { stacks = stacks_last z a s t p.local.stacks p.local.scanned o.keeps r.between.stacks; number = r.between.number; hands = k.last z a s t (holding p.local.held) o r.between.hands };
+  between = record { stacks = stacks_last z a s t p.local.stacks p.local.scanned o.keeps r.between.stacks; number = r.between.number; hands = k.last z a s t (holding_only p.local.held) o r.between.hands };
 }
 
 module _ (k : Known) (h : PollsByMoves) (z : Cycle) (a : ℕ) where
@@ -29,7 +29,7 @@ module _ (k : Known) (h : PollsByMoves) (z : Cycle) (a : ℕ) where
     Leads q = Steps z a s (asks_at w q) (λ t. WaitFacts z a t (goes_at w q (s.words (cell_of (asks_at w q)))))
 
     asks_for_it : RestFacts z a s w.poll → Leads Want
-    asks_for_it r = by_quiet k z a s good (Or cell.Want 1) (holding w.poll.local.held) (λ t. WaitFacts z a t (polling w)) tt r.between.hands
+    asks_for_it r = by_quiet k z a s good (Or cell.Want 1) (holding_only w.poll.local.held) (λ t. WaitFacts z a t (polling w)) tt r.between.hands
         (λ t kept x. h.begins z a t w.poll true (record { layout_is = r.layout_is; seat_is = r.seat_is; between = record { stacks = stacks_last z a s t w.poll.local.stacks w.poll.local.scanned kept r.between.stacks; number = r.between.number; hands = x } }))
 
     polled_then : (t : Shared) (p : poll.Polling) (out : Option (Unit {0})) → poll.given p.stage ≡ out → PollFacts z a t p → WaitFacts z a t (after_poll w p out)

@@ -10,12 +10,12 @@ use Rattle.gh_mutator.specs.Poll as poll
 use Rattle.gh_mutator.specs.ProcessorPlaces.{HoldsNothing, LeavesOn}
 use Rattle.gh_mutator.specs.Vocabulary.{Polling}
 use Rattle.gh_mutator.specs.Wait as wait
-use Rattle.gh_mutator.proofs.Vocabulary.{Assist, Ask, asks_at, IsQuiet, LeaveStage, Leaving, MarkingIsQuiet, NewStage, Place, PollsSoundAt, PollStage, Processor, ProcessorIsQuiet, register_of, Search, SoundAt, Store, Task, Wait, Waiting, WaitsSoundAt, WaitStage, Want}
+use Rattle.gh_mutator.proofs.Vocabulary.{Assist, Ask, asks_at, IsQuietInHandshake, LeaveStage, Leaving, MarkingIsQuiet, NewStage, Place, PollsSoundAt, PollStage, Processor, ProcessorIsQuiet, register_of, Search, SoundAt, Store, Task, Wait, Waiting, WaitsSoundAt, WaitStage, Want}
 use Rattle.gh_mutator.proofs.Aims.{resume_ack}
 
 -- what writes no word of the handshake acknowledges nothing
-no_ack : (ask : Ask) (i number : ℕ) → IsQuiet ask → ask ≡ Store (Ack i) number → ⊥
-no_ack ask i number quiet e = subst IsQuiet e quiet
+no_ack : (ask : Ask) (i number : ℕ) → IsQuietInHandshake ask → ask ≡ Store (Ack i) number → ⊥
+no_ack ask i number quiet e = subst IsQuietInHandshake e quiet
 
 module _ (q : ProcessorIsQuiet) (k : MarkingIsQuiet) (i number : ℕ) where
   poll_acks : (p : Polling) (stage : PollStage) → PollsSoundAt p stage → poll.asks_at stage ≡ Store (Ack i) number → HoldsNothing p i

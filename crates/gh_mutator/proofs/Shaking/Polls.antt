@@ -16,7 +16,7 @@ use Rattle.gh_mutator.specs.Give as give
 use Rattle.gh_mutator.specs.Handshake.{GivesSo, GoesOnWithNothing, HasPlaces, IsPlace, poll_stage_of, poller_at, poller_of, PollsInHandshake, SoundPoll}
 use Rattle.gh_mutator.specs.MarkStack as mark
 use Rattle.gh_mutator.specs.Poll.{after_mark, after_resume, after_room, asks_at, at_stage, by_phase, counted, due, giving, goes, goes_at, has_two, is_busy, marks_then, Polling, resumed, room_stage, scanned, scans, stops_then}
-use Rattle.gh_mutator.proofs.Vocabulary.{Ask, Awake, Held, IsQuiet, Load, MarkingIsQuiet, phase_of, polls_at, PollsSoundAt, PollStage, ProcessorIsQuiet, Resumed, run_phase, RunPhase, StageGoes}
+use Rattle.gh_mutator.proofs.Vocabulary.{Ask, Awake, Held, IsQuietInHandshake, Load, MarkingIsQuiet, phase_of, polls_at, PollsSoundAt, PollStage, ProcessorIsQuiet, Resumed, run_phase, RunPhase, StageGoes}
 use Rattle.gh_mutator.proofs.Giving.{fine_done, goes_fine}
 use Rattle.gh_mutator.specs.Giving.{opening_fine}
 
@@ -105,7 +105,7 @@ phases found p has None e =
     record { sound = s.sound; seat = s.seat; party = s.party; leads = at_stop found (phase_of found).stops (poll_stage_of (stops_then p (giving p) (phase_of found).stops)) (record { stops = e; number_is = refl }) s.stage }
 phases found p has (Some phase) e = stays_awake found (Load cell.Phase) p _ (marks_awake p has p.local.view.phase refl)
 
-awakes : (found : ℕ) (p : Polling) (stage : PollStage) (to : Polling) → poller_at p stage ≡ record { seat = p.seat; view = p.local.view } → polls_at p stage ≡ Awake → IsQuiet (asks_at stage) → Awakes found (asks_at stage) p to → Goes found p stage to
+awakes : (found : ℕ) (p : Polling) (stage : PollStage) (to : Polling) → poller_at p stage ≡ record { seat = p.seat; view = p.local.view } → polls_at p stage ≡ Awake → IsQuietInHandshake (asks_at stage) → Awakes found (asks_at stage) p to → Goes found p stage to
 awakes found p stage to party awake q a = record { sound = a.sound; seat = a.seat; goes = rw (party, awake) (a.party, q, a.leads) }
 
 -- it goes on after the stop

@@ -22,7 +22,7 @@ use Rattle.gh_mutator.specs.Store as store
 use Rattle.gh_mutator.specs.Vocabulary.{Polling}
 use Rattle.gh_mutator.specs.Wait as wait
 use Rattle.gh_mutator.specs.Stays.{leaves_on}
-use Rattle.gh_mutator.proofs.Vocabulary.{after_assist, Assist, Assisting, assisting, assists, Name, Acts, after_gc, after_leave, after_place, after_poll, after_search, after_wait, applied, asks_at, At, Awake, begins, cache_span, cache_with, CachedSpan, Ends, follows, Found, GoesOn, has_left_at, is_busy_at, IsQuiet, Large, leaves_at, LeaveStage, Leaving, length-set, made_object, makes, MarkingIsQuiet, NewStage, NoRoom, Op, party_at, Place, PlaceBegins, Placing, Processor, ProcessorInHandshake, ProcessorIsQuiet, register_of, Search, Seeking, Shape, Small, Sought, SoundAt, span_index, stage_at, StageGoes, Step, takes, takes_at, Task, Then, Value, Wait, Waiting, WaitState, Wanted, Want}
+use Rattle.gh_mutator.proofs.Vocabulary.{after_assist, Assist, Assisting, assisting, assists, Name, Acts, after_gc, after_leave, after_place, after_poll, after_search, after_wait, applied, asks_at, At, Awake, begins, cache_span, cache_with, CachedSpan, Ends, follows, Found, GoesOn, has_left_at, is_busy_at, IsQuietInHandshake, Large, leaves_at, LeaveStage, Leaving, length-set, made_object, makes, MarkingIsQuiet, NewStage, NoRoom, Op, party_at, Place, PlaceBegins, Placing, Processor, ProcessorInHandshake, ProcessorIsQuiet, register_of, Search, Seeking, Shape, Small, Sought, SoundAt, span_index, stage_at, StageGoes, Step, takes, takes_at, Task, Then, Value, Wait, Waiting, WaitState, Wanted, Want}
 use Rattle.gh_mutator.proofs.Shaking.Acknowledging.{acks}
 
 -- a step at this task leads here
@@ -36,7 +36,7 @@ record Lands (m to : Processor) : Type 0 where
   party : party_of to ≡ knower m.poll
   stage : stage_of to ≡ Awake
 
-awake : (found : ℕ) (m : Processor) (t : Task) (to : Processor) → party_at m.poll t ≡ knower m.poll → stage_at m.poll t ≡ Awake → IsQuiet (asks_at m t) → Lands m to → Goes found m t to
+awake : (found : ℕ) (m : Processor) (t : Task) (to : Processor) → party_at m.poll t ≡ knower m.poll → stage_at m.poll t ≡ Awake → IsQuietInHandshake (asks_at m t) → Lands m to → Goes found m t to
 awake found m t to party stage quiet l = record { sound = l.sound; goes = rw (party, stage, l.party, l.stage) (refl, quiet, tt) }
 
 -- at this task a processor is awake, whatever it has polled
@@ -182,7 +182,7 @@ module _ (q : ProcessorIsQuiet) (k : MarkingIsQuiet) (h : PollsInHandshake) (v :
     new_goes found m w (Wait x) has sound = wait_goes found m w x sound.0 sound.1 (wait.gives (wait.waiting x m.poll) found) refl
     new_goes found m w (Want n) has sound = awake found m _ _ refl refl tt (lands m _ has refl idle_plain)
     new_goes found m w (Assist n x) has sound = awake found m _ _ refl refl (q.assists x) (assist_lands m w n (assist.goes x found) (assist.gives x found) has)
-    new_goes found m w (Place p) has sound = awake found m _ _ refl refl (q.makes p) (place_lands m w (place.acts p) p.at (place.goes p found) has)
+    new_goes found m w (Place p) has sound = awake found m _ _ refl refl (q.makes p) (place_lands m w (place.makes_its_object p) p.at (place.goes p found) has)
 
     goes_at : (found : ℕ) (m : Processor) (t : Task) → HasPlaces m.poll.local.cache → SoundAt m.poll t → is_busy_at t ≡ true → Goes found m t (takes_at shapes m t found)
     goes_at found m task.Idle has s busy = absurd cc

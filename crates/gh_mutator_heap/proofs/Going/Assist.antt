@@ -15,7 +15,7 @@ use Rattle.gh_scan.specs.declared.scan.ScanStage.TheVariants as scan_stage
 use Rattle.gh_scan.specs.Facts as scan_facts
 use Rattle.gh_scan.specs.Listing.{Scanning as ObjectScan}
 use Rattle.gh_mutator_heap.specs.Beside.{Together}
-use Rattle.gh_mutator.specs.MarkFacts.{holding, KnowsStacks, stacks_last}
+use Rattle.gh_mutator.specs.MarkFacts.{holding_only, KnowsStacks, stacks_last}
 use Rattle.gh_mutator.specs.MarkVocabulary.{Cycle, Hands, Keeps, nothing, Steps}
 use Rattle.gh_mutator.specs.New.{after_assist, assists}
 use Rattle.gh_mutator.specs.Processor.{at_task}
@@ -35,12 +35,12 @@ module _ (z : Cycle) (a : ℕ) (u : Marking) where
   scan_fills m (scan_stage.Ended words) x = fills_none a u _ refl x
 
   fills_at : (held : Option Held) (q : AssistStage) → StageFacts z a u held q → FillsNone a u
-  fills_at held LoadWork x = fills_none a u (holding held) refl x
-  fills_at held (LoadSlack work) x = fills_none a u (holding held) refl x
-  fills_at held (Drawing d) x = fills_none a u (holding held) refl x
+  fills_at held LoadWork x = fills_none a u (holding_only held) refl x
+  fills_at held (LoadSlack work) x = fills_none a u (holding_only held) refl x
+  fills_at held (Drawing d) x = fills_none a u (holding_only held) refl x
   fills_at held (Taking t) x = fills_none a u _ refl x.hands
   fills_at held (Scanning m) x = scan_fills m m.stage x.1.stage_is
-  fills_at held Ended x = fills_none a u (holding held) refl x
+  fills_at held Ended x = fills_none a u (holding_only held) refl x
 
 -- where it has ended it holds its buffer alone
 held_last : (held : Option Held) (q : AssistStage) → assist.is_busy q ≡ false → held ≡ assist.held_at held q
@@ -66,8 +66,8 @@ module _ (k : Known) (w : Wanted) (n : Name) (x : Assisting) (z : Cycle) (a : �
   facts_by : (u : Marking) → KnowsStacks z a u m.poll.local.stacks m.poll.local.scanned → Facts z a u next → (out : Option (Unit {0})) → assist.given next ≡ out → MarkFacts z a u (after_assist me w n next out)
   facts_by u stacks f None e = record { layout_is = t.facts.layout_is; seat_is = t.facts.seat_is; stacks = stacks; task_is = record { stacks = stacks; number = t.facts.task_is.number; assists = f } }
   facts_by u stacks f (Some y) e = record { layout_is = t.facts.layout_is; seat_is = t.facts.seat_is; stacks = stacks; task_is = record { stacks = stacks; number = t.facts.task_is.number; hands = hands } } where
-    hands : Hands a u (holding (assist.held_at next.held next.stage))
-    hands = subst (λ (o : Option Held). Hands a u (holding o)) (held_last next.held next.stage (ap is_none e)) (k.assists.ends z a u next (ap is_none e) f)
+    hands : Hands a u (holding_only (assist.held_at next.held next.stage))
+    hands = subst (λ (o : Option Held). Hands a u (holding_only o)) (held_last next.held next.stage (ap is_none e)) (k.assists.ends z a u next (ap is_none e) f)
 
 pub assist_step : Known → (w : Wanted) (n : Name) (x : Assisting) → StepAt (assists w n x)
 assist_step k w n x z a h s m pending t kn l =

@@ -22,7 +22,7 @@ use Rattle.gh_mutator.specs.ProcessorMarks.{GlobalFacts, MarkFacts, StoreFacts, 
 use Rattle.gh_mutator.specs.Sound.{has_room}
 use Rattle.gh_mutator.specs.Store as store
 use Rattle.gh_mutator.specs.Vocabulary.{Op, REGISTERS, Value}
-use Rattle.gh_mutator_heap.specs.Vocabulary.{Runs, view, Processor, Task}
+use Rattle.gh_mutator_heap.specs.Vocabulary.{GoroutineRuns, view, Processor, Task}
 use Rattle.gh_mutator_heap.proofs.Going.Known.{Known}
 use Rattle.gh_mutator_heap.proofs.Going.Writing.{known_pointer, room_for_two, write_begins}
 use Rattle.gh_mutator_heap.proofs.Owning.Objects.{register_reached}
@@ -42,7 +42,7 @@ module _ (k : Known) (z : Cycle) (a : ℕ) (h : Heap) (s : Marking) (m : Process
   store_facts g base i v value.Nil room = b
   store_facts g base i v (value.Int n) room = b
 
-  module _ (g i v : ℕ) (runs : Runs z.arena (view h) a g) (low : v < REGISTERS) (room : has_entries m.poll ≡ true) where
+  module _ (g i v : ℕ) (runs : GoroutineRuns z.arena (view h) a g) (low : v < REGISTERS) (room : has_entries m.poll ≡ true) where
     abbrev held : Value
     held = register_of m g v
 

@@ -12,7 +12,7 @@ use Rattle.gh_marks.specs.Colours.{Shared as Marking}
 use Rattle.gh_mutator.specs.declared.task.Task.TheVariants as task
 use Rattle.gh_mutator_heap.specs.Beside.{StepsOn, Together}
 use Rattle.gh_mutator.specs.Listing.{asks}
-use Rattle.gh_mutator.specs.MarkFacts.{holding, KnowsStacks}
+use Rattle.gh_mutator.specs.MarkFacts.{holding_only, KnowsStacks}
 use Rattle.gh_mutator.specs.MarkVocabulary.{Cycle}
 use Rattle.gh_mutator.specs.Processor.{at_task}
 use Rattle.gh_mutator.specs.Vocabulary.{Answer, IsOf}
@@ -27,7 +27,7 @@ module _ (k : Known) (g : ℕ) (z : Cycle) (a : ℕ) (h : Heap) (s : Marking) (m
   after = heap_then k z a h s here pending t l
 
   b : StepsBeside z a h after s (Ends g)
-  b = k.deeds z a h s l.move (asks here) (Ends g) t.heap t.marking t.bounded t.beside l.may (record { words = l.words_are; ever = l.after.does.ever }) (refl, fills_none a s (holding m.poll.local.held) refl t.facts.task_is.hands, t.fine.task.0)
+  b = k.deeds z a h s l.move (asks here) (Ends g) t.heap t.marking t.bounded t.beside l.may (record { words = l.words_are; ever = l.after.does.ever }) (refl, fills_none a s (holding_only m.poll.local.held) refl t.facts.task_is.hands, t.fine.task.0)
 
   word_is : (i : ℕ) → b.then.words (cell.Scanned i) ≡ cond (eqb g i) END (h.words (cell.Scanned i))
   word_is i = ap (λ (w : Words). w (cell.Scanned i)) (b.beside.words ∙ l.words_are)
@@ -64,7 +64,7 @@ module _ (k : Known) (g : ℕ) (z : Cycle) (a : ℕ) (h : Heap) (s : Marking) (m
     then = b.then;
     went = b.went;
     beside = b.beside;
-    facts = facts_then k z a h s here pending t l b.then stacks (record { stacks = stacks; number = t.facts.task_is.number; hands = b.hands (holding m.poll.local.held) t.facts.task_is.hands });
+    facts = facts_then k z a h s here pending t l b.then stacks (record { stacks = stacks; number = t.facts.task_is.number; hands = b.hands (holding_only m.poll.local.held) t.facts.task_is.hands });
   }
 
 pub end_step : Known → (g : ℕ) → StepAt (task.End g)

@@ -26,10 +26,10 @@ use Rattle.gh_mutator.specs.declared.task.Task.TheVariants as task
 use Rattle.gh_mutator.specs.Barrier.{held_then}
 use Rattle.gh_mutator_heap.specs.Beside.{StepsOn, Together}
 use Rattle.gh_mutator.specs.Deeds.{acted}
-use Rattle.gh_mutator.specs.Fields.{told as told_by, value_of}
+use Rattle.gh_mutator.specs.Fields.{value_of, value_told}
 use Rattle.gh_mutator.specs.Global.{after_write, at_stage, naming, step}
 use Rattle.gh_mutator.specs.Listing.{acting, applied, follows}
-use Rattle.gh_mutator.specs.MarkFacts.{holding, IsBetween, stacks_last}
+use Rattle.gh_mutator.specs.MarkFacts.{holding_only, IsBetween, stacks_last}
 use Rattle.gh_mutator.specs.MarkVocabulary.{Cycle, Keeps, nothing}
 use Rattle.gh_mutator.specs.Processor.{at_task, keeping, register_of}
 use Rattle.gh_mutator.specs.ProcessorMarks.{MarkFacts, TaskFacts}
@@ -42,7 +42,7 @@ use Rattle.gh_mutator_heap.proofs.Owning.Barrier.{word_written}
 use Rattle.gh_mutator_heap.proofs.Owning.Objects.{fits_pointer, register_reached, takes_told, word_holds}
 
 -- a value that was found is named, or the load is over
-named_facts : (z : Cycle) (a : ℕ) (u : Marking) (x : Global) (p : Polling) (v : Value) → IsBetween z a u p.local → TaskFacts z a u p (follows task.Global (told_by (naming x) v))
+named_facts : (z : Cycle) (a : ℕ) (u : Marking) (x : Global) (p : Polling) (v : Value) → IsBetween z a u p.local → TaskFacts z a u p (follows task.Global (value_told (naming x) v))
 named_facts z a u x p value.Nil b = b
 named_facts z a u x p (value.Int n) b = b
 named_facts z a u x p (value.Ref r) b = b
@@ -80,7 +80,7 @@ module _ (k : Known) (x : Global) (w : PointerWrite) (z : Cycle) (a : ℕ) (h : 
     stored = h.ever.register x.g x.r
 
     abbrev word : ℕ
-    word = write.word_of w.pointer
+    word = write.pointer_word w.pointer
 
     barrier : BehindBarrier s (s.words (write.cell_at w.at)) word
     barrier = k.writes.stores z a s nothing wrote refl t.facts.task_is.writes
@@ -99,7 +99,7 @@ module _ (k : Known) (x : Global) (w : PointerWrite) (z : Cycle) (a : ℕ) (h : 
     puts = by_deed k z a h s it pending t l (PutsGlobal x.k stored word) tt
         (ap (λ (b : Bool). sets_global h.ever x.k stored (cond b (answer.Fault fault.Kind) answer.Done)) t.fine.task.3)
         (ap (λ (c : Cell). ask.Store c word) cell_is, write_fills z a s wrote t.facts.task_is.writes, record { within = t.fine.task.2; value_reached = register_reached h.ever x.g x.r t.fine.task.0.goes_on stored refl; holds = holds }, old, barrier.new)
-        (λ u hands stacks. record { stacks = stacks; number = t.facts.task_is.number; hands = hands (holding w.held) t.facts.task_is.writes.stage_is.2 })
+        (λ u hands stacks. record { stacks = stacks; number = t.facts.task_is.number; hands = hands (holding_only w.held) t.facts.task_is.writes.stage_is.2 })
 
 write_at : Known → (x : Global) (w : PointerWrite) (q : WriteStage) → StepAt (task.Global (at_stage x (stage.Writing (write.at_stage w q))))
 write_at k x w write_stage.Store z a h s m pending t kn l = puts k x w z a h s m pending t l
@@ -115,20 +115,20 @@ module _ (x : Global) (q : GlobalStage) (m : Processor) where
 at : Known → (x : Global) (q : GlobalStage) → StepAt (task.Global (at_stage x q))
 at k x stage.Load z a h s m pending t kn l = by_deed k z a h s (here x stage.Load m) pending t l (Sets x.g x.r (h.ever.global x.k)) tt (takes_told h.ever x.g x.r (h.ever.global x.k)) (
   tt,
-  fills_none a s (holding m.poll.local.held) refl t.facts.task_is.hands,
+  fills_none a s (holding_only m.poll.local.held) refl t.facts.task_is.hands,
   t.fine.task.0,
   t.fine.task.1,
   from_global x.k t.fine.task.2,
 )
-    (λ u hands stacks. named_facts z a u x _ (value_of m.poll.layout.pages true (h.words (cell.Global x.k))) (record { stacks = stacks; number = t.facts.task_is.number; hands = hands (holding m.poll.local.held) t.facts.task_is.hands }))
+    (λ u hands stacks. named_facts z a u x _ (value_of m.poll.layout.pages true (h.words (cell.Global x.k))) (record { stacks = stacks; number = t.facts.task_is.number; hands = hands (holding_only m.poll.local.held) t.facts.task_is.hands }))
 at k x (stage.Birth i) z a h s m pending t kn l = by_deed k z a h s (here x (stage.Birth i) m) pending t l Rests tt refl
-    (tt, fills_none a s (holding m.poll.local.held) refl t.facts.task_is.hands)
-    (λ u hands stacks. record { stacks = stacks; number = t.facts.task_is.number; hands = hands (holding m.poll.local.held) t.facts.task_is.hands })
+    (tt, fills_none a s (holding_only m.poll.local.held) refl t.facts.task_is.hands)
+    (λ u hands stacks. record { stacks = stacks; number = t.facts.task_is.number; hands = hands (holding_only m.poll.local.held) t.facts.task_is.hands })
 at k x stage.Store z a h s m pending t kn l = absurd (t.facts.task_is.1 (kn refl))
 at k x stage.Number z a h s m pending t kn l = by_deed k z a h s (here x stage.Number m) pending t l Rests tt
     (quits_rests z.arena.shapes h.ever (op.SetGlobal x.g x.k x.r) pending l.after.does.after (step m.poll.layout (register_of m x.g x.r) (at_stage x stage.Number) (found_there k z a h s (here x stage.Number m) pending t l)) (λ f. refl) t.fine.task.2 l.after.does.answers (inr (fault.Kind, refl, refl)))
-    (tt, fills_none a s (holding m.poll.local.held) refl t.facts.task_is.hands)
-    (λ u hands stacks. record { stacks = stacks; number = t.facts.task_is.number; hands = hands (holding m.poll.local.held) t.facts.task_is.hands })
+    (tt, fills_none a s (holding_only m.poll.local.held) refl t.facts.task_is.hands)
+    (λ u hands stacks. record { stacks = stacks; number = t.facts.task_is.number; hands = hands (holding_only m.poll.local.held) t.facts.task_is.hands })
 at k x (stage.Writing w) z a h s m pending t kn l = write_at k x w w.stage z a h s m pending t kn l
 
 pub global_step : Known → (x : Global) → StepAt (task.Global x)

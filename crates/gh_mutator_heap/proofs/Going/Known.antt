@@ -31,7 +31,7 @@ use Rattle.gh_mutator.specs.Listing.{acts, asks, takes}
 use Rattle.gh_mutator.specs.Local.{register_at}
 use Rattle.gh_mutator.specs.MarkFacts.{KnowsStacks}
 use Rattle.gh_mutator.specs.MarkVocabulary.{Cycle, Hands, InHand, Keeps}
-use Rattle.gh_mutator_heap.specs.PollHeap.{Stands}
+use Rattle.gh_mutator_heap.specs.PollHeap.{KnowsAtAnyTime}
 use Rattle.gh_mutator.specs.Processor.{at_task}
 use Rattle.gh_mutator.specs.ProcessorMarks.{MarkFacts, MarksByMoves, TaskFacts}
 use Rattle.gh_mutator_heap.specs.Runs.{DoesPoints}
@@ -83,8 +83,8 @@ EndsNone _ = Unit {0}
 
 -- what is not the end of a goroutine writes no word of a stack
 spares_stacks : (z : Cycle) (a : ℕ) (h : Heap) (s : Marking) (step : Ask) (d : Deed) → EndsNone d → MeetsByDeed z a h s step d → (g number : ℕ) → step ≢ ask.Store (cell.Scanned g) number
-spares_stacks z a h s step deed.Rests on meets g number e = subst (λ (x : Ask). marks.IsQuiet s x) e meets.0
-spares_stacks z a h s step (deed.Sets i d v) on meets g number e = subst (λ (x : Ask). marks.IsQuiet s x) e meets.0
+spares_stacks z a h s step deed.Rests on meets g number e = subst (λ (x : Ask). marks.IsQuietInMarking s x) e meets.0
+spares_stacks z a h s step (deed.Sets i d v) on meets g number e = subst (λ (x : Ask). marks.IsQuietInMarking s x) e meets.0
 spares_stacks z a h s step (deed.Ends i) on meets g number e = absurd on
 spares_stacks z a h s step (deed.Makes at i d t) on meets g number e = let is = sym meets.0 ∙ e in cc
 spares_stacks z a h s step (deed.Puts n i v word) on meets g number e = let is = sym meets.0 ∙ e in cc
@@ -116,10 +116,10 @@ module _ (k : Known) (z : Cycle) (a : ℕ) (h : Heap) (s : Marking) (m : Process
   abbrev pub processor_then : Processor
   processor_then = takes z.arena.shapes m found_there
 
-  pub goes_on : (g : ℕ) → heap.Runs z.arena (view h) a g → s.words (cell.Scanned g) ≢ END
+  pub goes_on : (g : ℕ) → heap.GoroutineRuns z.arena (view h) a g → s.words (cell.Scanned g) ≢ END
   goes_on g runs = t.beside.goes_on g runs.of.0 runs.goes_on
 
-  stands : Stands z.arena a (view heap_then) processor_then.poll
+  stands : KnowsAtAnyTime z.arena a (view heap_then) processor_then.poll
   stands = stands_always z.arena a (view heap_then) processor_then l.after.does.after l.after.does.fine
 
   places : z.arena.layout.goroutines ≤ length processor_then.poll.local.scanned
@@ -179,7 +179,7 @@ module _ (k : Known) (z : Cycle) (a : ℕ) (h : Heap) (s : Marking) (m : Process
 
   -- It is made of moves of marking alone.
   module _ (is : acted z.arena.shapes h.ever (acts m found_there) ≡ h.ever) (u : Marking) (went : marks.Went z a s u) (words_are : u.words ≡ effect s.words (asks m)) (fills : (o : ℕ) → u.colour o ≡ Placing a → ClaimsSlot z.arena (view heap_then) a o) where
-    pub by_marking : ((g d : ℕ) → heap.Runs z.arena (view h) a g → d < REGISTERS → u.registers g d ≡ s.registers g d) → ((g : ℕ) → heap.Runs z.arena (view h) a g → u.words (cell.Scanned g) ≢ END) → MarkFacts z a u processor_then → StepsOn z a heap_then s processor_then
+    pub by_marking : ((g d : ℕ) → heap.GoroutineRuns z.arena (view h) a g → d < REGISTERS → u.registers g d ≡ s.registers g d) → ((g : ℕ) → heap.GoroutineRuns z.arena (view h) a g → u.words (cell.Scanned g) ≢ END) → MarkFacts z a u processor_then → StepsOn z a heap_then s processor_then
     by_marking registers on facts = record {
       then = u;
       went = went;

@@ -17,12 +17,12 @@ use Rattle.gh_mutator_heap.specs.Facts.{Loads}
 use Rattle.gh_mutator.specs.Fields.{has_field}
 use Rattle.gh_mutator.specs.Listing.{acting, asks, follows}
 use Rattle.gh_mutator.specs.Load.{at_stage, op_of, step}
-use Rattle.gh_mutator.specs.MarkFacts.{holding, IsBetween}
+use Rattle.gh_mutator.specs.MarkFacts.{holding_only, IsBetween}
 use Rattle.gh_mutator.specs.MarkVocabulary.{Cycle, InHand}
 use Rattle.gh_mutator.specs.Processor.{at_task}
 use Rattle.gh_mutator.specs.ProcessorMarks.{TaskFacts}
 use Rattle.gh_mutator.specs.Vocabulary.{Answer, Name, Polling}
-use Rattle.gh_mutator_heap.specs.Vocabulary.{Ever, EverValue, size_for, told, view, Ends, GoesOn, Load, LoadStage, Processor, Step, Then}
+use Rattle.gh_mutator_heap.specs.Vocabulary.{Ever, EverValue, size_for, answer_of_value, view, Ends, GoesOn, Load, LoadStage, Processor, Step, Then}
 use Rattle.gh_mutator_heap.proofs.Going.Known.{by_deed, EndsNone, fills_none, found_there, heap_then, Known, processor_then, StepAt, StepOf}
 use Rattle.gh_mutator_heap.proofs.Going.Values.{between_then, pointing_scans, Quits, quits_rests}
 use Rattle.gh_mutator_heap.proofs.Owning.Objects.{takes_told}
@@ -50,16 +50,16 @@ module _ (k : Known) (x : Load) (q : LoadStage) (z : Cycle) (a : ℕ) (h : Heap)
     Goes = StepsOn z a (heap_then k z a h s here pending t l) s (processor_then k z a h s here pending t l)
 
     fills : FillsNone a s
-    fills = fills_none a s (holding m.poll.local.held) refl t.facts.task_is.hands
+    fills = fills_none a s (holding_only m.poll.local.held) refl t.facts.task_is.hands
 
     by : (d : Deed) → EndsNone d → ((hand : InHand) → hand_behind d hand ≡ hand) → acted z.arena.shapes h.ever (acting now.acts (op_of x) false) ≡ ever_by z.arena h.ever d → MeetsByDeed z a h s (asks here) d → Goes
     by d on same is meets = by_deed k z a h s here pending t l d on is meets
-        (λ u hands stacks. follows_facts z a u _ now.then (between_then z a u m.poll x.g x.d now.sets stacks t.facts.task_is.number (rw (← same (holding m.poll.local.held)) (hands (holding m.poll.local.held) t.facts.task_is.hands))))
+        (λ u hands stacks. follows_facts z a u _ now.then (between_then z a u m.poll x.g x.d now.sets stacks t.facts.task_is.number (rw (← same (holding_only m.poll.local.held)) (hands (holding_only m.poll.local.held) t.facts.task_is.hands))))
 
     rests : pending ≡ None → Quits now → MeetsByDeed z a h s (asks here) Rests → Goes
     rests none quits meets = by Rests tt (λ hand. refl) (quits_rests z.arena.shapes h.ever (op_of x) pending l.after.does.after now (λ f. refl) none l.after.does.answers quits) meets
 
-load_found : (z : Cycle) (e : Ever) (v : EverValue) (n : Name) (k : ℕ) → v ≡ ever.Ref n → k < size_for z.arena.shapes e.type_of n → load_answer z.arena.shapes e v k ≡ told (e.field n k)
+load_found : (z : Cycle) (e : Ever) (v : EverValue) (n : Name) (k : ℕ) → v ≡ ever.Ref n → k < size_for z.arena.shapes e.type_of n → load_answer z.arena.shapes e v k ≡ answer_of_value (e.field n k)
 load_found z e v n k is few = rw (is, lt-ltb k (size_for z.arena.shapes e.type_of n) few) refl
 
 at : Known → (x : Load) (q : LoadStage) → StepAt (task.Load (at_stage x q))

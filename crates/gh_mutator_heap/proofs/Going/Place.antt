@@ -29,7 +29,7 @@ use Rattle.gh_model.specs.Ever.{field_count, next_name}
 use Rattle.gh_mutator_heap.specs.Beside.{StepsOn, Together}
 use Rattle.gh_mutator_heap.specs.Facts.{for_whom}
 use Rattle.gh_mutator.specs.Local.{marking_at}
-use Rattle.gh_mutator.specs.MarkFacts.{holding, IsBetween, KnowsStacks, stacks_last}
+use Rattle.gh_mutator.specs.MarkFacts.{holding_only, IsBetween, KnowsStacks, stacks_last}
 use Rattle.gh_mutator.specs.MarkVocabulary.{Cycle, Hands, Keeps, Layout}
 use Rattle.gh_mutator.specs.New.{assisting, assists, made_object, made_task, makes, wants}
 use Rattle.gh_mutator.specs.Processor.{at_task}
@@ -40,12 +40,12 @@ use Rattle.gh_mutator_heap.proofs.Going.Known.{by_deed, by_keeping, fills_none, 
 use Rattle.gh_mutator_heap.proofs.Owning.SearchSteps.{sized}
 
 -- its routines write no word that marking reads
-bits_quiet : (s : Marking) (b : bits.PointerSetting) (q : SetStage) → marks.IsQuiet s (bits.asks_at b q)
+bits_quiet : (s : Marking) (b : bits.PointerSetting) (q : SetStage) → marks.IsQuietInMarking s (bits.asks_at b q)
 bits_quiet s b (set_stage.Clear i) = tt
 bits_quiet s b (set_stage.Set i) = tt
 bits_quiet s b set_stage.Ended = tt
 
-give_quiet : (s : Marking) (g : give.Giving) (q : GiveStage) → marks.IsQuiet s (give.asks_at g q)
+give_quiet : (s : Marking) (g : give.SpanGiving) (q : GiveStage) → marks.IsQuietInMarking s (give.asks_at g q)
 give_quiet s g give_stage.Write = tt
 give_quiet s g give_stage.Ended = tt
 
@@ -55,7 +55,7 @@ at w p q m = at_task m (makes w (place.at_stage p q))
 -- the processor goes on with the making, at this stage
 goes_facts : (z : Cycle) (a : ℕ) (u : Marking) (m : Processor) (w : Wanted) (p : Placing) (q : PlaceStage) → p.marking ≡ true → reserved_at p.at q ≡ None → place.given_at q ≡ None → IsBetween z a u m.poll.local → TaskFacts z a u m.poll (made_task m.poll w (place.at_stage p q) (place.given_at q))
 goes_facts z a u m w p q marking free on b = subst (λ (o : Option Bool). TaskFacts z a u m.poll (made_task m.poll w (place.at_stage p q) o)) (sym on)
-    (record { marking = marking; stacks = b.stacks; number = b.number; hands = subst (λ (o : Option ℕ). Hands a u (record (holding m.poll.local.held) { placing = o })) (sym free) b.hands })
+    (record { marking = marking; stacks = b.stacks; number = b.number; hands = subst (λ (o : Option ℕ). Hands a u (record (holding_only m.poll.local.held) { placing = o })) (sym free) b.hands })
 
 -- or it is over
 over_facts : Known → (z : Cycle) (a : ℕ) (u : Marking) (m : Processor) (w : Wanted) (p : Placing) (asks : Bool) → m.poll.layout ≡ z.arena.layout → m.poll.seat ≡ a → IsBetween z a u m.poll.local → TaskFacts z a u m.poll (made_task m.poll w p (Some asks))
@@ -78,11 +78,11 @@ module _ (k : Known) (w : Wanted) (p : Placing) (z : Cycle) (a : ℕ) (h : Heap)
   Goes q t l = StepsOn z a (heap_then k z a h s (at w p q m) pending t l) s (processor_then k z a h s (at w p q m) pending t l)
 
   -- between two polls, but for the slot that is marked
-  between : (q : PlaceStage) (t : Ready q) → reserved_at p.at q ≡ None → Hands a s (holding m.poll.local.held)
-  between q t free = subst (λ (o : Option ℕ). Hands a s (record (holding m.poll.local.held) { placing = o })) free t.facts.task_is.hands
+  between : (q : PlaceStage) (t : Ready q) → reserved_at p.at q ≡ None → Hands a s (holding_only m.poll.local.held)
+  between q t free = subst (λ (o : Option ℕ). Hands a s (record (holding_only m.poll.local.held) { placing = o })) free t.facts.task_is.hands
 
   fills : (q : PlaceStage) (t : Ready q) → reserved_at p.at q ≡ None → FillsNone a s
-  fills q t free = fills_none a s (holding m.poll.local.held) refl (between q t free)
+  fills q t free = fills_none a s (holding_only m.poll.local.held) refl (between q t free)
 
   module _ (t : Ready making.Mark) (l : StepOf z a h (at w p making.Mark m) pending) where
     abbrev marked : Marking
@@ -111,7 +111,7 @@ module _ (k : Known) (w : Wanted) (p : Placing) (z : Cycle) (a : ℕ) (h : Heap)
 
     marks_slot : Goes making.Mark t l
     marks_slot = by_keeping k z a h s (at w p making.Mark m) pending t l refl marked (marks.goes s (marks.Reserve p.at) marks.stays may) refl claims kept
-        (record { layout_is = t.facts.layout_is; seat_is = t.facts.seat_is; stacks = stacks_so; task_is = record { marking = t.facts.task_is.marking; stacks = stacks_so; number = t.facts.task_is.number; hands = (k.follow z a s (holding m.poll.local.held) t.marking (between making.Mark t refl)).reserved p.at may refl } })
+        (record { layout_is = t.facts.layout_is; seat_is = t.facts.seat_is; stacks = stacks_so; task_is = record { marking = t.facts.task_is.marking; stacks = stacks_so; number = t.facts.task_is.number; hands = (k.follow z a s (holding_only m.poll.local.held) t.marking (between making.Mark t refl)).reserved p.at may refl } })
 
   -- The object is made.
   module _ (t : Ready making.Alloc) (l : StepOf z a h (at w p making.Alloc m) pending) where
@@ -140,20 +140,20 @@ module _ (k : Known) (w : Wanted) (p : Placing) (z : Cycle) (a : ℕ) (h : Heap)
 
     makes_it : Goes making.Alloc t l
     makes_it = by_deed k z a h s (at w p making.Alloc m) pending t l (Makes p.at w.g w.d w.t) tt refl (refl, (t.facts.task_is.hands.has.is_reserved p.at).0 refl, may_make)
-        (λ u hands stacks. made_facts u p.span (record { stacks = stacks; number = t.facts.task_is.number; hands = hands (record (holding m.poll.local.held) { placing = Some p.at }) t.facts.task_is.hands }))
+        (λ u hands stacks. made_facts u p.span (record { stacks = stacks; number = t.facts.task_is.number; hands = hands (record (holding_only m.poll.local.held) { placing = Some p.at }) t.facts.task_is.hands }))
 
 -- By its stages.
 place_at : Known → (w : Wanted) (p : Placing) (q : PlaceStage) → StepAt (makes w (place.at_stage p q))
 place_at k w p (making.Clear i) z a h s m pending t kn l = by_deed k z a h s (at w p (making.Clear i) m) pending t l Rests tt refl
     (k.aside z a p.at p.slot i h s t.heap t.marking t.beside t.fine.task.facts.0.claim t.fine.task.facts.1, fills k w p z a h s m pending (making.Clear i) t refl)
-    (λ u hands stacks. by u (ltb (i + 1) p.slot) (record { stacks = stacks; number = t.facts.task_is.number; hands = hands (holding m.poll.local.held) (between k w p z a h s m pending (making.Clear i) t refl) })) where
+    (λ u hands stacks. by u (ltb (i + 1) p.slot) (record { stacks = stacks; number = t.facts.task_is.number; hands = hands (holding_only m.poll.local.held) (between k w p z a h s m pending (making.Clear i) t refl) })) where
       by : (u : Marking) (b : Bool) → IsBetween z a u m.poll.local → TaskFacts z a u m.poll (made_task m.poll w (place.at_stage p (cond b (making.Clear (i + 1)) making.Birth)) (place.given_at (cond b (making.Clear (i + 1)) making.Birth)))
       by u true b = goes_facts z a u m w p (making.Clear (i + 1)) t.facts.task_is.marking refl refl b
       by u false b = goes_facts z a u m w p making.Birth t.facts.task_is.marking refl refl b
 place_at k w p making.Birth z a h s m pending t kn l = by_deed k z a h s (at w p making.Birth m) pending t l Rests tt refl (tt, fills k w p z a h s m pending making.Birth t refl)
-    (λ u hands stacks. goes_facts z a u m w p (making.Bits (bits.opening p.layout p.shape p.at p.slot)) t.facts.task_is.marking refl refl (record { stacks = stacks; number = t.facts.task_is.number; hands = hands (holding m.poll.local.held) (between k w p z a h s m pending making.Birth t refl) }))
+    (λ u hands stacks. goes_facts z a u m w p (making.Bits (bits.opening p.layout p.shape p.at p.slot)) t.facts.task_is.marking refl refl (record { stacks = stacks; number = t.facts.task_is.number; hands = hands (holding_only m.poll.local.held) (between k w p z a h s m pending making.Birth t refl) }))
 place_at k w p (making.Bits b) z a h s m pending t kn l = by_deed k z a h s (at w p (making.Bits b) m) pending t l Rests tt refl (bits_quiet s b b.stage, fills k w p z a h s m pending (making.Bits b) t refl)
-    (λ u hands stacks. by u (bits.is_busy (bits.goes b 0).stage) p.marking t.facts.task_is.marking refl (record { stacks = stacks; number = t.facts.task_is.number; hands = hands (holding m.poll.local.held) (between k w p z a h s m pending (making.Bits b) t refl) })) where
+    (λ u hands stacks. by u (bits.is_busy (bits.goes b 0).stage) p.marking t.facts.task_is.marking refl (record { stacks = stacks; number = t.facts.task_is.number; hands = hands (holding_only m.poll.local.held) (between k w p z a h s m pending (making.Bits b) t refl) })) where
       by : (u : Marking) (busy marking : Bool) → marking ≡ true → bits.is_busy (bits.goes b 0).stage ≡ busy → IsBetween z a u m.poll.local → TaskFacts z a u m.poll (made_task m.poll w (place.at_stage p (cond busy (making.Bits (bits.goes b 0)) (place.filled marking))) (place.given_at (cond busy (making.Bits (bits.goes b 0)) (place.filled marking))))
       by u true marking on busy x = goes_facts z a u m w p (making.Bits (bits.goes b 0)) t.facts.task_is.marking refl refl x
       by u false true on busy x = goes_facts z a u m w p making.Mark t.facts.task_is.marking refl refl x
@@ -161,14 +161,14 @@ place_at k w p (making.Bits b) z a h s m pending t kn l = by_deed k z a h s (at 
 place_at k w p making.Mark z a h s m pending t kn l = marks_slot k w p z a h s m pending t l
 place_at k w p making.Alloc z a h s m pending t kn l = makes_it k w p z a h s m pending t l
 place_at k w p (making.Give g) z a h s m pending t kn l = by_deed k z a h s (at w p (making.Give g) m) pending t l Rests tt refl (give_quiet s g g.stage, fills k w p z a h s m pending (making.Give g) t refl)
-    (λ u hands stacks. goes_facts z a u m w p making.Count t.facts.task_is.marking refl refl (record { stacks = stacks; number = t.facts.task_is.number; hands = hands (holding m.poll.local.held) (between k w p z a h s m pending (making.Give g) t refl) }))
+    (λ u hands stacks. goes_facts z a u m w p making.Count t.facts.task_is.marking refl refl (record { stacks = stacks; number = t.facts.task_is.number; hands = hands (holding_only m.poll.local.held) (between k w p z a h s m pending (making.Give g) t refl) }))
 place_at k w p making.Count z a h s m pending t kn l = by_deed k z a h s (at w p making.Count m) pending t l Rests tt refl (tt, fills k w p z a h s m pending making.Count t refl)
-    (λ u hands stacks. by u p.marking ((h.words cell.Heap + 8 * p.slot) % 2 ^ 64) (record { stacks = stacks; number = t.facts.task_is.number; hands = hands (holding m.poll.local.held) (between k w p z a h s m pending making.Count t refl) })) where
+    (λ u hands stacks. by u p.marking ((h.words cell.Heap + 8 * p.slot) % 2 ^ 64) (record { stacks = stacks; number = t.facts.task_is.number; hands = hands (holding_only m.poll.local.held) (between k w p z a h s m pending making.Count t refl) })) where
       by : (u : Marking) (marking : Bool) (bytes : ℕ) → IsBetween z a u m.poll.local → TaskFacts z a u m.poll (made_task m.poll w (place.at_stage p (cond marking (making.Ended false) (making.LoadTrigger bytes))) (place.given_at (cond marking (making.Ended false) (making.LoadTrigger bytes))))
       by u true bytes b = over_facts k z a u m w (place.at_stage p (making.Ended false)) false t.facts.layout_is t.facts.seat_is b
       by u false bytes b = goes_facts z a u m w p (making.LoadTrigger bytes) t.facts.task_is.marking refl refl b
 place_at k w p (making.LoadTrigger bytes) z a h s m pending t kn l = by_deed k z a h s (at w p (making.LoadTrigger bytes) m) pending t l Rests tt refl (tt, fills k w p z a h s m pending (making.LoadTrigger bytes) t refl)
-    (λ u hands stacks. over_facts k z a u m w (place.at_stage p (making.Ended (nat_le (h.words cell.Trigger) bytes))) (nat_le (h.words cell.Trigger) bytes) t.facts.layout_is t.facts.seat_is (record { stacks = stacks; number = t.facts.task_is.number; hands = hands (holding m.poll.local.held) (between k w p z a h s m pending (making.LoadTrigger bytes) t refl) }))
+    (λ u hands stacks. over_facts k z a u m w (place.at_stage p (making.Ended (nat_le (h.words cell.Trigger) bytes))) (nat_le (h.words cell.Trigger) bytes) t.facts.layout_is t.facts.seat_is (record { stacks = stacks; number = t.facts.task_is.number; hands = hands (holding_only m.poll.local.held) (between k w p z a h s m pending (making.LoadTrigger bytes) t refl) }))
 place_at k w p (making.Ended asks) z a h s m pending t kn l = absurd t.fine.task.facts
 
 pub place_step : Known → (w : Wanted) (p : Placing) → StepAt (makes w p)
@@ -176,5 +176,5 @@ place_step k w p = place_at k w p p.stage
 
 -- A cycle is asked for behind the making.
 pub want_step : Known → (w : Wanted) (n : Name) → StepAt (wants w n)
-want_step k w n z a h s m pending t kn l = by_deed k z a h s (at_task m (wants w n)) pending t l Rests tt refl (tt, fills_none a s (holding m.poll.local.held) refl t.facts.task_is.hands)
-    (λ u hands stacks. record { stacks = stacks; number = t.facts.task_is.number; hands = hands (holding m.poll.local.held) t.facts.task_is.hands })
+want_step k w n z a h s m pending t kn l = by_deed k z a h s (at_task m (wants w n)) pending t l Rests tt refl (tt, fills_none a s (holding_only m.poll.local.held) refl t.facts.task_is.hands)
+    (λ u hands stacks. record { stacks = stacks; number = t.facts.task_is.number; hands = hands (holding_only m.poll.local.held) t.facts.task_is.hands })

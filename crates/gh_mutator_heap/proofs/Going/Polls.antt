@@ -29,7 +29,7 @@ use Rattle.gh_mutator.specs.Deeds.{acted}
 use Rattle.gh_mutator.specs.Give as give
 use Rattle.gh_mutator.specs.Leave as leave
 use Rattle.gh_mutator.specs.Listing.{acting, acts}
-use Rattle.gh_mutator.specs.MarkFacts.{GiveStageFacts, holding, LeaveFacts, PollStageFacts, ScanStageFacts, WaitStageFacts}
+use Rattle.gh_mutator.specs.MarkFacts.{GiveStageFacts, holding_only, LeaveFacts, PollStageFacts, ScanStageFacts, WaitStageFacts}
 use Rattle.gh_mutator.specs.MarkStack as mark
 use Rattle.gh_mutator.specs.MarkVocabulary.{Cycle, Held, nothing, StackMarking}
 use Rattle.gh_mutator_heap.specs.Vocabulary.{GiveStage, LeaveStage, MarkStackStage, PollStage, WaitStage, Processor, Wait, Wanted, Ever, view}
@@ -47,29 +47,29 @@ module _ (z : Cycle) (a : ℕ) (u : Marking) where
   give_fills : (held : Option Held) (q : GiveStage) → GiveStageFacts z a u held q → FillsNone a u
   give_fills held (give_stage.GiveBuffer b) x = fills_none a u _ refl x.hands
   give_fills held give_stage.Ended x = fills_none a u nothing refl x.0
-  give_fills held give_stage.Lock x = fills_none a u (holding held) refl x
-  give_fills held (give_stage.GiveSpan class s) x = fills_none a u (holding held) refl x
-  give_fills held give_stage.Unlock x = fills_none a u (holding held) refl x
+  give_fills held give_stage.Lock x = fills_none a u (holding_only held) refl x
+  give_fills held (give_stage.GiveSpan class s) x = fills_none a u (holding_only held) refl x
+  give_fills held give_stage.Unlock x = fills_none a u (holding_only held) refl x
 
   scan_fills : (m : StackMarking) (q : MarkStackStage) → ScanStageFacts z a u m.held m.scan q → FillsNone a u
   scan_fills m (mark_stage.Shading sh) x = fills_none a u _ refl x.1.hands
   scan_fills m (mark_stage.FindRoom sh r) x = fills_none a u _ refl x.2.hands
-  scan_fills m mark_stage.Store x = fills_none a u (holding m.held) refl x.2
+  scan_fills m mark_stage.Store x = fills_none a u (holding_only m.held) refl x.2
   scan_fills m mark_stage.Ended x = absurd x
 
   poll_fills : (p : Polling) (q : PollStage) → PollStageFacts z a u p.waits p.local q → FillsNone a u
-  poll_fills p poll_stage.LoadPhase x = fills_none a u (holding p.local.held) refl x.1
+  poll_fills p poll_stage.LoadPhase x = fills_none a u (holding_only p.local.held) refl x.1
   poll_fills p (poll_stage.Giving g stops) x = give_fills g.held g.stage x.stage_is
   poll_fills p (poll_stage.Resuming r) x = fills_none a u nothing refl x.0
   poll_fills p (poll_stage.Marking g m) x = scan_fills m m.stage x.1.stage_is
   poll_fills p (poll_stage.FindRoom r) x = fills_none a u _ refl x.1.hands
-  poll_fills p poll_stage.Ended x = fills_none a u (holding p.local.held) refl x.2
+  poll_fills p poll_stage.Ended x = fills_none a u (holding_only p.local.held) refl x.2
 
   wait_fills : (p : Polling) (q : WaitStage) → WaitStageFacts z a u p q → FillsNone a u
   wait_fills p wait_stage.Polling x = poll_fills p p.stage x.stage_is
-  wait_fills p wait_stage.Want x = fills_none a u (holding p.local.held) refl x.between.hands
-  wait_fills p wait_stage.LoadSwept x = fills_none a u (holding p.local.held) refl x.between.hands
-  wait_fills p wait_stage.Ended x = fills_none a u (holding p.local.held) refl x.between.hands
+  wait_fills p wait_stage.Want x = fills_none a u (holding_only p.local.held) refl x.between.hands
+  wait_fills p wait_stage.LoadSwept x = fills_none a u (holding_only p.local.held) refl x.between.hands
+  wait_fills p wait_stage.Ended x = fills_none a u (holding_only p.local.held) refl x.between.hands
 
   leave_fills : (q : LeaveStage) → LeaveFacts z a u q → FillsNone a u
   leave_fills (leave_stage.Giving g) x = give_fills g.held g.stage x.stage_is
@@ -164,10 +164,10 @@ module _ (k : Known) (z : Cycle) (a : ℕ) (h : Heap) (s : Marking) (m : Process
     facts : MarkFacts z a land.then then
     facts = subst (λ (n : ℕ). MarkFacts z a land.then (takes z.arena.shapes m n)) (ap (λ (w : Words). w (cell_of (asks m))) t.beside.words) land.after
 
-    on : (g : ℕ) → heap.Runs z.arena (view h) a g → land.then.words (cell.Scanned g) ≢ END
+    on : (g : ℕ) → heap.GoroutineRuns z.arena (view h) a g → land.then.words (cell.Scanned g) ≢ END
     on g runs e = leaves.notes g (λ noted. goes_on k z a h s m pending t l g runs (sym (t.facts.stacks.noted g runs.of) ∙ noted)) (facts.stacks.noted g runs.of ∙ e)
 
-    registers : (g d : ℕ) → heap.Runs z.arena (view h) a g → d < REGISTERS → land.then.registers g d ≡ s.registers g d
+    registers : (g d : ℕ) → heap.GoroutineRuns z.arena (view h) a g → d < REGISTERS → land.then.registers g d ≡ s.registers g d
     registers g d runs low =
         let was = t.facts.stacks.registers g runs.of (goes_on k z a h s m pending t l g runs) in
         let now = facts.stacks.registers g runs.of (on g runs) in
@@ -181,7 +181,7 @@ module _ (z : Cycle) (a : ℕ) (u : Marking) (m : Processor) where
 
   polled_fills : (p : Polling) (out : Option (Unit {0})) → TaskFacts z a u (after_poll m p out).poll (after_poll m p out).task → FillsNone a u
   polled_fills p None x = poll_fills z a u p p.stage x.stage_is
-  polled_fills p (Some y) x = fills_none a u (holding p.local.held) refl x.hands
+  polled_fills p (Some y) x = fills_none a u (holding_only p.local.held) refl x.hands
 
   gc_leaves : (g : ℕ) (w : Waiting) (out : Option (Unit {0})) → Leaves m.poll w.poll → Leaves m.poll (after_gc m g w out).poll
   gc_leaves g w None x = x
@@ -189,7 +189,7 @@ module _ (z : Cycle) (a : ℕ) (u : Marking) (m : Processor) where
 
   gc_fills : (g : ℕ) (w : Waiting) (out : Option (Unit {0})) → TaskFacts z a u (after_gc m g w out).poll (after_gc m g w out).task → FillsNone a u
   gc_fills g w None x = wait_fills z a u w.poll w.wait.stage x
-  gc_fills g w (Some y) x = fills_none a u (holding w.poll.local.held) refl x.hands
+  gc_fills g w (Some y) x = fills_none a u (holding_only w.poll.local.held) refl x.hands
 
   new_leaves : (n : Wanted) (w : Waiting) (out : Option (Unit {0})) → Leaves m.poll w.poll → Leaves m.poll (new.after_wait m n w out).poll
   new_leaves n w None x = x
@@ -197,7 +197,7 @@ module _ (z : Cycle) (a : ℕ) (u : Marking) (m : Processor) where
 
   new_fills : (n : Wanted) (w : Waiting) (out : Option (Unit {0})) → TaskFacts z a u (new.after_wait m n w out).poll (new.after_wait m n w out).task → FillsNone a u
   new_fills n w None x = wait_fills z a u w.poll w.wait.stage x
-  new_fills n w (Some y) x = fills_none a u (holding w.poll.local.held) refl x.hands
+  new_fills n w (Some y) x = fills_none a u (holding_only w.poll.local.held) refl x.hands
 
   left_leaves : (x : Leaving) (out : Option (Unit {0})) → Leaves m.poll (after_leave m x out).poll
   left_leaves x None = leaves_so m.poll _ (refl, refl)

@@ -8,16 +8,16 @@ use Rattle.gh_cycle.specs.Beside.{FillsNone}
 use Rattle.gh_cycle.specs.Deeds.{from_nil, Rests, Sets}
 use Rattle.gh_heap.specs.Rights.{Shared as Heap}
 use Rattle.gh_marks.specs.Colours.{Shared as Marking}
-use Rattle.gh_marks.specs.Moves.{IsAside, IsQuiet}
+use Rattle.gh_marks.specs.Moves.{IsAside, IsQuietInMarking}
 use Rattle.gh_model.specs.declared.EverValue.TheVariants as ever
 use Rattle.gh_phase.specs.declared.view.RunPhase.TheVariants.{Mark}
 use Rattle.gh_mutator_heap.specs.Beside.{StepsOn, Together}
 use Rattle.gh_mutator.specs.Deeds.{acted}
 use Rattle.gh_mutator.specs.Listing.{acting}
 use Rattle.gh_mutator.specs.Local.{is_mark}
-use Rattle.gh_mutator.specs.MarkFacts.{holding, KnowsStacks}
+use Rattle.gh_mutator.specs.MarkFacts.{holding_only, KnowsStacks}
 use Rattle.gh_mutator.specs.MarkVocabulary.{Cycle, Hands}
-use Rattle.gh_mutator.specs.New.{after_search, refuses, searches}
+use Rattle.gh_mutator.specs.New.{after_search, refuses_behind_wait, searches}
 use Rattle.gh_mutator.specs.Processor.{at_task, cache_span}
 use Rattle.gh_mutator.specs.ProcessorMarks.{TaskFacts}
 use Rattle.gh_mutator.specs.Vocabulary.{Answer, At, Found, NoRoom, Op, Seeking, cell_of}
@@ -27,7 +27,7 @@ use Rattle.gh_mutator_heap.proofs.Vocabulary.{WritesOf}
 use Rattle.gh_mutator_writes.specs.SearchRows.{seeking_writes}
 
 -- a step that writes no word which marking reads
-pub quiet_by : (s : Marking) (step : Ask) → WritesOf (IsAside s) step → IsQuiet s step
+pub quiet_by : (s : Marking) (step : Ask) → WritesOf (IsAside s) step → IsQuietInMarking s step
 quiet_by s (ask.Load c) w = tt
 quiet_by s (ask.Store c value) w = w
 quiet_by s (ask.Or c bits) w = w
@@ -57,47 +57,47 @@ module _ (k : Known) (v : Wanted) (waited : Bool) (y : Seeking) (z : Cycle) (a :
     then o = after_search z.arena.shapes cached v waited (search.goes y n) o
 
     abbrev Knows : Option Found → Type 0
-    Knows o = (u : Marking) → Hands a u (holding m.poll.local.held) → KnowsStacks z a u (then o).poll.local.stacks (then o).poll.local.scanned → TaskFacts z a u (then o).poll (then o).task
+    Knows o = (u : Marking) → Hands a u (holding_only m.poll.local.held) → KnowsStacks z a u (then o).poll.local.stacks (then o).poll.local.scanned → TaskFacts z a u (then o).poll (then o).task
 
-    quiet : IsQuiet s (search.asks y)
+    quiet : IsQuietInMarking s (search.asks y)
     quiet = quiet_by s (search.asks y) (seeking_writes (IsAside s) (record { lock = tt; page = λ i. tt }) y (λ sw e. absurd (let none = t.sweeps in cc)))
 
     fills : FillsNone a s
-    fills = fills_none a s (holding m.poll.local.held) refl t.facts.task_is.hands
+    fills = fills_none a s (holding_only m.poll.local.held) refl t.facts.task_is.hands
 
     knows_at : (o : Option Found) → search.gives y n ≡ o → Knows o → Knows (search.gives y n)
     knows_at o e f = subst Knows (sym e) f
 
-    rests : (o : Option Found) → search.gives y n ≡ o → refuses waited o ≡ false → Knows o → Goes
+    rests : (o : Option Found) → search.gives y n ≡ o → refuses_behind_wait waited o ≡ false → Knows o → Goes
     rests o e none f = by_deed k z a h s here pending t l Rests tt
-        (ap (λ (x : Option Found). acted z.arena.shapes h.ever (acting (refuses waited x) op_now true)) e ∙ ap (λ (b : Bool). acted z.arena.shapes h.ever (acting b op_now true)) none)
-        (quiet, fills) (λ u hands stacks. knows_at o e f u (hands (holding m.poll.local.held) t.facts.task_is.hands) stacks)
+        (ap (λ (x : Option Found). acted z.arena.shapes h.ever (acting (refuses_behind_wait waited x) op_now true)) e ∙ ap (λ (b : Bool). acted z.arena.shapes h.ever (acting b op_now true)) none)
+        (quiet, fills) (λ u hands stacks. knows_at o e f u (hands (holding_only m.poll.local.held) t.facts.task_is.hands) stacks)
 
     refused : search.gives y n ≡ Some NoRoom → waited ≡ true → Goes
     refused e last = by_deed k z a h s here pending t l (Sets v.g v.d ever.Nil) tt
-        (ap (λ (x : Option Found). acted z.arena.shapes h.ever (acting (refuses waited x) op_now true)) e ∙ ap (λ (b : Bool). acted z.arena.shapes h.ever (acting (refuses b (Some NoRoom)) op_now true)) last)
+        (ap (λ (x : Option Found). acted z.arena.shapes h.ever (acting (refuses_behind_wait waited x) op_now true)) e ∙ ap (λ (b : Bool). acted z.arena.shapes h.ever (acting (refuses_behind_wait b (Some NoRoom)) op_now true)) last)
         (quiet, fills, t.fine.task.wants.runs, t.fine.task.wants.register, from_nil)
-        (λ u hands stacks. knows_at (Some NoRoom) e (nil waited last) u (hands (holding m.poll.local.held) t.facts.task_is.hands) stacks) where
-          nil : (b : Bool) → b ≡ true → (u : Marking) → Hands a u (holding m.poll.local.held) → KnowsStacks z a u (after_search z.arena.shapes cached v b (search.goes y n) (Some NoRoom)).poll.local.stacks (after_search z.arena.shapes cached v b (search.goes y n) (Some NoRoom)).poll.local.scanned →
+        (λ u hands stacks. knows_at (Some NoRoom) e (nil waited last) u (hands (holding_only m.poll.local.held) t.facts.task_is.hands) stacks) where
+          nil : (b : Bool) → b ≡ true → (u : Marking) → Hands a u (holding_only m.poll.local.held) → KnowsStacks z a u (after_search z.arena.shapes cached v b (search.goes y n) (Some NoRoom)).poll.local.stacks (after_search z.arena.shapes cached v b (search.goes y n) (Some NoRoom)).poll.local.scanned →
               TaskFacts z a u (after_search z.arena.shapes cached v b (search.goes y n) (Some NoRoom)).poll (after_search z.arena.shapes cached v b (search.goes y n) (Some NoRoom)).task
           nil true e u hands stacks = record { stacks = stacks; number = t.facts.task_is.number; hands = hands }
           nil false e u hands stacks = absurd (cc)
 
     -- no cycle was waited for yet
-    waits : (b : Bool) → b ≡ false → (u : Marking) → Hands a u (holding m.poll.local.held) → KnowsStacks z a u (after_search z.arena.shapes cached v b (search.goes y n) (Some NoRoom)).poll.local.stacks (after_search z.arena.shapes cached v b (search.goes y n) (Some NoRoom)).poll.local.scanned →
+    waits : (b : Bool) → b ≡ false → (u : Marking) → Hands a u (holding_only m.poll.local.held) → KnowsStacks z a u (after_search z.arena.shapes cached v b (search.goes y n) (Some NoRoom)).poll.local.stacks (after_search z.arena.shapes cached v b (search.goes y n) (Some NoRoom)).poll.local.scanned →
         TaskFacts z a u (after_search z.arena.shapes cached v b (search.goes y n) (Some NoRoom)).poll (after_search z.arena.shapes cached v b (search.goes y n) (Some NoRoom)).task
     waits false e u hands stacks = record { layout_is = t.facts.layout_is; seat_is = t.facts.seat_is; between = record { stacks = stacks; number = t.facts.task_is.number; hands = hands } }
     waits true e u hands stacks = absurd (cc)
 
     no_room : search.gives y n ≡ Some NoRoom → (b : Bool) → waited ≡ b → Goes
     no_room e true last = refused e last
-    no_room e false first = rests (Some NoRoom) e (ap (λ (b : Bool). refuses b (Some NoRoom)) first) (waits waited first)
+    no_room e false first = rests (Some NoRoom) e (ap (λ (b : Bool). refuses_behind_wait b (Some NoRoom)) first) (waits waited first)
 
-    refuses_at : (b : Bool) (at : ℕ) → refuses b (Some (At at)) ≡ false
+    refuses_at : (b : Bool) (at : ℕ) → refuses_behind_wait b (Some (At at)) ≡ false
     refuses_at true at = refl
     refuses_at false at = refl
 
-    refuses_none : (b : Bool) → refuses b None ≡ false
+    refuses_none : (b : Bool) → refuses_behind_wait b None ≡ false
     refuses_none true = refl
     refuses_none false = refl
 

@@ -33,9 +33,9 @@ use Rattle.gh_mutator_heap.specs.Facts.{Stores}
 use Rattle.gh_mutator.specs.Fields.{has_field, is_number_value, is_pointer_by, kinds_differ, word_of_value}
 use Rattle.gh_mutator.specs.Listing.{acting, applied}
 use Rattle.gh_mutator.specs.Local.{is_mark}
-use Rattle.gh_mutator.specs.MarkFacts.{holding, IsBetween, stacks_last}
+use Rattle.gh_mutator.specs.MarkFacts.{holding_only, IsBetween, stacks_last}
 use Rattle.gh_mutator.specs.MarkVocabulary.{Cycle, Keeps, nothing}
-use Rattle.gh_mutator_heap.specs.PollHeap.{Stands}
+use Rattle.gh_mutator_heap.specs.PollHeap.{KnowsAtAnyTime}
 use Rattle.gh_mutator.specs.Processor.{at_task, keeping, register_of}
 use Rattle.gh_mutator.specs.ProcessorMarks.{MarkFacts}
 use Rattle.gh_mutator.specs.Stays.{stores_behind}
@@ -78,7 +78,7 @@ module _ (k : Known) (x : Store) (z : Cycle) (a : ℕ) (h : Heap) (s : Marking) 
   nil_base : (t : Ready stage.NilBase) (l : StepOf z a h (at x stage.NilBase m) pending) → Loads stage.NilBase t l
   nil_base t l = by_load k z a h s (at x stage.NilBase m) pending t l
       (quits_rests z.arena.shapes h.ever (op_of x) pending l.after.does.after (step m.poll.layout m.poll.local (register_of m x.g x.v) (at_stage x stage.NilBase) (found_there k z a h s (at x stage.NilBase m) pending t l)) (fault_stays h.ever (h.ever.register x.g x.b) x.k (h.ever.register x.g x.v)) t.fine.task.3 l.after.does.answers (inr (fault.NilBase, refl, refl)))
-      cell.Touch refl (fills_none a s (holding m.poll.local.held) refl t.facts.task_is.hands) (over stage.NilBase t t.facts.task_is (answer.Fault fault.NilBase))
+      cell.Touch refl (fills_none a s (holding_only m.poll.local.held) refl t.facts.task_is.hands) (over stage.NilBase t t.facts.task_is (answer.Fault fault.NilBase))
 
   module _ (t : Ready stage.Page) (l : StepOf z a h (at x stage.Page m) pending) where
     page_quits : (b : Bool) → Quits (cond b (goes_on (at_stage x stage.Bits)) (ends (answer.Fault fault.Field)))
@@ -94,7 +94,7 @@ module _ (k : Known) (x : Store) (z : Cycle) (a : ℕ) (h : Heap) (s : Marking) 
         let n = found_there k z a h s (at x stage.Page m) pending t l in
         by_load k z a h s (at x stage.Page m) pending t l
         (quits_rests z.arena.shapes h.ever (op_of x) pending l.after.does.after (step m.poll.layout m.poll.local (register_of m x.g x.v) (at_stage x stage.Page) n) (fault_stays h.ever (h.ever.register x.g x.b) x.k (h.ever.register x.g x.v)) t.fine.task.unanswered l.after.does.answers (page_quits (has_field x.k n)))
-        _ refl (fills_none a s (holding m.poll.local.held) refl t.facts.task_is.0.hands) (page_facts (has_field x.k n))
+        _ refl (fills_none a s (holding_only m.poll.local.held) refl t.facts.task_is.0.hands) (page_facts (has_field x.k n))
 
   -- The kind of the field is found: a pointer is written behind the barrier.
   module _ (t : Ready stage.Bits) (l : StepOf z a h (at x stage.Bits m) pending) (on : m.poll.local.view.phase ≡ Mark) where
@@ -148,14 +148,14 @@ module _ (k : Known) (x : Store) (z : Cycle) (a : ℕ) (h : Heap) (s : Marking) 
         let p : Bool = is_pointer_by m.poll.layout (x.at + x.k) n in
         by_load k z a h s (at x stage.Bits m) pending t l
         (quits_rests z.arena.shapes h.ever (op_of x) pending l.after.does.after (step m.poll.layout m.poll.local held (at_stage x stage.Bits) n) (fault_stays h.ever (h.ever.register x.g x.b) x.k (h.ever.register x.g x.v)) f.unanswered l.after.does.answers (kinds p (kinds_differ p held)))
-        _ refl (fills_none a s (holding m.poll.local.held) refl t.facts.task_is.0.hands)
+        _ refl (fills_none a s (holding_only m.poll.local.held) refl t.facts.task_is.0.hands)
         (bits_facts p (kinds_differ p held) (sym (kind_there k z a h s t.shapes t.heap t.marking t.beside f.n f.through.made reach x.k t.fine.task.1 m.poll.layout x.at t.facts.layout_is f.through.here)) refl)
 
 -- The field is written.
 store_kind : (z : Cycle) (e : Ever) (v w : EverValue) (n : Name) (k : ℕ) → v ≡ ever.Ref n → k < size_for z.arena.shapes e.type_of n → fits (points z.arena.shapes e.type_of n k) w ≡ true → store_answer z.arena.shapes e v k w ≡ answer.Done
 store_kind z e v w n k is few f = rw (is, lt-ltb k (size_for z.arena.shapes e.type_of n) few, f) refl
 
-module _ (k : Known) (x : Store) (z : Cycle) (a : ℕ) (h : Heap) (s : Marking) (m : Processor) (pending : Option Answer) (q : StoreStage) (t : Together z a h s (at x q m) pending) (f : Stores z.arena a (view h) (at_stage x q) pending) (few : x.k < size_for z.arena.shapes h.ever.type_of f.n) (fit : fits (points z.arena.shapes h.ever.type_of f.n x.k) (h.ever.register x.g x.v) ≡ true) (known : Stands z.arena a (view h) m.poll) where
+module _ (k : Known) (x : Store) (z : Cycle) (a : ℕ) (h : Heap) (s : Marking) (m : Processor) (pending : Option Answer) (q : StoreStage) (t : Together z a h s (at x q m) pending) (f : Stores z.arena a (view h) (at_stage x q) pending) (few : x.k < size_for z.arena.shapes h.ever.type_of f.n) (fit : fits (points z.arena.shapes h.ever.type_of f.n x.k) (h.ever.register x.g x.v) ≡ true) (known : KnowsAtAnyTime z.arena a (view h) m.poll) where
   abbrev stored : EverValue
   stored = h.ever.register x.g x.v
 
@@ -204,11 +204,11 @@ field k x z a h s m pending t kn l =
     let stands = t.fine.knows.stands in
     by_deed k z a h s (at x stage.Field m) pending t l (Puts f.n x.k (h.ever.register x.g x.v) (word_of_value (register_of m x.g x.v))) tt (then_is k x z a h s m pending stage.Field t f few fit stands) (
       ap (λ (i : ℕ). ask.Store (cell.Field i) (word_of_value (register_of m x.g x.v))) (cell_there k x z a h s m pending stage.Field t f few fit stands),
-      fills_none a s (holding m.poll.local.held) refl t.facts.task_is.0.hands,
+      fills_none a s (holding_only m.poll.local.held) refl t.facts.task_is.0.hands,
       may k x z a h s m pending stage.Field t f few fit stands (word_of_value (register_of m x.g x.v)) refl,
       λ kind. absurd (number_field (h.ever.register x.g x.v) (register_of m x.g x.v) h (points z.arena.shapes h.ever.type_of f.n x.k) (means k x z a h s m pending stage.Field t f few fit stands) (t.facts.task_is.1 (kn refl)) fit kind),
     )
-    (λ u hands stacks. record { stacks = stacks; number = t.facts.task_is.0.number; hands = hands (holding m.poll.local.held) t.facts.task_is.0.hands })
+    (λ u hands stacks. record { stacks = stacks; number = t.facts.task_is.0.number; hands = hands (holding_only m.poll.local.held) t.facts.task_is.0.hands })
 
 -- A step of its write before the last.
 module _ (k : Known) (x : Store) (w : PointerWrite) (z : Cycle) (a : ℕ) (h : Heap) (s : Marking) (m : Processor) (pending : Option Answer) (t : Together z a h s (at x (stage.Writing w) m) pending) (l : StepOf z a h (at x (stage.Writing w) m) pending) where
@@ -240,7 +240,7 @@ module _ (k : Known) (x : Store) (w : PointerWrite) (z : Cycle) (a : ℕ) (h : H
 
   module _ (t : Together z a h s it pending) (l : StepOf z a h it pending) where
     abbrev word : ℕ
-    word = write.word_of w.pointer
+    word = write.pointer_word w.pointer
 
     abbrev fact : Stores z.arena a (view h) (at_stage x (stage.Writing wrote)) pending
     fact = t.fine.task.0
@@ -261,7 +261,7 @@ module _ (k : Known) (x : Store) (w : PointerWrite) (z : Cycle) (a : ℕ) (h : H
       may k x z a h s m pending (stage.Writing wrote) t fact t.fine.task.1 t.fine.task.2 t.fine.knows.stands word (word_written z.arena.layout (pointer_cell_at m.poll.layout (x.at + x.k)) (register_of m x.g x.v) wrote t.fine.task.3),
       λ kind. (old, barrier.new),
     )
-        (λ u hands stacks. record { stacks = stacks; number = t.facts.task_is.number; hands = hands (holding w.held) t.facts.task_is.writes.stage_is.2 })
+        (λ u hands stacks. record { stacks = stacks; number = t.facts.task_is.number; hands = hands (holding_only w.held) t.facts.task_is.writes.stage_is.2 })
 
 write_at : Known → (x : Store) (w : PointerWrite) (q : WriteStage) → StepAt (task.Store (at_stage x (stage.Writing (write.at_stage w q))))
 write_at k x w write_stage.Store z a h s m pending t kn l = puts k x w z a h s m pending t l

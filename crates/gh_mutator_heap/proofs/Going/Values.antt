@@ -13,9 +13,9 @@ use Rattle.gh_marks.specs.Colours.{IsPointer, Shared as Marking}
 use Rattle.gh_mutator.specs.Deeds.{acted}
 use Rattle.gh_mutator_heap.specs.Facts.{answered_at, ShapesAreGood}
 use Rattle.gh_mutator.specs.Listing.{acting}
-use Rattle.gh_mutator.specs.MarkFacts.{holding, IsBetween, KnowsNumber, KnowsStacks}
+use Rattle.gh_mutator.specs.MarkFacts.{holding_only, IsBetween, KnowsNumber, KnowsStacks}
 use Rattle.gh_mutator.specs.MarkVocabulary.{Cycle, Hands}
-use Rattle.gh_mutator.specs.Local.{with_value}
+use Rattle.gh_mutator.specs.Local.{with_value_if_any}
 use Rattle.gh_mutator.specs.Step.{answered}
 use Rattle.gh_mutator.specs.Vocabulary.{Answer, Name, Op, Polling, Shape, Value}
 use Rattle.gh_mutator_heap.specs.Vocabulary.{answer_of, Ever, ever_after, Fault, IsMade, points, Reach, size_for, view, Step}
@@ -44,7 +44,7 @@ quits_rests shapes e o pending after step stays none all (inr (f, acts, ends)) =
   is = answer_is (answer_of shapes e o) (answer.Fault f) after told
 
 -- What is known between two polls.
-pub between_then : (z : Cycle) (a : ℕ) (u : Marking) (p : Polling) (g d : ℕ) (o : Option Value) → KnowsStacks z a u (with_value p g d o).local.stacks (with_value p g d o).local.scanned → KnowsNumber z p.local.view → Hands a u (holding p.local.held) → IsBetween z a u (with_value p g d o).local
+pub between_then : (z : Cycle) (a : ℕ) (u : Marking) (p : Polling) (g d : ℕ) (o : Option Value) → KnowsStacks z a u (with_value_if_any p g d o).local.stacks (with_value_if_any p g d o).local.scanned → KnowsNumber z p.local.view → Hands a u (holding_only p.local.held) → IsBetween z a u (with_value_if_any p g d o).local
 between_then z a u p g d None stacks number hands = record { stacks = stacks; number = number; hands = hands }
 between_then z a u p g d (Some v) stacks number hands = record { stacks = stacks; number = number; hands = hands }
 

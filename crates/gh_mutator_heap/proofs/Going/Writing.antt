@@ -13,7 +13,7 @@ use Rattle.gh_base.specs.Steps.{effect}
 use Rattle.gh_barrier.specs.declared.pointer_cell.PointerCell.{PointerCell}
 use Rattle.gh_barrier.specs.declared.write_pointer.WriteStage.{WriteStage}
 use Rattle.gh_barrier.specs.declared.write_pointer.WriteStage.TheVariants.{LoadOld, ShadeOld, ShadeNew, Store, Ended}
-use Rattle.gh_barrier.specs.Facts.{Facts, IsCell, IsKnown, StageFacts}
+use Rattle.gh_barrier.specs.Facts.{Facts, IsCell, IsKnownPointer, StageFacts}
 use Rattle.gh_barrier.specs.Listing as write
 use Rattle.gh_barrier.specs.Listing.{Writing}
 use Rattle.gh_barrier.specs.Sound.{HasTwo}
@@ -82,17 +82,17 @@ module _ (k : Known) (z : Cycle) (a : ℕ) (h : Heap) (s : Marking) (shapes : Sh
         ∙ sym (k.rows.bit_of (view h).bitmap ((h.place n + i) / 64) (h.place n + i) refl) ∙ good.pointers n i made (good.reached n reach) few))
 
   -- what is written is nil, or an object of the cycle
-  pub known_pointer : (v : EverValue) (y : Value) → IsReached h.ever v → Means h.place h.ever.made v y → IsKnown s (pointer_of y)
+  pub known_pointer : (v : EverValue) (y : Value) → IsReached h.ever v → Means h.place h.ever.made v y → IsKnownPointer s (pointer_of y)
   known_pointer v value.Nil reached means = tt
   known_pointer v (value.Int i) reached means = tt
   known_pointer ever.Nil (value.Ref r) reached means = absurd means
   known_pointer (ever.Int i) (value.Ref r) reached means = absurd means
   known_pointer (ever.Ref n) (value.Ref r) reached means = let is = means.0 in by (eqb r 0) (omega (arith, is)) (omega (arith, is)) where
-    by : (b : Bool) → r - 1 ≡ h.place n → 0 < r → IsKnown s (cond b None (Some r))
+    by : (b : Bool) → r - 1 ≡ h.place n → 0 < r → IsKnownPointer s (cond b None (Some r))
     by true at some = tt
     by false at some = (some, ap s.since at ∙ beside.reached n reached)
 
-  pub write_begins : (p : Polling) (at : PointerCell) (y : Value) → p.layout ≡ z.arena.layout → IsCell s at → IsKnown s (pointer_of y) → HasTwo p.local.held → IsBetween z a s p.local → IsWriting z a s p.local (written p.layout p.local at y)
+  pub write_begins : (p : Polling) (at : PointerCell) (y : Value) → p.layout ≡ z.arena.layout → IsCell s at → IsKnownPointer s (pointer_of y) → HasTwo p.local.held → IsBetween z a s p.local → IsWriting z a s p.local (written p.layout p.local at y)
   write_begins p at y layout_is there known two b = record {
     stacks = b.stacks;
     number = b.number;

@@ -9,7 +9,7 @@ use Rattle.gh_base.specs.Cells.{InRange, put}
 use Rattle.gh_base.specs.Packing.{head_word}
 use Rattle.gh_class.specs.declared.class.SizeClass.TheVariants as size
 use Rattle.gh_heap.specs.Moves.{Disown, IsQuiet, Lands, LeaveLock, May, Others, Quiet, TakeLock, moved}
-use Rattle.gh_heap.specs.Spans.{FitsClass, number_of, owned_by}
+use Rattle.gh_heap.specs.Spans.{FitsClass, number_of_class, owned_by}
 use Rattle.gh_alloc.specs.Find.{given_head}
 use Rattle.gh_wbuf.specs.BufferGiving as buffer
 use Rattle.gh_wbuf.specs.declared.give_buffer.GiveStage.{GiveStage as BufferStage}
@@ -21,7 +21,7 @@ use Rattle.gh_mutator_heap.proofs.Holding.Known.{HoldsSwept, Kept, Known, by_mov
 use Rattle.gh_mutator_heap.proofs.Holding.Lists.{caches_from, listed_once, lists_it, none_listed}
 use Rattle.gh_alloc.specs.FindFacts.{IsCached}
 use Rattle.gh_mutator.specs.declared.give.GiveStage.TheVariants.{Lock, GiveSpan, Unlock, GiveBuffer, Ended}
-use Rattle.gh_mutator.specs.Give.{Giving, asks, asks_at, at_stage, begins, first_of, giving_buffer, goes, goes_at, head_store, is_busy, none_cached, opening, span_class, stage_from}
+use Rattle.gh_mutator.specs.Give.{Giving, asks, asks_at, at_stage, begins, first_cached, giving_buffer, goes, goes_at, head_store, is_busy, none_cached, opening, span_class, stage_from}
 use Rattle.gh_mutator_heap.specs.PollHeap.{CachesAll, CachesFrom, GiveFacts, GiveStageFacts, GivesSpan, Has, give_held, give_held_at, give_locked, give_locked_at, lists, no_page}
 use Rattle.gh_mutator_heap.proofs.Holding.Vocabulary.{Arena, CachedSpan, GiveStage, Good, Held, IsHeld, Layout, Shared, SizeClass, SpanClass, SpanHead, SPAN_CLASSES, Steps, View, cell_of, pages_of, view}
 
@@ -53,7 +53,7 @@ here_of (suc i) [] s rest e = absurd (cc)
 here_of (suc i) (k ∷ ks) s rest e = here_of i ks s rest e
 
 module _ (z : Arena) (a : ℕ) (v : View) (g : Giving) where
-  next : (class : ℕ) (spans : List (Option CachedSpan)) → drop class g.cache ≡ spans → class + length spans ≡ SPAN_CLASSES → CachesFrom a v g.cache class → Next z a v g class (first_of class spans)
+  next : (class : ℕ) (spans : List (Option CachedSpan)) → drop class g.cache ≡ spans → class + length spans ≡ SPAN_CLASSES → CachesFrom a v g.cache class → Next z a v g class (first_cached class spans)
   next class [] is long x = record { facts = tt; locked = refl; held = λ p. ap (λ (ks : List (Option CachedSpan)). lists ks p) is }
   next class (Some s ∷ spans) is long x = record { facts = record { among = omega (arith, long); here = here_of class g.cache s spans is; caches = x }; locked = refl; held = λ p. refl }
   next class (None ∷ spans) is long x =
@@ -96,7 +96,7 @@ head_is : (n : ℕ) (h : SpanHead) (c : SpanClass) → h.class ≡ size.Small c.
 head_is n h c class noscan pages number = rw (class, noscan, pages, number) refl
 
 small_pages : (h : SpanHead) (c : ℕ) → FitsClass h → h.class ≡ size.Small c → h.pages ≡ pages_of c
-small_pages h c fits class = fits.small (λ x. no_large c (sym class ∙ x)) ∙ ap (λ (y : SizeClass). pages_of (number_of y)) class where
+small_pages h c fits class = fits.small (λ x. no_large c (sym class ∙ x)) ∙ ap (λ (y : SizeClass). pages_of (number_of_class y)) class where
   no_large : (c : ℕ) → size.Small c ≡ size.Large → ⊥
   no_large c x = cc
 

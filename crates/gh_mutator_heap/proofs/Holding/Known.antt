@@ -15,12 +15,12 @@ use Rattle.gh_model.specs.declared.EverValue.TheVariants as ever
 use Rattle.gh_heap.specs.Laws.{EachMoveKeepsItsOwn, EachRightFollows, KeepsItsOwn}
 use Rattle.gh_heap.specs.Moves.{IsQuiet, KeepsObjects, KeepsTaken, May, Move, Others, Quiet, Steps, moved}
 use Rattle.gh_heap.specs.Objects.{Place}
-use Rattle.gh_heap.specs.Spans.{is_own_class, number_of, owner_at, owner_in}
+use Rattle.gh_heap.specs.Spans.{is_own_class, number_of_class, owner_at, owner_in}
 use Rattle.gh_cache.specs.Listing.{slot_at}
 use Rattle.gh_alloc.specs.Find.{span_at}
 use Rattle.gh_alloc.specs.FindFacts.{IsCached}
-use Rattle.gh_mutator.specs.Local.{register_at, register_in}
-use Rattle.gh_mutator_heap.specs.PollHeap.{CachesAll, CachesFrom, Has, KeepsGhosts, KnowsSpans, Stands, lists}
+use Rattle.gh_mutator.specs.Local.{register_at, register_in_stacks}
+use Rattle.gh_mutator_heap.specs.PollHeap.{CachesAll, CachesFrom, Has, KeepsGhosts, KnowsSpans, KnowsAtAnyTime, lists}
 use Rattle.gh_mutator.specs.Vocabulary.{CachedSpan, MOST_GOROUTINES, Polling, SizeClass, slots_of, SpanClass, span_index}
 use Rattle.gh_mutator_heap.specs.Vocabulary.{Arena, Good, Means, page_of, Shared, slot_of, SPAN_CLASSES, SpanHead, View, view}
 use Rattle.gh_mutator_heap.proofs.Holding.Lists.{lists_it}
@@ -39,10 +39,10 @@ pub record Kept (a : ℕ) (v w : View) : Type 0 where
 values_kept : (v w : View) → KeepsObjects v w → (g d : ℕ) (y : Value) → Means v.place v.ever.made (v.ever.register g d) y → Means w.place w.ever.made (w.ever.register g d) y
 values_kept v w k g d y h = subst (λ (p : Place). Means p w.ever.made (w.ever.register g d) y) (sym k.1) (subst (λ (e : Ever). Means v.place e.made (e.register g d) y) (sym k.0) h)
 
-pub stands_kept : (z : Arena) (a : ℕ) (v w : View) (p : Polling) → KeepsObjects v w → Stands z a v p → Stands z a w p
+pub stands_kept : (z : Arena) (a : ℕ) (v w : View) (p : Polling) → KeepsObjects v w → KnowsAtAnyTime z a v p → KnowsAtAnyTime z a w p
 stands_kept z a v w p k s = record { sits = s.sits; registers = λ g d of lt. values_kept v w k g d (register_at p g d) (s.registers g d of lt) }
 
-pub stands_stopped : (z : Arena) (a : ℕ) (v w : View) (p : Polling) → KeepsGhosts a v w → Stands z a v p → Stands z a w p
+pub stands_stopped : (z : Arena) (a : ℕ) (v w : View) (p : Polling) → KeepsGhosts a v w → KnowsAtAnyTime z a v p → KnowsAtAnyTime z a w p
 stands_stopped z a v w p k s = stands_kept z a v w p (k.ever, k.place) s
 
 -- The spans that are held are swept.
@@ -57,10 +57,10 @@ holds_swept z a v good p h held head = (good.numbers p h head).owned (λ none. l
 taken_kept : (a : ℕ) (v w : View) → HoldsSwept a v → KeepsTaken v.generation v.page v.alloc w.alloc → (c : SpanClass) (k : CachedSpan) → IsCached a v c k → (j : ℕ) → j < k.cursor → row_bit w.alloc (slot_at (span_at c.class k) j) ≡ 1
 taken_kept a v w swept keeps c k x j lt = subst (λ (n : ℕ). row_bit w.alloc n ≡ 1) (slot x.span.h.class x.span.class)
     (keeps k.head j x.span.h x.span.head (swept k.head x.span.h x.span.held x.span.head) (count x.span.h.class x.span.class (let few = x.few in omega (arith, lt, few))) (subst (λ (n : ℕ). row_bit v.alloc n ≡ 1) (sym (slot x.span.h.class x.span.class)) (x.taken j lt))) where
-      slot : (f : SizeClass) → f ≡ size.Small c.class → 1024 * k.head + j * cond (is_own_class f) (1024 * x.span.h.pages) (slot_of (number_of f) / 8) ≡ slot_at (span_at c.class k) j
+      slot : (f : SizeClass) → f ≡ size.Small c.class → 1024 * k.head + j * cond (is_own_class f) (1024 * x.span.h.pages) (slot_of (number_of_class f) / 8) ≡ slot_at (span_at c.class k) j
       slot f e = rw (e) refl
 
-      count : (f : SizeClass) → f ≡ size.Small c.class → j < slots_of c.class → j < cond (is_own_class f) 1 (slots_of (number_of f))
+      count : (f : SizeClass) → f ≡ size.Small c.class → j < slots_of c.class → j < cond (is_own_class f) 1 (slots_of (number_of_class f))
       count f e few = rw (e) few
 
 module _ (z : Arena) (a : ℕ) (v w : View) (o : Others z a v w) where
@@ -75,7 +75,7 @@ module _ (z : Arena) (a : ℕ) (v w : View) (o : Others z a v w) where
   means_last (ever.Ref n) value.Nil h = absurd h
   means_last (ever.Ref n) (value.Int k) h = absurd h
 
-  pub stands_last : (p : Polling) → Stands z a v p → Stands z a w p
+  pub stands_last : (p : Polling) → KnowsAtAnyTime z a v p → KnowsAtAnyTime z a w p
   stands_last p s = record { sits = s.sits; registers = λ g d of lt. subst (λ (x : EverValue). Means w.place w.ever.made x (register_at p g d)) (sym (o.registers g d of)) (means_last (v.ever.register g d) (register_at p g d) (s.registers g d of lt)) }
 
   cached_last : HoldsSwept a v → (c : SpanClass) (k : CachedSpan) → IsCached a v c k → IsCached a w c k
@@ -131,7 +131,7 @@ module _ (known : Known) (z : Arena) (a : ℕ) (s : Shared) (good : Good z (view
   by_quiet step l h Then quiet right f = by_move step (Quiet step) Then quiet refl (refl, refl) (λ kept. f (moved z a s (Quiet step)) kept ((known.follow z a s l h None right).quiet step))
 
 -- What is known of one poll is known of another that has the same of it.
-pub stands_to : (z : Arena) (a : ℕ) (v : View) (p q : Polling) → q.layout ≡ p.layout → q.seat ≡ p.seat → q.local.stacks ≡ p.local.stacks → length q.local.scanned ≡ MOST_GOROUTINES → length q.local.cache ≡ SPAN_CLASSES → IsHeld z.layout q.local.held → Stands z a v p → Stands z a v q
+pub stands_to : (z : Arena) (a : ℕ) (v : View) (p q : Polling) → q.layout ≡ p.layout → q.seat ≡ p.seat → q.local.stacks ≡ p.local.stacks → length q.local.scanned ≡ MOST_GOROUTINES → length q.local.cache ≡ SPAN_CLASSES → IsHeld z.layout q.local.held → KnowsAtAnyTime z a v p → KnowsAtAnyTime z a v q
 stands_to z a v p q layout seat stacks scanned cache held s = record {
   sits = record {
     layout = layout ∙ s.sits.layout;
@@ -143,7 +143,7 @@ stands_to z a v p q layout seat stacks scanned cache held s = record {
     cache = cache;
     held = held;
   };
-  registers = λ g d of lt. subst (λ (xs : List (List Value)). Means v.place v.ever.made (v.ever.register g d) (register_in xs g d)) (sym stacks) (s.registers g d of lt);
+  registers = λ g d of lt. subst (λ (xs : List (List Value)). Means v.place v.ever.made (v.ever.register g d) (register_in_stacks xs g d)) (sym stacks) (s.registers g d of lt);
 }
 
 pub knows_to : (a : ℕ) (v : View) (p q : Polling) → q.local.view.generation ≡ p.local.view.generation → q.local.cache ≡ p.local.cache → KnowsSpans a v p → KnowsSpans a v q

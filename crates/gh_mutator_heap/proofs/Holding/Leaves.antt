@@ -13,8 +13,8 @@ use Rattle.gh_mutator.specs.Give as give
 use Rattle.gh_mutator.specs.Handshake.{leaves_at}
 use Rattle.gh_mutator.specs.Leave.{asks_at, goes_at, is_busy, stage_of}
 use Rattle.gh_mutator.specs.Local.{leaving, with_nothing}
-use Rattle.gh_mutator_heap.specs.PollHeap.{Has, LeaveStageFacts, Stands, leave_held_at, leave_locked_at, no_page}
-use Rattle.gh_mutator_heap.specs.PollHeapLaws.{IsAtRest, Leaves, LeavesByRights}
+use Rattle.gh_mutator_heap.specs.PollHeap.{Has, LeaveStageFacts, KnowsAtAnyTime, leave_held_at, leave_locked_at, no_page}
+use Rattle.gh_mutator_heap.specs.PollHeapLaws.{IsBetweenOperations, LeavesByRights, TakesLeave}
 use Rattle.gh_mutator_heap.proofs.Holding.Gives.{Gives, gives_begin, gives_last, gives_on, gives_within, nothing_held, nothing_left}
 use Rattle.gh_mutator_heap.proofs.Holding.Known.{HoldsSwept, Kept, Known, by_quiet, holds_swept, stands_kept, stands_last, stands_stopped, stands_to}
 use Rattle.gh_mutator_heap.proofs.Holding.Vocabulary.{Arena, Good, Leaving, Polling, Shared, Steps, View, cell_of, view}
@@ -32,29 +32,29 @@ given_then z a v g x = by (give.is_busy g.stage) refl where
       let left = nothing_left z a v g e x in
       record { has = nothing_held a v g.cache left.1 left.0; facts = tt }
 
-begin : (z : Arena) (a : ℕ) (v : View) (p : Polling) → IsAtRest z a v p → Leaves z a v (with_nothing p) (leaving p)
+begin : (z : Arena) (a : ℕ) (v : View) (p : Polling) → IsBetweenOperations z a v p → TakesLeave z a v (with_nothing p) (leaving p)
 begin z a v p r =
     let s = r.1.stands in
     let g = gives_begin z a v p.layout p.seat p.local.view.generation p.local.cache p.local.held s.sits.layout s.sits.seat r.1.knows.generation s.sits.cache s.sits.held r.1.knows.caches r.0 in
     let x = given_then z a v (give.opening p.layout p.seat p.local.view.generation p.local.cache p.local.held) g in
     (x.has, record { stands = stands_to z a v p (with_nothing p) refl refl refl s.sits.scanned refl tt s; seat_is = s.sits.seat; stage_is = x.facts })
 
-module _ (k : Known) (z : Arena) (a : ℕ) (s : Shared) (good : Good z (view s)) (p : Polling) (stands : Stands z a (view s) p) (w : Leaving) (seat_is : w.seat ≡ a) where
+module _ (k : Known) (z : Arena) (a : ℕ) (s : Shared) (good : Good z (view s)) (p : Polling) (stands : KnowsAtAnyTime z a (view s) p) (w : Leaving) (seat_is : w.seat ≡ a) where
   abbrev Leads : LeaveStage → Type 0
-  Leads q = Steps z a s (asks_at w q) (λ t. KeepsObjects (view s) (view t) × Leaves z a (view t) p (goes_at w q (s.words (cell_of (asks_at w q)))))
+  Leads q = Steps z a s (asks_at w q) (λ t. KeepsObjects (view s) (view t) × TakesLeave z a (view t) p (goes_at w q (s.words (cell_of (asks_at w q)))))
 
-  then : (t : Shared) → KeepsObjects (view s) (view t) → (q : LeaveStage) → LeavesAt z a (view t) q → Leaves z a (view t) p (record w { stage = q })
+  then : (t : Shared) → KeepsObjects (view s) (view t) → (q : LeaveStage) → LeavesAt z a (view t) q → TakesLeave z a (view t) p (record w { stage = q })
   then t kept q x = (x.has, record { stands = stands_kept z a (view s) (view t) p kept stands; seat_is = seat_is; stage_is = x.facts })
 
   leaves_on_at : (q : LeaveStage) → Has a (view s) (leave_locked_at q) (leave_held_at q) → LeaveStageFacts z a (view s) q → Leads q
   leaves_on_at (leave_stage.Giving g) has x =
       let n : ℕ = s.words (cell_of (give.asks g)) in
-      landing z a s (effect s.words (give.asks g)) (λ t. Kept a (view s) (view t) × Gives z a (view t) (give.goes g n)) (λ t. KeepsObjects (view s) (view t) × Leaves z a (view t) p (record w { stage = stage_of (give.goes g n) }))
+      landing z a s (effect s.words (give.asks g)) (λ t. Kept a (view s) (view t) × Gives z a (view t) (give.goes g n)) (λ t. KeepsObjects (view s) (view t) × TakesLeave z a (view t) p (record w { stage = stage_of (give.goes g n) }))
       (λ t h. (h.0.objects, then t h.0.objects (stage_of (give.goes g n)) (given_then z a (view t) (give.goes g n) h.1)))
       (gives_on k z a s good g (record { has = has; facts = x }))
-  leaves_on_at leave_stage.Leave has x = by_quiet k z a s good (Store (cell.Ack w.seat) GONE) false no_page (λ t. KeepsObjects (view s) (view t) × Leaves z a (view t) p (record w { stage = leave_stage.Left })) tt has
+  leaves_on_at leave_stage.Leave has x = by_quiet k z a s good (Store (cell.Ack w.seat) GONE) false no_page (λ t. KeepsObjects (view s) (view t) × TakesLeave z a (view t) p (record w { stage = leave_stage.Left })) tt has
       (λ t kept r. (kept.objects, then t kept.objects leave_stage.Left (record { has = r; facts = tt })))
-  leaves_on_at leave_stage.Left has x = by_quiet k z a s good (Load cell.Touch) false no_page (λ t. KeepsObjects (view s) (view t) × Leaves z a (view t) p (record w { stage = leave_stage.Left })) tt has
+  leaves_on_at leave_stage.Left has x = by_quiet k z a s good (Load cell.Touch) false no_page (λ t. KeepsObjects (view s) (view t) × TakesLeave z a (view t) p (record w { stage = leave_stage.Left })) tt has
       (λ t kept r. (kept.objects, then t kept.objects leave_stage.Left (record { has = r; facts = tt })))
 
 stage_lasts : (z : Arena) (a : ℕ) (v w : View) (q : LeaveStage) → HoldsSwept a v → Others z a v w → LeaveStageFacts z a v q → LeaveStageFacts z a w q

@@ -22,35 +22,35 @@ use Rattle.gh_mutator_heap.proofs.Holding.Known.{HoldsSwept, Kept, Known, by_qui
 use Rattle.gh_mutator_heap.proofs.Holding.Lists.{none_cached_all}
 use Rattle.gh_mutator_heap.proofs.Holding.Ranges.{room_begins, room_gives, room_goes, room_quiet, room_within}
 use Rattle.gh_mutator_heap.proofs.Holding.Scans.{scan_begins, scan_goes, scan_quiet, scan_within}
-use Rattle.gh_mutator_heap.proofs.Holding.Vocabulary.{Arena, CachesAll, FindsWithin, Good, Has, HasLoaded, Held, InRange, IsAtRest, IsHeld, IsParked, KeepsGhosts, KeepsObjects, KnowsSpans, Layout, Others, PhaseView, PollFacts, PollStage, PollStageFacts, Polling, Polls, PollsByRights, ResumeFacts, ResumeStage, Resumed, RunPhase, ScansWithin, Shared, Stands, Steps, View, cell_of, effect, landing, lists, no_page, phase_of, poll_held_at, poll_locked_at, run_phase, seats_of, view}
+use Rattle.gh_mutator_heap.proofs.Holding.Vocabulary.{Arena, CachesAll, FindsWithin, Good, Has, HasLoaded, Held, InRange, IsBetweenOperations, IsHeld, IsParked, KeepsGhosts, KeepsObjects, KnowsSpans, Layout, Others, PhaseView, PollFacts, PollStage, PollStageFacts, Polling, Polls, PollsByRights, ResumeFacts, ResumeStage, Resumed, RunPhase, ScansWithin, Shared, KnowsAtAnyTime, Steps, View, cell_of, effect, landing, lists, no_page, phase_of, poll_held_at, poll_locked_at, run_phase, seats_of, view}
 
 module _ (z : Arena) (a : ℕ) (v : View) where
   -- another stage
-  stands_at : (p : Polling) (q : PollStage) → Stands z a v p → Stands z a v (at_stage p q)
+  stands_at : (p : Polling) (q : PollStage) → KnowsAtAnyTime z a v p → KnowsAtAnyTime z a v (at_stage p q)
   stands_at p q s = stands_to z a v p (at_stage p q) refl refl refl s.sits.scanned s.sits.cache s.sits.held s
 
   knows_at : (p : Polling) (q : PollStage) → KnowsSpans a v p → KnowsSpans a v (at_stage p q)
   knows_at p q x = knows_to a v p (at_stage p q) refl refl x
 
-  seat_below : (p : Polling) → Stands z a v p → p.seat < seats_of p.layout
+  seat_below : (p : Polling) → KnowsAtAnyTime z a v p → p.seat < seats_of p.layout
   seat_below p s = subst (λ (l : Layout). p.seat < seats_of l) (sym s.sits.layout) (subst (λ (b : ℕ). b < seats_of z.layout) (sym s.sits.seat) (let few = s.sits.few in omega arith))
 
-  own_held : (p : Polling) → Stands z a v p → IsHeld p.layout p.local.held
+  own_held : (p : Polling) → KnowsAtAnyTime z a v p → IsHeld p.layout p.local.held
   own_held p s = subst (λ (l : Layout). IsHeld l p.local.held) (sym s.sits.layout) s.sits.held
 
   -- where the world runs
-  ends_now : (p : Polling) → IsAtRest z a v p → Polls z a v (at_stage p Ended)
+  ends_now : (p : Polling) → IsBetweenOperations z a v p → Polls z a v (at_stage p Ended)
   ends_now p r = (r.0, record { stands = stands_at p Ended r.1.stands; stage_is = knows_at p Ended r.1.knows })
 
-  finds_now : (p : Polling) (r : room.RoomFinding) → IsAtRest z a v p → FindsWithin z.layout r → Polls z a v (at_stage p (FindRoom r))
+  finds_now : (p : Polling) (r : room.RoomFinding) → IsBetweenOperations z a v p → FindsWithin z.layout r → Polls z a v (at_stage p (FindRoom r))
   finds_now p r rest f = (rest.0, record { stands = stands_at p (FindRoom r) rest.1.stands; stage_is = (knows_at p (FindRoom r) rest.1.knows, f) })
 
-  two_or : (p : Polling) (two : Bool) → IsAtRest z a v p → Polls z a v (at_stage p (cond two Ended (FindRoom (room.opening p.layout p.seat p.local.held))))
+  two_or : (p : Polling) (two : Bool) → IsBetweenOperations z a v p → Polls z a v (at_stage p (cond two Ended (FindRoom (room.opening p.layout p.seat p.local.held))))
   two_or p true r = ends_now p r
   two_or p false r = finds_now p (room.opening p.layout p.seat p.local.held) r
       (subst (λ (l : Layout). FindsWithin l (room.opening p.layout p.seat p.local.held)) r.1.stands.sits.layout (room_begins p.layout p.seat p.local.held (seat_below p r.1.stands) (own_held p r.1.stands)))
 
-  room_polls : (p : Polling) (waits : Bool) → IsAtRest z a v p → Polls z a v (at_stage p (room_stage p.layout p.seat waits p.local.held))
+  room_polls : (p : Polling) (waits : Bool) → IsBetweenOperations z a v p → Polls z a v (at_stage p (room_stage p.layout p.seat waits p.local.held))
   room_polls p true r = ends_now p r
   room_polls p false r = two_or p (has_two p.local.held) r
 
@@ -58,10 +58,10 @@ module _ (z : Arena) (a : ℕ) (v : View) where
   abbrev more_polls : Polling → Polling
   more_polls p = record p { local = record (p.local) { polls = (p.local.polls + 1) % 2 ^ 64 } }
 
-  counted_polls : (p : Polling) → IsAtRest z a v p → Polls z a v (counted p)
+  counted_polls : (p : Polling) → IsBetweenOperations z a v p → Polls z a v (counted p)
   counted_polls p r = room_polls (more_polls p) p.waits (r.0, record { stands = stands_to z a v p (more_polls p) refl refl refl r.1.stands.sits.scanned r.1.stands.sits.cache r.1.stands.sits.held r.1.stands; knows = knows_to a v p (more_polls p) refl refl r.1.knows })
 
-  scan_polls : (p : Polling) → IsAtRest z a v p → p.local.view.phase ≡ run.Mark → (out : Option ℕ) → due p ≡ out → Polls z a v (scans p out)
+  scan_polls : (p : Polling) → IsBetweenOperations z a v p → p.local.view.phase ≡ run.Mark → (out : Option ℕ) → due p ≡ out → Polls z a v (scans p out)
   scan_polls p r on None e = counted_polls p r
   scan_polls p r on (Some g) e =
       let m : mark.StackMarking = mark.opening p.layout p.seat g p.local.view.begun (slice_index_or p.local.stacks g []) p.local.held in
@@ -69,7 +69,7 @@ module _ (z : Arena) (a : ℕ) (v : View) where
       let within : ScansWithin p.layout m = scan_begins p.layout p.seat g p.local.view.begun (slice_index_or p.local.stacks g []) p.local.held (seat_below p r.1.stands) there (own_held p r.1.stands) in
       (r.0, record { stands = stands_at p (Marking g m) r.1.stands; stage_is = (knows_at p (Marking g m) r.1.knows, subst (λ (l : Layout). ScansWithin l m) r.1.stands.sits.layout within) })
 
-  marks_polls : (p : Polling) → IsAtRest z a v p → (phase : RunPhase) → p.local.view.phase ≡ phase → Polls z a v (marks_then p phase)
+  marks_polls : (p : Polling) → IsBetweenOperations z a v p → (phase : RunPhase) → p.local.view.phase ≡ phase → Polls z a v (marks_then p phase)
   marks_polls p r run.Off e = ends_now p r
   marks_polls p r run.Mark e = scan_polls p r e (due p) refl
   marks_polls p r run.Finished e = ends_now p r
@@ -78,7 +78,7 @@ module _ (z : Arena) (a : ℕ) (v : View) where
   abbrev resting : Polling → give.Giving → (stops : ℕ) → Polling
   resting p g stops = record p { local = record (p.local) { cache = g.cache; held = g.held }; stage = Resuming (resume.opening p.layout p.seat stops p.local.view) }
 
-  stops_polls : (p : Polling) (g : give.Giving) (stops : ℕ) → Stands z a v p → Gives z a v g → Polls z a v (stops_then p g stops)
+  stops_polls : (p : Polling) (g : give.Giving) (stops : ℕ) → KnowsAtAnyTime z a v p → Gives z a v g → Polls z a v (stops_then p g stops)
   stops_polls p g stops s x = by (give.is_busy g.stage) refl where
     by : (busy : Bool) → give.is_busy g.stage ≡ busy → Polls z a v (cond busy (at_stage p (Giving g stops)) (resting p g stops))
     by true e = (x.has, record { stands = stands_at p (Giving g stops) s; stage_is = x.facts })
@@ -91,16 +91,16 @@ module _ (z : Arena) (a : ℕ) (v : View) where
           },
         )
 
-  phase_polls : (p : Polling) (stops : ℕ) → IsAtRest z a v p → (phase : Option RunPhase) → Polls z a v (by_phase p stops phase)
+  phase_polls : (p : Polling) (stops : ℕ) → IsBetweenOperations z a v p → (phase : Option RunPhase) → Polls z a v (by_phase p stops phase)
   phase_polls p stops r None = stops_polls p (giving p) stops r.1.stands
       (gives_begin z a v p.layout p.seat p.local.view.generation p.local.cache p.local.held r.1.stands.sits.layout r.1.stands.sits.seat r.1.knows.generation r.1.stands.sits.cache r.1.stands.sits.held r.1.knows.caches r.0)
   phase_polls p stops r (Some phase) = marks_polls p r p.local.view.phase refl
 
   -- after a stop
-  resumes_on : (p : Polling) (r : resume.Resuming) → Has a v false (lists p.local.cache) → Stands z a v p → ResumeFacts a v p r → Polls z a v (at_stage p (Resuming r))
+  resumes_on : (p : Polling) (r : resume.Resuming) → Has a v false (lists p.local.cache) → KnowsAtAnyTime z a v p → ResumeFacts a v p r → Polls z a v (at_stage p (Resuming r))
   resumes_on p r has s f = (has, record { stands = stands_at p (Resuming r) s; stage_is = record { seat_is = f.seat_is; no_span = f.no_span; no_buffer = f.no_buffer; loaded = f.loaded } })
 
-  resumed_polls : (p : Polling) (out : Resumed) → Has a v false (lists p.local.cache) → Stands z a v p → p.local.cache ≡ none_cached → out.view.generation ≡ v.generation → Polls z a v (marks_then (resumed p out) out.view.phase)
+  resumed_polls : (p : Polling) (out : Resumed) → Has a v false (lists p.local.cache) → KnowsAtAnyTime z a v p → p.local.cache ≡ none_cached → out.view.generation ≡ v.generation → Polls z a v (marks_then (resumed p out) out.view.phase)
   resumed_polls p out has s none known = marks_polls (resumed p out) (
     has,
     record {
@@ -117,7 +117,7 @@ module _ (z : Arena) (a : ℕ) (v : View) where
   phase_resumed p r number (Some phase) f = record { seat_is = f.seat_is; no_span = f.no_span; no_buffer = f.no_buffer; loaded = tt }
 
   -- the scan of a stack, and the search for room
-  marked_polls : (p : Polling) (g : ℕ) (m : mark.StackMarking) (out : Option (Unit {0})) → IsAtRest z a v p → ScansWithin z.layout m → Polls z a v (after_mark p g m out)
+  marked_polls : (p : Polling) (g : ℕ) (m : mark.StackMarking) (out : Option (Unit {0})) → IsBetweenOperations z a v p → ScansWithin z.layout m → Polls z a v (after_mark p g m out)
   marked_polls p g m None r f = (r.0, record { stands = stands_at p (Marking g m) r.1.stands; stage_is = (knows_at p (Marking g m) r.1.knows, f) })
   marked_polls p g m (Some x) r f = counted_polls (scanned p g m.held) (
     r.0,
@@ -127,7 +127,7 @@ module _ (z : Arena) (a : ℕ) (v : View) where
     },
   )
 
-  found_polls : (p : Polling) (r : room.RoomFinding) (found : ℕ) (out : Option Held) → room.gives r found ≡ out → IsAtRest z a v p → FindsWithin z.layout r → Polls z a v (after_room p (room.goes r found) out)
+  found_polls : (p : Polling) (r : room.RoomFinding) (found : ℕ) (out : Option Held) → room.gives r found ≡ out → IsBetweenOperations z a v p → FindsWithin z.layout r → Polls z a v (after_room p (room.goes r found) out)
   found_polls p r found None e rest f = finds_now p (room.goes r found) rest (room_goes z.layout r found f)
   found_polls p r found (Some h) e rest f =
       let to : Polling = record p { local = record (p.local) { held = Some h }; stage = Ended } in (
@@ -146,14 +146,14 @@ loaded_on v w known resume_stage.LoadGeneration o x = x
 loaded_on v w known resume_stage.LoadBegun o x = x ∙ sym o
 loaded_on v w known (resume_stage.Ended another) o x = x ∙ sym o
 
-module _ (k : Known) (z : Arena) (a : ℕ) (s : Shared) (good : Good z (view s)) (p : Polling) (stands : Stands z a (view s) p) where
+module _ (k : Known) (z : Arena) (a : ℕ) (s : Shared) (good : Good z (view s)) (p : Polling) (stands : KnowsAtAnyTime z a (view s) p) where
   abbrev Leads : PollStage → Type 0
   Leads q = Steps z a s (asks_at q) (λ t. KeepsObjects (view s) (view t) × Polls z a (view t) (goes_at p q (s.words (cell_of (asks_at q)))))
 
-  stands_then : (t : Shared) → Kept a (view s) (view t) → Stands z a (view t) p
+  stands_then : (t : Shared) → Kept a (view s) (view t) → KnowsAtAnyTime z a (view t) p
   stands_then t kept = stands_kept z a (view s) (view t) p kept.objects stands
 
-  rests_then : (t : Shared) → Kept a (view s) (view t) → Has a (view t) false (lists p.local.cache) → KnowsSpans a (view s) p → IsAtRest z a (view t) p
+  rests_then : (t : Shared) → Kept a (view s) (view t) → Has a (view t) false (lists p.local.cache) → KnowsSpans a (view s) p → IsBetweenOperations z a (view t) p
   rests_then t kept has x = (has, record { stands = stands_then t kept; knows = knows_kept a (view s) (view t) (holds_swept z a (view s) good) kept.own p false has x })
 
   loads_phase : Has a (view s) false (lists p.local.cache) → KnowsSpans a (view s) p → Leads LoadPhase
@@ -194,7 +194,7 @@ module _ (k : Known) (z : Arena) (a : ℕ) (s : Shared) (good : Good z (view s))
         by_quiet k z a s good (Load cell.Gen) false (lists p.local.cache) (λ t. KeepsObjects (view s) (view t) × Polls z a (view t) (at_stage p (Resuming to))) tt has
         (λ t kept h. (kept.objects, goes_on t to refl (whole ∙ sym kept.own.generation) kept h))
     resumes_at resume_stage.LoadBegun x =
-        let out : Resumed = resume.resumed r.view (s.words cell.Begun) in
+        let out : Resumed = resume.resumed_with r.view (s.words cell.Begun) in
         by_quiet k z a s good (Load cell.Begun) false (lists p.local.cache) (λ t. KeepsObjects (view s) (view t) × Polls z a (view t) (marks_then (resumed p out) out.view.phase)) tt has
         (λ t kept h. (kept.objects, resumed_polls z a (view t) p out h (stands_then t kept) f.no_span (x ∙ sym kept.own.generation)))
     resumes_at (resume_stage.Ended another) x =
@@ -293,10 +293,10 @@ ended_at z a v p (Resuming r) e has x = absurd (cc)
 ended_at z a v p (Marking g m) e has x = absurd (cc)
 ended_at z a v p (FindRoom r) e has x = absurd (cc)
 
-pub polls_end : (z : Arena) (a : ℕ) (v : View) (p : Polling) → is_busy p.stage ≡ false → Polls z a v p → IsAtRest z a v p
+pub polls_end : (z : Arena) (a : ℕ) (v : View) (p : Polling) → is_busy p.stage ≡ false → Polls z a v p → IsBetweenOperations z a v p
 polls_end z a v p e f = let x = ended_at z a v p p.stage e f.0 f.1.stage_is in (x.0, record { stands = f.1.stands; knows = x.1 })
 
-pub polls_begin : (z : Arena) (a : ℕ) (v : View) (p : Polling) (waits : Bool) → IsAtRest z a v p → Polls z a v (begins p waits)
+pub polls_begin : (z : Arena) (a : ℕ) (v : View) (p : Polling) (waits : Bool) → IsBetweenOperations z a v p → Polls z a v (begins p waits)
 polls_begin z a v p waits r = (r.0, record { stands = stands_to z a v p (begins p waits) refl refl refl r.1.stands.sits.scanned r.1.stands.sits.cache r.1.stands.sits.held r.1.stands; stage_is = knows_to a v p (begins p waits) refl refl r.1.knows })
 
 pub polls_by_rights : Known → PollsByRights

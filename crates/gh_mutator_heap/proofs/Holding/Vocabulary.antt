@@ -9,10 +9,10 @@ pub use Rattle.gh_base.specs.declared.held.Held.{Held}
 pub use Rattle.gh_base.specs.declared.pack.TheConstants.{ENTRIES, GONE}
 pub use Rattle.gh_base.specs.declared.value.Value.{Value}
 pub use Rattle.gh_heap.specs.Moves.{Disown, IsQuiet, KeepsObjects, Lands, LeaveLock, May, Others, Quiet, TakeLock, landing, moved}
-pub use Rattle.gh_heap.specs.Spans.{FitsClass, number_of, owned_by}
-pub use Rattle.gh_mutator_heap.specs.PollHeap.{CachesAll, CachesFrom, GiveFacts, GiveStageFacts, GivesSpan, Has, HasLoaded, KeepsGhosts, KnowsSpans, LeaveStageFacts, PollFacts, PollStageFacts, ResumeFacts, Stands, give_held, give_held_at, give_locked, give_locked_at, leave_held_at, leave_locked_at, lists, no_page, poll_held_at, poll_locked_at}
-pub use Rattle.gh_mutator_heap.specs.PollHeapLaws.{IsAtRest, Leaves, LeavesByRights, Polls, PollsByRights}
-pub use Rattle.gh_mutator_heap.specs.PollWithin.{FindsWithin, ScanStageWithin, ScansWithin, ShadesWithin, TriesWithin}
+pub use Rattle.gh_heap.specs.Spans.{FitsClass, number_of_class, owned_by}
+pub use Rattle.gh_mutator_heap.specs.PollHeap.{CachesAll, CachesFrom, GiveFacts, GiveStageFacts, GivesSpan, Has, HasLoaded, KeepsGhosts, KnowsSpans, LeaveStageFacts, PollFacts, PollStageFacts, ResumeFacts, KnowsAtAnyTime, give_held, give_held_at, give_locked, give_locked_at, leave_held_at, leave_locked_at, lists, no_page, poll_held_at, poll_locked_at}
+pub use Rattle.gh_mutator_heap.specs.PollHeapLaws.{IsBetweenOperations, LeavesByRights, Polls, PollsByRights, TakesLeave}
+pub use Rattle.gh_mutator_heap.specs.PollWithin.{FindsWithin, MarkStackStageWithin, ScansWithin, StackShadesWithin, TriesWithin}
 pub use Rattle.gh_mutator.specs.Vocabulary.{CachedSpan, Layout, Leaving, Polling, SizeClass, SpanClass, Waiting, cell_of}
 pub use Rattle.gh_mutator_heap.specs.Vocabulary.{Arena, Good, SPAN_CLASSES, Shared, SpanHead, Steps, View, pages_of, view}
 pub use Rattle.gh_mutator.specs.declared.give.GiveStage.{GiveStage}

@@ -11,7 +11,7 @@ use Rattle.gh_mutator_heap.specs.PollHeap.{Rests, WaitStageFacts, waits_held_at,
 use Rattle.gh_mutator_heap.specs.PollHeapLaws.{Polls, PollsByRights, Waits, WaitsByRights}
 use Rattle.gh_mutator.specs.Wait.{after_poll, asks_at, at_stage, goes_at, is_busy, polling}
 use Rattle.gh_mutator_heap.proofs.Holding.Known.{Kept, Known, by_quiet, holds_swept, knows_kept, knows_last, stands_kept, stands_last}
-use Rattle.gh_mutator_heap.proofs.Holding.Vocabulary.{Arena, Good, Has, InRange, IsAtRest, IsParked, KeepsGhosts, KeepsObjects, Others, Polling, Shared, Steps, View, Waiting, cell_of, effect, landing, lists, no_page, view}
+use Rattle.gh_mutator_heap.proofs.Holding.Vocabulary.{Arena, Good, Has, InRange, IsBetweenOperations, IsParked, KeepsGhosts, KeepsObjects, Others, Polling, Shared, Steps, View, Waiting, cell_of, effect, landing, lists, no_page, view}
 
 module _ (k : Known) (h : PollsByRights) (z : Arena) (a : ℕ) where
   module _ (s : Shared) (good : Good z (view s)) (w : Waiting) where
@@ -21,7 +21,7 @@ module _ (k : Known) (h : PollsByRights) (z : Arena) (a : ℕ) where
     abbrev Leads : WaitStage → Type 0
     Leads q = Steps z a s (asks_at w q) (λ t. KeepsObjects (view s) (view t) × Waits z a (view t) (goes_at w q (s.words (cell_of (asks_at w q)))))
 
-    rests_then : (t : Shared) → Rests z a (view s) p → Kept a (view s) (view t) → Has a (view t) false (lists p.local.cache) → IsAtRest z a (view t) p
+    rests_then : (t : Shared) → Rests z a (view s) p → Kept a (view s) (view t) → Has a (view t) false (lists p.local.cache) → IsBetweenOperations z a (view t) p
     rests_then t x kept has = (has, record { stands = stands_kept z a (view s) (view t) p kept.objects x.stands; knows = knows_kept a (view s) (view t) (holds_swept z a (view s) good) kept.own p false has x.knows })
 
     asks_for_it : Has a (view s) false (lists p.local.cache) → Rests z a (view s) p → Leads wait_stage.Want
@@ -83,7 +83,7 @@ module _ (k : Known) (h : PollsByRights) (z : Arena) (a : ℕ) where
     parked_at stops wait_stage.LoadSwept e has x = absurd e
     parked_at stops wait_stage.Ended e has x = absurd e
 
-    ended_at : (q : WaitStage) → is_busy q ≡ false → Has a v (waits_locked_at w.poll q) (waits_held_at w.poll q) → WaitStageFacts z a v w.poll q → IsAtRest z a v w.poll
+    ended_at : (q : WaitStage) → is_busy q ≡ false → Has a v (waits_locked_at w.poll q) (waits_held_at w.poll q) → WaitStageFacts z a v w.poll q → IsBetweenOperations z a v w.poll
     ended_at wait_stage.Ended e has x = (has, x)
     ended_at wait_stage.Want e has x = absurd (cc)
     ended_at wait_stage.Polling e has x = absurd (cc)

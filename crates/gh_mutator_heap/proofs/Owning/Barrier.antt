@@ -53,7 +53,7 @@ pub record IsBefore (w : Writing) (found : ℕ) : Type 0 where
 
 -- its last
 pub record IsLast (w : Writing) (found : ℕ) : Type 0 where
-  pub stores : write.asks w ≡ ask.Store (write.cell_at w.at) (write.word_of w.pointer)
+  pub stores : write.asks w ≡ ask.Store (write.cell_at w.at) (write.pointer_word w.pointer)
   pub ends : write.gives w found ≡ Some tt
 
 new_goes_on : (w : Writing) (pointer : Option ℕ) → write.given (write.shades_new w pointer) ≡ None
@@ -91,19 +91,19 @@ module _ (w : Writing) (found : ℕ) where
 
 -- What it writes.
 
-named_word : (r : ℕ) → write.word_of (cond (eqb r 0) None (Some r)) ≡ r
+named_word : (r : ℕ) → write.pointer_word (cond (eqb r 0) None (Some r)) ≡ r
 named_word r = by (eqb r 0) refl where
-  by : (b : Bool) → eqb r 0 ≡ b → write.word_of (cond b None (Some r)) ≡ r
+  by : (b : Bool) → eqb r 0 ≡ b → write.pointer_word (cond b None (Some r)) ≡ r
   by true e = sym (eqb-true r 0 e)
   by false e = refl
 
-word_named : (v : Value) → is_number_value v ≡ false → write.word_of (pointer_of v) ≡ word_of_value v
+word_named : (v : Value) → is_number_value v ≡ false → write.pointer_word (pointer_of v) ≡ word_of_value v
 word_named value.Nil e = refl
 word_named (value.Int n) e = absurd (cc)
 word_named (value.Ref r) e = named_word r
 
-pub word_written : (l : Layout) (at : PointerCell) (v : Value) (w : Writing) → WritesIt l at v w → write.word_of w.pointer ≡ word_of_value v
-word_written l at v w it = ap (λ (p : Option ℕ). write.word_of p) it.same_pointer ∙ word_named v it.names
+pub word_written : (l : Layout) (at : PointerCell) (v : Value) (w : Writing) → WritesIt l at v w → write.pointer_word w.pointer ≡ word_of_value v
+word_written l at v w it = ap (λ (p : Option ℕ). write.pointer_word p) it.same_pointer ∙ word_named v it.names
 
 -- what a register holds names a word of the heap
 module _ (laws : Known) (z : Arena) (v : View) (good : Good z v) where

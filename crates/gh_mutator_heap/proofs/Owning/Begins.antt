@@ -5,7 +5,7 @@ use Rattle.gh_base.specs.declared.operation.Op.TheVariants as op
 use Rattle.gh_base.specs.declared.value.Value.TheVariants as value
 use Rattle.gh_model.specs.declared.EverValue.TheVariants as ever
 use Rattle.gh_mutator.specs.Vocabulary.{Layout, Polling, Op, REGISTERS, Value}
-use Rattle.gh_mutator_heap.specs.Vocabulary.{Good, Arena, EverValue, is_number, Means, Runs, View, Processor, Task}
+use Rattle.gh_mutator_heap.specs.Vocabulary.{Good, Arena, EverValue, is_number, Means, GoroutineRuns, View, Processor, Task}
 use Rattle.gh_barrier.specs.declared.pointer_cell.PointerCell.TheVariants as pointer_cell
 use Rattle.gh_mutator.specs.declared.global.GlobalStage.TheVariants as global_stage
 use Rattle.gh_mutator.specs.declared.task.Task.TheVariants as task
@@ -26,7 +26,7 @@ use Rattle.gh_mutator_heap.proofs.Owning.Searching.{seek-begins}
 use Rattle.gh_mutator_heap.proofs.Owning.Steady.{goroutine_few, HasCached, Steady}
 
 module _ (z : Arena) (a : ℕ) (v : View) where
-  begin_load : (g d b k : ℕ) (x : EverValue) (y : Value) → Runs z v a g → d < REGISTERS → b < REGISTERS → v.ever.register g b ≡ x → Means v.place v.ever.made x y → LoadFacts z a v (load.begins g d b k y) None (load.begins g d b k y).stage
+  begin_load : (g d b k : ℕ) (x : EverValue) (y : Value) → GoroutineRuns z v a g → d < REGISTERS → b < REGISTERS → v.ever.register g b ≡ x → Means v.place v.ever.made x y → LoadFacts z a v (load.begins g d b k y) None (load.begins g d b k y).stage
   begin_load g d b k ever.Nil value.Nil r ld lb is h = (r, lb, rw is tt, refl)
   begin_load g d b k (ever.Int n) (value.Int w) r ld lb is h = (r, lb, rw is tt, refl)
   begin_load g d b k (ever.Ref n) (value.Ref w) r ld lb is h =
@@ -39,7 +39,7 @@ module _ (z : Arena) (a : ℕ) (v : View) where
   begin_load g d b k (ever.Ref n) value.Nil r ld lb is h = absurd h
   begin_load g d b k (ever.Ref n) (value.Int w) r ld lb is h = absurd h
 
-  begin_store : (p : Polling) (g b k u : ℕ) (x : EverValue) (y : Value) → Runs z v a g → b < REGISTERS → u < REGISTERS → v.ever.register g b ≡ x → Means v.place v.ever.made x y → StoreFacts z a v p (store.begins g b k u y) None (store.begins g b k u y).stage
+  begin_store : (p : Polling) (g b k u : ℕ) (x : EverValue) (y : Value) → GoroutineRuns z v a g → b < REGISTERS → u < REGISTERS → v.ever.register g b ≡ x → Means v.place v.ever.made x y → StoreFacts z a v p (store.begins g b k u y) None (store.begins g b k u y).stage
   begin_store p g b k u ever.Nil value.Nil r lb lu is h = (r, lb, rw is tt, refl)
   begin_store p g b k u (ever.Int n) (value.Int w) r lb lu is h = (r, lb, rw is tt, refl)
   begin_store p g b k u (ever.Ref n) (value.Ref w) r lb lu is h =
@@ -52,7 +52,7 @@ module _ (z : Arena) (a : ℕ) (v : View) where
   begin_store p g b k u (ever.Ref n) value.Nil r lb lu is h = absurd h
   begin_store p g b k u (ever.Ref n) (value.Int w) r lb lu is h = absurd h
 
-  module _ (laws : Known) (good : Good z v) (m : Processor) (g k u : ℕ) (st : Steady z a v m) (runs : Runs z v a g) (low : u < REGISTERS) (there : k < z.layout.globals) where
+  module _ (laws : Known) (good : Good z v) (m : Processor) (g k u : ℕ) (st : Steady z a v m) (runs : GoroutineRuns z v a g) (low : u < REGISTERS) (there : k < z.layout.globals) where
     abbrev held : Value
     held = register_of m g u
 

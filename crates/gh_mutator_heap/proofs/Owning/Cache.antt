@@ -6,7 +6,7 @@ use Rattle.std.proofs.lemmas.Bool.{eqb-true, eqb-false}
 use Rattle.gh_mutator_heap.proofs.Owning.Vocabulary.{cache_with, cached_in, lists}
 use Rattle.gh_mutator.specs.Vocabulary.{CachedSpan, Large, Small, Sought, span_index, SpanClass}
 use Rattle.gh_mutator_heap.specs.Vocabulary.{SPAN_CLASSES, View}
-use Rattle.gh_alloc.specs.FindFacts.{IsCached, head_of, with_span}
+use Rattle.gh_alloc.specs.FindFacts.{IsCached, cached_head, with_span}
 use Rattle.gh_base.specs.Reading.{set_twice}
 use Rattle.gh_mutator.specs.Give.{span_class}
 use Rattle.gh_mutator_heap.proofs.Holding.Lists.{head_tells, index_of, listed_at}
@@ -59,20 +59,20 @@ swap-or false true d = refl
 swap-or false false d = refl
 
 -- one place apart from the others
-pub lists-split : (xs : List (Option CachedSpan)) (i p : ℕ) → lists xs p ≡ with_span (head_of (get_or xs i None)) (lists (set xs i None)) p
+pub lists-split : (xs : List (Option CachedSpan)) (i p : ℕ) → lists xs p ≡ with_span (cached_head (get_or xs i None)) (lists (set xs i None)) p
 lists-split [] i p = refl
 lists-split (None ∷ ys) zero p = refl
 lists-split (Some k ∷ ys) zero p = or-cond (eqb k.head p) (lists ys p)
 lists-split (None ∷ ys) (suc i) p = lists-split ys i p ∙ go (get_or ys i None) where
-  go : (x : Option CachedSpan) → with_span (head_of x) (lists (set ys i None)) p ≡ with_span (head_of x) (lists (None ∷ set ys i None)) p
+  go : (x : Option CachedSpan) → with_span (cached_head x) (lists (set ys i None)) p ≡ with_span (cached_head x) (lists (None ∷ set ys i None)) p
   go None = refl
   go (Some y) = refl
 lists-split (Some k ∷ ys) (suc i) p = ap (λ (b : Bool). eqb k.head p || b) (lists-split ys i p) ∙ go (get_or ys i None) where
-  go : (x : Option CachedSpan) → (eqb k.head p || with_span (head_of x) (lists (set ys i None)) p) ≡ with_span (head_of x) (lists (Some k ∷ set ys i None)) p
+  go : (x : Option CachedSpan) → (eqb k.head p || with_span (cached_head x) (lists (set ys i None)) p) ≡ with_span (cached_head x) (lists (Some k ∷ set ys i None)) p
   go None = refl
   go (Some y) = swap-or (eqb k.head p) (eqb y.head p) (lists (set ys i None) p)
 
-pub lists-cached : (cache : List (Option CachedSpan)) (x : Sought) (p : ℕ) → lists cache p ≡ with_span (head_of (cached_in cache x)) (lists (cache_with cache x None)) p
+pub lists-cached : (cache : List (Option CachedSpan)) (x : Sought) (p : ℕ) → lists cache p ≡ with_span (cached_head (cached_in cache x)) (lists (cache_with cache x None)) p
 lists-cached cache (Small c) p = lists-split cache (span_index c) p
 lists-cached cache (Large pages noscan) p = refl
 

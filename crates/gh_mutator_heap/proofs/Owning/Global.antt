@@ -15,7 +15,7 @@ use Rattle.gh_base.specs.declared.value.Fault.TheVariants as fault
 use Rattle.gh_model.specs.Ever.{with_global}
 use Rattle.gh_heap.specs.Moves.{WriteGlobal}
 use Rattle.gh_mutator.specs.Vocabulary.{Ask, cell_of, Op, Value, Answer, Name, REGISTERS}
-use Rattle.gh_mutator_heap.specs.Vocabulary.{EverValue, is_number, Steps, answer_of, Arena, ever_after, Good, Means, moved, Quiet, Reach, Runs, Shared, Takes, View, view, Global, GlobalStage, Processor, Task}
+use Rattle.gh_mutator_heap.specs.Vocabulary.{EverValue, is_number, Steps, answer_of, Arena, ever_after, Good, Means, moved, Quiet, Reach, GoroutineRuns, Shared, Takes, View, view, Global, GlobalStage, Processor, Task}
 use Rattle.gh_mutator.specs.declared.global.GlobalStage.TheVariants as global_stage
 use Rattle.gh_mutator.specs.declared.task.Task.TheVariants as task
 use Rattle.gh_mutator.specs.Fields.{takes as takes_value}
@@ -34,7 +34,7 @@ use Rattle.gh_mutator_heap.proofs.Owning.Steady.{HasCached, rights_with, Steady,
 abbrev at : Global → GlobalStage → Task
 at x q = task.Global (at_stage x q)
 
-load_now : Known → (x : Global) (z : Arena) (a : ℕ) (s : Shared) (m : Processor) → Good z (view s) → Steady z a (view s) m → HasCached a (view s) m → Runs z (view s) a x.g → x.r < REGISTERS → x.k < z.layout.globals → StepFrom z a s (at_task m (at x global_stage.Load)) None
+load_now : Known → (x : Global) (z : Arena) (a : ℕ) (s : Shared) (m : Processor) → Good z (view s) → Steady z a (view s) m → HasCached a (view s) m → GoroutineRuns z (view s) a x.g → x.r < REGISTERS → x.k < z.layout.globals → StepFrom z a s (at_task m (at x global_stage.Load)) None
 load_now k x z a s m good steady right runs low few =
     let means : Means s.place s.ever.made (s.ever.global x.k) (value_of m.poll.layout.pages true (s.words (cell.Global x.k))) = rw (steady.1.stands.sits.layout) (global_means k z (view s) good x.k few) in
     let t = took Global task.Global z a s m x.g x.r (op.GetGlobal x.g x.r x.k) steady right (naming x) (λ at v y pending st ri t. record { counts = st.0; knows = st.1; right = ri; task = t }) runs low k (cell.Global x.k) (s.ever.global x.k) _ means refl (takes_told s.ever x.g x.r (s.ever.global x.k)) in
@@ -67,7 +67,7 @@ birth_step k x at_word z a s m pending shapes good f =
 
 -- The store.
 
-module _ (k : Known) (x : Global) (z : Arena) (a : ℕ) (s : Shared) (m : Processor) (steady : Steady z a (view s) m) (right : HasCached a (view s) m) (runs : Runs z (view s) a x.g) (low : x.r < REGISTERS) (few : x.k < z.layout.globals) (plain : is_number (s.ever.register x.g x.r) ≡ false) where
+module _ (k : Known) (x : Global) (z : Arena) (a : ℕ) (s : Shared) (m : Processor) (steady : Steady z a (view s) m) (right : HasCached a (view s) m) (runs : GoroutineRuns z (view s) a x.g) (low : x.r < REGISTERS) (few : x.k < z.layout.globals) (plain : is_number (s.ever.register x.g x.r) ≡ false) where
   abbrev o : Op
   o = op.SetGlobal x.g x.k x.r
 
@@ -150,7 +150,7 @@ module _ (k : Known) (x : Global) (z : Arena) (a : ℕ) (s : Shared) (m : Proces
     write_now : IsBefore w (word stage) ⊎ IsLast w (word stage) → StepFrom z a s (here stage) None
     write_now (inl b) = record { move = Quiet (write.asks w); may = b.leaves.quiet; words_are = refl; after = does stage beside refl (writes_on b) }
     write_now (inr b) = stored_by (write.asks w) (λ u. Does z a s u (here stage) None (word stage))
-        (b.stores ∙ ap (λ (c : PointerCell). ask.Store (write.cell_at c) (write.word_of w.pointer)) it.same_cell ∙ ap (λ (n : ℕ). ask.Store (cell.Global x.k) n) (word_written z.layout (pointer_cell.Global x.k) held w it))
+        (b.stores ∙ ap (λ (c : PointerCell). ask.Store (write.cell_at c) (write.pointer_word w.pointer)) it.same_cell ∙ ap (λ (n : ℕ). ask.Store (cell.Global x.k) n) (word_written z.layout (pointer_cell.Global x.k) held w it))
         (does stage t refl
         (subst (λ (y : Option (Unit {0})). Comes Global task.Global z a s t (keeping m (held_then w (word stage))) x.g x.r o None (after_write x (write.goes w (word stage)) y)) (sym b.ends) (lands stage (held_then w (word stage)) steady-then)))
 

@@ -8,7 +8,7 @@ use Rattle.gh_heap.specs.Rights.{Rights}
 use Rattle.gh_heap.specs.Spans.{Freeing, Laying}
 use Rattle.gh_alloc.specs.SearchFacts as search
 use Rattle.gh_mutator.specs.Vocabulary.{Polling, Answer, IsOf, Name, Placing, Seeking, shape_at}
-use Rattle.gh_mutator_heap.specs.Vocabulary.{Arena, EverValue, fits, Good, is_number, MOST_STATEMENTS, Runs, View, Assist, Global, GlobalStage, Load, LoadStage, NewStage, Place, Processor, Register, Search, Source, Store, StoreStage, Task, Wait, Wanted, Want}
+use Rattle.gh_mutator_heap.specs.Vocabulary.{Arena, EverValue, fits, Good, is_number, MOST_STATEMENTS, GoroutineRuns, View, Assist, Global, GlobalStage, Load, LoadStage, NewStage, Place, Processor, Register, Search, Source, Store, StoreStage, Task, Wait, Wanted, Want}
 use Rattle.gh_mutator.specs.declared.global.GlobalStage.TheVariants as global_stage
 use Rattle.gh_mutator.specs.declared.load.LoadStage.TheVariants as load_stage
 use Rattle.gh_mutator.specs.declared.register.Source.TheVariants as source
@@ -35,7 +35,7 @@ module _ (z : Arena) (a : ℕ) (v w : View) (o : Others z a v w) where
 
   -- Of statements.
 
-  runs_lasts : (g : ℕ) → Runs z v a g → Runs z w a g
+  runs_lasts : (g : ℕ) → GoroutineRuns z v a g → GoroutineRuns z w a g
   runs_lasts g r = record { of = r.of; goes_on = o.ends g r.of ∙ r.goes_on }
 
   through_lasts : (g b at : ℕ) (n : Name) → Through z a v g b at n → Through z a w g b at n

@@ -3,7 +3,7 @@ use Rattle.std.proofs.Common.{◌≡◌, ℕ, ◌<◌, Bool, true, false, cond, 
 use Rattle.std.proofs.lemmas.Bool.{ltb-true, lt-ltb}
 use Rattle.gh_mutator_heap.proofs.Owning.Vocabulary.{asks, at_task, Does, ends, Fine, goes_on, has_field, IsPlain, Loads, OwnStepAt, Through, value_of}
 use Rattle.gh_mutator.specs.Vocabulary.{Answer, cell_of, Name}
-use Rattle.gh_mutator_heap.specs.Vocabulary.{answer_of, Arena, Ever, EverValue, Fault, Good, page_of, points, Quiet, Reach, Shared, size_for, slot_in, Steps, told, view, Load, LoadStage, Processor, Step, Task}
+use Rattle.gh_mutator_heap.specs.Vocabulary.{answer_of, Arena, Ever, EverValue, Fault, Good, page_of, points, Quiet, Reach, Shared, size_for, slot_in, Steps, answer_of_value, view, Load, LoadStage, Processor, Step, Task}
 use Rattle.gh_base.specs.declared.value.Answer.TheVariants as answer
 use Rattle.gh_base.specs.declared.value.Fault.TheVariants as fault
 use Rattle.gh_model.specs.declared.EverValue.TheVariants as ever
@@ -26,7 +26,7 @@ module _ (laws : Known) (z : Arena) (a : ℕ) (s : Shared) (m : Processor) (x : 
 
   -- what it is answered
 
-  load_found : (v : EverValue) (n : Name) (k : ℕ) → v ≡ ever.Ref n → k < size n → load_answer z.shapes e v k ≡ told (e.field n k)
+  load_found : (v : EverValue) (n : Name) (k : ℕ) → v ≡ ever.Ref n → k < size n → load_answer z.shapes e v k ≡ answer_of_value (e.field n k)
   load_found v n k is few = rw (is, lt-ltb k (size n) few) refl
 
   load_past : (v : EverValue) (n : Name) (k : ℕ) → v ≡ ever.Ref n → ltb k (size n) ≡ false → load_answer z.shapes e v k ≡ answer.Fault fault.Field

@@ -59,7 +59,7 @@ module _ (k : Known) (z : Arena) (a : ℕ) (s : Shared) (m : Processor) (x : Wan
     as-it-is = record { heads = λ p h held still e. e; bits = λ p i h head number few e. e; generation = refl }
 
     cached : CachesAll a before caching.poll.local.cache
-    cached = caches-then a before before m x f.cached (holds_swept z a before g) as-it-is (λ p e. right.holds p ∙ rest-held None (find.head_of f.cached) (rest m x) p e) st.1.stands.sits.cache sought kept st.1.knows.caches
+    cached = caches-then a before before m x f.cached (holds_swept z a before g) as-it-is (λ p e. right.holds p ∙ rest-held None (find.cached_head f.cached) (rest m x) p e) st.1.stands.sits.cache sought kept st.1.knows.caches
 
     steady : Steady z a before caching
     steady = steady-cached z a before before m x.sought f.cached (refl, refl) refl cached st
@@ -78,7 +78,7 @@ module _ (k : Known) (z : Arena) (a : ℕ) (s : Shared) (m : Processor) (x : Wan
     own-none : (c : SpanClass) (p : ℕ) (h : SpanHead) → x.sought ≡ Small c → page_of (before.page p) ≡ page.Head h → h.class ≡ size.Small c.class → h.noscan ≡ c.noscan → h.owner ≡ a + 1 → ⊥
     own-none c p h e head class noscan owner =
         let holds : before.holds a p ≡ true = (g.owners a p).0 (ap owner_in head ∙ owner) in
-        let listed : lists (cache_with m.poll.local.cache x.sought None) p ≡ true = sym (ap (λ (j : Option CachedSpan). find.with_span (find.head_of j) (rest m x) p) none.none.cached) ∙ sym (right.holds p) ∙ holds in
+        let listed : lists (cache_with m.poll.local.cache x.sought None) p ≡ true = sym (ap (λ (j : Option CachedSpan). find.with_span (find.cached_head j) (rest m x) p) none.none.cached) ∙ sym (right.holds p) ∙ holds in
         let l = listed_at (cache_with m.poll.local.cache x.sought None) p listed in
         let long : length (cache_with m.poll.local.cache x.sought None) ≡ SPAN_CLASSES = long_then m.poll.local.cache x.sought None _ st.1.stands.sits.cache in
         let d : SpanClass = span_class l.i in
@@ -107,7 +107,7 @@ module _ (k : Known) (z : Arena) (a : ℕ) (s : Shared) (m : Processor) (x : Wan
       full = λ c p h e head class noscan owner. full c p h (wanted ∙ e) head class noscan owner;
       swept = k.swept z before g none.tidy;
       in_use = λ p h head owner. (none.tidy p h (below p h head) head owner).1;
-      no_run = subst (λ (q : Sought). (first : ℕ) → first + (finder.span_for q).pages ≤ z.layout.pages → (d : ℕ) × (d < (finder.span_for q).pages) × search.IsTaken z before (first + d)) wanted none.run;
+      no_run = subst (λ (q : Sought). (first : ℕ) → first + (finder.span_for q).pages ≤ z.layout.pages → (d : ℕ) × (d < (finder.span_for q).pages) × search.PageIsTaken z before (first + d)) wanted none.run;
     }
 
     -- the second time

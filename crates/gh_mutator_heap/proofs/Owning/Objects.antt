@@ -6,22 +6,22 @@ use Rattle.std.proofs.lemmas.Bool.{ne_eqb, ltb-true, ltb-false}
 use Rattle.std.proofs.lemmas.Bool.Decides.{eqb_tells}
 use Rattle.gh_mutator_heap.proofs.Owning.Vocabulary.{is_pointer_by, value_of, word_of_value}
 use Rattle.gh_mutator.specs.Vocabulary.{Layout, Name, SizeClass, Value}
-use Rattle.gh_mutator_heap.specs.Vocabulary.{Arena, Ever, EverValue, fits, Good, Holds, is_number, IsMade, IsReached, IsSizeClass, Means, name_of, page_of, points, Reach, size_for, slot_in, slot_of, slot_size, takes_answer, told, View, with_register}
+use Rattle.gh_mutator_heap.specs.Vocabulary.{answer_of_value, Arena, Ever, EverValue, fits, Good, Holds, is_number, IsMade, IsReached, IsSizeClass, Means, name_of, page_of, points, Reach, size_for, slot_in, slot_of, slot_size, takes_answer, View, with_register}
 use Rattle.gh_base.specs.declared.value.Value.TheVariants as value
 use Rattle.gh_base.specs.Packing.{bit, page_class, page_pages, slot_for}
 use Rattle.gh_class.specs.declared.class.SizeClass.TheVariants as size
 use Rattle.gh_model.specs.declared.EverValue.TheVariants as ever
 use Rattle.gh_heap.specs.Objects.{InSlot, Place, Placed}
-use Rattle.gh_heap.specs.Spans.{is_own_class, number_of, slot_count}
+use Rattle.gh_heap.specs.Spans.{is_own_class, number_of_class, slot_count}
 use Rattle.gh_mutator_heap.proofs.Owning.Known.{Known}
 
 -- ---- the words of an object
 
-some_words : Known → (class : SizeClass) (pages : ℕ) → IsSizeClass class → 1 ≤ pages → 1 ≤ cond (is_own_class class) (1024 * pages) (slot_of (number_of class) / 8)
+some_words : Known → (class : SizeClass) (pages : ℕ) → IsSizeClass class → 1 ≤ pages → 1 ≤ cond (is_own_class class) (1024 * pages) (slot_of (number_of_class class) / 8)
 some_words laws (size.Small c) pages is some = omega (arith, laws.least_slot c is)
 some_words laws size.Large pages is some = omega arith
 
-slot_for_is : (c : SizeClass) (n : ℕ) → slot_for c n ≡ cond (is_own_class c) (1024 * n) (slot_of (number_of c) / 8)
+slot_for_is : (c : SizeClass) (n : ℕ) → slot_for c n ≡ cond (is_own_class c) (1024 * n) (slot_of (number_of_class c) / 8)
 slot_for_is (size.Small c) n = refl
 slot_for_is size.Large n = refl
 
@@ -72,9 +72,9 @@ module _ (laws : Known) (z : Arena) (v : View) (good : Good z v) (n : Name) (was
       let q : v.place n / 1024 ≡ object.p = omega arith in
       ap (λ (x : ℕ). slot_in (page_of (v.page x))) q ∙ ap slot_in object.slot.span.head ∙ slot_for_is object.h.class object.h.pages ∙ sym object.slot.size_is
   page_tells false own =
-      let sized : slot_size object.h ≡ slot_of (number_of object.h.class) / 8 = rw own refl in
+      let sized : slot_size object.h ≡ slot_of (number_of_class object.h.class) / 8 = rw own refl in
       ap (λ (c : SizeClass). slot_for c (page_pages (page_of (v.page (v.place n / 1024))))) page_here ∙ slot_for_is object.h.class (page_pages (page_of (v.page (v.place n / 1024))))
-      ∙ ap (λ (b : Bool). cond b (1024 * page_pages (page_of (v.page (v.place n / 1024)))) (slot_of (number_of object.h.class) / 8)) own ∙ sym (object.slot.size_is ∙ sized)
+      ∙ ap (λ (b : Bool). cond b (1024 * page_pages (page_of (v.page (v.place n / 1024)))) (slot_of (number_of_class object.h.class) / 8)) own ∙ sym (object.slot.size_is ∙ sized)
 
   -- What is found at the indices that a statement asks for, through a reference to it.
   module _ (l : Layout) (at : ℕ) (layout_is : l ≡ z.layout) (here : at ≡ v.place n) where
@@ -165,7 +165,7 @@ fits_pointer ever.Nil e = refl
 fits_pointer (ever.Int n) e = absurd cc
 fits_pointer (ever.Ref n) e = refl
 
-pub takes_told : (e : Ever) (g d : ℕ) (x : EverValue) → takes_answer e g d (told x) ≡ with_register e g d x
+pub takes_told : (e : Ever) (g d : ℕ) (x : EverValue) → takes_answer e g d (answer_of_value x) ≡ with_register e g d x
 takes_told e g d ever.Nil = refl
 takes_told e g d (ever.Int i) = refl
 takes_told e g d (ever.Ref n) = refl

@@ -1,6 +1,6 @@
 -- What is known of a processor at every moment; and where it is parked at a stop, or is gone, what rights it has, and what lasts whatever is done to the words.
 use Rattle.std.proofs.Common.{◌≡◌, ℕ, Bool, false, Option, None, ◌∙◌}
-use Rattle.gh_mutator_heap.proofs.Owning.Vocabulary.{FactsAt, HasAt, KnowsAt, NewFacts, Stands}
+use Rattle.gh_mutator_heap.proofs.Owning.Vocabulary.{FactsAt, HasAt, KnowsAt, KnowsAtAnyTime, NewFacts}
 use Rattle.gh_heap.specs.Rights.{Rights}
 use Rattle.gh_heap.specs.Spans.{Freeing, Laying}
 use Rattle.gh_phase.specs.Shakes.{IsParked}
@@ -22,20 +22,20 @@ use Rattle.gh_mutator_heap.proofs.Owning.Steady.{same_counts}
 -- At every moment.
 
 module _ (z : Arena) (a : ℕ) (v : View) (p : Polling) where
-  wait_stands : (q : WaitStage) → WaitStageFacts z a v p q → Stands z a v p
+  wait_stands : (q : WaitStage) → WaitStageFacts z a v p q → KnowsAtAnyTime z a v p
   wait_stands wait_stage.Want h = h.stands
   wait_stands wait_stage.Polling h = h.stands
   wait_stands wait_stage.LoadSwept h = h.stands
   wait_stands wait_stage.Ended h = h.stands
 
-  new_stands : (q : NewStage) → KnowsNew z a v p q → Stands z a v p
+  new_stands : (q : NewStage) → KnowsNew z a v p q → KnowsAtAnyTime z a v p
   new_stands (Search waited s) h = h.stands
   new_stands (Wait x) h = wait_stands x.stage h
   new_stands (Place x) h = h.stands
   new_stands (Want n) h = h.stands
   new_stands (Assist n x) h = h.stands
 
-  stands_at : (q : Task) → KnowsAt z a v p q → Stands z a v p
+  stands_at : (q : Task) → KnowsAt z a v p q → KnowsAtAnyTime z a v p
   stands_at task.Left h = h
   stands_at (task.New x) h = new_stands x.stage h
   stands_at (task.Gc g x) h = wait_stands x.stage h

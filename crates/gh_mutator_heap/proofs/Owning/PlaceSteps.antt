@@ -3,7 +3,7 @@ use Rattle.std.proofs.Common.{◌≡◌, ℕ, ◌+◌, ◌*◌, ◌/◌, ◌%◌
 use Rattle.std.specs.Option.{option_to_list}
 use Rattle.std.proofs.Math.ListN.{set}
 use Rattle.std.proofs.lemmas.Bool.{eqb-true, eqb-false, eq-eqb}
-use Rattle.gh_mutator_heap.proofs.Owning.Vocabulary.{Act, acted, acting, answered_at, at_task, Does, Fine, for_whom, KnowsCounts, lists, Makes, makes, op_of, own_span, register_at, RegistersFit, ShapesAreGood, Sits}
+use Rattle.gh_mutator_heap.proofs.Owning.Vocabulary.{Act, acted, acting, answered_at, at_task, Does, Fine, for_whom, KnowsCounts, lists, Makes, makes, op_of, own_span, PollRegistersFit, register_at, ShapesAreGood, Sits}
 use Rattle.gh_mutator.specs.Vocabulary.{Answer, cell_of, IsOf, Large, Layout, Name, PlaceStage, Polling, REGISTERS, Small, Sought, Value}
 use Rattle.gh_mutator_heap.specs.Vocabulary.{Arena, Ever, EverValue, Good, IsMade, KeepsItsOwn, KeepsObjects, Means, moved, Shared, SpanHead, Steps, View, view, with_register, Idle, Processor, Wanted}
 use Rattle.gh_assist.specs.Within.{AssistWithin}
@@ -22,7 +22,7 @@ use Rattle.gh_alloc.specs.FindFacts as find
 use Rattle.gh_alloc.specs.Place as placer
 use Rattle.gh_alloc.specs.PlaceFacts as place
 use Rattle.gh_mutator_heap.specs.Facts.{NamedFrom}
-use Rattle.gh_mutator.specs.Local.{marking_at, with_register as local_register}
+use Rattle.gh_mutator.specs.Local.{marking_at, with_register_value}
 use Rattle.gh_mutator.specs.New.{answer_made, assisting, assists, is_made, made_object, made_task, wants}
 use Rattle.gh_mutator_heap.proofs.Holding.Known.{cached_kept, holds_swept, HoldsSwept}
 use Rattle.gh_mutator_heap.proofs.Holding.Lists.{lists_it}
@@ -32,9 +32,9 @@ use Rattle.gh_mutator_heap.proofs.Owning.Steady.{goroutine_few, HasCached, regis
 
 -- What kind of step is made at a stage: one on the way, the one that makes the object, or the last.
 data Kind (p : placer.Placing) (q : PlaceStage) (found : ℕ) : Type 0 where
-  onward : placer.acts_at q ≡ false → placer.given_at (placer.goes_at p q found) ≡ None → is_made (placer.goes_at p q found) ≡ is_made q → Kind p q found
-  making-it : placer.acts_at q ≡ true → placer.given_at (placer.goes_at p q found) ≡ None → is_made (placer.goes_at p q found) ≡ true → is_made q ≡ false → Kind p q found
-  ending : (asks : Bool) → placer.acts_at q ≡ false → is_made q ≡ true → placer.goes_at p q found ≡ making.Ended asks → Kind p q found
+  onward : placer.makes_its_object_at q ≡ false → placer.given_at (placer.goes_at p q found) ≡ None → is_made (placer.goes_at p q found) ≡ is_made q → Kind p q found
+  making-it : placer.makes_its_object_at q ≡ true → placer.given_at (placer.goes_at p q found) ≡ None → is_made (placer.goes_at p q found) ≡ true → is_made q ≡ false → Kind p q found
+  ending : (asks : Bool) → placer.makes_its_object_at q ≡ false → is_made q ≡ true → placer.goes_at p q found ≡ making.Ended asks → Kind p q found
 
 filled-none : (marking : Bool) → placer.given_at (placer.filled marking) ≡ None
 filled-none true = refl
@@ -152,10 +152,10 @@ means-then z v g t at (ever.Ref n) (value.Ref r) h = (
   more false e = h.1
 
 made-registers : (z : Arena) (a : ℕ) (v w : View) (p : Polling) (g d t at : ℕ) → Sits z a p → IsOf z a g → d < REGISTERS →
-    w.ever ≡ with_register (with_object z.shapes v.ever g t) g d (ever.Ref (next_name v.ever g)) → w.place ≡ placed_at v.place (next_name v.ever g) at → RegistersFit z a v p → RegistersFit z a w (local_register p g d (value.Ref (at + 1)))
+    w.ever ≡ with_register (with_object z.shapes v.ever g t) g d (ever.Ref (next_name v.ever g)) → w.place ≡ placed_at v.place (next_name v.ever g) at → PollRegistersFit z a v p → PollRegistersFit z a w (with_register_value p g d (value.Ref (at + 1)))
 made-registers z a v w p g d t at sits of low e place fit h c hof lc =
-    subst (λ (x : Ever). Means w.place x.made (x.register h c) (register_at (local_register p g d (value.Ref (at + 1))) h c)) (sym e)
-    (subst (λ (x : PlaceOf). Means x (with_object z.shapes v.ever g t).made ((with_register (with_object z.shapes v.ever g t) g d (ever.Ref (next_name v.ever g))).register h c) (register_at (local_register p g d (value.Ref (at + 1))) h c)) (sym place)
+    subst (λ (x : Ever). Means w.place x.made (x.register h c) (register_at (with_register_value p g d (value.Ref (at + 1))) h c)) (sym e)
+    (subst (λ (x : PlaceOf). Means x (with_object z.shapes v.ever g t).made ((with_register (with_object z.shapes v.ever g t) g d (ever.Ref (next_name v.ever g))).register h c) (register_at (with_register_value p g d (value.Ref (at + 1))) h c)) (sym place)
     (registers_then z a now p g d (ever.Ref (next_name v.ever g)) (value.Ref (at + 1)) sits of low here (λ i r iof lr. means-then z v g t at (v.ever.register i r) (register_at p i r) (fit i r iof lr)) h c hof lc)) where
       now : View
       now = record v { ever = with_object z.shapes v.ever g t; place = placed_at v.place (next_name v.ever g) at }
@@ -205,7 +205,7 @@ module _ (k : Known) (z : Arena) (a : ℕ) (s : Shared) (m : Processor) (x : Wan
   nothing (Some r) = refl
 
   -- what the step comes to, by its kind
-  done : (t : Shared) → ShapesAreGood z.shapes → Steady z a now m → Makes z a now m x p pending → HoldsSwept a now → KeepsItsOwn a now (view t) → place.Changes z (for_whom x) p (placer.acts_at p.stage) now (view t) →
+  done : (t : Shared) → ShapesAreGood z.shapes → Steady z a now m → Makes z a now m x p pending → HoldsSwept a now → KeepsItsOwn a now (view t) → place.Changes z (for_whom x) p (placer.makes_its_object_at p.stage) now (view t) →
       place.Comes z a (view t) (for_whom x) (base z a now m x p) (placer.given_at next.stage) next → place.CountsAlone p.stage s t → Kind p p.stage found → Does z a s t making-at pending found
   done t sg st mk swept own changes comes alone (onward still gives same) = record {
     after = pending;
@@ -269,8 +269,8 @@ module _ (k : Known) (z : Arena) (a : ℕ) (s : Shared) (m : Processor) (x : Wan
     named : pending ≡ Some (answer.Ref p.name)
     named = subst (λ (b : Bool). NamedFrom b p.name pending) made mk.named
 
-    no-act : (q : Act) → acting (placer.acts_at p.stage) (op_of x) false ≡ Some q → ⊥
-    no-act q acts = let none : acting (placer.acts_at p.stage) (op_of x) false ≡ None = ap (λ (b : Bool). acting b (op_of x) false) still in cc
+    no-act : (q : Act) → acting (placer.makes_its_object_at p.stage) (op_of x) false ≡ Some q → ⊥
+    no-act q acts = let none : acting (placer.makes_its_object_at p.stage) (op_of x) false ≡ None = ap (λ (b : Bool). acting b (op_of x) false) still in cc
 
     gives : (b : Bool) → next.stage ≡ making.Ended b → placer.given next ≡ Some b
     gives b ended = ap placer.given_at ended

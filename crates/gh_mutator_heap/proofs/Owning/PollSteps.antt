@@ -11,7 +11,7 @@ use Rattle.gh_mutator.specs.Leave as leave
 use Rattle.gh_mutator.specs.Listing.{acts, after_gc, after_leave, after_poll, gives, once_ended, takes}
 use Rattle.gh_mutator.specs.New.{after_wait, waits}
 use Rattle.gh_mutator.specs.Poll as poll
-use Rattle.gh_mutator_heap.specs.PollHeapLaws.{Leaves, Polls, Waits}
+use Rattle.gh_mutator_heap.specs.PollHeapLaws.{Polls, TakesLeave, Waits}
 use Rattle.gh_mutator.specs.Processor.{at_poll}
 use Rattle.gh_mutator.specs.Vocabulary.{Answer, cell_of, Leaving, Op, Waiting}
 use Rattle.gh_mutator_heap.specs.Vocabulary.{answer_of, Arena, ever_after, Good, IsSought, KeepsObjects, moved, Shared, view, Processor, Wait, Wanted}
@@ -55,12 +55,12 @@ module _ (k : Known) (z : Arena) (a : ℕ) (s : Shared) (m : Processor) (good : 
 
   -- A leave.
 
-  leave_fine : (t : Shared) (x : Leaving) (found : ℕ) → KeepsObjects (view s) (view t) → Leaves z a (view t) m.poll (leave.goes x found) → (g : Option (Unit {0})) → leave.gives x found ≡ g → Fine z a (view t) (after_leave m (leave.goes x found) g) None
+  leave_fine : (t : Shared) (x : Leaving) (found : ℕ) → KeepsObjects (view s) (view t) → TakesLeave z a (view t) m.poll (leave.goes x found) → (g : Option (Unit {0})) → leave.gives x found ≡ g → Fine z a (view t) (after_leave m (leave.goes x found) g) None
   leave_fine t x found o p None e = record { counts = same_counts z a (view s) (view t) m.made o counts; knows = p.1; right = p.0; task = refl }
   leave_fine t x found o p (Some y) e = let r = k.leaves.ends z a (view t) m.poll (leave.goes x found) (ap is_none e) p in
       record { counts = same_counts z a (view s) (view t) m.made o counts; knows = r.1; right = r.0; task = refl }
 
-  leave_step : (x : Leaving) → Leaves z a (view s) m.poll x → StepFrom z a s (at_task m (task.Leave x)) None
+  leave_step : (x : Leaving) → TakesLeave z a (view s) m.poll x → StepFrom z a s (at_task m (task.Leave x)) None
   leave_step x p = let found = s.words (cell_of (leave.asks x)) in let l = k.leaves.own_step z a s m.poll x good p in
       record { move = l.move; may = l.may; words_are = l.words_are; after = ends_once z s op.Leave answer.Done refl refl a (moved z a s l.move) (at_task m (task.Leave x)) found (leave.gives x found) l.after.0.0 refl refl (leave_fine (moved z a s l.move) x found l.after.0 l.after.1 (leave.gives x found) refl) tt }
 

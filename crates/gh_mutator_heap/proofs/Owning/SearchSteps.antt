@@ -3,7 +3,7 @@ use Rattle.std.proofs.Common.{◌≡◌, ◌≢◌, ℕ, ◌+◌, ◌*◌, ◌/�
 use Rattle.std.specs.Option.{option_to_list}
 use Rattle.gh_mutator_heap.proofs.Owning.Vocabulary.{Act, acted, acting, answered_at, at_task, cache_span, cache_with, CachesAll, Does, Fine, for_whom, lists, makes, op_of, own_span, rest, Searches, searches, ShapesAreGood}
 use Rattle.gh_mutator.specs.Vocabulary.{Answer, At, CachedSpan, cell_of, Finding, FindStage, Found, Large, Name, NoRoom, Seeking, Shape, shape_at, SizeClass, slot_words, Sought, SpanClass}
-use Rattle.gh_mutator_heap.specs.Vocabulary.{Arena, FitsShape, FitsSlot, Good, IsSought, KeepsItsOwn, KeepsObjects, moved, page_of, Runs, Shared, size_class_of, slot_words_of, SPAN_CLASSES, SpanHead, Steps, SweepLeaves, View, view, Processor, Wanted}
+use Rattle.gh_mutator_heap.specs.Vocabulary.{Arena, FitsShape, FitsSlot, Good, IsSought, KeepsItsOwn, KeepsObjects, moved, page_of, GoroutineRuns, Shared, size_class_of, slot_words_of, SPAN_CLASSES, SpanHead, Steps, SweepLeaves, View, view, Processor, Wanted}
 use Rattle.gh_base.specs.declared.pack.PageWord.TheVariants as page
 use Rattle.gh_class.specs.declared.class.SizeClass.TheVariants as size
 use Rattle.gh_heap.specs.Rights.{Claims}
@@ -19,7 +19,7 @@ use Rattle.gh_alloc.specs.FindFacts as find
 use Rattle.gh_alloc.specs.PlaceFacts as place
 use Rattle.gh_alloc.specs.Search as searcher
 use Rattle.gh_alloc.specs.SearchFacts as search
-use Rattle.gh_mutator.specs.New.{after_search, answer_search, placing, refuses, sought_by}
+use Rattle.gh_mutator.specs.New.{after_search, answer_search, placing, refuses_behind_wait, sought_by}
 use Rattle.gh_mutator.specs.Stays.{search_wants}
 use Rattle.gh_mutator.specs.Give.{span_class}
 use Rattle.gh_mutator_heap.proofs.Holding.Known.{holds_swept, HoldsSwept}
@@ -54,7 +54,7 @@ head-of noscan pages owner number = record { class = size.Large; noscan = noscan
 
 module _ (z : Arena) (a : ℕ) (w : View) (m : Processor) (f : Finding) (y : ℕ) where
   is-for : (shape : Shape) (g d t : ℕ) (j : Option CachedSpan) (c : SizeClass) → shape ≡ shape_at z.shapes t → size_class_of shape.words ≡ c → WantsOf shape c → m.poll.seat ≡ a → m.poll.local.view.generation ≡ w.generation → f.wanted ≡ sought_by c shape.noscan (slot_words shape.words) →
-      find.IsFound z a w f (sought_by c shape.noscan (slot_words shape.words)) j y → IsFor z a w m (record { g = g; d = d; t = t; slot = slot_words shape.words; sought = sought_by c shape.noscan (slot_words shape.words) }) y
+      find.SlotIsFound z a w f (sought_by c shape.noscan (slot_words shape.words)) j y → IsFor z a w m (record { g = g; d = d; t = t; slot = slot_words shape.words; sought = sought_by c shape.noscan (slot_words shape.words) }) y
   is-for shape g d t (Some k) (size.Small c) same e wants seat number sought found = record {
     claim = sized z a w y (slot_words_of c) (slot_words shape.words) found.claim (sym wants.1);
     class = found.class ∙ sym e ∙ ap (λ (x : Shape). size_class_of x.words) same;
@@ -141,13 +141,13 @@ module _ (k : Known) (z : Arena) (a : ℕ) (s : Shared) (m : Processor) (x : Wan
     caches = subst (λ (y : Sought). find.Caches a (view t) y next.find.cached) wanted h.caches
 
     others : (p : ℕ) → rest m x p ≡ true → (view t).holds a p ≡ true
-    others p e = h.right.holds p ∙ rest-held (find.own_found next.find.wanted y) (find.head_of next.find.cached) (rest m x) p e
+    others p e = h.right.holds p ∙ rest-held (find.own_found next.find.wanted y) (find.cached_head next.find.cached) (rest m x) p e
 
     steady : Steady z a (view t) caching
     steady = steady-cached z a now (view t) m x.sought next.find.cached o own.generation (caches-then a now (view t) m x next.find.cached swept own others st.1.stands.sits.cache sought caches st.1.knows.caches) st
 
-    held : (p : ℕ) → find.with_span (find.own_found next.find.wanted y) (find.with_span (find.head_of next.find.cached) (rest m x)) p ≡ find.with_span (find.own_found x.sought y) (lists (cache_with m.poll.local.cache x.sought next.find.cached)) p
-    held p = ap (λ (w : Sought). find.with_span (find.own_found w y) (find.with_span (find.head_of next.find.cached) (rest m x)) p) wanted
+    held : (p : ℕ) → find.with_span (find.own_found next.find.wanted y) (find.with_span (find.cached_head next.find.cached) (rest m x)) p ≡ find.with_span (find.own_found x.sought y) (lists (cache_with m.poll.local.cache x.sought next.find.cached)) p
+    held p = ap (λ (w : Sought). find.with_span (find.own_found w y) (find.with_span (find.cached_head next.find.cached) (rest m x)) p) wanted
         ∙ held-then m x.sought next.find.cached (find.own_found x.sought y) p st.1.stands.sits.cache sought (none-large a (view t) x.sought next.find.cached caches)
 
     shape : Shape
@@ -159,12 +159,12 @@ module _ (k : Known) (z : Arena) (a : ℕ) (s : Shared) (m : Processor) (x : Wan
     here : IsFor z a (view t) m x y
     here = subst (λ (w : Wanted). IsFor z a (view t) m w y) (sym r.wants.is)
         (is-for z a (view t) m next.find y shape x.g x.d x.t next.find.cached (size_class_of shape.words) refl refl (wants-of k.wants shape fit) st.1.stands.sits.seat (st.1.knows.generation ∙ sym own.generation) (wanted ∙ ap (λ (w : Wanted). w.sought) r.wants.is)
-        (subst (λ (w : Sought). find.IsFound z a (view t) next.find w next.find.cached y) (wanted ∙ ap (λ (w : Wanted). w.sought) r.wants.is) h.found))
+        (subst (λ (w : Sought). find.SlotIsFound z a (view t) next.find w next.find.cached y) (wanted ∙ ap (λ (w : Wanted). w.sought) r.wants.is) h.found))
 
     words : x.slot ≡ slot_words shape.words
     words = ap (λ (w : Wanted). w.slot) r.wants.is
 
-    runs : Runs z (view t) a x.g
+    runs : GoroutineRuns z (view t) a x.g
     runs = same_runs z a x.g now (view t) o r.wants.runs
 
     unmade : place.Unmade z a (view t) (for_whom x) (placing z.shapes caching x y)
@@ -190,7 +190,7 @@ module _ (k : Known) (z : Arena) (a : ℕ) (s : Shared) (m : Processor) (x : Wan
       named g n = record { g = g; k = n }
 
   -- a step that ends short of finding none
-  does : (t : Shared) (waited : Bool) (out : Option Found) → searcher.gives q found ≡ out → refuses waited out ≡ false → answer_search waited out ≡ None → KeepsObjects now (view t) → Fine z a (view t) (after_search z.shapes caching x waited next out) None → Does z a s t (searching waited) None found
+  does : (t : Shared) (waited : Bool) (out : Option Found) → searcher.gives q found ≡ out → refuses_behind_wait waited out ≡ false → answer_search waited out ≡ None → KeepsObjects now (view t) → Fine z a (view t) (after_search z.shapes caching x waited next out) None → Does z a s t (searching waited) None found
   does t waited out e some silent o fine = record {
     after = None;
     fine = subst (λ (y : Option Found). Fine z a (view t) (after_search z.shapes caching x waited next y) None) (sym e) fine;
@@ -199,8 +199,8 @@ module _ (k : Known) (z : Arena) (a : ℕ) (s : Shared) (m : Processor) (x : Wan
     full = λ y acts full. absurd (no-act y (ap (λ (b : Bool). acting b (op_of x) true) (sym none) ∙ acts));
     counts = tt;
   } where
-    none : refuses waited (searcher.gives q found) ≡ false
-    none = ap (refuses waited) e ∙ some
+    none : refuses_behind_wait waited (searcher.gives q found) ≡ false
+    none = ap (refuses_behind_wait waited) e ∙ some
 
     no-act : (y : Act) → None ≡ Some y → ⊥
     no-act y e = cc

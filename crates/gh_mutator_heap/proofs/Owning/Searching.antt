@@ -63,9 +63,9 @@ seeks-with z a v rest f (search_stage.Free r) h = record { seeks = h.seeks; cach
 seeks-with z a v rest f search_stage.Second h = record { seeks = h.facts.seeks; caches = h.facts.caches }
 
 pub rest-at : (f : Finding) (q : SearchStage) (rest : ℕ → Bool) (p : ℕ) → rest p ≡ true → search.held f q rest p ≡ true
-rest-at f search_stage.First rest p e = rest-held (find.own f.stage) (find.head_of f.cached) rest p e
+rest-at f search_stage.First rest p e = rest-held (find.own f.stage) (find.cached_head f.cached) rest p e
 rest-at f (search_stage.Free r) rest p e = e
-rest-at f search_stage.Second rest p e = rest-held (find.own f.stage) (find.head_of f.cached) rest p e
+rest-at f search_stage.Second rest p e = rest-held (find.own f.stage) (find.cached_head f.cached) rest p e
 
 module _ (a : ℕ) (v w : View) (m : Processor) (x : Wanted) where
   -- each cached span is so still, where the search's is and the seat holds the others
@@ -93,14 +93,14 @@ module _ (a : ℕ) (v w : View) (m : Processor) (x : Wanted) where
 
 -- What the seat holds is what is cached, with the search's own span.
 pub held-then : (m : Processor) (x : Sought) (j : Option CachedSpan) (o : Option ℕ) (p : ℕ) → length m.poll.local.cache ≡ SPAN_CLASSES → IsSought x → (((pages : ℕ) (noscan : Bool) → x ≡ Large pages noscan → j ≡ None)) →
-    find.with_span o (find.with_span (find.head_of j) (lists (cache_with m.poll.local.cache x None))) p ≡ find.with_span o (lists (cache_with m.poll.local.cache x j)) p
+    find.with_span o (find.with_span (find.cached_head j) (lists (cache_with m.poll.local.cache x None))) p ≡ find.with_span o (lists (cache_with m.poll.local.cache x j)) p
 held-then m x j o p long sought large = outer o where
-  it : (y : Sought) → IsSought y → ((pages : ℕ) (noscan : Bool) → y ≡ Large pages noscan → j ≡ None) → find.with_span (find.head_of j) (lists (cache_with m.poll.local.cache y None)) p ≡ lists (cache_with m.poll.local.cache y j) p
-  it (Small c) low e = sym (lists-cached (cache_with m.poll.local.cache (Small c) j) (Small c) p ∙ ap (λ (i : Option CachedSpan). find.with_span (find.head_of i) (lists (cache_with (cache_with m.poll.local.cache (Small c) j) (Small c) None)) p) (cached-same m.poll.local.cache c j long low)
-      ∙ ap (λ (xs : List (Option CachedSpan)). find.with_span (find.head_of j) (lists xs) p) (cached-then m.poll.local.cache (Small c) j None))
-  it (Large pages noscan) low e = ap (λ (i : Option CachedSpan). find.with_span (find.head_of i) (lists m.poll.local.cache) p) (e pages noscan refl)
+  it : (y : Sought) → IsSought y → ((pages : ℕ) (noscan : Bool) → y ≡ Large pages noscan → j ≡ None) → find.with_span (find.cached_head j) (lists (cache_with m.poll.local.cache y None)) p ≡ lists (cache_with m.poll.local.cache y j) p
+  it (Small c) low e = sym (lists-cached (cache_with m.poll.local.cache (Small c) j) (Small c) p ∙ ap (λ (i : Option CachedSpan). find.with_span (find.cached_head i) (lists (cache_with (cache_with m.poll.local.cache (Small c) j) (Small c) None)) p) (cached-same m.poll.local.cache c j long low)
+      ∙ ap (λ (xs : List (Option CachedSpan)). find.with_span (find.cached_head j) (lists xs) p) (cached-then m.poll.local.cache (Small c) j None))
+  it (Large pages noscan) low e = ap (λ (i : Option CachedSpan). find.with_span (find.cached_head i) (lists m.poll.local.cache) p) (e pages noscan refl)
 
-  outer : (o : Option ℕ) → find.with_span o (find.with_span (find.head_of j) (lists (cache_with m.poll.local.cache x None))) p ≡ find.with_span o (lists (cache_with m.poll.local.cache x j)) p
+  outer : (o : Option ℕ) → find.with_span o (find.with_span (find.cached_head j) (lists (cache_with m.poll.local.cache x None))) p ≡ find.with_span o (lists (cache_with m.poll.local.cache x j)) p
   outer None = it x sought large
   outer (Some q) = ap (λ (b : Bool). cond (eqb q p) true b) (it x sought large)
 

@@ -5,14 +5,14 @@ use Rattle.std.specs.Option.{option_to_list}
 use Rattle.std.proofs.lemmas.Bool.{eq-eqb}
 use Rattle.gh_mutator_heap.proofs.Owning.Vocabulary.{Act, acted, acting, answered, answered_at, asks, at_task, Does, ends, Fine, follows, goes_on, lists, OwnStepAt, set_register, ShapesAreGood, Takes}
 use Rattle.gh_mutator.specs.Vocabulary.{Answer, cell_of, IsOf, Op, REGISTERS, Value}
-use Rattle.gh_mutator_heap.specs.Vocabulary.{answer_of, Arena, ever_after, EverValue, Good, Means, moved, Right, Runs, Shared, Steps, told, View, view, with_register, Idle, Processor, Step, Task}
+use Rattle.gh_mutator_heap.specs.Vocabulary.{answer_of, Arena, ever_after, EverValue, Good, Means, moved, Right, GoroutineRuns, Shared, Steps, answer_of_value, View, view, with_register, Idle, Processor, Step, Task}
 use Rattle.gh_base.specs.declared.cell.Ask.TheVariants as ask
 use Rattle.gh_base.specs.declared.cell.Cell.{Cell}
 use Rattle.gh_base.specs.declared.value.Answer.TheVariants as answer
 use Rattle.gh_base.specs.declared.value.Value.TheVariants as value
 use Rattle.gh_model.specs.declared.EverValue.TheVariants as ever
 use Rattle.gh_heap.specs.Moves as moves
-use Rattle.gh_mutator.specs.Fields.{takes, told as told_by}
+use Rattle.gh_mutator.specs.Fields.{takes, value_told}
 use Rattle.gh_mutator.specs.Listing.{applied}
 use Rattle.gh_mutator_heap.proofs.Owning.Known.{Known}
 use Rattle.gh_mutator_heap.proofs.Owning.Steady.{HasCached, rights_with, Steady, steady_register}
@@ -84,7 +84,7 @@ module _ (S : Type 0) (into : S → Task) (z : Arena) (a : ℕ) (s : Shared) (m 
     pending_of (ever.Ref n) = Some (answer.Ref n)
     pending_of _ = None
 
-    tells : (x : EverValue) (w : Value) → Means s.place s.ever.made x w → told x ∷ [] ≡ option_to_list (pending_of x) ++ option_to_list (answered (told_by naming w))
+    tells : (x : EverValue) (w : Value) → Means s.place s.ever.made x w → answer_of_value x ∷ [] ≡ option_to_list (pending_of x) ++ option_to_list (answered (value_told naming w))
     tells ever.Nil value.Nil h = refl
     tells (ever.Int i) (value.Int j) h = ap (λ (y : ℕ). answer.Int y ∷ []) h
     tells (ever.Ref n) (value.Ref r) h = refl
@@ -95,14 +95,14 @@ module _ (S : Type 0) (into : S → Task) (z : Arena) (a : ℕ) (s : Shared) (m 
     tells (ever.Ref n) value.Nil h = absurd h
     tells (ever.Ref n) (value.Int j) h = absurd h
 
-    module _ (names : Names) (runs : Runs z (view s) a g) (few : d < REGISTERS) where
+    module _ (names : Names) (runs : GoroutineRuns z (view s) a g) (few : d < REGISTERS) where
       abbrev then : EverValue → View
       then x = record (view s) { ever = with_register s.ever g d x }
 
       here : (x : EverValue) → cond (eqb g g && eqb d d) x (s.ever.register g d) ≡ x
       here x = rw (eq-eqb g g refl, eq-eqb d d refl) refl
 
-      fine_then : (x : EverValue) (w : Value) → Means s.place s.ever.made x w → Steady z a (then x) (set_register m g d w) → Right a (then x) false (lists m.poll.local.cache) None → Fine z a (then x) (at_task (set_register m g d w) (follows into (told_by naming w))) (pending_of x)
+      fine_then : (x : EverValue) (w : Value) → Means s.place s.ever.made x w → Steady z a (then x) (set_register m g d w) → Right a (then x) false (lists m.poll.local.cache) None → Fine z a (then x) (at_task (set_register m g d w) (follows into (value_told naming w))) (pending_of x)
       fine_then ever.Nil value.Nil h st ri = idle z a (then ever.Nil) (set_register m g d value.Nil) st ri
       fine_then (ever.Int i) (value.Int j) h st ri = idle z a (then (ever.Int i)) (set_register m g d (value.Int j)) st ri
       fine_then (ever.Ref n) (value.Ref r) h st ri = names (r - 1) (then (ever.Ref n)) (set_register m g d (value.Ref r)) (Some (answer.Ref n)) st ri (record {
@@ -117,7 +117,7 @@ module _ (S : Type 0) (into : S → Task) (z : Arena) (a : ℕ) (s : Shared) (m 
       fine_then (ever.Ref n) value.Nil h st ri = absurd h
       fine_then (ever.Ref n) (value.Int j) h st ri = absurd h
 
-      pub took : Known → (c : Cell) (x : EverValue) (w : Value) → Means s.place s.ever.made x w → answer_of z.shapes s.ever o ≡ told x → ever_after z.shapes s.ever o (told x) ≡ with_register s.ever g d x →
+      pub took : Known → (c : Cell) (x : EverValue) (w : Value) → Means s.place s.ever.made x w → answer_of z.shapes s.ever o ≡ answer_of_value x → ever_after z.shapes s.ever o (answer_of_value x) ≡ with_register s.ever g d x →
           Comes S into z a s (moved z a s (moves.Takes (ask.Load c) g d x)) m g d o None (takes naming w)
       took laws c x w means is goes = record {
         after = pending_of x;

@@ -8,12 +8,12 @@ use Rattle.gh_base.specs.Reading.{read_after_set}
 use Rattle.gh_heap.specs.Rights.{Rights}
 use Rattle.gh_heap.specs.Spans.{Freeing, Laying}
 use Rattle.gh_alloc.specs.FindFacts.{IsCached}
-use Rattle.gh_mutator.specs.Local.{register_in, stacks_with, with_cached, with_register}
+use Rattle.gh_mutator.specs.Local.{register_in_stacks, stacks_with, with_cached, with_register_value}
 use Rattle.gh_mutator.specs.Vocabulary.{CachedSpan, IsOf, Large, MOST_GOROUTINES, Polling, REGISTERS, Small, Sought, SpanClass, Value}
-use Rattle.gh_mutator_heap.specs.Vocabulary.{Arena, Ever, EverValue, KeepsItsOwn, KeepsObjects, Means, Right, Row, Runs, View, with_register as ever_with, Processor}
+use Rattle.gh_mutator_heap.specs.Vocabulary.{Arena, Ever, EverValue, KeepsItsOwn, KeepsObjects, Means, Right, Row, GoroutineRuns, View, with_register as ever_with, Processor}
 use Rattle.gh_mutator_heap.proofs.Holding.Known.{cached_kept, HoldsSwept, stands_kept}
 use Rattle.gh_mutator_heap.proofs.Holding.Lists.{lists_it}
-use Rattle.gh_mutator_heap.proofs.Owning.Vocabulary.{cache_with, CachesAll, KnowsCounts, KnowsSpans, lists, RegistersFit, register_at, Rests, set_register, Sits}
+use Rattle.gh_mutator_heap.proofs.Owning.Vocabulary.{cache_with, CachesAll, KnowsCounts, KnowsSpans, lists, PollRegistersFit, register_at, Rests, set_register, Sits}
 
 abbrev pub Steady : Arena → (a : ℕ) → View → Processor → Type 0
 Steady z a v m = KnowsCounts z a v m.made × Rests z a v m.poll
@@ -33,21 +33,21 @@ goroutine_few z a g of = omega (arith, of.0, z.layout.limits.goroutines_fit.1)
 -- A register takes a value.
 
 module _ (stacks : List (List Value)) (g d : ℕ) (y : Value) (few : g < length stacks) where
-  same_register : d < length (get_or stacks g []) → register_in (stacks_with stacks g d y) g d ≡ y
+  same_register : d < length (get_or stacks g []) → register_in_stacks (stacks_with stacks g d y) g d ≡ y
   same_register low = ap (λ (r : List Value). get_or r d value.Nil) (get_or-set_same stacks g (set (get_or stacks g []) d y) [] few) ∙ get_or-set_same (get_or stacks g []) d y value.Nil low
 
-  beside : (c : ℕ) → c ≢ d → register_in (stacks_with stacks g d y) g c ≡ register_in stacks g c
+  beside : (c : ℕ) → c ≢ d → register_in_stacks (stacks_with stacks g d y) g c ≡ register_in_stacks stacks g c
   beside c ne = ap (λ (r : List Value). get_or r c value.Nil) (get_or-set_same stacks g (set (get_or stacks g []) d y) [] few) ∙ get_or-set_other (get_or stacks g []) d c y value.Nil ne
 
-  other_register : (h c : ℕ) → ((h ≡ g) → c ≢ d) → register_in (stacks_with stacks g d y) h c ≡ register_in stacks h c
+  other_register : (h c : ℕ) → ((h ≡ g) → c ≢ d) → register_in_stacks (stacks_with stacks g d y) h c ≡ register_in_stacks stacks h c
   other_register h c ne = go (eqb h g) refl where
-    go : (b : Bool) → eqb h g ≡ b → register_in (stacks_with stacks g d y) h c ≡ register_in stacks h c
+    go : (b : Bool) → eqb h g ≡ b → register_in_stacks (stacks_with stacks g d y) h c ≡ register_in_stacks stacks h c
     go true e =
         let same : h ≡ g = eqb-true h g e in
-        subst (λ (n : ℕ). register_in (stacks_with stacks g d y) n c ≡ register_in stacks n c) (sym same) (beside c (ne same))
+        subst (λ (n : ℕ). register_in_stacks (stacks_with stacks g d y) n c ≡ register_in_stacks stacks n c) (sym same) (beside c (ne same))
     go false e = ap (λ (r : List Value). get_or r c value.Nil) (get_or-set_other stacks g h (set (get_or stacks g []) d y) [] (eqb-false h g e))
 
-pub sits_register : (z : Arena) (a : ℕ) (p : Polling) (g d : ℕ) (y : Value) → Sits z a p → Sits z a (with_register p g d y)
+pub sits_register : (z : Arena) (a : ℕ) (p : Polling) (g d : ℕ) (y : Value) → Sits z a p → Sits z a (with_register_value p g d y)
 sits_register z a p g d y s = record {
   layout = s.layout;
   seat = s.seat;
@@ -60,8 +60,8 @@ sits_register z a p g d y s = record {
 }
 
 -- in the heap that never frees it takes what it means
-pub registers_then : (z : Arena) (a : ℕ) (v : View) (p : Polling) (g d : ℕ) (x : EverValue) (y : Value) → Sits z a p → IsOf z a g → d < REGISTERS → Means v.place v.ever.made x y → RegistersFit z a v p →
-    (h c : ℕ) → IsOf z a h → c < REGISTERS → Means v.place v.ever.made ((ever_with v.ever g d x).register h c) (register_at (with_register p g d y) h c)
+pub registers_then : (z : Arena) (a : ℕ) (v : View) (p : Polling) (g d : ℕ) (x : EverValue) (y : Value) → Sits z a p → IsOf z a g → d < REGISTERS → Means v.place v.ever.made x y → PollRegistersFit z a v p →
+    (h c : ℕ) → IsOf z a h → c < REGISTERS → Means v.place v.ever.made ((ever_with v.ever g d x).register h c) (register_at (with_register_value p g d y) h c)
 registers_then z a v p g d x y s of low means fit h c hof lc = go (eqb h g && eqb c d) refl where
   few : g < length p.local.stacks
   few = omega (arith, s.stacks, goroutine_few z a g of)
@@ -69,10 +69,10 @@ registers_then z a v p g d x y s of low means fit h c hof lc = go (eqb h g && eq
   in_row : d < length (get_or p.local.stacks g [])
   in_row = omega (arith, low, s.registers g (goroutine_few z a g of))
 
-  go : (b : Bool) → (eqb h g && eqb c d) ≡ b → Means v.place v.ever.made (cond b x (v.ever.register h c)) (register_at (with_register p g d y) h c)
+  go : (b : Bool) → (eqb h g && eqb c d) ≡ b → Means v.place v.ever.made (cond b x (v.ever.register h c)) (register_at (with_register_value p g d y) h c)
   go true t =
       let e = both (eqb h g) (eqb c d) t in
-      subst (λ (n : ℕ). Means v.place v.ever.made x (register_at (with_register p g d y) n c)) (sym (eqb-true h g e.0)) (subst (λ (n : ℕ). Means v.place v.ever.made x (register_at (with_register p g d y) g n)) (sym (eqb-true c d e.1))
+      subst (λ (n : ℕ). Means v.place v.ever.made x (register_at (with_register_value p g d y) n c)) (sym (eqb-true h g e.0)) (subst (λ (n : ℕ). Means v.place v.ever.made x (register_at (with_register_value p g d y) g n)) (sym (eqb-true c d e.1))
       (subst (λ (r : Value). Means v.place v.ever.made x r) (sym (same_register p.local.stacks g d y few in_row)) means))
   go false t = subst (λ (r : Value). Means v.place v.ever.made (v.ever.register h c) r) (sym (other_register p.local.stacks g d y few h c (λ e f. absurd (cc (t, eq-eqb h g e, eq-eqb c d f))))) (fit h c hof lc)
 
@@ -102,7 +102,7 @@ steady_register z a v m g d x y of low means st = (
   counts_with z a v (record v { ever = ever_with v.ever g d x }) m.made (λ h hof. refl) st.0,
   record {
     stands = record { sits = sits_register z a m.poll g d y st.1.stands.sits; registers = registers_then z a v m.poll g d x y st.1.stands.sits of low means st.1.stands.registers };
-    knows = knows_with a v v.field v.global (ever_with v.ever g d x) m.poll (with_register m.poll g d y) refl refl st.1.knows;
+    knows = knows_with a v v.field v.global (ever_with v.ever g d x) m.poll (with_register_value m.poll g d y) refl refl st.1.knows;
   },
 )
 
@@ -136,7 +136,7 @@ sits_cached z a p x k s = record { layout = s.layout; seat = s.seat; few = s.few
 pub same_counts : (z : Arena) (a : ℕ) (v w : View) (made : List ℕ) → KeepsObjects v w → KnowsCounts z a v made → KnowsCounts z a w made
 same_counts z a v w made o = counts_with z a v w made (λ g of. ap (λ (e : Ever). e.made g) o.0)
 
-pub same_runs : (z : Arena) (a g : ℕ) (v w : View) → KeepsObjects v w → Runs z v a g → Runs z w a g
+pub same_runs : (z : Arena) (a g : ℕ) (v w : View) → KeepsObjects v w → GoroutineRuns z v a g → GoroutineRuns z w a g
 same_runs z a g v w o r = record { of = r.of; goes_on = ap (λ (e : Ever). e.ended g) o.0 ∙ r.goes_on }
 
 -- what it holds still, where no object is made and no value changes

@@ -227,7 +227,7 @@ module _ (laws : Known) (z : Arena) (a : ℕ) (s : Shared) (m : Processor) (x : 
       writing : IsBefore w word ⊎ IsLast w word → Own (Writing w) None
       writing (inl b) = record { move = Quiet (write.asks w); may = b.leaves.quiet; words_are = refl; after = does (Writing w) None beside (writes_on b) }
       writing (inr b) = stored_by (Writing w) l few fit (write.asks w) (λ t. Does z a s t (here (Writing w)) None word)
-          (b.stores ∙ ap (λ (c : PointerCell). ask.Store (write.cell_at c) (write.word_of w.pointer)) it.same_cell ∙ ap (λ (n : ℕ). ask.Store (field_cell m.poll.layout (x.at + x.k)) n) (word_written z.layout (pointer_cell_at m.poll.layout (x.at + x.k)) held w it))
+          (b.stores ∙ ap (λ (c : PointerCell). ask.Store (write.cell_at c) (write.pointer_word w.pointer)) it.same_cell ∙ ap (λ (n : ℕ). ask.Store (field_cell m.poll.layout (x.at + x.k)) n) (word_written z.layout (pointer_cell_at m.poll.layout (x.at + x.k)) held w it))
           (does (Writing w) None (t (Writing w) l few fit)
           (subst (λ (o : Option (Unit {0})). ToWith (held_then w word) (t (Writing w) l few fit) None (after_write x (write.goes w word) o)) (sym b.ends) (lands (Writing w) l few fit (held_then w word) steady-then)))
 

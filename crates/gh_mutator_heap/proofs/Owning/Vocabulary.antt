@@ -5,6 +5,6 @@ pub use Rattle.gh_mutator.specs.Fields.{has_field, is_pointer_by, value_of, word
 pub use Rattle.gh_mutator.specs.Listing.{Act, acting, asks, begins, follows}
 pub use Rattle.gh_mutator.specs.Local.{cache_with, cached_in, register_at}
 pub use Rattle.gh_mutator.specs.New.{makes, op_of, own_span, searches}
-pub use Rattle.gh_mutator_heap.specs.PollHeap.{CachesAll, KnowsSpans, lists, RegistersFit, Rests, Sits, Stands}
+pub use Rattle.gh_mutator_heap.specs.PollHeap.{CachesAll, KnowsAtAnyTime, KnowsSpans, lists, PollRegistersFit, Rests, Sits}
 pub use Rattle.gh_mutator.specs.Processor.{at_task, cache_span, cached_for, register_of, set_register}
 pub use Rattle.gh_mutator.specs.Step.{answered, ends, goes_on}

@@ -23,7 +23,7 @@ use Rattle.gh_mutator.specs.declared.task.Task.TheVariants as task
 use Rattle.gh_mutator.specs.declared.wait.WaitStage.TheVariants as wait_stage
 use Rattle.gh_mutator.specs.Barrier.{written}
 use Rattle.gh_mutator_writes.specs.Calm.{SetsWithNone, StoresWithNone}
-use Rattle.gh_mutator.specs.Fields.{has_field, is_pointer_by, kinds_differ, told as told_by, value_of}
+use Rattle.gh_mutator.specs.Fields.{has_field, is_pointer_by, kinds_differ, value_of, value_told}
 use Rattle.gh_mutator.specs.Give as give
 use Rattle.gh_mutator.specs.Global as global
 use Rattle.gh_mutator.specs.Handshake.{poller_at, waiter_at}
@@ -42,7 +42,7 @@ use Rattle.gh_mutator.specs.Wait as wait
 use Rattle.gh_mutator_writes.proofs.Vocabulary.{Assist, assisting, assists, Global, GlobalStage, Local, StoreStage, after_gc, after_leave, after_poll, applied, At, cache_span, CachedSpan, Ends, follows, Found, GivesNoBuffer, GiveStage, GoesOn, Held, HoldsNoBuffer, IsNoBuffer, KnowsNoMarking, Layout, LeaveStage, LeavesWithNone, Leaving, leaving, MakesWithNone, NewStage, NoRoom, party_at, phase_of, Place, Placing, polls_at, PollStage, PollsWithNone, Processor, register_of, Resumed, ResumeStage, run_phase, RunPhase, RunsWithNone, Search, Seeking, Shape, stage_at, Step, takes_at, taking, Task, Then, Value, Wait, Waiting, waits_at, WaitStage, WaitsWithNone, Wanted, Want}
 
 -- The giving back.
-first_none : (class : ℕ) (spans : List (Option CachedSpan)) → IsNoBuffer (give.first_of class spans)
+first_none : (class : ℕ) (spans : List (Option CachedSpan)) → IsNoBuffer (give.first_cached class spans)
 first_none class [] = tt
 first_none class (Some s ∷ spans) = tt
 first_none class (None ∷ spans) = first_none (class + 1) spans
@@ -91,7 +91,7 @@ resume_none : (p : Polling) (r : resume.Resuming) (q : ResumeStage) (found : ℕ
 resume_none p r resume_stage.LoadPhase found e off =
     let to : resume.Resuming = resume.goes_at r resume_stage.LoadPhase found in
     subst (λ (out : Option Resumed). PollHoldsNone (poll.after_resume p to out)) (sym (phase_on r (phase_of found).stops (run_phase (phase_of found).phase))) (e, tt)
-resume_none p r resume_stage.LoadBegun found e off = marks_none (poll.resumed p (resume.resumed r.view found)) r.view.phase off e
+resume_none p r resume_stage.LoadBegun found e off = marks_none (poll.resumed p (resume.resumed_with r.view found)) r.view.phase off e
 resume_none p r (resume_stage.Ended another) found e off = marks_none (poll.resumed p (record { view = r.view; another_cycle = another })) r.view.phase off e
 resume_none p r _ found e off = (e, tt)
 
@@ -205,7 +205,7 @@ module _ (l : Layout) (own : Local) (off : is_mark own.view.phase ≡ false) (he
 
 global_goes : (l : Layout) (held : Value) (x : Global) (q : GlobalStage) (found : ℕ) → SetsWithNone q → GoesNone task.Global (global.step_at l held x q found).then
 global_goes l held x global_stage.Load found h = by (value_of l.pages true found) where
-  by : (v : Value) → GoesNone task.Global (told_by (global.naming x) v)
+  by : (v : Value) → GoesNone task.Global (value_told (global.naming x) v)
   by value.Nil = tt
   by (value.Int n) = tt
   by (value.Ref r) = λ p. tt
@@ -271,7 +271,7 @@ module _ (marks : AnObjectIsMarkedBeforeItIsMade) (shapes : List Shape) (m : Pro
   new_none : (n : Wanted) (q : NewStage) → MakesWithNone m.poll q → KnowsNoMarking (party_at m.poll (task.New (record { wanted = n; stage = q }))) (stage_at m.poll (task.New (record { wanted = n; stage = q }))) → HoldsNoBuffer (new.takes_at shapes m n q found)
   new_none n (Search waited y) x off = found_none shapes m n waited (search.goes y found).find.cached (search.goes y found) (search.gives y found) off e
   new_none n (Wait y) x off = let w : Waiting = wait.waiting y m.poll in waited_none n (wait.goes w found) (wait.gives w found) (wait_none w y.stage found e x off)
-  new_none n (Place y) x off = made_none m n (place.acts y) y.at (place.goes y found) (not_mark m.poll.local.view.phase off) (marks.stays_off y found x) e
+  new_none n (Place y) x off = made_none m n (place.makes_its_object y) y.at (place.goes y found) (not_mark m.poll.local.view.phase off) (marks.stays_off y found x) e
   new_none n (Want u) x off = record { none = e; runs = tt }
   new_none n (Assist u y) x off = absurd x
 

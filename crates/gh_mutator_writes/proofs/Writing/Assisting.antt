@@ -84,7 +84,7 @@ module _ (pay : AssistsPay) where
     new_sound : (w : Wanted) (q : NewStage) → SoundAssistAt m.poll q → IsSoundAt (new.takes_at shapes m w q found)
     new_sound w (Search waited y) s = search_sound shapes (cache_span m w.sought (search.goes y found).find.cached) w waited (search.goes y found) (search.gives y found)
     new_sound w (Wait x) s = wait_sound m w (wait.goes (wait.waiting x m.poll) found) (wait.gives (wait.waiting x m.poll) found)
-    new_sound w (Place y) s = place_sound m w (place.acts y) y.at (place.goes y found)
+    new_sound w (Place y) s = place_sound m w (place.makes_its_object y) y.at (place.goes y found)
     new_sound w (Want n) s = tt
     new_sound w (Assist n x) s = assist_sound m w n (assist.goes x found) (assist.gives x found) (s.0, pay.sound_goes x found s.1)
 

@@ -108,7 +108,7 @@ abbrev GoesOn : StackStage → Type 0
 GoesOn stack_stage.Ended = ⊥
 GoesOn _ = Unit {0}
 
-first_goes_on : (register : ℕ) (values : List Value) → GoesOn (stack.first_of register values)
+first_goes_on : (register : ℕ) (values : List Value) → GoesOn (stack.first_reference register values)
 first_goes_on register [] = tt
 first_goes_on register (value.Ref reference ∷ values) = tt
 first_goes_on register (value.Nil ∷ values) = first_goes_on (register + 1) values
@@ -139,7 +139,7 @@ scans_stay : (p : Polling) → p.local.view.phase ≡ run.Mark → (out : Option
 scans_stay p on None is = counted_stays p
 scans_stay p on (Some g) is =
     let d = due_scans p.layout p.seat p.waits p.local g is in
-    record { layout = refl; seat = refl; scanned = refl; scan = record { there = d.there; own = d.own; marking = on; of = refl; cycle_is = refl; unscanned = λ number. d.unscanned; by_wish = by_wish p.layout p.local.held (stack.stage_from (slice_index_or p.local.stacks g []) 0) (first_goes_on 0 (slice_index_or p.local.stacks g [])) } }
+    record { layout = refl; seat = refl; scanned = refl; scan = record { there = d.there; own = d.own; marking = on; of = refl; cycle_is = refl; unscanned = λ number. d.unscanned; by_wish = by_wish p.layout p.local.held (stack.shade_stage_from (slice_index_or p.local.stacks g []) 0) (first_goes_on 0 (slice_index_or p.local.stacks g [])) } }
 
 marks_stay : (p : Polling) (phase : RunPhase) → p.local.view.phase ≡ phase → Stays p (marks_then p phase)
 marks_stay p run.Off e = record { layout = refl; seat = refl; scanned = refl; scan = tt }

@@ -77,7 +77,7 @@ module _ (k : AssistsAreQuiet) (shapes : List Shape) (m : Processor) (found : �
   new_goes : (n : Wanted) (q : NewStage) → Goes (new.asks_at m q) m.poll (new.takes_at shapes m n q found).poll
   new_goes n (Search waited y) = goes_by _ m.poll _ (search_writes NotStack heap_not y (λ sw e. record { alloc = λ i. tt; mark = λ i. tt; tally = tt; live = tt; heap = tt })) (found_stays shapes m n waited (search.goes y found).find.cached (search.goes y found) (search.gives y found) s)
   new_goes n (Wait x) = new_waits n x
-  new_goes n (Place y) = goes_by _ m.poll _ (place_writes NotStack heap_not y (λ e. tt) (λ e. tt)) (made_stays m n (place.acts y) y.at (place.goes y found) s)
+  new_goes n (Place y) = goes_by _ m.poll _ (place_writes NotStack heap_not y (λ e. tt) (λ e. tt)) (made_stays m n (place.makes_its_object y) y.at (place.goes y found) s)
   new_goes n (Want u) = goes_by _ m.poll _ tt (stays_so m.poll s)
   new_goes n (Assist u y) = goes_by _ m.poll _ (assist_writes NotStack marking_not (assist.asks y) (λ old new e. tt) (k.writes y)) (assist_stays m n u (assist.goes y found) (assist.gives y found) s)
 

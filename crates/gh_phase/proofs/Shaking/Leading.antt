@@ -11,7 +11,7 @@ use Rattle.gh_base.specs.Steps.{effect, cell_of}
 use Rattle.gh_phase.specs.declared.view.RunPhase.{RunPhase}
 use Rattle.gh_phase.specs.declared.view.RunPhase.TheVariants.{Off, Finished}
 use Rattle.gh_phase.specs.declared.view.View.{View}
-use Rattle.gh_phase.specs.Handshake.{begins, behind_ack, Calm, ends, finishes, goes, IsAcked, IsQuiet, is_stop, last_of, Lead, LeadGoes, Looks, next_cycle, next_generation, next_stop, Post, quiet, run_word, sees, Stage, stop_word, Stopped, stops}
+use Rattle.gh_phase.specs.Handshake.{begins, behind_ack, Calm, ends, finishes, goes, IsAcked, IsQuietInHandshake, is_stop, last_of, Lead, LeadGoes, Looks, next_cycle, next_generation, next_stop, Post, quiet, run_word, sees, Stage, stop_word, Stopped, stops}
 use Rattle.gh_phase.specs.Shakes.{phase_stored}
 use Rattle.gh_phase.proofs.Shaking.Owning.{Shown, still}
 use Rattle.gh_phase.proofs.Shaking.Standing.{Announced, Fits, keeps_finish, keeps_parked, keeps_stop, next_fits, parked, run_told, Stands, stop_told}
@@ -50,7 +50,7 @@ module _ (back : (p : PhaseWord) → phase_of (phase_word p) ≡ p) (n : ℕ) (w
   abbrev at : Post → Lead
   at p = record { stops = s; begun = k; generation = h; post = p }
 
-  lead_quiet : (p : Post) (ask : Ask) → IsQuiet ask → Good n w last (at p) → Next n w last (at p) ask (at p)
+  lead_quiet : (p : Post) (ask : Ask) → IsQuietInHandshake ask → Good n w last (at p) → Next n w last (at p) ask (at p)
   lead_quiet p ask q g =
       let t = still w ask q in
       record {

@@ -10,23 +10,23 @@ use Rattle.gh_base.specs.Lists.{Begins, Legal, MayFollow, Setting, started, stat
 use Rattle.gh_base.specs.Packing.{phase_of, phase_word}
 use Rattle.gh_base.specs.Steps.{cell_of, effect}
 use Rattle.gh_phase.specs.declared.view.RunPhase.{RunPhase}
-use Rattle.gh_phase.specs.Handshake.{Acts, Awake, first_lead, Gives, Gone, is_stop, IsHandshake, last_of, Lead, LeadGoes, Leads, Leaves, Party, Place, PlaceBegins, PlaceGoes, Post, Resumes, run_word, Stage, stop_word}
+use Rattle.gh_phase.specs.Handshake.{Acts, Awake, first_lead, Gives, Gone, HandshakePlace, is_stop, IsHandshake, last_of, Lead, LeadGoes, Leads, Leaves, Party, PlaceBegins, PlaceGoes, Post, Resumes, run_word, Stage, stop_word}
 use Rattle.gh_phase.specs.Shakes.{IsAwake, last_phase, phase_stored, Shakes}
 use Rattle.gh_phase.proofs.Shaking.Leading.{announced, Good, led, Next}
 use Rattle.gh_phase.proofs.Shaking.Owning.{own, OwnStep, Shown}
 use Rattle.gh_phase.proofs.Shaking.Standing.{acked_moves, Announced, Copies, Fits, is_gone, Moves, parked, Stands}
 
 -- what holds of the place of the actor at seat a
-abbrev pub Fine : Announced → (a ack : ℕ) → Place → Type 0
+abbrev pub Fine : Announced → (a ack : ℕ) → HandshakePlace → Type 0
 Fine v a ack (Acts party stage) = (party.seat ≡ a) × Stands v ack party.view stage
 Fine v a ack (Leads l) = ⊥
 
 -- beginning an operation leaves what holds of a place
-pub begins_fine : (v : Announced) (a ack : ℕ) (from to : Place) → PlaceBegins from to → Fine v a ack from → Fine v a ack to
+pub begins_fine : (v : Announced) (a ack : ℕ) (from to : HandshakePlace) → PlaceBegins from to → Fine v a ack from → Fine v a ack to
 begins_fine v a ack from to (inl e) f = rw e f
 begins_fine v a ack from to (inr e) f = rw e.2 (rw e.1 at f)
 
-pub begins_lead : (l : Lead) (from to : Place) → PlaceBegins from to → from ≡ Leads l → to ≡ Leads l
+pub begins_lead : (l : Lead) (from to : HandshakePlace) → PlaceBegins from to → from ≡ Leads l → to ≡ Leads l
 begins_lead l from to (inl e) h = e ∙ h
 begins_lead l from to (inr e) h = let both : Acts e.0 Awake ≡ Leads l = sym e.1 ∙ h in absurd cc
 
@@ -43,13 +43,13 @@ own_good n w u ask last l a o g = record {
   each b false h = inl (o.others b (λ y. grind (arith, nat_tests)))
 
 module _ (back : (p : PhaseWord) → phase_of (phase_word p) ≡ p) where
-  pub own_place : (v : Announced) → Fits v → (a n found : ℕ) (w : Words) → Shown v w → (ask : Ask) (from to : Place) → found ≡ w (cell_of ask) → PlaceGoes n found from ask to → Fine v a (w (Ack a)) from →
+  pub own_place : (v : Announced) → Fits v → (a n found : ℕ) (w : Words) → Shown v w → (ask : Ask) (from to : HandshakePlace) → found ≡ w (cell_of ask) → PlaceGoes n found from ask to → Fine v a (w (Ack a)) from →
       OwnStep v a w (effect w ask) ask × Fine v a (effect w ask (Ack a)) to
   own_place v h a n found w s ask (Acts from stage) (Acts to next) e g f = let o = own back v h a w s found from to stage next ask e f.0 g f.1 in (o.step, (o.seat, o.stands))
   own_place v h a n found w s ask (Acts from stage) (Leads m) e g f = absurd g
   own_place v h a n found w s ask (Leads l) to e g f = absurd f
 
-  led_place : (n found : ℕ) (last : RunPhase) (w : Words) (l : Lead) (ask : Ask) (from to : Place) → from ≡ Leads l → found ≡ w (cell_of ask) → PlaceGoes n found from ask to → Good n w last l →
+  led_place : (n found : ℕ) (last : RunPhase) (w : Words) (l : Lead) (ask : Ask) (from to : HandshakePlace) → from ≡ Leads l → found ≡ w (cell_of ask) → PlaceGoes n found from ask to → Good n w last l →
       (m : Lead) × (to ≡ Leads m) × Next n w last l ask m
   led_place n found last w l ask (Leads x) (Leads m) here e g good =
       let same : x ≡ l = cc in
@@ -57,7 +57,7 @@ module _ (back : (p : PhaseWord) → phase_of (phase_word p) ≡ p) where
   led_place n found last w l ask (Leads x) (Acts to next) here e g good = absurd g
   led_place n found last w l ask (Acts from stage) to here e g good = absurd cc
 
-module _ {M O : Type 0} (setting : Setting M O) (n : ℕ) (sound : M → Type 0) (place : M → Place) where
+module _ {M O : Type 0} (setting : Setting M O) (n : ℕ) (sound : M → Type 0) (place : M → HandshakePlace) where
   abbrev pub state : List (Entry O) → ℕ → M
   state es a = state_of setting.kind a es
 
@@ -140,7 +140,7 @@ module _ {M O : Type 0} (setting : Setting M O) (n : ℕ) (sound : M → Type 0)
               fine = λ a l. rw (state_other a e es (λ x. omega arith), next.2.acks a) (fine_kept next.0 next.2 a l (place (state es a)) (i.fine a l));
               sounds = sounds_kept es e f i.sounds;
             } where
-              fine_kept : (u : Lead) → Next n w (last_phase es) i.lead e.ask u → (a : ℕ) → a < n → (p : Place) → Fine (announced i.lead) a (w (Ack a)) p → Fine (announced u) a (w (Ack a)) p
+              fine_kept : (u : Lead) → Next n w (last_phase es) i.lead e.ask u → (a : ℕ) → a < n → (p : HandshakePlace) → Fine (announced i.lead) a (w (Ack a)) p → Fine (announced u) a (w (Ack a)) p
               fine_kept u next a l (Acts party stage) g = (g.0, next.stands a l party.view stage g.1)
               fine_kept u next a l (Leads x) g = g
 
@@ -174,7 +174,7 @@ module _ {M O : Type 0} (setting : Setting M O) (n : ℕ) (sound : M → Type 0)
     awake v ack party (Resumes stops stage) a f = absurd a
     awake v ack party Gone a f = absurd a
 
-    seated : (v : Announced) (a ack : ℕ) (q : Place) → Fine v a ack q → (party : Party) × (stage : Stage) × (q ≡ Acts party stage) × (party.seat ≡ a)
+    seated : (v : Announced) (a ack : ℕ) (q : HandshakePlace) → Fine v a ack q → (party : Party) × (stage : Stage) × (q ≡ Acts party stage) × (party.seat ≡ a)
     seated v a ack (Acts party stage) f = (party, stage, refl, f.0)
     seated v a ack (Leads l) f = absurd f
 

@@ -13,7 +13,7 @@ use Rattle.gh_base.specs.Steps.{effect, cell_of}
 use Rattle.gh_phase.specs.declared.resume.ResumeStage.{ResumeStage}
 use Rattle.gh_phase.specs.declared.resume.ResumeStage.TheVariants.{Acknowledge, LoadPhase, LoadGeneration, LoadBegun, Ended}
 use Rattle.gh_phase.specs.declared.view.RunPhase.{RunPhase}
-use Rattle.gh_phase.specs.Handshake.{Awake, FromAwake, Gives, Gone, IsFree, IsQuiet, Leaves, Party, resume_asks, Resumes, Stage, StageGoes}
+use Rattle.gh_phase.specs.Handshake.{Awake, FromAwake, Gives, Gone, IsFree, IsQuietInHandshake, Leaves, Party, resume_asks, Resumes, Stage, StageGoes}
 use Rattle.gh_phase.specs.Shakes.{phase_stored}
 use Rattle.gh_phase.proofs.Shaking.Standing.{Announced, Finds, Fits, is_on, Moves, number_told, owed_on, resume_ack, resumes, Stands, word_of}
 
@@ -61,7 +61,7 @@ store_last _ x p q = refl
 same_still : (w u : Words) (ask : Ask) → ((p : RunPhase) → phase_stored ask p ≡ p) → Same w u → IsStill w u ask
 same_still w u ask k s = record { acks = s.acks; phase = s.phase; generation = s.generation; begun = s.begun; last = k }
 
-pub still : (w : Words) (ask : Ask) → IsQuiet ask → IsStill w (effect w ask) ask
+pub still : (w : Words) (ask : Ask) → IsQuietInHandshake ask → IsStill w (effect w ask) ask
 still w (Load c) q = record { acks = λ b. refl; phase = refl; generation = refl; begun = refl; last = λ p. refl }
 still w (Store c x) q = same_still w (put w c x) (Store c x) (λ p. store_last c x p q) (put_free w c x q)
 still w (Or c x) q = same_still w (put w c (bit_or (w c) x)) (Or c x) (λ p. refl) (put_free w c (bit_or (w c) x) q)
@@ -94,7 +94,7 @@ pub record Owned (v : Announced) (a : ℕ) (w : Words) (ask : Ask) (to : Party) 
   pub stands : Stands v (effect w ask (Ack a)) to.view stage
 
 module _ (back : (p : PhaseWord) → phase_of (phase_word p) ≡ p) (v : Announced) (fits : Fits v) (a : ℕ) (w : Words) (shown : Shown v w) where
-  calm : (ask : Ask) (from to : Party) (stage : Stage) → IsQuiet ask → to ≡ from → from.seat ≡ a → Stands v (w (Ack a)) from.view stage → Owned v a w ask to stage
+  calm : (ask : Ask) (from to : Party) (stage : Stage) → IsQuietInHandshake ask → to ≡ from → from.seat ≡ a → Stands v (w (Ack a)) from.view stage → Owned v a w ask to stage
   calm ask from to stage free same seat f =
       let s = still w ask free in
       record { step = still_own v a w (effect w ask) ask s; seat = rw same seat; stands = rw (same, s.acks a) f }

@@ -13,7 +13,7 @@ use Rattle.gh_base.specs.Steps.{cell_of}
 use Rattle.gh_phase.specs.declared.resume.ResumeStage.TheVariants.{Acknowledge, LoadPhase, LoadGeneration}
 use Rattle.gh_phase.specs.declared.view.RunPhase.{RunPhase}
 use Rattle.gh_phase.specs.declared.view.RunPhase.TheVariants.{Finished}
-use Rattle.gh_phase.specs.Handshake.{Acts, Awake, Gone, IsAcked, IsHandshake, is_stop, Lead, LeadGoes, Leads, Place, PlaceBegins, PlaceGoes, Resumes, Stage, StageGoes, stop_word, Stopped, with_phase}
+use Rattle.gh_phase.specs.Handshake.{Acts, Awake, Gone, IsAcked, IsHandshake, is_stop, Lead, LeadGoes, Leads, HandshakePlace, PlaceBegins, PlaceGoes, Resumes, Stage, StageGoes, stop_word, Stopped, with_phase}
 use Rattle.gh_phase.specs.Shakes.{FinishedStays, GoneStay, IsParked, last_phase, NobodyMoves, phase_stored}
 use Rattle.gh_phase.specs.Views.{run_phase}
 use Rattle.gh_phase.proofs.Shaking.Leading.{announced, led_finished}
@@ -25,11 +25,11 @@ abbrev halts : (stops number : ℕ) → Bool → Option RunPhase → Stage
 halts stops number same None = cond same (Resumes stops LoadPhase) (Resumes number Acknowledge)
 halts stops number same (Some phase) = Resumes stops LoadGeneration
 
-module _ (back : (p : PhaseWord) → phase_of (phase_word p) ≡ p) {M O : Type 0} (setting : Setting M O) (n : ℕ) (sound : M → Type 0) (place : M → Place) (h : IsHandshake setting n sound place) (e : Entry O) (es : List (Entry O)) (legal : Legal setting (e ∷ es)) where
+module _ (back : (p : PhaseWord) → phase_of (phase_word p) ≡ p) {M O : Type 0} (setting : Setting M O) (n : ℕ) (sound : M → Type 0) (place : M → HandshakePlace) (h : IsHandshake setting n sound place) (e : Entry O) (es : List (Entry O)) (legal : Legal setting (e ∷ es)) where
   abbrev acked : ℕ → ℕ
   acked a = words_after setting.opening es (Ack a)
 
-  abbrev at : ℕ → Place
+  abbrev at : ℕ → HandshakePlace
   at a = place (state_of setting.kind a es)
 
   abbrev moved : M
@@ -48,7 +48,7 @@ module _ (back : (p : PhaseWord) → phase_of (phase_word p) ≡ p) {M O : Type 
   fine l = begins_fine (announced before.lead) e.actor (acked e.actor) (at e.actor) (place moved) both.1 (before.fine e.actor l)
 
   -- one that is gone makes no step
-  gone_rests : (from to : Place) (v : Announced) (a ack : ℕ) → Fits v → Fine v a ack from → ack ≡ GONE → PlaceGoes n e.found from e.ask to → ⊥
+  gone_rests : (from to : HandshakePlace) (v : Announced) (a ack : ℕ) → Fits v → Fine v a ack from → ack ≡ GONE → PlaceGoes n e.found from e.ask to → ⊥
   gone_rests (Acts party stage) (Acts to next) v a ack x f y g = rest stage (is_gone v ack party.view stage x f.1 y) g where
     rest : (p : Stage) → p ≡ Gone → StageGoes e.found party p e.ask to next → ⊥
     rest p z g = rw z at g
@@ -63,7 +63,7 @@ module _ (back : (p : PhaseWord) → phase_of (phase_word p) ≡ p) {M O : Type 
     j : Inv setting n sound place (e ∷ es)
     j = holds setting n sound place h back (e ∷ es) legal
 
-    kept : (p : Place) → Fine (announced i.lead) a (acked a) p → Fine (announced j.lead) a (words_after setting.opening (e ∷ es) (Ack a)) p → words_after setting.opening (e ∷ es) (Ack a) ≡ GONE
+    kept : (p : HandshakePlace) → Fine (announced i.lead) a (acked a) p → Fine (announced j.lead) a (words_after setting.opening (e ∷ es) (Ack a)) p → words_after setting.opening (e ∷ es) (Ack a) ≡ GONE
     kept (Acts party stage) f g = rest stage (is_gone (announced i.lead) (acked a) party.view stage i.good.fits f.1 y) g.1 where
       rest : (p : Stage) → p ≡ Gone → Stands (announced j.lead) (words_after setting.opening (e ∷ es) (Ack a)) party.view p → words_after setting.opening (e ∷ es) (Ack a) ≡ GONE
       rest p z g = rw z at g
@@ -78,7 +78,7 @@ module _ (back : (p : PhaseWord) → phase_of (phase_word p) ≡ p) {M O : Type 
     go false x = kept (at a) (i.fine a l) (rw (← state_other setting n sound place a e es (λ z. grind (arith, nat_tests))) (j.fine a l))
 
   -- a step of who waits at the stop that stands
-  waits : (v : Announced) (from to : Place) → Fits v → v.on ≡ true → (a ack : ℕ) → Fine v a ack from → IsAcked v.stops ack → e.found ≡ words_after setting.opening es (cell_of e.ask) → words_after setting.opening es Phase ≡ word_of v → PlaceGoes n e.found from e.ask to →
+  waits : (v : Announced) (from to : HandshakePlace) → Fits v → v.on ≡ true → (a ack : ℕ) → Fine v a ack from → IsAcked v.stops ack → e.found ≡ words_after setting.opening es (cell_of e.ask) → words_after setting.opening es Phase ≡ word_of v → PlaceGoes n e.found from e.ask to →
       (e.ask ≡ Load Phase) × (e.found ≡ stop_word v.stops) × (to ≡ from)
   waits v (Acts party stage) (Acts to next) x on a ack f k found phase g = rest stage (parked v ack party.view stage x on k f.1) g where
     at_phase : e.ask ≡ Load Phase → e.found ≡ stop_word v.stops
@@ -104,7 +104,7 @@ module _ (back : (p : PhaseWord) → phase_of (phase_word p) ≡ p) {M O : Type 
   waits v (Acts party stage) (Leads l) x on a ack f k found phase g = absurd g
   waits v (Leads l) to x on a ack f k found phase g = absurd f
 
-  parked_begins : (v : Announced) (a ack : ℕ) (from to : Place) → Fits v → v.on ≡ true → IsAcked v.stops ack → Fine v a ack from → PlaceBegins from to → to ≡ from
+  parked_begins : (v : Announced) (a ack : ℕ) (from to : HandshakePlace) → Fits v → v.on ≡ true → IsAcked v.stops ack → Fine v a ack from → PlaceBegins from to → to ≡ from
   parked_begins v a ack from to x on k f (inl e) = e
   parked_begins v a ack from to x on k f (inr e) = let g = rw e.1 at f in absurd (parked v ack e.0.view Awake x on k g.1)
 
@@ -118,7 +118,7 @@ module _ (back : (p : PhaseWord) → phase_of (phase_word p) ≡ p) {M O : Type 
       let all = waits (announced before.lead) (place moved) (place (state_of setting.kind e.actor (e ∷ es))) before.good.fits on e.actor (acked e.actor) (fine l) seen legal.1.found before.good.shown.phase goes_on in
       (all.0, all.1 ∙ rw same refl, all.2 ∙ still)
 
-  led_place_finished : (from to : Place) → from ≡ Leads before.lead → PlaceGoes n e.found from e.ask to → last_phase es ≡ Finished → phase_stored e.ask (last_phase es) ≡ Finished
+  led_place_finished : (from to : HandshakePlace) → from ≡ Leads before.lead → PlaceGoes n e.found from e.ask to → last_phase es ≡ Finished → phase_stored e.ask (last_phase es) ≡ Finished
   led_place_finished (Leads x) (Leads m) here g f =
       let same : x ≡ before.lead = cc in
       led_finished n e.found (words_after setting.opening es) before.lead m e.ask (last_phase es) before.good.last_is (subst (λ (y : Lead). LeadGoes n e.found y e.ask m) same g) f

@@ -14,7 +14,7 @@ use Rattle.gh_base.specs.Packing.{page_of}
 use Rattle.gh_base.specs.Rows.{page_words, Row, row_bit, RowsAreWritten}
 use Rattle.gh_sweep.specs.Bits.{sum_below}
 use Rattle.gh_sweep.specs.AtEnd.{at_end, EndsWell, far_in, in_no_span, reaches, some_below}
-use Rattle.gh_sweep.specs.Shared.{alloc_at, bit_words_of, By, cleared_at, CycleEnd, Due, freed_at, generation_of, Good, HasEnded, HeapGood, in_all, InSpan, kept_at, LeftGood, left, live_at, LiveGood, marks_at, MarksGood, nothing, owed, SaysFar, TallyGood, view}
+use Rattle.gh_sweep.specs.Shared.{alloc_at, bit_words_of, By, cleared_at, CycleEnd, Due, freed_at, generation_of, Good, HasEnded, HeapGood, in_all, InSpan, kept_at, LeftGood, left_uncut, live_at, LiveGood, marks_at, UnclearedMarksStand, nothing_due, owed, SaysFar, TallyGood, view}
 use Rattle.gh_sweep.proofs.Sharing.Pages.{unswept_done}
 use Rattle.gh_sweep.proofs.Sharing.Sums.{left_all, sum_zero}
 
@@ -90,7 +90,7 @@ module _ (rows : RowsAreWritten) (e : CycleEnd) (ended : HasEnded e) where
       let s = span_found (page_words e.words) i is in
       record { span = s; unswept = λ done. unswept_done (ap far_in (sym s.head) ∙ done) }
 
-  marks : MarksGood (marks_at e) (marks_at e) flag
+  marks : UnclearedMarksStand (marks_at e) (marks_at e) flag
   marks i = go (flag i) refl where
     go : (b : Bool) → flag i ≡ b → marks_at e i ≡ cond b 0 (marks_at e i)
     go true is = (none_there i is).1
@@ -107,8 +107,8 @@ module _ (rows : RowsAreWritten) (e : CycleEnd) (ended : HasEnded e) where
 
   -- Nothing is told, owed or pending, and in words that need no sweep nothing was.
 
-  owes_none : (part : Due → ℕ) → part nothing ≡ 0 → owed part (at_end e).due (seats_of e.layout) ≡ 0
-  owes_none part none = sum_zero (λ a. part nothing) (seats_of e.layout) (λ a l. none)
+  owes_none : (part : Due → ℕ) → part nothing_due ≡ 0 → owed part (at_end e).due (seats_of e.layout) ≡ 0
+  owes_none part none = sum_zero (λ a. part nothing_due) (seats_of e.layout) (λ a l. none)
 
   no_ones : (word with : ℕ) → word ≡ 0 → count_ones (bit_and word with) ≡ 0
   no_ones word with is = let l = and_le_l word with in let ones = ones_le_self (bit_and word with) in omega arith
@@ -122,7 +122,7 @@ module _ (rows : RowsAreWritten) (e : CycleEnd) (ended : HasEnded e) where
   no_bytes : (n i : ℕ) → n ≡ 0 → n * e.slot i ≡ 0
   no_bytes n i is = let product : n * e.slot i ≡ 0 * e.slot i = ap (λ (x : ℕ). x * e.slot i) is in omega (arith, product)
 
-  all_left : (each : ℕ → ℕ) → ((i : ℕ) → flag i ≡ true → each i ≡ 0) → left each flag (bit_words_of e) ≡ in_all e each
+  all_left : (each : ℕ → ℕ) → ((i : ℕ) → flag i ≡ true → each i ≡ 0) → left_uncut each flag (bit_words_of e) ≡ in_all e each
   all_left each none = left_all each flag (bit_words_of e) none
 
   tallied : TallyGood e (e.words cell.Tally) flag (at_end e).due

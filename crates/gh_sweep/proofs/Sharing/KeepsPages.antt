@@ -12,8 +12,8 @@ use Rattle.gh_class.specs.Classes.{IsSizeClass, slot_of}
 use Rattle.gh_heap.specs.Moves.{update}
 use Rattle.gh_heap.specs.Spans.{owned_by}
 use Rattle.gh_sweep.specs.Listing.{bit_words, in_sweep, once_swept, slot_bytes, slot_bytes_of}
-use Rattle.gh_sweep.specs.Moves.{HasHead, IsEmpty, IsNoHead}
-use Rattle.gh_sweep.specs.Shared.{ApartGood, By, CycleEnd, Done, DueGood, Far, generation_of, Good, HasEnded, HeadsGood, InsideGood, InSpan, IsHeadIn, IsNumbered, LeftGood, nothing, NumbersGood, SaysFar, SlotsGood, Unswept, UntouchedGood, View}
+use Rattle.gh_sweep.specs.Moves.{HasHead, HasNoAllocBit, IsNoHead}
+use Rattle.gh_sweep.specs.Shared.{ApartGood, By, CycleEnd, Done, DueGood, Far, generation_of, Good, HasEnded, HeadsGood, InsideGood, InSpan, IsHeadIn, IsNumbered, LeftGood, nothing_due, NumbersGood, SaysFar, SlotsGood, Unswept, UntouchedGood, View}
 use Rattle.gh_sweep.specs.Vocabulary.{SpanHead}
 use Rattle.gh_sweep.proofs.Sharing.Pages.{AreAlike, apart_back, by_done, far_done, far_unswept, gone_back, head_back, head_forth, heads_written, inside_forth, left_forth, no_head_done, numbered, numbers_kept, numbers_written, off_forth, same_by, same_head, slots_back, turn_back, turn_forth, unswept_by, unswept_done, untouched_back}
 
@@ -139,7 +139,7 @@ module _ (k : Known) where
       starts = headed p h (in_sweep h) (By a) was refl refl fits_then (omega (arith, number), nobody) unswept_before left_then told_then
 
     -- A sweep ends.
-    module _ (a p : ℕ) (h : SpanHead) (by : v.far p ≡ By a) (was : page_of (v.page p) ≡ Head (in_sweep h)) (are_clear : (i : ℕ) → i < bit_words h → v.clear (16 * p + i) ≡ ltb i (bit_words h)) (all_told : v.due a ≡ nothing) where
+    module _ (a p : ℕ) (h : SpanHead) (by : v.far p ≡ By a) (was : page_of (v.page p) ≡ Head (in_sweep h)) (are_clear : (i : ℕ) → i < bit_words h → v.clear (16 * p + i) ≡ ltb i (bit_words h)) (all_told : v.due a ≡ nothing_due) where
       pub number_in : IsNumbered gen (in_sweep h) (By a)
       number_in = subst (λ (f : Far). IsNumbered gen (in_sweep h) f) by (numbered gen v.page v.far g.numbers p (in_sweep h) was)
 
@@ -243,7 +243,7 @@ module _ (k : Known) where
             forth_then = turn_forth v.page p word was is
 
     -- An empty swept span is freed.
-    module _ (p : ℕ) (h : SpanHead) (has : HasHead (v.page p) gen h) (empty : IsEmpty v.alloc p h) where
+    module _ (p : ℕ) (h : SpanHead) (has : HasHead (v.page p) gen h) (empty : HasNoAllocBit v.alloc p h) where
       no_head : (k : SpanHead) → page_of 0 ≡ Head k → ⊥
       no_head k e = cc
 

@@ -7,7 +7,7 @@ use Rattle.gh_base.specs.Steps.{cell_of, effect}
 use Rattle.gh_heap.specs.Moves.{update}
 use Rattle.gh_sweep.specs.Facts.{Facts, SweepKeepsItsFacts}
 use Rattle.gh_sweep.specs.Steps.{IsInArena}
-use Rattle.gh_sweep.proofs.Vocabulary.{AddHeap, AddLive, AddTally, all_owed, asks, at_stage, Begin, bit_words, By, ClearBits, ClearMarks, Clears, counted, CycleEnd, Done, Due, Ended, Fine, Finish, freed_in, goes, Good, HasEnded, Head, head_word, in_sweep, InSpan, is_busy, kept_in, Lands, Load, LoadMarks, Lost, move_at, move_of, moved, negative, page_of, put, Quiet, seats_of, Shared, slot_bytes, SpanHead, Starts, Sweeping, Sweeps, SweepStage, tally_word, TellsHeap, TellsLive, TellsTally, Unswept, view, with_word_cut, word_at, Words}
+use Rattle.gh_sweep.proofs.Vocabulary.{AddHeap, AddLive, AddTally, all_owed, asks, at_stage, Begin, bit_words, By, ClearBits, ClearMarks, Clears, counted, CycleEnd, Done, Due, Ended, Finish, freed_in, goes, Good, HasEnded, Head, head_word, in_sweep, InSpan, is_busy, kept_in, Lands, Load, LoadMarks, Lost, move_at, move_of, moved, negative, page_of, put, Quiet, seats_of, Shared, slot_bytes, SpanHead, Starts, Sweeping, SweepIsFine, Sweeps, SweepStage, tally_word, TellsHeap, TellsLive, TellsTally, Unswept, view, with_word_cut, word_at, Words}
 use Rattle.gh_sweep.proofs.Sharing.KeepsPages.{fits_then, fresh_before, Known, reads}
 use Rattle.gh_sweep.proofs.Sharing.Pages.{by_done}
 use Rattle.gh_sweep.proofs.Sharing.Sums.{at_entry}
@@ -27,10 +27,10 @@ module _ (k : Known) (laws : SweepKeepsItsFacts) (e : CycleEnd) (ended : HasEnde
   h = m.head
 
   abbrev FineAt : SweepStage → Type 0
-  FineAt stage = Fine e a s (at_stage m stage)
+  FineAt stage = SweepIsFine e a s (at_stage m stage)
 
   abbrev LandsAt : SweepStage → Type 0
-  LandsAt stage = Lands e a s (move_at (at_stage m stage) stage (s.words (cell_of (asks (at_stage m stage))))) (effect s.words (asks (at_stage m stage))) (λ t. Fine e a t (goes (at_stage m stage) (s.words (cell_of (asks (at_stage m stage))))))
+  LandsAt stage = Lands e a s (move_at (at_stage m stage) stage (s.words (cell_of (asks (at_stage m stage))))) (effect s.words (asks (at_stage m stage))) (λ t. SweepIsFine e a t (goes (at_stage m stage) (s.words (cell_of (asks (at_stage m stage))))))
 
   -- what the next stage relies on of the words
   facts_then : (stage : SweepStage) → is_busy stage ≡ true → FineAt stage → Facts (goes (at_stage m stage) (s.words (cell_of (asks (at_stage m stage))))) (effect s.words (asks (at_stage m stage)))
@@ -41,7 +41,7 @@ module _ (k : Known) (laws : SweepKeepsItsFacts) (e : CycleEnd) (ended : HasEnde
   abbrev begun_words : Words
   begun_words = put s.words (cell.Page p) (head_word (in_sweep h))
 
-  begin_at : FineAt Begin → (b : Bool) → eqb (s.words (cell.Page p)) (head_word h) ≡ b → Lands e a s (cond b (Starts p h) (Quiet (Load (cell.Page p)))) (cond b begun_words s.words) (λ t. Fine e a t (at_stage m (cond b (LoadMarks 0) (Ended Lost))))
+  begin_at : FineAt Begin → (b : Bool) → eqb (s.words (cell.Page p)) (head_word h) ≡ b → Lands e a s (cond b (Starts p h) (Quiet (Load (cell.Page p)))) (cond b begun_words s.words) (λ t. SweepIsFine e a t (at_stage m (cond b (LoadMarks 0) (Ended Lost))))
   begin_at f true is = record {
     may = (head_was, f.number);
     words_are = refl;
@@ -193,7 +193,7 @@ module _ (k : Known) (laws : SweepKeepsItsFacts) (e : CycleEnd) (ended : HasEnde
       are_clear = λ x l. clear_then x l ∙ ap (λ (y : ℕ). ltb x y) (sym is);
     }
 
-    after_clear : (b : Bool) → ltb (i + 1) (bit_words h) ≡ b → Facts (at_stage m (cond b (LoadMarks (i + 1)) AddTally)) (moved a s (Clears p h i)).words → Fine e a (moved a s (Clears p h i)) (at_stage m (cond b (LoadMarks (i + 1)) AddTally))
+    after_clear : (b : Bool) → ltb (i + 1) (bit_words h) ≡ b → Facts (at_stage m (cond b (LoadMarks (i + 1)) AddTally)) (moved a s (Clears p h i)).words → SweepIsFine e a (moved a s (Clears p h i)) (at_stage m (cond b (LoadMarks (i + 1)) AddTally))
     after_clear true is facts = record {
       placed = record { arena = f.placed.arena; head = f.placed.head; stage = ltb-true (i + 1) (bit_words h) is };
       number = f.number;
@@ -303,5 +303,5 @@ module _ (k : Known) (laws : SweepKeepsItsFacts) (e : CycleEnd) (ended : HasEnde
   lands_at Finish busy f = finish_lands f
   lands_at (Ended end) busy f = absurd (cc)
 
-pub lands : Known → SweepKeepsItsFacts → (e : CycleEnd) (a : ℕ) (s : Shared) (m : Sweeping) → HasEnded e → Good e (view s) → a < seats_of e.layout → Fine e a s m → is_busy m.stage ≡ true → Lands e a s (move_of m (s.words (cell_of (asks m)))) (effect s.words (asks m)) (λ t. Fine e a t (goes m (s.words (cell_of (asks m)))))
+pub lands : Known → SweepKeepsItsFacts → (e : CycleEnd) (a : ℕ) (s : Shared) (m : Sweeping) → HasEnded e → Good e (view s) → a < seats_of e.layout → SweepIsFine e a s m → is_busy m.stage ≡ true → Lands e a s (move_of m (s.words (cell_of (asks m)))) (effect s.words (asks m)) (λ t. SweepIsFine e a t (goes m (s.words (cell_of (asks m)))))
 lands k laws e a s m ended g seat f busy = lands_at k laws e ended a s g seat m m.stage busy f

@@ -4,14 +4,14 @@ use Rattle.std.specs.Prelude.{bit_or, bit_and}
 use Rattle.gh_base.specs.declared.cell.Ask.TheVariants as ask
 use Rattle.gh_base.specs.declared.cell.Cell.TheVariants as cell
 use Rattle.gh_base.specs.Steps.{effect}
-use Rattle.gh_sweep.specs.Moves.{ChangesNothing, IsBeside}
+use Rattle.gh_sweep.specs.Moves.{ChangesNothing, IsBesideSweeps}
 use Rattle.gh_sweep.specs.Shared.{Shared, view}
 use Rattle.gh_sweep.specs.Vocabulary.{Ask, Cell, put, Words}
 
 abbrev pub with_words : Shared → Words → Shared
 with_words s w = record s { words = w }
 
-put_beside : (s : Shared) (c : Cell) (v : ℕ) → IsBeside c → view (with_words s (put s.words c v)) ≡ view s
+put_beside : (s : Shared) (c : Cell) (v : ℕ) → IsBesideSweeps c → view (with_words s (put s.words c v)) ≡ view s
 put_beside s cell.Gen v q = absurd q
 put_beside s cell.Heap v q = absurd q
 put_beside s cell.Tally v q = absurd q

@@ -7,7 +7,7 @@ use Rattle.std.proofs.lemmas.Nat.{mul-le}
 use Rattle.gh_base.specs.Rows.{Row, with_word}
 use Rattle.gh_heap.specs.Moves.{update}
 use Rattle.gh_sweep.specs.Bits.{sum_below}
-use Rattle.gh_sweep.specs.Shared.{Due, left, owed, placed, placed_behind, placed_in}
+use Rattle.gh_sweep.specs.Shared.{Due, left_uncut, owed, placed, placed_behind, placed_in}
 use Rattle.gh_sweep.proofs.Bits.{sum_more, sum_none, sum_same}
 
 -- an entry of a row of which one changed
@@ -59,15 +59,15 @@ owed_at part due a n d l =
     omega (arith, e, at)
 
 -- one word more is cut
-pub left_at : (each : ℕ → ℕ) (cut : ℕ → Bool) (i n : ℕ) → i < n → cut i ≡ false → left each (update cut i true) n + each i ≡ left each cut n
+pub left_at : (each : ℕ → ℕ) (cut : ℕ → Bool) (i n : ℕ) → i < n → cut i ≡ false → left_uncut each (update cut i true) n + each i ≡ left_uncut each cut n
 left_at each cut i n l un =
-    let e : left each (update cut i true) n + cond (cut i) 0 (each i) ≡ left each cut n + cond (update cut i true i) 0 (each i) = sum_at (λ j. cond (cut j) 0 (each j)) (λ j. cond (update cut i true j) 0 (each j)) i n l (λ q ne. ap (λ (b : Bool). cond b 0 (each q)) (off_entry cut i q true (λ y. ne (sym y)))) in
+    let e : left_uncut each (update cut i true) n + cond (cut i) 0 (each i) ≡ left_uncut each cut n + cond (update cut i true i) 0 (each i) = sum_at (λ j. cond (cut j) 0 (each j)) (λ j. cond (update cut i true j) 0 (each j)) i n l (λ q ne. ap (λ (b : Bool). cond b 0 (each q)) (off_entry cut i q true (λ y. ne (sym y)))) in
     let was : cond (cut i) 0 (each i) ≡ each i = ap (λ (b : Bool). cond b 0 (each i)) un in
     let is : cond (update cut i true i) 0 (each i) ≡ 0 = ap (λ (b : Bool). cond b 0 (each i)) (at_entry cut i true) in
     omega (arith, e, was, is)
 
 -- where only words without anything are cut all is left
-pub left_all : (each : ℕ → ℕ) (cut : ℕ → Bool) (n : ℕ) → ((i : ℕ) → cut i ≡ true → each i ≡ 0) → left each cut n ≡ sum_below each n
+pub left_all : (each : ℕ → ℕ) (cut : ℕ → Bool) (n : ℕ) → ((i : ℕ) → cut i ≡ true → each i ≡ 0) → left_uncut each cut n ≡ sum_below each n
 left_all each cut n h = sum_same _ _ n (λ q l. go q (cut q) refl) where
   go : (q : ℕ) (b : Bool) → cut q ≡ b → cond b 0 (each q) ≡ each q
   go q true e = sym (h q e)

@@ -10,7 +10,7 @@ use Rattle.gh_base.specs.Packing.{FitsHead, head_word, PackedWordsAreReadBack, p
 use Rattle.gh_base.specs.Rows.{CellsAreTold}
 use Rattle.gh_base.specs.Steps.{cell_of, ChangesOneCell, effect, left}
 use Rattle.gh_sweep.specs.Bits.{kept_in, sum_below}
-use Rattle.gh_sweep.specs.Facts.{alloc_here, AreApart, Facts, FactsAt, HasCleared, HasNotNumber, HasSwept, IsBehind, IsPlaced, marks_here, MayBegin, Others, OthersAt, OwnStep, SpanStays, SweepKeepsItsFacts}
+use Rattle.gh_sweep.specs.Facts.{alloc_here, Facts, FactsAt, HasCleared, HasNotNumber, HasSwept, IsBehind, IsPlaced, marks_here, MayBegin, Others, OthersAt, OwnStep, SpansAreApart, SpanStays, SweepKeepsItsFacts}
 use Rattle.gh_sweep.specs.Listing.{asks_at, at_stage, bit_words, counted, given_at, goes_at, in_sweep, is_busy, once_swept, slots_in, Sweeping, swept_span, word_at}
 use Rattle.gh_sweep.specs.Sound.{FitsSweep, IsStage}
 use Rattle.gh_sweep.specs.Steps.{IsInArena}
@@ -80,7 +80,7 @@ module _ (changes : ChangesOneCell) (cells : CellsAreTold) where
   stays_to_others t before after (Ended end) o = tt
   stays_to_others t before after _ o = o
 
-  module _ (s t : Sweeping) (words : Words) (placed : IsPlaced s) (apart : AreApart s t) (there : IsInArena t.layout t.page t.head) where
+  module _ (s t : Sweeping) (words : Words) (placed : IsPlaced s) (apart : SpansAreApart s t) (there : IsInArena t.layout t.page t.head) where
     pages_apart : s.page ≢ t.page
     pages_apart e =
         let a : 1 ≤ s.head.pages = placed.arena.some in
@@ -132,7 +132,7 @@ module _ (changes : ChangesOneCell) (cells : CellsAreTold) where
       HeadAt : (page number : ℕ) → Type 0
       HeadAt page number = (effect words (asks_at s s.stage) (cell.Page page) ≡ words (cell.Page page)) ⊎ HasNotNumber number (effect words (asks_at s s.stage) (cell.Page page))
 
-  others_stay : PackedWordsAreReadBack → (s t : Sweeping) (words : Words) → IsPlaced s → IsPlaced t → AreApart s t ⊎ IsBehind s t → Others t words (effect words (asks_at s s.stage))
+  others_stay : PackedWordsAreReadBack → (s t : Sweeping) (words : Words) → IsPlaced s → IsPlaced t → SpansAreApart s t ⊎ IsBehind s t → Others t words (effect words (asks_at s s.stage))
   others_stay packed s t words placed there (inl apart) = stays_to_others t words _ t.stage (stays_at s t words placed apart there.arena s.stage placed.stage)
   others_stay packed s t words placed there (inr behind) = behind_stays packed s words placed.head t behind
 

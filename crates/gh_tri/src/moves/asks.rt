@@ -8,7 +8,7 @@ use crate::{Colour, Move};
 #[tactic(auto, unfolding(crate::specs::Shown::picture_of))]
 impl Picture {
     ghost use Rattle.gh_tri.specs.Shown.{picture_of};
-    ghost use Rattle.gh_tri.specs.Tricolour.{May, MayLoad, MayStore, IsField, IsRegister, IsHeld, IsBlackStack, IsGreyStack, NilOrMade, NilOrMarked};
+    ghost use Rattle.gh_tri.specs.Tricolour.{May, MayLoad, MayStore, IsField, IsStackRegister, StackHolds, IsBlackStack, IsGreyStack, NilOrMade, NilOrMarked};
 
     /// Whether the move may be made now.
     pub fn may(&self, m: Move) -> bool
@@ -93,7 +93,7 @@ impl Picture {
 
     /// Whether the picture has this register.
     pub fn is_register(&self, stack: u32, reg: u32) -> bool
-        ensures { IsTrue result ↔ IsRegister (picture_of self.now) stack reg }
+        ensures { IsTrue result ↔ IsStackRegister (picture_of self.now) stack reg }
     {
         stack < self.stacks && reg < 16
     }
@@ -141,7 +141,7 @@ impl Picture {
     /// Whether an object is object 0, or stands in a register of the stack.
     fn is_held(&self, stack: u32, o: u32) -> bool
         requires { stack < (picture_of self.now).stacks }
-        ensures { IsTrue result ↔ IsHeld (picture_of self.now) stack o }
+        ensures { IsTrue result ↔ StackHolds (picture_of self.now) stack o }
     {
         if o == 0 {
             return true;

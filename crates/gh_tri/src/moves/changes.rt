@@ -6,14 +6,14 @@ use super::Picture;
 
 #[tactic(auto, unfolding(crate::specs::Shown::picture_of))]
 impl Picture {
-    ghost use Rattle.gh_tri.specs.Changes.{changed, Copy, Drop, MayChange};
+    ghost use Rattle.gh_tri.specs.Changes.{changed_picture, Copy, Drop, MayChange};
     ghost use Rattle.gh_tri.specs.Invariants.{Invariants};
     ghost use Rattle.gh_tri.specs.Shown.{picture_of};
 
     /// Drops what a register holds.
     pub fn drop_register(&mut self, stack: u32, reg: u32)
         requires { MayChange (picture_of self.old) (Drop stack reg) }
-        ensures changed { picture_of self.new ≡ changed (picture_of self.old) (Drop stack reg) }
+        ensures changed { picture_of self.new ≡ changed_picture (picture_of self.old) (Drop stack reg) }
         ensures invariants { Invariants (picture_of self.old) → Invariants (picture_of self.new) }
     {
         self.registers.set(stack as usize, reg as usize, None);
@@ -35,7 +35,7 @@ impl Picture {
     /// Copies what register `from` of a stack holds into its register `into`.
     pub fn copy_register(&mut self, stack: u32, into: u32, from: u32)
         requires { MayChange (picture_of self.old) (Copy stack into from) }
-        ensures changed { picture_of self.new ≡ changed (picture_of self.old) (Copy stack into from) }
+        ensures changed { picture_of self.new ≡ changed_picture (picture_of self.old) (Copy stack into from) }
         ensures invariants { Invariants (picture_of self.old) → Invariants (picture_of self.new) }
     {
         let held = self.registers.get(stack as usize, from as usize);

@@ -10,7 +10,7 @@ impl Picture {
     ghost use Rattle.gh_tri.specs.Shown.{picture_of};
     ghost use Rattle.gh_tri.specs.Tricolour.{May, moved, IsField, IsBlackStack, NilOrMade};
     ghost use Rattle.gh_tri.specs.Invariants.{Invariants, after};
-    ghost use Rattle.gh_tri.specs.Runs.{shades, written, object_scan, register_scans};
+    ghost use Rattle.gh_tri.specs.Runs.{shades, written_with_barrier, object_scan, register_scans};
 
     /// Makes a move, whichever it is.
     pub fn make(&mut self, m: Move)
@@ -50,7 +50,7 @@ impl Picture {
         requires stack { stack < (picture_of self.old).stacks }
         requires field { IsField (picture_of self.old) o f }
         requires made { NilOrMade (picture_of self.old) new }
-        ensures written { picture_of self.new ≡ written (picture_of self.old) stack o f new }
+        ensures written { picture_of self.new ≡ written_with_barrier (picture_of self.old) stack o f new }
         ensures invariants { Invariants (picture_of self.old) → Invariants (picture_of self.new) }
     {
         let old = self.read_old(stack, o, f);

@@ -19,7 +19,7 @@ use Rattle.gh_sweep.specs.declared.sweep.SweepEnd.TheVariants.{Lost, Swept}
 use Rattle.gh_sweep.specs.declared.sweep.SweptSpan.{SweptSpan}
 use Rattle.gh_sweep.specs.Listing as sweep
 use Rattle.gh_sweep.specs.Listing.{once_swept, Sweeping}
-use Rattle.gh_unswept.specs.FirstUnswept.{EndsSweep, HasClear, HasNoneClear, IsHead, IsMet, IsTold, IsWanted, Passes, Takes, TakesTheFirst}
+use Rattle.gh_unswept.specs.FirstUnswept.{EndsSweep, HasClear, HasNoneClear, IsHead, IsMet, IsTold, IsWantedUnswept, Passes, Takes, TakesFirstUnswept}
 use Rattle.gh_unswept.proofs.FirstUnswept.Tests.{no_page_loaded, some_gone, some_pages, stays, wanted_is, wanted_means}
 
 module _ (m : Unswept) (found : ℕ → ℕ) where
@@ -90,7 +90,7 @@ module _ (m : Unswept) (found : ℕ → ℕ) where
     word : ℕ
     at : Told n (Load (Page page)) word
     says : page_of word ≡ Head h
-    wanted : IsWanted m h
+    wanted : IsWantedUnswept m h
     page_is : sw.page ≡ page
     head_is : sw.head ≡ h
     upto : (other v : ℕ) → Told n (Load (Page other)) v → (other < page) ⊎ ((other ≡ page) × (v ≡ word))
@@ -100,7 +100,7 @@ module _ (m : Unswept) (found : ℕ → ℕ) where
     head : SpanHead
     is_swept : now_swept ≡ once_swept head
     stands : IsHead m found n page head
-    wanted : IsWanted m head
+    wanted : IsWantedUnswept m head
     clear : HasClear m found n page head
     first : Passes m found n page
     last : (other v : ℕ) → Told n (Load (Page other)) v → other ≤ page
@@ -127,7 +127,7 @@ module _ (m : Unswept) (found : ℕ → ℕ) where
     before = passes_more n page l.passes (λ other low. other_page n page other a low)
 
     -- a page that is no head of a wanted span is gone past
-    goes_past : ((h : SpanHead) → page_of (found n) ≡ Head h → ¬ IsWanted m h) → Arrives (suc n) (look_from m (page + pages_gone (page_of (found n))))
+    goes_past : ((h : SpanHead) → page_of (found n) ≡ Head h → ¬ IsWantedUnswept m h) → Arrives (suc n) (look_from m (page + pages_gone (page_of (found n))))
     goes_past none = from_arrives (suc n) (page + pages_gone (page_of (found n))) passes below where
       met : (q : ℕ) → q < page + pages_gone (page_of (found n)) → IsMet m found (suc n) q
       met q low = elim (cases_lt q page) [
@@ -135,7 +135,7 @@ module _ (m : Unswept) (found : ℕ → ℕ) where
         | inr above ↦ (page, found n, now n (Load (Page page)) a, above, low)
       ]
 
-      none_here : (q : ℕ) → page ≤ q → (h : SpanHead) → IsHead m found (suc n) q h → IsWanted m h → Goes (suc n) q h
+      none_here : (q : ℕ) → page ≤ q → (h : SpanHead) → IsHead m found (suc n) q h → IsWantedUnswept m h → Goes (suc n) q h
       none_here q above h (word, t, is) wanted = elim (by_last n (Load (Page q)) word t) [
         | inl last ↦ absurd (none h (ap page_of last.1 ∙ is) wanted)
         | inr old ↦ absurd (let low = l.below q word old in omega arith)
@@ -156,7 +156,7 @@ module _ (m : Unswept) (found : ℕ → ℕ) where
         | inr old ↦ let low = l.below q word old in omega arith
       ]
 
-    begins : (h : SpanHead) → page_of (found n) ≡ Head h → IsWanted m h → Sweeps (suc n) page h (sweep.opening m.layout page h)
+    begins : (h : SpanHead) → page_of (found n) ≡ Head h → IsWantedUnswept m h → Sweeps (suc n) page h (sweep.opening m.layout page h)
     begins h is wanted = record {
       passes = before;
       word = found n;
@@ -175,12 +175,12 @@ module _ (m : Unswept) (found : ℕ → ℕ) where
 
     look_arrives : Arrives (suc n) (goes_at m (Look page) (found n))
     look_arrives = go (page_of (found n)) refl where
-      past : ((h : SpanHead) → page_of (found n) ≡ Head h → ¬ IsWanted m h) → (p : PageWord) → page_of (found n) ≡ p → Arrives (suc n) (look_from m (page + pages_gone p))
+      past : ((h : SpanHead) → page_of (found n) ≡ Head h → ¬ IsWantedUnswept m h) → (p : PageWord) → page_of (found n) ≡ p → Arrives (suc n) (look_from m (page + pages_gone p))
       past none p e = subst (λ (x : PageWord). Arrives (suc n) (look_from m (page + pages_gone x))) e (goes_past none)
 
       on_head : (h : SpanHead) → page_of (found n) ≡ Head h → (b : Bool) → is_unswept m h ≡ b → Arrives (suc n) (cond b (Sweep page h (sweep.opening m.layout page h)) (look_from m (page + h.pages)))
       on_head h e true is = begins h e (wanted_means m h is)
-      on_head h e false is = past (λ k f wanted. let same : h ≡ k = cc in let b = wanted_is m h (subst (IsWanted m) (sym same) wanted) in absurd (cc)) (Head h) e
+      on_head h e false is = past (λ k f wanted. let same : h ≡ k = cc in let b = wanted_is m h (subst (IsWantedUnswept m) (sym same) wanted) in absurd (cc)) (Head h) e
 
       go : (p : PageWord) → page_of (found n) ≡ p → Arrives (suc n) (after_page m page p)
       go Free e = past (λ h f. absurd (cc)) Free e
@@ -354,5 +354,5 @@ module _ (m : Unswept) (found : ℕ → ℕ) where
   none_passes n (Take q h, e, k) busy g = let f = gives_at n (Take q h) None e g in absurd (cc)
   none_passes n (Ended taken, e, k) busy g = absurd (over n taken e busy)
 
-  pub takes_the_first : m ≡ at_stage m (Look 0) → (n : ℕ) → TakesTheFirst m found n
+  pub takes_the_first : m ≡ at_stage m (Look 0) → (n : ℕ) → TakesFirstUnswept m found n
   takes_the_first opens n = record { some = λ page. some_takes n page (stands opens n); none = none_passes n (stands opens n) }

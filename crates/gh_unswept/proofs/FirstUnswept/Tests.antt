@@ -14,7 +14,7 @@ use Rattle.gh_central.specs.UnsweptPass.{is_unswept, Unswept}
 use Rattle.gh_sweep.specs.declared.sweep.SweepStage.{SweepStage}
 use Rattle.gh_sweep.specs.declared.sweep.SweepStage.TheVariants.{Begin, LoadMarks, ClearBits, ClearMarks, AddTally, AddLive, AddHeap, Finish, Ended}
 use Rattle.gh_sweep.specs.Listing.{asks, asks_at, goes, goes_at, Sweeping}
-use Rattle.gh_unswept.specs.FirstUnswept.{IsWanted}
+use Rattle.gh_unswept.specs.FirstUnswept.{IsWantedUnswept}
 
 -- A head is tested.
 
@@ -37,13 +37,13 @@ small_means : (class : ℕ) (c : SizeClass) → is_small class c ≡ true → c 
 small_means class (Small c) e = ap Small (eqb-true c class e)
 small_means class Large e = absurd (cc)
 
-pub wanted_means : (m : Unswept) (h : SpanHead) → is_unswept m h ≡ true → IsWanted m h
+pub wanted_means : (m : Unswept) (h : SpanHead) → is_unswept m h ≡ true → IsWantedUnswept m h
 wanted_means m h e =
     let x = both (is_small m.wanted.class h.class && beq h.noscan m.wanted.noscan) (eqb (h.number + 2) m.generation) e in
     let y = both (is_small m.wanted.class h.class) (beq h.noscan m.wanted.noscan) x.0 in
     record { class = small_means m.wanted.class h.class y.0; noscan = same_of_beq h.noscan m.wanted.noscan y.1; unswept = eqb-true (h.number + 2) m.generation x.1 }
 
-pub wanted_is : (m : Unswept) (h : SpanHead) → IsWanted m h → is_unswept m h ≡ true
+pub wanted_is : (m : Unswept) (h : SpanHead) → IsWantedUnswept m h → is_unswept m h ≡ true
 wanted_is m h w = let class = w.class in let noscan = w.noscan in let unswept = w.unswept in rw (class, noscan, unswept, eq-eqb m.wanted.class m.wanted.class refl, beq_same m.wanted.noscan, eq-eqb m.generation m.generation refl) refl
 
 -- Whatever a page word is, the pass goes past some pages.

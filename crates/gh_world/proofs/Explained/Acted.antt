@@ -5,7 +5,7 @@ use Rattle.std.specs.List.{filter}
 use Rattle.std.proofs.lemmas.Bool.{eqb-true}
 use Rattle.std.proofs.lemmas.Grind.{reverse_onto}
 use Rattle.std.proofs.lemmas.List.{map-append}
-use Rattle.gh_world.specs.Vocabulary.{Act, acts, AllAnswer, Answer, answer_at, answer_of, answered_by, Answered as Deed, begins, by, deeds, Entry, Ever, ever_after, is_busy_at, Layout, Legal, meaning, model_after, Op, op_at, opening_ever, Processor, processor_kind, Program, Shape, started, state_of, takes, Words, words_after, has_left_at}
+use Rattle.gh_world.specs.Vocabulary.{Act, acts, AllAnswer, Answer, answer_at, answer_of, answered_by, AnsweredDeed, begins, by, deeds, Entry, Ever, ever_after, is_busy_at, Layout, Legal, meaning, model_after, Op, op_at, opening_ever, Processor, processor_kind, Program, Shape, started, state_of, takes, Words, words_after, has_left_at}
 use Rattle.gh_base.specs.declared.value.Answer.TheVariants as answer
 use Rattle.gh_base.specs.declared.operation.Op.TheVariants as op
 use Rattle.gh_base.specs.Orders.{answered as answered_deed, done_at}
@@ -199,10 +199,10 @@ module _ (p : Program) (l : Layout) where
   abbrev is_point_of : Answered → Bool
   is_point_of a = has_point a.op
 
-  abbrev as_answered : Deed Act Answer → Answered
+  abbrev as_answered : AnsweredDeed Act Answer → Answered
   as_answered y = record { op = y.deed.op; answer = y.answer }
 
-  abbrev deeds_by : (a : ℕ) → List (Entry Op) → List (Deed Act Answer)
+  abbrev deeds_by : (a : ℕ) → List (Entry Op) → List (AnsweredDeed Act Answer)
   deeds_by a es = answered_by (processor_kind p.shapes l) (deeds p.shapes) (meaning p.shapes) a es
 
   abbrev pub points_by : (a : ℕ) → List (Entry Op) → List Answered
@@ -215,7 +215,7 @@ module _ (p : Program) (l : Layout) where
     go true t = rw t refl
     go false t = rw t refl
 
-  abbrev deed_here : List (Entry Op) → Entry Op → List (Deed Act Answer)
+  abbrev deed_here : List (Entry Op) → Entry Op → List (AnsweredDeed Act Answer)
   deed_here es e = option_to_list (answered_deed (meaning p.shapes) (model_after (processor_kind p.shapes l) (deeds p.shapes) (meaning p.shapes) es) (done_at (processor_kind p.shapes l) (deeds p.shapes) es e))
 
   pub points_are : OnlyPointsChange → (a : ℕ) (es : List (Entry Op)) → points_by a es ≡ filter is_point_of (order_at p.shapes l a es)

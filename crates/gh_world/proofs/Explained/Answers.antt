@@ -5,11 +5,11 @@ use Rattle.std.specs.List.{filter}
 use Rattle.std.proofs.lemmas.Bool.{eqb-true}
 use Rattle.std.proofs.lemmas.List.{length-map}
 use Rattle.std.proofs.lemmas.Nat.{mod_below}
-use Rattle.gh_world.specs.Vocabulary.{Act, AllAnswer, Answer, Answered as Deed, answered_by, answers_by, by, deeds, Entry, has_left_at, is_busy_at, Layout, meaning, Op, opening_ever, Processor, processor_kind, Program, state_of, statements_of, Task}
+use Rattle.gh_world.specs.Vocabulary.{Act, AllAnswer, Answer, answered_by, AnsweredDeed, answers_by, by, deeds, Entry, has_left_at, is_busy_at, Layout, meaning, Op, opening_ever, Processor, processor_kind, Program, state_of, statements_of, Task}
 use Rattle.gh_mutator.specs.Acting.{EachOperationActsOnce}
 use Rattle.gh_mutator.specs.declared.task.Task.TheVariants as task
 use Rattle.gh_mutator.specs.Deeds.{has_point, OnlyPointsChange}
-use Rattle.gh_script.specs.Program.{op_of}
+use Rattle.gh_script.specs.Program.{statement_as_op}
 use Rattle.gh_lists.specs.Order.{acted_at, acted_in, Answered, begun_in, order_at, order_of}
 use Rattle.gh_lists.specs.Processors.{answers_of, arena_of, ListStands}
 use Rattle.gh_world.specs.Runs.{acted_by, answers_at, answers_given, AreItsStatements, IsRun}
@@ -36,7 +36,7 @@ ops_filtered (x ∷ xs) = go (has_point x.op) (ops_filtered xs) where
   go true ih = ap (λ (os : List Op). x.op ∷ os) ih
   go false ih = ih
 
-deed_answers : (ys : List (Deed Act Answer)) → map (λ (a : Answered). a.answer) (map (λ (y : Deed Act Answer). record { op = y.deed.op; answer = y.answer }) ys) ≡ map (λ (y : Deed Act Answer). y.answer) ys
+deed_answers : (ys : List (AnsweredDeed Act Answer)) → map (λ (a : Answered). a.answer) (map (λ (y : AnsweredDeed Act Answer). record { op = y.deed.op; answer = y.answer }) ys) ≡ map (λ (y : AnsweredDeed Act Answer). y.answer) ys
 deed_answers [] = refl
 deed_answers (y ∷ ys) = ap (λ (as' : List Answer). y.answer ∷ as') (deed_answers ys)
 
@@ -139,7 +139,7 @@ module _ (p : Program) (l : Layout) (procs : l.procs ≡ p.settings.procs) (each
     own_acted : acted_by g in_order ≡ acted_by g (acted_at p.shapes l seat es)
     own_acted = acted_its p l procs each seat g its es run.legal
 
-    pub mine : map (λ (x : Answered). x.op) (acted_by g in_order) ≡ map (op_of g) (statements_of p g)
+    pub mine : map (λ (x : Answered). x.op) (acted_by g in_order) ≡ map (statement_as_op g) (statements_of p g)
     mine = ap (map (λ (x : Answered). x.op)) own_acted ∙ acted_ops p g (acted_at p.shapes l seat es) ∙ ap (filter (is_statement_of g)) (acted_are seat there) ∙ turns_mine p g seat its
 
     pub each_is : AreItsStatements p g (acted_by g in_order) (answers_by g (answers_given p l es))
@@ -153,4 +153,4 @@ module _ (p : Program) (l : Layout) (procs : l.procs ≡ p.settings.procs) (each
     }
 
     pub others_none : length p.goroutines ≤ g → acted_by g in_order ≡ []
-    others_none le = none_acted (acted_by g in_order) (mine ∙ ap (map (op_of g)) (none_beyond p g le))
+    others_none le = none_acted (acted_by g in_order) (mine ∙ ap (map (statement_as_op g)) (none_beyond p g le))

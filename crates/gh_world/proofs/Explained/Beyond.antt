@@ -8,7 +8,7 @@ use Rattle.gh_base.specs.declared.operation.Op.TheVariants as op
 use Rattle.gh_model.specs.Answers.{ever_after_all}
 use Rattle.gh_model.specs.declared.EverValue.TheVariants as values
 use Rattle.gh_model.specs.Ever.{from_field, from_global, from_register, makes_object, next_name, sets_global, stores_value, takes_answer, with_object, with_register}
-use Rattle.gh_world.specs.Cycles.{by_field, by_global, IsHeld}
+use Rattle.gh_world.specs.Cycles.{by_field, by_global, IsHeldByGlobals}
 use Rattle.gh_world.specs.Turns.{is_statement_of}
 use Rattle.gh_world.specs.Vocabulary.{Answer, Ever, ever_after, EverValue, Op, Reach, Shape, Name}
 
@@ -65,7 +65,7 @@ module _ (shapes : List Shape) (g d : ℕ) where
     go false is none rest = rest none ∙ leaves e o a is
 
 -- so what is reached then is held by the globals
-pub held_at_end : (e : Ever) (goroutines : ℕ) → ((g : ℕ) → g < goroutines → e.ended g ≡ true) → ((g d : ℕ) → goroutines ≤ g → e.register g d ≡ values.Nil) → (n : Name) → Reach e n → IsHeld e n
+pub held_at_end : (e : Ever) (goroutines : ℕ) → ((g : ℕ) → g < goroutines → e.ended g ≡ true) → ((g d : ℕ) → goroutines ≤ g → e.register g d ≡ values.Nil) → (n : Name) → Reach e n → IsHeldByGlobals e n
 held_at_end e goroutines over beyond n (from_global k m is) = by_global k m is
 held_at_end e goroutines over beyond n (from_register g d m runs is) = elim (cases_lt g goroutines) [
   | inl lt ↦ absurd (let no : true ≡ false = sym (over g lt) ∙ runs in cc)

@@ -9,10 +9,10 @@ use Rattle.gh_coord.specs.Listing as coord
 use Rattle.gh_lists.specs.declared.handshake.Actor.TheVariants as actor
 use Rattle.gh_lists.specs.Counts.{stored_after, stored_in}
 use Rattle.gh_world.specs.Vocabulary.{acks_of, Actor, Coordinating, CoordStage, Cycle, Entry, Layout, Legal, Op, Program, started, Words, words_after}
-use Rattle.gh_world.specs.RunVocabulary.{actor_after, alloc_words, AllWereCounted, Ask, Cell, Close, cycles_in, Done, effect, ended_by, EndsCycle, generation_of, IsEnding, IsStartOf, LoadAck, mark_words, marked_objects, opened_in, Outside, pacing_of, Part, part_of, setting_of, swept_cycle, SweptCycle, unmarked_objects, WasCounted, words_in}
+use Rattle.gh_world.specs.RunVocabulary.{actor_after, alloc_words, AllWereCounted, Ask, Cell, Close, cycles_in, Done, effect, ended_by, EndsCycle, generation_after, IsEnding, IsStartOf, LoadAck, mark_words, marked_objects, opened_in, Outside, pacing_of, Part, part_of, setting_of, swept_cycle, SweptCycle, unmarked_objects, WasCounted, words_in}
 use Rattle.gh_lists.specs.Starts.{legal_start}
 use Rattle.gh_lists.specs.Frames.{numbers_of}
-use Rattle.gh_lists.specs.Parts.{At, own_of}
+use Rattle.gh_lists.specs.Parts.{At, own_counts}
 use Rattle.gh_world.proofs.Explained.Known.{Changes, changes, counted, Known}
 use Rattle.gh_world.proofs.Explained.Acting.{one_more_at}
 use Rattle.gh_lists.specs.Changes.{begins, ends, same, Spares, tells}
@@ -64,7 +64,7 @@ ending_asks c (Close x) is = (x.generation, ap (close.asks_at x) is)
 ending_asks c (LoadAck i) is = absurd is
 ending_asks c _ is = absurd is
 
-pub is_done : (st : CoordStage) → coord.is_done st ≡ true → st ≡ Done
+pub is_done : (st : CoordStage) → coord.is_done_at st ≡ true → st ≡ Done
 is_done Done e = refl
 is_done (LoadAck i) e = absurd cc
 is_done _ e = absurd cc
@@ -97,14 +97,14 @@ module _ (p : Program) (l : Layout) (k : Known p l) where
 
   -- they are numbered from 1 on, and the sweep generation tells how many they are
   record Numbered (es : List (Entry Op)) : Type 0 where
-    many : words es cell.Gen ≡ generation_of (length (ended_in es))
+    many : words es cell.Gen ≡ generation_after (length (ended_in es))
     each : (i : ℕ) (y : SweptCycle) → slice_get (ended_in es) i ≡ Some y → y.number ≡ suc i
 
   still : (e : Entry Op) (es : List (Entry Op)) → Numbered es → words (e ∷ es) cell.Gen ≡ words es cell.Gen → ended_by l (words es) e.ask ≡ [] → Numbered (e ∷ es)
   still e es h gen none =
       let same : ended_in (e ∷ es) ≡ ended_in es = ap (λ (ys : List SweptCycle). ended_in es ++ ys) none ∙ append-nil (ended_in es) in
       record {
-        many = gen ∙ h.many ∙ ap (λ (ys : List SweptCycle). generation_of (length ys)) (sym same);
+        many = gen ∙ h.many ∙ ap (λ (ys : List SweptCycle). generation_after (length ys)) (sym same);
         each = λ i y is. h.each i y (ap (λ (ys : List SweptCycle). slice_get ys i) (sym same) ∙ is);
       }
 
@@ -200,13 +200,13 @@ module _ (p : Program) (l : Layout) (k : Known p l) where
         told : (w : WasCounted (setup_of p l) es y) → y.k ≡ suc i → ended_at (suc i) (words w.ended) ≡ swept_cycle y
         told w k_is = rw (k_is, w.marked, w.freed) refl
 
-  is_outside : (c : Coordinating) → coord.is_done c.stage ≡ true → part_of c.stage ≡ Outside
+  is_outside : (c : Coordinating) → coord.is_done_at c.stage ≡ true → part_of c.stage ≡ Outside
   is_outside c e = ap part_of (is_done c.stage e)
 
   -- where it is done
-  module _ (es : List (Entry Op)) (c : Coordinating) (legal : Legal (setting_of p l) es) (led : actor_after p l es (acks_of l) ≡ actor.Leads c) (done : coord.is_done c.stage ≡ true) where
-    pub at_end : At (pacing_of p).room (opened_in es) (numbers_of (words es)) (own_of c) Outside
-    at_end = subst (λ (q : Part). At (pacing_of p).room (opened_in es) (numbers_of (words es)) (own_of c) q) (is_outside c done) (counted p l k es c legal led)
+  module _ (es : List (Entry Op)) (c : Coordinating) (legal : Legal (setting_of p l) es) (led : actor_after p l es (acks_of l) ≡ actor.Leads c) (done : coord.is_done_at c.stage ≡ true) where
+    pub at_end : At (pacing_of p).room (opened_in es) (numbers_of (words es)) (own_counts c) Outside
+    at_end = subst (λ (q : Part). At (pacing_of p).room (opened_in es) (numbers_of (words es)) (own_counts c) q) (is_outside c done) (counted p l k es c legal led)
 
     -- none is left out
     pub as_many : length c.cycles.items ≡ words es cell.Swept

@@ -11,7 +11,7 @@ use Rattle.gh_world.specs.Vocabulary.{Entry, Layout, Op, Program, words_after, L
 use Rattle.gh_world.specs.Wishes.{most_cycles}
 use Rattle.gh_world.specs.World.{actor_after, pacing_of, setting_of, setup_of}
 use Rattle.gh_lists.specs.Frames.{numbers_of}
-use Rattle.gh_lists.specs.Parts.{At, own_of}
+use Rattle.gh_lists.specs.Parts.{At, own_counts}
 use Rattle.gh_lists.specs.Changes.{Change, Rises, EveryListHasItsNumbers, EveryStepChangesNumbers, NoNumberFalls}
 
 pub record Known (p : Program) (l : Layout) : Type 0 where
@@ -41,5 +41,5 @@ module _ (p : Program) (l : Layout) (k : Known p l) (e : Entry Op) (es : List (E
 
 -- the numbers of cycles, by the part of the cycle that the coordinator is in
 pub counted : (p : Program) (l : Layout) (k : Known p l) (es : List (Entry Op)) (c : Coordinating) → Legal (setting_of p l) es → actor_after p l es (acks_of l) ≡ actor.Leads c →
-    At (pacing_of p).room (opened_in es) (numbers_of (words_after (setting_of p l).opening es)) (own_of c) (part_of c.stage)
+    At (pacing_of p).room (opened_in es) (numbers_of (words_after (setting_of p l).opening es)) (own_counts c) (part_of c.stage)
 counted p l k es c legal led = k.numbers (setup_of p l) es c legal (k.few es legal) led

@@ -7,14 +7,14 @@ use Rattle.gh_base.specs.declared.operation.Op.TheVariants as op
 use Rattle.gh_model.specs.declared.EverValue.TheVariants as values
 use Rattle.gh_law.specs.Actors.{Awaits}
 use Rattle.gh_lists.specs.Order.{Answered}
-use Rattle.gh_world.specs.RunVocabulary.{arena_of, before_step, ever_of, fits, FoundNoRoom, FullMeansNoRoom, FullOnlyThere, has_field, is_number, is_pointer_field, load_answer, setting_of, store_answer, told}
+use Rattle.gh_world.specs.RunVocabulary.{answer_of_value, arena_of, before_step, ever_of, fits, FoundNoRoom, FullMeansNoRoom, FullOnlyThere, has_field, is_number, is_pointer_field, load_answer, setting_of, store_answer}
 use Rattle.gh_world.proofs.Explained.Acted.{full_there}
 use Rattle.gh_world.proofs.Explained.Acting.{acts_there, ActsThere, pointed}
 use Rattle.gh_world.proofs.Explained.Steps.{full_pointed}
 use Rattle.gh_world.specs.World.{setup_of}
 
 -- the heap that never frees has room for each object
-told_no_full : (v : EverValue) → told v ≡ answer.Full → ⊥
+told_no_full : (v : EverValue) → answer_of_value v ≡ answer.Full → ⊥
 told_no_full values.Nil e = absurd (cc)
 told_no_full _ e = absurd (cc)
 
@@ -22,7 +22,7 @@ load_no_full : (shapes : List Shape) (e : Ever) (v : EverValue) (k : ℕ) → lo
 load_no_full shapes e values.Nil k full = absurd (cc)
 load_no_full shapes e (values.Int n) k full = absurd (cc)
 load_no_full shapes e (values.Ref n) k full = go (has_field shapes e n k) full where
-  go : (b : Bool) → cond b (told (e.field n k)) (answer.Fault fault.Field) ≡ answer.Full → ⊥
+  go : (b : Bool) → cond b (answer_of_value (e.field n k)) (answer.Fault fault.Field) ≡ answer.Full → ⊥
   go true f = told_no_full (e.field n k) f
   go false f = absurd (cc)
 

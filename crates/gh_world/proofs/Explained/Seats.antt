@@ -8,10 +8,10 @@ use Rattle.std.proofs.lemmas.List.Elements.{filter-append}
 use Rattle.gh_base.specs.declared.operation.Op.TheVariants as op
 use Rattle.gh_mutator.specs.Acting.{EachOperationActsOnce}
 use Rattle.gh_mutator.specs.Sound.{has_room}
-use Rattle.gh_lists.specs.Order.{acted_at, acted_in, answered, Answered, before_step, begun_in, ever_of, goroutine_of, has_left, in_range, is_over, order_at, order_of}
+use Rattle.gh_lists.specs.Order.{acted_at, acted_in, answered, Answered, before_step, begun_in, ever_of, goroutine_is_over, goroutine_of, has_left, in_range, order_at, order_of}
 use Rattle.gh_lists.specs.Processors.{arena_of, has_more, is_of, may_leave, may_run}
 use Rattle.gh_world.specs.Runs.{acted_by}
-use Rattle.gh_world.specs.Turns.{goroutine_at, is_of_seat, is_statement_of}
+use Rattle.gh_world.specs.Turns.{is_of_seat, is_statement_of, its_goroutine}
 use Rattle.gh_world.specs.Vocabulary.{Act, acts, Arena, Begins, by, Entry, has_names, is_statement, Layout, Legal, Op, processor_kind, Program, state_of}
 use Rattle.gh_world.specs.Wishes.{wishes_of}
 use Rattle.gh_world.specs.World.{setting_of}
@@ -26,7 +26,7 @@ filter-reverse {A} f (x ∷ xs) = ap (filter f) (reverse_more x xs) ∙ filter-a
   go true = sym (reverse_more x (filter f xs))
   go false = append-nil (reverse (filter f xs))
 
-statement_has : (o : Op) → is_statement o ≡ true → goroutine_of o ≡ Some (goroutine_at o)
+statement_has : (o : Op) → is_statement o ≡ true → goroutine_of o ≡ Some (its_goroutine o)
 statement_has op.Poll e = absurd cc
 statement_has op.Leave e = absurd cc
 statement_has _ e = refl
@@ -56,7 +56,7 @@ module _ (p : Program) (l : Layout) (procs : l.procs ≡ p.settings.procs) where
       let leave = both _ (may_leave arena a es o) room.0 in
       let few = both _ (has_more (wishes_of p) es o) leave.0 in
       let here = both (may_run arena a m es o) (not (has_left es)) few.0 in
-      let going = both _ (not (is_over es (goroutine_of o))) here.0 in
+      let going = both _ (not (goroutine_is_over es (goroutine_of o))) here.0 in
       let named = both _ (has_names m o) going.0 in
       (both (in_range arena.layout.goroutines arena.layout.globals (length arena.shapes) o) (is_of arena a (goroutine_of o)) named.0).1
 
@@ -74,8 +74,8 @@ module _ (p : Program) (l : Layout) (procs : l.procs ≡ p.settings.procs) where
     go false apart rest = rest
 
   -- a statement's goroutine is of the processor that it is of
-  pub its_seat : (a : ℕ) (o : Op) → is_of arena a (goroutine_of o) ≡ true → is_statement o ≡ true → is_of_seat p a (goroutine_at o) ≡ true
-  its_seat a o its is = ap (λ (n : ℕ). eqb (goroutine_at o % n) a) (sym procs) ∙ ap (is_of arena a) (sym (statement_has o is)) ∙ its
+  pub its_seat : (a : ℕ) (o : Op) → is_of arena a (goroutine_of o) ≡ true → is_statement o ≡ true → is_of_seat p a (its_goroutine o) ≡ true
+  its_seat a o its is = ap (λ (n : ℕ). eqb (its_goroutine o % n) a) (sym procs) ∙ ap (is_of arena a) (sym (statement_has o is)) ∙ its
 
   -- What acts, by processors.
   module _ (each : EachOperationActsOnce) (a g : ℕ) (seat : is_of_seat p a g ≡ true) where
@@ -89,8 +89,8 @@ module _ (p : Program) (l : Layout) (procs : l.procs ≡ p.settings.procs) where
       go false other = other
       go true here = absurd (elim (cases_lt e.actor l.procs) [
         | inl lt ↦
-            let y = both (is_statement x.op) (eqb (goroutine_at x.op) g) here in
-            let there : is_of_seat p e.actor g ≡ true = subst (λ (h : ℕ). is_of_seat p e.actor h ≡ true) (eqb-true (goroutine_at x.op) g y.1) (its_seat e.actor x.op (its lt) y.0) in
+            let y = both (is_statement x.op) (eqb (its_goroutine x.op) g) here in
+            let there : is_of_seat p e.actor g ≡ true = subst (λ (h : ℕ). is_of_seat p e.actor h ≡ true) (eqb-true (its_goroutine x.op) g y.1) (its_seat e.actor x.op (its lt) y.0) in
             let no : true ≡ false = sym seat ∙ not_another p a e.actor g apart there in
             cc
         | inr le ↦ let no : None ≡ Some x = sym (no_processors p l es e legal le).acts_not ∙ is in cc

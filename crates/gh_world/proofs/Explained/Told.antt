@@ -12,7 +12,7 @@ use Rattle.gh_mutator.specs.Listing.{gives}
 use Rattle.gh_mutator.specs.Serving.{answer_at, has_left_at}
 use Rattle.gh_lists.specs.Order.{Answered, before_step, begun_in}
 use Rattle.gh_world.specs.Runs.{answers_at, answers_given}
-use Rattle.gh_world.specs.Turns.{answers_to, goroutine_at, is_of_seat, statement_now}
+use Rattle.gh_world.specs.Turns.{answers_to, is_of_seat, its_goroutine, statement_now}
 use Rattle.gh_world.specs.World.{answer_in, now_in, setting_of, with_goroutine}
 use Rattle.gh_world.proofs.StepFacts.{begin_facts, step_facts}
 use Rattle.gh_world.proofs.Explained.Acted.{begun_aside, begun_own, reverse_more}
@@ -21,7 +21,7 @@ use Rattle.gh_world.proofs.Explained.Steps.{begins_pointed, given_is, is_pointed
 
 -- an answer, where the operation is a statement
 abbrev told : Op → Answer → List (ℕ × Answer)
-told o a = cond (is_statement o) ((goroutine_at o, a) ∷ []) []
+told o a = cond (is_statement o) ((its_goroutine o, a) ∷ []) []
 
 -- those of operations and their answers, the newest first
 abbrev pub told_of : List Op → List Answer → List (ℕ × Answer)
@@ -51,12 +51,12 @@ told_points (x ∷ xs) = go (has_point x.op) refl (told_points xs) where
       told_of (map (λ (a : Answered). a.op) (cond b (x ∷ filter (λ (a : Answered). has_point a.op) xs) (filter (λ (a : Answered). has_point a.op) xs))) (map (λ (a : Answered). a.answer) (cond b (x ∷ filter (λ (a : Answered). has_point a.op) xs) (filter (λ (a : Answered). has_point a.op) xs)))
       ≡ told_of (map (λ (a : Answered). a.op) xs) (map (λ (a : Answered). a.answer) xs) ++ told x.op x.answer
   go true t ih = ap (λ (ys : List (ℕ × Answer)). ys ++ told x.op x.answer) ih
-  go false t ih = ih ∙ sym (ap (λ (b : Bool). told_of (map (λ (a : Answered). a.op) xs) (map (λ (a : Answered). a.answer) xs) ++ cond b ((goroutine_at x.op, x.answer) ∷ []) []) (statement_pointed x.op t) ∙ append-nil (told_of (map (λ (a : Answered). a.op) xs) (map (λ (a : Answered). a.answer) xs)))
+  go false t ih = ih ∙ sym (ap (λ (b : Bool). told_of (map (λ (a : Answered). a.op) xs) (map (λ (a : Answered). a.answer) xs) ++ cond b ((its_goroutine x.op, x.answer) ∷ []) []) (statement_pointed x.op t) ∙ append-nil (told_of (map (λ (a : Answered). a.op) xs) (map (λ (a : Answered). a.answer) xs)))
 
 -- the answer of an operation that was begun last
 one_answer : (o : Op) (os : List Op) (a : Answer) → with_goroutine (statement_now (o ∷ os)).0 (cond (is_statement o) (Some a) None) ≡ told o a
 one_answer o os a = go (is_statement o) refl where
-  go : (b : Bool) → is_statement o ≡ b → with_goroutine (statement_now (o ∷ os)).0 (cond b (Some a) None) ≡ cond b ((goroutine_at o, a) ∷ []) []
+  go : (b : Bool) → is_statement o ≡ b → with_goroutine (statement_now (o ∷ os)).0 (cond b (Some a) None) ≡ cond b ((its_goroutine o, a) ∷ []) []
   go true e = rw e refl
   go false e = refl
 
@@ -134,11 +134,11 @@ module _ (p : Program) (l : Layout) (procs : l.procs ≡ p.settings.procs) where
       -- a statement's answer is its goroutine's, which is of that processor
       told_at : (o : Op) (os : List Op) → begun_in (by a (e ∷ es)) ≡ o ∷ os → (b : Answer) → answers_at p a (told o b) ≡ told o b
       told_at o os begun b = go (is_statement o) refl where
-        go : (s : Bool) → is_statement o ≡ s → answers_at p a (cond s ((goroutine_at o, b) ∷ []) []) ≡ cond s ((goroutine_at o, b) ∷ []) []
+        go : (s : Bool) → is_statement o ≡ s → answers_at p a (cond s ((its_goroutine o, b) ∷ []) []) ≡ cond s ((its_goroutine o, b) ∷ []) []
         go false other = refl
         go true is =
             let its = its_seat p l procs a o (subst (AreOf p l procs a) begun (all_its p l procs a (e ∷ es) legal)).0 is in
-            ap (λ (c : Bool). cond c ((goroutine_at o, b) ∷ []) []) its
+            ap (λ (c : Bool). cond c ((its_goroutine o, b) ∷ []) []) its
 
       -- what the step answers, where it ends the operation or not
       now_is : (x : IsItsOwn p l es e legal a lt) (o : Op) (os : List Op) → begun_in (by a (e ∷ es)) ≡ o ∷ os → is_serving m.task ≡ is_statement o → (b : Option Answer) → gives_at m m.task e.found ≡ b → now ≡ with_goroutine (statement_now (o ∷ os)).0 (cond (is_statement o) b None)
@@ -186,7 +186,7 @@ module _ (p : Program) (l : Layout) (procs : l.procs ≡ p.settings.procs) where
         go : (c : Bool) → has_point o ≡ c →
             (told_of (filter has_point os) gs ++ told o b ≡ told_of (cond c (o ∷ filter has_point os) (filter has_point os)) (option_to_list (cond c (Some b) None) ++ gs)) × (length (cond c (o ∷ filter has_point os) (filter has_point os)) ≡ length (option_to_list (cond c (Some b) None) ++ gs))
         go true t = (refl, ap suc long)
-        go false t = (ap (λ (c : Bool). told_of (filter has_point os) gs ++ cond c ((goroutine_at o, b) ∷ []) []) (statement_pointed o t) ∙ append-nil (told_of (filter has_point os) gs), long)
+        go false t = (ap (λ (c : Bool). told_of (filter has_point os) gs ++ cond c ((its_goroutine o, b) ∷ []) []) (statement_pointed o t) ∙ append-nil (told_of (filter has_point os) gs), long)
 
       ends : (x : IsItsOwn p l es e legal a lt) (o : Op) (os : List Op) (b : Answer) → gives_at m m.task e.found ≡ Some b → begun_in (by a (e ∷ es)) ≡ o ∷ os → Runs a es o os m → Told a (e ∷ es)
       ends x o os b is begun r =
@@ -216,11 +216,11 @@ module _ (p : Program) (l : Layout) (procs : l.procs ≡ p.settings.procs) where
     elsewhere a b lt x t apart = let w = runs b lt x t in go (gives_at m m.task e.found) refl w.0 w.1 w.2 w.3 where
       no_told : (o : Op) (os : List Op) → begun_in (by b (e ∷ es)) ≡ o ∷ os → (c : Answer) → answers_at p a (told o c) ≡ []
       no_told o os begun c = by_kind (is_statement o) refl where
-        by_kind : (s : Bool) → is_statement o ≡ s → answers_at p a (cond s ((goroutine_at o, c) ∷ []) []) ≡ []
+        by_kind : (s : Bool) → is_statement o ≡ s → answers_at p a (cond s ((its_goroutine o, c) ∷ []) []) ≡ []
         by_kind false other = refl
         by_kind true is =
             let its = its_seat p l procs b o (subst (AreOf p l procs b) begun (all_its p l procs b (e ∷ es) legal)).0 is in
-            ap (λ (d : Bool). cond d ((goroutine_at o, c) ∷ []) []) (not_another p a b (goroutine_at o) apart its)
+            ap (λ (d : Bool). cond d ((its_goroutine o, c) ∷ []) []) (not_another p a b (its_goroutine o) apart its)
 
       go : (c : Option Answer) → gives_at m m.task e.found ≡ c → (o : Op) (os : List Op) → begun_in (by b (e ∷ es)) ≡ o ∷ os → Runs b es o os m → answers_at p a now ≡ []
       go None is o os begun r = ap (answers_at p a) (now_none b lt x o os begun r.serving is)

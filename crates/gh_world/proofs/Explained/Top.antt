@@ -14,7 +14,7 @@ use Rattle.gh_law.specs.Credit.{CreditStands, EveryListBalances, lapsed_in, spen
 use Rattle.gh_lists.specs.Order.{acted_in, Answered}
 use Rattle.gh_world.specs.Runs.{CreditIsTold, spent_after}
 use Rattle.gh_world.specs.Vocabulary.{acts, Coordinating, Entry, Ever, Layout, Legal, Name, Op, opening_ever, processor_kind, Program, Reach, state_of, statements_of, WellFormed, CoordStage}
-use Rattle.gh_world.specs.RunVocabulary.{actor_after, AllStands, answers_given, AreFew, AreLive, arena_of, before_step, count_of, CyclesAreFew, EachOperationActsOnce, ever_after_list, ever_of, EveryListKeepsIt, EveryListOfAScriptStands, EveryRunIsExplained, has_ended, is_statement_of, IsExplained, IsHeld, IsMade, IsRun, IsStartOf, LaysOut, LeavesTheReached, OnlyPointsChange, op_of, order_of, outcome_by, ProcessorsBeginFew, ProcessorWritesItsOwn, SetBitsAreCounted, setting_of, SlotsAreRead, total_of, wishes_of, WorkersWriteTheirOwn, swept_cycle, Done}
+use Rattle.gh_world.specs.RunVocabulary.{actor_after, AllStands, answers_given, AreFew, AreLive, arena_of, before_step, count_of, CyclesAreFew, EachOperationActsOnce, ever_after_list, ever_of, EveryListKeepsIt, EveryListOfAScriptStands, EveryRunIsExplained, has_ended, is_statement_of, IsExplained, IsHeldByGlobals, IsMade, IsRun, IsStartOf, LaysOut, LeavesTheReached, OnlyPointsChange, statement_as_op, order_of, outcome_by, ProcessorsBeginFew, ProcessorWritesItsOwn, SetBitsAreCounted, setting_of, SlotsAreRead, total_of, wishes_of, WorkersWriteTheirOwn, swept_cycle, Done}
 use Rattle.gh_world.proofs.Asking.{asked_of}
 use Rattle.gh_world.proofs.EachOnce.{acted_ops, none_beyond}
 use Rattle.gh_world.proofs.OfScripts.{few_in_all, many_wishes, shapes_good}
@@ -120,7 +120,7 @@ module _ (laws : Laws) (p : Program) (l : Layout) (formed : WellFormed p) (out :
     has : Acted p l es
     has = acted_all p l es stands.stands.full
 
-    done : coord.is_done c.stage ≡ true
+    done : coord.is_done_at c.stage ≡ true
     done = sym (ap has_ended led) ∙ run.done (l.procs + l.workers) (omega arith)
 
     last : LeavesTheReached (setup_of p l) es c
@@ -130,16 +130,16 @@ module _ (laws : Laws) (p : Program) (l : Layout) (formed : WellFormed p) (out :
     ops = map-reverse (λ (a : Answered). a.op) (order_of p.shapes l es)
 
     -- the statements of a goroutine among all that acted
-    mine : (g : ℕ) → filter (is_statement_of g) (reverse (ops_in p l es)) ≡ map (op_of g) (statements_of p g)
+    mine : (g : ℕ) → filter (is_statement_of g) (reverse (ops_in p l es)) ≡ map (statement_as_op g) (statements_of p g)
     mine g = ap (filter (is_statement_of g)) (sym ops) ∙ sym (acted_ops p g (acted_in p.shapes l es)) ∙ answers.mine p l out.procs_are laws.each laws.points es run stands.stands g
 
     beyond : (g d : ℕ) → l.goroutines ≤ g → (ever es).register g d ≡ values.Nil
     beyond g d le =
         let past : length p.goroutines ≤ g = let is = out.goroutines_are in omega (arith, le, is) in
-        let none : filter (is_statement_of g) (reverse (ops_in p l es)) ≡ [] = mine g ∙ ap (map (op_of g)) (none_beyond p g past) in
+        let none : filter (is_statement_of g) (reverse (ops_in p l es)) ≡ [] = mine g ∙ ap (map (statement_as_op g)) (none_beyond p g past) in
         ap (λ (e : Ever). e.register g d) (same_ever es ∙ sym has.ever) ∙ all_leave p.shapes g d opening_ever (reverse (ops_in p l es)) (reverse (answers_in p l es)) none
 
-    held : (n : Name) → Reach (ever es) n → IsHeld (ever es) n
+    held : (n : Name) → Reach (ever es) n → IsHeldByGlobals (ever es) n
     held n r = held_at_end (ever es) l.goroutines last.over beyond n r
 
     few_made : (n : Name) → IsMade (ever es).made n → n.k < 2 ^ 32

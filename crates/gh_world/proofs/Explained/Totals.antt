@@ -7,7 +7,7 @@ use Rattle.gh_base.specs.declared.cell.Cell.TheVariants as cell
 use Rattle.gh_coord.specs.Listing as coord
 use Rattle.gh_lists.specs.declared.handshake.Actor.TheVariants as actor
 use Rattle.gh_world.specs.Vocabulary.{acks_of, bit, Coordinating, Cycle, Entry, Ever, Layout, Legal, Name, Op, Program, Reach, row_bit, Words}
-use Rattle.gh_world.specs.RunVocabulary.{actor_after, alloc_words, AllStands, AreLive, arena_of, Ask, by_field, by_global, effect, EndsCycle, ever_after_list, from_field, from_global, is_set, IsAmong, IsHeld, IsMade, IsMarkedObject, IsPlacedAt, IsStartOf, last_kept, LeavesTheReached, mark_words, marked_by, marked_objects, page_words, setting_of, slot_row, words_in}
+use Rattle.gh_world.specs.RunVocabulary.{actor_after, alloc_words, AllStands, AreLive, arena_of, Ask, by_field, by_global, effect, EndsCycle, ever_after_list, from_field, from_global, is_set, IsAmong, IsHeldByGlobals, IsMade, IsMarkedObject, IsPlacedAt, IsStartOf, last_kept, LeavesTheReached, mark_words, marked_by, marked_objects, page_words, setting_of, slot_row, words_in}
 use Rattle.gh_lists.specs.Starts.{legal_start, start_of_start, whole}
 use Rattle.gh_world.proofs.Explained.Cycles.{as_many, at_end, ends_by, is_done}
 use Rattle.gh_world.proofs.Explained.Last.{some_swept}
@@ -15,12 +15,12 @@ use Rattle.gh_law.proofs.Named.Listing.{are_apart, no_more}
 use Rattle.gh_lists.specs.SumsBelow.{sum_same}
 use Rattle.gh_world.proofs.Explained.Live as live
 use Rattle.gh_world.proofs.Explained.Live.{bytes_by_bits, OfEveryList, set_is}
-use Rattle.gh_lists.specs.Names.{same_name}
+use Rattle.gh_lists.specs.Names.{same_birth_same_name}
 use Rattle.gh_lists.specs.Resting.{ever_stays}
 use Rattle.gh_law.proofs.Named.Slots.{AreNamed, is_made, is_placed, name_at}
 use Rattle.gh_world.specs.World.{setup_of}
 
-reached_of_held : (e : Ever) (n : Name) → IsHeld e n → Reach e n
+reached_of_held : (e : Ever) (n : Name) → IsHeldByGlobals e n → Reach e n
 reached_of_held e n (by_global i m is) = from_global i m is
 reached_of_held e n (by_field m i o h is) = from_field m i o (reached_of_held e m h) is
 
@@ -112,7 +112,7 @@ module _ (p : Program) (l : Layout) (every : OfEveryList p l) where
           let other = name_at w (ever before).made (named before legal_before) m.0 in
           let there = is_made w (ever before).made (named before legal_before) m.0 set in
           let at = is_placed w (ever before).made (named before legal_before) m.0 set in
-          let one : other ≡ n = same_name other n (few other (grows other there)) (few n of) (sym at.says ∙ m.1.says) in
+          let one : other ≡ n = same_birth_same_name other n (few other (grows other there)) (few n of) (sym at.says ∙ m.1.says) in
           subst (IsMade (ever before).made) one there
 
       to_marked : (n : Name) → IsAmong n standing → IsAmong n marked
@@ -135,8 +135,8 @@ module _ (p : Program) (l : Layout) (every : OfEveryList p l) where
           ∙ as_marked
 
   -- ---- at the end of a run
-  module _ (es : List (Entry Op)) (c : Coordinating) (legal : Legal (setting_of p l) es) (led : actor_after p l es (acks_of l) ≡ actor.Leads c) (done : coord.is_done c.stage ≡ true)
-      (held : (n : Name) → Reach (ever es) n → IsHeld (ever es) n) (grows : (start : List (Entry Op)) → IsStartOf start es → (n : Name) → IsMade (ever start).made n → IsMade (ever es).made n) (few : (n : Name) → IsMade (ever es).made n → n.k < 2 ^ 32) where
+  module _ (es : List (Entry Op)) (c : Coordinating) (legal : Legal (setting_of p l) es) (led : actor_after p l es (acks_of l) ≡ actor.Leads c) (done : coord.is_done_at c.stage ≡ true)
+      (held : (n : Name) → Reach (ever es) n → IsHeldByGlobals (ever es) n) (grows : (start : List (Entry Op)) → IsStartOf start es → (n : Name) → IsMade (ever start).made n → IsMade (ever es).made n) (few : (n : Name) → IsMade (ever es).made n → n.k < 2 ^ 32) where
     abbrev stands : AllStands (setup_of p l) es
     stands = every.stands es legal
 

@@ -11,11 +11,11 @@ use Rattle.std.proofs.lemmas.List.FromFn.{length-range_with_len}
 use Rattle.std.proofs.lemmas.Nat.{mod_below}
 use Rattle.std.proofs.lemmas.Option.{slice_get-map}
 use Rattle.gh_mutator.specs.Acting.{EachOperationActsOnce}
-use Rattle.gh_script.specs.Program.{op_of, statement_at}
+use Rattle.gh_script.specs.Program.{statement_as_op, statement_at}
 use Rattle.gh_lists.specs.Order.{answered, Answered, before_step, begun_in, ever_of, order_at, order_of}
-use Rattle.gh_world.specs.Points.{numbers_of, op_at_point, ops_of, PointsAre, PointsAreStatements, statements_acted}
+use Rattle.gh_world.specs.Points.{numbers_with, op_at_point, ops_of, PointsAre, PointsAreStatements, statements_acted}
 use Rattle.gh_world.specs.Runs.{IsRunSoFar}
-use Rattle.gh_world.specs.Turns.{goroutine_at, is_of_seat, is_statement_of, next_point, statement_now, statements_by}
+use Rattle.gh_world.specs.Turns.{is_of_seat, is_statement_of, its_goroutine, next_point, statement_count, statement_now}
 use Rattle.gh_world.specs.Vocabulary.{Act, acts, bit, by, Entry, is_point, is_statement, Layout, Legal, Op, op_at, processor_kind, Program, state_of, statements_of}
 use Rattle.gh_world.specs.World.{now_in, points_in, setting_of}
 use Rattle.gh_world.proofs.EachOnce.{acted_ops, turns_mine}
@@ -27,7 +27,7 @@ use Rattle.gh_world.proofs.Explained.Steps.{its_own, no_processors}
 
 -- the goroutine and the number of the first, behind the others
 abbrev number_behind : List Op → Op → ℕ × ℕ
-number_behind os o = (goroutine_at o, statements_by (goroutine_at o) (o ∷ os))
+number_behind os o = (its_goroutine o, statement_count (its_goroutine o) (o ∷ os))
 
 -- the numbers of those that are statements, the first of them first
 abbrev numbered : List Answered → List (ℕ × ℕ)
@@ -38,10 +38,10 @@ numbered (x ∷ xs) = numbered xs ++ next_point (is_statement x.op) (number_behi
 now_is : (o : Op) (os : List Op) → is_statement o ≡ true → statement_now (o ∷ os) ≡ number_behind os o
 now_is o os is = ap (λ (b : Bool). cond b (number_behind os o) (statement_now os)) is
 
-count_is : (g : ℕ) (os : List Op) → statements_by g os ≡ length (filter (is_statement_of g) os)
+count_is : (g : ℕ) (os : List Op) → statement_count g os ≡ length (filter (is_statement_of g) os)
 count_is g [] = refl
 count_is g (o ∷ os) = go (is_statement_of g o) (count_is g os) where
-  go : (b : Bool) → statements_by g os ≡ length (filter (is_statement_of g) os) → bit b + statements_by g os ≡ length (cond b (o ∷ filter (is_statement_of g) os) (filter (is_statement_of g) os))
+  go : (b : Bool) → statement_count g os ≡ length (filter (is_statement_of g) os) → bit b + statement_count g os ≡ length (cond b (o ∷ filter (is_statement_of g) os) (filter (is_statement_of g) os))
   go true ih = omega (arith, ih)
   go false ih = omega (arith, ih)
 
@@ -51,29 +51,29 @@ one_more : (n a j : ℕ) → a + n ≡ j → range_with_len a (suc n) ≡ range_
 one_more zero a j e = let same : a ≡ j = omega (arith, e) in ap (λ (x : ℕ). x ∷ []) same
 one_more (suc n) a j e = ap (λ (xs : List ℕ). a ∷ xs) (one_more n (a + 1) j (omega (arith, e)))
 
-numbers_more : (g : ℕ) (os : List Op) (o : Op) → range_with_len 1 (statements_by g os) ++ numbers_of g (next_point (is_statement o) (number_behind os o)) ≡ range_with_len 1 (statements_by g (o ∷ os))
-numbers_more g os o = go (is_statement o) refl (eqb (goroutine_at o) g) refl where
-  go : (b : Bool) → is_statement o ≡ b → (c : Bool) → eqb (goroutine_at o) g ≡ c → range_with_len 1 (statements_by g os) ++ numbers_of g (next_point b (number_behind os o)) ≡ range_with_len 1 (bit (b && c) + statements_by g os)
-  go false is c e = let same : 0 + statements_by g os ≡ statements_by g os = omega arith in append-nil (range_with_len 1 (statements_by g os)) ∙ ap (range_with_len 1) (sym same)
+numbers_more : (g : ℕ) (os : List Op) (o : Op) → range_with_len 1 (statement_count g os) ++ numbers_with g (next_point (is_statement o) (number_behind os o)) ≡ range_with_len 1 (statement_count g (o ∷ os))
+numbers_more g os o = go (is_statement o) refl (eqb (its_goroutine o) g) refl where
+  go : (b : Bool) → is_statement o ≡ b → (c : Bool) → eqb (its_goroutine o) g ≡ c → range_with_len 1 (statement_count g os) ++ numbers_with g (next_point b (number_behind os o)) ≡ range_with_len 1 (bit (b && c) + statement_count g os)
+  go false is c e = let same : 0 + statement_count g os ≡ statement_count g os = omega arith in append-nil (range_with_len 1 (statement_count g os)) ∙ ap (range_with_len 1) (sym same)
   go true is false e =
-      let same : 0 + statements_by g os ≡ statements_by g os = omega arith in
-      ap (λ (c : Bool). range_with_len 1 (statements_by g os) ++ map (λ (x : ℕ × ℕ). x.1) (cond c (number_behind os o ∷ []) [])) e
-      ∙ append-nil (range_with_len 1 (statements_by g os)) ∙ ap (range_with_len 1) (sym same)
+      let same : 0 + statement_count g os ≡ statement_count g os = omega arith in
+      ap (λ (c : Bool). range_with_len 1 (statement_count g os) ++ map (λ (x : ℕ × ℕ). x.1) (cond c (number_behind os o ∷ []) [])) e
+      ∙ append-nil (range_with_len 1 (statement_count g os)) ∙ ap (range_with_len 1) (sym same)
   go true is true e =
-      let h : goroutine_at o ≡ g = eqb-true (goroutine_at o) g e in
-      let test : is_statement_of (goroutine_at o) o ≡ true = ap (λ (c : Bool). c && eqb (goroutine_at o) (goroutine_at o)) is ∙ eq-eqb (goroutine_at o) (goroutine_at o) refl in
-      let own : statements_by (goroutine_at o) (o ∷ os) ≡ 1 + statements_by (goroutine_at o) os = ap (λ (c : Bool). bit c + statements_by (goroutine_at o) os) test in
-      let there : statements_by (goroutine_at o) os ≡ statements_by g os = ap (λ (k : ℕ). statements_by k os) h in
-      ap (λ (c : Bool). range_with_len 1 (statements_by g os) ++ map (λ (x : ℕ × ℕ). x.1) (cond c (number_behind os o ∷ []) [])) e
-      ∙ sym (one_more (statements_by g os) 1 (statements_by (goroutine_at o) (o ∷ os)) (omega (arith, own, there)))
-      ∙ ap (range_with_len 1) (let next : suc (statements_by g os) ≡ 1 + statements_by g os = omega arith in next)
+      let h : its_goroutine o ≡ g = eqb-true (its_goroutine o) g e in
+      let test : is_statement_of (its_goroutine o) o ≡ true = ap (λ (c : Bool). c && eqb (its_goroutine o) (its_goroutine o)) is ∙ eq-eqb (its_goroutine o) (its_goroutine o) refl in
+      let own : statement_count (its_goroutine o) (o ∷ os) ≡ 1 + statement_count (its_goroutine o) os = ap (λ (c : Bool). bit c + statement_count (its_goroutine o) os) test in
+      let there : statement_count (its_goroutine o) os ≡ statement_count g os = ap (λ (k : ℕ). statement_count k os) h in
+      ap (λ (c : Bool). range_with_len 1 (statement_count g os) ++ map (λ (x : ℕ × ℕ). x.1) (cond c (number_behind os o ∷ []) [])) e
+      ∙ sym (one_more (statement_count g os) 1 (statement_count (its_goroutine o) (o ∷ os)) (omega (arith, own, there)))
+      ∙ ap (range_with_len 1) (let next : suc (statement_count g os) ≡ 1 + statement_count g os = omega arith in next)
 
-numbers_are : (g : ℕ) (xs : List Answered) → numbers_of g (numbered xs) ≡ range_with_len 1 (statements_by g (ops_of xs))
+numbers_are : (g : ℕ) (xs : List Answered) → numbers_with g (numbered xs) ≡ range_with_len 1 (statement_count g (ops_of xs))
 numbers_are g [] = refl
 numbers_are g (x ∷ xs) =
     ap (map (λ (y : ℕ × ℕ). y.1)) (filter-append (λ (y : ℕ × ℕ). eqb y.0 g) (numbered xs) (next_point (is_statement x.op) (number_behind (ops_of xs) x.op)))
     ∙ map-append (λ (y : ℕ × ℕ). y.1) (filter (λ (y : ℕ × ℕ). eqb y.0 g) (numbered xs)) (filter (λ (y : ℕ × ℕ). eqb y.0 g) (next_point (is_statement x.op) (number_behind (ops_of xs) x.op)))
-    ∙ ap (λ (ys : List ℕ). ys ++ numbers_of g (next_point (is_statement x.op) (number_behind (ops_of xs) x.op))) (numbers_are g xs)
+    ∙ ap (λ (ys : List ℕ). ys ++ numbers_with g (next_point (is_statement x.op) (number_behind (ops_of xs) x.op))) (numbers_are g xs)
     ∙ numbers_more g (ops_of xs) x.op
 
 -- as many as there are
@@ -89,7 +89,7 @@ get_behind (x ∷ xs) o rest = get_behind xs o rest
 module _ (p : Program) where
   -- the statements of each goroutine are its first ones
   abbrev Firsts : List Op → Type 0
-  Firsts os = (g : ℕ) → (rest : List Op) × (map (op_of g) (statements_of p g) ≡ filter (is_statement_of g) (reverse os) ++ rest)
+  Firsts os = (g : ℕ) → (rest : List Op) × (map (statement_as_op g) (statements_of p g) ≡ filter (is_statement_of g) (reverse os) ++ rest)
 
   abbrev newest : ℕ → Op → List Op
   newest g o = filter (is_statement_of g) (o ∷ [])
@@ -104,27 +104,27 @@ module _ (p : Program) where
   fewer os o first g = let f = first g in (newest g o ++ f.0, f.1 ∙ split_off g os o f.0)
 
   -- the statement of this number
-  at_number : (g n : ℕ) (before : List Op) (o : Op) (rest : List Op) → n ≡ suc (length before) → map (op_of g) (statements_of p g) ≡ before ++ o ∷ rest → option_map (op_of g) (statement_at p g n) ≡ Some o
+  at_number : (g n : ℕ) (before : List Op) (o : Op) (rest : List Op) → n ≡ suc (length before) → map (statement_as_op g) (statements_of p g) ≡ before ++ o ∷ rest → option_map (statement_as_op g) (statement_at p g n) ≡ Some o
   at_number g n before o rest is e =
       let some : eqb n 0 ≡ false = grind (arith, nat_tests) in
       let less : n - 1 ≡ length before = omega (arith, is) in
-      ap (λ (b : Bool). option_map (op_of g) (cond b None (slice_get (statements_of p g) (n - 1)))) some
-      ∙ ap (λ (k : ℕ). option_map (op_of g) (slice_get (statements_of p g) k)) less
-      ∙ sym (slice_get-map (op_of g) (statements_of p g) (length before))
+      ap (λ (b : Bool). option_map (statement_as_op g) (cond b None (slice_get (statements_of p g) (n - 1)))) some
+      ∙ ap (λ (k : ℕ). option_map (statement_as_op g) (slice_get (statements_of p g) k)) less
+      ∙ sym (slice_get-map (statement_as_op g) (statements_of p g) (length before))
       ∙ ap (λ (xs : List Op). slice_get xs (length before)) e
       ∙ get_behind before o rest
 
   newest_at : (os : List Op) (o : Op) → is_statement o ≡ true → Firsts (o ∷ os) → op_at_point p (number_behind os o) ≡ Some o
   newest_at os o is first =
-      let g = goroutine_at o in
+      let g = its_goroutine o in
       let f = first g in
       let test : is_statement_of g o ≡ true = ap (λ (c : Bool). c && eqb g g) is ∙ eq-eqb g g refl in
       let own : newest g o ≡ o ∷ [] = ap (λ (c : Bool). cond c (o ∷ []) []) test in
-      let number : statements_by g (o ∷ os) ≡ 1 + statements_by g os = ap (λ (c : Bool). bit c + statements_by g os) test in
+      let number : statement_count g (o ∷ os) ≡ 1 + statement_count g os = ap (λ (c : Bool). bit c + statement_count g os) test in
       let count = count_is g os in
       let turned = ap length (filter-reverse (is_statement_of g) os) in
       let long = length-reverse (filter (is_statement_of g) os) in
-      at_number g (statements_by g (o ∷ os)) (filter (is_statement_of g) (reverse os)) o f.0 (omega (arith, number, count, turned, long))
+      at_number g (statement_count g (o ∷ os)) (filter (is_statement_of g) (reverse os)) o f.0 (omega (arith, number, count, turned, long))
       (f.1 ∙ split_off g os o f.0 ∙ ap (λ (xs : List Op). filter (is_statement_of g) (reverse os) ++ (xs ++ f.0)) own)
 
   statements_are : (xs : List Answered) → Firsts (ops_of xs) → map (op_at_point p) (numbered xs) ≡ map (λ (a : Answered). Some a.op) (statements_acted (reverse xs))
@@ -152,10 +152,10 @@ module _ (p : Program) (l : Layout) (procs : l.procs ≡ p.settings.procs) (each
     point_is : (x : Act) → acts (before_step p.shapes l es e) e.found ≡ Some x → is_statement x.op ≡ true → now_in (e ∷ es) ≡ number_behind (ops_in p l es) x.op
     point_is x is statement = elim (cases_lt e.actor l.procs) [
       | inl lt ↦
-          let g = goroutine_at x.op in
+          let g = its_goroutine x.op in
           let begun = acts_last p l each e.actor lt es e legal (its_own p l es e legal e.actor lt refl) x is in
           let its = its_seat p l procs e.actor x.op (subst (AreOf p l procs e.actor) begun (all_its p l procs e.actor (e ∷ es) legal)).0 statement in
-          let same : statements_by g (ops_by p l e.actor es) ≡ statements_by g (ops_in p l es) =
+          let same : statement_count g (ops_by p l e.actor es) ≡ statement_count g (ops_in p l es) =
           count_is g (ops_by p l e.actor es) ∙ ap length (sym (own_statements e.actor g its es legal.0)) ∙ sym (count_is g (ops_in p l es)) in
           ap statement_now begun ∙ now_is x.op (ops_by p l e.actor es) statement ∙ ap (λ (n : ℕ). (g, bit (is_statement_of g x.op) + n)) same
       | inr le ↦ absurd (let no : None ≡ Some x = sym (no_processors p l es e legal le).acts_not ∙ is in cc)
@@ -199,7 +199,7 @@ module _ (p : Program) (l : Layout) (procs : l.procs ≡ p.settings.procs) (each
     pub points_are : PointsAre p l es
     points_are = record {
       statements = ap (map (op_at_point p)) (all_numbered es r.legal) ∙ statements_are p (order_of p.shapes l es) firsts;
-      numbers = λ g. first_numbers (numbers_of g (points_in p.shapes l es)) (statements_by g (ops_in p l es)) (ap (numbers_of g) (all_numbered es r.legal) ∙ numbers_are g (order_of p.shapes l es));
+      numbers = λ g. first_numbers (numbers_with g (points_in p.shapes l es)) (statement_count g (ops_in p l es)) (ap (numbers_with g) (all_numbered es r.legal) ∙ numbers_are g (order_of p.shapes l es));
     }
 
 pub points_are_statements : EachOperationActsOnce → PointsAreStatements

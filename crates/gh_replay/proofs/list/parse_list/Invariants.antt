@@ -1,7 +1,7 @@
 use Rattle.std.proofs.Common.{◌≡◌, ◌+◌, ◌≤◌, ◌++◌, length}
 use Rattle.std.specs.Prelude.{option_map}
 use Rattle.std.specs.List.{slice_split}
-use Rattle.gh_replay.specs.ListText.{is_comma, turns_of}
+use Rattle.gh_replay.specs.ListText.{is_comma, turns_read}
 use Rattle.gh_replay.specs.declared.list.TheConstants.{MOST_ITEMS}
 use Rattle.gh_replay.proofs.list.parse_list.Given as goal
 
@@ -9,7 +9,7 @@ abbrev pub invariant-pieces : goal.invariant-pieces
 invariant-pieces l = record {
   few : length l.turns.items ≤ MOST_ITEMS;
   count : length l.turns.items + length (slice_split is_comma l.rest) ≡ length (slice_split is_comma l.text);
-  all : option_map (λ ts. l.turns.items ++ ts) (turns_of (slice_split is_comma l.rest)) ≡ turns_of (slice_split is_comma l.text);
+  all : option_map (λ ts. l.turns.items ++ ts) (turns_read (slice_split is_comma l.rest)) ≡ turns_read (slice_split is_comma l.text);
 }
 
 abbrev pub decreases-pieces : goal.decreases-pieces

@@ -1,11 +1,11 @@
 use Rattle.std.proofs.Common.{sym, ◌∙◌}
 use Rattle.gh_replay.specs.Places.{seen_of}
-use Rattle.gh_replay.specs.Standing.{without}
+use Rattle.gh_replay.specs.Standing.{with_actor_ended}
 use Rattle.gh_replay.proofs.Others.{all_out, some_in}
 use Rattle.gh_replay.proofs.place.is_alone.Goals as goal
 
 pub returns-in-Some : goal.returns-in-Some
-returns-in-Some c = sym (some_in (without c.args.actor (seen_of c.args.world.now)) c.actors.result _ c.actors.ensures.are (sym c.first_other.ensures ∙ c.in-Some.is))
+returns-in-Some c = sym (some_in (with_actor_ended c.args.actor (seen_of c.args.world.now)) c.actors.result _ c.actors.ensures.are (sym c.first_other.ensures ∙ c.in-Some.is))
 
 pub returns-in-None : goal.returns-in-None
-returns-in-None c = sym (all_out (without c.args.actor (seen_of c.args.world.now)) c.actors.result c.actors.ensures.are (sym c.first_other.ensures ∙ c.in-None.is))
+returns-in-None c = sym (all_out (with_actor_ended c.args.actor (seen_of c.args.world.now)) c.actors.result c.actors.ensures.are (sym c.first_other.ensures ∙ c.in-None.is))

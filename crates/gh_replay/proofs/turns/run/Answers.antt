@@ -3,7 +3,7 @@ use Rattle.std.proofs.lemmas.List.{append-nil}
 use Rattle.gh_base.specs.declared.value.Answer.{Answer}
 use Rattle.gh_world.specs.Turns.{total_of}
 use Rattle.gh_world.specs.World.{actors_of, answered_in}
-use Rattle.gh_replay.specs.Places.{Keeps, standing_at}
+use Rattle.gh_replay.specs.Places.{KeepsThoseGoing, standing_at}
 use Rattle.gh_replay.specs.Standing.{Standing}
 use Rattle.gh_replay.proofs.Kept.{is_finished, keeps_less, keeps_on, Stepped}
 use Rattle.gh_replay.proofs.Running.{Midway, more, opens, ran, room_for, roomy}
@@ -35,9 +35,9 @@ loop-left-preserved c =
     (record { appended = c.step.ensures.appended; script = c.step.ensures.script; layout = c.step.ensures.layout }) c.loop-left.invariant.next c.take_turn.ensures.seats (sym c.in-Some.is ∙ c.take_turn.ensures.who) c.in-Some.ensures.moved) in
     let m = c.loop-left.invariant.midway in
     let going = c.in-Some.ensures.going in
-    let all : Keeps c.take_turn.new.self c.loop-left.kept.items c.loop-left.world = c.take_turn.ensures.kept in
+    let all : KeepsThoseGoing c.take_turn.new.self c.loop-left.kept.items c.loop-left.world = c.take_turn.ensures.kept in
     let step : Stepped c.loop-left.world c.step.new.self c.in-Some.actor c.step.result m.turns = record { before = m.after; appends = c.step.ensures.appended m.turns m.after; script = c.step.ensures.script; layout = c.step.ensures.layout; count = c.step.ensures.actors; there = going.0; on = going.1 } in
-    let same : is_finished c.step.result ≡ false → Keeps c.take_turn.new.self c.loop-left.kept.items c.step.new.self =
+    let same : is_finished c.step.result ≡ false → KeepsThoseGoing c.take_turn.new.self c.loop-left.kept.items c.step.new.self =
     keeps_on c.loop-left.world c.step.new.self c.in-Some.actor c.step.result m.turns step c.take_turn.new.self c.loop-left.kept.items all in
     let next : c.take_turn.new.self.next < actors_of c.step.new.self = let there = c.take_turn.ensures.next in let count = c.step.ensures.actors in omega (arith, there, count) in
     elim c.match-step.branch [

@@ -2,7 +2,7 @@ use Rattle.std.proofs.Common.{◌∙◌, ◌++◌, ◌∷◌, [], ap, arith, len
 use Rattle.std.specs.Vec.Iter.{into_iter_items}
 use Rattle.gh_shared.specs.declared.handle.Handle.{Handle}
 use Rattle.gh_shared.specs.Calls.{Gathered}
-use Rattle.gh_shared.specs.Handles.{IsOf}
+use Rattle.gh_shared.specs.Handles.{IsHandleOf}
 use Rattle.gh_run.proofs.Carried.{all_gathered, Midway, midway_first, midway_more, next_there}
 use Rattle.gh_run.proofs.Places.{none_left}
 use Rattle.gh_run.proofs.gathering.gathered.Goals as goal
@@ -24,7 +24,7 @@ pub gather-requires-clause-of : goal.gather-requires-clause-of
 gather-requires-clause-of g c = c.loop-job.invariant.midway.gathers.of
 
 pub gather-requires-clause-other : goal.gather-requires-clause-other
-gather-requires-clause-other g c = subst (λ (h : Handle). IsOf c.args.heap.now h) (sym c.into_handle.ensures) (next_there c.args.script.now c.args.heap.now c.args.done.items c.in-Some-job.job (into_iter_items c.next.new.self) (into_iter_items c.loop-job.job-iterator) c.loop-job.all c.in-Some-job.ensures.steps.0 c.loop-job.invariant.midway)
+gather-requires-clause-other g c = subst (λ (h : Handle). IsHandleOf c.args.heap.now h) (sym c.into_handle.ensures) (next_there c.args.script.now c.args.heap.now c.args.done.items c.in-Some-job.job (into_iter_items c.next.new.self) (into_iter_items c.loop-job.job-iterator) c.loop-job.all c.in-Some-job.ensures.steps.0 c.loop-job.invariant.midway)
 
 pub loop-job-preserved : goal.loop-job-preserved
 loop-job-preserved g c =

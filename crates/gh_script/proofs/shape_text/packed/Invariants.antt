@@ -1,7 +1,7 @@
 use Rattle.std.proofs.Common.{◌≡◌, ◌*◌, map, take, drop}
 use Rattle.std.specs.List.{range_with_len}
-use Rattle.gh_script.specs.ShapeText.{word_of}
+use Rattle.gh_script.specs.ShapeText.{bits_as_number}
 use Rattle.gh_script.proofs.shape_text.packed.Given as goal
 
 abbrev pub invariant-loop-i : goal.invariant-loop-i
-invariant-loop-i l = l.words.items ≡ map (λ k. word_of (take 64 (drop (64 * k) l.fields))) (range_with_len 0 l.i)
+invariant-loop-i l = l.words.items ≡ map (λ k. bits_as_number (take 64 (drop (64 * k) l.fields))) (range_with_len 0 l.i)

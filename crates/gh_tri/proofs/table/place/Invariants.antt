@@ -1,6 +1,6 @@
 use Rattle.std.proofs.Common.{◌≡◌, None, drop}
 use Rattle.gh_tri.specs.Tables.{cells}
-use Rattle.gh_tri.specs.Opening.{placed}
+use Rattle.gh_tri.specs.Opening.{put_in_table}
 use Rattle.gh_tri.proofs.table.place.Given as goal
 
 -- what is placed so far, and then the others, is all that is placed
@@ -8,5 +8,5 @@ abbrev pub invariant-loop-e : goal.invariant-loop-e
 invariant-loop-e l = record {
   rows : l.table.rows ≡ l.fn.table.rows;
   columns : l.table.columns ≡ l.fn.table.columns;
-  cells : placed (cells None l.table.columns l.table.items.items) (drop l.e-index l.entries) ≡ placed (cells None l.fn.table.columns l.fn.table.items.items) l.entries;
+  cells : put_in_table (cells None l.table.columns l.table.items.items) (drop l.e-index l.entries) ≡ put_in_table (cells None l.fn.table.columns l.fn.table.items.items) l.entries;
 }

@@ -1,7 +1,7 @@
 use Rattle.std.proofs.Common.{ap, sym, ◌∙◌, subst, Some}
 use Rattle.gh_mutator.specs.declared.task.Task.{Task}
 use Rattle.gh_mutator.specs.declared.task.Task.TheVariants.{Idle}
-use Rattle.gh_mutator.specs.Local.{with_register}
+use Rattle.gh_mutator.specs.Local.{with_register_value}
 use Rattle.gh_mutator.specs.Mutating.{is_busy, Mutating}
 use Rattle.gh_mutator.specs.Poll.{Polling}
 use Rattle.gh_mutator.specs.Serving.{has_left_at}
@@ -17,5 +17,5 @@ invariant_of-self c =
     let idle = idle_is m.task (ap is_busy c.self.view_is ∙ c.requires.idle) (ap (λ (x : Mutating). has_left_at x.processor.task) c.self.view_is ∙ c.requires.there) in
     let near = subst (λ (x : Mutating). IsNear x.processor.poll.layout.pages v) (sym c.self.view_is) c.requires.near in
     let sound = taken c.self.inside.shapes.now m c.args.g c.args.d (Some v) Idle c.self.invariant.1 near tt in
-    let still = subst (λ (t : Task). Sound c.self.inside.shapes.now (record { poll = with_register m.poll c.args.g c.args.d v; made = m.made; task = t })) (sym idle) sound in
+    let still = subst (λ (t : Task). Sound c.self.inside.shapes.now (record { poll = with_register_value m.poll c.args.g c.args.d v; made = m.made; task = t })) (sym idle) sound in
     (c.self.invariant.0, subst (λ (p : Polling). Sound c.self.inside.shapes.now (record { poll = p; made = m.made; task = m.task })) (sym c.set_register.ensures) still)

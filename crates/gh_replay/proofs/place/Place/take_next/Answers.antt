@@ -1,12 +1,12 @@
 use Rattle.std.proofs.Common.{sym, ◌∙◌, arith}
 use Rattle.gh_replay.specs.Places.{seen_of}
-use Rattle.gh_replay.specs.Standing.{without}
+use Rattle.gh_replay.specs.Standing.{with_actor_ended}
 use Rattle.gh_replay.proofs.Choosing.{behind_there}
 use Rattle.gh_replay.proofs.place.Place.take_next.Goals as goal
 
 pub behind-self-requires : goal.behind-self-requires
 behind-self-requires c =
-    let there = behind_there (without _ (seen_of c.args.world.now)) c.args.self.now.next c.in-Some.other c.args.self.now.drawn c.requires.next (sym c.who_else.ensures.who ∙ c.in-Some.is) in
+    let there = behind_there (with_actor_ended _ (seen_of c.args.world.now)) c.args.self.now.next c.in-Some.other c.args.self.now.drawn c.requires.next (sym c.who_else.ensures.who ∙ c.in-Some.is) in
     let low = there.0 in
     omega (arith, low, c.actors-actors.ensures.are)
 

@@ -1,7 +1,7 @@
 use Rattle.std.proofs.Common.{◌≡◌, ◌+◌, ◌-◌, ◌<◌, ◌≤◌, length, refl, ap, ◌∙◌, arith}
 use Rattle.std.specs.Prelude.{slice_get}
 use Rattle.std.proofs.lemmas.Option.{slice_get_read}
-use Rattle.gh_lines.specs.Text.{lines_of, outcome_lines}
+use Rattle.gh_lines.specs.Text.{answer_lines, outcome_lines}
 use Rattle.gh_replay.proofs.Checked.{behind, of_outcome}
 use Rattle.gh_replay.proofs.Rows.{all-answer, all-credit, all-cycle, all-live, all-long, rows-long, row-lined, line-at}
 use Rattle.gh_replay.specs.Report.{is_checked}
@@ -9,19 +9,19 @@ use Rattle.gh_replay.proofs.report.Report.line.Goals as goal
 
 pub tell-told-requires-clause-goroutine : goal.tell-told-requires-clause-goroutine
 tell-told-requires-clause-goroutine c =
-    let below : c.args.i < length (lines_of c.args.script.now c.args.self.now.outcome.answers) =
+    let below : c.args.i < length (answer_lines c.args.script.now c.args.self.now.outcome.answers) =
     let long = rows-long c.args.script.now c.args.self.now _ c.self.inside.rows.items c.args.i c.requires.script c.self.invariant.0 c.self.view_is in omega (arith, long, c.if-i-len.true, c.len.ensures, c.self.inside.rows.ok.0) in
     (row-lined c.args.script.now c.args.self.now _ c.self.inside.rows.items c.args.i c.requires.script c.self.invariant.0 c.self.view_is c.index.result.now below c.index.ensures).0
 
 pub tell-told-requires-clause-maker : goal.tell-told-requires-clause-maker
 tell-told-requires-clause-maker c =
-    let below : c.args.i < length (lines_of c.args.script.now c.args.self.now.outcome.answers) =
+    let below : c.args.i < length (answer_lines c.args.script.now c.args.self.now.outcome.answers) =
     let long = rows-long c.args.script.now c.args.self.now _ c.self.inside.rows.items c.args.i c.requires.script c.self.invariant.0 c.self.view_is in omega (arith, long, c.if-i-len.true, c.len.ensures, c.self.inside.rows.ok.0) in
     (row-lined c.args.script.now c.args.self.now _ c.self.inside.rows.items c.args.i c.requires.script c.self.invariant.0 c.self.view_is c.index.result.now below c.index.ensures).1
 
 pub returns-then-i-len : goal.returns-then-i-len
 returns-then-i-len c =
-    let below : c.args.i < length (lines_of c.args.script.now c.args.self.now.outcome.answers) =
+    let below : c.args.i < length (answer_lines c.args.script.now c.args.self.now.outcome.answers) =
     let long = rows-long c.args.script.now c.args.self.now _ c.self.inside.rows.items c.args.i c.requires.script c.self.invariant.0 c.self.view_is in omega (arith, long, c.if-i-len.true, c.len.ensures, c.self.inside.rows.ok.0) in
     let lined = row-lined c.args.script.now c.args.self.now _ c.self.inside.rows.items c.args.i c.requires.script c.self.invariant.0 c.self.view_is c.index.result.now below c.index.ensures in
     of_outcome c.args.script.now c.args.self.now.outcome (is_checked c.args.self.now) c.args.i c.tell-told.new.line (all-answer c.args.script.now c.args.self.now _ c.self.inside.rows.items c.self.inside.cycles.items c.self.inside.totals c.args.i c.requires.script c.self.invariant.0 c.self.view_is refl (refl, refl, refl) (refl, refl) c.tell-told.new.line below

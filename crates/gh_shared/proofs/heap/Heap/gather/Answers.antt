@@ -1,10 +1,10 @@
 use Rattle.std.proofs.Common.{◌≡◌, ◌∙◌, ap, arith, subst, sym}
 use Rattle.gh_base.specs.Cells.{seats_of}
 use Rattle.gh_base.specs.Lists.{state_of}
-use Rattle.gh_shared.specs.Machines.{actor_of}
+use Rattle.gh_shared.specs.Machines.{machine_actor}
 use Rattle.gh_shared.specs.Plans.{Planned, setting}
 use Rattle.gh_shared.specs.declared.machine.ActorMachine.{ActorMachine}
-use Rattle.gh_shared.specs.Shown.{CarriesSo, drawn_by, first_of, leader_of}
+use Rattle.gh_shared.specs.Shown.{CarriesSo, credit_drawn, first_of, leader_of}
 use Rattle.gh_shared.proofs.Carrying.{carried_both, count_few}
 use Rattle.gh_shared.proofs.Drawing.{Joined}
 use Rattle.gh_shared.proofs.heap.Heap.gather.Goals as goal
@@ -32,8 +32,8 @@ invariant_of-h c =
     let plan = c.requires.other.plan ∙ sym c.requires.of.plan in
     let theirs = subst (λ (q : Planned). CarriesSo q o.hand.seat.me.0.actors o.hand.seat.me.0.log o.hand.actor o.hand.machine o.carried o.drawn o.led) plan o.carries in
     let theirs_is = c.leader_of.ensures ∙ ap (λ (x : ActorMachine). leader_of x o.led) j.machine in
-    let its : c.drawn_by.result ≡ drawn_by o.hand.machine = c.drawn_by.ensures ∙ ap drawn_by j.machine in
-    let state : actor_of o.hand.machine ≡ state_of (setting h.hand.seat.me.0.plan).kind o.hand.actor o.hand.seat.me.0.log = subst (λ (q : Planned). actor_of o.hand.machine ≡ state_of (setting q).kind o.hand.actor o.hand.seat.me.0.log) plan o.hand.state in
+    let its : c.drawn_by.result ≡ credit_drawn o.hand.machine = c.drawn_by.ensures ∙ ap credit_drawn j.machine in
+    let state : machine_actor o.hand.machine ≡ state_of (setting h.hand.seat.me.0.plan).kind o.hand.actor o.hand.seat.me.0.log = subst (λ (q : Planned). machine_actor o.hand.machine ≡ state_of (setting q).kind o.hand.actor o.hand.seat.me.0.log) plan o.hand.state in
     let joined : Joined h.hand.seat.me.0 o.hand.seat.me.0 new.seat.me.0 = record { both = j.carries; apart = j.apart; own = j.own; theirs = j.other } in
     let led : c.first_of.result ≡ first_of h.led (leader_of o.hand.machine o.led) = c.first_of.ensures ∙ (λ i. first_of (c.take.ensures.value i) (theirs_is i)) in
     record {

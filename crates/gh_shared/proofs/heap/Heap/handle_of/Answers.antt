@@ -3,7 +3,7 @@ use Rattle.gh_table.specs.Rule.{actor_in}
 use Rattle.gh_table.specs.Views.{one_carried}
 use Rattle.gh_script.specs.Program.{Program}
 use Rattle.gh_shared.specs.Counting.{CountsFirst}
-use Rattle.gh_shared.specs.Machines.{actor_of}
+use Rattle.gh_shared.specs.Machines.{machine_actor}
 use Rattle.gh_shared.specs.Plans.{setting}
 use Rattle.gh_shared.proofs.Carrying.{carries_so}
 use Rattle.gh_shared.proofs.Fresh.{kept_so, opens_so}
@@ -23,7 +23,7 @@ invariant_of-result c =
       carries =
           let me = c.new-hand.result.seat.me.0 in
           let view : me ≡ one_carried c.args.plan.now c.args.actor = ap (λ m. m.0) is.3 ∙ ap (λ m. m.0) c.requires.seat in
-          rw (is.0) (carries_so c.args.plan.now c.args.actor c.new-hand.result.machine me c.requires.actor view (is.1 ∙ c.in_ok-machine.ensures) (subst (λ (a : ℕ). actor_of c.new-hand.result.machine ≡ actor_in setting me a) is.0 c.new-hand.result.state));
+          rw (is.0) (carries_so c.args.plan.now c.args.actor c.new-hand.result.machine me c.requires.actor view (is.1 ∙ c.in_ok-machine.ensures) (subst (λ (a : ℕ). machine_actor c.new-hand.result.machine ≡ actor_in setting me a) is.0 c.new-hand.result.state));
     }
 
 pub returns : goal.returns

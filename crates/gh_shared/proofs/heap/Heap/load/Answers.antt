@@ -3,7 +3,7 @@ use Rattle.gh_base.specs.declared.operation.Op.TheVariants as op
 use Rattle.gh_table.specs.Rule.{actor_in}
 use Rattle.gh_shared.specs.declared.machine.ActorMachine.{ActorMachine}
 use Rattle.gh_shared.specs.declared.machine.ActorMachine.TheVariants.{Runs}
-use Rattle.gh_shared.specs.Machines.{actor_of, begins, Belongs, MayBegin}
+use Rattle.gh_shared.specs.Machines.{begins, Belongs, machine_actor, MachineMayBegin}
 use Rattle.gh_shared.specs.Plans.{setting}
 use Rattle.gh_shared.proofs.AtOnce.{carries_on, gave_so, ran_so}
 use Rattle.gh_shared.proofs.Carrying.{begins_kind, went_on}
@@ -17,11 +17,11 @@ load_at_once-requires-clause-belongs c =
 
 pub load_at_once-requires-clause-state : goal.load_at_once-requires-clause-state
 load_at_once-requires-clause-state c =
-    subst (λ (x : ActorMachine). actor_of x ≡ actor_in setting c.args.h.now.hand.seat.me.0 c.args.h.now.hand.actor) c.in-Runs.is c.args.h.now.hand.state
+    subst (λ (x : ActorMachine). machine_actor x ≡ actor_in setting c.args.h.now.hand.seat.me.0 c.args.h.now.hand.actor) c.in-Runs.is c.args.h.now.hand.state
 
 pub load_at_once-requires-clause-may : goal.load_at_once-requires-clause-may
 load_at_once-requires-clause-may c =
-    subst (λ (x : ActorMachine). MayBegin x (op.Load c.args.g c.args.d c.args.b c.args.k)) c.in-Runs.is (ready c.args.h.now.hand.seat.me.0.plan c.args.h.now.hand.actor c.args.h.now.hand.machine c.args.h.now.hand.seat.me.0.log c.args.h.now.counts.procs c.args.h.now.counts.left.items c.args.h.now.counts.over.items c.args.h.now.counts.gone (op.Load c.args.g c.args.d c.args.b c.args.k) c.a_state_is_of_its_own_entries.ensures c.args.h.now.kept c.args.h.now.hand.belongs c.args.h.now.hand.state c.requires.going.processor c.requires.going.going c.requires.runs c.requires.registers).may
+    subst (λ (x : ActorMachine). MachineMayBegin x (op.Load c.args.g c.args.d c.args.b c.args.k)) c.in-Runs.is (ready c.args.h.now.hand.seat.me.0.plan c.args.h.now.hand.actor c.args.h.now.hand.machine c.args.h.now.hand.seat.me.0.log c.args.h.now.counts.procs c.args.h.now.counts.left.items c.args.h.now.counts.over.items c.args.h.now.counts.gone (op.Load c.args.g c.args.d c.args.b c.args.k) c.a_state_is_of_its_own_entries.ensures c.args.h.now.kept c.args.h.now.hand.belongs c.args.h.now.hand.state c.requires.going.processor c.requires.going.going c.requires.runs c.requires.registers).may
 
 pub load_at_once-requires-clause-allowed : goal.load_at_once-requires-clause-allowed
 load_at_once-requires-clause-allowed c =

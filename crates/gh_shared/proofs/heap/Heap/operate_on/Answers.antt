@@ -3,7 +3,7 @@ use Rattle.gh_base.specs.declared.value.Answer.{Answer}
 use Rattle.gh_table.specs.Rule.{actor_in}
 use Rattle.gh_table.specs.Runs.{Gave}
 use Rattle.gh_shared.specs.Handles.{machine_of}
-use Rattle.gh_shared.specs.Machines.{actor_of, begins, gives, goes}
+use Rattle.gh_shared.specs.Machines.{begins, gives, goes, machine_actor}
 use Rattle.gh_shared.specs.Plans.{setting}
 use Rattle.gh_shared.proofs.Carrying.{begins_kind, went_on}
 use Rattle.gh_shared.proofs.Ready.{has_answer, kept_after, ready, shows_then}
@@ -41,7 +41,7 @@ invariant_of-h g c =
     let r = ready v.plan h.hand.actor h.hand.machine v.log h.counts.procs h.counts.left.items h.counts.over.items h.counts.gone c.args.op c.a_state_is_of_its_own_entries.ensures h.kept h.hand.belongs h.hand.state may.going.processor may.going.going may.runs may.fits in
     record {
       kept = rw (did.same.0, did.ran.1.plan, counts.left, counts.over, counts.gone, counts.procs) (kept_after v.plan h.hand.actor h.hand.machine c.args.op h.hand.seat.me new.seat.me new.machine did.ran.0 c.operate_on-out.result h.counts.procs h.counts.left.items h.counts.over.items h.counts.gone h.kept may.going.processor may.going.going r.counts did.ran.1 did.ran.2 did.idle);
-      carries = rw (did.same.0, did.ran.1.plan, did.ran.1.actors) (went_on c.a_state_is_of_its_own_entries.ensures v.plan h.hand.actor h.hand.machine new.machine (Some c.args.op) (begins h.hand.machine c.args.op) h.hand.seat.me new.seat.me did.ran.0 h.carried h.drawn h.led refl (begins_kind h.hand.machine c.args.op) did.ran.1 (subst (λ (a : ℕ). actor_of new.machine ≡ actor_in setting new.seat.me.0 a) did.same.0 new.state) h.carries);
+      carries = rw (did.same.0, did.ran.1.plan, did.ran.1.actors) (went_on c.a_state_is_of_its_own_entries.ensures v.plan h.hand.actor h.hand.machine new.machine (Some c.args.op) (begins h.hand.machine c.args.op) h.hand.seat.me new.seat.me did.ran.0 h.carried h.drawn h.led refl (begins_kind h.hand.machine c.args.op) did.ran.1 (subst (λ (a : ℕ). machine_actor new.machine ≡ actor_in setting new.seat.me.0 a) did.same.0 new.state) h.carries);
     }
 
 pub unreachable-requires : goal.unreachable-requires

@@ -1,7 +1,7 @@
 use Rattle.std.proofs.Common.{◌+◌, true, false, None, ap, ◌∙◌, sym, subst, arith}
 use Rattle.gh_tri.specs.Tables.{cells, by_three}
 use Rattle.gh_tri.specs.Shown.{picture_of}
-use Rattle.gh_tri.specs.Invariants.{IsOpening}
+use Rattle.gh_tri.specs.Invariants.{IsOpeningPicture}
 use Rattle.gh_tri.proofs.Keeping.{opening-holds}
 use Rattle.gh_tri.proofs.Opens.{more-cells, cells-of, placed-first, first-made, first-empty, cells-replicate, cells-unscanned, three-same, opening-is, opens}
 use Rattle.gh_tri.proofs.moves.Picture.new.Goals as goal
@@ -31,7 +31,7 @@ returns-clause-opened c =
 
 pub returns-clause-opening : goal.returns-clause-opening
 returns-clause-opening c =
-    subst IsOpening (sym (returns-clause-opened c))
+    subst IsOpeningPicture (sym (returns-clause-opened c))
     (opening-is c.args.objects c.args.room c.args.fields c.args.stacks c.args.edges.now c.args.held.now c.requires.some c.requires.edge_fields c.requires.edge_objects c.requires.held_registers c.requires.held_objects)
 
 pub returns-clause-invariants : goal.returns-clause-invariants

@@ -1,6 +1,6 @@
 use Rattle.std.proofs.Common.{◌≡◌, ◌+◌, ◌≤◌, ℕ, length, vec_len, ap, subst, ◌∙◌, arith}
 use Rattle.std.specs.Vec.{vec_capacity}
-use Rattle.gh_base.specs.Cells.{IsLayoutOf, opening_words, Shows}
+use Rattle.gh_base.specs.Cells.{IsLayoutOf, opening_words, ShowsCells}
 use Rattle.gh_coord.specs.Listing as coord
 use Rattle.gh_coord.specs.Stopping.{acks_of}
 use Rattle.gh_script.specs.declared.statement.Settings.{Settings}
@@ -44,5 +44,5 @@ returns-clause-opens c =
     c.in_ok-coord.ensures ∙ ap (λ (s : Settings). coord.opening l (s.procs + s.workers) s.gogc s.minheap c.most_cycles-cycles.result) c.settings-settings.ensures
     ∙ ap (λ (k : ℕ). coord.opening l (p.settings.procs + p.settings.workers) p.settings.gogc p.settings.minheap k) c.most_cycles-cycles.ensures.is
     ∙ ap (λ (k : ℕ). coord.opening l k p.settings.gogc p.settings.minheap (most_cycles p)) seat in
-    let shows : Shows l c.in_ok-words.words (setting_of p l).opening = subst (λ (n : ℕ). Shows l c.in_ok-words.words (opening_words n)) c.opening_trigger-trigger.ensures c.in_ok-words.ensures in
+    let shows : ShowsCells l c.in_ok-words.words (setting_of p l).opening = subst (λ (n : ℕ). ShowsCells l c.in_ok-words.words (opening_words n)) c.opening_trigger-trigger.ensures c.in_ok-words.ensures in
     rw (c.in_ok-workers.ensures, leads, c.in_ok-points.ensures.items) (of_parts _ _ (after_opens p l c.in_ok-words.words c.in_ok-runners.runners.items shows c.in_ok-runners.ensures) (all_workers l))
