@@ -1,5 +1,5 @@
 -- What the search knows lasts, whatever others do. Of the heap and of its routines it is known what their laws say.
-use Rattle.std.proofs.Common.{◌≡◌, ℕ, ◌+◌, ◌*◌, ◌/◌, ◌<◌, ◌≤◌, Bool, true, cond, refl, ap, arith, Option, Some, None, sym, subst, ◌∙◌}
+use Rattle.std.proofs.Common.{◌≡◌, ℕ, ◌+◌, ◌*◌, ◌/◌, ◌<◌, ◌≤◌, Bool, true, cond, refl, ap, arith, Option, sym, subst, ◌∙◌}
 use Rattle.gh_base.specs.declared.pack.SpanHead.{SpanHead}
 use Rattle.gh_class.specs.declared.class.SizeClass.TheVariants as size
 use Rattle.gh_base.specs.Rows.{row_bit}
@@ -59,10 +59,7 @@ cached-lasts z a v w c x g o y = record {
   count j f e lt = rw (e) lt
 
 caches-last : (z : Arena) (a : ℕ) (v w : View) (wanted : Sought) (cached : Option CachedSpan) → Good z v → Others z a v w → Caches a v wanted cached → Caches a w wanted cached
-caches-last z a v w (Small c) (Some x) g o y = cached-lasts z a v w c x g o y
-caches-last z a v w (Small c) None g o y = y
-caches-last z a v w (Large pages noscan) (Some x) g o y = y
-caches-last z a v w (Large pages noscan) None g o y = y
+caches-last z a v w wanted cached g o y = grind (arith, cached-lasts)
 
 none-left-lasts : Known → (z : Arena) (a : ℕ) (sure : Bool) (v w : View) (f : Finding) (wanted : Sought) → Others z a v w → v.locked a ≡ true → NoneLeft z sure v f wanted → NoneLeft z sure w f wanted
 none-left-lasts k z a sure v w f (Small c) o l x = λ is. (k.last z a v w o).full_before (head_for f) z.layout.pages l (x is)

@@ -1,10 +1,9 @@
 -- What the own steps of the search stand on: what a move keeps, numbers and slots, where it begins and where it finds none.
-use Rattle.std.proofs.Common.{◌≡◌, ℕ, ◌+◌, ◌*◌, ◌^◌, ◌<◌, ◌≤◌, Bool, true, false, cond, ltb, Option, Some, None, refl, sym, ap, subst, arith, le-leb, ltb-true, ltb-false}
+use Rattle.std.proofs.Common.{◌≡◌, ℕ, ◌+◌, ◌*◌, ◌<◌, ◌≤◌, Bool, true, false, cond, ltb, Option, Some, None, refl, sym, ap, subst, arith, le-leb, ltb-true, ltb-false}
 use Rattle.gh_class.specs.declared.class.SizeClass.TheVariants as size
 use Rattle.gh_cache.specs.Listing as slots
 use Rattle.gh_alloc.specs.FindFacts.{Caches, FactsAt, FindsNone, IsUsedUp, NoneIsTrue, Opens, Seeks, SweepsHere, cached_head, is_locked, laying, own, with_span}
-use Rattle.gh_alloc.specs.FindSound.{IsSought}
-use Rattle.gh_alloc.proofs.Vocabulary.{Arena, begin, CachedSpan, End, Ended, Finding, FindStage, first_page, FitsClass, Good, IsFull, Lands, Large, Lock, May, Move, moved, NoRoom, refuses_at, Right, Row, row_bit, Shared, slot_count, slot_size, slot_words_of, Slots, slots_of, Small, Sought, span_at, span_for, SpanHead, sweep_generation_at, sweep_layout_at, Unlock, Unswept, View, view, Words}
+use Rattle.gh_alloc.proofs.Vocabulary.{Arena, begin, CachedSpan, End, Finding, FindStage, first_page, Good, IsFull, Lands, Large, Lock, May, Move, moved, NoRoom, refuses_at, Right, Row, row_bit, Shared, slot_count, slot_size, slot_words_of, Slots, slots_of, Small, Sought, span_at, SpanHead, sweep_generation_at, sweep_layout_at, Unlock, View, view, Words}
 use Rattle.gh_alloc.proofs.FindLasts.{Known}
 
 -- What its own steps keep.
@@ -23,9 +22,7 @@ lands k z a s words Then So g f x = record { move = x.move; may = x.may; words_a
 -- Where it finds none.
 
 refuses-at : (z : Arena) (a : ℕ) (sure : Bool) (v : View) (f : Finding) (q : FindStage) → refuses_at q ≡ true → FactsAt z a sure v f q → FindsNone z sure v f × (q ≡ Unlock (End NoRoom))
-refuses-at z a sure v f (Unlock (End NoRoom)) e x = (x, refl)
-refuses-at z a sure v f (Ended out) e x = absurd x
-refuses-at z a sure v f _ e x = absurd (cc)
+refuses-at z a sure v f q e x = grind arith
 
 pub finds-none : NoneIsTrue
 finds-none z a sure v rest f x e = let y = refuses-at z a sure v f f.stage e x.stage in record { none = y.0; stage = y.1 }
@@ -33,21 +30,12 @@ finds-none z a sure v rest f x e = let y = refuses-at z a sure v f f.stage e x.s
 -- Whose routine sweeps.
 
 sweeps-at : (z : Arena) (a : ℕ) (sure : Bool) (v : View) (f : Finding) (q : FindStage) → Seeks z a v f → FactsAt z a sure v f q → (sweep_layout_at f q ≡ z.layout) × (sweep_generation_at f q ≡ v.generation)
-sweeps-at z a sure v f (Unswept u) seeks x = (x.facts.whose.layout, x.facts.whose.number)
-sweeps-at z a sure v f _ seeks x = (seeks.layout, seeks.number)
+sweeps-at z a sure v f q seeks x = grind arith
 
 pub sweeps-here : SweepsHere
 sweeps-here z a sure v rest f x = sweeps-at z a sure v f f.stage x.seeks x.stage
 
 -- Numbers.
-
-pub fits-class : Known → (seat generation : ℕ) (wanted : Sought) → IsSought wanted → FitsClass (record { class = (span_for wanted).class; noscan = (span_for wanted).noscan; pages = (span_for wanted).pages; owner = seat; number = generation })
-fits-class k seat generation (Small c) x = record { some = k.some_page c.class x; class = x; small = λ ne. refl }
-fits-class k seat generation (Large pages noscan) x = record { some = x.0; class = tt; small = λ ne. absurd (ne refl) }
-
-pub few-pages : Known → (wanted : Sought) → IsSought wanted → (span_for wanted).pages < 2 ^ 13
-few-pages k (Small c) x = omega (arith, k.few_pages c.class x)
-few-pages k (Large pages noscan) x = omega (arith, x.1)
 
 -- a page from which the span fits is read as it is
 pub first-is : (f : Finding) (pages at : ℕ) → at + pages ≤ f.layout.pages → first_page f pages at ≡ at

@@ -2,7 +2,6 @@
 use Rattle.std.proofs.Common.{◌≡◌, ℕ, ◌+◌, ◌*◌, ◌/◌, ◌<◌, ◌≤◌, Bool, true, false, cond, eqb, ltb, inl, inr, Option, Some, None, refl, sym, ap, subst, ◌∙◌, arith, eqb-true, eq-eqb, ltb-false}
 use Rattle.gh_base.specs.declared.cell.Ask.TheVariants as ask
 use Rattle.gh_base.specs.declared.cell.Cell.TheVariants as cell
-use Rattle.gh_class.specs.declared.class.SizeClass.{SizeClass}
 use Rattle.gh_class.specs.declared.class.SizeClass.TheVariants as size
 use Rattle.gh_heap.specs.Moves.{Leaves}
 use Rattle.gh_heap.specs.Spans.{owner_at, owner_in}
@@ -19,10 +18,10 @@ use Rattle.gh_sweep.specs.Listing.{Sweeping}
 use Rattle.gh_pages.specs.Facts as carving
 use Rattle.gh_pages.specs.Listing as carve
 use Rattle.gh_alloc.specs.FindFacts.{Caches, Comes, Facts, FactsAt, FindsByItsRights, IsCached, IsCachedFor, IsUsedUp, LooksAgain, NoneLeft, OwnsLarge, OwnStep, Seeks, SweepStep, carve_at, head_for, cached_head, held, is_locked, laying, looks, own, pass_at, still, unswept_at, with_span}
-use Rattle.gh_alloc.proofs.Vocabulary.{after_carve, after_pass, after_slots, after_unswept, Again, Arena, asks, At, at_stage, begin, behind_for, CachedSpan, Carve, CarveStage, cell_of, effect, End, Ended, eqb_tells, Finding, FindStage, first_page, FitsClass, Give, given, given_at, given_head, gives, goes, Good, IsSpan, KeepsObjects, Lands, Large, Layout, LeaveLock, Lock, locked_for, moved, NoRoom, number_of_class, owned_by, pages_of, Pass, put, Quiet, refuses_at, Right, searched, Shared, Slots, slots_of, Small, Sought, span_at, span_for, SpanClass, SpanHead, spans_for, Steps, sweep_at, TakeLock, taken_for, Unlock, Unswept, update, View, view}
+use Rattle.gh_alloc.proofs.Vocabulary.{after_carve, after_pass, after_slots, after_unswept, Again, Arena, asks, At, begin, behind_for, CachedSpan, Carve, CarveStage, cell_of, effect, End, Ended, eqb_tells, Finding, FindStage, first_page, FitsClass, Give, given, given_at, given_head, gives, goes, Good, IsSpan, KeepsObjects, Lands, Large, Layout, LeaveLock, Lock, locked_for, moved, NoRoom, owned_by, pages_of, Pass, put, Quiet, refuses_at, Right, searched, Shared, Slots, slots_of, Small, Sought, span_at, span_for, SpanClass, SpanHead, spans_for, Steps, sweep_at, TakeLock, taken_for, Unlock, Unswept, update, View, view}
 use Rattle.gh_alloc.proofs.FindLasts.{Known, lasts}
 use Rattle.gh_alloc.proofs.FindWithin.{within}
-use Rattle.gh_alloc.proofs.FindParts.{Apart, begins, few-pages, finds-none, first-is, fits-class, is-apart, is-own, Kept, lands, none-apart, none-own, opens, OwnApart, Stands, sweeps-here, taken-of}
+use Rattle.gh_alloc.proofs.FindParts.{Apart, begins, finds-none, first-is, is-apart, is-own, Kept, lands, none-apart, none-own, opens, OwnApart, Stands, sweeps-here, taken-of}
 
 -- It goes on, and has given nothing.
 
@@ -30,10 +29,7 @@ abbrev Onward : Arena → (a : ℕ) → (sure : Bool) → View → (ℕ → Bool
 Onward z a sure v rest f = Right a v (is_locked f.stage) (held f rest) (laying f.stage) × Facts z a sure v rest f
 
 goes-on : (z : Arena) (a : ℕ) (sure : Bool) (v : View) (rest : ℕ → Bool) (f : Finding) → Onward z a sure v rest f → Comes z a sure v rest (given f) f
-goes-on z a sure v rest f = by f.stage where
-  by : (q : FindStage) → Onward z a sure v rest (at_stage f q) → Comes z a sure v rest (given_at q) (at_stage f q)
-  by (Ended out) h = absurd h.1.stage
-  by _ h = h
+goes-on z a sure v rest f = grind arith
 
 -- The own steps, in a round that looks for unswept spans or does not: the last one does not.
 
@@ -51,9 +47,6 @@ module _ (k : Known) (z : Arena) (a : ℕ) (sure : Bool) (s : Shared) (rest : �
   whose-of : (w : Sought) (c : Option CachedSpan) (q : FindStage) → Seeks z a now (at w c q) → Whose w
   whose-of w c q x = record { layout = x.layout; seat = x.seat; few = x.few; number = x.number; wanted = x.wanted }
 
-  seeks-at : (w : Sought) (c : Option CachedSpan) (q : FindStage) (t : Shared) → Kept s t → Whose w → Seeks z a (view t) (at w c q)
-  seeks-at w c q t same x = record { layout = x.layout; seat = x.seat; few = x.few; number = x.number ∙ sym same; wanted = x.wanted }
-
   abbrev On : Shared → Finding → Type 0
   On t f = Onward z a sure (view t) rest f
 
@@ -62,21 +55,17 @@ module _ (k : Known) (z : Arena) (a : ℕ) (sure : Bool) (s : Shared) (rest : �
   Looks q = sure ≡ true → looks q ≡ true
 
   facts-at : (w : Sought) (c : Option CachedSpan) (q : FindStage) (t : Shared) → Kept s t → Whose w → Caches a (view t) w c → Apart rest c → OwnApart rest (own q) → Looks q → FactsAt z a sure (view t) (at w c q) q → Facts z a sure (view t) rest (at w c q)
-  facts-at w c q t same whose caches apart own looks-on x = record { seeks = seeks-at w c q t same whose; caches = caches; apart = apart; own_apart = own; round = λ is. (looks-on is, last is); stage = x }
-
-  no-cache : (w : Sought) (v : View) → Caches a v w None
-  no-cache (Small c) v = tt
-  no-cache (Large pages noscan) v = tt
+  facts-at w c q t same whose caches apart own looks-on x = grind arith
 
   -- with nothing cached it looks for a span
   none-at : (w : Sought) (q : FindStage) (t : Shared) → Kept s t → Whose w → OwnApart rest (own q) → looks q ≡ true → FactsAt z a sure (view t) (at w None q) q → Facts z a sure (view t) rest (at w None q)
-  none-at w q t same whose own looks-on x = facts-at w None q t same whose (no-cache w (view t)) (none-apart rest) own (λ is. looks-on) x
+  none-at w q t same whose own looks-on x = grind arith
 
   abbrev Step : Finding → Type 0
   Step f = Steps z a s (asks f) (λ t. KeepsObjects now (view t) × (looks f.stage ≡ true → Leaves now (view t)) × Comes z a (still sure f.stage) (view t) rest (gives f (s.words (cell_of (asks f)))) (goes f (s.words (cell_of (asks f)))))
 
   on-then : (t : Shared) (f : Finding) → On t f → Comes z a sure (view t) rest (given f) f
-  on-then t f h = goes-on z a sure (view t) rest f h
+  on-then t f h = grind arith
 
   -- The cached span is searched.
 
@@ -123,38 +112,18 @@ module _ (k : Known) (z : Arena) (a : ℕ) (sure : Bool) (s : Shared) (rest : �
 
   -- With the lock.
 
-  carves : (w : Sought) (t : Shared) → Good z now → Kept s t → Whose w → carving.Carves z a (view t) (carve.opening l e n (span_for w))
-  carves w t good same whose = record {
-    layout = whose.layout;
-    seat = whose.seat;
-    number = whose.number ∙ sym same;
-    class = fits;
-    word = record { class = fits.class; some = fits.some; pages = few-pages k w whose.wanted; owner = omega (arith, whose.few, whose.seat); number = omega (arith, whose.number, good.generation) };
-  } where
-    fits : FitsClass (carve.fresh_head (carve.opening l e n (span_for w)))
-    fits = fits-class k (e + 1) n w whose.wanted
-
   carve-then : (w : Sought) (t : Shared) → Good z now → Kept s t → Whose w → NoneLeft z sure (view t) (at w None Lock) w → Right a (view t) true rest None → On t (at w None (Carve (carve.opening l e n (span_for w))))
-  carve-then w t good same whose none right = (right, none-at w (Carve (carve.opening l e n (span_for w))) t same whose (none-own rest) refl (record { cached = refl; none = none; is = refl; facts = k.carve.opens z a (view t) (carve.opening l e n (span_for w)) (carves w t good same whose) refl }))
+  carve-then w t good same whose none right = grind arith
 
   spans-then : (w : Sought) (t : Shared) → Good z now → Kept s t → Whose w → Right a (view t) true rest None → On t (at w None (spans_for (at w None Lock) w))
-  spans-then (Small c) t good same whose right = (right, none-at (Small c) (Pass (pass.opening l e n c)) t same whose (none-own rest) refl (record { c = c; wanted = refl; cached = refl; is = refl; facts = facts })) where
-    facts : passing.Facts z a sure (view t) (pass.opening l e n c)
-    facts = k.pass.opens z a sure (view t) (pass.opening l e n c) (record { layout = whose.layout; seat = whose.seat; few = whose.few; number = whose.number ∙ sym same; class = whose.wanted }) refl
-  spans-then (Large pages noscan) t good same whose right = carve-then (Large pages noscan) t good same whose tt right
+  spans-then w t good same whose right = grind arith
 
   locked-then : (w : Sought) (c : Option CachedSpan) (t : Shared) → Good z now → Kept s t → Whose w → Looks Lock → Caches a (view t) w c → Apart rest c → IsUsedUp w c → Right a (view t) true (with_span (cached_head c) rest) None → On t (at w c (locked_for (at w c Lock) w c))
-  locked-then (Small c) (Some x) t good same whose calm caches apart used right = (right, facts-at (Small c) (Some x) (Give (give.opening l x.head (given_head n c))) t same whose caches apart (none-own rest) calm (record { c = c; k = x; for = record { wanted = refl; cached = refl }; is = refl; used = used }))
-  locked-then (Small c) None t good same whose calm caches apart used right = spans-then (Small c) t good same whose right
-  locked-then (Large pages noscan) (Some x) t good same whose calm caches apart used right = absurd caches
-  locked-then (Large pages noscan) None t good same whose calm caches apart used right = spans-then (Large pages noscan) t good same whose right
+  locked-then w c t good same whose calm caches apart used right = grind arith
 
   -- the lock's word is written: what is cached stays
   caches-with : (w : Sought) (c : Option CachedSpan) (lock : ℕ) (locked : ℕ → Bool) → Caches a now w c → Caches a (record now { lock = lock; locked = locked }) w c
-  caches-with (Small c) (Some x) lock locked y = record { span = record { h = y.span.h; head = y.span.head; class = y.span.class; noscan_is = y.span.noscan_is; held = y.span.held }; few = y.few; taken = y.taken }
-  caches-with (Small c) None lock locked y = y
-  caches-with (Large pages noscan) (Some x) lock locked y = y
-  caches-with (Large pages noscan) None lock locked y = y
+  caches-with w c lock locked y = grind arith
 
   lock-own : (w : Sought) (c : Option CachedSpan) → Good z now → Whose w → Looks Lock → Caches a now w c → Apart rest c → IsUsedUp w c → Right a now false (with_span (cached_head c) rest) None → Step (at w c Lock)
   lock-own w c good whose calm caches apart used right = go (eqb (s.words cell.Lock) 0) refl where
@@ -184,9 +153,7 @@ module _ (k : Known) (z : Arena) (a : ℕ) (sure : Bool) (s : Shared) (rest : �
   head-is h c class noscan pages number = rw (class, noscan, pages, number) refl
 
   small-pages : (h : SpanHead) (c : ℕ) → FitsClass h → h.class ≡ size.Small c → h.pages ≡ pages_of c
-  small-pages h c fits class = fits.small (λ x. small-large c (sym class ∙ x)) ∙ ap (λ (y : SizeClass). pages_of (number_of_class y)) class where
-    small-large : (c : ℕ) → size.Small c ≡ size.Large → ⊥
-    small-large c x = cc
+  small-pages h c fits class = grind arith
 
   give-own : (c : SpanClass) (x : CachedSpan) → Good z now → Whose (Small c) → IsCached a now c x → rest x.head ≡ false → slots_of c.class ≤ x.cursor → Right a now true (update rest x.head true) None → Step (at (Small c) (Some x) (Give (give.opening l x.head (given_head n c))))
   give-own c x good whose y apart used right =
@@ -222,13 +189,7 @@ module _ (k : Known) (z : Arena) (a : ℕ) (sure : Bool) (s : Shared) (rest : �
 
   -- behind the swept spans unswept ones, or else fresh pages
   behind-then : (c : SpanClass) (t : Shared) → Good z now → Kept s t → Whose (Small c) → NoneLeft z sure (view t) (at (Small c) None Lock) (Small c) → Right a (view t) true rest None → On t (at (Small c) None (behind_for (at (Small c) None Lock) (Small c)))
-  behind-then c t good same whose none right = go sweeps refl where
-    facts : sweeping.Facts z a (view t) (unswept.opening l e n c)
-    facts = k.unswept.opens z a (view t) (unswept.opening l e n c) (record { layout = whose.layout; seat = whose.seat; few = whose.few; number = whose.number ∙ sym same; class = whose.wanted }) refl
-
-    go : (b : Bool) → sweeps ≡ b → On t (at (Small c) None (cond b (Unswept (unswept.opening l e n c)) (Carve (carve.opening l e n (span_for (Small c))))))
-    go true is = (right, none-at (Small c) (Unswept (unswept.opening l e n c)) t same whose (none-own rest) refl (record { c = c; wanted = refl; cached = refl; first = is; is = refl; facts = facts }))
-    go false is = carve-then (Small c) t good same whose none right
+  behind-then c t good same whose none right = grind arith
 
   pass-then : (c : SpanClass) (t : Shared) (given : Option (Option ℕ)) (m : pass.Pass) → Good z now → Kept s t → Whose (Small c) → m ≡ pass_at (at (Small c) None Lock) c m.stage → passing.Comes z a sure now (view t) rest given m → On t (after_pass (at (Small c) None (Pass m)) given)
   pass-then c t None m good same whose is r = (r.1, none-at (Small c) (Pass m) t same whose (none-own rest) refl (record { c = c; wanted = refl; cached = refl; is = is; facts = r.2 }))
@@ -238,9 +199,7 @@ module _ (k : Known) (z : Arena) (a : ℕ) (sure : Bool) (s : Shared) (rest : �
       cached-then c p y.h (Pass m) t same whose y.span y.class y.noscan r.1 r.3
 
   pass-leaves : (w : View) (given : Option (Option ℕ)) (m : pass.Pass) → passing.Comes z a sure now w rest given m → Leaves now w
-  pass-leaves w None m r = r.0
-  pass-leaves w (Some None) m r = r.0
-  pass-leaves w (Some (Some p)) m r = r.0
+  pass-leaves w given m r = grind arith
 
   pass-own : (c : SpanClass) (m : pass.Pass) → passing.IsSure z sure now → Good z now → Whose (Small c) → m ≡ pass_at (at (Small c) None Lock) c m.stage → passing.Facts z a sure now m → Right a now true rest None → Step (at (Small c) None (Pass m))
   pass-own c m tidy good whose is facts right =
@@ -261,9 +220,7 @@ module _ (k : Known) (z : Arena) (a : ℕ) (sure : Bool) (s : Shared) (rest : �
       cached-then c p y.h (Unswept m) t same whose y.span y.class y.noscan r.1 r.3
 
   unswept-leaves : (w : View) (given : Option (Option ℕ)) (m : unswept.Unswept) → sweeping.Comes z a now w rest given m → Leaves now w
-  unswept-leaves w None m r = r.0
-  unswept-leaves w (Some None) m r = r.0
-  unswept-leaves w (Some (Some p)) m r = r.0
+  unswept-leaves w given m r = grind arith
 
   unswept-own : (c : SpanClass) (m : unswept.Unswept) → unswept.sweep_in m ≡ None → Good z now → sweeps ≡ true → Whose (Small c) → m ≡ unswept_at (at (Small c) None Lock) c m.stage → sweeping.Facts z a now m → Right a now true rest None → Step (at (Small c) None (Unswept m))
   unswept-own c m idle good first whose is facts right =
@@ -328,9 +285,7 @@ module _ (k : Known) (z : Arena) (a : ℕ) (sure : Bool) (s : Shared) (rest : �
   carved w t (Some (Some p)) m same whose none is r = fresh-then w t p (Carve m) m.stage same whose (subst (λ (y : carve.Carving). carving.SpanIsFresh z (view t) y p) is r.2) r.1 r.3
 
   carve-leaves : (v : View) (given : Option (Option ℕ)) (m : carve.Carving) → carving.Comes z a now v rest given m → Leaves now v
-  carve-leaves v None m r = r.0
-  carve-leaves v (Some None) m r = r.0
-  carve-leaves v (Some (Some p)) m r = r.0
+  carve-leaves v given m r = grind arith
 
   carve-own : (w : Sought) (m : carve.Carving) → Good z now → Whose w → NoneLeft z sure now (at w None Lock) w → m ≡ carve_at (at w None Lock) m.stage → carving.Facts z a now m → Right a now true rest (carving.laying m) → Step (at w None (Carve m))
   carve-own w m good whose none is facts right =

@@ -40,7 +40,7 @@ opens z a v f p unmade stage = subst (λ (q : PlaceStage). FactsAt z a v f (base
 -- What is known lasts.
 
 runs-last : (z : Arena) (a : ℕ) (v w : View) (g : ℕ) → Others z a v w → GoroutineRuns z v a g → GoroutineRuns z w a g
-runs-last z a v w g o r = record { of = r.of; goes_on = o.ends g r.of ∙ r.goes_on }
+runs-last z a v w g o r = grind arith
 
 unmade-lasts : (z : Arena) (a : ℕ) (v w : View) (f : For) (p : Placing) → Others z a v w → Unmade z a v f p → Unmade z a w f p
 unmade-lasts z a v w f p o u = record {
@@ -182,8 +182,7 @@ module _ (k : Known) (z : Arena) (a : ℕ) (s : Shared) (f : For) (held : ℕ �
 
   -- the bits are set, and it goes on to the mark or to the alloc bit
   filled-then : (t : Shared) → Right a (view t) false held None → Filled z a (view t) f (base p) → (marking : Bool) → Comes z a (view t) f held (given_at (filled marking)) (at_stage p (filled marking))
-  filled-then t right x true = (right, x)
-  filled-then t right x false = (right, x)
+  filled-then t right x marking = grind arith
 
   -- what its routine comes to
   bits-then : (t : Shared) → Unmade z a now f (base p) → Born now (base p) → view t ≡ record now { bitmap = (view t).bitmap } → Right a (view t) false held None → (q : SetStage) → bits.Comes z a (view t) (setter.given_at q) (setting_at_stage p q) →

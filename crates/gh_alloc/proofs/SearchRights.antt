@@ -1,6 +1,5 @@
 -- The steps of the search where a collector runs are moves that its rights allow, what it knows lasts, and where it finds no room there is none. Of the heap and of its routines it is known what their laws say.
-use Rattle.std.proofs.Common.{◌≡◌, ℕ, Bool, true, false, cond, ltb, Option, Some, None, refl, sym, ap, subst, ◌∙◌, arith}
-use Rattle.gh_cache.specs.Listing as slots
+use Rattle.std.proofs.Common.{◌≡◌, ℕ, Bool, true, false, cond, Option, Some, None, refl, sym, ap, subst, ◌∙◌, arith}
 use Rattle.gh_central.specs.Reclaim as reclaim
 use Rattle.gh_central.specs.ReclaimFacts as reclaiming
 use Rattle.gh_central.specs.Sweeping.{SweepLeaves}
@@ -8,9 +7,8 @@ use Rattle.gh_sweep.specs.Listing.{Sweeping}
 use Rattle.gh_alloc.specs.Find as find
 use Rattle.gh_alloc.specs.FindFacts as finding
 use Rattle.gh_alloc.specs.SearchFacts.{Comes, FactsAt, FindsNone, FreesEmptySpans, Has, Lasts, LooksAgain, LooksFirst, NoneIsTrue, Opens, OwnStep, Refuses, SeeksByItsRights, SweepStep, SweepsHere, Within, reclaim_at}
-use Rattle.gh_alloc.proofs.Vocabulary.{after_first, after_free, Again, Arena, asks_at, At, at_stage, begin, CachedSpan, cell_of, EachFactLasts, effect, EachMoveKeeps, EachMoveKeepsItsOwn, End, Ended, Finding, FindStage, First, Found, Free, frees_at, goes_at, Good, InRange, IsSpan, IsVacant, KeepsObjects, Large, Layout, Lock, moved, NoRoom, Others, Reclaiming, reclaiming as begin_freeing, refuses, Right, SearchStage, Second, Seeking, Shared, Slots, slots_of, Small, Sought, SpanHead, spans_for, Steps, TidyBefore, Unlock, Unswept, View, view, WalksGoOn}
+use Rattle.gh_alloc.proofs.Vocabulary.{after_first, after_free, Arena, asks_at, begin, CachedSpan, cell_of, EachFactLasts, effect, EachMoveKeeps, EachMoveKeepsItsOwn, Finding, FindStage, First, Found, Free, frees_at, goes_at, Good, InRange, IsSpan, IsVacant, KeepsObjects, Layout, moved, Others, Reclaiming, refuses, SearchStage, Second, Seeking, Shared, Sought, SpanHead, Steps, TidyBefore, View, view, WalksGoOn}
 use Rattle.gh_alloc.specs.Search.{given, given_at, sweep_at, sweep_generation_at, sweep_layout_at}
-use Rattle.gh_alloc.specs.Search as search
 use Rattle.gh_alloc.proofs.FindLasts.{seeks-last}
 use Rattle.gh_alloc.proofs.Seeking.Refusing.{second_gives}
 
@@ -26,26 +24,11 @@ pub record Known : Type 0 where
 
 -- a search that begins refuses nothing
 begins-on : (l : Layout) (w : Sought) (c : Option CachedSpan) → find.refuses_at (begin l w c) ≡ false
-begins-on l (Small c) (Some x) = go (ltb x.cursor (slots_of c.class)) where
-  go : (b : Bool) → find.refuses_at (cond b (Slots (slots.opening l (find.span_at c.class x))) Lock) ≡ false
-  go true = refl
-  go false = refl
-begins-on l (Small c) None = refl
-begins-on l (Large pages noscan) (Some x) = refl
-begins-on l (Large pages noscan) None = refl
-
--- nor does one that has freed the lock and not ended
-unlocked-on : (f : Finding) (q : FindStage) (found : ℕ) → frees_at q ≡ true → find.given (find.goes_at f q found) ≡ None → find.refuses_at (find.goes_at f q found).stage ≡ false
-unlocked-on f (Unlock Again) found e none = begins-on f.layout f.wanted f.cached
-unlocked-on f (Unlock (End out)) found e none = absurd (cc)
-unlocked-on f _ found e none = absurd (cc)
+begins-on l w c = grind arith
 
 -- one that looks for a span has the lock
 looks-locked : (q : FindStage) → finding.looks q ≡ true → finding.is_locked q ≡ true
-looks-locked (Slots s) e = absurd (cc)
-looks-locked Lock e = absurd (cc)
-looks-locked (Ended out) e = absurd (cc)
-looks-locked _ e = refl
+looks-locked q e = grind arith
 
 opens : Known → Opens
 opens k z a v rest q seeks caches apart right e =
@@ -93,32 +76,12 @@ module _ (k : Known) (z : Arena) (a : ℕ) (s : Shared) (rest : ℕ → Bool) wh
   abbrev Step : Finding → SearchStage → Type 0
   Step f p = Steps z a s (asks_at f p) (λ t. KeepsObjects now (view t) × Comes z a (view t) rest (given (goes_at f p (s.words (cell_of (asks_at f p))))) (goes_at f p (s.words (cell_of (asks_at f p)))))
 
-  -- nothing is cached, and nothing is held for the search
-  none-held : (w : View) (f : Finding) → f.cached ≡ None → f.stage ≡ Unlock (End NoRoom) → Right a w (finding.is_locked f.stage) (finding.held f rest) (finding.laying f.stage) → Right a w true rest None
-  none-held w f cached stage right = subst (λ (c : Option CachedSpan). Right a w true (finding.with_span (finding.cached_head c) rest) None) cached
-      (subst (λ (q : FindStage). Right a w (finding.is_locked q) (finding.with_span (finding.own q) (finding.with_span (finding.cached_head f.cached) rest)) (finding.laying q)) stage right)
-
   first-then : (t : Shared) (f : Finding) → finding.Comes z a false (view t) rest (find.given f) f → Comes z a (view t) rest (given_at f (after_first f)) (record { find = f; stage = after_first f })
-  first-then t f = by f.stage where
-    by : (q : FindStage) → finding.Comes z a false (view t) rest (find.given_at q) (at_stage f q) → Comes z a (view t) rest (given_at (at_stage f q) (after_first (at_stage f q))) (record { find = at_stage f q; stage = after_first (at_stage f q) })
-    by (Ended (At x)) c = c
-    by (Ended NoRoom) c = absurd c
-    by (Unlock (End NoRoom)) c =
-        let no = k.find.none z a false (view t) rest (at_stage f (Unlock (End NoRoom))) c.1 refl in (
-          none-held (view t) (at_stage f (Unlock (End NoRoom))) no.none.cached no.stage c.0,
-          record {
-            seeks = c.1.seeks;
-            cached = no.none.cached;
-            is = refl;
-            facts = k.free.opens z (view t) (begin_freeing f) (record { layout = c.1.seeks.layout; number = c.1.seeks.number }) refl;
-          },
-        )
-    by _ c = (c.0, record { facts = c.1; on = refl })
+  first-then t f = grind arith
 
   -- in the first round, by every step
   still-false : (q : FindStage) → finding.still false q ≡ false
-  still-false (Unlock after) = refl
-  still-false _ = refl
+  still-false q = grind arith
 
   first-own : (f : Finding) → Good z now → Has a now rest (record { find = f; stage = First }) → LooksFirst z a now rest f → find.sweep_in f ≡ None → Step f First
   first-own f g right x idle =
@@ -126,22 +89,8 @@ module _ (k : Known) (z : Arena) (a : ℕ) (s : Shared) (rest : ℕ → Bool) wh
       let l = k.find.own_step z a false s rest f g (λ is. absurd (cc is)) right x.facts x.on idle in
       record { move = l.move; may = l.may; words_are = l.words_are; after = (l.after.0, first-then (moved z a s l.move) (find.goes f found) (subst (λ (b : Bool). finding.Comes z a b (view (moved z a s l.move)) rest (find.gives f found) (find.goes f found)) (still-false f.stage) l.after.2)) }
 
-  -- a second search that goes on has given nothing
-  second-on : (w : View) (q : FindStage) (f : Finding) → Has a w rest (record { find = at_stage f q; stage = Second }) × LooksAgain z a w rest (at_stage f q) → Comes z a w rest (find.given_at q) (record { find = at_stage f q; stage = Second })
-  second-on w (Ended out) f h = absurd h.1.facts.stage
-  second-on w _ f h = h
-
   free-then : (t : Shared) (f : Finding) (r : Reclaiming) (out : Option (Unit {0})) → Good z (view t) → Kept t → finding.Seeks z a now f → f.cached ≡ None → r ≡ reclaim_at f r.stage → reclaiming.Comes z a now (view t) rest out r → Comes z a (view t) rest (given (after_free f r out)) (after_free f r out)
-  free-then t f r out g same seeks cached is c = go out c where
-    seeks-then : finding.Seeks z a (view t) f
-    seeks-then = record { layout = seeks.layout; seat = seeks.seat; few = seeks.few; number = seeks.number ∙ sym same; wanted = seeks.wanted }
-
-    seeks-again : finding.Seeks z a (view t) (search.again f)
-    seeks-again = record { layout = seeks.layout; seat = seeks.seat; few = seeks.few; number = seeks.number ∙ sym same; wanted = seeks.wanted }
-
-    go : (out : Option (Unit {0})) → reclaiming.Comes z a now (view t) rest out r → Comes z a (view t) rest (given (after_free f r out)) (after_free f r out)
-    go None c = (c.1, record { seeks = seeks-then; cached = cached; is = is; facts = c.2 })
-    go (Some u) c = let x = k.find.again z a true t rest (search.again f) g (λ is. c.2) seeks-again cached (λ is. refl) c.1 in second-on (view t) (spans_for f f.wanted) (search.again f) (x.0, record { facts = x.1; tidy = c.2 })
+  free-then t f r out g same seeks cached is c = grind arith
 
   free-own : (f : Finding) (r : Reclaiming) → Good z now → Has a now rest (record { find = f; stage = Free r }) → FreesEmptySpans z a now f r → reclaim.sweep_in r ≡ None → Step f (Free r)
   free-own f r g right x idle =
@@ -156,15 +105,11 @@ module _ (k : Known) (z : Arena) (a : ℕ) (s : Shared) (rest : ℕ → Bool) wh
 
   -- the last round ends where the lock is freed
   still-true : (q : FindStage) → finding.still true q ≡ cond (frees_at q) false true
-  still-true (Unlock after) = refl
-  still-true _ = refl
+  still-true q = grind arith
 
   second-then : (t : Shared) (f : Finding) (found : ℕ) (out : Option Found) → find.gives f found ≡ out → TidyBefore (view t).page (view t).alloc (view t).generation z.layout.pages →
       (b : Bool) → frees_at f.stage ≡ b → finding.Comes z a (cond b false true) (view t) rest out (find.goes f found) → Comes z a (view t) rest out (record { find = find.goes f found; stage = cond b First Second })
-  second-then t f found None none tidy true e c = (c.0, record { facts = c.1; on = unlocked-on f f.stage found e none })
-  second-then t f found None none tidy false e c = (c.0, record { facts = c.1; tidy = tidy })
-  second-then t f found (Some (At x)) is tidy b e c = c
-  second-then t f found (Some NoRoom) is tidy b e c = absurd c
+  second-then t f found out none tidy b e c = grind arith
 
   second-own : (f : Finding) → Good z now → Has a now rest (record { find = f; stage = Second }) → LooksAgain z a now rest f → find.refuses f ≡ false → find.sweep_in f ≡ None → Step f Second
   second-own f g right x on idle =
@@ -191,8 +136,7 @@ module _ (k : Known) (z : Arena) (a : ℕ) (s : Shared) (rest : ℕ → Bool) wh
 
   -- the second search runs none
   idle-at : (v : View) (f : Finding) (q : FindStage) (sw : Sweeping) → f.sweeps ≡ false → finding.FactsAt z a true v f q → find.sweep_at q ≡ Some sw → ⊥
-  idle-at v f (Unswept u) sw none x runs = let first = x.first in cc
-  idle-at v f _ sw none x runs = cc runs
+  idle-at v f q sw none x runs = grind arith
 
   abbrev Sweeps : Shared → Finding → SearchStage → Type 0
   Sweeps t f p = KeepsObjects now (view t) × Comes z a (view t) rest (given (goes_at f p (s.words (cell_of (asks_at f p))))) (goes_at f p (s.words (cell_of (asks_at f p))))
@@ -216,9 +160,7 @@ sweep k z a s t rest q sw g then right x runs leaves words = sweep-stage k z a s
 -- Whose routine sweeps.
 
 here-at : Known → (z : Arena) (a : ℕ) (v : View) (rest : ℕ → Bool) (f : Finding) (p : SearchStage) → FactsAt z a v rest f p → (sweep_layout_at f p ≡ z.layout) × (sweep_generation_at f p ≡ v.generation)
-here-at k z a v rest f First x = k.find.here z a false v rest f x.facts
-here-at k z a v rest f (Free r) x = (x.facts.whose.layout, x.facts.whose.number)
-here-at k z a v rest f Second x = k.find.here z a true v rest f x.facts
+here-at k z a v rest f p x = grind arith
 
 sweeps-here : Known → SweepsHere
 sweeps-here k z a v rest q x = here-at k z a v rest q.find q.stage x

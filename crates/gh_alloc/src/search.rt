@@ -94,7 +94,7 @@ impl Search {
         }
     }
 
-    /// Goes on to the next alloc word of a span or to a further page, where the word found leads there, and answers
+    /// In its first round goes on to the next alloc word of a span or to a further page, where the word found leads there, and answers
     /// whether it did. Most steps of a search do, and they change one number or two; where it did not, nothing has
     /// changed, and [`take`](Machine::take) makes the step.
     #[inline(always)]

@@ -1,7 +1,6 @@
 -- The test for a clear slot says what it is to say.
-use Rattle.std.proofs.Common.{◌≡◌, ℕ, zero, suc, ◌+◌, ◌*◌, ◌/◌, ◌%◌, ◌-◌, ◌<◌, ◌≤◌, Bool, true, false, ◌||◌, ◌↔◌, IsTrue, inl, inr, refl, sym, ap, ◌∙◌, subst, arith}
+use Rattle.std.proofs.Common.{◌≡◌, ℕ, zero, suc, ◌+◌, ◌*◌, ◌/◌, ◌%◌, ◌-◌, ◌<◌, ◌≤◌, Bool, true, false, ◌||◌, ◌↔◌, IsTrue, refl, ap, ◌∙◌, arith}
 use Rattle.std.specs.Int.{bit_at}
-use Rattle.std.proofs.lemmas.Bool.{cases_order}
 use Rattle.std.proofs.lemmas.Bool.Decides.{nat_tests}
 use Rattle.std.proofs.Math.Nat.{mul-mod_left}
 use Rattle.gh_central.specs.Slots.{IsClear, LacksSlot, slot_is_clear, lacks_slot}
@@ -9,9 +8,6 @@ use Rattle.gh_central.specs.Slots.{IsClear, LacksSlot, slot_is_clear, lacks_slot
 module _ (slot first word found : ℕ) where
   clear_means : (i : ℕ) → slot_is_clear slot first word found i ≡ true → IsClear slot first word found i
   clear_means i e = record { begins = grind (arith, nat_tests); clear = grind (arith, nat_tests) }
-
-  clear_is : (i : ℕ) → IsClear slot first word found i → slot_is_clear slot first word found i ≡ true
-  clear_is i c = let begins = c.begins in let clear = c.clear in grind (arith, nat_tests)
 
   pub lacks_means : (slots : ℕ) → lacks_slot slot slots first word found ≡ true → LacksSlot slot slots first word found
   unfolding lacks_slot
@@ -27,12 +23,7 @@ module _ (slot first word found : ℕ) where
   lacks_is zero (i, low, c) = absurd (omega arith)
   lacks_is (suc n) (i, low, c) = go (slot_is_clear slot first word found n) refl (λ l. lacks_is n (i, l, c)) where
     go : (b : Bool) → slot_is_clear slot first word found n ≡ b → (i < n → lacks_slot slot n first word found ≡ true) → (b || lacks_slot slot n first word found) ≡ true
-    go true e ih = refl
-    go false e ih = elim (cases_order i n) [
-      | inl same ↦ let is = clear_is n (subst (λ (x : ℕ). IsClear slot first word found x) same c) in absurd (cc)
-      | inr (inl below) ↦ ih below
-      | inr (inr above) ↦ absurd (omega arith)
-    ]
+    go b e ih = grind arith
 
   pub lacks_none : (slots : ℕ) → ¬ LacksSlot slot slots first word found → lacks_slot slot slots first word found ≡ false
   lacks_none slots h = go (lacks_slot slot slots first word found) refl where
@@ -41,8 +32,7 @@ module _ (slot first word found : ℕ) where
     go true e = absurd (h (lacks_means slots e))
 
 pub test_is : (slot slots first word found : ℕ) (b : Bool) → IsTrue b ↔ LacksSlot slot slots first word found → b ≡ lacks_slot slot slots first word found
-test_is slot slots first word found true h = sym (lacks_is slot first word found slots (h.0 refl))
-test_is slot slots first word found false h = sym (lacks_none slot first word found slots (λ l. let e : false ≡ true = h.1 l in absurd (cc)))
+test_is slot slots first word found b h = grind (arith, lacks_is, lacks_none)
 
 -- where each bit of the word is set at which a slot may begin, none is lacking
 pub none_lacking : (slot slots first word found : ℕ) → first ≤ 64 * word → ((j : ℕ) → j < 64 → (64 * word - first + j) % slot ≡ 0 → bit_at found j ≡ 1) → lacks_slot slot slots first word found ≡ false

@@ -2,7 +2,7 @@
 use Rattle.std.proofs.Common.{◌≡◌, ◌≢◌, ℕ, ◌+◌, ◌*◌, ◌/◌, ◌%◌, ◌<◌, ◌≤◌, Bool, true, false, cond, ltb, inl, inr, Some, None, refl, sym, ap, subst, ◌∙◌, arith, ltb-true, ltb-false}
 use Rattle.gh_base.specs.declared.cell.Cell.TheVariants as cell
 use Rattle.gh_base.specs.declared.pack.PageWord.TheVariants as page
-use Rattle.gh_central.proofs.Vocabulary.{after_page, alloc_word, Arena, asks, at_stage, bit_at, bit_at-lt, Bits, cell_of, EachFactLasts, EachMoveKeeps, EachOwnMoveLeaves, EachRightFollows, Ended, eqb_tells, given_at, gives, goes, goes_at, Good, InRange, is_wanted, IsFull, IsSpan, KeepsObjects, lacks_at, Layout, Leaves, Look, look_from, mod-eq_of_lt, mod-lt, Others, PackedWordsAreReadBack, page_of, PageWord, Pass, PassStage, Quiet, Right, row_bit, Shared, SizeClass, slot_count, slot_of, slot_size, slot_words_of, slots_of, Small, SpanHead, Steps, Take, TheHeapIsApart, View, view}
+use Rattle.gh_central.proofs.Vocabulary.{after_page, alloc_word, Arena, asks, at_stage, bit_at, Bits, cell_of, EachFactLasts, EachMoveKeeps, EachOwnMoveLeaves, EachRightFollows, Ended, eqb_tells, given_at, gives, goes, goes_at, Good, InRange, is_wanted, IsFull, IsSpan, KeepsObjects, lacks_at, Layout, Leaves, Look, look_from, mod-eq_of_lt, mod-lt, Others, PackedWordsAreReadBack, page_of, PageWord, Pass, PassStage, Quiet, Right, row_bit, Shared, SizeClass, slot_count, slot_of, slot_size, slot_words_of, slots_of, Small, SpanHead, Steps, Take, TheHeapIsApart, View, view}
 use Rattle.gh_central.proofs.Heads.{past-page, past-span}
 use Rattle.gh_central.proofs.HeadTests.{wanted-is, wanted-test}
 use Rattle.gh_central.proofs.Taking as taking
@@ -125,12 +125,7 @@ module _ (k : Known) (z : Arena) (a : ℕ) (sure : Bool) (s : Shared) (held : �
   slot_at p j = 1024 * p + j * slot_words_of m.wanted.class
 
   lacks-none : (p i found : ℕ) → lacks_at m p i found ≡ false → (j : ℕ) → j < slots_of m.wanted.class → slot_at p j / 64 ≡ 16 * p + i → bit_at found (slot_at p j % 64) ≡ 1
-  lacks-none p i found none j few at = elim (eqb_tells (bit_at found (slot_at p j % 64)) 0) [
-    | inl y ↦ absurd (clash ((k.test (slot_words_of m.wanted.class) (slots_of m.wanted.class) (1024 * p) (16 * p + i) found).1 (j, few, record { begins = at; clear = y.1 })))
-    | inr n ↦ omega (arith, n.1, bit_at-lt found (slot_at p j % 64))
-  ] where
-    clash : lacks_at m p i found ≡ true → ⊥
-    clash e = cc
+  lacks-none p i found none j few at = grind arith
 
   word-is : (p i : ℕ) (h : SpanHead) → Good z now → Passes z a now m → LooksInto sure m.wanted (sought m) now p h i → alloc_word m p i ≡ 16 * p + i
   word-is p i h g whose x =

@@ -6,7 +6,7 @@ use Rattle.gh_central.specs.declared.reclaim.ReclaimStage.{ReclaimStage}
 use Rattle.gh_central.specs.declared.reclaim.ReclaimStage.TheVariants.{Look, Sweep, Wait, Bits, Body, Head, Ended}
 use Rattle.gh_central.specs.Reclaim.{Reclaiming, after_page, after_wait, alloc_word, asks, at_stage, body_page, free_from, given_at, gives, goes, goes_at, look_from, sweep_at, unswept}
 use Rattle.gh_central.specs.ReclaimFacts.{ClearBelow, Comes, Facts, FactsAt, FreesFrom, IsIdleSpan, IsReadyToFree, IsUnowned, Lasts, LooksAt, LooksInto, Opens, OwnStep, Reclaims, WaitsFor, Within, freed_to, freeing_at}
-use Rattle.gh_central.proofs.Vocabulary.{Arena, BeingFreed, bit_at, bit_at-trailing_zeros, bit_at-zero, cell_of, EachFactLasts, EachFreeingFollows, EachOwnMoveLeaves, eqb-false, eqb_tells, FreeBody, freed_yet, FreeHead, Freeing, Good, InRange, IsEmpty, IsInUse, IsSpan, KeepsObjects, Layout, Leaves, MayFree, mod-eq_of_lt, mod-lt, moved, Others, PackedWordsAreReadBack, page_of, PageWord, put, Quiet, Right, Rights, row_bit, Shared, SpanHead, Steps, TheHeapIsApart, TidyBefore, trailing_zeros, View, view, WalksGoOn}
+use Rattle.gh_central.proofs.Vocabulary.{Arena, BeingFreed, bit_at, bit_at-trailing_zeros, bit_at-zero, cell_of, EachFactLasts, EachFreeingFollows, EachOwnMoveLeaves, eqb-false, eqb_tells, FreeBody, freed_yet, FreeHead, Freeing, Good, InRange, IsEmpty, IsInUse, IsSpan, KeepsObjects, Layout, Leaves, MayFree, mod-eq_of_lt, moved, Others, PackedWordsAreReadBack, page_of, PageWord, put, Quiet, Right, Rights, row_bit, Shared, SpanHead, Steps, TheHeapIsApart, TidyBefore, trailing_zeros, View, view, WalksGoOn}
 use Rattle.gh_central.proofs.Heads.{past-page, past-span}
 use Rattle.gh_central.proofs.Sweeping.Steps as steps
 use Rattle.gh_sweep.specs.Listing as sweep
@@ -353,19 +353,7 @@ own k z a s held m g right x none = own-at k z a s held m m.stage g right x none
 -- Its words.
 
 within-at : (z : Arena) (v : View) (m : Reclaiming) (q : ReclaimStage) → m.layout ≡ z.layout → FactsAt z v q → InRange z.layout (cell_of (asks (at_stage m q)))
-within-at z v m (Look p) layout x = x.there
-within-at z v m (Sweep p count sw) layout x = steps.within z.layout sw x.layout (subst (λ (n : ℕ). n < z.layout.pages) (sym x.page_is) x.waits.there)
-within-at z v m (Wait p) layout x = x.there
-within-at z v m (Bits p count i) layout x =
-    let arena : m.layout.pages ≡ z.layout.pages = ap (λ (l : Layout). l.pages) layout in
-    let some : 0 < 16 * m.layout.pages = omega (arith, m.layout.limits.pages_fit.0) in
-    omega (arith, mod-lt (16 * p + i) some, arena)
-within-at z v m (Body p count d) layout x =
-    let arena : m.layout.pages ≡ z.layout.pages = ap (λ (l : Layout). l.pages) layout in
-    let some : 0 < m.layout.pages = omega (arith, m.layout.limits.pages_fit.0) in
-    omega (arith, mod-lt (p + d) some, arena)
-within-at z v m (Head p count) layout x = omega (arith, x.there, x.some)
-within-at z v m Ended layout x = absurd x
+within-at z v m q layout x = grind arith
 
 pub within : Within
 within z v m g x = within-at z v m m.stage x.whose.layout x.stage

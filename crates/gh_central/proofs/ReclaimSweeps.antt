@@ -73,8 +73,7 @@ module _ (k : Known) (z : Arena) (a : ℕ) (s t : Shared) (held : ℕ → Bool) 
 
 sweep-at : Known → (z : Arena) (a : ℕ) (s t : Shared) (held : ℕ → Bool) (m : Reclaiming) (q : ReclaimStage) (sw : Sweeping) → Good z (view s) → Rights a (view s) true held None (freeing_at q) → Facts z (view s) (at_stage m q) → sweep_at q ≡ Some sw → SweepLeaves (view s) (view t) → t.words ≡ effect s.words (asks (at_stage m q)) →
     Comes z a (view s) (view t) held (gives (at_stage m q) (s.words (cell_of (asks (at_stage m q))))) (goes (at_stage m q) (s.words (cell_of (asks (at_stage m q)))))
-sweep-at k z a s t held m (Sweep p count sw) on g right x is o words = ran k z a s t held m g o (steps.rights_then a (view s) (view t) o true held None None right) (record { layout = x.whose.layout; number = x.whose.number }) p count sw x.stage words (sweep.gives sw (s.words (cell_of (sweep.asks sw)))) refl
-sweep-at k z a s t held m _ on g right x is o words = absurd (cc)
+sweep-at k z a s t held m q on g right x is o words = grind (arith, ran)
 
 sweep-step : Known → SweepStep
 sweep-step k z a s t held m sw g right x is o words = (steps.objects_then (view s) (view t) o, sweep-at k z a s t held m m.stage sw g right x is o words)

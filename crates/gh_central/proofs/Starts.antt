@@ -4,7 +4,7 @@ use Rattle.std.specs.Prelude.{bit_and, min, slice_index}
 use Rattle.std.specs.Int.{bit_at, bit_not, w64}
 use Rattle.std.proofs.lemmas.Bool.{agree_below, agree_below_at, cases_lt}
 use Rattle.std.proofs.lemmas.Bool.Decides.{nat_tests}
-use Rattle.std.proofs.lemmas.Nat.{div-add-mod', mod_below, mul-lt, pow_pos}
+use Rattle.std.proofs.lemmas.Nat.{div-add-mod', mod_below, pow_pos}
 use Rattle.std.proofs.lemmas.Nat.Bits.{bit_at_and, bit_at_cat_high, bit_at_not, bit_at-lt, bit_at-zero}
 use Rattle.std.proofs.Math.Nat.{mod-eq_of_lt, mul-add-mod_self_right}
 use Rattle.gh_central.specs.Slots.{slot_starts}
@@ -72,16 +72,6 @@ all_set (suc s) before r found j some small low first fits none within other =
 
 -- ---- a remainder by a quotient that may be wrong
 
--- what a quotient leaves is the remainder, where it is less than what is divided by
-left_over : (n slot guess : ℕ) → guess * slot ≤ n → n - guess * slot < slot → n - guess * slot ≡ n % slot
-left_over n slot guess low small =
-    let sum : n ≡ guess * slot + (n - guess * slot) = omega arith in
-    sym (ap (λ (x : ℕ). x % slot) sum ∙ mul-add-mod_self_right guess slot (n - guess * slot) ∙ mod-eq_of_lt small)
-
 -- in 64 bits, a quotient that is too high leaves more than that
 pub left_in_word : (n slot guess : ℕ) → n < 2 ^ 32 → slot < 2 ^ 6 → guess < 2 ^ 32 → (n + (2 ^ 64 - guess * slot)) % 2 ^ 64 < slot → (n + (2 ^ 64 - guess * slot)) % 2 ^ 64 ≡ n % slot
-left_in_word n slot guess few short near small =
-    let most : guess * slot < 2 ^ 32 * 2 ^ 6 = mul-lt guess slot (2 ^ 32) (2 ^ 6) near short in
-    let low : guess * slot ≤ n = omega arith in
-    let left : (n + (2 ^ 64 - guess * slot)) % 2 ^ 64 ≡ n - guess * slot = omega arith in
-    left ∙ left_over n slot guess low (omega arith)
+left_in_word n slot guess few short near small = grind arith

@@ -4,7 +4,7 @@ use Rattle.gh_base.specs.declared.cell.Ask.TheVariants as ask
 use Rattle.gh_base.specs.declared.cell.Cell.TheVariants as cell
 use Rattle.gh_base.specs.declared.pack.PageWord.TheVariants as page
 use Rattle.gh_class.specs.declared.class.SpanClass.{SpanClass}
-use Rattle.gh_central.proofs.Vocabulary.{Arena, EachFactLasts, EachMoveKeeps, EachOwnMoveLeaves, EachRightFollows, effect, Good, head_word, IsSpan, KeepsObjects, Large, Laying, Leaves, MayPass, moved, Others, Own, owned_by, owner_at, owner_in, PackedWordsAreReadBack, page_of, Right, Shared, Small, SpanHead, Steps, TheHeapIsApart, update, View, view}
+use Rattle.gh_central.proofs.Vocabulary.{Arena, EachFactLasts, EachMoveKeeps, EachOwnMoveLeaves, EachRightFollows, effect, Good, head_word, IsSpan, KeepsObjects, Laying, Leaves, MayPass, moved, Others, Own, owned_by, owner_at, owner_in, PackedWordsAreReadBack, page_of, Right, Shared, SpanHead, Steps, TheHeapIsApart, update, View, view}
 use Rattle.gh_central.specs.PassFacts.{IsUnowned, SpanIsTaken}
 
 pub record Known : Type 0 where
@@ -16,19 +16,11 @@ pub record Known : Type 0 where
 
 -- whatever others do, it may be taken
 pub unowned-lasts : EachFactLasts → (z : Arena) (a : ℕ) (v w : View) (wanted : SpanClass) (p : ℕ) (h : SpanHead) → Others z a v w → v.locked a ≡ true → IsUnowned wanted v.page v.generation p h → IsUnowned wanted w.page w.generation p h
-unowned-lasts last z a v w wanted p h o l x = record { head = (last z a v w o).head p h l (λ e. small-large wanted.class (sym x.class ∙ e)) x.number x.head; class = x.class; noscan = x.noscan; owner = x.owner; number = x.number ∙ sym o.generation } where
-  small-large : (c : ℕ) → Small c ≡ Large → ⊥
-  small-large c e = cc
+unowned-lasts last z a v w wanted p h o l x = grind arith
 
 -- what nobody owns the seat does not hold
 not-held : (z : Arena) (a : ℕ) (v : View) (l : Bool) (held : ℕ → Bool) (y : Option Laying) (p : ℕ) → Good z v → Right a v l held y → owner_at v.page p ≡ 0 → held p ≡ false
-not-held z a v l held y p g right none = go (held p) refl where
-  one : (n : ℕ) → n ≡ a + 1 → n ≡ 0 → ⊥
-  one n e f = omega arith
-
-  go : (b : Bool) → held p ≡ b → b ≡ false
-  go false e = refl
-  go true e = absurd (one (owner_at v.page p) ((g.owners a p).1 (right.holds p ∙ e)) none)
+not-held z a v l held y p g right none = grind arith
 
 -- what the store of its head leaves
 abbrev pub Taken : Arena → (a : ℕ) → (v w : View) → (ℕ → Bool) → SpanClass → (p : ℕ) → Type 0

@@ -1,5 +1,5 @@
 -- The steps of the pass for an unswept span are moves that its rights allow, or those of a sweep, and what it knows lasts. Of the heap it is known what the laws of gh_heap say.
-use Rattle.std.proofs.Common.{◌≡◌, ℕ, ◌+◌, ◌^◌, ◌<◌, Bool, true, false, cond, ltb, Option, Some, None, refl, sym, subst, ◌∙◌, arith, ltb-true, eqb, eqb-true}
+use Rattle.std.proofs.Common.{◌≡◌, ℕ, ◌+◌, ◌^◌, ◌<◌, Bool, true, false, cond, ltb, Option, Some, None, refl, sym, subst, ◌∙◌, arith, eqb, eqb-true}
 use Rattle.gh_base.specs.declared.pack.PageWord.TheVariants as page
 use Rattle.gh_central.specs.declared.unswept.UnsweptStage.{UnsweptStage}
 use Rattle.gh_central.specs.declared.unswept.UnsweptStage.TheVariants.{Look, Sweep, Take, Ended}
@@ -9,7 +9,7 @@ use Rattle.gh_central.specs.UnsweptPass.{after_page, after_sweep, asks, at_stage
 use Rattle.gh_central.proofs.HeadTests.{unswept-is}
 use Rattle.gh_central.proofs.Sweeping.Steps as steps
 use Rattle.gh_central.proofs.Taking as taking
-use Rattle.gh_central.proofs.Vocabulary.{Arena, cell_of, EachFactLasts, effect, eqb-false, Good, InRange, KeepsObjects, Layout, Leaves, Others, page_of, PageWord, Quiet, Right, Shared, SpanHead, Steps, View, view}
+use Rattle.gh_central.proofs.Vocabulary.{Arena, cell_of, EachFactLasts, effect, eqb-false, Good, InRange, KeepsObjects, Leaves, Others, page_of, PageWord, Quiet, Right, Shared, SpanHead, Steps, View, view}
 use Rattle.gh_sweep.specs.declared.sweep.SweepEnd.{SweepEnd}
 use Rattle.gh_sweep.specs.declared.sweep.SweepEnd.TheVariants.{Lost, Swept}
 use Rattle.gh_sweep.specs.Listing as sweep
@@ -47,8 +47,7 @@ lasts k z a v w m o l x = record { whose = whose-in z a v w m o.generation x.who
 
 -- It looks from this page on, or has ended.
 looks : (z : Arena) (a : ℕ) (v w : View) (held : ℕ → Bool) (m : Unswept) (p : ℕ) → Leaves v w → Right a w true held None → Passes z a w m → (b : Bool) → ltb p m.layout.pages ≡ b → Comes z a v w held (given_at (cond b (Look p) (Ended None))) (at_stage m (cond b (Look p) (Ended None)))
-looks z a v w held m p leaves right whose true t = (leaves, right, record { whose = whose-at z a w m (Look p) whose; stage = subst (λ (l : Layout). p < l.pages) whose.layout (ltb-true p m.layout.pages t) })
-looks z a v w held m p leaves right whose false t = (leaves, right)
+looks z a v w held m p leaves right whose b t = grind arith
 
 -- The own steps.
 
@@ -114,7 +113,7 @@ module _ (k : Known) (z : Arena) (a : ℕ) (s t : Shared) (held : ℕ → Bool) 
   Comes-to q = Comes z a before then held (given_at q) (at_stage m q)
 
   past : (p : ℕ) → Comes-to (look_from m p)
-  past p = looks z a before then held m p o.leaves right whose (ltb p m.layout.pages) refl
+  past p = grind arith
 
   -- the sweep goes on, is lost, or has swept the span, which it then takes if it has room
   ran : (p : ℕ) (h : SpanHead) (sw : Sweeping) → SweepsIt z m.wanted before p h sw → t.words ≡ effect s.words (sweep.asks sw) → (end : Option SweepEnd) → sweep.gives sw (s.words (cell_of (sweep.asks sw))) ≡ end →

@@ -1,6 +1,5 @@
 -- The second stop of a cycle and its check, step by step.
-use Rattle.std.proofs.Common.{◌≡◌, ℕ, zero, suc, ◌+◌, ◌-◌, ◌<◌, ◌≤◌, ◌⊎◌, Bool, true, false, cond, ltb, ◌==◌, inl, inr, refl, sym, ap, subst, ◌∙◌, arith, ltb-true, ltb-false}
-use Rattle.std.specs.Prelude.{not, ◌||◌}
+use Rattle.std.proofs.Common.{◌≡◌, ℕ, zero, suc, ◌+◌, ◌<◌, ◌≤◌, ◌⊎◌, Bool, true, false, cond, ltb, refl, sym, ap, subst, ◌∙◌, arith, ltb-true, ltb-false}
 use Rattle.std.proofs.lemmas.Bool.{leb-true}
 use Rattle.gh_base.specs.declared.cell.Cell.{Cell}
 use Rattle.gh_base.specs.declared.cell.Cell.TheVariants as cell
@@ -8,36 +7,24 @@ use Rattle.gh_base.specs.declared.pack.BufferWord.{BufferWord}
 use Rattle.gh_base.specs.declared.pack.Phase.TheVariants as phase
 use Rattle.gh_base.specs.Packing.{buffer_of}
 use Rattle.gh_coord.specs.declared.close.CloseStage.TheVariants as c
-use Rattle.gh_coord.specs.declared.open.OpenStage.TheVariants as o
 use Rattle.gh_coord.specs.declared.stop.StopStage.TheVariants as p
 use Rattle.gh_coord.specs.declared.tell.TellStage.TheVariants as t
 use Rattle.gh_coord.specs.declared.watch.WatchStage.TheVariants as w
+use Rattle.gh_coord.specs.Events.{by_event}
 use Rattle.gh_coord.specs.MarkingEnds.{EndsWithNothingLeft, Finds, HasNothingLeft, LeavesMarks, NothingIsLeft, state}
 use Rattle.gh_coord.specs.Closing as close
-use Rattle.gh_coord.specs.Counting as count
-use Rattle.gh_coord.specs.Opening as opens
 use Rattle.gh_coord.specs.Stopping as stop
-use Rattle.gh_coord.specs.SweepingAll as all
 use Rattle.gh_coord.specs.Telling as tell
 use Rattle.gh_coord.specs.Watching as watch
-use Rattle.gh_coord.proofs.QuietParts.{count_quiet, sweep_quiet, watch_quiet}
 use Rattle.gh_coord.proofs.Stepping.{Run, same_ask}
-use Rattle.gh_coord.proofs.Vocabulary.{after_check, after_close, after_count, after_open, after_stop, after_stop_again, after_sweep, after_tell, after_watch, All, Ask, asks, asks_at, at_stage, by_ack, by_last, by_out, by_want, by_watched, Check, Close, CloseStage, Coordinating, CoordStage, Count, counted, Done, goes_at, GONE, IsQuietInHandshake, Layout, Load, LoadAck, LoadWant, MarkOn, nat_tests, NotYet, Open, OpenStage, phase_word, Stop, StopAgain, StopStage, Store, Sweep, Tell, TellStage, Watch, WatchStage}
+use Rattle.gh_coord.proofs.Vocabulary.{after_check, after_close, after_stop_again, All, Ask, asks, asks_at, at_stage, Check, Close, CloseStage, Coordinating, CoordStage, counted, Done, goes_at, GONE, IsQuietInHandshake, Layout, Load, nat_tests, NotYet, phase_word, StopAgain, StopStage, Store, TellStage, WatchStage}
 
 -- what the tests of the listing say of the words
 acked : (stops v : ℕ) → stop.is_acknowledged stops v ≡ true → (v ≡ stops) ⊎ (v ≡ GONE)
-acked stops v e = by (v == stops) (v == GONE) refl refl e where
-  by : (x y : Bool) → (v == stops) ≡ x → (v == GONE) ≡ y → (x || y) ≡ true → (v ≡ stops) ⊎ (v ≡ GONE)
-  by true y f g e = inl (grind (arith, nat_tests))
-  by false true f g e = inr (grind (arith, nat_tests))
-  by false false f g e = absurd (cc)
+acked stops v e = grind arith
 
 left : (b : BufferWord) → watch.is_held_or_empty b ≡ true → HasNothingLeft b
-left b e = by (b.holder == 0) (b.count == 0) refl refl e where
-  by : (x y : Bool) → (b.holder == 0) ≡ x → (b.count == 0) ≡ y → (not x || y) ≡ true → HasNothingLeft b
-  by false y f g e = inl (λ is. grind (arith, nat_tests))
-  by true true f g e = inr (grind (arith, nat_tests))
-  by true false f g e = absurd (cc)
+left b e = grind arith
 
 module _ (run : Run) where
   abbrev now : ℕ → Coordinating
@@ -107,20 +94,14 @@ module _ (run : Run) where
 
   -- what was found is found by any later step
   later : (first n : ℕ) (at : Cell) (IsSo : ℕ → Type 0) → Found first n at IsSo → Found first (suc n) at IsSo
-  later first n at IsSo f = let before : f.by < n = f.is_before in record { by = f.by; is_behind = f.is_behind; is_before = omega arith; loads = f.loads; is_so = f.is_so }
+  later first n at IsSo f = grind arith
 
   leaves_on : (first n : ℕ) → ((m : ℕ) → first < m → m < n → LeavesMarks (asks (now m))) → LeavesMarks (asks (now n)) → (m : ℕ) → first < m → m < suc n → LeavesMarks (asks (now m))
-  leaves_on first n before one m behind lt = by (ltb m n) refl where
-    by : (b : Bool) → ltb m n ≡ b → LeavesMarks (asks (now m))
-    by true e = before m behind (ltb-true _ _ e)
-    by false e = let ge : n ≤ m = ltb-false _ _ e in let is : n ≡ m = omega arith in subst (λ (x : ℕ). LeavesMarks (asks (now x))) is one
+  leaves_on first n before one m behind lt = grind arith
 
   -- one more of a row
   one_more : (P : ℕ → Type 0) (i : ℕ) → ((j : ℕ) → j < i → P j) → P i → (j : ℕ) → j < i + 1 → P j
-  one_more P i before one j lt = by (ltb j i) refl where
-    by : (b : Bool) → ltb j i ≡ b → P j
-    by true e = before j (ltb-true _ _ e)
-    by false e = let ge : i ≤ j = ltb-false _ _ e in let is : i ≡ j = omega arith in subst P is one
+  one_more P i before one j lt = grind arith
 
   module _ (stops n : ℕ) where
     waits : (i : ℕ) → Stopped stops n i → LeavesMarks (asks (now n)) → Stopped stops (suc n) i
@@ -174,10 +155,7 @@ module _ (run : Run) where
   module _ (n : ℕ) (s : Coordinating) (here : s.layout ≡ run.layout) where
     -- the end of marking
     close_step : (cl : close.Closing) (stage : CloseStage) (v : ℕ) → cl.stage ≡ stage → asks (now n) ≡ close.asks_at cl stage → CloseKnows s.stops s.begun n stage → Has (suc n) (after_close (at_stage s (Close (close.goes_at cl stage v))) (close.given (close.goes_at cl stage v)))
-    close_step cl c.StoreGen v e asked k = record { layout_is = here; knows = tt }
-    close_step cl c.StorePhase v e asked k = record { layout_is = here; knows = tt }
-    close_step cl c.Ended v e asked k = absurd k
-    close_step cl _ v e asked k = record { layout_is = here; knows = looks_on s.stops s.begun n (watch.words_of run.layout) k (subst LeavesMarks (sym asked) tt) }
+    close_step cl stage v e asked k = grind (arith, looks_on)
 
     -- the second stop
     module _ (st : stop.Stopping) (st_in : st.layout ≡ run.layout) (numbered : st.stops ≡ s.stops) where
@@ -210,15 +188,7 @@ module _ (run : Run) where
 
       again_step : (stage : StopStage) (v : ℕ) → v ≡ run.found n → asks (now n) ≡ stop.asks_at st stage → StopKnows s.stops n stage →
           Has (suc n) (after_stop_again (at_stage s (StopAgain (stop.goes_at st stage v))) (stop.given (stop.goes_at st stage v)))
-      again_step p.StorePhase v told asked k = awaits 0 (record {
-        first = n;
-        is_before = omega arith;
-        stores = asked ∙ ap (λ (x : ℕ). Store cell.Phase (phase_word (record { stops = x; phase = phase.Stop }))) numbered;
-        leaves = λ m behind lt. absurd (omega arith);
-        each = λ j lt. absurd (omega arith);
-      })
-      again_step (p.Await i) v told asked k = await_step i v told asked k _ _ refl refl
-      again_step p.Ended v told asked k = absurd k
+      again_step stage v told asked k = grind (arith, await_step, awaits)
 
     -- the check
     module _ (x : watch.Watching) (x_in : x.layout ≡ run.layout) (numbered : x.cycle ≡ s.begun) where
@@ -245,23 +215,14 @@ module _ (run : Run) where
 
       check_step : (stage : WatchStage) (v : ℕ) → v ≡ run.found n → asks (now n) ≡ watch.asks_at x stage → CheckKnows s.stops s.begun n stage →
           Has (suc n) (after_check (at_stage s (Check (watch.goes_at x stage v))) (watch.given (watch.goes_at x stage v)))
-      check_step (w.Look i) v told asked k = look_step i v told asked k.1 k.0 _ _ refl refl
-      check_step (w.Ended watched) v told asked k = absurd k
+      check_step stage v told asked k = grind (arith, look_step)
 
     step_at : (stage : CoordStage) (v : ℕ) → v ≡ run.found n → s.stage ≡ stage → asks (now n) ≡ asks_at s stage → Knows s.stops s.begun n stage → Has (suc n) (goes_at s stage v)
-    step_at (LoadAck i) v told is asked k = by_ack (Has (suc n)) s i (record { layout_is = here; knows = tt }) (record { layout_is = here; knows = tt }) (record { layout_is = here; knows = tt }) _ _
-    step_at LoadWant v told is asked k = by_want (Has (suc n)) s (record { layout_is = here; knows = tt }) (record { layout_is = here; knows = tt }) _
-    step_at (Stop st) v told is asked k = by_out (Has (suc n)) (after_stop (at_stage s (Stop (stop.goes st v)))) (record { layout_is = here; knows = tt }) (λ u. record { layout_is = here; knows = tt }) (stop.gives st v)
-    step_at (Open op) v told is asked k = by_out (Has (suc n)) (after_open (at_stage s (Open (opens.goes op v)))) (record { layout_is = here; knows = tt }) (λ u. record { layout_is = here; knows = tt }) (opens.gives op v)
-    step_at (Watch x) v told is asked k = by_watched (Has (suc n)) (after_watch (at_stage s (Watch (watch.goes x v)))) (record { layout_is = here; knows = tt }) (record { layout_is = here; knows = record { layout_is = here; stops_is = refl; knows = tt } }) (record { layout_is = here; knows = tt }) (watch.gives x v)
     step_at (StopAgain st) v told is asked k = again_step st k.layout_is k.stops_is st.stage v told asked k.knows
     step_at (Check x) v told is asked k = check_step x k.layout_is k.cycle_is x.stage v told asked k.knows
-    step_at MarkOn v told is asked k = record { layout_is = here; knows = tt }
     step_at (Close cl) v told is asked k = close_step cl cl.stage v refl asked k
-    step_at (Sweep sw) v told is asked k = by_out (Has (suc n)) (after_sweep (at_stage s (Sweep (all.goes sw v)))) (record { layout_is = here; knows = tt }) (λ u. record { layout_is = here; knows = tt }) (all.gives sw v)
-    step_at (Count co) v told is asked k = by_out (Has (suc n)) (after_count (at_stage s (Count (count.goes co v)))) (record { layout_is = here; knows = tt }) (λ read. record { layout_is = here; knows = tt }) (count.gives co v)
-    step_at (Tell te) v told is asked k = by_out (Has (suc n)) (after_tell (at_stage s (Tell (tell.goes te v)))) (record { layout_is = here; knows = tt }) (λ u. by_last (Has (suc n)) s (record { layout_is = here; knows = tt }) (record { layout_is = here; knows = tt }) s.is_last) (tell.gives te v)
     step_at Done v told is asked k = record { layout_is = here; knows = subst (λ (stage : CoordStage). Knows s.stops s.begun (suc n) stage) (sym is) tt }
+    step_at q v told is asked k = by_event s v (Has (suc n)) q (λ e may. grind arith)
 
   has : (n : ℕ) → Has n (now n)
   has zero = record { layout_is = refl; knows = tt }
@@ -273,7 +234,7 @@ module _ (run : Run) where
   -- the words that are watched, each by its name
   module _ (n : ℕ) (k : Looked (now n).stops (now n).begun n (watch.words_of run.layout)) where
     so : (first last : ℕ) (at : Cell) (P Q : ℕ → Type 0) → ((v : ℕ) → P v → Q v) → Found first last at P → Found first last at Q
-    so first last at P Q to f = record { by = f.by; is_behind = f.is_behind; is_before = f.is_before; loads = f.loads; is_so = to (run.found f.by) f.is_so }
+    so first last at P Q to f = grind arith
 
     abbrev begun : ℕ
     begun = (now n).begun
@@ -282,24 +243,10 @@ module _ (run : Run) where
     Saw at = Found k.last n at (IsWanted begun at)
 
     stack_at : (i g : ℕ) → i ≡ g + 1 → g < run.layout.goroutines → watch.cell_at run.layout i ≡ cell.Scanned g
-    stack_at i g is lt = by (i == 0) (ltb (i - 1) run.layout.goroutines) refl refl where
-      one : i - 1 ≡ g
-      one = omega arith
-
-      by : (x y : Bool) → (i == 0) ≡ x → ltb (i - 1) run.layout.goroutines ≡ y → cond x cell.Gcur (cond y (cell.Scanned (i - 1)) (cell.Buffer (i - 1 - run.layout.goroutines))) ≡ cell.Scanned g
-      by true y e f = absurd (grind (arith, nat_tests))
-      by false true e f = ap (λ (j : ℕ). cell.Scanned j) one
-      by false false e f = let ge : run.layout.goroutines ≤ i - 1 = ltb-false _ _ f in absurd (omega arith)
+    stack_at i g is lt = grind (arith, nat_tests)
 
     buffer_at : (i b : ℕ) → i ≡ run.layout.goroutines + b + 1 → watch.cell_at run.layout i ≡ cell.Buffer b
-    buffer_at i b is = by (i == 0) (ltb (i - 1) run.layout.goroutines) refl refl where
-      one : i - 1 - run.layout.goroutines ≡ b
-      one = omega arith
-
-      by : (x y : Bool) → (i == 0) ≡ x → ltb (i - 1) run.layout.goroutines ≡ y → cond x cell.Gcur (cond y (cell.Scanned (i - 1)) (cell.Buffer (i - 1 - run.layout.goroutines))) ≡ cell.Buffer b
-      by true y e f = absurd (grind (arith, nat_tests))
-      by false true e f = let lt : i - 1 < run.layout.goroutines = ltb-true _ _ f in absurd (omega arith)
-      by false false e f = ap (λ (j : ℕ). cell.Buffer j) one
+    buffer_at i b is = grind arith
 
     is_clean : NothingIsLeft run.layout run.seat run.gogc run.minheap run.room run.found n
     is_clean = record {
@@ -314,22 +261,8 @@ module _ (run : Run) where
       leaves = k.leaves;
     }
 
-  -- where it stores the generation
-  close_at : (cl : close.Closing) (stage : CloseStage) (stops cycle n g : ℕ) → CloseKnows stops cycle n stage → close.asks_at cl stage ≡ Store cell.Gen g → Looked stops cycle n (watch.words_of run.layout)
-  close_at cl c.StorePhase stops cycle n g k e = absurd (cc)
-  close_at cl c.Ended stops cycle n g k e = absurd k
-  close_at cl _ stops cycle n g k e = k
-
 pub never : (ask : Ask) (g : ℕ) → IsQuietInHandshake ask → ask ≡ Store cell.Gen g → ⊥
 never ask g q e = subst IsQuietInHandshake e q
-
-open_never : (op : opens.CycleOpening) (stage : OpenStage) (g : ℕ) → opens.asks_at op stage ≡ Store cell.Gen g → ⊥
-open_never op o.ClearWant g e = cc
-open_never op _ g e = cc
-
-stop_never : (st : stop.Stopping) (stage : StopStage) (g : ℕ) → stop.asks_at st stage ≡ Store cell.Gen g → ⊥
-stop_never st p.StorePhase g e = cc
-stop_never st _ g e = cc
 
 pub tell_never : (te : tell.Telling) (stage : TellStage) (g : ℕ) → tell.asks_at te stage ≡ Store cell.Gen g → ⊥
 tell_never te t.StoreTrigger g e = cc
@@ -340,16 +273,7 @@ module _ (run : Run) (n g : ℕ) (s : Coordinating) where
   Checked = Looked run s.stops s.begun n (watch.words_of run.layout)
 
   is_checked : (stage : CoordStage) → Knows run s.stops s.begun n stage → asks_at s stage ≡ Store cell.Gen g → Checked
-  is_checked (Stop st) k e = absurd (stop_never st st.stage g e)
-  is_checked (Open op) k e = absurd (open_never op op.stage g e)
-  is_checked (Watch x) k e = absurd (never _ g (watch_quiet x x.stage) e)
-  is_checked (StopAgain st) k e = absurd (stop_never st st.stage g e)
-  is_checked (Check x) k e = absurd (never _ g (watch_quiet x x.stage) e)
-  is_checked (Close cl) k e = close_at run cl cl.stage s.stops s.begun n g k e
-  is_checked (Sweep sw) k e = absurd (never _ g (sweep_quiet sw sw.stage) e)
-  is_checked (Count co) k e = absurd (never _ g (count_quiet co.stage) e)
-  is_checked (Tell te) k e = absurd (tell_never te te.stage g e)
-  is_checked _ k e = absurd (cc)
+  is_checked stage k e = grind arith
 
 pub marking_ends_clean : EndsWithNothingLeft
 marking_ends_clean l seat gogc minheap room found n g e =

@@ -1,12 +1,11 @@
 -- Each step of the coordinator is one of the handshake of a stop: by its stages.
-use Rattle.std.proofs.Common.{◌≡◌, ℕ, ◌+◌, ◌^◌, ◌<◌, inl, inr, Bool, true, false, cond, ltb, ◌==◌, ◌||◌, refl, sym, ap, subst, ◌∙◌, arith, Option, Some, None}
+use Rattle.std.proofs.Common.{◌≡◌, ℕ, ◌+◌, ◌^◌, ◌<◌, Bool, true, false, cond, ltb, refl, sym, ap, subst, ◌∙◌, arith, Option, Some, None}
 use Rattle.gh_base.specs.declared.cell.Cell.TheVariants as cell
 use Rattle.gh_phase.specs.declared.view.RunPhase.TheVariants as run
-use Rattle.gh_phase.specs.Handshake.{finishes, goes, next_stop}
+use Rattle.gh_phase.specs.Handshake.{goes, next_stop}
 use Rattle.gh_coord.specs.declared.close.CloseStage.TheVariants as close_stage
 use Rattle.gh_coord.specs.declared.open.OpenStage.TheVariants as open_stage
 use Rattle.gh_coord.specs.declared.stop.StopStage.TheVariants as stop_stage
-use Rattle.gh_coord.specs.declared.tell.TellStage.TheVariants as tell_stage
 use Rattle.gh_coord.specs.Closing as close
 use Rattle.gh_coord.specs.Counting as count
 use Rattle.gh_coord.specs.Opening as opens_by
@@ -15,7 +14,7 @@ use Rattle.gh_coord.specs.Stays.{sweep_all_number, sweep_all_stays}
 use Rattle.gh_coord.specs.SweepingAll as all
 use Rattle.gh_coord.specs.Telling as tell
 use Rattle.gh_coord.specs.Watching as watch
-use Rattle.gh_coord.proofs.Vocabulary.{acks_of, after_ack, after_check, after_count, after_stop, after_stop_again, after_sweep, after_want, after_watch, All, Ask, asks_at, at_stage, begins, Calm, Check, Close, CloseStage, Coordinating, CoordStage, Count, Counted, counted, cycle_before, Done, ends, FitsNumbers, generation_before, goes_at, GONE, is_acknowledged, is_busy, IsAcked, IsQuietInHandshake, Layout, lead_at, lead_of, LeadGoes, LeadsHandshake, Load, LoadAck, LoadWant, Looks, MarkOn, nat_tests, next_cycle, next_generation, Open, OpenStage, quiet, sees, Sound, SoundAt, Stop, stop_before, stop_word, StopAgain, Stopped, stops, stops_world, StopStage, Store, Sweep, Tell, TellStage, Watch, Watched}
+use Rattle.gh_coord.proofs.Vocabulary.{acks_of, after_ack, after_check, after_count, after_stop, after_stop_again, after_sweep, after_want, after_watch, All, asks_at, at_stage, begins, Calm, Check, Close, CloseStage, Coordinating, CoordStage, Count, Counted, counted, cycle_before, Done, ends, FitsNumbers, generation_before, goes_at, is_acknowledged, is_busy, IsAcked, IsQuietInHandshake, Layout, lead_at, lead_of, LeadGoes, LeadsHandshake, LoadAck, LoadWant, Looks, MarkOn, next_cycle, next_generation, Open, OpenStage, quiet, sees, Sound, SoundAt, Stop, stop_before, stop_word, StopAgain, Stopped, stops, StopStage, Store, Sweep, Tell, TellStage, Watch, Watched}
 use Rattle.gh_coord.proofs.LastCycle.{finds_gone, finishes_at, marks_at, stops_go_on}
 use Rattle.gh_coord.proofs.QuietParts.{count_quiet, sweep_quiet, watch_quiet}
 use Rattle.gh_coord.proofs.Stepping.{same_ask}
@@ -53,33 +52,17 @@ abbrev Goes : (found : ℕ) → Coordinating → CoordStage → (to : Coordinati
 Goes found s stage to = Sound to × LeadGoes (acks_of s.layout) found (lead_at s stage) (asks_at s stage) (lead_of to)
 
 acked : (number found : ℕ) → is_acknowledged number found ≡ true → IsAcked number found
-acked number found e = go (found == number) (found == GONE) refl refl e where
-  go : (b c : Bool) → (found == number) ≡ b → (found == GONE) ≡ c → (b || c) ≡ true → IsAcked number found
-  go true c p q r = inl (grind (arith, nat_tests))
-  go false true p q r = inr (grind (arith, nat_tests))
-  go false false p q r = absurd cc
+acked number found e = grind arith
 
 module _ (found : ℕ) (s : Coordinating) (f : FitsNumbers s.stops s.begun s.generation) where
   fits_raised : FitsNumbers (next_stop s.stops) s.begun s.generation
   fits_raised = raised_stop s.stops s.begun s.generation f
 
-  -- idle
-  world_stops : (last : Bool) (ask : Ask) → IsQuietInHandshake ask → (stage : CoordStage) → lead_at s stage ≡ record { stops = s.stops; begun = s.begun; generation = s.generation; post = Calm run.Off } →
-      Sound (stops_world (record s { is_last = last })) × LeadGoes (acks_of s.layout) found (lead_at s stage) ask (lead_of (stops_world (record s { is_last = last })))
-  world_stops last ask q stage e = ((fits_raised, refl), quiet q (rw e (ap (λ (n : ℕ). record { stops = n; begun = s.begun; generation = s.generation; post = Calm run.Off }) (stop_behind s.stops f.stops_fit))))
-
   acks : (i : ℕ) → Goes found s (LoadAck i) (after_ack s i found)
-  acks i = go (found == GONE) (ltb (i + 1) s.layout.procs) where
-    go : (gone more : Bool) → Goes found s (LoadAck i) (cond gone (cond more (at_stage s (LoadAck (i + 1))) (stops_world (record s { is_last = true }))) (at_stage s LoadWant))
-    go true true = ((f, tt), quiet tt refl)
-    go true false = world_stops true (Load (cell.Ack i)) tt (LoadAck i) refl
-    go false more = ((f, tt), quiet tt refl)
+  acks i = grind arith
 
   wants : Goes found s LoadWant (after_want s found)
-  wants = go (found == 0) where
-    go : (none : Bool) → Goes found s LoadWant (cond none (at_stage s (LoadAck 0)) (stops_world s))
-    go true = ((f, tt), quiet tt refl)
-    go false = world_stops s.is_last (Load cell.Want) tt LoadWant refl
+  wants = grind arith
 
   -- a stop
   abbrev stopping : StopStage → stop.Stopping
@@ -158,13 +141,7 @@ module _ (found : ℕ) (s : Coordinating) (f : FitsNumbers s.stops s.begun s.gen
   tell_at l trigger cycle stage = record { layout = l; trigger = trigger; cycle = cycle; stops = s.stops; is_last = s.is_last; stage = stage }
 
   tells : (l : Layout) (trigger cycle : ℕ) (stage : TellStage) → (tell.stores_phase stage ≡ true → s.is_last ≡ true) → tell.is_busy stage ≡ true → Goes found s (Tell (tell_at l trigger cycle stage)) (goes_at s (Tell (tell_at l trigger cycle stage)) found)
-  tells l trigger cycle tell_stage.StoreTrigger last busy = ((f, (refl, λ e. absurd (cc))), quiet tt refl)
-  tells l trigger cycle tell_stage.StoreSwept last busy = go s.is_last refl where
-    go : (last : Bool) → s.is_last ≡ last → Goes found s (Tell (tell_at l trigger cycle tell_stage.StoreSwept)) (goes_at s (Tell (tell_at l trigger cycle tell_stage.StoreSwept)) found)
-    go true e = rw e ((f, (refl, λ x. refl)), quiet tt refl)
-    go false e = rw e ((f, tt), quiet tt refl)
-  tells l trigger cycle tell_stage.StorePhase last busy = rw (last refl) ((f, refl), finishes refl refl refl)
-  tells l trigger cycle tell_stage.Ended last busy = absurd cc
+  tells l trigger cycle stage last busy = grind arith
 
 goes_so : (found : ℕ) (s : Coordinating) (stage : CoordStage) → FitsNumbers s.stops s.begun s.generation → SoundAt s stage → is_busy stage ≡ true → Goes found s stage (goes_at s stage found)
 goes_so found s (LoadAck i) f e busy = acks found s f i

@@ -6,38 +6,19 @@ use Rattle.gh_base.specs.declared.pack.PageWord.TheVariants.{Body, Free, Head}
 use Rattle.gh_base.specs.Packing.{page_of}
 use Rattle.gh_sweep.specs.declared.sweep.SweepEnd.{SweepEnd}
 use Rattle.gh_sweep.specs.declared.sweep.SweepEnd.TheVariants.{Lost, Swept}
-use Rattle.gh_sweep.specs.declared.sweep.SweepStage.TheVariants as span
 use Rattle.gh_sweep.specs.Listing as sweep
-use Rattle.gh_coord.specs.declared.close.CloseStage.TheVariants as c
-use Rattle.gh_coord.specs.declared.count.CountStage.TheVariants as r
-use Rattle.gh_coord.specs.declared.open.OpenStage.TheVariants as o
-use Rattle.gh_coord.specs.declared.stop.StopStage.TheVariants as p
 use Rattle.gh_coord.specs.declared.sweep_all.SweepAllStage.TheVariants as a
-use Rattle.gh_coord.specs.declared.watch.WatchStage.TheVariants as w
-use Rattle.gh_coord.specs.Closing as close
-use Rattle.gh_coord.specs.Counting as count
-use Rattle.gh_coord.specs.Opening as opens
-use Rattle.gh_coord.specs.Stopping as stop
+use Rattle.gh_coord.specs.Events.{by_event, Event, led, MayCome}
 use Rattle.gh_coord.specs.SweepingAll as all
 use Rattle.gh_coord.specs.SweptPages.{FindsBegun, FindsDone, HasPassed, HasSwept, IsNone, state, TellsOnceAllAreSwept}
-use Rattle.gh_coord.specs.Telling as tell
-use Rattle.gh_coord.specs.Watching as watch
 use Rattle.gh_coord.proofs.MarkingEnds.{never, tell_never}
 use Rattle.gh_coord.proofs.QuietParts.{count_quiet, sweep_quiet}
 use Rattle.gh_coord.proofs.Stepping.{Run, same_ask}
-use Rattle.gh_coord.proofs.Vocabulary.{after_check, after_close, after_count, after_open, after_stop, after_stop_again, after_sweep, after_tell, after_watch, Ask, asks, asks_at, at_stage, by_ack, by_last, by_out, by_want, by_watched, Check, Close, CloseStage, Coordinating, CoordStage, Count, counted, CountStage, Done, goes_at, Layout, Load, LoadAck, LoadWant, MarkOn, nat_tests, Open, OpenStage, Stop, StopAgain, StopStage, Store, Sweep, sweep_at, sweep_in, SweepAllStage, SweepStage, Tell, Watch, WatchStage}
+use Rattle.gh_coord.proofs.Vocabulary.{after_sweep, Ask, asks, asks_at, at_stage, Close, Coordinating, CoordStage, Count, counted, Done, goes_at, Layout, Load, nat_tests, Store, Sweep, sweep_at, sweep_in, SweepAllStage, SweepStage, Tell}
 
 -- a sweep stays at its page
 page_stays : (sw : sweep.Sweeping) (stage : SweepStage) (v : ℕ) → (sweep.goes_at sw stage v).page ≡ sw.page
-page_stays sw span.Begin v = refl
-page_stays sw (span.LoadMarks i) v = refl
-page_stays sw (span.ClearBits i marks) v = refl
-page_stays sw (span.ClearMarks i) v = refl
-page_stays sw span.AddTally v = refl
-page_stays sw span.AddLive v = refl
-page_stays sw span.AddHeap v = refl
-page_stays sw span.Finish v = refl
-page_stays sw (span.Ended end) v = refl
+page_stays sw stage v = grind arith
 
 module _ (run : Run) where
   abbrev now : ℕ → Coordinating
@@ -108,7 +89,7 @@ module _ (run : Run) where
         record { first = h.first; is_before = omega arith; is_so = h.is_so; since = since_on h.first h.since }
 
     begun_here : (page : ℕ) → Begins generation page n → Begun generation (suc n) page
-    begun_here page is = record { first = n; is_before = omega arith; is_so = is; since = since_on n (λ m from lt. absurd (omega arith)) }
+    begun_here page is = grind arith
 
     one_more : (pages : ℕ) → Below generation n pages → Passed generation (suc n) pages → Below generation (suc n) (pages + 1)
     one_more pages k here page lt = by (ltb page pages) refl where
@@ -150,10 +131,10 @@ module _ (run : Run) where
       -- by the page's word
       module _ (page : ℕ) (loads : asks (now n) ≡ Load (cell.Page page)) where
         begun : (word : PageWord) → page_of (run.found n) ≡ word → IsNone 2 s.generation word → Begun s.generation (suc n) page
-        begun word is so = begun_here s.generation n none page (inl (record { loads = loads; is_so = subst (IsNone 2 s.generation) (sym is) so }))
+        begun word is so = grind arith
 
         done : (word : PageWord) → page_of (run.found n) ≡ word → IsNone 1 s.generation word → Begun s.generation (suc n) page → Passed s.generation (suc n) page
-        done word is so h = done_here s.generation n none page h (record { loads = loads; is_so = subst (IsNone 1 s.generation) (sym is) so })
+        done word is so h = grind (arith, done_here, so)
 
         load_step : (word : PageWord) → page_of (run.found n) ≡ word → Below s.generation n page → Has (suc n) (walks_to (all.after_load x page word))
         load_step (Head h) is k = by (h.number + 2 == x.generation) (h.number + 1 == x.generation) refl refl where
@@ -180,32 +161,17 @@ module _ (run : Run) where
       swept_step page sw (Some (Swept span)) runs at is k = behind page k (swept_here s.generation n none page (span, record { sw = sw; runs = runs; page_is = at; ends = is }))
 
       walk_step : (stage : SweepAllStage) → sweep_in (now n) ≡ all.sweep_at stage → asks (now n) ≡ all.asks_at x stage → WalkKnows s.generation n stage → Has (suc n) (walks_to (all.goes_at x stage (run.found n)))
-      walk_step (a.LoadPage page) runs asked k = load_step page asked (page_of (run.found n)) refl k
-      walk_step (a.Sweep page sw) runs asked k = swept_step page sw _ runs k.0 refl k.1
-      walk_step (a.Await page) runs asked k = await_step page asked (page_of (run.found n)) refl k.0 k.1
-      walk_step a.Ended runs asked k = absurd k
+      walk_step stage runs asked k = grind (arith, await_step, load_step, swept_step)
 
     step_at : (stage : CoordStage) → (now n).stage ≡ stage → s.stage ≡ stage → asks (now n) ≡ asks_at s stage → Knows s.generation n stage → Has (suc n) (goes_at s stage (run.found n))
-    step_at (LoadAck i) was is asked k = by_ack (Has (suc n)) s i (record { layout_is = here; knows = tt }) (record { layout_is = here; knows = tt }) (record { layout_is = here; knows = tt }) _ _
-    step_at LoadWant was is asked k = by_want (Has (suc n)) s (record { layout_is = here; knows = tt }) (record { layout_is = here; knows = tt }) _
-    step_at (Stop st) was is asked k = by_out (Has (suc n)) (after_stop (at_stage s (Stop (stop.goes st (run.found n))))) (record { layout_is = here; knows = tt }) (λ u. record { layout_is = here; knows = tt }) (stop.gives st (run.found n))
-    step_at (Open op) was is asked k = by_out (Has (suc n)) (after_open (at_stage s (Open (opens.goes op (run.found n))))) (record { layout_is = here; knows = tt }) (λ u. record { layout_is = here; knows = tt }) (opens.gives op (run.found n))
-    step_at (Watch y) was is asked k = by_watched (Has (suc n)) (after_watch (at_stage s (Watch (watch.goes y (run.found n))))) (record { layout_is = here; knows = tt }) (record { layout_is = here; knows = tt }) (record { layout_is = here; knows = tt }) (watch.gives y (run.found n))
-    step_at (StopAgain st) was is asked k = by_out (Has (suc n)) (after_stop_again (at_stage s (StopAgain (stop.goes st (run.found n))))) (record { layout_is = here; knows = tt }) (λ u. record { layout_is = here; knows = tt }) (stop.gives st (run.found n))
-    step_at (Check y) was is asked k = by_watched (Has (suc n)) (after_check (at_stage s (Check (watch.goes y (run.found n))))) (record { layout_is = here; knows = tt }) (record { layout_is = here; knows = tt }) (record { layout_is = here; knows = tt }) (watch.gives y (run.found n))
-    step_at MarkOn was is asked k = record { layout_is = here; knows = tt }
-    step_at (Close cl) was is asked k =
-        by_out (Has (suc n)) (after_close (at_stage s (Close (close.goes cl (run.found n))))) (record { layout_is = here; knows = tt })
-        (λ lapsed. record { layout_is = here; knows = record { layout_is = here; generation_is = refl; knows = λ page lt. absurd (omega arith) } })
-        (close.gives cl (run.found n))
+    step_at (Close cl) was is asked k = by_event s (run.found n) (Has (suc n)) (Close cl) (λ e may. closes e may) where
+      closes : (e : Event) → MayCome s (run.found n) (Close cl) e → Has (suc n) (led s e)
+      closes e may = grind arith
     step_at (Sweep x) was is asked k = walk_step x k.layout_is k.generation_is (λ v e. never _ v (sweep_quiet x x.stage) (sym asked ∙ e)) x.stage (ap sweep_at was) asked k.knows
-    step_at (Count co) was is asked k =
-        let on = stay s.generation n (λ v e. never _ v (count_quiet co.stage) (sym asked ∙ e)) run.layout.pages k in
-        by_out (Has (suc n)) (after_count (at_stage s (Count (count.goes co (run.found n))))) (record { layout_is = here; knows = on }) (λ read. record { layout_is = here; knows = on }) (count.gives co (run.found n))
-    step_at (Tell te) was is asked k =
-        let on = stay s.generation n (λ v e. tell_never te te.stage v (sym asked ∙ e)) run.layout.pages k in
-        by_out (Has (suc n)) (after_tell (at_stage s (Tell (tell.goes te (run.found n))))) (record { layout_is = here; knows = on }) (λ u. by_last (Has (suc n)) s (record { layout_is = here; knows = tt }) (record { layout_is = here; knows = tt }) s.is_last) (tell.gives te (run.found n))
+    step_at (Count co) was is asked k = let on = stay s.generation n (λ v e. never _ v (count_quiet co.stage) (sym asked ∙ e)) run.layout.pages k in by_event s (run.found n) (Has (suc n)) (Count co) (λ e may. grind (arith, on))
+    step_at (Tell te) was is asked k = let on = stay s.generation n (λ v e. tell_never te te.stage v (sym asked ∙ e)) run.layout.pages k in by_event s (run.found n) (Has (suc n)) (Tell te) (λ e may. grind (arith, on))
     step_at Done was is asked k = record { layout_is = here; knows = subst (λ (stage : CoordStage). Knows s.generation (suc n) stage) (sym is) tt }
+    step_at q was is asked k = by_event s (run.found n) (Has (suc n)) q (λ e may. grind arith)
 
   has : (n : ℕ) → Has n (now n)
   has zero = record { layout_is = refl; knows = tt }
@@ -214,47 +180,9 @@ module _ (run : Run) where
       let s : Coordinating = now n in
       step_at n (counted s) h.layout_is s.stage refl refl (sym (same_ask s s.stage)) h.knows
 
--- Where it tells that a cycle is swept.
-open_tells : (op : opens.CycleOpening) (stage : OpenStage) (v : ℕ) → opens.asks_at op stage ≡ Store cell.Swept v → ⊥
-open_tells op o.ClearWant v e = cc
-open_tells op _ v e = cc
-
-stop_tells : (st : stop.Stopping) (stage : StopStage) (v : ℕ) → stop.asks_at st stage ≡ Store cell.Swept v → ⊥
-stop_tells st p.StorePhase v e = cc
-stop_tells st _ v e = cc
-
-watch_tells : (x : watch.Watching) (stage : WatchStage) (v : ℕ) → watch.asks_at x stage ≡ Store cell.Swept v → ⊥
-watch_tells x (w.Look i) v e = cc
-watch_tells x (w.Ended watched) v e = cc
-
-close_tells : (cl : close.Closing) (stage : CloseStage) (v : ℕ) → close.asks_at cl stage ≡ Store cell.Swept v → ⊥
-close_tells cl c.LoadBank v e = cc
-close_tells cl _ v e = cc
-
-span_tells : (sw : sweep.Sweeping) (stage : SweepStage) (v : ℕ) → sweep.asks_at sw stage ≡ Store cell.Swept v → ⊥
-span_tells sw span.Begin v e = cc
-span_tells sw _ v e = cc
-
-walk_tells : (x : all.SweepingAll) (stage : SweepAllStage) (v : ℕ) → all.asks_at x stage ≡ Store cell.Swept v → ⊥
-walk_tells x (a.Sweep page sw) v e = span_tells sw sw.stage v e
-walk_tells x _ v e = cc
-
-count_tells : (stage : CountStage) (v : ℕ) → count.asks_at stage ≡ Store cell.Swept v → ⊥
-count_tells r.LoadTally v e = cc
-count_tells _ v e = cc
-
 module _ (run : Run) (n v : ℕ) (s : Coordinating) where
   tells_at : (stage : CoordStage) → Knows run s.generation n stage → asks_at s stage ≡ Store cell.Swept v → Below run s.generation n run.layout.pages
-  tells_at (Stop st) k e = absurd (stop_tells st st.stage v e)
-  tells_at (Open op) k e = absurd (open_tells op op.stage v e)
-  tells_at (Watch x) k e = absurd (watch_tells x x.stage v e)
-  tells_at (StopAgain st) k e = absurd (stop_tells st st.stage v e)
-  tells_at (Check x) k e = absurd (watch_tells x x.stage v e)
-  tells_at (Close cl) k e = absurd (close_tells cl cl.stage v e)
-  tells_at (Sweep x) k e = absurd (walk_tells x x.stage v e)
-  tells_at (Count co) k e = absurd (count_tells co.stage v e)
-  tells_at (Tell te) k e = k
-  tells_at _ k e = absurd (cc)
+  tells_at stage k e = grind arith
 
 pub tells_once_swept : TellsOnceAllAreSwept
 tells_once_swept l seat gogc minheap room found n cycle page e lt =

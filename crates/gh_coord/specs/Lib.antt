@@ -1,6 +1,7 @@
 pub mod Blind
 pub mod Closing
 pub mod Counting
+pub mod Events
 pub mod GoingOn
 pub mod Handshake
 pub mod Keeping
@@ -9,6 +10,7 @@ pub mod Listing
 pub mod MarkingEnds
 pub mod Opening
 pub mod Pacing
+pub mod Parts
 pub mod PartsSound
 pub mod Sound
 pub mod Stays

@@ -80,10 +80,14 @@ pub struct Coord {
     is_last: bool,
     marks: u64,
     cycles: Cycles,
+    // The number of the first acknowledgement's word. It is kept, since every second step of an idle coordinator loads one.
+    first_ack: u32,
     stage: CoordStage,
 }
 
 impl Model for Coord {
+    ghost use Rattle.std.specs.Prelude.{◌≡◌};
+    ghost use Rattle.gh_base.specs.Cells.{ack_row};
     ghost use Rattle.gh_coord.specs.Listing.{Coordinating};
     ghost use Rattle.gh_coord.specs.Sound.{FitsCoord};
 
@@ -91,7 +95,7 @@ impl Model for Coord {
 
     ghost view = { λ c. record { layout = c.layout; seat = c.seat; gogc = c.gogc; minheap = c.minheap; stops = c.stops; begun = c.begun; generation = c.generation; live = c.live; lapsed = c.lapsed; is_last = c.is_last; marks = c.marks; cycles = c.cycles; stage = c.stage } };
 
-    ghost invariant = { λ c. FitsCoord (record { layout = c.layout; seat = c.seat; gogc = c.gogc; minheap = c.minheap; stops = c.stops; begun = c.begun; generation = c.generation; live = c.live; lapsed = c.lapsed; is_last = c.is_last; marks = c.marks; cycles = c.cycles; stage = c.stage }) };
+    ghost invariant = { λ c. FitsCoord (record { layout = c.layout; seat = c.seat; gogc = c.gogc; minheap = c.minheap; stops = c.stops; begun = c.begun; generation = c.generation; live = c.live; lapsed = c.lapsed; is_last = c.is_last; marks = c.marks; cycles = c.cycles; stage = c.stage }) × (c.first_ack ≡ ack_row c.layout) };
 }
 
 /// The cycle as it is kept.
@@ -135,6 +139,7 @@ impl Coord {
             is_last: false,
             marks: 0,
             cycles,
+            first_ack: layout.word(Cell::Ack(0)),
             stage: CoordStage::LoadAck(0),
         })
     }
@@ -524,7 +529,7 @@ impl Machine for Coord {
     #[inline(always)]
     fn next(&self) -> Req {
         let ask = match &self.stage {
-            CoordStage::LoadAck(proc) => return self.layout.request(Ask::Load(Cell::Ack(*proc))),
+            CoordStage::LoadAck(proc) => return Req::Load(self.first_ack + *proc),
             CoordStage::LoadWant => return self.layout.request(Ask::Load(Cell::Want)),
             CoordStage::Stop(stop) | CoordStage::StopAgain(stop) => return stop.next(),
             CoordStage::Open(open) => return open.next(),

@@ -29,10 +29,11 @@
 //! What paces the next cycle it stores as numbers of `gh_pacer`: behind a cycle the trigger by what that left live, and in
 //! the opening the work and the slack. While a cycle is under way the trigger is one that no allocation reaches, so
 //! that none asks for a second. An allocation loads it, and asks for a cycle where the heap's bytes reach it (`gh_alloc`,
-//! `gh_mutator`). The other words nobody reads yet: no allocation owes any marking.
+//! `gh_mutator`). By the work and the slack it owes marking for what it allocates while a cycle is marked (`gh_assist`).
 //!
-//! What the parts and the coordinator ask for and where they go are their listings, in specs/; above these
-//! stand the laws of [`laws`]. In Go this is spread over `gcStart`, `gcMarkDone`, `gcMarkTermination` and
+//! What the parts and the coordinator ask for and where they go are their listings, in specs/. specs/Parts.antt says where a
+//! stage is in a cycle, and specs/Events.antt what a step comes to, so that what is said of each step is said of each event.
+//! Above these stand the laws of [`laws`]. In Go this is spread over `gcStart`, `gcMarkDone`, `gcMarkTermination` and
 //! `gcSweep` (mgc.go), which whatever goroutine gets there first runs, under locks. Go finds that marking is
 //! over with a barrier that flushes each P's buffers (the ragged barrier of `gcMarkDone`).
 #![tactic(auto)]

@@ -1,5 +1,5 @@
 -- What holds after every list of steps of all actors, whatever the coordinator's stage: the one state of the heap and its sweep, what is known while a cycle is marked, and what has become of objects.
-use Rattle.std.specs.Prelude.{◌≡◌, ℕ, ◌≤◌, List}
+use Rattle.std.specs.Prelude.{◌≡◌, ◌≤◌, List}
 use Rattle.gh_base.specs.declared.limits.TheConstants.{MOST_STATEMENTS}
 use Rattle.gh_coord.specs.Handshake as leading
 use Rattle.gh_coord.specs.declared.coord.CoordStage.TheVariants.{Done}

@@ -1,5 +1,5 @@
 -- At each stage of the coordinator there is the one state of the heap and its sweep.
-use Rattle.std.proofs.Common.{◌≡◌, ℕ, true, refl, List}
+use Rattle.std.proofs.Common.{◌≡◌, true, refl, List}
 use Rattle.gh_coord.specs.declared.coord.CoordStage.{CoordStage}
 use Rattle.gh_coord.specs.declared.close.CloseStage.{CloseStage}
 use Rattle.gh_coord.specs.declared.close.CloseStage.TheVariants as closing

@@ -1,5 +1,5 @@
 -- What the laws of lists say of the lists of this heap.
-use Rattle.std.proofs.Common.{◌∷◌, ℕ, ◌≤◌, List}
+use Rattle.std.proofs.Common.{◌∷◌, ◌≤◌, List}
 use Rattle.gh_base.specs.declared.limits.TheConstants.{MOST_STATEMENTS}
 use Rattle.gh_lists.specs.Lists.{EveryListOpensFew, Given, setup_for}
 use Rattle.gh_lists.specs.Counts.{EveryListCountsPlainly}

@@ -1,5 +1,5 @@
 -- A state of the heap of a list says that the words stand for the heap that never frees, whatever the coordinator's stage.
-use Rattle.std.proofs.Common.{◌≡◌, ℕ, ◌+◌, ◌^◌, ◌<◌, Bool, true, false, eqb, refl, sym, ap, subst, ◌∙◌, arith, List}
+use Rattle.std.proofs.Common.{◌≡◌, ℕ, ◌+◌, ◌^◌, ◌<◌, Bool, eqb, sym, ap, subst, ◌∙◌, arith, List}
 use Rattle.gh_heap.specs.Laws.{HeapIsApart}
 use Rattle.gh_heap.specs.Objects.{Holds, points, size_for}
 use Rattle.gh_holds.specs.Objects.{AreNamed, StandApart}
@@ -10,8 +10,7 @@ use Rattle.gh_lists.specs.Names.{placed_there, same_birth_same_name}
 use Rattle.gh_lists.specs.Handshake.{Setup}
 
 bit_is : (b : Bool) → eqb (bit b) 1 ≡ b
-bit_is true = refl
-bit_is false = refl
+bit_is b = grind arith
 
 module _ (setup : Setup) (limits : IsInLimits setup.layout) (known : Known) (es : List (Entry Op)) (has : HasState setup es) where
   abbrev z : Arena
@@ -53,7 +52,7 @@ module _ (setup : Setup) (limits : IsInLimits setup.layout) (known : Known) (es 
       sym b.2 ∙ ap h.place (sym same)
 
   pub once : (n : Name) (a : ℕ) → Reach h.ever n → IsPlacedAt h.words n a → a ≡ h.place n
-  once n a r x = made_once n a (made n r) x
+  once n a r x = grind (arith, made, made_once)
 
   -- of objects that were made and are placed
   these : (These : Name → Type 0) → ((n : Name) → These n → IsMade h.ever.made n) → ((n : Name) → These n → Placed (alloc_words h.words) (birth_words h.words) h.place n) → StandsForThese z These h.words h.ever at
@@ -75,7 +74,7 @@ module _ (setup : Setup) (limits : IsInLimits setup.layout) (known : Known) (es 
   }
 
   pub stands_for : StandsFor z (words setup es) (ever setup es) at
-  stands_for = subst (λ (e : Ever). StandsFor z (words setup es) e at) of.ever_is (subst (λ (w : Words). StandsFor z w h.ever at) of.words_are (these (Reach h.ever) made good.reached))
+  stands_for = grind (arith, made, these)
 
   -- all that stand
   abbrev Standing : Words → Ever → Name → Type 0

@@ -87,7 +87,8 @@ pub use Rattle.gh_coord.specs.declared.watch.Watched.TheVariants.{All, NotYet}
 pub use Rattle.gh_lists.specs.Handshake.{actors, is_busy, KeepsIt, Pacing, place_of, those}
 pub use Rattle.gh_lists.specs.Lists.{arena, ever, IsLed, IsStepIn, may_of, words}
 pub use Rattle.gh_lists.specs.Marking.{actors_after, IsBeginning, IsInLimits, IsStartOf}
-pub use Rattle.gh_lists.specs.Numbers.{ahead_at, asked_after, opened_after, part_of}
+pub use Rattle.gh_coord.specs.Parts.{part_of}
+pub use Rattle.gh_lists.specs.Numbers.{ahead_at, asked_after, opened_after}
 pub use Rattle.gh_lists.specs.Order.{before_step, begun_in}
 pub use Rattle.gh_lists.specs.Processors.{answers_of, given_of}
 pub use Rattle.gh_lists.specs.declared.handshake.Actor.{Actor}

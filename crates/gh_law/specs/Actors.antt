@@ -1,5 +1,5 @@
 -- Lists of steps of all actors of a heap, the newest first: processors, workers and the coordinator. Which are legal, and what every legal one keeps: the words stand for the heap that never frees, each cycle frees what no script reached where it began, and who waits for a cycle goes on once one that began later is swept.
-use Rattle.std.specs.Prelude.{◌≡◌, ℕ, ◌+◌, ◌<◌, ◌≤◌, true, List, [], ◌∷◌, ◌++◌, Option, Some}
+use Rattle.std.specs.Prelude.{◌≡◌, ℕ, ◌<◌, ◌≤◌, true, List, [], ◌∷◌, ◌++◌, Option, Some}
 use Rattle.gh_law.specs.Vocabulary.{Act, Actor, by, cell_of, deeds, Entry, Ever, InRange, Legal, Op, opening_words, processor_kind, started, Words}
 use Rattle.gh_base.specs.declared.limits.TheConstants.{MOST_STATEMENTS}
 use Rattle.gh_base.specs.declared.operation.Op.TheVariants as op

@@ -1,10 +1,8 @@
 -- The numbers of cycles along a list: each step leaves them, or it is the coordinator's that begins a cycle, ends its marking or tells that it is swept, and one number is one cycle later.
-use Rattle.std.proofs.Common.{◌≡◌, ℕ, suc, ◌+◌, refl, sym, ap, subst, ◌∙◌, arith, List, ◌∷◌}
+use Rattle.std.proofs.Common.{◌≡◌, suc, ◌+◌, refl, sym, ap, subst, ◌∙◌, arith, List, ◌∷◌}
 use Rattle.gh_base.specs.declared.cell.Ask.TheVariants.{Store}
 use Rattle.gh_base.specs.declared.cell.Cell.TheVariants as cell
 use Rattle.gh_coord.specs.declared.close.CloseStage.TheVariants as close_stage
-use Rattle.gh_coord.specs.declared.open.OpenStage.TheVariants as open_stage
-use Rattle.gh_coord.specs.declared.tell.TellStage.TheVariants as tell_stage
 use Rattle.gh_coord.specs.Closing as close
 use Rattle.gh_coord.specs.Handshake as leading
 use Rattle.gh_coord.specs.Listing as coord
@@ -12,7 +10,7 @@ use Rattle.gh_coord.specs.Opening as opens_by
 use Rattle.gh_coord.specs.Telling as tell
 use Rattle.gh_worker.specs.Listing as worker
 use Rattle.gh_lists.specs.Lists.{IsTelling}
-use Rattle.gh_lists.specs.Numbers.{Counted, Opened}
+use Rattle.gh_coord.specs.Parts.{Counted, Opened}
 use Rattle.gh_lists.proofs.Vocabulary.{CoordStage, Entry, Kind, Legal, Op, OpenStage, Processor, processor_kind, started, Words, Ask, Check, Checked, Close, CloseStage, Count, Done, effect, IsFew, KeepsIt, LoadAck, LoadWant, MarkOn, Open, opened_in, Part, part_of, ProcessorWritesItsOwn, Stop, StopAgain, Sweep, Tell, TellStage, Watch, WorkersWriteTheirOwn}
 use Rattle.gh_lists.specs.Frames.{CycleWords, leaves, numbers_of}
 use Rattle.gh_lists.proofs.CycleNumbers.Leading.{Is, Reads}
@@ -36,17 +34,7 @@ pub data Does (c : coord.Coordinating) (p : CoordStage) (ask : Ask) : Type 0 whe
 
 module _ (c : coord.Coordinating) where
   opening : (o : opens_by.CycleOpening) (p : OpenStage) → o.cycle ≡ c.begun → Does c (Open (record o { stage = p })) (opens_by.asks_at o p)
-  opening o open_stage.ClearWant e = spares_them (record { gen = λ w. refl; begun = λ w. refl; swept = λ w. refl })
-  opening o open_stage.ClearGcur e = spares_them (record { gen = λ w. refl; begun = λ w. refl; swept = λ w. refl })
-  opening o open_stage.ClearTally e = spares_them (record { gen = λ w. refl; begun = λ w. refl; swept = λ w. refl })
-  opening o open_stage.ClearLive e = spares_them (record { gen = λ w. refl; begun = λ w. refl; swept = λ w. refl })
-  opening o open_stage.StoreTrigger e = spares_them (record { gen = λ w. refl; begun = λ w. refl; swept = λ w. refl })
-  opening o open_stage.LoadHeap e = spares_them (record { gen = λ w. refl; begun = λ w. refl; swept = λ w. refl })
-  opening o open_stage.StoreWork e = spares_them (record { gen = λ w. refl; begun = λ w. refl; swept = λ w. refl })
-  opening o open_stage.StoreSlack e = spares_them (record { gen = λ w. refl; begun = λ w. refl; swept = λ w. refl })
-  opening o open_stage.StoreBegun e = begins_it refl (ap (Store cell.Begun) e)
-  opening o open_stage.StorePhase e = spares_them (record { gen = λ w. refl; begun = λ w. refl; swept = λ w. refl })
-  opening o open_stage.Ended e = spares_them (record { gen = λ w. refl; begun = λ w. refl; swept = λ w. refl })
+  opening o p e = grind arith
 
   closing : (x : close.Closing) (p : CloseStage) → x.generation ≡ c.generation → Does c (Close (record x { stage = p })) (close.asks_at x p)
   closing x close_stage.LoadBank e = spares_them (record { gen = λ w. refl; begun = λ w. refl; swept = λ w. refl })
@@ -56,10 +44,7 @@ module _ (c : coord.Coordinating) where
   closing x close_stage.Ended e = spares_them (record { gen = λ w. refl; begun = λ w. refl; swept = λ w. refl })
 
   telling : (t : tell.Telling) (p : TellStage) → t.cycle ≡ c.begun → Does c (Tell (record t { stage = p })) (tell.asks_at t p)
-  telling t tell_stage.StoreTrigger e = spares_them (record { gen = λ w. refl; begun = λ w. refl; swept = λ w. refl })
-  telling t tell_stage.StoreSwept e = tells_it refl refl (ap (Store cell.Swept) e)
-  telling t tell_stage.StorePhase e = spares_them (record { gen = λ w. refl; begun = λ w. refl; swept = λ w. refl })
-  telling t tell_stage.Ended e = spares_them (record { gen = λ w. refl; begun = λ w. refl; swept = λ w. refl })
+  telling t p e = grind arith
 
   does : (p : CoordStage) → leading.SoundAt c p → Reads c p → Does c p (coord.asks_at c p)
   does (LoadAck i) s r = spares_them (record { gen = λ w. refl; begun = λ w. refl; swept = λ w. refl })
@@ -122,7 +107,4 @@ module _ (setup : Setup)
   pub rise : (e : Entry Op) (es : List (Entry Op)) → Legal (seats.it setup) (e ∷ es) → IsFew es → Rises setup e es
   rise e es legal few = by (change e es legal few) where
     by : Change setup e es → Rises setup e es
-    by (same y) = record { begun = let s = y.begun (words es) in omega (arith, s); swept = let s = y.swept (words es) in omega (arith, s) }
-    by (begins is) = record { begun = let s = ap (λ (q : Ask). effect (words es) q cell.Begun) is in omega (arith, s); swept = let s = ap (λ (q : Ask). effect (words es) q cell.Swept) is in omega (arith, s) }
-    by (ends y) = record { begun = let s = ap (λ (q : Ask). effect (words es) q cell.Begun) y.ask_is in omega (arith, s); swept = let s = ap (λ (q : Ask). effect (words es) q cell.Swept) y.ask_is in omega (arith, s) }
-    by (tells y) = record { begun = let s = ap (λ (q : Ask). effect (words es) q cell.Begun) y.ask_is in omega (arith, s); swept = let s = ap (λ (q : Ask). effect (words es) q cell.Swept) y.ask_is in omega (arith, s) }
+    by h = grind arith

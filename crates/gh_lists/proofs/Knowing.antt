@@ -1,7 +1,7 @@
 -- What every legal list of processors, workers and a coordinator keeps of the handshake.
 use Rattle.std.proofs.Common.{◌≡◌, ℕ, ◌<◌, ◌⊎◌, refl, sym, ap, subst, ◌∙◌, arith, inl, inr, List, [], ◌∷◌}
 use Rattle.gh_base.specs.declared.cell.Cell.TheVariants as cell
-use Rattle.gh_phase.specs.declared.resume.ResumeStage.TheVariants.{Acknowledge, LoadPhase}
+use Rattle.gh_phase.specs.declared.resume.ResumeStage.TheVariants.{LoadPhase}
 use Rattle.gh_phase.specs.declared.view.RunPhase.TheVariants as run
 use Rattle.gh_phase.specs.Handshake.{HandshakePlace}
 use Rattle.gh_phase.specs.Listing as resume
@@ -14,21 +14,17 @@ use Rattle.gh_worker.specs.Handshake as working
 use Rattle.gh_worker.specs.Listing as worker
 use Rattle.gh_lists.specs.declared.handshake.Actor.TheVariants as actor
 use Rattle.gh_lists.specs.Handshake.{IsExact, Sound, Setup}
-use Rattle.gh_lists.proofs.Vocabulary.{acks_of, Actor, Acts, Awake, Entry, GONE, Gone, IsAwake, IsParked, KeepsIt, last_of, last_phase, Lead, Leads, Legal, Op, Party, party_of, place_of, Processor, Resumes, ResumeStage, RunPhase, Stage, stage_of, Stopped, WaitsWithNone, WorkerStage, ◌↔◌}
+use Rattle.gh_lists.proofs.Vocabulary.{acks_of, Actor, Acts, Entry, GONE, Gone, IsAwake, IsParked, KeepsIt, last_of, last_phase, Lead, Leads, Legal, Op, Party, party_of, place_of, Processor, ResumeStage, RunPhase, Stage, stage_of, Stopped, WaitsWithNone, WorkerStage, ◌↔◌}
 use Rattle.gh_lists.specs.Seats.{IsSeated, seated}
 use Rattle.gh_lists.proofs.LastCycle.{Cited, Ends, follows, it, opens, state, words}
 
 -- who is awake does not wait at a stop
 awake_moves : (stops : ℕ) (s : Stage) → IsAwake s → IsParked stops s → ⊥
-awake_moves stops Awake a p = p
-awake_moves stops (Resumes t r) a p = a
-awake_moves stops Gone a p = a
-awake_moves stops _ a p = p
+awake_moves stops s a p = grind arith
 
 -- marking is known to be on exactly where it is the last phase
 reads : (last known : RunPhase) → (known ≡ last) ⊎ ((last ≡ run.Finished) × (known ≡ run.Off)) → known ≡ run.Mark ↔ (last ≡ run.Mark)
-reads last known (inl e) = (λ x. sym e ∙ x, λ y. e ∙ y)
-reads last known (inr e) = (λ x. absurd (let no : run.Off ≡ run.Mark = sym e.1 ∙ x in cc), λ y. absurd (let no : run.Finished ≡ run.Mark = sym e.0 ∙ y in cc))
+reads last known h = grind arith
 
 module _ (setup : Setup) where
   abbrev place : Actor → HandshakePlace
@@ -77,15 +73,11 @@ module _ (setup : Setup) where
       x = shakes es h
 
       i : Ends setup es
-      i = ends es h
+      i = grind (arith, ends)
 
       -- every processor has left once the last cycle is swept
       left : (a : ℕ) → a < setup.layout.procs → last_phase es ≡ run.Finished → words setup es (cell.Ack a) ≡ GONE
-      left a m f =
-          let c = leads_at (state setup es n) x.lead x.leads in
-          let sound_it = sound_of (state setup es n) c.0 c.1 (x.all_sound n (omega arith)) in
-          let last : last_of (leading.post_at c.0.stage) ≡ run.Finished = ap (λ (y : Lead). last_of y.post) c.2 ∙ (sym x.led.last_is ∙ f) in
-          i.last c.0 c.1 (cited.leads.finishes c.0 sound_it last) a m
+      left a m f = grind (arith, i, leads_at, sound_of, x)
 
       gone_sleeps : (s : Stage) → s ≡ Gone → IsAwake s → ⊥
       gone_sleeps s e a = rw e at a
@@ -110,9 +102,7 @@ module _ (setup : Setup) where
           subst (λ (y : Lead). IsParked y.stops s) same (x.stopped phase a p s (ap (λ (y : Lead). y.post) same ∙ post) lt at)
 
       routine_parked : (stops : ℕ) (r : resume.Resuming) (s : ResumeStage) → IsParked stops (resumes.stands_at r.stops s) → (s ≡ LoadPhase) × (r.stops ≡ stops)
-      routine_parked stops r LoadPhase p = (refl, p)
-      routine_parked stops r Acknowledge p = absurd p
-      routine_parked stops r _ p = absurd p
+      routine_parked stops r s p = grind arith
 
       waits : (stops : ℕ) (w : worker.Working) (s : WorkerStage) → w.stage ≡ s → working.SoundAt w s → (working.IsLeaving s → ⊥) → IsParked stops (working.stands_at s) → WaitsWithNone stops w
       waits stops w (work.Resuming r) e sound_it on p =
@@ -142,13 +132,7 @@ module _ (setup : Setup) where
 
       -- a worker that marks is awake
       marks_awake : (w : worker.Working) (s : WorkerStage) → working.IsMarking s → IsAwake (working.stands_at s) × (working.party_at w s ≡ record { seat = w.seat; view = w.view })
-      marks_awake w work.LoadPhase m = absurd m
-      marks_awake w (work.EarningAtStop x t) m = absurd m
-      marks_awake w (work.GiveBack g t) m = absurd m
-      marks_awake w (work.Resuming r) m = absurd m
-      marks_awake w work.Leave m = absurd m
-      marks_awake w work.Done m = absurd m
-      marks_awake w _ m = (tt, refl)
+      marks_awake w s m = grind arith
 
       marking : (c : coord.Coordinating) (a : ℕ) (w : worker.Working) → state setup es n ≡ actor.Leads c → a < n → state setup es a ≡ actor.Marks w → working.IsMarking w.stage → leading.Marks c.stage
       marking c a w e lt at m =

@@ -1,5 +1,5 @@
 -- The last cycle over every legal list: no worker leaves before it is swept, and every processor has left by then.
-use Rattle.std.proofs.Common.{◌≡◌, ℕ, ◌<◌, ◌⊎◌, Bool, true, false, cond, ltb, ◌==◌, refl, sym, ap, subst, ◌∙◌, inl, inr, arith, List, [], ◌∷◌, Option, Some, None}
+use Rattle.std.proofs.Common.{◌≡◌, ℕ, ◌<◌, ◌⊎◌, Bool, true, false, cond, ◌==◌, refl, sym, ap, subst, ◌∙◌, inl, inr, arith, List, [], ◌∷◌, Option, Some, None}
 use Rattle.gh_base.specs.declared.cell.Cell.TheVariants as cell
 use Rattle.gh_base.specs.Lists.{MayFollow, Setting}
 use Rattle.gh_phase.specs.declared.view.RunPhase.TheVariants as run
@@ -11,8 +11,8 @@ use Rattle.gh_worker.specs.declared.worker.WorkerStage.TheVariants as work
 use Rattle.gh_worker.specs.Handshake.{IsLeaving, IsMarking}
 use Rattle.gh_worker.specs.Listing as worker
 use Rattle.gh_lists.specs.declared.handshake.Actor.TheVariants as actor
-use Rattle.gh_lists.specs.Handshake.{asks, start, actor_takes, Setup}
-use Rattle.gh_lists.proofs.Vocabulary.{acks_of, Actor, actors, Ask, cell_of, Entry, GONE, is_busy, Kind, last_phase, Layout, Lead, LeadsHandshake, Load, nat_tests, Op, opening_processor, phase_of, phase_word, PhaseWord, place_of, run_phase, started, state_of, stop_word, those, View, Words, words_after, WorkersKeepHandshake}
+use Rattle.gh_lists.specs.Handshake.{asks, actor_takes, Setup}
+use Rattle.gh_lists.proofs.Vocabulary.{acks_of, Actor, actors, Ask, cell_of, Entry, GONE, is_busy, Kind, last_phase, Layout, Lead, LeadsHandshake, Load, nat_tests, Op, phase_of, phase_word, PhaseWord, place_of, run_phase, started, state_of, stop_word, those, View, Words, words_after, WorkersKeepHandshake}
 use Rattle.gh_lists.specs.Phase.{is_last}
 
 module _ (setup : Setup) where
@@ -77,49 +77,7 @@ module _ (setup : Setup) where
     pub marks : (a : ℕ) (w : worker.Working) → a < acks_of setup.layout → state es a ≡ actor.Marks w → IsMarking w.stage → w.view.phase ≡ run.Mark
 
   pub opens : Ends []
-  opens = record {
-    below = λ c e a m g. absurd (none_seen a c (acks_of setup.layout) e g);
-    last = λ c e x a m. absurd (not_last c (acks_of setup.layout) e x);
-    leaves = λ a w e x. absurd (no_leave a w e x);
-    marks = λ a w m e x. absurd (no_mark a w e x);
-  } where
-    none_seen : (a : ℕ) (c : coord.Coordinating) (n : ℕ) → start setup.layout setup.pacing n ≡ actor.Leads c → a < gone_to c.stage → ⊥
-    none_seen a c n e g = go (ltb n setup.layout.procs) (ltb n (acks_of setup.layout)) e where
-      go : (b d : Bool) → cond b (actor.Runs (opening_processor setup.layout n)) (cond d (actor.Marks (worker.opening setup.layout n)) (actor.Leads (coord.opening setup.layout n setup.pacing.gogc setup.pacing.minheap setup.pacing.room))) ≡ actor.Leads c → ⊥
-      go true d x = absurd cc
-      go false true x = absurd cc
-      go false false x =
-          let is : coord.opening setup.layout n setup.pacing.gogc setup.pacing.minheap setup.pacing.room ≡ c = cc in
-          let none : a < 0 = subst (λ (y : coord.Coordinating). a < gone_to y.stage) (sym is) g in
-          omega arith
-
-    not_last : (c : coord.Coordinating) (n : ℕ) → start setup.layout setup.pacing n ≡ actor.Leads c → c.is_last ≡ true → ⊥
-    not_last c n e g = go (ltb n setup.layout.procs) (ltb n (acks_of setup.layout)) e where
-      go : (b d : Bool) → cond b (actor.Runs (opening_processor setup.layout n)) (cond d (actor.Marks (worker.opening setup.layout n)) (actor.Leads (coord.opening setup.layout n setup.pacing.gogc setup.pacing.minheap setup.pacing.room))) ≡ actor.Leads c → ⊥
-      go true d x = absurd cc
-      go false true x = absurd cc
-      go false false x =
-          let is : coord.opening setup.layout n setup.pacing.gogc setup.pacing.minheap setup.pacing.room ≡ c = cc in
-          let no : false ≡ true = ap (λ (y : coord.Coordinating). y.is_last) is ∙ g in
-          cc
-
-    no_leave : (n : ℕ) (w : worker.Working) → start setup.layout setup.pacing n ≡ actor.Marks w → IsLeaving w.stage → ⊥
-    no_leave n w e g = go (ltb n setup.layout.procs) (ltb n (acks_of setup.layout)) e where
-      go : (b d : Bool) → cond b (actor.Runs (opening_processor setup.layout n)) (cond d (actor.Marks (worker.opening setup.layout n)) (actor.Leads (coord.opening setup.layout n setup.pacing.gogc setup.pacing.minheap setup.pacing.room))) ≡ actor.Marks w → ⊥
-      go true d x = absurd cc
-      go false false x = absurd cc
-      go false true x =
-          let is : worker.opening setup.layout n ≡ w = cc in
-          subst (λ (y : worker.Working). IsLeaving y.stage) (sym is) g
-
-    no_mark : (n : ℕ) (w : worker.Working) → start setup.layout setup.pacing n ≡ actor.Marks w → IsMarking w.stage → ⊥
-    no_mark n w e g = go (ltb n setup.layout.procs) (ltb n (acks_of setup.layout)) e where
-      go : (b d : Bool) → cond b (actor.Runs (opening_processor setup.layout n)) (cond d (actor.Marks (worker.opening setup.layout n)) (actor.Leads (coord.opening setup.layout n setup.pacing.gogc setup.pacing.minheap setup.pacing.room))) ≡ actor.Marks w → ⊥
-      go true d x = absurd cc
-      go false false x = absurd cc
-      go false true x =
-          let is : worker.opening setup.layout n ≡ w = cc in
-          subst (λ (y : worker.Working). IsMarking y.stage) (sym is) g
+  opens = grind arith
 
   -- One entry more: what held before it, and what is known of it and of the coordinator and workers.
   pub record OneMore (es : List (Entry Op)) (e : Entry Op) : Type 0 where
@@ -194,8 +152,7 @@ module _ (setup : Setup) where
 
     -- a processor that the coordinator finds gone is so
     found_gone : (c : coord.Coordinating) → state es (acks_of setup.layout) ≡ actor.Leads c → e.ask ≡ coord.asks c → (a : ℕ) → a < acks_of setup.layout → IsFoundGone e.found c c.stage a → words (e ∷ es) (cell.Ack a) ≡ GONE
-    found_gone c is asks_so a m (inl y) = more.gone a m (more.was.below c is a m y)
-    found_gone c is asks_so a m (inr y) = more.gone a m (sym (more.may.found ∙ ap (λ (q : Ask). words es (cell_of q)) (asks_so ∙ y.0)) ∙ y.1)
+    found_gone c is asks_so a m h = grind arith
 
     -- the coordinator's step
     record Stepped (c : coord.Coordinating) : Type 0 where

@@ -60,5 +60,6 @@ pub use Rattle.gh_coord.specs.declared.watch.Watched.{Watched}
 pub use Rattle.gh_coord.specs.declared.watch.Watched.TheVariants.{All, NotYet}
 pub use Rattle.gh_lists.specs.Handshake.{actors, is_busy, KeepsIt, Pacing, place_of, those, WaitsWithNone}
 pub use Rattle.gh_lists.specs.Marking.{IsBeginning}
-pub use Rattle.gh_lists.specs.Numbers.{ahead_at, asked_after, Begun, Checked, close_part, CountsCycles, Ended, generation_after, IsFew, Numbered, opened_after, opened_in, Outside, Part, part_of}
+pub use Rattle.gh_coord.specs.Parts.{Begun, Checked, close_part, Ended, Numbered, Outside, Part, part_of}
+pub use Rattle.gh_lists.specs.Numbers.{ahead_at, asked_after, CountsCycles, generation_after, IsFew, opened_after, opened_in}
 pub use Rattle.gh_lists.specs.declared.handshake.Actor.{Actor}

@@ -1,5 +1,5 @@
 -- One cycle more in the coordinator's list.
-use Rattle.std.proofs.Common.{◌≡◌, ℕ, zero, suc, ◌+◌, ◌<◌, ◌≤◌, Bool, true, false, cond, ltb, refl, sym, ap, subst, ◌∙◌, arith, List, [], ◌∷◌, ◌++◌, length, length-append, Some}
+use Rattle.std.proofs.Common.{◌≡◌, ℕ, zero, suc, ◌+◌, ◌<◌, ◌≤◌, Bool, true, false, cond, ltb, refl, sym, ap, ◌∙◌, arith, List, [], ◌∷◌, ◌++◌, length, length-append, Some}
 use Rattle.std.proofs.lemmas.Bool.{ltb-true, ltb-false}
 use Rattle.std.proofs.lemmas.Option.{slice_get_within}
 use Rattle.std.specs.Prelude.{min, slice_get}
@@ -52,7 +52,7 @@ module _ (room many : ℕ) (c : Kept) (x : Cycle) (h : KeepsCycles room many c) 
         ap (λ (z : Cycle). z.k) (sym it) ∙ (k ∙ ap suc (sym (at_last m) ∙ sym last))
 
   pub one_more : x.k ≡ suc many → KeepsCycles room (suc many) (kept_with_cycle c x)
-  one_more k = record { room_is = h.room_is; many_are = length_so (ltb (length c.items) c.room) refl; numbered = numbered_so k (ltb (length c.items) c.room) refl }
+  one_more k = grind (arith, length_so, numbered_so)
 
   -- it is there where there is room for it
   pub is_there : many < room → slice_get (kept_with_cycle c x).items many ≡ Some x
@@ -61,5 +61,4 @@ module _ (room many : ℕ) (c : Kept) (x : Cycle) (h : KeepsCycles room many c) 
     long = let some = h.many_are in grind (arith, some, m)
 
     go : (b : Bool) → ltb (length c.items) c.room ≡ b → slice_get (more b) many ≡ Some x
-    go true e = subst (λ (i : ℕ). slice_get (c.items ++ x ∷ []) i ≡ Some x) long (at_end c.items x)
-    go false e = absurd (let ge : c.room ≤ length c.items = ltb-false _ _ e in let room_is = h.room_is in omega (arith, ge, room_is, long, m))
+    go b e = grind (arith, at_end, long, m)

@@ -60,7 +60,8 @@ pub use Rattle.gh_coord.specs.declared.watch.Watched.TheVariants.{All, NotYet}
 pub use Rattle.gh_lists.specs.Handshake.{is_busy, KeepsIt, Pacing}
 pub use Rattle.gh_lists.specs.Lists.{arena, IsLed}
 pub use Rattle.gh_lists.specs.Marking.{actors_after}
-pub use Rattle.gh_lists.specs.Numbers.{asked_after, generation_after, IsFew, opened_after, opened_in, part_of}
+pub use Rattle.gh_coord.specs.Parts.{part_of}
+pub use Rattle.gh_lists.specs.Numbers.{asked_after, generation_after, IsFew, opened_after, opened_in}
 pub use Rattle.gh_lists.specs.Order.{has_left}
 pub use Rattle.gh_lists.specs.Processors.{answers_of, given_of, may_leave}
 pub use Rattle.gh_lists.specs.declared.handshake.Actor.{Actor}

@@ -1,6 +1,6 @@
 -- Lists of steps of all actors of a heap, the newest first: the words and the heap that never frees after one, who leads, and with which entry a cycle begins, ends or is swept.
 use Rattle.std.specs.Prelude.{◌≡◌, ℕ, ◌≤◌, Bool, List, [], ◌∷◌}
-use Rattle.gh_lists.specs.Vocabulary.{by, Entry, Ever, Layout, Legal, Op, opening_words, processor_kind, Shape, state_of, Words, words_after}
+use Rattle.gh_lists.specs.Vocabulary.{Entry, Ever, Layout, Legal, Op, opening_words, processor_kind, Shape, state_of, Words, words_after}
 use Rattle.gh_base.specs.declared.limits.TheConstants.{MOST_STATEMENTS}
 use Rattle.gh_coord.specs.declared.close.CloseStage.TheVariants.{StoreGen}
 use Rattle.gh_coord.specs.declared.coord.CoordStage.{CoordStage}

@@ -1,15 +1,13 @@
 -- A load of the phase that finds the world running finds the last phase that was no stop.
-use Rattle.std.proofs.Common.{◌≡◌, ℕ, Bool, true, false, cond, refl, sym, ap, ◌∙◌, Option, Some, None}
+use Rattle.std.proofs.Common.{◌≡◌, ℕ, Bool, true, false, cond, sym, ap, ◌∙◌, Option, Some, None, arith}
 use Rattle.gh_base.specs.declared.pack.Phase.TheVariants as kind
-use Rattle.gh_phase.specs.declared.view.RunPhase.TheVariants as run
 use Rattle.gh_phase.specs.Handshake.{phase_while, run_word}
 use Rattle.gh_lists.specs.LemmaVocabulary.{phase_of, phase_word, PhaseWord, run_phase, RunPhase, stop_word}
 
 -- what a load of the phase tells
 module _ (back : (p : PhaseWord) → phase_of (phase_word p) ≡ p) where
   ran : (phase : RunPhase) → run_phase (phase_while phase) ≡ Some phase
-  ran run.Off = refl
-  ran _ = refl
+  ran phase = grind arith
 
   abbrev run_found : ℕ → Option RunPhase
   run_found word = run_phase (phase_of word).phase

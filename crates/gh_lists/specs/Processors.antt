@@ -1,7 +1,7 @@
 -- Lists of steps of any number of processors over one heap, the newest first: which are legal, and what every legal one keeps.
 use Rattle.std.specs.Prelude.{◌≡◌, ◌≢◌, ℕ, zero, suc, ◌+◌, ◌%◌, ◌<◌, ◌≤◌, nat_lt, Bool, true, false, not, ◌==◌, ◌&&◌, ◌||◌, if◌then◌else◌, ◌⊎◌, List, [], ◌∷◌, ◌++◌, length, map, Option, Some, None}
 use Rattle.std.specs.Option.{option_to_list}
-use Rattle.gh_lists.specs.Vocabulary.{Act, Answer, answered_by, AnsweredDeed, Arena, cached_for, deeds, Entry, Ever, given_by, has_names, Head, Holds, is_busy_at, IsFull, IsOf, IsSpan, Layout, meaning, model_after, Name, Op, op_at, page_of, Placed, Processor, processor_kind, Reach, register_of, REGISTERS, row_bit, Shape, shape_at, size_for, Sought, sought_for, span_for, SpanHead, state_of, Words, words_after}
+use Rattle.gh_lists.specs.Vocabulary.{Act, Answer, answered_by, AnsweredDeed, Arena, deeds, Entry, Ever, given_by, has_names, Head, Holds, is_busy_at, IsFull, IsOf, IsSpan, Layout, meaning, model_after, Name, Op, op_at, page_of, Placed, Processor, processor_kind, Reach, register_of, REGISTERS, row_bit, Shape, shape_at, size_for, Sought, sought_for, span_for, SpanHead, state_of, Words, words_after}
 use Rattle.gh_base.specs.declared.cell.Cell.TheVariants as cell
 use Rattle.gh_base.specs.declared.operation.Op.TheVariants as op
 use Rattle.gh_base.specs.declared.pack.PageWord.TheVariants.{Free}
@@ -101,10 +101,17 @@ pub record IsAnothers (z : Arena) (a : ℕ) (h : SpanHead) : Type 0 where
   pub other : who ≢ a
   pub owner : h.owner ≡ who + 1
 
--- The seat has no span of its own of the span class. Every other span of that class is cached by another seat, or swept with no clear slot; no span of any class is unswept; and each run of so many pages has a page that is not free and lies in no empty span that nobody owns. Of a large object the first two fall away.
-pub record NoRoomFor (z : Arena) (a : ℕ) (words : Words) (m : Processor) (sought : Sought) : Type 0 where
-  pub own : cached_for m sought ≡ None
-  pub slots : (p : ℕ) (h : SpanHead) → (span_for sought).class ≢ size.Large → page_of (words (cell.Page p)) ≡ Head h → h.class ≡ (span_for sought).class → h.noscan ≡ (span_for sought).noscan → IsAnothers z a h ⊎ IsFull (alloc_words words) p h
+-- A span of the span class begins at the page, which is not one of a large object.
+pub record IsOfSpanClass (words : Words) (sought : Sought) (p : ℕ) (h : SpanHead) : Type 0 where
+  pub small : (span_for sought).class ≢ size.Large
+  pub head : page_of (words (cell.Page p)) ≡ Head h
+  pub class : h.class ≡ (span_for sought).class
+  pub noscan : h.noscan ≡ (span_for sought).noscan
+
+-- The seat owns no span of the span class. Every span of that class is cached by another seat, or swept with no clear slot; no span of any class is unswept; and each run of so many pages has a page that is not free and lies in no empty span that nobody owns. Of a large object the first two fall away.
+pub record NoRoomFor (z : Arena) (a : ℕ) (words : Words) (sought : Sought) : Type 0 where
+  pub own : (p : ℕ) (h : SpanHead) → IsOfSpanClass words sought p h → h.owner ≢ a + 1
+  pub slots : (p : ℕ) (h : SpanHead) → IsOfSpanClass words sought p h → IsAnothers z a h ⊎ IsFull (alloc_words words) p h
   pub swept : (p : ℕ) (h : SpanHead) → page_of (words (cell.Page p)) ≡ Head h → h.number ≡ words cell.Gen
   pub run : (first : ℕ) → first + (span_for sought).pages ≤ z.layout.pages → HasTakenPage z words first (span_for sought).pages
 
@@ -113,8 +120,8 @@ abbrev pub OfNew : List Shape → (Sought → Type 0) → Op → Type 0
 OfNew shapes P (op.New g d t) = P (sought_for (shape_at shapes t))
 OfNew shapes P _ = ⊥
 
-abbrev pub IsFullFor : Arena → (a : ℕ) → Words → Processor → Op → Type 0
-IsFullFor z a words m o = OfNew z.shapes (NoRoomFor z a words m) o
+abbrev pub IsFullFor : Arena → (a : ℕ) → Words → Op → Type 0
+IsFullFor z a words o = OfNew z.shapes (NoRoomFor z a words) o
 
 module _ (z : Arena) (opening : Words) where
   -- the processor at a seat after the list
@@ -135,7 +142,7 @@ module _ (z : Arena) (opening : Words) where
   -- `full` stands only where there was no room
   abbrev pub FullOnlyThere : List (Entry Op) → Type 0
   FullOnlyThere [] = Unit {0}
-  FullOnlyThere (e ∷ es) = FullOnlyThere es × ((x : Act) → done_at (processor_kind z.shapes z.layout) (deeds z.shapes) es e ≡ Some x → x.full ≡ true → IsFullFor z e.actor (words_after opening es) (at_seat es e.actor) x.op)
+  FullOnlyThere (e ∷ es) = FullOnlyThere es × ((x : Act) → done_at (processor_kind z.shapes z.layout) (deeds z.shapes) es e ≡ Some x → x.full ≡ true → IsFullFor z e.actor (words_after opening es) x.op)
 
   -- What a processor was answered is what that heap answers its operations, save at most one answer that it has still to give: none where nothing is begun, and none before what is begun has acted.
   pub record AnswersAsEver (a : ℕ) (es : List (Entry Op)) : Type 0 where

@@ -1,19 +1,16 @@
 -- At the seat of a worker or of the coordinator no operation begins: a processor there would rest. So no entry of theirs acts, gives an answer or begins anything; and at a processor's seat the actor is what its own entries make of it.
-use Rattle.std.proofs.Common.{◌≡◌, ◌≢◌, ℕ, ◌<◌, ◌≤◌, ◌==◌, Bool, true, false, cond, ltb, refl, sym, ap, subst, ◌∙◌, arith, List, [], ◌∷◌, Option, Some, None}
+use Rattle.std.proofs.Common.{◌≡◌, ◌≢◌, ℕ, ◌<◌, ◌≤◌, ◌==◌, Bool, true, false, cond, refl, sym, ap, subst, ◌∙◌, arith, List, [], ◌∷◌, Option, Some, None}
 use Rattle.std.proofs.lemmas.Bool.Decides.{nat_tests}
 use Rattle.gh_base.specs.Lists.{Begins, by}
 use Rattle.gh_base.specs.Orders.{before_step}
-use Rattle.gh_coord.specs.Listing as coord
-use Rattle.gh_mutator.specs.Deeds.{acted, deeds, OnlyPointsChange, processor_kind}
-use Rattle.gh_mutator.specs.Listing.{acts}
+use Rattle.gh_mutator.specs.Deeds.{deeds, OnlyPointsChange, processor_kind}
 use Rattle.gh_mutator.specs.Processor.{opening_processor}
-use Rattle.gh_worker.specs.Listing as worker
 use Rattle.gh_lists.specs.declared.handshake.Actor.{Actor}
 use Rattle.gh_lists.specs.declared.handshake.Actor.TheVariants as actor
 use Rattle.gh_lists.specs.Lists.{arena, ever}
-use Rattle.gh_lists.specs.Handshake.{actors, is_busy, actor_takes, those, Setup}
-use Rattle.gh_lists.specs.LemmaVocabulary.{acks_of, actors_after, answers_of, Entry, given_of, Legal, Op, opening_words, Processor, started, state_of}
-use Rattle.gh_lists.specs.Seats.{IsSeated, run_started, seated}
+use Rattle.gh_lists.specs.Handshake.{actors, is_busy, those, Setup}
+use Rattle.gh_lists.specs.LemmaVocabulary.{actors_after, answers_of, Entry, given_of, Legal, Op, opening_words, Processor, started, state_of}
+use Rattle.gh_lists.specs.Seats.{IsSeated, seated}
 
 module _ (setup : Setup) where
   abbrev at : List (Entry Op) → ℕ → Actor
@@ -22,10 +19,7 @@ module _ (setup : Setup) where
   -- who is no processor begins nothing
   nothing_begins : (o : Option Op) (x : Actor) → ((m : Processor) → x ≢ actor.Runs m) → is_busy (started (actors setup) o x) ≡ true →
       (y : Op) → o ≡ Some y → is_busy x ≡ false → ⊥
-  nothing_begins None x other runs y e idle = absurd cc
-  nothing_begins (Some o) (actor.Runs m) other runs y e idle = absurd (other m refl)
-  nothing_begins (Some o) (actor.Marks w) other runs y e idle = absurd (let both : true ≡ false = sym runs ∙ idle in cc)
-  nothing_begins (Some o) (actor.Leads c) other runs y e idle = absurd (let both : true ≡ false = sym runs ∙ idle in cc)
+  nothing_begins o x other runs y e idle = grind arith
 
   pub begins_none : (a : ℕ) (es : List (Entry Op)) (o : Option Op) → setup.layout.procs ≤ a → Begins (those setup) a es o → is_busy (started (actors setup) o (at es a)) ≡ true → o ≡ None
   begins_none a es None ge begins runs = refl
@@ -35,7 +29,7 @@ module _ (setup : Setup) where
 
   module _ (e : Entry Op) (es : List (Entry Op)) (legal : Legal (those setup) (e ∷ es)) (ge : setup.layout.procs ≤ e.actor) where
     pub begins_nothing : e.begun ≡ None
-    begins_nothing = begins_none e.actor es e.begun ge legal.1.begins legal.1.runs
+    begins_nothing = grind (arith, begins_none)
 
     -- the step of a worker or of the coordinator
     pub rests_on : state_of (processor_kind setup.shapes setup.layout) e.actor es ≡ opening_processor setup.layout e.actor → before_step (processor_kind setup.shapes setup.layout) (deeds setup.shapes) es e ≡ opening_processor setup.layout e.actor
@@ -57,8 +51,7 @@ module _ (setup : Setup) where
 
   -- so the heap that never frees stays where another steps than a processor
   pub ever_stays : OnlyPointsChange → (e : Entry Op) (es : List (Entry Op)) → Legal (those setup) (e ∷ es) → setup.layout.procs ≤ e.actor → ever setup (e ∷ es) ≡ ever setup es
-  ever_stays points e es legal ge =
-      (points setup.shapes setup.layout).follows es e ∙ ap (λ (m : Processor). acted setup.shapes (ever setup es) (acts m e.found)) (rests_on e es legal ge (rests es legal.0 e.actor ge))
+  ever_stays points e es legal ge = grind (arith, rests, rests_on)
 
   -- What the entries of others leave of what an actor's own say.
   module _ (e : Entry Op) (es : List (Entry Op)) (a : ℕ) (other : (e.actor == a) ≡ false) where
@@ -76,20 +69,14 @@ module _ (setup : Setup) where
 
   -- At a processor's seat.
   runs_first : (a : ℕ) → a < setup.layout.procs → at [] a ≡ actor.Runs (opening_processor setup.layout a)
-  runs_first a lt = go (ltb a setup.layout.procs) refl where
-    go : (b : Bool) → ltb a setup.layout.procs ≡ b → cond b (actor.Runs (opening_processor setup.layout a)) (cond (ltb a (acks_of setup.layout)) (actor.Marks (worker.opening setup.layout a)) (actor.Leads (coord.opening setup.layout a setup.pacing.gogc setup.pacing.minheap setup.pacing.room))) ≡ actor.Runs (opening_processor setup.layout a)
-    go true x = refl
-    go false x = absurd (grind (arith, nat_tests))
+  runs_first a lt = grind arith
 
   runs_on : (e : Entry Op) (es : List (Entry Op)) (a : ℕ) → at es a ≡ actor.Runs (state_of (processor_kind setup.shapes setup.layout) a es) → at (e ∷ es) a ≡ actor.Runs (state_of (processor_kind setup.shapes setup.layout) a (e ∷ es))
-  runs_on e es a is = go (e.actor == a) refl where
-    go : (b : Bool) → (e.actor == a) ≡ b → cond b (actor_takes setup.shapes (started (actors setup) e.begun (at es a)) e.found) (at es a) ≡ actor.Runs (cond b ((processor_kind setup.shapes setup.layout).takes (started (processor_kind setup.shapes setup.layout) e.begun (state_of (processor_kind setup.shapes setup.layout) a es)) e.found) (state_of (processor_kind setup.shapes setup.layout) a es))
-    go false x = is
-    go true x = ap (λ (y : Actor). actor_takes setup.shapes y e.found) (ap (started (actors setup) e.begun) is ∙ run_started setup e.begun (state_of (processor_kind setup.shapes setup.layout) a es))
+  runs_on e es a is = grind arith
 
   pub runs_are : (es : List (Entry Op)) (a : ℕ) → a < setup.layout.procs → at es a ≡ actor.Runs (state_of (processor_kind setup.shapes setup.layout) a es)
   runs_are [] a lt = runs_first a lt
   runs_are (e ∷ es) a lt = runs_on e es a (runs_are es a lt)
 
   pub run_is : (es : List (Entry Op)) (a : ℕ) (m : Processor) → a < setup.layout.procs → at es a ≡ actor.Runs m → state_of (processor_kind setup.shapes setup.layout) a es ≡ m
-  run_is es a m lt is = let both : actor.Runs (state_of (processor_kind setup.shapes setup.layout) a es) ≡ actor.Runs m = sym (runs_are es a lt) ∙ is in cc
+  run_is es a m lt is = grind (arith, runs_are)

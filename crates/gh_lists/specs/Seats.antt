@@ -1,6 +1,5 @@
 -- Which actor is at which seat after every list, and what an entry makes of it.
-use Rattle.std.proofs.Common.{◌≡◌, ℕ, ◌<◌, ◌≤◌, Bool, true, false, cond, ltb, ◌==◌, refl, ap, ◌∙◌, arith, List, [], ◌∷◌, Option, Some, None, eq-eqb}
-use Rattle.std.proofs.lemmas.Bool.Decides.{nat_tests}
+use Rattle.std.proofs.Common.{◌≡◌, ℕ, ◌<◌, ◌≤◌, Bool, false, cond, ◌==◌, refl, ◌∙◌, arith, List, [], ◌∷◌, Option, eq-eqb}
 use Rattle.gh_base.specs.declared.layout.Layout.{Layout}
 use Rattle.gh_base.specs.declared.machine.Entry.{Entry}
 use Rattle.gh_base.specs.declared.operation.Op.{Op}
@@ -31,28 +30,19 @@ module _ (setup : Setup) where
 
   -- what is begun, by each kind of actor
   pub run_started : (o : Option Op) (m : Processor) → started all o (actor.Runs m) ≡ actor.Runs (started k o m)
-  run_started None m = refl
-  run_started (Some o) m = refl
+  run_started o m = grind arith
 
   pub worker_started : (o : Option Op) (w : worker.Working) → started all o (actor.Marks w) ≡ actor.Marks w
-  worker_started None w = refl
-  worker_started (Some o) w = refl
+  worker_started o w = grind arith
 
   pub lead_started : (o : Option Op) (c : coord.Coordinating) → started all o (actor.Leads c) ≡ actor.Leads c
-  lead_started None c = refl
-  lead_started (Some o) c = refl
+  lead_started o c = grind arith
 
   first : (a : ℕ) → IsSeated setup.layout a (start setup.layout setup.pacing a)
-  first a = go (ltb a setup.layout.procs) (ltb a (acks_of setup.layout)) refl refl where
-    go : (b d : Bool) → ltb a setup.layout.procs ≡ b → ltb a (acks_of setup.layout) ≡ d → IsSeated setup.layout a (cond b (actor.Runs (k.start a)) (cond d (actor.Marks (worker.opening setup.layout a)) (actor.Leads (coord.opening setup.layout a setup.pacing.gogc setup.pacing.minheap setup.pacing.room))))
-    go true d e f = grind (arith, nat_tests)
-    go false true e f = (grind (arith, nat_tests), grind (arith, nat_tests), refl)
-    go false false e f = (grind (arith, nat_tests), refl)
+  first a = grind arith
 
   begun : (a : ℕ) (o : Option Op) (m : Actor) → IsSeated setup.layout a m → IsSeated setup.layout a (started all o m)
-  begun a None m s = s
-  begun a (Some o) (actor.Runs m) s = s
-  begun a (Some o) _ s = s
+  begun a o m s = grind arith
 
   taken : (a found : ℕ) (m : Actor) → IsSeated setup.layout a m → IsSeated setup.layout a (actor_takes setup.shapes m found)
   taken a found (actor.Runs m) s = s
@@ -63,8 +53,7 @@ module _ (setup : Setup) where
   state es a = state_of all a es
 
   next : (e : Entry Op) (a : ℕ) (m : Actor) (b : Bool) → IsSeated setup.layout a m → IsSeated setup.layout a (cond b (actor_takes setup.shapes (started all e.begun m) e.found) m)
-  next e a m true s = taken a e.found (started all e.begun m) (begun a e.begun m s)
-  next e a m false s = s
+  next e a m b s = grind (arith, begun, taken)
 
   pub seated : (es : List (Entry Op)) (a : ℕ) → IsSeated setup.layout a (state es a)
   seated [] a = first a
@@ -79,10 +68,10 @@ module _ (setup : Setup) where
     other a x = rw x refl
 
     pub runs : (m : Processor) → state es e.actor ≡ actor.Runs m → state (e ∷ es) e.actor ≡ actor.Runs (k.takes (started k e.begun m) e.found)
-    runs m is = own ∙ ap (λ (y : Actor). actor_takes setup.shapes y e.found) (ap (started all e.begun) is ∙ run_started e.begun m)
+    runs m is = grind arith
 
     pub works : (w : worker.Working) → state es e.actor ≡ actor.Marks w → state (e ∷ es) e.actor ≡ actor.Marks (worker.goes w e.found)
-    works w is = own ∙ ap (λ (y : Actor). actor_takes setup.shapes y e.found) (ap (started all e.begun) is ∙ worker_started e.begun w)
+    works w is = grind arith
 
     pub leads : (c : coord.Coordinating) → state es e.actor ≡ actor.Leads c → state (e ∷ es) e.actor ≡ actor.Leads (coord.goes c e.found)
-    leads c is = own ∙ ap (λ (y : Actor). actor_takes setup.shapes y e.found) (ap (started all e.begun) is ∙ lead_started e.begun c)
+    leads c is = grind arith

@@ -1,6 +1,6 @@
 -- What an entry of a legal list is to a processor: a step of its own, on an operation that is begun, or another's; and who is no processor has none begun.
-use Rattle.std.proofs.Common.{◌≡◌, ℕ, ◌<◌, ◌≤◌, ◌⊎◌, Bool, true, false, cond, eqb, List, ◌∷◌, Option, Some, None, refl, sym, ap, subst, ◌∙◌, arith, inl, inr, eq-eqb}
-use Rattle.std.proofs.lemmas.Bool.{eqb-false, eqb-true}
+use Rattle.std.proofs.Common.{◌≡◌, ℕ, ◌<◌, ◌≤◌, ◌⊎◌, Bool, true, false, cond, eqb, List, ◌∷◌, Option, Some, None, sym, ap, subst, ◌∙◌, arith, eq-eqb}
+use Rattle.std.proofs.lemmas.Bool.{eqb-false}
 use Rattle.gh_mutator.specs.Listing.{gives}
 use Rattle.gh_lists.specs.declared.handshake.Actor.TheVariants as actor
 use Rattle.gh_lists.specs.Lists.{arena}
@@ -13,8 +13,7 @@ use Rattle.gh_lists.specs.Seats.{run_started}
 
 -- what finds no room is a `new`, which has a point
 pub not_full : (b : Bool) (o : Op) (x : Act) → acting b o false ≡ Some x → x.full ≡ true → ⊥
-not_full true o x e f = let same : record { op = o; full = false } ≡ x = cc in let no : false ≡ true = ap (λ (y : Act). y.full) same ∙ f in cc
-not_full false o x e f = cc
+not_full b o x e f = grind arith
 
 module _ (setup : Setup) (es : List (Entry Op)) (e : Entry Op) (legal : Legal (those setup) (e ∷ es)) where
   abbrev m : Processor
@@ -92,7 +91,4 @@ module _ (setup : Setup) (es : List (Entry Op)) (e : Entry Op) (legal : Legal (t
     }
 
     pub who_steps : IsItsOwn ⊎ IsAnothers
-    who_steps = go (eqb e.actor a) refl where
-      go : (b : Bool) → eqb e.actor a ≡ b → IsItsOwn ⊎ IsAnothers
-      go true here = inl (its_own (eqb-true e.actor a here))
-      go false apart = inr (anothers apart)
+    who_steps = grind (arith, anothers, its_own)

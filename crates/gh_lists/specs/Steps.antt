@@ -1,5 +1,5 @@
 -- What an entry of a legal list is: a step of a processor, of a worker, or of the coordinator.
-use Rattle.std.proofs.Common.{◌≡◌, ℕ, ◌+◌, ◌<◌, ◌≤◌, Bool, true, false, cond, ltb, refl, sym, ap, subst, ◌∙◌, arith, List, [], ◌∷◌, Option, Some, None}
+use Rattle.std.proofs.Common.{◌≡◌, ℕ, ◌+◌, ◌<◌, ◌≤◌, true, refl, sym, ap, subst, ◌∙◌, arith, List, [], ◌∷◌, Option, Some, None}
 use Rattle.std.proofs.lemmas.Bool.Decides.{nat_tests}
 use Rattle.gh_base.specs.declared.cell.Ask.{Ask}
 use Rattle.gh_base.specs.declared.machine.Entry.{Entry}
@@ -39,11 +39,7 @@ module _ (setup : Setup) where
 
   -- before the first step
   pub first_lead : (c : coord.Coordinating) → at [] n ≡ actor.Leads c → c ≡ coord.opening setup.layout n setup.pacing.gogc setup.pacing.minheap setup.pacing.room
-  first_lead c led = go (ltb n setup.layout.procs) (ltb n n) led where
-    go : (b d : Bool) → cond b (actor.Runs (k.start n)) (cond d (actor.Marks (worker.opening setup.layout n)) (actor.Leads (coord.opening setup.layout n setup.pacing.gogc setup.pacing.minheap setup.pacing.room))) ≡ actor.Leads c → c ≡ coord.opening setup.layout n setup.pacing.gogc setup.pacing.minheap setup.pacing.room
-    go true d x = absurd cc
-    go false true x = absurd cc
-    go false false x = cc
+  first_lead c led = grind arith
 
   -- who is at the coordinator's seat
   pub record LedBy (es : List (Entry Op)) : Type 0 where

@@ -20,8 +20,7 @@ pub total_has : (f : ℕ → ℕ) (n p : ℕ) → p < n → f p ≤ total f n
 total_has f zero p m = absurd (omega (arith, m))
 total_has f (suc n) p m = go (n == p) refl (λ x. total_has f n p x) where
   go : (b : Bool) → (n == p) ≡ b → (p < n → f p ≤ total f n) → f p ≤ total f (suc n)
-  go true e before = let is : f n ≡ f p = ap f (grind (arith, nat_tests, e)) in omega (arith, is)
-  go false e before = let rest = before (let l = m in grind (arith, nat_tests, e)) in omega (arith, rest)
+  go b e before = grind arith
 
 -- they differ at one place alone
 pub total_at : (f g : ℕ → ℕ) (n p : ℕ) → p < n → ((i : ℕ) → i < n → i ≢ p → g i ≡ f i) → total g n + f p ≡ total f n + g p

@@ -1,11 +1,10 @@
 -- Who sweeps with a step: a worker asks for what its sweep asks for, or runs none, and a processor that rests runs none.
-use Rattle.std.proofs.Common.{◌≡◌, ◌⊎◌, inl, inr, refl, None, false}
+use Rattle.std.proofs.Common.{◌≡◌, ◌⊎◌, inl, inr, refl, None, false, arith}
 use Rattle.gh_sweep.specs.Listing as sweep
 use Rattle.gh_sweep.specs.Listing.{Sweeping}
 use Rattle.gh_worker.specs.declared.worker.WorkerStage.TheVariants as working_at
 use Rattle.gh_worker.specs.Listing as worker
 use Rattle.gh_lists.specs.LemmaVocabulary.{WorkerStage, is_busy_at, Task}
-use Rattle.gh_mutator.specs.declared.task.Task.TheVariants as task
 use Rattle.gh_mutator.specs.Sweeping.{sweep_at}
 
 -- it runs no sweep, or asks for what that asks for
@@ -15,5 +14,4 @@ asks_by_sweep w _ = inl refl
 
 -- who rests sweeps nothing
 pub idle_sweeps_none : (t : Task) → is_busy_at t ≡ false → sweep_at t ≡ None
-idle_sweeps_none (task.New x) idle = absurd (cc)
-idle_sweeps_none _ idle = refl
+idle_sweeps_none t idle = grind arith

@@ -23,7 +23,7 @@ pub use Rattle.gh_alloc.specs.declared.sought.Sought.{Sought}
 pub use Rattle.gh_mutator.specs.Deeds.{deeds, meaning, processor_kind}
 pub use Rattle.gh_mutator.specs.Listing.{Act, is_busy_at, op_at}
 pub use Rattle.gh_mutator.specs.New.{sought_for}
-pub use Rattle.gh_mutator.specs.Processor.{cached_for, register_of}
+pub use Rattle.gh_mutator.specs.Processor.{register_of}
 pub use Rattle.gh_mutator.specs.Sound.{has_names}
 pub use Rattle.gh_mutator.specs.declared.processor.Processor.{Processor}
 pub use Rattle.gh_coord.specs.Keeping.{Kept}

@@ -126,7 +126,8 @@ pub use Rattle.gh_lists.specs.Handshake.{actors, is_busy, KeepsIt, Pacing, place
 pub use Rattle.gh_lists.specs.Lists.{arena, EndsCycle, ever, IsEnding, IsLed, IsStepIn, may_of, words}
 pub use Rattle.gh_lists.specs.Marking.{actors_after, EndsClean, IsBeginning, IsChecked, IsInLimits, IsStartOf}
 pub use Rattle.gh_lists.specs.declared.handshake.Actor.{Actor}
-pub use Rattle.gh_lists.specs.Numbers.{ahead_at, Begun, Checked, close_part, generation_after, opened_after, opened_in, Part, part_of}
+pub use Rattle.gh_coord.specs.Parts.{Begun, Checked, close_part, Part, part_of}
+pub use Rattle.gh_lists.specs.Numbers.{ahead_at, generation_after, opened_after, opened_in}
 pub use Rattle.gh_lists.specs.Order.{ended_in, ends, in_range}
 pub use Rattle.gh_lists.specs.Processors.{IsFullFor, IsPlacedAt, may_leave}
 pub use Rattle.gh_marked.specs.Drawn.{IsToBegin}

@@ -1,24 +1,18 @@
 -- What the coordinator's stage says while a cycle is marked: in its check, that the words which it has looked at are as wanted; and behind it, that all are. And where each step of it leads.
-use Rattle.std.proofs.Common.{◌≡◌, ℕ, ◌+◌, ◌-◌, ◌<◌, ◌≤◌, ◌==◌, Bool, true, false, cond, ltb, leb, not, ◌||◌, refl, sym, ap, subst, arith, Option, Some, None, eq-eqb}
+use Rattle.std.proofs.Common.{◌≡◌, ℕ, ◌+◌, ◌<◌, ◌≤◌, ◌==◌, Bool, true, false, cond, ltb, leb, not, ◌||◌, refl, sym, subst, arith, Option}
 use Rattle.gh_base.specs.declared.cell.Cell.TheVariants as cell
 use Rattle.gh_marks.specs.Moves.{IsQuietInMarking}
 use Rattle.gh_phase.specs.declared.view.RunPhase.TheVariants as run
-use Rattle.gh_coord.specs.declared.close.CloseStage.TheVariants as close_stage
-use Rattle.gh_coord.specs.declared.open.OpenStage.TheVariants as open_stage
-use Rattle.gh_coord.specs.declared.stop.StopStage.TheVariants as stop_stage
 use Rattle.gh_coord.specs.declared.watch.WatchStage.TheVariants as watch_stage
 use Rattle.gh_coord.specs.Handshake.{close_post, Marks, post_at}
 use Rattle.gh_coord.specs.Closing as close
-use Rattle.gh_coord.specs.Counting as count
+use Rattle.gh_coord.specs.Events.{by_event}
 use Rattle.gh_coord.specs.Listing.{is_busy}
 use Rattle.gh_coord.specs.Opening as opens_by
-use Rattle.gh_coord.specs.Stopping as stop
-use Rattle.gh_coord.specs.SweepingAll as all
-use Rattle.gh_coord.specs.Telling as tell
 use Rattle.gh_coord.specs.Watching as watch
 use Rattle.gh_coord.specs.Watching.{cell_at, is_wanted, words_of}
-use Rattle.gh_marked.specs.LemmaVocabulary.{after_check, after_close, after_count, after_open, after_stop, after_stop_again, after_sweep, after_tell, after_watch, All, Ask, asks_at, at_stage, buffer_of, buffers_of, Cell, cell_of, Check, Close, CloseStage, Coordinating, CoordStage, Count, Counted, Done, effect, goes_at, holder_in, IsBeginning, Layout, LoadAck, LoadWant, ltb-false, ltb-true, MarkOn, nat_tests, NotYet, Open, OpenStage, RunPhase, Marking as Shared, Stop, StopAgain, Stopped, stops_world, StopStage, Sweep, Tell, Watch, Watched, WatchStage, Words}
-use Rattle.gh_marked.specs.Beside.{LeavesHeap, loads, phase_leaves_heap, stores_bank}
+use Rattle.gh_marked.specs.LemmaVocabulary.{after_check, after_close, after_open, All, Ask, asks_at, at_stage, buffer_of, buffers_of, Cell, cell_of, Check, Close, CloseStage, Coordinating, CoordStage, Done, effect, goes_at, holder_in, IsBeginning, Layout, ltb-false, nat_tests, NotYet, Open, OpenStage, RunPhase, Marking as Shared, Stopped, Watched, WatchStage, Words}
+use Rattle.gh_marked.specs.Beside.{LeavesHeap}
 use Rattle.gh_coord.specs.Handshake as leading
 
 -- all watched words are as wanted
@@ -51,25 +45,13 @@ module _ (l : Layout) (number : ℕ) (words : Words) where
     wanted_at j c e m = subst (λ (x : Cell). is_wanted l number x (words x) ≡ true) e (seen j m)
 
     stack_at : (g : ℕ) → g < l.goroutines → cell_at l (g + 1) ≡ cell.Scanned g
-    stack_at g m = go (g + 1 == 0) (ltb (g + 1 - 1) l.goroutines) refl refl where
-      go : (b d : Bool) → (g + 1 == 0) ≡ b → ltb (g + 1 - 1) l.goroutines ≡ d → cond b cell.Gcur (cond d (cell.Scanned (g + 1 - 1)) (cell.Buffer (g + 1 - 1 - l.goroutines))) ≡ cell.Scanned g
-      go true d e f = absurd (grind (arith, nat_tests))
-      go false true e f = ap cell.Scanned (omega arith)
-      go false false e f = absurd (grind (arith, nat_tests))
+    stack_at g m = grind arith
 
     buffer_at : (b : ℕ) → cell_at l (b + l.goroutines + 1) ≡ cell.Buffer b
-    buffer_at b = go (b + l.goroutines + 1 == 0) (ltb (b + l.goroutines + 1 - 1) l.goroutines) refl refl where
-      go : (x d : Bool) → (b + l.goroutines + 1 == 0) ≡ x → ltb (b + l.goroutines + 1 - 1) l.goroutines ≡ d → cond x cell.Gcur (cond d (cell.Scanned (b + l.goroutines + 1 - 1)) (cell.Buffer (b + l.goroutines + 1 - 1 - l.goroutines))) ≡ cell.Buffer b
-      go true d e f = absurd (grind (arith, nat_tests))
-      go false true e f = absurd (grind (arith, nat_tests))
-      go false false e f = ap cell.Buffer (omega arith)
+    buffer_at b = grind arith
 
     empty_so : (word : ℕ) → (not ((buffer_of word).holder == 0) || ((buffer_of word).count == 0)) ≡ true → holder_in word ≡ 0 → (buffer_of word).count ≡ 0
-    empty_so word e h = go ((buffer_of word).holder == 0) ((buffer_of word).count == 0) refl refl e where
-      go : (x d : Bool) → ((buffer_of word).holder == 0) ≡ x → ((buffer_of word).count == 0) ≡ d → (not x || d) ≡ true → (buffer_of word).count ≡ 0
-      go true true f g y = grind (arith, nat_tests)
-      go true false f g y = absurd cc
-      go false d f g y = absurd (let yes : ((buffer_of word).holder == 0) ≡ true = eq-eqb _ _ h in cc)
+    empty_so word e h = grind arith
 
     pub all_found : Found l number words
     all_found = record {
@@ -97,48 +79,15 @@ module _ (l : Layout) (number : ℕ) (words : Words) (s : Coordinating) (marks :
   abbrev To : CoordStage → Coordinating → Type 0
   To p to = CoordinatorGoes l number words s p to
 
-  acks : (i : ℕ) (gone more : Bool) → Marks (cond gone (cond more (at_stage u (LoadAck (i + 1))) (stops_world (record u { is_last = true }))) (at_stage u LoadWant)).stage → ⊥
-  acks i true true m = m
-  acks i true false m = m
-  acks i false more m = m
-
-  wants : (none : Bool) → Marks (cond none (at_stage u (LoadAck 0)) (stops_world u)).stage → ⊥
-  wants true m = m
-  wants false m = m
-
-  stopped : (st : stop.Stopping) (out : Option (Unit {0})) → Marks (after_stop (at_stage u (Stop st)) out).stage → ⊥
-  stopped st None m = m
-  stopped st (Some x) m = m
-
   opening : (o : opens_by.CycleOpening) (p : OpenStage) (found : ℕ) → o.stage ≡ p → opens_by.is_busy p ≡ true → To (Open o) (after_open (at_stage u (Open (opens_by.goes_at o p found))) (opens_by.given_at (opens_by.behind p)))
-  opening o open_stage.StorePhase found e b = begins e (rw e (record { quiet = λ sh. tt; aside = phase_leaves_heap _ })) refl tt
-  opening o open_stage.Ended found e b = absurd cc
-  opening o _ found e b = leaves (λ m. m)
+  opening o p found e b = grind arith
 
   watching_quiet : (w : watch.Watching) (p : WatchStage) → IsLight (watch.asks_at w p)
-  watching_quiet w (watch_stage.Look i) = record { quiet = λ sh. tt; aside = loads _ }
-  watching_quiet w (watch_stage.Ended x) = record { quiet = λ sh. tt; aside = loads _ }
-
-  watching : (w v : watch.Watching) (out : Option Watched) → To (Watch w) (after_watch (at_stage u (Watch v)) out)
-  watching w v None = goes_on tt (watching_quiet w w.stage) refl (λ _. tt)
-  watching w v (Some All) = goes_on tt (watching_quiet w w.stage) refl (λ _. tt)
-  watching w v (Some NotYet) = goes_on tt (watching_quiet w w.stage) refl (λ _. tt)
-
-  stop_quiet : (st : stop.Stopping) (p : StopStage) → IsLight (stop.asks_at st p)
-  stop_quiet st stop_stage.StorePhase = record { quiet = λ sh. tt; aside = phase_leaves_heap _ }
-  stop_quiet st (stop_stage.Await i) = record { quiet = λ sh. tt; aside = loads _ }
-  stop_quiet st stop_stage.Ended = record { quiet = λ sh. tt; aside = loads _ }
-
-  stopping_again : (st next : stop.Stopping) (out : Option (Unit {0})) → To (StopAgain st) (after_stop_again (at_stage u (StopAgain next)) out)
-  stopping_again st next None = goes_on tt (stop_quiet st st.stage) refl (λ _. tt)
-  stopping_again st next (Some x) = goes_on tt (stop_quiet st st.stage) refl (λ _. record { layout_is = layout_is; cycle_is = number_is; stage_is = λ j m. absurd (omega arith) })
+  watching_quiet w p = grind arith
 
   -- one word more is as wanted
   one_more : (i : ℕ) → ((j : ℕ) → j < i → IsWanted l number words j) → IsWanted l number words i → (j : ℕ) → j < i + 1 → IsWanted l number words j
-  one_more i before now j m = go (ltb j i) refl where
-    go : (b : Bool) → ltb j i ≡ b → IsWanted l number words j
-    go true e = before j (ltb-true _ _ e)
-    go false e = let ge : i ≤ j = ltb-false _ _ e in let is : i ≡ j = omega arith in subst (λ (x : ℕ). IsWanted l number words x) is now
+  one_more i before now j m = grind arith
 
   -- behind a look at word i
   abbrev behind_look : watch.Watching → (i : ℕ) → (b d : Bool) → watch.Watching
@@ -156,57 +105,25 @@ module _ (l : Layout) (number : ℕ) (words : Words) (s : Coordinating) (marks :
     go false d y x = tt
 
   checking_begun : (w : watch.Watching) (out : Option Watched) → (after_check (at_stage u (Check w)) out).begun ≡ s.begun
-  checking_begun w None = refl
-  checking_begun w (Some All) = refl
-  checking_begun w (Some NotYet) = refl
+  checking_begun w out = grind arith
 
   checking : (w : watch.Watching) (p : WatchStage) (found : ℕ) → w.stage ≡ p → watch.is_busy p ≡ true → found ≡ words (cell_of (watch.asks_at w p)) →
       To (Check w) (after_check (at_stage u (Check (watch.goes_at w p found))) (watch.given (watch.goes_at w p found)))
-  checking w (watch_stage.Look i) found e b f = goes_on tt (watching_quiet w w.stage) (checking_begun (watch.goes_at w (watch_stage.Look i) found) (watch.given (watch.goes_at w (watch_stage.Look i) found)))
-      (λ sees. rw e (looking w i found e sees.layout_is sees.cycle_is f (subst (StageSees l number words) e sees.stage_is)))
-  checking w (watch_stage.Ended x) found e b f = absurd cc
+  checking w p found e b f = grind (arith, checking_begun, looking, watching_quiet)
 
   closing : (c : close.Closing) (p : CloseStage) (found : ℕ) → c.stage ≡ p → close.is_busy p ≡ true → To (Close c) (after_close (at_stage u (Close (close.goes_at c p found))) (close.given (close.goes_at c p found)))
-  closing c close_stage.LoadBank found e b = goes_on (rw e refl) (rw e (record { quiet = λ sh. tt; aside = loads _ })) refl (λ x. rw e x)
-  closing c close_stage.ClearBank found e b = goes_on (rw e refl) (rw e (record { quiet = λ sh. tt; aside = stores_bank _ })) refl (λ x. rw e (record { cursor = x.cursor; stacks = x.stacks; empty = x.empty }))
-  closing c close_stage.StoreGen found e b = leaves (λ m. cc)
-  closing c close_stage.StorePhase found e b = leaves (λ m. m)
-  closing c close_stage.Ended found e b = absurd cc
-
-  sweeping : (w : all.SweepingAll) (out : Option (Unit {0})) → Marks (after_sweep (at_stage u (Sweep w)) out).stage → ⊥
-  sweeping w None m = m
-  sweeping w (Some x) m = m
-
-  counting : (w : count.Counting) (out : Option Counted) → Marks (after_count (at_stage u (Count w)) out).stage → ⊥
-  counting w None m = m
-  counting w (Some x) m = m
-
-  telling : (w : tell.Telling) (out : Option (Unit {0})) → Marks (after_tell (at_stage u (Tell w)) out).stage → ⊥
-  telling w None m = m
-  telling w (Some x) m = go u.is_last m where
-    go : (b : Bool) → Marks (cond b Done (LoadAck 0)) → ⊥
-    go true m = m
-    go false m = m
+  closing c p found e b = grind arith
 
   pub goes_so : (p : CoordStage) (found : ℕ) → is_busy p ≡ true → found ≡ words (cell_of (asks_at s p)) → To p (goes_at u p found)
-  goes_so (LoadAck i) found b f = leaves (acks i _ _)
-  goes_so LoadWant found b f = leaves (wants _)
-  goes_so (Stop st) found b f = leaves (stopped (stop.goes st found) (stop.gives st found))
   goes_so (Open o) found b f = opening o o.stage found refl b
-  goes_so (Watch w) found b f = watching w (watch.goes w found) (watch.gives w found)
-  goes_so (StopAgain st) found b f = stopping_again st (stop.goes st found) (stop.gives st found)
   goes_so (Check w) found b f = checking w w.stage found refl b f
-  goes_so MarkOn found b f = goes_on tt (record { quiet = λ sh. tt; aside = phase_leaves_heap _ }) refl (λ _. tt)
   goes_so (Close c) found b f = closing c c.stage found refl b
-  goes_so (Sweep w) found b f = leaves (sweeping (all.goes w found) (all.gives w found))
-  goes_so (Count w) found b f = leaves (counting (count.goes w found) (count.gives w found))
-  goes_so (Tell w) found b f = leaves (telling (tell.goes w found) (tell.gives w found))
   goes_so Done found b f = absurd cc
+  goes_so p found b f = by_event u found (To p) p (λ e may. grind (arith, watching_quiet))
 
 -- the world is stopped while marking is being ended
 pub still_stopped : (p : CloseStage) → close.is_marking p ≡ true → close_post p ≡ Stopped run.Mark
-still_stopped close_stage.Ended on = absurd cc
-still_stopped _ on = refl
+still_stopped p on = grind arith
 
 -- What a stage says while a cycle is marked lasts where the world is stopped, since no word changes then; at other stages it says nothing of words.
 pub checked_lasts : (l : Layout) (number : ℕ) (words then : Words) (p : CoordStage) → Marks p → ((phase : RunPhase) → post_at p ≡ Stopped phase → then ≡ words) → CheckedAt l number words p → CheckedAt l number then p
@@ -216,5 +133,4 @@ checked_lasts l number words then _ on still h = tt
 
 -- where a cycle begins the world is stopped
 pub begin_post : (p : CoordStage) → IsBeginning p → leading.post_at p ≡ Stopped run.Off
-begin_post (Open o) b = ap leading.open_post b
-begin_post _ b = absurd b
+begin_post p b = grind arith

@@ -1,7 +1,7 @@
 -- What may begin by its tests may begin by the heap: its goroutine goes on, and its registers, global and type are there.
-use Rattle.std.proofs.Common.{◌≡◌, ℕ, ◌<◌, Bool, true, false, not, ltb, eqb, length, List, Option, Some, refl, subst}
+use Rattle.std.proofs.Common.{◌≡◌, ℕ, ◌<◌, true, not, ltb, length, List, Some, refl, subst, arith}
 use Rattle.std.specs.Prelude.{◌&&◌}
-use Rattle.std.proofs.lemmas.Bool.{eqb-true, ltb-true}
+use Rattle.std.proofs.lemmas.Bool.{ltb-true}
 use Rattle.gh_base.specs.declared.limits.TheConstants.{MOST_STATEMENTS}
 use Rattle.gh_base.specs.declared.operation.Op.TheVariants as op
 use Rattle.gh_heap.specs.Moves.{GoroutineRuns}
@@ -11,27 +11,10 @@ use Rattle.gh_lists.specs.LemmaVocabulary.{Arena, Entry, has_names, IsOf, made_b
 use Rattle.gh_lists.specs.Order.{ended_in, goroutine_is_over, goroutine_of, in_range}
 use Rattle.gh_lists.specs.Processors.{is_of, may_run}
 
-not-true : (b : Bool) → not b ≡ true → b ≡ false
-not-true true e = absurd (cc)
-not-true false e = refl
-
 module _ (z : Arena) (a : ℕ) (v : View) (m : Processor) (es : List (Entry Op)) (ended : (g : ℕ) → IsOf z a g → v.ever.ended g ≡ true → ended_in es g ≡ true) (counts : (g : ℕ) → IsOf z a g → made_by m g ≡ v.ever.made g) where
-  runs : (g : ℕ) → ltb g z.layout.goroutines ≡ true → eqb (z.seat_of g) a ≡ true → not (ended_in es g) ≡ true → GoroutineRuns z v a g
-  runs g below here going = record { of = of; goes_on = go (v.ever.ended g) refl } where
-    of : IsOf z a g
-    of = (ltb-true g z.layout.goroutines below, eqb-true (z.seat_of g) a here)
-
-    go : (b : Bool) → v.ever.ended g ≡ b → v.ever.ended g ≡ false
-    go true e = absurd (cc (not-true (ended_in es g) going, ended g of e))
-    go false e = e
-
   -- the tests of an operation of goroutine g
   of-goroutine : (o : Op) (g : ℕ) → goroutine_of o ≡ Some g → may_run z a m es o ≡ true → ltb g z.layout.goroutines ≡ true → GoroutineRuns z v a g
-  of-goroutine o g e may below =
-      let x = both _ (not (goroutine_is_over es (goroutine_of o))) may in
-      let y = both _ (has_names m o) x.0 in
-      let w = both (in_range z.layout.goroutines z.layout.globals (length z.shapes) o) (is_of z a (goroutine_of o)) y.0 in
-      runs g below (subst (λ (q : Option ℕ). is_of z a q ≡ true) e w.1) (subst (λ (q : Option ℕ). not (goroutine_is_over es q) ≡ true) e x.1)
+  of-goroutine o g e may below = grind arith
 
   range : (o : Op) → may_run z a m es o ≡ true → in_range z.layout.goroutines z.layout.globals (length z.shapes) o ≡ true
   range o may =

@@ -1,8 +1,8 @@
 -- What an actor's own entries say: its state, and which goroutines they end.
-use Rattle.std.proofs.Common.{◌≡◌, ℕ, ◌<◌, ◌==◌, ◌⊎◌, inl, inr, zero, suc, not, Bool, true, false, cond, refl, sym, ap, subst, ◌∙◌, arith, List, [], ◌∷◌, Option, Some}
+use Rattle.std.proofs.Common.{◌≡◌, ℕ, ◌<◌, ◌==◌, ◌⊎◌, zero, suc, not, Bool, true, false, cond, refl, ap, arith, List, [], ◌∷◌, Option, Some}
 use Rattle.std.specs.Prelude.{◌||◌}
 use Rattle.gh_base.specs.declared.operation.Op.TheVariants as op
-use Rattle.gh_marked.specs.LemmaVocabulary.{all_ended, Arena, by, ended_in, ends, Entry, Kind, nat_tests, Op, started, state_of}
+use Rattle.gh_marked.specs.LemmaVocabulary.{all_ended, Arena, by, ended_in, ends, Entry, Kind, Op, started, state_of}
 use Rattle.gh_lists.specs.Beginning.{both}
 
 -- a state depends on its actor's own entries alone
@@ -13,33 +13,21 @@ state_by k a (e ∷ es) = go (e.actor == a) refl (state_by k a es) where
   go true x before = rw x (ap (λ m. k.takes (started k e.begun m) e.found) before)
   go false x before = before
 
-less_than : (n g : ℕ) → g < suc n → (n == g) ≡ false → g < n
-less_than n g below other = grind (arith, nat_tests)
-
 -- Ends among them.
 
 pub or_left : (b c : Bool) → b ≡ true → (b || c) ≡ true
 or_left b c x = ap (λ (y : Bool). y || c) x
 
 pub or_cases : (b c : Bool) → (b || c) ≡ true → (b ≡ true) ⊎ (c ≡ true)
-or_cases true c x = inl refl
-or_cases false c x = inr x
+or_cases b c x = grind arith
 
 -- an operation that ends a goroutine is its end
 pub began_end : (o : Option Op) (g : ℕ) → ends o g ≡ true → o ≡ Some (op.End g)
-began_end (Some (op.End h)) g x = let same : h ≡ g = grind (arith, nat_tests) in ap (λ (n : ℕ). Some (op.End n)) same
-began_end _ g x = absurd (cc)
+began_end o g x = grind arith
 
 -- each goroutine of the seat has ended
 pub all_ended_at : (z : Arena) (a : ℕ) (es : List (Entry Op)) (n g : ℕ) → g < n → (z.seat_of g == a) ≡ true → all_ended z a es n ≡ true → ended_in es g ≡ true
 all_ended_at z a es zero g below seat x = absurd (omega (arith, below))
 all_ended_at z a es (suc n) g below seat x = go (n == g) refl (λ less. all_ended_at z a es n g less seat (both (not (z.seat_of n == a) || ended_in es n) (all_ended z a es n) x).1) where
-  parts : ((not (z.seat_of n == a) || ended_in es n) ≡ true) × (all_ended z a es n ≡ true)
-  parts = both (not (z.seat_of n == a) || ended_in es n) (all_ended z a es n) x
-
   go : (b : Bool) → (n == g) ≡ b → (g < n → ended_in es g ≡ true) → ended_in es g ≡ true
-  go false y before = before (less_than n g below y)
-  go true y before =
-      let same : n ≡ g = grind (arith, nat_tests) in
-      let one = subst (λ (j : ℕ). (not (z.seat_of j == a) || ended_in es j) ≡ true) same parts.0 in
-      sym (ap (λ (b : Bool). not b || ended_in es g) seat) ∙ one
+  go b y before = grind arith

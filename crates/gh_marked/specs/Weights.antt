@@ -1,11 +1,11 @@
 -- How much is scanned so far in a cycle, at most: a word for each object that came into a buffer, the words of each black one, and a word for each scanned global. It only grows, and is no more than there is.
-use Rattle.std.proofs.Common.{◌≡◌, ◌≢◌, inl, inr, ℕ, zero, suc, ◌+◌, ◌*◌, ◌<◌, ◌≤◌, ◌==◌, Bool, true, false, cond, ltb, refl, ap, arith}
+use Rattle.std.proofs.Common.{◌≡◌, ◌≢◌, ℕ, zero, suc, ◌+◌, ◌*◌, ◌<◌, ◌≤◌, ◌==◌, Bool, true, false, ltb, refl, ap, arith}
 use Rattle.std.proofs.lemmas.Bool.Decides.{nat_tests}
 use Rattle.gh_base.specs.declared.cell.Ask.{Ask}
 use Rattle.gh_base.specs.declared.cell.Cell.{Cell}
 use Rattle.gh_base.specs.declared.layout.Layout.{Layout}
 use Rattle.gh_marks.specs.Colours.{Black, Buffered, Colour, Progress, Scanned, Shared, Taken}
-use Rattle.gh_lists.specs.Counts.{stored_after, stores_cell}
+use Rattle.gh_lists.specs.Counts.{stored_after}
 use Rattle.gh_marked.specs.Scanned.{most_scanned}
 use Rattle.gh_lists.specs.Wants.{total}
 use Rattle.gh_lists.specs.Sums.{total_below}
@@ -43,15 +43,7 @@ total_packed : (piece : ℕ → ℕ) (n most : ℕ) → ArePacked piece → ((o 
 total_packed piece zero most apart ends = omega arith
 total_packed piece (suc n) most apart ends = go (ltb 0 (piece n)) refl (total_packed piece n n apart) (total_packed piece n most apart) where
   go : (b : Bool) → ltb 0 (piece n) ≡ b → (((o : ℕ) → o < n → 0 < piece o → o + piece o ≤ n) → total piece n ≤ n) → (((o : ℕ) → o < n → 0 < piece o → o + piece o ≤ most) → total piece n ≤ most) → total piece (suc n) ≤ most
-  go true e below same =
-      let some : 0 < piece n = grind (arith, nat_tests, e) in
-      let rest = below (λ o lt x. apart o n lt x some) in
-      let last = ends n (omega arith) some in
-      omega (arith, rest, last)
-  go false e below same =
-      let none : piece n ≤ 0 = grind (arith, nat_tests, e) in
-      let rest = same (λ o lt x. ends o (omega (arith, lt)) x) in
-      omega (arith, rest, none)
+  go b e below same = grind arith
 
 -- Of one object, and of one global.
 
@@ -71,51 +63,19 @@ scanned_weight Scanned = 1
 scanned_weight _ = 0
 
 pub entered_high : (c : Colour) → 2 ≤ level c → entered c ≡ 1
-entered_high (Buffered b j) le = refl
-entered_high (Taken a) le = refl
-entered_high Black le = refl
-entered_high _ le = absurd (omega (arith, le))
+entered_high c le = grind arith
 
 pub black_last : (c : Colour) → 3 < level c → c ≡ Black
-black_last Black lt = refl
-black_last _ lt = absurd (omega (arith, lt))
+black_last c lt = grind arith
 
 scanned_last : (p : Progress) → 3 ≤ far p → scanned_weight p ≡ 1
-scanned_last Scanned le = refl
-scanned_last _ le = absurd (omega (arith, le))
-
-level_most : (c : Colour) → level c ≤ 4
-level_most Black = omega arith
-level_most _ = omega arith
-
-far_most : (p : Progress) → far p ≤ 3
-far_most Scanned = omega arith
-far_most _ = omega arith
-
-entered_rises : (c d : Colour) → IsNoEarlier level c d → entered c ≤ entered d
-entered_rises c d (inl e) = let same = ap entered e in omega (arith, same)
-entered_rises (Buffered b j) d (inr lt) = let one = entered_high d (omega (arith, lt)) in omega (arith, one)
-entered_rises (Taken a) d (inr lt) = let one = entered_high d (omega (arith, lt)) in omega (arith, one)
-entered_rises Black d (inr lt) = let one = entered_high d (omega (arith, lt)) in omega (arith, one)
-entered_rises _ d (inr lt) = omega arith
-
-whole_rises : (size then : ℕ) (c d : Colour) → IsNoEarlier level c d → (c ≡ Black → then ≡ size) → black_words size c ≤ black_words then d
-whole_rises size then Black d (inl e) same = let is = ap (black_words then) e in let stays = same refl in omega (arith, is, stays)
-whole_rises size then Black d (inr lt) same = absurd (let most = level_most d in omega (arith, lt, most))
-whole_rises size then _ d goes same = omega arith
-
-scanned_rises : (p q : Progress) → IsNoEarlier far p q → scanned_weight p ≤ scanned_weight q
-scanned_rises p q (inl e) = let same = ap scanned_weight e in omega (arith, same)
-scanned_rises Scanned q (inr lt) = absurd (let most = far_most q in omega (arith, lt, most))
-scanned_rises _ q (inr lt) = omega arith
+scanned_last p le = grind arith
 
 entered_one : (c : Colour) → entered c ≤ 1
-entered_one Black = omega arith
-entered_one _ = omega arith
+entered_one c = grind arith
 
 scanned_one : (p : Progress) → scanned_weight p ≤ 1
-scanned_one Scanned = omega arith
-scanned_one _ = omega arith
+scanned_one p = grind arith
 
 -- Of a state of marking.
 abbrev pub entry_at : Shared → (o : ℕ) → ℕ
@@ -142,13 +102,13 @@ module _ (l : Layout) where
 
   module _ (s t : Shared) (all : AllGoOn s t) where
     enter : (o : ℕ) → entry_at s o ≤ entry_at t o
-    enter o = entered_rises (s.colour o) (t.colour o) (all.colours o)
+    enter o = grind arith
 
     blacken : (o : ℕ) → words_at s o ≤ words_at t o
-    blacken o = whole_rises (s.extents.size o) (t.extents.size o) (s.colour o) (t.colour o) (all.colours o) (all.sizes o)
+    blacken o = grind arith
 
     scan : (i : ℕ) → scanned_at s i ≤ scanned_at t i
-    scan i = scanned_rises (s.progress i) (t.progress i) (all.globals i)
+    scan i = grind arith
 
     more_enter : total (entry_at s) words ≤ total (entry_at t) words
     more_enter = total_below (entry_at s) (entry_at t) words (λ o lt. enter o)
@@ -171,8 +131,7 @@ module _ (l : Layout) where
         omega (arith, x, y, w)
 
     not_black : (size : ℕ) (c : Colour) → level c ≡ 3 → black_words size c ≡ 0
-    not_black size Black is = absurd (omega (arith, is))
-    not_black size _ is = refl
+    not_black size c is = grind arith
 
     -- an object is black that was not
     pub by_object : (o : ℕ) → o < words → level (s.colour o) ≡ 3 → t.colour o ≡ Black → counted s + t.extents.size o ≤ counted t
@@ -185,8 +144,7 @@ module _ (l : Layout) where
         omega (arith, x, y, w)
 
     not_yet : (p : Progress) → far p < 3 → scanned_weight p ≡ 0
-    not_yet Scanned lt = absurd (omega (arith, lt))
-    not_yet _ lt = refl
+    not_yet p lt = grind arith
 
     -- a global is scanned that was not
     pub by_global : (i : ℕ) → i < l.globals → far (s.progress i) < 3 → 3 ≤ far (t.progress i) → counted s + 1 ≤ counted t
@@ -208,7 +166,4 @@ module _ (l : Layout) where
 
 -- no store is undone
 pub stored_rises : (c : Cell) (ask : Ask) (before : ℕ) → before ≤ stored_after c ask before
-stored_rises c ask before = go (stores_cell c ask) where
-  go : (b : Bool) → before ≤ cond b (suc before) before
-  go true = omega arith
-  go false = omega arith
+stored_rises c ask before = grind arith

@@ -1,28 +1,18 @@
 -- Bits of the rows once one of them is set, and what is said of marks then.
-use Rattle.std.proofs.Common.{◌≡◌, ◌≢◌, ℕ, Bool, true, false, refl, sym, ◌∙◌, arith, inl, inr}
+use Rattle.std.proofs.Common.{◌≡◌, ◌≢◌, ℕ, Bool, true, false, sym, ◌∙◌, arith, inl, inr}
 use Rattle.std.proofs.lemmas.Bool.Decides.{eqb_tells}
 use Rattle.gh_base.specs.Cells.{Words}
 use Rattle.gh_base.specs.Rows.{Row, RowsAreWritten, alloc_words, mark_words, row_bit}
 use Rattle.gh_heap.specs.Moves.{update}
-use Rattle.gh_marks.specs.Colours.{Black, Buffered, Colour, IsClean, IsMarked, Pending, Placing, Taken, White, mark_of}
+use Rattle.gh_marks.specs.Colours.{Colour, IsClean, IsMarked, White, mark_of}
 use Rattle.gh_marks.specs.Good.{MarksGood}
 use Rattle.gh_marks.specs.Moves.{set_alloc, set_mark}
-
-one-zero : {P : Type 0} {n : ℕ} → n ≡ 1 → n ≡ 0 → P
-one-zero e f = absurd (omega arith)
 
 pub two-ways : {P : Type 0} {b : Bool} → b ≡ true → b ≡ false → P
 two-ways e f = let clash : true ≡ false = sym e ∙ f in cc
 
 pub white-colour : (mark : Row) (colour : ℕ → Colour) → MarksGood mark colour → (o : ℕ) → row_bit mark o ≡ 0 → colour o ≡ White
-white-colour mark colour g o zero = go (colour o) refl (sym (g o) ∙ zero) where
-  go : (c : Colour) → colour o ≡ c → mark_of c ≡ 0 → colour o ≡ White
-  go White e f = e
-  go (Placing a) e f = one-zero refl f
-  go (Pending a) e f = one-zero refl f
-  go (Buffered b j) e f = one-zero refl f
-  go (Taken a) e f = one-zero refl f
-  go Black e f = one-zero refl f
+white-colour mark colour g o h = grind arith
 
 pub clean-grows : (m n : Row) (v : ℕ) → ((o : ℕ) → IsMarked m o → IsMarked n o) → IsClean m v → IsClean n v
 clean-grows m n v grow h o e = grow o (h o e)

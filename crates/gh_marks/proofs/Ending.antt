@@ -7,13 +7,13 @@ use Rattle.gh_base.specs.Cells.{seats_of}
 use Rattle.gh_base.specs.Holding.{holder_in}
 use Rattle.gh_base.specs.Packing.{bit, buffer_of}
 use Rattle.gh_base.specs.Rows.{RowsAreWritten, mark_words, row_bit}
-use Rattle.gh_marks.specs.Colours.{Black, Buffered, Claimed, Colour, Cycle, IsGrey, IsShaded, Pending, Placing, Progress, Read, Scanned, Shared, Taken, Untouched, White, mark_of}
+use Rattle.gh_marks.specs.Colours.{Black, Buffered, Claimed, Colour, Cycle, IsGrey, Pending, Placing, Progress, Read, Scanned, Shared, Taken, Untouched, White}
 use Rattle.gh_marks.specs.Ends.{IsFoundAtTheEnd}
 use Rattle.gh_marks.specs.Good.{Good, seats_among}
 use Rattle.gh_marks.specs.Laws.{EachMoveLeavesTheDead, TheCursorIsSmall, TheDeadAreWhite, WhatIsFoundIsDone}
 use Rattle.gh_marks.specs.Moves.{IsDead, May, Move, Place, Quiet, moved}
 use Rattle.gh_marks.specs.Seats.{ClaimOf, NoClaim, ReadOf}
-use Rattle.gh_marks.proofs.Bits.{alloc-other, two-ways}
+use Rattle.gh_marks.proofs.Bits.{alloc-other}
 use Rattle.gh_marks.proofs.Quiet.{ReadRows, Unread, unread}
 
 nobody : {P : Type 0} (o : ℕ) → None ≡ Some o → P
@@ -72,16 +72,8 @@ found-done z s g f = record {
 -- What is dead is not of the cycle, and nothing else is shaded.
 pub dead-white : TheDeadAreWhite
 dead-white z s g o h = go (s.colour o) refl where
-  clash : {P : Type 0} (c : Colour) → s.colour o ≡ c → IsShaded c → P
-  clash c e x = two-ways (g.objects.shaded o (rw e x)) h.dead
-
   go : (c : Colour) → s.colour o ≡ c → row_bit (mark_words s.words) o ≡ 0
-  go White e = g.marks o ∙ ap mark_of e
-  go (Placing a) e = absurd (g.objects.placing o a e h.placed)
-  go (Pending a) e = clash (Pending a) e tt
-  go (Buffered b j) e = clash (Buffered b j) e tt
-  go (Taken a) e = clash (Taken a) e tt
-  go Black e = clash Black e tt
+  go c e = grind arith
 
 module _ (k : RowsAreWritten) (z : Cycle) (a : ℕ) (s : Shared) (g : Good z s) (o : ℕ) (h : IsDead s o) where
   dead-place : (p size : ℕ) (pointer : ℕ → Bool) (noscan : Bool) (f d : ℕ) → May z a s (Place p size pointer noscan f d) → IsDead (moved z a s (Place p size pointer noscan f d)) o

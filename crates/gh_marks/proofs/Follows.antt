@@ -1,11 +1,10 @@
 -- What a seat has in hand after its own move.
-use Rattle.std.proofs.Common.{◌≡◌, ◌≢◌, ℕ, ◌+◌, ◌-◌, ◌*◌, ◌/◌, arith, refl, sym, ◌∙◌, ap, inl, inr, subst, Option, Some, None}
-use Rattle.std.specs.Prelude.{◌↔◌}
-use Rattle.std.proofs.lemmas.Bool.Decides.{nat_tests, eqb_tells}
+use Rattle.std.proofs.Common.{◌≡◌, ◌≢◌, ℕ, ◌+◌, ◌-◌, arith, sym, subst, Some, None}
+use Rattle.std.proofs.lemmas.Bool.Decides.{nat_tests}
 use Rattle.gh_base.specs.declared.cell.Ask.{Ask}
 use Rattle.gh_base.specs.declared.cell.Cell.TheVariants as cell
 use Rattle.gh_base.specs.declared.held.Held.{Held}
-use Rattle.gh_base.specs.Holding.{HoldsBuffer, IsIt, KnowsCount, holder_in}
+use Rattle.gh_base.specs.Holding.{HoldsBuffer}
 use Rattle.gh_base.specs.Rows.{Row, mark_words}
 use Rattle.gh_heap.specs.Moves.{update}
 use Rattle.gh_marks.specs.Colours.{Black, Buffered, Claimed, Colour, Cycle, Pending, Placing, Read, Scanned, Shared, Taken, White, buffers_as_held, entry_words}
@@ -19,18 +18,7 @@ use Rattle.gh_marks.proofs.Quiet.{ReadRows, Unread, unread}
 module _ (z : Cycle) (a : ℕ) (s : Shared) (h : InHand) (g : Good z s) (x : Hands a s h) where
   -- what is said of colours and globals
   has-white : (o : ℕ) → s.colour o ≡ White → (c : Colour) → c ≢ Pending a → c ≢ Taken a → c ≢ Placing a → Has (update s.colour o c) s.progress a h.pending h.scanning h.placing h.claim
-  has-white o white c p t r = record {
-    is_pending = λ q. one q (Pending a) (h.pending ≡ Some q) (λ e. cc) p (x.has.is_pending q);
-    is_taken = λ q. one q (Taken a) (h.scanning ≡ Some q) (λ e. cc) t (x.has.is_taken q);
-    is_reserved = λ q. one q (Placing a) (h.placing ≡ Some q) (λ e. cc) r (x.has.is_reserved q);
-    is_claimed = x.has.is_claimed;
-    is_read = x.has.is_read;
-  } where
-    one : (q : ℕ) (d : Colour) (P : Type 0) → White ≢ d → c ≢ d → (P ↔ (s.colour q ≡ d)) → (P ↔ (update s.colour o c q ≡ d))
-    one q d P ne other is = elim (eqb_tells o q) [
-      | inr n ↦ rw (n.0) is
-      | inl y ↦ rw (y.0) ((λ k. absurd (ne (sym white ∙ (ap s.colour y.1 ∙ is.0 k)))), (λ k. absurd (other k)))
-    ]
+  has-white o white c p t r = grind (arith, nat_tests)
 
   has-shade : (o : ℕ) → s.colour o ≡ White → h.pending ≡ None → Has (update s.colour o (Pending a)) s.progress a (Some o) h.scanning h.placing h.claim
   has-shade o white none = record {
@@ -125,42 +113,17 @@ module _ (z : Cycle) (a : ℕ) (s : Shared) (h : InHand) (g : Good z s) (x : Han
       let u : Unread s (moved z a s (Quiet step)).words = unread s step may in
       subst (λ (r : ReadRows). HoldsBuffer (record { words = r.buffer; entries = r.entry; filled = s.filled }) a h.held) (sym u.rows_are) x.holds
 
-  only-one : (own : Held) → h.held ≡ Some own → (b : ℕ) → (holder_in (s.words (cell.Buffer b)) ≡ a + 1) ↔ (own.index ≡ b)
-  only-one own e b = subst (λ (held : Option Held). (holder_in (s.words (cell.Buffer b)) ≡ a + 1) ↔ IsIt held b) e (x.holds.only b)
-
-  count-is : (own : Held) → h.held ≡ Some own → s.filled own.index ≡ own.count
-  count-is own e = subst (λ (held : Option Held). KnowsCount s.filled held) e x.holds.count
-
   holds-take : (b : ℕ) → May z a s (TakeBuffer b) → h.held ≡ None → HoldsBuffer (buffers_as_held (moved z a s (TakeBuffer b)).words s.filled) a (Some (record { index = b; count = s.filled b }))
-  holds-take b may none = record { only = only; count = refl } where
-    nobody : (d : ℕ) → holder_in (s.words (cell.Buffer d)) ≡ a + 1 → ⊥
-    nobody d e = subst (λ (held : Option Held). IsIt held d) none ((x.holds.only d).0 e)
-
-    is : (s.filled b + 256 * (a + 1)) / 256 ≡ a + 1
-    is = omega (arith, g.counts.few b)
-
-    only : (d : ℕ) → (holder_in ((moved z a s (TakeBuffer b)).words (cell.Buffer d)) ≡ a + 1) ↔ (b ≡ d)
-    only d = elim (eqb_tells b d) [
-      | inl y ↦ rw (y.0) ((λ e. y.1), (λ e. is))
-      | inr n ↦ rw (n.0) ((λ e. absurd (nobody d e)), (λ e. absurd (n.1 e)))
-    ]
+  holds-take b may none = grind arith
 
   holds-give : (own : Held) → h.held ≡ Some own → HoldsBuffer (buffers_as_held (moved z a s (GiveBuffer own.index)).words s.filled) a None
-  holds-give own e = record { only = only; count = tt } where
-    none : s.filled own.index / 256 ≡ a + 1 → ⊥
-    none k = omega (arith, k, g.counts.few own.index)
-
-    only : (d : ℕ) → (holder_in ((moved z a s (GiveBuffer own.index)).words (cell.Buffer d)) ≡ a + 1) ↔ ⊥
-    only d = elim (eqb_tells own.index d) [
-      | inl y ↦ rw (y.0) ((λ k. none k), (λ k. absurd k))
-      | inr n ↦ rw (n.0) ((λ k. n.1 ((only-one own e d).0 k)), (λ k. absurd k))
-    ]
+  holds-give own e = grind arith
 
   holds-enter : (own : Held) (entry : ℕ → Row) → h.held ≡ Some own → HoldsBuffer (record { words = (buffers_as_held s.words s.filled).words; entries = entry; filled = update s.filled own.index (s.filled own.index + 1) }) a (Some (record { index = own.index; count = own.count + 1 }))
-  holds-enter own entry e = record { only = only-one own e; count = grind (arith, nat_tests, count-is own e) }
+  holds-enter own entry e = grind arith
 
   holds-less : (own : Held) → h.held ≡ Some own → HoldsBuffer (buffers_as_held s.words (update s.filled own.index (s.filled own.index - 1))) a (Some (record { index = own.index; count = own.count - 1 }))
-  holds-less own e = record { only = only-one own e; count = grind (arith, nat_tests, count-is own e) }
+  holds-less own e = grind arith
 
 pub hands-follow : EachHandFollows
 hands-follow z a s h g x = record {

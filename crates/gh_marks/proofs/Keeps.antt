@@ -1,5 +1,5 @@
 -- What each move does to a group: to the objects, to the entries of buffers, to the globals, to values and to the stacks.
-use Rattle.std.proofs.Common.{◌≡◌, ◌≢◌, ℕ, Bool, true, false, ap, ◌∙◌, inl, inr, subst}
+use Rattle.std.proofs.Common.{◌≡◌, ◌≢◌, ℕ, Bool, true, false, ap, ◌∙◌, inl, inr, arith}
 use Rattle.std.proofs.lemmas.Bool.Decides.{eqb_tells}
 use Rattle.gh_base.specs.declared.pack.TheConstants.{END}
 use Rattle.gh_base.specs.Rows.{Row, row_bit}
@@ -20,7 +20,7 @@ objects-coloured alloc colour since e o c a b d g = record {
 
 -- that of a shaded object of the cycle
 pub objects-shaded : (alloc : Row) (colour : ℕ → Colour) (since : ℕ → Bool) (e : Extents) (o : ℕ) (c : Colour) → since o ≡ true → IsShaded c → (IsGrey c → e.noscan o ≡ false) → ObjectsGood alloc colour since e → ObjectsGood alloc (update colour o c) since e
-objects-shaded alloc colour since e o c known h b g = objects-coloured alloc colour since e o c (λ x. known) b (λ a same. absurd (subst IsShaded same h)) g
+objects-shaded alloc colour since e o c known h b g = grind (arith, objects-coloured)
 
 -- the entries, where an object moves that is in no buffer, and will be in none
 pub entries-apart : (entries : ℕ → Row) (filled : Row) (colour : ℕ → Colour) (o : ℕ) (c : Colour) → ((b j : ℕ) → colour o ≢ Buffered b j) → ((b j : ℕ) → c ≢ Buffered b j) → EntriesGood entries filled colour → EntriesGood entries filled (update colour o c)

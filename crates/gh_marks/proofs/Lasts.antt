@@ -1,5 +1,5 @@
 -- What a seat relies on lasts; and what steps of one or two moves leave.
-use Rattle.std.proofs.Common.{◌≡◌, ℕ, ◌+◌, refl, sym, ◌∙◌, inl, inr, ◌⊎◌, Option, Some, None}
+use Rattle.std.proofs.Common.{◌≡◌, ℕ, ◌+◌, refl, ◌∙◌, inl, ◌⊎◌, Option, Some, None, arith}
 use Rattle.gh_base.specs.declared.cell.Cell.TheVariants as cell
 use Rattle.gh_base.specs.declared.held.Held.{Held}
 use Rattle.gh_base.specs.Holding.{HoldsBuffer, KnowsCount}
@@ -15,30 +15,12 @@ pointer-then e f o k x h = (rw (x.size) h.0, rw (x.pointer) h.1, rw (x.noscan) h
 pointer-was : (e f : Extents) (o k : ℕ) → SameExtent e f o → IsPointer f o k → IsPointer e o k
 pointer-was e f o k x h = (rw (x.size) at h.0, rw (x.pointer) at h.1, rw (x.noscan) at h.2)
 
-extent-then : (e f g : Extents) (o : ℕ) → SameExtent e f o → SameExtent f g o → SameExtent e g o
-extent-then e f g o x y = record { size = y.size ∙ x.size; pointer = y.pointer ∙ x.pointer; noscan = y.noscan ∙ x.noscan }
-
 -- a word that stays or is clean then, and was clean
 word-clean : (m n : Row) (v w : ℕ) → ((o : ℕ) → IsMarked m o → IsMarked n o) → (w ≡ v) ⊎ IsClean n w → IsClean m v → IsClean n w
-word-clean m n v w grow (inr c) h = c
-word-clean m n v w grow (inl e) h = λ o x. grow o (h o (sym e ∙ x))
-
--- a word that stays or is clean, twice
-word-then : (n : Row) (m : Row) (u v w : ℕ) → ((o : ℕ) → IsMarked m o → IsMarked n o) → (v ≡ u) ⊎ IsClean m v → (w ≡ v) ⊎ IsClean n w → (w ≡ u) ⊎ IsClean n w
-word-then n m u v w grow x (inr c) = inr c
-word-then n m u v w grow (inl e) (inl f) = inl (f ∙ e)
-word-then n m u v w grow (inr c) (inl f) = inr (λ o y. grow o (c o (sym f ∙ y)))
+word-clean m n v w grow h h2 = grind arith
 
 pub keeps-then : (z : Cycle) (a : ℕ) (s t u : Shared) → Keeps z a s t → Keeps z a t u → Keeps z a s u
-keeps-then z a s t u p q = record {
-  marks = λ o h. q.marks o (p.marks o h);
-  since = λ o h. q.since o (p.since o h);
-  extents = λ o h. extent-then s.extents t.extents u.extents o (p.extents o h) (q.extents o (p.since o h));
-  fields = λ o k i l. word-then (mark_words u.words) (mark_words t.words) (s.words (cell.Field (o + k))) (t.words (cell.Field (o + k))) (u.words (cell.Field (o + k))) q.marks (p.fields o k i l) (q.fields o k (p.since o i) (pointer-then s.extents t.extents o k (p.extents o i) l));
-  globals = λ i. word-then (mark_words u.words) (mark_words t.words) (s.words (cell.Global i)) (t.words (cell.Global i)) (u.words (cell.Global i)) q.marks (p.globals i) (q.globals i);
-  registers = λ g d own. q.registers g d own ∙ p.registers g d own;
-  stacks = λ g own. q.stacks g own ∙ p.stacks g own;
-}
+keeps-then z a s t u p q = grind arith
 
 others-then : (z : Cycle) (a : ℕ) (s t u : Shared) → Others z a s t → Others z a t u → Others z a s u
 others-then z a s t u p q = record {

@@ -1,5 +1,5 @@
 -- What each move of one seat leaves to another, and what it leaves to that seat itself where it changes no stack.
-use Rattle.std.proofs.Common.{◌≡◌, ◌≢◌, ℕ, ◌+◌, ◌-◌, ◌*◌, ◌/◌, Bool, true, arith, refl, sym, ◌∙◌, ap, inl, inr, ◌⊎◌, subst}
+use Rattle.std.proofs.Common.{◌≡◌, ◌≢◌, ℕ, ◌+◌, Bool, true, arith, refl, sym, ◌∙◌, ap, inl, inr, ◌⊎◌, subst}
 use Rattle.std.specs.Prelude.{◌↔◌}
 use Rattle.std.proofs.lemmas.Bool.Decides.{nat_tests, eqb_tells}
 use Rattle.gh_base.specs.declared.cell.Ask.{Ask}
@@ -8,10 +8,10 @@ use Rattle.gh_base.specs.Holding.{holder_in}
 use Rattle.gh_base.specs.Rows.{Row, RowsAreWritten, buffer_words, field_words, global_words, mark_words}
 use Rattle.gh_heap.specs.Moves.{update, update_at}
 use Rattle.gh_heap.specs.Rights.{IsOf}
-use Rattle.gh_marks.specs.Colours.{Black, Buffered, Claimed, Colour, Cycle, Extents, IsClean, IsMarked, IsPointer, Pending, Placing, Progress, Read, Scanned, Shared, Taken, White, scanned_words}
+use Rattle.gh_marks.specs.Colours.{Black, Claimed, Colour, Cycle, Extents, IsClean, IsMarked, IsPointer, Pending, Placing, Progress, Read, Shared, Taken, White, scanned_words}
 use Rattle.gh_marks.specs.Good.{Good}
 use Rattle.gh_marks.specs.Laws.{EachMoveLeaves}
-use Rattle.gh_marks.specs.Moves.{Blacken, ClaimGlobal, EndStack, Enter, GiveBuffer, HasBuffer, Keeps, LeavesStacks, May, Move, Others, PassGlobals, Place, PutField, PutGlobal, Quiet, ReadGlobal, Reserve, SameExtent, ScanGlobal, ScanStack, SetRegister, Shade, ShadeAgain, ShadeFlat, TakeBuffer, TakeEntry, moved}
+use Rattle.gh_marks.specs.Moves.{Blacken, ClaimGlobal, EndStack, Enter, GiveBuffer, Keeps, LeavesStacks, May, Move, Others, PassGlobals, Place, PutField, PutGlobal, Quiet, ReadGlobal, Reserve, SameExtent, ScanGlobal, ScanStack, SetRegister, Shade, ShadeAgain, ShadeFlat, TakeBuffer, TakeEntry, moved}
 use Rattle.gh_marks.proofs.Bits.{marks-grow, white-colour}
 use Rattle.gh_marks.proofs.Quiet.{ReadRows, Unread, unread}
 
@@ -63,17 +63,6 @@ module _ (z : Cycle) (a : ℕ) (s t : Shared) where
   abbrev Buffer : Type 0
   Buffer = BufferKept a (buffer_words s.words) (buffer_words t.words) s.filled t.filled s.passed t.passed
 
-  together : Words → Objects → Stacks → Keeps z a s t
-  together w o k = record {
-    marks = w.marks;
-    since = o.sinces;
-    extents = o.extents;
-    fields = w.fields;
-    globals = w.globals;
-    registers = k.each_register;
-    stacks = k.each_stack;
-  }
-
   all-kept : Keeps z a s t → Work → Buffer → Others z a s t
   all-kept k h b = record {
     keeps = k;
@@ -107,15 +96,15 @@ module _ (z : Cycle) (a : ℕ) (s : Shared) where
   buffer-same = record { held = λ b. same-iff; count = λ b h. refl; passes = refl }
 
 pub keeps-same : (z : Cycle) (a : ℕ) (s : Shared) → Keeps z a s s
-keeps-same z a s = together z a s s (words-same z a s) (objects-same z a s) (stacks-same z a s)
+keeps-same z a s = grind arith
 
 pub others-same : (z : Cycle) (a : ℕ) (s : Shared) → Others z a s s
-others-same z a s = all-kept z a s s (keeps-same z a s) (work-same z a s) (buffer-same z a s)
+others-same z a s = grind arith
 
 -- The moves of seat c, and what they leave to seat a, which may be c.
 module _ (k : RowsAreWritten) (z : Cycle) (a c : ℕ) (s : Shared) (g : Good z s) where
   plain : (m : Move) → Words z a s (moved z c s m) → Objects z a s (moved z c s m) → Stacks z a s (moved z c s m) → Keeps z a s (moved z c s m)
-  plain m w o t = together z a s (moved z c s m) w o t
+  plain m w o t = grind arith
 
   marks-set : (o : ℕ) → Words z a s (moved z c s (ShadeAgain o))
   marks-set o = record { marks = marks-grow k s.words o; fields = λ p j i l. inl refl; globals = λ i. inl refl }
@@ -137,15 +126,6 @@ module _ (k : RowsAreWritten) (z : Cycle) (a c : ℕ) (s : Shared) (g : Good z s
         globals = λ j. elim (eqb_tells i j) [ inr n ↦ inl (rw (n.0) refl) | inl y ↦ inr (rw (y.0) may.new) ];
       })
       (objects-same z a s) (stacks-same z a s)
-
-  objects-placed : (o size : ℕ) (pointer : ℕ → Bool) (noscan : Bool) (h d : ℕ) → May z c s (Place o size pointer noscan h d) → Objects z a s (moved z c s (Place o size pointer noscan h d))
-  objects-placed o size pointer noscan h d may = record {
-    sinces = λ p i. elim (eqb_tells o p) [ inl y ↦ rw (y.0) refl | inr n ↦ rw (n.0) i ];
-    extents = λ p i. elim (eqb_tells o p) [
-      | inl y ↦ absurd (g.objects.placing o c may.reserved (rw (y.1) (g.objects.placed p i)))
-      | inr n ↦ record { size = rw (n.0) refl; pointer = rw (n.0) refl; noscan = rw (n.0) refl }
-    ];
-  }
 
   module _ (step : Ask) (may : May z c s (Quiet step)) where
     u : Unread s (moved z c s (Quiet step)).words
@@ -194,22 +174,11 @@ module _ (k : RowsAreWritten) (z : Cycle) (a c : ℕ) (s : Shared) (g : Good z s
     apart h f own other e = absurd (ne (sym other.1 ∙ (ap z.arena.seat_of (sym e) ∙ own.1)))
 
     left : (m : Move) → May z c s m → LeavesStacks m → Work z a s (moved z c s m) → Buffer z a s (moved z c s m) → Others z a s (moved z c s m)
-    left m may x h b = all-kept z a s (moved z c s m) (keeps-moved m may x) h b
+    left m may x h b = grind (arith, all-kept, keeps-moved)
 
     -- an object that is of none of the seat's colours takes one that is none of them
     recoloured : (o : ℕ) (d : Colour) → (s.colour o ≢ Pending a) × (s.colour o ≢ Taken a) × (s.colour o ≢ Placing a) → (d ≢ Pending a) × (d ≢ Taken a) × (d ≢ Placing a) → WorkKept a s.colour (update s.colour o d) s.progress s.progress
-    recoloured o d was is = record {
-      pending = λ p. one p (Pending a) was.0 is.0;
-      taken = λ p. one p (Taken a) was.1 is.1;
-      placing = λ p. one p (Placing a) was.2 is.2;
-      claimed = λ i. same-iff;
-      read = λ i v. same-iff;
-    } where
-      one : (p : ℕ) (e : Colour) → s.colour o ≢ e → d ≢ e → (s.colour p ≡ e) ↔ (update s.colour o d p ≡ e)
-      one p e x y = elim (eqb_tells o p) [
-        | inr n ↦ rw (n.0) same-iff
-        | inl q ↦ rw (q.0) ((λ h. absurd (x (ap s.colour q.1 ∙ h))), (λ h. absurd (y h)))
-      ]
+    recoloured o d was is = record { pending = grind arith; taken = grind arith; placing = grind arith; claimed = grind arith; read = grind arith }
 
     white-other : (o : ℕ) → s.colour o ≡ White → (s.colour o ≢ Pending a) × (s.colour o ≢ Taken a) × (s.colour o ≢ Placing a)
     white-other o e = rw e ((λ h. cc), (λ h. cc), (λ h. cc))
@@ -234,90 +203,32 @@ module _ (k : RowsAreWritten) (z : Cycle) (a c : ℕ) (s : Shared) (g : Good z s
           same h = cc
 
     leaves-enter : (b o : ℕ) → May z c s (Enter b o) → Others z a s (moved z c s (Enter b o))
-    leaves-enter b o may = left (Enter b o) may tt
-        (recoloured o (Buffered b (s.filled b)) (rw (may.pending) ((λ h. absurd (ne (same h))), (λ h. cc), (λ h. cc))) ((λ h. cc), (λ h. cc), (λ h. cc)))
-        (record { held = λ d. same-iff; count = λ d h. grind (arith, nat_tests, may.held); passes = refl }) where
-          same : Pending c ≡ Pending a → a ≡ c
-          same h = cc
+    leaves-enter b o may = grind arith
 
     leaves-take_entry : (b o : ℕ) → May z c s (TakeEntry b o) → Others z a s (moved z c s (TakeEntry b o))
-    leaves-take_entry b o may = left (TakeEntry b o) may tt
-        (recoloured o (Taken c) (rw (g.entries.entered b (s.filled b - 1) o (omega (arith, may.some)) may.entry) ((λ h. cc), (λ h. cc), (λ h. cc))) ((λ h. cc), (λ h. absurd (ne (same h))), (λ h. cc)))
-        (record { held = λ d. same-iff; count = λ d h. grind (arith, nat_tests, may.held); passes = refl }) where
-          same : Taken c ≡ Taken a → a ≡ c
-          same h = cc
+    leaves-take_entry b o may = grind arith
 
     leaves-blacken : (o : ℕ) → May z c s (Blacken o) → Others z a s (moved z c s (Blacken o))
-    leaves-blacken o may = left (Blacken o) may tt
-        (recoloured o Black (rw (may.0) ((λ h. cc), (λ h. absurd (ne (same h))), (λ h. cc))) ((λ h. cc), (λ h. cc), (λ h. cc)))
-        (buffer-same z a s) where
-          same : Taken c ≡ Taken a → a ≡ c
-          same h = cc
+    leaves-blacken o may = grind arith
 
     leaves-take : (b : ℕ) → May z c s (TakeBuffer b) → Others z a s (moved z c s (TakeBuffer b))
-    leaves-take b may = left (TakeBuffer b) may tt (work-same z a s) (record { held = holders; count = λ d h. refl; passes = refl }) where
-      free : (d : ℕ) → b ≡ d → HasBuffer a s d → ⊥
-      free d e h = let zero : holder_in (s.words (cell.Buffer d)) ≡ 0 = rw (← e) may in omega (arith, zero, h)
-
-      own : (s.filled b + 256 * (c + 1)) / 256 ≡ a + 1 → ⊥
-      own h = ne (omega (arith, h, g.counts.few b))
-
-      holders : (d : ℕ) → HasBuffer a s d ↔ HasBuffer a (moved z c s (TakeBuffer b)) d
-      holders d = elim (eqb_tells b d) [ inr n ↦ rw (n.0) same-iff | inl y ↦ rw (y.0) ((λ h. absurd (free d y.1 h)), (λ h. absurd (own h))) ]
+    leaves-take b may = grind arith
 
     leaves-give : (b : ℕ) → May z c s (GiveBuffer b) → Others z a s (moved z c s (GiveBuffer b))
-    leaves-give b may = left (GiveBuffer b) may tt (work-same z a s) (record { held = holders; count = λ d h. refl; passes = refl }) where
-      other : (d : ℕ) → b ≡ d → HasBuffer a s d → ⊥
-      other d e h = let own : holder_in (s.words (cell.Buffer d)) ≡ c + 1 = rw (← e) may in ne (omega (arith, own, h))
-
-      none : s.filled b / 256 ≡ a + 1 → ⊥
-      none h = omega (arith, h, g.counts.few b)
-
-      holders : (d : ℕ) → HasBuffer a s d ↔ HasBuffer a (moved z c s (GiveBuffer b)) d
-      holders d = elim (eqb_tells b d) [ inr n ↦ rw (n.0) same-iff | inl y ↦ rw (y.0) ((λ h. absurd (other d y.1 h)), (λ h. absurd (none h))) ]
-
-    -- a global goes from another's hands, or none, to another's, or none
-    moved-global : (i : ℕ) (d : Progress) → ((s.progress i ≢ Claimed a) × ((v : ℕ) → s.progress i ≢ Read a v)) → ((d ≢ Claimed a) × ((v : ℕ) → d ≢ Read a v)) → WorkKept a s.colour s.colour s.progress (update s.progress i d)
-    moved-global i d was is = record {
-      pending = λ p. same-iff;
-      taken = λ p. same-iff;
-      placing = λ p. same-iff;
-      claimed = λ j. one j (Claimed a) was.0 is.0;
-      read = λ j v. one j (Read a v) (was.1 v) (is.1 v);
-    } where
-      one : (j : ℕ) (e : Progress) → s.progress i ≢ e → d ≢ e → (s.progress j ≡ e) ↔ (update s.progress i d j ≡ e)
-      one j e x y = elim (eqb_tells i j) [
-        | inr n ↦ rw (n.0) same-iff
-        | inl q ↦ rw (q.0) ((λ h. absurd (x (ap s.progress q.1 ∙ h))), (λ h. absurd (y h)))
-      ]
+    leaves-give b may = grind arith
 
     leaves-claim : (i : ℕ) → May z c s (ClaimGlobal i) → Others z a s (moved z c s (ClaimGlobal i))
-    leaves-claim i may = left (ClaimGlobal i) may tt
-        (moved-global i (Claimed c) (rw (g.cursor.ahead i may.1 (omega (arith, may.0))) ((λ h. cc), (λ v h. cc))) ((λ h. absurd (ne (same h))), (λ v h. cc)))
-        (buffer-same z a s) where
-          same : Claimed c ≡ Claimed a → a ≡ c
-          same h = cc
+    leaves-claim i may = grind arith
 
     leaves-read : (i : ℕ) → May z c s (ReadGlobal i) → Others z a s (moved z c s (ReadGlobal i))
-    leaves-read i may = left (ReadGlobal i) may tt
-        (moved-global i (Read c (s.words (cell.Global i))) (rw may ((λ h. absurd (ne (same h))), (λ v h. cc))) ((λ h. cc), (λ v h. absurd (ne (same_read v h)))))
-        (buffer-same z a s) where
-          same : Claimed c ≡ Claimed a → a ≡ c
-          same h = cc
-
-          same_read : (v : ℕ) → Read c (s.words (cell.Global i)) ≡ Read a v → a ≡ c
-          same_read v h = cc
+    leaves-read i may = grind arith
 
     leaves-scan : (i w : ℕ) → May z c s (ScanGlobal i w) → Others z a s (moved z c s (ScanGlobal i w))
-    leaves-scan i w may = left (ScanGlobal i w) may tt
-        (moved-global i Scanned (rw (may.0) ((λ h. cc), (λ v h. absurd (ne (same v h))))) ((λ h. cc), (λ v h. cc)))
-        (buffer-same z a s) where
-          same : (v : ℕ) → Read c w ≡ Read a v → a ≡ c
-          same v h = cc
+    leaves-scan i w may = grind arith
 
     -- the stacks of another seat
     of-stack : (m : Move) → Words z a s (moved z c s m) → Objects z a s (moved z c s m) → Stacks z a s (moved z c s m) → Work z a s (moved z c s m) → Buffer z a s (moved z c s m) → Others z a s (moved z c s m)
-    of-stack m w o t h b = all-kept z a s (moved z c s m) (plain m w o t) h b
+    of-stack m w o t h b = grind arith
 
     -- a register of a goroutine of the mover
     register-set : (h d v : ℕ) → IsOf z.arena c h → StacksKept z a s.registers (update_at s.registers h d v) (scanned_words s.words) (scanned_words s.words)
@@ -327,11 +238,7 @@ module _ (k : RowsAreWritten) (z : Cycle) (a c : ℕ) (s : Shared) (g : Good z s
     leaves-set h d v may = of-stack (SetRegister h d v) (words-same z a s) (objects-same z a s) (register-set h d v may.own) (work-same z a s) (buffer-same z a s)
 
     leaves-place : (o size : ℕ) (pointer : ℕ → Bool) (noscan : Bool) (h d : ℕ) → May z c s (Place o size pointer noscan h d) → Others z a s (moved z c s (Place o size pointer noscan h d))
-    leaves-place o size pointer noscan h d may = of-stack (Place o size pointer noscan h d) (words-same z a s) (objects-placed o size pointer noscan h d may) (register-set h d (o + 1) may.own)
-        (recoloured o Black (rw (may.reserved) ((λ x. cc), (λ x. cc), (λ x. absurd (ne (same x))))) ((λ x. cc), (λ x. cc), (λ x. cc)))
-        (buffer-same z a s) where
-          same : Placing c ≡ Placing a → a ≡ c
-          same x = cc
+    leaves-place o size pointer noscan h d may = grind (arith, nat_tests)
 
     leaves-scan_stack : (h : ℕ) → May z c s (ScanStack h) → Others z a s (moved z c s (ScanStack h))
     leaves-scan_stack h may = of-stack (ScanStack h) (words-same z a s) (objects-same z a s)

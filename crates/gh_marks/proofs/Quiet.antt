@@ -1,7 +1,6 @@
 -- A quiet step changes no row that marking reads.
-use Rattle.std.proofs.Common.{◌≡◌, ℕ, ◌+◌, ◌%◌, ◌^◌, Bool, true, false, cond, eqb, refl, inl, inr}
+use Rattle.std.proofs.Common.{◌≡◌, ℕ, ◌+◌, ◌%◌, ◌^◌, Bool, true, false, cond, eqb, refl, arith}
 use Rattle.std.specs.Prelude.{bit_or, bit_and}
-use Rattle.std.proofs.lemmas.Bool.Decides.{eqb_tells}
 use Rattle.gh_base.specs.declared.cell.Ask.{Ask}
 use Rattle.gh_base.specs.declared.cell.Ask.TheVariants as ask
 use Rattle.gh_base.specs.declared.cell.Cell.{Cell}
@@ -32,26 +31,8 @@ pub record Unread (s : Shared) (w : Words) : Type 0 where
 same : (s : Shared) → Unread s s.words
 same s = record { rows_are = refl; fields = λ o k i l. refl }
 
-put-field : (s : Shared) (x v : ℕ) → IsAside s (cell.Field x) → Unread s (put s.words (cell.Field x) v)
-put-field s x v q = record {
-  rows_are = refl;
-  fields = λ o k i l. elim (eqb_tells x (o + k)) [ inl y ↦ absurd (q o k i l y.1) | inr n ↦ rw (n.0) refl ];
-}
-
 put-aside : (s : Shared) (c : Cell) (v : ℕ) → IsAside s c → Unread s (put s.words c v)
-put-aside s cell.Gcur v q = absurd q
-put-aside s (cell.Page i) v q = record { rows_are = refl; fields = λ o k i l. refl }
-put-aside s (cell.Alloc i) v q = absurd q
-put-aside s (cell.Mark i) v q = absurd q
-put-aside s (cell.Bitmap i) v q = record { rows_are = refl; fields = λ o k i l. refl }
-put-aside s (cell.Birth i) v q = record { rows_are = refl; fields = λ o k i l. refl }
-put-aside s (cell.Field x) v q = put-field s x v q
-put-aside s (cell.Global i) v q = absurd q
-put-aside s (cell.Buffer b) v q = absurd q
-put-aside s (cell.Entry b j) v q = absurd q
-put-aside s (cell.Ack i) v q = record { rows_are = refl; fields = λ o k i l. refl }
-put-aside s (cell.Scanned g) v q = absurd q
-put-aside s _ v q = record { rows_are = refl; fields = λ o k i l. refl }
+put-aside s c v q = grind arith
 
 pub unread : (s : Shared) (step : Ask) → IsQuietInMarking s step → Unread s (effect s.words step)
 unread s (ask.Load c) q = same s

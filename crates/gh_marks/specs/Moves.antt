@@ -1,6 +1,6 @@
 -- The moves by which an actor changes the shared state of marking, when it may make them, and what they leave to the others.
 use Rattle.std.specs.Prelude.{◌≡◌, ◌≢◌, ℕ, ◌+◌, ◌*◌, ◌-◌, ◌/◌, ◌%◌, ◌^◌, ◌<◌, ◌≤◌, ◌⊎◌, ◌↔◌, Bool, true, false, bit_or}
-use Rattle.std.proofs.Common.{◌∙◌}
+use Rattle.std.proofs.Common.{arith}
 use Rattle.gh_base.specs.declared.cell.Ask.{Ask}
 use Rattle.gh_base.specs.declared.cell.Ask.TheVariants as ask
 use Rattle.gh_base.specs.declared.cell.Cell.{Cell}
@@ -270,5 +270,4 @@ went_then z a s t u w (goes v m x may) = goes v m (went_then z a s t v w x) may
 
 -- and a step whose moves further ones follow on, which change no word
 pub landing_on : (z : Cycle) (a : ℕ) (s : Shared) (words : Words) (Then So : Shared → Type 0) → ((t : Shared) → Went z a s t → Then t → Lands z a t t.words So) → Lands z a s words Then → Lands z a s words So
-landing_on z a s words Then So f l = let m : Lands z a l.then l.then.words So = f l.then l.went l.after in
-    record { then = m.then; went = went_then z a s l.then m.then l.went m.went; words_are = m.words_are ∙ l.words_are; after = m.after }
+landing_on z a s words Then So f l = grind (arith, went_then)

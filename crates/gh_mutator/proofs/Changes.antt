@@ -1,10 +1,9 @@
 -- Changes of the processor's state keep what it knows of it.
-use Rattle.std.proofs.Common.{◌≡◌, ℕ, ◌+◌, ◌*◌, ◌/◌, true, false, List, [], get_or, refl, ◌∙◌, ap, sym, subst, Option, Some, None, arith}
+use Rattle.std.proofs.Common.{◌≡◌, ℕ, ◌/◌, List, [], get_or, refl, ◌∙◌, sym, subst, Option, Some, None, arith}
 use Rattle.std.proofs.Math.ListN.{set}
 use Rattle.std.proofs.lemmas.List.{length-set}
 use Rattle.gh_mutator.specs.Vocabulary.{Layout, Shape, Value, SpanClass, span_index, CachedSpan, Sought, IsCached, Polling, Processor, Step, Then, GoesOn, Ends, Task, Idle}
 use Rattle.gh_base.specs.declared.value.Value.TheVariants as value
-use Rattle.gh_base.specs.Packing.{bit}
 use Rattle.gh_alloc.specs.declared.sought.Sought.TheVariants.{Small, Large}
 use Rattle.gh_mutator.specs.Cached.{SoundCached}
 use Rattle.gh_mutator.specs.GiveSound.{FitsCache}
@@ -58,14 +57,10 @@ module _ (shapes : List Shape) where
 
 -- the cached span of a span class is this now
 half : (c : SpanClass) (i : ℕ) → span_index c ≡ i → c.class ≡ i / 2
-half c i e = by c.noscan ∙ ap (λ x. x / 2) e where
-  by : (noscan : _) → c.class ≡ (2 * c.class + bit noscan) / 2
-  by true = omega arith
-  by false = omega arith
+half c i e = grind arith
 
 fits_small : (l : Layout) (c : SpanClass) (cached : Option CachedSpan) → IsCached l (Small c) cached → SoundCached l.pages c.class cached
-fits_small l c None h = tt
-fits_small l c (Some x) h = (h.pages, h.cursor)
+fits_small l c cached h = grind arith
 
 pub cached_fits : (l : Layout) (cache : List (Option CachedSpan)) (x : Sought) (c : Option CachedSpan) → FitsCache l cache → IsCached l x c → FitsCache l (cache_with cache x c)
 cached_fits l cache (Large pages noscan) c fits h i = fits i

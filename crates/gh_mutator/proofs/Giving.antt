@@ -1,8 +1,8 @@
 -- What the giving back leaves, step by step.
-use Rattle.std.proofs.Common.{◌≡◌, ℕ, ◌+◌, ◌/◌, Bool, true, false, cond, eqb, drop, Option, Some, None, refl, sym, subst}
+use Rattle.std.proofs.Common.{◌≡◌, ℕ, ◌+◌, ◌/◌, Bool, true, false, cond, eqb, drop, Option, None, refl, sym, subst, arith}
 use Rattle.gh_wbuf.specs.BufferGiving as buffer
 use Rattle.gh_mutator.specs.declared.give.GiveStage.TheVariants.{Lock, GiveSpan, Unlock, GiveBuffer, Ended}
-use Rattle.gh_mutator.specs.Give.{after_buffer, at_stage, Giving, giving_buffer, goes, goes_at, is_busy, none_cached, stage_from}
+use Rattle.gh_mutator.specs.Give.{after_buffer, at_stage, Giving, giving_buffer, goes, goes_at, none_cached, stage_from}
 use Rattle.gh_mutator.specs.GiveSound.{FitsCache}
 use Rattle.gh_mutator.specs.Cached.{SoundCached}
 use Rattle.gh_mutator.specs.Giving.{buffer_fine, FineAt, first_fine}
@@ -19,8 +19,7 @@ lock_fine g true = first_fine (at_stage g (stage_from g.cache 0)) 0 (drop 0 g.ca
 lock_fine g false = tt
 
 after_fine : (g : Giving) (b : buffer.BufferGiving) (out : Option (Unit {0})) → g.cache ≡ none_cached → FineAt (after_buffer g b out) (after_buffer g b out).stage
-after_fine g b None e = e
-after_fine g b (Some x) e = (e, refl)
+after_fine g b out e = grind arith
 
 fine_at : (g : Giving) (stage : GiveStage) (w : ℕ) → FineAt g stage → FineAt (goes_at g stage w) (goes_at g stage w).stage
 fine_at g Lock w k = lock_fine g (eqb w 0)
@@ -30,14 +29,4 @@ fine_at g (GiveBuffer b) w k = after_fine g (buffer.goes b w) (buffer.gives b w)
 fine_at g Ended w k = k
 
 pub goes_fine : (g : Giving) (w : ℕ) → FineAt g g.stage → FineAt (goes g w) (goes g w).stage
-goes_fine g w k = fine_at g g.stage w k
-
-done_at : (g : Giving) (stage : GiveStage) → FineAt g stage → is_busy stage ≡ false → (g.cache ≡ none_cached) × (g.held ≡ None)
-done_at g Ended k e = k
-done_at g Lock k e = absurd (cc)
-done_at g (GiveSpan i s) k e = absurd (cc)
-done_at g Unlock k e = absurd (cc)
-done_at g (GiveBuffer b) k e = absurd (cc)
-
-pub fine_done : (g : Giving) → FineAt g g.stage → is_busy g.stage ≡ false → (g.cache ≡ none_cached) × (g.held ≡ None)
-fine_done g k e = done_at g g.stage k e
+goes_fine g w k = grind (arith, fine_at)

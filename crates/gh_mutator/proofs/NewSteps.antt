@@ -1,14 +1,10 @@
 -- Own steps of a new object: the search for its slot, the wait for a cycle, and the making of it.
-use Rattle.std.proofs.Common.{◌≡◌, ℕ, ◌+◌, ◌*◌, ◌%◌, ◌^◌, ◌<◌, ◌≤◌, Bool, true, false, cond, ltb, IsTrue, List, get_or, refl, sym, ◌∙◌, ap, subst, Option, Some, None, is_none, arith}
+use Rattle.std.proofs.Common.{◌≡◌, ℕ, ◌+◌, ◌*◌, ◌<◌, ◌≤◌, Bool, true, false, cond, IsTrue, List, get_or, refl, sym, ◌∙◌, ap, subst, Option, Some, None, is_none, arith}
 use Rattle.std.proofs.lemmas.List.{set-get_or}
 use Rattle.gh_base.specs.Reading.{set_twice}
 use Rattle.gh_base.specs.declared.value.Value.TheVariants as value
 use Rattle.gh_class.specs.Classes.{span_index}
-use Rattle.gh_cache.specs.Listing as slots
-use Rattle.gh_alloc.specs.declared.find.FindStage.TheVariants as finding
-use Rattle.gh_alloc.specs.declared.place.PlaceStage.TheVariants as making
 use Rattle.gh_alloc.specs.Stays.{stays}
-use Rattle.gh_alloc.specs.Find as find
 use Rattle.gh_alloc.specs.Place as place
 use Rattle.gh_alloc.specs.Search as search
 use Rattle.gh_assist.specs.Listing as assist
@@ -16,59 +12,34 @@ use Rattle.gh_assist.specs.Stays as assists_stay
 use Rattle.gh_mutator.specs.declared.task.Task.TheVariants as task
 use Rattle.gh_mutator.specs.declared.new.New.{New}
 use Rattle.gh_mutator.specs.Local.{cache_with, cached_in, marking_at}
-use Rattle.gh_mutator.specs.New.{after_found, is_made, made_task, made_then, placing, searches, seeking, takes_at, waits, wants, with_payment}
+use Rattle.gh_mutator.specs.New.{after_found, is_made, made_task, made_then, placing, searches, seeking, takes_at, waits, wants}
 use Rattle.gh_mutator.specs.NewParts.{made_at, MakingFits}
 use Rattle.gh_mutator.specs.Poll.{Polling}
-use Rattle.gh_mutator.specs.Processor.{cached_for, made_by, set_register}
+use Rattle.gh_mutator.specs.Processor.{made_by, set_register}
 use Rattle.gh_mutator.specs.Sound.{most_objects, Sound, SoundSearch, SoundTask, SoundWanted}
 use Rattle.gh_mutator.specs.Stays.{search_wants, wait_stacks, wait_stays}
 use Rattle.gh_mutator.specs.Wait as wait
-use Rattle.gh_mutator.proofs.Vocabulary.{after_assist, Assist, Assisting, assisting, assists, Name, after_search, after_wait, At, at_poll, at_task, cache_span, CachedSpan, FitsWait, Found, Large, Layout, made_object, makes, NewStage, NoRoom, Place, PlaceStage, Placing, Processor, read_after_set, Search, Seeking, set, Shape, slots_of, Small, Sought, takes, takes_at as takes_by, Task, Wait, Waiting, Want, Wanted}
+use Rattle.gh_mutator.proofs.Vocabulary.{after_assist, Assist, Assisting, assisting, assists, Name, after_search, after_wait, At, at_poll, at_task, cache_span, CachedSpan, FitsWait, Found, Large, Layout, made_object, makes, NewStage, NoRoom, Place, PlaceStage, Placing, Processor, read_after_set, Search, Seeking, set, Shape, Small, Sought, takes, takes_at as takes_by, Task, Wait, Waiting, Want, Wanted}
 use Rattle.gh_mutator.proofs.Changes.{moved, polled, taken}
 use Rattle.gh_mutator.proofs.Waits.{wait_fits}
 
 -- What the search keeps, and where the making of an object goes.
 
--- behind the counting it is made
-counted_made : (p : Placing) (found : ℕ) → is_made (place.counted p found) ≡ true
-counted_made p found = by p.marking where
-  by : (marking : Bool) → is_made (cond marking (making.Ended false) (making.LoadTrigger ((found + 8 * p.slot) % 2 ^ 64))) ≡ true
-  by true = refl
-  by false = refl
-
 -- an object that is not made yet was not made before
 unmade_before : (p : Placing) (q : PlaceStage) (found : ℕ) → is_made (place.goes_at p q found) ≡ false → is_made q ≡ false
-unmade_before p (making.Give g) found e = absurd (cc)
-unmade_before p making.Count found e = absurd (let made = counted_made p found in cc)
-unmade_before p (making.LoadTrigger bytes) found e = absurd (cc)
-unmade_before p (making.Ended wants) found e = absurd (cc)
-unmade_before p _ found e = refl
+unmade_before p q found e = grind arith
 
 acts_unmade : (q : PlaceStage) → place.makes_its_object_at q ≡ true → is_made q ≡ false
-acts_unmade making.Alloc e = refl
-acts_unmade _ e = absurd (cc)
+acts_unmade q e = grind arith
 
 made_after : (p : Placing) (q : PlaceStage) (found : ℕ) → place.makes_its_object_at q ≡ true → is_made (place.goes_at p q found) ≡ true
-made_after p making.Alloc found e = by p.span where
-  by : (s : Option _) → is_made (place.made p s) ≡ true
-  by None = refl
-  by (Some h) = refl
-made_after p _ found e = absurd (cc)
+made_after p q found e = grind arith
 
 -- ---- its numbers stay in their ranges
 
 -- the search begins busy
 pub search_begins : (m : Processor) (w : Wanted) → search.is_busy (seeking m w).find (seeking m w).stage ≡ true
-search_begins m w = by w.sought (cached_for m w.sought) where
-  more : (b : Bool) (c : _) → find.is_busy (cond b (finding.Slots (slots.opening m.poll.layout c)) finding.Lock) ≡ true
-  more true c = refl
-  more false c = refl
-
-  by : (x : Sought) (c : Option CachedSpan) → find.is_busy (find.begin m.poll.layout x c) ≡ true
-  by (Small c) (Some k) = more (ltb k.cursor (slots_of c.class)) _
-  by (Small c) None = refl
-  by (Large pages noscan) (Some k) = refl
-  by (Large pages noscan) None = refl
+search_begins m w = grind arith
 
 -- it begins with the span that is cached for what is sought, and a span that is cached anew is cached
 search_caches : (cache : List (Option CachedSpan)) (x : Sought) → cache_with cache x (cached_in cache x) ≡ cache
@@ -80,7 +51,7 @@ caches_on cache (Small k) c = set_twice cache (span_index k) c c
 caches_on cache (Large pages noscan) c = refl
 
 search_sound : (m : Processor) (w : Wanted) → SoundSearch m.poll w (seeking m w)
-search_sound m w = record { busy = search_begins m w; layout = refl; wanted = refl; cached = search_caches m.poll.local.cache w.sought }
+search_sound m w = grind (arith, search_begins, search_caches)
 
 module _ (shapes : List Shape) where
   -- the cached span has changed, and the task is not looked at
@@ -94,8 +65,7 @@ module _ (shapes : List Shape) where
   found_on n w false NoRoom s wanted name = moved shapes (at_task n task.Idle) (waits w (wait.opening n.poll)) s (wanted, record { busy = refl; polls = tt }, name)
 
   search_on : (n : Processor) (w : Wanted) (waited : Bool) (x : Seeking) (out : Option Found) → Sound shapes (at_task n task.Idle) → SoundWanted shapes w → made_by n w.g < most_objects → x.find.layout ≡ n.poll.layout → x.find.wanted ≡ w.sought → cache_with n.poll.local.cache w.sought x.find.cached ≡ n.poll.local.cache → (out ≡ None → search.is_busy x.find x.stage ≡ true) → Sound shapes (after_search shapes n w waited x out)
-  search_on n w waited x None s wanted name layout wants cached busy = moved shapes (at_task n task.Idle) (searches w waited x) s (wanted, record { busy = busy refl; layout = layout; wanted = wants; cached = cached }, name)
-  search_on n w waited x (Some out) s wanted name layout wants cached busy = found_on n w waited out s wanted name
+  search_on n w waited x out s wanted name layout wants cached busy = grind (arith, found_on)
 
   -- one object more
   counts : (m : Processor) (g i : ℕ) → Sound shapes m → made_by m g < most_objects → get_or (set m.made g (made_by m g + 1)) i 0 ≤ most_objects
@@ -108,8 +78,7 @@ module _ (shapes : List Shape) where
 
   -- the assist behind it is of this heap
   then_sound : (p q : Polling) (made : List ℕ) (w : Wanted) (n : Name) → p.layout ≡ q.layout → SoundWanted shapes w → (marking : Bool) → SoundTask shapes q made (cond marking (assists w n (assisting p w)) task.Idle)
-  then_sound p q made w n same wanted true = (wanted, record { busy = refl; layout = same }, tt)
-  then_sound p q made w n same wanted false = tt
+  then_sound p q made w n same wanted marking = grind arith
 
   place_on : (m : Processor) (w : Wanted) (made : Bool) (asks : Option Bool) (a : ℕ) (p : Placing) → Sound shapes m → SoundWanted shapes w → p.layout ≡ m.poll.layout → (made ≡ true → a + 1 ≤ 1024 * m.poll.layout.pages) → place.given p ≡ asks → (made ≡ true → made_by m w.g < most_objects) → (made ≡ true → is_made p.stage ≡ true) → (made ≡ false → is_made p.stage ≡ false → made_by m w.g < most_objects) →
       Sound shapes (at_task (cond made (made_object m w a) m) (made_task m.poll w p asks))
@@ -122,8 +91,7 @@ module _ (shapes : List Shape) where
 
   -- the object's first heap word is asked for where it is made alone
   at_within : (l : Layout) (acts : Bool) (a : ℕ) → MakingFits l (cond acts (Some a) None) → acts ≡ true → a + 1 ≤ 1024 * l.pages
-  at_within l true a h e = h
-  at_within l false a h e = absurd (cc)
+  at_within l acts a h e = grind arith
 
   -- after a step of the wait
   wait_on : (m : Processor) (w : Wanted) (x : Waiting) (out : Option (Unit {0})) → Sound shapes m → SoundWanted shapes w → made_by m w.g < most_objects → x.poll.layout ≡ m.poll.layout → x.poll.local.stacks ≡ m.poll.local.stacks → (out ≡ None → FitsWait x.poll x.wait) → Sound shapes (after_wait m w x out)
@@ -132,8 +100,7 @@ module _ (shapes : List Shape) where
 
   -- after a step of the assist
   assist_on : (m : Processor) (w : Wanted) (n : Name) (x : Assisting) (out : Option (Unit {0})) → Sound shapes m → SoundWanted shapes w → x.layout ≡ m.poll.layout → assist.given x ≡ out → Sound shapes (after_assist m w n x out)
-  assist_on m w n x None s wanted layout e = moved shapes m (assists w n x) s (wanted, record { busy = ap is_none e; layout = layout }, tt)
-  assist_on m w n x (Some y) s wanted layout e = polled shapes m (with_payment m.poll x) task.Idle s refl refl tt
+  assist_on m w n x out s wanted layout e = grind arith
 
   -- the step at this stage; it makes the object in the arena
   pub new_sound : (m : Processor) (w : Wanted) (x : NewStage) (found : ℕ) → Sound shapes m → SoundTask shapes m.poll m.made (task.New (record { wanted = w; stage = x })) → ((p : Placing) → x ≡ Place p → MakingFits p.layout (made_at p)) → Sound shapes (takes_at shapes m w x found)
@@ -150,9 +117,7 @@ module _ (shapes : List Shape) where
   new_sound m w (Assist n x) found s here fits = assist_on m w n (assist.goes x found) (assist.gives x found) s here.0 (assists_stay.stays x found ∙ here.1.layout) refl
 
   pub take_sound : (m : Processor) (n : New) (found : ℕ) (next : Processor) → Sound shapes m → m.task ≡ task.New n → ((p : Placing) → n.stage ≡ Place p → MakingFits p.layout (made_at p)) → next ≡ takes shapes m found → Sound shapes next
-  take_sound m n found next s at fits goes =
-      subst (λ (x : Processor). Sound shapes x) (sym (goes ∙ ap (λ (t : Task). takes_by shapes m t found) at))
-      (new_sound m n.wanted n.stage found s (subst (λ (t : Task). SoundTask shapes m.poll m.made t) at s.task) fits)
+  take_sound m n found next s at fits goes = grind (arith, new_sound)
 
   -- Where the search goes on with the span that it has cached, nothing else changes.
   pub searches_on : (m : Processor) (w : Wanted) (waited : Bool) (x : Seeking) (found : ℕ) → Sound shapes m → m.task ≡ searches w waited x → search.gives x found ≡ None → (search.goes x found).find.cached ≡ x.find.cached → at_task m (searches w waited (search.goes x found)) ≡ takes shapes m found

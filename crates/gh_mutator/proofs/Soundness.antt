@@ -1,12 +1,8 @@
 -- Each step, and each beginning, keeps what the processor knows of its own state, whatever was found.
-use Rattle.std.proofs.Common.{◌≡◌, ℕ, zero, suc, ◌≤◌, ◌⊎◌, inl, inr, false, List, [], get_or, replicate, refl, sym, ap, ◌∙◌, subst, Option, Some, None, arith}
-use Rattle.std.specs.Prelude.{is_none}
-use Rattle.gh_mutator.specs.Vocabulary.{Global, GlobalStage, Polling, Register, Source, Store, StoreStage}
+use Rattle.std.proofs.Common.{◌≡◌, ℕ, zero, suc, ◌≤◌, ◌⊎◌, inl, inr, false, List, [], get_or, replicate, refl, sym, ◌∙◌, subst, Option, None, arith}
+use Rattle.gh_mutator.specs.Vocabulary.{Global, GlobalStage, Polling, Register, Store, StoreStage}
 use Rattle.gh_base.specs.declared.value.Value.TheVariants as value
 use Rattle.gh_base.specs.declared.held.Held.{Held}
-use Rattle.gh_mutator.specs.declared.global.GlobalStage.TheVariants as global_stage
-use Rattle.gh_mutator.specs.declared.store.StoreStage.TheVariants as store_stage
-use Rattle.gh_mutator.specs.declared.register.Source.TheVariants as source
 use Rattle.gh_mutator.specs.declared.task.Task.TheVariants as task
 use Rattle.gh_mutator.specs.Barrier.{with_held}
 use Rattle.gh_mutator.specs.Global as global_listing
@@ -22,7 +18,7 @@ use Rattle.gh_mutator.specs.Stays.{leave_stays, poll_stacks, poll_stays, wait_st
 use Rattle.gh_mutator.specs.Store as store_listing
 use Rattle.gh_mutator.specs.Wait as wait
 use Rattle.gh_mutator.proofs.Vocabulary.{after_gc, after_leave, after_poll, FitsWait, Layout, Leaving, Processor, read_replicate, register_of, Shape, takes, takes_at, Task, Value, Waiting, with_ended}
-use Rattle.gh_mutator.proofs.Changes.{applied_sound, moved, polled, SameBuffer}
+use Rattle.gh_mutator.proofs.Changes.{applied_sound, polled, SameBuffer}
 use Rattle.gh_mutator.proofs.ClassFacts.{ClassLaws}
 use Rattle.gh_mutator.proofs.GlobalSteps as global
 use Rattle.gh_mutator.proofs.LoadSteps as load
@@ -42,27 +38,18 @@ nil_first pages g d = by (get_or (replicate 32 (replicate 16 value.Nil)) g []) (
   by row (inl e) = rw e (subst (IsNear pages) (sym (read_replicate 16 d value.Nil)) tt)
   by row (inr e) = rw e tt
 
--- a value that a register takes
-register_near : (pages : ℕ) (held : Value) (s : Source) → IsNear pages held → IsNear pages (value_of_source held s)
-register_near pages held (source.Int n) near = tt
-register_near pages held (source.Move s) near = near
-register_near pages held source.Nil near = tt
-
 register_sound : (pages : ℕ) (held : Value) (x : Register) → IsNear pages held → StepSound SoundRegister pages (step held x)
-register_sound pages held x near = record { next = tt; sets = register_near pages held x.source near }
+register_sound pages held x near = grind arith
 
 -- once a routine has ended or not
 gc_sound : (shapes : List Shape) (m : Processor) (g : ℕ) (x : Waiting) (out : Option (Unit {0})) → Sound shapes m → x.poll.layout ≡ m.poll.layout → x.poll.local.stacks ≡ m.poll.local.stacks → (out ≡ None → FitsWait x.poll x.wait) → Sound shapes (after_gc m g x out)
-gc_sound shapes m g x None s layout stacks fits = polled shapes m x.poll (task.Gc g x.wait) s layout stacks (fits refl)
-gc_sound shapes m g x (Some y) s layout stacks fits = polled shapes m x.poll task.Idle s layout stacks tt
+gc_sound shapes m g x out s layout stacks fits = grind arith
 
 poll_sound : (shapes : List Shape) (m : Processor) (p : Polling) (out : Option (Unit {0})) → Sound shapes m → p.layout ≡ m.poll.layout → p.local.stacks ≡ m.poll.local.stacks → poll.given p.stage ≡ out → Sound shapes (after_poll m p out)
-poll_sound shapes m p None s layout stacks e = polled shapes m p task.Poll s layout stacks (ap is_none e)
-poll_sound shapes m p (Some y) s layout stacks e = polled shapes m p task.Idle s layout stacks tt
+poll_sound shapes m p out s layout stacks e = grind arith
 
 leave_sound : (shapes : List Shape) (m : Processor) (x : Leaving) (out : Option (Unit {0})) → Sound shapes m → x.layout ≡ m.poll.layout → leave.given x.stage ≡ out → Sound shapes (after_leave m x out)
-leave_sound shapes m x None s layout e = moved shapes m (task.Leave x) s (record { busy = ap is_none e; layout = layout })
-leave_sound shapes m x (Some y) s layout e = moved shapes m task.Left s tt
+leave_sound shapes m x out s layout e = grind arith
 
 module _ (shapes : List Shape) where
   -- with another buffer
@@ -70,18 +57,10 @@ module _ (shapes : List Shape) where
   kept m held s = record { registers = s.registers; few = s.few; task = tt }
 
   same_store : (p q : Polling) (s : StoreStage) → p.layout ≡ q.layout → SameBuffer p q → StoreRoom q s → StoreRoom p s
-  same_store p q store_stage.Page layout same h = rw (same.view, same.held) h
-  same_store p q store_stage.Bits layout same h = rw (same.view, same.held) h
-  same_store p q store_stage.Field layout same h = tt
-  same_store p q (store_stage.Writing w) layout same h = rw layout h
-  same_store p q store_stage.NilBase layout same h = tt
+  same_store p q s layout same h = grind arith
 
   same_global : (p q : Polling) (s : GlobalStage) → p.layout ≡ q.layout → GlobalRoom q s → GlobalRoom p s
-  same_global p q global_stage.Load layout h = tt
-  same_global p q (global_stage.Birth at) layout h = tt
-  same_global p q global_stage.Store layout h = tt
-  same_global p q (global_stage.Writing w) layout h = rw layout h
-  same_global p q global_stage.Number layout h = tt
+  same_global p q s layout h = grind arith
 
   store_at : ClassLaws → (m : Processor) (x : Store) (found : ℕ) → Sound shapes m → SoundStore m.poll.layout.pages x → StoreRoom m.poll x.stage → Sound shapes (takes_at shapes m (task.Store x) found)
   store_at laws m x found s h room =
@@ -127,7 +106,7 @@ module _ (shapes : List Shape) where
   set_sound m p x s idle is = rw is (subst (λ (t : Task). Sound shapes (record { poll = with_register_value m.poll x.g x.d (value_of_source (register_of m x.g (read_of x)) x.source); made = m.made; task = t })) (sym idle) (set_at m x s))
 
   plain_sound : ClassLaws → (m : Processor) (found : ℕ) → is_making m.task ≡ false → Sound shapes m → Sound shapes (takes shapes m found)
-  plain_sound laws m found plain s = plain_at laws m m.task found plain s s.task
+  plain_sound laws m found plain s = grind (arith, plain_at)
 
   -- so what the code goes to
   pub plain_next : ClassLaws → (m : Processor) (found : ℕ) (next : Processor) → is_making m.task ≡ false → Sound shapes m → next ≡ takes shapes m found → Sound shapes next

@@ -1,10 +1,9 @@
 -- The scan of a stack goes on until its step.
-use Rattle.std.proofs.Common.{◌≡◌, ℕ, ◌+◌, true, List, [], ◌∷◌, drop, Some, None, refl}
+use Rattle.std.proofs.Common.{◌≡◌, ℕ, ◌+◌, true, List, [], ◌∷◌, Some, None, refl, arith}
 use Rattle.gh_base.specs.declared.layout.Layout.{Layout}
 use Rattle.gh_base.specs.declared.value.Value.{Value}
 use Rattle.gh_base.specs.declared.value.Value.TheVariants as value
 use Rattle.gh_stack.specs.declared.scan_stack.StackStage.{StackStage}
-use Rattle.gh_stack.specs.declared.scan_stack.StackStage.TheVariants.{Shade, Store, Ended}
 use Rattle.gh_stack.specs.Listing.{after_shade, first_reference, is_busy, is_waiting, opening, StackScan, told_shaded, wish_of}
 use Rattle.gh_mutator.specs.MarkStack.{goes_on}
 
@@ -15,22 +14,16 @@ first_going i (value.Nil ∷ values) = first_going (i + 1) values
 first_going i (value.Int n ∷ values) = first_going (i + 1) values
 
 pub begins_going : (l : Layout) (goroutine cycle : ℕ) (registers : List Value) → goes_on (opening l goroutine cycle registers).stage ≡ true
-begins_going l goroutine cycle registers = first_going 0 (drop 0 registers)
+begins_going l goroutine cycle registers = grind (arith, first_going)
 
 told_at : (registers : List Value) (stage : StackStage) → is_waiting stage ≡ true → goes_on (after_shade registers stage) ≡ true
-told_at registers (Shade i r) e = first_going (i + 1) (drop (i + 1) registers)
-told_at registers Store e = absurd (cc)
-told_at registers Ended e = absurd (cc)
+told_at registers stage e = grind (arith, first_going)
 
 pub told_going : (s : StackScan) → is_waiting s.stage ≡ true → goes_on (told_shaded s).stage ≡ true
-told_going s e = told_at s.registers s.stage e
+told_going s e = grind (arith, told_at)
 
 pub stores_then : (stage : StackStage) → goes_on stage ≡ true → wish_of stage ≡ None → is_busy stage ≡ true
-stores_then (Shade i r) e f = absurd (cc)
-stores_then Store e f = refl
-stores_then Ended e f = absurd (cc)
+stores_then stage e f = grind arith
 
 pub waits_then : (stage : StackStage) (r : ℕ) → wish_of stage ≡ Some r → is_waiting stage ≡ true
-waits_then (Shade i x) r f = refl
-waits_then Store r f = absurd (cc)
-waits_then Ended r f = absurd (cc)
+waits_then stage r f = grind arith

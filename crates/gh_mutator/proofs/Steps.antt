@@ -1,5 +1,5 @@
 -- What is known of each statement's step, read off it.
-use Rattle.std.proofs.Common.{◌≡◌, ℕ, ◌+◌, ◌≤◌, Bool, true, Option, Some, None}
+use Rattle.std.proofs.Common.{◌≡◌, ℕ, ◌+◌, ◌≤◌, Bool, true, Option, Some, None, arith}
 use Rattle.gh_base.specs.declared.value.Answer.TheVariants.{Fault}
 use Rattle.gh_base.specs.declared.value.Fault.{Fault as Cause}
 use Rattle.gh_base.specs.declared.value.Value.{Value}
@@ -21,8 +21,7 @@ module _ {S : Type 0} where
   GoesTo P (Ends a) = Unit {0}
 
   pub goes_both : (P Q : S → Type 0) (t : Then S) → GoesTo P t → GoesTo Q t → GoesTo (λ (s : S). P s × Q s) t
-  goes_both P Q (GoesOn s) p q = (p, q)
-  goes_both P Q (Ends a) p q = tt
+  goes_both P Q t p q = grind arith
 
   -- the numbers of the statement stay in their ranges, and so do those of the register
   pub record StepSound (P : S → Type 0) (pages : ℕ) (step : Step S) : Type 0 where

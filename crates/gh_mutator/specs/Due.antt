@@ -1,7 +1,6 @@
 -- Which stack is due: one of the processor's, whose goroutine has not ended, and which was not scanned in the cycle.
-use Rattle.std.proofs.Common.{◌≡◌, ◌≢◌, ℕ, zero, suc, ◌+◌, ◌%◌, ◌<◌, Bool, true, false, cond, not, eqb, ltb, ◌&&◌, List, [], ◌∷◌, drop, Some, None, refl, sym, ap, subst, ◌∙◌}
+use Rattle.std.proofs.Common.{◌≡◌, ◌≢◌, ℕ, zero, suc, ◌+◌, ◌%◌, ◌<◌, Bool, true, false, cond, eqb, List, [], ◌∷◌, drop, Some, None, refl, sym, ap, subst, ◌∙◌, arith}
 use Rattle.std.specs.Prelude.{slice_index}
-use Rattle.std.proofs.lemmas.Bool.{eqb-false, eqb-true, ltb-true, not-true}
 use Rattle.std.proofs.lemmas.List.{drop-drop}
 use Rattle.gh_base.specs.declared.layout.Layout.{Layout}
 use Rattle.gh_base.specs.declared.pack.TheConstants.{END}
@@ -23,16 +22,6 @@ index_is (suc i) (x ∷ xs) v vs e = index_is i xs v vs e
 drop_next : (i : ℕ) (xs : List ℕ) (v : ℕ) (vs : List ℕ) → drop i xs ≡ v ∷ vs → drop (i + 1) xs ≡ vs
 drop_next i xs v vs e = sym (drop-drop 1 i xs) ∙ ap (drop 1) e
 
-and_four : (a b c d : Bool) → (a && b && c && d) ≡ true → (a ≡ true) × (b ≡ true) × (c ≡ true) × (d ≡ true)
-and_four true true true true e = (refl, refl, refl, refl)
-and_four false b c d e = absurd (cc)
-and_four true false c d e = absurd (cc)
-and_four true true false d e = absurd (cc)
-and_four true true true false e = absurd (cc)
-
-not_equal : (a b : ℕ) → not (eqb a b) ≡ true → a ≢ b
-not_equal a b e = eqb-false a b (not-true (eqb a b) e)
-
 module _ (l : Layout) (seat : ℕ) (waits : Bool) (local : Local) where
   abbrev ended : Polling
   ended = record { layout = l; seat = seat; waits = waits; local = local; stage = Ended }
@@ -40,14 +29,7 @@ module _ (l : Layout) (seat : ℕ) (waits : Bool) (local : Local) where
   pub due_scans : (g : ℕ) → due ended ≡ Some g → IsUnscanned l seat local g
   due_scans g e = by (eqb (local.polls % 4) 0) e where
     wants : (i : ℕ) → is_due l seat local.view.begun i (slice_index local.scanned i) ≡ true → IsUnscanned l seat local i
-    wants i e =
-        let all = and_four (ltb i l.goroutines) (eqb (i % l.procs) seat) (not (eqb (slice_index local.scanned i) END)) (not (eqb (slice_index local.scanned i) local.view.begun)) e in
-        record {
-          there = ltb-true i l.goroutines all.0;
-          own = eqb-true (i % l.procs) seat all.1;
-          going = not_equal (slice_index local.scanned i) END all.2;
-          unscanned = not_equal (slice_index local.scanned i) local.view.begun all.3;
-        }
+    wants i e = grind arith
 
     first_is : (i : ℕ) (others : List ℕ) → drop i local.scanned ≡ others → first_due l seat local.view.begun i others ≡ Some g → IsUnscanned l seat local g
     first_is i [] d e = absurd (cc)

@@ -1,8 +1,8 @@
 -- The giving back begins so that nothing is left once it has ended.
-use Rattle.std.proofs.Common.{◌≡◌, ℕ, ◌+◌, List, [], ◌∷◌, length, replicate, Option, Some, None, refl, ap, ◌∙◌}
+use Rattle.std.proofs.Common.{◌≡◌, ℕ, ◌+◌, List, [], ◌∷◌, length, replicate, Option, Some, None, refl, ap, arith}
 use Rattle.gh_class.specs.declared.class.TheConstants.{SPAN_CLASSES}
-use Rattle.gh_mutator.specs.declared.give.GiveStage.TheVariants.{Lock, GiveSpan, Unlock, GiveBuffer, Ended}
-use Rattle.gh_mutator.specs.Give.{begins, first_cached, Giving, giving_buffer, none_cached, opening}
+use Rattle.gh_mutator.specs.declared.give.GiveStage.TheVariants.{Unlock, GiveBuffer, Ended}
+use Rattle.gh_mutator.specs.Give.{first_cached, Giving, giving_buffer, none_cached, opening}
 use Rattle.gh_mutator.specs.MarkVocabulary.{CachedSpan, GiveStage, Held, Layout}
 
 abbrev no_span : Option CachedSpan
@@ -21,8 +21,7 @@ FineAt g Ended = (g.cache ≡ none_cached) × (g.held ≡ None)
 FineAt g _ = Unit {0}
 
 pub buffer_fine : (g : Giving) (held : Option Held) → g.held ≡ held → g.cache ≡ none_cached → FineAt g (giving_buffer g.layout held)
-buffer_fine g None e none = (none, e)
-buffer_fine g (Some h) e none = none
+buffer_fine g held e none = grind arith
 
 pub first_fine : (g : Giving) (i : ℕ) (spans : List (Option CachedSpan)) → FineAt g (first_cached i spans)
 first_fine g i [] = tt
@@ -31,10 +30,4 @@ first_fine g i (None ∷ spans) = first_fine g (i + 1) spans
 
 pub opening_fine : (l : Layout) (seat generation : ℕ) (cache : List (Option CachedSpan)) (held : Option Held) → length cache ≡ SPAN_CLASSES →
     FineAt (opening l seat generation cache held) (opening l seat generation cache held).stage
-opening_fine l seat generation cache held room = by (first_cached 0 cache) refl where
-  by : (stage : GiveStage) → first_cached 0 cache ≡ stage → FineAt (opening l seat generation cache held) (begins l held stage)
-  by Unlock e = buffer_fine (opening l seat generation cache held) held refl (none_left 0 cache e ∙ ap (λ (n : ℕ). replicate n no_span) room)
-  by Lock e = tt
-  by (GiveSpan i s) e = tt
-  by (GiveBuffer b) e = tt
-  by Ended e = tt
+opening_fine l seat generation cache held room = grind (arith, buffer_fine, none_left)

@@ -109,7 +109,12 @@ takes_at shapes m (task.Leave x) found = after_leave m (leave.goes x found) (lea
 abbrev pub takes : List Shape → Processor → (found : ℕ) → Processor
 takes shapes m found = takes_at shapes m m.task found
 
--- It makes an object, and by the word found the search for its slot goes on in a span, or to a further page.
+-- It makes an object, and searches for its slot.
+abbrev pub is_searching : Task → Bool
+is_searching (task.New x) = new.searches_at x.stage
+is_searching _ = false
+
+-- By the word found the search for its slot goes on in a span, or to a further page.
 abbrev pub search_goes_on : Task → (found : ℕ) → Bool
 search_goes_on (task.New x) found = new.goes_further_at x.stage found
 search_goes_on _ found = false

@@ -91,6 +91,10 @@ asks_at m (Place p) = place.asks p
 asks_at m (Want n) = ask.Or cell.Want 1
 asks_at m (Assist n x) = assist.asks x
 
+abbrev pub searches_at : NewStage → Bool
+searches_at (Search waited s) = true
+searches_at _ = false
+
 -- by the word found the search goes on in a span, or to a further page
 abbrev pub goes_further_at : NewStage → (found : ℕ) → Bool
 goes_further_at (Search waited s) found = search.goes_further_at s.find s.stage found

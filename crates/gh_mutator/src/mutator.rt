@@ -8,7 +8,7 @@ ghost use Rattle.gh_base.specs.declared.value.Answer.{Answer};
 ghost use Rattle.gh_base.specs.declared.value.Answer.TheVariants as answers;
 ghost use Rattle.gh_mutator.specs.AtOnce.{object_in};
 ghost use Rattle.gh_mutator.specs.Faults.{rested};
-ghost use Rattle.gh_mutator.specs.Listing.{search_goes_on};
+ghost use Rattle.gh_mutator.specs.Listing.{is_searching, search_goes_on};
 ghost use Rattle.gh_mutator.specs.Mutating.{acts, asks, begins, goes, is_busy, opening, passes, sets};
 ghost use Rattle.gh_mutator.specs.Barrier.{has_entries};
 ghost use Rattle.gh_mutator.specs.Processor.{register_of, set_register};
@@ -215,8 +215,22 @@ impl<'s> Mutator<'s> {
         self.processor.is_point(self.shapes, found)
     }
 
-    /// Makes the step that found this at once, where by it the search of a `new` goes on to the next alloc word of a span or
-    /// to a further page, and answers whether that is so; where not, nothing has changed, and [`take`](Machine::take) makes
+    /// It makes an object, and searches for its slot: [`Mutator::goes_on`] may make its next step.
+    #[inline(always)]
+    pub fn is_searching(&self) -> bool
+        ensures { result ≡ is_searching self.now.processor.task }
+    {
+        match &self.processor.task {
+            Task::New(new) => match &new.stage {
+                NewStage::Search { .. } => true,
+                _ => false,
+            },
+            _ => false,
+        }
+    }
+
+    /// Makes the step that found this at once, where by it the search of a `new`, in its first round, goes on to the next alloc
+    /// word of a span or to a further page, and answers whether that is so; where not, nothing has changed, and [`take`](Machine::take) makes
     /// the step. Such a step answers nothing and is the point of no statement.
     ///
     /// In a large arena most steps of a `new` are such. Each changes a number or two of the search, where `take` goes

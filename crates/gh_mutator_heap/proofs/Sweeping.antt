@@ -1,5 +1,5 @@
 -- Where a processor begins a sweep it has found the head of an unswept span.
-use Rattle.std.proofs.Common.{subst, ◌≡◌, ℕ, Bool, Option, Some, None, refl, sym, ap, ◌∙◌}
+use Rattle.std.proofs.Common.{subst, ◌≡◌, ℕ, Bool, Option, Some, None, sym, ap, ◌∙◌, arith}
 use Rattle.gh_alloc.specs.Search as search
 use Rattle.gh_alloc.specs.SearchFacts.{SweepsHere}
 use Rattle.gh_sweep.specs.Listing.{opening, Sweeping}
@@ -64,9 +64,4 @@ module _ (k : Known) (z : Arena) (a : ℕ) (v : View) (m : Processor) (pending :
   begins_at (task.Leave x) is = other (task.Leave x) is (λ e. e)
 
 pub runs_sweeps : Known → ProcessorsRunSweeps
-runs_sweeps k = record {
-  at_first = k.run_on.at_first;
-  begun = k.run_on.begun;
-  on = k.run_on.on;
-  begins = λ z a v m pending found sw fine none some. begins_at k z a v m pending found sw m.task refl fine.task none some;
-}
+runs_sweeps k = grind (arith, begins_at)

@@ -1,22 +1,17 @@
 -- Each operation that neither makes an object nor polls nor leaves ends after a few steps: each step leaves fewer.
-use Rattle.std.proofs.Common.{◌≡◌, ℕ, zero, suc, ◌+◌, ◌≤◌, Bool, true, false, not, List, Option, Some, None, refl, sym, ap, subst, ◌∙◌, arith}
-use Rattle.gh_mutator.specs.Vocabulary.{EndsWithin, Op, Shape, Value}
+use Rattle.std.proofs.Common.{◌≡◌, ℕ, zero, suc, ◌+◌, ◌≤◌, Bool, true, false, not, List, refl, sym, ap, subst, ◌∙◌, arith}
+use Rattle.gh_mutator.specs.Vocabulary.{EndsWithin, Op, Shape}
 use Rattle.gh_mutator.specs.declared.load.Load.{Load}
 use Rattle.gh_mutator.specs.declared.store.Store.{Store}
 use Rattle.gh_mutator_writes.specs.Vocabulary.{Processor}
-use Rattle.gh_mutator_writes.proofs.Vocabulary.{Ends, Global, GoesOn, Task, Then}
-use Rattle.gh_base.specs.declared.operation.Op.TheVariants as op
+use Rattle.gh_mutator_writes.proofs.Vocabulary.{Global, Task, Then}
 use Rattle.gh_mutator.specs.declared.task.Task.TheVariants as task
 use Rattle.gh_barrier.specs.Ending.{WritingEnds}
-use Rattle.gh_phase.specs.declared.view.View.{View}
 use Rattle.gh_mutator.specs.Ending.{may_wait, most_steps, OperationsEnd}
 use Rattle.gh_mutator.specs.Listing.{begins_at, begun_with, follows, is_busy_at, takes_at}
-use Rattle.gh_mutator.specs.Global as global_listing
-use Rattle.gh_mutator.specs.Load as load_listing
-use Rattle.gh_mutator.specs.Local.{is_mark, marking_at}
+use Rattle.gh_mutator.specs.Local.{marking_at}
 use Rattle.gh_mutator.specs.Mutating.{begins, goes, listing, Mutating}
-use Rattle.gh_mutator.specs.Processor.{keeping, register_of, taking}
-use Rattle.gh_mutator.specs.Store as store_listing
+use Rattle.gh_mutator.specs.Processor.{register_of}
 use Rattle.gh_mutator.proofs.GlobalSteps as global
 use Rattle.gh_mutator.proofs.LoadSteps as load
 use Rattle.gh_mutator.proofs.Steps.{GoesTo}
@@ -54,29 +49,19 @@ abbrev Plain : (marking : Bool) {S : Type 0} (into : S → Task) → (most : ℕ
 Plain marking into most then = GoesTo (λ y. (is_long (into y) ≡ false) × (left marking (into y) + 1 ≤ most)) then
 
 from_step : (marking : Bool) {S : Type 0} (into : S → Task) (t : Task) (then : Then S) → 1 ≤ left marking t → Plain marking into (left marking t) then → Fewer marking t (follows into then)
-from_step marking into t (Ends a) some h = record { plain = refl; fewer = omega arith }
-from_step marking into t (GoesOn y) some h = record { plain = h.0; fewer = h.1 }
+from_step marking into t then some h = grind arith
 
 load_plain : (marking : Bool) (most : ℕ) (then : Then Load) → GoesTo (λ (y : Load). load.left y + 1 ≤ most) then → Plain marking task.Load most then
-load_plain marking most (GoesOn y) h = (refl, h)
-load_plain marking most (Ends a) h = tt
+load_plain marking most then h = grind arith
 
 store_plain : (marking : Bool) (most : ℕ) (then : Then Store) → store.Left marking most then → Plain marking task.Store most then
-store_plain marking most (GoesOn y) h = (ap not h.0, h.1)
-store_plain marking most (Ends a) h = tt
+store_plain marking most then h = grind arith
 
 global_plain : (marking : Bool) (most : ℕ) (then : Then Global) → global.Left most then → Plain marking task.Global most then
-global_plain marking most (GoesOn y) h = (ap not h.0, h.1)
-global_plain marking most (Ends a) h = tt
+global_plain marking most then h = grind arith
 
 on : (b : Bool) → not b ≡ false → b ≡ true
-on true e = refl
-on false e = absurd (cc)
-
--- what it knows of the phase stays
-taking_marks : (m : Processor) (g d : ℕ) (v : Option Value) → (taking m g d v).poll.local.view ≡ m.poll.local.view
-taking_marks m g d None = refl
-taking_marks m g d (Some v) = refl
+on b e = grind arith
 
 module _ (ends_so : WritingEnds) (shapes : List Shape) where
   abbrev marks : Processor → Bool
@@ -91,12 +76,7 @@ module _ (ends_so : WritingEnds) (shapes : List Shape) where
   fewer_at m _ found plain busy = absurd (cc)
 
   marks_stay : (m : Processor) (t : Task) (found : ℕ) → is_long t ≡ false → is_busy_at t ≡ true → marks (takes_at shapes m t found) ≡ marks m
-  marks_stay m (task.Load x) found plain busy = ap (λ (v : View). is_mark v.phase) (taking_marks m x.g x.d (load_listing.step m.poll.layout x found).sets)
-  marks_stay m (task.Store x) found plain busy = ap (λ (v : View). is_mark v.phase) (taking_marks (keeping m (store_listing.held_behind m.poll.local.held x.stage found)) x.g x.v (store_listing.step m.poll.layout m.poll.local (register_of m x.g x.v) x found).sets)
-  marks_stay m (task.Global x) found plain busy = ap (λ (v : View). is_mark v.phase) (taking_marks (keeping m (global_listing.held_behind m.poll.local.held x.stage found)) x.g x.r (global_listing.step m.poll.layout (register_of m x.g x.r) x found).sets)
-  marks_stay m (task.Register x) found plain busy = refl
-  marks_stay m (task.End g) found plain busy = refl
-  marks_stay m _ found plain busy = absurd (cc)
+  marks_stay m t found plain busy = grind arith
 
 -- one step more
 later : (most : ℕ) (m : Mutating) (found : ℕ → ℕ) → EndsWithin listing most (goes m (found 0)) (λ i. found (suc i)) → EndsWithin listing (suc most) m found
@@ -120,20 +100,11 @@ module _ (ends_so : WritingEnds) where
         later most m found (next h.plain (subst (λ (b : Bool). left b (goes m (found 0)).processor.task ≤ most) (sym same) (omega arith)))
 
 begins_few : (shapes : List Shape) (m : Processor) (o : Op) → may_wait o ≡ false → (is_long (begins_at shapes m o) ≡ false) × (left (marking_at m.poll) (begins_at shapes m o) ≤ most_steps (marking_at m.poll) o)
-begins_few shapes m (op.New g d t) h = absurd (cc)
-begins_few shapes m (op.Load g d b k) h = (refl, load.begins_left g d b k (register_of m g b))
-begins_few shapes m (op.Store g b k v) h = (ap not (store.begins_on g b k v (register_of m g b)), store.begins_left (marking_at m.poll) g b k v (register_of m g b))
-begins_few shapes m (op.SetGlobal g k v) h = let few = global.begins_store_left m.poll.layout m.poll.local g k v (register_of m g v) in (ap not few.0, few.1)
-begins_few shapes m (op.Gc g) h = absurd (cc)
-begins_few shapes m op.Poll h = absurd (cc)
-begins_few shapes m op.Leave h = absurd (cc)
-begins_few shapes m _ h = (refl, omega arith)
+begins_few shapes m o h = grind arith
 
 -- what does not wait begins with the phase that is known
 same_phase : (m : Processor) (o : Op) → may_wait o ≡ false → marking_at (begun_with m.poll o) ≡ marking_at m.poll
-same_phase m op.Poll h = absurd (cc)
-same_phase m op.Leave h = absurd (cc)
-same_phase m _ h = refl
+same_phase m o h = grind arith
 
 pub operations_end : WritingEnds → OperationsEnd
 operations_end ends_so m o found h =

@@ -1,7 +1,6 @@
 -- A statement that is answered a fault has loaded words alone, and has changed nothing of the processor.
 use Rattle.std.proofs.Common.{◌≡◌, ℕ, zero, suc, ◌≤◌, Bool, true, false, cond, List, refl, sym, ap, ◌∙◌, Option, Some, None, arith}
 use Rattle.gh_mutator.specs.Vocabulary.{Answer, Polling}
-use Rattle.gh_base.specs.declared.operation.Op.TheVariants as op
 use Rattle.gh_base.specs.declared.value.Answer.TheVariants as answer
 use Rattle.gh_base.specs.declared.value.Fault.{Fault as Cause}
 use Rattle.gh_alloc.specs.Place as place
@@ -24,7 +23,7 @@ use Rattle.gh_mutator.specs.Store as store_listing
 use Rattle.gh_mutator.specs.Wait as wait
 use Rattle.gh_mutator.specs.Processor.{at_task}
 use Rattle.gh_base.specs.Routines.{told}
-use Rattle.gh_mutator_writes.proofs.Vocabulary.{after_assist, after_gc, after_leave, after_poll, after_search, after_wait, answer_search, applied, asks_at, Assist, Assisting, assisting, assists, At, at_poll, begun_with, cache_span, Ends, follows, Found, gives_at, GoesOn, Held, Leaving, Name, NewStage, NoRoom, Op, Place, Placing, Processor, register_of, rested, Search, Seeking, Shape, Step, takes_at, taking, Task, Then, Value, Wait, Waiting, Want, Wanted}
+use Rattle.gh_mutator_writes.proofs.Vocabulary.{after_assist, after_gc, after_leave, after_poll, after_search, after_wait, answer_search, applied, asks_at, Assist, Assisting, at_poll, begun_with, cache_span, follows, Found, gives_at, Held, Leaving, Name, NewStage, Op, Place, Placing, Processor, register_of, rested, Search, Seeking, Shape, Step, takes_at, taking, Task, Then, Value, Wait, Waiting, Want, Wanted}
 use Rattle.gh_mutator.proofs.GlobalSteps as global
 use Rattle.gh_mutator.proofs.LoadSteps as load
 use Rattle.gh_mutator.proofs.Steps.{FaultsFrom, GoesTo}
@@ -51,11 +50,7 @@ from_step : {S : Type 0} (may : S → Bool) (into : S → Task) (m : Processor) 
 from_step {S} may into m g d x step is f = by step.then step.sets f.here f.keeps f.before where
   by : (then : Then S) (sets : Option Value) → ((cause : Cause) → answered then ≡ Some (answer.Fault cause) → may x ≡ true) → ((cause : Cause) → answered then ≡ Some (answer.Fault cause) → sets ≡ None) →
       GoesTo (λ (y : S). may y ≡ true → (may x ≡ true) × (sets ≡ None)) then → FaultsAt m (into x) (at_task (taking m g d sets) (follows into then)) (answered then)
-  by (Ends a) sets here keeps before = record { here = λ cause e. (is x ∙ here cause e, ap (λ (v : Option Value). at_task (taking m g d v) task.Idle) (keeps cause e)); before = λ e. absurd (cc) }
-  by (GoesOn y) sets here keeps before = record {
-    here = λ cause e. absurd (cc);
-    before = λ e. let h = before (sym (is y) ∙ e) in (is x ∙ h.0, ap (λ (v : Option Value). at_task (taking m g d v) (into y)) h.1, refl);
-  }
+  by then sets here keeps before = grind arith
 
 -- what a step leaves that may hold another buffer then: where a fault is answered, or may be, it holds the same
 keeps_buffer : (m : Processor) (t : Task) (held : Option Held) (next : Processor) (given : Option Answer) → (may_fault t ≡ true → held ≡ m.poll.local.held) → (with : Option Held → Processor) → with m.poll.local.held ≡ next → (with held).task ≡ next.task → FaultsAt m t next given → FaultsAt m t (with held) given
@@ -69,43 +64,25 @@ keeps_buffer m t held next given still with same task_is f = record {
 -- an object is looked for or made: no fault is answered
 
 search_quiet : (shapes : List Shape) (m : Processor) (w : Wanted) (waited : Bool) (s : Seeking) (out : Option Found) → may_fault (after_search shapes m w waited s out).task ≡ false
-search_quiet shapes m w waited s None = refl
-search_quiet shapes m w waited s (Some (At a)) = refl
-search_quiet shapes m w true s (Some NoRoom) = refl
-search_quiet shapes m w false s (Some NoRoom) = refl
+search_quiet shapes m w waited s out = grind arith
 
 search_answers : (waited : Bool) (out : Option Found) (cause : Cause) → answer_search waited out ≡ Some (answer.Fault cause) → ⊥
-search_answers waited None cause e = absurd (cc)
-search_answers waited (Some (At a)) cause e = absurd (cc)
-search_answers true (Some NoRoom) cause e = absurd (cc)
-search_answers false (Some NoRoom) cause e = absurd (cc)
+search_answers waited out cause e = grind arith
 
 wait_quiet : (m : Processor) (w : Wanted) (x : Waiting) (out : Option (Unit {0})) → may_fault (after_wait m w x out).task ≡ false
-wait_quiet m w x None = refl
-wait_quiet m w x (Some y) = refl
-
-made_quiet : (p : Polling) (w : Wanted) (n : Name) (marking : Bool) → may_fault (cond marking (assists w n (assisting p w)) task.Idle) ≡ false
-made_quiet p w n true = refl
-made_quiet p w n false = refl
+wait_quiet m w x out = grind arith
 
 place_quiet : (p : Polling) (w : Wanted) (x : Placing) (asks : Option Bool) → may_fault (new.made_task p w x asks) ≡ false
-place_quiet p w x None = refl
-place_quiet p w x (Some true) = refl
-place_quiet p w x (Some false) = made_quiet p w x.name (marking_at p)
+place_quiet p w x asks = grind arith
 
 place_answers : (marking : Bool) (n : Name) (asks : Option Bool) (cause : Cause) → new.answer_made marking n asks ≡ Some (answer.Fault cause) → ⊥
-place_answers marking n None cause e = absurd (cc)
-place_answers marking n (Some true) cause e = absurd (cc)
-place_answers true n (Some false) cause e = absurd (cc)
-place_answers false n (Some false) cause e = absurd (cc)
+place_answers marking n asks cause e = grind arith
 
 assist_quiet : (m : Processor) (w : Wanted) (n : Name) (x : Assisting) (out : Option (Unit {0})) → may_fault (after_assist m w n x out).task ≡ false
-assist_quiet m w n x None = refl
-assist_quiet m w n x (Some y) = refl
+assist_quiet m w n x out = grind arith
 
 assist_answers : (n : Name) (out : Option (Unit {0})) (cause : Cause) → new.answer_assist n out ≡ Some (answer.Fault cause) → ⊥
-assist_answers n None cause e = absurd (cc)
-assist_answers n (Some y) cause e = absurd (cc)
+assist_answers n out cause e = grind arith
 
 new_faults : (shapes : List Shape) (n m : Processor) (t : Task) (w : Wanted) (s : NewStage) (found : ℕ) → FaultsAt n t (new.takes_at shapes m w s found) (new.gives_at (marking_at m.poll) s found)
 new_faults shapes n m t w (Search waited s) found =
@@ -119,16 +96,13 @@ new_faults shapes n m t w (Assist u x) found = none_at n t _ _ (assist_answers u
 
 -- a `gc`, and what is the processor's own
 gc_faults : (n m : Processor) (t : Task) (g : ℕ) (x : Waiting) (out : Option (Unit {0})) → FaultsAt n t (after_gc m g x out) (once_ended out answer.Swept)
-gc_faults n m t g x None = none_at n t _ _ (λ cause e. absurd (cc)) refl
-gc_faults n m t g x (Some y) = none_at n t _ _ (λ cause e. absurd (cc)) refl
+gc_faults n m t g x out = grind arith
 
 poll_faults : (n m : Processor) (t : Task) (p : Polling) (out : Option (Unit {0})) → FaultsAt n t (after_poll m p out) (once_ended out answer.Done)
-poll_faults n m t p None = none_at n t _ _ (λ cause e. absurd (cc)) refl
-poll_faults n m t p (Some y) = none_at n t _ _ (λ cause e. absurd (cc)) refl
+poll_faults n m t p out = grind arith
 
 leave_faults : (n m : Processor) (t : Task) (x : Leaving) (out : Option (Unit {0})) → FaultsAt n t (after_leave m x out) (once_ended out answer.Done)
-leave_faults n m t x None = none_at n t _ _ (λ cause e. absurd (cc)) refl
-leave_faults n m t x (Some y) = none_at n t _ _ (λ cause e. absurd (cc)) refl
+leave_faults n m t x out = grind arith
 
 module _ (shapes : List Shape) where
   faults_at : (m : Processor) (t : Task) (found : ℕ) → FaultsAt m t (takes_at shapes (at_task m t) t found) (gives_at (at_task m t) t found)
@@ -144,16 +118,10 @@ module _ (shapes : List Shape) where
   faults_at m _ found = none_at m _ _ _ (λ cause e. absurd (cc)) refl
 
 loads_at : (m : Processor) (t : Task) → may_fault t ≡ true → is_load (asks_at m t) ≡ true
-loads_at m (task.Load x) e = load.loads m.poll.layout x e
-loads_at m (task.Store x) e = store.loads m.poll.layout (register_of m x.g x.v) x e
-loads_at m (task.Global x) e = global.loads m.poll.layout (register_of m x.g x.r) x e
-loads_at m _ e = absurd (cc)
+loads_at m t e = grind arith
 
 serves_at : (t : Task) → may_fault t ≡ true → is_serving t ≡ true
-serves_at (task.Load x) e = refl
-serves_at (task.Store x) e = refl
-serves_at (task.Global x) e = refl
-serves_at _ e = absurd (cc)
+serves_at t e = grind arith
 
 -- The machine.
 
@@ -164,10 +132,7 @@ faults_here : (x : Mutating) (word : ℕ) → FaultsAt x.processor x.processor.t
 faults_here x word = faults_at x.shapes x.processor x.processor.task word
 
 unanswered : (k : ℕ) (t : Task) → marks_after k (answer_at t None) ≡ k
-unanswered k t = by (is_serving t) where
-  by : (b : Bool) → marks_after k (cond b None None) ≡ k
-  by true = refl
-  by false = refl
+unanswered k t = grind arith
 
 -- a step to a task from which a fault may be answered changes no more than the task
 keeps : (x : Mutating) (word : ℕ) → faulting (goes x word) ≡ true → goes x word ≡ record x { processor = at_task x.processor (goes x word).processor.task }
@@ -193,9 +158,7 @@ ends_so x word cause e =
 
 -- what may be answered a fault begins with the poll as it was
 same_poll : (shapes : List Shape) (m : Processor) (o : Op) → may_fault (begins_at shapes m o) ≡ true → begun_with m.poll o ≡ m.poll
-same_poll shapes m op.Poll e = absurd (cc)
-same_poll shapes m op.Leave e = absurd (cc)
-same_poll shapes m _ e = refl
+same_poll shapes m o e = grind arith
 
 pub faults_change_nothing : FaultsChangeNothing
 faults_change_nothing m o found n cause e =

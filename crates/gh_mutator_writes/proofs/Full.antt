@@ -1,22 +1,19 @@
 -- A `new` that is answered `full` has waited for a cycle, and has found no slot before and behind that.
-use Rattle.std.proofs.Common.{◌≡◌, ℕ, zero, suc, ◌<◌, ◌≤◌, Bool, true, false, not, cond, ltb, List, [], ◌∷◌, get_or, refl, sym, ap, ◌∙◌, subst, ◌⊎◌, inl, inr, Option, Some, None, arith}
+use Rattle.std.proofs.Common.{◌≡◌, ℕ, zero, suc, ◌<◌, ◌≤◌, Bool, true, false, not, List, [], ◌∷◌, get_or, refl, sym, ap, ◌∙◌, subst, ◌⊎◌, inl, inr, Option, Some, None, arith}
 use Rattle.gh_base.specs.declared.operation.Op.TheVariants as op
 use Rattle.gh_base.specs.declared.value.Answer.TheVariants as answer
 use Rattle.gh_base.specs.declared.value.Value.TheVariants as value
-use Rattle.gh_alloc.specs.Place as place
 use Rattle.gh_alloc.specs.Search as search
-use Rattle.gh_assist.specs.Listing as assist
 use Rattle.gh_mutator.specs.declared.task.Task.TheVariants as task
-use Rattle.gh_mutator.specs.declared.wait.WaitStage.TheVariants as wait_stage
 use Rattle.gh_mutator_writes.specs.Full.{after, FullChangesLittle, HasWaited, new_is_waiting}
-use Rattle.gh_mutator.specs.Local.{cached_in, marking_at, stacks_with}
+use Rattle.gh_mutator.specs.Local.{cached_in, stacks_with}
 use Rattle.gh_mutator.specs.Mutating.{asks, begins, gives, goes, listing, marks_after, Mutating}
-use Rattle.gh_mutator.specs.New.{gives_at as gives_new, seeking, takes_at as takes_new, made_task, answer_assist, answer_made}
+use Rattle.gh_mutator.specs.New.{seeking}
 use Rattle.gh_mutator.specs.Stays.{ends_later, wait_seat, wait_stacks, wait_stays, search_wants}
 use Rattle.gh_mutator.specs.Vocabulary.{Polling}
 use Rattle.gh_mutator.specs.Wait as wait
-use Rattle.gh_mutator_writes.proofs.Vocabulary.{after_assist, Assist, Assisting, assisting, assists, after_search, after_wait, answer_search, At, at_poll, cache_span, cache_with, CachedSpan, Found, gives_at, is_looking, Large, Name, NewStage, NoRoom, Place, Placing, Processor, rested, Search, Seeking, set, Shape, Small, Sought, span_index, takes_at, Task, Wait, Waiting, WaitStage, WaitState, Wanted, wanted_of, Want}
-use Rattle.gh_mutator_writes.proofs.Refusing.{KeptFor, kept, kept_first, refuses_none, search_looks}
+use Rattle.gh_mutator_writes.proofs.Vocabulary.{Assist, after_search, after_wait, answer_search, At, at_poll, cache_span, cache_with, CachedSpan, Found, gives_at, is_looking, NewStage, NoRoom, Place, Processor, rested, Search, Seeking, set, Small, Sought, Task, Wait, Waiting, WaitStage, WaitState, Wanted, wanted_of, Want}
+use Rattle.gh_mutator_writes.proofs.Refusing.{KeptFor, kept, kept_first, refuses_none}
 use Rattle.gh_mutator_writes.proofs.Telling.{held_before}
 
 -- what is cleared reads as none
@@ -26,23 +23,10 @@ cleared (c ∷ cs) zero = refl
 cleared (c ∷ cs) (suc i) = cleared cs i
 
 none_in : (x : Sought) (cache : List (Option CachedSpan)) (c : Option CachedSpan) → ((k : _) → x ≡ Small k → c ≡ None) → cached_in (cache_with cache x c) x ≡ None
-none_in (Large pages noscan) cache c none = refl
-none_in (Small k) cache c none = rw (none k refl) (cleared cache (span_index k))
-
--- a wait knows the same cycle until it ends
-poll_knows : (w : Waiting) (p : Polling) (out : Option (Unit {0})) → (wait.after_poll w p out).wait.known ≡ w.wait.known
-poll_knows w p None = refl
-poll_knows w p (Some x) = refl
-
-swept_knows : (w : Waiting) (later : Bool) → (cond later (wait.at_stage w wait_stage.Ended) (wait.polling w)).wait.known ≡ w.wait.known
-swept_knows w true = refl
-swept_knows w false = refl
+none_in x cache c none = grind (arith, cleared)
 
 knows_at : (w : Waiting) (stage : WaitStage) (v : ℕ) → (wait.goes_at w stage v).wait.known ≡ w.wait.known
-knows_at w wait_stage.Want v = refl
-knows_at w wait_stage.Polling v = poll_knows w _ _
-knows_at w wait_stage.LoadSwept v = swept_knows w (ltb w.wait.known v)
-knows_at w wait_stage.Ended v = refl
+knows_at w stage v = grind arith
 
 -- the search is over: no `full` is answered any more
 abbrev is_over : NewStage → Bool
@@ -56,59 +40,12 @@ is_past task.Idle = true
 is_past (task.New x) = is_over x.stage
 is_past _ = false
 
-made_past : (p : Polling) (w : Wanted) (n : Name) (marking : Bool) → is_past (cond marking (assists w n (assisting p w)) task.Idle) ≡ true
-made_past p w n true = refl
-made_past p w n false = refl
-
-place_past : (p : Polling) (w : Wanted) (x : Placing) (asks : Option Bool) → is_past (made_task p w x asks) ≡ true
-place_past p w x None = refl
-place_past p w x (Some true) = refl
-place_past p w x (Some false) = made_past p w x.name (marking_at p)
-
-assist_past : (m : Processor) (w : Wanted) (n : Name) (x : Assisting) (out : Option (Unit {0})) → is_past (after_assist m w n x out).task ≡ true
-assist_past m w n x None = refl
-assist_past m w n x (Some y) = refl
-
-new_past : (shapes : List Shape) (m : Processor) (w : Wanted) (s : NewStage) (v : ℕ) → is_over s ≡ true → is_past (takes_new shapes m w s v).task ≡ true
-new_past shapes m w (Search waited s) v e = absurd (cc)
-new_past shapes m w (Wait x) v e = absurd (cc)
-new_past shapes m w (Place p) v e = place_past m.poll w (place.goes p v) (place.gives p v)
-new_past shapes m w (Want n) v e = refl
-new_past shapes m w (Assist n x) v e = assist_past m w n (assist.goes x v) (assist.gives x v)
-
-past_at : (shapes : List Shape) (m : Processor) (t : Task) (v : ℕ) → m.task ≡ t → is_past t ≡ true → is_past (takes_at shapes m t v).task ≡ true
-past_at shapes m task.Idle v at e = rw at refl
-past_at shapes m (task.New x) v at e = new_past shapes m x.wanted x.stage v e
-past_at shapes m _ v at e = absurd (cc)
-
-place_answers : (marking : Bool) (n : Name) (asks : Option Bool) → answer_made marking n asks ≡ Some answer.Full → ⊥
-place_answers marking n None e = absurd (cc)
-place_answers marking n (Some true) e = absurd (cc)
-place_answers true n (Some false) e = absurd (cc)
-place_answers false n (Some false) e = absurd (cc)
-
-assist_answers : (n : Name) (out : Option (Unit {0})) → answer_assist n out ≡ Some answer.Full → ⊥
-assist_answers n None e = absurd (cc)
-assist_answers n (Some y) e = absurd (cc)
-
-new_answers : (marking : Bool) (s : NewStage) (v : ℕ) → is_over s ≡ true → gives_new marking s v ≡ Some answer.Full → ⊥
-new_answers marking (Search waited s) v e h = absurd (cc (e))
-new_answers marking (Wait x) v e h = absurd (cc (e))
-new_answers marking (Place p) v e h = place_answers marking p.name (place.gives p v) h
-new_answers marking (Want n) v e h = absurd (cc)
-new_answers marking (Assist n x) v e h = assist_answers n (assist.gives x v) h
-
 past_answers : (m : Processor) (t : Task) (v : ℕ) → is_past t ≡ true → gives_at m t v ≡ Some answer.Full → ⊥
-past_answers m task.Idle v e h = absurd (cc)
-past_answers m (task.New x) v e h = new_answers (marking_at m.poll) x.stage v e h
-past_answers m _ v e h = absurd (cc)
+past_answers m t v e h = grind arith
 
 -- `full` is answered behind the wait alone
 full_is : (waited : Bool) (out : Option Found) → answer_search waited out ≡ Some answer.Full → (waited ≡ true) × (out ≡ Some NoRoom)
-full_is waited None e = absurd (cc)
-full_is waited (Some (At a)) e = absurd (cc)
-full_is true (Some NoRoom) e = (refl, refl)
-full_is false (Some NoRoom) e = absurd (cc)
+full_is waited out e = grind arith
 
 module _ (m : Mutating) (g d t : ℕ) (found : ℕ → ℕ) where
   abbrev w : Wanted
@@ -224,16 +161,8 @@ module _ (m : Mutating) (g d t : ℕ) (found : ℕ → ℕ) where
       false_true : false ≡ true → ⊥
       false_true q = absurd (cc)
 
-  -- each step that is none of the wait looks for a slot
-  looks_at : (i : ℕ) (p : Polling) (s : NewStage) → Facts i p s → new_is_waiting (state p s).processor.task ≡ false → is_looking (asks (state p s)) ≡ true
-  looks_at i p (Search waited s) f e = search_looks s
-  looks_at i p (Wait x) f e = absurd (cc)
-  looks_at i p (Place q) f e = absurd f
-  looks_at i p (Want n) f e = absurd f
-  looks_at i p (Assist n x) f e = absurd f
-
   looks : (i : ℕ) → Stands i (now i) → new_is_waiting (now i).processor.task ≡ false → is_looking (asks (now i)) ≡ true
-  looks i st e = subst (λ (x : Mutating). is_looking (asks x) ≡ true) (sym st.is) (looks_at i st.p st.s st.facts (subst (λ (x : Mutating). new_is_waiting x.processor.task ≡ false) st.is e))
+  looks i st e = grind arith
 
   -- what the step leaves that answers `full`
   record Leaves (n : ℕ) (x : Mutating) : Type 0 where
@@ -245,17 +174,7 @@ module _ (m : Mutating) (g d t : ℕ) (found : ℕ → ℕ) where
     seat : x.processor.poll.seat ≡ m.processor.poll.seat
 
   full_leaves : (n : ℕ) (p : Polling) (s r : Seeking) (waited : Bool) (out : Option Found) → Same p → Facts n p (Search waited s) → waited ≡ true → out ≡ Some NoRoom → ((k : _) → w.sought ≡ Small k → r.find.cached ≡ None) → Leaves n (searched p waited s r out)
-  full_leaves n p s r true (Some NoRoom) k f h is none = record {
-    waited = f.0;
-    rests = refl;
-    registers = ap (λ (stacks : _). stacks_with stacks g d value.Nil) k.stacks;
-    cached = none_in w.sought p.local.cache r.find.cached none;
-    layout = k.layout;
-    seat = k.seat;
-  }
-  full_leaves n p s r false out k f h is none = absurd (cc)
-  full_leaves n p s r true None k f h is none = absurd (cc)
-  full_leaves n p s r true (Some (At a)) k f h is none = absurd (cc)
+  full_leaves n p s r waited out k f h is none = grind (arith, none_in)
 
   leaves_at : (n : ℕ) (p : Polling) (s : NewStage) → Same p → Facts n p s → gives (state p s) (found n) ≡ Some answer.Full → Leaves n (goes (state p s) (found n))
   leaves_at n p (Search waited s) k f e =
@@ -273,13 +192,10 @@ module _ (m : Mutating) (g d t : ℕ) (found : ℕ → ℕ) where
   leaves n st e = subst (λ (x : Mutating). Leaves n (goes x (found n))) (sym st.is) (leaves_at n st.p st.s st.same st.facts (subst (λ (x : Mutating). gives x (found n) ≡ Some answer.Full) st.is e))
 
 not_past : (b : Bool) → (b ≡ true → ⊥) → not b ≡ true
-not_past true h = absurd (h refl)
-not_past false h = refl
+not_past b h = grind arith
 
 past_before : (x : Mutating) (word : ℕ) → not (is_past (goes x word).processor.task) ≡ true → not (is_past x.processor.task) ≡ true
-past_before x word e = not_past (is_past x.processor.task) (λ h. by (ap not (sym (past_at x.shapes x.processor x.processor.task word refl h)) ∙ e)) where
-  by : false ≡ true → ⊥
-  by q = absurd (cc)
+past_before x word e = grind arith
 
 pub full_changes_little : FullChangesLittle
 full_changes_little m g d t found n e =

@@ -1,8 +1,5 @@
 -- A processor counts as spent what it takes out of the bank: by its tasks.
-use Rattle.std.proofs.Common.{◌≡◌, ℕ, ◌+◌, ◌^◌, ◌<◌, Bool, true, false, cond, List, Option, Some, None, refl, sym, ◌∙◌, subst, arith}
-use Rattle.gh_base.specs.declared.cell.Ask.TheVariants.{Add, And, Or}
-use Rattle.gh_base.specs.declared.cell.Cell.TheVariants as cell
-use Rattle.gh_base.specs.declared.operation.Op.TheVariants as op
+use Rattle.std.proofs.Common.{◌≡◌, ℕ, ◌+◌, ◌^◌, ◌<◌, Bool, true, false, List, Option, refl, ◌∙◌, arith}
 use Rattle.gh_alloc.specs.Place as place
 use Rattle.gh_alloc.specs.Search as search
 use Rattle.gh_assist.specs.Listing as assist
@@ -13,7 +10,6 @@ use Rattle.gh_mutator.specs.Global as global
 use Rattle.gh_mutator.specs.Leave as leave
 use Rattle.gh_mutator.specs.Load as load
 use Rattle.gh_mutator.specs.Local.{marking_at}
-use Rattle.gh_mutator.specs.New as new
 use Rattle.gh_mutator.specs.Poll as poll
 use Rattle.gh_mutator.specs.Processor.{keeping}
 use Rattle.gh_mutator.specs.Register as register
@@ -23,27 +19,17 @@ use Rattle.gh_mutator.specs.Stays.{assist_spent, poll_spent, wait_spent}
 use Rattle.gh_mutator.specs.Store as store
 use Rattle.gh_mutator.specs.Vocabulary.{Polling}
 use Rattle.gh_mutator.specs.Wait as wait
-use Rattle.gh_mutator.specs.Running.{IsAssisting, IsAssistingAt, SoundAssist, SoundAssistAt}
+use Rattle.gh_mutator.specs.Running.{IsAssisting, SoundAssist, SoundAssistAt}
 use Rattle.gh_mutator_writes.specs.Writing.{IsWritten, ProcessorWritesItsOwn}
-use Rattle.gh_mutator_writes.proofs.Vocabulary.{after_gc, after_leave, after_place, after_poll, after_search, after_wait, Ask, asks, Assist, Assisting, assisting, assists, At, begins, cache_span, CachedSpan, Cell, Ends, follows, Found, GoesOn, has_left_at, is_busy_at, Layout, Leaving, Load, Name, NewStage, NoRoom, Op, Place, Placing, Processor, processor_kind, register_of, Search, Seeking, Shape, Store, Swap, takes_at, taking, Task, Then, Value, Wait, Waiting, Want, Wanted, WritesOf}
+use Rattle.gh_mutator_writes.proofs.Vocabulary.{after_gc, after_leave, after_place, after_poll, after_search, after_wait, Ask, asks, Assist, Assisting, assists, cache_span, CachedSpan, follows, Found, is_busy_at, Layout, Leaving, Name, NewStage, Op, Place, Placing, Processor, processor_kind, register_of, Search, Seeking, Shape, takes_at, taking, Task, Then, Value, Wait, Waiting, Want, Wanted, WritesOf}
 
 -- A step of a processor that does not assist takes nothing out of the bank, and leaves it.
 module _ (m : Processor) (rests : IsAssisting m.task → ⊥) where
   draws_none : (step : Ask) (found : ℕ) → WritesOf (IsWritten m) step → drawn_by step found ≡ 0
-  draws_none (Swap cell.Bank old new) found w = absurd (rests w.0)
-  draws_none _ found w = refl
-
-  no_bank : (c : Cell) → IsWritten m c → c ≡ cell.Bank → ⊥
-  no_bank c w e = rests (subst (λ (d : Cell). IsWritten m d) e w).0
+  draws_none step found w = grind arith
 
   leaves_bank : (step : Ask) → WritesOf (IsWritten m) step → LeavesOrDraws step
-  leaves_bank (Load c) w = tt
-  leaves_bank (Store c value) w = no_bank c w
-  leaves_bank (Or c bits) w = no_bank c w
-  leaves_bank (And c bits) w = no_bank c w
-  leaves_bank (Add c more) w = no_bank c w
-  leaves_bank (Swap cell.Bank old new) w = absurd (rests w.0)
-  leaves_bank (Swap _ old new) w = tt
+  leaves_bank step w = grind arith
 
 -- What is spent stays by each step but those of an assist.
 
@@ -51,46 +37,25 @@ abbrev SpentSo : Processor → ℕ → Type 0
 SpentSo m spent = spent_of m ≡ spent
 
 into_spent : {S : Type 0} (into : S → Task) (m : Processor) (g d : ℕ) (sets : Option Value) (then : Then S) → ((p : Polling) (y : S) → spent_in_task p (into y) ≡ p.local.spent) → spent_in_task (taking m g d sets).poll (follows into then) ≡ m.poll.local.spent
-into_spent into m g d None (GoesOn y) plain = plain m.poll y
-into_spent into m g d None (Ends a) plain = refl
-into_spent into m g d (Some v) (GoesOn y) plain = plain (taking m g d (Some v)).poll y
-into_spent into m g d (Some v) (Ends a) plain = refl
+into_spent into m g d sets then plain = grind arith
 
 gc_spent : (m : Processor) (g : ℕ) (w : Waiting) (out : Option (Unit {0})) → SpentSo (after_gc m g w out) w.poll.local.spent
-gc_spent m g w None = refl
-gc_spent m g w (Some u) = refl
+gc_spent m g w out = grind arith
 
 poll_then : (m : Processor) (p : Polling) (out : Option (Unit {0})) → SpentSo (after_poll m p out) p.local.spent
-poll_then m p None = refl
-poll_then m p (Some u) = refl
+poll_then m p out = grind arith
 
 leave_spent : (m : Processor) (x : Leaving) (out : Option (Unit {0})) → SpentSo (after_leave m x out) m.poll.local.spent
-leave_spent m x None = refl
-leave_spent m x (Some u) = refl
+leave_spent m x out = grind arith
 
 search_spent : (shapes : List Shape) (m : Processor) (w : Wanted) (waited : Bool) (c : Option CachedSpan) (s : Seeking) (out : Option Found) → SpentSo (after_search shapes (cache_span m w.sought c) w waited s out) m.poll.local.spent
-search_spent shapes m w waited c s None = refl
-search_spent shapes m w waited c s (Some (At a)) = refl
-search_spent shapes m w true c s (Some NoRoom) = refl
-search_spent shapes m w false c s (Some NoRoom) = refl
+search_spent shapes m w waited c s out = grind arith
 
 wait_then : (m : Processor) (w : Wanted) (x : Waiting) (out : Option (Unit {0})) → SpentSo (after_wait m w x out) x.poll.local.spent
-wait_then m w x None = refl
-wait_then m w x (Some u) = refl
-
--- an assist begins with what is spent so far
-then_spent : (p q : Polling) (w : Wanted) (n : Name) (marking : Bool) → q.local.spent ≡ p.local.spent → spent_in_task q (cond marking (assists w n (assisting p w)) task.Idle) ≡ p.local.spent
-then_spent p q w n true e = refl
-then_spent p q w n false e = e
-
-made_spent : (p q : Polling) (w : Wanted) (x : Placing) (out : Option Bool) → q.local.spent ≡ p.local.spent → spent_in_task q (new.made_task p w x out) ≡ p.local.spent
-made_spent p q w x None e = e
-made_spent p q w x (Some true) e = e
-made_spent p q w x (Some false) e = then_spent p q w x.name (marking_at p) e
+wait_then m w x out = grind arith
 
 place_spent : (m : Processor) (w : Wanted) (made : Bool) (a : ℕ) (x : Placing) → SpentSo (after_place m w made a x) m.poll.local.spent
-place_spent m w true a x = made_spent m.poll (new.made_object m w a).poll w x (place.given x) refl
-place_spent m w false a x = made_spent m.poll m.poll w x (place.given x) refl
+place_spent m w made a x = grind arith
 
 abbrev with_stage : Wanted → NewStage → Task
 with_stage w q = task.New (record { wanted = w; stage = q })
@@ -138,11 +103,7 @@ module _ (shapes : List Shape) (p : Polling) (made : List ℕ) (found : ℕ) whe
 -- The draws are those of an assist.
 module _ (pay : AssistsPay) (p : Polling) (made : List ℕ) where
   new_draws : (w : Wanted) (q : NewStage) → let m : Processor = running p made (task.New (record { wanted = w; stage = q })) in WritesOf (IsWritten m) (asks m) → LeavesOrDraws (asks m)
-  new_draws w (Assist n x) writes = pay.draws x
-  new_draws w (Search waited y) writes = leaves_bank (running p made (with_stage w (Search waited y))) (λ a. a) (asks (running p made (with_stage w (Search waited y)))) writes
-  new_draws w (Wait x) writes = leaves_bank (running p made (with_stage w (Wait x))) (λ a. a) (asks (running p made (with_stage w (Wait x)))) writes
-  new_draws w (Place y) writes = leaves_bank (running p made (with_stage w (Place y))) (λ a. a) (asks (running p made (with_stage w (Place y)))) writes
-  new_draws w (Want n) writes = leaves_bank (running p made (with_stage w (Want n))) (λ a. a) (asks (running p made (with_stage w (Want n)))) writes
+  new_draws w q writes = grind arith
 
   draws_at : (t : Task) → WritesOf (IsWritten (running p made t)) (asks (running p made t)) → LeavesOrDraws (asks (running p made t))
   draws_at (task.New x) writes = new_draws x.wanted x.stage writes
@@ -157,30 +118,11 @@ module _ (pay : AssistsPay) (p : Polling) (made : List ℕ) where
   draws_at (task.End g) writes = leaves_bank (running p made (task.End g)) (λ a. a) (asks (running p made (task.End g))) writes
   draws_at (task.Leave x) writes = leaves_bank (running p made (task.Leave x)) (λ a. a) (asks (running p made (task.Leave x))) writes
 
--- It assists only while marking is on.
-marking_in : (p : Polling) (q : NewStage) → SoundAssistAt p q → IsAssistingAt q → marking_at p ≡ true
-marking_in p (Assist n x) s is = s.0
-marking_in p _ s is = absurd is
-
 marking_at_task : (p : Polling) (t : Task) → SoundAssist p t → IsAssisting t → marking_at p ≡ true
-marking_at_task p (task.New x) s is = marking_in p x.stage s is
-marking_at_task p _ s is = absurd is
-
--- Where it begins.
-rests_so : (p : Polling) (t : Task) → is_busy_at t ≡ false → spent_in_task p t ≡ p.local.spent
-rests_so p task.Idle rests = refl
-rests_so p task.Left rests = refl
-rests_so p _ rests = absurd (cc)
-
-begun_spent : (shapes : List Shape) (m : Processor) (o : Op) → SpentSo (begins shapes m o) m.poll.local.spent
-begun_spent shapes m (op.New g d t) = refl
-begun_spent shapes m _ = refl
+marking_at_task p t s is = grind arith
 
 begun : (shapes : List Shape) (l : Layout) (m : Processor) (o : Op) → is_busy_at m.task ≡ false → SpentSo ((processor_kind shapes l).begins m o) (spent_of m)
-begun shapes l m o rests = by (has_left_at m.task) where
-  by : (left : Bool) → SpentSo (cond left m (begins shapes m o)) (spent_of m)
-  by true = refl
-  by false = begun_spent shapes m o ∙ sym (rests_so m.poll m.task rests)
+begun shapes l m o rests = grind arith
 
 pub processors_spend : AssistsPay → ProcessorWritesItsOwn → ProcessorsSpend
 processors_spend pay own = record {

@@ -1,11 +1,8 @@
 -- Which rows the search for a slot writes: by its stages.
-use Rattle.std.proofs.Common.{◌≡◌, ℕ, Some, refl}
+use Rattle.std.proofs.Common.{◌≡◌, ℕ, Some, refl, arith}
 use Rattle.gh_base.specs.declared.cell.Cell.TheVariants as cell
-use Rattle.gh_cache.specs.declared.next_slot.SlotStage.TheVariants as slot_stage
 use Rattle.gh_cache.specs.Listing as slots
 use Rattle.gh_central.specs.declared.give.GiveStage.{GiveStage}
-use Rattle.gh_central.specs.declared.give.GiveStage.TheVariants as give_stage
-use Rattle.gh_central.specs.declared.pass.PassStage.TheVariants as pass_stage
 use Rattle.gh_central.specs.declared.reclaim.ReclaimStage.TheVariants as reclaim_stage
 use Rattle.gh_central.specs.GiveBack as give
 use Rattle.gh_central.specs.Reclaim as reclaim
@@ -14,13 +11,9 @@ use Rattle.gh_central.specs.UnsweptPass as unswept
 use Rattle.gh_central.specs.declared.unswept.UnsweptStage.{UnsweptStage}
 use Rattle.gh_central.specs.declared.unswept.UnsweptStage.TheVariants as unswept_stage
 use Rattle.gh_sweep.specs.declared.sweep.SweepStage.{SweepStage}
-use Rattle.gh_sweep.specs.declared.sweep.SweepStage.TheVariants as sweep_stage
 use Rattle.gh_sweep.specs.Listing as sweep
 use Rattle.gh_sweep.specs.Listing.{Sweeping}
-use Rattle.gh_pages.specs.declared.carve.CarveStage.TheVariants as carve_stage
 use Rattle.gh_pages.specs.Listing as carve
-use Rattle.gh_alloc.specs.declared.find.FindStage.TheVariants as find_stage
-use Rattle.gh_alloc.specs.declared.search.SearchStage.TheVariants as search_stage
 use Rattle.gh_alloc.specs.Find as find
 use Rattle.gh_alloc.specs.Search as search
 use Rattle.gh_pages.specs.declared.carve.CarveStage.{CarveStage}
@@ -47,35 +40,19 @@ pub record OfSweeps (P : Cell → Type 0) : Type 0 where
 
 module _ (P : Cell → Type 0) (r : OfSpans P) where
   slots_write : (s : slots.Searching) (q : SlotStage) → WritesOf P (slots.asks_at s q)
-  slots_write s slot_stage.Look = tt
-  slots_write s (slot_stage.Ended slot) = tt
+  slots_write s q = grind arith
 
   pub give_writes : (g : give.SpanGiving) (q : GiveStage) → WritesOf P (give.asks_at g q)
-  give_writes g give_stage.Write = r.page g.page
-  give_writes g give_stage.Ended = tt
+  give_writes g q = grind arith
 
   pass_writes : (p : pass.Pass) (q : PassStage) → WritesOf P (pass.asks_at p q)
-  pass_writes p (pass_stage.Look page) = tt
-  pass_writes p (pass_stage.Bits page h i) = tt
-  pass_writes p (pass_stage.Take page h) = r.page page
-  pass_writes p (pass_stage.Ended taken) = tt
+  pass_writes p q = grind arith
 
   carve_writes : (c : carve.Carving) (q : CarveStage) → WritesOf P (carve.asks_at c q)
-  carve_writes c (carve_stage.Look page run) = tt
-  carve_writes c (carve_stage.Body first distance) = r.page _
-  carve_writes c (carve_stage.Head first) = r.page first
-  carve_writes c (carve_stage.Ended taken) = tt
+  carve_writes c q = grind arith
 
   sweep_writes : (sw : Sweeping) (q : SweepStage) → OfSweeps P → WritesOf P (sweep.asks_at sw q)
-  sweep_writes sw sweep_stage.Begin k = r.page sw.page
-  sweep_writes sw (sweep_stage.LoadMarks i) k = tt
-  sweep_writes sw (sweep_stage.ClearBits i marks) k = k.alloc _
-  sweep_writes sw (sweep_stage.ClearMarks i) k = k.mark _
-  sweep_writes sw sweep_stage.AddTally k = k.tally
-  sweep_writes sw sweep_stage.AddLive k = k.live
-  sweep_writes sw sweep_stage.AddHeap k = k.heap
-  sweep_writes sw sweep_stage.Finish k = r.page sw.page
-  sweep_writes sw (sweep_stage.Ended end) k = tt
+  sweep_writes sw q k = grind arith
 
   reclaim_writes : (m : reclaim.Reclaiming) (q : ReclaimStage) → ((sw : Sweeping) → reclaim.sweep_at q ≡ Some sw → OfSweeps P) → WritesOf P (reclaim.asks_at m q)
   reclaim_writes m (reclaim_stage.Look page) k = tt
@@ -93,20 +70,11 @@ module _ (P : Cell → Type 0) (r : OfSpans P) where
   unswept_writes u (unswept_stage.Ended taken) k = tt
 
   find_writes : (f : find.Finding) (q : FindStage) → ((sw : Sweeping) → find.sweep_at q ≡ Some sw → OfSweeps P) → WritesOf P (find.asks_at f q)
-  find_writes f (find_stage.Slots s) k = slots_write s s.stage
-  find_writes f find_stage.Lock k = r.lock
-  find_writes f (find_stage.Give g) k = give_writes g g.stage
-  find_writes f (find_stage.Pass p) k = pass_writes p p.stage
-  find_writes f (find_stage.Unswept u) k = unswept_writes u u.stage k
-  find_writes f (find_stage.Carve c) k = carve_writes c c.stage
-  find_writes f (find_stage.Unlock after) k = r.lock
-  find_writes f (find_stage.Ended out) k = tt
+  find_writes f q k = grind (arith, carve_writes, give_writes, pass_writes, slots_write, unswept_writes)
 
   search_writes_at : (f : find.Finding) (q : SearchStage) → ((sw : Sweeping) → search.sweep_at f q ≡ Some sw → OfSweeps P) → WritesOf P (search.asks_at f q)
-  search_writes_at f search_stage.First k = find_writes f f.stage k
-  search_writes_at f (search_stage.Free m) k = reclaim_writes m m.stage k
-  search_writes_at f search_stage.Second k = find_writes f f.stage k
+  search_writes_at f q k = grind (arith, find_writes, reclaim_writes)
 
   -- where it sweeps it writes what a sweep writes too
   pub seeking_writes : (s : search.Seeking) → ((sw : Sweeping) → search.sweep_in s ≡ Some sw → OfSweeps P) → WritesOf P (search.asks s)
-  seeking_writes s k = search_writes_at s.find s.stage k
+  seeking_writes s k = grind (arith, search_writes_at)

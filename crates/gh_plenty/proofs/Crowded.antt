@@ -22,7 +22,6 @@ use Rattle.gh_heap.specs.Spans.{IsFull, slot_count, slot_size}
 use Rattle.gh_alloc.specs.declared.sought.Sought.{Sought}
 use Rattle.gh_alloc.specs.declared.sought.Sought.TheVariants.{Small}
 use Rattle.gh_alloc.specs.Find.{span_for}
-use Rattle.gh_mutator.specs.declared.processor.Processor.{Processor}
 use Rattle.gh_mutator.specs.New.{sought_by, sought_for}
 use Rattle.gh_model.specs.Ever.{Ever}
 use Rattle.gh_script.specs.Program.{Program}
@@ -170,7 +169,7 @@ module _ (p : Program) (l : Layout) (es : List (Entry Op)) (plenty : HasPlenty p
 
     -- There is no room.
 
-    module _ (seat : ℕ) (m : Processor) (room : NoRoomFor (arena_of p.shapes l) seat w m (sought_for plenty.shape)) where
+    module _ (seat : ℕ) (room : NoRoomFor (arena_of p.shapes l) seat w (sought_for plenty.shape)) where
       each_span : (q : ℕ) → q < l.pages → IsSpanAt q
       each_span q lt =
           let pages = one_page in
@@ -196,7 +195,7 @@ module _ (p : Program) (l : Layout) (es : List (Entry Op)) (plenty : HasPlenty p
           (total (objects_of p) x.0.g + x.0.k, omega (arith, below), stands_there x.0 x.1 x.2 refl)
 
       each : (q i : ℕ) → q < l.pages → i < slots → (v : ℕ) × (v < bound) × Has q i v
-      each q i lt small = go (room.slots q s.h not_large s.there (s.class_is ∙ sym span_class) (s.noscan_is ∙ sym span_noscan)) where
+      each q i lt small = go (room.slots q s.h (record { small = not_large; head = s.there; class = s.class_is ∙ sym span_class; noscan = s.noscan_is ∙ sym span_noscan })) where
         s : IsSpanAt q
         s = each_span q lt
 

@@ -86,10 +86,10 @@ module _ (p : Program) (l : Layout) (es : List (Entry Op)) (o : Outcome) (plenty
     none : (g : ℕ) → length p.goroutines ≤ g → (ever p l changed f.step.before).made g ≡ 0
     none g le = let made = so_far g in let all = of_others p l es o run g le in omega (arith, made, all)
 
-    refused : (y : Op) → x ≡ y → IsFullFor (arena_of p.shapes l) f.step.entry.actor (words_in p l before) (state_of (processor_kind p.shapes l) f.step.entry.actor before) y → ⊥
+    refused : (y : Op) → x ≡ y → IsFullFor (arena_of p.shapes l) f.step.entry.actor (words_in p l before) y → ⊥
     refused (op.New g d t) is room =
         let type : t < length p.shapes = type_of p l f.step.entry.actor before g d t legal (subst (Awaited p l f.step.entry.actor before) is f.waited) in
-        no_room_is_none p l before plenty stands lie few none f.step.entry.actor _ (subst (λ (s : Shape). NoRoomFor (arena_of p.shapes l) f.step.entry.actor (words_in p l before) (state_of (processor_kind p.shapes l) f.step.entry.actor before) (sought_for s)) (the_type p l before plenty stands lie t type) room) laid
+        no_room_is_none p l before plenty stands lie few none f.step.entry.actor (subst (λ (s : Shape). NoRoomFor (arena_of p.shapes l) f.step.entry.actor (words_in p l before) (sought_for s)) (the_type p l before plenty stands lie t type) room) laid
     refused _ is room = absurd room
 
     pub none_refused : ⊥

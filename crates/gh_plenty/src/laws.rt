@@ -3,9 +3,9 @@
 ghost use Rattle.gh_plenty.specs.Plenty.{GeneratedScriptsAreNeverFull, ScriptsWithPlentyAreNeverFull};
 
 use gh_class::size_class_laws;
+use gh_explained::every_run_stands;
 use gh_mutator::laws::only_points_change;
 use gh_script::{generated_scripts_have_their_size, generated_scripts_spell, one_reading};
-use gh_world::every_run_stands;
 
 /// Where a script has one type of small objects, and the arena has room for all that it makes and for one span more a
 /// processor, no operation of a whole run of it is answered `full`.

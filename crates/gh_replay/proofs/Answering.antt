@@ -1,7 +1,7 @@
 -- As many statements are answered as the processors have answered, each of its own.
-use Rattle.std.proofs.Common.{◌≡◌, ℕ, zero, suc, ◌+◌, ◌<◌, ◌≤◌, Bool, true, false, cond, eqb, List, [], ◌∷◌, length, Option, Some, None, is_some, refl, ap, ◌∙◌, arith, inl, inr}
+use Rattle.std.proofs.Common.{◌≡◌, ℕ, zero, suc, ◌+◌, ◌<◌, ◌≤◌, List, [], ◌∷◌, length, Option, Some, is_some, refl, ap, ◌∙◌, arith, inl, inr}
 use Rattle.std.specs.Prelude.{◌⊎◌, slice_get}
-use Rattle.std.proofs.lemmas.Bool.{cases_lt, eqb-false, eqb-true}
+use Rattle.std.proofs.lemmas.Bool.{cases_lt}
 use Rattle.std.proofs.lemmas.List.Sums.{sum_by-cons}
 use Rattle.gh_base.specs.declared.value.Answer.{Answer}
 use Rattle.gh_base.specs.declared.operation.Op.{Op}
@@ -34,20 +34,14 @@ module _ (shapes : List Shape) (l : Layout) where
       sum_by-cons (λ (y : Runner). y.mutator.marks) x xs ∙ omega (arith, first, rest)
 
   all_counted : (runners : List Runner) (es : List (Entry Op)) → Counts runners es → answered_by runners ≡ answered_from 0 (length runners) es
-  all_counted runners es h = all_from runners 0 es (λ i x e. h i x e ∙ ap (λ (a : ℕ). marks_at shapes l a es) (omega arith))
+  all_counted runners es h = grind (arith, all_from)
 
   module _ (e : Entry Op) (es : List (Entry Op)) where
     other : (b : ℕ) → (e.actor ≡ b → ⊥) → marks_at shapes l b (e ∷ es) ≡ marks_at shapes l b es
-    other b apart = go (eqb e.actor b) refl where
-      go : (t : Bool) → eqb e.actor b ≡ t → marks_at shapes l b es + cond t (bit (is_some (answer_in shapes l es e))) 0 ≡ marks_at shapes l b es
-      go true f = absurd (apart (eqb-true e.actor b f))
-      go false f = omega arith
+    other b apart = grind arith
 
     own : (b : ℕ) → e.actor ≡ b → marks_at shapes l b (e ∷ es) ≡ marks_at shapes l b es + bit (is_some (answer_in shapes l es e))
-    own b same = go (eqb e.actor b) refl where
-      go : (t : Bool) → eqb e.actor b ≡ t → marks_at shapes l b es + cond t (bit (is_some (answer_in shapes l es e))) 0 ≡ marks_at shapes l b es + bit (is_some (answer_in shapes l es e))
-      go true f = refl
-      go false f = absurd (eqb-false e.actor b f same)
+    own b same = grind arith
 
     outside : (b n : ℕ) → (e.actor < b) ⊎ (b + n ≤ e.actor) → answered_from b n (e ∷ es) ≡ answered_from b n es
     outside b zero h = refl
@@ -65,8 +59,7 @@ module _ (shapes : List Shape) (l : Layout) where
 
 -- an answer with its goroutine is one where there is one
 told_long : (g : ℕ) (a : Option Answer) → length (with_goroutine g a) ≡ bit (is_some a)
-told_long g None = refl
-told_long g (Some a) = refl
+told_long g a = grind arith
 
 -- before the first step none is answered
 pub none_answered : (shapes : List Shape) (l : Layout) (runners : List Runner) → Counts shapes l runners [] → answered_by runners ≡ 0

@@ -7,14 +7,12 @@ use Rattle.std.proofs.lemmas.List.{drop_more, get_or_past, get_or-set_other, get
 use Rattle.std.proofs.lemmas.Option.{slice_get-get_or, slice_get-map}
 use Rattle.gh_base.specs.declared.operation.Op.TheVariants as op
 use Rattle.gh_base.specs.declared.value.Answer.TheVariants as answer
-use Rattle.gh_base.specs.declared.shape.Shape.{Shape}
 use Rattle.gh_ever.specs.Applied.{given_answer, IsDue, spent}
 use Rattle.gh_ever.specs.Lists.{ever_of, Lists}
-use Rattle.gh_model.specs.Answers.{AllAnswer, Answers, ever_after_all}
+use Rattle.gh_model.specs.Answers.{AllAnswer, ever_after_all}
 use Rattle.gh_model.specs.Ever.{Ever, ever_after}
 use Rattle.gh_script.specs.Program.{Goroutine, no_goroutine, statement_at}
 use Rattle.gh_script.specs.declared.statement.Stmt.{Stmt}
-use Rattle.gh_script.specs.declared.statement.Stmt.TheVariants as stmts
 use Rattle.gh_mutator.specs.Serving.{is_statement}
 use Rattle.gh_lists.specs.Order.{Answered}
 use Rattle.gh_world.specs.Points.{answers_of, ever_along, op_at_point, ops_of}
@@ -27,12 +25,10 @@ use Rattle.gh_replay.proofs.Vocabulary.{Answer, its_goroutine, Op, Program, stat
 -- ---- statements
 
 statement_is : (g : ℕ) (s : Stmt) → is_statement (statement_as_op g s) ≡ true
-statement_is g (stmts.New d t) = refl
-statement_is g _ = refl
+statement_is g s = grind arith
 
 goroutine_is : (g : ℕ) (s : Stmt) → its_goroutine (statement_as_op g s) ≡ g
-goroutine_is g (stmts.New d t) = refl
-goroutine_is g _ = refl
+goroutine_is g s = grind arith
 
 -- a goroutine that there is not has none
 none_beyond : (p : Program) (g n : ℕ) → length p.goroutines ≤ g → statement_at p g n ≡ None
@@ -61,28 +57,6 @@ is_there p g n o at = go (statement_at p g n) refl at where
         statement = ap is_statement (sym is) ∙ statement_is g s;
         its = ap its_goroutine (sym is) ∙ goroutine_is g s;
       }
-
--- it takes over what was answered
-gives : (shapes : List Shape) (e : Ever) (o : Op) (a : Answer) → Answers shapes e o a → given_answer shapes e o (Some a) ≡ a
-gives shapes e (op.New g d t) answer.Full (inl is) = absurd cc
-gives shapes e (op.New g d t) answer.Nil (inl is) = absurd cc
-gives shapes e (op.New g d t) answer.Done (inl is) = absurd cc
-gives shapes e (op.New g d t) (answer.Int n) (inl is) = absurd cc
-gives shapes e (op.New g d t) answer.Swept (inl is) = absurd cc
-gives shapes e (op.New g d t) (answer.Fault f) (inl is) = absurd cc
-gives shapes e (op.New g d t) (answer.Ref n) (inl is) = sym is
-gives shapes e (op.New g d t) a (inr is) = rw is refl
-gives shapes e (op.Load g d b k) a is = sym is
-gives shapes e (op.Store g b k v) a is = sym is
-gives shapes e (op.GetGlobal g d k) a is = sym is
-gives shapes e (op.SetGlobal g k v) a is = sym is
-gives shapes e (op.Int g d n) a is = sym is
-gives shapes e (op.Move g d s) a is = sym is
-gives shapes e (op.Nil g d) a is = sym is
-gives shapes e (op.Gc g) a is = sym is
-gives shapes e op.Poll a is = sym is
-gives shapes e (op.End g) a is = sym is
-gives shapes e op.Leave a is = sym is
 
 -- ---- among the statements
 
@@ -129,7 +103,7 @@ module _ (p : Program) (xs more : List Answered) (x : Answered) (told : Told) (l
   first = ap (λ (as' : List Answer). slice_get as' 0) (m.told g there ∙ ap answers_of own)
 
   pub given : given_answer p.shapes (ever_of lists) x.op (Some x.answer) ≡ x.answer
-  given = gives p.shapes (ever_of lists) x.op x.answer m.answers.0
+  given = grind arith
 
   -- and behind it
   module _ (told_then : Told) (then : Lists) (t : Takes p g x.op x.answer told told_then lists then) where
@@ -204,7 +178,7 @@ module _ (p : Program) (points : List (ℕ × ℕ)) (answers : List (ℕ × Answ
       -- it is told the answer that the statement was given, and answers it so
       module _ (a : Option Answer) (taken : a ≡ slice_get (answers_untaken told point.0) 0) where
         pub told_is : a ≡ Some next.answer
-        told_is = taken ∙ first p xs (drop (i + 1) xs) next told lists point.0 point.1 before_it point_at
+        told_is = grind (arith, before_it, first, point_at)
 
         pub told_some : a ≡ None → ⊥
         told_some none = let no : None ≡ Some next.answer = sym none ∙ told_is in cc
@@ -213,9 +187,7 @@ module _ (p : Program) (points : List (ℕ × ℕ)) (answers : List (ℕ × Answ
         told_so b is = let same : Some b ≡ Some next.answer = sym is ∙ told_is in cc
 
         pub next_given : (b : Answer) → a ≡ Some b → given_answer p.shapes (ever_of lists) next.op (Some b) ≡ b
-        next_given b is =
-            subst (λ (x : Answer). given_answer p.shapes (ever_of lists) next.op (Some x) ≡ x) (sym (told_so b is))
-            (given p xs (drop (i + 1) xs) next told lists point.0 point.1 before_it point_at)
+        next_given b is = grind (arith, before_it, given, point_at, told_so)
 
         pub next_goes_on : (b : Answer) → a ≡ Some b → (told_then : Told) (then : Lists) → Takes p point.0 next.op b told told_then lists then → Midway p xs (drop (i + 1) xs) told_then then
         next_goes_on b is told_then then t =

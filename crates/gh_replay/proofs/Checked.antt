@@ -13,8 +13,7 @@ module _ (p : Program) (o : Outcome) where
   last b = cond b (agrees_line ∷ []) []
 
   last_long : (b : Bool) → length (last b) ≡ bit b
-  last_long true = refl
-  last_long false = refl
+  last_long b = grind arith
 
   pub lines_long : (b : Bool) → length (replay_lines p o b) ≡ length (outcome_lines p o) + bit b
   lines_long b = let both = length-append (outcome_lines p o) (last b) in let one = last_long b in omega (arith, both, one)

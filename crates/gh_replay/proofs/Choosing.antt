@@ -1,5 +1,5 @@
 -- Who steps next, where a schedule stands so: an actor that has not ended, or nobody where all have.
-use Rattle.std.proofs.Common.{◌≡◌, ℕ, zero, suc, ◌+◌, ◌-◌, ◌%◌, ◌<◌, ◌≤◌, Bool, true, false, cond, eqb, not, ltb, ◌||◌, List, [], ◌∷◌, ◌++◌, length, Option, Some, None, refl, sym, ap, ◌∙◌, arith, inl, inr}
+use Rattle.std.proofs.Common.{◌≡◌, ℕ, zero, suc, ◌+◌, ◌-◌, ◌%◌, ◌<◌, ◌≤◌, Bool, true, false, cond, eqb, not, ◌||◌, List, [], ◌∷◌, ◌++◌, length, Option, Some, None, refl, sym, ap, ◌∙◌, arith, inl, inr}
 use Rattle.std.specs.Prelude.{◌⊎◌, IfSome, nat_le, slice_get}
 use Rattle.std.specs.List.{filter, range_with_len}
 use Rattle.std.proofs.lemmas.Bool.{cases_lt}
@@ -7,11 +7,11 @@ use Rattle.std.proofs.lemmas.Bool.Decides.{nat_tests}
 use Rattle.std.proofs.lemmas.List.{append-nil}
 use Rattle.std.proofs.lemmas.Option.{slice_get-get_or}
 use Rattle.rand_xoshiro.specs.SplitMix64.{mix_u64}
-use Rattle.gh_world.specs.Schedule.{behind, first_going, in_order_from, turn_from}
+use Rattle.gh_world.specs.Schedule.{first_going, in_order_from, turn_from}
 use Rattle.gh_replay.specs.declared.schedule.Turn.{Turn}
 use Rattle.gh_replay.specs.declared.schedule.Until.{Until}
 use Rattle.gh_replay.specs.declared.schedule.Until.TheVariants.{Steps, Marks, Without}
-use Rattle.gh_replay.specs.Standing.{ActorsSoFar, going, is_gone, is_over, is_over_by, moved, next_of, one_less, passed, Standing, stands_behind, stands_by, to_come, who, who_behind, who_by, who_of, with_actor_ended}
+use Rattle.gh_replay.specs.Standing.{ActorsSoFar, going, is_gone, is_over, is_over_by, moved, next_of, passed, Standing, stands_behind, to_come, who, who_behind, who_by, who_of, with_actor_ended}
 
 -- ---- whose turn it is
 
@@ -48,15 +48,7 @@ none_of ended a zero rest e = (λ w low high. absurd (omega (arith, low, high)),
 none_of ended a (suc m) rest e = go (ended a) refl e (none_of ended (a + 1) m rest) where
   go : (b : Bool) → ended a ≡ b → cond b (first_going ended (range_with_len (a + 1) m ++ rest)) (Some a) ≡ None → (first_going ended (range_with_len (a + 1) m ++ rest) ≡ None → ((w : ℕ) → a + 1 ≤ w → w < a + 1 + m → ended w ≡ true) × (first_going ended rest ≡ None)) →
       ((w : ℕ) → a ≤ w → w < a + suc m → ended w ≡ true) × (first_going ended rest ≡ None)
-  go false f q ih = absurd cc
-  go true f q ih =
-      let more = ih q in (
-        λ w low high. elim (cases_lt a w) [
-          | inl lt ↦ more.0 w (omega (arith, lt)) (omega (arith, high))
-          | inr le ↦ let same : w ≡ a = omega (arith, le, low) in ap ended same ∙ f
-        ],
-        more.1,
-      )
+  go b f q ih = grind arith
 
 pub none_going : (ended : ℕ → Bool) (n a : ℕ) → turn_from ended n a ≡ None → (w : ℕ) → w < n → ended w ≡ true
 none_going ended n a e w lt =
@@ -73,19 +65,13 @@ drawn_of : (ended : ℕ → Bool) (b m k a : ℕ) → slice_get (filter (λ x. n
 drawn_of ended b zero k a e = absurd cc
 drawn_of ended b (suc m) k a e = go (λ j f. let h = drawn_of ended (b + 1) m j a f in let low = h.0 in (omega (arith, low), h.1)) (ended b) refl k e where
   go : ((j : ℕ) → slice_get (filter (λ x. not (ended x)) (range_with_len (b + 1) m)) j ≡ Some a → (a < b + suc m) × (ended a ≡ false)) → (c : Bool) → ended b ≡ c → (j : ℕ) → slice_get (cond (not c) (b ∷ filter (λ x. not (ended x)) (range_with_len (b + 1) m)) (filter (λ x. not (ended x)) (range_with_len (b + 1) m))) j ≡ Some a → (a < b + suc m) × (ended a ≡ false)
-  go later true f j q = later j q
-  go later false f zero q = let same : b ≡ a = cc in (omega (arith, same), ap ended (sym same) ∙ f)
-  go later false f (suc j) q = later j q
+  go later c f j q = grind arith
 
 none_drawn : (ended : ℕ → Bool) (b m : ℕ) → length (filter (λ x. not (ended x)) (range_with_len b m)) ≡ 0 → (a : ℕ) → b ≤ a → a < b + m → ended a ≡ true
 none_drawn ended b zero e a low high = absurd (omega arith)
 none_drawn ended b (suc m) e a low high = go (λ q lt. none_drawn ended (b + 1) m q a (omega (arith, lt)) (omega (arith, high))) (ended b) refl e where
   go : (length (filter (λ x. not (ended x)) (range_with_len (b + 1) m)) ≡ 0 → b < a → ended a ≡ true) → (c : Bool) → ended b ≡ c → length (cond (not c) (b ∷ filter (λ x. not (ended x)) (range_with_len (b + 1) m)) (filter (λ x. not (ended x)) (range_with_len (b + 1) m))) ≡ 0 → ended a ≡ true
-  go later true f q = elim (cases_lt b a) [
-    | inl lt ↦ later q lt
-    | inr le ↦ let same : a ≡ b = omega (arith, le, low) in ap ended same ∙ f
-  ]
-  go later false f q = absurd (omega arith)
+  go later c f q = grind arith
 
 -- nobody is drawn only among none
 none_at : {A : Type 0} (xs : List A) (w : ℕ) → slice_get xs (w % length xs) ≡ None → length xs ≡ 0
@@ -112,15 +98,11 @@ behind_none r next (Some x) q a lt = none_drawn r.ended 0 r.actors (none_at (goi
 -- ---- who steps next
 
 pub either_false : (b c : Bool) → (b || c) ≡ false → (b ≡ false) × (c ≡ false)
-either_false true c e = absurd cc
-either_false false c e = (refl, e)
+either_false b c e = grind arith
 
 -- an actor that is not gone
 pub not_gone : (r : ActorsSoFar) (a : ℕ) → is_gone r a ≡ false → (a < r.actors) × (r.ended a ≡ false)
-not_gone r a e =
-    let both = either_false (nat_le r.actors a) (r.ended a) e in
-    let le = both.0 in
-    (grind (arith, nat_tests), both.1)
+not_gone r a e = grind arith
 
 -- by an item that has not ended
 by_there : (r : ActorsSoFar) (s : Standing) (b a : ℕ) (u : Until) → s.next < r.actors → is_over_by r b u ≡ false → who_by r b u s ≡ Some a → (a < r.actors) × (r.ended a ≡ false)
@@ -146,11 +128,7 @@ head_going r (x ∷ xs) t more e = go (head_going r xs t more) (is_over r x) ref
   go later false f q = let same : x ≡ t = cc in ap (is_over r) (sym same) ∙ f
 
 pub next_low : (r : ActorsSoFar) (xs : List Turn) (next : ℕ) → next < r.actors → next_of r xs next < r.actors
-next_low r [] next low = low
-next_low r (t ∷ more) next low = go (is_over r t) where
-  go : (b : Bool) → cond b 0 next < r.actors
-  go true = omega (arith, low)
-  go false = low
+next_low r xs next low = grind arith
 
 -- whoever steps next is there, and has not ended
 pub who_there : (r : ActorsSoFar) (s : Standing) (a : ℕ) → s.next < r.actors → who r s ≡ Some a → (a < r.actors) × (r.ended a ≡ false)
@@ -160,8 +138,7 @@ who_there r s a low e = go (to_come r s.items) refl e where
   go (t ∷ more) f q = by_there r (passed r s) t.actor a t.until (next_low r s.items s.next low) (head_going r s.items t more f) q
 
 pub is_there : (r : ActorsSoFar) (s : Standing) (o : Option ℕ) → s.next < r.actors → o ≡ who r s → IfSome o (λ a. (a < r.actors) × (r.ended a ≡ false))
-is_there r s None low e = tt
-is_there r s (Some a) low e = who_there r s a low (sym e)
+is_there r s o low e = grind (arith, who_there)
 
 -- where nobody does, all have ended
 pub none_left : (r : ActorsSoFar) (s : Standing) → who r s ≡ None → (a : ℕ) → a < r.actors → r.ended a ≡ true
@@ -170,23 +147,9 @@ none_left r s e a lt = go (to_come r s.items) refl e where
   go [] f q = behind_none r (next_of r s.items s.next) s.drawn q a lt
   go (t ∷ more) f q = absurd (by_some r (passed r s) t.actor t.until (head_going r s.items t more f) q)
 
-behind_low : (n a : ℕ) → 0 < n → behind n a < n
-behind_low n a some = go (ltb (a + 1) n) refl where
-  go : (b : Bool) → ltb (a + 1) n ≡ b → cond b (a + 1) 0 < n
-  go true e = grind (arith, nat_tests)
-  go false e = some
-
 -- the next turn stays that of an actor that there is
 pub moved_low : (r : ActorsSoFar) (a : ℕ) (s : Standing) → s.next < r.actors → (moved r a s).next < r.actors
-moved_low r a s low = go (to_come r s.items) where
-  by_item : (u : Until) (items : List Turn) → (stands_by r a u items (passed r s)).next < r.actors
-  by_item (Steps n) items = next_low r s.items s.next low
-  by_item (Marks m) items = next_low r s.items s.next low
-  by_item (Without n) items = behind_low r.actors a (omega (arith, low))
-
-  go : (xs : List Turn) → (stands_behind r a xs (passed r s)).next < r.actors
-  go [] = behind_low r.actors a (omega (arith, low))
-  go (t ∷ more) = by_item t.until (one_less t ∷ more)
+moved_low r a s low = grind (arith, nat_tests)
 
 -- ---- actors that have come to the same
 
@@ -211,11 +174,10 @@ module _ (r q : ActorsSoFar) (h : Agree r q) where
       same_first next (r.actors - next) (range_with_len 0 next) (omega (arith, low)) low_part ∙ ap (λ (n : ℕ). turn_from q.ended n next) h.actors
 
   same_going : going r ≡ going q
-  same_going = same_filter 0 r.actors (omega arith) ∙ ap (λ (n : ℕ). filter (λ a. not (q.ended a)) (range_with_len 0 n)) h.actors
+  same_going = grind (arith, same_filter)
 
   same_behind : (next : ℕ) (o : Option ℕ) → next < r.actors → who_behind r next o ≡ who_behind q next o
-  same_behind next None low = same_turn next low
-  same_behind next (Some x) low = ap (λ (as' : List ℕ). slice_get as' ((mix_u64 x).0 % length as')) same_going
+  same_behind next o low = grind (arith, same_going, same_turn)
 
   but_for : (b : ℕ) → Agree (with_actor_ended b r) (with_actor_ended b q)
   but_for b = record { actors = h.actors; ended = λ a lt. ap (λ (c : Bool). eqb b a || c) (h.ended a lt); marks = h.marks }
@@ -245,34 +207,24 @@ module _ (r q : ActorsSoFar) (h : Agree r q) where
   same_to_come (t ∷ more) = rw (same_over_by t.actor t.until, same_to_come more) refl
 
   same_next : (xs : List Turn) (next : ℕ) → next_of r xs next ≡ next_of q xs next
-  same_next [] next = refl
-  same_next (t ∷ more) next = ap (λ (b : Bool). cond b 0 next) (same_over_by t.actor t.until)
+  same_next xs next = grind (arith, same_over_by)
 
   same_passed : (s : Standing) → passed r s ≡ passed q s
-  same_passed s = rw (same_to_come s.items, same_next s.items s.next) refl
+  same_passed s = grind (arith, same_next, same_to_come)
 
   same_by : (a : ℕ) (u : Until) (s : Standing) → s.next < r.actors → who_by r a u s ≡ who_by q a u s
-  same_by a (Steps n) s low = refl
-  same_by a (Marks m) s low = refl
-  same_by a (Without n) s low = same_behind (with_actor_ended a r) (with_actor_ended a q) (but_for r q h a) s.next s.drawn low
+  same_by a u s low = grind (arith, but_for, same_behind)
 
   same_of : (xs : List Turn) (s : Standing) → s.next < r.actors → who_of r xs s ≡ who_of q xs s
-  same_of [] s low = same_behind r q h s.next s.drawn low
-  same_of (t ∷ more) s low = same_by t.actor t.until s low
+  same_of xs s low = grind (arith, same_behind, same_by)
 
   -- so the same actor steps next,
   pub same_who : (s : Standing) → s.next < r.actors → who r s ≡ who q s
-  same_who s low = same_of (to_come r s.items) (passed r s) (next_low r s.items s.next low) ∙ ap (λ (t : Standing). who_of q t.items t) (same_passed s)
-
-  same_stands : (a : ℕ) (u : Until) (items : List Turn) (s : Standing) → stands_by r a u items s ≡ stands_by q a u items s
-  same_stands a (Steps n) items s = refl
-  same_stands a (Marks m) items s = refl
-  same_stands a (Without n) items s = rw h.actors refl
+  same_who s low = grind (arith, next_low, same_of, same_passed)
 
   same_behind_items : (a : ℕ) (xs : List Turn) (s : Standing) → stands_behind r a xs s ≡ stands_behind q a xs s
-  same_behind_items a [] s = rw h.actors refl
-  same_behind_items a (t ∷ more) s = same_stands a t.until (one_less t ∷ more) s
+  same_behind_items a xs s = grind arith
 
   -- and the schedule stands alike then
   pub same_moved : (a : ℕ) (s : Standing) → moved r a s ≡ moved q a s
-  same_moved a s = same_behind_items a (to_come r s.items) (passed r s) ∙ ap (λ (t : Standing). stands_behind q a t.items t) (same_passed s)
+  same_moved a s = grind (arith, same_behind_items, same_passed)

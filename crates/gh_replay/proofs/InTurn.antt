@@ -1,5 +1,5 @@
 -- Where a schedule says nothing the actors take turns in ascending order.
-use Rattle.std.proofs.Common.{◌≡◌, ℕ, List, [], ◌∷◌, None, refl, sym, ap, ◌∙◌}
+use Rattle.std.proofs.Common.{◌≡◌, ℕ, List, [], ◌∷◌, None, refl, sym, ap, ◌∙◌, arith}
 use Rattle.gh_base.specs.declared.operation.Op.{Op}
 use Rattle.gh_base.specs.declared.layout.Layout.{Layout}
 use Rattle.gh_base.specs.declared.machine.Entry.{Entry}
@@ -19,7 +19,7 @@ module _ (p : Program) (l : Layout) where
   stands_alone (e ∷ es) = ap (moved (reached_in p l es) e.actor) (stands_alone es)
 
   same_turn : (es : List (Entry Op)) → who (reached_in p l es) (stands_in p l no_plan es) ≡ turn_in p l es (next_in (setting_of p l) es)
-  same_turn es = ap (who (reached_in p l es)) (stands_alone es)
+  same_turn es = grind (arith, stands_alone)
 
   to : (es : List (Entry Op)) → IsScheduled p l no_plan es → IsInTurn (setting_of p l) es
   to [] h = tt

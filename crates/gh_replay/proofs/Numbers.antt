@@ -24,24 +24,12 @@ pub unfit_has_none : (least most : ℕ) (word : List ℕ) → unfit word ≡ tru
 unfit_has_none least most word e = rw (number_by word, e) refl
 
 pub letters_have_none : (least most : ℕ) (word : List ℕ) → list_all is_digit word ≡ false → None ≡ ranged least most word
-letters_have_none least most word e = rw (number_by word, e) (go (unfit word)) where
-  go : (b : Bool) → None ≡ option_and_then (within least most) (cond b None None)
-  go true = refl
-  go false = refl
-
-out : (least most n : ℕ) → most < n → None ≡ within least most n
-out least most n lt = let past : nat_le n most ≡ false = grind (arith, nat_tests) in rw past (go (nat_le least n)) where
-  go : (b : Bool) → None ≡ cond (b && false) (Some n) None
-  go true = refl
-  go false = refl
+letters_have_none least most word e = grind (arith, number_by)
 
 pub large_has_none : (least most : ℕ) (word : List ℕ) → most < value_from 0 word → None ≡ ranged least most word
 large_has_none least most word lt = rw (number_by word) (go (unfit word) (list_all is_digit word) (ltb (value_from 0 word) (2 ^ 64))) where
   go : (b d s : Bool) → None ≡ option_and_then (within least most) (tested word b d s)
-  go true d s = refl
-  go false true true = out least most (value_from 0 word) lt
-  go false true false = refl
-  go false false s = refl
+  go b d s = grind arith
 
 pub digits_have_one : (least most : ℕ) (word : List ℕ) → unfit word ≡ false → list_all is_digit word ≡ true → value_from 0 word < 2 ^ 64 → ranged least most word ≡ within least most (value_from 0 word)
 digits_have_one least most word e d lt = rw (number_by word, e, d, lt-ltb (value_from 0 word) (2 ^ 64) lt) refl

@@ -10,13 +10,12 @@ use Rattle.gh_base.specs.Lists.{by}
 use Rattle.gh_script.specs.Program.{Program}
 use Rattle.gh_lists.specs.Order.{begun_in}
 use Rattle.gh_world.specs.Runs.{actors_in, EveryOrderHasOneRun, IsRun, IsRunSoFar}
-use Rattle.gh_world.specs.Schedule.{ended_after}
 use Rattle.gh_world.specs.Turns.{turns_of}
 use Rattle.gh_world.specs.World.{setting_of}
 use Rattle.gh_replay.specs.Plan.{Plan}
 use Rattle.gh_replay.specs.Scheduled.{IsScheduled, reached_in, stands_in}
 use Rattle.gh_replay.specs.Standing.{who}
-use Rattle.gh_replay.proofs.Choosing.{moved_low, who_there}
+use Rattle.gh_replay.proofs.Choosing.{moved_low}
 
 -- ---- a run so far, before its last step
 
@@ -55,11 +54,7 @@ module _ (ordered : EveryOrderHasOneRun) (p : Program) (l : Layout) (plan : Plan
       ordered p l (e ∷ es) (f ∷ fs) r s actors
 
   nothing_follows : (e : Entry Op) (es : List (Entry Op)) → IsRun p l es → IsRunSoFar p l (e ∷ es) → IsScheduled p l plan (e ∷ es) → ⊥
-  nothing_follows e es run r t =
-      let going : ended_after (setting_of p l) es e.actor ≡ false = (who_there (reached_in p l es) (stands_in p l plan es) e.actor (stands_low p l plan es) t.1).1 in
-      let done : ended_after (setting_of p l) es e.actor ≡ true = run.done e.actor r.legal.1.actor in
-      let no : true ≡ false = sym done ∙ going in
-      absurd cc
+  nothing_follows e es run r t = grind arith
 
   not_as_long : (e : Entry Op) (es fs : List (Entry Op)) → IsRun p l es → IsRunSoFar p l (e ∷ fs) → IsScheduled p l plan es → IsScheduled p l plan (e ∷ fs) → length es ≡ length fs → ⊥
   not_as_long e es fs run r t u long =

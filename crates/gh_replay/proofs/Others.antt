@@ -42,12 +42,10 @@ then_of ended (x ∷ xs) ys e = go (ended x) (then_of ended xs ys) e where
 
 module _ (ended : ℕ → Bool) (n m next : ℕ) (same : m ≡ n) where
   pub in_first : (a : ℕ) → first_within ended next m ≡ Some a → Some a ≡ turn_from ended n next
-  in_first a e = sym (first_of ended (range_with_len next (n - next)) (range_with_len 0 next) a (ap (first_within ended next) (sym same) ∙ e))
+  in_first a e = grind (arith, first_of)
 
   pub in_second : (o : Option ℕ) → first_within ended next m ≡ None → o ≡ first_within ended 0 next → o ≡ turn_from ended n next
-  in_second o e is =
-      let all : next - 0 ≡ next = omega arith in
-      is ∙ ap (λ (k : ℕ). first_going ended (range_with_len 0 k)) all ∙ sym (then_of ended (range_with_len next (n - next)) (range_with_len 0 next) (ap (first_within ended next) (sym same) ∙ e))
+  in_second o e is = grind (arith, then_of)
 
 -- nobody is the first exactly where nobody is kept
 pub none_first : (ended : ℕ → Bool) (xs : List ℕ) (a : ℕ) → first_going ended xs ≡ Some a → eqb (length (filter (λ x. not (ended x)) xs)) 0 ≡ false
@@ -66,9 +64,7 @@ none_kept ended (x ∷ xs) e = go (ended x) (none_kept ended xs) e where
 
 module _ (r : ActorsSoFar) (m : ℕ) where
   pub some_in : (a : ℕ) → m ≡ r.actors → first_within r.ended 0 m ≡ Some a → eqb (length (going r)) 0 ≡ false
-  some_in a same e =
-      let all : m - 0 ≡ r.actors = omega (arith, same) in
-      none_first r.ended (range_with_len 0 r.actors) a (ap (λ (k : ℕ). first_going r.ended (range_with_len 0 k)) (sym all) ∙ e)
+  some_in a same e = grind (arith, none_first)
 
   pub all_out : m ≡ r.actors → first_within r.ended 0 m ≡ None → eqb (length (going r)) 0 ≡ true
   all_out same e =
@@ -88,21 +84,14 @@ kept_but f actor (x ∷ xs) = go (eqb actor x) (f x) refl (kept_but f actor xs) 
   G = filter (λ y. not (f y)) xs
 
   go : (b c : Bool) → eqb actor x ≡ b → F ≡ filter (λ y. not (eqb actor y)) G → cond (not (b || c)) (x ∷ F) F ≡ filter (λ y. not (eqb actor y)) (cond (not c) (x ∷ G) G)
-  go true true is ih = ih
-  go true false is ih = rw is ih
-  go false true is ih = ih
-  go false false is ih = rw is (ap (λ (ys : List ℕ). x ∷ ys) ih)
+  go b c is ih = grind arith
 
 pub going_but : (r : ActorsSoFar) (actor : ℕ) → going (with_actor_ended actor r) ≡ filter (λ x. not (eqb actor x)) (going r)
 going_but r actor = kept_but r.ended actor (range_with_len 0 r.actors)
 
 pub chosen_but : (r : ActorsSoFar) (actor next w x : ℕ) (kept : List ℕ) (drawn o : Option ℕ) → drawn ≡ Some x → w ≡ (mix_u64 x).0 → IfSome drawn (λ y. kept ≡ going r) →
     o ≡ slice_get (filter (λ b. not (eqb actor b)) kept) (w % length (filter (λ b. not (eqb actor b)) kept)) → o ≡ who_behind (with_actor_ended actor r) next drawn
-chosen_but r actor next w x kept None o is word all says = absurd cc
-chosen_but r actor next w x kept (Some y) o is word all says =
-    let same : filter (λ b. not (eqb actor b)) kept ≡ going (with_actor_ended actor r) = ap (filter (λ b. not (eqb actor b))) all ∙ sym (going_but r actor) in
-    let drew : w ≡ (mix_u64 y).0 = let one : y ≡ x = cc in word ∙ ap (λ (z : ℕ). (mix_u64 z).0) (sym one) in
-    says ∙ ap (λ (xs : List ℕ). slice_get xs (w % length xs)) same ∙ ap (λ (v : ℕ). slice_get (going (with_actor_ended actor r)) (v % length (going (with_actor_ended actor r)))) drew
+chosen_but r actor next w x kept drawn o is word all says = grind (arith, going_but)
 
 -- one after the other
 abbrev pub but : ℕ → List ℕ → List ℕ

@@ -1,20 +1,18 @@
 -- Each name that the heap that never frees answers is one that a goroutine of the script gave.
-use Rattle.std.proofs.Common.{◌≡◌, ℕ, ◌<◌, ◌≤◌, Bool, true, false, cond, ◌==◌, ◌&&◌, List, [], ◌∷◌, ◌++◌, length, map, refl, sym, subst, ◌∙◌, inl, inr}
+use Rattle.std.proofs.Common.{◌≡◌, ℕ, ◌<◌, ◌≤◌, Bool, true, false, cond, ◌==◌, List, [], ◌∷◌, ◌++◌, length, map, refl, sym, subst, ◌∙◌, inl, inr, arith}
 use Rattle.std.proofs.lemmas.Bool.{cases_lt, eq-eqb}
 use Rattle.std.specs.List.{AllByRecursion, filter}
 use Rattle.gh_base.specs.declared.value.Name.{Name}
-use Rattle.gh_base.specs.declared.value.Fault.TheVariants.{Field, Kind}
 use Rattle.gh_base.specs.declared.value.Answer.TheVariants as answers
 use Rattle.gh_base.specs.declared.operation.Op.TheVariants as ops
 use Rattle.gh_base.specs.declared.shape.Shape.{Shape}
-use Rattle.gh_base.specs.Shapes.{shape_at, is_pointer}
 use Rattle.gh_lines.specs.Text.{answers_by}
 use Rattle.gh_lists.specs.Order.{acted_in, Answered}
 use Rattle.gh_world.specs.Turns.{is_statement_of}
 use Rattle.gh_replay.specs.Report.{IsReportOf, ReportState}
 use Rattle.gh_model.specs.declared.EverValue.{EverValue}
 use Rattle.gh_model.specs.declared.EverValue.TheVariants as values
-use Rattle.gh_model.specs.Ever.{Ever, opening_ever, ever_after, answer_of_value, load_answer, store_answer, has_field, is_pointer_field, fits, first_value, is_number, same_name, next_name, with_register, with_field, with_object, takes_answer, stores_value, sets_global, makes_object}
+use Rattle.gh_model.specs.Ever.{Ever, opening_ever, ever_after, next_name, with_register, with_object, takes_answer, stores_value, sets_global, makes_object}
 use Rattle.gh_model.specs.Answers.{Answers, AllAnswer}
 use Rattle.gh_replay.proofs.Vocabulary.{Answer, MakerStands, Op, Program}
 
@@ -36,112 +34,29 @@ module _ (shapes : List Shape) (n : ℕ) where
   OwnAnswer (answers.Ref m) = m.g < n
   OwnAnswer _ = Unit {0}
 
-  own_if : (b : Bool) (v w : EverValue) → Own v → Own w → Own (cond b v w)
-  own_if true v w p q = p
-  own_if false v w p q = q
-
-  told_own : (v : EverValue) → Own v → OwnAnswer (answer_of_value v)
-  told_own values.Nil o = tt
-  told_own (values.Int k) o = tt
-  told_own (values.Ref m) o = o
-
-  first_own : (b : Bool) → Own (first_value b)
-  first_own true = tt
-  first_own false = tt
-
-  load_own : (e : Ever) (v : EverValue) (k : ℕ) → AllOwn e → OwnAnswer (load_answer shapes e v k)
-  load_own e values.Nil k h = tt
-  load_own e (values.Int i) k h = tt
-  load_own e (values.Ref m) k h = go (has_field shapes e m k) where
-    go : (b : Bool) → OwnAnswer (cond b (answer_of_value (e.field m k)) (answers.Fault Field))
-    go true = told_own (e.field m k) (h.fields m k)
-    go false = tt
-
-  store_own : (e : Ever) (v : EverValue) (k : ℕ) (w : EverValue) → OwnAnswer (store_answer shapes e v k w)
-  store_own e values.Nil k w = tt
-  store_own e (values.Int i) k w = tt
-  store_own e (values.Ref m) k w = go (has_field shapes e m k) (fits (is_pointer_field shapes e m k) w) where
-    go : (b c : Bool) → OwnAnswer (cond b (cond c answers.Done (answers.Fault Kind)) (answers.Fault Field))
-    go true true = tt
-    go true false = tt
-    go false c = tt
-
-  set_own : (b : Bool) → OwnAnswer (cond b (answers.Fault Kind) answers.Done)
-  set_own true = tt
-  set_own false = tt
-
-  as_own : (a b : Answer) → a ≡ b → OwnAnswer b → OwnAnswer a
-  as_own a b e o = subst OwnAnswer (sym e) o
-
   answer_own : (e : Ever) (o : Op) (a : Answer) → AllOwn e → OwnOp o → Answers shapes e o a → OwnAnswer a
-  answer_own e (ops.New g d t) a h own (inl q) = as_own a _ q own
-  answer_own e (ops.New g d t) a h own (inr q) = as_own a _ q tt
-  answer_own e (ops.Load g d b k) a h own q = as_own a _ q (load_own e (e.register g b) k h)
-  answer_own e (ops.Store g b k v) a h own q = as_own a _ q (store_own e (e.register g b) k (e.register g v))
-  answer_own e (ops.GetGlobal g d k) a h own q = as_own a _ q (told_own (e.global k) (h.globals k))
-  answer_own e (ops.SetGlobal g k v) a h own q = as_own a _ q (set_own (is_number (e.register g v)))
-  answer_own e _ a h own q = as_own a _ q tt
+  answer_own e o a h own q = grind arith
 
   register_own : (e : Ever) (g d : ℕ) (v : EverValue) → AllOwn e → Own v → AllOwn (with_register e g d v)
-  register_own e g d v x o = record {
-    registers = λ h c. own_if ((h == g) && (c == d)) v (e.register h c) o (x.registers h c);
-    fields = x.fields;
-    globals = x.globals;
-  }
+  register_own e g d v x o = grind arith
 
   takes_own : (e : Ever) (g d : ℕ) (a : Answer) → AllOwn e → OwnAnswer a → AllOwn (takes_answer e g d a)
-  takes_own e g d answers.Nil x o = register_own e g d values.Nil x tt
-  takes_own e g d (answers.Int i) x o = register_own e g d (values.Int i) x tt
-  takes_own e g d (answers.Ref m) x o = register_own e g d (values.Ref m) x o
-  takes_own e g d _ x o = x
-
-  field_own : (e : Ever) (m : Name) (k : ℕ) (v : EverValue) → AllOwn e → Own v → AllOwn (with_field e m k v)
-  field_own e m k v x o = record {
-    registers = x.registers;
-    fields = λ h c. own_if (same_name h m && (c == k)) v (e.field h c) o (x.fields h c);
-    globals = x.globals;
-  }
+  takes_own e g d a x o = grind arith
 
   stores_own : (e : Ever) (v : EverValue) (k : ℕ) (w : EverValue) (a : Answer) → AllOwn e → Own w → AllOwn (stores_value e v k w a)
-  stores_own e (values.Ref m) k w answers.Done x o = field_own e m k w x o
-  stores_own e (values.Ref m) k w answers.Nil x o = x
-  stores_own e (values.Ref m) k w (answers.Int i) x o = x
-  stores_own e (values.Ref m) k w (answers.Ref q) x o = x
-  stores_own e (values.Ref m) k w answers.Swept x o = x
-  stores_own e (values.Ref m) k w answers.Full x o = x
-  stores_own e (values.Ref m) k w (answers.Fault f) x o = x
-  stores_own e values.Nil k w a x o = x
-  stores_own e (values.Int i) k w a x o = x
+  stores_own e v k w a x o = grind arith
 
   sets_own : (e : Ever) (k : ℕ) (v : EverValue) (a : Answer) → AllOwn e → Own v → AllOwn (sets_global e k v a)
-  sets_own e k v answers.Done x o = record { registers = x.registers; fields = x.fields; globals = λ c. own_if (c == k) v (e.global c) o (x.globals c) }
-  sets_own e k v _ x o = x
-
-  object_own : (e : Ever) (g t : ℕ) → AllOwn e → AllOwn (with_object shapes e g t)
-  object_own e g t x = record {
-    registers = x.registers;
-    fields = λ m k. own_if (same_name m (next_name e g)) (first_value (is_pointer (shape_at shapes t) k)) (e.field m k) (first_own (is_pointer (shape_at shapes t) k)) (x.fields m k);
-    globals = x.globals;
-  }
+  sets_own e k v a x o = grind arith
 
   made_own : (e : Ever) (g d t : ℕ) → AllOwn e → g < n → AllOwn (with_register (with_object shapes e g t) g d (values.Ref (next_name e g)))
-  made_own e g d t x o = register_own (with_object shapes e g t) g d (values.Ref (next_name e g)) (object_own e g t x) o
+  made_own e g d t x o = grind arith
 
   makes_own : (e : Ever) (g d t : ℕ) (a : Answer) → AllOwn e → g < n → AllOwn (makes_object shapes e g d t a)
-  makes_own e g d t answers.Full x o = register_own e g d values.Nil x tt
-  makes_own e g d t _ x o = made_own e g d t x o
+  makes_own e g d t a x o = grind (arith, made_own, register_own)
 
   after_own : (e : Ever) (o : Op) (a : Answer) → AllOwn e → OwnOp o → OwnAnswer a → AllOwn (ever_after shapes e o a)
-  after_own e (ops.New g d t) a x own q = makes_own e g d t a x own
-  after_own e (ops.Load g d b k) a x own q = takes_own e g d a x q
-  after_own e (ops.Store g b k v) a x own q = stores_own e (e.register g b) k (e.register g v) a x (x.registers g v)
-  after_own e (ops.GetGlobal g d k) a x own q = takes_own e g d a x q
-  after_own e (ops.SetGlobal g k v) a x own q = sets_own e k (e.register g v) a x (x.registers g v)
-  after_own e (ops.Int g d i) a x own q = register_own e g d (values.Int i) x tt
-  after_own e (ops.Move g d s) a x own q = register_own e g d (e.register g s) x (x.registers g s)
-  after_own e (ops.Nil g d) a x own q = register_own e g d values.Nil x tt
-  after_own e (ops.End g) a x own q = record { registers = x.registers; fields = x.fields; globals = x.globals }
-  after_own e _ a x own q = x
+  after_own e o a x own q = grind (arith, makes_own, register_own, sets_own, stores_own, takes_own)
 
   -- the answers to operations of goroutines that there are
   pub all_own : (e : Ever) (os : List Op) (told_so : List Answer) → AllOwn e → AllByRecursion OwnOp os → AllAnswer shapes e os told_so → AllByRecursion OwnAnswer told_so
@@ -160,8 +75,7 @@ module _ (shapes : List Shape) (n : ℕ) where
   NoOthers xs = (g : ℕ) → n ≤ g → filter (λ (x : Answered). is_statement_of g x.op) xs ≡ []
 
   none_here : (x : Answered) (xs : List Answered) (b : Bool) → cond b (x ∷ xs) xs ≡ [] → (b ≡ false) × (xs ≡ [])
-  none_here x xs true e = absurd cc
-  none_here x xs false e = (refl, e)
+  none_here x xs b e = grind arith
 
   op_own : (o : Op) → ((g : ℕ) → n ≤ g → is_statement_of g o ≡ false) → OwnOp o
   op_own (ops.New g d t) none = elim (cases_lt g n) [
@@ -186,8 +100,7 @@ module _ (shapes : List Shape) (n : ℕ) where
 
 -- each answer that names an object has a goroutine of the script that made it
 maker_stands : (p : Program) (b : Answer) → OwnAnswer p.shapes (length p.goroutines) b → MakerStands p b
-maker_stands p (answers.Ref m) o = o
-maker_stands p _ o = tt
+maker_stands p b o = grind arith
 
 -- what is so of each goroutine's answers is so of all
 by_goroutine : (p : Program) (told_so : List (ℕ × Answer)) → ((g : ℕ) → AllByRecursion (OwnAnswer p.shapes (length p.goroutines)) (answers_by g told_so)) → AllByRecursion (λ (x : ℕ × Answer). MakerStands p x.1) told_so

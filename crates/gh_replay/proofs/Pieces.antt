@@ -1,9 +1,8 @@
 -- A text is cut into pieces from the front on, and each spells an item.
-use Rattle.std.proofs.Common.{◌≡◌, ℕ, ◌+◌, ◌<◌, ◌≤◌, Bool, true, false, cond, List, [], ◌∷◌, ◌++◌, length, get_or, take, drop, Option, Some, None, refl, sym, ap, ◌∙◌, append_assoc, suc, inl, inr, arith}
+use Rattle.std.proofs.Common.{◌≡◌, ℕ, ◌+◌, ◌<◌, ◌≤◌, Bool, true, false, cond, List, [], ◌∷◌, ◌++◌, length, get_or, take, drop, Option, Some, None, refl, sym, ap, ◌∙◌, append_assoc, suc, arith}
 use Rattle.std.specs.Prelude.{nat_le, option_map, slice_get}
 use Rattle.std.specs.List.{position_or_len, slice_split}
 use Rattle.std.proofs.lemmas.Bool.Decides.{nat_tests}
-use Rattle.std.proofs.lemmas.Bool.{cases_lt}
 use Rattle.std.proofs.lemmas.List.{append-nil, take_all}
 use Rattle.std.proofs.lemmas.List.Sums.{fails_before_first, position_or_len_is}
 use Rattle.std.proofs.lemmas.List.Splits.{slice_split_first, slice_split_none, length-slice_split}
@@ -20,8 +19,7 @@ met_nowhere test xs n long fails = sym (position_or_len_is test xs (length xs) 0
 -- ---- an item
 
 pub no_until : (a : Option ℕ) → turn_with a None ≡ None
-no_until None = refl
-no_until (Some x) = refl
+no_until a = grind arith
 
 pub unsigned : (piece : List ℕ) (i : ℕ) → i ≡ position_or_len is_sign piece → length piece ≤ i → None ≡ turn_read piece
 unfolding turn_read
@@ -70,13 +68,10 @@ none_listed text e = rw e (go (nat_le (length (slice_split is_comma text)) MOST_
 
 module _ (text rest : List ℕ) (turns : List Turn) (end : ℕ) (here : with turns (slice_split is_comma rest) ≡ turns_read (slice_split is_comma text)) (is : end ≡ position_or_len is_comma rest) where
   pub stops : turn_read (take end rest) ≡ None → None ≡ list_of text
-  stops e = none_listed text (sym here ∙ elim (cases_lt end (length rest)) [
-    | inl lt ↦ ap (with turns) (split_more rest end is lt) ∙ with_none turns (take end rest) (slice_split is_comma (drop (end + 1) rest)) e
-    | inr le ↦ ap (with turns) (split_last rest end is le) ∙ with_none turns (take end rest) [] e
-  ])
+  stops e = grind (arith, none_listed, split_last, split_more, with_none)
 
   pub goes_on : (t : Turn) → turn_read (take end rest) ≡ Some t → end < length rest → with (turns ++ t ∷ []) (slice_split is_comma (drop (end + 1) rest)) ≡ turns_read (slice_split is_comma text)
-  goes_on t e lt = sym (ap (with turns) (split_more rest end is lt) ∙ with_more turns t (take end rest) (slice_split is_comma (drop (end + 1) rest)) e) ∙ here
+  goes_on t e lt = grind (arith, split_more, with_more)
 
   pub ends : (t : Turn) → turn_read (take end rest) ≡ Some t → length rest ≤ end → length turns < MOST_ITEMS → length turns + length (slice_split is_comma rest) ≡ length (slice_split is_comma text) → Some (turns ++ t ∷ []) ≡ list_of text
   unfolding list_of turns_read

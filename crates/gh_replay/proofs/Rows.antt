@@ -40,9 +40,7 @@ lines-all p xs (g ∷ gs) =
 
 -- the lines of a report are those of its rows
 pub lines-are : (p : Program) (report : ReportState) → IsReportOf p report → answer_lines p report.outcome.answers ≡ map (line_of p) (rows_of report.goroutines report.outcome.answers)
-lines-are p report r =
-    lines-all p report.outcome.answers (range_with_len 0 (length p.goroutines))
-    ∙ ap (λ n. map (line_of p) (rows_of n report.outcome.answers)) (sym r.goroutines_are)
+lines-are p report r = grind (arith, lines-all)
 
 pub lines-long : (p : Program) (report : ReportState) → IsReportOf p report → length (answer_lines p report.outcome.answers) ≡ length (rows_of report.goroutines report.outcome.answers)
 lines-long p report r = ap length (lines-are p report r) ∙ length-map _ (line_of p)

@@ -179,9 +179,7 @@ unfinished w p plan budget answers formed script lays r going g = subst Goal scr
 
 -- the outcome, by its numbers
 pub outcome_is : (o : Outcome) (answers : List (ℕ × Answer)) (drawn : ℕ) (c : Coordinating) → o.answers ≡ answers → o.cycles ≡ map swept_cycle c.cycles.items → (o.earned ≡ (drawn + c.lapsed) % 2 ^ 64) × (o.spent ≡ drawn % 2 ^ 64) × (o.lapsed ≡ c.lapsed) → o.objects ≡ marked_by (last_kept c.cycles) → o.bytes ≡ c.live → o ≡ outcome_by answers drawn c
-outcome_is o answers drawn c a b credit d e = same where
-  same : record { answers = o.answers; cycles = o.cycles; earned = o.earned; spent = o.spent; lapsed = o.lapsed; objects = o.objects; bytes = o.bytes } ≡ outcome_by answers drawn c
-  same = rw (a, b, credit.0, credit.1, credit.2, d, e) refl
+outcome_is o answers drawn c a b credit d e = grind arith
 
 -- an actor that is not done is one that is not
 pub not_all : (w : State) (a : ℕ) → a < actors_of w → is_done w a ≡ false → ¬ AllDone w

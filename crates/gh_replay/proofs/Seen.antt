@@ -1,5 +1,5 @@
 -- What a world shows of its actors is what they have come to in whatever list the world is the state of.
-use Rattle.std.proofs.Common.{◌≡◌, ℕ, ◌+◌, ◌-◌, ◌<◌, ◌≤◌, List, [], length, Option, Some, None, refl, sym, ap, ◌∙◌, arith}
+use Rattle.std.proofs.Common.{◌≡◌, ℕ, ◌+◌, ◌-◌, ◌<◌, ◌≤◌, List, [], length, Option, Some, None, sym, ap, ◌∙◌, arith}
 use Rattle.std.specs.Prelude.{slice_get, sum_by}
 use Rattle.std.specs.Option.{option_to_list}
 use Rattle.std.proofs.lemmas.Option.{slice_get_past, slice_get_within}
@@ -27,15 +27,10 @@ use Rattle.gh_replay.proofs.Choosing.{Agree}
 
 -- an actor that is no processor answers no statement
 done_quiet : (out : Option (Unit {0})) (told : Option Cycle) → answered_in (done_or out (told_event told)) ≡ []
-done_quiet None None = refl
-done_quiet None (Some c) = refl
-done_quiet (Some x) told = refl
+done_quiet out told = grind arith
 
 others_quiet : (p : Program) (l : Layout) (now : ℕ × ℕ) (found : ℕ) (c : coord.Coordinating) (begun : Option Op) (o : Option worker.Working) → answered_in (event_by now (started (setting_of p l).kind begun (worker_or c o)) found) ≡ []
-others_quiet p l now found c None (Some x) = done_quiet (worker.gives x found) None
-others_quiet p l now found c (Some b) (Some x) = done_quiet (worker.gives x found) None
-others_quiet p l now found c None None = done_quiet (coord.gives c found) (coord.told_at c.cycles c.stage)
-others_quiet p l now found c (Some b) None = done_quiet (coord.gives c found) (coord.told_at c.cycles c.stage)
+others_quiet p l now found c begun o = grind (arith, done_quiet)
 
 module _ (w : State) (es : List (Entry Op)) (after : IsAfter w es) where
   -- its processor, or who is behind the processors

@@ -3,7 +3,7 @@
 ghost use Rattle.gh_replay.specs.Replayed.{EitherOne, NotBoth, OneOutcome};
 ghost use Rattle.gh_replay.specs.Scheduled.{NothingSaidIsInTurn, OthersTakeTurns};
 
-use gh_world::{a_script_has_one_run, every_run_is_explained, runs_go_on};
+use gh_explained::{a_script_has_one_run, every_run_is_explained, runs_go_on};
 
 /// By one schedule a script's run ends within a budget or does not, one of the two and never both, and it
 /// comes to one outcome, whatever the budget.

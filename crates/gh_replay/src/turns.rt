@@ -21,11 +21,9 @@ use crate::schedule::Schedule;
 use gh_base::Answer;
 use gh_coord::Cycle;
 use gh_ever::Ever;
+use gh_explained::{a_script_has_one_run, every_run_is_explained, statements_are_enough};
 use gh_script::Script;
-use gh_world::{
-    Event, World, a_script_has_one_run, every_run_is_explained, most_cycles, points_are_statements,
-    statements_are_enough, total_of,
-};
+use gh_world::{Event, World, most_cycles, points_are_statements, total_of};
 use std::alloc::Global;
 
 /// The report of the script's run, in which the actors step as the schedule says, where it takes at most

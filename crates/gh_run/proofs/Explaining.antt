@@ -49,7 +49,7 @@ use Rattle.gh_world.specs.Turns.{is_of_seat, turns_of}
 use Rattle.gh_world.specs.Wishes.{most_cycles}
 use Rattle.gh_world.specs.World.{LaysOut, pacing_of}
 use Rattle.gh_world.proofs.OneStep.{lapsed_at_end}
-use Rattle.gh_world.proofs.Explained.Told.{rests_told, told_of}
+use Rattle.gh_explained.proofs.Explained.Told.{rests_told, told_of}
 use Rattle.gh_world.proofs.Resting.{is_processor}
 
 -- ---- who has ended

@@ -1,5 +1,5 @@
 -- The scan of an object has loaded the bitmap word of each word of the slot and the field of each pointer once it ends, by rows that agree with what it was told.
-use Rattle.std.proofs.Common.{◌≡◌, ◌≢◌, ℕ, zero, suc, ◌+◌, ◌-◌, ◌*◌, ◌/◌, ◌%◌, ◌<◌, ◌≤◌, ◌==◌, ◌||◌, ltb, Bool, true, false, cond, List, Option, Some, None, refl, sym, ap, subst, ◌∙◌, arith, eqb-true, eq-eqb, ltb-true, ltb-false}
+use Rattle.std.proofs.Common.{◌≡◌, ℕ, zero, suc, ◌+◌, ◌-◌, ◌*◌, ◌/◌, ◌%◌, ◌<◌, ◌≤◌, ◌==◌, ◌||◌, ltb, Bool, true, false, cond, List, Option, Some, None, refl, sym, ap, subst, ◌∙◌, arith, eq-eqb, ltb-true, ltb-false}
 use Rattle.gh_scan.proofs.Vocabulary.{after, after_room, after_shade, AreTold, asks, at_next, begun, behind, bit_says_pointer, Bitmap, bits_of, Cell, Done, Ended, EndsWith, Field, FindRoom, from, goes, Held, is_loaded, Layout, listing, Load, LoadBitmap, LoadField, LoadPage, mul-mod_right, next_in, object_of, reference_in, Row, Scanning, ScanStage, Shaded, Shading, slot_told, WantsRoom}
 use Rattle.gh_scan.proofs.Order.{in_order}
 use Rattle.gh_scan.proofs.Ending.{has_ended}
@@ -8,8 +8,7 @@ use Rattle.gh_shade.specs.Listing as shade
 use Rattle.gh_wbuf.specs.RoomFinding as room
 
 neither : (a b : Bool) → (a || b) ≡ false → (a ≡ false) × (b ≡ false)
-neither true b e = absurd (cc)
-neither false b e = (refl, e)
+neither a b e = grind arith
 
 never : {A : Type 0} (b : Bool) → b ≡ true → b ≡ false → A
 never b on off = absurd (cc)
@@ -19,19 +18,8 @@ abbrev Gap : (w y above : ℕ) → Option ℕ → Type 0
 Gap w y above None = (z : ℕ) → y ≤ z → z < above → is_loaded w z ≡ false
 Gap w y above (Some x) = (y ≤ x) × ((z : ℕ) → y ≤ z → z < x → is_loaded w z ≡ false)
 
-one_earlier : (w y above : ℕ) → is_loaded w y ≡ false → ((z : ℕ) → y + 1 ≤ z → z < above → is_loaded w z ≡ false) → (z : ℕ) → y ≤ z → z < above → is_loaded w z ≡ false
-one_earlier w y above off gap z low high = by (z == y) refl where
-  by : (b : Bool) → (z == y) ≡ b → is_loaded w z ≡ false
-  by true e = ap (λ (x : ℕ). is_loaded w x) (eqb-true _ _ e) ∙ off
-  by false e =
-      let ne : z ≢ y = λ (t : z ≡ y). (let yes : (z == y) ≡ true = eq-eqb _ _ t in cc) in
-      gap z (omega arith) high
-
 none_yet : (w y above : ℕ) (next : Option ℕ) → is_loaded w y ≡ false → Gap w (y + 1) above next → Gap w y above next
-none_yet w y above None off gap = one_earlier w y above off gap
-none_yet w y above (Some x) off gap =
-    let le : y + 1 ≤ x = gap.0 in
-    (omega arith, one_earlier w y x off gap.1)
+none_yet w y above next off gap = grind arith
 
 gap_of : (w k y : ℕ) → Gap w y (y + k) (next_in w k y)
 gap_of w zero y = λ z low high. absurd (omega arith)
@@ -83,10 +71,7 @@ module _ (bits fields : Row) (l : Layout) where
     with_this : (Has : Cell → Type 0) (x : ℕ) → Before Has x → IsCovered Has x → Before Has (x + 1)
     with_this Has x before this y low high = by (y == x) refl where
       by : (b : Bool) → (y == x) ≡ b → IsCovered Has y
-      by true e = subst (λ (z : ℕ). IsCovered Has z) (sym (eqb-true _ _ e)) this
-      by false e =
-          let ne : y ≢ x = λ (t : y ≡ x). (let yes : (y == x) ≡ true = eq-eqb _ _ t in cc) in
-          before y low (omega arith)
+      by b e = grind arith
 
     -- between x and the next for which something is loaded
     between : (Has : Cell → Type 0) (x w z : ℕ) → first ≤ x → w ≡ bits_of bits fields l x → Before Has (x + 1) → ((y : ℕ) → x + 1 ≤ y → y < z → is_loaded w y ≡ false) → Before Has z
@@ -118,12 +103,7 @@ module _ (bits fields : Row) (l : Layout) where
     same_next : (w x z : ℕ) → x + 1 ≤ z → ((y : ℕ) → x + 1 ≤ y → y < z → is_loaded w y ≡ false) → (z % 64 == 0) ≡ false → z / 64 ≡ x / 64
     same_next w x z le off not_first = same_bits x z (omega arith) inside where
       inside : (u : ℕ) → x < u → u ≤ z → (u % 64 == 0) ≡ false
-      inside u low upto = by (u == z) refl where
-        by : (b : Bool) → (u == z) ≡ b → (u % 64 == 0) ≡ false
-        by true e = ap (λ (q : ℕ). q % 64 == 0) (eqb-true _ _ e) ∙ not_first
-        by false e =
-            let ne : u ≢ z = λ (t : u ≡ z). (let yes : (u == z) ≡ true = eq-eqb _ _ t in cc) in
-            (neither _ _ (off u (omega arith) (omega arith))).0
+      inside u low upto = grind arith
 
     go : (Has : Cell → Type 0) (h : Option Held) (x w : ℕ) (stage : ScanStage) → object_of reference ≤ x → x < high → w ≡ bits_of bits fields l x →
         Before (object_of reference) high Has (x + 1) → CoversIn Has (behind (state h x w stage))

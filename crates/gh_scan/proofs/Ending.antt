@@ -1,5 +1,5 @@
 -- The scan of an object ends exactly where nothing is left to be loaded, and rests then.
-use Rattle.std.proofs.Common.{◌≡◌, ℕ, zero, suc, ◌+◌, ◌-◌, ◌%◌, ◌<◌, ◌≤◌, ◌≢◌, ◌==◌, Bool, true, false, cond, Option, Some, None, refl, sym, ap, subst, ◌∙◌, arith, below_more}
+use Rattle.std.proofs.Common.{◌≡◌, ℕ, zero, suc, ◌+◌, ◌-◌, ◌<◌, ◌≤◌, ◌==◌, Bool, true, false, cond, Option, Some, None, refl, sym, ap, subst, ◌∙◌, arith, below_more}
 use Rattle.std.proofs.lemmas.Bool.{eqb-true, eq-eqb}
 use Rattle.gh_base.specs.declared.held.Held.{Held}
 use Rattle.gh_base.specs.declared.layout.Layout.{Layout}
@@ -29,31 +29,20 @@ none_is_next : (w k y : ℕ) → next_in w k y ≡ None → NoneIn w k y
 none_is_next w zero y e z low high = absurd (omega arith)
 none_is_next w (suc k) y e z low high = by (λ rest. none_is_next w k (y + 1) rest z) (is_loaded w y) refl e where
   by : ((next_in w k (y + 1) ≡ None) → y + 1 ≤ z → z < (y + 1) + k → is_loaded w z ≡ false) → (b : Bool) → is_loaded w y ≡ b → cond b (Some y) (next_in w k (y + 1)) ≡ None → is_loaded w z ≡ false
-  by on true here never = absurd (cc)
-  by on false here rest = at (z == y) refl where
-    at : (c : Bool) → (z == y) ≡ c → is_loaded w z ≡ false
-    at true same = ap (λ (x : ℕ). is_loaded w x) (eqb-true _ _ same) ∙ here
-    at false other =
-        let ne : z ≢ y = λ (t : z ≡ y). (let yes : (z == y) ≡ true = eq-eqb _ _ t in cc) in
-        on rest (omega arith) (omega arith)
+  by on b here never = grind arith
 
 -- nothing is loaded behind the word that it is at, by this bitmap word
 abbrev Quiet : (s : Scanning) (w : ℕ) → Type 0
 Quiet s w = (y : ℕ) → s.at < y → y < end s → is_loaded w y ≡ false
 
 bits_stay : (s : Scanning) (next : Option ℕ) → (at_next s next).bits ≡ s.bits
-bits_stay s None = refl
-bits_stay s (Some x) = refl
+bits_stay s next = grind arith
 
 gives_at_next : (s : Scanning) (next : Option ℕ) → next ≡ None → given (at_next s next) ≡ Some s.slot
 gives_at_next s next e = ap (λ (o : Option ℕ). given (at_next s o)) e
 
 next_gives : (s : Scanning) (next : Option ℕ) (out : ℕ) → given (at_next s next) ≡ Some out → next ≡ None
-next_gives s None out e = refl
-next_gives s (Some x) out e = by (x % 64 == 0) e where
-  by : (b : Bool) → given_at (cond b LoadBitmap LoadField) ≡ Some out → Some x ≡ None
-  by true never = absurd (cc)
-  by false never = absurd (cc)
+next_gives s next out e = grind arith
 
 behind_ends : (s : Scanning) → Quiet s s.bits → given (behind s) ≡ Some s.slot
 behind_ends s quiet = gives_at_next s (next_from s.bits (end s) (s.at + 1)) (next_is_none s.bits (end s - (s.at + 1)) (s.at + 1) none) where
@@ -111,8 +100,7 @@ only_at s (Ended words) v out busy e = absurd (cc)
 
 -- once it has given something it has ended, and stays as it is
 pub has_ended : (stage : ScanStage) (out : ℕ) → given_at stage ≡ Some out → stage ≡ Ended out
-has_ended (Ended words) out e = cc
-has_ended _ out e = absurd (cc)
+has_ended stage out e = grind arith
 
 module _ (l : Layout) (seat reference : ℕ) (held : Option Held) (found : ℕ → ℕ) where
   abbrev state_n : ℕ → Scanning
@@ -150,7 +138,7 @@ module _ (l : Layout) (seat reference : ℕ) (held : Option Held) (found : ℕ �
         (at.0, λ y low high. at.1 y low (subst (λ (x : ℕ). y < x) (sym (end_is n)) high))
 
     behind_last : (n : ℕ) → suc (state_n n).at ≡ object_of reference + slot → DoneWith l seat reference held found n → EndsWith listing (from l seat reference held found) found n slot
-    behind_last n last done = ends n done (λ y low high. absurd (omega arith))
+    behind_last n last done = grind (arith, ends)
 
     asks_no_more : (n out k : ℕ) → EndsWith listing (from l seat reference held found) found n out → n < k → ¬ GoesOn listing (from l seat reference held found) found k
     asks_no_more n out k e lt busy =

@@ -67,11 +67,7 @@ module _ (k : Known) (z : Cycle) (a : ℕ) (s : Shared) (rest : InHand) (g : Goo
     group = let less : m.at / 64 < 16 * m.layout.pages = omega (arith, in_heap) in mod-eq_of_lt less
 
     bit-one : (b : Bool) (n : ℕ) → n ≡ bit b → eqb n 1 ≡ b
-    bit-one true n e = eq-eqb n 1 e
-    bit-one false n e = by (eqb n 1) refl where
-      by : (c : Bool) → eqb n 1 ≡ c → c ≡ false
-      by true f = absurd (let one : n ≡ 1 = eqb-true n 1 f in omega (arith, e, one))
-      by false f = refl
+    bit-one b n e = grind arith
 
     -- the word of the bitmap says which words are pointer fields
     bits-are : BitsAre s.extents o (s.words (cell.Bitmap (m.at / 64 % (16 * m.layout.pages)))) m.at
@@ -274,8 +270,7 @@ stage-lasts k z a s t rest m (FindRoom sh r) o known x = (
 stage-lasts k z a s t rest m (Ended words) o known x = k.last z a s t (in_hand rest m.held None) o x
 
 ended-at : (z : Cycle) (a : ℕ) (s : Shared) (rest : InHand) (n : Scanning) (p : ScanStage) (words : ℕ) → given_at p ≡ Some words → StageFacts z a s rest n p → Hands a s (in_hand rest n.held None)
-ended-at z a s rest n (Ended slot) words e x = x
-ended-at z a s rest n _ words e x = absurd (cc)
+ended-at z a s rest n p words e x = grind arith
 
 pub scans-by-moves : Known → ScansByMoves
 scans-by-moves k = record {

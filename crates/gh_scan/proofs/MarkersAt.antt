@@ -1,5 +1,5 @@
 -- Where the scan is while marking is on: what it knows of the words that it is done with lasts, and it goes on behind a word or ends with a black object.
-use Rattle.std.proofs.Common.{◌≡◌, ◌≢◌, ℕ, zero, suc, ◌+◌, ◌-◌, ◌*◌, ◌/◌, ◌%◌, ◌<◌, ◌≤◌, Bool, true, false, cond, eqb, ltb, Option, Some, None, inl, inr, ◌⊎◌, refl, sym, ap, subst, ◌∙◌, arith}
+use Rattle.std.proofs.Common.{◌≡◌, ◌≢◌, ℕ, zero, suc, ◌+◌, ◌-◌, ◌*◌, ◌/◌, ◌%◌, ◌<◌, ◌≤◌, Bool, true, false, cond, eqb, ltb, Option, Some, None, refl, sym, ap, subst, ◌∙◌, arith}
 use Rattle.std.specs.Prelude.{◌||◌}
 use Rattle.std.proofs.lemmas.Bool.{eqb-true, eq-eqb, ltb-true, ltb-false}
 use Rattle.gh_base.specs.declared.cell.Cell.TheVariants as cell
@@ -10,7 +10,7 @@ use Rattle.gh_marks.specs.Laws.{EachFactLasts, EachHandFollows, EachOwnMoveLeave
 use Rattle.gh_marks.specs.Moves.{Blacken, Keeps, Lands, SameExtent, lands_by, lands_still}
 use Rattle.gh_marks.specs.Seats.{Hands, InHand}
 use Rattle.gh_scan.specs.declared.scan.ScanStage.TheVariants.{LoadBitmap, LoadField, Ended}
-use Rattle.gh_scan.specs.Facts.{BitsAre, CleanBefore, Facts, IsAt, IsAtPointerField, Shades, FoundStillStands, in_hand}
+use Rattle.gh_scan.specs.Facts.{BitsAre, CleanBefore, Facts, IsAt, IsAtPointerField, Shades, in_hand}
 use Rattle.gh_scan.specs.Listing.{at_next, at_stage, behind, bit_says_pointer, end, is_loaded, loads_at, next_from, next_in, object_of, Scanning}
 
 -- what the laws of gh_marks say, as far as it is of one seat's facts
@@ -25,16 +25,8 @@ abbrev Skips : (bits x above : ℕ) → Option ℕ → Type 0
 Skips bits x above None = (y : ℕ) → x ≤ y → y < above → is_loaded bits y ≡ false
 Skips bits x above (Some q) = (x ≤ q) × (q < above) × (is_loaded bits q ≡ true) × ((y : ℕ) → x ≤ y → y < q → is_loaded bits y ≡ false)
 
--- one word more before those skipped
-skips-one : (bits x y : ℕ) → is_loaded bits x ≡ false → x ≤ y → (x + 1 ≤ y → is_loaded bits y ≡ false) → is_loaded bits y ≡ false
-skips-one bits x y e le h = by (eqb x y) refl where
-  by : (b : Bool) → eqb x y ≡ b → is_loaded bits y ≡ false
-  by true same = subst (λ (v : ℕ). is_loaded bits v ≡ false) (eqb-true _ _ same) e
-  by false other = let ne : x ≢ y = λ z. absurd (cc (other, eq-eqb x y z)) in h (omega arith)
-
 skips-more : (bits x w : ℕ) (n : Option ℕ) → is_loaded bits x ≡ false → Skips bits (x + 1) (x + 1 + w) n → Skips bits x (x + suc w) n
-skips-more bits x w None e h = λ y le lt. skips-one bits x y e le (λ more. h y more (omega arith))
-skips-more bits x w (Some q) e h = (omega (arith, h.0), omega (arith, h.1), h.2, λ y le lt. skips-one bits x y e le (λ more. h.3 y more lt))
+skips-more bits x w n e h = grind arith
 
 skips : (bits w x : ℕ) → Skips bits x (x + w) (next_in bits w x)
 skips bits zero x = λ y le lt. absurd (omega arith)
@@ -44,7 +36,7 @@ skips bits (suc w) x = by (is_loaded bits x) refl (skips bits w (x + 1)) where
   by false e h = skips-more bits x w (next_in bits w (x + 1)) e h
 
 skips-from : (bits above x : ℕ) → x ≤ above → Skips bits x above (next_from bits above x)
-skips-from bits above x le = let sum : x + (above - x) ≡ above = omega arith in subst (λ (n : ℕ). Skips bits x n (next_from bits above x)) sum (skips bits (above - x) x)
+skips-from bits above x le = grind (arith, skips)
 
 -- a word for which nothing is loaded
 no-group : (bits y : ℕ) → is_loaded bits y ≡ false → y % 64 ≢ 0
@@ -54,16 +46,10 @@ no-group bits y e z = let yes : eqb (y % 64) 0 ≡ true = eq-eqb _ _ z in absurd
   by false p q = cc
 
 no-pointer : (bits y : ℕ) → is_loaded bits y ≡ false → bit_says_pointer bits y ≡ false
-no-pointer bits y e = by (eqb (y % 64) 0) e where
-  by : (b : Bool) → (b || bit_says_pointer bits y) ≡ false → bit_says_pointer bits y ≡ false
-  by true q = absurd (cc)
-  by false q = q
+no-pointer bits y e = grind arith
 
 is-pointer : (bits y : ℕ) → is_loaded bits y ≡ true → eqb (y % 64) 0 ≡ false → bit_says_pointer bits y ≡ true
-is-pointer bits y e f = by (eqb (y % 64) 0) f e where
-  by : (b : Bool) → b ≡ false → (b || bit_says_pointer bits y) ≡ true → bit_says_pointer bits y ≡ true
-  by true p q = absurd (cc)
-  by false p q = q
+is-pointer bits y e f = grind arith
 
 -- no word that begins a group lies between, so both are of one group
 one-group : (x y : ℕ) → x ≤ y → ((v : ℕ) → x < v → v ≤ y → v % 64 ≢ 0) → y / 64 ≡ x / 64
@@ -97,18 +83,8 @@ module _ (k : KnownOfFacts) (z : Cycle) (a : ℕ) (s t : Shared) (o : ℕ) (know
     bits_are = λ j l e. h.bits_are j (omega (arith, l, extent.size)) e ∙ sym (ap (λ (f : ℕ → Bool). f j) extent.pointer);
   }
 
-  -- a word that stands there still, or is clean
-  word-kept : (was is reference : ℕ) → (is ≡ was) ⊎ IsClean (mark_words t.words) is → (was ≡ reference) ⊎ IsClean (mark_words s.words) was → (is ≡ reference) ⊎ IsClean (mark_words t.words) is
-  word-kept was is reference (inr c) h = inr c
-  word-kept was is reference (inl e) (inl f) = inl (e ∙ f)
-  word-kept was is reference (inl e) (inr c) = inr (λ p x. keeps.marks p (c p (sym e ∙ x)))
-
-  stands-kept : (bits at reference : ℕ) → IsAtPointerField s o bits at → FoundStillStands s at reference → FoundStillStands t at reference
-  stands-kept bits at reference f h = subst (λ (x : ℕ). FoundStillStands t x reference) (sym f.at_is)
-      (word-kept (s.words (cell.Field (o + f.k))) (t.words (cell.Field (o + f.k))) reference (keeps.fields o f.k known f.pointer) (subst (λ (x : ℕ). FoundStillStands s x reference) f.at_is h))
-
   pub shades-kept : (slot at bits reference : ℕ) → Shades s o slot at bits reference → Shades t o slot at bits reference
-  shades-kept slot at bits reference h = record { is_at = at-kept slot at h.is_at; is_field = field-kept bits at h.is_field; stands = stands-kept bits at reference h.is_field h.stands }
+  shades-kept slot at bits reference h = record { is_at = grind arith; is_field = grind arith; stands = grind arith }
 
 -- Behind the word that it is at: it goes on at the next word for which something is loaded, and with none left its object is black.
 module _ (k : KnownOfFacts) (z : Cycle) (a : ℕ) (t : Shared) (rest : InHand) (g : Good z t) (n : Scanning) where
@@ -152,7 +128,7 @@ module _ (k : KnownOfFacts) (z : Cycle) (a : ℕ) (t : Shared) (rest : InHand) (
           absurd (later (omega arith))
 
     stop : n.at + 1 ≤ end n
-    stop = omega (arith, d.is_at.below, d.is_at.slot_is)
+    stop = grind arith
 
     abbrev Goal : Scanning → Type 0
     Goal then = Lands z a t t.words (λ u. Keeps z a t u × Facts z a u rest then)

@@ -1,11 +1,11 @@
 -- The law of the scan of an object, put together.
-use Rattle.std.proofs.Common.{◌≡◌, ◌≢◌, ◌↔◌, ℕ, zero, suc, ◌+◌, ◌*◌, ◌/◌, ◌%◌, ◌<◌, ◌≤◌, ltb, Bool, true, false, Option, refl, sym, ap, subst, ◌∙◌, arith, eqb-true, eq-eqb, ltb-true, ltb-false}
-use Rattle.gh_scan.proofs.Vocabulary.{after, AreTold, asks, asks_at, bit_at, bit_says_pointer, Bitmap, bitmap_words, Cell, cell_of, CellsAreTold, Ended, EndsWith, Field, field_words, FindRoom, from, Held, InSlot, is_busy, Layout, LiesInHeap, listing, Load, LoadBitmap, LoadField, mod-eq_of_lt, object_of, pointer_bit, row_bit, Scanning, ScansInOrder, ScansObject, ScanStage, ShadesAsTold, Shading, slot_told, Touch, WasLoaded, Words, words_told}
+use Rattle.std.proofs.Common.{◌≡◌, ◌≢◌, ◌↔◌, ℕ, zero, suc, ◌+◌, ◌*◌, ◌/◌, ◌%◌, ◌<◌, ◌≤◌, ltb, Bool, true, false, Option, refl, sym, ap, subst, ◌∙◌, arith, ltb-true, ltb-false}
+use Rattle.gh_scan.proofs.Vocabulary.{after, AreTold, asks, asks_at, bit_at, bit_says_pointer, Bitmap, bitmap_words, Cell, CellsAreTold, Ended, EndsWith, Field, field_words, from, Held, InSlot, is_busy, Layout, LiesInHeap, listing, Load, LoadBitmap, LoadField, mod-eq_of_lt, object_of, pointer_bit, row_bit, Scanning, ScansInOrder, ScansObject, ScanStage, ShadesAsTold, slot_told, Touch, WasLoaded, Words, words_told}
 use Rattle.gh_scan.proofs.Covering.{covered, Has, IsCovered, pointer_at}
 use Rattle.gh_scan.proofs.Ending.{at_once, rests}
 use Rattle.gh_scan.proofs.Order.{end_is, in_order, layout_is, slot_is}
 use Rattle.gh_scan.proofs.Scanning.{all_begun, steps_at}
-use Rattle.gh_scan.proofs.Told.{bitmap_once, bits_kept, fields_kept, fields_once, off_slot, room_off, shade_off}
+use Rattle.gh_scan.proofs.Told.{bitmap_once, bits_kept, fields_kept, fields_once}
 
 bit_is : (words : Words) (x : ℕ) → pointer_bit words x ≡ bit_at (words (Bitmap (x / 64))) (x % 64)
 unfolding row_bit
@@ -13,16 +13,10 @@ bit_is words x = refl
 
 -- where a bitmap word is loaded, and where a field is
 bits_asked : (s : Scanning) (stage : ScanStage) (i : ℕ) → asks_at s stage ≡ Load (Bitmap i) → (stage ≡ LoadBitmap) × (s.at / 64 % (16 * s.layout.pages) ≡ i)
-bits_asked s LoadBitmap i e = (refl, cc)
-bits_asked s (Shading sh) i e = absurd (off_slot _ _ (shade_off sh sh.stage) refl (ap cell_of e))
-bits_asked s (FindRoom sh r) i e = absurd (off_slot _ _ (room_off r r.stage) refl (ap cell_of e))
-bits_asked s _ i e = absurd (cc)
+bits_asked s stage i e = grind arith
 
 field_asked : (s : Scanning) (stage : ScanStage) (i : ℕ) → asks_at s stage ≡ Load (Field i) → (stage ≡ LoadField) × (s.at % (1024 * s.layout.pages) ≡ i)
-field_asked s LoadField i e = (refl, cc)
-field_asked s (Shading sh) i e = absurd (off_slot _ _ (shade_off sh sh.stage) refl (ap cell_of e))
-field_asked s (FindRoom sh r) i e = absurd (off_slot _ _ (room_off r r.stage) refl (ap cell_of e))
-field_asked s _ i e = absurd (cc)
+field_asked s stage i e = grind arith
 
 module _ (l : Layout) (seat reference : ℕ) (held : Option Held) (found : ℕ → ℕ) (some : 1 ≤ slot_told l seat reference held found) where
   abbrev slot : ℕ
@@ -38,10 +32,10 @@ module _ (l : Layout) (seat reference : ℕ) (held : Option Held) (found : ℕ �
 
   -- the bit of a heap word, and the listing's test of it
   test_of : (words : Words) (x : ℕ) → x < 1024 * l.pages → pointer_bit words x ≡ 1 → bit_says_pointer (words (Bitmap (x / 64 % (16 * l.pages)))) x ≡ true
-  test_of words x lt set = ap (λ (i : ℕ). bit_says_pointer (words (Bitmap i)) x) (whole_bits x lt) ∙ eq-eqb _ _ (sym (bit_is words x) ∙ set)
+  test_of words x lt set = grind (arith, bit_is, whole_bits)
 
   bit_by : (words : Words) (x : ℕ) → x < 1024 * l.pages → bit_says_pointer (words (Bitmap (x / 64 % (16 * l.pages)))) x ≡ true → pointer_bit words x ≡ 1
-  bit_by words x lt set = bit_is words x ∙ eqb-true _ _ (sym (ap (λ (i : ℕ). bit_says_pointer (words (Bitmap i)) x) (whole_bits x lt)) ∙ set)
+  bit_by words x lt set = grind (arith, bit_is, whole_bits)
 
   -- where the slot lies in the heap, the words told make such rows
   module _ (cells : CellsAreTold) (lies : LiesInHeap l seat reference held found) where

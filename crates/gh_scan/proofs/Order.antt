@@ -1,5 +1,5 @@
 -- The scan of an object goes over the words of its slot in ascending order, whatever it is told.
-use Rattle.std.proofs.Common.{◌≡◌, ℕ, zero, suc, ◌+◌, ◌-◌, ◌%◌, ◌<◌, ◌≤◌, ◌==◌, Bool, true, false, cond, Option, Some, None, refl, sym, ap, subst, ◌∙◌, arith}
+use Rattle.std.proofs.Common.{◌≡◌, ℕ, zero, suc, ◌+◌, ◌-◌, ◌<◌, ◌≤◌, ◌==◌, Bool, true, false, cond, Option, Some, None, refl, sym, ap, subst, ◌∙◌, arith}
 use Rattle.gh_base.specs.declared.held.Held.{Held}
 use Rattle.gh_base.specs.declared.layout.Layout.{Layout}
 use Rattle.gh_base.specs.Routines.{EndsWith, GoesOn}
@@ -60,11 +60,7 @@ module _ (l : Layout) (seat reference slot : ℕ) where
     le = omega arith
 
     by : (next : Option ℕ) → Between x stop next → Is x (at_next (state h x w stage) next)
-    by None b = record { held = h; at = x; word = w; stage = Ended slot; is = refl; lies = refl; up = omega arith }
-    by (Some z) b = at_word (z % 64 == 0) where
-      at_word : (zero_there : Bool) → Is x (state h z w (cond zero_there LoadBitmap LoadField))
-      at_word true = record { held = h; at = z; word = w; stage = LoadBitmap; is = refl; lies = b.1; up = b.0 }
-      at_word false = record { held = h; at = z; word = w; stage = LoadField; is = refl; lies = b.1; up = b.0 }
+    by next b = grind arith
 
   same : (x : ℕ) → x ≤ x
   same x = omega arith
@@ -91,16 +87,13 @@ module _ (l : Layout) (seat reference slot : ℕ) where
   step v h x w (Ended words) k = record { held = h; at = x; word = w; stage = Ended words; is = refl; lies = k; up = same x }
 
   goes_up : (s : Scanning) (v low : ℕ) → Is low s → Is s.at (goes s v)
-  goes_up s v low i = subst (λ (t : Scanning). Is t.at (goes t v)) (sym i.is) (step v i.held i.at i.word i.stage i.lies)
+  goes_up s v low i = grind (arith, step)
 
   ended : (x : ℕ) (stage : ScanStage) (out : ℕ) → Lies x stage → given_at stage ≡ Some out → out ≡ slot
-  ended x (Ended words) out k e = sym (some_is e) ∙ k
-  ended x _ out k e = absurd (cc)
+  ended x stage out k e = grind arith
 
   busy_below : (x : ℕ) (stage : ScanStage) → Lies x stage → is_busy stage ≡ true → x < stop
-  busy_below x (Ended words) k e = absurd (cc)
-  busy_below x LoadPage k e = absurd k
-  busy_below x _ k e = k
+  busy_below x stage k e = grind arith
 
 module _ (l : Layout) (seat reference : ℕ) (held : Option Held) (found : ℕ → ℕ) (some : 1 ≤ slot_told l seat reference held found) where
   abbrev slot : ℕ

@@ -121,7 +121,7 @@ module _ (bits fields : Row) (l : Layout) where
 
     -- nothing was shaded with the step
     with_none : (s : Scanning) (done more : List ℕ) → more ≡ [] → Is s done → Is s (done ++ more)
-    with_none s done more e i = subst (λ (ls : List ℕ). Is s ls) (sym (ap (λ (ms : List ℕ). done ++ ms) e ∙ append_nil done)) i
+    with_none s done more e i = grind (arith, append_nil)
 
     go : (h : Option Held) (x w : ℕ) (stage : ScanStage) (done : List ℕ) → AtShade x w done → Is (behind (state h x w stage)) done × (shaded_at (behind (state h x w stage)).stage ≡ [])
     go h x w stage done k = by (next_in w (stop - (x + 1)) (x + 1)) (reach w stop (stop - (x + 1)) (x + 1) sum later) where
@@ -206,9 +206,7 @@ module _ (l : Layout) (seat reference : ℕ) (held : Option Held) (found : ℕ �
   module _ (bits fields : Row) (told_rows : AreTold l seat reference held found bits fields) where
     step_of : (s : Scanning) (done : List ℕ) (v : ℕ) → Is bits fields l seat reference slot s done → Finds bits fields l seat reference slot v s →
         Is bits fields l seat reference slot (goes s v) (done ++ begun_between s.stage (goes s v).stage)
-    step_of s done v i =
-        subst (λ (t : Scanning). Finds bits fields l seat reference slot v t → Is bits fields l seat reference slot (goes t v) (done ++ begun_between t.stage (goes t v).stage))
-        (sym i.is) (step bits fields l seat reference slot v i.held i.at i.word i.stage done i.knows)
+    step_of s done v i = grind (arith, step)
 
     pub is_at : (n : ℕ) → Is bits fields l seat reference slot (state_n (suc n)) (begun_n (suc n))
     is_at zero =
@@ -218,8 +216,7 @@ module _ (l : Layout) (seat reference : ℕ) (held : Option Held) (found : ℕ �
     is_at (suc n) = step_of (state_n (suc n)) (begun_n (suc n)) (found (suc n)) (is_at n) (record { bits_are = told_rows.bits_are (suc n); fields_are = told_rows.fields_are (suc n) })
 
     ended : (x w : ℕ) (done : List ℕ) (stage : ScanStage) (out : ℕ) → Knows bits fields l seat reference slot x w done stage → given_at stage ≡ Some out → done ≡ all bits fields l seat reference slot
-    ended x w done (Ended words) out k e = k
-    ended x w done _ out k e = absurd (cc)
+    ended x w done stage out k e = grind arith
 
     pub all_begun : (n w : ℕ) → EndsWith listing (from l seat reference held found) found n w → begun_n (suc n) ≡ all bits fields l seat reference slot
     all_begun n w e =

@@ -1,46 +1,11 @@
 -- In a slot that lies in the heap each bitmap word and each field is asked for once, so that what was told is what some rows hold.
-use Rattle.std.proofs.Common.{◌≡◌, ◌≢◌, ℕ, zero, suc, ◌+◌, ◌-◌, ◌*◌, ◌/◌, ◌%◌, ◌<◌, ◌≤◌, ◌==◌, Bool, true, false, cond, Option, Some, None, refl, sym, ap, ◌∙◌, arith, below_more, eqb-true}
-use Rattle.gh_scan.proofs.Vocabulary.{after, after_room, after_shade, asks, asks_at, at_next, behind, bit_says_pointer, Bitmap, Cell, cell_of, CellsAreTold, Done, end, Ended, Field, FindRoom, goes_at, Held, is_busy, Layout, LiesInHeap, Load, LoadBitmap, LoadField, LoadPage, mod-eq_of_lt, next_from, object_of, put, reference_in, RoomStage, Scanning, ScansInOrder, ScanStage, Shaded, ShadeStage, Shading, slot_told, TryStage, WantsRoom, Words, words_told}
+use Rattle.std.proofs.Common.{◌≡◌, ◌≢◌, ℕ, zero, suc, ◌+◌, ◌-◌, ◌*◌, ◌/◌, ◌<◌, ◌≤◌, ◌==◌, Bool, true, false, cond, Option, Some, None, refl, sym, ap, ◌∙◌, arith, below_more}
+use Rattle.gh_scan.proofs.Vocabulary.{after, after_room, after_shade, asks, asks_at, at_next, behind, bit_says_pointer, Bitmap, Cell, cell_of, CellsAreTold, Done, end, Ended, Field, FindRoom, goes_at, Held, is_busy, Layout, LiesInHeap, Load, LoadBitmap, LoadField, LoadPage, next_from, object_of, put, reference_in, Scanning, ScansInOrder, ScanStage, Shaded, Shading, slot_told, WantsRoom, Words, words_told}
 use Rattle.gh_scan.proofs.Order.{Between, next_between}
-use Rattle.gh_shade.specs.declared.shade.ShadeStage.TheVariants as shade_stage
 use Rattle.gh_shade.specs.Listing as shade
-use Rattle.gh_wbuf.specs.declared.find_room.RoomStage.TheVariants as room_stage
-use Rattle.gh_wbuf.specs.declared.try_buffer.TryStage.TheVariants as try_stage
 use Rattle.gh_wbuf.specs.RoomFinding as room
-use Rattle.gh_wbuf.specs.Trying as try
 
 -- Shading and the search for room are on no bitmap word, and on no field.
-
-abbrev pub is_of_slot : Cell → Bool
-is_of_slot (Bitmap i) = true
-is_of_slot (Field i) = true
-is_of_slot _ = false
-
-enters_off : (reference : ℕ) (held : Option Held) → is_of_slot (cell_of (shade.enters reference held)) ≡ false
-enters_off reference None = refl
-enters_off reference (Some h) = refl
-
-pub shade_off : (sh : shade.Shading) (stage : ShadeStage) → is_of_slot (cell_of (shade.asks_at sh stage)) ≡ false
-shade_off sh shade_stage.Enter = enters_off sh.reference sh.held
-shade_off sh _ = refl
-
-back_off : (t : try.Trying) (held : Option Held) → is_of_slot (cell_of (try.back_at t held)) ≡ false
-back_off t None = refl
-back_off t (Some h) = refl
-
-try_off : (t : try.Trying) (stage : TryStage) → is_of_slot (cell_of (try.asks_at t stage)) ≡ false
-try_off t (try_stage.GiveBack word) = back_off t t.held
-try_off t _ = refl
-
-pub room_off : (r : room.RoomFinding) (stage : RoomStage) → is_of_slot (cell_of (room.asks_at r stage)) ≡ false
-room_off r (room_stage.GiveBack h) = refl
-room_off r (room_stage.Try t) = try_off t t.stage
-room_off r (room_stage.Ended h) = refl
-
-pub off_slot : (c d : Cell) → is_of_slot c ≡ false → is_of_slot d ≡ true → c ≢ d
-off_slot c d off on e =
-    let same : is_of_slot c ≡ is_of_slot d = ap is_of_slot e in
-    cc
 
 -- How far it has come: all that was asked for is below, and what it asks for at this stage is not.
 
@@ -80,20 +45,10 @@ same x = omega arith
 one_more : (x : ℕ) → x ≤ x + 1
 one_more x = omega arith
 
-next_word : (x z : ℕ) → x + 1 ≤ z → z % 64 ≡ 0 → x / 64 + 1 ≤ z / 64
-next_word x z le e = omega arith
-
-no_less : (x z : ℕ) → x + 1 ≤ z → x / 64 + 1 ≤ z / 64 + 1
-no_less x z le = omega arith
-
 behind_passes : (s : Scanning) → Passes (s.at / 64 + 1) (s.at + 1) (behind s)
 behind_passes s = by (next_from s.bits (end s) (s.at + 1)) (next_between (s.at + 1) s.bits (end s - (s.at + 1)) (s.at + 1) (same (s.at + 1))) where
   by : (next : Option ℕ) → Between (s.at + 1) ((s.at + 1) + (end s - (s.at + 1))) next → Passes (s.at / 64 + 1) (s.at + 1) (at_next s next)
-  by None b = record { bits_up = same (s.at / 64 + 1); fields_up = same (s.at + 1) }
-  by (Some z) b = at_word (z % 64 == 0) refl where
-    at_word : (c : Bool) → (z % 64 == 0) ≡ c → Passes (s.at / 64 + 1) (s.at + 1) (record s { at = z; stage = cond c LoadBitmap LoadField })
-    at_word true e = record { bits_up = next_word s.at z b.0 (eqb-true _ _ e); fields_up = b.0 }
-    at_word false e = record { bits_up = no_less s.at z b.0; fields_up = b.0 }
+  by next b = grind arith
 
 passes_at : (s : Scanning) (stage : ScanStage) (v : ℕ) → s.stage ≡ stage → Passes (bits_passed s.at stage) (fields_passed s.at stage) (goes_at s stage v)
 passes_at s LoadPage v is = record { bits_up = omega arith; fields_up = omega arith }
@@ -120,33 +75,15 @@ passes_at s (Ended words) v is =
     record { bits_up = omega arith; fields_up = omega arith }
 
 bits_rise : (x : ℕ) (stage : ScanStage) → bits_front x stage ≤ bits_passed x stage
-bits_rise x LoadPage = same 0
-bits_rise x LoadBitmap = one_more (x / 64)
-bits_rise x _ = same (x / 64 + 1)
+bits_rise x stage = grind arith
 
 fields_rise : (x : ℕ) (stage : ScanStage) → fields_front x stage ≤ fields_passed x stage
-fields_rise x LoadPage = same 0
-fields_rise x LoadBitmap = same x
-fields_rise x LoadField = one_more x
-fields_rise x _ = same (x + 1)
+fields_rise x stage = grind arith
 
 -- index i of a row is asked for here: it is not below the front, and is afterwards
 record AtFront (front passed i : ℕ) : Type 0 where
   here : front ≤ i
   below : i < passed
-
-bitmap_index : (x pages i : ℕ) → x < 1024 * pages → Bitmap (x / 64 % (16 * pages)) ≡ Bitmap i → AtFront (x / 64) (x / 64 + 1) i
-bitmap_index x pages i lt e =
-    let small : x / 64 < 16 * pages = omega arith in
-    let whole : x / 64 % (16 * pages) ≡ x / 64 = mod-eq_of_lt small in
-    let index : x / 64 % (16 * pages) ≡ i = cc in
-    record { here = omega arith; below = omega arith }
-
-field_index : (x pages i : ℕ) → x < 1024 * pages → Field (x % (1024 * pages)) ≡ Field i → AtFront x (x + 1) i
-field_index x pages i lt e =
-    let whole : x % (1024 * pages) ≡ x = mod-eq_of_lt lt in
-    let index : x % (1024 * pages) ≡ i = cc in
-    record { here = omega arith; below = omega arith }
 
 module _ (s : Scanning) where
   -- where it asks for a word of the slot that lies in the heap
@@ -154,16 +91,10 @@ module _ (s : Scanning) where
   Inside stage = is_busy stage ≡ true → s.at < 1024 * s.layout.pages
 
   bits_at : (stage : ScanStage) (i : ℕ) → Inside stage → cell_of (asks_at s stage) ≡ Bitmap i → AtFront (bits_front s.at stage) (bits_passed s.at stage) i
-  bits_at LoadBitmap i inside e = bitmap_index s.at s.layout.pages i (inside refl) e
-  bits_at (Shading sh) i inside e = absurd (off_slot _ _ (shade_off sh sh.stage) refl e)
-  bits_at (FindRoom sh r) i inside e = absurd (off_slot _ _ (room_off r r.stage) refl e)
-  bits_at _ i inside e = absurd (cc)
+  bits_at stage i inside e = grind arith
 
   fields_at : (stage : ScanStage) (i : ℕ) → Inside stage → cell_of (asks_at s stage) ≡ Field i → AtFront (fields_front s.at stage) (fields_passed s.at stage) i
-  fields_at LoadField i inside e = field_index s.at s.layout.pages i (inside refl) e
-  fields_at (Shading sh) i inside e = absurd (off_slot _ _ (shade_off sh sh.stage) refl e)
-  fields_at (FindRoom sh r) i inside e = absurd (off_slot _ _ (room_off r r.stage) refl e)
-  fields_at _ i inside e = absurd (cc)
+  fields_at stage i inside e = grind arith
 
 module _ (cells : CellsAreTold) (l : Layout) (seat reference : ℕ) (held : Option Held) (found : ℕ → ℕ) where
   abbrev state_n : ℕ → Scanning
@@ -222,10 +153,7 @@ module _ (cells : CellsAreTold) (l : Layout) (seat reference : ℕ) (held : Opti
     passes n = passes_at (state_n n) (state_n n).stage (found n) refl
 
     bits_rise_n : (n : ℕ) → bits_n n ≤ bits_n (suc n)
-    bits_rise_n n =
-        let up : bits_n n ≤ bits_passed (state_n n).at (state_n n).stage = bits_rise (state_n n).at (state_n n).stage in
-        let on : bits_passed (state_n n).at (state_n n).stage ≤ bits_n (suc n) = (passes n).bits_up in
-        omega arith
+    bits_rise_n n = grind (arith, bits_rise, passes)
 
     fields_rise_n : (n : ℕ) → fields_n n ≤ fields_n (suc n)
     fields_rise_n n =

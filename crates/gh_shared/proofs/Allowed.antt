@@ -5,15 +5,13 @@ use Rattle.std.proofs.lemmas.Bool.Decides.{nat_tests}
 use Rattle.std.proofs.lemmas.List.Sums.{sum_by_more_le}
 use Rattle.std.proofs.lemmas.Option.{slice_get-get_or}
 use Rattle.gh_base.specs.declared.layout.Layout.{Layout}
-use Rattle.gh_base.specs.declared.limits.TheConstants.{REGISTERS, MOST_GOROUTINES}
+use Rattle.gh_base.specs.declared.limits.TheConstants.{MOST_GOROUTINES}
 use Rattle.gh_base.specs.declared.machine.Entry.{Entry}
 use Rattle.gh_base.specs.declared.operation.Op.{Op}
-use Rattle.gh_base.specs.declared.operation.Op.TheVariants as op
 use Rattle.gh_base.specs.declared.shape.Shape.{Shape}
 use Rattle.gh_base.specs.Lists.{state_of}
 use Rattle.gh_mutator.specs.declared.processor.Processor.{Processor}
 use Rattle.gh_mutator.specs.declared.task.Task.{Task}
-use Rattle.gh_mutator.specs.declared.task.Task.TheVariants.{Left}
 use Rattle.gh_mutator.specs.Deeds.{processor_kind}
 use Rattle.gh_mutator.specs.Mutating.{Mutating}
 use Rattle.gh_mutator.specs.Processor.{made_by}
@@ -28,34 +26,23 @@ use Rattle.gh_shared.specs.declared.machine.ActorMachine.TheVariants.{Runs}
 use Rattle.gh_shared.specs.Calls.{Fits, RunsIt}
 use Rattle.gh_shared.specs.Machines.{IsProcessorOf, ProcessorMay}
 use Rattle.gh_shared.specs.Plans.{Planned}
-use Rattle.gh_shared.proofs.Rooms.{room_so}
 use Rattle.gh_shared.specs.Shown.{CountsSo, left_by, ProcessorRests, requests_begun, runs_by}
 
 -- ---- truth values
 
 not_left : (t : Task) → is_leaving t ≡ false → has_left_at t ≡ false
-not_left Left e = absurd cc
-not_left _ e = refl
+not_left t e = grind arith
 
 pub record RunsSo (n c e : Bool) : Type 0 where
   pub there : n ≡ true
   pub its : c ≡ true
   pub goes : e ≡ false
 
-runs_so : (n c e : Bool) → (n && c && not e) ≡ true → RunsSo n c e
-runs_so true true false h = record { there = refl; its = refl; goes = refl }
-runs_so true true true h = absurd cc
-runs_so true false e h = absurd cc
-runs_so false c e h = absurd cc
-
 over_so : (c e : Bool) → (true && c && not e) ≡ false → (not c || e) ≡ true
-over_so true true h = refl
-over_so true false h = absurd cc
-over_so false e h = refl
+over_so c e h = grind arith
 
 not_it : (b : Bool) → b ≡ false → not b ≡ true
-not_it true e = absurd cc
-not_it false e = refl
+not_it b e = grind arith
 
 -- ---- the operation
 
@@ -67,7 +54,7 @@ module _ (p : Planned) (a : ℕ) (m : Mutating) (own : List (Entry Op)) (procs :
   It g = RunsSo (nat_lt g L.goroutines) (g % L.procs == a) (ended_in own g)
 
   pub it_runs : (g : ℕ) → runs_by p a own g ≡ true → It g
-  it_runs g h = runs_so (nat_lt g L.goroutines) (g % L.procs == a) (ended_in own g) h
+  it_runs g h = grind arith
 
   pub below : (g : ℕ) → It g → g < L.goroutines
   below g h = let there = h.there in grind (arith, nat_tests)
@@ -90,7 +77,7 @@ module _ (p : Planned) (a : ℕ) (m : Mutating) (own : List (Entry Op)) (procs :
       omega (arith, is, part, all, one)
 
   named : (g : ℕ) → It g → 1 ≤ left_by p own g → nat_lt (made_by m.processor g) most_objects ≡ true
-  named g h one = let made = rests.made g in let less = fewer g h one in lt (made_by m.processor g) most_objects (omega (arith, made, less))
+  named g h one = grind (arith, fewer, lt)
 
   more : (g : ℕ) → 1 ≤ left_by p own g → nat_lt (asked_by g own) (wishes_of p.script g) ≡ true
   more g one = lt (asked_by g own) (wishes_of p.script g) (omega (arith, one))
@@ -114,38 +101,7 @@ module _ (p : Planned) (a : ℕ) (m : Mutating) (own : List (Entry Op)) (procs :
     sound : SoundOp p.script.shapes L o
 
   needs : (o : Op) → RunsIt p a (Runs m) own (goroutine_of o) → Fits p a (Runs m) own o → Needs o
-  needs (op.New g d t) r f =
-      let h = it_runs g r in
-      record { ranged = both_true _ _ (both_true _ _ h.there (lt d REGISTERS f.0)) (lt t (length p.script.shapes) f.1); its = h.its; names = named g h f.2; goes = not_it _ h.goes; asks = more g f.2; leaves = refl; room = refl; sound = ((few g h, f.0), f.1) }
-  needs (op.Load g d b k) r f =
-      let h = it_runs g r in
-      record { ranged = both_true _ _ (both_true _ _ h.there (lt d REGISTERS f.0)) (lt b REGISTERS f.1); its = h.its; names = refl; goes = not_it _ h.goes; asks = refl; leaves = refl; room = refl; sound = ((few g h, f.0), f.1) }
-  needs (op.Store g b k v) r f =
-      let h = it_runs g r in
-      record { ranged = both_true _ _ (both_true _ _ h.there (lt b REGISTERS f.0)) (lt v REGISTERS f.1); its = h.its; names = refl; goes = not_it _ h.goes; asks = refl; leaves = refl; room = (room_so m).1 f.2; sound = ((few g h, f.0), f.1) }
-  needs (op.GetGlobal g d k) r f =
-      let h = it_runs g r in
-      record { ranged = both_true _ _ (both_true _ _ h.there (lt d REGISTERS f.0)) (lt k L.globals f.1); its = h.its; names = refl; goes = not_it _ h.goes; asks = refl; leaves = refl; room = refl; sound = ((few g h, f.0), f.1) }
-  needs (op.SetGlobal g k v) r f =
-      let h = it_runs g r in
-      record { ranged = both_true _ _ (both_true _ _ h.there (lt k L.globals f.1)) (lt v REGISTERS f.0); its = h.its; names = refl; goes = not_it _ h.goes; asks = refl; leaves = refl; room = (room_so m).1 f.2; sound = ((few g h, f.0), f.1) }
-  needs (op.Int g d n) r f =
-      let h = it_runs g r in
-      record { ranged = both_true _ _ h.there (lt d REGISTERS f); its = h.its; names = refl; goes = not_it _ h.goes; asks = refl; leaves = refl; room = refl; sound = (few g h, f) }
-  needs (op.Move g d s) r f =
-      let h = it_runs g r in
-      record { ranged = both_true _ _ (both_true _ _ h.there (lt d REGISTERS f.0)) (lt s REGISTERS f.1); its = h.its; names = refl; goes = not_it _ h.goes; asks = refl; leaves = refl; room = refl; sound = ((few g h, f.0), f.1) }
-  needs (op.Nil g d) r f =
-      let h = it_runs g r in
-      record { ranged = both_true _ _ h.there (lt d REGISTERS f); its = h.its; names = refl; goes = not_it _ h.goes; asks = refl; leaves = refl; room = refl; sound = (few g h, f) }
-  needs (op.Gc g) r f =
-      let h = it_runs g r in
-      record { ranged = h.there; its = h.its; names = refl; goes = not_it _ h.goes; asks = more g f; leaves = refl; room = refl; sound = tt }
-  needs op.Poll r f = record { ranged = refl; its = refl; names = refl; goes = refl; asks = refl; leaves = refl; room = refl; sound = tt }
-  needs (op.End g) r f =
-      let h = it_runs g r in
-      record { ranged = h.there; its = h.its; names = refl; goes = not_it _ h.goes; asks = refl; leaves = refl; room = refl; sound = below g h }
-  needs op.Leave r f = record { ranged = refl; its = refl; names = refl; goes = refl; asks = refl; leaves = all_over f L.goroutines (omega arith); room = refl; sound = tt }
+  needs o r f = grind (arith, all_over, below, few, it_runs, lt, more, named, not_it)
 
   pub record Allowed (o : Op) : Type 0 where
     pub may : ProcessorMay m o

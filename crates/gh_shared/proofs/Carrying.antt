@@ -1,5 +1,5 @@
 -- What a handle keeps of the actors that its seat carries: how many there are, and the coordinator's machine.
-use Rattle.std.proofs.Common.{◌≡◌, ◌≢◌, ◌↔◌, ℕ, zero, suc, ◌+◌, ◌%◌, ◌^◌, ◌<◌, ◌≤◌, ◌==◌, Bool, true, false, ◌||◌, nat_lt, if◌then◌else◌, cond, List, [], ◌∷◌, ◌++◌, arith, refl, sym, ap, ◌∙◌, subst, Option, Some, None, eq-eqb, ne_eqb, true≢false}
+use Rattle.std.proofs.Common.{◌≡◌, ◌≢◌, ◌↔◌, ℕ, zero, suc, ◌+◌, ◌%◌, ◌^◌, ◌<◌, ◌≤◌, ◌==◌, Bool, true, false, ◌||◌, nat_lt, if◌then◌else◌, cond, List, [], ◌∷◌, ◌++◌, arith, refl, sym, ap, ◌∙◌, subst, Option, Some, None, ne_eqb, true≢false}
 use Rattle.std.proofs.lemmas.Bool.Decides.{nat_tests}
 use Rattle.std.proofs.lemmas.Bool.{eqb-true, lt-ltb}
 use Rattle.atomic_table.specs.Table.{Me}
@@ -7,14 +7,10 @@ use Rattle.gh_base.specs.declared.machine.Entry.{Entry}
 use Rattle.gh_base.specs.declared.operation.Op.{Op}
 use Rattle.gh_base.specs.Cells.{seats_of}
 use Rattle.gh_base.specs.Lists.{by, state_of}
-use Rattle.gh_coord.specs.Listing as coord
 use Rattle.gh_coord.specs.Listing.{Coordinating}
 use Rattle.gh_coord.specs.Stopping.{acks_of}
-use Rattle.gh_mutator.specs.Mutating as mutating
-use Rattle.gh_worker.specs.Listing as worker
 use Rattle.gh_world.specs.Below.{spent_at}
 use Rattle.gh_lists.specs.Wants.{total}
-use Rattle.gh_world.specs.Wishes.{most_cycles}
 use Rattle.gh_table.specs.declared.plan.View.{View}
 use Rattle.gh_table.specs.Rule.{actor_in, IsAfterOneList}
 use Rattle.gh_table.specs.Runs.{entries_made, machine_after, Ran}
@@ -43,11 +39,7 @@ abbrev one_of : Bool → ℕ
 one_of b = if b then 1 else 0
 
 in_all : (xs : List ℕ) (n a : ℕ) → a < suc n → (count_among xs n ≡ n → a < n → has xs a ≡ true) → (b : Bool) → has xs n ≡ b → count_among xs n + one_of b ≡ suc n → has xs a ≡ true
-in_all xs n a lt ih false h e = absurd (let few = count_few xs n in omega (arith, e, few))
-in_all xs n a lt ih true h e = other (a == n) refl ih where
-  other : (c : Bool) → (a == n) ≡ c → (count_among xs n ≡ n → a < n → has xs a ≡ true) → has xs a ≡ true
-  other true q f = ap (has xs) (eqb-true a n q) ∙ h
-  other false q f = f (omega (arith, e)) (let t = q in let u = lt in grind (arith, nat_tests))
+in_all xs n a lt ih b h e = grind (arith, count_few)
 
 -- where all are counted, each is there
 pub count_all : (xs : List ℕ) (n : ℕ) → count_among xs n ≡ n → (a : ℕ) → a < n → has xs a ≡ true
@@ -56,12 +48,7 @@ count_all xs (suc n) e a lt = in_all xs n a lt (λ f l. count_all xs n f a l) (h
 
 module _ (xs ys zs : List ℕ) (both : (a : ℕ) → has zs a ≡ (has xs a || has ys a)) (apart : (a : ℕ) → has xs a ≡ true → has ys a ≡ false) where
   one_more : (a : ℕ) → one_of (has zs a) ≡ one_of (has xs a) + one_of (has ys a)
-  one_more a = go (has xs a) refl (has ys a) refl where
-    go : (b : Bool) → has xs a ≡ b → (c : Bool) → has ys a ≡ c → one_of (has zs a) ≡ one_of b + one_of c
-    go true p true q = absurd (true≢false (sym q ∙ apart a p))
-    go true p false q = ap one_of (both a ∙ ap (λ (t : Bool). t || has ys a) p)
-    go false p true q = ap one_of (both a ∙ (λ i. p i || q i))
-    go false p false q = ap one_of (both a ∙ (λ i. p i || q i))
+  one_more a = grind arith
 
   pub count_both : (n : ℕ) → count_among zs n ≡ count_among xs n + count_among ys n
   count_both zero = refl
@@ -69,19 +56,13 @@ module _ (xs ys zs : List ℕ) (both : (a : ℕ) → has zs a ≡ (has xs a || h
 
 -- one of them alone
 only_more : (a n : ℕ) → (b : Bool) → (a == n) ≡ b → (c : Bool) → nat_lt a n ≡ c → count_among (a ∷ []) n ≡ one_of c → count_among (a ∷ []) n + one_of b ≡ one_of (nat_lt a (suc n))
-only_more a n true q true l ih = absurd (let s = q in let t = l in grind (arith, nat_tests))
-only_more a n true q false l ih = let lt : nat_lt a (suc n) ≡ true = (let s = q in lt-ltb a (suc n) (grind (arith, nat_tests))) in rw lt (omega (arith, ih))
-only_more a n false q true l ih = let lt : nat_lt a (suc n) ≡ true = (let s = l in lt-ltb a (suc n) (grind (arith, nat_tests))) in rw lt (omega (arith, ih))
-only_more a n false q false l ih = let lt : nat_lt a (suc n) ≡ false = (let s = q in let t = l in grind (arith, nat_tests)) in rw lt (omega (arith, ih))
+only_more a n b q c l ih = grind arith
 
 none_below : (a : ℕ) → nat_lt a 0 ≡ false
 none_below a = grind (arith, nat_tests)
 
 there : (a n : ℕ) → has (a ∷ []) n ≡ (a == n)
-there a n = go (a == n) where
-  go : (b : Bool) → cond b true false ≡ b
-  go true = refl
-  go false = refl
+there a n = grind arith
 
 only : (a n : ℕ) → count_among (a ∷ []) n ≡ one_of (nat_lt a n)
 only a zero = ap one_of (sym (none_below a))
@@ -90,21 +71,17 @@ only a (suc n) = ap (λ (b : Bool). count_among (a ∷ []) n + one_of b) (there 
 -- ---- the kind of a machine
 
 goes_kind : (x : ActorMachine) (n : ℕ) → IsCoordinator (goes x n) ≡ IsCoordinator x
-goes_kind (Runs m) n = refl
-goes_kind (Marks w) n = refl
-goes_kind (Leads c) n = refl
+goes_kind x n = grind arith
 
 pub begins_kind : (x : ActorMachine) (o : Op) → IsCoordinator (begins x o) ≡ IsCoordinator x
-begins_kind (Runs m) o = refl
-begins_kind (Marks w) o = refl
-begins_kind (Leads c) o = refl
+begins_kind x o = grind arith
 
 after_kind : (x : ActorMachine) (founds : List ℕ) → IsCoordinator (machine_after goes x founds) ≡ IsCoordinator x
 after_kind x [] = refl
 after_kind x (n ∷ ns) = goes_kind (machine_after goes x ns) n ∙ after_kind x ns
 
 pub same_kind : (x x' : ActorMachine) (founds : List ℕ) → x' ≡ machine_after goes x founds → IsCoordinator x' ≡ IsCoordinator x
-same_kind x x' founds is = ap IsCoordinator is ∙ after_kind x founds
+same_kind x x' founds is = grind (arith, after_kind)
 
 -- ---- the entries of others
 
@@ -115,26 +92,16 @@ by_others a b x (n ∷ ns) log c ne = rw (ne_eqb a c ne) (by_others a b x ns log
 -- ---- the coordinator
 
 no_leader : (x : ActorMachine) (led : Option Coordinating) → (IsCoordinator x → ⊥) → leader_of x led ≡ led
-no_leader (Runs m) led never = refl
-no_leader (Marks w) led never = refl
-no_leader (Leads c) led never = absurd (never tt)
+no_leader x led never = grind arith
 
 still_leads : (x : ActorMachine) (led other : Option Coordinating) (c : Coordinating) → leader_of x led ≡ Some c → leader_of x (first_of led other) ≡ Some c
-still_leads (Leads d) led other c e = e
-still_leads (Runs m) None other c e = absurd cc
-still_leads (Runs m) (Some d) other c e = e
-still_leads (Marks w) None other c e = absurd cc
-still_leads (Marks w) (Some d) other c e = e
+still_leads x led other c e = grind arith
 
 to_last : (x : ActorMachine) (a z : ℕ) → is_coordinator x ≡ (a == z) → IsCoordinator x ↔ (a ≡ z)
-to_last (Runs m) a z e = ((λ b. absurd b), (λ q. absurd (true≢false (sym (e ∙ eq-eqb a z q)))))
-to_last (Marks w) a z e = ((λ b. absurd b), (λ q. absurd (true≢false (sym (e ∙ eq-eqb a z q)))))
-to_last (Leads c) a z e = ((λ u. eqb-true a z (sym e)), (λ q. tt))
+to_last x a z e = grind arith
 
 from_last : (x : ActorMachine) (a z : ℕ) → IsCoordinator x ↔ (a ≡ z) → is_coordinator x ≡ (a == z)
-from_last (Runs m) a z h = sym (ne_eqb a z (λ q. h.1 q))
-from_last (Marks w) a z h = sym (ne_eqb a z (λ q. h.1 q))
-from_last (Leads c) a z h = sym (eq-eqb a z (h.0 tt))
+from_last x a z h = grind arith
 
 -- the coordinator's machine, which is this actor
 abbrev pub LedAs : Option Coordinating → Actor → Type 0
@@ -197,9 +164,7 @@ module _ (law : OfItsOwn) (p : Planned) where
     not_it z zs u there out last is = true≢false (sym there ∙ ap (has zs) (last is) ∙ out)
 
     no_one : (t : Bool) → has v.actors (acks_of p.layout) ≡ t → (u : Bool) → has w.actors (acks_of p.layout) ≡ u → (has v.actors (acks_of p.layout) || has w.actors (acks_of p.layout)) ≡ false → first_of led (leader_of y that) ≡ None
-    no_one true r u s e = absurd (true≢false (sym (ap (λ (t : Bool). t || has w.actors (acks_of p.layout)) r) ∙ e))
-    no_one false r true s e = absurd (true≢false (sym (λ i. r i || s i) ∙ e))
-    no_one false r false s e = ap (λ (o : Option Coordinating). first_of o (leader_of y that)) (kept.none r) ∙ no_leader y that (not_it b w.actors y its s (to_last y b (acks_of p.layout) kept'.last).0) ∙ kept'.none s
+    no_one t r u s e = grind arith
 
     go : (t : Bool) → has v.actors (acks_of p.layout) ≡ t → (has v.actors (acks_of p.layout) || has w.actors (acks_of p.layout)) ≡ true → Led v'.log x (first_of led (leader_of y that))
     go true r e =
@@ -213,16 +178,8 @@ module _ (law : OfItsOwn) (p : Planned) where
 -- ---- before the first step
 
 module _ (p : Planned) (a : ℕ) (lt : a < seats_of p.layout) where
-  abbrev opened : Bool → Bool → ActorMachine
-  opened b c = if b then Runs (mutating.opening p.layout a p.script.shapes) else if c then Marks (worker.opening p.layout a) else Leads (coord.opening p.layout a p.script.settings.gogc p.script.settings.minheap (most_cycles p.script))
-
-  stands_last : (b : Bool) → nat_lt a p.layout.procs ≡ b → (c : Bool) → nat_lt a (acks_of p.layout) ≡ c → is_coordinator (opened b c) ≡ (a == acks_of p.layout)
-  stands_last true l c m = sym (ne_eqb a (acks_of p.layout) (λ e. let t = l in grind (arith, nat_tests)))
-  stands_last false l true m = sym (ne_eqb a (acks_of p.layout) (λ e. let t = m in grind (arith, nat_tests)))
-  stands_last false l false m = sym (eq-eqb a (acks_of p.layout) (let t = m in let u = lt in grind (arith, nat_tests)))
-
   last_is : (x : ActorMachine) → x ≡ opening p a → is_coordinator x ≡ (a == acks_of p.layout)
-  last_is x is = ap is_coordinator is ∙ stands_last (nat_lt a p.layout.procs) refl (nat_lt a (acks_of p.layout)) refl
+  last_is x is = grind arith
 
   pub carried_first : (x : ActorMachine) → x ≡ opening p a → machine_actor x ≡ state_of (setting p).kind a [] → CarriesSo p (a ∷ []) [] a x 1 0 None
   carried_first x is state = record {
@@ -251,7 +208,7 @@ carries_so p a x v lt view is state =
 -- where all are carried
 module _ (law : OfItsOwn) (p : Planned) (v : View Planned Op) (a : ℕ) (x : ActorMachine) (carried drawn : ℕ) (led : Option Coordinating) (plan : v.plan ≡ p) (kept : CarriesSo v.plan v.actors v.log a x carried drawn led) (all : count_among v.actors (seats_of v.plan.layout) ≡ seats_of p.layout) where
   it_is_carried : (b : ℕ) → b < seats_of p.layout → Carries v b
-  it_is_carried = count_all v.actors (seats_of p.layout) (subst (λ (q : Planned). count_among v.actors (seats_of q.layout) ≡ seats_of p.layout) plan all)
+  it_is_carried = grind (arith, count_all)
 
   last_is_carried : Carries v (acks_of p.layout)
   last_is_carried = it_is_carried (acks_of p.layout) (omega arith)

@@ -1,6 +1,5 @@
 -- What the actors that a handle's seat carries have drawn beside its own actor.
-use Rattle.std.proofs.Common.{◌≡◌, ◌≢◌, ℕ, zero, suc, ◌+◌, ◌%◌, ◌^◌, ◌<◌, ◌==◌, Bool, true, false, not, ◌&&◌, ◌||◌, if◌then◌else◌, cond, List, [], ◌∷◌, arith, refl, sym, ap, ◌∙◌, eq-eqb, ne_eqb, true≢false}
-use Rattle.std.proofs.lemmas.Bool.{eqb-true}
+use Rattle.std.proofs.Common.{◌≡◌, ◌≢◌, ℕ, zero, suc, ◌+◌, ◌%◌, ◌^◌, ◌<◌, ◌==◌, Bool, true, false, not, ◌&&◌, ◌||◌, if◌then◌else◌, cond, List, [], ◌∷◌, arith, refl, sym, ap, ◌∙◌, eq-eqb, ne_eqb}
 use Rattle.std.proofs.Math.Nat.{add-mod-mod, mod-add-mod}
 use Rattle.gh_base.specs.declared.machine.Entry.{Entry}
 use Rattle.gh_base.specs.declared.operation.Op.{Op}
@@ -11,7 +10,7 @@ use Rattle.gh_table.specs.Views.{Carries, has}
 use Rattle.gh_lists.specs.declared.handshake.Actor.{Actor}
 use Rattle.gh_world.specs.Below.{spent_at}
 use Rattle.gh_lists.specs.Wants.{total}
-use Rattle.gh_lists.specs.Sums.{total_at, total_none, total_same}
+use Rattle.gh_lists.specs.Sums.{total_at, total_none}
 use Rattle.gh_shared.specs.Plans.{Planned, setting}
 use Rattle.gh_shared.specs.Shown.{drawn_beside}
 use Rattle.gh_shared.proofs.Ready.{OfItsOwn}
@@ -36,12 +35,10 @@ both_words d e s x y is its =
 -- ---- one term
 
 if_both : (t d : Bool) (n : ℕ) → d ≡ false → (if t && not d then n else 0) ≡ (if t then n else 0)
-if_both true d n e = ap (λ (x : Bool). if not x then n else 0) e
-if_both false d n e = refl
+if_both t d n e = grind arith
 
 if_none : (t d : Bool) (n : ℕ) → d ≡ true → (if t && not d then n else 0) ≡ 0
-if_none true d n e = ap (λ (x : Bool). if not x then n else 0) e
-if_none false d n e = refl
+if_none t d n e = grind arith
 
 pub same_state : OfItsOwn → (k : Kind Actor Op) (a : ℕ) (es fs : List (Entry Op)) → by a es ≡ by a fs → state_of k a es ≡ state_of k a fs
 same_state law k a es fs same = law k a es ∙ ap (state_of k a) same ∙ sym (law k a fs)
@@ -74,11 +71,7 @@ module _ (p : Planned) where
 
     -- the actor has gone on
     pub drawn_on : (a : ℕ) (xs : List ℕ) (log log' : List (Entry Op)) → ((c : ℕ) → a ≢ c → by c log' ≡ by c log) → beside a xs log' ≡ beside a xs log
-    drawn_on a xs log log' others = total_same (drawn_beside p a xs log) (drawn_beside p a xs log') (seats_of p.layout) (λ c lt. go c (has xs c) (a == c) refl) where
-      go : (c : ℕ) (t d : Bool) → (a == c) ≡ d → (if t && not d then drawn log' c else 0) ≡ (if t && not d then drawn log c else 0)
-      go c true true e = refl
-      go c true false e = same_drawn c log' log (others c (λ q. true≢false (sym (eq-eqb a c q) ∙ e)))
-      go c false d e = refl
+    drawn_on a xs log log' others = grind arith
 
     -- two are joined
     module _ (a b : ℕ) (v w v' : View Planned Op) (joined : Joined v w v') (mine : Carries v a) (its : Carries w b) (lt : b < seats_of p.layout) where
@@ -86,17 +79,10 @@ module _ (p : Planned) where
       all c = if has w.actors c then drawn w.log c else 0
 
       one_each : (c : ℕ) → drawn_beside p a v'.actors v'.log c ≡ drawn_beside p a v.actors v.log c + all c
-      one_each c = ap (λ (t : Bool). if t && not (a == c) then drawn v'.log c else 0) (joined.both c) ∙ go (has v.actors c) refl (has w.actors c) refl (a == c) refl where
-        go : (t : Bool) → has v.actors c ≡ t → (u : Bool) → has w.actors c ≡ u → (d : Bool) → (a == c) ≡ d → (if (t || u) && not d then drawn v'.log c else 0) ≡ (if t && not d then drawn v.log c else 0) + (if u then drawn w.log c else 0)
-        go true r true s d e = absurd (true≢false (sym s ∙ joined.apart c r))
-        go true r false s true e = refl
-        go true r false s false e = let same = same_drawn c v'.log v.log (joined.own c r) in omega (arith, same)
-        go false r true s true e = absurd (true≢false (sym mine ∙ ap (has v.actors) (eqb-true a c e) ∙ r))
-        go false r true s false e = let same = same_drawn c v'.log w.log (joined.theirs c r) in omega (arith, same)
-        go false r false s d e = refl
+      one_each c = grind arith
 
       but_its : (c : ℕ) → c ≢ b → all c ≡ drawn_beside p b w.actors w.log c
-      but_its c ne = sym (if_both (has w.actors c) (b == c) (drawn w.log c) (ne_eqb b c (λ e. ne (sym e))))
+      but_its c ne = grind arith
 
       pub drawn_both : beside a v'.actors v'.log ≡ beside a v.actors v.log + (beside b w.actors w.log + drawn w.log b)
       drawn_both =

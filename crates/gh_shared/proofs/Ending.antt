@@ -1,11 +1,9 @@
 -- A worker and the coordinator begin no operation, and run until they are done.
-use Rattle.std.proofs.Common.{◌≡◌, ℕ, ◌+◌, Bool, true, false, not, List, [], ◌∷◌, ◌++◌, refl, sym, ap, ◌∙◌, subst, None, arith}
+use Rattle.std.proofs.Common.{◌≡◌, ℕ, ◌+◌, Bool, true, false, List, [], ◌∷◌, ◌++◌, refl, sym, ap, ◌∙◌, subst, None, arith}
 use Rattle.atomic_table.specs.Table.{Me}
 use Rattle.gh_base.specs.declared.machine.Entry.{Entry}
 use Rattle.gh_base.specs.declared.operation.Op.{Op}
 use Rattle.gh_base.specs.Lists.{by}
-use Rattle.gh_coord.specs.declared.coord.CoordStage.{CoordStage}
-use Rattle.gh_coord.specs.declared.coord.CoordStage.TheVariants.{Done}
 use Rattle.gh_coord.specs.GoingOn.{GoesOnUntilDone, HasNext}
 use Rattle.gh_coord.specs.Listing as coord
 use Rattle.gh_coord.specs.Listing.{Coordinating}
@@ -60,21 +58,8 @@ leads_after : (c : Coordinating) (founds : List ℕ) → machine_after goes (Lea
 leads_after c [] = refl
 leads_after c (n ∷ ns) = ap (λ (x : ActorMachine). goes x n) (leads_after c ns)
 
-done_is : (t : CoordStage) → coord.is_done_at t ≡ true → t ≡ Done
-done_is Done e = refl
-done_is _ e = absurd cc
-
-not_false : (b : Bool) → false ≡ not b → b ≡ true
-not_false true e = refl
-not_false false e = absurd cc
-
 next_on : (s : Coordinating) (found : ℕ) → GoesOnUntilDone → HasNext s → HasNext (coord.goes s found)
-next_on s found law h = go (coord.is_busy s.stage) refl where
-  go : (b : Bool) → coord.is_busy s.stage ≡ b → HasNext (coord.goes s found)
-  go true e = law.step s found e
-  go false e =
-      let done : coord.is_done_at s.stage ≡ true = not_false (coord.is_done_at s.stage) (sym e ∙ h) in
-      subst (λ (t : CoordStage). HasNext (coord.goes_at (coord.counted s) t found)) (sym (done_is s.stage done)) h
+next_on s found law h = grind arith
 
 next_after : (c : Coordinating) (founds : List ℕ) → GoesOnUntilDone → HasNext c → HasNext (machine_after coord.goes c founds)
 next_after c [] law h = h
@@ -89,19 +74,12 @@ goes_on_after (Leads d) x' founds law h is after c e =
     subst HasNext same (next_after d founds law (h d refl))
 
 no_processor : (x x' : ActorMachine) (founds : List ℕ) → IsOther x → x' ≡ machine_after goes x founds → (m : Mutating) → x' ≡ Runs m → ⊥
-no_processor (Runs m) x' founds is after n e = is
-no_processor (Marks w) x' founds is after n e = let no : Marks (machine_after worker.goes w founds) ≡ Runs n = sym (marks_after w founds) ∙ sym after ∙ e in absurd cc
-no_processor (Leads d) x' founds is after n e = let no : Leads (machine_after coord.goes d founds) ≡ Runs n = sym (leads_after d founds) ∙ sym after ∙ e in absurd cc
+no_processor x x' founds is after n e = grind (arith, leads_after, marks_after)
 
 -- ---- all of it
 
 pub busy_at : (x : ActorMachine) (own : List (Entry Op)) → CoordinatorGoesOn x → IsOther x → ended_at x own ≡ false → is_busy x ≡ true
-busy_at (Runs m) own h is going = absurd is
-busy_at (Marks w) own h is going = go (worker.is_busy w.stage) going where
-  go : (b : Bool) → not b ≡ false → b ≡ true
-  go true e = refl
-  go false e = absurd cc
-busy_at (Leads c) own h is going = h c refl ∙ ap not going
+busy_at x own h is going = grind arith
 
 pub kept_on : (p : Planned) (a : ℕ) (x x' : ActorMachine) (me me' : Me (Unit {0}) (View Planned Op)) (founds : List ℕ) (procs : ℕ) (left : List ℕ) (over : List Bool) (gone : Bool) → GoesOnUntilDone →
     IsKeptByHandle p a x (by a me.0.log) procs left over gone → IsOther x → Ran asks goes a None x me x' me' founds → IsKeptByHandle p a x' (by a me'.0.log) procs left over gone
@@ -117,9 +95,7 @@ kept_on p a x x' me me' founds procs left over gone law kept is ran =
     subst (λ (es : List (Entry Op)). IsKeptByHandle p a x' es procs left over gone) (sym own_is) all
 
 done_by : (x : ActorMachine) (own : List (Entry Op)) → CoordinatorGoesOn x → ((m : Mutating) → x ≡ Runs m → ⊥) → is_busy x ≡ false → ended_at x own ≡ true
-done_by (Runs m) own h never idle = absurd (never m refl)
-done_by (Marks w) own h never idle = ap not idle
-done_by (Leads c) own h never idle = not_false (coord.is_done_at c.stage) (sym idle ∙ h c refl)
+done_by x own h never idle = grind arith
 
 pub is_done_then : (x x' : ActorMachine) (founds : List ℕ) (own : List (Entry Op)) → GoesOnUntilDone → CoordinatorGoesOn x → IsOther x → x' ≡ machine_after goes x founds → is_busy x' ≡ false → ended_at x' own ≡ true
 is_done_then x x' founds own law h is after idle = done_by x' own (goes_on_after x x' founds law h is after) (λ m e. no_processor x x' founds is after m e) idle

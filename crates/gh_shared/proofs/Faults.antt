@@ -1,5 +1,5 @@
 -- A call that answers a fault leaves all as it was.
-use Rattle.std.proofs.Common.{◌≡◌, ◌≢◌, ℕ, zero, suc, ◌<◌, ◌≤◌, ◌==◌, true, false, cond, All, List, [], ◌∷◌, ◌++◌, length, arith, refl, sym, ap, ◌∙◌, subst, Option, Some, None, eq-eqb, ne_eqb}
+use Rattle.std.proofs.Common.{◌≡◌, ◌≢◌, ℕ, zero, suc, ◌<◌, ◌≤◌, ◌==◌, true, false, cond, All, List, [], ◌∷◌, ◌++◌, length, arith, refl, sym, ap, ◌∙◌, subst, Option, Some, eq-eqb, ne_eqb}
 use Rattle.std.proofs.lemmas.List.Elements.{All-cons, All-nil}
 use Rattle.gh_base.specs.declared.machine.Entry.{Entry}
 use Rattle.gh_base.specs.declared.operation.Op.{Op}
@@ -9,7 +9,7 @@ use Rattle.gh_base.specs.declared.value.Fault.{Fault}
 use Rattle.gh_base.specs.Lists.{by}
 use Rattle.gh_base.specs.Routines.{told}
 use Rattle.gh_mutator.specs.declared.task.Task.{Task}
-use Rattle.gh_mutator.specs.declared.task.Task.TheVariants.{Idle, Left}
+use Rattle.gh_mutator.specs.declared.task.Task.TheVariants.{Idle}
 use Rattle.gh_mutator.specs.Faults.{FaultChangesNothing, FaultsChangeNothing, is_load, rested}
 use Rattle.gh_mutator.specs.Listing.{is_busy_at}
 use Rattle.gh_mutator.specs.Mutating as mutating
@@ -84,13 +84,10 @@ all_loads a b m (n ∷ ns) found same loads =
 -- ---- the processor
 
 answered_is : (x : Option Answer) (given : Answer) → ends_with_answer x ≡ Some (Some given) → x ≡ Some given
-answered_is None given e = absurd cc
-answered_is (Some y) given e = cc
+answered_is x given e = grind arith
 
 idle_is : (t : Task) → is_busy_at t ≡ false → is_leaving t ≡ false → t ≡ Idle
-idle_is Idle idle stays = refl
-idle_is Left idle stays = absurd cc
-idle_is _ idle stays = absurd cc
+idle_is t idle stays = grind arith
 
 -- a fault by the last of these steps
 faulted : (m : Mutating) (o : Op) (n : ℕ) (ns : List ℕ) (cause : Fault) → FaultsChangeNothing → Gave goes gives (Runs (mutating.begins m o)) (n ∷ ns) (Some (answer.Fault cause)) → FaultChangesNothing m o (found_of (n ∷ ns)) (length ns) cause

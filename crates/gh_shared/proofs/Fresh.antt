@@ -1,6 +1,6 @@
 -- Actors before their first steps.
 use Rattle.std.proofs.lemmas.Bool.Decides.{nat_tests}
-use Rattle.std.proofs.Common.{◌≡◌, ◌∙◌, arith, not, ℕ, zero, suc, Bool, true, false, sym, refl, subst, eq-eqb, nat_lt, if◌then◌else◌, List, [], ◌∷◌, ◌++◌, length, Some}
+use Rattle.std.proofs.Common.{◌≡◌, ◌∙◌, arith, not, ℕ, zero, suc, Bool, true, false, sym, refl, subst, nat_lt, if◌then◌else◌, List, [], ◌∷◌, ◌++◌, length, Some}
 use Rattle.std.specs.Prelude.{slice_get}
 use Rattle.gh_base.specs.Reading.{read_replicate}
 use Rattle.gh_base.specs.declared.operation.Op.{Op}
@@ -11,7 +11,6 @@ use Rattle.gh_mutator.specs.Mutating as mutating
 use Rattle.gh_mutator.specs.Mutating.{Mutating}
 use Rattle.gh_mutator.specs.Processor.{opening_processor, made_by}
 use Rattle.gh_worker.specs.Listing as worker
-use Rattle.gh_lists.specs.declared.handshake.Actor.TheVariants as actor
 use Rattle.gh_world.specs.Wishes.{most_cycles}
 use Rattle.gh_table.specs.declared.plan.View.{View}
 use Rattle.gh_table.specs.Rule.{actor_in}
@@ -35,25 +34,11 @@ module _ (p : Planned) (a : ℕ) where
   abbrev first_of : Bool → Bool → ActorMachine
   first_of b c = if b then Runs (mutating.opening p.layout a p.script.shapes) else if c then Marks (worker.opening p.layout a) else Leads (coord.opening p.layout a p.script.settings.gogc p.script.settings.minheap (most_cycles p.script))
 
-  it_belongs : (b c : Bool) → Belongs p (first_of b c)
-  it_belongs true c = record { shapes = refl; layout = refl }
-  it_belongs false true = refl
-  it_belongs false false = refl
-
-  it_acts : (b c : Bool) → machine_actor (first_of b c) ≡ (if b then actor.Runs (opening_processor p.layout a) else if c then actor.Marks (worker.opening p.layout a) else actor.Leads (coord.opening p.layout a p.script.settings.gogc p.script.settings.minheap (most_cycles p.script)))
-  it_acts true c = refl
-  it_acts false true = refl
-  it_acts false false = refl
-
   pub opens : IsTied a (opening p a) (one_carried p a)
-  opens = record {
-    carries = rw (eq-eqb a a refl) refl;
-    belongs = it_belongs (nat_lt a p.layout.procs) (nat_lt a (acks_of p.layout));
-    state = it_acts (nat_lt a p.layout.procs) (nat_lt a (acks_of p.layout));
-  }
+  opens = grind arith
 
 pub opens_so : (p : Planned) (a : ℕ) (m : ActorMachine) (v : View Planned Op) → v ≡ one_carried p a → m ≡ opening p a → IsTied a m v
-opens_so p a m v view machine = subst (λ (n : ActorMachine). IsTied a n v) (sym machine) (subst (λ (u : View Planned Op). IsTied a (opening p a) u) (sym view) (opens p a))
+opens_so p a m v view machine = grind arith
 
 -- ---- what is kept of it
 

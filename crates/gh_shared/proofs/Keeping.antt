@@ -12,7 +12,6 @@ use Rattle.gh_base.specs.declared.value.Answer.{Answer}
 use Rattle.gh_base.specs.Lists.{by}
 use Rattle.gh_mutator.specs.declared.processor.Processor.{Processor}
 use Rattle.gh_mutator.specs.declared.task.Task.{Task}
-use Rattle.gh_mutator.specs.declared.task.Task.TheVariants.{Idle, Left}
 use Rattle.gh_mutator.specs.Listing.{begins_at, is_busy_at, takes_at}
 use Rattle.gh_mutator.specs.Mutating as mutating
 use Rattle.gh_mutator.specs.Mutating.{Mutating}
@@ -141,9 +140,7 @@ module _ (p : Planned) (own own' : List (Entry Op)) (procs : ℕ) (left : List �
 
 -- one that rests stays as it is
 rests_on : (shapes : List Shape) (m : Processor) (t : Task) (found : ℕ) → is_busy_at t ≡ false → takes_at shapes m t found ≡ m
-rests_on shapes m Idle found e = refl
-rests_on shapes m Left found e = refl
-rests_on shapes m _ found e = absurd cc
+rests_on shapes m t found e = grind arith
 
 -- steps make no more than one object, and lead to no leave
 record GoesSo (m n : Processor) : Type 0 where
@@ -164,22 +161,10 @@ steps_so m (n ∷ ns) =
     record { counted = λ g. let x = before.counted g in let y = s.counted g in omega (arith, x, y); leaves_as = s.leaves_as ∙ before.leaves_as }
 
 begun_makes : (shapes : List Shape) (m : Processor) (o : Op) → making (begins_at shapes m o) ≤ (if asks_for_cycle (Some o) then 1 else 0)
-begun_makes shapes m (op.New g d t) = omega arith
-begun_makes shapes m (op.Gc g) = omega arith
-begun_makes shapes m (op.Load g d b k) = omega arith
-begun_makes shapes m (op.Store g b k v) = omega arith
-begun_makes shapes m (op.GetGlobal g d k) = omega arith
-begun_makes shapes m (op.SetGlobal g k v) = omega arith
-begun_makes shapes m (op.Int g d n) = omega arith
-begun_makes shapes m (op.Move g d s) = omega arith
-begun_makes shapes m (op.Nil g d) = omega arith
-begun_makes shapes m op.Poll = omega arith
-begun_makes shapes m (op.End g) = omega arith
-begun_makes shapes m op.Leave = omega arith
+begun_makes shapes m o = grind arith
 
 begun_busy : (shapes : List Shape) (m : Processor) (o : Op) → is_busy_at (begins_at shapes m o) ≡ true
-begun_busy shapes m (op.Gc g) = refl
-begun_busy shapes m _ = refl
+begun_busy shapes m o = grind arith
 
 -- the machine of a processor stays one
 pub runs_after : (m : Mutating) (founds : List ℕ) → machine_after goes (Runs m) founds ≡ Runs (machine_after mutating.goes m founds)
@@ -215,21 +200,7 @@ module _ (p : Planned) (a : ℕ) (m : Mutating) (own : List (Entry Op)) (procs :
       (omega (arith, lt, many), omega (arith, is, one))
 
   pub may_count : (o : Op) → RunsIt p a (Runs m) own (goroutine_of o) → Fits p a (Runs m) own o → MayCount left over o
-  may_count (op.New g d t) r f = has_one g r f.2
-  may_count (op.Gc g) r f = has_one g r f
-  may_count (op.End g) r f =
-      let lt = below p a m own procs left over gone counts rests belongs g (it_runs p a m own procs left over gone counts rests belongs g r) in
-      let many = counts.many_over in
-      omega (arith, lt, many)
-  may_count (op.Load g d b k) r f = tt
-  may_count (op.Store g b k v) r f = tt
-  may_count (op.GetGlobal g d k) r f = tt
-  may_count (op.SetGlobal g k v) r f = tt
-  may_count (op.Int g d n) r f = tt
-  may_count (op.Move g d s) r f = tt
-  may_count (op.Nil g d) r f = tt
-  may_count op.Poll r f = tt
-  may_count op.Leave r f = tt
+  may_count o r f = grind (arith, has_one)
 
 pub kept_then : (p : Planned) (a : ℕ) (m : Mutating) (o : Op) (me me' : Me (Unit {0}) (View Planned Op)) (x : ActorMachine) (founds : List ℕ) (out : Option Answer) (procs : ℕ) (left : List ℕ) (over : List Bool) (gone : Bool) →
     IsKeptByHandle p a (Runs m) (by a me.0.log) procs left over gone → has_left (by a me.0.log) ≡ false → MayCount left over o → Ran asks goes a (Some o) (begins (Runs m) o) me x me' founds → Gave goes gives (begins (Runs m) o) founds out → is_busy x ≡ false →

@@ -1,9 +1,8 @@
 -- An entry finds what the last entry left that wrote its cell.
-use Rattle.std.proofs.Common.{◌≡◌, Bool, true, false, not, ◌&&◌, cond, List, [], ◌∷◌, ◌++◌, refl, sym, ap, ◌∙◌}
+use Rattle.std.proofs.Common.{◌≡◌, Bool, true, false, not, ◌&&◌, cond, List, [], ◌∷◌, ◌++◌, refl, sym, ap, ◌∙◌, arith}
 use Rattle.std.proofs.lemmas.List.{append-nil}
 use Rattle.std.proofs.lemmas.List.Elements.{All-head, All-tail}
 use Rattle.gh_base.specs.declared.cell.Ask.{Ask}
-use Rattle.gh_base.specs.declared.cell.Ask.TheVariants as ask
 use Rattle.gh_base.specs.declared.cell.Cell.{Cell}
 use Rattle.gh_base.specs.declared.machine.Entry.{Entry}
 use Rattle.gh_base.specs.declared.operation.Op.{Op}
@@ -15,34 +14,24 @@ use Rattle.gh_shared.specs.Plans.{Planned, setting}
 use Rattle.gh_shared.specs.LastWrites.{NoneWrites, ReadsSeeWrites, writes}
 
 and_true : (b c : Bool) → (b && not c) ≡ true → b ≡ true
-and_true true c e = refl
-and_true false c e = absurd cc
+and_true b c e = grind arith
 
 and_false : (b : Bool) → (b && not false) ≡ false → b ≡ false
-and_false true e = absurd cc
-and_false false e = refl
+and_false b e = grind arith
 
 module _ (law : ChangesOneCell) (opening : Words) where
   elsewhere : (words : Words) (a : Ask) (c : Cell) → same_cell (cell_of a) c ≡ false → effect words a c ≡ words c
   elsewhere words a c e = law words a c ∙ ap (λ (b : Bool). cond b (left a (words (cell_of a))) (words c)) e
 
   unwritten : (words : Words) (a : Ask) (c : Cell) → (same_cell (cell_of a) c && not (is_load a)) ≡ false → effect words a c ≡ words c
-  unwritten words (ask.Load d) c e = refl
-  unwritten words (ask.Store d v) c e = elsewhere words (ask.Store d v) c (and_false (same_cell d c) e)
-  unwritten words (ask.Or d bits) c e = elsewhere words (ask.Or d bits) c (and_false (same_cell d c) e)
-  unwritten words (ask.And d bits) c e = elsewhere words (ask.And d bits) c (and_false (same_cell d c) e)
-  unwritten words (ask.Add d more) c e = elsewhere words (ask.Add d more) c (and_false (same_cell d c) e)
-  unwritten words (ask.Swap d old new) c e = elsewhere words (ask.Swap d old new) c (and_false (same_cell d c) e)
+  unwritten words a c e = grind (arith, and_false, elsewhere)
 
   none_writes : (c : Cell) (between before : List (Entry Op)) → NoneWrites c between → words_after opening (between ++ before) c ≡ words_after opening before c
   none_writes c [] before none = refl
   none_writes c (x ∷ xs) before none = unwritten (words_after opening (xs ++ before)) x.ask c (All-head (λ (e : Entry Op). writes c e ≡ false) x xs none) ∙ none_writes c xs before (All-tail (λ (e : Entry Op). writes c e ≡ false) x xs none)
 
   written : (c : Cell) (w : Entry Op) (before : List (Entry Op)) → writes c w ≡ true → w.found ≡ words_after opening before (cell_of w.ask) → words_after opening (w ∷ before) c ≡ left w.ask w.found
-  written c w before is found =
-      law (words_after opening before) w.ask c
-      ∙ ap (λ (b : Bool). cond b (left w.ask (words_after opening before (cell_of w.ask))) (words_after opening before c)) (and_true (same_cell (cell_of w.ask) c) (is_load w.ask) is)
-      ∙ ap (left w.ask) (sym found)
+  written c w before is found = grind (arith, and_true)
 
 -- what a legal list began as is legal
 began : {M O : Type 0} (s : Setting M O) (after es : List (Entry O)) → Legal s (after ++ es) → Legal s es

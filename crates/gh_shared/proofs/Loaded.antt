@@ -37,8 +37,7 @@ use Rattle.gh_shared.proofs.Midway.{ends_at_once, goes_on_so, MayStart, Midway, 
 
 -- where none of these is found there is none
 pub no_object : (x y : Option ℕ) → x ≡ y → ((at : ℕ) → x ≡ Some at → ⊥) → y ≡ None
-no_object None y e never = sym e
-no_object (Some at) y e never = absurd (never at refl)
+no_object x y e never = grind arith
 
 -- a load that a processor may begin at its seat, and the layout that its heap keeps
 pub record MayLoad : Type 0 where

@@ -1,5 +1,5 @@
 -- Where a load stands after each of its steps.
-use Rattle.std.proofs.Common.{◌≡◌, ℕ, ◌+◌, ◌-◌, Bool, true, false, cond, refl, sym, ap, ◌∙◌, Some, None}
+use Rattle.std.proofs.Common.{◌≡◌, ℕ, ◌+◌, ◌-◌, Bool, true, false, cond, refl, sym, ap, ◌∙◌, Some, None, arith}
 use Rattle.gh_base.specs.declared.layout.Layout.{Layout}
 use Rattle.gh_base.specs.declared.operation.Op.TheVariants as op
 use Rattle.gh_base.specs.declared.value.Answer.{Answer}
@@ -46,21 +46,11 @@ module _ (m : Mutating) (g d b k : ℕ) where
 
   -- ---- where it begins
 
-  page_first : (v : Value) (at : ℕ) → object_in v ≡ Some at → load.begins g d b k v ≡ load_at at Page
-  page_first (value.Ref r) at e = let is : Some (r - 1) ≡ Some at = e in let same : r - 1 ≡ at = cc in ap (λ (i : ℕ). load_at i Page) same
-  page_first (value.Int n) at e = absurd cc
-  page_first value.Nil at e = absurd cc
-
-  none_first : (v : Value) → object_in v ≡ None → load.begins g d b k v ≡ load_at 0 NilBase
-  none_first (value.Ref r) e = absurd cc
-  none_first (value.Int n) e = refl
-  none_first value.Nil e = refl
-
   pub begins_page : (at : ℕ) → object_in (register_of m.processor g b) ≡ Some at → mutating.begins m (op.Load g d b k) ≡ at_load m (load_at at Page)
-  begins_page at e = ap (at_load m) (page_first (register_of m.processor g b) at e)
+  begins_page at e = grind arith
 
   pub begins_none : object_in (register_of m.processor g b) ≡ None → mutating.begins m (op.Load g d b k) ≡ at_load m (load_at 0 NilBase)
-  begins_none e = ap (at_load m) (none_first (register_of m.processor g b) e)
+  begins_none e = grind arith
 
   -- ---- its steps
 

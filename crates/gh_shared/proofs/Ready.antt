@@ -1,5 +1,5 @@
 -- A handle of a processor may begin what its caller may ask for, and keeps what it shows.
-use Rattle.std.proofs.Common.{◌≡◌, ℕ, zero, suc, ◌≤◌, ◌-◌, ◌%◌, ◌==◌, nat_lt, Bool, true, false, not, ◌&&◌, ◌||◌, if◌then◌else◌, arith, List, [], ◌∷◌, refl, sym, ap, ◌∙◌, subst, Option, Some, None}
+use Rattle.std.proofs.Common.{◌≡◌, ℕ, zero, suc, ◌≤◌, ◌-◌, Bool, true, false, not, ◌&&◌, ◌||◌, if◌then◌else◌, arith, List, [], ◌∷◌, refl, sym, ap, ◌∙◌, subst, Option, Some, None}
 use Rattle.atomic_table.specs.Table.{Me}
 use Rattle.gh_base.specs.declared.machine.Entry.{Entry}
 use Rattle.gh_base.specs.declared.operation.Op.{Op}
@@ -17,7 +17,7 @@ use Rattle.gh_table.specs.declared.plan.View.{View}
 use Rattle.gh_table.specs.Runs.{Gave, machine_after, Ran}
 use Rattle.gh_lists.specs.declared.handshake.Actor.{Actor}
 use Rattle.gh_lists.specs.declared.handshake.Actor.TheVariants as actor
-use Rattle.gh_lists.specs.Order.{ended_in, ends, goroutine_of, has_left, leaves}
+use Rattle.gh_lists.specs.Order.{ends, goroutine_of, has_left, leaves}
 use Rattle.gh_lists.specs.Processors.{asks_collector}
 use Rattle.gh_world.specs.World.{may_begin_of}
 use Rattle.gh_world.proofs.Resting.{is_processor}
@@ -67,43 +67,31 @@ module _ (p : Planned) (a : ℕ) (x : ActorMachine) (o : Op) (me me' : Me (Unit 
 
 -- a processor ends an operation with an answer
 answered_some : (x : Option Answer) → ends_with_answer x ≡ Some None → ⊥
-answered_some None e = absurd cc
-answered_some (Some y) e = absurd cc
+answered_some x e = grind arith
 
 runs_answer : (m : Mutating) (founds : List ℕ) → Gave goes gives (Runs m) founds None → ⊥
 runs_answer m [] gave = gave
 runs_answer m (n ∷ ns) gave = answered_some (mutating.gives (machine_after mutating.goes m ns) n) (subst (λ (y : ActorMachine). gives y n ≡ Some None) (runs_after m ns) gave)
 
 pub has_answer : (x : ActorMachine) (o : Op) (founds : List ℕ) (out : Option Answer) → IsProcessor x → Gave goes gives (begins x o) founds out → out ≡ None → ⊥
-has_answer (Runs m) o founds out is gave e = runs_answer (mutating.begins m o) founds (subst (λ (y : Option Answer). Gave goes gives (Runs (mutating.begins m o)) founds y) e gave)
-has_answer (Marks w) o founds out is gave e = absurd is
-has_answer (Leads c) o founds out is gave e = absurd is
+has_answer x o founds out is gave e = grind (arith, runs_answer)
 
 -- ---- what is shown then
 
 not_both : (b c : Bool) → not (b || c) ≡ (not c && not b)
-not_both true true = refl
-not_both true false = refl
-not_both false true = refl
-not_both false false = refl
+not_both b c = grind arith
 
 and_on : (n c e b : Bool) → (n && c && (not e && not b)) ≡ ((n && c && not e) && not b)
-and_on true true e b = refl
-and_on true false e b = refl
-and_on false c e b = refl
+and_on n c e b = grind arith
 
 or_none : (b c : Bool) → c ≡ false → (b || c) ≡ b
-or_none true c e = refl
-or_none false c e = e
+or_none b c e = grind arith
 
 pub left_then : (p : Planned) (o : Op) (own own' : List (Entry Op)) → OneMore o own own' → (g : ℕ) → left_by p own' g ≡ left_by p own g - (if asks_collector g (Some o) then 1 else 0)
 left_then p o own own' one g = let is = one.asked g in omega (arith, is)
 
 pub runs_then : (p : Planned) (a : ℕ) (o : Op) (own own' : List (Entry Op)) → OneMore o own own' → (g : ℕ) → runs_by p a own' g ≡ (runs_by p a own g && not (ends (Some o) g))
-runs_then p a o own own' one g =
-    let n = nat_lt g p.layout.goroutines in
-    let c = (g % p.layout.procs) == a in
-    ap (λ (e : Bool). n && c && not e) (one.ended g) ∙ ap (λ (e : Bool). n && c && e) (not_both (ends (Some o) g) (ended_in own g)) ∙ and_on n c (ended_in own g) (ends (Some o) g)
+runs_then p a o own own' one g = grind (arith, and_on, not_both)
 
 pub ended_then : (x : ActorMachine) (o : Op) (x' : ActorMachine) (founds : List ℕ) (own own' : List (Entry Op)) → IsProcessor x → x' ≡ machine_after goes (begins x o) founds → ended_at x own ≡ false → OneMore o own own' → ended_at x' own' ≡ leaves (Some o)
 ended_then (Marks w) o x' founds own own' is after going one = absurd is
@@ -142,8 +130,7 @@ ends_so (Runs m) o most law is short few found =
     record { steps = e.steps; few = omega (arith, less, at); ended = subst (λ (y : ActorMachine). is_busy y ≡ false) (sym (told_runs (mutating.begins m o) found e.steps)) e.ended }
 
 pub either_few : (i j n : ℕ) → i ≤ n → j ≤ n → (b : Bool) → (if b then i else j) ≤ n
-either_few i j n le me true = le
-either_few i j n le me false = me
+either_few i j n le me b = grind arith
 
 -- ---- a poll makes room
 

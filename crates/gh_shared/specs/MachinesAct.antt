@@ -1,9 +1,7 @@
 -- A machine is its actor in the lists of its heap: it asks for what the actor asks for, and goes over to what that goes over to.
-use Rattle.std.specs.Prelude.{◌≡◌, ℕ, false, true, List}
+use Rattle.std.specs.Prelude.{◌≡◌, ℕ, false, true}
 use Rattle.gh_base.specs.declared.layout.Layout.{Layout}
 use Rattle.gh_base.specs.declared.operation.Op.{Op}
-use Rattle.gh_base.specs.declared.operation.Op.TheVariants as op
-use Rattle.gh_base.specs.declared.shape.Shape.{Shape}
 use Rattle.gh_base.specs.Blind.{is_store}
 use Rattle.gh_coord.specs.Blind as leads_blindly
 use Rattle.gh_coord.specs.Listing.{Coordinating}
@@ -11,19 +9,16 @@ use Rattle.gh_coord.specs.Listing as leading
 use Rattle.gh_coord.specs.Stays as coord
 use Rattle.gh_mutator_writes.specs.Blind as runs_blindly
 use Rattle.gh_mutator.specs.Stays as mutator
-use Rattle.gh_mutator.specs.Listing as listing
-use Rattle.gh_mutator.specs.Mutating as mutating
 use Rattle.gh_mutator.specs.Mutating.{Mutating}
 use Rattle.gh_worker.specs.Blind as marks_blindly
 use Rattle.gh_worker.specs.Listing.{Working}
 use Rattle.gh_worker.specs.Listing as working
 use Rattle.gh_worker.specs.Stays as worker
-use Rattle.gh_lists.specs.declared.handshake.Actor.TheVariants as actor
 use Rattle.gh_shared.specs.declared.machine.ActorMachine.{ActorMachine}
 use Rattle.gh_shared.specs.declared.machine.ActorMachine.TheVariants.{Leads, Marks, Runs}
 use Rattle.gh_shared.specs.Machines.{asks, begins, Belongs, ends_with_answer, ends_with_none, gives, goes, is_busy, IsProcessorOf, machine_actor, machine_layout, MachineMayBegin}
 use Rattle.gh_shared.specs.Plans.{Planned, setting}
-use Rattle.std.proofs.Common.{ap, sym, ◌∙◌, refl}
+use Rattle.std.proofs.Common.{ap, ◌∙◌, arith}
 use Rattle.std.proofs.Props.{props}
 
 layout_once : (l m : Layout) → IsProp (l ≡ m)
@@ -38,24 +33,16 @@ belongs_once p (Marks w) = layout_once w.layout p.layout
 belongs_once p (Leads c) = layout_once c.layout p.layout
 
 pub layout_is : (p : Planned) (m : ActorMachine) → Belongs p m → machine_layout m ≡ (setting p).layout
-layout_is p (Runs m) of = of.layout
-layout_is p (Marks w) of = of
-layout_is p (Leads c) of = of
+layout_is p m of = grind arith
 
 pub busy_is : (p : Planned) (m : ActorMachine) → Belongs p m → (setting p).kind.busy (machine_actor m) ≡ is_busy m
-busy_is p (Runs m) of = refl
-busy_is p (Marks w) of = refl
-busy_is p (Leads c) of = refl
+busy_is p m of = grind arith
 
 pub asks_is : (p : Planned) (m : ActorMachine) → Belongs p m → (setting p).kind.asks (machine_actor m) ≡ asks m
-asks_is p (Runs m) of = refl
-asks_is p (Marks w) of = refl
-asks_is p (Leads c) of = refl
+asks_is p m of = grind arith
 
 pub takes_is : (p : Planned) (m : ActorMachine) (found : ℕ) → Belongs p m → (setting p).kind.takes (machine_actor m) found ≡ machine_actor (goes m found)
-takes_is p (Runs m) found of = ap (λ (shapes : List Shape). actor.Runs (listing.takes shapes m.processor found)) (sym of.shapes)
-takes_is p (Marks w) found of = refl
-takes_is p (Leads c) found of = refl
+takes_is p m found of = grind arith
 
 pub stores_blindly : (m : ActorMachine) (found other : ℕ) → is_store (asks m) ≡ true → (goes m found ≡ goes m other) × (gives m found ≡ gives m other)
 stores_blindly (Runs m) found other e = (ap Runs (runs_blindly.blind m found other e), ap ends_with_answer (runs_blindly.blind_gives m found other e))
@@ -74,36 +61,11 @@ idle (Runs m) o may = may.idle
 idle (Marks w) o may = absurd may
 idle (Leads c) o may = absurd may
 
-processor_runs : (m : Mutating) (o : Op) → mutating.is_busy (mutating.begins m o) ≡ true
-processor_runs m (op.New g d t) = refl
-processor_runs m (op.Load g d b k) = refl
-processor_runs m (op.Store g b k v) = refl
-processor_runs m (op.GetGlobal g d k) = refl
-processor_runs m (op.SetGlobal g k v) = refl
-processor_runs m (op.Int g d n) = refl
-processor_runs m (op.Move g d s) = refl
-processor_runs m (op.Nil g d) = refl
-processor_runs m (op.Gc g) = refl
-processor_runs m op.Poll = refl
-processor_runs m (op.End g) = refl
-processor_runs m op.Leave = refl
-
 pub runs : (m : ActorMachine) (o : Op) → MachineMayBegin m o → is_busy (begins m o) ≡ true
-runs (Runs m) o may = processor_runs m o
-runs (Marks w) o may = absurd may
-runs (Leads c) o may = absurd may
+runs m o may = grind arith
 
 pub begins_is : (p : Planned) (m : ActorMachine) (o : Op) → Belongs p m → MachineMayBegin m o → (setting p).kind.begins (machine_actor m) o ≡ machine_actor (begins m o)
-begins_is p (Runs m) o of may = rw may.there (ap (λ (shapes : List Shape). actor.Runs (listing.begins shapes m.processor o)) (sym of.shapes))
-begins_is p (Marks w) o of may = absurd may
-begins_is p (Leads c) o of may = absurd may
-
-layout_begun : (m : Mutating) (o : Op) → mutating.layout (mutating.begins m o) ≡ mutating.layout m
-layout_begun m op.Poll = refl
-layout_begun m op.Leave = refl
-layout_begun m _ = refl
+begins_is p m o of may = grind arith
 
 pub belongs_begun : (p : Planned) (m : ActorMachine) (o : Op) → Belongs p m → Belongs p (begins m o)
-belongs_begun p (Runs m) o of = record { shapes = of.shapes; layout = layout_begun m o ∙ of.layout }
-belongs_begun p (Marks w) o of = of
-belongs_begun p (Leads c) o of = of
+belongs_begun p m o of = grind arith

@@ -1,5 +1,6 @@
 -- A machine has given nothing exactly where it asks for a further step, and its layout stays.
-use Rattle.std.specs.Prelude.{◌≡◌, ◌↔◌, ℕ, true, Option, Some, None, IsNone}
+use Rattle.std.proofs.Common.{arith}
+use Rattle.std.specs.Prelude.{◌≡◌, ◌↔◌, ℕ, true, Option, IsNone}
 use Rattle.gh_base.specs.declared.value.Answer.{Answer}
 use Rattle.gh_coord.specs.Stays as coord
 use Rattle.gh_mutator.specs.Stays as mutator
@@ -12,12 +13,10 @@ use Rattle.gh_shared.specs.declared.machine.ActorMachine.TheVariants.{Leads, Mar
 use Rattle.gh_shared.specs.Machines.{ends_with_answer, ends_with_none, gives, goes, is_busy, machine_layout}
 
 answered_none : (P : Type 0) (x : Option Answer) → (IsNone x ↔ P) → IsNone (ends_with_answer x) ↔ P
-answered_none P None h = h
-answered_none P (Some a) h = h
+answered_none P x h = grind arith
 
 ended_none : (P : Type 0) (x : Option (Unit {0})) → (IsNone x ↔ P) → IsNone (ends_with_none x) ↔ P
-ended_none P None h = h
-ended_none P (Some a) h = h
+ended_none P x h = grind arith
 
 pub ends : (m : ActorMachine) (found : ℕ) → is_busy m ≡ true → (IsNone (gives m found) ↔ (is_busy (goes m found) ≡ true))
 ends (Runs m) found busy = answered_none (mutating.is_busy (mutating.goes m found) ≡ true) (mutating.gives m found) (mutator.ends m found busy)

@@ -7,8 +7,8 @@ ghost use Rattle.gh_shared.specs.LastWrites.{ReadsSeeWrites};
 
 use crate::heap::Heap;
 use gh_base::laws::a_step_changes_one_cell;
+use gh_explained::every_run_stands;
 use gh_script::Script;
-use gh_world::every_run_stands;
 
 /// Whatever legal list of the heap's steps, in whatever order the threads made them: all stands that `gh_world` says of the
 /// lists of a script. So each processor was answered as the heap that never frees answers it, save `full`, which stands only

@@ -54,22 +54,10 @@ set_bits word l = counted 64 word l
 -- The bits kept and freed in a word, bit by bit.
 
 both_set : (a b : ℕ) → a < 2 → b < 2 → min a b ≡ bit (eqb a 1 && eqb b 1)
-both_set zero zero h k = refl
-both_set zero (suc zero) h k = refl
-both_set (suc zero) zero h k = refl
-both_set (suc zero) (suc zero) h k = refl
-both_set (suc (suc a)) b h k = absurd (omega arith)
-both_set zero (suc (suc b)) h k = absurd (omega arith)
-both_set (suc zero) (suc (suc b)) h k = absurd (omega arith)
+both_set a b h k = grind arith
 
 first_alone_set : (a b : ℕ) → a < 2 → b < 2 → min a (1 - b) ≡ bit (eqb a 1 && not (eqb b 1))
-first_alone_set zero zero h k = refl
-first_alone_set zero (suc zero) h k = refl
-first_alone_set (suc zero) zero h k = refl
-first_alone_set (suc zero) (suc zero) h k = refl
-first_alone_set (suc (suc a)) b h k = absurd (omega arith)
-first_alone_set zero (suc (suc b)) h k = absurd (omega arith)
-first_alone_set (suc zero) (suc (suc b)) h k = absurd (omega arith)
+first_alone_set a b h k = grind arith
 
 pub kept_bits : (a m : ℕ) → a < 2 ^ 64 → kept_in a m ≡ sum_below (λ j. bit (eqb (bit_at a j) 1 && eqb (bit_at m j) 1)) 64
 kept_bits a m l = set_bits (bit_and a m) (omega (arith, l, and_le_l a m)) ∙ sum_same _ _ 64 (λ j k. bit_at_and a m j ∙ both_set (bit_at a j) (bit_at m j) (bit_at-lt a j) (bit_at-lt m j))
@@ -85,11 +73,7 @@ sum_of_two f g (suc n) =
     omega (arith, e, sum_more f n, sum_more g n, sum_more (λ q. f q + g q) n)
 
 one_of_both : (a b : ℕ) → a < 2 → b < 2 → bit (eqb a 1 && eqb b 1) + bit (eqb a 1 && not (eqb b 1)) ≡ a
-one_of_both zero b h k = refl
-one_of_both (suc zero) zero h k = refl
-one_of_both (suc zero) (suc zero) h k = refl
-one_of_both (suc (suc a)) b h k = absurd (omega arith)
-one_of_both (suc zero) (suc (suc b)) h k = absurd (omega arith)
+one_of_both a b h k = grind arith
 
 pub kept_or_freed : BitsAreKeptOrFreed
 kept_or_freed a m l s =

@@ -1,5 +1,5 @@
 -- The parser's line of the words behind a subcommand is what their choices ask for.
-use Rattle.std.proofs.Common.{◌≡◌, ◌∙◌, ◌&&◌, ◌++◌, ℕ, Bool, true, false, not, refl, sym, ap, ap₂, List, [], ◌∷◌, Option, Some, None}
+use Rattle.std.proofs.Common.{◌≡◌, ◌∙◌, ◌&&◌, ◌++◌, ℕ, Bool, true, false, not, refl, sym, ap, ap₂, List, [], ◌∷◌, Option, Some, None, arith}
 use Rattle.std.specs.Prelude.{if◌then◌else◌, option_and_then}
 use Rattle.std.specs.Option.{option_map_or}
 use Rattle.std.specs.Str.{bytes_eq}
@@ -7,7 +7,7 @@ use Rattle.clap.specs.Lexer.{long_of}
 use Rattle.clap.specs.Faults.{settle_fault, use_fault}
 use Rattle.clap.specs.Walk.{Held, Row, has_row, idle, option, reacted, settled, used}
 use Rattle.clap.specs.declared.parser.matches.ValueSource.TheVariants.{CommandLine}
-use Rattle.gh_top.specs.CommandLine.{AnyText, Choice, LineOption, NoValue, Number, Reading, Text, Value, asked_for, begun, choices, flag_value, is_chosen, is_flag, is_none, is_taken_by, is_value, option_named, option_takes, with_choice}
+use Rattle.gh_top.specs.CommandLine.{Choice, LineOption, Reading, Text, asked_for, begun, choices, flag_value, is_chosen, is_flag, is_none, is_taken_by, is_value, option_named, option_takes, with_choice}
 use Rattle.gh_top.specs.CommandLineParser.{no_error_comes}
 use Rattle.gh_top.specs.declared.line.Line.{Line}
 use Rattle.gh_top.proofs.CommandLineEnd.{IsRead, Sub, end_fails, end_good, line_from}
@@ -38,8 +38,7 @@ choice_is s o is made v rows same =
     ∙ ap₂ (λ (a b : Bool). not a && b) (ap (has_row o.name) same ∙ has_made o.name made) (sym took)
 
 not_chosen : (a b : Bool) → (not a && b) ≡ true → a ≡ false
-not_chosen false b e = refl
-not_chosen true b e = absurd cc
+not_chosen a b e = grind arith
 
 used_more : (s : Sub) (o : LineOption) → Valued s o → (made : List Choice) (v : Text) (rows : List Row) → rows ≡ rows_made made → takes_it s o made v ≡ true
     → used (built_option o) (v ∷ []) rows ≡ rows_made (more made o.name v)
@@ -53,35 +52,20 @@ unknown_takes : (s : Sub) (n v : Text) → option_named s.options n ≡ None →
 unknown_takes s n v u = rw u refl
 
 flag_takes : (s : Sub) (o : LineOption) → Flag s o → (v : Text) → option_takes s.options o.name v ≡ false
-flag_takes s o is v = rw is.named (go o.value is.none)
-  where
-    go : (w : Value) → is_none w ≡ true → is_taken_by w v ≡ false
-    go (Number least most) e = absurd cc
-    go AnyText e = absurd cc
-    go NoValue e = refl
+flag_takes s o is v = grind arith
 
 chooses_none : (s : Sub) (made : List Choice) (n v : Text) → option_takes s.options n v ≡ false → with_choice s.options made n v ≡ None
-chooses_none s made n v t = rw t (nothing (not (is_chosen n made)))
-  where
-    nothing : (c : Bool) → (if c && false then Some (more made n v) else None) ≡ None
-    nothing true = refl
-    nothing false = refl
+chooses_none s made n v t = grind arith
 
 unknown_waits : (s : Sub) (made : List Choice) (n : Text) (words : List Text) → option_named s.options n ≡ None → asked s made (Some n) words ≡ None
 unknown_waits s made n [] u = refl
 unknown_waits s made n (word ∷ rest) u = go (bytes_eq word dashes) refl (is_value word) refl rest
   where
-    chooses : with_choice s.options made n word ≡ None
-    chooses = chooses_none s made n word (unknown_takes s n word u)
-
     go : (e : Bool) → bytes_eq word dashes ≡ e → (v : Bool) → is_value word ≡ v → (rest : List Text) → asked s made (Some n) (word ∷ rest) ≡ None
-    go true e v is [] = rw e refl
-    go true e v is (x ∷ xs) = rw e refl
-    go false e true is rest = rw (e, is, chooses) refl
-    go false e false is rest = rw (e, is) refl
+    go e e2 v is rest = grind arith
 
 is_a_flag : (s : Sub) (o : LineOption) (b : Bool) → option_named s.options o.name ≡ Some o → is_none o.value ≡ b → is_flag s.options o.name ≡ b
-is_a_flag s o b named is = ap (λ (found : Option LineOption). option_map_or (λ (p : LineOption). is_none p.value) found false) named ∙ is
+is_a_flag s o b named is = grind arith
 
 -- what is held stands for the choices
 record Stands (s : Sub) (made : List Choice) (h : Held) : Type 0 where
@@ -160,11 +144,7 @@ alone_is s o is made h rest st wanting_is =
 
 asked_next : (s : Sub) (made : List Choice) (word : Text) (rest : List Text) (l : Option (Text × Option Text)) → bytes_eq word dashes ≡ false → long_of word ≡ l
     → asked s made None (word ∷ rest) ≡ asked_by s rest (option_and_then (begun s.options made) l)
-asked_next s made word rest l e is = rw (e, is) (go (option_and_then (begun s.options made) l))
-  where
-    go : (o : Option Reading) → option_and_then s.of (option_and_then (λ (reading : Reading). choices s.options reading.0 reading.1 rest) o) ≡ asked_by s rest o
-    go None = refl
-    go (Some reading) = refl
+asked_next s made word rest l e is = grind arith
 
 long_is : (s : Sub) (made : List Choice) (h : Held) (word : Text) (rest : List Text) (n : Text) (v : Option Text) → Which s n → Stands s made h → FromIdle s rest → FromWanting s rest
     → bytes_eq word dashes ≡ false → long_of word ≡ Some (n, v) → line_from s (at idle h) (word ∷ rest) ≡ asked_by s rest (begun s.options made (n, v))

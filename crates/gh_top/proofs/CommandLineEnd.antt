@@ -1,5 +1,5 @@
 -- What the parser makes of the choices where the words behind a subcommand have ended.
-use Rattle.std.proofs.Common.{◌≡◌, ◌∙◌, ◌&&◌, ◌||◌, ◌++◌, Bool, true, false, not, refl, sym, ap, ap₂, List, [], ◌∷◌, Option, Some, None, codes, is_some}
+use Rattle.std.proofs.Common.{◌≡◌, ◌∙◌, ◌&&◌, ◌||◌, ◌++◌, Bool, true, false, not, refl, sym, ap, ap₂, List, [], ◌∷◌, Option, Some, None, codes, is_some, arith}
 use Rattle.std.specs.Prelude.{if◌then◌else◌, option_and_then, option_map}
 use Rattle.std.specs.List.{fold, list_all, list_any}
 use Rattle.std.specs.Option.{option_map_or, option_or}
@@ -23,12 +23,10 @@ use Rattle.gh_top.proofs.CommandLineRules.{built_option, rules}
 
 -- both pass where either fails
 pub passes_both : (a b : Kinds) → no_error_comes (or_else a b) ≡ (no_error_comes a && no_error_comes b)
-passes_both [] b = refl
-passes_both (k ∷ ks) b = refl
+passes_both a b = grind arith
 
 pub passes_alone : (a : Kinds) → no_error_comes (or_else a []) ≡ no_error_comes a
-passes_alone [] = refl
-passes_alone (k ∷ ks) = refl
+passes_alone a = grind arith
 
 both_true : (a b : Bool) → a ≡ true → b ≡ true → (a && b) ≡ true
 both_true a b x y = rw (x, y) refl
@@ -64,25 +62,16 @@ default_named name [] = None
 default_named name (o ∷ options) = option_or (default_row name o) (default_named name options)
 
 default_found : (name : Text) (o : LineOption) → found_row name (default_rows_of o) ≡ default_row name o
-default_found name o = go (default_by o.value o.default) refl (bytes_eq o.name name) refl
-  where
-    go : (d : Option Text) → default_by o.value o.default ≡ d → (b : Bool) → bytes_eq o.name name ≡ b → found_row name (default_rows_of o) ≡ default_row name o
-    go None d true b = rw (d, b) refl
-    go None d false b = rw (d, b) refl
-    go (Some w) d true b = rw (d, b) refl
-    go (Some w) d false b = rw (d, b) refl
+default_found name o = grind arith
 
 or_none : {X : Type 0} (o : Option X) → option_or o None ≡ o
-or_none None = refl
-or_none (Some x) = refl
+or_none o = grind arith
 
 or_some : {X : Type 0} (o p : Option X) → is_some o ≡ true → option_or o p ≡ o
-or_some None p e = absurd cc
-or_some (Some x) p e = refl
+or_some o p e = grind arith
 
 or_assoc : {X : Type 0} (o p q : Option X) → option_or (option_or o p) q ≡ option_or o (option_or p q)
-or_assoc None p q = refl
-or_assoc (Some x) p q = refl
+or_assoc o p q = grind arith
 
 row_there : (name : Text) (rows : List Row) → has_row name rows ≡ true → is_some (found_row name rows) ≡ true
 row_there name [] e = e
@@ -126,11 +115,7 @@ abbrev pub fits : LineOption → Bool
 fits o = no_error_comes (default_fault [] (built_option o))
 
 default_passes : (o : LineOption) (rows : List Row) → fits o ≡ true → no_error_comes (default_fault rows (built_option o)) ≡ true
-default_passes o rows f = go (has_row o.name rows) refl
-  where
-    go : (b : Bool) → has_row o.name rows ≡ b → no_error_comes (default_fault rows (built_option o)) ≡ true
-    go true b = rw b refl
-    go false b = rw b f
+default_passes o rows f = grind arith
 
 defaults_pass : (options : List LineOption) (rows : List Row) → list_all fits options ≡ true → no_error_comes (defaults_fault rows (rules options)) ≡ true
 unfolding defaults_fault
@@ -149,10 +134,7 @@ default_unused name (o ∷ options) = go (default_by o.value o.default) refl (by
     go : (d : Option Text) → default_by o.value o.default ≡ d → (b : Bool) → bytes_eq o.name name ≡ b
         → option_map_or (λ (r : Row). explicit_source r.source) (default_named name options) false ≡ false
         → option_map_or (λ (r : Row). explicit_source r.source) (default_named name (o ∷ options)) false ≡ false
-    go None d true b ih = rw (d, b) ih
-    go None d false b ih = rw (d, b) ih
-    go (Some w) d true b ih = rw (d, b) refl
-    go (Some w) d false b ih = rw (d, b) ih
+    go d d2 b b2 ih = grind arith
 
 chosen_given : (options : List LineOption) (made : List Choice) (name : Text) → is_given name (defaulted options (rows_made made)) ≡ is_chosen name made
 chosen_given options made name =
@@ -168,9 +150,7 @@ missing_is (o ∷ options) made rows given = go o.is_required (is_given o.name r
     lacks = list_any (λ a. a.required && not (is_given a.id rows)) (rules options)
 
     go : (r g c : Bool) → g ≡ c → lacks ≡ not (has_required options made) → ((r && not g) || lacks) ≡ not ((not r || c) && has_required options made)
-    go false g c e ih = ih
-    go true g true e ih = rw e ih
-    go true g false e ih = rw e refl
+    go r g c e ih = grind arith
 
 -- ---- the end of the words
 
@@ -231,9 +211,7 @@ check_passes s made =
     twice false = refl
 
 rest_passes : (s : Sub) → IsRead s → (made : List Choice) → no_error_comes (rest_fault s (rows_made made)) ≡ has_required s.options made
-rest_passes s is made =
-    passes_both (defaults_fault (rows_made made) (rules s.options)) _
-    ∙ ap₂ (λ (a b : Bool). a && b) (defaults_pass s.options (rows_made made) is.fitting) (check_passes s made)
+rest_passes s is made = grind (arith, check_passes, defaults_pass, passes_both)
 
 line_made : (s : Sub) → IsRead s → (made : List Choice) → line_at s (rows_made made) ≡ option_and_then s.of (ended s.options made None)
 line_made s is made =
@@ -258,9 +236,9 @@ end_by s w b rows settles is =
     go (x ∷ xs) = refl
 
 pub end_fails : (s : Sub) (w : Walk) → no_error_comes (settle_fault (rules s.options) false w.held) ≡ false → line_from s w [] ≡ None
-end_fails s w bad = end_by s w false (settled (rules s.options) w.held).rows bad refl
+end_fails s w bad = grind arith
 
 -- the words end where these choices were made
 pub end_good : (s : Sub) → IsRead s → (w : Walk) (made : List Choice) → no_error_comes (settle_fault (rules s.options) false w.held) ≡ true → (settled (rules s.options) w.held).rows ≡ rows_made made
     → line_from s w [] ≡ option_and_then s.of (ended s.options made None)
-end_good s read w made good is = end_by s w true (rows_made made) good is ∙ line_made s read made
+end_good s read w made good is = grind (arith, end_by, line_made)

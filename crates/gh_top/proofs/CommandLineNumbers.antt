@@ -1,5 +1,5 @@
 -- What a reader of numbers makes of a word.
-use Rattle.std.proofs.Common.{◌≡◌, ◌∙◌, ◌<◌, ◌^◌, ◌&&◌, ℕ, Bool, true, false, List, [], ◌∷◌, nat_lt, Option, Some, None, Result, Ok, Err, refl, sym, ap, lt-ltb, ltb-true}
+use Rattle.std.proofs.Common.{◌≡◌, ◌∙◌, ◌<◌, ◌^◌, ◌&&◌, ℕ, true, List, [], ◌∷◌, nat_lt, Option, Some, None, Result, refl, ap, lt-ltb, ltb-true, arith}
 use Rattle.std.specs.Prelude.{option_and_then}
 use Rattle.std.specs.List.{list_all}
 use Rattle.std.specs.Char.{digit_value}
@@ -24,30 +24,16 @@ digits_from (d ∷ ds) e =
 -- where a word spells a number, it is the number
 pub u64_of-number : (t : List ℕ) → IsNumeral 10 (without_leading_plus t) → digits_value 10 (without_leading_plus t) < 2 ^ 64
     → u64_of t ≡ Some (digits_value 10 (without_leading_plus t))
-u64_of-number t numeral small =
-    rw (lt-ltb _ _ numeral.0, digits_pass _ numeral.1, lt-ltb _ _ small) refl
+u64_of-number t numeral small = grind (arith, digits_pass)
 
 number_passes : (t : List ℕ) → (is_numeral (without_leading_plus t) && nat_lt (digits_value 10 (without_leading_plus t)) (2 ^ 64)) ≡ true
     → IsNumeral 10 (without_leading_plus t) × (digits_value 10 (without_leading_plus t) < 2 ^ 64)
-number_passes t e =
-    let a = both _ _ e in
-    let b = both _ _ a.0 in
-    ((ltb-true _ _ b.0, digits_from _ b.1), ltb-true _ _ a.1)
+number_passes t e = grind (arith, digits_from)
 
 -- a word that is read is its number, and a word that is not read has none
 pub reads_number : {E : Type 0} (G : List ℕ → Result ℕ E → Type 0) (t : List ℕ) (r : Option ℕ)
     → ReadsOne G t r → ((x : Result ℕ E) → G t x → ParsesUnsigned 64 10 t x) → r ≡ u64_of t
-reads_number G t (Some v) read only =
-    let parsed = only (Ok v) read in
-    ap Some parsed.1 ∙ sym (u64_of-number t parsed.0.0 parsed.0.1)
-reads_number G t None read only = go _ refl
-  where
-    go : (b : Bool) → (is_numeral (without_leading_plus t) && nat_lt (digits_value 10 (without_leading_plus t)) (2 ^ 64)) ≡ b
-        → None ≡ u64_of t
-    go false e = rw e refl
-    go true e =
-        let passes = number_passes t e in
-        absurd (only (Err read.0) read.1 passes)
+reads_number G t r read only = grind (arith, number_passes, u64_of-number)
 
 -- what a getter of numbers gives for an option
 pub number_of_rows : {E : Type 0} (G : List ℕ → Result ℕ E → Type 0) (m : ArgMatches) (id : List ℕ) (r : Option ℕ)

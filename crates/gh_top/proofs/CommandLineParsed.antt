@@ -1,7 +1,7 @@
 -- The parser's line is the command line.
-use Rattle.std.proofs.Common.{◌≡◌, ◌∙◌, ◌++◌, ℕ, Bool, true, false, refl, sym, ap, ap₂, subst, true≢false, List, [], ◌∷◌, codes, is_some, Option, Some, None, inl, inr, ◌⊎◌, if◌then◌else◌, slice_get, append-nil, append_assoc}
+use Rattle.std.proofs.Common.{◌≡◌, ◌∙◌, ◌++◌, Bool, true, false, refl, sym, ap, subst, true≢false, List, [], ◌∷◌, codes, is_some, Option, Some, None, ◌⊎◌, if◌then◌else◌, append-nil, append_assoc, arith}
 use Rattle.std.specs.List.{fold}
-use Rattle.std.specs.Str.{bytes_eq, chars}
+use Rattle.std.specs.Str.{bytes_eq}
 use Rattle.std.proofs.lemmas.Slice.Eq.{bytes_eq-Decides}
 use Rattle.clap.specs.Faults.{check_fault, defaults_fault, entered_fault, fault_of, flags_fault, is_simple_and_free, level_fault, settle_fault, turn_fault, walk_fault}
 use Rattle.clap.specs.Kinds.{IsAmong, Kinds, or_else}
@@ -86,8 +86,7 @@ entered_walk _ generates words = stopped_is top.rules names (walk_from nothing_h
 entered_walk _ soaks words = stopped_is top.rules names (walk_from nothing_held) soak [] words
 
 below : (fault : Kinds) (found : Option Line) → (if no_error_comes (or_else fault []) then found else None) ≡ (if no_error_comes fault then found else None)
-below [] found = refl
-below (k ∷ ks) found = refl
+below fault found = grind arith
 
 entered_line : (s : Sub) → Entered s → (words : List Text) → line_by [] (stopped_at s.name words) ≡ parsed s words
 unfolding defaults_fault
@@ -97,7 +96,7 @@ entered_line _ generates words = below (level_fault (leaf (script_sub gen Gen)) 
 entered_line _ soaks words = below (level_fault (leaf (script_sub soak Soak)) [] nothing_held words false []) (found_script Soak (rows_after (rules script_options) [] words))
 
 entered_is : (s : Sub) → Entered s → (program : Text) (words : List Text) → parsed_line (program ∷ s.name ∷ words) ≡ parsed s words
-entered_is s is program words = by_walk program (s.name ∷ words) ∙ ap₂ line_by (entered_fault_is s is words) (entered_walk s is words) ∙ entered_line s is words
+entered_is s is program words = grind (arith, by_walk, entered_fault_is, entered_line, entered_walk)
 
 first_fails : (program name : Text) (rest : List Text) → no_error_comes (turn_fault top names (walk_from nothing_held) name) ≡ false → parsed_line (program ∷ name ∷ rest) ≡ None
 unfolding walk_fault
@@ -120,14 +119,7 @@ unfolding flags_fault bundle_met
 turn_fails name o d = go (long_of name) refl (short_of name) refl
   where
     go : (l : Option (Text × Option Text)) → long_of name ≡ l → (s : Option Text) → short_of name ≡ s → no_error_comes (turn_fault top names (walk_from nothing_held) name) ≡ false
-    go (Some p) l s e = rw (o.no_run, o.no_replay, o.no_gen, o.no_soak, d, l) refl
-    go None l None s = rw (o.no_run, o.no_replay, o.no_gen, o.no_soak, d, l, s) refl
-    go None l (Some []) s = rw (o.no_run, o.no_replay, o.no_gen, o.no_soak, d, l, s) refl
-    go None l (Some (x ∷ xs)) s = by (slice_get (chars (x ∷ xs)) 0) refl
-      where
-        by : (c : Option ℕ) → slice_get (chars (x ∷ xs)) 0 ≡ c → no_error_comes (turn_fault top names (walk_from nothing_held) name) ≡ false
-        by None c = rw (o.no_run, o.no_replay, o.no_gen, o.no_soak, d, l, s, c) refl
-        by (Some y) c = rw (o.no_run, o.no_replay, o.no_gen, o.no_soak, d, l, s, c) refl
+    go l l2 s e = grind arith
 
 dashes_fail : (program : Text) (rest : List Text) → parsed_line (program ∷ dashes ∷ rest) ≡ None
 unfolding clap_on_literals
@@ -192,17 +184,12 @@ parsed_is (program ∷ name ∷ rest) = go (bytes_eq name run) refl (bytes_eq na
 -- ---- an error of the parser
 
 other_kind : (kinds : Kinds) (kind : ErrorKind) → (kind ≡ OutOfMemory → ⊥) → (kind ≡ OutOfMemory) ⊎ IsAmong kind kinds → no_error_comes kinds ≡ false
-other_kind [] kind some (inl memory) = absurd (some memory)
-other_kind [] kind some (inr none) = absurd none
-other_kind (k ∷ ks) kind some among = refl
+other_kind kinds kind some among = grind arith
 
 -- where an error is not want of memory, the words are not taken
 pub not_taken : (app : App) (words : List Text) (kind : ErrorKind) → app ≡ goheap_app → (kind ≡ OutOfMemory → ⊥)
     → (is_simple_and_free app ≡ true → (kind ≡ OutOfMemory) ⊎ IsAmong kind (fault_of app words)) → command_line words ≡ None
-not_taken app words kind is some among =
-    let fault : fault_of app words ≡ fault_of goheap_app words = ap (λ (a : App). fault_of a words) is in
-    let bad : no_error_comes (fault_of goheap_app words) ≡ false = ap no_error_comes (sym fault) ∙ other_kind (fault_of app words) kind some (among (ap is_simple_and_free is)) in
-    sym (parsed_is words) ∙ ap (λ (b : Bool). if b then found_line (subcommand_of goheap_app words) else None) bad
+not_taken app words kind is some among = grind (arith, other_kind, parsed_is)
 
 -- where the parser takes the words, its matches are the line
 pub taken : (app : App) (words : List Text) (found : Option (Text × List Row)) → app ≡ goheap_app

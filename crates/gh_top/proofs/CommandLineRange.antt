@@ -1,15 +1,12 @@
 -- The numbers of a line that is taken are in their ranges.
-use Rattle.std.proofs.Common.{◌≡◌, ◌∙◌, ◌≤◌, ◌&&◌, ◌||◌, ◌++◌, ℕ, Bool, true, false, not, refl, sym, ap, subst, List, [], ◌∷◌, Option, Some, None, codes, nat_le, nat_lt, ◌^◌}
+use Rattle.std.proofs.Common.{◌≡◌, ◌≤◌, ◌||◌, ◌++◌, ℕ, Bool, true, false, not, refl, ap, subst, List, [], ◌∷◌, Option, Some, None, codes, arith}
 use Rattle.std.specs.Prelude.{find, if◌then◌else◌, option_and_then, option_map}
 use Rattle.std.specs.Option.{option_or}
 use Rattle.std.specs.Str.{bytes_eq}
-use Rattle.std.specs.Str.Parse.{digits_value, without_leading_plus}
-use Rattle.std.proofs.lemmas.Bool.{leb-true}
 use Rattle.std.proofs.lemmas.Slice.Eq.{bytes_eq-Decides}
 use Rattle.clap.specs.Lexer.{long_of}
-use Rattle.clap.proofs.WalkLemmas.{both}
 use Rattle.gh_replay.specs.declared.schedule.Turn.{Turn}
-use Rattle.gh_top.specs.CommandLine.{Choice, LineOption, Reading, Text, asked_for, begun, budget, choices, chosen, command_line, ended, flag_value, has_required, is_chosen, is_end, is_flag, is_number_in, is_numeral, is_value, next, number_said, replay_by, replay_of, replay_options, run_of, run_options, script_by, script_asked_for, script_options, seed, size, option_takes, u64_of, with_choice, with_flag}
+use Rattle.gh_top.specs.CommandLine.{Choice, LineOption, Reading, Text, asked_for, begun, budget, choices, chosen, command_line, ended, flag_value, is_chosen, is_end, is_flag, is_number_in, is_value, next, number_said, replay_by, replay_of, replay_options, run_of, run_options, script_by, script_asked_for, script_options, seed, size, option_takes, u64_of, with_choice, with_flag}
 use Rattle.gh_top.specs.declared.line.Line.{Line}
 use Rattle.gh_top.specs.declared.line.Line.TheVariants.{Gen, Replay, Soak}
 
@@ -32,20 +29,14 @@ module _ (options : List LineOption) where
   TakenIn (Some reading) = Taken reading.0
 
   fits_taken : (b c : Bool) → c ≡ true → (b || c) ≡ true
-  fits_taken true c e = refl
-  fits_taken false c e = e
+  fits_taken b c e = grind arith
 
   taken_more : (made : List Choice) (n v : Text) → Taken made → fits n v ≡ true → Taken (made ++ (n, v) ∷ [])
   taken_more [] n v t e = (e, tt)
   taken_more (c ∷ made) n v t e = (t.0, taken_more made n v t.1 e)
 
   taken_choice : (made : List Choice) (n v : Text) → Taken made → TakenBy (with_choice options made n v)
-  taken_choice made n v t = go (not (is_chosen n made)) (option_takes options n v) refl
-    where
-      go : (a b : Bool) → option_takes options n v ≡ b → TakenBy (if a && b then Some (made ++ (n, v) ∷ []) else None)
-      go true true e = taken_more made n v t (fits_taken (is_flag options n) (option_takes options n v) e)
-      go true false e = tt
-      go false b e = tt
+  taken_choice made n v t = grind (arith, fits_taken, taken_more)
 
   taken_flag : (made : List Choice) (n : Text) → is_flag options n ≡ true → Taken made → TakenBy (with_flag made n)
   taken_flag made n is t = go (not (is_chosen n made))
@@ -55,8 +46,7 @@ module _ (options : List LineOption) where
       go false = tt
 
   taken_settled : (o : Option (List Choice)) → TakenBy o → TakenIn (option_map (λ (made : List Choice). (made, None)) o)
-  taken_settled None t = tt
-  taken_settled (Some made) t = t
+  taken_settled o t = grind arith
 
   taken_begun : (made : List Choice) (l : Option (Text × Option Text)) → Taken made → TakenIn (option_and_then (begun options made) l)
   taken_begun made None t = tt
@@ -76,12 +66,7 @@ module _ (options : List LineOption) where
       go false = tt
 
   taken_ended : (made : List Choice) (waiting : Option Text) → Taken made → TakenBy (ended options made waiting)
-  taken_ended made None t = go (has_required options made)
-    where
-      go : (b : Bool) → TakenBy (if b then Some made else None)
-      go true = t
-      go false = tt
-  taken_ended made (Some n) t = tt
+  taken_ended made waiting t = grind arith
 
   abbrev Keeps : List Text → Type 0
   Keeps words = (made : List Choice) (waiting : Option Text) → Taken made → TakenBy (choices options made waiting words)
@@ -91,10 +76,7 @@ module _ (options : List LineOption) where
     where
       go : (e l : Bool) (o : Option Reading) → TakenIn o
           → TakenBy (if e then (if l then ended options made waiting else None) else option_and_then (λ (reading : Reading). choices options reading.0 reading.1 rest) o)
-      go true true o n = taken_ended made waiting t
-      go true false o n = tt
-      go false l None n = tt
-      go false l (Some reading) n = keeps reading.0 reading.1 n
+      go e l o n = grind arith
 
   pub taken_words : (words : List Text) → Keeps words
   taken_words [] = taken_ended
@@ -122,27 +104,12 @@ module _ (options : List LineOption) where
 abbrev IsIn : ℕ → ℕ → ℕ → Type 0
 IsIn least most n = (least ≤ n) × (n ≤ most)
 
-abbrev number : Text → ℕ
-number v = digits_value 10 (without_leading_plus v)
-
-number_in_range : (least most : ℕ) (v : Text) (n : ℕ) → is_number_in least most v ≡ true → u64_of v ≡ Some n → IsIn least most n
-number_in_range least most v n e u =
-    let a = both (is_numeral (without_leading_plus v)) (nat_lt (number v) (2 ^ 64) && (nat_le least (number v) && nat_le (number v) most)) e in
-    let b = both (nat_lt (number v) (2 ^ 64)) (nat_le least (number v) && nat_le (number v) most) a.1 in
-    let c = both (nat_le least (number v)) (nat_le (number v) most) b.1 in
-    let read : u64_of v ≡ Some (number v) = rw (a.0, b.0) refl in
-    let same : Some (number v) ≡ Some n = sym read ∙ u in
-    let is : number v ≡ n = cc in
-    subst (IsIn least most) is (leb-true least (number v) c.0, leb-true (number v) most c.1)
-
 -- all that an option may be given is in its range
 abbrev AllIn : ℕ → ℕ → Option Text → Type 0
 AllIn least most o = (v : Text) → o ≡ Some v → is_number_in least most v ≡ true
 
 said_in_range : (least most : ℕ) (o d : Option Text) (n : ℕ) → AllIn least most o → AllIn least most d → option_and_then u64_of (option_or o d) ≡ Some n → IsIn least most n
-said_in_range least most None None n chosen default u = absurd cc
-said_in_range least most None (Some w) n chosen default u = number_in_range least most w n (default w refl) u
-said_in_range least most (Some v) d n chosen default u = number_in_range least most v n (chosen v refl) u
+said_in_range least most o d n chosen default u = grind arith
 
 budget_default : AllIn 1 1000000000 budget.default
 budget_default v e = let is : codes "50000000" ≡ v = cc in subst (λ (w : Text). is_number_in 1 1000000000 w ≡ true) is refl
@@ -159,23 +126,16 @@ IsInRange (Some (Soak drawn n)) = IsIn 4 200000 n
 IsInRange _ = Unit {0}
 
 replay_in : (turns drawn : Option ℕ) (list : Option (List Turn)) (given : Bool) → ((n : ℕ) → turns ≡ Some n → IsIn 1 1000000000 n) → IsInRange (replay_by turns drawn list given)
-replay_in None drawn list given is = tt
-replay_in (Some t) drawn None given is = tt
-replay_in (Some t) drawn (Some list) given is = is t refl
+replay_in turns drawn list given is = grind arith
 
 gen_in : (drawn many : Option ℕ) → ((n : ℕ) → many ≡ Some n → IsIn 4 200000 n) → IsInRange (script_by Gen drawn many)
-gen_in None many is = tt
-gen_in (Some s) None is = tt
-gen_in (Some s) (Some n) is = is n refl
+gen_in drawn many is = grind arith
 
 soak_in : (drawn many : Option ℕ) → ((n : ℕ) → many ≡ Some n → IsIn 4 200000 n) → IsInRange (script_by Soak drawn many)
-soak_in None many is = tt
-soak_in (Some s) None is = tt
-soak_in (Some s) (Some n) is = is n refl
+soak_in drawn many is = grind arith
 
 run_asked : (o : Option (List Choice)) → IsInRange (option_and_then run_of o)
-run_asked None = tt
-run_asked (Some made) = tt
+run_asked o = grind arith
 
 replay_asked : (o : Option (List Choice)) → TakenBy replay_options o → IsInRange (option_and_then replay_of o)
 replay_asked None t = tt

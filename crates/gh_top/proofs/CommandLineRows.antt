@@ -1,11 +1,11 @@
 -- The rows that stand for choices.
-use Rattle.std.proofs.Common.{◌≡◌, ◌∙◌, ◌++◌, ◌||◌, Bool, true, false, true≢false, refl, sym, ap, List, [], ◌∷◌, Option, Some, None}
+use Rattle.std.proofs.Common.{◌≡◌, ◌∙◌, ◌++◌, ◌||◌, Bool, true, false, true≢false, refl, sym, ap, List, [], ◌∷◌, Option, Some, None, arith}
 use Rattle.std.specs.Prelude.{find, option_and_then}
 use Rattle.std.specs.Option.{option_map_or, option_or}
 use Rattle.std.specs.Str.{bytes_eq}
 use Rattle.std.proofs.lemmas.List.{append-nil}
 use Rattle.clap.specs.Facts.{explicit_source}
-use Rattle.clap.specs.Walk.{Row, at_row, has_row, more_values, with_values, without}
+use Rattle.clap.specs.Walk.{Row, at_row, has_row, with_values, without}
 use Rattle.clap.specs.declared.builder.value_parser.Reading.TheVariants.{AsWritten}
 use Rattle.clap.specs.declared.parser.matches.ValueSource.{ValueSource}
 use Rattle.clap.specs.declared.parser.matches.ValueSource.TheVariants.{CommandLine}
@@ -65,7 +65,7 @@ at_missing id change missing (r ∷ rs) none = go (bytes_eq r.id id) refl (at_mi
     go false b ih = rw b (ap (λ (more : List Row). r ∷ more) (ih (sym (ap (λ (c : Bool). c || has_row id rs) b) ∙ none)))
 
 pub given_row : (id value : Text) (source : ValueSource) (rows : List Row) → has_row id rows ≡ false → with_values id AsWritten source (value ∷ []) rows ≡ rows ++ row source id value ∷ []
-given_row id value source rows none = at_missing id (more_values source (value ∷ [])) (row source id value ∷ []) rows none
+given_row id value source rows none = grind (arith, at_missing)
 
 pub used_row : (id value : Text) (rows : List Row) → has_row id rows ≡ false → with_values id AsWritten CommandLine (value ∷ []) (without id rows) ≡ rows ++ row CommandLine id value ∷ []
 used_row id value rows none =

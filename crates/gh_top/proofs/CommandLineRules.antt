@@ -1,5 +1,5 @@
 -- The rules of a subcommand's options as the parser builds them, and what it looks for among them.
-use Rattle.std.proofs.Common.{◌≡◌, ◌∙◌, ◌&&◌, ◌++◌, ℕ, Bool, true, false, not, refl, sym, ap, List, [], ◌∷◌, map, None}
+use Rattle.std.proofs.Common.{◌≡◌, ◌∙◌, ◌&&◌, ◌++◌, ℕ, Bool, true, false, not, refl, sym, ap, List, [], ◌∷◌, map, None, arith}
 use Rattle.std.specs.Prelude.{option_map}
 use Rattle.std.specs.Str.{bytes_eq}
 use Rattle.std.proofs.lemmas.Slice.Eq.{bytes_eq-Decides}
@@ -48,26 +48,12 @@ same_text t = (bytes_eq-Decides t t).1 refl
 -- ---- an option
 
 pub takes_values_is : (o : LineOption) → takes_values (built_option o) ≡ not (is_none o.value)
-takes_values_is o = go o.value refl
-  where
-    go : (v : Value) → o.value ≡ v → takes_values (built_option o) ≡ not (is_none o.value)
-    go (Number least most) e = rw e refl
-    go AnyText e = rw e refl
-    go NoValue e = rw e refl
+takes_values_is o = grind arith
 
 -- a use of an option with one value
 pub use_passes : (o : LineOption) (rows : List Row) (word : Text) → is_none o.value ≡ false
     → no_error_comes (use_fault false (built_option o) (word ∷ []) rows) ≡ (not (has_row o.name rows) && is_taken_by o.value word)
-use_passes o rows word valued = go o.value refl (has_row o.name rows) refl (is_taken_by o.value word) refl
-  where
-    go : (v : Value) → o.value ≡ v → (a : Bool) → has_row o.name rows ≡ a → (b : Bool) → is_taken_by o.value word ≡ b
-        → no_error_comes (use_fault false (built_option o) (word ∷ []) rows) ≡ (not (has_row o.name rows) && is_taken_by o.value word)
-    go (Number least most) e true a b t = rw (e, a) refl
-    go (Number least most) e false a true t = let u : is_taken_by (Number least most) word ≡ true = sym (ap (λ v. is_taken_by v word) e) ∙ t in rw (e, a, u) refl
-    go (Number least most) e false a false t = let u : is_taken_by (Number least most) word ≡ false = sym (ap (λ v. is_taken_by v word) e) ∙ t in rw (e, a, u) refl
-    go AnyText e true a b t = rw (e, a) refl
-    go AnyText e false a b t = rw (e, a) refl
-    go NoValue e a h b t = let no : true ≡ false = sym (ap is_none e) ∙ valued in absurd cc
+use_passes o rows word valued = grind arith
 
 pub used_is : (o : LineOption) (word : Text) (rows : List Row) → is_none o.value ≡ false → has_row o.name rows ≡ false
     → used (built_option o) (word ∷ []) rows ≡ rows ++ row CommandLine o.name word ∷ []
@@ -80,37 +66,18 @@ used_is o word rows valued none = go o.value refl
 
 -- and with none
 pub use_fails : (o : LineOption) (rows : List Row) → is_none o.value ≡ false → no_error_comes (use_fault false (built_option o) [] rows) ≡ false
-use_fails o rows valued = go o.value refl
-  where
-    go : (v : Value) → o.value ≡ v → no_error_comes (use_fault false (built_option o) [] rows) ≡ false
-    go (Number least most) e = rw e refl
-    go AnyText e = rw e refl
-    go NoValue e = let no : true ≡ false = sym (ap is_none e) ∙ valued in absurd cc
+use_fails o rows valued = grind arith
 
 pub one_value : (o : LineOption) → is_none o.value ≡ false → most_values (built_option o) ≡ 1
-one_value o valued = go o.value refl
-  where
-    go : (v : Value) → o.value ≡ v → most_values (built_option o) ≡ 1
-    go (Number least most) e = rw e refl
-    go AnyText e = rw e refl
-    go NoValue e = let no : true ≡ false = sym (ap is_none e) ∙ valued in absurd cc
+one_value o valued = grind arith
 
 -- ---- a flag
 
 pub is_no_value : (v : Value) → is_none v ≡ true → v ≡ NoValue
-is_no_value (Number least most) e = absurd cc
-is_no_value AnyText e = absurd cc
-is_no_value NoValue e = refl
+is_no_value v e = grind arith
 
 pub flag_passes : (o : LineOption) (rows : List Row) → is_none o.value ≡ true → no_error_comes (use_fault false (built_option o) [] rows) ≡ not (has_row o.name rows)
-flag_passes o rows is = go (has_row o.name rows) refl
-  where
-    none : o.value ≡ NoValue
-    none = is_no_value o.value is
-
-    go : (a : Bool) → has_row o.name rows ≡ a → no_error_comes (use_fault false (built_option o) [] rows) ≡ not (has_row o.name rows)
-    go true a = rw (none, a) refl
-    go false a = rw (none, a) refl
+flag_passes o rows is = grind arith
 
 pub flag_used : (o : LineOption) (rows : List Row) → is_none o.value ≡ true → has_row o.name rows ≡ false → used (built_option o) [] rows ≡ rows ++ row CommandLine o.name flag_value ∷ []
 flag_used o rows is none = let v : o.value ≡ NoValue = is_no_value o.value is in rw v (used_row o.name flag_value rows none)

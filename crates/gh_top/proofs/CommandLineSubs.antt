@@ -1,10 +1,10 @@
 -- The subcommands, and what is found of the choices of each.
-use Rattle.std.proofs.Common.{◌≡◌, ◌∙◌, ℕ, Bool, refl, ap, ap₂, List, Option, Some, None, codes}
+use Rattle.std.proofs.Common.{◌≡◌, ◌∙◌, ℕ, Bool, refl, ap, ap₂, List, Option, Some, None, codes, arith}
 use Rattle.std.specs.Prelude.{option_and_then, slice_get}
 use Rattle.std.specs.Option.{option_or}
 use Rattle.clap.specs.Walk.{Row, first_of, one_of, row_text}
 use Rattle.gh_replay.specs.declared.schedule.Turn.{Turn}
-use Rattle.gh_top.specs.CommandLine.{Choice, LineOption, Text, budget, check, chosen, is_given, list, list_said, number_said, replay_by, replay_of, replay_options, run_of, run_options, script_by, script_asked_for, script_options, seed, size, u64_of}
+use Rattle.gh_top.specs.CommandLine.{Choice, LineOption, Text, budget, chosen, is_given, list_said, number_said, replay_by, replay_of, replay_options, run_of, run_options, script_by, script_asked_for, script_options, seed, u64_of}
 use Rattle.gh_top.specs.CommandLineParser.{found_check, found_list, found_replay, found_run, found_script}
 use Rattle.gh_top.specs.declared.line.Line.{Line}
 use Rattle.gh_top.proofs.CommandLineEnd.{IsRead, Sub, default_named, defaulted, found_defaulted}
@@ -34,8 +34,7 @@ first_found options name made =
 
 -- a flag that is not chosen stands for `false`, which says that it is not given
 given_default : (o : Option Text) → is_given (option_or o (Some (codes "false"))) ≡ is_given (option_or o None)
-given_default None = refl
-given_default (Some v) = refl
+given_default o = grind arith
 
 -- ---- what is found of a line
 
@@ -53,7 +52,7 @@ found_replay_is made =
     rows = defaulted replay_options (rows_made made)
 
 pub replay_read : IsRead replay_sub
-replay_read = record { fitting = refl; same = found_replay_is }
+replay_read = grind (arith, found_replay_is)
 
 pub script_read : (name : Text) (does : ℕ → ℕ → Line) → IsRead (script_sub name does)
 script_read name does = record {

@@ -1,5 +1,5 @@
 -- How a call ends, by what it found.
-use Rattle.std.proofs.Common.{◌≡◌, ℕ, Bool, false, ◌⊎◌, inl, inr, ◌++◌, ◌*◌, ◌/◌, List, Some, refl, sym, ap, ap₂, subst, ◌∙◌, arith}
+use Rattle.std.proofs.Common.{◌≡◌, ℕ, Bool, false, ◌⊎◌, ◌++◌, ◌*◌, ◌/◌, List, Some, refl, sym, ap, ap₂, subst, ◌∙◌, arith}
 use Rattle.std.specs.List.{concat}
 use Rattle.std.proofs.lemmas.List.{append-nil}
 use Rattle.gh_lines.specs.Text.{Outcome, live_line, outcome_lines, statements_line}
@@ -47,30 +47,16 @@ comes (Soak seed size) text NoMemory m tells = absurd tells
 comes (Soak seed size) text _ m tells = absurd m
 
 pub says : (words : List Text) (text : List ℕ) (f : Found) → Matches words text f → TellsInFull (status_of f) → Says words text (status_of f) (said_of f)
-says words text BadWords m tells = (m, refl)
-says words text NoMemory m tells = absurd tells
-says words text (BadScript fault) m tells = (m.0, m.1, comes m.0 text (BadScript fault) m.2 tells)
-says words text (Ran p report) m tells = (m.0, m.1, comes m.0 text (Ran p report) m.2 tells)
-says words text (OutOfTurns n) m tells = (m.0, m.1, comes m.0 text (OutOfTurns n) m.2 tells)
-says words text (Generated script) m tells = (m.0, m.1, comes m.0 text (Generated script) m.2 tells)
-says words text (Soaked n objects bytes) m tells = (m.0, m.1, comes m.0 text (Soaked n objects bytes) m.2 tells)
-says words text ReadFault m tells = absurd tells
-says words text NoThread m tells = absurd tells
+says words text f m tells = grind (arith, comes)
 
 -- what is not silent tells
 telling : (f : Found) → (IsSilent f → ⊥) → TellsInFull (status_of f)
-telling ReadFault loud = absurd (loud tt)
-telling NoThread loud = absurd (loud tt)
-telling NoMemory loud = absurd (loud tt)
-telling _ loud = tt
+telling f loud = grind arith
 
 -- ---- what was found is of the line
 
 no_memory : (line : Line) (text : List ℕ) → MatchesLine line text NoMemory
-no_memory (Replay plan budget check) text = tt
-no_memory Run text = tt
-no_memory (Gen seed size) text = tt
-no_memory (Soak seed size) text = tt
+no_memory line text = grind arith
 
 pub same_line : (words : List Text) (a b : Line) → command_line words ≡ Some a → command_line words ≡ Some b → a ≡ b
 same_line words a b v w = let e : Some a ≡ Some b = sym v ∙ w in cc
@@ -86,52 +72,21 @@ for_line words text line f is m = subst (λ (l : Line). MatchesLine l text f) (s
 
 -- and for a line is found for the words
 pub for_words : (words : List Text) (text : List ℕ) (line : Line) (f : Found) → command_line words ≡ Some line → MatchesLine line text f → Matches words text f
-for_words words text line BadWords is m = absurd (none line m)
-  where
-    none : (l : Line) → MatchesLine l text BadWords → ⊥
-    none (Replay plan budget check) h = h
-    none Run h = h
-    none (Gen seed size) h = h
-    none (Soak seed size) h = h
-for_words words text line NoMemory is m = tt
-for_words words text line f is m = (line, is, m)
+for_words words text line f is m = grind arith
 
 -- ---- a text that spells a script, and one that spells none
 
 module _ (not_both : (text : List ℕ) (p : Program) (line : ℕ) (why : Why) → Spells text p → Refused text line why → ⊥) where
   replayed-ends : (text : List ℕ) (plan : Plan) (budget : ℕ) (check : Bool) (p : Program) (f : Found) → MatchesLine (Replay plan budget check) text f → (f ≡ ReadFault → ⊥) → Spells text p
       → (status_of f ≡ statuses.Ok) ⊎ (status_of f ≡ statuses.OutOfTurns) ⊎ (status_of f ≡ statuses.NoMemory)
-  replayed-ends text plan budget check p (BadScript fault) m read spelled = absurd (not_both text p fault.line fault.why spelled m)
-  replayed-ends text plan budget check p (Ran q report) m read spelled = inl refl
-  replayed-ends text plan budget check p (OutOfTurns n) m read spelled = inr (inl refl)
-  replayed-ends text plan budget check p ReadFault m read spelled = absurd (read refl)
-  replayed-ends text plan budget check p NoMemory m read spelled = inr (inr refl)
-  replayed-ends text plan budget check p _ m read spelled = absurd m
+  replayed-ends text plan budget check p f m read spelled = grind arith
 
   abbrev IsRefusedSo : Found → Type 0
   IsRefusedSo f = (status_of f ≡ statuses.BadScript) ⊎ (status_of f ≡ statuses.NoMemory)
 
-  refused-replay : (text : List ℕ) (plan : Plan) (budget : ℕ) (check : Bool) (line : ℕ) (why : Why) (f : Found) → MatchesLine (Replay plan budget check) text f → (f ≡ ReadFault → ⊥) → Refused text line why → IsRefusedSo f
-  refused-replay text plan budget check line why (BadScript fault) m read refused = inl refl
-  refused-replay text plan budget check line why (Ran q report) m read refused = absurd (not_both text q line why m.0 refused)
-  refused-replay text plan budget check line why (OutOfTurns n) m read refused = absurd (not_both text m.1 line why m.2 refused)
-  refused-replay text plan budget check line why ReadFault m read refused = absurd (read refl)
-  refused-replay text plan budget check line why NoMemory m read refused = inr refl
-  refused-replay text plan budget check line why _ m read refused = absurd m
-
-  refused-run : (text : List ℕ) (line : ℕ) (why : Why) (f : Found) → MatchesLine Run text f → (f ≡ ReadFault → ⊥) → Refused text line why → IsRefusedSo f
-  refused-run text line why (BadScript fault) m read refused = inl refl
-  refused-run text line why (Ran q report) m read refused = absurd (not_both text q line why m.0 refused)
-  refused-run text line why ReadFault m read refused = absurd (read refl)
-  refused-run text line why NoThread m read refused = absurd (not_both text m.0 line why m.1 refused)
-  refused-run text line why NoMemory m read refused = inr refl
-  refused-run text line why _ m read refused = absurd m
-
   -- a text that is refused, for words that read it
   refused-ends : (words : List Text) (text : List ℕ) (line : ℕ) (why : Why) (f : Found) → Matches words text f → ReadsScript words → (f ≡ ReadFault → ⊥) → Refused text line why → IsRefusedSo f
-  refused-ends words text line why f m (inl run) read refused = refused-run text line why f (for_line words text Run f run m) read refused
-  refused-ends words text line why f m (inr replay) read refused =
-      refused-replay text replay.0 replay.1 replay.2 line why f (for_line words text (Replay replay.0 replay.1 replay.2) f replay.3 m) read refused
+  refused-ends words text line why f m h read refused = grind arith
 
 module _ (one_script : (text : List ℕ) (p q : Program) → Spells text p → Spells text q → p ≡ q) (never : NotBoth) where
   -- a run that ends within the budget is not out of turns
@@ -163,48 +118,14 @@ module _ (one_script : (text : List ℕ) (p q : Program) → Spells text p → S
 -- ---- words that read no script
 
 generated-ends : (text : List ℕ) (seed size : ℕ) (f : Found) → MatchesLine (Gen seed size) text f → (status_of f ≡ statuses.Ok) ⊎ (status_of f ≡ statuses.NoMemory)
-generated-ends text seed size (Generated script) m = inl refl
-generated-ends text seed size NoMemory m = inr refl
-generated-ends text seed size _ m = absurd m
+generated-ends text seed size f m = grind arith
 
 refused-words : (words : List Text) (text : List ℕ) (f : Found) → Matches words text f → AreRefused words → (status_of f ≡ statuses.BadWords) ⊎ (status_of f ≡ statuses.NoMemory)
-refused-words words text BadWords m refused = inl refl
-refused-words words text NoMemory m refused = inr refl
-refused-words words text _ m refused = absurd (taken-not-refused words m.0 m.1 refused)
-
--- a line by which a script is read
-abbrev IsReading : Line → Type 0
-IsReading (Replay plan budget check) = Unit {0}
-IsReading Run = Unit {0}
-IsReading _ = ⊥
-
-reading-line : (words : List Text) (line : Line) → command_line words ≡ Some line → ReadsScript words → IsReading line
-reading-line words line is (inl run) = subst IsReading (same_line words Run line run is) tt
-reading-line words line is (inr replay) = subst IsReading (same_line words (Replay replay.0 replay.1 replay.2) line replay.3 is) tt
+refused-words words text f m refused = grind arith
 
 -- what is told of words that read a script was run
 run-if : (words : List Text) (text : List ℕ) (f : Found) → Matches words text f → ReadsScript words → status_of f ≡ statuses.Ok → IsRan f
-run-if words text (Ran p report) m reads e = tt
-run-if words text (OutOfTurns n) m reads e = tt
-run-if words text (Generated script) m reads e = none m.0 m.2 (reading-line words m.0 m.1 reads)
-  where
-    none : (line : Line) → MatchesLine line text (Generated script) → IsReading line → ⊥
-    none (Replay plan budget check) h r = h
-    none Run h r = h
-    none (Gen seed size) h r = r
-    none (Soak seed size) h r = r
-run-if words text (Soaked n objects bytes) m reads e = none m.0 m.2 (reading-line words m.0 m.1 reads)
-  where
-    none : (line : Line) → MatchesLine line text (Soaked n objects bytes) → IsReading line → ⊥
-    none (Replay plan budget check) h r = h
-    none Run h r = h
-    none (Gen seed size) h r = r
-    none (Soak seed size) h r = r
-run-if words text BadWords m reads e = absurd cc
-run-if words text (BadScript fault) m reads e = absurd cc
-run-if words text ReadFault m reads e = absurd cc
-run-if words text NoThread m reads e = absurd cc
-run-if words text NoMemory m reads e = absurd cc
+run-if words text f m reads e = grind arith
 
 -- ---- what a status says of what was found
 
@@ -245,13 +166,7 @@ thread-if ReadFault e = absurd cc
 thread-if NoMemory e = absurd cc
 
 thread-words : (words : List Text) (text : List ℕ) → Matches words text NoThread → IsForThreads words
-thread-words words text m = go m.0 m.1 m.2
-  where
-    go : (line : Line) → command_line words ≡ Some line → MatchesLine line text NoThread → IsForThreads words
-    go (Replay plan budget check) is h = absurd h
-    go Run is h = inl is
-    go (Gen seed size) is h = absurd h
-    go (Soak seed size) is h = inr (seed, size, is)
+thread-words words text m = grind arith
 
 silent-memory : (f : Found) → IsOf IsSilent statuses.NoMemory f
 silent-memory NoMemory e = tt
@@ -264,16 +179,8 @@ silent-memory (Soaked n objects bytes) e = absurd cc
 silent-memory ReadFault e = tt
 silent-memory NoThread e = tt
 
-abbrev IsWrite : Status → Type 0
-IsWrite statuses.WriteFault = Unit {0}
-IsWrite _ = ⊥
-
 never-write : (f : Found) → status_of f ≡ statuses.WriteFault → ⊥
-never-write f e = none f (subst IsWrite (sym e) tt)
-  where
-    none : (g : Found) → IsWrite (status_of g) → ⊥
-    none BadWords h = h
-    none _ h = h
+never-write f e = grind arith
 
 -- ---- all of it
 

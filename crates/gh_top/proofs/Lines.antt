@@ -1,5 +1,5 @@
 -- Lines, one after the other.
-use Rattle.std.proofs.Common.{◌≡◌, ℕ, ◌+◌, List, [], ◌∷◌, ◌++◌, take, drop, Option, Some, Result, Ok, Err, OnOk, OnErr, slice_get, sym, ap, subst, ◌∙◌, take-append-drop}
+use Rattle.std.proofs.Common.{◌≡◌, ℕ, ◌+◌, List, [], ◌∷◌, ◌++◌, take, drop, Option, Some, Result, OnOk, OnErr, slice_get, sym, ap, subst, ◌∙◌, take-append-drop, arith}
 use Rattle.std.specs.List.{concat}
 use Rattle.std.specs.Io.KnownBytes.{Appends}
 use Rattle.std.proofs.KnownBytes.{Appends-trans}
@@ -27,16 +27,13 @@ told-part first second ls i line a b c at before part =
     (subst (TookPart a c) (sym (one-more ls i line at)) (second a b c (concat (take i ls)) line before part)))
 
 pub on-err : {T E P : Type 0} (r : Result T E) → P → OnErr r P
-on-err (Ok x) h = tt
-on-err (Err e) h = h
+on-err r h = grind arith
 
 pub err-map : {T E P Q : Type 0} (r : Result T E) → (P → Q) → OnErr r P → OnErr r Q
-err-map (Ok x) f h = tt
-err-map (Err e) f h = f h
+err-map r f h = grind arith
 
 pub ok-map : {T E P Q : Type 0} (r : Result T E) → (P → Q) → OnOk r P → OnOk r Q
-ok-map (Ok x) f h = f h
-ok-map (Err e) f h = tt
+ok-map r f h = grind arith
 
 -- two lines, one after the other
 pub both-told : (l m x y : List ℕ) (a b c : Option (List ℕ)) → x ≡ l → y ≡ m → Appends a b x → Appends b c y → Appends a c (l ++ m)

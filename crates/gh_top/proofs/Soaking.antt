@@ -1,5 +1,5 @@
 -- Whichever run it is, a generated script's run by threads comes to one text.
-use Rattle.std.proofs.Common.{◌≡◌, ℕ, ◌*◌, ◌/◌, ◌++◌, List, sym, ap₂, subst, ◌∙◌}
+use Rattle.std.proofs.Common.{◌≡◌, ℕ, ◌*◌, ◌/◌, ◌++◌, List, sym, ap₂, subst, ◌∙◌, arith}
 use Rattle.std.specs.Io.KnownBytes.{Appends}
 use Rattle.gh_lines.specs.Text.{live_line, statements_line}
 use Rattle.gh_soak.specs.Soak.{WhatIsLiveIsOne}
@@ -8,7 +8,7 @@ use Rattle.gh_top.specs.declared.line.Line.TheVariants.{Soak}
 use Rattle.gh_top.specs.declared.status.Status.{Status}
 use Rattle.gh_top.specs.declared.status.Status.TheVariants.{Ok}
 use Rattle.gh_top.specs.CommandLine.{Text}
-use Rattle.gh_top.specs.Outcome.{ComesTo, Ends, IsSoak, Said, Streams, TellsInFull}
+use Rattle.gh_top.specs.Outcome.{ComesTo, Ends, IsSoak, Said, Streams}
 use Rattle.gh_top.proofs.Ends.{same_line}
 
 one_text : WhatIsLiveIsOne → (seed size : ℕ) (text other written again : List ℕ) → ComesTo (Soak seed size) text Ok written → ComesTo (Soak seed size) other Ok again → written ≡ again
@@ -25,6 +25,4 @@ module _ (one : WhatIsLiveIsOne) (words : List Text) (seed size : ℕ) (is : IsS
       subst (λ (bytes : List ℕ). Appends before.taken after.taken bytes) (one_text one seed size other text said.0 written its comes) said.2
 
   pub soak_told : (status : Status) → Ends words before after status → status ≡ Ok → (text written : List ℕ) → ComesTo (Soak seed size) text Ok written → Appends before.taken after.taken written
-  soak_told status ends ok text written comes =
-      let told : (other : List ℕ) × Said words other Ok before.taken after.taken = subst (λ (s : Status). TellsInFull s → (other : List ℕ) × Said words other s before.taken after.taken) ok ends.explained tt in
-      same_said text told.0 written told.1 comes
+  soak_told status ends ok text written comes = grind (arith, same_said)

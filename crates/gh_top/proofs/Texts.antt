@@ -1,5 +1,5 @@
 -- From a text to the script that it spells.
-use Rattle.std.proofs.Common.{◌≡◌, ℕ, ◌+◌, ◌<◌, ◌≤◌, List, [], length, Option, Some, None, Result, Ok, Err, sym, ap, subst, ◌∙◌, arith}
+use Rattle.std.proofs.Common.{◌≡◌, ℕ, ◌+◌, ◌<◌, ◌≤◌, List, [], length, Option, Some, Result, arith}
 use Rattle.std.specs.Prelude.{IsOk}
 use Rattle.std.specs.Io.KnownBytes.{Consumes, IsAtEnd}
 use Rattle.gh_script.specs.declared.reading.TheConstants.{MOST_BYTES}
@@ -7,23 +7,16 @@ use Rattle.gh_script.specs.Limits.{most_bytes}
 use Rattle.gh_script.specs.Program.{Program}
 use Rattle.gh_script.specs.Grammar.{reading_of, Spells}
 use Rattle.gh_top.specs.declared.found.Found.{Found}
-use Rattle.gh_top.specs.declared.found.Found.TheVariants.{BadScript}
 use Rattle.gh_top.specs.Found.{IsScriptOf}
 
 -- A text that was read as far as a script may go is the whole text, or too long for a script: what it spells is spelled by any text that is read the same.
 pub script-same : (a b : List ℕ) (r : Result Program Found) → reading_of a ≡ reading_of b → IsScriptOf a r → IsScriptOf b r
-script-same a b (Ok p) e h = sym e ∙ h
-script-same a b (Err (BadScript f)) e h = sym e ∙ h
-script-same a b (Err _) e h = h
+script-same a b r e h = grind arith
 
 -- a source that told its bytes tells that none are left
 pub end-told : (before after : Option (List ℕ)) (text bytes : List ℕ) → before ≡ Some text → Consumes before after bytes → IsAtEnd after → after ≡ Some []
-end-told before after text bytes told consumed end = go after (subst (λ o. Consumes o after bytes) told consumed) end where
-  go : (o : Option (List ℕ)) → Consumes (Some text) o bytes → IsAtEnd o → o ≡ Some []
-  go None c e = absurd c
-  go (Some rest) c e = ap Some e
+end-told before after text bytes told consumed end = grind arith
 
 -- a text that spells a script ends before the limit
 pub spelled-short : (short : (text : List ℕ) (p : Program) → Spells text p → length text ≤ most_bytes) (bytes : List ℕ) (r : Result Program Found) → IsScriptOf bytes r → IsOk r → length bytes < MOST_BYTES + 1
-spelled-short short bytes (Ok p) h ok = omega (arith, short bytes p h)
-spelled-short short bytes (Err f) h ok = absurd cc
+spelled-short short bytes r h ok = grind arith

@@ -8,7 +8,7 @@ use Rattle.std.proofs.lemmas.Bool.Decides.{nat_tests}
 use Rattle.std.proofs.lemmas.Nat.{same_from_place, mul-le}
 use Rattle.gh_tri.specs.Tables.{cells, by_three}
 use Rattle.gh_tri.specs.Tricolour.{put2, put3, put_row}
-use Rattle.gh_tri.proofs.Tells.{put2-tells, put3-tells, put_row-tells}
+use Rattle.gh_tri.proofs.Tells.{put2-tells, put3-tells}
 
 pub cells-in : {A : Type 0} (d : A) (n : ℕ) (xs : List A) (i j : ℕ) → j < n → cells d n xs i j ≡ get_or xs (i * n + j) d
 cells-in d n xs i j lt = grind (arith, nat_tests)
@@ -37,16 +37,11 @@ cells-set_at d n xs i j x lt within a b = elim (put2-tells (cells d n xs) i j x 
 
 -- a write to the list is a write to the table
 pub cells-set : {A : Type 0} (d : A) (n : ℕ) (xs : List A) (i j : ℕ) (x : A) → j < n → i * n + j < length xs → cells d n (set xs (i * n + j) x) ≡ put2 (cells d n xs) i j x
-cells-set d n xs i j x lt within = fun_ext (λ a. fun_ext (λ b. cells-set_at d n xs i j x lt within a b))
+cells-set d n xs i j x lt within = grind (arith, cells-set_at)
 
 -- a row that has the value everywhere already
 pub put_row-idle : {A : Type 0} (f : ℕ → ℕ → A) (i : ℕ) (x : A) → ((b : ℕ) → f i b ≡ x) → f ≡ put_row f i x
-put_row-idle f i x h = fun_ext (λ a. fun_ext (λ b. at f i x h a b)) where
-  at : {A : Type 0} (f : ℕ → ℕ → A) (i : ℕ) (x : A) → ((b : ℕ) → f i b ≡ x) → (a b : ℕ) → f a b ≡ put_row f i x a b
-  at f i x h a b = elim (put_row-tells f i x a b) [
-    | inl y ↦ ap (λ c. f c b) (sym y.0) ∙ (h b ∙ sym y.1)
-    | inr keeps ↦ sym keeps.1
-  ]
+put_row-idle f i x h = grind arith
 
 -- a row past the table
 pub cells-past : {A : Type 0} (d : A) (n rows : ℕ) (xs : List A) (i j : ℕ) → length xs ≡ rows * n → rows ≤ i → cells d n xs i j ≡ d

@@ -1,5 +1,5 @@
 -- Every move keeps the invariants, and so does every list of moves; what they give once marking is done.
-use Rattle.std.proofs.Common.{◌≡◌, ◌≢◌, ℕ, ◌+◌, ◌<◌, true, sym, ◌∙◌, ap, subst, inl, inr, ◌⊎◌, Option, Some, None, List, [], ◌∷◌, arith}
+use Rattle.std.proofs.Common.{◌≡◌, ◌≢◌, ℕ, ◌+◌, ◌<◌, true, sym, ◌∙◌, ap, inl, inr, ◌⊎◌, Option, Some, None, List, [], ◌∷◌, arith}
 use Rattle.std.proofs.lemmas.Bool.Decides.{eqb_tells}
 use Rattle.std.proofs.lemmas.Bool.{cases_lt}
 use Rattle.gh_tri.specs.declared.Colour.TheVariants.{White, Grey, Black}
@@ -14,13 +14,11 @@ use Rattle.gh_tri.proofs.Steps.{keeps-register, keeps-read, keeps-shaded, keeps-
 
 -- what a stack that is black can load from is marked or protected
 held-safe : (p : Tricolour) (s o : ℕ) → Invariants p → IsBlackStack p s → (o ≡ 0) ⊎ ((r : ℕ) × (r < 16) × (p.register s r ≡ Some o)) → IsSafe p o
-held-safe p s o i dark (inl e) = inl (subst (IsMarked p) (sym e) i.marked_objects.globals)
-held-safe p s o i dark (inr h) = i.black_stacks.black s h.0 o dark h.1 h.2
+held-safe p s o i dark h = grind arith
 
 -- between its scans a stack has no register that is scanned while another is not
 between-scans : (p : Tricolour) (s r : ℕ) → r < 16 → IsGreyStack p s ⊎ IsBlackStack p s → HasScanLeft p s → p.seen s r ≡ true → ⊥
-between-scans p s r within (inl grey) left seen = differ seen (grey r within)
-between-scans p s r within (inr dark) left seen = differ (dark left.0 left.1) left.2
+between-scans p s r within h left seen = grind arith
 
 keeps-load : (p : Tricolour) (s r o f : ℕ) → Invariants p → MayLoad p s r o f → Invariants (moved p (Load s r o f))
 keeps-load p s r o f i may =

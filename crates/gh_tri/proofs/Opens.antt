@@ -15,7 +15,7 @@ use Rattle.gh_tri.specs.Tables.{cells, by_three}
 use Rattle.gh_tri.specs.Opening.{AreCells, AreObjects, put_in_table, opened_picture}
 use Rattle.gh_tri.specs.Tricolour.{put1, put2}
 use Rattle.gh_tri.specs.Invariants.{IsOpeningPicture}
-use Rattle.gh_tri.proofs.Tells.{put-tells, put2-tells}
+use Rattle.gh_tri.proofs.Tells.{put2-tells}
 use Rattle.gh_tri.proofs.Cells.{cells-in, cells-out, cells-past}
 use Rattle.gh_tri.proofs.Showing.{put2-made}
 
@@ -34,19 +34,17 @@ both-lt : (a b c d : ℕ) → (nat_lt a b && nat_lt c d) ≡ true → (a < b) ×
 both-lt a b c d h = (grind (arith, nat_tests), grind (arith, nat_tests))
 
 pub row-in : (rows columns : ℕ) (xs : List (ℕ × ℕ × ℕ)) (i : ℕ) (d : ℕ × ℕ × ℕ) → i < length xs → AreCells rows columns xs → ((get_or xs i d).0 < rows) × ((get_or xs i d).1 < columns)
-row-in rows columns xs i d lt all = both-lt (get_or xs i d).0 rows (get_or xs i d).1 columns (all-at (λ e. nat_lt e.0 rows && nat_lt e.1 columns) xs i d lt all)
+row-in rows columns xs i d lt all = grind (arith, all-at, both-lt)
 
 -- a step of the loop that places the triples
 pub placed-more : (f g : ℕ → ℕ → Option ℕ) (xs : List (ℕ × ℕ × ℕ)) (i : ℕ) → i < length xs → g ≡ put2 f (get_or xs i (0, 0, 0)).0 (get_or xs i (0, 0, 0)).1 (Some (get_or xs i (0, 0, 0)).2) → put_in_table g (drop (i + 1) xs) ≡ put_in_table f (drop i xs)
 placed-more f g xs i lt e = ap (λ t. put_in_table t (drop (i + 1) xs)) e ∙ sym (ap (put_in_table f) (drop_more xs i (0, 0, 0) lt))
 
 split : (x y : Bool) → IsTrue (x && y) → (x ≡ true) × IsTrue y
-split true y h = (refl, h)
-split false y h = cc
+split x y h = grind arith
 
 joined : (x y : Bool) → x ≡ true → IsTrue y → IsTrue (x && y)
-joined true y e h = h
-joined false y e h = cc
+joined x y e h = grind arith
 
 lt-from : (a b : ℕ) → nat_lt a b ≡ true → a < b
 lt-from a b h = grind (arith, nat_tests)
@@ -90,18 +88,10 @@ same-everywhere k i d = elim (cases_lt i k) [
 
 -- a table with one value everywhere
 pub cells-replicate : {A : Type 0} (d : A) (n k : ℕ) (xs : List A) → xs ≡ replicate k d → cells d n xs ≡ (λ i j. d)
-cells-replicate d n k xs e = ap (cells d n) e ∙ fun_ext (λ i. fun_ext (λ j. at d n k i j)) where
-  at : {A : Type 0} (d : A) (n k i j : ℕ) → cells d n (replicate k d) i j ≡ d
-  at d n k i j = elim (cases_lt j n) [
-    | inl lt ↦ cells-in d n (replicate k d) i j lt ∙ same-everywhere k (i * n + j) d
-    | inr le ↦ cells-out d n (replicate k d) i j le
-  ]
+cells-replicate d n k xs e = grind (arith, same-everywhere)
 
 pub three-same : {A : Type 0} (d : A) (n : ℕ) → by_three d n (λ i j. d) ≡ (λ i j k. d)
-three-same d n = fun_ext (λ i. fun_ext (λ j. fun_ext (λ k. at d (nat_lt j n)))) where
-  at : {A : Type 0} (d : A) (b : Bool) → cond b d d ≡ d
-  at d true = refl
-  at d false = refl
+three-same d n = grind arith
 
 -- the scanned fields of an opening picture
 pub cells-unscanned : (objects fields : ℕ) (xs : List Bool) → xs ≡ replicate (objects * fields) false → cells true fields xs ≡ (λ o f. cond (nat_lt o objects && nat_lt f fields) false true)
@@ -123,28 +113,11 @@ cells-unscanned objects fields xs e = ap (cells true fields) e ∙ fun_ext (λ o
   ]
 
 pub unscanned-tells : (objects fields o f : ℕ) → cond (nat_lt o objects && nat_lt f fields) false true ≡ true → (objects ≤ o) ⊎ (fields ≤ f)
-unscanned-tells objects fields o f h = elim (cases_lt o objects) [
-  | inr le ↦ inl le
-  | inl lt ↦ elim (cases_lt f fields) [ inr le ↦ inr le | inl below ↦ absurd (clash objects fields o f lt below h) ]
-] where
-  clash : (objects fields o f : ℕ) → o < objects → f < fields → cond (nat_lt o objects && nat_lt f fields) false true ≡ true → ⊥
-  clash objects fields o f a b h = grind (arith, nat_tests)
+unscanned-tells objects fields o f h = grind arith
 
 -- an opened picture is an opening
 pub opening-is : (objects room fields stacks : ℕ) (edges held : List (ℕ × ℕ × ℕ)) → 0 < objects → AreCells objects fields edges → AreObjects objects edges → AreCells stacks 16 held → AreObjects objects held → IsOpeningPicture (opened_picture objects room fields stacks edges held)
-opening-is objects room fields stacks edges held some edge_cells edge_objects held_cells held_objects = record {
-  some = some;
-  grey = refl;
-  white = λ o lt. white o lt;
-  scanned = λ o f e. placed-out (λ o f. None) objects fields edges o f edge_cells (unscanned-tells objects fields o f e) refl;
-  seen = λ s r. refl;
-  read = λ s o f. refl;
-  empty = λ o f le. placed-out (λ o f. None) objects fields edges o f edge_cells (inl le) refl;
-  fields = λ o f w e. placed-made (λ o f. None) edges objects edge_objects (λ a b u h. cc) o f w e;
-  registers = λ s r w e. placed-made (λ s r. None) held objects held_objects (λ a b u h. cc) s r w e;
-} where
-  white : (o : ℕ) → 0 < o → put1 (λ o. White) 0 Grey o ≡ White
-  white o lt = elim (put-tells (λ o. White) 0 Grey o) [ inl y ↦ absurd (omega arith) | inr n ↦ n.1 ]
+opening-is objects room fields stacks edges held some edge_cells edge_objects held_cells held_objects = grind (arith, placed-made, placed-out, unscanned-tells)
 
 -- tables that show it
 pub opens : (objects room fields stacks : ℕ) (edges held : List (ℕ × ℕ × ℕ)) (colour : ℕ → Colour) (value : ℕ → ℕ → Option ℕ) (scanned : ℕ → ℕ → Bool) (register : ℕ → ℕ → Option ℕ) (seen : ℕ → ℕ → Bool) (read : ℕ → ℕ → ℕ → Option (Option ℕ)) →

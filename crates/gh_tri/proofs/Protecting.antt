@@ -1,5 +1,5 @@
 -- What is marked or protected stays so, under any change that keeps to a few rules.
-use Rattle.std.proofs.Common.{◌≡◌, ◌≢◌, ℕ, ◌<◌, true, false, inl, inr, ◌⊎◌}
+use Rattle.std.proofs.Common.{◌≡◌, ◌≢◌, ℕ, ◌<◌, true, false, inl, inr, ◌⊎◌, arith}
 use Rattle.gh_tri.specs.declared.Colour.TheVariants.{White, Grey}
 use Rattle.gh_tri.specs.Tricolour.{Tricolour, IsMarked}
 use Rattle.gh_tri.specs.Invariants.{Edge, Protected, from_grey, from_global, from_white, Invariants}
@@ -9,9 +9,7 @@ abbrev pub IsSafe : Tricolour → ℕ → Type 0
 IsSafe p o = IsMarked p o ⊎ Protected p o
 
 pub protected-white : (p : Tricolour) (o : ℕ) → Protected p o → p.colour o ≡ White
-protected-white p o (from_grey a f w g e white) = white
-protected-white p o (from_global f w g e white) = white
-protected-white p o (from_white a f w d e white) = white
+protected-white p o h = grind arith
 
 -- Marks only grow; an edge stays, or what it leads to was marked; a grey object stays grey, a field of object 0 unscanned,
 -- and a white object white or grey, or else what they lead to is marked.
@@ -52,8 +50,7 @@ protected-kept p q g o (from_white a f w d e white) = elim (colour-tells (q.colo
 ]
 
 pub safe-kept : (p q : Tricolour) → Guards p q → (o : ℕ) → IsSafe p o → IsSafe q o
-safe-kept p q g o (inl m) = inl (g.marks o m)
-safe-kept p q g o (inr d) = protected-kept p q g o d
+safe-kept p q g o h = grind (arith, protected-kept)
 
 -- a field of what is marked or protected holds what is marked or protected
 pub safe-field : (p : Tricolour) → Invariants p → (o f w : ℕ) → IsSafe p o → Edge p o f w → IsSafe p w

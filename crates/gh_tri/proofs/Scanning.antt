@@ -1,5 +1,5 @@
 -- What the scans of the first n fields of an object leave, and those of the first n registers of a stack.
-use Rattle.std.proofs.Common.{◌≡◌, ℕ, zero, suc, ◌+◌, ◌<◌, ◌≤◌, Bool, true, refl, sym, ◌∙◌, ap, subst, inl, inr, List, [], ◌∷◌, ◌++◌, arith, add-one}
+use Rattle.std.proofs.Common.{◌≡◌, ℕ, zero, suc, ◌+◌, ◌<◌, ◌≤◌, Bool, true, refl, sym, ◌∙◌, ap, subst, inl, inr, List, [], ◌∷◌, ◌++◌, arith}
 use Rattle.std.proofs.lemmas.Bool.{cases_lt}
 use Rattle.std.proofs.lemmas.Bool.Decides.{nat_tests}
 use Rattle.gh_tri.specs.declared.Move.{Move}
@@ -16,10 +16,10 @@ after-push p (x ∷ moves) m = after-push (moved p x) moves m
 
 -- the scan of one field more
 pub field-push : (p : Tricolour) (o n : ℕ) → moved (after p (field_scans o n)) (ScanField o n) ≡ after p (field_scans o (n + 1))
-field-push p o n = rw add-one (sym (after-push p (field_scans o n) (ScanField o n)))
+field-push p o n = grind (arith, after-push)
 
 pub register-push : (p : Tricolour) (s n : ℕ) → moved (after p (register_scans s n)) (ScanRegister s n) ≡ after p (register_scans s (n + 1))
-register-push p s n = rw add-one (sym (after-push p (register_scans s n) (ScanRegister s n)))
+register-push p s n = grind (arith, after-push)
 
 -- what these scans leave alone
 pub record KeepsSizes (p q : Tricolour) : Type 0 where
@@ -58,9 +58,7 @@ fields-scanned p o (suc n) f lt =
 
 -- the next scan may be made, and so may the last move
 pub field-may : (p q : Tricolour) (o n : ℕ) → q ≡ after p (field_scans o n) → o < p.objects → n < p.fields → IsField q o n
-field-may p q o n e made within =
-    let k = field_scans-sizes p o n in
-    subst (λ (t : Tricolour). IsField t o n) (sym e) (record { made = rw (k.objects) made; within = rw (k.fields) within })
+field-may p q o n e made within = grind (arith, field_scans-sizes)
 
 pub object-may : (p q : Tricolour) (o n : ℕ) → q ≡ after p (field_scans o n) → o < p.objects → p.fields ≤ n → MayBlacken q o
 object-may p q o n e made all =
@@ -73,11 +71,8 @@ object-may p q o n e made all =
       below f lt = omega arith
 
 pub register-may : (p q : Tricolour) (s n : ℕ) → q ≡ after p (register_scans s n) → s < p.stacks → n < 16 → IsStackRegister q s n
-register-may p q s n e stack within =
-    let k = register_scans-sizes p s n in
-    subst (λ (t : Tricolour). IsStackRegister t s n) (sym e) (record { stack = rw (k.stacks) stack; within = within })
+register-may p q s n e stack within = grind (arith, register_scans-sizes)
 
 -- the scan of an object ends in the black object
 pub object-ends : (p q r : Tricolour) (o n : ℕ) → q ≡ after p (field_scans o n) → n ≡ p.fields → r ≡ moved q (Blacken o) → r ≡ after p (object_scan o p.fields)
-object-ends p q r o n e end h =
-    h ∙ (ap (λ (t : Tricolour). moved t (Blacken o)) (e ∙ ap (λ k. after p (field_scans o k)) end) ∙ sym (after-push p (field_scans o p.fields) (Blacken o)))
+object-ends p q r o n e end h = grind (arith, after-push)

@@ -4,7 +4,7 @@ use Rattle.std.proofs.lemmas.Bool.Decides.{eqb_tells}
 use Rattle.gh_tri.specs.declared.Colour.TheVariants.{White, Black}
 use Rattle.gh_tri.specs.Tricolour.{Tricolour, put1, put2, put3, put_row, shaded, IsMarked, NilOrMarked, NilOrMade, IsBlackStack}
 use Rattle.gh_tri.specs.Invariants.{HasScanLeft, Invariants}
-use Rattle.gh_tri.proofs.Tells.{differ, put-tells, put2-tells, put3-tells, put_row-tells, shaded-tells, shaded-marks, shaded-grey, shaded-white, shaded-black}
+use Rattle.gh_tri.proofs.Tells.{differ, put-tells, put2-tells, put3-tells, put_row-tells, shaded-tells, shaded-marks, shaded-black}
 use Rattle.gh_tri.proofs.Protecting.{IsSafe, Guards, safe-kept}
 
 -- a register takes a value that is made; where the stack is black, a safe one, and where the register is scanned, a marked one
@@ -39,13 +39,7 @@ keeps-register p s r v i made safe marked =
       };
     } where
       guards : Guards p (record p { register = put2 p.register s r v })
-      guards = record {
-        marks = λ o h. h;
-        edges = λ o f w e. inl (record { within = e.within; holds = e.holds });
-        greys = λ o f w h e. inl h;
-        globals = λ f w h e. inl h;
-        whites = λ o f w h e. inl (inl h);
-      }
+      guards = grind arith
 
 -- a stack keeps what it reads in a field
 pub keeps-read : (p : Tricolour) (s o f : ℕ) → Invariants p → Invariants (record p { read = put3 p.read s o f (Some (p.value o f)) })
@@ -79,13 +73,7 @@ keeps-read p s o f i =
       };
     } where
       guards : Guards p (record p { read = put3 p.read s o f (Some (p.value o f)) })
-      guards = record {
-        marks = λ o h. h;
-        edges = λ o f w e. inl (record { within = e.within; holds = e.holds });
-        greys = λ o f w h e. inl h;
-        globals = λ f w h e. inl h;
-        whites = λ o f w h e. inl (inl h);
-      }
+      guards = grind arith
 
       holds : (t a b : ℕ) (v : Option ℕ) → put3 p.read s o f (Some (p.value o f)) t a b ≡ Some v → (p.value a b ≡ v) ⊎ NilOrMarked p (p.value a b)
       holds t a b v e = elim (put3-tells p.read s o f (Some (p.value o f)) t a b) [
@@ -125,13 +113,7 @@ keeps-shaded p v i made =
       };
     } where
       guards : Guards p (record p { colour = shaded p.colour v })
-      guards = record {
-        marks = shaded-marks p.colour v;
-        edges = λ o f w e. inl (record { within = e.within; holds = e.holds });
-        greys = λ o f w h e. inl (shaded-grey p.colour v o h);
-        globals = λ f w h e. inl h;
-        whites = λ o f w h e. inl (shaded-white p.colour v o h);
-      }
+      guards = grind arith
 
       holds : (t a b : ℕ) (u : Option ℕ) → p.read t a b ≡ Some u → (p.value a b ≡ u) ⊎ ((w : ℕ) → p.value a b ≡ Some w → shaded p.colour v w ≢ White)
       holds t a b u e = elim (i.barrier_order.holds t a b u e) [
@@ -192,16 +174,7 @@ keeps-value p s o f new i in_range was made marked =
       ]
 
       guards : Guards p (record p { value = put2 p.value o f new; read = put3 p.read s o f None })
-      guards = record {
-        marks = λ w h. h;
-        edges = λ a b w e. elim (put2-tells p.value o f new a b) [
-          | inl y ↦ inr (was w (ap (λ c. p.value c f) y.0 ∙ (ap (p.value a) y.1 ∙ e.holds)))
-          | inr n ↦ inl (record { within = e.within; holds = n ∙ e.holds })
-        ];
-        greys = λ a b w h e. inl h;
-        globals = λ b w h e. inl h;
-        whites = λ a b w h e. inl (inl h);
-      }
+      guards = grind arith
 
 -- a field that holds nil or a marked object is scanned
 pub keeps-scanned : (p : Tricolour) (o f : ℕ) → Invariants p → NilOrMarked p (p.value o f) → Invariants (record p { scanned = put2 p.scanned o f true })
@@ -232,16 +205,7 @@ keeps-scanned p o f i clean =
       };
     } where
       guards : Guards p (record p { scanned = put2 p.scanned o f true })
-      guards = record {
-        marks = λ w h. h;
-        edges = λ a b w e. inl (record { within = e.within; holds = e.holds });
-        greys = λ a b w h e. inl h;
-        globals = λ b w h e. elim (put2-tells p.scanned o f true 0 b) [
-          | inl y ↦ inr (clean w (ap (λ c. p.value c f) y.0 ∙ (ap (p.value 0) y.1 ∙ e.holds)))
-          | inr n ↦ inl (n ∙ h)
-        ];
-        whites = λ a b w h e. inl (inl h);
-      }
+      guards = grind arith
 
 -- an object whose fields are all scanned becomes black
 pub keeps-black : (p : Tricolour) (o : ℕ) → Invariants p → o < p.objects → ((f : ℕ) → f < p.fields → p.scanned o f ≡ true) → Invariants (record p { colour = put1 p.colour o Black })
@@ -374,29 +338,8 @@ keeps-made p i =
         ]
       ]
 
-      holds_nothing : (a b w : ℕ) → p.objects ≡ a → p.value a b ≡ Some w → ⊥
-      holds_nothing a b w y e = let none : None ≡ Some w = sym (i.unmade_objects.empty a b (omega arith)) ∙ e in cc
-
       guards : Guards p (record p { objects = p.objects + 1; colour = put1 p.colour p.objects Black; value = put_row p.value p.objects None; scanned = put_row p.scanned p.objects true })
-      guards = record {
-        marks = marks;
-        edges = λ a b w e. elim (put_row-tells p.value p.objects None a b) [
-          | inl y ↦ absurd (holds_nothing a b w y.0 e.holds)
-          | inr n ↦ inl (record { within = e.within; holds = n.1 ∙ e.holds })
-        ];
-        greys = λ a b w h e. elim (put-tells p.colour p.objects Black a) [
-          | inl y ↦ absurd (holds_nothing a b w y.0 e.holds)
-          | inr n ↦ inl (n.1 ∙ h)
-        ];
-        globals = λ b w h e. elim (put_row-tells p.scanned p.objects true 0 b) [
-          | inl y ↦ absurd (holds_nothing 0 b w y.0 e.holds)
-          | inr n ↦ inl (n.1 ∙ h)
-        ];
-        whites = λ a b w h e. elim (put-tells p.colour p.objects Black a) [
-          | inl y ↦ absurd (holds_nothing a b w y.0 e.holds)
-          | inr n ↦ inl (inl (n.1 ∙ h))
-        ];
-      }
+      guards = grind arith
 
 -- a register that holds nil or a marked object is scanned, for the first time or again
 pub keeps-seen : (p : Tricolour) (s r : ℕ) → Invariants p → r < 16 → NilOrMarked p (p.register s r) → Invariants (record p { seen = put2 p.seen s r true })
@@ -452,10 +395,4 @@ keeps-seen p s r i within clean =
       ]
 
       guards : Guards p (record p { seen = put2 p.seen s r true })
-      guards = record {
-        marks = λ o h. h;
-        edges = λ o f w e. inl (record { within = e.within; holds = e.holds });
-        greys = λ o f w h e. inl h;
-        globals = λ f w h e. inl h;
-        whites = λ o f w h e. inl (inl h);
-      }
+      guards = grind arith

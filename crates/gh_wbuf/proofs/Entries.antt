@@ -1,17 +1,15 @@
 -- The taking of an entry, by what its tries answer.
-use Rattle.std.proofs.Common.{◌≡◌, ℕ, zero, suc, ◌+◌, ◌-◌, ◌*◌, ◌<◌, ◌≤◌, ◌⊎◌, Bool, true, false, cond, ltb, Option, Some, None, refl, sym, ap, subst, ◌∙◌, arith, inl, inr, ltb-true, ltb-false}
+use Rattle.std.proofs.Common.{◌≡◌, ℕ, zero, suc, ◌+◌, ◌-◌, ◌<◌, ◌≤◌, ◌⊎◌, Bool, true, false, cond, ltb, Option, Some, None, refl, sym, ap, subst, ◌∙◌, arith, inl, inr, ltb-true, ltb-false}
 use Rattle.std.specs.Prelude.{is_none}
-use Rattle.gh_base.specs.declared.cell.Cell.TheVariants as cell
 use Rattle.gh_base.specs.Cells.{buffers_of}
 use Rattle.gh_wbuf.specs.declared.take_entry.TakeStage.TheVariants.{Try, Take, Ended}
 use Rattle.gh_wbuf.specs.declared.try_buffer.TryStage.TheVariants as stage
 use Rattle.gh_wbuf.specs.Entries.{AreLost, Becomes, entry_try, HasNoEntry, held_behind, TakesEntry, TakesLast, taking, TriesForEntry, trying}
-use Rattle.gh_wbuf.specs.Entries as law
-use Rattle.gh_wbuf.specs.EntryTaking.{after_try, asks, at_stage, begin, behind, entry_of, EntryTaking, given, given_at, gives, goes, goes_at, has_next, held_at, is_busy, less, listing, opening, try_at}
+use Rattle.gh_wbuf.specs.EntryTaking.{after_try, asks, at_stage, begin, entry_of, EntryTaking, given, given_at, gives, goes, goes_at, has_next, held_at, is_busy, less, listing, opening, try_at}
 use Rattle.gh_wbuf.specs.Tries.{EndsAt, Took}
 use Rattle.gh_wbuf.specs.Trying as try
-use Rattle.gh_wbuf.proofs.Vocabulary.{Entry, GoesOn, Held, IsFolded, Layout, Load, nat_tests, Store, TakeStage, told, Trying, TryStage}
-use Rattle.gh_wbuf.proofs.Taking.{claims_nothing, FineTry, fine_try, took}
+use Rattle.gh_wbuf.proofs.Vocabulary.{Entry, GoesOn, Held, IsFolded, Layout, nat_tests, TakeStage, told, Trying, TryStage}
+use Rattle.gh_wbuf.proofs.Taking.{FineTry, fine_try, took}
 use Rattle.gh_wbuf.proofs.Tries.{tries}
 use Rattle.gh_wbuf.proofs.Trying.{busy_before, gives_nothing, same, still_busy}
 
@@ -126,12 +124,7 @@ module _ (l : Layout) (seat : ℕ) where
               (subst (λ (x : EntryTaking). AnswersNone x (found (suc m + k))) (sym (later (trying l seat index held) (trying l seat (suc index) (held_behind l seat index held found m)) found m k ((tries_for index held found).lost m none (omega arith)))) (next k more))
 
     none_gives : (u : Trying) (index : ℕ) (held : Option Held) (out : Option (Option Held)) → given (after_try (take_in u) index held out) ≡ Some None → (out ≡ Some None) × (buffers_of l ≤ suc index)
-    none_gives u index held None e = absurd (cc)
-    none_gives u index held (Some None) e = (refl, by (has_next l index) refl e) where
-      by : (b : Bool) → has_next l index ≡ b → given_at (cond b (try_at l seat (index + 1) held) (Ended held None)) ≡ Some None → buffers_of l ≤ suc index
-      by true w e = absurd (cc)
-      by false w e = let le : buffers_of l ≤ index + 1 = grind (arith, nat_tests) in omega arith
-    none_gives u index held (Some (Some h)) e = absurd (cc)
+    none_gives u index held out e = grind arith
 
     module _ (index : ℕ) (held : Option Held) (found : ℕ → ℕ) where
       abbrev t : Trying
@@ -215,40 +208,16 @@ module _ (l : Layout) (seat : ℕ) where
     seat_is : r.seat ≡ seat
     stage_is : FineStage r.stage
 
-  claims_held : (t : Trying) (held : Option Held) (word : ℕ) → HasNoEntry held → HeldFits held (try.claims t held word)
-  claims_held t None word h = refl
-  claims_held t (Some own) word h = h
-
   held_step : (t : Trying) (p : TryStage) (f : ℕ) → HeldFits t.held p → HeldFits (try.goes_at t p f).held (try.goes_at t p f).stage
-  held_step t stage.Look f h = by (try.is_open t.wish f) where
-    by : (b : Bool) → HeldFits t.held (cond b (try.claims t t.held f) (stage.Ended None))
-    by true = claims_held t t.held f h
-    by false = tt
-  held_step t (stage.GiveBack word) f h = refl
-  held_step t (stage.Claim word) f h = by _ where
-    by : (b : Bool) → HeldFits (try.claimed t word b).held (try.claimed t word b).stage
-    by true = tt
-    by false = tt
-  held_step t (stage.Ended out) f h = tt
+  held_step t p f h = grind arith
 
   -- a try that answers none leaves no buffer held that has an entry
   lost_held : (t : Trying) (p : TryStage) (f : ℕ) → try.is_busy p ≡ true → HeldFits t.held p → try.given (try.goes_at t p f) ≡ Some None → HasNoEntry (try.goes_at t p f).held
-  lost_held t stage.Look f busy h e = h
-  lost_held t (stage.GiveBack word) f busy h e = tt
-  lost_held t (stage.Claim word) f busy h e = by _ e where
-    by : (b : Bool) → try.given (try.claimed t word b) ≡ Some None → HasNoEntry (try.claimed t word b).held
-    by true e = absurd (cc)
-    by false e = subst HasNoEntry (sym h) tt
-  lost_held t (stage.Ended out) f busy h e = absurd (cc)
+  lost_held t p f busy h e = grind arith
 
   after_fine : (r : EntryTaking) (index : ℕ) (held : Option Held) (out : Option (Option Held)) → r.layout ≡ l → r.seat ≡ seat → (out ≡ None → FineStage r.stage) → (out ≡ Some None → HasNoEntry held) → ((h : Held) → out ≡ Some (Some h) → 0 < h.count) →
       Fine (after_try r index held out)
-  after_fine r index held None is own here none some = record { layout_is = is; seat_is = own; stage_is = here refl }
-  after_fine r index held (Some None) is own here none some = record { layout_is = is; seat_is = own; stage_is = by (has_next r.layout index) } where
-    by : (b : Bool) → FineStage (cond b (try_at r.layout r.seat (index + 1) held) (Ended held None))
-    by true = (record { seat_is = own; wish_is = refl; stage_is = tt }, none refl, refl)
-    by false = tt
-  after_fine r index held (Some (Some h)) is own here none some = record { layout_is = is; seat_is = own; stage_is = some h refl }
+  after_fine r index held out is own here none some = record { layout_is = grind arith; seat_is = grind arith; stage_is = grind arith }
 
   fine_at : (r : EntryTaking) (p : TakeStage) (f : ℕ) → r.layout ≡ l → r.seat ≡ seat → FineStage p → Fine (goes_at r p f)
   fine_at r (Try t) f is own fine =
@@ -261,61 +230,16 @@ module _ (l : Layout) (seat : ℕ) where
 
   -- what becomes of a held buffer
 
-  behind_holds : (r : EntryTaking) (index : ℕ) (held : Option Held) → held_at (behind r.layout r.seat index held) ≡ held
-  behind_holds r index held = by (has_next r.layout index) where
-    by : (b : Bool) → held_at (cond b (try_at r.layout r.seat (index + 1) held) (Ended held None)) ≡ held
-    by true = refl
-    by false = refl
-
-  -- while the try goes on this is held still
-  waits : (r : EntryTaking) (u : Trying) (index : ℕ) (out : Option (Option Held)) → out ≡ None → held_at (after_try (at_stage r (Try u)) index u.held out).stage ≡ u.held
-  waits r u index None e = refl
-  waits r u index (Some out) e = absurd (cc)
-
-  try_becomes : (r : EntryTaking) (t : Trying) (p : TryStage) (f : ℕ) (h : Held) → try.is_busy p ≡ true → HeldFits t.held p → t.held ≡ Some h →
-      Becomes (try.asks_at t p) (held_at (after_try (at_stage r (Try (try.goes_at t p f))) t.index (try.goes_at t p f).held (try.given (try.goes_at t p f))).stage) h
-  try_becomes r t stage.Look f h busy fits e = by (try.is_open t.wish f) where
-    then : Bool → Trying
-    then b = try.at_stage t (cond b (try.claims t t.held f) (stage.Ended None))
-
-    by : (b : Bool) → Becomes (try.asks_at t stage.Look) (held_at (after_try (at_stage r (Try (then b))) t.index t.held (try.given (then b))).stage) h
-    by true = law.stays (waits r (then true) t.index (try.given (then true)) (claims_nothing t t.held f) ∙ e)
-    by false = law.stays (behind_holds r t.index t.held ∙ e)
-  try_becomes r t (stage.GiveBack word) f h busy fits e =
-      let none : h.count ≡ 0 = subst HasNoEntry e fits in
-      law.leaves none (ap (λ (o : Option Held). try.back_at t o) e ∙ ap (λ (n : ℕ). Store (cell.Buffer h.index) (n + 256 * 0)) none) refl
-  try_becomes r t (stage.Claim word) f h busy fits e = absurd (cc)
-  try_becomes r t (stage.Ended out) f h busy fits e = absurd (cc)
-
   becomes_at : (r : EntryTaking) (p : TakeStage) (f : ℕ) (h : Held) → FineStage p → held_at p ≡ Some h → Becomes (listing.asks (at_stage r p)) (held_at (goes_at r p f).stage) h
-  becomes_at r (Try t) f h fine e = try_becomes r t t.stage f h fine.2 fine.1 e
-  becomes_at r (Take own) f h fine e =
-      let is : own ≡ h = cc in
-      law.gives (ap (λ (k : Held). Load (cell.Entry k.index (k.count - 1))) is) (ap (λ (k : Held). Some (less k)) is)
-  becomes_at r (Ended held entry) f h fine e = law.stays e
+  becomes_at r p f h fine e = grind (arith, nat_tests)
 
   -- what it ends with
 
-  not_entry : (r : EntryTaking) (u : Trying) (index : ℕ) (held : Option Held) (out : Option (Option Held)) (entry : ℕ) → ¬ (given (after_try (at_stage r (Try u)) index held out) ≡ Some (Some entry))
-  not_entry r u index held None entry e = absurd (cc)
-  not_entry r u index held (Some None) entry e = by (has_next r.layout index) e where
-    by : (b : Bool) → given_at (cond b (try_at r.layout r.seat (index + 1) held) (Ended held None)) ≡ Some (Some entry) → ⊥
-    by true e = absurd (cc)
-    by false e = absurd (cc)
-  not_entry r u index held (Some (Some h)) entry e = absurd (cc)
-
   gives_from : (r : EntryTaking) (p : TakeStage) (f entry : ℕ) → is_busy p ≡ true → given (goes_at r p f) ≡ Some (Some entry) → (own : Held) × (p ≡ Take own) × (entry ≡ entry_of r.layout f)
-  gives_from r (Try t) f entry busy e = absurd (not_entry r (try.goes t f) t.index (try.goes t f).held (try.gives t f) entry e)
-  gives_from r (Take own) f entry busy e = (own, refl, let is : entry ≡ entry_of r.layout f = cc in is)
-  gives_from r (Ended held other) f entry busy e = absurd (cc)
+  gives_from r p f entry busy e = grind arith
 
   won_out : (r : EntryTaking) (t : Trying) (index : ℕ) (held : Option Held) (out : Option (Option Held)) (own : Held) → (after_try (at_stage r (Try t)) index held out).stage ≡ Take own → out ≡ Some (Some own)
-  won_out r t index held None own e = absurd (cc)
-  won_out r t index held (Some None) own e = by (has_next r.layout index) e where
-    by : (b : Bool) → cond b (try_at r.layout r.seat (index + 1) held) (Ended held None) ≡ Take own → Some None ≡ Some (Some own)
-    by true e = absurd (cc)
-    by false e = absurd (cc)
-  won_out r t index held (Some (Some h)) own e = let is : h ≡ own = cc in ap (λ (k : Held). Some (Some k)) is
+  won_out r t index held out own e = grind arith
 
   came_from : (r : EntryTaking) (p : TakeStage) (f : ℕ) (own : Held) → FineStage p → r.stage ≡ p → (goes_at r p f).stage ≡ Take own → Took seat (listing.asks (at_stage r p)) f own
   came_from r (Try t) f own fine is e = (took seat Entry t f own fine.0 fine.2 (won_out r (try.goes t f) t.index (try.goes t f).held (try.gives t f) own e)).0
@@ -325,23 +249,11 @@ module _ (l : Layout) (seat : ℕ) where
   from_entry : (h : Held) → 0 < h.count → begin l seat (Some h) ≡ Take h
   from_entry h some = let yes : ltb 0 h.count ≡ true = grind (arith, nat_tests) in ap (λ (b : Bool). cond b (Take h) (try_at l seat 0 (Some h))) yes
 
-  from_none : (held : Option Held) → HasNoEntry held → begin l seat held ≡ try_at l seat 0 held
-  from_none None none = refl
-  from_none (Some h) none = let no_entry : ltb 0 h.count ≡ false = grind (arith, nat_tests) in ap (λ (b : Bool). cond b (Take h) (try_at l seat 0 (Some h))) no_entry
-
   begins_fine : (held : Option Held) → FineStage (begin l seat held)
-  begins_fine None = (record { seat_is = refl; wish_is = refl; stage_is = tt }, tt, refl)
-  begins_fine (Some h) = by (ltb 0 h.count) refl where
-    by : (b : Bool) → ltb 0 h.count ≡ b → FineStage (cond b (Take h) (try_at l seat 0 (Some h)))
-    by true e = ltb-true _ _ e
-    by false e = (record { seat_is = refl; wish_is = refl; stage_is = tt }, let le : h.count ≤ 0 = ltb-false _ _ e in omega arith, refl)
+  begins_fine held = grind arith
 
   began_with : (held : Option Held) (own : Held) → begin l seat held ≡ Take own → held ≡ Some own
-  began_with None own e = absurd (cc)
-  began_with (Some h) own e = by (ltb 0 h.count) e where
-    by : (b : Bool) → cond b (Take h) (try_at l seat 0 (Some h)) ≡ Take own → Some h ≡ Some own
-    by true e = let is : h ≡ own = cc in ap Some is
-    by false e = absurd (cc)
+  began_with held own e = grind arith
 
   module _ (folded : IsFolded listing) (held : Option Held) (found : ℕ → ℕ) where
     abbrev from : EntryTaking
@@ -362,7 +274,7 @@ module _ (l : Layout) (seat : ℕ) where
       by false e = let le : h.count ≤ 0 = ltb-false _ _ e in omega arith
 
     is_trying : HasNoEntry held → from ≡ trying l seat 0 held
-    is_trying none = ap (λ (p : TakeStage). record { layout = l; seat = seat; stage = p }) (from_none held none)
+    is_trying none = grind arith
 
     all_lost : (n : ℕ) → EndsAt listing from found n None → HasNoEntry held × AreLost l seat (buffers_of l) 0 held found (suc n)
     all_lost n q =
@@ -401,11 +313,4 @@ module _ (l : Layout) (seat : ℕ) where
         }
 
     pub takes : TakesEntry l seat held found
-    takes = record {
-      own = λ h is some. ap (λ (o : Option Held). opening l seat o) is ∙ ap (λ (p : TakeStage). record { layout = l; seat = seat; stage = p }) (from_entry h some);
-      begins = is_trying;
-      tries = λ index kept. tries_for index kept found;
-      none = λ n. (all_lost n, λ q. none_then n q.0 q.1);
-      some = takes_last;
-      keeps = λ n h e. becomes_at (after n) (after n).stage (found n) h (fine n).stage_is e;
-    }
+    takes = grind (arith, all_lost, becomes_at, fine, from_entry, is_trying, none_then, takes_last, tries_for)

@@ -1,5 +1,5 @@
 -- Each step of the routines is a move, and leads to what the next stage knows.
-use Rattle.std.proofs.Common.{◌≡◌, ◌≢◌, ℕ, ◌+◌, ◌<◌, ◌≤◌, Bool, true, false, cond, eqb, ltb, Option, Some, None, refl, sym, ap, subst, ◌∙◌, eqb-true, eq-eqb, ltb-true}
+use Rattle.std.proofs.Common.{◌≡◌, ◌≢◌, ℕ, ◌+◌, ◌<◌, ◌≤◌, Bool, true, false, eqb, Option, Some, None, refl, sym, ap, subst, ◌∙◌, eqb-true, eq-eqb, arith}
 use Rattle.std.specs.Prelude.{is_none}
 use Rattle.gh_base.specs.Holding.{moved}
 use Rattle.gh_wbuf.specs.declared.find_room.RoomStage.TheVariants as room
@@ -9,56 +9,24 @@ use Rattle.gh_wbuf.specs.BufferGiving as giving
 use Rattle.gh_wbuf.specs.EntryTaking as taking
 use Rattle.gh_wbuf.specs.RoomFinding as finding
 use Rattle.gh_wbuf.specs.Trying as try
-use Rattle.gh_wbuf.proofs.Vocabulary.{AreBuffersOf, AreCounted, Buffer, buffer_of, buffer_word, Buffers, BuffersAreHeld, BuffersAreKept, cell_of, Claim, Ended, ENTRIES, Entry, Facts, FitsTryStage, GiveBack, GiveKnows, GiveStage, Held, HoldsBuffer, IsFreeAt, KeepsItsBuffer, Layout, Listing, Look, May, Move, Moves, OwnStep, Room, RoomKnows, RoomStage, RoomStageKnows, RoomTryKnows, StepsAreMoves, Swap, TakeKnows, TakeStage, TakeStageKnows, TakeTryKnows, Trying, TryKnows, TryStage, Words}
-use Rattle.gh_wbuf.proofs.Taking.{claims_nothing, fine_try, took}
+use Rattle.gh_wbuf.proofs.Vocabulary.{AreBuffersOf, AreCounted, Buffer, buffer_of, buffer_word, Buffers, BuffersAreHeld, BuffersAreKept, cell_of, Claim, Ended, ENTRIES, Entry, Facts, FitsTryStage, GiveBack, GiveKnows, GiveStage, Held, HoldsBuffer, IsFreeAt, KeepsItsBuffer, Layout, Listing, Look, May, Move, Moves, OwnStep, Room, RoomKnows, RoomStage, RoomStageKnows, RoomTryKnows, StepsAreMoves, Swap, TakeKnows, TakeStage, TakeStageKnows, Trying, TryKnows, TryStage, Words}
+use Rattle.gh_wbuf.proofs.Taking.{fine_try, took}
 use Rattle.gh_wbuf.proofs.Tries.{open_yes}
 use Rattle.gh_wbuf.proofs.Trying.{same_step}
 
 -- what a try holds, by what it gives
 
 pub given_held : (t : Trying) (p : TryStage) (f : ℕ) (h : Held) → try.is_busy p ≡ true → try.given (try.goes_at t p f) ≡ Some (Some h) → (try.goes_at t p f).held ≡ Some h
-given_held t Look f h busy e = by (try.is_open t.wish f) e where
-  by : (b : Bool) → try.given_at (cond b (try.claims t t.held f) (Ended None)) ≡ Some (Some h) → t.held ≡ Some h
-  by true e = absurd (let none = claims_nothing t t.held f in cc)
-  by false e = absurd (cc)
-given_held t (GiveBack word) f h busy e = absurd (cc)
-given_held t (Claim word) f h busy e = by _ e where
-  by : (b : Bool) → try.given (try.claimed t word b) ≡ Some (Some h) → (try.claimed t word b).held ≡ Some h
-  by true e = let is : try.taken t.index word ≡ h = cc in ap Some is
-  by false e = absurd (cc)
-given_held t (Ended out) f h busy e = absurd (cc)
+given_held t p f h busy e = grind arith
 
 pub lost_none : (t : Trying) (p : TryStage) (f : ℕ) → t.held ≡ None → try.given (try.goes_at t p f) ≡ Some None → (try.goes_at t p f).held ≡ None
-lost_none t (GiveBack word) f none e = absurd (cc)
-lost_none t (Claim word) f none e = by _ e where
-  by : (b : Bool) → try.given (try.claimed t word b) ≡ Some None → (try.claimed t word b).held ≡ None
-  by true e = absurd (cc)
-  by false e = none
-lost_none t _ f none e = none
+lost_none t p f none e = grind arith
 
 pub still_none : (t : Trying) (p : TryStage) (f : ℕ) → t.held ≡ None → try.given (try.goes_at t p f) ≡ None → (try.goes_at t p f).held ≡ None
-still_none t (GiveBack word) f none e = refl
-still_none t (Claim word) f none e = by _ e where
-  by : (b : Bool) → try.given (try.claimed t word b) ≡ None → (try.claimed t word b).held ≡ None
-  by true e = absurd (cc)
-  by false e = absurd (cc)
-still_none t _ f none e = none
-
-claims_free : (t : Trying) (held : Option Held) (word : ℕ) → IsFreeAt held (try.claims t held word)
-claims_free t None word = refl
-claims_free t (Some h) word = tt
+still_none t p f none e = grind arith
 
 free_step : (t : Trying) (p : TryStage) (f : ℕ) → IsFreeAt (try.goes_at t p f).held (try.goes_at t p f).stage
-free_step t Look f = by (try.is_open t.wish f) where
-  by : (b : Bool) → IsFreeAt t.held (cond b (try.claims t t.held f) (Ended None))
-  by true = claims_free t t.held f
-  by false = tt
-free_step t (GiveBack word) f = refl
-free_step t (Claim word) f = by _ where
-  by : (b : Bool) → IsFreeAt (try.claimed t word b).held (try.claimed t word b).stage
-  by true = tt
-  by false = tt
-free_step t (Ended out) f = tt
+free_step t p f = grind arith
 
 try_next : (seat : ℕ) (t : Trying) (f : ℕ) → TryKnows seat t → TryKnows seat (try.goes t f)
 try_next seat t f k =
@@ -90,15 +58,13 @@ module _ (law : BuffersAreHeld) where
     try_moves t (Ended out) is opened free holds = steps.loads _ t.held holds
 
     try_own : (t : Trying) → TryKnows seat t → HoldsBuffer s seat t.held → Moves seat s words (try.asks t) (try.goes t (words (cell_of (try.asks t)))).held
-    try_own t k holds = try_moves t t.stage k.seat_is k.opened k.free holds
+    try_own t k holds = grind (arith, try_moves)
 
     -- the search for room
 
     pub room_holds : (r : finding.RoomFinding) (t : Trying) (index : ℕ) (out : Option (Option Held)) → (out ≡ Some None → t.held ≡ None) → ((h : Held) → out ≡ Some (Some h) → t.held ≡ Some h) →
         t.held ≡ finding.held_at (finding.after_try (finding.at_stage r (room.Try t)) index out).stage
-    room_holds r t index None lost won = refl
-    room_holds r t index (Some None) lost won = lost refl
-    room_holds r t index (Some (Some h)) lost won = won h refl
+    room_holds r t index out lost won = grind arith
 
     room_moves : (r : finding.RoomFinding) (p : RoomStage) → RoomStageKnows seat p → HoldsBuffer s seat (finding.held_at p) →
         Moves seat s words (finding.asks_at r p) (finding.held_at (finding.goes_at r p (words (cell_of (finding.asks_at r p)))).stage)
@@ -112,17 +78,9 @@ module _ (law : BuffersAreHeld) where
 
     -- the taking of an entry
 
-    behind_holds : (l : Layout) (own index : ℕ) (held : Option Held) → held ≡ taking.held_at (taking.behind l own index held)
-    behind_holds l own index held = by (taking.has_next l index) where
-      by : (b : Bool) → held ≡ taking.held_at (cond b (taking.try_at l own (index + 1) held) (take.Ended held None))
-      by true = refl
-      by false = refl
-
     pub take_holds : (r : taking.EntryTaking) (t : Trying) (index : ℕ) (out : Option (Option Held)) → ((h : Held) → out ≡ Some (Some h) → t.held ≡ Some h) →
         t.held ≡ taking.held_at (taking.after_try (taking.at_stage r (take.Try t)) index t.held out).stage
-    take_holds r t index None won = refl
-    take_holds r t index (Some None) won = behind_holds r.layout r.seat index t.held
-    take_holds r t index (Some (Some h)) won = won h refl
+    take_holds r t index out won = grind arith
 
     take_moves : (r : taking.EntryTaking) (p : TakeStage) → TakeStageKnows seat p → HoldsBuffer s seat (taking.held_at p) →
         Moves seat s words (taking.asks_at r p) (taking.held_at (taking.goes_at r p (words (cell_of (taking.asks_at r p)))).stage)
@@ -145,9 +103,7 @@ module _ (law : BuffersAreHeld) where
 
   room_after : (seat : ℕ) (r : finding.RoomFinding) (index : ℕ) (out : Option (Option Held)) → r.seat ≡ seat → (out ≡ None → RoomStageKnows seat r.stage) → ((h : Held) → out ≡ Some (Some h) → h.count + 2 ≤ ENTRIES) →
       RoomKnows seat (finding.after_try r index out)
-  room_after seat r index None e here some = record { seat_is = e; stage = here refl }
-  room_after seat r index (Some None) e here some = record { seat_is = e; stage = room_fresh seat r.layout r.seat (finding.next_index r.layout index) e }
-  room_after seat r index (Some (Some h)) e here some = record { seat_is = e; stage = some h refl }
+  room_after seat r index out e here some = grind arith
 
   pub room_next : (seat : ℕ) (r : finding.RoomFinding) (p : RoomStage) (f : ℕ) → RoomKnows seat r → RoomStageKnows seat p → RoomKnows seat (finding.goes_at r p f)
   room_next seat r (room.GiveBack h) f whole k = record { seat_is = whole.seat_is; stage = room_fresh seat r.layout r.seat 0 whole.seat_is }
@@ -157,17 +113,9 @@ module _ (law : BuffersAreHeld) where
       (λ h e. (took seat Room t f h (record { seat_is = k.tries.seat_is; wish_is = k.wish_is; stage_is = k.tries.opened }) k.busy e).1)
   room_next seat r (room.Ended h) f whole k = record { seat_is = whole.seat_is; stage = k }
 
-  take_fresh : (seat : ℕ) (l : Layout) (own index : ℕ) (held : Option Held) → own ≡ seat → TakeTryKnows seat (try.opening l own Entry index held)
-  take_fresh seat l own index held e = record { tries = record { seat_is = e; opened = tt; free = tt }; wish_is = refl; busy = refl }
-
   take_after : (seat : ℕ) (r : taking.EntryTaking) (index : ℕ) (held : Option Held) (out : Option (Option Held)) → r.seat ≡ seat → (out ≡ None → TakeStageKnows seat r.stage) → ((h : Held) → out ≡ Some (Some h) → 0 < h.count) →
       TakeKnows seat (taking.after_try r index held out)
-  take_after seat r index held None e here some = record { seat_is = e; stage = here refl }
-  take_after seat r index held (Some None) e here some = record { seat_is = e; stage = by (taking.has_next r.layout index) } where
-    by : (b : Bool) → TakeStageKnows seat (cond b (taking.try_at r.layout r.seat (index + 1) held) (take.Ended held None))
-    by true = take_fresh seat r.layout r.seat (index + 1) held e
-    by false = tt
-  take_after seat r index held (Some (Some h)) e here some = record { seat_is = e; stage = some h refl }
+  take_after seat r index held out e here some = grind arith
 
   take_next : (seat : ℕ) (r : taking.EntryTaking) (p : TakeStage) (f : ℕ) → TakeKnows seat r → TakeStageKnows seat p → TakeKnows seat (taking.goes_at r p f)
   take_next seat r (take.Try t) f whole k =
@@ -186,15 +134,10 @@ module _ (law : BuffersAreHeld) where
     keeps own = record { own_step = own; lasts = lasts }
 
   finds_begin : (l : Layout) (seat : ℕ) (held : Option Held) → RoomKnows seat (finding.opening l seat held) × (finding.held_at (finding.begin l seat held) ≡ held)
-  finds_begin l seat None = (record { seat_is = refl; stage = room_fresh seat l seat 0 refl }, refl)
-  finds_begin l seat (Some h) = (record { seat_is = refl; stage = tt }, refl)
+  finds_begin l seat held = grind arith
 
   takes_begin : (l : Layout) (seat : ℕ) (held : Option Held) → TakeKnows seat (taking.opening l seat held) × (taking.held_at (taking.begin l seat held) ≡ held)
-  takes_begin l seat None = (record { seat_is = refl; stage = take_fresh seat l seat 0 None refl }, refl)
-  takes_begin l seat (Some h) = by (ltb 0 h.count) refl where
-    by : (b : Bool) → ltb 0 h.count ≡ b → TakeKnows seat (record { layout = l; seat = seat; stage = cond b (take.Take h) (taking.try_at l seat 0 (Some h)) }) × (taking.held_at (cond b (take.Take h) (taking.try_at l seat 0 (Some h))) ≡ Some h)
-    by true e = (record { seat_is = refl; stage = ltb-true _ _ e }, refl)
-    by false e = (record { seat_is = refl; stage = take_fresh seat l seat 0 (Some h) refl }, refl)
+  takes_begin l seat held = grind arith
 
   pub kept : BuffersAreKept
   kept = record {

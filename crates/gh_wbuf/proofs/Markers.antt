@@ -76,7 +76,7 @@ module _ (k : Known) (z : Cycle) (a : ℕ) (s : Shared) (rest : InHand) (g : Goo
   tries-at t (Ended out) is opened free x = loads Touch t.held x
 
   pub tries : (t : Trying) → TryKnows a t → Hands a s (holding rest t.held) → Holding (try.asks t) (try.goes t (s.words (cell_of (try.asks t)))).held
-  tries t knows x = tries-at t t.stage knows.seat_is knows.opened knows.free x
+  tries t knows x = grind (arith, tries-at)
 
   finds-at : (r : finding.RoomFinding) (p : RoomStage) → RoomStageKnows a p → Hands a s (holding rest (finding.held_at p)) →
       Holding (finding.asks_at r p) (finding.held_at (finding.goes_at r p (s.words (cell_of (finding.asks_at r p)))).stage)

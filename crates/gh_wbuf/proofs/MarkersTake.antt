@@ -1,14 +1,13 @@
 -- While marking is on an entry is taken out by a move that the seat may make, and names an object that nobody else has then. And all of it together.
-use Rattle.std.proofs.Common.{◌≡◌, ℕ, ◌+◌, ◌-◌, ◌*◌, ◌%◌, ◌<◌, ◌≤◌, Bool, true, false, cond, ltb, Option, Some, None, refl, sym, ap, subst, ◌∙◌, arith, max}
+use Rattle.std.proofs.Common.{◌≡◌, ℕ, ◌+◌, ◌-◌, ◌*◌, ◌%◌, ◌<◌, ◌≤◌, true, Option, Some, None, refl, sym, ap, subst, ◌∙◌, arith, max}
 use Rattle.std.proofs.Math.Nat.{mod-eq_of_lt}
 use Rattle.gh_base.specs.declared.cell.Cell.TheVariants.{Entry}
 use Rattle.gh_marks.specs.Knows.{KnowsObjects}
-use Rattle.gh_wbuf.specs.declared.find_room.RoomStage.TheVariants as room
 use Rattle.gh_wbuf.specs.declared.take_entry.TakeStage.TheVariants as take
 use Rattle.gh_wbuf.specs.EntryTaking as taking
 use Rattle.gh_wbuf.specs.RoomFinding as finding
 use Rattle.gh_wbuf.specs.Trying as try
-use Rattle.gh_wbuf.proofs.Vocabulary.{Buffered, buffers_as_held, BuffersPassByMoves, cell_of, Cycle, effect, ENTRIES, FactsBegin, Good, Hands, Held, holding, InHand, Keeps, landing, lands_by, Layout, MayTakeEntry, moved, RoomKnows, RoomStage, RoomStageKnows, Shared, Steps, TakeComes, TakeEntry, TakeKnows, TakesByMoves, TakeStage, TakeStageKnows, Took, Trying}
+use Rattle.gh_wbuf.proofs.Vocabulary.{Buffered, buffers_as_held, BuffersPassByMoves, cell_of, Cycle, effect, ENTRIES, FactsBegin, Good, Hands, Held, holding, InHand, Keeps, landing, lands_by, MayTakeEntry, moved, RoomStage, RoomStageKnows, Shared, Steps, TakeComes, TakeEntry, TakeKnows, TakesByMoves, TakeStage, TakeStageKnows, Took, Trying}
 use Rattle.gh_wbuf.proofs.Knowing.{given_held, room_next}
 use Rattle.gh_wbuf.proofs.Markers.{Known, keep-finds, keep-gives, keep-tries, shown, tries}
 
@@ -20,15 +19,7 @@ module _ (k : Known) (z : Cycle) (a : ℕ) (s : Shared) (rest : InHand) (g : Goo
   -- behind a try of the taking
   comes : (r : taking.EntryTaking) (t : Trying) (index : ℕ) (out : Option (Option Held)) (u : Shared) → ((h : Held) → out ≡ Some (Some h) → t.held ≡ Some h) → r.layout ≡ z.arena.layout → rest.scanning ≡ None →
       TakeKnows a (taking.after_try (taking.at_stage r (take.Try t)) index t.held out) → Hands a u (holding rest t.held) → Comes u (taking.after_try (taking.at_stage r (take.Try t)) index t.held out)
-  comes r t index None u won is idle knows x = record { layout_is = is; knows = knows; hands = x; idle = idle; busy = refl }
-  comes r t index (Some None) u won is idle knows x = by (taking.has_next r.layout index) knows where
-    then : Bool → taking.EntryTaking
-    then b = taking.at_stage r (cond b (taking.try_at r.layout r.seat (index + 1) t.held) (take.Ended t.held None))
-
-    by : (b : Bool) → TakeKnows a (then b) → Comes u (then b)
-    by true knows = record { layout_is = is; knows = knows; hands = x; idle = idle; busy = refl }
-    by false knows = x
-  comes r t index (Some (Some h)) u won is idle knows x = record { layout_is = is; knows = knows; hands = subst (λ (held : Option Held). Hands a u (holding rest held)) (won h refl) x; idle = idle; busy = refl }
+  comes r t index out u won is idle knows x = grind arith
 
   module _ (objects : KnowsObjects z s) where
     abbrev Goal : taking.EntryTaking → TakeStage → Type 0
@@ -99,33 +90,15 @@ keep-takes k = record {
   lasts = λ z a s u rest t o f. record { layout_is = f.layout_is; knows = f.knows; hands = k.last z a s u (holding rest (taking.held_at t.stage)) o f.hands; idle = f.idle; busy = f.busy };
 }
 
-take-busy : (l : Layout) (seat : ℕ) (held : Option Held) → taking.is_busy (taking.begin l seat held) ≡ true
-take-busy l seat None = refl
-take-busy l seat (Some h) = by (ltb 0 h.count) where
-  by : (b : Bool) → taking.is_busy (cond b (take.Take h) (taking.try_at l seat 0 (Some h))) ≡ true
-  by true = refl
-  by false = refl
-
 begins : Known → (z : Cycle) (a : ℕ) (s : Shared) (rest : InHand) (held : Option Held) → Hands a s (holding rest held) → FactsBegin z a s rest held
-begins k z a s rest held x = record {
-  tries = λ wish index. record { knows = k.kept.tries_begin z.arena.layout a wish index held; hands = x };
-  finds =
-      let b : RoomKnows a (finding.opening z.arena.layout a held) × (finding.held_at (finding.begin z.arena.layout a held) ≡ held) = k.kept.finds_begin z.arena.layout a held in
-      record { knows = b.0; hands = subst (λ (h : Option Held). Hands a s (holding rest h)) (sym b.1) x };
-  takes = λ idle.
-      let b : TakeKnows a (taking.opening z.arena.layout a held) × (taking.held_at (taking.begin z.arena.layout a held) ≡ held) = k.kept.takes_begin z.arena.layout a held in
-      record { layout_is = refl; knows = b.0; hands = subst (λ (h : Option Held). Hands a s (holding rest h)) (sym b.1) x; idle = idle; busy = take-busy z.arena.layout a held };
-  gives = λ own e. record { hands = subst (λ (h : Option Held). Hands a s (holding rest h)) e x };
-}
+begins k z a s rest held x = grind arith
 
 -- what the search for room has given has room, and is held
 room-at : (a : ℕ) (p : RoomStage) (h : Held) → RoomStageKnows a p → finding.given_at p ≡ Some h → h.count + 2 ≤ ENTRIES
-room-at a (room.Ended own) h knows e = let is : own ≡ h = cc in subst (λ (k : Held). k.count + 2 ≤ ENTRIES) is knows
-room-at a _ h knows e = absurd (cc)
+room-at a p h knows e = grind arith
 
 held-at : (p : RoomStage) (h : Held) → finding.given_at p ≡ Some h → finding.held_at p ≡ Some h
-held-at (room.Ended own) h e = e
-held-at _ h e = absurd (cc)
+held-at p h e = grind arith
 
 pub pass : Known → BuffersPassByMoves
 pass k = record {

@@ -2,14 +2,12 @@
 use Rattle.std.proofs.Common.{◌≡◌, ◌≢◌, ℕ, suc, Bool, true, false, cond, eqb, Option, Some, None, refl, sym, ap, ◌∙◌, arith, inl, inr}
 use Rattle.std.specs.Prelude.{◌&&◌}
 use Rattle.std.proofs.lemmas.Bool.{eqb-true, eq-eqb}
-use Rattle.std.proofs.lemmas.Bool.Decides.{nat_tests}
 use Rattle.gh_base.specs.declared.held.Held.{Held}
 use Rattle.gh_base.specs.declared.layout.Layout.{Layout}
 use Rattle.gh_base.specs.Packing.{buffer_of}
 use Rattle.gh_base.specs.Routines.{told}
 use Rattle.gh_wbuf.specs.declared.try_buffer.TryStage.TheVariants.{GiveBack, Claim, Ended}
 use Rattle.gh_wbuf.specs.declared.try_buffer.Wish.{Wish}
-use Rattle.gh_wbuf.specs.declared.try_buffer.Wish.TheVariants.{Room, Entry}
 use Rattle.gh_wbuf.specs.Tries.{EndsAt, Has, IsOpen, swap_step, TriesBuffer}
 use Rattle.gh_wbuf.specs.Trying.{asks, at_stage, claimed, claims, given, given_at, goes, is_busy, is_open, listing, opening, serves, taken, Trying}
 use Rattle.gh_wbuf.proofs.Trying.{answers_once, ends_once}
@@ -17,21 +15,13 @@ use Rattle.gh_wbuf.proofs.Trying.{answers_once, ends_once}
 -- what the tests of a word say
 
 has : (wish : Wish) (count : ℕ) → serves wish count ≡ true → Has wish count
-has Room count e = grind (arith, nat_tests)
-has Entry count e = grind (arith, nat_tests)
+has wish count e = grind arith
 
 serves_it : (wish : Wish) (count : ℕ) → Has wish count → serves wish count ≡ true
-serves_it Room count h = grind (arith, nat_tests)
-serves_it Entry count h = grind (arith, nat_tests)
-
-both : (a b : Bool) → (a && b) ≡ true → (a ≡ true) × (b ≡ true)
-both true b e = (refl, e)
-both false b e = absurd (cc)
+serves_it wish count h = grind arith
 
 pub open_yes : (wish : Wish) (word : ℕ) → is_open wish word ≡ true → IsOpen wish word
-open_yes wish word e =
-    let parts = both (eqb (buffer_of word).holder 0) (serves wish (buffer_of word).count) e in
-    record { free = eqb-true _ _ parts.0; has = has wish (buffer_of word).count parts.1 }
+open_yes wish word e = grind arith
 
 pub open_no : (wish : Wish) (word : ℕ) → is_open wish word ≡ false → ¬ IsOpen wish word
 open_no wish word e o =
@@ -76,7 +66,7 @@ module _ (l : Layout) (seat : ℕ) (wish : Wish) (index : ℕ) (held : Option He
     last = swap_step held
 
     free : IsOpen wish word
-    free = open_yes wish word yes
+    free = grind arith
 
     then : (wrote : Bool) → eqb (found last) word ≡ wrote → after (suc last) ≡ claimed claiming word wrote
     then wrote e = ap (λ (s : Trying). goes s (found last)) at ∙ ap (claimed claiming word) e

@@ -1,29 +1,19 @@
 -- What holds of each try: it ends once, and is of one buffer, seat and wish.
 use Rattle.std.proofs.Common.{◌≡◌, ◌≢◌, ℕ, zero, suc, ◌<◌, ◌≤◌, Bool, true, false, eqb, ltb, Option, Some, None, refl, sym, ap, subst, ◌∙◌, arith}
-use Rattle.std.specs.Prelude.{is_none}
 use Rattle.std.proofs.lemmas.Bool.{eqb-true, eq-eqb, ltb-true, ltb-false}
 use Rattle.gh_base.specs.declared.held.Held.{Held}
 use Rattle.gh_base.specs.Routines.{GoesOn, told}
 use Rattle.gh_wbuf.specs.declared.try_buffer.TryStage.{TryStage}
-use Rattle.gh_wbuf.specs.declared.try_buffer.TryStage.TheVariants.{Claim, Ended}
 use Rattle.gh_wbuf.specs.Tries.{EndsAt}
-use Rattle.gh_wbuf.specs.Trying.{claimed, gives, goes, goes_at, is_busy, listing, Trying}
-
-still_at : (t : Trying) (stage : TryStage) (found : ℕ) → is_busy (goes_at t stage found).stage ≡ true → is_busy stage ≡ true
-still_at t (Ended out) found h = h
-still_at t _ found h = refl
+use Rattle.gh_wbuf.specs.Trying.{gives, goes, goes_at, is_busy, listing, Trying}
 
 -- it was busy before, if it is
 pub still_busy : (t : Trying) (found : ℕ) → is_busy (goes t found).stage ≡ true → is_busy t.stage ≡ true
-still_busy t found h = still_at t t.stage found h
-
-none_is : (out : Option (Option Held)) → is_none out ≡ true → out ≡ None
-none_is None h = refl
-none_is (Some out) h = absurd (cc)
+still_busy t found h = grind arith
 
 -- it gives nothing, if it is busy then
 pub gives_nothing : (t : Trying) (found : ℕ) → is_busy (goes t found).stage ≡ true → gives t found ≡ None
-gives_nothing t found h = none_is (gives t found) h
+gives_nothing t found h = grind arith
 
 module _ (t : Trying) (found : ℕ → ℕ) where
   pub busy_before : (n m : ℕ) → m ≤ n → GoesOn listing t found n → GoesOn listing t found m
@@ -68,14 +58,10 @@ pub record IsSame (s t : Trying) : Type 0 where
   pub wish : s.wish ≡ t.wish
 
 same_at : (t : Trying) (stage : TryStage) (found : ℕ) → IsSame (goes_at t stage found) t
-same_at t (Claim word) found = by _ where
-  by : (wrote : Bool) → IsSame (claimed t word wrote) t
-  by true = record { index = refl; seat = refl; wish = refl }
-  by false = record { index = refl; seat = refl; wish = refl }
-same_at t _ found = record { index = refl; seat = refl; wish = refl }
+same_at t stage found = grind arith
 
 pub same_step : (t : Trying) (found : ℕ) → IsSame (goes t found) t
-same_step t found = same_at t t.stage found
+same_step t found = grind arith
 
 pub same : (t : Trying) (found : ℕ → ℕ) (n : ℕ) → IsSame (told listing t found n) t
 same t found zero = record { index = refl; seat = refl; wish = refl }

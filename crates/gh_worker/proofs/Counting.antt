@@ -1,16 +1,14 @@
 -- A worker's counts, step by step.
-use Rattle.std.proofs.Common.{◌≡◌, ℕ, zero, suc, ◌+◌, ◌-◌, ◌^◌, Bool, true, false, cond, eqb, Option, Some, None, arith}
+use Rattle.std.proofs.Common.{◌≡◌, ℕ, zero, suc, ◌+◌, ◌-◌, ◌^◌, Bool, cond, eqb, Option, arith}
 use Rattle.std.specs.Prelude.{min}
 use Rattle.gh_base.specs.declared.held.Held.{Held}
 use Rattle.gh_base.specs.declared.layout.Layout.{Layout}
 use Rattle.gh_base.specs.declared.pack.PageWord.{PageWord}
-use Rattle.gh_base.specs.declared.pack.PageWord.TheVariants.{Body, Free, Head}
 use Rattle.gh_base.specs.Packing.{page_of}
 use Rattle.gh_phase.specs.declared.resume.Resumed.{Resumed}
 use Rattle.gh_phase.specs.Listing as resume
 use Rattle.gh_scan.specs.Listing as scan
 use Rattle.gh_shade.specs.declared.shade.Shaded.{Shaded}
-use Rattle.gh_shade.specs.declared.shade.Shaded.TheVariants as shaded
 use Rattle.gh_shade.specs.Listing as shade
 use Rattle.gh_sweep.specs.declared.sweep.SweepEnd.{SweepEnd}
 use Rattle.gh_sweep.specs.Listing as sweep
@@ -19,7 +17,7 @@ use Rattle.gh_wbuf.specs.EntryTaking as take
 use Rattle.gh_wbuf.specs.RoomFinding as room
 use Rattle.gh_worker.specs.declared.worker.WorkerStage.{WorkerStage}
 use Rattle.gh_worker.specs.declared.worker.WorkerStage.TheVariants.{LoadPage, Sweeping, EarningAtStop, GiveBack, Resuming, Taking, Scanning, Earning, LoadGlobal, Shading, FindRoom}
-use Rattle.gh_worker.specs.Listing.{Working, after_give, after_page, after_resume, after_room, after_scan, after_shade, after_sweep, after_take, at_stage, counted, done_with, goes_at, page_done}
+use Rattle.gh_worker.specs.Listing.{Working, after_give, after_page, after_resume, after_room, after_scan, after_shade, after_sweep, after_take, at_stage, counted, done_with, goes_at}
 use Rattle.gh_worker.specs.Works.{CountsWords, after, scanned, shading_word, words_done, scan_words}
 
 -- it hands over what it has scanned
@@ -34,46 +32,31 @@ module _ (w : Working) (P : (d marks scan_work earned : ℕ) → Type 0) (same :
   Counts d to = P d to.marks to.scan_work to.earned
 
   page_so : (word : PageWord) → Counts 0 (after_page w word)
-  page_so (Head h) = by _ where
-    by : (b : Bool) → Counts 0 (cond b (at_stage w (Sweeping (sweep.opening w.layout w.page h))) (page_done w))
-    by true = same
-    by false = same
-  page_so Free = same
-  page_so (Body b) = same
+  page_so word = grind arith
 
   sweep_so : (sw : sweep.Sweeping) (out : Option SweepEnd) → Counts 0 (after_sweep w sw out)
-  sweep_so sw None = same
-  sweep_so sw (Some end) = same
+  sweep_so sw out = grind arith
 
   give_so : (g : give.BufferGiving) (stops : ℕ) (out : Option (Unit {0})) → Counts 0 (after_give w g stops out)
-  give_so g stops None = same
-  give_so g stops (Some x) = same
+  give_so g stops out = grind arith
 
   resume_so : (r : resume.Resuming) (out : Option Resumed) → Counts 0 (after_resume w r out)
-  resume_so r None = same
-  resume_so r (Some out) = same
+  resume_so r out = grind arith
 
   take_so : (t : take.EntryTaking) (out : Option (Option ℕ)) → Counts 0 (after_take w t out)
-  take_so t None = same
-  take_so t (Some None) = same
-  take_so t (Some (Some reference)) = same
+  take_so t out = grind arith
 
   scan_so : (sc : scan.Scanning) (out : Option ℕ) → Counts (scan_words out) (after_scan w sc out)
-  scan_so sc None = same
-  scan_so sc (Some words) = more words
+  scan_so sc out = grind arith
 
   global_so : (sh : shade.Shading) (b : Bool) → Counts (cond b 1 0) (cond b (done_with w w.held 1) (at_stage w (Shading sh)))
-  global_so sh true = more 1
-  global_so sh false = same
+  global_so sh b = grind arith
 
   shade_so : (sh : shade.Shading) (out : Option Shaded) → Counts (shading_word out) (after_shade w sh out)
-  shade_so sh None = same
-  shade_so sh (Some shaded.Done) = more 1
-  shade_so sh (Some shaded.WantsRoom) = same
+  shade_so sh out = grind arith
 
   room_so : (sh : shade.Shading) (r : room.RoomFinding) (out : Option Held) → Counts 0 (after_room w sh r out)
-  room_so sh r None = same
-  room_so sh r (Some h) = same
+  room_so sh r out = grind arith
 
   pub step_so : (stage : WorkerStage) (found : ℕ) → (IsEarning stage → P 0 w.marks 0 (counted w.earned w.scan_work)) → Counts (words_done stage found) (goes_at w stage found)
   step_so LoadPage found handed = page_so (page_of found)

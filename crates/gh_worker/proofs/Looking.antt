@@ -1,82 +1,54 @@
 -- A worker looks at a page for a span only where it has found that marking is off: by its stages.
-use Rattle.std.proofs.Common.{◌≡◌, ℕ, ◌==◌, Bool, true, false, cond, ltb, Option, Some, None, refl}
+use Rattle.std.proofs.Common.{◌≡◌, ℕ, ◌==◌, Bool, cond, ltb, Option, refl, arith}
 use Rattle.gh_base.specs.declared.cell.Cell.TheVariants as cell
 use Rattle.gh_phase.specs.Listing as resume
 use Rattle.gh_scan.specs.Listing as scan
-use Rattle.gh_shade.specs.declared.shade.Shaded.TheVariants as shaded
 use Rattle.gh_shade.specs.Listing as shade
 use Rattle.gh_sweep.specs.Listing as sweep
 use Rattle.gh_wbuf.specs.BufferGiving as give
 use Rattle.gh_wbuf.specs.EntryTaking as take
 use Rattle.gh_wbuf.specs.RoomFinding as room
-use Rattle.gh_worker.proofs.Vocabulary.{after_give, after_page, after_resume, after_room, after_scan, after_shade, after_sweep, after_take, asks_at, at_stage, Body, by_phase, by_stop, by_work, Claim, counted, Done, done_with, Earning, EarningAtStop, FindRoom, Finished, Free, GiveBack, gives_back, goes_at, Head, Held, Leave, Load, LoadCursor, LoadGlobal, LoadPage, LoadPhase, Mark, Off, page_done, page_of, PageWord, Phase, phase_of, reference_in, Resumed, Resuming, Scanning, Shaded, Shading, Stop, stops_at, SweepEnd, Sweeping, Taking, with_work, WorkerStage, Working}
+use Rattle.gh_worker.proofs.Vocabulary.{after_give, after_page, after_resume, after_room, after_scan, after_shade, after_sweep, after_take, asks_at, at_stage, by_phase, Claim, Done, done_with, Earning, EarningAtStop, FindRoom, GiveBack, gives_back, goes_at, Held, Leave, Load, LoadCursor, LoadGlobal, LoadPage, LoadPhase, Off, page_of, PageWord, Phase, phase_of, reference_in, Resumed, Resuming, Scanning, Shaded, Shading, SweepEnd, Sweeping, Taking, WorkerStage, Working}
 
 module _ (found : ℕ) (w : Working) where
   back_not : (n : ℕ) (held : Option Held) → gives_back w n held ≡ LoadPage → ⊥
-  back_not n None e = cc
-  back_not n (Some h) e = cc
-
-  stops_not : (n : ℕ) (held : Option Held) → stops_at w n held ≡ LoadPage → ⊥
-  stops_not n held = by_stop (λ p. p ≡ LoadPage → ⊥) w n held (λ z. back_not n held) (λ e. cc)
-
-  work_not : (scan_work : ℕ) → with_work w.layout scan_work ≡ LoadPage → ⊥
-  work_not scan_work = by_work (λ p. p ≡ LoadPage → ⊥) w.layout scan_work (λ e. cc) (λ e. cc)
+  back_not n held e = grind arith
 
   phases_look : (phase : Phase) → (phase_of found).phase ≡ phase → by_phase w (phase_of found).stops phase ≡ LoadPage → (phase_of found).phase ≡ Off
-  phases_look Off is e = is
-  phases_look Mark is e = absurd (cc)
-  phases_look Stop is e = absurd (stops_not (phase_of found).stops w.held e)
-  phases_look Finished is e = absurd (cc)
+  phases_look phase is e = grind arith
 
   page_not : (word : PageWord) → (after_page w word).stage ≡ LoadPage → ⊥
-  page_not (Head h) e = by _ e where
-    by : (b : Bool) → (cond b (at_stage w (Sweeping (sweep.opening w.layout w.page h))) (page_done w)).stage ≡ LoadPage → ⊥
-    by true f = cc
-    by false f = cc
-  page_not Free e = cc
-  page_not (Body b) e = cc
+  page_not word e = grind arith
 
   sweep_not : (sw : sweep.Sweeping) (out : Option SweepEnd) → (after_sweep w sw out).stage ≡ LoadPage → ⊥
-  sweep_not sw None e = cc
-  sweep_not sw (Some end) e = cc
+  sweep_not sw out e = grind arith
 
   give_not : (g : give.BufferGiving) (n : ℕ) (out : Option (Unit {0})) → (after_give w g n out).stage ≡ LoadPage → ⊥
-  give_not g n None e = cc
-  give_not g n (Some u) e = cc
+  give_not g n out e = grind arith
 
   resume_not : (r : resume.Resuming) (out : Option Resumed) → (after_resume w r out).stage ≡ LoadPage → ⊥
-  resume_not r None e = cc
-  resume_not r (Some out) e = cc
+  resume_not r out e = grind arith
 
   take_not : (t : take.EntryTaking) (out : Option (Option ℕ)) → (after_take w t out).stage ≡ LoadPage → ⊥
-  take_not t None e = cc
-  take_not t (Some None) e = cc
-  take_not t (Some (Some reference)) e = cc
+  take_not t out e = grind arith
 
   scan_not : (s : scan.Scanning) (out : Option ℕ) → (after_scan w s out).stage ≡ LoadPage → ⊥
-  scan_not s None e = cc
-  scan_not s (Some words) e = work_not (counted w.scan_work words) e
+  scan_not s out e = grind arith
 
   shade_not : (sh : shade.Shading) (out : Option Shaded) → (after_shade w sh out).stage ≡ LoadPage → ⊥
-  shade_not sh None e = cc
-  shade_not sh (Some shaded.Done) e = work_not (counted w.scan_work 1) e
-  shade_not sh (Some shaded.WantsRoom) e = cc
+  shade_not sh out e = grind arith
 
   room_not : (sh : shade.Shading) (r : room.RoomFinding) (out : Option Held) → (after_room w sh r out).stage ≡ LoadPage → ⊥
-  room_not sh r None e = cc
-  room_not sh r (Some h) e = cc
+  room_not sh r out e = grind arith
 
   cursor_not : (b : Bool) → cond b Claim LoadPhase ≡ LoadPage → ⊥
-  cursor_not true e = cc
-  cursor_not false e = cc
+  cursor_not b e = grind arith
 
   claim_not : (b : Bool) → cond b (LoadGlobal found) LoadPhase ≡ LoadPage → ⊥
-  claim_not true e = cc
-  claim_not false e = cc
+  claim_not b e = grind arith
 
   global_not : (b : Bool) → (cond b (done_with w w.held 1) (at_stage w (Shading (shade.opening w.layout (reference_in w.layout found) w.held)))).stage ≡ LoadPage → ⊥
-  global_not true e = work_not (counted w.scan_work 1) e
-  global_not false e = cc
+  global_not b e = grind arith
 
   pub looks_at : (stage : WorkerStage) → (goes_at w stage found).stage ≡ LoadPage → (asks_at w stage ≡ Load cell.Phase) × ((phase_of found).phase ≡ Off)
   looks_at LoadPhase e = (refl, phases_look (phase_of found).phase refl e)

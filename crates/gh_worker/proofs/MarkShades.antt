@@ -1,18 +1,17 @@
 -- While marking is on a worker shades the global that it has read; with its mark the global is scanned. And all of a worker's steps together.
-use Rattle.std.proofs.Common.{◌≡◌, ℕ, ◌≤◌, Bool, true, false, cond, Option, Some, None, inl, inr, refl, sym, subst, arith, ◌<◌, ◌∙◌}
+use Rattle.std.proofs.Common.{◌≡◌, ℕ, ◌≤◌, Bool, true, false, cond, Option, Some, None, inl, inr, refl, subst, arith, ◌<◌, ◌∙◌}
 use Rattle.gh_base.specs.declared.cell.Cell.TheVariants as cell
 use Rattle.gh_base.specs.Rows.{mark_words}
 use Rattle.gh_marks.specs.Seats.{Claim}
 use Rattle.gh_phase.specs.Listing as resume
-use Rattle.gh_shade.specs.declared.shade.Shaded.TheVariants as shaded
 use Rattle.gh_shade.specs.declared.shade.ShadeStage.TheVariants.{LoadPage, SetMark, WaitForRoom, Enter, Ended}
 use Rattle.gh_shade.specs.Facts as shade_facts
 use Rattle.gh_shade.specs.Listing as shade
 use Rattle.gh_wbuf.specs.Facts as buffer_facts
 use Rattle.gh_wbuf.specs.RoomFinding as room
 use Rattle.gh_worker.specs.declared.worker.WorkerStage.TheVariants as worker
-use Rattle.gh_worker.proofs.Vocabulary.{after_room, after_shade, asks_at, at_stage, cell_of, claim_at, ClaimOf, Cycle, effect, Facts, goes_at, Good, Hands, Held, in_hand, InHand, IsClean, IsMarked, Keeps, KnowsObjects, landing, landing_on, Lands, lands_by, lands_still, Layout, NoClaim, nothing, Others, Quiet, ReadOf, ScanGlobal, seats_of, Shaded, ShadeStage, Shared, StageFacts, Steps, sweep_at, WorkerStage, Working, WorksByMoves}
-use Rattle.gh_worker.proofs.MarkSteps.{Known, claims, done, earns, earns-at-stop, gives, load-cursor, load-page, load-phase, read-global, resumed, resumes, scans, still, takes}
+use Rattle.gh_worker.proofs.Vocabulary.{after_room, after_shade, asks_at, at_stage, cell_of, claim_at, ClaimOf, Cycle, effect, Facts, goes_at, Good, Hands, Held, in_hand, InHand, IsClean, IsMarked, Keeps, KnowsObjects, landing, landing_on, Lands, lands_by, lands_still, NoClaim, nothing, Others, Quiet, ReadOf, ScanGlobal, seats_of, Shaded, ShadeStage, Shared, StageFacts, Steps, sweep_at, WorkerStage, Working, WorksByMoves}
+use Rattle.gh_worker.proofs.MarkSteps.{Known, claims, earns, earns-at-stop, gives, load-cursor, load-page, load-phase, read-global, resumed, resumes, scans, still, takes}
 
 -- what shading leaves to be known at its next stage, with the global that the worker has then
 abbrev Shading : Cycle → (a : ℕ) → Shared → Claim → shade.Shading → Type 0
@@ -54,25 +53,7 @@ module _ (k : Known) (z : Cycle) (a : ℕ) (s : Shared) (g : Good z s) (objects 
 
   module _ (t : Shared) (sh : shade.Shading) (n : ℕ) where
     shaded-then : (i : ℕ) (out : Option Shaded) → shade.gives sh n ≡ out → Shading z a t (claim_at i (shade.goes sh n).reference (shade.goes sh n).stage) (shade.goes sh n) → Facts z a t (after_shade w (shade.goes sh n) out)
-    shaded-then i None e f = record { layout_is = layout_is; seat_is = seat_is; seat_in = seat_in; stage_is = (i, f) }
-    shaded-then i (Some shaded.Done) e f =
-        let ended : Shading z a t NoClaim (shade.goes sh n) = subst (λ (q : ShadeStage). Shading z a t (claim_at i (shade.goes sh n).reference q) (shade.goes sh n)) (k.shade.ended sh n e) f in
-        done k z a s g objects w layout_is seat_is seat_in t (shade.goes sh n).held 1 (k.shade.ends z a t (in_hand None NoClaim) sh n e ended).hands
-    shaded-then i (Some shaded.WantsRoom) e f =
-        let waiting : Shading z a t NoClaim (shade.goes sh n) = subst (λ (q : ShadeStage). Shading z a t (claim_at i (shade.goes sh n).reference q) (shade.goes sh n)) (k.shade.waiting sh n e) f in
-        let waits : shade_facts.WaitsForRoom a t (in_hand None NoClaim) (shade.goes sh n) = k.shade.wants z a t (in_hand None NoClaim) sh n e waiting in
-        let found : buffer_facts.RoomFacts z a t (pending (shade.goes sh n).reference) (room.opening z.arena.layout a (shade.goes sh n).held) = (k.buffers.begin z a t (pending (shade.goes sh n).reference) (shade.goes sh n).held waits.hands).finds in
-        record {
-          layout_is = layout_is;
-          seat_is = seat_is;
-          seat_in = seat_in;
-          stage_is = (
-            waits.some,
-            waits.marked,
-            subst (λ (l : Layout). buffer_facts.RoomFacts z a t (pending (shade.goes sh n).reference) (room.opening l w.seat (shade.goes sh n).held)) (sym layout_is)
-                (subst (λ (b : ℕ). buffer_facts.RoomFacts z a t (pending (shade.goes sh n).reference) (room.opening z.arena.layout b (shade.goes sh n).held)) (sym seat_is) found),
-          );
-        }
+    shaded-then i out e f = grind arith
 
   shades : (sh : shade.Shading) (i : ℕ) → Shading z a s (claim_at i sh.reference sh.stage) sh → Steps z a s (shade.asks sh) (λ t. Facts z a t (goes_at w (worker.Shading sh) (s.words (cell_of (shade.asks sh)))))
   shades sh i f =
@@ -86,13 +67,7 @@ module _ (k : Known) (z : Cycle) (a : ℕ) (s : Shared) (g : Good z s) (objects 
   -- the search for room
   found-then : (t : Shared) (sh : shade.Shading) (r : room.RoomFinding) (n : ℕ) (out : Option Held) → room.gives r n ≡ out → 1 ≤ sh.reference → IsMarked (mark_words t.words) (shade.object_of sh.reference) → buffer_facts.RoomFacts z a s (pending sh.reference) r → buffer_facts.RoomFacts z a t (pending sh.reference) (room.goes r n) →
       Facts z a t (after_room w sh (room.goes r n) out)
-  found-then t sh r n None e some marked was f = record { layout_is = layout_is; seat_is = seat_is; seat_in = seat_in; stage_is = (some, marked, f) }
-  found-then t sh r n (Some h) e some marked was f = record {
-    layout_is = layout_is;
-    seat_is = seat_is;
-    seat_in = seat_in;
-    stage_is = (0, k.shade.told z a t (in_hand None NoClaim) sh h some marked (omega (arith, k.buffers.room a n r h was.knows e)) (subst (λ (held : Option Held). Hands a t (buffer_facts.holding (pending sh.reference) held)) (k.buffers.held n r h e) f.hands));
-  }
+  found-then t sh r n out e some marked was f = grind arith
 
   finds : (sh : shade.Shading) (r : room.RoomFinding) → 1 ≤ sh.reference → IsMarked (mark_words s.words) (shade.object_of sh.reference) → buffer_facts.RoomFacts z a s (pending sh.reference) r → Steps z a s (room.asks r) (λ t. Facts z a t (goes_at w (worker.FindRoom sh r) (s.words (cell_of (room.asks r)))))
   finds sh r some marked f =

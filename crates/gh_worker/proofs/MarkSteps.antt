@@ -7,7 +7,6 @@ use Rattle.gh_credit.specs.Earning as earn
 use Rattle.gh_marks.specs.Laws.{EachHandFollows, EachHandLasts, EachStepGoesByMoves, TheCursorIsSmall}
 use Rattle.gh_phase.specs.declared.resume.ResumeStage.TheVariants as resume_stage
 use Rattle.gh_phase.specs.Listing as resume
-use Rattle.gh_scan.specs.declared.scan.ScanStage.TheVariants as scan_stage
 use Rattle.gh_scan.specs.Facts as scan_facts
 use Rattle.gh_scan.specs.Listing as scan
 use Rattle.gh_shade.specs.Facts as shade_facts
@@ -17,7 +16,7 @@ use Rattle.gh_wbuf.specs.EntryTaking as take
 use Rattle.gh_wbuf.specs.Facts as buffer_facts
 use Rattle.gh_sweep.specs.Listing as sweep
 use Rattle.gh_worker.specs.declared.worker.WorkerStage.TheVariants as worker
-use Rattle.gh_worker.proofs.Vocabulary.{Add, after_give, after_global, after_page, after_resume, after_scan, after_take, Ask, at_stage, by_phase, by_stop, by_work, Cell, cell_of, ClaimGlobal, ClaimOf, counted, Cycle, done_with, EarnStage, effect, Facts, Body, Finished, Free, gives_back, goes_at, Good, handed_over, Hands, Head, Held, in_hand, InHand, IsQuietInMarking, Keeps, KnowsObject, KnowsObjects, landing, landing_on, Lands, lands_by, lands_still, Layout, Load, Mark, moved, NoClaim, nothing, Off, page_done, page_of, PageWord, PassGlobals, Phase, phase_of, put, Quiet, ReadGlobal, ReadOf, reference_in, Resumed, ResumeStage, ScanGlobal, ScanStage, seats_of, Shared, StageFacts, Steps, Stop, stops_at, Store, Taken, Went, WorkerStage, Working}
+use Rattle.gh_worker.proofs.Vocabulary.{Add, after_give, after_global, after_page, after_resume, after_scan, after_take, Ask, at_stage, by_phase, by_work, Cell, cell_of, ClaimGlobal, ClaimOf, counted, Cycle, done_with, EarnStage, effect, Facts, Body, Free, gives_back, goes_at, Good, handed_over, Hands, Head, Held, in_hand, InHand, IsQuietInMarking, Keeps, KnowsObject, KnowsObjects, landing, landing_on, Lands, lands_by, lands_still, Layout, Load, moved, NoClaim, nothing, page_done, page_of, PageWord, PassGlobals, Phase, phase_of, put, Quiet, ReadGlobal, ReadOf, reference_in, Resumed, ResumeStage, ScanGlobal, seats_of, Shared, StageFacts, Steps, stops_at, Store, Went, WorkerStage, Working}
 
 pub record Known : Type 0 where
   pub last : EachHandLasts
@@ -45,18 +44,13 @@ module _ (k : Known) (z : Cycle) (a : ℕ) (s : Shared) (g : Good z s) (objects 
 
   -- the phase
   backs : (t : Shared) (number : ℕ) (held : Option Held) → w.held ≡ held → Hands a t (in_hand held NoClaim) → StageFacts z a t w.held (gives_back w number held)
-  backs t number None e x = (x, e)
-  backs t number (Some h) e x = subst (λ (l : Layout). buffer_facts.GiveFacts z a t nothing (give.opening l h)) (sym layout_is) ((begin t nothing (Some h) x).gives h refl)
+  backs t number held e x = grind arith
 
   stops : (number : ℕ) → Hands a s (in_hand w.held NoClaim) → StageFacts z a s w.held (stops_at w number w.held)
-  stops number x = by_stop (StageFacts z a s w.held) w number w.held (λ e. backs s number w.held refl x) x
+  stops number x = grind arith
 
   phases : (number : ℕ) (phase : Phase) → Hands a s (in_hand w.held NoClaim) → StageFacts z a s w.held (by_phase w number phase)
-  phases number Off x = x
-  phases number Mark x = subst (λ (l : Layout). buffer_facts.TakeFacts z a s nothing (take.opening l w.seat w.held)) (sym layout_is)
-      (subst (λ (b : ℕ). buffer_facts.TakeFacts z a s nothing (take.opening z.arena.layout b w.held)) (sym seat_is) ((begin s nothing w.held x).takes refl))
-  phases number Stop x = stops number x
-  phases number Finished x = x
+  phases number phase x = grind arith
 
   pub load-phase : Hands a s (in_hand w.held NoClaim) → Leads (Load cell.Phase) (goes_at w worker.LoadPhase (s.words cell.Phase))
   load-phase x = still cell.Phase (goes_at w worker.LoadPhase (s.words cell.Phase)) (same s w.held w.marks (by_phase w (phase_of (s.words cell.Phase)).stops (phase_of (s.words cell.Phase)).phase) (phases (phase_of (s.words cell.Phase)).stops (phase_of (s.words cell.Phase)).phase x))
@@ -97,10 +91,10 @@ module _ (k : Known) (z : Cycle) (a : ℕ) (s : Shared) (g : Good z s) (objects 
     quiet earning.Ended = tt
 
   pub earns : (m : earn.Earning) → Hands a s (in_hand w.held NoClaim) → Leads (earn.asks m) (goes_at w (worker.Earning m) (s.words (cell_of (earn.asks m))))
-  earns m x = earns-to m m.stage worker.LoadPhase x (λ t h. h)
+  earns m x = grind (arith, earns-to)
 
   pub earns-at-stop : (m : earn.Earning) (number : ℕ) → Hands a s (in_hand w.held NoClaim) → Leads (earn.asks m) (goes_at w (worker.EarningAtStop m number) (s.words (cell_of (earn.asks m))))
-  earns-at-stop m number x = earns-to m m.stage (gives_back w number w.held) x (λ t h. backs t number w.held refl h)
+  earns-at-stop m number x = grind (arith, backs, earns-to)
 
   -- a stop is acknowledged
 
@@ -112,23 +106,11 @@ module _ (k : Known) (z : Cycle) (a : ℕ) (s : Shared) (g : Good z s) (objects 
   resumes r (resume_stage.Ended another) n x f = still cell.Touch n (f s x)
 
   pub resumed : (r : resume.Resuming) (out : Option Resumed) (t : Shared) → w.held ≡ None → Hands a t nothing → Facts z a t (after_resume w r out)
-  resumed r None t e x = record { layout_is = layout_is; seat_is = seat_is; seat_in = seat_in; stage_is = (x, e) }
-  resumed r (Some out) t e x = record { layout_is = layout_is; seat_is = seat_is; seat_in = seat_in; stage_is = subst (λ (held : Option Held). Hands a t (in_hand held NoClaim)) (sym e) x }
+  resumed r out t e x = grind arith
 
   -- an object is taken
   taken-then : (t : Shared) → Good z t → (m : take.EntryTaking) (out : Option (Option ℕ)) → buffer_facts.TakeComes z a t nothing out m → Facts z a t (after_take w m out)
-  taken-then t good m None f = same t w.held w.marks (worker.Taking m) f
-  taken-then t good m (Some None) f = same t (take.held_at m.stage) w.marks worker.LoadCursor f
-  taken-then t good m (Some (Some reference)) f = same t (take.held_at m.stage) w.marks (worker.Scanning (scan.opening w.layout w.seat reference (take.held_at m.stage))) (
-      subst (λ (l : Layout). scan_facts.Facts z a t nothing (scan.opening l w.seat reference (take.held_at m.stage))) (sym layout_is)
-      (subst (λ (b : ℕ). scan_facts.Facts z a t nothing (scan.opening z.arena.layout b reference (take.held_at m.stage))) (sym seat_is)
-      (k.scan.begins z a t nothing reference (take.held_at m.stage) known f.hands))
-      ) where
-        is : t.colour (reference - 1) ≡ Taken a
-        is = (f.hands.has.is_taken (reference - 1)).0 refl
-
-        known : t.since (reference - 1) ≡ true
-        known = good.objects.shaded (reference - 1) (rw is tt)
+  taken-then t good m out f = grind arith
 
   pub takes : (m : take.EntryTaking) → buffer_facts.TakeFacts z a s nothing m → Leads (take.asks m) (goes_at w (worker.Taking m) (s.words (cell_of (take.asks m))))
   takes m f =
@@ -136,12 +118,6 @@ module _ (k : Known) (z : Cycle) (a : ℕ) (s : Shared) (g : Good z s) (objects 
       landing z a s (effect s.words (take.asks m)) (λ t. Keeps z a s t × buffer_facts.TakeComes z a t nothing (take.gives m n) (take.goes m n)) (λ t. Facts z a t (after_take w (take.goes m n) (take.gives m n)))
       (λ t v h. taken-then t (k.steps z a s t g v).good (take.goes m n) (take.gives m n) h.1)
       (k.buffers.takes.own_step z a s nothing m g objects f)
-
-  -- it is scanned
-  held-given : (words : ℕ) (held : Option Held) (p : ScanStage) → scan.given_at p ≡ Some words → scan.held_at held p ≡ held
-  held-given words held (scan_stage.Shading sh) e = absurd (cc)
-  held-given words held (scan_stage.FindRoom sh r) e = absurd (cc)
-  held-given words held _ e = refl
 
   -- so many words are scanned, and nothing but this buffer is in hand
   pub done : (t : Shared) (held : Option Held) (words : ℕ) → Hands a t (in_hand held NoClaim) → Facts z a t (done_with w held words)
@@ -153,8 +129,7 @@ module _ (k : Known) (z : Cycle) (a : ℕ) (s : Shared) (g : Good z s) (objects 
   }
 
   scanned-then : (t : Shared) (m : scan.Scanning) (n : ℕ) (out : Option ℕ) → scan.gives m n ≡ out → scan_facts.Facts z a t nothing (scan.goes m n) → Facts z a t (after_scan w (scan.goes m n) out)
-  scanned-then t m n None e f = same t w.held w.marks (worker.Scanning (scan.goes m n)) f
-  scanned-then t m n (Some words) e f = done t (scan.held_at (scan.goes m n).held (scan.goes m n).stage) words (subst (λ (held : Option Held). Hands a t (in_hand held NoClaim)) (sym (held-given words (scan.goes m n).held (scan.goes m n).stage e)) (k.scan.ends z a t nothing m n words e f))
+  scanned-then t m n out e f = grind arith
 
   pub scans : (m : scan.Scanning) → scan_facts.Facts z a s nothing m → Leads (scan.asks m) (goes_at w (worker.Scanning m) (s.words (cell_of (scan.asks m))))
   scans m f =
@@ -167,10 +142,7 @@ module _ (k : Known) (z : Cycle) (a : ℕ) (s : Shared) (g : Good z s) (objects 
   pub load-cursor : Hands a s (in_hand w.held NoClaim) → Leads (Load cell.Gcur) (goes_at w worker.LoadCursor (s.words cell.Gcur))
   load-cursor x = by (ltb (s.words cell.Gcur) w.layout.globals) refl where
     first : (b : Bool) → s.passed a ≡ b → s.words cell.Gcur < w.layout.globals → s.passed a ≡ false
-    first false e lt = e
-    first true e lt =
-        let inside : s.words cell.Gcur < z.arena.layout.globals = subst (λ (l : Layout). s.words cell.Gcur < l.globals) layout_is lt in
-        absurd (omega (arith, inside, g.passes.behind a e))
+    first b e lt = grind arith
 
     by : (b : Bool) → ltb (s.words cell.Gcur) w.layout.globals ≡ b → Leads (Load cell.Gcur) (at_stage w (cond b worker.Claim worker.LoadPhase))
     by true e = still cell.Gcur (at_stage w worker.Claim) (same s w.held w.marks worker.Claim (first (s.passed a) refl (ltb-true _ _ e), x))

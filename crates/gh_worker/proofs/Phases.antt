@@ -1,77 +1,57 @@
 -- A worker leaves only where it finds the last phase, and marks only where it finds that marking is on: by its stages.
-use Rattle.std.proofs.Common.{◌≡◌, ℕ, Bool, true, false, cond, ltb, ◌==◌, ◌⊎◌, refl, ap, inl, inr, Option, Some, None}
+use Rattle.std.proofs.Common.{◌≡◌, ℕ, Bool, true, false, cond, ltb, ◌==◌, ◌⊎◌, refl, inl, inr, Option, Some, arith}
 use Rattle.gh_base.specs.declared.cell.Cell.TheVariants as cell
 use Rattle.gh_phase.specs.declared.view.RunPhase.TheVariants as run
 use Rattle.gh_phase.specs.Listing as resume
 use Rattle.gh_scan.specs.Listing as scan
-use Rattle.gh_shade.specs.declared.shade.Shaded.TheVariants as shaded
 use Rattle.gh_shade.specs.Listing as shade
 use Rattle.gh_sweep.specs.Listing as sweep
 use Rattle.gh_wbuf.specs.BufferGiving as give
 use Rattle.gh_wbuf.specs.EntryTaking as take
 use Rattle.gh_wbuf.specs.RoomFinding as room
-use Rattle.gh_worker.proofs.Vocabulary.{after_give, after_page, after_resume, after_room, after_scan, after_shade, after_sweep, after_take, asks_at, at_stage, Body, by_phase, by_stop, by_work, Claim, counted, Done, done_with, Earning, EarningAtStop, FindRoom, FindsMarking, Finished, Free, GiveBack, gives_back, goes_at, Head, Held, is_busy, IsLeaving, IsMarking, Leave, Load, LoadCursor, LoadGlobal, LoadPage, LoadPhase, Mark, Off, page_done, page_of, PageWord, Phase, phase_of, reference_in, Resumed, Resuming, run_phase, Scanning, Shaded, Shading, Stop, stops_at, SweepEnd, Sweeping, Taking, with_work, WorkerStage, Working}
+use Rattle.gh_worker.proofs.Vocabulary.{after_give, after_page, after_resume, after_room, after_scan, after_shade, after_sweep, after_take, asks_at, at_stage, by_phase, by_work, Claim, counted, Done, done_with, Earning, EarningAtStop, FindRoom, FindsMarking, GiveBack, gives_back, goes_at, Held, is_busy, IsLeaving, IsMarking, Leave, Load, LoadCursor, LoadGlobal, LoadPage, LoadPhase, page_of, PageWord, Phase, phase_of, reference_in, Resumed, Resuming, run_phase, Scanning, Shaded, Shading, SweepEnd, Sweeping, Taking, with_work, WorkerStage, Working}
 
 -- Where a step does not find the last phase, the worker goes on.
 module _ (found : ℕ) (w : Working) where
   backs_on : (n : ℕ) (held : Option Held) → IsLeaving (gives_back w n held) → ⊥
-  backs_on n None x = x
-  backs_on n (Some h) x = x
-
-  stops_on : (n : ℕ) (held : Option Held) → IsLeaving (stops_at w n held) → ⊥
-  stops_on n held = by_stop (λ p. IsLeaving p → ⊥) w n held (λ z. backs_on n held) (λ x. x)
+  backs_on n held x = grind arith
 
   works_on : (scan_work : ℕ) → IsLeaving (with_work w.layout scan_work) → ⊥
   works_on scan_work = by_work (λ p. IsLeaving p → ⊥) w.layout scan_work (λ x. x) (λ x. x)
 
   phases_on : (phase : Phase) → (phase_of found).phase ≡ phase → IsLeaving (by_phase w (phase_of found).stops phase) → run_phase (phase_of found).phase ≡ Some run.Finished
-  phases_on Off e x = absurd x
-  phases_on Mark e x = absurd x
-  phases_on Stop e x = absurd (stops_on (phase_of found).stops w.held x)
-  phases_on Finished e x = ap run_phase e
+  phases_on phase e x = grind arith
 
   gives_on : (g : give.BufferGiving) (n : ℕ) (out : Option (Unit {0})) → IsLeaving (after_give w g n out).stage → ⊥
-  gives_on g n None x = x
-  gives_on g n (Some u) x = x
+  gives_on g n out x = grind arith
 
   resumes_on : (r : resume.Resuming) (out : Option Resumed) → IsLeaving (after_resume w r out).stage → ⊥
-  resumes_on r None x = x
-  resumes_on r (Some out) x = x
+  resumes_on r out x = grind arith
 
   takes_on : (t : take.EntryTaking) (out : Option (Option ℕ)) → IsLeaving (after_take w t out).stage → ⊥
-  takes_on t None x = x
-  takes_on t (Some None) x = x
-  takes_on t (Some (Some reference)) x = x
+  takes_on t out x = grind arith
 
   scans_on : (s : scan.Scanning) (out : Option ℕ) → IsLeaving (after_scan w s out).stage → ⊥
-  scans_on s None x = x
-  scans_on s (Some words) x = works_on (counted w.scan_work words) x
+  scans_on s out x = grind arith
 
   shades_on : (sh : shade.Shading) (out : Option Shaded) → IsLeaving (after_shade w sh out).stage → ⊥
-  shades_on sh None x = x
-  shades_on sh (Some shaded.Done) x = works_on (counted w.scan_work 1) x
-  shades_on sh (Some shaded.WantsRoom) x = x
+  shades_on sh out x = grind arith
 
   room_on : (sh : shade.Shading) (r : room.RoomFinding) (out : Option Held) → IsLeaving (after_room w sh r out).stage → ⊥
-  room_on sh r None x = x
-  room_on sh r (Some h) x = x
+  room_on sh r out x = grind arith
 
   stage_on : (b : Bool) (one other : WorkerStage) → (IsLeaving one → ⊥) → (IsLeaving other → ⊥) → IsLeaving (cond b one other) → ⊥
   stage_on true one other f g x = f x
   stage_on false one other f g x = g x
 
   either_on : (b : Bool) (one other : Working) → (IsLeaving one.stage → ⊥) → (IsLeaving other.stage → ⊥) → IsLeaving (cond b one other).stage → ⊥
-  either_on true one other f g x = f x
-  either_on false one other f g x = g x
+  either_on b one other f g x = grind arith
 
   page_on : (word : PageWord) → IsLeaving (after_page w word).stage → ⊥
-  page_on (Head h) x = either_on _ (at_stage w (Sweeping (sweep.opening w.layout w.page h))) (page_done w) (λ y. y) (λ y. y) x
-  page_on Free x = x
-  page_on (Body b) x = x
+  page_on word x = grind arith
 
   sweep_on : (sw : sweep.Sweeping) (out : Option SweepEnd) → IsLeaving (after_sweep w sw out).stage → ⊥
-  sweep_on sw None x = x
-  sweep_on sw (Some end) x = x
+  sweep_on sw out x = grind arith
 
   -- it was about to leave, or found the last phase
   abbrev FindsLast : WorkerStage → Type 0
@@ -98,59 +78,37 @@ module _ (found : ℕ) (w : Working) where
 -- Where it marks, it did so before, or has found that marking is on.
 module _ (found : ℕ) (w : Working) where
   backs_not : (n : ℕ) (held : Option Held) → IsMarking (gives_back w n held) → ⊥
-  backs_not n None x = x
-  backs_not n (Some h) x = x
-
-  stops_not : (n : ℕ) (held : Option Held) → IsMarking (stops_at w n held) → ⊥
-  stops_not n held = by_stop (λ p. IsMarking p → ⊥) w n held (λ z. backs_not n held) (λ x. x)
+  backs_not n held x = grind arith
 
   phases_mark : (phase : Phase) → (phase_of found).phase ≡ phase → IsMarking (by_phase w (phase_of found).stops phase) → run_phase (phase_of found).phase ≡ Some run.Mark
-  phases_mark Off e x = absurd x
-  phases_mark Mark e x = ap run_phase e
-  phases_mark Stop e x = absurd (stops_not (phase_of found).stops w.held x)
-  phases_mark Finished e x = absurd x
+  phases_mark phase e x = grind arith
 
   page_not : (word : PageWord) → IsMarking (after_page w word).stage → ⊥
-  page_not (Head h) x = by _ x where
-    by : (b : Bool) → IsMarking (cond b (at_stage w (Sweeping (sweep.opening w.layout w.page h))) (page_done w)).stage → ⊥
-    by true y = y
-    by false y = y
-  page_not Free x = x
-  page_not (Body b) x = x
+  page_not word x = grind arith
 
   sweep_not : (sw : sweep.Sweeping) (out : Option SweepEnd) → IsMarking (after_sweep w sw out).stage → ⊥
-  sweep_not sw None x = x
-  sweep_not sw (Some end) x = x
+  sweep_not sw out x = grind arith
 
   gives_not : (g : give.BufferGiving) (n : ℕ) (out : Option (Unit {0})) → IsMarking (after_give w g n out).stage → ⊥
-  gives_not g n None x = x
-  gives_not g n (Some u) x = x
+  gives_not g n out x = grind arith
 
   resumes_not : (r : resume.Resuming) (out : Option Resumed) → IsMarking (after_resume w r out).stage → ⊥
-  resumes_not r None x = x
-  resumes_not r (Some out) x = x
+  resumes_not r out x = grind arith
 
   take_view : (t : take.EntryTaking) (out : Option (Option ℕ)) → (after_take w t out).view ≡ w.view
-  take_view t None = refl
-  take_view t (Some None) = refl
-  take_view t (Some (Some reference)) = refl
+  take_view t out = grind arith
 
   scan_view : (s : scan.Scanning) (out : Option ℕ) → (after_scan w s out).view ≡ w.view
-  scan_view s None = refl
-  scan_view s (Some words) = refl
+  scan_view s out = grind arith
 
   shade_view : (sh : shade.Shading) (out : Option Shaded) → (after_shade w sh out).view ≡ w.view
-  shade_view sh None = refl
-  shade_view sh (Some shaded.Done) = refl
-  shade_view sh (Some shaded.WantsRoom) = refl
+  shade_view sh out = grind arith
 
   room_view : (sh : shade.Shading) (r : room.RoomFinding) (out : Option Held) → (after_room w sh r out).view ≡ w.view
-  room_view sh r None = refl
-  room_view sh r (Some h) = refl
+  room_view sh r out = grind arith
 
   either_view : (b : Bool) (one other : Working) → one.view ≡ w.view → other.view ≡ w.view → (cond b one other).view ≡ w.view
-  either_view true one other e f = e
-  either_view false one other e f = f
+  either_view b one other e f = grind arith
 
   pub marks_at : (stage : WorkerStage) → is_busy stage ≡ true → IsMarking (goes_at w stage found).stage → FindsMarking found w stage (goes_at w stage found)
   marks_at LoadPhase busy x = record { view_stays = refl; finds = inr (refl, phases_mark (phase_of found).phase refl x) }

@@ -1,30 +1,24 @@
 -- Each step of a worker is one of the handshake of a stop: by its stages.
-use Rattle.std.proofs.Common.{◌≡◌, ℕ, Bool, true, false, cond, ltb, ◌==◌, refl, ap, ◌∙◌, inl, inr, Option, Some, None}
-use Rattle.std.specs.Prelude.{is_none}
+use Rattle.std.proofs.Common.{◌≡◌, ℕ, Bool, true, cond, ltb, ◌==◌, refl, ap, inl, inr, Option, Some, None, arith}
 use Rattle.gh_base.specs.declared.cell.Cell.TheVariants as cell
-use Rattle.gh_credit.specs.declared.earn.EarnStage.TheVariants as earning
 use Rattle.gh_credit.specs.Earning as earn
 use Rattle.gh_phase.specs.Handshake.{Awake, FromAwake, IsQuietInHandshake, StageGoes}
 use Rattle.gh_phase.specs.Listing as resume
 use Rattle.gh_phase.specs.ResumePlaces.{ResumesInHandshake}
-use Rattle.gh_phase.specs.ResumePlaces as resumes
 use Rattle.gh_scan.specs.Listing as scan
 use Rattle.gh_scan.specs.Quiet.{MarkingIsQuiet}
-use Rattle.gh_shade.specs.declared.shade.Shaded.TheVariants as shaded
 use Rattle.gh_shade.specs.Listing as shade
 use Rattle.gh_sweep.specs.declared.sweep.SweepStage.{SweepStage}
-use Rattle.gh_sweep.specs.declared.sweep.SweepStage.TheVariants as sweeping
 use Rattle.gh_sweep.specs.Listing as sweep
 use Rattle.gh_wbuf.specs.BufferGiving as give
 use Rattle.gh_wbuf.specs.EntryTaking as take
 use Rattle.gh_wbuf.specs.RoomFinding as room
-use Rattle.gh_worker.proofs.Vocabulary.{Add, after_give, after_page, after_resume, after_room, after_scan, after_shade, after_sweep, after_take, Ask, asks_at, at_stage, Body, by_phase, by_stop, by_work, Claim, counted, Done, done_with, Earning, EarningAtStop, EarnStage, FindRoom, Free, GiveBack, gives_back, goes_at, GoesOnWithNone, handed_over, Head, Held, is_busy, Leave, Load, LoadCursor, LoadGlobal, LoadPage, LoadPhase, page_done, page_of, PageWord, party_at, party_of, Phase, phase_of, reference_in, Resumed, Resuming, run_phase, Scanning, Shaded, Shading, Sound, SoundAt, stage_of, stands_at, Stop, stops_at, SweepEnd, Sweeping, Taking, WorkersKeepHandshake, WorkerStage, Working}
+use Rattle.gh_worker.proofs.Vocabulary.{Add, after_give, after_page, after_resume, after_room, after_scan, after_shade, after_sweep, after_take, Ask, asks_at, at_stage, by_phase, by_stop, by_work, Claim, counted, Done, done_with, Earning, EarningAtStop, EarnStage, FindRoom, GiveBack, gives_back, goes_at, GoesOnWithNone, handed_over, Held, is_busy, Leave, Load, LoadCursor, LoadGlobal, LoadPage, LoadPhase, page_of, PageWord, party_at, party_of, Phase, phase_of, reference_in, Resumed, Resuming, run_phase, Scanning, Shaded, Shading, Sound, SoundAt, stage_of, stands_at, Stop, stops_at, SweepEnd, Sweeping, Taking, WorkersKeepHandshake, WorkerStage, Working}
 use Rattle.gh_worker.proofs.Phases.{leaves_at, marks_at}
 
 -- what is scanned is handed over by no word of the handshake
 earn_quiet : (x : earn.Earning) (p : EarnStage) → IsQuietInHandshake (earn.asks_at x p)
-earn_quiet x earning.Add = tt
-earn_quiet x earning.Ended = tt
+earn_quiet x p = grind arith
 
 -- the worker that a step leads to, from one that is awake
 abbrev FromAwakeTo : (found : ℕ) → Ask → (w to : Working) → Type 0
@@ -37,8 +31,7 @@ Goes found w stage to = Sound to × StageGoes found (party_at w stage) (stands_a
 module _ (found : ℕ) (w : Working) where
   -- by the phase that it found
   backs : (held : Option Held) → w.held ≡ held → w.scan_work ≡ 0 → (phase_of found).phase ≡ Stop → FromAwakeTo found (Load cell.Phase) w (at_stage w (gives_back w (phase_of found).stops held))
-  backs None none z e = (record { seat_is = refl; busy = refl; none = none; handed = z }, refl, (refl, record { stops = ap run_phase e; number_is = refl }))
-  backs (Some h) some z e = (z, refl, (refl, record { stops = ap run_phase e; number_is = refl }))
+  backs held none z e = grind arith
 
   stops : (phase_of found).phase ≡ Stop → FromAwakeTo found (Load cell.Phase) w (at_stage w (stops_at w (phase_of found).stops w.held))
   stops e = by_stop (λ p. FromAwakeTo found (Load cell.Phase) w (at_stage w p)) w (phase_of found).stops w.held (λ z. backs w.held refl z e) (record { words_are = refl; busy = refl }, refl, (refl, record { stops = ap run_phase e; number_is = refl }))
@@ -48,47 +41,35 @@ module _ (found : ℕ) (w : Working) where
   phases _ e = (tt, refl, tt)
 
   takes : (ask : Ask) (t : take.EntryTaking) (out : Option (Option ℕ)) → FromAwakeTo found ask w (after_take w t out)
-  takes ask t None = (tt, refl, tt)
-  takes ask t (Some None) = (tt, refl, tt)
-  takes ask t (Some (Some reference)) = (tt, refl, tt)
+  takes ask t out = grind arith
 
   works : (ask : Ask) (held : Option Held) (words : ℕ) → FromAwakeTo found ask w (done_with w held words)
   works ask held words = by_work (λ p. FromAwakeTo found ask w (record (done_with w held words) { stage = p })) w.layout (counted w.scan_work words) (tt, refl, tt) (record { words_are = refl; busy = refl }, refl, tt)
 
   scans : (ask : Ask) (s : scan.Scanning) (out : Option ℕ) → FromAwakeTo found ask w (after_scan w s out)
-  scans ask s None = (tt, refl, tt)
-  scans ask s (Some words) = works ask (scan.held_at s.held s.stage) words
+  scans ask s out = grind arith
 
   shades : (ask : Ask) (sh : shade.Shading) (out : Option Shaded) → FromAwakeTo found ask w (after_shade w sh out)
-  shades ask sh None = (tt, refl, tt)
-  shades ask sh (Some shaded.Done) = works ask sh.held 1
-  shades ask sh (Some shaded.WantsRoom) = (tt, refl, tt)
+  shades ask sh out = grind arith
 
   finds_room : (ask : Ask) (sh : shade.Shading) (r : room.RoomFinding) (out : Option Held) → FromAwakeTo found ask w (after_room w sh r out)
-  finds_room ask sh r None = (tt, refl, tt)
-  finds_room ask sh r (Some h) = (tt, refl, tt)
+  finds_room ask sh r out = grind arith
 
   either : (ask : Ask) (b : Bool) (one other : Working) → FromAwakeTo found ask w one → FromAwakeTo found ask w other → FromAwakeTo found ask w (cond b one other)
-  either ask true one other f g = f
-  either ask false one other f g = g
+  either ask b one other f g = grind arith
 
   pages : (ask : Ask) (word : PageWord) → FromAwakeTo found ask w (after_page w word)
-  pages ask (Head h) = either ask _ (at_stage w (Sweeping (sweep.opening w.layout w.page h))) (page_done w) (tt, refl, tt) (tt, refl, tt)
-  pages ask Free = (tt, refl, tt)
-  pages ask (Body b) = (tt, refl, tt)
+  pages ask word = grind arith
 
   sweeps : (ask : Ask) (sw : sweep.Sweeping) (out : Option SweepEnd) → FromAwakeTo found ask w (after_sweep w sw out)
-  sweeps ask sw None = (tt, refl, tt)
-  sweeps ask sw (Some end) = (tt, refl, tt)
+  sweeps ask sw out = grind arith
 
   at_either : (ask : Ask) (b : Bool) (one other : WorkerStage) → FromAwakeTo found ask w (at_stage w one) → FromAwakeTo found ask w (at_stage w other) → FromAwakeTo found ask w (at_stage w (cond b one other))
-  at_either ask true one other f g = f
-  at_either ask false one other f g = g
+  at_either ask b one other f g = grind arith
 
   -- what it has scanned is handed over at a stop
   earns : (x : earn.Earning) (stops : ℕ) (held : Option Held) → w.held ≡ held → Goes found w (EarningAtStop x stops) (handed_over w (gives_back w stops held))
-  earns x stops None none = (record { seat_is = refl; busy = refl; none = none; handed = refl }, (refl, earn_quiet x x.stage, inr refl))
-  earns x stops (Some h) some = (refl, (refl, earn_quiet x x.stage, inl refl))
+  earns x stops held none = grind arith
 
   -- the buffer is given back
   gives : (q : MarkingIsQuiet) (g : give.BufferGiving) (stops : ℕ) (out : Option (Unit {0})) → w.scan_work ≡ 0 → Goes found w (GiveBack g stops) (after_give w (give.goes g found) stops out)
@@ -97,30 +78,12 @@ module _ (found : ℕ) (w : Working) where
 
   -- it goes on after the stop
   module _ (h : ResumesInHandshake) (r : resume.Resuming) (s : GoesOnWithNone w.seat w.held w.scan_work r) where
-    goes_so : StageGoes found (resumes.party_of r) (resumes.stage_of r) (resume.asks r) (resumes.party_of (resume.goes r found)) (resumes.stage_of (resume.goes r found))
-    goes_so = h.keeps.goes r found tt s.busy
-
-    ends_so : (out : Resumed) → resume.gives r found ≡ Some out → Goes found w (Resuming r) (record w { view = out.view; stage = LoadPhase })
-    ends_so out e =
-        let last = h.ends r found out e in
-        let seat : (resume.goes r found).seat ≡ w.seat = h.seat_stays r found ∙ s.seat_is in
-        (tt, rw (← seat, ← last.0, ← last.1) goes_so)
-
     goes_on : (out : Option Resumed) → resume.gives r found ≡ out → Goes found w (Resuming r) (after_resume w (resume.goes r found) out)
-    goes_on None e = (record { seat_is = h.seat_stays r found ∙ s.seat_is; busy = ap is_none e; none = s.none; handed = s.handed }, goes_so)
-    goes_on (Some out) e = ends_so out e
+    goes_on out e = grind arith
 
 -- a sweep writes no word of the handshake
 sweep_quiet : (sw : sweep.Sweeping) (p : SweepStage) → IsQuietInHandshake (sweep.asks_at sw p)
-sweep_quiet sw sweeping.Begin = tt
-sweep_quiet sw (sweeping.LoadMarks i) = tt
-sweep_quiet sw (sweeping.ClearBits i marks) = tt
-sweep_quiet sw (sweeping.ClearMarks i) = tt
-sweep_quiet sw sweeping.AddTally = tt
-sweep_quiet sw sweeping.AddLive = tt
-sweep_quiet sw sweeping.AddHeap = tt
-sweep_quiet sw sweeping.Finish = tt
-sweep_quiet sw (sweeping.Ended end) = tt
+sweep_quiet sw p = grind arith
 
 awakes : (found : ℕ) (w to : Working) (ask : Ask) → IsQuietInHandshake ask → FromAwakeTo found ask w to → Sound to × StageGoes found (record { seat = w.seat; view = w.view }) Awake ask (party_of to) (stage_of to)
 awakes found w to ask q f = (f.0, (f.1, q, f.2))

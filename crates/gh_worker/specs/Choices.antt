@@ -1,20 +1,14 @@
 -- What holds of either of two stages holds of the one that a worker goes on at.
-use Rattle.std.specs.Prelude.{◌≡◌, ℕ, Bool, true, false, cond, ◌==◌, Option, refl}
-use Rattle.std.proofs.Common.{eqb-true}
+use Rattle.std.specs.Prelude.{◌≡◌, ℕ, Option}
+use Rattle.std.proofs.Common.{arith}
 use Rattle.gh_credit.specs.Earning as earn
 use Rattle.gh_worker.specs.Listing.{gives_back, stops_at, with_work, Working}
 use Rattle.gh_worker.specs.Vocabulary.{Earning, EarningAtStop, Held, Layout, LoadPhase, WorkerStage}
 
 -- with so many words scanned and not handed over
 pub by_work : (P : WorkerStage → Type 0) (l : Layout) (scan_work : ℕ) → P LoadPhase → P (Earning (earn.opening l scan_work)) → P (with_work l scan_work)
-by_work P l scan_work one other = by _ where
-  by : (b : Bool) → P (cond b LoadPhase (Earning (earn.opening l scan_work)))
-  by true = one
-  by false = other
+by_work P l scan_work one other = grind arith
 
 -- at a stop
 pub by_stop : (P : WorkerStage → Type 0) (w : Working) (stops : ℕ) (held : Option Held) → (w.scan_work ≡ 0 → P (gives_back w stops held)) → P (EarningAtStop (earn.opening w.layout w.scan_work) stops) → P (stops_at w stops held)
-by_stop P w stops held one other = by (w.scan_work == 0) refl where
-  by : (b : Bool) → (w.scan_work == 0) ≡ b → P (cond b (gives_back w stops held) (EarningAtStop (earn.opening w.layout w.scan_work) stops))
-  by true e = one (eqb-true _ _ e)
-  by false e = other
+by_stop P w stops held one other = grind arith

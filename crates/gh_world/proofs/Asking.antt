@@ -8,7 +8,6 @@ use Rattle.std.proofs.lemmas.List.Elements.{filter-append}
 use Rattle.std.proofs.lemmas.List.{length-append}
 use Rattle.gh_world.specs.Vocabulary.{statements_of, Stmt, work_at}
 use Rattle.gh_base.specs.declared.operation.Op.TheVariants as op
-use Rattle.gh_script.specs.declared.statement.Stmt.TheVariants as stmts
 use Rattle.gh_script.specs.Program.{statement_as_op}
 use Rattle.gh_lists.specs.Processors.{asked_by, asks_collector}
 use Rattle.gh_world.specs.Turns.{count_of, is_of_seat, is_statement_of, round_of, turn_of}
@@ -35,16 +34,10 @@ asked_append : (g : ℕ) (xs ys : List Op) → asked_among g (xs ++ ys) ≡ aske
 asked_append g xs ys = ap length (filter-append (asks g) xs ys) ∙ length-append (filter (asks g) xs) (filter (asks g) ys)
 
 asked_one : (g : ℕ) (o : Op) → asked_among g (o ∷ []) ≡ one_if (asks g o)
-asked_one g o = go (asks g o) where
-  go : (b : Bool) → length (cond b (o ∷ []) []) ≡ one_if b
-  go true = refl
-  go false = refl
+asked_one g o = grind arith
 
 asked_more : (g : ℕ) (o : Op) (os : List Op) → asked_among g (o ∷ os) ≡ one_if (asks g o) + asked_among g os
-asked_more g o os = go (asks g o) where
-  go : (b : Bool) → length (cond b (o ∷ filter (asks g) os) (filter (asks g) os)) ≡ one_if b + length (filter (asks g) os)
-  go true = omega arith
-  go false = omega arith
+asked_more g o os = grind arith
 
 asked_reverse : (g : ℕ) (os : List Op) → asked_among g (reverse os) ≡ asked_among g os
 asked_reverse g [] = refl
@@ -59,26 +52,14 @@ asked_begun g (e ∷ es) = go e.begun (asked_begun g es) where
   go None ih = omega (arith, ih)
   go (Some o) ih = omega (arith, asked_more g o (begun_in es), ih)
 
--- who asks is a statement of the goroutine
-asks_mine : (g : ℕ) (o : Op) → asks g o ≡ true → is_statement_of g o ≡ true
-asks_mine g (op.New h d t) e = e
-asks_mine g (op.Gc h) e = e
-asks_mine g _ e = absurd cc
-
 asked_mine : (g : ℕ) (os : List Op) → asked_among g os ≡ asked_among g (filter (is_statement_of g) os)
 asked_mine g [] = refl
 asked_mine g (o ∷ os) = go (is_statement_of g o) refl (asked_mine g os) where
   go : (b : Bool) → is_statement_of g o ≡ b → asked_among g os ≡ asked_among g (filter (is_statement_of g) os) → asked_among g (o ∷ os) ≡ asked_among g (cond b (o ∷ filter (is_statement_of g) os) (filter (is_statement_of g) os))
-  go true e ih = omega (arith, asked_more g o os, asked_more g o (filter (is_statement_of g) os), ih)
-  go false e ih = by (asks g o) refl where
-    by : (c : Bool) → asks g o ≡ c → asked_among g (o ∷ os) ≡ asked_among g (filter (is_statement_of g) os)
-    by true f = absurd (let t = asks_mine g o f in let no : true ≡ false = sym t ∙ e in cc)
-    by false f = let none : one_if (asks g o) ≡ 0 = ap one_if f in omega (arith, asked_more g o os, none, ih)
+  go b e ih = grind arith
 
 asks_is : (g : ℕ) (s : Stmt) → asks g (statement_as_op g s) ≡ may_ask s
-asks_is g (stmts.New d t) = eq-eqb g g refl
-asks_is g stmts.Gc = eq-eqb g g refl
-asks_is g _ = refl
+asks_is g s = grind arith
 
 asked_map : (g : ℕ) (ss : List Stmt) → asked_among g (map (statement_as_op g) ss) ≡ wishes_among ss
 asked_map g [] = refl
@@ -114,22 +95,16 @@ ended_among g [] = false
 ended_among g (o ∷ os) = ends (Some o) g || ended_among g os
 
 or_assoc : (a b c : Bool) → ((a || b) || c) ≡ (a || (b || c))
-or_assoc true b c = refl
-or_assoc false b c = refl
+or_assoc a b c = grind arith
 
 or_right : (a b : Bool) → b ≡ true → (a || b) ≡ true
-or_right true b e = refl
-or_right false b e = e
+or_right a b e = grind arith
 
 or_false : (a : Bool) → (a || false) ≡ a
-or_false true = refl
-or_false false = refl
+or_false a = grind arith
 
 or_swap : (a b : Bool) → (a || (b || false)) ≡ (b || a)
-or_swap true true = refl
-or_swap true false = refl
-or_swap false true = refl
-or_swap false false = refl
+or_swap a b = grind arith
 
 ended_append : (g : ℕ) (xs ys : List Op) → ended_among g (xs ++ ys) ≡ (ended_among g xs || ended_among g ys)
 ended_append g [] ys = refl
@@ -174,8 +149,7 @@ module _ (p : Program) (a g : ℕ) (there : g < length p.goroutines) (its : is_o
 
   -- where the leave is what comes next, it has ended
   pub ended_then : (es : List (Entry Op)) → turns_of p a ≡ reverse (begun_in es) ++ op.Leave ∷ [] → ended_in es g ≡ true
-  ended_then es turns =
-      ended_begun g es ∙ sym (ended_reverse g (begun_in es)) ∙ sym (or_false (ended_among g (reverse (begun_in es)))) ∙ sym (ended_append g (reverse (begun_in es)) (op.Leave ∷ [])) ∙ ap (ended_among g) (sym turns) ∙ turns_end
+  ended_then es turns = grind (arith, ended_append, ended_begun, ended_reverse, or_false, turns_end)
 
 pub all_then : (p : Program) (z : Arena) (a : ℕ) (es : List (Entry Op)) → ((g : ℕ) → eqb (z.seat_of g) a ≡ is_of_seat p a g) → (n : ℕ) → n ≤ length p.goroutines → turns_of p a ≡ reverse (begun_in es) ++ op.Leave ∷ [] → all_ended z a es n ≡ true
 all_then p z a es seats zero le turns = refl

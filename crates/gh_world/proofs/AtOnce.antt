@@ -1,5 +1,5 @@
 -- An operation of one step that is begun and ended at once.
-use Rattle.std.proofs.Common.{◌≡◌, ℕ, Bool, true, false, List, refl, sym, subst, ◌∙◌, ap, Some}
+use Rattle.std.proofs.Common.{◌≡◌, ℕ, Bool, true, false, List, refl, sym, subst, ◌∙◌, ap, Some, arith}
 use Rattle.gh_base.specs.declared.operation.Op.TheVariants as op
 use Rattle.gh_mutator.specs.Mutating.{asks, begins, goes}
 use Rattle.gh_mutator.specs.PollRoom.{PollsMakeRoom}
@@ -12,8 +12,7 @@ use Rattle.gh_world.proofs.Fitting.{busy_begun, fit_begun}
 
 -- a poll is the point of no statement
 pub polls_no_point : (b : Bool) → false ≡ is_point (acting b op.Poll false)
-polls_no_point true = refl
-polls_no_point false = refl
+polls_no_point b = grind arith
 
 -- an operation that is begun, and the step behind that, where the layout is the processor's own
 pub begun_then : (p : Program) (j : Layout) (a : ℕ) (before behind : List ℕ) (x y z : Runner) (happened : Event) (pointed : Bool) → Begins p a x y → FitTurns p j a y.mutator y.progress → is_busy_at y.mutator.processor.task ≡ true → InRange y.mutator.processor.poll.layout (cell_of (asks y.mutator)) →

@@ -1,5 +1,5 @@
 -- The words of credit that the processors of a world have drawn: no other actor has drawn any.
-use Rattle.std.proofs.Common.{◌≡◌, ℕ, zero, suc, ◌+◌, ◌-◌, ◌≤◌, length, refl, ap, ◌∙◌, arith, Option, Some, None}
+use Rattle.std.proofs.Common.{◌≡◌, ℕ, zero, suc, ◌+◌, ◌-◌, ◌≤◌, length, ap, ◌∙◌, arith, Option}
 use Rattle.std.specs.Prelude.{slice_get}
 use Rattle.gh_coord.specs.Listing as coord
 use Rattle.gh_worker.specs.Listing as worker
@@ -18,8 +18,7 @@ total_more f n (suc k) none =
     ap (total f) is ∙ omega (arith, last, rest)
 
 none_other : (c : coord.Coordinating) (o : Option worker.Working) → spent_at (worker_or c o) ≡ 0
-none_other c (Some w) = refl
-none_other c None = refl
+none_other c o = grind arith
 
 pub drawn_all : (w : State) → drawn_of w ≡ spent_among (actor_of w) (length w.runners)
 drawn_all w =

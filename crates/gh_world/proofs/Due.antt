@@ -1,20 +1,19 @@
 -- What is due in a world's turns may begin: it is in range, there is a name for what it makes, and its goroutine goes on.
-use Rattle.std.proofs.Common.{◌≡◌, ℕ, ◌+◌, ◌<◌, ◌≤◌, Bool, true, false, ltb, ◌&&◌, List, [], length, refl, sym, ◌∙◌, ap, subst, Option, Some, None, arith}
+use Rattle.std.proofs.Common.{◌≡◌, ℕ, ◌+◌, ◌<◌, ◌≤◌, Bool, true, false, ltb, ◌&&◌, List, [], length, refl, subst, Option, Some, None, arith}
 use Rattle.std.specs.Prelude.{slice_get}
 use Rattle.std.proofs.lemmas.Bool.Decides.{nat_tests}
-use Rattle.std.proofs.lemmas.Bool.{lt-ltb, eqb-true}
+use Rattle.std.proofs.lemmas.Bool.{lt-ltb}
 use Rattle.std.proofs.lemmas.List.Elements.{All-get_or}
 use Rattle.std.proofs.lemmas.Option.{get_or_from_slice_get}
-use Rattle.gh_world.specs.Vocabulary.{Op, Shape, Layout, Entry, IsLayoutOf, bit, Stmt, Program, no_goroutine, statements_of, WellFormed, Processor, Task, Idle, Next, most_objects, has_names, is_statement, is_leaving, has_left_at, work_at, work_of, is_busy_at, made_by}
+use Rattle.gh_world.specs.Vocabulary.{Op, Shape, Layout, Entry, IsLayoutOf, bit, Stmt, Program, no_goroutine, statements_of, WellFormed, Processor, Task, Next, most_objects, has_names, is_statement, is_leaving, has_left_at, work_at, work_of, is_busy_at}
 use Rattle.gh_base.specs.declared.operation.Op.TheVariants as op
-use Rattle.gh_script.specs.declared.statement.Stmt.TheVariants.{New, Store, GetGlobal, SetGlobal, Int, Nil, Gc}
 use Rattle.gh_script.specs.Program.{goroutine_at as goroutine_there, statement_as_op, IsStatement, AreStatements}
 use Rattle.gh_world.specs.declared.turns.Next.TheVariants as next
 use Rattle.gh_lists.specs.Order.{in_range, goroutine_of, goroutine_is_over, ends, ended_in, leaves}
 use Rattle.gh_mutator.specs.Sound.{SoundOp}
 use Rattle.gh_world.specs.Turns.{count_of, total_of, to_come, Stands, MayBeOver, IsPast, leave_is_begun, op_due, is_leave, its_goroutine, statements_among}
 use Rattle.gh_world.specs.World.{MadeAtMost}
-use Rattle.gh_world.proofs.Turning.{goroutine_is, has_statement}
+use Rattle.gh_world.proofs.Turning.{has_statement}
 
 -- an operation that is in range of the layout
 pub record Runs (shapes : List Shape) (l : Layout) (o : Op) : Type 0 where
@@ -22,19 +21,10 @@ pub record Runs (shapes : List Shape) (l : Layout) (o : Op) : Type 0 where
   pub ranged : in_range l.goroutines l.globals (length shapes) o ≡ true
 
 pub both_true : (a b : Bool) → a ≡ true → b ≡ true → (a && b) ≡ true
-both_true true true e f = refl
-both_true true false e f = f
-both_true false b e f = e
+both_true a b e f = grind arith
 
 statement_runs : (p : Program) (l : Layout) (g : ℕ) (s : Stmt) → IsStatement p.settings.globals (length p.shapes) s → g < 32 → g < l.goroutines → l.globals ≡ p.settings.globals → Runs p.shapes l (statement_as_op g s)
-statement_runs p l g (New d t) h few gs k = record { sound = ((few, h.0), h.1); ranged = both_true _ _ (both_true _ _ (lt-ltb _ _ gs) (lt-ltb _ _ h.0)) (lt-ltb _ _ h.1) }
-statement_runs p l g (Store b x v) h few gs k = record { sound = ((few, h.0), h.2); ranged = both_true _ _ (both_true _ _ (lt-ltb _ _ gs) (lt-ltb _ _ h.0)) (lt-ltb _ _ h.2) }
-statement_runs p l g (GetGlobal d x) h few gs k = let there : x < l.globals = omega (arith, h.1) in record { sound = ((few, h.0), there); ranged = both_true _ _ (both_true _ _ (lt-ltb _ _ gs) (lt-ltb _ _ h.0)) (lt-ltb _ _ there) }
-statement_runs p l g (SetGlobal x v) h few gs k = let there : x < l.globals = omega (arith, h.0) in record { sound = ((few, h.1), there); ranged = both_true _ _ (both_true _ _ (lt-ltb _ _ gs) (lt-ltb _ _ there)) (lt-ltb _ _ h.1) }
-statement_runs p l g (Int d x) h few gs k = record { sound = (few, h.0); ranged = both_true _ _ (lt-ltb _ _ gs) (lt-ltb _ _ h.0) }
-statement_runs p l g (Nil d) h few gs k = record { sound = (few, h); ranged = both_true _ _ (lt-ltb _ _ gs) (lt-ltb _ _ h) }
-statement_runs p l g Gc h few gs k = record { sound = tt; ranged = lt-ltb _ _ gs }
-statement_runs p l g _ h few gs k = record { sound = ((few, h.0), h.1); ranged = both_true _ _ (both_true _ _ (lt-ltb _ _ gs) (lt-ltb _ _ h.0)) (lt-ltb _ _ h.1) }
+statement_runs p l g s h few gs k = grind (arith, nat_tests)
 
 -- the statements of a goroutine are those of a script
 are_statements : (p : Program) (g : ℕ) → g < length p.goroutines → WellFormed p → AreStatements p.settings.globals (length p.shapes) (goroutine_there p g)
@@ -55,71 +45,43 @@ module _ (p : Program) (l : Layout) (r : WellFormed p) (lay : IsLayoutOf p.setti
 
   -- what is due is in range
   pub due_runs : (a : ℕ) (t : Next) (o : Op) → Stands p a t → op_due p t ≡ Some o → Runs p.shapes l o
-  due_runs a (next.Poll n g) o h e = let same : op.Poll ≡ o = cc in subst (Runs p.shapes l) same (record { sound = tt; ranged = refl })
-  due_runs a (next.Run n g) o h e = let same : work_of p n g ≡ o = cc in subst (Runs p.shapes l) same (work_runs g n (slice_get (statements_of p g) n) h.there refl)
-  due_runs a next.Leave o h e = let same : op.Leave ≡ o = cc in subst (Runs p.shapes l) same (record { sound = tt; ranged = refl })
-  due_runs a next.Over o h e = absurd cc
+  due_runs a t o h e = grind (arith, work_runs)
 
 -- a statement that is due is one of a goroutine that there is
 pub due_goroutine : (p : Program) (a : ℕ) (t : Next) (o : Op) → WellFormed p → Stands p a t → op_due p t ≡ Some o → is_statement o ≡ true → its_goroutine o < 32
-due_goroutine p a (next.Poll n g) o r h e sure = absurd (let same : op.Poll ≡ o = cc in let no : false ≡ is_statement o = ap is_statement same in cc)
-due_goroutine p a (next.Run n g) o r h e sure = go (slice_get (statements_of p g) n) e where
-  go : (s : Option Stmt) → Some (work_at g s) ≡ Some o → its_goroutine o < 32
-  go None q = absurd (let same : op.End g ≡ o = cc in let no : false ≡ is_statement o = ap is_statement same in cc)
-  go (Some s) q =
-      let same : statement_as_op g s ≡ o = cc in
-      let is : its_goroutine o ≡ g = ap its_goroutine (sym same) ∙ goroutine_is g s in
-      omega (arith, is, h.there, r.few_goroutines)
-due_goroutine p a next.Leave o r h e sure = absurd (let same : op.Leave ≡ o = cc in let no : false ≡ is_statement o = ap is_statement same in cc)
-due_goroutine p a next.Over o r h e sure = absurd cc
+due_goroutine p a t o r h e sure = grind arith
 
 -- there is a name for an object that is made by this operation
 pub has_name_at : (m : Processor) (n : ℕ) (o : Op) → MadeAtMost n m → (is_statement o ≡ true → n < most_objects) → has_names m o ≡ true
-has_name_at m n (op.New g d t) made lt = let few = made g in let below = lt refl in lt-ltb (made_by m g) most_objects (omega arith)
-has_name_at m n _ made lt = refl
+has_name_at m n o made lt = grind arith
 
 pub false_unless : (b : Bool) → (b ≡ true → ⊥) → b ≡ false
-false_unless true h = absurd (h refl)
-false_unless false h = refl
+false_unless b h = grind arith
 
 not_past_here : (p : Program) (n g : ℕ) → n ≤ count_of p g → IsPast p n g g → ⊥
 not_past_here p n g h past = let never : ltb g g ≡ false = grind (arith, nat_tests) in let q : count_of p g < n + bit false = subst (λ (b : Bool). count_of p g < n + bit b) never past in omega (arith, q, h)
 
 pub work_goroutine : (g : ℕ) (s : Option Stmt) → goroutine_of (work_at g s) ≡ Some g
-work_goroutine g None = refl
-work_goroutine g (Some Gc) = refl
-work_goroutine g _ = refl
+work_goroutine g s = grind arith
 
 -- its goroutine has not ended
 pub not_ended : (p : Program) (a : ℕ) (t : Next) (o : Op) (es : List (Entry Op)) → Stands p a t → op_due p t ≡ Some o → ((g : ℕ) → ended_in es g ≡ true → MayBeOver p t g) → goroutine_is_over es (goroutine_of o) ≡ false
-not_ended p a (next.Poll n g) o es h e over = let same : op.Poll ≡ o = cc in ap (λ (x : Op). goroutine_is_over es (goroutine_of x)) (sym same)
-not_ended p a (next.Run n g) o es h e over =
-    let same : work_of p n g ≡ o = cc in
-    ap (λ (x : Op). goroutine_is_over es (goroutine_of x)) (sym same) ∙ ap (goroutine_is_over es) (work_goroutine g (slice_get (statements_of p g) n)) ∙ false_unless (ended_in es g) (λ t. not_past_here p n g h.going (over g t))
-not_ended p a next.Leave o es h e over = let same : op.Leave ≡ o = cc in ap (λ (x : Op). goroutine_is_over es (goroutine_of x)) (sym same)
-not_ended p a next.Over o es h e over = absurd cc
+not_ended p a t o es h e over = grind (arith, false_unless, not_past_here, work_goroutine)
 
 pub not_over : (p : Program) (t : Next) (o : Op) → op_due p t ≡ Some o → leave_is_begun t ≡ true → ⊥
-not_over p (next.Poll n g) o e h = absurd cc
-not_over p _ o e h = absurd cc
+not_over p t o e h = grind arith
 
 pub due_statement : (p : Program) (a : ℕ) (t : Next) (o : Op) → op_due p t ≡ Some o → is_statement o ≡ true → 1 ≤ statements_among (to_come p a t)
-due_statement p a (next.Poll n g) o e sure = absurd (let same : op.Poll ≡ o = cc in let no : false ≡ is_statement o = ap is_statement same in cc)
-due_statement p a (next.Run n g) o e sure = let same : work_of p n g ≡ o = cc in let one : bit (is_statement (work_of p n g)) ≡ 1 = ap bit (ap is_statement same ∙ sure) in omega (arith, one)
-due_statement p a next.Leave o e sure = absurd (let same : op.Leave ≡ o = cc in let no : false ≡ is_statement o = ap is_statement same in cc)
-due_statement p a next.Over o e sure = absurd cc
+due_statement p a t o e sure = grind arith
 
 pub ends_is : (o : Op) (g : ℕ) → ends (Some o) g ≡ true → o ≡ op.End g
-ends_is (op.End h) g e = ap op.End (eqb-true h g e)
-ends_is _ g e = absurd cc
+ends_is o g e = grind arith
 
 pub leaves_is : (o : Op) → leaves (Some o) ≡ is_leave o
-leaves_is (op.End h) = refl
-leaves_is _ = refl
+leaves_is o = grind arith
 
 pub idle_not_leaving : (t : Task) → is_busy_at t ≡ false → has_left_at t ≡ false → is_leaving t ≡ false
-idle_not_leaving Idle h k = refl
-idle_not_leaving _ h k = absurd (cc)
+idle_not_leaving t h k = grind arith
 
 pub has_due : (p : Program) (t : Next) → leave_is_begun t ≡ false → (o : Op) × (op_due p t ≡ Some o)
 has_due p (next.Poll n g) h = (op.Poll, refl)
@@ -129,12 +91,7 @@ has_due p next.Over h = absurd cc
 
 -- where nothing is due, nothing is to come
 pub none_due : (p : Program) (a : ℕ) (t : Next) → op_due p t ≡ None → to_come p a t ≡ []
-none_due p a (next.Poll r g) e = absurd cc
-none_due p a (next.Run r g) e = absurd cc
-none_due p a next.Leave e = absurd cc
-none_due p a next.Over e = refl
+none_due p a t e = grind arith
 
 pub none_to_come : (p : Program) (a : ℕ) (t : Next) → leave_is_begun t ≡ true → to_come p a t ≡ []
-none_to_come p a (next.Poll r g) e = absurd cc
-none_to_come p a next.Over e = refl
-none_to_come p a _ e = absurd cc
+none_to_come p a t e = grind arith

@@ -3,7 +3,7 @@ use Rattle.std.proofs.Common.{◌≡◌, ℕ, zero, suc, ◌+◌, ◌<◌, ◌�
 use Rattle.std.specs.Prelude.{slice_get}
 use Rattle.std.specs.List.{filter, flat_map, range_with_len}
 use Rattle.std.specs.Option.{option_to_list}
-use Rattle.std.proofs.lemmas.Bool.{leb-false, eq-eqb, eqb-false, eqb-true, cases_lt}
+use Rattle.std.proofs.lemmas.Bool.{leb-false, eq-eqb, cases_lt}
 use Rattle.std.proofs.lemmas.Bool.Decides.{nat_tests}
 use Rattle.std.proofs.lemmas.List.{append-nil, drop_all, drop_more, get_or_past}
 use Rattle.std.proofs.lemmas.List.Elements.{filter-append}
@@ -13,7 +13,7 @@ use Rattle.gh_base.specs.declared.operation.Op.TheVariants as op
 use Rattle.gh_script.specs.declared.statement.Stmt.TheVariants as stmts
 use Rattle.gh_script.specs.Program.{Goroutine, statement_as_op}
 use Rattle.gh_lists.specs.Order.{Answered}
-use Rattle.gh_world.specs.Turns.{count_of, has_turn, is_of_seat, total_of, turn_of, round_of, turns_of, answers_to, its_goroutine, is_statement_of}
+use Rattle.gh_world.specs.Turns.{count_of, is_of_seat, total_of, turn_of, round_of, turns_of, answers_to, its_goroutine, is_statement_of}
 use Rattle.gh_world.specs.Runs.{acted_by}
 use Rattle.gh_world.proofs.Turning.{statement_is, goroutine_is, has_statement, count-le}
 
@@ -34,11 +34,6 @@ module _ (p : Program) (g : ℕ) where
   mine_is : (s : Stmt) → is_statement_of g (statement_as_op g s) ≡ true
   mine_is s = ap (λ (b : Bool). b && eqb (its_goroutine (statement_as_op g s)) g) (statement_is g s) ∙ ap (λ (h : ℕ). eqb h g) (goroutine_is g s) ∙ eq-eqb g g refl
 
-  not_mine : (h : ℕ) (s : Stmt) → (h ≡ g → ⊥) → is_statement_of g (statement_as_op h s) ≡ false
-  not_mine h s ne =
-      let apart : eqb h g ≡ false = grind (arith, nat_tests) in
-      ap (λ (b : Bool). b && eqb (its_goroutine (statement_as_op h s)) g) (statement_is h s) ∙ ap (λ (k : ℕ). eqb k g) (goroutine_is h s) ∙ apart
-
   -- a goroutine that there is not has no statement
   pub none_beyond : length p.goroutines ≤ g → statements_of p g ≡ []
   none_beyond le = ap (λ (x : Goroutine). x.statements) (get_or_past p.goroutines g no_goroutine le)
@@ -52,11 +47,7 @@ module _ (p : Program) (g : ℕ) where
   -- Among the turns of one processor.
   module _ (a : ℕ) where
     turn_other : (r h : ℕ) → (h ≡ g → ⊥) → mine (turn_of p a r h) ≡ []
-    turn_other r h ne = go (has_turn p a r h) (slice_get (statements_of p h) r) where
-      go : (b : Bool) (s : Option Stmt) → mine (cond b (op.Poll ∷ work_at h s ∷ []) []) ≡ []
-      go false s = refl
-      go true None = refl
-      go true (Some s) = ap (λ (b : Bool). cond b (statement_as_op h s ∷ []) []) (not_mine h s ne)
+    turn_other r h ne = grind arith
 
     -- turns in which it has no statement
     none_of : (r n h : ℕ) → ((k : ℕ) → h ≤ k → k < h + n → mine (turn_of p a r k) ≡ []) → mine (flat_map (turn_of p a r) (range_with_len h n)) ≡ []
@@ -90,11 +81,7 @@ module _ (p : Program) (g : ℕ) where
       ]
 
       round_mine : (r : ℕ) → mine (round_of p a r) ≡ piece (slice_get (statements_of p g) r)
-      round_mine r = elim (cases_lt g (length p.goroutines)) [
-        | inl lt ↦ here r (length p.goroutines) 0 (omega arith) (omega arith)
-        | inr le ↦ none_of r (length p.goroutines) 0 (λ k low high. turn_other r k (λ same. omega arith))
-            ∙ sym (ap (λ (xs : List Stmt). piece (slice_get xs r)) (none_beyond le) ∙ ap piece (slice_get_past [] r (omega arith)))
-      ]
+      round_mine r = grind (arith, here, none_beyond, none_of, turn_other)
 
       rounds_mine : (n r : ℕ) → count_of p g ≤ r + n → mine (flat_map (round_of p a) (range_with_len r n)) ≡ map (statement_as_op g) (drop r (statements_of p g))
       rounds_mine zero r few = ap (map (statement_as_op g)) (sym (drop_all r (statements_of p g) (omega arith)))
@@ -115,10 +102,7 @@ module _ (p : Program) (g : ℕ) where
     -- where it is of another
     module _ (others : is_of_seat p a g ≡ false) where
       turn_away : (r h : ℕ) → mine (turn_of p a r h) ≡ []
-      turn_away r h = go (eqb h g) refl where
-        go : (b : Bool) → eqb h g ≡ b → mine (turn_of p a r h) ≡ []
-        go false ne = turn_other r h (eqb-false h g ne)
-        go true e = ap (λ (k : ℕ). mine (turn_of p a r k)) (eqb-true h g e) ∙ ap (λ (b : Bool). mine (cond (b && leb r (count_of p g)) (op.Poll ∷ work_at g (slice_get (statements_of p g) r) ∷ []) [])) others
+      turn_away r h = grind (arith, nat_tests)
 
       rounds_away : (n r : ℕ) → mine (flat_map (round_of p a) (range_with_len r n)) ≡ []
       rounds_away zero r = refl
@@ -151,6 +135,4 @@ module _ (p : Program) (g : ℕ) where
   acted_answers [] = refl
   acted_answers (x ∷ xs) = go (is_statement x.op) (eqb (its_goroutine x.op) g) refl (acted_answers xs) where
     go : (b c : Bool) → eqb (its_goroutine x.op) g ≡ c → map (λ (a : Answered). a.answer) (acted_by g xs) ≡ answers_by g (rest_of xs) → map (λ (a : Answered). a.answer) (cond (b && c) (x ∷ acted_by g xs) (acted_by g xs)) ≡ answers_by g (cond b ((its_goroutine x.op, x.answer) ∷ []) [] ++ rest_of xs)
-    go false c e ih = ih
-    go true true e ih = ap (λ (as' : List Answer). x.answer ∷ as') ih ∙ ap (λ (d : Bool). cond d (x.answer ∷ []) [] ++ answers_by g (rest_of xs)) (sym e)
-    go true false e ih = ih ∙ ap (λ (d : Bool). cond d (x.answer ∷ []) [] ++ answers_by g (rest_of xs)) (sym e)
+    go b c e ih = grind arith

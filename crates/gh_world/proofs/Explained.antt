@@ -1,15 +1,3 @@
 pub mod Steps
 pub mod Acted
 pub mod Seats
-pub mod Told
-pub mod Answers
-pub mod Known
-pub mod Acting
-pub mod NoRoom
-pub mod Swept
-pub mod Cycles
-pub mod Live
-pub mod Last
-pub mod Beyond
-pub mod Totals
-pub mod Top

@@ -1,11 +1,10 @@
 -- What a world keeps, whichever list it is the state of: once an operation is begun, after a step, and as it opens.
-use Rattle.std.proofs.Common.{◌≡◌, ℕ, ◌+◌, ◌^◌, ◌<◌, ◌≤◌, Bool, true, false, cond, List, length, replicate, get_or, slice_index, length-set, refl, sym, ◌∙◌, ap, subst, Option, Some, None, arith}
+use Rattle.std.proofs.Common.{◌≡◌, ℕ, ◌+◌, ◌^◌, ◌<◌, ◌≤◌, Bool, true, false, cond, List, length, replicate, get_or, slice_index, length-set, refl, sym, ◌∙◌, ap, subst, Option, Some, arith}
 use Rattle.std.specs.Prelude.{sum_by}
 use Rattle.std.proofs.lemmas.List.Sums.{sum_by-set}
-use Rattle.gh_mutator.specs.PollRoom.{HasRoomToStore, PollsMakeRoom}
+use Rattle.gh_mutator.specs.PollRoom.{PollsMakeRoom}
 use Rattle.gh_mutator.specs.Sound.{has_room, SoundOp}
 use Rattle.gh_world.specs.Turns.{is_poll_due, is_run_due, Stands, total_by}
-use Rattle.gh_world.specs.declared.turns.Next.TheVariants as next
 use Rattle.gh_base.specs.declared.operation.Op.TheVariants as op
 use Rattle.gh_base.specs.declared.cell.Req.{Req}
 use Rattle.gh_coord.specs.Stays.{cycle_room_stays, stays as coord_stays}
@@ -21,7 +20,7 @@ use Rattle.gh_world.proofs.Turning.{opens_at, total_by-le, totals-le, turns_say}
 use Rattle.gh_world.proofs.Runners.{each_set, sum_at, sum_each}
 use Rattle.gh_mutator.specs.Mutating as mutating
 use Rattle.gh_mutator.specs.Stays.{stays}
-use Rattle.gh_world.proofs.Due.{due_goroutine, due_runs, due_statement, few_statements, has_due, has_name_at, idle_not_leaving}
+use Rattle.gh_world.proofs.Due.{due_goroutine, due_runs, due_statement, few_statements, has_name_at}
 
 counts_long : (t : Progress) (o : Op) → length t.begun ≡ 32 → length (counts_after t (Some o)) ≡ 32
 counts_long t o long = go (is_statement o) where
@@ -36,38 +35,23 @@ counts_few t o few g = go (is_statement o) where
   go false = omega (arith, few g)
 
 last_few : (t : Progress) (o : Op) → t.last < 32 → (is_statement o ≡ true → its_goroutine o < 32) → last_after t (Some o) < 32
-last_few t o before new = go (is_statement o) new where
-  go : (b : Bool) → (b ≡ true → its_goroutine o < 32) → cond b (its_goroutine o) t.last < 32
-  go true h = h refl
-  go false h = before
+last_few t o before new = grind arith
 
 -- the answered statements of the machine are counted, as long as their number is not at its end
 pub marks_more : (marks : ℕ) (a : Option Answer) → marks + 1 < 2 ^ 32 → mutating.marks_after marks a ≡ marks + bit (is_some a)
-marks_more marks None few = omega arith
-marks_more marks (Some a) few = omega arith
+marks_more marks a few = grind arith
 
 -- ---- the poll before a statement
 
 -- there is room for what is due
 pub due_room : PollsMakeRoom → (p : Program) (m : Processor) (t : Next) (o : Op) → is_busy_at m.task ≡ false → op_due p t ≡ Some o → Polled t m → has_room m o ≡ true
-due_room k p m (next.Poll r g) o idle due polled = let same : op.Poll ≡ o = cc in subst (λ (x : Op). has_room m x ≡ true) same refl
-due_room k p m (next.Run r g) o idle due polled = k.room m o idle polled
-due_room k p m next.Leave o idle due polled = let same : op.Leave ≡ o = cc in subst (λ (x : Op). has_room m x ≡ true) same refl
-due_room k p m next.Over o idle due polled = absurd (cc)
+due_room k p m t o idle due polled = grind arith
 
 pub polled_begun : PollsMakeRoom → (p : Program) (shapes : List Shape) (m : Processor) (t new : Next) (o : Op) → op_due p t ≡ Some o → is_run_due new ≡ is_poll_due t → Polled new (begins shapes m o)
-polled_begun k p shapes m t (next.Run r g) o due behind = by t due behind where
-  by : (t : Next) → op_due p t ≡ Some o → true ≡ is_poll_due t → HasRoomToStore (begins shapes m o)
-  by (next.Poll r g) due behind = let same : op.Poll ≡ o = cc in subst (λ (x : Op). HasRoomToStore (begins shapes m x)) same (k.begins shapes m)
-  by (next.Run r g) due behind = absurd (cc)
-  by _ due behind = absurd (cc)
-polled_begun k p shapes m t (next.Poll r g) o due behind = tt
-polled_begun k p shapes m t _ o due behind = tt
+polled_begun k p shapes m t new o due behind = grind arith
 
 pub polled_stepped : PollsMakeRoom → (shapes : List Shape) (m : Processor) (t : Next) (found : ℕ) → Polled t m → Polled t (takes shapes m found)
-polled_stepped k shapes m (next.Run r g) found polled = k.goes_on shapes m found polled
-polled_stepped k shapes m (next.Poll r g) found polled = tt
-polled_stepped k shapes m _ found polled = tt
+polled_stepped k shapes m t found polled = grind arith
 
 -- ---- the turns of one processor
 
@@ -155,20 +139,9 @@ module _ (p : Program) (l : Layout) (script : WellFormed p) (layout : LaysOut p 
   pub due_named : (o : Op) → op_due p t.next ≡ Some o → has_names m.processor o ≡ true
   due_named o due = has_name_at m.processor t.stated o f.made (λ sure. omega (arith, due_statement p a t.next o due sure, f.turns.all, total_by-le p a, few_statements p script))
 
-  -- where the processor has not left something is due
-  pub never_idle : has_left_at m.processor.task ≡ false → is_busy_at m.processor.task ≡ false → op_due p t.next ≡ None → ⊥
-  never_idle going idle none = never (has_due p t.next (sym f.leaves ∙ idle_not_leaving m.processor.task idle going)) where
-    never : (o : Op) × (op_due p t.next ≡ Some o) → ⊥
-    never w = let no : None ≡ Some w.0 = sym none ∙ w.1 in cc
-
   -- and so an operation is begun
   pub busy_begun : (b : Option Op) → has_left_at m.processor.task ≡ false → b ≡ op_at_turn p (is_busy_at m.processor.task) t.next → is_busy_at (begun_as m b).processor.task ≡ true
-  busy_begun b going is = go (is_busy_at m.processor.task) refl b is where
-    go : (c : Bool) → is_busy_at m.processor.task ≡ c → (b : Option Op) → b ≡ op_at_turn p c t.next → is_busy_at (begun_as m b).processor.task ≡ true
-    go true busy None e = busy
-    go true busy (Some o) e = absurd cc
-    go false idle (Some o) e = begun_busy o (sym e)
-    go false idle None e = absurd (never_idle going idle (sym e))
+  busy_begun b going is = grind arith
 
   -- ---- the points
 
@@ -177,15 +150,7 @@ module _ (p : Program) (l : Layout) (script : WellFormed p) (layout : LaysOut p 
 
   -- a statement that begins has its point to come
   pub owes_begun : (b : Option Op) → b ≡ op_at_turn p (is_busy_at m.processor.task) t.next → owes (begun_as m b) + t.stated ≤ owes m + stated_after t b
-  owes_begun None is = omega arith
-  owes_begun (Some o) is = go (is_busy_at m.processor.task) refl is where
-    go : (c : Bool) → is_busy_at m.processor.task ≡ c → Some o ≡ op_at_turn p c t.next → owes (begun_as m (Some o)) + t.stated ≤ owes m + stated_after t (Some o)
-    go true busy e = absurd cc
-    go false idle e =
-        let b : BeginFacts o (begins_at m.shapes m.processor o) = begin_facts m.shapes m.processor o (begun_busy o (sym e)) in
-        let unacted : is_unacted (op_at (begins_at m.shapes m.processor o)) ≡ is_statement o = ap is_unacted b.is in
-        let once : bit (is_unacted (op_at (begins_at m.shapes m.processor o))) ≡ bit (is_statement o) = ap bit unacted in
-        omega (arith, once)
+  owes_begun b is = grind arith
 
 -- and it comes once
 pub owes_stepped : (m : Mutating) (found : ℕ) → is_busy_at m.processor.task ≡ true → bit (is_unacted (op_at m.processor.task)) ≡ bit (is_unacted (op_at (mutating.goes m found).processor.task)) + bit (is_point (acts m.processor found))
@@ -201,10 +166,10 @@ module _ (p : Program) (l : Layout) (runners : List Runner) (points room : ℕ) 
       omega (arith, each, all)
 
   pub stated_all : stated_by runners ≤ total_of p
-  stated_all = sum_few (λ (x : Runner). x.progress.stated) (λ a x g. omega arith)
+  stated_all = grind (arith, sum_few)
 
   pub answered_all : answered_by runners ≤ total_of p
-  answered_all = sum_few (λ (x : Runner). x.mutator.marks) (λ a x g. omega (arith, g.marked))
+  answered_all = grind (arith, sum_few)
 
   module _ (a : ℕ) (x y : Runner) (is : slice_get runners a ≡ Some x) (fits : FitTurns p l a y.mutator y.progress) where
     changed_sum : (h : Runner → ℕ) → sum_by h (set runners a y) + h x ≡ sum_by h runners + h y
@@ -225,12 +190,7 @@ module _ (p : Program) (l : Layout) (runners : List Runner) (points room : ℕ) 
 -- a step of one of them on what it has begun
 module _ (polls : PollsMakeRoom) (w : State) (points room : ℕ) (f : Fit w points room) (a : ℕ) (x y : Runner) (is : slice_get w.runners a ≡ Some x) (begins : Begins w.script a x y) (fits : FitTurns w.script w.layout a y.mutator y.progress) (busy : is_busy_at y.mutator.processor.task ≡ true) (found : ℕ) where
   owed : bit (is_point (acts y.mutator.processor found)) + bit (is_unacted (op_at (mutating.goes y.mutator found).processor.task)) + x.progress.stated ≤ bit (is_unacted (op_at x.mutator.processor.task)) + y.progress.stated
-  owed =
-      let begun = owes_begun w.script w.layout f.base.script f.base.layout a x.mutator x.progress (f.running.each a x is) begins.o begins.is in
-      let mutator : bit (is_unacted (op_at y.mutator.processor.task)) ≡ bit (is_unacted (op_at (begun_as x.mutator begins.o).processor.task)) = ap (λ (m : Mutating). bit (is_unacted (op_at m.processor.task))) begins.mutator in
-      let stated : y.progress.stated ≡ stated_after x.progress begins.o = ap (λ (t : Progress). t.stated) begins.progress in
-      let once = owes_stepped y.mutator found busy in
-      omega (arith, begun, mutator, stated, once)
+  owed = grind (arith, owes_begun, owes_stepped)
 
   pub ran : FitRunners w.script w.layout (set w.runners a (record { mutator = mutating.goes y.mutator found; progress = y.progress })) (points + bit (is_point (acts y.mutator.processor found))) room
   ran = fit_run w.script w.layout w.runners points room f.running a x (record { mutator = mutating.goes y.mutator found; progress = y.progress }) is (fit_stepped w.script w.layout f.base.script f.base.layout a y.mutator y.progress fits polls found busy) (bit (is_point (acts y.mutator.processor found))) owed
@@ -256,9 +216,7 @@ fit_opening p l a first come stands over =
     } where
       -- where nothing is begun yet marking is off, as the processor knows
       polled_opens : (l : Layout) (a : ℕ) (t : Next) → Polled t (opening_processor l a)
-      polled_opens l a (next.Run r g) = refl
-      polled_opens l a (next.Poll r g) = tt
-      polled_opens l a _ = tt
+      polled_opens l a t = grind arith
 
 pub fit_opens : (p : Program) (l : Layout) (a : ℕ) (x : Runner) → IsOpening p l a x → FitTurns p l a x.mutator x.progress
 fit_opens p l a x o =

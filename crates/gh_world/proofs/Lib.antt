@@ -18,8 +18,6 @@ pub mod Wishing
 pub mod OfScripts
 pub mod Explained
 pub mod Points
-pub mod Following
 pub mod MayBegin
-pub mod GoingOn
 pub mod Places
 pub mod AtOnce

@@ -13,7 +13,7 @@ use Rattle.gh_world.specs.Wishes.{wishes_of}
 use Rattle.gh_world.specs.World.{LaysOut, MadeAtMost}
 use Rattle.gh_world.proofs.Vocabulary.{Actor, Begins, begun_in, by, ended_in, ends, Entry, eq-eqb, Follows, has_left, has_names, is_busy_at, is_leave, is_statement, later, Layout, leave_is_begun, leaves, may_leave, MayBeOver, Next, Op, op_due, Processor, processor_kind, Program, setting_of, slice_get, state_of, statements_among, to_come, total_of, turns_of, WellFormed, ◌%◌}
 use Rattle.gh_world.proofs.Asking.{all_then, has_wish}
-use Rattle.gh_world.proofs.Due.{both_true, due_runs, due_statement, ends_is, false_unless, few_statements, has_name_at, leaves_is, not_ended, not_over, work_goroutine}
+use Rattle.gh_world.proofs.Due.{both_true, due_runs, due_statement, ends_is, false_unless, few_statements, has_name_at, not_ended, not_over}
 use Rattle.gh_world.proofs.Resting.{is_processor}
 use Rattle.gh_world.proofs.Turning.{work_no_leave}
 
@@ -27,26 +27,17 @@ ended_then p a t o new over follows before g h = go (ends (Some o) g) refl h whe
   go false e q = follows.over g (before g q)
 
 pub left_then : (p : Program) (a : ℕ) (t : Next) (o : Op) (new : Next) (gone : Bool) → Follows p a t o new → op_due p t ≡ Some o → (gone ≡ true → leave_is_begun t ≡ true) → (leaves (Some o) || gone) ≡ true → leave_is_begun new ≡ true
-left_then p a t o new gone follows due before h = go (leaves (Some o)) refl h where
-  go : (c : Bool) → leaves (Some o) ≡ c → (c || gone) ≡ true → leave_is_begun new ≡ true
-  go true e q = follows.leaves ∙ sym (leaves_is o) ∙ e
-  go false e q = absurd (not_over p t o due (before q))
+left_then p a t o new gone follows due before h = grind arith
 
 -- ---- what is due may begin
 
 not_true : (b : Bool) → b ≡ false → not b ≡ true
-not_true true e = absurd cc
-not_true false e = refl
+not_true b e = grind arith
 
 module _ (p : Program) (l : Layout) (formed : WellFormed p) (lays : LaysOut p l) (a : ℕ) where
   -- it is of a goroutine of the processor
   of_it : (t : Next) (o : Op) → Stands p a t → op_due p t ≡ Some o → is_of (arena_of p.shapes l) a (goroutine_of o) ≡ true
-  of_it (next.Poll r g) o stands due = let same : op.Poll ≡ o = cc in ap (λ (x : Op). is_of (arena_of p.shapes l) a (goroutine_of x)) (sym same)
-  of_it (next.Run r g) o stands due =
-      let same : work_of p r g ≡ o = cc in
-      ap (λ (x : Op). is_of (arena_of p.shapes l) a (goroutine_of x)) (sym same) ∙ ap (is_of (arena_of p.shapes l) a) (work_goroutine g (slice_get (statements_of p g) r)) ∙ ap (λ (n : ℕ). eqb (g % n) a) lays.procs_are ∙ stands.its
-  of_it next.Leave o stands due = let same : op.Leave ≡ o = cc in ap (λ (x : Op). is_of (arena_of p.shapes l) a (goroutine_of x)) (sym same)
-  of_it next.Over o stands due = absurd cc
+  of_it t o stands due = grind arith
 
   more_of : (es : List (Entry Op)) (o : Op) (rest : List Op) → turns_of p a ≡ reverse (begun_in es) ++ o ∷ rest → has_more (wishes_of p) es o ≡ true
   more_of es (op.New g d t) rest turns = has_wish p a g es (op.New g d t) rest turns (eq-eqb g g refl)
@@ -61,8 +52,7 @@ module _ (p : Program) (l : Layout) (formed : WellFormed p) (lays : LaysOut p l)
   come_due next.Over o due = absurd cc
 
   no_leave : (es : List (Entry Op)) (o : Op) → is_leave o ≡ false → may_leave (arena_of p.shapes l) a es o ≡ true
-  no_leave es op.Leave e = absurd cc
-  no_leave es _ e = refl
+  no_leave es o e = grind arith
 
   -- it is the leave only where each goroutine has ended
   leaves_at : (es : List (Entry Op)) (t : Next) (o : Op) → op_due p t ≡ Some o → turns_of p a ≡ reverse (begun_in es) ++ to_come p a t → may_leave (arena_of p.shapes l) a es o ≡ true

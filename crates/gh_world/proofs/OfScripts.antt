@@ -1,12 +1,16 @@
--- The lists of a script are lists of all actors, with few `new` and `gc`; so all stands after each.
+-- The lists of a script are lists of all actors, with few `new` and `gc`; so all stands after each, and there is room for their cycles.
 use Rattle.std.proofs.Common.{◌≡◌, ◌≤◌, List, ap, ◌∙◌, arith}
 use Rattle.std.specs.Prelude.{sum_by}
 use Rattle.gh_base.specs.declared.limits.TheConstants.{MOST_STATEMENTS}
 use Rattle.gh_law.specs.Below.{ShapesAreGood}
 use Rattle.gh_law.specs.Actors.{AllStands, EveryListOfActorsStands}
 use Rattle.gh_world.specs.Vocabulary.{Entry, Layout, Legal, Op, Program, WellFormed}
-use Rattle.gh_lists.specs.Wants.{total}
-use Rattle.gh_world.specs.Wishes.{wishes_in, wishes_of}
+use Rattle.gh_lists.specs.Numbers.{opened_in}
+use Rattle.gh_lists.specs.Processors.{arena_of}
+use Rattle.gh_lists.specs.Wants.{AreFew, CyclesAreFew, ProcessorsBeginFew, total}
+use Rattle.gh_mutator.specs.Deeds.{processor_kind}
+use Rattle.gh_world.specs.Vocabulary.{state_of}
+use Rattle.gh_world.specs.Wishes.{most_cycles, wishes_in, wishes_of}
 use Rattle.gh_world.specs.World.{LaysOut, setting_of, given_for, setup_of}
 use Rattle.gh_world.proofs.Wishing.{few_wishes, total_wishes}
 
@@ -22,3 +26,12 @@ module _ (p : Program) (l : Layout) (formed : WellFormed p) (out : LaysOut p l) 
 
   pub all_stand : EveryListOfActorsStands → (es : List (Entry Op)) → Legal (setting_of p l) es → AllStands (setup_of p l) es
   all_stand every es legal = every (given_for p l) es (shapes_good p formed) l.limits few_in_all legal
+
+  module _ (few : CyclesAreFew) (begins_few : ProcessorsBeginFew) where
+    pub are_few : (es : List (Entry Op)) → Legal (setting_of p l) es → AreFew (wishes_of p) l es
+    are_few es legal =
+        few (setup_of p l) (arena_of p.shapes l).seat_of (wishes_of p)
+        (begins_few (arena_of p.shapes l) (wishes_of p) (λ a es. state_of (processor_kind p.shapes l) a es) few_in_all) es legal
+
+    pub have_room : (es : List (Entry Op)) → Legal (setting_of p l) es → opened_in es ≤ most_cycles p
+    have_room es legal = let o = (are_few es legal).opened in let many = many_wishes in omega (arith, o, many)

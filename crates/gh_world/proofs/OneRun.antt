@@ -1,7 +1,7 @@
 -- Over a plain list of words a script has one run in each order of steps, and one where the actors take turns.
 use Rattle.std.proofs.Common.{◌≡◌, ℕ, ◌≤◌, Bool, true, false, cond, eqb, List, [], ◌∷◌, ◌++◌, length, reverse, Option, Some, None, refl, sym, ap, subst, ◌∙◌, append_assoc, arith, inl, inr}
 use Rattle.std.specs.Option.{option_to_list}
-use Rattle.std.proofs.lemmas.Bool.{cases_lt, eq-eqb}
+use Rattle.std.proofs.lemmas.Bool.{cases_lt}
 use Rattle.std.proofs.lemmas.Grind.{reverse_onto}
 use Rattle.std.proofs.lemmas.List.{append_cancel_left, append-nil}
 use Rattle.gh_base.specs.declared.operation.Op.{Op}
@@ -52,16 +52,11 @@ module _ (p : Program) (l : Layout) where
   some_idle a es b h x e = (subst (λ (o : Option Op). Begins (setting_of p l) a es o) e h).0
 
   same_step : (es : List (Entry Op)) (e f : Entry Op) → e.actor ≡ f.actor → e.begun ≡ f.begun → MayFollow (setting_of p l) es e → MayFollow (setting_of p l) es f → e ≡ f
-  same_step es e f actor begun m n =
-      let ask : e.ask ≡ f.ask = m.asks ∙ rw (actor, begun) (sym n.asks) in
-      let found : e.found ≡ f.found = m.found ∙ rw ask (sym n.found) in
-      rw (actor, begun, ask, found) refl
+  same_step es e f actor begun m n = grind arith
 
   -- what a processor begins now, and what is to come behind it
   pub begins_now : (a : ℕ) (e : Entry Op) (es : List (Entry Op)) (xs : List Op) → e.actor ≡ a → turns_of p a ≡ reverse (begun_in (by a (e ∷ es))) ++ xs → turns_of p a ≡ reverse (begun_in (by a es)) ++ (option_to_list e.begun ++ xs)
-  begins_now a e es xs same h =
-      let own : by a (e ∷ es) ≡ e ∷ by a es = ap (λ (b : Bool). cond b (e ∷ by a es) (by a es)) (eq-eqb e.actor a same) in
-      before_turns e.begun (begun_in (by a es)) xs (turns_of p a) (h ∙ ap (λ (fs : List (Entry Op)). reverse (begun_in fs) ++ xs) own)
+  begins_now a e es xs same h = grind (arith, before_turns)
 
   -- the entries of one actor that may follow a list, and continue the run, are one
   same_entry : (es : List (Entry Op)) (e f : Entry Op) → e.actor ≡ f.actor → IsRunSoFar p l (e ∷ es) → IsRunSoFar p l (f ∷ es) → e ≡ f

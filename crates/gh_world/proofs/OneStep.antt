@@ -1,5 +1,5 @@
 -- A step of the code, from what its parts did.
-use Rattle.std.proofs.Common.{◌≡◌, ℕ, ◌+◌, ◌-◌, ◌<◌, ◌≤◌, Bool, true, false, not, cond, List, ◌∷◌, ◌++◌, length, length-set, refl, sym, ◌∙◌, ap, subst, Option, Some, None, arith}
+use Rattle.std.proofs.Common.{◌≡◌, ℕ, ◌+◌, ◌-◌, ◌<◌, ◌≤◌, Bool, true, false, not, List, ◌∷◌, ◌++◌, length, length-set, refl, sym, ◌∙◌, ap, subst, Option, Some, arith}
 use Rattle.gh_coord.specs.Listing as coord
 use Rattle.gh_mutator.specs.PollRoom.{PollsMakeRoom}
 use Rattle.gh_worker.specs.Listing as worker
@@ -8,10 +8,9 @@ use Rattle.gh_world.specs.declared.runner.Runner.{Runner}
 use Rattle.gh_world.specs.Turns.{next_point, total_of}
 use Rattle.gh_world.specs.Vocabulary.{is_last, CoordStage}
 use Rattle.gh_world.specs.After.{Appends, IsAfter}
-use Rattle.gh_coord.specs.declared.coord.CoordStage.TheVariants.{Close}
 use Rattle.gh_world.specs.World.{AllDone, answered_of, Begins, event_at, Fit, FitRunners, FitTurns, FitWords, Ran, State, IsStepOfCoordinator, IsStepOfProcessor, IsStepOfWorker, begun_as, found_by, is_done, now_of, worker_or}
 use Rattle.gh_world.specs.Schedule.{has_ended}
-use Rattle.gh_world.proofs.Vocabulary.{acts, answered_in, begins, bit, by, cell_of, changed, Entry, Event, has_left_at, InRange, is_busy_at, is_point, Layout, Mutating, Next, Op, Processor, processor_kind, Program, Progress, progress_after, request, set, Shape, slice_get, slice_get_past, slice_get_within, started, state_of, statement_answer, StepsAreShown, takes}
+use Rattle.gh_world.proofs.Vocabulary.{acts, answered_in, bit, by, cell_of, changed, Entry, Event, has_left_at, InRange, is_busy_at, is_point, Layout, Mutating, Next, Op, processor_kind, Program, progress_after, request, set, Shape, slice_get, slice_get_past, slice_get_within, started, state_of, statement_answer, StepsAreShown, takes}
 use Rattle.gh_world.proofs.Fitting.{answered_all, busy_begun, due_room, fits_again, marks_few, marks_more, point_room, ran}
 use Rattle.gh_world.proofs.Parts.{After, in_parts, of_parts, other_here, parts_of, runner_here}
 use Rattle.gh_world.proofs.Turning.{total_by-le}
@@ -24,13 +23,9 @@ pub record Kept (w : State) : Type 0 where
   pub room : ℕ
   pub fit : Fit w noted room
 
-abbrev mutating : List Shape → Processor → ℕ → Mutating
-mutating shapes m marks = record { shapes = shapes; processor = m; marks = marks }
-
 -- the machine once an operation is begun, or none
 mutator_is : (m : Mutating) (shapes : List Shape) (l : Layout) (b : Option Op) → m.shapes ≡ shapes → has_left_at m.processor.task ≡ false → begun_as m b ≡ record { shapes = shapes; processor = started (processor_kind shapes l) b m.processor; marks = m.marks }
-mutator_is m shapes l None same going = ap (λ (s : List Shape). mutating s m.processor m.marks) same
-mutator_is m shapes l (Some o) same going = ap (λ (s : List Shape). mutating s (begins s m.processor o) m.marks) same ∙ ap (λ (b : Bool). mutating shapes (cond b m.processor (begins shapes m.processor o)) m.marks) (sym going)
+mutator_is m shapes l b same going = grind arith
 
 -- a processor that is not done has not left
 pub runner_going : (w : State) (a : ℕ) (x : Runner) → slice_get w.runners a ≡ Some x → is_done w a ≡ false → has_left_at x.mutator.processor.task ≡ false
@@ -70,9 +65,7 @@ module _ (w : State) (f : Kept w) (a : ℕ) (x : Runner) (is : slice_get w.runne
   with_begun b new = runner_of p.shapes (started (processor_kind p.shapes l) b x.mutator.processor) x.mutator.marks (progress_after x.progress b new)
 
   begun_is : (y : Runner) (k : Begins p a x y) → is_done w a ≡ false → y ≡ with_begun k.o y.progress.next
-  begun_is y k going =
-      ap (λ (m : Mutating). record { mutator = m; progress = y.progress }) (k.mutator ∙ mutator_is x.mutator p.shapes l k.o fits.shapes (going_on going))
-      ∙ ap (λ (t : Progress). record { mutator = mutating p.shapes (started (processor_kind p.shapes l) k.o x.mutator.processor) x.mutator.marks; progress = t }) k.progress
+  begun_is y k going = grind (arith, fits, going_on, mutator_is)
 
   knows : PollsMakeRoom → (y : Runner) (k : Begins p a x y) → is_done w a ≡ false → InRange l (cell_of (asks y.mutator)) → Knows p l f.fit.base.script f.fit.base.layout a seat x.mutator.processor x.progress k.o y.progress.next
   knows polls y k going within = record {
@@ -146,8 +139,7 @@ module _ (polls : PollsMakeRoom) (w : State) (points room : ℕ) (f : Fit w poin
 -- ---- a step of another actor
 
 not_false : (b : Bool) → not b ≡ false → b ≡ true
-not_false true e = refl
-not_false false e = absurd cc
+not_false b e = grind arith
 
 -- a worker that is not done has a step to make
 pub busy_worker : (w : State) (a i : ℕ) (x : worker.Working) → a ≡ length w.runners + i → slice_get w.workers i ≡ Some x → is_done w a ≡ false → worker.is_busy x.stage ≡ true
@@ -183,15 +175,14 @@ lead_done w a high =
 
 -- a coordinator that is not done has a step to make
 pub busy_lead : (w : State) (a : ℕ) → Kept w → length w.runners + length w.workers ≤ a → is_done w a ≡ false → coord.is_busy w.coord.stage ≡ true
-busy_lead w a f high going = f.fit.others.goes_on ∙ ap not (lead_done w a high ∙ going)
+busy_lead w a f high going = grind (arith, lead_done)
 
 -- one that is done has no credit that is about to lapse
 pub lapsed_at_end : (lapsed : ℕ) (stage : CoordStage) → coord.is_done_at stage ≡ true → coord.lapsed_at lapsed stage ≡ lapsed
-lapsed_at_end lapsed (Close c) done = absurd cc
-lapsed_at_end lapsed _ done = refl
+lapsed_at_end lapsed stage done = grind arith
 
 pub lapsed_last : (w : State) → AllDone w → coord.lapsed_at w.coord.lapsed w.coord.stage ≡ w.coord.lapsed
-lapsed_last w all = lapsed_at_end w.coord.lapsed w.coord.stage (lead_done w (length w.runners + length w.workers) (omega arith) ∙ all (length w.runners + length w.workers) (omega arith))
+lapsed_last w all = grind (arith, lapsed_at_end, lead_done)
 
 -- a step of the coordinator
 pub appends_lead : (w v : State) (a : ℕ) (es : List (Entry Op)) (happened : Event) → StepsAreShown w.layout → Kept w → a ≡ length w.runners + length w.workers → is_done w a ≡ false → IsStepOfCoordinator w v happened → IsAfter w es → Appends v a es happened

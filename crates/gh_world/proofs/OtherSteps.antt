@@ -39,9 +39,7 @@ module _ (p : Program) (l : Layout) where
   none_answered a found ask le es legal = ap (λ (m : Processor). with_goroutine (now_in (entry_by a ask found ∷ es)).0 (statement_answer m found)) (sym (before_is a le es legal))
 
   no_answer : (out : Option (Unit {0})) (told : Option Cycle) → answered_in (done_or out (told_event told)) ≡ []
-  no_answer None None = refl
-  no_answer None (Some c) = refl
-  no_answer (Some x) told = refl
+  no_answer out told = grind arith
 
   -- an actor's own entry, and one of another
   own_at : (a b found : ℕ) (ask : Ask) (es : List (Entry Op)) → a ≡ b → actor_after p l (entry_by a ask found ∷ es) b ≡ (setting_of p l).kind.takes (actor_after p l es b) found
@@ -102,7 +100,7 @@ module _ (p : Program) (l : Layout) where
       work_says = ap (λ (n : Actor). event_by (now_in (work_entry ∷ es)) n (found_by w.words (worker.asks x))) (sym (h.marking i x is))
 
       pub work_tells : (happened : Event) → happened ≡ done_or (worker.gives x (found_by w.words (worker.asks x))) event.Moved → answered_in happened ≡ with_goroutine (now_in (work_entry ∷ es)).0 (answer_in p.shapes l es work_entry)
-      work_tells happened says = ap answered_in says ∙ no_answer (worker.gives x (found_by w.words (worker.asks x))) None ∙ none_answered (l.procs + i) (found_by w.words (worker.asks x)) (worker.asks x) (omega arith) es h.legal
+      work_tells happened says = grind (arith, no_answer, none_answered)
 
     -- ---- the coordinator
 
@@ -144,7 +142,7 @@ module _ (p : Program) (l : Layout) where
       lead_says = ap (λ (n : Actor). event_by (now_in (lead_entry ∷ es)) n (found_by w.words (coord.asks w.coord))) (sym h.coordinator)
 
       pub lead_tells : (happened : Event) → happened ≡ done_or (coord.gives w.coord (found_by w.words (coord.asks w.coord))) (told_event (coord.told_at w.coord.cycles w.coord.stage)) → answered_in happened ≡ with_goroutine (now_in (lead_entry ∷ es)).0 (answer_in p.shapes l es lead_entry)
-      lead_tells happened says = ap answered_in says ∙ no_answer (coord.gives w.coord (found_by w.words (coord.asks w.coord))) (coord.told_at w.coord.cycles w.coord.stage) ∙ none_answered (acks_of l) (found_by w.words (coord.asks w.coord)) (coord.asks w.coord) (omega arith) es h.legal
+      lead_tells happened says = grind (arith, no_answer, none_answered)
 
   -- ---- before the first step
 

@@ -64,8 +64,7 @@ none_within xs i is = elim (slice_get_cases xs i).1 [
 
 -- an actor that is no processor has the marks that it keeps itself
 own_marks : (m n : ℕ) (c : coord.Coordinating) (o : Option worker.Working) → marks_by m (worker_or c o) ≡ marks_by n (worker_or c o)
-own_marks m n c (Some x) = refl
-own_marks m n c None = refl
+own_marks m n c o = grind arith
 
 module _ (w : State) (es : List (Entry Op)) where
   abbrev p : Program
@@ -126,15 +125,10 @@ module _ (w : State) (es : List (Entry Op)) where
     behind_begun a (Some x) = to_come p a x.progress.next
 
     begun_first : (a : ℕ) → a < l.procs → (o : Option Runner) → slice_get w.runners a ≡ o → turns_of p a ≡ reverse (begun_in (by a es)) ++ behind_begun a o
-    begun_first a lt (Some x) is = (h.running a x is).turns
-    begun_first a lt None is = let past = none_within w.runners a is in let many = h.many in absurd (omega (arith, past, many, lt))
+    begun_first a lt o is = grind (arith, none_within, running)
 
     at_worker : (i : ℕ) (o : Option worker.Working) → slice_get w.workers i ≡ o → length w.runners + i < actors_of w → worker_or w.coord o ≡ actor_after p l es (l.procs + i)
-    at_worker i (Some x) is lt = sym (h.marking i x is)
-    at_worker i None is lt =
-        let high : length w.workers ≤ i = none_within w.workers i is in
-        let seat : l.procs + i ≡ acks_of l = omega (arith, high, workers, lt) in
-        sym (ap (actor_after p l es) seat ∙ h.coordinator)
+    at_worker i o is lt = grind (arith, none_within)
 
     at_runner : (a : ℕ) → a < actors_of w → (o : Option Runner) → slice_get w.runners a ≡ o → actor_of w a ≡ actor_after p l es a
     at_runner a lt (Some x) is =

@@ -1,13 +1,13 @@
 -- A processor keeps its place among its turns, whoever makes its steps.
-use Rattle.std.proofs.Common.{◌≡◌, ℕ, ◌<◌, Bool, true, false, cond, eqb, ◌||◌, List, [], ◌∷◌, ◌++◌, reverse, refl, sym, ◌∙◌, ap, Option, Some, None}
+use Rattle.std.proofs.Common.{◌≡◌, ℕ, ◌<◌, Bool, true, cond, eqb, ◌||◌, List, [], ◌∷◌, ◌++◌, reverse, refl, sym, ◌∙◌, ap, Option, Some, None, arith}
 use Rattle.gh_world.specs.After.{KeepsPlace}
 use Rattle.gh_world.specs.Due.{EachKeepsItsPlace, WhatIsDueFits}
 use Rattle.gh_world.specs.Turns.{statement_count, statement_now}
 use Rattle.gh_world.specs.World.{AreTurns}
-use Rattle.gh_world.proofs.Due.{due_goroutine, false_unless}
+use Rattle.gh_world.proofs.Due.{due_goroutine}
 use Rattle.gh_world.proofs.MayBegin.{due_fits, ended_then, left_then}
 use Rattle.gh_world.proofs.OneRun.{one_more}
-use Rattle.gh_world.proofs.Vocabulary.{begun_in, by, ended_in, ends, Entry, eq-eqb, eqb-true, Follows, has_left, is_statement, its_goroutine, leaves, Next, Op, op_due, opening_progress, option_to_list, Program, Progress, progress_after, read_replicate, to_come, turns_of, WellFormed}
+use Rattle.gh_world.proofs.Vocabulary.{begun_in, by, ended_in, ends, Entry, eq-eqb, Follows, has_left, is_statement, its_goroutine, leaves, Next, Op, op_due, opening_progress, option_to_list, Program, Progress, progress_after, read_replicate, to_come, turns_of, WellFormed}
 use Rattle.gh_world.proofs.WorldFacts.{counted_after, now_after}
 
 pub what_is_due_fits : WhatIsDueFits
@@ -25,32 +25,11 @@ module _ (p : Program) (a : ℕ) where
 
   -- it has the same own entries, but for what is begun
   module _ (t : Progress) (es : List (Entry Op)) (k : KeepsPlace p a t es) where
-    as_before : (fs : List (Entry Op)) → begun_in (by a fs) ≡ begun_in (by a es) → ((g : ℕ) → ended_in (by a fs) g ≡ ended_in (by a es) g) → has_left (by a fs) ≡ has_left (by a es) → KeepsPlace p a t fs
-    as_before fs begun ended left = record {
-      turns = k.turns ∙ ap (λ (os : List Op). reverse os ++ to_come p a t.next) (sym begun);
-      counted = λ g lt. k.counted g lt ∙ ap (statement_count g) (sym begun);
-      now = k.now ∙ ap statement_now (sym begun);
-      ended = λ g h. k.ended g (sym (ended g) ∙ h);
-      left = λ h. k.left (sym left ∙ h);
-    }
-
     others : (e : Entry Op) → (e.actor ≡ a → ⊥) → KeepsPlace p a t (e ∷ es)
-    others e apart =
-        let other : eqb e.actor a ≡ false = false_unless (eqb e.actor a) (λ h. apart (eqb-true e.actor a h)) in
-        let same : by a (e ∷ es) ≡ by a es = ap (λ (b : Bool). cond b (e ∷ by a es) (by a es)) other in
-        as_before (e ∷ es) (ap begun_in same) (λ g. ap (λ (fs : List (Entry Op)). ended_in fs g) same) (ap has_left same)
+    others e apart = record { turns = grind arith; counted = grind arith; now = grind arith; ended = grind arith; left = grind arith }
 
     goes_on : (e : Entry Op) → e.begun ≡ None → KeepsPlace p a t (e ∷ es)
-    goes_on e none = go (eqb e.actor a) refl where
-      go : (b : Bool) → eqb e.actor a ≡ b → KeepsPlace p a t (e ∷ es)
-      go false is =
-          let same : by a (e ∷ es) ≡ by a es = ap (λ (b : Bool). cond b (e ∷ by a es) (by a es)) is in
-          as_before (e ∷ es) (ap begun_in same) (λ g. ap (λ (fs : List (Entry Op)). ended_in fs g) same) (ap has_left same)
-      go true is =
-          let own : by a (e ∷ es) ≡ e ∷ by a es = ap (λ (b : Bool). cond b (e ∷ by a es) (by a es)) is in
-          as_before (e ∷ es) (ap begun_in own ∙ ap (λ (b : Option Op). option_to_list b ++ begun_in (by a es)) none)
-          (λ g. ap (λ (fs : List (Entry Op)). ended_in fs g) own ∙ ap (λ (b : Option Op). ends b g || ended_in (by a es) g) none)
-          (ap has_left own ∙ ap (λ (b : Option Op). leaves b || has_left (by a es)) none)
+    goes_on e none = grind arith
 
     begins : (e : Entry Op) (o : Op) (new : Next) → WellFormed p → AreTurns p a t → e.actor ≡ a → e.begun ≡ Some o → op_due p t.next ≡ Some o → Follows p a t.next o new → KeepsPlace p a (progress_after t (Some o) new) (e ∷ es)
     begins e o new formed turns its is due follows =

@@ -1,32 +1,25 @@
 -- What each step, and each beginning, is to a statement: it acts once, it is answered last, and its object is counted once.
-use Rattle.std.proofs.Common.{◌≡◌, ℕ, ◌+◌, ◌-◌, ◌*◌, ◌%◌, ◌^◌, ◌≤◌, nat_le, Bool, true, false, cond, ltb, not, ◌&&◌, List, get_or, refl, sym, ap, ◌∙◌, Option, Some, None, arith}
-use Rattle.gh_world.specs.Vocabulary.{after_place, after_search, after_wait, applied, at_task, ends, goes_on, is_made, is_pointer_by, is_serving, kinds_differ, Load, LoadStage, made_object, makes, searches, Step, Store, StoreStage, taking, value_of}
+use Rattle.std.proofs.Common.{◌≡◌, ℕ, ◌+◌, ◌*◌, ◌%◌, ◌^◌, ◌≤◌, nat_le, Bool, true, false, cond, ltb, not, ◌&&◌, List, get_or, refl, ap, Option, Some, None, arith}
+use Rattle.gh_world.specs.Vocabulary.{after_place, after_search, after_wait, applied, at_task, ends, goes_on, is_made, is_pointer_by, is_serving, kinds_differ, Load, LoadStage, made_object, makes, searches, Step, Store, StoreStage, taking}
 use Rattle.gh_base.specs.declared.operation.Op.TheVariants as op
 use Rattle.gh_base.specs.declared.value.Answer.TheVariants as answer
 use Rattle.gh_base.specs.declared.value.Fault.TheVariants as fault
-use Rattle.gh_base.specs.declared.value.Value.TheVariants as value
 use Rattle.gh_bitmap.specs.SetPointers as bits
 use Rattle.gh_alloc.specs.declared.place.PlaceStage.TheVariants as place_stage
 use Rattle.gh_alloc.specs.Search as search
 use Rattle.gh_alloc.specs.Place as place
 use Rattle.gh_assist.specs.Listing as assist
-use Rattle.gh_barrier.specs.declared.pointer_cell.PointerCell.TheVariants as pointer_cell
-use Rattle.gh_barrier.specs.Listing.{Writing as PointerWrite}
 use Rattle.gh_barrier.specs.Listing as write
-use Rattle.gh_mutator.specs.declared.global.GlobalStage.TheVariants as global_stage
-use Rattle.gh_mutator.specs.declared.load.LoadStage.TheVariants as load_stage
 use Rattle.gh_mutator.specs.declared.wait.Wait.{Wait as WaitState}
-use Rattle.gh_mutator.specs.declared.register.Source.TheVariants as source
 use Rattle.gh_mutator.specs.declared.store.StoreStage.TheVariants as store_stage
 use Rattle.gh_mutator.specs.declared.task.Task.TheVariants as task
 use Rattle.gh_mutator.specs.declared.poll.Local.{Local}
-use Rattle.gh_mutator.specs.Barrier.{written}
-use Rattle.gh_mutator.specs.Fields.{has_field, takes}
+use Rattle.gh_mutator.specs.Fields.{has_field}
 use Rattle.gh_mutator.specs.Global as global
 use Rattle.gh_mutator.specs.Load as load
 use Rattle.gh_mutator.specs.New.{answer_assist, answer_made, answer_search, op_of as new_op, refuses_behind_wait}
 use Rattle.gh_mutator.specs.Leave as leave
-use Rattle.gh_mutator.specs.Local.{is_mark, marking_at}
+use Rattle.gh_mutator.specs.Local.{marking_at}
 use Rattle.gh_mutator.specs.Processor.{keeping}
 use Rattle.gh_mutator.specs.Poll as poll
 use Rattle.gh_mutator.specs.Wait as wait
@@ -34,7 +27,7 @@ use Rattle.gh_mutator.specs.Serving.{answer_at}
 use Rattle.gh_mutator.specs.Step.{answered}
 use Rattle.gh_mutator.specs.Store as store
 use Rattle.gh_world.specs.World.{making}
-use Rattle.gh_world.proofs.Vocabulary.{Act, acting, acts_at, after_assist, after_gc, after_leave, after_poll, Answer, Assist, Assisting, assisting, assists, At, begins_at, bit, cache_span, Ends, follows, Found, gives_at, Global, GlobalStage, GoesOn, in_range, is_busy_at, is_leave, is_leaving, is_point, is_some, is_statement, is_unacted, Layout, Leaving, made_by, Name, NewStage, NoRoom, once_ended, Op, op_at, Place, PlaceStage, Placing, Polling, Processor, read_after_set, Register, register_of, Search, Seeking, set, Shape, Source, SpanHead, takes_at, Task, Then, Value, Wait, Waiting, Want, Wanted}
+use Rattle.gh_world.proofs.Vocabulary.{Act, acting, acts_at, after_assist, after_gc, after_leave, after_poll, Answer, Assist, Assisting, assisting, assists, begins_at, bit, cache_span, follows, Found, gives_at, Global, GlobalStage, in_range, is_busy_at, is_leave, is_leaving, is_point, is_some, is_statement, is_unacted, Layout, Leaving, made_by, Name, NewStage, once_ended, Op, op_at, Place, PlaceStage, Placing, Polling, Processor, read_after_set, Register, register_of, Search, Seeking, set, Shape, Source, SpanHead, takes_at, Task, Then, Value, Wait, Waiting, Want, Wanted}
 
 -- from task t and the processor m to the next one, with the act and the answer of the step
 pub record StepFacts (m : Processor) (t : Task) (next : Processor) (act : Option Act) (given : Option Answer) : Type 0 where
@@ -58,63 +51,26 @@ record IsServed {S : Type 0} (into : S → Task) : Type 0 where
 abbrev ActsOnce : {S : Type 0} → (S → Task) → S → Step S → Type 0
 ActsOnce into x step = bit (is_unacted (op_at (into x))) ≡ bit (is_unacted (op_at (follows into step.then))) + bit step.acts
 
-point_bit : (acts : Bool) (o : Op) → is_statement o ≡ true → bit (is_point (acting acts o false)) ≡ bit acts
-point_bit true o e = ap bit e
-point_bit false o e = refl
-
 -- from m, behind which a step of a statement leaves another buffer held in n
 from_step : {S : Type 0} (into : S → Task) (m n : Processor) (g d : ℕ) (x : S) (step : Step S) (o : Op) → IsServed into → is_statement o ≡ true → ActsOnce into x step → ((k : ℕ) → made_by n k ≡ made_by m k) → StepFacts m (into x) (applied into n g d step) (acting step.acts o false) (answered step.then)
 from_step {S} into m n g d x step o h is once same = by step.then once where
-  point : bit (is_point (acting step.acts o false)) ≡ bit step.acts
-  point = point_bit step.acts o is
-
   by : (then : Then S) → bit (is_unacted (op_at (into x))) ≡ bit (is_unacted (op_at (follows into then))) + bit step.acts → StepFacts m (into x) (at_task (taking n g d step.sets) (follows into then)) (acting step.acts o false) (answered then)
-  by (Ends a) once = record {
-    counted = λ k. omega (arith, same k);
-    leaves = sym (h.leaves x);
-    answered = rw (h.serves x) (omega arith);
-    once = once ∙ ap (λ (n : ℕ). 0 + n) (sym point);
-    ends = refl;
-    serves = refl;
-  }
-  by (GoesOn y) once = record {
-    counted = λ k. rw (h.makes y) (omega (arith, same k));
-    leaves = h.leaves y ∙ sym (h.leaves x);
-    answered = rw (h.serves x, h.serves y) (omega arith);
-    once = once ∙ ap (λ (n : ℕ). bit (is_unacted (op_at (into y))) + n) (sym point);
-    ends = h.busy y;
-    serves = rw (h.serves y, h.busy y, h.serves x) refl;
-  }
-
--- a value that is found
-value_once : {S : Type 0} (naming : ℕ → S) (into : S → Task) (v : Value) → ((a : ℕ) → op_at (into (naming a)) ≡ None) → 1 ≡ bit (is_unacted (op_at (follows into (takes naming v).then))) + 1
-value_once naming into value.Nil none = refl
-value_once naming into (value.Int n) none = refl
-value_once naming into (value.Ref r) none = ap (λ (o : Option Op). bit (is_unacted o) + 1) (sym (none (r - 1)))
+  by then once = grind arith
 
 load_served : IsServed task.Load
 load_served = record { serves = λ x. refl; leaves = λ x. refl; makes = λ x. refl; busy = λ x. refl }
 
-load_page_once : (x : Load) (b : Bool) → ActsOnce task.Load (load.at_stage x load_stage.Page) (cond b (goes_on (load.at_stage x load_stage.Bits)) (ends (answer.Fault fault.Field)))
-load_page_once x true = refl
-load_page_once x false = refl
-
 load_once : (l : Layout) (x : Load) (s : LoadStage) (found : ℕ) → ActsOnce task.Load (load.at_stage x s) (load.step_at l x s found)
-load_once l x load_stage.NilBase found = refl
-load_once l x load_stage.Page found = load_page_once x (has_field x.k found)
-load_once l x (load_stage.Field p) found = value_once (load.naming x) task.Load (value_of l.pages p found) (λ a. refl)
-load_once l x _ found = refl
+load_once l x s found = grind arith
 
 store_served : IsServed task.Store
 store_served = record { serves = λ x. refl; leaves = λ x. refl; makes = λ x. refl; busy = λ x. refl }
 
 store_page_once : (x : Store) (b : Bool) → ActsOnce task.Store (store.at_stage x store_stage.Page) (cond b (goes_on (store.at_stage x store_stage.Bits)) (ends (answer.Fault fault.Field)))
-store_page_once x true = refl
-store_page_once x false = refl
+store_page_once x b = grind arith
 
 store_bits_once : (x : Store) (next : StoreStage) (b : Bool) → ActsOnce task.Store (store.at_stage x store_stage.Bits) (cond b (ends (answer.Fault fault.Kind)) (goes_on (store.at_stage x next)))
-store_bits_once x next true = refl
-store_bits_once x next false = refl
+store_bits_once x next b = grind arith
 
 store_once : (l : Layout) (own : Local) (held : Value) (x : Store) (s : StoreStage) (found : ℕ) → ActsOnce task.Store (store.at_stage x s) (store.step_at l own held x s found)
 store_once l own held x store_stage.NilBase found = refl
@@ -132,18 +88,10 @@ global_served : IsServed task.Global
 global_served = record { serves = λ x. refl; leaves = λ x. refl; makes = λ x. refl; busy = λ x. refl }
 
 global_once : (l : Layout) (held : Value) (x : Global) (s : GlobalStage) (found : ℕ) → ActsOnce task.Global (global.at_stage x s) (global.step_at l held x s found)
-global_once l held x global_stage.Load found = value_once (global.naming x) task.Global (value_of l.pages true found) (λ a. refl)
-global_once l held x (global_stage.Birth a) found = refl
-global_once l held x global_stage.Store found = refl
-global_once l held x (global_stage.Writing w) found = by (write.gives w found) where
-  by : (out : Option (Unit {0})) → ActsOnce task.Global (global.at_stage x (global_stage.Writing w)) (global.after_write x (write.goes w found) out)
-  by None = refl
-  by (Some y) = refl
-global_once l held x global_stage.Number found = refl
+global_once l held x s found = grind arith
 
 global_statement : (x : Global) (s : GlobalStage) → is_statement (global.op_in x s) ≡ true
-global_statement x global_stage.Load = refl
-global_statement x _ = refl
+global_statement x s = grind arith
 
 -- ---- each step
 
@@ -152,22 +100,17 @@ module _ (shapes : List Shape) (m : Processor) where
   FactsAt t found = StepFacts m t (takes_at shapes m t found) (acts_at m t found) (gives_at m t found)
 
   register_facts : (x : Register) (s : Source) (found : ℕ) → FactsAt (task.Register (record x { source = s })) found
-  register_facts x (source.Int n) found = record { counted = λ h. omega arith; leaves = refl; answered = omega arith; once = refl; ends = refl; serves = refl }
-  register_facts x (source.Move d) found = record { counted = λ h. omega arith; leaves = refl; answered = omega arith; once = refl; ends = refl; serves = refl }
-  register_facts x source.Nil found = record { counted = λ h. omega arith; leaves = refl; answered = omega arith; once = refl; ends = refl; serves = refl }
+  register_facts x s found = grind arith
 
   -- a step of a wait, of a poll and of a leave, by what that has given
   gc_facts : (g : ℕ) (x : WaitState) (next : Waiting) (out : Option (Unit {0})) → StepFacts m (task.Gc g x) (after_gc m g next out) (acting (is_some out) (op.Gc g) false) (once_ended out answer.Swept)
-  gc_facts g x next None = record { counted = λ h. omega arith; leaves = refl; answered = omega arith; once = refl; ends = refl; serves = refl }
-  gc_facts g x next (Some u) = record { counted = λ h. omega arith; leaves = refl; answered = omega arith; once = refl; ends = refl; serves = refl }
+  gc_facts g x next out = grind arith
 
   poll_facts : (next : Polling) (out : Option (Unit {0})) → StepFacts m task.Poll (after_poll m next out) (acting (is_some out) op.Poll false) (once_ended out answer.Done)
-  poll_facts next None = record { counted = λ h. omega arith; leaves = refl; answered = omega arith; once = refl; ends = refl; serves = refl }
-  poll_facts next (Some u) = record { counted = λ h. omega arith; leaves = refl; answered = omega arith; once = refl; ends = refl; serves = refl }
+  poll_facts next out = grind arith
 
   leave_facts : (x next : Leaving) (out : Option (Unit {0})) → StepFacts m (task.Leave x) (after_leave m next out) (acting (is_some out) op.Leave false) (once_ended out answer.Done)
-  leave_facts x next None = record { counted = λ h. omega arith; leaves = refl; answered = omega arith; once = refl; ends = refl; serves = refl }
-  leave_facts x next (Some u) = record { counted = λ h. omega arith; leaves = refl; answered = omega arith; once = refl; ends = refl; serves = refl }
+  leave_facts x next out = grind arith
 
   end_facts : (g found : ℕ) → FactsAt (task.End g) found
   end_facts g found = record { counted = λ h. omega arith; leaves = refl; answered = omega arith; once = refl; ends = refl; serves = refl }
@@ -175,16 +118,10 @@ module _ (shapes : List Shape) (m : Processor) where
   search_facts : (w : Wanted) (waited : Bool) (s : Seeking) (found : ℕ) → FactsAt (searches w waited s) found
   search_facts w waited s found = go waited (search.gives s found) where
     go : (b : Bool) (out : Option Found) → StepFacts m (searches w b s) (after_search shapes (cache_span m w.sought (search.goes s found).find.cached) w b (search.goes s found) out) (acting (refuses_behind_wait b out) (new_op w) true) (answer_search b out)
-    go true None = record { counted = λ g. omega arith; leaves = refl; answered = omega arith; once = refl; ends = refl; serves = refl }
-    go false None = record { counted = λ g. omega arith; leaves = refl; answered = omega arith; once = refl; ends = refl; serves = refl }
-    go true (Some (At a)) = record { counted = λ g. omega arith; leaves = refl; answered = omega arith; once = refl; ends = refl; serves = refl }
-    go false (Some (At a)) = record { counted = λ g. omega arith; leaves = refl; answered = omega arith; once = refl; ends = refl; serves = refl }
-    go true (Some NoRoom) = record { counted = λ g. omega arith; leaves = refl; answered = omega arith; once = refl; ends = refl; serves = refl }
-    go false (Some NoRoom) = record { counted = λ g. omega arith; leaves = refl; answered = omega arith; once = refl; ends = refl; serves = refl }
+    go b out = grind arith
 
   wait_facts : (w : Wanted) (x : WaitState) (next : Waiting) (out : Option (Unit {0})) → StepFacts m (task.New (record { wanted = w; stage = Wait x })) (after_wait m w next out) None None
-  wait_facts w x next None = record { counted = λ g. omega arith; leaves = refl; answered = omega arith; once = refl; ends = refl; serves = refl }
-  wait_facts w x next (Some u) = record { counted = λ g. omega arith; leaves = refl; answered = omega arith; once = refl; ends = refl; serves = refl }
+  wait_facts w x next out = grind arith
 
   -- a step of the making before the object is made, the one that makes it, and one behind that
   before_made : (w : Wanted) (p n : Placing) → is_made p.stage ≡ false → is_made n.stage ≡ false → StepFacts m (makes w p) (at_task m (makes w n)) None None
@@ -198,8 +135,7 @@ module _ (shapes : List Shape) (m : Processor) where
 
   -- it is made, and no cycle is asked for: while marking is on it assists
   made_last : (w : Wanted) (p : Placing) → is_made p.stage ≡ true → (marking : Bool) → StepFacts m (makes w p) (at_task m (cond marking (assists w p.name (assisting m.poll w)) task.Idle)) None (cond marking None (Some (answer.Ref p.name)))
-  made_last w p here true = record { counted = λ g. rw here (omega arith); leaves = refl; answered = omega arith; once = rw here refl; ends = refl; serves = refl }
-  made_last w p here false = record { counted = λ g. rw here (omega arith); leaves = refl; answered = omega arith; once = rw here refl; ends = refl; serves = refl }
+  made_last w p here marking = grind arith
 
   place_facts : (w : Wanted) (p : Placing) (found : ℕ) (q : PlaceStage) → FactsAt (makes w (place.at_stage p q)) found
   place_facts w p found (place_stage.Clear k) = go (ltb (k + 1) p.slot) where
@@ -213,11 +149,7 @@ module _ (shapes : List Shape) (m : Processor) where
     next b = cond b (place_stage.Bits (bits.goes s found)) (place.filled p.marking)
 
     go : (b : Bool) → StepFacts m (makes w (place.at_stage p (place_stage.Bits s))) (after_place m w false p.at (place.at_stage p (next b))) None (answer_made (marking_at m.poll) p.name (place.given_at (next b)))
-    go true = before_made w _ _ refl refl
-    go false = filled p.marking where
-      filled : (marking : Bool) → StepFacts m (makes w (place.at_stage p (place_stage.Bits s))) (after_place m w false p.at (place.at_stage p (place.filled marking))) None (answer_made (marking_at m.poll) p.name (place.given_at (place.filled marking)))
-      filled true = before_made w _ _ refl refl
-      filled false = before_made w _ _ refl refl
+    go b = grind arith
   place_facts w p found place_stage.Mark = before_made w _ _ refl refl
   place_facts w p found place_stage.Alloc = go p.span where
     go : (s : Option SpanHead) → StepFacts m (makes w (place.at_stage p place_stage.Alloc)) (after_place m w true p.at (place.at_stage p (place.made p s))) (acting true (new_op w) false) (answer_made (marking_at m.poll) p.name (place.given_at (place.made p s)))
@@ -238,8 +170,7 @@ module _ (shapes : List Shape) (m : Processor) where
   place_facts w p found (place_stage.Ended wants) = made_last w (place.at_stage p (place_stage.Ended wants)) refl (marking_at m.poll)
 
   assist_facts : (w : Wanted) (n : Name) (x next : Assisting) (out : Option (Unit {0})) → StepFacts m (assists w n x) (after_assist m w n next out) None (answer_assist n out)
-  assist_facts w n x next None = record { counted = λ g. omega arith; leaves = refl; answered = omega arith; once = refl; ends = refl; serves = refl }
-  assist_facts w n x next (Some y) = record { counted = λ g. omega arith; leaves = refl; answered = omega arith; once = refl; ends = refl; serves = refl }
+  assist_facts w n x next out = grind arith
 
   new_facts : (w : Wanted) (s : NewStage) (found : ℕ) → FactsAt (task.New (record { wanted = w; stage = s })) found
   new_facts w (Search waited x) found = search_facts w waited x found
@@ -270,33 +201,10 @@ pub record BeginFacts (o : Op) (t : Task) : Type 0 where
   pub serves : is_serving t ≡ is_statement o
   pub is : op_at t ≡ Some o
 
-load_facts : (g d b k : ℕ) (v : Value) → BeginFacts (op.Load g d b k) (task.Load (load.begins g d b k v))
-load_facts g d b k value.Nil = record { made = omega arith; leaves = refl; serves = refl; is = refl }
-load_facts g d b k _ = record { made = omega arith; leaves = refl; serves = refl; is = refl }
-
-store_facts : (g b k v : ℕ) (x : Value) → BeginFacts (op.Store g b k v) (task.Store (store.begins g b k v x))
-store_facts g b k v value.Nil = record { made = omega arith; leaves = refl; serves = refl; is = refl }
-store_facts g b k v _ = record { made = omega arith; leaves = refl; serves = refl; is = refl }
-
-global_store_facts : (l : Layout) (own : Local) (g k v : ℕ) (x : Value) → BeginFacts (op.SetGlobal g k v) (task.Global (global.begins_store l own g k v x))
-global_store_facts l own g k v x = by x where
-  stored : (w : PointerWrite) (b : Bool) → BeginFacts (op.SetGlobal g k v) (task.Global (record { g = g; r = v; k = k; stage = cond b (global_stage.Writing w) global_stage.Store }))
-  stored w true = record { made = omega arith; leaves = refl; serves = refl; is = refl }
-  stored w false = record { made = omega arith; leaves = refl; serves = refl; is = refl }
-
-  by : (x : Value) → BeginFacts (op.SetGlobal g k v) (task.Global (global.begins_store l own g k v x))
-  by value.Nil = stored (written l own (pointer_cell.Global k) value.Nil) (is_mark own.view.phase)
-  by (value.Int n) = record { made = omega arith; leaves = refl; serves = refl; is = refl }
-  by (value.Ref n) = stored (written l own (pointer_cell.Global k) (value.Ref n)) (is_mark own.view.phase)
-
 -- an operation that is begun
 pub begin_facts : (shapes : List Shape) (m : Processor) (o : Op) → is_busy_at (begins_at shapes m o) ≡ true → BeginFacts o (begins_at shapes m o)
-begin_facts shapes m (op.Load g d b k) busy = load_facts g d b k (register_of m g b)
-begin_facts shapes m (op.Store g b k v) busy = store_facts g b k v (register_of m g b)
-begin_facts shapes m (op.SetGlobal g k v) busy = global_store_facts m.poll.layout m.poll.local g k v (register_of m g v)
-begin_facts shapes m _ busy = record { made = omega arith; leaves = refl; serves = refl; is = refl }
+begin_facts shapes m o busy = grind arith
 
 -- one that is in range is begun
 pub begins_busy : (shapes : List Shape) (m : Processor) (goroutines globals types : ℕ) (o : Op) → in_range goroutines globals types o ≡ true → is_busy_at (begins_at shapes m o) ≡ true
-begins_busy shapes m gs gl ts (op.Gc g) h = refl
-begins_busy shapes m gs gl ts _ h = refl
+begins_busy shapes m gs gl ts o h = grind arith

@@ -2,7 +2,7 @@
 use Rattle.std.proofs.Common.{◌≡◌, ℕ, zero, suc, ◌+◌, ◌-◌, ◌<◌, ◌≤◌, ◌&&◌, Bool, true, false, cond, if◌then◌else◌, eqb, ltb, leb, List, [], ◌∷◌, ◌++◌, length, get_or, drop, min, Option, Some, None, refl, sym, ap, subst, ◌∙◌, append_assoc, arith, inl, inr}
 use Rattle.std.specs.Prelude.{sum_by}
 use Rattle.std.specs.List.{flat_map, range_with_len}
-use Rattle.std.proofs.lemmas.Bool.{leb-true, leb-false, le-leb, lt-ltb, cases_lt}
+use Rattle.std.proofs.lemmas.Bool.{leb-true, leb-false, cases_lt}
 use Rattle.std.proofs.lemmas.List.{at_drop_more}
 use Rattle.std.proofs.lemmas.List.Sums.{get_or-le-sum_by, sum_by-cons, sum_by-le-sum_by}
 use Rattle.gh_base.specs.declared.operation.Op.TheVariants as op
@@ -12,29 +12,21 @@ use Rattle.gh_script.specs.Program.{no_goroutine, statements_of, statements_in, 
 use Rattle.gh_world.specs.declared.turns.Next.TheVariants as next
 use Rattle.gh_world.specs.Turns.{count_of, has_turn, HasTurn, is_of_seat, IsPast, round_of, Stands, total_by, turn_of}
 use Rattle.gh_interp.specs.Working.{work_at, work_of}
-use Rattle.gh_world.proofs.Vocabulary.{bit, Follows, eqb-true, its_goroutine, is_leave, leave_is_begun, is_statement, later, ltb-true, MayBeOver, nat_tests, Next, Op, op_due, Program, slice_get, slice_get-get_or, slice_get_past, statements_among, to_come, total_of, turns_of, ◌%◌}
+use Rattle.gh_world.proofs.Vocabulary.{bit, Follows, eqb-true, its_goroutine, is_leave, leave_is_begun, is_statement, later, MayBeOver, nat_tests, Next, Op, op_due, Program, slice_get, slice_get-get_or, slice_get_past, statements_among, to_come, total_of, turns_of, ◌%◌}
 
 -- ---- statements
 
 pub statement_is : (g : ℕ) (s : Stmt) → is_statement (statement_as_op g s) ≡ true
-statement_is g (stmts.New d t) = refl
-statement_is g _ = refl
+statement_is g s = grind arith
 
 pub goroutine_is : (g : ℕ) (s : Stmt) → its_goroutine (statement_as_op g s) ≡ g
-goroutine_is g (stmts.New d t) = refl
-goroutine_is g _ = refl
-
-pub statement_no_leave : (g : ℕ) (s : Stmt) → is_leave (statement_as_op g s) ≡ false
-statement_no_leave g (stmts.New d t) = refl
-statement_no_leave g _ = refl
+goroutine_is g s = grind arith
 
 no_end : (g h : ℕ) (s : Stmt) → statement_as_op g s ≡ op.End h → ⊥
-no_end g h (stmts.New d t) e = absurd cc
-no_end g h _ e = absurd cc
+no_end g h s e = grind arith
 
 pub work_no_leave : (g : ℕ) (s : Option Stmt) → is_leave (work_at g s) ≡ false
-work_no_leave g None = refl
-work_no_leave g (Some s) = statement_no_leave g s
+work_no_leave g s = grind arith
 
 -- ---- the turns of a round, from a goroutine on
 
@@ -43,54 +35,31 @@ module _ (p : Program) (a r : ℕ) where
   turns_from g = flat_map (turn_of p a r) (range_with_len g (length p.goroutines - g))
 
   pub none_from : (g : ℕ) → length p.goroutines ≤ g → turns_from g ≡ []
-  none_from g h = let none : length p.goroutines - g ≡ 0 = omega arith in rw none refl
+  none_from g h = grind arith
 
   one_more : (g : ℕ) → g < length p.goroutines → turns_from g ≡ turn_of p a r g ++ turns_from (g + 1)
   one_more g h = let more : length p.goroutines - g ≡ suc (length p.goroutines - (g + 1)) = omega arith in rw more refl
 
   -- it has no turn where it has ended
   ended_before : (g : ℕ) → count_of p g < r → has_turn p a r g ≡ false
-  ended_before g over = let none : leb r (count_of p g) ≡ false = grind (arith, nat_tests) in go (is_of_seat p a g) none where
-    go : (its : Bool) → leb r (count_of p g) ≡ false → (its && leb r (count_of p g)) ≡ false
-    go true e = e
-    go false e = refl
+  ended_before g over = grind arith
 
   -- nor where it is another processor's
   of_another : (g : ℕ) → is_of_seat p a g ≡ false → has_turn p a r g ≡ false
   of_another g other = ap (λ (its : Bool). its && leb r (count_of p g)) other
 
-  takes_turn : (g : ℕ) → r ≤ count_of p g → is_of_seat p a g ≡ true → has_turn p a r g ≡ true
-  takes_turn g live its = ap (λ (b : Bool). b && leb r (count_of p g)) its ∙ le-leb r (count_of p g) live
-
   pub turn_stands : (g : ℕ) → g < length p.goroutines → has_turn p a r g ≡ true → HasTurn p a r g
-  turn_stands g lt turn = go (is_of_seat p a g) (leb r (count_of p g)) refl refl turn where
-    go : (its live : Bool) → is_of_seat p a g ≡ its → leb r (count_of p g) ≡ live → (its && live) ≡ true → HasTurn p a r g
-    go true true e f q = record { there = lt; going = leb-true r (count_of p g) f; its = e }
-    go true false e f q = absurd cc
-    go false live e f q = absurd cc
+  turn_stands g lt turn = grind arith
 
   pub passed : (g : ℕ) → g < length p.goroutines → has_turn p a r g ≡ false → turns_from g ≡ turns_from (g + 1)
-  passed g h none = one_more g h ∙ rw none refl
+  passed g h none = grind arith
 
   pub has_one : (g : ℕ) → g < length p.goroutines → has_turn p a r g ≡ true → turns_from g ≡ op.Poll ∷ work_of p r g ∷ turns_from (g + 1)
   has_one g h one = one_more g h ∙ rw one refl
 
-  -- where no turn stands, each goroutine of the processor has ended
-  not_cons : (x y : Op) (xs : List Op) → x ∷ y ∷ xs ≡ [] → ⊥
-  not_cons x y xs e = absurd cc
-
   past_here : (n g : ℕ) (b : Bool) → has_turn p a r g ≡ b → cond b (op.Poll ∷ work_of p r g ∷ []) [] ++ flat_map (turn_of p a r) (range_with_len (g + 1) n) ≡ [] → (h : ℕ) → g ≤ h → h < length p.goroutines → is_of_seat p a h ≡ true
       → (flat_map (turn_of p a r) (range_with_len (g + 1) n) ≡ [] → g + 1 ≤ h → count_of p h < r) → count_of p h < r
-  past_here n g true t q h le lt its ih = absurd (not_cons op.Poll (work_of p r g) _ q)
-  past_here n g false t q h le lt its ih = elim (cases_lt g h) [
-    | inl more ↦ ih q (omega arith)
-    | inr here ↦
-        let same : h ≡ g = omega arith in
-        elim (cases_lt (count_of p h) r) [
-          | inl past ↦ past
-          | inr live ↦ absurd (let turn : has_turn p a r h ≡ true = takes_turn h live its in let none : has_turn p a r h ≡ false = ap (has_turn p a r) same ∙ t in cc)
-        ]
-  ]
+  past_here n g b t q h le lt its ih = grind arith
 
   pub all_past : (n g : ℕ) → g + n ≡ length p.goroutines → flat_map (turn_of p a r) (range_with_len g n) ≡ [] → (h : ℕ) → g ≤ h → h < length p.goroutines → is_of_seat p a h ≡ true → count_of p h < r
   all_past zero g e none h le lt its = absurd (omega arith)
@@ -129,14 +98,10 @@ module _ (p : Program) (a : ℕ) where
       ∙ rw (more, whole) (append_assoc (round_of p a (r + 1)) (flat_map (round_of p a) (range_with_len ((r + 1) + 1) (total_of p - (r + 1)))) (op.Leave ∷ []))
 
   pub later_after : (r g h : ℕ) → r < total_of p → turns_from p a r g ≡ [] → turns_from p a (r + 1) 0 ≡ op.Poll ∷ work_of p (r + 1) h ∷ turns_from p a (r + 1) (h + 1) → to_come p a (next.Poll (r + 1) h) ≡ later p a r g
-  later_after r g h lt none e = later_here (r + 1) 0 h e ∙ sym (later_next r g lt none)
+  later_after r g h lt none e = grind (arith, later_here, later_next, none)
 
   pub later_none : (r g : ℕ) → turns_from p a r g ≡ [] → turns_from p a (r + 1) 0 ≡ [] → to_come p a next.Leave ≡ later p a r g
-  later_none r g none e =
-      let whole : length p.goroutines - 0 ≡ length p.goroutines = omega arith in
-      let past : (h : ℕ) → h < length p.goroutines → is_of_seat p a h ≡ true → count_of p h < r + 1 = λ h lt its. all_past p a (r + 1) (length p.goroutines) 0 (omega arith) (subst (λ (n : ℕ). flat_map (turn_of p a (r + 1)) (range_with_len 0 n) ≡ []) whole e) h (omega arith) lt its in
-      let rest : flat_map (round_of p a) (range_with_len (r + 1) (total_of p - r)) ≡ [] = no_rounds (total_of p - r) (r + 1) past in
-      rw (none, rest) refl
+  later_none r g none e = grind (arith, all_past, no_rounds, none)
 
   pub opens_at : turns_of p a ≡ later p a 0 0
   unfolding turns_of
@@ -149,30 +114,14 @@ module _ (p : Program) (a : ℕ) where
 module _ (p : Program) where
   -- ---- a goroutine is over once its last turn is
 
-  past_more : (r g h k : ℕ) → g ≤ h → IsPast p r g k → IsPast p r h k
-  past_more r g h k le past = go (ltb k g) (ltb k h) refl refl past where
-    go : (a b : Bool) → ltb k g ≡ a → ltb k h ≡ b → count_of p k < r + bit a → count_of p k < r + bit b
-    go true true e f q = q
-    go true false e f q = absurd (let lt = ltb-true k g e in let t = lt-ltb k h (omega arith) in cc)
-    go false true e f q = omega arith
-    go false false e f q = q
-
-  past_round : (r g h k : ℕ) → IsPast p r g k → IsPast p (r + 1) h k
-  past_round r g h k past = go (ltb k g) (ltb k h) past where
-    go : (a b : Bool) → count_of p k < r + bit a → count_of p k < (r + 1) + bit b
-    go true true q = omega arith
-    go true false q = omega arith
-    go false true q = omega arith
-    go false false q = omega arith
-
   pub over_here : (r g h k : ℕ) → g ≤ h → IsPast p r g k → MayBeOver p (next.Poll r h) k
-  over_here r g h k le past = past_more r g h k le past
+  over_here r g h k le past = grind arith
 
   pub over_next : (r g h k : ℕ) → IsPast p r g k → MayBeOver p (next.Poll (r + 1) h) k
-  over_next r g h k past = past_round r g h k past
+  over_next r g h k past = grind arith
 
   pub over_more : (r g k : ℕ) → IsPast p r g k → IsPast p r (g + 1) k
-  over_more r g k past = past_more r g (g + 1) k (omega arith) past
+  over_more r g k past = grind arith
 
   no_statement : (xs : List Stmt) (n : ℕ) → slice_get xs n ≡ None → length xs ≤ n
   no_statement xs n e = elim (cases_lt n (length xs)) [
@@ -248,10 +197,7 @@ module _ (p : Program) (a : ℕ) where
       rw same (omega (arith, here, rest, both))
 
   own_le : (g : ℕ) → own_count p a g ≤ count_of p g
-  own_le g = go (is_of_seat p a g) where
-    go : (its : Bool) → cond its (count_of p g) 0 ≤ count_of p g
-    go true = omega arith
-    go false = omega arith
+  own_le g = grind arith
 
   all_before : (n g : ℕ) → g + n ≡ length p.goroutines → before_round (total_of p + 1) g n ≡ sum_by (own_count p a) (range_with_len g n)
   unfolding before_round
@@ -287,7 +233,7 @@ module _ (p : Program) where
       omega (arith, own, ih, head, more, first)
 
   pub total_by-le : (a : ℕ) → total_by p a ≤ total_of p
-  total_by-le a = from_here (own_count p a) (own_le p a) (length p.goroutines) 0 (omega arith)
+  total_by-le a = grind (arith, from_here, own_le)
 
   -- and so are those of all processors together, since each goroutine is of one
   once_at_most : (n k r c : ℕ) → (sum_by (λ (a : ℕ). cond (eqb r a) c 0) (range_with_len k n) ≤ c) × (r < k → sum_by (λ (a : ℕ). cond (eqb r a) c 0) (range_with_len k n) ≡ 0)

@@ -61,11 +61,7 @@ module _ (w : State) (f : Kept w) (es : List (Entry Op)) (after : IsAfter w es) 
       ap (first_going f) (sym (append-nil (range_with_len a m))) ∙ first_same f g n a m [] [] le same refl ∙ ap (first_going g) (append-nil (range_with_len a m))
 
   pub same_turn : (a : ℕ) → a < actors_of w → turn_from (is_done w) (actors_of w) a ≡ turn_in p l es a
-  same_turn a lt =
-      let n = actors_of w in
-      let ends : (b : ℕ) → b < n → is_done w b ≡ ended_after (setting_of p l) es b = λ b low. sym (same_end b low) in
-      first_same (is_done w) (ended_after (setting_of p l) es) n a (n - a) (range_with_len 0 a) (range_with_len 0 a) (omega (arith, lt)) ends (first_low (is_done w) (ended_after (setting_of p l) es) n 0 a (omega (arith, lt)) ends)
-      ∙ ap (λ (k : ℕ). turn_from (ended_after (setting_of p l) es) k a) (sym same_count)
+  same_turn a lt = grind (arith, first_low, first_same, same_count, same_end)
 
 -- one actor more is passed over, or has the turn
 pub turn_on : (ended : ℕ → Bool) (a n : ℕ) (rest : List ℕ) (b : Bool) → a < n → ended a ≡ b → first_going ended (range_with_len a (n - a) ++ rest) ≡ cond b (first_going ended (range_with_len (a + 1) (n - (a + 1)) ++ rest)) (Some a)
@@ -74,5 +70,4 @@ turn_on ended a n rest b lt e =
     ap (λ (k : ℕ). first_going ended (range_with_len a k ++ rest)) more ∙ ap (λ (c : Bool). cond c (first_going ended (range_with_len (a + 1) (n - (a + 1)) ++ rest)) (Some a)) e
 
 pub turn_low : (ended : ℕ → Bool) (a n : ℕ) (b : Bool) → a < n → ended a ≡ b → first_going ended (range_with_len a (n - a)) ≡ cond b (first_going ended (range_with_len (a + 1) (n - (a + 1)))) (Some a)
-turn_low ended a n b lt e =
-    ap (first_going ended) (sym (append-nil (range_with_len a (n - a)))) ∙ turn_on ended a n [] b lt e ∙ ap (λ (xs : List ℕ). cond b (first_going ended xs) (Some a)) (append-nil (range_with_len (a + 1) (n - (a + 1))))
+turn_low ended a n b lt e = grind arith

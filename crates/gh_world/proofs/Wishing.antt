@@ -13,10 +13,7 @@ use Rattle.gh_lists.specs.Wants.{total}
 use Rattle.gh_world.specs.Wishes.{may_ask, wishes_among, wishes_in}
 
 one_wish : (s : Stmt) (b : Bool) → may_ask s ≡ b → wishes_among (s ∷ []) ≡ cond b 1 0
-one_wish s b e = ap (λ (c : Bool). length (cond c (s ∷ []) [])) e ∙ go b where
-  go : (b : Bool) → length (cond b (s ∷ []) []) ≡ cond b 1 0
-  go true = refl
-  go false = refl
+one_wish s b e = grind arith
 
 pub more_wishes : (xs : List Stmt) (n : ℕ) (s : Stmt) (b : Bool) → slice_get xs n ≡ Some s → may_ask s ≡ b → wishes_among (take (n + 1) xs) ≡ wishes_among (take n xs) + cond b 1 0
 more_wishes xs n s b is e =

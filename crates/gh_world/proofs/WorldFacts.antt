@@ -1,8 +1,7 @@
 -- One step of a processor in a world is one entry more of a legal list.
 use Rattle.std.proofs.Common.{◌≡◌, ℕ, ◌+◌, ◌<◌, ◌≤◌, Bool, true, false, cond, eqb, ◌&&◌, ◌||◌, List, ◌∷◌, ◌++◌, length, length-set, reverse, get_or, refl, sym, ◌∙◌, ap, subst, Option, Some, None, arith}
-use Rattle.gh_mutator.specs.declared.task.Task.TheVariants as task
 use Rattle.gh_mutator.specs.Serving.{answer_at as answer_at_task}
-use Rattle.gh_world.specs.Vocabulary.{is_serving, is_last}
+use Rattle.gh_world.specs.Vocabulary.{is_last}
 use Rattle.gh_base.specs.Steps.{IsShown}
 use Rattle.gh_lists.specs.declared.handshake.Actor.TheVariants as actor
 use Rattle.gh_world.specs.declared.runner.Runner.{Runner}
@@ -11,7 +10,7 @@ use Rattle.gh_world.specs.Turns.{Stands, statement_count, statement_now, next_po
 use Rattle.gh_world.specs.World.{ComesNext, counts_after, event_at, event_by, last_after, LaysOut, MadeAtMost, now_by, now_in, op_at_turn, points_in}
 use Rattle.gh_world.proofs.Vocabulary.{acks_of, Actor, actor_after, acts, Answer, answer_in, answered_in, asks, Begins, begun_in, bit, by, cell_of, changed, ended_in, ends, Entry, eq-eqb, eqb-false, eqb-true, event_of, get_or-set_other, get_or-set_same, gives_at, has_left, InRange, is_busy_at, is_point, is_some, is_statement, its_goroutine, Layout, leave_is_begun, leaves, MayBeOver, Next, Op, op_due, option_to_list, Processor, processor_kind, Program, Progress, progress_after, request, set, setting_of, Shape, slice_get, started, state_of, statement_answer, statements_among, StepsAreShown, takes, target, Task, to_come, total_of, turns_of, WellFormed, with_goroutine, words_after}
 use Rattle.gh_world.proofs.Due.{due_goroutine, false_unless}
-use Rattle.gh_world.proofs.MayBegin.{due_begins, ended_then, left_then}
+use Rattle.gh_world.proofs.MayBegin.{due_begins, ended_then}
 use Rattle.gh_world.proofs.OneRun.{one_more}
 use Rattle.gh_world.proofs.Parts.{After, IsRunnerAt, Parts}
 use Rattle.gh_world.proofs.Resting.{begun_is, is_processor}
@@ -24,8 +23,7 @@ module _ (p : Program) (a : ℕ) where
   ended_after t (Some o) new es follows over g h = ended_then p a t o new (ended_in es) follows over g h
 
   left_after : (t : Next) (b : Option Op) (new : Next) (es : List (Entry Op)) → ComesNext p a t b new → ((o : Op) → b ≡ Some o → op_due p t ≡ Some o) → (has_left es ≡ true → leave_is_begun t ≡ true) → (leaves b || has_left es) ≡ true → leave_is_begun new ≡ true
-  left_after t None new es follows due left h = ap leave_is_begun follows ∙ left h
-  left_after t (Some o) new es follows due left h = left_then p a t o new (has_left es) follows (due o refl) left h
+  left_after t b new es follows due left h = grind arith
 
 -- the statements begun are counted
 pub counted_after : (t : Progress) (b : Option Op) (bs : List Op) → length t.begun ≡ 32 → ((o : Op) → b ≡ Some o → is_statement o ≡ true → its_goroutine o < 32) → ((g : ℕ) → g < 32 → get_or t.begun g 0 ≡ statement_count g bs) → (g : ℕ) → g < 32 → get_or (counts_after t b) g 0 ≡ statement_count g (option_to_list b ++ bs)
@@ -58,20 +56,8 @@ now_after t (Some o) bs long few counted now = go (is_statement o) refl (counted
 
 -- ---- what a step says of answers
 
--- the last step of an actor is no statement's
-last_is_none : (t : Task) → is_last t ≡ true → is_serving t ≡ false
-last_is_none (task.Leave x) e = refl
-last_is_none _ e = absurd (cc)
-
-told_by : (now : ℕ × ℕ) (last serves : Bool) (a : Option Answer) → (last ≡ true → serves ≡ false) → answered_in (event_at now last (cond serves a None)) ≡ with_goroutine now.0 (cond serves a None)
-told_by now true true a quiet = absurd (let no = quiet refl in cc)
-told_by now true false a quiet = refl
-told_by now false true None quiet = refl
-told_by now false true (Some a) quiet = refl
-told_by now false false a quiet = refl
-
 told_at : (now : ℕ × ℕ) (t : Task) (a : Option Answer) → answered_in (event_at now (is_last t) (answer_at_task t a)) ≡ with_goroutine now.0 (answer_at_task t a)
-told_at now t a = told_by now (is_last t) (is_serving t) a (last_is_none t)
+told_at now t a = grind arith
 
 -- ---- one step is one entry more
 
@@ -110,10 +96,7 @@ module _ (p : Program) (l : Layout) (runnable : WellFormed p) (laid : LaysOut p 
 
   -- an operation that begins is the one that is due
   pub due_at : (m : Processor) (t : Next) (b : Option Op) (o : Op) → b ≡ op_at_turn p (is_busy_at m.task) t → b ≡ Some o → (is_busy_at m.task ≡ false) × (op_due p t ≡ Some o)
-  due_at m t b o is some = go (is_busy_at m.task) refl where
-    go : (c : Bool) → is_busy_at m.task ≡ c → (is_busy_at m.task ≡ false) × (op_due p t ≡ Some o)
-    go true e = absurd (let none : Some o ≡ None = sym some ∙ is ∙ ap (λ (c : Bool). op_at_turn p c t) e in cc)
-    go false e = (e, sym (ap (λ (c : Bool). op_at_turn p c t) e) ∙ sym is ∙ some)
+  due_at m t b o is some = grind arith
 
   abbrev OwnEntries : Type 0
   OwnEntries = (es : List (Entry Op)) → state_of (processor_kind p.shapes l) a es ≡ state_of (processor_kind p.shapes l) a (by a es)

@@ -26,7 +26,8 @@ pub use Rattle.gh_lines.specs.Text.{SweptCycle}
 pub use Rattle.gh_lists.specs.Handshake.{EveryListKeepsIt}
 pub use Rattle.gh_lists.specs.Lists.{EndsCycle, IsEnding}
 pub use Rattle.gh_lists.specs.Marking.{IsStartOf}
-pub use Rattle.gh_lists.specs.Numbers.{generation_after, opened_in, Outside, Part, part_of}
+pub use Rattle.gh_coord.specs.Parts.{Outside, Part, part_of}
+pub use Rattle.gh_lists.specs.Numbers.{generation_after, opened_in}
 pub use Rattle.gh_lists.specs.Order.{answered, before_step, ever_of, order_of}
 pub use Rattle.gh_lists.specs.Processors.{arena_of, ever_after_list, FullOnlyThere, IsFullFor, IsPlacedAt}
 pub use Rattle.gh_lists.specs.Wants.{AreFew, CyclesAreFew, ProcessorsBeginFew}

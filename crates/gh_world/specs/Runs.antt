@@ -1,7 +1,7 @@
 -- Whole runs: a list of the steps of all actors in which each processor's operations are its turns, and at whose end all are done; and what such a list says of a script's answers, its cycles and what is live.
 use Rattle.std.specs.Prelude.{◌≡◌, ℕ, ◌+◌, ◌*◌, ◌%◌, ◌^◌, ◌<◌, ◌≤◌, Bool, true, false, List, [], ◌∷◌, ◌++◌, length, map, reverse, slice_get, Option, Some, None}
 use Rattle.std.specs.List.{filter}
-use Rattle.gh_world.specs.Vocabulary.{acts, AllAnswer, Answer, answers_by, Entry, Layout, Legal, Op, opening_ever, Program, state_of, statements_of, WellFormed, Words, words_after}
+use Rattle.gh_world.specs.Vocabulary.{acts, AllAnswer, Answer, answers_by, Entry, Layout, Legal, Op, opening_ever, Program, statements_of, WellFormed, Words, words_after}
 use Rattle.gh_base.specs.Cells.{seats_of}
 use Rattle.gh_base.specs.Lists.{by}
 use Rattle.gh_base.specs.declared.operation.Op.TheVariants as op
@@ -10,7 +10,6 @@ use Rattle.gh_coord.specs.declared.cycles.Cycle.{Cycle}
 use Rattle.gh_coord.specs.Keeping.{last_kept}
 use Rattle.gh_coord.specs.Listing.{Coordinating}
 use Rattle.gh_lines.specs.Text.{Outcome, SweptCycle}
-use Rattle.gh_mutator.specs.Deeds.{processor_kind}
 use Rattle.gh_mutator.specs.Listing.{gives}
 use Rattle.gh_script.specs.Program.{statement_as_op}
 use Rattle.gh_lists.specs.declared.handshake.Actor.TheVariants.{Leads}
@@ -18,10 +17,12 @@ use Rattle.gh_law.specs.Actors.{AllStands, AwaitedCycle}
 use Rattle.gh_law.specs.Below.{FreesTheUnreached, FreesWithinTwo, objects_in, scanned_in}
 use Rattle.gh_law.specs.Credit.{earned_in, lapsed_in, spent_among, spent_in}
 use Rattle.gh_world.specs.Cycles.{AreLive, cycles_in}
+use Rattle.gh_lists.specs.Numbers.{opened_in}
 use Rattle.gh_lists.specs.Order.{acted_at, acted_in, Answered, before_step, begun_in, ever_of, order_of}
 use Rattle.gh_lists.specs.Processors.{arena_of, IsFullFor}
 use Rattle.gh_world.specs.Schedule.{ended_after, IsInTurn}
 use Rattle.gh_world.specs.Turns.{turns_of, answers_to, is_of_seat, is_statement_of}
+use Rattle.gh_world.specs.Wishes.{most_cycles}
 use Rattle.gh_world.specs.World.{actor_after, actor_of, actors_of, answer_in, LaysOut, now_in, setting_of, State, with_goroutine, setup_of}
 
 module _ (p : Program) (l : Layout) where
@@ -103,7 +104,7 @@ module _ (p : Program) (l : Layout) where
   -- The operation acted in the list, behind i others, where there was no room; and behind its first entry a cycle began that was swept by then.
   pub record FoundNoRoom (es : List (Entry Op)) (i : ℕ) (o : Op) : Type 0 where
     pub step : ActedBehind es i o true
-    pub no_room : IsFullFor (arena_of p.shapes l) step.entry.actor (words_in p l step.before) (state_of (processor_kind p.shapes l) step.entry.actor step.before) o
+    pub no_room : IsFullFor (arena_of p.shapes l) step.entry.actor (words_in p l step.before) o
     pub waited : Awaited step.entry.actor step.before o
 
   -- whichever operation is answered `full`, it acted where there was no room
@@ -157,6 +158,10 @@ module _ (p : Program) (l : Layout) where
     pub live : AreLive p.shapes (ever_of p.shapes l es) o.objects o.bytes
 
 -- ---- laws
+
+-- No legal list of a script's actors opens more cycles than there is room for.
+abbrev pub CyclesHaveRoom : Type 0
+CyclesHaveRoom = (p : Program) (l : Layout) (es : List (Entry Op)) → WellFormed p → LaysOut p l → Legal (setting_of p l) es → opened_in es ≤ most_cycles p
 
 -- Whatever the script, and whatever run of it so far, in every order of steps: all stands that stands after each legal list of all actors. A whole run is one to which nothing is to come.
 abbrev pub EveryRunStands : Type 0

@@ -1,4 +1,4 @@
-//! The world that runs a script with the actors of a heap, and what its runs come to.
+//! The world that runs a script with the actors of a heap.
 //!
 //! A world has the words of a heap, the processors that run the script's goroutines in turns (`turns`), the
 //! workers that mark and sweep, and the coordinator that opens cycles, ends them and has the spans swept. One step of it
@@ -19,10 +19,8 @@
 //! for the heap that never frees after every single step, and not only between statements.
 //!
 //! What every list of the actors' steps keeps is said below: of their numbers and the handshake in `gh_lists`, of the heap in
-//! `gh_law`. Here [`every_run_stands`] says what of it holds after each step of a script's run, [`every_run_is_explained`] what whole runs come to,
-//! [`a_script_has_one_run`] that there is one in each order of steps, [`runs_go_on`] that it goes on until it is whole.
-//! [`points_are_statements`] says which statements its points are, and [`statements_are_enough`] that the heap that never
-//! frees comes to the same along these alone. While a cycle is marked a processor may wait for it while the others store:
+//! `gh_law`. What a script's runs come to is defined here (specs/Runs.antt) and shown in `gh_explained`; [`points_are_statements`]
+//! says which statements the points of a run are. While a cycle is marked a processor may wait for it while the others store:
 //! their barriers shade what they overwrite and what they write.
 #![tactic(auto)]
 
@@ -35,10 +33,7 @@ mod wishes;
 mod world;
 
 pub use event::{Event, Totals};
-pub use laws::{
-    a_script_has_one_run, every_run_is_explained, every_run_stands, points_are_statements,
-    runs_go_on, statements_are_enough, what_is_due_fits,
-};
+pub use laws::{cycles_have_room, points_are_statements, what_is_due_fits};
 pub use progress::Progress;
 pub use turns::{Next, total_of};
 pub use wishes::{most_cycles, wishes_of};

@@ -1,6 +1,6 @@
 //! A processor of a world, and how far it is among its turns.
 
-ghost use Rattle.std.specs.Prelude.{◌≡◌, ◌<◌, ◌&&◌, not, length, slice_index, true, false, IsTrue, MatchOption};
+ghost use Rattle.std.specs.Prelude.{◌≡◌, ◌<◌, ◌&&◌, not, length, slice_index, true, false, IsTrue, MatchOption, None};
 ghost use Rattle.gh_base.specs.Cells.{InRange, length_of};
 ghost use Rattle.gh_base.specs.declared.limits.TheConstants.{MOST_GOROUTINES};
 ghost use Rattle.gh_base.specs.Steps.{cell_of, changed, request, target};
@@ -8,6 +8,7 @@ ghost use Rattle.gh_base.specs.declared.cell.Ask.TheVariants as ask;
 ghost use Rattle.gh_base.specs.declared.cell.Cell.TheVariants as cell;
 ghost use Rattle.gh_base.specs.declared.value.Answer.TheVariants as answers;
 ghost use Rattle.gh_world.specs.declared.event.Event.TheVariants as events;
+ghost use Rattle.gh_mutator.specs.Listing.{search_goes_on};
 ghost use Rattle.gh_mutator.specs.Mutating as mutating;
 ghost use Rattle.gh_mutator.specs.Mutating.{asks, goes, is_busy, passes, sets};
 ghost use Rattle.gh_mutator.specs.Serving.{has_left_at, is_last, is_point, statement_answer};
@@ -22,6 +23,20 @@ use gh_mutator::Mutator;
 use gh_mutator::laws::polls_make_room;
 use gh_script::Script;
 use gh_words::{Plain, Words};
+
+/// Makes the step that found this at once, where by it the search of a `new` goes on ([`Mutator::goes_on`]).
+// It stands apart, so that the loop of turns holds none of it.
+#[inline(never)]
+fn goes_on<'s>(mutator: &mut Mutator<'s>, found: u64) -> bool
+    ensures exactly { result ≡ search_goes_on mutator.old.processor.task found }
+    ensures goes { IsTrue result → mutator.new ≡ goes mutator.old found }
+    ensures last { IsTrue result → is_last mutator.old.processor.task ≡ false }
+    ensures point { IsTrue result → is_point (mutating.acts mutator.old found) ≡ false }
+    ensures answer { IsTrue result → statement_answer mutator.old.processor found ≡ None }
+    ensures stays { result ≡ false → mutator.new ≡ mutator.old }
+{
+    mutator.goes_on(found)
+}
 
 /// A processor, and how far it is among its turns.
 #[derive(Drop)]
@@ -178,7 +193,7 @@ impl<'s> Runner<'s> {
             result.1 ≡ is_point (mutating.acts self.old.mutator found) }
     {
         let found = words.step(self.mutator.next());
-        if self.mutator.goes_on(found) {
+        if self.mutator.is_searching() && goes_on(&mut self.mutator, found) {
             return (Event::Moved, false);
         }
         let is_serving = self.mutator.is_serving();

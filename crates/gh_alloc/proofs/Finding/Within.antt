@@ -1,5 +1,5 @@
 -- The slot that the search of a cached span ends with lies in the arena.
-use Rattle.std.proofs.Common.{◌≡◌, ℕ, suc, ◌+◌, ◌*◌, ◌/◌, ◌<◌, ◌≤◌, Bool, true, false, cond, Option, Some, None, IfSome, subst, arith}
+use Rattle.std.proofs.Common.{◌≡◌, ℕ, suc, ◌+◌, ◌*◌, ◌/◌, ◌<◌, ◌≤◌, Option, Some, None, IfSome, arith}
 use Rattle.std.proofs.Math.Nat.{mul-le-mul_left, mul-le-mul_right}
 use Rattle.gh_class.specs.declared.class.TheConstants.{CLASSES}
 use Rattle.gh_class.specs.declared.class.SizeClass.TheVariants as size
@@ -7,8 +7,7 @@ use Rattle.gh_class.specs.Classes.{pages_of, slot_of, slots_of}
 use Rattle.gh_cache.specs.Listing as slots
 use Rattle.gh_cache.specs.Sound as slots_sound
 use Rattle.gh_cache.specs.declared.next_slot.SlotStage.{SlotStage}
-use Rattle.gh_cache.specs.declared.next_slot.SlotStage.TheVariants as stage
-use Rattle.gh_alloc.specs.Vocabulary.{Layout, SpanClass, Sought, Small, Large, CachedSpan, At, FindStage, Slots}
+use Rattle.gh_alloc.specs.Vocabulary.{Layout, SpanClass, Sought, Small, CachedSpan, At, Slots}
 use Rattle.gh_alloc.specs.Find.{Finding, move_cursor, span_for, word_at_cursor}
 use Rattle.gh_alloc.specs.FindSound.{IsCached, IsStage, Sound}
 use Rattle.gh_alloc.specs.Within.{LiesWithin, words_sought}
@@ -39,30 +38,12 @@ module _ (fit : (c : ℕ) → c < CLASSES → slots_of c * slot_of c ≤ 8192 * 
 
   word_fits : (l : Layout) (w : Sought) (cached : Option CachedSpan) (cursor class : ℕ) → IsAtSlot l cursor class → size.Small class ≡ (span_for w).class → IsCached l w cached →
       word_at_cursor w (move_cursor cursor cached) + words_sought w ≤ 1024 * l.pages
-  word_fits l (Small c) cached cursor class at same within = small_fits l c cached cursor (let is : class ≡ c.class = cc in subst (λ (n : ℕ). IsAtSlot l cursor n) is at) within
-  word_fits l (Large pages noscan) cached cursor class at same within = absurd (cc)
-
-  -- the search after its step, by the tests that the slot at the cursor is clear and that one stands behind it
-  abbrev after : slots.Searching → (clear more : Bool) → slots.Searching
-  after s clear more = cond clear (slots.at_stage s (stage.Ended (Some s.span.cursor))) (record s { span = record (s.span) { cursor = s.span.cursor + 1 }; stage = cond more stage.Look (stage.Ended None) })
+  word_fits l w cached cursor class at same within = grind (arith, small_fits)
 
   look_fits : (f : Finding) (s : slots.Searching) (p : SlotStage) (found : ℕ) → slots_sound.FitsArena s.layout s.span → slots_sound.IsStage s.span p → IsStage f.layout f.wanted (Slots (slots.at_stage s p)) → IsCached f.layout f.wanted f.cached → (out : Option ℕ) → slots.given (slots.goes_at s p found) ≡ Some out →
       IfSome out (λ _. LiesWithin f.layout f.wanted (At (word_at_cursor f.wanted (move_cursor (slots.goes_at s p found).span.cursor f.cached))))
-  look_fits f s stage.Look found span here runs within = by (slots.is_found s found) (slots.has_next_slot s.span) where
-    in_heap : pages_of s.span.class ≤ f.layout.pages
-    in_heap = subst (λ (l : Layout). pages_of s.span.class ≤ l.pages) runs.0 (let h : s.span.head + pages_of s.span.class ≤ s.layout.pages = span.pages in omega arith)
-
-    at : IsAtSlot f.layout s.span.cursor s.span.class
-    at = record { among = span.class; below = here; pages = in_heap }
-
-    by : (clear more : Bool) (out : Option ℕ) → slots.given (after s clear more) ≡ Some out → IfSome out (λ _. LiesWithin f.layout f.wanted (At (word_at_cursor f.wanted (move_cursor (after s clear more).span.cursor f.cached))))
-    by clear more None e = tt
-    by true more (Some slot) e = word_fits f.layout f.wanted f.cached s.span.cursor s.span.class at runs.1 within
-    by false true (Some slot) e = absurd (cc)
-    by false false (Some slot) e = absurd (cc)
-  look_fits f s (stage.Ended slot) found span here runs within = absurd (cc (runs.2))
+  look_fits f s p found span here runs within = grind (arith, word_fits)
 
   pub slot_fits_heap : (f : Finding) (s : slots.Searching) (found : ℕ) → Sound f → slots_sound.Sound s → f.stage ≡ Slots s → (out : Option ℕ) → slots.gives s found ≡ Some out →
       IfSome out (λ _. LiesWithin f.layout f.wanted (At (word_at_cursor f.wanted (move_cursor (slots.goes s found).span.cursor f.cached))))
-  slot_fits_heap f s found sound search is =
-      look_fits f s s.stage found search.span search.stage (subst (λ (p : FindStage). IsStage f.layout f.wanted p) is sound.stage) sound.cached
+  slot_fits_heap f s found sound search is = grind (arith, look_fits)

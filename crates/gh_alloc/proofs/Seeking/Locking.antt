@@ -1,13 +1,12 @@
 -- The search where a collector runs has the lock at the stages that say so.
-use Rattle.std.proofs.Common.{◌≡◌, ℕ, zero, suc, Bool, true, false, cond, Option, Some, None, refl, sym, ap, ◌∙◌}
+use Rattle.std.proofs.Common.{◌≡◌, ℕ, zero, suc, Bool, true, false, cond, Option, refl, sym, ap, ◌∙◌, arith}
 use Rattle.gh_base.specs.Routines.{told}
 use Rattle.gh_central.specs.Reclaim.{Reclaiming}
 use Rattle.gh_central.specs.Reclaim as reclaim
 use Rattle.gh_central.specs.declared.reclaim.ReclaimStage.{ReclaimStage}
-use Rattle.gh_central.specs.declared.reclaim.ReclaimStage.TheVariants as reclaim_stage
 use Rattle.gh_alloc.specs.declared.search.SearchStage.{SearchStage}
 use Rattle.gh_alloc.specs.declared.search.SearchStage.TheVariants.{First, Free, Second}
-use Rattle.gh_alloc.specs.Vocabulary.{FindStage, Unlock}
+use Rattle.gh_alloc.specs.Vocabulary.{FindStage}
 use Rattle.gh_alloc.specs.Find.{Finding}
 use Rattle.gh_alloc.specs.Find as find
 use Rattle.gh_alloc.specs.Locking.{holds, lock_after}
@@ -20,26 +19,16 @@ has_lock_at p (Free r) = true
 has_lock_at p _ = has_lock p
 
 pub reclaim_asks : (r : Reclaiming) (p : ReclaimStage) (held : Bool) (w : ℕ) → lock_after held (reclaim.asks_at r p) w ≡ held
-reclaim_asks r (reclaim_stage.Look page) held w = refl
-reclaim_asks r (reclaim_stage.Sweep page pages sw) held w = finding.sweep_asks sw sw.stage held w
-reclaim_asks r _ held w = refl
-
--- where it has found none it has the lock
-pub none_with : (p : FindStage) → find.finds_none_at p ≡ true → has_lock p ≡ true
-none_with (Unlock after) e = refl
-none_with _ e = absurd (cc)
+reclaim_asks r p held w = grind arith
 
 first_with : (g : Finding) (b : Bool) → find.finds_none g ≡ b → has_lock g.stage ≡ has_lock_at g.stage (cond b (Free (reclaiming g)) First)
-first_with g true e = none_with g.stage e
-first_with g false e = refl
+first_with g b e = grind arith
 
 second_with : (g : Finding) (b : Bool) → has_lock g.stage ≡ has_lock_at g.stage (cond b First Second)
-second_with g true = refl
-second_with g false = refl
+second_with g b = grind arith
 
 free_with : (f : Finding) (r : Reclaiming) (out : Option (Unit {0})) → true ≡ has_lock_at (after_free f r out).find.stage (after_free f r out).stage
-free_with f r None = refl
-free_with f r (Some x) = sym (finding.spans_with f f.wanted)
+free_with f r out = grind arith
 
 step : (f : Finding) (p : SearchStage) (w : ℕ) → lock_after (has_lock_at f.stage p) (asks_at f p) w ≡ has_lock_at (goes_at f p w).find.stage (goes_at f p w).stage
 step f First w = finding.step f f.stage w ∙ first_with (find.goes f w) (find.finds_none (find.goes f w)) refl

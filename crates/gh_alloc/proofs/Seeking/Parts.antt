@@ -42,10 +42,4 @@ module _ (asks : ℕ → Ask) (found : ℕ → ℕ) {M Out : Type 0} (r : Listin
     }
 
     pub ends_with : (out : Out) → r.gives x (found n) ≡ Some out → Runs asks found r m first n out
-    ends_with out g = record {
-      steps = run.steps;
-      is_last = run.here;
-      asked = asked_to;
-      busy = ap r.busy (sym run.is) ∙ run.busy;
-      gives = ap (λ (j : ℕ). r.gives (At first run.steps) (found j)) run.here ∙ sym (ap (λ (y : M). r.gives y (found n)) run.is) ∙ g;
-    }
+    ends_with out g = grind (arith, asked_to)

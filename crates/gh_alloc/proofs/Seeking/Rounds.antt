@@ -25,17 +25,14 @@ use Rattle.gh_alloc.proofs.Seeking.Parts.{Running, begins, ends_with, goes_on}
 use Rattle.gh_alloc.proofs.Seeking.Refusing.{search_refuses}
 
 without_none : (p : FindStage) → has_lock p ≡ false → finds_none_at p ≡ false
-without_none (Unlock after) h = absurd (cc)
-without_none _ h = refl
+without_none p h = grind arith
 
 -- it is about to free the lock, where it has not ended
 refuses_yet : (p : FindStage) → refuses_at p ≡ true → find.is_busy p ≡ true → finds_none_at p ≡ true
-refuses_yet (Unlock (End NoRoom)) h busy = refl
-refuses_yet _ h busy = absurd (cc)
+refuses_yet p h busy = grind arith
 
 refusing_asks : (f : Finding) (p : FindStage) → finds_none_at p ≡ true → find.asks_at f p ≡ Store cell.Lock 0
-refusing_asks f (Unlock after) h = refl
-refusing_asks f _ h = absurd (cc)
+refusing_asks f p h = grind arith
 
 module _ (s : Seeking) (found : ℕ → ℕ) where
   abbrev now : ℕ → Seeking
@@ -123,8 +120,7 @@ module _ (s : Seeking) (found : ℕ → ℕ) where
     Round n _ = ⊥
 
     taken_round : (n : ℕ) (g : Finding) (w : Sought) (page : ℕ) → Round n (taken_for g w page).stage
-    taken_round n g (Small c) page = tt
-    taken_round n g (Large pages noscan) page = tt
+    taken_round n g w page = grind arith
 
     carve_opens : (g : Finding) → base g ≡ base s.find → carve.opening g.layout g.seat g.generation (span_for g.wanted) ≡ carve.opening s.find.layout s.find.seat s.find.generation (span_for s.find.wanted)
     carve_opens g e = ap (λ (b : Base). carve.opening b.layout b.seat b.generation (span_for b.wanted)) e
@@ -197,21 +193,8 @@ module _ (s : Seeking) (found : ℕ → ℕ) where
       by (Some None) g = record { first = k.first; before = k.before; from = k.from; passed = k.passed; last = n; none = ends_with asked found carve.listing _ k.from n x k.runs a None g; next = omega arith }
       by (Some (Some page)) g = taken_round (suc n) (carve_on n f x) f.wanted page
 
-    round_with : (n : ℕ) (p : FindStage) → Round n p → has_lock p ≡ true
-    round_with n (Pass x) k = refl
-    round_with n (Unswept x) k = refl
-    round_with n (Carve x) k = refl
-    round_with n (Unlock after) k = refl
-    round_with n _ k = absurd k
-
     refused : (n : ℕ) (p : FindStage) → finds_none_at p ≡ true → Round n p → RoundEnds n
-    refused n (Pass x) h k = absurd (cc)
-    refused n (Unswept x) h k = absurd (cc)
-    refused n (Carve x) h k = absurd (cc)
-    refused n (Unlock Again) h k = absurd (cc)
-    refused n (Unlock (End (At x))) h k = absurd (cc)
-    refused n (Unlock (End NoRoom)) h k = k
-    refused n _ h k = absurd k
+    refused n p h k = grind arith
 
   -- What is known at each stage, since the lock was taken at this step.
 
@@ -258,16 +241,8 @@ module _ (s : Seeking) (found : ℕ → ℕ) where
   WithLock lock n p (Free r) = FreeRuns lock n r
   WithLock lock n p Second = Round (HasFreed lock) false n p
 
-  first_with : (lock n : ℕ) (p : FindStage) → WithFirst lock n p → has_lock p ≡ true
-  first_with lock n (Slots x) k = absurd k
-  first_with lock n Lock k = absurd k
-  first_with lock n (Ended out) k = absurd k
-  first_with lock n _ k = refl
-
   has_with : (lock n : ℕ) (p : FindStage) (q : SearchStage) → WithLock lock n p q → has_lock_at p q ≡ true
-  has_with lock n p First k = first_with lock n p k
-  has_with lock n p (Free r) k = refl
-  has_with lock n p Second k = round_with (HasFreed lock) false n p k
+  has_with lock n p q k = grind arith
 
   record Locked (n : ℕ) : Type 0 where
     lock : ℕ
@@ -322,7 +297,7 @@ module _ (s : Seeking) (found : ℕ → ℕ) where
   unlocks n g e h = inl (ap (λ (z : Seeking). z.stage) e, ap (λ (z : Seeking). has_lock z.find.stage) e ∙ h)
 
   unlocks_first : (n : ℕ) (g : Finding) → now (suc n) ≡ record { find = g; stage = after_first g } → has_lock g.stage ≡ false → Tracks (suc n)
-  unlocks_first n g e h = unlocks n g (e ∙ ap (λ (b : Bool). record { find = g; stage = cond b (Free (reclaiming g)) First }) (without_none g.stage h)) h
+  unlocks_first n g e h = grind arith
 
   module _ (start : has_lock_at s.find.stage s.stage ≡ false) (anew : s.find.sweeps ≡ looks_for_unswept s.stage) where
     -- it has the lock then, and had it since
@@ -439,11 +414,7 @@ module _ (s : Seeking) (found : ℕ → ℕ) where
     ]
 
     never_first : (lock n : ℕ) (p : FindStage) → finds_none_at p ≡ true → WithFirst lock n p → ⊥
-    never_first lock n (Slots x) h k = k
-    never_first lock n Lock h k = k
-    never_first lock n (Unlock (End NoRoom)) h k = k
-    never_first lock n (Ended out) h k = k
-    never_first lock n _ h k = cc
+    never_first lock n p h k = grind arith
 
     abbrev Refuses : ℕ → Type 0
     Refuses n = HasFoundNoneTwice s found s.find.layout s.find.seat s.find.generation s.find.wanted n

@@ -1,51 +1,21 @@
 -- The pass takes the first span that it may take.
-use Rattle.std.proofs.Common.{◌≡◌, ◌≢◌, ℕ, zero, suc, ◌+◌, ◌*◌, ◌<◌, ◌≤◌, ◌⊎◌, inl, inr, Bool, true, false, cond, eqb, eq-eqb, ltb, ◌&&◌, Option, Some, None, refl, sym, ap, subst, ◌∙◌, arith, eqb-true}
+use Rattle.std.proofs.Common.{◌≡◌, ◌≢◌, ℕ, zero, suc, ◌+◌, ◌*◌, ◌<◌, ◌≤◌, ◌⊎◌, inl, inr, Bool, true, false, cond, ltb, Option, Some, None, refl, sym, ap, subst, ◌∙◌, arith}
 use Rattle.gh_base.specs.declared.cell.Cell.TheVariants.{Page, Alloc}
 use Rattle.gh_base.specs.declared.cell.Ask.{Ask}
 use Rattle.gh_base.specs.declared.cell.Ask.TheVariants.{Load}
 use Rattle.gh_base.specs.declared.pack.PageWord.TheVariants.{Free, Head, Body}
 use Rattle.gh_base.specs.Routines.{EndsWith, GoesOn, told}
 use Rattle.gh_central.specs.Passing.{IsBits, IsFull, IsHead, IsMet, IsWanted, LacksAt, Passes, StepWasTold, Takes, TakesTheFirst}
-use Rattle.gh_central.proofs.Vocabulary.{after_page, alloc_word, asks, at_stage, beq, Bits, cases_lt, cases_order, Ended, given_at, gives, goes, goes_at, is_busy, is_small, is_wanted, lacks_at, Large, listing, Look, look_from, nat_tests, page_of, pages_gone, PageWord, Pass, PassStage, SizeClass, slot_words_of, slots_of, Small, SpanHead, Take}
+use Rattle.gh_central.proofs.Vocabulary.{after_page, alloc_word, asks, at_stage, Bits, cases_lt, cases_order, Ended, given_at, gives, goes, goes_at, is_busy, is_wanted, lacks_at, listing, Look, look_from, nat_tests, page_of, pages_gone, PageWord, Pass, PassStage, slot_words_of, slots_of, SpanHead, Take}
 use Rattle.gh_central.proofs.Lacking.{lacks_is, lacks_means}
 use Rattle.gh_central.proofs.Passing.Walking.{some_gone, some_pages}
 
-same_of_beq : (x y : Bool) → beq x y ≡ true → x ≡ y
-same_of_beq true true e = refl
-same_of_beq true false e = sym e
-same_of_beq false true e = e
-same_of_beq false false e = refl
-
-beq_same : (x y : Bool) → x ≡ y → beq x y ≡ true
-beq_same true true e = refl
-beq_same true false e = sym e
-beq_same false true e = e
-beq_same false false e = refl
-
-small_means : (class : ℕ) (c : SizeClass) → is_small class c ≡ true → c ≡ Small class
-small_means class (Small c) e = ap Small (eqb-true c class e)
-small_means class Large e = absurd (cc)
-
-small_is : (class : ℕ) (c : SizeClass) → c ≡ Small class → is_small class c ≡ true
-small_is class c e = ap (is_small class) e ∙ eq-eqb class class refl
-
 module _ (m : Pass) where
   wanted_means : (h : SpanHead) → is_wanted m h ≡ true → IsWanted m h
-  wanted_means h = go (is_small m.wanted.class h.class) (beq h.noscan m.wanted.noscan) (eqb h.owner 0) (eqb h.number m.generation) refl refl refl refl where
-    go : (a b c d : Bool) → is_small m.wanted.class h.class ≡ a → beq h.noscan m.wanted.noscan ≡ b → eqb h.owner 0 ≡ c → eqb h.number m.generation ≡ d → (a && b && c && d) ≡ true → IsWanted m h
-    go true true true true e f g i all = record { class = small_means m.wanted.class h.class e; noscan = same_of_beq h.noscan m.wanted.noscan f; nobody = grind (arith, nat_tests); swept = grind (arith, nat_tests) }
-    go true true true false e f g i all = absurd (cc)
-    go true true false d e f g i all = absurd (cc)
-    go true false c d e f g i all = absurd (cc)
-    go false b c d e f g i all = absurd (cc)
+  wanted_means h = grind arith
 
   wanted_is : (h : SpanHead) → IsWanted m h → is_wanted m h ≡ true
-  wanted_is h w =
-      let class : is_small m.wanted.class h.class ≡ true = small_is m.wanted.class h.class w.class in
-      let noscan : beq h.noscan m.wanted.noscan ≡ true = beq_same h.noscan m.wanted.noscan w.noscan in
-      let nobody : eqb h.owner 0 ≡ true = eq-eqb h.owner 0 w.nobody in
-      let swept : eqb h.number m.generation ≡ true = eq-eqb h.number m.generation w.swept in
-      rw (class, noscan, nobody, swept) refl
+  wanted_is h w = grind arith
 
   lacks_by : (page i w : ℕ) → LacksAt m page i w → lacks_at m page i w ≡ true
   lacks_by page i w = lacks_is (slot_words_of m.wanted.class) (1024 * page) (16 * page + i) w (slots_of m.wanted.class)
@@ -71,11 +41,7 @@ module _ (m : Pass) (found : ℕ → ℕ) where
 
   -- the step that was told last, or one before it
   by_last : (n : ℕ) (ask : Ask) (word : ℕ) → Told (suc n) ask word → (Asks n ask × (found n ≡ word)) ⊎ Told n ask word
-  by_last n ask word t = go (cases_order t.0 n) where
-    go : (t.0 ≡ n) ⊎ ((t.0 < n) ⊎ (n < t.0)) → (Asks n ask × (found n ≡ word)) ⊎ Told n ask word
-    go (inl same) = inl (subst (λ (i : ℕ). Asks i ask) same t.2, subst (λ (i : ℕ). found i ≡ word) same t.3)
-    go (inr (inl before)) = inr (t.0, before, t.2, t.3)
-    go (inr (inr behind)) = absurd (let low = t.1 in omega arith)
+  by_last n ask word t = grind arith
 
   full_more : (n page : ℕ) (h : SpanHead) → IsFull m found n page h → IsFull m found (suc n) page h
   full_more n page h full i low = let f = full i low in (f.0, more n _ f.0 f.1, f.2)
@@ -143,7 +109,7 @@ module _ (m : Pass) (found : ℕ → ℕ) where
   -- Step n is the load of a page.
   module _ (n page : ℕ) (a : Asks n (Load (Page page))) (l : Looks n page) where
     before : Passes m found (suc n) page
-    before = passes_more n page l.passes (λ other low. other_page n page other a low)
+    before = grind (arith, other_page, passes_more)
 
     -- a page that is no head of a wanted span is gone past
     goes_past : ((h : SpanHead) → page_of (found n) ≡ Head h → ¬ IsWanted m h) → Arrives (suc n) (look_from m (page + pages_gone (page_of (found n))))
@@ -215,10 +181,7 @@ module _ (m : Pass) (found : ℕ → ℕ) where
     passes_still = passes_more n page k.passes (λ other low. other_step n (alloc_word m page i) other a)
 
     old_page : (q word : ℕ) → Told (suc n) (Load (Page q)) word → Told n (Load (Page q)) word
-    old_page q word t = elim (by_last n (Load (Page q)) word t) [
-      | inl last ↦ absurd (other_step n (alloc_word m page i) q a last.0)
-      | inr old ↦ old
-    ]
+    old_page q word t = grind arith
 
     head_still : Told (suc n) (Load (Page page)) k.word
     head_still = more n (Load (Page page)) k.word k.at
@@ -303,8 +266,7 @@ module _ (m : Pass) (found : ℕ → ℕ) where
   IsAt n (Take page h) = Lacks n page h
 
   arrived : (n : ℕ) (p : PassStage) → Arrives n p → IsAt n p
-  arrived n (Ended taken) k = tt
-  arrived n _ k = k
+  arrived n p k = grind arith
 
   abbrev Stands : ℕ → Type 0
   Stands n = (p : PassStage) × (told listing m found n ≡ at_stage m p) × IsAt n p
@@ -328,9 +290,7 @@ module _ (m : Pass) (found : ℕ → ℕ) where
   -- What it gives.
 
   none_given : (n : ℕ) (q : PassStage) → Arrives n q → given_at q ≡ Some None → Passes m found n m.layout.pages
-  none_given n (Ended None) k e = k
-  none_given n (Ended (Some page)) k e = absurd k
-  none_given n _ k e = absurd (cc)
+  none_given n q k e = grind arith
 
   no_page_given : (n : ℕ) (q : PassStage) (page : ℕ) → Arrives n q → given_at q ≢ Some (Some page)
   no_page_given n (Ended None) page k e = absurd (cc)

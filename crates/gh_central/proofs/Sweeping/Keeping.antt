@@ -1,29 +1,23 @@
 -- What the pass for an unswept span knows of its own numbers stays, whatever it is told.
-use Rattle.std.proofs.Common.{◌≡◌, ℕ, ◌+◌, ◌^◌, ◌<◌, Bool, true, false, cond, ltb, Option, Some, None, refl, sym, ap, subst, ◌∙◌, arith}
+use Rattle.std.proofs.Common.{◌≡◌, ℕ, ◌+◌, ◌^◌, ◌<◌, Bool, true, false, cond, ltb, Option, None, refl, sym, ap, subst, ◌∙◌, arith}
 use Rattle.std.proofs.lemmas.Bool.Decides.{nat_tests}
 use Rattle.gh_base.specs.declared.pack.PageWord.{PageWord}
 use Rattle.gh_base.specs.declared.pack.PageWord.TheVariants.{Free, Head, Body}
 use Rattle.gh_base.specs.declared.pack.SpanHead.{SpanHead}
 use Rattle.gh_base.specs.Packing.{FitsPage, PackedWordsAreReadBack, page_of}
 use Rattle.gh_central.specs.declared.unswept.UnsweptStage.{UnsweptStage}
-use Rattle.gh_central.specs.declared.unswept.UnsweptStage.TheVariants.{Look, Sweep, Take, Ended}
+use Rattle.gh_central.specs.declared.unswept.UnsweptStage.TheVariants.{Look, Sweep, Ended}
 use Rattle.gh_central.specs.UnsweptPass.{Unswept, after_page, after_sweep, at_stage, goes, goes_at, is_unswept, look_from}
 use Rattle.gh_central.specs.UnsweptSound.{IsStage, Sound}
 use Rattle.gh_central.proofs.HeadTests.{unswept-is}
-use Rattle.gh_central.proofs.Sweeping.Steps.{fits_then, goes_on}
 use Rattle.gh_sweep.specs.declared.sweep.SweepEnd.{SweepEnd}
-use Rattle.gh_sweep.specs.declared.sweep.SweepEnd.TheVariants.{Lost, Swept}
 use Rattle.gh_sweep.specs.Listing as sweep
 use Rattle.gh_sweep.specs.Listing.{once_swept, Sweeping}
 use Rattle.gh_sweep.specs.Sound.{FitsSweep}
-use Rattle.gh_sweep.specs.Stays.{stays}
 
 module _ (m : Unswept) where
   from_kept : (page : ℕ) → IsStage m.layout (look_from m page)
-  from_kept page = go (ltb page m.layout.pages) refl where
-    go : (b : Bool) → ltb page m.layout.pages ≡ b → IsStage m.layout (cond b (Look page) (Ended None))
-    go true e = grind (arith, nat_tests)
-    go false e = tt
+  from_kept page = grind arith
 
   page_kept : m.generation < 2 ^ 34 → (page : ℕ) (w : PageWord) → page < m.layout.pages → FitsPage w → IsStage m.layout (after_page m page w)
   page_kept few page Free here f = from_kept (page + 1)
@@ -34,21 +28,13 @@ module _ (m : Unswept) where
     go false e = from_kept (page + h.pages)
 
   sweep_kept : (page : ℕ) (h : SpanHead) (sw : Sweeping) (end : Option SweepEnd) → sweep.given sw ≡ end → page < m.layout.pages → FitsSweep h → sw.layout ≡ m.layout → IsStage m.layout (after_sweep m page h sw end)
-  sweep_kept page h sw None e here f l = (here, f, l, goes_on sw e)
-  sweep_kept page h sw (Some Lost) e here f l = from_kept (page + h.pages)
-  sweep_kept page h sw (Some (Swept span)) e here f l = go span.clear where
-    go : (b : Bool) → IsStage m.layout (cond b (Take page (once_swept h)) (look_from m (page + h.pages)))
-    go true = (here, fits_then h f.head f.number)
-    go false = from_kept (page + h.pages)
+  sweep_kept page h sw end e here f l = grind arith
 
   stage_kept : PackedWordsAreReadBack → m.generation < 2 ^ 34 → (p : UnsweptStage) (found : ℕ) → found < 2 ^ 64 → IsStage m.layout p → IsStage m.layout (goes_at m p found)
-  stage_kept packed few (Look page) found w h = page_kept few page (page_of found) h (packed.page_reads found w)
-  stage_kept packed few (Sweep page head sw) found w h = sweep_kept page head (sweep.goes sw found) (sweep.gives sw found) refl h.0 h.1 (stays sw found ∙ h.2)
-  stage_kept packed few (Take page head) found w h = tt
-  stage_kept packed few (Ended taken) found w h = tt
+  stage_kept packed few p found w h = grind (arith, page_kept, sweep_kept)
 
 sound_kept : PackedWordsAreReadBack → (m : Unswept) (found : ℕ) → found < 2 ^ 64 → Sound m → Sound (goes m found)
-sound_kept packed m found w h = record { seat = h.seat; generation = h.generation; class = h.class; stage = stage_kept m packed h.generation m.stage found w h.stage }
+sound_kept packed m found w h = grind (arith, stage_kept)
 
 pub sound_moved : PackedWordsAreReadBack → (m n : Unswept) (p : UnsweptStage) (found : ℕ) → found < 2 ^ 64 → Sound m → m ≡ n → p ≡ goes_at n n.stage found → Sound (at_stage m p)
 sound_moved packed m n p found w h e g = subst (λ (x : UnsweptStage). Sound (at_stage m x)) (ap (λ (x : Unswept). goes_at x x.stage found) e ∙ sym g) (sound_kept packed m found w h)

@@ -1,21 +1,20 @@
 -- A sweep that a routine runs: that it stays at its span, where it gives what, on which words its steps are, and what they leave to who runs it.
-use Rattle.std.proofs.Common.{◌≡◌, ℕ, ◌+◌, ◌*◌, ◌^◌, ◌<◌, Bool, true, false, cond, ltb, Option, Some, None, is_none, refl, sym, ap, subst, ◌∙◌, arith, eq-eqb}
+use Rattle.std.proofs.Common.{◌≡◌, ℕ, ◌+◌, ◌^◌, ◌<◌, Bool, true, cond, Option, Some, None, is_none, refl, sym, ap, subst, ◌∙◌, arith, eq-eqb}
 use Rattle.gh_base.specs.declared.cell.Ask.{Ask}
 use Rattle.gh_base.specs.declared.cell.Ask.TheVariants.{Store}
 use Rattle.gh_base.specs.declared.cell.Cell.TheVariants.{Page}
 use Rattle.gh_base.specs.declared.pack.PageWord.TheVariants.{Head}
 use Rattle.gh_base.specs.Cells.{Words}
 use Rattle.gh_base.specs.Packing.{FitsHead}
-use Rattle.gh_central.proofs.Vocabulary.{Arena, cell_of, effect, Freeing, Good, head_word, InRange, KeepsObjects, Laying, Layout, mod-lt, PackedWordsAreReadBack, page_of, Rights, SpanHead, View}
+use Rattle.gh_central.proofs.Vocabulary.{Arena, cell_of, effect, Freeing, Good, head_word, InRange, KeepsObjects, Laying, Layout, PackedWordsAreReadBack, page_of, Rights, SpanHead, View}
 use Rattle.gh_heap.specs.Laws.{FactsLast}
 use Rattle.gh_heap.specs.Spans.{numbered_by}
 use Rattle.gh_central.specs.ReclaimFacts.{IsUnowned}
 use Rattle.gh_central.specs.Sweeping.{SweepLeaves}
-use Rattle.gh_sweep.specs.declared.sweep.SweepEnd.TheVariants.{Lost, Swept}
+use Rattle.gh_sweep.specs.declared.sweep.SweepEnd.TheVariants.{Swept}
 use Rattle.gh_sweep.specs.declared.sweep.SweepStage.{SweepStage}
-use Rattle.gh_sweep.specs.declared.sweep.SweepStage.TheVariants.{AddHeap, AddLive, AddTally, Begin, ClearBits, ClearMarks, Ended, Finish, LoadMarks}
 use Rattle.gh_sweep.specs.declared.sweep.SweptSpan.{SweptSpan}
-use Rattle.gh_sweep.specs.Listing.{asks, asks_at, bit_words, given, given_at, gives, goes, goes_at, is_busy, once_swept, Sweeping, word_at, wrote}
+use Rattle.gh_sweep.specs.Listing.{asks, asks_at, given, gives, goes, goes_at, is_busy, once_swept, Sweeping}
 
 -- Where it goes.
 
@@ -23,34 +22,15 @@ use Rattle.gh_sweep.specs.Listing.{asks, asks_at, bit_words, given, given_at, gi
 pub goes_on : (sw : Sweeping) → given sw ≡ None → is_busy sw.stage ≡ true
 goes_on sw e = ap is_none e
 
--- it stays at its span
-stays_at : (sw : Sweeping) (q : SweepStage) (found : ℕ) → ((goes_at sw q found).page ≡ sw.page) × ((goes_at sw q found).head ≡ sw.head)
-stays_at sw Begin found = (refl, refl)
-stays_at sw _ found = (refl, refl)
-
 pub same_page : (sw : Sweeping) (found : ℕ) → (goes sw found).page ≡ sw.page
-same_page sw found = (stays_at sw sw.stage found).0
+same_page sw found = grind arith
 
 pub same_head : (sw : Sweeping) (found : ℕ) → (goes sw found).head ≡ sw.head
-same_head sw found = (stays_at sw sw.stage found).1
+same_head sw found = grind arith
 
 -- a span is swept by its last step, which writes the head
 writes_at : (sw : Sweeping) (q : SweepStage) (found : ℕ) (span : SweptSpan) → is_busy q ≡ true → given (goes_at sw q found) ≡ Some (Swept span) → asks_at sw q ≡ Store (Page sw.page) (head_word (once_swept sw.head))
-writes_at sw Begin found span b e = go (wrote sw found) e where
-  go : (c : Bool) → given_at (cond c (LoadMarks 0) (Ended Lost)) ≡ Some (Swept span) → asks_at sw Begin ≡ Store (Page sw.page) (head_word (once_swept sw.head))
-  go true e = absurd (cc)
-  go false e = absurd (cc)
-writes_at sw (LoadMarks i) found span b e = absurd (cc)
-writes_at sw (ClearBits i marks) found span b e = absurd (cc)
-writes_at sw (ClearMarks i) found span b e = go (ltb (i + 1) (bit_words sw.head)) e where
-  go : (c : Bool) → given_at (cond c (LoadMarks (i + 1)) AddTally) ≡ Some (Swept span) → asks_at sw (ClearMarks i) ≡ Store (Page sw.page) (head_word (once_swept sw.head))
-  go true e = absurd (cc)
-  go false e = absurd (cc)
-writes_at sw AddTally found span b e = absurd (cc)
-writes_at sw AddLive found span b e = absurd (cc)
-writes_at sw AddHeap found span b e = absurd (cc)
-writes_at sw Finish found span b e = refl
-writes_at sw (Ended end) found span b e = absurd (cc)
+writes_at sw q found span b e = grind arith
 
 -- so its head says that it is
 head_then : PackedWordsAreReadBack → (sw : Sweeping) (words : Words) (found : ℕ) (span : SweptSpan) → is_busy sw.stage ≡ true → FitsHead (once_swept sw.head) → gives sw found ≡ Some (Swept span) → page_of (effect words (asks sw) (Page sw.page)) ≡ Head (once_swept sw.head)
@@ -77,27 +57,8 @@ swept_then packed words then sw p h span are at head b fits few e =
 
 -- Its words.
 
-within_at : (z : Layout) (sw : Sweeping) (q : SweepStage) → sw.layout ≡ z → sw.page < z.pages → InRange z (cell_of (asks_at sw q))
-within_at z sw q layout there = go q where
-  bits : (i : ℕ) → word_at sw i < 16 * z.pages
-  bits i =
-      let arena : sw.layout.pages ≡ z.pages = ap (λ (l : Layout). l.pages) layout in
-      let some : 0 < 16 * sw.layout.pages = omega (arith, sw.layout.limits.pages_fit.0) in
-      omega (arith, mod-lt (16 * sw.page + i) some, arena)
-
-  go : (q : SweepStage) → InRange z (cell_of (asks_at sw q))
-  go Begin = there
-  go (LoadMarks i) = bits i
-  go (ClearBits i marks) = bits i
-  go (ClearMarks i) = bits i
-  go AddTally = tt
-  go AddLive = tt
-  go AddHeap = tt
-  go Finish = there
-  go (Ended end) = tt
-
 pub within : (z : Layout) (sw : Sweeping) → sw.layout ≡ z → sw.page < z.pages → InRange z (cell_of (asks sw))
-within z sw layout there = within_at z sw sw.stage layout there
+within z sw layout there = grind arith
 
 -- What its step leaves.
 

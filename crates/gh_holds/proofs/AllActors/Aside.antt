@@ -1,12 +1,12 @@
 -- Steps of workers and of the coordinator outside of marking: they are those of sweeps, or on no word of which anything is said of the heap, its spans, stacks and buffers.
-use Rattle.std.proofs.Common.{◌≡◌, ◌⊎◌, ℕ, ◌<◌, ◌≤◌, ◌==◌, Bool, true, false, refl, sym, ap, subst, ◌∙◌, arith, List, ◌∷◌, None, ◌≢◌, ◌↔◌, cond, Option, Some}
+use Rattle.std.proofs.Common.{◌≡◌, ◌⊎◌, ℕ, ◌<◌, ◌≤◌, ◌==◌, Bool, true, false, refl, sym, ap, subst, ◌∙◌, arith, List, ◌∷◌, None, ◌≢◌, ◌↔◌, Option, Some}
 use Rattle.std.proofs.lemmas.Bool.Decides.{nat_tests}
 use Rattle.gh_base.specs.declared.cell.Ask.{Ask}
 use Rattle.gh_base.specs.declared.cell.Ask.TheVariants.{Load, Store}
 use Rattle.gh_base.specs.declared.cell.Cell.{Cell}
 use Rattle.gh_base.specs.declared.cell.Cell.TheVariants as cell
 use Rattle.gh_base.specs.declared.pack.TheConstants.{END}
-use Rattle.gh_base.specs.Cells.{put, Words, seats_of}
+use Rattle.gh_base.specs.Cells.{Words, seats_of}
 use Rattle.gh_base.specs.Steps.{effect, cell_of}
 use Rattle.gh_base.specs.Rows.{Row}
 use Rattle.gh_heap.specs.Moves.{IsQuiet, Others, Quiet}
@@ -19,8 +19,6 @@ use Rattle.gh_state.specs.Routines.{GoesOn}
 use Rattle.gh_sweep.specs.Listing as sweep
 use Rattle.gh_sweep.specs.Listing.{Sweeping}
 use Rattle.gh_sweep.specs.Running.{on_from}
-use Rattle.gh_sweep.specs.declared.sweep.SweepStage.{SweepStage}
-use Rattle.gh_sweep.specs.declared.sweep.SweepStage.TheVariants as sweep_stage
 use Rattle.gh_lists.specs.declared.handshake.Actor.{Actor}
 use Rattle.gh_holds.specs.ActorsHold.{IsOff, NobodyMarks}
 use Rattle.gh_marked.specs.State.{HasState, IsHeapOf, processor_at}
@@ -79,32 +77,8 @@ stores_ack a x = record { quiet = tt; heap = λ w. refl; page = λ w i. refl; al
 pub stores_phase : (x : ℕ) → IsAside (Store cell.Phase x)
 stores_phase x = record { quiet = tt; heap = λ w. refl; page = λ w i. refl; alloc = λ w i. refl; mark = λ w i. refl; birth = λ w i. refl; global = λ w i. refl; buffer = λ w i. refl; scanned = λ w i. refl }
 
-pub stores_trigger : (x : ℕ) → IsAside (Store cell.Trigger x)
-stores_trigger x = record { quiet = tt; heap = λ w. refl; page = λ w i. refl; alloc = λ w i. refl; mark = λ w i. refl; birth = λ w i. refl; global = λ w i. refl; buffer = λ w i. refl; scanned = λ w i. refl }
-
 pub stores_swept : (x : ℕ) → IsAside (Store cell.Swept x)
 stores_swept x = record { quiet = tt; heap = λ w. refl; page = λ w i. refl; alloc = λ w i. refl; mark = λ w i. refl; birth = λ w i. refl; global = λ w i. refl; buffer = λ w i. refl; scanned = λ w i. refl }
-
-pub stores_begun : (x : ℕ) → IsAside (Store cell.Begun x)
-stores_begun x = record { quiet = tt; heap = λ w. refl; page = λ w i. refl; alloc = λ w i. refl; mark = λ w i. refl; birth = λ w i. refl; global = λ w i. refl; buffer = λ w i. refl; scanned = λ w i. refl }
-
-pub stores_want : (x : ℕ) → IsAside (Store cell.Want x)
-stores_want x = record { quiet = tt; heap = λ w. refl; page = λ w i. refl; alloc = λ w i. refl; mark = λ w i. refl; birth = λ w i. refl; global = λ w i. refl; buffer = λ w i. refl; scanned = λ w i. refl }
-
-pub stores_cursor : (x : ℕ) → IsAside (Store cell.Gcur x)
-stores_cursor x = record { quiet = tt; heap = λ w. refl; page = λ w i. refl; alloc = λ w i. refl; mark = λ w i. refl; birth = λ w i. refl; global = λ w i. refl; buffer = λ w i. refl; scanned = λ w i. refl }
-
-pub stores_tally : (x : ℕ) → IsAside (Store cell.Tally x)
-stores_tally x = record { quiet = tt; heap = λ w. refl; page = λ w i. refl; alloc = λ w i. refl; mark = λ w i. refl; birth = λ w i. refl; global = λ w i. refl; buffer = λ w i. refl; scanned = λ w i. refl }
-
-pub stores_live : (x : ℕ) → IsAside (Store cell.Live x)
-stores_live x = record { quiet = tt; heap = λ w. refl; page = λ w i. refl; alloc = λ w i. refl; mark = λ w i. refl; birth = λ w i. refl; global = λ w i. refl; buffer = λ w i. refl; scanned = λ w i. refl }
-
-pub stores_work : (x : ℕ) → IsAside (Store cell.Work x)
-stores_work x = record { quiet = tt; heap = λ w. refl; page = λ w i. refl; alloc = λ w i. refl; mark = λ w i. refl; birth = λ w i. refl; global = λ w i. refl; buffer = λ w i. refl; scanned = λ w i. refl }
-
-pub stores_slack : (x : ℕ) → IsAside (Store cell.Slack x)
-stores_slack x = record { quiet = tt; heap = λ w. refl; page = λ w i. refl; alloc = λ w i. refl; mark = λ w i. refl; birth = λ w i. refl; global = λ w i. refl; buffer = λ w i. refl; scanned = λ w i. refl }
 
 pub loads_only : (c : Cell) → TellsNothing (Load c)
 loads_only c = record { aside = loads c; tally = λ w. refl; live = λ w. refl; cursor = λ w. refl }
@@ -114,12 +88,6 @@ acks_only a x = record { aside = stores_ack a x; tally = λ w. refl; live = λ w
 
 pub phase_only : (x : ℕ) → TellsNothing (Store cell.Phase x)
 phase_only x = record { aside = stores_phase x; tally = λ w. refl; live = λ w. refl; cursor = λ w. refl }
-
-pub trigger_only : (x : ℕ) → TellsNothing (Store cell.Trigger x)
-trigger_only x = record { aside = stores_trigger x; tally = λ w. refl; live = λ w. refl; cursor = λ w. refl }
-
-pub swept_only : (x : ℕ) → TellsNothing (Store cell.Swept x)
-swept_only x = record { aside = stores_swept x; tally = λ w. refl; live = λ w. refl; cursor = λ w. refl }
 
 -- a worker at rest writes its acknowledgement alone
 pub acks_aside : (seat : ℕ) (ask : Ask) → AcksAlone seat ask → TellsNothing ask
@@ -133,18 +101,6 @@ pub record IsOfSpans (ask : Ask) : Type 0 where
   pub birth : (w : Words) (i : ℕ) → effect w ask (cell.Birth i) ≡ w (cell.Birth i)
   pub global : (w : Words) (i : ℕ) → effect w ask (cell.Global i) ≡ w (cell.Global i)
   pub buffer : (w : Words) (i : ℕ) → effect w ask (cell.Buffer i) ≡ w (cell.Buffer i)
-
-module _ (m : sweep.Sweeping) where
-  swapped : (b : Bool) (f w : Words) (x : _) → f x ≡ w x → cond b f w x ≡ w x
-  swapped true f w x is = is
-  swapped false f w x is = refl
-
-  pub spans_only : (q : SweepStage) → IsOfSpans (sweep.asks_at m q)
-  spans_only sweep_stage.Begin = record { scanned = λ w i. swapped _ (put w (cell.Page m.page) _) w _ refl; birth = λ w i. swapped _ (put w (cell.Page m.page) _) w _ refl; global = λ w i. swapped _ (put w (cell.Page m.page) _) w _ refl; buffer = λ w i. swapped _ (put w (cell.Page m.page) _) w _ refl }
-  spans_only (sweep_stage.LoadMarks i) = record { scanned = λ w i. refl; birth = λ w i. refl; global = λ w i. refl; buffer = λ w i. refl }
-  spans_only (sweep_stage.ClearBits i marks) = record { scanned = λ w i. refl; birth = λ w i. refl; global = λ w i. refl; buffer = λ w i. refl }
-  spans_only (sweep_stage.ClearMarks i) = record { scanned = λ w i. refl; birth = λ w i. refl; global = λ w i. refl; buffer = λ w i. refl }
-  spans_only _ = record { scanned = λ w i. refl; birth = λ w i. refl; global = λ w i. refl; buffer = λ w i. refl }
 
 module _ (setup : Setup) (known : Known) where
   abbrev z : Arena
@@ -232,7 +188,7 @@ module _ (setup : Setup) (known : Known) where
       runs = subst (IsInSweep a s) is in_sweep
 
       pub found_is : e.found ≡ h.words (cell_of (sweep.asks m))
-      found_is = legal.1.found ∙ (ap (λ (w : Words). w (cell_of e.ask)) (sym has.of_list.words_are) ∙ ap (λ (q : Ask). h.words (cell_of q)) asks_is)
+      found_is = grind arith
 
       abbrev pub sweep_move : state.Move
       sweep_move = sweepers.move known z a s has.good seat m runs e.found found_is
@@ -247,7 +203,7 @@ module _ (setup : Setup) (known : Known) where
       sweep_words = sweep_goes.words_are ∙ ap (effect h.words) (sym asks_is)
 
       pub only : IsOfSpans e.ask
-      only = subst IsOfSpans (sym asks_is) (spans_only m m.stage)
+      only = grind (arith, nat_tests)
 
       abbrev pub by_sweep : Lands
       by_sweep = record {

@@ -1,5 +1,5 @@
 -- Where a cycle is about to begin the heap is known to marking, and each processor stands still with nothing in hand.
-use Rattle.std.proofs.Common.{◌≡◌, ◌≢◌, inl, ℕ, ◌+◌, ◌^◌, ◌<◌, ◌≤◌, Bool, true, false, cond, refl, sym, ap, subst, ◌∙◌, arith, List, [], length, slice_index_or, Some, None}
+use Rattle.std.proofs.Common.{◌≡◌, ◌≢◌, inl, ℕ, ◌^◌, ◌<◌, ◌≤◌, Bool, false, cond, refl, sym, ap, subst, ◌∙◌, arith, List, [], length, slice_index_or, Some, None}
 use Rattle.std.proofs.lemmas.Nat.Bits.{bit_at-zero}
 use Rattle.std.specs.Prelude.{◌/◌}
 use Rattle.gh_base.specs.declared.cell.Cell.TheVariants as cell
@@ -10,13 +10,11 @@ use Rattle.gh_cycle.specs.Beside.{IsBeside}
 use Rattle.gh_cycle.specs.Opening.{IsOpened, WordsAreAtRest}
 use Rattle.gh_cycle.specs.Since.{HasGoneOn}
 use Rattle.gh_heap.specs.Objects.{Place}
-use Rattle.gh_model.specs.declared.EverValue.TheVariants as ever_value
 use Rattle.gh_mutator.specs.MarkFacts.{KnowsStacks}
 use Rattle.gh_mutator.specs.ProcessorMarks.{StandsWithNothing}
 use Rattle.gh_phase.specs.declared.view.RunPhase.TheVariants as run
 use Rattle.gh_stack.specs.Facts.{named}
 use Rattle.gh_lists.specs.declared.handshake.Actor.TheVariants as actor
-use Rattle.gh_lists.specs.Numbers.{open_part}
 use Rattle.gh_holds.specs.ActorsHold.{HasCleared, HasCursor, HoldsAt, IsReady}
 use Rattle.gh_marked.proofs.Vocabulary.{actors_after, ahead_at, Arena, arena, AreRegisters, Begun, bit_at, Coordinating, CoordStage, Cycle, END, Entry, Ever, EverValue, Hands, IsAsItShould, IsBeginning, IsLed, IsOf, IsToBegin, KnowsAtAnyTime, Legal, mark_words, MarkFacts, Marking, MayBegin, Means, nothing, Op, Open, part_of, Processor, processor_at, reference_of, register_at, REGISTERS, row_bit, those, Value, view, Words, words, ◌%◌}
 use Rattle.gh_marked.specs.Drawing.{drawn_first}
@@ -28,28 +26,17 @@ use Rattle.gh_lists.specs.Handshake.{Setup}
 
 -- What a value names, by the two ways to say it.
 pub same_name : (place : Place) (made : ℕ → ℕ) (v : EverValue) (w : Value) → Means place made v w → reference_of place v ≡ named w
-same_name place made ever_value.Nil value.Nil m = refl
-same_name place made (ever_value.Int i) (value.Int j) m = refl
-same_name place made (ever_value.Ref n) (value.Ref r) m = sym m.0
-same_name place made ever_value.Nil (value.Int j) m = absurd m
-same_name place made ever_value.Nil (value.Ref r) m = absurd m
-same_name place made (ever_value.Int i) value.Nil m = absurd m
-same_name place made (ever_value.Int i) (value.Ref r) m = absurd m
-same_name place made (ever_value.Ref n) value.Nil m = absurd m
-same_name place made (ever_value.Ref n) (value.Int j) m = absurd m
+same_name place made v w m = grind arith
 
 some_name : (place : Place) (made : ℕ → ℕ) (v : EverValue) (r : ℕ) → Means place made v (value.Ref r) → 1 ≤ r
-some_name place made ever_value.Nil r m = absurd m
-some_name place made (ever_value.Int i) r m = absurd m
-some_name place made (ever_value.Ref n) r m = let is : r ≡ place n + 1 = m.0 in omega (arith, is)
+some_name place made v r m = grind arith
 
 clear_bit : (w : Words) (o : ℕ) → w (cell.Mark (o / 64)) ≡ 0 → row_bit (mark_words w) o ≡ 0
 unfolding row_bit
 clear_bit w o is = ap (λ (v : ℕ). bit_at v (o % 64)) is ∙ bit_at-zero (o % 64)
 
 begun_part : (p : CoordStage) → IsBeginning p → part_of p ≡ Begun
-begun_part (Open o) b = ap open_part b
-begun_part _ b = absurd b
+begun_part p b = grind arith
 
 module _ (setup : Setup) (lists : ListsKnown setup)
     (es : List (Entry Op)) (c : Coordinating) (legal : Legal (those setup) es) (led : IsLed setup es c) (b : IsBeginning c.stage) where
@@ -64,8 +51,8 @@ module _ (setup : Setup) (lists : ListsKnown setup)
   few =
       let k = lists.counts es c legal led in
       let part = begun_part c.stage b in
-      let one : (ahead_at (part_of c.stage)).numbered ≡ 1 = ap (λ (x : Rattle.gh_lists.specs.Numbers.Part). (ahead_at x).numbered) part in
-      let opened : (ahead_at (part_of c.stage)).opened ≡ 1 = ap (λ (x : Rattle.gh_lists.specs.Numbers.Part). (ahead_at x).opened) part in
+      let one : (ahead_at (part_of c.stage)).numbered ≡ 1 = ap (λ (x : Rattle.gh_coord.specs.Parts.Part). (ahead_at x).numbered) part in
+      let opened : (ahead_at (part_of c.stage)).opened ≡ 1 = ap (λ (x : Rattle.gh_coord.specs.Parts.Part). (ahead_at x).opened) part in
       let few = lists.few es legal in
       omega (arith, k.number, k.opened, one, opened, few)
 
@@ -74,17 +61,10 @@ module _ (setup : Setup) (lists : ListsKnown setup)
 
   module _ (r : IsReady setup es c) (cursor : words setup es cell.Gcur ≡ 0) (cleared : (words setup es cell.Tally ≡ 0) × (words setup es cell.Live ≡ 0)) where
     rest : WordsAreAtRest z c.begun r.has.state.heap
-    rest = record {
-      marks = λ o. clear_bit r.has.state.heap.words o (r.marks (o / 64));
-      buffers = r.nobody.buffers;
-      cursor = ap (λ (w : Words). w cell.Gcur) r.has.of_list.words_are ∙ cursor;
-      scanned = r.nobody.stacks;
-      over = λ g. (r.has.of_list.stacks g).0;
-      none = r.has.of_list.globals;
-    }
+    rest = grind (arith, clear_bit)
 
     opened : IsOpened cycle r.has.state.heap
-    opened = lists.known.opens cycle r.has.state.heap r.has.good.heap r.has.of_list.bounded rest
+    opened = grind (arith, rest)
 
     abbrev s : Marking
     s = opened.marking
@@ -109,10 +89,7 @@ module _ (setup : Setup) (lists : ListsKnown setup)
       stands = lists.known.runs.stands z a (view r.has.state.heap) it should.pending should.fine
 
       goes_on : (g : ℕ) → s.words (cell.Scanned g) ≢ END → r.has.state.heap.ever.ended g ≡ false
-      goes_on g other = go (r.has.state.heap.ever.ended g) refl where
-        go : (x : Bool) → r.has.state.heap.ever.ended g ≡ x → r.has.state.heap.ever.ended g ≡ false
-        go false x = x
-        go true x = absurd (other (ap (λ (w : Words). w (cell.Scanned g)) opened.of_heap.words ∙ (r.has.of_list.stacks g).1 x))
+      goes_on g other = grind arith
 
       few_goroutines : (g : ℕ) → IsOf z a g → g < MOST_GOROUTINES
       few_goroutines g its = omega (arith, its.0, lists.limits.goroutines_fit.1)
@@ -130,12 +107,7 @@ module _ (setup : Setup) (lists : ListsKnown setup)
         means d below = stands.registers g d its (subst (λ (x : ℕ). d < x) whole below)
 
       stacks : KnowsStacks cycle a s it.poll.local.stacks it.poll.local.scanned
-      stacks = record {
-        own = λ g below of. (below, of);
-        registers = registers;
-        noted = λ g its. should.notes g its ∙ sym (ap (λ (w : Words). w (cell.Scanned g)) opened.of_heap.words);
-        places = let long = stands.sits.scanned in let fit = lists.limits.goroutines_fit.1 in omega (arith, long, fit);
-      }
+      stacks = grind (arith, opened, registers, should, stands)
 
       stands_still : StandsWithNothing cycle a s it
       stands_still = record {

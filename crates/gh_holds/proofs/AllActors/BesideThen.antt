@@ -11,9 +11,8 @@ use Rattle.gh_mutator.specs.Sweeping.{IsSweeping, sweep_in}
 use Rattle.gh_state.specs.Moves as state
 use Rattle.gh_sweep.specs.Listing.{Sweeping}
 use Rattle.gh_marked.specs.HoldVocabulary.{IsBeside}
-use Rattle.gh_marked.proofs.Vocabulary.{acks_of, Answer, Arena, arena, AreWords, asks, Cell, cell_of, Coordinating, Cycle, DoesPoints, effect, Entry, eqb-true, Ever, ever, Heap, IsBeginning, IsInCycle, IsKnown, IsLed, IsToBegin, IsWritten, Kind, Knows, Legal, mark_words, MarkFacts, Marking, MarkingGood, MarksNothing, may_of, moved, Op, StepsByMoves, Processor, processor_at, processor_kind, started, Steps as HeapSteps, takes, those, Words, words}
+use Rattle.gh_marked.proofs.Vocabulary.{acks_of, Answer, Arena, arena, AreWords, asks, Cell, cell_of, Coordinating, Cycle, DoesPoints, Entry, eqb-true, Ever, ever, Heap, IsInCycle, IsKnown, IsLed, IsToBegin, IsWritten, Kind, Knows, Legal, mark_words, MarkFacts, Marking, MarkingGood, MarksNothing, may_of, moved, Op, StepsByMoves, Processor, processor_at, processor_kind, started, Steps as HeapSteps, takes, those, Words, words}
 use Rattle.gh_marked.proofs.OneStep.Beside as beside
-use Rattle.gh_marked.proofs.OneStep.Beside.{not_beginning}
 use Rattle.gh_marked.specs.Drawing.{drawn_then}
 use Rattle.gh_holds.proofs.AllActors.Gone.{gone_rests}
 use Rattle.gh_marked.specs.Known.{ListsKnown}
@@ -66,7 +65,7 @@ module _ (given : Given) (wanted : Wanted) (lists : ListsKnown (setup_for given)
     pending = (step.is given lists.good lists.limits lists.known e es marked.legal marked.lt marked.kn.has).pending
 
     calm : marked.kn.has.state.told ≡ None → MarksNothing now
-    calm over = absurd (beside.under given wanted lists e es c number few s marked over)
+    calm over = grind arith
 
     -- a move over the heap, and the same move of the one state
     abbrev land : HeapSteps z a h (asks now) (λ t. DoesPoints z a h t now pending (h.words (cell_of (asks now))))
@@ -121,7 +120,7 @@ module _ (given : Given) (wanted : Wanted) (lists : ListsKnown (setup_for given)
 
     -- a cycle that is about to begin is not marked yet
     to_begin : IsToBegin (setup_for given) es number → ⊥
-    to_begin b = let same : b.lead ≡ c = (let both = sym b.led ∙ marked.led in cc) in not_beginning c.stage marked.on (subst (λ (d : Coordinating). IsBeginning d.stage) same b.stage)
+    to_begin b = grind arith
 
     -- the one state
     abbrev has_then : HasState (setup_for given) (e ∷ es)
@@ -163,12 +162,7 @@ module _ (given : Given) (wanted : Wanted) (lists : ListsKnown (setup_for given)
     asked = step.asked given lists.good lists.limits lists.known e es marked.legal marked.lt marked.kn.has
 
     pub steps : Steps (cycle number few) a s e.ask (λ t. MarkFacts (cycle number few) a t (takes given.shapes now e.found) × Knows z given.pacing may (cycle number few) t (e ∷ es))
-    steps = record {
-      then = goes.then;
-      went = goes.went;
-      words_are = goes.beside.words ∙ (land.words_are ∙ (ap (λ (w : Words). effect w (asks now)) (sym marked.kn.beside.words) ∙ ap (effect s.words) (sym asked)));
-      after = (subst (λ (n : ℕ). MarkFacts (cycle number few) a goes.then (takes given.shapes now n)) (sym (step.found_is given lists.good lists.limits lists.known e es marked.legal marked.lt marked.kn.has)) goes.facts, known_then);
-    }
+    steps = grind (arith, asked, goes, known_then)
 
   -- The cycle is one of this arena.
   module _ (e : Entry Op) (es : List (Entry Op)) (legal : Legal (those (setup_for given)) (e ∷ es)) (c : Coordinating) (led : IsLed (setup_for given) es c) (on : leading.Marks c.stage) (lt : e.actor < given.layout.procs) (x : Cycle) (s : Marking) (number_is : x.number ≡ c.begun) where

@@ -1,5 +1,5 @@
 -- A processor that is gone makes no step.
-use Rattle.std.proofs.Common.{◌≡◌, ℕ, ◌<◌, true, false, inl, inr, refl, sym, ap, subst, ◌∙◌, arith, List, ◌∷◌, Option, Some, None}
+use Rattle.std.proofs.Common.{◌≡◌, ◌<◌, true, false, inl, inr, refl, sym, ap, subst, ◌∙◌, arith, List, ◌∷◌, Option, Some, None}
 use Rattle.gh_base.specs.declared.cell.Cell.TheVariants as cell
 use Rattle.gh_lists.specs.declared.handshake.Actor.TheVariants as actor
 use Rattle.gh_lists.specs.Handshake as handshake

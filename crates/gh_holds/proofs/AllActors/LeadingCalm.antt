@@ -2,7 +2,6 @@
 use Rattle.std.proofs.Common.{◌≡◌, ℕ, ◌+◌, ◌<◌, ◌≤◌, ◌==◌, Bool, true, false, cond, ltb, refl, sym, ap, subst, ◌∙◌, arith, List, ◌∷◌, Option, Some, None}
 use Rattle.gh_base.specs.declared.cell.Cell.TheVariants as cell
 use Rattle.gh_coord.specs.declared.open.OpenStage.TheVariants as opening
-use Rattle.gh_coord.specs.declared.stop.StopStage.TheVariants as stopping
 use Rattle.gh_coord.specs.Listing as coord
 use Rattle.gh_coord.specs.Opening as opens_by
 use Rattle.gh_coord.specs.Stopping as stop
@@ -14,58 +13,34 @@ use Rattle.gh_marked.specs.HoldVocabulary.{SeatSweepsNothing, State}
 use Rattle.gh_marked.specs.Sweepers.{IsInSweep, sweep_of}
 use Rattle.gh_marked.proofs.Vocabulary.{actors_after, ahead_at, Arena, arena, Ask, Coordinating, CoordStage, effect, Entry, GONE, IsLed, Legal, LoadAck, LoadWant, Op, Open, OpenStage, part_of, seats_of, Stop, Stopped, StopStage, those, Words, words}
 use Rattle.gh_holds.proofs.AllActors.Aside as aside_of
-use Rattle.gh_holds.proofs.AllActors.Aside.{beside_of, IsAside, Lands, loads, loads_only, phase_only, stores_begun, stores_cursor, stores_live, stores_phase, stores_slack, stores_tally, stores_trigger, stores_want, stores_work, TellsNothing}
+use Rattle.gh_holds.proofs.AllActors.Aside.{beside_of, IsAside, Lands, loads_only, TellsNothing}
 use Rattle.gh_marked.specs.Known.{ListsKnown}
 use Rattle.gh_holds.proofs.AllActors.LeadingAside.{quiet_on}
-use Rattle.gh_holds.proofs.AllActors.LeadingSeat.{asked_at, ByLead, from, led_then, goes_at as goes_by, stopped_sweeps_none, sweeps_before, sweeps_then}
+use Rattle.gh_holds.proofs.AllActors.LeadingSeat.{asked_at, ByLead, from, led_then, goes_at as goes_by, stopped_sweeps_none, sweeps_before}
 use Rattle.gh_lists.specs.Handshake.{Setup}
 
 -- each request of an opening leaves the heap as it is
 opens_aside : (o : opens_by.CycleOpening) (p : OpenStage) → IsAside (opens_by.asks_at o p)
-opens_aside o opening.ClearWant = stores_want 0
-opens_aside o opening.ClearGcur = stores_cursor 0
-opens_aside o opening.ClearTally = stores_tally 0
-opens_aside o opening.ClearLive = stores_live 0
-opens_aside o opening.StoreTrigger = stores_trigger _
-opens_aside o opening.LoadHeap = loads _
-opens_aside o opening.StoreWork = stores_work _
-opens_aside o opening.StoreSlack = stores_slack _
-opens_aside o opening.StoreBegun = stores_begun _
-opens_aside o opening.StorePhase = stores_phase _
-opens_aside o opening.Ended = loads _
+opens_aside o p = grind arith
 
 -- and the cursor, once it is cleared
 opens_cursor : (o : opens_by.CycleOpening) (p : OpenStage) (w : Words) → HasCursor (w cell.Gcur) p → HasCursor (effect w (opens_by.asks_at o p) cell.Gcur) (opens_by.behind p)
-opens_cursor o opening.ClearWant w h = tt
-opens_cursor o opening.ClearGcur w h = refl
-opens_cursor o _ w h = h
+opens_cursor o p w h = grind arith
 
 -- and the counts of the last sweep
 opens_counts : (o : opens_by.CycleOpening) (p : OpenStage) (w : Words) → HasCleared (w cell.Tally) (w cell.Live) p → HasCleared (effect w (opens_by.asks_at o p) cell.Tally) (effect w (opens_by.asks_at o p) cell.Live) (opens_by.behind p)
-opens_counts o opening.ClearWant w h = tt
-opens_counts o opening.ClearGcur w h = tt
-opens_counts o opening.ClearTally w h = refl
-opens_counts o opening.ClearLive w h = (h, refl)
-opens_counts o _ w h = h
+opens_counts o p w h = grind arith
 
 -- no span is swept behind such a step
 module _ (u : Coordinating) where
   acks_sweep : (b f : Bool) (i : ℕ) → coord.sweep_in (cond b (cond f (coord.at_stage u (LoadAck (i + 1))) (coord.stops_world (record u { is_last = true }))) (coord.at_stage u LoadWant)) ≡ None
-  acks_sweep true true i = refl
-  acks_sweep true false i = refl
-  acks_sweep false f i = refl
+  acks_sweep b f i = grind arith
 
   wants_sweep : (b : Bool) → coord.sweep_in (cond b (coord.at_stage u (LoadAck 0)) (coord.stops_world u)) ≡ None
-  wants_sweep true = refl
-  wants_sweep false = refl
+  wants_sweep b = grind arith
 
   stops_sweep : (st : stop.Stopping) (out : Option (Unit {0})) → coord.sweep_in (coord.after_stop (coord.at_stage u (Stop st)) out) ≡ None
-  stops_sweep st None = refl
-  stops_sweep st (Some y) = refl
-
-  opens_sweep : (o : opens_by.CycleOpening) (out : Option (Unit {0})) → coord.sweep_in (coord.after_open (coord.at_stage u (Open o)) out) ≡ None
-  opens_sweep o None = refl
-  opens_sweep o (Some y) = refl
+  stops_sweep st out = grind arith
 
 -- who rests does so still where a cycle is opened
 rests_opened : (a : ℕ) (s : State) → SeatSweepsNothing a s → SeatSweepsNothing a (opened s)
@@ -73,9 +48,7 @@ rests_opened a s r = record { none = r.none; told = r.told }
 
 -- each request of a stop is a load, or stores the phase
 stops_tell : (st : stop.Stopping) (p : StopStage) → TellsNothing (stop.asks_at st p)
-stops_tell st stopping.StorePhase = phase_only _
-stops_tell st (stopping.Await ack) = loads_only _
-stops_tell st stopping.Ended = loads_only _
+stops_tell st p = grind arith
 
 module _ (setup : Setup) (lists : ListsKnown setup) where
   abbrev z : Arena
@@ -142,10 +115,7 @@ module _ (setup : Setup) (lists : ListsKnown setup) where
     -- the number of the cycle that is to be opened
     module _ (st : stop.Stopping) (is : by.lead.stage ≡ Stop st) where
       same_swept : words setup (e ∷ es) cell.Swept ≡ words setup es cell.Swept
-      same_swept = rw (asks_so (Stop st) is) (go st.stage) where
-        go : (p : StopStage) → effect (words setup es) (stop.asks_at st p) cell.Swept ≡ words setup es cell.Swept
-        go stopping.StorePhase = refl
-        go _ = refl
+      same_swept = grind arith
 
       was_number : by.lead.begun ≡ words setup es cell.Swept + 0
       was_number = (subst (λ (p : CoordStage). by.lead.begun ≡ words setup es cell.Swept + (ahead_at (part_of p)).numbered) is (lists.counts es by.lead by.legal.0 by.led).number)
@@ -171,7 +141,7 @@ module _ (setup : Setup) (lists : ListsKnown setup) where
     -- while a cycle is opened
     module _ (o : opens_by.CycleOpening) (is : by.lead.stage ≡ Open o) (r : IsOpening setup es by.lead o.stage) where
       aside : IsAside e.ask
-      aside = subst IsAside (sym (asks_so (Open o) is)) (opens_aside o o.stage)
+      aside = grind (arith, asks_so, opens_aside)
 
       under : r.0.has.state.told ≡ None → TellsNothing e.ask
       under over = absurd (let no : None ≡ Some r.0.under_way.0 = sym over ∙ r.0.under_way.1 in cc)
@@ -180,7 +150,7 @@ module _ (setup : Setup) (lists : ListsKnown setup) where
       before = sweeps_before setup lists e es by (Open o) is
 
       behind : sweep_of (actors_after z setup.pacing setup.may (e ∷ es) e.actor) ≡ None
-      behind = sweeps_then setup lists e es by (Open o) is ∙ opens_sweep u (opens_by.goes o e.found) (opens_by.gives o e.found)
+      behind = grind arith
 
       abbrev land : Lands setup lists.known e es by.legal ge r.0.has
       land = aside_of.by_quiet_none setup lists.known e es by.legal ge r.0.has before (beside_of e.ask aside) under behind
@@ -209,7 +179,7 @@ module _ (setup : Setup) (lists : ListsKnown setup) where
       by_stage _ x = there _ x _ refl
 
       by_any : (p : OpenStage) → o.stage ≡ p → To (coord.goes_at u (Open o) e.found)
-      by_any p x = subst (λ (y : OpenStage). To (coord.after_open (coord.at_stage u (Open (opens_by.goes_at o y e.found))) (opens_by.given_at (opens_by.behind y)))) (sym x) (by_stage p x)
+      by_any p x = grind (arith, behind, by_stage)
 
       pub opens : To (coord.goes_at u (Open o) e.found)
       opens = by_any o.stage refl

@@ -1,5 +1,5 @@
 -- The store of the next sweep generation ends a cycle: what holds then is what the sweep begins with.
-use Rattle.std.proofs.Common.{◌≡◌, ◌≢◌, ◌⊎◌, inl, inr, ℕ, ◌+◌, ◌*◌, ◌^◌, ◌<◌, ◌≤◌, Bool, true, false, ltb, refl, sym, ap, subst, ◌∙◌, arith, List, ◌∷◌, None}
+use Rattle.std.proofs.Common.{◌≡◌, ◌⊎◌, inl, inr, ℕ, ◌+◌, ◌*◌, ◌^◌, ◌<◌, ◌≤◌, Bool, true, false, ltb, refl, sym, ap, subst, ◌∙◌, arith, List, ◌∷◌, None}
 use Rattle.gh_base.specs.declared.cell.Cell.TheVariants as cell
 use Rattle.gh_coord.specs.declared.close.CloseStage.TheVariants as closing
 use Rattle.gh_coord.specs.Closing as close
@@ -14,7 +14,7 @@ use Rattle.gh_holds.specs.ActorsHold.{EndedSo, HasEnded, IsSweeping, NobodyMarks
 use Rattle.gh_marked.specs.State.{HasState}
 use Rattle.gh_marked.specs.Sweepers.{IsInSweep, sweep_of}
 use Rattle.gh_marked.specs.HoldVocabulary.{IsAsItEnded, Name, row_bit, SeatSweepsNothing, State, StateGood}
-use Rattle.gh_marked.proofs.Vocabulary.{acks_of, actors_after, ahead_at, alloc_words, Arena, arena, By, Checked, Close, close_part, CloseStage, Coordinating, CoordStage, effect, END, Entry, eqb-true, far_in, Free, Heap, IsBeginning, IsEnding, IsInCycle, IsLed, IsToBegin, Layout, mark_words, MarksNothing, MarksToTheEnd, nat_tests, Op, page_of, PageWord, Part, part_of, Processor, processor_at, put, seats_of, Stopped, Store, uncounted, Words, words}
+use Rattle.gh_marked.proofs.Vocabulary.{acks_of, actors_after, ahead_at, alloc_words, Arena, arena, Checked, Close, close_part, CloseStage, Coordinating, CoordStage, effect, END, Entry, eqb-true, Heap, IsBeginning, IsEnding, IsInCycle, IsLed, IsToBegin, Layout, mark_words, MarksNothing, MarksToTheEnd, nat_tests, Op, Part, part_of, Processor, processor_at, put, seats_of, Stopped, Store, uncounted, Words, words}
 use Rattle.gh_holds.proofs.AllActors.Aside.{IsOfSpans, phase_only, TellsNothing}
 use Rattle.gh_lists.specs.Going.{NotAcks}
 use Rattle.gh_marked.specs.Known.{ListsKnown}
@@ -25,11 +25,6 @@ use Rattle.gh_holds.proofs.AllActors.LeadingSwept.{apart, behind_of, heap_on, no
 use Rattle.gh_lists.specs.Resting.{state_stays}
 use Rattle.gh_holds.proofs.AllActors.SinceEnd.{in_cycle_on, LastStays}
 use Rattle.gh_lists.specs.Starts.{whole}
-
--- where a cycle has ended nobody sweeps
-nobody_sweeps : (x : PageWord) (b : ℕ) → far_in x ≢ By b
-nobody_sweeps Free b is = absurd cc
-nobody_sweeps _ b is = absurd cc
 
 -- a coordinator that ends a cycle does not begin one
 no_beginning : (p : CoordStage) (x : close.Closing) → p ≡ Close x → IsBeginning p → ⊥
@@ -96,7 +91,7 @@ module _ (setup : Setup) (lists : ListsKnown setup) where
     words_so = ap (put h.words cell.Gen) next ∙ sym (ap (effect h.words) asked)
 
     only : IsOfSpans e.ask
-    only = subst IsOfSpans (sym asked) (record { scanned = λ w i. refl; birth = λ w i. refl; global = λ w i. refl; buffer = λ w i. refl })
+    only = grind (arith, asked)
 
     -- Marking is over: nobody holds anything, and each processor has counted what it placed.
 
@@ -152,7 +147,7 @@ module _ (setup : Setup) (lists : ListsKnown setup) where
     }
 
     rests : (b : ℕ) → SeatSweepsNothing b then
-    rests b = record { none = λ p i. absurd (nobody_sweeps (page_of (h.words (cell.Page p))) b i); told = refl }
+    rests b = grind arith
 
     -- where its step leads the world is stopped still
     closes_to : (p : CloseStage) → x.stage ≡ p → close.goes_at x p e.found ≡ close.goes x e.found

@@ -4,7 +4,6 @@ use Rattle.std.proofs.lemmas.Bool.{cases_lt}
 use Rattle.gh_base.specs.declared.cell.Cell.TheVariants as cell
 use Rattle.gh_base.specs.declared.pack.TheConstants.{END}
 use Rattle.gh_base.specs.Shapes.{ShapesFit}
-use Rattle.gh_coord.specs.declared.close.CloseStage.TheVariants as closing
 use Rattle.gh_coord.specs.Closing as close
 use Rattle.gh_coord.specs.Handshake as leading
 use Rattle.gh_cycle.specs.Beside.{IsBeside}
@@ -30,8 +29,7 @@ use Rattle.gh_holds.specs.Objects.{EndsMarked, IsMarkedObject}
 
 -- the world is stopped until the phase behind the next sweep generation is stored
 closing_post : (p : CloseStage) → close.is_marking p ≡ true → leading.close_post p ≡ Stopped run.Mark
-closing_post closing.Ended on = absurd cc
-closing_post _ on = refl
+closing_post p on = grind arith
 
 module _ (setup : Setup) (lists : ListsKnown setup) where
   abbrev z : Arena
@@ -61,7 +59,7 @@ module _ (setup : Setup) (lists : ListsKnown setup) where
     clean = mark.ends (subst IsChecked (sym is) tt)
 
     pub post : leading.post_at c.stage ≡ Stopped run.Mark
-    post = ap leading.post_at is ∙ closing_post x.stage (subst leading.Marks is on)
+    post = grind (arith, closing_post)
 
     pub facts : (a : ℕ) → a < setup.layout.procs → MarkFacts mark.marking.cycle a mark.marking.shared (processor_at setup es a)
     facts a lt = mark.marking.processors a (processor_at setup es a) lt (runs_are setup es a lt)
@@ -111,7 +109,7 @@ module _ (setup : Setup) (lists : ListsKnown setup) where
           absurd (clean.done.no_grey (mark.marking.shared.words (cell.Entry b 0) - 1) (subst IsGrey (sym grey) tt))
 
     pub buffers : (b : ℕ) → h.words (cell.Buffer b) ≡ 0
-    buffers b = sym (buffer_words_are b) ∙ (mark.marking.good.counts.free b (free_buffer b) ∙ not_filled b)
+    buffers b = grind (arith, buffer_words_are, free_buffer, not_filled)
 
     -- The cursor is past the globals, and each stack is scanned or has ended.
 

@@ -1,23 +1,17 @@
 -- Once all is over: every processor is gone, so each goroutine has ended, and the objects that stand are those that a script reaches.
-use Rattle.std.proofs.Common.{◌≡◌, ◌≢◌, ◌↔◌, inl, inr, ◌⊎◌, ℕ, ◌*◌, ◌%◌, ◌^◌, ◌<◌, ◌≤◌, true, refl, sym, ap, subst, ◌∙◌, arith, List, [], ◌∷◌}
+use Rattle.std.proofs.Common.{◌≡◌, ◌↔◌, inl, inr, ◌⊎◌, ℕ, ◌*◌, ◌%◌, ◌^◌, ◌<◌, ◌≤◌, true, refl, sym, ap, subst, ◌∙◌, arith, List, [], ◌∷◌}
 use Rattle.gh_base.specs.declared.cell.Cell.TheVariants as cell
 use Rattle.gh_coord.specs.Closing as close
 use Rattle.gh_coord.specs.Handshake as leading
 use Rattle.gh_coord.specs.Listing as coord
-use Rattle.gh_mutator.specs.declared.poll.PollStage.TheVariants as poll_stage
-use Rattle.gh_mutator.specs.declared.new.NewStage.TheVariants as new
-use Rattle.gh_mutator.specs.declared.task.Task.TheVariants as task
-use Rattle.gh_mutator.specs.declared.wait.WaitStage.TheVariants as wait_stage
-use Rattle.gh_phase.specs.declared.resume.ResumeStage.TheVariants as resume_stage
 use Rattle.gh_phase.specs.declared.view.RunPhase.TheVariants as run
-use Rattle.gh_phase.specs.ResumePlaces.{stands_at}
 use Rattle.gh_lists.specs.Lists.{BeginsCycle}
 use Rattle.gh_lists.specs.Handshake.{Sound as ActorSound, Setup}
 use Rattle.gh_state.specs.Cycles.{AllIsTold, AreSwept}
 use Rattle.gh_holds.specs.ActorsHold.{EndedSo, IsNewThere, IsTold}
 use Rattle.gh_marked.specs.State.{HasState}
 use Rattle.gh_marked.specs.HoldVocabulary.{CountsAreExact, marks_at, State}
-use Rattle.gh_marked.proofs.Vocabulary.{acks_of, acts, alloc_words, Arena, arena, Ask, birth_words, Close, Coordinating, CoordStage, Done, effect, EndsCycle, Entry, Ever, ever, Gone, Heap, is_last_task, IsEnding, IsLed, IsMade, IsOf, IsPlacedAt, IsStartOf, IsStepIn, last_of, last_phase, Layout, Lead, Leads, Legal, mod_below, Name, new_stage_at, NewStage, Op, page_words, party_of, place_of, Placed, placed, Polling, polls_at, PollStage, processor_at, processor_kind, Reach, ResumeStage, Row, row_bit, slot_row, stage_at, stage_of, started, Store, Task, those, view, Waiting, waiting, waits_at, WaitStage, Words, words}
+use Rattle.gh_marked.proofs.Vocabulary.{acks_of, acts, alloc_words, Arena, arena, Ask, birth_words, Close, Coordinating, CoordStage, Done, effect, EndsCycle, Entry, Ever, ever, Gone, Heap, is_last_task, IsEnding, IsLed, IsMade, IsOf, IsPlacedAt, IsStartOf, IsStepIn, last_of, last_phase, Layout, Lead, Leads, Legal, mod_below, Name, Op, page_words, party_of, place_of, Placed, placed, Polling, processor_at, processor_kind, Reach, Row, row_bit, slot_row, stage_at, stage_of, started, Store, Task, those, view, Words, words}
 use Rattle.gh_marked.specs.Known.{ListsKnown}
 use Rattle.gh_lists.specs.Names.{few_there, same_birth_same_name}
 use Rattle.gh_holds.proofs.AllActors.LeadingNumbers.{ends_once}
@@ -30,33 +24,8 @@ use Rattle.gh_holds.specs.Objects.{EndsAllMarked, IsMarkedObject, LeavesTheReach
 
 -- Who is gone has left.
 
-resumes_on : (stops : ℕ) (p : ResumeStage) → stands_at stops p ≢ Gone
-resumes_on stops resume_stage.Acknowledge is = absurd cc
-resumes_on stops _ is = absurd cc
-
-polls_on : (p : Polling) (q : PollStage) → polls_at p q ≢ Gone
-polls_on p (poll_stage.Resuming r) is = resumes_on r.stops r.stage is
-polls_on p (poll_stage.Giving g stops) is = absurd cc
-polls_on p _ is = absurd cc
-
-waits_on : (w : Waiting) (q : WaitStage) → waits_at w q ≢ Gone
-waits_on w wait_stage.Polling is = polls_on w.poll w.poll.stage is
-waits_on w _ is = absurd cc
-
-makes_on : (p : Polling) (q : NewStage) → new_stage_at p q ≢ Gone
-makes_on p (new.Wait x) is = waits_on (waiting x p) x.stage is
-makes_on p (new.Search waited q) is = absurd cc
-makes_on p (new.Place x) is = absurd cc
-makes_on p (new.Want n) is = absurd cc
-makes_on p (new.Assist n x) is = absurd cc
-
 has_left : (p : Polling) (q : Task) → stage_at p q ≡ Gone → is_last_task q ≡ true
-has_left p task.Left is = refl
-has_left p (task.Leave x) is = refl
-has_left p (task.New x) is = absurd (makes_on p x.stage is)
-has_left p (task.Gc g x) is = absurd (waits_on (waiting x p) x.stage is)
-has_left p task.Poll is = absurd (polls_on p p.stage is)
-has_left p _ is = absurd cc
+has_left p q is = grind arith
 
 -- the request that ends a cycle
 pub ends_by : (c : Coordinating) (p : CoordStage) → IsEnding p → (x : ℕ) × (coord.asks_at c p ≡ Store cell.Gen x)
@@ -78,7 +47,7 @@ module _ (setup : Setup) (lists : ListsKnown setup) where
       omega (arith, before, more, follows)
 
   pub still_made : (start es : List (Entry Op)) → IsStartOf start es → (n : Name) → IsMade (ever setup start).made n → IsMade (ever setup es).made n
-  still_made start es is n made = let more = made_grows n.g start es is in omega (arith, made, more)
+  still_made start es is n made = grind (arith, made_grows)
 
   -- the objects that are marked where a cycle ends are so behind the store that ends it
   module _ (d : Entry Op) (ds : List (Entry Op)) (legal : Legal (those setup) (d ∷ ds)) (k : ℕ) (x : IsStepIn setup IsEnding k d ds) (n : Name) where
@@ -170,7 +139,7 @@ module _ (setup : Setup) (lists : ListsKnown setup) where
           (keeps.shakes.gone a (party_of (processor_at setup es a)) (stage_of (processor_at setup es a)) (omega (arith, lt)) there).0 (keeps.processors_left a lt finished)
 
       left_there : is_last_task (processor_at setup es a).task ≡ true
-      left_there = has_left (processor_at setup es a).poll (processor_at setup es a).task gone
+      left_there = grind (arith, gone, has_left)
 
       pub all_ended : (g : ℕ) → IsOf z a g → (ever setup es).ended g ≡ true
       all_ended g its = subst (λ (v : Ever). v.ended g ≡ true) has.of_list.ever_is ((has.of_list.processors a lt).left left_there g its)
@@ -186,7 +155,7 @@ module _ (setup : Setup) (lists : ListsKnown setup) where
 
     -- the last cycle has changed no value
     same_ever : ever setup es ≡ ever setup j.behind.cycle.begun
-    same_ever = j.behind.cycle.last c led was_last
+    same_ever = grind arith
 
     -- nothing has changed since its marking ended
     unchanged : (ended : List (Entry Op)) → IsStartOf ended es → EndsCycle setup c.begun ended → ever setup es ≡ ever setup ended
@@ -217,7 +186,7 @@ module _ (setup : Setup) (lists : ListsKnown setup) where
           )
 
       marked : (ended : List (Entry Op)) → IsStartOf ended es → EndsCycle setup c.begun ended → IsMarkedObject setup (words setup ended) n ↔ Reach (ever setup es) n
-      marked ended start x = marked_at ended start x (unchanged ended start x)
+      marked ended start x = grind (arith, marked_at, unchanged)
 
     -- the bytes that were counted are those of the slots that are taken
     live_is : c.live ≡ placed (alloc_words (words setup es)) (slot_row (page_words (words setup es))) (16 * setup.layout.pages)

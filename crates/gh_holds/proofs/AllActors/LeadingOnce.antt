@@ -1,17 +1,12 @@
 -- A cycle begins once: from the store of its phase on the coordinator opens none before the next request is cleared.
-use Rattle.std.proofs.Common.{◌≡◌, ◌⊎◌, inl, inr, ℕ, suc, ◌+◌, ◌≤◌, ◌==◌, Bool, true, false, cond, refl, sym, ap, subst, ◌∙◌, arith, List, [], ◌∷◌, Option, Some, None}
+use Rattle.std.proofs.Common.{◌≡◌, ◌⊎◌, inl, inr, ℕ, suc, ◌≤◌, ◌==◌, Bool, true, false, refl, sym, ap, subst, ◌∙◌, arith, List, [], ◌∷◌}
 use Rattle.gh_coord.specs.declared.open.OpenStage.TheVariants as open_stage
-use Rattle.gh_coord.specs.Closing as close
-use Rattle.gh_coord.specs.Counting as count
+use Rattle.gh_coord.specs.Events.{by_event}
 use Rattle.gh_coord.specs.Listing as coord
 use Rattle.gh_coord.specs.Opening as opens_by
-use Rattle.gh_coord.specs.Stopping as stop
-use Rattle.gh_coord.specs.SweepingAll as over
-use Rattle.gh_coord.specs.Telling as tell
-use Rattle.gh_coord.specs.Watching as watch
 use Rattle.gh_lists.specs.Lists.{BeginsCycle}
 use Rattle.gh_lists.specs.Starts.{legal_start, compared}
-use Rattle.gh_marked.proofs.Vocabulary.{acks_of, All, Ask, Check, Close, Coordinating, CoordStage, Count, Counted, Done, Entry, IsBeginning, IsLed, IsStartOf, Legal, LoadAck, LoadWant, MarkOn, nat_tests, NotYet, Op, Open, opened_after, opened_in, OpenStage, Stop, StopAgain, Sweep, Tell, those, Watch, Watched}
+use Rattle.gh_marked.proofs.Vocabulary.{acks_of, Ask, Coordinating, CoordStage, Done, Entry, IsBeginning, IsLed, IsStartOf, Legal, nat_tests, Op, Open, opened_after, opened_in, OpenStage, those}
 use Rattle.gh_marked.specs.Known.{ListsKnown}
 use Rattle.gh_holds.proofs.AllActors.LeadingNumbers.{beginning, numbers_at}
 use Rattle.gh_holds.proofs.AllActors.LeadingSeat.{asked_at, busy, by_step, ByLead, goes_at as goes_by, led_then}
@@ -30,84 +25,24 @@ IsPast (Open o) = IsToClear o.stage
 IsPast _ = Unit {0}
 
 module _ (u : Coordinating) where
-  acks : (i : ℕ) (gone more : Bool) → IsPast (cond gone (cond more (coord.at_stage u (LoadAck (i + 1))) (coord.stops_world (record u { is_last = true }))) (coord.at_stage u LoadWant)).stage
-  acks i true true = tt
-  acks i true false = tt
-  acks i false more = tt
-
-  wants : (none : Bool) → IsPast (cond none (coord.at_stage u (LoadAck 0)) (coord.stops_world u)).stage
-  wants true = tt
-  wants false = tt
-
-  stops : (st : stop.Stopping) (out : Option (Unit {0})) → IsPast (coord.after_stop (coord.at_stage u (Stop st)) out).stage
-  stops st None = tt
-  stops st (Some x) = tt
-
-  watches : (w : watch.Watching) (out : Option Watched) → IsPast (coord.after_watch (coord.at_stage u (Watch w)) out).stage
-  watches w None = tt
-  watches w (Some All) = tt
-  watches w (Some NotYet) = tt
-
-  stops_again : (st : stop.Stopping) (out : Option (Unit {0})) → IsPast (coord.after_stop_again (coord.at_stage u (StopAgain st)) out).stage
-  stops_again st None = tt
-  stops_again st (Some x) = tt
-
-  checks : (w : watch.Watching) (out : Option Watched) → IsPast (coord.after_check (coord.at_stage u (Check w)) out).stage
-  checks w None = tt
-  checks w (Some All) = tt
-  checks w (Some NotYet) = tt
-
-  closes : (x : close.Closing) (out : Option ℕ) → IsPast (coord.after_close (coord.at_stage u (Close x)) out).stage
-  closes x None = tt
-  closes x (Some lapsed) = tt
-
-  sweeps : (w : over.SweepingAll) (out : Option (Unit {0})) → IsPast (coord.after_sweep (coord.at_stage u (Sweep w)) out).stage
-  sweeps w None = tt
-  sweeps w (Some x) = tt
-
-  counts : (w : count.Counting) (out : Option Counted) → IsPast (coord.after_count (coord.at_stage u (Count w)) out).stage
-  counts w None = tt
-  counts w (Some x) = tt
-
-  tells : (t : tell.Telling) (out : Option (Unit {0})) → IsPast (coord.after_tell (coord.at_stage u (Tell t)) out).stage
-  tells t None = tt
-  tells t (Some x) = go u.is_last where
-    go : (b : Bool) → IsPast (cond b Done (LoadAck 0))
-    go true = tt
-    go false = tt
-
   -- a step that clears the request counts one cycle more
   clears : (o : opens_by.CycleOpening) (p : OpenStage) → o.stage ≡ p → IsToClear p → (before : ℕ) → opened_after (opens_by.asks_at o o.stage) before ≡ suc before
-  clears o open_stage.ClearWant is past before = ap (λ (q : OpenStage). opened_after (opens_by.asks_at o q) before) is
-  clears o _ is past before = absurd past
+  clears o p is past before = grind arith
 
   stays_past : (c : Coordinating) (p : CoordStage) (found : ℕ) → coord.is_busy p ≡ true → IsPast p → IsPast (coord.goes_at u p found).stage ⊎ ((before : ℕ) → opened_after (coord.asks_at c p) before ≡ suc before)
-  stays_past c (LoadAck i) found b past = inl (acks i _ _)
-  stays_past c LoadWant found b past = inl (wants _)
-  stays_past c (Stop st) found b past = inl (stops (stop.goes st found) (stop.gives st found))
   stays_past c (Open o) found b past = inr (clears o o.stage refl past)
-  stays_past c (Watch w) found b past = inl (watches (watch.goes w found) (watch.gives w found))
-  stays_past c (StopAgain st) found b past = inl (stops_again (stop.goes st found) (stop.gives st found))
-  stays_past c (Check w) found b past = inl (checks (watch.goes w found) (watch.gives w found))
-  stays_past c MarkOn found b past = inl tt
-  stays_past c (Close x) found b past = inl (closes (close.goes x found) (close.gives x found))
-  stays_past c (Sweep w) found b past = inl (sweeps (over.goes w found) (over.gives w found))
-  stays_past c (Count w) found b past = inl (counts (count.goes w found) (count.gives w found))
-  stays_past c (Tell t) found b past = inl (tells (tell.goes t found) (tell.gives t found))
   stays_past c Done found b past = absurd cc
+  stays_past c p found b past = inl (by_event u found (λ (to : Coordinating). IsPast to.stage) p (λ e may. grind arith))
 
   -- where a cycle begins
   begins_past : (p : CoordStage) (found : ℕ) → IsBeginning p → IsPast (coord.goes_at u p found).stage
-  begins_past (Open o) found is = rw is tt
-  begins_past _ found is = absurd is
+  begins_past p found is = grind arith
 
 begins_none : (c : Coordinating) (p : CoordStage) → IsBeginning p → (before : ℕ) → opened_after (coord.asks_at c p) before ≡ before
-begins_none c (Open o) is before = ap (λ (q : OpenStage). opened_after (opens_by.asks_at o q) before) is
-begins_none c _ is before = absurd is
+begins_none c p is before = grind arith
 
 not_past : (p : CoordStage) → IsBeginning p → IsPast p → ⊥
-not_past (Open o) is past = subst IsToClear is past
-not_past _ is past = is
+not_past p is past = grind arith
 
 module _ (setup : Setup) (lists : ListsKnown setup) where
   abbrev Lawful : List (Entry Op) → Type 0
@@ -179,10 +114,7 @@ module _ (setup : Setup) (lists : ListsKnown setup) where
       not_past y.lead.stage y.stage (p.past (omega (arith, a, b, c)) y.lead y.led)
 
   begins_at : (k : ℕ) (first second : List (Entry Op)) → Lawful second → BeginsCycle setup k first → BeginsCycle setup k second → IsStartOf first second → first ≡ second
-  begins_at k [] second legal x y start = absurd x
-  begins_at k (d ∷ ds) [] legal x y start = absurd y
-  begins_at k (d ∷ ds) (f ∷ fs) legal x y (inl is) = is
-  begins_at k (d ∷ ds) (f ∷ fs) legal x y (inr is) = absurd (begins_before k d f ds fs legal x y is)
+  begins_at k first second legal x y start = grind (arith, begins_before)
 
   pub begins_once : (k : ℕ) (first second es : List (Entry Op)) → Lawful es → IsStartOf first es → IsStartOf second es → BeginsCycle setup k first → BeginsCycle setup k second → first ≡ second
   begins_once k first second es legal of_first of_second x y = go (compared first second es of_first of_second) where

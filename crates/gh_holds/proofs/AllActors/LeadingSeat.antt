@@ -3,14 +3,11 @@ use Rattle.std.proofs.Common.{◌≡◌, ℕ, ◌<◌, ◌≤◌, Bool, true, fa
 use Rattle.gh_coord.specs.Handshake as leading
 use Rattle.gh_coord.specs.Listing as coord
 use Rattle.gh_mutator.specs.Sweeping as mutator
-use Rattle.gh_mutator.specs.declared.new.NewStage.TheVariants as new
-use Rattle.gh_mutator.specs.declared.task.Task.TheVariants as task
 use Rattle.gh_worker.specs.Listing as worker
 use Rattle.gh_lists.specs.declared.handshake.Actor.TheVariants as actor
 use Rattle.gh_lists.specs.Handshake.{asks, Setup}
-use Rattle.gh_marked.specs.HeapBytes.{uncounted_new}
 use Rattle.gh_marked.specs.Sweepers.{sweep_of}
-use Rattle.gh_marked.proofs.Vocabulary.{acks_of, Actor, actors, actors_after, Arena, arena, Coordinating, CoordStage, Entry, Heap, is_busy, IsHeapOf, IsLed, IsParked, IsStepIn, Legal, nat_tests, new_stage_at, NewStage, Op, Polling, processor_at, Right, RunPhase, seats_of, stage_at, stage_of, started, Stopped, Sweep, Task, those, uncounted, view}
+use Rattle.gh_marked.proofs.Vocabulary.{acks_of, Actor, actors, actors_after, Arena, arena, Coordinating, CoordStage, Entry, Heap, is_busy, IsHeapOf, IsLed, IsParked, IsStepIn, Legal, nat_tests, Op, Polling, processor_at, Right, RunPhase, seats_of, stage_at, stage_of, started, Stopped, Task, those, uncounted, view}
 use Rattle.gh_marked.specs.Known.{ListsKnown}
 use Rattle.gh_lists.specs.Resting.{runs_are}
 use Rattle.gh_lists.specs.Seats.{IsSeated, lead_started, leads, seated}
@@ -22,33 +19,14 @@ pub record IsStill (h : Heap) : Type 0 where
   pub none_laid : (a : ℕ) → h.laying a ≡ None
   pub none_freed : (a : ℕ) → h.freeing a ≡ None
 
--- what was placed and not counted is of a processor that makes an object, so it is not parked
-parked_new : (p : Polling) (stops : ℕ) (s : NewStage) → IsParked stops (new_stage_at p s) → uncounted_new s ≡ 0
-parked_new p stops (new.Search waited q) parked = refl
-parked_new p stops (new.Wait x) parked = refl
-parked_new p stops (new.Place x) parked = absurd parked
-parked_new p stops (new.Want n) parked = refl
-parked_new p stops (new.Assist n x) parked = refl
-
 parked_at : (p : Polling) (stops : ℕ) (q : Task) → IsParked stops (stage_at p q) → uncounted q ≡ 0
-parked_at p stops (task.New x) parked = parked_new p stops x.stage parked
-parked_at p stops _ parked = refl
-
--- nor does a parked processor sweep a span, nor the coordinator that has stopped the world
-parked_search : (p : Polling) (stops : ℕ) (s : NewStage) → IsParked stops (new_stage_at p s) → mutator.sweep_new s ≡ None
-parked_search p stops (new.Search waited q) parked = absurd parked
-parked_search p stops (new.Wait x) parked = refl
-parked_search p stops (new.Place x) parked = refl
-parked_search p stops (new.Want n) parked = refl
-parked_search p stops (new.Assist n x) parked = refl
+parked_at p stops q parked = grind arith
 
 parked_sweeps_none : (p : Polling) (stops : ℕ) (q : Task) → IsParked stops (stage_at p q) → mutator.sweep_at q ≡ None
-parked_sweeps_none p stops (task.New x) parked = parked_search p stops x.stage parked
-parked_sweeps_none p stops _ parked = refl
+parked_sweeps_none p stops q parked = grind arith
 
 lead_sweeps_none : (p : CoordStage) (phase : RunPhase) → leading.post_at p ≡ Stopped phase → coord.sweep_at p ≡ None
-lead_sweeps_none (Sweep w) phase is = absurd cc
-lead_sweeps_none _ phase is = refl
+lead_sweeps_none p phase is = grind arith
 
 -- the newest entry is of the coordinator, who was this before it
 pub record ByLead (setup : Setup) (e : Entry Op) (es : List (Entry Op)) : Type 0 where
@@ -78,7 +56,7 @@ module _ (setup : Setup) where
       parked a lt = (lists.keeps es legal).processors_wait c phase a (processor_at setup es a) led post (omega (arith, lt)) (runs_are setup es a lt)
 
       pub owes_nothing : (a : ℕ) → a < setup.layout.procs → uncounted (processor_at setup es a).task ≡ 0
-      owes_nothing a lt = parked_at (processor_at setup es a).poll _ (processor_at setup es a).task (parked a lt)
+      owes_nothing a lt = grind (arith, parked, parked_at)
 
       -- nobody sweeps
       pub stopped_sweeps_none : (b : ℕ) → b < seats_of setup.layout → sweep_of (at es b) ≡ None

@@ -1,12 +1,11 @@
 -- One entry more of the coordinator, at whatever stage: all that holds of lists holds then.
-use Rattle.std.proofs.Common.{◌≡◌, true, refl, sym, ap, subst, List, ◌∷◌, Option, Some, None}
+use Rattle.std.proofs.Common.{◌≡◌, true, refl, sym, ap, subst, List, ◌∷◌, arith}
 use Rattle.gh_coord.specs.declared.close.CloseStage.TheVariants as closing
 use Rattle.gh_coord.specs.Closing as close
+use Rattle.gh_coord.specs.Events.{by_event}
 use Rattle.gh_coord.specs.Handshake as leading
 use Rattle.gh_coord.specs.Listing as coord
-use Rattle.gh_coord.specs.Stopping as stop
-use Rattle.gh_coord.specs.Watching as watch
-use Rattle.gh_marked.proofs.Vocabulary.{All, Check, Close, CloseStage, Coordinating, CoordStage, Count, Done, Entry, LoadAck, LoadWant, MarkOn, NotYet, Op, Open, Stop, StopAgain, Sweep, Tell, Watch, Watched}
+use Rattle.gh_marked.proofs.Vocabulary.{Close, CloseStage, Coordinating, CoordStage, Count, Done, Entry, LoadAck, LoadWant, Op, Open, Stop, Sweep, Tell}
 use Rattle.gh_marked.specs.Known.{ListsKnown}
 use Rattle.gh_holds.proofs.AllActors.LeadingCalm as calm
 use Rattle.gh_holds.proofs.AllActors.LeadingCloses.{runs_on, sweeping}
@@ -27,22 +26,6 @@ module _ (setup : Setup) (lists : ListsKnown setup) where
     abbrev To : Coordinating → Type 0
     To d = HoldsAt setup (e ∷ es) d d.stage
 
-    -- While a cycle is marked nothing is said here.
-
-    watches : (w : watch.Watching) (out : Option Watched) → To (coord.after_watch (coord.at_stage u (Watch w)) out)
-    watches w None = tt
-    watches w (Some All) = tt
-    watches w (Some NotYet) = tt
-
-    stops_again : (st : stop.Stopping) (out : Option (Unit {0})) → To (coord.after_stop_again (coord.at_stage u (StopAgain st)) out)
-    stops_again st None = tt
-    stops_again st (Some x) = tt
-
-    checks : (w : watch.Watching) (out : Option Watched) → To (coord.after_check (coord.at_stage u (Check w)) out)
-    checks w None = tt
-    checks w (Some All) = tt
-    checks w (Some NotYet) = tt
-
     closes : (x : close.Closing) → by.lead.stage ≡ Close x → (p : CloseStage) → x.stage ≡ p → close.is_busy p ≡ true → IsClosing setup es by.lead p → To (coord.after_close (coord.at_stage u (Close (close.goes_at x p e.found))) (close.given (close.goes_at x p e.found)))
     closes x is closing.LoadBank at b h = tt
     closes x is closing.ClearBank at b h = tt
@@ -58,15 +41,13 @@ module _ (setup : Setup) (lists : ListsKnown setup) where
     at_stage LoadWant is h = calm.wants setup lists e es by is h
     at_stage (Stop st) is h = calm.stops setup lists e es by st is h
     at_stage (Open o) is h = calm.opens setup lists e es by o is h
-    at_stage (Watch w) is h = watches (watch.goes w e.found) (watch.gives w e.found)
-    at_stage (StopAgain st) is h = stops_again (stop.goes st e.found) (stop.gives st e.found)
-    at_stage (Check w) is h = checks (watch.goes w e.found) (watch.gives w e.found)
-    at_stage MarkOn is h = tt
     at_stage (Close x) is h = closes x is x.stage refl (busy_at (Close x) is) h
     at_stage (Sweep w) is h = sweeps setup lists e es by w is h
     at_stage (Count x) is h = told.counts setup lists e es by x is h
     at_stage (Tell t) is h = told.tells setup lists e es by t is (told.told_at setup lists es by.lead t.stage h)
     at_stage Done is h = absurd (let b = busy_at Done is in cc)
+    -- while a cycle is marked nothing is said here
+    at_stage p is h = by_event u e.found To p (λ x may. grind arith)
 
     pub leads : Holds setup es by.lead → Holds setup (e ∷ es) (coord.goes by.lead e.found)
     leads h = record {

@@ -1,5 +1,5 @@
 -- The coordinator walks over all pages while the world runs: what holds of the walk behind each of its steps.
-use Rattle.std.proofs.Common.{◌≡◌, ◌≢◌, ◌⊎◌, inl, inr, ℕ, ◌+◌, ◌<◌, ◌≤◌, ◌==◌, Bool, true, false, cond, ltb, refl, sym, ap, subst, ◌∙◌, arith, Option, None, eq-eqb}
+use Rattle.std.proofs.Common.{◌≡◌, ◌≢◌, ◌⊎◌, inl, inr, ℕ, ◌+◌, ◌<◌, ◌==◌, Bool, true, false, cond, ltb, refl, sym, ap, subst, ◌∙◌, arith, Option, None, eq-eqb}
 use Rattle.gh_base.specs.declared.cell.Cell.TheVariants as cell
 use Rattle.gh_coord.specs.declared.sweep_all.SweepAllStage.TheVariants as all
 use Rattle.gh_coord.specs.SweepingAll as over_all
@@ -12,18 +12,8 @@ use Rattle.gh_sweep.specs.Shared.{Done}
 use Rattle.gh_sweep.specs.Sweepers as sweepers
 use Rattle.gh_holds.specs.ActorsHold.{IsBegun, page_at, Walks, WalksAt}
 use Rattle.gh_marked.specs.HoldVocabulary.{generation_of, head_word, PassedBefore, State, StateGood, SweepingAll, SweepRuns}
-use Rattle.gh_marked.proofs.Vocabulary.{Arena, Body, cell_of, effect, Free, Head, Layout, Load, Lost, nat_tests, page_of, PageWord, put, SpanHead, SweepAllStage, SweepEnd, SweepStage, Swept, Words}
+use Rattle.gh_marked.proofs.Vocabulary.{Arena, Body, cell_of, Free, Head, Load, Lost, nat_tests, page_of, PageWord, SpanHead, SweepAllStage, SweepEnd, SweepStage, Swept}
 use Rattle.gh_marked.specs.Known.{Known}
-
-module _ (m : sweep.Sweeping) where
-  swapped : (b : Bool) (f w : Words) (x : _) → f x ≡ w x → cond b f w x ≡ w x
-  swapped true f w x is = is
-  swapped false f w x is = refl
-
-  -- the numbers of cycles are let alone by a sweep
-  pub numbers_stay : (q : SweepStage) (w : Words) → (effect w (sweep.asks_at m q) cell.Swept ≡ w cell.Swept) × (effect w (sweep.asks_at m q) cell.Gen ≡ w cell.Gen)
-  numbers_stay sweep_stage.Begin w = (swapped _ (put w (cell.Page m.page) _) w _ refl, swapped _ (put w (cell.Page m.page) _) w _ refl)
-  numbers_stay _ w = (refl, refl)
 
 module _ (z : Arena) (known : Known) (w : SweepingAll) where
   -- a page more is passed
@@ -35,37 +25,12 @@ module _ (z : Arena) (known : Known) (w : SweepingAll) where
 
   -- the page is passed, and the next one is looked at, if there is one
   next_page : (t : State) (page : ℕ) → w.layout ≡ t.end.layout → w.generation ≡ generation_of t.end → PassedBefore t (page + 1) → Walks t (over_all.at_stage w (over_all.behind w page))
-  next_page t page layout_is generation_is passed = go (ltb (page + 1) w.layout.pages) refl where
-    same : w.layout.pages ≡ t.end.layout.pages
-    same = ap (λ (y : Layout). y.pages) layout_is
-
-    go : (b : Bool) → ltb (page + 1) w.layout.pages ≡ b → Walks t (over_all.at_stage w (cond b (all.LoadPage (page + 1)) all.Ended))
-    go true x = record {
-      layout_is = layout_is;
-      generation_is = generation_is;
-      passed = passed;
-      stage_is = subst (λ (n : ℕ). page + 1 < n) same (grind (arith, nat_tests));
-    }
-    go false x = record {
-      layout_is = layout_is;
-      generation_is = generation_is;
-      passed = λ p lt. passed p (let up : w.layout.pages ≤ page + 1 = grind (arith, nat_tests) in omega (arith, lt, same, up));
-      stage_is = tt;
-    }
+  next_page t page layout_is generation_is passed = grind arith
 
   module _ (s : State) (good : StateGood z s) (walks : Walks s w) where
     -- a head with neither of the two numbers before it has that of the sweep generation
     number_is : (page : ℕ) (g : SpanHead) → page_of (s.heap.words (cell.Page page)) ≡ Head g → g.number + 2 ≢ w.generation → g.number + 1 ≢ w.generation → g.number ≡ s.heap.words cell.Gen
-    number_is page g is not_two not_one = go (g.number == s.heap.words cell.Gen) refl where
-      generation : w.generation ≡ s.heap.words cell.Gen
-      generation = walks.generation_is ∙ sym good.sweep.generation
-
-      go : (b : Bool) → (g.number == s.heap.words cell.Gen) ≡ b → g.number ≡ s.heap.words cell.Gen
-      go true x = grind (arith, nat_tests)
-      go false x = absurd (none (known.walkers.waits z s page g good is (λ y. absurd (grind (arith, nat_tests)))).1) where
-        none : (g.number + 2 ≡ s.heap.words cell.Gen) ⊎ (g.number + 1 ≡ s.heap.words cell.Gen) → ⊥
-        none (inl two) = not_two (two ∙ sym generation)
-        none (inr one) = not_one (one ∙ sym generation)
+    number_is page g is not_two not_one = grind arith
 
     -- so it is passed
     passes : (page : ℕ) → PassedBefore s page → ((g : SpanHead) → page_of (s.heap.words (cell.Page page)) ≡ Head g → (g.number + 2 ≢ w.generation) × (g.number + 1 ≢ w.generation)) → Walks s (over_all.at_stage w (over_all.behind w page))
@@ -211,4 +176,4 @@ module _ (z : Arena) (known : Known) (w : SweepingAll) where
       by_stage (sweep_stage.Ended end) y b = absurd cc
 
       pub stepped : Walks then (over_all.goes_at w (all.Sweep page m) found)
-      stepped = by_stage m.stage refl step.busy
+      stepped = grind (arith, by_stage)

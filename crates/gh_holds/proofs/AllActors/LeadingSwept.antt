@@ -1,5 +1,5 @@
 -- The coordinator sweeps all spans: over lists, what holds behind each of its steps. And a step of it in a stopped world, which leaves what is known of the heap.
-use Rattle.std.proofs.Common.{◌≡◌, ◌⊎◌, ℕ, ◌<◌, ◌≤◌, ◌==◌, Bool, true, false, refl, sym, ap, subst, ◌∙◌, arith, List, ◌∷◌, ◌++◌, Some, None}
+use Rattle.std.proofs.Common.{◌≡◌, ◌⊎◌, ℕ, ◌<◌, ◌≤◌, ◌==◌, true, false, refl, sym, ap, subst, ◌∙◌, arith, List, ◌∷◌, ◌++◌, Some, None}
 use Rattle.gh_base.specs.declared.cell.Cell.TheVariants as cell
 use Rattle.gh_coord.specs.declared.sweep_all.SweepAllStage.TheVariants as all
 use Rattle.gh_coord.specs.Handshake as leading
@@ -36,10 +36,7 @@ module _ (setup : Setup) (lists : ListsKnown setup) where
 
   module _ (e : Entry Op) (es : List (Entry Op)) (legal : Legal (those setup) (e ∷ es)) (ge : setup.layout.procs ≤ e.actor) where
     pub apart : (a : ℕ) → a < setup.layout.procs → (e.actor == a) ≡ false
-    apart a lt = go (e.actor == a) refl where
-      go : (b : Bool) → (e.actor == a) ≡ b → (e.actor == a) ≡ false
-      go false x = x
-      go true x = absurd (let same : e.actor ≡ a = grind (arith, nat_tests) in omega (arith, same, lt, ge))
+    apart a lt = grind arith
 
   -- A stopped world, and a step of the coordinator on words of spans and counts.
   module _ (e : Entry Op) (es : List (Entry Op)) (by_it : ByLead setup e es) (post : leading.post_at by_it.lead.stage ≡ Stopped run.Mark) (h : Heap) (of : IsHeapOf setup es h) (w : Words) (words_are : w ≡ effect h.words e.ask) (only : IsOfSpans e.ask) where
@@ -74,7 +71,7 @@ module _ (setup : Setup) (lists : ListsKnown setup) where
       it = of.processors a lt
 
       aside : (e.actor == a) ≡ false
-      aside = apart e es by_it.legal ge a lt
+      aside = grind arith
 
       own_same : (g : ℕ) → ended_in (by a (e ∷ es)) g ≡ ended_in (by a es) g
       own_same g = ap (λ (ys : List (Entry Op)). ended_in ys g) (own_stay setup e es a aside)
@@ -92,7 +89,7 @@ module _ (setup : Setup) (lists : ListsKnown setup) where
       }
 
       pub stands : IsAsItShould setup (e ∷ es) then a (processor_at setup (e ∷ es) a)
-      stands = subst (λ (p : Processor). IsAsItShould setup (e ∷ es) then a p) (sym (state_stays setup e es a aside)) same
+      stands = grind (arith, aside, same)
 
     pub heap_on : IsHeapOf setup (e ∷ es) then
     heap_on = record {
@@ -214,7 +211,7 @@ module _ (setup : Setup) (lists : ListsKnown setup) where
       runs_m = subst (IsInSweep e.actor now) (swept_before (all.Sweep at m) x) (s.has.sweeps e.actor by_it.legal.1.actor)
 
       then_m : sweep_of (actors_after z setup.pacing setup.may (e ∷ es) e.actor) ≡ on_from m e.found
-      then_m = swept_then ∙ (lists.known.coordinator_sweeps.on by_it.lead m (swept_in (all.Sweep at m) x) runs_m.1).goes_so e.found
+      then_m = grind (arith, nat_tests)
 
       abbrev step : Step
       step = aside_of.by_sweep setup lists.known e es by_it.legal seat_from s.has m (swept_before (all.Sweep at m) x) asks_m then_m

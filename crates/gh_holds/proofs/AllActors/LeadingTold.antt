@@ -1,18 +1,17 @@
 -- The coordinator reads what the sweep has counted, keeps it, and tells that the cycle is swept: what holds behind each of its steps.
-use Rattle.std.proofs.Common.{◌≡◌, ◌⊎◌, inl, inr, ℕ, zero, suc, ◌+◌, Bool, true, false, cond, ltb, refl, sym, ap, subst, ◌∙◌, List, [], ◌∷◌, ◌++◌, length, slice_get, Option, Some, None}
+use Rattle.std.proofs.Common.{◌≡◌, ◌⊎◌, inl, inr, ℕ, zero, suc, Bool, true, false, cond, ltb, refl, sym, ap, subst, ◌∙◌, List, [], ◌∷◌, ◌++◌, length, slice_get, Option, Some, None, arith}
 use Rattle.gh_coord.specs.declared.count.CountStage.TheVariants as counting
 use Rattle.gh_coord.specs.declared.cycles.Cycle.{Cycle as CycleNumbers}
 use Rattle.gh_coord.specs.declared.tell.TellStage.TheVariants as telling
 use Rattle.gh_coord.specs.Counting as count
 use Rattle.gh_coord.specs.Listing as coord
 use Rattle.gh_coord.specs.Telling as tell
-use Rattle.gh_holds.specs.Objects.{AllWereCounted, standing_objects, WasCounted}
+use Rattle.gh_holds.specs.Objects.{AllWereCounted, WasCounted}
 use Rattle.gh_state.specs.Cycles.{AllIsTold}
-use Rattle.gh_sweep.specs.AtEnd.{BitsAreObjects}
-use Rattle.gh_holds.specs.ActorsHold.{EndedSo, HasRead, HoldsAt, IsCounting, IsRead, IsTelling, IsTold}
-use Rattle.gh_marked.specs.HoldVocabulary.{alloc_at, marked_objects, marks_at, State, TallyWord, tally_of}
-use Rattle.gh_marked.proofs.Vocabulary.{Arena, arena, Ask, cell_of, Coordinating, CoordStage, Count, Counted, CountStage, Done, Entry, Layout, LoadAck, Op, Tell, TellStage, Words, words}
-use Rattle.gh_holds.proofs.AllActors.Aside.{loads_only, phase_only, swept_only, TellsNothing, trigger_only}
+use Rattle.gh_holds.specs.ActorsHold.{HasRead, HoldsAt, IsCounting, IsRead, IsTelling, IsTold}
+use Rattle.gh_marked.specs.HoldVocabulary.{State, TallyWord, tally_of}
+use Rattle.gh_marked.proofs.Vocabulary.{Arena, arena, Ask, cell_of, Coordinating, CoordStage, Count, Counted, CountStage, Done, Entry, LoadAck, Op, Tell, TellStage, Words}
+use Rattle.gh_holds.proofs.AllActors.Aside.{TellsNothing}
 use Rattle.gh_lists.specs.Going.{NotAcks}
 use Rattle.gh_marked.specs.Known.{ListsKnown}
 use Rattle.gh_holds.proofs.AllActors.LeadingAside.{IsBehind, told_on}
@@ -22,14 +21,10 @@ use Rattle.gh_lists.specs.Handshake.{Setup}
 
 -- each request is a load, or stores the trigger, the last swept cycle or the phase
 counts_tell : (p : CountStage) → TellsNothing (count.asks_at p)
-counts_tell counting.LoadTally = loads_only _
-counts_tell _ = loads_only _
+counts_tell p = grind arith
 
 tells_tell : (t : tell.Telling) (p : TellStage) → TellsNothing (tell.asks_at t p)
-tells_tell t telling.StoreTrigger = trigger_only _
-tells_tell t telling.StoreSwept = swept_only _
-tells_tell t telling.StorePhase = phase_only _
-tells_tell t telling.Ended = loads_only _
+tells_tell t p = grind arith
 
 -- an item of the list with one more is one of the list, or that one
 one_of : (xs : List CycleNumbers) (x y : CycleNumbers) (i : ℕ) → slice_get (xs ++ x ∷ []) i ≡ Some y → ((j : ℕ) × (slice_get xs j ≡ Some y)) ⊎ (y ≡ x)
@@ -44,15 +39,10 @@ one_of (w ∷ xs) x y (suc i) is = go (one_of xs x y i is) where
 -- no span is swept behind a step of counting or of telling
 module _ (u : Coordinating) where
   counts_sweep : (x : count.Counting) (out : Option Counted) → coord.sweep_in (coord.after_count (coord.at_stage u (Count x)) out) ≡ None
-  counts_sweep x None = refl
-  counts_sweep x (Some y) = refl
+  counts_sweep x out = grind arith
 
   tells_sweep : (t : tell.Telling) (out : Option (Unit {0})) → coord.sweep_in (coord.after_tell (coord.at_stage u (Tell t)) out) ≡ None
-  tells_sweep t None = refl
-  tells_sweep t (Some y) = go u.is_last where
-    go : (b : Bool) → coord.sweep_at (cond b Done (LoadAck 0)) ≡ None
-    go true = refl
-    go false = refl
+  tells_sweep t out = grind arith
 
 module _ (setup : Setup) (lists : ListsKnown setup) where
   abbrev z : Arena
@@ -86,7 +76,7 @@ module _ (setup : Setup) (lists : ListsKnown setup) where
       counts_no_acks = subst NotAcks (sym is) tt
 
       none_counted : TellsNothing e.ask
-      none_counted = subst TellsNothing (sym (asks_so (Count x) is)) (counts_tell x.stage)
+      none_counted = grind (arith, asks_so, counts_tell)
 
       abbrev here : State
       here = k.quiet.has.state
@@ -107,9 +97,7 @@ module _ (setup : Setup) (lists : ListsKnown setup) where
       count_busy = subst (λ (p : CoordStage). coord.is_busy p ≡ true) is (busy setup lists e es by)
 
       read_now : x.stage ≡ counting.LoadTally → IsRead setup here.end (tally_of e.found)
-      read_now y =
-          let same = found_at counting.LoadTally y in
-          record { marked = ap (λ (i : ℕ). (tally_of i).marked) same ∙ all_told.marked; freed = ap (λ (i : ℕ). (tally_of i).freed) same ∙ all_told.freed }
+      read_now y = grind (arith, all_told, found_at)
 
       count_goes : (p : CountStage) → x.stage ≡ p → count.is_busy p ≡ true → To (coord.after_count (coord.at_stage u (Count (count.goes_at x p e.found))) (count.given (count.goes_at x p e.found)))
       count_goes counting.LoadTally y b = record { quiet = (counting_on by.lead refl).off; behind = (counting_on by.lead refl).behind; read = read_now y }
@@ -117,7 +105,7 @@ module _ (setup : Setup) (lists : ListsKnown setup) where
       count_goes (counting.Ended t) y b = absurd cc
 
       pub counts : To (coord.goes_at u (Count x) e.found)
-      counts = count_goes x.stage refl count_busy
+      counts = grind (arith, count_busy, count_goes)
 
       -- The cycle that is kept is as it was counted.
       module _ (before : AllWereCounted setup es by.lead) where
@@ -128,28 +116,7 @@ module _ (setup : Setup) (lists : ListsKnown setup) where
         were = counted_on setup e es by.lead before
 
         new_counted : (t : TallyWord) → IsRead setup here.end t → WasCounted setup (e ∷ es) (coord.cycle_of by.lead.begun t)
-        new_counted t read = record {
-          ended = so.ended;
-          start = inr so.start;
-          ends = so.ends;
-          marked = rw (sym so.alloc, sym so.marks, sym pages) (read.marked ∙ bits.marked);
-          freed = rw (sym so.alloc, sym so.marks, sym pages) (read.freed ∙ bits.freed);
-          all = all_is;
-        } where
-          so : EndedSo setup es by.lead.begun k.quiet.has.state
-          so = k.behind.ended
-
-          bits : BitsAreObjects k.quiet.has.state.end
-          bits = lists.known.bits k.quiet.has.state.end k.quiet.has.good.ended
-
-          pages : k.quiet.has.state.end.layout.pages ≡ setup.layout.pages
-          pages = ap (λ (y : Layout). y.pages) k.quiet.has.good.layout
-
-          all_is : t.marked + t.freed ≡ standing_objects (words setup k.behind.ended.ended) setup.layout.pages
-          all_is =
-              let m = read.marked ∙ bits.marked in
-              let f = read.freed ∙ bits.freed in
-              rw (sym k.behind.ended.alloc, sym pages) (ap (λ (i : ℕ). i + t.freed) m ∙ (ap (λ (i : ℕ). marked_objects (alloc_at k.quiet.has.state.end) (marks_at k.quiet.has.state.end) 0 k.quiet.has.state.end.layout.pages + i) f ∙ bits.all))
+        new_counted t read = grind arith
 
         kept_counted : (t : TallyWord) → IsRead setup here.end t → (b : Bool) (i : ℕ) (y : CycleNumbers) → slice_get (cond b (by.lead.cycles.items ++ coord.cycle_of by.lead.begun t ∷ []) by.lead.cycles.items) i ≡ Some y → WasCounted setup (e ∷ es) y
         kept_counted t read false i y at = were i y at
@@ -167,7 +134,7 @@ module _ (setup : Setup) (lists : ListsKnown setup) where
         kept_goes (counting.Ended t) y b = absurd cc
 
         pub keeps : Were (coord.goes_at u (Count x) e.found)
-        keeps = kept_goes x.stage refl count_busy
+        keeps = grind (arith, count_busy, kept_goes)
 
     -- It is told.
     module _ (t : tell.Telling) (is : by.lead.stage ≡ Tell t) (k : Told es by.lead) where
@@ -175,7 +142,7 @@ module _ (setup : Setup) (lists : ListsKnown setup) where
       tells_no_acks = subst NotAcks (sym is) tt
 
       none_told : TellsNothing e.ask
-      none_told = subst TellsNothing (sym (asks_so (Tell t) is)) (tells_tell t t.stage)
+      none_told = grind (arith, asks_so, tells_tell)
 
       abbrev telling_on : Behind (e ∷ es) by.lead
       telling_on = told_on setup lists e es by (ap coord.sweep_at is) (ap (λ (p : CoordStage). coord.sweep_in (coord.goes_at u p e.found)) is ∙ tells_sweep u (tell.goes t e.found) (tell.gives t e.found)) none_told tells_no_acks setup.layout.pages (record { off = k.quiet; behind = k.behind }) by.lead refl
@@ -199,4 +166,4 @@ module _ (setup : Setup) (lists : ListsKnown setup) where
       tell_goes telling.Ended = ended_goes u.is_last
 
       pub tells : To (coord.goes_at u (Tell t) e.found)
-      tells = tell_goes t.stage
+      tells = grind (arith, tell_goes)

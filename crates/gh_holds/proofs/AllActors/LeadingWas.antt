@@ -1,5 +1,5 @@
 -- What was said of the starts of a list goes on to be so behind the coordinator's step: where it tells that a cycle is swept, what was not reached is freed; and where it ends one, what a script reaches is marked.
-use Rattle.std.proofs.Common.{◌≡◌, inr, ℕ, refl, sym, ap, subst, ◌∙◌, List, ◌∷◌}
+use Rattle.std.proofs.Common.{◌≡◌, inr, ℕ, refl, sym, ap, subst, ◌∙◌, List, ◌∷◌, arith}
 use Rattle.gh_coord.specs.Closing as close
 use Rattle.gh_coord.specs.Handshake as leading
 use Rattle.gh_lists.specs.Lists.{BeginsCycle, IsTelling}
@@ -19,8 +19,7 @@ use Rattle.gh_holds.specs.ActorsHold.{HoldsAt, WasSo}
 
 -- it does not both end a cycle's marking and tell that one is swept
 not_ending : (p : CoordStage) → IsEnding p → IsTelling p → ⊥
-not_ending (Tell t) x y = x
-not_ending _ x y = y
+not_ending p x y = grind arith
 
 module _ (setup : Setup) (lists : ListsKnown setup) where
   abbrev z : Arena

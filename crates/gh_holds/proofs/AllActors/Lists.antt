@@ -1,14 +1,13 @@
 -- What holds after every legal list of all actors: while a cycle is marked there is a state of marking, and what is said of the heap goes with it.
-use Rattle.std.proofs.Common.{◌≡◌, ℕ, ◌+◌, ◌^◌, ◌<◌, ◌≤◌, List, ◌∷◌, refl, subst}
+use Rattle.std.proofs.Common.{◌≡◌, ◌+◌, ◌^◌, ◌<◌, ◌≤◌, List, ◌∷◌, refl, subst, arith}
 use Rattle.gh_base.specs.declared.cell.Cell.TheVariants as cell
 use Rattle.gh_base.specs.Cells.{Words}
 use Rattle.gh_coord.specs.declared.coord.CoordStage.{CoordStage}
-use Rattle.gh_coord.specs.declared.coord.CoordStage.TheVariants.{Done, Tell}
-use Rattle.gh_coord.specs.declared.tell.TellStage.{TellStage}
+use Rattle.gh_coord.specs.declared.coord.CoordStage.TheVariants.{Done}
 use Rattle.gh_coord.specs.Handshake as leading
 use Rattle.gh_holds.specs.Objects.{LeavesTheReached}
 use Rattle.gh_lists.specs.Lists.{IsEnding, IsTelling, may_of, Given, setup_for}
-use Rattle.gh_holds.specs.ActorsHold.{Holds, HoldsAt, IsTelling as IsTold}
+use Rattle.gh_holds.specs.ActorsHold.{Holds, HoldsAt}
 use Rattle.gh_marked.specs.State.{HasState, IsInCycle, IsMarking}
 use Rattle.gh_marked.specs.HoldVocabulary.{acks_of, Coordinating, Entry, IsBeginning, IsStartOf, Op, words}
 use Rattle.gh_lists.specs.Handshake.{those}
@@ -61,8 +60,7 @@ module _ (given : Given) (wanted : Wanted) (lists : ListsKnown (setup_for given)
 
   -- where the coordinator tells that a cycle is swept, it has begun
   cycle_at : (es : List (Entry Op)) (c : Coordinating) (p : CoordStage) → IsTelling p → HoldsAt (setup_for given) es c p → IsInCycle (setup_for given) es c.begun
-  cycle_at es c (Tell t) is h = (subst (λ (s : TellStage). IsTold (setup_for given) es c s) is h).behind.cycle
-  cycle_at es c _ is h = absurd is
+  cycle_at es c p is h = grind arith
 
   in_cycles : InCycles (setup_for given)
   in_cycles es c legal led telling = cycle_at es c c.stage telling (holds es legal c led).at

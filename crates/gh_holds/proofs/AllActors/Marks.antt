@@ -1,5 +1,5 @@
 -- While a cycle is marked: what is known of the heap says what is known of its objects, and lasts while workers and the coordinator step.
-use Rattle.std.proofs.Common.{◌≡◌, ◌≢◌, ℕ, Bool, true, false, cond, refl, sym, ap, subst, ◌∙◌, List, inl, inr}
+use Rattle.std.proofs.Common.{◌≡◌, ◌≢◌, ℕ, Bool, false, cond, sym, ap, subst, ◌∙◌, List, arith}
 use Rattle.gh_base.specs.declared.cell.Cell.TheVariants as cell
 use Rattle.gh_heap.specs.Moves.{IsAside as IsAsideCell}
 use Rattle.gh_marks.specs.Knows.{KnowsObjects}
@@ -7,18 +7,14 @@ use Rattle.gh_marks.specs.Laws.{MarksStayWords}
 use Rattle.gh_marks.specs.Moves.{goes, stays}
 use Rattle.gh_cycle.specs.Beside.{IsBeside as GoesTogether}
 use Rattle.gh_coord.specs.declared.close.CloseStage.TheVariants as close_stage
-use Rattle.gh_coord.specs.declared.open.OpenStage.TheVariants as open_stage
-use Rattle.gh_coord.specs.declared.stop.StopStage.TheVariants as stop_stage
-use Rattle.gh_coord.specs.declared.watch.WatchStage.TheVariants as watch_stage
 use Rattle.gh_coord.specs.Closing as close
 use Rattle.gh_coord.specs.Handshake as leading
 use Rattle.gh_coord.specs.Listing as coord
-use Rattle.gh_coord.specs.Opening as opens_by
 use Rattle.gh_coord.specs.Stopping as stop
 use Rattle.gh_coord.specs.Watching as watch
 use Rattle.gh_worker.specs.Writing.{IsWritten}
-use Rattle.gh_marked.proofs.Vocabulary.{Add, And, Arena, arena, AreWords, Ask, Cell, cell_of, ChangesOneCell, Check, Close, CloseStage, Coordinating, CoordStage, Cycle, effect, Entry, Good, IsBeginning, IsKnown, left, Load, mark_words, Marking, MarkingGood, MarkOn, Op, Open, OpenStage, Or, same_cell, StopAgain, StopStage, Store, Swap, view, Watch, WatchStage, Went, Words, WritesItsOwn}
-use Rattle.gh_holds.proofs.AllActors.Aside.{beside_of, IsBeside, loads, stores_bank, stores_phase}
+use Rattle.gh_marked.proofs.Vocabulary.{Add, Arena, arena, AreWords, Ask, Cell, cell_of, ChangesOneCell, Close, CloseStage, Coordinating, CoordStage, Cycle, effect, Entry, Good, IsBeginning, IsKnown, left, Load, mark_words, Marking, MarkingGood, Op, same_cell, StopStage, Store, view, WatchStage, Went, Words, WritesItsOwn}
+use Rattle.gh_holds.proofs.AllActors.Aside.{beside_of, IsBeside, loads, stores_phase}
 use Rattle.gh_marked.specs.Known.{Known}
 use Rattle.gh_lists.specs.Handshake.{Setup}
 
@@ -37,11 +33,7 @@ record IsApart (c : Cell) : Type 0 where
   live : same_cell c cell.Live ≡ false
 
 apart_cell : (seat : ℕ) (c : Cell) → IsWritten seat c → IsApart c
-apart_cell seat (cell.Buffer b) is = record { aside = tt; heap = refl; page = λ i. refl; alloc = λ i. refl; birth = λ i. refl; global = λ i. refl; scanned = λ i. refl; tally = refl; live = refl }
-apart_cell seat (cell.Entry b j) is = record { aside = tt; heap = refl; page = λ i. refl; alloc = λ i. refl; birth = λ i. refl; global = λ i. refl; scanned = λ i. refl; tally = refl; live = refl }
-apart_cell seat (cell.Mark m) is = record { aside = tt; heap = refl; page = λ i. refl; alloc = λ i. refl; birth = λ i. refl; global = λ i. refl; scanned = λ i. refl; tally = refl; live = refl }
-apart_cell seat (cell.Ack a) is = record { aside = tt; heap = refl; page = λ i. refl; alloc = λ i. refl; birth = λ i. refl; global = λ i. refl; scanned = λ i. refl; tally = refl; live = refl }
-apart_cell seat _ is = absurd is
+apart_cell seat c is = grind arith
 
 -- what a sweep counts it leaves
 pub record LeavesCounts (ask : Ask) : Type 0 where
@@ -67,34 +59,14 @@ module _ (one : ChangesOneCell) where
     scanned = λ w i. leaves ask w (cell.Scanned i) (is.scanned i);
   }
 
-  cursor_apart : IsApart cell.Gcur
-  cursor_apart = record { aside = tt; heap = refl; page = λ i. refl; alloc = λ i. refl; birth = λ i. refl; global = λ i. refl; scanned = λ i. refl; tally = refl; live = refl }
-
-  bank_apart : IsApart cell.Bank
-  bank_apart = record { aside = tt; heap = refl; page = λ i. refl; alloc = λ i. refl; birth = λ i. refl; global = λ i. refl; scanned = λ i. refl; tally = refl; live = refl }
-
   added_apart : (seat : ℕ) (c : Cell) (x : ℕ) → WritesItsOwn seat (Add c x) → IsApart c
-  added_apart seat c x (inl is) = subst IsApart (sym is.0) cursor_apart
-  added_apart seat c x (inr is) = subst IsApart (sym is) bank_apart
+  added_apart seat c x h = grind arith
 
   pub works_beside : (seat : ℕ) (ask : Ask) → WritesItsOwn seat ask → IsBeside ask
-  works_beside seat (Load c) is = of_marking c
-  works_beside seat (Store c x) is = let d = apart_cell seat c is in beside_by (Store c x) d.aside d
-  works_beside seat (Or c x) is = let d = apart_cell seat c is in beside_by (Or c x) d.aside d
-  works_beside seat (And c x) is = let d = apart_cell seat c is in beside_by (And c x) d.aside d
-  works_beside seat (Swap c x y) is = let d = apart_cell seat c is in beside_by (Swap c x y) d.aside d
-  works_beside seat (Add c x) is = let d = added_apart seat c x is in beside_by (Add c x) d.aside d
-
-  counts_by : (ask : Ask) → IsApart (cell_of ask) → LeavesCounts ask
-  counts_by ask is = record { tally = λ w. leaves ask w cell.Tally is.tally; live = λ w. leaves ask w cell.Live is.live }
+  works_beside seat ask is = grind (arith, added_apart, apart_cell, beside_by, of_marking)
 
   pub works_counts : (seat : ℕ) (ask : Ask) → WritesItsOwn seat ask → LeavesCounts ask
-  works_counts seat (Load c) is = record { tally = λ w. refl; live = λ w. refl }
-  works_counts seat (Store c x) is = counts_by (Store c x) (apart_cell seat c is)
-  works_counts seat (Or c x) is = counts_by (Or c x) (apart_cell seat c is)
-  works_counts seat (And c x) is = counts_by (And c x) (apart_cell seat c is)
-  works_counts seat (Swap c x y) is = counts_by (Swap c x y) (apart_cell seat c is)
-  works_counts seat (Add c x) is = counts_by (Add c x) (added_apart seat c x is)
+  works_counts seat ask is = grind arith
 
 -- mark words are words behind moves
 pub words_stay : MarksStayWords → (z : Cycle) (a : ℕ) (s t : Marking) → Went z a s t → AreWords (mark_words s.words) → AreWords (mark_words t.words)
@@ -113,24 +85,12 @@ module _ (setup : Setup) (known : Known) where
   asks_phase : (x : ℕ) → IsBeside (Store cell.Phase x)
   asks_phase x = beside_of (Store cell.Phase x) (stores_phase x)
 
-  asks_bank : IsBeside (Store cell.Bank 0)
-  asks_bank = beside_of (Store cell.Bank 0) (stores_bank 0)
-
-  asks_load : (c : Cell) → IsBeside (Load c)
-  asks_load c = of_marking c
-
   module _ (s : Coordinating) where
-    opens_beside : (o : opens_by.CycleOpening) (p : OpenStage) → p ≡ open_stage.StorePhase → IsBeside (opens_by.asks_at o p)
-    opens_beside o p is = subst (λ (x : OpenStage). IsBeside (opens_by.asks_at o x)) (sym is) (asks_phase _)
-
     watch_beside : (w : watch.Watching) (p : WatchStage) → IsBeside (watch.asks_at w p)
-    watch_beside w (watch_stage.Look i) = asks_load _
-    watch_beside w (watch_stage.Ended x) = asks_load _
+    watch_beside w p = grind arith
 
     stop_beside : (st : stop.Stopping) (p : StopStage) → IsBeside (stop.asks_at st p)
-    stop_beside st stop_stage.StorePhase = asks_phase _
-    stop_beside st (stop_stage.Await i) = asks_load _
-    stop_beside st stop_stage.Ended = asks_load _
+    stop_beside st p = grind arith
 
     -- it ends no cycle
     abbrev StaysMarked : CoordStage → Type 0
@@ -138,63 +98,15 @@ module _ (setup : Setup) (known : Known) where
     StaysMarked _ = Unit {0}
 
     close_beside : (c : close.Closing) (p : CloseStage) → p ≢ close_stage.StoreGen → IsBeside (close.asks_at c p)
-    close_beside c close_stage.LoadBank other = asks_load _
-    close_beside c close_stage.ClearBank other = asks_bank
-    close_beside c close_stage.StoreGen other = absurd (other refl)
-    close_beside c close_stage.StorePhase other = asks_phase _
-    close_beside c close_stage.Ended other = asks_load _
+    close_beside c p other = grind arith
 
     pub marks_beside : (p : CoordStage) → leading.Marks p → StaysMarked p → IsBeside (coord.asks_at s p)
-    marks_beside (Watch w) on still = watch_beside w w.stage
-    marks_beside (StopAgain st) on still = stop_beside st st.stage
-    marks_beside (Check w) on still = watch_beside w w.stage
-    marks_beside MarkOn on still = asks_phase _
-    marks_beside (Close c) on still = close_beside c c.stage still
-    marks_beside _ on still = absurd on
+    marks_beside p on still = grind (arith, asks_phase, close_beside, stop_beside, watch_beside)
 
     pub begins_beside : (p : CoordStage) → IsBeginning p → IsBeside (coord.asks_at s p)
-    begins_beside (Open o) b = opens_beside o o.stage b
-    begins_beside _ b = absurd b
+    begins_beside p b = grind arith
 
     -- and what a sweep counts is left
 
-    opens_counts : (o : opens_by.CycleOpening) (p : OpenStage) → p ≡ open_stage.StorePhase → LeavesCounts (opens_by.asks_at o p)
-    opens_counts o p is = subst (λ (x : OpenStage). LeavesCounts (opens_by.asks_at o x)) (sym is) (record { tally = λ w. refl; live = λ w. refl })
-
-    watch_counts : (w : watch.Watching) (p : WatchStage) → LeavesCounts (watch.asks_at w p)
-    watch_counts w (watch_stage.Look i) = record { tally = λ v. refl; live = λ v. refl }
-    watch_counts w (watch_stage.Ended x) = record { tally = λ v. refl; live = λ v. refl }
-
-    stop_counts : (st : stop.Stopping) (p : StopStage) → LeavesCounts (stop.asks_at st p)
-    stop_counts st stop_stage.StorePhase = record { tally = λ w. refl; live = λ w. refl }
-    stop_counts st (stop_stage.Await i) = record { tally = λ w. refl; live = λ w. refl }
-    stop_counts st stop_stage.Ended = record { tally = λ w. refl; live = λ w. refl }
-
-    close_counts : (c : close.Closing) (p : CloseStage) → LeavesCounts (close.asks_at c p)
-    close_counts c close_stage.LoadBank = record { tally = λ w. refl; live = λ w. refl }
-    close_counts c close_stage.ClearBank = record { tally = λ w. refl; live = λ w. refl }
-    close_counts c close_stage.StoreGen = record { tally = λ w. refl; live = λ w. refl }
-    close_counts c close_stage.StorePhase = record { tally = λ w. refl; live = λ w. refl }
-    close_counts c close_stage.Ended = record { tally = λ w. refl; live = λ w. refl }
-
-    pub marks_counts : (p : CoordStage) → leading.Marks p → LeavesCounts (coord.asks_at s p)
-    marks_counts (Watch w) on = watch_counts w w.stage
-    marks_counts (StopAgain st) on = stop_counts st st.stage
-    marks_counts (Check w) on = watch_counts w w.stage
-    marks_counts MarkOn on = record { tally = λ w. refl; live = λ w. refl }
-    marks_counts (Close c) on = close_counts c c.stage
-    marks_counts _ on = absurd on
-
-    pub begins_counts : (p : CoordStage) → IsBeginning p → LeavesCounts (coord.asks_at s p)
-    begins_counts (Open o) b = opens_counts o o.stage b
-    begins_counts _ b = absurd b
-
-    -- where the store of the next sweep generation leads, no cycle is marked
-    closes_off : (c : close.Closing) (found : ℕ) (p : CloseStage) → p ≡ close_stage.StoreGen → leading.Marks (coord.after_close (coord.at_stage s (Close (close.goes_at c p found))) (close.given (close.goes_at c p found))).stage → ⊥
-    closes_off c found p is on = go (subst (λ (x : CloseStage). leading.Marks (coord.after_close (coord.at_stage s (Close (close.goes_at c x found))) (close.given (close.goes_at c x found))).stage) is on) where
-      go : false ≡ true → ⊥
-      go x = cc
-
     pub stays_marked : (p : CoordStage) (found : ℕ) → leading.Marks (coord.goes_at s p found).stage → StaysMarked p
-    stays_marked (Close c) found on = λ is. closes_off c found c.stage is on
-    stays_marked _ found on = tt
+    stays_marked p found on = grind arith

@@ -12,13 +12,13 @@ use Rattle.gh_lists.specs.declared.handshake.Actor.TheVariants as actor
 use Rattle.gh_lists.specs.Handshake.{asks, Setup}
 use Rattle.gh_marked.specs.State.{began, began_words, HasState, IsUnderWay}
 use Rattle.gh_marked.specs.Sweepers.{sweep_of}
-use Rattle.gh_marked.proofs.Vocabulary.{acks_of, Actor, actors, actors_after, Arena, arena, AreWords, Ask, cell_of, Coordinating, CoordStage, Cycle, Entry, Ever, ever, Good, Heap, is_busy, IsInCycle, IsKnown, IsLed, IsOf, IsToBegin, Legal, mark_words, Marking, MarkingGood, mod_below, nat_tests, Op, started, State, Sweep, those, view, Went, Words, words, WritesItsOwn}
+use Rattle.gh_marked.proofs.Vocabulary.{acks_of, Actor, actors, actors_after, Arena, arena, AreWords, Ask, cell_of, Coordinating, CoordStage, Cycle, Entry, Ever, ever, Good, Heap, is_busy, IsInCycle, IsKnown, IsLed, IsOf, IsToBegin, Legal, mark_words, Marking, MarkingGood, mod_below, nat_tests, Op, started, State, those, view, Went, Words, words, WritesItsOwn}
 use Rattle.gh_holds.proofs.AllActors.Aside as aside
 use Rattle.gh_holds.proofs.AllActors.Aside.{IsBeside, TellsNothing}
 use Rattle.gh_marked.specs.Drawing.{drawn_then}
 use Rattle.gh_lists.specs.Going.{IsLedThen, last_was, led_then as leads_then}
 use Rattle.gh_marked.specs.Known.{ListsKnown}
-use Rattle.gh_holds.proofs.AllActors.Marks.{begins_beside, begins_counts, LeavesCounts, marks_beside, marks_counts, stays_marked, words_stay, works_beside, works_counts}
+use Rattle.gh_holds.proofs.AllActors.Marks.{begins_beside, LeavesCounts, marks_beside, stays_marked, words_stay, works_beside, works_counts}
 use Rattle.gh_lists.specs.Resting.{ever_stays}
 use Rattle.gh_holds.proofs.AllActors.Stood.{beside_stays, Stays}
 use Rattle.gh_marked.proofs.OneStep.Sweepers as sweepers
@@ -117,15 +117,13 @@ module _ (setup : Setup) (lists : ListsKnown setup)
     by_goes (leaves off) = absurd (off on_goes)
 
     lead_beside : IsBeside e.ask
-    lead_beside = subst IsBeside (sym lead_asked) (by_goes goes_by)
+    lead_beside = grind (arith, by_goes, goes_by, lead_asked)
 
     counts_by : CoordinatorGoes setup.layout c.begun (words setup es) c c.stage (coord.goes c e.found) → LeavesCounts (coord.asks c)
-    counts_by (begins b quiet same x) = begins_counts setup lists.known c c.stage b
-    counts_by (goes_on was quiet same x) = marks_counts setup lists.known c c.stage was
-    counts_by (leaves off) = absurd (off on_goes)
+    counts_by h = grind (arith, on_goes)
 
     lead_counts : LeavesCounts e.ask
-    lead_counts = subst LeavesCounts (sym lead_asked) (counts_by goes_by)
+    lead_counts = grind (arith, counts_by, goes_by, lead_asked)
 
   -- As long as the cycle is marked behind the entry.
   module _ (still : MarksStill) where
@@ -145,8 +143,7 @@ module _ (setup : Setup) (lists : ListsKnown setup)
 
     -- the coordinator sweeps nothing while it marks a cycle
     lead_none : (p : CoordStage) → leading.Marks p → sweep_at p ≡ None
-    lead_none (Sweep v) marks = absurd marks
-    lead_none _ marks = refl
+    lead_none p marks = grind arith
 
     pub none_then : (has : HasState setup es) → IsUnderWay has.state → IsBeside e.ask → sweep_of (at (e ∷ es) e.actor) ≡ None
     none_then has under beside = go (at es e.actor) refl where

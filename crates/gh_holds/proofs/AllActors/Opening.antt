@@ -1,5 +1,5 @@
 -- Before the first step the heap is empty and calm, every processor is at rest, and no cycle was begun.
-use Rattle.std.proofs.Common.{◌≡◌, ℕ, ◌%◌, ◌<◌, Bool, true, false, cond, ltb, [], None, refl, sym, subst, ◌∙◌, arith, inl, inr, lit<}
+use Rattle.std.proofs.Common.{◌≡◌, ℕ, ◌%◌, ◌<◌, false, [], None, refl, sym, ◌∙◌, arith, inl, inr}
 use Rattle.std.proofs.lemmas.Nat.Bits.{bit_at-zero}
 use Rattle.gh_base.specs.declared.value.Name.{Name}
 use Rattle.gh_base.specs.Cells.{seats_of}
@@ -8,10 +8,8 @@ use Rattle.gh_coord.specs.Listing as coord
 use Rattle.gh_state.specs.Cycles.{opening}
 use Rattle.gh_model.specs.Ever.{from_field, from_global, from_register, opening_ever}
 use Rattle.gh_mutator.specs.Processor.{opening_processor}
-use Rattle.gh_worker.specs.Listing as worker
 use Rattle.gh_lists.specs.declared.handshake.Actor.TheVariants as actor
 use Rattle.gh_marked.specs.Sweepers.{IsInSweep, sweep_of}
-use Rattle.gh_lists.specs.Lists.{BeginsCycle}
 use Rattle.gh_holds.specs.ActorsHold.{Holds, IsQuiet}
 use Rattle.gh_marked.specs.State.{IsAsItShould, IsHeapOf}
 use Rattle.gh_marked.specs.HoldVocabulary.{acks_of, actors_after, arena, Arena, Coordinating, Good, Heap, IsLed, opening_words, Reach, State, view}
@@ -36,24 +34,7 @@ module _ (setup : Setup) (known : Known) where
   no_bit x set = let none = sym (bit_at-zero (x % 64)) ∙ set in omega (arith, none)
 
   good : Good z (view h)
-  good = record {
-    lock = λ a. (λ e. absurd (omega arith), λ e. absurd (cc));
-    spans = λ p h e. absurd (cc);
-    whole = λ p h e kept. absurd (cc);
-    generation = lit< tt;
-    numbers = λ p h e. absurd (cc);
-    owners = λ a p. (λ e. absurd (omega arith), λ e. absurd (cc));
-    laying = λ a y e. absurd (cc);
-    freeing = λ a y e. absurd (cc);
-    words = λ i. lit< tt;
-    bits = λ x set. absurd (no_bit x set);
-    reached = λ n r. absurd (nothing_reached n r);
-    slots = λ n made placed. absurd (omega arith);
-    pointers = λ n k made placed lt. absurd (omega arith);
-    fields = λ n k made placed lt. absurd (omega arith);
-    globals = λ k lt. (refl, refl);
-    names = record { few = λ g. omega arith; none = λ g le. refl };
-  }
+  good = grind (arith, no_bit, nothing_reached)
 
   as_it_should : (a : ℕ) → a < setup.layout.procs → IsAsItShould setup [] h a (opening_processor setup.layout a)
   as_it_should a lt = record {
@@ -86,11 +67,7 @@ module _ (setup : Setup) (known : Known) where
 
   -- nobody sweeps
   sweeps : (a : ℕ) → a < seats_of setup.layout → IsInSweep a s (sweep_of (actors_after z setup.pacing setup.may [] a))
-  sweeps a below = subst (IsInSweep a s) (sym (none (ltb a setup.layout.procs) (ltb a (acks_of setup.layout)))) (record { none = λ p is. absurd (cc); told = refl }) where
-    none : (b d : Bool) → sweep_of (cond b (actor.Runs (opening_processor setup.layout a)) (cond d (actor.Marks (worker.opening setup.layout a)) (actor.Leads (coord.opening setup.layout a setup.pacing.gogc setup.pacing.minheap setup.pacing.room)))) ≡ None
-    none true d = known.processors_sweep.at_first setup.layout a
-    none false true = known.workers_sweep.at_first setup.layout a
-    none false false = known.coordinator_sweeps.at_first setup.layout a setup.pacing.gogc setup.pacing.minheap setup.pacing.room
+  sweeps a below = grind arith
 
   quiet : IsQuiet setup [] first
   quiet = record {
@@ -108,19 +85,11 @@ module _ (setup : Setup) (known : Known) where
   }
 
   holds_first : Holds setup [] first
-  holds_first = record {
-    at = quiet;
-    was = record {
-      full = tt;
-      frees = λ k begun swept of_begun of_swept begins sweeps. absurd (subst (BeginsCycle setup k) of_begun begins);
-      ends = λ e before k of step. absurd (cc);
-    };
-    counted = λ i y is. absurd (cc);
-  }
+  holds_first = grind (arith, quiet, sweeps)
 
   is_first : (c : Coordinating) → IsLed setup [] c → first ≡ c
   is_first c led = let both : actor.Leads first ≡ actor.Leads c = sym (at_seat setup) ∙ led in cc
 
   -- before the first step
   pub opens : (c : Coordinating) → IsLed setup [] c → Holds setup [] c
-  opens c led = subst (Holds setup []) (is_first c led) holds_first
+  opens c led = grind (arith, holds_first, is_first)

@@ -1,7 +1,7 @@
 -- What was said of the starts of a list, behind an entry of another than the coordinator.
 use Rattle.std.proofs.Common.{◌≡◌, ℕ, ◌<◌, ◌≤◌, true, sym, ap, ◌∙◌, arith, List, ◌∷◌, Some, None}
 use Rattle.gh_lists.specs.Lists.{IsTelling}
-use Rattle.gh_marked.proofs.Vocabulary.{acks_of, Act, arena, CoordStage, deeds, done_at, Entry, IsBeginning, IsEnding, IsFullFor, IsStepIn, Legal, Op, Processor, processor_at, processor_kind, those, words}
+use Rattle.gh_marked.proofs.Vocabulary.{acks_of, Act, arena, CoordStage, deeds, done_at, Entry, IsBeginning, IsEnding, IsFullFor, IsStepIn, Legal, Op, Processor, processor_kind, those, words}
 use Rattle.gh_marked.specs.Known.{Known}
 use Rattle.gh_lists.specs.Resting.{rests, rests_on}
 use Rattle.gh_holds.proofs.AllActors.Starts.{ends_on, frees_on, FreesNow}
@@ -19,7 +19,7 @@ module _ (setup : Setup) (known : Known)
     frees_now = record { frees = λ k begun of begins step. absurd (no_step IsTelling k step); fresh = λ k swept step of sweeps. no_step IsBeginning k step }
 
     -- where it does not act with `full`
-    pub was_by_others : ((x : Act) → done_at (processor_kind setup.shapes setup.layout) (deeds setup.shapes) es e ≡ Some x → x.full ≡ true → IsFullFor (arena setup) e.actor (words setup es) (processor_at setup es e.actor) x.op) → WasSo setup es → WasSo setup (e ∷ es)
+    pub was_by_others : ((x : Act) → done_at (processor_kind setup.shapes setup.layout) (deeds setup.shapes) es e ≡ Some x → x.full ≡ true → IsFullFor (arena setup) e.actor (words setup es) x.op) → WasSo setup es → WasSo setup (e ∷ es)
     was_by_others full was = record {
       full = (was.full, full);
       frees = frees_on setup e es frees_now was.frees;
@@ -31,5 +31,5 @@ module _ (setup : Setup) (known : Known)
     acts_none : done_at (processor_kind setup.shapes setup.layout) (deeds setup.shapes) es e ≡ None
     acts_none = ap (λ (m : Processor). (deeds setup.shapes).acts m e.found) (rests_on setup e es legal ge (rests setup es legal.0 e.actor ge))
 
-    pub no_full : (x : Act) → done_at (processor_kind setup.shapes setup.layout) (deeds setup.shapes) es e ≡ Some x → x.full ≡ true → IsFullFor (arena setup) e.actor (words setup es) (processor_at setup es e.actor) x.op
+    pub no_full : (x : Act) → done_at (processor_kind setup.shapes setup.layout) (deeds setup.shapes) es e ≡ Some x → x.full ≡ true → IsFullFor (arena setup) e.actor (words setup es) x.op
     no_full x done full = absurd (let no : None ≡ Some x = sym acts_none ∙ done in cc)

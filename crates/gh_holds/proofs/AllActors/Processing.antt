@@ -2,7 +2,6 @@
 use Rattle.std.proofs.Common.{◌≡◌, ℕ, ◌+◌, ◌<◌, ◌==◌, Bool, true, false, refl, sym, ap, subst, ◌∙◌, arith, List, ◌∷◌, Some, None}
 use Rattle.gh_phase.specs.declared.view.RunPhase.TheVariants as run
 use Rattle.gh_coord.specs.declared.close.CloseStage.TheVariants as closing
-use Rattle.gh_coord.specs.declared.open.OpenStage.TheVariants as opening
 use Rattle.gh_coord.specs.declared.tell.TellStage.TheVariants as telling
 use Rattle.gh_coord.specs.Closing as closes_by
 use Rattle.gh_coord.specs.Handshake as leading
@@ -33,8 +32,7 @@ use Rattle.gh_lists.specs.Lists.{Given, setup_for}
 
 -- while a cycle is opened the world is stopped
 open_stopped : (p : OpenStage) → opens_by.is_busy p ≡ true → leading.open_post p ≡ Stopped run.Off
-open_stopped opening.Ended busy = absurd (cc)
-open_stopped _ busy = refl
+open_stopped p busy = grind arith
 
 module _ (given : Given) (wanted : Wanted) (lists : ListsKnown (setup_for given))
     (e : Entry Op) (es : List (Entry Op)) (legal : Legal (those (setup_for given)) (e ∷ es)) (was : WasMarked (arena (setup_for given)) given.pacing (may_of given.shapes given.layout given.counts) es) (c : Coordinating) (led : IsLed (setup_for given) es c) (lt : e.actor < given.layout.procs) where

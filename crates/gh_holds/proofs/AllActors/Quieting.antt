@@ -1,7 +1,6 @@
 -- One entry more of a processor while no cycle is under way: what is swept stays so, and nobody marks.
 use Rattle.std.proofs.Common.{◌≡◌, ◌≢◌, ℕ, ◌<◌, ◌==◌, ◌⊎◌, inl, inr, Bool, true, false, cond, refl, sym, ap, subst, ◌∙◌, Some, arith, List, ◌∷◌}
 use Rattle.gh_base.specs.declared.cell.Cell.TheVariants as cell
-use Rattle.gh_coord.specs.declared.stop.StopStage.TheVariants as stop_stage
 use Rattle.gh_coord.specs.declared.tell.TellStage.TheVariants as telling
 use Rattle.gh_coord.specs.Handshake as leading
 use Rattle.gh_phase.specs.declared.view.RunPhase.TheVariants as run
@@ -36,8 +35,7 @@ IsCalmStage Done = Unit {0}
 IsCalmStage _ = ⊥
 
 stop_off : (p : StopStage) → last_of (leading.stop_post run.Off p) ≡ run.Off
-stop_off stop_stage.StorePhase = refl
-stop_off _ = refl
+stop_off p = grind arith
 
 told_off : (last : Bool) → leading.told_phase last ≢ run.Mark
 told_off true is = cc

@@ -8,7 +8,6 @@ use Rattle.gh_heap.specs.Laws.{HeapIsApart}
 use Rattle.gh_heap.specs.Objects.{InSlot, size_for}
 use Rattle.gh_heap.specs.Spans.{IsSlotOf}
 use Rattle.gh_marks.specs.Colours.{Black, Colour}
-use Rattle.gh_worker.specs.declared.worker.WorkerStage.TheVariants as at
 use Rattle.gh_worker.specs.Handshake as working
 use Rattle.gh_worker.specs.Works.{words_done}
 use Rattle.gh_lists.specs.declared.handshake.Actor.TheVariants as actor
@@ -27,14 +26,10 @@ use Rattle.gh_lists.specs.Handshake.{Setup}
 
 -- a worker that is done with something takes, scans or shades
 done_or_marking : (p : WorkerStage) (found : ℕ) → (words_done p found ≡ 0) ⊎ working.IsMarking p
-done_or_marking (at.Scanning s) found = inr tt
-done_or_marking (at.LoadGlobal i) found = inr tt
-done_or_marking (at.Shading sh) found = inr tt
-done_or_marking _ found = inl refl
+done_or_marking p found = grind arith
 
 black_of : (size : ℕ) (c : Colour) → 0 < black_words size c → (c ≡ Black) × (black_words size c ≡ size)
-black_of size Black some = (refl, refl)
-black_of size _ some = absurd (omega (arith, some))
+black_of size c some = grind arith
 
 module _ (setup : Setup) (lists : ListsKnown setup) where
   abbrev z : Arena
@@ -74,7 +69,7 @@ module _ (setup : Setup) (lists : ListsKnown setup) where
     piece o = black_words (s.extents.size o) (s.colour o)
 
     since_of : (o : ℕ) → 0 < piece o → s.since o ≡ true
-    since_of o some = m.good.objects.shaded o (rw ((black_of (s.extents.size o) (s.colour o) some).0) tt)
+    since_of o some = grind (arith, black_of)
 
     packed : ArePacked piece
     packed o p lt some some_too = go (ltb p (o + piece o)) refl where

@@ -1,12 +1,11 @@
 -- What a move of the one state does to which objects stand: one that comes to stand has a name that was not made before, and one that stands where its bit is still set stands there by the same name. And what that says of the cycle that ended last.
-use Rattle.std.proofs.Common.{◌≡◌, ℕ, ◌+◌, ◌*◌, ◌/◌, ◌%◌, ◌^◌, ◌<◌, ◌⊎◌, min, Bool, true, false, cond, eqb, refl, sym, ap, subst, ◌∙◌, arith, inl, inr, List, ◌∷◌, Option}
+use Rattle.std.proofs.Common.{◌≡◌, ℕ, ◌+◌, ◌*◌, ◌/◌, ◌%◌, ◌^◌, ◌<◌, ◌⊎◌, min, true, cond, eqb, refl, sym, ap, subst, ◌∙◌, arith, inl, inr, List, ◌∷◌}
 use Rattle.std.specs.Prelude.{bit_and}
 use Rattle.std.proofs.lemmas.Bool.Decides.{eqb_tells}
 use Rattle.std.proofs.lemmas.Nat.Bits.{bit_at_and, bit_at-lt}
 use Rattle.gh_base.specs.declared.cell.Cell.TheVariants as cell
 use Rattle.gh_base.specs.Rows.{with_word}
 use Rattle.gh_heap.specs.Moves as heap
-use Rattle.gh_heap.specs.Spans.{Freeing}
 use Rattle.gh_model.specs.Ever.{next_name}
 use Rattle.gh_state.specs.Cycles.{IsAsItEnded}
 use Rattle.gh_state.specs.Moves as state
@@ -15,7 +14,7 @@ use Rattle.gh_sweep.specs.Shared.{alloc_at, CycleEnd, marks_at}
 use Rattle.gh_holds.specs.ActorsHold.{EndedSo, HasEnded, IsNewThere}
 use Rattle.gh_marked.specs.State.{IsInCycle}
 use Rattle.gh_marked.specs.HoldVocabulary.{alloc_words, Arena, birth_words, Coordinating, Entry, Ever, ever, Good, Heap, IsLed, IsMade, IsPlacedAt, Name, Op, row_bit, State, StateGood, view, Words, words}
-use Rattle.gh_marked.proofs.Vocabulary.{Add, And, Ask, bit_at, Cell, cell_of, effect, left, Load, Or, Row, same_cell, Store, Swap}
+use Rattle.gh_marked.proofs.Vocabulary.{Ask, bit_at, effect, Load, Row}
 use Rattle.gh_marked.specs.Known.{Known}
 use Rattle.gh_lists.specs.Names.{same_birth_same_name}
 use Rattle.gh_holds.proofs.AllActors.Stood.{move_stays}
@@ -41,21 +40,8 @@ made_more f g n made = elim (eqb_tells n.g g) [
 ]
 
 module _ (known : Known) where
-  -- a quiet step is on no word of alloc bits
-  no_alloc : (c : Cell) → heap.IsAside c → (i : ℕ) → same_cell c (cell.Alloc i) ≡ false
-  no_alloc (cell.Alloc j) is i = absurd is
-  no_alloc _ is i = refl
-
-  by_cell : (ask : Ask) → heap.IsAside (cell_of ask) → (w : Words) (i : ℕ) → effect w ask (cell.Alloc i) ≡ w (cell.Alloc i)
-  by_cell ask is w i = known.one w ask (cell.Alloc i) ∙ ap (λ (b : Bool). cond b (left ask (w (cell_of ask))) (w (cell.Alloc i))) (no_alloc (cell_of ask) is i)
-
   by_quiet : (ask : Ask) → heap.IsQuiet ask → (w : Words) (i : ℕ) → effect w ask (cell.Alloc i) ≡ w (cell.Alloc i)
-  by_quiet (Load c) is w i = refl
-  by_quiet (Store c v) is w i = by_cell (Store c v) is w i
-  by_quiet (Or c v) is w i = by_cell (Or c v) is w i
-  by_quiet (And c v) is w i = by_cell (And c v) is w i
-  by_quiet (Add c v) is w i = by_cell (Add c v) is w i
-  by_quiet (Swap c v u) is w i = by_cell (Swap c v u) is w i
+  by_quiet ask is w i = grind arith
 
   same_bit : (p q : Row) → ((i : ℕ) → p i ≡ q i) → (x : ℕ) → row_bit p x ≡ row_bit q x
   same_bit p q same x = known.rows.bit_of p (x / 64) x refl ∙ ap (λ (v : ℕ). bit_at v (x % 64)) (same (x / 64)) ∙ sym (known.rows.bit_of q (x / 64) x refl)
@@ -69,7 +55,7 @@ module _ (known : Known) where
     Came v x = (row_bit (alloc_words h.words) x ≡ 1) ⊎ IsNew h.ever.made v x
 
     quiet_bits : (ask : Ask) → heap.IsQuiet ask → (x : ℕ) → row_bit (alloc_words (effect h.words ask)) x ≡ 1 → Came (effect h.words ask) x
-    quiet_bits ask is x set = inl (sym (same_bit (alloc_words (effect h.words ask)) (alloc_words h.words) (by_quiet ask is h.words) x) ∙ set)
+    quiet_bits ask is x set = grind (arith, by_quiet, same_bit)
 
     -- the object that is made has the next name
     new_there : (at g d t : ℕ) → heap.May z a (view h) (heap.Make at g d t) → IsNew h.ever.made (after (heap.Make at g d t)) at
@@ -209,26 +195,18 @@ pub record KeepsEnd (s t : State) : Type 0 where
   pub freeing : t.heap.freeing ≡ s.heap.freeing
 
 pub as_it_ended : (s t : State) → KeepsEnd s t → IsAsItEnded s → IsAsItEnded t
-as_it_ended s t k is = record {
-  none_freed = λ b. ap (λ (f : ℕ → Option Freeing). f b) k.freeing ∙ is.none_freed b;
-  slots = λ i. ap (λ (r : Row). r i) k.slot ∙ is.slots i ∙ ap (λ (e : CycleEnd). e.slot i) (sym k.end);
-  since = λ x set. ap (λ (e : CycleEnd). row_bit (marks_at e) x) k.end ∙ is.since x (ap (λ (f : ℕ → Bool). f x) (sym k.since) ∙ set);
-}
+as_it_ended s t k is = grind arith
 
 module _ (z : Arena) (a : ℕ) (s : State) where
   pub end_stays : (m : state.Move) → (state.moved z a s m).end ≡ s.end
-  end_stays (state.Deed m) = refl
-  end_stays (state.Sweep m) = refl
-  end_stays state.Count = refl
+  end_stays m = grind arith
 
   -- by the moves of a sweep, and by a quiet step
   pub sweep_keeps_end : (m : sweep.Move) → state.IsOfSweep m → KeepsEnd s (state.moved z a s (state.Sweep m))
-  sweep_keeps_end (sweep.Lays p h) of = absurd of
-  sweep_keeps_end (sweep.Places x) of = absurd of
-  sweep_keeps_end _ of = record { end = refl; since = refl; slot = refl; ever = refl; freeing = refl }
+  sweep_keeps_end m of = grind arith
 
   pub quiet_keeps_end : (step : Ask) → KeepsEnd s (state.moved z a s (state.Deed (heap.Quiet step)))
-  quiet_keeps_end step = record { end = refl; since = refl; slot = refl; ever = refl; freeing = refl }
+  quiet_keeps_end step = grind arith
 
 -- One entry more, whose step is this move.
 module _ (setup : Setup) (e : Entry Op) (es : List (Entry Op)) where
@@ -262,7 +240,7 @@ module _ (setup : Setup) (e : Entry Op) (es : List (Entry Op)) where
 
     -- of lists
     pub made_then : (n : Name) → IsMade (ever setup es).made n → IsMade (ever setup (e ∷ es)).made n
-    made_then n is = subst (λ (y : Ever). IsMade y.made n) moves.ever_is (made_on known z a s moves.good m n (subst (λ (y : Ever). IsMade y.made n) (sym moves.ever_was) is))
+    made_then n is = grind (arith, made_on)
 
     pub placed_back : (n : Name) (x : ℕ) → IsMade (ever setup es).made n → IsPlacedAt behind n x → IsPlacedAt before n x
     placed_back n x is p = subst (λ (y : Words). IsPlacedAt y n x) moves.words_were (back known z a s moves.good m moves.may n x (subst (λ (y : Ever). IsMade y.made n) (sym moves.ever_was) is) (subst (λ (y : Words). IsPlacedAt y n x) (sym moves.words_are) p))

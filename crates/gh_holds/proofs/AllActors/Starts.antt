@@ -1,18 +1,11 @@
 -- What was said of a list's starts is said of them still behind one entry more; and what has to be said of the entry.
-use Rattle.std.proofs.Common.{◌≡◌, ℕ, sym, ap, subst, ◌∙◌, inl, inr, List, ◌∷◌}
-use Rattle.gh_coord.specs.declared.coord.CoordStage.{CoordStage}
-use Rattle.gh_coord.specs.declared.coord.CoordStage.TheVariants.{Open}
+use Rattle.std.proofs.Common.{◌≡◌, ℕ, sym, ap, subst, ◌∙◌, inl, inr, List, ◌∷◌, arith}
 use Rattle.gh_holds.specs.Objects.{AllWereCounted, EndsAllMarked, EndsMarked, FreesTheUnreached}
 use Rattle.gh_lists.specs.Lists.{BeginsCycle, ever, IsEnding, IsLed, IsStepIn, IsTelling, SweepsCycle, words}
 use Rattle.gh_marked.specs.HoldVocabulary.{Coordinating, Entry, IsMade, Name, Op, Reach}
 use Rattle.gh_lists.specs.Marking.{IsBeginning, IsStartOf}
 use Rattle.gh_lists.specs.Processors.{IsPlacedAt}
 use Rattle.gh_lists.specs.Handshake.{Setup}
-
--- it does not both begin a cycle and tell that one is swept
-differs : (p : CoordStage) → IsBeginning p → IsTelling p → ⊥
-differs (Open o) b t = t
-differs _ b t = b
 
 module _ (setup : Setup) where
   abbrev pub Frees : List (Entry Op) → List (Entry Op) → Type 0
@@ -24,19 +17,10 @@ module _ (setup : Setup) where
       pub frees : (k : ℕ) (begun : List (Entry Op)) → IsStartOf begun es → BeginsCycle setup k begun → IsStepIn setup IsTelling k e es → Frees begun (e ∷ es)
       pub fresh : (k : ℕ) (swept : List (Entry Op)) → IsStepIn setup IsBeginning k e es → IsStartOf swept es → SweepsCycle setup k swept → ⊥
 
-    one_lead : (c d : Coordinating) → IsLed setup es c → IsLed setup es d → c ≡ d
-    one_lead c d x y = let both = sym x ∙ y in cc
-
-    not_both : (k : ℕ) → IsStepIn setup IsBeginning k e es → IsStepIn setup IsTelling k e es → ⊥
-    not_both k b t = differs t.lead.stage (subst (λ (c : Coordinating). IsBeginning c.stage) (one_lead b.lead t.lead b.led t.led) b.stage) t.stage
-
     pub frees_on : FreesNow → FreesTheUnreached setup es → FreesTheUnreached setup (e ∷ es)
     frees_on now before k begun swept of_begun of_swept begins sweeps = go of_begun of_swept where
       go : IsStartOf begun (e ∷ es) → IsStartOf swept (e ∷ es) → Frees begun swept
-      go (inr b) (inr s) = before k begun swept b s begins sweeps
-      go (inr b) (inl s) = subst (λ (x : List (Entry Op)). Frees begun x) (sym s) (now.frees k begun b begins (subst (λ (x : List (Entry Op)). SweepsCycle setup k x) s sweeps))
-      go (inl b) (inr s) = absurd (now.fresh k swept (subst (λ (x : List (Entry Op)). BeginsCycle setup k x) b begins) s sweeps)
-      go (inl b) (inl s) = absurd (not_both k (subst (λ (x : List (Entry Op)). BeginsCycle setup k x) b begins) (subst (λ (x : List (Entry Op)). SweepsCycle setup k x) s sweeps))
+      go h h2 = grind arith
 
     -- where the entry ends a cycle's marking
     pub ends_on : ((k : ℕ) (step : IsStepIn setup IsEnding k e es) → EndsMarked setup es step.lead) → EndsAllMarked setup es → EndsAllMarked setup (e ∷ es)

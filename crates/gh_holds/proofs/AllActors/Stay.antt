@@ -1,7 +1,6 @@
 -- An entry that changes nothing: no word, no processor, no sweep that anyone runs, and nothing of the heap that never frees. So is each entry of another than the coordinator in a stopped world. What holds stays as it is.
-use Rattle.std.proofs.Common.{◌≡◌, inl, inr, ℕ, ◌+◌, ◌<◌, ◌≤◌, ◌==◌, Bool, true, false, refl, sym, ap, subst, ◌∙◌, arith, List, ◌∷◌, ◌++◌, None}
+use Rattle.std.proofs.Common.{◌≡◌, inl, inr, ℕ, ◌+◌, ◌<◌, ◌≤◌, ◌==◌, Bool, true, false, refl, sym, ap, subst, ◌∙◌, arith, List, ◌∷◌, None}
 use Rattle.std.proofs.lemmas.Bool.Decides.{nat_tests}
-use Rattle.std.specs.Option.{option_to_list}
 use Rattle.gh_base.specs.Lists.{by}
 use Rattle.gh_coord.specs.declared.count.CountStage.{CountStage}
 use Rattle.gh_coord.specs.Handshake as leading
@@ -11,14 +10,14 @@ use Rattle.gh_worker.specs.Listing.{goes, sweep_at, Working}
 use Rattle.gh_lists.specs.declared.handshake.Actor.{Actor}
 use Rattle.gh_lists.specs.declared.handshake.Actor.TheVariants as actor
 use Rattle.gh_holds.specs.ActorsHold.{EndedSo, HasEnded, IsCounting, IsNewThere, IsQuiet, IsReady, IsSweeping, IsTold, NobodyMarks}
-use Rattle.gh_marked.specs.State.{HasState, IsAsItShould, IsHeapOf, IsInCycle, processor_at}
+use Rattle.gh_marked.specs.State.{HasState, IsHeapOf, IsInCycle, processor_at}
 use Rattle.gh_marked.specs.HeapBytes.{uncounted}
-use Rattle.gh_marked.specs.HoldVocabulary.{acks_of, actors_after, alloc_words, Answer, answers_of, arena, Arena, Coordinating, ended_in, Entry, Ever, ever, given_of, Heap, IsLed, IsMade, IsPlacedAt, Legal, MarksNothing, Op, opening_words, Processor, row_bit, State, SweepingAll, Words, words}
+use Rattle.gh_marked.specs.HoldVocabulary.{acks_of, actors_after, alloc_words, answers_of, arena, Arena, Coordinating, ended_in, Entry, Ever, ever, given_of, Heap, IsLed, IsMade, IsPlacedAt, Legal, MarksNothing, Op, opening_words, Processor, row_bit, State, SweepingAll, Words, words}
 use Rattle.gh_lists.specs.Handshake.{those, Setup}
 use Rattle.gh_marked.specs.Sweepers.{IsInSweep, sweep_of}
 use Rattle.gh_marked.specs.Known.{Known, ListsKnown}
 use Rattle.gh_lists.specs.Resting.{answers_stay, ever_stays, given_stay, own_stay, state_stays}
-use Rattle.gh_lists.specs.Seats.{other, works}
+use Rattle.gh_lists.specs.Seats.{works}
 
 module _ (setup : Setup) (e : Entry Op) (es : List (Entry Op)) where
   abbrev z : Arena
@@ -40,17 +39,11 @@ module _ (setup : Setup) (e : Entry Op) (es : List (Entry Op)) where
     pub sweeps : (a : ℕ) → sweep_of (at (e ∷ es) a) ≡ sweep_of (at es a)
 
   pub led_by_it : e.actor < acks_of setup.layout → (c : Coordinating) → IsLed setup (e ∷ es) c → IsLed setup es c
-  led_by_it among c is = sym (other setup e es (acks_of setup.layout) (apart (e.actor == acks_of setup.layout) refl)) ∙ is where
-    apart : (b : Bool) → (e.actor == acks_of setup.layout) ≡ b → (e.actor == acks_of setup.layout) ≡ false
-    apart false x = x
-    apart true x = absurd (let same : e.actor ≡ acks_of setup.layout = grind (arith, nat_tests) in omega (arith, same, among))
+  led_by_it among c is = grind arith
 
   -- what the entry's own actor sweeps says so of all
   pub sweeps_same : sweep_of (at (e ∷ es) e.actor) ≡ sweep_of (at es e.actor) → (a : ℕ) → sweep_of (at (e ∷ es) a) ≡ sweep_of (at es a)
-  sweeps_same own a = go (e.actor == a) refl where
-    go : (b : Bool) → (e.actor == a) ≡ b → sweep_of (at (e ∷ es) a) ≡ sweep_of (at es a)
-    go false x = ap sweep_of (other setup e es a x)
-    go true x = let same : e.actor ≡ a = grind (arith, nat_tests) in subst (λ (n : ℕ). sweep_of (at (e ∷ es) n) ≡ sweep_of (at es n)) same own
+  sweeps_same own a = grind (arith, nat_tests)
 
   -- where the world is stopped a worker waits at the stop, before its step and behind it, and sweeps nothing
   module _ (lists : ListsKnown setup) (legal : Legal (those setup) (e ∷ es)) (c : Coordinating) (phase : RunPhase) (led : IsLed setup es c) (post : leading.post_at c.stage ≡ Stopped phase) (among : e.actor < acks_of setup.layout) where
@@ -58,10 +51,7 @@ module _ (setup : Setup) (e : Entry Op) (es : List (Entry Op)) where
     sweeps_none xs lawful led_there w is = ap sweep_of is ∙ ap sweep_at ((lists.keeps xs lawful).workers_wait c phase e.actor w led_there post among is).is_at
 
     led_then : IsLed setup (e ∷ es) c
-    led_then = other setup e es (acks_of setup.layout) (apart (e.actor == acks_of setup.layout) refl) ∙ led where
-      apart : (b : Bool) → (e.actor == acks_of setup.layout) ≡ b → (e.actor == acks_of setup.layout) ≡ false
-      apart false x = x
-      apart true x = absurd (let same : e.actor ≡ acks_of setup.layout = grind (arith, nat_tests) in omega (arith, same, among))
+    led_then = grind (arith, nat_tests)
 
     pub worker_sweeps_none : (w : Working) → at es e.actor ≡ actor.Marks w → sweep_of (at (e ∷ es) e.actor) ≡ sweep_of (at es e.actor)
     worker_sweeps_none w is = sweeps_none (e ∷ es) legal led_then (goes w e.found) (works setup e es w is) ∙ sym (sweeps_none es legal.0 led w is)
@@ -83,28 +73,8 @@ module _ (setup : Setup) (e : Entry Op) (es : List (Entry Op)) where
     apart a lt true x = absurd (let is : e.actor ≡ a = grind (arith, nat_tests) in omega (arith, is, lt, ge))
 
   module _ (still : ChangesNothing) where
-    should_stay : (h : Heap) (a : ℕ) → a < setup.layout.procs → IsAsItShould setup es h a (processor_at setup es a) → IsAsItShould setup (e ∷ es) h a (processor_at setup es a)
-    should_stay h a lt is = record {
-      sound = is.sound;
-      pending = is.pending;
-      fine = is.fine;
-      answers = still.answers a lt ∙ (is.answers ∙ ap (λ (y : List Answer). option_to_list is.pending ++ y) (sym (still.given a lt)));
-      notes = is.notes;
-      ended = λ g its y. still.ended a lt g ∙ is.ended g its y;
-      ends = λ g its y. is.ends g its (sym (still.ended a lt g) ∙ y);
-      left = is.left;
-    }
-
     pub heap_stays : (h : Heap) → IsHeapOf setup es h → IsHeapOf setup (e ∷ es) h
-    heap_stays h of = record {
-      words_are = of.words_are ∙ sym still.words_are;
-      ever_is = of.ever_is ∙ sym still.ever_is;
-      bounded = of.bounded;
-      processors = λ a lt. subst (λ (p : Processor). IsAsItShould setup (e ∷ es) h a p) (sym (still.processors a lt)) (should_stay h a lt (of.processors a lt));
-      others = of.others;
-      stacks = of.stacks;
-      globals = of.globals;
-    }
+    heap_stays h of = grind arith
 
     pub in_cycle_stays : (k : ℕ) → IsInCycle setup es k → IsInCycle setup (e ∷ es) k
     in_cycle_stays k i = record { begun = i.begun; start = inr i.start; begins = i.begins; last = λ c led is. still.ever_is ∙ i.last c (still.led c led) is }
@@ -126,7 +96,7 @@ module _ (setup : Setup) (e : Entry Op) (es : List (Entry Op)) where
     }
 
     pub has_ended_stays : (k : ℕ) (s : State) → HasEnded setup es k s → HasEnded setup (e ∷ es) k s
-    has_ended_stays k s h = record { cycle = in_cycle_stays k h.cycle; ended = ended_stays k s h.ended }
+    has_ended_stays k s h = grind (arith, ended_stays, in_cycle_stays)
 
     abbrev pub has_stays : HasState setup es → HasState setup (e ∷ es)
     has_stays has = record {

@@ -1,5 +1,5 @@
 -- One entry more of a processor or a worker where the world is stopped: it leaves everything as it was.
-use Rattle.std.proofs.Common.{◌≡◌, ℕ, ◌<◌, ◌≤◌, ◌==◌, Bool, true, false, cond, ltb, refl, sym, ap, subst, ◌∙◌, arith, inl, inr, List, ◌∷◌, ◌++◌, map, Option, Some, None, eq-eqb}
+use Rattle.std.proofs.Common.{◌≡◌, ℕ, ◌<◌, ◌≤◌, ◌==◌, Bool, true, false, cond, ltb, refl, sym, ap, subst, ◌∙◌, arith, inl, inr, List, ◌∷◌, ◌++◌, map, Option, None, eq-eqb}
 use Rattle.gh_base.specs.declared.cell.Cell.TheVariants as cell
 use Rattle.gh_base.specs.Orders.{before_step, left_at}
 use Rattle.gh_coord.specs.Handshake as leading
@@ -9,7 +9,7 @@ use Rattle.gh_lists.specs.declared.handshake.Actor.TheVariants as actor
 use Rattle.gh_lists.specs.Handshake as handshake
 use Rattle.gh_marked.specs.HoldVocabulary.{given_of, opening_words}
 use Rattle.gh_marked.specs.Sweepers.{sweep_of}
-use Rattle.gh_marked.proofs.Vocabulary.{acks_of, Act, Actor, actors, actors_after, acts, Answer, answered, answered_by, AnsweredDeed, arena, Begins, begins as begun_at, by, Coordinating, deeds, done_at, effect, ended_in, Entry, ever, given_at, gives, has_left_at, is_busy, is_busy_at, IsLed, IsParked, IsSound, Kind, Layout, Legal, Load, nat_tests, Op, opening_processor, option_to_list, PackedWordsAreReadBack, place_of, point_of, Processor, processor_at, processor_kind, RunPhase, Shape, stage_of, started, stop_word, Stopped, takes, Task, those, Words, words, Working}
+use Rattle.gh_marked.proofs.Vocabulary.{acks_of, Act, Actor, actors, actors_after, acts, Answer, answered, answered_by, AnsweredDeed, arena, by, Coordinating, deeds, done_at, effect, ended_in, Entry, ever, given_at, gives, is_busy, is_busy_at, IsLed, IsParked, IsSound, Kind, Layout, Legal, Load, nat_tests, Op, opening_processor, option_to_list, PackedWordsAreReadBack, place_of, point_of, Processor, processor_at, processor_kind, RunPhase, Shape, stage_of, started, stop_word, Stopped, takes, those, Words, words, Working}
 use Rattle.gh_marked.specs.Known.{ListsKnown}
 use Rattle.gh_lists.specs.Resting.{begins_nothing, rests, rests_on, runs_are, state_stays}
 use Rattle.gh_holds.proofs.AllActors.Stay.{ChangesNothing, led_by_it, sweeps_same, worker_sweeps_none}
@@ -19,8 +19,7 @@ use Rattle.gh_lists.specs.Handshake.{Setup}
 
 -- one that has left begins nothing
 pub left_stays : (shapes : List Shape) (l : Layout) (o : Option Op) (m : Processor) → m.task ≡ task.Left → started (processor_kind shapes l) o m ≡ m
-left_stays shapes l None m is = refl
-left_stays shapes l (Some o) m is = ap (λ (t : Task). cond (has_left_at t) m (begun_at shapes m o)) is
+left_stays shapes l o m is = grind arith
 
 module _ (setup : Setup) where
   abbrev k : Kind Processor Op
@@ -105,21 +104,16 @@ module _ (setup : Setup) where
       runs = sym (ap is_busy (ap (started all e.begun) here ∙ run_started setup e.begun m)) ∙ legal.1.runs
 
       not_left : m.task ≡ task.Left → ⊥
-      not_left is = let no : false ≡ true = sym (ap is_busy_at is) ∙ (sym (ap (λ (x : Processor). is_busy_at x.task) (left_stays setup.shapes setup.layout e.begun m is)) ∙ runs) in cc
+      not_left is = grind (arith, left_stays, runs)
 
       waits : StandsStill back stops setup.shapes m
       waits = elim (stands_still back stops setup.shapes m sound.0.place parked) [ inl x ↦ x | inr x ↦ absurd (not_left x) ]
 
       none_begun : e.begun ≡ None
-      none_begun = go e.begun refl where
-        go : (o : Option Op) → e.begun ≡ o → o ≡ None
-        go None is = refl
-        go (Some y) is =
-            let b = subst (λ (x : Option Op). Begins (those setup) e.actor es x) is legal.1.begins in
-            absurd (let no : true ≡ false = sym waits.busy ∙ (sym (ap is_busy here) ∙ b.0) in cc)
+      none_begun = grind arith
 
       before : before_step k (deeds setup.shapes) es e ≡ m
-      before = ap (λ (o : Option Op). started k o m) none_begun
+      before = grind (arith, none_begun)
 
       own_is : processor_at setup (e ∷ es) e.actor ≡ m
       own_is = rw (eq-eqb e.actor e.actor refl) (ap (λ (x : Processor). takes setup.shapes x e.found) before ∙ (ap (takes setup.shapes m) moves_nobody.1 ∙ waits.stays))

@@ -1,5 +1,5 @@
 -- Where an entry leaves everything as it was, what holds after the list holds still.
-use Rattle.std.proofs.Common.{ℕ, sym, subst, List, ◌∷◌}
+use Rattle.std.proofs.Common.{sym, subst, List, ◌∷◌}
 use Rattle.gh_base.specs.declared.cell.Cell.TheVariants as cell
 use Rattle.gh_coord.specs.declared.close.CloseStage.{CloseStage}
 use Rattle.gh_coord.specs.declared.close.CloseStage.TheVariants as closing

@@ -1,5 +1,5 @@
 -- While a cycle is marked what was placed where it began stays placed: no step of a processor takes an object from where it is placed, and no step of another that is beside the heap does.
-use Rattle.std.proofs.Common.{◌≡◌, inl, inr, ℕ, ◌/◌, Bool, false, cond, refl, sym, ap, subst, ◌∙◌, arith}
+use Rattle.std.proofs.Common.{◌≡◌, inl, inr, ℕ, ◌/◌, Bool, false, cond, sym, ap, subst, ◌∙◌, arith}
 use Rattle.std.proofs.lemmas.Bool.Decides.{eqb_tells}
 use Rattle.gh_base.specs.declared.cell.Cell.TheVariants as cell
 use Rattle.gh_base.specs.Packing.{birth_word}
@@ -22,12 +22,10 @@ beside_stays ask is w = by_rows w (effect w ask) (is.alloc w) (is.birth w)
 
 module _ (one : ChangesOneCell) where
   not_alloc : (c : Cell) → heap.IsAside c → (i : ℕ) → same_cell c (cell.Alloc i) ≡ false
-  not_alloc (cell.Alloc j) is i = absurd is
-  not_alloc _ is i = refl
+  not_alloc c is i = grind arith
 
   not_birth : (c : Cell) → heap.IsAside c → (i : ℕ) → same_cell c (cell.Birth i) ≡ false
-  not_birth (cell.Birth j) is i = absurd is
-  not_birth _ is i = refl
+  not_birth c is i = grind arith
 
   leaves : (ask : Ask) (w : Words) (at : Cell) → same_cell (cell_of ask) at ≡ false → effect w ask at ≡ w at
   leaves ask w at apart = one w ask at ∙ ap (λ (b : Bool). cond b (left ask (w (cell_of ask))) (w at)) apart

@@ -2,9 +2,8 @@
 use Rattle.std.proofs.Common.{◌≡◌, ◌≢◌, ◌↔◌, ℕ, ◌+◌, ◌<◌, true, false, sym, ap, subst, ◌∙◌, arith, List}
 use Rattle.gh_base.specs.declared.cell.Cell.TheVariants as cell
 use Rattle.gh_base.specs.declared.pack.TheConstants.{END}
-use Rattle.gh_cycle.specs.Beside.{IsBeside, IsOfCycle}
+use Rattle.gh_cycle.specs.Beside.{IsBeside}
 use Rattle.gh_cycle.specs.Reached.{TheReachedWereMade}
-use Rattle.gh_heap.specs.Objects.{points, shape_for, size_for}
 use Rattle.gh_marks.specs.Colours.{mark_of, White}
 use Rattle.gh_model.specs.declared.EverValue.TheVariants as ever_value
 use Rattle.gh_model.specs.Ever.{from_register}
@@ -55,22 +54,8 @@ module _ (were_made : TheReachedWereMade) (setup : Setup) (es : List (Entry Op))
       let p = t.heap_good.reached n (subst (λ (e : Ever). Reach e n) (sym t.ever_is) r) in
       subst (λ (x : Words). IsPlacedAt x n (t.heap.place n)) t.words_are (record { set = p.set; says = p.says })
 
-  there : (n : Name) → Reach v n → Reach t.heap.ever n
-  there n r = subst (λ (e : Ever). Reach e n) (sym t.ever_is) r
-
-  of_cycle : (n : Name) → Reach v n → IsOfCycle t.heap s n
-  of_cycle n r = record { made = were_made (arena setup) t.heap.ever t.bounded n (there n r); placed = t.heap_good.reached n (there n r); since = t.beside.reached n (there n r) }
-
   object : (n : Name) → Reach v n → HasObject setup es s n
-  object n r = record {
-    at = t.heap.place n;
-    placed = placed n r;
-    since = t.beside.reached n (there n r);
-    some = (t.objects (t.heap.place n) (t.beside.reached n (there n r))).some;
-    size = t.beside.size n (of_cycle n r) ∙ ap (λ (e : Ever). size_for setup.shapes e.type_of n) t.ever_is;
-    pointer = λ k lt. t.beside.pointer n k (of_cycle n r) (subst (λ (e : Ever). k < size_for setup.shapes e.type_of n) (sym t.ever_is) lt) ∙ ap (λ (e : Ever). points setup.shapes e.type_of n k) t.ever_is;
-    noscan = t.beside.noscan n (of_cycle n r) ∙ ap (λ (e : Ever). (shape_for setup.shapes e.type_of n).noscan) t.ever_is;
-  }
+  object n r = grind arith
 
   register : (g d : ℕ) (n : Name) → g < setup.layout.goroutines → d < REGISTERS → v.ended g ≡ false → v.register g d ≡ ever_value.Ref n → s.registers g d ≡ t.heap.place n + 1
   register g d n lt few goes is =

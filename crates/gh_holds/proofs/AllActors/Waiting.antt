@@ -1,14 +1,11 @@
 -- A processor that waits at a stop: the step that finds that stop leaves it as it is, is no point and gives no answer.
-use Rattle.std.proofs.Common.{◌≡◌, ℕ, Bool, true, false, cond, refl, sym, ap, ◌∙◌, ◌⊎◌, inl, inr, List, Option, None, eq-eqb}
+use Rattle.std.proofs.Common.{◌≡◌, ℕ, Bool, true, cond, refl, sym, ap, ◌∙◌, ◌⊎◌, inl, inr, List, Option, None, eq-eqb, arith}
 use Rattle.gh_base.specs.declared.cell.Cell.TheVariants as cell
-use Rattle.gh_base.specs.declared.operation.Op.TheVariants as op
 use Rattle.gh_base.specs.declared.pack.Phase.TheVariants as kind
-use Rattle.gh_base.specs.declared.value.Answer.TheVariants as answer
 use Rattle.gh_phase.specs.declared.resume.ResumeStage.TheVariants as resuming
 use Rattle.gh_phase.specs.Listing as resume
 use Rattle.gh_phase.specs.ResumePlaces as places
 use Rattle.gh_phase.specs.Stays.{phase_on}
-use Rattle.gh_mutator.specs.declared.leave.LeaveStage.TheVariants as leaving
 use Rattle.gh_mutator.specs.declared.new.NewStage.TheVariants as making
 use Rattle.gh_mutator.specs.declared.poll.PollStage.TheVariants as polling
 use Rattle.gh_mutator.specs.declared.task.Task.TheVariants as task
@@ -16,13 +13,9 @@ use Rattle.gh_mutator.specs.declared.wait.Wait.{Wait}
 use Rattle.gh_mutator.specs.declared.wait.WaitStage.TheVariants as waiting
 use Rattle.gh_mutator.specs.Handshake.{poll_stage_of, wait_stage_of}
 use Rattle.gh_mutator.specs.Leave as leave
-use Rattle.gh_mutator.specs.Local.{marking_at}
-use Rattle.gh_mutator.specs.Listing.{asks_at}
-use Rattle.gh_mutator.specs.New as new
 use Rattle.gh_mutator.specs.Poll as poll
-use Rattle.gh_mutator.specs.Processor.{at_poll, at_task}
 use Rattle.gh_mutator.specs.Wait as wait
-use Rattle.gh_marked.proofs.Vocabulary.{acting, acts, acts_at, after_gc, after_poll, asks, given_at, gives, gives_at, is_busy_at, is_some, IsParked, leaves_at, LeaveStage, Leaving, Load, New, new_stage_at, NewStage, once_ended, PackedWordsAreReadBack, phase_of, PhaseWord, Polling, polls_at, PollStage, Processor, Resumed, ResumeStage, run_phase, Shape, SoundAt, SoundPlace, stage_at, stage_of, stop_word, takes, takes_at, Task, waits_at, WaitStage}
+use Rattle.gh_marked.proofs.Vocabulary.{acts, asks, given_at, gives, is_busy_at, IsParked, leaves_at, LeaveStage, Leaving, Load, New, new_stage_at, NewStage, PackedWordsAreReadBack, phase_of, PhaseWord, Polling, polls_at, PollStage, Processor, ResumeStage, run_phase, Shape, SoundAt, SoundPlace, stage_at, stage_of, stop_word, takes, Task, waits_at, WaitStage}
 
 -- where the poll waits
 pub record WaitsAt (stops : ℕ) (p : Polling) : Type 0 where
@@ -32,8 +25,7 @@ pub record WaitsAt (stops : ℕ) (p : Polling) : Type 0 where
   pub stop_is : routine.stops ≡ stops
 
 at_load : (number stops : ℕ) (s : ResumeStage) → IsParked stops (places.stands_at number s) → (s ≡ resuming.LoadPhase) × (number ≡ stops)
-at_load number stops resuming.LoadPhase p = (refl, p)
-at_load number stops _ p = absurd p
+at_load number stops s p = grind arith
 
 polls_parked : (stops : ℕ) (p : Polling) → IsParked stops (poll_stage_of p) → WaitsAt stops p
 polls_parked stops p k = go p.stage refl k where
@@ -67,14 +59,10 @@ module _ (back : PackedWordsAreReadBack) (stops : ℕ) where
 
   -- the poll
   polls : (p : Polling) → WaitsAt stops p → poll.goes p found ≡ p
-  polls p w =
-      ap (λ (s : PollStage). poll.goes_at p s found) w.is_at
-      ∙ (ap (λ (x : Option Resumed). poll.after_resume p (resume.goes w.routine found) x) (none_resumed w.routine w.loads)
-      ∙ (ap (λ (r : resume.Resuming). poll.at_stage p (polling.Resuming r)) (resumes w.routine w.loads w.stop_is)
-      ∙ ap (poll.at_stage p) (sym w.is_at)))
+  polls p w = grind (arith, none_resumed, resumes)
 
   none_polled : (p : Polling) → WaitsAt stops p → poll.gives p found ≡ None
-  none_polled p w = ap (λ (q : Polling). poll.given q.stage) (polls p w) ∙ ap poll.given w.is_at
+  none_polled p w = grind (arith, polls)
 
   -- the wait for a cycle
   waits : (w : wait.Waiting) → w.wait.stage ≡ waiting.Polling → WaitsAt stops w.poll → wait.goes w found ≡ w
@@ -85,7 +73,7 @@ module _ (back : PackedWordsAreReadBack) (stops : ℕ) where
       ∙ ap (λ (s : WaitStage). record w { wait = record (w.wait) { stage = s } }) (sym is)))
 
   none_waited : (w : wait.Waiting) → w.wait.stage ≡ waiting.Polling → WaitsAt stops w.poll → wait.gives w found ≡ None
-  none_waited w is at = ap (λ (x : wait.Waiting). wait.given x.wait.stage) (waits w is at) ∙ ap wait.given is
+  none_waited w is at = grind (arith, waits)
 
   waits_parked : (w : wait.Waiting) → IsParked stops (wait_stage_of w) → (w.wait.stage ≡ waiting.Polling) × WaitsAt stops w.poll
   waits_parked w k = go w.wait.stage refl k where
@@ -104,36 +92,13 @@ module _ (back : PackedWordsAreReadBack) (stops : ℕ) where
       pub no_answer : given_at m.task (gives m found) ≡ None
 
     polls_still : m.task ≡ task.Poll → WaitsAt stops m.poll → StandsStill
-    polls_still is at = record {
-      busy = ap is_busy_at is;
-      loads = ap (asks_at m) is ∙ polls_ask m.poll at;
-      stays = ap (λ (t : Task). takes_at shapes m t found) is ∙ (ap (λ (x : Option (Unit {0})). after_poll m (poll.goes m.poll found) x) (none_polled m.poll at)
-          ∙ (ap (λ (p : Polling). at_task (at_poll m p) task.Poll) (polls m.poll at) ∙ ap (at_task m) (sym is)));
-      no_act = ap (λ (t : Task). acts_at m t found) is ∙ ap (λ (x : Option (Unit {0})). acting (is_some x) op.Poll false) (none_polled m.poll at);
-      no_answer = ap (λ (t : Task). given_at t (gives m found)) is;
-    }
+    polls_still is at = grind (arith, none_polled, polls, polls_ask)
 
     gc_still : (g : ℕ) (x : Wait) → m.task ≡ task.Gc g x → x.stage ≡ waiting.Polling → WaitsAt stops m.poll → StandsStill
-    gc_still g x is on at = record {
-      busy = ap is_busy_at is;
-      loads = ap (asks_at m) is ∙ waits_ask (wait.waiting x m.poll) on at;
-      stays = ap (λ (t : Task). takes_at shapes m t found) is ∙ (ap (λ (y : Option (Unit {0})). after_gc m g (wait.goes (wait.waiting x m.poll) found) y) (none_waited (wait.waiting x m.poll) on at)
-          ∙ (ap (λ (y : wait.Waiting). at_task (at_poll m y.poll) (task.Gc g y.wait)) (waits (wait.waiting x m.poll) on at) ∙ ap (at_task m) (sym is)));
-      no_act = ap (λ (t : Task). acts_at m t found) is ∙ ap (λ (y : Option (Unit {0})). acting (is_some y) (op.Gc g) false) (none_waited (wait.waiting x m.poll) on at);
-      no_answer = ap (λ (t : Task). given_at t (gives_at m t found)) is ∙ ap (λ (y : Option (Unit {0})). once_ended y answer.Swept) (none_waited (wait.waiting x m.poll) on at);
-    }
+    gc_still g x is on at = grind (arith, none_waited, waits, waits_ask)
 
     new_still : (x : New) (y : Wait) → m.task ≡ task.New x → x.stage ≡ making.Wait y → y.stage ≡ waiting.Polling → WaitsAt stops m.poll → StandsStill
-    new_still x y is here on at = record {
-      busy = ap is_busy_at is;
-      loads = ap (asks_at m) is ∙ (ap (new.asks_at m) here ∙ waits_ask (wait.waiting y m.poll) on at);
-      stays = ap (λ (t : Task). takes_at shapes m t found) is ∙ (ap (λ (s : NewStage). new.takes_at shapes m x.wanted s found) here
-          ∙ (ap (λ (o : Option (Unit {0})). new.after_wait m x.wanted (wait.goes (wait.waiting y m.poll) found) o) (none_waited (wait.waiting y m.poll) on at)
-          ∙ (ap (λ (w : wait.Waiting). at_task (at_poll m w.poll) (new.waits x.wanted w)) (waits (wait.waiting y m.poll) on at)
-          ∙ (ap (λ (s : NewStage). at_task m (task.New (record x { stage = s }))) (sym here) ∙ ap (at_task m) (sym is)))));
-      no_act = ap (λ (t : Task). acts_at m t found) is ∙ ap (λ (s : NewStage). acting (new.acts_at s found) (new.op_of x.wanted) (new.is_full_at s)) here;
-      no_answer = ap (λ (t : Task). given_at t (gives_at m t found)) is ∙ ap (λ (s : NewStage). new.gives_at (marking_at m.poll) s found) here;
-    }
+    new_still x y is here on at = grind (arith, none_waited, waits, waits_ask)
 
     -- a processor that is parked waits so, or has left
     pub stands_still : SoundPlace m → IsParked stops (stage_of m) → StandsStill ⊎ (m.task ≡ task.Left)
@@ -146,9 +111,7 @@ module _ (back : PackedWordsAreReadBack) (stops : ℕ) where
       in_new x is (making.Assist n y) here k = absurd k
 
       in_leave : (x : Leaving) → (s : LeaveStage) → x.stage ≡ s → leave.is_busy x.stage ≡ true → IsParked stops (leaves_at s) → ⊥
-      in_leave x (leaving.Giving g) is b k = k
-      in_leave x leaving.Leave is b k = k
-      in_leave x leaving.Left is b k = let no : false ≡ true = sym (ap leave.is_busy is) ∙ b in cc
+      in_leave x s is b k = grind arith
 
       go : (t : Task) → m.task ≡ t → SoundAt m.poll t → IsParked stops (stage_at m.poll t) → StandsStill ⊎ (m.task ≡ task.Left)
       go task.Left is s k = inr is

@@ -1,5 +1,5 @@
 -- The coordinator's walk over all pages: what it has seen lasts under the moves of others.
-use Rattle.std.proofs.Common.{◌≡◌, ◌≢◌, ℕ, ◌+◌, ◌<◌, sym, ap, subst, ◌∙◌, inl, inr}
+use Rattle.std.proofs.Common.{◌≡◌, ◌≢◌, ℕ, ◌+◌, ◌<◌, sym, ap, subst, ◌∙◌, inl, inr, arith}
 use Rattle.gh_coord.specs.declared.sweep_all.SweepAllStage.{SweepAllStage}
 use Rattle.gh_coord.specs.declared.sweep_all.SweepAllStage.TheVariants as all
 use Rattle.gh_state.specs.Moves as state
@@ -39,10 +39,7 @@ module _ (known : Known) (z : Arena) (a b : ℕ) (differs : b ≢ a) (s : State)
   passed_last page passed = known.walkers.own z a s m page good may passed
 
   pages_last : (p : SweepAllStage) → PassedBefore s (page_at s p) → PassedBefore then (page_at then p)
-  pages_last all.Ended passed = subst (λ (e : CycleEnd). PassedBefore then e.layout.pages) (sym same_end) (passed_last s.end.layout.pages passed)
-  pages_last (all.LoadPage page) passed = passed_last page passed
-  pages_last (all.Sweep page sw) passed = passed_last page passed
-  pages_last (all.Await page) passed = passed_last page passed
+  pages_last p passed = grind (arith, passed_last, same_end)
 
   pub walks_last : (w : SweepingAll) → Walks s w → Walks then w
   walks_last w is = record {

@@ -1,5 +1,5 @@
 -- Where an entry of a processor says `full`, there was no room: a search that finds none does so by its rights, behind its wait; polls, waits and leaves say nothing of it, and in a stopped world nobody does.
-use Rattle.std.proofs.Common.{◌≡◌, ℕ, ◌<◌, true, sym, ap, subst, ◌∙◌, List, ◌∷◌, Option, Some, None}
+use Rattle.std.proofs.Common.{◌≡◌, ◌<◌, true, sym, ap, subst, ◌∙◌, List, ◌∷◌, Option, Some, None}
 use Rattle.gh_lists.specs.declared.handshake.Actor.TheVariants as actor
 use Rattle.gh_lists.specs.Handshake.{asks as asks_by, Setup}
 use Rattle.gh_mutator_heap.specs.Facts.{FullAt}
@@ -26,7 +26,7 @@ module _ (setup : Setup) (e : Entry Op) (es : List (Entry Op)) where
 
   -- where it says that there was no room, there was none
   abbrev pub RefusesRightly : Type 0
-  RefusesRightly = (x : Act) → point ≡ Some x → x.full ≡ true → IsFullFor z e.actor (words setup es) (processor_at setup es e.actor) x.op
+  RefusesRightly = (x : Act) → point ≡ Some x → x.full ≡ true → IsFullFor z e.actor (words setup es) x.op
 
   pub no_point_refuses : point ≡ None → RefusesRightly
   no_point_refuses none x is full = absurd (let no : None ≡ Some x = sym none ∙ is in cc)
@@ -57,7 +57,7 @@ module _ (setup : Setup) (e : Entry Op) (es : List (Entry Op)) where
         of = has.of_list
 
         pub heap_refuses : RefusesRightly
-        heap_refuses x is full = subst (λ (w : Words). IsFullFor z e.actor w m x.op) of.words_are (full_for z h has.good.heap of.others e.actor m x.op (subst (λ (p : Processor). FullAt z e.actor (view h) p x.op) now_is (sees x act full))) where
+        heap_refuses x is full = subst (λ (w : Words). IsFullFor z e.actor w x.op) of.words_are (full_for z h has.good.heap of.others e.actor m x.op (subst (λ (p : Processor). FullAt z e.actor (view h) p x.op) now_is (sees x act full))) where
           now_is : now ≡ m
           now_is = ap (λ (o : Option Op). started k o m) (goes_on setup.shapes setup.layout e.begun m (searched x is full))
 

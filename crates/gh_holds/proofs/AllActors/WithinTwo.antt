@@ -2,7 +2,6 @@
 use Rattle.std.proofs.Common.{◌≡◌, ◌⊎◌, inl, inr, ℕ, suc, ◌<◌, ◌≤◌, ltb, Bool, true, false, refl, sym, ap, subst, ◌∙◌, arith, List, [], ◌∷◌, Option, Some, None}
 use Rattle.gh_heap.specs.Laws.{name_made}
 use Rattle.gh_heap.specs.Moves as heap
-use Rattle.gh_model.specs.Ever.{next_name}
 use Rattle.gh_mutator_heap.specs.Facts.{Does}
 use Rattle.gh_mutator.specs.Sweeping.{sweep_in}
 use Rattle.gh_state.specs.Moves as state
@@ -27,11 +26,7 @@ record IsLost (n : Name) (v : Ever) : Type 0 where
 
 -- the name that a move makes was not made before
 not_new : (v : Ever) (m : heap.Move) (n : Name) → IsMade v.made n → name_made v m ≡ Some n → ⊥
-not_new v (heap.Make at g d t) n made is =
-    let same : next_name v g ≡ n = cc in
-    let below : v.made g < v.made g = subst (λ (x : Name). IsMade v.made x) (sym same) made in
-    omega (arith, below)
-not_new v _ n made is = cc
+not_new v m n made is = grind arith
 
 -- a seat is below a number, or not
 below : (a n : ℕ) → ltb a n ≡ true → a < n
@@ -105,10 +100,7 @@ module _ (given : Given) (wanted : Wanted) (lists : ListsKnown (setup_for given)
           subst (IsLost n) (ever_is (state.moved z e.actor has.state land.move).heap land.after.does) (by_state e.actor has.state land.move n has.good.heap land.allowed lost_there)
 
       by_processor : IsLost n (ever_at (e ∷ es))
-      by_processor = go (sweep_in now) refl where
-        go : (x : Option Sweeping) → sweep_in now ≡ x → IsLost n (ever_at (e ∷ es))
-        go None none = by_deed none
-        go (Some sw) is = by_sweep sw is
+      by_processor = grind (arith, by_deed, by_sweep)
 
     lost_then : IsLost n (ever_at (e ∷ es))
     lost_then = go (ltb e.actor given.layout.procs) refl where

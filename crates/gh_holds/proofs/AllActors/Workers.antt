@@ -2,7 +2,6 @@
 use Rattle.std.proofs.Common.{◌≡◌, ℕ, ◌+◌, ◌<◌, ◌≤◌, true, refl, sym, ap, subst, ◌∙◌, arith, List, ◌∷◌, Option, Some, None}
 use Rattle.gh_base.specs.declared.cell.Cell.TheVariants as cell
 use Rattle.gh_coord.specs.declared.close.CloseStage.TheVariants as closing
-use Rattle.gh_coord.specs.declared.open.OpenStage.TheVariants as opening
 use Rattle.gh_coord.specs.declared.tell.TellStage.TheVariants as telling
 use Rattle.gh_coord.specs.Closing as closes_by
 use Rattle.gh_coord.specs.Handshake as leading
@@ -37,8 +36,7 @@ use Rattle.gh_lists.specs.Handshake.{Setup}
 
 -- while a cycle is opened the world is stopped
 open_stopped : (p : OpenStage) → opens_by.is_busy p ≡ true → leading.open_post p ≡ Stopped run.Off
-open_stopped opening.Ended busy = absurd (cc)
-open_stopped _ busy = refl
+open_stopped p busy = grind arith
 
 module _ (setup : Setup) (lists : ListsKnown setup)
     (e : Entry Op) (es : List (Entry Op)) (legal : Legal (those setup) (e ∷ es)) (c : Coordinating) (led : IsLed setup es c) (among : e.actor < acks_of setup.layout) where

@@ -12,7 +12,7 @@ use Rattle.gh_mutator_writes.specs.Writing.{BeginsToWait}
 use Rattle.gh_lists.specs.Numbers.{asks_for_one, opens_one}
 use Rattle.gh_lists.specs.Order.{before_step}
 use Rattle.gh_lists.specs.Wants.{CountsWants, IsToOpen}
-use Rattle.gh_law.proofs.Vocabulary.{Ask, asked_after, asks, Coordinating, CoordStage, effect, Entry, IsBeginning, IsStartOf, IsWanting, IsWritten, KeepsIt, Legal, Op, Open, Or, Processor, processor_kind, ProcessorWritesItsOwn, started, state_of, Store, those, Words, Working, WorkersWriteTheirOwn, WritesOf}
+use Rattle.gh_law.proofs.Vocabulary.{Ask, asked_after, asks, Coordinating, CoordStage, effect, Entry, IsBeginning, IsStartOf, IsWanting, IsWritten, KeepsIt, Legal, Op, Or, Processor, processor_kind, ProcessorWritesItsOwn, started, state_of, Store, those, Words, Working, WorkersWriteTheirOwn, WritesOf}
 use Rattle.gh_lists.specs.Resting.{runs_are}
 use Rattle.gh_lists.specs.Starts.{legal_start}
 use Rattle.gh_law.proofs.AllActors.Triggered.{asked as trigger_asked, saw}
@@ -33,13 +33,6 @@ no_longer start (e ∷ es) (inr is) = let le = no_longer start es is in omega (a
 none_behind : (es : List (Entry Op)) → NoneOpensSince es es
 none_behind es e before of behind = absurd (let one = no_longer (e ∷ before) es of in let other = no_longer es before behind in omega (arith, one, other))
 
--- and one entry more that opens no cycle
-none_more : (start : List (Entry Op)) (e : Entry Op) (es : List (Entry Op)) → opens_one e.ask ≡ false → NoneOpensSince start es → NoneOpensSince start (e ∷ es)
-none_more start e es none since d before of behind = go of where
-  go : IsStartOf (d ∷ before) (e ∷ es) → opens_one d.ask ≡ false
-  go (inl is) = let same : d ≡ e = cc in ap (λ (x : Entry Op). opens_one x.ask) same ∙ none
-  go (inr is) = since d before is behind
-
 -- it opens no cycle, and leaves the word of the request
 record LeavesRequest (w : Words) (ask : Ask) : Type 0 where
   opens_none : opens_one ask ≡ false
@@ -47,8 +40,7 @@ record LeavesRequest (w : Words) (ask : Ask) : Type 0 where
 
 -- the step that asks for a cycle
 asks_by : (m : Processor) (q : Ask) → asks m ≡ q → WritesOf (IsWritten m) q → asks_for_one q ≡ true → IsWanting m.task × (asks m ≡ Or cell.Want 1)
-asks_by m (Or cell.Want bits) is w one = w
-asks_by m _ is w one = absurd (cc)
+asks_by m q is w one = grind arith
 
 asks_one : (ask : Ask) → ((before : ℕ) → asked_after ask before ≡ suc before) → asks_for_one ask ≡ true
 asks_one ask one = go (asks_for_one ask) (one 0) where
@@ -58,22 +50,14 @@ asks_one ask one = go (asks_for_one ask) (one 0) where
 
 -- where it clears the request it was about to open a cycle
 to_open : (p : CoordStage) → IsClearing p → IsToOpen p
-to_open (Open o) is = is
-to_open _ is = absurd is
+to_open p is = grind arith
 
 -- where it is about to begin a cycle, that is open
 is_open : (p : CoordStage) → IsBeginning p → IsOpened p
-is_open (Open o) is = rw is tt
-is_open _ is = absurd is
-
--- and it does not clear the request there
-not_both : (p : CoordStage) → IsClearing p → IsBeginning p → ⊥
-not_both (Open o) is begins = let both = sym is ∙ begins in cc
-not_both _ is begins = is
+is_open p is = grind arith
 
 clears_one : (c : Coordinating) (p : CoordStage) → IsClearing p → opens_one (coord.asks_at c p) ≡ true
-clears_one c (Open o) is = rw is refl
-clears_one c _ is = absurd is
+clears_one c p is = grind arith
 
 module _ (setup : Setup)
     (writes : ProcessorWritesItsOwn) (works : WorkersWriteTheirOwn)
@@ -96,10 +80,10 @@ module _ (setup : Setup)
 
   module _ (e : Entry Op) (es : List (Entry Op)) where
     asked_more : opens_one e.ask ≡ false → WasAsked setup es → WasAsked setup (e ∷ es)
-    asked_more none x = record { entry = x.entry; earlier = x.earlier; start = inr x.start; asks = x.asks; since = none_more (x.entry ∷ x.earlier) e es none x.since }
+    asked_more none x = grind arith
 
     opened_more : (k : ℕ) → opens_one e.ask ≡ false → WasOpened setup k es → WasOpened setup k (e ∷ es)
-    opened_more k none x = record { entry = x.entry; earlier = x.earlier; start = inr x.start; opens = x.opens; since = none_more (x.entry ∷ x.earlier) e es none x.since }
+    opened_more k none x = grind arith
 
     module _ (legal : Lawful (e ∷ es)) where
       step : seats.Step setup e es
@@ -226,20 +210,7 @@ module _ (setup : Setup)
       subst (λ (n : ℕ). WasOpened setup n (e ∷ es)) is.cycle (opened_more e es is.lead.begun none there)
     where
       none : opens_one e.ask ≡ false
-      none = go (step e es legal) where
-        lead : (c : Coordinating) → seats.LeadsIt setup e es c → opens_one e.ask ≡ false
-        lead c x =
-            let both : actor.Leads c ≡ actor.Leads is.lead = sym x.is ∙ is.led in
-            let same : is.lead ≡ c = cc in
-            elim (leading e es legal c x) [
-              | inl y ↦ absurd (not_both c.stage y.0 (subst (λ (d : Coordinating). IsBeginning d.stage) same is.stage))
-              | inr y ↦ y.0
-            ]
-
-        go : seats.Step setup e es → opens_one e.ask ≡ false
-        go (seats.by_processor m x stays) = none_opened e.ask (leaves_by e es legal m x).opens_none
-        go (seats.by_worker w x stays) = (working e es legal w x).opens_none
-        go (seats.by_lead c x) = lead c x
+      none = grind arith
 
   pub all_opened : (es : List (Entry Op)) → Lawful es → AllWereOpened setup es
   all_opened es legal k begun of begins = begun_opened k begun (legal_start (those setup) begun es of legal) begins

@@ -123,4 +123,4 @@ module _ (setup : Setup) (known : Known) (read : SlotsAreRead) (es : List (Entry
       ap (λ (n : ℕ). now cell.Heap + n) (sym placing) ∙ (by_ghosts ∙ (ap (λ (n : ℕ). n + owed (λ d. d.cleared) s.due (seats_of setup.layout)) standing ∙ ap (λ (n : ℕ). placed (alloc_words now) (slot_row (page_words now)) (16 * setup.layout.pages) + n) taking))
 
   pub heap_bytes : HeapIsCounted setup es
-  heap_bytes = subst (λ (w : Words). w cell.Heap + to_count ≡ placed (alloc_words w) (slot_row (page_words w)) (16 * setup.layout.pages) + to_take) has.of_list.words_are by_words
+  heap_bytes = grind (arith, by_words)

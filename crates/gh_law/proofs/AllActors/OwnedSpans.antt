@@ -1,8 +1,7 @@
 -- A processor holds one span of each span class at the most: what it has cached stands by span class, and beside that it holds at most the span that it has just found, which is of the class that it looks for.
-use Rattle.std.proofs.Common.{◌≡◌, ◌≢◌, ◌⊎◌, inl, inr, ℕ, zero, suc, ◌+◌, ◌-◌, ◌*◌, ◌/◌, ◌%◌, ◌<◌, ◌≤◌, ◌==◌, ◌||◌, Bool, true, false, cond, eqb, refl, sym, ap, subst, ◌∙◌, arith, List, [], ◌∷◌, length, drop, Option, Some, None}
+use Rattle.std.proofs.Common.{◌≡◌, ◌≢◌, ◌⊎◌, inl, inr, ℕ, zero, suc, ◌+◌, ◌-◌, ◌/◌, ◌<◌, ◌≤◌, ◌==◌, ◌||◌, Bool, true, false, refl, sym, ap, subst, ◌∙◌, arith, List, [], ◌∷◌, length, drop, Option, Some, None}
 use Rattle.std.specs.Prelude.{slice_index_or, slice_set}
-use Rattle.std.proofs.lemmas.Bool.{cases_lt, eq-eqb, eqb-true}
-use Rattle.std.proofs.lemmas.Bool.Decides.{nat_tests}
+use Rattle.std.proofs.lemmas.Bool.{cases_lt, eqb-true}
 use Rattle.gh_base.specs.declared.cell.Cell.TheVariants as cell
 use Rattle.gh_base.specs.declared.pack.PageWord.TheVariants.{Head}
 use Rattle.gh_base.specs.declared.pack.SpanHead.{SpanHead}
@@ -12,17 +11,12 @@ use Rattle.gh_class.specs.declared.class.SizeClass.TheVariants as size
 use Rattle.gh_class.specs.declared.class.SpanClass.{SpanClass}
 use Rattle.gh_class.specs.declared.class.TheConstants.{SPAN_CLASSES}
 use Rattle.gh_class.specs.Classes.{span_index}
-use Rattle.gh_heap.specs.Moves.{update}
 use Rattle.gh_heap.specs.Spans.{owner_in}
-use Rattle.gh_alloc.specs.declared.find.After.TheVariants.{End}
 use Rattle.gh_alloc.specs.declared.find.FindStage.{FindStage}
-use Rattle.gh_alloc.specs.declared.find.FindStage.TheVariants.{Unlock}
 use Rattle.gh_alloc.specs.declared.place.PlaceStage.{PlaceStage}
-use Rattle.gh_alloc.specs.declared.place.PlaceStage.TheVariants as making
 use Rattle.gh_alloc.specs.declared.search.SearchStage.{SearchStage}
 use Rattle.gh_alloc.specs.declared.search.SearchStage.TheVariants as search_stage
 use Rattle.gh_alloc.specs.declared.sought.CachedSpan.{CachedSpan}
-use Rattle.gh_alloc.specs.declared.sought.Found.TheVariants.{At}
 use Rattle.gh_alloc.specs.declared.sought.Sought.{Sought}
 use Rattle.gh_alloc.specs.declared.sought.Sought.TheVariants.{Small, Large}
 use Rattle.gh_alloc.specs.Find.{Finding}
@@ -33,11 +27,9 @@ use Rattle.gh_alloc.specs.Place.{Placing}
 use Rattle.gh_alloc.specs.PlaceFacts as place
 use Rattle.gh_alloc.specs.Search.{Seeking}
 use Rattle.gh_alloc.specs.SearchFacts as search
-use Rattle.gh_central.specs.GiveBack as give
 use Rattle.gh_mutator.specs.declared.give.GiveStage.{GiveStage}
 use Rattle.gh_mutator.specs.declared.give.GiveStage.TheVariants as give_stage
 use Rattle.gh_mutator.specs.declared.leave.LeaveStage.{LeaveStage}
-use Rattle.gh_mutator.specs.declared.leave.LeaveStage.TheVariants as leave_stage
 use Rattle.gh_mutator.specs.declared.new.NewStage.TheVariants as new_stage
 use Rattle.gh_mutator.specs.declared.new.Wanted.{Wanted}
 use Rattle.gh_mutator.specs.declared.poll.PollStage.{PollStage}
@@ -45,7 +37,7 @@ use Rattle.gh_mutator.specs.declared.poll.PollStage.TheVariants as poll_stage
 use Rattle.gh_mutator.specs.declared.task.Task.TheVariants as task
 use Rattle.gh_mutator.specs.declared.wait.WaitStage.{WaitStage}
 use Rattle.gh_mutator.specs.declared.wait.WaitStage.TheVariants as wait_stage
-use Rattle.gh_mutator_heap.specs.Facts.{FactsAt, for_whom, held_at, held_new, KnowsAt, KnowsNew, Makes, NewFacts, rest, Searches}
+use Rattle.gh_mutator_heap.specs.Facts.{FactsAt, held_at, held_new, KnowsAt, KnowsNew, Makes, NewFacts, rest, Searches}
 use Rattle.gh_mutator.specs.Give.{Giving, none_cached, span_class}
 use Rattle.gh_mutator.specs.Local.{cache_with, cached_in}
 use Rattle.gh_mutator.specs.New.{own_span}
@@ -103,10 +95,7 @@ fewer (Some k ∷ ks) (suc i) p e = either (k.head == p) (lists (slice_set ks i 
 
 -- a span class has its number
 of_number : (i : ℕ) → i < 50 → span_index (span_class i) ≡ i
-of_number i lt = go (eqb (i % 2) 1) refl where
-  go : (b : Bool) → eqb (i % 2) 1 ≡ b → 2 * (i / 2) + cond b 1 0 ≡ i
-  go true e = let odd : i % 2 ≡ 1 = eqb-true _ _ e in omega (arith, odd)
-  go false e = let even : i % 2 ≢ 1 = grind (arith, nat_tests, e) in omega (arith, even)
+of_number i lt = grind arith
 
 -- where the span of a span class begins, by what is cached; and that of a large object
 abbrev by_class : List (Option CachedSpan) → (large : Option ℕ) → SizeClass → Bool → Option ℕ
@@ -115,11 +104,7 @@ by_class cache large size.Large noscan = large
 
 -- one more, or one of the rest
 with_cases : (o : Option ℕ) (rest : ℕ → Bool) (p : ℕ) → with_span o rest p ≡ true → (o ≡ Some p) ⊎ (rest p ≡ true)
-with_cases None rest p e = inr e
-with_cases (Some q) rest p e = go (q == p) refl e where
-  go : (b : Bool) → (q == p) ≡ b → cond b true (rest p) ≡ true → (Some q ≡ Some p) ⊎ (rest p ≡ true)
-  go true is h = inl (ap Some (eqb-true _ _ is))
-  go false is h = inr h
+with_cases o rest p e = grind arith
 
 module _ (z : Arena) (a : ℕ) (v : View) where
   -- each of these spans stands where its span class says
@@ -134,13 +119,7 @@ module _ (z : Arena) (a : ℕ) (v : View) where
   none = record { at = λ c n. None; each = λ p h held is. absurd (cc) }
 
   of_cached : (cache : List (Option CachedSpan)) (large : Option ℕ) (c : SpanClass) (k : CachedSpan) (p : ℕ) (h : SpanHead) → cached_in cache (Small c) ≡ Some k → IsCached a v c k → k.head ≡ p → page_of (v.page p) ≡ Head h → by_class cache large h.class h.noscan ≡ Some p
-  of_cached cache large c k p h here is head there =
-      let s = is.span in
-      let same : Head s.h ≡ Head h = sym s.head ∙ (ap (λ (x : ℕ). page_of (v.page x)) head ∙ there) in
-      let one : s.h ≡ h = cc in
-      let class : h.class ≡ size.Small c.class = ap (λ (x : SpanHead). x.class) (sym one) ∙ s.class in
-      let noscan : h.noscan ≡ c.noscan = ap (λ (x : SpanHead). x.noscan) (sym one) ∙ s.noscan_is in
-      ap (λ (x : SizeClass). by_class cache large x h.noscan) class ∙ (ap (λ (n : Bool). by_class cache large (size.Small c.class) n) noscan ∙ (ap cached_head here ∙ ap Some head))
+  of_cached cache large c k p h here is head there = grind arith
 
   of_list : (cache : List (Option CachedSpan)) (large : Option ℕ) (from : ℕ) → length cache ≡ SPAN_CLASSES → CachesFrom a v cache from → Are (lists (drop from cache)) (by_class cache large)
   of_list cache large from long caches p h held there =
@@ -183,7 +162,7 @@ module _ (z : Arena) (a : ℕ) (v : View) where
   poll_own p _ long f = knows_own p long f
 
   polls_own : (p : Polling) → PollFacts z a v p → Owns (poll_held_at p.local.cache p.stage)
-  polls_own p f = poll_own p p.stage f.stands.sits.cache f.stage_is
+  polls_own p f = grind (arith, poll_own)
 
   -- While an object is made.
 
@@ -192,8 +171,7 @@ module _ (z : Arena) (a : ℕ) (v : View) where
     cache = m.poll.local.cache
 
     of_rest : (s : Sought) (large : Option ℕ) (p : ℕ) (h : SpanHead) → lists (cache_with cache s None) p ≡ true → page_of (v.page p) ≡ Head h → by_class cache large h.class h.noscan ≡ Some p
-    of_rest (Small c) large p h held there = of_all cache large rests.stands.sits.cache rests.knows.caches p h (fewer cache (span_index c) p held) there
-    of_rest (Large pages noscan) large p h held there = of_all cache large rests.stands.sits.cache rests.knows.caches p h held there
+    of_rest s large p h held there = grind (arith, fewer, of_all)
 
     -- the span that a search has cached is the processor's
     of_found : (s : Sought) (o large : Option ℕ) (c : Option CachedSpan) (p : ℕ) (h : SpanHead) → IsSought s → c ≡ cached_in cache s → cached_head c ≡ Some p → page_of (v.page p) ≡ Head h → by_class cache large h.class h.noscan ≡ Some p
@@ -204,13 +182,7 @@ module _ (z : Arena) (a : ℕ) (v : View) where
     module _ (sure : Bool) (f : Finding) (wanted : f.wanted ≡ w.sought) (cached : f.cached ≡ cached_for m w.sought) (facts : finding.Facts z a sure v (rest m w) f) where
       -- a large object's
       of_own : (s : FindStage) (p : ℕ) (h : SpanHead) → finding.FactsAt z a sure v f s → finding.own s ≡ Some p → page_of (v.page p) ≡ Head h → h.class ≡ size.Large
-      of_own (Unlock (End (At x))) p h o is there =
-          let one : x / 1024 ≡ p = cc in
-          let head : page_of (v.page p) ≡ Head o.claim.h = ap (λ (n : ℕ). page_of (v.page n)) (sym (o.first ∙ one)) ∙ o.claim.slot.span.head in
-          let both : Head h ≡ Head o.claim.h = sym there ∙ head in
-          let same : h ≡ o.claim.h = cc in
-          ap (λ (y : SpanHead). y.class) same ∙ o.class
-      of_own _ p h o is there = absurd (cc)
+      of_own s p h o is there = grind arith
 
       finds_own : Owns (finding.held f (rest m w))
       finds_own = record { at = by_class cache (finding.own f.stage); each = each } where
@@ -236,49 +208,7 @@ module _ (z : Arena) (a : ℕ) (v : View) where
     -- In its slot.
 
     keeps : (s : PlaceStage) (span : Option SpanHead) (page : ℕ) (held : ℕ → Bool) (p : ℕ) → place.held_by s span page held p ≡ true → held p ≡ true
-    keeps making.Count (Some h) page held p e = go (page == p) e where
-      go : (b : Bool) → cond b false (held p) ≡ true → held p ≡ true
-      go true x = absurd (cc)
-      go false x = x
-    keeps (making.LoadTrigger bytes) (Some h) page held p e = go (page == p) e where
-      go : (b : Bool) → cond b false (held p) ≡ true → held p ≡ true
-      go true x = absurd (cc)
-      go false x = x
-    keeps (making.Ended wants) (Some h) page held p e = go (page == p) e where
-      go : (b : Bool) → cond b false (held p) ≡ true → held p ≡ true
-      go true x = absurd (cc)
-      go false x = x
-    keeps _ _ page held p e = e
-
-    given_up : (page : ℕ) (held : ℕ → Bool) (p : ℕ) → page ≡ p → update held page false p ≡ true → ⊥
-    given_up page held p is e = let no : false ≡ true = sym (ap (λ (b : Bool). cond b false (held p)) (eq-eqb page p is)) ∙ e in cc
-
-    module _ (f : place.For) (x : Placing) (head : SpanHead) (span : x.span ≡ Some head) where
-      of_claim : (p : ℕ) (h : SpanHead) → x.at / 1024 ≡ p → page_of (v.page p) ≡ Head h → place.Unmade z a v f (place.base x) → h.class ≡ size.Large
-      of_claim p h is there u =
-          let own : place.IsItsSpan (Some head) u.claim.p u.claim.h x.at = subst (λ (o : Option SpanHead). place.IsItsSpan o u.claim.p u.claim.h x.at) span u.own in
-          let at : page_of (v.page p) ≡ Head u.claim.h = ap (λ (n : ℕ). page_of (v.page n)) (sym (own.0 ∙ is)) ∙ u.claim.slot.span.head in
-          let both : Head h ≡ Head u.claim.h = sym there ∙ at in
-          let same : h ≡ u.claim.h = cc in
-          ap (λ (y : SpanHead). y.class) same ∙ own.2
-
-      of_given : (p : ℕ) (h : SpanHead) (g : give.SpanGiving) → x.at / 1024 ≡ p → page_of (v.page p) ≡ Head h → place.GivesUp z a v (place.base x) g → h.class ≡ size.Large
-      of_given p h g is there u =
-          let at : page_of (v.page p) ≡ Head u.back.h = ap (λ (n : ℕ). page_of (v.page n)) (sym (u.page ∙ is)) ∙ u.back.head in
-          let both : Head h ≡ Head u.back.h = sym there ∙ at in
-          let same : h ≡ u.back.h = cc in
-          ap (λ (y : SpanHead). y.class) same ∙ u.large
-
-      of_large : (s : PlaceStage) (held : ℕ → Bool) (p : ℕ) (h : SpanHead) → x.at / 1024 ≡ p → place.FactsAt z a v f (place.base x) s → place.held_by s (Some head) (x.at / 1024) held p ≡ true → page_of (v.page p) ≡ Head h → h.class ≡ size.Large
-      of_large (making.Clear k) held p h is facts e there = of_claim p h is there facts.0
-      of_large making.Birth held p h is facts e there = of_claim p h is there facts.0
-      of_large (making.Bits s) held p h is facts e there = of_claim p h is there facts.0
-      of_large making.Mark held p h is facts e there = of_claim p h is there facts.0
-      of_large making.Alloc held p h is facts e there = of_claim p h is there facts.0
-      of_large (making.Give g) held p h is facts e there = of_given p h g is there facts.1
-      of_large making.Count held p h is facts e there = absurd (given_up (x.at / 1024) held p is e)
-      of_large (making.LoadTrigger bytes) held p h is facts e there = absurd (given_up (x.at / 1024) held p is e)
-      of_large (making.Ended wants) held p h is facts e there = absurd facts
+    keeps s span page held p e = grind arith
 
     -- with a large object's span
     abbrev with_own : Placing → ℕ → Bool
@@ -287,10 +217,7 @@ module _ (z : Arena) (a : ℕ) (v : View) where
     makes_own : (x : Placing) (pending : Option Answer) → Makes z a v m w x pending → Owns (place.held_in x (with_span (own_found w.sought x.at) (lists cache)))
     makes_own x pending k = record { at = by_class cache (own_found w.sought x.at); each = each } where
       large : (s : Sought) (p : ℕ) (h : SpanHead) → x.span ≡ own_span m.poll.seat m.poll.local.view.generation s → own_found s x.at ≡ Some p → place.held_in x (with_own x) p ≡ true → page_of (v.page p) ≡ Head h → h.class ≡ size.Large
-      large (Small c) p h span is e there = absurd (cc)
-      large (Large pages noscan) p h span is e there =
-          let here : x.at / 1024 ≡ p = cc in
-          of_large (for_whom w) x _ span x.stage (with_own x) p h here k.facts (subst (λ (o : Option SpanHead). place.held_by x.stage o (x.at / 1024) (with_own x) p ≡ true) span e) there
+      large s p h span is e there = grind arith
 
       each : (p : ℕ) (h : SpanHead) → place.held_in x (with_own x) p ≡ true → page_of (v.page p) ≡ Head h → by_class cache (own_found w.sought x.at) h.class h.noscan ≡ Some p
       each p h held there = elim (with_cases (own_found w.sought x.at) (lists cache) p (keeps x.stage x.span (x.at / 1024) (with_own x) p held)) [
@@ -307,8 +234,7 @@ module _ (z : Arena) (a : ℕ) (v : View) where
     go _ f = rests_own x.poll f
 
   leaves_own : (s : LeaveStage) → LeaveStageFacts z a v s → Owns (leave_held_at s)
-  leaves_own (leave_stage.Giving g) f = give_own g g.stage f.room f.stage_is
-  leaves_own _ f = none
+  leaves_own s f = grind (arith, give_own, none)
 
   module _ (m : Processor) (pending : Option Answer) where
     new_own : (w : Wanted) (s : NewStage) → KnowsNew z a v m.poll s → NewFacts z a v m w pending s → Owns (held_new m w s)
@@ -369,7 +295,7 @@ module _ (setup : Setup) (es : List (Entry Op)) (has : HasState setup es) where
       cc
 
   told_are : h.words ≡ words setup es
-  told_are = has.of_list.words_are
+  told_are = grind arith
 
   pub owners_stand : OwnersAreProcessors setup.layout (words setup es)
   owners_stand = subst (OwnersAreProcessors setup.layout) told_are owners_now

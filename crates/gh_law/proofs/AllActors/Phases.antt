@@ -1,47 +1,24 @@
 -- What the handshake of a stop says of phases, by the actors at their seats; and that nobody marks while no cycle is marked: processors and workers are calm then, and the coordinator sets no mark and writes no buffer.
 use Rattle.std.proofs.Common.{◌≡◌, ◌≢◌, ◌⊎◌, inl, inr, ℕ, ◌+◌, ◌<◌, true, false, refl, sym, ap, subst, ◌∙◌, arith, List, [], ◌∷◌, ◌++◌, Option, Some, None}
 use Rattle.std.proofs.lemmas.Bool.Decides.{nat_tests}
-use Rattle.gh_base.specs.declared.cell.Ask.TheVariants as ask
 use Rattle.gh_base.specs.declared.cell.Cell.TheVariants as cell
 use Rattle.gh_phase.specs.declared.view.RunPhase.TheVariants.{Finished}
-use Rattle.gh_sweep.specs.declared.sweep.SweepStage.TheVariants as sweep_stage
 use Rattle.gh_sweep.specs.Listing as sweep
 use Rattle.gh_sweep.specs.Listing.{Sweeping}
 use Rattle.gh_coord.specs.declared.close.CloseStage.TheVariants as close_stage
-use Rattle.gh_coord.specs.declared.count.CountStage.TheVariants as count_stage
-use Rattle.gh_coord.specs.declared.open.OpenStage.TheVariants as open_stage
-use Rattle.gh_coord.specs.declared.stop.StopStage.TheVariants as stop_stage
-use Rattle.gh_coord.specs.declared.sweep_all.SweepAllStage.TheVariants as all_stage
 use Rattle.gh_coord.specs.declared.tell.TellStage.TheVariants as tell_stage
-use Rattle.gh_coord.specs.declared.watch.WatchStage.TheVariants as watch_stage
 use Rattle.gh_coord.specs.Closing as close
-use Rattle.gh_coord.specs.Counting as count
 use Rattle.gh_coord.specs.Handshake as leading
-use Rattle.gh_coord.specs.Opening as open_
-use Rattle.gh_coord.specs.Stopping as stop
-use Rattle.gh_coord.specs.SweepingAll as all
-use Rattle.gh_coord.specs.Telling as tell
-use Rattle.gh_coord.specs.Watching as watch
-use Rattle.gh_mutator.specs.declared.leave.LeaveStage.TheVariants as leave_stage
-use Rattle.gh_mutator.specs.declared.new.NewStage.TheVariants as new_stage
-use Rattle.gh_mutator.specs.declared.poll.PollStage.TheVariants as poll_stage
-use Rattle.gh_mutator.specs.declared.task.Task.TheVariants as task
-use Rattle.gh_mutator.specs.declared.wait.Wait.{Wait}
-use Rattle.gh_mutator.specs.declared.wait.WaitStage.TheVariants as wait_stage
 use Rattle.gh_mutator_writes.specs.Calm.{IsWrittenCalmly}
-use Rattle.gh_mutator_heap.specs.Facts.{FactsAt, NewFacts}
-use Rattle.gh_mutator.specs.Give.{none_cached}
-use Rattle.gh_mutator.specs.ProcessorPlaces.{SoundNewAt}
+use Rattle.gh_mutator_heap.specs.Facts.{FactsAt}
 use Rattle.gh_mutator.specs.Sweeping.{sweep_in}
-use Rattle.gh_mutator.specs.Handshake.{polls_at, PollsOn, PollsSoundAt, waits_at, WaitsSoundAt}
-use Rattle.gh_worker.specs.declared.worker.WorkerStage.TheVariants as worker_stage
 use Rattle.gh_worker.specs.Handshake as working
 use Rattle.gh_worker.specs.Writing.{AcksAlone}
 use Rattle.gh_lists.specs.declared.handshake.Actor.TheVariants as actor
 use Rattle.gh_lists.specs.Handshake as handshake
 use Rattle.gh_law.specs.Phases.{EndsInOrder, FindsTheStop, IsMarkingStep, IsStopped, MarksInPhase, PhasesAreKnown, PhasesStand, StandsEmpty, StandsStill}
 use Rattle.gh_holds.specs.Below.{calm_now, IsInSweep, ListsKnown, sweep_of}
-use Rattle.gh_law.proofs.Vocabulary.{answers_of, given_of, opening_words, View, acks_of, Actor, actors_after, Answer, Arena, arena, Ask, asks_at, Begins, Check, Close, CloseStage, Coordinating, CoordStage, Count, CountStage, Done, Entry, HasState, Holds, HoldsAt, is_busy, is_busy_at, is_some, IsClosing, IsLed, IsQuiet, IsStartOf, IsTelling, KeepsIt, Kind, last_phase, leaves_at, LeaveStage, Legal, LoadAck, LoadWant, MarkOn, MarksNothing, new_polls, new_stage_at, NewStage, NobodyMarks, only_polls, Op, Open, OpenStage, option_to_list, place_of, Polling, PollStage, Processor, processor_at, processor_kind, Resumes, ResumeStage, SoundAt, SoundPlace, stage_at, stage_of, started, Stop, StopAgain, StopStage, Sweep, SweepAllStage, SweepStage, Task, Tell, TellStage, those, view, waiting, WaitStage, Watch, WatchStage, words, Words, Working, WorkerStage, WritesOf}
+use Rattle.gh_law.proofs.Vocabulary.{answers_of, given_of, opening_words, View, acks_of, Actor, actors_after, Answer, Arena, arena, Ask, asks_at, Begins, Check, Close, CloseStage, Coordinating, CoordStage, Count, Done, Entry, HasState, Holds, HoldsAt, is_busy_at, IsClosing, IsLed, IsQuiet, IsStartOf, IsTelling, KeepsIt, Kind, last_phase, Legal, LoadAck, LoadWant, MarkOn, MarksNothing, NobodyMarks, only_polls, Op, Open, option_to_list, place_of, Processor, processor_at, processor_kind, Resumes, ResumeStage, SoundPlace, stage_of, started, Stop, StopAgain, Sweep, SweepStage, Task, Tell, TellStage, those, view, Watch, words, Words, Working, WorkerStage, WritesOf}
 use Rattle.gh_lists.specs.Going.{ClosingIsBusy, goes_then}
 use Rattle.gh_lists.specs.Sweeping.{idle_sweeps_none, asks_by_sweep}
 use Rattle.gh_lists.specs.Resting.{run_is}
@@ -52,139 +29,31 @@ use Rattle.gh_lists.specs.Handshake.{Setup}
 
 -- Who goes on after a stop stands empty.
 
-polls_empty : (p : Polling) (s : PollStage) (stops : ℕ) (stage : ResumeStage) → polls_at p s ≡ Resumes stops stage → PollsSoundAt p s → (p.local.cache ≡ none_cached) × (p.local.held ≡ None)
-polls_empty p (poll_stage.Resuming r) stops stage is sound = (sound.no_span, sound.no_buffer)
-polls_empty p _ stops stage is sound = absurd (cc)
-
-poll_empty : (p : Polling) (stops : ℕ) (stage : ResumeStage) → polls_at p p.stage ≡ Resumes stops stage → PollsOn p → (p.local.cache ≡ none_cached) × (p.local.held ≡ None)
-poll_empty p stops stage is on = polls_empty p p.stage stops stage is on.sound.1
-
-wait_empty : (w : Wait) (p : Polling) (s : WaitStage) (stops : ℕ) (stage : ResumeStage) → waits_at (waiting w p) s ≡ Resumes stops stage → WaitsSoundAt (waiting w p) s → (p.local.cache ≡ none_cached) × (p.local.held ≡ None)
-wait_empty w p wait_stage.Polling stops stage is sound = poll_empty p stops stage is sound
-wait_empty w p _ stops stage is sound = absurd (cc)
-
-leave_awake : (s : LeaveStage) (stops : ℕ) (stage : ResumeStage) → leaves_at s ≡ Resumes stops stage → ⊥
-leave_awake (leave_stage.Giving g) stops stage is = cc
-leave_awake leave_stage.Leave stops stage is = cc
-leave_awake leave_stage.Left stops stage is = cc
-
-task_empty : (p : Polling) (t : Task) (stops : ℕ) (stage : ResumeStage) → stage_at p t ≡ Resumes stops stage → SoundAt p t → (only_polls t ≡ true) × (p.local.cache ≡ none_cached) × (p.local.held ≡ None)
-task_empty p (task.New x) stops stage is sound = by_stage x.stage is sound where
-  by_stage : (q : NewStage) → new_stage_at p q ≡ Resumes stops stage → SoundNewAt p q → (new_polls q ≡ true) × (p.local.cache ≡ none_cached) × (p.local.held ≡ None)
-  by_stage (new_stage.Wait w) y on = let x = wait_empty w p w.stage stops stage y on.0.1 in (refl, x.0, x.1)
-  by_stage _ y on = absurd (cc)
-task_empty p (task.Gc g x) stops stage is sound = let y = wait_empty x p x.stage stops stage is sound.0.1 in (refl, y.0, y.1)
-task_empty p task.Poll stops stage is sound = let y = poll_empty p stops stage is sound in (refl, y.0, y.1)
-task_empty p (task.Leave x) stops stage is sound = absurd (leave_awake x.stage stops stage is)
-task_empty p _ stops stage is sound = absurd (cc)
-
 stands_empty : (m : Processor) (stops : ℕ) (stage : ResumeStage) → stage_of m ≡ Resumes stops stage → SoundPlace m → StandsEmpty m
-stands_empty m stops stage is sound = let x = task_empty m.poll m.task stops stage is sound.1 in record { waits = x.0; no_span = x.1; no_buffer = x.2 }
+stands_empty m stops stage is sound = grind arith
 
 -- and nothing is pending of it
 none_pending : (z : Arena) (a : ℕ) (v : View) (m : Processor) (pending : Option Answer) (t : Task) → only_polls t ≡ true → FactsAt z a v m pending t → pending ≡ None
-none_pending z a v m pending (task.New x) polls is = by_stage x.stage polls is where
-  by_stage : (q : NewStage) → new_polls q ≡ true → NewFacts z a v m x.wanted pending q → pending ≡ None
-  by_stage (new_stage.Wait w) y facts = facts.1
-  by_stage _ y facts = absurd (cc)
-none_pending z a v m pending (task.Gc g x) polls is = is
-none_pending z a v m pending task.Poll polls is = is
-none_pending z a v m pending (task.Leave x) polls is = is
-none_pending z a v m pending _ polls is = absurd (cc)
+none_pending z a v m pending t polls is = grind arith
 
 worker_empty : (w : Working) (s : WorkerStage) (stops : ℕ) (stage : ResumeStage) → working.stands_at s ≡ Resumes stops stage → working.SoundAt w s → w.held ≡ None
-worker_empty w (worker_stage.Resuming r) stops stage is sound = sound.none
-worker_empty w _ stops stage is sound = absurd (cc)
+worker_empty w s stops stage is sound = grind arith
 
 -- Who is calm makes no step that marks.
 
 calm_none : (m : Processor) → sweep_in m ≡ None → (q : Ask) → WritesOf (IsWrittenCalmly m) q → IsMarkingStep q → ⊥
-calm_none m none (ask.Or (cell.Mark i) bits) w x = let no : false ≡ true = sym (ap (λ (y : Option Sweeping). is_some y) none) ∙ w in absurd (cc)
-calm_none m none (ask.Store (cell.Buffer b) value) w x = w
-calm_none m none (ask.Swap (cell.Buffer b) old new) w x = w
-calm_none m none (ask.Store (cell.Entry b j) value) w x = w
-calm_none m none _ w x = x
+calm_none m none q w x = grind arith
 
 rest_none : (seat : ℕ) (q : Ask) → AcksAlone seat q → IsMarkingStep q → ⊥
-rest_none seat (ask.Or (cell.Mark i) bits) w x = w
-rest_none seat (ask.Store (cell.Buffer b) value) w x = w
-rest_none seat (ask.Swap (cell.Buffer b) old new) w x = w
-rest_none seat (ask.Store (cell.Entry b j) value) w x = w
-rest_none seat _ w x = x
+rest_none seat q w x = grind arith
 
 -- Nor does the coordinator.
 
-stop_none : (st : stop.Stopping) (p : StopStage) → IsMarkingStep (stop.asks_at st p) → ⊥
-stop_none st stop_stage.StorePhase x = x
-stop_none st (stop_stage.Await i) x = x
-stop_none st stop_stage.Ended x = x
-
-open_none : (o : open_.CycleOpening) (p : OpenStage) → IsMarkingStep (open_.asks_at o p) → ⊥
-open_none o open_stage.ClearWant x = x
-open_none o open_stage.ClearGcur x = x
-open_none o open_stage.ClearTally x = x
-open_none o open_stage.ClearLive x = x
-open_none o open_stage.StoreTrigger x = x
-open_none o open_stage.LoadHeap x = x
-open_none o open_stage.StoreWork x = x
-open_none o open_stage.StoreSlack x = x
-open_none o open_stage.StoreBegun x = x
-open_none o open_stage.StorePhase x = x
-open_none o open_stage.Ended x = x
-
-watch_none : (v : watch.Watching) (p : WatchStage) → IsMarkingStep (watch.asks_at v p) → ⊥
-watch_none v (watch_stage.Look i) x = x
-watch_none v (watch_stage.Ended y) x = x
-
-close_none : (c : close.Closing) (p : CloseStage) → IsMarkingStep (close.asks_at c p) → ⊥
-close_none c close_stage.LoadBank x = x
-close_none c close_stage.ClearBank x = x
-close_none c close_stage.StoreGen x = x
-close_none c close_stage.StorePhase x = x
-close_none c close_stage.Ended x = x
-
 span_none : (m : sweep.Sweeping) (p : SweepStage) → IsMarkingStep (sweep.asks_at m p) → ⊥
-span_none m sweep_stage.Begin x = x
-span_none m (sweep_stage.LoadMarks i) x = x
-span_none m (sweep_stage.ClearBits i marks) x = x
-span_none m (sweep_stage.ClearMarks i) x = x
-span_none m sweep_stage.AddTally x = x
-span_none m sweep_stage.AddLive x = x
-span_none m sweep_stage.AddHeap x = x
-span_none m sweep_stage.Finish x = x
-span_none m (sweep_stage.Ended end) x = x
-
-all_none : (v : all.SweepingAll) (p : SweepAllStage) → IsMarkingStep (all.asks_at v p) → ⊥
-all_none v (all_stage.LoadPage i) x = x
-all_none v (all_stage.Sweep i m) x = span_none m m.stage x
-all_none v (all_stage.Await i) x = x
-all_none v all_stage.Ended x = x
-
-count_none : (p : CountStage) → IsMarkingStep (count.asks_at p) → ⊥
-count_none count_stage.LoadTally x = x
-count_none (count_stage.LoadLive t) x = x
-count_none (count_stage.Ended y) x = x
-
-tell_none : (t : tell.Telling) (p : TellStage) → IsMarkingStep (tell.asks_at t p) → ⊥
-tell_none t tell_stage.StoreTrigger x = x
-tell_none t tell_stage.StoreSwept x = x
-tell_none t tell_stage.StorePhase x = x
-tell_none t tell_stage.Ended x = x
+span_none m p x = grind arith
 
 lead_none : (c : Coordinating) (p : CoordStage) → IsMarkingStep (asks_at c p) → ⊥
-lead_none c (LoadAck i) x = x
-lead_none c LoadWant x = x
-lead_none c (Stop st) x = stop_none st st.stage x
-lead_none c (Open o) x = open_none o o.stage x
-lead_none c (Watch v) x = watch_none v v.stage x
-lead_none c (StopAgain st) x = stop_none st st.stage x
-lead_none c (Check v) x = watch_none v v.stage x
-lead_none c MarkOn x = x
-lead_none c (Close y) x = close_none y y.stage x
-lead_none c (Sweep v) x = all_none v v.stage x
-lead_none c (Count y) x = count_none y.stage x
-lead_none c (Tell t) x = tell_none t t.stage x
-lead_none c Done x = x
+lead_none c p x = grind arith
 
 module _ (setup : Setup) (lists : ListsKnown setup) where
   abbrev z : Arena
@@ -250,8 +119,7 @@ module _ (setup : Setup) (lists : ListsKnown setup) where
   module _ (e : Entry Op) (es : List (Entry Op)) (legal : Lawful (e ∷ es)) (c : Coordinating) (led : Led es c) where
     module _ (has : HasState setup es) where
       idle : (m : Processor) → at es e.actor ≡ actor.Runs m → (o : Option Op) → Begins (those setup) e.actor es o → (p : Op) → o ≡ Some p → is_busy_at m.task ≡ false
-      idle m is None b p same = absurd (cc)
-      idle m is (Some o) b p same = sym (ap is_busy is) ∙ b.0
+      idle m is o b p same = grind arith
 
       -- what a processor sweeps, before it begins an operation and then
       sweeps_before : (m : Processor) → seats.RunsIt setup e es m → IsInSweep e.actor has.state (sweep_in m)

@@ -1,10 +1,10 @@
 -- What every list says, by what holds after it: outside of marking by the coordinator's stage, and while a cycle is marked by what is known of the heap.
-use Rattle.std.proofs.Common.{◌≡◌, ℕ, sym, ap, ◌∙◌, List}
+use Rattle.std.proofs.Common.{◌≡◌, ℕ, sym, ap, ◌∙◌, List, arith}
 use Rattle.gh_base.specs.declared.cell.Cell.{Cell}
 use Rattle.gh_base.specs.declared.cell.Cell.TheVariants as cell
 use Rattle.gh_base.specs.Cells.{Words}
 use Rattle.gh_coord.specs.declared.coord.CoordStage.{CoordStage}
-use Rattle.gh_coord.specs.declared.coord.CoordStage.TheVariants.{Check, Close, Count, Done, LoadAck, LoadWant, MarkOn, Open, Stop, StopAgain, Sweep, Tell, Watch}
+use Rattle.gh_coord.specs.declared.coord.CoordStage.TheVariants.{Done, Tell}
 use Rattle.gh_coord.specs.declared.tell.TellStage.{TellStage}
 use Rattle.gh_coord.specs.declared.tell.TellStage.TheVariants as telling
 use Rattle.gh_law.specs.Actors.{AllStands, AllWereOpened, Awaits, StepsWithin}
@@ -79,23 +79,10 @@ module _ (setup : Setup) (es : List (Entry Op)) (lists : ListsKnown setup) (now 
     live_said : (p : CoordStage) → HoldsAt setup es c p → IsTold setup p → words setup es cell.Live ≡ c.live
     live_said (Tell t) h told = live_told t.stage h
     live_said Done h told = live_so h
-    live_said (LoadAck i) h told = absurd told
-    live_said LoadWant h told = absurd told
-    live_said (Stop st) h told = absurd told
-    live_said (Open o) h told = absurd told
-    live_said (Watch w) h told = absurd told
-    live_said (StopAgain st) h told = absurd told
-    live_said (Check w) h told = absurd told
-    live_said MarkOn h told = absurd told
-    live_said (Close y) h told = absurd told
-    live_said (Sweep w) h told = absurd told
-    live_said (Count y) h told = absurd told
+    live_said _ h told = absurd told
 
     said : CountsAreSaid setup es c
-    said = record {
-      cleared = λ on. let k = (now.marking c led on).known in (cleared k.has cell.Tally k.counts.0, cleared k.has cell.Live k.counts.1);
-      live = live_said c.stage (now.holds c led).at;
-    }
+    said = grind (arith, cleared, live_said)
 
   pub all_stands : (c : Coordinating) → IsLed setup es c → Shown setup es → AllStands setup es
   all_stands c led shown = record {

@@ -6,18 +6,14 @@ use Rattle.gh_coord.specs.Handshake as leading
 use Rattle.gh_coord.specs.Listing as coord
 use Rattle.gh_mutator_heap.specs.PollHeap.{Sits}
 use Rattle.gh_mutator_writes.specs.Writing.{EndsStack, StaysThere}
-use Rattle.gh_sweep.specs.declared.sweep.SweepStage.TheVariants as sweep_stage
-use Rattle.gh_sweep.specs.Listing as sweep
-use Rattle.gh_sweep.specs.Listing.{Sweeping}
 use Rattle.gh_worker.specs.Listing as worker
 use Rattle.gh_lists.specs.Marking.{IsStartOf}
 use Rattle.gh_law.specs.Scans.{ScansIn, ScansOnce}
-use Rattle.gh_law.proofs.Vocabulary.{acts, Arena, arena, Ask, asks, Coordinating, deeds, effect, END, Entry, Ever, ever, HasState, Heap, IsAsItShould, IsAwake, IsLed, IsWritten, Kind, Layout, Legal, nat_tests, Op, Party, party_of, Processor, processor_at, processor_kind, stage_of, started, Store, SweepStage, takes, TellsScan, those, view, Words, words, WritesItsOwn, WritesOf}
+use Rattle.gh_law.proofs.Vocabulary.{acts, Arena, arena, Ask, asks, Coordinating, deeds, effect, END, Entry, Ever, ever, HasState, Heap, IsAsItShould, IsAwake, IsLed, IsWritten, Kind, Legal, nat_tests, Op, Party, party_of, Processor, processor_at, processor_kind, stage_of, started, Store, takes, TellsScan, those, view, Words, words, WritesOf}
 use Rattle.gh_phase.specs.declared.view.View.{View}
 use Rattle.gh_holds.specs.Below.{acted_stays, ListsKnown}
 use Rattle.gh_lists.specs.Resting.{run_is}
 use Rattle.gh_lists.specs.Starts.{legal_start}
-use Rattle.gh_lists.specs.Sweeping.{asks_by_sweep}
 use Rattle.gh_lists.specs.Steps as seats
 use Rattle.gh_lists.specs.Awake.{knows_begun, was_awake}
 use Rattle.gh_lists.specs.Aside.{aside as lead_aside}
@@ -60,17 +56,8 @@ module _ (setup : Setup) (lists : ListsKnown setup) (has : (es : List (Entry Op)
       runs : seats.RunsIt setup e es m
       tells : TellsScan (started kind e.begun m) g
 
-    -- no worker writes the word, nor does a sweep, and the coordinator leaves it, whatever the words are
-    sweeps_no_stack : (sw : Sweeping) (p : SweepStage) → sweep.asks_at sw p ≡ Store (cell.Scanned g) k → ⊥
-    sweeps_no_stack sw (sweep_stage.ClearMarks i) is = cc
-    sweeps_no_stack sw sweep_stage.Finish is = cc
-    sweeps_no_stack sw _ is = cc
-
     no_worker : (w : worker.Working) → seats.WorksIt setup e es w → ⊥
-    no_worker w x = elim (asks_by_sweep w w.stage) [
-      | inl none ↦ subst (λ (q : Ask). WritesItsOwn w.seat q) (sym x.asked ∙ scans.0) (lists.known.workers_write w x.sound_it none x.busy)
-      | inr y ↦ sweeps_no_stack y.0 y.0.stage (sym y.1 ∙ (sym x.asked ∙ scans.0))
-    ]
+    no_worker w x = grind arith
 
     abbrev others : Words
     others c = suc k
@@ -109,7 +96,7 @@ module _ (setup : Setup) (lists : ListsKnown setup) (has : (es : List (Entry Op)
     asked = sym runs.asked ∙ scans.0
 
     number : k ≡ now.poll.local.view.begun
-    number = let same : Store (cell.Scanned g) k ≡ Store (cell.Scanned g) now.poll.local.view.begun = sym asked ∙ tells.tells in cc
+    number = grind (arith, asked, tells)
 
     -- it is awake, and knows the cycle that has begun last, and that it is marked
     awake : IsAwake (stage_of now)
@@ -151,16 +138,16 @@ module _ (setup : Setup) (lists : ListsKnown setup) (has : (es : List (Entry Op)
     notes_stay (Some o) = lists.known.notes.begins setup.shapes setup.layout m o runs.sound_it
 
     layout_is : now.poll.layout ≡ setup.layout
-    layout_is = (there e.begun).layout ∙ sits.layout
+    layout_is = grind (arith, sits, there)
 
     pub by_its_own : g % setup.layout.procs ≡ e.actor
-    by_its_own = ap (λ (y : Layout). g % y.procs) (sym layout_is) ∙ (tells.own ∙ ((there e.begun).seat ∙ sits.seat))
+    by_its_own = grind (arith, layout_is, sits, tells, there)
 
     is_there : g < setup.layout.goroutines
-    is_there = subst (λ (y : Layout). g < y.goroutines) layout_is tells.there
+    is_there = grind arith
 
     note : slice_index now.poll.local.scanned g ≡ told es (cell.Scanned g)
-    note = ap (λ (xs : List ℕ). slice_index xs g) (notes_stay e.begun ∙ ap (λ (p : Processor). p.poll.local.scanned) (sym same)) ∙ (it_is.notes g (is_there, by_its_own) ∙ ap (λ (w : Words). w (cell.Scanned g)) (has es legal.0).of_list.words_are)
+    note = grind (arith, by_its_own, is_there, it_is, notes_stay, same)
 
     other_noted : told es (cell.Scanned g) ≢ k
     other_noted is = tells.unscanned (λ x. scans.1 (number ∙ x)) (note ∙ (is ∙ number))

@@ -6,10 +6,9 @@ use Rattle.std.specs.Int.{bit_at}
 use Rattle.gh_base.specs.declared.cell.Cell.TheVariants as cell
 use Rattle.gh_base.specs.declared.pack.SpanHead.{SpanHead}
 use Rattle.gh_heap.specs.Spans.{owner_in}
-use Rattle.gh_sweep.specs.declared.sweep.SweepStage.TheVariants as sweep_stage
 use Rattle.gh_sweep.specs.Listing.{bit_words, Sweeping}
 use Rattle.gh_sweep.specs.Moves.{Sweeps}
-use Rattle.gh_sweep.specs.Shared.{By, Done, Far, InSpan, IsNumbered, SaysFar, Unswept}
+use Rattle.gh_sweep.specs.Shared.{Done, Far, InSpan, IsNumbered, SaysFar, Unswept}
 use Rattle.gh_sweep.specs.Shared as sweep
 use Rattle.gh_sweep.specs.Sound.{reached}
 use Rattle.gh_sweep.specs.Sweepers.{has_span, HasReached, marks_cleared}
@@ -19,16 +18,12 @@ use Rattle.gh_coord.specs.Closing as closes_by
 use Rattle.gh_coord.specs.declared.tell.TellStage.TheVariants as telling
 use Rattle.gh_coord.specs.declared.coord.CoordStage.TheVariants as coord_at
 use Rattle.gh_coord.specs.Handshake as leading
-use Rattle.gh_coord.specs.Listing as coord
-use Rattle.gh_worker.specs.Listing as worker
-use Rattle.gh_mutator.specs.declared.new.NewStage.TheVariants as new_stage
-use Rattle.gh_mutator.specs.declared.task.Task.TheVariants as task
-use Rattle.gh_mutator_heap.specs.Facts.{KnowsAt, KnowsNew}
+use Rattle.gh_mutator_heap.specs.Facts.{KnowsAt}
 use Rattle.gh_mutator_heap.specs.PollHeap.{Rests}
 use Rattle.gh_lists.specs.declared.handshake.Actor.TheVariants as actor
 use Rattle.gh_law.specs.SweepMarks.{CachedAreSwept, EachSpanIsSwept, IsRunning, IsUncut, MarksAreLeft, OwnedAreSwept, SaysHowFar, SpansAreNumbered, SweepsStand}
 use Rattle.gh_holds.specs.Below.{IsInSweep, IsMarking, IsUnderWay, Known, sweep_of}
-use Rattle.gh_law.proofs.Vocabulary.{generation_of as generation_at, marks_at, SweepRuns, View, ◌%◌, acks_of, Actor, actors_after, alloc_words, Arena, arena, Check, Close, CloseStage, Coordinating, CoordStage, Count, CycleEnd, Entry, Ever, ever, HasState, Head, HoldsAt, IsBeginning, IsClosing, IsInLimits, IsLed, IsTelling, Legal, mark_words, MarkOn, Name, new_polls, NewStage, Op, Open, opening_processor, page_of, PageWord, page_words, Polling, processor_at, Reach, Row, row_bit, seats_of, State, StopAgain, Sweep, SweepStage, Task, Tell, TellStage, those, view, Watch, Words, words}
+use Rattle.gh_law.proofs.Vocabulary.{generation_of as generation_at, marks_at, SweepRuns, View, ◌%◌, Actor, actors_after, alloc_words, Arena, arena, Check, Close, CloseStage, Coordinating, CoordStage, Count, CycleEnd, Entry, ever, HasState, Head, HoldsAt, IsBeginning, IsClosing, IsInLimits, IsLed, IsTelling, Legal, mark_words, MarkOn, Name, Op, Open, page_of, PageWord, page_words, Polling, processor_at, Reach, Row, row_bit, seats_of, State, StopAgain, Sweep, SweepStage, Task, Tell, TellStage, those, view, Watch, Words, words}
 use Rattle.gh_lists.specs.Going.{ClosingIsBusy, goes_then}
 use Rattle.gh_holds.specs.HasAt.{has_at}
 use Rattle.gh_lists.specs.Seats.{other}
@@ -47,44 +42,24 @@ no_bit row x is set = let same : 0 ≡ 1 = sym (bit_at-zero (x % 64)) ∙ (sym (
 -- What a head's number says of how far its span is.
 
 how_far : (generation : ℕ) (h : SpanHead) (f : Far) → IsNumbered generation h f → SaysHowFar generation h
-how_far generation h Unswept is = inr (is.1, inl is.0)
-how_far generation h (By a) is = inr (is.1, inr is.0)
-how_far generation h Done is = inl is
+how_far generation h f is = grind arith
 
 unswept_is : (generation : ℕ) (h : SpanHead) (f : Far) → IsNumbered generation h f → h.number + 2 ≡ generation → f ≡ Unswept
-unswept_is generation h Unswept is number = refl
-unswept_is generation h (By a) is number = let other = is.0 in absurd (omega (arith, number, other))
-unswept_is generation h Done is number = absurd (omega (arith, number, is))
+unswept_is generation h f is number = grind arith
 
 done_is : (generation : ℕ) (h : SpanHead) (f : Far) → IsNumbered generation h f → h.number ≡ generation → f ≡ Done
-done_is generation h Unswept is number = let other = is.0 in absurd (omega (arith, number, other))
-done_is generation h (By a) is number = let other = is.0 in absurd (omega (arith, number, other))
-done_is generation h Done is number = refl
+done_is generation h f is number = grind arith
 
 number_is : (generation : ℕ) (h : SpanHead) (f : Far) → IsNumbered generation h f → f ≡ Done → h.number ≡ generation
 number_is generation h f is done = subst (IsNumbered generation h) done is
 
 -- How far the sweep of a span is.
 sweeps_so : (a : ℕ) (s : sweep.Shared) (m : Sweeping) (p : SweepStage) → has_span p ≡ true → HasReached a s m p → Sweeps a m.page m.head (reached m.head p) (marks_cleared m.head p) s
-sweeps_so a s m sweep_stage.Begin own is = absurd (cc)
-sweeps_so a s m (sweep_stage.LoadMarks i) own is = is
-sweeps_so a s m (sweep_stage.Ended end) own is = absurd (cc)
-sweeps_so a s m _ own is = is
+sweeps_so a s m p own is = grind arith
 
 -- A processor that runs knows what it has cached.
 new_rests : (z : Arena) (a : ℕ) (v : View) (p : Polling) (t : Task) → IsRunning t → KnowsAt z a v p t → Rests z a v p
-new_rests z a v p task.Left run is = absurd (run.there refl)
-new_rests z a v p (task.New x) run is = by_stage x.stage run.runs is where
-  by_stage : (q : NewStage) → new_polls q ≡ false → KnowsNew z a v p q → Rests z a v p
-  by_stage (new_stage.Wait w) polls y = absurd (cc)
-  by_stage (new_stage.Search waited y) polls k = k
-  by_stage (new_stage.Place y) polls k = k
-  by_stage (new_stage.Want n) polls k = k
-  by_stage (new_stage.Assist n y) polls k = k
-new_rests z a v p (task.Gc g x) run is = absurd (let no = run.runs in cc)
-new_rests z a v p task.Poll run is = absurd (let no = run.runs in cc)
-new_rests z a v p (task.Leave x) run is = absurd (let no = run.runs in cc)
-new_rests z a v p _ run is = is
+new_rests z a v p t run is = grind arith
 
 module _ (setup : Setup) (es : List (Entry Op)) (has : HasState setup es) where
   abbrev s : State
@@ -165,7 +140,7 @@ module _ (setup : Setup) (es : List (Entry Op)) (has : HasState setup es) where
       go false is = same_bit (mark_words now) (marks_at e) a (kept_mark (a / 64) is) ∙ subst (λ (x : ℕ). row_bit (marks_at e) x ≡ 1) (sym here) (has.good.reached n reach (subst (λ (x : ℕ). s.cut (x / 64) ≡ false) here uncut))
 
     in_unswept : (n : Name) (a : ℕ) → (a ≡ s.heap.place n) → Reach s.heap.ever n → (x : InSpan (page_words now) (a / 64)) → x.h.number + 2 ≡ now cell.Gen → row_bit (mark_words now) a ≡ 1
-    in_unswept n a here reach x number = in_uncut n a here reach (good.untouched (a / 64) x (unswept_is (now cell.Gen) x.h (s.far x.p) (number_at x.p x.h x.head) number)).0
+    in_unswept n a here reach x number = grind (arith, in_uncut, number_at, unswept_is)
 
     stand : (x : ℕ) → row_bit (mark_words now) x ≡ 1 → row_bit (alloc_words now) x ≡ 1
     stand x set = go (s.clear (x / 64)) refl where
@@ -193,7 +168,7 @@ module _ (setup : Setup) (es : List (Entry Op)) (has : HasState setup es) where
       }
 
       pub marks_left : MarksAreLeft (words setup es) (ever setup es) sweeps
-      marks_left = subst (λ (x : Ever). MarksAreLeft (words setup es) x sweeps) has.of_list.ever_is (subst (λ (w : Words). MarksAreLeft w s.heap.ever sweeps) told_are left_now)
+      marks_left = grind (arith, left_now, told_are)
 
   -- While a cycle is opened no mark is set, each span is swept, and nobody sweeps.
   module _ (far : (p : ℕ) → s.far p ≡ Done) (none : (i : ℕ) → now (cell.Mark i) ≡ 0) (nobody : (who : ℕ) → sweeps who ≡ None) where
@@ -206,16 +181,12 @@ module _ (setup : Setup) (es : List (Entry Op)) (has : HasState setup es) where
     }
 
     pub no_marks_left : MarksAreLeft (words setup es) (ever setup es) sweeps
-    no_marks_left = subst (λ (x : Ever). MarksAreLeft (words setup es) x sweeps) has.of_list.ever_is (subst (λ (w : Words). MarksAreLeft w s.heap.ever sweeps) told_are none_left)
+    no_marks_left = grind (arith, none_left, told_are)
 
 -- At a seat that is none nobody steps, so nobody sweeps.
 module _ (setup : Setup) (known : Known) where
   none_first : (who : ℕ) → sweep_of (actors_after (arena setup) setup.pacing setup.may [] who) ≡ None
-  none_first who = go (ltb who setup.layout.procs) (ltb who (acks_of setup.layout)) where
-    go : (b d : Bool) → sweep_of (cond b (actor.Runs (opening_processor setup.layout who)) (cond d (actor.Marks (worker.opening setup.layout who)) (actor.Leads (coord.opening setup.layout who setup.pacing.gogc setup.pacing.minheap setup.pacing.room)))) ≡ None
-    go true d = known.processors_sweep.at_first setup.layout who
-    go false true = known.workers_sweep.at_first setup.layout who
-    go false false = known.coordinator_sweeps.at_first setup.layout who setup.pacing.gogc setup.pacing.minheap setup.pacing.room
+  none_first who = grind arith
 
   none_beyond : (es : List (Entry Op)) → Legal (those setup) es → (who : ℕ) → seats_of setup.layout ≤ who → sweep_of (actors_after (arena setup) setup.pacing setup.may es who) ≡ None
   none_beyond [] legal who from = none_first who

@@ -1,12 +1,10 @@
 -- A `new` that asks for a cycle behind its object has seen the trigger reached: by the two steps of its processor before.
-use Rattle.std.proofs.Common.{◌≡◌, ℕ, ◌==◌, Bool, true, false, cond, inl, inr, refl, sym, ap, subst, ◌∙◌, arith, List, [], ◌∷◌, Option, Some, None}
-use Rattle.gh_base.specs.declared.operation.Op.TheVariants as op
+use Rattle.std.proofs.Common.{◌≡◌, ℕ, ◌==◌, Bool, true, false, cond, inl, inr, refl, sym, ap, subst, ◌∙◌, arith, List, [], ◌∷◌, Option}
 use Rattle.gh_base.specs.Lists.{by as own}
-use Rattle.gh_mutator.specs.declared.task.Task.TheVariants as task
-use Rattle.gh_mutator.specs.Asking.{Compares, CountsUpTo, SawReached, SeesReached, SeesReachedAt}
+use Rattle.gh_mutator.specs.Asking.{Compares, CountsUpTo, SawReached, SeesReached}
 use Rattle.gh_law.specs.Asked.{SawTriggerReached}
 use Rattle.gh_lists.specs.Order.{before_step}
-use Rattle.gh_law.proofs.Vocabulary.{begins, begins_at, Entry, has_left_at, IsStartOf, Kind, Layout, nat_tests, NewStage, Op, Place, Processor, processor_kind, ProcessorWritesItsOwn, Shape, started, state_of, Task}
+use Rattle.gh_law.proofs.Vocabulary.{Entry, IsStartOf, Kind, Layout, nat_tests, Op, Processor, processor_kind, ProcessorWritesItsOwn, Shape, started, state_of, Task}
 
 module _ (shapes : List Shape) (l : Layout) (writes : ProcessorWritesItsOwn) (a : ℕ) where
   abbrev k : Kind Processor Op
@@ -17,39 +15,15 @@ module _ (shapes : List Shape) (l : Layout) (writes : ProcessorWritesItsOwn) (a 
 
   -- No operation begins there, so the processor is as it was.
 
-  begins_none : (m : Processor) (o : Op) (P : Task → Type 0) → (P task.Left → ⊥) → P (k.begins m o).task → P (begins_at shapes m o)
-  begins_none m o P none is = by (has_left_at m.task) refl is where
-    left : (t : Task) → has_left_at t ≡ true → P t → ⊥
-    left task.Left e p = none p
-    left _ e p = cc
-
-    by : (b : Bool) → has_left_at m.task ≡ b → P (cond b m (begins shapes m o)).task → P (begins_at shapes m o)
-    by true e p = absurd (left m.task e p)
-    by false e p = p
-
-  no_look : (m : Processor) (o : Op) (bytes : ℕ) → Compares (begins_at shapes m o) bytes → ⊥
-  no_look m (op.New g d t) bytes e = e
-  no_look m _ bytes e = e
-
-  no_ask : (m : Processor) (o : Op) → SawReached (begins_at shapes m o) → ⊥
-  no_ask m (op.New g d t) e = e
-  no_ask m _ e = e
-
   looked : (m : Processor) (o : Option Op) (bytes : ℕ) → Compares (started k o m).task bytes → Compares m.task bytes
-  looked m None bytes e = e
-  looked m (Some o) bytes e = absurd (no_look m o bytes (begins_none m o (λ t. Compares t bytes) (λ x. x) e))
+  looked m o bytes e = grind arith
 
   pub asked : (m : Processor) (o : Option Op) → SawReached (started k o m).task → SawReached m.task
-  asked m None e = e
-  asked m (Some o) e = absurd (no_ask m o (begins_none m o SawReached (λ x. x) e))
+  asked m o e = grind arith
 
   -- where it sees the trigger it compares these bytes
   seen_compares : (t : Task) (found bytes : ℕ) → SeesReached t found bytes → Compares t bytes
-  seen_compares (task.New x) found bytes sees = by x.stage sees where
-    by : (q : NewStage) → SeesReachedAt found bytes q → Compares (task.New (record { wanted = x.wanted; stage = q })) bytes
-    by (Place p) sees = sees.stage
-    by _ sees = absurd sees
-  seen_compares _ found bytes sees = absurd sees
+  seen_compares t found bytes sees = grind arith
 
   -- It counted its object with its last entry.
   record Counted (bytes : ℕ) (es : List (Entry Op)) : Type 0 where

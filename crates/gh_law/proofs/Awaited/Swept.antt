@@ -4,7 +4,7 @@ use Rattle.std.proofs.lemmas.Bool.{cases_lt}
 use Rattle.gh_base.specs.declared.cell.Cell.TheVariants as cell
 use Rattle.gh_law.specs.Actors.{SweptSince}
 use Rattle.gh_lists.specs.Lists.{BeginsCycle, IsTelling}
-use Rattle.gh_law.proofs.Vocabulary.{ahead_at, Ask, CoordStage, effect, Entry, IsBeginning, IsStartOf, IsStepIn, Legal, Op, Open, part_of, those, Words, words}
+use Rattle.gh_law.proofs.Vocabulary.{ahead_at, Ask, CoordStage, effect, Entry, IsBeginning, IsStartOf, IsStepIn, Legal, Op, part_of, those, Words, words}
 use Rattle.gh_holds.specs.Below.{ListsKnown}
 use Rattle.gh_lists.specs.Starts.{compared, legal_start, start_of_start, whole}
 use Rattle.gh_lists.specs.Changes.{begins, Change, ends, Rises, same, tells}
@@ -13,8 +13,7 @@ use Rattle.gh_lists.specs.Handshake.{Setup}
 
 -- where a cycle begins its number stands, and no other has one
 begins_one : (p : CoordStage) → IsBeginning p → ((ahead_at (part_of p)).begun ≡ 1) × ((ahead_at (part_of p)).numbered ≡ 1)
-begins_one (Open o) is = rw is (refl, refl)
-begins_one _ is = absurd is
+begins_one p is = grind arith
 
 module _ (setup : Setup) (lists : ListsKnown setup) where
   abbrev Lawful : List (Entry Op) → Type 0
@@ -73,7 +72,7 @@ module _ (setup : Setup) (lists : ListsKnown setup) where
     Since = SweptSince setup (first ∷ earlier) es
 
     not_first : (d : Entry Op) (ds : List (Entry Op)) → IsStepIn setup IsBeginning k d ds → d.actor ≡ first.actor → ⊥
-    not_first d ds b is = let by = b.by in omega (arith, is, by, seat)
+    not_first d ds b is = grind arith
 
     -- none that has its number behind fewer entries
     not_earlier : (d : Entry Op) (ds : List (Entry Op)) → IsStepIn setup IsBeginning k d ds → IsStartOf (d ∷ ds) earlier → ⊥
@@ -112,4 +111,4 @@ module _ (setup : Setup) (lists : ListsKnown setup) where
           since_begun x.begun x.start (subst (λ (i : ℕ). BeginsCycle setup i x.begun) t.step.cycle x.begins)
 
     pub swept_since : Since
-    swept_since = is_since (is_told k es legal (omega arith) (omega (arith, more)))
+    swept_since = grind (arith, is_since, is_told)

@@ -2,13 +2,10 @@
 use Rattle.std.proofs.Common.{◌≡◌, ℕ, ◌<◌, ◌≤◌, Bool, true, false, cond, eqb, List, [], ◌∷◌, ◌++◌, Option, Some, None, refl, sym, ap, subst, ◌∙◌, arith, inl, inr}
 use Rattle.std.specs.Option.{option_to_list}
 use Rattle.std.proofs.lemmas.Bool.{cases_lt}
-use Rattle.gh_law.specs.Vocabulary.{Act, acts_at, asks, Assist, begins, by, cell_of, deeds, Entry, has_left_at, has_point, is_busy_at, Kind, Legal, NewStage, Op, Place, Processor, processor_kind, Search, Shape, started, state_of, takes, Task, Wait, Want, Words}
+use Rattle.gh_law.specs.Vocabulary.{Act, acts_at, asks, begins, by, cell_of, deeds, Entry, has_left_at, has_point, is_busy_at, Kind, Legal, Op, Processor, processor_kind, Shape, started, state_of, takes, Task, Words}
 use Rattle.gh_base.specs.declared.cell.Ask.TheVariants as ask
 use Rattle.gh_base.specs.declared.cell.Cell.TheVariants as cell
-use Rattle.gh_base.specs.declared.operation.Op.TheVariants as op
 use Rattle.gh_base.specs.Orders.{DeedsFit, done_at}
-use Rattle.gh_mutator.specs.declared.task.Task.TheVariants as task
-use Rattle.gh_mutator.specs.Deeds.{point_of}
 use Rattle.gh_law.specs.Actors.{AwaitedCycle, Awaits, HasAwaited}
 use Rattle.gh_lists.specs.Lists.{words}
 use Rattle.gh_lists.specs.Handshake.{those, Setup}
@@ -21,55 +18,24 @@ use Rattle.gh_lists.specs.Changes.{Rises}
 use Rattle.gh_lists.specs.Stepping.{IsAnothers, IsItsOwn, its_own, no_processors, who_steps}
 use Rattle.gh_law.proofs.Awaited.Swept.{rises, swept_since}
 use Rattle.gh_holds.specs.EveryList.{InCycles}
-use Rattle.gh_law.proofs.Awaited.Waiting.{first_sees_none, first_waits, full_searches, gc_acts, HasSeenCycle, HasWaited, HasWaitedAt, IsSearching, IsSearchingAt, loads_swept, more_swept, SearchesAgainAt, steps_on}
+use Rattle.gh_law.proofs.Awaited.Waiting.{first_sees_none, first_waits, full_searches, gc_acts, HasSeenCycle, HasWaited, IsSearching, more_swept, steps_on}
 
 -- Where it searches, or rests, a processor knows the number of cycles begun.
 
 searching_knows : (p : Polling) (t : Task) → IsSearching t → IsAwake (stage_at p t) × ((party_at p t).view ≡ p.local.view)
-searching_knows p (task.New x) h = go x.stage h where
-  go : (st : NewStage) → IsSearchingAt st → IsAwake (stage_at p (task.New (record x { stage = st }))) × ((party_at p (task.New (record x { stage = st }))).view ≡ p.local.view)
-  go (Search w s) h = (tt, refl)
-  go (Wait y) h = absurd h
-  go (Place y) h = absurd h
-  go (Want n) h = absurd h
-  go (Assist n y) h = absurd h
-searching_knows p task.Idle h = absurd h
-searching_knows p _ h = absurd h
+searching_knows p t h = grind arith
 
 resting_knows : (p : Polling) (t : Task) → is_busy_at t ≡ false → has_left_at t ≡ false → IsAwake (stage_at p t) × ((party_at p t).view ≡ p.local.view)
-resting_knows p task.Idle idle here = (tt, refl)
-resting_knows p task.Left idle here = absurd cc
-resting_knows p _ idle here = absurd cc
+resting_knows p t idle here = grind arith
 
 same_view : (shapes : List Shape) (m : Processor) (o : Op) → (begins shapes m o).poll.local.view ≡ m.poll.local.view
-same_view shapes m (op.New g d t) = refl
-same_view shapes m _ = refl
-
--- what it is where its wait is over
-again_at : (low swept : ℕ) (st : NewStage) → HasWaitedAt low swept st → SearchesAgainAt st → low < swept
-again_at low swept (Search true s) h a = h
-again_at low swept (Search false s) h a = absurd a
-again_at low swept _ h a = absurd a
+same_view shapes m o = grind arith
 
 again : (m : Processor) (low swept found : ℕ) (t : Task) (o : Op) → HasWaited low swept t → HasSeenCycle found t o → (asks_at m t ≡ ask.Load cell.Swept → found ≤ swept) → low < swept
-again m low swept found (task.New x) o h a so = again_at low swept x.stage h a.1
-again m low swept found (task.Gc g x) o h a so = let le = so (loads_swept m x a.1.0) in let lt = a.1.1 in omega (arith, le, lt, h)
-again m low swept found task.Idle o h a so = absurd a
-again m low swept found _ o h a so = absurd a
+again m low swept found t o h a so = grind arith
 
 again_busy : (found : ℕ) (t : Task) (o : Op) → HasSeenCycle found t o → is_busy_at t ≡ true
-again_busy found (task.New x) o a = refl
-again_busy found (task.Gc g x) o a = refl
-again_busy found task.Idle o a = absurd a
-again_busy found _ o a = absurd a
-
--- a point of an operation is what its step does
-acts_of : (x : Option Act) (y : Act) → point_of x ≡ Some y → x ≡ Some y
-acts_of None y is = absurd cc
-acts_of (Some x) y is = go (has_point x.op) is where
-  go : (b : Bool) → cond b (Some x) None ≡ Some y → Some x ≡ Some y
-  go true e = e
-  go false e = absurd cc
+again_busy found t o a = grind arith
 
 start_behind : (since xs : List (Entry Op)) → IsStartOf xs (since ++ xs)
 start_behind [] xs = whole xs
@@ -152,10 +118,7 @@ module _ (setup : Setup) (lists : ListsKnown setup) where
       found_there x is = legal.1.found ∙ ap (λ (q : Ask). told es (cell_of q)) (x.asked ∙ is)
 
       found_is : Its es e legal → asks m ≡ ask.Load cell.Swept → e.found ≤ told (e ∷ es) cell.Swept
-      found_is x is =
-          let found = found_there x is in
-          let more = (up e es legal).swept in
-          omega (arith, found, more)
+      found_is x is = grind arith
 
       own_step : (x : Its es e legal) (low : ℕ) → HasWaited low (told es cell.Swept) m.task → (IsSearching m.task → low ≤ m.poll.local.view.begun) → HasWaited low (told (e ∷ es) cell.Swept) (own (e ∷ es)).task
       own_step x low h knows =
@@ -286,7 +249,7 @@ module _ (setup : Setup) (lists : ListsKnown setup) where
     now = before_step setup.shapes setup.layout es e
 
     does : acts_at now now.task e.found ≡ Some act
-    does = acts_of (acts_at now now.task e.found) act acts
+    does = grind arith
 
     awaited : HasSeenCycle e.found now.task act.op → AwaitedCycle setup e.actor es act.op
     awaited sees = elim (cases_lt e.actor setup.layout.procs) [

@@ -1,5 +1,5 @@
 -- Credit balances after every legal list: by each step what is earned, what is spent, what has lapsed and what is in the bank change together; so do what is spent and what a processor has drawn; and so do what a worker has scanned and what it has still to hand over.
-use Rattle.std.proofs.Common.{◌≡◌, ◌≢◌, inl, inr, ℕ, ◌+◌, ◌^◌, ◌<◌, ◌≤◌, ◌==◌, Bool, true, false, cond, ltb, refl, sym, ap, subst, ◌∙◌, arith, List, [], ◌∷◌, Option, Some, None}
+use Rattle.std.proofs.Common.{◌≡◌, ◌≢◌, inl, inr, ℕ, ◌+◌, ◌^◌, ◌<◌, ◌≤◌, ◌==◌, Bool, true, false, refl, sym, ap, subst, ◌∙◌, arith, List, [], ◌∷◌, Option, None}
 use Rattle.gh_base.specs.declared.cell.Cell.TheVariants as cell
 use Rattle.gh_coord.specs.Handshake as leading
 use Rattle.gh_coord.specs.Listing as coord
@@ -19,13 +19,13 @@ use Rattle.gh_worker.specs.Works.{words_done}
 use Rattle.gh_worker.specs.Writing.{AcksAlone, CalmWorkersMarkNothing, IsCalm}
 use Rattle.gh_lists.specs.declared.handshake.Actor.TheVariants as actor
 use Rattle.gh_law.specs.Credit.{at, CreditStands, earned_in, IsSettled, lapsed_by, lapsed_in, left_among, left_at, spent_among, spent_at, spent_in}
-use Rattle.gh_lists.specs.Handshake.{is_busy, Setup}
+use Rattle.gh_lists.specs.Handshake.{Setup}
 use Rattle.gh_law.specs.Phases.{IsStopped, PhasesStand}
 use Rattle.gh_holds.specs.Below.{done_by, scanned_in}
 use Rattle.gh_lists.specs.Waits.{WorkersRest}
 use Rattle.gh_law.proofs.Vocabulary.{acks_of, Actor, Add, Ask, asks, Begins, cell_of, Coordinating, effect, Entry, KeepsIt, Legal, Load, nat_tests, Op, Processor, processor_kind, ProcessorWritesItsOwn, seats_of, started, Store, Swap, those, words, WorkersWriteTheirOwn, Working}
 use Rattle.gh_lists.specs.Sweeping.{asks_by_sweep}
-use Rattle.gh_law.proofs.Crediting.Assisting.{assisting_knows, begun_without, marks_phase}
+use Rattle.gh_law.proofs.Crediting.Assisting.{assisting_knows, marks_phase}
 use Rattle.gh_law.proofs.Crediting.Bank.{draws_bank, DrawsOnBank, IsBeside, IsClearing, lead_beside, leaves_bank, LeavesBank, processor_beside, sweep_beside, worker_beside}
 use Rattle.gh_law.proofs.Crediting.Lead.{asks_clearing, KnowsBank, lead_clears, lead_goes, may_add, off_marks}
 use Rattle.gh_lists.specs.Seats.{other}
@@ -68,25 +68,13 @@ module _ (setup : Setup) (cited : Cited setup) where
   -- before the first step
 
   first_left : (a : ℕ) → left_at (who [] a) ≡ 0
-  first_left a = go (ltb a setup.layout.procs) (ltb a n) where
-    go : (b d : Bool) → left_at (cond b (actor.Runs ((processor_kind setup.shapes setup.layout).start a)) (cond d (actor.Marks (worker.opening setup.layout a)) (actor.Leads (coord.opening setup.layout a setup.pacing.gogc setup.pacing.minheap setup.pacing.room)))) ≡ 0
-    go true d = refl
-    go false true = refl
-    go false false = refl
+  first_left a = grind arith
 
   first_spent : (a : ℕ) → spent_at (who [] a) ≡ 0
-  first_spent a = go (ltb a setup.layout.procs) (ltb a n) where
-    go : (b d : Bool) → spent_at (cond b (actor.Runs ((processor_kind setup.shapes setup.layout).start a)) (cond d (actor.Marks (worker.opening setup.layout a)) (actor.Leads (coord.opening setup.layout a setup.pacing.gogc setup.pacing.minheap setup.pacing.room)))) ≡ 0
-    go true d = cited.spend.at_first setup.layout a
-    go false true = refl
-    go false false = refl
+  first_spent a = grind arith
 
   first_earned : (a : ℕ) (w : Working) → who [] a ≡ actor.Marks w → w.earned ≤ 0
-  first_earned a w is = go (ltb a setup.layout.procs) (ltb a n) is where
-    go : (b d : Bool) → cond b (actor.Runs ((processor_kind setup.shapes setup.layout).start a)) (cond d (actor.Marks (worker.opening setup.layout a)) (actor.Leads (coord.opening setup.layout a setup.pacing.gogc setup.pacing.minheap setup.pacing.room))) ≡ actor.Marks w → w.earned ≤ 0
-    go true d x = absurd cc
-    go false false x = absurd cc
-    go false true x = let it : worker.opening setup.layout a ≡ w = cc in subst (λ (v : Working). v.earned ≤ 0) it (omega arith)
+  first_earned a w is = grind arith
 
   first : Balance []
   first c led =
@@ -119,10 +107,7 @@ module _ (setup : Setup) (cited : Cited setup) where
     known s c k = subst (λ (x : ℕ). KnowsBank x (bank (e ∷ es)) c.lapsed c.stage) (sym s.lapsed) (subst (λ (x : ℕ). KnowsBank (lapsed_in es) x c.lapsed c.stage) (sym s.bank_is) k)
 
     others : (a : ℕ) → a ≢ e.actor → who (e ∷ es) a ≡ who es a
-    others a ne = other setup e es a (go (e.actor == a) refl) where
-      go : (b : Bool) → (e.actor == a) ≡ b → (e.actor == a) ≡ false
-      go true y = absurd (ne (let s = y in grind (arith, nat_tests)))
-      go false y = y
+    others a ne = grind arith
 
     seat_of_it : e.actor < seats_of setup.layout
     seat_of_it = legal.1.actor
@@ -203,12 +188,8 @@ module _ (setup : Setup) (cited : Cited setup) where
       abbrev MayBegin : Option Op → Type 0
       MayBegin o = Begins (those setup) e.actor es o
 
-      begins_so : (o : Option Op) → MayBegin o → spent_of (started (processor_kind setup.shapes setup.layout) o m) ≡ spent_of m
-      begins_so None may_it = refl
-      begins_so (Some o) may_it = cited.spend.begins setup.shapes setup.layout m o (sym (ap is_busy x.is) ∙ may_it.0)
-
       begun_spent : spent_of begun ≡ spent_of m
-      begun_spent = begins_so e.begun legal.1.begins
+      begun_spent = grind arith
 
       -- no count leaves its type
       spent_few : spent_of m ≤ spent_in es
@@ -232,7 +213,7 @@ module _ (setup : Setup) (cited : Cited setup) where
           omega (arith, same, then, first)
 
       no_work : drawn_by e.ask e.found ≤ bank es → earned_in (e ∷ es) ≡ earned_in es → StepsWithoutWork (actor.Runs m) (actor.Runs (takes setup.shapes begun e.found))
-      no_work most same = record { is = x.is; then = x.then; none = refl; none_then = refl; done = refl; not_marks = λ w is. cc; counts = count most; earned_same = same }
+      no_work most same = grind (arith, count)
 
       runs_beside : IsBeside (asks begun) → Balanced (e ∷ es) c
       runs_beside q =
@@ -246,8 +227,7 @@ module _ (setup : Setup) (cited : Cited setup) where
         draw_is = x.asked ∙ d.is
 
         assists_before : (o : Option Op) → MayBegin o → IsAssisting (started (processor_kind setup.shapes setup.layout) o m).task → IsAssisting m.task
-        assists_before None may_it a = a
-        assists_before (Some o) may_it a = absurd (begun_without setup.shapes setup.layout m o (sym (ap is_busy x.is) ∙ may_it.0) a)
+        assists_before o may_it a = grind arith
 
         assists : IsAssisting m.task
         assists = assists_before e.begun legal.1.begins d.assists
@@ -470,11 +450,7 @@ module _ (setup : Setup) (cited : Cited setup) where
   -- while no cycle is marked
   module _ (es : List (Entry Op)) (legal : Legal (those setup) es) (c : Coordinating) (led : who es n ≡ actor.Leads c) (off : leading.Marks c.stage → ⊥) where
     none_at : (a : ℕ) → left_at (who es a) ≡ 0
-    none_at a = go (who es a) refl where
-      go : (y : Actor) → who es a ≡ y → left_at y ≡ 0
-      go (actor.Runs m) is = refl
-      go (actor.Leads d) is = refl
-      go (actor.Marks w) is = let quiet : IsCalm w = cited.rests es legal c a w led off is in quiet.handed
+    none_at a = grind arith
 
     settled : IsSettled setup es c
     settled =

@@ -1,5 +1,5 @@
 -- At every moment: while a cycle is marked there is a buffer with room, and else all have.
-use Rattle.std.proofs.Common.{inl, inr, ℕ, refl, sym, subst, arith, List}
+use Rattle.std.proofs.Common.{inl, inr, refl, sym, subst, arith, List}
 use Rattle.gh_room.specs.Room.{BuffersHaveRoom, HasRoom}
 use Rattle.gh_law.specs.Actors.{AllStands}
 use Rattle.gh_law.specs.Room.{RoomStands}

@@ -1,16 +1,15 @@
 -- While a cycle is marked: an object is an entry of one buffer at most and has an address of its own, and each actor holds one buffer at most. So there is a buffer with room that nobody holds.
 use Rattle.std.proofs.Common.{◌≡◌, ℕ, ◌+◌, ◌-◌, ◌*◌, ◌<◌, ◌≤◌, Bool, true, false, ltb, refl, sym, ap, subst, ◌∙◌, arith, List, Option}
-use Rattle.gh_base.specs.declared.cell.Cell.TheVariants as cell
 use Rattle.gh_base.specs.Cells.{seats_of}
 use Rattle.gh_base.specs.Holding.{Buffers, HoldsBuffer}
-use Rattle.gh_room.specs.Room.{AreDistinct, AreOfSeats, BuffersHaveRoom, HasRoom}
+use Rattle.gh_room.specs.Room.{AreDistinct, AreOfSeats, BuffersHaveRoom}
 use Rattle.gh_coord.specs.Handshake as leading
 use Rattle.gh_marks.specs.Colours.{Buffered, buffers_as_held, Colour, IsShaded}
 use Rattle.gh_lists.specs.declared.handshake.Actor.TheVariants as actor
 use Rattle.gh_law.specs.Actors.{AllStands}
 use Rattle.gh_holds.specs.Below.{CycleIsDrawn}
 use Rattle.gh_law.specs.Room.{RoomStands}
-use Rattle.gh_law.proofs.Vocabulary.{acks_of, Actor, actors, Arena, Coordinating, Entry, Held, IsLed, Marking, nat_tests, Op, processor_kind, state_of, words, Words}
+use Rattle.gh_law.proofs.Vocabulary.{acks_of, Actor, actors, Arena, Coordinating, Entry, Held, IsLed, Marking, nat_tests, Op, processor_kind, state_of, words}
 use Rattle.gh_lists.specs.Seats.{IsSeated, seated}
 use Rattle.gh_law.proofs.HavingRoom.Hands.{processor_has, worker_has}
 use Rattle.gh_lists.specs.Handshake.{Setup}
@@ -53,12 +52,7 @@ module _ (setup : Setup) (es : List (Entry Op)) (c : Coordinating) (d : CycleIsD
   both b j x k of_b of_x same = sym (entered b j of_b) ∙ (ap (λ (e : ℕ). s.colour (e - 1)) same ∙ entered x k of_x)
 
   distinct : AreDistinct (1024 * setup.layout.pages) grey
-  distinct = record {
-    some = d.tied.of_heap.good.entries.some;
-    within = within;
-    buffer = λ b j x k of_b of_x same. let is = both b j x k of_b of_x same in cc;
-    place = λ b j x k of_b of_x same. let is = both b j x k of_b of_x same in cc;
-  }
+  distinct = grind (arith, both, within)
 
   abbrev Has : ℕ → Type 0
   Has a = (held : Option Held) × HoldsBuffer grey a held
@@ -81,8 +75,7 @@ module _ (setup : Setup) (es : List (Entry Op)) (c : Coordinating) (d : CycleIsD
   of_seats = record { each = each; others = λ a le. (d.tied.others a (omega (arith, le))).holds }
 
   pub drawn_has_room : BuffersHaveRoom → RoomStands setup.layout (words setup es)
-  drawn_has_room law = let x = law setup.layout grey d.tied.of_heap.good.counts distinct of_seats in
-      record { buffer = x.buffer; there = x.there; has = subst (λ (w : Words). HasRoom (w (cell.Buffer x.buffer))) d.is.words_are x.has }
+  drawn_has_room law = grind (arith, distinct, of_seats)
 
 pub marked_has_room : BuffersHaveRoom → (setup : Setup) (es : List (Entry Op)) (c : Coordinating) → AllStands setup es → IsLed setup es c → leading.Marks c.stage → RoomStands setup.layout (words setup es)
 marked_has_room law setup es c all led on = drawn_has_room setup es c (all.drawn c led on) law

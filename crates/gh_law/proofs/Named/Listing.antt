@@ -122,9 +122,7 @@ module _ (test : ℕ → Bool) (name_at : ℕ → Name) where
     further s = record { x = s.x; below = let lt = s.below in omega (arith, lt); passes = s.passes; name_is = s.name_is }
 
     go : (b : Bool) → test x ≡ b → (IsAmong m (listed x) → StandsAt m x) → IsAmong m (cond b (name_at x ∷ listed x) (listed x)) → StandsAt m (suc x)
-    go true e before (inl is) = record { x = x; below = omega arith; passes = e; name_is = sym is }
-    go true e before (inr a) = further (before a)
-    go false e before a = further (before a)
+    go b e before a = grind arith
 
   -- each once, where no two words have one name
   pub each_once : ((x y : ℕ) → test x ≡ true → test y ≡ true → name_at x ≡ name_at y → x ≡ y) → (n : ℕ) → Once (listed n)

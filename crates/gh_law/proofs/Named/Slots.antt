@@ -1,7 +1,7 @@
 -- Where an object stands its slot lies in the arena, and the bytes of the slot are those that the page words say; and the names of the alloc bits that are set.
-use Rattle.std.proofs.Common.{◌≡◌, ◌≢◌, ℕ, ◌+◌, ◌*◌, ◌-◌, ◌<◌, ◌≤◌, ◌⊎◌, inl, inr, Bool, true, false, cond, eqb, refl, sym, ap, ◌∙◌, arith}
+use Rattle.std.proofs.Common.{◌≡◌, ◌≢◌, ℕ, ◌+◌, ◌*◌, ◌<◌, ◌≤◌, ◌⊎◌, Bool, true, false, cond, refl, sym, ap, ◌∙◌, arith}
 use Rattle.std.specs.Prelude.{◌/◌, ◌%◌}
-use Rattle.std.proofs.lemmas.Bool.{eqb-true, eqb-false}
+use Rattle.std.proofs.lemmas.Bool.{eqb-true}
 use Rattle.gh_base.specs.declared.value.Name.{Name}
 use Rattle.gh_base.specs.declared.pack.SpanHead.{SpanHead}
 use Rattle.gh_base.specs.Rows.{alloc_words, Row, row_bit}
@@ -29,12 +29,7 @@ pub record Lies (pages i slot bytes : ℕ) : Type 0 where
   pub bytes_are : bytes ≡ 8 * slot
 
 slots_up : (i s z : ℕ) → i < s → i * z + z ≤ s * z
-slots_up i s z lt =
-    let d : s ≡ i + 1 + (s - (i + 1)) = omega (arith, lt) in
-    let all : s * z ≡ i * z + z + (s - (i + 1)) * z = ap (λ (n : ℕ). n * z) d ∙ parts i (s - (i + 1)) z in
-    omega (arith, all) where
-      parts : (i d z : ℕ) → (i + 1 + d) * z ≡ i * z + z + d * z
-      parts i d z = grind arith
+slots_up i s z lt = grind arith
 
 module _ (classes : Classes) where
   small_lies : (c pages i : ℕ) → c < 25 → pages ≡ pages_of c → i < slots_of c → Lies pages i (slot_of c / 8) (slot_of c)
@@ -50,23 +45,15 @@ module _ (classes : Classes) where
         turned s z = grind arith
 
   large_lies : (pages i : ℕ) → 1 ≤ pages → i < 1 → Lies pages i (1024 * pages) (8192 * pages)
-  large_lies pages i some lt =
-      let none : i * (1024 * pages) ≡ 0 = ap (λ (n : ℕ). n * (1024 * pages)) zeroth ∙ nothing (1024 * pages) in
-      record { some = omega (arith, some); within = omega (arith, none); bytes_are = omega arith } where
-        zeroth : i ≡ 0
-        zeroth = omega (arith, lt)
-
-        nothing : (z : ℕ) → 0 * z ≡ 0
-        nothing z = grind arith
+  large_lies pages i some lt = grind arith
 
   -- by its class
   lies_by : (class : SizeClass) (pages i : ℕ) → 1 ≤ pages → IsSizeClass class → (class ≢ size.Large → pages ≡ pages_of (number_of_class class)) → i < cond (is_own_class class) 1 (slots_of (number_of_class class)) →
       Lies pages i (cond (is_own_class class) (1024 * pages) (slot_of (number_of_class class) / 8)) (slot_bytes_of class pages)
-  lies_by (size.Small c) pages i some fit small inside = small_lies c pages i fit (small (λ e. cc)) inside
-  lies_by size.Large pages i some fit small inside = large_lies pages i some inside
+  lies_by class pages i some fit small inside = grind (arith, large_lies, small_lies)
 
   lies : (h : SpanHead) (i : ℕ) → FitsClass h → i < slot_count h → Lies h.pages i (slot_size h) (slot_bytes h)
-  lies h i fits inside = lies_by h.class h.pages i fits.some fits.class fits.small inside
+  lies h i fits inside = grind (arith, lies_by)
 
   pub record InArena (pages : ℕ) (page : Row) (a slot : ℕ) : Type 0 where
     pub some : 1 ≤ slot
@@ -102,21 +89,11 @@ module _ (words : Words) (made : ℕ → ℕ) (named : AreNamed made words) wher
   name_at x = pick x (is_set (alloc_words words) x) refl
 
   pub is_placed : (x : ℕ) → is_set (alloc_words words) x ≡ true → IsPlacedAt words (name_at x) x
-  is_placed x set = go (is_set (alloc_words words) x) refl set where
-    go : (b : Bool) (e : is_set (alloc_words words) x ≡ b) → b ≡ true → IsPlacedAt words (pick x b e) x
-    go true e t = (named x (eqb-true (row_bit (alloc_words words) x) 1 e)).2
-    go false e t = absurd cc
+  is_placed x set = grind arith
 
   pub is_made : (x : ℕ) → is_set (alloc_words words) x ≡ true → IsMade made (name_at x)
-  is_made x set = go (is_set (alloc_words words) x) refl set where
-    go : (b : Bool) (e : is_set (alloc_words words) x ≡ b) → b ≡ true → IsMade made (pick x b e)
-    go true e t = (named x (eqb-true (row_bit (alloc_words words) x) 1 e)).1
-    go false e t = absurd cc
+  is_made x set = grind arith
 
 -- two names are one, or not
 pub same_or_not : (n m : Name) → (n ≡ m) ⊎ (n ≢ m)
-same_or_not n m = go (eqb n.g m.g) (eqb n.k m.k) refl refl where
-  go : (a b : Bool) → eqb n.g m.g ≡ a → eqb n.k m.k ≡ b → (n ≡ m) ⊎ (n ≢ m)
-  go true true e f = inl (ap (λ (g : ℕ). record { g = g; k = n.k }) (eqb-true n.g m.g e) ∙ ap (λ (k : ℕ). record { g = m.g; k = k }) (eqb-true n.k m.k f))
-  go false b e f = inr (λ is. eqb-false n.g m.g e (ap (λ (x : Name). x.g) is))
-  go true false e f = inr (λ is. eqb-false n.k m.k f (ap (λ (x : Name). x.k) is))
+same_or_not n m = grind arith

@@ -1,5 +1,5 @@
 -- The next step of each actor is on a word that there is: a processor's by its rights, a worker's and the coordinator's whatever was found.
-use Rattle.std.proofs.Common.{◌≡◌, ℕ, ◌<◌, ◌≤◌, refl, sym, ap, subst, ◌∙◌, List, Option, Some, None, arith}
+use Rattle.std.proofs.Common.{◌≡◌, ℕ, ◌<◌, ◌≤◌, refl, sym, ap, subst, ◌∙◌, List, Option, arith}
 use Rattle.gh_coord.specs.Listing as coord
 use Rattle.gh_worker.specs.Listing as worker
 use Rattle.gh_lists.specs.declared.handshake.Actor.TheVariants as actor
@@ -23,12 +23,10 @@ module _ (given : Given) (good : ShapesAreGood given.shapes) (limits : IsInLimit
 
   -- only a processor begins an operation
   worker_begun : (o : Option Op) (w : worker.Working) → started all o (actor.Marks w) ≡ actor.Marks w
-  worker_begun None w = refl
-  worker_begun (Some o) w = refl
+  worker_begun o w = grind arith
 
   lead_begun : (o : Option Op) (c : coord.Coordinating) → started all o (actor.Leads c) ≡ actor.Leads c
-  lead_begun None c = refl
-  lead_begun (Some o) c = refl
+  lead_begun o c = grind arith
 
   pub steps_within : (es : List (Entry Op)) → HasState (setup_for given) es → StepsWithin (setup_for given) es
   steps_within es has a o step = go (state_of all a es) refl where

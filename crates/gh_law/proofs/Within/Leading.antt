@@ -1,5 +1,5 @@
 -- After every list of all actors the coordinator is of the heap, and asks for a word that there is.
-use Rattle.std.proofs.Common.{◌≡◌, ℕ, Bool, true, false, cond, ltb, ◌==◌, refl, subst, ◌∙◌, List, [], ◌∷◌, Option, Some, None}
+use Rattle.std.proofs.Common.{◌≡◌, ℕ, Bool, cond, ltb, ◌==◌, subst, ◌∙◌, List, [], ◌∷◌, Option, arith}
 use Rattle.gh_base.specs.declared.layout.Layout.{Layout}
 use Rattle.gh_base.specs.declared.machine.Entry.{Entry}
 use Rattle.gh_base.specs.Cells.{InRange}
@@ -14,7 +14,7 @@ use Rattle.gh_lists.specs.declared.handshake.Actor.{Actor}
 use Rattle.gh_lists.specs.declared.handshake.Actor.TheVariants as actor
 use Rattle.gh_lists.specs.Handshake.{actors, actor_takes, Setup}
 use Rattle.gh_law.proofs.Vocabulary.{IsInLimits, IsLed, Op}
-use Rattle.gh_law.proofs.Within.Coordinators.{first, FitsWhole, goes_on, within}
+use Rattle.gh_law.proofs.Within.Coordinators.{FitsWhole, goes_on, within}
 
 -- where it is the coordinator
 abbrev FitsLead : Layout → Actor → Type 0
@@ -27,14 +27,10 @@ module _ (setup : Setup) (limits : IsInLimits setup.layout) where
   all = actors setup
 
   starts : (a : ℕ) (b d : Bool) → FitsLead setup.layout (cond b (actor.Runs (opening_processor setup.layout a)) (cond d (actor.Marks (worker.opening setup.layout a)) (actor.Leads (coord.opening setup.layout a setup.pacing.gogc setup.pacing.minheap setup.pacing.room))))
-  starts a true d = tt
-  starts a false true = tt
-  starts a false false = (refl, first setup.layout a setup.pacing.gogc setup.pacing.minheap setup.pacing.room limits)
+  starts a b d = grind arith
 
   begun : (o : Option Op) (m : Actor) → FitsLead setup.layout m → FitsLead setup.layout (started all o m)
-  begun None m f = f
-  begun (Some o) (actor.Runs m) f = f
-  begun (Some o) _ f = f
+  begun o m f = grind arith
 
   taken : (found : ℕ) (m : Actor) → FitsLead setup.layout m → FitsLead setup.layout (actor_takes setup.shapes m found)
   taken found (actor.Runs m) f = tt
@@ -42,8 +38,7 @@ module _ (setup : Setup) (limits : IsInLimits setup.layout) where
   taken found (actor.Leads c) f = (stays c found ∙ f.0, goes_on c found f.1)
 
   next : (e : Entry Op) (m : Actor) (b : Bool) → FitsLead setup.layout m → FitsLead setup.layout (cond b (actor_takes setup.shapes (started all e.begun m) e.found) m)
-  next e m true f = taken e.found (started all e.begun m) (begun e.begun m f)
-  next e m false f = f
+  next e m b f = grind (arith, begun, taken)
 
   fits : (es : List (Entry Op)) (a : ℕ) → FitsLead setup.layout (state_of all a es)
   fits [] a = starts a (ltb a setup.layout.procs) (ltb a (acks_of setup.layout))

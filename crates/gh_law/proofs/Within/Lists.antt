@@ -1,13 +1,12 @@
 -- After every list each worker's step is on a word that there is, whatever was found.
-use Rattle.std.proofs.Common.{◌≡◌, ℕ, ◌≤◌, ◌==◌, Bool, true, false, cond, ltb, Option, Some, None, refl, subst, arith, List, [], ◌∷◌}
+use Rattle.std.proofs.Common.{◌≡◌, ℕ, ◌≤◌, ◌==◌, Bool, cond, Option, subst, arith, List, [], ◌∷◌}
 use Rattle.gh_assist.specs.Within.{TakingAndScanningAreWithin}
-use Rattle.gh_coord.specs.Listing as coord
 use Rattle.gh_worker.specs.Listing as worker
 use Rattle.gh_lists.specs.declared.handshake.Actor.TheVariants as actor
 use Rattle.gh_lists.specs.Handshake.{start, actor_takes, Setup}
-use Rattle.gh_law.proofs.Vocabulary.{acks_of, Actor, actors, cell_of, Entry, InRange, IsInLimits, Kind, Layout, nat_tests, Op, opening_processor, started, state_of, those, Working}
+use Rattle.gh_law.proofs.Vocabulary.{Actor, actors, cell_of, Entry, InRange, IsInLimits, Kind, Layout, Op, started, state_of, those, Working}
 use Rattle.gh_lists.specs.Seats.{IsSeated, seated}
-use Rattle.gh_law.proofs.Within.Workers.{first, FitsWhole, goes_on, within}
+use Rattle.gh_law.proofs.Within.Workers.{FitsWhole, goes_on, within}
 
 abbrev IsFit : Actor → Type 0
 IsFit (actor.Runs m) = Unit {0}
@@ -19,17 +18,10 @@ module _ (k : TakingAndScanningAreWithin) (setup : Setup) (some : 1 ≤ setup.la
   all = actors setup
 
   opens : (a : ℕ) → IsFit (start setup.layout setup.pacing a)
-  opens a = go (ltb a setup.layout.procs) (ltb a (acks_of setup.layout)) refl refl where
-    go : (b d : Bool) → ltb a setup.layout.procs ≡ b → ltb a (acks_of setup.layout) ≡ d → IsFit (cond b (actor.Runs (opening_processor setup.layout a)) (cond d (actor.Marks (worker.opening setup.layout a)) (actor.Leads (coord.opening setup.layout a setup.pacing.gogc setup.pacing.minheap setup.pacing.room))))
-    go true d e x = tt
-    go false true e x = first setup.layout a some (grind (arith, nat_tests, e)) (grind (arith, nat_tests, x))
-    go false false e x = tt
+  opens a = grind arith
 
   begun : (o : Option Op) (m : Actor) → IsFit m → IsFit (started all o m)
-  begun None m f = f
-  begun (Some o) (actor.Runs m) f = tt
-  begun (Some o) (actor.Marks w) f = f
-  begun (Some o) (actor.Leads c) f = tt
+  begun o m f = grind arith
 
   takes_fit : (found : ℕ) (m : Actor) → IsFit m → IsFit (actor_takes setup.shapes m found)
   takes_fit found (actor.Runs m) f = tt
@@ -37,8 +29,7 @@ module _ (k : TakingAndScanningAreWithin) (setup : Setup) (some : 1 ≤ setup.la
   takes_fit found (actor.Leads c) f = tt
 
   next : (e : Entry Op) (m : Actor) (b : Bool) → IsFit m → IsFit (cond b (actor_takes setup.shapes (started all e.begun m) e.found) m)
-  next e m true f = takes_fit e.found (started all e.begun m) (begun e.begun m f)
-  next e m false f = f
+  next e m b f = grind (arith, begun, takes_fit)
 
   fit_after : (es : List (Entry Op)) (a : ℕ) → IsFit (state_of all a es)
   fit_after [] a = opens a

@@ -1,18 +1,15 @@
 -- How few cycles there are: no more than two for each statement that may ask for one, and the last.
-use Rattle.std.proofs.Common.{◌≡◌, ◌≢◌, ℕ, suc, ◌+◌, ◌*◌, ◌<◌, ◌≤◌, ◌==◌, nat_lt, Bool, true, false, cond, refl, sym, ap, subst, ◌∙◌, arith, List, [], ◌∷◌, Option, Some, None}
+use Rattle.std.proofs.Common.{◌≡◌, ◌≢◌, ℕ, suc, ◌+◌, ◌*◌, ◌<◌, ◌≤◌, ◌==◌, Bool, true, false, cond, refl, sym, ap, subst, arith, List, [], ◌∷◌, Option, Some, None}
 use Rattle.gh_base.specs.declared.operation.Op.TheVariants as op
-use Rattle.gh_coord.specs.declared.open.OpenStage.TheVariants as open_stage
 use Rattle.gh_coord.specs.Listing as coord
 use Rattle.gh_lists.specs.declared.handshake.Actor.TheVariants as actor
 use Rattle.gh_lists.specs.Numbers.{asked_in, asks_for_one}
 use Rattle.gh_lists.specs.Processors.{asked_by, asks_collector}
-use Rattle.gh_lists.specs.Wants.{AreFew, BeginsFew, CountsWants, last_at, MayAsk, opened_last, total}
-use Rattle.gh_lists.proofs.Vocabulary.{Actor, Ask, asked_after, Begins, bit, by, CoordStage, Entry, has_left_at, KeepsIt, Kind, Legal, LoadAck, LoadWant, nat_tests, Op, Open, opened_in, OpenStage, Processor, processor_kind, ProcessorWritesItsOwn, started, Stop, WorkersWriteTheirOwn}
+use Rattle.gh_lists.specs.Wants.{AreFew, BeginsFew, CountsWants, last_at, MayAsk, total}
+use Rattle.gh_lists.proofs.Vocabulary.{Actor, Ask, asked_after, Begins, by, CoordStage, Entry, KeepsIt, Kind, Legal, nat_tests, Op, opened_in, Processor, processor_kind, ProcessorWritesItsOwn, started, WorkersWriteTheirOwn}
 use Rattle.gh_lists.specs.Seats.{other}
-use Rattle.gh_lists.proofs.CycleNumbers.Asking.{asked_once, begun_asks, left, most_asks}
-use Rattle.gh_lists.specs.Quiet.{worker_quiet}
+use Rattle.gh_lists.proofs.CycleNumbers.Asking.{asked_once, left, most_asks}
 use Rattle.gh_lists.specs.Sums.{total_at, total_below, total_none, total_same}
-use Rattle.gh_lists.specs.Aside.{aside as lead_aside}
 use Rattle.gh_lists.specs.Steps as seats
 use Rattle.gh_lists.specs.Handshake.{Setup}
 
@@ -32,20 +29,8 @@ asked_is ask = go (asks_for_one ask) where
   go true = (1, λ n. omega arith)
   go false = (0, λ n. omega arith)
 
-bit_few : (b : Bool) → bit b ≤ 1
-bit_few true = omega arith
-bit_few false = omega arith
-
-open_few : (last : Bool) (p : OpenStage) → opened_last last p ≤ 1
-open_few last open_stage.ClearWant = omega arith
-open_few last _ = bit_few last
-
 last_few : (last : Bool) (p : CoordStage) → last_at last p ≤ 1
-last_few last (LoadAck i) = omega arith
-last_few last LoadWant = omega arith
-last_few last (Stop st) = omega arith
-last_few last (Open o) = open_few last o.stage
-last_few last _ = bit_few last
+last_few last p = grind arith
 
 module _ (setup : Setup)
     (writes : ProcessorWritesItsOwn) (works : WorkersWriteTheirOwn)
@@ -74,17 +59,14 @@ module _ (setup : Setup)
   left_in es = total (left_at es) setup.layout.procs
 
   first_left : (a : ℕ) → a < setup.layout.procs → left_at [] a ≡ 0
-  first_left a m = rw (ltb_so a setup.layout.procs m) refl where
-    ltb_so : (a n : ℕ) → a < n → nat_lt a n ≡ true
-    ltb_so a n m = grind (arith, nat_tests, m)
+  first_left a m = grind arith
 
   module _ (e : Entry Op) (es : List (Entry Op)) (legal : Lawful (e ∷ es)) where
     stays : (a : ℕ) → e.actor ≢ a → left_at (e ∷ es) a ≡ left_at es a
     stays a differs = ap left_of (other setup e es a (grind (arith, nat_tests, differs)))
 
     begun_left : (m : Processor) (o : Option Op) → at es e.actor ≡ actor.Runs m → Begins (seats.it setup) e.actor es o → left (started k o m) ≤ left m + may_ask o
-    begun_left m None is b = omega arith
-    begun_left m (Some o) is b = begun_asks setup.shapes m o (has_left_at m.task)
+    begun_left m o is b = grind arith
 
     -- no step of another asks for one
     aside : setup.layout.procs ≤ e.actor → ((before : ℕ) → asked_after e.ask before ≡ before) → asked_in es + left_in es ≤ may_ask_in es → asked_in (e ∷ es) + left_in (e ∷ es) ≤ may_ask_in (e ∷ es)
@@ -106,9 +88,7 @@ module _ (setup : Setup)
         omega (arith, moved, was, now, asked, less, left_then, more, h)
 
     by_step : seats.Step setup e es → asked_in es + left_in es ≤ may_ask_in es → asked_in (e ∷ es) + left_in (e ∷ es) ≤ may_ask_in (e ∷ es)
-    by_step (seats.by_processor m x s) h = by_processor m x h
-    by_step (seats.by_worker w x s) h = aside x.from (λ n. ap (λ (q : Ask). asked_after q n) x.asked ∙ (worker_quiet (seats.words setup es) works w x.sound_it x.busy).asks_none n) h
-    by_step (seats.by_lead c x) h = aside (let seat = x.seat in omega (arith, seat)) (λ n. ap (λ (q : Ask). asked_after q n) x.asked ∙ (lead_aside (seats.words setup es) c c.stage x.sound_it.1).asks_none n) h
+    by_step h h2 = grind (arith, aside, by_processor)
 
   asked_few : (es : List (Entry Op)) → Lawful es → asked_in es + left_in es ≤ may_ask_in es
   asked_few [] legal = let none = total_none (left_at []) setup.layout.procs first_left in omega (arith, none)
@@ -153,8 +133,7 @@ module _ (setup : Setup)
       other_one i differs = rw (let no_one : (g == i) ≡ false = grind (arith, nat_tests, differs) in no_one) (omega arith)
 
       this_one : (b : Bool) → b ≡ true → cond b 1 0 + asked_by g es ≡ 1 + asked_by g es
-      this_one true e = refl
-      this_one false e = absurd cc
+      this_one b e = grind arith
 
   none_of : (es : List (Entry Op)) → total (λ h. 0 + asked_by h es) setup.layout.goroutines ≡ 0 + total (begun_by es) setup.layout.goroutines
   none_of es = let same = total_same (begun_by es) (λ h. 0 + asked_by h es) setup.layout.goroutines (λ i m. omega arith) in omega (arith, same)

@@ -1,16 +1,10 @@
 -- The numbers of cycles after every legal list.
-use Rattle.std.proofs.Common.{◌≡◌, ℕ, ◌+◌, ◌*◌, ◌⊎◌, inl, inr, true, refl, sym, subst, ◌∙◌, arith, List, [], ◌∷◌}
-use Rattle.gh_coord.specs.declared.close.CloseStage.TheVariants as close_stage
-use Rattle.gh_coord.specs.declared.open.OpenStage.TheVariants as open_stage
-use Rattle.gh_coord.specs.declared.tell.TellStage.TheVariants as tell_stage
-use Rattle.gh_coord.specs.Closing as close
-use Rattle.gh_coord.specs.Opening as opens_by
+use Rattle.std.proofs.Common.{◌≡◌, ℕ, ◌+◌, ◌*◌, ◌⊎◌, refl, sym, subst, ◌∙◌, arith, List, [], ◌∷◌}
 use Rattle.gh_coord.specs.Handshake as leading
 use Rattle.gh_coord.specs.Listing as coord
 use Rattle.gh_lists.specs.declared.handshake.Actor.TheVariants as actor
 use Rattle.gh_lists.specs.Handshake.{Sound, Setup}
-use Rattle.gh_lists.specs.Numbers.{open_part, tell_part}
-use Rattle.gh_lists.proofs.Vocabulary.{ahead_at, Ask, Check, Close, close_part, CloseStage, CoordStage, Count, CountsCycles, effect, Entry, generation_after, IsBeginning, IsFew, KeepsIt, Kind, Legal, MarkOn, Op, Open, opened_after, opened_in, OpenStage, Part, part_of, Processor, processor_kind, ProcessorWritesItsOwn, started, StopAgain, Sweep, Tell, TellStage, Watch, WorkersWriteTheirOwn, ◌↔◌}
+use Rattle.gh_lists.proofs.Vocabulary.{ahead_at, Ask, CoordStage, CountsCycles, effect, Entry, generation_after, IsBeginning, IsFew, KeepsIt, Kind, Legal, Op, opened_after, opened_in, Part, part_of, Processor, processor_kind, ProcessorWritesItsOwn, started, WorkersWriteTheirOwn, ◌↔◌}
 use Rattle.gh_lists.specs.Frames.{CycleWords, leaves, LeavesCycleWords, numbers_of}
 use Rattle.gh_lists.proofs.CycleNumbers.Leading.{goes_so, Is}
 use Rattle.gh_lists.specs.Quiet.{leaves_all, worker_quiet}
@@ -26,44 +20,8 @@ module _ (swept begun gen : ℕ) where
   abbrev MarkedWhere : (Type 0) → Type 0
   MarkedWhere X = gen ≡ 2 * begun ↔ X
 
-  alike : {X : Type 0} (d : ℕ) → begun ≡ swept + d → gen ≡ generation_after (swept + d) → (X → ⊥) → MarkedWhere X
-  alike d b g none = (λ e. absurd (omega (arith, b, g, e)), λ x. absurd (none x))
-
-  one_more : {X : Type 0} → begun ≡ swept + 1 → gen ≡ generation_after (swept + 0) → X → MarkedWhere X
-  one_more b g is = (λ e. is, λ x. omega (arith, b, g))
-
-  neither : ⊥ ⊎ ⊥ → ⊥
-  neither (inl x) = x
-  neither (inr x) = x
-
-  open_marked : (p : OpenStage) → opens_by.is_busy p ≡ true → IsAt (open_part p) → MarkedWhere (⊥ ⊎ (p ≡ open_stage.StorePhase))
-  open_marked open_stage.StorePhase s h = one_more h.0 h.1 (inr refl)
-  open_marked open_stage.Ended s h = absurd cc
-  open_marked _ s h = alike 0 h.0 h.1 (λ x. elim x [ inl y ↦ y | inr y ↦ cc ])
-
-  close_marked : (p : CloseStage) → IsAt (close_part p) → MarkedWhere ((close.is_marking p ≡ true) ⊎ ⊥)
-  close_marked close_stage.LoadBank h = one_more h.0 h.1 (inl refl)
-  close_marked close_stage.StorePhase h = alike 1 h.0 h.1 (λ x. elim x [ inl y ↦ cc | inr y ↦ y ])
-  close_marked close_stage.Ended h = alike 1 h.0 h.1 (λ x. elim x [ inl y ↦ cc | inr y ↦ y ])
-  close_marked _ h = one_more h.0 h.1 (inl refl)
-
-  tell_marked : (p : TellStage) → IsAt (tell_part p) → MarkedWhere (⊥ ⊎ ⊥)
-  tell_marked tell_stage.StoreTrigger h = alike 1 h.0 h.1 neither
-  tell_marked tell_stage.StoreSwept h = alike 1 h.0 h.1 neither
-  tell_marked tell_stage.StorePhase h = alike 0 h.0 h.1 neither
-  tell_marked tell_stage.Ended h = alike 0 h.0 h.1 neither
-
   marked : (c : coord.Coordinating) (p : CoordStage) → leading.SoundAt c p → IsAt (part_of p) → MarkedWhere (leading.Marks p ⊎ IsBeginning p)
-  marked c (Open o) s h = open_marked o.stage s.1 h
-  marked c (Watch w) s h = one_more h.0 h.1 (inl tt)
-  marked c (StopAgain st) s h = one_more h.0 h.1 (inl tt)
-  marked c (Check w) s h = one_more h.0 h.1 (inl tt)
-  marked c MarkOn s h = one_more h.0 h.1 (inl tt)
-  marked c (Close x) s h = close_marked x.stage h
-  marked c (Sweep w) s h = alike 1 h.0 h.1 neither
-  marked c (Count x) s h = alike 1 h.0 h.1 neither
-  marked c (Tell t) s h = tell_marked t.stage h
-  marked c _ s h = alike 0 h.0 h.1 neither
+  marked c p s h = grind arith
 
 module _ (setup : Setup)
     (writes : ProcessorWritesItsOwn) (works : WorkersWriteTheirOwn)

@@ -1,16 +1,13 @@
 -- The numbers of cycles are how often the list stores each: with each store of one it is one cycle later.
-use Rattle.std.proofs.Common.{◌≡◌, ℕ, suc, ◌+◌, ◌*◌, ◌≤◌, Bool, true, false, refl, sym, ap, subst, arith, List, [], ◌∷◌}
+use Rattle.std.proofs.Common.{◌≡◌, ℕ, suc, ◌+◌, ◌*◌, ◌≤◌, Bool, true, false, refl, subst, arith, List, [], ◌∷◌}
 use Rattle.gh_base.specs.declared.cell.Ask.TheVariants.{Store}
 use Rattle.gh_base.specs.declared.cell.Cell.TheVariants as cell
 use Rattle.gh_base.specs.Cells.{put, same_cell}
-use Rattle.gh_coord.specs.declared.close.CloseStage.TheVariants as close_stage
-use Rattle.gh_coord.specs.declared.open.OpenStage.TheVariants as open_stage
-use Rattle.gh_coord.specs.declared.tell.TellStage.TheVariants as tell_stage
-use Rattle.gh_lists.specs.Counts.{about_to_tell, CountsPlainly, stored_after, stored_in, stores_cell, told_by}
-use Rattle.gh_lists.specs.Numbers.{close_part, KeepsCycles, open_part, tell_part}
-use Rattle.gh_lists.proofs.Vocabulary.{ahead_at, Ask, Cell, Close, CloseStage, CoordStage, Coordinating, CountsCycles, effect, Entry, IsFew, KeepsIt, Legal, Op, Open, opened_in, OpenStage, Outside, Part, part_of, ProcessorWritesItsOwn, Tell, TellStage, Words, WorkersWriteTheirOwn}
+use Rattle.gh_lists.specs.Counts.{about_to_tell, CountsPlainly, stored_in, stores_cell}
+use Rattle.gh_lists.specs.Numbers.{KeepsCycles}
+use Rattle.gh_lists.proofs.Vocabulary.{ahead_at, Ask, Cell, CoordStage, Coordinating, CountsCycles, effect, Entry, IsFew, KeepsIt, Legal, Op, opened_in, Part, part_of, ProcessorWritesItsOwn, Words, WorkersWriteTheirOwn}
 use Rattle.gh_lists.proofs.Changes.{change}
-use Rattle.gh_lists.specs.Changes.{begins, Change, ends, same, tells}
+use Rattle.gh_lists.specs.Changes.{Change}
 use Rattle.gh_lists.specs.Counting.{rises, opened_in_stored}
 use Rattle.gh_lists.specs.Steps as seats
 use Rattle.gh_lists.specs.Handshake.{Setup}
@@ -34,32 +31,10 @@ record InTurn (p : Part) : Type 0 where
   one : (ahead_at p).opened ≤ 1
 
 in_turn : (p : Part) → InTurn p
-in_turn Outside = record { opened_first = omega arith; begun_then = omega arith; one = omega arith }
-in_turn _ = record { opened_first = omega arith; begun_then = omega arith; one = omega arith }
-
--- the cycle that is about to be told
-open_kept : (p : OpenStage) → (ahead_at (open_part p)).kept ≡ 0
-open_kept open_stage.ClearWant = refl
-open_kept open_stage.ClearGcur = refl
-open_kept open_stage.StorePhase = refl
-open_kept open_stage.Ended = refl
-open_kept _ = refl
-
-close_kept : (p : CloseStage) → (ahead_at (close_part p)).kept ≡ 0
-close_kept close_stage.StorePhase = refl
-close_kept close_stage.Ended = refl
-close_kept _ = refl
-
-tell_kept : (p : TellStage) → (ahead_at (tell_part p)).kept ≡ told_by p
-tell_kept tell_stage.StoreTrigger = refl
-tell_kept tell_stage.StoreSwept = refl
-tell_kept _ = refl
+in_turn p = grind arith
 
 kept_at : (p : CoordStage) → (ahead_at (part_of p)).kept ≡ about_to_tell p
-kept_at (Open o) = open_kept o.stage
-kept_at (Close c) = close_kept c.stage
-kept_at (Tell t) = tell_kept t.stage
-kept_at _ = refl
+kept_at p = grind arith
 
 module _ (setup : Setup)
     (writes : ProcessorWritesItsOwn) (works : WorkersWriteTheirOwn)
@@ -75,18 +50,8 @@ module _ (setup : Setup)
   abbrev StoredIn : List (Entry Op) → Type 0
   StoredIn es = Stored (told es) (stored_in cell.Begun es) (stored_in cell.Gen es) (stored_in cell.Swept es)
 
-  abbrev After : List (Entry Op) → Ask → Type 0
-  After es q = Stored (effect (told es) q) (stored_after cell.Begun q (stored_in cell.Begun es)) (stored_after cell.Gen q (stored_in cell.Gen es)) (stored_after cell.Swept q (stored_in cell.Swept es))
-
   one_more : (e : Entry Op) (es : List (Entry Op)) → Change setup e es → StoredIn es → StoredIn (e ∷ es)
-  one_more e es (same y) h = rw (not_stored e.ask cell.Begun y.begun, not_stored e.ask cell.Gen y.gen, not_stored e.ask cell.Swept y.swept) (record {
-    begun_is = let s = y.begun (told es) in let b = h.begun_is in omega (arith, s, b);
-    gen_is = let s = y.gen (told es) in let b = h.gen_is in omega (arith, s, b);
-    swept_is = let s = y.swept (told es) in let b = h.swept_is in omega (arith, s, b);
-  })
-  one_more e es (begins is) h = subst (After es) (sym is) (record { begun_is = ap suc h.begun_is; gen_is = h.gen_is; swept_is = h.swept_is })
-  one_more e es (ends y) h = subst (After es) (sym y.ask_is) (record { begun_is = h.begun_is; gen_is = let b = h.gen_is in omega (arith, b); swept_is = h.swept_is })
-  one_more e es (tells y) h = subst (After es) (sym y.ask_is) (record { begun_is = h.begun_is; gen_is = h.gen_is; swept_is = ap suc h.swept_is })
+  one_more e es h h2 = grind (arith, not_stored)
 
   few_before : (e : Entry Op) (es : List (Entry Op)) → IsFew (e ∷ es) → IsFew es
   few_before e es few = let up = rises e.ask (opened_in es) in omega (arith, few, up)

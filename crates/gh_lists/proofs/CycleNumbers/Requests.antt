@@ -1,32 +1,17 @@
 -- The requests for cycles after every legal list.
-use Rattle.std.proofs.Common.{◌≡◌, ℕ, suc, zero, ◌≤◌, ◌⊎◌, inl, inr, Bool, refl, sym, subst, ◌∙◌, arith, List, [], ◌∷◌}
-use Rattle.std.specs.Prelude.{bit_or}
+use Rattle.std.proofs.Common.{◌≡◌, ℕ, refl, sym, subst, ◌∙◌, arith, List, [], ◌∷◌}
 use Rattle.gh_base.specs.declared.cell.Cell.TheVariants as cell
 use Rattle.gh_coord.specs.Listing as coord
 use Rattle.gh_lists.specs.declared.handshake.Actor.TheVariants as actor
 use Rattle.gh_lists.specs.Numbers.{asked_in}
 use Rattle.gh_lists.specs.Wants.{CountsWants}
-use Rattle.gh_lists.proofs.Vocabulary.{Ask, asked_after, CoordStage, effect, Entry, KeepsIt, Kind, Legal, Op, opened_after, opened_in, Processor, processor_kind, ProcessorWritesItsOwn, started, WorkersWriteTheirOwn}
+use Rattle.gh_lists.proofs.Vocabulary.{Ask, asked_after, effect, Entry, KeepsIt, Kind, Legal, Op, opened_after, opened_in, Processor, processor_kind, ProcessorWritesItsOwn, started, WorkersWriteTheirOwn}
 use Rattle.gh_lists.specs.Frames.{leaves, LeavesCycleWords}
 use Rattle.gh_lists.proofs.CycleNumbers.Wanting.{goes_so, WantsAt}
 use Rattle.gh_lists.specs.Quiet.{leaves_all, worker_quiet}
 use Rattle.gh_lists.specs.Steps as seats
 use Rattle.gh_lists.specs.Writing.{leaves_numbers}
 use Rattle.gh_lists.specs.Handshake.{Setup}
-
--- a request that is made stands
-raised : (want : ℕ) → want ≤ 1 → bit_or want 1 ≡ 1
-raised zero few = refl
-raised (suc zero) few = refl
-raised (suc (suc n)) few = absurd (omega (arith, few))
-
-asked_once : (opened asked want : ℕ) (last : Bool) (p : CoordStage) → WantsAt opened asked want last p → WantsAt opened (suc asked) (bit_or want 1) last p
-asked_once opened asked want last p h = rw (raised want h.word) (record {
-  word = omega arith;
-  enough = let e = h.enough in omega (arith, e);
-  idle = h.idle;
-  wanted = λ x. elim (h.wanted x) [ inl y ↦ inl y | inr y ↦ inr refl ];
-})
 
 module _ (setup : Setup)
     (writes : ProcessorWritesItsOwn) (works : WorkersWriteTheirOwn)
@@ -53,10 +38,7 @@ module _ (setup : Setup)
 
   module _ (e : Entry Op) (es : List (Entry Op)) where
     beside : LeavesCycleWords (seats.words setup es) e.ask → (c : coord.Coordinating) → Holds es c → Holds (e ∷ es) c
-    beside x c h = go x.want where
-      go : (((before : ℕ) → asked_after e.ask before ≡ before) × (want (e ∷ es) ≡ want es)) ⊎ (((before : ℕ) → asked_after e.ask before ≡ suc before) × (want (e ∷ es) ≡ bit_or (want es) 1)) → Holds (e ∷ es) c
-      go (inl y) = rw (x.opens_none (opened_in es), y.0 (asked_in es), y.1) h
-      go (inr y) = rw (x.opens_none (opened_in es), y.0 (asked_in es), y.1) (asked_once (opened_in es) (asked_in es) (want es) c.is_last c.stage h)
+    beside x c h = grind arith
 
     by_lead : (c to : coord.Coordinating) → seats.LeadsIt setup e es c → to ≡ coord.goes c e.found → Holds es c → Holds (e ∷ es) to
     by_lead c to x then h =

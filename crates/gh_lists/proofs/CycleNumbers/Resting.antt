@@ -1,12 +1,11 @@
 -- While no cycle is marked, workers are at rest.
-use Rattle.std.proofs.Common.{◌≡◌, ℕ, ◌<◌, ◌==◌, inl, inr, Bool, true, false, cond, ltb, refl, sym, ap, subst, ◌∙◌, arith, List, [], ◌∷◌}
+use Rattle.std.proofs.Common.{◌≡◌, ℕ, ◌<◌, ◌==◌, inl, inr, Bool, true, false, refl, sym, ap, subst, ◌∙◌, arith, List, [], ◌∷◌}
 use Rattle.std.proofs.lemmas.Bool.Decides.{nat_tests}
 use Rattle.gh_base.specs.declared.machine.Entry.{Entry}
 use Rattle.gh_base.specs.declared.operation.Op.{Op}
 use Rattle.gh_base.specs.Lists.{Legal, started}
 use Rattle.gh_mutator.specs.Deeds.{processor_kind}
 use Rattle.gh_mutator.specs.Listing.{takes}
-use Rattle.gh_mutator.specs.Processor.{opening_processor}
 use Rattle.gh_mutator_writes.specs.Writing.{ProcessorWritesItsOwn}
 use Rattle.gh_coord.specs.Handshake as leading
 use Rattle.gh_coord.specs.Listing as coord
@@ -34,11 +33,7 @@ module _ (setup : Setup)
   Rest es = WorkersRest (seats.it setup) es
 
   first_worker : (a : ℕ) (w : worker.Working) → at [] a ≡ actor.Marks w → IsCalm w
-  first_worker a w is = go (ltb a setup.layout.procs) (ltb a n) is where
-    go : (b d : Bool) → cond b (actor.Runs (opening_processor setup.layout a)) (cond d (actor.Marks (worker.opening setup.layout a)) (actor.Leads (coord.opening setup.layout a setup.pacing.gogc setup.pacing.minheap setup.pacing.room))) ≡ actor.Marks w → IsCalm w
-    go true d x = absurd cc
-    go false false x = absurd cc
-    go false true x = let it : worker.opening setup.layout a ≡ w = cc in subst IsCalm it (calm.at_first setup.layout a)
+  first_worker a w is = grind arith
 
   -- where the world is stopped it waits, with nothing held and nothing to hand over
   waits : (stops : ℕ) (w : worker.Working) → working.Sound w → WaitsWithNone stops w → IsCalm w

@@ -1,11 +1,11 @@
 -- The numbers at the stacks after every legal list.
-use Rattle.std.proofs.Common.{◌≡◌, ℕ, ◌≤◌, ◌==◌, ◌⊎◌, inl, inr, Bool, true, false, cond, eqb, refl, sym, ap, subst, ◌∙◌, arith, List, [], ◌∷◌}
+use Rattle.std.proofs.Common.{◌≡◌, ℕ, ◌≤◌, ◌⊎◌, inl, inr, sym, ap, subst, ◌∙◌, arith, List, [], ◌∷◌}
 use Rattle.gh_base.specs.declared.cell.Cell.TheVariants as cell
 use Rattle.gh_coord.specs.Listing as coord
 use Rattle.gh_worker.specs.Listing as worker
 use Rattle.gh_lists.specs.declared.handshake.Actor.TheVariants as actor
 use Rattle.gh_lists.specs.Waits.{StacksAreNumbered}
-use Rattle.gh_lists.proofs.Vocabulary.{Add, ahead_at, And, Ask, Cell, CountsCycles, effect, END, Entry, IsFew, KeepsIt, Kind, Legal, Load, Op, opened_in, Or, Outside, Part, part_of, Party, party_of, Processor, processor_kind, ProcessorInHandshake, ProcessorWritesItsOwn, put, same_cell, Stage, stage_of, started, Store, Swap, Words, WorkersWriteTheirOwn}
+use Rattle.gh_lists.proofs.Vocabulary.{Ask, CountsCycles, effect, END, Entry, IsFew, KeepsIt, Kind, Legal, Op, opened_in, Party, party_of, Processor, processor_kind, ProcessorInHandshake, ProcessorWritesItsOwn, Stage, stage_of, started, Store, Words, WorkersWriteTheirOwn}
 use Rattle.gh_lists.specs.Frames.{LeavesCycleWords, leaves, CycleWords}
 use Rattle.gh_lists.specs.Counting.{rises}
 use Rattle.gh_lists.specs.Quiet.{leaves_all, Quiet, worker_quiet}
@@ -15,48 +15,17 @@ use Rattle.gh_lists.specs.Writing.{IsNumberOf, leaves_numbers, NumbersStack, num
 use Rattle.gh_lists.specs.Awake.{knows_begun}
 use Rattle.gh_lists.specs.Handshake.{Setup}
 
-begun_behind : (part : Part) → (ahead_at part).begun ≤ (ahead_at part).numbered
-begun_behind Outside = omega arith
-begun_behind _ = omega arith
-
-abbrev IsStack : Cell → Type 0
-IsStack c = (h : ℕ) × (c ≡ cell.Scanned h)
-
-which : (c : Cell) (g : ℕ) → (same_cell c (cell.Scanned g) ≡ false) ⊎ IsStack c
-which (cell.Scanned i) g = inr (i, refl)
-which _ g = inl refl
-
 module _ (words : Words) (g : ℕ) where
   abbrev Same : Ask → Type 0
   Same ask = effect words ask (cell.Scanned g) ≡ words (cell.Scanned g)
-
-  put_same : (c : Cell) (value : ℕ) → same_cell c (cell.Scanned g) ≡ false → put words c value (cell.Scanned g) ≡ words (cell.Scanned g)
-  put_same c value e = rw e refl
-
-  swap_same : (c : Cell) (old new : ℕ) → same_cell c (cell.Scanned g) ≡ false → (yes : Bool) → cond yes (put words c new) words (cell.Scanned g) ≡ words (cell.Scanned g)
-  swap_same c old new e true = put_same c new e
-  swap_same c old new e false = refl
 
   -- a processor's
   module _ (party : Party) (stage : Stage) where
     abbrev Leads : Ask → Type 0
     Leads ask = Same ask ⊎ IsNumberOf party stage (effect words ask (cell.Scanned g))
 
-    stored : (h value : ℕ) → IsNumberOf party stage value → (b : Bool) → (cond b value (words (cell.Scanned g)) ≡ words (cell.Scanned g)) ⊎ IsNumberOf party stage (cond b value (words (cell.Scanned g)))
-    stored h value n true = inr n
-    stored h value n false = inl refl
-
-    by_store : (c : Cell) (value : ℕ) → NumbersStack party stage (Store c value) → (same_cell c (cell.Scanned g) ≡ false) ⊎ IsStack c → Leads (Store c value)
-    by_store c value n (inl e) = inl (put_same c value e)
-    by_store c value n (inr h) = rw h.1 (stored h.0 value (subst (λ (d : Cell). NumbersStack party stage (Store d value)) h.1 n) (h.0 == g))
-
     pub numbered : (ask : Ask) → NumbersStack party stage ask → Leads ask
-    numbered (Load c) n = inl refl
-    numbered (Store c value) n = by_store c value n (which c g)
-    numbered (Or c bits) n = elim (which c g) [ inl e ↦ inl (put_same c _ e) | inr h ↦ absurd (subst (λ (d : Cell). NumbersStack party stage (Or d bits)) h.1 n) ]
-    numbered (And c bits) n = elim (which c g) [ inl e ↦ inl (put_same c _ e) | inr h ↦ absurd (subst (λ (d : Cell). NumbersStack party stage (And d bits)) h.1 n) ]
-    numbered (Add c more) n = elim (which c g) [ inl e ↦ inl (put_same c _ e) | inr h ↦ absurd (subst (λ (d : Cell). NumbersStack party stage (Add d more)) h.1 n) ]
-    numbered (Swap c old new) n = elim (which c g) [ inl e ↦ inl (swap_same c old new e (eqb (words c) old)) | inr h ↦ absurd (subst (λ (d : Cell). NumbersStack party stage (Swap d old new)) h.1 n) ]
+    numbered ask n = grind arith
 
 module _ (setup : Setup) (places : ProcessorInHandshake) (writes : ProcessorWritesItsOwn)
     (keeps : (es : List (Entry Op)) → Legal (seats.it setup) es → KeepsIt (seats.it setup) es) where
@@ -88,11 +57,7 @@ module _ (setup : Setup) (places : ProcessorInHandshake) (writes : ProcessorWrit
       as_many y = let same : words (e ∷ es) cell.Begun ≡ words es cell.Begun = ap (λ (n : CycleWords). n.begun) y.numbers in omega (arith, same)
 
       lead_rises : (c : coord.Coordinating) → CountsCycles (seats.it setup) setup.pacing.room es c → (words (e ∷ es) cell.Begun ≡ words es cell.Begun) ⊎ (e.ask ≡ Store cell.Begun c.begun) → words es cell.Begun ≤ words (e ∷ es) cell.Begun
-      lead_rises c n (inl same) = omega (arith, same)
-      lead_rises c n (inr stored) =
-          let now : words (e ∷ es) cell.Begun ≡ c.begun = ap (λ (q : Ask). effect (words es) q cell.Begun) stored in
-          let a = n.begun in let b = n.number in let d = begun_behind (part_of c.stage) in
-          omega (arith, now, a, b, d)
+      lead_rises c n h = grind arith
 
       -- no step takes the number of cycles begun back
       pub begun_rises : words es cell.Begun ≤ words (e ∷ es) cell.Begun

@@ -1,6 +1,5 @@
 -- No step of a legal list is on a buffer that there is not, so its word is as it was at first.
-use Rattle.std.proofs.Common.{◌≡◌, ℕ, ◌<◌, ◌≤◌, ◌==◌, Bool, true, false, cond, refl, ◌∙◌, ap, arith, List, [], ◌∷◌}
-use Rattle.std.proofs.lemmas.Bool.Decides.{nat_tests}
+use Rattle.std.proofs.Common.{◌≡◌, ℕ, ◌≤◌, Bool, false, cond, ◌∙◌, ap, arith, List, [], ◌∷◌}
 use Rattle.gh_base.specs.declared.cell.Cell.{Cell}
 use Rattle.gh_base.specs.declared.cell.Cell.TheVariants as cell
 use Rattle.gh_base.specs.declared.layout.Layout.{Layout}
@@ -10,11 +9,7 @@ use Rattle.gh_base.specs.Lists.{Legal, Setting, words_after}
 use Rattle.gh_base.specs.Steps.{cell_of, ChangesOneCell, left}
 
 differs : (l : Layout) (b : ℕ) (c : Cell) → buffers_of l ≤ b → InRange l c → same_cell c (cell.Buffer b) ≡ false
-differs l b (cell.Buffer i) m r = go (i == b) refl where
-  go : (t : Bool) → (i == b) ≡ t → (i == b) ≡ false
-  go false e = e
-  go true e = absurd (let is : i ≡ b = grind (arith, nat_tests) in let lt : i < buffers_of l = r in omega (arith, is, lt, m))
-differs l b _ m r = refl
+differs l b c m r = grind arith
 
 pub stays_clear : {M O : Type 0} (s : Setting M O) (one : ChangesOneCell) (b : ℕ) → buffers_of s.layout ≤ b → s.opening (cell.Buffer b) ≡ 0 → (es : List (Entry O)) → Legal s es → words_after s.opening es (cell.Buffer b) ≡ 0
 stays_clear s one b m h [] legal = h

@@ -1,5 +1,5 @@
 -- What holds while a cycle is marked, after every legal list; and what holds behind the coordinator's check.
-use Rattle.std.proofs.Common.{◌≡◌, ◌≢◌, ℕ, ◌+◌, ◌<◌, ◌≤◌, ◌==◌, Bool, true, false, cond, ltb, refl, sym, ap, subst, ◌∙◌, arith, inl, inr, Some, None, List, [], ◌∷◌}
+use Rattle.std.proofs.Common.{◌≡◌, ◌≢◌, ℕ, ◌+◌, ◌<◌, ◌≤◌, ◌==◌, Bool, true, false, ltb, refl, sym, ap, subst, ◌∙◌, arith, inl, inr, Some, None, List, [], ◌∷◌}
 use Rattle.gh_base.specs.declared.cell.Cell.TheVariants as cell
 use Rattle.gh_marks.specs.Colours.{Black, Buffered, Colour, IsShaded, mark_of, Pending, Placing, Taken, White}
 use Rattle.gh_marks.specs.Ends.{IsDone, IsFoundAtTheEnd}
@@ -13,10 +13,10 @@ use Rattle.gh_lists.specs.declared.handshake.Actor.TheVariants as actor
 use Rattle.gh_lists.specs.Handshake.{asks}
 use Rattle.gh_lists.specs.Marking.{setup_in, IsLedBy, setting, words}
 use Rattle.gh_lists.specs.Starts.{legal_start, whole}
-use Rattle.gh_marked.proofs.Vocabulary.{acks_of, Actor, actors, actors_after, Arena, Ask, buffer_of, buffers_of, cell_of, ChangesOneCell, Close, CoordStage, Cycle, effect, EndsClean, Entry, Hands, holder_in, is_busy, IsChecked, IsInLimits, IsStartOf, KeepsIt, Layout, Legal, ltb-false, ltb-true, mark_words, Marking as Shared, nat_tests, nothing, Op, opening_processor, Pacing, place_of, row_bit, RunPhase, started, StepKeepsIt, Stopped, WaitsWithNone, Words}
+use Rattle.gh_marked.proofs.Vocabulary.{acks_of, Actor, actors, actors_after, Arena, Ask, buffer_of, buffers_of, cell_of, ChangesOneCell, CoordStage, Cycle, effect, EndsClean, Entry, Hands, holder_in, is_busy, IsChecked, IsInLimits, IsStartOf, KeepsIt, Layout, Legal, ltb-false, ltb-true, mark_words, Marking as Shared, nat_tests, nothing, Op, Pacing, place_of, row_bit, RunPhase, started, StepKeepsIt, Stopped, WaitsWithNone, Words}
 use Rattle.gh_marked.proofs.CycleMarking.Apart.{stays_clear}
 use Rattle.gh_marked.specs.Marked.{IsInMarking, MarksToTheEnd, WasMarked}
-use Rattle.gh_marked.specs.Checking.{begins as begins_cycle, checked_lasts, CheckedAt, CoordinatorGoes, Found, goes_on, goes_so, leaves, still_stopped}
+use Rattle.gh_marked.specs.Checking.{begins as begins_cycle, checked_lasts, CheckedAt, CoordinatorGoes, Found, goes_on, goes_so, leaves}
 use Rattle.gh_marked.proofs.CycleMarking.Looking.{none_sweeps}
 use Rattle.gh_marked.proofs.CycleMarking.Moving as moving
 use Rattle.gh_lists.specs.Steps as seats
@@ -60,13 +60,7 @@ module _ (arena : Arena) (pacing : Pacing) (may : ℕ → List (Entry Op) → Op
 
   -- before the first step nothing is marked
   none_at_first : (c : coord.Coordinating) → Led [] c → leading.Marks c.stage → ⊥
-  none_at_first c led on = go (ltb n arena.layout.procs) (ltb n n) led where
-    go : (b d : Bool) → cond b (actor.Runs (opening_processor arena.layout n)) (cond d (actor.Marks (worker.opening arena.layout n)) (actor.Leads (coord.opening arena.layout n pacing.gogc pacing.minheap pacing.room))) ≡ actor.Leads c → ⊥
-    go true d x = absurd cc
-    go false true x = absurd cc
-    go false false x =
-        let is : coord.opening arena.layout n pacing.gogc pacing.minheap pacing.room ≡ c = cc in
-        subst (λ (y : coord.Coordinating). leading.Marks y.stage) (sym is) on
+  none_at_first c led on = grind arith
 
   -- Where the coordinator has checked it.
   module _ (es : List (Entry Op)) (legal : Lawful es) (c : coord.Coordinating) (led : Led es c) (i : In es c) (f : Found arena.layout c.begun (told es)) (post : leading.post_at c.stage ≡ Stopped run.Mark) where
@@ -113,7 +107,7 @@ module _ (arena : Arena) (pacing : Pacing) (may : ℕ → List (Entry Op) → Op
     }
 
     is_done : IsDone z s
-    is_done = cited.done z s i.good is_found
+    is_done = grind (arith, is_found)
 
     -- what is not of the cycle is not shaded, and nobody is placing
     dead : (o : ℕ) → s.since o ≡ false → row_bit (mark_words s.words) o ≡ 0
@@ -134,8 +128,7 @@ module _ (arena : Arena) (pacing : Pacing) (may : ℕ → List (Entry Op) → Op
 
   -- behind the check all is found, in a stopped world
   behind : (l : Layout) (number : ℕ) (w : Words) (p : CoordStage) → leading.Marks p → IsChecked p → CheckedAt l number w p → Found l number w × (leading.post_at p ≡ Stopped run.Mark)
-  behind l number w (Close x) on y h = (h, still_stopped x.stage on)
-  behind l number w _ on y h = absurd y
+  behind l number w p on y h = grind arith
 
   to_the_end : (es : List (Entry Op)) (c : coord.Coordinating) → Lawful es → Led es c → leading.Marks c.stage → Holds es c → MarksToTheEnd arena pacing may es c
   to_the_end es c legal led on h = record {
@@ -161,7 +154,7 @@ module _ (arena : Arena) (pacing : Pacing) (may : ℕ → List (Entry Op) → Op
     module _ (c : coord.Coordinating) (led : Led es c) (on : leading.Marks c.stage) (h : Holds es c) (among : a < n) where
       -- the coordinator stays as it is
       led_still : Led (e ∷ es) c
-      led_still = others_stay n (λ x. absurd (omega (arith, x, among))) ∙ led
+      led_still = grind (arith, among, others_stay)
 
       -- where the world is stopped it changes no word
       still : (phase : RunPhase) → leading.post_at c.stage ≡ Stopped phase → told (e ∷ es) ≡ told es

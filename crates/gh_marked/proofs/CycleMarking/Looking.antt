@@ -12,14 +12,12 @@ use Rattle.gh_phase.specs.Shakes.{IsCurrent}
 use Rattle.gh_coord.specs.Handshake as leading
 use Rattle.gh_coord.specs.Listing as coord
 use Rattle.gh_scan.specs.Listing as scan
-use Rattle.gh_shade.specs.declared.shade.Shaded.TheVariants as shaded
 use Rattle.gh_shade.specs.Listing as shade
 use Rattle.gh_sweep.specs.Listing as sweep
 use Rattle.gh_wbuf.specs.BufferGiving as give
 use Rattle.gh_wbuf.specs.EntryTaking as take
 use Rattle.gh_wbuf.specs.RoomFinding as room
 use Rattle.gh_worker.specs.declared.worker.WorkerStage.TheVariants as work
-use Rattle.gh_worker.specs.Choices.{by_stop, by_work}
 use Rattle.gh_worker.specs.Handshake as working
 use Rattle.gh_worker.specs.Listing as worker
 use Rattle.gh_lists.specs.declared.handshake.Actor.TheVariants as actor
@@ -44,14 +42,10 @@ module _ (found : ℕ) (w : Working) where
   Finds stage to = Looks to.stage → FindsOff found w stage to
 
   gives_back : (stops : ℕ) (held : Option Held) → Looks (worker.gives_back w stops held) → ⊥
-  gives_back stops None l = l
-  gives_back stops (Some h) l = l
+  gives_back stops held l = grind arith
 
   stops_at : (stops : ℕ) (held : Option Held) → Looks (worker.stops_at w stops held) → ⊥
-  stops_at stops held = by_stop (λ p. Looks p → ⊥) w stops held (λ e. gives_back stops held) (λ l. l)
-
-  with_work : (scan_work : ℕ) → Looks (worker.with_work w.layout scan_work) → ⊥
-  with_work scan_work = by_work (λ p. Looks p → ⊥) w.layout scan_work (λ l. l) (λ l. l)
+  stops_at stops held = grind arith
 
   by_phase : (stops : ℕ) (phase : Phase) → (phase_of found).phase ≡ phase → Finds work.LoadPhase (worker.at_stage w (worker.by_phase w stops phase))
   by_phase stops kind.Off e l = record { view_stays = refl; finds = inr (refl, ap run_phase e) }
@@ -72,42 +66,31 @@ module _ (found : ℕ) (w : Working) where
   after_sweep m sw (Some end) l = absurd l
 
   after_give : (g : give.BufferGiving) (stops : ℕ) (out : Option (Unit {0})) → Looks (worker.after_give w g stops out).stage → ⊥
-  after_give g stops None l = l
-  after_give g stops (Some x) l = l
+  after_give g stops out l = grind arith
 
   after_resume : (r : resume.Resuming) (out : Option Resumed) → Looks (worker.after_resume w r out).stage → ⊥
-  after_resume r None l = l
-  after_resume r (Some x) l = l
+  after_resume r out l = grind arith
 
   after_take : (t : take.EntryTaking) (out : Option (Option ℕ)) → Looks (worker.after_take w t out).stage → ⊥
-  after_take t None l = l
-  after_take t (Some None) l = l
-  after_take t (Some (Some reference)) l = l
+  after_take t out l = grind arith
 
   after_scan : (s : scan.Scanning) (out : Option ℕ) → Looks (worker.after_scan w s out).stage → ⊥
-  after_scan s None l = l
-  after_scan s (Some words) l = with_work (worker.counted w.scan_work words) l
+  after_scan s out l = grind arith
 
   after_global : (b : Bool) → Looks (cond b (worker.done_with w w.held 1) (worker.at_stage w (work.Shading (shade.opening w.layout (scan.reference_in w.layout found) w.held)))).stage → ⊥
-  after_global true l = with_work (worker.counted w.scan_work 1) l
-  after_global false l = l
+  after_global b l = grind arith
 
   after_shade : (sh : shade.Shading) (out : Option Shaded) → Looks (worker.after_shade w sh out).stage → ⊥
-  after_shade sh None l = l
-  after_shade sh (Some shaded.Done) l = with_work (worker.counted w.scan_work 1) l
-  after_shade sh (Some shaded.WantsRoom) l = l
+  after_shade sh out l = grind arith
 
   after_room : (sh : shade.Shading) (r : room.RoomFinding) (out : Option Held) → Looks (worker.after_room w sh r out).stage → ⊥
-  after_room sh r None l = l
-  after_room sh r (Some h) l = l
+  after_room sh r out l = grind arith
 
   cursor_leads : (b : Bool) → Looks (cond b work.Claim work.LoadPhase) → ⊥
-  cursor_leads true l = l
-  cursor_leads false l = l
+  cursor_leads b l = grind arith
 
   claim_leads : (b : Bool) → Looks (cond b (work.LoadGlobal found) work.LoadPhase) → ⊥
-  claim_leads true l = l
-  claim_leads false l = l
+  claim_leads b l = grind arith
 
   finds_at : (p : WorkerStage) → Finds p (worker.goes_at w p found)
   finds_at work.LoadPhase l = by_phase (phase_of found).stops (phase_of found).phase refl l
@@ -149,9 +132,7 @@ module _ (setup : Setup) (read : PackedWordsAreReadBack)
   at_first : KnowsOff []
   at_first a w is looks = go (ltb a setup.layout.procs) (ltb a n) is where
     go : (b d : Bool) → cond b (actor.Runs (opening_processor setup.layout a)) (cond d (actor.Marks (worker.opening setup.layout a)) (actor.Leads (coord.opening setup.layout a setup.pacing.gogc setup.pacing.minheap setup.pacing.room))) ≡ actor.Marks w → w.view.phase ≡ run.Off
-    go true d x = absurd cc
-    go false false x = absurd cc
-    go false true x = absurd (let it : worker.opening setup.layout a ≡ w = cc in subst (λ (y : Working). Looks y.stage) (sym it) looks)
+    go b d x = grind arith
 
   module _ (e : Entry Op) (es : List (Entry Op)) (legal : Legal (those setup) (e ∷ es)) (before : KnowsOff es) where
     -- the step of a worker

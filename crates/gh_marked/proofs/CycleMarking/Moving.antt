@@ -18,7 +18,7 @@ use Rattle.gh_lists.specs.Handshake.{asks, Sound}
 use Rattle.gh_lists.specs.Counts.{stored_in}
 use Rattle.gh_lists.specs.Marking.{setup_in, IsLedBy, setting, words}
 use Rattle.gh_marked.specs.Scanned.{done_by, most_scanned, scanned_by}
-use Rattle.gh_marked.proofs.Vocabulary.{acks_of, Actor, actors, actors_after, Acts, alloc_words, Arena, Ask, bit_at, cell_of, Cycle, effect, Entry, Hands, is_busy, IsBeginning, KeepsIt, Kind, Legal, MarkFacts, Marking as Shared, MarkingBegins, MarkingGood as Good, nat_tests, nothing, Op, PackedWordsAreReadBack, Pacing, Party, place_of, Processor, processor_kind, Row, row_bit, seats_of, started, WaitsWithNone, Went, Words, WorkerStage}
+use Rattle.gh_marked.proofs.Vocabulary.{acks_of, Actor, actors, actors_after, Acts, alloc_words, Arena, Ask, bit_at, cell_of, Cycle, effect, Entry, Hands, is_busy, IsBeginning, KeepsIt, Kind, Legal, MarkFacts, Marking as Shared, MarkingBegins, MarkingGood as Good, nat_tests, nothing, Op, PackedWordsAreReadBack, Pacing, Party, place_of, Processor, processor_kind, Row, row_bit, seats_of, started, WaitsWithNone, Went, Words}
 use Rattle.gh_marked.specs.Marked.{IsInMarking, Knows, KnowsHeap, LeavesObjects, MayBegin, StepsByMoves, WasMarked}
 use Rattle.gh_marked.specs.Beside.{LeavesHeap, works_so}
 use Rattle.gh_marked.specs.Checking.{IsLight, begin_post}
@@ -266,16 +266,14 @@ module _ (arena : Arena) (pacing : Pacing) (may : ℕ → List (Entry Op) → Op
   module _ (es : List (Entry Op)) (c : coord.Coordinating) (legal : Legal (setting arena pacing may) es) (led : IsLedBy arena pacing may es c) (b : IsBeginning c.stage)
       (was : WasMarked arena pacing may es) (keeps : KeepsIt (setting arena pacing may) es) where
     pub opened : MayBegin arena pacing may es c
-    opened = moves.heap.begins es c legal led b was
+    opened = grind arith
 
     begun : Begins opened.cycle opened.shared
     begun = moves.known.begin opened.cycle opened.shared opened.opens
 
     -- a worker that waits is at its seat
     seat_at : (w : worker.Working) (a : ℕ) (r : resume.Resuming) → w.stage ≡ Resuming r → working.Sound w → (working.party_of w).seat ≡ a → w.seat ≡ a
-    seat_at w a r e s is =
-        let on : working.GoesOnWithNone w.seat w.held w.scan_work r = subst (working.SoundAt w) e s in
-        sym on.seat_is ∙ (ap (λ (x : WorkerStage). (working.party_at w x).seat) (sym e) ∙ is)
+    seat_at w a r e s is = grind arith
 
     worker_knows : (a : ℕ) (w : worker.Working) → a < n → at es a ≡ actor.Marks w → marks.Facts opened.cycle a opened.shared w
     worker_knows a w lt is = record {

@@ -1,17 +1,13 @@
 -- A step of a processor while a cycle is marked, its operation begun: it is a move over the heap and made of moves of marking at once, whatever the processor runs; and where it writes the word of a stack it tells that the stack is scanned, of a goroutine that goes on.
 use Rattle.std.proofs.Common.{◌≡◌, ◌≢◌, ◌⊎◌, inl, inr, ℕ, ◌^◌, ◌<◌, Bool, true, false, cond, refl, sym, ap, subst, ◌∙◌, arith, List, ◌∷◌, Option, Some, None, eq-eqb}
 use Rattle.gh_base.specs.declared.cell.Cell.TheVariants as cell
-use Rattle.gh_base.specs.declared.operation.Op.TheVariants as op
-use Rattle.gh_coord.specs.declared.close.CloseStage.TheVariants as close_stage
-use Rattle.gh_coord.specs.Closing as close
 use Rattle.gh_coord.specs.Handshake as leading
-use Rattle.gh_mutator.specs.declared.new.NewStage.TheVariants as new_stage
 use Rattle.gh_mutator.specs.declared.task.Task.TheVariants as task
 use Rattle.gh_mutator_heap.specs.Beside.{KnowsMarking, StepsOn, Together}
 use Rattle.gh_mutator.specs.Sound.{has_room}
 use Rattle.gh_phase.specs.declared.view.RunPhase.TheVariants.{Mark}
 use Rattle.gh_mutator.specs.Sweeping.{sweep_in}
-use Rattle.gh_marked.proofs.Vocabulary.{ahead_at, Answer, Arena, arena, Ask, asks, begins, by, Cell, cell_of, Check, Close, close_part, CloseStage, Coordinating, CoordStage, Cycle, DoesPoints, effect, END, Entry, Fine, has_left_at, Heap, is_busy_at, IsAwake, IsBeginning, IsKnown, IsLed, IsSound, IsWritten, Kind, left, Legal, Load, MarkFacts, Marking, MarkingGood, MarkOn, moved, nat_tests, NewStage, only_polls, Op, Open, part_of, party_at, party_of, Polling, Processor, processor_at, processor_kind, same_cell, Shape, stage_at, stage_of, started, state_of, Steps as HeapSteps, StopAgain, Store, takes, Task, TellsScan, those, view, View, Wanted, Watch, Words, words, WritesOf}
+use Rattle.gh_marked.proofs.Vocabulary.{Answer, Arena, arena, Ask, asks, begins, by, Cell, cell_of, Coordinating, CoordStage, Cycle, DoesPoints, effect, END, Entry, Fine, has_left_at, Heap, is_busy_at, IsAwake, IsBeginning, IsKnown, IsLed, IsSound, IsWritten, Kind, left, Legal, Load, MarkFacts, Marking, MarkingGood, moved, only_polls, Op, party_at, party_of, Polling, Processor, processor_at, processor_kind, same_cell, Shape, stage_at, stage_of, started, state_of, Steps as HeapSteps, Store, takes, Task, TellsScan, those, view, View, Words, words, WritesOf}
 use Rattle.gh_marked.proofs.OneStep.EndedStays.{ended_stays}
 use Rattle.gh_marked.specs.Known.{ListsKnown}
 use Rattle.gh_marked.proofs.OneStep.Landing as landing
@@ -27,58 +23,27 @@ use Rattle.gh_lists.specs.Lists.{Given, setup_for}
 
 -- the cell of a stack
 is_stack : (c : Cell) (g : ℕ) → same_cell c (cell.Scanned g) ≡ true → c ≡ cell.Scanned g
-is_stack (cell.Scanned j) g is = let same : j ≡ g = grind (arith, nat_tests) in ap cell.Scanned same
-is_stack _ g is = absurd (cc)
+is_stack c g is = grind arith
 
 -- it rests, and has not left
 idle_is : (t : Task) → is_busy_at t ≡ false → has_left_at t ≡ false → t ≡ task.Idle
-idle_is task.Idle idle going = refl
-idle_is _ idle going = absurd (cc)
-
--- while it marks a cycle the coordinator's number is that of the last that has begun
-close_begun : (p : CloseStage) → close.is_marking p ≡ true → ((ahead_at (close_part p)).begun ≡ 1) × ((ahead_at (close_part p)).numbered ≡ 1)
-close_begun close_stage.LoadBank busy = (refl, refl)
-close_begun close_stage.StorePhase busy = absurd (cc)
-close_begun close_stage.Ended busy = absurd (cc)
-close_begun _ busy = (refl, refl)
-
-marks_begun : (p : CoordStage) → leading.Marks p → ((ahead_at (part_of p)).begun ≡ 1) × ((ahead_at (part_of p)).numbered ≡ 1)
-marks_begun (Watch w) on = (refl, refl)
-marks_begun (StopAgain st) on = (refl, refl)
-marks_begun (Check w) on = (refl, refl)
-marks_begun MarkOn on = (refl, refl)
-marks_begun (Close x) on = close_begun x.stage on
-marks_begun _ on = absurd on
+idle_is t idle going = grind arith
 
 -- it begins none while it marks one
 pub not_beginning : (p : CoordStage) → leading.Marks p → IsBeginning p → ⊥
-not_beginning (Open o) on b = on
-not_beginning _ on b = b
+not_beginning p on b = grind arith
 
 -- what begins leaves what is known of the phase
 same_view : (shapes : List Shape) (m : Processor) (o : Op) → (begins shapes m o).poll.local.view ≡ m.poll.local.view
-same_view shapes m (op.New g d t) = refl
-same_view shapes m _ = refl
+same_view shapes m o = grind arith
 
 -- while it runs a statement it is awake, and what it knows of the phase is what it knows between two polls
 record RunsAwake (p : Polling) (t : Task) : Type 0 where
   awake : IsAwake (stage_at p t)
   view_is : (party_at p t).view ≡ p.local.view
 
-new_awake : (p : Polling) (y : Wanted) (s : NewStage) → only_polls (task.New (record { wanted = y; stage = s })) ≡ false → RunsAwake p (task.New (record { wanted = y; stage = s }))
-new_awake p y (new_stage.Wait w) polls = absurd (cc)
-new_awake p y (new_stage.Search waited q) polls = record { awake = tt; view_is = refl }
-new_awake p y (new_stage.Place q) polls = record { awake = tt; view_is = refl }
-new_awake p y (new_stage.Want n) polls = record { awake = tt; view_is = refl }
-new_awake p y (new_stage.Assist n q) polls = record { awake = tt; view_is = refl }
-
 runs_awake : (p : Polling) (t : Task) → is_busy_at t ≡ true → only_polls t ≡ false → RunsAwake p t
-runs_awake p task.Left busy polls = absurd (cc)
-runs_awake p task.Poll busy polls = absurd (cc)
-runs_awake p (task.Gc g x) busy polls = absurd (cc)
-runs_awake p (task.Leave x) busy polls = absurd (cc)
-runs_awake p (task.New x) busy polls = new_awake p x.wanted x.stage polls
-runs_awake p _ busy polls = record { awake = tt; view_is = refl }
+runs_awake p t busy polls = grind arith
 
 module _ (given : Given) (wanted : Laws) (lists : ListsKnown (setup_for given)) where
   abbrev z : Arena
@@ -151,10 +116,10 @@ module _ (given : Given) (wanted : Laws) (lists : ListsKnown (setup_for given)) 
           absurd (let no : true ≡ false = sym busy ∙ (ap (λ (p : Processor). is_busy_at p.task) same ∙ idle o is) in cc)
 
     begins_is : (o : Op) → e.begun ≡ Some o → now ≡ begins given.shapes m o
-    begins_is o is = begun_is o is ∙ ap (λ (b : Bool). cond b m (begins given.shapes m o)) (going o is)
+    begins_is o is = grind (arith, begun_is, going)
 
     rests : (o : Op) → e.begun ≡ Some o → m.task ≡ task.Idle
-    rests o is = idle_is m.task (idle o is) (going o is)
+    rests o is = grind (arith, going, idle, idle_is)
 
     has_room_now : (o : Op) → e.begun ≡ Some o → has_room m o ≡ true
     has_room_now o is = ap (λ (p : Processor). has_room p o) (sym (state_by k a es)) ∙ (may_parts z given.counts a (state_of k a (by a es)) (by a es) o (step.may_now given lists.good lists.limits lists.known e es marked.legal marked.lt marked.kn.has o is)).room
@@ -162,14 +127,7 @@ module _ (given : Given) (wanted : Laws) (lists : ListsKnown (setup_for given)) 
     -- What is known where it steps.
 
     last_begun : told es cell.Begun ≡ number
-    last_begun =
-        let n = lists.counts es c marked.legal.0 marked.led in
-        let one = marks_begun c.stage marked.on in
-        let begun = one.0 in
-        let numbered = one.1 in
-        let words_begun = n.begun in
-        let own_begun = n.number in
-        omega (arith, begun, numbered, words_begun, own_begun, marked.number_is)
+    last_begun = grind arith
 
     words_are : s.words ≡ told es
     words_are = marked.kn.beside.words ∙ marked.kn.has.of_list.words_are

@@ -3,7 +3,6 @@ use Rattle.std.proofs.Common.{◌≡◌, ◌≢◌, ℕ, ◌+◌, ◌*◌, ◌/�
 use Rattle.gh_base.specs.declared.cell.Cell.TheVariants as cell
 use Rattle.gh_base.specs.Rows.{with_word}
 use Rattle.gh_class.specs.declared.class.SizeClass.{SizeClass}
-use Rattle.gh_class.specs.declared.class.SizeClass.TheVariants.{Large, Small}
 use Rattle.gh_class.specs.Classes.{IsSizeClass, slot_of}
 use Rattle.gh_heap.specs.Moves.{Make, May, Move, placed_at}
 use Rattle.gh_heap.specs.Rights.{Claims}
@@ -52,8 +51,7 @@ abbrev pub WholeWords : Type 0
 WholeWords = (c : ℕ) → c < 25 → slot_of c % 8 ≡ 0
 
 bytes_of_words : WholeWords → (c : SizeClass) (pages : ℕ) → IsSizeClass c → slot_bytes_of c pages ≡ 8 * cond (is_own_class c) (1024 * pages) (slot_of (number_of_class c) / 8)
-bytes_of_words whole (Small c) pages is = let even = whole c is in omega arith
-bytes_of_words whole Large pages is = omega arith
+bytes_of_words whole c pages is = grind arith
 
 slot_bytes_are : Known → WholeWords → (z : Arena) (s : State) → StateGood z s → (a at size : ℕ) → 0 < size → Claims z (view s.heap) a at size → s.slot (at / 64) ≡ 8 * size
 slot_bytes_are known whole z s good a at size some c =
@@ -149,9 +147,7 @@ module _ (known : Known) (whole : WholeWords) (z : Arena) (a : ℕ) (s : State) 
     rests = rests_counted known z a s;
   } where
     t_is : t ≡ record (s.heap) { words = put s.heap.words cell.Heap ((s.heap.words cell.Heap + s.pend a) % 2 ^ 64) }
-    t_is =
-        c.alone s.heap t stepped.does.counts
-        ∙ ap (λ (w : Words). record (s.heap) { words = w }) (stepped.words ∙ (ap (effect s.heap.words) c.asks_is ∙ ap (λ (n : ℕ). put s.heap.words cell.Heap ((s.heap.words cell.Heap + n) % 2 ^ 64)) (sym stepped.pends)))
+    t_is = grind arith
 
   made_more : (x : ByMaking move) → t.ever.made x.g ≡ h.ever.made x.g + 1
   made_more x = ap (λ (y : Move). (moved z a h y).ever.made x.g) x.is ∙ rw (eq-eqb x.g x.g refl) refl

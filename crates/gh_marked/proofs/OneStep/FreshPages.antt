@@ -97,7 +97,7 @@ module _ (read : PackedWordsAreReadBack) (z : Arena) (a : ℕ) (h : Heap) (q : �
     go false = still
 
   freed : (p : ℕ) → For (Store (cell.Page p) 0)
-  freed p = onto p 0 (inl refl)
+  freed p = grind (arith, onto)
 
   -- Spans are given back.
   gives : (g : give.Giving) (s : GiveStage) → give_locked_at s ≡ true → GiveStageFacts z a v g s → For (give.asks_at g s)

@@ -16,7 +16,7 @@ use Rattle.gh_marked.proofs.Vocabulary.{Answer, Arena, arena, Ask, asks, begins,
 use Rattle.gh_marked.proofs.OneStep.Counting as counting
 use Rattle.gh_marked.specs.Known.{Known}
 use Rattle.gh_marked.proofs.OneStep.OwnStep as step
-use Rattle.gh_marked.proofs.OneStep.Placing.{begins_plain, idle_plain, sweeps_plain}
+use Rattle.gh_marked.proofs.OneStep.Placing.{idle_plain, sweeps_plain}
 use Rattle.gh_lists.specs.Sweeping.{idle_sweeps_none}
 use Rattle.gh_lists.specs.Resting.{runs_are}
 use Rattle.gh_marked.proofs.OneStep.Sweepers as sweepers
@@ -25,8 +25,7 @@ use Rattle.gh_lists.specs.Lists.{Given, setup_for}
 
 -- what begins has placed nothing
 begun_places : (shapes : List Shape) (m : Processor) (o : Op) (b : Bool) → is_busy_at m.task ≡ false → uncounted (cond b m (begins shapes m o)).task ≡ 0
-begun_places shapes m o true idle = idle_plain m.task idle
-begun_places shapes m o false idle = begins_plain shapes m o
+begun_places shapes m o b idle = grind arith
 
 -- what a sweep leaves to who runs it, of the heap
 pub leaves_of : (s t : State) → SweepKeeps s t → SweepLeaves (view s.heap) (view t.heap)
@@ -80,7 +79,7 @@ module _ (given : Given) (good : ShapesAreGood given.shapes) (limits : IsInLimit
         begun_places given.shapes m o (has_left_at m.task) idle ∙ sym (idle_plain m.task idle))
 
     pub pend_is : s.pend a ≡ uncounted now.task
-    pend_is = has.placing a lt ∙ sym begun_counts
+    pend_is = grind (arith, begun_counts)
 
     pub seat : a < seats_of given.layout
     seat = omega (arith, lt)
@@ -173,7 +172,7 @@ module _ (given : Given) (good : ShapesAreGood given.shapes) (limits : IsInLimit
     -- It runs a sweep: the step is the sweep's.
     module _ (sw : Sweeping) (is : sweep_in now ≡ Some sw) where
       runs : IsInSweep a s (Some sw)
-      runs = subst (IsInSweep a s) is in_sweep_now
+      runs = grind (arith, in_sweep_now)
 
       on : SweepsOn asks (takes given.shapes) sweep_in now sw
       on = known.processors_sweep.on given.shapes now sw is runs.1

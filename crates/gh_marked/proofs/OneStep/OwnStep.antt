@@ -1,5 +1,5 @@
 -- One entry more of a processor: what it is with its operation begun, and that its step is a move over the heap that its rights allow, or one of the sweep that it runs.
-use Rattle.std.proofs.Common.{◌≡◌, ℕ, ◌<◌, inr, Bool, true, false, refl, sym, ap, subst, ◌∙◌, List, ◌∷◌, Option, Some, None}
+use Rattle.std.proofs.Common.{◌≡◌, ℕ, ◌<◌, inr, Bool, true, false, sym, ap, subst, ◌∙◌, List, ◌∷◌, Some, None, arith}
 use Rattle.gh_mutator_heap.specs.Facts.{MayBegin}
 use Rattle.gh_lists.specs.Handshake.{asks as asks_by}
 use Rattle.gh_mutator.specs.Sweeping.{sweep_in}
@@ -53,10 +53,7 @@ module _ (given : Given) (good : ShapesAreGood given.shapes) (limits : IsInLimit
     -- Where an operation begins.
 
     pub begins_with : (P : Processor → Type 0) → P m → ((o : Op) → e.begun ≡ Some o → P (k.begins m o)) → P now
-    begins_with P none some = go e.begun refl where
-      go : (o : Option Op) → e.begun ≡ o → P now
-      go None x = subst (λ (y : Option Op). P (started k y m)) (sym x) none
-      go (Some o) x = subst (λ (y : Option Op). P (started k y m)) (sym x) (some o x)
+    begins_with P none some = grind arith
 
     pub idle : (o : Op) → e.begun ≡ Some o → is_busy_at m.task ≡ false
     idle o x = (begins_so given known e es legal lt o x).idle

@@ -1,17 +1,12 @@
 -- What a processor has placed and not counted, over a step of it: the step that makes an object adds the bytes of its slot, the one that counts them takes them off, and no other changes that or makes anything.
-use Rattle.std.proofs.Common.{◌≡◌, ℕ, ◌+◌, ◌*◌, ◌%◌, ◌^◌, nat_le, Bool, true, false, cond, refl, ◌⊎◌, inl, inr, List, Option, Some, None}
+use Rattle.std.proofs.Common.{◌≡◌, ℕ, ◌+◌, ◌*◌, ◌%◌, ◌^◌, nat_le, Bool, true, false, cond, refl, ◌⊎◌, inl, inr, List, Option, Some, arith}
 use Rattle.gh_base.specs.declared.cell.Cell.TheVariants as cell
 use Rattle.gh_base.specs.declared.operation.Op.TheVariants as op
-use Rattle.gh_base.specs.declared.value.Answer.TheVariants as answer
-use Rattle.gh_model.specs.declared.EverValue.TheVariants as ever_value
-use Rattle.gh_model.specs.Ever.{answer_of, sets_global, stores_value, takes_answer}
 use Rattle.gh_alloc.specs.declared.place.PlaceStage.TheVariants as making
 use Rattle.gh_alloc.specs.Place as place
 use Rattle.gh_alloc.specs.Search as search
 use Rattle.gh_assist.specs.Listing as assist
 use Rattle.gh_bitmap.specs.SetPointers as bits
-use Rattle.gh_mutator.specs.declared.global.GlobalStage.TheVariants as global_stage
-use Rattle.gh_mutator.specs.declared.register.Source.TheVariants as source
 use Rattle.gh_mutator.specs.declared.task.Task.TheVariants as task
 use Rattle.gh_mutator_heap.specs.Facts.{CountsAlone}
 use Rattle.gh_mutator.specs.Global as global
@@ -23,10 +18,10 @@ use Rattle.gh_mutator.specs.New as new
 use Rattle.gh_mutator.specs.Poll as poll
 use Rattle.gh_mutator.specs.Register as register
 use Rattle.gh_mutator.specs.Store as store
-use Rattle.gh_mutator.specs.Sweeping.{sweep_at, sweep_new}
+use Rattle.gh_mutator.specs.Sweeping.{sweep_at}
 use Rattle.gh_mutator.specs.Wait as wait
 use Rattle.gh_sweep.specs.Listing.{Sweeping}
-use Rattle.gh_marked.proofs.Vocabulary.{acted, acting, acts_at, Add, after_assist, after_gc, after_leave, after_poll, Answer, Assist, Assisting, assisting, assists, At, begins_at, cache_span, CountsObject, Ends, Ever, ever_after, EverValue, follows, Found, Global, GlobalStage, GoesOn, Heap, is_busy_at, is_some, Name, nat_lt, NewStage, NoRoom, Op, Place, PlaceStage, Placing, Processor, Register, register_of, Search, Shape, Source, takes_at, Task, Then, uncounted, Wait, Want, Wanted}
+use Rattle.gh_marked.proofs.Vocabulary.{acted, acting, acts_at, Add, after_assist, after_gc, after_leave, after_poll, Assist, Assisting, assisting, assists, cache_span, CountsObject, Ever, follows, Found, Global, GlobalStage, Heap, is_busy_at, is_some, Name, nat_lt, NewStage, Op, Place, PlaceStage, Placing, Processor, Register, register_of, Search, Shape, Source, takes_at, Task, Then, uncounted, Wait, Want, Wanted}
 
 -- No object is made but by a `new`.
 
@@ -35,43 +30,17 @@ IsNoNew (op.New g d t) = ⊥
 IsNoNew _ = Unit {0}
 
 module _ (shapes : List Shape) where
-  takes_made : (e : Ever) (g d : ℕ) (x : Answer) (h : ℕ) → (takes_answer e g d x).made h ≡ e.made h
-  takes_made e g d answer.Done h = refl
-  takes_made e g d _ h = refl
-
-  stores_made : (e : Ever) (b : EverValue) (k : ℕ) (v : EverValue) (x : Answer) (h : ℕ) → (stores_value e b k v x).made h ≡ e.made h
-  stores_made e ever_value.Nil k v x h = refl
-  stores_made e (ever_value.Int n) k v x h = refl
-  stores_made e (ever_value.Ref n) k v answer.Done h = refl
-  stores_made e (ever_value.Ref n) k v _ h = refl
-
-  sets_made : (e : Ever) (k : ℕ) (v : EverValue) (x : Answer) (h : ℕ) → (sets_global e k v x).made h ≡ e.made h
-  sets_made e k v answer.Done h = refl
-  sets_made e k v _ h = refl
-
-  after_made : (e : Ever) (o : Op) (x : Answer) → IsNoNew o → (h : ℕ) → (ever_after shapes e o x).made h ≡ e.made h
-  after_made e (op.New g d t) x plain h = absurd plain
-  after_made e (op.Load g d b k) x plain h = takes_made e g d x h
-  after_made e (op.Store g b k v) x plain h = stores_made e (e.register g b) k (e.register g v) x h
-  after_made e (op.GetGlobal g d k) x plain h = takes_made e g d x h
-  after_made e (op.SetGlobal g k v) x plain h = sets_made e k (e.register g v) x h
-  after_made e _ x plain h = refl
-
   acting_made : (b : Bool) (o : Op) → IsNoNew o → (e : Ever) (h : ℕ) → (acted shapes e (acting b o false)).made h ≡ e.made h
-  acting_made true o plain e h = after_made e o (answer_of shapes e o) plain h
-  acting_made false o plain e h = refl
+  acting_made b o plain e h = grind arith
 
   refused_made : (b : Bool) (w : Wanted) (e : Ever) (h : ℕ) → (acted shapes e (acting b (new.op_of w) true)).made h ≡ e.made h
-  refused_made true w e h = refl
-  refused_made false w e h = refl
+  refused_made b w e h = grind arith
 
 no_new_global : (x : Global) (s : GlobalStage) → IsNoNew (global.op_in x s)
-no_new_global x global_stage.Load = tt
-no_new_global x _ = tt
+no_new_global x s = grind arith
 
 no_new_register : (x : Register) (s : Source) → IsNoNew (register.op_from x s)
-no_new_register x (source.Int n) = tt
-no_new_register x _ = tt
+no_new_register x s = grind arith
 
 -- The task behind a step.
 
@@ -80,8 +49,7 @@ abbrev IsPlain : Task → Type 0
 IsPlain t = uncounted t ≡ 0
 
 followed : {S : Type 0} (goes : S → Task) → ((s : S) → IsPlain (goes s)) → (x : Then S) → IsPlain (follows goes x)
-followed goes plain (GoesOn s) = plain s
-followed goes plain (Ends a) = refl
+followed goes plain x = grind arith
 
 module _ (shapes : List Shape) (m : Processor) (found : ℕ) where
   pub record Counts (t : Task) : Type 0 where
@@ -108,14 +76,10 @@ module _ (shapes : List Shape) (m : Processor) (found : ℕ) where
 
   -- a search
   searched : (w : Wanted) (waited : Bool) (q : search.Seeking) (y : Processor) (out : Option Found) → IsPlain (new.after_search shapes y w waited q out).task
-  searched w waited q y None = refl
-  searched w waited q y (Some (At a)) = refl
-  searched w true q y (Some NoRoom) = refl
-  searched w false q y (Some NoRoom) = refl
+  searched w waited q y out = grind arith
 
   waited_for : (w : Wanted) (x : wait.Waiting) (out : Option (Unit {0})) → IsPlain (new.after_wait m w x out).task
-  waited_for w x None = refl
-  waited_for w x (Some y) = refl
+  waited_for w x out = grind arith
 
   -- the making of an object
   abbrev placing_at : Wanted → Placing → Task
@@ -123,12 +87,10 @@ module _ (shapes : List Shape) (m : Processor) (found : ℕ) where
 
   -- behind it an assist may run
   then_plain : (w : Wanted) (n : Name) (marking : Bool) → IsPlain (cond marking (assists w n (assisting m.poll w)) task.Idle)
-  then_plain w n true = refl
-  then_plain w n false = refl
+  then_plain w n marking = grind arith
 
   assisted : (w : Wanted) (n : Name) (x : Assisting) (out : Option (Unit {0})) → IsPlain (after_assist m w n x out).task
-  assisted w n x None = refl
-  assisted w n x (Some y) = refl
+  assisted w n x out = grind arith
 
   placed : (w : Wanted) (p : Placing) (s : PlaceStage) → StepOf (placing_at w (place.at_stage p s))
   placed w p (making.Clear k) = inr (inr (record { same = by (nat_lt (k + 1) p.slot); silent = λ y. absurd (let x = y.0 in cc); nothing = λ e g. refl })) where
@@ -138,11 +100,7 @@ module _ (shapes : List Shape) (m : Processor) (found : ℕ) where
   placed w p making.Birth = inr (inr (record { same = refl; silent = λ y. absurd (let x = y.0 in cc); nothing = λ e g. refl }))
   placed w p (making.Bits q) = inr (inr (record { same = by (bits.is_busy (bits.goes q found).stage); silent = λ y. absurd (let x = y.0 in cc); nothing = λ e g. refl })) where
     by : (b : Bool) → uncounted (new.made_task m.poll w (place.at_stage p (cond b (making.Bits (bits.goes q found)) (place.filled p.marking))) (place.given_at (cond b (making.Bits (bits.goes q found)) (place.filled p.marking)))) ≡ 0
-    by true = refl
-    by false = filled p.marking where
-      filled : (marking : Bool) → uncounted (new.made_task m.poll w (place.at_stage p (place.filled marking)) (place.given_at (place.filled marking))) ≡ 0
-      filled true = refl
-      filled false = refl
+    by b = grind arith
   placed w p making.Mark = inr (inr (record { same = refl; silent = λ y. absurd (let x = y.0 in cc); nothing = λ e g. refl }))
   placed w p making.Alloc = inr (inl (record { wanted = w; placing = place.at_stage p making.Alloc; is = refl; stage = refl; silent = λ y. absurd (let x = y.0 in cc) }))
   placed w p (making.Give g) = inr (inr (record { same = refl; silent = λ y. absurd (let x = y.0 in cc); nothing = λ e g. refl }))
@@ -157,16 +115,13 @@ module _ (shapes : List Shape) (m : Processor) (found : ℕ) where
   placed w p (making.Ended wants) = inr (inr (record { same = then_plain w p.name (marking_at m.poll); silent = λ y. absurd (let x = y.0 in cc); nothing = λ e g. refl }))
 
   ended_gc : (g : ℕ) (x : wait.Waiting) (out : Option (Unit {0})) → uncounted (after_gc m g x out).task ≡ 0
-  ended_gc g x None = refl
-  ended_gc g x (Some y) = refl
+  ended_gc g x out = grind arith
 
   ended_poll : (x : poll.Polling) (out : Option (Unit {0})) → uncounted (after_poll m x out).task ≡ 0
-  ended_poll x None = refl
-  ended_poll x (Some y) = refl
+  ended_poll x out = grind arith
 
   ended_leave : (x : leave.Leaving) (out : Option (Unit {0})) → uncounted (after_leave m x out).task ≡ 0
-  ended_leave x None = refl
-  ended_leave x (Some y) = refl
+  ended_leave x out = grind arith
 
   pub kind : (t : Task) → is_busy_at t ≡ true → StepOf t
   kind task.Idle busy = absurd (cc)
@@ -189,20 +144,7 @@ module _ (shapes : List Shape) (m : Processor) (found : ℕ) where
 
   -- a step of a sweep is one of a search
   pub sweeps_plain : (t : Task) (sw : Sweeping) → sweep_at t ≡ Some sw → (uncounted t ≡ 0) × (uncounted (takes_at shapes m t found).task ≡ 0)
-  sweeps_plain (task.New x) sw is = by_stage x.wanted x.stage is where
-    by_stage : (w : Wanted) (s : NewStage) → sweep_new s ≡ Some sw → (uncounted (task.New (record { wanted = w; stage = s })) ≡ 0) × (uncounted (takes_at shapes m (task.New (record { wanted = w; stage = s })) found).task ≡ 0)
-    by_stage w (Search waited q) is = (refl, searched w waited (search.goes q found) (cache_span m w.sought (search.goes q found).find.cached) (search.gives q found))
-    by_stage w (Wait y) is = absurd cc
-    by_stage w (Place p) is = absurd cc
-    by_stage w (Want n) is = absurd cc
-    by_stage w (Assist n x) is = absurd cc
-  sweeps_plain _ sw is = absurd cc
-
--- An operation that begins leaves it so.
-pub begins_plain : (shapes : List Shape) (m : Processor) (o : Op) → uncounted (begins_at shapes m o) ≡ 0
-begins_plain shapes m (op.New g d t) = refl
-begins_plain shapes m _ = refl
+  sweeps_plain t sw is = grind arith
 
 pub idle_plain : (t : Task) → is_busy_at t ≡ false → uncounted t ≡ 0
-idle_plain (task.New x) idle = absurd (cc)
-idle_plain _ idle = refl
+idle_plain t idle = grind arith

@@ -1,14 +1,12 @@
 -- An operation that is still to act is one of those that may begin: its goroutine, registers and global are there. So the heap that never frees stays bounded.
-use Rattle.std.proofs.Common.{◌≡◌, ℕ, ◌<◌, ◌⊎◌, inl, inr, ◌==◌, Bool, true, false, cond, ltb, refl, sym, ap, subst, ◌∙◌, arith, List, [], ◌∷◌, length, Option, Some, None, eq-eqb}
-use Rattle.std.specs.Prelude.{◌&&◌}
-use Rattle.gh_base.specs.declared.operation.Op.TheVariants as op
+use Rattle.std.proofs.Common.{◌≡◌, ℕ, ◌<◌, ◌⊎◌, ◌==◌, Bool, true, false, cond, refl, sym, ap, subst, ◌∙◌, arith, List, [], ◌∷◌, length, Option, Some, None, eq-eqb}
 use Rattle.gh_base.specs.declared.value.Answer.TheVariants as answers
 use Rattle.gh_base.specs.Orders.{with_point}
 use Rattle.gh_cycle.specs.Reached.{IsInRange}
 use Rattle.gh_model.specs.Ever.{answer_of}
 use Rattle.gh_lists.specs.declared.handshake.Actor.TheVariants as actor
-use Rattle.gh_marked.proofs.Vocabulary.{Act, acted, Actor, actors, acts, answer_at, Arena, arena, Begins, by, deeds, DeedsFit, Entry, Ever, has_point, in_range, is_busy, is_busy_at, IsBounded, Kind, Legal, ltb-true, may_of, nat_tests, Op, point_of, Processor, processor_at, processor_kind, REGISTERS, started, state_of, takes, those}
-use Rattle.gh_lists.specs.Beginning.{both, may_parts}
+use Rattle.gh_marked.proofs.Vocabulary.{Act, acted, Actor, actors, acts, answer_at, Arena, arena, Begins, by, deeds, DeedsFit, Entry, Ever, has_point, in_range, is_busy, is_busy_at, IsBounded, Kind, Legal, may_of, nat_tests, Op, point_of, Processor, processor_at, processor_kind, started, state_of, takes, those}
+use Rattle.gh_lists.specs.Beginning.{may_parts}
 use Rattle.gh_marked.specs.Known.{Known}
 use Rattle.gh_lists.specs.Resting.{runs_are, state_stays}
 use Rattle.gh_lists.specs.Seats.{run_started}
@@ -18,28 +16,8 @@ module _ (z : Arena) where
   abbrev InRange : Op → Type 0
   InRange o = in_range z.layout.goroutines z.layout.globals (length z.shapes) o ≡ true
 
-  three : (x y w : ℕ) (n : ℕ) → (ltb x n && ltb y REGISTERS && ltb w REGISTERS) ≡ true → (x < n) × (y < REGISTERS) × (w < REGISTERS)
-  three x y w n is = let p = both (ltb x n && ltb y REGISTERS) (ltb w REGISTERS) is in let q = both (ltb x n) (ltb y REGISTERS) p.0 in (ltb-true x n q.0, ltb-true y REGISTERS q.1, ltb-true w REGISTERS p.1)
-
-  two : (x y : ℕ) (n : ℕ) → (ltb x n && ltb y REGISTERS) ≡ true → (x < n) × (y < REGISTERS)
-  two x y n is = let q = both (ltb x n) (ltb y REGISTERS) is in (ltb-true x n q.0, ltb-true y REGISTERS q.1)
-
   pub op_range : (o : Op) → InRange o → IsInRange z o
-  op_range (op.New g d t) is = let p = both (ltb g z.layout.goroutines && ltb d REGISTERS) (ltb t (length z.shapes)) is in two g d z.layout.goroutines p.0
-  op_range (op.Load g d b k) is = three g d b z.layout.goroutines is
-  op_range (op.Store g b k v) is = three g b v z.layout.goroutines is
-  op_range (op.GetGlobal g d k) is = let p = both (ltb g z.layout.goroutines && ltb d REGISTERS) (ltb k z.layout.globals) is in let q = two g d z.layout.goroutines p.0 in (q.0, q.1, ltb-true k z.layout.globals p.1)
-  op_range (op.SetGlobal g k v) is =
-      let p = both (ltb g z.layout.goroutines && ltb k z.layout.globals) (ltb v REGISTERS) is in
-      let q = both (ltb g z.layout.goroutines) (ltb k z.layout.globals) p.0 in
-      (ltb-true g z.layout.goroutines q.0, ltb-true k z.layout.globals q.1, ltb-true v REGISTERS p.1)
-  op_range (op.Int g d n) is = two g d z.layout.goroutines is
-  op_range (op.Move g d s) is = three g d s z.layout.goroutines is
-  op_range (op.Nil g d) is = two g d z.layout.goroutines is
-  op_range (op.Gc g) is = ltb-true g z.layout.goroutines is
-  op_range (op.End g) is = ltb-true g z.layout.goroutines is
-  op_range op.Poll is = tt
-  op_range op.Leave is = tt
+  op_range o is = grind (arith, nat_tests)
 
 module _ (given : Given) (known : Known) where
   abbrev may : ℕ → List (Entry Op) → Op → Bool
@@ -85,10 +63,7 @@ module _ (given : Given) (known : Known) where
         record { idle = sym (ap is_busy here) ∙ b.0; may_now = b.1 }
 
     pub unacted_begun : (o : Op) → e.begun ≡ Some o → (deeds given.shapes).unacted now ≡ with_point (deeds given.shapes) (Some o)
-    unacted_begun o is =
-        let b = begins_so o is in
-        let begun : started k e.begun m ≡ k.begins m o = ap (λ (x : Option Op). started k x m) is in
-        ap (deeds given.shapes).unacted begun ∙ fit.begins m o b.idle (sym (ap (λ (x : Processor). is_busy_at x.task) begun) ∙ busy_now)
+    unacted_begun o is = grind (arith, begins_so, busy_now, fit)
 
     pub ranged_now : IsRanged m → IsRanged now
     ranged_now was o is = go e.begun refl where
@@ -124,8 +99,7 @@ module _ (given : Given) (known : Known) where
   -- so each point keeps the heap that never frees bounded
   module _ (e : Entry Op) (es : List (Entry Op)) (legal : Legal (those (setup_for given)) (e ∷ es)) (lt : e.actor < given.layout.procs) (x : Ever) (bounded : IsBounded z x) where
     answered_so : (y : Act) (b : Bool) → y.full ≡ b → (answer_at given.shapes x y ≡ answer_of given.shapes x y.op) ⊎ (answer_at given.shapes x y ≡ answers.Full)
-    answered_so y true is = inr (ap (λ (b : Bool). cond b answers.Full (answer_of given.shapes x y.op)) is)
-    answered_so y false is = inl (ap (λ (b : Bool). cond b answers.Full (answer_of given.shapes x y.op)) is)
+    answered_so y b is = grind arith
 
     pub bounded_then : IsBounded z (acted given.shapes x (acts (now e es legal lt) e.found))
     bounded_then = subst (IsBounded z) ((known.points given.shapes given.layout).alone x (acts (now e es legal lt) e.found)) (go ((deeds given.shapes).acts (now e es legal lt) e.found) refl) where

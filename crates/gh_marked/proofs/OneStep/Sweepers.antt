@@ -7,15 +7,13 @@ use Rattle.gh_heap.specs.Moves as heap
 use Rattle.gh_state.specs.Moves.{Count, Deed, Move, moved, Others, Sweep}
 use Rattle.gh_state.specs.Routines.{GoesOn}
 use Rattle.gh_sweep.specs.declared.sweep.SweepStage.{SweepStage}
-use Rattle.gh_sweep.specs.declared.sweep.SweepStage.TheVariants as sweep_stage
 use Rattle.gh_sweep.specs.Listing as sweep
 use Rattle.gh_sweep.specs.Listing.{Sweeping}
-use Rattle.gh_sweep.specs.Moves as moves
 use Rattle.gh_sweep.specs.Running.{BeginsSweep, on_from}
 use Rattle.gh_sweep.specs.Sweepers.{move_at, move_of}
 use Rattle.gh_marked.specs.HoldVocabulary.{generation_of, Layout, page_of, SeatSweepsNothing, State, StateGood, SweepRuns}
 use Rattle.gh_marked.specs.Sweepers.{IsInSweep}
-use Rattle.gh_marked.proofs.Vocabulary.{Arena, Ask, cell_of, Load}
+use Rattle.gh_marked.proofs.Vocabulary.{Arena, Ask, cell_of}
 use Rattle.gh_marked.specs.Known.{Known}
 
 module _ (known : Known) (z : Arena) (a : ℕ) where
@@ -30,8 +28,7 @@ module _ (known : Known) (z : Arena) (a : ℕ) where
 
   -- where a cycle is under way it runs none
   pub none_under_way : (s : State) → (s.told ≡ None → ⊥) → (x : Option Sweeping) → IsInSweep a s x → x ≡ None
-  none_under_way s under None r = refl
-  none_under_way s under (Some m) r = absurd (under r.0.quiet)
+  none_under_way s under x r = grind arith
 
   -- Under its own that are none of a sweep.
 
@@ -90,16 +87,9 @@ module _ (known : Known) (z : Arena) (a : ℕ) where
     pub since : t.since ≡ s.since
     pub pend : t.pend ≡ s.pend
 
-  stay_begins : (s : State) (m : Sweeping) (wrote : Bool) → RowsStay s (moved z a s (Sweep (cond wrote (moves.Starts m.page m.head) (moves.Quiet (Load (cell.Page m.page))))))
-  stay_begins s m true = record { slot = refl; since = refl; pend = refl }
-  stay_begins s m false = record { slot = refl; since = refl; pend = refl }
-
   pub rows_stay : (s : State) (m : Sweeping) (q : SweepStage) (found : ℕ) → RowsStay s (moved z a s (Sweep (move_at m q found)))
-  rows_stay s m sweep_stage.Begin found = stay_begins s m (sweep.wrote m found)
-  rows_stay s m _ found = record { slot = refl; since = refl; pend = refl }
+  rows_stay s m q found = grind arith
 
   -- The end, and whether a cycle is under way, stay under all moves.
   pub end_stays : (s : State) (m : Move) → ((moved z a s m).end ≡ s.end) × ((moved z a s m).told ≡ s.told)
-  end_stays s (Deed m) = (refl, refl)
-  end_stays s (Sweep m) = (refl, refl)
-  end_stays s Count = (refl, refl)
+  end_stays s m = grind arith

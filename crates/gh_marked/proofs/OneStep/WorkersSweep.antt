@@ -1,19 +1,16 @@
 -- The step of a worker: where it runs a sweep the step is the sweep's; else it runs none behind it, or has begun one, whatever the coordinator's stage.
-use Rattle.std.proofs.Common.{◌≡◌, ℕ, true, refl, sym, ap, subst, ◌∙◌, List, ◌∷◌, Option, Some, None}
+use Rattle.std.proofs.Common.{◌≡◌, ℕ, true, sym, ap, subst, ◌∙◌, List, ◌∷◌, Option, Some, None, arith}
 use Rattle.gh_base.specs.declared.cell.Cell.TheVariants as cell
 use Rattle.gh_sweep.specs.Listing as sweep
 use Rattle.gh_sweep.specs.Listing.{Sweeping}
 use Rattle.gh_sweep.specs.Running.{BeginsSweep, SweepsOn}
-use Rattle.gh_phase.specs.Listing as resume
-use Rattle.gh_wbuf.specs.BufferGiving as give
-use Rattle.gh_worker.specs.declared.worker.WorkerStage.TheVariants as working_at
 use Rattle.gh_worker.specs.Handshake as working
 use Rattle.gh_worker.specs.Listing as worker
 use Rattle.gh_lists.specs.declared.handshake.Actor.TheVariants as actor
 use Rattle.gh_lists.specs.Handshake.{asks, Sound as SoundActor, Setup}
 use Rattle.gh_marked.specs.HoldVocabulary.{SeatSweepsNothing}
 use Rattle.gh_marked.specs.Sweepers.{IsInSweep, sweep_of}
-use Rattle.gh_marked.proofs.Vocabulary.{Actor, actors, actors_after, Arena, arena, Ask, cell_of, effect, Entry, HasState, Held, is_busy, IsAwake, Legal, Load, Op, Resumed, started, State, StateGood, those, View, WorkerStage, Words, words}
+use Rattle.gh_marked.proofs.Vocabulary.{Actor, actors, actors_after, Arena, arena, Ask, cell_of, effect, Entry, HasState, is_busy, IsAwake, Legal, Load, Op, started, State, StateGood, those, View, WorkerStage, Words, words}
 use Rattle.gh_marked.specs.Known.{ListsKnown}
 use Rattle.gh_marked.proofs.OneStep.Sweepers as sweepers
 use Rattle.gh_lists.specs.Seats.{IsSeated, seated, worker_started, works}
@@ -24,25 +21,8 @@ module _ (w : worker.Working) (m : Sweeping) where
     pub awake : IsAwake (working.stands_at p)
     pub view_is : (working.party_at w p).view ≡ w.view
 
-  backs_none : (stops : ℕ) (held : Option Held) → worker.sweep_at (worker.gives_back w stops held) ≡ Some m → ⊥
-  backs_none stops None is = cc
-  backs_none stops (Some h) is = cc
-
-  gives_none : (g : give.BufferGiving) (stops : ℕ) (out : Option (Unit {0})) → worker.sweep_at (worker.after_give w g stops out).stage ≡ Some m → ⊥
-  gives_none g stops None is = cc
-  gives_none g stops (Some x) is = cc
-
-  resumes_none : (r : resume.Resuming) (out : Option Resumed) → worker.sweep_at (worker.after_resume w r out).stage ≡ Some m → ⊥
-  resumes_none r None is = cc
-  resumes_none r (Some x) is = cc
-
   awake_at : (p : WorkerStage) (found : ℕ) → worker.sweep_at (worker.goes_at w p found).stage ≡ Some m → IsAwakeAt p
-  awake_at (working_at.EarningAtStop x stops) found is = absurd (backs_none stops w.held is)
-  awake_at (working_at.GiveBack g stops) found is = absurd (gives_none (give.goes g found) stops (give.gives g found) is)
-  awake_at (working_at.Resuming r) found is = absurd (resumes_none (resume.goes r found) (resume.gives r found) is)
-  awake_at working_at.Leave found is = absurd (cc)
-  awake_at working_at.Done found is = absurd (cc)
-  awake_at _ found is = record { awake = tt; view_is = refl }
+  awake_at p found is = grind arith
 
 module _ (setup : Setup) (lists : ListsKnown setup)
     (e : Entry Op) (es : List (Entry Op)) (legal : Legal (those setup) (e ∷ es)) (w : worker.Working) (is : actors_after (arena setup) setup.pacing setup.may es e.actor ≡ actor.Marks w) where
@@ -105,4 +85,4 @@ module _ (setup : Setup) (lists : ListsKnown setup)
       loaded = legal.1.found ∙ (ap (λ (q : Ask). words setup es (cell_of q)) asked ∙ sym (same_words (cell_of (worker.asks w))))
 
     pub begins_or_rests : IsInSweep e.actor t (sweep_of (at (e ∷ es) e.actor))
-    begins_or_rests = subst (IsInSweep e.actor t) (sym sweeps_then) (then_by (worker.sweep_in (worker.goes w e.found)) refl)
+    begins_or_rests = grind (arith, sweeps_then, then_by)

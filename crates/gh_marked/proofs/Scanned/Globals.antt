@@ -2,12 +2,9 @@
 use Rattle.std.proofs.Common.{◌≡◌, ◌≢◌, inl, inr, ℕ, suc, ◌+◌, ◌*◌, ◌<◌, ◌≤◌, ◌==◌, min, Bool, true, false, cond, ltb, refl, sym, ap, subst, ◌∙◌, arith, List, [], ◌∷◌}
 use Rattle.std.proofs.Math.Nat.{mul-le-mul_right}
 use Rattle.gh_base.specs.declared.cell.Cell.TheVariants as cell
-use Rattle.gh_coord.specs.declared.close.CloseStage.TheVariants as close_stage
-use Rattle.gh_coord.specs.Closing as close
 use Rattle.gh_coord.specs.Handshake as leading
 use Rattle.gh_coord.specs.Listing as coord
 use Rattle.gh_mutator.specs.Listing.{takes}
-use Rattle.gh_worker.specs.declared.worker.WorkerStage.TheVariants as at
 use Rattle.gh_worker.specs.Listing as worker
 use Rattle.gh_worker.specs.Writing.{IsOutsideMarking}
 use Rattle.gh_lists.specs.declared.handshake.Actor.TheVariants as actor
@@ -16,7 +13,7 @@ use Rattle.gh_lists.specs.Counts.{CountsPlainly, stored_in, stores_cell}
 use Rattle.gh_marked.specs.EveryCycle.{CursorGoes}
 use Rattle.gh_marked.specs.Scanned.{global_by, global_done, global_held, global_in_hand, globals_held, globals_in, GlobalsAreCounted, objects_in, scanned_in}
 use Rattle.gh_lists.specs.Waits.{WorkersRest}
-use Rattle.gh_marked.proofs.Vocabulary.{acks_of, Actor, Add, after_close, Ask, at_stage, cell_of, Close, CloseStage, Coordinating, CoordStage, effect, Entry, IsBeginning, IsLed, KeepsIt, Layout, Legal, nat_tests, Op, Open, Processor, processor_kind, ProcessorWritesItsOwn, seats_of, started, Store, those, words, WorkerStage, Working}
+use Rattle.gh_marked.proofs.Vocabulary.{acks_of, Actor, Add, Ask, cell_of, Coordinating, CoordStage, effect, Entry, IsBeginning, IsLed, KeepsIt, Layout, Legal, nat_tests, Op, Processor, processor_kind, ProcessorWritesItsOwn, seats_of, started, those, words, WorkerStage, Working}
 use Rattle.gh_marked.specs.Checking.{begins, CoordinatorGoes, goes_on, goes_so, leaves}
 use Rattle.gh_lists.specs.Seats.{IsSeated, other, seated}
 use Rattle.gh_lists.specs.Leaving.{ends_marking, marks_or_not}
@@ -26,59 +23,27 @@ use Rattle.gh_lists.specs.Writing.{leaves_numbers}
 use Rattle.gh_marked.proofs.Scanned.Claims.{claimed_at, holds, IsClearing, leads_at, leaves_cursor, LeavesCursor, parts_by, works_at}
 use Rattle.gh_lists.specs.Handshake.{Setup}
 
--- a worker at rest has no global in hand, and is done with none
-rests_none : (p : WorkerStage) → IsOutsideMarking p → global_held p ≡ 0
-rests_none (at.LoadGlobal i) r = absurd r
-rests_none (at.Shading sh) r = absurd r
-rests_none (at.FindRoom sh r) x = absurd x
-rests_none _ r = refl
-
 rests_done : (p : WorkerStage) (found : ℕ) → IsOutsideMarking p → global_done p found ≡ 0
-rests_done (at.LoadGlobal i) found r = absurd r
-rests_done (at.Shading sh) found r = absurd r
-rests_done _ found r = refl
+rests_done p found r = grind arith
 
 -- the cursor moves on by one
 moves_on : (cursor globals : ℕ) → min (cursor + 1) globals ≡ min cursor globals + cond (ltb cursor globals) 1 0
-moves_on cursor globals = go (ltb cursor globals) refl where
-  go : (b : Bool) → ltb cursor globals ≡ b → min (cursor + 1) globals ≡ min cursor globals + cond b 1 0
-  go true e = let lt : cursor < globals = grind (arith, nat_tests, e) in omega (arith, lt)
-  go false e = let le : globals ≤ cursor = grind (arith, nat_tests, e) in omega (arith, le)
+moves_on cursor globals = grind arith
 
 -- The coordinator's stages.
 
-clearing_off : (p : CoordStage) → IsClearing p → leading.Marks p → ⊥
-clearing_off (Open o) is on = on
-clearing_off _ is on = is
-
-clearing_other : (p : CoordStage) → IsClearing p → IsBeginning p → ⊥
-clearing_other (Open o) is at_first = absurd (let no = sym is ∙ at_first in cc)
-clearing_other _ is at_first = is
-
 ending_on : (p : CoordStage) → IsEnding p → leading.Marks p
-ending_on (Close y) is = rw is refl
-ending_on _ is = absurd is
+ending_on p is = grind arith
 
 beginning_off : (p : CoordStage) → IsBeginning p → leading.Marks p → ⊥
-beginning_off (Open o) is on = on
-beginning_off _ is on = is
+beginning_off p is on = grind arith
 
 module _ (c : Coordinating) where
-  clearing_asks : (p : CoordStage) → IsClearing p → coord.asks_at c p ≡ Store cell.Gcur 0
-  clearing_asks (Open o) is = rw is refl
-  clearing_asks _ is = absurd is
-
   ending_asks : (p : CoordStage) → IsEnding p → stores_cell cell.Gen (coord.asks_at c p) ≡ true
-  ending_asks (Close y) is = rw is refl
-  ending_asks _ is = absurd is
-
-  close_ended : (y : close.Closing) (p : CloseStage) (found : ℕ) → p ≡ close_stage.StoreGen → leading.Marks (after_close (at_stage c (Close (close.goes_at y p found))) (close.given (close.goes_at y p found))).stage → ⊥
-  close_ended y close_stage.StoreGen found is on = cc
-  close_ended y _ found is on = cc
+  ending_asks p is = grind arith
 
   ending_off : (p : CoordStage) (found : ℕ) → IsEnding p → leading.Marks (coord.goes_at c p found).stage → ⊥
-  ending_off (Close y) found is on = close_ended y y.stage found is on
-  ending_off _ found is on = is
+  ending_off p found is on = grind arith
 
 -- What is cited of processors, and of the lists of a heap that is set up so.
 pub record Cited (setup : Setup) : Type 0 where
@@ -119,9 +84,7 @@ module _ (setup : Setup) (cited : Cited setup) where
   none_held : (es : List (Entry Op)) → Legal (those setup) es → (c : Coordinating) → who es n ≡ actor.Leads c → (leading.Marks c.stage → ⊥) → held es ≡ 0
   none_held es legal c led off = total_none (λ a. global_in_hand (who es a)) (seats_of setup.layout) (λ a lt. go a (who es a) refl) where
     go : (a : ℕ) (y : Actor) → who es a ≡ y → global_in_hand (who es a) ≡ 0
-    go a (actor.Marks w) is = ap global_in_hand is ∙ rests_none w.stage (cited.rests es legal c a w led off is).rests
-    go a (actor.Runs m) is = ap global_in_hand is
-    go a (actor.Leads d) is = ap global_in_hand is
+    go a y is = grind arith
 
   -- before the first step
   first : Counts []
@@ -174,10 +137,7 @@ module _ (setup : Setup) (cited : Cited setup) where
       seat_in = let lt = x.seat in omega (arith, lt)
 
       others : (a : ℕ) → a ≢ e.actor → who (e ∷ es) a ≡ who es a
-      others a ne = other setup e es a (go (e.actor == a) refl) where
-        go : (t : Bool) → (e.actor == a) ≡ t → (e.actor == a) ≡ false
-        go true y = absurd (ne (let s = y in grind (arith, nat_tests)))
-        go false y = y
+      others a ne = grind arith
 
       layout_is : w.layout ≡ setup.layout
       layout_is = (subst (IsSeated setup.layout e.actor) x.is (seated setup es e.actor)).2
@@ -241,7 +201,7 @@ module _ (setup : Setup) (cited : Cited setup) where
       now_at = ap (who (e ∷ es)) x.seat ∙ x.then
 
       h : held (e ∷ es) ≡ held es
-      h = held_same (actor.Leads c) (actor.Leads to) was_at now_at refl refl refl
+      h = grind (arith, nat_tests)
 
       k : counted (e ∷ es) ≡ counted es
       k = counted_same (actor.Leads c) (actor.Leads to) was_at now_at refl refl refl
@@ -287,11 +247,7 @@ module _ (setup : Setup) (cited : Cited setup) where
         by (leaves off) on = absurd (off on)
 
       clearing : IsClearing c.stage → Counted (e ∷ es) to
-      clearing y = goes_still (asks_is ∙ ap (stores_cell cell.Gen) (clearing_asks c c.stage y)) (by goes_by) where
-        by : CoordinatorGoes setup.layout c.begun (words setup es) c c.stage to → leading.Marks to.stage → counted es + held es ≡ ended es * setup.layout.globals + min (cursor (e ∷ es)) setup.layout.globals
-        by (begins at_first light begun_is checked) on = absurd (clearing_other c.stage y at_first)
-        by (goes_on on_was light begun_is checked) on = absurd (clearing_off c.stage y on_was)
-        by (leaves off) on = absurd (off on)
+      clearing y = grind arith
 
       ending : IsEnding c.stage → Counted (e ∷ es) to
       ending y =

@@ -1,9 +1,6 @@
 -- The routine that a worker runs has a step to make, after every list: where an object's scan or a shading ends, the worker goes on.
-use Rattle.std.proofs.Common.{◌≡◌, ℕ, ◌+◌, ◌==◌, Bool, true, false, cond, ltb, Option, Some, None, refl, subst, ap, List, [], ◌∷◌}
-use Rattle.std.specs.Prelude.{is_none}
-use Rattle.gh_coord.specs.Listing as coord
+use Rattle.std.proofs.Common.{◌≡◌, ℕ, ◌==◌, Bool, true, false, cond, ltb, Option, refl, List, [], ◌∷◌, arith}
 use Rattle.gh_scan.specs.Listing as scan
-use Rattle.gh_shade.specs.declared.shade.Shaded.TheVariants as shaded
 use Rattle.gh_shade.specs.Listing as shade
 use Rattle.gh_sweep.specs.Listing as sweep
 use Rattle.gh_wbuf.specs.BufferGiving as give
@@ -12,14 +9,11 @@ use Rattle.gh_wbuf.specs.RoomFinding as room
 use Rattle.gh_phase.specs.Listing as resume
 use Rattle.gh_worker.specs.declared.worker.WorkerStage.TheVariants as at
 use Rattle.gh_worker.specs.Listing as worker
-use Rattle.gh_worker.specs.Vocabulary.{CREDIT_SLACK}
 use Rattle.gh_credit.specs.Earning as earn
-use Rattle.gh_base.specs.declared.pack.PageWord.TheVariants as page_word
 use Rattle.gh_base.specs.declared.pack.Phase.{Phase}
-use Rattle.gh_base.specs.declared.pack.Phase.TheVariants as phase
 use Rattle.gh_lists.specs.declared.handshake.Actor.TheVariants as actor
 use Rattle.gh_lists.specs.Handshake.{start, actor_takes, Setup}
-use Rattle.gh_marked.proofs.Vocabulary.{acks_of, Actor, actors, Entry, Held, Kind, Op, opening_processor, page_of, PageWord, phase_of, Resumed, Shaded, started, state_of, SweepEnd, Working, WorkerStage}
+use Rattle.gh_marked.proofs.Vocabulary.{Actor, actors, Entry, Held, Kind, Op, page_of, PageWord, phase_of, Resumed, Shaded, started, state_of, SweepEnd, Working, WorkerStage}
 
 abbrev pub HasStep : WorkerStage → Type 0
 HasStep (at.Scanning s) = scan.is_busy s.stage ≡ true
@@ -31,72 +25,46 @@ module _ (w : Working) where
   Goes to = HasStep to.stage
 
   either : (one other : Working) (b : Bool) → Goes one → Goes other → Goes (cond b one other)
-  either one other true x y = x
-  either one other false x y = y
-
-  gives_back : (stops : ℕ) (held : Option Held) → HasStep (worker.gives_back w stops held)
-  gives_back stops None = tt
-  gives_back stops (Some h) = tt
-
-  stops_at : (stops : ℕ) (b : Bool) → HasStep (cond b (worker.gives_back w stops w.held) (at.EarningAtStop (earn.opening w.layout w.scan_work) stops))
-  stops_at stops true = gives_back stops w.held
-  stops_at stops false = tt
+  either one other b x y = grind arith
 
   by_phase : (stops : ℕ) (found : Phase) → HasStep (worker.by_phase w stops found)
-  by_phase stops phase.Stop = stops_at stops (w.scan_work == 0)
-  by_phase stops _ = tt
+  by_phase stops found = grind arith
 
   after_page : (word : PageWord) → Goes (worker.after_page w word)
-  after_page (page_word.Head h) = either (worker.at_stage w (at.Sweeping (sweep.opening w.layout w.page h))) (worker.page_done w) (h.number + 2 == w.view.generation) tt tt
-  after_page _ = tt
+  after_page word = grind arith
 
   after_sweep : (sw : sweep.Sweeping) (out : Option SweepEnd) → Goes (worker.after_sweep w sw out)
-  after_sweep sw None = tt
-  after_sweep sw (Some end) = tt
+  after_sweep sw out = grind arith
 
   after_give : (g : give.BufferGiving) (stops : ℕ) (out : Option (Unit {0})) → Goes (worker.after_give w g stops out)
-  after_give g stops None = tt
-  after_give g stops (Some x) = tt
+  after_give g stops out = grind arith
 
   after_resume : (r : resume.Resuming) (out : Option Resumed) → Goes (worker.after_resume w r out)
-  after_resume r None = tt
-  after_resume r (Some x) = tt
+  after_resume r out = grind arith
 
   after_take : (t : take.EntryTaking) (out : Option (Option ℕ)) → Goes (worker.after_take w t out)
-  after_take t None = tt
-  after_take t (Some None) = tt
-  after_take t (Some (Some reference)) = refl
+  after_take t out = grind arith
 
   after_earn : (e : earn.Earning) (out : Option (Unit {0})) → Goes (worker.after_earn w e out)
-  after_earn e None = tt
-  after_earn e (Some x) = tt
+  after_earn e out = grind arith
 
   after_earn_at_stop : (e : earn.Earning) (stops : ℕ) (out : Option (Unit {0})) → Goes (worker.after_earn_at_stop w e stops out)
-  after_earn_at_stop e stops None = tt
-  after_earn_at_stop e stops (Some x) = gives_back stops w.held
+  after_earn_at_stop e stops out = grind arith
 
   done_with : (held : Option Held) (words : ℕ) → Goes (worker.done_with w held words)
-  done_with held words = go (ltb (worker.counted w.scan_work words) CREDIT_SLACK) where
-    go : (b : Bool) → HasStep (cond b at.LoadPhase (at.Earning (earn.opening w.layout (worker.counted w.scan_work words))))
-    go true = tt
-    go false = tt
+  done_with held words = grind arith
 
   after_scan : (s : scan.Scanning) (out : Option ℕ) → scan.given s ≡ out → Goes (worker.after_scan w s out)
-  after_scan s None is = ap is_none is
-  after_scan s (Some words) is = done_with (scan.held_at s.held s.stage) words
+  after_scan s out is = grind arith
 
   after_shade : (sh : shade.Shading) (out : Option Shaded) → shade.given sh ≡ out → Goes (worker.after_shade w sh out)
-  after_shade sh None is = ap is_none is
-  after_shade sh (Some shaded.Done) is = done_with sh.held 1
-  after_shade sh (Some shaded.WantsRoom) is = tt
+  after_shade sh out is = grind arith
 
   after_room : (sh : shade.Shading) (r : room.RoomFinding) (out : Option Held) → Goes (worker.after_room w sh r out)
-  after_room sh r None = tt
-  after_room sh r (Some h) = refl
+  after_room sh r out = grind arith
 
   leads : (b : Bool) (one : WorkerStage) → HasStep one → HasStep (cond b one at.LoadPhase)
-  leads true one x = x
-  leads false one x = tt
+  leads b one x = grind arith
 
   goes_at : (p : WorkerStage) (found : ℕ) → Goes (worker.goes_at w p found)
   goes_at at.LoadPhase found = by_phase (phase_of found).stops (phase_of found).phase
@@ -124,11 +92,7 @@ module _ (setup : Setup) where
   all = actors setup
 
   opens : (a : ℕ) → Fits (start setup.layout setup.pacing a)
-  opens a = go (ltb a setup.layout.procs) (ltb a (acks_of setup.layout)) where
-    go : (b d : Bool) → Fits (cond b (actor.Runs (opening_processor setup.layout a)) (cond d (actor.Marks (worker.opening setup.layout a)) (actor.Leads (coord.opening setup.layout a setup.pacing.gogc setup.pacing.minheap setup.pacing.room))))
-    go true d = tt
-    go false true = tt
-    go false false = tt
+  opens a = grind arith
 
   taken : (found : ℕ) (m : Actor) → Fits (actor_takes setup.shapes m found)
   taken found (actor.Runs m) = tt
@@ -143,4 +107,4 @@ module _ (setup : Setup) where
     go false f = f
 
   pub has_step : (es : List (Entry Op)) (a : ℕ) (w : Working) → state_of all a es ≡ actor.Marks w → HasStep w.stage
-  has_step es a w is = subst Fits is (fits es a)
+  has_step es a w is = grind (arith, fits)

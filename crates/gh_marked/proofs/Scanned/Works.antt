@@ -1,5 +1,5 @@
 -- A step of a worker while a cycle is marked: what it is done with is counted then, once for all. An object whose scan ends was taken before and is black behind; a global is scanned behind, or the object that it names has come into a buffer.
-use Rattle.std.proofs.Common.{◌≡◌, ◌≢◌, inl, inr, ℕ, ◌+◌, ◌*◌, ◌%◌, ◌<◌, ◌≤◌, ◌==◌, Bool, true, false, cond, ltb, Option, Some, None, refl, sym, ap, ◌∙◌, arith}
+use Rattle.std.proofs.Common.{◌≡◌, ◌≢◌, inl, inr, ℕ, ◌+◌, ◌*◌, ◌<◌, ◌≤◌, ◌==◌, Bool, true, false, cond, Option, Some, None, refl, sym, ap, ◌∙◌, arith}
 use Rattle.std.proofs.lemmas.Bool.Decides.{eqb_tells}
 use Rattle.gh_marks.specs.Colours.{Black, Claimed, Cycle, Pending, Progress, Read, Scanned, Shared, Taken, Untouched}
 use Rattle.gh_marks.specs.Good.{Good}
@@ -17,8 +17,6 @@ use Rattle.gh_shade.specs.Listing as shade
 use Rattle.gh_wbuf.specs.RoomFinding as room
 use Rattle.gh_worker.specs.declared.worker.WorkerStage.TheVariants as at
 use Rattle.gh_worker.specs.Listing as worker
-use Rattle.gh_worker.specs.Vocabulary.{CREDIT_SLACK}
-use Rattle.gh_credit.specs.Earning as earn
 use Rattle.gh_worker.specs.MarkFacts as marks
 use Rattle.gh_worker.specs.Works.{scan_words, shading_word, words_done}
 use Rattle.gh_marked.proofs.Vocabulary.{Held, ScanStage, Shaded, ShadeStage, Working, WorkerStage}
@@ -28,32 +26,17 @@ use Rattle.gh_marked.specs.Weights.{AllGoOn, black_last, by_entry, by_global, by
 
 -- The scan of an object ends with the words of its slot.
 module _ (words : ℕ) where
-  next_gives : (m : scan.Scanning) (next : Option ℕ) → scan.given (scan.at_next m next) ≡ Some words → words ≡ m.slot
-  next_gives m None is = cc
-  next_gives m (Some x) is = absurd (go (x % 64 == 0) is) where
-    go : (b : Bool) → scan.given_at (cond b scan_at.LoadBitmap scan_at.LoadField) ≡ Some words → ⊥
-    go true x = cc
-    go false x = cc
-
-  behind_gives : (m : scan.Scanning) → scan.given (scan.behind m) ≡ Some words → words ≡ m.slot
-  behind_gives m is = next_gives m (scan.next_from m.bits (scan.end m) (m.at + 1)) is
-
   bits_give : (m : scan.Scanning) (found : ℕ) (b : Bool) → scan.given (cond b (record m { bits = found; stage = scan_at.LoadField }) (scan.behind (record m { bits = found }))) ≡ Some words → words ≡ m.slot
-  bits_give m found true is = absurd cc
-  bits_give m found false is = behind_gives (record m { bits = found }) is
+  bits_give m found b is = grind arith
 
   field_gives : (m : scan.Scanning) (sh : shade.Shading) (b : Bool) → scan.given (cond b (scan.behind m) (scan.at_stage m (scan_at.Shading sh))) ≡ Some words → words ≡ m.slot
-  field_gives m sh true is = behind_gives m is
-  field_gives m sh false is = absurd cc
+  field_gives m sh b is = grind arith
 
   shade_gives : (m : scan.Scanning) (sh : shade.Shading) (out : Option Shaded) → scan.given (scan.after_shade m sh out) ≡ Some words → words ≡ m.slot
-  shade_gives m sh None is = absurd cc
-  shade_gives m sh (Some shaded.Done) is = behind_gives (record m { held = sh.held }) is
-  shade_gives m sh (Some shaded.WantsRoom) is = absurd cc
+  shade_gives m sh out is = grind arith
 
   room_gives : (m : scan.Scanning) (sh : shade.Shading) (r : room.RoomFinding) (out : Option Held) → scan.given (scan.after_room m sh r out) ≡ Some words → ⊥
-  room_gives m sh r None is = cc
-  room_gives m sh r (Some h) is = cc
+  room_gives m sh r out is = grind arith
 
 -- its words, and that the seat has taken the object
 record Scans (a : ℕ) (s : Shared) (o words : ℕ) : Type 0 where
@@ -146,10 +129,7 @@ module _ (steps : EachStepGoesByMoves) (z : Cycle) (a : ℕ) (s t : Shared) (goo
 
     -- where it is done with something it has nothing in hand but its buffer
     done_with : (held : Option Held) (words : ℕ) → Facts (worker.done_with w held words) → Hands a t (marks.in_hand held NoClaim)
-    done_with held words g = go (ltb (worker.counted w.scan_work words) CREDIT_SLACK) g where
-      go : (b : Bool) → marks.StageFacts z a t held (cond b at.LoadPhase (at.Earning (earn.opening w.layout (worker.counted w.scan_work words)))) → Hands a t (marks.in_hand held NoClaim)
-      go true g = g
-      go false g = g
+    done_with held words g = grind arith
 
     after_scan : (m : scan.Scanning) → scan.is_busy m.stage ≡ true → scan_facts.Facts z a s nothing m → (out : Option ℕ) → scan.gives m found ≡ out → Facts (worker.after_scan w (scan.goes m found) out) → scan_words out + C s ≤ C t
     after_scan m busy f None is g = none_done
@@ -170,15 +150,10 @@ module _ (steps : EachStepGoesByMoves) (z : Cycle) (a : ℕ) (s t : Shared) (goo
     shade_ends i sh held g shade_at.Ended busy f is = absurd cc
 
     after_shade : (i : ℕ) (sh : shade.Shading) → shade.is_busy sh.stage ≡ true → shade_facts.Facts z a s (marks.in_hand None (marks.claim_at i sh.reference sh.stage)) sh → (out : Option Shaded) → shade.gives sh found ≡ out → Facts (worker.after_shade w (shade.goes sh found) out) → shading_word out + C s ≤ C t
-    after_shade i sh busy f None is g = none_done
-    after_shade i sh busy f (Some shaded.Done) is g = shade_ends i sh (shade.goes sh found).held (done_with (shade.goes sh found).held 1 g) sh.stage busy f.hands is
-    after_shade i sh busy f (Some shaded.WantsRoom) is g = none_done
+    after_shade i sh busy f out is g = grind (arith, done_with, none_done, shade_ends)
 
     done_at : (p : WorkerStage) → HasStep p → marks.StageFacts z a s w.held p → Facts (worker.goes_at w p found) → words_done p found + C s ≤ C t
-    done_at (at.Scanning m) busy f g = after_scan m busy f (scan.gives m found) refl g
-    done_at (at.LoadGlobal i) busy f g = after_global i _ f.1 (found == 0) g
-    done_at (at.Shading sh) busy f g = after_shade f.0 sh busy f.1 (shade.gives sh found) refl g
-    done_at _ busy f g = none_done
+    done_at p busy f g = grind (arith, after_global, after_scan, after_shade, none_done)
 
     pub works : HasStep w.stage → marks.Facts z a s w → marks.Facts z a t (worker.goes w found) → words_done w.stage found + C s ≤ C t
-    works busy f g = done_at w.stage busy f.stage_is g.stage_is
+    works busy f g = grind (arith, done_at)

@@ -1,6 +1,6 @@
 -- Where a cycle begins it is drawn.
 use mathlib.Core.Path.{fun_ext}
-use Rattle.std.proofs.Common.{◌≡◌, ◌≢◌, ℕ, zero, suc, ◌+◌, ◌*◌, ◌<◌, ◌≤◌, Bool, true, false, arith, refl, sym, ◌∙◌, ap, cond, eqb, inl, inr, ◌⊎◌, subst, Option, None}
+use Rattle.std.proofs.Common.{◌≡◌, ℕ, zero, suc, ◌+◌, ◌*◌, ◌<◌, ◌≤◌, Bool, true, false, arith, refl, sym, ◌∙◌, ap, cond, inl, inr, subst, Option, None}
 use Rattle.std.specs.Prelude.{◌&&◌, if◌then◌else◌, nat_lt}
 use Rattle.std.proofs.lemmas.Bool.Decides.{eqb_tells, nat_tests}
 use Rattle.gh_base.specs.declared.cell.Cell.TheVariants as cell
@@ -16,7 +16,7 @@ use Rattle.gh_marks.specs.Ends.{Opens}
 use Rattle.gh_marks.specs.Picture.{CyclesBeginDrawn}
 use Rattle.gh_marks.specs.Shows.{Names, Shows, global_at, is_black_stack, is_scanned, pointer_at, shade_of}
 use Rattle.gh_marks.proofs.Drawing.Numbering.{count, names-value, nth, numbers, value_of}
-use Rattle.gh_marks.proofs.Drawing.Reading.{global-none, global-word, lt-tells, named-some, pointer-none, pointer-tells, pointer-word}
+use Rattle.gh_marks.proofs.Drawing.Reading.{global-none, global-word, lt-tells, named-some}
 use Rattle.gh_marks.proofs.Drawing.Runs.{filled_to, goes-sees, goes-then}
 
 -- the rows below n of which a test holds, in their first 16 columns
@@ -75,13 +75,10 @@ module _ (z : Cycle) (s : Shared) (room : ℕ) (opens : Opens z s) where
   ]
 
   pointer-since : (o k : ℕ) → s.since o ≡ true → IsSince s.since (pointer_at s o k)
-  pointer-since o k known = elim (pointer-tells s.extents o k) [
-    | inl y ↦ subst (IsSince s.since) (sym (pointer-word s o k y.1)) (opens.fields o k known y.1)
-    | inr n ↦ nil-since (pointer_at s o k) (pointer-none s o k n.1)
-  ]
+  pointer-since o k known = grind arith
 
   is-some : (n : ℕ) → s.since (at (suc n)) ≡ true → nat_lt (suc n) objects ≡ true → (k : ℕ) → Names at objects (value (suc n) k) (pointer_at s (at (suc n)) k)
-  is-some n known below k = rw below (named (pointer_at s (at (suc n)) k) (pointer-since (at (suc n)) k known))
+  is-some n known below k = grind (arith, named, pointer-since)
 
   fields : (n k : ℕ) → 0 < n → n < objects → Names at objects (value n k) (pointer_at s (at n) k)
   fields zero k some below = absurd (omega arith)
@@ -100,30 +97,7 @@ module _ (z : Cycle) (s : Shared) (room : ℕ) (opens : Opens z s) where
   past n k le = elim (lt-tells (suc n) objects) [ inl y ↦ absurd (omega (arith, y.1)) | inr x ↦ ap (λ b. cond b (value_of s.since (pointer_at s (at (suc n)) k)) None) x.0 ]
 
   opening : IsOpeningPicture first
-  opening = record {
-    some = omega arith;
-    grey = refl;
-    white = λ o some. elim (eqb_tells 0 o) [ inl y ↦ absurd (omega (arith, y.1)) | inr n ↦ rw (n.0) refl ];
-    scanned = λ o f e. absurd (two e);
-    seen = λ g r. refl;
-    read = λ g o f. refl;
-    empty = empty;
-    fields = made-fields;
-    registers = λ g r. made (value_of s.since (s.registers g r)) (s.registers g r) (named (s.registers g r) (opens.registers g r));
-  } where
-    two : false ≡ true → ⊥
-    two e = cc
-
-    empty : (o f : ℕ) → objects ≤ o → value o f ≡ None
-    empty zero f le = absurd (omega arith)
-    empty (suc o) f le = past o f le
-
-    made-fields : (o f : ℕ) → NilOrMade first (value o f)
-    made-fields zero f = made (value 0 f) (global_at z s f) (named (global_at z s f) (global-since f))
-    made-fields (suc o) f = elim (lt-tells (suc o) objects) [
-      | inl y ↦ made (value (suc o) f) (pointer_at s (at (suc o)) f) (fields (suc o) f (omega arith) y.1)
-      | inr x ↦ subst (NilOrMade first) (sym (past o f x.1)) none-made
-    ]
+  opening = grind (arith, fields, global-since, made, named, none-made, past)
 
   -- the stacks of goroutines that have ended are scanned, of the first n
   abbrev over : ℕ → Bool
@@ -136,12 +110,7 @@ module _ (z : Cycle) (s : Shared) (room : ℕ) (opens : Opens z s) where
   Ended n = record first { seen = seen_to n }
 
   is-over : (g : ℕ) → over g ≡ true → s.words (cell.Scanned g) ≡ END
-  is-over g e = elim (opens.scanned g) [ inr f ↦ f | inl l ↦ other l (eqb_tells (s.words (cell.Scanned g)) z.number) ] where
-    other : s.words (cell.Scanned g) < z.number → ((eqb (s.words (cell.Scanned g)) z.number ≡ true) × (s.words (cell.Scanned g) ≡ z.number)) ⊎ ((eqb (s.words (cell.Scanned g)) z.number ≡ false) × (s.words (cell.Scanned g) ≢ z.number)) → s.words (cell.Scanned g) ≡ END
-    other l (inl y) = absurd (omega (arith, y.1))
-    other l (inr n) = elim (eqb_tells (s.words (cell.Scanned g)) END) [ inl y ↦ y.1 | inr m ↦ absurd (two (sym (rw (n.0, m.0) at e))) ] where
-      two : true ≡ false → ⊥
-      two x = cc
+  is-over g e = grind arith
 
   seen-more : (n : ℕ) → over n ≡ true → filled_to true (seen_to n) n 16 ≡ seen_to (suc n)
   seen-more n e = fun_ext (λ g. fun_ext (λ d. rows-more over n e g d))

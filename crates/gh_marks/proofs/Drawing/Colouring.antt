@@ -1,7 +1,5 @@
 -- The moves of marking that colour an object.
-use mathlib.Core.Path.{fun_ext}
 use Rattle.std.proofs.Common.{◌≡◌, ◌≢◌, ℕ, ◌+◌, ◌<◌, ◌≤◌, true, arith, refl, sym, ◌∙◌, ap, inl, inr, subst, Some, None}
-use Rattle.std.proofs.lemmas.Bool.Decides.{eqb_tells}
 use Rattle.gh_base.specs.declared.cell.Cell.TheVariants as cell
 use Rattle.gh_base.specs.Rows.{Row, mark_words}
 use Rattle.gh_heap.specs.Moves.{update}
@@ -9,7 +7,7 @@ use Rattle.gh_tri.specs.declared.Colour.{Colour as Shade}
 use Rattle.gh_tri.specs.declared.Colour.TheVariants as shade
 use Rattle.gh_tri.specs.declared.Move.TheVariants as tri
 use Rattle.gh_tri.specs.Steps.{Goes, moves, stays}
-use Rattle.gh_tri.specs.Tricolour.{Tricolour, NilOrMarked, greyed, put1, shaded}
+use Rattle.gh_tri.specs.Tricolour.{Tricolour, NilOrMarked, put1, shaded}
 use Rattle.gh_marks.specs.Colours.{Black, Cycle, IsClean, IsPointer, Pending, Shared, White}
 use Rattle.gh_marks.specs.Good.{Good}
 use Rattle.gh_marks.specs.Moves.{Blacken, May, Move, Shade as Shades, ShadeFlat, moved}
@@ -22,9 +20,7 @@ use Rattle.gh_marks.proofs.Drawing.Showing.{shows-coloured, shows-still}
 
 -- a white object is shaded
 white-shaded : (colour : ℕ → Shade) (n : ℕ) → colour n ≡ shade.White → shaded colour (Some n) ≡ put1 colour n shade.Grey
-white-shaded colour n white = fun_ext (λ m. at m) where
-  at : (m : ℕ) → shaded colour (Some n) m ≡ put1 colour n shade.Grey m
-  at m = elim (eqb_tells n m) [ inl y ↦ rw (y.0) (ap greyed (ap colour (sym y.1) ∙ white)) | inr x ↦ rw (x.0) refl ]
+white-shaded colour n white = grind arith
 
 module _ (z : Cycle) (a : ℕ) (s : Shared) (at : Row) (p : Tricolour) (room : ℕ) (g : Good z s) (sh : Shows z s at p) (fits : p.objects + (room + 1) ≤ p.limit) where
   abbrev Drawn : Move → Type 0

@@ -40,8 +40,7 @@ module _ (z : Cycle) (a : ℕ) (s : Shared) (at : Row) (p : Tricolour) (room : �
   was-waiting j e = elim (eqb_tells i j) [ inl y ↦ absurd (two (rw (y.0) at e) refl) | inr n ↦ rw (n.0) at e ]
 
   is-scanned : (progress : Progress) → is_scanned progress ≡ true → progress ≡ Scanned
-  is-scanned Scanned e = refl
-  is-scanned _ e = cc
+  is-scanned progress e = grind arith
 
   within : (f : ℕ) → f < z.arena.layout.globals → f < p.fields
   within f l = omega (arith, sh.globals_fit)
@@ -114,24 +113,7 @@ module _ (z : Cycle) (a : ℕ) (s : Shared) (at : Row) (p : Tricolour) (room : �
 
   -- what is no global of the layout is nothing in the picture
   past : z.arena.layout.globals ≤ i → Shows z (moved z a s (ScanGlobal i value)) at p
-  past le = record {
-    numbers = sh.numbers;
-    stacks = sh.stacks;
-    globals_fit = sh.globals_fit;
-    objects_fit = sh.objects_fit;
-    sizes = sh.sizes;
-    colours = sh.colours;
-    waits = λ j l e. sh.waits j l (was-waiting j e);
-    all_scanned = λ h. sh.all_scanned (λ j l. sym (ap is_scanned (same j l)) ∙ h j l);
-    scanned = λ j l. sh.scanned j l ∙ sym (ap is_scanned (same j l));
-    globals = sh.globals;
-    fields = sh.fields;
-    registers = sh.registers;
-    seen = sh.seen;
-    reads = sh.reads;
-  } where
-    same : (j : ℕ) → j < z.arena.layout.globals → update s.progress i Scanned j ≡ s.progress j
-    same j l = elim (eqb_tells i j) [ inl y ↦ absurd (omega (arith, y.1)) | inr n ↦ rw (n.0) refl ]
+  past le = record { numbers = grind arith; stacks = grind arith; globals_fit = grind arith; objects_fit = grind arith; sizes = grind arith; colours = grind arith; waits = grind arith; all_scanned = grind arith; scanned = grind arith; globals = grind arith; fields = grind arith; registers = grind arith; seen = grind arith; reads = grind arith }
 
   pub scan_global-drawn : IsDrawn z (moved z a s (ScanGlobal i value)) p room
   scan_global-drawn = elim (bounded (λ k. is_scanned (update s.progress i Scanned k)) z.arena.layout.globals) [

@@ -23,10 +23,7 @@ module _ (since : ℕ → Bool) where
   counted n e = ap (λ b. count n + bit b) e
 
   count-step : (n : ℕ) → count n ≤ count (suc n)
-  count-step n = go (since n) refl where
-    go : (b : Bool) → since n ≡ b → count n ≤ count (suc n)
-    go true e = let f = counted n e in omega (arith, f)
-    go false e = let f : count (suc n) ≡ count n + 0 = ap (λ b. count n + bit b) e in omega (arith, f)
+  count-step n = grind arith
 
   count-below : (o m : ℕ) → o < m → since o ≡ true → count o + 1 ≤ count m
   count-below o zero l e = absurd (omega arith)
@@ -59,13 +56,8 @@ module _ (since : ℕ → Bool) where
   nth-known : (m n : ℕ) → 0 < n → n ≤ count m → IsNth m n
   nth-known zero n some le = absurd (omega arith)
   nth-known (suc m) n some le = go (since m) (eqb_tells (count m + 1) n) refl (nth-known m n some) where
-    same-number : (k : ℕ) → since k ≡ true → count k + 1 ≡ n → nth (suc m) n ≡ k → IsNth (suc m) n
-    same-number k known rank e = record { known = ap since e ∙ known; rank = ap (λ x. count x + 1) e ∙ rank }
-
     go : (b : Bool) → ((eqb (count m + 1) n ≡ true) × (count m + 1 ≡ n)) ⊎ ((eqb (count m + 1) n ≡ false) × (count m + 1 ≢ n)) → since m ≡ b → (n ≤ count m → IsNth m n) → IsNth (suc m) n
-    go true (inl y) e ih = same-number m e y.1 (rw (e, y.0) refl)
-    go true (inr x) e ih = let f : count (suc m) ≡ count m + 1 = counted m e in let i = ih (omega (arith, f, le, x.1)) in same-number (nth m n) i.known i.rank (rw (e, x.0) refl)
-    go false t e ih = let f : count (suc m) ≡ count m + 0 = ap (λ b. count m + bit b) e in let i = ih (omega (arith, f, le)) in same-number (nth m n) i.known i.rank (rw e refl)
+    go b t e ih = grind arith
 
   -- what a word names
   abbrev pub value_of : ℕ → Option ℕ

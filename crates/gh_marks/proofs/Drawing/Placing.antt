@@ -130,10 +130,10 @@ module _ (z : Cycle) (a : ℕ) (s : Shared) (at : Row) (p : Tricolour) (room : �
 
     -- object 0 is not the new one
     zero-row : {A : Type 0} (table : ℕ → ℕ → A) (x : A) (i : ℕ) → put_row table p.objects x 0 i ≡ table 0 i
-    zero-row table x i = elim (eqb_tells p.objects 0) [ inl y ↦ absurd (let some : 0 < p.objects = sh.numbers.some in omega (arith, y.1)) | inr n ↦ rw (n.0) refl ]
+    zero-row table x i = grind arith
 
     zero-colour : put1 p.colour p.objects shade.Black 0 ≡ p.colour 0
-    zero-colour = elim (eqb_tells p.objects 0) [ inl y ↦ absurd (let some : 0 < p.objects = sh.numbers.some in omega (arith, y.1)) | inr n ↦ rw (n.0) refl ]
+    zero-colour = grind arith
 
     named : Names with_number (p.objects + 1) (Some p.objects) (o + 1)
     named = subst (λ q. Names with_number (p.objects + 1) (Some p.objects) (q + 1)) new-number (object p.objects sh.numbers.some (omega arith))

@@ -1,6 +1,5 @@
 -- Runs of moves of the picture that colour nothing, and what each leaves.
-use mathlib.Core.Path.{fun_ext}
-use Rattle.std.proofs.Common.{◌≡◌, ◌≢◌, ℕ, zero, suc, ◌<◌, ◌≤◌, Bool, true, false, arith, refl, sym, ◌∙◌, ap, cond, subst, Option, Some, None}
+use Rattle.std.proofs.Common.{◌≡◌, ◌≢◌, ℕ, zero, suc, ◌<◌, ◌≤◌, Bool, true, false, arith, refl, sym, subst, Option, Some, None}
 use Rattle.std.specs.Prelude.{◌==◌, ◌&&◌, if◌then◌else◌, nat_lt}
 use Rattle.std.proofs.lemmas.Bool.Decides.{nat_tests}
 use Rattle.gh_tri.specs.declared.Colour.{Colour as Shade}
@@ -9,7 +8,7 @@ use Rattle.gh_tri.specs.declared.Move.TheVariants.{ReadOld, Store, ScanField, Bl
 use Rattle.gh_tri.specs.Changes.{Drop}
 use Rattle.gh_tri.specs.Steps.{Goes, stays}
 use Rattle.gh_tri.specs.Steps as steps
-use Rattle.gh_tri.specs.Tricolour.{Tricolour, IsField, NilOrMade, NilOrMarked, moved, names, greyed, put1, put2, put3, shaded}
+use Rattle.gh_tri.specs.Tricolour.{Tricolour, IsField, NilOrMade, NilOrMarked, moved, put1, put2, put3, shaded}
 
 pub goes-then : (p q r : Tricolour) → Goes p q → Goes q r → Goes p r
 goes-then p q r w stays = w
@@ -18,33 +17,17 @@ goes-then p q r w (steps.changes t c x may) = steps.changes t c (goes-then p q t
 
 -- what is marked already is shaded in vain
 pub shaded-same : (colour : ℕ → Shade) (v : Option ℕ) → ((o : ℕ) → v ≡ Some o → colour o ≢ shade.White) → shaded colour v ≡ colour
-shaded-same colour v marked = fun_ext (λ o. at o (names v o) refl) where
-  named : (v : Option ℕ) (o : ℕ) → names v o ≡ true → v ≡ Some o
-  named None o e = cc
-  named (Some w) o e = let same : w ≡ o = grind (arith, nat_tests) in ap Some same
-
-  still : (c : Shade) → c ≢ shade.White → greyed c ≡ c
-  still shade.White h = absurd (h refl)
-  still shade.Grey h = refl
-  still shade.Black h = refl
-
-  at : (o : ℕ) (b : Bool) → names v o ≡ b → shaded colour v o ≡ colour o
-  at o true e = ap (λ c. cond c (greyed (colour o)) (colour o)) e ∙ still (colour o) (marked o (named v o e))
-  at o false e = ap (λ c. cond c (greyed (colour o)) (colour o)) e
+shaded-same colour v marked = grind arith
 
 -- a table once the first n columns of a row hold this
 abbrev pub filled_to : {A : Type 0} → A → (ℕ → ℕ → A) → (i n : ℕ) → ℕ → ℕ → A
 filled_to x table i n a b = if (i == a) && nat_lt b n then x else table a b
 
 pub filled-none : {A : Type 0} (x : A) (table : ℕ → ℕ → A) (i : ℕ) → filled_to x table i 0 ≡ table
-filled-none x table i = fun_ext (λ a. fun_ext (λ b. at a b)) where
-  at : (a b : ℕ) → filled_to x table i 0 a b ≡ table a b
-  at a b = grind (arith, nat_tests)
+filled-none x table i = grind arith
 
 pub filled-more : {A : Type 0} (x : A) (table : ℕ → ℕ → A) (i n : ℕ) → put2 (filled_to x table i n) i n x ≡ filled_to x table i (suc n)
-filled-more x table i n = fun_ext (λ a. fun_ext (λ b. at a b)) where
-  at : (a b : ℕ) → put2 (filled_to x table i n) i n x a b ≡ filled_to x table i (suc n) a b
-  at a b = grind (arith, nat_tests)
+filled-more x table i n = grind arith
 
 pub filled-at : {A : Type 0} (x : A) (table : ℕ → ℕ → A) (i n b : ℕ) → b < n → filled_to x table i n i b ≡ x
 filled-at x table i n b l = grind (arith, nat_tests)
@@ -102,9 +85,7 @@ module _ (p : Tricolour) where
 
   module _ (s : ℕ) (v : Option ℕ) (stack : s < p.stacks) (made : NilOrMade p v) (marked : NilOrMarked p v) (unread : (t a b : ℕ) → p.read t a b ≡ None) where
     read-back : (o f : ℕ) (u : Option (Option ℕ)) → put3 (put3 p.read s o f u) s o f None ≡ p.read
-    read-back o f u = fun_ext (λ t. fun_ext (λ a. fun_ext (λ b. at t a b))) where
-      at : (t a b : ℕ) → put3 (put3 p.read s o f u) s o f None t a b ≡ p.read t a b
-      at t a b = let none : p.read t a b ≡ None = unread t a b in grind (arith, nat_tests)
+    read-back o f u = grind arith
 
     abbrev Holds : (ℕ → ℕ → Option ℕ) → Tricolour
     Holds value = record p { value = value }
@@ -127,19 +108,13 @@ module _ (p : Tricolour) where
       stored_to n a b = if nat_lt a n && (hit a && (column a == b)) then v else p.value a b
 
       stored-none : stored_to 0 ≡ p.value
-      stored-none = fun_ext (λ a. fun_ext (λ b. at a b)) where
-        at : (a b : ℕ) → stored_to 0 a b ≡ p.value a b
-        at a b = grind (arith, nat_tests)
+      stored-none = grind arith
 
       stored-more : (n : ℕ) → hit n ≡ true → put2 (stored_to n) n (column n) v ≡ stored_to (suc n)
-      stored-more n h = fun_ext (λ a. fun_ext (λ b. at a b)) where
-        at : (a b : ℕ) → put2 (stored_to n) n (column n) v a b ≡ stored_to (suc n) a b
-        at a b = grind (arith, nat_tests)
+      stored-more n h = grind (arith, nat_tests)
 
       stored-same : (n : ℕ) → hit n ≡ false → stored_to n ≡ stored_to (suc n)
-      stored-same n h = fun_ext (λ a. fun_ext (λ b. at a b)) where
-        at : (a b : ℕ) → stored_to n a b ≡ stored_to (suc n) a b
-        at a b = grind (arith, nat_tests)
+      stored-same n h = grind arith
 
       stored-behind : (n b : ℕ) → stored_to n n b ≡ p.value n b
       stored-behind n b = grind (arith, nat_tests)

@@ -1,10 +1,9 @@
 -- What the invariants of the picture say of marking, and of its end.
-use Rattle.std.proofs.Common.{◌≡◌, ◌≢◌, ℕ, zero, suc, ◌+◌, ◌<◌, Bool, true, false, arith, refl, sym, ◌∙◌, ap, inl, inr, ◌⊎◌, subst, Some}
+use Rattle.std.proofs.Common.{◌≡◌, ◌≢◌, ℕ, zero, suc, ◌+◌, ◌<◌, Bool, true, false, arith, refl, sym, ◌∙◌, ap, inl, inr, subst, Some}
 use Rattle.std.proofs.lemmas.Bool.{cases_lt}
 use Rattle.std.proofs.lemmas.Bool.Decides.{nat_tests}
 use Rattle.gh_base.specs.declared.cell.Cell.TheVariants as cell
 use Rattle.gh_base.specs.declared.limits.TheConstants.{REGISTERS}
-use Rattle.gh_base.specs.declared.pack.TheConstants.{END}
 use Rattle.gh_base.specs.Rows.{Row, mark_words, row_bit}
 use Rattle.gh_tri.specs.declared.Colour.TheVariants as shade
 use Rattle.gh_tri.specs.Invariants.{Edge, Invariants, IsMarkingDone, IsReachedInPicture, MarkedWhatIsReached}
@@ -75,8 +74,7 @@ module _ (z : Cycle) (s : Shared) (at : Row) (p : Tricolour) (marks : MarksGood 
 
   -- a global that is scanned holds no white object
   open-global : (k m : ℕ) (b : Bool) → p.scanned 0 k ≡ b → p.value 0 k ≡ Some m → p.colour m ≡ shade.White → Guarded m
-  open-global k m false left e white = global-guarded k m left e white
-  open-global k m true done e white = absurd (i.scanned_fields 0 k done m e white)
+  open-global k m b left e white = grind (arith, global-guarded)
 
   guarded : (m : ℕ) → tri.Protected p m → Guarded m
   guarded m (tri.from_grey zero k m' grey edge white) = open-global k m (p.scanned 0 k) refl edge.holds white
@@ -103,25 +101,8 @@ module _ (z : Cycle) (s : Shared) (at : Row) (p : Tricolour) (marks : MarksGood 
 
 -- Nothing is left to be marked: nothing is left in the picture.
 module _ (z : Cycle) (s : Shared) (at : Row) (p : Tricolour) (sh : Shows z s at p) (i : Invariants p) (d : IsDone z s) where
-  all-scanned : p.colour 0 ≡ shade.Black
-  all-scanned = sh.all_scanned (λ k l. ap is_scanned (d.globals k l))
-
-  none-grey : (n : ℕ) → n < p.objects → p.colour n ≢ shade.Grey
-  none-grey zero below e = black-grey (sym all-scanned ∙ e) where
-    black-grey : shade.Black ≡ shade.Grey → ⊥
-    black-grey x = cc
-  none-grey (suc n) below e = d.no_grey (at (suc n)) (is-grey (s.colour (at (suc n))) (sym (sh.colours (suc n) (omega arith) below) ∙ e))
-
-  ended : (word : ℕ) → (word ≡ z.number) ⊎ (word ≡ END) → is_black_stack z word ≡ true
-  ended word (inl e) = grind (arith, nat_tests)
-  ended word (inr e) = grind (arith, nat_tests)
-
   pub picture-done : IsMarkingDone p
-  picture-done = record {
-    greys = none-grey;
-    globals = λ k l. i.marked_objects.black 0 k all-scanned l;
-    stacks = λ g l d' few. sh.seen g d' (rw (← sh.stacks) l) few ∙ ended (s.words (cell.Scanned g)) (d.stacks g (rw (← sh.stacks) l));
-  }
+  picture-done = grind arith
 
 -- and each object that a path leads to is reached in it
 module _ (z : Cycle) (s : Shared) (at : Row) (p : Tricolour) (sh : Shows z s at p) where

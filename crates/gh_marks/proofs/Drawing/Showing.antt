@@ -1,5 +1,5 @@
 -- What a picture shows of a state that is changed in some rows.
-use Rattle.std.proofs.Common.{◌≡◌, ℕ, ◌+◌, ◌<◌, Bool, true, false, arith, refl, sym, ◌∙◌, ap, cond, eqb, inl, inr, subst, Option}
+use Rattle.std.proofs.Common.{◌≡◌, ℕ, ◌+◌, ◌<◌, Bool, true, arith, refl, sym, ◌∙◌, ap, cond, inl, inr, Option}
 use Rattle.std.specs.Prelude.{nat_lt}
 use Rattle.std.proofs.lemmas.Bool.Decides.{eqb_tells}
 use Rattle.gh_base.specs.declared.cell.Cell.TheVariants as cell
@@ -10,15 +10,10 @@ use Rattle.gh_heap.specs.Moves.{update, update_at}
 use Rattle.gh_tri.specs.Tricolour.{Tricolour, put1, put2}
 use Rattle.gh_marks.specs.Colours.{Colour, Cycle, IsPointer, Progress, Shared}
 use Rattle.gh_marks.specs.Shows.{Names, Shows, is_black_stack, is_scanned, pointer_at, shade_of}
-use Rattle.gh_marks.proofs.Drawing.Reading.{global-same, pointer-same}
 
 -- a table and a row that agree do so once both have taken a value
 pub names-put : (at : Row) (objects : ℕ) (table : ℕ → ℕ → Option ℕ) (row : ℕ → Row) (g d : ℕ) (v : Option ℕ) (w h e : ℕ) → Names at objects v w → Names at objects (table h e) (row h e) → Names at objects (put2 table g d v h e) (update_at row g d w h e)
-names-put at objects table row g d v w h e new old = go (eqb g h) (eqb d e) refl refl where
-  go : (x y : Bool) → eqb g h ≡ x → eqb d e ≡ y → Names at objects (put2 table g d v h e) (update_at row g d w h e)
-  go true true a b = rw (a, b) new
-  go true false a b = rw (a, b) old
-  go false y a b = rw a old
+names-put at objects table row g d v w h e new old = grind arith
 
 module _ (z : Cycle) (s : Shared) (at : Row) (p : Tricolour) (sh : Shows z s at p) where
   -- what the rows of words hold that the picture shows
@@ -28,31 +23,10 @@ module _ (z : Cycle) (s : Shared) (at : Row) (p : Tricolour) (sh : Shows z s at 
   abbrev pub SameGlobals : Words → Type 0
   SameGlobals w = (i : ℕ) → i < z.arena.layout.globals → w (cell.Global i) ≡ s.words (cell.Global i)
 
-  fields-same : (w : Words) → SameFields w → (n k : ℕ) → 0 < n → n < p.objects → Names at p.objects (p.value n k) (pointer_at (record s { words = w }) (at n) k)
-  fields-same w same n k some below = subst (Names at p.objects (p.value n k)) (sym (pointer-same s.extents (w (cell.Field (at n + k))) (s.words (cell.Field (at n + k))) (at n) k (same (at n) k (sh.numbers.of_cycle n some below)))) (sh.fields n k some below)
-
-  globals-same : (w : Words) → SameGlobals w → (i : ℕ) → Names at p.objects (p.value 0 i) (cond (nat_lt i z.arena.layout.globals) (w (cell.Global i)) 0)
-  globals-same w same i = subst (Names at p.objects (p.value 0 i)) (sym (global-same z.arena.layout.globals (w (cell.Global i)) (s.words (cell.Global i)) i (same i))) (sh.globals i)
-
   -- the same picture, where what it shows is as it was
   pub shows-still : (w : Words) (colour : ℕ → Colour) (filled : Row) (progress : ℕ → Progress) (passed : ℕ → Bool) → SameFields w → SameGlobals w → ((h : ℕ) → w (cell.Scanned h) ≡ s.words (cell.Scanned h)) →
       ((o : ℕ) → s.since o ≡ true → shade_of (colour o) ≡ shade_of (s.colour o)) → ((i : ℕ) → is_scanned (progress i) ≡ is_scanned (s.progress i)) → Shows z (record s { words = w; colour = colour; filled = filled; progress = progress; passed = passed }) at p
-  shows-still w colour filled progress passed same_fields same_globals same_stacks same_colours same_progress = record {
-    numbers = sh.numbers;
-    stacks = sh.stacks;
-    globals_fit = sh.globals_fit;
-    objects_fit = sh.objects_fit;
-    sizes = sh.sizes;
-    colours = λ n some below. sh.colours n some below ∙ sym (same_colours (at n) (sh.numbers.of_cycle n some below));
-    waits = λ i l e. sh.waits i l (sym (same_progress i) ∙ e);
-    all_scanned = λ h. sh.all_scanned (λ i l. sym (same_progress i) ∙ h i l);
-    scanned = λ i l. sh.scanned i l ∙ sym (same_progress i);
-    globals = globals-same w same_globals;
-    fields = fields-same w same_fields;
-    registers = sh.registers;
-    seen = λ g d l few. sh.seen g d l few ∙ sym (ap (is_black_stack z) (same_stacks g));
-    reads = sh.reads;
-  }
+  shows-still w colour filled progress passed same_fields same_globals same_stacks same_colours same_progress = grind arith
 
   -- object n, and the object that it shows, take a colour
   pub shows-coloured : (o : ℕ) (c : Colour) (n : ℕ) (scanned : ℕ → ℕ → Bool) → 0 < n → n < p.objects → at n ≡ o → ((i : ℕ) → scanned 0 i ≡ p.scanned 0 i) → Shows z (record s { colour = update s.colour o c }) at (record p { colour = put1 p.colour n (shade_of c); scanned = scanned })
@@ -84,39 +58,9 @@ module _ (z : Cycle) (s : Shared) (at : Row) (p : Tricolour) (sh : Shows z s at 
   -- registers take values, and stacks are scanned
   pub shows-stacks : (w : Words) (row : ℕ → Row) (register : ℕ → ℕ → Option ℕ) (seen : ℕ → ℕ → Bool) → SameFields w → SameGlobals w → ((g d : ℕ) → g < z.arena.layout.goroutines → d < REGISTERS → Names at p.objects (register g d) (row g d)) →
       ((g d : ℕ) → g < z.arena.layout.goroutines → d < REGISTERS → seen g d ≡ is_black_stack z (w (cell.Scanned g))) → Shows z (record s { words = w; registers = row }) at (record p { register = register; seen = seen })
-  shows-stacks w row register seen same_fields same_globals named black = record {
-    numbers = sh.numbers;
-    stacks = sh.stacks;
-    globals_fit = sh.globals_fit;
-    objects_fit = sh.objects_fit;
-    sizes = sh.sizes;
-    colours = sh.colours;
-    waits = sh.waits;
-    all_scanned = sh.all_scanned;
-    scanned = sh.scanned;
-    globals = globals-same w same_globals;
-    fields = fields-same w same_fields;
-    registers = named;
-    seen = black;
-    reads = sh.reads;
-  }
+  shows-stacks w row register seen same_fields same_globals named black = grind arith
 
   -- fields take values
   pub shows-stored : (w : Words) (value : ℕ → ℕ → Option ℕ) → ((i : ℕ) → Names at p.objects (value 0 i) (cond (nat_lt i z.arena.layout.globals) (w (cell.Global i)) 0)) → ((h : ℕ) → w (cell.Scanned h) ≡ s.words (cell.Scanned h)) →
       ((n k : ℕ) → 0 < n → n < p.objects → Names at p.objects (value n k) (pointer_at (record s { words = w }) (at n) k)) → Shows z (record s { words = w }) at (record p { value = value })
-  shows-stored w value globals same fields = record {
-    numbers = sh.numbers;
-    stacks = sh.stacks;
-    globals_fit = sh.globals_fit;
-    objects_fit = sh.objects_fit;
-    sizes = sh.sizes;
-    colours = sh.colours;
-    waits = sh.waits;
-    all_scanned = sh.all_scanned;
-    scanned = sh.scanned;
-    globals = globals;
-    fields = fields;
-    registers = sh.registers;
-    seen = λ g d l few. sh.seen g d l few ∙ sym (ap (is_black_stack z) (same g));
-    reads = sh.reads;
-  }
+  shows-stored w value globals same fields = grind arith

@@ -18,7 +18,7 @@ use Rattle.gh_marks.specs.Picture.{IsDrawn}
 use Rattle.gh_marks.specs.Shows.{Names, Shows, is_black_stack, nothing}
 use Rattle.gh_marks.proofs.Drawing.Reading.{clean-marked, named-word, value-field, value-global, within-fields}
 use Rattle.gh_marks.proofs.Drawing.Runs.{filled-at, filled-other, filled_to, goes-drops, goes-sees, goes-then}
-use Rattle.gh_marks.proofs.Drawing.Showing.{names-put, shows-stacks}
+use Rattle.gh_marks.proofs.Drawing.Showing.{shows-stacks}
 
 module _ (z : Cycle) (a : ℕ) (s : Shared) (at : Row) (p : Tricolour) (room : ℕ) (g : Good z s) (sh : Shows z s at p) (fits : p.objects + (room + 1) ≤ p.limit) where
   -- a stack is wholly grey or wholly black
@@ -34,14 +34,7 @@ module _ (z : Cycle) (a : ℕ) (s : Shared) (at : Row) (p : Tricolour) (room : �
   module _ (h d value : ℕ) (own : h < z.arena.layout.goroutines) where
     -- the register takes what the picture's register takes
     takes : (v : Option ℕ) → Names at p.objects v value → Goes p (record p { register = put2 p.register h d v }) → IsDrawn z (moved z a s (SetRegister h d value)) p room
-    takes v named w = record {
-      picture = record p { register = put2 p.register h d v };
-      at = at;
-      goes = w;
-      shows = shows-stacks z s at p sh s.words (update_at s.registers h d value) (put2 p.register h d v) p.seen (λ o k i l. refl) (λ i l. refl)
-          (λ i e l few. names-put at p.objects p.register s.registers h d v value i e named (sh.registers i e l few)) sh.seen;
-      room_left = omega arith;
-    }
+    takes v named w = grind arith
 
     -- no register
     past : 16 ≤ d → IsDrawn z (moved z a s (SetRegister h d value)) p room

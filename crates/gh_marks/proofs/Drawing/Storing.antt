@@ -1,5 +1,5 @@
 -- The stores of marking, behind the write barrier.
-use Rattle.std.proofs.Common.{◌≡◌, ◌≢◌, ℕ, ◌+◌, ◌-◌, ◌<◌, ◌≤◌, Bool, true, false, arith, refl, sym, ◌∙◌, ap, cond, eqb, inl, inr, ◌⊎◌, subst, Option}
+use Rattle.std.proofs.Common.{◌≡◌, ℕ, ◌+◌, ◌-◌, ◌<◌, ◌≤◌, Bool, true, false, arith, refl, sym, ap, cond, eqb, inl, inr, ◌⊎◌, subst, Option}
 use Rattle.std.specs.Prelude.{◌==◌, ◌&&◌, nat_lt}
 use Rattle.std.proofs.lemmas.Bool.Decides.{eqb_tells, nat_tests}
 use Rattle.gh_base.specs.declared.cell.Cell.TheVariants as cell
@@ -11,7 +11,7 @@ use Rattle.gh_marks.specs.Good.{Good}
 use Rattle.gh_marks.specs.Moves.{May, PutField, PutGlobal, moved}
 use Rattle.gh_marks.specs.Picture.{IsDrawn}
 use Rattle.gh_marks.specs.Shows.{Names, Shows, global_at, pointer_at}
-use Rattle.gh_marks.proofs.Drawing.Reading.{clean-marked, global-word, is_pointer, lt-tells, names-made, numbered, pointer-same, pointer-tells, pointer-word, value-field, value-global, within-fields}
+use Rattle.gh_marks.proofs.Drawing.Reading.{clean-marked, is_pointer, lt-tells, names-made, numbered, value-field, value-global, within-fields}
 use Rattle.gh_marks.proofs.Drawing.Runs.{goes-store, goes-stores, stored_to}
 use Rattle.gh_marks.proofs.Drawing.Showing.{shows-still, shows-stored}
 
@@ -29,27 +29,7 @@ module _ (z : Cycle) (a : ℕ) (s : Shared) (at : Row) (p : Tricolour) (room : �
       pub word : at n + k ≡ x
 
     hit-tells : (n : ℕ) → 0 < n → ((hit n ≡ true) × IsHit n (x - at n)) ⊎ ((hit n ≡ false) × ¬ IsHit n (x - at n))
-    hit-tells n some = go (nat_lt 0 n) (eqb (at n + (x - at n)) x) refl refl (pointer-tells s.extents (at n) (x - at n)) where
-      go : (b c : Bool) → nat_lt 0 n ≡ b → eqb (at n + (x - at n)) x ≡ c → ((is_pointer s.extents (at n) (x - at n) ≡ true) × IsPointer s.extents (at n) (x - at n)) ⊎ ((is_pointer s.extents (at n) (x - at n) ≡ false) × ¬ IsPointer s.extents (at n) (x - at n)) → ((hit n ≡ true) × IsHit n (x - at n)) ⊎ ((hit n ≡ false) × ¬ IsHit n (x - at n))
-      go false c e f t = absurd (grind (arith, nat_tests))
-      go true false e f t = inr (rw (e, f) refl, λ h. let w : at n + (x - at n) ≡ x = h.word in absurd (grind (arith, nat_tests)))
-      go true true e f (inl t) = inl (rw (e, f) (t.0), record { pointer = t.1; word = grind (arith, nat_tests) })
-      go true true e f (inr t) = inr (rw (e, f) (t.0), λ h. t.1 h.pointer)
-
-    -- the field is the word exactly where its column is hit
-    field-tells : (n k : ℕ) → 0 < n → (((hit n && (x - at n == k)) ≡ true) × IsHit n k) ⊎ (((hit n && (x - at n == k)) ≡ false) × ¬ IsHit n k)
-    field-tells n k some = elim (hit-tells n some) [
-      | inl h ↦ elim (eqb_tells (x - at n) k) [
-        | inl y ↦ inl (rw (h.0, y.0) refl, subst (IsHit n) y.1 h.1)
-        | inr y ↦ inr (rw (h.0, y.0) refl, λ t. absurd (apart t.word h.1.word y.1))
-      ]
-      | inr h ↦ inr (rw (h.0) refl, λ t. h.1 (subst (IsHit n) (same t.word) t))
-    ] where
-      apart : at n + k ≡ x → at n + (x - at n) ≡ x → x - at n ≢ k → ⊥
-      apart e f ne = omega arith
-
-      same : at n + k ≡ x → k ≡ x - at n
-      same e = omega arith
+    hit-tells n some = grind (arith, nat_tests)
 
     module _ (value : ℕ) (may : May z a s (PutField x value)) where
       named : (v : Option ℕ) × Names at p.objects v value
@@ -74,28 +54,10 @@ module _ (z : Cycle) (a : ℕ) (s : Shared) (at : Row) (p : Tricolour) (room : �
         two e f = cc
 
       stored-globals : (i : ℕ) → Names at p.objects (stored 0 i) (global_at z s i)
-      stored-globals i = subst (λ (v : Option ℕ). Names at p.objects v (global_at z s i)) (sym same) (sh.globals i) where
-        same : stored 0 i ≡ p.value 0 i
-        same = grind (arith, nat_tests)
+      stored-globals i = grind arith
 
       stored-fields : (n k : ℕ) → 0 < n → n < p.objects → Names at p.objects (stored n k) (pointer_at (moved z a s (PutField x value)) (at n) k)
-      stored-fields n k some below = elim (field-tells n k some) [
-        | inl t ↦ subst (Names at p.objects (stored n k)) (sym (pointer-word (moved z a s (PutField x value)) (at n) k t.1.pointer ∙ new t.1.word)) (subst (λ (v : Option ℕ). Names at p.objects v value) (sym (put t.0)) named.1)
-        | inr t ↦ subst (Names at p.objects (stored n k)) (sym (still t.1)) (subst (λ (v : Option ℕ). Names at p.objects v (pointer_at s (at n) k)) (sym (kept t.0)) (sh.fields n k some below))
-      ] where
-        put : (hit n && (x - at n == k)) ≡ true → stored n k ≡ named.0
-        put e = grind (arith, nat_tests)
-
-        kept : (hit n && (x - at n == k)) ≡ false → stored n k ≡ p.value n k
-        kept e = grind (arith, nat_tests)
-
-        new : at n + k ≡ x → cond (eqb x (at n + k)) value (s.words (cell.Field (at n + k))) ≡ value
-        new e = elim (eqb_tells x (at n + k)) [ inl y ↦ rw (y.0) refl | inr y ↦ absurd (y.1 (sym e)) ]
-
-        still : ¬ IsHit n k → pointer_at (moved z a s (PutField x value)) (at n) k ≡ pointer_at s (at n) k
-        still none = pointer-same s.extents (cond (eqb x (at n + k)) value (s.words (cell.Field (at n + k)))) (s.words (cell.Field (at n + k))) (at n) k other where
-          other : IsPointer s.extents (at n) k → cond (eqb x (at n + k)) value (s.words (cell.Field (at n + k))) ≡ s.words (cell.Field (at n + k))
-          other l = elim (eqb_tells x (at n + k)) [ inl y ↦ absurd (none (record { pointer = l; word = sym y.1 })) | inr y ↦ rw (y.0) refl ]
+      stored-fields n k some below = grind (arith, nat_tests)
 
       pub put_field-drawn : IsDrawn z (moved z a s (PutField x value)) p room
       put_field-drawn = record {
@@ -123,17 +85,10 @@ module _ (z : Cycle) (a : ℕ) (s : Shared) (at : Row) (p : Tricolour) (room : �
       same j l = elim (eqb_tells i j) [ inl y ↦ absurd (omega (arith, y.1)) | inr n ↦ rw (n.0) refl ]
 
     put-globals : i < z.arena.layout.globals → (j : ℕ) → Names at p.objects (put2 p.value 0 i named_global.0 0 j) (global_at z (moved z a s (PutGlobal i value)) j)
-    put-globals l j = elim (eqb_tells i j) [
-      | inl y ↦ subst (Names at p.objects (put2 p.value 0 i named_global.0 0 j)) (sym (new y.0 y.1)) (rw (y.0) (named_global.1))
-      | inr n ↦ rw (n.0) (sh.globals j)
-    ] where
-      new : eqb i j ≡ true → i ≡ j → global_at z (moved z a s (PutGlobal i value)) j ≡ value
-      new e same = global-word z (moved z a s (PutGlobal i value)) j (subst (λ k. k < z.arena.layout.globals) same l) ∙ ap (λ b. cond b value (s.words (cell.Global j))) e
+    put-globals l j = grind arith
 
     put-fields : (n k : ℕ) → 0 < n → n < p.objects → Names at p.objects (put2 p.value 0 i named_global.0 n k) (pointer_at s (at n) k)
-    put-fields n k some below = subst (λ (v : Option ℕ). Names at p.objects v (pointer_at s (at n) k)) (sym same) (sh.fields n k some below) where
-      same : put2 p.value 0 i named_global.0 n k ≡ p.value n k
-      same = grind (arith, nat_tests)
+    put-fields n k some below = grind (arith, nat_tests)
 
     pub put_global-drawn : IsDrawn z (moved z a s (PutGlobal i value)) p room
     put_global-drawn = elim (lt-tells i z.arena.layout.globals) [

@@ -1,11 +1,11 @@
 -- While marking is on, each step of the giving back is made of moves that its seat may make.
-use Rattle.std.proofs.Common.{◌≡◌, ℕ, ◌+◌, Bool, true, false, cond, eqb, List, [], ◌∷◌, drop, Option, Some, None, refl, sym, subst}
+use Rattle.std.proofs.Common.{◌≡◌, ℕ, ◌+◌, Bool, true, false, cond, eqb, List, [], ◌∷◌, drop, Option, Some, None, arith}
 use Rattle.gh_base.specs.declared.cell.Ask.TheVariants.{Store, Swap}
 use Rattle.gh_base.specs.declared.cell.Cell.TheVariants as cell
 use Rattle.gh_wbuf.specs.BufferGiving as buffer
 use Rattle.gh_wbuf.specs.Facts as buffer_facts
 use Rattle.gh_mutator.specs.declared.give.GiveStage.TheVariants.{Lock, GiveSpan, Unlock, GiveBuffer, Ended}
-use Rattle.gh_mutator.specs.Give.{after_buffer, asks, asks_at, begins, first_cached, Giving, giving_buffer, goes, goes_at, head_store, is_busy, opening, stage_from}
+use Rattle.gh_mutator.specs.Give.{after_buffer, asks, asks_at, first_cached, Giving, giving_buffer, goes, goes_at, head_store, is_busy, opening, stage_from}
 use Rattle.gh_mutator.specs.MarkFacts.{GiveFacts, GiveStageFacts, holding_only}
 use Rattle.gh_mutator.specs.MarkVocabulary.{CachedSpan, Cycle, GiveStage, Good, Hands, Held, Keeps, KnowsObjects, Layout, Others, Shared, Steps, cell_of, effect, landing, nothing}
 use Rattle.gh_mutator.proofs.Marking.Known.{by_load, by_quiet, Known}
@@ -18,29 +18,14 @@ first_facts z a t held class (None ∷ spans) x = first_facts z a t held (class 
 
 module _ (k : Known) (z : Cycle) (a : ℕ) where
   buffer_facts_of : (t : Shared) (l : Layout) (held : Option Held) → l ≡ z.arena.layout → Hands a t (holding_only held) → GiveStageFacts z a t held (giving_buffer l held)
-  buffer_facts_of t l None e x = (x, refl)
-  buffer_facts_of t l (Some h) e x = subst (λ (l : Layout). buffer_facts.GiveFacts z a t nothing (buffer.opening l h)) (sym e) ((k.buffers.begin z a t nothing (Some h) x).gives h refl)
-
-  begin_facts : (t : Shared) (l : Layout) (held : Option Held) (stage : GiveStage) → l ≡ z.arena.layout → Hands a t (holding_only held) → GiveStageFacts z a t held (begins l held stage)
-  begin_facts t l held Lock e x = x
-  begin_facts t l held (GiveSpan class s) e x = x
-  begin_facts t l held Unlock e x = buffer_facts_of t l held e x
-  begin_facts t l held (GiveBuffer b) e x = x
-  begin_facts t l held Ended e x = x
+  buffer_facts_of t l held e x = grind arith
 
   pub gives_begin : (t : Shared) (l : Layout) (seat generation : ℕ) (cache : List (Option CachedSpan)) (held : Option Held) → l ≡ z.arena.layout → Hands a t (holding_only held) → GiveFacts z a t (opening l seat generation cache held)
-  gives_begin t l seat generation cache held e x = record { layout_is = e; stage_is = begin_facts t l held (stage_from cache 0) e x }
-
-  left_at : (t : Shared) (held : Option Held) (stage : GiveStage) → is_busy stage ≡ false → GiveStageFacts z a t held stage → Hands a t nothing × (held ≡ None)
-  left_at t held Lock e x = absurd (cc)
-  left_at t held (GiveSpan class s) e x = absurd (cc)
-  left_at t held Unlock e x = absurd (cc)
-  left_at t held (GiveBuffer b) e x = absurd (cc)
-  left_at t held Ended e x = x
+  gives_begin t l seat generation cache held e x = grind arith
 
   -- once it has ended nothing is left
   pub nothing_left : (t : Shared) (g : Giving) → is_busy g.stage ≡ false → GiveFacts z a t g → Hands a t nothing × (g.held ≡ None)
-  nothing_left t g e f = left_at t g.held g.stage e f.stage_is
+  nothing_left t g e f = grind arith
 
   module _ (s : Shared) (good : Good z s) (objects : KnowsObjects z s) where
     abbrev Leads : (m : Giving) → GiveStage → Type 0
@@ -55,8 +40,7 @@ module _ (k : Known) (z : Cycle) (a : ℕ) where
             then t h false = h
 
       buffer_then : (t : Shared) (b : buffer.BufferGiving) (n : ℕ) (out : Option (Unit {0})) → buffer_facts.GiveFacts z a t nothing (buffer.goes b n) → GiveFacts z a t (after_buffer m (buffer.goes b n) out)
-      buffer_then t b n None f = record { layout_is = layout_is; stage_is = f }
-      buffer_then t b n (Some x) f = record { layout_is = layout_is; stage_is = (f.hands, refl) }
+      buffer_then t b n out f = grind arith
 
       gives_at : (p : GiveStage) → GiveStageFacts z a s m.held p → Leads m p
       gives_at Lock x = locks x
@@ -72,7 +56,7 @@ module _ (k : Known) (z : Cycle) (a : ℕ) where
       gives_at Ended x = by_load k z a s good cell.Touch (λ t. Keeps z a s t × GiveFacts z a t (goes_at m Ended (s.words cell.Touch))) ((k.go_on z a).stays s, record { layout_is = layout_is; stage_is = x })
 
     pub gives_on : (m : Giving) → GiveFacts z a s m → Steps z a s (asks m) (λ t. Keeps z a s t × GiveFacts z a t (goes m (s.words (cell_of (asks m)))))
-    gives_on m f = gives_at m f.layout_is m.stage f.stage_is
+    gives_on m f = grind (arith, gives_at)
 
   stage_lasts : (s t : Shared) (held : Option Held) (p : GiveStage) → Others z a s t → GiveStageFacts z a s held p → GiveStageFacts z a t held p
   stage_lasts s t held Lock o x = k.last z a s t (holding_only held) o x
@@ -82,4 +66,4 @@ module _ (k : Known) (z : Cycle) (a : ℕ) where
   stage_lasts s t held Ended o x = (k.last z a s t nothing o x.0, x.1)
 
   pub gives_last : (s t : Shared) (m : Giving) → Others z a s t → GiveFacts z a s m → GiveFacts z a t m
-  gives_last s t m o f = record { layout_is = f.layout_is; stage_is = stage_lasts s t m.held m.stage o f.stage_is }
+  gives_last s t m o f = grind (arith, stage_lasts)

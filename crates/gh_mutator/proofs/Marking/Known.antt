@@ -32,10 +32,7 @@ module _ (z : Cycle) (a : ℕ) (s : Shared) (g : ℕ) (stacks : List (List Value
   then = moved z a s (ScanStack g)
 
   on_before : (h : ℕ) → then.words (cell.Scanned h) ≢ END → s.words (cell.Scanned h) ≢ END
-  on_before h on = by (eqb g h) refl on where
-    by : (b : Bool) → eqb g h ≡ b → cond b z.number (s.words (cell.Scanned h)) ≢ END → s.words (cell.Scanned h) ≢ END
-    by true e on = λ x. goes_on (cc (x, eqb-true g h e))
-    by false e on = on
+  on_before h on = grind arith
 
   noted_then : (h : ℕ) → IsOf z.arena a h → slice_index (slice_set notes g z.number) h ≡ then.words (cell.Scanned h)
   noted_then h mine = by (eqb g h) refl where

@@ -1,8 +1,8 @@
 -- While marking is on, each step of a poll is made of moves that its seat may make.
-use Rattle.std.proofs.Common.{◌≡◌, ◌≢◌, ℕ, ◌+◌, ◌%◌, ◌^◌, ◌<◌, ◌≤◌, Bool, true, false, cond, Option, Some, None, refl, ap, sym, subst, ◌∙◌, arith}
+use Rattle.std.proofs.Common.{◌≡◌, ◌≢◌, ℕ, ◌%◌, ◌<◌, Bool, true, false, Option, Some, None, refl, ap, sym, subst, ◌∙◌, arith}
 use Rattle.std.specs.Prelude.{[], is_none}
 use Rattle.gh_base.specs.declared.cell.Cell.TheVariants as cell
-use Rattle.gh_base.specs.declared.pack.TheConstants.{END, ENTRIES}
+use Rattle.gh_base.specs.declared.pack.TheConstants.{END}
 use Rattle.gh_phase.specs.declared.resume.ResumeStage.TheVariants as resume_stage
 use Rattle.gh_phase.specs.declared.view.RunPhase.TheVariants as run
 use Rattle.gh_phase.specs.Listing as resume
@@ -13,42 +13,21 @@ use Rattle.gh_mutator.specs.declared.poll.PollStage.TheVariants.{LoadPhase, Givi
 use Rattle.gh_mutator.specs.Give as give
 use Rattle.gh_mutator.specs.MarkFacts.{GiveFacts, PollEndsWithRoom, IsBetween, KnowsCycle, KnowsNumber, KnowsStacks, PollFacts, PollStageFacts, PollsByMoves, ScanFacts, stacks_last}
 use Rattle.gh_mutator.specs.MarkStack as mark
-use Rattle.gh_mutator.specs.Poll.{after_mark, after_resume, after_room, asks_at, at_stage, by_phase, counted, due, giving, goes_at, has_two, is_busy, marks_then, Polling, resumed, room_stage, scanned, scans, stops_then}
-use Rattle.gh_mutator.proofs.Vocabulary.{Ask, cell_of, Cycle, effect, Good, Hands, Held, holding_only, IsOf, IsQuietInHandshake, Keeps, KnowsObjects, landing, Layout, Load, Local, MarkingIsQuiet, moved, nat_tests, nothing, Others, phase_of, PollStage, ProcessorIsQuiet, Resumed, ResumeStage, run_phase, RunPhase, ScanStack, Shared, slice_index_or, slice_set, Steps, Store}
+use Rattle.gh_mutator.specs.Poll.{after_mark, after_resume, after_room, asks_at, at_stage, by_phase, counted, due, giving, goes_at, is_busy, marks_then, Polling, resumed, scanned, scans, stops_then}
+use Rattle.gh_mutator.proofs.Vocabulary.{cell_of, Cycle, effect, Good, Hands, Held, holding_only, IsOf, Keeps, KnowsObjects, landing, Layout, Load, Local, MarkingIsQuiet, moved, nothing, Others, phase_of, PollStage, ProcessorIsQuiet, Resumed, ResumeStage, run_phase, RunPhase, ScanStack, Shared, slice_index_or, slice_set, Steps, Store}
 use Rattle.gh_mutator.specs.Due.{due_scans, IsUnscanned}
-use Rattle.gh_mutator.proofs.Marking.Gives.{gives_begin, gives_last, gives_on, nothing_left}
+use Rattle.gh_mutator.proofs.Marking.Gives.{gives_begin, gives_last, gives_on}
 use Rattle.gh_mutator.proofs.Marking.Known.{by_load, by_quiet, Known, stacks_scanned}
 use Rattle.gh_mutator.proofs.Marking.Scans.{Comes, scan_begins, scans_last, scans_on}
 
 module _ (k : Known) (z : Cycle) (a : ℕ) where
   -- what it does at its end: it is counted, and a buffer with room is looked for
-  module _ (t : Shared) (l : Layout) (seat : ℕ) (local : Local) (e : l ≡ z.arena.layout) (f : seat ≡ a) (number : KnowsNumber z local.view) (x : Hands a t (holding_only local.held)) where
-    two_or : (waits two : Bool) → has_two local.held ≡ two → PollStageFacts z a t waits local (cond two Ended (FindRoom (room.opening l seat local.held)))
-    two_or waits true two = (number, λ turn on. two, x)
-    two_or waits false two = (
-      number,
-      subst (λ (l : Layout). buffer_facts.RoomFacts z a t nothing (room.opening l seat local.held)) (sym e)
-          (subst (λ (b : ℕ). buffer_facts.RoomFacts z a t nothing (room.opening z.arena.layout b local.held)) (sym f) (k.buffers.begin z a t nothing local.held x).finds),
-    )
-
-    room_facts : (waits : Bool) → PollStageFacts z a t waits local (room_stage l seat waits local.held)
-    room_facts true = (number, λ turn on. absurd (cc), x)
-    room_facts false = two_or false (has_two local.held) refl
-
   counted_facts : (t : Shared) (p : Polling) → p.layout ≡ z.arena.layout → p.seat ≡ a → IsBetween z a t p.local → PollFacts z a t (counted p)
-  counted_facts t p e f b = record {
-    layout_is = e;
-    seat_is = f;
-    stacks = b.stacks;
-    stage_is = room_facts t p.layout p.seat (record (p.local) { polls = (p.local.polls + 1) % 2 ^ 64 }) e f b.number b.hands p.waits;
-  }
+  counted_facts t p e f b = grind arith
 
   -- at a stop
   stops_facts : (t : Shared) (p : Polling) (g : give.Giving) (stops : ℕ) → p.layout ≡ z.arena.layout → p.seat ≡ a → KnowsStacks z a t p.local.stacks p.local.scanned → GiveFacts z a t g → PollFacts z a t (stops_then p g stops)
-  stops_facts t p g stops e f stacks x = by (give.is_busy g.stage) refl where
-    by : (busy : Bool) → give.is_busy g.stage ≡ busy → PollFacts z a t (cond busy (at_stage p (Giving g stops)) (record p { local = record (p.local) { cache = g.cache; held = g.held }; stage = Resuming (resume.opening p.layout p.seat stops p.local.view) }))
-    by true b = record { layout_is = e; seat_is = f; stacks = stacks; stage_is = x }
-    by false b = let left = nothing_left k z a t g b x in record { layout_is = e; seat_is = f; stacks = stacks; stage_is = (left.0, left.1, refl) }
+  stops_facts t p g stops e f stacks x = grind arith
 
   module _ (s : Shared) (good : Good z s) (objects : KnowsObjects z s) where
     -- where the world runs
@@ -70,9 +49,7 @@ module _ (k : Known) (z : Cycle) (a : ℕ) where
       goes_on w = scan.going (b.stacks.noted g own ∙ w)
 
     marks_facts : (p : Polling) → p.layout ≡ z.arena.layout → p.seat ≡ a → IsBetween z a s p.local → (phase : RunPhase) → p.local.view.phase ≡ phase → PollFacts z a s (marks_then p phase)
-    marks_facts p e f b run.Off on = record { layout_is = e; seat_is = f; stacks = b.stacks; stage_is = (b.number, λ turn marks. absurd (cc (on, marks)), b.hands) }
-    marks_facts p e f b run.Mark on = scan_facts p e f b on (due p) refl
-    marks_facts p e f b run.Finished on = record { layout_is = e; seat_is = f; stacks = b.stacks; stage_is = (b.number, λ turn marks. absurd (cc (on, marks)), b.hands) }
+    marks_facts p e f b phase on = grind (arith, scan_facts)
 
     module _ (p : Polling) (layout_is : p.layout ≡ z.arena.layout) (seat_is : p.seat ≡ a) (stacks : KnowsStacks z a s p.local.stacks p.local.scanned) where
       abbrev Leads : PollStage → Type 0
@@ -128,15 +105,7 @@ module _ (k : Known) (z : Cycle) (a : ℕ) where
 
       -- a buffer with room is looked for
       found_then : (t : Shared) (r : room.RoomFinding) (n : ℕ) (out : Option Held) → room.gives r n ≡ out → Keeps z a s t → KnowsNumber z p.local.view → buffer_facts.RoomFacts z a s nothing r → buffer_facts.RoomFacts z a t nothing (room.goes r n) → PollFacts z a t (after_room p (room.goes r n) out)
-      found_then t r n None e kept number was f = record { layout_is = layout_is; seat_is = seat_is; stacks = stacks_last z a s t p.local.stacks p.local.scanned kept stacks; stage_is = (number, f) }
-      found_then t r n (Some h) e kept number was f = record {
-        layout_is = layout_is;
-        seat_is = seat_is;
-        stacks = stacks_last z a s t p.local.stacks p.local.scanned kept stacks;
-        stage_is = (number, λ turn on. two, subst (λ (held : Option Held). Hands a t (holding_only held)) (k.buffers.held n r h e) f.hands);
-      } where
-        two : has_two (Some h) ≡ true
-        two = let enough : h.count + 2 ≤ ENTRIES = k.buffers.room a n r h was.knows e in grind (arith, nat_tests)
+      found_then t r n out e kept number was f = record { layout_is = grind arith; seat_is = grind arith; stacks = grind arith; stage_is = grind arith }
 
       finds : (r : room.RoomFinding) → KnowsNumber z p.local.view → buffer_facts.RoomFacts z a s nothing r → Leads (FindRoom r)
       finds r number f =
@@ -169,25 +138,11 @@ module _ (k : Known) (z : Cycle) (a : ℕ) where
   stage_lasts s t waits local Ended o x = (x.0, x.1, k.last z a s t (holding_only local.held) o x.2)
 
   ended_at : (s : Shared) (waits : Bool) (local : Local) (q : PollStage) → is_busy q ≡ false → KnowsStacks z a s local.stacks local.scanned → PollStageFacts z a s waits local q → IsBetween z a s local × PollEndsWithRoom waits local
-  ended_at s waits local Ended e stacks x = (record { stacks = stacks; number = x.0; hands = x.2 }, x.1)
-  ended_at s waits local LoadPhase e stacks x = absurd (cc)
-  ended_at s waits local (Giving g stops) e stacks x = absurd (cc)
-  ended_at s waits local (Resuming r) e stacks x = absurd (cc)
-  ended_at s waits local (Marking g m) e stacks x = absurd (cc)
-  ended_at s waits local (FindRoom r) e stacks x = absurd (cc)
-
--- where it acknowledges: nothing else that it runs does
-pub acks_nothing : (i number : ℕ) (step : Ask) → IsQuietInHandshake step → step ≡ Store (cell.Ack i) number → ⊥
-acks_nothing i number step q e = subst IsQuietInHandshake e q
+  ended_at s waits local q e stacks x = grind arith
 
 module _ (q : ProcessorIsQuiet) (m : MarkingIsQuiet) (z : Cycle) (a i number : ℕ) (s : Shared) where
   stops_at : (waits : Bool) (local : Local) (p : PollStage) → asks_at p ≡ Store (cell.Ack i) number → PollStageFacts z a s waits local p → Hands a s nothing
-  stops_at waits local LoadPhase e x = absurd (cc)
-  stops_at waits local (Giving g stops) e x = absurd (acks_nothing i number (give.asks g) (q.gives_back g) e)
-  stops_at waits local (Resuming r) e x = x.0
-  stops_at waits local (Marking g n) e x = absurd (acks_nothing i number (mark.asks n) (q.marks_a_stack n) e)
-  stops_at waits local (FindRoom r) e x = absurd (acks_nothing i number (room.asks r) (m.finds_room r) e)
-  stops_at waits local Ended e x = absurd (cc)
+  stops_at waits local p e x = grind arith
 
 pub polls_by_moves : Known → ProcessorIsQuiet → MarkingIsQuiet → PollsByMoves
 polls_by_moves k q m = record {

@@ -1,59 +1,35 @@
 -- While marking is on, each step of a whole processor that polls, waits or leaves is made of moves that its seat may make: by its tasks.
-use Rattle.std.proofs.Common.{◌≡◌, ℕ, true, false, List, Option, Some, None, refl, sym, ap, subst}
-use Rattle.std.specs.Prelude.{is_none}
-use Rattle.gh_base.specs.declared.operation.Op.TheVariants as op
+use Rattle.std.proofs.Common.{◌≡◌, ℕ, true, List, Option, None, refl, sym, subst, arith}
 use Rattle.gh_assist.specs.Facts.{AssistsByMoves}
 use Rattle.gh_barrier.specs.Facts.{WritesByMoves}
 use Rattle.gh_barrier.specs.Listing.{Writing as PointerWrite}
-use Rattle.gh_phase.specs.declared.resume.ResumeStage.{ResumeStage}
-use Rattle.gh_phase.specs.declared.resume.ResumeStage.TheVariants as resume_stage
-use Rattle.gh_phase.specs.Listing as resume
-use Rattle.gh_phase.specs.ResumePlaces as resumes
 use Rattle.gh_phase.specs.Shakes.{IsParked}
 use Rattle.gh_mutator.specs.declared.global.GlobalStage.TheVariants as global_stage
 use Rattle.gh_mutator.specs.declared.leave.LeaveStage.TheVariants as leave_stage
-use Rattle.gh_mutator.specs.declared.poll.PollStage.TheVariants as poll_stage
 use Rattle.gh_mutator.specs.declared.store.StoreStage.TheVariants as store_stage
 use Rattle.gh_mutator.specs.declared.task.Task.TheVariants as task
-use Rattle.gh_mutator.specs.declared.wait.WaitStage.TheVariants as wait_stage
 use Rattle.gh_mutator.specs.Give as give
 use Rattle.gh_mutator.specs.Leave as leave
-use Rattle.gh_mutator.specs.MarkFacts.{IsBetween, KnowsCycle, KnowsStacks, LeaveFacts, LeavesByMoves, PollFacts, PollsByMoves, PollStageFacts, RestFacts, WaitFacts, WaitsByMoves, WaitStageFacts, stacks_last}
+use Rattle.gh_mutator.specs.MarkFacts.{IsBetween, KnowsCycle, KnowsStacks, LeaveFacts, LeavesByMoves, PollFacts, PollsByMoves, RestFacts, WaitFacts, WaitsByMoves, stacks_last}
 use Rattle.gh_mutator.specs.New as new
 use Rattle.gh_mutator.specs.Poll as poll
 use Rattle.gh_mutator.specs.ProcessorMarks.{GlobalFacts, IsWriting, MarkFacts, MarksByMoves, new_polls, NewFacts, only_polls, reserved_at, StoreFacts, TaskFacts}
-use Rattle.gh_mutator.specs.ProcessorPlaces.{new_stage_at}
 use Rattle.gh_mutator.specs.Stays.{leaves_on}
 use Rattle.gh_mutator.specs.Vocabulary.{Assist, GlobalStage, Polling, Store, StoreStage}
 use Rattle.gh_mutator.specs.Wait as wait
-use Rattle.gh_mutator.proofs.Vocabulary.{after_gc, after_leave, after_poll, asks_at, begins, cell_of, Cycle, effect, Good, Hands, holding_only, Keeps, KnowsObjects, landing, leaves_at, LeaveStage, Leaving, Local, NewStage, nothing, Op, Others, Place, polls_at, PollStage, Processor, Search, Shape, Shared, stage_at, Steps, takes_at, Task, Wait, Waiting, waits_at, WaitStage, WaitState, Wanted, Want}
+use Rattle.gh_mutator.proofs.Vocabulary.{after_gc, after_leave, after_poll, asks_at, begins, cell_of, Cycle, effect, Good, Hands, holding_only, Keeps, KnowsObjects, landing, LeaveStage, Leaving, Local, NewStage, nothing, Op, Others, Place, Processor, Search, Shape, Shared, stage_at, Steps, takes_at, Task, Wait, Waiting, WaitState, Wanted, Want}
 use Rattle.gh_mutator.proofs.Marking.Known.{Known}
-
--- whose it is, and what it knows of its stacks
-record Knows (z : Cycle) (a : ℕ) (s : Shared) (p : Polling) : Type 0 where
-  layout_is : p.layout ≡ z.arena.layout
-  seat_is : p.seat ≡ a
-  stacks : KnowsStacks z a s p.local.stacks p.local.scanned
-
-wait_knows : (z : Cycle) (a : ℕ) (s : Shared) (p : Polling) (q : WaitStage) → WaitStageFacts z a s p q → Knows z a s p
-wait_knows z a s p wait_stage.Want x = record { layout_is = x.layout_is; seat_is = x.seat_is; stacks = x.between.stacks }
-wait_knows z a s p wait_stage.Polling x = record { layout_is = x.layout_is; seat_is = x.seat_is; stacks = x.stacks }
-wait_knows z a s p wait_stage.LoadSwept x = record { layout_is = x.layout_is; seat_is = x.seat_is; stacks = x.between.stacks }
-wait_knows z a s p wait_stage.Ended x = record { layout_is = x.layout_is; seat_is = x.seat_is; stacks = x.between.stacks }
 
 module _ (k : Known) (h : PollsByMoves) (v : WaitsByMoves) (l : LeavesByMoves) (b : WritesByMoves) (c : AssistsByMoves) (z : Cycle) (a : ℕ) where
   -- behind a step
   polled_then : (t : Shared) (m : Processor) (p : Polling) (out : Option (Unit {0})) → poll.given p.stage ≡ out → PollFacts z a t p → MarkFacts z a t (after_poll m p out)
-  polled_then t m p None e f = record { layout_is = f.layout_is; seat_is = f.seat_is; stacks = f.stacks; task_is = f }
-  polled_then t m p (Some x) e f = record { layout_is = f.layout_is; seat_is = f.seat_is; stacks = f.stacks; task_is = (h.ends z a t p (ap is_none e) f).0.between }
+  polled_then t m p out e f = grind arith
 
   gc_then : (t : Shared) (m : Processor) (g : ℕ) (w : Waiting) (out : Option (Unit {0})) → wait.given w.wait.stage ≡ out → WaitFacts z a t w → MarkFacts z a t (after_gc m g w out)
-  gc_then t m g w None e f = let here = wait_knows z a t w.poll w.wait.stage f in record { layout_is = here.layout_is; seat_is = here.seat_is; stacks = here.stacks; task_is = f }
-  gc_then t m g w (Some u) e f = let r = v.ends z a t w (ap is_none e) f in record { layout_is = r.layout_is; seat_is = r.seat_is; stacks = r.between.stacks; task_is = r.between }
+  gc_then t m g w out e f = grind arith
 
   new_then : (t : Shared) (m : Processor) (n : Wanted) (w : Waiting) (out : Option (Unit {0})) → wait.given w.wait.stage ≡ out → WaitFacts z a t w → MarkFacts z a t (new.after_wait m n w out)
-  new_then t m n w None e f = let here = wait_knows z a t w.poll w.wait.stage f in record { layout_is = here.layout_is; seat_is = here.seat_is; stacks = here.stacks; task_is = f }
-  new_then t m n w (Some u) e f = let r = v.ends z a t w (ap is_none e) f in record { layout_is = r.layout_is; seat_is = r.seat_is; stacks = r.between.stacks; task_is = r.between }
+  new_then t m n w out e f = grind arith
 
   module _ (s : Shared) (good : Good z s) (objects : KnowsObjects z s) (now : KnowsCycle z s) (shapes : List Shape) (m : Processor) (layout_is : m.poll.layout ≡ z.arena.layout) (seat_is : m.poll.seat ≡ a) (stacks : KnowsStacks z a s m.poll.local.stacks m.poll.local.scanned) where
     abbrev Leads : Task → Type 0
@@ -83,11 +59,7 @@ module _ (k : Known) (h : PollsByMoves) (v : WaitsByMoves) (l : LeavesByMoves) (
         (v.own_step z a s w good objects now f)
 
     new_steps : (n : Wanted) (q : NewStage) → new_polls q ≡ true → NewFacts z a s m.poll q → Leads (task.New (record { wanted = n; stage = q }))
-    new_steps n (Search waited y) only x = absurd (cc)
-    new_steps n (Wait y) only x = new_waits n y x
-    new_steps n (Place y) only x = absurd (cc)
-    new_steps n (Want u) only x = absurd (cc)
-    new_steps n (Assist u y) only x = absurd (cc)
+    new_steps n q only x = grind (arith, new_waits)
 
     left_then : (t : Shared) (x : Leaving) (q : LeaveStage) (found : ℕ) → m.poll.local.held ≡ None → Keeps z a s t → LeaveFacts z a t (leave.goes_at x q found).stage → MarkFacts z a t (after_leave m (leave.goes_at x q found) (leave.given (leave.goes_at x q found).stage))
     left_then t x (leave_stage.Giving g) found none kept f = subst (λ (o : Option (Unit {0})). MarkFacts z a t (after_leave m (leave.goes_at x (leave_stage.Giving g) found) o)) (sym (leaves_on (give.goes g found)))
@@ -150,90 +122,20 @@ module _ (k : Known) (h : PollsByMoves) (v : WaitsByMoves) (l : LeavesByMoves) (
   task_lasts s t p (task.Leave y) o x = (x.0, l.lasts z a s t y o x.1)
   task_lasts s t p _ o x = between_lasts s t p.local o x
 
-  -- where it stands still
-  parked_busy : (r : resume.Resuming) (stops : ℕ) (q : ResumeStage) → IsParked stops (resumes.stands_at r.stops q) → is_none (resume.given_at r.view q) ≡ true
-  parked_busy r stops resume_stage.LoadPhase still = refl
-  parked_busy r stops _ still = absurd still
-
   abbrev HasNothing : Shared → Polling → Type 0
   HasNothing s p = (p.local.held ≡ None) × Hands a s nothing
 
-  poll_stands : (s : Shared) (p : Polling) (q : PollStage) (stops : ℕ) → IsParked stops (polls_at p q) → PollStageFacts z a s p.waits p.local q → HasNothing s p
-  poll_stands s p (poll_stage.Resuming r) stops still x = (x.1, x.0)
-  poll_stands s p _ stops still x = absurd still
-
-  wait_stands : (s : Shared) (w : Waiting) (q : WaitStage) (stops : ℕ) → IsParked stops (waits_at w q) → WaitStageFacts z a s w.poll q → HasNothing s w.poll
-  wait_stands s w wait_stage.Want stops still x = absurd still
-  wait_stands s w wait_stage.Polling stops still x = poll_stands s w.poll w.poll.stage stops still x.stage_is
-  wait_stands s w wait_stage.LoadSwept stops still x = absurd still
-  wait_stands s w wait_stage.Ended stops still x = absurd still
-
-  new_stands : (s : Shared) (p : Polling) (q : NewStage) (stops : ℕ) → IsParked stops (new_stage_at p q) → NewFacts z a s p q → HasNothing s p
-  new_stands s p (Search waited y) stops still x = absurd still
-  new_stands s p (Wait y) stops still x = wait_stands s (wait.waiting y p) y.stage stops still x
-  new_stands s p (Place y) stops still x = absurd still
-  new_stands s p (Want n) stops still x = absurd still
-  new_stands s p (Assist n y) stops still x = absurd still
-
-  leave_stands : (s : Shared) (q : LeaveStage) (stops : ℕ) → IsParked stops (leaves_at q) → LeaveFacts z a s q → Hands a s nothing
-  leave_stands s (leave_stage.Giving g) stops still x = absurd still
-  leave_stands s leave_stage.Leave stops still x = absurd still
-  leave_stands s leave_stage.Left stops still x = x
-
   stands : (s : Shared) (p : Polling) (t : Task) (stops : ℕ) → IsParked stops (stage_at p t) → TaskFacts z a s p t → HasNothing s p
-  stands s p task.Left stops still x = x
-  stands s p (task.New y) stops still x = new_stands s p y.stage stops still x
-  stands s p (task.Gc g y) stops still x = wait_stands s (wait.waiting y p) y.stage stops still x
-  stands s p task.Poll stops still x = poll_stands s p p.stage stops still x.stage_is
-  stands s p (task.Leave y) stops still x = (x.0, leave_stands s y.stage stops still x.1)
-  stands s p _ stops still x = absurd still
+  stands s p t stops still x = grind arith
 
   -- where a cycle begins
   module _ (s : Shared) (p : Polling) (stops : ℕ) (layout_is : p.layout ≡ z.arena.layout) (seat_is : p.seat ≡ a) (none : p.local.held ≡ None) (stacks : KnowsStacks z a s p.local.stacks p.local.scanned) (x : Hands a s nothing) where
-    poll_opens : (q : PollStage) → IsParked stops (polls_at p q) → PollStageFacts z a s p.waits p.local q
-    poll_opens (poll_stage.Resuming r) still = (x, none, parked_busy r stops r.stage still)
-    poll_opens _ still = absurd still
-
-    polling_opens : IsParked stops (polls_at p p.stage) → PollFacts z a s p
-    polling_opens still = record { layout_is = layout_is; seat_is = seat_is; stacks = stacks; stage_is = poll_opens p.stage still }
-
-    wait_opens : (y : WaitState) (q : WaitStage) → IsParked stops (waits_at (wait.waiting y p) q) → WaitStageFacts z a s p q
-    wait_opens y wait_stage.Want still = absurd still
-    wait_opens y wait_stage.Polling still = polling_opens still
-    wait_opens y wait_stage.LoadSwept still = absurd still
-    wait_opens y wait_stage.Ended still = absurd still
-
-    new_opens : (q : NewStage) → IsParked stops (new_stage_at p q) → NewFacts z a s p q
-    new_opens (Search waited y) still = absurd still
-    new_opens (Wait y) still = wait_opens y y.stage still
-    new_opens (Place y) still = absurd still
-    new_opens (Want n) still = absurd still
-    new_opens (Assist n y) still = absurd still
-
-    leave_opens : (q : LeaveStage) → IsParked stops (leaves_at q) → LeaveFacts z a s q
-    leave_opens (leave_stage.Giving g) still = absurd still
-    leave_opens leave_stage.Leave still = absurd still
-    leave_opens leave_stage.Left still = x
-
     task_opens : (t : Task) → IsParked stops (stage_at p t) → TaskFacts z a s p t
-    task_opens task.Left still = (none, x)
-    task_opens (task.New y) still = new_opens y.stage still
-    task_opens (task.Gc g y) still = wait_opens y y.stage still
-    task_opens task.Poll still = polling_opens still
-    task_opens (task.Leave y) still = (none, leave_opens y.stage still)
-    task_opens _ still = absurd still
+    task_opens t still = grind arith
 
   -- what an idle processor begins
   begins_facts : (shapes : List Shape) (s : Shared) (m : Processor) (o : Op) → only_polls (begins shapes m o).task ≡ true → RestFacts z a s m.poll → MarkFacts z a s (begins shapes m o)
-  begins_facts shapes s m (op.Gc g) only r = record { layout_is = r.layout_is; seat_is = r.seat_is; stacks = r.between.stacks; task_is = v.begins z a s m.poll r }
-  begins_facts shapes s m op.Poll only r = record { layout_is = r.layout_is; seat_is = r.seat_is; stacks = r.between.stacks; task_is = h.begins z a s m.poll false r }
-  begins_facts shapes s m op.Leave only r = record {
-    layout_is = r.layout_is;
-    seat_is = r.seat_is;
-    stacks = r.between.stacks;
-    task_is = (refl, l.begins z a m.poll.seat m.poll.local.view.generation s m.poll.layout m.poll.local.cache m.poll.local.held r.layout_is r.between.hands);
-  }
-  begins_facts shapes s m _ only r = absurd (cc)
+  begins_facts shapes s m o only r = grind arith
 
 pub marks_by_moves : Known → PollsByMoves → WaitsByMoves → LeavesByMoves → WritesByMoves → AssistsByMoves → MarksByMoves
 marks_by_moves k h v l b c = record {

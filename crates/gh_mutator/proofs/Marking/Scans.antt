@@ -22,15 +22,11 @@ use Rattle.gh_mutator.proofs.Marking.Known.{Known}
 use Rattle.gh_mutator.proofs.StackMarking.{begins_going, told_going, waits_then}
 
 stores_at : (stage : StackStage) → goes_on stage ≡ true → stack.wish_of stage ≡ None → stage ≡ stack_stage.Store
-stores_at (stack_stage.Shade i r) e f = absurd (cc)
-stores_at stack_stage.Store e f = refl
-stores_at stack_stage.Ended e f = absurd (cc)
+stores_at stage e f = grind arith
 
 -- a register names what the scan wishes, and did so before
 named_by : (s : Shared) (g : ℕ) (stage : StackStage) (reference : ℕ) → stack.wish_of stage ≡ Some reference → stack_facts.StageFacts s g stage → (register : ℕ) × (s.registers g register ≡ reference)
-named_by s g (stack_stage.Shade i r) reference e f = let is : r ≡ reference = cc in (i, f.names ∙ is)
-named_by s g stack_stage.Store reference e f = absurd (cc)
-named_by s g stack_stage.Ended reference e f = absurd (cc)
+named_by s g stage reference e f = grind arith
 
 -- What a step comes to, by what it gives: the facts of the next stage, or a black stack.
 pub record Scanned (z : Cycle) (a : ℕ) (s t : Shared) (g : ℕ) (held : Option Held) : Type 0 where
@@ -123,21 +119,7 @@ module _ (k : Known) (z : Cycle) (a : ℕ) (s : Shared) (good : Good z s) (objec
 
     -- the search for room
     found_then : (t : Shared) (sh : shade.Shading) (r : room.RoomFinding) (n : ℕ) → Keeps z a s t → ShadesWish z a s m.scan sh.reference → LooksForRoom s sh.reference → (out : Option Held) → room.gives r n ≡ out → buffer_facts.RoomFacts z a s (pending sh.reference) r → buffer_facts.RoomFacts z a t (pending sh.reference) (room.goes r n) → ScanFacts z a t g (after_room m sh (room.goes r n) out)
-    found_then t sh r n kept w looks None e was f = record {
-      layout_is = layout_is;
-      seat_is = seat_is;
-      of = of;
-      stage_is = (record { scans = k.stacks.lasts z a s t m.scan kept w.scans; wish = w.wish }, record { some = looks.some; marked = kept.marks (shade.object_of sh.reference) looks.marked }, f);
-    }
-    found_then t sh r n kept w looks (Some h) e was f = record {
-      layout_is = layout_is;
-      seat_is = seat_is;
-      of = of;
-      stage_is = (
-        record { scans = k.stacks.lasts z a s t m.scan kept w.scans; wish = w.wish },
-        k.shade.told z a t nothing sh h looks.some (kept.marks (shade.object_of sh.reference) looks.marked) (omega (arith, k.buffers.room a n r h was.knows e)) (subst (λ (held : Option Held). Hands a t (buffer_facts.holding (pending sh.reference) held)) (k.buffers.held n r h e) f.hands),
-      );
-    }
+    found_then t sh r n kept w looks out e was f = grind arith
 
     finds : (sh : shade.Shading) (r : room.RoomFinding) → ShadesWish z a s m.scan sh.reference → LooksForRoom s sh.reference → buffer_facts.RoomFacts z a s (pending sh.reference) r → Leads (FindRoom sh r)
     finds sh r w looks f =
@@ -152,10 +134,7 @@ module _ (k : Known) (z : Cycle) (a : ℕ) (s : Shared) (good : Good z s) (objec
         (k.stacks.own_step z a s m.scan good f is)
 
     scans_at : (p : MarkStackStage) → ScanStageFacts z a s m.held m.scan p → Leads p
-    scans_at (Shading sh) x = shades sh x.0 x.1
-    scans_at (FindRoom sh r) x = finds sh r x.0 x.1 x.2
-    scans_at Store x = stores x.0 x.1 x.2
-    scans_at Ended x = absurd x
+    scans_at p x = grind (arith, finds, shades, stores)
 
   pub scans_on : (g : ℕ) (m : StackMarking) → ScanFacts z a s g m → Steps z a s (asks m) (λ t. Comes z a s t g (goes m (s.words (cell_of (asks m)))) (gives m (s.words (cell_of (asks m)))))
   scans_on g m f = scans_at g m f.layout_is f.seat_is f.of m.stage f.stage_is
@@ -170,4 +149,4 @@ stage_lasts k z a s t held m Store o x = (k.stacks.lasts z a s t m o.keeps x.0, 
 stage_lasts k z a s t held m Ended o x = x
 
 pub scans_last : (k : Known) (z : Cycle) (a : ℕ) (s t : Shared) (g : ℕ) (m : StackMarking) → Others z a s t → ScanFacts z a s g m → ScanFacts z a t g m
-scans_last k z a s t g m o f = record { layout_is = f.layout_is; seat_is = f.seat_is; of = f.of; stage_is = stage_lasts k z a s t m.held m.scan m.stage o f.stage_is }
+scans_last k z a s t g m o f = grind (arith, stage_lasts)

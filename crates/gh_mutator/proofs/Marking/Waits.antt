@@ -1,6 +1,5 @@
 -- While marking is on, each step of a wait, and of a leave, is made of moves that its seat may make.
-use Rattle.std.proofs.Common.{◌≡◌, ℕ, Bool, true, false, cond, ltb, Option, Some, None, refl, ap}
-use Rattle.std.specs.Prelude.{is_none}
+use Rattle.std.proofs.Common.{◌≡◌, ℕ, Bool, true, false, cond, ltb, Option, refl, arith}
 use Rattle.gh_base.specs.declared.cell.Ask.TheVariants.{Or, Store}
 use Rattle.gh_base.specs.declared.cell.Cell.TheVariants as cell
 use Rattle.gh_base.specs.declared.pack.TheConstants.{GONE}
@@ -12,9 +11,8 @@ use Rattle.gh_mutator.specs.MarkFacts.{GiveFacts, KnowsCycle, LeaveFacts, Leaves
 use Rattle.gh_mutator.specs.MarkVocabulary.{Cycle, Good, Hands, Keeps, KnowsObjects, LeaveStage, Others, ProcessorIsQuiet, Shared, Steps, WaitStage, cell_of, effect, landing, nothing}
 use Rattle.gh_mutator.specs.Poll as poll
 use Rattle.gh_mutator.specs.Wait.{after_poll, asks_at, at_stage, goes_at, is_busy, polling, Waiting}
-use Rattle.gh_mutator.proofs.Marking.Gives.{gives_begin, gives_last, gives_on, nothing_left}
+use Rattle.gh_mutator.proofs.Marking.Gives.{gives_begin, gives_last, gives_on}
 use Rattle.gh_mutator.proofs.Marking.Known.{by_load, by_quiet, Known}
-use Rattle.gh_mutator.proofs.Marking.Polls.{acks_nothing}
 
 pub rest_lasts : (k : Known) (z : Cycle) (a : ℕ) (s t : Shared) (p : poll.Polling) → Others z a s t → RestFacts z a s p → RestFacts z a t p
 rest_lasts k z a s t p o r = record {
@@ -33,8 +31,7 @@ module _ (k : Known) (h : PollsByMoves) (z : Cycle) (a : ℕ) where
         (λ t kept x. h.begins z a t w.poll true (record { layout_is = r.layout_is; seat_is = r.seat_is; between = record { stacks = stacks_last z a s t w.poll.local.stacks w.poll.local.scanned kept r.between.stacks; number = r.between.number; hands = x } }))
 
     polled_then : (t : Shared) (p : poll.Polling) (out : Option (Unit {0})) → poll.given p.stage ≡ out → PollFacts z a t p → WaitFacts z a t (after_poll w p out)
-    polled_then t p None e f = f
-    polled_then t p (Some x) e f = (h.ends z a t p (ap is_none e) f).0
+    polled_then t p out e f = grind arith
 
     polls : PollFacts z a s w.poll → Leads Polling
     polls f =
@@ -56,22 +53,13 @@ module _ (k : Known) (h : PollsByMoves) (z : Cycle) (a : ℕ) where
     waits_at Ended x = by_load k z a s good cell.Touch (λ t. WaitFacts z a t (polling w)) (h.begins z a s w.poll true x)
 
   stage_lasts : (s t : Shared) (p : poll.Polling) (q : WaitStage) → Others z a s t → WaitStageFacts z a s p q → WaitStageFacts z a t p q
-  stage_lasts s t p Want o x = rest_lasts k z a s t p o x
-  stage_lasts s t p Polling o x = h.lasts z a s t p o x
-  stage_lasts s t p LoadSwept o x = rest_lasts k z a s t p o x
-  stage_lasts s t p Ended o x = rest_lasts k z a s t p o x
+  stage_lasts s t p q o x = grind (arith, rest_lasts)
 
   ended_at : (s : Shared) (p : poll.Polling) (q : WaitStage) → is_busy q ≡ false → WaitStageFacts z a s p q → RestFacts z a s p
-  ended_at s p Ended e x = x
-  ended_at s p Want e x = absurd (cc)
-  ended_at s p Polling e x = absurd (cc)
-  ended_at s p LoadSwept e x = absurd (cc)
+  ended_at s p q e x = grind arith
 
   stops_at : (i number : ℕ) (s : Shared) (w : Waiting) (q : WaitStage) → asks_at w q ≡ Store (cell.Ack i) number → WaitStageFacts z a s w.poll q → Hands a s nothing
-  stops_at i number s w Want e x = absurd (cc)
-  stops_at i number s w Polling e x = h.stops z a i number s w.poll e x
-  stops_at i number s w LoadSwept e x = absurd (cc)
-  stops_at i number s w Ended e x = absurd (cc)
+  stops_at i number s w q e x = grind arith
 
 pub waits_by_moves : Known → PollsByMoves → WaitsByMoves
 waits_by_moves k h = record {
@@ -85,10 +73,7 @@ waits_by_moves k h = record {
 -- leaving
 module _ (k : Known) (z : Cycle) (a : ℕ) where
   given_facts : (t : Shared) (g : give.Giving) → GiveFacts z a t g → LeaveFacts z a t (leave.stage_of g)
-  given_facts t g f = by (give.is_busy g.stage) refl where
-    by : (busy : Bool) → give.is_busy g.stage ≡ busy → LeaveFacts z a t (cond busy (leave_stage.Giving g) leave_stage.Leave)
-    by true e = f
-    by false e = (nothing_left k z a t g e f).0
+  given_facts t g f = grind arith
 
   leaves_at : (s : Shared) → Good z s → KnowsObjects z s → (w : leave.Leaving) (q : LeaveStage) → LeaveFacts z a s q → Steps z a s (leave.asks_at w q) (λ t. Keeps z a s t × LeaveFacts z a t (leave.goes_at w q (s.words (cell_of (leave.asks_at w q)))).stage)
   leaves_at s good objects w (leave_stage.Giving g) x =
@@ -103,9 +88,7 @@ module _ (k : Known) (z : Cycle) (a : ℕ) where
   leave_lasts s t leave_stage.Left o x = k.last z a s t nothing o x
 
 leave_stops : (q : ProcessorIsQuiet) (z : Cycle) (a i number : ℕ) (s : Shared) (w : leave.Leaving) (stage : LeaveStage) → leave.asks_at w stage ≡ Store (cell.Ack i) number → LeaveFacts z a s stage → Hands a s nothing
-leave_stops q z a i number s w (leave_stage.Giving g) e x = absurd (acks_nothing i number (give.asks g) (q.gives_back g) e)
-leave_stops q z a i number s w leave_stage.Leave e x = x
-leave_stops q z a i number s w leave_stage.Left e x = x
+leave_stops q z a i number s w stage e x = grind arith
 
 pub leaves_by_moves : Known → ProcessorIsQuiet → LeavesByMoves
 leaves_by_moves k q = record {

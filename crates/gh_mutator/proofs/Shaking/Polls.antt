@@ -1,5 +1,5 @@
 -- Each step of a poll is one of the handshake of a stop: by its stages.
-use Rattle.std.proofs.Common.{◌≡◌, ℕ, ◌+◌, ◌%◌, ◌^◌, ◌⊎◌, Bool, true, false, cond, refl, ap, ◌∙◌, inl, inr, Option, Some, None}
+use Rattle.std.proofs.Common.{◌≡◌, ℕ, ◌⊎◌, true, false, refl, ap, ◌∙◌, Option, Some, None, arith}
 use Rattle.std.specs.Prelude.{is_none}
 use Rattle.gh_base.specs.declared.cell.Cell.TheVariants as cell
 use Rattle.gh_phase.specs.declared.resume.ResumeStage.TheVariants.{Acknowledge}
@@ -15,9 +15,9 @@ use Rattle.gh_mutator.specs.Give.{none_cached}
 use Rattle.gh_mutator.specs.Give as give
 use Rattle.gh_mutator.specs.Handshake.{GivesSo, GoesOnWithNothing, HasPlaces, IsPlace, poll_stage_of, poller_at, poller_of, PollsInHandshake, SoundPoll}
 use Rattle.gh_mutator.specs.MarkStack as mark
-use Rattle.gh_mutator.specs.Poll.{after_mark, after_resume, after_room, asks_at, at_stage, by_phase, counted, due, giving, goes, goes_at, has_two, is_busy, marks_then, Polling, resumed, room_stage, scanned, scans, stops_then}
+use Rattle.gh_mutator.specs.Poll.{after_mark, after_resume, after_room, asks_at, by_phase, giving, goes, goes_at, is_busy, marks_then, Polling, resumed, stops_then}
 use Rattle.gh_mutator.proofs.Vocabulary.{Ask, Awake, Held, IsQuietInHandshake, Load, MarkingIsQuiet, phase_of, polls_at, PollsSoundAt, PollStage, ProcessorIsQuiet, Resumed, run_phase, RunPhase, StageGoes}
-use Rattle.gh_mutator.proofs.Giving.{fine_done, goes_fine}
+use Rattle.gh_mutator.proofs.Giving.{goes_fine}
 use Rattle.gh_mutator.specs.Giving.{opening_fine}
 
 -- it is awake, of the same seat, and knows the same
@@ -43,42 +43,14 @@ record Awakes (found : ℕ) (ask : Ask) (p to : Polling) : Type 0 where
 stays_awake : (found : ℕ) (ask : Ask) (p to : Polling) → StaysAwake p to → Awakes found ask p to
 stays_awake found ask p to a = record { sound = a.sound; seat = a.seat; party = a.party; leads = rw a.stage tt }
 
--- where the world runs
-two_or : (p : Polling) → HasPlaces p.local.cache → p.local.view.phase ≡ run.Mark → (two : Bool) → StaysAwake p (at_stage p (cond two Ended (FindRoom (room.opening p.layout p.seat p.local.held))))
-two_or p has on true = record { sound = (has, tt); seat = refl; party = refl; stage = refl }
-two_or p has on false = record { sound = (has, on); seat = refl; party = refl; stage = refl }
-
-room_awake : (p : Polling) → HasPlaces p.local.cache → p.local.view.phase ≡ run.Mark → (waits : Bool) → StaysAwake p (at_stage p (room_stage p.layout p.seat waits p.local.held))
-room_awake p has on true = record { sound = (has, tt); seat = refl; party = refl; stage = refl }
-room_awake p has on false = two_or p has on (has_two p.local.held)
-
--- counting a poll changes nothing of this
-abbrev more_polls : Polling → Polling
-more_polls p = record p { local = record (p.local) { polls = (p.local.polls + 1) % 2 ^ 64 } }
-
-counted_awake : (p : Polling) → HasPlaces p.local.cache → p.local.view.phase ≡ run.Mark → StaysAwake p (counted p)
-counted_awake p has on = let a = room_awake (more_polls p) has on p.waits in record { sound = a.sound; seat = a.seat; party = a.party; stage = a.stage }
-
-scans_awake : (p : Polling) → HasPlaces p.local.cache → p.local.view.phase ≡ run.Mark → (g : Option ℕ) → StaysAwake p (scans p g)
-scans_awake p has on None = counted_awake p has on
-scans_awake p has on (Some g) = record { sound = (has, on); seat = refl; party = refl; stage = refl }
-
 marks_awake : (p : Polling) → HasPlaces p.local.cache → (phase : RunPhase) → p.local.view.phase ≡ phase → StaysAwake p (marks_then p phase)
-marks_awake p has run.Off e = record { sound = (has, tt); seat = refl; party = refl; stage = refl }
-marks_awake p has run.Mark e = scans_awake p has e (due p)
-marks_awake p has run.Finished e = record { sound = (has, tt); seat = refl; party = refl; stage = refl }
+marks_awake p has phase e = record { sound = grind arith; seat = grind arith; party = grind arith; stage = grind arith }
 
 marked_awake : (p : Polling) → HasPlaces p.local.cache → p.local.view.phase ≡ run.Mark → (g : ℕ) (m : mark.StackMarking) (out : Option (Unit {0})) → StaysAwake p (after_mark p g m out)
-marked_awake p has on g m None = record { sound = (has, on); seat = refl; party = refl; stage = refl }
-marked_awake p has on g m (Some x) = let a = counted_awake (scanned p g m.held) has on in record { sound = a.sound; seat = a.seat; party = a.party; stage = a.stage }
+marked_awake p has on g m out = grind arith
 
 room_found : (p : Polling) → HasPlaces p.local.cache → p.local.view.phase ≡ run.Mark → (r : room.RoomFinding) (out : Option Held) → StaysAwake p (after_room p r out)
-room_found p has on r None = record { sound = (has, on); seat = refl; party = refl; stage = refl }
-room_found p has on r (Some h) = record { sound = (has, tt); seat = refl; party = refl; stage = refl }
-
--- where it has found a stop
-none_has : HasPlaces none_cached
-none_has = refl
+room_found p has on r out = grind arith
 
 -- it goes on giving back, or acknowledges with nothing left
 record Stops (p : Polling) (stops : ℕ) (to : Polling) : Type 0 where
@@ -88,16 +60,10 @@ record Stops (p : Polling) (stops : ℕ) (to : Polling) : Type 0 where
   stage : (poll_stage_of to ≡ Gives stops) ⊎ (poll_stage_of to ≡ Resumes stops Acknowledge)
 
 stops_so : (p : Polling) → HasPlaces p.local.cache → (g : give.Giving) (stops : ℕ) → GivesSo g g.stage → Stops p stops (stops_then p g stops)
-stops_so p has g stops fine = go (give.is_busy g.stage) refl where
-  go : (busy : Bool) → give.is_busy g.stage ≡ busy → Stops p stops (cond busy (at_stage p (Giving g stops)) (record p { local = record (p.local) { cache = g.cache; held = g.held }; stage = Resuming (resume.opening p.layout p.seat stops p.local.view) }))
-  go true e = record { sound = (has, fine); seat = refl; party = refl; stage = inl refl }
-  go false e =
-      let left = fine_done g fine e in
-      record { sound = (rw left.0 none_has, record { seat_is = refl; busy = refl; no_span = left.0; no_buffer = left.1 }); seat = refl; party = refl; stage = inr refl }
+stops_so p has g stops fine = grind arith
 
 at_stop : (found stops : ℕ) (stage : Stage) → IsStop found stops → (stage ≡ Gives stops) ⊎ (stage ≡ Resumes stops Acknowledge) → FromAwake found (Load cell.Phase) stage
-at_stop found stops stage is (inl e) = rw e (refl, is)
-at_stop found stops stage is (inr e) = rw e (refl, is)
+at_stop found stops stage is h = grind arith
 
 phases : (found : ℕ) (p : Polling) → HasPlaces p.local.cache → (phase : Option RunPhase) → run_phase (phase_of found).phase ≡ phase → Awakes found (Load cell.Phase) p (by_phase p (phase_of found).stops phase)
 phases found p has None e =
@@ -117,10 +83,7 @@ module _ (h : ResumesInHandshake) (found : ℕ) (p : Polling) (has : HasPlaces p
   seat_is = h.seat_stays r found ∙ s.seat_is
 
   ends_so : (out : Resumed) → resume.gives r found ≡ Some out → Goes found p (Resuming r) (marks_then (resumed p out) out.view.phase)
-  ends_so out e =
-      let last = h.ends r found out e in
-      let a = marks_awake (resumed p out) has out.view.phase refl in
-      record { sound = a.sound; seat = a.seat; goes = rw (a.party, a.stage, ← seat_is, ← last.0, ← last.1) goes_so }
+  ends_so out e = record { sound = grind arith; seat = grind arith; goes = grind arith }
 
   resumes_so : (out : Option Resumed) → resume.gives r found ≡ out → Goes found p (Resuming r) (after_resume p (resume.goes r found) out)
   resumes_so None e = record { sound = (has, record { seat_is = seat_is; busy = ap is_none e; no_span = s.no_span; no_buffer = s.no_buffer }); seat = refl; goes = goes_so }
@@ -144,12 +107,7 @@ module _ (q : ProcessorIsQuiet) (m : MarkingIsQuiet) (h : ResumesInHandshake) wh
   goes_on p found s busy = goes_at_stage found p p.stage s.0 s.1 busy
 
   ends_at : (p : Polling) (stage : PollStage) → is_busy stage ≡ false → IsPlace (poller_at p stage) (polls_at p stage) p.seat p.local
-  ends_at p Ended e = (refl, refl)
-  ends_at p LoadPhase e = absurd cc
-  ends_at p (Giving g stops) e = absurd cc
-  ends_at p (Resuming r) e = absurd cc
-  ends_at p (Marking g x) e = absurd cc
-  ends_at p (FindRoom r) e = absurd cc
+  ends_at p stage e = grind arith
 
   pub polls_in_handshake : PollsInHandshake
   polls_in_handshake = record {

@@ -1,19 +1,14 @@
 -- Each step of the whole processor is one of the handshake of a stop: by its tasks.
-use Rattle.std.proofs.Common.{◌≡◌, ℕ, Bool, true, false, cond, List, refl, sym, ap, subst, ◌∙◌, inl, Option, Some, None}
+use Rattle.std.proofs.Common.{◌≡◌, ℕ, Bool, true, false, cond, List, refl, ap, ◌∙◌, Option, Some, None, arith}
 use Rattle.std.specs.Prelude.{is_none}
-use Rattle.gh_base.specs.declared.operation.Op.TheVariants as op
 use Rattle.gh_alloc.specs.Search as search
 use Rattle.gh_alloc.specs.Place as place
 use Rattle.gh_assist.specs.Listing as assist
-use Rattle.gh_mutator.specs.New.{made_task}
-use Rattle.gh_mutator.specs.declared.leave.LeaveStage.TheVariants as leave_stage
 use Rattle.gh_mutator.specs.declared.task.Task.TheVariants as task
-use Rattle.gh_mutator.specs.Give as give
 use Rattle.gh_mutator.specs.Global as global
-use Rattle.gh_mutator.specs.Handshake.{HasPlaces, knower, leaver, LeavesInHandshake, PollsInHandshake, PollsOn, SoundWait, wait_stage_of, waiter_of, WaitsInHandshake}
+use Rattle.gh_mutator.specs.Handshake.{HasPlaces, knower, LeavesInHandshake, PollsInHandshake, PollsOn, SoundWait, wait_stage_of, waiter_of, WaitsInHandshake}
 use Rattle.gh_mutator.specs.Leave as leave
 use Rattle.gh_mutator.specs.Load as load
-use Rattle.gh_mutator.specs.Local.{marking_at}
 use Rattle.gh_mutator.specs.Poll as poll
 use Rattle.gh_mutator.specs.Processor.{keeping}
 use Rattle.gh_mutator.specs.ProcessorPlaces.{LeavesOn, party_of, SoundPlace, stage_of}
@@ -21,8 +16,7 @@ use Rattle.gh_mutator.specs.Register as register
 use Rattle.gh_mutator.specs.Store as store
 use Rattle.gh_mutator.specs.Vocabulary.{Polling}
 use Rattle.gh_mutator.specs.Wait as wait
-use Rattle.gh_mutator.specs.Stays.{leaves_on}
-use Rattle.gh_mutator.proofs.Vocabulary.{after_assist, Assist, Assisting, assisting, assists, Name, Acts, after_gc, after_leave, after_place, after_poll, after_search, after_wait, applied, asks_at, At, Awake, begins, cache_span, cache_with, CachedSpan, Ends, follows, Found, GoesOn, has_left_at, is_busy_at, IsQuietInHandshake, Large, leaves_at, LeaveStage, Leaving, length-set, made_object, makes, MarkingIsQuiet, NewStage, NoRoom, Op, party_at, Place, PlaceBegins, Placing, Processor, ProcessorInHandshake, ProcessorIsQuiet, register_of, Search, Seeking, Shape, Small, Sought, SoundAt, span_index, stage_at, StageGoes, Step, takes, takes_at, Task, Then, Value, Wait, Waiting, WaitState, Wanted, Want}
+use Rattle.gh_mutator.proofs.Vocabulary.{after_assist, Assist, Assisting, Name, Acts, after_gc, after_leave, after_place, after_poll, after_search, after_wait, applied, asks_at, Awake, begins, cache_span, cache_with, CachedSpan, Ends, follows, Found, GoesOn, has_left_at, is_busy_at, IsQuietInHandshake, Large, Leaving, length-set, makes, MarkingIsQuiet, NewStage, Op, party_at, Place, PlaceBegins, Placing, Processor, ProcessorInHandshake, ProcessorIsQuiet, register_of, Search, Seeking, Shape, Small, Sought, SoundAt, span_index, stage_at, StageGoes, Step, takes, takes_at, Task, Then, Value, Wait, Waiting, WaitState, Wanted, Want}
 use Rattle.gh_mutator.proofs.Shaking.Acknowledging.{acks}
 
 -- a step at this task leads here
@@ -80,12 +74,8 @@ search_plain w waited s = record { sound = λ p. tt; party = λ p. refl; stage =
 make_plain : (w : Wanted) (p : Placing) → Plain (makes w p)
 make_plain w p = record { sound = λ q. tt; party = λ q. refl; stage = λ q. refl }
 
-assist_plain : (w : Wanted) (n : Name) (x : Assisting) → Plain (assists w n x)
-assist_plain w n x = record { sound = λ q. tt; party = λ q. refl; stage = λ q. refl }
-
 assist_lands : (m : Processor) (w : Wanted) (n : Name) (x : Assisting) (out : Option (Unit {0})) → HasPlaces m.poll.local.cache → Lands m (after_assist m w n x out)
-assist_lands m w n x None has = lands m _ has refl (assist_plain w n x)
-assist_lands m w n x (Some y) has = lands m _ has refl idle_plain
+assist_lands m w n x out has = grind arith
 
 -- a new object
 recached : (cache : List (Option CachedSpan)) (x : Sought) (c : Option CachedSpan) → HasPlaces cache → HasPlaces (cache_with cache x c)
@@ -93,46 +83,10 @@ recached cache (Small k) c has = length-set cache (span_index k) c ∙ has
 recached cache (Large pages noscan) c has = has
 
 search_lands : (shapes : List Shape) (m : Processor) (w : Wanted) (waited : Bool) (s : Seeking) (c : Option CachedSpan) (out : Option Found) → HasPlaces m.poll.local.cache → Lands m (after_search shapes (cache_span m w.sought c) w waited s out)
-search_lands shapes m w waited s c None has = lands m _ (recached m.poll.local.cache w.sought c has) refl (search_plain w waited s)
-search_lands shapes m w waited s c (Some (At a)) has = lands m _ (recached m.poll.local.cache w.sought c has) refl (make_plain w _)
-search_lands shapes m w true s c (Some NoRoom) has = lands m _ (recached m.poll.local.cache w.sought c has) refl idle_plain
-search_lands shapes m w false s c (Some NoRoom) has =
-    let there = recached m.poll.local.cache w.sought c has in
-    record { sound = (there, ((there, tt), refl)); party = refl; stage = refl }
+search_lands shapes m w waited s c out has = grind (arith, idle_plain, lands, make_plain, recached, search_plain)
 
 place_lands : (m : Processor) (w : Wanted) (made : Bool) (a : ℕ) (p : Placing) → HasPlaces m.poll.local.cache → Lands m (after_place m w made a p)
-place_lands m w made a p has = by made (place.given p) where
-  assists_then : (marking : Bool) → Plain (cond marking (assists w p.name (assisting m.poll w)) task.Idle)
-  assists_then true = assist_plain w p.name (assisting m.poll w)
-  assists_then false = idle_plain
-
-  then : (asks : Option Bool) → Plain (made_task m.poll w p asks)
-  then None = make_plain w p
-  then (Some true) = record { sound = λ q. tt; party = λ q. refl; stage = λ q. refl }
-  then (Some false) = assists_then (marking_at m.poll)
-
-  by : (made : Bool) (asks : Option Bool) → Lands m (record (cond made (made_object m w a) m) { task = made_task m.poll w p asks })
-  by true asks = lands m _ has refl (then asks)
-  by false asks = lands m _ has refl (then asks)
-
-leave_seat : (x : Leaving) (stage : LeaveStage) (found : ℕ) → (leave.goes_at x stage found).seat ≡ x.seat
-leave_seat x (leave_stage.Giving g) found = refl
-leave_seat x leave_stage.Leave found = refl
-leave_seat x leave_stage.Left found = refl
-
--- at rest it has left, or is idle
-idle_at : (t : Task) → is_busy_at t ≡ false → has_left_at t ≡ false → t ≡ task.Idle
-idle_at task.Idle rests stays = refl
-idle_at task.Left rests stays = absurd cc
-idle_at (task.Load x) rests stays = absurd cc
-idle_at (task.Store x) rests stays = absurd cc
-idle_at (task.Global x) rests stays = absurd cc
-idle_at (task.Register x) rests stays = absurd cc
-idle_at (task.New x) rests stays = absurd cc
-idle_at (task.Gc g x) rests stays = absurd cc
-idle_at task.Poll rests stays = absurd cc
-idle_at (task.End g) rests stays = absurd cc
-idle_at (task.Leave x) rests stays = absurd cc
+place_lands m w made a p has = record { sound = grind arith; party = grind arith; stage = grind arith }
 
 module _ (q : ProcessorIsQuiet) (k : MarkingIsQuiet) (h : PollsInHandshake) (v : WaitsInHandshake) (l : LeavesInHandshake) where
   -- what a step of a wait leaves, where it has ended
@@ -156,25 +110,10 @@ module _ (q : ProcessorIsQuiet) (k : MarkingIsQuiet) (h : PollsInHandshake) (v :
   wait_goes found m w x s busy (Some u) e = let woken = wakes found (wait.waiting x m.poll) s busy u e in record { sound = (woken.has, tt); goes = woken.goes }
 
   poll_goes : (found : ℕ) (m : Processor) → PollsOn m.poll → (out : Option (Unit {0})) → poll.gives m.poll found ≡ out → Goes found m task.Poll (after_poll m (poll.goes m.poll found) out)
-  poll_goes found m s None e =
-      let sound = h.keeps.stays_sound m.poll found s.sound s.busy in
-      record { sound = (sound.0, record { busy = ap is_none e; sound = sound }); goes = h.keeps.goes m.poll found s.sound s.busy }
-  poll_goes found m s (Some u) e =
-      let last = h.ends (poll.goes m.poll found) (ap is_none e) in
-      record { sound = ((h.keeps.stays_sound m.poll found s.sound s.busy).0, tt); goes = rw (← last.0, ← last.1) (h.keeps.goes m.poll found s.sound s.busy) }
+  poll_goes found m s out e = grind arith
 
   leave_goes : (found : ℕ) (m : Processor) (x : Leaving) → HasPlaces m.poll.local.cache → LeavesOn m.poll x → (out : Option (Unit {0})) → leave.gives x found ≡ out → Goes found m (task.Leave x) (after_leave m (leave.goes x found) out)
-  leave_goes found m x has s None e =
-      let seat = leave_seat x x.stage found ∙ s.seat_is in
-      record {
-        sound = (has, record { seat_is = seat; busy = ap is_none e; no_span = s.no_span; no_buffer = s.no_buffer });
-        goes = rw (← s.seat_is) (subst (λ (n : ℕ). StageGoes found (leaver m.poll.local.view x) (leaves_at x.stage) (leave.asks x) (record { seat = n; view = m.poll.local.view }) (leaves_at (leave.goes x found).stage)) (leave_seat x x.stage found) ((l.keeps m.poll.local.view).goes x found tt s.busy));
-      }
-  leave_goes found m x has s (Some u) e =
-      record {
-        sound = (has, tt);
-        goes = rw (← s.seat_is, ← l.ends (leave.goes x found) (ap is_none e)) (subst (λ (n : ℕ). StageGoes found (leaver m.poll.local.view x) (leaves_at x.stage) (leave.asks x) (record { seat = n; view = m.poll.local.view }) (leaves_at (leave.goes x found).stage)) (leave_seat x x.stage found) ((l.keeps m.poll.local.view).goes x found tt s.busy));
-      }
+  leave_goes found m x has s out e = grind arith
 
   module _ (shapes : List Shape) where
     new_goes : (found : ℕ) (m : Processor) (w : Wanted) (s : NewStage) → HasPlaces m.poll.local.cache → SoundAt m.poll (task.New (record { wanted = w; stage = s })) → Goes found m (task.New (record { wanted = w; stage = s })) (takes_at shapes m (task.New (record { wanted = w; stage = s })) found)
@@ -198,32 +137,7 @@ module _ (q : ProcessorIsQuiet) (k : MarkingIsQuiet) (h : PollsInHandshake) (v :
     goes_at found m (task.Leave x) has s busy = leave_goes found m x has s (leave.gives x found) refl
 
     goes_on : (m : Processor) (found : ℕ) → SoundPlace m → is_busy_at m.task ≡ true → Goes found m m.task (takes shapes m found)
-    goes_on m found s busy = goes_at found m m.task s.0 s.1 busy
-
-    -- what is begun at rest
-    record Begun (m to : Processor) : Type 0 where
-      sound : SoundPlace to
-      begins : PlaceBegins (Acts (knower m.poll) Awake) (Acts (party_of to) (stage_of to))
-
-    plainly : (m to : Processor) → Lands m to → Begun m to
-    plainly m to l = record { sound = l.sound; begins = rw (l.party, l.stage) (inl refl) }
-
-    begins_at_rest : (m : Processor) (o : Op) → HasPlaces m.poll.local.cache → Begun m (begins shapes m o)
-    begins_at_rest m (op.New g d t) has = plainly m _ (lands m _ has refl (search_plain _ false _))
-    begins_at_rest m (op.Load g d b n) has = plainly m _ (lands m _ has refl (load_plain _))
-    begins_at_rest m (op.Store g b n x) has = plainly m _ (lands m _ has refl (store_plain _))
-    begins_at_rest m (op.GetGlobal g d n) has = plainly m _ (lands m _ has refl (global_plain _))
-    begins_at_rest m (op.SetGlobal g n x) has = plainly m _ (lands m _ has refl (global_plain _))
-    begins_at_rest m (op.Int g d n) has = plainly m _ (lands m _ has refl (register_plain _))
-    begins_at_rest m (op.Move g d s) has = plainly m _ (lands m _ has refl (register_plain _))
-    begins_at_rest m (op.Nil g d) has = plainly m _ (lands m _ has refl (register_plain _))
-    begins_at_rest m (op.Gc g) has = record { sound = (has, ((has, tt), refl)); begins = inl refl }
-    begins_at_rest m op.Poll has = record { sound = (has, record { busy = refl; sound = (has, tt) }); begins = inl refl }
-    begins_at_rest m (op.End g) has = plainly m _ (lands m _ has refl (record { sound = λ p. tt; party = λ p. refl; stage = λ p. refl }))
-    begins_at_rest m op.Leave has = record {
-      sound = (refl, record { seat_is = refl; busy = ap is_none (leaves_on (give.opening m.poll.layout m.poll.seat m.poll.local.view.generation m.poll.local.cache m.poll.local.held)); no_span = refl; no_buffer = refl });
-      begins = l.begins m.poll.layout m.poll.seat m.poll.local.view.generation m.poll.local.cache m.poll.local.held m.poll.local.view;
-    }
+    goes_on m found s busy = grind (arith, goes_at)
 
     -- one that has left begins nothing
     record BegunFrom (m to : Processor) : Type 0 where
@@ -231,11 +145,7 @@ module _ (q : ProcessorIsQuiet) (k : MarkingIsQuiet) (h : PollsInHandshake) (v :
       begins : PlaceBegins (Acts (party_of m) (stage_of m)) (Acts (party_of to) (stage_of to))
 
     begins_from : (m : Processor) (o : Op) → SoundPlace m → is_busy_at m.task ≡ false → (left : Bool) → has_left_at m.task ≡ left → BegunFrom m (cond left m (begins shapes m o))
-    begins_from m o s rests true e = record { sound = s; begins = inl refl }
-    begins_from m o s rests false e =
-        let idle : m.task ≡ task.Idle = idle_at m.task rests e in
-        let b = begins_at_rest m o s.0 in
-        record { sound = b.sound; begins = subst (λ (t : Task). PlaceBegins (Acts (party_at m.poll t) (stage_at m.poll t)) (Acts (party_of (begins shapes m o)) (stage_of (begins shapes m o)))) (sym idle) b.begins }
+    begins_from m o s rests left e = grind arith
 
   pub processor_in_handshake : ProcessorInHandshake
   processor_in_handshake = record {

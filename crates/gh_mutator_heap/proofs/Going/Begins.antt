@@ -1,5 +1,5 @@
 -- What is known where an operation begins beside marking.
-use Rattle.std.proofs.Common.{◌≡◌, ◌≢◌, ℕ, ◌<◌, Bool, true, false, cond, None, refl, ap, subst}
+use Rattle.std.proofs.Common.{◌≡◌, ◌≢◌, ℕ, ◌<◌, Bool, true, false, cond, None, refl, ap, subst, arith}
 use Rattle.gh_base.specs.declared.operation.Op.TheVariants as op
 use Rattle.gh_base.specs.declared.value.Value.TheVariants as value
 use Rattle.gh_barrier.specs.declared.pointer_cell.PointerCell.TheVariants as pointer_cell
@@ -29,18 +29,14 @@ use Rattle.gh_mutator_heap.proofs.Owning.Objects.{register_reached}
 use Rattle.gh_mutator_heap.proofs.Owning.Parked.{stands_always}
 
 mark_is : (phase : RunPhase) → is_mark phase ≡ true → phase ≡ run.Mark
-mark_is run.Off e = absurd (cc)
-mark_is run.Mark e = refl
-mark_is run.Finished e = absurd (cc)
+mark_is phase e = grind arith
 
 not_mark : (phase : RunPhase) → is_mark phase ≡ false → phase ≢ run.Mark
 not_mark phase e is = let no = ap is_mark is in cc
 
 module _ (k : Known) (z : Cycle) (a : ℕ) (h : Heap) (s : Marking) (m : Processor) (t : Together z a h s m None) (b : IsBetween z a s m.poll.local) where
   store_facts : (g base i v : ℕ) (y : Value) → has_entries m.poll ≡ true → StoreFacts z a s m.poll (store.begins g base i v y) (store.begins g base i v y).stage
-  store_facts g base i v (value.Ref r) room = (b, room)
-  store_facts g base i v value.Nil room = b
-  store_facts g base i v (value.Int n) room = b
+  store_facts g base i v y room = grind arith
 
   module _ (g i v : ℕ) (runs : GoroutineRuns z.arena (view h) a g) (low : v < REGISTERS) (room : has_entries m.poll ≡ true) where
     abbrev held : Value

@@ -1,12 +1,11 @@
 -- Steps of the load and the store of a global beside marking. It is written behind the barrier.
-use Rattle.std.proofs.Common.{◌≡◌, ℕ, Bool, true, false, cond, Option, None, inr, refl, sym, ap, subst, ◌∙◌}
+use Rattle.std.proofs.Common.{◌≡◌, ℕ, Bool, true, false, cond, Option, None, inr, refl, sym, ap, subst, ◌∙◌, arith}
 use Rattle.gh_base.specs.declared.cell.Ask.TheVariants as ask
 use Rattle.gh_base.specs.declared.cell.Cell.{Cell}
 use Rattle.gh_base.specs.declared.cell.Cell.TheVariants as cell
 use Rattle.gh_base.specs.declared.operation.Op.TheVariants as op
 use Rattle.gh_base.specs.declared.value.Answer.TheVariants as answer
 use Rattle.gh_base.specs.declared.value.Fault.TheVariants as fault
-use Rattle.gh_base.specs.declared.value.Value.TheVariants as value
 use Rattle.gh_base.specs.Cells.{Words}
 use Rattle.gh_base.specs.Rows.{mark_words}
 use Rattle.gh_barrier.specs.Stays as write_on
@@ -43,9 +42,7 @@ use Rattle.gh_mutator_heap.proofs.Owning.Objects.{fits_pointer, register_reached
 
 -- a value that was found is named, or the load is over
 named_facts : (z : Cycle) (a : ℕ) (u : Marking) (x : Global) (p : Polling) (v : Value) → IsBetween z a u p.local → TaskFacts z a u p (follows task.Global (value_told (naming x) v))
-named_facts z a u x p value.Nil b = b
-named_facts z a u x p (value.Int n) b = b
-named_facts z a u x p (value.Ref r) b = b
+named_facts z a u x p v b = grind arith
 
 -- A step of its write before the last.
 module _ (k : Known) (x : Global) (w : PointerWrite) (z : Cycle) (a : ℕ) (h : Heap) (s : Marking) (m : Processor) (pending : Option Answer) (t : Together z a h s (at_task m (task.Global (at_stage x (stage.Writing w)))) pending) (l : StepOf z a h (at_task m (task.Global (at_stage x (stage.Writing w)))) pending) where

@@ -1,5 +1,5 @@
 -- What a step of a processor comes to beside marking: a deed, by which the state of marking follows the heap; or moves of marking alone. And what is known of its stacks behind it.
-use Rattle.std.proofs.Common.{◌≡◌, ◌≢◌, ℕ, ◌<◌, ◌≤◌, Bool, true, false, [], length, Option, Some, None, refl, sym, ap, subst, ◌∙◌, arith, inl, inr}
+use Rattle.std.proofs.Common.{◌≡◌, ◌≢◌, ℕ, ◌<◌, ◌≤◌, false, [], length, Option, Some, None, refl, sym, ap, subst, ◌∙◌, arith}
 use Rattle.std.specs.Prelude.{slice_index_or}
 use Rattle.gh_assist.specs.Facts.{AssistsByMoves}
 use Rattle.gh_base.specs.declared.cell.Ask.{Ask}
@@ -12,7 +12,6 @@ use Rattle.gh_base.specs.declared.value.Value.TheVariants as value
 use Rattle.gh_base.specs.Cells.{Words}
 use Rattle.gh_base.specs.Rows.{RowsAreWritten}
 use Rattle.gh_base.specs.Steps.{effect}
-use Rattle.gh_model.specs.declared.EverValue.TheVariants as ever
 use Rattle.gh_barrier.specs.Facts.{WritesByMoves}
 use Rattle.gh_cycle.specs.Beside.{ClaimedFieldsAreAside, ClaimsSlot, FillsNone, IsBeside, MarkingAloneGoesBeside, ObjectsAreKnownBeside, SlotsAreReserved}
 use Rattle.gh_cycle.specs.Deeds.{Deed, DeedsGoBeside, ever_by, hand_behind, MeetsByDeed}
@@ -28,7 +27,6 @@ use Rattle.gh_stack.specs.Facts.{AreRegisters, named}
 use Rattle.gh_mutator_heap.specs.Beside.{KnowsMarking, StepsOn, Together}
 use Rattle.gh_mutator.specs.Deeds.{acted}
 use Rattle.gh_mutator.specs.Listing.{acts, asks, takes}
-use Rattle.gh_mutator.specs.Local.{register_at}
 use Rattle.gh_mutator.specs.MarkFacts.{KnowsStacks}
 use Rattle.gh_mutator.specs.MarkVocabulary.{Cycle, Hands, InHand, Keeps}
 use Rattle.gh_mutator_heap.specs.PollHeap.{KnowsAtAnyTime}
@@ -61,20 +59,10 @@ fills_none a u hand none x o is = let some : hand.placing ≡ Some o = (x.has.is
 
 -- The registers of the processor and those that marking reads name the same.
 same_name : (place : Place) (made : ℕ → ℕ) (v : EverValue) (w : Value) → Means place made v w → reference_of place v ≡ named w
-same_name place made ever.Nil value.Nil h = refl
-same_name place made (ever.Int i) (value.Int j) h = refl
-same_name place made (ever.Ref n) (value.Ref r) h = sym h.0
-same_name place made ever.Nil (value.Int j) h = absurd h
-same_name place made ever.Nil (value.Ref r) h = absurd h
-same_name place made (ever.Int i) value.Nil h = absurd h
-same_name place made (ever.Int i) (value.Ref r) h = absurd h
-same_name place made (ever.Ref n) value.Nil h = absurd h
-same_name place made (ever.Ref n) (value.Int j) h = absurd h
+same_name place made v w h = grind arith
 
 some_name : (place : Place) (made : ℕ → ℕ) (v : EverValue) (r : ℕ) → Means place made v (value.Ref r) → 1 ≤ r
-some_name place made ever.Nil r h = absurd h
-some_name place made (ever.Int i) r h = absurd h
-some_name place made (ever.Ref n) r h = let is = h.0 in omega arith
+some_name place made v r h = grind arith
 
 -- the goroutine goes on
 abbrev pub EndsNone : Deed → Type 0
@@ -91,12 +79,7 @@ spares_stacks z a h s step (deed.Puts n i v word) on meets g number e = let is =
 spares_stacks z a h s step (deed.PutsGlobal i v word) on meets g number e = let is = sym meets.0 ∙ e in cc
 
 ends_none : (z : Cycle) (e : Ever) (d : Deed) → EndsNone d → (g : ℕ) → (ever_by z.arena e d).ended g ≡ e.ended g
-ends_none z e deed.Rests on g = refl
-ends_none z e (deed.Sets i d v) on g = refl
-ends_none z e (deed.Ends i) on g = absurd on
-ends_none z e (deed.Makes at i d t) on g = refl
-ends_none z e (deed.Puts n i v word) on g = refl
-ends_none z e (deed.PutsGlobal i v word) on g = refl
+ends_none z e d on g = grind arith
 
 -- A step by whichever move over the heap it is.
 abbrev pub StepOf : Cycle → (a : ℕ) → Heap → Processor → Option Answer → Type 0
@@ -128,36 +111,20 @@ module _ (k : Known) (z : Cycle) (a : ℕ) (h : Heap) (s : Marking) (m : Process
   -- What is known of its stacks behind a step that leaves their words, by what is known of the heap.
   module _ (u : Marking) (beside : IsBeside z.arena heap_then u) (goes : (g : ℕ) → IsOf z.arena a g → u.words (cell.Scanned g) ≢ END → heap_then.ever.ended g ≡ false) where
     values : (g : ℕ) → IsOf z.arena a g → u.words (cell.Scanned g) ≢ END → AreRegisters (u.registers g) (slice_index_or processor_then.poll.local.stacks g [])
-    values g its on = record {
-      whole = whole;
-      each = λ d below. beside.registers g d its.0 (low d below) (goes g its on) ∙ same_name heap_then.place heap_then.ever.made (heap_then.ever.register g d) (register_at processor_then.poll g d) (means d below);
-      some = λ d r below holds. some_name heap_then.place heap_then.ever.made (heap_then.ever.register g d) r (subst (λ (w : Value). Means heap_then.place heap_then.ever.made (heap_then.ever.register g d) w) holds (means d below));
-    } where
-      whole : length (slice_index_or processor_then.poll.local.stacks g []) ≡ REGISTERS
-      whole = let few = its.0 in let fit = z.arena.layout.limits.goroutines_fit.1 in stands.sits.registers g (omega (arith, few, fit))
-
-      low : (d : ℕ) → d < length (slice_index_or processor_then.poll.local.stacks g []) → d < REGISTERS
-      low d below = subst (λ (n : ℕ). d < n) whole below
-
-      means : (d : ℕ) → d < length (slice_index_or processor_then.poll.local.stacks g []) → Means heap_then.place heap_then.ever.made (heap_then.ever.register g d) (register_at processor_then.poll g d)
-      means d below = stands.registers g d its (low d below)
+    values g its on = grind (arith, same_name, some_name, stands)
 
     pub stacks_by : ((g : ℕ) → IsOf z.arena a g → slice_index_or processor_then.poll.local.scanned g 0 ≡ u.words (cell.Scanned g)) → KnowsStacks z a u processor_then.poll.local.stacks processor_then.poll.local.scanned
     stacks_by noted = record { own = t.facts.stacks.own; registers = values; noted = noted; places = places }
 
   module _ (u : Marking) (beside : IsBeside z.arena heap_then u) (spares : (g number : ℕ) → asks m ≢ ask.Store (cell.Scanned g) number) (ends : (g : ℕ) → heap_then.ever.ended g ≡ h.ever.ended g) where
     unwritten : (g : ℕ) → IsWritten m (cell.Scanned g) → ⊥
-    unwritten g (inl e) = spares g END e.tells
-    unwritten g (inr e) = spares g m.poll.local.view.begun e.tells
+    unwritten g h = grind arith
 
     word_stays : (g : ℕ) → u.words (cell.Scanned g) ≡ h.words (cell.Scanned g)
     word_stays g = ap (λ (w : Words). w (cell.Scanned g)) (beside.words ∙ l.words_are) ∙ k.own.leaves m h.words (cell.Scanned g) t.sound (unwritten g)
 
     goes : (g : ℕ) → IsOf z.arena a g → u.words (cell.Scanned g) ≢ END → heap_then.ever.ended g ≡ false
-    goes g its on = by (heap_then.ever.ended g) refl where
-      by : (b : Bool) → heap_then.ever.ended g ≡ b → heap_then.ever.ended g ≡ false
-      by true e = absurd (on (word_stays g ∙ t.ends g (sym (ends g) ∙ e)))
-      by false e = e
+    goes g its on = grind (arith, word_stays)
 
     stacks_then : KnowsStacks z a u processor_then.poll.local.stacks processor_then.poll.local.scanned
     stacks_then = stacks_by u beside goes (λ g its. k.notes.keeps z.arena.shapes m found_there g t.sound (spares g) ∙ t.facts.stacks.noted g its ∙ ap (λ (w : Words). w (cell.Scanned g)) t.beside.words ∙ sym (word_stays g))

@@ -1,5 +1,5 @@
 -- Steps of a load beside marking. At its point its register takes what the field held.
-use Rattle.std.proofs.Common.{◌≡◌, ℕ, ◌<◌, Bool, true, false, cond, Option, None, inl, inr, refl, ap, ◌∙◌}
+use Rattle.std.proofs.Common.{◌≡◌, ℕ, ◌<◌, Bool, true, false, cond, Option, None, inl, inr, refl, ap, ◌∙◌, arith}
 use Rattle.std.proofs.lemmas.Bool.{lt-ltb}
 use Rattle.gh_base.specs.declared.value.Answer.TheVariants as answer
 use Rattle.gh_base.specs.declared.value.Fault.TheVariants as fault
@@ -28,12 +28,10 @@ use Rattle.gh_mutator_heap.proofs.Going.Values.{between_then, pointing_scans, Qu
 use Rattle.gh_mutator_heap.proofs.Owning.Objects.{takes_told}
 
 follows_facts : (z : Cycle) (a : ℕ) (u : Marking) (p : Polling) (then : Then Load) → IsBetween z a u p.local → TaskFacts z a u p (follows task.Load then)
-follows_facts z a u p (GoesOn y) b = b
-follows_facts z a u p (Ends y) b = b
+follows_facts z a u p then b = grind arith
 
 page_quits : (x : Load) (b : Bool) → Quits (cond b (record { then = GoesOn (at_stage x Bits); sets = None; acts = false }) (record { then = Ends (answer.Fault fault.Field); sets = None; acts = true }))
-page_quits x true = inl refl
-page_quits x false = inr (fault.Field, refl, refl)
+page_quits x b = grind arith
 
 module _ (k : Known) (x : Load) (q : LoadStage) (z : Cycle) (a : ℕ) (h : Heap) (s : Marking) (m : Processor) (pending : Option Answer) where
   abbrev here : Processor

@@ -1,8 +1,6 @@
 -- Steps of the making of an object beside marking: its slot is cleared and laid out, then it is marked, and then it is made.
 use Rattle.std.proofs.Common.{◌≡◌, ℕ, ◌+◌, ◌*◌, ◌%◌, ◌^◌, ◌<◌, Bool, true, false, cond, eqb, ltb, nat_le, Option, Some, None, refl, sym, ap, subst, ◌∙◌, arith}
 use Rattle.std.proofs.lemmas.Bool.{eqb-true}
-use Rattle.gh_assist.specs.Facts.{Facts as AssistFacts}
-use Rattle.gh_assist.specs.Listing as assist
 use Rattle.gh_base.specs.declared.cell.Cell.TheVariants as cell
 use Rattle.gh_base.specs.declared.pack.SpanHead.{SpanHead}
 use Rattle.gh_base.specs.declared.shape.Shape.{Shape}
@@ -10,10 +8,8 @@ use Rattle.gh_base.specs.Packing.{birth_word, bit}
 use Rattle.gh_base.specs.Shapes.{is_pointer, shape_at}
 use Rattle.gh_class.specs.Classes.{size_class_of}
 use Rattle.gh_bitmap.specs.declared.set_pointers.SetStage.{SetStage}
-use Rattle.gh_bitmap.specs.declared.set_pointers.SetStage.TheVariants as set_stage
 use Rattle.gh_bitmap.specs.SetPointers as bits
 use Rattle.gh_central.specs.declared.give.GiveStage.{GiveStage}
-use Rattle.gh_central.specs.declared.give.GiveStage.TheVariants as give_stage
 use Rattle.gh_central.specs.GiveBack as give
 use Rattle.gh_alloc.specs.declared.place.PlaceStage.TheVariants as making
 use Rattle.gh_alloc.specs.Place as place
@@ -28,26 +24,22 @@ use Rattle.gh_marks.specs.Moves as marks
 use Rattle.gh_model.specs.Ever.{field_count, next_name}
 use Rattle.gh_mutator_heap.specs.Beside.{StepsOn, Together}
 use Rattle.gh_mutator_heap.specs.Facts.{for_whom}
-use Rattle.gh_mutator.specs.Local.{marking_at}
 use Rattle.gh_mutator.specs.MarkFacts.{holding_only, IsBetween, KnowsStacks, stacks_last}
-use Rattle.gh_mutator.specs.MarkVocabulary.{Cycle, Hands, Keeps, Layout}
-use Rattle.gh_mutator.specs.New.{assisting, assists, made_object, made_task, makes, wants}
+use Rattle.gh_mutator.specs.MarkVocabulary.{Cycle, Hands, Keeps}
+use Rattle.gh_mutator.specs.New.{made_object, made_task, makes, wants}
 use Rattle.gh_mutator.specs.Processor.{at_task}
 use Rattle.gh_mutator.specs.ProcessorMarks.{reserved_at, TaskFacts}
 use Rattle.gh_mutator.specs.Vocabulary.{Answer, Name, PlaceStage}
-use Rattle.gh_mutator_heap.specs.Vocabulary.{view, Idle, Processor, Wanted}
+use Rattle.gh_mutator_heap.specs.Vocabulary.{view, Processor, Wanted}
 use Rattle.gh_mutator_heap.proofs.Going.Known.{by_deed, by_keeping, fills_none, heap_then, Known, processor_then, StepAt, StepOf}
 use Rattle.gh_mutator_heap.proofs.Owning.SearchSteps.{sized}
 
 -- its routines write no word that marking reads
 bits_quiet : (s : Marking) (b : bits.PointerSetting) (q : SetStage) → marks.IsQuietInMarking s (bits.asks_at b q)
-bits_quiet s b (set_stage.Clear i) = tt
-bits_quiet s b (set_stage.Set i) = tt
-bits_quiet s b set_stage.Ended = tt
+bits_quiet s b q = grind arith
 
 give_quiet : (s : Marking) (g : give.SpanGiving) (q : GiveStage) → marks.IsQuietInMarking s (give.asks_at g q)
-give_quiet s g give_stage.Write = tt
-give_quiet s g give_stage.Ended = tt
+give_quiet s g q = grind arith
 
 abbrev at : Wanted → Placing → PlaceStage → Processor → Processor
 at w p q m = at_task m (makes w (place.at_stage p q))
@@ -59,16 +51,7 @@ goes_facts z a u m w p q marking free on b = subst (λ (o : Option Bool). TaskFa
 
 -- or it is over
 over_facts : Known → (z : Cycle) (a : ℕ) (u : Marking) (m : Processor) (w : Wanted) (p : Placing) (asks : Bool) → m.poll.layout ≡ z.arena.layout → m.poll.seat ≡ a → IsBetween z a u m.poll.local → TaskFacts z a u m.poll (made_task m.poll w p (Some asks))
-over_facts k z a u m w p true layout_is seat_is b = b
-over_facts k z a u m w p false layout_is seat_is b = by (marking_at m.poll) where
-  -- it assists with the buffer that it holds
-  begun : AssistFacts z a u (assisting m.poll w)
-  begun = subst (λ (l : Layout). AssistFacts z a u (assist.opening l m.poll.seat m.poll.local.held (8 * w.slot) m.poll.local.owed m.poll.local.spent)) (sym layout_is)
-      (subst (λ (c : ℕ). AssistFacts z a u (assist.opening z.arena.layout c m.poll.local.held (8 * w.slot) m.poll.local.owed m.poll.local.spent)) (sym seat_is) (k.assists.begins z a u m.poll.local.held (8 * w.slot) m.poll.local.owed m.poll.local.spent b.hands))
-
-  by : (c : Bool) → TaskFacts z a u m.poll (cond c (assists w p.name (assisting m.poll w)) Idle)
-  by true = record { stacks = b.stacks; number = b.number; assists = begun }
-  by false = b
+over_facts k z a u m w p asks layout_is seat_is b = grind arith
 
 module _ (k : Known) (w : Wanted) (p : Placing) (z : Cycle) (a : ℕ) (h : Heap) (s : Marking) (m : Processor) (pending : Option Answer) where
   abbrev Ready : PlaceStage → Type 0
@@ -132,11 +115,10 @@ module _ (k : Known) (w : Wanted) (p : Placing) (z : Cycle) (a : ℕ) (h : Heap)
     }
 
     may_make : MayMake z.arena (view h) a p.at w.g w.d w.t
-    may_make = record { runs = f.0.runs; register = f.0.places.register; type = f.0.places.type; few = f.0.few; ready = ready }
+    may_make = grind (arith, ready)
 
     made_facts : (u : Marking) (span : Option SpanHead) → IsBetween z a u (made_object (at w p making.Alloc m) w p.at).poll.local → TaskFacts z a u (made_object (at w p making.Alloc m) w p.at).poll (made_task m.poll w (place.at_stage p (place.made p span)) (place.given_at (place.made p span)))
-    made_facts u None b = record { marking = t.facts.task_is.marking; stacks = b.stacks; number = b.number; hands = b.hands }
-    made_facts u (Some head) b = record { marking = t.facts.task_is.marking; stacks = b.stacks; number = b.number; hands = b.hands }
+    made_facts u span b = grind arith
 
     makes_it : Goes making.Alloc t l
     makes_it = by_deed k z a h s (at w p making.Alloc m) pending t l (Makes p.at w.g w.d w.t) tt refl (refl, (t.facts.task_is.hands.has.is_reserved p.at).0 refl, may_make)
@@ -165,8 +147,7 @@ place_at k w p (making.Give g) z a h s m pending t kn l = by_deed k z a h s (at 
 place_at k w p making.Count z a h s m pending t kn l = by_deed k z a h s (at w p making.Count m) pending t l Rests tt refl (tt, fills k w p z a h s m pending making.Count t refl)
     (λ u hands stacks. by u p.marking ((h.words cell.Heap + 8 * p.slot) % 2 ^ 64) (record { stacks = stacks; number = t.facts.task_is.number; hands = hands (holding_only m.poll.local.held) (between k w p z a h s m pending making.Count t refl) })) where
       by : (u : Marking) (marking : Bool) (bytes : ℕ) → IsBetween z a u m.poll.local → TaskFacts z a u m.poll (made_task m.poll w (place.at_stage p (cond marking (making.Ended false) (making.LoadTrigger bytes))) (place.given_at (cond marking (making.Ended false) (making.LoadTrigger bytes))))
-      by u true bytes b = over_facts k z a u m w (place.at_stage p (making.Ended false)) false t.facts.layout_is t.facts.seat_is b
-      by u false bytes b = goes_facts z a u m w p (making.LoadTrigger bytes) t.facts.task_is.marking refl refl b
+      by u marking bytes b = grind arith
 place_at k w p (making.LoadTrigger bytes) z a h s m pending t kn l = by_deed k z a h s (at w p (making.LoadTrigger bytes) m) pending t l Rests tt refl (tt, fills k w p z a h s m pending (making.LoadTrigger bytes) t refl)
     (λ u hands stacks. over_facts k z a u m w (place.at_stage p (making.Ended (nat_le (h.words cell.Trigger) bytes))) (nat_le (h.words cell.Trigger) bytes) t.facts.layout_is t.facts.seat_is (record { stacks = stacks; number = t.facts.task_is.number; hands = hands (holding_only m.poll.local.held) (between k w p z a h s m pending (making.LoadTrigger bytes) t refl) }))
 place_at k w p (making.Ended asks) z a h s m pending t kn l = absurd t.fine.task.facts

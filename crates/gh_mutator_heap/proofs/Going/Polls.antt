@@ -13,69 +13,30 @@ use Rattle.gh_heap.specs.Moves as heap
 use Rattle.gh_heap.specs.Rights.{Shared as Heap}
 use Rattle.gh_marks.specs.Colours.{Shared as Marking}
 use Rattle.gh_marks.specs.Moves as marks
-use Rattle.gh_phase.specs.declared.view.RunPhase.TheVariants as run
 use Rattle.gh_phase.specs.Listing as resume
 use Rattle.gh_stack.specs.Facts.{named}
 use Rattle.gh_wbuf.specs.RoomFinding as room
-use Rattle.gh_mutator.specs.declared.give.GiveStage.TheVariants as give_stage
-use Rattle.gh_mutator.specs.declared.leave.LeaveStage.TheVariants as leave_stage
-use Rattle.gh_mutator.specs.declared.mark_stack.MarkStackStage.TheVariants as mark_stage
-use Rattle.gh_mutator.specs.declared.poll.PollStage.TheVariants as poll_stage
 use Rattle.gh_mutator.specs.declared.task.Task.TheVariants as task
 use Rattle.gh_mutator.specs.declared.wait.WaitStage.TheVariants as wait_stage
 use Rattle.gh_mutator_heap.specs.Beside.{StepsOn, Together}
-use Rattle.gh_mutator.specs.Collecting.{phase_of, Resumed, run_phase, RunPhase}
+use Rattle.gh_mutator.specs.Collecting.{Resumed, RunPhase}
 use Rattle.gh_mutator.specs.Deeds.{acted}
 use Rattle.gh_mutator.specs.Give as give
 use Rattle.gh_mutator.specs.Leave as leave
 use Rattle.gh_mutator.specs.Listing.{acting, acts}
-use Rattle.gh_mutator.specs.MarkFacts.{GiveStageFacts, holding_only, LeaveFacts, PollStageFacts, ScanStageFacts, WaitStageFacts}
-use Rattle.gh_mutator.specs.MarkStack as mark
-use Rattle.gh_mutator.specs.MarkVocabulary.{Cycle, Held, nothing, StackMarking}
-use Rattle.gh_mutator_heap.specs.Vocabulary.{GiveStage, LeaveStage, MarkStackStage, PollStage, WaitStage, Processor, Wait, Wanted, Ever, view}
+use Rattle.gh_mutator.specs.MarkFacts.{PollStageFacts, WaitStageFacts}
+use Rattle.gh_mutator.specs.MarkVocabulary.{Cycle, Held, StackMarking}
+use Rattle.gh_mutator_heap.specs.Vocabulary.{PollStage, WaitStage, Processor, Wait, Wanted, Ever, view}
 use Rattle.gh_mutator.specs.New as new
 use Rattle.gh_mutator.specs.Poll as poll
 use Rattle.gh_mutator.specs.Processor.{at_task}
 use Rattle.gh_mutator.specs.ProcessorMarks.{MarkFacts, only_polls, TaskFacts}
 use Rattle.gh_mutator.specs.Vocabulary.{Answer, cell_of, Leaving, Op, Polling, Shape, Value, Waiting}
 use Rattle.gh_mutator.specs.Wait as wait
-use Rattle.gh_mutator_heap.proofs.Going.Known.{by_marking, fills_none, found_there, goes_on, heap_then, Known, processor_then, StepAt, StepOf}
+use Rattle.gh_mutator_heap.proofs.Going.Known.{by_marking, found_there, goes_on, heap_then, Known, processor_then, StepAt, StepOf}
 use Rattle.gh_mutator_heap.proofs.Vocabulary.{after_gc, after_leave, after_poll, asks, takes, WaitState}
 
 -- No slot is being filled.
-module _ (z : Cycle) (a : ℕ) (u : Marking) where
-  give_fills : (held : Option Held) (q : GiveStage) → GiveStageFacts z a u held q → FillsNone a u
-  give_fills held (give_stage.GiveBuffer b) x = fills_none a u _ refl x.hands
-  give_fills held give_stage.Ended x = fills_none a u nothing refl x.0
-  give_fills held give_stage.Lock x = fills_none a u (holding_only held) refl x
-  give_fills held (give_stage.GiveSpan class s) x = fills_none a u (holding_only held) refl x
-  give_fills held give_stage.Unlock x = fills_none a u (holding_only held) refl x
-
-  scan_fills : (m : StackMarking) (q : MarkStackStage) → ScanStageFacts z a u m.held m.scan q → FillsNone a u
-  scan_fills m (mark_stage.Shading sh) x = fills_none a u _ refl x.1.hands
-  scan_fills m (mark_stage.FindRoom sh r) x = fills_none a u _ refl x.2.hands
-  scan_fills m mark_stage.Store x = fills_none a u (holding_only m.held) refl x.2
-  scan_fills m mark_stage.Ended x = absurd x
-
-  poll_fills : (p : Polling) (q : PollStage) → PollStageFacts z a u p.waits p.local q → FillsNone a u
-  poll_fills p poll_stage.LoadPhase x = fills_none a u (holding_only p.local.held) refl x.1
-  poll_fills p (poll_stage.Giving g stops) x = give_fills g.held g.stage x.stage_is
-  poll_fills p (poll_stage.Resuming r) x = fills_none a u nothing refl x.0
-  poll_fills p (poll_stage.Marking g m) x = scan_fills m m.stage x.1.stage_is
-  poll_fills p (poll_stage.FindRoom r) x = fills_none a u _ refl x.1.hands
-  poll_fills p poll_stage.Ended x = fills_none a u (holding_only p.local.held) refl x.2
-
-  wait_fills : (p : Polling) (q : WaitStage) → WaitStageFacts z a u p q → FillsNone a u
-  wait_fills p wait_stage.Polling x = poll_fills p p.stage x.stage_is
-  wait_fills p wait_stage.Want x = fills_none a u (holding_only p.local.held) refl x.between.hands
-  wait_fills p wait_stage.LoadSwept x = fills_none a u (holding_only p.local.held) refl x.between.hands
-  wait_fills p wait_stage.Ended x = fills_none a u (holding_only p.local.held) refl x.between.hands
-
-  leave_fills : (q : LeaveStage) → LeaveFacts z a u q → FillsNone a u
-  leave_fills (leave_stage.Giving g) x = give_fills g.held g.stage x.stage_is
-  leave_fills leave_stage.Leave x = fills_none a u nothing refl x
-  leave_fills leave_stage.Left x = fills_none a u nothing refl x
-
 -- What a step of a poll leaves: the registers, and of the notes of stacks none says that its goroutine has ended.
 record Leaves (p to : Polling) : Type 0 where
   stacks : to.local.stacks ≡ p.local.stacks
@@ -87,32 +48,17 @@ Same p to = (to.local.stacks ≡ p.local.stacks) × (to.local.scanned ≡ p.loca
 leaves_so : (p to : Polling) → Same p to → Leaves p to
 leaves_so p to s = record { stacks = s.0; notes = λ g on e. on (ap (λ (ns : List ℕ). slice_index ns g) (sym s.1) ∙ e) }
 
-same_scans : (p : Polling) (out : Option ℕ) → Same p (poll.scans p out)
-same_scans p None = (refl, refl)
-same_scans p (Some g) = (refl, refl)
-
-same_marks : (p : Polling) (phase : RunPhase) → Same p (poll.marks_then p phase)
-same_marks p run.Off = (refl, refl)
-same_marks p run.Mark = same_scans p (poll.due p)
-same_marks p run.Finished = (refl, refl)
-
 same_stops : (p : Polling) (g : give.Giving) (stops : ℕ) → Same p (poll.stops_then p g stops)
-same_stops p g stops = by (give.is_busy g.stage) where
-  by : (busy : Bool) → Same p (cond busy (poll.at_stage p (poll_stage.Giving g stops)) (record p { local = record (p.local) { cache = g.cache; held = g.held }; stage = poll_stage.Resuming (resume.opening p.layout p.seat stops p.local.view) }))
-  by true = (refl, refl)
-  by false = (refl, refl)
+same_stops p g stops = grind arith
 
 same_phases : (p : Polling) (stops : ℕ) (phase : Option RunPhase) → Same p (poll.by_phase p stops phase)
-same_phases p stops None = same_stops p (poll.giving p) stops
-same_phases p stops (Some phase) = same_marks p p.local.view.phase
+same_phases p stops phase = grind arith
 
 same_resumed : (p : Polling) (r : resume.Resuming) (out : Option Resumed) → Same p (poll.after_resume p r out)
-same_resumed p r None = (refl, refl)
-same_resumed p r (Some out) = same_marks (poll.resumed p out) out.view.phase
+same_resumed p r out = grind arith
 
 same_room : (p : Polling) (r : room.RoomFinding) (out : Option Held) → Same p (poll.after_room p r out)
-same_room p r None = (refl, refl)
-same_room p r (Some h) = (refl, refl)
+same_room p r out = grind arith
 
 module _ (z : Cycle) where
   -- the stack that it has scanned it notes as one of this cycle
@@ -124,29 +70,21 @@ module _ (z : Cycle) where
   }
 
   poll_leaves : (a : ℕ) (s : Marking) (p : Polling) (q : PollStage) (found : ℕ) → PollStageFacts z a s p.waits p.local q → Leaves p (poll.goes_at p q found)
-  poll_leaves a s p poll_stage.LoadPhase found x = leaves_so p _ (same_phases p (phase_of found).stops (run_phase (phase_of found).phase))
-  poll_leaves a s p (poll_stage.Giving g stops) found x = leaves_so p _ (same_stops p (give.goes g found) stops)
-  poll_leaves a s p (poll_stage.Resuming r) found x = leaves_so p _ (same_resumed p (resume.goes r found) (resume.gives r found))
-  poll_leaves a s p (poll_stage.Marking g m) found x = marked_leaves p g (mark.goes m found) (mark.gives m found) x.0
-  poll_leaves a s p (poll_stage.FindRoom r) found x = leaves_so p _ (same_room p (room.goes r found) (room.gives r found))
-  poll_leaves a s p poll_stage.Ended found x = leaves_so p _ (refl, refl)
+  poll_leaves a s p q found x = grind (arith, leaves_so, marked_leaves, same_phases, same_resumed, same_room, same_stops)
 
   wait_leaves : (a : ℕ) (s : Marking) (w : Waiting) (q : WaitStage) (found : ℕ) → WaitStageFacts z a s w.poll q → Leaves w.poll (wait.goes_at w q found).poll
   wait_leaves a s w wait_stage.Want found x = leaves_so w.poll _ (refl, refl)
   wait_leaves a s w wait_stage.Polling found x = by (poll.goes w.poll found) (poll.gives w.poll found) (poll_leaves a s w.poll w.poll.stage found x.stage_is) where
     by : (p : Polling) (out : Option (Unit {0})) → Leaves w.poll p → Leaves w.poll (wait.after_poll w p out).poll
-    by p None k = k
-    by p (Some y) k = k
+    by p out k = grind arith
   wait_leaves a s w wait_stage.LoadSwept found x = by (wait.is_later w.wait.known found) where
     by : (later : Bool) → Leaves w.poll (cond later (wait.at_stage w wait_stage.Ended) (wait.polling w)).poll
-    by true = leaves_so w.poll _ (refl, refl)
-    by false = leaves_so w.poll _ (refl, refl)
+    by later = grind arith
   wait_leaves a s w wait_stage.Ended found x = leaves_so w.poll _ (refl, refl)
 
 -- an operation that changes nothing in the heap that never frees
 pub acted_same : (shapes : List Shape) (e : Ever) (o : Op) → acted shapes e (acting true o false) ≡ e → (b : Bool) → acted shapes e (acting b o false) ≡ e
-acted_same shapes e o is true = is
-acted_same shapes e o is false = refl
+acted_same shapes e o is b = grind arith
 
 -- The step, of a processor that only polls.
 module _ (k : Known) (z : Cycle) (a : ℕ) (h : Heap) (s : Marking) (m : Processor) (pending : Option Answer) (t : Together z a h s m pending) (l : StepOf z a h m pending) where
@@ -176,36 +114,28 @@ module _ (k : Known) (z : Cycle) (a : ℕ) (h : Heap) (s : Marking) (m : Process
 -- By tasks.
 module _ (z : Cycle) (a : ℕ) (u : Marking) (m : Processor) where
   polled_leaves : (p : Polling) (out : Option (Unit {0})) → Leaves m.poll p → Leaves m.poll (after_poll m p out).poll
-  polled_leaves p None x = x
-  polled_leaves p (Some y) x = x
+  polled_leaves p out x = grind arith
 
   polled_fills : (p : Polling) (out : Option (Unit {0})) → TaskFacts z a u (after_poll m p out).poll (after_poll m p out).task → FillsNone a u
-  polled_fills p None x = poll_fills z a u p p.stage x.stage_is
-  polled_fills p (Some y) x = fills_none a u (holding_only p.local.held) refl x.hands
+  polled_fills p out x = grind arith
 
   gc_leaves : (g : ℕ) (w : Waiting) (out : Option (Unit {0})) → Leaves m.poll w.poll → Leaves m.poll (after_gc m g w out).poll
-  gc_leaves g w None x = x
-  gc_leaves g w (Some y) x = x
+  gc_leaves g w out x = grind arith
 
   gc_fills : (g : ℕ) (w : Waiting) (out : Option (Unit {0})) → TaskFacts z a u (after_gc m g w out).poll (after_gc m g w out).task → FillsNone a u
-  gc_fills g w None x = wait_fills z a u w.poll w.wait.stage x
-  gc_fills g w (Some y) x = fills_none a u (holding_only w.poll.local.held) refl x.hands
+  gc_fills g w out x = grind arith
 
   new_leaves : (n : Wanted) (w : Waiting) (out : Option (Unit {0})) → Leaves m.poll w.poll → Leaves m.poll (new.after_wait m n w out).poll
-  new_leaves n w None x = x
-  new_leaves n w (Some y) x = x
+  new_leaves n w out x = grind arith
 
   new_fills : (n : Wanted) (w : Waiting) (out : Option (Unit {0})) → TaskFacts z a u (new.after_wait m n w out).poll (new.after_wait m n w out).task → FillsNone a u
-  new_fills n w None x = wait_fills z a u w.poll w.wait.stage x
-  new_fills n w (Some y) x = fills_none a u (holding_only w.poll.local.held) refl x.hands
+  new_fills n w out x = grind arith
 
   left_leaves : (x : Leaving) (out : Option (Unit {0})) → Leaves m.poll (after_leave m x out).poll
-  left_leaves x None = leaves_so m.poll _ (refl, refl)
-  left_leaves x (Some y) = leaves_so m.poll _ (refl, refl)
+  left_leaves x out = grind arith
 
   left_fills : (x : Leaving) (out : Option (Unit {0})) → TaskFacts z a u (after_leave m x out).poll (after_leave m x out).task → FillsNone a u
-  left_fills x None f = leave_fills z a u x.stage f.1
-  left_fills x (Some y) f = fills_none a u nothing refl f.1
+  left_fills x out f = grind arith
 
 pub poll_step : Known → StepAt task.Poll
 poll_step k z a h s m pending t kn l =

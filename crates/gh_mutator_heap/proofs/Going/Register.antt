@@ -1,5 +1,5 @@
 -- The step of a statement on registers alone beside marking.
-use Rattle.std.proofs.Common.{ℕ, refl}
+use Rattle.std.proofs.Common.{ℕ, refl, arith}
 use Rattle.gh_model.specs.declared.EverValue.TheVariants as ever
 use Rattle.gh_cycle.specs.Deeds.{from_nil, from_number, from_register, Sets}
 use Rattle.gh_mutator.specs.declared.register.Source.TheVariants as source
@@ -27,4 +27,4 @@ at k g d source.Nil z a h s m pending t kn l = by_deed k z a h s (at_task m (tas
     (λ u hands stacks. record { stacks = stacks; number = t.facts.task_is.number; hands = hands (holding_only m.poll.local.held) t.facts.task_is.hands })
 
 pub register_step : Known → (x : Register) → StepAt (task.Register x)
-register_step k x = at k x.g x.d x.source
+register_step k x = grind (arith, at)

@@ -1,7 +1,6 @@
 -- Steps of the search for a slot beside marking: they are on the lock and on page words, or load. A slot that is found is to be marked before its object is made.
-use Rattle.std.proofs.Common.{◌≡◌, ℕ, Bool, true, false, Option, Some, None, refl, sym, ap, subst, ◌∙◌}
+use Rattle.std.proofs.Common.{◌≡◌, ℕ, Bool, true, false, Option, Some, None, refl, sym, ap, subst, ◌∙◌, arith}
 use Rattle.gh_base.specs.declared.cell.Ask.{Ask}
-use Rattle.gh_base.specs.declared.cell.Ask.TheVariants as ask
 use Rattle.gh_base.specs.declared.operation.Op.TheVariants as op
 use Rattle.gh_alloc.specs.Search as search
 use Rattle.gh_cycle.specs.Beside.{FillsNone}
@@ -28,12 +27,7 @@ use Rattle.gh_mutator_writes.specs.SearchRows.{seeking_writes}
 
 -- a step that writes no word which marking reads
 pub quiet_by : (s : Marking) (step : Ask) → WritesOf (IsAside s) step → IsQuietInMarking s step
-quiet_by s (ask.Load c) w = tt
-quiet_by s (ask.Store c value) w = w
-quiet_by s (ask.Or c bits) w = w
-quiet_by s (ask.And c bits) w = w
-quiet_by s (ask.Add c more) w = w
-quiet_by s (ask.Swap c old new) w = w
+quiet_by s step w = grind arith
 
 module _ (k : Known) (v : Wanted) (waited : Bool) (y : Seeking) (z : Cycle) (a : ℕ) (h : Heap) (s : Marking) (m : Processor) (pending : Option Answer) where
   abbrev here : Processor
@@ -80,8 +74,7 @@ module _ (k : Known) (v : Wanted) (waited : Bool) (y : Seeking) (z : Cycle) (a :
         (λ u hands stacks. knows_at (Some NoRoom) e (nil waited last) u (hands (holding_only m.poll.local.held) t.facts.task_is.hands) stacks) where
           nil : (b : Bool) → b ≡ true → (u : Marking) → Hands a u (holding_only m.poll.local.held) → KnowsStacks z a u (after_search z.arena.shapes cached v b (search.goes y n) (Some NoRoom)).poll.local.stacks (after_search z.arena.shapes cached v b (search.goes y n) (Some NoRoom)).poll.local.scanned →
               TaskFacts z a u (after_search z.arena.shapes cached v b (search.goes y n) (Some NoRoom)).poll (after_search z.arena.shapes cached v b (search.goes y n) (Some NoRoom)).task
-          nil true e u hands stacks = record { stacks = stacks; number = t.facts.task_is.number; hands = hands }
-          nil false e u hands stacks = absurd (cc)
+          nil b e u hands stacks = grind arith
 
     -- no cycle was waited for yet
     waits : (b : Bool) → b ≡ false → (u : Marking) → Hands a u (holding_only m.poll.local.held) → KnowsStacks z a u (after_search z.arena.shapes cached v b (search.goes y n) (Some NoRoom)).poll.local.stacks (after_search z.arena.shapes cached v b (search.goes y n) (Some NoRoom)).poll.local.scanned →

@@ -1,12 +1,11 @@
 -- Steps of a store beside marking. A pointer is written behind the barrier; without it a number alone is.
-use Rattle.std.proofs.Common.{◌≡◌, ℕ, ◌+◌, ◌*◌, ◌%◌, ◌<◌, Bool, true, false, not, cond, Option, None, inl, inr, refl, sym, ap, subst, ◌∙◌}
+use Rattle.std.proofs.Common.{◌≡◌, ℕ, ◌+◌, ◌*◌, ◌%◌, ◌<◌, Bool, true, false, cond, Option, None, inr, refl, sym, ap, subst, ◌∙◌, arith}
 use Rattle.std.proofs.lemmas.Bool.{lt-ltb}
 use Rattle.gh_base.specs.declared.cell.Ask.TheVariants as ask
 use Rattle.gh_base.specs.declared.cell.Cell.{Cell}
 use Rattle.gh_base.specs.declared.cell.Cell.TheVariants as cell
 use Rattle.gh_base.specs.declared.value.Answer.TheVariants as answer
 use Rattle.gh_base.specs.declared.value.Fault.TheVariants as fault
-use Rattle.gh_base.specs.declared.value.Value.TheVariants as value
 use Rattle.gh_base.specs.Cells.{Words}
 use Rattle.gh_base.specs.Rows.{mark_words}
 use Rattle.gh_barrier.specs.Stays as write_on
@@ -32,13 +31,11 @@ use Rattle.gh_mutator.specs.Deeds.{acted}
 use Rattle.gh_mutator_heap.specs.Facts.{Stores}
 use Rattle.gh_mutator.specs.Fields.{has_field, is_number_value, is_pointer_by, kinds_differ, word_of_value}
 use Rattle.gh_mutator.specs.Listing.{acting, applied}
-use Rattle.gh_mutator.specs.Local.{is_mark}
 use Rattle.gh_mutator.specs.MarkFacts.{holding_only, IsBetween, stacks_last}
 use Rattle.gh_mutator.specs.MarkVocabulary.{Cycle, Keeps, nothing}
 use Rattle.gh_mutator_heap.specs.PollHeap.{KnowsAtAnyTime}
 use Rattle.gh_mutator.specs.Processor.{at_task, keeping, register_of}
 use Rattle.gh_mutator.specs.ProcessorMarks.{MarkFacts}
-use Rattle.gh_mutator.specs.Stays.{stores_behind}
 use Rattle.gh_mutator.specs.Step.{ends, goes_on}
 use Rattle.gh_mutator.specs.Store.{after_write, at_stage, op_of, pointer_cell_at, step, stores}
 use Rattle.gh_mutator.specs.Vocabulary.{Answer, Name, Value}
@@ -54,9 +51,7 @@ at x q m = at_task m (task.Store (at_stage x q))
 
 -- A fault changes nothing.
 fault_stays : (e : Ever) (v : EverValue) (k : ℕ) (w : EverValue) (f : Fault) → stores_value e v k w (answer.Fault f) ≡ e
-fault_stays e ever.Nil k w f = refl
-fault_stays e (ever.Int i) k w f = refl
-fault_stays e (ever.Ref n) k w f = refl
+fault_stays e v k w f = grind arith
 
 -- the processor behind a step that writes nothing, where it goes on so or is over
 abbrev behind : Processor → Store → Step Store → Processor
@@ -82,8 +77,7 @@ module _ (k : Known) (x : Store) (z : Cycle) (a : ℕ) (h : Heap) (s : Marking) 
 
   module _ (t : Ready stage.Page) (l : StepOf z a h (at x stage.Page m) pending) where
     page_quits : (b : Bool) → Quits (cond b (goes_on (at_stage x stage.Bits)) (ends (answer.Fault fault.Field)))
-    page_quits true = inl refl
-    page_quits false = inr (fault.Field, refl, refl)
+    page_quits b = grind arith
 
     page_facts : (b : Bool) → Behind (cond b (goes_on (at_stage x stage.Bits)) (ends (answer.Fault fault.Field)))
     page_facts true = record { layout_is = t.facts.layout_is; seat_is = t.facts.seat_is; stacks = t.facts.stacks; task_is = t.facts.task_is }
@@ -111,8 +105,7 @@ module _ (k : Known) (x : Store) (z : Cycle) (a : ℕ) (h : Heap) (s : Marking) 
     there = pointer_cell_at m.poll.layout (x.at + x.k)
 
     kinds : (p b : Bool) → Quits (cond b (ends (answer.Fault fault.Kind)) (goes_on (at_stage x (stores m.poll.layout m.poll.local held x p))))
-    kinds p true = inr (fault.Kind, refl, refl)
-    kinds p false = inl refl
+    kinds p b = grind arith
 
     begun : points z.arena.shapes h.ever.type_of f.n x.k ≡ true → Behind (goes_on (at_stage x (stage.Writing (written m.poll.layout m.poll.local there held))))
     begun kind = record {
@@ -126,17 +119,13 @@ module _ (k : Known) (x : Store) (z : Cycle) (a : ℕ) (h : Heap) (s : Marking) 
     }
 
     number_is : (p : Bool) → p ≡ false → kinds_differ p held ≡ false → is_number_value held ≡ true
-    number_is p e same = by (is_number_value held) refl where
-      by : (b : Bool) → is_number_value held ≡ b → is_number_value held ≡ true
-      by true y = y
-      by false y = absurd (let no = sym same ∙ (ap (λ (c : Bool). kinds_differ c held) e ∙ ap not y) in cc)
+    number_is p e same = grind arith
 
     plain : is_number_value held ≡ true → Behind (goes_on (at_stage x stage.Field))
     plain number = record { layout_is = t.facts.layout_is; seat_is = t.facts.seat_is; stacks = t.facts.stacks; task_is = (t.facts.task_is.0, λ marks. number) }
 
     goes : (p : Bool) → points z.arena.shapes h.ever.type_of f.n x.k ≡ p → kinds_differ p held ≡ false → Behind (goes_on (at_stage x (stores m.poll.layout m.poll.local held x p)))
-    goes true kind same = subst (λ (q : StoreStage). Behind (goes_on (at_stage x q))) (sym (stores_behind m.poll.layout m.poll.local held x (ap is_mark on))) (begun kind)
-    goes false kind same = plain (number_is false refl same)
+    goes p kind same = grind (arith, begun, number_is, plain)
 
     bits_facts : (p b : Bool) → points z.arena.shapes h.ever.type_of f.n x.k ≡ p → kinds_differ p held ≡ b → Behind (cond b (ends (answer.Fault fault.Kind)) (goes_on (at_stage x (stores m.poll.layout m.poll.local held x p))))
     bits_facts p true kind same = over stage.Bits t t.facts.task_is.0 (answer.Fault fault.Kind)
@@ -185,16 +174,7 @@ module _ (k : Known) (x : Store) (z : Cycle) (a : ℕ) (h : Heap) (s : Marking) 
 
 -- a number is written to no pointer field
 number_field : (v : EverValue) (y : Value) (h : Heap) (p : Bool) → Means h.place h.ever.made v y → is_number_value y ≡ true → fits p v ≡ true → p ≡ true → ⊥
-number_field ever.Nil value.Nil h p means number fit kind = cc
-number_field (ever.Int i) (value.Int j) h true means number fit kind = cc
-number_field (ever.Int i) (value.Int j) h false means number fit kind = cc
-number_field (ever.Ref n) (value.Ref r) h p means number fit kind = cc
-number_field ever.Nil (value.Int j) h p means number fit kind = means
-number_field ever.Nil (value.Ref r) h p means number fit kind = means
-number_field (ever.Int i) value.Nil h p means number fit kind = means
-number_field (ever.Int i) (value.Ref r) h p means number fit kind = means
-number_field (ever.Ref n) value.Nil h p means number fit kind = means
-number_field (ever.Ref n) (value.Int j) h p means number fit kind = means
+number_field v y h p means number fit kind = grind arith
 
 field : (k : Known) (x : Store) → StepAt (task.Store (at_stage x stage.Field))
 field k x z a h s m pending t kn l =

@@ -1,5 +1,5 @@
 -- What a statement's step changes in the heap that never frees, and the pointer fields of objects that a script reaches, beside marking.
-use Rattle.std.proofs.Common.{◌≡◌, ℕ, ◌/◌, ◌%◌, ◌<◌, Bool, true, false, eqb, ltb, List, [], ◌∷◌, ◌++◌, length, Option, Some, None, inl, inr, ◌⊎◌, refl, sym, ap, subst, ◌∙◌, arith}
+use Rattle.std.proofs.Common.{◌≡◌, ℕ, ◌/◌, ◌%◌, ◌<◌, Bool, true, false, eqb, ltb, List, [], ◌++◌, length, Option, Some, None, inl, inr, ◌⊎◌, refl, ap, subst, ◌∙◌, arith}
 use Rattle.std.specs.Int.{bit_at}
 use Rattle.std.specs.Option.{option_to_list}
 use Rattle.std.proofs.lemmas.Bool.{cases_Bool, ltb-true, ltb-false}
@@ -18,13 +18,9 @@ use Rattle.gh_mutator.specs.MarkVocabulary.{Cycle, Hands}
 use Rattle.gh_mutator.specs.Local.{with_value_if_any}
 use Rattle.gh_mutator.specs.Step.{answered}
 use Rattle.gh_mutator.specs.Vocabulary.{Answer, Name, Op, Polling, Shape, Value}
-use Rattle.gh_mutator_heap.specs.Vocabulary.{answer_of, Ever, ever_after, Fault, IsMade, points, Reach, size_for, view, Step}
+use Rattle.gh_mutator_heap.specs.Vocabulary.{Ever, ever_after, Fault, IsMade, points, Reach, size_for, view, Step}
 
 -- The heap that never frees.
-
-answer_is : (b f : Answer) (after : Option Answer) → b ∷ [] ≡ option_to_list after ++ (f ∷ []) → b ≡ f
-answer_is b f None e = cc
-answer_is b f (Some y) e = absurd (cc)
 
 -- the step goes on, or it ends the statement with a fault
 abbrev pub Quits : {S : Type 0} → Step S → Type 0
@@ -33,20 +29,11 @@ Quits step = (step.acts ≡ false) ⊎ ((f : Fault) × (step.acts ≡ true) × (
 -- then nothing changes
 pub quits_rests : {S : Type 0} (shapes : List Shape) (e : Ever) (o : Op) (pending after : Option Answer) (step : Step S) → ((f : Fault) → ever_after shapes e o (answer.Fault f) ≡ e) → pending ≡ None →
     option_to_list (answered_at shapes e (acting step.acts o false)) ++ option_to_list pending ≡ option_to_list after ++ option_to_list (answered step.then) → Quits step → acted shapes e (acting step.acts o false) ≡ e
-quits_rests shapes e o pending after step stays none all (inl on) = ap (λ (b : Bool). acted shapes e (acting b o false)) on
-quits_rests shapes e o pending after step stays none all (inr (f, acts, ends)) = ap (λ (b : Bool). acted shapes e (acting b o false)) acts ∙ ap (λ (y : Answer). ever_after shapes e o y) is ∙ stays f where
-  told : answer_of shapes e o ∷ [] ≡ option_to_list after ++ (answer.Fault f ∷ [])
-  told = subst (λ (x : Option Answer). answer_of shapes e o ∷ [] ≡ option_to_list after ++ option_to_list x) ends
-      (subst (λ (p : Option Answer). (answer_of shapes e o ∷ []) ++ option_to_list p ≡ option_to_list after ++ option_to_list (answered step.then)) none
-      (subst (λ (b : Bool). option_to_list (answered_at shapes e (acting b o false)) ++ option_to_list pending ≡ option_to_list after ++ option_to_list (answered step.then)) acts all))
-
-  is : answer_of shapes e o ≡ answer.Fault f
-  is = answer_is (answer_of shapes e o) (answer.Fault f) after told
+quits_rests shapes e o pending after step stays none all h = grind arith
 
 -- What is known between two polls.
 pub between_then : (z : Cycle) (a : ℕ) (u : Marking) (p : Polling) (g d : ℕ) (o : Option Value) → KnowsStacks z a u (with_value_if_any p g d o).local.stacks (with_value_if_any p g d o).local.scanned → KnowsNumber z p.local.view → Hands a u (holding_only p.local.held) → IsBetween z a u (with_value_if_any p g d o).local
-between_then z a u p g d None stacks number hands = record { stacks = stacks; number = number; hands = hands }
-between_then z a u p g d (Some v) stacks number hands = record { stacks = stacks; number = number; hands = hands }
+between_then z a u p g d o stacks number hands = grind arith
 
 -- an object with a pointer field is not noscan
 no_bit : (i w : ℕ) → w ≡ 0 → eqb (bit_at w i) 1 ≡ false
@@ -70,6 +57,4 @@ module _ (z : Cycle) (h : Heap) (s : Marking) (shapes : ShapesAreGood z.arena.sh
   of_cycle n made reach = record { made = made; placed = good.reached n reach; since = beside.reached n reach }
 
   pub is_pointer_there : (n : Name) (k : ℕ) → IsMade h.ever.made n → Reach h.ever n → k < size_for z.arena.shapes h.ever.type_of n → points z.arena.shapes h.ever.type_of n k ≡ true → IsPointer s.extents (h.place n) k
-  is_pointer_there n k made reach few kind =
-      let o = of_cycle n made reach in
-      (subst (λ (i : ℕ). k < i) (sym (beside.size n o)) few, beside.pointer n k o few ∙ kind, beside.noscan n o ∙ pointing_scans z.arena.shapes shapes (h.ever.type_of n) k kind)
+  is_pointer_there n k made reach few kind = grind (arith, of_cycle, pointing_scans)

@@ -1,26 +1,20 @@
 -- A write behind the barrier, beside marking: where it begins, its steps before the last, and what it has in hand.
-use Rattle.std.proofs.Common.{◌≡◌, ℕ, ◌+◌, ◌-◌, ◌*◌, ◌/◌, ◌%◌, ◌<◌, Bool, true, false, cond, eqb, Option, Some, None, refl, sym, ap, subst, ◌∙◌, arith}
+use Rattle.std.proofs.Common.{◌≡◌, ℕ, ◌+◌, ◌*◌, ◌/◌, ◌%◌, ◌<◌, Bool, true, eqb, Option, refl, sym, ap, subst, ◌∙◌, arith}
 use Rattle.std.specs.Int.{bit_at}
 use Rattle.std.proofs.Math.Nat.{mod-eq_of_lt}
-use Rattle.std.proofs.lemmas.Bool.Decides.{nat_tests}
 use Rattle.gh_base.specs.declared.cell.Ask.{Ask}
 use Rattle.gh_base.specs.declared.cell.Cell.TheVariants as cell
-use Rattle.gh_base.specs.declared.held.Held.{Held}
-use Rattle.gh_base.specs.declared.value.Value.TheVariants as value
 use Rattle.gh_base.specs.Cells.{Words}
 use Rattle.gh_base.specs.Packing.{bit}
 use Rattle.gh_base.specs.Steps.{effect}
 use Rattle.gh_barrier.specs.declared.pointer_cell.PointerCell.{PointerCell}
-use Rattle.gh_barrier.specs.declared.write_pointer.WriteStage.{WriteStage}
-use Rattle.gh_barrier.specs.declared.write_pointer.WriteStage.TheVariants.{LoadOld, ShadeOld, ShadeNew, Store, Ended}
-use Rattle.gh_barrier.specs.Facts.{Facts, IsCell, IsKnownPointer, StageFacts}
+use Rattle.gh_barrier.specs.Facts.{Facts, IsCell, IsKnownPointer}
 use Rattle.gh_barrier.specs.Listing as write
 use Rattle.gh_barrier.specs.Listing.{Writing}
 use Rattle.gh_barrier.specs.Sound.{HasTwo}
 use Rattle.gh_cycle.specs.Beside.{FillsNone, IsBeside}
 use Rattle.gh_heap.specs.Rights.{Good as HeapGood, Shared as Heap}
 use Rattle.gh_marks.specs.Colours.{Shared as Marking}
-use Rattle.gh_model.specs.declared.EverValue.TheVariants as ever
 use Rattle.gh_phase.specs.declared.view.RunPhase.TheVariants.{Mark}
 use Rattle.gh_mutator.specs.Barrier.{has_entries, pointer_of, written}
 use Rattle.gh_mutator_heap.specs.Beside.{StepsOn, Together}
@@ -28,38 +22,23 @@ use Rattle.gh_mutator.specs.Deeds.{acted}
 use Rattle.gh_mutator_heap.specs.Facts.{ShapesAreGood}
 use Rattle.gh_mutator.specs.Fields.{is_pointer_by}
 use Rattle.gh_mutator.specs.Listing.{acts, asks}
-use Rattle.gh_mutator.specs.Local.{is_mark}
 use Rattle.gh_mutator.specs.MarkFacts.{IsBetween}
 use Rattle.gh_mutator.specs.MarkVocabulary.{Cycle, Good, Keeps, KnowsObjects, Layout, nothing, Steps}
-use Rattle.gh_mutator.specs.Poll.{has_two}
 use Rattle.gh_mutator.specs.ProcessorMarks.{IsWriting, MarkFacts}
 use Rattle.gh_mutator.specs.Vocabulary.{Answer, cell_of, Name, Polling, Value}
 use Rattle.gh_mutator_heap.specs.Vocabulary.{EverValue, IsMade, IsReached, Means, points, Reach, size_for, view, Processor}
-use Rattle.gh_mutator_heap.proofs.Going.Known.{by_keeping, fills_none, found_there, heap_then, Known, processor_then, StepOf}
+use Rattle.gh_mutator_heap.proofs.Going.Known.{by_keeping, found_there, heap_then, Known, processor_then, StepOf}
 use Rattle.gh_mutator_heap.proofs.Going.Values.{of_cycle}
-
-write_fills_at : (z : Cycle) (a : ℕ) (u : Marking) (w : Writing) (q : WriteStage) → StageFacts z a u nothing w q → FillsNone a u
-write_fills_at z a u w LoadOld x = fills_none a u _ refl x.1
-write_fills_at z a u w (ShadeOld sh) x = fills_none a u _ refl x.2.hands
-write_fills_at z a u w (ShadeNew sh) x = fills_none a u _ refl x.3.hands
-write_fills_at z a u w Store x = fills_none a u _ refl x.2
-write_fills_at z a u w Ended x = fills_none a u _ refl x
 
 -- no slot is being filled by who writes
 pub write_fills : (z : Cycle) (a : ℕ) (u : Marking) (w : Writing) → Facts z a u nothing w → FillsNone a u
-write_fills z a u w f = write_fills_at z a u w w.stage f.stage_is
-
--- there is room for two entries
-two_in : (held : Option Held) → has_two held ≡ true → HasTwo held
-two_in None e = absurd (cc)
-two_in (Some h) e = let n = h.count in grind (arith, nat_tests)
+write_fills z a u w f = grind arith
 
 pub room_for_two : (p : Polling) → has_entries p ≡ true → p.local.view.phase ≡ Mark → HasTwo p.local.held
-room_for_two p entries on = two_in p.local.held (sym (ap (λ (b : Bool). cond b (has_two p.local.held) true) (ap is_mark on)) ∙ entries)
+room_for_two p entries on = grind arith
 
 bit_is : (b : Bool) (n : ℕ) → n ≡ bit b → eqb n 1 ≡ b
-bit_is true n e = rw e refl
-bit_is false n e = rw e refl
+bit_is b n e = grind arith
 
 module _ (k : Known) (z : Cycle) (a : ℕ) (h : Heap) (s : Marking) (shapes : ShapesAreGood z.arena.shapes) (good : HeapGood z.arena (view h)) (well : Good z s) (beside : IsBeside z.arena h s) where
   objects : KnowsObjects z s
@@ -83,14 +62,7 @@ module _ (k : Known) (z : Cycle) (a : ℕ) (h : Heap) (s : Marking) (shapes : Sh
 
   -- what is written is nil, or an object of the cycle
   pub known_pointer : (v : EverValue) (y : Value) → IsReached h.ever v → Means h.place h.ever.made v y → IsKnownPointer s (pointer_of y)
-  known_pointer v value.Nil reached means = tt
-  known_pointer v (value.Int i) reached means = tt
-  known_pointer ever.Nil (value.Ref r) reached means = absurd means
-  known_pointer (ever.Int i) (value.Ref r) reached means = absurd means
-  known_pointer (ever.Ref n) (value.Ref r) reached means = let is = means.0 in by (eqb r 0) (omega (arith, is)) (omega (arith, is)) where
-    by : (b : Bool) → r - 1 ≡ h.place n → 0 < r → IsKnownPointer s (cond b None (Some r))
-    by true at some = tt
-    by false at some = (some, ap s.since at ∙ beside.reached n reached)
+  known_pointer v y reached means = grind arith
 
   pub write_begins : (p : Polling) (at : PointerCell) (y : Value) → p.layout ≡ z.arena.layout → IsCell s at → IsKnownPointer s (pointer_of y) → HasTwo p.local.held → IsBetween z a s p.local → IsWriting z a s p.local (written p.layout p.local at y)
   write_begins p at y layout_is there known two b = record {

@@ -9,11 +9,10 @@ use Rattle.gh_base.specs.Cells.{InRange, put}
 use Rattle.gh_base.specs.Packing.{head_word}
 use Rattle.gh_class.specs.declared.class.SizeClass.TheVariants as size
 use Rattle.gh_heap.specs.Moves.{Disown, IsQuiet, Lands, LeaveLock, May, Others, Quiet, TakeLock, moved}
-use Rattle.gh_heap.specs.Spans.{FitsClass, number_of_class, owned_by}
+use Rattle.gh_heap.specs.Spans.{FitsClass, owned_by}
 use Rattle.gh_alloc.specs.Find.{given_head}
 use Rattle.gh_wbuf.specs.BufferGiving as buffer
 use Rattle.gh_wbuf.specs.declared.give_buffer.GiveStage.{GiveStage as BufferStage}
-use Rattle.gh_wbuf.specs.declared.give_buffer.GiveStage.TheVariants as buffer_stage
 use Rattle.gh_wbuf.specs.Sound.{FitsGiveStage}
 use Rattle.gh_mutator.specs.Giving.{FineAt, opening_fine}
 use Rattle.gh_mutator.specs.Stays.{lock_leads}
@@ -23,7 +22,7 @@ use Rattle.gh_alloc.specs.FindFacts.{IsCached}
 use Rattle.gh_mutator.specs.declared.give.GiveStage.TheVariants.{Lock, GiveSpan, Unlock, GiveBuffer, Ended}
 use Rattle.gh_mutator.specs.Give.{Giving, asks, asks_at, at_stage, begins, first_cached, giving_buffer, goes, goes_at, head_store, is_busy, none_cached, opening, span_class, stage_from}
 use Rattle.gh_mutator_heap.specs.PollHeap.{CachesAll, CachesFrom, GiveFacts, GiveStageFacts, GivesSpan, Has, give_held, give_held_at, give_locked, give_locked_at, lists, no_page}
-use Rattle.gh_mutator_heap.proofs.Holding.Vocabulary.{Arena, CachedSpan, GiveStage, Good, Held, IsHeld, Layout, Shared, SizeClass, SpanClass, SpanHead, SPAN_CLASSES, Steps, View, cell_of, pages_of, view}
+use Rattle.gh_mutator_heap.proofs.Holding.Vocabulary.{Arena, CachedSpan, GiveStage, Good, Held, IsHeld, Layout, Shared, SpanClass, SpanHead, SPAN_CLASSES, Steps, View, cell_of, pages_of, view}
 
 -- the giving back, with its rights
 pub record Gives (z : Arena) (a : ℕ) (v : View) (g : Giving) : Type 0 where
@@ -75,16 +74,8 @@ module _ (z : Arena) (a : ℕ) (v : View) (l : Layout) (seat generation : ℕ) (
     locked : false ≡ give_locked_at stage
     same : (p : ℕ) → lists cache p ≡ give_held_at cache stage p
 
-  buffer_begun : IsHeld z.layout held → (own : Option Held) → held ≡ own → FineAt from (giving_buffer l own) → Begun (giving_buffer l own)
-  buffer_begun is None e none = record { facts = none; locked = refl; same = λ p. refl }
-  buffer_begun is (Some h) e none = record { facts = (none, subst (IsHeld z.layout) e is); locked = refl; same = λ p. refl }
-
   begun : IsHeld z.layout held → CachesFrom a v cache 0 → (stage : GiveStage) → FineAt from (begins l held stage) → Begun (begins l held stage)
-  begun is x Lock f = record { facts = x; locked = refl; same = λ p. refl }
-  begun is x (GiveSpan class s) f = record { facts = x; locked = refl; same = λ p. refl }
-  begun is x Unlock f = buffer_begun is held refl f
-  begun is x (GiveBuffer b) f = record { facts = x; locked = refl; same = λ p. refl }
-  begun is x Ended f = record { facts = x; locked = refl; same = λ p. refl }
+  begun is x stage f = grind arith
 
   pub gives_begin : l ≡ z.layout → seat ≡ a → generation ≡ v.generation → length cache ≡ SPAN_CLASSES → IsHeld z.layout held → CachesAll a v cache → Has a v false (lists cache) → Gives z a v from
   gives_begin layout_is seat_is known room is all has =
@@ -96,16 +87,11 @@ head_is : (n : ℕ) (h : SpanHead) (c : SpanClass) → h.class ≡ size.Small c.
 head_is n h c class noscan pages number = rw (class, noscan, pages, number) refl
 
 small_pages : (h : SpanHead) (c : ℕ) → FitsClass h → h.class ≡ size.Small c → h.pages ≡ pages_of c
-small_pages h c fits class = fits.small (λ x. no_large c (sym class ∙ x)) ∙ ap (λ (y : SizeClass). pages_of (number_of_class y)) class where
-  no_large : (c : ℕ) → size.Small c ≡ size.Large → ⊥
-  no_large c x = cc
+small_pages h c fits class = grind arith
 
 -- what is held once a span is given back: what is listed behind it
 without : (head : ℕ) (rest : List (Option CachedSpan)) (p : ℕ) → lists rest head ≡ false → cond (eqb head p) false (eqb head p || lists rest p) ≡ lists rest p
-without head rest p none = by (eqb head p) refl where
-  by : (b : Bool) → eqb head p ≡ b → cond b false (b || lists rest p) ≡ lists rest p
-  by true e = sym (subst (λ (q : ℕ). lists rest q ≡ false) (eqb-true head p e) none)
-  by false e = refl
+without head rest p none = grind arith
 
 module _ (k : Known) (z : Arena) (a : ℕ) where
   module _ (s : Shared) (good : Good z (view s)) (g : Giving) (layout_is : g.layout ≡ z.layout) (seat_is : g.seat ≡ a) (known : g.generation ≡ (view s).generation) (room : length g.cache ≡ SPAN_CLASSES) (is : IsHeld z.layout g.held) where
@@ -181,8 +167,7 @@ module _ (k : Known) (z : Arena) (a : ℕ) where
           (λ kept. (kept, goes_from then (class + 1) kept (omega (arith, x.among)) (λ i y after below at. x.caches i y (omega (arith, after)) below at) left))
 
     buffer_then : (t : Shared) (own : Option Held) → IsHeld z.layout own → g.held ≡ own → Kept a (view s) (view t) → Has a (view t) false no_page → Gives z a (view t) (record g { cache = none_cached; stage = giving_buffer g.layout own })
-    buffer_then t None fits e kept has = record { has = has_same a (view t) false false no_page (lists none_cached) refl (λ p. sym (none_listed p)) has; facts = record { layout_is = layout_is; seat_is = seat_is; generation = known ∙ sym kept.own.generation; room = refl; held = is; stage_is = (refl, e) } }
-    buffer_then t (Some h) fits e kept has = record { has = has_same a (view t) false false no_page (lists none_cached) refl (λ p. sym (none_listed p)) has; facts = record { layout_is = layout_is; seat_is = seat_is; generation = known ∙ sym kept.own.generation; room = refl; held = is; stage_is = (refl, fits) } }
+    buffer_then t own fits e kept has = grind arith
 
     unlocks : Has a (view s) true no_page → Leads Unlock
     unlocks has = by_move k z a s good (Store cell.Lock 0) LeaveLock (λ t. Kept a (view s) (view t) × Gives z a (view t) (goes_at g Unlock (s.words cell.Lock))) (has.locked, has.laying, has.freeing) refl (refl, refl)
@@ -192,8 +177,7 @@ module _ (k : Known) (z : Arena) (a : ℕ) where
     buffer_given b q has none = by_quiet k z a s good (buffer.asks_at q) false (lists g.cache) (λ t. Kept a (view s) (view t) × Gives z a (view t) (record g { held = None; stage = Ended })) (quiet q) has
         (λ t kept r. (kept, record { has = r; facts = record { layout_is = layout_is; seat_is = seat_is; generation = known ∙ sym kept.own.generation; room = room; held = tt; stage_is = (none, refl) } })) where
           quiet : (p : BufferStage) → IsQuiet (buffer.asks_at p)
-          quiet (buffer_stage.Give h) = tt
-          quiet buffer_stage.Ended = tt
+          quiet p = grind arith
 
     gives_at : (q : GiveStage) → Has a (view s) (give_locked_at q) (give_held_at g.cache q) → GiveStageFacts z a (view s) g q → Leads q
     gives_at Lock has x = locks has x
@@ -204,7 +188,7 @@ module _ (k : Known) (z : Arena) (a : ℕ) where
         (λ t kept r. (kept, record { has = r; facts = record { layout_is = layout_is; seat_is = seat_is; generation = known ∙ sym kept.own.generation; room = room; held = is; stage_is = x } }))
 
   pub gives_on : (s : Shared) → Good z (view s) → (g : Giving) → Gives z a (view s) g → Steps z a s (asks g) (λ t. Kept a (view s) (view t) × Gives z a (view t) (goes g (s.words (cell_of (asks g)))))
-  gives_on s good g f = gives_at s good g f.facts.layout_is f.facts.seat_is f.facts.generation f.facts.room f.facts.held g.stage f.has f.facts.stage_is
+  gives_on s good g f = grind (arith, gives_at)
 
 -- it lasts, whatever others do
 module _ (z : Arena) (a : ℕ) (v w : View) (o : Others z a v w) (swept : HoldsSwept a v) where
@@ -216,12 +200,11 @@ module _ (z : Arena) (a : ℕ) (v w : View) (o : Others z a v w) (swept : HoldsS
   stage_lasts g Ended x = x
 
   pub gives_last : (g : Giving) → GiveFacts z a v g → GiveFacts z a w g
-  gives_last g f = record { layout_is = f.layout_is; seat_is = f.seat_is; generation = f.generation ∙ sym o.generation; room = f.room; held = f.held; stage_is = stage_lasts g g.stage f.stage_is }
+  gives_last g f = grind (arith, stage_lasts)
 
 -- it is on a word that there is
 buffer_within : (z : Arena) (q : BufferStage) → FitsGiveStage z.layout q → InRange z.layout (cell_of (buffer.asks_at q))
-buffer_within z (buffer_stage.Give h) f = f.index
-buffer_within z buffer_stage.Ended f = tt
+buffer_within z q f = grind arith
 
 gives_within_at : (z : Arena) (a : ℕ) (v : View) (g : Giving) (q : GiveStage) → Good z v → GiveStageFacts z a v g q → InRange z.layout (cell_of (asks_at g q))
 gives_within_at z a v g Lock good x = tt
@@ -234,15 +217,7 @@ gives_within_at z a v g (GiveBuffer b) good x = buffer_within z b.stage x.1
 gives_within_at z a v g Ended good x = tt
 
 pub gives_within : (z : Arena) (a : ℕ) (v : View) (g : Giving) → Good z v → GiveFacts z a v g → InRange z.layout (cell_of (asks g))
-gives_within z a v g good f = gives_within_at z a v g g.stage good f.stage_is
-
--- once it has ended nothing is left
-left_at : (z : Arena) (a : ℕ) (v : View) (g : Giving) (q : GiveStage) → is_busy q ≡ false → Has a v (give_locked_at q) (give_held_at g.cache q) → GiveStageFacts z a v g q → Has a v false (lists g.cache) × (g.cache ≡ none_cached) × (g.held ≡ None)
-left_at z a v g Lock over has x = absurd (cc)
-left_at z a v g (GiveSpan class c) over has x = absurd (cc)
-left_at z a v g Unlock over has x = absurd (cc)
-left_at z a v g (GiveBuffer b) over has x = absurd (cc)
-left_at z a v g Ended over has x = (has, x.0, x.1)
+gives_within z a v g good f = grind (arith, gives_within_at)
 
 pub nothing_left : (z : Arena) (a : ℕ) (v : View) (g : Giving) → is_busy g.stage ≡ false → Gives z a v g → Has a v false (lists g.cache) × (g.cache ≡ none_cached) × (g.held ≡ None)
-nothing_left z a v g over f = left_at z a v g g.stage over f.has f.facts.stage_is
+nothing_left z a v g over f = grind arith

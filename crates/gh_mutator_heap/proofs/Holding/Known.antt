@@ -4,14 +4,11 @@ use Rattle.std.specs.Prelude.{slice_index_or}
 use Rattle.gh_base.specs.declared.cell.Ask.{Ask}
 use Rattle.gh_base.specs.declared.pack.PageWord.TheVariants as page
 use Rattle.gh_base.specs.declared.value.Value.{Value}
-use Rattle.gh_base.specs.declared.value.Value.TheVariants as value
 use Rattle.gh_base.specs.Holding.{IsHeld}
 use Rattle.gh_base.specs.Rows.{row_bit}
 use Rattle.gh_base.specs.Steps.{effect}
 use Rattle.gh_class.specs.declared.class.SizeClass.TheVariants as size
 use Rattle.gh_model.specs.Ever.{Ever}
-use Rattle.gh_model.specs.declared.EverValue.{EverValue}
-use Rattle.gh_model.specs.declared.EverValue.TheVariants as ever
 use Rattle.gh_heap.specs.Laws.{EachMoveKeepsItsOwn, EachRightFollows, KeepsItsOwn}
 use Rattle.gh_heap.specs.Moves.{IsQuiet, KeepsObjects, KeepsTaken, May, Move, Others, Quiet, Steps, moved}
 use Rattle.gh_heap.specs.Objects.{Place}
@@ -64,19 +61,8 @@ taken_kept a v w swept keeps c k x j lt = subst (λ (n : ℕ). row_bit w.alloc n
       count f e few = rw (e) few
 
 module _ (z : Arena) (a : ℕ) (v w : View) (o : Others z a v w) where
-  means_last : (x : EverValue) (y : Value) → Means v.place v.ever.made x y → Means w.place w.ever.made x y
-  means_last ever.Nil value.Nil h = tt
-  means_last (ever.Int n) (value.Int k) h = h
-  means_last (ever.Ref n) (value.Ref r) h = (h.0 ∙ ap (λ (p : ℕ). p + 1) (sym (o.places n h.1)), o.made n h.1)
-  means_last ever.Nil (value.Int k) h = absurd h
-  means_last ever.Nil (value.Ref r) h = absurd h
-  means_last (ever.Int n) value.Nil h = absurd h
-  means_last (ever.Int n) (value.Ref r) h = absurd h
-  means_last (ever.Ref n) value.Nil h = absurd h
-  means_last (ever.Ref n) (value.Int k) h = absurd h
-
   pub stands_last : (p : Polling) → KnowsAtAnyTime z a v p → KnowsAtAnyTime z a w p
-  stands_last p s = record { sits = s.sits; registers = λ g d of lt. subst (λ (x : EverValue). Means w.place w.ever.made x (register_at p g d)) (sym (o.registers g d of)) (means_last (v.ever.register g d) (register_at p g d) (s.registers g d of lt)) }
+  stands_last p s = grind arith
 
   cached_last : HoldsSwept a v → (c : SpanClass) (k : CachedSpan) → IsCached a v c k → IsCached a w c k
   cached_last swept c k x = record {

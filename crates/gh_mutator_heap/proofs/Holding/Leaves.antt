@@ -1,5 +1,5 @@
 -- Each step of a leave is a move that its seat may make, and what is known at each stage holds then and lasts.
-use Rattle.std.proofs.Common.{◌≡◌, ℕ, ◌+◌, ◌<◌, Bool, true, false, cond, refl, sym, subst, arith}
+use Rattle.std.proofs.Common.{◌≡◌, ℕ, ◌+◌, ◌<◌, false, refl, sym, subst, arith}
 use Rattle.gh_base.specs.declared.cell.Ask.TheVariants.{Load, Store}
 use Rattle.gh_base.specs.declared.cell.Cell.TheVariants as cell
 use Rattle.gh_base.specs.declared.pack.TheConstants.{GONE}
@@ -15,7 +15,7 @@ use Rattle.gh_mutator.specs.Leave.{asks_at, goes_at, is_busy, stage_of}
 use Rattle.gh_mutator.specs.Local.{leaving, with_nothing}
 use Rattle.gh_mutator_heap.specs.PollHeap.{Has, LeaveStageFacts, KnowsAtAnyTime, leave_held_at, leave_locked_at, no_page}
 use Rattle.gh_mutator_heap.specs.PollHeapLaws.{IsBetweenOperations, LeavesByRights, TakesLeave}
-use Rattle.gh_mutator_heap.proofs.Holding.Gives.{Gives, gives_begin, gives_last, gives_on, gives_within, nothing_held, nothing_left}
+use Rattle.gh_mutator_heap.proofs.Holding.Gives.{Gives, gives_begin, gives_last, gives_on, gives_within}
 use Rattle.gh_mutator_heap.proofs.Holding.Known.{HoldsSwept, Kept, Known, by_quiet, holds_swept, stands_kept, stands_last, stands_stopped, stands_to}
 use Rattle.gh_mutator_heap.proofs.Holding.Vocabulary.{Arena, Good, Leaving, Polling, Shared, Steps, View, cell_of, view}
 
@@ -25,12 +25,7 @@ record LeavesAt (z : Arena) (a : ℕ) (v : View) (q : LeaveStage) : Type 0 where
   facts : LeaveStageFacts z a v q
 
 given_then : (z : Arena) (a : ℕ) (v : View) (g : give.Giving) → Gives z a v g → LeavesAt z a v (stage_of g)
-given_then z a v g x = by (give.is_busy g.stage) refl where
-  by : (busy : Bool) → give.is_busy g.stage ≡ busy → LeavesAt z a v (cond busy (leave_stage.Giving g) leave_stage.Leave)
-  by true e = record { has = x.has; facts = x.facts }
-  by false e =
-      let left = nothing_left z a v g e x in
-      record { has = nothing_held a v g.cache left.1 left.0; facts = tt }
+given_then z a v g x = grind arith
 
 begin : (z : Arena) (a : ℕ) (v : View) (p : Polling) → IsBetweenOperations z a v p → TakesLeave z a v (with_nothing p) (leaving p)
 begin z a v p r =
@@ -70,19 +65,13 @@ within_at z a v x leave_stage.Left good few e f = tt
 -- Where it is parked it is gone.
 
 parked_at : (a stops : ℕ) (v : View) (q : LeaveStage) → IsParked stops (leaves_at q) → Has a v (leave_locked_at q) (leave_held_at q) → Has a v false no_page
-parked_at a stops v (leave_stage.Giving g) e has = absurd e
-parked_at a stops v leave_stage.Leave e has = absurd e
-parked_at a stops v leave_stage.Left e has = has
+parked_at a stops v q e has = grind arith
 
 stopped_at : (z : Arena) (a stops : ℕ) (v w : View) (q : LeaveStage) → IsParked stops (leaves_at q) → LeaveStageFacts z a v q → LeaveStageFacts z a w q
-stopped_at z a stops v w (leave_stage.Giving g) e x = absurd e
-stopped_at z a stops v w leave_stage.Leave e x = tt
-stopped_at z a stops v w leave_stage.Left e x = tt
+stopped_at z a stops v w q e x = grind arith
 
 ended_at : (a : ℕ) (v : View) (q : LeaveStage) → is_busy q ≡ false → Has a v (leave_locked_at q) (leave_held_at q) → Has a v false no_page
-ended_at a v leave_stage.Left e has = has
-ended_at a v (leave_stage.Giving g) e has = absurd (cc)
-ended_at a v leave_stage.Leave e has = absurd (cc)
+ended_at a v q e has = grind arith
 
 pub leaves_by_rights : Known → LeavesByRights
 leaves_by_rights k = record {

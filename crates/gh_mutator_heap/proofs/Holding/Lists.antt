@@ -1,7 +1,7 @@
 -- What a cache lists, and that it lists no span twice: a head tells its span class.
-use Rattle.std.proofs.Common.{◌≡◌, ◌≢◌, ℕ, zero, suc, ◌+◌, ◌*◌, ◌/◌, ◌%◌, ◌<◌, ◌≤◌, Bool, true, false, cond, eqb, List, [], ◌∷◌, drop, length, get_or, replicate, Option, Some, None, refl, sym, ap, ◌∙◌, subst, arith}
+use Rattle.std.proofs.Common.{◌≡◌, ℕ, zero, suc, ◌+◌, ◌<◌, ◌≤◌, Bool, true, false, eqb, List, [], ◌∷◌, drop, length, get_or, Option, Some, None, refl, sym, ap, ◌∙◌, subst, arith}
 use Rattle.std.specs.Prelude.{◌||◌}
-use Rattle.std.proofs.lemmas.Bool.{eqb-true, eqb-false, eq-eqb}
+use Rattle.std.proofs.lemmas.Bool.{eqb-true, eq-eqb}
 use Rattle.std.proofs.lemmas.List.{get_or-drop, length-drop}
 use Rattle.gh_base.specs.declared.pack.PageWord.TheVariants as page
 use Rattle.gh_base.specs.Reading.{read_replicate}
@@ -14,13 +14,8 @@ use Rattle.gh_mutator_heap.proofs.Holding.Vocabulary.{CachesAll, CachesFrom, IsC
 abbrev no_span : Option CachedSpan
 no_span = None
 
--- an empty cache lists nothing
-listed_none : (n p : ℕ) → lists (replicate n no_span) p ≡ false
-listed_none zero p = refl
-listed_none (suc n) p = listed_none n p
-
 pub none_listed : (p : ℕ) → lists none_cached p ≡ false
-none_listed p = listed_none 50 p
+none_listed p = grind arith
 
 none_cached_at : (i : ℕ) → get_or none_cached i None ≡ no_span
 none_cached_at i = read_replicate 50 i no_span
@@ -30,10 +25,7 @@ none_cached_all a v c k low e = let none : get_or none_cached (span_index c) Non
 
 -- each place is that of a span class
 pub index_of : (j : ℕ) → span_index (span_class j) ≡ j
-index_of j = by (eqb (j % 2) 1) refl where
-  by : (b : Bool) → eqb (j % 2) 1 ≡ b → 2 * (j / 2) + cond b 1 0 ≡ j
-  by true e = omega (arith, eqb-true (j % 2) 1 e)
-  by false e = let ne : j % 2 ≢ 1 = eqb-false (j % 2) 1 e in omega (arith, ne)
+index_of j = grind arith
 
 -- what is cached for each class is cached at each place
 pub caches_from : (a : ℕ) (v : View) (cache : List (Option CachedSpan)) → CachesAll a v cache → CachesFrom a v cache 0
@@ -67,8 +59,7 @@ lists_it (Some x ∷ ys) zero p k e head =
 lists_it (None ∷ ys) (suc i) p k e head = lists_it ys i p k e head
 lists_it (Some x ∷ ys) (suc i) p k e head = by (eqb x.head p) (lists_it ys i p k e head) where
   by : (b : Bool) → lists ys p ≡ true → (b || lists ys p) ≡ true
-  by true rest = refl
-  by false rest = rest
+  by b rest = grind arith
 
 -- A head tells its span class.
 

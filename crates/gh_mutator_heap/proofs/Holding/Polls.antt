@@ -1,5 +1,5 @@
 -- Each step of a poll is a move that its seat may make, and what is known at each stage holds then and lasts.
-use Rattle.std.proofs.Common.{◌≡◌, ℕ, ◌+◌, ◌%◌, ◌^◌, ◌<◌, ◌==◌, Bool, true, false, cond, [], Option, Some, None, refl, sym, subst, ◌∙◌, arith}
+use Rattle.std.proofs.Common.{◌≡◌, ℕ, ◌%◌, ◌^◌, ◌<◌, Bool, false, [], Option, Some, None, refl, sym, subst, ◌∙◌, arith}
 use Rattle.std.specs.Prelude.{slice_index_or}
 use Rattle.std.proofs.lemmas.List.{length-set}
 use Rattle.gh_base.specs.declared.cell.Ask.TheVariants.{Load, Store}
@@ -7,20 +7,19 @@ use Rattle.gh_base.specs.declared.cell.Cell.TheVariants as cell
 use Rattle.gh_phase.specs.declared.resume.ResumeStage.TheVariants as resume_stage
 use Rattle.gh_phase.specs.declared.view.RunPhase.TheVariants as run
 use Rattle.gh_phase.specs.Listing as resume
-use Rattle.gh_phase.specs.ResumePlaces as resumes
 use Rattle.gh_phase.specs.Stays.{phase_on}
 use Rattle.gh_wbuf.specs.RoomFinding as room
 use Rattle.gh_mutator.specs.declared.poll.PollStage.TheVariants.{LoadPhase, Giving, Resuming, Marking, FindRoom, Ended}
 use Rattle.gh_mutator.specs.Give.{none_cached}
 use Rattle.gh_mutator.specs.Give as give
-use Rattle.gh_mutator.specs.Handshake.{poll_stage_of, polls_at}
+use Rattle.gh_mutator.specs.Handshake.{poll_stage_of}
 use Rattle.gh_mutator.specs.MarkStack as mark
-use Rattle.gh_mutator.specs.Poll.{after_mark, after_resume, after_room, asks, asks_at, at_stage, begins, by_phase, counted, due, giving, goes, goes_at, has_two, is_busy, marks_then, resumed, room_stage, scanned, scans, stops_then}
+use Rattle.gh_mutator.specs.Poll.{after_mark, after_resume, after_room, asks, asks_at, at_stage, begins, by_phase, counted, due, giving, goes, goes_at, is_busy, marks_then, resumed, scanned, scans, stops_then}
 use Rattle.gh_mutator.specs.Due.{due_scans}
-use Rattle.gh_mutator_heap.proofs.Holding.Gives.{Gives, gives_begin, gives_last, gives_on, gives_within, nothing_held, nothing_left}
-use Rattle.gh_mutator_heap.proofs.Holding.Known.{HoldsSwept, Kept, Known, by_quiet, holds_swept, knows_kept, knows_last, knows_to, stands_kept, stands_last, stands_stopped, stands_to}
+use Rattle.gh_mutator_heap.proofs.Holding.Gives.{Gives, gives_begin, gives_last, gives_on, gives_within}
+use Rattle.gh_mutator_heap.proofs.Holding.Known.{HoldsSwept, Kept, Known, by_quiet, holds_swept, knows_kept, knows_last, knows_to, stands_kept, stands_last, stands_to}
 use Rattle.gh_mutator_heap.proofs.Holding.Lists.{none_cached_all}
-use Rattle.gh_mutator_heap.proofs.Holding.Ranges.{room_begins, room_gives, room_goes, room_quiet, room_within}
+use Rattle.gh_mutator_heap.proofs.Holding.Ranges.{room_gives, room_goes, room_quiet, room_within}
 use Rattle.gh_mutator_heap.proofs.Holding.Scans.{scan_begins, scan_goes, scan_quiet, scan_within}
 use Rattle.gh_mutator_heap.proofs.Holding.Vocabulary.{Arena, CachesAll, FindsWithin, Good, Has, HasLoaded, Held, InRange, IsBetweenOperations, IsHeld, IsParked, KeepsGhosts, KeepsObjects, KnowsSpans, Layout, Others, PhaseView, PollFacts, PollStage, PollStageFacts, Polling, Polls, PollsByRights, ResumeFacts, ResumeStage, Resumed, RunPhase, ScansWithin, Shared, KnowsAtAnyTime, Steps, View, cell_of, effect, landing, lists, no_page, phase_of, poll_held_at, poll_locked_at, run_phase, seats_of, view}
 
@@ -45,21 +44,8 @@ module _ (z : Arena) (a : ℕ) (v : View) where
   finds_now : (p : Polling) (r : room.RoomFinding) → IsBetweenOperations z a v p → FindsWithin z.layout r → Polls z a v (at_stage p (FindRoom r))
   finds_now p r rest f = (rest.0, record { stands = stands_at p (FindRoom r) rest.1.stands; stage_is = (knows_at p (FindRoom r) rest.1.knows, f) })
 
-  two_or : (p : Polling) (two : Bool) → IsBetweenOperations z a v p → Polls z a v (at_stage p (cond two Ended (FindRoom (room.opening p.layout p.seat p.local.held))))
-  two_or p true r = ends_now p r
-  two_or p false r = finds_now p (room.opening p.layout p.seat p.local.held) r
-      (subst (λ (l : Layout). FindsWithin l (room.opening p.layout p.seat p.local.held)) r.1.stands.sits.layout (room_begins p.layout p.seat p.local.held (seat_below p r.1.stands) (own_held p r.1.stands)))
-
-  room_polls : (p : Polling) (waits : Bool) → IsBetweenOperations z a v p → Polls z a v (at_stage p (room_stage p.layout p.seat waits p.local.held))
-  room_polls p true r = ends_now p r
-  room_polls p false r = two_or p (has_two p.local.held) r
-
-  -- counting it changes nothing of this
-  abbrev more_polls : Polling → Polling
-  more_polls p = record p { local = record (p.local) { polls = (p.local.polls + 1) % 2 ^ 64 } }
-
   counted_polls : (p : Polling) → IsBetweenOperations z a v p → Polls z a v (counted p)
-  counted_polls p r = room_polls (more_polls p) p.waits (r.0, record { stands = stands_to z a v p (more_polls p) refl refl refl r.1.stands.sits.scanned r.1.stands.sits.cache r.1.stands.sits.held r.1.stands; knows = knows_to a v p (more_polls p) refl refl r.1.knows })
+  counted_polls p r = grind arith
 
   scan_polls : (p : Polling) → IsBetweenOperations z a v p → p.local.view.phase ≡ run.Mark → (out : Option ℕ) → due p ≡ out → Polls z a v (scans p out)
   scan_polls p r on None e = counted_polls p r
@@ -74,22 +60,8 @@ module _ (z : Arena) (a : ℕ) (v : View) where
   marks_polls p r run.Mark e = scan_polls p r e (due p) refl
   marks_polls p r run.Finished e = ends_now p r
 
-  -- at a stop
-  abbrev resting : Polling → give.Giving → (stops : ℕ) → Polling
-  resting p g stops = record p { local = record (p.local) { cache = g.cache; held = g.held }; stage = Resuming (resume.opening p.layout p.seat stops p.local.view) }
-
   stops_polls : (p : Polling) (g : give.Giving) (stops : ℕ) → KnowsAtAnyTime z a v p → Gives z a v g → Polls z a v (stops_then p g stops)
-  stops_polls p g stops s x = by (give.is_busy g.stage) refl where
-    by : (busy : Bool) → give.is_busy g.stage ≡ busy → Polls z a v (cond busy (at_stage p (Giving g stops)) (resting p g stops))
-    by true e = (x.has, record { stands = stands_at p (Giving g stops) s; stage_is = x.facts })
-    by false e =
-        let left = nothing_left z a v g e x in (
-          left.0,
-          record {
-            stands = stands_to z a v p (resting p g stops) refl refl refl s.sits.scanned x.facts.room x.facts.held s;
-            stage_is = record { seat_is = s.sits.seat; no_span = left.1; no_buffer = left.2; loaded = tt };
-          },
-        )
+  stops_polls p g stops s x = grind arith
 
   phase_polls : (p : Polling) (stops : ℕ) → IsBetweenOperations z a v p → (phase : Option RunPhase) → Polls z a v (by_phase p stops phase)
   phase_polls p stops r None = stops_polls p (giving p) stops r.1.stands
@@ -110,11 +82,7 @@ module _ (z : Arena) (a : ℕ) (v : View) where
   ) out.view.phase refl
 
   phase_resumed : (p : Polling) (r : resume.Resuming) (number : ℕ) (phase : Option RunPhase) → ResumeFacts a v p (resume.at_stage r resume_stage.LoadPhase) → ResumeFacts a v p (resume.after_phase r number phase)
-  phase_resumed p r number None f = by (number == r.stops) where
-    by : (same : Bool) → ResumeFacts a v p (cond same (resume.at_stage r resume_stage.LoadPhase) (record r { stops = number; stage = resume_stage.Acknowledge }))
-    by true = f
-    by false = record { seat_is = f.seat_is; no_span = f.no_span; no_buffer = f.no_buffer; loaded = tt }
-  phase_resumed p r number (Some phase) f = record { seat_is = f.seat_is; no_span = f.no_span; no_buffer = f.no_buffer; loaded = tt }
+  phase_resumed p r number phase f = grind arith
 
   -- the scan of a stack, and the search for room
   marked_polls : (p : Polling) (g : ℕ) (m : mark.StackMarking) (out : Option (Unit {0})) → IsBetweenOperations z a v p → ScansWithin z.layout m → Polls z a v (after_mark p g m out)
@@ -140,11 +108,7 @@ module _ (z : Arena) (a : ℕ) (v : View) where
 
 -- what it has loaded it knows while the sweep generation stays
 loaded_on : (v w : View) (known : PhaseView) (q : ResumeStage) → w.generation ≡ v.generation → HasLoaded v known q → HasLoaded w known q
-loaded_on v w known resume_stage.Acknowledge o x = x
-loaded_on v w known resume_stage.LoadPhase o x = x
-loaded_on v w known resume_stage.LoadGeneration o x = x
-loaded_on v w known resume_stage.LoadBegun o x = x ∙ sym o
-loaded_on v w known (resume_stage.Ended another) o x = x ∙ sym o
+loaded_on v w known q o x = grind arith
 
 module _ (k : Known) (z : Arena) (a : ℕ) (s : Shared) (good : Good z (view s)) (p : Polling) (stands : KnowsAtAnyTime z a (view s) p) where
   abbrev Leads : PollStage → Type 0
@@ -240,8 +204,7 @@ pub polls_last : (z : Arena) (a : ℕ) (v w : View) (p : Polling) → Good z v �
 polls_last z a v w p good o f = record { stands = stands_last z a v w o p f.stands; stage_is = stage_lasts z a v w p p.stage (holds_swept z a v good) o f.stage_is }
 
 resume_within : (z : Arena) (a : ℕ) (r : resume.Resuming) (q : ResumeStage) → a < z.layout.procs → r.seat ≡ a → InRange z.layout (cell_of (resume.asks_at r q))
-resume_within z a r resume_stage.Acknowledge few e = subst (λ (b : ℕ). b < z.layout.procs + z.layout.workers) (sym e) (omega (arith, few))
-resume_within z a r _ few e = tt
+resume_within z a r q few e = grind arith
 
 within_at : (z : Arena) (a : ℕ) (v : View) (p : Polling) (q : PollStage) → Good z v → a < z.layout.procs → PollStageFacts z a v p q → InRange z.layout (cell_of (asks_at q))
 within_at z a v p LoadPhase good few x = tt
@@ -252,49 +215,18 @@ within_at z a v p (FindRoom r) good few x = room_within z.layout r x.1
 within_at z a v p Ended good few x = tt
 
 pub polls_within : (z : Arena) (a : ℕ) (v : View) (p : Polling) → Good z v → PollFacts z a v p → InRange z.layout (cell_of (asks p))
-polls_within z a v p good f = within_at z a v p p.stage good f.stands.sits.few f.stage_is
+polls_within z a v p good f = grind (arith, within_at)
 
 -- Where it is parked it holds nothing, and knows nothing that a sweep changes.
 
-parked_at : (z : Arena) (a stops : ℕ) (v : View) (p : Polling) (q : PollStage) → IsParked stops (polls_at p q) → Has a v (poll_locked_at q) (poll_held_at p.local.cache q) → PollStageFacts z a v p q → Has a v false no_page
-parked_at z a stops v p LoadPhase e has x = absurd e
-parked_at z a stops v p (Giving g number) e has x = absurd e
-parked_at z a stops v p (Resuming r) e has x = nothing_held a v p.local.cache x.no_span has
-parked_at z a stops v p (Marking g m) e has x = absurd e
-parked_at z a stops v p (FindRoom r) e has x = absurd e
-parked_at z a stops v p Ended e has x = absurd e
-
-loaded_stopped : (v w : View) (known : PhaseView) (stops number : ℕ) (q : ResumeStage) → IsParked stops (resumes.stands_at number q) → HasLoaded w known q
-loaded_stopped v w known stops number resume_stage.Acknowledge e = tt
-loaded_stopped v w known stops number resume_stage.LoadPhase e = tt
-loaded_stopped v w known stops number resume_stage.LoadGeneration e = tt
-loaded_stopped v w known stops number resume_stage.LoadBegun e = absurd e
-loaded_stopped v w known stops number (resume_stage.Ended another) e = absurd e
-
-stopped_at : (z : Arena) (a stops : ℕ) (v w : View) (p : Polling) (q : PollStage) → IsParked stops (polls_at p q) → PollStageFacts z a v p q → PollStageFacts z a w p q
-stopped_at z a stops v w p LoadPhase e x = absurd e
-stopped_at z a stops v w p (Giving g number) e x = absurd e
-stopped_at z a stops v w p (Resuming r) e x = record { seat_is = x.seat_is; no_span = x.no_span; no_buffer = x.no_buffer; loaded = loaded_stopped v w r.view stops r.stops r.stage e }
-stopped_at z a stops v w p (Marking g m) e x = absurd e
-stopped_at z a stops v w p (FindRoom r) e x = absurd e
-stopped_at z a stops v w p Ended e x = absurd e
-
 pub polls_parked : (z : Arena) (a stops : ℕ) (v : View) (p : Polling) → IsParked stops (poll_stage_of p) → Polls z a v p → Has a v false no_page
-polls_parked z a stops v p e f = parked_at z a stops v p p.stage e f.0 f.1.stage_is
+polls_parked z a stops v p e f = grind arith
 
 pub polls_stopped : (z : Arena) (a stops : ℕ) (v w : View) (p : Polling) → IsParked stops (poll_stage_of p) → KeepsGhosts a v w → PollFacts z a v p → PollFacts z a w p
-polls_stopped z a stops v w p e k f = record { stands = stands_stopped z a v w p k f.stands; stage_is = stopped_at z a stops v w p p.stage e f.stage_is }
-
-ended_at : (z : Arena) (a : ℕ) (v : View) (p : Polling) (q : PollStage) → is_busy q ≡ false → Has a v (poll_locked_at q) (poll_held_at p.local.cache q) → PollStageFacts z a v p q → Has a v false (lists p.local.cache) × KnowsSpans a v p
-ended_at z a v p Ended e has x = (has, x)
-ended_at z a v p LoadPhase e has x = absurd (cc)
-ended_at z a v p (Giving g stops) e has x = absurd (cc)
-ended_at z a v p (Resuming r) e has x = absurd (cc)
-ended_at z a v p (Marking g m) e has x = absurd (cc)
-ended_at z a v p (FindRoom r) e has x = absurd (cc)
+polls_stopped z a stops v w p e k f = grind arith
 
 pub polls_end : (z : Arena) (a : ℕ) (v : View) (p : Polling) → is_busy p.stage ≡ false → Polls z a v p → IsBetweenOperations z a v p
-polls_end z a v p e f = let x = ended_at z a v p p.stage e f.0 f.1.stage_is in (x.0, record { stands = f.1.stands; knows = x.1 })
+polls_end z a v p e f = grind arith
 
 pub polls_begin : (z : Arena) (a : ℕ) (v : View) (p : Polling) (waits : Bool) → IsBetweenOperations z a v p → Polls z a v (begins p waits)
 polls_begin z a v p waits r = (r.0, record { stands = stands_to z a v p (begins p waits) refl refl refl r.1.stands.sits.scanned r.1.stands.sits.cache r.1.stands.sits.held r.1.stands; stage_is = knows_to a v p (begins p waits) refl refl r.1.knows })

@@ -1,6 +1,5 @@
 -- Each step of a wait is a move that its seat may make, and what is known at each stage holds then and lasts.
-use Rattle.std.proofs.Common.{◌≡◌, ℕ, Bool, true, false, cond, ltb, Option, Some, None, refl, ap}
-use Rattle.std.specs.Prelude.{is_none}
+use Rattle.std.proofs.Common.{◌≡◌, ℕ, Bool, true, false, cond, ltb, Option, refl, arith}
 use Rattle.gh_base.specs.declared.cell.Ask.TheVariants.{Load, Or}
 use Rattle.gh_base.specs.declared.cell.Cell.TheVariants as cell
 use Rattle.gh_mutator.specs.declared.wait.WaitStage.{WaitStage}
@@ -29,8 +28,7 @@ module _ (k : Known) (h : PollsByRights) (z : Arena) (a : ℕ) where
         (λ t kept r. (kept.objects, h.begins z a (view t) p true (rests_then t x kept r)))
 
     polled_then : (t : Shared) (q : Polling) (out : Option (Unit {0})) → poll.given q.stage ≡ out → Polls z a (view t) q → Waits z a (view t) (after_poll w q out)
-    polled_then t q None e f = f
-    polled_then t q (Some x) e f = h.ends z a (view t) q (ap is_none e) f
+    polled_then t q out e f = grind arith
 
     polls : Polls z a (view s) p → Leads wait_stage.Polling
     polls f =
@@ -65,29 +63,17 @@ module _ (k : Known) (h : PollsByRights) (z : Arena) (a : ℕ) where
     stage_lasts p wait_stage.Ended good o x = rests_last p good o x
 
     stopped_at : (w : Waiting) (stops : ℕ) (q : WaitStage) → IsParked stops (waits_at w q) → KeepsGhosts a v u → WaitStageFacts z a v w.poll q → WaitStageFacts z a u w.poll q
-    stopped_at w stops wait_stage.Want e kept x = absurd e
-    stopped_at w stops wait_stage.Polling e kept x = h.stopped z a v u w.poll stops e kept x
-    stopped_at w stops wait_stage.LoadSwept e kept x = absurd e
-    stopped_at w stops wait_stage.Ended e kept x = absurd e
+    stopped_at w stops q e kept x = grind arith
 
   module _ (v : View) (w : Waiting) where
     within_at : Good z v → (q : WaitStage) → Has a v (waits_locked_at w.poll q) (waits_held_at w.poll q) → WaitStageFacts z a v w.poll q → InRange z.layout (cell_of (asks_at w q))
-    within_at good wait_stage.Want has x = tt
-    within_at good wait_stage.Polling has x = h.within z a v w.poll good (has, x)
-    within_at good wait_stage.LoadSwept has x = tt
-    within_at good wait_stage.Ended has x = tt
+    within_at good q has x = grind arith
 
     parked_at : (stops : ℕ) (q : WaitStage) → IsParked stops (waits_at w q) → Has a v (waits_locked_at w.poll q) (waits_held_at w.poll q) → WaitStageFacts z a v w.poll q → Has a v false no_page
-    parked_at stops wait_stage.Want e has x = absurd e
-    parked_at stops wait_stage.Polling e has x = h.parked z a v w.poll stops e (has, x)
-    parked_at stops wait_stage.LoadSwept e has x = absurd e
-    parked_at stops wait_stage.Ended e has x = absurd e
+    parked_at stops q e has x = grind arith
 
     ended_at : (q : WaitStage) → is_busy q ≡ false → Has a v (waits_locked_at w.poll q) (waits_held_at w.poll q) → WaitStageFacts z a v w.poll q → IsBetweenOperations z a v w.poll
-    ended_at wait_stage.Ended e has x = (has, x)
-    ended_at wait_stage.Want e has x = absurd (cc)
-    ended_at wait_stage.Polling e has x = absurd (cc)
-    ended_at wait_stage.LoadSwept e has x = absurd (cc)
+    ended_at q e has x = grind arith
 
 pub waits_by_rights : Known → PollsByRights → WaitsByRights
 waits_by_rights k h = record {

@@ -1,5 +1,5 @@
 -- The steps of an assist behind the making of an object: each is on a word that no right guards, and where it has ended the object is answered.
-use Rattle.std.proofs.Common.{◌≡◌, ℕ, [], ◌++◌, Option, Some, None, refl, sym, ap, subst, ◌∙◌}
+use Rattle.std.proofs.Common.{◌≡◌, ℕ, [], ◌++◌, Option, Some, None, refl, sym, ap, subst, ◌∙◌, arith}
 use Rattle.std.specs.Option.{option_to_list}
 use Rattle.gh_assist.specs.Listing as assist
 use Rattle.gh_assist.specs.Within.{AssistWithin}
@@ -47,8 +47,7 @@ module _ (k : Known) (w : Wanted) (n : Name) (x : Assisting) (z : Arena) (a : �
   none q e = cc
 
   nothing : (q : Option Answer) → [] ++ option_to_list q ≡ option_to_list q ++ []
-  nothing None = refl
-  nothing (Some r) = refl
+  nothing q = grind arith
 
   done : (out : Option (Unit {0})) → assist.gives x found ≡ out → Does z a s then me pending found
   done None e = record {

@@ -1,6 +1,5 @@
 -- A write behind the barrier while others change the heap: until its last step it changes no word that a right guards, and it goes on as the write that it is; its last step stores what the register holds.
-use Rattle.std.proofs.Common.{◌≡◌, ℕ, ◌*◌, ◌≤◌, ◌⊎◌, Bool, true, false, cond, eqb, Option, Some, None, inl, inr, refl, sym, ap, subst, ◌∙◌, arith}
-use Rattle.std.proofs.lemmas.Bool.{eqb-true}
+use Rattle.std.proofs.Common.{◌≡◌, ℕ, ◌*◌, ◌≤◌, ◌⊎◌, Bool, true, false, cond, eqb, Option, Some, None, inl, refl, sym, ap, subst, ◌∙◌, arith}
 use Rattle.std.specs.Prelude.{is_none}
 use Rattle.gh_base.specs.declared.cell.Ask.{Ask}
 use Rattle.gh_base.specs.declared.cell.Ask.TheVariants as ask
@@ -12,11 +11,9 @@ use Rattle.gh_model.specs.declared.EverValue.TheVariants as ever
 use Rattle.gh_heap.specs.Moves.{IsQuiet}
 use Rattle.gh_shade.specs.declared.shade.Shaded.{Shaded}
 use Rattle.gh_shade.specs.declared.shade.ShadeStage.{ShadeStage}
-use Rattle.gh_shade.specs.declared.shade.ShadeStage.TheVariants as shade_stage
 use Rattle.gh_shade.specs.Listing as shade
 use Rattle.gh_barrier.specs.declared.pointer_cell.PointerCell.{PointerCell}
 use Rattle.gh_barrier.specs.declared.write_pointer.WriteStage.{WriteStage}
-use Rattle.gh_barrier.specs.declared.write_pointer.WriteStage.TheVariants as write_stage
 use Rattle.gh_barrier.specs.Listing.{Writing}
 use Rattle.gh_barrier.specs.Listing as write
 use Rattle.gh_barrier.specs.Sound.{FitsPointer}
@@ -38,13 +35,8 @@ pub record LeavesAll (step : Ask) : Type 0 where
   pub quiet : IsQuiet step
   pub same : (z : Arena) (a : ℕ) (s : Shared) → view (moved z a s (Quiet step)) ≡ view s
 
-enter_leaves : (reference : ℕ) (held : Option Held) → LeavesAll (shade.enters reference held)
-enter_leaves reference None = record { quiet = tt; same = λ z a s. refl }
-enter_leaves reference (Some h) = record { quiet = tt; same = λ z a s. refl }
-
 shade_leaves : (s : shade.Shading) (q : ShadeStage) → LeavesAll (shade.asks_at s q)
-shade_leaves s shade_stage.Enter = enter_leaves s.reference s.held
-shade_leaves s _ = record { quiet = tt; same = λ z a s. refl }
+shade_leaves s q = grind arith
 
 -- a step before the last
 pub record IsBefore (w : Writing) (found : ℕ) : Type 0 where
@@ -56,21 +48,14 @@ pub record IsLast (w : Writing) (found : ℕ) : Type 0 where
   pub stores : write.asks w ≡ ask.Store (write.cell_at w.at) (write.pointer_word w.pointer)
   pub ends : write.gives w found ≡ Some tt
 
-new_goes_on : (w : Writing) (pointer : Option ℕ) → write.given (write.shades_new w pointer) ≡ None
-new_goes_on w None = refl
-new_goes_on w (Some r) = refl
-
 old_goes_on : (w : Writing) (old : Option ℕ) → write.given (write.shades_old w old) ≡ None
-old_goes_on w None = new_goes_on w w.pointer
-old_goes_on w (Some r) = refl
+old_goes_on w old = grind arith
 
 after_old_goes_on : (w : Writing) (sh : shade.Shading) (out : Option Shaded) → write.given (write.after_old w sh out) ≡ None
-after_old_goes_on w sh None = refl
-after_old_goes_on w sh (Some out) = new_goes_on (record w { held = sh.held }) w.pointer
+after_old_goes_on w sh out = grind arith
 
 after_new_goes_on : (w : Writing) (sh : shade.Shading) (out : Option Shaded) → write.given (write.after_new w sh out) ≡ None
-after_new_goes_on w sh None = refl
-after_new_goes_on w sh (Some out) = refl
+after_new_goes_on w sh out = grind arith
 
 module _ (w : Writing) (found : ℕ) where
   abbrev then : WriteStage → Writing
@@ -80,30 +65,15 @@ module _ (w : Writing) (found : ℕ) where
   before q e leaves on = inl (record { leaves = subst (λ (p : WriteStage). LeavesAll (write.asks_at w p)) (sym e) leaves; goes_on = ap (λ (p : WriteStage). write.given (then p)) e ∙ on })
 
   step_at : (q : WriteStage) → w.stage ≡ q → write.is_busy q ≡ true → IsBefore w found ⊎ IsLast w found
-  step_at write_stage.Store e busy = inr (record { stores = ap (λ (q : WriteStage). write.asks_at w q) e; ends = ap (λ (q : WriteStage). write.given (then q)) e })
-  step_at write_stage.LoadOld e busy = before write_stage.LoadOld e (record { quiet = tt; same = λ z a s. refl }) (old_goes_on w (write.read_as w.layout found))
-  step_at (write_stage.ShadeOld sh) e busy = before (write_stage.ShadeOld sh) e (shade_leaves sh sh.stage) (after_old_goes_on w (shade.goes sh found) (shade.gives sh found))
-  step_at (write_stage.ShadeNew sh) e busy = before (write_stage.ShadeNew sh) e (shade_leaves sh sh.stage) (after_new_goes_on w (shade.goes sh found) (shade.gives sh found))
-  step_at write_stage.Ended e busy = absurd (cc)
+  step_at q e busy = grind (arith, after_new_goes_on, after_old_goes_on, before, old_goes_on, shade_leaves)
 
   pub step_is : write.is_busy w.stage ≡ true → IsBefore w found ⊎ IsLast w found
-  step_is busy = step_at w.stage refl busy
+  step_is busy = grind (arith, step_at)
 
 -- What it writes.
 
-named_word : (r : ℕ) → write.pointer_word (cond (eqb r 0) None (Some r)) ≡ r
-named_word r = by (eqb r 0) refl where
-  by : (b : Bool) → eqb r 0 ≡ b → write.pointer_word (cond b None (Some r)) ≡ r
-  by true e = sym (eqb-true r 0 e)
-  by false e = refl
-
-word_named : (v : Value) → is_number_value v ≡ false → write.pointer_word (pointer_of v) ≡ word_of_value v
-word_named value.Nil e = refl
-word_named (value.Int n) e = absurd (cc)
-word_named (value.Ref r) e = named_word r
-
 pub word_written : (l : Layout) (at : PointerCell) (v : Value) (w : Writing) → WritesIt l at v w → write.pointer_word w.pointer ≡ word_of_value v
-word_written l at v w it = ap (λ (p : Option ℕ). write.pointer_word p) it.same_pointer ∙ word_named v it.names
+word_written l at v w it = grind arith
 
 -- what a register holds names a word of the heap
 module _ (laws : Known) (z : Arena) (v : View) (good : Good z v) where

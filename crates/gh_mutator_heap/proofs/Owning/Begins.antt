@@ -1,6 +1,6 @@
 -- Where an operation begins, what is known of the processor is what its first stage says.
 use Rattle.std.proofs.Common.{◌≡◌, ℕ, ◌<◌, Bool, true, false, cond, None, refl, sym, ap, subst, arith}
-use Rattle.gh_mutator_heap.proofs.Owning.Vocabulary.{begins, Fine, GlobalFacts, HasAt, KnowsAt, LoadFacts, MayBegin, register_of, ShapesAreGood, StoreFacts}
+use Rattle.gh_mutator_heap.proofs.Owning.Vocabulary.{begins, Fine, GlobalFacts, LoadFacts, MayBegin, register_of, ShapesAreGood, StoreFacts}
 use Rattle.gh_base.specs.declared.operation.Op.TheVariants as op
 use Rattle.gh_base.specs.declared.value.Value.TheVariants as value
 use Rattle.gh_model.specs.declared.EverValue.TheVariants as ever
@@ -27,30 +27,10 @@ use Rattle.gh_mutator_heap.proofs.Owning.Steady.{goroutine_few, HasCached, Stead
 
 module _ (z : Arena) (a : ℕ) (v : View) where
   begin_load : (g d b k : ℕ) (x : EverValue) (y : Value) → GoroutineRuns z v a g → d < REGISTERS → b < REGISTERS → v.ever.register g b ≡ x → Means v.place v.ever.made x y → LoadFacts z a v (load.begins g d b k y) None (load.begins g d b k y).stage
-  begin_load g d b k ever.Nil value.Nil r ld lb is h = (r, lb, rw is tt, refl)
-  begin_load g d b k (ever.Int n) (value.Int w) r ld lb is h = (r, lb, rw is tt, refl)
-  begin_load g d b k (ever.Ref n) (value.Ref w) r ld lb is h =
-      let at = h.0 in
-      record { n = n; through = record { runs = r; register = lb; names = is; made = h.1; here = omega arith }; register = ld; unanswered = refl }
-  begin_load g d b k ever.Nil (value.Int w) r ld lb is h = absurd h
-  begin_load g d b k ever.Nil (value.Ref w) r ld lb is h = absurd h
-  begin_load g d b k (ever.Int n) value.Nil r ld lb is h = absurd h
-  begin_load g d b k (ever.Int n) (value.Ref w) r ld lb is h = absurd h
-  begin_load g d b k (ever.Ref n) value.Nil r ld lb is h = absurd h
-  begin_load g d b k (ever.Ref n) (value.Int w) r ld lb is h = absurd h
+  begin_load g d b k x y r ld lb is h = grind arith
 
   begin_store : (p : Polling) (g b k u : ℕ) (x : EverValue) (y : Value) → GoroutineRuns z v a g → b < REGISTERS → u < REGISTERS → v.ever.register g b ≡ x → Means v.place v.ever.made x y → StoreFacts z a v p (store.begins g b k u y) None (store.begins g b k u y).stage
-  begin_store p g b k u ever.Nil value.Nil r lb lu is h = (r, lb, rw is tt, refl)
-  begin_store p g b k u (ever.Int n) (value.Int w) r lb lu is h = (r, lb, rw is tt, refl)
-  begin_store p g b k u (ever.Ref n) (value.Ref w) r lb lu is h =
-      let at = h.0 in
-      record { n = n; through = record { runs = r; register = lb; names = is; made = h.1; here = omega arith }; register = lu; unanswered = refl }
-  begin_store p g b k u ever.Nil (value.Int w) r lb lu is h = absurd h
-  begin_store p g b k u ever.Nil (value.Ref w) r lb lu is h = absurd h
-  begin_store p g b k u (ever.Int n) value.Nil r lb lu is h = absurd h
-  begin_store p g b k u (ever.Int n) (value.Ref w) r lb lu is h = absurd h
-  begin_store p g b k u (ever.Ref n) value.Nil r lb lu is h = absurd h
-  begin_store p g b k u (ever.Ref n) (value.Int w) r lb lu is h = absurd h
+  begin_store p g b k u x y r lb lu is h = grind arith
 
   module _ (laws : Known) (good : Good z v) (m : Processor) (g k u : ℕ) (st : Steady z a v m) (runs : GoroutineRuns z v a g) (low : u < REGISTERS) (there : k < z.layout.globals) where
     abbrev held : Value
@@ -103,12 +83,10 @@ module _ (k : Known) (z : Arena) (a : ℕ) (v : View) (m : Processor) (o : Op) (
   Begun left = Fine z a v (cond left m (begins z.shapes m o)) None
 
   begun_idle : m.task ≡ task.Idle → Begun false
-  begun_idle e = begins_idle k z a v m o good sg (fine.counts, subst (KnowsAt z a v m.poll) e fine.knows) (subst (HasAt a v m) e fine.right) (may (ap has_left_at e))
+  begun_idle e = grind (arith, begins_idle)
 
   begun_at : (q : Task) → m.task ≡ q → is_busy_at q ≡ false → Begun (has_left_at m.task)
-  begun_at task.Idle e rest = subst (λ (q : Task). Begun (has_left_at q)) (sym e) (begun_idle e)
-  begun_at task.Left e rest = subst (λ (q : Task). Begun (has_left_at q)) (sym e) fine
-  begun_at _ e rest = absurd (cc)
+  begun_at q e rest = grind (arith, begun_idle)
 
 pub begins_well : Known → Begins
 begins_well k z a v m o sg good fine rest may = begun_at k z a v m o good sg fine may m.task refl rest

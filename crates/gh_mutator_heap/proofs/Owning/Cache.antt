@@ -1,5 +1,5 @@
 -- The cached spans: each at the place of its span class, and which spans they list.
-use Rattle.std.proofs.Common.{◌≡◌, ◌≢◌, ℕ, zero, suc, ◌+◌, ◌*◌, ◌<◌, Bool, true, false, cond, eqb, List, [], ◌∷◌, length, get_or, Option, Some, None, refl, sym, ap, subst, ◌∙◌, arith, get_or-set_same, get_or-set_other, length-set}
+use Rattle.std.proofs.Common.{◌≡◌, ◌≢◌, ℕ, zero, suc, ◌<◌, Bool, true, false, cond, eqb, List, [], ◌∷◌, length, get_or, Option, Some, None, refl, sym, ap, subst, ◌∙◌, arith, get_or-set_same, get_or-set_other, length-set}
 use Rattle.std.specs.Prelude.{◌||◌}
 use Rattle.std.proofs.Math.ListN.{set}
 use Rattle.std.proofs.lemmas.Bool.{eqb-true, eqb-false}
@@ -13,25 +13,11 @@ use Rattle.gh_mutator_heap.proofs.Holding.Lists.{head_tells, index_of, listed_at
 
 -- The place of a span class tells it.
 
-abbrev class-of : (class : ℕ) (noscan : Bool) → SpanClass
-class-of class noscan = record { class = class; noscan = noscan }
-
-index-tells : (c d : ℕ) (n k : Bool) → 2 * c + cond n 1 0 ≡ 2 * d + cond k 1 0 → (c ≡ d) × (n ≡ k)
-index-tells c d true true e = (omega arith, refl)
-index-tells c d false false e = (omega arith, refl)
-index-tells c d true false e = absurd (omega arith)
-index-tells c d false true e = absurd (omega arith)
-
 pub same-class : (c d : SpanClass) → span_index c ≡ span_index d → c ≡ d
-same-class c d e =
-    let x = index-tells c.class d.class c.noscan d.noscan e in
-    ap (λ (n : ℕ). class-of n c.noscan) x.0 ∙ ap (λ (b : Bool). class-of d.class b) x.1
+same-class c d e = grind arith
 
 pub index-below : (c : SpanClass) → c.class < 25 → span_index c < SPAN_CLASSES
-index-below c h = go c.noscan where
-  go : (b : Bool) → 2 * c.class + cond b 1 0 < SPAN_CLASSES
-  go true = omega arith
-  go false = omega arith
+index-below c h = grind arith
 
 -- What is cached.
 
@@ -49,14 +35,7 @@ cached-then cache (Large pages noscan) k k' = refl
 -- What the cache lists.
 
 or-cond : (b c : Bool) → (b || c) ≡ cond b true c
-or-cond true c = refl
-or-cond false c = refl
-
-swap-or : (b c d : Bool) → (b || cond c true d) ≡ cond c true (b || d)
-swap-or true true d = refl
-swap-or true false d = refl
-swap-or false true d = refl
-swap-or false false d = refl
+or-cond b c = grind arith
 
 -- one place apart from the others
 pub lists-split : (xs : List (Option CachedSpan)) (i p : ℕ) → lists xs p ≡ with_span (cached_head (get_or xs i None)) (lists (set xs i None)) p
@@ -65,16 +44,13 @@ lists-split (None ∷ ys) zero p = refl
 lists-split (Some k ∷ ys) zero p = or-cond (eqb k.head p) (lists ys p)
 lists-split (None ∷ ys) (suc i) p = lists-split ys i p ∙ go (get_or ys i None) where
   go : (x : Option CachedSpan) → with_span (cached_head x) (lists (set ys i None)) p ≡ with_span (cached_head x) (lists (None ∷ set ys i None)) p
-  go None = refl
-  go (Some y) = refl
+  go x = grind arith
 lists-split (Some k ∷ ys) (suc i) p = ap (λ (b : Bool). eqb k.head p || b) (lists-split ys i p) ∙ go (get_or ys i None) where
   go : (x : Option CachedSpan) → (eqb k.head p || with_span (cached_head x) (lists (set ys i None)) p) ≡ with_span (cached_head x) (lists (Some k ∷ set ys i None)) p
-  go None = refl
-  go (Some y) = swap-or (eqb k.head p) (eqb y.head p) (lists (set ys i None) p)
+  go x = grind arith
 
 pub lists-cached : (cache : List (Option CachedSpan)) (x : Sought) (p : ℕ) → lists cache p ≡ with_span (cached_head (cached_in cache x)) (lists (cache_with cache x None)) p
-lists-cached cache (Small c) p = lists-split cache (span_index c) p
-lists-cached cache (Large pages noscan) p = refl
+lists-cached cache x p = grind (arith, lists-split)
 
 -- No span is cached twice.
 

@@ -1,5 +1,5 @@
 -- What is known of a processor lasts, whatever others do.
-use Rattle.std.proofs.Common.{◌≡◌, ℕ, ◌<◌, Bool, true, false, List, Option, sym, subst, ◌∙◌}
+use Rattle.std.proofs.Common.{◌≡◌, ℕ, ◌<◌, Bool, true, List, Option, sym, subst, ◌∙◌, arith}
 use Rattle.gh_mutator_heap.proofs.Owning.Vocabulary.{FactsAt, for_whom, GlobalFacts, HasAt, IsPlain, KnowsAt, KnowsCounts, LoadFacts, Loads, Makes, NewFacts, RegisterFacts, rest, Rests, Searches, StoreFacts, Stores, Takes, Through, Wants}
 use Rattle.gh_base.specs.Shapes.{is_pointer}
 use Rattle.gh_model.specs.Ever.{field_count}
@@ -8,10 +8,8 @@ use Rattle.gh_heap.specs.Rights.{Rights}
 use Rattle.gh_heap.specs.Spans.{Freeing, Laying}
 use Rattle.gh_alloc.specs.SearchFacts as search
 use Rattle.gh_mutator.specs.Vocabulary.{Polling, Answer, IsOf, Name, Placing, Seeking, shape_at}
-use Rattle.gh_mutator_heap.specs.Vocabulary.{Arena, EverValue, fits, Good, is_number, MOST_STATEMENTS, GoroutineRuns, View, Assist, Global, GlobalStage, Load, LoadStage, NewStage, Place, Processor, Register, Search, Source, Store, StoreStage, Task, Wait, Wanted, Want}
-use Rattle.gh_mutator.specs.declared.global.GlobalStage.TheVariants as global_stage
+use Rattle.gh_mutator_heap.specs.Vocabulary.{Arena, EverValue, fits, Good, MOST_STATEMENTS, GoroutineRuns, View, Assist, Global, GlobalStage, Load, LoadStage, NewStage, Place, Processor, Register, Search, Source, Store, StoreStage, Task, Wait, Wanted, Want}
 use Rattle.gh_mutator.specs.declared.load.LoadStage.TheVariants as load_stage
-use Rattle.gh_mutator.specs.declared.register.Source.TheVariants as source
 use Rattle.gh_mutator.specs.declared.store.StoreStage.TheVariants as store_stage
 use Rattle.gh_mutator.specs.declared.task.Task.TheVariants as task
 use Rattle.gh_mutator_heap.specs.Facts.{freeing_new, held_new, KnowsNew, Lasts, laying_new, locked_new}
@@ -85,16 +83,10 @@ module _ (z : Arena) (a : ℕ) (v w : View) (o : Others z a v w) where
   store_lasts p x pending store_stage.NilBase f = (runs_lasts x.g f.0, f.1, of_register IsPlain x.g x.b f.0.of f.2, f.3)
 
   global_lasts : (p : Polling) (x : Global) (pending : Option Answer) (q : GlobalStage) → GlobalFacts z a v p x pending q → GlobalFacts z a w p x pending q
-  global_lasts p x pending global_stage.Load f = (runs_lasts x.g f.0, f.1, f.2, f.3)
-  global_lasts p x pending (global_stage.Birth at) f = takes_lasts x.g x.r at pending f
-  global_lasts p x pending global_stage.Store f = (runs_lasts x.g f.0, f.1, f.2, of_register (λ (y : EverValue). is_number y ≡ false) x.g x.r f.0.of f.3, f.4)
-  global_lasts p x pending (global_stage.Writing y) f = (runs_lasts x.g f.0, f.1, f.2, of_register (λ (y : EverValue). is_number y ≡ false) x.g x.r f.0.of f.3, f.4, f.5)
-  global_lasts p x pending global_stage.Number f = (runs_lasts x.g f.0, of_register (λ (y : EverValue). is_number y ≡ true) x.g x.r f.0.of f.1, f.2)
+  global_lasts p x pending q f = grind arith
 
   register_lasts : (x : Register) (pending : Option Answer) (q : Source) → RegisterFacts z a v x pending q → RegisterFacts z a w x pending q
-  register_lasts x pending (source.Int n) f = (runs_lasts x.g f.0, f.1, f.2)
-  register_lasts x pending (source.Move s) f = (runs_lasts x.g f.0, f.1, f.2, f.3)
-  register_lasts x pending source.Nil f = (runs_lasts x.g f.0, f.1, f.2)
+  register_lasts x pending q f = grind arith
 
   wants_last : (x : Wanted) → Wants z a v x → Wants z a w x
   wants_last x f = record { runs = runs_lasts x.g f.runs; register = f.register; type = f.type; few = subst (λ (n : ℕ). n < MOST_STATEMENTS) (sym (o.counts x.g f.runs.of)) f.few; is = f.is }
@@ -136,13 +128,7 @@ module _ (z : Arena) (a : ℕ) (v w : View) (o : Others z a v w) where
     new_lasts x pending (Assist n y) has s = s
 
     task_lasts : (pending : Option Answer) (q : Task) → HasAt a v m q → FactsAt z a v m pending q → FactsAt z a w m pending q
-    task_lasts pending (task.Load x) has f = load_lasts x pending x.stage f
-    task_lasts pending (task.Store x) has f = store_lasts m.poll x pending x.stage f
-    task_lasts pending (task.Global x) has f = global_lasts m.poll x pending x.stage f
-    task_lasts pending (task.Register x) has f = register_lasts x pending x.source f
-    task_lasts pending (task.New x) has f = new_lasts x.wanted pending x.stage has f
-    task_lasts pending (task.End g) has f = (runs_lasts g f.0, f.1)
-    task_lasts pending _ has f = f
+    task_lasts pending q has f = grind (arith, global_lasts, load_lasts, new_lasts, register_lasts, runs_lasts, store_lasts)
 
 pub facts_last : Known → Lasts
 facts_last k z a v w m pending good o x = record {

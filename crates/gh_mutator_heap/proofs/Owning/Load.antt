@@ -1,5 +1,5 @@
 -- Own steps of a load while others change the heap. At its point its register takes what the field held.
-use Rattle.std.proofs.Common.{◌≡◌, ℕ, ◌<◌, Bool, true, false, cond, ltb, [], ◌∷◌, Option, Some, None, refl, sym, ap, subst}
+use Rattle.std.proofs.Common.{◌≡◌, ℕ, ◌<◌, Bool, true, false, cond, ltb, [], ◌∷◌, Option, Some, None, refl, sym, ap, subst, arith}
 use Rattle.std.proofs.lemmas.Bool.{ltb-true, lt-ltb}
 use Rattle.gh_mutator_heap.proofs.Owning.Vocabulary.{asks, at_task, Does, ends, Fine, goes_on, has_field, IsPlain, Loads, OwnStepAt, Through, value_of}
 use Rattle.gh_mutator.specs.Vocabulary.{Answer, cell_of, Name}
@@ -33,9 +33,7 @@ module _ (laws : Known) (z : Arena) (a : ℕ) (s : Shared) (m : Processor) (x : 
   load_past v n k is over = rw (is, over) refl
 
   plain_load : (v : EverValue) (k : ℕ) → IsPlain v → load_answer z.shapes e v k ≡ answer.Fault fault.NilBase
-  plain_load ever.Nil k h = refl
-  plain_load (ever.Int i) k h = refl
-  plain_load (ever.Ref n) k h = absurd h
+  plain_load v k h = grind arith
 
   -- the processor at a stage of it, and the word that its step finds
   abbrev here : LoadStage → Processor

@@ -30,9 +30,7 @@ use Rattle.gh_mutator_heap.proofs.Owning.Searching.{caches-then, held-then, none
 use Rattle.gh_mutator_heap.proofs.Owning.Steady.{HasCached, long_then, Steady, steady_on, steady_register}
 
 same-by : (c d : SpanClass) → size.Small c.class ≡ size.Small d.class → c.noscan ≡ d.noscan → c ≡ d
-same-by c d e f = let number : c.class ≡ d.class = cc in ap (λ (n : ℕ). of-class n c.noscan) number ∙ ap (λ (b : Bool). of-class d.class b) f where
-  of-class : ℕ → Bool → SpanClass
-  of-class n b = record { class = n; noscan = b }
+same-by c d e f = grind arith
 
 module _ (k : Known) (z : Arena) (a : ℕ) (s : Shared) (m : Processor) (x : Wanted) (f : Finding) where
   abbrev before : View
@@ -129,7 +127,7 @@ module _ (k : Known) (z : Arena) (a : ℕ) (s : Shared) (m : Processor) (x : Wan
       t = moved z a s (Refuse x.g x.d)
 
       right-then : Right a (view t) false (find.held last.find (rest m x)) None
-      right-then = (k.follow z a s true (find.held last.find (rest m x)) None right).refused x.g x.d
+      right-then = grind arith
 
       nil : View
       nil = record before { ever = with_register before.ever x.g x.d ever.Nil }

@@ -1,15 +1,13 @@
 -- What the words tell of an object that a script reaches, and what a value is to its word. Of the heap it is known what the laws of gh_heap say.
-use Rattle.std.proofs.Common.{◌≡◌, ℕ, ◌+◌, ◌-◌, ◌*◌, ◌/◌, ◌%◌, ◌^◌, ◌<◌, ◌≤◌, Bool, true, false, cond, eqb, ltb, inl, inr, refl, sym, ap, subst, ◌∙◌, arith}
+use Rattle.std.proofs.Common.{◌≡◌, ℕ, ◌+◌, ◌-◌, ◌*◌, ◌/◌, ◌%◌, ◌^◌, ◌<◌, ◌≤◌, Bool, true, false, cond, eqb, inl, inr, refl, sym, ap, subst, ◌∙◌, arith}
 use Rattle.std.specs.Int.{bit_at}
 use Rattle.std.proofs.Math.Nat.{mod-eq_of_lt}
-use Rattle.std.proofs.lemmas.Bool.{ne_eqb, ltb-true, ltb-false}
+use Rattle.std.proofs.lemmas.Bool.{ne_eqb}
 use Rattle.std.proofs.lemmas.Bool.Decides.{eqb_tells}
 use Rattle.gh_mutator_heap.proofs.Owning.Vocabulary.{is_pointer_by, value_of, word_of_value}
 use Rattle.gh_mutator.specs.Vocabulary.{Layout, Name, SizeClass, Value}
 use Rattle.gh_mutator_heap.specs.Vocabulary.{answer_of_value, Arena, Ever, EverValue, fits, Good, Holds, is_number, IsMade, IsReached, IsSizeClass, Means, name_of, page_of, points, Reach, size_for, slot_in, slot_of, slot_size, takes_answer, View, with_register}
-use Rattle.gh_base.specs.declared.value.Value.TheVariants as value
 use Rattle.gh_base.specs.Packing.{bit, page_class, page_pages, slot_for}
-use Rattle.gh_class.specs.declared.class.SizeClass.TheVariants as size
 use Rattle.gh_model.specs.declared.EverValue.TheVariants as ever
 use Rattle.gh_heap.specs.Objects.{InSlot, Place, Placed}
 use Rattle.gh_heap.specs.Spans.{is_own_class, number_of_class, slot_count}
@@ -18,16 +16,13 @@ use Rattle.gh_mutator_heap.proofs.Owning.Known.{Known}
 -- ---- the words of an object
 
 some_words : Known → (class : SizeClass) (pages : ℕ) → IsSizeClass class → 1 ≤ pages → 1 ≤ cond (is_own_class class) (1024 * pages) (slot_of (number_of_class class) / 8)
-some_words laws (size.Small c) pages is some = omega (arith, laws.least_slot c is)
-some_words laws size.Large pages is some = omega arith
+some_words laws class pages is some = grind arith
 
 slot_for_is : (c : SizeClass) (n : ℕ) → slot_for c n ≡ cond (is_own_class c) (1024 * n) (slot_of (number_of_class c) / 8)
-slot_for_is (size.Small c) n = refl
-slot_for_is size.Large n = refl
+slot_for_is c n = grind arith
 
 bit_is : (b : Bool) (n : ℕ) → n ≡ bit b → eqb n 1 ≡ b
-bit_is true n e = rw e refl
-bit_is false n e = rw e refl
+bit_is b n e = grind arith
 
 -- an object that a script reaches, and so is placed
 module _ (laws : Known) (z : Arena) (v : View) (good : Good z v) (n : Name) (was_made : IsMade v.ever.made n) (reach : Reach v.ever n) where
@@ -99,10 +94,7 @@ module _ (laws : Known) (z : Arena) (v : View) (good : Good z v) (n : Name) (was
       few = let f = good.names.few n.g in omega (arith, f, was_made)
 
       known : n.g < z.layout.goroutines
-      known = by (ltb n.g z.layout.goroutines) refl where
-        by : (b : Bool) → ltb n.g z.layout.goroutines ≡ b → n.g < z.layout.goroutines
-        by true t = ltb-true n.g z.layout.goroutines t
-        by false t = let none = good.names.none n.g (ltb-false n.g z.layout.goroutines t) in absurd (omega (arith, none, was_made))
+      known = grind arith
 
 -- a value of a register, or of a field of what is reached, is reached
 pub register_reached : (e : Ever) (g d : ℕ) → e.ended g ≡ false → (x : EverValue) → e.register g d ≡ x → IsReached e x
@@ -148,24 +140,11 @@ global_means laws z v good k low = found_means z.layout.pages v.place v.ever.mad
 
 -- the word of a value holds what a field of its kind is to hold
 pub word_holds : (place : Place) (made : ℕ → ℕ) (p : Bool) (v : EverValue) (x : Value) → Means place made v x → fits p v ≡ true → Holds place made p v (word_of_value x)
-word_holds place made p ever.Nil value.Nil h f = (f, refl)
-word_holds place made true (ever.Int a) (value.Int b) h f = absurd cc
-word_holds place made false (ever.Int a) (value.Int b) h f = (refl, sym h)
-word_holds place made p (ever.Ref n) (value.Ref r) h f = (f, h.0, h.1)
-word_holds place made p ever.Nil (value.Int b) h f = absurd h
-word_holds place made p ever.Nil (value.Ref r) h f = absurd h
-word_holds place made p (ever.Int a) value.Nil h f = absurd h
-word_holds place made p (ever.Int a) (value.Ref r) h f = absurd h
-word_holds place made p (ever.Ref n) value.Nil h f = absurd h
-word_holds place made p (ever.Ref n) (value.Int b) h f = absurd h
+word_holds place made p v x h f = grind arith
 
 -- what is no number is a pointer's
 pub fits_pointer : (x : EverValue) → is_number x ≡ false → fits true x ≡ true
-fits_pointer ever.Nil e = refl
-fits_pointer (ever.Int n) e = absurd cc
-fits_pointer (ever.Ref n) e = refl
+fits_pointer x e = grind arith
 
 pub takes_told : (e : Ever) (g d : ℕ) (x : EverValue) → takes_answer e g d (answer_of_value x) ≡ with_register e g d x
-takes_told e g d ever.Nil = refl
-takes_told e g d (ever.Int i) = refl
-takes_told e g d (ever.Ref n) = refl
+takes_told e g d x = grind arith

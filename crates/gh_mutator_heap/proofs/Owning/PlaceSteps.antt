@@ -1,11 +1,11 @@
 -- The steps of a new object's making. The making is known by its law, and by which of its steps makes the object and which is its last.
-use Rattle.std.proofs.Common.{◌≡◌, ℕ, ◌+◌, ◌*◌, ◌/◌, ◌%◌, ◌^◌, ◌<◌, ◌⊎◌, Bool, true, false, cond, eqb, ltb, nat_le, List, [], ◌∷◌, ◌++◌, length, get_or, Option, Some, None, refl, sym, ap, subst, ◌∙◌, arith, inl, inr, length-set, get_or-set_same, get_or-set_other}
+use Rattle.std.proofs.Common.{◌≡◌, ℕ, ◌+◌, ◌*◌, ◌/◌, ◌%◌, ◌^◌, ◌<◌, Bool, true, false, cond, eqb, ltb, nat_le, List, [], ◌∷◌, ◌++◌, length, get_or, Option, Some, None, refl, sym, ap, subst, ◌∙◌, arith, length-set, get_or-set_same, get_or-set_other}
 use Rattle.std.specs.Option.{option_to_list}
 use Rattle.std.proofs.Math.ListN.{set}
 use Rattle.std.proofs.lemmas.Bool.{eqb-true, eqb-false, eq-eqb}
 use Rattle.gh_mutator_heap.proofs.Owning.Vocabulary.{Act, acted, acting, answered_at, at_task, Does, Fine, for_whom, KnowsCounts, lists, Makes, makes, op_of, own_span, PollRegistersFit, register_at, ShapesAreGood, Sits}
-use Rattle.gh_mutator.specs.Vocabulary.{Answer, cell_of, IsOf, Large, Layout, Name, PlaceStage, Polling, REGISTERS, Small, Sought, Value}
-use Rattle.gh_mutator_heap.specs.Vocabulary.{Arena, Ever, EverValue, Good, IsMade, KeepsItsOwn, KeepsObjects, Means, moved, Shared, SpanHead, Steps, View, view, with_register, Idle, Processor, Wanted}
+use Rattle.gh_mutator.specs.Vocabulary.{Answer, cell_of, IsOf, Layout, Name, PlaceStage, Polling, REGISTERS, Value}
+use Rattle.gh_mutator_heap.specs.Vocabulary.{Arena, Ever, EverValue, Good, KeepsItsOwn, KeepsObjects, Means, moved, Shared, SpanHead, Steps, View, view, with_register, Idle, Processor, Wanted}
 use Rattle.gh_assist.specs.Within.{AssistWithin}
 use Rattle.gh_base.specs.declared.cell.Ask.TheVariants as ask
 use Rattle.gh_base.specs.declared.cell.Cell.TheVariants as cell
@@ -14,7 +14,7 @@ use Rattle.gh_base.specs.declared.value.Value.TheVariants as value
 use Rattle.gh_base.specs.Holding.{IsHeld}
 use Rattle.gh_model.specs.declared.EverValue.TheVariants as ever
 use Rattle.gh_model.specs.Ever.{next_name, same_name, with_object}
-use Rattle.gh_heap.specs.Moves.{placed_at, Quiet, update}
+use Rattle.gh_heap.specs.Moves.{placed_at, Quiet}
 use Rattle.gh_heap.specs.Objects.{Place as PlaceOf}
 use Rattle.gh_bitmap.specs.SetPointers as setter
 use Rattle.gh_alloc.specs.declared.place.PlaceStage.TheVariants as making
@@ -37,12 +37,10 @@ data Kind (p : placer.Placing) (q : PlaceStage) (found : ℕ) : Type 0 where
   ending : (asks : Bool) → placer.makes_its_object_at q ≡ false → is_made q ≡ true → placer.goes_at p q found ≡ making.Ended asks → Kind p q found
 
 filled-none : (marking : Bool) → placer.given_at (placer.filled marking) ≡ None
-filled-none true = refl
-filled-none false = refl
+filled-none marking = grind arith
 
 filled-unmade : (marking : Bool) → is_made (placer.filled marking) ≡ false
-filled-unmade true = refl
-filled-unmade false = refl
+filled-unmade marking = grind arith
 
 kind-of : (p : placer.Placing) (q : PlaceStage) (found : ℕ) → ((asks : Bool) → q ≡ making.Ended asks → ⊥) → Kind p q found
 kind-of p (making.Clear i) found busy = go (ltb (i + 1) p.slot) refl where
@@ -72,84 +70,18 @@ kind-of p (making.Ended asks) found busy = absurd (busy asks refl)
 
 -- What the seat holds at a stage, and what its caches list.
 
-held-cases : (q : PlaceStage) (span : Option SpanHead) (n : ℕ) (base : ℕ → Bool) (y : ℕ) → (place.held_by q span n base y ≡ base y) ⊎ ((place.held_by q span n base y ≡ update base n false y) × ((h : SpanHead) × (span ≡ Some h)))
-held-cases (making.Clear i) span n base y = inl refl
-held-cases making.Birth span n base y = inl refl
-held-cases (making.Bits s) span n base y = inl refl
-held-cases making.Mark span n base y = inl refl
-held-cases making.Alloc span n base y = inl refl
-held-cases (making.Give g) span n base y = inl refl
-held-cases making.Count None n base y = inl refl
-held-cases making.Count (Some h) n base y = inr (refl, (h, refl))
-held-cases (making.LoadTrigger bytes) None n base y = inl refl
-held-cases (making.LoadTrigger bytes) (Some h) n base y = inr (refl, (h, refl))
-held-cases (making.Ended asks) None n base y = inl refl
-held-cases (making.Ended asks) (Some h) n base y = inr (refl, (h, refl))
-
--- a large object has a span of its own, and no other
-own-cases : (seat generation : ℕ) (x : Sought) (at : ℕ) (h : SpanHead) → own_span seat generation x ≡ Some h → find.own_found x at ≡ Some (at / 1024)
-own-cases seat generation (Small c) at h e = absurd (cc)
-own-cases seat generation (Large pages noscan) at h e = refl
-
-with-listed : (o : Option ℕ) (held : ℕ → Bool) (y : ℕ) → held y ≡ true → find.with_span o held y ≡ true
-with-listed None held y e = e
-with-listed (Some n) held y e = go (eqb n y) where
-  go : (b : Bool) → cond b true (held y) ≡ true
-  go true = refl
-  go false = e
-
 module _ (z : Arena) (a : ℕ) (v : View) (m : Processor) (x : Wanted) (p : placer.Placing) where
   abbrev base : ℕ → Bool
   base = find.with_span (find.own_found x.sought p.at) (lists m.poll.local.cache)
 
   -- what is listed is held at every stage
   listed-held : p.span ≡ own_span m.poll.seat m.poll.local.view.generation x.sought → ((y : ℕ) → find.own_found x.sought p.at ≡ Some y → lists m.poll.local.cache y ≡ false) → (q : PlaceStage) (y : ℕ) → lists m.poll.local.cache y ≡ true → place.held_by q p.span (p.at / 1024) base y ≡ true
-  listed-held span apart q y e = elim (held-cases q p.span (p.at / 1024) base y) [
-    | inl same ↦ same ∙ with-listed (find.own_found x.sought p.at) (lists m.poll.local.cache) y e
-    | inr given ↦ given.0 ∙ elsewhere (apart (p.at / 1024) (own-cases m.poll.seat m.poll.local.view.generation x.sought p.at given.1.0 (sym span ∙ given.1.1)))
-  ] where
-    elsewhere : lists m.poll.local.cache (p.at / 1024) ≡ false → update base (p.at / 1024) false y ≡ true
-    elsewhere none = go (eqb (p.at / 1024) y) refl where
-      go : (b : Bool) → eqb (p.at / 1024) y ≡ b → cond b false (base y) ≡ true
-      go true t = absurd (cc (e, subst (λ (n : ℕ). lists m.poll.local.cache n ≡ false) (eqb-true (p.at / 1024) y t) none))
-      go false t = with-listed (find.own_found x.sought p.at) (lists m.poll.local.cache) y e
-
-  -- at the end just that
-  held-last : p.span ≡ own_span m.poll.seat m.poll.local.view.generation x.sought → ((y : ℕ) → find.own_found x.sought p.at ≡ Some y → lists m.poll.local.cache y ≡ false) → (asks : Bool) (y : ℕ) → place.held_by (making.Ended asks) p.span (p.at / 1024) base y ≡ lists m.poll.local.cache y
-  held-last span apart asks y = subst (λ (s : Option SpanHead). place.held_by (making.Ended asks) s (p.at / 1024) base y ≡ lists m.poll.local.cache y) (sym span) (go x.sought refl) where
-    go : (s : Sought) → x.sought ≡ s → place.held_by (making.Ended asks) (own_span m.poll.seat m.poll.local.view.generation x.sought) (p.at / 1024) base y ≡ lists m.poll.local.cache y
-    go (Small c) e = subst (λ (s : Sought). place.held_by (making.Ended asks) (own_span m.poll.seat m.poll.local.view.generation s) (p.at / 1024) (find.with_span (find.own_found s p.at) (lists m.poll.local.cache)) y ≡ lists m.poll.local.cache y) (sym e) refl
-    go (Large pages noscan) e = subst (λ (s : Sought). place.held_by (making.Ended asks) (own_span m.poll.seat m.poll.local.view.generation s) (p.at / 1024) (find.with_span (find.own_found s p.at) (lists m.poll.local.cache)) y ≡ lists m.poll.local.cache y) (sym e)
-        (back (eqb (p.at / 1024) y) refl (apart (p.at / 1024) (ap (λ (s : Sought). find.own_found s p.at) e))) where
-          back : (b : Bool) → eqb (p.at / 1024) y ≡ b → lists m.poll.local.cache (p.at / 1024) ≡ false → cond b false (cond b true (lists m.poll.local.cache y)) ≡ lists m.poll.local.cache y
-          back true t none = sym (subst (λ (n : ℕ). lists m.poll.local.cache n ≡ false) (eqb-true (p.at / 1024) y t) none)
-          back false t none = refl
+  listed-held span apart q y e = grind arith
 
 -- The object is made: its goroutine's count and register take it.
 
-names-differ : (e : Ever) (g : ℕ) (n : Name) → IsMade e.made n → same_name n (next_name e g) ≡ false
-names-differ e g n made = go (eqb n.g g) (eqb n.k (e.made g)) refl refl where
-  go : (b c : Bool) → eqb n.g g ≡ b → eqb n.k (e.made g) ≡ c → same_name n (next_name e g) ≡ false
-  go true true t u = absurd (omega (arith, subst (λ (h : ℕ). n.k < e.made h) (eqb-true n.g g t) made, eqb-true n.k (e.made g) u))
-  go true false t u = rw (t, u) refl
-  go false c t u = rw (t) refl
-
 means-then : (z : Arena) (v : View) (g t at : ℕ) (x : EverValue) (y : Value) → Means v.place v.ever.made x y → Means (placed_at v.place (next_name v.ever g) at) (with_object z.shapes v.ever g t).made x y
-means-then z v g t at ever.Nil value.Nil h = h
-means-then z v g t at ever.Nil (value.Int i) h = h
-means-then z v g t at ever.Nil (value.Ref r) h = h
-means-then z v g t at (ever.Int n) value.Nil h = h
-means-then z v g t at (ever.Int n) (value.Int i) h = h
-means-then z v g t at (ever.Int n) (value.Ref r) h = h
-means-then z v g t at (ever.Ref n) value.Nil h = h
-means-then z v g t at (ever.Ref n) (value.Int i) h = h
-means-then z v g t at (ever.Ref n) (value.Ref r) h = (
-  h.0 ∙ ap (λ (b : Bool). cond b at (v.place n) + 1) (sym (names-differ v.ever g n h.1)),
-  more (eqb n.g g) refl,
-) where
-  more : (b : Bool) → eqb n.g g ≡ b → n.k < cond b (v.ever.made g + 1) (v.ever.made n.g)
-  more true e = omega (arith, subst (λ (h' : ℕ). n.k < v.ever.made h') (eqb-true n.g g e) h.1)
-  more false e = h.1
+means-then z v g t at x y h = grind arith
 
 made-registers : (z : Arena) (a : ℕ) (v w : View) (p : Polling) (g d t at : ℕ) → Sits z a p → IsOf z a g → d < REGISTERS →
     w.ever ≡ with_register (with_object z.shapes v.ever g t) g d (ever.Ref (next_name v.ever g)) → w.place ≡ placed_at v.place (next_name v.ever g) at → PollRegistersFit z a v p → PollRegistersFit z a w (with_register_value p g d (value.Ref (at + 1)))
@@ -160,15 +92,11 @@ made-registers z a v w p g d t at sits of low e place fit h c hof lc =
       now : View
       now = record v { ever = with_object z.shapes v.ever g t; place = placed_at v.place (next_name v.ever g) at }
 
-      more : (b : Bool) → b ≡ true → v.ever.made g < cond b (v.ever.made g + 1) (v.ever.made g)
-      more true e = omega arith
-      more false e = absurd (cc)
-
       same : same_name (next_name v.ever g) (next_name v.ever g) ≡ true
       same = rw (eq-eqb g g refl, eq-eqb (v.ever.made g) (v.ever.made g) refl) refl
 
       here : Means now.place now.ever.made (ever.Ref (next_name v.ever g)) (value.Ref (at + 1))
-      here = (ap (λ (b : Bool). cond b at (v.place (next_name v.ever g)) + 1) (sym same), more (eqb g g) (eq-eqb g g refl))
+      here = grind arith
 
 made-counts : (z : Arena) (a : ℕ) (v w : View) (made : List ℕ) (g d t : ℕ) → IsOf z a g → w.ever ≡ with_register (with_object z.shapes v.ever g t) g d (ever.Ref (next_name v.ever g)) → KnowsCounts z a v made → KnowsCounts z a w (set made g (get_or made g 0 + 1))
 made-counts z a v w made g d t of e counts = record {
@@ -201,8 +129,7 @@ module _ (k : Known) (z : Arena) (a : ℕ) (s : Shared) (m : Processor) (x : Wan
   then made asks = at_task (cond made (made_object making-at x p.at) making-at) (made_task m.poll x next asks)
 
   nothing : (q : Option Answer) → [] ++ option_to_list q ≡ option_to_list q ++ []
-  nothing None = refl
-  nothing (Some r) = refl
+  nothing q = grind arith
 
   -- what the step comes to, by its kind
   done : (t : Shared) → ShapesAreGood z.shapes → Steady z a now m → Makes z a now m x p pending → HoldsSwept a now → KeepsItsOwn a now (view t) → place.Changes z (for_whom x) p (placer.makes_its_object_at p.stage) now (view t) →
@@ -279,7 +206,7 @@ module _ (k : Known) (z : Arena) (a : ℕ) (s : Shared) (m : Processor) (x : Wan
     come b ended = subst (λ (g : Option Bool). place.Comes z a (view t) (for_whom x) (base z a now m x p) g next) (gives b ended) comes
 
     held : (b : Bool) → next.stage ≡ making.Ended b → (y : ℕ) → (view t).holds a y ≡ lists m.poll.local.cache y
-    held b ended y = (come b ended).0.holds y ∙ ap (λ (q : PlaceStage). place.held_by q p.span (p.at / 1024) (base z a now m x p) y) ended ∙ held-last z a now m x p mk.span mk.apart b y
+    held b ended y = grind arith
 
     has : (b : Bool) → next.stage ≡ making.Ended b → HasCached a (view t) m
     has b ended = let c = come b ended in record { locked = c.0.locked; holds = held b ended; laying = c.0.laying; freeing = c.0.freeing }

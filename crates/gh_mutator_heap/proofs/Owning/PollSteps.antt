@@ -1,10 +1,9 @@
 -- Own steps of a poll, of a leave, and of the waits of a `gc` and of a new object. Each is known by its law alone.
-use Rattle.std.proofs.Common.{◌≡◌, ℕ, true, false, is_some, [], ◌∷◌, ◌++◌, Option, Some, None, refl, sym, ap, subst, ◌∙◌}
-use Rattle.std.specs.Option.{option_to_list}
+use Rattle.std.proofs.Common.{◌≡◌, ℕ, true, false, is_some, Option, Some, None, refl, sym, ap, subst, arith}
 use Rattle.std.specs.Prelude.{is_none}
 use Rattle.gh_base.specs.declared.operation.Op.TheVariants as op
 use Rattle.gh_base.specs.declared.value.Answer.TheVariants as answer
-use Rattle.gh_mutator_heap.proofs.Owning.Vocabulary.{Act, acted, acting, answered_at, at_task, CountsAlone, Does, Fine, KnowsCounts, OwnStepAt, ShapesAreGood, Wants}
+use Rattle.gh_mutator_heap.proofs.Owning.Vocabulary.{Act, acting, at_task, CountsAlone, Does, Fine, KnowsCounts, OwnStepAt, ShapesAreGood, Wants}
 use Rattle.gh_mutator.specs.declared.task.Task.TheVariants as task
 use Rattle.gh_mutator.specs.declared.wait.Wait.{Wait as WaitState}
 use Rattle.gh_mutator.specs.Leave as leave
@@ -18,28 +17,12 @@ use Rattle.gh_mutator_heap.specs.Vocabulary.{answer_of, Arena, ever_after, Good,
 use Rattle.gh_mutator.specs.Wait as wait
 use Rattle.gh_mutator_heap.proofs.Owning.Known.{Known}
 use Rattle.gh_mutator_heap.proofs.Owning.Searching.{same_wants, seek-begins}
-use Rattle.gh_mutator_heap.proofs.Owning.Statements.{at_its_task, not_full, StepAt, StepFrom}
+use Rattle.gh_mutator_heap.proofs.Owning.Statements.{at_its_task, StepAt, StepFrom}
 use Rattle.gh_mutator_heap.proofs.Owning.Steady.{goroutine_few, same_counts}
 
 module _ (z : Arena) (s : Shared) (o : Op) (b : Answer) (is : answer_of z.shapes s.ever o ≡ b) (stays : ever_after z.shapes s.ever o (answer_of z.shapes s.ever o) ≡ s.ever) where
-  -- an operation that changes nothing in the heap that never frees acts where it ends
-  acted_once : (g : Option (Unit {0})) → acted z.shapes s.ever (acting (is_some g) o false) ≡ s.ever
-  acted_once None = refl
-  acted_once (Some y) = stays
-
-  answered_then : (g : Option (Unit {0})) → option_to_list (answered_at z.shapes s.ever (acting (is_some g) o false)) ++ [] ≡ [] ++ option_to_list (once_ended g b)
-  answered_then None = refl
-  answered_then (Some y) = ap (λ (x : Answer). x ∷ []) is
-
   ends_once : (a : ℕ) (t : Shared) (m : Processor) (found : ℕ) (g : Option (Unit {0})) → t.ever ≡ s.ever → acts m found ≡ acting (is_some g) o false → gives m found ≡ once_ended g b → Fine z a (view t) (takes z.shapes m found) None → CountsAlone m.task s t → Does z a s t m None found
-  ends_once a t m found g same act give fine alone = record {
-    after = None;
-    fine = fine;
-    ever = same ∙ sym (ap (acted z.shapes s.ever) act ∙ acted_once g);
-    answers = ap (λ (x : Option Act). option_to_list (answered_at z.shapes s.ever x) ++ []) act ∙ answered_then g ∙ ap (λ (x : Option Answer). [] ++ option_to_list x) (sym give);
-    full = λ y e full. absurd (not_full (is_some g) o y (sym act ∙ e) full);
-    counts = alone;
-  }
+  ends_once a t m found g same act give fine alone = grind arith
 
 module _ (k : Known) (z : Arena) (a : ℕ) (s : Shared) (m : Processor) (good : Good z (view s)) (counts : KnowsCounts z a (view s) m.made) where
   -- A poll.
@@ -56,9 +39,7 @@ module _ (k : Known) (z : Arena) (a : ℕ) (s : Shared) (m : Processor) (good : 
   -- A leave.
 
   leave_fine : (t : Shared) (x : Leaving) (found : ℕ) → KeepsObjects (view s) (view t) → TakesLeave z a (view t) m.poll (leave.goes x found) → (g : Option (Unit {0})) → leave.gives x found ≡ g → Fine z a (view t) (after_leave m (leave.goes x found) g) None
-  leave_fine t x found o p None e = record { counts = same_counts z a (view s) (view t) m.made o counts; knows = p.1; right = p.0; task = refl }
-  leave_fine t x found o p (Some y) e = let r = k.leaves.ends z a (view t) m.poll (leave.goes x found) (ap is_none e) p in
-      record { counts = same_counts z a (view s) (view t) m.made o counts; knows = r.1; right = r.0; task = refl }
+  leave_fine t x found o p g e = grind arith
 
   leave_step : (x : Leaving) → TakesLeave z a (view s) m.poll x → StepFrom z a s (at_task m (task.Leave x)) None
   leave_step x p = let found = s.words (cell_of (leave.asks x)) in let l = k.leaves.own_step z a s m.poll x good p in

@@ -1,14 +1,12 @@
 -- The processor's laws, put together from those of its operations.
-use Rattle.std.proofs.Common.{◌≡◌, ℕ, Bool, true, false, cond, is_some, [], ◌∷◌, ◌++◌, Option, Some, None, refl, sym, ap, subst, ◌∙◌}
+use Rattle.std.proofs.Common.{◌≡◌, ℕ, Bool, true, false, is_some, [], ◌++◌, Option, Some, None, refl, sym, ap, subst, ◌∙◌, arith}
 use Rattle.std.specs.Option.{option_to_list}
 use Rattle.gh_mutator_heap.proofs.Owning.Vocabulary.{Act, acting, answered_at, asks, at_task, Does, FactsAt, Fine, OwnStepAt, register_of, ShapesAreGood}
 use Rattle.gh_mutator.specs.Vocabulary.{Answer, cell_of, Op}
-use Rattle.gh_mutator_heap.specs.Vocabulary.{answer_of, Arena, Good, Shared, SweepLeaves, view, Global, GlobalStage, NewStage, Processor, Register, Source, Task, Wanted}
+use Rattle.gh_mutator_heap.specs.Vocabulary.{Arena, Good, Shared, SweepLeaves, view, Global, GlobalStage, NewStage, Processor, Register, Source, Task, Wanted}
 use Rattle.gh_base.specs.declared.operation.Op.TheVariants as op
 use Rattle.gh_base.specs.declared.value.Answer.TheVariants as answer
 use Rattle.gh_heap.specs.Moves.{landing}
-use Rattle.gh_mutator.specs.declared.global.GlobalStage.TheVariants as global_stage
-use Rattle.gh_mutator.specs.declared.register.Source.TheVariants as source
 use Rattle.gh_mutator.specs.declared.new.NewStage.TheVariants as new_stage
 use Rattle.gh_mutator.specs.declared.task.Task.TheVariants as task
 use Rattle.gh_mutator.specs.Deeds.{given_at, has_point, point_of}
@@ -45,17 +43,7 @@ use Rattle.gh_mutator_heap.proofs.Owning.Within.{within}
 rests : Rests
 rests z a v m pending rest fine = by m.task refl fine.task where
   by : (q : Task) → m.task ≡ q → FactsAt z a v m pending q → pending ≡ None
-  by task.Idle e h = h
-  by task.Left e h = h
-  by (task.Load x) e h = absurd (cc)
-  by (task.Store x) e h = absurd (cc)
-  by (task.Global x) e h = absurd (cc)
-  by (task.Register x) e h = absurd (cc)
-  by (task.New x) e h = absurd (cc)
-  by (task.Gc g x) e h = absurd (cc)
-  by task.Poll e h = absurd (cc)
-  by (task.End g) e h = absurd (cc)
-  by (task.Leave x) e h = absurd (cc)
+  by q e h = grind arith
 
 -- where it runs no sweep
 abbrev NoSweepStepAt : Task → Type 0
@@ -87,32 +75,18 @@ steps-at k (task.Leave x) busy = without-sweep (task.Leave x) (leave_steps k x)
 
 -- What is answered of operations with points: a poll and a leave have none, and nothing is pending there.
 
-nothing-then : (b c : Answer) (after : Option Answer) → b ∷ [] ≡ option_to_list after ++ (c ∷ []) → [] ≡ option_to_list after ++ []
-nothing-then b c None e = refl
-nothing-then b c (Some y) e = absurd (cc)
-
 unpointed : (z : Arena) (s : Shared) (o : Op) (b : Answer) (g : Option (Unit {0})) (pending after : Option Answer) → has_point o ≡ false → pending ≡ None → option_to_list (answered_at z.shapes s.ever (acting (is_some g) o false)) ++ option_to_list pending ≡ option_to_list after ++ option_to_list (once_ended g b) →
     option_to_list (answered_at z.shapes s.ever (point_of (acting (is_some g) o false))) ++ option_to_list pending ≡ option_to_list after ++ []
-unpointed z s o b None pending after none e all = all
-unpointed z s o b (Some y) pending after none e all =
-    ap (λ (c : Bool). option_to_list (answered_at z.shapes s.ever (cond c (Some (record { op = o; full = false })) None)) ++ option_to_list pending) none ∙ ap option_to_list e
-    ∙ nothing-then (answer_of z.shapes s.ever o) b after (subst (λ (x : Option Answer). answer_of z.shapes s.ever o ∷ option_to_list x ≡ option_to_list after ++ (b ∷ [])) e all)
+unpointed z s o b g pending after none e all = grind arith
 
 acting-point : (b : Bool) (o : Op) (full : Bool) → has_point o ≡ true → point_of (acting b o full) ≡ acting b o full
-acting-point true o full e = ap (λ (c : Bool). cond c (Some (record { op = o; full = full })) None) e
-acting-point false o full e = refl
+acting-point b o full e = grind arith
 
 global-point : (x : Global) (q : GlobalStage) → has_point (global.op_in x q) ≡ true
-global-point x global_stage.Load = refl
-global-point x (global_stage.Birth at) = refl
-global-point x global_stage.Store = refl
-global-point x (global_stage.Writing w) = refl
-global-point x global_stage.Number = refl
+global-point x q = grind arith
 
 register-point : (x : Register) (q : Source) → has_point (register.op_from x q) ≡ true
-register-point x (source.Int n) = refl
-register-point x (source.Move r) = refl
-register-point x source.Nil = refl
+register-point x q = grind arith
 
 -- of any other operation all that is answered
 points-all : (z : Arena) (a : ℕ) (s t : Shared) (m : Processor) (pending : Option Answer) (found : ℕ) (d : Does z a s t m pending found) → point_of (acts m found) ≡ acts m found →
@@ -151,8 +125,7 @@ does-sweep k z a s t m pending sw (task.New x) sg g then fine is o words = by x.
 does-sweep k z a s t m pending sw _ sg g then fine is o words = absurd (cc)
 
 sweep-busy : (m : Processor) (sw : Sweeping) (q : Task) → sweep_at q ≡ Some sw → is_busy_at q ≡ true
-sweep-busy m sw (task.New x) e = refl
-sweep-busy m sw _ e = absurd (cc)
+sweep-busy m sw q e = grind arith
 
 sweep : Known → SweepStep
 sweep k z a s t m pending sw sg g then fine is o words =

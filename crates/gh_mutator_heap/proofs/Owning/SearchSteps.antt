@@ -1,7 +1,6 @@
 -- A new object's search has found a slot, and each of its steps.
-use Rattle.std.proofs.Common.{◌≡◌, ◌≢◌, ℕ, ◌+◌, ◌*◌, ◌/◌, ◌<◌, Bool, true, false, List, ◌++◌, length, get_or, Option, Some, None, refl, sym, ap, subst, ◌∙◌, arith}
-use Rattle.std.specs.Option.{option_to_list}
-use Rattle.gh_mutator_heap.proofs.Owning.Vocabulary.{Act, acted, acting, answered_at, at_task, cache_span, cache_with, CachesAll, Does, Fine, for_whom, lists, makes, op_of, own_span, rest, Searches, searches, ShapesAreGood}
+use Rattle.std.proofs.Common.{◌≡◌, ◌≢◌, ℕ, ◌+◌, ◌*◌, ◌/◌, ◌<◌, Bool, true, false, List, length, get_or, Option, Some, None, refl, sym, ap, subst, ◌∙◌, arith}
+use Rattle.gh_mutator_heap.proofs.Owning.Vocabulary.{at_task, cache_span, cache_with, CachesAll, Does, Fine, for_whom, lists, makes, own_span, rest, Searches, searches, ShapesAreGood}
 use Rattle.gh_mutator.specs.Vocabulary.{Answer, At, CachedSpan, cell_of, Finding, FindStage, Found, Large, Name, NoRoom, Seeking, Shape, shape_at, SizeClass, slot_words, Sought, SpanClass}
 use Rattle.gh_mutator_heap.specs.Vocabulary.{Arena, FitsShape, FitsSlot, Good, IsSought, KeepsItsOwn, KeepsObjects, moved, page_of, GoroutineRuns, Shared, size_class_of, slot_words_of, SPAN_CLASSES, SpanHead, Steps, SweepLeaves, View, view, Processor, Wanted}
 use Rattle.gh_base.specs.declared.pack.PageWord.TheVariants as page
@@ -191,19 +190,7 @@ module _ (k : Known) (z : Arena) (a : ℕ) (s : Shared) (m : Processor) (x : Wan
 
   -- a step that ends short of finding none
   does : (t : Shared) (waited : Bool) (out : Option Found) → searcher.gives q found ≡ out → refuses_behind_wait waited out ≡ false → answer_search waited out ≡ None → KeepsObjects now (view t) → Fine z a (view t) (after_search z.shapes caching x waited next out) None → Does z a s t (searching waited) None found
-  does t waited out e some silent o fine = record {
-    after = None;
-    fine = subst (λ (y : Option Found). Fine z a (view t) (after_search z.shapes caching x waited next y) None) (sym e) fine;
-    ever = o.0 ∙ sym (ap (λ (b : Bool). acted z.shapes s.ever (acting b (op_of x) true)) none);
-    answers = ap (λ (b : Bool). option_to_list (answered_at z.shapes s.ever (acting b (op_of x) true)) ++ option_to_list None) none ∙ ap (λ (y : Option Answer). option_to_list None ++ option_to_list y) (sym (ap (answer_search waited) e ∙ silent));
-    full = λ y acts full. absurd (no-act y (ap (λ (b : Bool). acting b (op_of x) true) (sym none) ∙ acts));
-    counts = tt;
-  } where
-    none : refuses_behind_wait waited (searcher.gives q found) ≡ false
-    none = ap (refuses_behind_wait waited) e ∙ some
-
-    no-act : (y : Act) → None ≡ Some y → ⊥
-    no-act y e = cc
+  does t waited out e some silent o fine = grind arith
 
   short : (waited : Bool) (t : Shared) (out : Option Found) → searcher.gives q found ≡ out → ShapesAreGood z.shapes → Steady z a now m → Searches z a now m x q None → HoldsSwept a now → KeepsItsOwn a now (view t) → KeepsObjects now (view t) → search.Comes z a (view t) (rest m x) out next → Does z a s t (searching waited) None found
   short true t None e sg st r swept own o c = does t true None e refl refl o (goes-on z a s m x q t true st r o swept own c)
@@ -246,9 +233,7 @@ module _ (k : Known) (z : Arena) (a : ℕ) (s : Shared) (m : Processor) (x : Wan
     ends-at false has r none = waits-then k z a s m x q.find g st has r none
 
     at-last : (f : FindStage) (y : SearchStage) → q.find.stage ≡ f → q.stage ≡ y → q ≡ record { find = finder.at_stage q.find f; stage = y }
-    at-last f y e h = ap (λ (u : FindStage). seeking-at u q.stage) e ∙ ap (λ (u : SearchStage). seeking-at f u) h where
-      seeking-at : FindStage → SearchStage → Seeking
-      seeking-at u w = record { find = finder.at_stage q.find u; stage = w }
+    at-last f y e h = grind arith
 
     search-step : search.Has a (view s) (rest m x) q → Searches z a (view s) m x q None → Own waited q
     search-step has r = go (searcher.refuses q) refl where

@@ -6,7 +6,6 @@ use Rattle.gh_mutator.specs.Vocabulary.{CachedSpan, cell_of, Finding, Large, See
 use Rattle.gh_mutator_heap.specs.Vocabulary.{Arena, IsSought, KeepsItsOwn, KeepsObjects, MOST_STATEMENTS, Shared, SPAN_CLASSES, View, view, Processor, Wanted}
 use Rattle.gh_model.specs.Ever.{Ever}
 use Rattle.gh_alloc.specs.declared.search.SearchStage.{SearchStage}
-use Rattle.gh_alloc.specs.declared.search.SearchStage.TheVariants as search_stage
 use Rattle.gh_alloc.specs.FindFacts as find
 use Rattle.gh_alloc.specs.Search as searcher
 use Rattle.gh_alloc.specs.SearchFacts as search
@@ -23,24 +22,7 @@ same_wants z a v w x o r = record { runs = same_runs z a x.g v w o r.runs; regis
 
 -- what the seat holds beside the search's span, and with it
 pub rest-held : (o h : Option ℕ) (rest : ℕ → Bool) (p : ℕ) → rest p ≡ true → find.with_span o (find.with_span h rest) p ≡ true
-rest-held None None rest p e = e
-rest-held None (Some q) rest p e = in-span q (rest p) p e where
-  in-span : (q : ℕ) (b : Bool) (p : ℕ) → b ≡ true → cond (eqb q p) true b ≡ true
-  in-span q b p e = go (eqb q p) where
-    go : (c : Bool) → cond c true b ≡ true
-    go true = refl
-    go false = e
-rest-held (Some q) h rest p e = go (eqb q p) where
-  inner : (h : Option ℕ) → find.with_span h rest p ≡ true
-  inner None = e
-  inner (Some r) = by (eqb r p) where
-    by : (c : Bool) → cond c true (rest p) ≡ true
-    by true = refl
-    by false = e
-
-  go : (c : Bool) → cond c true (find.with_span h rest p) ≡ true
-  go true = refl
-  go false = inner h
+rest-held o h rest p e = grind arith
 
 -- a span that is cached for another span class is one of the rest
 other-rest : (m : Processor) (x : Sought) (d : SpanClass) (l : CachedSpan) → cached_in (cache_with m.poll.local.cache x None) (Small d) ≡ Some l → lists (cache_with m.poll.local.cache x None) l.head ≡ true
@@ -48,24 +30,15 @@ other-rest m x d l e = lists_it (cache_with m.poll.local.cache x None) (span_ind
 
 -- What the search has cached, at whichever of its stages, and what the seat holds beside it.
 
-none-cached : (a : ℕ) (v : View) (x : Sought) (j : Option CachedSpan) → j ≡ None → find.Caches a v x j
-none-cached a v (Small c) None e = tt
-none-cached a v (Large pages noscan) None e = tt
-none-cached a v x (Some k) e = absurd (cc)
-
 pub record SeeksWith (z : Arena) (a : ℕ) (v : View) (f : Finding) : Type 0 where
   pub seeks : find.Seeks z a v f
   pub caches : find.Caches a v f.wanted f.cached
 
 pub seeks-with : (z : Arena) (a : ℕ) (v : View) (rest : ℕ → Bool) (f : Finding) (q : SearchStage) → search.FactsAt z a v rest f q → SeeksWith z a v f
-seeks-with z a v rest f search_stage.First h = record { seeks = h.facts.seeks; caches = h.facts.caches }
-seeks-with z a v rest f (search_stage.Free r) h = record { seeks = h.seeks; caches = none-cached a v f.wanted f.cached h.cached }
-seeks-with z a v rest f search_stage.Second h = record { seeks = h.facts.seeks; caches = h.facts.caches }
+seeks-with z a v rest f q h = grind arith
 
 pub rest-at : (f : Finding) (q : SearchStage) (rest : ℕ → Bool) (p : ℕ) → rest p ≡ true → search.held f q rest p ≡ true
-rest-at f search_stage.First rest p e = rest-held (find.own f.stage) (find.cached_head f.cached) rest p e
-rest-at f (search_stage.Free r) rest p e = e
-rest-at f search_stage.Second rest p e = rest-held (find.own f.stage) (find.cached_head f.cached) rest p e
+rest-at f q rest p e = grind arith
 
 module _ (a : ℕ) (v w : View) (m : Processor) (x : Wanted) where
   -- each cached span is so still, where the search's is and the seat holds the others
@@ -106,9 +79,7 @@ held-then m x j o p long sought large = outer o where
 
 -- a large object's search has nothing cached
 pub none-large : (a : ℕ) (v : View) (x : Sought) (j : Option CachedSpan) → find.Caches a v x j → (pages : ℕ) (noscan : Bool) → x ≡ Large pages noscan → j ≡ None
-none-large a v (Small c) j h pages noscan e = absurd (cc)
-none-large a v (Large p n) None h pages noscan e = refl
-none-large a v (Large p n) (Some k) h pages noscan e = absurd h
+none-large a v x j h pages noscan e = grind arith
 
 -- the processor has cached this from now on
 pub steady-cached : (z : Arena) (a : ℕ) (v w : View) (m : Processor) (x : Sought) (j : Option CachedSpan) → KeepsObjects v w → w.generation ≡ v.generation → CachesAll a w (cache_with m.poll.local.cache x j) → Steady z a v m → Steady z a w (cache_span m x j)

@@ -33,18 +33,14 @@ abbrev pub act_of : Op → Act
 act_of o = record { op = o; full = false }
 
 pub has_room : (P : Act → Type 0) (o : Op) (x : Act) → Some (act_of o) ≡ Some x → x.full ≡ true → P x
-has_room P o x is full = let Q : Option Act → Bool = λ y. was_full y in absurd (cc (ap Q is, full)) where
-  was_full : Option Act → Bool
-  was_full None = true
-  was_full (Some y) = y.full
+has_room P o x is full = grind arith
 
 pub not_at_point : (P : Act → Type 0) (x : Act) → None ≡ Some x → x.full ≡ true → P x
 not_at_point P x is full = absurd (cc is)
 
 -- what is answered at once, where nothing was pending
 pub answered_once : (b : Answer) (given : List Answer) (pending : Option Answer) → pending ≡ None → b ∷ [] ≡ given → (b ∷ []) ++ option_to_list pending ≡ given
-answered_once b given None none is = is
-answered_once b given (Some p) none is = absurd (cc none)
+answered_once b given pending none is = grind arith
 
 -- what a statement's step comes to in t, from s: of operation o, with register d of goroutine g
 pub record Comes (S : Type 0) (into : S → Task) (z : Arena) (a : ℕ) (s t : Shared) (m : Processor) (g d : ℕ) (o : Op) (pending : Option Answer) (step : Step S) : Type 0 where
@@ -55,8 +51,7 @@ pub record Comes (S : Type 0) (into : S → Task) (z : Arena) (a : ℕ) (s t : S
 
 -- there was room
 pub not_full : (b : Bool) (o : Op) (y : Act) → acting b o false ≡ Some y → y.full ≡ true → ⊥
-not_full true o y is full = cc
-not_full false o y is full = cc
+not_full b o y is full = grind arith
 
 pub idle : (z : Arena) (a : ℕ) (v : View) (m : Processor) → Steady z a v m → HasCached a v m → Fine z a v (at_task m Idle) None
 idle z a v m steady right = record { counts = steady.0; knows = steady.1; right = right; task = refl }
@@ -85,15 +80,7 @@ module _ (S : Type 0) (into : S → Task) (z : Arena) (a : ℕ) (s : Shared) (m 
     pending_of _ = None
 
     tells : (x : EverValue) (w : Value) → Means s.place s.ever.made x w → answer_of_value x ∷ [] ≡ option_to_list (pending_of x) ++ option_to_list (answered (value_told naming w))
-    tells ever.Nil value.Nil h = refl
-    tells (ever.Int i) (value.Int j) h = ap (λ (y : ℕ). answer.Int y ∷ []) h
-    tells (ever.Ref n) (value.Ref r) h = refl
-    tells ever.Nil (value.Int j) h = absurd h
-    tells ever.Nil (value.Ref r) h = absurd h
-    tells (ever.Int i) value.Nil h = absurd h
-    tells (ever.Int i) (value.Ref r) h = absurd h
-    tells (ever.Ref n) value.Nil h = absurd h
-    tells (ever.Ref n) (value.Int j) h = absurd h
+    tells x w h = grind arith
 
     module _ (names : Names) (runs : GoroutineRuns z (view s) a g) (few : d < REGISTERS) where
       abbrev then : EverValue → View

@@ -23,9 +23,7 @@ abbrev pub HasCached : (a : ℕ) → View → Processor → Type 0
 HasCached a v m = Right a v false (lists m.poll.local.cache) None
 
 both : (a b : Bool) → (a && b) ≡ true → (a ≡ true) × (b ≡ true)
-both true true e = (refl, refl)
-both true false e = absurd cc
-both false b e = absurd cc
+both a b e = grind arith
 
 pub goroutine_few : (z : Arena) (a g : ℕ) → IsOf z a g → g < MOST_GOROUTINES
 goroutine_few z a g of = omega (arith, of.0, z.layout.limits.goroutines_fit.1)
@@ -108,16 +106,7 @@ steady_register z a v m g d x y of low means st = (
 
 -- no object is made, and the registers stay
 pub steady_values : (z : Arena) (a : ℕ) (v : View) (m : Processor) (field global : Row) (e : Ever) → e.made ≡ v.ever.made → e.register ≡ v.ever.register → Steady z a v m → Steady z a (with_values a v field global e) m
-steady_values z a v m field global e made register st = (
-  counts_with z a v (with_values a v field global e) m.made (λ g of. ap (λ (f : ℕ → ℕ). f g) made) st.0,
-  record {
-    stands = record {
-      sits = st.1.stands.sits;
-      registers = λ g d of low. subst (λ (f : ℕ → ℕ). Means v.place f (e.register g d) (register_at m.poll g d)) (sym made) (subst (λ (f : ℕ → ℕ → EverValue). Means v.place v.ever.made (f g d) (register_at m.poll g d)) (sym register) (st.1.stands.registers g d of low));
-    };
-    knows = knows_with a v field global e m.poll m.poll refl refl st.1.knows;
-  },
-)
+steady_values z a v m field global e made register st = grind arith
 
 pub sits_ended : (z : Arena) (a : ℕ) (p : Polling) (g n : ℕ) → Sits z a p → Sits z a (record p { local = record (p.local) { scanned = set p.local.scanned g n } })
 sits_ended z a p g n s = record { layout = s.layout; seat = s.seat; few = s.few; stacks = s.stacks; registers = s.registers; scanned = length-set p.local.scanned g n ∙ s.scanned; cache = s.cache; held = s.held }

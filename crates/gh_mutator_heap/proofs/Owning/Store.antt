@@ -14,7 +14,6 @@ use Rattle.gh_barrier.specs.Listing.{Writing as PointerWrite}
 use Rattle.gh_barrier.specs.Listing as write
 use Rattle.gh_base.specs.declared.value.Answer.TheVariants as answer
 use Rattle.gh_base.specs.declared.value.Fault.TheVariants as fault
-use Rattle.gh_base.specs.declared.value.Value.TheVariants as value
 use Rattle.gh_base.specs.Cells.{put}
 use Rattle.gh_model.specs.declared.EverValue.TheVariants as ever
 use Rattle.gh_model.specs.Ever.{store_answer, stores_value, with_field}
@@ -30,23 +29,12 @@ use Rattle.gh_mutator.specs.Store.{after_write, at_stage, held_behind, op_of, po
 use Rattle.gh_mutator_heap.proofs.Owning.Barrier.{begins_so, goes_so, held_so, IsBefore, IsLast, names_fit, steady_held, step_is, word_written}
 use Rattle.gh_mutator_heap.proofs.Owning.Known.{Known}
 use Rattle.gh_mutator_heap.proofs.Owning.Objects.{bit_found, register_reached, size_found, word_holds, word_is}
-use Rattle.gh_mutator_heap.proofs.Owning.Statements.{Comes, faulted, further, idle, not_full}
+use Rattle.gh_mutator_heap.proofs.Owning.Statements.{Comes, further, idle, not_full}
 use Rattle.gh_mutator_heap.proofs.Owning.Steady.{HasCached, Steady, steady_values}
 
 -- a value and the kind of a field differ where it does not fit
 differ_fits : (place : Place) (made : ℕ → ℕ) (p : Bool) (v : EverValue) (x : Value) → Means place made v x → kinds_differ p x ≡ not (fits p v)
-differ_fits place made true ever.Nil value.Nil h = refl
-differ_fits place made false ever.Nil value.Nil h = refl
-differ_fits place made true (ever.Int a) (value.Int b) h = refl
-differ_fits place made false (ever.Int a) (value.Int b) h = refl
-differ_fits place made true (ever.Ref n) (value.Ref r) h = refl
-differ_fits place made false (ever.Ref n) (value.Ref r) h = refl
-differ_fits place made p ever.Nil (value.Int b) h = absurd h
-differ_fits place made p ever.Nil (value.Ref r) h = absurd h
-differ_fits place made p (ever.Int a) value.Nil h = absurd h
-differ_fits place made p (ever.Int a) (value.Ref r) h = absurd h
-differ_fits place made p (ever.Ref n) value.Nil h = absurd h
-differ_fits place made p (ever.Ref n) (value.Int b) h = absurd h
+differ_fits place made p v x h = grind arith
 
 module _ (laws : Known) (z : Arena) (a : ℕ) (s : Shared) (m : Processor) (x : Store) (good : Good z (view s)) where
   abbrev e : Ever
@@ -75,14 +63,7 @@ module _ (laws : Known) (z : Arena) (a : ℕ) (s : Shared) (m : Processor) (x : 
   store_kind v w n b is few f = rw (is, lt-ltb x.k (size n) few, f) refl
 
   plain_store : (v : EverValue) → IsPlain v → store_answer z.shapes e v x.k stored ≡ answer.Fault fault.NilBase
-  plain_store ever.Nil h = refl
-  plain_store (ever.Int i) h = refl
-  plain_store (ever.Ref n) h = absurd h
-
-  fault_stays : (v : EverValue) (f : Fault) → stores_value e v x.k stored (answer.Fault f) ≡ e
-  fault_stays ever.Nil f = refl
-  fault_stays (ever.Int i) f = refl
-  fault_stays (ever.Ref n) f = refl
+  plain_store v h = grind arith
 
   -- the processor at a stage of it, and the word that its step finds
   abbrev here : StoreStage → Processor
@@ -118,7 +99,7 @@ module _ (laws : Known) (z : Arena) (a : ℕ) (s : Shared) (m : Processor) (x : 
     stores_at p q l = record { n = l.n; through = l.through; register = l.register; unanswered = l.unanswered }
 
     fault_at : (f : Fault) → answer_of z.shapes e (op_of x) ≡ answer.Fault f → To s None (ends (answer.Fault f))
-    fault_at f is = faulted Store task.Store z a s m x.g x.v (op_of x) steady right (answer.Fault f) is (fault_stays (e.register x.g x.b) f)
+    fault_at f is = grind arith
 
     page_by : (l : Stores z a (view s) (at_stage x Page) None) → slot_in (page_of (found Page)) ≡ size l.n → (b : Bool) → has_field x.k (found Page) ≡ b → To s None (cond b (goes_on (at_stage x Bits)) (ends (answer.Fault fault.Field)))
     page_by l sized true test = further Store task.Store z a s m x.g x.v (op_of x) steady right (at_stage x Bits)

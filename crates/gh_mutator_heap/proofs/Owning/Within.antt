@@ -6,10 +6,7 @@ use Rattle.gh_base.specs.Cells.{InRange}
 use Rattle.gh_mutator.specs.Vocabulary.{Answer, cell_of, Layout}
 use Rattle.gh_mutator_heap.specs.Vocabulary.{Arena, Good, View, Assist, Global, GlobalStage, Load, LoadStage, NewStage, Place, Processor, Search, Store, StoreStage, Task, Wait, Wanted, Want}
 use Rattle.gh_heap.specs.Rights.{Rights}
-use Rattle.gh_mutator.specs.declared.global.GlobalStage.TheVariants as global_stage
-use Rattle.gh_mutator.specs.declared.load.LoadStage.TheVariants as load_stage
 use Rattle.gh_mutator.specs.declared.store.StoreStage.TheVariants as store_stage
-use Rattle.gh_mutator.specs.declared.task.Task.TheVariants as task
 use Rattle.gh_mutator_heap.specs.Facts.{freeing_new, held_new, KnowsNew, laying_new, locked_new}
 use Rattle.gh_mutator.specs.Global as global
 use Rattle.gh_mutator.specs.Listing.{asks_at}
@@ -39,11 +36,7 @@ module _ (k : Known) (z : Arena) (a : ℕ) (v : View) (m : Processor) (pending :
   page x = omega (arith, mod-lt x some, arena)
 
   load_within : (x : Load) (q : LoadStage) → InRange z.layout (cell_of (load.asks_at m.poll.layout x q))
-  load_within x load_stage.NilBase = tt
-  load_within x load_stage.Page = page (x.at / 1024)
-  load_within x load_stage.Bits = bits ((x.at + x.k) / 64)
-  load_within x (load_stage.Field p) = heap (x.at + x.k)
-  load_within x (load_stage.Birth at) = heap at
+  load_within x q = grind arith
 
   store_within : (x : Store) (q : StoreStage) → StoreFacts z a v m.poll x pending q → InRange z.layout (cell_of (store.asks_at m.poll.layout (register_of m x.g x.v) x q))
   store_within x store_stage.NilBase h = tt
@@ -53,11 +46,7 @@ module _ (k : Known) (z : Arena) (a : ℕ) (v : View) (m : Processor) (pending :
   store_within x (store_stage.Writing w) h = k.within.within z.layout w h.3.within
 
   global_within : (x : Global) (q : GlobalStage) → GlobalFacts z a v m.poll x pending q → InRange z.layout (cell_of (global.asks_at m.poll.layout (register_of m x.g x.r) x q))
-  global_within x global_stage.Load h = h.2
-  global_within x (global_stage.Birth at) h = heap at
-  global_within x global_stage.Store h = h.2
-  global_within x (global_stage.Writing w) h = k.within.within z.layout w h.4.within
-  global_within x global_stage.Number h = tt
+  global_within x q h = grind arith
 
   new_within : (w : Wanted) (q : NewStage) → KnowsNew z a v m.poll q → Rights a v (locked_new m q) (held_new m w q) (laying_new q) (freeing_new q) → NewFacts z a v m w pending q → InRange z.layout (cell_of (new.asks_at m q))
   new_within w (Search waited q) knows right h = k.search.within z a v (rest m w) q good h.facts
@@ -67,17 +56,7 @@ module _ (k : Known) (z : Arena) (a : ℕ) (v : View) (m : Processor) (pending :
   new_within w (Assist n x) knows right h = k.assists_within.within z.layout x h.1
 
   within-at : (q : Task) → KnowsAt z a v m.poll q → HasAt a v m q → FactsAt z a v m pending q → InRange z.layout (cell_of (asks_at m q))
-  within-at task.Idle knows right h = tt
-  within-at task.Left knows right h = tt
-  within-at (task.Load x) knows right h = load_within x x.stage
-  within-at (task.Store x) knows right h = store_within x x.stage h
-  within-at (task.Global x) knows right h = global_within x x.stage h
-  within-at (task.Register x) knows right h = tt
-  within-at (task.New x) knows right h = new_within x.wanted x.stage knows right h
-  within-at (task.Gc g x) knows right h = k.waits.within z a v (waiting x m.poll) good (right, knows)
-  within-at task.Poll knows right h = k.polls.within z a v m.poll good (right, knows)
-  within-at (task.End g) knows right h = h.0.of.0
-  within-at (task.Leave x) knows right h = k.leaves.within z a v m.poll x good (right, knows)
+  within-at q knows right h = grind (arith, global_within, load_within, new_within, store_within)
 
 pub within : Known → Within
 within k z a v m pending good fine = within-at k z a v m pending good (stands_always z a v m pending fine).sits m.task fine.knows fine.right fine.task

@@ -1,16 +1,13 @@
 -- What a step of a poll leaves: its heap and its seat, what it knows of the stack that it scans, and the notes.
-use Rattle.std.proofs.Common.{◌≡◌, ◌≢◌, ℕ, ◌+◌, ◌<◌, ◌⊎◌, Bool, true, false, cond, eqb, ltb, List, [], ◌∷◌, drop, length, Option, Some, None, inl, inr, refl, sym, ap, subst, ◌∙◌, arith}
+use Rattle.std.proofs.Common.{◌≡◌, ◌≢◌, ℕ, ◌+◌, ◌<◌, ◌⊎◌, Bool, true, false, eqb, ltb, List, [], ◌∷◌, length, Option, Some, None, inl, inr, refl, sym, ap, subst, ◌∙◌, arith}
 use Rattle.std.proofs.lemmas.Bool.{eqb-true, ltb-false, ltb-true}
 use Rattle.std.proofs.lemmas.Bool.Decides.{nat_tests}
 use Rattle.std.proofs.lemmas.List.{get_or-set_other, get_or-set_same, set_past}
 use Rattle.gh_base.specs.declared.cell.Cell.TheVariants as cell
 use Rattle.gh_base.specs.declared.pack.TheConstants.{END}
 use Rattle.gh_base.specs.declared.value.Value.TheVariants as value
-use Rattle.gh_phase.specs.declared.resume.ResumeStage.TheVariants as resume_stage
 use Rattle.gh_phase.specs.declared.view.RunPhase.TheVariants as run
-use Rattle.gh_phase.specs.declared.view.View.{View}
 use Rattle.gh_phase.specs.Listing as resume
-use Rattle.gh_shade.specs.declared.shade.Shaded.TheVariants as shaded
 use Rattle.gh_shade.specs.Listing as shade
 use Rattle.gh_stack.specs.declared.scan_stack.StackStage.TheVariants as stack_stage
 use Rattle.gh_stack.specs.Listing as stack
@@ -19,7 +16,7 @@ use Rattle.gh_mutator.specs.declared.mark_stack.MarkStackStage.TheVariants.{Shad
 use Rattle.gh_mutator.specs.declared.poll.PollStage.TheVariants as poll_stage
 use Rattle.gh_mutator.specs.Give as give
 use Rattle.gh_mutator.specs.MarkStack as mark
-use Rattle.gh_mutator.specs.Poll.{after_mark, after_resume, after_room, asks_at, at_stage, by_phase, counted, due, giving, goes_at, has_two, marks_then, Polling, resumed, room_stage, scanned, scans, stops_then}
+use Rattle.gh_mutator.specs.Poll.{after_mark, after_resume, after_room, asks_at, at_stage, by_phase, counted, due, goes_at, marks_then, Polling, scanned, scans, stops_then}
 use Rattle.gh_mutator.specs.Stays.{found_on, shaded_on}
 use Rattle.gh_mutator.specs.Running.{ScansItsOwn, ShadesByWish}
 use Rattle.gh_mutator_writes.proofs.Vocabulary.{Ask, Cell, Held, Layout, length-set, Local, MarkStackStage, phase_of, PollStage, Resumed, ResumeStage, run_phase, RunPhase, Shaded, slice_index, slice_index_or, slice_set, SoundScanAt, StackStage, Store as Stores, Value, WritesOf}
@@ -47,13 +44,6 @@ pub record Noted (step : Ask) (before after : List ℕ) : Type 0 where
   pub notes : (g number : ℕ) → step ≡ Stores (cell.Scanned g) number → g < length before → slice_index after g ≡ number
   pub keeps : (g : ℕ) → ((number : ℕ) → step ≢ Stores (cell.Scanned g) number) → slice_index after g ≡ slice_index before g
 
-not_noted : (step : Ask) (before after : List ℕ) → WritesOf NotStack step → after ≡ before → Noted step before after
-not_noted step before after w e = record {
-  as_many = ap (λ (xs : List ℕ). length xs) e;
-  notes = λ g number is lt. absurd (subst (λ (x : Ask). WritesOf NotStack x) is w);
-  keeps = λ g spared. ap (λ (xs : List ℕ). slice_index xs g) e;
-}
-
 pub told_noted : (g n : ℕ) (before : List ℕ) → Noted (Stores (cell.Scanned g) n) before (slice_set before g n)
 told_noted g n before = record { as_many = length-set before g n; notes = notes; keeps = λ h spared. get_or-set_other before g h n 0 (λ e. spared n (ap (λ (x : ℕ). Stores (cell.Scanned x) n) (sym e))) } where
   notes : (h number : ℕ) → Stores (cell.Scanned g) n ≡ Stores (cell.Scanned h) number → h < length before → slice_index (slice_set before g n) h ≡ number
@@ -76,18 +66,11 @@ pub record Stays (p to : Polling) : Type 0 where
   pub scan : SoundScanAt to to.stage
 
 pub goes_by : (step : Ask) (p to : Polling) → WritesOf NotStack step → Stays p to → Goes step p to
-goes_by step p to w s = record { layout = s.layout; seat = s.seat; noted = not_noted step p.local.scanned to.local.scanned w s.scanned; scan = s.scan }
+goes_by step p to w s = grind arith
 
 -- its stage is the same, and so is what it knows of the phase; a note is as it was, or that of an end
 pub carried : (p : Polling) (local : Local) → local.view ≡ p.local.view → ((g : ℕ) → (slice_index local.scanned g ≡ END) ⊎ (slice_index local.scanned g ≡ slice_index p.local.scanned g)) → (q : PollStage) → SoundScanAt p q → SoundScanAt (record p { local = local }) q
-carried p local e noted (poll_stage.Marking g m) s = record { there = s.there; own = s.own; marking = rw e s.marking; of = s.of; cycle_is = rw e s.cycle_is; unscanned = λ number again. by number again (noted g); by_wish = s.by_wish } where
-  begun_is : local.view.begun ≡ p.local.view.begun
-  begun_is = ap (λ (v : View). v.begun) e
-
-  by : local.view.begun ≢ END → slice_index local.scanned g ≡ local.view.begun → (slice_index local.scanned g ≡ END) ⊎ (slice_index local.scanned g ≡ slice_index p.local.scanned g) → ⊥
-  by number again (inl ended) = number (sym again ∙ ended)
-  by number again (inr same) = s.unscanned (λ x. number (begun_is ∙ x)) (sym same ∙ again ∙ begun_is)
-carried p local e noted _ s = tt
+carried p local e noted q s = grind arith
 
 -- a goroutine that ends is noted so, and no other note changes
 pub ended_noted : (xs : List ℕ) (g h : ℕ) → (slice_index (slice_set xs g END) h ≡ END) ⊎ (slice_index (slice_set xs g END) h ≡ slice_index xs h)
@@ -96,9 +79,6 @@ ended_noted xs g h = by (eqb h g) (ltb g (length xs)) refl refl where
   by true true e f = inl (subst (λ (x : ℕ). slice_index (slice_set xs g END) x ≡ END) (sym (eqb-true h g e)) (get_or-set_same xs g END 0 (ltb-true _ _ f)))
   by true false e f = inr (ap (λ (ys : List ℕ). slice_index ys h) (set_past xs g END (ltb-false _ _ f)))
   by false there e f = let differs : h ≢ g = grind (arith, nat_tests) in inr (get_or-set_other xs g h END 0 differs)
-
-pub stays_with : (p : Polling) (local : Local) → local.view ≡ p.local.view → local.scanned ≡ p.local.scanned → SoundScanAt p p.stage → Stays p (record p { local = local })
-stays_with p local e f s = record { layout = refl; seat = refl; scanned = f; scan = carried p local e (λ g. inr (ap (λ (xs : List ℕ). slice_index xs g) f)) p.stage s }
 
 pub stays_so : (p : Polling) → SoundScanAt p p.stage → Stays p p
 stays_so p s = record { layout = refl; seat = refl; scanned = refl; scan = s }
@@ -115,25 +95,13 @@ first_goes_on register (value.Nil ∷ values) = first_goes_on (register + 1) val
 first_goes_on register (value.Int n ∷ values) = first_goes_on (register + 1) values
 
 shaded_goes_on : (registers : List Value) (q : StackStage) → stack.is_waiting q ≡ true → GoesOn (stack.after_shade registers q)
-shaded_goes_on registers (stack_stage.Shade register reference) waits = first_goes_on (register + 1) (drop (register + 1) registers)
-shaded_goes_on registers stack_stage.Store waits = absurd (cc)
-shaded_goes_on registers stack_stage.Ended waits = absurd (cc)
+shaded_goes_on registers q waits = grind (arith, first_goes_on)
 
 by_wish : (l : Layout) (held : Option Held) (q : StackStage) → GoesOn q → ShadesByWish q (mark.by_wish l held (stack.wish_of q))
-by_wish l held (stack_stage.Shade register reference) on = refl
-by_wish l held stack_stage.Store on = refl
-by_wish l held stack_stage.Ended on = absurd on
-
--- where the world runs
-room_scan : (p : Polling) (l : Layout) (seat : ℕ) (waits : Bool) (held : Option Held) → SoundScanAt p (room_stage l seat waits held)
-room_scan p l seat true held = tt
-room_scan p l seat false held = by (has_two held) where
-  by : (two : Bool) → SoundScanAt p (cond two poll_stage.Ended (poll_stage.FindRoom (room.opening l seat held)))
-  by true = tt
-  by false = tt
+by_wish l held q on = grind arith
 
 counted_stays : (p : Polling) → Stays p (counted p)
-counted_stays p = record { layout = refl; seat = refl; scanned = refl; scan = room_scan (counted p) p.layout p.seat p.waits p.local.held }
+counted_stays p = grind arith
 
 scans_stay : (p : Polling) → p.local.view.phase ≡ run.Mark → (out : Option ℕ) → due p ≡ out → Stays p (scans p out)
 scans_stay p on None is = counted_stays p
@@ -142,51 +110,37 @@ scans_stay p on (Some g) is =
     record { layout = refl; seat = refl; scanned = refl; scan = record { there = d.there; own = d.own; marking = on; of = refl; cycle_is = refl; unscanned = λ number. d.unscanned; by_wish = by_wish p.layout p.local.held (stack.shade_stage_from (slice_index_or p.local.stacks g []) 0) (first_goes_on 0 (slice_index_or p.local.stacks g [])) } }
 
 marks_stay : (p : Polling) (phase : RunPhase) → p.local.view.phase ≡ phase → Stays p (marks_then p phase)
-marks_stay p run.Off e = record { layout = refl; seat = refl; scanned = refl; scan = tt }
-marks_stay p run.Mark e = scans_stay p e (due p) refl
-marks_stay p run.Finished e = record { layout = refl; seat = refl; scanned = refl; scan = tt }
+marks_stay p phase e = grind (arith, scans_stay)
 
 stops_stay : (p : Polling) (g : give.Giving) (stops : ℕ) → Stays p (stops_then p g stops)
-stops_stay p g stops = by (give.is_busy g.stage) where
-  by : (busy : Bool) → Stays p (cond busy (at_stage p (poll_stage.Giving g stops)) (record p { local = record (p.local) { cache = g.cache; held = g.held }; stage = poll_stage.Resuming (resume.opening p.layout p.seat stops p.local.view) }))
-  by true = record { layout = refl; seat = refl; scanned = refl; scan = tt }
-  by false = record { layout = refl; seat = refl; scanned = refl; scan = tt }
+stops_stay p g stops = grind arith
 
 phases_stay : (p : Polling) (stops : ℕ) (phase : Option RunPhase) → Stays p (by_phase p stops phase)
-phases_stay p stops None = stops_stay p (giving p) stops
-phases_stay p stops (Some phase) = marks_stay p p.local.view.phase refl
+phases_stay p stops phase = grind (arith, marks_stay, stops_stay)
 
 resume_stays : (p : Polling) (r : resume.Resuming) (out : Option Resumed) → Stays p (after_resume p r out)
-resume_stays p r None = record { layout = refl; seat = refl; scanned = refl; scan = tt }
-resume_stays p r (Some out) = let s = marks_stay (resumed p out) out.view.phase refl in record { layout = s.layout; seat = s.seat; scanned = s.scanned; scan = s.scan }
+resume_stays p r out = grind (arith, marks_stay)
 
 resume_not : (r : resume.Resuming) (q : ResumeStage) → WritesOf NotStack (resume.asks_at r q)
-resume_not r resume_stage.Acknowledge = tt
-resume_not r _ = tt
+resume_not r q = grind arith
 
 room_stays : (p : Polling) (r : room.RoomFinding) (out : Option Held) → Stays p (after_room p r out)
-room_stays p r None = record { layout = refl; seat = refl; scanned = refl; scan = tt }
-room_stays p r (Some h) = record { layout = refl; seat = refl; scanned = refl; scan = tt }
+room_stays p r out = grind arith
 
 -- a stack is scanned
 module _ (p : Polling) (g : ℕ) (m : mark.StackMarking) (s : ScansItsOwn p g m) (found : ℕ) where
   marks_on : (n : mark.StackMarking) → n.scan.goroutine ≡ m.scan.goroutine → n.scan.cycle ≡ m.scan.cycle → ShadesByWish n.scan.stage n.stage → Stays p (at_stage p (poll_stage.Marking g n))
-  marks_on n same now wish = record { layout = refl; seat = refl; scanned = refl; scan = record { there = s.there; own = s.own; marking = s.marking; of = same ∙ s.of; cycle_is = now ∙ s.cycle_is; unscanned = s.unscanned; by_wish = wish } }
+  marks_on n same now wish = grind arith
 
   shades_on : (sh : shade.Shading) (out : Option Shaded) → stack.is_waiting m.scan.stage ≡ true → Stays p (at_stage p (poll_stage.Marking g (mark.after_shade m sh out)))
-  shades_on sh None waits = marks_on (mark.at_stage m (Shading sh)) refl refl waits
-  shades_on sh (Some shaded.Done) waits = marks_on (mark.with_shaded m sh.held) refl refl (by_wish m.layout sh.held (stack.after_shade m.scan.registers m.scan.stage) (shaded_goes_on m.scan.registers m.scan.stage waits))
-  shades_on sh (Some shaded.WantsRoom) waits = marks_on (mark.at_stage m (FindRoom sh (room.opening m.layout m.seat sh.held))) refl refl waits
+  shades_on sh out waits = grind (arith, by_wish, marks_on, shaded_goes_on)
 
   finds_on : (sh : shade.Shading) (r : room.RoomFinding) (out : Option Held) → stack.is_waiting m.scan.stage ≡ true → Stays p (at_stage p (poll_stage.Marking g (mark.after_room m sh r out)))
-  finds_on sh r None waits = marks_on (mark.at_stage m (FindRoom sh r)) refl refl waits
-  finds_on sh r (Some h) waits = marks_on (mark.at_stage m (Shading (shade.told_room sh h))) refl refl waits
+  finds_on sh r out waits = grind arith
 
   -- the step of the scan itself
   pub scan_asks : m.stage ≡ Store → stack.asks m.scan ≡ Stores (cell.Scanned g) p.local.view.begun
-  scan_asks e =
-      let last : m.scan.stage ≡ stack_stage.Store = subst (λ (q : MarkStackStage). ShadesByWish m.scan.stage q) e s.by_wish in
-      ap (λ (q : StackStage). stack.asks_at m.scan q) last ∙ ap (λ (h : ℕ). Stores (cell.Scanned h) m.scan.cycle) s.of ∙ ap (λ (n : ℕ). Stores (cell.Scanned g) n) s.cycle_is
+  scan_asks e = grind arith
 
   scanned_goes : m.stage ≡ Store → Goes (stack.asks m.scan) p (counted (scanned p g m.held))
   scanned_goes e =

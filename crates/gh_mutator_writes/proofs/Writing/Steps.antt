@@ -1,11 +1,9 @@
 -- What a step of a whole processor leaves: its heap, its seat, what it knows of the stack that it scans, and the notes.
-use Rattle.std.proofs.Common.{ℕ, Bool, true, false, cond, ltb, List, Option, Some, None, refl}
-use Rattle.gh_base.specs.declared.operation.Op.TheVariants as op
+use Rattle.std.proofs.Common.{ℕ, Bool, true, false, cond, ltb, List, Option, Some, None, refl, arith}
 use Rattle.gh_alloc.specs.Place as place
 use Rattle.gh_alloc.specs.Search as search
 use Rattle.gh_assist.specs.Listing as assist
 use Rattle.gh_assist.specs.Quiet.{AssistsAreQuiet}
-use Rattle.gh_mutator.specs.declared.leave.LeaveStage.TheVariants as leave_stage
 use Rattle.gh_mutator.specs.declared.task.Task.TheVariants as task
 use Rattle.gh_mutator.specs.declared.wait.WaitStage.TheVariants as wait_stage
 use Rattle.gh_mutator.specs.Global as global
@@ -18,35 +16,28 @@ use Rattle.gh_mutator.specs.Register as register
 use Rattle.gh_mutator.specs.Store as store
 use Rattle.gh_mutator.specs.Vocabulary.{Polling}
 use Rattle.gh_mutator.specs.Wait as wait
-use Rattle.gh_mutator_writes.proofs.Vocabulary.{after_assist, Assist, Assisting, Name, Held, after_gc, after_leave, after_poll, asks_at, At, begun_with, cache_span, CachedSpan, Found, LeaveStage, Leaving, NewStage, NoRoom, Op, Place, Placing, Processor, register_of, Search, Seeking, Shape, SoundScanAt, takes_at, taking, Task, Value, Wait, Waiting, WaitStage, WaitState, Wanted, with_ended, WritesOf, Want}
-use Rattle.gh_mutator_writes.proofs.Writing.Polls.{carried, ended_noted, Goes, goes_by, gives_not, heap_not, marking_not, NotStack, poll_goes, Stays, stays_so, stays_with, told_noted}
+use Rattle.gh_mutator_writes.proofs.Vocabulary.{after_assist, Assist, Assisting, Name, Held, after_gc, after_poll, asks_at, begun_with, cache_span, CachedSpan, Found, Leaving, NewStage, Op, Place, Placing, Processor, register_of, Search, Seeking, Shape, SoundScanAt, takes_at, taking, Task, Value, Wait, Waiting, WaitStage, WaitState, Wanted, with_ended, Want}
+use Rattle.gh_mutator_writes.proofs.Writing.Polls.{carried, ended_noted, Goes, goes_by, heap_not, marking_not, NotStack, poll_goes, Stays, stays_so, told_noted}
 use Rattle.gh_mutator_writes.proofs.Writing.Routines.{global_writes, load_writes, store_writes}
 use Rattle.gh_mutator_writes.proofs.Writing.Rows.{assist_writes, place_writes, search_writes}
 
 -- a register takes a value
 taking_stays : (m : Processor) (g d : ℕ) (v : Option Value) → SoundScanAt m.poll m.poll.stage → Stays m.poll (taking m g d v).poll
-taking_stays m g d None s = stays_so m.poll s
-taking_stays m g d (Some v) s = stays_with m.poll _ refl refl s
+taking_stays m g d v s = grind arith
 
 -- and another buffer is held
 kept_stays : (m : Processor) (g d : ℕ) (held : Option Held) (v : Option Value) → SoundScanAt m.poll m.poll.stage → Stays m.poll (taking (keeping m held) g d v).poll
-kept_stays m g d held None s = stays_with m.poll _ refl refl s
-kept_stays m g d held (Some v) s = stays_with m.poll _ refl refl s
+kept_stays m g d held v s = grind arith
 
 -- a new object
 found_stays : (shapes : List Shape) (m : Processor) (w : Wanted) (waited : Bool) (c : Option CachedSpan) (s : Seeking) (out : Option Found) → SoundScanAt m.poll m.poll.stage → Stays m.poll (new.after_search shapes (cache_span m w.sought c) w waited s out).poll
-found_stays shapes m w waited c s None scan = stays_with m.poll _ refl refl scan
-found_stays shapes m w waited c s (Some (At a)) scan = stays_with m.poll _ refl refl scan
-found_stays shapes m w true c s (Some NoRoom) scan = stays_with m.poll _ refl refl scan
-found_stays shapes m w false c s (Some NoRoom) scan = stays_with m.poll _ refl refl scan
+found_stays shapes m w waited c s out scan = grind arith
 
 made_stays : (m : Processor) (w : Wanted) (made : Bool) (a : ℕ) (y : Placing) → SoundScanAt m.poll m.poll.stage → Stays m.poll (new.after_place m w made a y).poll
-made_stays m w true a y s = stays_with m.poll _ refl refl s
-made_stays m w false a y s = stays_so m.poll s
+made_stays m w made a y s = grind arith
 
 assist_stays : (m : Processor) (w : Wanted) (n : Name) (x : Assisting) (out : Option (Unit {0})) → SoundScanAt m.poll m.poll.stage → Stays m.poll (after_assist m w n x out).poll
-assist_stays m w n x None s = stays_so m.poll s
-assist_stays m w n x (Some y) s = stays_with m.poll _ refl refl s
+assist_stays m w n x out s = grind arith
 
 -- a wait
 wait_goes : (w : Waiting) (q : WaitStage) (found : ℕ) → SoundScanAt w.poll w.poll.stage → Goes (wait.asks_at w q) w.poll (wait.goes_at w q found).poll
@@ -87,16 +78,8 @@ module _ (k : AssistsAreQuiet) (shapes : List Shape) (m : Processor) (found : �
     by None = poll_goes m.poll m.poll.stage found s
     by (Some u) = poll_goes m.poll m.poll.stage found s
 
-  leave_not : (x : Leaving) (q : LeaveStage) → WritesOf NotStack (leave.asks_at x q)
-  leave_not x (leave_stage.Giving g) = gives_not g
-  leave_not x leave_stage.Leave = tt
-  leave_not x leave_stage.Left = tt
-
   leaves : (x : Leaving) → Goes (leave.asks x) m.poll (takes_at shapes m (task.Leave x) found).poll
-  leaves x = by (leave.gives x found) where
-    by : (out : Option (Unit {0})) → Goes (leave.asks x) m.poll (after_leave m (leave.goes x found) out).poll
-    by None = goes_by _ m.poll _ (leave_not x x.stage) (stays_so m.poll s)
-    by (Some u) = goes_by _ m.poll _ (leave_not x x.stage) (stays_so m.poll s)
+  leaves x = grind arith
 
   ends : (g : ℕ) → Goes (asks_at m (task.End g)) m.poll (takes_at shapes m (task.End g) found).poll
   ends g = record { layout = refl; seat = refl; noted = told_noted g _ m.poll.local.scanned; scan = carried m.poll (with_ended m.poll g).local refl (λ h. ended_noted m.poll.local.scanned g h) m.poll.stage s }
@@ -116,6 +99,4 @@ module _ (k : AssistsAreQuiet) (shapes : List Shape) (m : Processor) (found : �
 
 -- what is begun
 pub begun_stays : (p : Polling) (o : Op) → SoundScanAt p p.stage → Stays p (begun_with p o)
-begun_stays p op.Poll s = record { layout = refl; seat = refl; scanned = refl; scan = tt }
-begun_stays p op.Leave s = stays_with p _ refl refl s
-begun_stays p _ s = stays_so p s
+begun_stays p o s = grind arith

@@ -2,7 +2,7 @@
 use Rattle.std.proofs.Common.{◌≡◌, ◌≢◌, ℕ, zero, suc, ◌+◌, ◌-◌, ◌*◌, ◌/◌, ◌%◌, ◌^◌, ◌<◌, Bool, true, false, not, cond, refl, sym, ap, ◌∙◌, arith, inl, inr}
 use Rattle.std.specs.Prelude.{bit_and, count_ones, ◌||◌}
 use Rattle.std.specs.Int.{bit_at}
-use Rattle.std.proofs.lemmas.Bool.{lt-ltb, ltb-true}
+use Rattle.std.proofs.lemmas.Bool.{lt-ltb}
 use Rattle.std.proofs.lemmas.Bool.Decides.{eqb_tells}
 use Rattle.std.proofs.lemmas.Nat.{ones_le_self, and_le_l}
 use Rattle.std.proofs.lemmas.Nat.Bits.{bit_at-zero}
@@ -53,11 +53,7 @@ module _ (page : Row) (i : ℕ) where
     sets false e = absurd (cc)
 
     span : (p : ℕ) × (p < i / 16 + 1) × (test p ≡ true) → InSpan page i
-    span (p, l, e) = go (page_of (page p)) refl e where
-      go : (w : PageWord) → page_of (page p) ≡ w → reaches i p w ≡ true → InSpan page i
-      go Free is e = absurd (cc)
-      go (Head h) is e = record { p = p; h = h; head = is; from = omega arith; below = ltb-true i (16 * (p + h.pages)) e }
-      go (Body b) is e = absurd (cc)
+    span h = grind arith
 
   in_span : InSpan page i → in_no_span page i ≡ false
   in_span s =
@@ -66,7 +62,7 @@ module _ (page : Row) (i : ℕ) where
       ap not (one_below test (i / 16 + 1) s.p (omega arith) reached)
 
   no_span : in_no_span page i ≡ true → InSpan page i → ⊥
-  no_span e s = let is = in_span s in absurd (cc)
+  no_span e s = grind (arith, in_span)
 
 module _ (rows : RowsAreWritten) (e : CycleEnd) (ended : HasEnded e) where
   abbrev page_at : ℕ → PageWord
@@ -76,11 +72,7 @@ module _ (rows : RowsAreWritten) (e : CycleEnd) (ended : HasEnded e) where
   flag i = in_no_span (page_words e.words) i
 
   says : (p : ℕ) → SaysFar (generation_of e) (page_at p) (far_in (page_at p))
-  says p = go (page_at p) refl where
-    go : (w : PageWord) → page_at p ≡ w → SaysFar (generation_of e) w (far_in w)
-    go Free is = refl
-    go (Head h) is = ended.numbers p h is
-    go (Body b) is = refl
+  says p = grind arith
 
   none_there : (i : ℕ) → flag i ≡ true → (alloc_at e i ≡ 0) × (marks_at e i ≡ 0)
   none_there i is = ended.outside i (no_span (page_words e.words) i is)
@@ -172,7 +164,4 @@ nobody a (Head h) by = cc
 nobody a (Body b) by = cc
 
 pub ends_well : RowsAreWritten → EndsWell
-ends_well rows = record {
-  good = λ e ended. good_at_end rows e ended;
-  rests = λ e a ended. record { none = λ p by. nobody a (page_of (e.words (cell.Page p))) by; told = refl };
-}
+ends_well rows = grind (arith, good_at_end, nobody)

@@ -21,12 +21,7 @@ use Rattle.gh_sweep.proofs.Sharing.Told.{heap_counts, heap_cut, heap_places, hea
 
 -- a flag that is set
 set_before : (f : ℕ → Bool) (j i : ℕ) → update f j true i ≡ false → f i ≡ false
-set_before f j i e = elim (eqb_tells j i) [
-  | inl y ↦ absurd (go (rw (y.0) at e))
-  | inr n ↦ rw (n.0) at e
-] where
-  go : true ≡ false → ⊥
-  go x = cc
+set_before f j i e = grind arith
 
 module _ (rows : RowsAreWritten) (e : CycleEnd) (ended : HasEnded e) (a : ℕ) (s : Shared) (g : Good e (view s)) where
   abbrev v : View
@@ -82,7 +77,7 @@ module _ (rows : RowsAreWritten) (e : CycleEnd) (ended : HasEnded e) (a : ℕ) (
     marks_fit = subst (λ (n : ℕ). n < 2 ^ 64) (sym marks_here) (ended.marks_fit j)
 
     cut_before : (k : ℕ) → update s.cut j true k ≡ false → s.cut k ≡ false
-    cut_before k is = set_before s.cut j k is
+    cut_before k is = grind (arith, set_before)
 
     untouched_then : UntouchedGood v.page s.far (update s.cut j true) s.clear
     untouched_then k t un = let was = g.untouched k t un in (off_entry s.cut j k true (not_of p h i i i sweeping within k t un) ∙ was.0, was.1)

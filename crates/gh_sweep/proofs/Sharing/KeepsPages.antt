@@ -6,12 +6,10 @@ use Rattle.gh_base.specs.declared.pack.PageWord.{PageWord}
 use Rattle.gh_base.specs.declared.pack.PageWord.TheVariants.{Free, Head, Body}
 use Rattle.gh_base.specs.Packing.{FitsHead, head_word, PackedWordsAreReadBack, page_of}
 use Rattle.gh_base.specs.Rows.{Row, with_word}
-use Rattle.gh_class.specs.declared.class.SizeClass.{SizeClass}
-use Rattle.gh_class.specs.declared.class.SizeClass.TheVariants.{Small, Large}
-use Rattle.gh_class.specs.Classes.{IsSizeClass, slot_of}
+use Rattle.gh_class.specs.Classes.{slot_of}
 use Rattle.gh_heap.specs.Moves.{update}
 use Rattle.gh_heap.specs.Spans.{owned_by}
-use Rattle.gh_sweep.specs.Listing.{bit_words, in_sweep, once_swept, slot_bytes, slot_bytes_of}
+use Rattle.gh_sweep.specs.Listing.{bit_words, in_sweep, once_swept, slot_bytes}
 use Rattle.gh_sweep.specs.Moves.{HasHead, HasNoAllocBit, IsNoHead}
 use Rattle.gh_sweep.specs.Shared.{ApartGood, By, CycleEnd, Done, DueGood, Far, generation_of, Good, HasEnded, HeadsGood, InsideGood, InSpan, IsHeadIn, IsNumbered, LeftGood, nothing_due, NumbersGood, SaysFar, SlotsGood, Unswept, UntouchedGood, View}
 use Rattle.gh_sweep.specs.Vocabulary.{SpanHead}
@@ -71,10 +69,7 @@ module _ (k : Known) where
   says generation h f fits n = subst (λ (w : PageWord). SaysFar generation w f) (sym (reads h fits)) n
 
   pub few_bytes : (h : SpanHead) → FitsHead h → slot_bytes h ≤ 2 ^ 26
-  few_bytes h fits = go h.class fits.class where
-    go : (c : SizeClass) → IsSizeClass c → slot_bytes_of c h.pages ≤ 2 ^ 26
-    go (Small c) is = let few = k.slots c is in omega arith
-    go Large is = let few = fits.pages in omega arith
+  few_bytes h fits = grind arith
 
   module _ (e : CycleEnd) (ended : HasEnded e) (v : View) (g : Good e v) where
     abbrev gen : ℕ

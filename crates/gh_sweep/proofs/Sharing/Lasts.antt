@@ -6,9 +6,9 @@ use Rattle.gh_base.specs.Packing.{page_of}
 use Rattle.gh_sweep.specs.Facts.{OthersAt, SpanStays, SweepKeepsItsFacts}
 use Rattle.gh_sweep.specs.Listing.{bit_words, in_sweep, is_busy, opening, Sweeping}
 use Rattle.gh_sweep.specs.Moves.{OthersLeave, SpanIsLeft, Sweeps}
-use Rattle.gh_sweep.specs.Shared.{By, CycleEnd, generation_of, Good, HasEnded, nothing_due, Shared, view}
-use Rattle.gh_sweep.specs.Sweepers.{has_span, HasReached, IsAtRest, IsOwn, owes_at, SweepIsFine, SweepsAmongOthers}
-use Rattle.gh_sweep.specs.Vocabulary.{Begin, ClearBits, ClearMarks, Ended, Finish, LoadMarks, SpanHead, SweepStage}
+use Rattle.gh_sweep.specs.Shared.{By, CycleEnd, generation_of, Good, HasEnded, Shared, view}
+use Rattle.gh_sweep.specs.Sweepers.{has_span, HasReached, IsAtRest, IsOwn, SweepIsFine, SweepsAmongOthers}
+use Rattle.gh_sweep.specs.Vocabulary.{Begin, ClearBits, ClearMarks, Ended, LoadMarks, SpanHead, SweepStage}
 use Rattle.gh_sweep.proofs.Sharing.KeepsPages.{Known}
 use Rattle.gh_sweep.proofs.Sharing.Own.{lands}
 
@@ -54,9 +54,7 @@ module _ (e : CycleEnd) (a : ℕ) (s t : Shared) (o : OthersLeave e a s t) (m : 
     is_at = reached_lasts m.stage f.is_at;
   } where
     head_of : (stage : SweepStage) → has_span stage ≡ true → HasReached a s m stage → page_of (s.words (Page m.page)) ≡ Head (in_sweep m.head)
-    head_of Begin has r = absurd (cc)
-    head_of (Ended end) has r = absurd (cc)
-    head_of _ has r = r.head
+    head_of stage has r = grind arith
 
     mine : (p : ℕ) → IsOwn m p → t.far p ≡ By a
     mine p own = subst (λ (n : ℕ). t.far n ≡ By a) own.1 (o.mine m.page m.head ((f.right m.page).1 (own.0, refl)) (head_of m.stage own.0 f.is_at)).by
@@ -79,15 +77,7 @@ opens e a s p h ended g rest is number =
 
 -- And it ends at rest.
 rests : (e : CycleEnd) (a : ℕ) (s : Shared) (m : Sweeping) → SweepIsFine e a s m → is_busy m.stage ≡ false → IsAtRest a s
-rests e a s m f ended = record { none = λ p by. none m.stage ended ((f.right p).0 by).0; told = f.due ∙ told m.stage ended } where
-  none : (stage : SweepStage) → is_busy stage ≡ false → has_span stage ≡ true → ⊥
-  none Begin is has = cc
-  none _ is has = cc
-
-  told : (stage : SweepStage) → is_busy stage ≡ false → owes_at m stage ≡ nothing_due
-  told Finish is = refl
-  told (Ended end) is = refl
-  told _ is = absurd (cc)
+rests e a s m f ended = grind arith
 
 pub among_others : Known → SweepKeepsItsFacts → SweepsAmongOthers
 among_others k laws = record {

@@ -22,16 +22,11 @@ slot_in_span slot p h i low high =
     rw (a, b) refl
 
 slot_off_span : (slot : Row) (p : ℕ) (h : SpanHead) (i : ℕ) → (16 * p ≤ i → i < 16 * (p + h.pages) → ⊥) → slots_laid slot p h i ≡ slot i
-slot_off_span slot p h i off = go (leb (16 * p) i) (ltb i (16 * (p + h.pages))) refl refl where
-  go : (a b : Bool) → leb (16 * p) i ≡ a → ltb i (16 * (p + h.pages)) ≡ b → cond (a && b) (slot_bytes h) (slot i) ≡ slot i
-  go true true e f = absurd (off (grind (arith, nat_tests, e)) (grind (arith, nat_tests, f)))
-  go true false e f = refl
-  go false b e f = refl
+slot_off_span slot p h i off = grind arith
 
 -- a word of one span is in no other
 in_one : (p i : ℕ) (h : SpanHead) (q : ℕ) (g : SpanHead) → AreDisjoint p h q g → 16 * q ≤ i → i < 16 * (q + g.pages) → 16 * p ≤ i → i < 16 * (p + h.pages) → ⊥
-in_one p i h q g (inl x) a b c d = omega arith
-in_one p i h q g (inr y) a b c d = omega arith
+in_one p i h q g h2 a b c d = grind arith
 
 module _ (k : Known) (e : CycleEnd) (v : View) (g : Good e v) (p : ℕ) (h : SpanHead) (may : MayLay e v.page p h) where
   abbrev page_then : Row
@@ -102,10 +97,7 @@ module _ (k : Known) (e : CycleEnd) (v : View) (g : Good e v) (p : ℕ) (h : Spa
     go false = g.few i
 
   uncleared : (i : ℕ) → v.cut i ≡ false → v.clear i ≡ false
-  uncleared i un = go (v.clear i) refl where
-    go : (b : Bool) → v.clear i ≡ b → v.clear i ≡ false
-    go true c = absurd (cc (un, g.order i c))
-    go false c = c
+  uncleared i un = grind arith
 
   uncut_then : UncutGood e.slot slot_then v.cut
   uncut_then i un = slot_off_span v.slot p h i (in_other i (g.unswept i (uncleared i un)).span) ∙ g.uncut_slots i un

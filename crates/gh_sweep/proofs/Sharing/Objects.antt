@@ -1,5 +1,5 @@
 -- The words of bits where a cycle has ended, as objects.
-use Rattle.std.proofs.Common.{◌≡◌, ℕ, ◌+◌, ◌*◌, ◌<◌, Bool, true, false, eqb, refl, ap, ◌∙◌, arith, ◌&&◌, not}
+use Rattle.std.proofs.Common.{◌≡◌, ℕ, ◌+◌, ◌*◌, ◌<◌, Bool, eqb, ap, ◌∙◌, arith, ◌&&◌, not}
 use Rattle.std.specs.Int.{bit_at}
 use Rattle.gh_base.specs.Rows.{Row, row_bit, RowsAreWritten}
 use Rattle.gh_sweep.specs.AtEnd.{BitsAreObjects, TheBitsAreObjects}
@@ -30,9 +30,7 @@ module _ (rows : RowsAreWritten) (e : CycleEnd) (ended : HasEnded e) where
   are_objects : BitsAreObjects e
   are_objects = record { marked = all_marked; freed = all_freed; all = sum_of_two _ _ (1024 * e.layout.pages) ∙ sum_same _ _ (1024 * e.layout.pages) (λ k l. both k) } where
     either : (a m : Bool) → bit (a && m) + bit (a && not m) ≡ bit a
-    either true true = refl
-    either true false = refl
-    either false m = refl
+    either a m = grind arith
 
     both : (k : ℕ) → bit (is_set (alloc_at e) (1024 * 0 + k) && is_set (marks_at e) (1024 * 0 + k)) + bit (is_set (alloc_at e) (1024 * 0 + k) && not (is_set (marks_at e) (1024 * 0 + k))) ≡ bit (is_set (alloc_at e) k)
     both k = let at : 1024 * 0 + k ≡ k = omega arith in either (is_set (alloc_at e) (1024 * 0 + k)) (is_set (marks_at e) (1024 * 0 + k)) ∙ ap (λ (x : ℕ). bit (is_set (alloc_at e) x)) at

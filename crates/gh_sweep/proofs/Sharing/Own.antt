@@ -146,10 +146,7 @@ module _ (k : Known) (laws : SweepKeepsItsFacts) (e : CycleEnd) (ended : HasEnde
     due_then = with_word_cut (s.due a) (kept_in (s.words (cell.Alloc j)) (s.words (cell.Mark j))) (freed_in (s.words (cell.Alloc j)) (s.words (cell.Mark j))) (s.slot j)
 
     owes_then : due_then ≡ all_owed (counted m i marks found)
-    owes_then =
-        ap (λ (d : Due). with_word_cut d (kept_in (s.words (cell.Alloc j)) (s.words (cell.Mark j))) (freed_in (s.words (cell.Alloc j)) (s.words (cell.Mark j))) (s.slot j)) f.due
-        ∙ same_due _ _ _ _ (m.kept + kept_in found marks) (m.freed + freed_in found marks) ((m.kept + kept_in found marks) * slot_bytes h) ((m.freed + freed_in found marks) * slot_bytes h)
-        (ap (λ (x : ℕ). m.kept + x) kept_is) (ap (λ (x : ℕ). m.freed + x) freed_is) (bytes_are m.kept _ (kept_in found marks) kept_is) (bytes_are m.freed _ (freed_in found marks) freed_is)
+    owes_then = grind (arith, bytes_are, freed_is, kept_is, same_due)
 
     cut_then : (x : ℕ) → x < bit_words h → update s.cut j true (here x) ≡ ltb x (i + 1)
     cut_then x l = elim (eqb_tells j (here x)) [

@@ -2,7 +2,7 @@
 use Rattle.std.proofs.Common.{◌≡◌, ◌≢◌, ℕ, ◌+◌, ◌*◌, ◌<◌, ◌≤◌, Bool, true, false, refl, sym, ap, subst, ◌∙◌, arith, inl, inr}
 use Rattle.std.proofs.lemmas.Bool.Decides.{eqb_tells}
 use Rattle.gh_base.specs.declared.pack.PageWord.{PageWord}
-use Rattle.gh_base.specs.declared.pack.PageWord.TheVariants.{Free, Head, Body}
+use Rattle.gh_base.specs.declared.pack.PageWord.TheVariants.{Head}
 use Rattle.gh_base.specs.declared.pack.SpanHead.{SpanHead}
 use Rattle.gh_base.specs.Packing.{page_of}
 use Rattle.gh_base.specs.Rows.{Row, with_word}
@@ -28,34 +28,19 @@ same_by a b e = cc
 
 -- What a head's number tells.
 
-module _ (generation : ℕ) (h : SpanHead) where
-  pub tells_unswept : (f : Far) → IsNumbered generation h f → h.number + 2 ≡ generation → f ≡ Unswept
-  tells_unswept Unswept n e = refl
-  tells_unswept (By a) n e = let m = n.0 in absurd (omega arith)
-  tells_unswept Done n e = absurd (omega (arith, n))
-
-  pub tells_done : (f : Far) → IsNumbered generation h f → h.number ≡ generation → f ≡ Done
-  tells_done Unswept n e = let m = n.0 in absurd (omega arith)
-  tells_done (By a) n e = let m = n.0 in absurd (omega arith)
-  tells_done Done n e = refl
-
 module _ (generation : ℕ) (page : Row) (far : ℕ → Far) (good : NumbersGood generation page far) where
   pub numbered : (p : ℕ) (h : SpanHead) → page_of (page p) ≡ Head h → IsNumbered generation h (far p)
   numbered p h e = subst (λ (w : PageWord). SaysFar generation w (far p)) e (good p)
 
   pub far_unswept : (p : ℕ) (h : SpanHead) → page_of (page p) ≡ Head h → h.number + 2 ≡ generation → far p ≡ Unswept
-  far_unswept p h e n = tells_unswept generation h (far p) (numbered p h e) n
+  far_unswept p h e n = grind arith
 
   pub far_done : (p : ℕ) (h : SpanHead) → page_of (page p) ≡ Head h → h.number ≡ generation → far p ≡ Done
-  far_done p h e n = tells_done generation h (far p) (numbered p h e) n
+  far_done p h e n = grind arith
 
   -- what is no span's first page
   pub no_head_done : (p : ℕ) → ((h : SpanHead) → page_of (page p) ≢ Head h) → far p ≡ Done
-  no_head_done p none = go (page_of (page p)) refl (good p) where
-    go : (w : PageWord) → page_of (page p) ≡ w → SaysFar generation w (far p) → far p ≡ Done
-    go Free e s = s
-    go (Head h) e s = absurd (none h e)
-    go (Body b) e s = s
+  no_head_done p none = grind arith
 
 -- a head with as many pages and bytes of a slot
 pub record Alike (word : ℕ) (g : SpanHead) : Type 0 where
@@ -174,10 +159,4 @@ one_span page good i p h e from below s = elim (eqb_tells s.p p) [
 
 -- the marks of a swept span's words are cleared
 pub swept_clear : (generation : ℕ) (page : Row) (far : ℕ → Far) (clear : ℕ → Bool) → ApartGood page → NumbersGood generation page far → LeftGood page far clear → (i : ℕ) (s : InSpan page i) → s.h.number ≡ generation → clear i ≡ true
-swept_clear generation page far clear apart numbers unswept i s n = go (clear i) refl where
-  go : (b : Bool) → clear i ≡ b → clear i ≡ true
-  go true is = is
-  go false is =
-      let l = unswept i is in
-      let same : l.span.p ≡ s.p = one_span page apart i s.p s.h s.head s.from s.below l.span in
-      absurd (l.unswept (ap far same ∙ far_done generation page far numbers s.p s.h s.head n))
+swept_clear generation page far clear apart numbers unswept i s n = grind arith

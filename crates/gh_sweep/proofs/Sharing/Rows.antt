@@ -90,4 +90,4 @@ module _ (rows : RowsAreWritten) (alloc : Row) where
     fits_set good = fits_written alloc (x / 64) (bit_or (alloc (x / 64)) (2 ^ (x % 64))) (or_lt 64 (alloc (x / 64)) (2 ^ (x % 64)) (good (x / 64)) (pow_below (x % 64) 64 place_below)) good
 
     pub one_more : AreWords alloc → row_bit alloc x ≡ 0 → count_ones (bit_or (alloc (x / 64)) (2 ^ (x % 64))) ≡ count_ones (alloc (x / 64)) + 1
-    one_more good clear = set_one (alloc (x / 64)) (x % 64) (good (x / 64)) place_below (sym (rows.bit_of alloc (x / 64) x refl) ∙ clear)
+    one_more good clear = grind (arith, place_below, set_one)

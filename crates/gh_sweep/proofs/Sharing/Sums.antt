@@ -68,10 +68,7 @@ left_at each cut i n l un =
 
 -- where only words without anything are cut all is left
 pub left_all : (each : ℕ → ℕ) (cut : ℕ → Bool) (n : ℕ) → ((i : ℕ) → cut i ≡ true → each i ≡ 0) → left_uncut each cut n ≡ sum_below each n
-left_all each cut n h = sum_same _ _ n (λ q l. go q (cut q) refl) where
-  go : (q : ℕ) (b : Bool) → cut q ≡ b → cond b 0 (each q) ≡ each q
-  go q true e = sym (h q e)
-  go q false e = refl
+left_all each cut n h = grind arith
 
 -- one word of alloc bits changes
 module _ (alloc slot : Row) (i word n : ℕ) (l : i < n) where

@@ -1,9 +1,8 @@
 -- A sweep that runs alone: its words after each word of the span's bits, and at its end.
-use Rattle.std.proofs.Common.{◌≡◌, ◌≢◌, ℕ, zero, suc, ◌+◌, ◌*◌, ◌/◌, ◌%◌, ◌^◌, ◌<◌, ◌≤◌, ◌↔◌, Bool, true, false, cond, eqb, Some, refl, sym, ap, subst, ◌∙◌, arith, inl, inr}
+use Rattle.std.proofs.Common.{◌≡◌, ◌≢◌, ℕ, zero, suc, ◌+◌, ◌*◌, ◌/◌, ◌%◌, ◌^◌, ◌<◌, ◌≤◌, ◌↔◌, Bool, true, false, eqb, Some, refl, sym, ap, subst, ◌∙◌, arith, inl, inr}
 use Rattle.std.specs.Prelude.{bit_and, min}
 use Rattle.std.specs.Int.{bit_at}
-use Rattle.std.proofs.lemmas.Bool.{eqb-true, eq-eqb}
-use Rattle.std.proofs.lemmas.Nat.Bits.{bit_at_and, bit_at-lt}
+use Rattle.std.proofs.lemmas.Nat.Bits.{bit_at_and}
 use Rattle.gh_base.specs.declared.cell.Cell.TheVariants as cell
 use Rattle.gh_base.specs.Packing.{head_word}
 use Rattle.gh_base.specs.Routines.{alone, Leaves}
@@ -43,7 +42,7 @@ module _ (cells : CellsAreTold) (rows : RowsAreWritten) (l : Layout) (page : ℕ
 
   module _ (n : ℕ) (step : Ask) (e : asks (after l page head found n) ≡ step) where
     asks_alone : asks (routine n) ≡ step
-    asks_alone = ap asks (as_told n) ∙ e
+    asks_alone = grind (arith, as_told)
 
     next_words : words (suc n) ≡ effect (words n) step
     next_words = ap (effect (words n)) asks_alone
@@ -65,25 +64,10 @@ module _ (cells : CellsAreTold) (rows : RowsAreWritten) (l : Layout) (page : ℕ
 
   -- the swap writes
   swapped : words 1 ≡ put before (cell.Page page) (head_word (in_sweep head))
-  swapped = by (eqb (before (cell.Page page)) (head_word head)) refl where
-    by : (b : Bool) → eqb (before (cell.Page page)) (head_word head) ≡ b → words 1 ≡ put before (cell.Page page) (head_word (in_sweep head))
-    by true e = ap (λ (b : Bool). cond b (put before (cell.Page page) (head_word (in_sweep head))) before) e
-    by false e = absurd (cc (e, eq-eqb _ _ begun))
+  swapped = grind arith
 
   none_done : Done 0 (put before (cell.Page page) (head_word (in_sweep head)))
-  none_done = record {
-    head_is = cells.put_here before (cell.Page page) (head_word (in_sweep head));
-    cut = λ j lt. absurd (omega arith);
-    uncut = λ j ge. kept (cell.Alloc (16 * page + j)) (λ e. absurd (cc));
-    cleared = λ j lt. absurd (omega arith);
-    marked = λ j ge. kept (cell.Mark (16 * page + j)) (λ e. absurd (cc));
-    tally = kept cell.Tally (λ e. absurd (cc));
-    live = kept cell.Live (λ e. absurd (cc));
-    heap = kept cell.Heap (λ e. absurd (cc));
-    others = λ c o. kept c (λ e. o.head_word (sym e));
-  } where
-    kept : (c : Cell) → cell.Page page ≢ c → put before (cell.Page page) (head_word (in_sweep head)) c ≡ before c
-    kept c ne = cells.put_elsewhere before (cell.Page page) c (head_word (in_sweep head)) ne
+  none_done = grind arith
 
   module _ (i : ℕ) (lt : i < bits) (ws : Words) (done : Done i ws) where
     abbrev alloc_here : Cell
@@ -113,12 +97,10 @@ module _ (cells : CellsAreTold) (rows : RowsAreWritten) (l : Layout) (page : ℕ
         ∙ ap (λ (n : ℕ). bit_and n (before mark_here)) (done.uncut i (omega arith))
 
     cut_more : (j : ℕ) → j < suc i → (b : Bool) → eqb i j ≡ b → with_both (cell.Alloc (16 * page + j)) ≡ bit_and (before (cell.Alloc (16 * page + j))) (before (cell.Mark (16 * page + j)))
-    cut_more j below true e = subst (λ (k : ℕ). with_both (cell.Alloc (16 * page + k)) ≡ bit_and (before (cell.Alloc (16 * page + k))) (before (cell.Mark (16 * page + k)))) (eqb-true _ _ e) cut_here
-    cut_more j below false e = let ne : i ≢ j = λ z. absurd (cc (e, eq-eqb _ _ z)) in other_alloc j ne ∙ done.cut j (omega arith)
+    cut_more j below b e = grind (arith, cut_here, other_alloc)
 
     cleared_more : (j : ℕ) → j < suc i → (b : Bool) → eqb i j ≡ b → with_both (cell.Mark (16 * page + j)) ≡ 0
-    cleared_more j below true e = subst (λ (k : ℕ). with_both (cell.Mark (16 * page + k)) ≡ 0) (eqb-true _ _ e) (cells.put_here with_cut mark_here 0)
-    cleared_more j below false e = let ne : i ≢ j = λ z. absurd (cc (e, eq-eqb _ _ z)) in other_mark j ne ∙ done.cleared j (omega arith)
+    cleared_more j below b e = grind arith
 
     next_done : Done (suc i) with_both
     next_done = record {
@@ -166,10 +148,7 @@ module _ (cells : CellsAreTold) (rows : RowsAreWritten) (l : Layout) (page : ℕ
       subst (λ (ws : Words). Done (suc i) ws) (sym (has_both i lt done)) (next_done i lt (words (1 + 3 * i)) done)
 
   are_told : AreTold (alloc_words before) (mark_words before) l page head found
-  are_told = record {
-    marks_are = λ i lt. finds_marks i lt (done_until i (omega arith));
-    alloc_is = λ i lt. finds_alloc i lt (done_until i (omega arith));
-  }
+  are_told = grind (arith, done_until, finds_alloc, finds_marks)
 
   kept_is : kept l page head found ≡ objects_kept l page head before
   kept_is = kept_counted rows (alloc_words before) (mark_words before) l page head found (λ i. fits (cell.Alloc i)) (λ i. fits (cell.Mark i)) are_told
@@ -225,7 +204,7 @@ module _ (cells : CellsAreTold) (rows : RowsAreWritten) (l : Layout) (page : ℕ
         ∙ ap (λ (n : ℕ). min n (bit_at (before (cell.Mark (16 * page + k / 64))) (k % 64))) (sym (bit_in (alloc_words before) k)) ∙ ap (λ (n : ℕ). min (alloc_bit before (1024 * page + k)) n) (sym (bit_in (mark_words before) k))
 
     bit_small : (row : ℕ → ℕ) (k : ℕ) → row_bit row (1024 * page + k) < 2
-    bit_small row k = let e = bit_in row k in let small = bit_at-lt (row (16 * page + k / 64)) (k % 64) in omega (arith, e, small)
+    bit_small row k = grind (arith, bit_in)
 
     both_bits : (e a m : ℕ) → a < 2 → m < 2 → e ≡ min a m → (e ≡ 1) ↔ ((a ≡ 1) × (m ≡ 1))
     both_bits e a m small low is = (λ one. (omega arith, omega arith), λ h. let x : a ≡ 1 = h.0 in let y : m ≡ 1 = h.1 in omega arith)
@@ -248,19 +227,11 @@ module _ (cells : CellsAreTold) (rows : RowsAreWritten) (l : Layout) (page : ℕ
         ap (λ (n : ℕ). (n + objects_freed l page head before * slot_bytes head) % 2 ^ 64) e ∙ taken_off (objects_freed l page head before * slot_bytes head) (before cell.Heap) (fits cell.Heap)
 
     is_swept : IsSwept l page head before end
-    is_swept = record {
-      objects = λ k lt. both_bits _ _ _ (bit_small (alloc_words before) k) (bit_small (mark_words before) k) (least_bit k lt);
-      marks = λ j lt. as_before (cell.Mark (16 * page + j)) (λ e. absurd (cc)) (λ e. absurd (cc)) (λ e. absurd (cc)) (λ e. absurd (cc)) ∙ done.cleared j lt;
-      tally = tally_at_end;
-      live = live_at_end;
-      heap = heap_at_end;
-      head_is = cells.put_here (told_heap (told_live (told_tally ws))) (cell.Page page) (head_word (once_swept head));
-      others = λ c o. as_before c (λ e. o.tally (sym e)) (λ e. o.live (sym e)) (λ e. o.heap (sym e)) (λ e. o.head_word (sym e)) ∙ done.others c o;
-    }
+    is_swept = grind (arith, as_before, bit_small, both_bits, heap_at_end, least_bit, live_at_end, tally_at_end)
 
   -- it is busy up to its last step
   busy_until : (n : ℕ) → n < last + 4 → is_busy (routine n).stage ≡ true
-  busy_until n lt = ap (λ (s : Sweeping). is_busy s.stage) (as_told n) ∙ (steps.goes_on n).1 (inr (begins, lt))
+  busy_until n lt = grind (arith, as_told, begins, steps)
 
   over : is_busy (routine (last + 4)).stage ≡ false
   over = by (is_busy (routine (last + 4)).stage) refl where

@@ -52,14 +52,10 @@ module _ (rows : RowsAreWritten) (alloc mark : Row) (l : Layout) (page : ℕ) (h
       ∙ freed_bits (alloc (16 * page + i)) (mark (16 * page + i)) (alloc_fits (16 * page + i)) (mark_fits (16 * page + i)) ∙ word_sum (λ a m. bit (eqb a 1 && not (eqb m 1))) i
 
   pub kept_counted : kept_told found (bit_words head) ≡ marked_objects alloc mark page head.pages
-  kept_counted =
-      by_words (λ k. bit (is_set alloc (1024 * page + k) && is_set mark (1024 * page + k))) _ (bit_words head) kept_word
-      ∙ ap (λ (n : ℕ). sum_below (λ k. bit (is_set alloc (1024 * page + k) && is_set mark (1024 * page + k))) n) all_words
+  kept_counted = grind (arith, all_words, by_words, kept_word)
 
   pub freed_counted : freed_told found (bit_words head) ≡ unmarked_objects alloc mark page head.pages
-  freed_counted =
-      by_words (λ k. bit (is_set alloc (1024 * page + k) && not (is_set mark (1024 * page + k)))) _ (bit_words head) freed_word
-      ∙ ap (λ (n : ℕ). sum_below (λ k. bit (is_set alloc (1024 * page + k) && not (is_set mark (1024 * page + k)))) n) all_words
+  freed_counted = grind (arith, all_words, by_words, freed_word)
 
 pub counts : RowsAreWritten → ObjectsAreCounted
 counts rows alloc mark l page head found arena alloc_fits mark_fits begun told = record {

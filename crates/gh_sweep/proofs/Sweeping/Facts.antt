@@ -2,7 +2,6 @@
 use Rattle.std.proofs.Common.{◌≡◌, ◌≢◌, ℕ, suc, ◌+◌, ◌*◌, ◌<◌, ◌≤◌, ◌⊎◌, Bool, true, false, cond, eqb, ltb, Some, None, refl, sym, ap, subst, ◌∙◌, arith, inl, inr}
 use Rattle.std.specs.Prelude.{bit_and, count_ones, min}
 use Rattle.std.specs.Int.{bit_at}
-use Rattle.std.proofs.lemmas.Bool.{eqb-true, eq-eqb, ltb-false}
 use Rattle.std.proofs.lemmas.Nat.Bits.{bit_at_and, bit_at-lt}
 use Rattle.gh_base.specs.declared.cell.Cell.TheVariants as cell
 use Rattle.gh_base.specs.declared.pack.PageWord.TheVariants.{Head}
@@ -11,7 +10,7 @@ use Rattle.gh_base.specs.Rows.{CellsAreTold}
 use Rattle.gh_base.specs.Steps.{cell_of, ChangesOneCell, effect, left}
 use Rattle.gh_sweep.specs.Bits.{kept_in, sum_below}
 use Rattle.gh_sweep.specs.Facts.{alloc_here, Facts, FactsAt, HasCleared, HasNotNumber, HasSwept, IsBehind, IsPlaced, marks_here, MayBegin, Others, OthersAt, OwnStep, SpansAreApart, SpanStays, SweepKeepsItsFacts}
-use Rattle.gh_sweep.specs.Listing.{asks_at, at_stage, bit_words, counted, given_at, goes_at, in_sweep, is_busy, once_swept, slots_in, Sweeping, swept_span, word_at}
+use Rattle.gh_sweep.specs.Listing.{asks_at, at_stage, bit_words, counted, given_at, in_sweep, is_busy, once_swept, slots_in, Sweeping, swept_span, word_at}
 use Rattle.gh_sweep.specs.Sound.{FitsSweep, IsStage}
 use Rattle.gh_sweep.specs.Steps.{IsInArena}
 use Rattle.gh_sweep.specs.Vocabulary.{AddHeap, AddLive, AddTally, Ask, Begin, Cell, ClearBits, ClearMarks, Ended, Finish, LoadMarks, Lost, put, SpanHead, SweepEnd, SweepStage, Swept, SweptSpan, Words}
@@ -24,12 +23,6 @@ not_numbered packed h number fits ne g e same =
     let back : page_of (head_word h) ≡ Head h = packed.page (Head h) fits in
     let is : g ≡ h = cc in
     ne (ap (λ (k : SpanHead). k.number) (sym is) ∙ same)
-
-fits_begun : (h : SpanHead) → FitsSweep h → FitsHead (in_sweep h)
-fits_begun h f = let small = f.number in record { class = f.head.class; some = f.head.some; pages = f.head.pages; owner = f.head.owner; number = omega arith }
-
-fits_swept : (h : SpanHead) → FitsSweep h → FitsHead (once_swept h)
-fits_swept h f = record { class = f.head.class; some = f.head.some; pages = f.head.pages; owner = omega arith; number = f.number }
 
 -- The facts last.
 
@@ -50,16 +43,10 @@ module _ (s : Sweeping) (before after : Words) where
   }
 
   begin_lasts : OthersAt s before after Begin → MayBegin s before → MayBegin s after
-  begin_lasts (inr gone) h = record { none_kept = h.none_kept; head_is = inr gone }
-  begin_lasts (inl same) h = record { none_kept = h.none_kept; head_is = elim h.head_is [ inl e ↦ inl (same ∙ e) | inr g ↦ inr (subst (λ (w : ℕ). HasNotNumber s.head.number w) (sym same) g) ] }
+  begin_lasts h h2 = grind arith
 
   lasts_at : (stage : SweepStage) → IsStage s.head stage → OthersAt s before after stage → FactsAt s before stage → FactsAt s after stage
-  lasts_at Begin is o h = begin_lasts o h
-  lasts_at (LoadMarks i) is o h = swept_lasts i (omega arith) o h
-  lasts_at (ClearBits i marks) is o h = (swept_lasts i (omega arith) o h.0, o.marks_stay i is ∙ h.1)
-  lasts_at (ClearMarks i) is o h = cleared_lasts i is o h
-  lasts_at (Ended end) is o h = tt
-  lasts_at _ is o h = swept_lasts (bit_words s.head) (omega arith) o h
+  lasts_at stage is o h = grind (arith, begin_lasts, cleared_lasts, swept_lasts)
 
 -- A step leaves each cell but its own.
 
@@ -76,9 +63,7 @@ module _ (changes : ChangesOneCell) (cells : CellsAreTold) where
   }
 
   stays_to_others : (t : Sweeping) (before after : Words) (stage : SweepStage) → SpanStays t before after → OthersAt t before after stage
-  stays_to_others t before after Begin o = inl o.head_stays
-  stays_to_others t before after (Ended end) o = tt
-  stays_to_others t before after _ o = o
+  stays_to_others t before after stage o = grind arith
 
   module _ (s t : Sweeping) (words : Words) (placed : IsPlaced s) (apart : SpansAreApart s t) (there : IsInArena t.layout t.page t.head) where
     pages_apart : s.page ≢ t.page
@@ -112,15 +97,11 @@ module _ (changes : ChangesOneCell) (cells : CellsAreTold) where
     abbrev HeadStaysAt : SweepStage → Type 0
     HeadStaysAt stage = (effect words (asks_at s stage) (cell.Page s.page) ≡ words (cell.Page s.page)) ⊎ HasNotNumber s.head.number (effect words (asks_at s stage) (cell.Page s.page))
 
-    begun_gone : HasNotNumber s.head.number (head_word (in_sweep s.head))
-    begun_gone = not_numbered packed (in_sweep s.head) s.head.number (fits_begun s.head fits) (λ e. absurd (omega arith))
-
     swept_gone : HasNotNumber s.head.number (head_word (once_swept s.head))
-    swept_gone = not_numbered packed (once_swept s.head) s.head.number (fits_swept s.head fits) (λ e. absurd (omega arith))
+    swept_gone = grind arith
 
     swap_stays : (b : Bool) → eqb (words (cell.Page s.page)) (head_word s.head) ≡ b → HeadStaysAt Begin
-    swap_stays true e = inr (subst (λ (w : ℕ). HasNotNumber s.head.number w) (sym (ap (λ (b : Bool). cond b (put words (cell.Page s.page) (head_word (in_sweep s.head))) words (cell.Page s.page)) e ∙ cells.put_here words (cell.Page s.page) (head_word (in_sweep s.head)))) begun_gone)
-    swap_stays false e = inl (ap (λ (b : Bool). cond b (put words (cell.Page s.page) (head_word (in_sweep s.head))) words (cell.Page s.page)) e)
+    swap_stays b e = grind arith
 
     head_stays_at : (stage : SweepStage) → HeadStaysAt stage
     head_stays_at Begin = swap_stays _ refl
@@ -157,20 +138,13 @@ module _ (changes : ChangesOneCell) (cells : CellsAreTold) (s : Sweeping) (words
   begin_leads h false e = tt
 
   begin_lost : MayBegin s words → (b : Bool) → eqb (words (cell.Page s.page)) (head_word s.head) ≡ b → given_at (cond b (LoadMarks 0) (Ended Lost)) ≡ Some Lost → HasNotNumber s.head.number (cond b begun_words words (cell.Page s.page))
-  begin_lost h true e g = absurd (cc)
-  begin_lost h false e g = elim h.head_is [ inl x ↦ absurd (cc (e, eq-eqb _ _ x)) | inr gone ↦ gone ]
+  begin_lost h b e g = grind arith
 
   begin_swept : (span : SweptSpan) → (b : Bool) → given_at (cond b (LoadMarks 0) (Ended Lost)) ≡ Some (Swept span) → ⊥
-  begin_swept span true g = absurd (cc)
-  begin_swept span false g = absurd (cc)
+  begin_swept span b g = grind arith
 
   begin_step : MayBegin s words → StepAt Begin
-  begin_step h = record {
-    may = tt;
-    leads = begin_leads h _ refl;
-    lost = begin_lost h _ refl;
-    swept = λ span g. absurd (begin_swept span _ g);
-  }
+  begin_step h = grind (arith, begin_leads, begin_lost, begin_swept)
 
   -- a word's three steps
   load_step : (i : ℕ) → i < bit_words s.head → HasSwept s words i → StepAt (LoadMarks i)
@@ -215,48 +189,23 @@ module _ (changes : ChangesOneCell) (cells : CellsAreTold) (s : Sweeping) (words
           both a m small low is = omega arith
 
     cleared_then : HasCleared (counted s i marks (alloc_here s words i)) cut_words i
-    cleared_then = record { own = h.own; no_marks = h.no_marks; are_marked = marked_then; kept_are = kept_then }
+    cleared_then = grind (arith, kept_then, marked_then)
 
     clear_step : StepAt (ClearBits i marks)
-    clear_step = record {
-      may = (h.own, stays_marked);
-      leads = subst (λ (n : ℕ). HasCleared (counted s i marks (words (cell.Alloc n))) (put words (cell.Alloc n) (bit_and (words (cell.Alloc n)) marks)) i) (sym (own_word i lt)) cleared_then;
-      lost = λ g. absurd (nothing_given Lost g);
-      swept = λ span g. absurd (nothing_given (Swept span) g);
-    }
+    clear_step = grind (arith, cleared_then, nothing_given, own_word, stays_marked)
 
   module _ (i : ℕ) (lt : i < bit_words s.head) (h : HasCleared s words i) where
     abbrev unmarked_words : Words
     unmarked_words = put words (cell.Mark (16 * s.page + i)) 0
 
-    no_marks_then : (j : ℕ) → j < i + 1 → (b : Bool) → eqb i j ≡ b → marks_here s unmarked_words j ≡ 0
-    no_marks_then j below true e = subst (λ (k : ℕ). marks_here s unmarked_words k ≡ 0) (eqb-true _ _ e) (cells.put_here words (cell.Mark (16 * s.page + i)) 0)
-    no_marks_then j below false e =
-        let ne : i ≢ j = λ z. absurd (cc (e, eq-eqb _ _ z)) in
-        cells.put_elsewhere words (cell.Mark (16 * s.page + i)) (cell.Mark (16 * s.page + j)) 0 (λ x. let same : 16 * s.page + i ≡ 16 * s.page + j = cc in absurd (ne (omega arith))) ∙ h.no_marks j (omega arith)
-
-    swept_then : HasSwept s unmarked_words (i + 1)
-    swept_then = record { own = h.own; no_marks = λ j below. no_marks_then j below _ refl; kept_are = h.kept_are }
-
     at_next : (b : Bool) → ltb (i + 1) (bit_words s.head) ≡ b → Facts (at_stage s (cond b (LoadMarks (i + 1)) AddTally)) unmarked_words
-    at_next true e = record { own = swept_then.own; no_marks = swept_then.no_marks; kept_are = swept_then.kept_are }
-    at_next false e =
-        let ge : bit_words s.head ≤ i + 1 = ltb-false _ _ e in
-        let same : i + 1 ≡ bit_words s.head = omega arith in
-        let all : HasSwept s unmarked_words (bit_words s.head) = subst (λ (k : ℕ). HasSwept s unmarked_words k) same swept_then in
-        record { own = all.own; no_marks = all.no_marks; kept_are = all.kept_are }
+    at_next b e = grind arith
 
     goes_on : (end : SweepEnd) (b : Bool) → given_at (cond b (LoadMarks (i + 1)) AddTally) ≡ Some end → ⊥
-    goes_on end true e = cc
-    goes_on end false e = cc
+    goes_on end b e = grind arith
 
     clear_marks_step : StepAt (ClearMarks i)
-    clear_marks_step = record {
-      may = (h.own, h.are_marked);
-      leads = subst (λ (n : ℕ). Facts (goes_at s (ClearMarks i) (words (cell.Mark n))) (put words (cell.Mark n) 0)) (sym (own_word i lt)) (at_next _ refl);
-      lost = λ g. absurd (goes_on Lost _ g);
-      swept = λ span g. absurd (goes_on (Swept span) _ g);
-    }
+    clear_marks_step = grind (arith, at_next, goes_on, own_word)
 
   -- the counts
   module _ (h : HasSwept s words (bit_words s.head)) where

@@ -44,12 +44,6 @@ module _ (f : ℕ → ℕ) (w : ℕ) (small : (k : ℕ) → f k < 2) (some : 1 �
   abbrev AllSet : ℕ → Type 0
   AllSet slots = (n : ℕ) → n < slots → f (n * w) ≡ 1
 
-  all_set_more : (slots : ℕ) → AllSet slots → f (slots * w) ≡ 1 → AllSet (suc slots)
-  all_set_more slots all set n lt = by (eqb n slots) refl where
-    by : (b : Bool) → eqb n slots ≡ b → f (n * w) ≡ 1
-    by true e = ap (λ (k : ℕ). f (k * w)) (eqb-true _ _ e) ∙ set
-    by false e = let ne : n ≢ slots = λ z. absurd (cc (e, eq-eqb _ _ z)) in all n (omega arith)
-
   clear_or_all : (slots : ℕ) → Clear slots ⊎ AllSet slots
   clear_or_all zero = inr (λ n lt. absurd (omega arith))
   clear_or_all (suc slots) = elim (clear_or_all slots) [
@@ -57,11 +51,7 @@ module _ (f : ℕ → ℕ) (w : ℕ) (small : (k : ℕ) → f k < 2) (some : 1 �
     | inr all ↦ by (eqb (f (slots * w)) 0) refl all
   ] where
     by : (b : Bool) → eqb (f (slots * w)) 0 ≡ b → AllSet slots → Clear (suc slots) ⊎ AllSet (suc slots)
-    by true e all = inl (slots, omega arith, eqb-true _ _ e)
-    by false e all =
-        let ne : f (slots * w) ≢ 0 = λ z. absurd (cc (e, eq-eqb _ _ z)) in
-        let low : f (slots * w) < 2 = small (slots * w) in
-        inr (all_set_more slots all (omega arith))
+    by b e all = grind arith
 
   slot_more : (m : ℕ) → sum_below f (suc m * w) ≡ sum_below f (m * w) + sum_below (λ i. f (m * w + i)) w
   slot_more m = let e : suc m * w ≡ m * w + w = omega arith in ap (λ (k : ℕ). sum_below f k) e ∙ sum_behind f (m * w) w
@@ -93,10 +83,7 @@ module _ (f : ℕ → ℕ) (w : ℕ) (small : (k : ℕ) → f k < 2) (some : 1 �
   -- Where no other bit is set.
   module _ (slots room : ℕ) (fit : slots * w ≤ room) (only : (k : ℕ) → k < room → f k ≡ 1 → (n : ℕ) × (n < slots) × (k ≡ n * w)) where
     not_set : (k : ℕ) → (f k ≡ 1 → ⊥) → f k ≡ 0
-    not_set k never = by (eqb (f k) 1) refl where
-      by : (b : Bool) → eqb (f k) 1 ≡ b → f k ≡ 0
-      by true e = absurd (never (eqb-true _ _ e))
-      by false e = let ne : f k ≢ 1 = λ z. absurd (cc (e, eq-eqb _ _ z)) in let low : f k < 2 = small k in omega arith
+    not_set k never = grind arith
 
     -- a word inside a slot is none's first
     inside : (m n i : ℕ) → 1 ≤ i → i < w → m * w + i ≡ n * w → ⊥
@@ -134,7 +121,7 @@ module _ (f : ℕ → ℕ) (w : ℕ) (small : (k : ℕ) → f k < 2) (some : 1 �
 
     -- behind the slots nothing is set
     behind : (k : ℕ) → slots * w ≤ k → k < room → f k ≡ 0
-    behind k le lt = not_set k (λ set. let h = only k lt set in let e : k ≡ h.0 * w = h.2 in let up : suc (h.0) * w ≤ slots * w = mul-le-mul_right w (h.1) in absurd (omega (arith, e, up)))
+    behind k le lt = grind arith
 
     all_of_room : sum_below f room ≡ sum_below f (slots * w)
     all_of_room =
@@ -144,7 +131,7 @@ module _ (f : ℕ → ℕ) (w : ℕ) (small : (k : ℕ) → f k < 2) (some : 1 �
         omega (arith, same, rest, sum_behind f (slots * w) (room - slots * w))
 
     clear_counts : (n : ℕ) → n < slots → f (n * w) ≡ 0 → sum_below f room < slots
-    clear_counts n lt e = omega (arith, all_of_room, fewer n slots lt (omega arith) e)
+    clear_counts n lt e = grind (arith, all_of_room, fewer)
 
 -- A span of a size class: a slot has a word at least, and the slots fit the pages.
 pub record IsCut (c : ℕ) : Type 0 where
@@ -182,13 +169,4 @@ module _ (rows : RowsAreWritten) (s : Sweeping) (words : Words) (span : SweptSpa
   some_word = let least : 8 ≤ slot_of c = cut.least in omega arith
 
   pub clear_is_true : ClearIsTrue (alloc_words words) s.page c span
-  clear_is_true = record {
-    some_slot = λ e.
-        let few : span.kept < slots_of c = ltb-true _ _ (sym clear_is ∙ e) in
-        let clear = some_clear f (slot_words_of c) f_small some_word (slots_of c) (1024 * pages_of c) slots_fit (omega (arith, few, kept_bits_are)) in
-        (clear.0, record { among = clear.1; unset = clear.2 });
-    no_slot = λ e only n clear.
-        let many : slots_of c ≤ span.kept = ltb-false _ _ (sym clear_is ∙ e) in
-        let few = clear_counts f (slot_words_of c) f_small some_word (slots_of c) (1024 * pages_of c) slots_fit only n clear.among clear.unset in
-        absurd (omega (arith, many, few, kept_bits_are));
-  }
+  clear_is_true = grind (arith, clear_counts, clear_is, f_small, kept_bits_are, slots_fit, some_clear, some_word)

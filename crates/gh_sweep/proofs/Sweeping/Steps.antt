@@ -1,12 +1,12 @@
 -- The steps of a sweep: what it is after each of them.
-use Rattle.std.proofs.Common.{◌≡◌, ◌≢◌, ℕ, zero, suc, ◌+◌, ◌-◌, ◌*◌, ◌/◌, ◌%◌, ◌<◌, ◌≤◌, ◌⊎◌, Bool, true, false, cond, eqb, ltb, is_none, Some, refl, sym, ap, subst, ◌∙◌, arith, inl, inr}
+use Rattle.std.proofs.Common.{◌≡◌, ◌≢◌, ℕ, zero, suc, ◌+◌, ◌-◌, ◌*◌, ◌/◌, ◌%◌, ◌<◌, ◌≤◌, ◌⊎◌, Bool, true, false, cond, eqb, ltb, is_none, Some, refl, sym, ap, subst, ◌∙◌, arith}
 use Rattle.std.proofs.Math.Nat.{mod-eq_of_lt}
 use Rattle.std.proofs.lemmas.Bool.{eqb-true, eq-eqb, ltb-true, ltb-false, lt-ltb, le-ltb}
 use Rattle.gh_base.specs.declared.cell.Cell.TheVariants as cell
 use Rattle.gh_base.specs.Packing.{head_word}
 use Rattle.gh_base.specs.Routines.{EndsWithin, GoesOn}
 use Rattle.gh_sweep.specs.Bits.{freed_in, kept_in}
-use Rattle.gh_sweep.specs.Listing.{asks, bit_words, given, gives, goes, is_busy, listing, opening, Sweeping}
+use Rattle.gh_sweep.specs.Listing.{asks, bit_words, gives, goes, is_busy, listing, opening, Sweeping}
 use Rattle.gh_sweep.specs.Steps.{after, alloc_told, EndsBy, freed, freed_told, IsBegun, IsInArena, kept, kept_told, marks_told, span_of, steps_on_bits, StepsOnCounts, StepsOnWord, SweepTakesItsSteps}
 use Rattle.gh_sweep.specs.Vocabulary.{AddHeap, AddLive, AddTally, And, Begin, ClearBits, ClearMarks, Ended, Finish, Layout, Load, LoadMarks, Lost, SpanHead, Store, SweepEnd, SweepStage, Swept, SweptSpan}
 use Rattle.gh_sweep.proofs.Bits.{sum_more, sum_none}
@@ -44,7 +44,7 @@ module _ (l : Layout) (page : ℕ) (head : SpanHead) (found : ℕ → ℕ) where
     swapped b e is = ap (λ (c : Bool). at 0 (cond c (LoadMarks 0) (Ended Lost))) (e ∙ is)
 
     loads_first : now 1 ≡ at 0 (LoadMarks 0)
-    loads_first = ap (λ (s : Sweeping). goes s (found 0)) begins_at ∙ swapped _ refl (eq-eqb _ _ begun)
+    loads_first = grind (arith, begins_at, swapped)
 
     counts_word : (i n : ℕ) → n ≡ 2 + 3 * i → goes (at i (ClearBits i (marks_told found i))) (found n) ≡ at (suc i) (ClearMarks i)
     counts_word i n e =
@@ -58,9 +58,7 @@ module _ (l : Layout) (page : ℕ) (head : SpanHead) (found : ℕ → ℕ) where
         ap now next ∙ ap (λ (s : Sweeping). goes s (found (1 + 3 * i))) e
 
     clears_marks_next : (i : ℕ) → now (2 + 3 * i) ≡ at i (ClearBits i (marks_told found i)) → now (3 + 3 * i) ≡ at (suc i) (ClearMarks i)
-    clears_marks_next i e =
-        let next : 3 + 3 * i ≡ suc (2 + 3 * i) = omega arith in
-        ap now next ∙ ap (λ (s : Sweeping). goes s (found (2 + 3 * i))) e ∙ counts_word i (2 + 3 * i) refl
+    clears_marks_next i e = grind (arith, counts_word)
 
     -- behind a word's three steps
     behind_word : (i : ℕ) → now (3 + 3 * i) ≡ at (suc i) (ClearMarks i) → now (1 + 3 * suc i) ≡ at (suc i) (cond (ltb (i + 1) words) (LoadMarks (i + 1)) AddTally)
@@ -77,10 +75,10 @@ module _ (l : Layout) (page : ℕ) (head : SpanHead) (found : ℕ → ℕ) where
         e ∙ ap (λ (b : Bool). at (suc i) (cond b (LoadMarks (i + 1)) AddTally)) more ∙ ap (λ (n : ℕ). at (suc i) (LoadMarks n)) one
 
     clears : (i : ℕ) → i < words → now (2 + 3 * i) ≡ at i (ClearBits i (marks_told found i))
-    clears i lt = clears_next i (loads i lt)
+    clears i lt = grind (arith, clears_next, loads)
 
     clears_marks : (i : ℕ) → i < words → now (3 + 3 * i) ≡ at (suc i) (ClearMarks i)
-    clears_marks i lt = clears_marks_next i (clears i lt)
+    clears_marks i lt = grind (arith, clears, clears_marks_next)
 
     tells : now (steps_on_bits head) ≡ at words AddTally
     tells =
@@ -90,19 +88,13 @@ module _ (l : Layout) (page : ℕ) (head : SpanHead) (found : ℕ → ℕ) where
         ap (λ (n : ℕ). now (1 + 3 * n)) last ∙ behind_word (words - 1) (clears_marks (words - 1) lt) ∙ ap (λ (b : Bool). at (suc (words - 1)) (cond b (LoadMarks (words - 1 + 1)) AddTally)) none ∙ ap (λ (n : ℕ). at n AddTally) (sym last)
 
     tells_live : now (steps_on_bits head + 1) ≡ at words AddLive
-    tells_live =
-        let next : steps_on_bits head + 1 ≡ suc (steps_on_bits head) = omega arith in
-        ap now next ∙ ap (λ (s : Sweeping). goes s (found (steps_on_bits head))) tells
+    tells_live = grind (arith, tells)
 
     tells_heap : now (steps_on_bits head + 2) ≡ at words AddHeap
-    tells_heap =
-        let next : steps_on_bits head + 2 ≡ suc (steps_on_bits head + 1) = omega arith in
-        ap now next ∙ ap (λ (s : Sweeping). goes s (found (steps_on_bits head + 1))) tells_live
+    tells_heap = grind (arith, tells_live)
 
     finishes : now (steps_on_bits head + 3) ≡ at words Finish
-    finishes =
-        let next : steps_on_bits head + 3 ≡ suc (steps_on_bits head + 2) = omega arith in
-        ap now next ∙ ap (λ (s : Sweeping). goes s (found (steps_on_bits head + 2))) tells_heap
+    finishes = grind (arith, tells_heap)
 
     over : (k : ℕ) → now (steps_on_bits head + 4 + k) ≡ at words (Ended (Swept counted_span))
     over zero =
@@ -165,7 +157,7 @@ module _ (l : Layout) (page : ℕ) (head : SpanHead) (found : ℕ → ℕ) where
 
     -- and by that one it gives what it has counted
     gives_counted : gives (now (steps_on_bits head + 3)) (found (steps_on_bits head + 3)) ≡ Some (Swept counted_span)
-    gives_counted = ap (λ (s : Sweeping). gives s (found (steps_on_bits head + 3))) finishes
+    gives_counted = grind (arith, finishes)
 
     last_is : (n : ℕ) (end : SweepEnd) → EndsBy l page head found n end → n ≡ steps_on_bits head + 3
     last_is n end h = by (ltb (suc n) (steps_on_bits head + 4)) refl where
@@ -179,18 +171,17 @@ module _ (l : Layout) (page : ℕ) (head : SpanHead) (found : ℕ → ℕ) where
   -- Where the swap has not written it has ended.
   module _ (other : found 0 ≢ head_word head) where
     not_begun : (b : Bool) → eqb (found 0) (head_word head) ≡ b → b ≡ false
-    not_begun true e = absurd (other (eqb-true _ _ e))
-    not_begun false e = refl
+    not_begun b e = grind arith
 
     over_at_once : (n : ℕ) → now (suc n) ≡ at 0 (Ended Lost)
     over_at_once zero = ap (λ (s : Sweeping). goes s (found 0)) begins_at ∙ ap (λ (b : Bool). at 0 (cond b (LoadMarks 0) (Ended Lost))) (not_begun _ refl)
     over_at_once (suc n) = ap (λ (s : Sweeping). goes s (found (suc n))) (over_at_once n)
 
     not_busy : (n : ℕ) → is_busy (now (suc n)).stage ≡ false
-    not_busy n = ap (λ (s : Sweeping). is_busy s.stage) (over_at_once n)
+    not_busy n = grind (arith, over_at_once)
 
     lost_first : gives (now 0) (found 0) ≡ Some Lost
-    lost_first = ap given (over_at_once 0)
+    lost_first = grind arith
 
   module _ (arena : IsInArena l page head) where
     on_word : IsBegun l page head found → (i : ℕ) → i < bit_words head → StepsOnWord l page head found i
@@ -201,35 +192,22 @@ module _ (l : Layout) (page : ℕ) (head : SpanHead) (found : ℕ → ℕ) where
     }
 
     on_counts : IsBegun l page head found → StepsOnCounts l page head found
-    on_counts begun = record {
-      adds_tally = ap asks (tells begun arena.some);
-      adds_live = ap asks (tells_live begun arena.some);
-      adds_heap = ap asks (tells_heap begun arena.some);
-      finishes = ap asks (finishes begun arena.some);
-    }
+    on_counts begun = grind (arith, finishes, tells, tells_heap, tells_live)
 
     goes_on_from : (n : ℕ) → (b : Bool) → eqb (found 0) (head_word head) ≡ b → GoesOn listing (opening l page head) found n → (n ≡ 0) ⊎ (IsBegun l page head found × (n < steps_on_bits head + 4))
-    goes_on_from n true e busy =
-        let begun : IsBegun l page head found = eqb-true _ _ e in
-        inr (begun, ltb-true _ _ (sym (goes_on_until begun arena.some n) ∙ busy))
-    goes_on_from zero false e busy = inl refl
-    goes_on_from (suc n) false e busy = absurd (let over = not_busy (is_other e) n in cc)
+    goes_on_from n b e busy = grind (arith, goes_on_until, is_other, not_busy, over)
 
     goes_on_to : (n : ℕ) → (n ≡ 0) ⊎ (IsBegun l page head found × (n < steps_on_bits head + 4)) → GoesOn listing (opening l page head) found n
-    goes_on_to n (inl e) = ap (λ (k : ℕ). is_busy (now k).stage) e
-    goes_on_to n (inr h) = goes_on_until h.0 arena.some n ∙ lt-ltb n (steps_on_bits head + 4) h.1
+    goes_on_to n h = grind (arith, goes_on_until)
 
     lost_from : (n : ℕ) → (b : Bool) → eqb (found 0) (head_word head) ≡ b → EndsBy l page head found n Lost → (n ≡ 0) × (found 0 ≢ head_word head)
-    lost_from n true e h = absurd (let counted = gives_last (eqb-true _ _ e) arena.some n Lost h in cc)
-    lost_from zero false e h = (refl, is_other e)
-    lost_from (suc n) false e h = absurd (let busy = h.0 in let over = not_busy (is_other e) n in cc)
+    lost_from n b e h = grind (arith, gives_last, is_other, not_busy, over)
 
     lost_to : (n : ℕ) → (n ≡ 0) × (found 0 ≢ head_word head) → EndsBy l page head found n Lost
     lost_to n h = subst (λ (k : ℕ). EndsBy l page head found k Lost) (sym h.0) (refl, lost_first h.1)
 
     ends_by : (b : Bool) → eqb (found 0) (head_word head) ≡ b → EndsWithin listing (steps_on_bits head + 4) (opening l page head) found
-    ends_by true e = record { steps = steps_on_bits head + 4; few = omega arith; ended = goes_on_until (eqb-true _ _ e) arena.some (steps_on_bits head + 4) ∙ le-ltb (steps_on_bits head + 4) (steps_on_bits head + 4) (omega arith) }
-    ends_by false e = record { steps = 1; few = omega arith; ended = not_busy (is_other e) 0 }
+    ends_by b e = grind (arith, goes_on_until, is_other, not_busy)
 
     swept_from : (n : ℕ) (span : SweptSpan) → (b : Bool) → eqb (found 0) (head_word head) ≡ b → EndsBy l page head found n (Swept span) → IsBegun l page head found × (n ≡ steps_on_bits head + 3) × (span ≡ counted_span)
     swept_from n span true e h =
@@ -240,7 +218,7 @@ module _ (l : Layout) (page : ℕ) (head : SpanHead) (found : ℕ → ℕ) where
     swept_from (suc n) span false e h = absurd (let busy = h.0 in let over = not_busy (is_other e) n in cc)
 
     swept_to : (n : ℕ) (span : SweptSpan) → IsBegun l page head found × (n ≡ steps_on_bits head + 3) × (span ≡ counted_span) → EndsBy l page head found n (Swept span)
-    swept_to n span h = subst (λ (k : ℕ). EndsBy l page head found k (Swept span)) (sym h.1) (goes_on_to (steps_on_bits head + 3) (inr (h.0, omega arith)), gives_counted h.0 arena.some ∙ ap (λ (s : SweptSpan). Some (Swept s)) (sym h.2))
+    swept_to n span h = grind (arith, gives_counted, goes_on_to)
 
 pub takes_its_steps : SweepTakesItsSteps
 takes_its_steps l page head found arena = record {

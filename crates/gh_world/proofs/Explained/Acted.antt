@@ -5,9 +5,7 @@ use Rattle.std.specs.List.{filter}
 use Rattle.std.proofs.lemmas.Bool.{eqb-true}
 use Rattle.std.proofs.lemmas.Grind.{reverse_onto}
 use Rattle.std.proofs.lemmas.List.{map-append}
-use Rattle.gh_world.specs.Vocabulary.{Act, acts, AllAnswer, Answer, answer_at, answer_of, answered_by, AnsweredDeed, begins, by, deeds, Entry, Ever, ever_after, is_busy_at, Layout, Legal, meaning, model_after, Op, op_at, opening_ever, Processor, processor_kind, Program, Shape, started, state_of, takes, Words, words_after, has_left_at}
-use Rattle.gh_base.specs.declared.value.Answer.TheVariants as answer
-use Rattle.gh_base.specs.declared.operation.Op.TheVariants as op
+use Rattle.gh_world.specs.Vocabulary.{Act, acts, AllAnswer, Answer, answer_at, answered_by, AnsweredDeed, by, deeds, Entry, Ever, ever_after, is_busy_at, Layout, Legal, meaning, model_after, Op, op_at, opening_ever, Processor, processor_kind, Program, Shape, started, state_of, takes, Words, words_after}
 use Rattle.gh_base.specs.Orders.{answered as answered_deed, done_at}
 use Rattle.gh_model.specs.Answers.{Answers, ever_after_all}
 use Rattle.gh_mutator.specs.Acting.{ActsOnce, EachOperationActsOnce}
@@ -81,28 +79,14 @@ module _ (p : Program) (l : Layout) where
 
   -- an act that found no room is one of the points, where there was none
   pub full_there : (es : List (Entry Op)) (e : Entry Op) → FullOnlyThere (arena_of p.shapes l) opening (e ∷ es) → (x : Act) → acts (before_step p.shapes l es e) e.found ≡ Some x → x.full ≡ true →
-      IsFullFor (arena_of p.shapes l) e.actor (words_after opening es) (state_of (processor_kind p.shapes l) e.actor es) x.op
+      IsFullFor (arena_of p.shapes l) e.actor (words_after opening es) x.op
   full_there es e full x is f =
       let m = before_step p.shapes l es e in
       let point : has_point x.op ≡ true = full_pointed m m.task e.found x is f in
       full.1 x (ap point_of is ∙ ap (λ (b : Bool). cond b (Some x) None) point) f
 
-  -- an act is answered so: `full` for a new object alone
-  new_alone : (e : Ever) (seat : ℕ) (words : Words) (m : Processor) (o : Op) → IsFullFor (arena_of p.shapes l) seat words m o → Answers p.shapes e o answer.Full
-  new_alone e seat words m (op.New g d t) f = inr refl
-  new_alone e seat words m (op.Load g d b k) f = absurd f
-  new_alone e seat words m _ f = absurd f
-
-  plain : (e : Ever) (o : Op) → Answers p.shapes e o (answer_of p.shapes e o)
-  plain e (op.New g d t) = inl refl
-  plain e (op.Load g d b k) = refl
-  plain e _ = refl
-
-  act_answers : (e : Ever) (a : Act) (seat : ℕ) (words : Words) (m : Processor) → (a.full ≡ true → IsFullFor (arena_of p.shapes l) seat words m a.op) → Answers p.shapes e a.op (answer_at p.shapes e a)
-  act_answers e a seat words m full = go a.full refl where
-    go : (b : Bool) → a.full ≡ b → Answers p.shapes e a.op (cond a.full answer.Full (answer_of p.shapes e a.op))
-    go true t = rw t (new_alone e seat words m a.op (full t))
-    go false t = rw t (plain e a.op)
+  act_answers : (e : Ever) (a : Act) (seat : ℕ) (words : Words) → (a.full ≡ true → IsFullFor (arena_of p.shapes l) seat words a.op) → Answers p.shapes e a.op (answer_at p.shapes e a)
+  act_answers e a seat words full = grind arith
 
   -- the operations that have acted are answered, in order, as the heap that never frees answers them
   pub record Acted (es : List (Entry Op)) : Type 0 where
@@ -110,16 +94,8 @@ module _ (p : Program) (l : Layout) where
     pub ever : ever_after_all p.shapes opening_ever (reverse (ops_in es)) (reverse (answers_in es)) ≡ ever_of p.shapes l es
 
   acted_more : (es : List (Entry Op)) (e : Entry Op) (a : Option Act) → acts (before_step p.shapes l es e) e.found ≡ a → Acted es →
-      ((x : Act) → a ≡ Some x → x.full ≡ true → IsFullFor (arena_of p.shapes l) e.actor (words_after opening es) (state_of (processor_kind p.shapes l) e.actor es) x.op) → Acted (e ∷ es)
-  acted_more es e None is h full = record { every = rw is h.every; ever = rw is h.ever }
-  acted_more es e (Some x) is h full =
-      let here = act_answers (ever_of p.shapes l es) x e.actor (words_after opening es) (state_of (processor_kind p.shapes l) e.actor es) (full x refl) in
-      let ops = reverse_more x.op (ops_in es) in
-      let answers = reverse_more (answer_at p.shapes (ever_of p.shapes l es) x) (answers_in es) in
-      record {
-        every = rw is (rw (ops, answers) (all_more p.shapes opening_ever _ _ x.op (answer_at p.shapes (ever_of p.shapes l es) x) h.every (rw (h.ever) here)));
-        ever = rw is (rw (ops, answers) (ever_more p.shapes opening_ever _ _ x.op (answer_at p.shapes (ever_of p.shapes l es) x) h.every ∙ ap (λ (y : Ever). ever_after p.shapes y x.op (answer_at p.shapes (ever_of p.shapes l es) x)) h.ever));
-      }
+      ((x : Act) → a ≡ Some x → x.full ≡ true → IsFullFor (arena_of p.shapes l) e.actor (words_after opening es) x.op) → Acted (e ∷ es)
+  acted_more es e a is h full = grind (arith, act_answers, all_more, ever_more, reverse_more)
 
   pub acted_all : (es : List (Entry Op)) → FullOnlyThere (arena_of p.shapes l) opening es → Acted es
   acted_all [] full = record { every = tt; ever = refl }
@@ -128,36 +104,22 @@ module _ (p : Program) (l : Layout) where
   -- ---- what a processor has begun has acted, but for what is to act
 
   module _ (each : EachOperationActsOnce) where
-    begun_op : (m : Processor) (o : Op) → is_busy_at m.task ≡ false → is_busy_at ((processor_kind p.shapes l).begins m o).task ≡ true → op_at ((processor_kind p.shapes l).begins m o).task ≡ Some o
-    begun_op m o idle busy = go (has_left_at m.task) refl where
-      go : (b : Bool) → has_left_at m.task ≡ b → op_at ((processor_kind p.shapes l).begins m o).task ≡ Some o
-      go true left = absurd (let b = subst (λ (x : Bool). is_busy_at (cond x m (begins p.shapes m o)).task ≡ true) left busy in let no : true ≡ false = sym b ∙ idle in cc)
-      go false left = rw left (each.begins p.shapes m o (subst (λ (x : Bool). is_busy_at (cond x m (begins p.shapes m o)).task ≡ true) left busy))
-
     -- what is to act once this is begun, if anything is
     to_act : (m : Processor) (before acted : List Op) (b : Option Op) → ((o : Op) → b ≡ Some o → is_busy_at m.task ≡ false) → is_busy_at (started (processor_kind p.shapes l) b m).task ≡ true → before ≡ option_to_list (op_at m.task) ++ acted →
         option_to_list b ++ before ≡ option_to_list (op_at (started (processor_kind p.shapes l) b m).task) ++ acted
-    to_act m before acted None rested busy h = h
-    to_act m before acted (Some o) rested busy h =
-        let none : before ≡ acted = h ∙ ap (λ (x : Option Op). option_to_list x ++ acted) (each.rests m.task (rested o refl)) in
-        ap (λ (xs : List Op). o ∷ xs) none ∙ sym (ap (λ (x : Option Op). option_to_list x ++ acted) (begun_op m o (rested o refl) busy))
+    to_act m before acted b rested busy h = grind arith
 
     -- what acts goes over to what has acted
     acts_once : (before after : Option Op) (v : Ever) (x : Option Act) (xs : List Answered) → ActsOnce before after x →
         option_to_list before ++ map (λ (y : Answered). y.op) xs ≡ option_to_list after ++ map (λ (y : Answered). y.op) (option_to_list (answered p.shapes l v x) ++ xs)
-    acts_once before after v None xs h = ap (λ (b : Option Op). option_to_list b ++ map (λ (y : Answered). y.op) xs) (sym h)
-    acts_once before after v (Some x) xs h = rw (h.0, h.1) refl
+    acts_once before after v x xs h = grind arith
 
     abbrev IsDone : (a : ℕ) → List (Entry Op) → Type 0
     IsDone a es = begun_in (by a es) ≡ option_to_list (op_at (own a es).task) ++ ops_by a es
 
     -- where the entry is its own, so it is with the operation that is begun
     begun_with : (a : ℕ) (lt : a < l.procs) (es : List (Entry Op)) (e : Entry Op) (legal : Legal (setting_of p l) (e ∷ es)) → IsItsOwn p l es e legal a lt → IsDone a es → begun_in (by a (e ∷ es)) ≡ option_to_list (op_at (before_step p.shapes l es e).task) ++ ops_by a es
-    begun_with a lt es e legal x before =
-        let busy : is_busy_at (started (processor_kind p.shapes l) e.begun (own a es)).task ≡ true = ap (λ (y : Processor). is_busy_at y.task) (sym x.before) ∙ x.busy in
-        begun_own a es e x.here
-        ∙ to_act (own a es) (begun_in (by a es)) (ops_by a es) e.begun x.rested busy before
-        ∙ ap (λ (y : Processor). option_to_list (op_at y.task) ++ ops_by a es) (sym x.before)
+    begun_with a lt es e legal x before = grind (arith, begun_own, to_act)
 
     pub ops_are : (a : ℕ) → a < l.procs → (es : List (Entry Op)) → Legal (setting_of p l) es → IsDone a es
     ops_are a lt [] legal = refl
@@ -209,11 +171,7 @@ module _ (p : Program) (l : Layout) where
   points_by a es = map as_answered (deeds_by a es)
 
   one_point : (v w : Ever) (x : Option Act) (xs : List Answered) → w ≡ v → map as_answered (option_to_list (answered_deed (meaning p.shapes) w (point_of x))) ++ filter is_point_of xs ≡ filter is_point_of (option_to_list (answered p.shapes l v x) ++ xs)
-  one_point v w None xs e = refl
-  one_point v w (Some x) xs e = rw e (go (has_point x.op) refl) where
-    go : (b : Bool) → has_point x.op ≡ b → map as_answered (option_to_list (answered_deed (meaning p.shapes) v (cond b (Some x) None))) ++ filter is_point_of xs ≡ cond (has_point x.op) (record { op = x.op; answer = answer_at p.shapes v x } ∷ filter is_point_of xs) (filter is_point_of xs)
-    go true t = rw t refl
-    go false t = rw t refl
+  one_point v w x xs e = grind arith
 
   abbrev deed_here : List (Entry Op) → Entry Op → List (AnsweredDeed Act Answer)
   deed_here es e = option_to_list (answered_deed (meaning p.shapes) (model_after (processor_kind p.shapes l) (deeds p.shapes) (meaning p.shapes) es) (done_at (processor_kind p.shapes l) (deeds p.shapes) es e))

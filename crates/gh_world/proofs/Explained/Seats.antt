@@ -1,19 +1,16 @@
 -- A processor begins statements of its own goroutines alone; so what acts for a goroutine is what its processor does.
-use Rattle.std.proofs.Common.{◌≡◌, ℕ, ◌<◌, ◌%◌, Bool, true, false, not, cond, eqb, eq-eqb, length, List, [], ◌∷◌, ◌++◌, reverse, Option, Some, None, refl, sym, ap, subst, ◌∙◌, inl, inr}
+use Rattle.std.proofs.Common.{◌≡◌, ℕ, ◌<◌, Bool, true, false, cond, eqb, List, [], ◌∷◌, ◌++◌, reverse, Option, Some, None, refl, sym, ap, subst, ◌∙◌, inl, inr, arith}
 use Rattle.std.specs.Option.{option_to_list}
 use Rattle.std.specs.List.{filter}
 use Rattle.std.proofs.lemmas.Bool.{cases_lt, eqb-true}
 use Rattle.std.proofs.lemmas.List.{append-nil}
 use Rattle.std.proofs.lemmas.List.Elements.{filter-append}
-use Rattle.gh_base.specs.declared.operation.Op.TheVariants as op
 use Rattle.gh_mutator.specs.Acting.{EachOperationActsOnce}
-use Rattle.gh_mutator.specs.Sound.{has_room}
-use Rattle.gh_lists.specs.Order.{acted_at, acted_in, answered, Answered, before_step, begun_in, ever_of, goroutine_is_over, goroutine_of, has_left, in_range, order_at, order_of}
-use Rattle.gh_lists.specs.Processors.{arena_of, has_more, is_of, may_leave, may_run}
+use Rattle.gh_lists.specs.Order.{acted_at, acted_in, answered, Answered, before_step, begun_in, ever_of, goroutine_of, order_at, order_of}
+use Rattle.gh_lists.specs.Processors.{arena_of, is_of}
 use Rattle.gh_world.specs.Runs.{acted_by}
 use Rattle.gh_world.specs.Turns.{is_of_seat, is_statement_of, its_goroutine}
-use Rattle.gh_world.specs.Vocabulary.{Act, acts, Arena, Begins, by, Entry, has_names, is_statement, Layout, Legal, Op, processor_kind, Program, state_of}
-use Rattle.gh_world.specs.Wishes.{wishes_of}
+use Rattle.gh_world.specs.Vocabulary.{Act, acts, Arena, by, Entry, is_statement, Layout, Legal, Op, Program}
 use Rattle.gh_world.specs.World.{setting_of}
 use Rattle.gh_lists.specs.Beginning.{both}
 use Rattle.gh_world.proofs.Explained.Acted.{acts_here, acts_last, reverse_more}
@@ -26,19 +23,9 @@ filter-reverse {A} f (x ∷ xs) = ap (filter f) (reverse_more x xs) ∙ filter-a
   go true = sym (reverse_more x (filter f xs))
   go false = append-nil (reverse (filter f xs))
 
-statement_has : (o : Op) → is_statement o ≡ true → goroutine_of o ≡ Some (its_goroutine o)
-statement_has op.Poll e = absurd cc
-statement_has op.Leave e = absurd cc
-statement_has _ e = refl
-
 -- goroutines of one processor are none of another's
 pub not_another : (p : Program) (a b g : ℕ) → eqb b a ≡ false → is_of_seat p b g ≡ true → is_of_seat p a g ≡ false
-not_another p a b g apart its = go (is_of_seat p a g) refl where
-  go : (c : Bool) → is_of_seat p a g ≡ c → is_of_seat p a g ≡ false
-  go false e = e
-  go true e =
-      let same : b ≡ a = sym (eqb-true (g % p.settings.procs) b its) ∙ eqb-true (g % p.settings.procs) a e in
-      absurd (let no : true ≡ false = sym (eq-eqb b a same) ∙ apart in cc)
+not_another p a b g apart its = grind arith
 
 module _ (p : Program) (l : Layout) (procs : l.procs ≡ p.settings.procs) where
   abbrev arena : Arena
@@ -49,25 +36,11 @@ module _ (p : Program) (l : Layout) (procs : l.procs ≡ p.settings.procs) where
   AreOf a [] = Unit {0}
   AreOf a (o ∷ os) = (is_of arena a (goroutine_of o) ≡ true) × AreOf a os
 
-  may_its : (a : ℕ) (es : List (Entry Op)) (o : Op) → (setting_of p l).may_begin a es o ≡ true → is_of arena a (goroutine_of o) ≡ true
-  may_its a es o may =
-      let m = state_of (processor_kind p.shapes l) a es in
-      let room = both _ (has_room m o) may in
-      let leave = both _ (may_leave arena a es o) room.0 in
-      let few = both _ (has_more (wishes_of p) es o) leave.0 in
-      let here = both (may_run arena a m es o) (not (has_left es)) few.0 in
-      let going = both _ (not (goroutine_is_over es (goroutine_of o))) here.0 in
-      let named = both _ (has_names m o) going.0 in
-      (both (in_range arena.layout.goroutines arena.layout.globals (length arena.shapes) o) (is_of arena a (goroutine_of o)) named.0).1
-
   pub all_its : (a : ℕ) (es : List (Entry Op)) → Legal (setting_of p l) es → AreOf a (begun_in (by a es))
   all_its a [] legal = tt
   all_its a (e ∷ es) legal = go (eqb e.actor a) refl (all_its a es legal.0) where
     one : e.actor ≡ a → (o : Option Op) → e.begun ≡ o → AreOf a (begun_in (by a es)) → AreOf a (option_to_list o ++ begun_in (by a es))
-    one same None is rest = rest
-    one same (Some o) is rest =
-        let begins = subst (λ (b : Option Op). Begins (setting_of p l) e.actor es b) is legal.1.begins in
-        (subst (λ (b : ℕ). is_of arena b (goroutine_of o) ≡ true) same (may_its e.actor (by e.actor es) o begins.1), rest)
+    one same o is rest = grind arith
 
     go : (b : Bool) → eqb e.actor a ≡ b → AreOf a (begun_in (by a es)) → AreOf a (begun_in (cond b (e ∷ by a es) (by a es)))
     go true here rest = one (eqb-true e.actor a here) e.begun refl rest
@@ -75,7 +48,7 @@ module _ (p : Program) (l : Layout) (procs : l.procs ≡ p.settings.procs) where
 
   -- a statement's goroutine is of the processor that it is of
   pub its_seat : (a : ℕ) (o : Op) → is_of arena a (goroutine_of o) ≡ true → is_statement o ≡ true → is_of_seat p a (its_goroutine o) ≡ true
-  its_seat a o its is = ap (λ (n : ℕ). eqb (its_goroutine o % n) a) (sym procs) ∙ ap (is_of arena a) (sym (statement_has o is)) ∙ its
+  its_seat a o its is = grind arith
 
   -- What acts, by processors.
   module _ (each : EachOperationActsOnce) (a g : ℕ) (seat : is_of_seat p a g ≡ true) where
@@ -112,7 +85,4 @@ module _ (p : Program) (l : Layout) (procs : l.procs ≡ p.settings.procs) where
 
     -- the goroutine's statements among all that acted are those among what its processor did
     pub acted_its : (es : List (Entry Op)) → Legal (setting_of p l) es → acted_by g (acted_in p.shapes l es) ≡ acted_by g (acted_at p.shapes l a es)
-    acted_its es legal =
-        filter-reverse (λ (x : Answered). is_statement_of g x.op) (order_of p.shapes l es)
-        ∙ ap (λ (xs : List Answered). reverse xs) (order_its es legal)
-        ∙ sym (filter-reverse (λ (x : Answered). is_statement_of g x.op) (order_at p.shapes l a es))
+    acted_its es legal = grind (arith, filter-reverse, order_its)

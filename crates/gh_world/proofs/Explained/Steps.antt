@@ -1,5 +1,5 @@
 -- What the entries of a run are to the script: each is a step of a processor on an operation, or of an actor that runs none of it.
-use Rattle.std.proofs.Common.{◌≡◌, ℕ, ◌<◌, ◌≤◌, ◌⊎◌, Bool, true, false, cond, ◌&&◌, List, ◌∷◌, Option, Some, None, refl, sym, ap, ◌∙◌}
+use Rattle.std.proofs.Common.{◌≡◌, ℕ, ◌<◌, ◌≤◌, ◌⊎◌, Bool, true, false, cond, ◌&&◌, List, ◌∷◌, Option, Some, None, sym, ap, ◌∙◌, arith}
 use Rattle.std.specs.Prelude.{is_some}
 use Rattle.gh_world.specs.Vocabulary.{Act, acting, acts_at, Answer, begins_at, Entry, has_point, is_busy_at, is_leaving, is_serving, is_statement, Layout, Legal, Op, Processor, Program, register_of, Shape, takes_at, Task}
 use Rattle.gh_base.specs.declared.operation.Op.TheVariants as op
@@ -14,7 +14,7 @@ use Rattle.gh_mutator.specs.Store as store
 use Rattle.gh_mutator.specs.Wait as wait
 use Rattle.gh_world.specs.RunVocabulary.{after_poll, given_at, Polling, setting_of}
 use Rattle.gh_lists.specs.Stepping as steps
-use Rattle.gh_world.proofs.StepFacts.{begin_facts, step_facts}
+use Rattle.gh_world.proofs.StepFacts.{step_facts}
 use Rattle.gh_lists.specs.Stepping.{not_full}
 use Rattle.gh_world.specs.World.{setup_of}
 
@@ -27,19 +27,13 @@ is_pointed (task.Leave x) = false
 is_pointed _ = true
 
 pub given_is : (t : Task) (x : Option Answer) → given_at t x ≡ cond (is_pointed t) x None
-given_is task.Idle x = refl
-given_is _ x = refl
+given_is t x = grind arith
 
 serving_pointed : (t : Task) → is_serving t ≡ true → is_pointed t ≡ true
-serving_pointed task.Idle e = refl
-serving_pointed task.Poll e = absurd cc
-serving_pointed (task.Leave y) e = absurd cc
-serving_pointed _ e = refl
+serving_pointed t e = grind arith
 
 leaving_pointed : (t : Task) → is_leaving t ≡ true → is_busy_at t ≡ true → is_pointed t ≡ false
-leaving_pointed task.Idle e b = absurd cc
-leaving_pointed (task.Leave y) e b = refl
-leaving_pointed _ e b = absurd cc
+leaving_pointed t e b = grind arith
 
 -- a step that does not end the operation leaves it of its kind
 module _ (shapes : List Shape) (m : Processor) where
@@ -50,45 +44,21 @@ module _ (shapes : List Shape) (m : Processor) where
       serving_pointed (takes_at shapes m t found).task still ∙ sym (serving_pointed t is)
 
   polled : (p : Polling) (out : Option (Unit {0})) → is_busy_at (after_poll m p out).task ≡ true → is_pointed (after_poll m p out).task ≡ false
-  polled p None b = refl
-  polled p (Some u) b = absurd cc
+  polled p out b = grind arith
 
   pub stays_pointed : (t : Task) (found : ℕ) → is_busy_at t ≡ true → is_busy_at (takes_at shapes m t found).task ≡ true → is_pointed (takes_at shapes m t found).task ≡ is_pointed t
-  stays_pointed task.Idle found busy next = absurd cc
-  stays_pointed (task.Load x) found busy next = served (task.Load x) found busy refl next
-  stays_pointed (task.Store x) found busy next = served (task.Store x) found busy refl next
-  stays_pointed (task.Global x) found busy next = served (task.Global x) found busy refl next
-  stays_pointed (task.Register x) found busy next = served (task.Register x) found busy refl next
-  stays_pointed (task.New x) found busy next = served (task.New x) found busy refl next
-  stays_pointed (task.Gc g x) found busy next = served (task.Gc g x) found busy refl next
-  stays_pointed task.Poll found busy next = polled (poll.goes m.poll found) (poll.gives m.poll found) next
-  stays_pointed (task.Leave x) found busy next = leaving_pointed (takes_at shapes m (task.Leave x) found).task (step_facts shapes m (task.Leave x) found busy).leaves next
-  stays_pointed _ found busy next = absurd cc
+  stays_pointed t found busy next = grind (arith, leaving_pointed, polled, served)
 
 -- an operation that begins is of its own kind
 pub begins_pointed : (shapes : List Shape) (m : Processor) (o : Op) → is_busy_at (begins_at shapes m o) ≡ true → is_pointed (begins_at shapes m o) ≡ has_point o
-begins_pointed shapes m (op.New g d t) busy = serving_pointed (begins_at shapes m (op.New g d t)) (begin_facts shapes m (op.New g d t) busy).serves
-begins_pointed shapes m (op.Load g d b k) busy = serving_pointed (begins_at shapes m (op.Load g d b k)) (begin_facts shapes m (op.Load g d b k) busy).serves
-begins_pointed shapes m (op.Store g b k v) busy = serving_pointed (begins_at shapes m (op.Store g b k v)) (begin_facts shapes m (op.Store g b k v) busy).serves
-begins_pointed shapes m (op.GetGlobal g d k) busy = serving_pointed (begins_at shapes m (op.GetGlobal g d k)) (begin_facts shapes m (op.GetGlobal g d k) busy).serves
-begins_pointed shapes m (op.SetGlobal g k v) busy = serving_pointed (begins_at shapes m (op.SetGlobal g k v)) (begin_facts shapes m (op.SetGlobal g k v) busy).serves
-begins_pointed shapes m (op.Int g d n) busy = serving_pointed (begins_at shapes m (op.Int g d n)) (begin_facts shapes m (op.Int g d n) busy).serves
-begins_pointed shapes m (op.Move g d s) busy = serving_pointed (begins_at shapes m (op.Move g d s)) (begin_facts shapes m (op.Move g d s) busy).serves
-begins_pointed shapes m (op.Nil g d) busy = serving_pointed (begins_at shapes m (op.Nil g d)) (begin_facts shapes m (op.Nil g d) busy).serves
-begins_pointed shapes m (op.Gc g) busy = serving_pointed (begins_at shapes m (op.Gc g)) (begin_facts shapes m (op.Gc g) busy).serves
-begins_pointed shapes m op.Poll busy = refl
-begins_pointed shapes m _ busy = refl
+begins_pointed shapes m o busy = grind arith
 
 -- a statement has a point
 pub statement_pointed : (o : Op) → has_point o ≡ false → is_statement o ≡ false
-statement_pointed (op.New g d t) e = absurd cc
-statement_pointed op.Poll e = refl
-statement_pointed op.Leave e = refl
-statement_pointed _ e = absurd cc
+statement_pointed o e = grind arith
 
 new_pointed : (b full : Bool) (g d t : ℕ) (x : Act) → acting b (op.New g d t) full ≡ Some x → has_point x.op ≡ true
-new_pointed true full g d t x e = let same : record { op = op.New g d t; full = full } ≡ x = cc in sym (ap (λ (y : Act). has_point y.op) same)
-new_pointed false full g d t x e = absurd cc
+new_pointed b full g d t x e = grind arith
 
 pub full_pointed : (m : Processor) (t : Task) (found : ℕ) (x : Act) → acts_at m t found ≡ Some x → x.full ≡ true → has_point x.op ≡ true
 full_pointed m task.Idle found x e f = absurd cc

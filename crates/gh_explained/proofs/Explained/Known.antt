@@ -6,7 +6,8 @@ use Rattle.gh_lists.specs.LemmaVocabulary.{ProcessorWritesItsOwn}
 use Rattle.gh_worker.specs.Writing.{WorkersWriteTheirOwn}
 use Rattle.gh_lists.specs.declared.handshake.Actor.TheVariants as actor
 use Rattle.gh_lists.specs.Handshake.{KeepsIt}
-use Rattle.gh_lists.specs.Numbers.{IsFew, opened_in, part_of}
+use Rattle.gh_coord.specs.Parts.{part_of}
+use Rattle.gh_lists.specs.Numbers.{IsFew, opened_in}
 use Rattle.gh_world.specs.Vocabulary.{Entry, Layout, Op, Program, words_after, Legal, Coordinating, acks_of}
 use Rattle.gh_world.specs.Wishes.{most_cycles}
 use Rattle.gh_world.specs.World.{actor_after, pacing_of, setting_of, setup_of}

@@ -1,24 +1,23 @@
 -- A run of a script so far goes on by a step of any actor that has not ended: a processor's next step is that of its turns, and each step is on a word that there is. It is whole when all have ended.
-use Rattle.std.proofs.Common.{◌≡◌, ℕ, ◌+◌, ◌<◌, ◌≤◌, Bool, true, false, cond, ltb, eqb, not, ◌||◌, List, [], ◌∷◌, ◌++◌, length, reverse, refl, sym, ap, subst, ◌∙◌, Option, Some, None, arith}
+use Rattle.std.proofs.Common.{◌≡◌, ℕ, ◌+◌, ◌<◌, ◌≤◌, Bool, true, false, cond, eqb, not, ◌||◌, List, [], ◌∷◌, ◌++◌, length, reverse, refl, sym, ap, subst, ◌∙◌, Option, Some, None, arith}
 use Rattle.std.proofs.lemmas.List.{append_cancel_left, append-nil}
 use Rattle.gh_coord.specs.GoingOn.{HasNext}
-use Rattle.gh_coord.specs.Listing as coord
 use Rattle.gh_mutator.specs.PollRoom.{PollsMakeRoom}
 use Rattle.gh_worker.specs.Listing as worker
 use Rattle.gh_lists.specs.declared.handshake.Actor.TheVariants as actor
-use Rattle.gh_world.specs.declared.turns.Next.TheVariants as next
 use Rattle.gh_law.specs.Actors.{AllStands}
 use Rattle.gh_lists.specs.Handshake.{actor_takes}
 use Rattle.gh_world.specs.Runs.{GoesOnBy, has_ended_in, IsRun, IsRunSoFar}
 use Rattle.gh_world.specs.Schedule.{ended_after as ended_at, has_ended}
 use Rattle.gh_world.specs.Turns.{is_run_due, Stands}
-use Rattle.gh_world.specs.World.{LaysOut, MadeAtMost, Polled, pacing_of, setup_of}
-use Rattle.gh_world.proofs.Vocabulary.{acks_of, Actor, actor_after, acts, Begins, begins, begins_at, begun_in, bit, by, cell_of, ended_in, ends, Entry, eqb-true, gives_at, GoesOnUntilDone, has_left, has_left_at, is_busy_at, is_leaving, leave_is_begun, is_statement, Kind, Layout, leaves, Legal, made_by, MayBeOver, Next, Op, op_due, opening_processor, option_to_list, Processor, processor_kind, Program, setting_of, started, state_of, statements_among, takes, Task, to_come, total_of, turns_of, WellFormed, words_after, read_replicate}
+use Rattle.gh_world.specs.World.{LaysOut, MadeAtMost, Polled, setup_of}
+use Rattle.gh_world.specs.declared.turns.Next.{Next}
+use Rattle.gh_world.proofs.Vocabulary.{acks_of, Actor, actor_after, acts, Begins, begins, begins_at, begun_in, bit, by, cell_of, ended_in, ends, Entry, eqb-true, gives_at, GoesOnUntilDone, has_left, has_left_at, is_busy_at, is_leaving, leave_is_begun, is_statement, Kind, Layout, leaves, Legal, made_by, MayBeOver, Op, op_due, opening_processor, option_to_list, Processor, processor_kind, Program, setting_of, started, state_of, statements_among, takes, Task, to_come, total_of, turns_of, WellFormed, words_after, read_replicate}
 use Rattle.gh_world.proofs.MayBegin.{due_begins, ended_then, left_then}
 use Rattle.gh_lists.specs.Seats.{IsSeated, seated}
 use Rattle.gh_world.proofs.Due.{due_runs, false_unless, has_due, idle_not_leaving, none_to_come, not_over}
 use Rattle.gh_world.proofs.Fitting.{due_room, polled_begun, polled_stepped}
-use Rattle.gh_world.proofs.Following.{coming, due_first, Following, following}
+use Rattle.gh_explained.proofs.Following.{coming, due_first, Following, following}
 use Rattle.gh_world.proofs.OneRun.{before, begins_now, one_more}
 use Rattle.gh_world.proofs.Resting.{begun_is, is_processor}
 use Rattle.gh_world.proofs.StepFacts.{begin_facts, BeginFacts, begins_busy, step_facts, StepFacts}
@@ -28,8 +27,7 @@ left_leaves : (t : Task) → has_left_at t ≡ true → is_leaving t ≡ true
 left_leaves t e = grind arith
 
 not_false : (b : Bool) → not b ≡ false → b ≡ true
-not_false true e = refl
-not_false false e = absurd cc
+not_false b e = grind arith
 
 module _ (p : Program) (l : Layout) where
   abbrev one : Kind Processor Op
@@ -57,19 +55,10 @@ module _ (p : Program) (l : Layout) where
     HasNextAt (actor.Leads c) = HasNext c
 
     next_first : (a : ℕ) → HasNextAt (actor_after p l [] a)
-    next_first a = go (ltb a l.procs) (ltb a (acks_of l)) where
-      go : (b d : Bool) → HasNextAt (cond b (actor.Runs (one.start a)) (cond d (actor.Marks (worker.opening l a)) (actor.Leads (coord.opening l a (pacing_of p).gogc (pacing_of p).minheap (pacing_of p).room))))
-      go true d = tt
-      go false true = tt
-      go false false = on.at_first l a (pacing_of p).gogc (pacing_of p).minheap (pacing_of p).room
+    next_first a = grind arith
 
     next_then : (o : Option Op) (x : Actor) (found : ℕ) → all.busy (started all o x) ≡ true → HasNextAt x → HasNextAt (actor_takes p.shapes (started all o x) found)
-    next_then None (actor.Runs m) found busy h = tt
-    next_then (Some o) (actor.Runs m) found busy h = tt
-    next_then None (actor.Marks w) found busy h = tt
-    next_then (Some o) (actor.Marks w) found busy h = tt
-    next_then None (actor.Leads c) found busy h = on.step c found busy
-    next_then (Some o) (actor.Leads c) found busy h = on.step c found busy
+    next_then o x found busy h = grind arith
 
     next_at : (es : List (Entry Op)) → Lawful es → (a : ℕ) → HasNextAt (actor_after p l es a)
     next_at [] legal a = next_first a
@@ -82,9 +71,7 @@ module _ (p : Program) (l : Layout) where
 
 -- only what a turn has behind its poll rests on that poll
 polled_unless : (t : Next) (m : Processor) → is_run_due t ≡ false → Polled t m
-polled_unless (next.Poll r g) m e = tt
-polled_unless (next.Run r g) m e = absurd cc
-polled_unless _ m e = tt
+polled_unless t m e = grind arith
 
 -- before its first step a processor has made nothing
 made_none : (l : Layout) (a : ℕ) → MadeAtMost 0 (opening_processor l a)
@@ -240,10 +227,7 @@ module _ (p : Program) (l : Layout) (formed : WellFormed p) (lays : LaysOut p l)
 
   -- what is to come of each processor behind it
   turns_on : (es : List (Entry Op)) (r : IsRunSoFar p l es) (a : ℕ) (o : Option Op) (rest : List Op) → (a < l.procs → turns_of p a ≡ reverse (option_to_list o ++ begun_in (by a es)) ++ rest) → (b : ℕ) → b < l.procs → turns_of p b ≡ reverse (begun_in (by b (entry es a o ∷ es))) ++ cond (eqb a b) rest (r.to_come b)
-  turns_on es r a o rest turns b lt = go (eqb a b) refl where
-    go : (c : Bool) → eqb a b ≡ c → turns_of p b ≡ reverse (begun_in (cond c (entry es a o ∷ by b es) (by b es))) ++ cond c rest (r.to_come b)
-    go true own = let same : a ≡ b = eqb-true a b own in subst (λ (n : ℕ). turns_of p n ≡ reverse (option_to_list o ++ begun_in (by n es)) ++ rest) same (turns (subst (λ (n : ℕ). n < l.procs) (sym same) lt))
-    go false other = r.turns b lt
+  turns_on es r a o rest turns b lt = grind arith
 
   follows_so : (es : List (Entry Op)) (a : ℕ) (o : Option Op) (rest : List Op) → IsRunSoFar p l es → a < (setting_of p l).actors → Begins (setting_of p l) a es o → (all p l).busy (now es a o) ≡ true → (a < l.procs → turns_of p a ≡ reverse (option_to_list o ++ begun_in (by a es)) ++ rest) → GoesOnBy p l es a
   follows_so es a o rest r lt begins runs turns = record {

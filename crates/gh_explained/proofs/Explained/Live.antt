@@ -17,7 +17,7 @@ use Rattle.gh_world.specs.Runs.{words_in}
 use Rattle.gh_world.specs.Below.{AllStands}
 use Rattle.gh_world.specs.Vocabulary.{Entry, Ever, Layout, Legal, Op, Program, Reach, Words, Name}
 use Rattle.gh_world.specs.World.{setting_of, setup_of}
-use Rattle.gh_world.proofs.Explained.Known.{Known}
+use Rattle.gh_explained.proofs.Explained.Known.{Known}
 use Rattle.gh_law.proofs.Named.Listing.{each_once, is_listed, listed, lists, many_are, Once, sum_is}
 use Rattle.gh_lists.specs.SumsBelow.{by_words, sum_same, sum_times}
 use Rattle.gh_law.proofs.Named.Slots.{AreNamed, Classes, in_arena, InArena, is_placed, name_at, same_or_not}
@@ -104,7 +104,7 @@ module _ (p : Program) (l : Layout) (every : OfEveryList p l) (xs : List (Entry 
       subst (λ (x : ℕ). InArena every.classes l.pages (page_words w) x (size_for p.shapes e.type_of n)) same (in_arena every.classes every.read l.pages (page_words w) y.p y.h y.i (st.stands.place n) (size_for p.shapes e.type_of n) y.slot)
 
   pub one_place : (n : Name) (a b : ℕ) → Reach e n → IsPlacedAt w n a → IsPlacedAt w n b → a ≡ b
-  one_place n a b r at other = st.stands.once n a r at ∙ sym (st.stands.once n b r other)
+  one_place n a b r at other = grind arith
 
   one_name : (n m : Name) (a : ℕ) → Reach e n → Reach e m → IsPlacedAt w n a → IsPlacedAt w m a → n ≡ m
   one_name n m a rn rm pn pm = elim (same_or_not n m) [ inl is ↦ is | inr ne ↦ absurd (apart ne) ] where

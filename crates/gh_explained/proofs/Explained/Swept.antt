@@ -1,12 +1,12 @@
 -- Whichever operation is a `gc`, it is answered `swept`, and had waited for a cycle.
 use Rattle.std.proofs.Common.{◌≡◌, ℕ, Bool, true, false, List, ◌∷◌, refl, sym, ap, subst, inl, ◌∙◌}
-use Rattle.gh_world.specs.Vocabulary.{Act, acts, answer_of, Entry, has_point, Layout, Legal, Op, processor_kind, Program, state_of}
+use Rattle.gh_world.specs.Vocabulary.{Act, acts, answer_of, Entry, has_point, Layout, Legal, Op, Program}
 use Rattle.gh_base.specs.declared.operation.Op.TheVariants as op
 use Rattle.gh_law.specs.Actors.{Awaits}
 use Rattle.gh_lists.specs.Order.{Answered}
 use Rattle.gh_world.specs.RunVocabulary.{arena_of, before_step, EachGcWaits, ever_of, FoundSwept, FullOnlyThere, IsFullFor, setting_of, words_in}
 use Rattle.gh_world.proofs.Explained.Acted.{full_there}
-use Rattle.gh_world.proofs.Explained.Acting.{acts_there, ActsThere, pointed}
+use Rattle.gh_explained.proofs.Explained.Acting.{acts_there, ActsThere, pointed}
 use Rattle.gh_world.specs.World.{setup_of}
 
 module _ (p : Program) (l : Layout) (awaits : (es : List (Entry Op)) → Legal (setting_of p l) es → Awaits (setup_of p l) es) where
@@ -24,7 +24,7 @@ module _ (p : Program) (l : Layout) (awaits : (es : List (Entry Op)) → Legal (
       }
   found_swept es i g x true t is =
       let s = t.step in
-      absurd (subst (IsFullFor (arena_of p.shapes l) s.entry.actor (words_in p l s.before) (state_of (processor_kind p.shapes l) s.entry.actor s.before)) is (full_there p l s.before s.entry t.room (record { op = x.op; full = true }) s.acted refl))
+      absurd (subst (IsFullFor (arena_of p.shapes l) s.entry.actor (words_in p l s.before)) is (full_there p l s.before s.entry t.room (record { op = x.op; full = true }) s.acted refl))
 
   pub gcs_wait : (es : List (Entry Op)) → Legal (setting_of p l) es → FullOnlyThere (arena_of p.shapes l) (setting_of p l).opening es → EachGcWaits p l es
   gcs_wait es legal room i g x at is = let t = acts_there p l es legal room i x at in found_swept es i g x t.0 t.1 is

@@ -1,5 +1,5 @@
 -- The last numbers of a run: how many objects are live, and how many bytes.
-use Rattle.std.proofs.Common.{◌≡◌, ℕ, ◌+◌, ◌*◌, ◌^◌, ◌-◌, ◌<◌, ◌≤◌, Bool, true, false, ◌&&◌, refl, sym, ap, subst, ◌∙◌, arith, List, [], ◌∷◌, get_or, length, Some, inr}
+use Rattle.std.proofs.Common.{◌≡◌, ℕ, ◌+◌, ◌*◌, ◌^◌, ◌-◌, ◌<◌, ◌≤◌, Bool, true, ◌&&◌, sym, ap, subst, ◌∙◌, arith, List, [], ◌∷◌, get_or, length, Some, inr}
 use Rattle.std.specs.Prelude.{◌↔◌, slice_get}
 use Rattle.std.proofs.lemmas.Bool.{eqb-true}
 use Rattle.std.proofs.lemmas.Option.{slice_get-get_or}
@@ -9,12 +9,12 @@ use Rattle.gh_lists.specs.declared.handshake.Actor.TheVariants as actor
 use Rattle.gh_world.specs.Vocabulary.{acks_of, bit, Coordinating, Cycle, Entry, Ever, Layout, Legal, Name, Op, Program, Reach, row_bit, Words}
 use Rattle.gh_world.specs.RunVocabulary.{actor_after, alloc_words, AllStands, AreLive, arena_of, Ask, by_field, by_global, effect, EndsCycle, ever_after_list, from_field, from_global, is_set, IsAmong, IsHeldByGlobals, IsMade, IsMarkedObject, IsPlacedAt, IsStartOf, last_kept, LeavesTheReached, mark_words, marked_by, marked_objects, page_words, setting_of, slot_row, words_in}
 use Rattle.gh_lists.specs.Starts.{legal_start, start_of_start, whole}
-use Rattle.gh_world.proofs.Explained.Cycles.{as_many, at_end, ends_by, is_done}
-use Rattle.gh_world.proofs.Explained.Last.{some_swept}
+use Rattle.gh_explained.proofs.Explained.Cycles.{as_many, at_end, ends_by, is_done}
+use Rattle.gh_explained.proofs.Explained.Last.{some_swept}
 use Rattle.gh_law.proofs.Named.Listing.{are_apart, no_more}
 use Rattle.gh_lists.specs.SumsBelow.{sum_same}
-use Rattle.gh_world.proofs.Explained.Live as live
-use Rattle.gh_world.proofs.Explained.Live.{bytes_by_bits, OfEveryList, set_is}
+use Rattle.gh_explained.proofs.Explained.Live as live
+use Rattle.gh_explained.proofs.Explained.Live.{bytes_by_bits, OfEveryList, set_is}
 use Rattle.gh_lists.specs.Names.{same_birth_same_name}
 use Rattle.gh_lists.specs.Resting.{ever_stays}
 use Rattle.gh_law.proofs.Named.Slots.{AreNamed, is_made, is_placed, name_at}
@@ -28,17 +28,10 @@ shorter : (e : Entry Op) (before es : List (Entry Op)) → IsStartOf (e ∷ befo
 shorter e before es is = start_of_start before (e ∷ before) es (inr (whole before)) is
 
 both_true : (a b : Bool) → a ≡ true → b ≡ true → (a && b) ≡ true
-both_true true true e f = refl
-both_true true false e f = absurd cc
-both_true false b e f = absurd cc
-
-first_true : (a b : Bool) → (a && b) ≡ true → a ≡ true
-first_true true b e = refl
-first_true false b e = absurd cc
+both_true a b e f = grind arith
 
 second_true : (a b : Bool) → (a && b) ≡ true → b ≡ true
-second_true true b e = e
-second_true false b e = absurd cc
+second_true a b e = grind arith
 
 module _ (p : Program) (l : Layout) (every : OfEveryList p l) where
   abbrev words : List (Entry Op) → Words
@@ -80,7 +73,7 @@ module _ (p : Program) (l : Layout) (every : OfEveryList p l) where
       test x = is_set (alloc_words w) x && is_set (mark_words w) x
 
       sets : (x : ℕ) → test x ≡ true → is_set (alloc_words w) x ≡ true
-      sets x t = first_true (is_set (alloc_words w) x) (is_set (mark_words w) x) t
+      sets x t = grind arith
 
       marks_reached : (x : ℕ) → test x ≡ true → Reach (ever before) (name_at w (ever before).made (named before legal_before) x)
       marks_reached x t = (then (name_at w (ever before).made (named before legal_before) x) (is_made w (ever before).made (named before legal_before) x (sets x t))).0 (x, is_placed w (ever before).made (named before legal_before) x (sets x t), eqb-true (row_bit (mark_words w) x) 1 (second_true (is_set (alloc_words w) x) (is_set (mark_words w) x) t))

@@ -1,5 +1,5 @@
-use Rattle.gh_world.proofs.Explained.Top.{all_explained}
-use Rattle.gh_world.proofs.laws.every_run_is_explained.Goals as goal
+use Rattle.gh_explained.proofs.Explained.Top.{all_explained}
+use Rattle.gh_explained.proofs.laws.every_run_is_explained.Goals as goal
 
 pub returns : goal.returns
 returns c =
@@ -14,6 +14,7 @@ returns c =
       rises = c.every_step_changes_numbers.ensures.rises;
       numbers = c.every_step_changes_numbers.ensures.numbers;
       few = c.cycles_are_few.ensures;
+      room = c.cycles_have_room.ensures;
       balances = c.every_list_balances.ensures;
       begins_few = c.processors_begin_few.ensures;
       bits = c.set_bits_are_counted.ensures;

@@ -13,25 +13,26 @@ use Rattle.gh_lists.specs.Counts.{stored_in}
 use Rattle.gh_law.specs.Credit.{CreditStands, EveryListBalances, lapsed_in, spent_in}
 use Rattle.gh_lists.specs.Order.{acted_in, Answered}
 use Rattle.gh_world.specs.Runs.{CreditIsTold, spent_after}
-use Rattle.gh_world.specs.Vocabulary.{acts, Coordinating, Entry, Ever, Layout, Legal, Name, Op, opening_ever, processor_kind, Program, Reach, state_of, statements_of, WellFormed, CoordStage}
+use Rattle.gh_world.specs.Vocabulary.{acts, Coordinating, Entry, Ever, Layout, Legal, Name, Op, opening_ever, Program, Reach, statements_of, WellFormed, CoordStage}
+use Rattle.gh_world.specs.Runs.{CyclesHaveRoom}
 use Rattle.gh_world.specs.RunVocabulary.{actor_after, AllStands, answers_given, AreFew, AreLive, arena_of, before_step, count_of, CyclesAreFew, EachOperationActsOnce, ever_after_list, ever_of, EveryListKeepsIt, EveryListOfAScriptStands, EveryRunIsExplained, has_ended, is_statement_of, IsExplained, IsHeldByGlobals, IsMade, IsRun, IsStartOf, LaysOut, LeavesTheReached, OnlyPointsChange, statement_as_op, order_of, outcome_by, ProcessorsBeginFew, ProcessorWritesItsOwn, SetBitsAreCounted, setting_of, SlotsAreRead, total_of, wishes_of, WorkersWriteTheirOwn, swept_cycle, Done}
 use Rattle.gh_world.proofs.Asking.{asked_of}
 use Rattle.gh_world.proofs.EachOnce.{acted_ops, none_beyond}
-use Rattle.gh_world.proofs.OfScripts.{few_in_all, many_wishes, shapes_good}
+use Rattle.gh_world.proofs.OfScripts.{are_few as few_of_lists, few_in_all, shapes_good}
 use Rattle.gh_world.proofs.Turning.{count-le}
 use Rattle.gh_world.proofs.Wishing.{filter_few}
 use Rattle.gh_world.proofs.Explained.Acted.{Acted, acted_all, answers_in, ever_is, map-reverse, ops_in}
-use Rattle.gh_world.proofs.Explained.Answers as answers
-use Rattle.gh_world.proofs.Explained.Beyond.{all_leave, held_at_end}
-use Rattle.gh_world.proofs.Explained.Cycles.{cycles_are, is_done, many_ended}
-use Rattle.gh_world.proofs.Explained.Known.{Known}
-use Rattle.gh_world.proofs.Explained.Live.{OfEveryList}
+use Rattle.gh_explained.proofs.Explained.Answers as answers
+use Rattle.gh_explained.proofs.Explained.Beyond.{all_leave, held_at_end}
+use Rattle.gh_explained.proofs.Explained.Cycles.{cycles_are, is_done, many_ended}
+use Rattle.gh_explained.proofs.Explained.Known.{Known}
+use Rattle.gh_explained.proofs.Explained.Live.{OfEveryList}
 use Rattle.gh_lists.specs.Made.{grows, made_all}
 use Rattle.gh_law.proofs.Named.Naming.{IsNamed, named-acted, named-opening, reached-made}
-use Rattle.gh_world.proofs.Explained.NoRoom.{full_means}
+use Rattle.gh_explained.proofs.Explained.NoRoom.{full_means}
 use Rattle.gh_law.proofs.Named.Slots.{Classes}
-use Rattle.gh_world.proofs.Explained.Swept.{gcs_wait}
-use Rattle.gh_world.proofs.Explained.Totals.{are_live}
+use Rattle.gh_explained.proofs.Explained.Swept.{gcs_wait}
+use Rattle.gh_explained.proofs.Explained.Totals.{are_live}
 use Rattle.gh_lists.specs.Changes.{EveryListHasItsNumbers, EveryStepChangesNumbers, NoNumberFalls}
 use Rattle.gh_world.specs.World.{given_for, setup_of}
 
@@ -46,6 +47,7 @@ pub record Laws : Type 0 where
   pub rises : NoNumberFalls
   pub numbers : EveryListHasItsNumbers
   pub few : CyclesAreFew
+  pub room : CyclesHaveRoom
   pub balances : EveryListBalances
   pub begins_few : ProcessorsBeginFew
   pub bits : SetBitsAreCounted
@@ -63,9 +65,7 @@ few_of p g formed =
 
 module _ (laws : Laws) (p : Program) (l : Layout) (formed : WellFormed p) (out : LaysOut p l) where
   are_few : (es : List (Entry Op)) → Legal (setting_of p l) es → AreFew (wishes_of p) l es
-  are_few es legal =
-      laws.few (setup_of p l) (arena_of p.shapes l).seat_of (wishes_of p)
-      (laws.begins_few (arena_of p.shapes l) (wishes_of p) (λ a es. state_of (processor_kind p.shapes l) a es) (few_in_all p l formed out)) es legal
+  are_few es legal = few_of_lists p l formed out laws.few laws.begins_few es legal
 
   known : Known p l
   known = record {
@@ -78,7 +78,7 @@ module _ (laws : Laws) (p : Program) (l : Layout) (formed : WellFormed p) (out :
     changes = laws.changes;
     rises = laws.rises;
     numbers = laws.numbers;
-    roomy = λ es legal. let o = (are_few es legal).opened in let many = many_wishes p l formed out in omega (arith, o, many);
+    roomy = λ es legal. laws.room p l es formed out legal;
   }
 
   every : (es : List (Entry Op)) → Legal (setting_of p l) es → AllStands (setup_of p l) es

@@ -1,20 +1,19 @@
 -- The cycles that the coordinator keeps are those that have ended in the list, in their order, with what was marked and white where each ended.
-use Rattle.std.proofs.Common.{◌≡◌, ℕ, zero, suc, ◌+◌, inl, inr, true, refl, sym, ap, subst, ◌∙◌, arith, List, [], ◌∷◌, ◌++◌, map, length, Option, Some, None}
+use Rattle.std.proofs.Common.{◌≡◌, ℕ, zero, suc, ◌+◌, inl, inr, true, refl, sym, ap, subst, ◌∙◌, arith, List, [], ◌∷◌, ◌++◌, map, length, Some}
 use Rattle.std.specs.Prelude.{slice_get}
 use Rattle.std.proofs.lemmas.List.{append-nil, length-append}
-use Rattle.gh_base.specs.declared.cell.Ask.TheVariants.{Load, Store}
+use Rattle.gh_base.specs.declared.cell.Ask.TheVariants.{Store}
 use Rattle.gh_base.specs.declared.cell.Cell.TheVariants as cell
-use Rattle.gh_coord.specs.Closing as close
 use Rattle.gh_coord.specs.Listing as coord
 use Rattle.gh_lists.specs.declared.handshake.Actor.TheVariants as actor
 use Rattle.gh_lists.specs.Counts.{stored_after, stored_in}
-use Rattle.gh_world.specs.Vocabulary.{acks_of, Actor, Coordinating, CoordStage, Cycle, Entry, Layout, Legal, Op, Program, started, Words, words_after}
-use Rattle.gh_world.specs.RunVocabulary.{actor_after, alloc_words, AllWereCounted, Ask, Cell, Close, cycles_in, Done, effect, ended_by, EndsCycle, generation_after, IsEnding, IsStartOf, LoadAck, mark_words, marked_objects, opened_in, Outside, pacing_of, Part, part_of, setting_of, swept_cycle, SweptCycle, unmarked_objects, WasCounted, words_in}
+use Rattle.gh_world.specs.Vocabulary.{acks_of, Coordinating, CoordStage, Cycle, Entry, Layout, Legal, Op, Program, Words, words_after}
+use Rattle.gh_world.specs.RunVocabulary.{actor_after, alloc_words, AllWereCounted, Ask, Cell, cycles_in, Done, effect, ended_by, EndsCycle, generation_after, IsStartOf, mark_words, marked_objects, opened_in, Outside, pacing_of, Part, part_of, setting_of, swept_cycle, SweptCycle, unmarked_objects, WasCounted, words_in}
 use Rattle.gh_lists.specs.Starts.{legal_start}
 use Rattle.gh_lists.specs.Frames.{numbers_of}
 use Rattle.gh_lists.specs.Parts.{At, own_counts}
-use Rattle.gh_world.proofs.Explained.Known.{Changes, changes, counted, Known}
-use Rattle.gh_world.proofs.Explained.Acting.{one_more_at}
+use Rattle.gh_explained.proofs.Explained.Known.{Changes, changes, counted, Known}
+use Rattle.gh_explained.proofs.Explained.Acting.{one_more_at}
 use Rattle.gh_lists.specs.Changes.{begins, ends, same, Spares, tells}
 use Rattle.gh_world.specs.World.{setup_of}
 
@@ -43,9 +42,7 @@ same_elements f (x ∷ xs) (y ∷ ys) long h =
 -- ---- which steps end a cycle
 
 none_stored : (l : Layout) (v : Words) (c : Cell) (value : ℕ) → (c ≡ cell.Gen → ⊥) → ended_by l v (Store c value) ≡ []
-none_stored l v cell.Touch value ne = refl
-none_stored l v cell.Gen value ne = absurd (ne refl)
-none_stored l v _ value ne = refl
+none_stored l v c value ne = grind arith
 
 -- whoever spares the generation stores none
 spares_none : (value : ℕ) → Spares (Store cell.Gen value) → ⊥
@@ -55,27 +52,14 @@ not_gen : (c : Cell) (value : ℕ) → Spares (Store c value) → c ≡ cell.Gen
 not_gen c value s e = spares_none value (subst (λ (d : Cell). Spares (Store d value)) e s)
 
 none_ended : (l : Layout) (v : Words) (ask : Ask) → Spares ask → ended_by l v ask ≡ []
-none_ended l v (Load c) s = refl
-none_ended l v (Store c value) s = none_stored l v c value (not_gen c value s)
-none_ended l v _ s = refl
-
-ending_asks : (c : Coordinating) (p : CoordStage) → IsEnding p → (h : ℕ) × (coord.asks_at c p ≡ Store cell.Gen h)
-ending_asks c (Close x) is = (x.generation, ap (close.asks_at x) is)
-ending_asks c (LoadAck i) is = absurd is
-ending_asks c _ is = absurd is
+none_ended l v ask s = grind (arith, none_stored, not_gen)
 
 pub is_done : (st : CoordStage) → coord.is_done_at st ≡ true → st ≡ Done
-is_done Done e = refl
-is_done (LoadAck i) e = absurd cc
-is_done _ e = absurd cc
+is_done st e = grind arith
 
 -- as many cycles have ended in a list as it stores the sweep generation
 ended_once : (l : Layout) (w : Words) (ask : Ask) (n : ℕ) → n + length (ended_by l w ask) ≡ stored_after cell.Gen ask n
-ended_once l w (Store c value) n = by_cell c where
-  by_cell : (at : Cell) → n + length (ended_by l w (Store at value)) ≡ stored_after cell.Gen (Store at value) n
-  by_cell cell.Gen = omega arith
-  by_cell _ = omega arith
-ended_once l w _ n = omega arith
+ended_once l w ask n = grind arith
 
 pub many_ended : (l : Layout) (opening : Words) (es : List (Entry Op)) → length (cycles_in l opening es) ≡ stored_in cell.Gen es
 many_ended l opening [] = refl
@@ -139,16 +123,9 @@ module _ (p : Program) (l : Layout) (k : Known p l) where
   abbrev pub Ending : (number : ℕ) → List (Entry Op) → Type 0
   Ending number es = EndsCycle (setup_of p l) number es
 
-  led_asks : (o : Option Op) (c : Coordinating) → (setting_of p l).kind.asks (started (setting_of p l).kind o (actor.Leads c)) ≡ coord.asks c
-  led_asks None c = refl
-  led_asks (Some o) c = refl
-
   -- the entry stores the next sweep generation
   pub ends_by : (number : ℕ) (e : Entry Op) (es : List (Entry Op)) → Legal (setting_of p l) (e ∷ es) → Ending number (e ∷ es) → (h : ℕ) × (e.ask ≡ Store cell.Gen h)
-  ends_by number e es legal x =
-      let state : actor_after p l es e.actor ≡ actor.Leads x.lead = ap (actor_after p l es) x.by ∙ x.led in
-      let y = ending_asks x.lead x.lead.stage x.stage in
-      (y.0, legal.1.asks ∙ ap (λ (a : Actor). (setting_of p l).kind.asks (started (setting_of p l).kind e.begun a)) state ∙ led_asks e.begun x.lead ∙ y.1)
+  ends_by number e es legal x = grind arith
 
   here : (number : ℕ) (e : Entry Op) (es : List (Entry Op)) → Legal (setting_of p l) (e ∷ es) → Ending number (e ∷ es) → slice_get (ended_in (e ∷ es)) (length (ended_in es)) ≡ Some (ended_at number (words (e ∷ es)))
   here number e es legal x = by (changes p l k e es legal) where
@@ -182,11 +159,7 @@ module _ (p : Program) (l : Layout) (k : Known p l) where
 
   -- and at its place
   placed : (number : ℕ) (ended es : List (Entry Op)) → IsStartOf ended es → Legal (setting_of p l) es → Ending (suc number) ended → slice_get (ended_in es) number ≡ Some (ended_at (suc number) (words ended))
-  placed number ended es start legal x =
-      let y = among (suc number) ended es start legal x in
-      let n : suc number ≡ suc y.0 = (numbered es legal).each y.0 (ended_at (suc number) (words ended)) y.1 in
-      let at : y.0 ≡ number = omega (arith, n) in
-      subst (λ (i : ℕ). slice_get (ended_in es) i ≡ Some (ended_at (suc number) (words ended))) at y.1
+  placed number ended es start legal x = grind (arith, among, numbered)
 
   -- ---- what the coordinator keeps
 
@@ -201,7 +174,7 @@ module _ (p : Program) (l : Layout) (k : Known p l) where
         told w k_is = rw (k_is, w.marked, w.freed) refl
 
   is_outside : (c : Coordinating) → coord.is_done_at c.stage ≡ true → part_of c.stage ≡ Outside
-  is_outside c e = ap part_of (is_done c.stage e)
+  is_outside c e = grind arith
 
   -- where it is done
   module _ (es : List (Entry Op)) (c : Coordinating) (legal : Legal (setting_of p l) es) (led : actor_after p l es (acks_of l) ≡ actor.Leads c) (done : coord.is_done_at c.stage ≡ true) where

@@ -3,7 +3,8 @@ use Rattle.std.proofs.Common.{◌≡◌, ℕ, zero, suc, ◌+◌, ◌-◌, ◌�
 use Rattle.gh_base.specs.declared.operation.Op.TheVariants as op
 use Rattle.gh_world.specs.declared.turns.Next.TheVariants as next
 use Rattle.gh_world.specs.Turns.{Follows, has_turn, HasTurn, is_poll_due, is_run_due, IsPast, later, leave_is_begun, MayBeOver, op_due, Stands, to_come}
-use Rattle.gh_world.specs.Vocabulary.{Next, Op, Program, work_of}
+use Rattle.gh_world.specs.declared.turns.Next.{Next}
+use Rattle.gh_world.specs.Vocabulary.{Op, Program, work_of}
 use Rattle.gh_world.proofs.Turning.{count-le, follows_run, has_one, later_after, later_here, later_none, none_from, over_here, over_next, passed, turn_stands, turns_from}
 
 -- the first goroutine from g on that has a turn in round r
@@ -62,6 +63,4 @@ following p a next.Over o stands due = absurd cc
 
 -- what is due is the first that is to come
 pub due_first : (p : Program) (a : ℕ) (t : Next) (o : Op) (rest : List Op) → to_come p a t ≡ o ∷ rest → op_due p t ≡ Some o
-due_first p a (next.Poll r g) o rest e = cc
-due_first p a next.Over o rest e = absurd cc
-due_first p a _ o rest e = cc
+due_first p a t o rest e = grind arith

@@ -2,8 +2,8 @@ use Rattle.gh_mutator.specs.Deeds.{processor_kind}
 use Rattle.gh_script.specs.Program.{Program, WellFormed}
 use Rattle.gh_base.specs.declared.layout.Layout.{Layout}
 use Rattle.gh_world.specs.World.{LaysOut}
-use Rattle.gh_world.proofs.GoingOn.{ends_whole, goes_on, Laws}
-use Rattle.gh_world.proofs.laws.runs_go_on.Goals as goal
+use Rattle.gh_explained.proofs.GoingOn.{ends_whole, goes_on, Laws}
+use Rattle.gh_explained.proofs.laws.runs_go_on.Goals as goal
 
 module _ (c : goal.After-every_run_stands) where
   laws : (p : Program) (l : Layout) → WellFormed p → LaysOut p l → Laws p l

@@ -7,7 +7,6 @@ use Rattle.std.proofs.lemmas.List.{length-map}
 use Rattle.std.proofs.lemmas.Nat.{mod_below}
 use Rattle.gh_world.specs.Vocabulary.{Act, AllAnswer, Answer, answered_by, AnsweredDeed, answers_by, by, deeds, Entry, has_left_at, is_busy_at, Layout, meaning, Op, opening_ever, Processor, processor_kind, Program, state_of, statements_of, Task}
 use Rattle.gh_mutator.specs.Acting.{EachOperationActsOnce}
-use Rattle.gh_mutator.specs.declared.task.Task.TheVariants as task
 use Rattle.gh_mutator.specs.Deeds.{has_point, OnlyPointsChange}
 use Rattle.gh_script.specs.Program.{statement_as_op}
 use Rattle.gh_lists.specs.Order.{acted_at, acted_in, Answered, begun_in, order_at, order_of}
@@ -20,7 +19,7 @@ use Rattle.gh_world.proofs.EachOnce.{acted_answers, acted_ops, none_beyond, turn
 use Rattle.gh_world.proofs.Resting.{is_processor}
 use Rattle.gh_world.proofs.Explained.Acted.{acted_all, answers_in, ever_answers_by, map-reverse, none_acts, ops_are, ops_by, points_are, points_by}
 use Rattle.gh_world.proofs.Explained.Seats.{acted_its}
-use Rattle.gh_world.proofs.Explained.Told.{given, rests_told, told_backwards, told_of, told_points}
+use Rattle.gh_explained.proofs.Explained.Told.{given, rests_told, told_backwards, told_of, told_points}
 
 -- where no operation is listed, none acted
 none_acted : (xs : List Answered) → map (λ (a : Answered). a.op) xs ≡ [] → xs ≡ []
@@ -41,10 +40,7 @@ deed_answers [] = refl
 deed_answers (y ∷ ys) = ap (λ (as' : List Answer). y.answer ∷ as') (deed_answers ys)
 
 left_idle : (t : Task) → has_left_at t ≡ true → is_busy_at t ≡ false
-left_idle task.Left e = refl
-left_idle task.Idle e = refl
-left_idle (task.Load x) e = absurd cc
-left_idle _ e = absurd cc
+left_idle t e = grind arith
 
 -- a goroutine's answers are among those of its processor's goroutines
 by_seat : (p : Program) (a g : ℕ) → is_of_seat p a g ≡ true → (xs : List (ℕ × Answer)) → answers_by g (answers_at p a xs) ≡ answers_by g xs

@@ -6,18 +6,17 @@ use Rattle.std.specs.List.{filter}
 use Rattle.std.proofs.lemmas.Bool.{cases_lt}
 use Rattle.std.proofs.lemmas.List.{append-nil, length-reverse}
 use Rattle.std.proofs.lemmas.List.Elements.{filter-append}
-use Rattle.gh_world.specs.Vocabulary.{Answer, begins, by, deeds, Entry, given_by, gives_at, is_busy_at, is_serving, is_statement, Layout, Legal, Op, Processor, processor_kind, Program, started, state_of, takes}
+use Rattle.gh_world.specs.Vocabulary.{Answer, by, deeds, Entry, given_by, gives_at, is_busy_at, is_serving, is_statement, Layout, Legal, Op, Processor, processor_kind, Program, started, state_of, takes}
 use Rattle.gh_mutator.specs.Deeds.{given_at, has_point}
 use Rattle.gh_mutator.specs.Listing.{gives}
-use Rattle.gh_mutator.specs.Serving.{answer_at, has_left_at}
 use Rattle.gh_lists.specs.Order.{Answered, before_step, begun_in}
 use Rattle.gh_world.specs.Runs.{answers_at, answers_given}
-use Rattle.gh_world.specs.Turns.{answers_to, is_of_seat, its_goroutine, statement_now}
+use Rattle.gh_world.specs.Turns.{answers_to, is_of_seat, its_goroutine}
 use Rattle.gh_world.specs.World.{answer_in, now_in, setting_of, with_goroutine}
-use Rattle.gh_world.proofs.StepFacts.{begin_facts, step_facts}
-use Rattle.gh_world.proofs.Explained.Acted.{begun_aside, begun_own, reverse_more}
+use Rattle.gh_world.proofs.StepFacts.{step_facts}
+use Rattle.gh_world.proofs.Explained.Acted.{begun_aside, reverse_more}
 use Rattle.gh_world.proofs.Explained.Seats.{all_its, AreOf, its_seat, not_another}
-use Rattle.gh_world.proofs.Explained.Steps.{begins_pointed, given_is, is_pointed, IsAnothers, IsItsOwn, its_own, no_processors, statement_pointed, stays_pointed, who_steps}
+use Rattle.gh_world.proofs.Explained.Steps.{given_is, is_pointed, IsAnothers, IsItsOwn, its_own, no_processors, statement_pointed, stays_pointed, who_steps}
 
 -- an answer, where the operation is a statement
 abbrev told : Op → Answer → List (ℕ × Answer)
@@ -53,16 +52,8 @@ told_points (x ∷ xs) = go (has_point x.op) refl (told_points xs) where
   go true t ih = ap (λ (ys : List (ℕ × Answer)). ys ++ told x.op x.answer) ih
   go false t ih = ih ∙ sym (ap (λ (b : Bool). told_of (map (λ (a : Answered). a.op) xs) (map (λ (a : Answered). a.answer) xs) ++ cond b ((its_goroutine x.op, x.answer) ∷ []) []) (statement_pointed x.op t) ∙ append-nil (told_of (map (λ (a : Answered). a.op) xs) (map (λ (a : Answered). a.answer) xs)))
 
--- the answer of an operation that was begun last
-one_answer : (o : Op) (os : List Op) (a : Answer) → with_goroutine (statement_now (o ∷ os)).0 (cond (is_statement o) (Some a) None) ≡ told o a
-one_answer o os a = go (is_statement o) refl where
-  go : (b : Bool) → is_statement o ≡ b → with_goroutine (statement_now (o ∷ os)).0 (cond b (Some a) None) ≡ cond b ((its_goroutine o, a) ∷ []) []
-  go true e = rw e refl
-  go false e = refl
-
 no_answer : (b : Bool) → cond {A = Option Answer} b None None ≡ None
-no_answer true = refl
-no_answer false = refl
+no_answer b = grind arith
 
 module _ (p : Program) (l : Layout) (procs : l.procs ≡ p.settings.procs) where
   abbrev own : (a : ℕ) → List (Entry Op) → Processor
@@ -93,10 +84,7 @@ module _ (p : Program) (l : Layout) (procs : l.procs ≡ p.settings.procs) where
 
   -- before the entry's step an operation is begun
   begun_op : (m : Processor) (o : Op) → is_busy_at m.task ≡ false → is_busy_at ((processor_kind p.shapes l).begins m o).task ≡ true → (is_serving ((processor_kind p.shapes l).begins m o).task ≡ is_statement o) × (is_pointed ((processor_kind p.shapes l).begins m o).task ≡ has_point o)
-  begun_op m o idle busy = go (has_left_at m.task) busy where
-    go : (b : Bool) → is_busy_at (cond b m (begins p.shapes m o)).task ≡ true → (is_serving (cond b m (begins p.shapes m o)).task ≡ is_statement o) × (is_pointed (cond b m (begins p.shapes m o)).task ≡ has_point o)
-    go true b = absurd (let no : true ≡ false = sym b ∙ idle in cc)
-    go false b = ((begin_facts p.shapes m o b).serves, begins_pointed p.shapes m o b)
+  begun_op m o idle busy = grind arith
 
   starts : (a : ℕ) (es : List (Entry Op)) (b : Option Op) → ((o : Op) → b ≡ Some o → is_busy_at (own a es).task ≡ false) → is_busy_at (started (processor_kind p.shapes l) b (own a es)).task ≡ true → Told a es →
       (o : Op) × (os : List Op) × (option_to_list b ++ begun_in (by a es) ≡ o ∷ os) × Runs a es o os (started (processor_kind p.shapes l) b (own a es))
@@ -126,10 +114,7 @@ module _ (p : Program) (l : Layout) (procs : l.procs ≡ p.settings.procs) where
     module _ (a : ℕ) (lt : a < l.procs) where
       -- what is begun before its step
       runs : IsItsOwn p l es e legal a lt → Told a es → (o : Op) × (os : List Op) × (begun_in (by a (e ∷ es)) ≡ o ∷ os) × Runs a es o os m
-      runs x t =
-          let busy : is_busy_at (started (processor_kind p.shapes l) e.begun (own a es)).task ≡ true = ap (λ (y : Processor). is_busy_at y.task) (sym x.before) ∙ x.busy in
-          let w = starts a es e.begun x.rested busy t in
-          (w.0, w.1, begun_own p l a es e x.here ∙ w.2, subst (λ (y : Processor). Runs a es w.0 w.1 y) (sym x.before) w.3)
+      runs x t = grind (arith, starts)
 
       -- a statement's answer is its goroutine's, which is of that processor
       told_at : (o : Op) (os : List Op) → begun_in (by a (e ∷ es)) ≡ o ∷ os → (b : Answer) → answers_at p a (told o b) ≡ told o b
@@ -140,17 +125,11 @@ module _ (p : Program) (l : Layout) (procs : l.procs ≡ p.settings.procs) where
             let its = its_seat p l procs a o (subst (AreOf p l procs a) begun (all_its p l procs a (e ∷ es) legal)).0 is in
             ap (λ (c : Bool). cond c ((its_goroutine o, b) ∷ []) []) its
 
-      -- what the step answers, where it ends the operation or not
-      now_is : (x : IsItsOwn p l es e legal a lt) (o : Op) (os : List Op) → begun_in (by a (e ∷ es)) ≡ o ∷ os → is_serving m.task ≡ is_statement o → (b : Option Answer) → gives_at m m.task e.found ≡ b → now ≡ with_goroutine (statement_now (o ∷ os)).0 (cond (is_statement o) b None)
-      now_is x o os begun serving b is =
-          ap (λ (y : Option Answer). with_goroutine (now_in (e ∷ es)).0 y) (ap (λ (y : Option Answer). answer_at m.task y) is ∙ ap (λ (c : Bool). cond c b None) serving)
-          ∙ ap (λ (y : ℕ × ℕ). with_goroutine y.0 (cond (is_statement o) b None)) (ap (λ (c : ℕ). statement_now (begun_in (by c (e ∷ es)))) x.its ∙ ap statement_now begun)
-
       now_some : (x : IsItsOwn p l es e legal a lt) (o : Op) (os : List Op) → begun_in (by a (e ∷ es)) ≡ o ∷ os → is_serving m.task ≡ is_statement o → (b : Answer) → gives_at m m.task e.found ≡ Some b → now ≡ told o b
-      now_some x o os begun serving b is = now_is x o os begun serving (Some b) is ∙ one_answer o os b
+      now_some x o os begun serving b is = grind arith
 
       now_none : (x : IsItsOwn p l es e legal a lt) (o : Op) (os : List Op) → begun_in (by a (e ∷ es)) ≡ o ∷ os → is_serving m.task ≡ is_statement o → gives_at m m.task e.found ≡ None → now ≡ []
-      now_none x o os begun serving is = now_is x o os begun serving None is ∙ ap (λ (y : Option Answer). with_goroutine (statement_now (o ∷ os)).0 y) (no_answer (is_statement o))
+      now_none x o os begun serving is = grind arith
 
       given_own : IsItsOwn p l es e legal a lt → given a (e ∷ es) ≡ option_to_list gave ++ given a es
       given_own x = ap (λ (b : Bool). cond b (option_to_list gave ++ given a es) (given a es)) x.here

@@ -1,0 +1,183 @@
+-- What a step of the coordinator comes to: its part goes on, or one of these events, each with the stage that follows. What is said of a step is said of the event, by the stage at which it happens; how a part goes on is that part's own.
+use Rattle.std.proofs.Common.{◌≡◌, ◌≢◌, ℕ, ◌+◌, ◌<◌, ◌≤◌, ◌==◌, Bool, true, false, cond, ltb, refl, sym, ap, subst, ◌∙◌, arith, Option, Some, None, is_none}
+use Rattle.std.proofs.lemmas.Bool.Decides.{nat_tests}
+use Rattle.gh_coord.specs.Closing as close
+use Rattle.gh_coord.specs.Counting as count
+use Rattle.gh_coord.specs.Listing.{after_check, after_close, after_count, after_open, after_stop, after_stop_again, after_sweep, after_tell, after_watch, at_stage, checks, closes, Coordinating, counts, goes_at, is_busy, opens, stops_again, stops_world, sweeps, tells, watches}
+use Rattle.gh_coord.specs.Opening as open_
+use Rattle.gh_coord.specs.Stopping as stop
+use Rattle.gh_coord.specs.SweepingAll as sweep
+use Rattle.gh_coord.specs.Telling as tell
+use Rattle.gh_coord.specs.Watching as watch
+use Rattle.gh_coord.specs.Vocabulary.{All, Check, Close, CloseStage, CoordStage, Count, Counted, Done, GONE, LoadAck, LoadWant, MarkOn, NotYet, Open, Stop, StopAgain, Sweep, Tell, Watch, Watched}
+
+pub data Event : Type 0 where
+  -- its part goes on, and is at this stage then
+  GoesOn : CoordStage → Event
+  -- idle, it looks at the acknowledgement of this processor next, or at the request
+  LooksAt : (proc : ℕ) → Event
+  LooksForWant : Event
+  -- all are gone, or a cycle is asked for: it begins to stop the world
+  StopsForLast : Event
+  StopsForNext : Event
+  -- the world is stopped: a cycle is opened
+  Opens : Event
+  -- it looks whether marking is over
+  Watches : Event
+  -- it seems to be: it begins to stop the world again
+  StopsAgain : Event
+  -- the world is stopped: what was seen is checked
+  Checks : Event
+  -- something is found: marking goes on
+  MarksOn : Event
+  -- nothing is: marking is ended
+  Closes : Event
+  -- marking has ended, and so much credit has lapsed: each span is to be swept
+  Sweeps : (lapsed : ℕ) → Event
+  -- each is: what was counted is read
+  Counts : Event
+  -- which was this: the cycle is kept, and is to be told
+  Tells : Counted → Event
+  -- it is told: the coordinator is idle, or behind the last cycle done
+  Rests : Event
+  Ends : Event
+  -- it is done, and stays so
+  Stays : Event
+
+-- where an event leads
+abbrev pub led : Coordinating → Event → Coordinating
+led u (GoesOn p) = at_stage u p
+led u (LooksAt i) = at_stage u (LoadAck i)
+led u LooksForWant = at_stage u LoadWant
+led u StopsForLast = stops_world (record u { is_last = true })
+led u StopsForNext = stops_world u
+led u Opens = opens u
+led u Watches = watches u
+led u StopsAgain = stops_again u
+led u Checks = checks u
+led u MarksOn = at_stage u MarkOn
+led u Closes = closes u
+led u (Sweeps lapsed) = sweeps u lapsed
+led u Counts = counts u
+led u (Tells c) = tells u c
+led u Rests = at_stage u (LoadAck 0)
+led u Ends = at_stage u Done
+led u Stays = u
+
+-- how its part goes on, where it does
+abbrev pub GoesOnTo : (found : ℕ) → CoordStage → CoordStage → Type 0
+GoesOnTo found (Stop st) p = p ≡ Stop (stop.goes st found)
+GoesOnTo found (Open o) p = p ≡ Open (open_.goes o found)
+GoesOnTo found (Watch w) p = p ≡ Watch (watch.goes w found)
+GoesOnTo found (StopAgain st) p = p ≡ StopAgain (stop.goes st found)
+GoesOnTo found (Check w) p = p ≡ Check (watch.goes w found)
+GoesOnTo found (Close c) p = p ≡ Close (close.goes c found)
+GoesOnTo found (Sweep w) p = p ≡ Sweep (sweep.goes w found)
+GoesOnTo found (Count c) p = p ≡ Count (count.goes c found)
+GoesOnTo found (Tell t) p = p ≡ Tell (tell.goes t found)
+GoesOnTo found _ p = ⊥
+
+-- which events a step may come to, by the stage at which it is made
+abbrev pub MayCome : Coordinating → (found : ℕ) → CoordStage → Event → Type 0
+MayCome u found p (GoesOn q) = GoesOnTo found p q × (is_busy q ≡ true)
+MayCome u found (LoadAck i) (LooksAt j) = (found ≡ GONE) × (j ≡ i + 1) × (j < u.layout.procs)
+MayCome u found (LoadAck i) LooksForWant = found ≢ GONE
+MayCome u found (LoadAck i) StopsForLast = (found ≡ GONE) × (u.layout.procs ≤ i + 1)
+MayCome u found LoadWant (LooksAt j) = (found ≡ 0) × (j ≡ 0)
+MayCome u found LoadWant StopsForNext = found ≢ 0
+MayCome u found (Stop st) Opens = Unit {0}
+MayCome u found (Open o) Watches = Unit {0}
+MayCome u found (Watch w) Watches = Unit {0}
+MayCome u found (Watch w) StopsAgain = Unit {0}
+MayCome u found (StopAgain st) Checks = Unit {0}
+MayCome u found (Check w) MarksOn = Unit {0}
+MayCome u found (Check w) Closes = Unit {0}
+MayCome u found MarkOn Watches = Unit {0}
+MayCome u found (Close c) (Sweeps lapsed) = Unit {0}
+MayCome u found (Sweep w) Counts = Unit {0}
+MayCome u found (Count c) (Tells x) = Unit {0}
+MayCome u found (Tell t) Rests = u.is_last ≡ false
+MayCome u found (Tell t) Ends = u.is_last ≡ true
+MayCome u found Done Stays = Unit {0}
+MayCome u found _ _ = ⊥
+
+-- a step at this stage comes to such an event, and so leads here
+record Comes (u : Coordinating) (found : ℕ) (p : CoordStage) (to : Coordinating) : Type 0 where
+  event : Event
+  may : MayCome u found p event
+  leads : to ≡ led u event
+
+-- marking is being ended exactly where the end of marking has given nothing
+close_busy : (c : close.Closing) (p : CloseStage) → is_none (close.given_at c p) ≡ close.is_busy p
+close_busy c p = grind arith
+
+module _ (u : Coordinating) (found : ℕ) where
+  acks : (i : ℕ) (gone more : Bool) → (found == GONE) ≡ gone → ltb (i + 1) u.layout.procs ≡ more → Comes u found (LoadAck i) (cond gone (cond more (at_stage u (LoadAck (i + 1))) (stops_world (record u { is_last = true }))) (at_stage u LoadWant))
+  acks i true true is e = record { event = LooksAt (i + 1); may = grind (arith, nat_tests); leads = refl }
+  acks i true false is e = record { event = StopsForLast; may = grind (arith, nat_tests); leads = refl }
+  acks i false more is e = record { event = LooksForWant; may = grind (arith, nat_tests); leads = refl }
+
+  wants : (none : Bool) → (found == 0) ≡ none → Comes u found LoadWant (cond none (at_stage u (LoadAck 0)) (stops_world u))
+  wants true is = record { event = LooksAt 0; may = grind (arith, nat_tests); leads = refl }
+  wants false is = record { event = StopsForNext; may = grind (arith, nat_tests); leads = refl }
+
+  stopped : (st : stop.Stopping) (out : Option (Unit {0})) → stop.gives st found ≡ out → Comes u found (Stop st) (after_stop (at_stage u (Stop (stop.goes st found))) out)
+  stopped st None e = record { event = GoesOn (Stop (stop.goes st found)); may = (refl, ap is_none e); leads = refl }
+  stopped st (Some x) e = record { event = Opens; may = tt; leads = refl }
+
+  opened : (o : open_.CycleOpening) (out : Option (Unit {0})) → open_.gives o found ≡ out → Comes u found (Open o) (after_open (at_stage u (Open (open_.goes o found))) out)
+  opened o None e = record { event = GoesOn (Open (open_.goes o found)); may = (refl, ap is_none e); leads = refl }
+  opened o (Some x) e = record { event = Watches; may = tt; leads = refl }
+
+  watched : (w : watch.Watching) (out : Option Watched) → watch.gives w found ≡ out → Comes u found (Watch w) (after_watch (at_stage u (Watch (watch.goes w found))) out)
+  watched w None e = record { event = GoesOn (Watch (watch.goes w found)); may = (refl, ap is_none e); leads = refl }
+  watched w (Some All) e = record { event = StopsAgain; may = tt; leads = refl }
+  watched w (Some NotYet) e = record { event = Watches; may = tt; leads = refl }
+
+  stopped_again : (st : stop.Stopping) (out : Option (Unit {0})) → stop.gives st found ≡ out → Comes u found (StopAgain st) (after_stop_again (at_stage u (StopAgain (stop.goes st found))) out)
+  stopped_again st None e = record { event = GoesOn (StopAgain (stop.goes st found)); may = (refl, ap is_none e); leads = refl }
+  stopped_again st (Some x) e = record { event = Checks; may = tt; leads = refl }
+
+  checked : (w : watch.Watching) (out : Option Watched) → watch.gives w found ≡ out → Comes u found (Check w) (after_check (at_stage u (Check (watch.goes w found))) out)
+  checked w None e = record { event = GoesOn (Check (watch.goes w found)); may = (refl, ap is_none e); leads = refl }
+  checked w (Some All) e = record { event = Closes; may = tt; leads = refl }
+  checked w (Some NotYet) e = record { event = MarksOn; may = tt; leads = refl }
+
+  closed : (c : close.Closing) (out : Option ℕ) → close.gives c found ≡ out → Comes u found (Close c) (after_close (at_stage u (Close (close.goes c found))) out)
+  closed c None e = record { event = GoesOn (Close (close.goes c found)); may = (refl, sym (close_busy (close.goes c found) (close.goes c found).stage) ∙ ap is_none e); leads = refl }
+  closed c (Some lapsed) e = record { event = Sweeps lapsed; may = tt; leads = refl }
+
+  swept : (w : sweep.SweepingAll) (out : Option (Unit {0})) → sweep.gives w found ≡ out → Comes u found (Sweep w) (after_sweep (at_stage u (Sweep (sweep.goes w found))) out)
+  swept w None e = record { event = GoesOn (Sweep (sweep.goes w found)); may = (refl, ap is_none e); leads = refl }
+  swept w (Some x) e = record { event = Counts; may = tt; leads = refl }
+
+  counted : (c : count.Counting) (out : Option Counted) → count.gives c found ≡ out → Comes u found (Count c) (after_count (at_stage u (Count (count.goes c found))) out)
+  counted c None e = record { event = GoesOn (Count (count.goes c found)); may = (refl, ap is_none e); leads = refl }
+  counted c (Some x) e = record { event = Tells x; may = tt; leads = refl }
+
+  told_so : (t : tell.Telling) (last : Bool) → u.is_last ≡ last → Comes u found (Tell t) (at_stage u (cond last Done (LoadAck 0)))
+  told_so t true e = record { event = Ends; may = e; leads = refl }
+  told_so t false e = record { event = Rests; may = e; leads = refl }
+
+  told : (t : tell.Telling) (out : Option (Unit {0})) → tell.gives t found ≡ out → Comes u found (Tell t) (after_tell (at_stage u (Tell (tell.goes t found))) out)
+  told t None e = record { event = GoesOn (Tell (tell.goes t found)); may = (refl, ap is_none e); leads = refl }
+  told t (Some x) e = told_so t u.is_last refl
+
+  comes : (p : CoordStage) → Comes u found p (goes_at u p found)
+  comes (LoadAck i) = acks i (found == GONE) (ltb (i + 1) u.layout.procs) refl refl
+  comes LoadWant = wants (found == 0) refl
+  comes (Stop st) = stopped st (stop.gives st found) refl
+  comes (Open o) = opened o (open_.gives o found) refl
+  comes (Watch w) = watched w (watch.gives w found) refl
+  comes (StopAgain st) = stopped_again st (stop.gives st found) refl
+  comes (Check w) = checked w (watch.gives w found) refl
+  comes MarkOn = record { event = Watches; may = tt; leads = refl }
+  comes (Close c) = closed c (close.gives c found) refl
+  comes (Sweep w) = swept w (sweep.gives w found) refl
+  comes (Count c) = counted c (count.gives c found) refl
+  comes (Tell t) = told t (tell.gives t found) refl
+  comes Done = record { event = Stays; may = tt; leads = refl }
+
+  -- what holds behind each event that a step at a stage may come to holds behind the step
+  pub by_event : (Holds : Coordinating → Type 0) (p : CoordStage) → ((e : Event) → MayCome u found p e → Holds (led u e)) → Holds (goes_at u p found)
+  by_event Holds p each = subst Holds (sym (comes p).leads) (each (comes p).event (comes p).may)

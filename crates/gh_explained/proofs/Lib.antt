@@ -1,0 +1,4 @@
+pub mod Following
+pub mod Explained
+pub mod Along
+pub mod GoingOn
