@@ -1,8 +1,9 @@
 # A part of bench/replay.sh and bench/instructions.sh: the scripts whose turns they measure.
 
-# The scripts: what each turns on most, and its text. The last two have the same goroutines, on the fewest actors that there are, which
-# are a processor, a worker and the coordinator, and on 13: 8 processors, 4 workers and the coordinator.
-names=(statements globals fields small paced assisted large passes full collected cycles1 cycles4 processors actors3 actors13)
+# The scripts: what each turns on most, and its text. actors3 and actors13 have the same goroutines, on the fewest actors that there are,
+# which are a processor, a worker and the coordinator, and on 13: 8 processors, 4 workers and the coordinator. collected13 has cycles on
+# as many.
+names=(statements globals fields small paced assisted large passes full collected cycles1 cycles4 processors actors3 actors13 collected13)
 
 # Goroutines that run statements on registers: how many, and how often each.
 registers() {
@@ -19,6 +20,7 @@ cycles() {
   printf 'repeat 40\ngc\nend\nend\ngo b\nrepeat 190000\nnil r0\nend\nend\n'
 }
 says() {
+  local g
   case $1 in
     statements) printf 'arena 16\ntype t n\ngo a\nrepeat 66666\nint r0 1\nmove r1 r0\nnil r2\nend\nend\n' ;;
     globals) printf 'arena 16\nglobals 4\ntype node pn\ngo a\nnew r0 node\nrepeat 49999\ngstore 1 r0\ngload r1 1\ngstore 2 r1\ngload r2 2\nend\nend\n' ;;
@@ -46,6 +48,11 @@ says() {
     processors) printf 'arena 16\nprocs 4\ntype t n\n' && registers 4 16666 ;;
     actors3) printf 'arena 16\nprocs 1\nworkers 1\ntype t n\n' && registers 8 8333 ;;
     actors13) printf 'arena 16\nprocs 8\nworkers 4\ntype t n\n' && registers 8 8333 ;;
+    # each goroutine asks for a cycle again and again, and polls until it is swept
+    collected13)
+      printf 'arena 64\nprocs 8\nworkers 4\nglobals 8\ngogc 0\ntype node pn\n'
+      for g in 0 1 2 3 4 5 6 7; do printf 'go g%d\nrepeat 60\nnew r0 node\ngstore %d r0\ngc\nend\nend\n' "$g" "$g"; done
+      ;;
   esac
 }
 

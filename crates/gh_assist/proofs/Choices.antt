@@ -1,5 +1,5 @@
 -- What holds of an assist that has ended, and of one that draws or takes, holds of the one that it goes on as.
-use Rattle.std.proofs.Common.{◌≡◌, ◌==◌, Bool, true, false, cond, eqb-true, refl}
+use Rattle.std.proofs.Common.{◌≡◌, arith}
 use Rattle.gh_credit.specs.Drawing as draw
 use Rattle.gh_wbuf.specs.EntryTaking as take
 use Rattle.gh_assist.specs.declared.assist.AssistStage.TheVariants.{Drawing, Ended, Taking}
@@ -7,14 +7,8 @@ use Rattle.gh_assist.specs.Listing.{Assisting, at_stage, draws_if_owed, pays}
 
 -- where the debt is known
 pub by_owes : (P : Assisting → Type 0) (x : Assisting) → (x.owed ≡ 0 → P (at_stage x Ended)) → P (at_stage x (Drawing (draw.opening x.layout x.owed))) → P (draws_if_owed x)
-by_owes P x ended draws = by (x.owed == 0) refl where
-  by : (b : Bool) → (x.owed == 0) ≡ b → P (at_stage x (cond b Ended (Drawing (draw.opening x.layout x.owed))))
-  by true e = ended (eqb-true _ _ e)
-  by false e = draws
+by_owes P x ended draws = grind arith
 
 -- behind a payment
 pub by_pays : (P : Assisting → Type 0) (x : Assisting) → (x.owed ≡ 0 → P (at_stage x Ended)) → P (at_stage x (Taking (take.opening x.layout x.seat x.held))) → P (pays x)
-by_pays P x ended takes = by (x.owed == 0) refl where
-  by : (b : Bool) → (x.owed == 0) ≡ b → P (at_stage x (cond b Ended (Taking (take.opening x.layout x.seat x.held))))
-  by true z = ended (eqb-true _ _ z)
-  by false z = takes
+by_pays P x ended takes = grind arith

@@ -1,24 +1,19 @@
 -- While marking is on an assist's steps are moves that its seat may make. Of the moves and of its routines it is known what their laws say.
-use Rattle.std.proofs.Common.{◌≡◌, ℕ, ◌-◌, true, false, Option, Some, None, refl, sym, ap, subst}
-use Rattle.std.specs.Prelude.{is_none}
+use Rattle.std.proofs.Common.{◌≡◌, ℕ, false, Option, refl, arith}
 use Rattle.gh_base.specs.declared.cell.Ask.{Ask}
 use Rattle.gh_base.specs.declared.cell.Ask.TheVariants.{Load}
 use Rattle.gh_base.specs.declared.cell.Cell.{Cell}
 use Rattle.gh_base.specs.declared.cell.Cell.TheVariants as cell
 use Rattle.gh_base.specs.declared.held.Held.{Held}
-use Rattle.gh_base.specs.declared.layout.Layout.{Layout}
 use Rattle.gh_base.specs.Steps.{cell_of, effect}
 use Rattle.gh_credit.specs.declared.draw.DrawStage.{DrawStage}
-use Rattle.gh_credit.specs.declared.draw.DrawStage.TheVariants as drawing
 use Rattle.gh_credit.specs.Drawing as draw
-use Rattle.gh_marks.specs.Colours.{Cycle, Shared, Taken}
+use Rattle.gh_marks.specs.Colours.{Cycle, Shared}
 use Rattle.gh_marks.specs.Good.{Good}
 use Rattle.gh_marks.specs.Knows.{KnowsObjects}
 use Rattle.gh_marks.specs.Laws.{EachHandFollows, EachHandLasts, EachOwnMoveLeaves, EachStepGoesByMoves, WhatIsKeptGoesOn}
 use Rattle.gh_marks.specs.Moves.{IsQuietInMarking, Keeps, landing, lands_by, lands_still, moved, Others, Quiet, Steps}
 use Rattle.gh_marks.specs.Seats.{Hands, nothing}
-use Rattle.gh_scan.specs.declared.scan.ScanStage.{ScanStage}
-use Rattle.gh_scan.specs.declared.scan.ScanStage.TheVariants as scan_stage
 use Rattle.gh_scan.specs.Facts as scan_facts
 use Rattle.gh_scan.specs.Listing as scan
 use Rattle.gh_wbuf.specs.EntryTaking as take
@@ -29,7 +24,7 @@ use Rattle.gh_assist.specs.declared.assist.AssistStage.TheVariants as at
 use Rattle.gh_assist.specs.Facts.{AssistsByMoves, Facts, StageFacts}
 use Rattle.gh_assist.specs.Listing as assist
 use Rattle.gh_assist.specs.Listing.{Assisting}
-use Rattle.gh_assist.proofs.Choices.{by_owes, by_pays}
+use Rattle.gh_assist.proofs.Choices.{by_owes}
 
 pub record Known : Type 0 where
   pub last : EachHandLasts
@@ -49,13 +44,6 @@ module _ (k : Known) (z : Cycle) (a : ℕ) where
     owes : Facts z a t (assist.draws_if_owed x)
     owes = by_owes (Facts z a t) x (λ e. at_stage at.Ended h) (at_stage (at.Drawing (draw.opening x.layout x.owed)) h)
 
-    begins_take : buffer_facts.TakeFacts z a t nothing (take.opening x.layout x.seat x.held)
-    begins_take = subst (λ (l : Layout). buffer_facts.TakeFacts z a t nothing (take.opening l x.seat x.held)) (sym layout_is)
-        (subst (λ (b : ℕ). buffer_facts.TakeFacts z a t nothing (take.opening z.arena.layout b x.held)) (sym seat_is) ((k.buffers.begin z a t nothing x.held h).takes refl))
-
-    pays : Facts z a t (assist.pays x)
-    pays = by_pays (Facts z a t) x (λ e. at_stage at.Ended h) (at_stage (at.Taking (take.opening x.layout x.seat x.held)) begins_take)
-
   module _ (s : Shared) (good : Good z s) (objects : KnowsObjects z s) where
     abbrev Leads : Ask → Assisting → Type 0
     Leads ask n = Steps z a s ask (λ t. Keeps z a s t × Facts z a t n)
@@ -72,13 +60,10 @@ module _ (k : Known) (z : Cycle) (a : ℕ) where
     module _ (x : Assisting) (layout_is : x.layout ≡ z.arena.layout) (seat_is : x.seat ≡ a) where
       -- it draws on the bank
       bank_is_aside : (d : draw.Drawing) (p : DrawStage) → IsQuietInMarking s (draw.asks_at d p)
-      bank_is_aside d drawing.LoadBank = tt
-      bank_is_aside d (drawing.Swap bank) = tt
-      bank_is_aside d (drawing.Ended drawn) = tt
+      bank_is_aside d p = grind arith
 
       drawn_then : (t : Shared) (d : draw.Drawing) (out : Option ℕ) → Hands a t (holding nothing x.held) → Facts z a t (assist.after_draw x d out)
-      drawn_then t d None h = record { layout_is = layout_is; seat_is = seat_is; stage_is = h }
-      drawn_then t d (Some drawn) h = pays t (assist.drawn_for x drawn) layout_is seat_is h
+      drawn_then t d out h = grind arith
 
       draws : (d : draw.Drawing) → Hands a s (holding nothing x.held) → Leads (draw.asks d) (assist.goes_at x (at.Drawing d) (s.words (cell_of (draw.asks d))))
       draws d h =
@@ -87,22 +72,7 @@ module _ (k : Known) (z : Cycle) (a : ℕ) where
 
       -- it takes an object
       taken_then : (t : Shared) → Good z t → (m : take.EntryTaking) (out : Option (Option ℕ)) → buffer_facts.TakeComes z a t nothing out m → Facts z a t (assist.after_take x m out)
-      taken_then t well m None f = record { layout_is = layout_is; seat_is = seat_is; stage_is = f }
-      taken_then t well m (Some None) f = record { layout_is = layout_is; seat_is = seat_is; stage_is = f }
-      taken_then t well m (Some (Some reference)) f = record {
-        layout_is = layout_is;
-        seat_is = seat_is;
-        stage_is = (
-          refl,
-          subst (λ (l : Layout). scan_facts.Facts z a t nothing (scan.opening l x.seat reference (take.held_at m.stage))) (sym layout_is)
-              (subst (λ (b : ℕ). scan_facts.Facts z a t nothing (scan.opening z.arena.layout b reference (take.held_at m.stage))) (sym seat_is) (k.scan.begins z a t nothing reference (take.held_at m.stage) known f.hands)),
-        );
-      } where
-        is : t.colour (reference - 1) ≡ Taken a
-        is = (f.hands.has.is_taken (reference - 1)).0 refl
-
-        known : t.since (reference - 1) ≡ true
-        known = well.objects.shaded (reference - 1) (rw is tt)
+      taken_then t well m out f = grind arith
 
       takes : (m : take.EntryTaking) → buffer_facts.TakeFacts z a s nothing m → Leads (take.asks m) (assist.goes_at x (at.Taking m) (s.words (cell_of (take.asks m))))
       takes m f =
@@ -111,16 +81,8 @@ module _ (k : Known) (z : Cycle) (a : ℕ) where
           (λ t went h. (h.0, taken_then t (k.steps z a s t good went).good (take.goes m n) (take.gives m n) h.1))
           (k.buffers.takes.own_step z a s nothing m good objects f)
 
-      -- it scans that object
-      held_given : (words : ℕ) (held : Option Held) (p : ScanStage) → scan.given_at p ≡ Some words → scan.held_at held p ≡ held
-      held_given words held (scan_stage.Shading sh) e = absurd (cc)
-      held_given words held (scan_stage.FindRoom sh r) e = absurd (cc)
-      held_given words held _ e = refl
-
       scanned_then : (t : Shared) (m : scan.Scanning) (n : ℕ) (out : Option ℕ) → scan.gives m n ≡ out → scan_facts.Facts z a t nothing (scan.goes m n) → Facts z a t (assist.after_scan x (scan.goes m n) out)
-      scanned_then t m n None e f = record { layout_is = layout_is; seat_is = seat_is; stage_is = (ap is_none e, f) }
-      scanned_then t m n (Some words) e f = pays t (assist.scanned_for x (scan.held_at (scan.goes m n).held (scan.goes m n).stage) words) layout_is seat_is
-          (subst (λ (held : Option Held). Hands a t (holding nothing held)) (sym (held_given words (scan.goes m n).held (scan.goes m n).stage e)) (k.scan.ends z a t nothing m n words e f))
+      scanned_then t m n out e f = grind arith
 
       scans : (m : scan.Scanning) → scan_facts.Facts z a s nothing m → Leads (scan.asks m) (assist.goes_at x (at.Scanning m) (s.words (cell_of (scan.asks m))))
       scans m f =
@@ -143,8 +105,7 @@ module _ (k : Known) (z : Cycle) (a : ℕ) where
   stage_lasts s t held _ o h = k.last z a s t (holding nothing held) o h
 
   ends_at : (s : Shared) (held : Option Held) (p : AssistStage) → assist.is_busy p ≡ false → StageFacts z a s held p → Hands a s (holding nothing held)
-  ends_at s held at.Ended e h = h
-  ends_at s held _ e f = absurd (cc)
+  ends_at s held p e h = grind arith
 
 pub assists_by_moves : Known → AssistsByMoves
 assists_by_moves k = record {

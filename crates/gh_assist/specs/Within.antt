@@ -13,7 +13,7 @@ use Rattle.gh_scan.specs.declared.scan.ScanStage.{ScanStage}
 use Rattle.gh_scan.specs.declared.scan.ScanStage.TheVariants as scan_at
 use Rattle.gh_scan.specs.Listing as scan
 use Rattle.gh_shade.specs.Listing as shade
-use Rattle.gh_shade.specs.Sound.{FitsStage, IsReference}
+use Rattle.gh_shade.specs.Sound.{SoundStage, IsReference}
 use Rattle.gh_wbuf.specs.declared.find_room.RoomStage.{RoomStage}
 use Rattle.gh_wbuf.specs.declared.find_room.RoomStage.TheVariants as room_at
 use Rattle.gh_wbuf.specs.declared.take_entry.TakeStage.{TakeStage}
@@ -23,13 +23,13 @@ use Rattle.gh_wbuf.specs.EntryTaking as take
 use Rattle.gh_wbuf.specs.RoomFinding as room
 use Rattle.gh_wbuf.specs.Trying as try
 use Rattle.gh_wbuf.specs.Trying.{Trying}
-use Rattle.gh_wbuf.specs.TrySound.{FitsTryStage}
+use Rattle.gh_wbuf.specs.TrySound.{SoundTryStage}
 
 -- a try of a buffer that there is
 pub record TryWithin (l : Layout) (t : Trying) : Type 0 where
   pub index : t.index < buffers_of l
   pub held : IsHeld l t.held
-  pub opened : FitsTryStage t.wish t.stage
+  pub opened : SoundTryStage t.wish t.stage
 
 abbrev pub RoomStageWithin : Layout → RoomStage → Type 0
 RoomStageWithin l (room_at.GiveBack h) = FitsBuffers l h
@@ -63,7 +63,7 @@ pub record ShadeWithin (l : Layout) (s : shade.Shading) : Type 0 where
   pub layout_is : s.layout ≡ l
   pub reference : IsReference l s.reference
   pub held : IsHeld l s.held
-  pub stage : FitsStage s.held s.stage
+  pub stage : SoundStage s.held s.stage
 
 abbrev pub ScanStageWithin : Layout → ScanStage → Type 0
 ScanStageWithin l (scan_at.Shading sh) = ShadeWithin l sh

@@ -58,13 +58,13 @@ pub struct Assist {
 
 impl Model for Assist {
     ghost use Rattle.gh_assist.specs.Listing.{Assisting};
-    ghost use Rattle.gh_assist.specs.Sound.{FitsAssist};
+    ghost use Rattle.gh_assist.specs.Sound.{SoundAssisting};
 
     ghost Value = { Assisting };
 
     ghost view = { λ x. record { layout = x.layout; seat = x.seat; held = x.held; bytes = x.bytes; owed = x.owed; spent = x.spent; stage = x.stage } };
 
-    ghost invariant = { λ x. FitsAssist (record { layout = x.layout; seat = x.seat; held = x.held; bytes = x.bytes; owed = x.owed; spent = x.spent; stage = x.stage }) };
+    ghost invariant = { λ x. SoundAssisting (record { layout = x.layout; seat = x.seat; held = x.held; bytes = x.bytes; owed = x.owed; spent = x.spent; stage = x.stage }) };
 
     ghost inverse = { λ x. record { layout = x.layout; seat = x.seat; held = x.held; bytes = x.bytes; owed = x.owed; spent = x.spent; stage = x.stage } };
 }

@@ -1,5 +1,5 @@
 -- While marking is on the steps of a write behind the barrier are moves that its seat may make. Of the moves and of shading it is known what their laws say.
-use Rattle.std.proofs.Common.{◌≡◌, ◌≢◌, ℕ, ◌+◌, ◌-◌, ◌*◌, ◌%◌, ◌<◌, ◌≤◌, ◌⊎◌, Bool, true, false, cond, eqb, Option, Some, None, inl, inr, refl, sym, ap, subst, ◌∙◌, arith, eqb-true, eq-eqb}
+use Rattle.std.proofs.Common.{◌≡◌, ◌≢◌, ℕ, ◌+◌, ◌-◌, ◌*◌, ◌%◌, ◌<◌, ◌≤◌, Bool, true, false, cond, eqb, Option, Some, None, inl, refl, sym, ap, subst, ◌∙◌, arith, eqb-true, eq-eqb}
 use Rattle.std.proofs.Math.Nat.{mod-eq_of_lt}
 use Rattle.std.specs.Prelude.{is_none}
 use Rattle.gh_base.specs.declared.cell.Ask.TheVariants as ask
@@ -12,7 +12,7 @@ use Rattle.gh_marks.specs.Moves as move
 use Rattle.gh_marks.specs.Moves.{BehindBarrier, Keeps, Lands, Others, Steps, Went, landing, landing_on, lands_by, lands_still, moved}
 use Rattle.gh_marks.specs.Seats.{Hands, InHand}
 use Rattle.gh_barrier.specs.Facts.{Facts, IsCell, IsKnownPointer, OldValueStands, put_of, StageFacts, WritesByMoves}
-use Rattle.gh_barrier.proofs.Vocabulary.{after_new, after_old, Ask, asks_at, at_stage, behind_old, bitmap_words, Cell, cell_at, cell_of, Done, effect, Ended, Field, given_at, Global, goes, goes_at, HasTwo, Held, in_hand, LoadOld, mark_words, pointer_word, PointerCell, put, read_as, Shaded, ShadeNew, ShadeOld, shades_new, shades_old, Store, WantsRoom, with_old, WriteStage, Writing}
+use Rattle.gh_barrier.proofs.Vocabulary.{after_new, after_old, Ask, asks_at, at_stage, behind_old, bitmap_words, Cell, cell_at, cell_of, Done, effect, Ended, Field, given_at, Global, goes, goes_at, HasTwo, Held, in_hand, LoadOld, mark_words, pointer_word, PointerCell, put, Shaded, ShadeNew, ShadeOld, shades_old, Store, WantsRoom, with_old, WriteStage, Writing}
 use Rattle.gh_barrier.proofs.Room.{held-stays, never-wants, place-of, place-then}
 use Rattle.gh_shade.specs.Facts as shade_facts
 use Rattle.gh_shade.specs.Listing.{object_of}
@@ -33,30 +33,16 @@ module _ (k : Known) (z : Cycle) (a : ℕ) (s t : Shared) (keeps : Keeps z a s t
   last = k.facts z a s t keeps
 
   cell-kept : (at : PointerCell) → IsCell s at → IsCell t at
-  cell-kept (Field x) h = record { o = h.o; k = h.k; at_is = h.at_is; known = keeps.since h.o h.known; pointer = last.pointer h.o h.k h.known h.pointer }
-  cell-kept (Global i) h = tt
+  cell-kept at h = grind arith
 
   known-kept : (pointer : Option ℕ) → IsKnownPointer s pointer → IsKnownPointer t pointer
-  known-kept None h = tt
-  known-kept (Some r) h = (h.0, keeps.since (object_of r) h.1)
-
-  -- the word is as it was, or is clean
-  word-kept : (at : PointerCell) → IsCell s at → (t.words (cell_at at) ≡ s.words (cell_at at)) ⊎ IsClean (mark_words t.words) (t.words (cell_at at))
-  word-kept (Field x) h = subst (λ (i : ℕ). (t.words (cell.Field i) ≡ s.words (cell.Field i)) ⊎ IsClean (mark_words t.words) (t.words (cell.Field i))) (sym h.at_is) (keeps.fields h.o h.k h.known h.pointer)
-  word-kept (Global i) h = keeps.globals i
+  known-kept pointer h = grind arith
 
   stands-kept : (at : PointerCell) (reference : ℕ) → IsCell s at → OldValueStands s (cell_at at) reference → OldValueStands t (cell_at at) reference
-  stands-kept at reference is h = by (word-kept at is) h where
-    by : (t.words (cell_at at) ≡ s.words (cell_at at)) ⊎ IsClean (mark_words t.words) (t.words (cell_at at)) → OldValueStands s (cell_at at) reference → OldValueStands t (cell_at at) reference
-    by (inr c) h = inr c
-    by (inl e) (inl f) = inl (e ∙ f)
-    by (inl e) (inr c) = inr (λ p x. keeps.marks p (c p (sym e ∙ x)))
+  stands-kept at reference is h = grind arith
 
   clean-kept : (at : PointerCell) → IsCell s at → IsClean (mark_words s.words) (s.words (cell_at at)) → IsClean (mark_words t.words) (t.words (cell_at at))
-  clean-kept at is c = by (word-kept at is) where
-    by : (t.words (cell_at at) ≡ s.words (cell_at at)) ⊎ IsClean (mark_words t.words) (t.words (cell_at at)) → IsClean (mark_words t.words) (t.words (cell_at at))
-    by (inr d) = d
-    by (inl e) = λ p x. keeps.marks p (c p (sym e ∙ x))
+  clean-kept at is c = grind arith
 
 -- nil names nothing
 nil-clean : (s : Shared) (v : ℕ) → v ≡ 0 → IsClean (mark_words s.words) v
@@ -68,29 +54,19 @@ marked-clean s r some m o is = let same : object_of r ≡ o = omega arith in sub
 
 -- the cell is clean once what was loaded is marked
 shaded-clean : (s : Shared) (c : Cell) (r : ℕ) → 1 ≤ r → IsMarked (mark_words s.words) (object_of r) → OldValueStands s c r → IsClean (mark_words s.words) (s.words c)
-shaded-clean s c r some m (inl e) = subst (λ (v : ℕ). IsClean (mark_words s.words) v) (sym e) (marked-clean s r some m)
-shaded-clean s c r some m (inr d) = d
-
-since-of : (s : Shared) (pointer : Option ℕ) → IsKnownPointer s pointer → IsSince s.since (pointer_word pointer)
-since-of s None h o is = absurd (omega arith)
-since-of s (Some r) h o is = let some : 1 ≤ r = h.0 in let same : object_of r ≡ o = omega arith in subst (λ (x : ℕ). s.since x ≡ true) same h.1
+shaded-clean s c r some m h = grind arith
 
 module _ (k : Known) (z : Cycle) (a : ℕ) (s : Shared) (rest : InHand) where
   -- the old value is shaded, and the new one comes next
   new-facts : (w : Writing) → w.layout ≡ z.arena.layout → IsCell s w.at → IsKnownPointer s w.pointer → HasPlace w.held → IsClean (mark_words s.words) (s.words (cell_at w.at)) → Hands a s (in_hand rest w.held None) → Facts z a s rest (behind_old w)
-  new-facts w layout_is is known place clean x = by w.pointer refl where
-    by : (p : Option ℕ) → w.pointer ≡ p → Facts z a s rest (shades_new w p)
-    by None e = record { layout_is = layout_is; is_cell = is; known = known; stage_is = (clean, nil-clean s (pointer_word w.pointer) (ap pointer_word e), x) }
-    by (Some r) e =
-        let is-known : IsKnownPointer s (Some r) = subst (λ (p : Option ℕ). IsKnownPointer s p) e known in
-        record { layout_is = layout_is; is_cell = is; known = known; stage_is = (place, clean, e, k.shade.begins z a s rest w.layout r w.held is-known.0 is-known.1 x, refl) }
+  new-facts w layout_is is known place clean x = grind arith
 
   -- the new value is shaded, and the store comes next
   store-facts : (w : Writing) (r : ℕ) → w.layout ≡ z.arena.layout → IsCell s w.at → IsKnownPointer s w.pointer → IsClean (mark_words s.words) (s.words (cell_at w.at)) → w.pointer ≡ Some r → 1 ≤ r → IsMarked (mark_words s.words) (object_of r) → Hands a s (in_hand rest w.held None) → Facts z a s rest (at_stage w Store)
   store-facts w r layout_is is known clean e some m x = record { layout_is = layout_is; is_cell = is; known = known; stage_is = (clean, subst (λ (v : ℕ). IsClean (mark_words s.words) v) (sym (ap pointer_word e)) (marked-clean s r some m), x) }
 
   behind : (w : Writing) → IsKnownPointer s w.pointer → StageFacts z a s rest w Store → BehindBarrier s (s.words (cell_at w.at)) (pointer_word w.pointer)
-  behind w known f = record { old = f.0; new = f.1; since = since-of s w.pointer known }
+  behind w known f = grind arith
 
   -- the store is this move
   stores-by : (at : PointerCell) (v : ℕ) → BehindBarrier s (s.words (cell_at at)) v → Lands z a s (put s.words (cell_at at) v) (λ t. t ≡ moved z a s (put_of at v))
@@ -109,8 +85,7 @@ module _ (k : Known) (z : Cycle) (a : ℕ) (s : Shared) (rest : InHand) (g : Goo
 
   -- what a pointer cell holds is of the cycle
   since-at : (at : PointerCell) → IsCell s at → IsSince s.since (s.words (cell_at at))
-  since-at (Field x) h = subst (λ (i : ℕ). IsSince s.since (s.words (cell.Field i))) (sym h.at_is) (g.values.fields h.o h.k h.known h.pointer)
-  since-at (Global i) h = g.values.globals i
+  since-at at h = grind arith
 
   loads : HasTwo w.held → Hands a s (in_hand rest w.held None) → Leads (ask.Load c) (with_old w (s.words c))
   loads two x = by (eqb v 0) refl where
@@ -137,10 +112,10 @@ module _ (k : Known) (z : Cycle) (a : ℕ) (s : Shared) (rest : InHand) (g : Goo
   -- a step of shading
   module _ (t : Shared) (went : Went z a s t) (keeps : Keeps z a s t) where
     is-then : IsCell t w.at
-    is-then = cell-kept k z a s t keeps w.at is
+    is-then = grind arith
 
     known-then : IsKnownPointer t w.pointer
-    known-then = known-kept k z a s t keeps w.pointer known
+    known-then = grind arith
 
     landed : (n : Writing) → Facts z a t rest n → Lands z a t t.words (λ u. Keeps z a s u × Facts z a u rest n)
     landed n f = lands_still z a t t.words (λ u. Keeps z a s u × Facts z a u rest n) refl (keeps, f)
@@ -209,31 +184,12 @@ pub record Same (w n : Writing) : Type 0 where
   pub at : n.at ≡ w.at
   pub pointer : n.pointer ≡ w.pointer
 
-new-same : (w : Writing) (p : Option ℕ) → Same w (shades_new w p)
-new-same w None = record { at = refl; pointer = refl }
-new-same w (Some r) = record { at = refl; pointer = refl }
-
-old-same : (w : Writing) (p : Option ℕ) → Same w (shades_old w p)
-old-same w None = new-same w w.pointer
-old-same w (Some r) = record { at = refl; pointer = refl }
-
 pub same-at : (w : Writing) (p : WriteStage) (found : ℕ) → Same w (goes_at w p found)
-same-at w LoadOld found = old-same w (read_as w.layout found)
-same-at w (ShadeOld sh) found = by (shade.goes sh found) (shade.gives sh found) where
-  by : (n : shade.Shading) (out : Option Shaded) → Same w (after_old w n out)
-  by n None = record { at = refl; pointer = refl }
-  by n (Some out) = let h : Same (record w { held = n.held }) (behind_old (record w { held = n.held })) = new-same (record w { held = n.held }) w.pointer in record { at = h.at; pointer = h.pointer }
-same-at w (ShadeNew sh) found = by (shade.goes sh found) (shade.gives sh found) where
-  by : (n : shade.Shading) (out : Option Shaded) → Same w (after_new w n out)
-  by n None = record { at = refl; pointer = refl }
-  by n (Some out) = record { at = refl; pointer = refl }
-same-at w Store found = record { at = refl; pointer = refl }
-same-at w Ended found = record { at = refl; pointer = refl }
+same-at w p found = grind arith
 
 -- what it has in hand where it has ended
 ended-then : (z : Cycle) (a : ℕ) (s : Shared) (rest : InHand) (w : Writing) (p : WriteStage) → given_at p ≡ Some tt → StageFacts z a s rest w p → Hands a s (in_hand rest w.held None)
-ended-then z a s rest w Ended e f = f
-ended-then z a s rest w _ e f = absurd (cc)
+ended-then z a s rest w p e f = grind arith
 
 pub writes-by-moves : Known → WritesByMoves
 writes-by-moves k = record {

@@ -22,14 +22,14 @@ HasTwo None = ⊥
 HasTwo (Some h) = h.count + 2 ≤ ENTRIES
 
 -- there is room for both objects, and behind the first one for the second; and a shading that it runs has not ended
-abbrev pub FitsStage : Layout → Option Held → WriteStage → Type 0
-FitsStage l held LoadOld = HasTwo held
-FitsStage l held (ShadeOld sh) = (sh.layout ≡ l) × HasTwo sh.held × (is_busy sh.stage ≡ true)
-FitsStage l held (ShadeNew sh) = (sh.layout ≡ l) × HasPlace sh.held × (is_busy sh.stage ≡ true)
-FitsStage l held _ = Unit {0}
+abbrev pub SoundStage : Layout → Option Held → WriteStage → Type 0
+SoundStage l held LoadOld = HasTwo held
+SoundStage l held (ShadeOld sh) = (sh.layout ≡ l) × HasTwo sh.held × (is_busy sh.stage ≡ true)
+SoundStage l held (ShadeNew sh) = (sh.layout ≡ l) × HasPlace sh.held × (is_busy sh.stage ≡ true)
+SoundStage l held _ = Unit {0}
 
-pub record FitsWrite (w : Writing) : Type 0 where
+pub record SoundWriting (w : Writing) : Type 0 where
   pub cell : InRange w.layout (cell_at w.at)
   pub pointer : FitsPointer w.layout w.pointer
   pub held : IsHeld w.layout w.held
-  pub stage : FitsStage w.layout w.held w.stage
+  pub stage : SoundStage w.layout w.held w.stage

@@ -11,11 +11,11 @@ use Rattle.gh_barrier.specs.declared.write_pointer.WriteStage.TheVariants.{Shade
 use Rattle.gh_barrier.specs.Listing.{asks, cell_at, goes, held_at, opening, Writing}
 use Rattle.gh_barrier.specs.Sound.{FitsPointer}
 use Rattle.gh_shade.specs.Listing.{Shading}
-use Rattle.gh_shade.specs.Sound.{FitsShade}
+use Rattle.gh_shade.specs.Sound.{SoundShading}
 
 pub record ShadesWithin (l : Layout) (s : Shading) : Type 0 where
   pub layout_is : s.layout ≡ l
-  pub fits : FitsShade s
+  pub fits : SoundShading s
 
 abbrev pub WriteStageWithin : Layout → WriteStage → Type 0
 WriteStageWithin l (ShadeOld sh) = ShadesWithin l sh

@@ -45,13 +45,13 @@ pub struct WritePointer {
 
 impl Model for WritePointer {
     ghost use Rattle.gh_barrier.specs.Listing.{Writing};
-    ghost use Rattle.gh_barrier.specs.Sound.{FitsWrite};
+    ghost use Rattle.gh_barrier.specs.Sound.{SoundWriting};
 
     ghost Value = { Writing };
 
     ghost view = { λ s. record { layout = s.layout; at = s.at; pointer = s.pointer; held = s.held; stage = s.stage } };
 
-    ghost invariant = { λ s. FitsWrite (record { layout = s.layout; at = s.at; pointer = s.pointer; held = s.held; stage = s.stage }) };
+    ghost invariant = { λ s. SoundWriting (record { layout = s.layout; at = s.at; pointer = s.pointer; held = s.held; stage = s.stage }) };
 
     ghost inverse = { λ s. record { layout = s.layout; at = s.at; pointer = s.pointer; held = s.held; stage = s.stage } };
 }

@@ -24,4 +24,4 @@ module _ {M Out : Type 0} (r : Listing M Out) where
       ap (alone r s) next ∙ ap (steps_alone r) (alone_behind s before n)
 
   pub folded : IsFolded r
-  folded = record { told_first = told_first; alone_first = alone_first; told_behind = told_behind; alone_behind = alone_behind }
+  folded = grind (arith, alone_behind, alone_first, told_behind, told_first)

@@ -1,5 +1,5 @@
 -- One step on the list of words is one step on the cells.
-use Rattle.std.proofs.Common.{◌≡◌, ℕ, ◌+◌, ◌^◌, ◌<◌, ◌%◌, Bool, true, false, refl, sym, cond, ap, List, length, length-set, get_or, get_or-set_same, get_or-set_other, eqb}
+use Rattle.std.proofs.Common.{◌≡◌, ℕ, ◌+◌, ◌^◌, ◌<◌, ◌%◌, Bool, true, false, refl, sym, cond, ap, List, length, length-set, get_or, get_or-set_same, get_or-set_other, eqb, arith}
 use Rattle.std.specs.Prelude.{bit_or, bit_and}
 use Rattle.std.proofs.lemmas.List.{set-get_or}
 use Rattle.std.proofs.Math.ListN.{set}
@@ -28,15 +28,10 @@ shows_put l list words c value h shows = record {
   each = λ d hd. each_put l list words c value h shows d hd (same_cell c d) refl;
 }
 
--- a request is on the word of its cell
-pub target-request : (l : Layout) (ask : Ask) → target (request l ask) ≡ word_of l (cell_of ask)
-target-request l (Load c) = refl
-target-request l _ = refl
-
 -- what is found there is what the cell holds
 pub found-request : (l : Layout) (list : List ℕ) (words : Words) (ask : Ask) → InRange l (cell_of ask) → ShowsCells l list words →
     get_or list (target (request l ask)) 0 ≡ words (cell_of ask)
-found-request l list words ask h shows = rw (target-request l ask) (shows.each (cell_of ask) h)
+found-request l list words ask h shows = grind arith
 
 -- one request on the list is one step on the cells
 pub shows_effect : (l : Layout) (list : List ℕ) (words : Words) (ask : Ask) → InRange l (cell_of ask) → ShowsCells l list words →

@@ -6,7 +6,6 @@ use Rattle.std.proofs.lemmas.Nat.Bits.{bit_at_or, bit_at-lt, bit_at-pow_same, bi
 use Rattle.std.proofs.lemmas.Bool.{eqb-true, eq-eqb}
 use Rattle.std.proofs.lemmas.Bool.Decides.{nat_tests}
 use Rattle.gh_base.specs.declared.cell.Cell.{Cell}
-use Rattle.gh_base.specs.declared.cell.Cell.TheVariants.{Page, Alloc, Mark, Bitmap, Birth, Field, Global, Buffer, Entry, Ack, Scanned}
 use Rattle.gh_base.specs.Cells.{same_cell}
 use Rattle.gh_base.specs.Rows.{CellsAreTold, Row, row_bit, RowsAreWritten, with_word}
 use Rattle.gh_base.proofs.Apart.{same_cell_tells}
@@ -15,10 +14,7 @@ here : (row : Row) (i v : ℕ) → with_word row i v i ≡ v
 here row i v = ap (λ (b : Bool). cond b v (row i)) (eq-eqb i i refl)
 
 elsewhere : (row : Row) (i v x : ℕ) → i ≢ x → with_word row i v x ≡ row x
-elsewhere row i v x ne = go (eqb i x) refl where
-  go : (b : Bool) → eqb i x ≡ b → cond b v (row x) ≡ row x
-  go true e = absurd (ne (eqb-true i x e))
-  go false e = refl
+elsewhere row i v x ne = grind arith
 
 bit_here : (row : Row) (i v x : ℕ) → x / 64 ≡ i → row_bit (with_word row i v) x ≡ bit_at v (x % 64)
 unfolding row_bit
@@ -53,28 +49,14 @@ sets_no_other row a x ne = go (eqb (a / 64) (x / 64)) refl where
   go false e = let apart : a / 64 ≢ x / 64 = grind (arith, nat_tests) in bit_elsewhere row (a / 64) _ x apart
 
 pub rows : RowsAreWritten
-rows = record { here = here; elsewhere = elsewhere; bit_here = bit_here; bit_elsewhere = bit_elsewhere; bit_of = bit_of; sets_one = sets_one; sets_no_other = sets_no_other }
+rows = grind (arith, bit_elsewhere, bit_here, bit_of, elsewhere, here, sets_no_other, sets_one)
 
 -- a cell is the same as itself
 itself : (c : Cell) → same_cell c c ≡ true
-itself (Page i) = eq-eqb i i refl
-itself (Alloc i) = eq-eqb i i refl
-itself (Mark i) = eq-eqb i i refl
-itself (Bitmap i) = eq-eqb i i refl
-itself (Birth i) = eq-eqb i i refl
-itself (Field i) = eq-eqb i i refl
-itself (Global i) = eq-eqb i i refl
-itself (Buffer i) = eq-eqb i i refl
-itself (Entry i j) = grind (arith, nat_tests)
-itself (Ack i) = eq-eqb i i refl
-itself (Scanned i) = eq-eqb i i refl
-itself _ = refl
+itself c = grind arith
 
 other : (c d : Cell) → c ≢ d → same_cell c d ≡ false
-other c d ne = go (same_cell c d) refl where
-  go : (b : Bool) → same_cell c d ≡ b → b ≡ false
-  go true e = absurd (ne (same_cell_tells c d e))
-  go false e = refl
+other c d ne = grind arith
 
 pub cells : CellsAreTold
 cells = record {

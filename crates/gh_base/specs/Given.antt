@@ -1,5 +1,6 @@
 -- A routine that says what it has given: it is busy exactly where it has given nothing.
-use Rattle.std.specs.Prelude.{◌≡◌, ℕ, true, false, Option, Some, None, is_none, IsNone, ◌↔◌, refl}
+use Rattle.std.proofs.Common.{arith}
+use Rattle.std.specs.Prelude.{◌≡◌, ℕ, true, Option, is_none, IsNone, ◌↔◌}
 use Rattle.gh_base.specs.declared.cell.Ask.{Ask}
 use Rattle.gh_base.specs.declared.layout.Layout.{Layout}
 use Rattle.gh_base.specs.Routines.{Listing}
@@ -10,5 +11,4 @@ listing_of layout asks goes given = record { layout = layout; busy = λ m. is_no
 
 -- so it has given nothing exactly where it asks for a further step
 pub is_over : {Out : Type 0} (given : Option Out) → IsNone given ↔ (is_none given ≡ true)
-is_over None = (λ _. refl, λ _. refl)
-is_over (Some out) = (λ (e : true ≡ false). cc, λ (e : false ≡ true). cc)
+is_over given = grind arith

@@ -1,5 +1,5 @@
 -- Its own steps are moves that the claim of the slot allows, and what it knows lasts. Of the heap it is known what the laws of gh_heap say.
-use Rattle.std.proofs.Common.{◌≡◌, ℕ, ◌+◌, ◌-◌, ◌*◌, ◌/◌, ◌%◌, ◌^◌, ◌<◌, ◌≤◌, ◌⊎◌, Bool, true, false, cond, eqb, ltb, inl, inr, Option, refl, sym, ap, subst, ◌∙◌, arith, bit_and, bit_or, eqb-true, eq-eqb, ltb-true, ltb-false}
+use Rattle.std.proofs.Common.{◌≡◌, ℕ, ◌+◌, ◌-◌, ◌*◌, ◌/◌, ◌%◌, ◌^◌, ◌<◌, ◌≤◌, ◌⊎◌, Bool, true, false, cond, eqb, ltb, Option, refl, sym, ap, subst, ◌∙◌, arith, bit_and, bit_or, eqb-true, eq-eqb, ltb-true, ltb-false}
 use Rattle.std.specs.Int.{bit_at}
 use Rattle.std.proofs.Math.Nat.{mod-lt}
 use Rattle.gh_base.specs.declared.cell.Cell.TheVariants as cell
@@ -38,8 +38,7 @@ lasts k z a v w s o x = record { layout = x.layout; shape = x.shape; some = x.so
 
 -- heap words outside of the slot, and in a word before
 not-here : (s : PointerSetting) (i x : ℕ) → (x < s.at) ⊎ (s.at + s.slot ≤ x) → IsHere s i x → ⊥
-not-here s i x (inl lt) h = omega (arith, lt, h.from)
-not-here s i x (inr le) h = omega (arith, le, h.below)
+not-here s i x h h2 = grind arith
 
 not-yet : (s : PointerSetting) (i x : ℕ) → x < 64 * i → IsHere s i x → ⊥
 not-yet s i x lt h = omega (arith, lt, h.word)
@@ -138,9 +137,7 @@ own k z a s l held y m g right x = own-at k z a s l held y m m.stage g right x
 -- Its words.
 
 within-at : (z : Arena) (m : PointerSetting) (bitmap : Row) (q : SetStage) → ((i : ℕ) → word_at m i < 16 * z.layout.pages) → FactsAt m bitmap q → InRange z.layout (cell_of (asks (at_stage m q)))
-within-at z m bitmap (Clear i) there x = there i
-within-at z m bitmap (Set i) there x = there i
-within-at z m bitmap Ended there x = absurd x
+within-at z m bitmap q there x = grind arith
 
 within : Within
 within z a v m x = within-at z m v.bitmap m.stage there x.stage where

@@ -1,11 +1,11 @@
 -- After each load the routine looks at the next slot, or has ended.
-use Rattle.std.proofs.Common.{◌≡◌, ◌≢◌, ℕ, zero, suc, ◌+◌, ◌-◌, ◌%◌, ◌<◌, ◌≤◌, ◌⊎◌, Bool, true, false, cond, eqb, ltb, Some, None, refl, sym, ap, subst, ◌∙◌, arith, inl, inr, eqb-true, eq-eqb, ltb-true, ltb-false}
+use Rattle.std.proofs.Common.{◌≡◌, ℕ, zero, suc, ◌+◌, ◌<◌, ◌⊎◌, Bool, false, cond, ltb, Some, None, refl, sym, ap, subst, ◌∙◌, arith, inl, inr}
 use Rattle.gh_base.specs.declared.cell.Cell.TheVariants.{Alloc}
 use Rattle.gh_base.specs.declared.cell.Ask.TheVariants.{Load}
 use Rattle.gh_base.specs.Routines.{GoesOn, told}
 use Rattle.gh_cache.specs.Sound.{FitsArena}
-use Rattle.gh_cache.specs.NextClear.{AreTaken, FindsNextClear, IsNextClear, slot_bit}
-use Rattle.gh_cache.proofs.Vocabulary.{asks, bit_at, bit_at-lt, Cached, Ended, given, gives, goes, goes_at, is_busy, is_clear, Layout, listing, Look, opening, Searching, slot_at, slots_of, SlotStage}
+use Rattle.gh_cache.specs.NextClear.{AreTaken, FindsNextClear, IsNextClear}
+use Rattle.gh_cache.proofs.Vocabulary.{asks, Cached, Ended, given, gives, goes, goes_at, is_busy, is_clear, Layout, listing, Look, opening, Searching, slots_of, SlotStage}
 use Rattle.gh_cache.proofs.Slots.{IsCut, slot_word}
 
 module _ (l : Layout) (span : Cached) (found : ℕ → ℕ) where
@@ -34,25 +34,6 @@ module _ (l : Layout) (span : Cached) (found : ℕ → ℕ) where
   abbrev next : ℕ → (clear further : Bool) → Searching
   next n clear further = cond clear (looking n (Ended (Some (span.cursor + n)))) (record { layout = l; span = record span { cursor = span.cursor + n + 1 }; stage = cond further Look (Ended None) })
 
-  -- the slot that it looks at with step n is n behind the cursor
-  bit_of : (n : ℕ) → slot_bit span found (span.cursor + n) ≡ bit_at (found n) (slot_at span (span.cursor + n) % 64)
-  bit_of n = let same : span.cursor + n - span.cursor ≡ n = omega arith in ap (λ (k : ℕ). bit_at (found k) (slot_at span (span.cursor + n) % 64)) same
-
-  bit_clear : (n : ℕ) → clears n ≡ true → slot_bit span found (span.cursor + n) ≡ 0
-  bit_clear n e = bit_of n ∙ eqb-true _ _ e
-
-  bit_taken : (n : ℕ) → clears n ≡ false → slot_bit span found (span.cursor + n) ≡ 1
-  bit_taken n e =
-      let small : slot_bit span found (span.cursor + n) < 2 = bit_at-lt (found (span.cursor + n - span.cursor)) (slot_at span (span.cursor + n) % 64) in
-      let ne : slot_bit span found (span.cursor + n) ≢ 0 = λ z. absurd (cc (e, eq-eqb _ _ (sym (bit_of n) ∙ z))) in
-      omega arith
-
-  more_taken : (n : ℕ) → AreTaken span found (span.cursor + n) → clears n ≡ false → AreTaken span found (span.cursor + suc n)
-  more_taken n taken e slot from below = by (eqb slot (span.cursor + n)) refl where
-    by : (b : Bool) → eqb slot (span.cursor + n) ≡ b → slot_bit span found slot ≡ 1
-    by true t = ap (slot_bit span found) (eqb-true _ _ t) ∙ bit_taken n e
-    by false t = let ne : slot ≢ span.cursor + n = λ z. absurd (cc (t, eq-eqb _ _ z)) in taken slot from (omega arith)
-
   fewer_taken : (n : ℕ) → Reached (suc n) → Reached n
   fewer_taken n r = let lt : span.cursor + suc n < slots_of span.class = r.0 in (omega arith, λ slot from below. r.1 slot from (omega arith))
 
@@ -60,18 +41,10 @@ module _ (l : Layout) (span : Cached) (found : ℕ → ℕ) where
   moved n e = ap (λ (s : Searching). goes s (found n)) e
 
   after_next : (n : ℕ) → Reached n → (c m : Bool) → clears n ≡ c → more n ≡ m → after (suc n) ≡ next n c m → After (suc n)
-  after_next n r true m t u e = inr (ap (λ (s : Searching). is_busy s.stage) e, λ q. absurd (let b = bit_clear n t in let k : slot_bit span found (span.cursor + n) ≡ 1 = q.1 (span.cursor + n) (omega arith) (omega arith) in omega (arith, b, k)))
-  after_next n r false true t u e =
-      let lt : span.cursor + n + 1 < slots_of span.class = ltb-true _ _ u in
-      let same : span.cursor + n + 1 ≡ span.cursor + suc n = omega arith in
-      inl (e ∙ ap (λ (k : ℕ). record { layout = l; span = record span { cursor = k }; stage = Look }) same, (omega arith, more_taken n r.1 t))
-  after_next n r false false t u e =
-      let ge : slots_of span.class ≤ span.cursor + n + 1 = ltb-false _ _ u in
-      inr (ap (λ (s : Searching). is_busy s.stage) e, λ q. absurd (let lt : span.cursor + suc n < slots_of span.class = q.0 in omega arith))
+  after_next n r c m t u e = grind arith
 
   stays_ended : (s : Searching) (f : ℕ) (p : SlotStage) → is_busy p ≡ false → is_busy (goes_at s p f).stage ≡ false
-  stays_ended s f (Ended slot) e = refl
-  stays_ended s f Look e = absurd (cc)
+  stays_ended s f p e = grind arith
 
   after_each : span.cursor < slots_of span.class → (n : ℕ) → After n
   after_each below zero =
@@ -92,50 +65,24 @@ module _ (l : Layout) (span : Cached) (found : ℕ → ℕ) where
     over ended busy = absurd (cc)
 
     some_forward : (slot : ℕ) → Reached n → (c m : Bool) → clears n ≡ c → given (next n c m) ≡ Some (Some slot) → IsNextClear span found slot × (slot ≡ span.cursor + n)
-    some_forward slot r true m t e =
-        let same : slot ≡ span.cursor + n = cc in
-        (subst (λ (k : ℕ). IsNextClear span found k) (sym same) (record { from = omega arith; among = r.0; clear = bit_clear n t; least = r.1 }), same)
-    some_forward slot r false true t e = absurd (cc)
-    some_forward slot r false false t e = absurd (cc)
+    some_forward slot r c m t e = grind arith
 
     some_back : (slot : ℕ) → IsNextClear span found slot → slot ≡ span.cursor + n → (c m : Bool) → clears n ≡ c → given (next n c m) ≡ Some (Some slot)
-    some_back slot h same true m t = ap (λ (k : ℕ). Some (Some k)) (sym same)
-    some_back slot h same false m t =
-        let set : slot_bit span found (span.cursor + n) ≡ 1 = bit_taken n t in
-        let unset : slot_bit span found (span.cursor + n) ≡ 0 = ap (slot_bit span found) (sym same) ∙ h.clear in
-        absurd (omega arith)
+    some_back slot h same c m t = grind arith
 
     none_forward : Reached n → (c m : Bool) → clears n ≡ c → more n ≡ m → given (next n c m) ≡ Some None → AreTaken span found (slots_of span.class) × (span.cursor + suc n ≡ slots_of span.class)
-    none_forward r true m t u e = absurd (cc)
-    none_forward r false true t u e = absurd (cc)
-    none_forward r false false t u e =
-        let ge : slots_of span.class ≤ span.cursor + n + 1 = ltb-false _ _ u in
-        let lt : span.cursor + n < slots_of span.class = r.0 in
-        let same : span.cursor + suc n ≡ slots_of span.class = omega arith in
-        (subst (λ (k : ℕ). AreTaken span found k) same (more_taken n r.1 t), same)
+    none_forward r c m t u e = grind arith
 
     none_back : AreTaken span found (slots_of span.class) → span.cursor + suc n ≡ slots_of span.class → (c m : Bool) → clears n ≡ c → more n ≡ m → given (next n c m) ≡ Some None
-    none_back taken same true m t u =
-        let unset : slot_bit span found (span.cursor + n) ≡ 0 = bit_clear n t in
-        let set : slot_bit span found (span.cursor + n) ≡ 1 = taken (span.cursor + n) (omega arith) (omega arith) in
-        absurd (omega arith)
-    none_back taken same false true t u = let lt : span.cursor + n + 1 < slots_of span.class = ltb-true _ _ u in absurd (omega arith)
-    none_back taken same false false t u = refl
+    none_back taken same c m t u = grind arith
 
     cursor_some_at : (slot : ℕ) → (c m : Bool) → given (next n c m) ≡ Some (Some slot) →
         (next n c m).span.cursor ≡ slot
-    cursor_some_at slot true m e = cc
-    cursor_some_at slot false true e = absurd (cc)
-    cursor_some_at slot false false e = absurd (cc)
+    cursor_some_at slot c m e = grind arith
 
     cursor_none_at : Reached n → (c m : Bool) → more n ≡ m → given (next n c m) ≡ Some None →
         (next n c m).span.cursor ≡ slots_of span.class
-    cursor_none_at r true m u e = absurd (cc)
-    cursor_none_at r false true u e = absurd (cc)
-    cursor_none_at r false false u e =
-        let ge : slots_of span.class ≤ span.cursor + n + 1 = ltb-false _ _ u in
-        let lt : span.cursor + n < slots_of span.class = r.0 in
-        omega arith
+    cursor_none_at r c m u e = grind arith
 
   pub finds : IsCut span.class → FitsArena l span → span.cursor < slots_of span.class → FindsNextClear (opening l span) found
   finds cut within below = record {

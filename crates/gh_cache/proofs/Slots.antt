@@ -1,5 +1,5 @@
 -- The slots of a span in the arena lie in the arena.
-use Rattle.std.proofs.Common.{◌≡◌, ℕ, zero, suc, ◌+◌, ◌*◌, ◌/◌, ◌%◌, ◌<◌, ◌≤◌, refl, subst, arith}
+use Rattle.std.proofs.Common.{◌≡◌, ℕ, suc, ◌+◌, ◌*◌, ◌/◌, ◌%◌, ◌<◌, ◌≤◌, subst, arith}
 use Rattle.std.proofs.Math.Nat.{mod-eq_of_lt, mul-le-mul_right}
 use Rattle.gh_base.specs.declared.layout.Layout.{Layout}
 use Rattle.gh_class.specs.Classes.{pages_of, slot_of, slots_of}
@@ -14,10 +14,7 @@ pub record IsCut (class : ℕ) : Type 0 where
   pub whole_words : slot_of class % 8 ≡ 0
 
 some_words : (size slots room : ℕ) → size % 8 ≡ 0 → room < (slots + 1) * size → 1 ≤ size / 8
-some_words size slots room whole full = by size refl where
-  by : (n : ℕ) → size ≡ n → 1 ≤ size / 8
-  by zero e = absurd (let none : room < (slots + 1) * 0 = subst (λ (n : ℕ). room < (slots + 1) * n) e full in omega arith)
-  by (suc n) e = omega arith
+some_words size slots room whole full = grind arith
 
 words_fit : (size slots room : ℕ) → size % 8 ≡ 0 → slots * size ≤ 8192 * room → slots * (size / 8) ≤ 1024 * room
 words_fit size slots room whole fit =

@@ -8,13 +8,15 @@ use Rattle.gh_coord.specs.declared.open.OpenStage.TheVariants as open_stage
 use Rattle.gh_coord.specs.declared.stop.StopStage.TheVariants as stop_stage
 use Rattle.gh_coord.specs.Closing as close
 use Rattle.gh_coord.specs.Counting as count
+use Rattle.gh_coord.specs.Events.{by_event}
+use Rattle.gh_coord.specs.Handshake.{StopsFor}
 use Rattle.gh_coord.specs.Opening as opens_by
 use Rattle.gh_coord.specs.Stopping as stop
 use Rattle.gh_coord.specs.Stays.{sweep_all_number, sweep_all_stays}
 use Rattle.gh_coord.specs.SweepingAll as all
 use Rattle.gh_coord.specs.Telling as tell
 use Rattle.gh_coord.specs.Watching as watch
-use Rattle.gh_coord.proofs.Vocabulary.{acks_of, after_ack, after_check, after_count, after_stop, after_stop_again, after_sweep, after_want, after_watch, All, asks_at, at_stage, begins, Calm, Check, Close, CloseStage, Coordinating, CoordStage, Count, Counted, counted, cycle_before, Done, ends, FitsNumbers, generation_before, goes_at, is_acknowledged, is_busy, IsAcked, IsQuietInHandshake, Layout, lead_at, lead_of, LeadGoes, LeadsHandshake, LoadAck, LoadWant, Looks, MarkOn, next_cycle, next_generation, Open, OpenStage, quiet, sees, Sound, SoundAt, Stop, stop_before, stop_word, StopAgain, Stopped, stops, StopStage, Store, Sweep, Tell, TellStage, Watch, Watched}
+use Rattle.gh_coord.proofs.Vocabulary.{acks_of, after_ack, after_check, after_count, after_stop, after_stop_again, after_sweep, after_want, after_watch, All, asks, asks_at, at_stage, begins, Calm, Check, Close, CloseStage, Coordinating, CoordStage, Count, Counted, counted, cycle_before, Done, ends, FitsNumbers, generation_before, goes_at, is_acknowledged, is_busy, IsAcked, IsQuietInHandshake, Layout, lead_at, lead_of, LeadGoes, LeadsHandshake, LoadAck, LoadWant, Looks, MarkOn, next_cycle, next_generation, Open, OpenStage, quiet, sees, Sound, SoundAt, Stop, stop_before, stop_word, StopAgain, Stopped, stops, StopStage, Store, Sweep, Tell, TellStage, Watch, Watched}
 use Rattle.gh_coord.proofs.LastCycle.{finds_gone, finishes_at, marks_at, stops_go_on}
 use Rattle.gh_coord.proofs.QuietParts.{count_quiet, sweep_quiet, watch_quiet}
 use Rattle.gh_coord.proofs.Stepping.{same_ask}
@@ -163,12 +165,22 @@ counted_sound : (s : Coordinating) (stage : CoordStage) → SoundAt s stage → 
 counted_sound s (Stop st) e = e
 counted_sound s _ e = e
 
+-- why it stops the world
+module _ (s m : Coordinating) (found : ℕ) where
+  abbrev HasReason : Coordinating → Type 0
+  HasReason to = (stop : ℕ) → asks to ≡ Store cell.Phase (stop_word stop) → StopsFor found s to
+
+  stops_so : (stage : CoordStage) → s.stage ≡ stage → m.stage ≡ stage → HasReason (goes_at m stage found)
+  stops_so stage is stays = by_event m found HasReason stage (λ e may. grind arith)
+
 pub leads_handshake : LeadsHandshake
 leads_handshake = record {
   sound = λ l seat gogc minheap room. (record { stops_fit = omega arith; begun_fits = omega arith; generation_fits = omega arith }, tt);
   leads = λ l seat gogc minheap room. refl;
   stays_sound = λ s found sound busy. (goes_so found (counted s) s.stage sound.0 (counted_sound s s.stage sound.1) busy).0;
   finds_gone = finds_gone;
+  stops_for = λ s found. stops_so s (counted s) found s.stage refl refl;
+  stops_at_first = λ l seat gogc minheap room stop e. cc;
   stops_go_on = stops_go_on;
   marks_on = λ s sound runs. marks_at s s.stage sound.1 runs;
   finishes = λ s sound e. finishes_at s s.stage sound.1 e;

@@ -3,7 +3,7 @@ use Rattle.std.specs.Prelude.{◌≡◌, ◌≢◌, ℕ, ◌+◌, ◌-◌, ◌%�
 use Rattle.gh_base.specs.declared.cell.Cell.TheVariants as cell
 use Rattle.gh_phase.specs.declared.view.RunPhase.{RunPhase}
 use Rattle.gh_phase.specs.declared.view.RunPhase.TheVariants as run
-use Rattle.gh_phase.specs.Handshake.{Calm, first_lead, last_of, Lead, LeadGoes, Looks, Post, stop_before, Stopped}
+use Rattle.gh_phase.specs.Handshake.{Calm, first_lead, last_of, Lead, LeadGoes, Looks, Post, stop_before, stop_word, Stopped}
 use Rattle.gh_coord.specs.declared.close.CloseStage.TheVariants as close_stage
 use Rattle.gh_coord.specs.declared.open.OpenStage.TheVariants as open_stage
 use Rattle.gh_coord.specs.declared.stop.StopStage.TheVariants as stop_stage
@@ -13,7 +13,7 @@ use Rattle.gh_coord.specs.Opening as open_
 use Rattle.gh_coord.specs.Listing.{asks, asks_at, Coordinating, goes, is_busy, opening}
 use Rattle.gh_coord.specs.Stopping.{acks_of}
 use Rattle.gh_coord.specs.Telling as tell
-use Rattle.gh_coord.specs.Vocabulary.{Check, Close, CloseStage, CoordStage, Count, Done, GONE, Layout, Load, LoadAck, LoadWant, MarkOn, Open, OpenStage, Stop, StopAgain, StopStage, Sweep, Tell, TellStage, Watch}
+use Rattle.gh_coord.specs.Vocabulary.{Check, Close, CloseStage, CoordStage, Count, Done, GONE, Layout, Load, LoadAck, LoadWant, MarkOn, Open, OpenStage, Stop, StopAgain, StopStage, Store, Sweep, Tell, TellStage, Watch}
 
 -- the numbers before these
 abbrev pub cycle_before : ℕ → ℕ
@@ -139,6 +139,10 @@ pub record FindsGone (found : ℕ) (s : Coordinating) (stage : CoordStage) (to :
   pub below : (a : ℕ) → a < gone_to to.stage → IsFoundGone found s stage a
   pub last : to.is_last ≡ true → (s.is_last ≡ true) ⊎ ((a : ℕ) → a < s.layout.procs → IsFoundGone found s stage a)
 
+-- Why it stops the world behind a step that leads here: that found a request for a cycle; or it is for the last cycle; or a cycle is marked, and its marking seems to be over.
+abbrev pub StopsFor : (found : ℕ) → (s to : Coordinating) → Type 0
+StopsFor found s to = ((asks s ≡ Load cell.Want) × (found ≢ 0)) ⊎ ((to.is_last ≡ true) ⊎ (last_of (post_at s.stage) ≡ run.Mark))
+
 pub record LeadsHandshake : Type 0 where
   -- before its first step
   pub sound : (l : Layout) (seat gogc minheap room : ℕ) → Sound (opening l seat gogc minheap room)
@@ -146,6 +150,9 @@ pub record LeadsHandshake : Type 0 where
   -- the last phase is stored in the last cycle, for which each processor was found gone
   pub finds_gone : (s : Coordinating) (found : ℕ) → is_busy s.stage ≡ true → FindsGone found s s.stage (goes s found)
   pub finishes : (s : Coordinating) → Sound s → last_of (post_at s.stage) ≡ run.Finished → s.is_last ≡ true
+  -- it stores a stop only where there is a reason to
+  pub stops_for : (s : Coordinating) (found stop : ℕ) → asks (goes s found) ≡ Store cell.Phase (stop_word stop) → StopsFor found s (goes s found)
+  pub stops_at_first : (l : Layout) (seat gogc minheap room stop : ℕ) → asks (opening l seat gogc minheap room) ≢ Store cell.Phase (stop_word stop)
   -- the world is never stopped behind the last phase
   pub stops_go_on : (s : Coordinating) (phase : RunPhase) → post_at s.stage ≡ Stopped phase → phase ≢ run.Finished
   -- where the world is not stopped the last phase that was no stop is that of marking exactly while a cycle is marked

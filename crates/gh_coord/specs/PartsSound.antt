@@ -23,23 +23,23 @@ FitsStops stops = stops < 2 ^ 62
 abbrev pub FitsGeneration : (generation : ℕ) → Type 0
 FitsGeneration generation = generation < 2 ^ 34
 
-abbrev pub FitsStopStage : Layout → StopStage → Type 0
-FitsStopStage l (stop.Await ack) = ack < acks_of l
-FitsStopStage l _ = Unit {0}
+abbrev pub SoundStopStage : Layout → StopStage → Type 0
+SoundStopStage l (stop.Await ack) = ack < acks_of l
+SoundStopStage l _ = Unit {0}
 
-pub record FitsStop (s : Stopping) : Type 0 where
+pub record SoundStopping (s : Stopping) : Type 0 where
   pub stops : FitsStops s.stops
-  pub stage : FitsStopStage s.layout s.stage
+  pub stage : SoundStopStage s.layout s.stage
 
-abbrev pub FitsOpen : CycleOpening → Type 0
-FitsOpen o = FitsStops o.stops
+abbrev pub SoundCycleOpening : CycleOpening → Type 0
+SoundCycleOpening o = FitsStops o.stops
 
-abbrev pub FitsWatchStage : Layout → WatchStage → Type 0
-FitsWatchStage l (watch.Look i) = i < words_of l
-FitsWatchStage l (watch.Ended watched) = Unit {0}
+abbrev pub SoundWatchStage : Layout → WatchStage → Type 0
+SoundWatchStage l (watch.Look i) = i < words_of l
+SoundWatchStage l (watch.Ended watched) = Unit {0}
 
-abbrev pub FitsWatch : Watching → Type 0
-FitsWatch w = FitsWatchStage w.layout w.stage
+abbrev pub SoundWatching : Watching → Type 0
+SoundWatching w = SoundWatchStage w.layout w.stage
 
 -- the sweep of the span at this page is of the same heap, and asks for a step
 pub record SweepsPage (l : Layout) (page : ℕ) (sw : Sweeping) : Type 0 where
@@ -47,18 +47,18 @@ pub record SweepsPage (l : Layout) (page : ℕ) (sw : Sweeping) : Type 0 where
   pub layout : sw.layout ≡ l
   pub busy : is_busy sw.stage ≡ true
 
-abbrev pub FitsSweepAllStage : Layout → SweepAllStage → Type 0
-FitsSweepAllStage l (sweep.LoadPage page) = page < l.pages
-FitsSweepAllStage l (sweep.Sweep page sw) = SweepsPage l page sw
-FitsSweepAllStage l (sweep.Await page) = page < l.pages
-FitsSweepAllStage l sweep.Ended = Unit {0}
+abbrev pub SoundSweepAllStage : Layout → SweepAllStage → Type 0
+SoundSweepAllStage l (sweep.LoadPage page) = page < l.pages
+SoundSweepAllStage l (sweep.Sweep page sw) = SweepsPage l page sw
+SoundSweepAllStage l (sweep.Await page) = page < l.pages
+SoundSweepAllStage l sweep.Ended = Unit {0}
 
-pub record FitsSweepAll (s : SweepingAll) : Type 0 where
+pub record SoundSweepingAll (s : SweepingAll) : Type 0 where
   pub generation : FitsGeneration s.generation
-  pub stage : FitsSweepAllStage s.layout s.stage
+  pub stage : SoundSweepAllStage s.layout s.stage
 
-abbrev pub FitsClose : Closing → Type 0
-FitsClose c = FitsStops c.stops
+abbrev pub SoundClosing : Closing → Type 0
+SoundClosing c = FitsStops c.stops
 
-abbrev pub FitsTell : Telling → Type 0
-FitsTell t = FitsStops t.stops
+abbrev pub SoundTelling : Telling → Type 0
+SoundTelling t = FitsStops t.stops

@@ -1,5 +1,5 @@
 -- What the coordinator knows of its own numbers, whatever it is told.
-use Rattle.std.specs.Prelude.{◌≡◌, ◌+◌, ◌<◌, ◌≤◌}
+use Rattle.std.specs.Prelude.{◌≡◌, ℕ, ◌+◌, ◌<◌, ◌≤◌, Option, Some, None}
 use Rattle.gh_base.specs.declared.layout.Layout.{Layout}
 use Rattle.gh_coord.specs.declared.coord.CoordStage.{CoordStage}
 use Rattle.gh_coord.specs.declared.coord.CoordStage.TheVariants.{LoadAck, LoadWant, Stop, Open, Watch, StopAgain, Check, MarkOn, Close, Sweep, Count, Tell, Done}
@@ -8,25 +8,35 @@ use Rattle.gh_coord.specs.Listing.{Coordinating}
 use Rattle.gh_coord.specs.PartsSound.{FitsGeneration, FitsStops}
 
 -- each part is of the same heap
-abbrev pub FitsStage : Layout → CoordStage → Type 0
-FitsStage l (LoadAck i) = i < l.procs
-FitsStage l LoadWant = Unit {0}
-FitsStage l (Stop s) = s.layout ≡ l
-FitsStage l (Open o) = o.layout ≡ l
-FitsStage l (Watch w) = w.layout ≡ l
-FitsStage l (StopAgain s) = s.layout ≡ l
-FitsStage l (Check w) = w.layout ≡ l
-FitsStage l MarkOn = Unit {0}
-FitsStage l (Close c) = c.layout ≡ l
-FitsStage l (Sweep s) = s.layout ≡ l
-FitsStage l (Count c) = c.layout ≡ l
-FitsStage l (Tell t) = t.layout ≡ l
-FitsStage l Done = Unit {0}
+abbrev pub SoundStage : Layout → CoordStage → Type 0
+SoundStage l (LoadAck i) = i < l.procs
+SoundStage l LoadWant = Unit {0}
+SoundStage l (Stop s) = s.layout ≡ l
+SoundStage l (Open o) = o.layout ≡ l
+SoundStage l (Watch w) = w.layout ≡ l
+SoundStage l (StopAgain s) = s.layout ≡ l
+SoundStage l (Check w) = w.layout ≡ l
+SoundStage l MarkOn = Unit {0}
+SoundStage l (Close c) = c.layout ≡ l
+SoundStage l (Sweep s) = s.layout ≡ l
+SoundStage l (Count c) = c.layout ≡ l
+SoundStage l (Tell t) = t.layout ≡ l
+SoundStage l Done = Unit {0}
 
-pub record FitsCoord (s : Coordinating) : Type 0 where
+-- The acknowledgement that an idle coordinator loads next is kept beside its stage: where there is one, that is its stage, and what stands for a stage is the load of the request.
+abbrev pub stage_kept : Option ℕ → CoordStage → CoordStage
+stage_kept (Some i) stage = LoadAck i
+stage_kept None stage = stage
+
+abbrev pub LooksSo : Option ℕ → CoordStage → Type 0
+LooksSo (Some i) stage = stage ≡ LoadWant
+LooksSo None (LoadAck i) = ⊥
+LooksSo None _ = Unit {0}
+
+pub record SoundCoordinating (s : Coordinating) : Type 0 where
   -- the coordinator's seat is the one behind the workers'
   pub seat : s.seat ≡ s.layout.procs + s.layout.workers
   pub gogc : s.gogc ≤ MOST_GOGC
   pub stops : FitsStops s.stops
   pub generation : FitsGeneration s.generation
-  pub stage : FitsStage s.layout s.stage
+  pub stage : SoundStage s.layout s.stage

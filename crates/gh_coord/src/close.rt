@@ -42,13 +42,13 @@ pub struct Close {
 
 impl Model for Close {
     ghost use Rattle.gh_coord.specs.Closing.{Closing};
-    ghost use Rattle.gh_coord.specs.PartsSound.{FitsClose};
+    ghost use Rattle.gh_coord.specs.PartsSound.{SoundClosing};
 
     ghost Value = { Closing };
 
     ghost view = { λ c. record { layout = c.layout; lapsed = c.lapsed; generation = c.generation; stops = c.stops; stage = c.stage } };
 
-    ghost invariant = { λ c. FitsClose (record { layout = c.layout; lapsed = c.lapsed; generation = c.generation; stops = c.stops; stage = c.stage }) };
+    ghost invariant = { λ c. SoundClosing (record { layout = c.layout; lapsed = c.lapsed; generation = c.generation; stops = c.stops; stage = c.stage }) };
 
     ghost inverse = { λ c. record { layout = c.layout; lapsed = c.lapsed; generation = c.generation; stops = c.stops; stage = c.stage } };
 }

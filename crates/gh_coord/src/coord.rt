@@ -82,6 +82,9 @@ pub struct Coord {
     cycles: Cycles,
     // The number of the first acknowledgement's word. It is kept, since every second step of an idle coordinator loads one.
     first_ack: u32,
+    // The acknowledgement that it loads next, if it does. Then `stage` is `LoadWant`, so that an idle step writes this alone and no
+    // stage, which has room for the largest.
+    looks: Option<u32>,
     stage: CoordStage,
 }
 
@@ -89,13 +92,13 @@ impl Model for Coord {
     ghost use Rattle.std.specs.Prelude.{◌≡◌};
     ghost use Rattle.gh_base.specs.Cells.{ack_row};
     ghost use Rattle.gh_coord.specs.Listing.{Coordinating};
-    ghost use Rattle.gh_coord.specs.Sound.{FitsCoord};
+    ghost use Rattle.gh_coord.specs.Sound.{SoundCoordinating, LooksSo, stage_kept};
 
     ghost Value = { Coordinating };
 
-    ghost view = { λ c. record { layout = c.layout; seat = c.seat; gogc = c.gogc; minheap = c.minheap; stops = c.stops; begun = c.begun; generation = c.generation; live = c.live; lapsed = c.lapsed; is_last = c.is_last; marks = c.marks; cycles = c.cycles; stage = c.stage } };
+    ghost view = { λ c. record { layout = c.layout; seat = c.seat; gogc = c.gogc; minheap = c.minheap; stops = c.stops; begun = c.begun; generation = c.generation; live = c.live; lapsed = c.lapsed; is_last = c.is_last; marks = c.marks; cycles = c.cycles; stage = stage_kept c.looks c.stage } };
 
-    ghost invariant = { λ c. FitsCoord (record { layout = c.layout; seat = c.seat; gogc = c.gogc; minheap = c.minheap; stops = c.stops; begun = c.begun; generation = c.generation; live = c.live; lapsed = c.lapsed; is_last = c.is_last; marks = c.marks; cycles = c.cycles; stage = c.stage }) × (c.first_ack ≡ ack_row c.layout) };
+    ghost invariant = { λ c. SoundCoordinating (record { layout = c.layout; seat = c.seat; gogc = c.gogc; minheap = c.minheap; stops = c.stops; begun = c.begun; generation = c.generation; live = c.live; lapsed = c.lapsed; is_last = c.is_last; marks = c.marks; cycles = c.cycles; stage = stage_kept c.looks c.stage }) × (c.first_ack ≡ ack_row c.layout) × LooksSo c.looks c.stage };
 }
 
 /// The cycle as it is kept.
@@ -140,7 +143,8 @@ impl Coord {
             marks: 0,
             cycles,
             first_ack: layout.word(Cell::Ack(0)),
-            stage: CoordStage::LoadAck(0),
+            looks: Some(0),
+            stage: CoordStage::LoadWant,
         })
     }
 
@@ -162,7 +166,7 @@ impl Coord {
     pub fn is_idle(&self) -> bool
         ensures { result ≡ is_idle self.now.stage }
     {
-        matches!(self.stage, CoordStage::LoadAck(_) | CoordStage::LoadWant)
+        matches!(self.stage, CoordStage::LoadWant)
     }
 
     /// How often it has stored the phase word. The number stands still at `u64::MAX`.
@@ -229,19 +233,21 @@ impl Coord {
         ensures { self.new ≡ stops_world self.old }
     {
         self.stops = self.next_stop();
+        self.looks = None;
         self.stage = CoordStage::Stop(Stop::new(&self.layout, self.stops));
     }
 
     /// Goes on by the acknowledgement of this processor.
     fn after_ack(&mut self, proc: u32, found: u64)
-        requires { proc < self.old.layout.procs }
+        requires there { proc < self.old.layout.procs }
+        requires stage { self.old.stage ≡ CoordStage.LoadAck proc }
         ensures { self.new ≡ after_ack self.old proc found }
     {
         // Who is not gone may still ask for a cycle, so the request is looked at.
         if found != GONE {
-            self.stage = CoordStage::LoadWant;
+            self.looks = None;
         } else if proc + 1 < self.layout.procs {
-            self.stage = CoordStage::LoadAck(proc + 1);
+            self.looks = Some(proc + 1);
         } else {
             // All are gone, and nobody asks any more: one cycle more frees what they have left.
             self.is_last = true;
@@ -251,10 +257,11 @@ impl Coord {
 
     /// Goes on by the request for a cycle.
     fn after_want(&mut self, found: u64)
+        requires { self.old.stage ≡ CoordStage.LoadWant }
         ensures { self.new ≡ after_want self.old found }
     {
         if found == 0 {
-            self.stage = CoordStage::LoadAck(0);
+            self.looks = Some(0);
         } else {
             self.stop_world();
         }
@@ -267,10 +274,9 @@ impl Coord {
         ensures goes { self.new ≡ goes self.old found }
         ensures goes_on { gives self.old found ≡ Option.None }
     {
-        match self.stage {
-            CoordStage::LoadAck(proc) => self.after_ack(proc, found),
-            CoordStage::LoadWant => self.after_want(found),
-            _ => {}
+        match self.looks {
+            Some(proc) => self.after_ack(proc, found),
+            None => self.after_want(found),
         }
     }
 
@@ -283,6 +289,7 @@ impl Coord {
             let work = next_work(&self.layout, self.gogc, self.minheap, self.live);
             let goal = next_goal(&self.layout, self.gogc, self.minheap, self.live);
             let open = Open::new(&self.layout, self.stops, self.begun, work, goal);
+            self.looks = None;
             self.stage = CoordStage::Open(open);
         }
     }
@@ -291,6 +298,7 @@ impl Coord {
     fn watch(&mut self)
         ensures { self.new ≡ watches self.old }
     {
+        self.looks = None;
         self.stage = CoordStage::Watch(Watch::new(&self.layout, self.begun));
     }
 
@@ -314,6 +322,7 @@ impl Coord {
                 // What was seen one after the other, while others went on, may not hold together. So it is looked at once more where
                 // nobody steps.
                 self.stops = self.next_stop();
+                self.looks = None;
                 self.stage = CoordStage::StopAgain(Stop::new(&self.layout, self.stops));
             }
         }
@@ -324,6 +333,7 @@ impl Coord {
         ensures { self.new ≡ after_stop_again self.old out }
     {
         if out.is_some() {
+            self.looks = None;
             self.stage = CoordStage::Check(Watch::new(&self.layout, self.begun));
         }
     }
@@ -335,10 +345,14 @@ impl Coord {
         match out {
             None => {}
             // Somebody had still to give a buffer with entries back when it was looked at first: marking goes on.
-            Some(Watched::NotYet) => self.stage = CoordStage::MarkOn,
+            Some(Watched::NotYet) => {
+                self.looks = None;
+                self.stage = CoordStage::MarkOn;
+            }
             Some(Watched::All) => {
                 self.generation = (self.generation + 2) % GENERATIONS;
                 let close = Close::new(&self.layout, self.lapsed, self.generation, self.stops);
+                self.looks = None;
                 self.stage = CoordStage::Close(close);
             }
         }
@@ -351,6 +365,7 @@ impl Coord {
         if let Some(lapsed) = out {
             // The goroutines run from here on, and whoever meets an unswept span sweeps it. The walk sees to it that none is left.
             self.lapsed = lapsed;
+            self.looks = None;
             self.stage = CoordStage::Sweep(SweepAll::new(&self.layout, self.generation));
         }
     }
@@ -360,6 +375,7 @@ impl Coord {
         ensures { self.new ≡ after_sweep self.old out }
     {
         if out.is_some() {
+            self.looks = None;
             self.stage = CoordStage::Count(Count::new(&self.layout));
         }
     }
@@ -373,6 +389,7 @@ impl Coord {
             self.cycles.keep(cycle_of(self.begun, counted.tally));
             let trigger = next_trigger(&self.layout, self.gogc, self.minheap, self.live);
             let tell = Tell::new(&self.layout, trigger, self.begun, self.stops, self.is_last);
+            self.looks = None;
             self.stage = CoordStage::Tell(tell);
         }
     }
@@ -382,11 +399,13 @@ impl Coord {
         ensures { self.new ≡ after_tell self.old out }
     {
         if out.is_some() {
-            self.stage = if self.is_last {
-                CoordStage::Done
+            if self.is_last {
+                self.looks = None;
+                self.stage = CoordStage::Done;
             } else {
-                CoordStage::LoadAck(0)
-            };
+                self.looks = Some(0);
+                self.stage = CoordStage::LoadWant;
+            }
         }
     }
 
@@ -528,8 +547,11 @@ impl Machine for Coord {
     // An idle step has an arm of its own, so that whoever makes it knows it to be a load.
     #[inline(always)]
     fn next(&self) -> Req {
+        if let Some(proc) = self.looks {
+            return Req::Load(self.first_ack + proc);
+        }
         let ask = match &self.stage {
-            CoordStage::LoadAck(proc) => return Req::Load(self.first_ack + *proc),
+            CoordStage::LoadAck(proc) => return self.layout.request(Ask::Load(Cell::Ack(*proc))),
             CoordStage::LoadWant => return self.layout.request(Ask::Load(Cell::Want)),
             CoordStage::Stop(stop) | CoordStage::StopAgain(stop) => return stop.next(),
             CoordStage::Open(open) => return open.next(),

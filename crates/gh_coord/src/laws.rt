@@ -14,8 +14,10 @@ pub fn it_goes_on_until_done()
 {}
 
 /// Each step of the coordinator is one of the handshake of a stop. It stores a stop behind a phase that is off, or
-/// that of marking; a cycle begins, its marking ends, and a phase that is no stop and not the last is stored in a
-/// stopped world alone: once each processor and each worker was found to have acknowledged the stop, or to be gone.
+/// that of marking: behind one that is off only where its last step found a request for a cycle, or for the last cycle,
+/// for which each processor was found to be gone. A cycle begins, its marking ends, and a phase that is no stop and not
+/// the last is stored in a stopped world alone: once each processor and each worker was found to have acknowledged the
+/// stop, or to be gone.
 pub fn the_coordinator_leads_the_handshake()
     ensures { LeadsHandshake }
 {}

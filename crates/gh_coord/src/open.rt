@@ -54,13 +54,13 @@ pub struct Open {
 
 impl Model for Open {
     ghost use Rattle.gh_coord.specs.Opening.{CycleOpening};
-    ghost use Rattle.gh_coord.specs.PartsSound.{FitsOpen};
+    ghost use Rattle.gh_coord.specs.PartsSound.{SoundCycleOpening};
 
     ghost Value = { CycleOpening };
 
     ghost view = { λ o. record { layout = o.layout; stops = o.stops; cycle = o.cycle; work = o.work; goal = o.goal; heap = o.heap; stage = o.stage } };
 
-    ghost invariant = { λ o. FitsOpen (record { layout = o.layout; stops = o.stops; cycle = o.cycle; work = o.work; goal = o.goal; heap = o.heap; stage = o.stage }) };
+    ghost invariant = { λ o. SoundCycleOpening (record { layout = o.layout; stops = o.stops; cycle = o.cycle; work = o.work; goal = o.goal; heap = o.heap; stage = o.stage }) };
 
     ghost inverse = { λ o. record { layout = o.layout; stops = o.stops; cycle = o.cycle; work = o.work; goal = o.goal; heap = o.heap; stage = o.stage } };
 }

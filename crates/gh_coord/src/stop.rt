@@ -33,13 +33,13 @@ pub struct Stop {
 
 impl Model for Stop {
     ghost use Rattle.gh_coord.specs.Stopping.{Stopping};
-    ghost use Rattle.gh_coord.specs.PartsSound.{FitsStop};
+    ghost use Rattle.gh_coord.specs.PartsSound.{SoundStopping};
 
     ghost Value = { Stopping };
 
     ghost view = { λ s. record { layout = s.layout; stops = s.stops; stage = s.stage } };
 
-    ghost invariant = { λ s. FitsStop (record { layout = s.layout; stops = s.stops; stage = s.stage }) };
+    ghost invariant = { λ s. SoundStopping (record { layout = s.layout; stops = s.stops; stage = s.stage }) };
 
     ghost inverse = { λ s. record { layout = s.layout; stops = s.stops; stage = s.stage } };
 }

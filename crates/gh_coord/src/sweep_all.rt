@@ -37,13 +37,13 @@ pub struct SweepAll {
 
 impl Model for SweepAll {
     ghost use Rattle.gh_coord.specs.SweepingAll.{SweepingAll};
-    ghost use Rattle.gh_coord.specs.PartsSound.{FitsSweepAll};
+    ghost use Rattle.gh_coord.specs.PartsSound.{SoundSweepingAll};
 
     ghost Value = { SweepingAll };
 
     ghost view = { λ s. record { layout = s.layout; generation = s.generation; stage = s.stage } };
 
-    ghost invariant = { λ s. FitsSweepAll (record { layout = s.layout; generation = s.generation; stage = s.stage }) };
+    ghost invariant = { λ s. SoundSweepingAll (record { layout = s.layout; generation = s.generation; stage = s.stage }) };
 
     ghost inverse = { λ s. record { layout = s.layout; generation = s.generation; stage = s.stage } };
 }

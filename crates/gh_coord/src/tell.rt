@@ -38,13 +38,13 @@ pub struct Tell {
 
 impl Model for Tell {
     ghost use Rattle.gh_coord.specs.Telling.{Telling};
-    ghost use Rattle.gh_coord.specs.PartsSound.{FitsTell};
+    ghost use Rattle.gh_coord.specs.PartsSound.{SoundTelling};
 
     ghost Value = { Telling };
 
     ghost view = { λ t. record { layout = t.layout; trigger = t.trigger; cycle = t.cycle; stops = t.stops; is_last = t.is_last; stage = t.stage } };
 
-    ghost invariant = { λ t. FitsTell (record { layout = t.layout; trigger = t.trigger; cycle = t.cycle; stops = t.stops; is_last = t.is_last; stage = t.stage }) };
+    ghost invariant = { λ t. SoundTelling (record { layout = t.layout; trigger = t.trigger; cycle = t.cycle; stops = t.stops; is_last = t.is_last; stage = t.stage }) };
 
     ghost inverse = { λ t. record { layout = t.layout; trigger = t.trigger; cycle = t.cycle; stops = t.stops; is_last = t.is_last; stage = t.stage } };
 }

@@ -42,13 +42,13 @@ pub struct Watch {
 
 impl Model for Watch {
     ghost use Rattle.gh_coord.specs.Watching.{Watching};
-    ghost use Rattle.gh_coord.specs.PartsSound.{FitsWatch};
+    ghost use Rattle.gh_coord.specs.PartsSound.{SoundWatching};
 
     ghost Value = { Watching };
 
     ghost view = { λ w. record { layout = w.layout; cycle = w.cycle; stage = w.stage } };
 
-    ghost invariant = { λ w. FitsWatch (record { layout = w.layout; cycle = w.cycle; stage = w.stage }) };
+    ghost invariant = { λ w. SoundWatching (record { layout = w.layout; cycle = w.cycle; stage = w.stage }) };
 
     ghost inverse = { λ w. record { layout = w.layout; cycle = w.cycle; stage = w.stage } };
 }

@@ -33,14 +33,10 @@ opened-at-rest z trigger number h some same = record {
 
 -- a word of the heap names what the value names
 pub names-it : (place : Place) (made : ℕ → ℕ) (v : EverValue) (word o : ℕ) → Holds place made true v word → word ≡ o + 1 → (n : Name) × (v ≡ ever.Ref n) × (place n ≡ o)
-names-it place made ever.Nil word o holds is = absurd (omega (arith, holds.1, is))
-names-it place made (ever.Int i) word o holds is = absurd (let e = holds.0 in cc)
-names-it place made (ever.Ref n) word o holds is = (n, refl, omega (arith, holds.1, is))
+names-it place made v word o holds is = grind arith
 
 pub names-reference : (place : Place) (v : EverValue) (o : ℕ) → reference_of place v ≡ o + 1 → (n : Name) × (v ≡ ever.Ref n) × (place n ≡ o)
-names-reference place ever.Nil o is = absurd (omega (arith, is))
-names-reference place (ever.Int i) o is = absurd (omega (arith, is))
-names-reference place (ever.Ref n) o is = (n, refl, omega (arith, is))
+names-reference place v o is = grind arith
 
 module _ (z : Arena) (h : Heap) (g : Good z (view h)) (b : IsBounded z h.ever) (made : TheReachedWereMade) where
   pub is-made : (n : Name) → Reach h.ever n → IsMade h.ever.made n
@@ -109,13 +105,7 @@ module _ (z : Cycle) (h : Heap) (g : Good z.arena (view h)) (b : IsBounded z.are
   }
 
   of-heap : IsCycleOf z.arena h marking
-  of-heap = record {
-    words = refl;
-    since = d.tells;
-    size = λ n r. ap (λ (m : Name). size_for z.arena.shapes h.ever.type_of m) (name-is n r);
-    pointer = λ n k r l. ap (λ (m : Name). points z.arena.shapes h.ever.type_of m k) (name-is n r);
-    noscan = λ n r. ap (λ (m : Name). (shape_for z.arena.shapes h.ever.type_of m).noscan) (name-is n r);
-  }
+  of-heap = grind (arith, name-is)
 
   -- all globals, those beyond the last one too
   globals : (i : ℕ) → IsSince d.test (h.words (cell.Global i))
@@ -167,7 +157,7 @@ module _ (z : Cycle) (h : Heap) (g : Good z.arena (view h)) (b : IsBounded z.are
   }
 
   opened : IsOpened z h
-  opened = record { marking = marking; of_heap = of-heap; registers = λ j c. refl; opens = opens }
+  opened = grind (arith, of-heap, opens)
 
 pub cycles-open : PlacesAreDecided → TheReachedWereMade → TheHeapIsApart → CyclesOpen
 cycles-open places made apart z h g b rest = opened z h g b rest made apart (places z.arena h b)

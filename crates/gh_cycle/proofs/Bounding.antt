@@ -21,22 +21,17 @@ use Rattle.gh_cycle.proofs.Reaching.{name-tells}
 
 -- both tests of two pass
 both : (b c : Bool) → (b && c) ≡ true → (b ≡ true) × (c ≡ true)
-both true c h = (refl, h)
-both false c h = absurd (cc)
+both b c h = grind arith
 
 bounded-opening : (z : Arena) → IsBounded z opening_ever
 bounded-opening z = record { registers = λ g d n e. absurd (cc); globals = λ k n e. absurd (cc); fields = λ m k n e. absurd (cc); none = λ g l. refl }
 
 -- one object more is made
 more-made : (made : ℕ → ℕ) (g : ℕ) (n : Name) → IsMade made n → n.k < cond (eqb n.g g) (made g + 1) (made n.g)
-more-made made g n h = by (eqb n.g g) refl where
-  by : (b : Bool) → eqb n.g g ≡ b → n.k < cond b (made g + 1) (made n.g)
-  by true t = omega (arith, subst (λ (x : ℕ). n.k < made x) (eqb-true n.g g t) h)
-  by false t = h
+more-made made g n h = grind arith
 
 first-plain : (b : Bool) (n : Name) → first_value b ≡ ever.Ref n → ⊥
-first-plain true n e = cc
-first-plain false n e = cc
+first-plain b n e = grind arith
 
 -- a value that names nothing, or an object that was made
 abbrev Made : Ever → EverValue → Type 0
@@ -88,9 +83,7 @@ module _ (z : Arena) (e : Ever) (h : IsBounded z e) where
 
 module _ (z : Arena) (e : Ever) (h : IsBounded z e) where
   takes : (g d : ℕ) (x : EverValue) → g < z.layout.goroutines → d < REGISTERS → Made e x → IsBounded z (takes_answer e g d (answer_of_value x))
-  takes g d ever.Nil lg ld made = register z e h g d ever.Nil lg ld (λ n is. absurd (cc))
-  takes g d (ever.Int i) lg ld made = register z e h g d (ever.Int i) lg ld (λ n is. absurd (cc))
-  takes g d (ever.Ref m) lg ld made = register z e h g d (ever.Ref m) lg ld made
+  takes g d x lg ld made = grind (arith, register)
 
   loads : (g d : ℕ) (x : EverValue) (k : ℕ) → g < z.layout.goroutines → d < REGISTERS → IsBounded z (takes_answer e g d (load_answer z.shapes e x k))
   loads g d ever.Nil k lg ld = h
@@ -129,9 +122,7 @@ module _ (z : Arena) (e : Ever) (h : IsBounded z e) where
   answered (op.Load g d b k) false r = loads g d (e.register g b) k r.0 r.1
   answered (op.Store g b k v) true r = full-store (e.register g b) where
     full-store : (x : EverValue) → IsBounded z (stores_value e x k (e.register g v) answer.Full)
-    full-store ever.Nil = h
-    full-store (ever.Int i) = h
-    full-store (ever.Ref m) = h
+    full-store x = grind arith
   answered (op.Store g b k v) false r = stores (e.register g b) k (e.register g v) (λ n is. (h.registers g v n is).2)
   answered (op.GetGlobal g d k) false r = takes g d (e.global k) r.0 r.1 (λ n is. (h.globals k n is).1)
   answered (op.SetGlobal g k v) false r = sets k (e.register g v) r.1 (λ n is. (h.registers g v n is).2)

@@ -1,6 +1,6 @@
 -- What has become of a heap since a cycle began in it: how it begins, that it lasts, and what is marked at the end.
-use Rattle.std.proofs.Common.{◌≡◌, ℕ, suc, ◌<◌, true, cond, Bool, refl, sym, ap, subst, ◌∙◌, inl, inr, arith, Some}
-use Rattle.std.proofs.lemmas.Bool.{cases_Bool, eq-eqb}
+use Rattle.std.proofs.Common.{◌≡◌, ℕ, suc, true, cond, Bool, sym, ap, subst, ◌∙◌, inl, inr, arith, Some}
+use Rattle.std.proofs.lemmas.Bool.{cases_Bool}
 use Rattle.std.proofs.lemmas.Bool.Decides.{eqb_tells}
 use Rattle.gh_model.specs.Ever.{next_name}
 use Rattle.gh_heap.specs.Laws as heap_laws
@@ -16,7 +16,6 @@ use Rattle.gh_cycle.specs.Vocabulary.{alloc_words, birth_word, birth_words, Cycl
 use Rattle.gh_cycle.proofs.Bits.{zero_one}
 use Rattle.gh_cycle.proofs.Marked.{marked-since}
 use Rattle.gh_cycle.proofs.Quiet.{quiet_view}
-use Rattle.gh_cycle.proofs.Reaching.{name-itself}
 
 pub cycles-begin-so : TheHeapIsApart → TheReachedWereMade → CyclesBeginSo
 cycles-begin-so apart were_made z h s good bounds c = record {
@@ -37,11 +36,7 @@ pub record Known : Type 0 where
 
 -- the name that a move makes was not made before
 not-new : (e : Ever) (m : heap.Move) (n : Name) → IsMade e.made n → name_made e m ≡ Some n → ⊥
-not-new e (heap.Make at g d t) n made is =
-    let same : next_name e g ≡ n = cc in
-    let below : e.made g < e.made g = subst (λ (x : Name). IsMade e.made x) (sym same) made in
-    omega (arith, below)
-not-new e _ n made is = cc
+not-new e m n made is = grind arith
 
 module _ (k : Known) (z : Cycle) (a : ℕ) (h : Heap) (good : Good z.arena (view h)) where
   abbrev after : heap.Move → Heap
@@ -62,23 +57,9 @@ module _ (k : Known) (z : Cycle) (a : ℕ) (h : Heap) (good : Good z.arena (view
     abbrev new : Name
     new = next_name h.ever g
 
-    at-new : (after move).place new ≡ at
-    at-new = ap (λ (b : Bool). cond b at (h.place new)) (name-itself new)
-
-    new-made : IsMade (after move).ever.made new
-    new-made = rw (eq-eqb g g refl) (omega arith)
-
-    new-placed : Placed (alloc_words (after move).words) (birth_words h.words) (after move).place new
-    new-placed = record { set = ap (λ (x : ℕ). row_bit (alloc_words (after move).words) x) at-new ∙ k.rows.sets_one (alloc_words h.words) at; says = ap (birth_words h.words) at-new ∙ may.ready.birth }
-
     -- what stands at the new object's place is the new object
     same : (n : Name) → IsMade h.ever.made n → Placed (alloc_words (after move).words) (birth_words h.words) h.place n → at ≡ h.place n → n ≡ new
-    same n made p is = (k.apart z.arena (view (after move)) (k.keeps z.arena a h move good may)).once n new ((left move may).made n made) new-made old-placed new-placed (place-old ∙ sym is ∙ sym at-new) where
-      place-old : (after move).place n ≡ h.place n
-      place-old = (left move may).places n made
-
-      old-placed : Placed (alloc_words (after move).words) (birth_words h.words) (after move).place n
-      old-placed = record { set = ap (λ (x : ℕ). row_bit (alloc_words (after move).words) x) place-old ∙ p.set; says = ap (birth_words h.words) place-old ∙ p.says }
+    same n made p is = grind arith
 
     by-making : StoodBefore move
     by-making n made p = elim (eqb_tells at (h.place n)) [

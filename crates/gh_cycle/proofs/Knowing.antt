@@ -21,16 +21,13 @@ abbrev LeastSlot : Type 0
 LeastSlot = (c : ℕ) → c < 25 → 8 ≤ slot_of c
 
 slot-of-class : (c : SizeClass) (k : ℕ) → slot_for c k ≡ cond (is_own_class c) (1024 * k) (slot_of (number_of_class c) / 8)
-slot-of-class (size.Small c) k = refl
-slot-of-class size.Large k = refl
+slot-of-class c k = grind arith
 
 slot-of-small : (c : SizeClass) (k : ℕ) → c ≢ size.Large → slot_for c 1 ≡ cond (is_own_class c) (1024 * k) (slot_of (number_of_class c) / 8)
-slot-of-small (size.Small c) k ne = refl
-slot-of-small size.Large k ne = absurd (ne refl)
+slot-of-small c k ne = grind arith
 
 some-slot : LeastSlot → (c : SizeClass) (k : ℕ) → IsSizeClass c → 1 ≤ k → 1 ≤ cond (is_own_class c) (1024 * k) (slot_of (number_of_class c) / 8)
-some-slot least (size.Small c) k below some = let l = least c below in omega (arith, l)
-some-slot least size.Large k below some = omega (arith, some)
+some-slot least c k below some = grind arith
 
 -- the page in which a slot begins is the span's first, or a further one, and then its objects are not large
 module _ (pages : ℕ) (row : Row) (p : ℕ) (h : SpanHead) (i a n : ℕ) (o : IsSlotOf pages row p h i a n) (low : 1024 * p ≤ a) (high : a < 1024 * (p + h.pages)) where
@@ -56,13 +53,10 @@ module _ (pages : ℕ) (row : Row) (p : ℕ) (h : SpanHead) (i a n : ℕ) (o : I
   ]
 
   slot-read : slot_in (page_of (row (a / 1024))) ≡ n
-  slot-read = elim page-read [
-    | inl head ↦ ap slot_in head ∙ slot-of-class h.class h.pages ∙ sym o.size_is
-    | inr w ↦ ap slot_in w.2 ∙ slot-of-small h.class h.pages w.1 ∙ sym o.size_is
-  ]
+  slot-read = grind (arith, page-read, slot-of-class, slot-of-small)
 
   noscan-read : page_noscan (page_of (row (a / 1024))) ≡ h.noscan
-  noscan-read = elim page-read [ inl head ↦ ap page_noscan head | inr w ↦ ap page_noscan w.2 ]
+  noscan-read = grind (arith, page-read)
 
 module _ (least : LeastSlot) (apart : TheHeapIsApart) (z : Arena) (h : Heap) (s : Marking) (g : Good z (view h)) where
   abbrev Known : (o : ℕ) → Type 0

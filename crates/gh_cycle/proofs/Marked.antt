@@ -9,7 +9,7 @@ use Rattle.gh_base.specs.declared.shape.Shape.{Shape}
 use Rattle.gh_base.specs.Shapes.{FitsShape, ShapesFit, is_pointer, no_shape, shape_at}
 use Rattle.gh_model.specs.declared.EverValue.TheVariants as ever
 use Rattle.gh_model.specs.Ever.{from_field, from_global, from_register}
-use Rattle.gh_marks.specs.Colours.{Colour, IsShaded, Placing, White, mark_of}
+use Rattle.gh_marks.specs.Colours.{Placing}
 use Rattle.gh_marks.specs.Ends.{Reached}
 use Rattle.gh_marks.specs.Ends.{from_field as path_field, from_global as path_global, from_register as path_register}
 use Rattle.gh_marks.specs.Good.{Good as MarkingGood}
@@ -70,15 +70,9 @@ pub reached-marked-beside : TheReachedWereMade → TheReachedAreMarkedBeside
 reached-marked-beside made z h s g fit b c each n r =
     each (h.place n) (path z h s g fit b c.words (λ m reached. said-beside z.arena h s c m (record { made = made z.arena h.ever b m reached; placed = g.reached m reached; since = c.reached m reached })) c.registers made n r)
 
--- what is marked, and no slot that is being filled, is grey or black
-shaded-of : (k : Colour) → 1 ≡ mark_of k → ((a : ℕ) → k ≢ Placing a) → IsShaded k
-shaded-of White e none = absurd (omega (arith, e))
-shaded-of (Placing a) e none = absurd (none a refl)
-shaded-of _ e none = tt
-
 -- so it is of the cycle
 pub marked-since : (z : Cycle) (s : Marking) → MarkingGood z s → ((o a : ℕ) → s.colour o ≢ Placing a) → (o : ℕ) → IsMarked (mark_words s.words) o → s.since o ≡ true
-marked-since z s g none o marked = g.objects.shaded o (shaded-of (s.colour o) (sym marked ∙ g.marks o) (none o))
+marked-since z s g none o marked = grind arith
 
 -- and stands
 pub marked-stand : TheMarkedStand

@@ -1,6 +1,6 @@
 -- What a script reaches is decided. A set of reached names grows by one where a global, a register or a field of a name in it names another; and since names are finitely many, it is closed in the end.
 use Rattle.std.proofs.Common.{◌≡◌, ℕ, zero, suc, ◌<◌, ◌≤◌, ◌⊎◌, Bool, true, false, cond, refl, sym, ap, subst, arith, inl, inr, ◌∙◌}
-use Rattle.std.proofs.lemmas.Bool.Decides.{eqb_tells, nat_tests}
+use Rattle.std.proofs.lemmas.Bool.Decides.{nat_tests}
 use Rattle.gh_base.specs.declared.limits.TheConstants.{REGISTERS}
 use Rattle.gh_base.specs.declared.value.Name.{Name}
 use Rattle.gh_model.specs.declared.EverValue.{EverValue}
@@ -36,9 +36,7 @@ lacks true = 0
 lacks false = 1
 
 lacks-less : (b c : Bool) → lacks (cond b true c) ≤ lacks c
-lacks-less true true = omega arith
-lacks-less true false = omega arith
-lacks-less false c = omega arith
+lacks-less b c = grind arith
 
 module _ (z : Arena) (e : Ever) (h : IsBounded z e) where
   abbrev Set : Type 0
@@ -163,7 +161,7 @@ module _ (z : Arena) (e : Ever) (h : IsBounded z e) where
   whole = close (suc (missing (λ n. false))) (λ n. false) (λ n is. absurd (cc)) (omega arith)
 
   decided : Decided (Reach e)
-  decided = let w = whole in record { test = w.0; tells = λ n. (w.1 n, complete w.0 w.2 n) }
+  decided = grind (arith, complete, whole)
 
   module _ (place : Place) where
     abbrev At : ℕ → Type 0
@@ -173,10 +171,7 @@ module _ (z : Arena) (e : Ever) (h : IsBounded z e) where
     NotAt s o g j = s (named g j) ≡ true → place (named g j) ≡ o → ⊥
 
     look-at : (s : Set) → Sound s → (o g j : ℕ) → At o ⊎ NotAt s o g j
-    look-at s sound o g j = by (s (named g j)) refl where
-      by : (b : Bool) → s (named g j) ≡ b → At o ⊎ NotAt s o g j
-      by false t = inr (λ y at. absurd (cc))
-      by true t = elim (eqb_tells (place (named g j)) o) [ inl y ↦ inl (named g j, sound (named g j) t, y.1) | inr x ↦ inr (λ y at. x.1 at) ]
+    look-at s sound o g j = grind arith
 
     decided-at : (o : ℕ) → At o ⊎ (At o → ⊥)
     decided-at o = let w = whole in elim (search z.layout.goroutines (λ g. (j : ℕ) → j < e.made g → NotAt w.0 o g j) (λ g. search (e.made g) (NotAt w.0 o g) (look-at w.0 w.1 o g))) [

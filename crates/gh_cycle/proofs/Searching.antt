@@ -1,5 +1,5 @@
 -- Searches below a bound, a count that goes down while a search goes on, and tests made of what is found.
-use Rattle.std.proofs.Common.{◌≡◌, ℕ, zero, suc, ◌+◌, ◌<◌, ◌≤◌, ◌⊎◌, Bool, true, false, refl, sym, subst, arith, inl, inr}
+use Rattle.std.proofs.Common.{◌≡◌, ℕ, zero, suc, ◌+◌, ◌<◌, ◌≤◌, ◌⊎◌, Bool, true, false, sym, subst, arith, inl, inr}
 use Rattle.std.specs.Prelude.{◌↔◌}
 use Rattle.std.proofs.lemmas.Bool.Decides.{eqb_tells}
 use Rattle.gh_cycle.specs.Reached.{Decided}
@@ -44,8 +44,7 @@ told (inl p) = true
 told (inr n) = false
 
 told-tells : {P : Type 0} (d : P ⊎ (P → ⊥)) → (told d ≡ true) ↔ P
-told-tells (inl p) = (λ e. p, λ q. refl)
-told-tells (inr n) = (λ e. absurd (cc), λ p. absurd (n p))
+told-tells d = grind arith
 
 pub decided-of : {A : Type 0} (P : A → Type 0) → ((x : A) → P x ⊎ (P x → ⊥)) → Decided P
 decided-of P d = record { test = λ x. told (d x); tells = λ x. told-tells (d x) }

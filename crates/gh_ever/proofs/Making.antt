@@ -1,13 +1,13 @@
 -- An object that is added to the lists is made in the heap.
 use Rattle.std.proofs.Common.{◌≡◌, ℕ, ◌+◌, ◌-◌, ◌<◌, ◌≤◌, ◌^◌, Bool, true, false, cond, eqb, List, [], ◌∷◌, ◌++◌, length, get_or, Option, Some, None, refl, sym, ◌∙◌, ap, subst, arith, inl, inr, ◌⊎◌, true≢false, length-set, get_or-set_same, get_or-set_other}
 use Rattle.std.specs.Option.{unwrap_or, is_some, IsSome}
-use Rattle.std.proofs.lemmas.Bool.{cases_Bool, cases_eq, cond-true}
+use Rattle.std.proofs.lemmas.Bool.{cases_Bool, cases_eq}
 use Rattle.std.proofs.lemmas.Bool.Decides.{nat_tests}
 use Rattle.std.proofs.lemmas.Option.{same_Some}
 use Rattle.gh_base.specs.Shapes.{shape_at, is_pointer}
 use Rattle.gh_model.specs.declared.EverValue.TheVariants as values
-use Rattle.gh_ever.proofs.Vocabulary.{Ever, ever_of, EverValue, Field, first_value, Global, IsInKnown, IsKnown, kind_of, Lists, Name, next_name, Object, Place, Register, same_name, set, Sound, spent, stored_value, unstored, with_object, with_register}
-use Rattle.gh_ever.proofs.Places.{name_tells, name_itself}
+use Rattle.gh_ever.proofs.Vocabulary.{Ever, ever_of, EverValue, Field, first_value, IsInKnown, IsKnown, kind_of, Lists, Name, next_name, Object, Place, Register, same_name, set, Sound, spent, stored_value, unstored, with_object, with_register}
+use Rattle.gh_ever.proofs.Places.{name_tells}
 use Rattle.gh_ever.proofs.Same.{same_ever}
 use Rattle.gh_ever.proofs.Writing.{with_cell, ever-with_cell, sound_put, spent_le, length-spent}
 
@@ -40,33 +40,18 @@ kind_of-push (o ∷ os) n t m e = go (same_name n o.name) refl e (kind_of-push o
 
 -- the next object was not made yet
 pub fresh_unmade : (v : Lists) (g : ℕ) → Sound v → kind_of v.objects (fresh v g) ≡ None
-fresh_unmade v g s = go (kind_of v.objects (fresh v g)) refl where
-  go : (o : Option ℕ) → kind_of v.objects (fresh v g) ≡ o → o ≡ None
-  go None e = refl
-  go (Some t) e = let below : get_or v.made g 0 < get_or v.made g 0 = s.numbered (fresh v g) t e in absurd (omega arith)
-
--- nothing was stored in it
-fresh_empty : (v : Lists) (g k : ℕ) → Sound v → stored_value v.cells (Field (fresh v g) k) ≡ None
-fresh_empty v g k s = go (stored_value v.cells (Field (fresh v g) k)) refl where
-  go : (o : Option EverValue) → stored_value v.cells (Field (fresh v g) k) ≡ o → o ≡ None
-  go None e = refl
-  go (Some x) e = let made : IsSome (kind_of v.objects (fresh v g)) = s.places (Field (fresh v g) k) x e in absurd (true≢false (sym made ∙ ap is_some (fresh_unmade v g s)))
+fresh_unmade v g s = grind arith
 
 made_after : (v : Lists) (g h : ℕ) → g < length v.made → get_or (set v.made g (get_or v.made g 0 + 1)) h 0 ≡ cond (eqb h g) (get_or v.made g 0 + 1) (get_or v.made h 0)
 made_after v g h w = grind (arith, nat_tests, get_or-set_same v.made g (get_or v.made g 0 + 1) 0 w, get_or-set_other v.made g h (get_or v.made g 0 + 1) 0, cases_eq h g)
 
 kind_after : (b : Bool) (t : ℕ) (o : Option ℕ) → unwrap_or (cond b (Some t) o) 0 ≡ cond b t (unwrap_or o 0)
-kind_after true t o = refl
-kind_after false t o = refl
+kind_after b t o = grind arith
 
 field_after : (v : Lists) (g t : ℕ) (m : Name) (k : ℕ) → Sound v → (b : Bool) → same_name m (fresh v g) ≡ b →
     unwrap_or (stored_value v.cells (Field m k)) (unstored v.shapes (cond b (Some t) (kind_of v.objects m)) k) ≡
     cond b (first_value (is_pointer (shape_at v.shapes t) k)) (unwrap_or (stored_value v.cells (Field m k)) (unstored v.shapes (kind_of v.objects m) k))
-field_after v g t m k s true e =
-    let same : m ≡ fresh v g = name_tells m (fresh v g) e in
-    let empty : stored_value v.cells (Field m k) ≡ None = subst (λ (n : Name). stored_value v.cells (Field n k) ≡ None) (sym same) (fresh_empty v g k s) in
-    rw empty refl
-field_after v g t m k s false e = refl
+field_after v g t m k s b e = grind arith
 
 pub ever-with_made : (v : Lists) (g t : ℕ) → Sound v → g < length v.made → ever_of (with_made v g t) ≡ with_object v.shapes (ever_of v) g t
 unfolding ever_of
@@ -85,19 +70,13 @@ still_some os n t m e h = go (same_name m n) (kind_of-push os n t m e) where
   go false f = ap is_some f ∙ h
 
 pub fresh_known : (v : Lists) (g t : ℕ) → Sound v → IsKnown (v.objects ++ record { name = fresh v g; kind = t } ∷ []) (values.Ref (fresh v g))
-fresh_known v g t s =
-    let found : kind_of (v.objects ++ record { name = fresh v g; kind = t } ∷ []) (fresh v g) ≡ Some t = kind_of-push v.objects (fresh v g) t (fresh v g) (fresh_unmade v g s) ∙ cond-true (same_name (fresh v g) (fresh v g)) (Some t) (kind_of v.objects (fresh v g)) (name_itself (fresh v g)) in
-    ap is_some found
+fresh_known v g t s = grind (arith, fresh_unmade, kind_of-push)
 
 known_still : (v : Lists) (g t : ℕ) → Sound v → (x : EverValue) → IsKnown v.objects x → IsKnown (v.objects ++ record { name = fresh v g; kind = t } ∷ []) x
-known_still v g t s values.Nil h = tt
-known_still v g t s (values.Int n) h = tt
-known_still v g t s (values.Ref n) h = still_some v.objects (fresh v g) t n (fresh_unmade v g s) h
+known_still v g t s x h = grind (arith, fresh_unmade, still_some)
 
 inside_still : (v : Lists) (g t : ℕ) → Sound v → (p : Place) → IsInKnown v.objects p → IsInKnown (v.objects ++ record { name = fresh v g; kind = t } ∷ []) p
-inside_still v g t s (Global k) h = tt
-inside_still v g t s (Register c d) h = tt
-inside_still v g t s (Field n k) h = still_some v.objects (fresh v g) t n (fresh_unmade v g s) h
+inside_still v g t s p h = grind (arith, fresh_unmade, still_some)
 
 -- with the register that names it
 abbrev pub with_new : Lists → ℕ → ℕ → ℕ → List ℕ → Lists

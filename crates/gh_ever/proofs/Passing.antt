@@ -1,5 +1,5 @@
 -- One pass over the cells.
-use Rattle.std.proofs.Common.{◌≡◌, ℕ, ◌+◌, ◌<◌, Bool, true, false, List, length, get_or, Some, refl, sym, ◌∙◌, ap, subst, arith}
+use Rattle.std.proofs.Common.{◌≡◌, ℕ, ◌+◌, ◌<◌, Bool, true, false, List, length, get_or, Some, sym, ◌∙◌, ap, subst, arith}
 use Rattle.std.specs.List.{AllWithin}
 use Rattle.std.proofs.lemmas.List.{get_or_default}
 use Rattle.std.proofs.lemmas.List.Elements.{AllWithin-more}
@@ -19,8 +19,7 @@ cell_read v w xs i d e s f h =
 
 -- fewer objects are unmarked than at first
 pub fewer_yet : (b : Bool) (first mid new : List Bool) → (b ≡ true → unmarked mid < unmarked first) → (b ≡ false → mid ≡ first) → unmarked new < unmarked mid → unmarked new < unmarked first
-fewer_yet true first mid new h s f = let before : unmarked mid < unmarked first = h refl in omega arith
-fewer_yet false first mid new h s f = subst (λ (x : List Bool). unmarked new < unmarked x) (s refl) f
+fewer_yet b first mid new h s f = grind arith
 
 -- one cell more is followed
 pub one_followed : (v : Lists) (old new : List Bool) (xs : List Cell) (i : ℕ) (d : Cell) → xs ≡ v.cells → i < length xs → new ≡ old → AllWithin (IsFollowed v old) v.cells 0 i → IsFollowed v new (get_or xs i d) → AllWithin (IsFollowed v new) v.cells 0 (i + 1)

@@ -1,12 +1,10 @@
 -- What the tests of names and places tell, and what stands where after a value was stored.
-use Rattle.std.proofs.Common.{◌≡◌, Bool, true, false, cond, List, [], ◌∷◌, Some, refl, sym, ◌∙◌, ap, subst, arith, inl, inr}
-use Rattle.std.proofs.lemmas.Bool.{and_parts, eqb-true, cases_Bool, true≢false}
+use Rattle.std.proofs.Common.{◌≡◌, Bool, true, false, cond, List, [], ◌∷◌, Some, refl, sym, ◌∙◌, subst, arith}
 use Rattle.std.proofs.lemmas.Bool.Decides.{nat_tests}
 use Rattle.gh_base.specs.declared.value.Name.{Name}
 use Rattle.gh_model.specs.declared.EverValue.{EverValue}
 use Rattle.gh_model.specs.Ever.{same_name}
 use Rattle.gh_ever.specs.declared.cell.Place.{Place}
-use Rattle.gh_ever.specs.declared.cell.Place.TheVariants.{Global, Register, Field}
 use Rattle.gh_ever.specs.declared.cell.Cell.{Cell}
 use Rattle.gh_ever.specs.Cells.{stored_value, put_value, same_place, IsDistinct}
 
@@ -16,42 +14,14 @@ name_tells n m h =
     let q : n.k ≡ m.k = grind (arith, nat_tests) in
     λ i. record { g = p i; k = q i }
 
-pub name_itself : (n : Name) → same_name n n ≡ true
-name_itself n = grind (arith, nat_tests)
-
 pub place_tells : (p q : Place) → same_place p q ≡ true → p ≡ q
-place_tells (Global j) (Global k) h = ap Global (eqb-true j k h)
-place_tells (Global j) (Register h d) e = cc
-place_tells (Global j) (Field n k) e = cc
-place_tells (Register g c) (Global k) e = cc
-place_tells (Register g c) (Register h d) e =
-    let both = and_parts _ _ e in
-    let p : g ≡ h = eqb-true g h both.0 in
-    let q : c ≡ d = eqb-true c d both.1 in
-    λ i. Register (p i) (q i)
-place_tells (Register g c) (Field n k) e = cc
-place_tells (Field n j) (Global k) e = cc
-place_tells (Field n j) (Register h d) e = cc
-place_tells (Field n j) (Field m k) e =
-    let both = and_parts _ _ e in
-    let p : n ≡ m = name_tells n m both.0 in
-    let q : j ≡ k = eqb-true j k both.1 in
-    λ i. Field (p i) (q i)
+place_tells p q h = grind arith
 
 pub place_itself : (p : Place) → same_place p p ≡ true
-place_itself (Global j) = grind (arith, nat_tests)
-place_itself (Register g c) = grind (arith, nat_tests)
-place_itself (Field n j) = grind (arith, nat_tests)
-
--- places that are one place are not told apart
-pub place_not_apart : (p q : Place) → p ≡ q → same_place p q ≡ false → ⊥
-place_not_apart p q e h = true≢false (sym (subst (λ (x : Place). same_place p x ≡ true) e (place_itself p)) ∙ h)
+place_itself p = grind arith
 
 pub place_apart : (p q r : Place) → same_place p r ≡ false → same_place q r ≡ true → same_place q p ≡ false
-place_apart p q r h e = elim (cases_Bool (same_place q p)) [
-  | inl t ↦ absurd (place_not_apart p r (sym (place_tells q p t) ∙ place_tells q r e) h)
-  | inr f ↦ f
-]
+place_apart p q r h e = grind arith
 
 pub held-put : (cs : List Cell) (p : Place) (v : EverValue) (q : Place) → stored_value (put_value cs p v) q ≡ cond (same_place q p) (Some v) (stored_value cs q)
 held-put [] p v q = refl
@@ -81,17 +51,8 @@ distinct-put (c ∷ cs) p v d = go (same_place p c.place) refl (distinct-put cs 
 
 -- Both tests may be turned round.
 
-same_both : (b c : Bool) → (b ≡ true → c ≡ true) → (c ≡ true → b ≡ true) → b ≡ c
-same_both true c h k = sym (h refl)
-same_both false true h k = k refl
-same_both false false h k = refl
-
 pub place_turned : (p q : Place) → same_place p q ≡ same_place q p
-place_turned p q = same_both (same_place p q) (same_place q p) (turned p q) (turned q p) where
-  turned : (p q : Place) → same_place p q ≡ true → same_place q p ≡ true
-  turned p q h = subst (λ (x : Place). same_place x p ≡ true) (place_tells p q h) (place_itself p)
+place_turned p q = grind (arith, nat_tests)
 
 pub name_turned : (n m : Name) → same_name n m ≡ same_name m n
-name_turned n m = same_both (same_name n m) (same_name m n) (turned n m) (turned m n) where
-  turned : (n m : Name) → same_name n m ≡ true → same_name m n ≡ true
-  turned n m h = subst (λ (x : Name). same_name x n ≡ true) (name_tells n m h) (name_itself n)
+name_turned n m = grind arith

@@ -1,5 +1,5 @@
 -- What is marked, and what a heap reaches.
-use Rattle.std.proofs.Common.{◌≡◌, ℕ, zero, suc, ◌<◌, ◌≤◌, Bool, true, false, cond, not, List, [], ◌∷◌, length, get_or, Option, Some, None, refl, sym, ◌∙◌, ap, subst, arith, inl, inr, ◌⊎◌}
+use Rattle.std.proofs.Common.{◌≡◌, ℕ, zero, suc, ◌<◌, ◌≤◌, Bool, true, false, cond, not, List, [], ◌∷◌, length, get_or, Option, Some, refl, sym, ◌∙◌, ap, subst, arith, inl, inr, ◌⊎◌}
 use Rattle.std.specs.Option.{unwrap_or, IsSome}
 use Rattle.std.specs.List.{All}
 use Rattle.std.proofs.lemmas.Bool.{true≢false}
@@ -7,8 +7,7 @@ use Rattle.std.proofs.lemmas.Option.{same_Some}
 use Rattle.gh_base.specs.declared.value.Name.{Name}
 use Rattle.gh_model.specs.declared.EverValue.{EverValue}
 use Rattle.gh_model.specs.declared.EverValue.TheVariants as values
-use Rattle.gh_model.specs.Ever.{Reach, from_global, from_register, from_field, same_name, first_value}
-use Rattle.gh_base.specs.Shapes.{shape_at, is_pointer}
+use Rattle.gh_model.specs.Ever.{Reach, from_global, from_register, from_field, same_name}
 use Rattle.gh_ever.specs.declared.cell.Place.{Place}
 use Rattle.gh_ever.specs.declared.cell.Place.TheVariants.{Global, Register, Field}
 use Rattle.gh_ever.specs.declared.cell.Cell.{Cell}
@@ -18,7 +17,7 @@ use Rattle.gh_ever.specs.Objects.{kind_of}
 use Rattle.gh_ever.specs.Lists.{Lists, ever_of, unstored}
 use Rattle.gh_ever.specs.Marks.{marked, with_mark, leads, IsSoundMarks, IsFollowed, AreComplete}
 use Rattle.gh_ever.specs.Sound.{Sound}
-use Rattle.gh_ever.proofs.Places.{name_tells, place_tells, place_itself}
+use Rattle.gh_ever.proofs.Places.{place_tells, place_itself}
 
 -- The marks after one more.
 
@@ -28,14 +27,7 @@ marked_before [] ms n m h = inr h
 marked_before (o ∷ os) [] n m h = inr h
 marked_before (o ∷ os) (b ∷ ms) n m h = go (same_name n o.name) refl h (marked_before os ms n m) where
   go : (x : Bool) → same_name n o.name ≡ x → marked (o ∷ os) (cond x (true ∷ ms) (b ∷ with_mark os ms n)) m ≡ true → (marked os (with_mark os ms n) m ≡ true → (m ≡ n) ⊎ (marked os ms m ≡ true)) → (m ≡ n) ⊎ (cond (same_name m o.name) b (marked os ms m) ≡ true)
-  go true t h ih = at (same_name m o.name) refl h where
-    at : (y : Bool) → same_name m o.name ≡ y → cond y true (marked os ms m) ≡ true → (m ≡ n) ⊎ (cond y b (marked os ms m) ≡ true)
-    at true e h = inl (name_tells m o.name e ∙ sym (name_tells n o.name t))
-    at false e h = inr h
-  go false f h ih = at (same_name m o.name) h where
-    at : (y : Bool) → cond y b (marked os (with_mark os ms n) m) ≡ true → (m ≡ n) ⊎ (cond y b (marked os ms m) ≡ true)
-    at true h = inr h
-    at false h = ih h
+  go x t h ih = grind arith
 
 -- an object that was made is marked afterwards
 pub marked_itself : (os : List Object) (ms : List Bool) (n : Name) → length os ≤ length ms → IsSome (kind_of os n) → marked os (with_mark os ms n) n ≡ true
@@ -75,16 +67,12 @@ cell_held [] i d h l = absurd (omega arith)
 cell_held (c ∷ cs) zero d h l = rw (place_itself c.place) refl
 cell_held (c ∷ cs) (suc i) d h l = go (get_or cs i d) (same_place (get_or cs i d).place c.place) refl (cell_held cs i d h.1 (omega arith)) where
   go : (e : Cell) (x : Bool) → same_place e.place c.place ≡ x → stored_value cs e.place ≡ Some e.value → cond x (Some c.value) (stored_value cs e.place) ≡ Some e.value
-  go e true t ih =
-      let none : stored_value cs e.place ≡ None = subst (λ (q : Place). stored_value cs q ≡ None) (sym (place_tells e.place c.place t)) h.0 in
-      absurd (cc)
-  go e false f ih = ih
+  go e x t ih = grind arith
 
 -- Reach.
 
 not_false : (b : Bool) → not b ≡ true → b ≡ false
-not_false true h = sym h
-not_false false h = refl
+not_false b h = grind arith
 
 -- what a place leads to is reachable
 pub leads_reach : (v : Lists) (ms : List Bool) (p : Place) (n : Name) → IsSoundMarks v ms → stored_value v.cells p ≡ Some (values.Ref n) → leads v ms p ≡ true → Reach (ever_of v) n
@@ -93,18 +81,11 @@ leads_reach v ms (Global k) n s h l = from_global k n (ap (λ (o : Option EverVa
 leads_reach v ms (Register g d) n s h l = from_register g d n (not_false (get_or v.ended g false) l) (ap (λ (o : Option EverValue). unwrap_or o values.Nil) h)
 leads_reach v ms (Field m k) n s h l = from_field m k n (s m l) (ap (λ (o : Option EverValue). unwrap_or o (unstored v.shapes (kind_of v.objects m) k)) h)
 
--- a name that is found was stored
-first_no_name : (b : Bool) (n : Name) → first_value b ≡ values.Ref n → ⊥
-first_no_name true n h = cc
-first_no_name false n h = cc
-
 unstored_no_name : (v : Lists) (o : Option ℕ) (k : ℕ) (n : Name) → unstored v.shapes o k ≡ values.Ref n → ⊥
-unstored_no_name v None k n h = cc
-unstored_no_name v (Some t) k n h = first_no_name (is_pointer (shape_at v.shapes t) k) n h
+unstored_no_name v o k n h = grind arith
 
 stored : (o : Option EverValue) (d : EverValue) (n : Name) → (d ≡ values.Ref n → ⊥) → unwrap_or o d ≡ values.Ref n → o ≡ Some (values.Ref n)
-stored None d n other h = absurd (other h)
-stored (Some x) d n other h = ap Some h
+stored o d n other h = grind arith
 
 -- where no cell leads further, what a leading place holds is marked
 followed : (v : Lists) (ms : List Bool) (p : Place) (n : Name) → AreComplete v ms → leads v ms p ≡ true → stored_value v.cells p ≡ Some (values.Ref n) → marked v.objects ms n ≡ true
@@ -134,10 +115,7 @@ sound_with_mark v ms n s r m h = elim (marked_before v.objects ms n m h) [
 
 -- what a cell leads to is marked, and stays sound
 pub followed_sound : (v w : Lists) (ms new : List Bool) (c : Cell) (n : Name) → w ≡ v → IsSoundMarks v ms → stored_value v.cells c.place ≡ Some c.value → c.value ≡ values.Ref n → leads v ms c.place ≡ true → new ≡ with_mark w.objects ms n → IsSoundMarks v new
-followed_sound v w ms new c n e s h i l f =
-    let marks : new ≡ with_mark v.objects ms n = f ∙ ap (λ (x : Lists). with_mark x.objects ms n) e in
-    let reach : Reach (ever_of v) n = leads_reach v ms c.place n s (h ∙ ap Some i) l in
-    subst (λ (x : List Bool). IsSoundMarks v x) (sym marks) (sound_with_mark v ms n s reach)
+followed_sound v w ms new c n e s h i l f = grind (arith, leads_reach, sound_with_mark)
 
 same_ref : (n m : Name) → values.Ref n ≡ values.Ref m → n ≡ m
 same_ref n m h = cc

@@ -23,8 +23,7 @@ with_cell v p x left = record v { cells = put_value v.cells p x; left = left }
 
 -- what is found is the new value there, and what was elsewhere
 found : (b : Bool) (x d : EverValue) (o : Option EverValue) → unwrap_or (cond b (Some x) o) d ≡ cond b x (unwrap_or o d)
-found true x d o = refl
-found false x d o = refl
+found b x d o = grind arith
 
 read-put : (v : Lists) (p : Place) (x d : EverValue) (q : Place) → unwrap_or (stored_value (put_value v.cells p x) q) d ≡ cond (same_place q p) x (unwrap_or (stored_value v.cells q) d)
 read-put v p x d q = ap (λ (o : Option EverValue). unwrap_or o d) (held-put v.cells p x q) ∙ found (same_place q p) x d (stored_value v.cells q)
@@ -82,14 +81,4 @@ sound_put v p x s inside known = record {
   at q y false t e = s.places q y e
 
 pub sound_spend : (v : Lists) (g : ℕ) → Sound v → Sound (record v { left = spent v.left g })
-sound_spend v g s = record {
-  sized = s.sized;
-  numbered = s.numbered;
-  typed = s.typed;
-  values = s.values;
-  places = s.places;
-  distinct = s.distinct;
-  counted = s.counted ∙ sym (length-spent v.left g);
-  told = s.told ∙ sym (length-spent v.left g);
-  fits = λ h. omega (arith, s.fits h, spent_le v.left g h);
-}
+sound_spend v g s = grind (arith, length-spent, spent_le)

@@ -1,5 +1,5 @@
 -- Orders of the operations of goroutines that are apart: what each leaves of a goroutine is what that goroutine's operations leave alone.
-use Rattle.std.proofs.Common.{◌≡◌, ℕ, Bool, true, false, cond, List, [], ◌∷◌, length, map, refl, sym, subst, ◌∙◌, inl, inr, All}
+use Rattle.std.proofs.Common.{◌≡◌, ℕ, Bool, true, false, cond, List, [], ◌∷◌, length, map, refl, sym, subst, ◌∙◌, inl, inr, All, arith}
 use Rattle.std.specs.List.{filter}
 use Rattle.std.proofs.lemmas.Bool.{cases_lt}
 use Rattle.std.proofs.lemmas.List.Elements.{All-append, All-cons, All-head, All-map, All-nil, All-tail}
@@ -9,7 +9,6 @@ use Rattle.gh_base.specs.declared.shape.Shape.{Shape}
 use Rattle.gh_model.specs.Answers.{answers_from, ever_after_all}
 use Rattle.gh_model.specs.Ever.{Ever, opening_ever}
 use Rattle.gh_script.specs.declared.statement.Stmt.{Stmt}
-use Rattle.gh_script.specs.declared.statement.Stmt.TheVariants as statements
 use Rattle.gh_script.specs.Generated.{KeepsTo}
 use Rattle.gh_script.specs.Program.{Program, statement_as_op, statements_of}
 use Rattle.gh_generated.specs.Orders.{AllKeepToTheirOwn, ever_left_by, is_by_goroutine, IsOrderOf, KeepsToItsOwn, operations_of}
@@ -97,15 +96,7 @@ apart_orders p one other apart a b = one_heap (ever_left_by p.shapes one) (ever_
 -- ---- statements that keep to a global, as operations
 
 statement_kept : (g : ℕ) (statement : Stmt) → KeepsTo g statement → KeepsToItsOwn (statement_as_op g statement)
-statement_kept g (statements.New d t) h = tt
-statement_kept g (statements.Load d b k) h = tt
-statement_kept g (statements.Store b k v) h = tt
-statement_kept g (statements.GetGlobal d k) h = h
-statement_kept g (statements.SetGlobal k v) h = h
-statement_kept g (statements.Int d n) h = tt
-statement_kept g (statements.Move d s) h = tt
-statement_kept g (statements.Nil d) h = tt
-statement_kept g statements.Gc h = tt
+statement_kept g statement h = grind arith
 
 pub operations_kept : (p : Program) (g : ℕ) → All (KeepsTo g) (statements_of p g) → All KeepsToItsOwn (operations_of p g)
 operations_kept p g h =

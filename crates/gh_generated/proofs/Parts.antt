@@ -113,16 +113,13 @@ differs h g ne = grind (arith, nat_tests)
 
 -- the first test fails, so the other value stands
 passed : {X : Type 0} (b c : Bool) (x y : X) → b ≡ false → y ≡ cond (b && c) x y
-passed true c x y h = absurd cc
-passed false c x y h = refl
+passed b c x y h = grind arith
 
 left_out : {X : Type 0} (b : Bool) (x y : X) → b ≡ false → y ≡ cond b x y
-left_out true x y h = absurd cc
-left_out false x y h = refl
+left_out b x y h = grind arith
 
 neither : (a b c : Bool) → a ≡ false → ((a && b) && c) ≡ false
-neither true b c p = absurd cc
-neither false b c p = refl
+neither a b c p = grind arith
 
 -- another goroutine's part stays as it was
 pub other_change : (shapes : List Shape) (g h : ℕ) (e f new other : Ever) → Changes shapes g e f new other → h ≢ g → SamePart h e new
@@ -169,19 +166,16 @@ other_change shapes g h e f _ _ ends ne = record {
 }
 
 own_if : (h : ℕ) (b : Bool) (v w : EverValue) → (b ≡ true → IsOwn h v) → IsOwn h w → IsOwn h (cond b v w)
-own_if h true v w p q = p refl
-own_if h false v w p q = q
+own_if h b v w p q = grind arith
 
 own_at : (g h : ℕ) (v : EverValue) → IsOwn g v → h ≡ g → IsOwn h v
 own_at g h v own same = subst (λ (x : ℕ). IsOwn x v) (sym same) own
 
 left_true : (a b : Bool) → (a && b) ≡ true → a ≡ true
-left_true true b h = refl
-left_true false b h = absurd cc
+left_true a b h = grind arith
 
 own_first : (h : ℕ) (b : Bool) → IsOwn h (first_value b)
-own_first h true = tt
-own_first h false = tt
+own_first h b = grind arith
 
 -- each goroutine still names its own objects alone
 pub own_change : (shapes : List Shape) (g : ℕ) (e f new other : Ever) → Changes shapes g e f new other → Apart e → Apart new

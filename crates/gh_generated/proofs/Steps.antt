@@ -1,5 +1,5 @@
 -- An operation that keeps to its goroutine's global makes the same change in two heaps that have the same of the goroutine.
-use Rattle.std.proofs.Common.{◌≡◌, ℕ, Bool, true, false, cond, List, refl, sym, ap, subst, ◌∙◌, ◌≢◌, ◌⊎◌, inl, inr}
+use Rattle.std.proofs.Common.{◌≡◌, ℕ, Bool, true, false, cond, List, refl, sym, ap, subst, ◌∙◌, ◌≢◌, ◌⊎◌, inl, inr, arith}
 use Rattle.std.proofs.lemmas.Bool.{eqb-true, eq-eqb}
 use Rattle.gh_base.specs.declared.operation.Op.{Op}
 use Rattle.gh_base.specs.declared.operation.Op.TheVariants as ops
@@ -25,7 +25,7 @@ module _ (shapes : List Shape) (g : ℕ) (e f : Ever) where
   told_one d (values.Ref n) own = register d (values.Ref n) own
 
   told_change : (d : ℕ) (v w : EverValue) → v ≡ w → IsOwn g v → Changes shapes g e f (takes_answer e g d (answer_of_value v)) (takes_answer f g d (answer_of_value w))
-  told_change d v w same own = subst (λ (x : EverValue). Changes shapes g e f (takes_answer e g d (answer_of_value v)) (takes_answer f g d (answer_of_value x))) same (told_one d v own)
+  told_change d v w same own = grind (arith, told_one)
 
   loaded : (d : ℕ) (there : Bool) (v w : EverValue) → v ≡ w → IsOwn g v → Changes shapes g e f (takes_answer e g d (cond there (answer_of_value v) (answers.Fault Field))) (takes_answer f g d (cond there (answer_of_value w) (answers.Fault Field)))
   loaded d true v w same own = told_change d v w same own
@@ -104,8 +104,7 @@ some_goroutine shapes (ops.End h) = inl (h, eq-eqb h h refl)
 some_goroutine shapes ops.Leave = inr (tt, λ e. refl)
 
 differ : (b : Bool) → b ≡ true → b ≡ false → ⊥
-differ true p q = cc
-differ false p q = cc
+differ b p q = grind arith
 
 -- an operation that is not of goroutine g leaves its part as it was
 pub step_elsewhere : (shapes : List Shape) (g : ℕ) (e : Ever) (op : Op) → is_by_goroutine g op ≡ false → KeepsToItsOwn op → Apart e → SamePart g e (step shapes e op) × Apart (step shapes e op)

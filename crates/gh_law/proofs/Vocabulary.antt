@@ -33,7 +33,7 @@ pub use Rattle.gh_phase.specs.Views.{run_phase}
 pub use Rattle.gh_phase.specs.declared.resume.ResumeStage.{ResumeStage}
 pub use Rattle.gh_phase.specs.declared.resume.Resumed.{Resumed}
 pub use Rattle.gh_phase.specs.declared.view.RunPhase.{RunPhase}
-pub use Rattle.gh_wbuf.specs.Sound.{FitsGiveStage}
+pub use Rattle.gh_wbuf.specs.Sound.{SoundGiveStage}
 pub use Rattle.gh_wbuf.specs.declared.give_buffer.GiveStage.{GiveStage}
 pub use Rattle.gh_shade.specs.declared.shade.Shaded.{Shaded}
 pub use Rattle.gh_scan.specs.declared.scan.ScanStage.{ScanStage}
@@ -47,26 +47,26 @@ pub use Rattle.gh_state.specs.Slots.{slot_row}
 pub use Rattle.gh_alloc.specs.Search.{Seeking}
 pub use Rattle.gh_alloc.specs.declared.sought.Found.TheVariants.{NoRoom}
 pub use Rattle.gh_mutator.specs.Deeds.{deeds, processor_kind}
-pub use Rattle.gh_mutator.specs.Handshake.{leaves_at}
-pub use Rattle.gh_mutator.specs.Leave.{Leaving}
+pub use Rattle.gh_poll.specs.Handshake.{leaves_at}
+pub use Rattle.gh_poll.specs.Leave.{Leaving}
 pub use Rattle.gh_mutator.specs.Listing.{acts, after_gc, after_leave, after_poll, asks, begins, begins_at, is_busy_at, takes}
-pub use Rattle.gh_mutator.specs.Poll.{Polling}
+pub use Rattle.gh_poll.specs.Poll.{Polling}
 pub use Rattle.gh_mutator.specs.Processor.{made_by, opening_processor}
 pub use Rattle.gh_mutator.specs.ProcessorMarks.{MarkFacts, new_polls, only_polls}
 pub use Rattle.gh_mutator.specs.ProcessorPlaces.{new_stage_at, party_at, party_of, SoundAt, SoundPlace, stage_at, stage_of}
 pub use Rattle.gh_mutator.specs.Serving.{has_left_at}
-pub use Rattle.gh_mutator.specs.Wait.{waiting}
+pub use Rattle.gh_poll.specs.Wait.{waiting}
 pub use Rattle.gh_mutator.specs.declared.global.GlobalStage.{GlobalStage}
-pub use Rattle.gh_mutator.specs.declared.leave.LeaveStage.{LeaveStage}
+pub use Rattle.gh_poll.specs.declared.leave.LeaveStage.{LeaveStage}
 pub use Rattle.gh_mutator.specs.declared.new.NewStage.{NewStage}
 pub use Rattle.gh_mutator.specs.declared.new.NewStage.TheVariants.{Place, Search, Wait}
-pub use Rattle.gh_mutator.specs.declared.poll.PollStage.{PollStage}
+pub use Rattle.gh_poll.specs.declared.poll.PollStage.{PollStage}
 pub use Rattle.gh_mutator.specs.declared.processor.Processor.{Processor}
 pub use Rattle.gh_mutator.specs.declared.task.Task.{Task}
-pub use Rattle.gh_mutator.specs.declared.wait.WaitStage.{WaitStage}
+pub use Rattle.gh_poll.specs.declared.wait.WaitStage.{WaitStage}
 pub use Rattle.gh_mutator_writes.specs.Calm.{IsCalm as MarksNothing}
 pub use Rattle.gh_mutator_writes.specs.Writing.{IsWanting, IsWritten, ProcessorWritesItsOwn, TellsScan, WritesOf}
-pub use Rattle.gh_mutator_heap.specs.Facts.{Fine, ShapesAreGood}
+pub use Rattle.gh_mutator_heap.specs.Facts.{ProcessorFacts, ShapesAreGood}
 pub use Rattle.gh_worker.specs.Listing.{Working}
 pub use Rattle.gh_worker.specs.Writing.{WorkersWriteTheirOwn, WritesItsOwn}
 pub use Rattle.gh_worker.specs.declared.worker.WorkerStage.{WorkerStage}

@@ -10,7 +10,7 @@ use Rattle.gh_phase.specs.declared.view.RunPhase.TheVariants.{Finished, Mark}
 use Rattle.gh_phase.specs.Handshake.{Resumes, stop_word, Stopped}
 use Rattle.gh_phase.specs.Shakes.{IsAwake, IsCurrent, IsParked, last_phase}
 use Rattle.gh_coord.specs.Handshake as leading
-use Rattle.gh_mutator.specs.Give.{none_cached}
+use Rattle.gh_poll.specs.Give.{none_cached}
 use Rattle.gh_mutator.specs.ProcessorMarks.{only_polls}
 use Rattle.gh_mutator.specs.ProcessorPlaces.{party_of, stage_of}
 use Rattle.gh_worker.specs.Handshake as working

@@ -15,7 +15,7 @@ use Rattle.gh_sweep.specs.Sweepers.{has_span}
 use Rattle.gh_coord.specs.Handshake as leading
 use Rattle.gh_mutator.specs.declared.task.Task.{Task}
 use Rattle.gh_mutator.specs.declared.task.Task.TheVariants as task
-use Rattle.gh_mutator.specs.Local.{cached_in}
+use Rattle.gh_poll.specs.Local.{cached_in}
 use Rattle.gh_mutator.specs.ProcessorMarks.{only_polls}
 use Rattle.gh_lists.specs.Marking.{actors_after, IsBeginning, IsLedBy}
 use Rattle.gh_lists.specs.Processors.{arena_of, at_seat, ever_after_list, IsPlacedAt}

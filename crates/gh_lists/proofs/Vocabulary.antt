@@ -27,10 +27,10 @@ pub use Rattle.gh_alloc.specs.Search.{Seeking}
 pub use Rattle.gh_alloc.specs.declared.sought.Found.{Found}
 pub use Rattle.gh_alloc.specs.declared.sought.Found.TheVariants.{At, NoRoom}
 pub use Rattle.gh_mutator.specs.Deeds.{processor_kind}
-pub use Rattle.gh_mutator.specs.Leave.{Leaving}
+pub use Rattle.gh_poll.specs.Leave.{Leaving}
 pub use Rattle.gh_mutator.specs.Listing.{after_gc, after_leave, after_poll, asks, begins, begins_at, follows, takes, takes_at}
 pub use Rattle.gh_mutator.specs.New.{after_assist, assisting, assists}
-pub use Rattle.gh_mutator.specs.Poll.{Polling}
+pub use Rattle.gh_poll.specs.Poll.{Polling}
 pub use Rattle.gh_mutator.specs.Processor.{cache_span, opening_processor, register_of}
 pub use Rattle.gh_mutator.specs.ProcessorPlaces.{party_of, ProcessorInHandshake, stage_of}
 pub use Rattle.gh_mutator.specs.Serving.{has_left_at}
@@ -41,7 +41,7 @@ pub use Rattle.gh_mutator.specs.declared.processor.Processor.{Processor}
 pub use Rattle.gh_mutator.specs.declared.step.Then.{Then}
 pub use Rattle.gh_mutator.specs.declared.step.Then.TheVariants.{Ends, GoesOn}
 pub use Rattle.gh_mutator.specs.declared.task.Task.{Task}
-pub use Rattle.gh_mutator.specs.declared.wait.WaitStage.{WaitStage}
+pub use Rattle.gh_poll.specs.declared.wait.WaitStage.{WaitStage}
 pub use Rattle.gh_mutator_writes.specs.Writing.{IsWanting, IsWritten, ProcessorWritesItsOwn, WritesOf}
 pub use Rattle.gh_worker.specs.Handshake.{WorkersKeepHandshake}
 pub use Rattle.gh_worker.specs.Writing.{WorkersWriteTheirOwn}

@@ -36,10 +36,10 @@ pub use Rattle.gh_mutator.specs.Running.{IsSound}
 pub use Rattle.gh_mutator.specs.Serving.{is_serving}
 pub use Rattle.gh_mutator.specs.Sound.{has_names}
 pub use Rattle.gh_mutator.specs.declared.new.NewStage.{NewStage}
-pub use Rattle.gh_mutator.specs.declared.poll.PollStage.{PollStage}
+pub use Rattle.gh_poll.specs.declared.poll.PollStage.{PollStage}
 pub use Rattle.gh_mutator.specs.declared.processor.Processor.{Processor}
 pub use Rattle.gh_mutator.specs.declared.task.Task.{Task}
-pub use Rattle.gh_mutator.specs.declared.wait.WaitStage.{WaitStage}
+pub use Rattle.gh_poll.specs.declared.wait.WaitStage.{WaitStage}
 pub use Rattle.gh_mutator_writes.specs.Writing.{IsWritten, ProcessorWritesItsOwn, TellsScan, WritesOf}
 pub use Rattle.gh_worker.specs.Writing.{WorkersWriteTheirOwn, WritesItsOwn}
 pub use Rattle.gh_worker.specs.declared.worker.WorkerStage.{WorkerStage}

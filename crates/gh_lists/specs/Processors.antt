@@ -108,7 +108,7 @@ pub record IsOfSpanClass (words : Words) (sought : Sought) (p : ℕ) (h : SpanHe
   pub class : h.class ≡ (span_for sought).class
   pub noscan : h.noscan ≡ (span_for sought).noscan
 
--- The seat owns no span of the span class. Every span of that class is cached by another seat, or swept with no clear slot; no span of any class is unswept; and each run of so many pages has a page that is not free and lies in no empty span that nobody owns. Of a large object the first two fall away.
+-- The seat owns no span of the span class. Every span of that class is owned by another seat, or swept with no clear slot; no span of any class is unswept; and each run of so many pages has a page that is not free and lies in no empty span that nobody owns. Of a large object the first two fall away.
 pub record NoRoomFor (z : Arena) (a : ℕ) (words : Words) (sought : Sought) : Type 0 where
   pub own : (p : ℕ) (h : SpanHead) → IsOfSpanClass words sought p h → h.owner ≢ a + 1
   pub slots : (p : ℕ) (h : SpanHead) → IsOfSpanClass words sought p h → IsAnothers z a h ⊎ IsFull (alloc_words words) p h

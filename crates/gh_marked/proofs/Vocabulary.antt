@@ -76,32 +76,32 @@ pub use Rattle.gh_mutator.specs.Listing.{Act, acting, acts, acts_at, after_gc, a
 pub use Rattle.gh_mutator.specs.Processor.{cache_span, made_by, opening_processor, register_of}
 pub use Rattle.gh_mutator.specs.ProcessorMarks.{MarkFacts, only_polls}
 pub use Rattle.gh_mutator.specs.declared.processor.Processor.{Processor}
-pub use Rattle.gh_mutator.specs.Handshake.{leaves_at, polls_at, waits_at}
-pub use Rattle.gh_mutator.specs.Leave.{Leaving}
-pub use Rattle.gh_mutator.specs.Local.{register_at}
+pub use Rattle.gh_poll.specs.Handshake.{leaves_at, polls_at, waits_at}
+pub use Rattle.gh_poll.specs.Leave.{Leaving}
+pub use Rattle.gh_poll.specs.Local.{register_at}
 pub use Rattle.gh_mutator.specs.New.{after_assist, assisting, assists}
-pub use Rattle.gh_mutator.specs.Poll.{Polling}
+pub use Rattle.gh_poll.specs.Poll.{Polling}
 pub use Rattle.gh_mutator.specs.ProcessorPlaces.{new_stage_at, party_at, party_of, SoundAt, SoundPlace, stage_at, stage_of}
 pub use Rattle.gh_mutator.specs.Running.{IsSound}
 pub use Rattle.gh_mutator.specs.Serving.{has_left_at}
-pub use Rattle.gh_mutator.specs.Wait.{Waiting, waiting}
+pub use Rattle.gh_poll.specs.Wait.{Waiting, waiting}
 pub use Rattle.gh_mutator.specs.declared.global.Global.{Global}
 pub use Rattle.gh_mutator.specs.declared.global.GlobalStage.{GlobalStage}
-pub use Rattle.gh_mutator.specs.declared.leave.LeaveStage.{LeaveStage}
+pub use Rattle.gh_poll.specs.declared.leave.LeaveStage.{LeaveStage}
 pub use Rattle.gh_mutator.specs.declared.new.New.{New}
 pub use Rattle.gh_mutator.specs.declared.new.NewStage.{NewStage}
 pub use Rattle.gh_mutator.specs.declared.new.NewStage.TheVariants.{Assist, Place, Search, Wait, Want}
 pub use Rattle.gh_mutator.specs.declared.new.Wanted.{Wanted}
-pub use Rattle.gh_mutator.specs.declared.poll.PollStage.{PollStage}
+pub use Rattle.gh_poll.specs.declared.poll.PollStage.{PollStage}
 pub use Rattle.gh_mutator.specs.declared.register.Register.{Register}
 pub use Rattle.gh_mutator.specs.declared.register.Source.{Source}
 pub use Rattle.gh_mutator.specs.declared.step.Then.{Then}
 pub use Rattle.gh_mutator.specs.declared.step.Then.TheVariants.{Ends, GoesOn}
 pub use Rattle.gh_mutator.specs.declared.task.Task.{Task}
-pub use Rattle.gh_mutator.specs.declared.wait.WaitStage.{WaitStage}
+pub use Rattle.gh_poll.specs.declared.wait.WaitStage.{WaitStage}
 pub use Rattle.gh_mutator_writes.specs.Calm.{IsCalm as MarksNothing}
 pub use Rattle.gh_mutator_writes.specs.Writing.{CountsObject, IsWritten, TellsScan, WritesOf}
-pub use Rattle.gh_mutator_heap.specs.Facts.{Fine, ShapesAreGood}
+pub use Rattle.gh_mutator_heap.specs.Facts.{ProcessorFacts, ShapesAreGood}
 pub use Rattle.gh_mutator_heap.specs.PollHeap.{KnowsAtAnyTime}
 pub use Rattle.gh_mutator_heap.specs.Runs.{DoesPoints}
 pub use Rattle.gh_worker.specs.Listing.{Working}

@@ -3,7 +3,7 @@ use Rattle.std.proofs.Common.{◌≡◌, ℕ, ◌⊎◌, inl, inr, Bool, true, f
 use Rattle.gh_base.specs.declared.operation.Op.TheVariants as op
 use Rattle.gh_mutator.specs.declared.task.Task.TheVariants as task
 use Rattle.gh_mutator.specs.New as new
-use Rattle.gh_mutator.specs.Wait as wait
+use Rattle.gh_poll.specs.Wait as wait
 use Rattle.gh_marked.specs.LemmaVocabulary.{Act, acted, acts, acts_at, after_assist, after_gc, after_poll, answer_at, Assisting, begins_at, Ever, follows, Found, is_busy_at, is_last_task, Name, NewStage, Op, Placing, Polling, Processor, Seeking, Shape, takes_at, Task, Then, Wanted}
 use Rattle.gh_lists.specs.Beginning.{ends-by}
 

@@ -32,7 +32,7 @@ pub use Rattle.gh_mutator.specs.declared.processor.Processor.{Processor}
 pub use Rattle.gh_mutator.specs.declared.task.Task.{Task}
 pub use Rattle.gh_mutator.specs.declared.new.NewStage.{NewStage}
 pub use Rattle.gh_mutator_writes.specs.Calm.{IsCalm as MarksNothing}
-pub use Rattle.gh_mutator_heap.specs.Facts.{Fine, ShapesAreGood}
+pub use Rattle.gh_mutator_heap.specs.Facts.{ProcessorFacts, ShapesAreGood}
 pub use Rattle.gh_coord.specs.Listing.{Coordinating}
 pub use Rattle.gh_coord.specs.Stopping.{acks_of}
 pub use Rattle.gh_coord.specs.SweepingAll.{SweepingAll}

@@ -44,7 +44,7 @@ pub use Rattle.gh_alloc.specs.declared.sought.Found.TheVariants.{At, NoRoom}
 pub use Rattle.gh_mutator.specs.Deeds.{acted, answer_at, processor_kind}
 pub use Rattle.gh_mutator.specs.Listing.{Act, acting, acts, acts_at, after_gc, after_poll, begins_at, follows, is_busy_at, takes_at}
 pub use Rattle.gh_mutator.specs.New.{after_assist, assisting, assists}
-pub use Rattle.gh_mutator.specs.Poll.{Polling}
+pub use Rattle.gh_poll.specs.Poll.{Polling}
 pub use Rattle.gh_mutator.specs.Processor.{cache_span, register_of}
 pub use Rattle.gh_mutator.specs.ProcessorPlaces.{ProcessorInHandshake}
 pub use Rattle.gh_mutator.specs.Running.{IsSound}

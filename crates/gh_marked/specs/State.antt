@@ -10,7 +10,7 @@ use Rattle.gh_base.specs.Cells.{seats_of}
 use Rattle.gh_mutator.specs.declared.task.Task.TheVariants as task
 use Rattle.gh_marked.specs.HeapBytes.{uncounted}
 use Rattle.gh_marked.specs.Sweepers.{IsInSweep, sweep_of}
-use Rattle.gh_marked.specs.HoldVocabulary.{actors_after, Answer, answers_of, arena, Arena, AreWords, BeginsCycle, Coordinating, Cycle, deeds, ended_in, Entry, Ever, ever, Fine, given_of, HasGoneOn, Heap, IsBeside, IsBounded, IsDrawnSo, IsLed, IsOf, IsPlacedAt, IsSound, IsStartOf, IsToBegin, mark_words, Marking, Name, Op, opening_words, Processor, processor_kind, Right, State, state_of, StateGood, Task, Told, view, Words, words}
+use Rattle.gh_marked.specs.HoldVocabulary.{actors_after, Answer, answers_of, arena, Arena, AreWords, BeginsCycle, Coordinating, Cycle, deeds, ended_in, Entry, Ever, ever, ProcessorFacts, given_of, HasGoneOn, Heap, IsBeside, IsBounded, IsDrawnSo, IsLed, IsOf, IsPlacedAt, IsSound, IsStartOf, IsToBegin, mark_words, Marking, Name, Op, opening_words, Processor, processor_kind, Right, State, state_of, StateGood, Task, Told, view, Words, words}
 use Rattle.gh_lists.specs.Handshake.{Setup}
 
 -- it leaves, or has left
@@ -35,7 +35,7 @@ module _ (setup : Setup) where
   pub record IsAsItShould (es : List (Entry Op)) (h : Heap) (a : ℕ) (m : Processor) : Type 0 where
     pub sound : IsSound m
     pub pending : Option Answer
-    pub fine : Fine z a (view h) m pending
+    pub fine : ProcessorFacts z a (view h) m pending
     pub answers : answers_of z (opening_words setup.pacing.trigger) a es ≡ option_to_list pending ++ given_of z (opening_words setup.pacing.trigger) a es
     pub notes : (g : ℕ) → IsOf z a g → slice_index m.poll.local.scanned g ≡ h.words (cell.Scanned g)
     -- a goroutine of its own has ended, or ends now, exactly where that was begun

@@ -1,18 +1,13 @@
 -- Changes of the processor's state keep what it knows of it.
-use Rattle.std.proofs.Common.{◌≡◌, ℕ, ◌/◌, List, [], get_or, refl, ◌∙◌, sym, subst, Option, Some, None, arith}
+use Rattle.std.proofs.Common.{◌≡◌, ℕ, List, [], get_or, refl, Option, Some, None}
 use Rattle.std.proofs.Math.ListN.{set}
-use Rattle.std.proofs.lemmas.List.{length-set}
-use Rattle.gh_mutator.specs.Vocabulary.{Layout, Shape, Value, SpanClass, span_index, CachedSpan, Sought, IsCached, Polling, Processor, Step, Then, GoesOn, Ends, Task, Idle}
+use Rattle.gh_mutator.specs.Vocabulary.{Shape, Value, Polling, Processor, Step, Then, GoesOn, Ends, Task, Idle}
 use Rattle.gh_base.specs.declared.value.Value.TheVariants as value
-use Rattle.gh_alloc.specs.declared.sought.Sought.TheVariants.{Small, Large}
-use Rattle.gh_mutator.specs.Cached.{SoundCached}
-use Rattle.gh_mutator.specs.GiveSound.{FitsCache}
 use Rattle.gh_mutator.specs.Listing.{applied, follows}
-use Rattle.gh_mutator.specs.Local.{cache_with, register_in_stacks, stacks_with}
-use Rattle.gh_mutator.specs.declared.poll.Local.{Local}
-use Rattle.gh_mutator.specs.PollSound.{FitsLocal}
+use Rattle.gh_poll.specs.Local.{register_in_stacks, stacks_with}
 use Rattle.gh_mutator.specs.Processor.{at_poll, at_task, taking}
-use Rattle.gh_mutator.specs.Sound.{IsNear, Sound, SoundTask}
+use Rattle.gh_poll.specs.Registers.{IsNear}
+use Rattle.gh_mutator.specs.Sound.{Sound, SoundTask}
 use Rattle.gh_base.specs.Reading.{read_after_set}
 use Rattle.gh_mutator.proofs.Steps.{GoesTo, SetsNear, StepSound}
 
@@ -54,25 +49,3 @@ module _ (shapes : List Shape) where
     by : (t : Then S) → GoesTo P t → Sound shapes (at_task (taking m g d step.sets) (follows goes t))
     by (Ends a) p = taken m g d step.sets Idle s h.sets tt
     by (GoesOn x) p = taken m g d step.sets (goes x) s h.sets (sound x (taking m g d step.sets).poll (same step.sets) (buffer step.sets) p)
-
--- the cached span of a span class is this now
-half : (c : SpanClass) (i : ℕ) → span_index c ≡ i → c.class ≡ i / 2
-half c i e = grind arith
-
-fits_small : (l : Layout) (c : SpanClass) (cached : Option CachedSpan) → IsCached l (Small c) cached → SoundCached l.pages c.class cached
-fits_small l c cached h = grind arith
-
-pub cached_fits : (l : Layout) (cache : List (Option CachedSpan)) (x : Sought) (c : Option CachedSpan) → FitsCache l cache → IsCached l x c → FitsCache l (cache_with cache x c)
-cached_fits l cache (Large pages noscan) c fits h i = fits i
-cached_fits l cache (Small x) c fits h i = read_after_set (SoundCached l.pages (i / 2)) cache (span_index x) i c None (λ e. subst (λ n. SoundCached l.pages n c) (half x i e) (fits_small l x c h)) (fits i)
-
--- so what is known of the processor's own state stays, where the span class is of this number
-pub recached_fits : (l : Layout) (local : Local) (x : SpanClass) (i : ℕ) (c : Option CachedSpan) → i ≡ span_index x → FitsLocal l local → IsCached l (Small x) c → FitsLocal l (record local { cache = set local.cache i c })
-recached_fits l local x i c e h fits = record {
-  view = h.view;
-  room = length-set local.cache i c ∙ h.room;
-  cache = subst (λ (n : ℕ). FitsCache l (set local.cache n c)) (sym e) (cached_fits l local.cache (Small x) c h.cache fits);
-  held = h.held;
-  scanned = h.scanned;
-  stacks = h.stacks;
-}

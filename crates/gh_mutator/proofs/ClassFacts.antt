@@ -10,7 +10,8 @@ use Rattle.gh_class.specs.Classes.{slot_of, pages_of, slots_of, IsClassOf, class
 use Rattle.gh_class.specs.declared.class.TheConstants.{MOST_TYPE_WORDS}
 use Rattle.gh_mutator.specs.New.{wanted_of}
 use Rattle.gh_mutator.specs.Wanting.{WhatIsWantedFits}
-use Rattle.gh_mutator.specs.Sound.{IsRegister, SoundWanted}
+use Rattle.gh_poll.specs.Registers.{IsRegister}
+use Rattle.gh_mutator.specs.Sound.{SoundWanted}
 
 -- the laws of the size classes that are wanted here
 pub record ClassLaws : Type 0 where

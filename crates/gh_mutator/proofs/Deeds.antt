@@ -13,13 +13,13 @@ use Rattle.gh_mutator.specs.declared.task.Task.TheVariants as task
 use Rattle.gh_mutator.specs.Acting.{ActsOnce, EachOperationActsOnce}
 use Rattle.gh_mutator.specs.Deeds.{OnlyPointsChange, ProcessorsDeedsFit, acted, deeds, meaning, point_of, pointed}
 use Rattle.gh_mutator.specs.Global as global
-use Rattle.gh_mutator.specs.Leave as leave
+use Rattle.gh_poll.specs.Leave as leave
 use Rattle.gh_mutator.specs.Listing.{Act, acting, acts, acts_at, begins_at, op_at}
 use Rattle.gh_mutator.specs.Load as load
 use Rattle.gh_mutator.specs.New.{op_of as new_op, refuses_behind_wait, searches, unacted}
-use Rattle.gh_mutator.specs.Poll as poll
+use Rattle.gh_poll.specs.Poll as poll
 use Rattle.gh_mutator.specs.Store as store
-use Rattle.gh_mutator.specs.Wait as wait
+use Rattle.gh_poll.specs.Wait as wait
 use Rattle.gh_mutator.proofs.Vocabulary.{after_assist, Assist, Assisting, Local, after_gc, after_leave, after_place, after_poll, after_search, after_wait, begins, cache_span, follows, Found, Global, GlobalStage, has_left_at, is_busy_at, Layout, Leaving, LoadStage, Name, NewStage, Op, Place, PlaceStage, Placing, Processor, processor_kind, register_of, Search, Seeking, Shape, Step, StoreStage, takes, takes_at, Task, Value, Wait, Waiting, Wanted, Want}
 
 -- ---- a step of a statement acts once

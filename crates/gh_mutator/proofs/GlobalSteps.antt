@@ -9,13 +9,13 @@ use Rattle.gh_barrier.specs.Listing as write
 use Rattle.gh_mutator.specs.declared.global.Global.{Global}
 use Rattle.gh_mutator.specs.declared.global.GlobalStage.{GlobalStage}
 use Rattle.gh_mutator.specs.declared.global.GlobalStage.TheVariants.{Load, Writing, Number}
-use Rattle.gh_mutator.specs.declared.poll.Local.{Local}
+use Rattle.gh_poll.specs.declared.poll.Local.{Local}
 use Rattle.gh_mutator.specs.declared.step.Then.{Then}
-use Rattle.gh_mutator.specs.Barrier.{with_held}
+use Rattle.gh_poll.specs.Barrier.{with_held}
 use Rattle.gh_mutator.specs.Faults.{is_load}
 use Rattle.gh_mutator.specs.Global.{asks, begins_store, held_behind, step}
-use Rattle.gh_mutator.specs.Local.{is_mark}
-use Rattle.gh_mutator.specs.Poll.{Polling}
+use Rattle.gh_poll.specs.Local.{is_mark}
+use Rattle.gh_poll.specs.Poll.{Polling}
 use Rattle.gh_mutator.specs.Sound.{GlobalRoom, SoundGlobal}
 use Rattle.gh_mutator.proofs.Steps.{FaultsFrom, GoesTo, StepSound}
 

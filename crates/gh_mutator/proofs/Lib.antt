@@ -1,10 +1,8 @@
-pub mod Aims
 pub mod Asking
 pub mod Changes
 pub mod ClassFacts
 pub mod Deeds
 pub mod Fields
-pub mod Giving
 pub mod GlobalSteps
 pub mod Idle
 pub mod LoadSteps
@@ -14,10 +12,8 @@ pub mod Owing
 pub mod PollRoom
 pub mod Shaking
 pub mod Soundness
-pub mod StackMarking
 pub mod Steps
 pub mod StoreSteps
 pub mod Sweeping
 pub mod Telling
 pub mod Vocabulary
-pub mod Waits

@@ -10,7 +10,8 @@ use Rattle.gh_mutator.specs.declared.load.LoadStage.TheVariants.{Page, Bits, Fie
 use Rattle.gh_mutator.specs.Faults.{is_load}
 use Rattle.gh_mutator.specs.Fields.{has_field, is_pointer_by, takes, value_of}
 use Rattle.gh_mutator.specs.Load.{asks, at_stage, begins, naming, step, step_at}
-use Rattle.gh_mutator.specs.Sound.{IsNear, IsRegister, SoundLoad, SoundLoadStage}
+use Rattle.gh_poll.specs.Registers.{IsNear, IsRegister}
+use Rattle.gh_mutator.specs.Sound.{SoundLoad, SoundLoadStage}
 use Rattle.gh_mutator.specs.Step.{ends, goes_on}
 use Rattle.gh_mutator.proofs.ClassFacts.{ClassLaws}
 use Rattle.gh_mutator.proofs.Fields.{field_there, value_near}

@@ -11,17 +11,18 @@ use Rattle.gh_assist.specs.Listing as assist
 use Rattle.gh_assist.specs.Stays as assists_stay
 use Rattle.gh_mutator.specs.declared.task.Task.TheVariants as task
 use Rattle.gh_mutator.specs.declared.new.New.{New}
-use Rattle.gh_mutator.specs.Local.{cache_with, cached_in, marking_at}
+use Rattle.gh_poll.specs.Local.{cache_with, cached_in, marking_at}
 use Rattle.gh_mutator.specs.New.{after_found, is_made, made_task, made_then, placing, searches, seeking, takes_at, waits, wants}
 use Rattle.gh_mutator.specs.NewParts.{made_at, MakingFits}
-use Rattle.gh_mutator.specs.Poll.{Polling}
+use Rattle.gh_poll.specs.Poll.{Polling}
 use Rattle.gh_mutator.specs.Processor.{made_by, set_register}
 use Rattle.gh_mutator.specs.Sound.{most_objects, Sound, SoundSearch, SoundTask, SoundWanted}
-use Rattle.gh_mutator.specs.Stays.{search_wants, wait_stacks, wait_stays}
-use Rattle.gh_mutator.specs.Wait as wait
-use Rattle.gh_mutator.proofs.Vocabulary.{after_assist, Assist, Assisting, assisting, assists, Name, after_search, after_wait, At, at_poll, at_task, cache_span, CachedSpan, FitsWait, Found, Large, Layout, made_object, makes, NewStage, NoRoom, Place, PlaceStage, Placing, Processor, read_after_set, Search, Seeking, set, Shape, Small, Sought, takes, takes_at as takes_by, Task, Wait, Waiting, Want, Wanted}
+use Rattle.gh_poll.specs.Stays.{wait_stacks, wait_stays}
+use Rattle.gh_mutator.specs.Stays.{search_wants}
+use Rattle.gh_poll.specs.Wait as wait
+use Rattle.gh_mutator.proofs.Vocabulary.{after_assist, Assist, Assisting, assisting, assists, Name, after_search, after_wait, At, at_poll, at_task, cache_span, CachedSpan, SoundWaiting, Found, Large, Layout, made_object, makes, NewStage, NoRoom, Place, PlaceStage, Placing, Processor, read_after_set, Search, Seeking, set, Shape, Small, Sought, takes, takes_at as takes_by, Task, Wait, Waiting, Want, Wanted}
 use Rattle.gh_mutator.proofs.Changes.{moved, polled, taken}
-use Rattle.gh_mutator.proofs.Waits.{wait_fits}
+use Rattle.gh_poll.proofs.Waits.{wait_fits}
 
 -- What the search keeps, and where the making of an object goes.
 
@@ -94,7 +95,7 @@ module _ (shapes : List Shape) where
   at_within l acts a h e = grind arith
 
   -- after a step of the wait
-  wait_on : (m : Processor) (w : Wanted) (x : Waiting) (out : Option (Unit {0})) → Sound shapes m → SoundWanted shapes w → made_by m w.g < most_objects → x.poll.layout ≡ m.poll.layout → x.poll.local.stacks ≡ m.poll.local.stacks → (out ≡ None → FitsWait x.poll x.wait) → Sound shapes (after_wait m w x out)
+  wait_on : (m : Processor) (w : Wanted) (x : Waiting) (out : Option (Unit {0})) → Sound shapes m → SoundWanted shapes w → made_by m w.g < most_objects → x.poll.layout ≡ m.poll.layout → x.poll.local.stacks ≡ m.poll.local.stacks → (out ≡ None → SoundWaiting x.poll x.wait) → Sound shapes (after_wait m w x out)
   wait_on m w x None s wanted name layout stacks fits = polled shapes m x.poll (waits w x) s layout stacks (wanted, fits refl, name)
   wait_on m w x (Some y) s wanted name layout stacks fits = polled shapes m x.poll (searches w true (seeking (at_poll m x.poll) w)) s layout stacks (wanted, search_sound (at_poll m x.poll) w, name)
 

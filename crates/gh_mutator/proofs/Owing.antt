@@ -8,23 +8,24 @@ use Rattle.gh_wbuf.specs.RoomFinding as room
 use Rattle.gh_alloc.specs.Place as place
 use Rattle.gh_alloc.specs.Search as search
 use Rattle.gh_assist.specs.Listing as assist
-use Rattle.gh_mutator.specs.declared.poll.PollStage.TheVariants as poll_stage
+use Rattle.gh_poll.specs.declared.poll.PollStage.TheVariants as poll_stage
 use Rattle.gh_mutator.specs.declared.task.Task.TheVariants as task
-use Rattle.gh_mutator.specs.declared.wait.WaitStage.TheVariants as wait_stage
-use Rattle.gh_mutator.specs.Give as give
+use Rattle.gh_poll.specs.declared.wait.WaitStage.TheVariants as wait_stage
+use Rattle.gh_poll.specs.Give as give
 use Rattle.gh_mutator.specs.Global as global
-use Rattle.gh_mutator.specs.Leave as leave
+use Rattle.gh_poll.specs.Leave as leave
 use Rattle.gh_mutator.specs.Load as load
-use Rattle.gh_mutator.specs.Local.{is_mark}
-use Rattle.gh_mutator.specs.MarkStack as mark
-use Rattle.gh_mutator.specs.Poll as poll
-use Rattle.gh_mutator.specs.Poll.{after_mark, after_resume, after_room, by_phase, due, giving, marks_then, owed_in, resumed, scans, stops_then}
+use Rattle.gh_poll.specs.Local.{is_mark}
+use Rattle.gh_poll.specs.MarkStack as mark
+use Rattle.gh_poll.specs.Poll as poll
+use Rattle.gh_poll.specs.Poll.{after_mark, after_resume, after_room, by_phase, due, giving, marks_then, owed_in, resumed, scans, stops_then}
 use Rattle.gh_mutator.specs.Processor.{keeping}
 use Rattle.gh_mutator.specs.Register as register
 use Rattle.gh_mutator.specs.Spending.{DebtsAreDropped, owed_at, owed_of, OwesWhileMarking}
 use Rattle.gh_mutator.specs.Store as store
 use Rattle.gh_mutator.specs.Vocabulary.{Polling}
-use Rattle.gh_mutator.specs.Wait as wait
+use Rattle.gh_poll.specs.Stays.{other_cycle_owes}
+use Rattle.gh_poll.specs.Wait as wait
 use Rattle.gh_mutator.specs.Running.{IsAssisting, SoundAssist, SoundAssistAt}
 use Rattle.gh_mutator.proofs.Vocabulary.{after_gc, after_leave, after_place, after_poll, after_search, after_wait, Assist, Assisting, assists, cache_span, CachedSpan, follows, Found, is_busy_at, Layout, Leaving, Name, NewStage, Op, Place, Placing, PollStage, Processor, processor_kind, register_of, RunPhase, Search, Seeking, Shape, takes_at, taking, Task, Then, Value, Wait, WaitStage, Waiting, Want, Wanted}
 
@@ -180,9 +181,6 @@ module _ (shapes : List Shape) (p : Polling) (made : List ℕ) (found : ℕ) whe
 begun : (shapes : List Shape) (l : Layout) (m : Processor) (o : Op) → is_busy_at m.task ≡ false → due_of ((processor_kind shapes l).begins m o) ≡ due_of m
 begun shapes l m o rests = grind arith
 
-other_cycle : (p : Polling) (out : Resumed) → out.another_cycle ≡ true → (resumed p out).local.owed ≡ 0
-other_cycle p out e = grind arith
-
 other_cycle_step : (p : Polling) (r : resume.Resuming) (found : ℕ) (out : Resumed) → p.stage ≡ poll_stage.Resuming r → resume.gives r found ≡ Some out → out.another_cycle ≡ true → (poll.goes p found).local.owed ≡ 0
 other_cycle_step p r found out is gives another = grind arith
 
@@ -195,7 +193,7 @@ debts_are_dropped = record {
   begins = λ shapes l m o rests. ap (λ (d : Due). d.1) (begun shapes l m o rests);
   off_begins = λ shapes l m o rests before. off_by (same (begun shapes l m o rests)) before;
   off = λ shapes m found s busy before. off_at shapes m.poll m.made found m.task s.assist busy before;
-  other_cycle = other_cycle;
+  other_cycle = other_cycle_owes;
   other_cycle_step = other_cycle_step;
   assists_so = λ shapes m found w n x is. assists_so shapes m found w n x m.task is;
   stays = λ shapes m found s busy rests. stays_by (drops_at shapes m.poll m.made found m.task busy rests);

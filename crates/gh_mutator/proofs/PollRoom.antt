@@ -6,13 +6,15 @@ use Rattle.gh_phase.specs.declared.view.RunPhase.{RunPhase}
 use Rattle.gh_phase.specs.Listing as resume
 use Rattle.gh_wbuf.specs.declared.find_room.RoomStage.{RoomStage}
 use Rattle.gh_wbuf.specs.RoomFinding as room
-use Rattle.gh_mutator.specs.Collecting.{phase_of, Resumed, run_phase, Local, PollStage}
-use Rattle.gh_mutator.specs.declared.poll.PollStage.TheVariants as poll_stage
-use Rattle.gh_mutator.specs.Give as give
+use Rattle.gh_poll.specs.Collecting.{phase_of, Resumed, run_phase}
+use Rattle.gh_poll.specs.declared.poll.Local.{Local}
+use Rattle.gh_poll.specs.declared.poll.PollStage.{PollStage}
+use Rattle.gh_poll.specs.declared.poll.PollStage.TheVariants as poll_stage
+use Rattle.gh_poll.specs.Give as give
 use Rattle.gh_mutator.specs.Listing.{after_poll, is_busy_at, takes_at}
-use Rattle.gh_mutator.specs.Local.{is_mark}
-use Rattle.gh_mutator.specs.MarkStack as mark
-use Rattle.gh_mutator.specs.Poll.{after_mark, after_resume, after_room, by_phase, counted, given, giving, goes_at, has_two, marks_then, resumed, scanned, stops_then}
+use Rattle.gh_poll.specs.Local.{is_mark}
+use Rattle.gh_poll.specs.MarkStack as mark
+use Rattle.gh_poll.specs.Poll.{after_mark, after_resume, after_room, by_phase, counted, given, giving, goes_at, has_two, marks_then, resumed, scanned, stops_then}
 use Rattle.gh_mutator.specs.PollRoom.{HasRoomToStore, LooksForRoom, MakesRoom, PollsMakeRoom, RoomAt, RoomBehind, TriesForRoom}
 use Rattle.gh_mutator.specs.Sound.{has_room}
 use Rattle.gh_mutator.specs.Vocabulary.{Op, Polling, Processor, Shape, Task}

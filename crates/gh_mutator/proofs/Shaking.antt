@@ -1,6 +1,4 @@
 -- A processor among a collector is in the handshake of a stop.
 pub mod Acknowledging
-pub mod Polls
 pub mod Processor
 pub mod Quiet
-pub mod Waits

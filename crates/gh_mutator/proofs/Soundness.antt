@@ -4,27 +4,28 @@ use Rattle.gh_mutator.specs.Vocabulary.{Global, GlobalStage, Polling, Register, 
 use Rattle.gh_base.specs.declared.value.Value.TheVariants as value
 use Rattle.gh_base.specs.declared.held.Held.{Held}
 use Rattle.gh_mutator.specs.declared.task.Task.TheVariants as task
-use Rattle.gh_mutator.specs.Barrier.{with_held}
+use Rattle.gh_poll.specs.Barrier.{with_held}
 use Rattle.gh_mutator.specs.Global as global_listing
-use Rattle.gh_mutator.specs.Leave as leave
+use Rattle.gh_poll.specs.Leave as leave
 use Rattle.gh_mutator.specs.Load as load_listing
-use Rattle.gh_mutator.specs.Local.{register_in_stacks, with_register_value}
-use Rattle.gh_mutator.specs.Poll as poll
+use Rattle.gh_poll.specs.Local.{register_in_stacks, with_register_value}
+use Rattle.gh_poll.specs.Poll as poll
 use Rattle.gh_mutator.specs.Processor.{at_poll, at_task, keeping, opening_processor}
 use Rattle.gh_mutator.specs.Register.{read_of, step, value_of_source}
 use Rattle.gh_mutator.specs.Serving.{is_making}
-use Rattle.gh_mutator.specs.Sound.{GlobalRoom, IsNear, most_objects, Sound, SoundGlobal, SoundLoad, SoundRegister, SoundStore, SoundTask, StoreRoom}
-use Rattle.gh_mutator.specs.Stays.{leave_stays, poll_stacks, poll_stays, wait_stacks, wait_stays}
+use Rattle.gh_poll.specs.Registers.{IsNear}
+use Rattle.gh_mutator.specs.Sound.{GlobalRoom, most_objects, Sound, SoundGlobal, SoundLoad, SoundRegister, SoundStore, SoundTask, StoreRoom}
+use Rattle.gh_poll.specs.Stays.{leave_stays, poll_stacks, poll_stays, wait_stacks, wait_stays}
 use Rattle.gh_mutator.specs.Store as store_listing
-use Rattle.gh_mutator.specs.Wait as wait
-use Rattle.gh_mutator.proofs.Vocabulary.{after_gc, after_leave, after_poll, FitsWait, Layout, Leaving, Processor, read_replicate, register_of, Shape, takes, takes_at, Task, Value, Waiting, with_ended}
+use Rattle.gh_poll.specs.Wait as wait
+use Rattle.gh_mutator.proofs.Vocabulary.{after_gc, after_leave, after_poll, SoundWaiting, Layout, Leaving, Processor, read_replicate, register_of, Shape, takes, takes_at, Task, Value, Waiting, with_ended}
 use Rattle.gh_mutator.proofs.Changes.{applied_sound, polled, SameBuffer}
 use Rattle.gh_mutator.proofs.ClassFacts.{ClassLaws}
 use Rattle.gh_mutator.proofs.GlobalSteps as global
 use Rattle.gh_mutator.proofs.LoadSteps as load
 use Rattle.gh_mutator.proofs.Steps.{goes_both, StepSound}
 use Rattle.gh_mutator.proofs.StoreSteps as store
-use Rattle.gh_mutator.proofs.Waits.{wait_fits}
+use Rattle.gh_poll.proofs.Waits.{wait_fits}
 
 -- each register is nil at first
 rows_of : (n i : ℕ) → (get_or (replicate n (replicate 16 value.Nil)) i [] ≡ replicate 16 value.Nil) ⊎ (get_or (replicate n (replicate 16 value.Nil)) i [] ≡ [])
@@ -42,7 +43,7 @@ register_sound : (pages : ℕ) (held : Value) (x : Register) → IsNear pages he
 register_sound pages held x near = grind arith
 
 -- once a routine has ended or not
-gc_sound : (shapes : List Shape) (m : Processor) (g : ℕ) (x : Waiting) (out : Option (Unit {0})) → Sound shapes m → x.poll.layout ≡ m.poll.layout → x.poll.local.stacks ≡ m.poll.local.stacks → (out ≡ None → FitsWait x.poll x.wait) → Sound shapes (after_gc m g x out)
+gc_sound : (shapes : List Shape) (m : Processor) (g : ℕ) (x : Waiting) (out : Option (Unit {0})) → Sound shapes m → x.poll.layout ≡ m.poll.layout → x.poll.local.stacks ≡ m.poll.local.stacks → (out ≡ None → SoundWaiting x.poll x.wait) → Sound shapes (after_gc m g x out)
 gc_sound shapes m g x out s layout stacks fits = grind arith
 
 poll_sound : (shapes : List Shape) (m : Processor) (p : Polling) (out : Option (Unit {0})) → Sound shapes m → p.layout ≡ m.poll.layout → p.local.stacks ≡ m.poll.local.stacks → poll.given p.stage ≡ out → Sound shapes (after_poll m p out)

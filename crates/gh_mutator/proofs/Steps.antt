@@ -6,7 +6,7 @@ use Rattle.gh_base.specs.declared.value.Value.{Value}
 use Rattle.gh_mutator.specs.declared.step.Step.{Step}
 use Rattle.gh_mutator.specs.declared.step.Then.{Then}
 use Rattle.gh_mutator.specs.declared.step.Then.TheVariants.{GoesOn, Ends}
-use Rattle.gh_mutator.specs.Sound.{IsNear}
+use Rattle.gh_poll.specs.Registers.{IsNear}
 use Rattle.gh_mutator.specs.Step.{answered}
 
 -- the register takes a value that is near

@@ -10,17 +10,18 @@ use Rattle.gh_barrier.specs.Ending.{write_left, WritingEnds}
 use Rattle.gh_barrier.specs.Stays as write_proved
 use Rattle.gh_barrier.specs.Listing.{Writing as PointerWrite}
 use Rattle.gh_barrier.specs.Listing as write
-use Rattle.gh_mutator.specs.declared.poll.Local.{Local}
+use Rattle.gh_poll.specs.declared.poll.Local.{Local}
 use Rattle.gh_mutator.specs.declared.step.Then.{Then}
 use Rattle.gh_mutator.specs.declared.store.Store.{Store}
 use Rattle.gh_mutator.specs.declared.store.StoreStage.{StoreStage}
 use Rattle.gh_mutator.specs.declared.store.StoreStage.TheVariants.{Page, Bits, Field, Writing, NilBase}
-use Rattle.gh_mutator.specs.Barrier.{held_then, with_held}
+use Rattle.gh_poll.specs.Barrier.{held_then, with_held}
 use Rattle.gh_mutator.specs.Faults.{is_load}
 use Rattle.gh_mutator.specs.Fields.{has_field, is_pointer_by}
-use Rattle.gh_mutator.specs.Local.{is_mark}
-use Rattle.gh_mutator.specs.Poll.{Polling}
-use Rattle.gh_mutator.specs.Sound.{IsRegister, SoundStore, SoundStoreStage, StoreRoom}
+use Rattle.gh_poll.specs.Local.{is_mark}
+use Rattle.gh_poll.specs.Poll.{Polling}
+use Rattle.gh_poll.specs.Registers.{IsRegister}
+use Rattle.gh_mutator.specs.Sound.{SoundStore, SoundStoreStage, StoreRoom}
 use Rattle.gh_mutator.specs.Step.{ends, goes_on}
 use Rattle.gh_mutator.specs.Store.{after_write, asks, at_stage, begins, by_kind, held_behind, step, step_at}
 use Rattle.gh_mutator.proofs.ClassFacts.{ClassLaws}

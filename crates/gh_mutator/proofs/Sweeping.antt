@@ -8,16 +8,16 @@ use Rattle.gh_sweep.specs.Running.{on_from, RunsSweeps}
 use Rattle.gh_mutator.specs.declared.task.Task.TheVariants as task
 use Rattle.gh_mutator.specs.Deeds.{processor_kind}
 use Rattle.gh_mutator.specs.Global as global
-use Rattle.gh_mutator.specs.Leave as leave
+use Rattle.gh_poll.specs.Leave as leave
 use Rattle.gh_mutator.specs.Load as load
 use Rattle.gh_mutator.specs.New as new
 use Rattle.gh_mutator.specs.New.{searches, seeking, wanted_of}
-use Rattle.gh_mutator.specs.Poll as poll
-use Rattle.gh_mutator.specs.Poll.{Polling}
+use Rattle.gh_poll.specs.Poll as poll
+use Rattle.gh_poll.specs.Poll.{Polling}
 use Rattle.gh_mutator.specs.Register as register
 use Rattle.gh_mutator.specs.Store as store
 use Rattle.gh_mutator.specs.Sweeping.{IsSearching, SearchesAt, SweepsAreRunOn, sweep_at, sweep_in, sweep_new}
-use Rattle.gh_mutator.specs.Wait as wait
+use Rattle.gh_poll.specs.Wait as wait
 use Rattle.gh_mutator.proofs.Vocabulary.{Assist, after_gc, after_leave, after_poll, after_search, asks_at, begins, cache_span, follows, Found, has_left_at, Layout, Leaving, NewStage, Op, Place, Processor, register_of, Search, Seeking, Shape, takes_at, Task, Then, Wait, Waiting, Wanted, Want}
 
 seeking_none : (m : Processor) (w : Wanted) → search.sweep_in (seeking m w) ≡ None

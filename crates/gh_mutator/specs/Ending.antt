@@ -2,7 +2,7 @@
 use Rattle.std.specs.Prelude.{◌≡◌, ℕ, Bool, true, false, if◌then◌else◌}
 use Rattle.gh_base.specs.declared.operation.Op.{Op}
 use Rattle.gh_base.specs.declared.operation.Op.TheVariants as op
-use Rattle.gh_mutator.specs.Local.{marking_at}
+use Rattle.gh_poll.specs.Local.{marking_at}
 use Rattle.gh_mutator.specs.Mutating.{begins, listing, Mutating}
 use Rattle.gh_base.specs.Routines.{EndsWithin}
 

@@ -8,6 +8,7 @@ use Rattle.gh_base.specs.declared.value.Value.TheVariants as value
 use Rattle.gh_base.specs.declared.value.Answer.TheVariants as answer
 use Rattle.gh_base.specs.Packing.{name_of, page_of, slot_in}
 use Rattle.gh_bitmap.specs.ReadPointer as reading
+use Rattle.gh_poll.specs.Registers.{is_number_value}
 use Rattle.gh_mutator.specs.declared.step.Step.{Step}
 use Rattle.gh_mutator.specs.declared.step.Then.{Then}
 use Rattle.gh_mutator.specs.declared.step.Then.TheVariants.{GoesOn, Ends}
@@ -43,10 +44,6 @@ abbrev pub word_of_value : Value → ℕ
 word_of_value value.Nil = 0
 word_of_value (value.Int n) = n
 word_of_value (value.Ref r) = r
-
-abbrev pub is_number_value : Value → Bool
-is_number_value (value.Int n) = true
-is_number_value _ = false
 
 -- a pointer field meets a number, or a number field nil or a reference
 abbrev pub kinds_differ : (pointer : Bool) → Value → Bool

@@ -17,11 +17,11 @@ use Rattle.gh_barrier.specs.Listing as write
 use Rattle.gh_mutator.specs.declared.global.Global.{Global}
 use Rattle.gh_mutator.specs.declared.global.GlobalStage.{GlobalStage}
 use Rattle.gh_mutator.specs.declared.global.GlobalStage.TheVariants.{Load, Birth, Store, Writing, Number}
-use Rattle.gh_mutator.specs.declared.poll.Local.{Local}
+use Rattle.gh_poll.specs.declared.poll.Local.{Local}
 use Rattle.gh_mutator.specs.declared.step.Step.{Step}
-use Rattle.gh_mutator.specs.Barrier.{held_then, written}
+use Rattle.gh_poll.specs.Barrier.{held_then, written}
 use Rattle.gh_mutator.specs.Fields.{birth_cell, ends_with_name, takes, value_of, word_of_value}
-use Rattle.gh_mutator.specs.Local.{is_mark}
+use Rattle.gh_poll.specs.Local.{is_mark}
 use Rattle.gh_mutator.specs.Step.{ends, goes_on}
 
 abbrev pub op_in : Global → GlobalStage → Op

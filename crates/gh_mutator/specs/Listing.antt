@@ -9,17 +9,17 @@ use Rattle.gh_base.specs.declared.value.Answer.TheVariants as answer
 use Rattle.gh_mutator.specs.declared.register.Source.TheVariants as source
 use Rattle.gh_mutator.specs.declared.task.Task.TheVariants as task
 use Rattle.gh_mutator.specs.Global as global
-use Rattle.gh_mutator.specs.Leave as leave
+use Rattle.gh_poll.specs.Leave as leave
 use Rattle.gh_mutator.specs.Load as load
-use Rattle.gh_mutator.specs.Local.{leaving, marking_at, with_ended, with_nothing}
+use Rattle.gh_poll.specs.Local.{leaving, marking_at, with_ended, with_nothing}
 use Rattle.gh_mutator.specs.New as new
 use Rattle.gh_mutator.specs.New.{searches, seeking, wanted_of}
-use Rattle.gh_mutator.specs.Poll as poll
+use Rattle.gh_poll.specs.Poll as poll
 use Rattle.gh_mutator.specs.Processor.{at_poll, at_task, keeping, register_of, taking}
 use Rattle.gh_mutator.specs.Register as register
 use Rattle.gh_mutator.specs.Step.{answered}
 use Rattle.gh_mutator.specs.Store as store
-use Rattle.gh_mutator.specs.Wait as wait
+use Rattle.gh_poll.specs.Wait as wait
 
 -- an operation is begun, and a step is to be made
 abbrev pub is_busy_at : Task → Bool

@@ -9,7 +9,7 @@ use Rattle.gh_base.specs.declared.value.Answer.{Answer}
 use Rattle.gh_base.specs.Routines.{Listing}
 use Rattle.gh_mutator.specs.declared.processor.Processor.{Processor}
 use Rattle.gh_mutator.specs.Listing.{acts as acts_by, Act, asks as asks_of, begins as begins_by, gives as gives_by, is_busy_at, takes}
-use Rattle.gh_mutator.specs.Local.{passes as passes_by}
+use Rattle.gh_poll.specs.Local.{passes as passes_by}
 use Rattle.gh_mutator.specs.Processor.{opening_processor}
 use Rattle.gh_mutator.specs.Serving.{has_left_at, statement_answer}
 

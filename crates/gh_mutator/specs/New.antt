@@ -15,9 +15,9 @@ use Rattle.gh_alloc.specs.declared.place.PlaceStage.TheVariants as making
 use Rattle.gh_alloc.specs.Place as place
 use Rattle.gh_alloc.specs.Search as search
 use Rattle.gh_mutator.specs.declared.task.Task.TheVariants as task
-use Rattle.gh_mutator.specs.Local.{marking_at}
+use Rattle.gh_poll.specs.Local.{marking_at, with_payment}
 use Rattle.gh_mutator.specs.Processor.{at_poll, at_task, cache_span, cached_for, made_by, set_register}
-use Rattle.gh_mutator.specs.Wait as wait
+use Rattle.gh_poll.specs.Wait as wait
 
 abbrev pub op_of : Wanted → Op
 op_of w = op.New w.g w.d w.t
@@ -133,10 +133,6 @@ made_task p w x (Some false) = made_then p w x.name
 -- after that step, by which the object at heap word a is made or not
 abbrev pub after_place : Processor → Wanted → (made : Bool) → (a : ℕ) → Placing → Processor
 after_place m w made a p = at_task (if made then made_object m w a else m) (made_task m.poll w p (place.given p))
-
--- it holds what the assist holds, and what is owed and spent is what that says
-abbrev pub with_payment : Polling → Assisting → Polling
-with_payment p x = record p { local = record (p.local) { held = assist.held_at x.held x.stage; owed = x.owed; spent = x.spent } }
 
 -- after a step of the assist, which is then x, and has ended or not
 abbrev pub after_assist : Processor → Wanted → Name → Assisting → Option (Unit {0}) → Processor

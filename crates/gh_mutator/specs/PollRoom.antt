@@ -5,20 +5,20 @@ use Rattle.gh_wbuf.specs.declared.find_room.RoomStage.{RoomStage}
 use Rattle.gh_wbuf.specs.declared.find_room.RoomStage.TheVariants.{GiveBack, Try, Ended as Found}
 use Rattle.gh_wbuf.specs.declared.try_buffer.Wish.TheVariants.{Room}
 use Rattle.gh_wbuf.specs.Trying.{is_busy as try_busy}
-use Rattle.gh_wbuf.specs.TrySound.{FitsTryStage}
-use Rattle.gh_mutator.specs.declared.poll.PollStage.{PollStage}
-use Rattle.gh_mutator.specs.declared.poll.PollStage.TheVariants.{FindRoom, Ended}
+use Rattle.gh_wbuf.specs.TrySound.{SoundTryStage}
+use Rattle.gh_poll.specs.declared.poll.PollStage.{PollStage}
+use Rattle.gh_poll.specs.declared.poll.PollStage.TheVariants.{FindRoom, Ended}
 use Rattle.gh_mutator.specs.declared.task.Task.TheVariants as task
-use Rattle.gh_mutator.specs.Barrier.{has_entries}
+use Rattle.gh_poll.specs.Barrier.{has_entries}
 use Rattle.gh_mutator.specs.Listing.{begins, is_busy_at, takes}
-use Rattle.gh_mutator.specs.Poll.{goes, has_two}
+use Rattle.gh_poll.specs.Poll.{goes, has_two}
 use Rattle.gh_mutator.specs.Sound.{has_room}
 use Rattle.gh_mutator.specs.Vocabulary.{Op, Polling, Processor, Shape, Task}
 
 -- the search tries for room, and what it is to take had some; what it has found has some
 abbrev pub TriesForRoom : RoomStage → Type 0
 TriesForRoom (GiveBack h) = Unit {0}
-TriesForRoom (Try t) = (t.wish ≡ Room) × FitsTryStage t.wish t.stage × (try_busy t.stage ≡ true)
+TriesForRoom (Try t) = (t.wish ≡ Room) × SoundTryStage t.wish t.stage × (try_busy t.stage ≡ true)
 TriesForRoom (Found h) = has_two (Some h) ≡ true
 
 -- where the poll has ended there is room

@@ -9,9 +9,9 @@ use Rattle.gh_alloc.specs.declared.sought.Sought.{Sought}
 use Rattle.gh_mutator.specs.declared.processor.Processor.{Processor}
 use Rattle.gh_mutator.specs.declared.task.Task.{Task}
 use Rattle.gh_mutator.specs.declared.task.Task.TheVariants.{Idle}
-use Rattle.gh_mutator.specs.Barrier.{with_held}
-use Rattle.gh_mutator.specs.Local.{cached_at, first_local, register_at, with_cached, with_register_value, with_value_if_any}
-use Rattle.gh_mutator.specs.Poll.{Polling, resting}
+use Rattle.gh_poll.specs.Barrier.{with_held}
+use Rattle.gh_poll.specs.Local.{cached_at, first_local, register_at, with_cached, with_register_value, with_value_if_any}
+use Rattle.gh_poll.specs.Poll.{Polling, resting}
 
 abbrev pub at_task : Processor → Task → Processor
 at_task m t = record m { task = t }

@@ -10,14 +10,14 @@ use Rattle.gh_phase.specs.declared.view.RunPhase.TheVariants.{Mark}
 use Rattle.gh_mutator.specs.declared.global.GlobalStage.TheVariants as global_stage
 use Rattle.gh_mutator.specs.declared.store.StoreStage.TheVariants as store_stage
 use Rattle.gh_mutator.specs.declared.task.Task.TheVariants as task
-use Rattle.gh_mutator.specs.Barrier.{has_entries}
-use Rattle.gh_mutator.specs.Fields.{is_number_value}
+use Rattle.gh_poll.specs.Barrier.{has_entries}
+use Rattle.gh_poll.specs.Registers.{is_number_value}
 use Rattle.gh_mutator.specs.Listing.{asks, begins, takes}
-use Rattle.gh_mutator.specs.Local.{register_at}
-use Rattle.gh_mutator.specs.MarkFacts.{IsBetween, holding_only, KnowsCycle, KnowsNumber, KnowsStacks, LeaveFacts, PollFacts, WaitFacts}
+use Rattle.gh_poll.specs.Local.{register_at}
+use Rattle.gh_poll.specs.MarkFacts.{IsBetween, holding_only, KnowsCycle, KnowsNumber, KnowsStacks, LeaveFacts, PollFacts, WaitFacts}
 use Rattle.gh_mutator.specs.MarkVocabulary.{Cycle, Good, Hands, IsParked, KnowsObjects, Local, Others, Shared, Steps, cell_of, nothing, stage_of}
 use Rattle.gh_mutator.specs.Vocabulary.{Assist, Assisting, GlobalStage, NewStage, Op, Place, Polling, Processor, Search, Shape, Store, StoreStage, Task, Wait, Want}
-use Rattle.gh_mutator.specs.Wait.{waiting}
+use Rattle.gh_poll.specs.Wait.{waiting}
 
 -- a write behind the write barrier, beside what is known between two polls
 pub record IsWriting (z : Cycle) (a : ℕ) (s : Shared) (local : Local) (w : Writing) : Type 0 where

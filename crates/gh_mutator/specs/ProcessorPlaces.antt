@@ -5,14 +5,14 @@ use Rattle.gh_base.specs.declared.cell.Cell.TheVariants.{Ack}
 use Rattle.gh_phase.specs.Handshake.{Acts, Awake, first_party, Gone, Party, PlaceBegins, Stage, StageGoes}
 use Rattle.gh_mutator.specs.declared.task.Task.TheVariants as task
 use Rattle.gh_mutator.specs.Deeds.{processor_kind}
-use Rattle.gh_mutator.specs.Give.{none_cached}
-use Rattle.gh_mutator.specs.Handshake.{HasPlaces, knower, leaves_at, poll_stage_of, poller_of, PollsOn, SoundWait, wait_stage_of, waiter_of}
-use Rattle.gh_mutator.specs.Leave.{is_busy}
+use Rattle.gh_poll.specs.Give.{none_cached}
+use Rattle.gh_poll.specs.Handshake.{HasPlaces, knower, leaves_at, poll_stage_of, poller_of, PollsOn, SoundWait, wait_stage_of, waiter_of}
+use Rattle.gh_poll.specs.Leave.{is_busy}
 use Rattle.gh_mutator.specs.Listing.{asks, is_busy_at, takes}
 use Rattle.gh_mutator.specs.Processor.{opening_processor}
 use Rattle.gh_mutator.specs.Vocabulary.{Layout, Leaving, NewStage, Op, Polling, Processor, Shape, Task, Wait}
-use Rattle.gh_mutator.specs.declared.wait.Wait.{Wait as WaitState}
-use Rattle.gh_mutator.specs.Wait.{is_busy as waits_still, waiting}
+use Rattle.gh_poll.specs.declared.wait.Wait.{Wait as WaitState}
+use Rattle.gh_poll.specs.Wait.{is_busy as waits_still, waiting}
 
 -- it leaves from its own seat, with all that it held, and is not gone yet
 pub record LeavesOn (p : Polling) (x : Leaving) : Type 0 where

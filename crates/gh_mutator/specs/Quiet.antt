@@ -12,10 +12,10 @@ use Rattle.gh_mutator.specs.declared.global.Global.{Global}
 use Rattle.gh_mutator.specs.declared.load.Load.{Load}
 use Rattle.gh_mutator.specs.declared.register.Register.{Register}
 use Rattle.gh_mutator.specs.declared.store.Store.{Store}
-use Rattle.gh_mutator.specs.Give as give
+use Rattle.gh_poll.specs.Give as give
 use Rattle.gh_mutator.specs.Global as global
 use Rattle.gh_mutator.specs.Load as load
-use Rattle.gh_mutator.specs.MarkStack as mark
+use Rattle.gh_poll.specs.MarkStack as mark
 use Rattle.gh_mutator.specs.Register as register
 use Rattle.gh_mutator.specs.Store as store
 

@@ -5,10 +5,10 @@ use Rattle.gh_assist.specs.Sound as assisting
 use Rattle.gh_phase.specs.declared.view.RunPhase.TheVariants.{Mark}
 use Rattle.gh_stack.specs.declared.scan_stack.StackStage.TheVariants as stack_stage
 use Rattle.gh_stack.specs.Listing as stack
-use Rattle.gh_mutator.specs.declared.mark_stack.MarkStackStage.TheVariants as mark_stage
-use Rattle.gh_mutator.specs.declared.poll.PollStage.TheVariants.{Marking}
+use Rattle.gh_poll.specs.declared.mark_stack.MarkStackStage.TheVariants as mark_stage
+use Rattle.gh_poll.specs.declared.poll.PollStage.TheVariants.{Marking}
 use Rattle.gh_mutator.specs.declared.task.Task.TheVariants as task
-use Rattle.gh_mutator.specs.Local.{marking_at}
+use Rattle.gh_poll.specs.Local.{marking_at}
 use Rattle.gh_mutator.specs.MarkVocabulary.{MarkStackStage, PollStage, SoundPlace, StackMarking, StackStage}
 use Rattle.gh_mutator.specs.Vocabulary.{Assist, NewStage, Polling, Processor, Task}
 

@@ -6,7 +6,7 @@ use Rattle.gh_base.specs.declared.operation.Op.TheVariants as op
 use Rattle.gh_mutator.specs.declared.processor.Processor.{Processor}
 use Rattle.gh_mutator.specs.declared.task.Task.{Task}
 use Rattle.gh_mutator.specs.declared.task.Task.TheVariants.{Idle, Left, New, Poll, End, Leave}
-use Rattle.gh_mutator.specs.Leave.{says_gone}
+use Rattle.gh_poll.specs.Leave.{says_gone}
 use Rattle.gh_mutator.specs.Listing.{gives_at, Act}
 
 -- a statement of a goroutine, and no step of the processor's own

@@ -1,9 +1,8 @@
 -- What the processor knows of its own state, whatever words it finds: its numbers are in their ranges.
 use Rattle.std.specs.Prelude.{◌≡◌, ℕ, ◌*◌, ◌^◌, ◌<◌, ◌≤◌, nat_lt, Bool, true, false, List, length, slice_index}
-use Rattle.gh_mutator.specs.Vocabulary.{MOST_GOROUTINES, REGISTERS, Layout, Op, Shape, Value, Seeking, Placing, Global, GlobalStage, LoadStage, NewStage, Wanted, Polling, Processor, Register, StoreStage, Task}
+use Rattle.gh_mutator.specs.Vocabulary.{REGISTERS, Layout, Op, Shape, Seeking, Placing, Global, GlobalStage, LoadStage, NewStage, Wanted, Polling, Processor, Register, StoreStage, Task}
 use Rattle.gh_base.specs.declared.limits.TheConstants.{MOST_STATEMENTS}
 use Rattle.gh_base.specs.declared.operation.Op.TheVariants as op
-use Rattle.gh_base.specs.declared.value.Value.TheVariants as value
 use Rattle.gh_alloc.specs.Place as place
 use Rattle.gh_assist.specs.Listing as assist
 use Rattle.gh_alloc.specs.Search as search
@@ -17,19 +16,16 @@ use Rattle.gh_mutator.specs.declared.new.NewStage.TheVariants as new
 use Rattle.gh_mutator.specs.declared.store.Store.{Store}
 use Rattle.gh_mutator.specs.declared.store.StoreStage.TheVariants as store
 use Rattle.gh_mutator.specs.declared.task.Task.TheVariants as task
-use Rattle.gh_mutator.specs.Barrier.{has_entries}
-use Rattle.gh_mutator.specs.GiveSound.{Runs}
-use Rattle.gh_mutator.specs.Leave as leave
-use Rattle.gh_mutator.specs.Local.{cache_with}
+use Rattle.gh_poll.specs.Barrier.{has_entries}
+use Rattle.gh_poll.specs.GiveSound.{Runs}
+use Rattle.gh_poll.specs.Leave as leave
+use Rattle.gh_poll.specs.Local.{cache_with}
 use Rattle.gh_mutator.specs.New.{is_made}
-use Rattle.gh_mutator.specs.Poll as poll
+use Rattle.gh_poll.specs.Poll as poll
 use Rattle.gh_mutator.specs.Processor.{made_by, register_of}
 use Rattle.gh_mutator.specs.Register.{read_of}
-use Rattle.gh_mutator.specs.WaitSound.{FitsWait}
-
--- the register is one of a goroutine's
-abbrev pub IsRegister : (g d : ℕ) → Type 0
-IsRegister g d = (g < MOST_GOROUTINES) × (d < REGISTERS)
+use Rattle.gh_poll.specs.Registers.{IsNear, IsRegister}
+use Rattle.gh_poll.specs.WaitSound.{SoundWaiting}
 
 -- a goroutine makes at most so many objects
 abbrev pub most_objects : ℕ
@@ -53,11 +49,6 @@ SoundOp shapes l (op.Gc g) = Unit {0}
 SoundOp shapes l op.Poll = Unit {0}
 SoundOp shapes l (op.End g) = g < l.goroutines
 SoundOp shapes l op.Leave = Unit {0}
-
--- a reference is to a word of the heap
-abbrev pub IsNear : (pages : ℕ) → Value → Type 0
-IsNear pages (value.Ref r) = r ≤ 1024 * pages
-IsNear pages _ = Unit {0}
 
 -- the words of a slot are at most those of 8191 pages
 abbrev pub IsFieldNumber : (k : ℕ) → Type 0
@@ -133,7 +124,7 @@ pub record SoundPlace (l : Layout) (p : Placing) : Type 0 where
 
 abbrev pub SoundNewStage : Polling → Wanted → NewStage → Type 0
 SoundNewStage p w (new.Search waited s) = SoundSearch p w s
-SoundNewStage p w (new.Wait x) = FitsWait p x
+SoundNewStage p w (new.Wait x) = SoundWaiting p x
 SoundNewStage p w (new.Place x) = SoundPlace p.layout x
 SoundNewStage p w (new.Want n) = Unit {0}
 SoundNewStage p w (new.Assist n x) = Runs p.layout x.layout (assist.is_busy x.stage)
@@ -160,7 +151,7 @@ SoundTask shapes p made (task.Store x) = SoundStore p.layout.pages x × StoreRoo
 SoundTask shapes p made (task.Global x) = SoundGlobal p.layout.globals x × GlobalRoom p x.stage
 SoundTask shapes p made (task.Register x) = SoundRegister x
 SoundTask shapes p made (task.New x) = SoundWanted shapes x.wanted × SoundNewStage p x.wanted x.stage × HasName (slice_index made x.wanted.g) x.stage
-SoundTask shapes p made (task.Gc g x) = FitsWait p x
+SoundTask shapes p made (task.Gc g x) = SoundWaiting p x
 SoundTask shapes p made task.Poll = poll.is_busy p.stage ≡ true
 SoundTask shapes p made (task.End g) = g < p.layout.goroutines
 SoundTask shapes p made (task.Leave x) = SoundLeave p.layout x

@@ -4,13 +4,13 @@ use Rattle.gh_assist.specs.Listing as assist
 use Rattle.gh_phase.specs.declared.resume.Resumed.{Resumed}
 use Rattle.gh_phase.specs.Listing as resume
 use Rattle.gh_phase.specs.Listing.{Resuming}
-use Rattle.gh_mutator.specs.declared.poll.PollStage.TheVariants as poll_stage
+use Rattle.gh_poll.specs.declared.poll.PollStage.TheVariants as poll_stage
 use Rattle.gh_mutator.specs.declared.task.Task.TheVariants as task
 use Rattle.gh_mutator.specs.Deeds.{processor_kind}
 use Rattle.gh_mutator.specs.Listing.{is_busy_at, takes}
-use Rattle.gh_mutator.specs.Local.{marking_at}
+use Rattle.gh_poll.specs.Local.{marking_at}
 use Rattle.gh_mutator.specs.New.{assists}
-use Rattle.gh_mutator.specs.Poll.{goes, resumed}
+use Rattle.gh_poll.specs.Poll.{goes, resumed}
 use Rattle.gh_mutator.specs.Processor.{opening_processor}
 use Rattle.gh_mutator.specs.Vocabulary.{Assist, Assisting, Layout, Name, NewStage, Op, Polling, Processor, Shape, Task, Wanted}
 use Rattle.gh_mutator.specs.Running.{IsAssisting, IsSound}

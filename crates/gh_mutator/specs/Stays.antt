@@ -1,107 +1,33 @@
--- What the steps of a routine leave as it is: its layout, and of a poll and a wait the seat and the registers too. An operation is answered exactly where no further step is asked for. And what single steps come to, for the crates above that cite it.
+-- What the steps of a processor leave as it is: its layout. An operation is answered exactly where no further step is asked for. And what single steps come to, for the crates above that cite it.
 use Rattle.std.proofs.Common.{ap, ◌∙◌, arith}
-use Rattle.std.specs.Prelude.{◌≡◌, ◌==◌, ℕ, ◌+◌, ◌<◌, Bool, true, false, cond, ◌↔◌, List, Option, Some, None, is_none, IsNone, refl}
-use Rattle.gh_base.specs.declared.held.Held.{Held}
+use Rattle.std.specs.Prelude.{◌≡◌, ℕ, ◌+◌, Bool, true, false, cond, ◌↔◌, List, Option, Some, None, is_none, IsNone, refl}
 use Rattle.gh_base.specs.declared.value.Answer.TheVariants as answer
 use Rattle.gh_alloc.specs.Place as place
 use Rattle.gh_alloc.specs.Search as search
 use Rattle.gh_alloc.specs.Stays.{Base, search_base}
 use Rattle.gh_assist.specs.Listing as assist
-use Rattle.gh_shade.specs.declared.shade.Shaded.{Shaded}
-use Rattle.gh_shade.specs.Listing as shade
-use Rattle.gh_wbuf.specs.RoomFinding as room
-use Rattle.gh_mutator.specs.declared.give.GiveStage.TheVariants as give_stage
-use Rattle.gh_mutator.specs.declared.task.Task.TheVariants as task
-use Rattle.gh_mutator.specs.declared.wait.Wait.{Wait as WaitState}
-use Rattle.gh_mutator.specs.declared.wait.WaitStage.{WaitStage}
-use Rattle.gh_mutator.specs.declared.wait.WaitStage.TheVariants as wait_stage
-use Rattle.gh_mutator.specs.Give as give
-use Rattle.gh_mutator.specs.Global as global
-use Rattle.gh_mutator.specs.Leave as leave
-use Rattle.gh_mutator.specs.Listing.{after_gc, after_leave, after_poll as after_polls, follows, gives_at, is_busy_at, once_ended, takes_at}
-use Rattle.gh_mutator.specs.Load as load
-use Rattle.gh_mutator.specs.Barrier.{written}
-use Rattle.gh_mutator.specs.Local.{is_mark, marking_at}
-use Rattle.gh_mutator.specs.declared.poll.Local.{Local}
+use Rattle.gh_poll.specs.Barrier.{written}
+use Rattle.gh_poll.specs.declared.poll.Local.{Local}
+use Rattle.gh_poll.specs.declared.wait.Wait.{Wait as WaitState}
+use Rattle.gh_poll.specs.Leave as leave
+use Rattle.gh_poll.specs.Local.{is_mark, marking_at}
+use Rattle.gh_poll.specs.Poll as poll
+use Rattle.gh_poll.specs.Stays.{payment_spent, poll_stays, wait_stays}
+use Rattle.gh_poll.specs.Wait as wait
 use Rattle.gh_mutator.specs.declared.store.Store.{Store}
 use Rattle.gh_mutator.specs.declared.store.StoreStage.TheVariants as store_stage
-use Rattle.gh_mutator.specs.MarkStack as mark
+use Rattle.gh_mutator.specs.declared.task.Task.TheVariants as task
+use Rattle.gh_mutator.specs.Global as global
+use Rattle.gh_mutator.specs.Listing.{after_gc, after_leave, after_poll as after_polls, follows, gives_at, is_busy_at, once_ended, takes_at}
+use Rattle.gh_mutator.specs.Load as load
 use Rattle.gh_mutator.specs.Mutating.{Mutating, gives, goes, is_busy, layout}
 use Rattle.gh_mutator.specs.New.{after_assist, after_place, after_search, after_wait, answer_assist, answer_made, answer_search, assisting, assists, made_task}
 use Rattle.gh_mutator.specs.New as new
-use Rattle.gh_mutator.specs.Poll as poll
-use Rattle.gh_mutator.specs.Poll.{after_mark, after_resume, after_room, by_phase, due, giving, marks_then, resumed, scans, stops_then}
 use Rattle.gh_mutator.specs.Processor.{cache_span, register_of, taking}
 use Rattle.gh_mutator.specs.Spending.{spent_of}
 use Rattle.gh_mutator.specs.Step.{answered}
 use Rattle.gh_mutator.specs.Store as store
-use Rattle.gh_mutator.specs.Vocabulary.{Assist, Assisting, Shape, Answer, Found, Layout, Leaving, Placing, Polling, Seeking, Name, NewStage, Search, Wait, Place, Waiting, Want, Wanted, Processor, Then, Task, Value}
-use Rattle.gh_mutator.specs.Wait as wait
-
--- ---- giving back, the scan of a stack, and leaving
-
-pub give_stays : (g : give.Giving) (found : ℕ) → (give.goes g found).layout ≡ g.layout
-give_stays g found = grind arith
-
-pub mark_stays : (m : mark.StackMarking) (found : ℕ) → (mark.goes m found).layout ≡ m.layout
-mark_stays m found = grind arith
-
--- neither a shading nor a search for room ends it
-pub shaded_on : (m : mark.StackMarking) (sh : shade.Shading) (out : Option Shaded) → mark.given (mark.after_shade m sh out).stage ≡ None
-shaded_on m sh out = grind arith
-
-pub found_on : (m : mark.StackMarking) (sh : shade.Shading) (r : room.RoomFinding) (out : Option Held) → mark.given (mark.after_room m sh r out).stage ≡ None
-found_on m sh r out = grind arith
-
-pub leave_stays : (w : Leaving) (found : ℕ) → (leave.goes w found).layout ≡ w.layout
-leave_stays w found = grind arith
-
--- neither does the giving back
-pub leaves_on : (g : give.Giving) → leave.given (leave.stage_of g) ≡ None
-leaves_on g = grind arith
-
--- ---- a poll and a wait
-
--- what a poll leaves as it is
-abbrev kept : Polling → Layout × ℕ × List (List Value) × ℕ
-kept p = (p.layout, p.seat, p.local.stacks, p.local.spent)
-
-poll_keeps : (p : Polling) (found : ℕ) → kept (poll.goes p found) ≡ kept p
-poll_keeps p found = grind arith
-
-pub poll_stays : (p : Polling) (found : ℕ) → (poll.goes p found).layout ≡ p.layout
-poll_stays p found = ap (λ (x : Layout × ℕ × List (List Value) × ℕ). x.0) (poll_keeps p found)
-
-pub poll_stacks : (p : Polling) (found : ℕ) → (poll.goes p found).local.stacks ≡ p.local.stacks
-poll_stacks p found = ap (λ (x : Layout × ℕ × List (List Value) × ℕ). x.2) (poll_keeps p found)
-
-pub poll_spent : (p : Polling) (found : ℕ) → (poll.goes p found).local.spent ≡ p.local.spent
-poll_spent p found = ap (λ (x : Layout × ℕ × List (List Value) × ℕ). x.3) (poll_keeps p found)
-
-after_keeps : (w : Waiting) (p : Polling) (out : Option (Unit {0})) → kept (wait.after_poll w p out).poll ≡ kept p
-after_keeps w p out = grind arith
-
-swept_keeps : (w : Waiting) (later : Bool) → kept (cond later (wait.at_stage w wait_stage.Ended) (wait.polling w)).poll ≡ kept w.poll
-swept_keeps w later = grind arith
-
-wait_at : (w : Waiting) (stage : WaitStage) (found : ℕ) → kept (wait.goes_at w stage found).poll ≡ kept w.poll
-wait_at w stage found = grind (arith, after_keeps, poll_keeps, swept_keeps)
-
-pub wait_stays : (w : Waiting) (found : ℕ) → (wait.goes w found).poll.layout ≡ w.poll.layout
-wait_stays w found = grind (arith, wait_at)
-
-pub wait_seat : (w : Waiting) (found : ℕ) → (wait.goes w found).poll.seat ≡ w.poll.seat
-wait_seat w found = grind (arith, wait_at)
-
-pub wait_stacks : (w : Waiting) (found : ℕ) → (wait.goes w found).poll.local.stacks ≡ w.poll.local.stacks
-wait_stacks w found = grind (arith, wait_at)
-
-pub wait_spent : (w : Waiting) (found : ℕ) → (wait.goes w found).poll.local.spent ≡ w.poll.local.spent
-wait_spent w found = grind (arith, wait_at)
-
--- it ends by a later cycle than it knew, which it loads
-pub ends_later : (w : Waiting) (stage : WaitStage) (found : ℕ) (x : Unit {0}) → wait.given (wait.goes_at w stage found).wait.stage ≡ Some x → (stage ≡ wait_stage.LoadSwept) × (w.wait.known < found)
-ends_later w stage found x e = grind arith
+use Rattle.gh_mutator.specs.Vocabulary.{Assist, Assisting, Shape, Answer, Found, Layout, Placing, Polling, Seeking, Name, NewStage, Search, Wait, Place, Waiting, Want, Wanted, Processor, Then, Task, Value}
 
 -- ---- the processor
 
@@ -189,12 +115,8 @@ seeks_now m w = refl
 
 -- an assist leaves the words that it says it has spent
 pub assist_spent : (m : Processor) (w : Wanted) (n : Name) (x : Assisting) (out : Option (Unit {0})) → spent_of (after_assist m w n x out) ≡ x.spent
-assist_spent m w n x out = grind arith
+assist_spent m w n x out = grind (arith, payment_spent)
 
 -- a pointer is stored behind the write barrier where marking is on, as the processor knows
 pub stores_behind : (l : Layout) (own : Local) (held : Value) (x : Store) → is_mark own.view.phase ≡ true → store.stores l own held x true ≡ store_stage.Writing (written l own (store.pointer_cell_at l (x.at + x.k)) held)
 stores_behind l own held x on = ap (λ (marking : Bool). cond marking (store_stage.Writing (written l own (store.pointer_cell_at l (x.at + x.k)) held)) store_stage.Field) on
-
--- the giving back of spans begins where the lock was free
-pub lock_leads : (g : give.Giving) (found : ℕ) (free : Bool) → (found == 0) ≡ free → give.goes_at g give_stage.Lock found ≡ give.at_stage g (cond free (give.stage_from g.cache 0) give_stage.Lock)
-lock_leads g found free e = ap (λ (b : Bool). give.at_stage g (cond b (give.stage_from g.cache 0) give_stage.Lock)) e

@@ -16,14 +16,14 @@ use Rattle.gh_barrier.specs.declared.pointer_cell.PointerCell.TheVariants as poi
 use Rattle.gh_barrier.specs.Listing.{Writing as PointerWrite}
 use Rattle.gh_barrier.specs.Listing as write
 use Rattle.gh_bitmap.specs.ReadPointer as reading
-use Rattle.gh_mutator.specs.declared.poll.Local.{Local}
+use Rattle.gh_poll.specs.declared.poll.Local.{Local}
 use Rattle.gh_mutator.specs.declared.store.Store.{Store}
 use Rattle.gh_mutator.specs.declared.store.StoreStage.{StoreStage}
 use Rattle.gh_mutator.specs.declared.store.StoreStage.TheVariants.{Page, Bits, Field, Writing, NilBase}
 use Rattle.gh_mutator.specs.declared.step.Step.{Step}
-use Rattle.gh_mutator.specs.Barrier.{held_then, written}
+use Rattle.gh_poll.specs.Barrier.{held_then, written}
 use Rattle.gh_mutator.specs.Fields.{field_cell, has_field, is_pointer_by, kinds_differ, page_cell, word_of_value}
-use Rattle.gh_mutator.specs.Local.{is_mark}
+use Rattle.gh_poll.specs.Local.{is_mark}
 use Rattle.gh_mutator.specs.Step.{ends, goes_on}
 
 abbrev pub op_of : Store → Op

@@ -16,7 +16,6 @@ pub use Rattle.gh_class.specs.declared.class.SizeClass.{SizeClass}
 pub use Rattle.gh_class.specs.declared.class.SpanClass.{SpanClass}
 pub use Rattle.gh_heap.specs.Rights.{IsOf}
 pub use Rattle.gh_alloc.specs.Find.{Finding}
-pub use Rattle.gh_alloc.specs.FindSound.{IsCached}
 pub use Rattle.gh_alloc.specs.Place.{Placing}
 pub use Rattle.gh_alloc.specs.Search.{Seeking}
 pub use Rattle.gh_alloc.specs.declared.find.FindStage.{FindStage}
@@ -43,6 +42,6 @@ pub use Rattle.gh_mutator.specs.declared.store.Store.{Store}
 pub use Rattle.gh_mutator.specs.declared.store.StoreStage.{StoreStage}
 pub use Rattle.gh_mutator.specs.declared.task.Task.{Task}
 pub use Rattle.gh_mutator.specs.declared.task.Task.TheVariants.{Idle}
-pub use Rattle.gh_mutator.specs.Leave.{Leaving}
-pub use Rattle.gh_mutator.specs.Poll.{Polling}
-pub use Rattle.gh_mutator.specs.Wait.{Waiting}
+pub use Rattle.gh_poll.specs.Leave.{Leaving}
+pub use Rattle.gh_poll.specs.Poll.{Polling}
+pub use Rattle.gh_poll.specs.Wait.{Waiting}

@@ -5,7 +5,8 @@ use Rattle.gh_base.specs.Shapes.{ShapesFit}
 use Rattle.gh_class.specs.Classes.{slot_of, class_number, slot_words}
 use Rattle.gh_class.specs.declared.class.TheConstants.{MOST_SPAN_PAGES, MOST_TYPE_WORDS}
 use Rattle.gh_mutator.specs.New.{wanted_of}
-use Rattle.gh_mutator.specs.Sound.{IsRegister, SoundWanted}
+use Rattle.gh_poll.specs.Registers.{IsRegister}
+use Rattle.gh_mutator.specs.Sound.{SoundWanted}
 
 -- the words of a slot of a small object, and of a large one
 pub record SmallFacts (words : ℕ) : Type 0 where

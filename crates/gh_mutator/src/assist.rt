@@ -1,50 +1,11 @@
-//! The assist of a processor: who makes an object while marking is on marks for it.
-//!
-//! `gh_assist` has the assist, and why it is made so. It is begun with the buffer that the processor holds, and with what it
-//! owes from before; where it has ended the processor holds what that held, and owes what is left. The buffer may be full
-//! then, or none: the next poll sees to it that a store has room.
+//! What a processor has drawn from the bank of credit, also while it assists.
 
-ghost use Rattle.std.specs.Prelude.{◌≡◌, ◌*◌, ◌^◌, ◌≤◌, true};
-ghost use Rattle.gh_assist.specs.Listing as assists;
-ghost use Rattle.gh_assist.specs.Listing.{opening};
-ghost use Rattle.gh_mutator.specs.GiveSound.{Runs};
-ghost use Rattle.gh_mutator.specs.New.{with_payment};
+ghost use Rattle.std.specs.Prelude.{◌≡◌};
 ghost use Rattle.gh_mutator.specs.Spending.{spent_of};
 
 use crate::new::NewStage;
-use crate::poll::Poll;
 use crate::processor::Processor;
 use crate::task::Task;
-use gh_assist::Assist;
-
-impl Poll {
-    /// The assist for an object of so many words of its slot.
-    pub(crate) fn assist(&self, slot: u32) -> Assist
-        requires slot { 8 * slot ≤ 2 ^ 31 }
-        ensures is { result ≡ opening self.now.layout self.now.seat self.now.local.held (8 * slot) self.now.local.owed self.now.local.spent }
-        ensures runs { Runs self.now.layout result.layout (assists.is_busy result.stage) }
-    {
-        let (held, owed, spent) = (self.local.held, self.local.owed, self.local.spent);
-        Assist::new(
-            &self.layout,
-            self.seat,
-            held,
-            8 * u64::from(slot),
-            owed,
-            spent,
-        )
-    }
-
-    /// The processor holds what this assist holds, and owes and has drawn what that says.
-    pub(crate) fn pay(&mut self, assist: &Assist)
-        requires layout { assist.now.layout ≡ self.old.layout }
-        ensures { self.new ≡ with_payment self.old assist.now }
-    {
-        self.local.held = assist.held();
-        self.local.owed = assist.owed();
-        self.local.spent = assist.spent();
-    }
-}
 
 impl<'s> Processor<'s> {
     /// The words that it has ever drawn from the bank. While it assists, the assist counts them.
@@ -56,6 +17,6 @@ impl<'s> Processor<'s> {
                 return assist.spent();
             }
         }
-        self.poll.local.spent
+        self.poll.spent()
     }
 }

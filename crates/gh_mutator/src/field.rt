@@ -12,7 +12,7 @@ ghost use Rattle.gh_base.specs.Cells.{InRange};
 ghost use Rattle.gh_mutator.specs.Fields.{birth_cell, field_cell, has_field, is_pointer_by, kinds_differ, page_cell, value_of, word_of_value};
 ghost use Rattle.gh_barrier.specs.Listing.{cell_at};
 ghost use Rattle.gh_mutator.specs.AtOnce.{bits_cell};
-ghost use Rattle.gh_mutator.specs.Sound.{IsNear};
+ghost use Rattle.gh_poll.specs.Registers.{IsNear};
 ghost use Rattle.gh_mutator.specs.Store.{pointer_cell_at};
 
 use gh_barrier::PointerCell;

@@ -7,21 +7,22 @@ ghost use Rattle.gh_base.specs.declared.layout.Layout.{Layout};
 ghost use Rattle.gh_base.specs.declared.value.Value.{Value};
 ghost use Rattle.gh_mutator.specs.Fields.{value_told};
 ghost use Rattle.gh_barrier.specs.Listing as writes;
-ghost use Rattle.gh_mutator.specs.Barrier.{has_entries, held_then, with_held};
-ghost use Rattle.gh_mutator.specs.GiveSound.{Runs};
+ghost use Rattle.gh_poll.specs.Barrier.{has_entries, held_then, with_held};
+ghost use Rattle.gh_poll.specs.GiveSound.{Runs};
 ghost use Rattle.gh_mutator.specs.Global.{after_write, asks, at_stage, begins_load, begins_store, held_behind, naming, step, stores};
 ghost use Rattle.gh_mutator.specs.Listing.{applied};
 ghost use Rattle.gh_mutator.specs.Processor.{keeping, register_of};
 ghost use Rattle.gh_mutator.specs.Step.{answered};
 ghost use Rattle.gh_mutator.specs.declared.task.Task.TheVariants as task;
-ghost use Rattle.gh_mutator.specs.Sound.{GlobalRoom, IsNear, IsRegister};
+ghost use Rattle.gh_poll.specs.Registers.{IsNear, IsRegister};
+ghost use Rattle.gh_mutator.specs.Sound.{GlobalRoom};
 
 use crate::field::{birth_cell, value_of, word_of_value};
-use crate::poll::Poll;
 use crate::processor::Processor;
 use crate::step::{Step, Then};
 use gh_barrier::{PointerCell, WritePointer};
 use gh_base::{Answer, Ask, Cell, Fault, Machine, Name, Req, Value};
+use gh_poll::Poll;
 
 /// Where the load or the store of a global stands.
 #[derive(Clone, Copy, Debug, PartialEq, Eq)]

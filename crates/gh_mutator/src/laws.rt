@@ -3,8 +3,6 @@
 ghost use Rattle.gh_mutator.specs.Acting.{EachOperationActsOnce};
 ghost use Rattle.gh_mutator.specs.Asking.{ProcessorsAskAtTheTrigger};
 ghost use Rattle.gh_mutator.specs.Deeds.{OnlyPointsChange, ProcessorsDeedsFit};
-ghost use Rattle.gh_mutator.specs.Handshake.{LeavesInHandshake, PollsInHandshake, WaitsInHandshake};
-ghost use Rattle.gh_mutator.specs.MarkFacts.{LeavesByMoves, PollsByMoves, WaitsByMoves};
 ghost use Rattle.gh_mutator.specs.PollRoom.{PollsMakeRoom};
 ghost use Rattle.gh_mutator.specs.ProcessorMarks.{MarksByMoves};
 ghost use Rattle.gh_mutator.specs.ProcessorPlaces.{ProcessorInHandshake};
@@ -18,7 +16,10 @@ use gh_assist::laws::{assists_are_quiet, assists_by_moves};
 use gh_barrier::laws::writes_by_moves;
 use gh_class::size_class_laws;
 use gh_marks::laws::{facts_last, hands_follow, own_moves_leave, steps_go_by_moves};
-use gh_phase::laws::going_on_keeps_the_handshake;
+use gh_poll::laws::{
+    leaves_by_moves, leaves_keep_the_handshake, polls_by_moves, polls_keep_the_handshake,
+    waits_by_moves, waits_keep_the_handshake, what_polls_run_is_quiet,
+};
 use gh_scan::laws::marking_is_quiet;
 use gh_shade::laws::shades_by_moves;
 use gh_stack::laws::stacks_are_scanned_by_moves;
@@ -52,35 +53,10 @@ pub fn polls_make_room()
 pub fn the_processor_is_quiet()
     ensures { ProcessorIsQuiet }
 {
+    what_polls_run_is_quiet();
     marking_is_quiet();
     allocation_is_quiet();
     assists_are_quiet();
-}
-
-/// Each step of a poll is one of the handshake of a stop. It begins awake; where it finds a stop it gives back what
-/// is held, acknowledges with no span cached and no buffer held, and goes on; then it is awake again until it
-/// ends.
-pub fn polls_keep_the_handshake()
-    ensures { PollsInHandshake }
-{
-    the_processor_is_quiet();
-    marking_is_quiet();
-    going_on_keeps_the_handshake();
-}
-
-/// Each step of a wait is one of the handshake of a stop: between its polls the processor is awake.
-pub fn waits_keep_the_handshake()
-    ensures { WaitsInHandshake }
-{
-    polls_keep_the_handshake();
-}
-
-/// Each step of a leave is one of the handshake of a stop: while it gives back what is held the processor is
-/// awake, and with its last step it says that it is gone.
-pub fn leaves_keep_the_handshake()
-    ensures { LeavesInHandshake }
-{
-    the_processor_is_quiet();
 }
 
 /// Each step of a processor is one of the handshake of a stop, whatever it runs: it is awake, but where its poll, or
@@ -94,52 +70,6 @@ pub fn the_processor_keeps_the_handshake()
     polls_keep_the_handshake();
     waits_keep_the_handshake();
     leaves_keep_the_handshake();
-}
-
-/// Whatever any number of actors do beside it while marking is on: each step of a poll is made of moves that its
-/// seat may make, and what is known at each stage holds then and lasts. What it scans is the stack of a goroutine
-/// of its own, and each register of it is clean where it says so. It has in hand what the stage says and nothing
-/// else, so where it acknowledges a stop it has nothing.
-pub fn polls_by_moves()
-    ensures { PollsByMoves }
-{
-    the_processor_is_quiet();
-    marking_is_quiet();
-    facts_last();
-    hands_follow();
-    own_moves_leave();
-    steps_go_by_moves();
-    buffers_pass_by_moves();
-    shades_by_moves();
-    stacks_are_scanned_by_moves();
-}
-
-/// The same of a wait.
-pub fn waits_by_moves()
-    ensures { WaitsByMoves }
-{
-    polls_by_moves();
-    facts_last();
-    hands_follow();
-    own_moves_leave();
-    steps_go_by_moves();
-    buffers_pass_by_moves();
-    shades_by_moves();
-    stacks_are_scanned_by_moves();
-}
-
-/// The same of a leave: where a processor says that it is gone it has nothing in hand.
-pub fn leaves_by_moves()
-    ensures { LeavesByMoves }
-{
-    the_processor_is_quiet();
-    facts_last();
-    hands_follow();
-    own_moves_leave();
-    steps_go_by_moves();
-    buffers_pass_by_moves();
-    shades_by_moves();
-    stacks_are_scanned_by_moves();
 }
 
 /// While a cycle is marked, each step of a processor that polls, waits for a cycle or leaves is made of moves that its

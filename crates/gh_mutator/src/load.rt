@@ -7,7 +7,8 @@ ghost use Rattle.gh_base.specs.Steps.{cell_of};
 ghost use Rattle.gh_base.specs.declared.layout.Layout.{Layout};
 ghost use Rattle.gh_mutator.specs.Fields.{value_told};
 ghost use Rattle.gh_mutator.specs.Load.{asks, at_stage, begins, naming, step};
-ghost use Rattle.gh_mutator.specs.Sound.{IsNear, SoundLoad};
+ghost use Rattle.gh_poll.specs.Registers.{IsNear};
+ghost use Rattle.gh_mutator.specs.Sound.{SoundLoad};
 
 use crate::field::{birth_cell, field_cell, has_field, is_pointer_by, page_cell, value_of};
 use crate::step::{Step, Then};

@@ -10,12 +10,13 @@ ghost use Rattle.gh_mutator.specs.AtOnce.{object_in};
 ghost use Rattle.gh_mutator.specs.Faults.{rested};
 ghost use Rattle.gh_mutator.specs.Listing.{is_searching, search_goes_on};
 ghost use Rattle.gh_mutator.specs.Mutating.{acts, asks, begins, goes, is_busy, opening, passes, sets};
-ghost use Rattle.gh_mutator.specs.Barrier.{has_entries};
+ghost use Rattle.gh_poll.specs.Barrier.{has_entries};
 ghost use Rattle.gh_mutator.specs.Processor.{register_of, set_register};
-ghost use Rattle.gh_mutator.specs.Room.{room_in};
+ghost use Rattle.gh_poll.specs.Room.{room_in};
 ghost use Rattle.gh_mutator.specs.Serving.{has_left_at, is_last, is_point, is_serving, statement_answer};
 ghost use Rattle.gh_base.specs.Shapes.{ShapesFit};
-ghost use Rattle.gh_mutator.specs.Sound.{has_names, has_room, IsNear, IsRegister, SoundOp};
+ghost use Rattle.gh_poll.specs.Registers.{IsNear, IsRegister};
+ghost use Rattle.gh_mutator.specs.Sound.{has_names, has_room, SoundOp};
 ghost use Rattle.gh_mutator.specs.Spending.{spent_of};
 
 use crate::new::NewStage;

@@ -13,18 +13,19 @@ ghost use Rattle.gh_alloc.specs.Place as places;
 ghost use Rattle.gh_mutator.specs.New.{after_found, answer_found, answer_made, next_of, own_span, searches, seeking, wanted_of};
 ghost use Rattle.gh_mutator.specs.NewParts.{after_making, made_at, made_by_step, MakingFits};
 ghost use Rattle.gh_mutator.specs.Processor.{at_task, made_by};
-ghost use Rattle.gh_mutator.specs.Local.{marking_at};
+ghost use Rattle.gh_poll.specs.Local.{marking_at};
 ghost use Rattle.gh_mutator.specs.Serving.{is_making};
 ghost use Rattle.gh_base.specs.Shapes.{ShapesFit};
-ghost use Rattle.gh_mutator.specs.Sound.{IsRegister, Sound, SoundWanted};
+ghost use Rattle.gh_poll.specs.Registers.{IsRegister};
+ghost use Rattle.gh_mutator.specs.Sound.{Sound, SoundWanted};
 
 use crate::processor::Processor;
 use crate::task::Task;
-use crate::wait::Wait;
 use gh_alloc::{Found, Place, Search, Sought};
 use gh_assist::Assist;
 use gh_base::{Answer, Machine, Name, Shapes, SpanHead, Value};
 use gh_class::{SizeClass, SpanClass, size_class_laws, slot_words};
+use gh_poll::Wait;
 
 /// An object that is to be made: of type `t`, for register `d` of goroutine `g`.
 #[derive(Clone, Copy, Debug, PartialEq, Eq)]

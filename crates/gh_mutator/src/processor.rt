@@ -1,26 +1,26 @@
 //! A processor: its private state, and where an operation begins.
 
 ghost use Rattle.std.specs.Prelude.{◌≡◌, ◌<◌, true};
-ghost use Rattle.gh_mutator.specs.Barrier.{has_entries};
+ghost use Rattle.gh_poll.specs.Barrier.{has_entries};
 ghost use Rattle.gh_mutator.specs.Global as globals;
-ghost use Rattle.gh_mutator.specs.Local.{leaving, with_nothing};
+ghost use Rattle.gh_poll.specs.Local.{leaving, with_nothing};
 ghost use Rattle.gh_mutator.specs.Listing.{begins, is_busy_at};
 ghost use Rattle.gh_mutator.specs.Processor.{at_poll, at_task, opening_processor, register_of};
 ghost use Rattle.gh_mutator.specs.declared.task.Task.TheVariants as task;
 ghost use Rattle.gh_mutator.specs.Register as register;
 ghost use Rattle.gh_base.specs.Shapes.{ShapesFit};
-ghost use Rattle.gh_mutator.specs.Sound.{has_names, has_room, IsNear, IsRegister, Sound, SoundOp};
+ghost use Rattle.gh_poll.specs.Registers.{IsNear, IsRegister};
+ghost use Rattle.gh_mutator.specs.Sound.{has_names, has_room, Sound, SoundOp};
 
 use crate::global::Global;
 use crate::load::Load;
-use crate::poll::{Local, Poll};
 use crate::register::{Register, Source};
 use crate::store::Store;
 use crate::task::{Statement, Task};
-use crate::wait::Wait;
 use gh_base::limits::MOST_GOROUTINES;
 use gh_base::{Layout, Op, Shapes};
 use gh_class::size_class_laws;
+use gh_poll::{Local, Poll, Wait};
 
 /// A processor.
 #[derive(Drop)]

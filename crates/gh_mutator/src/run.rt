@@ -8,15 +8,16 @@ ghost use Rattle.gh_base.specs.Steps.{cell_of, request};
 ghost use Rattle.gh_base.specs.declared.value.Answer.TheVariants.{Done, Swept};
 ghost use Rattle.gh_mutator.specs.Listing.{acts, after_gc, after_poll, applied, asks, gives, is_busy_at, once_ended, takes};
 ghost use Rattle.gh_mutator.specs.Load as load;
-ghost use Rattle.gh_mutator.specs.Local.{with_ended};
-ghost use Rattle.gh_mutator.specs.Poll as polls;
+ghost use Rattle.gh_poll.specs.Local.{with_ended};
+ghost use Rattle.gh_poll.specs.Poll as polls;
 ghost use Rattle.gh_mutator.specs.Processor.{at_poll, at_task, register_of};
 ghost use Rattle.gh_mutator.specs.Register as register;
 ghost use Rattle.gh_mutator.specs.Serving.{is_point, is_serving};
-ghost use Rattle.gh_mutator.specs.Sound.{IsRegister, LeavesSo, Sound, SoundLoad, SoundRegister};
+ghost use Rattle.gh_poll.specs.Registers.{IsRegister};
+ghost use Rattle.gh_mutator.specs.Sound.{LeavesSo, Sound, SoundLoad, SoundRegister};
 ghost use Rattle.gh_mutator.specs.Step.{answered};
-ghost use Rattle.gh_mutator.specs.Wait as waits;
-ghost use Rattle.gh_mutator.specs.WaitSound.{FitsWait};
+ghost use Rattle.gh_poll.specs.Wait as waits;
+ghost use Rattle.gh_poll.specs.WaitSound.{SoundWaiting};
 ghost use Rattle.gh_mutator.specs.declared.task.Task.TheVariants as task;
 
 use crate::load::Load;
@@ -25,9 +26,9 @@ use crate::processor::Processor;
 use crate::register::Register;
 use crate::step::{Step, Then};
 use crate::task::{Statement, Task};
-use crate::wait::Wait;
 use gh_base::{Answer, Ask, Cell, END, Machine, Req, Shapes};
 use gh_class::size_class_laws;
+use gh_poll::Wait;
 
 impl<'s> Processor<'s> {
     /// The step that it asks for.
@@ -132,7 +133,7 @@ impl<'s> Processor<'s> {
 
     /// Goes on with this wait of a `gc` of goroutine `g`.
     fn take_gc(&mut self, g: u32, wait: Wait, found: u64) -> Option<Answer>
-        requires { FitsWait self.old.poll wait }
+        requires { SoundWaiting self.old.poll wait }
         ensures goes { self.new ≡ after_gc self.old g (waits.goes (waits.waiting wait self.old.poll) found) (waits.gives (waits.waiting wait self.old.poll) found) }
         ensures gives { result ≡ once_ended (waits.gives (waits.waiting wait self.old.poll) found) Swept }
     {

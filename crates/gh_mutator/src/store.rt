@@ -4,24 +4,25 @@ ghost use Rattle.std.specs.Prelude.{◌≡◌, true};
 ghost use Rattle.gh_barrier.specs.Listing as writes;
 ghost use Rattle.gh_base.specs.Cells.{InRange};
 ghost use Rattle.gh_base.specs.Steps.{cell_of, request};
-ghost use Rattle.gh_mutator.specs.Barrier.{has_entries, held_then, with_held};
-ghost use Rattle.gh_mutator.specs.GiveSound.{Runs};
+ghost use Rattle.gh_poll.specs.Barrier.{has_entries, held_then, with_held};
+ghost use Rattle.gh_poll.specs.GiveSound.{Runs};
 ghost use Rattle.gh_mutator.specs.Listing.{applied};
 ghost use Rattle.gh_mutator.specs.Processor.{keeping, register_of};
 ghost use Rattle.gh_mutator.specs.Step.{answered};
 ghost use Rattle.gh_mutator.specs.declared.task.Task.TheVariants as task;
-ghost use Rattle.gh_mutator.specs.Sound.{IsFieldNumber, IsNear, SoundStore, StoreRoom};
+ghost use Rattle.gh_poll.specs.Registers.{IsNear};
+ghost use Rattle.gh_mutator.specs.Sound.{IsFieldNumber, SoundStore, StoreRoom};
 ghost use Rattle.gh_mutator.specs.Store.{after_write, asks, at_stage, begins, by_kind, held_behind, step, stores};
 
 use crate::field::{
     field_cell, has_field, is_pointer_by, kinds_differ, page_cell, pointer_cell, word_of_value,
 };
-use crate::poll::Poll;
 use crate::processor::Processor;
 use crate::step::Step;
 use gh_barrier::WritePointer;
 use gh_base::{Answer, Ask, Cell, Fault, Layout, Machine, Req, Value};
 use gh_bitmap::ReadPointer;
+use gh_poll::Poll;
 
 /// Where a store stands.
 #[derive(Clone, Copy, Debug, PartialEq, Eq)]

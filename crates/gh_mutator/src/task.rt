@@ -3,12 +3,11 @@
 ghost use Rattle.std.specs.Prelude.{◌≡◌};
 
 use crate::global::Global;
-use crate::leave::Leave;
 use crate::load::Load;
 use crate::new::New;
 use crate::register::Register;
 use crate::store::Store;
-use crate::wait::Wait;
+use gh_poll::{Leave, Wait};
 
 /// What the processor is at. Each statement is a small machine, in the file of its name.
 #[derive(Drop)]
@@ -29,7 +28,7 @@ pub enum Task<'s> {
     New(New<'s>),
     /// A `gc` of this goroutine: the processor waits for a cycle.
     Gc(u32, Wait),
-    /// A poll of a turn's own. It is the processor's [`crate::Poll`] that runs.
+    /// A poll of a turn's own. It is the processor's [`gh_poll::Poll`] that runs.
     Poll,
     /// This goroutine ends: its stack counts as scanned in each cycle to come.
     End(u32),

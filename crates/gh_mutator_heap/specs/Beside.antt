@@ -11,9 +11,9 @@ use Rattle.gh_marks.specs.Good.{Good as MarkingGood}
 use Rattle.gh_marks.specs.Moves.{Went}
 use Rattle.gh_phase.specs.declared.view.RunPhase.TheVariants.{Mark}
 use Rattle.gh_mutator.specs.declared.task.Task.TheVariants as task
-use Rattle.gh_mutator_heap.specs.Facts.{Fine, MayBegin, ShapesAreGood}
+use Rattle.gh_mutator_heap.specs.Facts.{ProcessorFacts, MayBegin, ShapesAreGood}
 use Rattle.gh_mutator.specs.Listing.{asks, begins, is_busy_at, takes}
-use Rattle.gh_mutator.specs.MarkFacts.{KnowsCycle}
+use Rattle.gh_poll.specs.MarkFacts.{KnowsCycle}
 use Rattle.gh_mutator.specs.ProcessorMarks.{MarkFacts, only_polls}
 use Rattle.gh_mutator_heap.specs.Runs.{DoesPoints}
 use Rattle.gh_mutator.specs.Sound.{has_room}
@@ -35,7 +35,7 @@ pub record Together (z : Cycle) (a : ℕ) (h : Heap) (s : Marking) (m : Processo
   pub sound : IsSound m
   -- while a cycle is marked each span is swept
   pub sweeps : sweep_in m ≡ None
-  pub fine : Fine z.arena a (view h) m pending
+  pub fine : ProcessorFacts z.arena a (view h) m pending
   pub facts : MarkFacts z a s m
 
 -- while it runs a statement, or ends a goroutine, it knows that marking is on

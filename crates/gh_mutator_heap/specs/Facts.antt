@@ -23,15 +23,15 @@ use Rattle.gh_mutator.specs.declared.load.LoadStage.TheVariants as load_stage
 use Rattle.gh_mutator.specs.declared.register.Source.TheVariants as source
 use Rattle.gh_mutator.specs.declared.store.StoreStage.TheVariants as store_stage
 use Rattle.gh_mutator.specs.declared.task.Task.TheVariants as task
-use Rattle.gh_mutator.specs.Barrier.{WritesIt}
+use Rattle.gh_poll.specs.Barrier.{WritesIt}
 use Rattle.gh_mutator.specs.Deeds.{acted, answer_at}
 use Rattle.gh_mutator.specs.Listing.{Act, acts, asks, gives, takes}
-use Rattle.gh_mutator.specs.Local.{cache_with, register_at}
+use Rattle.gh_poll.specs.Local.{cache_with, register_at}
 use Rattle.gh_mutator.specs.New.{is_made, own_span, sought_for, wanted_of}
 use Rattle.gh_mutator_heap.specs.PollHeap.{KnowsAtAnyTime, leave_held, leave_locked, LeaveFacts, lists, no_page, poll_held, poll_locked, PollFacts, Rests, WaitFacts, waits_held, waits_locked}
 use Rattle.gh_mutator.specs.Processor.{cached_for}
 use Rattle.gh_mutator.specs.Store.{pointer_cell_at}
-use Rattle.gh_mutator.specs.Wait.{waiting}
+use Rattle.gh_poll.specs.Wait.{waiting}
 
 -- what is answered where it acts, in the heap that never frees
 abbrev pub answered_at : List Shape → Ever → Option Act → Option Answer
@@ -231,7 +231,7 @@ FactsAt z a v m pending (task.New x) = NewFacts z a v m x.wanted pending x.stage
 FactsAt z a v m pending (task.End g) = GoroutineRuns z v a g × (pending ≡ None)
 FactsAt z a v m pending _ = pending ≡ None
 
-pub record Fine (z : Arena) (a : ℕ) (v : View) (m : Processor) (pending : Option Answer) : Type 0 where
+pub record ProcessorFacts (z : Arena) (a : ℕ) (v : View) (m : Processor) (pending : Option Answer) : Type 0 where
   pub counts : KnowsCounts z a v m.made
   pub knows : KnowsAt z a v m.poll m.task
   pub right : HasAt a v m m.task
@@ -264,7 +264,7 @@ CountsAlone _ s t = Unit {0}
 -- What a step that found this comes to in t, from s: what is known of the processor then, with the answer that is pending; the heap that never frees, if it was a point; what is answered; that there was no room where it says so; and what changes where it counts an object's bytes.
 pub record Does (z : Arena) (a : ℕ) (s t : Shared) (m : Processor) (pending : Option Answer) (found : ℕ) : Type 0 where
   pub after : Option Answer
-  pub fine : Fine z a (view t) (takes z.shapes m found) after
+  pub fine : ProcessorFacts z a (view t) (takes z.shapes m found) after
   pub ever : t.ever ≡ acted z.shapes s.ever (acts m found)
   pub answers : option_to_list (answered_at z.shapes s.ever (acts m found)) ++ option_to_list pending ≡ option_to_list after ++ option_to_list (gives m found)
   pub full : (x : Act) → acts m found ≡ Some x → x.full ≡ true → FullAt z a (view s) m x.op
@@ -273,12 +273,12 @@ pub record Does (z : Arena) (a : ℕ) (s t : Shared) (m : Processor) (pending : 
 
 -- a step of its own, at this task
 abbrev pub OwnStepAt : Task → Type 0
-OwnStepAt q = (z : Arena) (a : ℕ) (s : Shared) (m : Processor) (pending : Option Answer) → ShapesAreGood z.shapes → m.task ≡ q → Good z (view s) → Fine z a (view s) m pending →
+OwnStepAt q = (z : Arena) (a : ℕ) (s : Shared) (m : Processor) (pending : Option Answer) → ShapesAreGood z.shapes → m.task ≡ q → Good z (view s) → ProcessorFacts z a (view s) m pending →
     Steps z a s (asks m) (λ t. Does z a s t m pending (s.words (cell_of (asks m))))
 
 -- the steps of others
 abbrev pub Lasts : Type 0
-Lasts = (z : Arena) (a : ℕ) (v w : View) (m : Processor) (pending : Option Answer) → Good z v → Others z a v w → Fine z a v m pending → Fine z a w m pending
+Lasts = (z : Arena) (a : ℕ) (v w : View) (m : Processor) (pending : Option Answer) → Good z v → Others z a v w → ProcessorFacts z a v m pending → ProcessorFacts z a w m pending
 
 -- What may begin: of a goroutine of this processor that has not ended, with registers, global and type in range, and a name for what is to be made; and at any time a `gc`, a poll and a leave.
 abbrev pub MayBegin : Arena → (a : ℕ) → View → Op → Type 0

@@ -6,17 +6,17 @@ use Rattle.gh_phase.specs.declared.resume.ResumeStage.{ResumeStage}
 use Rattle.gh_phase.specs.declared.resume.ResumeStage.TheVariants as resume_stage
 use Rattle.gh_phase.specs.declared.view.View.{View as PhaseView}
 use Rattle.gh_phase.specs.Listing as resume
-use Rattle.gh_wbuf.specs.Sound.{FitsGiveStage}
-use Rattle.gh_mutator.specs.declared.give.GiveStage.{GiveStage}
-use Rattle.gh_mutator.specs.declared.give.GiveStage.TheVariants as give_stage
-use Rattle.gh_mutator.specs.declared.leave.LeaveStage.{LeaveStage}
-use Rattle.gh_mutator.specs.declared.leave.LeaveStage.TheVariants as leave_stage
-use Rattle.gh_mutator.specs.declared.poll.PollStage.{PollStage}
-use Rattle.gh_mutator.specs.declared.poll.PollStage.TheVariants as poll_stage
-use Rattle.gh_mutator.specs.declared.wait.WaitStage.{WaitStage}
-use Rattle.gh_mutator.specs.declared.wait.WaitStage.TheVariants as wait_stage
-use Rattle.gh_mutator.specs.Give.{Giving, none_cached, span_class}
-use Rattle.gh_mutator.specs.Local.{cached_in, register_at}
+use Rattle.gh_wbuf.specs.Sound.{SoundGiveStage}
+use Rattle.gh_poll.specs.declared.give.GiveStage.{GiveStage}
+use Rattle.gh_poll.specs.declared.give.GiveStage.TheVariants as give_stage
+use Rattle.gh_poll.specs.declared.leave.LeaveStage.{LeaveStage}
+use Rattle.gh_poll.specs.declared.leave.LeaveStage.TheVariants as leave_stage
+use Rattle.gh_poll.specs.declared.poll.PollStage.{PollStage}
+use Rattle.gh_poll.specs.declared.poll.PollStage.TheVariants as poll_stage
+use Rattle.gh_poll.specs.declared.wait.WaitStage.{WaitStage}
+use Rattle.gh_poll.specs.declared.wait.WaitStage.TheVariants as wait_stage
+use Rattle.gh_poll.specs.Give.{Giving, none_cached, span_class}
+use Rattle.gh_poll.specs.Local.{cached_in, register_at}
 use Rattle.gh_mutator_heap.specs.PollWithin.{FindsWithin, ScansWithin}
 use Rattle.gh_mutator.specs.Vocabulary.{CachedSpan, IsOf, Leaving, MOST_GOROUTINES, Polling, REGISTERS, Small, SpanClass, Waiting}
 use Rattle.gh_mutator_heap.specs.Vocabulary.{Arena, Means, Right, SPAN_CLASSES, View}
@@ -24,7 +24,7 @@ use Rattle.gh_mutator_heap.specs.Vocabulary.{Arena, Means, Right, SPAN_CLASSES, 
 -- Between two operations.
 
 -- the processor is at this seat, in this arena; its tables are whole, and there is such a buffer as it holds
-pub record Sits (z : Arena) (a : ℕ) (p : Polling) : Type 0 where
+pub record SeatFacts (z : Arena) (a : ℕ) (p : Polling) : Type 0 where
   pub layout : p.layout ≡ z.layout
   pub seat : p.seat ≡ a
   pub few : a < z.layout.procs
@@ -40,7 +40,7 @@ PollRegistersFit z a v p = (g d : ℕ) → IsOf z a g → d < REGISTERS → Mean
 
 -- what it knows at any time, whatever it is at
 pub record KnowsAtAnyTime (z : Arena) (a : ℕ) (v : View) (p : Polling) : Type 0 where
-  pub sits : Sits z a p
+  pub sits : SeatFacts z a p
   pub registers : PollRegistersFit z a v p
 
 -- it holds each span that it has cached, and the slots before its cursor are taken
@@ -148,7 +148,7 @@ abbrev pub GiveStageFacts : Arena → (a : ℕ) → View → Giving → GiveStag
 GiveStageFacts z a v g give_stage.Lock = CachesFrom a v g.cache 0
 GiveStageFacts z a v g (give_stage.GiveSpan class s) = GivesSpan a v g.cache class s
 GiveStageFacts z a v g give_stage.Unlock = Unit {0}
-GiveStageFacts z a v g (give_stage.GiveBuffer b) = (g.cache ≡ none_cached) × FitsGiveStage z.layout b.stage
+GiveStageFacts z a v g (give_stage.GiveBuffer b) = (g.cache ≡ none_cached) × SoundGiveStage z.layout b.stage
 GiveStageFacts z a v g give_stage.Ended = (g.cache ≡ none_cached) × (g.held ≡ None)
 
 -- the giving back, which writes the sweep generation

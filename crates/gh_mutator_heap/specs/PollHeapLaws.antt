@@ -3,14 +3,14 @@ use Rattle.std.specs.Prelude.{◌≡◌, ℕ, Bool, false}
 use Rattle.gh_base.specs.Cells.{InRange}
 use Rattle.gh_heap.specs.Moves.{KeepsObjects, Others, Steps}
 use Rattle.gh_phase.specs.Shakes.{IsParked}
-use Rattle.gh_mutator.specs.Handshake.{leaves_at, poll_stage_of, wait_stage_of}
-use Rattle.gh_mutator.specs.Leave as leave
-use Rattle.gh_mutator.specs.Local.{leaving, with_nothing}
-use Rattle.gh_mutator.specs.Poll as poll
+use Rattle.gh_poll.specs.Handshake.{leaves_at, poll_stage_of, wait_stage_of}
+use Rattle.gh_poll.specs.Leave as leave
+use Rattle.gh_poll.specs.Local.{leaving, with_nothing}
+use Rattle.gh_poll.specs.Poll as poll
 use Rattle.gh_mutator_heap.specs.PollHeap.{Has, KeepsGhosts, LeaveFacts, PollFacts, Rests, KnowsAtAnyTime, WaitFacts, leave_held, leave_locked, lists, no_page, poll_held, poll_locked, waits_held, waits_locked}
 use Rattle.gh_mutator.specs.Vocabulary.{Leaving, Polling, Waiting, cell_of}
 use Rattle.gh_mutator_heap.specs.Vocabulary.{Arena, Good, Shared, View, view}
-use Rattle.gh_mutator.specs.Wait as wait
+use Rattle.gh_poll.specs.Wait as wait
 
 -- between two operations, with no lock and what is cached
 abbrev pub IsBetweenOperations : Arena → (a : ℕ) → View → Polling → Type 0

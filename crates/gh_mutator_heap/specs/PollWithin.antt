@@ -4,29 +4,29 @@ use Rattle.gh_base.specs.declared.layout.Layout.{Layout}
 use Rattle.gh_base.specs.Cells.{seats_of}
 use Rattle.gh_base.specs.Holding.{IsHeld}
 use Rattle.gh_shade.specs.Listing.{Shading as ShadeState}
-use Rattle.gh_shade.specs.Sound.{FitsShade}
+use Rattle.gh_shade.specs.Sound.{SoundShading}
 use Rattle.gh_wbuf.specs.declared.find_room.RoomStage.{RoomStage}
 use Rattle.gh_wbuf.specs.declared.find_room.RoomStage.TheVariants as room_stage
 use Rattle.gh_wbuf.specs.RoomFinding.{RoomFinding}
-use Rattle.gh_wbuf.specs.Sound.{FitsRoom}
-use Rattle.gh_wbuf.specs.TrySound.{FitsTry}
-use Rattle.gh_mutator.specs.declared.mark_stack.MarkStackStage.{MarkStackStage}
-use Rattle.gh_mutator.specs.declared.mark_stack.MarkStackStage.TheVariants.{Shading, FindRoom}
-use Rattle.gh_mutator.specs.MarkStack.{StackMarking}
+use Rattle.gh_wbuf.specs.Sound.{SoundRoomFinding}
+use Rattle.gh_wbuf.specs.TrySound.{SoundTrying}
+use Rattle.gh_poll.specs.declared.mark_stack.MarkStackStage.{MarkStackStage}
+use Rattle.gh_poll.specs.declared.mark_stack.MarkStackStage.TheVariants.{Shading, FindRoom}
+use Rattle.gh_poll.specs.MarkStack.{StackMarking}
 
 -- the buffer that is tried is one of the layout's
 abbrev pub TriesWithin : RoomStage → Type 0
-TriesWithin (room_stage.Try t) = FitsTry t
+TriesWithin (room_stage.Try t) = SoundTrying t
 TriesWithin _ = Unit {0}
 
 pub record FindsWithin (l : Layout) (r : RoomFinding) : Type 0 where
   pub layout_is : r.layout ≡ l
-  pub fits : FitsRoom r
+  pub fits : SoundRoomFinding r
   pub tries : TriesWithin r.stage
 
 pub record StackShadesWithin (l : Layout) (s : ShadeState) : Type 0 where
   pub layout_is : s.layout ≡ l
-  pub fits : FitsShade s
+  pub fits : SoundShading s
 
 abbrev pub MarkStackStageWithin : Layout → MarkStackStage → Type 0
 MarkStackStageWithin l (Shading s) = StackShadesWithin l s

@@ -3,7 +3,7 @@ use Rattle.std.specs.Prelude.{◌≡◌, ℕ, true, List, Option, Some, None}
 use Rattle.gh_sweep.specs.Listing.{is_busy, Sweeping}
 use Rattle.gh_sweep.specs.Running.{BeginsSweep, SweepsOn}
 use Rattle.gh_mutator.specs.Deeds.{processor_kind}
-use Rattle.gh_mutator_heap.specs.Facts.{Fine}
+use Rattle.gh_mutator_heap.specs.Facts.{ProcessorFacts}
 use Rattle.gh_mutator.specs.Listing.{asks, takes}
 use Rattle.gh_mutator.specs.Processor.{opening_processor}
 use Rattle.gh_mutator.specs.Vocabulary.{Answer, Layout, Op, Shape}
@@ -17,4 +17,4 @@ pub record ProcessorsRunSweeps : Type 0 where
   -- while it runs a sweep its step is the sweep's, and it runs that on until it has ended
   pub on : (shapes : List Shape) (m : Processor) (sw : Sweeping) → sweep_in m ≡ Some sw → is_busy sw.stage ≡ true → SweepsOn asks (takes shapes) sweep_in m sw
   -- it begins one where it finds the head of a span with the number before the sweep generation
-  pub begins : (z : Arena) (a : ℕ) (v : View) (m : Processor) (pending : Option Answer) (found : ℕ) (sw : Sweeping) → Fine z a v m pending → sweep_in m ≡ None → sweep_in (takes z.shapes m found) ≡ Some sw → BeginsSweep z.layout v.generation (asks m) found sw
+  pub begins : (z : Arena) (a : ℕ) (v : View) (m : Processor) (pending : Option Answer) (found : ℕ) (sw : Sweeping) → ProcessorFacts z a v m pending → sweep_in m ≡ None → sweep_in (takes z.shapes m found) ≡ Some sw → BeginsSweep z.layout v.generation (asks m) found sw

@@ -17,17 +17,17 @@ pub use Rattle.gh_heap.specs.Rights.{Arena, Good, Right, Shared, view, View}
 pub use Rattle.gh_heap.specs.Spans.{slot_size}
 pub use Rattle.gh_model.specs.Ever.{answer_of, answer_of_value, Ever, ever_after, fits, is_number, Reach, takes_answer, with_register}
 pub use Rattle.gh_model.specs.declared.EverValue.{EverValue}
-pub use Rattle.gh_mutator.specs.declared.give.GiveStage.{GiveStage}
+pub use Rattle.gh_poll.specs.declared.give.GiveStage.{GiveStage}
 pub use Rattle.gh_mutator.specs.declared.global.Global.{Global}
 pub use Rattle.gh_mutator.specs.declared.global.GlobalStage.{GlobalStage}
-pub use Rattle.gh_mutator.specs.declared.leave.LeaveStage.{LeaveStage}
+pub use Rattle.gh_poll.specs.declared.leave.LeaveStage.{LeaveStage}
 pub use Rattle.gh_mutator.specs.declared.load.Load.{Load}
 pub use Rattle.gh_mutator.specs.declared.load.LoadStage.{LoadStage}
-pub use Rattle.gh_mutator.specs.declared.mark_stack.MarkStackStage.{MarkStackStage}
+pub use Rattle.gh_poll.specs.declared.mark_stack.MarkStackStage.{MarkStackStage}
 pub use Rattle.gh_mutator.specs.declared.new.NewStage.{NewStage}
 pub use Rattle.gh_mutator.specs.declared.new.NewStage.TheVariants.{Assist, Place, Search, Wait, Want}
 pub use Rattle.gh_mutator.specs.declared.new.Wanted.{Wanted}
-pub use Rattle.gh_mutator.specs.declared.poll.PollStage.{PollStage}
+pub use Rattle.gh_poll.specs.declared.poll.PollStage.{PollStage}
 pub use Rattle.gh_mutator.specs.declared.processor.Processor.{Processor}
 pub use Rattle.gh_mutator.specs.declared.register.Register.{Register}
 pub use Rattle.gh_mutator.specs.declared.register.Source.{Source}
@@ -38,4 +38,4 @@ pub use Rattle.gh_mutator.specs.declared.store.Store.{Store}
 pub use Rattle.gh_mutator.specs.declared.store.StoreStage.{StoreStage}
 pub use Rattle.gh_mutator.specs.declared.task.Task.{Task}
 pub use Rattle.gh_mutator.specs.declared.task.Task.TheVariants.{Idle}
-pub use Rattle.gh_mutator.specs.declared.wait.WaitStage.{WaitStage}
+pub use Rattle.gh_poll.specs.declared.wait.WaitStage.{WaitStage}

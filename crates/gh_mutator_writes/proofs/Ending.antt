@@ -9,7 +9,7 @@ use Rattle.gh_mutator.specs.declared.task.Task.TheVariants as task
 use Rattle.gh_barrier.specs.Ending.{WritingEnds}
 use Rattle.gh_mutator.specs.Ending.{may_wait, most_steps, OperationsEnd}
 use Rattle.gh_mutator.specs.Listing.{begins_at, begun_with, follows, is_busy_at, takes_at}
-use Rattle.gh_mutator.specs.Local.{marking_at}
+use Rattle.gh_poll.specs.Local.{marking_at}
 use Rattle.gh_mutator.specs.Mutating.{begins, goes, listing, Mutating}
 use Rattle.gh_mutator.specs.Processor.{register_of}
 use Rattle.gh_mutator.proofs.GlobalSteps as global

@@ -9,18 +9,18 @@ use Rattle.gh_assist.specs.Listing as assist
 use Rattle.gh_mutator.specs.declared.task.Task.TheVariants as task
 use Rattle.gh_mutator.specs.Faults.{FaultsChangeNothing, is_load}
 use Rattle.gh_mutator.specs.Global as global_listing
-use Rattle.gh_mutator.specs.Leave as leave
+use Rattle.gh_poll.specs.Leave as leave
 use Rattle.gh_mutator.specs.Listing.{begins_at, once_ended}
 use Rattle.gh_mutator.specs.Load as load_listing
-use Rattle.gh_mutator.specs.Local.{marking_at}
+use Rattle.gh_poll.specs.Local.{marking_at}
 use Rattle.gh_mutator.specs.Mutating.{begins, gives, goes, listing, marks_after, Mutating}
 use Rattle.gh_mutator.specs.New as new
 use Rattle.gh_mutator.specs.Processor.{keeping}
-use Rattle.gh_mutator.specs.Poll as poll
+use Rattle.gh_poll.specs.Poll as poll
 use Rattle.gh_mutator.specs.Serving.{answer_at, is_serving}
 use Rattle.gh_mutator.specs.Step.{answered}
 use Rattle.gh_mutator.specs.Store as store_listing
-use Rattle.gh_mutator.specs.Wait as wait
+use Rattle.gh_poll.specs.Wait as wait
 use Rattle.gh_mutator.specs.Processor.{at_task}
 use Rattle.gh_base.specs.Routines.{told}
 use Rattle.gh_mutator_writes.proofs.Vocabulary.{after_assist, after_gc, after_leave, after_poll, after_search, after_wait, answer_search, applied, asks_at, Assist, Assisting, at_poll, begun_with, cache_span, follows, Found, gives_at, Held, Leaving, Name, NewStage, Op, Place, Placing, Processor, register_of, rested, Search, Seeking, Shape, Step, takes_at, taking, Task, Then, Value, Wait, Waiting, Want, Wanted}

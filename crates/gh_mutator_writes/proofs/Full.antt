@@ -6,12 +6,13 @@ use Rattle.gh_base.specs.declared.value.Value.TheVariants as value
 use Rattle.gh_alloc.specs.Search as search
 use Rattle.gh_mutator.specs.declared.task.Task.TheVariants as task
 use Rattle.gh_mutator_writes.specs.Full.{after, FullChangesLittle, HasWaited, new_is_waiting}
-use Rattle.gh_mutator.specs.Local.{cached_in, stacks_with}
+use Rattle.gh_poll.specs.Local.{cached_in, stacks_with}
 use Rattle.gh_mutator.specs.Mutating.{asks, begins, gives, goes, listing, marks_after, Mutating}
 use Rattle.gh_mutator.specs.New.{seeking}
-use Rattle.gh_mutator.specs.Stays.{ends_later, wait_seat, wait_stacks, wait_stays, search_wants}
+use Rattle.gh_poll.specs.Stays.{ends_later, wait_seat, wait_stacks, wait_stays}
+use Rattle.gh_mutator.specs.Stays.{search_wants}
 use Rattle.gh_mutator.specs.Vocabulary.{Polling}
-use Rattle.gh_mutator.specs.Wait as wait
+use Rattle.gh_poll.specs.Wait as wait
 use Rattle.gh_mutator_writes.proofs.Vocabulary.{Assist, after_search, after_wait, answer_search, At, at_poll, cache_span, cache_with, CachedSpan, Found, gives_at, is_looking, NewStage, NoRoom, Place, Processor, rested, Search, Seeking, set, Small, Sought, Task, Wait, Waiting, WaitStage, WaitState, Wanted, wanted_of, Want}
 use Rattle.gh_mutator_writes.proofs.Refusing.{KeptFor, kept, kept_first, refuses_none}
 use Rattle.gh_mutator_writes.proofs.Telling.{held_before}

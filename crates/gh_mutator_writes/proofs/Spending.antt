@@ -7,18 +7,19 @@ use Rattle.gh_assist.specs.Paying.{AssistsPay}
 use Rattle.gh_credit.specs.Drawing.{drawn_by, LeavesOrDraws}
 use Rattle.gh_mutator.specs.declared.task.Task.TheVariants as task
 use Rattle.gh_mutator.specs.Global as global
-use Rattle.gh_mutator.specs.Leave as leave
+use Rattle.gh_poll.specs.Leave as leave
 use Rattle.gh_mutator.specs.Load as load
-use Rattle.gh_mutator.specs.Local.{marking_at}
-use Rattle.gh_mutator.specs.Poll as poll
+use Rattle.gh_poll.specs.Local.{marking_at}
+use Rattle.gh_poll.specs.Poll as poll
 use Rattle.gh_mutator.specs.Processor.{keeping}
 use Rattle.gh_mutator.specs.Register as register
 use Rattle.gh_mutator_writes.specs.Spending.{ProcessorsSpend}
 use Rattle.gh_mutator.specs.Spending.{spent_in_task, spent_of}
-use Rattle.gh_mutator.specs.Stays.{assist_spent, poll_spent, wait_spent}
+use Rattle.gh_poll.specs.Stays.{poll_spent, wait_spent}
+use Rattle.gh_mutator.specs.Stays.{assist_spent}
 use Rattle.gh_mutator.specs.Store as store
 use Rattle.gh_mutator.specs.Vocabulary.{Polling}
-use Rattle.gh_mutator.specs.Wait as wait
+use Rattle.gh_poll.specs.Wait as wait
 use Rattle.gh_mutator.specs.Running.{IsAssisting, SoundAssist, SoundAssistAt}
 use Rattle.gh_mutator_writes.specs.Writing.{IsWritten, ProcessorWritesItsOwn}
 use Rattle.gh_mutator_writes.proofs.Vocabulary.{after_gc, after_leave, after_place, after_poll, after_search, after_wait, Ask, asks, Assist, Assisting, assists, cache_span, CachedSpan, follows, Found, is_busy_at, Layout, Leaving, Name, NewStage, Op, Place, Placing, Processor, processor_kind, register_of, Search, Seeking, Shape, takes_at, taking, Task, Then, Value, Wait, Waiting, Want, Wanted, WritesOf}

@@ -13,12 +13,12 @@ pub use Rattle.gh_central.specs.declared.pass.PassStage.{PassStage}
 pub use Rattle.gh_central.specs.declared.reclaim.ReclaimStage.{ReclaimStage}
 pub use Rattle.gh_alloc.specs.declared.search.SearchStage.{SearchStage}
 pub use Rattle.gh_mutator_writes.specs.Calm.{GivesNoBuffer, HoldsNoBuffer, IsNoBuffer, KnowsNoMarking, LeavesWithNone, MakesWithNone, PollsWithNone, RunsWithNone, WaitsWithNone}
-pub use Rattle.gh_mutator.specs.Collecting.{phase_of, Resumed, ResumeStage, RoomStage, run_phase, RunPhase, Shaded, ShadeStage, TryStage}
+pub use Rattle.gh_poll.specs.Collecting.{phase_of, Resumed, ResumeStage, RoomStage, run_phase, RunPhase, Shaded, ShadeStage, TryStage}
 pub use Rattle.gh_mutator.specs.Faults.{rested}
 pub use Rattle.gh_mutator_writes.specs.Full.{is_looking}
-pub use Rattle.gh_mutator.specs.Handshake.{leaves_at, polls_at, PollsSoundAt, waits_at, WaitsSoundAt}
+pub use Rattle.gh_poll.specs.Handshake.{leaves_at, polls_at, PollsSoundAt, waits_at, WaitsSoundAt}
 pub use Rattle.gh_mutator.specs.Listing.{after_gc, after_leave, after_poll, applied, asks, asks_at, begins, begun_with, follows, gives_at, is_busy_at, takes_at}
-pub use Rattle.gh_mutator.specs.Local.{cache_with, leaving, with_ended}
+pub use Rattle.gh_poll.specs.Local.{cache_with, leaving, with_ended}
 pub use Rattle.gh_mutator.specs.MarkVocabulary.{effect, Held, processor_kind, StackStage}
 pub use Rattle.gh_mutator_writes.specs.Vocabulary.{Cell}
 pub use Rattle.gh_mutator_writes.specs.Vocabulary.{GiveStage, LeaveStage, Local, MarkStackStage, PollStage, WaitStage}
@@ -30,4 +30,4 @@ pub use Rattle.gh_mutator.specs.Vocabulary.{Ask, Assisting, At, CachedSpan, Find
 pub use Rattle.gh_mutator_writes.specs.Vocabulary.{Assist, Ends, Global, GlobalStage, GoesOn, NewStage, Place, Processor, Search, Step, StoreStage, Task, Then, Wait, Want, Wanted}
 pub use Rattle.gh_mutator.specs.Running.{SoundScanAt}
 pub use Rattle.gh_mutator_writes.specs.Writing.{WritesOf}
-pub use Rattle.gh_mutator.specs.declared.wait.Wait.{Wait as WaitState}
+pub use Rattle.gh_poll.specs.declared.wait.Wait.{Wait as WaitState}

@@ -8,14 +8,14 @@ use Rattle.gh_phase.specs.declared.resume.ResumeStage.TheVariants.{Acknowledge, 
 use Rattle.gh_phase.specs.declared.view.RunPhase.TheVariants as run
 use Rattle.gh_phase.specs.Handshake.{Gone, Resumes}
 use Rattle.gh_phase.specs.Views.{run_phase}
-use Rattle.gh_mutator.specs.declared.give.GiveStage.TheVariants.{GiveBuffer}
+use Rattle.gh_poll.specs.declared.give.GiveStage.TheVariants.{GiveBuffer}
 use Rattle.gh_mutator.specs.declared.global.GlobalStage.TheVariants as global_stage
-use Rattle.gh_mutator.specs.declared.leave.LeaveStage.TheVariants as leave_stage
-use Rattle.gh_mutator.specs.declared.poll.PollStage.TheVariants.{FindRoom, Giving, Marking}
+use Rattle.gh_poll.specs.declared.leave.LeaveStage.TheVariants as leave_stage
+use Rattle.gh_poll.specs.declared.poll.PollStage.TheVariants.{FindRoom, Giving, Marking}
 use Rattle.gh_mutator.specs.declared.store.StoreStage.TheVariants as store_stage
 use Rattle.gh_mutator.specs.declared.task.Task.TheVariants as task
-use Rattle.gh_mutator.specs.declared.wait.WaitStage.TheVariants as wait_stage
-use Rattle.gh_mutator.specs.Give as give
+use Rattle.gh_poll.specs.declared.wait.WaitStage.TheVariants as wait_stage
+use Rattle.gh_poll.specs.Give as give
 use Rattle.gh_mutator.specs.Listing.{asks, is_busy_at, takes}
 use Rattle.gh_mutator.specs.MarkVocabulary.{Cycle, IsParked, Shared, SoundPlace, effect, processor_kind, stage_of}
 use Rattle.gh_mutator_writes.specs.Vocabulary.{Party, Stage, Cell, Words, opening_processor, party_of, GiveStage, LeaveStage, PollStage, WaitStage, Assist, GlobalStage, NewStage, StoreStage, Place, Processor, Task, Wait}

@@ -9,7 +9,7 @@ use Rattle.gh_base.specs.declared.value.Value.TheVariants.{Nil}
 use Rattle.gh_base.specs.Routines.{told}
 use Rattle.gh_mutator.specs.declared.task.Task.TheVariants as task
 use Rattle.gh_mutator.specs.Faults.{rested}
-use Rattle.gh_mutator.specs.Local.{cached_at, stacks_with}
+use Rattle.gh_poll.specs.Local.{cached_at, stacks_with}
 use Rattle.gh_mutator.specs.Mutating.{asks, begins, gives, listing, Mutating}
 use Rattle.gh_mutator.specs.New.{wanted_of}
 use Rattle.gh_mutator.specs.Processor.{at_poll}

@@ -3,7 +3,7 @@ use Rattle.std.specs.Prelude.{◌≡◌, ℕ, ◌+◌, ◌^◌, ◌<◌, false, 
 use Rattle.gh_credit.specs.Drawing.{drawn_by, LeavesOrDraws}
 use Rattle.gh_mutator.specs.Deeds.{processor_kind}
 use Rattle.gh_mutator.specs.Listing.{asks, is_busy_at, takes}
-use Rattle.gh_mutator.specs.Local.{marking_at}
+use Rattle.gh_poll.specs.Local.{marking_at}
 use Rattle.gh_mutator.specs.Processor.{opening_processor}
 use Rattle.gh_mutator.specs.Vocabulary.{Layout, Op, Shape}
 use Rattle.gh_mutator_writes.specs.Vocabulary.{Processor}

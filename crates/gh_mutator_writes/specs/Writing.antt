@@ -6,7 +6,7 @@ use Rattle.gh_base.specs.declared.pack.TheConstants.{END}
 use Rattle.gh_alloc.specs.declared.place.PlaceStage.TheVariants as making
 use Rattle.gh_phase.specs.declared.view.RunPhase.TheVariants.{Mark}
 use Rattle.gh_mutator.specs.declared.task.Task.TheVariants as task
-use Rattle.gh_mutator.specs.declared.wait.WaitStage.TheVariants as wait_stage
+use Rattle.gh_poll.specs.declared.wait.WaitStage.TheVariants as wait_stage
 use Rattle.gh_mutator.specs.Listing.{asks, is_busy_at, takes}
 use Rattle.gh_mutator.specs.MarkVocabulary.{effect, processor_kind}
 use Rattle.gh_mutator_writes.specs.Vocabulary.{Cell, Words, opening_processor, NewStage, Place, Processor, Task, Wait}

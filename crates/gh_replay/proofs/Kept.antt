@@ -8,14 +8,14 @@ use Rattle.gh_base.specs.Lists.{started}
 use Rattle.gh_coord.specs.declared.coord.CoordStage.{CoordStage}
 use Rattle.gh_coord.specs.declared.cycles.Cycle.{Cycle}
 use Rattle.gh_coord.specs.Listing as coord
-use Rattle.gh_mutator.specs.declared.leave.LeaveStage.{LeaveStage}
+use Rattle.gh_poll.specs.declared.leave.LeaveStage.{LeaveStage}
 use Rattle.gh_mutator.specs.declared.new.NewStage.{NewStage}
 use Rattle.gh_mutator.specs.declared.new.Wanted.{Wanted}
 use Rattle.gh_mutator.specs.declared.processor.Processor.{Processor}
 use Rattle.gh_mutator.specs.declared.step.Then.{Then}
 use Rattle.gh_mutator.specs.declared.task.Task.{Task}
-use Rattle.gh_mutator.specs.Leave.{says_gone}
-use Rattle.gh_mutator.specs.Leave as leave
+use Rattle.gh_poll.specs.Leave.{says_gone}
+use Rattle.gh_poll.specs.Leave as leave
 use Rattle.gh_mutator.specs.Listing.{after_gc, after_leave, after_poll, follows, takes_at}
 use Rattle.gh_mutator.specs.New.{after_assist, after_search, after_wait, assisting, assists, made_task}
 use Rattle.gh_mutator.specs.New as new

@@ -4,20 +4,11 @@ use Rattle.std.proofs.lemmas.Bool.{eqb-true, eq-eqb}
 use Rattle.std.proofs.lemmas.Bool.Decides.{nat_tests}
 use Rattle.gh_base.specs.declared.held.Held.{Held}
 use Rattle.gh_base.specs.declared.layout.Layout.{Layout}
-use Rattle.gh_base.specs.declared.pack.TheConstants.{ENTRIES}
 use Rattle.gh_base.specs.Cells.{buffers_of, seats_of}
 use Rattle.gh_base.specs.Holding.{AreCounted, Buffers, holder_in, IsIt}
-use Rattle.gh_base.specs.Packing.{buffer_of}
 use Rattle.gh_room.specs.Room.{AreDistinct, AreOfSeats, HasRoom, SomeHasRoom}
 use Rattle.gh_base.specs.Rows.{Row}
 use Rattle.gh_room.proofs.Counting.{AreApart, no_more}
-
--- the word of a free buffer is its count
-small_count : (n : ℕ) → n ≤ ENTRIES → (buffer_of n).count ≡ n
-small_count n le =
-    let is : n % 256 ≡ n = omega arith in
-    let yes : leb (n % 256) 253 ≡ true = grind (arith, nat_tests) in
-    ap (λ (t : Bool). cond t (n % 256) 0) yes ∙ is
 
 module _ (l : Layout) (s : Buffers) (counted : AreCounted s) (distinct : AreDistinct (1024 * l.pages) s) (seated : AreOfSeats (seats_of l) s) where
   abbrev holder : ℕ → ℕ
@@ -105,7 +96,7 @@ module _ (l : Layout) (s : Buffers) (counted : AreCounted s) (distinct : AreDist
 
   -- Look at one after the other.
   has_room : (b : ℕ) → holder b ≡ 0 → s.filled b ≤ 251 → HasRoom (s.words b)
-  has_room b free few = record { free = free; room = subst (λ (n : ℕ). n + 2 ≤ ENTRIES) (sym (ap (λ (w : ℕ). (buffer_of w).count) (counted.free b free) ∙ small_count (s.filled b) (counted.few b))) (omega (arith, few)) }
+  has_room b free few = grind arith
 
   looks : (many : ℕ) → many ≤ buffers_of l → SomeHasRoom l s ⊎ IsFull many
   looks zero le = inr (λ b lt free. absurd (omega (arith, lt)))

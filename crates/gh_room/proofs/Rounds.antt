@@ -1,5 +1,5 @@
 -- A search for room alone: each look at a buffer that is not open leads to the next, and at an open one the swap finds what was loaded.
-use Rattle.std.proofs.Common.{◌≡◌, ◌⊎◌, inl, inr, ℕ, zero, suc, ◌+◌, ◌-◌, ◌<◌, ◌≤◌, Bool, true, false, cond, eqb, ltb, leb, None, refl, sym, ap, subst, ◌∙◌, arith, eq-eqb}
+use Rattle.std.proofs.Common.{◌≡◌, ◌⊎◌, inl, inr, ℕ, zero, suc, ◌+◌, ◌-◌, ◌<◌, ◌≤◌, Bool, true, false, cond, ltb, leb, None, refl, sym, ap, subst, ◌∙◌, arith, eq-eqb}
 use Rattle.std.specs.Prelude.{◌&&◌}
 use Rattle.std.proofs.lemmas.Bool.Decides.{nat_tests}
 use Rattle.gh_base.specs.declared.cell.Cell.TheVariants.{Buffer}
@@ -40,13 +40,8 @@ module _ (folded : IsFolded listing) (l : Layout) (seat : ℕ) (words : Words) w
   looks : (index : ℕ) (b : Bool) → try.is_open Room (words (Buffer index)) ≡ b → steps_alone listing (from index) ≡ looked index b
   looks index b e = ap (looked index) e
 
-  -- and behind the swap
-  swapped : (index : ℕ) (b : Bool) → b ≡ true → HasEnded (record { routine = after_try (at_stage (looking l seat index) (Try (try.claimed (try.at_stage (try.opening l seat Room index None) (Claim (words (Buffer index)))) (words (Buffer index)) b))) index (try.given (try.claimed (try.at_stage (try.opening l seat Room index None) (Claim (words (Buffer index)))) (words (Buffer index)) b)); words = words })
-  swapped index true e = refl
-  swapped index false e = absurd (cc)
-
   takes : (index : ℕ) → try.is_open Room (words (Buffer index)) ≡ true → HasEnded (alone listing (from index) 2)
-  takes index e = subst HasEnded (sym (ap (steps_alone listing) (looks index true e))) (swapped index (eqb (words (Buffer index)) (words (Buffer index))) (eq-eqb (words (Buffer index)) (words (Buffer index)) refl))
+  takes index e = grind arith
 
   record EndsIn (most index : ℕ) : Type 0 where
     steps : ℕ
@@ -59,10 +54,7 @@ module _ (folded : IsFolded listing) (l : Layout) (seat : ℕ) (words : Words) w
     Leads index distance = (index + distance ≡ buffer) ⊎ (index + distance ≡ buffer + buffers_of l)
 
     next : (index d : ℕ) → index < buffers_of l → Leads index (suc d) → (b : Bool) → ltb (index + 1) (buffers_of l) ≡ b → Leads (cond b (index + 1) 0) d × (cond b (index + 1) 0 < buffers_of l)
-    next index d lt (inl to) true e = (inl (omega (arith, to)), grind (arith, nat_tests, e))
-    next index d lt (inr to) true e = (inr (omega (arith, to)), grind (arith, nat_tests, e))
-    next index d lt (inl to) false e = let last : buffers_of l ≤ index + 1 = grind (arith, nat_tests, e) in absurd (omega (arith, to, last, there))
-    next index d lt (inr to) false e = let last : buffers_of l ≤ index + 1 = grind (arith, nat_tests, e) in (inl (omega (arith, to, last, lt)), omega (arith, lt))
+    next index d lt h b e = grind arith
 
     goes_on : (d index : ℕ) → index < buffers_of l → Leads index d → EndsIn (d + 2) index
     goes_on zero index lt to = record { steps = 2; few = omega arith; ended = takes index (subst (λ (i : ℕ). try.is_open Room (words (Buffer i)) ≡ true) (sym (here to)) (is_open (words (Buffer buffer)) room)) } where

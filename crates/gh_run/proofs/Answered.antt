@@ -16,7 +16,7 @@ use Rattle.gh_shared.specs.Handles.{IsHeapOf, number_of, own_of, plan_of}
 use Rattle.gh_lists.specs.Order.{begun_in}
 use Rattle.gh_lists.specs.Processors.{arena_of, given_of}
 use Rattle.gh_world.specs.Turns.{total_of, turns_of}
-use Rattle.gh_shared.specs.Plans.{setting}
+use Rattle.gh_actor.specs.Plans.{setting}
 
 module _ {G : Type 0} (p : Program) (heap : Heap) (done : List (HeapJob G)) where
   -- what the job of a goroutine's processor was answered of it

@@ -30,12 +30,12 @@ use Rattle.gh_run.proofs.Places.{each_first, there}
 use Rattle.gh_script.specs.Program.{Program, WellFormed}
 use Rattle.gh_shared.specs.declared.handle.Handle.{Handle}
 use Rattle.gh_shared.specs.declared.heap.Heap.{Heap}
-use Rattle.gh_shared.specs.declared.machine.ActorMachine.{ActorMachine}
-use Rattle.gh_shared.specs.declared.machine.ActorMachine.TheVariants.{Leads, Marks, Runs}
+use Rattle.gh_actor.specs.declared.machine.ActorMachine.{ActorMachine}
+use Rattle.gh_actor.specs.declared.machine.ActorMachine.TheVariants.{Leads, Marks, Runs}
 use Rattle.gh_shared.specs.Calls.{IsClosedAfter}
 use Rattle.gh_shared.specs.Handles.{ended_at, ended_of, IsHeapOf, machine_of, number_of, own_of, plan_of, view_of}
-use Rattle.gh_shared.specs.Machines.{machine_actor}
-use Rattle.gh_shared.specs.Plans.{Planned, setting}
+use Rattle.gh_actor.specs.Machines.{machine_actor}
+use Rattle.gh_actor.specs.Plans.{Planned, setting}
 use Rattle.gh_shared.proofs.Ready.{OfItsOwn}
 use Rattle.gh_table.specs.declared.plan.View.{View}
 use Rattle.gh_worker.specs.Listing as worker

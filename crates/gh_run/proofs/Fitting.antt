@@ -11,10 +11,10 @@ use Rattle.gh_run.specs.Jobs.{IsBetweenTurns}
 use Rattle.gh_script.specs.Program.{Program, WellFormed}
 use Rattle.gh_shared.specs.declared.handle.Handle.{Handle}
 use Rattle.gh_shared.specs.declared.heap.Heap.{Heap}
-use Rattle.gh_shared.specs.declared.machine.ActorMachine.{ActorMachine}
+use Rattle.gh_actor.specs.declared.machine.ActorMachine.{ActorMachine}
 use Rattle.gh_shared.specs.Calls.{Fits, May, RunsIt}
 use Rattle.gh_shared.specs.Handles.{machine_of, number_of, own_of, plan_of, room_at, view_of}
-use Rattle.gh_shared.specs.Plans.{Planned}
+use Rattle.gh_actor.specs.Plans.{Planned}
 use Rattle.gh_shared.specs.Shown.{left_by, runs_by}
 use Rattle.gh_world.specs.declared.progress.Progress.{Progress}
 use Rattle.gh_world.specs.declared.turns.Next.{Next}

@@ -16,10 +16,10 @@ use Rattle.gh_mutator.specs.Listing.{begins as begins_by, gives_at, is_busy_at, 
 use Rattle.gh_mutator.specs.Mutating as mutating
 use Rattle.gh_mutator.specs.Mutating.{Mutating}
 use Rattle.gh_mutator.specs.Serving.{has_left_at}
-use Rattle.gh_shared.specs.declared.machine.ActorMachine.{ActorMachine}
-use Rattle.gh_shared.specs.declared.machine.ActorMachine.TheVariants.{Runs}
-use Rattle.gh_shared.specs.Machines.{asks, ends_with_answer, gives, goes}
-use Rattle.gh_shared.specs.Plans.{Planned}
+use Rattle.gh_actor.specs.declared.machine.ActorMachine.{ActorMachine}
+use Rattle.gh_actor.specs.declared.machine.ActorMachine.TheVariants.{Runs}
+use Rattle.gh_actor.specs.Machines.{asks, ends_with_answer, gives, goes}
+use Rattle.gh_actor.specs.Plans.{Planned}
 use Rattle.gh_shared.proofs.Keeping.{runs_after}
 use Rattle.gh_table.specs.Runs.{begun_next, entries_made, Gave, machine_after}
 use Rattle.gh_lists.specs.Order.{begun_in}

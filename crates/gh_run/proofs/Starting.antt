@@ -14,12 +14,12 @@ use Rattle.gh_run.specs.Jobs.{answers_in, IsAtEnd, IsAtStart, IsBetweenTurns}
 use Rattle.gh_script.specs.Program.{Program}
 use Rattle.gh_shared.specs.declared.handle.Handle.{Handle}
 use Rattle.gh_shared.specs.declared.heap.Heap.{Heap}
-use Rattle.gh_shared.specs.declared.machine.ActorMachine.{ActorMachine}
-use Rattle.gh_shared.specs.declared.machine.ActorMachine.TheVariants.{Leads, Marks, Runs}
+use Rattle.gh_actor.specs.declared.machine.ActorMachine.{ActorMachine}
+use Rattle.gh_actor.specs.declared.machine.ActorMachine.TheVariants.{Leads, Marks, Runs}
 use Rattle.gh_shared.specs.Calls.{RanToItsEnd}
 use Rattle.gh_shared.specs.Handles.{ended_at, ended_of, IsFresh, machine_of, number_of, own_of, plan_of, room_at, view_of}
-use Rattle.gh_shared.specs.Machines.{IsCoordinator, IsOther, IsProcessor, IsWorker, opening}
-use Rattle.gh_shared.specs.Plans.{Planned}
+use Rattle.gh_actor.specs.Machines.{IsCoordinator, IsOther, IsProcessor, IsWorker, opening}
+use Rattle.gh_actor.specs.Plans.{Planned}
 use Rattle.gh_table.specs.declared.plan.View.{View}
 use Rattle.gh_worker.specs.Listing as worker
 use Rattle.gh_world.specs.declared.progress.Progress.{Progress}

@@ -21,12 +21,12 @@ use Rattle.gh_run.proofs.Given as given
 use Rattle.gh_script.specs.Program.{Program, WellFormed}
 use Rattle.gh_shared.specs.declared.handle.Handle.{Handle}
 use Rattle.gh_shared.specs.declared.heap.Heap.{Heap}
-use Rattle.gh_shared.specs.declared.machine.ActorMachine.{ActorMachine}
-use Rattle.gh_shared.specs.declared.machine.ActorMachine.TheVariants.{Leads, Marks, Runs}
+use Rattle.gh_actor.specs.declared.machine.ActorMachine.{ActorMachine}
+use Rattle.gh_actor.specs.declared.machine.ActorMachine.TheVariants.{Leads, Marks, Runs}
 use Rattle.gh_shared.specs.Calls.{Operated}
 use Rattle.gh_shared.specs.Handles.{ended_at, ended_of, machine_of, number_of, own_of, plan_of, view_of}
-use Rattle.gh_shared.specs.Machines.{asks, begins, Belongs, gives, goes, IsProcessor, IsProcessorOf, machine_actor}
-use Rattle.gh_shared.specs.Plans.{Planned, setting}
+use Rattle.gh_actor.specs.Machines.{asks, begins, Belongs, gives, goes, IsProcessor, IsProcessorOf, machine_actor}
+use Rattle.gh_actor.specs.Plans.{Planned, setting}
 use Rattle.gh_shared.proofs.Keeping.{by_made}
 use Rattle.gh_shared.proofs.Ready.{has_room_then, OfItsOwn}
 use Rattle.gh_table.specs.Runs.{entries_made, Gave, machine_after}

@@ -14,8 +14,8 @@ use Rattle.gh_script.specs.Program.{Program}
 use Rattle.gh_shared.specs.declared.handle.Handle.{Handle}
 use Rattle.gh_shared.specs.declared.heap.Heap.{Heap}
 use Rattle.gh_shared.specs.Handles.{ended_of, IsFresh, IsHandleOf, IsHeapOf, machine_of, number_of, own_of, plan_of, room_of, view_of}
-use Rattle.gh_shared.specs.Machines.{IsProcessor}
-use Rattle.gh_shared.specs.Plans.{Planned, setting}
+use Rattle.gh_actor.specs.Machines.{IsProcessor}
+use Rattle.gh_actor.specs.Plans.{Planned, setting}
 use Rattle.gh_world.specs.declared.progress.Progress.{Progress}
 use Rattle.gh_world.specs.After.{KeepsPlace}
 use Rattle.gh_lists.specs.Order.{begun_in}

@@ -22,15 +22,15 @@ pub record ShadingWaits (l : Layout) (sh : shade.Shading) (r : room.RoomFinding)
   pub waits : sh.stage ≡ WaitForRoom
   pub runs : Runs l r.layout (room.is_busy r.stage)
 
-abbrev pub FitsStage : Layout → ScanStage → Type 0
-FitsStage l (Shading sh) = Runs l sh.layout (shade.is_busy sh.stage)
-FitsStage l (FindRoom sh r) = ShadingWaits l sh r
-FitsStage l _ = Unit {0}
+abbrev pub SoundStage : Layout → ScanStage → Type 0
+SoundStage l (Shading sh) = Runs l sh.layout (shade.is_busy sh.stage)
+SoundStage l (FindRoom sh r) = ShadingWaits l sh r
+SoundStage l _ = Unit {0}
 
-pub record FitsScan (s : Scanning) : Type 0 where
+pub record SoundScanning (s : Scanning) : Type 0 where
   pub seat : s.seat < seats_of s.layout
   pub reference : IsReference s.layout s.reference
   pub held : IsHeld s.layout s.held
   pub slot : s.slot < 2 ^ 23
   pub at : s.at < 2 ^ 24
-  pub stage : FitsStage s.layout s.stage
+  pub stage : SoundStage s.layout s.stage

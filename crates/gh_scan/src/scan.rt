@@ -53,13 +53,13 @@ pub struct Scan {
 
 impl Model for Scan {
     ghost use Rattle.gh_scan.specs.Listing.{Scanning};
-    ghost use Rattle.gh_scan.specs.Sound.{FitsScan};
+    ghost use Rattle.gh_scan.specs.Sound.{SoundScanning};
 
     ghost Value = { Scanning };
 
     ghost view = { λ s. record { layout = s.layout; seat = s.seat; reference = s.reference; held = s.held; slot = s.slot; at = s.at; bits = s.bits; stage = s.stage } };
 
-    ghost invariant = { λ s. FitsScan (record { layout = s.layout; seat = s.seat; reference = s.reference; held = s.held; slot = s.slot; at = s.at; bits = s.bits; stage = s.stage }) };
+    ghost invariant = { λ s. SoundScanning (record { layout = s.layout; seat = s.seat; reference = s.reference; held = s.held; slot = s.slot; at = s.at; bits = s.bits; stage = s.stage }) };
 
     ghost inverse = { λ s. record { layout = s.layout; seat = s.seat; reference = s.reference; held = s.held; slot = s.slot; at = s.at; bits = s.bits; stage = s.stage } };
 }

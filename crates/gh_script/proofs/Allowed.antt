@@ -34,13 +34,7 @@ record Six (a b c d e f : Bool) : Type 0 where
   six : f ≡ false
 
 none_of : (a b c d e f : Bool) → cond a (Some Word) (cond b (Some Number) (cond c (Some Limit) (cond d (Some Twice) (cond e (Some Unknown) (cond f (Some Nesting) None))))) ≡ None → Six a b c d e f
-none_of true b c d e f h = absurd cc
-none_of false true c d e f h = absurd cc
-none_of false false true d e f h = absurd cc
-none_of false false false true e f h = absurd cc
-none_of false false false false true f h = absurd cc
-none_of false false false false false true h = absurd cc
-none_of false false false false false false h = record { one = refl; two = refl; three = refl; four = refl; five = refl; six = refl }
+none_of a b c d e f h = grind arith
 
 pub allowed : (draft : Draft) (key : Key) (line : Sentence) → cause_at draft key line ≡ None → Allowed draft key line
 unfolding cause_at
@@ -49,16 +43,13 @@ allowed draft key line h =
     record { word = s.one; number = s.two; limit = s.three; twice = s.four; unknown = s.five; nesting = s.six }
 
 pub left_false : (a b : Bool) → (a || b) ≡ false → a ≡ false
-left_false true b h = absurd cc
-left_false false b h = refl
+left_false a b h = grind arith
 
 pub right_false : (a b : Bool) → (a || b) ≡ false → b ≡ false
-right_false true b h = absurd cc
-right_false false b h = h
+right_false a b h = grind arith
 
 pub not_false : (a : Bool) → not a ≡ false → a ≡ true
-not_false true h = refl
-not_false false h = absurd cc
+not_false a h = grind arith
 
 pub setting_small : (draft : Draft) (key : Key) (line : Sentence) (x : Setting) → cause_at draft key line ≡ None → key ≡ keys.Setting x → (least x ≤ number_in line.second) × (number_in line.second ≤ most x)
 setting_small draft key line x h e =
@@ -66,8 +57,7 @@ setting_small draft key line x h e =
     (ltb-false (number_in line.second) (least x) (left_false _ _ a.limit), ltb-false (most x) (number_in line.second) (right_false (ltb (number_in line.second) (least x)) _ a.limit))
 
 most_small : (x : Setting) → most x ≤ 8388608
-most_small settings.Procs = omega arith
-most_small _ = omega arith
+most_small x = grind arith
 
 pub setting_fits : (draft : Draft) (key : Key) (line : Sentence) (x : Setting) → cause_at draft key line ≡ None → key ≡ keys.Setting x → number_in line.second < 2 ^ 32
 setting_fits draft key line x h e = omega (arith, setting_small draft key line x h e, most_small x)
@@ -86,8 +76,7 @@ set_small draft key line h e = let a = allowed draft keys.SetGlobal line (rw e a
 
 -- the limit of a setting, given or not
 globals_few : (globals : Option ℕ) → ((n : ℕ) → globals ≡ Some n → (1 ≤ n) × (n ≤ 256)) → unwrap_or globals 1 ≤ 256
-globals_few None h = omega arith
-globals_few (Some n) h = (h n refl).1
+globals_few globals h = grind arith
 
 pub globals_in-le : (draft : Draft) → IsSound draft → globals_in draft.given ≤ 256
 globals_in-le draft sound = globals_few draft.given.globals (sound.given settings.Globals)

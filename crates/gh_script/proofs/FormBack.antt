@@ -2,9 +2,9 @@
 use Rattle.std.proofs.Common.{◌≡◌, ℕ, zero, suc, ◌+◌, ◌<◌, ◌≤◌, Bool, true, false, not, cond, eqb, leb, ◌&&◌, List, [], ◌∷◌, ◌++◌, length, map, Option, Some, None, Result, Ok, refl, sym, ap, ◌∙◌, subst, append_assoc, arith, get_or, All, is_some, fold, ◌≢◌, AllPairs, sum_by, le-ltb, append-nil, length-append}
 use Rattle.gh_base.specs.declared.shape.Shape.{Shape}
 use Rattle.gh_script.specs.declared.key.Key.TheVariants as keys
-use Rattle.gh_script.proofs.Vocabulary.{All-head, All-tail, are_too_many, AreApart, Arena, AreNamedApart, blank_draft, Block, bytes_eq, bytes_eq-Decides, cause_at, continued, Draft, fields_of, fits_limits, flat_map, get_or_append_left, get_or_at, Given, given_at, given_by_key, Globals, go_on, Gogc, Goroutine, goroutine_by, goroutines_begun, has_goroutine, HasForm, inside, is_skipped, IsBlock, IsHead, IsHeadKey, IsRoutine, IsTaken, IsTakenAs, kept, Key, key_of, length-map, length_push, lines_in, lines_of, list_any, lt-leb, Minheap, names_by, Nothing, number_in, Open, option_map, option_to_list, position_or_len, position_or_len_is, Procs, Program, program_in, read_cause, read_end, read_key, read_line, read_lines, Repeat, repeat, Repeated, Routine, routine_lines, said_in, Say, sayings, ScriptFault, Sentence, Setting, Settings, settings_by, settings_in, shape_with, shapes_by, Spells, statement_by_key, statement_of, statements_by, statements_in, Stmt, sum_by-append, then_end, type_of, with_given, with_statement, Workers, written_out}
+use Rattle.gh_script.proofs.Vocabulary.{All-head, All-tail, are_too_many, AreApart, AreNamedApart, blank_draft, Block, bytes_eq, bytes_eq-Decides, cause_at, continued, Draft, fields_of, fits_limits, flat_map, get_or_append_left, get_or_at, Given, given_at, given_by_key, go_on, Goroutine, goroutine_by, goroutines_begun, has_goroutine, HasForm, inside, is_skipped, IsBlock, IsHead, IsHeadKey, IsRoutine, IsTaken, IsTakenAs, kept, Key, key_of, length-map, length_push, lines_in, lines_of, list_any, lt-leb, names_by, Nothing, number_in, Open, option_map, option_to_list, position_or_len, position_or_len_is, Program, program_in, read_end, read_key, read_line, read_lines, Repeat, repeat, Repeated, Routine, routine_lines, said_in, Say, sayings, ScriptFault, Sentence, Setting, Settings, settings_by, settings_in, shape_with, shapes_by, Spells, statement_by_key, statement_of, statements_by, statements_in, Stmt, sum_by-append, then_end, type_of, with_given, with_statement, written_out}
 use Rattle.gh_script.proofs.Allowed.{allowed, left_false, times_fit}
-use Rattle.gh_script.proofs.Written.{kept_some, written_behind, not_zero, some_repeat, ended_repeat}
+use Rattle.gh_script.proofs.Written.{kept_some, written_behind, some_repeat, ended_repeat}
 use Rattle.gh_script.proofs.Readings.{reading_of-text}
 use Rattle.gh_script.proofs.FormSaid.{cause_none, or_false, none_given}
 
@@ -17,14 +17,10 @@ Steps-append : (draft mid new : Draft) (xs ys : List Sentence) → Steps draft x
 Steps-append draft mid new [] ys s t = subst (λ (d : Draft). Steps d ys new) (sym s) t
 Steps-append draft mid new (x ∷ xs) ys s t = (s.0, s.1, s.2, Steps-append (continued draft s.0 x) mid new xs ys s.3 t)
 
-read_key_by : (draft : Draft) (line : Sentence) (key : Key) → key_of line.first ≡ Some key → cause_at draft key line ≡ None → read_key draft (key_of line.first) line ≡ Ok (continued draft key line)
-read_key_by draft line key e c = ap (λ (k : Option Key). read_key draft k line) e ∙ ap (read_cause draft key line) c
-
 one_line : (draft new : Draft) (n : ℕ) (line : Sentence) (lines : List (List ℕ)) (skipped : Bool) → Steps draft (cond (not skipped) (line ∷ sayings lines) (sayings lines)) new
     → ((next : Draft) → Steps next (sayings lines) new → read_lines next (n + 1) lines ≡ Ok new)
     → go_on (λ next. read_lines next (n + 1) lines) (n + 1) (cond skipped (Ok draft) (read_key draft (key_of line.first) line)) ≡ Ok new
-one_line draft new n line lines true s rest = rest draft s
-one_line draft new n line lines false s rest = ap (go_on (λ next. read_lines next (n + 1) lines) (n + 1)) (read_key_by draft line s.0 s.1 s.2) ∙ rest (continued draft s.0 line) s.3
+one_line draft new n line lines skipped s rest = grind arith
 
 unfold_line : (draft : Draft) (line : Sentence) → read_line draft line ≡ cond (is_skipped line) (Ok draft) (read_key draft (key_of line.first) line)
 unfolding read_line
@@ -53,13 +49,7 @@ record Ready (draft : Draft) (rest : List Sentence) : Type 0 where
   begun : goroutines_begun draft ≡ 0
 
 other_fresh : (given : Given) (x : Setting) (n : ℕ) (y : Setting) → (x ≡ y → ⊥) → is_some (given_at given y) ≡ false → is_some (given_at (with_given given x n) y) ≡ false
-other_fresh given Procs n Procs h e = absurd (h refl)
-other_fresh given Workers n Workers h e = absurd (h refl)
-other_fresh given Arena n Arena h e = absurd (h refl)
-other_fresh given Globals n Globals h e = absurd (h refl)
-other_fresh given Gogc n Gogc h e = absurd (h refl)
-other_fresh given Minheap n Minheap h e = absurd (h refl)
-other_fresh given x n y h e = e
+other_fresh given x n y h e = grind arith
 
 pairs_tail : {X : Type 0} (R : X → X → Type 0) (x : X) (xs : List X) → AllPairs R (x ∷ xs) → AllPairs R xs
 pairs_tail R x xs h = λ i j d lt below. h (suc i) (suc j) d (omega arith) (omega arith)
@@ -388,8 +378,7 @@ all_steps text p f =
     (routines_steps (head_end blank_draft f.head) (names_by f.head) f.routines refl refl f.right (omega (arith, f.few_goroutines)) (subst (AllPairs AreNamedApart) f.goroutines f.goroutines_apart) (subst (λ (l : List Goroutine). sum_by statements_in l ≤ 200000) f.goroutines f.few_statements))
 
 some_listed : (closed : List Goroutine) → 1 ≤ length closed → eqb (length closed) 0 ≡ false
-some_listed [] h = absurd (omega arith)
-some_listed (g ∷ gs) h = not_zero (length gs) (eqb (suc (length gs)) 0) refl
+some_listed closed h = grind arith
 
 ended_well : (n : ℕ) (head : List Sentence) (routines : List Routine) → 1 ≤ length routines → read_end n (at_end head routines) ≡ Ok (program_in (at_end head routines))
 unfolding read_end

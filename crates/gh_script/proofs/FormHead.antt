@@ -1,7 +1,7 @@
 -- A line of a script where no goroutine is open: one of the head, or one that begins a goroutine.
 use Rattle.std.proofs.Common.{◌≡◌, ℕ, suc, ◌+◌, ◌<◌, ◌≤◌, Bool, true, false, cond, ltb, leb, ◌||◌, List, [], ◌∷◌, ◌++◌, length, map, Option, Some, None, refl, sym, ap, ◌∙◌, subst, append_assoc, arith, inl, inr, get_or, All, is_some, is_none, ◌≢◌, AllPairs, leb-false, lt-ltb, append-nil}
 use Rattle.gh_script.specs.declared.key.Key.TheVariants as keys
-use Rattle.gh_script.proofs.Vocabulary.{All-nil, All-push, all_pairs_push, AreApart, Arena, blank_draft, bytes_eq, bytes_eq-Decides, cases_lt, cause_at, continued, Draft, fails_before_first, fields_of, flat_map, Given, given_at, given_by_key, Globals, Gogc, Goroutine, goroutine_by, goroutines_begun, is_type_key, IsHead, IsHeadKey, IsRoutine, IsTaken, just_begun, Key, key_of, length_push, map_push, Minheap, names_by, Nothing, nothing_given, number_in, Open, option_to_list, position_or_len, Procs, Routine, routine_lines, Sentence, Setting, settings_by, shape_with, type_of, types_in, with_given, Workers}
+use Rattle.gh_script.proofs.Vocabulary.{All-nil, All-push, all_pairs_push, AreApart, blank_draft, bytes_eq, bytes_eq-Decides, cases_lt, cause_at, continued, Draft, fails_before_first, fields_of, flat_map, Given, given_at, given_by_key, Goroutine, goroutine_by, goroutines_begun, is_type_key, IsHead, IsHeadKey, IsRoutine, IsTaken, just_begun, Key, key_of, length_push, map_push, names_by, Nothing, nothing_given, number_in, Open, option_to_list, position_or_len, Routine, routine_lines, Sentence, Setting, settings_by, shape_with, type_of, types_in, with_given}
 use Rattle.gh_script.proofs.Allowed.{allowed, left_false, type_few}
 use Rattle.gh_script.proofs.FormSaid.{alone_go, alone_set, alone_type, Between, fold_push, IsSeen, Running, some_key, Story, taken_by, Told, types_push, types_push_other}
 
@@ -26,17 +26,10 @@ head_line : (line : Sentence) (key : Key) → key_of line.first ≡ Some key →
 head_line line key e h = subst IsHeadKey (sym e) h
 
 keeps_seen : (given : Given) (x : Setting) (n : ℕ) (y : Setting) → is_some (given_at given y) ≡ true → is_some (given_at (with_given given x n) y) ≡ true
-keeps_seen given Procs n Procs h = refl
-keeps_seen given Workers n Workers h = refl
-keeps_seen given Arena n Arena h = refl
-keeps_seen given Globals n Globals h = refl
-keeps_seen given Gogc n Gogc h = refl
-keeps_seen given Minheap n Minheap h = refl
-keeps_seen given x n y h = h
+keeps_seen given x n y h = grind arith
 
 now_seen : (given : Given) (x : Setting) (n : ℕ) → is_some (given_at (with_given given x n) x) ≡ true
-now_seen given Procs n = refl
-now_seen given _ n = refl
+now_seen given x n = grind arith
 
 same_setting : (x y : Setting) → some_key (keys.Setting x) ≡ some_key (keys.Setting y) → x ≡ y
 same_setting x y e = cc

@@ -50,20 +50,9 @@ Story-read_lines said draft new n (line ∷ lines) s r =
 
 -- ---- the text's end
 
-ends_open : (running none : Bool) (a b : ScriptFault) (q p : Program) → running ≡ true → cond running (Err a) (cond none (Err b) (Ok q)) ≡ Ok p → ⊥
-ends_open true none a b q p e r = cc
-ends_open false none a b q p e r = cc
-
-ends_same : (running none : Bool) (a b : ScriptFault) (q p : Program) → cond running (Err a) (cond none (Err b) (Ok q)) ≡ Ok p → q ≡ p
-ends_same true none a b q p r = absurd cc
-ends_same false true a b q p r = absurd cc
-ends_same false false a b q p r = cc
-
 ends_between : (said : List Sentence) (draft : Draft) (n : ℕ) (p : Program) → Story said draft
     → cond (is_some draft.current) (Err (line_fault n Nesting)) (cond (eqb (length draft.closed) 0) (Err (line_fault 0 Missing)) (Ok (program_in draft))) ≡ Ok p → Between said draft × (program_in draft ≡ p)
-ends_between said draft n p (inl h) r = (h, ends_same (is_some draft.current) (eqb (length draft.closed) 0) (line_fault n Nesting) (line_fault 0 Missing) (program_in draft) p r)
-ends_between said draft n p (inr (inl h)) r = absurd (ends_open (is_some draft.current) (eqb (length draft.closed) 0) (line_fault n Nesting) (line_fault 0 Missing) (program_in draft) p (ap is_some h.current) r)
-ends_between said draft n p (inr (inr h)) r = absurd (ends_open (is_some draft.current) (eqb (length draft.closed) 0) (line_fault n Nesting) (line_fault 0 Missing) (program_in draft) p (ap is_some h.current) r)
+ends_between said draft n p h r = grind arith
 
 -- all goroutines have ended, and this is the program
 record Finished (lines : List Sentence) (p : Program) : Type 0 where
@@ -81,9 +70,7 @@ then_told lines n (Err f) p s h = absurd cc
 
 text_told : (lines : List Sentence) (long bytes : Bool) (n : ℕ) (read : Result Draft ScriptFault) (p : Program) → ((draft : Draft) → read ≡ Ok draft → Story lines draft)
     → cond long (Err (line_fault 0 Size)) (cond bytes (Err (line_fault 0 Utf8)) (then_end n read)) ≡ Ok p → Finished lines p
-text_told lines true bytes n read p s h = absurd cc
-text_told lines false true n read p s h = absurd cc
-text_told lines false false n read p s h = then_told lines n read p s h
+text_told lines long bytes n read p s h = grind (arith, then_told)
 
 pub start : Story [] blank_draft
 start = inl (record {

@@ -1,8 +1,8 @@
 -- A line of a script where a goroutine is open, and where it has too many statements.
-use Rattle.std.proofs.Common.{◌≡◌, ℕ, suc, ◌+◌, ◌<◌, true, false, eqb, leb, ◌&&◌, ◌||◌, List, [], ◌∷◌, ◌++◌, length, Option, Some, None, refl, sym, ap, ◌∙◌, subst, append_assoc, arith, inl, inr, ◌⊎◌, unwrap_or, is_some, is_none, leb-false, append-nil}
+use Rattle.std.proofs.Common.{◌≡◌, ℕ, suc, ◌+◌, ◌<◌, true, false, eqb, leb, ◌&&◌, ◌||◌, List, [], ◌∷◌, ◌++◌, length, Option, Some, None, refl, sym, ap, ◌∙◌, subst, append_assoc, arith, inl, inr, ◌⊎◌, is_some, is_none, append-nil}
 use Rattle.gh_script.specs.declared.key.Key.TheVariants as keys
-use Rattle.gh_script.proofs.Vocabulary.{All-push, are_too_many, Block, block_ended, cases_lt, cause_at, continued, Draft, flat_map, flat_map_more, Goroutine, goroutine_by, goroutines_begun, inside, is_too_long, IsBlock, IsRoutine, kept, Key, key_of, lines_in, map_push, names_by, Nothing, number_in, Open, option_and_then, option_map, option_to_list, Repeat, repeat, Repeated, repeats_open, routine_lines, Say, Sentence, settings_by, statement_by_key, statement_of, statements_by, Stmt, with_closed, with_repeat, with_statement, written_out}
-use Rattle.gh_script.proofs.Allowed.{allowed, right_false}
+use Rattle.gh_script.proofs.Vocabulary.{All-push, are_too_many, Block, block_ended, cases_lt, cause_at, continued, Draft, flat_map, flat_map_more, Goroutine, goroutine_by, goroutines_begun, inside, is_too_long, IsBlock, IsRoutine, kept, Key, key_of, lines_in, map_push, names_by, Nothing, number_in, Open, option_and_then, option_map, option_to_list, Repeat, repeat, Repeated, repeats_open, routine_lines, Say, Sentence, settings_by, statement_by_key, statement_of, statements_by, Stmt, with_closed, with_repeat, with_statement}
+use Rattle.gh_script.proofs.Allowed.{allowed}
 use Rattle.gh_script.proofs.Written.{kept_none, kept_some, written_behind, ended_repeat}
 use Rattle.gh_script.proofs.FormSaid.{AreFrames, Frame, inside_end, inside_none, inside_repeat, inside_told, lines_within, Lost, open_by, repeats_by, Running, statements_within, Story, taken_by}
 use Rattle.gh_script.proofs.FormHead.{some_begun, told_same}
@@ -39,24 +39,7 @@ goes_on : (said : List Sentence) (draft new : Draft) (line : Sentence) (h : Runn
     → new.current ≡ Some (record { name = h.go.second; statements = kept ss; repeats = repeats_by (names_by h.head) frames })
     → ss ≡ statements_within (names_by h.head) frames block → lines_within frames block ≡ lines_within h.frames h.block ++ line ∷ []
     → AreFrames (settings_by h.head) (names_by h.head) frames → IsBlock (settings_by h.head) (names_by h.head) (length frames) block → Story (said ++ line ∷ []) new
-goes_on said draft new line h frames block ss g n s c cur is lines outer inner = elim (kept_cases ss) [
-  | inl none ↦ inr (inr (record { g = record { name = h.go.second; statements = kept ss; repeats = repeats_by (names_by h.head) frames }; current = cur; none = none }))
-  | inr some ↦ inr (inl (record {
-    head = h.head;
-    routines = h.routines;
-    go = h.go;
-    frames = frames;
-    block = block;
-    lines = routine_more h.head (flat_map routine_lines h.routines) (lines_within h.frames h.block) (line ∷ []) h.go said h.lines ∙ ap (λ (l : List Sentence). h.head ++ (flat_map routine_lines h.routines ++ h.go ∷ l)) (sym lines);
-    told = told_same draft new h.head h.told g n s;
-    right = h.right;
-    begins = h.begins;
-    outer = outer;
-    inner = inner;
-    closed = c ∙ h.closed;
-    current = cur ∙ ap (λ (o : Option (List Stmt)). Some (record { name = h.go.second; statements = o; repeats = repeats_by (names_by h.head) frames })) (some ∙ ap (λ (l : List Stmt). Some l) is);
-  }))
-]
+goes_on said draft new line h frames block ss g n s c cur is lines outer inner = grind (arith, kept_cases, routine_more)
 
 running_say : (said : List Sentence) (draft : Draft) (key : Key) (line : Sentence) (s : Stmt) → Running said draft → cause_at (inside draft.given draft.names) key line ≡ None → key_of line.first ≡ Some key → statement_of draft.names key line ≡ Some s
     → Story (said ++ line ∷ []) (record draft { current = option_map (with_statement (statement_of draft.names key line)) draft.current })
@@ -76,11 +59,7 @@ length-repeats_by names [] = refl
 length-repeats_by names (f ∷ fs) = ap suc (length-repeats_by names fs)
 
 few_open : (draft : Draft) (names : List (List ℕ)) (go : Sentence) (frames : List Frame) (block : Block) → draft.current ≡ Some (open_by names go frames block) → (is_none draft.current || leb 8 (length (repeats_open draft))) ≡ false → length frames < 8
-few_open draft names go frames block e h =
-    let few = leb-false 8 (length (repeats_open draft)) (right_false (is_none draft.current) (leb 8 (length (repeats_open draft))) h) in
-    let same : length (repeats_open draft) ≡ length (repeats_by names frames) = ap (λ (o : Option Open). length (unwrap_or (option_map (λ (g : Open). g.repeats) o) [])) e in
-    let count = length-repeats_by names frames in
-    omega arith
+few_open draft names go frames block e h = grind (arith, length-repeats_by)
 
 running_repeat : (said : List Sentence) (draft : Draft) (line : Sentence) → Running said draft → cause_at draft keys.Repeat line ≡ None → key_of line.first ≡ Some keys.Repeat → Running (said ++ line ∷ []) (continued draft keys.Repeat line)
 unfolding continued
@@ -171,12 +150,7 @@ lost_none closed o g e none f h =
     cc
 
 lost_end : (draft : Draft) (g : Open) (repeats : List Repeat) → draft.current ≡ Some g → g.statements ≡ None → g.repeats ≡ repeats → is_too_long draft.closed draft.current ≡ false → Lost (block_ended draft draft.current)
-lost_end draft g [] e none f h = absurd (lost_none draft.closed draft.current g e none f h)
-lost_end draft g (innermost ∷ others) e none f h = record {
-  g = with_closed g (innermost ∷ others);
-  current = ap (λ (o : Option Open). (block_ended draft o).current) e ∙ ap (λ (d : Draft). d.current) (ended_repeat draft g innermost others f);
-  none = ap (option_and_then (written_out innermost)) none;
-}
+lost_end draft g repeats e none f h = grind (arith, lost_none)
 
 pub lost_step : (draft : Draft) (key : Key) (line : Sentence) → Lost draft → cause_at draft key line ≡ None → Lost (continued draft key line)
 unfolding continued

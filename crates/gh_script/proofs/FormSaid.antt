@@ -1,20 +1,14 @@
 -- What the lines so far say of a script: its head, the goroutines that have ended, and one that is open.
-use Rattle.std.proofs.Common.{◌≡◌, ℕ, ◌<◌, ◌≤◌, Bool, true, false, not, cond, ◌||◌, List, [], ◌∷◌, ◌++◌, length, map, Option, Some, None, refl, sym, ap, ◌∙◌, subst, ◌⊎◌, All, is_some, fold, ◌≢◌, AllPairs}
+use Rattle.std.proofs.Common.{◌≡◌, ℕ, ◌<◌, ◌≤◌, Bool, true, false, not, cond, ◌||◌, List, [], ◌∷◌, ◌++◌, length, map, Option, Some, None, refl, sym, ap, ◌∙◌, subst, ◌⊎◌, All, is_some, fold, ◌≢◌, AllPairs, arith}
 use Rattle.gh_script.specs.declared.key.Key.TheVariants as keys
-use Rattle.gh_script.proofs.Vocabulary.{AreApart, blank_draft, Block, cause_at, Draft, fits_limits, flat_map, Given, given_at, goroutine_by, has_goroutine, inside, is_limit_fault, is_nesting_fault, is_number_fault, is_twice_fault, is_type_key, is_unknown_fault, is_word_fault, IsBlock, IsHead, IsRoutine, IsTaken, IsTakenAs, Key, key_of, Limit, lines_in, names_by, Nesting, nothing_given, Number, number_in, Open, Procs, Repeat, Routine, routine_lines, Sentence, Setting, settings_by, shapes_by, statements_by, Stmt, Twice, type_of, types_in, Unknown, Word}
+use Rattle.gh_script.proofs.Vocabulary.{AreApart, blank_draft, Block, cause_at, Draft, fits_limits, flat_map, Given, given_at, goroutine_by, has_goroutine, inside, is_limit_fault, is_nesting_fault, is_number_fault, is_twice_fault, is_type_key, is_unknown_fault, is_word_fault, IsBlock, IsHead, IsRoutine, IsTaken, IsTakenAs, Key, key_of, Limit, lines_in, names_by, Nesting, nothing_given, Number, number_in, Open, Repeat, Routine, routine_lines, Sentence, Setting, settings_by, shapes_by, statements_by, Stmt, Twice, type_of, types_in, Unknown, Word}
 use Rattle.gh_script.proofs.Allowed.{Allowed, allowed, left_false}
 
 -- ---- lines taken alone
 
 taken_none : (a b c d e f : Bool) → a ≡ false → b ≡ false → c ≡ false → d ≡ false → e ≡ false → f ≡ false
     → cond a (Some Word) (cond b (Some Number) (cond c (Some Limit) (cond d (Some Twice) (cond e (Some Unknown) (cond f (Some Nesting) None))))) ≡ None
-taken_none true b c d e f p q r s t u = absurd cc
-taken_none false true c d e f p q r s t u = absurd cc
-taken_none false false true d e f p q r s t u = absurd cc
-taken_none false false false true e f p q r s t u = absurd cc
-taken_none false false false false true f p q r s t u = absurd cc
-taken_none false false false false false true p q r s t u = absurd cc
-taken_none false false false false false false p q r s t u = refl
+taken_none a b c d e f p q r s t u = grind arith
 
 pub cause_none : (draft : Draft) (key : Key) (line : Sentence) → Allowed draft key line → cause_at draft key line ≡ None
 unfolding cause_at
@@ -30,8 +24,7 @@ pub taken_by : (draft : Draft) (line : Sentence) (key : Key) → key_of line.fir
 taken_by draft line key h c k e = subst (λ (z : Key). cause_at draft z line ≡ None) (same_key key k (sym h ∙ e)) c
 
 pub none_given : (x : Setting) → is_some (given_at nothing_given x) ≡ false
-none_given Procs = refl
-none_given _ = refl
+none_given x = grind arith
 
 no_types : (word : List ℕ) → is_some (type_of [] word) ≡ false
 unfolding type_of
@@ -42,8 +35,7 @@ unfolding has_goroutine
 no_goroutines word = refl
 
 pub or_false : (a b : Bool) → a ≡ false → b ≡ false → (a || b) ≡ false
-or_false true b p q = absurd cc
-or_false false b p q = q
+or_false a b p q = grind arith
 
 pub alone_set : (draft : Draft) (x : Setting) (line : Sentence) → cause_at draft (keys.Setting x) line ≡ None → cause_at blank_draft (keys.Setting x) line ≡ None
 alone_set draft x line c =
@@ -81,16 +73,14 @@ fold_push f a [] x = refl
 fold_push f a (y ∷ ys) x = fold_push f (f a y) ys x
 
 filter_step : (x : Sentence) (y : Sentence) (more some : List Sentence) (b : Bool) → more ≡ some ++ x ∷ [] → cond b (y ∷ more) more ≡ cond b (y ∷ some) some ++ x ∷ []
-filter_step x y more some true e = ap (λ (l : List Sentence). y ∷ l) e
-filter_step x y more some false e = e
+filter_step x y more some b e = grind arith
 
 pub types_push : (lines : List Sentence) (line : Sentence) → is_type_key (key_of line.first) ≡ true → types_in (lines ++ line ∷ []) ≡ types_in lines ++ line ∷ []
 types_push [] line h = rw h refl
 types_push (l ∷ ls) line h = filter_step line l (types_in (ls ++ line ∷ [])) (types_in ls) (is_type_key (key_of l.first)) (types_push ls line h)
 
 other_step : (y : Sentence) (more some : List Sentence) (b : Bool) → more ≡ some → cond b (y ∷ more) more ≡ cond b (y ∷ some) some
-other_step y more some true e = ap (λ (l : List Sentence). y ∷ l) e
-other_step y more some false e = e
+other_step y more some b e = grind arith
 
 pub types_push_other : (lines : List Sentence) (line : Sentence) → is_type_key (key_of line.first) ≡ false → types_in (lines ++ line ∷ []) ≡ types_in lines
 types_push_other [] line h = rw h refl

@@ -1,36 +1,17 @@
 -- A text that spells a program spells a well-formed one; each text has one reading.
-use Rattle.std.proofs.Common.{◌≡◌, ℕ, ◌+◌, ◌*◌, ◌<◌, ◌≤◌, Bool, true, false, cond, eqb, ltb, not, List, [], ◌∷◌, length, take, Option, Some, None, Result, Ok, Err, refl, sym, ap, subst, arith, inl, inr, ◌⊎◌, unwrap_or, All, is_some, IfOk, lt-ltb, take_all, length-take-le}
+use Rattle.std.proofs.Common.{◌≡◌, ℕ, ◌+◌, ◌*◌, ◌<◌, ◌≤◌, Bool, true, false, cond, eqb, ltb, not, List, [], ◌∷◌, length, take, Option, Some, Result, Ok, Err, refl, sym, ap, subst, arith, inl, inr, ◌⊎◌, unwrap_or, All, is_some, IfOk, lt-ltb, take_all, length-take-le}
 use Rattle.gh_script.specs.declared.fault.ParseError.{ParseError}
 use Rattle.gh_script.specs.Outcome.{EndsAsRead}
-use Rattle.gh_script.proofs.Vocabulary.{All-nil, Arena, AreOpenStatements, AreStatements, AreWithin, blank_draft, cases_lt, Draft, eqb-false, FitsShape, Given, given_at, Globals, globals_in, go_on, Gogc, is_utf8, IsNamed, IsNewName, IsOpenNamed, IsPacked, IsSound, least, line_fault, lines_of, Minheap, Missing, most, most_bytes, Nesting, nothing_given, Procs, Program, program_in, read_end, read_line, read_lines, reading_of, Refused, ScriptFault, sentence_of, Setting, Settings, settings_in, Size, Spells, then_end, Utf8, WellFormed, Why, words_of, Workers}
+use Rattle.gh_script.proofs.Vocabulary.{Arena, AreStatements, AreWithin, blank_draft, cases_lt, Draft, eqb-false, Given, given_at, Globals, globals_in, go_on, Gogc, is_utf8, IsSound, least, line_fault, lines_of, Minheap, Missing, most, most_bytes, Nesting, Procs, Program, program_in, read_end, read_line, read_lines, reading_of, Refused, ScriptFault, sentence_of, Setting, Settings, settings_in, Size, Spells, then_end, Utf8, WellFormed, Why, words_of, Workers}
 use Rattle.gh_script.proofs.ShapeLaws.{All-ShapesFit}
 use Rattle.gh_script.proofs.Sound.{IsSound-read_line}
 
-nothing : (x : Setting) (n : ℕ) → given_at nothing_given x ≡ Some n → (least x ≤ n) × (n ≤ most x)
-nothing Procs n h = absurd cc
-nothing _ n h = absurd cc
-
 pub IsSound-blank : IsSound blank_draft
-IsSound-blank = record {
-  given = nothing;
-  types = omega arith;
-  named = refl;
-  shapes_fit = All-nil FitsShape;
-  shapes_packed = All-nil IsPacked;
-  goroutines = omega arith;
-  closed_names = All-nil IsNamed;
-  open_names = All-nil IsOpenNamed;
-  names_apart = λ i j d lt below. absurd (omega arith);
-  open_apart = All-nil (IsNewName []);
-  statements = All-nil (AreStatements 1 0);
-  open_statements = All-nil (AreOpenStatements 1 0);
-  few_statements = omega arith;
-}
+IsSound-blank = grind arith
 
 line_sound : (draft new : Draft) (n : ℕ) (lines : List (List ℕ)) (read : Result Draft Why) → (lines_sound : (next : Draft) → read ≡ Ok next → read_lines next (n + 1) lines ≡ Ok new → IsSound new)
     → go_on (λ next. read_lines next (n + 1) lines) (n + 1) read ≡ Ok new → IsSound new
-line_sound draft new n lines (Ok next) rest h = rest next refl h
-line_sound draft new n lines (Err why) rest h = absurd cc
+line_sound draft new n lines read rest h = grind arith
 
 IsSound-read_lines : (draft new : Draft) (n : ℕ) (lines : List (List ℕ)) → IsSound draft → read_lines draft n lines ≡ Ok new → IsSound new
 unfolding read_lines
@@ -39,8 +20,7 @@ IsSound-read_lines draft new n (line ∷ lines) s h =
     line_sound draft new n lines (read_line draft (sentence_of (words_of line))) (λ next e rest. IsSound-read_lines next new (n + 1) lines (IsSound-read_line draft next (sentence_of (words_of line)) s e) rest) h
 
 within : (o : Option ℕ) (d lo hi : ℕ) → ((n : ℕ) → o ≡ Some n → (lo ≤ n) × (n ≤ hi)) → lo ≤ d → d ≤ hi → (lo ≤ unwrap_or o d) × (unwrap_or o d ≤ hi)
-within None d lo hi h low high = (low, high)
-within (Some n) d lo hi h low high = h n refl
+within o d lo hi h low high = grind arith
 
 AreWithin-settings_in : (given : Given) → ((x : Setting) (n : ℕ) → given_at given x ≡ Some n → (least x ≤ n) × (n ≤ most x)) → AreWithin (settings_in given)
 AreWithin-settings_in given h =
@@ -80,7 +60,7 @@ some_closed n h = let ne : n ≡ 0 → ⊥ = eqb-false n 0 h in omega arith
 -- what the end of a text makes of its draft
 pub finished : (draft d : Draft) (settings : Settings) (n : ℕ) → draft ≡ d → settings ≡ settings_in d.given → IsSound draft → n ≡ length d.closed → eqb n 0 ≡ false
     → WellFormed (record { settings = settings; shapes = d.shapes; goroutines = d.closed })
-finished draft d settings n same given sound long some = rw given (formed d (subst IsSound same sound) (subst (λ (k : ℕ). 1 ≤ k) long (some_closed n some)))
+finished draft d settings n same given sound long some = grind (arith, formed, some_closed)
 
 WellFormed-read_end : (draft : Draft) (n : ℕ) (p : Program) → IsSound draft → read_end n draft ≡ Ok p → WellFormed p
 unfolding read_end

@@ -1,9 +1,8 @@
 -- The text of a generated script has the form of a script, and says its program.
-use Rattle.std.proofs.Common.{◌≡◌, ℕ, suc, ◌+◌, ◌*◌, ◌/◌, ◌<◌, ◌≤◌, Bool, true, false, not, eqb, ◌&&◌, List, [], ◌∷◌, ◌++◌, length, map, get_or, Option, Some, None, refl, sym, ap, ◌∙◌, subst, append_assoc, append-nil, arith, All, AllPairs, ◌≢◌, length-append}
+use Rattle.std.proofs.Common.{◌≡◌, ℕ, ◌+◌, ◌*◌, ◌/◌, ◌<◌, ◌≤◌, Bool, true, false, not, eqb, ◌&&◌, List, [], ◌∷◌, ◌++◌, length, map, get_or, Option, Some, None, refl, sym, ap, ◌∙◌, subst, append_assoc, append-nil, arith, All, AllPairs, ◌≢◌, length-append}
 use Rattle.std.specs.Prelude.{decimal, codes, sum_by}
-use Rattle.std.specs.List.{flat_map, list_all, list_any, range_with_len, before_first}
+use Rattle.std.specs.List.{flat_map, list_all, range_with_len}
 use Rattle.std.specs.Option.{option_to_list}
-use Rattle.std.specs.Str.{bytes_eq}
 use Rattle.std.proofs.lemmas.Fmt.{decimal_digit}
 use Rattle.std.proofs.lemmas.Bool.{eq-eqb}
 use Rattle.std.proofs.lemmas.List.{length-map, map-append}
@@ -14,17 +13,16 @@ use Rattle.std.proofs.lemmas.List.Folds.{list_all-append}
 use Rattle.std.proofs.lemmas.List.FromFn.{get_or-map-range_with_len, length-map-range_with_len}
 use Rattle.gh_script.specs.declared.key.Key.TheVariants as keys
 use Rattle.gh_script.specs.declared.key.Key.{Key}
-use Rattle.gh_script.specs.declared.key.Setting.{Setting}
 use Rattle.gh_script.specs.declared.key.Setting.TheVariants.{Procs, Workers, Arena, Globals, Gogc, Minheap}
 use Rattle.gh_script.specs.declared.given.Given.{Given}
 use Rattle.gh_script.specs.declared.statement.Stmt.{Stmt}
 use Rattle.gh_script.specs.Draft.{blank_draft, has_goroutine, settings_in, type_of}
-use Rattle.gh_script.specs.Form.{AreApart, Block, goroutine_by, HasForm, inside, IsBlock, IsHead, IsRoutine, IsTaken, lines_in, names_by, Nothing, Routine, routine_lines, Say, settings_by, shapes_by, statement_by_key, statements_by}
-use Rattle.gh_script.specs.Generated.{generated_goroutine, generated_name, generated_program, generated_text, GeneratedGoroutinesKeepApart, GeneratedScriptsHaveTheirSize, goroutine_lines, HasItsSize, head_lines, KeepsTo, node_shape, spaced, state_behind, statement_by, statement_words, statements_drawn, word_drawn}
+use Rattle.gh_script.specs.Form.{AreApart, Block, goroutine_by, HasForm, inside, IsBlock, IsHead, IsRoutine, IsTaken, lines_in, names_by, Nothing, Routine, routine_lines, Say, settings_by, shapes_by, statements_by}
+use Rattle.gh_script.specs.Generated.{generated_goroutine, generated_name, generated_program, generated_text, GeneratedGoroutinesKeepApart, GeneratedScriptsHaveTheirSize, goroutine_lines, head_lines, KeepsTo, node_shape, spaced, state_behind, statement_by, statement_words, statements_drawn, word_drawn}
 use Rattle.gh_script.specs.Grammar.{cause_at}
-use Rattle.gh_script.specs.Program.{AreNamedApart, Goroutine, no_goroutine, Program, statements_in, statements_of}
+use Rattle.gh_script.specs.Program.{AreNamedApart, Goroutine, no_goroutine, statements_in}
 use Rattle.gh_script.specs.ShapeText.{are_counts, are_letters, bits_as_number, fields_behind_letter, fields_of, fits_behind, fits_limits, items_of, packed, shape_with, spread}
-use Rattle.gh_script.specs.Text.{Sentence, sentence_of, lines_of}
+use Rattle.gh_script.specs.Text.{Sentence, sentence_of}
 use Rattle.gh_script.specs.Words.{block_key_of, digits_value_of, is_name, key_of, number_spelled, setting_named, statement_key_of, value_from}
 use Rattle.gh_script.proofs.FormSaid.{cause_none, taken_by}
 use Rattle.gh_script.proofs.GeneratedWords.{given, IsSaid, IsSaid-statement_by, KeepsTo-statement_by, name_line, names, one_digit}
@@ -175,11 +173,8 @@ lines_of_routines (g ∷ gs) =
     ∙ ap (λ (l : List Sentence). map sentence_of (goroutine_lines g) ++ l) (lines_of_routines gs)
     ∙ sym (map-append sentence_of (goroutine_lines g) (flat_map goroutine_lines gs))
 
-abbrev called : List ℕ → List Stmt → Goroutine
-called name statements = record { name = name; statements = statements }
-
 goroutine_by-routine_of : (g : Goroutine) → IsRight g → goroutine_by names (routine_of g) ≡ g
-goroutine_by-routine_of g h = ap (called g.name) (statements_by-block_of Nothing g.statements h.says)
+goroutine_by-routine_of g h = grind (arith, statements_by-block_of)
 
 goroutines_by : (gs : List Goroutine) → All IsRight gs → map (goroutine_by names) (map routine_of gs) ≡ gs
 goroutines_by [] h = refl
@@ -226,7 +221,7 @@ goroutines_fit (g ∷ gs) h =
     ∙ both_true (list_all is_line (goroutine_lines g)) (list_all is_line (flat_map goroutine_lines gs)) (goroutine_fits g (All-head IsRight g gs h)) (goroutines_fit gs (All-tail IsRight g gs h))
 
 all_fit : (gs : List Goroutine) → All IsRight gs → list_all is_line (head_lines ++ flat_map goroutine_lines gs) ≡ true
-all_fit gs h = list_all-append is_line head_lines (flat_map goroutine_lines gs) ∙ both_true (list_all is_line head_lines) (list_all is_line (flat_map goroutine_lines gs)) head_fits (goroutines_fit gs h)
+all_fit gs h = grind (arith, goroutines_fit, head_fits)
 
 length-goroutine_lines : (g : Goroutine) → length (goroutine_lines g) ≡ 2 + statements_in g
 unfolding goroutine_lines

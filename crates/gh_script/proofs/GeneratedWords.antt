@@ -1,16 +1,15 @@
 -- The lines of a generated script say its statements.
-use Rattle.std.proofs.Common.{◌≡◌, ℕ, zero, suc, ◌+◌, ◌*◌, ◌/◌, ◌%◌, ◌<◌, ◌≤◌, Bool, true, false, cond, List, [], ◌∷◌, ◌++◌, length, Option, Some, None, refl, sym, ap, subst, arith, le-ltb}
+use Rattle.std.proofs.Common.{◌≡◌, ℕ, zero, suc, ◌+◌, ◌/◌, ◌%◌, ◌<◌, Bool, true, cond, List, [], ◌∷◌, ◌++◌, length, Some, refl, sym, ap, subst, arith, le-ltb}
 use Rattle.std.specs.Prelude.{decimal, codes}
 use Rattle.std.specs.List.{list_all}
 use Rattle.std.proofs.lemmas.Bool.{lt-leb}
 use Rattle.std.proofs.lemmas.Fmt.{decimal_digit}
 use Rattle.gh_script.specs.declared.given.Given.{Given}
-use Rattle.gh_script.specs.declared.key.Key.{Key}
 use Rattle.gh_script.specs.declared.key.Key.TheVariants as keys
 use Rattle.gh_script.specs.declared.statement.Stmt.{Stmt}
 use Rattle.gh_script.specs.declared.statement.Stmt.TheVariants.{New, Load, Store, GetGlobal, SetGlobal, Move, Nil}
 use Rattle.gh_script.specs.Form.{inside, IsTaken, statement_by_key}
-use Rattle.gh_script.specs.Generated.{generated_name, KeepsTo, register_word, statement_by, statement_words}
+use Rattle.gh_script.specs.Generated.{generated_name, KeepsTo, statement_by, statement_words}
 use Rattle.gh_script.specs.Text.{sentence_of}
 use Rattle.gh_script.specs.Words.{register_named, number_spelled, digits_value_of, value_from, is_name, key_of, setting_named, block_key_of, statement_key_of}
 use Rattle.gh_script.specs.Draft.{type_of}
@@ -141,13 +140,7 @@ nil_says d rd e p l = record {
 -- one of seven
 one_of : (P : Stmt → Type 0) (b1 b2 b3 b4 b5 b6 : Bool) (s1 s2 s3 s4 s5 s6 s7 : Stmt) → P s1 → P s2 → P s3 → P s4 → P s5 → P s6 → P s7
     → P (cond b1 s1 (cond b2 s2 (cond b3 s3 (cond b4 s4 (cond b5 s5 (cond b6 s6 s7))))))
-one_of P true b2 b3 b4 b5 b6 s1 s2 s3 s4 s5 s6 s7 p1 p2 p3 p4 p5 p6 p7 = p1
-one_of P false true b3 b4 b5 b6 s1 s2 s3 s4 s5 s6 s7 p1 p2 p3 p4 p5 p6 p7 = p2
-one_of P false false true b4 b5 b6 s1 s2 s3 s4 s5 s6 s7 p1 p2 p3 p4 p5 p6 p7 = p3
-one_of P false false false true b5 b6 s1 s2 s3 s4 s5 s6 s7 p1 p2 p3 p4 p5 p6 p7 = p4
-one_of P false false false false true b6 s1 s2 s3 s4 s5 s6 s7 p1 p2 p3 p4 p5 p6 p7 = p5
-one_of P false false false false false true s1 s2 s3 s4 s5 s6 s7 p1 p2 p3 p4 p5 p6 p7 = p6
-one_of P false false false false false false s1 s2 s3 s4 s5 s6 s7 p1 p2 p3 p4 p5 p6 p7 = p7
+one_of P b1 b2 b3 b4 b5 b6 s1 s2 s3 s4 s5 s6 s7 p1 p2 p3 p4 p5 p6 p7 = grind arith
 
 -- what holds of each kind of statement, holds of that of each word
 pub each_statement : (P : Stmt → Type 0) (i word : ℕ) → P (New (word / 8 % 4) 0) → P (Store (word / 8 % 4) (word / 128 % 2) (word / 32 % 4)) → P (Load (word / 8 % 4) (word / 32 % 4) (word / 128 % 2))

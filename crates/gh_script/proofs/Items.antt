@@ -2,7 +2,7 @@
 use Rattle.std.proofs.Common.{◌≡◌, ℕ, ◌+◌, ◌<◌, ◌≤◌, Bool, true, false, eqb, leb, ◌&&◌, List, [], ◌∷◌, ◌++◌, length, get_or, take, drop, replicate, refl, sym, ap, ◌∙◌, append_assoc, arith}
 use Rattle.std.specs.List.{list_all, position_or_len, before_first}
 use Rattle.std.proofs.lemmas.List.{at_drop_more, at_drop_all, append-nil, length-append, length-replicate}
-use Rattle.std.proofs.lemmas.Bool.{le-leb, lt-leb, leb-true}
+use Rattle.std.proofs.lemmas.Bool.{le-leb, leb-true}
 use Rattle.gh_class.specs.declared.class.TheConstants.{MOST_TYPE_WORDS}
 use Rattle.gh_script.specs.ShapeText.{is_kind, Item, items_of, fields_in, count_fits, total_in, fits_behind, fits_limits, spread, fields_of}
 
@@ -38,10 +38,7 @@ empty_stops : (n m before : ℕ) (all : Bool) → n ≡ 0 → (((leb 1 n && leb 
 empty_stops n m before all h = rw h refl
 
 wide_stops : (n m before : ℕ) (each all : Bool) → MOST_TYPE_WORDS < before + n → ((each && all) && leb (before + (n + m)) MOST_TYPE_WORDS) ≡ false
-wide_stops n m before true true h = lt-leb (before + (n + m)) MOST_TYPE_WORDS (omega arith)
-wide_stops n m before true false h = refl
-wide_stops n m before false true h = refl
-wide_stops n m before false false h = refl
+wide_stops n m before each all h = grind arith
 
 goes_on : (n m before : ℕ) (all : Bool) → 1 ≤ n → before + n ≤ MOST_TYPE_WORDS → (((leb 1 n && leb n MOST_TYPE_WORDS) && all) && leb (before + (n + m)) MOST_TYPE_WORDS) ≡ (all && leb ((before + n) + m) MOST_TYPE_WORDS)
 goes_on n m before all some within =
@@ -88,8 +85,7 @@ length-spread [] = refl
 length-spread (item ∷ items) = omega (arith, length-append (replicate (fields_in item) item.pointer) (spread items), length-replicate (fields_in item) item.pointer, length-spread items)
 
 and_right : (a b : Bool) → (a && b) ≡ true → b ≡ true
-and_right true b h = h
-and_right false b h = absurd cc
+and_right a b h = grind arith
 
 -- a shape within the limits has at most MOST_TYPE_WORDS fields
 pub length-fields_of : (word : List ℕ) → fits_limits word ≡ true → length (fields_of word) ≤ MOST_TYPE_WORDS

@@ -3,12 +3,10 @@ use Rattle.std.proofs.Common.{◌≡◌, ℕ, ◌+◌, ◌<◌, ◌≤◌, List,
 use Rattle.std.specs.List.{position_or_len}
 use Rattle.std.proofs.lemmas.Bool.{cases_lt}
 use Rattle.std.proofs.lemmas.List.{take_all, drop_all, length-drop, nil_from_length}
-use Rattle.gh_script.specs.declared.fault.ScriptFault.{ScriptFault}
 use Rattle.gh_script.specs.declared.fault.ParseError.{ParseError}
-use Rattle.gh_script.specs.declared.fault.ParseError.TheVariants as errors
 use Rattle.gh_script.specs.Text.{is_feed, pieces, without_return, lines_of, words_of, sentence_of}
 use Rattle.gh_script.specs.Draft.{Draft, IsSound}
-use Rattle.gh_script.specs.Grammar.{read_line, read_lines, go_on, line_fault}
+use Rattle.gh_script.specs.Grammar.{read_line, read_lines, go_on}
 use Rattle.gh_script.specs.Outcome.{Continues, ReadsAll}
 use Rattle.gh_script.proofs.Pieces.{pieces_first, pieces_last}
 use Rattle.gh_script.proofs.Sound.{IsSound-read_line}
@@ -66,12 +64,7 @@ Reading-more first new draft text rest line n end so_far some at within cut read
 -- a line that is refused
 pub Reading-stops : (e : ParseError) (first new draft : Draft) (text rest line : List ℕ) (n end count : ℕ) → Reading first text draft n rest → 0 < length rest → end ≡ position_or_len is_feed rest → end ≤ length rest
     → line ≡ without_return (take end rest) → Continues {T = Unit {0}} (Err e) new (n + 1) (read_line draft (sentence_of (words_of line))) → ReadsAll (Err e) new count (read_lines first 0 (lines_of text))
-Reading-stops errors.NoMemory first new draft text rest line n end count so_far some at within cut read = tt
-Reading-stops (errors.Script f) first new draft text rest line n end count so_far some at within cut read =
-    let lines : lines_of rest ≡ line ∷ lines_of (drop (end + 1) rest) = lines_of-first rest end some at within ∙ ap (λ (l : List ℕ). l ∷ lines_of (drop (end + 1) rest)) (sym cut) in
-    let step : read_lines draft n (lines_of rest) ≡ Err (line_fault (n + 1) f.why) =
-    ap (read_lines draft n) lines ∙ unfold_first draft n line (lines_of (drop (end + 1) rest)) ∙ ap (go_on (λ next. read_lines next (n + 1) (lines_of (drop (end + 1) rest))) (n + 1)) read.0 in
-    sym so_far.same ∙ step ∙ ap (λ (x : ScriptFault). Err x) (sym read.1)
+Reading-stops e first new draft text rest line n end count so_far some at within cut read = grind (arith, lines_of-first, unfold_first)
 
 -- the last line has been read
 pub Reading-end : (first draft : Draft) (text rest : List ℕ) (n : ℕ) → Reading first text draft n rest → length rest ≡ 0 → (read_lines first 0 (lines_of text) ≡ Ok draft) × (n ≡ length (lines_of text))

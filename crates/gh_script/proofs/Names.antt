@@ -1,30 +1,24 @@
 -- A name is text.
-use Rattle.std.proofs.Common.{◌≡◌, ℕ, zero, suc, ◌<◌, ◌≤◌, Bool, true, false, leb, ltb, ◌&&◌, ◌||◌, List, [], ◌∷◌, length, get_or, refl, arith, inl, inr}
+use Rattle.std.proofs.Common.{◌≡◌, ℕ, zero, suc, ◌<◌, ◌≤◌, Bool, true, ltb, ◌&&◌, List, [], ◌∷◌, length, get_or, refl, arith, inl, inr}
 use Rattle.std.specs.List.{list_all}
 use Rattle.std.specs.Str.{IsUtf8, IsAscii}
-use Rattle.std.proofs.lemmas.Bool.{leb-true, ltb-true, cases_lt}
+use Rattle.std.proofs.lemmas.Bool.{ltb-true, cases_lt}
 use Rattle.std.proofs.lemmas.List.{get_or_past}
 use Rattle.std.proofs.lemmas.List.Recursion.{and_at}
 use Rattle.std.proofs.lemmas.Str.{IsUtf8-from_ascii}
-use Rattle.gh_script.specs.Words.{is_letter, is_digit, is_name_byte, is_name}
+use Rattle.gh_script.specs.Words.{is_letter, is_name_byte, is_name}
 
 pub and_left : (a b : Bool) → (a && b) ≡ true → a ≡ true
-and_left true b h = refl
-and_left false b h = absurd cc
+and_left a b h = grind arith
 
 pub and_right : (a b : Bool) → (a && b) ≡ true → b ≡ true
-and_right true b h = h
-and_right false b h = absurd cc
+and_right a b h = grind arith
 
 letter_small : (c : ℕ) → is_letter c ≡ true → c < 128
-letter_small c h = omega (arith, leb-true c 122 (and_right (leb 97 c) (leb c 122) h))
-
-name_small : (c : ℕ) (a b : Bool) → (a ≡ true → c < 128) → (b ≡ true → c < 128) → (a || b) ≡ true → c < 128
-name_small c true b f g h = f refl
-name_small c false b f g h = g h
+letter_small c h = grind arith
 
 name_byte_small : (c : ℕ) → is_name_byte c ≡ true → c < 128
-name_byte_small c h = name_small c (is_letter c) (is_digit c) (letter_small c) (λ d. omega (arith, leb-true c 57 (and_right (leb 48 c) (leb c 57) d))) h
+name_byte_small c h = grind arith
 
 rest_small : (cs : List ℕ) (i : ℕ) → list_all is_name_byte cs ≡ true → get_or cs i 0 < 128
 rest_small cs i h = elim (cases_lt i (length cs)) [

@@ -1,8 +1,8 @@
 -- Numbers read digit by digit.
-use Rattle.std.proofs.Common.{◌≡◌, ℕ, ◌+◌, ◌-◌, ◌*◌, ◌^◌, ◌<◌, ◌≤◌, Bool, true, false, cond, ltb, ◌&&◌, List, [], ◌∷◌, length, get_or, drop, Option, Some, None, refl, sym, ◌∙◌, arith, inl, inr}
+use Rattle.std.proofs.Common.{◌≡◌, ℕ, ◌+◌, ◌-◌, ◌*◌, ◌^◌, ◌<◌, ◌≤◌, Bool, cond, ltb, ◌&&◌, List, [], ◌∷◌, length, get_or, drop, Option, Some, None, refl, sym, ◌∙◌, arith}
 use Rattle.std.specs.List.{list_all}
 use Rattle.std.proofs.lemmas.List.{at_drop_more, at_drop_all}
-use Rattle.std.proofs.lemmas.Bool.{cases_lt, lt-ltb, le-ltb}
+use Rattle.std.proofs.lemmas.Bool.{lt-ltb}
 use Rattle.gh_script.specs.Words.{is_digit, value_from, digits_value_of}
 
 -- the number that digits spell behind a number, where each front of it is below the limit
@@ -16,16 +16,11 @@ value_from-le before [] = omega arith
 value_from-le before (c ∷ cs) = omega (arith, value_from-le (10 * before + (c - 48)) cs)
 
 past : (limit v : ℕ) (digits : Bool) → limit ≤ v → None ≡ cond (digits && ltb v limit) (Some v) None
-past limit v true h = rw (le-ltb v limit h) refl
-past limit v false h = refl
+past limit v digits h = grind arith
 
 step : (limit next : ℕ) (cs : List ℕ) (digit : Bool) → (next < limit → reads_from limit next cs ≡ cond (list_all is_digit cs && ltb (value_from next cs) limit) (Some (value_from next cs)) None)
     → cond (digit && ltb next limit) (reads_from limit next cs) None ≡ cond ((digit && list_all is_digit cs) && ltb (value_from next cs) limit) (Some (value_from next cs)) None
-step limit next cs false rest = refl
-step limit next cs true rest = elim (cases_lt next limit) [
-  | inl lt ↦ rw (lt-ltb next limit lt) (rest lt)
-  | inr le ↦ rw (le-ltb next limit le) (past limit (value_from next cs) (list_all is_digit cs) (omega (arith, value_from-le next cs)))
-]
+step limit next cs digit rest = grind (arith, past, value_from-le)
 
 pub reads_from-is : (limit before : ℕ) (cs : List ℕ) → before < limit → reads_from limit before cs ≡ cond (list_all is_digit cs && ltb (value_from before cs) limit) (Some (value_from before cs)) None
 unfolding reads_from value_from
@@ -36,12 +31,10 @@ abbrev pub next_of : ℕ → ℕ → ℕ → Option ℕ
 next_of limit before c = cond (is_digit c && ltb (10 * before + (c - 48)) limit) (Some (10 * before + (c - 48))) None
 
 more : (digits : Bool) (next v : ℕ) (rest : Option ℕ) (limit : ℕ) (cs : List ℕ) → Some v ≡ cond digits (Some next) None → cond digits (reads_from limit next cs) None ≡ reads_from limit v cs
-more true next v rest limit cs e = let same : next ≡ v = cc in rw same refl
-more false next v rest limit cs e = absurd cc
+more digits next v rest limit cs e = grind arith
 
 stops : (digits : Bool) (next : ℕ) (rest : Option ℕ) → None ≡ cond digits (Some next) None → cond digits rest None ≡ None
-stops true next rest e = absurd cc
-stops false next rest e = refl
+stops digits next rest e = grind arith
 
 pub read_more : (limit before i v : ℕ) (cs : List ℕ) (total : Option ℕ) → i < length cs → Some v ≡ next_of limit before (get_or cs i 0) → reads_from limit before (drop i cs) ≡ total → reads_from limit v (drop (i + 1) cs) ≡ total
 unfolding reads_from

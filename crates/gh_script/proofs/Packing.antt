@@ -1,5 +1,5 @@
 -- Fields packed 64 a word.
-use Rattle.std.proofs.Common.{◌≡◌, ℕ, zero, suc, ◌+◌, ◌-◌, ◌*◌, ◌/◌, ◌^◌, ◌<◌, ◌≤◌, min, Bool, true, false, cond, List, [], ◌∷◌, ◌++◌, length, get_or, take, drop, map, refl, sym, ap, ◌∙◌, arith}
+use Rattle.std.proofs.Common.{◌≡◌, ℕ, zero, suc, ◌+◌, ◌-◌, ◌*◌, ◌/◌, ◌^◌, ◌<◌, ◌≤◌, min, Bool, false, cond, List, [], ◌∷◌, ◌++◌, length, get_or, take, drop, map, refl, sym, ap, ◌∙◌, arith}
 use Rattle.std.specs.Int.{from_bool}
 use Rattle.std.specs.List.{range_with_len}
 use Rattle.std.proofs.lemmas.List.{drop_all, take_min, take_rest, length-drop, at_drop_more}
@@ -12,8 +12,7 @@ two_pow_pos zero = omega arith
 two_pow_pos (suc n) = omega (arith, two_pow_pos n, two-pow-succ n)
 
 pub bit_small : (bit : Bool) → cond bit 1 0 ≤ 1
-bit_small true = omega arith
-bit_small false = omega arith
+bit_small bit = grind arith
 
 pub word_of-lt : (fields : List Bool) (n : ℕ) → length fields ≤ n → bits_as_number fields < 2 ^ n
 unfolding bits_as_number
@@ -55,5 +54,4 @@ word_of-cut fields rest n w from same =
     same ∙ ap bits_as_number e ∙ ap (λ (xs : List Bool). bits_as_number (take 64 xs)) whole
 
 pub from_bool-is : (b : Bool) → from_bool b ≡ cond b 1 0
-from_bool-is true = refl
-from_bool-is false = refl
+from_bool-is b = grind arith

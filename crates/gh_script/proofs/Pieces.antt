@@ -1,11 +1,10 @@
 -- The pieces of a text, and the words of a line, from the front on.
-use Rattle.std.proofs.Common.{◌≡◌, ℕ, suc, ◌+◌, ◌<◌, ◌≤◌, Bool, true, false, not, cond, List, [], ◌∷◌, length, get_or, take, drop, refl, sym, ap, subst, ◌∙◌, arith, inl, inr}
+use Rattle.std.proofs.Common.{◌≡◌, ℕ, suc, ◌+◌, ◌<◌, ◌≤◌, Bool, true, false, not, cond, List, [], ◌∷◌, length, get_or, take, drop, refl, sym, ap, ◌∙◌, arith}
 use Rattle.std.specs.Prelude.{filter}
 use Rattle.std.specs.List.{position_or_len, prefix_len, before_first, after_first}
 use Rattle.std.proofs.lemmas.List.Sums.{position_or_len_is, prefix_len_is, passes_at_first}
-use Rattle.std.proofs.lemmas.List.{drop_more, take_all, drop_all, nil_from_length, length-take, length-drop}
-use Rattle.std.proofs.lemmas.Bool.{cases_lt}
-use Rattle.gh_script.specs.Text.{with_front, word_in_front, pieces, is_blank, is_filled, words_of, word_at, sentence_of}
+use Rattle.std.proofs.lemmas.List.{drop_more, take_all, drop_all, nil_from_length, length-take}
+use Rattle.gh_script.specs.Text.{with_front, word_in_front, pieces, is_blank, is_filled, words_of, sentence_of}
 
 -- a loop that ends without having met the test
 pub met_nowhere : (test : ℕ → Bool) (xs : List ℕ) (n : ℕ) → length xs ≤ n → ((k : ℕ) → k < n → test (get_or xs k 0) ≡ false) → length xs ≡ position_or_len test xs
@@ -14,11 +13,7 @@ met_nowhere test xs n long fails = sym (position_or_len_is test xs (length xs) 0
 first_step : (test : ℕ → Bool) (c : ℕ) (cs : List ℕ) (b : Bool) (n : ℕ) (p : List (List ℕ)) → cond (not b) (1 + n) 0 < suc (length cs)
     → p ≡ pieces test cs → (n < length cs → p ≡ take n cs ∷ pieces test (drop (n + 1) cs))
     → cond b ([] ∷ p) (with_front c p) ≡ take (cond (not b) (1 + n) 0) (c ∷ cs) ∷ pieces test (drop (cond (not b) (1 + n) 0 + 1) (c ∷ cs))
-first_step test c cs true n p h same rest = ap (λ (q : List (List ℕ)). [] ∷ q) same
-first_step test c cs false n p h same rest =
-    let e : 1 + n ≡ suc n = omega arith in
-    let e2 : (1 + n) + 1 ≡ suc (n + 1) = omega arith in
-    rw (e2, e, rest (omega arith)) refl
+first_step test c cs b n p h same rest = grind arith
 
 -- the first piece ends where the test first passes
 pub pieces_first : (test : ℕ → Bool) (xs : List ℕ) → position_or_len test xs < length xs → pieces test xs ≡ before_first test xs ∷ pieces test (after_first test xs)
@@ -40,8 +35,7 @@ pieces_last test [] some h = absurd (omega arith)
 pieces_last test (c ∷ cs) some h = last_step test c cs (test c) (position_or_len test cs) (pieces test cs) h (λ e. ap (pieces test) e) (pieces_last test cs)
 
 filled_first : (word : List ℕ) (others : List (List ℕ)) → 0 < length word → filter is_filled (word ∷ others) ≡ word ∷ filter is_filled others
-filled_first [] others h = absurd (omega arith)
-filled_first (c ∷ cs) others h = refl
+filled_first word others h = grind arith
 
 passes_first : (test : ℕ → Bool) (c : ℕ) (cs : List ℕ) → test c ≡ true → pieces test (c ∷ cs) ≡ [] ∷ pieces test cs
 unfolding pieces
@@ -60,8 +54,7 @@ words_of-skip (c ∷ cs) = skip_step c cs (is_blank c) (prefix_len is_blank cs) 
 
 filled_step : (c : ℕ) (cs : List ℕ) (b : Bool) (n : ℕ) → (0 < length (drop n cs) → 0 < position_or_len is_blank (drop n cs)) → b ≡ is_blank c
     → 0 < length (drop (cond b (1 + n) 0) (c ∷ cs)) → 0 < position_or_len is_blank (drop (cond b (1 + n) 0) (c ∷ cs))
-filled_step c cs true n rest is some = let e : 1 + n ≡ suc n = omega arith in let h : 0 < length (drop n cs) = rw e at some in rw e (rest h)
-filled_step c cs false n rest is some = rw (← is) (omega arith)
+filled_step c cs b n rest is some = grind arith
 
 -- past the blanks stands a word, if anything
 word_past_blanks : (line : List ℕ) → 0 < length (drop (prefix_len is_blank line) line) → 0 < position_or_len is_blank (drop (prefix_len is_blank line) line)
@@ -95,44 +88,27 @@ word_alone line n at some all =
 
 -- a word at the front
 pub words_of-word : (line : List ℕ) (n : ℕ) → n ≡ position_or_len is_blank line → 0 < n → n ≤ length line → words_of line ≡ take n line ∷ words_of (drop n line)
-words_of-word line n at some within = elim (cases_lt n (length line)) [ inl lt ↦ word_before line n at some lt | inr le ↦ word_alone line n at some (omega arith) ]
+words_of-word line n at some within = grind (arith, word_alone, word_before)
 
 with_word_filled : (word : List ℕ) (others : List (List ℕ)) → 0 < length word → word_in_front word others ≡ word ∷ others
-with_word_filled [] others h = absurd (omega arith)
-with_word_filled (c ∷ cs) others h = refl
+with_word_filled word others h = grind arith
 
 -- where the first word ends, something stands, if anything does
 word_wide : (line rest : List ℕ) (start end : ℕ) → start ≡ prefix_len is_blank line → rest ≡ drop start line → end ≡ position_or_len is_blank rest → 0 < length rest → 0 < end
-word_wide line rest start end at from ends any =
-    let whole : drop (prefix_len is_blank line) line ≡ rest = ap (λ (n : ℕ). drop n line) (sym at) ∙ sym from in
-    let some : 0 < length (drop (prefix_len is_blank line) line) = rw whole any in
-    let past : 0 < position_or_len is_blank rest = subst (λ (r : List ℕ). 0 < position_or_len is_blank r) whole (word_past_blanks line some) in
-    rw ends past
+word_wide line rest start end at from ends any = grind (arith, word_past_blanks)
 
 next_cases : (line rest : List ℕ) (start end : ℕ) → start ≡ prefix_len is_blank line → rest ≡ drop start line → end ≡ position_or_len is_blank rest → end ≤ length rest
     → words_of line ≡ word_in_front (take end rest) (words_of (drop end rest))
-next_cases line [] start end at from ends within =
-    let e : end ≡ 0 = omega arith in
-    let same : words_of (drop start line) ≡ words_of line = rw at (words_of-skip line) in
-    rw e (sym same ∙ ap words_of (sym from))
-next_cases line (c ∷ cs) start end at from ends within =
-    let same : words_of (drop start line) ≡ words_of line = rw at (words_of-skip line) in
-    let some : 0 < end = word_wide line (c ∷ cs) start end at from ends (omega arith) in
-    let wide : 0 < length (take end (c ∷ cs)) = omega (arith, length-take end (c ∷ cs)) in
-    sym same ∙ ap words_of (sym from) ∙ words_of-word (c ∷ cs) end ends some within ∙ sym (with_word_filled (take end (c ∷ cs)) (words_of (drop end (c ∷ cs))) wide)
+next_cases line rest start end at from ends within = grind (arith, with_word_filled, word_wide, words_of-skip, words_of-word)
 
 -- the first word and what follows it
 pub words_of-next : (line rest : List ℕ) (start end : ℕ) (word others : List ℕ) → start ≡ prefix_len is_blank line → rest ≡ drop start line → end ≡ position_or_len is_blank rest → end ≤ length rest
     → word ≡ take end rest → others ≡ drop end rest → words_of line ≡ word_in_front word (words_of others)
-words_of-next line rest start end word others at from ends within one two = rw (one, two) (next_cases line rest start end at from ends within)
+words_of-next line rest start end word others at from ends within one two = grind (arith, next_cases)
 
 pub empty_word : (line rest : List ℕ) (start end : ℕ) (word others : List ℕ) → start ≡ prefix_len is_blank line → rest ≡ drop start line → end ≡ position_or_len is_blank rest → end ≤ length rest
     → word ≡ take end rest → others ≡ drop end rest → length word ≡ 0 → length others ≡ 0
-empty_word line rest start end word others at from ends within one two h =
-    elim (cases_lt 0 (length rest)) [
-      | inl lt ↦ absurd (let w = word_wide line rest start end at from ends lt in omega (arith, ap length one, length-take end rest))
-      | inr le ↦ omega (arith, ap length two, length-drop end rest)
-    ]
+empty_word line rest start end word others at from ends within one two h = grind (arith, word_wide)
 
 -- a line that ends without a word
 pub not_met_nowhere : (test : ℕ → Bool) (xs : List ℕ) (n : ℕ) → length xs ≤ n → ((k : ℕ) → k < n → test (get_or xs k 0) ≡ true) → length xs ≡ prefix_len test xs
@@ -148,13 +124,8 @@ pub record Goes (words : List (List ℕ)) (word : List ℕ) (others : List (List
 pub goes : (words : List (List ℕ)) (word rest : List ℕ) → words ≡ word_in_front word (words_of rest) → (length word ≡ 0 → length rest ≡ 0) → Goes words word (words_of rest)
 goes words word rest cut none = record { cut = cut; none = λ h. ap words_of (nil_from_length rest (none h)) ∙ words_of-nil }
 
-goes_at : (words : List (List ℕ)) (word : List ℕ) (others : List (List ℕ)) → Goes words word others → (word ≡ word_at words 0) × ((k : ℕ) → word_at words (suc k) ≡ word_at others k)
-goes_at words [] others g = let e : words ≡ [] = g.cut ∙ g.none refl in (rw e refl, λ k. rw (e, g.none refl) refl)
-goes_at words (c ∷ cs) others g = (rw g.cut refl, λ k. rw g.cut refl)
-
 pub length-goes_none : (words : List (List ℕ)) (word : List ℕ) (others : List (List ℕ)) → Goes words word others → length word ≡ 0 → length words ≡ 0
-length-goes_none words [] others g h = ap length (g.cut ∙ g.none refl)
-length-goes_none words (c ∷ cs) others g h = absurd (omega arith)
+length-goes_none words word others g h = grind arith
 
 pub length-words_of-none : (line : List ℕ) → length line ≡ 0 → length (words_of line) ≡ 0
 length-words_of-none line h = ap (λ (l : List ℕ). length (words_of l)) (nil_from_length line h) ∙ ap length words_of-nil
@@ -162,12 +133,4 @@ length-words_of-none line h = ap (λ (l : List ℕ). length (words_of l)) (nil_f
 pub sentence_of-goes : (a b c d e : List (List ℕ)) (first second third fourth : List ℕ) (count : ℕ)
     → Goes a first b → Goes b second c → Goes c third d → Goes d fourth e → count ≡ length a
     → record { first = first; second = second; third = third; fourth = fourth; count = count } ≡ sentence_of a
-sentence_of-goes a b c d e first second third fourth count g h i j all =
-    let p = goes_at a first b g in
-    let q = goes_at b second c h in
-    let r = goes_at c third d i in
-    let s = goes_at d fourth e j in
-    let two : second ≡ word_at a 1 = q.0 ∙ sym (p.1 0) in
-    let three : third ≡ word_at a 2 = r.0 ∙ sym (q.1 0) ∙ sym (p.1 1) in
-    let four : fourth ≡ word_at a 3 = s.0 ∙ sym (r.1 0) ∙ sym (q.1 1) ∙ sym (p.1 2) in
-    rw (p.0, two, three, four, all) refl
+sentence_of-goes a b c d e first second third fourth count g h i j all = grind arith

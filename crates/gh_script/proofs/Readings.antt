@@ -1,5 +1,5 @@
 -- What is read of a text as a whole.
-use Rattle.std.proofs.Common.{◌≡◌, ℕ, ◌<◌, ◌≤◌, Bool, true, false, List, length, Option, Some, None, Result, Ok, Err, refl, sym, ap, ◌∙◌, arith}
+use Rattle.std.proofs.Common.{◌≡◌, ℕ, ◌<◌, ◌≤◌, Bool, true, false, List, length, Option, Some, Result, Ok, Err, refl, sym, ap, ◌∙◌, arith}
 use Rattle.std.specs.Prelude.{unwrap_or}
 use Rattle.std.specs.Str.{IsUtf8, is_utf8}
 use Rattle.std.proofs.lemmas.Bool.{lt-ltb, le-ltb}
@@ -7,7 +7,6 @@ use Rattle.std.proofs.lemmas.Str.{IsUtf8-from_is_utf8}
 use Rattle.gh_script.specs.declared.fault.Why.TheVariants.{Size, Utf8}
 use Rattle.gh_script.specs.declared.fault.ScriptFault.{ScriptFault}
 use Rattle.gh_script.specs.declared.fault.ParseError.{ParseError}
-use Rattle.gh_script.specs.declared.fault.ParseError.TheVariants as errors
 use Rattle.gh_script.specs.declared.key.Setting.TheVariants as settings
 use Rattle.gh_script.specs.Program.{Program}
 use Rattle.gh_script.specs.Text.{lines_of}
@@ -16,8 +15,7 @@ use Rattle.gh_script.specs.Grammar.{read_lines, then_end, read_end, reading_of, 
 use Rattle.gh_script.specs.Outcome.{ReadsAll, EndsAsRead}
 
 not_true : (b : Bool) → (b ≡ true → ⊥) → false ≡ b
-not_true true h = absurd (h refl)
-not_true false h = refl
+not_true b h = grind arith
 
 pub is_utf8-not : (bytes : List ℕ) → (IsUtf8 bytes → ⊥) → false ≡ is_utf8 bytes
 is_utf8-not bytes h = not_true (is_utf8 bytes) (λ e. h (IsUtf8-from_is_utf8 bytes e))
@@ -36,8 +34,7 @@ reading_of-text text h e = rw (le-ltb 4194304 (length text) h, e) refl
 
 -- a line was refused
 pub Ends-refused : (e : ParseError) (new : Draft) (n : ℕ) (read : Result Draft ScriptFault) (whole : Result Program ScriptFault) → ReadsAll (Err e) new n read → whole ≡ then_end n read → EndsAsRead (Err e) whole
-Ends-refused errors.NoMemory new n read whole h e = tt
-Ends-refused (errors.Script f) new n read whole h e = e ∙ ap (then_end n) h
+Ends-refused e new n read whole h e2 = grind arith
 
 -- all lines were read
 pub Ends-read : (result : Result Program ParseError) (new : Draft) (n count : ℕ) (read : Result Draft ScriptFault) (whole : Result Program ScriptFault) → ReadsAll (Ok count) new n read → whole ≡ then_end n read
@@ -47,8 +44,7 @@ Ends-read result new n count read whole h e end =
     rw same end
 
 arena_few : (arena : Option ℕ) → ((n : ℕ) → arena ≡ Some n → (16 ≤ n) × (n ≤ 1024)) → unwrap_or arena 256 ≤ 1024
-arena_few None h = omega arith
-arena_few (Some n) h = (h n refl).1
+arena_few arena h = grind arith
 
 pub arena-le : (draft : Draft) → IsSound draft → unwrap_or draft.given.arena 256 ≤ 1024
 arena-le draft sound = arena_few draft.given.arena (sound.given settings.Arena)

@@ -13,7 +13,7 @@ module _ {X : Type 0} where
 
   -- once more
   pub repeat_push : (n : ℕ) (xs : List X) → repeat n xs ++ xs ≡ repeat (n + 1) xs
-  repeat_push n xs = let more : suc n ≡ n + 1 = omega arith in turned n xs ∙ ap (λ (k : ℕ). repeat k xs) more
+  repeat_push n xs = grind (arith, turned)
 
   pub repeat-nil : (n : ℕ) (xs : List X) → length xs ≡ 0 → repeat n xs ≡ []
   repeat-nil zero xs e = refl

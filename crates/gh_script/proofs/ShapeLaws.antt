@@ -19,12 +19,10 @@ use Rattle.gh_script.proofs.Names.{and_left}
 use Rattle.gh_script.proofs.Packing.{word_of-lt}
 
 lowest : (bit : Bool) (w : ℕ) → (cond bit 1 0 + 2 * w) % 2 ≡ cond bit 1 0
-lowest true w = omega arith
-lowest false w = omega arith
+lowest bit w = grind arith
 
 half : (bit : Bool) (w : ℕ) → (cond bit 1 0 + 2 * w) / 2 ≡ w
-half true w = omega arith
-half false w = omega arith
+half bit w = grind arith
 
 -- bit j of a word is field j
 word_of-bit : (bits : List Bool) (j : ℕ) → bit_at (bits_as_number bits) j ≡ cond (get_or bits j false) 1 0
@@ -45,8 +43,7 @@ packed_at fields i = elim (cases_lt i ((length fields + 63) / 64)) [
 ]
 
 is_one : (b : Bool) → eqb (cond b 1 0) 1 ≡ b
-is_one true = refl
-is_one false = refl
+is_one b = grind arith
 
 -- the field is a pointer where the text says so
 pub is_pointer_at : (fields : List Bool) (k : ℕ) → is_pointer (shape_with fields) k ≡ get_or fields k false
@@ -61,15 +58,13 @@ is_pointer_at fields k =
     ap (λ (w : ℕ). eqb w 1) (word ∙ ap (λ (b : Bool). cond b 1 0) field) ∙ is_one (get_or fields k false)
 
 not_any : (b : Bool) → not b ≡ true → b ≡ false
-not_any true h = absurd cc
-not_any false h = refl
+not_any b h = grind arith
 
 no_any : (b : Bool) → b ≡ false → not b ≡ true
 no_any b h = rw h refl
 
 not_both : (b any : Bool) → any ≡ false → (b ≡ true → any ≡ true) → b ≡ false
-not_both true any none h = absurd (let e = h refl in cc)
-not_both false any none h = refl
+not_both b any none h = grind arith
 
 field_none : (fields : List Bool) (k : ℕ) → list_any (λ pointer. pointer) fields ≡ false → get_or fields k false ≡ false
 field_none fields k none = elim (cases_lt k (length fields)) [

@@ -1,7 +1,7 @@
 -- Each line that is read keeps the draft sound.
-use Rattle.std.proofs.Common.{◌≡◌, ℕ, ◌+◌, ◌-◌, ◌^◌, ◌<◌, ◌≤◌, Bool, true, false, not, cond, eqb, ltb, leb, ◌&&◌, ◌||◌, List, [], ◌∷◌, ◌++◌, length, take, drop, Option, Some, None, Result, Ok, refl, sym, ap, ◌∙◌, subst, arith, inl, inr, ◌⊎◌, unwrap_or, is_some, All, ◌≢◌, sum_by, leb-true, leb-false, ltb-false, ltb-true}
+use Rattle.std.proofs.Common.{◌≡◌, ℕ, ◌+◌, ◌-◌, ◌^◌, ◌<◌, ◌≤◌, Bool, true, false, not, cond, eqb, ltb, leb, ◌&&◌, ◌||◌, List, [], ◌∷◌, ◌++◌, length, take, drop, Option, Some, None, Result, Ok, refl, sym, ap, ◌∙◌, subst, arith, inl, inr, ◌⊎◌, unwrap_or, is_some, All, ◌≢◌, sum_by, leb-true, leb-false}
 use Rattle.gh_script.specs.declared.key.Key.TheVariants as keys
-use Rattle.gh_script.proofs.Vocabulary.{All-append, All-cons, All-drop, All-head, All-nil, All-push, All-take, all_pairs_push, are_letters, are_too_many, Arena, AreNamedApart, AreOpenStatements, AreStatements, block_ended, bytes_eq, bytes_eq-Decides, cause_at, continued, digits_value_of, Draft, fields_of, finished_goroutine, FitsShape, Given, given_at, Globals, globals_in, Gogc, Goroutine, goroutines_begun, has_goroutine, is_digit, is_name, is_skipped, is_too_long, IsNamed, IsNewName, IsOpenNamed, IsPacked, IsSound, IsStatement, just_begun, kept, Key, key_of, length_push, list_all, list_any, Minheap, nil_from_length, number_in, number_spelled, Open, option_and_then, option_map, option_to_list, Procs, read_cause, read_key, read_line, register_in, register_named, Repeat, repeat, Sentence, Setting, shape_with, statement_of, statements_in, Stmt, sum_by-append, value_from, Why, with_closed, with_given, with_repeat, with_statement, Workers, written_out}
+use Rattle.gh_script.proofs.Vocabulary.{All-append, All-cons, All-drop, All-head, All-nil, All-push, All-take, all_pairs_push, are_letters, are_too_many, AreNamedApart, AreOpenStatements, AreStatements, block_ended, bytes_eq, bytes_eq-Decides, cause_at, continued, digits_value_of, Draft, fields_of, finished_goroutine, FitsShape, Given, given_at, globals_in, Goroutine, goroutines_begun, has_goroutine, is_digit, is_name, is_skipped, is_too_long, IsNamed, IsNewName, IsOpenNamed, IsPacked, IsSound, IsStatement, just_begun, kept, Key, key_of, length_push, list_all, list_any, nil_from_length, number_in, number_spelled, Open, option_and_then, option_map, option_to_list, read_cause, read_key, read_line, register_in, register_named, Repeat, repeat, Sentence, Setting, shape_with, statement_of, statements_in, Stmt, sum_by-append, value_from, Why, with_closed, with_given, with_repeat, with_statement, written_out}
 use Rattle.gh_script.proofs.Allowed.{allowed, left_false, right_false, not_false, setting_small, load_small, store_small, get_small, set_small, type_fits, type_few, type_of-lt}
 use Rattle.gh_script.proofs.Names.{and_right}
 use Rattle.gh_script.proofs.Repeated.{All-repeat}
@@ -11,8 +11,7 @@ use Rattle.gh_script.proofs.ShapeLaws.{FitsShape-text, IsPacked-shape_with}
 -- ---- words
 
 digit_small : (d n : ℕ) (b : Bool) → (b ≡ true → n < 16) → unwrap_or (cond b (Some n) None) 0 < 16
-digit_small d n true h = h refl
-digit_small d n false h = omega arith
+digit_small d n b h = grind arith
 
 register_small : (word : List ℕ) → register_in word < 16
 unfolding register_named
@@ -21,14 +20,10 @@ register_small (r ∷ t ∷ d ∷ []) = digit_small d (10 + (d - 48)) (((eqb r 1
 register_small _ = omega arith
 
 value_small : (limit v : ℕ) (b : Bool) → 0 < limit → unwrap_or (cond (b && ltb v limit) (Some v) None) 0 < limit
-value_small limit v b pos = go (b && ltb v limit) refl where
-  go : (t : Bool) → (b && ltb v limit) ≡ t → unwrap_or (cond t (Some v) None) 0 < limit
-  go true e = ltb-true v limit (and_right b (ltb v limit) e)
-  go false e = pos
+value_small limit v b pos = grind arith
 
 none_or : (limit : ℕ) (b : Bool) (o : Option ℕ) → 0 < limit → unwrap_or o 0 < limit → unwrap_or (cond b None o) 0 < limit
-none_or limit true o pos h = pos
-none_or limit false o pos h = h
+none_or limit b o pos h = grind arith
 
 number_small : (word : List ℕ) → number_in word < 2 ^ 64
 unfolding number_spelled digits_value_of
@@ -54,13 +49,7 @@ statement_keeps draft key line h = All-nil (IsStatement (globals_in draft.given)
 -- ---- settings
 
 given_cases : (given : Given) (x : Setting) (n : ℕ) (y : Setting) (m : ℕ) → given_at (with_given given x n) y ≡ Some m → ((y ≡ x) × (n ≡ m)) ⊎ (given_at given y ≡ Some m)
-given_cases given Procs n Procs m h = inl (refl, cc)
-given_cases given Workers n Workers m h = inl (refl, cc)
-given_cases given Arena n Arena m h = inl (refl, cc)
-given_cases given Globals n Globals m h = inl (refl, cc)
-given_cases given Gogc n Gogc m h = inl (refl, cc)
-given_cases given Minheap n Minheap m h = inl (refl, cc)
-given_cases given x n y m h = inr h
+given_cases given x n y m h = grind arith
 
 -- ---- before the first goroutine
 
@@ -138,8 +127,7 @@ unfolding has_goroutine
 new_name draft word h = differs word draft.closed (left_false (list_any (λ g. bytes_eq g.name word) draft.closed) (list_any (λ g. bytes_eq g.name word) (option_to_list draft.current)) h)
 
 none_open : (o : Option Open) → is_some o ≡ false → length (option_to_list o) ≡ 0
-none_open None h = refl
-none_open (Some g) h = absurd cc
+none_open o h = grind arith
 
 begin_sound : (draft : Draft) (line : Sentence) → IsSound draft → cause_at draft keys.Go line ≡ None → IsSound (continued draft keys.Go line)
 unfolding continued
@@ -218,8 +206,7 @@ changed draft (Some g) s count k =
     }
 
 kept_all : (P : Stmt → Type 0) (ss : List Stmt) (b : Bool) → All P ss → All P (unwrap_or (cond b None (Some ss)) [])
-kept_all P ss true h = All-nil P
-kept_all P ss false h = h
+kept_all P ss b h = grind arith
 
 All-kept : (P : Stmt → Type 0) (ss : List Stmt) → All P ss → All P (unwrap_or (kept ss) [])
 unfolding kept
@@ -243,16 +230,13 @@ closed_said P g [] h = h
 closed_said P g (innermost ∷ others) h = closed_all P g.statements innermost h
 
 closed_name : (g : Open) (repeats : List Repeat) → (with_closed g repeats).name ≡ g.name
-closed_name g [] = refl
-closed_name g (innermost ∷ others) = refl
+closed_name g repeats = grind arith
 
 same_count : (f : Open → Open) (o : Option Open) → length (option_to_list (option_map f o)) ≡ length (option_to_list o)
-same_count f None = refl
-same_count f (Some g) = refl
+same_count f o = grind arith
 
 mapped : (f : Open → Open) (o : Option Open) (g : Open) → option_map f o ≡ Some g → (h : Open) × (o ≡ Some h) × (f h ≡ g)
-mapped f None g e = absurd cc
-mapped f (Some h) g e = (h, refl, cc)
+mapped f o g e = grind arith
 
 say_sound : (draft : Draft) (key : Key) (line : Sentence) → IsSound draft → cause_at draft key line ≡ None
     → IsSound (record draft { current = option_map (with_statement (statement_of draft.names key line)) draft.current })
@@ -266,17 +250,12 @@ say_sound draft key line s h =
     (record { name = k.name; apart = k.apart; said = said_all (IsStatement (globals_in draft.given) (length draft.names)) w.0.statements (statement_of draft.names key line) k.said (statement_keeps draft key line h) }))
 
 repeat_sound : (draft : Draft) (times : ℕ) → IsSound draft → IsSound (record draft { current = option_map (with_repeat times) draft.current })
-repeat_sound draft times s =
-    changed draft (option_map (with_repeat times) draft.current) s (same_count (with_repeat times) draft.current) (λ g e.
-    let w = mapped (with_repeat times) draft.current g e in
-    let k = keeps draft w.0 s w.1 in
-    subst (Keeps (globals_in draft.given) (length draft.names) draft.closed) w.2 (record { name = k.name; apart = k.apart; said = k.said }))
+repeat_sound draft times s = grind (arith, changed, keeps, mapped, same_count)
 
 -- ---- `end`
 
 few_in : (closed : List Goroutine) (o : Option (List Stmt)) → are_too_many closed o ≡ false → sum_by statements_in closed + length (unwrap_or o []) ≤ 200000
-few_in closed None h = absurd cc
-few_in closed (Some ss) h = ltb-false 200000 (sum_by statements_in closed + length ss) h
+few_in closed o h = grind arith
 
 close_sound : (draft : Draft) (g : Open) → IsSound draft → draft.current ≡ Some g → are_too_many draft.closed g.statements ≡ false → IsSound (record draft { closed = draft.closed ++ finished_goroutine g ∷ []; current = None })
 close_sound draft g s e few =
@@ -334,8 +313,7 @@ key_sound draft new None line s e = absurd cc
 key_sound draft new (Some key) line s e = cause_sound draft new key line (cause_at draft key line) s refl e
 
 skip_sound : (draft new : Draft) (read : Result Draft Why) (skipped : Bool) → IsSound draft → (read ≡ Ok new → IsSound new) → cond skipped (Ok draft) read ≡ Ok new → IsSound new
-skip_sound draft new read true s h e = let same : draft ≡ new = cc in subst IsSound same s
-skip_sound draft new read false s h e = h e
+skip_sound draft new read skipped s h e = grind arith
 
 pub IsSound-read_line : (draft new : Draft) (line : Sentence) → IsSound draft → read_line draft line ≡ Ok new → IsSound new
 unfolding read_line

@@ -1,13 +1,11 @@
 -- Lines of words of letters and digits, with spaces and line feeds between them, are read back word for word.
-use Rattle.std.proofs.Common.{◌≡◌, ℕ, zero, suc, ◌+◌, ◌-◌, ◌*◌, ◌<◌, ◌≤◌, Bool, true, false, not, cond, eqb, leb, ◌&&◌, ◌||◌, List, [], ◌∷◌, ◌++◌, length, map, get_or, refl, sym, ap, subst, ◌∙◌, append_assoc, append-nil, arith, length-append}
+use Rattle.std.proofs.Common.{◌≡◌, ℕ, zero, suc, ◌+◌, ◌*◌, ◌<◌, ◌≤◌, Bool, true, false, not, cond, eqb, leb, ◌&&◌, List, [], ◌∷◌, ◌++◌, length, map, get_or, refl, sym, ap, subst, ◌∙◌, append_assoc, append-nil, arith, length-append}
 use Rattle.std.specs.Prelude.{filter, sum_by}
 use Rattle.std.specs.List.{flat_map, list_all, list_any}
 use Rattle.std.specs.Str.{IsAscii, is_utf8}
 use Rattle.std.proofs.lemmas.Bool.Decides.{nat_tests}
 use Rattle.std.proofs.lemmas.List.Concat.{length-flat_map}
 use Rattle.std.proofs.lemmas.List.Folds.{list_all-append}
-use Rattle.std.proofs.Math.Dec.{eqb-suc-zero}
-use Rattle.std.proofs.lemmas.Bool.{leb-true, le-leb}
 use Rattle.std.proofs.lemmas.Str.{IsUtf8-from_ascii, is_utf8-from_IsUtf8}
 use Rattle.std.proofs.lemmas.Str.Ascii.{IsAscii-cons, IsAscii-nil}
 use Rattle.gh_script.specs.Form.{said_in, sayings}
@@ -19,16 +17,13 @@ use Rattle.gh_script.proofs.Allowed.{left_false, right_false}
 use Rattle.gh_script.proofs.Pieces.{words_of-nil}
 
 pub left_true : (a b : Bool) → (a && b) ≡ true → a ≡ true
-left_true true b h = refl
-left_true false b h = absurd cc
+left_true a b h = grind arith
 
 pub right_true : (a b : Bool) → (a && b) ≡ true → b ≡ true
-right_true true b h = h
-right_true false b h = absurd cc
+right_true a b h = grind arith
 
 pub both_true : (a b : Bool) → a ≡ true → b ≡ true → (a && b) ≡ true
-both_true true b g h = h
-both_true false b g h = absurd cc
+both_true a b g h = grind arith
 
 -- ---- words and lines
 
@@ -50,9 +45,6 @@ name_byte c h = grind (arith, nat_tests)
 
 name_not_blank : (c : ℕ) → is_name_byte c ≡ true → is_blank c ≡ false
 name_not_blank c h = grind (arith, nat_tests, name_byte c h)
-
-name_not_hash : (c : ℕ) → is_name_byte c ≡ true → eqb c 35 ≡ false
-name_not_hash c h = grind (arith, nat_tests, name_byte c h)
 
 name_in_line : (c : ℕ) → is_name_byte c ≡ true → is_line_byte c ≡ true
 name_in_line c h = grind (arith, nat_tests, name_byte c h)
@@ -140,7 +132,7 @@ bytes_of (word ∷ words) h =
     ∙ both_true (list_all is_line_byte word) (list_all is_line_byte (flat_map (λ w. 32 ∷ w) words)) (all_line word (right_true (is_filled word) (list_all is_name_byte word) first)) (bytes_behind words (right_true (is_plain word) (list_all is_plain words) h))
 
 kept_whole : (line : List ℕ) → list_all is_line_byte line ≡ true → without_return line ≡ line
-kept_whole line h = rw (none_return line (length line - 1) h) refl
+kept_whole line h = grind (arith, none_return)
 
 -- ---- lines that are made of words
 
@@ -149,18 +141,15 @@ unfolding spaced
 length-spaced word words = length-append word (flat_map (λ w. 32 ∷ w) words) ∙ ap (λ (n : ℕ). length word + n) (length-flat_map (λ w. 32 ∷ w) words)
 
 pub line_made : (word : List ℕ) (words : List (List ℕ)) → list_all is_plain (word ∷ words) ≡ true → length word + sum_by (λ w. suc (length w)) words ≤ 13 → is_line (word ∷ words) ≡ true
-line_made word words h few =
-    both_true (list_all is_plain (word ∷ words)) (leb (length (spaced (word ∷ words))) 13) h (le-leb (length (spaced (word ∷ words))) 13 (omega (arith, length-spaced word words, few)))
+line_made word words h few = grind (arith, both_true, length-spaced)
 
 -- ---- texts
 
 plain : (line : List (List ℕ)) → is_line line ≡ true → list_all is_plain line ≡ true
-plain [] h = refl
-plain (word ∷ words) h = left_true (list_all is_plain (word ∷ words)) (leb (length (spaced (word ∷ words))) 13) h
+plain line h = grind arith
 
 short : (line : List (List ℕ)) → is_line line ≡ true → length (spaced line) ≤ 13
-short [] h = absurd cc
-short (word ∷ words) h = leb-true (length (spaced (word ∷ words))) 13 (right_true (list_all is_plain (word ∷ words)) (leb (length (spaced (word ∷ words))) 13) h)
+short line h = grind arith
 
 one_more : (line : List ℕ) (rest : List ℕ) → (line ++ 10 ∷ []) ++ rest ≡ line ++ 10 ∷ rest
 one_more line rest = append_assoc line (10 ∷ []) rest
@@ -177,11 +166,7 @@ lines_of-text_of (line ∷ lines) h =
     ∙ ap (λ (l : List (List ℕ)). spaced line ∷ l) (lines_of-text_of lines (right_true (is_line line) (list_all is_line lines) h))
 
 not_skipped : (line : List (List ℕ)) → is_line line ≡ true → is_skipped (sentence_of line) ≡ false
-not_skipped [] h = absurd cc
-not_skipped ([] ∷ words) h = absurd (let p = left_true (is_plain []) (list_all is_plain words) (plain ([] ∷ words) h) in cc)
-not_skipped ((c ∷ cs) ∷ words) h =
-    let first = left_true (is_plain (c ∷ cs)) (list_all is_plain words) (plain ((c ∷ cs) ∷ words) h) in
-    rw (eqb-suc-zero (length words), name_not_hash c (left_true (is_name_byte c) (list_all is_name_byte cs) first)) refl
+not_skipped line h = grind (arith, nat_tests)
 
 said_by_lines : (lines : List (List (List ℕ))) → list_all is_line lines ≡ true → sayings (map spaced lines) ≡ map sentence_of lines
 unfolding sayings
@@ -195,7 +180,7 @@ said_by_lines (line ∷ lines) h =
 
 -- each line says its words
 pub sayings-text_of : (lines : List (List (List ℕ))) → list_all is_line lines ≡ true → sayings (lines_of (text_of lines)) ≡ map sentence_of lines
-sayings-text_of lines h = ap sayings (lines_of-text_of lines h) ∙ said_by_lines lines h
+sayings-text_of lines h = grind (arith, lines_of-text_of, said_by_lines)
 
 pub length-text_of-le : (lines : List (List (List ℕ))) → list_all is_line lines ≡ true → length (text_of lines) ≤ 14 * length lines
 unfolding text_of

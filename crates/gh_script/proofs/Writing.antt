@@ -1,5 +1,5 @@
 -- The text of a generated script as it is written, line by line.
-use Rattle.std.proofs.Common.{◌≡◌, ℕ, zero, suc, ◌+◌, ◌*◌, ◌/◌, List, [], ◌∷◌, ◌++◌, map, Result, Ok, Err, refl, sym, ap, ◌∙◌, append_assoc, append-nil, arith}
+use Rattle.std.proofs.Common.{◌≡◌, ℕ, zero, suc, ◌+◌, ◌*◌, ◌/◌, List, [], ◌∷◌, ◌++◌, map, Result, refl, sym, ap, ◌∙◌, append_assoc, append-nil, arith}
 use Rattle.std.specs.Prelude.{decimal, codes, OnOk}
 use Rattle.std.specs.List.{flat_map, range_with_len}
 use Rattle.std.proofs.lemmas.Grind.{flat_map-append}
@@ -96,8 +96,7 @@ gc_line = refl
 
 -- where memory was had, the line of the statement was appended
 pub line_written : {T E : Type 0} (r : Result T E) (old new line : List ℕ) (statement this : Stmt) → statement ≡ this → OnOk r (new ≡ old ++ line) → line ≡ spaced (statement_words this) ++ 10 ∷ [] → OnOk r (new ≡ old ++ (spaced (statement_words statement) ++ 10 ∷ []))
-line_written (Ok x) old new line statement this is wrote same = wrote ∙ ap (λ (l : List ℕ). old ++ l) (same ∙ ap (λ (s : Stmt). spaced (statement_words s) ++ 10 ∷ []) (sym is))
-line_written (Err e) old new line statement this is wrote same = tt
+line_written r old new line statement this is wrote same = grind arith
 
 -- ---- the statements of a goroutine
 
@@ -147,8 +146,7 @@ goroutine_written old named begun said new i statements a b c d =
 -- where memory was had, the goroutine was appended
 pub goroutine_ended : {T E : Type 0} (r : Result T E) (old named begun said new : List ℕ) (i : ℕ) (statements : List Stmt) → named ≡ old ++ (codes "go g" ++ decimal i) → begun ≡ named ++ codes "\n" → said ≡ begun ++ text_of (map statement_words statements)
     → OnOk r (new ≡ said ++ codes "end\n") → OnOk r (new ≡ old ++ text_of (goroutine_lines (record { name = generated_name i; statements = statements })))
-goroutine_ended (Ok x) old named begun said new i statements a b c d = goroutine_written old named begun said new i statements a b c d
-goroutine_ended (Err e) old named begun said new i statements a b c d = tt
+goroutine_ended r old named begun said new i statements a b c d = grind (arith, goroutine_written)
 
 -- ---- all goroutines
 
@@ -178,9 +176,7 @@ next_written seed size i drawn text new before at wrote =
     ∙ sym (text_of-append (lines_before seed size i) (goroutine_lines one)) ∙ ap text_of (append_assoc head_lines (flat_map goroutine_lines gs) (goroutine_lines one) ∙ ap (λ (l : List (List (List ℕ))). head_lines ++ l) (sym more))
 
 pub next_state : (seed size i drawn new : ℕ) → drawn ≡ state_behind seed (i * (size / 4)) → new ≡ state_behind drawn (size / 4) → new ≡ state_behind seed ((i + 1) * (size / 4))
-next_state seed size i drawn new at moved =
-    let more : i * (size / 4) + size / 4 ≡ (i + 1) * (size / 4) = omega arith in
-    moved ∙ ap (λ (s : ℕ). state_behind s (size / 4)) at ∙ state_behind-both seed (i * (size / 4)) (size / 4) ∙ ap (state_behind seed) more
+next_state seed size i drawn new at moved = grind (arith, state_behind-both)
 
 pub all_written : (seed size : ℕ) (text : List ℕ) → text ≡ text_of (lines_before seed size 4) → text ≡ generated_text seed size
 unfolding generated_text generated_program

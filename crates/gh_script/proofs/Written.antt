@@ -1,7 +1,7 @@
 -- The statements with the body of a `repeat` written out.
-use Rattle.std.proofs.Common.{◌≡◌, ℕ, suc, ◌+◌, ◌-◌, ◌*◌, ◌<◌, ◌≤◌, Bool, true, false, cond, eqb, List, [], ◌∷◌, ◌++◌, length, take, drop, Some, None, refl, sym, ap, ◌∙◌, arith, inl, inr, min}
+use Rattle.std.proofs.Common.{◌≡◌, ℕ, ◌+◌, ◌-◌, ◌*◌, ◌<◌, ◌≤◌, Bool, false, cond, eqb, List, [], ◌∷◌, ◌++◌, length, take, drop, Some, None, refl, sym, ap, ◌∙◌, arith, inl, inr, min}
 use Rattle.std.specs.List.{repeat}
-use Rattle.std.proofs.lemmas.Bool.{lt-ltb, le-ltb, cases_lt, eqb-true}
+use Rattle.std.proofs.lemmas.Bool.{lt-ltb, le-ltb, cases_lt}
 use Rattle.std.proofs.lemmas.List.{take_all, drop_all, length-append, length-take, length-drop}
 use Rattle.std.proofs.Math.Seq.{take-append_seam, drop-append_seam}
 use Rattle.gh_script.specs.declared.goroutine.Repeat.{Repeat}
@@ -57,13 +57,9 @@ pub written_behind : (front body : List Stmt) (times : ℕ) → written_out (rec
 unfolding written_out
 written_behind front body times = rw (take-append_seam front body, drop-append_seam front body) refl
 
-pub not_zero : (n : ℕ) (b : Bool) → eqb (suc n) 0 ≡ b → eqb (suc n) 0 ≡ false
-not_zero n true e = absurd (let zero : suc n ≡ 0 = eqb-true (suc n) 0 e in omega arith)
-not_zero n false e = e
-
 -- a list that begins with something isn't empty
 pub some_repeat : (innermost : Repeat) (others : List Repeat) → eqb (length (innermost ∷ others)) 0 ≡ false
-some_repeat innermost others = not_zero (length others) (eqb (suc (length others)) 0) refl
+some_repeat innermost others = grind arith
 
 -- `end` closes the innermost open `repeat`
 pub ended_repeat : (draft : Draft) (g : Open) (innermost : Repeat) (others : List Repeat) → g.repeats ≡ innermost ∷ others → block_ended draft (Some g) ≡ record draft { current = Some (with_closed g (innermost ∷ others)) }

@@ -1,5 +1,5 @@
 -- Scripts that are generated from a seed and a size.
-use Rattle.std.specs.Prelude.{◌≡◌, ℕ, zero, suc, ◌+◌, ◌*◌, ◌/◌, ◌%◌, ◌<◌, ◌≤◌, ◌==◌, false, if◌then◌else◌, nat_lt, List, [], ◌∷◌, ◌++◌, map, codes, decimal, sum_by, All, length}
+use Rattle.std.specs.Prelude.{◌≡◌, ℕ, zero, suc, ◌*◌, ◌/◌, ◌%◌, ◌<◌, ◌≤◌, ◌==◌, false, if◌then◌else◌, nat_lt, List, [], ◌∷◌, ◌++◌, map, codes, decimal, sum_by, All, length}
 use Rattle.std.specs.List.{flat_map, range_with_len}
 use Rattle.rand_xoshiro.specs.SplitMix64.{mix_u64}
 use Rattle.gh_base.specs.declared.shape.Shape.{Shape}

@@ -24,11 +24,11 @@ abbrev pub HasPlace : Option Held → Type 0
 HasPlace None = ⊥
 HasPlace (Some h) = h.count < ENTRIES
 
-abbrev pub FitsStage : Option Held → ShadeStage → Type 0
-FitsStage held Enter = HasPlace held
-FitsStage held _ = Unit {0}
+abbrev pub SoundStage : Option Held → ShadeStage → Type 0
+SoundStage held Enter = HasPlace held
+SoundStage held _ = Unit {0}
 
-pub record FitsShade (s : Shading) : Type 0 where
+pub record SoundShading (s : Shading) : Type 0 where
   pub reference : IsReference s.layout s.reference
   pub held : IsHeld s.layout s.held
-  pub stage : FitsStage s.held s.stage
+  pub stage : SoundStage s.held s.stage

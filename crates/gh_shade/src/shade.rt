@@ -53,13 +53,13 @@ pub struct Shade {
 
 impl Model for Shade {
     ghost use Rattle.gh_shade.specs.Listing.{Shading};
-    ghost use Rattle.gh_shade.specs.Sound.{FitsShade};
+    ghost use Rattle.gh_shade.specs.Sound.{SoundShading};
 
     ghost Value = { Shading };
 
     ghost view = { λ s. record { layout = s.layout; reference = s.reference; held = s.held; stage = s.stage } };
 
-    ghost invariant = { λ s. FitsShade (record { layout = s.layout; reference = s.reference; held = s.held; stage = s.stage }) };
+    ghost invariant = { λ s. SoundShading (record { layout = s.layout; reference = s.reference; held = s.held; stage = s.stage }) };
 
     ghost inverse = { λ s. record { layout = s.layout; reference = s.reference; held = s.held; stage = s.stage } };
 }

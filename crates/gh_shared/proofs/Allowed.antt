@@ -22,10 +22,10 @@ use Rattle.gh_lists.specs.Processors.{all_ended, arena_of, asked_by, has_more, i
 use Rattle.gh_world.specs.Wishes.{wishes_of}
 use Rattle.gh_world.specs.World.{may_begin_of}
 use Rattle.gh_world.proofs.Due.{both_true}
-use Rattle.gh_shared.specs.declared.machine.ActorMachine.TheVariants.{Runs}
+use Rattle.gh_actor.specs.declared.machine.ActorMachine.TheVariants.{Runs}
 use Rattle.gh_shared.specs.Calls.{Fits, RunsIt}
-use Rattle.gh_shared.specs.Machines.{IsProcessorOf, ProcessorMay}
-use Rattle.gh_shared.specs.Plans.{Planned}
+use Rattle.gh_actor.specs.Machines.{IsProcessorOf, ProcessorMay}
+use Rattle.gh_actor.specs.Plans.{Planned}
 use Rattle.gh_shared.specs.Shown.{CountsSo, left_by, ProcessorRests, requests_begun, runs_by}
 
 -- ---- truth values

@@ -5,10 +5,10 @@ use Rattle.gh_base.specs.declared.value.Answer.{Answer}
 use Rattle.gh_mutator.specs.Mutating.{Mutating}
 use Rattle.gh_table.specs.Runs.{Gave, Ran}
 use Rattle.gh_table.specs.Views.{Carries, has}
-use Rattle.gh_shared.specs.declared.machine.ActorMachine.{ActorMachine}
-use Rattle.gh_shared.specs.declared.machine.ActorMachine.TheVariants.{Runs}
+use Rattle.gh_actor.specs.declared.machine.ActorMachine.{ActorMachine}
+use Rattle.gh_actor.specs.declared.machine.ActorMachine.TheVariants.{Runs}
 use Rattle.gh_shared.specs.AtOnce.{RanAtOnce}
-use Rattle.gh_shared.specs.Machines.{asks, begins, gives, goes}
+use Rattle.gh_actor.specs.Machines.{asks, begins, gives, goes}
 use Rattle.gh_shared.proofs.Midway.{Seen}
 
 -- it is what the machine x of the handle has come to

@@ -17,11 +17,11 @@ use Rattle.gh_table.specs.Runs.{entries_made, machine_after, Ran}
 use Rattle.gh_table.specs.Views.{Carries, has, one_carried}
 use Rattle.gh_lists.specs.declared.handshake.Actor.{Actor}
 use Rattle.gh_lists.specs.declared.handshake.Actor.TheVariants as actor
-use Rattle.gh_shared.specs.declared.machine.ActorMachine.{ActorMachine}
-use Rattle.gh_shared.specs.declared.machine.ActorMachine.TheVariants.{Leads, Marks, Runs}
+use Rattle.gh_actor.specs.declared.machine.ActorMachine.{ActorMachine}
+use Rattle.gh_actor.specs.declared.machine.ActorMachine.TheVariants.{Leads, Marks, Runs}
 use Rattle.gh_shared.specs.Calls.{IsClosedAfter}
-use Rattle.gh_shared.specs.Machines.{asks, begins, goes, is_coordinator, IsCoordinator, machine_actor, opening}
-use Rattle.gh_shared.specs.Plans.{Planned, setting}
+use Rattle.gh_actor.specs.Machines.{asks, begins, goes, is_coordinator, IsCoordinator, machine_actor, opening}
+use Rattle.gh_actor.specs.Plans.{Planned, setting}
 use Rattle.gh_shared.specs.Shown.{as_actor, CarriesSo, count_among, credit_drawn, drawn_beside, first_of, leader_of}
 use Rattle.gh_shared.proofs.Drawing.{both_words, drawn_all, drawn_both, drawn_on, Joined, none_drawn, one_word, same_state}
 use Rattle.gh_shared.proofs.Ready.{OfItsOwn}

@@ -11,7 +11,7 @@ use Rattle.gh_lists.specs.declared.handshake.Actor.{Actor}
 use Rattle.gh_world.specs.Below.{spent_at}
 use Rattle.gh_lists.specs.Wants.{total}
 use Rattle.gh_lists.specs.Sums.{total_at, total_none}
-use Rattle.gh_shared.specs.Plans.{Planned, setting}
+use Rattle.gh_actor.specs.Plans.{Planned, setting}
 use Rattle.gh_shared.specs.Shown.{drawn_beside}
 use Rattle.gh_shared.proofs.Ready.{OfItsOwn}
 

@@ -14,11 +14,11 @@ use Rattle.gh_worker.specs.Listing as worker
 use Rattle.gh_worker.specs.Listing.{Working}
 use Rattle.gh_lists.specs.Order.{ended_in, has_left}
 use Rattle.gh_lists.specs.Processors.{asked_by}
-use Rattle.gh_shared.specs.declared.machine.ActorMachine.{ActorMachine}
-use Rattle.gh_shared.specs.declared.machine.ActorMachine.TheVariants.{Leads, Marks, Runs}
+use Rattle.gh_actor.specs.declared.machine.ActorMachine.{ActorMachine}
+use Rattle.gh_actor.specs.declared.machine.ActorMachine.TheVariants.{Leads, Marks, Runs}
 use Rattle.gh_shared.specs.Handles.{ended_at}
-use Rattle.gh_shared.specs.Machines.{asks, goes, is_busy, IsOther}
-use Rattle.gh_shared.specs.Plans.{Planned}
+use Rattle.gh_actor.specs.Machines.{asks, goes, is_busy, IsOther}
+use Rattle.gh_actor.specs.Plans.{Planned}
 use Rattle.gh_shared.specs.Shown.{CoordinatorGoesOn, IsKeptByHandle, requests_begun}
 use Rattle.gh_shared.proofs.Keeping.{by_made, same_then}
 

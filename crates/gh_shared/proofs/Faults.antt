@@ -21,12 +21,12 @@ use Rattle.gh_table.specs.Views.{entry}
 use Rattle.gh_lists.specs.declared.handshake.Actor.TheVariants as actor
 use Rattle.gh_shared.specs.declared.handle.Handle.{Handle}
 use Rattle.gh_shared.specs.declared.heap.Heap.{Heap}
-use Rattle.gh_shared.specs.declared.machine.ActorMachine.{ActorMachine}
-use Rattle.gh_shared.specs.declared.machine.ActorMachine.TheVariants.{Leads, Marks, Runs}
+use Rattle.gh_actor.specs.declared.machine.ActorMachine.{ActorMachine}
+use Rattle.gh_actor.specs.declared.machine.ActorMachine.TheVariants.{Leads, Marks, Runs}
 use Rattle.gh_shared.specs.Calls.{Operated}
 use Rattle.gh_shared.specs.Faults.{FaultLeavesAll, LeavesAll}
 use Rattle.gh_shared.specs.Handles.{ended_at, ended_of, machine_of, number_of, own_of, room_at, view_of}
-use Rattle.gh_shared.specs.Machines.{asks, begins, ends_with_answer, gives, goes, IsProcessor, machine_actor}
+use Rattle.gh_actor.specs.Machines.{asks, begins, ends_with_answer, gives, goes, IsProcessor, machine_actor}
 use Rattle.gh_shared.specs.Shown.{ProcessorRests}
 use Rattle.gh_shared.proofs.Keeping.{by_made, runs_after}
 

@@ -1,7 +1,6 @@
 -- Actors before their first steps.
 use Rattle.std.proofs.lemmas.Bool.Decides.{nat_tests}
-use Rattle.std.proofs.Common.{◌≡◌, ◌∙◌, arith, not, ℕ, zero, suc, Bool, true, false, sym, refl, subst, nat_lt, if◌then◌else◌, List, [], ◌∷◌, ◌++◌, length, Some}
-use Rattle.std.specs.Prelude.{slice_get}
+use Rattle.std.proofs.Common.{◌≡◌, ◌∙◌, arith, not, ℕ, Bool, true, false, sym, refl, subst, nat_lt, if◌then◌else◌, List, []}
 use Rattle.gh_base.specs.Reading.{read_replicate}
 use Rattle.gh_base.specs.declared.operation.Op.{Op}
 use Rattle.gh_coord.specs.Stopping.{acks_of}
@@ -15,13 +14,13 @@ use Rattle.gh_world.specs.Wishes.{most_cycles}
 use Rattle.gh_table.specs.declared.plan.View.{View}
 use Rattle.gh_table.specs.Rule.{actor_in}
 use Rattle.gh_table.specs.Views.{Carries, one_carried}
-use Rattle.gh_shared.specs.declared.machine.ActorMachine.{ActorMachine}
-use Rattle.gh_shared.specs.declared.machine.ActorMachine.TheVariants.{Leads, Marks, Runs}
-use Rattle.gh_shared.specs.Machines.{Belongs, machine_actor, opening}
+use Rattle.gh_actor.specs.declared.machine.ActorMachine.{ActorMachine}
+use Rattle.gh_actor.specs.declared.machine.ActorMachine.TheVariants.{Leads, Marks, Runs}
+use Rattle.gh_actor.specs.Machines.{Belongs, machine_actor, opening}
 use Rattle.gh_base.specs.Lists.{by}
 use Rattle.gh_world.specs.World.{LaysOut}
-use Rattle.gh_shared.specs.Counting.{CountsFirst}
-use Rattle.gh_shared.specs.Plans.{Planned, setting}
+use Rattle.gh_actor.specs.Counting.{CountsFirst}
+use Rattle.gh_actor.specs.Plans.{Planned, setting}
 use Rattle.gh_shared.specs.Shown.{CoordinatorGoesOn, IsKeptByHandle, ProcessorRests, RestsIfProcessor}
 
 -- what a hand is made of
@@ -81,10 +80,3 @@ module _ (p : Planned) (a : ℕ) where
 pub kept_so : (p : Planned) (a : ℕ) (m : ActorMachine) (v : View Planned Op) (procs : ℕ) (left : List ℕ) (over : List Bool) (gone : Bool) → v ≡ one_carried p a → m ≡ opening p a → CountsFirst p.script procs left over gone → LaysOut p.script p.layout → IsKeptByHandle v.plan a m (by a v.log) procs left over gone
 kept_so p a m v procs left over gone view machine is lays =
     subst (λ (n : ActorMachine). IsKeptByHandle v.plan a n (by a v.log) procs left over gone) (sym machine) (subst (λ (u : View Planned Op). IsKeptByHandle u.plan a (opening p a) (by a u.log) procs left over gone) (sym view) (kept_first p a procs left over gone is lays))
-
--- what holds of each of these handles, and of one more behind them, holds of each then
-pub each_more : {A : Type 0} (Q : ℕ → A → Type 0) (xs : List A) (y : A) → ((i : ℕ) (x : A) → slice_get xs i ≡ Some x → Q i x) → Q (length xs) y → (i : ℕ) (x : A) → slice_get (xs ++ y ∷ []) i ≡ Some x → Q i x
-each_more Q [] y each new zero x e = let same : y ≡ x = cc in subst (Q 0) same new
-each_more Q [] y each new (suc i) x e = absurd (cc)
-each_more Q (z ∷ xs) y each new zero x e = each zero x e
-each_more {A} Q (z ∷ xs) y each new (suc i) x e = each_more (λ (j : ℕ) (w : A). Q (suc j) w) xs y (λ j w. each (suc j) w) new i x e

@@ -27,12 +27,12 @@ use Rattle.gh_world.specs.World.{making}
 use Rattle.gh_world.proofs.Due.{leaves_is}
 use Rattle.gh_world.proofs.Runners.{each_set}
 use Rattle.gh_world.proofs.StepFacts.{begin_facts, step_facts}
-use Rattle.gh_shared.specs.declared.machine.ActorMachine.{ActorMachine}
-use Rattle.gh_shared.specs.declared.machine.ActorMachine.TheVariants.{Leads, Runs}
+use Rattle.gh_actor.specs.declared.machine.ActorMachine.{ActorMachine}
+use Rattle.gh_actor.specs.declared.machine.ActorMachine.TheVariants.{Leads, Runs}
 use Rattle.gh_shared.specs.Calls.{Fits, RunsIt}
-use Rattle.gh_shared.specs.Counting.{gone_after, HasOneAt, left_after, MayCount, over_after}
-use Rattle.gh_shared.specs.Machines.{asks, begins, gives, goes, is_busy, IsProcessorOf}
-use Rattle.gh_shared.specs.Plans.{Planned}
+use Rattle.gh_actor.specs.Counting.{gone_after, HasOneAt, left_after, MayCount, over_after}
+use Rattle.gh_actor.specs.Machines.{asks, begins, gives, goes, is_busy, IsProcessorOf}
+use Rattle.gh_actor.specs.Plans.{Planned}
 use Rattle.gh_shared.specs.Shown.{asks_for_cycle, CountsSo, IsKeptByHandle, left_by, ProcessorRests, requests_begun, runs_by}
 use Rattle.gh_shared.proofs.Allowed.{below, it_runs, left_is}
 

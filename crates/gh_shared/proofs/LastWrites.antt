@@ -10,7 +10,7 @@ use Rattle.gh_base.specs.Cells.{same_cell, Words}
 use Rattle.gh_base.specs.Lists.{Legal, Setting, words_after}
 use Rattle.gh_base.specs.Steps.{cell_of, ChangesOneCell, effect, left}
 use Rattle.gh_mutator.specs.Faults.{is_load}
-use Rattle.gh_shared.specs.Plans.{Planned, setting}
+use Rattle.gh_actor.specs.Plans.{Planned, setting}
 use Rattle.gh_shared.specs.LastWrites.{NoneWrites, ReadsSeeWrites, writes}
 
 and_true : (b c : Bool) → (b && not c) ≡ true → b ≡ true

@@ -28,10 +28,10 @@ use Rattle.gh_mutator.specs.Processor.{register_of, set_register}
 use Rattle.gh_table.specs.Rule.{actor_in, Tells}
 use Rattle.gh_table.specs.Views.{Carries}
 use Rattle.gh_world.specs.World.{may_begin_of}
-use Rattle.gh_shared.specs.declared.machine.ActorMachine.TheVariants.{Runs}
+use Rattle.gh_actor.specs.declared.machine.ActorMachine.TheVariants.{Runs}
 use Rattle.gh_shared.specs.AtOnce.{RanAtOnce}
-use Rattle.gh_shared.specs.Machines.{IsProcessorOf, machine_actor, ProcessorMay}
-use Rattle.gh_shared.specs.Plans.{Planned, setting}
+use Rattle.gh_actor.specs.Machines.{IsProcessorOf, machine_actor, ProcessorMay}
+use Rattle.gh_actor.specs.Plans.{Planned, setting}
 use Rattle.gh_shared.proofs.Loading.{at_load, begins_none, begins_page, birth_ends, birth_gives, bits_goes, field_ends, field_gives, field_refers, load_at, none_gives, none_goes, page_ends, page_gives, page_goes, with_value}
 use Rattle.gh_shared.proofs.Midway.{ends_at_once, goes_on_so, MayStart, Midway, Seen, starts}
 

@@ -15,12 +15,12 @@ use Rattle.gh_table.specs.Views.{BeganAsEach, Carries, entry, has}
 use Rattle.gh_table.proofs.Running.{saw_before, saw_legal_list, saw_since}
 use Rattle.gh_lists.specs.declared.handshake.Actor.{Actor}
 use Rattle.gh_world.specs.World.{may_begin_of}
-use Rattle.gh_shared.specs.declared.machine.ActorMachine.{ActorMachine}
-use Rattle.gh_shared.specs.declared.machine.ActorMachine.TheVariants.{Runs}
+use Rattle.gh_actor.specs.declared.machine.ActorMachine.{ActorMachine}
+use Rattle.gh_actor.specs.declared.machine.ActorMachine.TheVariants.{Runs}
 use Rattle.gh_shared.specs.AtOnce.{RanAtOnce}
-use Rattle.gh_shared.specs.Machines.{asks, ends_with_answer, gives, goes, IsProcessorOf, machine_actor, ProcessorMay}
-use Rattle.gh_shared.specs.MachinesAct.{asks_is, begins_is, belongs_begun, busy_is, still_belongs, takes_is}
-use Rattle.gh_shared.specs.Plans.{Planned, setting}
+use Rattle.gh_actor.specs.Machines.{asks, ends_with_answer, gives, goes, IsProcessorOf, machine_actor, ProcessorMay}
+use Rattle.gh_actor.specs.MachinesAct.{asks_is, begins_is, belongs_begun, busy_is, still_belongs, takes_is}
+use Rattle.gh_actor.specs.Plans.{Planned, setting}
 
 abbrev pub Seen : Type 0
 Seen = Me (Unit {0}) (View Planned Op)

@@ -7,7 +7,7 @@ use Rattle.gh_base.specs.declared.value.Answer.{Answer}
 use Rattle.gh_base.specs.declared.operation.Op.TheVariants as op
 use Rattle.gh_base.specs.Routines.{EndsWithin, told}
 use Rattle.gh_mutator.specs.Ending.{may_wait, most_steps, OperationsEnd}
-use Rattle.gh_mutator.specs.Local.{marking_at}
+use Rattle.gh_poll.specs.Local.{marking_at}
 use Rattle.gh_mutator.specs.PollRoom.{HasRoomToStore, PollsMakeRoom}
 use Rattle.gh_base.specs.Lists.{by, Kind, state_of}
 use Rattle.gh_mutator.specs.Deeds.{processor_kind}
@@ -21,14 +21,14 @@ use Rattle.gh_lists.specs.Order.{ends, goroutine_of, has_left, leaves}
 use Rattle.gh_lists.specs.Processors.{asks_collector}
 use Rattle.gh_world.specs.World.{may_begin_of}
 use Rattle.gh_world.proofs.Resting.{is_processor}
-use Rattle.gh_shared.specs.declared.machine.ActorMachine.{ActorMachine}
-use Rattle.gh_shared.specs.declared.machine.ActorMachine.TheVariants.{Leads, Marks, Runs}
+use Rattle.gh_actor.specs.declared.machine.ActorMachine.{ActorMachine}
+use Rattle.gh_actor.specs.declared.machine.ActorMachine.TheVariants.{Leads, Marks, Runs}
 use Rattle.gh_shared.specs.Calls.{Fits, RunsIt, ShowsAfter}
 use Rattle.gh_shared.specs.declared.handle.Handle.{Handle}
-use Rattle.gh_shared.specs.Counting.{gone_after, left_after, MayCount, over_after}
+use Rattle.gh_actor.specs.Counting.{gone_after, left_after, MayCount, over_after}
 use Rattle.gh_shared.specs.Handles.{ended_at, ended_of, machine_of, number_of, own_of, room_at, view_of}
-use Rattle.gh_shared.specs.Machines.{asks, begins, Belongs, ends_with_answer, gives, goes, is_busy, IsProcessor, listing, machine_actor, MachineMayBegin}
-use Rattle.gh_shared.specs.Plans.{Planned, setting}
+use Rattle.gh_actor.specs.Machines.{asks, begins, Belongs, ends_with_answer, gives, goes, is_busy, IsProcessor, listing, machine_actor, MachineMayBegin}
+use Rattle.gh_actor.specs.Plans.{Planned, setting}
 use Rattle.gh_shared.specs.Shown.{IsKeptByHandle, left_by, runs_by}
 use Rattle.gh_shared.proofs.Allowed.{allowed}
 use Rattle.gh_shared.proofs.Rooms.{room_so}

@@ -8,9 +8,9 @@ use Rattle.gh_mutator.specs.Mutating.{Mutating}
 use Rattle.gh_table.specs.declared.plan.View.{View}
 use Rattle.gh_table.specs.Rule.{actor_in}
 use Rattle.gh_table.specs.Runs.{Gave, Ran, SawLegalList}
-use Rattle.gh_shared.specs.declared.machine.ActorMachine.TheVariants.{Runs}
-use Rattle.gh_shared.specs.Machines.{asks, begins, gives, goes, IsProcessorOf, machine_actor}
-use Rattle.gh_shared.specs.Plans.{Planned, setting}
+use Rattle.gh_actor.specs.declared.machine.ActorMachine.TheVariants.{Runs}
+use Rattle.gh_actor.specs.Machines.{asks, begins, gives, goes, IsProcessorOf, machine_actor}
+use Rattle.gh_actor.specs.Plans.{Planned, setting}
 
 -- The processor m has run the operation to its end, by exactly the steps of its machine, so many at the most. It is m' now: what the machine is after them, and what the actor is after its entries.
 pub record RanAtOnce (a : ℕ) (o : Op) (most : ℕ) (m : Mutating) (me : Me (Unit {0}) (View Planned Op)) (m' : Mutating) (me' : Me (Unit {0}) (View Planned Op)) (given : Answer) : Type 0 where

@@ -19,10 +19,10 @@ use Rattle.gh_mutator.specs.Listing.{is_busy_at}
 use Rattle.gh_lists.specs.Processors.{answers_of, AnswersAsEver, arena_of, asks_collector, at_seat, given_of}
 use Rattle.gh_shared.specs.declared.handle.Handle.{Handle}
 use Rattle.gh_shared.specs.declared.heap.Heap.{Heap}
-use Rattle.gh_shared.specs.declared.machine.ActorMachine.{ActorMachine}
+use Rattle.gh_actor.specs.declared.machine.ActorMachine.{ActorMachine}
 use Rattle.gh_shared.specs.Handles.{carries_of, ended_of, IsHandleOf, left_of, machine_of, number_of, own_of, room_at, runs_in, view_of}
-use Rattle.gh_shared.specs.Machines.{asks, begins, gives, goes, IsProcessor}
-use Rattle.gh_shared.specs.Plans.{Planned, setting}
+use Rattle.gh_actor.specs.Machines.{asks, begins, gives, goes, IsProcessor}
+use Rattle.gh_actor.specs.Plans.{Planned, setting}
 use Rattle.gh_shared.specs.Shown.{left_by, runs_by}
 use Rattle.gh_world.specs.World.{setup_of}
 

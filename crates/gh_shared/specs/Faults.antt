@@ -8,7 +8,7 @@ use Rattle.gh_base.specs.declared.value.Fault.{Fault}
 use Rattle.gh_mutator.specs.Faults.{is_load}
 use Rattle.gh_shared.specs.declared.handle.Handle.{Handle}
 use Rattle.gh_shared.specs.Handles.{machine_of, own_of, room_of}
-use Rattle.gh_shared.specs.Machines.{machine_actor}
+use Rattle.gh_actor.specs.Machines.{machine_actor}
 
 -- Each entry that the call added to its actor's own is a load, so no word changed; and the processor is what it was, with all registers and what it knows.
 pub record LeavesAll (h h' : Handle) : Type 0 where

@@ -5,7 +5,7 @@ use Rattle.gh_base.specs.declared.operation.Op.{Op}
 use Rattle.gh_base.specs.Cells.{length_of, seats_of}
 use Rattle.gh_base.specs.Lists.{by}
 use Rattle.gh_coord.specs.Listing as coord
-use Rattle.gh_mutator.specs.Room.{room_in}
+use Rattle.gh_poll.specs.Room.{room_in}
 use Rattle.gh_table.specs.declared.plan.View.{View}
 use Rattle.gh_table.specs.Views.{one_carried}
 use Rattle.gh_script.specs.Program.{Program}
@@ -14,10 +14,10 @@ use Rattle.gh_lists.specs.Order.{has_left}
 use Rattle.gh_world.specs.World.{LaysOut}
 use Rattle.gh_shared.specs.declared.handle.Handle.{Handle}
 use Rattle.gh_shared.specs.declared.heap.Heap.{Heap}
-use Rattle.gh_shared.specs.declared.machine.ActorMachine.{ActorMachine}
-use Rattle.gh_shared.specs.declared.machine.ActorMachine.TheVariants.{Leads, Marks, Runs}
-use Rattle.gh_shared.specs.Machines.{opening}
-use Rattle.gh_shared.specs.Plans.{Planned}
+use Rattle.gh_actor.specs.declared.machine.ActorMachine.{ActorMachine}
+use Rattle.gh_actor.specs.declared.machine.ActorMachine.TheVariants.{Leads, Marks, Runs}
+use Rattle.gh_actor.specs.Machines.{opening}
+use Rattle.gh_actor.specs.Plans.{Planned}
 use Rattle.gh_shared.specs.Shown.{count_among, left_by, runs_by}
 
 -- what the heap is of

@@ -7,7 +7,7 @@ use Rattle.gh_base.specs.Cells.{same_cell}
 use Rattle.gh_base.specs.Lists.{Legal}
 use Rattle.gh_base.specs.Steps.{cell_of, left}
 use Rattle.gh_mutator.specs.Faults.{is_load}
-use Rattle.gh_shared.specs.Plans.{Planned, setting}
+use Rattle.gh_actor.specs.Plans.{Planned, setting}
 
 -- the entry is a step on this cell, and no load
 abbrev pub writes : Cell → Entry Op → Bool

@@ -1,11 +1,6 @@
 pub mod AtOnce
 pub mod Calls
-pub mod Counting
 pub mod Faults
 pub mod Handles
 pub mod LastWrites
-pub mod Machines
-pub mod MachinesAct
-pub mod MachinesEnd
-pub mod Plans
 pub mod Shown

@@ -21,10 +21,10 @@ use Rattle.gh_lists.specs.Processors.{asked_by}
 use Rattle.gh_lists.specs.Wants.{total}
 use Rattle.gh_world.specs.Wishes.{wishes_of}
 use Rattle.gh_world.specs.World.{MadeAtMost}
-use Rattle.gh_shared.specs.declared.machine.ActorMachine.{ActorMachine}
-use Rattle.gh_shared.specs.declared.machine.ActorMachine.TheVariants.{Leads, Runs}
-use Rattle.gh_shared.specs.Machines.{is_coordinator, machine_actor}
-use Rattle.gh_shared.specs.Plans.{Planned, setting}
+use Rattle.gh_actor.specs.declared.machine.ActorMachine.{ActorMachine}
+use Rattle.gh_actor.specs.declared.machine.ActorMachine.TheVariants.{Leads, Runs}
+use Rattle.gh_actor.specs.Machines.{is_coordinator, machine_actor}
+use Rattle.gh_actor.specs.Plans.{Planned, setting}
 
 -- goroutine g is one of the processor at seat a, and has not ended by these entries
 abbrev pub runs_by : Planned → (a : ℕ) → List (Entry Op) → (g : ℕ) → Bool

@@ -11,12 +11,11 @@ ghost use Rattle.gh_base.specs.Routines.{EndsWithin};
 ghost use Rattle.gh_shared.specs.Calls.{IsGoing, May, Operated, OperatedWithin};
 ghost use Rattle.gh_shared.specs.Faults.{FaultLeavesAll};
 ghost use Rattle.gh_shared.specs.Handles.{left_of, machine_of, plan_of, room_of, runs_in};
-ghost use Rattle.gh_shared.specs.Machines.{begins, listing};
+ghost use Rattle.gh_actor.specs.Machines.{begins, listing};
 
 use crate::handle::Handle;
 use crate::heap::Heap;
-use crate::machine::ActorMachine;
-use crate::plan::AnyActor;
+use gh_actor::{ActorMachine, AnyActor};
 use gh_base::laws::a_state_is_of_its_own_entries;
 use gh_base::{Answer, Op};
 use gh_mutator::laws::polls_make_room;

@@ -12,8 +12,7 @@ ghost use Rattle.gh_shared.specs.Shown.{credit_drawn, first_of, leader_of};
 
 use crate::handle::Handle;
 use crate::heap::Heap;
-use crate::machine::ActorMachine;
-use crate::plan::AnyActor;
+use gh_actor::{ActorMachine, AnyActor};
 use gh_base::Op;
 use gh_base::laws::a_state_is_of_its_own_entries;
 use gh_coord::{Coord, Cycle};

@@ -3,9 +3,7 @@
 ghost use Rattle.gh_base.specs.Lists.{by};
 ghost use Rattle.gh_shared.specs.Shown.{CarriesSo, IsKeptByHandle};
 
-use crate::counts::Counts;
-use crate::machine::ActorMachine;
-use crate::plan::{AnyActor, HeapPlan};
+use gh_actor::{ActorMachine, AnyActor, Counts, HeapPlan};
 use gh_base::Op;
 use gh_coord::Coord;
 use gh_table::Hand;

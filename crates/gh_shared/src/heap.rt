@@ -2,10 +2,10 @@
 
 ghost use Rattle.std.specs.Prelude.{◌≡◌};
 ghost use Rattle.gh_table.specs.Rule.{IsLaidOut};
-ghost use Rattle.gh_shared.specs.Plans.{setting};
+ghost use Rattle.gh_actor.specs.Plans.{setting};
 
-use crate::plan::{AnyActor, HeapPlan};
 use atomic_table::Table;
+use gh_actor::{AnyActor, HeapPlan};
 use gh_base::{Layout, Op};
 use gh_table::{OneLegalList, View};
 use std::alloc::Global;

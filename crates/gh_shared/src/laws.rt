@@ -2,7 +2,7 @@
 
 ghost use Rattle.gh_shared.specs.Calls.{AnswersAreEvers, EveryListStands};
 ghost use Rattle.gh_shared.specs.Handles.{plan_of, IsHeapOf};
-ghost use Rattle.gh_shared.specs.Plans.{Planned};
+ghost use Rattle.gh_actor.specs.Plans.{Planned};
 ghost use Rattle.gh_shared.specs.LastWrites.{ReadsSeeWrites};
 
 use crate::heap::Heap;

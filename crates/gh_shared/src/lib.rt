@@ -17,16 +17,13 @@
 
 mod calls;
 mod closing;
-mod counts;
 mod fault;
 mod handle;
 mod heap;
 mod laws;
 mod load;
-mod machine;
 mod opening;
 mod others;
-mod plan;
 mod shows;
 
 pub use closing::Closed;
@@ -34,5 +31,3 @@ pub use fault::OpenFault;
 pub use handle::Handle;
 pub use heap::Heap;
 pub use laws::{answers_are_evers, reads_see_writes};
-pub use machine::ActorMachine;
-pub use plan::{AnyActor, HeapPlan};

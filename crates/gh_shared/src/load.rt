@@ -12,13 +12,13 @@ ghost use Rattle.gh_mutator.specs.Mutating.{Mutating};
 ghost use Rattle.gh_table.specs.Rule.{actor_in};
 ghost use Rattle.gh_table.specs.Views.{Carries};
 ghost use Rattle.gh_world.specs.World.{may_begin_of};
-ghost use Rattle.gh_shared.specs.declared.machine.ActorMachine.TheVariants.{Runs};
+ghost use Rattle.gh_actor.specs.declared.machine.ActorMachine.TheVariants.{Runs};
 ghost use Rattle.gh_shared.specs.AtOnce.{RanAtOnce};
-ghost use Rattle.gh_shared.specs.Machines.{IsProcessorOf, machine_actor, ProcessorMay};
-ghost use Rattle.gh_shared.specs.Plans.{setting};
+ghost use Rattle.gh_actor.specs.Machines.{IsProcessorOf, machine_actor, ProcessorMay};
+ghost use Rattle.gh_actor.specs.Plans.{setting};
 
 use crate::heap::Heap;
-use crate::plan::{AnyActor, HeapPlan};
+use gh_actor::{AnyActor, HeapPlan};
 use gh_base::{Answer, Cell, Fault, Name, Op, Value};
 use gh_mutator::Mutator;
 use gh_mutator::field::{

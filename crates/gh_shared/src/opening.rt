@@ -5,15 +5,13 @@ ghost use Rattle.gh_base.specs.Cells.{seats_of};
 ghost use Rattle.gh_table.specs.Views.{all_carried, one_carried};
 ghost use Rattle.gh_world.specs.World.{LaysOut, pacing_of};
 ghost use Rattle.gh_shared.specs.Handles.{AreFresh, IsFresh, IsHeapOf};
-ghost use Rattle.gh_shared.specs.Machines.{opening};
-ghost use Rattle.gh_shared.specs.Plans.{setting};
+ghost use Rattle.gh_actor.specs.Machines.{opening};
+ghost use Rattle.gh_actor.specs.Plans.{setting};
 
-use crate::counts::Counts;
 use crate::fault::OpenFault;
 use crate::handle::Handle;
 use crate::heap::Heap;
-use crate::machine::ActorMachine;
-use crate::plan::HeapPlan;
+use gh_actor::{ActorMachine, Counts, HeapPlan};
 use gh_base::{Layout, Op};
 use gh_coord::Coord;
 use gh_mutator::Mutator;

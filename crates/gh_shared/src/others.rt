@@ -3,11 +3,11 @@
 ghost use Rattle.std.specs.Prelude.{◌≡◌, ℕ, List, false};
 ghost use Rattle.gh_shared.specs.Calls.{RanToItsEnd};
 ghost use Rattle.gh_shared.specs.Handles.{ended_of, machine_of, IsHandleOf};
-ghost use Rattle.gh_shared.specs.Machines.{IsCoordinator, IsOther, IsWorker};
+ghost use Rattle.gh_actor.specs.Machines.{IsCoordinator, IsOther, IsWorker};
 
 use crate::handle::Handle;
 use crate::heap::Heap;
-use crate::plan::AnyActor;
+use gh_actor::AnyActor;
 use gh_base::Op;
 use gh_base::laws::a_state_is_of_its_own_entries;
 use gh_coord::laws::it_goes_on_until_done;

@@ -3,11 +3,11 @@
 ghost use Rattle.std.specs.Prelude.{◌≡◌, ◌↔◌, true, false, ℕ, IsTrue};
 ghost use Rattle.gh_base.specs.Cells.{seats_of};
 ghost use Rattle.gh_shared.specs.Handles.{carries_of, ended_of, left_of, machine_of, number_of, plan_of, room_of, runs_in};
-ghost use Rattle.gh_shared.specs.Machines.{IsCoordinator, IsProcessor, IsWorker};
+ghost use Rattle.gh_actor.specs.Machines.{IsCoordinator, IsProcessor, IsWorker};
 
 use crate::handle::Handle;
 use crate::heap::Heap;
-use crate::machine::ActorMachine;
+use gh_actor::ActorMachine;
 
 impl Heap {
     /// How many actors there are: the processors, the workers and the coordinator.

@@ -6,11 +6,11 @@ use Rattle.gh_stack.specs.declared.scan_stack.StackStage.TheVariants.{Shade}
 use Rattle.gh_stack.specs.Listing.{StackScan}
 
 -- the register is one of the goroutine's
-abbrev pub FitsStage : StackStage → Type 0
-FitsStage (Shade register reference) = register < REGISTERS
-FitsStage _ = Unit {0}
+abbrev pub SoundStage : StackStage → Type 0
+SoundStage (Shade register reference) = register < REGISTERS
+SoundStage _ = Unit {0}
 
-pub record FitsStackScan (s : StackScan) : Type 0 where
+pub record SoundStackScan (s : StackScan) : Type 0 where
   pub goroutine : s.goroutine < s.layout.goroutines
   pub registers : length s.registers ≡ REGISTERS
-  pub stage : FitsStage s.stage
+  pub stage : SoundStage s.stage

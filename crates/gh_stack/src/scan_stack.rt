@@ -3,7 +3,7 @@
 ghost use Rattle.std.specs.Prelude.{◌≡◌, ◌<◌, ◌↔◌, IsTrue, length, true};
 ghost use Rattle.gh_base.specs.Cells.{InRange};
 ghost use Rattle.gh_base.specs.Steps.{cell_of};
-ghost use Rattle.gh_stack.specs.Sound.{FitsStage};
+ghost use Rattle.gh_stack.specs.Sound.{SoundStage};
 ghost use Rattle.gh_stack.specs.Listing.{asks, given, is_busy, is_waiting, opening, shade_stage_from, told_shaded, wish_of};
 
 use gh_base::limits::REGISTERS;
@@ -45,13 +45,13 @@ pub struct ScanStack {
 
 impl Model for ScanStack {
     ghost use Rattle.gh_stack.specs.Listing.{StackScan};
-    ghost use Rattle.gh_stack.specs.Sound.{FitsStackScan};
+    ghost use Rattle.gh_stack.specs.Sound.{SoundStackScan};
 
     ghost Value = { StackScan };
 
     ghost view = { λ s. record { layout = s.layout; goroutine = s.goroutine; cycle = s.cycle; registers = s.registers; stage = s.stage } };
 
-    ghost invariant = { λ s. FitsStackScan (record { layout = s.layout; goroutine = s.goroutine; cycle = s.cycle; registers = s.registers; stage = s.stage }) };
+    ghost invariant = { λ s. SoundStackScan (record { layout = s.layout; goroutine = s.goroutine; cycle = s.cycle; registers = s.registers; stage = s.stage }) };
 
     ghost inverse = { λ s. record { layout = s.layout; goroutine = s.goroutine; cycle = s.cycle; registers = s.registers; stage = s.stage } };
 }
@@ -60,7 +60,7 @@ impl Model for ScanStack {
 fn stage_from(registers: &[Value], from: u32) -> StackStage
     requires { length registers.now ≡ REGISTERS }
     ensures is { result ≡ shade_stage_from registers.now from }
-    ensures fits { FitsStage result }
+    ensures fits { SoundStage result }
 {
     for register in from..REGISTERS {
         if let Value::Ref(reference) = registers[register as usize] {

@@ -1,5 +1,5 @@
 -- A cycle opens and ends; and what is told once all is swept.
-use Rattle.std.proofs.Common.{◌≡◌, ℕ, zero, suc, ◌+◌, ◌-◌, ◌*◌, ◌/◌, ◌%◌, Bool, true, false, cond, refl, sym, ap, subst, ◌∙◌, arith, inl, inr, Option, None}
+use Rattle.std.proofs.Common.{◌≡◌, ℕ, zero, suc, ◌+◌, ◌-◌, ◌/◌, ◌%◌, true, refl, sym, ap, subst, ◌∙◌, arith, inl, inr, Option, None}
 use Rattle.std.specs.Int.{bit_at}
 use Rattle.std.proofs.lemmas.Bool.{eq-eqb}
 use Rattle.std.proofs.lemmas.Bool.Decides.{eqb_tells}
@@ -12,7 +12,7 @@ use Rattle.gh_base.specs.declared.value.Name.{Name}
 use Rattle.gh_base.specs.Cells.{opening_words, seats_of, Words}
 use Rattle.gh_model.specs.Ever.{Reach}
 use Rattle.gh_base.specs.Packing.{page_of}
-use Rattle.gh_base.specs.Rows.{alloc_words, mark_words, row_bit, RowsAreWritten}
+use Rattle.gh_base.specs.Rows.{mark_words, row_bit, RowsAreWritten}
 use Rattle.gh_heap.specs.Rights as rights
 use Rattle.gh_heap.specs.Rights.{Arena}
 use Rattle.gh_heap.specs.Spans.{owner_in}
@@ -52,28 +52,20 @@ sum_same f g (suc n) same =
 
 -- Where each span is swept.
 module _ (e : CycleEnd) (v : spans.View) (g : spans.Good e v) (done : (p : ℕ) → v.far p ≡ Done) where
-  all_clear : (i : ℕ) → v.clear i ≡ true
-  all_clear i = go (v.clear i) refl where
-    go : (b : Bool) → v.clear i ≡ b → b ≡ true
-    go true is = refl
-    go false is = let l = g.unswept i is in absurd (l.unswept (done l.span.p))
-
   all_cut : (i : ℕ) → v.cut i ≡ true
-  all_cut i = g.order i (all_clear i)
+  all_cut i = grind arith
 
   no_marks : (i : ℕ) → v.mark i ≡ 0
-  no_marks i = g.marks i ∙ ap (λ (b : Bool). cond b 0 (marks_at e i)) (all_clear i)
+  no_marks i = grind arith
 
   none_due : (a : ℕ) → v.due a ≡ nothing_due
-  none_due a = g.told a (λ p by. done_by_none (sym (done p) ∙ by)) where
-    done_by_none : Done ≡ By a → ⊥
-    done_by_none x = cc
+  none_due a = grind arith
 
   none_owed : (part : Due → ℕ) → part nothing_due ≡ 0 → owed part v.due (seats_of e.layout) ≡ 0
-  none_owed part none = sum_none (λ a. part (v.due a)) (seats_of e.layout) (λ a. ap part (none_due a) ∙ none)
+  none_owed part none = grind (arith, none_due, sum_none)
 
   none_left : (each : ℕ → ℕ) (n : ℕ) → left_uncut each v.cut n ≡ 0
-  none_left each n = sum_none (λ i. cond (v.cut i) 0 (each i)) n (λ i. ap (λ (b : Bool). cond b 0 (each i)) (all_cut i))
+  none_left each n = grind (arith, all_cut, sum_none)
 
 all_done : (z : Arena) (s : Shared) → Good z s → AreSwept s → (p : ℕ) → s.far p ≡ Done
 all_done z s g swept p = go (page_of (s.heap.words (cell.Page p))) refl where
@@ -236,22 +228,7 @@ module _ (k : Known) (z : Arena) (trigger : ℕ) where
   no_mark x set = zero_one (bit_at 0 (x % 64)) (bit_at-zero (x % 64)) (sym (k.rows.bit_of (mark_words words) (x / 64) x refl) ∙ set)
 
   end_is : HasEnded (opening_end z.layout trigger)
-  end_is = record {
-    generation = omega arith;
-    heads = λ p g e. absurd (no_head g e);
-    apart = λ p q g j e f ne. absurd (no_head g e);
-    numbers = λ p g e. absurd (no_head g e);
-    outside = λ i none. (refl, refl);
-    slots = λ i s. absurd (no_head s.h s.head);
-    few = λ i. omega arith;
-    alloc_fits = λ i. omega arith;
-    marks_fit = λ i. omega arith;
-    stand = λ x set. absurd (no_mark x set);
-    known = λ x set. absurd (no_mark x set);
-    tally = refl;
-    live = refl;
-    heap = sym (sum_none (spans.placed_in (alloc_words words) (λ i. 0)) (16 * z.layout.pages) (λ q. omega arith));
-  }
+  end_is = grind (arith, no_head, no_mark, sum_none)
 
   opens_so : (h : rights.Shared) → rights.Good z (rights.view (record h { words = words })) → ((n : Name) → Reach h.ever n → ⊥) → Good z (opening z h trigger)
   opens_so h good none = record { layout = refl; ended = end_is; heap = good; sweep = k.ends.good (opening_end z.layout trigger) end_is; reached = λ n r uncut. absurd (none n r); told = λ t is. absurd (cc is) }

@@ -60,14 +60,7 @@ as_rows e a s t u o r = record {
 }
 
 stays : (e : CycleEnd) (a : ℕ) (s : Sweeps) → OthersLeave e a s s
-stays e a s = record {
-  mine = λ p h by head. record { by = by; head = refl; cut = λ i l. refl; clear = λ i l. refl; alloc = λ i l. refl; marks = λ i l. refl };
-  back = λ p is. is;
-  done = λ p is. is;
-  heads = λ p number n. inl refl;
-  due = refl;
-  pend = refl;
-}
+stays e a s = grind arith
 
 module _ (k : Known) (l : Lasting) (z : Arena) (a b : ℕ) (s : Shared) (ne : a ≢ b) (g : Good z s) where
   abbrev v : rights.View
@@ -106,7 +99,7 @@ module _ (k : Known) (l : Lasting) (z : Arena) (a b : ℕ) (s : Shared) (ne : a 
   others m may left = record { end = refl; told = refl; heap = l.heap z a b s.heap m ne g.heap may.may; sweep = left }
 
   same : {t u : Sweeps} → ((p : ℕ) → u.words (cell.Page p) ≡ t.words (cell.Page p)) → ((i : ℕ) → u.words (cell.Alloc i) ≡ t.words (cell.Alloc i)) → ((i : ℕ) → u.words (cell.Mark i) ≡ t.words (cell.Mark i)) → u.far ≡ t.far → u.cut ≡ t.cut → u.clear ≡ t.clear → u.due ≡ t.due → u.pend a ≡ t.pend a → Same a t u
-  same pages alloc marks far cut clear due pend = record { pages = pages; alloc = alloc; marks = marks; far = far; cut = cut; clear = clear; due = due; pend = pend }
+  same pages alloc marks far cut clear due pend = grind arith
 
   pub deeds : (m : heap.Move) → MayDeed z b s m → Others z a s (moved z b s (Deed m))
   deeds (heap.Quiet step) may = others (heap.Quiet step) may (quiet_step step may.may may.counts)
@@ -134,7 +127,7 @@ module _ (k : Known) (l : Lasting) (z : Arena) (a b : ℕ) (s : Shared) (ne : a 
   heap_rests = l.heap z a b s.heap (heap.Quiet (ask.Load cell.Touch)) ne g.heap tt
 
   pub counts : b < seats_of z.layout → Others z a s (moved z b s Count)
-  counts may = record { end = refl; told = refl; heap = heap_rests; sweep = as_rows s.end a (seen_by_sweep s) (sweep.moved b (seen_by_sweep s) sweep.Counts) _ (by sweep.Counts (subst (λ x. b < seats_of x) (sym g.layout) may)) (same (λ p. refl) (λ i. refl) (λ i. refl) refl refl refl refl refl) }
+  counts may = grind arith
 
 -- A move of a sweep.
 module _ (k : Known) (l : Lasting) (z : Arena) (a b : ℕ) (was : Shared) (ne : a ≢ b) (g : Good z (record was { told = None })) where
@@ -145,7 +138,7 @@ module _ (k : Known) (l : Lasting) (z : Arena) (a b : ℕ) (was : Shared) (ne : 
   moves m may heap r = record { end = refl; told = refl; heap = heap; sweep = as_rows q.end a (seen_by_sweep q) (sweep.moved b (seen_by_sweep q) m) _ (l.sweep q.end a b (seen_by_sweep q) m ne g.ended g.sweep may) r }
 
   rows : {t u : Sweeps} → ((p : ℕ) → u.words (cell.Page p) ≡ t.words (cell.Page p)) → ((i : ℕ) → u.words (cell.Alloc i) ≡ t.words (cell.Alloc i)) → ((i : ℕ) → u.words (cell.Mark i) ≡ t.words (cell.Mark i)) → u.far ≡ t.far → u.cut ≡ t.cut → u.clear ≡ t.clear → u.due ≡ t.due → u.pend a ≡ t.pend a → Same a t u
-  rows pages alloc marks far cut clear due pend = record { pages = pages; alloc = alloc; marks = marks; far = far; cut = cut; clear = clear; due = due; pend = pend }
+  rows pages alloc marks far cut clear due pend = grind arith
 
   pub sweeps : (m : sweep.Move) → IsOfSweep m → sweep.May q.end b (seen_by_sweep q) m → Others z a q (moved z b q (Sweep m))
   sweeps (sweep.Quiet (ask.Load c)) of may = moves (sweep.Quiet (ask.Load c)) may (heap_rests k l z a b q ne g) (rows (λ p. refl) (λ i. refl) (λ i. refl) refl refl refl refl refl)

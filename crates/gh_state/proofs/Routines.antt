@@ -1,6 +1,5 @@
 -- A sweep over the one state.
-use Rattle.std.proofs.Common.{◌≡◌, ℕ, ◌+◌, ◌*◌, ◌<◌, Bool, true, false, cond, refl, sym, subst, ◌∙◌, Option, Some, None}
-use Rattle.gh_base.specs.declared.cell.Ask.TheVariants as ask
+use Rattle.std.proofs.Common.{◌≡◌, ℕ, ◌+◌, ◌*◌, ◌<◌, true, refl, sym, subst, ◌∙◌, Option, None, arith}
 use Rattle.gh_base.specs.declared.cell.Cell.TheVariants as cell
 use Rattle.gh_base.specs.declared.layout.Layout.{Layout}
 use Rattle.gh_base.specs.declared.pack.PageWord.TheVariants.{Head}
@@ -9,15 +8,13 @@ use Rattle.gh_base.specs.Cells.{seats_of}
 use Rattle.gh_base.specs.Packing.{page_of}
 use Rattle.gh_base.specs.Steps.{cell_of, effect}
 use Rattle.gh_heap.specs.Rights.{Arena}
-use Rattle.gh_sweep.specs.declared.sweep.SweepStage.{SweepStage}
-use Rattle.gh_sweep.specs.declared.sweep.SweepStage.TheVariants.{Begin}
-use Rattle.gh_sweep.specs.Listing.{asks, goes, is_busy, opening, Sweeping, wrote}
+use Rattle.gh_sweep.specs.Listing.{asks, goes, is_busy, opening, Sweeping}
 use Rattle.gh_sweep.specs.Moves as sweep
 use Rattle.gh_sweep.specs.Moves.{OthersLeave}
 use Rattle.gh_sweep.specs.Shared as spans
 use Rattle.gh_sweep.specs.Shared.{generation_of}
 use Rattle.gh_sweep.specs.Shared.{Shared as Sweeps}
-use Rattle.gh_sweep.specs.Sweepers.{move_at, move_of, SweepIsFine, SweepsAmongOthers}
+use Rattle.gh_sweep.specs.Sweepers.{move_of, SweepFacts, SweepsAmongOthers}
 use Rattle.gh_state.specs.Good.{Good}
 use Rattle.gh_state.specs.Moves.{IsOfSweep, May, Others, Sweep}
 use Rattle.gh_state.specs.Routines.{GoesOn, SeatSweepsNothing, SweepRuns, SweepsByTheState, SweepsLeave}
@@ -25,15 +22,8 @@ use Rattle.gh_state.specs.Shared.{marks_in, seen_by_sweep, Shared, sweep_over, T
 
 -- the moves of a sweep
 
-move_is : (m : Sweeping) (stage : SweepStage) (found : ℕ) → IsOfSweep (move_at m stage found)
-move_is m Begin found = go (wrote m found) where
-  go : (b : Bool) → IsOfSweep (cond b (sweep.Starts m.page m.head) (sweep.Quiet (ask.Load (cell.Page m.page))))
-  go true = tt
-  go false = tt
-move_is m _ found = tt
-
 pub moves_so : (m : Sweeping) (found : ℕ) → IsOfSweep (move_of m found)
-moves_so m found = move_is m m.stage found
+moves_so m found = grind arith
 
 -- While no cycle is marked, the words as a sweep reads them are the words.
 
@@ -44,32 +34,21 @@ module _ (z : Arena) (a : ℕ) (was : Shared) where
   abbrev raw : Sweeps
   raw = sweep_over s s.heap.words
 
-  spans_are : (p : ℕ) (h : SpanHead) (r c : ℕ) → sweep.Sweeps a p h r c raw → sweep.Sweeps a p h r c (seen_by_sweep s)
-  spans_are p h r c w = record { by = w.by; head = w.head; are_cut = w.are_cut; are_clear = w.are_clear }
-
   may_here : (m : sweep.Move) → IsOfSweep m → sweep.May s.end a raw m → sweep.May s.end a (seen_by_sweep s) m
-  may_here (sweep.Quiet (ask.Load c)) of may = may
-  may_here (sweep.Starts p h) of may = may
-  may_here (sweep.Cuts p h i) of may = (may.0, spans_are p h i i may.1, may.2)
-  may_here (sweep.Clears p h i) of may = (spans_are p h (i + 1) i may.0, may.1)
-  may_here sweep.TellsTally of may = may
-  may_here sweep.TellsLive of may = may
-  may_here sweep.TellsHeap of may = may
-  may_here (sweep.Ends p h) of may = (spans_are p h _ _ may.0, may.1)
-  may_here _ of may = absurd of
+  may_here m of may = grind arith
 
   raw_good : Good z s → spans.Good s.end (spans.view raw)
   raw_good g = g.sweep
 
-  module _ (k : SweepsAmongOthers) (leave : SweepsLeave) (g : Good z s) (seat : a < seats_of z.layout) (m : Sweeping) (fine : SweepIsFine s.end a raw m) (busy : is_busy m.stage ≡ true) where
+  module _ (k : SweepsAmongOthers) (leave : SweepsLeave) (g : Good z s) (seat : a < seats_of z.layout) (m : Sweeping) (fine : SweepFacts s.end a raw m) (busy : is_busy m.stage ≡ true) where
     abbrev found : ℕ
     found = s.heap.words (cell_of (asks m))
 
-    lands : sweep.Lands s.end a raw (move_of m found) (effect s.heap.words (asks m)) (λ t. SweepIsFine s.end a t (goes m found))
+    lands : sweep.Lands s.end a raw (move_of m found) (effect s.heap.words (asks m)) (λ t. SweepFacts s.end a t (goes m found))
     lands = k.own s.end a raw m g.ended (raw_good g) (subst (λ (x : Layout). a < seats_of x) (sym g.layout) seat) fine busy
 
     allowed : May z a s (Sweep (move_of m found))
-    allowed = record { quiet = refl; of_sweep = moves_so m found; may = may_here (move_of m found) (moves_so m found) lands.may }
+    allowed = grind (arith, lands, may_here, moves_so)
 
     pub own_here : GoesOn z a s m found
     own_here = record {
@@ -90,14 +69,12 @@ unhushed a s t is then o = record {
   pend = o.pend;
 } where
   marks : (i : ℕ) (b c : Option Told) → b ≡ None → c ≡ None → marks_in c (t.heap.words (cell.Mark i)) ≡ marks_in b (s.heap.words (cell.Mark i)) → t.heap.words (cell.Mark i) ≡ s.heap.words (cell.Mark i)
-  marks i None None e f same = same
-  marks i (Some x) c e f same = absurd (cc e)
-  marks i None (Some x) e f same = absurd (cc f)
+  marks i b c e f same = grind arith
 
 last_here : SweepsAmongOthers → (z : Arena) (a : ℕ) (s t : Shared) (m : Sweeping) → Others z a s t → SweepRuns a s m → SweepRuns a t m
 last_here k z a s t m o r =
     let then : t.told ≡ None = o.told ∙ r.quiet in
-    record { quiet = then; fine = subst (λ x. SweepIsFine x a (sweep_over t t.heap.words) m) (sym o.end) (k.last s.end a (sweep_over s s.heap.words) (sweep_over t t.heap.words) m (unhushed a s t r.quiet then o.sweep) r.fine) }
+    record { quiet = then; fine = subst (λ x. SweepFacts x a (sweep_over t t.heap.words) m) (sym o.end) (k.last s.end a (sweep_over s s.heap.words) (sweep_over t t.heap.words) m (unhushed a s t r.quiet then o.sweep) r.fine) }
 
 pub sweeps : SweepsAmongOthers → SweepsLeave → SweepsByTheState
 sweeps k leave = record {
@@ -106,9 +83,9 @@ sweeps k leave = record {
   last = last_here k;
   rests = λ a s m r busy. k.rests s.end a (sweep_over s s.heap.words) m r.fine busy;
 } where
-  opens_here : (z : Arena) (a : ℕ) (s : Shared) (p : ℕ) (h : SpanHead) → Good z s → s.told ≡ None → SeatSweepsNothing a s → page_of (s.heap.words (cell.Page p)) ≡ Head h → h.number + 2 ≡ generation_of s.end → SweepIsFine s.end a (sweep_over s s.heap.words) (opening s.end.layout p h)
+  opens_here : (z : Arena) (a : ℕ) (s : Shared) (p : ℕ) (h : SpanHead) → Good z s → s.told ≡ None → SeatSweepsNothing a s → page_of (s.heap.words (cell.Page p)) ≡ Head h → h.number + 2 ≡ generation_of s.end → SweepFacts s.end a (sweep_over s s.heap.words) (opening s.end.layout p h)
   opens_here z a s p h g quiet rests head number =
-      subst (λ (b : Option Told). Good z (record s { told = b }) → SweepIsFine s.end a (sweep_over s s.heap.words) (opening s.end.layout p h)) (sym quiet)
+      subst (λ (b : Option Told). Good z (record s { told = b }) → SweepFacts s.end a (sweep_over s s.heap.words) (opening s.end.layout p h)) (sym quiet)
       (λ good. k.opens s.end a (sweep_over s s.heap.words) p h good.ended (raw_good z a s good) rests head number) g
 
   own_at : (z : Arena) (a : ℕ) (s : Shared) (m : Sweeping) → Good z s → a < seats_of z.layout → SweepRuns a s m → is_busy m.stage ≡ true → GoesOn z a s m (s.heap.words (cell_of (asks m)))

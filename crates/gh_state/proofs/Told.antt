@@ -50,7 +50,7 @@ no_bytes word bytes is =
 
 module _ (k : Known) (z : Arena) (s : Shared) (g : Good z s) (none : s.told ≡ None) (swept : AreSwept s) (was : IsAsItEnded s) where
   all : AllIsTold s
-  all = k.told z s g none swept
+  all = grind arith
 
   objects : BitsAreObjects s.end
   objects = k.bits s.end g.ended
@@ -94,10 +94,7 @@ module _ (k : Known) (z : Arena) (s : Shared) (g : Good z s) (none : s.told ≡ 
   ]
 
   kept_bytes : (i : ℕ) → live_at s.end i ≡ placed_in (alloc_words s.heap.words) (slot_row (page_words s.heap.words)) i
-  kept_bytes i =
-      ap (λ (n : ℕ). count_ones n * s.end.slot i) (same_word i)
-      ∙ ap (λ (n : ℕ). count_ones (s.heap.words (cell.Alloc i)) * n) (sym (was.slots i))
-      ∙ same_bytes i
+  kept_bytes i = grind (arith, same_bytes, same_word)
 
   pub told : CountsAreExact s.end s.heap.words
   told = record {

@@ -13,7 +13,7 @@ use Rattle.gh_heap.specs.Spans.{numbered_by}
 use Rattle.gh_sweep.specs.Listing.{asks, goes, is_busy, opening, Sweeping}
 use Rattle.gh_sweep.specs.Moves as sweep
 use Rattle.gh_sweep.specs.Shared.{generation_of}
-use Rattle.gh_sweep.specs.Sweepers.{IsAtRest, move_of, SweepIsFine}
+use Rattle.gh_sweep.specs.Sweepers.{IsAtRest, move_of, SweepFacts}
 use Rattle.gh_state.specs.Good.{Good}
 use Rattle.gh_state.specs.Moves.{May, moved, Others, Sweep}
 use Rattle.gh_state.specs.Shared.{Shared, sweep_over}
@@ -36,7 +36,7 @@ SweepsLeave = (z : Arena) (a : ℕ) (s : Shared) (m : sweep.Move) → Good z s �
 -- what is known of a sweep that the seat runs: no cycle is under way, and what gh_sweep says of it
 pub record SweepRuns (a : ℕ) (s : Shared) (m : Sweeping) : Type 0 where
   pub quiet : s.told ≡ None
-  pub fine : SweepIsFine s.end a (sweep_over s s.heap.words) m
+  pub fine : SweepFacts s.end a (sweep_over s s.heap.words) m
 
 -- the seat runs none, and has told all
 abbrev pub SeatSweepsNothing : (a : ℕ) → Shared → Type 0

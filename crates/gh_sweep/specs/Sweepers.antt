@@ -72,7 +72,7 @@ HasReached a s m (Ended end) = Unit {0}
 HasReached a s m stage = Sweeps a m.page m.head (reached m.head stage) (marks_cleared m.head stage) s
 
 -- What holds of the sweep that an actor runs: the spans that are the actor's are those of its stage, which says too what it has yet to tell.
-pub record SweepIsFine (e : CycleEnd) (a : ℕ) (s : Shared) (m : Sweeping) : Type 0 where
+pub record SweepFacts (e : CycleEnd) (a : ℕ) (s : Shared) (m : Sweeping) : Type 0 where
   pub placed : IsPlaced m
   pub number : m.head.number + 2 ≡ generation_of e
   pub right : (p : ℕ) → (s.far p ≡ By a) ↔ IsOwn m p
@@ -87,11 +87,11 @@ pub record IsAtRest (a : ℕ) (s : Shared) : Type 0 where
 
 pub record SweepsAmongOthers : Type 0 where
   -- a sweep may be begun where the page's word is found to have the head of an unswept span
-  pub opens : (e : CycleEnd) (a : ℕ) (s : Shared) (p : ℕ) (h : SpanHead) → HasEnded e → Good e (view s) → IsAtRest a s → page_of (s.words (Page p)) ≡ Head h → h.number + 2 ≡ generation_of e → SweepIsFine e a s (opening e.layout p h)
+  pub opens : (e : CycleEnd) (a : ℕ) (s : Shared) (p : ℕ) (h : SpanHead) → HasEnded e → Good e (view s) → IsAtRest a s → page_of (s.words (Page p)) ≡ Head h → h.number + 2 ≡ generation_of e → SweepFacts e a s (opening e.layout p h)
   -- each of its steps is its move, which it may make, and the same holds of it then
-  pub own : (e : CycleEnd) (a : ℕ) (s : Shared) (m : Sweeping) → HasEnded e → Good e (view s) → a < seats_of e.layout → SweepIsFine e a s m → is_busy m.stage ≡ true →
-      Lands e a s (move_of m (s.words (cell_of (asks m)))) (effect s.words (asks m)) (λ t. SweepIsFine e a t (goes m (s.words (cell_of (asks m)))))
+  pub own : (e : CycleEnd) (a : ℕ) (s : Shared) (m : Sweeping) → HasEnded e → Good e (view s) → a < seats_of e.layout → SweepFacts e a s m → is_busy m.stage ≡ true →
+      Lands e a s (move_of m (s.words (cell_of (asks m)))) (effect s.words (asks m)) (λ t. SweepFacts e a t (goes m (s.words (cell_of (asks m)))))
   -- and that lasts under the moves of others
-  pub last : (e : CycleEnd) (a : ℕ) (s t : Shared) (m : Sweeping) → OthersLeave e a s t → SweepIsFine e a s m → SweepIsFine e a t m
+  pub last : (e : CycleEnd) (a : ℕ) (s t : Shared) (m : Sweeping) → OthersLeave e a s t → SweepFacts e a s m → SweepFacts e a t m
   -- once it has ended the actor is at rest
-  pub rests : (e : CycleEnd) (a : ℕ) (s : Shared) (m : Sweeping) → SweepIsFine e a s m → is_busy m.stage ≡ false → IsAtRest a s
+  pub rests : (e : CycleEnd) (a : ℕ) (s : Shared) (m : Sweeping) → SweepFacts e a s m → is_busy m.stage ≡ false → IsAtRest a s

@@ -1,5 +1,5 @@
 -- The entries of one actor, and of some actors.
-use Rattle.std.proofs.Common.{◌≡◌, ◌≢◌, ℕ, ◌==◌, Bool, true, false, cond, List, [], ◌∷◌, ◌++◌, refl, sym, ap, ◌∙◌, eq-eqb, ne_eqb, ◌||◌, true≢false}
+use Rattle.std.proofs.Common.{◌≡◌, ◌≢◌, ℕ, ◌==◌, Bool, true, false, cond, List, [], ◌∷◌, ◌++◌, refl, sym, ap, ◌∙◌, eq-eqb, ne_eqb, ◌||◌, true≢false, arith}
 use Rattle.std.proofs.lemmas.Bool.{eqb-true}
 use Rattle.gh_base.specs.declared.machine.Entry.{Entry}
 use Rattle.gh_base.specs.Lists.{Kind, by, state_of}
@@ -55,38 +55,28 @@ module _ {O : Type 0} where
   by-these xs a (e ∷ es) h = go (has xs e.actor) refl (e.actor == a) refl (by-these xs a es h)
     where
       go : (b : Bool) → has xs e.actor ≡ b → (c : Bool) → (e.actor == a) ≡ c → by a (of_these xs es) ≡ by a es → by a (cond b (e ∷ of_these xs es) (of_these xs es)) ≡ cond c (e ∷ by a es) (by a es)
-      go true p true q ih = rw q (ap (λ l. e ∷ l) ih)
-      go true p false q ih = rw q ih
-      go false p true q ih = absurd (true≢false (sym h ∙ (ap (λ x. has xs x) (sym (eqb-true e.actor a q)) ∙ p)))
-      go false p false q ih = ih
+      go b p c q ih = grind arith
 
   pub by-these-out : (xs : List ℕ) (a : ℕ) (es : List (Entry O)) → has xs a ≡ false → by a (of_these xs es) ≡ []
   by-these-out xs a [] h = refl
   by-these-out xs a (e ∷ es) h = go (has xs e.actor) refl (e.actor == a) refl (by-these-out xs a es h)
     where
       go : (b : Bool) → has xs e.actor ≡ b → (c : Bool) → (e.actor == a) ≡ c → by a (of_these xs es) ≡ [] → by a (cond b (e ∷ of_these xs es) (of_these xs es)) ≡ []
-      go true p true q ih = absurd (true≢false (sym p ∙ (ap (λ x. has xs x) (eqb-true e.actor a q) ∙ h)))
-      go true p false q ih = rw q ih
-      go false p c q ih = ih
+      go b p c q ih = grind arith
 
   pub by-others : (xs : List ℕ) (a : ℕ) (es : List (Entry O)) → has xs a ≡ false → by a (of_others xs es) ≡ by a es
   by-others xs a [] h = refl
   by-others xs a (e ∷ es) h = go (has xs e.actor) refl (e.actor == a) refl (by-others xs a es h)
     where
       go : (b : Bool) → has xs e.actor ≡ b → (c : Bool) → (e.actor == a) ≡ c → by a (of_others xs es) ≡ by a es → by a (cond b (of_others xs es) (e ∷ of_others xs es)) ≡ cond c (e ∷ by a es) (by a es)
-      go false p true q ih = rw q (ap (λ l. e ∷ l) ih)
-      go false p false q ih = rw q ih
-      go true p true q ih = absurd (true≢false (sym p ∙ (ap (λ x. has xs x) (eqb-true e.actor a q) ∙ h)))
-      go true p false q ih = ih
+      go b p c q ih = grind arith
 
   pub by-others-out : (xs : List ℕ) (a : ℕ) (es : List (Entry O)) → has xs a ≡ true → by a (of_others xs es) ≡ []
   by-others-out xs a [] h = refl
   by-others-out xs a (e ∷ es) h = go (has xs e.actor) refl (e.actor == a) refl (by-others-out xs a es h)
     where
       go : (b : Bool) → has xs e.actor ≡ b → (c : Bool) → (e.actor == a) ≡ c → by a (of_others xs es) ≡ [] → by a (cond b (of_others xs es) (e ∷ of_others xs es)) ≡ []
-      go false p true q ih = absurd (true≢false (sym h ∙ (ap (λ x. has xs x) (sym (eqb-true e.actor a q)) ∙ p)))
-      go false p false q ih = rw q ih
-      go true p c q ih = ih
+      go b p c q ih = grind arith
 
 -- an actor's entries determine its state
 abbrev pub Settles : Type 0 → Type 0 → Type 0

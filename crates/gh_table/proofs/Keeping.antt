@@ -1,5 +1,5 @@
 -- Each step keeps the rule.
-use Rattle.std.proofs.Common.{◌≡◌, ◌≢◌, ℕ, zero, suc, ◌<◌, ◌==◌, Bool, true, false, cond, List, [], ◌∷◌, ◌++◌, length, set, refl, sym, ap, ◌∙◌, subst, ⊎_elim, Option, Some, None, ◌||◌, true≢false, arith}
+use Rattle.std.proofs.Common.{◌≡◌, ◌≢◌, ℕ, zero, suc, ◌<◌, ◌==◌, Bool, true, false, cond, List, [], ◌∷◌, ◌++◌, length, set, refl, sym, ap, ◌∙◌, subst, ⊎_elim, Option, ◌||◌, true≢false, arith}
 use Rattle.std.specs.Prelude.{slice_index, slice_set}
 use Rattle.std.proofs.lemmas.List.{append-nil, set-get_or}
 use mathlib.Core.Option.{some, some-ne-none, some-injective}
@@ -8,18 +8,17 @@ use prog.Atomic.{either}
 use Rattle.atomic_table.specs.Table.{State, Me, Allows, Splits, Joins, keeps, opening, Final, Seen}
 use Rattle.atomic_table.proofs.Lists.{at_set, set_again}
 use Rattle.gh_base.specs.declared.cell.Ask.{Ask}
-use Rattle.gh_base.specs.declared.cell.Ask.TheVariants.{Load, Store, Or, And, Add, Swap}
 use Rattle.gh_base.specs.declared.cell.Req.{Req}
 use Rattle.gh_base.specs.declared.layout.Layout.{Layout}
 use Rattle.gh_base.specs.declared.machine.Entry.{Entry}
 use Rattle.gh_base.specs.Cells.{InRange, length_of, ShowsCells, WordsAreBelow}
-use Rattle.gh_base.specs.Lists.{Setting, by, Begins, Legal, MayFollow, started, state_of, words_after}
+use Rattle.gh_base.specs.Lists.{Setting, by, Legal, MayFollow, words_after}
 use Rattle.gh_base.specs.Steps.{cell_of, changed, effect, request, request_leaves, StepsAreShown, target}
 use Rattle.gh_table.specs.declared.plan.View.{View}
-use Rattle.gh_table.specs.Rule.{actor_in, BeginsIn, Fits, HoldsOneList, IsAfterOneList, IsLaidOut, MayAsk, NoSeatCarries, Tells, TellsOnce}
+use Rattle.gh_table.specs.Rule.{Fits, HoldsOneList, IsAfterOneList, IsLaidOut, MayAsk, NoSeatCarries, Tells, TellsOnce}
 use Rattle.gh_table.specs.Views.{all_carried, BeganAsEach, Carries, entry, has, joined, leaving, of_others, of_these, Once, spent, staying, with_entry}
 use Rattle.gh_table.proofs.Seats.{at_end, bool_cases, has_from, has_head, has_neither, has_one, has_tail, moved, moved-else, moved-here, none_before, none_last, none_left, once_append, once_from, once_without, or_left_false, or_right, or_right_false, set_else, set_here, taken, taken-in, taken-out}
-use Rattle.gh_table.proofs.Entries.{Settles, by-else, by-append, by-by, by-these, by-these-out, by-others, by-others-out, has-append, has-without, same_state}
+use Rattle.gh_table.proofs.Entries.{Settles, by-else, by-append, by-by, by-these, by-these-out, by-others, by-others-out, has-append, has-without}
 
 module _ {O : Type 0} where
   pub seen_more : (xss : List (List (Entry O))) (h : List (Entry O)) (e : Entry O) → BeganAsEach xss h → BeganAsEach xss (e ∷ h)
@@ -37,27 +36,12 @@ module _ {K O : Type 0} where
 
   -- the entry is another's
   fits_else : (p : K) (n : ℕ) (owner : ℕ → ℕ) (h : List (Entry O)) (id : ℕ) (v : View K O) (e : Entry O) (a : ℕ) → e.actor ≢ a → Fits p n owner h id v a → Fits p n owner (e ∷ h) id v a
-  fits_else p n owner h id v e a other f = record { plan = f.plan; owned = f.owned; known = f.known; entries = by-else a e h other ∙ f.entries; seen = seen_more v.seen h e f.seen }
+  fits_else p n owner h id v e a other f = grind (arith, seen_more)
 
 module _ {K A O : Type 0} (settles : Settles A O) (of : K → Setting A O) where
-  begins_in : (p : K) (h : List (Entry O)) (v : View K O) (a : ℕ) (b : Option O) → v.plan ≡ p → by a h ≡ by a v.log → BeginsIn of v a b → Begins (of p) a h b
-  begins_in p h v a None plan same b =
-      subst (λ (x : K). (of x).kind.busy (state_of (of x).kind a h) ≡ true) plan (ap (of v.plan).kind.busy (same_state settles (of v.plan).kind a h v.log same) ∙ b)
-  begins_in p h v a (Some o) plan same b =
-      subst (λ (x : K). ((of x).kind.busy (state_of (of x).kind a h) ≡ false) × ((of x).may_begin a (by a h) o ≡ true)) plan
-      (ap (of v.plan).kind.busy (same_state settles (of v.plan).kind a h v.log same) ∙ b.0, ap (λ (l : List (Entry O)). (of v.plan).may_begin a l o) same ∙ b.1)
-
   may_follow : (p : K) (h : List (Entry O)) (v : View K O) (a : ℕ) (b : Option O) (r : Ask) (n : ℕ) → v.plan ≡ p → a < (of p).actors → by a h ≡ by a v.log → InRange (of p).layout (cell_of r) → MayAsk of v a b r
       → n ≡ words_after (of p).opening h (cell_of r) → MayFollow (of p) h (entry a b r n)
-  may_follow p h v a b r n plan known same within may word =
-      let st : state_of (of v.plan).kind a h ≡ actor_in of v a = same_state settles (of v.plan).kind a h v.log same in record {
-        actor = known;
-        begins = begins_in p h v a b plan same may.begins;
-        runs = subst (λ (x : K). (of x).kind.busy (started (of x).kind b (state_of (of x).kind a h)) ≡ true) plan (ap (λ (m : A). (of v.plan).kind.busy (started (of v.plan).kind b m)) st ∙ may.runs);
-        asks = subst (λ (x : K). r ≡ (of x).kind.asks (started (of x).kind b (state_of (of x).kind a h))) plan (may.asks ∙ ap (λ (m : A). (of v.plan).kind.asks (started (of v.plan).kind b m)) (sym st));
-        within = within;
-        found = word;
-      }
+  may_follow p h v a b r n plan known same within may word = grind arith
 
   -- the step r of the actor a, of the word i, which becomes f of what it was
   pub steps : (p : K) → StepsAreShown (of p).layout → (slots id : ℕ) (me : Me (Unit {0}) (View K O)) (a : ℕ) (b : Option O) (r : Ask) (i : ℕ) (f : ℕ → ℕ)
@@ -166,7 +150,7 @@ module _ {K A O : Type 0} (of : K → Setting A O) (p : K) where
       }
 
   pub splits : (id : ℕ) (v : View K O) → Splits {S = Unit {0}} (HoldsOneList of p) id v (staying v) (leaving v)
-  splits id v = split_at v.plan id v.actors v.log v.seen
+  splits id v = grind (arith, split_at)
 
   pub joins : (id : ℕ) (v : View K O) (other : ℕ) (w : View K O) (q : K) (one two : ℕ) → Carries v one → Carries w two → Joins {S = Unit {0}} (HoldsOneList of p) id v other w (joined v w) (spent q)
   joins id v other w q one two carries carries' st kept at apart there =
@@ -251,16 +235,10 @@ module _ {K A O : Type 0} (of : K → Setting A O) (p : K) where
       }
 
 pub either-cond : (b : Bool) (x y : ℕ) → either b x y ≡ cond b x y
-either-cond true x y = refl
-either-cond false x y = refl
+either-cond b x y = grind arith
 
 pub target-word : (l : Layout) (ask : Ask) → InRange l (cell_of ask) → WordsAreBelow l → target (request l ask) < length_of l
-target-word l (Load c) h below = below c h
-target-word l (Store c x) h below = below c h
-target-word l (Or c x) h below = below c h
-target-word l (And c x) h below = below c h
-target-word l (Add c x) h below = below c h
-target-word l (Swap c x y) h below = below c h
+target-word l ask h below = grind arith
 
 -- a store is told no word: the one that it overwrites is the word of its entry
 pub any_found : {S V : Type 0} (rule : State S V → Type 0) (slots id : ℕ) (me : Me S V) (i : ℕ) (f : ℕ → ℕ) (tells : ℕ → Me S V → Type 0) → Allows rule slots id me i f tells → Allows rule slots id me i f (λ n w. (found : ℕ) × tells found w)

@@ -28,7 +28,7 @@ module _ {S K A O : Type 0} (of : K → Setting A O) where
 
   -- what has begun as the lists seen now began as those seen before
   pub saw_before : (a : ℕ) (me me' : Me S (View K O)) → SawLegalList of a me me' → (es : List (Entry O)) → BeganAsEach me'.0.seen es → BeganAsEach me.0.seen es
-  saw_before a me me' s es began = began_since me.0.seen s.list es (subst (λ (xss : List (List (Entry O))). BeganAsEach xss es) s.last began).0 s.later
+  saw_before a me me' s es began = grind (arith, began_since)
 
   -- a step more
   pub saw_since : (a : ℕ) (me0 me me' : Me S (View K O)) → ((es : List (Entry O)) → BeganAsEach me.0.seen es → BeganAsEach me0.0.seen es) → SawLegalList of a me me' → SawLegalList of a me0 me'
@@ -92,34 +92,21 @@ module _ {K O M : Type 0} (asks : M → Ask) (goes : M → ℕ → M) where
   }
 
 pub none_of : {X : Type 0} (r : Option X) → ((x : X) → r ≡ Some x → ⊥) → IsNone r
-none_of None never = refl
-none_of (Some x) never = absurd (never x refl)
+none_of r never = grind arith
 
 -- where the step gave nothing a further one is to be made
 pub goes_more : {M Out : Type 0} (r : Listing M Out) (m0 m : M) (n : ℕ) (ns : List ℕ) → ((x : M) (found : ℕ) → r.busy x ≡ true → IsNone (r.gives x found) ↔ (r.busy (r.goes x found) ≡ true)) → m ≡ machine_after r.goes m0 ns → WentOn r.busy r.goes m0 ns → IsNone (r.gives m n) → WentOn r.busy r.goes m0 (n ∷ ns)
-goes_more r m0 m n ns ends is goes none =
-    let busy : r.busy m ≡ true = ap r.busy is ∙ busy_now r m0 ns goes in
-    (ap (λ x. r.busy (r.goes x n)) (sym is) ∙ (ends m n busy).0 none, goes)
+goes_more r m0 m n ns ends is goes none = grind (arith, busy_now)
 
 -- where the step gave something none is to be made
 pub ended_now : {M Out : Type 0} (r : Listing M Out) (m : M) (n : ℕ) (x : Out) → ((y : M) (found : ℕ) → r.busy y ≡ true → IsNone (r.gives y found) ↔ (r.busy (r.goes y found) ≡ true)) → r.busy m ≡ true → r.gives m n ≡ Some x → r.busy (r.goes m n) ≡ false
-ended_now r m n x ends busy gave = go (r.busy (r.goes m n)) refl
-  where
-    some_none : (o : Option _) → o ≡ Some x → IsNone o → ⊥
-    some_none None e none = absurd cc
-    some_none (Some y) e none = absurd cc
-
-    go : (b : Bool) → r.busy (r.goes m n) ≡ b → b ≡ false
-    go true e = absurd (some_none (r.gives m n) gave ((ends m n busy).1 e))
-    go false e = refl
+ended_now r m n x ends busy gave = grind arith
 
 pub left_none : {O : Type 0} (ns : List ℕ) → begun_next {O = O} None ns ≡ None
-left_none [] = refl
-left_none (n ∷ ns) = refl
+left_none ns = grind arith
 
 pub or_true : (a b : Bool) → a ≡ true → (a || b) ≡ true
-or_true true b e = refl
-or_true false b e = absurd (true≢false (sym e))
+or_true a b e = grind arith
 
 without-from : (a i n : ℕ) → a < i → without a (numbers_from i n) ≡ numbers_from i n
 without-from a i zero lt = refl
@@ -127,13 +114,7 @@ without-from a i (suc n) lt = let ne : i ≢ a = omega arith in rw (ne_eqb i a n
 
 module _ {K O : Type 0} where
   pub leaves_first : (v : View K O) (p : K) (a n : ℕ) → v ≡ rest_carried p a n → 0 < n → leaving v ≡ one_carried p a
-  leaves_first v p a zero e some = absurd (omega arith)
-  leaves_first v p a (suc n) e some = ap leaving e
+  leaves_first v p a n e some = grind arith
 
   pub stays_first : (v : View K O) (p : K) (a n : ℕ) → v ≡ rest_carried p a n → 0 < n → staying v ≡ rest_carried p (a + 1) (n - 1)
-  stays_first v p a zero e some = absurd (omega arith)
-  stays_first v p a (suc n) e some =
-      let s : suc a ≡ a + 1 = omega arith in
-      let w : without a (numbers_from (suc a) n) ≡ numbers_from (a + 1) n = without-from a (suc a) n (omega arith) ∙ ap (λ i. numbers_from i n) s in
-      let q : n ≡ suc n - 1 = omega arith in
-      ap staying e ∙ ((λ i. record { plan = p; actors = w i; log = []; seen = [] }) ∙ ap (λ (k : ℕ). rest_carried {O = O} p (a + 1) k) q)
+  stays_first v p a n e some = grind (arith, without-from)

@@ -15,18 +15,10 @@ at_end (x ∷ xs) a b zero e = inl e
 at_end (x ∷ xs) a b (suc j) e = ⊎_elim (λ t. inl t) (λ (t : (j ≡ length xs) × (a ≡ b)). inr (ap suc t.0, t.1)) (at_end xs a b j e)
 
 pub has_one : (a c : ℕ) → has (a ∷ []) c ≡ true → a ≡ c
-has_one a c h = go (a == c) refl h
-  where
-    go : (b : Bool) → (a == c) ≡ b → cond b true false ≡ true → a ≡ c
-    go true q t = eqb-true a c q
-    go false q t = absurd (true≢false (sym t))
+has_one a c h = grind arith
 
 pub has_tail : (a : ℕ) (xs : List ℕ) (c : ℕ) → has xs c ≡ true → has (a ∷ xs) c ≡ true
-has_tail a xs c h = go (a == c)
-  where
-    go : (b : Bool) → cond b true (has xs c) ≡ true
-    go true = refl
-    go false = h
+has_tail a xs c h = grind arith
 
 pub has_head : (a : ℕ) (xs : List ℕ) → has (a ∷ xs) a ≡ true
 has_head a xs = rw (eq-eqb a a refl) refl
@@ -56,12 +48,10 @@ unfolding taken
 taken-out owner xs m c e = rw e refl
 
 pub bool_cases : (b : Bool) → (b ≡ true) ⊎ (b ≡ false)
-bool_cases true = inl refl
-bool_cases false = inr refl
+bool_cases b = grind arith
 
 pub or_right : (a b : Bool) → (a || b) ≡ true → a ≡ false → b ≡ true
-or_right true b e h = absurd (true≢false h)
-or_right false b e h = e
+or_right a b e h = grind arith
 
 pub has_from : (i n c : ℕ) → has (numbers_from i n) c ≡ true → c < i + n
 has_from i zero c h = absurd (true≢false (sym h))
@@ -122,18 +112,15 @@ has_neither a xs c rest one = rw (other (a == c) refl one) (out xs rest)
         go false q t ih = stays (y == c) refl t ih
 
 pub or_left_false : (a b : Bool) → (a || b) ≡ false → a ≡ false
-or_left_false true b e = e
-or_left_false false b e = refl
+or_left_false a b e = grind arith
 
 pub or_right_false : (a b : Bool) → (a || b) ≡ false → b ≡ false
-or_right_false true b e = absurd (true≢false e)
-or_right_false false b e = e
+or_right_false a b e = grind arith
 
 -- ---- no actor stands twice
 
 pub or_false : (a b : Bool) → a ≡ false → b ≡ false → (a || b) ≡ false
-or_false true b e f = absurd (true≢false e)
-or_false false b e f = f
+or_false a b e f = grind arith
 
 head_out : (x : ℕ) (xs ys : List ℕ) → ((a : ℕ) → has (x ∷ xs) a ≡ true → has ys a ≡ false) → has ys x ≡ false
 head_out x xs ys apart = apart x (has_head x xs)
@@ -152,8 +139,7 @@ once_apart (x ∷ xs) ys h a t = go (x == a) refl t (once_apart xs ys h.1 a)
     go false q u ih = ih u
 
 not_true : (b : Bool) → (b ≡ true → ⊥) → b ≡ false
-not_true true h = absurd (h refl)
-not_true false h = refl
+not_true b h = grind arith
 
 pub once_without : (a : ℕ) (xs : List ℕ) → Once xs → Once (without a xs)
 once_without a [] h = tt

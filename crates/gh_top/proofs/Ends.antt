@@ -9,13 +9,13 @@ use Rattle.gh_replay.specs.Report.{replay_text}
 use Rattle.gh_script.specs.declared.fault.Why.{Why}
 use Rattle.gh_script.specs.Program.{Program}
 use Rattle.gh_script.specs.Grammar.{Spells, Refused}
-use Rattle.gh_top.specs.declared.line.Line.{Line}
-use Rattle.gh_top.specs.declared.line.Line.TheVariants.{Gen, Replay, Run, Soak}
+use Rattle.gh_command.specs.declared.line.Line.{Line}
+use Rattle.gh_command.specs.declared.line.Line.TheVariants.{Gen, Replay, Run, Soak}
 use Rattle.gh_top.specs.declared.status.Status.{Status}
 use Rattle.gh_top.specs.declared.status.Status.TheVariants as statuses
 use Rattle.gh_top.specs.declared.found.Found.{Found}
 use Rattle.gh_top.specs.declared.found.Found.TheVariants.{BadWords, BadScript, Ran, OutOfTurns, Generated, Soaked, ReadFault, NoThread, NoMemory}
-use Rattle.gh_top.specs.CommandLine.{Text, command_line}
+use Rattle.gh_command.specs.CommandLine.{Text, command_line}
 use Rattle.gh_top.specs.Outcome.{AreRefused, ComesTo, Ends, IsForThreads, ReadsScript, Says, Streams, TellsInFull}
 use Rattle.gh_top.specs.Found.{FoundIsWritten, IsCutOff, IsFound, IsRan, IsSilent, Matches, MatchesLine, said_of, status_of}
 

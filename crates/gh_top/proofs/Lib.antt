@@ -1,12 +1,3 @@
-pub mod CommandLineRange
-pub mod CommandLineNumbers
-pub mod CommandLineRows
-pub mod CommandLineRules
-pub mod CommandLineEnd
-pub mod CommandLineWalk
-pub mod CommandLineChoices
-pub mod CommandLineSubs
-pub mod CommandLineParsed
 pub mod Texts
 pub mod Lines
 pub mod Ends

@@ -3,11 +3,11 @@ use Rattle.std.proofs.Common.{◌≡◌, ℕ, ◌*◌, ◌/◌, ◌++◌, List, 
 use Rattle.std.specs.Io.KnownBytes.{Appends}
 use Rattle.gh_lines.specs.Text.{live_line, statements_line}
 use Rattle.gh_soak.specs.Soak.{WhatIsLiveIsOne}
-use Rattle.gh_top.specs.declared.line.Line.{Line}
-use Rattle.gh_top.specs.declared.line.Line.TheVariants.{Soak}
+use Rattle.gh_command.specs.declared.line.Line.{Line}
+use Rattle.gh_command.specs.declared.line.Line.TheVariants.{Soak}
 use Rattle.gh_top.specs.declared.status.Status.{Status}
 use Rattle.gh_top.specs.declared.status.Status.TheVariants.{Ok}
-use Rattle.gh_top.specs.CommandLine.{Text}
+use Rattle.gh_command.specs.CommandLine.{Text}
 use Rattle.gh_top.specs.Outcome.{ComesTo, Ends, IsSoak, Said, Streams}
 use Rattle.gh_top.proofs.Ends.{same_line}
 

@@ -11,13 +11,13 @@ use Rattle.gh_script.specs.Generated.{generated_program, generated_text}
 use Rattle.gh_script.specs.Program.{Program}
 use Rattle.gh_script.specs.Grammar.{Spells, Refused}
 use Rattle.gh_soak.specs.Soak.{AreLiveThen}
-use Rattle.gh_top.specs.declared.line.Line.{Line}
-use Rattle.gh_top.specs.declared.line.Line.TheVariants.{Gen, Replay, Run, Soak}
+use Rattle.gh_command.specs.declared.line.Line.{Line}
+use Rattle.gh_command.specs.declared.line.Line.TheVariants.{Gen, Replay, Run, Soak}
 use Rattle.gh_top.specs.declared.status.Status.{Status}
 use Rattle.gh_top.specs.declared.status.Status.TheVariants as statuses
 use Rattle.gh_top.specs.declared.found.Found.{Found}
 use Rattle.gh_top.specs.declared.found.Found.TheVariants.{BadWords, BadScript, Ran, OutOfTurns, Generated, Soaked, ReadFault, NoThread, NoMemory}
-use Rattle.gh_top.specs.CommandLine.{command_line}
+use Rattle.gh_command.specs.CommandLine.{command_line}
 use Rattle.gh_top.specs.Outcome.{AreRefused}
 
 -- What was found is so for a line and the text: a script that was run is the one that the text spells, run as the line says, and a text that was refused spells none.

@@ -1,5 +1,2 @@
-pub mod CommandLine
-pub mod CommandLineParser
-pub mod CommandLineLaws
 pub mod Outcome
 pub mod Found

@@ -14,11 +14,11 @@ use Rattle.gh_script.specs.Generated.{generated_program, generated_text}
 use Rattle.gh_script.specs.Program.{Program}
 use Rattle.gh_script.specs.Grammar.{Spells, Refused}
 use Rattle.gh_soak.specs.Soak.{AreLiveThen}
-use Rattle.gh_top.specs.declared.line.Line.{Line}
-use Rattle.gh_top.specs.declared.line.Line.TheVariants.{Gen, Replay, Run, Soak}
+use Rattle.gh_command.specs.declared.line.Line.{Line}
+use Rattle.gh_command.specs.declared.line.Line.TheVariants.{Gen, Replay, Run, Soak}
 use Rattle.gh_top.specs.declared.status.Status.{Status}
 use Rattle.gh_top.specs.declared.status.Status.TheVariants.{Ok, BadWords, BadScript, ReadFault, WriteFault, NoMemory, NoThread, OutOfTurns}
-use Rattle.gh_top.specs.CommandLine.{command_line}
+use Rattle.gh_command.specs.CommandLine.{command_line}
 
 -- ---- the words
 

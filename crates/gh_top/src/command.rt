@@ -5,9 +5,9 @@ ghost use Rattle.std.specs.Io.KnownBytes.{Appends};
 ghost use Rattle.gh_io.specs.Counts.{Rose};
 ghost use Rattle.gh_script.specs.Program.{Program};
 ghost use Rattle.gh_script.specs.Grammar.{Spells};
-ghost use Rattle.gh_top.specs.CommandLine.{texts};
+ghost use Rattle.gh_command.specs.CommandLine.{texts};
 ghost use Rattle.gh_top.specs.Outcome.{ComesTo, Ends, IsForThreads, IsRun, IsSoak, ReadsScript, streams};
-ghost use Rattle.gh_top.specs.declared.line.Line.TheVariants.{Soak};
+ghost use Rattle.gh_command.specs.declared.line.Line.TheVariants.{Soak};
 
 use crate::finding::find;
 use crate::saying::tell;

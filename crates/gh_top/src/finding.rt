@@ -2,14 +2,13 @@
 
 ghost use Rattle.std.specs.Prelude.{◌≡◌, ◌⊎◌, IfSome, ℕ, ◌≤◌, List, None, Some, Err};
 ghost use Rattle.gh_script.specs.Grammar.{Spells};
-ghost use Rattle.gh_top.specs.declared.line.Line.TheVariants.{Gen, Replay};
-ghost use Rattle.gh_top.specs.CommandLine.{texts};
+ghost use Rattle.gh_command.specs.declared.line.Line.TheVariants.{Gen, Replay};
+ghost use Rattle.gh_command.specs.CommandLine.{texts};
 ghost use Rattle.gh_top.specs.Outcome.{IsForThreads, ReadsScript};
 ghost use Rattle.gh_top.specs.Found.{IsFound, IsReading, IsScriptOf, IsTellable, Matches, MatchesLine};
 
 use crate::found::Found;
-use crate::line::{Line, read_line};
-use crate::line_laws::numbers_are_in_range;
+use gh_command::{Line, numbers_are_in_range, read_line};
 use gh_io::{ReadError, Source, read_up_to};
 use gh_replay::{ReplayFault, Schedule, replay};
 use gh_script::{MOST_BYTES, ParseError, Script, generate, one_reading, parse, script_form};

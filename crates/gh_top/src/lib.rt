@@ -8,13 +8,9 @@
 mod command;
 mod finding;
 mod found;
-mod line;
-mod line_laws;
 mod saying;
 mod status;
 mod threads;
 
 pub use command::{quiet, top};
-pub use line::{Line, read_line};
-pub use line_laws::{known_lines, numbers_are_in_range};
 pub use status::Status;

@@ -1,7 +1,7 @@
 //! A command line with all that it may say.
 
+use gh_command::{Line, read_line};
 use gh_replay::{Schedule, Turn, Until};
-use gh_top::{Line, read_line};
 use std::test::Fail;
 
 const WORDS: &[&str] = &[

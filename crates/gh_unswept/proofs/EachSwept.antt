@@ -1,6 +1,6 @@
 -- The walk of `Reclaim`, step by step: of each page behind it, and of each head that it has looked at.
-use Rattle.std.proofs.Common.{◌≡◌, ◌≢◌, ℕ, zero, suc, ◌+◌, ◌<◌, ◌≤◌, ◌*◌, ◌==◌, ◌⊎◌, inl, inr, Bool, true, false, cond, ltb, Option, Some, None, refl, sym, ap, subst, ◌∙◌, arith, eqb-true}
-use Rattle.std.proofs.lemmas.Bool.{cases_lt, cases_order}
+use Rattle.std.proofs.Common.{◌≡◌, ◌≢◌, ℕ, zero, suc, ◌+◌, ◌<◌, ◌*◌, ◌==◌, ◌⊎◌, inl, inr, Bool, true, false, cond, ltb, Option, Some, None, refl, sym, ap, subst, ◌∙◌, arith, eqb-true}
+use Rattle.std.proofs.lemmas.Bool.{cases_lt}
 use Rattle.std.proofs.lemmas.Bool.Decides.{nat_tests}
 use Rattle.gh_base.specs.declared.cell.Cell.TheVariants.{Page}
 use Rattle.gh_base.specs.declared.cell.Ask.{Ask}
@@ -17,33 +17,16 @@ use Rattle.gh_central.specs.SweptPass.{pages_gone}
 use Rattle.gh_sweep.specs.declared.sweep.SweepEnd.{SweepEnd}
 use Rattle.gh_sweep.specs.declared.sweep.SweepEnd.TheVariants.{Lost, Swept}
 use Rattle.gh_sweep.specs.declared.sweep.SweepStage.{SweepStage}
-use Rattle.gh_sweep.specs.declared.sweep.SweepStage.TheVariants as s
 use Rattle.gh_sweep.specs.Listing as sweep
 use Rattle.gh_sweep.specs.Listing.{Sweeping}
 use Rattle.gh_unswept.specs.EachSwept.{EndsSweep, HasSwept, HasWaited, IsBegun, IsHead, IsMet, IsTold, SweepsEach, TheReclaimingSweepsEach}
 
 -- a sweep stays at its page, and keeps the head that it began with
 page_stays : (sw : Sweeping) (stage : SweepStage) (v : ℕ) → (sweep.goes_at sw stage v).page ≡ sw.page
-page_stays sw s.Begin v = refl
-page_stays sw (s.LoadMarks i) v = refl
-page_stays sw (s.ClearBits i marks) v = refl
-page_stays sw (s.ClearMarks i) v = refl
-page_stays sw s.AddTally v = refl
-page_stays sw s.AddLive v = refl
-page_stays sw s.AddHeap v = refl
-page_stays sw s.Finish v = refl
-page_stays sw (s.Ended end) v = refl
+page_stays sw stage v = grind arith
 
 head_stays : (sw : Sweeping) (stage : SweepStage) (v : ℕ) → (sweep.goes_at sw stage v).head ≡ sw.head
-head_stays sw s.Begin v = refl
-head_stays sw (s.LoadMarks i) v = refl
-head_stays sw (s.ClearBits i marks) v = refl
-head_stays sw (s.ClearMarks i) v = refl
-head_stays sw s.AddTally v = refl
-head_stays sw s.AddLive v = refl
-head_stays sw s.AddHeap v = refl
-head_stays sw s.Finish v = refl
-head_stays sw (s.Ended end) v = refl
+head_stays sw stage v = grind arith
 
 module _ (m : Reclaiming) (found : ℕ → ℕ) where
   -- what the law says of a head that was looked at
@@ -124,11 +107,7 @@ module _ (m : Reclaiming) (found : ℕ → ℕ) where
 
   -- the head was told by the last step, or before
   by_last : (n : ℕ) (stage : ReclaimStage) (i : ℕ) (h : SpanHead) → IsHead m found (suc n) stage i h → ((i ≡ n) × At n stage × (page_of (found n) ≡ word.Head h)) ⊎ IsHead m found n stage i h
-  by_last n stage i h t = go (cases_order i n) where
-    go : (i ≡ n) ⊎ ((i < n) ⊎ (n < i)) → ((i ≡ n) × At n stage × (page_of (found n) ≡ word.Head h)) ⊎ IsHead m found n stage i h
-    go (inl same) = inl (same, subst (λ (x : ℕ). At x stage) same t.stage_is, subst (λ (x : ℕ). page_of (found x) ≡ word.Head h) same t.head_is)
-    go (inr (inl before)) = inr (record { before = before; stage_is = t.stage_is; head_is = t.head_is })
-    go (inr (inr behind)) = absurd (let low = t.before in omega arith)
+  by_last n stage i h t = grind arith
 
   -- The step that is told looks at no page.
   module _ (n : ℕ) (other : (page : ℕ) → ¬ At n (Look page)) where
@@ -167,16 +146,10 @@ module _ (m : Reclaiming) (found : ℕ → ℕ) where
   ]
 
   from_known : (n page : ℕ) → Passed n page → Knows n (look_from m page)
-  from_known n page k = go (ltb page m.layout.pages) refl where
-    go : (b : Bool) → ltb page m.layout.pages ≡ b → Knows n (cond b (Look page) Ended)
-    go true e = k
-    go false e = record { met = λ q low. k.met q (let over : m.layout.pages ≤ page = grind (arith, nat_tests) in omega arith); each = k.each }
+  from_known n page k = grind arith
 
   free_known : (n page pages distance : ℕ) → Passed n (page + pages) → Knows n (free_from page pages distance)
-  free_known n page pages distance k = go (ltb distance pages) where
-    go : (b : Bool) → Knows n (cond b (Body page pages distance) (Head page pages))
-    go true = k
-    go false = k
+  free_known n page pages distance k = grind arith
 
   -- It looks at a page.
   module _ (n page : ℕ) (at : At n (Look page)) (a : asks (told listing m found n) ≡ Load (Page page)) (k : Passed n page) where
@@ -226,7 +199,7 @@ module _ (m : Reclaiming) (found : ℕ → ℕ) where
     no_look q is = absurd (cc)
 
     stands_still : IsHead m found (suc n) (Look page) k.first k.head
-    stands_still = head_more n (Look page) k.first k.head k.stands
+    stands_still = grind arith
 
     each_still : EachBut (suc n) k.first page k.head
     each_still = each_but_more n no_look k.first page k.head k.each

@@ -9,7 +9,7 @@ use Rattle.gh_wbuf.specs.EntryTaking.{after_try, asks, at_stage, begin, entry_of
 use Rattle.gh_wbuf.specs.Tries.{EndsAt, Took}
 use Rattle.gh_wbuf.specs.Trying as try
 use Rattle.gh_wbuf.proofs.Vocabulary.{Entry, GoesOn, Held, IsFolded, Layout, nat_tests, TakeStage, told, Trying, TryStage}
-use Rattle.gh_wbuf.proofs.Taking.{FineTry, fine_try, took}
+use Rattle.gh_wbuf.proofs.Taking.{TryingFacts, fine_try, took}
 use Rattle.gh_wbuf.proofs.Tries.{tries}
 use Rattle.gh_wbuf.proofs.Trying.{busy_before, gives_nothing, same, still_busy}
 
@@ -198,15 +198,15 @@ module _ (l : Layout) (seat : ℕ) where
   HeldFits held (stage.Claim word) = held ≡ None
   HeldFits held (stage.Ended out) = Unit {0}
 
-  abbrev FineStage : TakeStage → Type 0
-  FineStage (Try t) = FineTry seat Entry t × HeldFits t.held t.stage × (try.is_busy t.stage ≡ true)
-  FineStage (Take h) = 0 < h.count
-  FineStage (Ended held entry) = Unit {0}
+  abbrev TakingFactsAt : TakeStage → Type 0
+  TakingFactsAt (Try t) = TryingFacts seat Entry t × HeldFits t.held t.stage × (try.is_busy t.stage ≡ true)
+  TakingFactsAt (Take h) = 0 < h.count
+  TakingFactsAt (Ended held entry) = Unit {0}
 
-  record Fine (r : EntryTaking) : Type 0 where
+  record TakingFacts (r : EntryTaking) : Type 0 where
     layout_is : r.layout ≡ l
     seat_is : r.seat ≡ seat
-    stage_is : FineStage r.stage
+    stage_is : TakingFactsAt r.stage
 
   held_step : (t : Trying) (p : TryStage) (f : ℕ) → HeldFits t.held p → HeldFits (try.goes_at t p f).held (try.goes_at t p f).stage
   held_step t p f h = grind arith
@@ -215,11 +215,11 @@ module _ (l : Layout) (seat : ℕ) where
   lost_held : (t : Trying) (p : TryStage) (f : ℕ) → try.is_busy p ≡ true → HeldFits t.held p → try.given (try.goes_at t p f) ≡ Some None → HasNoEntry (try.goes_at t p f).held
   lost_held t p f busy h e = grind arith
 
-  after_fine : (r : EntryTaking) (index : ℕ) (held : Option Held) (out : Option (Option Held)) → r.layout ≡ l → r.seat ≡ seat → (out ≡ None → FineStage r.stage) → (out ≡ Some None → HasNoEntry held) → ((h : Held) → out ≡ Some (Some h) → 0 < h.count) →
-      Fine (after_try r index held out)
+  after_fine : (r : EntryTaking) (index : ℕ) (held : Option Held) (out : Option (Option Held)) → r.layout ≡ l → r.seat ≡ seat → (out ≡ None → TakingFactsAt r.stage) → (out ≡ Some None → HasNoEntry held) → ((h : Held) → out ≡ Some (Some h) → 0 < h.count) →
+      TakingFacts (after_try r index held out)
   after_fine r index held out is own here none some = record { layout_is = grind arith; seat_is = grind arith; stage_is = grind arith }
 
-  fine_at : (r : EntryTaking) (p : TakeStage) (f : ℕ) → r.layout ≡ l → r.seat ≡ seat → FineStage p → Fine (goes_at r p f)
+  fine_at : (r : EntryTaking) (p : TakeStage) (f : ℕ) → r.layout ≡ l → r.seat ≡ seat → TakingFactsAt p → TakingFacts (goes_at r p f)
   fine_at r (Try t) f is own fine =
       after_fine (at_stage r (Try (try.goes t f))) t.index (try.goes t f).held (try.gives t f) is own
       (λ e. (fine_try seat Entry t f fine.0, held_step t t.stage f fine.1, ap is_none e))
@@ -230,7 +230,7 @@ module _ (l : Layout) (seat : ℕ) where
 
   -- what becomes of a held buffer
 
-  becomes_at : (r : EntryTaking) (p : TakeStage) (f : ℕ) (h : Held) → FineStage p → held_at p ≡ Some h → Becomes (listing.asks (at_stage r p)) (held_at (goes_at r p f).stage) h
+  becomes_at : (r : EntryTaking) (p : TakeStage) (f : ℕ) (h : Held) → TakingFactsAt p → held_at p ≡ Some h → Becomes (listing.asks (at_stage r p)) (held_at (goes_at r p f).stage) h
   becomes_at r p f h fine e = grind (arith, nat_tests)
 
   -- what it ends with
@@ -241,7 +241,7 @@ module _ (l : Layout) (seat : ℕ) where
   won_out : (r : EntryTaking) (t : Trying) (index : ℕ) (held : Option Held) (out : Option (Option Held)) (own : Held) → (after_try (at_stage r (Try t)) index held out).stage ≡ Take own → out ≡ Some (Some own)
   won_out r t index held out own e = grind arith
 
-  came_from : (r : EntryTaking) (p : TakeStage) (f : ℕ) (own : Held) → FineStage p → r.stage ≡ p → (goes_at r p f).stage ≡ Take own → Took seat (listing.asks (at_stage r p)) f own
+  came_from : (r : EntryTaking) (p : TakeStage) (f : ℕ) (own : Held) → TakingFactsAt p → r.stage ≡ p → (goes_at r p f).stage ≡ Take own → Took seat (listing.asks (at_stage r p)) f own
   came_from r (Try t) f own fine is e = (took seat Entry t f own fine.0 fine.2 (won_out r (try.goes t f) t.index (try.goes t f).held (try.gives t f) own e)).0
   came_from r (Take h) f own fine is e = absurd (cc)
   came_from r (Ended held entry) f own fine is e = absurd (cc)
@@ -249,7 +249,7 @@ module _ (l : Layout) (seat : ℕ) where
   from_entry : (h : Held) → 0 < h.count → begin l seat (Some h) ≡ Take h
   from_entry h some = let yes : ltb 0 h.count ≡ true = grind (arith, nat_tests) in ap (λ (b : Bool). cond b (Take h) (try_at l seat 0 (Some h))) yes
 
-  begins_fine : (held : Option Held) → FineStage (begin l seat held)
+  begins_fine : (held : Option Held) → TakingFactsAt (begin l seat held)
   begins_fine held = grind arith
 
   began_with : (held : Option Held) (own : Held) → begin l seat held ≡ Take own → held ≡ Some own
@@ -262,9 +262,9 @@ module _ (l : Layout) (seat : ℕ) where
     abbrev after : ℕ → EntryTaking
     after n = told listing from found n
 
-    fine : (n : ℕ) → Fine (after n)
+    fine : (n : ℕ) → TakingFacts (after n)
     fine zero = record { layout_is = refl; seat_is = refl; stage_is = begins_fine held }
-    fine (suc n) = let f : Fine (after n) = fine n in fine_at (after n) (after n).stage (found n) f.layout_is f.seat_is f.stage_is
+    fine (suc n) = let f : TakingFacts (after n) = fine n in fine_at (after n) (after n).stage (found n) f.layout_is f.seat_is f.stage_is
 
     no_entry_at : (o : Option Held) (n : ℕ) → EndsAt listing (opening l seat o) found n None → HasNoEntry o
     no_entry_at None n q = tt
@@ -305,7 +305,7 @@ module _ (l : Layout) (seat : ℕ) where
         let at : r.stage ≡ Take own = is.1 in
         record {
           own = own;
-          some = subst FineStage at (fine n).stage_is;
+          some = subst TakingFactsAt at (fine n).stage_is;
           loads = ap (λ (p : TakeStage). asks (at_stage r p)) at;
           entry_is = is.2 ∙ ap (λ (k : Layout). entry_of k (found n)) (fine n).layout_is;
           holds = ap (λ (p : TakeStage). held_at (goes_at r p (found n)).stage) at;

@@ -9,7 +9,7 @@ use Rattle.gh_wbuf.specs.BufferGiving as giving
 use Rattle.gh_wbuf.specs.EntryTaking as taking
 use Rattle.gh_wbuf.specs.RoomFinding as finding
 use Rattle.gh_wbuf.specs.Trying as try
-use Rattle.gh_wbuf.proofs.Vocabulary.{AreBuffersOf, AreCounted, Buffer, buffer_of, buffer_word, Buffers, BuffersAreHeld, BuffersAreKept, cell_of, Claim, Ended, ENTRIES, Entry, Facts, FitsTryStage, GiveBack, GiveKnows, GiveStage, Held, HoldsBuffer, IsFreeAt, KeepsItsBuffer, Layout, Listing, Look, May, Move, Moves, OwnStep, Room, RoomKnows, RoomStage, RoomStageKnows, RoomTryKnows, StepsAreMoves, Swap, TakeKnows, TakeStage, TakeStageKnows, Trying, TryKnows, TryStage, Words}
+use Rattle.gh_wbuf.proofs.Vocabulary.{AreBuffersOf, AreCounted, Buffer, buffer_of, buffer_word, Buffers, BuffersAreHeld, BuffersAreKept, cell_of, Claim, Ended, ENTRIES, Entry, Facts, SoundTryStage, GiveBack, GiveKnows, GiveStage, Held, HoldsBuffer, IsFreeAt, KeepsItsBuffer, Layout, Listing, Look, May, Move, Moves, OwnStep, Room, RoomKnows, RoomStage, RoomStageKnows, RoomTryKnows, StepsAreMoves, Swap, TakeKnows, TakeStage, TakeStageKnows, Trying, TryKnows, TryStage, Words}
 use Rattle.gh_wbuf.proofs.Taking.{fine_try, took}
 use Rattle.gh_wbuf.proofs.Tries.{open_yes}
 use Rattle.gh_wbuf.proofs.Trying.{same_step}
@@ -42,7 +42,7 @@ module _ (law : BuffersAreHeld) where
     gives_any t None holds = steps.loads _ None holds
     gives_any t (Some h) holds = steps.gives_back h holds
 
-    try_moves : (t : Trying) (p : TryStage) → t.seat ≡ seat → FitsTryStage t.wish p → IsFreeAt t.held p → HoldsBuffer s seat t.held →
+    try_moves : (t : Trying) (p : TryStage) → t.seat ≡ seat → SoundTryStage t.wish p → IsFreeAt t.held p → HoldsBuffer s seat t.held →
         Moves seat s words (try.asks_at t p) (try.goes_at t p (words (cell_of (try.asks_at t p)))).held
     try_moves t Look is opened free holds = steps.loads _ t.held holds
     try_moves t (GiveBack word) is opened free holds = gives_any t t.held holds

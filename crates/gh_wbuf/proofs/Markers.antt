@@ -9,7 +9,7 @@ use Rattle.gh_wbuf.specs.declared.give_buffer.GiveStage.TheVariants as give
 use Rattle.gh_wbuf.specs.BufferGiving as giving
 use Rattle.gh_wbuf.specs.RoomFinding as finding
 use Rattle.gh_wbuf.specs.Trying as try
-use Rattle.gh_wbuf.proofs.Vocabulary.{AreBuffersOf, Buffer, buffer_of, buffer_word, buffers_as_held, BuffersAreHeld, BuffersAreKept, cell_of, Claim, Cycle, effect, Ended, ENTRIES, FitsTryStage, GiveBack, GiveBuffer, GiveFacts, GiveStage, Good, Hands, HasBuffer, Held, holder_in, holding, InHand, IsFreeAt, Keeps, landing, lands_by, lands_still, Load, Look, moved, nat_tests, put, RoomFacts, RoomStage, RoomStageKnows, Shared, Steps, Swap, TakeBuffer, Touch, TryFacts, Trying, TryKnows, TryStage}
+use Rattle.gh_wbuf.proofs.Vocabulary.{AreBuffersOf, Buffer, buffer_of, buffer_word, buffers_as_held, BuffersAreHeld, BuffersAreKept, cell_of, Claim, Cycle, effect, Ended, ENTRIES, SoundTryStage, GiveBack, GiveBuffer, GiveFacts, GiveStage, Good, Hands, HasBuffer, Held, holder_in, holding, InHand, IsFreeAt, Keeps, landing, lands_by, lands_still, Load, Look, moved, nat_tests, put, RoomFacts, RoomStage, RoomStageKnows, Shared, Steps, Swap, TakeBuffer, Touch, TryFacts, Trying, TryKnows, TryStage}
 use Rattle.gh_wbuf.proofs.Knowing.{given_held, lost_none, room_holds}
 use Rattle.gh_wbuf.proofs.Tries.{open_yes}
 
@@ -64,7 +64,7 @@ module _ (k : Known) (z : Cycle) (a : ℕ) (s : Shared) (rest : InHand) (g : Goo
   misses b word new held x e = lands_still z a s (effect s.words (Swap (Buffer b) word new)) (λ t. Keeps z a s t × Hands a t (holding rest held))
       (ap (λ (t : Bool). cond t (put s.words (Buffer b) new) s.words) (sym e)) ((k.go_on z a).stays s, x)
 
-  tries-at : (t : Trying) (p : TryStage) → t.seat ≡ a → FitsTryStage t.wish p → IsFreeAt t.held p → Hands a s (holding rest t.held) → Holding (try.asks_at t p) (try.goes_at t p (s.words (cell_of (try.asks_at t p)))).held
+  tries-at : (t : Trying) (p : TryStage) → t.seat ≡ a → SoundTryStage t.wish p → IsFreeAt t.held p → Hands a s (holding rest t.held) → Holding (try.asks_at t p) (try.goes_at t p (s.words (cell_of (try.asks_at t p)))).held
   tries-at t Look is opened free x = loads (Buffer t.index) t.held x
   tries-at t (GiveBack word) is opened free x = gives-any t t.held x
   tries-at t (Claim word) is opened free x = by (eqb (s.words (Buffer t.index)) word) refl where

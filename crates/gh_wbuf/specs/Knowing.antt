@@ -16,7 +16,7 @@ use Rattle.gh_wbuf.specs.BufferGiving as giving
 use Rattle.gh_wbuf.specs.EntryTaking as taking
 use Rattle.gh_wbuf.specs.RoomFinding as finding
 use Rattle.gh_wbuf.specs.Trying as try
-use Rattle.gh_wbuf.specs.TrySound.{FitsTryStage}
+use Rattle.gh_wbuf.specs.TrySound.{SoundTryStage}
 
 -- at its swap a try holds no buffer
 abbrev pub IsFreeAt : Option Held → TryStage → Type 0
@@ -26,7 +26,7 @@ IsFreeAt held _ = Unit {0}
 -- the word that it is to swap says that nobody holds the buffer; what else it says, only the swap tells
 pub record TryKnows (seat : ℕ) (t : try.Trying) : Type 0 where
   pub seat_is : t.seat ≡ seat
-  pub opened : FitsTryStage t.wish t.stage
+  pub opened : SoundTryStage t.wish t.stage
   pub free : IsFreeAt t.held t.stage
 
 -- the search for room holds no buffer while it tries one, and a try that it runs has not ended

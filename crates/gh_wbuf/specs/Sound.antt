@@ -23,24 +23,24 @@ pub record IsTryOf (l : Layout) (seat : ℕ) (wish : Wish) (t : Trying) : Type 0
   pub wish_is : t.wish ≡ wish
   pub busy : is_busy t.stage ≡ true
 
-abbrev pub FitsRoomStage : Layout → (seat : ℕ) → RoomStage → Type 0
-FitsRoomStage l seat (room.GiveBack h) = FitsBuffers l h
-FitsRoomStage l seat (room.Try t) = IsTryOf l seat Room t
-FitsRoomStage l seat (room.Ended h) = Serves l Room h
+abbrev pub SoundRoomStage : Layout → (seat : ℕ) → RoomStage → Type 0
+SoundRoomStage l seat (room.GiveBack h) = FitsBuffers l h
+SoundRoomStage l seat (room.Try t) = IsTryOf l seat Room t
+SoundRoomStage l seat (room.Ended h) = Serves l Room h
 
-pub record FitsRoom (r : RoomFinding) : Type 0 where
+pub record SoundRoomFinding (r : RoomFinding) : Type 0 where
   pub seat : r.seat < seats_of r.layout
-  pub stage : FitsRoomStage r.layout r.seat r.stage
+  pub stage : SoundRoomStage r.layout r.seat r.stage
 
-abbrev pub FitsTakeStage : Layout → (seat : ℕ) → TakeStage → Type 0
-FitsTakeStage l seat (take.Try t) = IsTryOf l seat Entry t
-FitsTakeStage l seat (take.Take h) = Serves l Entry h
-FitsTakeStage l seat (take.Ended held entry) = IsHeld l held
+abbrev pub SoundTakeStage : Layout → (seat : ℕ) → TakeStage → Type 0
+SoundTakeStage l seat (take.Try t) = IsTryOf l seat Entry t
+SoundTakeStage l seat (take.Take h) = Serves l Entry h
+SoundTakeStage l seat (take.Ended held entry) = IsHeld l held
 
-pub record FitsTake (t : EntryTaking) : Type 0 where
+pub record SoundEntryTaking (t : EntryTaking) : Type 0 where
   pub seat : t.seat < seats_of t.layout
-  pub stage : FitsTakeStage t.layout t.seat t.stage
+  pub stage : SoundTakeStage t.layout t.seat t.stage
 
-abbrev pub FitsGiveStage : Layout → GiveStage → Type 0
-FitsGiveStage l (give.Give h) = FitsBuffers l h
-FitsGiveStage l give.Ended = Unit {0}
+abbrev pub SoundGiveStage : Layout → GiveStage → Type 0
+SoundGiveStage l (give.Give h) = FitsBuffers l h
+SoundGiveStage l give.Ended = Unit {0}

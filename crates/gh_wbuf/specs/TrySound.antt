@@ -10,16 +10,16 @@ use Rattle.gh_wbuf.specs.declared.try_buffer.Wish.{Wish}
 use Rattle.gh_wbuf.specs.Trying.{is_open, serves, Trying}
 
 -- the buffer that it is to take had what is wished
-abbrev pub FitsTryStage : Wish → TryStage → Type 0
-FitsTryStage wish (GiveBack word) = is_open wish word ≡ true
-FitsTryStage wish (Claim word) = is_open wish word ≡ true
-FitsTryStage wish _ = Unit {0}
+abbrev pub SoundTryStage : Wish → TryStage → Type 0
+SoundTryStage wish (GiveBack word) = is_open wish word ≡ true
+SoundTryStage wish (Claim word) = is_open wish word ≡ true
+SoundTryStage wish _ = Unit {0}
 
-pub record FitsTry (t : Trying) : Type 0 where
+pub record SoundTrying (t : Trying) : Type 0 where
   pub seat : t.seat < seats_of t.layout
   pub index : t.index < buffers_of t.layout
   pub held : IsHeld t.layout t.held
-  pub stage : FitsTryStage t.wish t.stage
+  pub stage : SoundTryStage t.wish t.stage
 
 -- a buffer of the layout that has what is wished
 pub record Serves (l : Layout) (wish : Wish) (h : Held) : Type 0 where

@@ -34,13 +34,13 @@ pub struct FindRoom {
 
 impl Model for FindRoom {
     ghost use Rattle.gh_wbuf.specs.RoomFinding.{RoomFinding};
-    ghost use Rattle.gh_wbuf.specs.Sound.{FitsRoom};
+    ghost use Rattle.gh_wbuf.specs.Sound.{SoundRoomFinding};
 
     ghost Value = { RoomFinding };
 
     ghost view = { λ r. record { layout = r.layout; seat = r.seat; stage = r.stage } };
 
-    ghost invariant = { λ r. FitsRoom (record { layout = r.layout; seat = r.seat; stage = r.stage }) };
+    ghost invariant = { λ r. SoundRoomFinding (record { layout = r.layout; seat = r.seat; stage = r.stage }) };
 
     ghost inverse = { λ r. record { layout = r.layout; seat = r.seat; stage = r.stage } };
 }

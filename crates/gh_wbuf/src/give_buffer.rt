@@ -30,13 +30,13 @@ pub struct GiveBuffer {
 
 impl Model for GiveBuffer {
     ghost use Rattle.gh_wbuf.specs.BufferGiving.{BufferGiving};
-    ghost use Rattle.gh_wbuf.specs.Sound.{FitsGiveStage};
+    ghost use Rattle.gh_wbuf.specs.Sound.{SoundGiveStage};
 
     ghost Value = { BufferGiving };
 
     ghost view = { λ g. record { layout = g.layout; stage = g.stage } };
 
-    ghost invariant = { λ g. FitsGiveStage g.layout g.stage };
+    ghost invariant = { λ g. SoundGiveStage g.layout g.stage };
 
     ghost inverse = { λ g. record { layout = g.layout; stage = g.stage } };
 }

@@ -44,13 +44,13 @@ pub struct TakeEntry {
 
 impl Model for TakeEntry {
     ghost use Rattle.gh_wbuf.specs.EntryTaking.{EntryTaking};
-    ghost use Rattle.gh_wbuf.specs.Sound.{FitsTake};
+    ghost use Rattle.gh_wbuf.specs.Sound.{SoundEntryTaking};
 
     ghost Value = { EntryTaking };
 
     ghost view = { λ t. record { layout = t.layout; seat = t.seat; stage = t.stage } };
 
-    ghost invariant = { λ t. FitsTake (record { layout = t.layout; seat = t.seat; stage = t.stage }) };
+    ghost invariant = { λ t. SoundEntryTaking (record { layout = t.layout; seat = t.seat; stage = t.stage }) };
 
     ghost inverse = { λ t. record { layout = t.layout; seat = t.seat; stage = t.stage } };
 }

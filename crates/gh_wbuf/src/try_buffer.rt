@@ -52,14 +52,14 @@ pub struct TryBuffer {
 }
 
 impl Model for TryBuffer {
-    ghost use Rattle.gh_wbuf.specs.TrySound.{FitsTry};
+    ghost use Rattle.gh_wbuf.specs.TrySound.{SoundTrying};
     ghost use Rattle.gh_wbuf.specs.Trying.{Trying};
 
     ghost Value = { Trying };
 
     ghost view = { λ t. record { layout = t.layout; seat = t.seat; wish = t.wish; index = t.index; held = t.held; stage = t.stage } };
 
-    ghost invariant = { λ t. FitsTry (record { layout = t.layout; seat = t.seat; wish = t.wish; index = t.index; held = t.held; stage = t.stage }) };
+    ghost invariant = { λ t. SoundTrying (record { layout = t.layout; seat = t.seat; wish = t.wish; index = t.index; held = t.held; stage = t.stage }) };
 
     ghost inverse = { λ t. record { layout = t.layout; seat = t.seat; wish = t.wish; index = t.index; held = t.held; stage = t.stage } };
 }

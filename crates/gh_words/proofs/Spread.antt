@@ -5,7 +5,7 @@ use Rattle.std.proofs.lemmas.Bool.{cases_eq, cases_lt}
 use Rattle.std.proofs.lemmas.List.{ext_get_or, get_or-set_same, get_or-set_other, get_or_append_left, get_or_past, get_or_push, length-set, length_push}
 use Rattle.std.proofs.lemmas.List.FromFn.{get_or-map-range_with_len, length-map-range_with_len}
 use Rattle.gh_base.specs.Reading.{read_replicate}
-use Rattle.gh_words.specs.Blocks.{FitBlocks, BlockStands, number_at, place_at, spread_numbers}
+use Rattle.gh_words.specs.Blocks.{SoundBlocks, BlockStands, number_at, place_at, spread_numbers}
 use Rattle.gh_words.specs.declared.plain.Plain.TheInside.{Inside}
 use Rattle.gh_words.specs.declared.plain.TheConstants.{BLOCK, NOWHERE}
 
@@ -27,7 +27,7 @@ module _ (s : Inside) (list : List ℕ) (view : spread_numbers s.used.items s.pl
   shown_block i lt enough = omega (arith, shown_long)
 
 -- a block that begins stood for zeros before
-module _ (used : List (List ℕ)) (places : List ℕ) (room b : ℕ) (fits : FitBlocks used places room) (there : b < length places) (unused : length used ≤ place_at places b) where
+module _ (used : List (List ℕ)) (places : List ℕ) (room b : ℕ) (fits : SoundBlocks used places room) (there : b < length places) (unused : length used ≤ place_at places b) where
   abbrev more : List (List ℕ)
   more = used ++ replicate BLOCK 0 ∷ []
 
@@ -58,7 +58,7 @@ module _ (used : List (List ℕ)) (places : List ℕ) (room b : ℕ) (fits : Fit
   }
 
 -- a number that is written stands in the list, and no other is changed
-module _ (used : List (List ℕ)) (places : List ℕ) (room n i v : ℕ) (list : List ℕ) (fits : FitBlocks used places room) (old : (j : ℕ) → j < n → number_at used places j ≡ get_or list j 0) (long : length list ≡ n) (lt : i < n) (here : place_at places (i / BLOCK) < length used) where
+module _ (used : List (List ℕ)) (places : List ℕ) (room n i v : ℕ) (list : List ℕ) (fits : SoundBlocks used places room) (old : (j : ℕ) → j < n → number_at used places j ≡ get_or list j 0) (long : length list ≡ n) (lt : i < n) (here : place_at places (i / BLOCK) < length used) where
   abbrev place : ℕ
   place = place_at places (i / BLOCK)
 

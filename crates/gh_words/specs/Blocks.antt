@@ -16,7 +16,7 @@ abbrev pub spread_numbers : List (List ℕ) → List ℕ → (n : ℕ) → List 
 spread_numbers used places n = map (number_at used places) (range_with_len 0 n)
 
 -- the used blocks are whole; a block stands at a place of its own, or nowhere; there is room for all that stand nowhere; and no place is NOWHERE
-pub record FitBlocks (used : List (List ℕ)) (places : List ℕ) (room : ℕ) : Type 0 where
+pub record SoundBlocks (used : List (List ℕ)) (places : List ℕ) (room : ℕ) : Type 0 where
   pub whole : (k : ℕ) → k < length used → length (slice_index_or used k []) ≡ BLOCK
   pub known : (b : ℕ) → length used ≤ place_at places b → place_at places b ≡ NOWHERE
   pub apart : (a b : ℕ) → place_at places a < length used → place_at places a ≡ place_at places b → a ≡ b

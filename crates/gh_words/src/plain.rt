@@ -7,7 +7,7 @@ ghost use Rattle.std.specs.Prelude.{◌≡◌, ◌^◌, ◌<◌, ◌≤◌, IfOk
 ghost use Rattle.std.specs.Vec.{vec_capacity};
 ghost use Rattle.gh_base.specs.Cells.{length_of, opening_words, ShowsCells};
 ghost use Rattle.gh_base.specs.Steps.{changed, target};
-ghost use Rattle.gh_words.specs.Blocks.{place_at, FitBlocks, BlockStands};
+ghost use Rattle.gh_words.specs.Blocks.{place_at, SoundBlocks, BlockStands};
 ghost use Rattle.gh_words.specs.declared.plain.TheConstants.{BLOCK};
 
 use gh_base::{Ask, Cell, Layout, Req};
@@ -81,7 +81,7 @@ pub struct Plain {
 impl Model for Plain {
     ghost use Rattle.std.specs.Prelude.{List, ℕ, ◌*◌, ◌≤◌, length};
     ghost use Rattle.std.specs.Vec.{vec_capacity};
-    ghost use Rattle.gh_words.specs.Blocks.{spread_numbers, FitBlocks};
+    ghost use Rattle.gh_words.specs.Blocks.{spread_numbers, SoundBlocks};
     ghost use Rattle.gh_words.specs.declared.plain.TheConstants.{BLOCK};
 
     ghost Value = { List ℕ };
@@ -90,7 +90,7 @@ impl Model for Plain {
 
     ghost invariant = { λ p.
         (p.count ≤ length p.places.items * BLOCK)
-        × FitBlocks p.used.items p.places.items (vec_capacity p.used) };
+        × SoundBlocks p.used.items p.places.items (vec_capacity p.used) };
 }
 
 /// Clears memory for this block, which stands nowhere, behind the used ones. Answers where it stands from now on.
@@ -99,8 +99,8 @@ impl Model for Plain {
 fn begin(used: &mut Vec<[u64; BLOCK]>, places: &mut Vec<u32>, block: usize) -> usize
     requires there { block < length places.old.items }
     requires unused { length used.old.items ≤ place_at places.old.items block }
-    requires fits { FitBlocks used.old.items places.old.items (vec_capacity used.old) }
-    ensures fits { FitBlocks used.new.items places.new.items (vec_capacity used.new) }
+    requires fits { SoundBlocks used.old.items places.old.items (vec_capacity used.old) }
+    ensures fits { SoundBlocks used.new.items places.new.items (vec_capacity used.new) }
     ensures stands { BlockStands block result used.old.items used.new.items places.old.items places.new.items }
 {
     let place = used.len();
@@ -113,8 +113,8 @@ fn begin(used: &mut Vec<[u64; BLOCK]>, places: &mut Vec<u32>, block: usize) -> u
 #[inline(always)]
 fn place_of(used: &mut Vec<[u64; BLOCK]>, places: &mut Vec<u32>, block: usize) -> usize
     requires there { block < length places.old.items }
-    requires fits { FitBlocks used.old.items places.old.items (vec_capacity used.old) }
-    ensures fits { FitBlocks used.new.items places.new.items (vec_capacity used.new) }
+    requires fits { SoundBlocks used.old.items places.old.items (vec_capacity used.old) }
+    ensures fits { SoundBlocks used.new.items places.new.items (vec_capacity used.new) }
     ensures stands { BlockStands block result used.old.items used.new.items places.old.items places.new.items }
 {
     let place = places[block] as usize;

@@ -68,7 +68,7 @@ pub enum WorkerStage {
 /// rest, gives its buffer back, acknowledges, and goes on once the world runs again. With marking off it looks at
 /// the next page of the arena, and sweeps the span there if it is unswept (Go's `bgsweep`, mgcsweep.go). Where
 /// the last cycle is swept it says that it is gone, and is done.
-#[derive(Clone, Copy, Debug, PartialEq, Eq)]
+#[derive(Clone, Copy, Debug)]
 pub struct Worker {
     layout: Layout,
     seat: u32,
@@ -81,20 +81,23 @@ pub struct Worker {
     earned: u64,
     // The page that it looks at next with marking off.
     page: u32,
+    // It looks at that page next. Then `stage` is `LoadPhase`, so that an idle step writes this alone and no stage, which has room for
+    // the largest.
+    at_page: bool,
     stage: WorkerStage,
 }
 
 impl Model for Worker {
     ghost use Rattle.gh_worker.specs.Listing.{Working};
-    ghost use Rattle.gh_worker.specs.Sound.{FitsWorker};
+    ghost use Rattle.gh_worker.specs.Sound.{SoundWorking, is_at_page, LooksSo, rest_of, stage_kept};
 
     ghost Value = { Working };
 
-    ghost view = { λ w. record { layout = w.layout; seat = w.seat; held = w.held; view = w.view; marks = w.marks; scan_work = w.scan_work; earned = w.earned; page = w.page; stage = w.stage } };
+    ghost view = { λ w. record { layout = w.layout; seat = w.seat; held = w.held; view = w.view; marks = w.marks; scan_work = w.scan_work; earned = w.earned; page = w.page; stage = stage_kept w.at_page w.stage } };
 
-    ghost invariant = { λ w. FitsWorker (record { layout = w.layout; seat = w.seat; held = w.held; view = w.view; marks = w.marks; scan_work = w.scan_work; earned = w.earned; page = w.page; stage = w.stage }) };
+    ghost invariant = { λ w. SoundWorking (record { layout = w.layout; seat = w.seat; held = w.held; view = w.view; marks = w.marks; scan_work = w.scan_work; earned = w.earned; page = w.page; stage = stage_kept w.at_page w.stage }) × LooksSo w.at_page w.stage };
 
-    ghost inverse = { λ w. record { layout = w.layout; seat = w.seat; held = w.held; view = w.view; marks = w.marks; scan_work = w.scan_work; earned = w.earned; page = w.page; stage = w.stage } };
+    ghost inverse = { λ w. record { layout = w.layout; seat = w.seat; held = w.held; view = w.view; marks = w.marks; scan_work = w.scan_work; earned = w.earned; page = w.page; at_page = is_at_page w.stage; stage = rest_of w.stage } };
 }
 
 impl Worker {
@@ -113,6 +116,7 @@ impl Worker {
             scan_work: 0,
             earned: 0,
             page: 0,
+            at_page: false,
             stage: WorkerStage::LoadPhase,
         }
     }
@@ -128,7 +132,7 @@ impl Worker {
     pub fn is_idle(&self) -> bool
         ensures { result ≡ loads_phase_or_page self.now.stage }
     {
-        matches!(self.stage, WorkerStage::LoadPhase | WorkerStage::LoadPage)
+        matches!(self.stage, WorkerStage::LoadPhase)
     }
 
     /// The words that it has scanned: those of each object and one for each global, counted when that is
@@ -193,6 +197,7 @@ impl Worker {
         ensures goes { self.new ≡ record self.old { stage = stops_at self.old stops self.old.held } }
         ensures goes_on { given self.new ≡ Option.None }
     {
+        self.at_page = false;
         self.stage = if self.scan_work == 0 {
             self.gives_back(stops)
         } else {
@@ -202,18 +207,23 @@ impl Worker {
 
     /// Goes on by the phase word.
     fn by_phase(&mut self, found: u64)
+        requires { self.old.stage ≡ WorkerStage.LoadPhase }
         ensures goes { self.new ≡ goes_at self.old WorkerStage.LoadPhase found }
         ensures goes_on { given self.new ≡ Option.None }
     {
         let word = PhaseWord::unpack(found);
         match word.phase {
-            Phase::Off => self.stage = WorkerStage::LoadPage,
+            Phase::Off => self.at_page = true,
             Phase::Mark => {
                 let take = TakeEntry::new(&self.layout, self.seat, self.held);
+                self.at_page = false;
                 self.stage = WorkerStage::Taking(take);
             }
             Phase::Stop => self.stop(word.stops),
-            Phase::Finished => self.stage = WorkerStage::Leave,
+            Phase::Finished => {
+                self.at_page = false;
+                self.stage = WorkerStage::Leave;
+            }
         }
     }
 
@@ -235,6 +245,7 @@ impl Worker {
         ensures { self.new ≡ page_done self.old }
     {
         self.page = self.page_past(self.page);
+        self.at_page = false;
         self.stage = WorkerStage::LoadPhase;
     }
 
@@ -246,6 +257,7 @@ impl Worker {
             PageWord::Head(head) => {
                 if head.number + 2 == self.view.generation {
                     let sweep = Sweep::new(&self.layout, self.page, head);
+                    self.at_page = false;
                     self.stage = WorkerStage::Sweeping(sweep);
                 } else {
                     self.page_done();
@@ -263,29 +275,21 @@ impl Worker {
         ensures goes { self.new ≡ goes self.old found }
         ensures goes_on { gives self.old found ≡ Option.None }
     {
-        match &self.stage {
-            WorkerStage::LoadPhase => match PhaseWord::unpack(found).phase {
-                Phase::Off => self.stage = WorkerStage::LoadPage,
+        if !self.at_page {
+            match PhaseWord::unpack(found).phase {
+                Phase::Off => self.at_page = true,
                 Phase::Mark | Phase::Stop | Phase::Finished => self.by_phase(found),
-            },
-            _ => match PageWord::unpack(found) {
-                PageWord::Head(head) if head.number + 2 == self.view.generation => {
-                    self.after_page(found)
-                }
-                _ => self.page_done(),
-            },
+            }
+            return;
         }
-    }
-
-    /// Takes a step of this sweep. One that is lost another has begun.
-    fn sweep(&mut self, sweep: &Sweep, found: u64)
-        requires { Runs self.old.layout sweep.now.layout (sweeps.is_busy sweep.now.stage) }
-        ensures { self.new ≡ goes_at self.old (WorkerStage.Sweeping sweep.now) found }
-    {
-        let mut sweep = *sweep;
-        match sweep.take(found) {
-            None => self.stage = WorkerStage::Sweeping(sweep),
-            Some(_) => self.page_done(),
+        match PageWord::unpack(found) {
+            PageWord::Head(head) if head.number + 2 == self.view.generation => {
+                self.after_page(found)
+            }
+            _ => {
+                self.page = self.page_past(self.page);
+                self.at_page = false;
+            }
         }
     }
 
@@ -303,42 +307,8 @@ impl Worker {
         ensures { self.new ≡ record self.old { held = Option.None; stage = resuming self.old stops } }
     {
         self.held = None;
+        self.at_page = false;
         self.stage = self.resuming(stops);
-    }
-
-    /// Takes a step of going on after a stop.
-    fn resume(&mut self, resume: &Resume, found: u64)
-        requires { Runs self.old.layout resume.now.layout (resumes.is_busy resume.now) }
-        ensures { self.new ≡ goes_at self.old (WorkerStage.Resuming resume.now) found }
-    {
-        let mut resume = *resume;
-        match resume.take(found) {
-            None => self.stage = WorkerStage::Resuming(resume),
-            Some(resumed) => {
-                self.view = resumed.view;
-                self.stage = WorkerStage::LoadPhase;
-            }
-        }
-    }
-
-    /// Takes a step of the taking of an object.
-    fn take_entry(&mut self, take: &TakeEntry, found: u64)
-        requires { Runs self.old.layout take.now.layout (takes.is_busy take.now.stage) }
-        ensures { self.new ≡ goes_at self.old (WorkerStage.Taking take.now) found }
-    {
-        let mut take = *take;
-        match take.take(found) {
-            None => self.stage = WorkerStage::Taking(take),
-            Some(None) => {
-                self.held = take.held();
-                self.stage = WorkerStage::LoadCursor;
-            }
-            Some(Some(reference)) => {
-                self.held = take.held();
-                let scan = Scan::new(&self.layout, self.seat, reference, self.held);
-                self.stage = WorkerStage::Scanning(scan);
-            }
-        }
     }
 
     /// Goes on where so many words are scanned and not handed over: enough of them it hands over.
@@ -360,19 +330,8 @@ impl Worker {
         self.held = held;
         self.marks = self.marks.saturating_add(u64::from(words));
         self.scan_work = self.scan_work.saturating_add(u64::from(words));
+        self.at_page = false;
         self.stage = self.with_work(self.scan_work);
-    }
-
-    /// Takes a step of the scan of an object.
-    fn scan(&mut self, scan: &Scan, found: u64)
-        requires { Runs self.old.layout scan.now.layout (scans.is_busy scan.now.stage) }
-        ensures { self.new ≡ goes_at self.old (WorkerStage.Scanning scan.now) found }
-    {
-        let mut scan = *scan;
-        match scan.take(found) {
-            None => self.stage = WorkerStage::Scanning(scan),
-            Some(words) => self.done_with(scan.held(), words),
-        }
     }
 
     /// There is a global of this number.
@@ -386,6 +345,7 @@ impl Worker {
     fn after_cursor(&mut self, found: u64)
         ensures { self.new ≡ goes_at self.old WorkerStage.LoadCursor found }
     {
+        self.at_page = false;
         self.stage = if self.is_global(found) {
             WorkerStage::Claim
         } else {
@@ -397,6 +357,7 @@ impl Worker {
     fn after_claim(&mut self, found: u64)
         ensures { self.new ≡ goes_at self.old WorkerStage.Claim found }
     {
+        self.at_page = false;
         self.stage = if self.is_global(found) {
             WorkerStage::LoadGlobal(found as u32)
         } else {
@@ -413,54 +374,35 @@ impl Worker {
         } else {
             let words = 1024 * u64::from(self.layout.pages);
             let reference = (found - 1) % words + 1;
+            self.at_page = false;
             self.stage = WorkerStage::Shading(Shade::new(&self.layout, reference, self.held));
         }
     }
 
-    /// Takes a step of this shading.
-    fn shade(&mut self, shade: &Shade, found: u64)
-        requires { Runs self.old.layout shade.now.layout (shades.is_busy shade.now.stage) }
-        ensures { self.new ≡ goes_at self.old (WorkerStage.Shading shade.now) found }
-    {
-        let mut shade = *shade;
-        match shade.take(found) {
-            None => self.stage = WorkerStage::Shading(shade),
-            Some(Shaded::Done) => self.done_with(shade.held(), 1),
-            Some(Shaded::WantsRoom) => {
-                let room = FindRoom::new(&self.layout, self.seat, shade.held());
-                self.stage = WorkerStage::FindRoom(shade, room);
-            }
-        }
-    }
-
-    /// Takes a step of this search for room, which that shading waits for.
-    fn find_room(&mut self, shade: &Shade, room: &FindRoom, found: u64)
-        requires { ShadingWaits self.old.layout shade.now room.now }
-        ensures { self.new ≡ goes_at self.old (WorkerStage.FindRoom shade.now room.now) found }
-    {
-        let (mut shade, mut room) = (*shade, *room);
-        match room.take(found) {
-            None => self.stage = WorkerStage::FindRoom(shade, room),
-            Some(held) => {
-                shade.told_room(held);
-                self.stage = WorkerStage::Shading(shade);
-            }
-        }
-    }
-
-    /// Takes a step of marking.
+    /// Takes a step of marking. Each stage is changed where it stands.
     fn mark(&mut self, found: u64)
         requires { IsMarking self.old.stage }
         ensures { self.new ≡ goes self.old found }
     {
-        match &self.stage {
-            WorkerStage::Taking(take) => {
-                let take = *take;
-                self.take_entry(&take, found);
-            }
+        match &mut self.stage {
+            WorkerStage::Taking(take) => match take.take(found) {
+                None => {}
+                Some(None) => {
+                    self.held = take.held();
+                    self.stage = WorkerStage::LoadCursor;
+                }
+                Some(Some(reference)) => {
+                    self.held = take.held();
+                    let scan = Scan::new(&self.layout, self.seat, reference, self.held);
+                    self.stage = WorkerStage::Scanning(scan);
+                }
+            },
             WorkerStage::Scanning(scan) => {
-                let scan = *scan;
-                self.scan(&scan, found);
+                if let Some(words) = scan.take(found) {
+                    let held = scan.held();
+                    self.stage = WorkerStage::LoadPhase;
+                    self.done_with(held, words);
+                }
             }
             WorkerStage::Earning(_) => {
                 self.handed_over();
@@ -469,13 +411,26 @@ impl Worker {
             WorkerStage::LoadCursor => self.after_cursor(found),
             WorkerStage::Claim => self.after_claim(found),
             WorkerStage::LoadGlobal(_) => self.after_global(found),
-            WorkerStage::Shading(shade) => {
-                let shade = *shade;
-                self.shade(&shade, found);
-            }
+            WorkerStage::Shading(shade) => match shade.take(found) {
+                None => {}
+                Some(Shaded::Done) => {
+                    let held = shade.held();
+                    self.stage = WorkerStage::LoadPhase;
+                    self.done_with(held, 1);
+                }
+                Some(Shaded::WantsRoom) => {
+                    let shade = *shade;
+                    let room = FindRoom::new(&self.layout, self.seat, shade.held());
+                    self.stage = WorkerStage::FindRoom(shade, room);
+                }
+            },
             WorkerStage::FindRoom(shade, room) => {
-                let (shade, room) = (*shade, *room);
-                self.find_room(&shade, &room, found);
+                if let Some(held) = room.take(found) {
+                    // The shading that waits for room has it, and goes on.
+                    let mut shade = *shade;
+                    shade.told_room(held);
+                    self.stage = WorkerStage::Shading(shade);
+                }
             }
             _ => {}
         }
@@ -511,6 +466,9 @@ impl Machine for Worker {
 
     #[inline(always)]
     fn next(&self) -> Req {
+        if self.at_page {
+            return self.layout.request(Ask::Load(Cell::Page(self.page)));
+        }
         let ask = match &self.stage {
             WorkerStage::LoadPhase => Ask::Load(Cell::Phase),
             WorkerStage::LoadPage => Ask::Load(Cell::Page(self.page)),
@@ -533,19 +491,27 @@ impl Machine for Worker {
     }
 
     fn take(&mut self, found: u64) -> Option<()> {
-        match &self.stage {
+        if self.at_page {
+            self.after_page(found);
+            return None;
+        }
+        match &mut self.stage {
             WorkerStage::LoadPhase => {
                 self.by_phase(found);
                 return None;
             }
             WorkerStage::LoadPage => self.after_page(found),
             WorkerStage::Sweeping(sweep) => {
-                let sweep = *sweep;
-                self.sweep(&sweep, found);
+                // One that is lost another has begun.
+                if sweep.take(found).is_some() {
+                    self.stage = WorkerStage::LoadPhase;
+                    self.page_done();
+                }
             }
             WorkerStage::EarningAtStop(_, stops) => {
                 let stops = *stops;
                 self.handed_over();
+                self.at_page = false;
                 self.stage = self.gives_back(stops);
             }
             WorkerStage::GiveBack(_, stops) => {
@@ -553,10 +519,15 @@ impl Machine for Worker {
                 self.given_back(stops);
             }
             WorkerStage::Resuming(resume) => {
-                let resume = *resume;
-                self.resume(&resume, found);
+                if let Some(resumed) = resume.take(found) {
+                    self.view = resumed.view;
+                    self.stage = WorkerStage::LoadPhase;
+                }
             }
-            WorkerStage::Leave => self.stage = WorkerStage::Done,
+            WorkerStage::Leave => {
+                self.at_page = false;
+                self.stage = WorkerStage::Done;
+            }
             WorkerStage::Done => {}
             _ => self.mark(found),
         }

@@ -5,7 +5,7 @@ use Rattle.gh_mutator.specs.Mutating.{asks, begins, goes}
 use Rattle.gh_mutator.specs.PollRoom.{PollsMakeRoom}
 use Rattle.gh_world.specs.Turns.{Follows, is_poll_due, is_run_due, op_due}
 use Rattle.gh_world.specs.Vocabulary.{acting, is_last, WellFormed}
-use Rattle.gh_world.specs.World.{Begins, event_at, FitTurns, found_for, LaysOut, now_of, op_at_turn, Ran}
+use Rattle.gh_world.specs.World.{Begins, event_at, SoundTurns, found_for, LaysOut, now_of, op_at_turn, Ran}
 use Rattle.gh_world.specs.declared.runner.Runner.{Runner}
 use Rattle.gh_world.proofs.Vocabulary.{acts, cell_of, changed, Event, has_left_at, InRange, is_busy_at, is_point, Layout, Next, Op, Program, progress_after, request, statement_answer}
 use Rattle.gh_world.proofs.Fitting.{busy_begun, fit_begun}
@@ -15,7 +15,7 @@ pub polls_no_point : (b : Bool) → false ≡ is_point (acting b op.Poll false)
 polls_no_point b = grind arith
 
 -- an operation that is begun, and the step behind that, where the layout is the processor's own
-pub begun_then : (p : Program) (j : Layout) (a : ℕ) (before behind : List ℕ) (x y z : Runner) (happened : Event) (pointed : Bool) → Begins p a x y → FitTurns p j a y.mutator y.progress → is_busy_at y.mutator.processor.task ≡ true → InRange y.mutator.processor.poll.layout (cell_of (asks y.mutator)) →
+pub begun_then : (p : Program) (j : Layout) (a : ℕ) (before behind : List ℕ) (x y z : Runner) (happened : Event) (pointed : Bool) → Begins p a x y → SoundTurns p j a y.mutator y.progress → is_busy_at y.mutator.processor.task ≡ true → InRange y.mutator.processor.poll.layout (cell_of (asks y.mutator)) →
     behind ≡ changed (request y.mutator.processor.poll.layout (asks y.mutator)) before → z ≡ record y { mutator = goes y.mutator (found_for y.mutator.processor.poll.layout before y) } →
     happened ≡ event_at (now_of y.progress) (is_last y.mutator.processor.task) (statement_answer y.mutator.processor (found_for y.mutator.processor.poll.layout before y)) → pointed ≡ is_point (acts y.mutator.processor (found_for y.mutator.processor.poll.layout before y)) →
     Ran p j a before behind x z happened pointed
@@ -23,7 +23,7 @@ begun_then p j a before behind x y z happened pointed begins fits busy within wo
     subst (λ (l : Layout). Ran p l a before behind x z happened pointed) fits.laid (record {
       begun = y;
       begins = begins;
-      fits = subst (λ (l : Layout). FitTurns p l a y.mutator y.progress) (sym fits.laid) fits;
+      fits = subst (λ (l : Layout). SoundTurns p l a y.mutator y.progress) (sym fits.laid) fits;
       busy = busy;
       within = within;
       words = words;
@@ -32,7 +32,7 @@ begun_then p j a before behind x y z happened pointed begins fits busy within wo
       point = point;
     })
 
-module _ (p : Program) (l : Layout) (script : WellFormed p) (layout : LaysOut p l) (a : ℕ) (x : Runner) (f : FitTurns p l a x.mutator x.progress) (polls : PollsMakeRoom) (o : Op) (new : Next) where
+module _ (p : Program) (l : Layout) (script : WellFormed p) (layout : LaysOut p l) (a : ℕ) (x : Runner) (f : SoundTurns p l a x.mutator x.progress) (polls : PollsMakeRoom) (o : Op) (new : Next) where
   abbrev pub begun : Runner
   begun = record { mutator = begins x.mutator o; progress = progress_after x.progress (Some o) new }
 

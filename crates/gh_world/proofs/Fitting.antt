@@ -12,7 +12,7 @@ use Rattle.gh_coord.specs.Listing as coord
 use Rattle.gh_worker.specs.Stays.{stays as worker_stays}
 use Rattle.gh_worker.specs.Listing as worker
 use Rattle.gh_world.specs.declared.runner.Runner.{Runner}
-use Rattle.gh_world.specs.World.{answered_by, AreOpening, AreTurns, Begins, Fit, FitOthers, FitRunners, FitTurns, FitWords, IsOpening, LaysOut, op_at_turn, counts_after, last_after, begun_as, done_or, found_by, IsStepOfWorker, Polled, State, stated_after, stated_by, workers_at}
+use Rattle.gh_world.specs.World.{answered_by, AreOpening, AreTurns, Begins, SoundState, SoundOthers, SoundRunners, SoundTurns, SoundWords, IsOpening, LaysOut, op_at_turn, counts_after, last_after, begun_as, done_or, found_by, IsStepOfWorker, Polled, State, stated_after, stated_by, workers_at}
 use Rattle.gh_world.specs.declared.event.Event.TheVariants as event
 use Rattle.gh_world.proofs.Vocabulary.{acts, Answer, begins_at, begins, bit, cell_of, changed, Event, Follows, get_or-map-range_with_len, get_or_from_slice_get, gives_at, GoesOnUntilDone, its_goroutine, has_left_at, has_names, InRange, is_busy_at, leave_is_begun, is_point, is_some, is_statement, is_unacted, later, Layout, length-map-range_with_len, most_cycles, Mutating, Next, Op, op_at, op_due, opening_processor, opening_progress, Processor, Program, Progress, progress_after, read_after_set, read_replicate, request, set, Shape, slice_get, slice_get_within, statement_answer, statements_among, takes, target, to_come, total_of, turns_of, WellFormed}
 use Rattle.gh_world.proofs.StepFacts.{step_facts, begin_facts, StepFacts, BeginFacts, begins_busy}
@@ -93,7 +93,7 @@ turns_open p a first come stands =
 
 -- ---- one processor
 
-module _ (p : Program) (l : Layout) (script : WellFormed p) (layout : LaysOut p l) (a : ℕ) (m : Mutating) (t : Progress) (f : FitTurns p l a m t) where
+module _ (p : Program) (l : Layout) (script : WellFormed p) (layout : LaysOut p l) (a : ℕ) (m : Mutating) (t : Progress) (f : SoundTurns p l a m t) where
   -- what is due is begun
   pub begun_busy : (o : Op) → op_due p t.next ≡ Some o → is_busy_at (begins_at m.shapes m.processor o) ≡ true
   begun_busy o due = begins_busy m.shapes m.processor l.goroutines l.globals (length p.shapes) o (due_runs p l script layout a t.next o f.turns.stands due).ranged
@@ -101,7 +101,7 @@ module _ (p : Program) (l : Layout) (script : WellFormed p) (layout : LaysOut p 
   pub marks_few : m.marks + 1 < 2 ^ 32
   marks_few = omega (arith, f.marked, stated_few p script a t f.turns)
 
-  pub fit_begun : PollsMakeRoom → (o : Op) (new : Next) → op_due p t.next ≡ Some o → is_run_due new ≡ is_poll_due t.next → Follows p a t.next o new → FitTurns p l a (mutating.begins m o) (progress_after t (Some o) new)
+  pub fit_begun : PollsMakeRoom → (o : Op) (new : Next) → op_due p t.next ≡ Some o → is_run_due new ≡ is_poll_due t.next → Follows p a t.next o new → SoundTurns p l a (mutating.begins m o) (progress_after t (Some o) new)
   fit_begun k o new due behind follows =
       let b : BeginFacts o (begins_at m.shapes m.processor o) = begin_facts m.shapes m.processor o (begun_busy o due) in
       record {
@@ -117,7 +117,7 @@ module _ (p : Program) (l : Layout) (script : WellFormed p) (layout : LaysOut p 
         begun_laid op.Poll = f.laid
         begun_laid _ = f.laid
 
-  pub fit_stepped : PollsMakeRoom → (found : ℕ) → is_busy_at m.processor.task ≡ true → FitTurns p l a (mutating.goes m found) t
+  pub fit_stepped : PollsMakeRoom → (found : ℕ) → is_busy_at m.processor.task ≡ true → SoundTurns p l a (mutating.goes m found) t
   fit_stepped k found busy =
       let s : StepFacts m.processor m.processor.task (takes m.shapes m.processor found) (acts m.processor found) (gives_at m.processor m.processor.task found) = step_facts m.shapes m.processor m.processor.task found busy in
       record {
@@ -158,8 +158,8 @@ owes_stepped m found busy = (step_facts m.shapes m.processor m.processor.task fo
 
 -- ---- all processors
 
-module _ (p : Program) (l : Layout) (runners : List Runner) (points room : ℕ) (f : FitRunners p l runners points room) where
-  sum_few : (h : Runner → ℕ) → ((a : ℕ) (x : Runner) → FitTurns p l a x.mutator x.progress → h x ≤ x.progress.stated) → sum_by h runners ≤ total_of p
+module _ (p : Program) (l : Layout) (runners : List Runner) (points room : ℕ) (f : SoundRunners p l runners points room) where
+  sum_few : (h : Runner → ℕ) → ((a : ℕ) (x : Runner) → SoundTurns p l a x.mutator x.progress → h x ≤ x.progress.stated) → sum_by h runners ≤ total_of p
   sum_few h le =
       let each = sum_at h (total_by p) runners 0 (λ a x is. let g = f.each a x is in let one = le a x g in let seat : 0 + a ≡ a = omega arith in let same : total_by p (0 + a) ≡ total_by p a = ap (total_by p) seat in omega (arith, one, g.turns.all, same)) in
       let all = totals-le p (length runners) in
@@ -171,15 +171,15 @@ module _ (p : Program) (l : Layout) (runners : List Runner) (points room : ℕ) 
   pub answered_all : answered_by runners ≤ total_of p
   answered_all = grind (arith, sum_few)
 
-  module _ (a : ℕ) (x y : Runner) (is : slice_get runners a ≡ Some x) (fits : FitTurns p l a y.mutator y.progress) where
+  module _ (a : ℕ) (x y : Runner) (is : slice_get runners a ≡ Some x) (fits : SoundTurns p l a y.mutator y.progress) where
     changed_sum : (h : Runner → ℕ) → sum_by h (set runners a y) + h x ≡ sum_by h runners + h y
     changed_sum h = ap (λ (z : Runner). sum_by h (set runners a y) + h z) (sym (get_or_from_slice_get runners a x x is)) ∙ sum_by-set h runners a y x (slice_get_within runners a x is)
 
     -- a step of one of them, by which so many statements have their points
-    pub fit_run : (count : ℕ) → count + bit (is_unacted (op_at y.mutator.processor.task)) + x.progress.stated ≤ bit (is_unacted (op_at x.mutator.processor.task)) + y.progress.stated → FitRunners p l (set runners a y) (points + count) room
+    pub fit_run : (count : ℕ) → count + bit (is_unacted (op_at y.mutator.processor.task)) + x.progress.stated ≤ bit (is_unacted (op_at x.mutator.processor.task)) + y.progress.stated → SoundRunners p l (set runners a y) (points + count) room
     fit_run count owed = record {
       many = simp length-set f.many;
-      each = each_set (λ (b : ℕ) (z : Runner). FitTurns p l b z.mutator z.progress) runners a x y is fits (λ b z apart e. f.each b z e);
+      each = each_set (λ (b : ℕ) (z : Runner). SoundTurns p l b z.mutator z.progress) runners a x y is fits (λ b z apart e. f.each b z e);
       pointed =
           let unacted = changed_sum (λ (z : Runner). bit (is_unacted (op_at z.mutator.processor.task))) in
           let stated = changed_sum (λ (z : Runner). z.progress.stated) in
@@ -188,11 +188,11 @@ module _ (p : Program) (l : Layout) (runners : List Runner) (points room : ℕ) 
     }
 
 -- a step of one of them on what it has begun
-module _ (polls : PollsMakeRoom) (w : State) (points room : ℕ) (f : Fit w points room) (a : ℕ) (x y : Runner) (is : slice_get w.runners a ≡ Some x) (begins : Begins w.script a x y) (fits : FitTurns w.script w.layout a y.mutator y.progress) (busy : is_busy_at y.mutator.processor.task ≡ true) (found : ℕ) where
+module _ (polls : PollsMakeRoom) (w : State) (points room : ℕ) (f : SoundState w points room) (a : ℕ) (x y : Runner) (is : slice_get w.runners a ≡ Some x) (begins : Begins w.script a x y) (fits : SoundTurns w.script w.layout a y.mutator y.progress) (busy : is_busy_at y.mutator.processor.task ≡ true) (found : ℕ) where
   owed : bit (is_point (acts y.mutator.processor found)) + bit (is_unacted (op_at (mutating.goes y.mutator found).processor.task)) + x.progress.stated ≤ bit (is_unacted (op_at x.mutator.processor.task)) + y.progress.stated
   owed = grind (arith, owes_begun, owes_stepped)
 
-  pub ran : FitRunners w.script w.layout (set w.runners a (record { mutator = mutating.goes y.mutator found; progress = y.progress })) (points + bit (is_point (acts y.mutator.processor found))) room
+  pub ran : SoundRunners w.script w.layout (set w.runners a (record { mutator = mutating.goes y.mutator found; progress = y.progress })) (points + bit (is_point (acts y.mutator.processor found))) room
   ran = fit_run w.script w.layout w.runners points room f.running a x (record { mutator = mutating.goes y.mutator found; progress = y.progress }) is (fit_stepped w.script w.layout f.base.script f.base.layout a y.mutator y.progress fits polls found busy) (bit (is_point (acts y.mutator.processor found))) owed
 
   -- there is room for a point
@@ -203,7 +203,7 @@ module _ (polls : PollsMakeRoom) (w : State) (points room : ℕ) (f : Fit w poin
       omega (arith, one, few, ran.pointed, ran.reserved)
 
 -- before the first step
-fit_opening : (p : Program) (l : Layout) (a : ℕ) (first : Next) → to_come p a first ≡ later p a 0 0 → Stands p a first → leave_is_begun first ≡ false → FitTurns p l a (mutating.opening l a p.shapes) (opening_progress first)
+fit_opening : (p : Program) (l : Layout) (a : ℕ) (first : Next) → to_come p a first ≡ later p a 0 0 → Stands p a first → leave_is_begun first ≡ false → SoundTurns p l a (mutating.opening l a p.shapes) (opening_progress first)
 fit_opening p l a first come stands over =
     record {
       turns = turns_open p a first come stands;
@@ -218,11 +218,11 @@ fit_opening p l a first come stands over =
       polled_opens : (l : Layout) (a : ℕ) (t : Next) → Polled t (opening_processor l a)
       polled_opens l a t = grind arith
 
-pub fit_opens : (p : Program) (l : Layout) (a : ℕ) (x : Runner) → IsOpening p l a x → FitTurns p l a x.mutator x.progress
+pub fit_opens : (p : Program) (l : Layout) (a : ℕ) (x : Runner) → IsOpening p l a x → SoundTurns p l a x.mutator x.progress
 fit_opens p l a x o =
-    subst (λ (m : Mutating). FitTurns p l a m x.progress) (sym o.mutator) (subst (λ (t : Progress). FitTurns p l a (mutating.opening l a p.shapes) t) (sym o.progress) (fit_opening p l a x.progress.next o.come o.stands o.going))
+    subst (λ (m : Mutating). SoundTurns p l a m x.progress) (sym o.mutator) (subst (λ (t : Progress). SoundTurns p l a (mutating.opening l a p.shapes) t) (sym o.progress) (fit_opening p l a x.progress.next o.come o.stands o.going))
 
-pub runners_open : (p : Program) (l : Layout) (runners : List Runner) (room : ℕ) → total_of p ≤ room → AreOpening p l runners → FitRunners p l runners 0 room
+pub runners_open : (p : Program) (l : Layout) (runners : List Runner) (room : ℕ) → total_of p ≤ room → AreOpening p l runners → SoundRunners p l runners 0 room
 runners_open p l runners room reserved o = record {
   many = o.many;
   each = λ a x is. fit_opens p l a x (o.each a x is);
@@ -235,14 +235,14 @@ runners_open p l runners room reserved o = record {
 }
 
 -- a step changes no length
-pub fits_again : (p : Program) (l : Layout) (list new : List ℕ) (r : Req) → new ≡ changed r list → FitWords p l list → FitWords p l new
+pub fits_again : (p : Program) (l : Layout) (list new : List ℕ) (r : Req) → new ≡ changed r list → SoundWords p l list → SoundWords p l new
 fits_again p l list new r is f = record { script = f.script; layout = f.layout; long = ap length is ∙ simp length-set f.long }
 
 -- a step of the coordinator, and of a worker, changes no layout; and the coordinator goes on until it is done
-pub others_led : GoesOnUntilDone → (p : Program) (l : Layout) (workers : List worker.Working) (c : coord.Coordinating) (found : ℕ) → coord.is_busy c.stage ≡ true → FitOthers p l workers c → FitOthers p l workers (coord.goes c found)
+pub others_led : GoesOnUntilDone → (p : Program) (l : Layout) (workers : List worker.Working) (c : coord.Coordinating) (found : ℕ) → coord.is_busy c.stage ≡ true → SoundOthers p l workers c → SoundOthers p l workers (coord.goes c found)
 others_led on p l workers c found busy f = record { many = f.many; laid = f.laid; leads = coord_stays c found ∙ f.leads; room = cycle_room_stays c found ∙ f.room; goes_on = on.step c found busy }
 
-pub others_worked : (p : Program) (l : Layout) (workers : List worker.Working) (c : coord.Coordinating) (i found : ℕ) (x : worker.Working) → slice_get workers i ≡ Some x → FitOthers p l workers c → FitOthers p l (set workers i (worker.goes x found)) c
+pub others_worked : (p : Program) (l : Layout) (workers : List worker.Working) (c : coord.Coordinating) (i found : ℕ) (x : worker.Working) → slice_get workers i ≡ Some x → SoundOthers p l workers c → SoundOthers p l (set workers i (worker.goes x found)) c
 others_worked p l workers c i found x is f = record {
   many = simp length-set f.many;
   laid = each_set (λ (j : ℕ) (y : worker.Working). y.layout ≡ l) workers i x (worker.goes x found) is (worker_stays x found ∙ f.laid i x is) (λ j y apart e. f.laid j y e);
@@ -252,7 +252,7 @@ others_worked p l workers c i found x is f = record {
 }
 
 -- the others before the first step
-pub others_open : (p : Program) (l : Layout) (seat : ℕ) → FitOthers p l (workers_at l) (coord.opening l seat p.settings.gogc p.settings.minheap (most_cycles p))
+pub others_open : (p : Program) (l : Layout) (seat : ℕ) → SoundOthers p l (workers_at l) (coord.opening l seat p.settings.gogc p.settings.minheap (most_cycles p))
 others_open p l seat = record {
   many = length-map-range_with_len (worker.opening l) l.procs l.workers;
   laid = λ i x e.

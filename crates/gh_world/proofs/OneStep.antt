@@ -8,7 +8,7 @@ use Rattle.gh_world.specs.declared.runner.Runner.{Runner}
 use Rattle.gh_world.specs.Turns.{next_point, total_of}
 use Rattle.gh_world.specs.Vocabulary.{is_last, CoordStage}
 use Rattle.gh_world.specs.After.{Appends, IsAfter}
-use Rattle.gh_world.specs.World.{AllDone, answered_of, Begins, event_at, Fit, FitRunners, FitTurns, FitWords, Ran, State, IsStepOfCoordinator, IsStepOfProcessor, IsStepOfWorker, begun_as, found_by, is_done, now_of, worker_or}
+use Rattle.gh_world.specs.World.{AllDone, answered_of, Begins, event_at, SoundState, SoundRunners, SoundTurns, SoundWords, Ran, State, IsStepOfCoordinator, IsStepOfProcessor, IsStepOfWorker, begun_as, found_by, is_done, now_of, worker_or}
 use Rattle.gh_world.specs.Schedule.{has_ended}
 use Rattle.gh_world.proofs.Vocabulary.{acts, answered_in, bit, by, cell_of, changed, Entry, Event, has_left_at, InRange, is_busy_at, is_point, Layout, Mutating, Next, Op, processor_kind, Program, progress_after, request, set, Shape, slice_get, slice_get_past, slice_get_within, started, state_of, statement_answer, StepsAreShown, takes}
 use Rattle.gh_world.proofs.Fitting.{answered_all, busy_begun, due_room, fits_again, marks_few, marks_more, point_room, ran}
@@ -21,7 +21,7 @@ use Rattle.gh_world.proofs.WorldFacts.{due_at, follows, says, tells, entry_of, K
 pub record Kept (w : State) : Type 0 where
   pub noted : ℕ
   pub room : ℕ
-  pub fit : Fit w noted room
+  pub fit : SoundState w noted room
 
 -- the machine once an operation is begun, or none
 mutator_is : (m : Mutating) (shapes : List Shape) (l : Layout) (b : Option Op) → m.shapes ≡ shapes → has_left_at m.processor.task ≡ false → begun_as m b ≡ record { shapes = shapes; processor = started (processor_kind shapes l) b m.processor; marks = m.marks }
@@ -51,7 +51,7 @@ module _ (w : State) (f : Kept w) (a : ℕ) (x : Runner) (is : slice_get w.runne
   abbrev l : Layout
   l = w.layout
 
-  fits : FitTurns p l a x.mutator x.progress
+  fits : SoundTurns p l a x.mutator x.progress
   fits = f.fit.running.each a x is
 
   seat : a < l.procs
@@ -108,17 +108,17 @@ appends polls w v a es happened own shown f going st after =
 
 -- ---- what the code's step of a processor has done
 
-module _ (polls : PollsMakeRoom) (w : State) (points room : ℕ) (f : Fit w points room) (a : ℕ) (x z : Runner) (is : slice_get w.runners a ≡ Some x) (list : List ℕ) (happened : Event) (b : Bool) (r : Ran w.script w.layout a w.words list x z happened b) where
+module _ (polls : PollsMakeRoom) (w : State) (points room : ℕ) (f : SoundState w points room) (a : ℕ) (x z : Runner) (is : slice_get w.runners a ≡ Some x) (list : List ℕ) (happened : Event) (b : Bool) (r : Ran w.script w.layout a w.words list x z happened b) where
   abbrev pub found_there : ℕ
   found_there = found_by w (asks r.begun.mutator)
 
   pub room_there : b ≡ true → points < room
   room_there = point_room polls w points room f a x r.begun is r.begins r.fits r.busy found_there b r.point
 
-  pub ran_there : FitRunners w.script w.layout (set w.runners a z) (points + bit b) room
+  pub ran_there : SoundRunners w.script w.layout (set w.runners a z) (points + bit b) room
   ran_there = rw (r.goes, r.point) (ran polls w points room f a x r.begun is r.begins r.fits r.busy found_there)
 
-  pub words_there : FitWords w.script w.layout list
+  pub words_there : SoundWords w.script w.layout list
   words_there = fits_again _ _ _ _ (request w.layout (asks r.begun.mutator)) r.words f.base
 
   pub run_is : (items : List (ℕ × ℕ)) (now : ℕ × ℕ) → now ≡ now_of z.progress → items ≡ w.points ++ next_point b now → IsStepOfProcessor w (record w { words = list; runners = set w.runners a z; points = items }) a happened

@@ -10,19 +10,19 @@ use Rattle.gh_alloc.specs.Search as search
 use Rattle.gh_alloc.specs.Place as place
 use Rattle.gh_assist.specs.Listing as assist
 use Rattle.gh_barrier.specs.Listing as write
-use Rattle.gh_mutator.specs.declared.wait.Wait.{Wait as WaitState}
+use Rattle.gh_poll.specs.declared.wait.Wait.{Wait as WaitState}
 use Rattle.gh_mutator.specs.declared.store.StoreStage.TheVariants as store_stage
 use Rattle.gh_mutator.specs.declared.task.Task.TheVariants as task
-use Rattle.gh_mutator.specs.declared.poll.Local.{Local}
+use Rattle.gh_poll.specs.declared.poll.Local.{Local}
 use Rattle.gh_mutator.specs.Fields.{has_field}
 use Rattle.gh_mutator.specs.Global as global
 use Rattle.gh_mutator.specs.Load as load
 use Rattle.gh_mutator.specs.New.{answer_assist, answer_made, answer_search, op_of as new_op, refuses_behind_wait}
-use Rattle.gh_mutator.specs.Leave as leave
-use Rattle.gh_mutator.specs.Local.{marking_at}
+use Rattle.gh_poll.specs.Leave as leave
+use Rattle.gh_poll.specs.Local.{marking_at}
 use Rattle.gh_mutator.specs.Processor.{keeping}
-use Rattle.gh_mutator.specs.Poll as poll
-use Rattle.gh_mutator.specs.Wait as wait
+use Rattle.gh_poll.specs.Poll as poll
+use Rattle.gh_poll.specs.Wait as wait
 use Rattle.gh_mutator.specs.Serving.{answer_at}
 use Rattle.gh_mutator.specs.Step.{answered}
 use Rattle.gh_mutator.specs.Store as store

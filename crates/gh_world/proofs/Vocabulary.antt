@@ -29,15 +29,15 @@ pub use Rattle.gh_alloc.specs.declared.place.PlaceStage.{PlaceStage}
 pub use Rattle.gh_alloc.specs.declared.sought.Found.{Found}
 pub use Rattle.gh_alloc.specs.declared.sought.Found.TheVariants.{At, NoRoom}
 pub use Rattle.gh_mutator.specs.Deeds.{processor_kind}
-pub use Rattle.gh_mutator.specs.Leave.{Leaving}
+pub use Rattle.gh_poll.specs.Leave.{Leaving}
 pub use Rattle.gh_mutator.specs.Listing.{Act, acting, acts, acts_at, after_gc, after_leave, after_poll, asks, begins, begins_at, follows, gives_at, is_busy_at, once_ended, op_at, takes, takes_at}
 pub use Rattle.gh_mutator.specs.Mutating.{Mutating}
 pub use Rattle.gh_mutator.specs.New.{after_assist, assisting, assists}
-pub use Rattle.gh_mutator.specs.Poll.{Polling}
+pub use Rattle.gh_poll.specs.Poll.{Polling}
 pub use Rattle.gh_mutator.specs.Processor.{cache_span, made_by, opening_processor, register_of}
 pub use Rattle.gh_mutator.specs.Serving.{has_left_at, is_leaving, is_point, is_statement, statement_answer}
 pub use Rattle.gh_mutator.specs.Sound.{has_names}
-pub use Rattle.gh_mutator.specs.Wait.{Waiting}
+pub use Rattle.gh_poll.specs.Wait.{Waiting}
 pub use Rattle.gh_mutator.specs.declared.global.Global.{Global}
 pub use Rattle.gh_mutator.specs.declared.global.GlobalStage.{GlobalStage}
 pub use Rattle.gh_mutator.specs.declared.new.NewStage.{NewStage}

@@ -12,7 +12,7 @@ pub use Rattle.gh_state.specs.Slots.{slot_row, SlotsAreRead}
 pub use Rattle.gh_mutator.specs.Acting.{EachOperationActsOnce}
 pub use Rattle.gh_mutator.specs.Deeds.{given_at, OnlyPointsChange}
 pub use Rattle.gh_mutator.specs.Listing.{after_poll}
-pub use Rattle.gh_mutator.specs.Poll.{Polling}
+pub use Rattle.gh_poll.specs.Poll.{Polling}
 pub use Rattle.gh_lists.specs.LemmaVocabulary.{ProcessorWritesItsOwn}
 pub use Rattle.gh_worker.specs.Writing.{WorkersWriteTheirOwn}
 pub use Rattle.gh_coord.specs.Keeping.{last_kept}

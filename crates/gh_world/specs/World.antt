@@ -170,7 +170,7 @@ abbrev pub MadeAtMost : ℕ → Processor → Type 0
 MadeAtMost n m = (g : ℕ) → made_by m g + making m.task ≤ n
 
 -- What each world keeps: of its script and words,
-pub record FitWords (p : Program) (l : Layout) (list : List ℕ) : Type 0 where
+pub record SoundWords (p : Program) (l : Layout) (list : List ℕ) : Type 0 where
   pub script : WellFormed p
   pub layout : LaysOut p l
   pub long : length list ≡ length_of l
@@ -189,7 +189,7 @@ pub record AreTurns (p : Program) (a : ℕ) (t : Progress) : Type 0 where
   pub last : t.last < MOST_GOROUTINES
 
 -- of the processor and its turns,
-pub record FitTurns (p : Program) (l : Layout) (a : ℕ) (m : Mutating) (t : Progress) : Type 0 where
+pub record SoundTurns (p : Program) (l : Layout) (a : ℕ) (m : Mutating) (t : Progress) : Type 0 where
   pub turns : AreTurns p a t
   pub shapes : m.shapes ≡ p.shapes
   pub laid : m.processor.poll.layout ≡ l
@@ -209,24 +209,24 @@ abbrev pub answered_by : List Runner → ℕ
 answered_by runners = sum_by (λ (x : Runner). x.mutator.marks) runners
 
 -- of all processors and the points, of which there are so many, and room for so many,
-pub record FitRunners (p : Program) (l : Layout) (runners : List Runner) (points room : ℕ) : Type 0 where
+pub record SoundRunners (p : Program) (l : Layout) (runners : List Runner) (points room : ℕ) : Type 0 where
   pub many : length runners ≡ l.procs
-  pub each : (a : ℕ) (x : Runner) → slice_get runners a ≡ Some x → FitTurns p l a x.mutator x.progress
+  pub each : (a : ℕ) (x : Runner) → slice_get runners a ≡ Some x → SoundTurns p l a x.mutator x.progress
   pub pointed : points + unacted_by runners ≤ stated_by runners
   pub reserved : total_of p ≤ room
 
 -- and of the others.
-pub record FitOthers (p : Program) (l : Layout) (workers : List worker.Working) (c : coord.Coordinating) : Type 0 where
+pub record SoundOthers (p : Program) (l : Layout) (workers : List worker.Working) (c : coord.Coordinating) : Type 0 where
   pub many : length workers ≡ l.workers
   pub laid : (i : ℕ) (x : worker.Working) → slice_get workers i ≡ Some x → x.layout ≡ l
   pub leads : c.layout ≡ l
   pub room : c.cycles.room ≡ most_cycles p
   pub goes_on : coord.is_busy c.stage ≡ not (coord.is_done_at c.stage)
 
-pub record Fit (w : State) (points room : ℕ) : Type 0 where
-  pub base : FitWords w.script w.layout w.words
-  pub running : FitRunners w.script w.layout w.runners points room
-  pub others : FitOthers w.script w.layout w.workers w.coord
+pub record SoundState (w : State) (points room : ℕ) : Type 0 where
+  pub base : SoundWords w.script w.layout w.words
+  pub running : SoundRunners w.script w.layout w.runners points room
+  pub others : SoundOthers w.script w.layout w.workers w.coord
 
 -- ---- what a world shows
 
@@ -352,7 +352,7 @@ found_for l words x = slice_index words (target (request l (asks x.mutator)))
 pub record Ran (p : Program) (l : Layout) (a : ℕ) (before behind : List ℕ) (old new : Runner) (happened : Event) (pointed : Bool) : Type 0 where
   pub begun : Runner
   pub begins : Begins p a old begun
-  pub fits : FitTurns p l a begun.mutator begun.progress
+  pub fits : SoundTurns p l a begun.mutator begun.progress
   pub busy : is_busy_at begun.mutator.processor.task ≡ true
   pub within : InRange l (cell_of (asks begun.mutator))
   pub words : behind ≡ changed (request l (asks begun.mutator)) before

@@ -20,7 +20,7 @@
 //!
 //! What every list of the actors' steps keeps is said below: of their numbers and the handshake in `gh_lists`, of the heap in
 //! `gh_law`. What a script's runs come to is defined here (specs/Runs.antt) and shown in `gh_explained`; [`points_are_statements`]
-//! says which statements the points of a run are. While a cycle is marked a processor may wait for it while the others store:
+//! says which statements the points of a run are, and [`cycles_have_room`] that no list of its actors opens more cycles than there is room for. While a cycle is marked a processor may wait for it while the others store:
 //! their barriers shade what they overwrite and what they write.
 #![tactic(auto)]
 

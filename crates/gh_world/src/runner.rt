@@ -13,7 +13,7 @@ ghost use Rattle.gh_mutator.specs.Mutating as mutating;
 ghost use Rattle.gh_mutator.specs.Mutating.{asks, goes, is_busy, passes, sets};
 ghost use Rattle.gh_mutator.specs.Serving.{has_left_at, is_last, is_point, statement_answer};
 ghost use Rattle.gh_world.specs.Turns.{is_poll_due, op_due};
-ghost use Rattle.gh_world.specs.World.{event_at, now_of, Begins, FitTurns, IsOpening, LaysOut, Ran};
+ghost use Rattle.gh_world.specs.World.{event_at, now_of, Begins, SoundTurns, IsOpening, LaysOut, Ran};
 
 use crate::event::{Event, event_at};
 use crate::progress::Progress;
@@ -72,7 +72,7 @@ impl<'s> Runner<'s> {
     ) -> (Event, bool)
         requires layout { LaysOut script.now layout.now }
         requires laid { mutating.layout self.old.mutator ≡ layout.now }
-        requires fits { FitTurns script.now layout.now seat self.old.mutator self.old.progress }
+        requires fits { SoundTurns script.now layout.now seat self.old.mutator self.old.progress }
         requires going { has_left_at self.old.mutator.processor.task ≡ false }
         requires long { length words.old ≡ length_of layout.now }
         ensures { Ran script.now layout.now seat words.old words.new self.old self.new result.0 result.1 }
@@ -90,9 +90,10 @@ impl<'s> Runner<'s> {
     }
 
     /// Makes the poll that comes next at once, where it has nothing to do. It answers whether it did; where not, nothing is done.
+    #[inline(always)]
     fn passes(&mut self, script: &Script, layout: &Layout, seat: u32, words: &mut Plain) -> bool
         requires layout { LaysOut script.now layout.now }
-        requires fits { FitTurns script.now layout.now seat self.old.mutator self.old.progress }
+        requires fits { SoundTurns script.now layout.now seat self.old.mutator self.old.progress }
         requires going { has_left_at self.old.mutator.processor.task ≡ false }
         requires long { length words.old ≡ length_of layout.now }
         ensures exactly { let found = slice_index words.old (target (request layout.now (ask.Load cell.Phase))) in
@@ -119,9 +120,10 @@ impl<'s> Runner<'s> {
 
     /// Makes the statement that comes next at once, where it is on registers alone. It answers whether it did; where not, nothing
     /// is done.
+    #[inline(always)]
     fn sets(&mut self, script: &Script, layout: &Layout, seat: u32, words: &mut Plain) -> bool
         requires layout { LaysOut script.now layout.now }
-        requires fits { FitTurns script.now layout.now seat self.old.mutator self.old.progress }
+        requires fits { SoundTurns script.now layout.now seat self.old.mutator self.old.progress }
         requires going { has_left_at self.old.mutator.processor.task ≡ false }
         requires long { length words.old ≡ length_of layout.now }
         ensures exactly { MatchOption (op_due script.now self.old.progress.next) (result ≡ false) (λ o. result ≡ (not (is_busy self.old.mutator) && sets self.old.mutator o)) }
@@ -149,9 +151,9 @@ impl<'s> Runner<'s> {
     #[inline(always)]
     pub fn begin_next(&mut self, script: &Script, seat: u32)
         requires layout { LaysOut script.now (mutating.layout self.old.mutator) }
-        requires fits { FitTurns script.now (mutating.layout self.old.mutator) seat self.old.mutator self.old.progress }
+        requires fits { SoundTurns script.now (mutating.layout self.old.mutator) seat self.old.mutator self.old.progress }
         ensures begins { Begins script.now seat self.old self.new }
-        ensures fits { FitTurns script.now (mutating.layout self.old.mutator) seat self.new.mutator self.new.progress }
+        ensures fits { SoundTurns script.now (mutating.layout self.old.mutator) seat self.new.mutator self.new.progress }
         ensures busy { has_left_at self.old.mutator.processor.task ≡ false → is_busy self.new.mutator ≡ true }
     {
         if !self.mutator.is_busy() {
@@ -163,10 +165,10 @@ impl<'s> Runner<'s> {
     #[inline(never)]
     fn begin_due(&mut self, script: &Script, seat: u32)
         requires layout { LaysOut script.now (mutating.layout self.old.mutator) }
-        requires fits { FitTurns script.now (mutating.layout self.old.mutator) seat self.old.mutator self.old.progress }
+        requires fits { SoundTurns script.now (mutating.layout self.old.mutator) seat self.old.mutator self.old.progress }
         requires idle { is_busy self.old.mutator ≡ false }
         ensures begins { Begins script.now seat self.old self.new }
-        ensures fits { FitTurns script.now (mutating.layout self.old.mutator) seat self.new.mutator self.new.progress }
+        ensures fits { SoundTurns script.now (mutating.layout self.old.mutator) seat self.new.mutator self.new.progress }
         ensures busy { has_left_at self.old.mutator.processor.task ≡ false → is_busy self.new.mutator ≡ true }
     {
         polls_make_room();

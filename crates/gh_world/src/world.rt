@@ -53,13 +53,13 @@ pub struct World<'s> {
 impl<'s> Model for World<'s> {
     ghost use Rattle.std.specs.Prelude.{vec_len};
     ghost use Rattle.std.specs.Vec.{vec_capacity};
-    ghost use Rattle.gh_world.specs.World.{Fit, State};
+    ghost use Rattle.gh_world.specs.World.{SoundState, State};
 
     ghost Value = { State };
 
     ghost view = { λ w. record { script = w.script.now; layout = w.layout; words = w.words; runners = w.runners.items; workers = w.workers.items; coord = w.coord; points = w.points.items } };
 
-    ghost invariant = { λ w. Fit (record { script = w.script.now; layout = w.layout; words = w.words; runners = w.runners.items; workers = w.workers.items; coord = w.coord; points = w.points.items }) (vec_len w.points) (vec_capacity w.points) };
+    ghost invariant = { λ w. SoundState (record { script = w.script.now; layout = w.layout; words = w.words; runners = w.runners.items; workers = w.workers.items; coord = w.coord; points = w.points.items }) (vec_len w.points) (vec_capacity w.points) };
 }
 
 /// The processors of a heap that run the script, each before its first step.

@@ -1,11 +1,11 @@
 -- The bits of a slot and of a shape in a word of the bitmap, and what a row is once they are written.
-use Rattle.std.proofs.Common.{◌≡◌, ◌≢◌, ℕ, zero, suc, ◌+◌, ◌*◌, ◌/◌, ◌%◌, ◌-◌, ◌^◌, ◌<◌, ◌≤◌, ◌⊎◌, Bool, true, false, cond, eqb, ltb, refl, sym, ap, subst, ◌∙◌, arith, inl, inr, lit<}
+use Rattle.std.proofs.Common.{◌≡◌, ◌≢◌, ℕ, ◌+◌, ◌*◌, ◌/◌, ◌%◌, ◌-◌, ◌^◌, ◌<◌, ◌≤◌, ◌⊎◌, Bool, true, false, cond, eqb, ltb, refl, sym, ap, subst, ◌∙◌, arith, inl, inr, lit<}
 use Rattle.std.specs.Prelude.{bit_or, bit_and, min, max}
 use Rattle.std.specs.Int.{bit_at, w64}
 use Rattle.std.proofs.lemmas.Nat.Bits.{bit_at_or, bit_at_and, bit_at_not, bit_at-lt, bit_at_mask_inside, bit_at_mask_below, bit_at_mask_above, bit_at_cat_low, bit_at_cat_high, bit_at-zero}
 use Rattle.std.proofs.Math.Nat.{div-add-mod, div-lt_iff_lt-mul, mul-div_left, pow-le-pow_right, div-div-eq-div-mul, mul-mod_left}
 use Rattle.std.proofs.lemmas.Nat.{pow_pos, mod-pow-add, pow-add}
-use Rattle.std.proofs.lemmas.Bool.{eqb-true, ltb-true, ltb-false, lt-ltb, le-ltb}
+use Rattle.std.proofs.lemmas.Bool.{eqb-true, ltb-true, ltb-false, lt-ltb}
 use Rattle.std.proofs.lemmas.Bool.Decides.{nat_tests}
 use Rattle.gh_base.specs.declared.shape.Shape.{Shape}
 use Rattle.gh_base.specs.Shapes.{bits_at, is_pointer}
@@ -49,11 +49,6 @@ joined x z s j lt small h = go (ltb j s) refl where
       let l : s ≤ j = ltb-false j s e in
       inr (l, ap (λ (n : ℕ). bit_at (n + z) j) (moved_up x s lt) ∙ bit_at_cat_high (x % 2 ^ (64 - s)) s z j small l ∙ low_bits x (64 - s) (j - s) (omega arith))
 
-bit_test : (b : ℕ) → b < 2 → bit (eqb b 1) ≡ b
-bit_test zero h = refl
-bit_test (suc zero) h = refl
-bit_test (suc (suc b)) h = absurd (omega arith)
-
 below_small : (shape : Shape) (a i : ℕ) → ((n : ℕ) → bits_at shape n < 2 ^ 64) → cond (ltb (a / 64) i) (bits_at shape (i - a / 64 - 1) / 2 ^ (64 - a % 64)) 0 < 2 ^ (a % 64)
 below_small shape a i narrow = go (ltb (a / 64) i) where
   go : (b : Bool) → cond b (bits_at shape (i - a / 64 - 1) / 2 ^ (64 - a % 64)) 0 < 2 ^ (a % 64)
@@ -61,8 +56,7 @@ below_small shape a i narrow = go (ltb (a / 64) i) where
   go false = pow_pos (a % 64)
 
 is_pointer_bit : (shape : Shape) (k m n : ℕ) → k / 64 ≡ m → k % 64 ≡ n → bit_at (bits_at shape m) n ≡ bit (is_pointer shape k)
-is_pointer_bit shape k m n d r =
-    sym (bit_test (bit_at (bits_at shape (k / 64)) (k % 64)) (bit_at-lt (bits_at shape (k / 64)) (k % 64)) ∙ ap (λ (q : ℕ). bit_at (bits_at shape q) (k % 64)) d ∙ ap (λ (q : ℕ). bit_at (bits_at shape m) q) r)
+is_pointer_bit shape k m n d r = grind arith
 
 -- at and behind the object's first word its bit is that of the field
 pointer_bit : (shape : Shape) (a i x : ℕ) → ((n : ℕ) → bits_at shape n < 2 ^ 64) → x / 64 ≡ i → a ≤ x → bit_at (pointer_bits shape a i) (x % 64) ≡ bit (is_pointer shape (x - a))
@@ -81,14 +75,7 @@ pointer_bit shape a i x narrow e low =
 
 -- before it none is set
 pointer_bit_before : (shape : Shape) (a i x : ℕ) → ((n : ℕ) → bits_at shape n < 2 ^ 64) → x / 64 ≡ i → a / 64 ≤ i → x < a → bit_at (pointer_bits shape a i) (x % 64) ≡ 0
-pointer_bit_before shape a i x narrow e low lt =
-    let z = cond (ltb (a / 64) i) (bits_at shape (i - a / 64 - 1) / 2 ^ (64 - a % 64)) 0 in
-    let at : i ≡ a / 64 = omega arith in
-    let none : z ≡ 0 = ap (λ (b : Bool). cond b (bits_at shape (i - a / 64 - 1) / 2 ^ (64 - a % 64)) 0) (le-ltb (a / 64) i (omega arith)) in
-    elim (joined (bits_at shape (i - a / 64)) z (a % 64) (x % 64) (omega arith) (below_small shape a i narrow) (omega arith)) [
-      | inl w ↦ w.1 ∙ ap (λ (n : ℕ). bit_at n (x % 64)) none ∙ bit_at-zero (x % 64)
-      | inr w ↦ let j = w.0 in absurd (omega arith)
-    ]
+pointer_bit_before shape a i x narrow e low lt = grind (arith, below_small, joined)
 
 -- where the word has no pointer bit, none of its words is a pointer field
 pub no_pointers : (shape : Shape) (a i x : ℕ) → ((n : ℕ) → bits_at shape n < 2 ^ 64) → pointer_bits shape a i ≡ 0 → x / 64 ≡ i → a ≤ x → bit (is_pointer shape (x - a)) ≡ 0
@@ -148,8 +135,7 @@ module _ (rows : RowsAreWritten) where
   -- the bits of the slot's words in word i, which were clear, tell the pointer fields
   pub set_pointers : (row : Row) (shape : Shape) (a i x : ℕ) → ((n : ℕ) → bits_at shape n < 2 ^ 64) → x / 64 ≡ i → a ≤ x → row_bit row x ≡ 0 →
       row_bit (with_word row i (bit_or (row i) (pointer_bits shape a i))) x ≡ bit (is_pointer shape (x - a))
-  set_pointers row shape a i x narrow e low clear =
-      pointers_set row shape a i x e ∙ ap (λ (n : ℕ). max n (bit_at (pointer_bits shape a i) (x % 64))) (sym (rows.bit_of row i x e) ∙ clear) ∙ max_left (bit_at (pointer_bits shape a i) (x % 64)) ∙ pointer_bit shape a i x narrow e low
+  set_pointers row shape a i x narrow e low clear = grind (arith, max_left, narrow, pointer_bit, pointers_set)
 
   -- all others stay
   pub set_pointers_other : (row : Row) (shape : Shape) (a slot i x : ℕ) → ((n : ℕ) → bits_at shape n < 2 ^ 64) → ((k : ℕ) → slot ≤ k → is_pointer shape k ≡ false) → a / 64 ≤ i → (x < a) ⊎ (a + slot ≤ x) →

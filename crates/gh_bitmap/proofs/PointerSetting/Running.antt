@@ -92,10 +92,7 @@ module _ (rows : RowsAreWritten) (told : CellsAreTold) (folded : IsFolded listin
 
       set_here : (ws' : Words) → ((x : ℕ) → IsHere (here Ended) i x → pointer_bit ws' x ≡ bit (is_pointer shape (x - at))) → ((x : ℕ) → at ≤ x → x < at + slot → x < 64 * i → pointer_bit ws' x ≡ bit (is_pointer shape (x - at))) →
           (x : ℕ) → at ≤ x → x < at + slot → x < 64 * (i + 1) → pointer_bit ws' x ≡ bit (is_pointer shape (x - at))
-      set_here ws' this earlier x from below lt = by (ltb x (64 * i)) refl where
-        by : (b : Bool) → ltb x (64 * i) ≡ b → pointer_bit ws' x ≡ bit (is_pointer shape (x - at))
-        by true e = earlier x from below (ltb-true _ _ e)
-        by false e = let ge : 64 * i ≤ x = ltb-false _ _ e in this x (record { word = omega arith; from = from; below = below })
+      set_here ws' this earlier x from below lt = grind arith
 
       -- no word of the slot that has its bit here is a pointer field
       done_without : pointer_bits shape at i ≡ 0 → Done (i + 1) cleared
@@ -120,7 +117,7 @@ module _ (rows : RowsAreWritten) (told : CellsAreTold) (folded : IsFolded listin
   EndsFrom d = (i : ℕ) (ws : Words) → Touches at slot i → at + slot ≤ 64 * (i + d) → Done i ws → Ends (Clear i) ws
 
   finished : (i : ℕ) (ws : Words) → at + slot ≤ 64 * i → Done i ws → Ends Ended ws
-  finished i ws long done = record { steps = 0; busy = λ n lt. absurd (omega arith); ended = refl; left = all_done i ws long done }
+  finished i ws long done = grind (arith, all_done)
 
   ends_next : (d i : ℕ) (ws : Words) → EndsFrom d → at / 64 ≤ i → at + slot ≤ 64 * (i + suc d) → Done (i + 1) ws → Ends (next_stage (here Ended) i) ws
   ends_next d i ws later begins fuel done = by (ltb (64 * (i + 1)) (at + slot)) refl where

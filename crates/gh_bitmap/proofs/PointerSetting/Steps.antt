@@ -1,8 +1,7 @@
 -- What single steps do to the bits of the bitmap, and to its words.
-use Rattle.std.proofs.Common.{◌≡◌, ◌≢◌, ℕ, ◌+◌, ◌-◌, ◌*◌, ◌/◌, ◌^◌, ◌<◌, ◌≤◌, ◌⊎◌, Bool, true, false, eqb, ltb, refl, sym, subst, arith, inl, inr}
+use Rattle.std.proofs.Common.{◌≡◌, ◌≢◌, ℕ, ◌+◌, ◌-◌, ◌*◌, ◌/◌, ◌^◌, ◌<◌, ◌≤◌, ◌⊎◌, Bool, false, sym, subst, arith, inl, inr}
 use Rattle.std.specs.Prelude.{bit_or, bit_and}
 use Rattle.std.proofs.Math.Nat.{mod-eq_of_lt}
-use Rattle.std.proofs.lemmas.Bool.{eqb-true, eq-eqb, ltb-true, ltb-false}
 use Rattle.gh_base.specs.Cells.{Words}
 use Rattle.gh_base.specs.Packing.{bit}
 use Rattle.gh_base.specs.Rows.{bitmap_words, Row, row_bit, RowsAreWritten, with_word}
@@ -19,12 +18,7 @@ word_is s i within touches = let ends : 64 * i < s.at + s.slot = touches.ends in
 
 -- a heap word that has its bit elsewhere, or is not of the slot
 outside : (s : PointerSetting) (i x : ℕ) → ¬ IsHere s i x → (i ≢ x / 64) ⊎ ((x < s.at) ⊎ (s.at + s.slot ≤ x))
-outside s i x not = by (eqb i (x / 64)) (ltb x s.at) (ltb x (s.at + s.slot)) refl refl refl where
-  by : (here before inside : Bool) → eqb i (x / 64) ≡ here → ltb x s.at ≡ before → ltb x (s.at + s.slot) ≡ inside → (i ≢ x / 64) ⊎ ((x < s.at) ⊎ (s.at + s.slot ≤ x))
-  by false before inside e f g = inl (λ z. absurd (cc (e, eq-eqb _ _ z)))
-  by true true inside e f g = inr (inl (ltb-true _ _ f))
-  by true false false e f g = inr (inr (ltb-false _ _ g))
-  by true false true e f g = absurd (not (record { word = sym (eqb-true _ _ e); from = ltb-false _ _ f; below = ltb-true _ _ g }))
+outside s i x not = grind arith
 
 module _ (rows : RowsAreWritten) (s : PointerSetting) (i : ℕ) (words : Words) (within : s.at + s.slot ≤ 1024 * s.layout.pages) (fits : FitsSlot s.shape s.slot) (touches : Touches s.at s.slot i) where
   abbrev row : Row
@@ -61,11 +55,10 @@ module _ (rows : RowsAreWritten) (s : PointerSetting) (i : ℕ) (words : Words) 
   }
 
   unset : (b : Bool) → bit b ≡ 0 → b ≡ false
-  unset true e = absurd (omega arith)
-  unset false e = refl
+  unset b e = grind arith
 
   has_none : HasNone s i
   has_none none x here = unset (is_pointer s.shape (x - s.at)) (no_pointers s.shape s.at i x fits.narrow none here.word here.from)
 
   pub steps_on : StepsOn s i words
-  steps_on = record { clears = clears; sets = sets; none = has_none }
+  steps_on = grind (arith, clears, has_none, sets)

@@ -1,5 +1,5 @@
 -- Where a register takes its value from the heap that never frees, marking sees its word come from the same place; and so a script reaches the value.
-use Rattle.std.proofs.Common.{◌≡◌, ℕ, ◌+◌, ◌<◌, Bool, true, false, refl, sym, ap, subst, ◌∙◌}
+use Rattle.std.proofs.Common.{◌≡◌, ℕ, ◌+◌, ◌<◌, Bool, true, false, refl, sym, ap, subst, ◌∙◌, arith}
 use Rattle.gh_base.specs.declared.cell.Cell.TheVariants as cell
 use Rattle.gh_base.specs.declared.limits.TheConstants.{REGISTERS}
 use Rattle.gh_heap.specs.Objects.{Holds, IsMade}
@@ -16,9 +16,7 @@ use Rattle.gh_cycle.proofs.Going.Plain.{Together}
 
 -- a value is reached where the object is that it names
 reached-if : (e : Ever) (value : EverValue) → ((n : Name) → value ≡ ever.Ref n → Reach e n) → IsReached e value
-reached-if e ever.Nil reach = tt
-reached-if e (ever.Int i) reach = tt
-reached-if e (ever.Ref n) reach = reach n refl
+reached-if e value reach = grind arith
 
 pub from-reached : (z : Arena) (e : Ever) (g : ℕ) → e.ended g ≡ false → (value : EverValue) → TakesFrom z e g value → IsReached e value
 from-reached z e g on value from_nil = tt
@@ -29,14 +27,10 @@ from-reached z e g on value (from_global k low) = reached-if e (e.global k) (λ 
 
 -- the word of a pointer is what its value names, and a number names nothing
 word-of : (place : Place) (made : ℕ → ℕ) (value : EverValue) (word : ℕ) → Holds place made true value word → word ≡ reference_of place value
-word-of place made ever.Nil word holds = holds.1
-word-of place made (ever.Int i) word holds = absurd (let no = holds.0 in cc)
-word-of place made (ever.Ref n) word holds = holds.1
+word-of place made value word holds = grind arith
 
 none-of : (place : Place) (made : ℕ → ℕ) (value : EverValue) (word : ℕ) → Holds place made false value word → 0 ≡ reference_of place value
-none-of place made ever.Nil word holds = absurd (let no = holds.0 in cc)
-none-of place made (ever.Int i) word holds = refl
-none-of place made (ever.Ref n) word holds = absurd (let no = holds.0 in cc)
+none-of place made value word holds = grind arith
 
 module _ (made : TheReachedWereMade) (z : Cycle) (a : ℕ) (h : Heap) (s : Marking) (w : Together z h s) (g : ℕ) (runs : GoroutineRuns z.arena (view (here h s)) a g) where
   abbrev Comes : EverValue → Type 0

@@ -1,5 +1,5 @@
 -- Each step of a processor beside marking, by what it does. The move over the heap is not told: where an object is made or a value written, a move that is told leaves the same words, values and places; and where a step leaves objects alone, so does every move by which it may come.
-use Rattle.std.proofs.Common.{◌≡◌, ℕ, refl, sym, ap, subst, ◌∙◌}
+use Rattle.std.proofs.Common.{◌≡◌, ℕ, refl, sym, ap, subst, ◌∙◌, arith}
 use Rattle.gh_heap.specs.Moves as heap
 use Rattle.gh_heap.specs.Spans.{IsSlotOf}
 use Rattle.gh_marks.specs.Seats.{Hands, InHand}
@@ -85,7 +85,7 @@ module _ (k : KnownOfMoves) (z : Cycle) (a : ℕ) (h : Heap) (s : Marking) (w : 
     plain = record { none = left.none; hand = left.hand; place = left.place; types = types; made = same; alloc = left.alloc }
 
     by-itself : (d : Deed) → ((x : InHand) → x ≡ hand_behind d x) → GoesBeside z a (here h s) s m → Steps d
-    by-itself d hand b = steps-by d m b (λ t c. c) (λ x. left.hand x ∙ hand x)
+    by-itself d hand b = grind arith
 
     -- and so does a move that is told
     by-other : (d : Deed) (n : heap.Move) → heap.May z.arena a (view (here h s)) n → GoesBeside z a (here h s) s n → ((x : InHand) → hand_after n x ≡ hand_behind d x) →

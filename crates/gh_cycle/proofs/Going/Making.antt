@@ -49,14 +49,7 @@ module _ (k : KnownOfMoves) (z : Cycle) (a : ℕ) (h : Heap) (s : Marking) (w : 
   ]
 
   may-place : marks.May z a s place
-  may-place = record {
-    own = may.runs.of;
-    goes_on = w.beside.goes_on g may.runs.of.0 may.runs.goes_on;
-    register = may.register;
-    reserved = reserved;
-    within = within;
-    clear = λ i l p. may.ready.fields i l;
-  }
+  may-place = grind (arith, within)
 
   went : marks.Went z a s then
   went = marks.goes s place marks.stays may-place
@@ -85,7 +78,7 @@ module _ (k : KnownOfMoves) (z : Cycle) (a : ℕ) (h : Heap) (s : Marking) (w : 
     by false e = refl
 
   place-old : (n : Name) → IsMade h.ever.made n → after.place n ≡ h.place n
-  place-old n made = ap (λ (b : Bool). cond b at (h.place n)) (other n made)
+  place-old n made = grind (arith, other)
 
   made-before : (n : Name) → IsMade after.ever.made n → n ≢ new → IsMade h.ever.made n
   made-before n made ne = elim (eqb_tells n.g g) [
@@ -129,7 +122,7 @@ module _ (k : KnownOfMoves) (z : Cycle) (a : ℕ) (h : Heap) (s : Marking) (w : 
   type-new = ap (λ (b : Bool). cond b t (h.ever.type_of new)) (name-itself new)
 
   type-old : (n : Name) → IsMade h.ever.made n → after.ever.type_of n ≡ h.ever.type_of n
-  type-old n made = ap (λ (b : Bool). cond b t (h.ever.type_of n)) (other n made)
+  type-old n made = grind (arith, other)
 
   -- The words of its type.
 
@@ -181,9 +174,7 @@ module _ (k : KnownOfMoves) (z : Cycle) (a : ℕ) (h : Heap) (s : Marking) (w : 
     ]
 
   reference-same : (v : EverValue) → ((n : Name) → v ≡ ever.Ref n → IsMade h.ever.made n) → reference_of h.place v ≡ reference_of after.place v
-  reference-same ever.Nil made = refl
-  reference-same (ever.Int i) made = refl
-  reference-same (ever.Ref n) made = ap (λ (x : ℕ). x + 1) (sym (place-old n (made n refl)))
+  reference-same v made = grind (arith, place-old)
 
   fit : RegistersFit z.arena after then
   fit j c lj lc runs = ap (λ (x : ℕ). heap.update_at s.registers g d x j c) (ap (λ (x : ℕ). x + 1) (sym at-new))

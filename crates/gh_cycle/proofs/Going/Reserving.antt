@@ -4,7 +4,6 @@ use Rattle.std.proofs.lemmas.Bool.Decides.{eqb_tells}
 use Rattle.gh_base.specs.Packing.{page_of}
 use Rattle.gh_class.specs.Classes.{IsSizeClass}
 use Rattle.gh_class.specs.declared.class.SizeClass.{SizeClass}
-use Rattle.gh_class.specs.declared.class.SizeClass.TheVariants.{Large, Small}
 use Rattle.gh_heap.specs.Rights.{Claims}
 use Rattle.gh_heap.specs.Spans.{is_own_class, number_of_class}
 use Rattle.gh_marks.specs.Colours.{Black, Buffered, Colour, IsShaded, Pending, Taken, White}
@@ -19,8 +18,7 @@ use Rattle.gh_cycle.proofs.Quiet.{with_words}
 
 -- a slot has a word at least
 some_words : ((c : ℕ) → c < 25 → 8 ≤ slot_of c) → (c : SizeClass) (pages : ℕ) → 1 ≤ pages → IsSizeClass c → 0 < cond (is_own_class c) (1024 * pages) (slot_of (number_of_class c) / 8)
-some_words least (Small c) pages some is = let l = least c is in omega arith
-some_words least Large pages some is = omega arith
+some_words least c pages some is = grind arith
 
 -- how many pages before this one its span begins
 back : PageWord → ℕ

@@ -1,7 +1,6 @@
 -- Steps beside marking by which a register takes a value, and the end of a goroutine.
 use Rattle.std.proofs.Common.{◌≡◌, ◌≢◌, ℕ, ◌<◌, Bool, true, false, cond, eqb, refl, sym, ap, subst, ◌∙◌, inl, inr, arith}
 use Rattle.gh_base.specs.declared.cell.Ask.TheVariants as ask
-use Rattle.gh_base.specs.declared.cell.Cell.{Cell}
 use Rattle.gh_base.specs.declared.cell.Cell.TheVariants as cell
 use Rattle.gh_base.specs.declared.pack.TheConstants.{END}
 use Rattle.gh_base.specs.Rows.{Row}
@@ -15,18 +14,8 @@ use Rattle.gh_cycle.proofs.Going.Objects.{here}
 use Rattle.gh_cycle.proofs.Going.Plain.{along-quiet, goes-along, GoesAlong, GoesBeside, IsPlain, stacks-stay, there, Together}
 use Rattle.gh_cycle.proofs.Quiet.{quiet_view}
 
--- registers make no cell one that marking reads
-aside-with : (s : Marking) (registers : ℕ → Row) (c : Cell) → marks.IsAside s c → marks.IsAside (record s { registers = registers }) c
-aside-with s registers cell.Gcur aside = aside
-aside-with s registers _ aside = aside
-
 quiet-with : (s : Marking) (registers : ℕ → Row) (step : Ask) → marks.IsQuietInMarking s step → marks.IsQuietInMarking (record s { registers = registers }) step
-quiet-with s registers (ask.Load c) quiet = quiet
-quiet-with s registers (ask.Store c value) quiet = aside-with s registers c quiet
-quiet-with s registers (ask.Or c bits) quiet = aside-with s registers c quiet
-quiet-with s registers (ask.And c bits) quiet = aside-with s registers c quiet
-quiet-with s registers (ask.Add c more) quiet = aside-with s registers c quiet
-quiet-with s registers (ask.Swap c old new) quiet = aside-with s registers c quiet
+quiet-with s registers step quiet = grind arith
 
 -- a register that takes a value, in both states
 pub set-fits : (f : ℕ → Row) (e : Ever) (place : Place) (g d : ℕ) (value : EverValue) (j c : ℕ) → f j c ≡ reference_of place (e.register j c) → update_at f g d (reference_of place value) j c ≡ reference_of place ((with_register e g d value).register j c)

@@ -1,6 +1,5 @@
 -- Fields and globals take values beside marking: pointers behind the write barrier, and a number where no object of the cycle has a pointer field.
-use Rattle.std.proofs.Common.{◌≡◌, ◌≢◌, ℕ, ◌+◌, ◌<◌, Bool, true, false, refl, sym, ap, subst, ◌∙◌, inl, inr, arith}
-use Rattle.std.proofs.lemmas.Bool.Decides.{eqb_tells}
+use Rattle.std.proofs.Common.{◌≡◌, ◌≢◌, ℕ, ◌+◌, Bool, true, false, refl, subst, arith}
 use Rattle.gh_base.specs.declared.cell.Ask.TheVariants as ask
 use Rattle.gh_base.specs.declared.cell.Cell.TheVariants as cell
 use Rattle.gh_base.specs.Rows.{field_words, global_words}
@@ -10,10 +9,10 @@ use Rattle.gh_marks.specs.Colours.{IsClean}
 use Rattle.gh_marks.specs.Moves as marks
 use Rattle.gh_marks.specs.Seats.{Hands, InHand}
 use Rattle.gh_cycle.specs.Beside.{ClaimsSlot, IsOfCycle}
-use Rattle.gh_cycle.specs.Vocabulary.{Cycle, EverValue, Heap, Holds, IsPointer, IsSince, mark_words, Marking, Name, Placing, points, put, size_for, view}
+use Rattle.gh_cycle.specs.Vocabulary.{Cycle, EverValue, Heap, Holds, IsPointer, IsSince, mark_words, Marking, Name, Placing, points, put, view}
 use Rattle.gh_cycle.proofs.Beginning.{names-it}
 use Rattle.gh_cycle.specs.Known.{KnownOfMoves}
-use Rattle.gh_cycle.proofs.Going.Objects.{apart-from, here, name-at}
+use Rattle.gh_cycle.proofs.Going.Objects.{here, name-at}
 use Rattle.gh_cycle.proofs.Going.Plain.{goes-along, GoesAlong, GoesBeside, there, Together}
 
 module _ (k : KnownOfMoves) (z : Cycle) (a : ℕ) (h : Heap) (s : Marking) (w : Together z h s) where
@@ -43,22 +42,8 @@ module _ (k : KnownOfMoves) (z : Cycle) (a : ℕ) (h : Heap) (s : Marking) (w : 
     aside number o j since =
         let m = name-at z h s w.heap w.marking o since in
         subst (λ (y : ℕ). IsPointer s.extents y j → x ≢ y + j) m.at (from m.name m.of) where
-          same : (m : Name) → IsOfCycle (here h s) s m → IsPointer s.extents (h.place m) j → n ≡ m → x ≢ h.place m + j
-          same m of l is e =
-              let at : h.place n ≡ h.place m = ap h.place is in
-              let field : j ≡ i = omega (arith, at, e) in
-              let within : j < size_for z.arena.shapes h.ever.type_of m = subst (λ (y : ℕ). j < y) (w.beside.size m of) l.0 in
-              let pointer : points z.arena.shapes h.ever.type_of m j ≡ true = sym (w.beside.pointer m j of within) ∙ l.1 in
-              let here-too : points z.arena.shapes h.ever.type_of n i ≡ true = ap (λ (p : Name). points z.arena.shapes h.ever.type_of p i) is ∙ ap (λ (f : ℕ). points z.arena.shapes h.ever.type_of m f) (sym field) ∙ pointer in
-              absurd (cc)
-
           from : (m : Name) → IsOfCycle (here h s) s m → IsPointer s.extents (h.place m) j → x ≢ h.place m + j
-          from m of l = elim (eqb_tells (h.place n) (h.place m)) [
-            | inl y ↦ same m of l ((k.apart z.arena (view (here h s)) w.heap).once n m may.made of.made (w.heap.reached n may.reached) of.placed y.1)
-            | inr ne ↦
-                let own = w.heap.slots n may.made (w.heap.reached n may.reached) in
-                apart-from z h s w.heap w.marking k.apart w.beside m of j l own.p own.i (h.place n) (size_for z.arena.shapes h.ever.type_of n) i own.h own.slot ne.1 may.within
-          ]
+          from m of l = grind arith
 
     along : marks.Went z a s written → ((y : InHand) → Hands a s y → Hands a written y) → GoesAlong z a h s (heap.Write n i value word) written
     along went hands = record { went = went; words = refl; since = refl; extents = refl; colour = refl; marked = λ o is. is; hands = hands }

@@ -10,7 +10,7 @@ use Rattle.gh_cycle.specs.Beside.{IsBeside}
 use Rattle.gh_cycle.specs.Opening.{IsOpened, WordsAreAtRest}
 use Rattle.gh_cycle.specs.Since.{HasGoneOn}
 use Rattle.gh_heap.specs.Objects.{Place}
-use Rattle.gh_mutator.specs.MarkFacts.{KnowsStacks}
+use Rattle.gh_poll.specs.MarkFacts.{KnowsStacks}
 use Rattle.gh_mutator.specs.ProcessorMarks.{StandsWithNothing}
 use Rattle.gh_phase.specs.declared.view.RunPhase.TheVariants as run
 use Rattle.gh_stack.specs.Facts.{named}

@@ -7,14 +7,14 @@ use Rattle.gh_phase.specs.Listing as resume
 use Rattle.gh_phase.specs.ResumePlaces as places
 use Rattle.gh_phase.specs.Stays.{phase_on}
 use Rattle.gh_mutator.specs.declared.new.NewStage.TheVariants as making
-use Rattle.gh_mutator.specs.declared.poll.PollStage.TheVariants as polling
+use Rattle.gh_poll.specs.declared.poll.PollStage.TheVariants as polling
 use Rattle.gh_mutator.specs.declared.task.Task.TheVariants as task
-use Rattle.gh_mutator.specs.declared.wait.Wait.{Wait}
-use Rattle.gh_mutator.specs.declared.wait.WaitStage.TheVariants as waiting
-use Rattle.gh_mutator.specs.Handshake.{poll_stage_of, wait_stage_of}
-use Rattle.gh_mutator.specs.Leave as leave
-use Rattle.gh_mutator.specs.Poll as poll
-use Rattle.gh_mutator.specs.Wait as wait
+use Rattle.gh_poll.specs.declared.wait.Wait.{Wait}
+use Rattle.gh_poll.specs.declared.wait.WaitStage.TheVariants as waiting
+use Rattle.gh_poll.specs.Handshake.{poll_stage_of, wait_stage_of}
+use Rattle.gh_poll.specs.Leave as leave
+use Rattle.gh_poll.specs.Poll as poll
+use Rattle.gh_poll.specs.Wait as wait
 use Rattle.gh_marked.proofs.Vocabulary.{acts, asks, given_at, gives, is_busy_at, IsParked, leaves_at, LeaveStage, Leaving, Load, New, new_stage_at, NewStage, PackedWordsAreReadBack, phase_of, PhaseWord, Polling, polls_at, PollStage, Processor, ResumeStage, run_phase, Shape, SoundAt, SoundPlace, stage_at, stage_of, stop_word, takes, Task, waits_at, WaitStage}
 
 -- where the poll waits

@@ -27,26 +27,26 @@ use Rattle.gh_alloc.specs.Place.{Placing}
 use Rattle.gh_alloc.specs.PlaceFacts as place
 use Rattle.gh_alloc.specs.Search.{Seeking}
 use Rattle.gh_alloc.specs.SearchFacts as search
-use Rattle.gh_mutator.specs.declared.give.GiveStage.{GiveStage}
-use Rattle.gh_mutator.specs.declared.give.GiveStage.TheVariants as give_stage
-use Rattle.gh_mutator.specs.declared.leave.LeaveStage.{LeaveStage}
+use Rattle.gh_poll.specs.declared.give.GiveStage.{GiveStage}
+use Rattle.gh_poll.specs.declared.give.GiveStage.TheVariants as give_stage
+use Rattle.gh_poll.specs.declared.leave.LeaveStage.{LeaveStage}
 use Rattle.gh_mutator.specs.declared.new.NewStage.TheVariants as new_stage
 use Rattle.gh_mutator.specs.declared.new.Wanted.{Wanted}
-use Rattle.gh_mutator.specs.declared.poll.PollStage.{PollStage}
-use Rattle.gh_mutator.specs.declared.poll.PollStage.TheVariants as poll_stage
+use Rattle.gh_poll.specs.declared.poll.PollStage.{PollStage}
+use Rattle.gh_poll.specs.declared.poll.PollStage.TheVariants as poll_stage
 use Rattle.gh_mutator.specs.declared.task.Task.TheVariants as task
-use Rattle.gh_mutator.specs.declared.wait.WaitStage.{WaitStage}
-use Rattle.gh_mutator.specs.declared.wait.WaitStage.TheVariants as wait_stage
+use Rattle.gh_poll.specs.declared.wait.WaitStage.{WaitStage}
+use Rattle.gh_poll.specs.declared.wait.WaitStage.TheVariants as wait_stage
 use Rattle.gh_mutator_heap.specs.Facts.{FactsAt, held_at, held_new, KnowsAt, KnowsNew, Makes, NewFacts, rest, Searches}
-use Rattle.gh_mutator.specs.Give.{Giving, none_cached, span_class}
-use Rattle.gh_mutator.specs.Local.{cache_with, cached_in}
+use Rattle.gh_poll.specs.Give.{Giving, none_cached, span_class}
+use Rattle.gh_poll.specs.Local.{cache_with, cached_in}
 use Rattle.gh_mutator.specs.New.{own_span}
-use Rattle.gh_mutator.specs.Poll.{Polling}
+use Rattle.gh_poll.specs.Poll.{Polling}
 use Rattle.gh_mutator_heap.specs.PollHeap.{CachesAll, CachesFrom, give_held_at, GiveStageFacts, KnowsSpans, leave_held_at, LeaveStageFacts, lists, no_page, PollFacts, poll_held_at, PollStageFacts, Rests, WaitFacts, WaitStageFacts, waits_held, waits_held_at}
 use Rattle.gh_mutator.specs.Processor.{cached_for}
-use Rattle.gh_mutator.specs.Wait.{Waiting, waiting}
+use Rattle.gh_poll.specs.Wait.{Waiting, waiting}
 use Rattle.gh_holds.specs.Below.{HasState, OwnersAreProcessors, OwnsOneOfEach, processor_at}
-use Rattle.gh_law.proofs.Vocabulary.{Answer, Arena, arena, Entry, Fine, Heap, NewStage, Op, page_of, Processor, Task, View, view, words}
+use Rattle.gh_law.proofs.Vocabulary.{Answer, Arena, arena, Entry, ProcessorFacts, Heap, NewStage, Op, page_of, Processor, Task, View, view, words}
 use Rattle.gh_lists.specs.Handshake.{Setup}
 
 -- What a cache lists.
@@ -252,7 +252,7 @@ module _ (z : Arena) (a : ℕ) (v : View) where
     task_own (task.Leave x) k f = leaves_own x.stage k.stage_is
     task_own _ k f = rests_own m.poll k
 
-  pub held_by_class : (m : Processor) (pending : Option Answer) → Fine z a v m pending → Owns (v.holds a)
+  pub held_by_class : (m : Processor) (pending : Option Answer) → ProcessorFacts z a v m pending → Owns (v.holds a)
   held_by_class m pending fine =
       let o = task_own m pending m.task fine.knows fine.task in
       record { at = o.at; each = λ p h held there. o.each p h (sym (fine.right.holds p) ∙ held) there }

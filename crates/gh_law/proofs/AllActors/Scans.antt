@@ -4,7 +4,7 @@ use Rattle.gh_base.specs.declared.cell.Cell.TheVariants as cell
 use Rattle.gh_base.specs.Orders.{before_step}
 use Rattle.gh_coord.specs.Handshake as leading
 use Rattle.gh_coord.specs.Listing as coord
-use Rattle.gh_mutator_heap.specs.PollHeap.{Sits}
+use Rattle.gh_mutator_heap.specs.PollHeap.{SeatFacts}
 use Rattle.gh_mutator_writes.specs.Writing.{EndsStack, StaysThere}
 use Rattle.gh_worker.specs.Listing as worker
 use Rattle.gh_lists.specs.Marking.{IsStartOf}
@@ -126,8 +126,8 @@ module _ (setup : Setup) (lists : ListsKnown setup) (has : (es : List (Entry Op)
     it_is : IsAsItShould setup es h e.actor (processor_at setup es e.actor)
     it_is = (has es legal.0).of_list.processors e.actor runs.seat
 
-    sits : Sits z e.actor m.poll
-    sits = subst (λ (p : Processor). Sits z e.actor p.poll) same (lists.known.runs.stands z e.actor (view h) (processor_at setup es e.actor) it_is.pending it_is.fine).sits
+    sits : SeatFacts z e.actor m.poll
+    sits = subst (λ (p : Processor). SeatFacts z e.actor p.poll) same (lists.known.runs.stands z e.actor (view h) (processor_at setup es e.actor) it_is.pending it_is.fine).sits
 
     there : (o : Option Op) → StaysThere m (started kind o m)
     there None = record { layout = refl; seat = refl }

@@ -11,16 +11,16 @@ use Rattle.gh_alloc.specs.Place as place
 use Rattle.gh_alloc.specs.Search as search
 use Rattle.gh_assist.specs.Listing as assist
 use Rattle.gh_mutator.specs.declared.task.Task.TheVariants as task
-use Rattle.gh_mutator.specs.declared.wait.Wait.{Wait as WaitState}
-use Rattle.gh_mutator.specs.declared.wait.WaitStage.TheVariants as wait_stage
+use Rattle.gh_poll.specs.declared.wait.Wait.{Wait as WaitState}
+use Rattle.gh_poll.specs.declared.wait.WaitStage.TheVariants as wait_stage
 use Rattle.gh_mutator.specs.Global as global
-use Rattle.gh_mutator.specs.Leave as leave
+use Rattle.gh_poll.specs.Leave as leave
 use Rattle.gh_mutator.specs.Load as load
 use Rattle.gh_mutator.specs.New as new
-use Rattle.gh_mutator.specs.Poll as poll
+use Rattle.gh_poll.specs.Poll as poll
 use Rattle.gh_mutator.specs.Register as register
 use Rattle.gh_mutator.specs.Store as store
-use Rattle.gh_mutator.specs.Wait as wait
+use Rattle.gh_poll.specs.Wait as wait
 use Rattle.gh_law.proofs.Vocabulary.{after_gc, after_leave, after_poll, Leaving, Polling, Seeking, WaitStage}
 
 -- Where so many cycles had begun when the operation did, and so many are swept: a wait knows as many at least, and behind it more are swept.

@@ -3,8 +3,8 @@ use Rattle.std.proofs.Common.{◌≡◌, true, arith}
 use Rattle.gh_phase.specs.declared.view.RunPhase.{RunPhase}
 use Rattle.gh_phase.specs.declared.view.RunPhase.TheVariants as run
 use Rattle.gh_phase.specs.Shakes.{IsAwake}
-use Rattle.gh_mutator.specs.Local.{is_mark}
-use Rattle.gh_mutator.specs.Poll.{Polling}
+use Rattle.gh_poll.specs.Local.{is_mark}
+use Rattle.gh_poll.specs.Poll.{Polling}
 use Rattle.gh_mutator.specs.ProcessorPlaces.{party_at, stage_at}
 use Rattle.gh_mutator.specs.Running.{IsAssisting}
 use Rattle.gh_law.specs.Vocabulary.{Task}

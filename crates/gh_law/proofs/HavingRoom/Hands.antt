@@ -7,7 +7,7 @@ use Rattle.gh_marks.specs.Colours.{buffers_as_held}
 use Rattle.gh_marks.specs.Seats.{InHand}
 use Rattle.gh_mutator.specs.declared.store.Store.{Store}
 use Rattle.gh_mutator.specs.declared.store.StoreStage.{StoreStage}
-use Rattle.gh_mutator.specs.MarkFacts.{LeaveFacts, PollFacts, WaitStageFacts}
+use Rattle.gh_poll.specs.MarkFacts.{LeaveFacts, PollFacts, WaitStageFacts}
 use Rattle.gh_mutator.specs.ProcessorMarks.{GlobalFacts, NewFacts, StoreFacts, TaskFacts}
 use Rattle.gh_worker.specs.MarkFacts as marks
 use Rattle.gh_law.proofs.Vocabulary.{Cycle, GlobalStage, Hands, Held, LeaveStage, MarkFacts, Marking, NewStage, Polling, Processor, Task, WaitStage, Working}

@@ -1,7 +1,7 @@
 -- The parts of the coordinator ask for words that there are, whatever they were told.
 use Rattle.std.proofs.Common.{◌≡◌, ℕ, ◌<◌, Bool, cond, subst, arith, Option}
 use Rattle.gh_coord.specs.declared.sweep_all.SweepAllStage.TheVariants as all_stage
-use Rattle.gh_coord.specs.PartsSound.{FitsStopStage, FitsWatchStage}
+use Rattle.gh_coord.specs.PartsSound.{SoundStopStage, SoundWatchStage}
 use Rattle.gh_coord.specs.Stopping as stop
 use Rattle.gh_coord.specs.SweepingAll as all
 use Rattle.gh_coord.specs.Watching as watch
@@ -12,10 +12,10 @@ use Rattle.gh_law.proofs.Within.Spans.{FitsSpan}
 -- Of each part, that it is of this heap, and that the word that is next lies in its row.
 
 abbrev pub FitsStopping : Layout → stop.Stopping → Type 0
-FitsStopping l s = (s.layout ≡ l) × FitsStopStage s.layout s.stage
+FitsStopping l s = (s.layout ≡ l) × SoundStopStage s.layout s.stage
 
 abbrev pub FitsWatching : Layout → watch.Watching → Type 0
-FitsWatching l w = (w.layout ≡ l) × FitsWatchStage w.layout w.stage
+FitsWatching l w = (w.layout ≡ l) × SoundWatchStage w.layout w.stage
 
 abbrev pub FitsSpans : Layout → SweepAllStage → Type 0
 FitsSpans l (all_stage.LoadPage p) = p < l.pages

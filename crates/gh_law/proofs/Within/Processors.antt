@@ -2,7 +2,7 @@
 use Rattle.std.proofs.Common.{◌≡◌, ℕ, false, refl, sym, ap, subst, ◌∙◌, inr, List, Option, Some, None, ◌<◌}
 use Rattle.gh_mutator_heap.specs.Facts.{MayBegin}
 use Rattle.gh_lists.specs.declared.handshake.Actor.TheVariants as actor
-use Rattle.gh_law.proofs.Vocabulary.{actors, Arena, arena, asks, Begins, by, cell_of, Entry, Fine, Good, HasState, Heap, InRange, is_busy, is_busy_at, IsAsItShould, Kind, made_by, Op, Processor, processor_at, processor_kind, ShapesAreGood, started, state_of, those, view}
+use Rattle.gh_law.proofs.Vocabulary.{actors, Arena, arena, asks, Begins, by, cell_of, Entry, ProcessorFacts, Good, HasState, Heap, InRange, is_busy, is_busy_at, IsAsItShould, Kind, made_by, Op, Processor, processor_at, processor_kind, ShapesAreGood, started, state_of, those, view}
 use Rattle.gh_lists.specs.Beginning.{may_parts}
 use Rattle.gh_holds.specs.Below.{Known, may-begin, state_by}
 use Rattle.gh_lists.specs.Resting.{runs_are}
@@ -54,5 +54,5 @@ module _ (given : Given) (good : ShapesAreGood given.shapes) (known : Known) whe
         go None none = known.runs.within z a (view h) m is.pending gh is.fine
         go (Some p) some =
             let at_rest = idle p some in
-            let fine = subst (Fine z a (view h) m) (known.runs.rests z a (view h) m is.pending at_rest is.fine) is.fine in
+            let fine = subst (ProcessorFacts z a (view h) m) (known.runs.rests z a (view h) m is.pending at_rest is.fine) is.fine in
             known.runs.within z a (view h) (k.begins m p) None gh (known.runs.begins z a (view h) m p good gh fine at_rest (λ going. begins_well p some))

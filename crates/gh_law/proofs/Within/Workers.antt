@@ -15,13 +15,13 @@ use Rattle.gh_worker.specs.declared.worker.WorkerStage.TheVariants as at
 use Rattle.gh_worker.specs.Choices.{by_work}
 use Rattle.gh_worker.specs.Listing as worker
 use Rattle.gh_worker.specs.Sound.{IsWorkersSeat}
-use Rattle.gh_law.proofs.Vocabulary.{cell_of, FitsGiveStage, Held, InRange, IsHeld, Layout, nat_tests, page_of, PageWord, phase_of, Resumed, ResumeStage, Shaded, SweepEnd, WorkerStage, Working}
+use Rattle.gh_law.proofs.Vocabulary.{cell_of, SoundGiveStage, Held, InRange, IsHeld, Layout, nat_tests, page_of, PageWord, phase_of, Resumed, ResumeStage, Shaded, SweepEnd, WorkerStage, Working}
 use Rattle.gh_law.proofs.Within.Buffers.{give_within}
 use Rattle.gh_law.proofs.Within.Spans.{FitsSpan, span_goes, span_within}
 
 abbrev pub StageWithin : Layout → WorkerStage → Type 0
 StageWithin l (at.Sweeping sw) = FitsSpan l sw
-StageWithin l (at.GiveBack g stops) = FitsGiveStage l g.stage
+StageWithin l (at.GiveBack g stops) = SoundGiveStage l g.stage
 StageWithin l (at.Resuming r) = r.seat < l.procs + l.workers
 StageWithin l (at.Taking t) = TakeWithin l t
 StageWithin l (at.Scanning s) = ScanWithin l s
@@ -80,7 +80,7 @@ module _ (k : TakingAndScanningAreWithin) (w : Working) (f : FitsWhole w) where
   after_sweep : (sw : sweep.Sweeping) (out : Option SweepEnd) → FitsSpan l sw → FitsWhole (worker.after_sweep w sw out)
   after_sweep sw out s = grind arith
 
-  after_give : (g : give.BufferGiving) (stops : ℕ) (out : Option (Unit {0})) → FitsGiveStage l g.stage → FitsWhole (worker.after_give w g stops out)
+  after_give : (g : give.BufferGiving) (stops : ℕ) (out : Option (Unit {0})) → SoundGiveStage l g.stage → FitsWhole (worker.after_give w g stops out)
   after_give g stops out s = grind arith
 
   after_resume : (r : resume.Resuming) (out : Option Resumed) → r.seat < l.procs + l.workers → FitsWhole (worker.after_resume w r out)

@@ -2,9 +2,9 @@
 use Rattle.std.proofs.Common.{◌≡◌, ℕ, suc, ◌≤◌, ◌⊎◌, Bool, true, cond, refl, arith, List, Option}
 use Rattle.gh_base.specs.declared.operation.Op.TheVariants as op
 use Rattle.gh_mutator.specs.declared.task.Task.TheVariants as task
-use Rattle.gh_mutator.specs.declared.wait.WaitStage.TheVariants as waiting
+use Rattle.gh_poll.specs.declared.wait.WaitStage.TheVariants as waiting
 use Rattle.gh_mutator.specs.New as new
-use Rattle.gh_mutator.specs.Wait as wait
+use Rattle.gh_poll.specs.Wait as wait
 use Rattle.gh_lists.specs.Numbers.{asks_for_one}
 use Rattle.gh_lists.proofs.Vocabulary.{after_assist, after_gc, after_leave, after_poll, Ask, asked_after, asks, Assist, Assisting, follows, Found, IsWanting, IsWritten, Leaving, Name, NewStage, Op, Place, Placing, Polling, Processor, Search, Seeking, Shape, takes, takes_at, Task, Then, Wait, WaitStage, Want, Wanted, WritesOf}
 

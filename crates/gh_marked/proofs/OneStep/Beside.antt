@@ -7,7 +7,7 @@ use Rattle.gh_mutator_heap.specs.Beside.{KnowsMarking, StepsOn, Together}
 use Rattle.gh_mutator.specs.Sound.{has_room}
 use Rattle.gh_phase.specs.declared.view.RunPhase.TheVariants.{Mark}
 use Rattle.gh_mutator.specs.Sweeping.{sweep_in}
-use Rattle.gh_marked.proofs.Vocabulary.{Answer, Arena, arena, Ask, asks, begins, by, Cell, cell_of, Coordinating, CoordStage, Cycle, DoesPoints, effect, END, Entry, Fine, has_left_at, Heap, is_busy_at, IsAwake, IsBeginning, IsKnown, IsLed, IsSound, IsWritten, Kind, left, Legal, Load, MarkFacts, Marking, MarkingGood, moved, only_polls, Op, party_at, party_of, Polling, Processor, processor_at, processor_kind, same_cell, Shape, stage_at, stage_of, started, state_of, Steps as HeapSteps, Store, takes, Task, TellsScan, those, view, View, Words, words, WritesOf}
+use Rattle.gh_marked.proofs.Vocabulary.{Answer, Arena, arena, Ask, asks, begins, by, Cell, cell_of, Coordinating, CoordStage, Cycle, DoesPoints, effect, END, Entry, ProcessorFacts, has_left_at, Heap, is_busy_at, IsAwake, IsBeginning, IsKnown, IsLed, IsSound, IsWritten, Kind, left, Legal, Load, MarkFacts, Marking, MarkingGood, moved, only_polls, Op, party_at, party_of, Polling, Processor, processor_at, processor_kind, same_cell, Shape, stage_at, stage_of, started, state_of, Steps as HeapSteps, Store, takes, Task, TellsScan, those, view, View, Words, words, WritesOf}
 use Rattle.gh_marked.proofs.OneStep.EndedStays.{ended_stays}
 use Rattle.gh_marked.specs.Known.{ListsKnown}
 use Rattle.gh_marked.proofs.OneStep.Landing as landing
@@ -132,7 +132,7 @@ module _ (given : Given) (wanted : Laws) (lists : ListsKnown (setup_for given)) 
     words_are : s.words ≡ told es
     words_are = marked.kn.beside.words ∙ marked.kn.has.of_list.words_are
 
-    together : (p : Processor) (x : Option Answer) → IsSound p → Fine z a (view h) p x → MarkFacts (cycle number few) a s p → sweep_in p ≡ None → Together (cycle number few) a h s p x
+    together : (p : Processor) (x : Option Answer) → IsSound p → ProcessorFacts z a (view h) p x → MarkFacts (cycle number few) a s p → sweep_in p ≡ None → Together (cycle number few) a h s p x
     together p x sound fine_p f still = record {
       shapes = lists.good;
       heap = marked.kn.has.good.heap;
@@ -152,7 +152,7 @@ module _ (given : Given) (wanted : Laws) (lists : ListsKnown (setup_for given)) 
         let rests_now = step.rests given lists.good lists.limits lists.known e es marked.legal marked.lt marked.kn.has o is in
         let it = step.is given lists.good lists.limits lists.known e es marked.legal marked.lt marked.kn.has in
         subst (λ (b : Bool). MarkFacts (cycle number few) a s (cond b m (begins given.shapes m o))) (sym (going o is))
-        (lists.known.beside.begins (cycle number few) a h s m o (together m None it.sound (subst (Fine z a (view h) m) rests_now it.fine) marked.facts (idle_sweeps_none m.task (idle o is))) (rests o is) (step.may_begin given lists.good lists.limits lists.known e es marked.legal marked.lt marked.kn.has o is) (has_room_now o is)))
+        (lists.known.beside.begins (cycle number few) a h s m o (together m None it.sound (subst (ProcessorFacts z a (view h) m) rests_now it.fine) marked.facts (idle_sweeps_none m.task (idle o is))) (rests o is) (step.may_begin given lists.good lists.limits lists.known e es marked.legal marked.lt marked.kn.has o is) (has_room_now o is)))
 
     -- It is awake where it begins an operation, or runs one that is no poll; and then it knows that marking is on.
 

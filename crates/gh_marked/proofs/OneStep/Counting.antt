@@ -22,7 +22,7 @@ use Rattle.gh_mutator.specs.declared.task.Task.TheVariants as task
 use Rattle.gh_mutator_heap.specs.Facts.{Does, FactsAt, for_whom}
 use Rattle.gh_mutator.specs.New.{made_task}
 use Rattle.gh_marked.specs.HoldVocabulary.{State, StateGood, View}
-use Rattle.gh_marked.proofs.Vocabulary.{acted, acts, acts_at, Answer, Arena, asks, Cell, effect, Ever, Fine, Heap, is_busy_at, IsSound, MarksNothing, moved, Name, nat_tests, page_words, Place, PlaceStage, Placing, Processor, put, Row, seats_of, SpanHead, takes, takes_at, Task, uncounted, view, Wanted, Words, CountsObject}
+use Rattle.gh_marked.proofs.Vocabulary.{acted, acts, acts_at, Answer, Arena, asks, Cell, effect, Ever, ProcessorFacts, Heap, is_busy_at, IsSound, MarksNothing, moved, Name, nat_tests, page_words, Place, PlaceStage, Placing, Processor, put, Row, seats_of, SpanHead, takes, takes_at, Task, uncounted, view, Wanted, Words, CountsObject}
 use Rattle.gh_marked.specs.Known.{Known}
 use Rattle.gh_marked.proofs.OneStep.Placing.{Counts, Keeps, kind, Makes}
 use Rattle.gh_marked.proofs.OneStep.Sweepers.{rests_counted, rests_on}
@@ -67,7 +67,7 @@ pub record Stepped (z : Arena) (a : ℕ) (s : State) (m : Processor) (found : �
   pub seat : a < seats_of z.layout
   pub busy : is_busy_at m.task ≡ true
   pub sound : IsSound m
-  pub fine : Fine z a (view s.heap) m pending
+  pub fine : ProcessorFacts z a (view s.heap) m pending
   pub pends : s.pend a ≡ uncounted m.task
   pub calm : s.told ≡ None → MarksNothing m
   pub none : sweep_in m ≡ None

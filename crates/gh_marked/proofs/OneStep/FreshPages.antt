@@ -41,30 +41,30 @@ use Rattle.gh_alloc.specs.FindFacts as finding
 use Rattle.gh_alloc.specs.Search.{Seeking}
 use Rattle.gh_alloc.specs.Search as search
 use Rattle.gh_alloc.specs.SearchFacts as searching
-use Rattle.gh_mutator.specs.declared.give.GiveStage.{GiveStage}
-use Rattle.gh_mutator.specs.declared.give.GiveStage.TheVariants as give_stage
-use Rattle.gh_mutator.specs.declared.leave.LeaveStage.{LeaveStage}
-use Rattle.gh_mutator.specs.declared.leave.LeaveStage.TheVariants as leave_stage
+use Rattle.gh_poll.specs.declared.give.GiveStage.{GiveStage}
+use Rattle.gh_poll.specs.declared.give.GiveStage.TheVariants as give_stage
+use Rattle.gh_poll.specs.declared.leave.LeaveStage.{LeaveStage}
+use Rattle.gh_poll.specs.declared.leave.LeaveStage.TheVariants as leave_stage
 use Rattle.gh_mutator.specs.declared.new.NewStage.TheVariants as new_stage
 use Rattle.gh_mutator.specs.declared.new.Wanted.{Wanted}
-use Rattle.gh_mutator.specs.declared.poll.PollStage.{PollStage}
-use Rattle.gh_mutator.specs.declared.poll.PollStage.TheVariants as poll_stage
+use Rattle.gh_poll.specs.declared.poll.PollStage.{PollStage}
+use Rattle.gh_poll.specs.declared.poll.PollStage.TheVariants as poll_stage
 use Rattle.gh_mutator.specs.declared.task.Task.TheVariants as task
-use Rattle.gh_mutator.specs.declared.wait.WaitStage.{WaitStage}
-use Rattle.gh_mutator.specs.declared.wait.WaitStage.TheVariants as wait_stage
+use Rattle.gh_poll.specs.declared.wait.WaitStage.{WaitStage}
+use Rattle.gh_poll.specs.declared.wait.WaitStage.TheVariants as wait_stage
 use Rattle.gh_mutator_heap.specs.Facts.{FactsAt, is_locked_at, KnowsAt, KnowsNew, locked_new, NewFacts, rest, Searches}
-use Rattle.gh_mutator.specs.Give as give
-use Rattle.gh_mutator.specs.Leave as leave
+use Rattle.gh_poll.specs.Give as give
+use Rattle.gh_poll.specs.Leave as leave
 use Rattle.gh_mutator.specs.Listing.{asks, asks_at}
 use Rattle.gh_mutator.specs.New as new
 use Rattle.gh_mutator.specs.New.{sought_for}
-use Rattle.gh_mutator.specs.Poll.{Polling}
-use Rattle.gh_mutator.specs.Poll as poll
+use Rattle.gh_poll.specs.Poll.{Polling}
+use Rattle.gh_poll.specs.Poll as poll
 use Rattle.gh_mutator_heap.specs.PollHeap.{give_locked_at, GiveStageFacts, leave_locked_at, LeaveStageFacts, poll_locked_at, PollStageFacts, WaitStageFacts, waits_locked_at}
 use Rattle.gh_mutator.specs.Sweeping.{sweep_at, sweep_in, sweep_new}
-use Rattle.gh_mutator.specs.Wait.{Waiting, waiting}
-use Rattle.gh_mutator.specs.Wait as wait
-use Rattle.gh_marked.specs.HoldVocabulary.{Answer, Arena, Fine, Heap, NewStage, Processor, Task, View, view, Words}
+use Rattle.gh_poll.specs.Wait.{Waiting, waiting}
+use Rattle.gh_poll.specs.Wait as wait
+use Rattle.gh_marked.specs.HoldVocabulary.{Answer, Arena, ProcessorFacts, Heap, NewStage, Processor, Task, View, view, Words}
 use Rattle.gh_marked.specs.Spans.{IsForTypes, IsPageFor}
 
 module _ (read : PackedWordsAreReadBack) (z : Arena) (a : ℕ) (h : Heap) (q : ℕ) (free : page_of (h.words (cell.Page q)) ≡ Free) where
@@ -213,5 +213,5 @@ module _ (read : PackedWordsAreReadBack) (z : Arena) (a : ℕ) (h : Heap) (q : �
     at_task _ locked none k f = absurd (cc)
 
     -- with the lock
-    pub fresh_page : Fine z a v m pending → sweep_in m ≡ None → h.locked a ≡ true → For (asks m)
+    pub fresh_page : ProcessorFacts z a v m pending → sweep_in m ≡ None → h.locked a ≡ true → For (asks m)
     fresh_page fine none locked = at_task m.task (sym fine.right.locked ∙ locked) none fine.knows fine.task

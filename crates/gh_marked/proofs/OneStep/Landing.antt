@@ -12,7 +12,7 @@ use Rattle.gh_sweep.specs.Listing.{Sweeping}
 use Rattle.gh_sweep.specs.Running.{BeginsSweep, SweepsOn}
 use Rattle.gh_marked.specs.HoldVocabulary.{SeatSweepsNothing, State, StateGood}
 use Rattle.gh_marked.specs.Sweepers.{IsInSweep, sweep_of}
-use Rattle.gh_marked.proofs.Vocabulary.{Answer, Arena, arena, Ask, asks, begins, cell_of, DoesPoints, effect, Entry, Fine, has_left_at, HasState, Heap, is_busy_at, IsInLimits, Legal, MarksNothing, may_of, moved, Op, Processor, processor_at, processor_kind, Row, Shape, ShapesAreGood, started, Steps, takes, those, uncounted, view, Words}
+use Rattle.gh_marked.proofs.Vocabulary.{Answer, Arena, arena, Ask, asks, begins, cell_of, DoesPoints, effect, Entry, ProcessorFacts, has_left_at, HasState, Heap, is_busy_at, IsInLimits, Legal, MarksNothing, may_of, moved, Op, Processor, processor_at, processor_kind, Row, Shape, ShapesAreGood, started, Steps, takes, those, uncounted, view, Words}
 use Rattle.gh_marked.proofs.OneStep.Counting as counting
 use Rattle.gh_marked.specs.Known.{Known}
 use Rattle.gh_marked.proofs.OneStep.OwnStep as step
@@ -92,7 +92,7 @@ module _ (given : Given) (good : ShapesAreGood given.shapes) (limits : IsInLimit
         let none = idle_sweeps_none m.task (step.idle given good limits known e es legal lt has o x) in
         subst (IsInSweep a s) (sym (known.processors_sweep.begun given.shapes given.layout m o none)) (subst (IsInSweep a s) none in_sweep))
 
-    pub fine_now : Fine z a (view h) now pending
+    pub fine_now : ProcessorFacts z a (view h) now pending
     fine_now = step.fine_now given good limits known e es legal lt has
 
     pub busy : is_busy_at now.task ≡ true

@@ -8,7 +8,7 @@ use Rattle.gh_mutator.specs.Deeds.{meaning, pointed}
 use Rattle.gh_mutator_heap.specs.Facts.{answered_at, Does, FactsAt}
 use Rattle.gh_state.specs.Moves as state
 use Rattle.gh_marked.specs.HoldVocabulary.{answers_of, given_of, opening_words, State}
-use Rattle.gh_marked.proofs.Vocabulary.{Act, acted, Actor, actors, acts, Answer, answered, answered_by, AnsweredDeed, Arena, arena, Ask, asks, begins, by, cell_of, deeds, DeedsFit, effect, END, ended_in, ends, Entry, Ever, ever, Fine, given_at, gives, Good, has_left_at, has_point, HasState, Heap, InRange, is_busy_at, is_last_task, IsAsItShould, IsBounded, IsHeapOf, IsInLimits, IsOf, IsSound, Kind, KnowsAtAnyTime, Layout, left as left_by, Legal, may_leave, may_of, Op, op_at, option_to_list, point_of, Processor, processor_at, processor_kind, ShapesAreGood, started, state_of, takes, Task, TellsScan, those, view, Words, words, ◌%◌}
+use Rattle.gh_marked.proofs.Vocabulary.{Act, acted, Actor, actors, acts, Answer, answered, answered_by, AnsweredDeed, Arena, arena, Ask, asks, begins, by, cell_of, deeds, DeedsFit, effect, END, ended_in, ends, Entry, Ever, ever, ProcessorFacts, given_at, gives, Good, has_left_at, has_point, HasState, Heap, InRange, is_busy_at, is_last_task, IsAsItShould, IsBounded, IsHeapOf, IsInLimits, IsOf, IsSound, Kind, KnowsAtAnyTime, Layout, left as left_by, Legal, may_leave, may_of, Op, op_at, option_to_list, point_of, Processor, processor_at, processor_kind, ShapesAreGood, started, state_of, takes, Task, TellsScan, those, view, Words, words, ◌%◌}
 use Rattle.gh_lists.specs.Beginning.{or-true, may_parts}
 use Rattle.gh_marked.specs.Endings.{acted_stays, acts_end, end_ends, ended_by, is_its_end, last_before, last_begun}
 use Rattle.gh_marked.proofs.OneStep.Globals.{no_global}
@@ -72,7 +72,7 @@ module _ (given : Given) (good : ShapesAreGood given.shapes) (limits : IsInLimit
     abbrev pub sound_now : IsSound now
     sound_now = step.sound_now given good limits known e es legal lt has
 
-    abbrev pub fine_now : Fine z a (view h) now is.pending
+    abbrev pub fine_now : ProcessorFacts z a (view h) now is.pending
     fine_now = step.fine_now given good limits known e es legal lt has
 
     abbrev pub busy : is_busy_at now.task ≡ true

@@ -3,7 +3,7 @@ use Rattle.std.proofs.Common.{◌≡◌, ℕ, ◌<◌, inr, Bool, true, false, s
 use Rattle.gh_mutator_heap.specs.Facts.{MayBegin}
 use Rattle.gh_lists.specs.Handshake.{asks as asks_by}
 use Rattle.gh_mutator.specs.Sweeping.{sweep_in}
-use Rattle.gh_marked.proofs.Vocabulary.{Actor, actors, Arena, arena, Ask, asks, by, cell_of, DoesPoints, Entry, Fine, Good, HasState, Heap, is_busy_at, IsAsItShould, IsHeapOf, IsInLimits, IsSound, Kind, Legal, made_by, may_of, Op, Processor, processor_at, processor_kind, ShapesAreGood, started, state_of, Steps, those, view, Words, words}
+use Rattle.gh_marked.proofs.Vocabulary.{Actor, actors, Arena, arena, Ask, asks, by, cell_of, DoesPoints, Entry, ProcessorFacts, Good, HasState, Heap, is_busy_at, IsAsItShould, IsHeapOf, IsInLimits, IsSound, Kind, Legal, made_by, may_of, Op, Processor, processor_at, processor_kind, ShapesAreGood, started, state_of, Steps, those, view, Words, words}
 use Rattle.gh_lists.specs.Beginning.{may_parts}
 use Rattle.gh_marked.specs.MayBegin.{may-begin}
 use Rattle.gh_marked.specs.Known.{Known}
@@ -71,9 +71,9 @@ module _ (given : Given) (good : ShapesAreGood given.shapes) (limits : IsInLimit
     pub rests : (o : Op) → e.begun ≡ Some o → is.pending ≡ None
     rests o x = known.runs.rests z a (view h) m is.pending (idle o x) is.fine
 
-    pub fine_now : Fine z a (view h) now is.pending
-    fine_now = begins_with (λ p. Fine z a (view h) p is.pending) is.fine (λ o x. subst (Fine z a (view h) (k.begins m o)) (sym (rests o x))
-        (known.runs.begins z a (view h) m o good gh (subst (Fine z a (view h) m) (rests o x) is.fine) (idle o x) (λ going. may_begin o x)))
+    pub fine_now : ProcessorFacts z a (view h) now is.pending
+    fine_now = begins_with (λ p. ProcessorFacts z a (view h) p is.pending) is.fine (λ o x. subst (ProcessorFacts z a (view h) (k.begins m o)) (sym (rests o x))
+        (known.runs.begins z a (view h) m o good gh (subst (ProcessorFacts z a (view h) m) (rests o x) is.fine) (idle o x) (λ going. may_begin o x)))
 
     -- The step.
 

@@ -10,16 +10,16 @@ use Rattle.gh_bitmap.specs.SetPointers as bits
 use Rattle.gh_mutator.specs.declared.task.Task.TheVariants as task
 use Rattle.gh_mutator_heap.specs.Facts.{CountsAlone}
 use Rattle.gh_mutator.specs.Global as global
-use Rattle.gh_mutator.specs.Leave as leave
+use Rattle.gh_poll.specs.Leave as leave
 use Rattle.gh_mutator.specs.Listing.{asks_at}
 use Rattle.gh_mutator.specs.Load as load
-use Rattle.gh_mutator.specs.Local.{marking_at}
+use Rattle.gh_poll.specs.Local.{marking_at}
 use Rattle.gh_mutator.specs.New as new
-use Rattle.gh_mutator.specs.Poll as poll
+use Rattle.gh_poll.specs.Poll as poll
 use Rattle.gh_mutator.specs.Register as register
 use Rattle.gh_mutator.specs.Store as store
 use Rattle.gh_mutator.specs.Sweeping.{sweep_at}
-use Rattle.gh_mutator.specs.Wait as wait
+use Rattle.gh_poll.specs.Wait as wait
 use Rattle.gh_sweep.specs.Listing.{Sweeping}
 use Rattle.gh_marked.proofs.Vocabulary.{acted, acting, acts_at, Add, after_assist, after_gc, after_leave, after_poll, Assist, Assisting, assisting, assists, cache_span, CountsObject, Ever, follows, Found, Global, GlobalStage, Heap, is_busy_at, is_some, Name, nat_lt, NewStage, Op, Place, PlaceStage, Placing, Processor, Register, register_of, Search, Shape, Source, takes_at, Task, Then, uncounted, Wait, Want, Wanted}
 

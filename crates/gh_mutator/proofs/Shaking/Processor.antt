@@ -6,16 +6,16 @@ use Rattle.gh_alloc.specs.Place as place
 use Rattle.gh_assist.specs.Listing as assist
 use Rattle.gh_mutator.specs.declared.task.Task.TheVariants as task
 use Rattle.gh_mutator.specs.Global as global
-use Rattle.gh_mutator.specs.Handshake.{HasPlaces, knower, LeavesInHandshake, PollsInHandshake, PollsOn, SoundWait, wait_stage_of, waiter_of, WaitsInHandshake}
-use Rattle.gh_mutator.specs.Leave as leave
+use Rattle.gh_poll.specs.Handshake.{HasPlaces, knower, LeavesInHandshake, PollsInHandshake, PollsOn, SoundWait, wait_stage_of, waiter_of, WaitsInHandshake}
+use Rattle.gh_poll.specs.Leave as leave
 use Rattle.gh_mutator.specs.Load as load
-use Rattle.gh_mutator.specs.Poll as poll
+use Rattle.gh_poll.specs.Poll as poll
 use Rattle.gh_mutator.specs.Processor.{keeping}
 use Rattle.gh_mutator.specs.ProcessorPlaces.{LeavesOn, party_of, SoundPlace, stage_of}
 use Rattle.gh_mutator.specs.Register as register
 use Rattle.gh_mutator.specs.Store as store
 use Rattle.gh_mutator.specs.Vocabulary.{Polling}
-use Rattle.gh_mutator.specs.Wait as wait
+use Rattle.gh_poll.specs.Wait as wait
 use Rattle.gh_mutator.proofs.Vocabulary.{after_assist, Assist, Assisting, Name, Acts, after_gc, after_leave, after_place, after_poll, after_search, after_wait, applied, asks_at, Awake, begins, cache_span, cache_with, CachedSpan, Ends, follows, Found, GoesOn, has_left_at, is_busy_at, IsQuietInHandshake, Large, Leaving, length-set, makes, MarkingIsQuiet, NewStage, Op, party_at, Place, PlaceBegins, Placing, Processor, ProcessorInHandshake, ProcessorIsQuiet, register_of, Search, Seeking, Shape, Small, Sought, SoundAt, span_index, stage_at, StageGoes, Step, takes, takes_at, Task, Then, Value, Wait, Waiting, WaitState, Wanted, Want}
 use Rattle.gh_mutator.proofs.Shaking.Acknowledging.{acks}
 

@@ -7,12 +7,13 @@ use Rattle.gh_mutator.specs.declared.store.Store.{Store}
 use Rattle.gh_mutator.specs.Global as global
 use Rattle.gh_mutator.specs.Load as load
 use Rattle.gh_mutator.specs.Store as store
+use Rattle.gh_poll.specs.Quiet.{WhatPollsRunIsQuiet}
 use Rattle.gh_mutator.proofs.Vocabulary.{Global, GlobalStage, IsQuietInHandshake, Layout, LoadStage, MarkingIsQuiet, ProcessorIsQuiet, StoreStage, Value}
 
 loads : (l : Layout) (x : Load) (stage : LoadStage) → IsQuietInHandshake (load.asks_at l x stage)
 loads l x stage = grind arith
 
-module _ (q : MarkingIsQuiet) (a : AllocationIsQuiet) (b : AssistsAreQuiet) where
+module _ (p : WhatPollsRunIsQuiet) (q : MarkingIsQuiet) (a : AllocationIsQuiet) (b : AssistsAreQuiet) where
   stores : (l : Layout) (held : Value) (x : Store) (stage : StoreStage) → IsQuietInHandshake (store.asks_at l held x stage)
   stores l held x stage = grind arith
 
@@ -20,4 +21,4 @@ module _ (q : MarkingIsQuiet) (a : AllocationIsQuiet) (b : AssistsAreQuiet) wher
   globals l held x stage = grind arith
 
   pub is_quiet : ProcessorIsQuiet
-  is_quiet = record { gives_back = grind arith; marks_a_stack = grind arith; loads = grind arith; stores = grind arith; globals = grind arith; registers = grind arith; searches = grind arith; makes = grind arith; assists = grind arith }
+  is_quiet = record { gives_back = p.gives_back; marks_a_stack = p.marks_a_stack; loads = grind arith; stores = grind arith; globals = grind arith; registers = grind arith; searches = grind arith; makes = grind arith; assists = grind arith }

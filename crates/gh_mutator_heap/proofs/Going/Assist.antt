@@ -9,7 +9,7 @@ use Rattle.gh_cycle.specs.Beside.{FillsNone}
 use Rattle.gh_heap.specs.Rights.{Shared as Heap}
 use Rattle.gh_marks.specs.Colours.{Shared as Marking}
 use Rattle.gh_mutator_heap.specs.Beside.{Together}
-use Rattle.gh_mutator.specs.MarkFacts.{KnowsStacks, stacks_last}
+use Rattle.gh_poll.specs.MarkFacts.{KnowsStacks, stacks_last}
 use Rattle.gh_mutator.specs.MarkVocabulary.{Cycle, Keeps, Steps}
 use Rattle.gh_mutator.specs.New.{after_assist, assists}
 use Rattle.gh_mutator.specs.Processor.{at_task}

@@ -9,13 +9,13 @@ use Rattle.gh_phase.specs.declared.view.RunPhase.{RunPhase}
 use Rattle.gh_phase.specs.declared.view.RunPhase.TheVariants as run
 use Rattle.gh_mutator.specs.declared.global.GlobalStage.TheVariants as global_stage
 use Rattle.gh_mutator.specs.declared.task.Task.TheVariants as task
-use Rattle.gh_mutator.specs.Barrier.{has_entries, written}
+use Rattle.gh_poll.specs.Barrier.{has_entries, written}
 use Rattle.gh_mutator_heap.specs.Beside.{BeginsBesideMarking, Together}
 use Rattle.gh_mutator_heap.specs.Facts.{MayBegin}
 use Rattle.gh_mutator.specs.Global as global
 use Rattle.gh_mutator.specs.Listing.{begins}
-use Rattle.gh_mutator.specs.Local.{is_mark}
-use Rattle.gh_mutator.specs.MarkFacts.{IsBetween}
+use Rattle.gh_poll.specs.Local.{is_mark}
+use Rattle.gh_poll.specs.MarkFacts.{IsBetween}
 use Rattle.gh_mutator.specs.MarkVocabulary.{Cycle}
 use Rattle.gh_mutator.specs.Processor.{register_of}
 use Rattle.gh_mutator.specs.ProcessorMarks.{GlobalFacts, MarkFacts, StoreFacts, TaskFacts}

@@ -12,7 +12,7 @@ use Rattle.gh_marks.specs.Colours.{Shared as Marking}
 use Rattle.gh_mutator.specs.declared.task.Task.TheVariants as task
 use Rattle.gh_mutator_heap.specs.Beside.{StepsOn, Together}
 use Rattle.gh_mutator.specs.Listing.{asks}
-use Rattle.gh_mutator.specs.MarkFacts.{holding_only, KnowsStacks}
+use Rattle.gh_poll.specs.MarkFacts.{holding_only, KnowsStacks}
 use Rattle.gh_mutator.specs.MarkVocabulary.{Cycle}
 use Rattle.gh_mutator.specs.Processor.{at_task}
 use Rattle.gh_mutator.specs.Vocabulary.{Answer, IsOf}

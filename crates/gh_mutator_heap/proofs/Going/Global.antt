@@ -22,13 +22,13 @@ use Rattle.gh_marks.specs.Moves.{BehindBarrier}
 use Rattle.gh_model.specs.Ever.{sets_global}
 use Rattle.gh_mutator.specs.declared.global.GlobalStage.TheVariants as stage
 use Rattle.gh_mutator.specs.declared.task.Task.TheVariants as task
-use Rattle.gh_mutator.specs.Barrier.{held_then}
+use Rattle.gh_poll.specs.Barrier.{held_then}
 use Rattle.gh_mutator_heap.specs.Beside.{StepsOn, Together}
 use Rattle.gh_mutator.specs.Deeds.{acted}
 use Rattle.gh_mutator.specs.Fields.{value_of, value_told}
 use Rattle.gh_mutator.specs.Global.{after_write, at_stage, naming, step}
 use Rattle.gh_mutator.specs.Listing.{acting, applied, follows}
-use Rattle.gh_mutator.specs.MarkFacts.{holding_only, IsBetween, stacks_last}
+use Rattle.gh_poll.specs.MarkFacts.{holding_only, IsBetween, stacks_last}
 use Rattle.gh_mutator.specs.MarkVocabulary.{Cycle, Keeps, nothing}
 use Rattle.gh_mutator.specs.Processor.{at_task, keeping, register_of}
 use Rattle.gh_mutator.specs.ProcessorMarks.{MarkFacts, TaskFacts}

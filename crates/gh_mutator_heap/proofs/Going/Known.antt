@@ -27,7 +27,7 @@ use Rattle.gh_stack.specs.Facts.{AreRegisters, named}
 use Rattle.gh_mutator_heap.specs.Beside.{KnowsMarking, StepsOn, Together}
 use Rattle.gh_mutator.specs.Deeds.{acted}
 use Rattle.gh_mutator.specs.Listing.{acts, asks, takes}
-use Rattle.gh_mutator.specs.MarkFacts.{KnowsStacks}
+use Rattle.gh_poll.specs.MarkFacts.{KnowsStacks}
 use Rattle.gh_mutator.specs.MarkVocabulary.{Cycle, Hands, InHand, Keeps}
 use Rattle.gh_mutator_heap.specs.PollHeap.{KnowsAtAnyTime}
 use Rattle.gh_mutator.specs.Processor.{at_task}

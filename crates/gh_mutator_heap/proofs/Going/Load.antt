@@ -17,7 +17,7 @@ use Rattle.gh_mutator_heap.specs.Facts.{Loads}
 use Rattle.gh_mutator.specs.Fields.{has_field}
 use Rattle.gh_mutator.specs.Listing.{acting, asks, follows}
 use Rattle.gh_mutator.specs.Load.{at_stage, op_of, step}
-use Rattle.gh_mutator.specs.MarkFacts.{holding_only, IsBetween}
+use Rattle.gh_poll.specs.MarkFacts.{holding_only, IsBetween}
 use Rattle.gh_mutator.specs.MarkVocabulary.{Cycle, InHand}
 use Rattle.gh_mutator.specs.Processor.{at_task}
 use Rattle.gh_mutator.specs.ProcessorMarks.{TaskFacts}

@@ -24,7 +24,7 @@ use Rattle.gh_marks.specs.Moves as marks
 use Rattle.gh_model.specs.Ever.{field_count, next_name}
 use Rattle.gh_mutator_heap.specs.Beside.{StepsOn, Together}
 use Rattle.gh_mutator_heap.specs.Facts.{for_whom}
-use Rattle.gh_mutator.specs.MarkFacts.{holding_only, IsBetween, KnowsStacks, stacks_last}
+use Rattle.gh_poll.specs.MarkFacts.{holding_only, IsBetween, KnowsStacks, stacks_last}
 use Rattle.gh_mutator.specs.MarkVocabulary.{Cycle, Hands, Keeps}
 use Rattle.gh_mutator.specs.New.{made_object, made_task, makes, wants}
 use Rattle.gh_mutator.specs.Processor.{at_task}

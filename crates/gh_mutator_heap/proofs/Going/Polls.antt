@@ -17,22 +17,22 @@ use Rattle.gh_phase.specs.Listing as resume
 use Rattle.gh_stack.specs.Facts.{named}
 use Rattle.gh_wbuf.specs.RoomFinding as room
 use Rattle.gh_mutator.specs.declared.task.Task.TheVariants as task
-use Rattle.gh_mutator.specs.declared.wait.WaitStage.TheVariants as wait_stage
+use Rattle.gh_poll.specs.declared.wait.WaitStage.TheVariants as wait_stage
 use Rattle.gh_mutator_heap.specs.Beside.{StepsOn, Together}
-use Rattle.gh_mutator.specs.Collecting.{Resumed, RunPhase}
+use Rattle.gh_poll.specs.Collecting.{Resumed, RunPhase}
 use Rattle.gh_mutator.specs.Deeds.{acted}
-use Rattle.gh_mutator.specs.Give as give
-use Rattle.gh_mutator.specs.Leave as leave
+use Rattle.gh_poll.specs.Give as give
+use Rattle.gh_poll.specs.Leave as leave
 use Rattle.gh_mutator.specs.Listing.{acting, acts}
-use Rattle.gh_mutator.specs.MarkFacts.{PollStageFacts, WaitStageFacts}
+use Rattle.gh_poll.specs.MarkFacts.{PollStageFacts, WaitStageFacts}
 use Rattle.gh_mutator.specs.MarkVocabulary.{Cycle, Held, StackMarking}
 use Rattle.gh_mutator_heap.specs.Vocabulary.{PollStage, WaitStage, Processor, Wait, Wanted, Ever, view}
 use Rattle.gh_mutator.specs.New as new
-use Rattle.gh_mutator.specs.Poll as poll
+use Rattle.gh_poll.specs.Poll as poll
 use Rattle.gh_mutator.specs.Processor.{at_task}
 use Rattle.gh_mutator.specs.ProcessorMarks.{MarkFacts, only_polls, TaskFacts}
 use Rattle.gh_mutator.specs.Vocabulary.{Answer, cell_of, Leaving, Op, Polling, Shape, Value, Waiting}
-use Rattle.gh_mutator.specs.Wait as wait
+use Rattle.gh_poll.specs.Wait as wait
 use Rattle.gh_mutator_heap.proofs.Going.Known.{by_marking, found_there, goes_on, heap_then, Known, processor_then, StepAt, StepOf}
 use Rattle.gh_mutator_heap.proofs.Vocabulary.{after_gc, after_leave, after_poll, asks, takes, WaitState}
 

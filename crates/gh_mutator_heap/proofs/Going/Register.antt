@@ -4,7 +4,7 @@ use Rattle.gh_model.specs.declared.EverValue.TheVariants as ever
 use Rattle.gh_cycle.specs.Deeds.{from_nil, from_number, from_register, Sets}
 use Rattle.gh_mutator.specs.declared.register.Source.TheVariants as source
 use Rattle.gh_mutator.specs.declared.task.Task.TheVariants as task
-use Rattle.gh_mutator.specs.MarkFacts.{holding_only}
+use Rattle.gh_poll.specs.MarkFacts.{holding_only}
 use Rattle.gh_mutator.specs.Processor.{at_task}
 use Rattle.gh_mutator.specs.Register.{begins}
 use Rattle.gh_mutator_heap.specs.Vocabulary.{Register, Source}

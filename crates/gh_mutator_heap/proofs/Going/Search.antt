@@ -13,8 +13,8 @@ use Rattle.gh_phase.specs.declared.view.RunPhase.TheVariants.{Mark}
 use Rattle.gh_mutator_heap.specs.Beside.{StepsOn, Together}
 use Rattle.gh_mutator.specs.Deeds.{acted}
 use Rattle.gh_mutator.specs.Listing.{acting}
-use Rattle.gh_mutator.specs.Local.{is_mark}
-use Rattle.gh_mutator.specs.MarkFacts.{holding_only, KnowsStacks}
+use Rattle.gh_poll.specs.Local.{is_mark}
+use Rattle.gh_poll.specs.MarkFacts.{holding_only, KnowsStacks}
 use Rattle.gh_mutator.specs.MarkVocabulary.{Cycle, Hands}
 use Rattle.gh_mutator.specs.New.{after_search, refuses_behind_wait, searches}
 use Rattle.gh_mutator.specs.Processor.{at_task, cache_span}

@@ -25,13 +25,14 @@ use Rattle.gh_model.specs.Ever.{from_register, store_answer, stores_value, with_
 use Rattle.gh_phase.specs.declared.view.RunPhase.TheVariants.{Mark}
 use Rattle.gh_mutator.specs.declared.store.StoreStage.TheVariants as stage
 use Rattle.gh_mutator.specs.declared.task.Task.TheVariants as task
-use Rattle.gh_mutator.specs.Barrier.{held_then, written}
+use Rattle.gh_poll.specs.Barrier.{held_then, written}
 use Rattle.gh_mutator_heap.specs.Beside.{StepsOn, Together}
 use Rattle.gh_mutator.specs.Deeds.{acted}
 use Rattle.gh_mutator_heap.specs.Facts.{Stores}
-use Rattle.gh_mutator.specs.Fields.{has_field, is_number_value, is_pointer_by, kinds_differ, word_of_value}
+use Rattle.gh_poll.specs.Registers.{is_number_value}
+use Rattle.gh_mutator.specs.Fields.{has_field, is_pointer_by, kinds_differ, word_of_value}
 use Rattle.gh_mutator.specs.Listing.{acting, applied}
-use Rattle.gh_mutator.specs.MarkFacts.{holding_only, IsBetween, stacks_last}
+use Rattle.gh_poll.specs.MarkFacts.{holding_only, IsBetween, stacks_last}
 use Rattle.gh_mutator.specs.MarkVocabulary.{Cycle, Keeps, nothing}
 use Rattle.gh_mutator_heap.specs.PollHeap.{KnowsAtAnyTime}
 use Rattle.gh_mutator.specs.Processor.{at_task, keeping, register_of}

@@ -13,9 +13,9 @@ use Rattle.gh_marks.specs.Colours.{IsPointer, Shared as Marking}
 use Rattle.gh_mutator.specs.Deeds.{acted}
 use Rattle.gh_mutator_heap.specs.Facts.{answered_at, ShapesAreGood}
 use Rattle.gh_mutator.specs.Listing.{acting}
-use Rattle.gh_mutator.specs.MarkFacts.{holding_only, IsBetween, KnowsNumber, KnowsStacks}
+use Rattle.gh_poll.specs.MarkFacts.{holding_only, IsBetween, KnowsNumber, KnowsStacks}
 use Rattle.gh_mutator.specs.MarkVocabulary.{Cycle, Hands}
-use Rattle.gh_mutator.specs.Local.{with_value_if_any}
+use Rattle.gh_poll.specs.Local.{with_value_if_any}
 use Rattle.gh_mutator.specs.Step.{answered}
 use Rattle.gh_mutator.specs.Vocabulary.{Answer, Name, Op, Polling, Shape, Value}
 use Rattle.gh_mutator_heap.specs.Vocabulary.{Ever, ever_after, Fault, IsMade, points, Reach, size_for, view, Step}

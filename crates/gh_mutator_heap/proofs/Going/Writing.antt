@@ -16,13 +16,13 @@ use Rattle.gh_cycle.specs.Beside.{FillsNone, IsBeside}
 use Rattle.gh_heap.specs.Rights.{Good as HeapGood, Shared as Heap}
 use Rattle.gh_marks.specs.Colours.{Shared as Marking}
 use Rattle.gh_phase.specs.declared.view.RunPhase.TheVariants.{Mark}
-use Rattle.gh_mutator.specs.Barrier.{has_entries, pointer_of, written}
+use Rattle.gh_poll.specs.Barrier.{has_entries, pointer_of, written}
 use Rattle.gh_mutator_heap.specs.Beside.{StepsOn, Together}
 use Rattle.gh_mutator.specs.Deeds.{acted}
 use Rattle.gh_mutator_heap.specs.Facts.{ShapesAreGood}
 use Rattle.gh_mutator.specs.Fields.{is_pointer_by}
 use Rattle.gh_mutator.specs.Listing.{acts, asks}
-use Rattle.gh_mutator.specs.MarkFacts.{IsBetween}
+use Rattle.gh_poll.specs.MarkFacts.{IsBetween}
 use Rattle.gh_mutator.specs.MarkVocabulary.{Cycle, Good, Keeps, KnowsObjects, Layout, nothing, Steps}
 use Rattle.gh_mutator.specs.ProcessorMarks.{IsWriting, MarkFacts}
 use Rattle.gh_mutator.specs.Vocabulary.{Answer, cell_of, Name, Polling, Value}

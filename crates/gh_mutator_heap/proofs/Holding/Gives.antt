@@ -13,14 +13,14 @@ use Rattle.gh_heap.specs.Spans.{FitsClass, owned_by}
 use Rattle.gh_alloc.specs.Find.{given_head}
 use Rattle.gh_wbuf.specs.BufferGiving as buffer
 use Rattle.gh_wbuf.specs.declared.give_buffer.GiveStage.{GiveStage as BufferStage}
-use Rattle.gh_wbuf.specs.Sound.{FitsGiveStage}
-use Rattle.gh_mutator.specs.Giving.{FineAt, opening_fine}
-use Rattle.gh_mutator.specs.Stays.{lock_leads}
+use Rattle.gh_wbuf.specs.Sound.{SoundGiveStage}
+use Rattle.gh_poll.specs.Giving.{GivingFacts, opening_fine}
+use Rattle.gh_poll.specs.Stays.{lock_leads}
 use Rattle.gh_mutator_heap.proofs.Holding.Known.{HoldsSwept, Kept, Known, by_move, by_quiet, caches_kept, caches_last, holds_swept}
 use Rattle.gh_mutator_heap.proofs.Holding.Lists.{caches_from, listed_once, lists_it, none_listed}
 use Rattle.gh_alloc.specs.FindFacts.{IsCached}
-use Rattle.gh_mutator.specs.declared.give.GiveStage.TheVariants.{Lock, GiveSpan, Unlock, GiveBuffer, Ended}
-use Rattle.gh_mutator.specs.Give.{Giving, asks, asks_at, at_stage, begins, first_cached, giving_buffer, goes, goes_at, head_store, is_busy, none_cached, opening, span_class, stage_from}
+use Rattle.gh_poll.specs.declared.give.GiveStage.TheVariants.{Lock, GiveSpan, Unlock, GiveBuffer, Ended}
+use Rattle.gh_poll.specs.Give.{Giving, asks, asks_at, at_stage, begins, first_cached, giving_buffer, goes, goes_at, head_store, is_busy, none_cached, opening, span_class, stage_from}
 use Rattle.gh_mutator_heap.specs.PollHeap.{CachesAll, CachesFrom, GiveFacts, GiveStageFacts, GivesSpan, Has, give_held, give_held_at, give_locked, give_locked_at, lists, no_page}
 use Rattle.gh_mutator_heap.proofs.Holding.Vocabulary.{Arena, CachedSpan, GiveStage, Good, Held, IsHeld, Layout, Shared, SpanClass, SpanHead, SPAN_CLASSES, Steps, View, cell_of, pages_of, view}
 
@@ -74,7 +74,7 @@ module _ (z : Arena) (a : ℕ) (v : View) (l : Layout) (seat generation : ℕ) (
     locked : false ≡ give_locked_at stage
     same : (p : ℕ) → lists cache p ≡ give_held_at cache stage p
 
-  begun : IsHeld z.layout held → CachesFrom a v cache 0 → (stage : GiveStage) → FineAt from (begins l held stage) → Begun (begins l held stage)
+  begun : IsHeld z.layout held → CachesFrom a v cache 0 → (stage : GiveStage) → GivingFacts from (begins l held stage) → Begun (begins l held stage)
   begun is x stage f = grind arith
 
   pub gives_begin : l ≡ z.layout → seat ≡ a → generation ≡ v.generation → length cache ≡ SPAN_CLASSES → IsHeld z.layout held → CachesAll a v cache → Has a v false (lists cache) → Gives z a v from
@@ -203,7 +203,7 @@ module _ (z : Arena) (a : ℕ) (v w : View) (o : Others z a v w) (swept : HoldsS
   gives_last g f = grind (arith, stage_lasts)
 
 -- it is on a word that there is
-buffer_within : (z : Arena) (q : BufferStage) → FitsGiveStage z.layout q → InRange z.layout (cell_of (buffer.asks_at q))
+buffer_within : (z : Arena) (q : BufferStage) → SoundGiveStage z.layout q → InRange z.layout (cell_of (buffer.asks_at q))
 buffer_within z q f = grind arith
 
 gives_within_at : (z : Arena) (a : ℕ) (v : View) (g : Giving) (q : GiveStage) → Good z v → GiveStageFacts z a v g q → InRange z.layout (cell_of (asks_at g q))

@@ -16,7 +16,7 @@ use Rattle.gh_heap.specs.Spans.{is_own_class, number_of_class, owner_at, owner_i
 use Rattle.gh_cache.specs.Listing.{slot_at}
 use Rattle.gh_alloc.specs.Find.{span_at}
 use Rattle.gh_alloc.specs.FindFacts.{IsCached}
-use Rattle.gh_mutator.specs.Local.{register_at, register_in_stacks}
+use Rattle.gh_poll.specs.Local.{register_at, register_in_stacks}
 use Rattle.gh_mutator_heap.specs.PollHeap.{CachesAll, CachesFrom, Has, KeepsGhosts, KnowsSpans, KnowsAtAnyTime, lists}
 use Rattle.gh_mutator.specs.Vocabulary.{CachedSpan, MOST_GOROUTINES, Polling, SizeClass, slots_of, SpanClass, span_index}
 use Rattle.gh_mutator_heap.specs.Vocabulary.{Arena, Good, Means, page_of, Shared, slot_of, SPAN_CLASSES, SpanHead, View, view}

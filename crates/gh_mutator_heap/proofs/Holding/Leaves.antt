@@ -7,12 +7,12 @@ use Rattle.gh_base.specs.Cells.{InRange}
 use Rattle.gh_base.specs.Steps.{effect}
 use Rattle.gh_heap.specs.Moves.{KeepsObjects, Others, landing}
 use Rattle.gh_phase.specs.Shakes.{IsParked}
-use Rattle.gh_mutator.specs.declared.leave.LeaveStage.{LeaveStage}
-use Rattle.gh_mutator.specs.declared.leave.LeaveStage.TheVariants as leave_stage
-use Rattle.gh_mutator.specs.Give as give
-use Rattle.gh_mutator.specs.Handshake.{leaves_at}
-use Rattle.gh_mutator.specs.Leave.{asks_at, goes_at, is_busy, stage_of}
-use Rattle.gh_mutator.specs.Local.{leaving, with_nothing}
+use Rattle.gh_poll.specs.declared.leave.LeaveStage.{LeaveStage}
+use Rattle.gh_poll.specs.declared.leave.LeaveStage.TheVariants as leave_stage
+use Rattle.gh_poll.specs.Give as give
+use Rattle.gh_poll.specs.Handshake.{leaves_at}
+use Rattle.gh_poll.specs.Leave.{asks_at, goes_at, is_busy, stage_of}
+use Rattle.gh_poll.specs.Local.{leaving, with_nothing}
 use Rattle.gh_mutator_heap.specs.PollHeap.{Has, LeaveStageFacts, KnowsAtAnyTime, leave_held_at, leave_locked_at, no_page}
 use Rattle.gh_mutator_heap.specs.PollHeapLaws.{IsBetweenOperations, LeavesByRights, TakesLeave}
 use Rattle.gh_mutator_heap.proofs.Holding.Gives.{Gives, gives_begin, gives_last, gives_on, gives_within}

@@ -6,7 +6,7 @@ use Rattle.std.proofs.lemmas.List.{get_or-drop, length-drop}
 use Rattle.gh_base.specs.declared.pack.PageWord.TheVariants as page
 use Rattle.gh_base.specs.Reading.{read_replicate}
 use Rattle.gh_class.specs.declared.class.SizeClass.TheVariants as size
-use Rattle.gh_mutator.specs.Give.{none_cached, span_class}
+use Rattle.gh_poll.specs.Give.{none_cached, span_class}
 use Rattle.gh_mutator.specs.Vocabulary.{CachedSpan, span_index, SpanClass}
 use Rattle.gh_mutator_heap.specs.Vocabulary.{page_of, SPAN_CLASSES, SpanHead, View}
 use Rattle.gh_mutator_heap.proofs.Holding.Vocabulary.{CachesAll, CachesFrom, IsCached, lists}

@@ -9,13 +9,13 @@ use Rattle.gh_phase.specs.declared.view.RunPhase.TheVariants as run
 use Rattle.gh_phase.specs.Listing as resume
 use Rattle.gh_phase.specs.Stays.{phase_on}
 use Rattle.gh_wbuf.specs.RoomFinding as room
-use Rattle.gh_mutator.specs.declared.poll.PollStage.TheVariants.{LoadPhase, Giving, Resuming, Marking, FindRoom, Ended}
-use Rattle.gh_mutator.specs.Give.{none_cached}
-use Rattle.gh_mutator.specs.Give as give
-use Rattle.gh_mutator.specs.Handshake.{poll_stage_of}
-use Rattle.gh_mutator.specs.MarkStack as mark
-use Rattle.gh_mutator.specs.Poll.{after_mark, after_resume, after_room, asks, asks_at, at_stage, begins, by_phase, counted, due, giving, goes, goes_at, is_busy, marks_then, resumed, scanned, scans, stops_then}
-use Rattle.gh_mutator.specs.Due.{due_scans}
+use Rattle.gh_poll.specs.declared.poll.PollStage.TheVariants.{LoadPhase, Giving, Resuming, Marking, FindRoom, Ended}
+use Rattle.gh_poll.specs.Give.{none_cached}
+use Rattle.gh_poll.specs.Give as give
+use Rattle.gh_poll.specs.Handshake.{poll_stage_of}
+use Rattle.gh_poll.specs.MarkStack as mark
+use Rattle.gh_poll.specs.Poll.{after_mark, after_resume, after_room, asks, asks_at, at_stage, begins, by_phase, counted, due, giving, goes, goes_at, is_busy, marks_then, resumed, scanned, scans, stops_then}
+use Rattle.gh_poll.specs.Due.{due_scans}
 use Rattle.gh_mutator_heap.proofs.Holding.Gives.{Gives, gives_begin, gives_last, gives_on, gives_within}
 use Rattle.gh_mutator_heap.proofs.Holding.Known.{HoldsSwept, Kept, Known, by_quiet, holds_swept, knows_kept, knows_last, knows_to, stands_kept, stands_last, stands_to}
 use Rattle.gh_mutator_heap.proofs.Holding.Lists.{none_cached_all}

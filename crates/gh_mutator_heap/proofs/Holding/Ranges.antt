@@ -11,9 +11,9 @@ use Rattle.gh_wbuf.specs.declared.find_room.RoomStage.{RoomStage}
 use Rattle.gh_wbuf.specs.declared.find_room.RoomStage.TheVariants as room_stage
 use Rattle.gh_wbuf.specs.declared.try_buffer.Wish.TheVariants.{Room}
 use Rattle.gh_wbuf.specs.RoomFinding as room
-use Rattle.gh_wbuf.specs.Sound.{FitsRoomStage, IsTryOf}
+use Rattle.gh_wbuf.specs.Sound.{SoundRoomStage, IsTryOf}
 use Rattle.gh_wbuf.specs.Trying as try
-use Rattle.gh_wbuf.specs.TrySound.{FitsTry}
+use Rattle.gh_wbuf.specs.TrySound.{SoundTrying}
 use Rattle.gh_mutator_heap.specs.PollWithin.{FindsWithin, TriesWithin}
 
 -- It changes no word that a right guards.
@@ -35,11 +35,11 @@ module _ (l : Layout) where
   fresh seat index few below = record { layout_is = refl; fits = record { seat = few; stage = record { layout_is = refl; seat_is = refl; wish_is = refl; busy = refl } }; tries = record { seat = few; index = below; held = tt; stage = tt } }
 
 module _ (r : room.RoomFinding) (seat : r.seat < seats_of r.layout) where
-  module _ (t : try.Trying) (of : IsTryOf r.layout r.seat Room t) (fits : FitsTry t) where
+  module _ (t : try.Trying) (of : IsTryOf r.layout r.seat Room t) (fits : SoundTrying t) where
     tried_then : (found : ℕ) (out : Option (Option Held)) → try.gives t found ≡ out → FindsWithin r.layout (room.after_try (room.at_stage r (room_stage.Try (try.goes t found))) t.index out)
     tried_then found out e = record { layout_is = grind arith; fits = grind arith; tries = grind arith }
 
-  room_goes_at : (q : RoomStage) (found : ℕ) → FindsWithin r.layout r → FitsRoomStage r.layout r.seat q → TriesWithin q → FindsWithin r.layout (room.goes_at r q found)
+  room_goes_at : (q : RoomStage) (found : ℕ) → FindsWithin r.layout r → SoundRoomStage r.layout r.seat q → TriesWithin q → FindsWithin r.layout (room.goes_at r q found)
   room_goes_at q found now f t = grind (arith, fresh, tried_then)
 
 pub room_goes : (l : Layout) (r : room.RoomFinding) (found : ℕ) → FindsWithin l r → FindsWithin l (room.goes r found)

@@ -10,9 +10,9 @@ use Rattle.gh_heap.specs.Moves.{IsQuiet}
 use Rattle.gh_shade.specs.declared.shade.Shaded.{Shaded}
 use Rattle.gh_shade.specs.Listing as shade
 use Rattle.gh_wbuf.specs.RoomFinding as room
-use Rattle.gh_mutator.specs.declared.mark_stack.MarkStackStage.{MarkStackStage}
-use Rattle.gh_mutator.specs.declared.mark_stack.MarkStackStage.TheVariants.{Shading, FindRoom, Store, Ended}
-use Rattle.gh_mutator.specs.MarkStack as mark
+use Rattle.gh_poll.specs.declared.mark_stack.MarkStackStage.{MarkStackStage}
+use Rattle.gh_poll.specs.declared.mark_stack.MarkStackStage.TheVariants.{Shading, FindRoom, Store, Ended}
+use Rattle.gh_poll.specs.MarkStack as mark
 use Rattle.gh_mutator_heap.specs.PollWithin.{FindsWithin, ScansWithin, MarkStackStageWithin, StackShadesWithin}
 use Rattle.gh_mutator_heap.proofs.Holding.Ranges.{Given, room_gives, room_goes}
 

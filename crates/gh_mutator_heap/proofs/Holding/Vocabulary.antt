@@ -15,10 +15,10 @@ pub use Rattle.gh_mutator_heap.specs.PollHeapLaws.{IsBetweenOperations, LeavesBy
 pub use Rattle.gh_mutator_heap.specs.PollWithin.{FindsWithin, MarkStackStageWithin, ScansWithin, StackShadesWithin, TriesWithin}
 pub use Rattle.gh_mutator.specs.Vocabulary.{CachedSpan, Layout, Leaving, Polling, SizeClass, SpanClass, Waiting, cell_of}
 pub use Rattle.gh_mutator_heap.specs.Vocabulary.{Arena, Good, SPAN_CLASSES, Shared, SpanHead, Steps, View, pages_of, view}
-pub use Rattle.gh_mutator.specs.declared.give.GiveStage.{GiveStage}
-pub use Rattle.gh_mutator.specs.declared.leave.LeaveStage.{LeaveStage}
-pub use Rattle.gh_mutator.specs.declared.mark_stack.MarkStackStage.{MarkStackStage}
-pub use Rattle.gh_mutator.specs.declared.poll.PollStage.{PollStage}
+pub use Rattle.gh_poll.specs.declared.give.GiveStage.{GiveStage}
+pub use Rattle.gh_poll.specs.declared.leave.LeaveStage.{LeaveStage}
+pub use Rattle.gh_poll.specs.declared.mark_stack.MarkStackStage.{MarkStackStage}
+pub use Rattle.gh_poll.specs.declared.poll.PollStage.{PollStage}
 pub use Rattle.gh_phase.specs.Shakes.{IsParked}
 pub use Rattle.gh_phase.specs.Views.{run_phase}
 pub use Rattle.gh_phase.specs.declared.resume.ResumeStage.{ResumeStage}
@@ -26,12 +26,12 @@ pub use Rattle.gh_phase.specs.declared.resume.Resumed.{Resumed}
 pub use Rattle.gh_phase.specs.declared.view.RunPhase.{RunPhase}
 pub use Rattle.gh_phase.specs.declared.view.View.{View as PhaseView}
 pub use Rattle.gh_scan.specs.Listing.{reference_in}
-pub use Rattle.gh_shade.specs.Sound.{FitsShade, FitsStage, HasPlace, IsReference}
+pub use Rattle.gh_shade.specs.Sound.{SoundShading, SoundStage, HasPlace, IsReference}
 pub use Rattle.gh_shade.specs.declared.shade.ShadeStage.{ShadeStage}
 pub use Rattle.gh_shade.specs.declared.shade.Shaded.{Shaded}
 pub use Rattle.gh_stack.specs.declared.scan_stack.StackStage.{StackStage}
-pub use Rattle.gh_wbuf.specs.Sound.{FitsGiveStage, FitsRoomStage, IsTryOf}
-pub use Rattle.gh_wbuf.specs.TrySound.{FitsTry, FitsTryStage}
+pub use Rattle.gh_wbuf.specs.Sound.{SoundGiveStage, SoundRoomStage, IsTryOf}
+pub use Rattle.gh_wbuf.specs.TrySound.{SoundTrying, SoundTryStage}
 pub use Rattle.gh_wbuf.specs.declared.find_room.RoomStage.{RoomStage}
 pub use Rattle.gh_wbuf.specs.declared.give_buffer.GiveStage.{GiveStage as BufferStage}
 pub use Rattle.gh_wbuf.specs.declared.try_buffer.TryStage.{TryStage}

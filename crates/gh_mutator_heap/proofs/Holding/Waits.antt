@@ -2,13 +2,13 @@
 use Rattle.std.proofs.Common.{◌≡◌, ℕ, Bool, true, false, cond, ltb, Option, refl, arith}
 use Rattle.gh_base.specs.declared.cell.Ask.TheVariants.{Load, Or}
 use Rattle.gh_base.specs.declared.cell.Cell.TheVariants as cell
-use Rattle.gh_mutator.specs.declared.wait.WaitStage.{WaitStage}
-use Rattle.gh_mutator.specs.declared.wait.WaitStage.TheVariants as wait_stage
-use Rattle.gh_mutator.specs.Handshake.{waits_at}
-use Rattle.gh_mutator.specs.Poll as poll
+use Rattle.gh_poll.specs.declared.wait.WaitStage.{WaitStage}
+use Rattle.gh_poll.specs.declared.wait.WaitStage.TheVariants as wait_stage
+use Rattle.gh_poll.specs.Handshake.{waits_at}
+use Rattle.gh_poll.specs.Poll as poll
 use Rattle.gh_mutator_heap.specs.PollHeap.{Rests, WaitStageFacts, waits_held_at, waits_locked_at}
 use Rattle.gh_mutator_heap.specs.PollHeapLaws.{Polls, PollsByRights, Waits, WaitsByRights}
-use Rattle.gh_mutator.specs.Wait.{after_poll, asks_at, at_stage, goes_at, is_busy, polling}
+use Rattle.gh_poll.specs.Wait.{after_poll, asks_at, at_stage, goes_at, is_busy, polling}
 use Rattle.gh_mutator_heap.proofs.Holding.Known.{Kept, Known, by_quiet, holds_swept, knows_kept, knows_last, stands_kept, stands_last}
 use Rattle.gh_mutator_heap.proofs.Holding.Vocabulary.{Arena, Good, Has, InRange, IsBetweenOperations, IsParked, KeepsGhosts, KeepsObjects, Others, Polling, Shared, Steps, View, Waiting, cell_of, effect, landing, lists, no_page, view}
 

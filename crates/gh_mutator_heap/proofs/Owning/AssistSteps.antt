@@ -4,7 +4,8 @@ use Rattle.std.specs.Option.{option_to_list}
 use Rattle.gh_assist.specs.Listing as assist
 use Rattle.gh_assist.specs.Within.{AssistWithin}
 use Rattle.gh_heap.specs.Moves.{Quiet}
-use Rattle.gh_mutator.specs.New.{after_assist, answer_assist, assists, with_payment}
+use Rattle.gh_poll.specs.Local.{with_payment}
+use Rattle.gh_mutator.specs.New.{after_assist, answer_assist, assists}
 use Rattle.gh_mutator.specs.Processor.{at_poll}
 use Rattle.gh_mutator.specs.Vocabulary.{Answer, Assisting, cell_of, Name, Polling}
 use Rattle.gh_mutator_heap.specs.Vocabulary.{Arena, Good, moved, Shared, view, Processor, Wanted}
@@ -12,9 +13,9 @@ use Rattle.gh_mutator_heap.proofs.Holding.Known.{holds_swept, knows_to, stands_t
 use Rattle.gh_mutator_heap.proofs.Owning.Known.{Known}
 use Rattle.gh_mutator_heap.proofs.Owning.Statements.{idle, StepAt}
 use Rattle.gh_mutator_heap.proofs.Owning.Steady.{Steady, steady_on}
-use Rattle.gh_mutator_heap.proofs.Owning.Vocabulary.{Act, at_task, Does, Fine, Rests}
+use Rattle.gh_mutator_heap.proofs.Owning.Vocabulary.{Act, at_task, Does, ProcessorFacts, Rests}
 
-module _ (k : Known) (w : Wanted) (n : Name) (x : Assisting) (z : Arena) (a : ℕ) (s : Shared) (m : Processor) (pending : Option Answer) (good : Good z (view s)) (fine : Fine z a (view s) (at_task m (assists w n x)) pending) where
+module _ (k : Known) (w : Wanted) (n : Name) (x : Assisting) (z : Arena) (a : ℕ) (s : Shared) (m : Processor) (pending : Option Answer) (good : Good z (view s)) (fine : ProcessorFacts z a (view s) (at_task m (assists w n x)) pending) where
   abbrev me : Processor
   me = at_task m (assists w n x)
 
@@ -52,7 +53,7 @@ module _ (k : Known) (w : Wanted) (n : Name) (x : Assisting) (z : Arena) (a : �
   done : (out : Option (Unit {0})) → assist.gives x found ≡ out → Does z a s then me pending found
   done None e = record {
     after = pending;
-    fine = subst (λ (o : Option (Unit {0})). Fine z a (view then) (after_assist me w n next o) pending) (sym e) (record {
+    fine = subst (λ (o : Option (Unit {0})). ProcessorFacts z a (view then) (after_assist me w n next o) pending) (sym e) (record {
       counts = steady.0;
       knows = steady.1;
       right = record { locked = fine.right.locked; holds = fine.right.holds; laying = fine.right.laying; freeing = fine.right.freeing };
@@ -65,7 +66,7 @@ module _ (k : Known) (w : Wanted) (n : Name) (x : Assisting) (z : Arena) (a : �
   }
   done (Some y) e = record {
     after = None;
-    fine = subst (λ (o : Option (Unit {0})). Fine z a (view then) (after_assist me w n next o) None) (sym e)
+    fine = subst (λ (o : Option (Unit {0})). ProcessorFacts z a (view then) (after_assist me w n next o) None) (sym e)
         (idle z a (view then) (at_poll m paid) (steady.0, rests_paid) (record { locked = fine.right.locked; holds = fine.right.holds; laying = fine.right.laying; freeing = fine.right.freeing }));
     ever = refl;
     answers = ap option_to_list fine.task.0 ∙ sym (ap (λ (o : Option (Unit {0})). [] ++ option_to_list (answer_assist n o)) e);

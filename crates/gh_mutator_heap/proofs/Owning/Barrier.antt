@@ -17,9 +17,9 @@ use Rattle.gh_barrier.specs.declared.write_pointer.WriteStage.{WriteStage}
 use Rattle.gh_barrier.specs.Listing.{Writing}
 use Rattle.gh_barrier.specs.Listing as write
 use Rattle.gh_barrier.specs.Sound.{FitsPointer}
-use Rattle.gh_mutator.specs.declared.poll.Local.{Local}
-use Rattle.gh_mutator.specs.Barrier.{held_then, pointer_of, WritesIt, written}
-use Rattle.gh_mutator.specs.Fields.{is_number_value}
+use Rattle.gh_poll.specs.declared.poll.Local.{Local}
+use Rattle.gh_poll.specs.Barrier.{held_then, pointer_of, WritesIt, written}
+use Rattle.gh_poll.specs.Registers.{is_number_value}
 use Rattle.gh_mutator.specs.Processor.{keeping}
 use Rattle.gh_mutator.specs.Vocabulary.{Layout, Value}
 use Rattle.gh_mutator_heap.specs.Vocabulary.{Arena, EverValue, Good, IsReached, Means, moved, Quiet, Shared, View, view, Processor}

@@ -1,6 +1,6 @@
 -- Where an operation begins, what is known of the processor is what its first stage says.
 use Rattle.std.proofs.Common.{◌≡◌, ℕ, ◌<◌, Bool, true, false, cond, None, refl, sym, ap, subst, arith}
-use Rattle.gh_mutator_heap.proofs.Owning.Vocabulary.{begins, Fine, GlobalFacts, LoadFacts, MayBegin, register_of, ShapesAreGood, StoreFacts}
+use Rattle.gh_mutator_heap.proofs.Owning.Vocabulary.{begins, ProcessorFacts, GlobalFacts, LoadFacts, MayBegin, register_of, ShapesAreGood, StoreFacts}
 use Rattle.gh_base.specs.declared.operation.Op.TheVariants as op
 use Rattle.gh_base.specs.declared.value.Value.TheVariants as value
 use Rattle.gh_model.specs.declared.EverValue.TheVariants as ever
@@ -9,12 +9,12 @@ use Rattle.gh_mutator_heap.specs.Vocabulary.{Good, Arena, EverValue, is_number, 
 use Rattle.gh_barrier.specs.declared.pointer_cell.PointerCell.TheVariants as pointer_cell
 use Rattle.gh_mutator.specs.declared.global.GlobalStage.TheVariants as global_stage
 use Rattle.gh_mutator.specs.declared.task.Task.TheVariants as task
-use Rattle.gh_mutator.specs.Barrier.{WritesIt, written}
-use Rattle.gh_mutator.specs.Fields.{is_number_value}
+use Rattle.gh_poll.specs.Barrier.{WritesIt, written}
+use Rattle.gh_poll.specs.Registers.{is_number_value}
 use Rattle.gh_mutator.specs.Global as global
 use Rattle.gh_mutator.specs.Listing.{is_busy_at}
 use Rattle.gh_mutator.specs.Load as load
-use Rattle.gh_mutator.specs.Local.{is_mark}
+use Rattle.gh_poll.specs.Local.{is_mark}
 use Rattle.gh_mutator.specs.New.{wanted_of}
 use Rattle.gh_mutator_heap.specs.Runs.{Begins}
 use Rattle.gh_mutator.specs.Serving.{has_left_at}
@@ -61,7 +61,7 @@ module _ (z : Arena) (a : ℕ) (v : View) where
     begin_global (ever.Ref n) (value.Int w) e is h = absurd h
 
 -- from rest
-begins_idle : Known → (z : Arena) (a : ℕ) (v : View) (m : Processor) (o : Op) → Good z v → ShapesAreGood z.shapes → Steady z a v m → HasCached a v m → MayBegin z a v o → Fine z a v (begins z.shapes m o) None
+begins_idle : Known → (z : Arena) (a : ℕ) (v : View) (m : Processor) (o : Op) → Good z v → ShapesAreGood z.shapes → Steady z a v m → HasCached a v m → MayBegin z a v o → ProcessorFacts z a v (begins z.shapes m o) None
 begins_idle k z a v m (op.New g d t) good sg st right may =
     let sound = k.wants.sound z.shapes g d t sg.fit may.2 (goroutine_few z a g may.0.of, may.1) in
     seek-begins k z a v m (wanted_of z.shapes g d t) false sound.sought (record { runs = may.0; register = may.1; type = may.2; few = may.3; is = refl }) st right
@@ -78,9 +78,9 @@ begins_idle k z a v m (op.End g) good sg st right may = record { counts = st.0; 
 begins_idle k z a v m op.Leave good sg st right may = let x = k.leaves.begins z a v m.poll (right, st.1) in record { counts = st.0; knows = x.1; right = x.0; task = refl }
 
 -- one that has left begins nothing
-module _ (k : Known) (z : Arena) (a : ℕ) (v : View) (m : Processor) (o : Op) (good : Good z v) (sg : ShapesAreGood z.shapes) (fine : Fine z a v m None) (may : has_left_at m.task ≡ false → MayBegin z a v o) where
+module _ (k : Known) (z : Arena) (a : ℕ) (v : View) (m : Processor) (o : Op) (good : Good z v) (sg : ShapesAreGood z.shapes) (fine : ProcessorFacts z a v m None) (may : has_left_at m.task ≡ false → MayBegin z a v o) where
   abbrev Begun : Bool → Type 0
-  Begun left = Fine z a v (cond left m (begins z.shapes m o)) None
+  Begun left = ProcessorFacts z a v (cond left m (begins z.shapes m o)) None
 
   begun_idle : m.task ≡ task.Idle → Begun false
   begun_idle e = grind (arith, begins_idle)

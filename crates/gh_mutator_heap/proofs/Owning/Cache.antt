@@ -8,7 +8,7 @@ use Rattle.gh_mutator.specs.Vocabulary.{CachedSpan, Large, Small, Sought, span_i
 use Rattle.gh_mutator_heap.specs.Vocabulary.{SPAN_CLASSES, View}
 use Rattle.gh_alloc.specs.FindFacts.{IsCached, cached_head, with_span}
 use Rattle.gh_base.specs.Reading.{set_twice}
-use Rattle.gh_mutator.specs.Give.{span_class}
+use Rattle.gh_poll.specs.Give.{span_class}
 use Rattle.gh_mutator_heap.proofs.Holding.Lists.{head_tells, index_of, listed_at}
 
 -- The place of a span class tells it.

@@ -10,7 +10,7 @@ use Rattle.gh_base.specs.declared.value.Answer.TheVariants as answer
 use Rattle.gh_model.specs.Ever.{with_end}
 use Rattle.gh_heap.specs.Moves.{Ends}
 use Rattle.gh_mutator.specs.declared.task.Task.TheVariants as task
-use Rattle.gh_mutator.specs.Local.{with_ended}
+use Rattle.gh_poll.specs.Local.{with_ended}
 use Rattle.gh_mutator_heap.proofs.Owning.Statements.{answered_once, at_its_task, has_room, StepAt}
 use Rattle.gh_mutator_heap.proofs.Owning.Steady.{knows_with, rights_with, sits_ended, steady_values}
 

@@ -1,7 +1,7 @@
 -- Own steps of the load and the store of a global.
 use Rattle.std.proofs.Common.{◌≡◌, ℕ, ◌*◌, ◌%◌, ◌<◌, ◌⊎◌, Bool, true, false, cond, [], ◌∷◌, ◌++◌, Option, None, inl, inr, refl, sym, ap, subst, ◌∙◌}
 use Rattle.std.specs.Option.{option_to_list}
-use Rattle.gh_mutator_heap.proofs.Owning.Vocabulary.{acted, acting, answered, answered_at, asks, Does, ends, Fine, Act, at_task, FullAt, lists, OwnStepAt, register_of, value_of, word_of_value}
+use Rattle.gh_mutator_heap.proofs.Owning.Vocabulary.{acted, acting, answered, answered_at, asks, Does, ends, ProcessorFacts, Act, at_task, FullAt, lists, OwnStepAt, register_of, value_of, word_of_value}
 use Rattle.gh_base.specs.declared.cell.Ask.TheVariants as ask
 use Rattle.gh_base.specs.declared.cell.Cell.TheVariants as cell
 use Rattle.gh_base.specs.declared.held.Held.{Held}
@@ -19,7 +19,7 @@ use Rattle.gh_mutator_heap.specs.Vocabulary.{EverValue, is_number, Steps, answer
 use Rattle.gh_mutator.specs.declared.global.GlobalStage.TheVariants as global_stage
 use Rattle.gh_mutator.specs.declared.task.Task.TheVariants as task
 use Rattle.gh_mutator.specs.Fields.{takes as takes_value}
-use Rattle.gh_mutator.specs.Barrier.{held_then, WritesIt}
+use Rattle.gh_poll.specs.Barrier.{held_then, WritesIt}
 use Rattle.gh_mutator.specs.Global.{after_write, at_stage, held_behind, naming, step}
 use Rattle.gh_mutator.specs.Global as global
 use Rattle.gh_mutator.specs.Processor.{keeping}
@@ -141,7 +141,7 @@ module _ (k : Known) (x : Global) (z : Arena) (a : ℕ) (s : Shared) (m : Proces
     writes_on : IsBefore w (word stage) → Comes Global task.Global z a s beside (keeping m (held_then w (word stage))) x.g x.r o None (after_write x (write.goes w (word stage)) (write.gives w (word stage)))
     writes_on b = subst (λ (y : Option (Unit {0})). Comes Global task.Global z a s beside (keeping m (held_then w (word stage))) x.g x.r o None (after_write x (write.goes w (word stage)) y)) (sym b.goes_on) (record {
       after = None;
-      fine = subst (λ (v : View). Fine z a v (at_task (keeping m (held_then w (word stage))) (task.Global (at_stage x (global_stage.Writing (write.goes w (word stage)))))) None) (sym (b.leaves.same z a s))
+      fine = subst (λ (v : View). ProcessorFacts z a v (at_task (keeping m (held_then w (word stage))) (task.Global (at_stage x (global_stage.Writing (write.goes w (word stage)))))) None) (sym (b.leaves.same z a s))
           (record { counts = steady-then.0; knows = steady-then.1; right = right; task = (runs, low, few, plain, goes_so k z.layout (pointer_cell.Global x.k) held w (word stage) it b.goes_on, refl) });
       ever = refl;
       answers = refl;

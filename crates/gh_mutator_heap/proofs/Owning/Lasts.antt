@@ -13,7 +13,7 @@ use Rattle.gh_mutator.specs.declared.load.LoadStage.TheVariants as load_stage
 use Rattle.gh_mutator.specs.declared.store.StoreStage.TheVariants as store_stage
 use Rattle.gh_mutator.specs.declared.task.Task.TheVariants as task
 use Rattle.gh_mutator_heap.specs.Facts.{freeing_new, held_new, KnowsNew, Lasts, laying_new, locked_new}
-use Rattle.gh_mutator.specs.Wait.{waiting}
+use Rattle.gh_poll.specs.Wait.{waiting}
 use Rattle.gh_mutator_heap.proofs.Holding.Known.{holds_swept, knows_last, stands_last}
 use Rattle.gh_mutator_heap.proofs.Owning.Known.{Known}
 use Rattle.gh_mutator_heap.proofs.Owning.Steady.{counts_with}

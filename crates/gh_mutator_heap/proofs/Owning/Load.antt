@@ -1,7 +1,7 @@
 -- Own steps of a load while others change the heap. At its point its register takes what the field held.
 use Rattle.std.proofs.Common.{◌≡◌, ℕ, ◌<◌, Bool, true, false, cond, ltb, [], ◌∷◌, Option, Some, None, refl, sym, ap, subst, arith}
 use Rattle.std.proofs.lemmas.Bool.{ltb-true, lt-ltb}
-use Rattle.gh_mutator_heap.proofs.Owning.Vocabulary.{asks, at_task, Does, ends, Fine, goes_on, has_field, IsPlain, Loads, OwnStepAt, Through, value_of}
+use Rattle.gh_mutator_heap.proofs.Owning.Vocabulary.{asks, at_task, Does, ends, ProcessorFacts, goes_on, has_field, IsPlain, Loads, OwnStepAt, Through, value_of}
 use Rattle.gh_mutator.specs.Vocabulary.{Answer, cell_of, Name}
 use Rattle.gh_mutator_heap.specs.Vocabulary.{answer_of, Arena, Ever, EverValue, Fault, Good, page_of, points, Quiet, Reach, Shared, size_for, slot_in, Steps, answer_of_value, view, Load, LoadStage, Processor, Step, Task}
 use Rattle.gh_base.specs.declared.value.Answer.TheVariants as answer
@@ -116,9 +116,9 @@ module _ (laws : Known) (z : Arena) (a : ℕ) (s : Shared) (m : Processor) (x : 
       after = does NilBase None s (fault_at fault.NilBase (plain_load (e.register x.g x.b) x.k plain));
     }
 
-  own : (q : LoadStage) (pending : Option Answer) → Fine z a (view s) (here q) pending → Own q pending
+  own : (q : LoadStage) (pending : Option Answer) → ProcessorFacts z a (view s) (here q) pending → Own q pending
   own q pending fine = by q pending fine (fine.counts, fine.knows) where
-    by : (q : LoadStage) (pending : Option Answer) → Fine z a (view s) (here q) pending → Steady z a (view s) m → Own q pending
+    by : (q : LoadStage) (pending : Option Answer) → ProcessorFacts z a (view s) (here q) pending → Steady z a (view s) m → Own q pending
     by Page None fine steady = page steady fine.right fine.task
     by Bits None fine steady = bits steady fine.right fine.task.0 fine.task.1
     by (Field p) None fine steady = field steady fine.right p fine.task.0 fine.task.1 fine.task.2
@@ -133,4 +133,4 @@ pub load_steps : Known → (x : Load) → OwnStepAt (task.Load x)
 load_steps laws x z a s m pending shapes is good fine = go (ap (λ (q : Task). at_task m q) (sym is)) where
   go : at_task m (task.Load x) ≡ m → Steps z a s (asks m) (λ t. Does z a s t m pending (s.words (cell_of (asks m))))
   go same = subst (λ (y : Processor). Steps z a s (asks y) (λ t. Does z a s t y pending (s.words (cell_of (asks y))))) same
-      (own laws z a s m x good x.stage pending (subst (λ (y : Processor). Fine z a (view s) y pending) (sym same) fine))
+      (own laws z a s m x good x.stage pending (subst (λ (y : Processor). ProcessorFacts z a (view s) y pending) (sym same) fine))

@@ -20,8 +20,8 @@ use Rattle.gh_alloc.specs.SearchFacts as search
 use Rattle.gh_mutator_heap.specs.Facts.{FoundNone}
 use Rattle.gh_mutator.specs.New.{sought_for}
 use Rattle.gh_mutator_heap.specs.PollHeapLaws.{Waits}
-use Rattle.gh_mutator.specs.Wait as wait
-use Rattle.gh_mutator.specs.Give.{span_class}
+use Rattle.gh_poll.specs.Wait as wait
+use Rattle.gh_poll.specs.Give.{span_class}
 use Rattle.gh_mutator_heap.proofs.Holding.Known.{holds_swept}
 use Rattle.gh_mutator_heap.proofs.Holding.Lists.{index_of, listed_at}
 use Rattle.gh_mutator_heap.proofs.Owning.Cache.{cached-same}

@@ -3,7 +3,7 @@ use Rattle.std.proofs.Common.{◌≡◌, ℕ, ◌+◌, ◌*◌, ◌/◌, ◌%◌
 use Rattle.std.specs.Option.{option_to_list}
 use Rattle.std.proofs.Math.ListN.{set}
 use Rattle.std.proofs.lemmas.Bool.{eqb-true, eqb-false, eq-eqb}
-use Rattle.gh_mutator_heap.proofs.Owning.Vocabulary.{Act, acted, acting, answered_at, at_task, Does, Fine, for_whom, KnowsCounts, lists, Makes, makes, op_of, own_span, PollRegistersFit, register_at, ShapesAreGood, Sits}
+use Rattle.gh_mutator_heap.proofs.Owning.Vocabulary.{Act, acted, acting, answered_at, at_task, Does, ProcessorFacts, for_whom, KnowsCounts, lists, Makes, makes, op_of, own_span, PollRegistersFit, register_at, ShapesAreGood, SeatFacts}
 use Rattle.gh_mutator.specs.Vocabulary.{Answer, cell_of, IsOf, Layout, Name, PlaceStage, Polling, REGISTERS, Value}
 use Rattle.gh_mutator_heap.specs.Vocabulary.{Arena, Ever, EverValue, Good, KeepsItsOwn, KeepsObjects, Means, moved, Shared, SpanHead, Steps, View, view, with_register, Idle, Processor, Wanted}
 use Rattle.gh_assist.specs.Within.{AssistWithin}
@@ -22,7 +22,7 @@ use Rattle.gh_alloc.specs.FindFacts as find
 use Rattle.gh_alloc.specs.Place as placer
 use Rattle.gh_alloc.specs.PlaceFacts as place
 use Rattle.gh_mutator_heap.specs.Facts.{NamedFrom}
-use Rattle.gh_mutator.specs.Local.{marking_at, with_register_value}
+use Rattle.gh_poll.specs.Local.{marking_at, with_register_value}
 use Rattle.gh_mutator.specs.New.{answer_made, assisting, assists, is_made, made_object, made_task, wants}
 use Rattle.gh_mutator_heap.proofs.Holding.Known.{cached_kept, holds_swept, HoldsSwept}
 use Rattle.gh_mutator_heap.proofs.Holding.Lists.{lists_it}
@@ -83,7 +83,7 @@ module _ (z : Arena) (a : ℕ) (v : View) (m : Processor) (x : Wanted) (p : plac
 means-then : (z : Arena) (v : View) (g t at : ℕ) (x : EverValue) (y : Value) → Means v.place v.ever.made x y → Means (placed_at v.place (next_name v.ever g) at) (with_object z.shapes v.ever g t).made x y
 means-then z v g t at x y h = grind arith
 
-made-registers : (z : Arena) (a : ℕ) (v w : View) (p : Polling) (g d t at : ℕ) → Sits z a p → IsOf z a g → d < REGISTERS →
+made-registers : (z : Arena) (a : ℕ) (v w : View) (p : Polling) (g d t at : ℕ) → SeatFacts z a p → IsOf z a g → d < REGISTERS →
     w.ever ≡ with_register (with_object z.shapes v.ever g t) g d (ever.Ref (next_name v.ever g)) → w.place ≡ placed_at v.place (next_name v.ever g) at → PollRegistersFit z a v p → PollRegistersFit z a w (with_register_value p g d (value.Ref (at + 1)))
 made-registers z a v w p g d t at sits of low e place fit h c hof lc =
     subst (λ (x : Ever). Means w.place x.made (x.register h c) (register_at (with_register_value p g d (value.Ref (at + 1))) h c)) (sym e)
@@ -136,7 +136,7 @@ module _ (k : Known) (z : Arena) (a : ℕ) (s : Shared) (m : Processor) (x : Wan
       place.Comes z a (view t) (for_whom x) (base z a now m x p) (placer.given_at next.stage) next → place.CountsAlone p.stage s t → Kind p p.stage found → Does z a s t making-at pending found
   done t sg st mk swept own changes comes alone (onward still gives same) = record {
     after = pending;
-    fine = subst (λ (b : Bool). Fine z a (view t) (then b (placer.given next)) pending) (sym still) (subst (λ (g : Option Bool). Fine z a (view t) (then false g) pending) (sym gives) (record {
+    fine = subst (λ (b : Bool). ProcessorFacts z a (view t) (then b (placer.given next)) pending) (sym still) (subst (λ (g : Option Bool). ProcessorFacts z a (view t) (then false g) pending) (sym gives) (record {
       counts = (steady_on z a now (view t) m o swept own held st).0;
       knows = (steady_on z a now (view t) m o swept own held st).1;
       right = come.0;
@@ -160,7 +160,7 @@ module _ (k : Known) (z : Arena) (a : ℕ) (s : Shared) (m : Processor) (x : Wan
     no-act q e = cc
   done t sg st mk swept own changes comes alone (making-it acts gives made unmade) = record {
     after = Some (answer.Ref p.name);
-    fine = subst (λ (b : Bool). Fine z a (view t) (then b (placer.given next)) (Some (answer.Ref p.name))) (sym acts) (subst (λ (g : Option Bool). Fine z a (view t) (then true g) (Some (answer.Ref p.name))) (sym gives) (record {
+    fine = subst (λ (b : Bool). ProcessorFacts z a (view t) (then b (placer.given next)) (Some (answer.Ref p.name))) (sym acts) (subst (λ (g : Option Bool). ProcessorFacts z a (view t) (then true g) (Some (answer.Ref p.name))) (sym gives) (record {
       counts = made-counts z a now (view t) m.made x.g x.d x.t mk.of o.0 st.0;
       knows = record {
         stands = record { sits = sits_register z a m.poll x.g x.d (value.Ref (p.at + 1)) st.1.stands.sits; registers = made-registers z a now (view t) m.poll x.g x.d x.t p.at st.1.stands.sits mk.of mk.register o.0 o.1 st.1.stands.registers };
@@ -215,10 +215,10 @@ module _ (k : Known) (z : Arena) (a : ℕ) (s : Shared) (m : Processor) (x : Wan
     steady b ended = steady_on z a now (view t) m o swept own (λ y e. held b ended y ∙ e) st
 
     -- it is answered, or the request for a cycle, or the assist, comes first
-    over-with : (b : Bool) → next.stage ≡ making.Ended b → (after : Option Answer) → Fine z a (view t) (then false (Some b)) after → option_to_list pending ≡ option_to_list after ++ option_to_list (answer_made (marking_at m.poll) p.name (Some b)) → Does z a s t making-at pending found
+    over-with : (b : Bool) → next.stage ≡ making.Ended b → (after : Option Answer) → ProcessorFacts z a (view t) (then false (Some b)) after → option_to_list pending ≡ option_to_list after ++ option_to_list (answer_made (marking_at m.poll) p.name (Some b)) → Does z a s t making-at pending found
     over-with b ended after fine answers = record {
       after = after;
-      fine = subst (λ (c : Bool). Fine z a (view t) (then c (placer.given next)) after) (sym still) (subst (λ (g : Option Bool). Fine z a (view t) (then false g) after) (sym (gives b ended)) fine);
+      fine = subst (λ (c : Bool). ProcessorFacts z a (view t) (then c (placer.given next)) after) (sym still) (subst (λ (g : Option Bool). ProcessorFacts z a (view t) (then false g) after) (sym (gives b ended)) fine);
       ever = o.0 ∙ sym (ap (λ (c : Bool). acted z.shapes s.ever (acting c (op_of x) false)) still);
       answers = ap (λ (c : Bool). option_to_list (answered_at z.shapes s.ever (acting c (op_of x) false)) ++ option_to_list pending) still ∙ answers ∙ sym (ap (λ (g : Option Bool). option_to_list after ++ option_to_list (answer_made (marking_at m.poll) p.name g)) (gives b ended));
       full = λ q acts full. absurd (no-act q acts);
@@ -228,7 +228,7 @@ module _ (k : Known) (z : Arena) (a : ℕ) (s : Shared) (m : Processor) (x : Wan
     over : (b : Bool) → next.stage ≡ making.Ended b → Does z a s t making-at pending found
     over true ended = over-with true ended pending (record { counts = (steady true ended).0; knows = (steady true ended).1; right = has true ended; task = named }) (nothing pending)
     over false ended = by (marking_at m.poll) refl where
-      sits : Sits z a m.poll
+      sits : SeatFacts z a m.poll
       sits = (steady false ended).1.stands.sits
 
       held_fits : IsHeld m.poll.layout m.poll.local.held
@@ -240,13 +240,13 @@ module _ (k : Known) (z : Arena) (a : ℕ) (s : Shared) (m : Processor) (x : Wan
       -- while marking is on it assists first
       by : (c : Bool) → marking_at m.poll ≡ c → Does z a s t making-at pending found
       by true e = over-with false ended pending
-          (subst (λ (c : Bool). Fine z a (view t) (at_task making-at (cond c (assists x p.name (assisting m.poll x)) Idle)) pending) (sym e) (record { counts = (steady false ended).0; knows = (steady false ended).1; right = has false ended; task = (named, within) }))
+          (subst (λ (c : Bool). ProcessorFacts z a (view t) (at_task making-at (cond c (assists x p.name (assisting m.poll x)) Idle)) pending) (sym e) (record { counts = (steady false ended).0; knows = (steady false ended).1; right = has false ended; task = (named, within) }))
           (nothing pending ∙ sym (ap (λ (c : Bool). option_to_list pending ++ option_to_list (cond c None (Some (answer.Ref p.name)))) e))
       by false e = over-with false ended None
-          (subst (λ (c : Bool). Fine z a (view t) (at_task making-at (cond c (assists x p.name (assisting m.poll x)) Idle)) None) (sym e) (idle z a (view t) m (steady false ended) (has false ended)))
+          (subst (λ (c : Bool). ProcessorFacts z a (view t) (at_task making-at (cond c (assists x p.name (assisting m.poll x)) Idle)) None) (sym e) (idle z a (view t) m (steady false ended) (has false ended)))
           (ap option_to_list named ∙ sym (ap (λ (c : Bool). [] ++ option_to_list (cond c None (Some (answer.Ref p.name)))) e))
 
-  pub place-steps : ShapesAreGood z.shapes → Good z now → Fine z a now making-at pending → Steps z a s (placer.asks p) (λ t. Does z a s t making-at pending found)
+  pub place-steps : ShapesAreGood z.shapes → Good z now → ProcessorFacts z a now making-at pending → Steps z a s (placer.asks p) (λ t. Does z a s t making-at pending found)
   place-steps sg g fine =
       let mk : Makes z a now m x p pending = record { facts = fine.task.facts; register = fine.task.register; of = fine.task.of; span = fine.task.span; apart = fine.task.apart; named = fine.task.named } in
       let st : Steady z a now m = (fine.counts, fine.knows) in

@@ -3,31 +3,31 @@ use Rattle.std.proofs.Common.{◌≡◌, ℕ, true, false, is_some, Option, Some
 use Rattle.std.specs.Prelude.{is_none}
 use Rattle.gh_base.specs.declared.operation.Op.TheVariants as op
 use Rattle.gh_base.specs.declared.value.Answer.TheVariants as answer
-use Rattle.gh_mutator_heap.proofs.Owning.Vocabulary.{Act, acting, at_task, CountsAlone, Does, Fine, KnowsCounts, OwnStepAt, ShapesAreGood, Wants}
+use Rattle.gh_mutator_heap.proofs.Owning.Vocabulary.{Act, acting, at_task, CountsAlone, Does, ProcessorFacts, KnowsCounts, OwnStepAt, ShapesAreGood, Wants}
 use Rattle.gh_mutator.specs.declared.task.Task.TheVariants as task
-use Rattle.gh_mutator.specs.declared.wait.Wait.{Wait as WaitState}
-use Rattle.gh_mutator.specs.Leave as leave
+use Rattle.gh_poll.specs.declared.wait.Wait.{Wait as WaitState}
+use Rattle.gh_poll.specs.Leave as leave
 use Rattle.gh_mutator.specs.Listing.{acts, after_gc, after_leave, after_poll, gives, once_ended, takes}
 use Rattle.gh_mutator.specs.New.{after_wait, waits}
-use Rattle.gh_mutator.specs.Poll as poll
+use Rattle.gh_poll.specs.Poll as poll
 use Rattle.gh_mutator_heap.specs.PollHeapLaws.{Polls, TakesLeave, Waits}
 use Rattle.gh_mutator.specs.Processor.{at_poll}
 use Rattle.gh_mutator.specs.Vocabulary.{Answer, cell_of, Leaving, Op, Waiting}
 use Rattle.gh_mutator_heap.specs.Vocabulary.{answer_of, Arena, ever_after, Good, IsSought, KeepsObjects, moved, Shared, view, Processor, Wait, Wanted}
-use Rattle.gh_mutator.specs.Wait as wait
+use Rattle.gh_poll.specs.Wait as wait
 use Rattle.gh_mutator_heap.proofs.Owning.Known.{Known}
 use Rattle.gh_mutator_heap.proofs.Owning.Searching.{same_wants, seek-begins}
 use Rattle.gh_mutator_heap.proofs.Owning.Statements.{at_its_task, StepAt, StepFrom}
 use Rattle.gh_mutator_heap.proofs.Owning.Steady.{goroutine_few, same_counts}
 
 module _ (z : Arena) (s : Shared) (o : Op) (b : Answer) (is : answer_of z.shapes s.ever o ≡ b) (stays : ever_after z.shapes s.ever o (answer_of z.shapes s.ever o) ≡ s.ever) where
-  ends_once : (a : ℕ) (t : Shared) (m : Processor) (found : ℕ) (g : Option (Unit {0})) → t.ever ≡ s.ever → acts m found ≡ acting (is_some g) o false → gives m found ≡ once_ended g b → Fine z a (view t) (takes z.shapes m found) None → CountsAlone m.task s t → Does z a s t m None found
+  ends_once : (a : ℕ) (t : Shared) (m : Processor) (found : ℕ) (g : Option (Unit {0})) → t.ever ≡ s.ever → acts m found ≡ acting (is_some g) o false → gives m found ≡ once_ended g b → ProcessorFacts z a (view t) (takes z.shapes m found) None → CountsAlone m.task s t → Does z a s t m None found
   ends_once a t m found g same act give fine alone = grind arith
 
 module _ (k : Known) (z : Arena) (a : ℕ) (s : Shared) (m : Processor) (good : Good z (view s)) (counts : KnowsCounts z a (view s) m.made) where
   -- A poll.
 
-  poll_fine : (t : Shared) (found : ℕ) → KeepsObjects (view s) (view t) → Polls z a (view t) (poll.goes m.poll found) → (g : Option (Unit {0})) → poll.gives m.poll found ≡ g → Fine z a (view t) (after_poll m (poll.goes m.poll found) g) None
+  poll_fine : (t : Shared) (found : ℕ) → KeepsObjects (view s) (view t) → Polls z a (view t) (poll.goes m.poll found) → (g : Option (Unit {0})) → poll.gives m.poll found ≡ g → ProcessorFacts z a (view t) (after_poll m (poll.goes m.poll found) g) None
   poll_fine t found o p None e = record { counts = same_counts z a (view s) (view t) m.made o counts; knows = p.1; right = p.0; task = refl }
   poll_fine t found o p (Some y) e = let r = k.polls.ends z a (view t) (poll.goes m.poll found) (ap is_none e) p in
       record { counts = same_counts z a (view s) (view t) m.made o counts; knows = r.1; right = r.0; task = refl }
@@ -38,7 +38,7 @@ module _ (k : Known) (z : Arena) (a : ℕ) (s : Shared) (m : Processor) (good : 
 
   -- A leave.
 
-  leave_fine : (t : Shared) (x : Leaving) (found : ℕ) → KeepsObjects (view s) (view t) → TakesLeave z a (view t) m.poll (leave.goes x found) → (g : Option (Unit {0})) → leave.gives x found ≡ g → Fine z a (view t) (after_leave m (leave.goes x found) g) None
+  leave_fine : (t : Shared) (x : Leaving) (found : ℕ) → KeepsObjects (view s) (view t) → TakesLeave z a (view t) m.poll (leave.goes x found) → (g : Option (Unit {0})) → leave.gives x found ≡ g → ProcessorFacts z a (view t) (after_leave m (leave.goes x found) g) None
   leave_fine t x found o p g e = grind arith
 
   leave_step : (x : Leaving) → TakesLeave z a (view s) m.poll x → StepFrom z a s (at_task m (task.Leave x)) None
@@ -57,7 +57,7 @@ module _ (k : Known) (z : Arena) (a : ℕ) (s : Shared) (m : Processor) (good : 
     next = wait.goes now found
 
     -- of a `gc`
-    gc_fine : (t : Shared) (g : ℕ) → KeepsObjects (view s) (view t) → Waits z a (view t) next → (y : Option (Unit {0})) → wait.gives now found ≡ y → Fine z a (view t) (after_gc m g next y) None
+    gc_fine : (t : Shared) (g : ℕ) → KeepsObjects (view s) (view t) → Waits z a (view t) next → (y : Option (Unit {0})) → wait.gives now found ≡ y → ProcessorFacts z a (view t) (after_gc m g next y) None
     gc_fine t g o w None e = record { counts = same_counts z a (view s) (view t) m.made o counts; knows = w.1; right = w.0; task = refl }
     gc_fine t g o w (Some y) e = let r = k.waits.ends z a (view t) next (ap is_none e) w in
         record { counts = same_counts z a (view s) (view t) m.made o counts; knows = r.1; right = r.0; task = refl }
@@ -71,7 +71,7 @@ module _ (k : Known) (z : Arena) (a : ℕ) (s : Shared) (m : Processor) (good : 
       sought : IsSought w.sought
       sought = subst (λ (y : Wanted). IsSought y.sought) (sym wants.is) (k.wants.sound z.shapes w.g w.d w.t sg.fit wants.type (goroutine_few z a w.g wants.runs.of, wants.register)).sought
 
-      new_fine : (t : Shared) → KeepsObjects (view s) (view t) → Waits z a (view t) next → (y : Option (Unit {0})) → wait.gives now found ≡ y → Fine z a (view t) (after_wait m w next y) None
+      new_fine : (t : Shared) → KeepsObjects (view s) (view t) → Waits z a (view t) next → (y : Option (Unit {0})) → wait.gives now found ≡ y → ProcessorFacts z a (view t) (after_wait m w next y) None
       new_fine t o q None e = record { counts = same_counts z a (view s) (view t) m.made o counts; knows = q.1; right = q.0; task = (same_wants z a (view s) (view t) w o wants, refl) }
       new_fine t o q (Some y) e = let r = k.waits.ends z a (view t) next (ap is_none e) q in
           seek-begins k z a (view t) (at_poll m next.poll) w true sought (same_wants z a (view s) (view t) w o wants) (same_counts z a (view s) (view t) m.made o counts, r.1) r.0

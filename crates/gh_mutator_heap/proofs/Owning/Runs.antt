@@ -1,7 +1,7 @@
 -- The processor's laws, put together from those of its operations.
 use Rattle.std.proofs.Common.{◌≡◌, ℕ, Bool, true, false, is_some, [], ◌++◌, Option, Some, None, refl, sym, ap, subst, ◌∙◌, arith}
 use Rattle.std.specs.Option.{option_to_list}
-use Rattle.gh_mutator_heap.proofs.Owning.Vocabulary.{Act, acting, answered_at, asks, at_task, Does, FactsAt, Fine, OwnStepAt, register_of, ShapesAreGood}
+use Rattle.gh_mutator_heap.proofs.Owning.Vocabulary.{Act, acting, answered_at, asks, at_task, Does, FactsAt, ProcessorFacts, OwnStepAt, register_of, ShapesAreGood}
 use Rattle.gh_mutator.specs.Vocabulary.{Answer, cell_of, Op}
 use Rattle.gh_mutator_heap.specs.Vocabulary.{Arena, Good, Shared, SweepLeaves, view, Global, GlobalStage, NewStage, Processor, Register, Source, Task, Wanted}
 use Rattle.gh_base.specs.declared.operation.Op.TheVariants as op
@@ -11,13 +11,13 @@ use Rattle.gh_mutator.specs.declared.new.NewStage.TheVariants as new_stage
 use Rattle.gh_mutator.specs.declared.task.Task.TheVariants as task
 use Rattle.gh_mutator.specs.Deeds.{given_at, has_point, point_of}
 use Rattle.gh_mutator.specs.Global as global
-use Rattle.gh_mutator.specs.Leave as leave
+use Rattle.gh_poll.specs.Leave as leave
 use Rattle.gh_mutator.specs.Load as load
 use Rattle.gh_mutator.specs.New as new
-use Rattle.gh_mutator.specs.Poll as poll
+use Rattle.gh_poll.specs.Poll as poll
 use Rattle.gh_mutator.specs.Register as register
 use Rattle.gh_mutator.specs.Store as store
-use Rattle.gh_mutator.specs.Wait as wait
+use Rattle.gh_poll.specs.Wait as wait
 use Rattle.gh_mutator.specs.Listing.{acts, gives, is_busy_at, once_ended}
 use Rattle.gh_mutator_heap.specs.Runs.{OwnStep, Rests, RunsByItsRights, SweepStep}
 use Rattle.gh_mutator.specs.Sweeping.{sweep_at}
@@ -47,14 +47,14 @@ rests z a v m pending rest fine = by m.task refl fine.task where
 
 -- where it runs no sweep
 abbrev NoSweepStepAt : Task → Type 0
-NoSweepStepAt q = (z : Arena) (a : ℕ) (s : Shared) (m : Processor) (pending : Option Answer) → ShapesAreGood z.shapes → m.task ≡ q → Good z (view s) → sweep_at q ≡ None → Fine z a (view s) m pending → StepFrom z a s m pending
+NoSweepStepAt q = (z : Arena) (a : ℕ) (s : Shared) (m : Processor) (pending : Option Answer) → ShapesAreGood z.shapes → m.task ≡ q → Good z (view s) → sweep_at q ≡ None → ProcessorFacts z a (view s) m pending → StepFrom z a s m pending
 
 without-sweep : (q : Task) → OwnStepAt q → NoSweepStepAt q
 without-sweep q f z a s m pending sg is good none fine = f z a s m pending sg is good fine
 
 -- The steps of a new object.
 new-at : Known → (w : Wanted) (q : NewStage) → NoSweepStepAt (task.New (record { wanted = w; stage = q }))
-new-at k w (new_stage.Search waited q) z a s m pending sg is good none fine = subst (λ (p : Task). StepFrom z a s (at_task m p) pending) (sym is) (search-steps k z a s m pending w waited q sg good none (subst (λ (p : Task). Fine z a (view s) (at_task m p) pending) is fine))
+new-at k w (new_stage.Search waited q) z a s m pending sg is good none fine = subst (λ (p : Task). StepFrom z a s (at_task m p) pending) (sym is) (search-steps k z a s m pending w waited q sg good none (subst (λ (p : Task). ProcessorFacts z a (view s) (at_task m p) pending) is fine))
 new-at k w (new_stage.Wait x) z a s m pending sg is good none fine = at_its_task (task.New (record { wanted = w; stage = new_stage.Wait x })) (wait_steps k w x) z a s m pending sg is good fine
 new-at k w (new_stage.Place p) z a s m pending sg is good none fine = at_its_task (task.New (record { wanted = w; stage = new_stage.Place p })) (λ z a s m pending sg good fine. place-steps k z a s m w p pending sg good fine) z a s m pending sg is good fine
 new-at k w (new_stage.Want n) z a s m pending sg is good none fine = at_its_task (task.New (record { wanted = w; stage = new_stage.Want n })) (want-steps k w n) z a s m pending sg is good fine
@@ -112,10 +112,10 @@ own k z a s m pending sg busy good none fine =
     landing z a s _ _ _ (λ t d. record { does = d; answers = points-at z a s t m pending (s.words (cell_of (asks m))) m.task busy fine.task d }) (steps-at k m.task busy z a s m pending sg refl good none fine)
 
 -- a step of the sweep that it runs: only a search runs one
-does-sweep : Known → (z : Arena) (a : ℕ) (s t : Shared) (m : Processor) (pending : Option Answer) (sw : Sweeping) (q : Task) → ShapesAreGood z.shapes → Good z (view s) → Good z (view t) → Fine z a (view s) (at_task m q) pending → sweep_at q ≡ Some sw → SweepLeaves (view s) (view t) → t.words ≡ effect s.words (asks (at_task m q)) →
+does-sweep : Known → (z : Arena) (a : ℕ) (s t : Shared) (m : Processor) (pending : Option Answer) (sw : Sweeping) (q : Task) → ShapesAreGood z.shapes → Good z (view s) → Good z (view t) → ProcessorFacts z a (view s) (at_task m q) pending → sweep_at q ≡ Some sw → SweepLeaves (view s) (view t) → t.words ≡ effect s.words (asks (at_task m q)) →
     Does z a s t (at_task m q) pending (s.words (cell_of (asks (at_task m q))))
 does-sweep k z a s t m pending sw (task.New x) sg g then fine is o words = by x.stage refl fine is words where
-  by : (n : NewStage) → x.stage ≡ n → Fine z a (view s) (at_task m (task.New (record x { stage = n }))) pending → sweep_at (task.New (record x { stage = n })) ≡ Some sw → t.words ≡ effect s.words (asks (at_task m (task.New (record x { stage = n })))) →
+  by : (n : NewStage) → x.stage ≡ n → ProcessorFacts z a (view s) (at_task m (task.New (record x { stage = n }))) pending → sweep_at (task.New (record x { stage = n })) ≡ Some sw → t.words ≡ effect s.words (asks (at_task m (task.New (record x { stage = n })))) →
       Does z a s t (at_task m (task.New (record x { stage = n }))) pending (s.words (cell_of (asks (at_task m (task.New (record x { stage = n }))))))
   by (new_stage.Search waited y) e fine is words = sweep-steps k z a s t m pending x.wanted waited y sw sg g then fine is o words
   by (new_stage.Wait y) e fine is words = absurd (cc)

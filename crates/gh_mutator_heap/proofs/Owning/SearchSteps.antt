@@ -1,6 +1,6 @@
 -- A new object's search has found a slot, and each of its steps.
 use Rattle.std.proofs.Common.{◌≡◌, ◌≢◌, ℕ, ◌+◌, ◌*◌, ◌/◌, ◌<◌, Bool, true, false, List, length, get_or, Option, Some, None, refl, sym, ap, subst, ◌∙◌, arith}
-use Rattle.gh_mutator_heap.proofs.Owning.Vocabulary.{at_task, cache_span, cache_with, CachesAll, Does, Fine, for_whom, lists, makes, own_span, rest, Searches, searches, ShapesAreGood}
+use Rattle.gh_mutator_heap.proofs.Owning.Vocabulary.{at_task, cache_span, cache_with, CachesAll, Does, ProcessorFacts, for_whom, lists, makes, own_span, rest, Searches, searches, ShapesAreGood}
 use Rattle.gh_mutator.specs.Vocabulary.{Answer, At, CachedSpan, cell_of, Finding, FindStage, Found, Large, Name, NoRoom, Seeking, Shape, shape_at, SizeClass, slot_words, Sought, SpanClass}
 use Rattle.gh_mutator_heap.specs.Vocabulary.{Arena, FitsShape, FitsSlot, Good, IsSought, KeepsItsOwn, KeepsObjects, moved, page_of, GoroutineRuns, Shared, size_class_of, slot_words_of, SPAN_CLASSES, SpanHead, Steps, SweepLeaves, View, view, Processor, Wanted}
 use Rattle.gh_base.specs.declared.pack.PageWord.TheVariants as page
@@ -20,7 +20,7 @@ use Rattle.gh_alloc.specs.Search as searcher
 use Rattle.gh_alloc.specs.SearchFacts as search
 use Rattle.gh_mutator.specs.New.{after_search, answer_search, placing, refuses_behind_wait, sought_by}
 use Rattle.gh_mutator.specs.Stays.{search_wants}
-use Rattle.gh_mutator.specs.Give.{span_class}
+use Rattle.gh_poll.specs.Give.{span_class}
 use Rattle.gh_mutator_heap.proofs.Holding.Known.{holds_swept, HoldsSwept}
 use Rattle.gh_mutator_heap.proofs.Holding.Lists.{index_of, listed_at}
 use Rattle.gh_mutator_heap.proofs.Owning.Known.{Known}
@@ -113,7 +113,7 @@ module _ (k : Known) (z : Arena) (a : ℕ) (s : Shared) (m : Processor) (x : Wan
 
   -- it is made there
   finds : (t : Shared) (y : ℕ) → ShapesAreGood z.shapes → Steady z a now m → Searches z a now m x q None → KeepsObjects now (view t) → HoldsSwept a now → KeepsItsOwn a now (view t) → find.HasFound z a (view t) (rest m x) next.find y →
-      Fine z a (view t) (at_task caching (makes x (placing z.shapes caching x y))) None
+      ProcessorFacts z a (view t) (at_task caching (makes x (placing z.shapes caching x y))) None
   finds t y sg st r o swept own h = record {
     counts = steady.0;
     knows = steady.1;
@@ -189,7 +189,7 @@ module _ (k : Known) (z : Arena) (a : ℕ) (s : Shared) (m : Processor) (x : Wan
       named g n = record { g = g; k = n }
 
   -- a step that ends short of finding none
-  does : (t : Shared) (waited : Bool) (out : Option Found) → searcher.gives q found ≡ out → refuses_behind_wait waited out ≡ false → answer_search waited out ≡ None → KeepsObjects now (view t) → Fine z a (view t) (after_search z.shapes caching x waited next out) None → Does z a s t (searching waited) None found
+  does : (t : Shared) (waited : Bool) (out : Option Found) → searcher.gives q found ≡ out → refuses_behind_wait waited out ≡ false → answer_search waited out ≡ None → KeepsObjects now (view t) → ProcessorFacts z a (view t) (after_search z.shapes caching x waited next out) None → Does z a s t (searching waited) None found
   does t waited out e some silent o fine = grind arith
 
   short : (waited : Bool) (t : Shared) (out : Option Found) → searcher.gives q found ≡ out → ShapesAreGood z.shapes → Steady z a now m → Searches z a now m x q None → HoldsSwept a now → KeepsItsOwn a now (view t) → KeepsObjects now (view t) → search.Comes z a (view t) (rest m x) out next → Does z a s t (searching waited) None found
@@ -244,12 +244,12 @@ module _ (k : Known) (z : Arena) (a : ℕ) (s : Shared) (m : Processor) (x : Wan
           let is : q ≡ last = at-last (finder_stage.Unlock (After.End NoRoom)) search_stage.Second no.unlocks no.stage in
           subst (Own waited) (sym is) (ends-at waited (subst (λ (y : Seeking). search.Has a (view s) (rest m x) y) is has) (subst (λ (y : Seeking). Searches z a (view s) m x y None) is r) (subst (λ (y : Seeking). search.FindsNone z (view s) y.find) is no.none))
 
-pub search-steps : Known → (z : Arena) (a : ℕ) (s : Shared) (m : Processor) (pending : Option Answer) (x : Wanted) (waited : Bool) (q : Seeking) → ShapesAreGood z.shapes → Good z (view s) → searcher.sweep_in q ≡ None → Fine z a (view s) (at_task m (searches x waited q)) pending →
+pub search-steps : Known → (z : Arena) (a : ℕ) (s : Shared) (m : Processor) (pending : Option Answer) (x : Wanted) (waited : Bool) (q : Seeking) → ShapesAreGood z.shapes → Good z (view s) → searcher.sweep_in q ≡ None → ProcessorFacts z a (view s) (at_task m (searches x waited q)) pending →
     Steps z a s (searcher.asks q) (λ t. Does z a s t (at_task m (searches x waited q)) pending (s.words (cell_of (searcher.asks q))))
 search-steps k z a s m pending x waited q sg g rests fine = subst (λ (y : Option Answer). Steps z a s (searcher.asks q) (λ t. Does z a s t (at_task m (searches x waited q)) y (s.words (cell_of (searcher.asks q))))) (sym fine.task.unanswered)
     (search-step k z a s m x waited q sg g rests (fine.counts, fine.knows) fine.right (record { wants = fine.task.wants; wanted = fine.task.wanted; cached = fine.task.cached; facts = fine.task.facts; unanswered = refl }))
 
-pub sweep-steps : Known → (z : Arena) (a : ℕ) (s t : Shared) (m : Processor) (pending : Option Answer) (x : Wanted) (waited : Bool) (q : Seeking) (sw : Sweeping) → ShapesAreGood z.shapes → Good z (view s) → Good z (view t) → Fine z a (view s) (at_task m (searches x waited q)) pending →
+pub sweep-steps : Known → (z : Arena) (a : ℕ) (s t : Shared) (m : Processor) (pending : Option Answer) (x : Wanted) (waited : Bool) (q : Seeking) (sw : Sweeping) → ShapesAreGood z.shapes → Good z (view s) → Good z (view t) → ProcessorFacts z a (view s) (at_task m (searches x waited q)) pending →
     searcher.sweep_in q ≡ Some sw → SweepLeaves (view s) (view t) → t.words ≡ effect s.words (searcher.asks q) → Does z a s t (at_task m (searches x waited q)) pending (s.words (cell_of (searcher.asks q)))
 sweep-steps k z a s t m pending x waited q sw sg g then fine is o words = subst (λ (y : Option Answer). Does z a s t (at_task m (searches x waited q)) y (s.words (cell_of (searcher.asks q)))) (sym fine.task.unanswered)
     (sweeps k z a s m x q t waited sw sg g then (fine.counts, fine.knows) fine.right (record { wants = fine.task.wants; wanted = fine.task.wanted; cached = fine.task.cached; facts = fine.task.facts; unanswered = refl }) is o words)

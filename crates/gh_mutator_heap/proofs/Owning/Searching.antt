@@ -1,7 +1,7 @@
 -- The search for a new object's slot: how it begins, what a step of it comes to where it goes on, and where it ends with no room. The search is known by its law alone.
 use Rattle.std.proofs.Common.{◌≡◌, ◌≢◌, ℕ, ◌<◌, Bool, true, false, cond, eqb, List, length, Option, Some, None, refl, sym, ap, subst, ◌∙◌, arith}
 use Rattle.std.proofs.lemmas.Bool.{eqb-true, eqb-false}
-use Rattle.gh_mutator_heap.proofs.Owning.Vocabulary.{at_task, cache_span, cache_with, cached_for, cached_in, CachesAll, Fine, lists, rest, Rests, Searches, searches, Wants}
+use Rattle.gh_mutator_heap.proofs.Owning.Vocabulary.{at_task, cache_span, cache_with, cached_for, cached_in, CachesAll, ProcessorFacts, lists, rest, Rests, Searches, searches, Wants}
 use Rattle.gh_mutator.specs.Vocabulary.{CachedSpan, cell_of, Finding, Large, Seeking, Small, Sought, span_index, SpanClass}
 use Rattle.gh_mutator_heap.specs.Vocabulary.{Arena, IsSought, KeepsItsOwn, KeepsObjects, MOST_STATEMENTS, Shared, SPAN_CLASSES, View, view, Processor, Wanted}
 use Rattle.gh_model.specs.Ever.{Ever}
@@ -105,7 +105,7 @@ module _ (k : Known) (z : Arena) (a : ℕ) (v : View) (m : Processor) where
   apart (Small c) low long all l e = listed-once a v m.poll.local.cache c l long low all e
   apart (Large pages noscan) low long all l e = absurd (cc)
 
-  pub seek-begins : (x : Wanted) (waited : Bool) → IsSought x.sought → Wants z a v x → Steady z a v m → HasCached a v m → Fine z a v (at_task m (searches x waited (seeking m x))) None
+  pub seek-begins : (x : Wanted) (waited : Bool) → IsSought x.sought → Wants z a v x → Steady z a v m → HasCached a v m → ProcessorFacts z a v (at_task m (searches x waited (seeking m x))) None
   seek-begins x waited sought wants st right = record { counts = st.0; knows = st.1; right = began.0; task = record { wants = wants; wanted = refl; cached = refl; facts = began.1; unanswered = refl } } where
     y : Rests z a v m.poll
     y = st.1
@@ -133,7 +133,7 @@ module _ (z : Arena) (a : ℕ) (s : Shared) (m : Processor) (x : Wanted) (q : Se
   abbrev caching : Processor
   caching = cache_span m x.sought next.find.cached
 
-  pub goes-on : (t : Shared) (waited : Bool) → Steady z a now m → Searches z a now m x q None → KeepsObjects now (view t) → HoldsSwept a now → KeepsItsOwn a now (view t) → search.Has a (view t) (rest m x) next × search.Facts z a (view t) (rest m x) next → Fine z a (view t) (at_task caching (searches x waited next)) None
+  pub goes-on : (t : Shared) (waited : Bool) → Steady z a now m → Searches z a now m x q None → KeepsObjects now (view t) → HoldsSwept a now → KeepsItsOwn a now (view t) → search.Has a (view t) (rest m x) next × search.Facts z a (view t) (rest m x) next → ProcessorFacts z a (view t) (at_task caching (searches x waited next)) None
   goes-on t waited st r o swept own c = record {
     counts = steady.0;
     knows = steady.1;

@@ -3,7 +3,7 @@ use Rattle.std.proofs.Common.{◌≡◌, ℕ, ◌-◌, ◌<◌, Bool, true, fals
 use Rattle.std.specs.Prelude.{◌&&◌}
 use Rattle.std.specs.Option.{option_to_list}
 use Rattle.std.proofs.lemmas.Bool.{eq-eqb}
-use Rattle.gh_mutator_heap.proofs.Owning.Vocabulary.{Act, acted, acting, answered, answered_at, asks, at_task, Does, ends, Fine, follows, goes_on, lists, OwnStepAt, set_register, ShapesAreGood, Takes}
+use Rattle.gh_mutator_heap.proofs.Owning.Vocabulary.{Act, acted, acting, answered, answered_at, asks, at_task, Does, ends, ProcessorFacts, follows, goes_on, lists, OwnStepAt, set_register, ShapesAreGood, Takes}
 use Rattle.gh_mutator.specs.Vocabulary.{Answer, cell_of, IsOf, Op, REGISTERS, Value}
 use Rattle.gh_mutator_heap.specs.Vocabulary.{answer_of, Arena, ever_after, EverValue, Good, Means, moved, Right, GoroutineRuns, Shared, Steps, answer_of_value, View, view, with_register, Idle, Processor, Step, Task}
 use Rattle.gh_base.specs.declared.cell.Ask.TheVariants as ask
@@ -21,12 +21,12 @@ abbrev pub StepFrom : Arena → (a : ℕ) → Shared → Processor → Option An
 StepFrom z a s m pending = Steps z a s (asks m) (λ t. Does z a s t m pending (s.words (cell_of (asks m))))
 
 abbrev pub StepAt : Task → Type 0
-StepAt q = (z : Arena) (a : ℕ) (s : Shared) (m : Processor) (pending : Option Answer) → ShapesAreGood z.shapes → Good z (view s) → Fine z a (view s) (at_task m q) pending → StepFrom z a s (at_task m q) pending
+StepAt q = (z : Arena) (a : ℕ) (s : Shared) (m : Processor) (pending : Option Answer) → ShapesAreGood z.shapes → Good z (view s) → ProcessorFacts z a (view s) (at_task m q) pending → StepFrom z a s (at_task m q) pending
 
 -- the processor is at its task
 pub at_its_task : (q : Task) → StepAt q → OwnStepAt q
 at_its_task q f z a s m pending shapes is g x =
-    subst (λ (p : Task). StepFrom z a s (at_task m p) pending) (sym is) (f z a s m pending shapes g (subst (λ (p : Task). Fine z a (view s) (at_task m p) pending) is x))
+    subst (λ (p : Task). StepFrom z a s (at_task m p) pending) (sym is) (f z a s m pending shapes g (subst (λ (p : Task). ProcessorFacts z a (view s) (at_task m p) pending) is x))
 
 -- where an operation has room, nothing is to be said of that
 abbrev pub act_of : Op → Act
@@ -45,7 +45,7 @@ answered_once b given pending none is = grind arith
 -- what a statement's step comes to in t, from s: of operation o, with register d of goroutine g
 pub record Comes (S : Type 0) (into : S → Task) (z : Arena) (a : ℕ) (s t : Shared) (m : Processor) (g d : ℕ) (o : Op) (pending : Option Answer) (step : Step S) : Type 0 where
   pub after : Option Answer
-  pub fine : Fine z a (view t) (applied into m g d step) after
+  pub fine : ProcessorFacts z a (view t) (applied into m g d step) after
   pub ever : t.ever ≡ acted z.shapes s.ever (acting step.acts o false)
   pub answers : option_to_list (answered_at z.shapes s.ever (acting step.acts o false)) ++ option_to_list pending ≡ option_to_list after ++ option_to_list (answered step.then)
 
@@ -53,12 +53,12 @@ pub record Comes (S : Type 0) (into : S → Task) (z : Arena) (a : ℕ) (s t : S
 pub not_full : (b : Bool) (o : Op) (y : Act) → acting b o false ≡ Some y → y.full ≡ true → ⊥
 not_full b o y is full = grind arith
 
-pub idle : (z : Arena) (a : ℕ) (v : View) (m : Processor) → Steady z a v m → HasCached a v m → Fine z a v (at_task m Idle) None
+pub idle : (z : Arena) (a : ℕ) (v : View) (m : Processor) → Steady z a v m → HasCached a v m → ProcessorFacts z a v (at_task m Idle) None
 idle z a v m steady right = record { counts = steady.0; knows = steady.1; right = right; task = refl }
 
 module _ (S : Type 0) (into : S → Task) (z : Arena) (a : ℕ) (s : Shared) (m : Processor) (g d : ℕ) (o : Op) (steady : Steady z a (view s) m) (right : HasCached a (view s) m) where
   -- it goes on
-  pub further : (next : S) → Fine z a (view s) (at_task m (into next)) None → Comes S into z a s s m g d o None (goes_on next)
+  pub further : (next : S) → ProcessorFacts z a (view s) (at_task m (into next)) None → Comes S into z a s s m g d o None (goes_on next)
   further next fine = record { after = None; fine = fine; ever = refl; answers = refl }
 
   -- it is a fault
@@ -73,7 +73,7 @@ module _ (S : Type 0) (into : S → Task) (z : Arena) (a : ℕ) (s : Shared) (m 
   -- The register takes a value that was found; where that is a reference, its object's name is loaded next.
   module _ (naming : ℕ → S) where
     abbrev pub Names : Type 0
-    Names = (at : ℕ) (v : View) (x : Processor) (p : Option Answer) → Steady z a v x → HasCached a v x → Takes z a v g d at p → Fine z a v (at_task x (into (naming at))) p
+    Names = (at : ℕ) (v : View) (x : Processor) (p : Option Answer) → Steady z a v x → HasCached a v x → Takes z a v g d at p → ProcessorFacts z a v (at_task x (into (naming at))) p
 
     abbrev pending_of : EverValue → Option Answer
     pending_of (ever.Ref n) = Some (answer.Ref n)
@@ -89,7 +89,7 @@ module _ (S : Type 0) (into : S → Task) (z : Arena) (a : ℕ) (s : Shared) (m 
       here : (x : EverValue) → cond (eqb g g && eqb d d) x (s.ever.register g d) ≡ x
       here x = rw (eq-eqb g g refl, eq-eqb d d refl) refl
 
-      fine_then : (x : EverValue) (w : Value) → Means s.place s.ever.made x w → Steady z a (then x) (set_register m g d w) → Right a (then x) false (lists m.poll.local.cache) None → Fine z a (then x) (at_task (set_register m g d w) (follows into (value_told naming w))) (pending_of x)
+      fine_then : (x : EverValue) (w : Value) → Means s.place s.ever.made x w → Steady z a (then x) (set_register m g d w) → Right a (then x) false (lists m.poll.local.cache) None → ProcessorFacts z a (then x) (at_task (set_register m g d w) (follows into (value_told naming w))) (pending_of x)
       fine_then ever.Nil value.Nil h st ri = idle z a (then ever.Nil) (set_register m g d value.Nil) st ri
       fine_then (ever.Int i) (value.Int j) h st ri = idle z a (then (ever.Int i)) (set_register m g d (value.Int j)) st ri
       fine_then (ever.Ref n) (value.Ref r) h st ri = names (r - 1) (then (ever.Ref n)) (set_register m g d (value.Ref r)) (Some (answer.Ref n)) st ri (record {
@@ -114,6 +114,6 @@ module _ (S : Type 0) (into : S → Task) (z : Arena) (a : ℕ) (s : Shared) (m 
       }
 
 -- a register takes a value that needs no name, and the operation is over
-pub takes_last : (z : Arena) (a : ℕ) (v : View) (m : Processor) (g d : ℕ) (x : EverValue) (y : Value) → Steady z a v m → HasCached a v m → IsOf z a g → d < REGISTERS → Means v.place v.ever.made x y → Fine z a (record v { ever = with_register v.ever g d x }) (at_task (set_register m g d y) Idle) None
+pub takes_last : (z : Arena) (a : ℕ) (v : View) (m : Processor) (g d : ℕ) (x : EverValue) (y : Value) → Steady z a v m → HasCached a v m → IsOf z a g → d < REGISTERS → Means v.place v.ever.made x y → ProcessorFacts z a (record v { ever = with_register v.ever g d x }) (at_task (set_register m g d y) Idle) None
 takes_last z a v m g d x y steady right of low means =
     idle z a (record v { ever = with_register v.ever g d x }) (set_register m g d y) (steady_register z a v m g d x y of low means steady) (rights_with a v v.field v.global (with_register v.ever g d x) false (lists m.poll.local.cache) None None right)

@@ -8,12 +8,12 @@ use Rattle.gh_base.specs.Reading.{read_after_set}
 use Rattle.gh_heap.specs.Rights.{Rights}
 use Rattle.gh_heap.specs.Spans.{Freeing, Laying}
 use Rattle.gh_alloc.specs.FindFacts.{IsCached}
-use Rattle.gh_mutator.specs.Local.{register_in_stacks, stacks_with, with_cached, with_register_value}
+use Rattle.gh_poll.specs.Local.{register_in_stacks, stacks_with, with_cached, with_register_value}
 use Rattle.gh_mutator.specs.Vocabulary.{CachedSpan, IsOf, Large, MOST_GOROUTINES, Polling, REGISTERS, Small, Sought, SpanClass, Value}
 use Rattle.gh_mutator_heap.specs.Vocabulary.{Arena, Ever, EverValue, KeepsItsOwn, KeepsObjects, Means, Right, Row, GoroutineRuns, View, with_register as ever_with, Processor}
 use Rattle.gh_mutator_heap.proofs.Holding.Known.{cached_kept, HoldsSwept, stands_kept}
 use Rattle.gh_mutator_heap.proofs.Holding.Lists.{lists_it}
-use Rattle.gh_mutator_heap.proofs.Owning.Vocabulary.{cache_with, CachesAll, KnowsCounts, KnowsSpans, lists, PollRegistersFit, register_at, Rests, set_register, Sits}
+use Rattle.gh_mutator_heap.proofs.Owning.Vocabulary.{cache_with, CachesAll, KnowsCounts, KnowsSpans, lists, PollRegistersFit, register_at, Rests, set_register, SeatFacts}
 
 abbrev pub Steady : Arena → (a : ℕ) → View → Processor → Type 0
 Steady z a v m = KnowsCounts z a v m.made × Rests z a v m.poll
@@ -45,7 +45,7 @@ module _ (stacks : List (List Value)) (g d : ℕ) (y : Value) (few : g < length 
         subst (λ (n : ℕ). register_in_stacks (stacks_with stacks g d y) n c ≡ register_in_stacks stacks n c) (sym same) (beside c (ne same))
     go false e = ap (λ (r : List Value). get_or r c value.Nil) (get_or-set_other stacks g h (set (get_or stacks g []) d y) [] (eqb-false h g e))
 
-pub sits_register : (z : Arena) (a : ℕ) (p : Polling) (g d : ℕ) (y : Value) → Sits z a p → Sits z a (with_register_value p g d y)
+pub sits_register : (z : Arena) (a : ℕ) (p : Polling) (g d : ℕ) (y : Value) → SeatFacts z a p → SeatFacts z a (with_register_value p g d y)
 sits_register z a p g d y s = record {
   layout = s.layout;
   seat = s.seat;
@@ -58,7 +58,7 @@ sits_register z a p g d y s = record {
 }
 
 -- in the heap that never frees it takes what it means
-pub registers_then : (z : Arena) (a : ℕ) (v : View) (p : Polling) (g d : ℕ) (x : EverValue) (y : Value) → Sits z a p → IsOf z a g → d < REGISTERS → Means v.place v.ever.made x y → PollRegistersFit z a v p →
+pub registers_then : (z : Arena) (a : ℕ) (v : View) (p : Polling) (g d : ℕ) (x : EverValue) (y : Value) → SeatFacts z a p → IsOf z a g → d < REGISTERS → Means v.place v.ever.made x y → PollRegistersFit z a v p →
     (h c : ℕ) → IsOf z a h → c < REGISTERS → Means v.place v.ever.made ((ever_with v.ever g d x).register h c) (register_at (with_register_value p g d y) h c)
 registers_then z a v p g d x y s of low means fit h c hof lc = go (eqb h g && eqb c d) refl where
   few : g < length p.local.stacks
@@ -108,7 +108,7 @@ steady_register z a v m g d x y of low means st = (
 pub steady_values : (z : Arena) (a : ℕ) (v : View) (m : Processor) (field global : Row) (e : Ever) → e.made ≡ v.ever.made → e.register ≡ v.ever.register → Steady z a v m → Steady z a (with_values a v field global e) m
 steady_values z a v m field global e made register st = grind arith
 
-pub sits_ended : (z : Arena) (a : ℕ) (p : Polling) (g n : ℕ) → Sits z a p → Sits z a (record p { local = record (p.local) { scanned = set p.local.scanned g n } })
+pub sits_ended : (z : Arena) (a : ℕ) (p : Polling) (g n : ℕ) → SeatFacts z a p → SeatFacts z a (record p { local = record (p.local) { scanned = set p.local.scanned g n } })
 sits_ended z a p g n s = record { layout = s.layout; seat = s.seat; few = s.few; stacks = s.stacks; registers = s.registers; scanned = length-set p.local.scanned g n ∙ s.scanned; cache = s.cache; held = s.held }
 
 -- What is cached is another.
@@ -117,7 +117,7 @@ pub long_then : (cache : List (Option CachedSpan)) (x : Sought) (k : Option Cach
 long_then cache (Small c) k n e = rw length-set e
 long_then cache (Large pages noscan) k n e = e
 
-pub sits_cached : (z : Arena) (a : ℕ) (p : Polling) (x : Sought) (k : Option CachedSpan) → Sits z a p → Sits z a (with_cached p x k)
+pub sits_cached : (z : Arena) (a : ℕ) (p : Polling) (x : Sought) (k : Option CachedSpan) → SeatFacts z a p → SeatFacts z a (with_cached p x k)
 sits_cached z a p x k s = record { layout = s.layout; seat = s.seat; few = s.few; stacks = s.stacks; registers = s.registers; scanned = s.scanned; cache = long_then p.local.cache x k _ s.cache; held = s.held }
 
 -- What stays where no object is made and no value changes.

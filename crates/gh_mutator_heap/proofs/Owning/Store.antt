@@ -3,7 +3,7 @@ use Rattle.std.proofs.Common.{◌≡◌, ℕ, ◌+◌, ◌*◌, ◌%◌, ◌<◌
 use Rattle.std.specs.Prelude.{◌&&◌}
 use Rattle.std.proofs.Math.Nat.{mod-lt}
 use Rattle.std.proofs.lemmas.Bool.{ltb-true, lt-ltb}
-use Rattle.gh_mutator_heap.proofs.Owning.Vocabulary.{StoreFacts, asks, at_task, Does, ends, Fine, goes_on, has_field, is_pointer_by, IsPlain, lists, OwnStepAt, register_of, Stores, Through, word_of_value}
+use Rattle.gh_mutator_heap.proofs.Owning.Vocabulary.{StoreFacts, asks, at_task, Does, ends, ProcessorFacts, goes_on, has_field, is_pointer_by, IsPlain, lists, OwnStepAt, register_of, Stores, Through, word_of_value}
 use Rattle.gh_mutator.specs.Vocabulary.{Ask, Layout, Answer, cell_of, Name, Value}
 use Rattle.gh_mutator_heap.specs.Vocabulary.{answer_of, Arena, Ever, ever_after, EverValue, Fault, fits, Good, Means, moved, page_of, points, Quiet, Reach, Shared, size_for, slot_in, Steps, View, view, Processor, Step, Store, StoreStage, Task}
 use Rattle.gh_base.specs.declared.cell.Ask.TheVariants as ask
@@ -21,9 +21,10 @@ use Rattle.gh_heap.specs.Moves.{Write}
 use Rattle.gh_heap.specs.Objects.{Place}
 use Rattle.gh_mutator.specs.declared.store.StoreStage.TheVariants.{Page, Bits, Field, Writing, NilBase}
 use Rattle.gh_mutator.specs.declared.task.Task.TheVariants as task
-use Rattle.gh_mutator.specs.Barrier.{held_then, WritesIt, written}
-use Rattle.gh_mutator.specs.Fields.{field_cell, is_number_value, kinds_differ}
-use Rattle.gh_mutator.specs.Local.{is_mark}
+use Rattle.gh_poll.specs.Barrier.{held_then, WritesIt, written}
+use Rattle.gh_poll.specs.Registers.{is_number_value}
+use Rattle.gh_mutator.specs.Fields.{field_cell, kinds_differ}
+use Rattle.gh_poll.specs.Local.{is_mark}
 use Rattle.gh_mutator.specs.Processor.{keeping}
 use Rattle.gh_mutator.specs.Store.{after_write, at_stage, held_behind, op_of, pointer_cell_at, step, stores}
 use Rattle.gh_mutator_heap.proofs.Owning.Barrier.{begins_so, goes_so, held_so, IsBefore, IsLast, names_fit, steady_held, step_is, word_written}
@@ -199,7 +200,7 @@ module _ (laws : Known) (z : Arena) (a : ℕ) (s : Shared) (m : Processor) (x : 
       writes_on : IsBefore w word → ToWith (held_then w word) beside None (after_write x (write.goes w word) (write.gives w word))
       writes_on b = subst (λ (o : Option (Unit {0})). ToWith (held_then w word) beside None (after_write x (write.goes w word) o)) (sym b.goes_on) (record {
         after = None;
-        fine = subst (λ (v : View). Fine z a v (at_task (keeping m (held_then w word)) (task.Store (at_stage x (Writing (write.goes w word))))) None) (sym (b.leaves.same z a s))
+        fine = subst (λ (v : View). ProcessorFacts z a v (at_task (keeping m (held_then w word)) (task.Store (at_stage x (Writing (write.goes w word))))) None) (sym (b.leaves.same z a s))
             (record { counts = steady-then.0; knows = steady-then.1; right = right; task = (stores_at (Writing w) (Writing (write.goes w word)) l, few, fit, goes_so laws z.layout (pointer_cell_at m.poll.layout (x.at + x.k)) held w word it b.goes_on) });
         ever = refl;
         answers = refl;
@@ -220,9 +221,9 @@ module _ (laws : Known) (z : Arena) (a : ℕ) (s : Shared) (m : Processor) (x : 
       after = does NilBase None s (fault_at fault.NilBase (plain_store (e.register x.g x.b) plain));
     }
 
-  own : (q : StoreStage) (pending : Option Answer) → Fine z a (view s) (here q) pending → Own q pending
+  own : (q : StoreStage) (pending : Option Answer) → ProcessorFacts z a (view s) (here q) pending → Own q pending
   own q pending fine = by q pending fine (fine.counts, fine.knows) where
-    by : (q : StoreStage) (pending : Option Answer) → Fine z a (view s) (here q) pending → Steady z a (view s) m → Own q pending
+    by : (q : StoreStage) (pending : Option Answer) → ProcessorFacts z a (view s) (here q) pending → Steady z a (view s) m → Own q pending
     by Page None fine steady = page steady fine.right fine.task
     by Bits None fine steady = bits steady fine.right fine.task.0 fine.task.1
     by Field None fine steady = field steady fine.right fine.task.0 fine.task.1 fine.task.2
@@ -238,4 +239,4 @@ pub store_steps : Known → (x : Store) → OwnStepAt (task.Store x)
 store_steps laws x z a s m pending shapes is good fine = go (ap (λ (q : Task). at_task m q) (sym is)) where
   go : at_task m (task.Store x) ≡ m → Steps z a s (asks m) (λ t. Does z a s t m pending (s.words (cell_of (asks m))))
   go same = subst (λ (y : Processor). Steps z a s (asks y) (λ t. Does z a s t y pending (s.words (cell_of (asks y))))) same
-      (own laws z a s m x good x.stage pending (subst (λ (y : Processor). Fine z a (view s) y pending) (sym same) fine))
+      (own laws z a s m x good x.stage pending (subst (λ (y : Processor). ProcessorFacts z a (view s) y pending) (sym same) fine))

@@ -1,7 +1,7 @@
 -- Each step of the processor is on a word that there is.
 use Rattle.std.proofs.Common.{◌≡◌, ℕ, ◌+◌, ◌*◌, ◌/◌, ◌%◌, ◌<◌, Option, ap, arith}
 use Rattle.std.proofs.Math.Nat.{mod-lt}
-use Rattle.gh_mutator_heap.proofs.Owning.Vocabulary.{FactsAt, for_whom, GlobalFacts, HasAt, KnowsAt, NewFacts, register_of, rest, Sits, StoreFacts}
+use Rattle.gh_mutator_heap.proofs.Owning.Vocabulary.{FactsAt, for_whom, GlobalFacts, HasAt, KnowsAt, NewFacts, register_of, rest, SeatFacts, StoreFacts}
 use Rattle.gh_base.specs.Cells.{InRange}
 use Rattle.gh_mutator.specs.Vocabulary.{Answer, cell_of, Layout}
 use Rattle.gh_mutator_heap.specs.Vocabulary.{Arena, Good, View, Assist, Global, GlobalStage, Load, LoadStage, NewStage, Place, Processor, Search, Store, StoreStage, Task, Wait, Wanted, Want}
@@ -14,11 +14,11 @@ use Rattle.gh_mutator.specs.Load as load
 use Rattle.gh_mutator.specs.New as new
 use Rattle.gh_mutator_heap.specs.Runs.{Within}
 use Rattle.gh_mutator.specs.Store as store
-use Rattle.gh_mutator.specs.Wait.{waiting}
+use Rattle.gh_poll.specs.Wait.{waiting}
 use Rattle.gh_mutator_heap.proofs.Owning.Known.{Known}
 use Rattle.gh_mutator_heap.proofs.Owning.Parked.{stands_always}
 
-module _ (k : Known) (z : Arena) (a : ℕ) (v : View) (m : Processor) (pending : Option Answer) (good : Good z v) (sits : Sits z a m.poll) where
+module _ (k : Known) (z : Arena) (a : ℕ) (v : View) (m : Processor) (pending : Option Answer) (good : Good z v) (sits : SeatFacts z a m.poll) where
   arena : m.poll.layout.pages ≡ z.layout.pages
   arena = ap (λ (l : Layout). l.pages) sits.layout
 

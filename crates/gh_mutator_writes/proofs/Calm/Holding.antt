@@ -7,22 +7,22 @@ use Rattle.gh_phase.specs.declared.view.RunPhase.TheVariants as run
 use Rattle.gh_phase.specs.Listing as resume
 use Rattle.gh_phase.specs.ResumePlaces as resumes
 use Rattle.gh_mutator.specs.declared.task.Task.TheVariants as task
-use Rattle.gh_mutator.specs.declared.wait.WaitStage.TheVariants as wait_stage
+use Rattle.gh_poll.specs.declared.wait.WaitStage.TheVariants as wait_stage
 use Rattle.gh_mutator_writes.specs.Calm.{SetsWithNone, StoresWithNone}
-use Rattle.gh_mutator.specs.Give as give
+use Rattle.gh_poll.specs.Give as give
 use Rattle.gh_mutator.specs.Global as global
-use Rattle.gh_mutator.specs.Handshake.{poller_at, waiter_at}
-use Rattle.gh_mutator.specs.Leave as leave
+use Rattle.gh_poll.specs.Handshake.{poller_at, waiter_at}
+use Rattle.gh_poll.specs.Leave as leave
 use Rattle.gh_mutator.specs.Load as load
-use Rattle.gh_mutator.specs.Local.{is_mark, marking_at}
+use Rattle.gh_poll.specs.Local.{is_mark, marking_at}
 use Rattle.gh_mutator.specs.New as new
-use Rattle.gh_mutator.specs.Poll as poll
+use Rattle.gh_poll.specs.Poll as poll
 use Rattle.gh_mutator.specs.Processor.{keeping}
 use Rattle.gh_mutator.specs.Register as register
 use Rattle.gh_mutator.specs.Store as store
 use Rattle.gh_mutator.specs.Vocabulary.{Polling}
 use Rattle.gh_mutator_writes.specs.Vocabulary.{Load, Register, Store}
-use Rattle.gh_mutator.specs.Wait as wait
+use Rattle.gh_poll.specs.Wait as wait
 use Rattle.gh_mutator_writes.proofs.Vocabulary.{Assist, Global, GlobalStage, Local, StoreStage, after_gc, after_leave, after_poll, applied, cache_span, CachedSpan, Ends, follows, Found, GivesNoBuffer, GiveStage, GoesOn, Held, HoldsNoBuffer, IsNoBuffer, KnowsNoMarking, Layout, LeaveStage, LeavesWithNone, Leaving, MakesWithNone, NewStage, party_at, Place, Placing, polls_at, PollStage, PollsWithNone, Processor, register_of, ResumeStage, RunPhase, RunsWithNone, Search, Seeking, Shape, stage_at, Step, takes_at, taking, Task, Then, Value, Wait, Waiting, waits_at, WaitStage, WaitsWithNone, Wanted, Want}
 
 -- The giving back.

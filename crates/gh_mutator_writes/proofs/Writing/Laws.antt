@@ -3,11 +3,11 @@ use Rattle.std.proofs.Common.{◌≡◌, ◌≢◌, ℕ, zero, suc, Bool, true, 
 use Rattle.std.specs.Prelude.{replicate}
 use Rattle.gh_assist.specs.Paying.{AssistsPay}
 use Rattle.gh_assist.specs.Quiet.{AssistsAreQuiet}
-use Rattle.gh_mutator.specs.declared.wait.WaitStage.TheVariants as wait_stage
+use Rattle.gh_poll.specs.declared.wait.WaitStage.TheVariants as wait_stage
 use Rattle.gh_mutator.specs.New as new
-use Rattle.gh_mutator.specs.Poll as poll
+use Rattle.gh_poll.specs.Poll as poll
 use Rattle.gh_mutator.specs.Vocabulary.{MOST_GOROUTINES, Polling}
-use Rattle.gh_mutator.specs.Wait as wait
+use Rattle.gh_poll.specs.Wait as wait
 use Rattle.gh_mutator.specs.Asking.{ProcessorsAskAtTheTrigger}
 use Rattle.gh_mutator_writes.specs.Writing.{BeginsToWait, IsWritten, ProcessorWritesItsOwn, StacksAreNoted}
 use Rattle.gh_mutator.specs.Sweeping.{IsSearching, SearchesAt}

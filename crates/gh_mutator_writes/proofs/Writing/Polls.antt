@@ -12,15 +12,15 @@ use Rattle.gh_shade.specs.Listing as shade
 use Rattle.gh_stack.specs.declared.scan_stack.StackStage.TheVariants as stack_stage
 use Rattle.gh_stack.specs.Listing as stack
 use Rattle.gh_wbuf.specs.RoomFinding as room
-use Rattle.gh_mutator.specs.declared.mark_stack.MarkStackStage.TheVariants.{Shading, FindRoom, Store, Ended}
-use Rattle.gh_mutator.specs.declared.poll.PollStage.TheVariants as poll_stage
-use Rattle.gh_mutator.specs.Give as give
-use Rattle.gh_mutator.specs.MarkStack as mark
-use Rattle.gh_mutator.specs.Poll.{after_mark, after_resume, after_room, asks_at, at_stage, by_phase, counted, due, goes_at, marks_then, Polling, scanned, scans, stops_then}
-use Rattle.gh_mutator.specs.Stays.{found_on, shaded_on}
+use Rattle.gh_poll.specs.declared.mark_stack.MarkStackStage.TheVariants.{Shading, FindRoom, Store, Ended}
+use Rattle.gh_poll.specs.declared.poll.PollStage.TheVariants as poll_stage
+use Rattle.gh_poll.specs.Give as give
+use Rattle.gh_poll.specs.MarkStack as mark
+use Rattle.gh_poll.specs.Poll.{after_mark, after_resume, after_room, asks_at, at_stage, by_phase, counted, due, goes_at, marks_then, Polling, scanned, scans, stops_then}
+use Rattle.gh_poll.specs.Stays.{found_on, shaded_on}
 use Rattle.gh_mutator.specs.Running.{ScansItsOwn, ShadesByWish}
 use Rattle.gh_mutator_writes.proofs.Vocabulary.{Ask, Cell, Held, Layout, length-set, Local, MarkStackStage, phase_of, PollStage, Resumed, ResumeStage, run_phase, RunPhase, Shaded, slice_index, slice_index_or, slice_set, SoundScanAt, StackStage, Store as Stores, Value, WritesOf}
-use Rattle.gh_mutator.specs.Due.{due_scans}
+use Rattle.gh_poll.specs.Due.{due_scans}
 use Rattle.gh_mutator_writes.proofs.Writing.Routines.{gives_write}
 use Rattle.gh_mutator_writes.proofs.Writing.Rows.{buffer_writes, OfHeap, OfMarking, room_writes, shade_writes}
 

@@ -2,17 +2,17 @@
 use Rattle.std.proofs.Common.{◌≡◌, ℕ, List, refl, inl, arith}
 use Rattle.gh_assist.specs.Quiet.{AssistsAreQuiet}
 use Rattle.gh_phase.specs.Listing as resume
-use Rattle.gh_mutator.specs.declared.poll.PollStage.TheVariants as poll_stage
+use Rattle.gh_poll.specs.declared.poll.PollStage.TheVariants as poll_stage
 use Rattle.gh_mutator.specs.declared.task.Task.TheVariants as task
-use Rattle.gh_mutator.specs.declared.wait.WaitStage.TheVariants as wait_stage
-use Rattle.gh_mutator.specs.Give as give
-use Rattle.gh_mutator.specs.Leave as leave
-use Rattle.gh_mutator.specs.MarkStack as mark
+use Rattle.gh_poll.specs.declared.wait.WaitStage.TheVariants as wait_stage
+use Rattle.gh_poll.specs.Give as give
+use Rattle.gh_poll.specs.Leave as leave
+use Rattle.gh_poll.specs.MarkStack as mark
 use Rattle.gh_mutator.specs.New as new
-use Rattle.gh_mutator.specs.Poll as poll
+use Rattle.gh_poll.specs.Poll as poll
 use Rattle.gh_mutator.specs.ProcessorPlaces.{SoundNewAt}
 use Rattle.gh_mutator.specs.Vocabulary.{Polling}
-use Rattle.gh_mutator.specs.Wait as wait
+use Rattle.gh_poll.specs.Wait as wait
 use Rattle.gh_mutator_writes.specs.Writing.{IsWanting, IsWritten}
 use Rattle.gh_mutator.specs.Running.{ScansItsOwn}
 use Rattle.gh_mutator_writes.proofs.Vocabulary.{asks, LeaveStage, Leaving, MarkStackStage, NewStage, PollsSoundAt, PollStage, Processor, register_of, ResumeStage, SoundAt, SoundScanAt, Task, Waiting, WaitsSoundAt, WaitStage, WaitState, Wanted, WritesOf}

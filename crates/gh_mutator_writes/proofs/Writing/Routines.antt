@@ -3,10 +3,10 @@ use Rattle.std.proofs.Common.{◌≡◌, arith}
 use Rattle.gh_base.specs.declared.cell.Cell.{Cell}
 use Rattle.gh_barrier.specs.Listing as write
 use Rattle.gh_wbuf.specs.BufferGiving as buffer
-use Rattle.gh_mutator.specs.declared.give.GiveStage.TheVariants as give_stage
+use Rattle.gh_poll.specs.declared.give.GiveStage.TheVariants as give_stage
 use Rattle.gh_mutator.specs.declared.global.GlobalStage.TheVariants as global_stage
 use Rattle.gh_mutator.specs.declared.store.StoreStage.TheVariants as store_stage
-use Rattle.gh_mutator.specs.Give as give
+use Rattle.gh_poll.specs.Give as give
 use Rattle.gh_mutator.specs.Global as global
 use Rattle.gh_mutator.specs.Load as load
 use Rattle.gh_mutator.specs.MarkVocabulary.{Value}

@@ -69,19 +69,10 @@ module _ (c : Carving) (found : ℕ → ℕ) where
   Stands n m = ((run : ℕ) × Looked n run × (m ≡ at_stage c (Look n run))) ⊎ Over n m
 
   stays_over : (m : Carving) (p : CarveStage) (word : ℕ) → is_look p ≡ false → is_look (goes_at m p word) ≡ false
-  stays_over m (Look page run) word e = absurd (cc)
-  stays_over m (Body first distance) word e = go (ltb (distance + 1) m.span.pages) where
-    go : (more : Bool) → is_look (cond more (Body first (distance + 1)) (Head first)) ≡ false
-    go true = refl
-    go false = refl
-  stays_over m (Head first) word e = refl
-  stays_over m (Ended taken) word e = refl
+  stays_over m p word e = grind arith
 
   store_is_no_look : (span : Span) (first : ℕ) → is_look (first_store span first) ≡ false
-  store_is_no_look span first = go (ltb 1 span.pages) where
-    go : (more : Bool) → is_look (cond more (Body first 1) (Head first)) ≡ false
-    go true = refl
-    go false = refl
+  store_is_no_look span first = grind arith
 
   moved : (n run : ℕ) (m : Carving) → m ≡ at_stage c (Look n run) → Looked n run → 0 < c.span.pages → Outcome n (goes m (found n))
   moved n run m e l some = subst (λ (x : Carving). Outcome n (goes x (found n))) (sym e) (step n run l some)
@@ -106,16 +97,10 @@ module _ (c : Carving) (found : ℕ → ℕ) where
   no_load m (Ended taken) n over e = absurd (cc)
 
   store_gives_none : (span : Span) (first : ℕ) → given_at (first_store span first) ≢ Some None
-  store_gives_none span first = go (ltb 1 span.pages) where
-    go : (more : Bool) → given_at (cond more (Body first 1) (Head first)) ≢ Some None
-    go true e = absurd (cc)
-    go false e = absurd (cc)
+  store_gives_none span first = grind arith
 
   same_first : (span : Span) (m n : ℕ) → first_store span m ≡ first_store span n → m ≡ n
-  same_first span m n = go (ltb 1 span.pages) where
-    go : (more : Bool) → cond more (Body m 1) (Head m) ≡ cond more (Body n 1) (Head n) → m ≡ n
-    go true e = cc
-    go false e = cc
+  same_first span m n = grind arith
 
   pub finds : 0 < c.layout.pages → 0 < c.span.pages → c ≡ at_stage c (Look 0 0) → FindsFirstFit c found
   finds pages some opens = record {

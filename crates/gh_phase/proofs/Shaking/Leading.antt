@@ -1,6 +1,5 @@
 -- One step of the coordinator in the handshake.
-use Rattle.std.proofs.Common.{subst, ◌≡◌, ℕ, ◌+◌, ◌^◌, ◌<◌, Bool, true, false, cond, nat_lt, refl, sym, ◌∙◌, ap, arith, below_more}
-use Rattle.std.proofs.lemmas.Bool.Decides.{nat_tests}
+use Rattle.std.proofs.Common.{subst, ◌≡◌, ℕ, ◌^◌, ◌<◌, refl, ◌∙◌, ap, arith}
 use Rattle.gh_base.specs.declared.cell.Cell.TheVariants.{Phase, Gen, Begun, Ack}
 use Rattle.gh_base.specs.declared.cell.Ask.{Ask}
 use Rattle.gh_base.specs.declared.cell.Ask.TheVariants.{Load, Store}
@@ -77,13 +76,7 @@ module _ (back : (p : PhaseWord) → phase_of (phase_word p) ≡ p) (n : ℕ) (w
   }
 
   lead_sees : (phase : RunPhase) (ack : ℕ) → IsAcked s (w (Ack ack)) → Good n w last (at (Looks phase ack)) → Next n w last (at (Looks phase ack)) (Load (Ack ack)) (at (behind_ack n phase ack))
-  lead_sees phase ack e g = go (nat_lt (ack + 1) n) refl where
-    more : (a : ℕ) → a < ack + 1 → IsAcked s (w (Ack a))
-    more = below_more (λ (a : ℕ). IsAcked s (w (Ack a))) ack g.acked e
-
-    go : (b : Bool) → nat_lt (ack + 1) n ≡ b → Next n w last (at (Looks phase ack)) (Load (Ack ack)) (at (cond b (Looks phase (ack + 1)) (Stopped phase)))
-    go true x = record { good = record { fits = record { stops = g.fits.stops; generation = g.fits.generation }; shown = record { phase = g.shown.phase; generation = g.shown.generation; begun = g.shown.begun }; last_is = g.last_is; acked = more }; acks = λ a. refl; stands = λ a l known stage f. f }
-    go false x = record { good = record { fits = record { stops = g.fits.stops; generation = g.fits.generation }; shown = record { phase = g.shown.phase; generation = g.shown.generation; begun = g.shown.begun }; last_is = g.last_is; acked = λ a l. more a (grind (arith, nat_tests)) }; acks = λ a. refl; stands = λ a l known stage f. f }
+  lead_sees phase ack e g = record { good = grind arith; acks = grind arith; stands = grind arith }
 
   -- in a stopped world anything may be announced, save another stop
   parked_stand : (phase : RunPhase) (u : Announced) → u.stops ≡ s → Good n w last (at (Stopped phase)) → (a : ℕ) → a < n → (known : View) (stage : Stage) → Stands (announced (at (Stopped phase))) (w (Ack a)) known stage → Stands u (w (Ack a)) known stage
@@ -140,13 +133,3 @@ led back n w last found l m ask e (goes phase next small here is to) g = rest l.
 led back n w last found l m ask e (finishes here is to) g = rest l.post here g where
   rest : (p : Post) → p ≡ Calm Off → Good n w last (record l { post = p }) → Next n w last (record l { post = p }) ask m
   rest p x y = rw (x, is, to) (lead_finishes back n w last l.stops l.begun l.generation (rw x at y))
-
--- the coordinator stores no phase behind the last
-pub led_finished : (n found : ℕ) (w : Words) (l m : Lead) (ask : Ask) (last : RunPhase) → last ≡ last_of l.post → LeadGoes n found l ask m → last ≡ Finished → phase_stored ask last ≡ Finished
-led_finished n found w l m ask last is (quiet q same) f = (still w ask q).last last ∙ f
-led_finished n found w l m ask last is (stops phase goes_on here asks to) f = absurd (goes_on (sym (is ∙ ap last_of here) ∙ f))
-led_finished n found w l m ask last is (sees phase ack here asks seen to) f = rw asks f
-led_finished n found w l m ask last is (begins phase here asks to) f = rw asks f
-led_finished n found w l m ask last is (ends phase here asks to) f = rw asks f
-led_finished n found w l m ask last is (goes phase next goes_on here asks to) f = absurd (goes_on (sym (is ∙ ap last_of here) ∙ f))
-led_finished n found w l m ask last is (finishes here asks to) f = absurd (let no : Off ≡ Finished = sym (is ∙ ap last_of here) ∙ f in cc)

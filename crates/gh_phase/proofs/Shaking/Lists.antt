@@ -1,5 +1,5 @@
 -- What holds after every legal list of steps of actors that are in the handshake.
-use Rattle.std.proofs.Common.{inl, inr, subst, ◌≡◌, ℕ, ◌+◌, ◌<◌, Bool, true, false, cond, ◌==◌, refl, sym, ◌∙◌, ap, arith, eq-eqb, List, [], ◌∷◌, Option, Some, None}
+use Rattle.std.proofs.Common.{inl, subst, ◌≡◌, ℕ, ◌+◌, ◌<◌, Bool, true, false, cond, ◌==◌, refl, sym, ◌∙◌, ap, arith, eq-eqb, List, [], ◌∷◌, Option}
 use Rattle.std.proofs.lemmas.Bool.Decides.{nat_tests}
 use Rattle.gh_base.specs.declared.cell.Cell.TheVariants.{Ack}
 use Rattle.gh_base.specs.declared.cell.Ask.{Ask}
@@ -10,41 +10,31 @@ use Rattle.gh_base.specs.Lists.{Begins, Legal, MayFollow, Setting, started, stat
 use Rattle.gh_base.specs.Packing.{phase_of, phase_word}
 use Rattle.gh_base.specs.Steps.{cell_of, effect}
 use Rattle.gh_phase.specs.declared.view.RunPhase.{RunPhase}
-use Rattle.gh_phase.specs.Handshake.{Acts, Awake, first_lead, Gives, Gone, HandshakePlace, is_stop, IsHandshake, last_of, Lead, LeadGoes, Leads, Leaves, Party, PlaceBegins, PlaceGoes, Post, Resumes, run_word, Stage, stop_word}
+use Rattle.gh_phase.specs.Handshake.{Acts, first_lead, HandshakePlace, is_stop, IsHandshake, last_of, Lead, LeadGoes, Leads, Party, PlaceBegins, PlaceGoes, Post, run_word, Stage, stop_word}
 use Rattle.gh_phase.specs.Shakes.{IsAwake, last_phase, phase_stored, Shakes}
 use Rattle.gh_phase.proofs.Shaking.Leading.{announced, Good, led, Next}
 use Rattle.gh_phase.proofs.Shaking.Owning.{own, OwnStep, Shown}
-use Rattle.gh_phase.proofs.Shaking.Standing.{acked_moves, Announced, Copies, Fits, is_gone, Moves, parked, Stands}
+use Rattle.gh_phase.proofs.Shaking.Standing.{Announced, Copies, Fits, is_gone, parked, Stands}
 
 -- what holds of the place of the actor at seat a
-abbrev pub Fine : Announced → (a ack : ℕ) → HandshakePlace → Type 0
-Fine v a ack (Acts party stage) = (party.seat ≡ a) × Stands v ack party.view stage
-Fine v a ack (Leads l) = ⊥
+abbrev pub HandshakeFacts : Announced → (a ack : ℕ) → HandshakePlace → Type 0
+HandshakeFacts v a ack (Acts party stage) = (party.seat ≡ a) × Stands v ack party.view stage
+HandshakeFacts v a ack (Leads l) = ⊥
 
 -- beginning an operation leaves what holds of a place
-pub begins_fine : (v : Announced) (a ack : ℕ) (from to : HandshakePlace) → PlaceBegins from to → Fine v a ack from → Fine v a ack to
-begins_fine v a ack from to (inl e) f = rw e f
-begins_fine v a ack from to (inr e) f = rw e.2 (rw e.1 at f)
+pub begins_fine : (v : Announced) (a ack : ℕ) (from to : HandshakePlace) → PlaceBegins from to → HandshakeFacts v a ack from → HandshakeFacts v a ack to
+begins_fine v a ack from to h f = grind arith
 
 pub begins_lead : (l : Lead) (from to : HandshakePlace) → PlaceBegins from to → from ≡ Leads l → to ≡ Leads l
-begins_lead l from to (inl e) h = e ∙ h
-begins_lead l from to (inr e) h = let both : Acts e.0 Awake ≡ Leads l = sym e.1 ∙ h in absurd cc
+begins_lead l from to h h2 = grind arith
 
 -- an own step keeps what the coordinator knows
 own_good : (n : ℕ) (w u : Words) (ask : Ask) (last : RunPhase) (l : Lead) (a : ℕ) → OwnStep (announced l) a w u ask → Good n w last l → Good n u (phase_stored ask last) l
-own_good n w u ask last l a o g = record {
-  fits = g.fits;
-  shown = record { phase = o.phase ∙ g.shown.phase; generation = o.generation ∙ g.shown.generation; begun = o.begun ∙ g.shown.begun };
-  last_is = o.last last ∙ g.last_is;
-  acked = λ b m. acked_moves (announced l) (w (Ack b)) (u (Ack b)) (each b (b == a) refl) (g.acked b m);
-} where
-  each : (b : ℕ) (t : Bool) → (b == a) ≡ t → Moves (announced l) (w (Ack b)) (u (Ack b))
-  each b true h = let same : b ≡ a = grind (arith, nat_tests) in rw same o.own
-  each b false h = inl (o.others b (λ y. grind (arith, nat_tests)))
+own_good n w u ask last l a o g = grind arith
 
 module _ (back : (p : PhaseWord) → phase_of (phase_word p) ≡ p) where
-  pub own_place : (v : Announced) → Fits v → (a n found : ℕ) (w : Words) → Shown v w → (ask : Ask) (from to : HandshakePlace) → found ≡ w (cell_of ask) → PlaceGoes n found from ask to → Fine v a (w (Ack a)) from →
-      OwnStep v a w (effect w ask) ask × Fine v a (effect w ask (Ack a)) to
+  pub own_place : (v : Announced) → Fits v → (a n found : ℕ) (w : Words) → Shown v w → (ask : Ask) (from to : HandshakePlace) → found ≡ w (cell_of ask) → PlaceGoes n found from ask to → HandshakeFacts v a (w (Ack a)) from →
+      OwnStep v a w (effect w ask) ask × HandshakeFacts v a (effect w ask (Ack a)) to
   own_place v h a n found w s ask (Acts from stage) (Acts to next) e g f = let o = own back v h a w s found from to stage next ask e f.0 g f.1 in (o.step, (o.seat, o.stands))
   own_place v h a n found w s ask (Acts from stage) (Leads m) e g f = absurd g
   own_place v h a n found w s ask (Leads l) to e g f = absurd f
@@ -65,34 +55,23 @@ module _ {M O : Type 0} (setting : Setting M O) (n : ℕ) (sound : M → Type 0)
     pub lead : Lead
     pub leads : place (state es n) ≡ Leads lead
     pub good : Good n (words_after setting.opening es) (last_phase es) lead
-    pub fine : (a : ℕ) → a < n → Fine (announced lead) a (words_after setting.opening es (Ack a)) (place (state es a))
+    pub fine : (a : ℕ) → a < n → HandshakeFacts (announced lead) a (words_after setting.opening es (Ack a)) (place (state es a))
     pub sounds : (a : ℕ) → a < n + 1 → sound (state es a)
 
   pub state_own : (e : Entry O) (es : List (Entry O)) → state (e ∷ es) e.actor ≡ setting.kind.takes (started setting.kind e.begun (state es e.actor)) e.found
   state_own e es = rw (eq-eqb e.actor e.actor refl)
 
   pub state_other : (a : ℕ) (e : Entry O) (es : List (Entry O)) → (e.actor ≡ a → ⊥) → state (e ∷ es) a ≡ state es a
-  state_other a e es other = go (e.actor == a) refl where
-    go : (b : Bool) → (e.actor == a) ≡ b → cond b (setting.kind.takes (started setting.kind e.begun (state es a)) e.found) (state es a) ≡ state es a
-    go true same = absurd (other (grind (arith, nat_tests)))
-    go false x = refl
+  state_other a e es other = grind arith
 
   module _ (h : IsHandshake setting n sound place) where
     -- beginning an operation keeps the place
     pub begun_place : (a : ℕ) (es : List (Entry O)) (o : Option O) → Begins setting a es o → sound (state es a) →
         sound (started setting.kind o (state es a)) × PlaceBegins (place (state es a)) (place (started setting.kind o (state es a)))
-    begun_place a es None b s = (s, inl refl)
-    begun_place a es (Some o) b s = (h.sound_begins (state es a) o s b.0, h.begins (state es a) o s b.0)
+    begun_place a es o b s = grind arith
 
     sounds_kept : (es : List (Entry O)) (e : Entry O) → MayFollow setting es e → ((a : ℕ) → a < n + 1 → sound (state es a)) → (a : ℕ) → a < n + 1 → sound (state (e ∷ es) a)
-    sounds_kept es e f s a l = go (e.actor == a) refl where
-      go : (b : Bool) → (e.actor == a) ≡ b → sound (state (e ∷ es) a)
-      go true x =
-          let same : e.actor ≡ a = grind (arith, nat_tests) in
-          let here : sound (state es e.actor) = s e.actor (rw same l) in
-          let both = begun_place e.actor es e.begun f.begins here in
-          subst (λ (y : ℕ). sound (state (e ∷ es) y)) same (rw (state_own e es) (h.sound_takes (started setting.kind e.begun (state es e.actor)) e.found both.0 f.runs))
-      go false x = rw (state_other a e es (λ y. grind (arith, nat_tests))) (s a l)
+    sounds_kept es e f s a l = grind arith
 
     module _ (back : (p : PhaseWord) → phase_of (phase_word p) ≡ p) where
       module _ (es : List (Entry O)) (e : Entry O) (f : MayFollow setting es e) (i : Inv es) where
@@ -106,14 +85,14 @@ module _ {M O : Type 0} (setting : Setting M O) (n : ℕ) (sound : M → Type 0)
         below = let l = f.actor in let x = h.actors in omega arith
 
         both : (sound m) × PlaceBegins (place (state es e.actor)) (place m)
-        both = begun_place e.actor es e.begun f.begins (i.sounds e.actor below)
+        both = grind arith
 
         gone_on : PlaceGoes n e.found (place m) e.ask (place (setting.kind.takes m e.found))
         gone_on = rw f.asks (h.takes m e.found both.0 f.runs)
 
         own_case : e.actor < n → Inv (e ∷ es)
         own_case small =
-            let fine : Fine (announced i.lead) e.actor (w (Ack e.actor)) (place m) = begins_fine (announced i.lead) e.actor (w (Ack e.actor)) (place (state es e.actor)) (place m) both.1 (i.fine e.actor small) in
+            let fine : HandshakeFacts (announced i.lead) e.actor (w (Ack e.actor)) (place m) = begins_fine (announced i.lead) e.actor (w (Ack e.actor)) (place (state es e.actor)) (place m) both.1 (i.fine e.actor small) in
             let next = own_place back (announced i.lead) i.good.fits e.actor n e.found w i.good.shown e.ask (place m) (place (setting.kind.takes m e.found)) f.found gone_on fine in
             record {
               lead = i.lead;
@@ -122,11 +101,11 @@ module _ {M O : Type 0} (setting : Setting M O) (n : ℕ) (sound : M → Type 0)
               fine = λ a l. each next a l (a == e.actor) refl;
               sounds = sounds_kept es e f i.sounds;
             } where
-              each : (next : OwnStep (announced i.lead) e.actor w (effect w e.ask) e.ask × Fine (announced i.lead) e.actor (effect w e.ask (Ack e.actor)) (place (setting.kind.takes m e.found))) →
-                  (a : ℕ) → a < n → (t : Bool) → (a == e.actor) ≡ t → Fine (announced i.lead) a (effect w e.ask (Ack a)) (place (state (e ∷ es) a))
+              each : (next : OwnStep (announced i.lead) e.actor w (effect w e.ask) e.ask × HandshakeFacts (announced i.lead) e.actor (effect w e.ask (Ack e.actor)) (place (setting.kind.takes m e.found))) →
+                  (a : ℕ) → a < n → (t : Bool) → (a == e.actor) ≡ t → HandshakeFacts (announced i.lead) a (effect w e.ask (Ack a)) (place (state (e ∷ es) a))
               each next a l true x =
                   let same : a ≡ e.actor = grind (arith, nat_tests) in
-                  subst (λ (y : ℕ). Fine (announced i.lead) y (effect w e.ask (Ack y)) (place (state (e ∷ es) y))) (sym same) (rw (state_own e es) next.1)
+                  subst (λ (y : ℕ). HandshakeFacts (announced i.lead) y (effect w e.ask (Ack y)) (place (state (e ∷ es) y))) (sym same) (rw (state_own e es) next.1)
               each next a l false x = rw (state_other a e es (λ y. grind (arith, nat_tests)), next.0.others a (λ y. grind (arith, nat_tests))) (i.fine a l)
 
         led_case : e.actor ≡ n → Inv (e ∷ es)
@@ -140,7 +119,7 @@ module _ {M O : Type 0} (setting : Setting M O) (n : ℕ) (sound : M → Type 0)
               fine = λ a l. rw (state_other a e es (λ x. omega arith), next.2.acks a) (fine_kept next.0 next.2 a l (place (state es a)) (i.fine a l));
               sounds = sounds_kept es e f i.sounds;
             } where
-              fine_kept : (u : Lead) → Next n w (last_phase es) i.lead e.ask u → (a : ℕ) → a < n → (p : HandshakePlace) → Fine (announced i.lead) a (w (Ack a)) p → Fine (announced u) a (w (Ack a)) p
+              fine_kept : (u : Lead) → Next n w (last_phase es) i.lead e.ask u → (a : ℕ) → a < n → (p : HandshakePlace) → HandshakeFacts (announced i.lead) a (w (Ack a)) p → HandshakeFacts (announced u) a (w (Ack a)) p
               fine_kept u next a l (Acts party stage) g = (g.0, next.stands a l party.view stage g.1)
               fine_kept u next a l (Leads x) g = g
 
@@ -165,18 +144,13 @@ module _ {M O : Type 0} (setting : Setting M O) (n : ℕ) (sound : M → Type 0)
 
   module _ (es : List (Entry O)) (i : Inv es) where
     acts : (a : ℕ) (party : Party) (stage : Stage) → a < n → place (state es a) ≡ Acts party stage → (party.seat ≡ a) × Stands (announced i.lead) (words_after setting.opening es (Ack a)) party.view stage
-    acts a party stage l e = subst (Fine (announced i.lead) a (words_after setting.opening es (Ack a))) e (i.fine a l)
+    acts a party stage l e = subst (HandshakeFacts (announced i.lead) a (words_after setting.opening es (Ack a))) e (i.fine a l)
 
     awake : (v : Announced) (ack : ℕ) (party : Party) (stage : Stage) → IsAwake stage → Stands v ack party.view stage → Copies v party.view
-    awake v ack party Awake a f = f.1
-    awake v ack party (Gives stops) a f = f.3
-    awake v ack party Leaves a f = f.1
-    awake v ack party (Resumes stops stage) a f = absurd a
-    awake v ack party Gone a f = absurd a
+    awake v ack party stage a f = grind arith
 
-    seated : (v : Announced) (a ack : ℕ) (q : HandshakePlace) → Fine v a ack q → (party : Party) × (stage : Stage) × (q ≡ Acts party stage) × (party.seat ≡ a)
-    seated v a ack (Acts party stage) f = (party, stage, refl, f.0)
-    seated v a ack (Leads l) f = absurd f
+    seated : (v : Announced) (a ack : ℕ) (q : HandshakePlace) → HandshakeFacts v a ack q → (party : Party) × (stage : Stage) × (q ≡ Acts party stage) × (party.seat ≡ a)
+    seated v a ack q f = grind arith
 
     phase_is : (p : Post) → last_of p ≡ last_phase es → cond (is_stop p) (stop_word i.lead.stops) (run_word i.lead.stops (last_of p)) ≡ cond (is_stop p) (stop_word i.lead.stops) (run_word i.lead.stops (last_phase es))
     phase_is p e = rw e refl

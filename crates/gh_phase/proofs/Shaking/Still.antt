@@ -1,8 +1,7 @@
 -- What one entry more leaves: who is gone stays gone, the last phase stays, and in a stopped world nobody but the coordinator moves.
-use Rattle.std.proofs.Common.{inl, inr, subst, ◌≡◌, ℕ, ◌<◌, Bool, true, false, cond, ◌==◌, refl, sym, ◌∙◌, ap, arith, List, ◌∷◌, Option, Some, None}
+use Rattle.std.proofs.Common.{subst, ◌≡◌, ℕ, ◌<◌, Bool, true, false, ◌==◌, refl, sym, ◌∙◌, arith, List, ◌∷◌}
 use Rattle.std.proofs.lemmas.Bool.Decides.{nat_tests}
 use Rattle.gh_base.specs.declared.cell.Cell.TheVariants.{Phase, Ack}
-use Rattle.gh_base.specs.declared.cell.Ask.{Ask}
 use Rattle.gh_base.specs.declared.cell.Ask.TheVariants.{Load}
 use Rattle.gh_base.specs.declared.machine.Entry.{Entry}
 use Rattle.gh_base.specs.declared.pack.PhaseWord.{PhaseWord}
@@ -10,20 +9,12 @@ use Rattle.gh_base.specs.declared.pack.TheConstants.{GONE}
 use Rattle.gh_base.specs.Lists.{Legal, Setting, started, state_of, words_after}
 use Rattle.gh_base.specs.Packing.{phase_of, phase_word}
 use Rattle.gh_base.specs.Steps.{cell_of}
-use Rattle.gh_phase.specs.declared.resume.ResumeStage.TheVariants.{Acknowledge, LoadPhase, LoadGeneration}
-use Rattle.gh_phase.specs.declared.view.RunPhase.{RunPhase}
 use Rattle.gh_phase.specs.declared.view.RunPhase.TheVariants.{Finished}
-use Rattle.gh_phase.specs.Handshake.{Acts, Awake, Gone, IsAcked, IsHandshake, is_stop, Lead, LeadGoes, Leads, HandshakePlace, PlaceBegins, PlaceGoes, Resumes, Stage, StageGoes, stop_word, Stopped, with_phase}
+use Rattle.gh_phase.specs.Handshake.{Acts, Gone, IsAcked, IsHandshake, is_stop, Leads, HandshakePlace, PlaceBegins, PlaceGoes, Stage, StageGoes, stop_word, Stopped}
 use Rattle.gh_phase.specs.Shakes.{FinishedStays, GoneStay, IsParked, last_phase, NobodyMoves, phase_stored}
-use Rattle.gh_phase.specs.Views.{run_phase}
-use Rattle.gh_phase.proofs.Shaking.Leading.{announced, led_finished}
-use Rattle.gh_phase.proofs.Shaking.Lists.{begins_fine, begins_lead, begun_place, Fine, holds, Inv, own_place, state_other, state_own}
-use Rattle.gh_phase.proofs.Shaking.Standing.{Announced, Fits, is_gone, number_told, parked, Stands, stop_told, word_of}
-
--- by what a load of the phase found
-abbrev halts : (stops number : ℕ) → Bool → Option RunPhase → Stage
-halts stops number same None = cond same (Resumes stops LoadPhase) (Resumes number Acknowledge)
-halts stops number same (Some phase) = Resumes stops LoadGeneration
+use Rattle.gh_phase.proofs.Shaking.Leading.{announced}
+use Rattle.gh_phase.proofs.Shaking.Lists.{begins_fine, begins_lead, begun_place, HandshakeFacts, holds, Inv, own_place, state_other, state_own}
+use Rattle.gh_phase.proofs.Shaking.Standing.{Announced, Fits, is_gone, parked, Stands, word_of}
 
 module _ (back : (p : PhaseWord) → phase_of (phase_word p) ≡ p) {M O : Type 0} (setting : Setting M O) (n : ℕ) (sound : M → Type 0) (place : M → HandshakePlace) (h : IsHandshake setting n sound place) (e : Entry O) (es : List (Entry O)) (legal : Legal setting (e ∷ es)) where
   abbrev acked : ℕ → ℕ
@@ -44,16 +35,12 @@ module _ (back : (p : PhaseWord) → phase_of (phase_word p) ≡ p) {M O : Type 
   goes_on : PlaceGoes n e.found (place moved) e.ask (place (state_of setting.kind e.actor (e ∷ es)))
   goes_on = rw (state_own setting n sound place e es, legal.1.asks) (h.takes moved e.found both.0 legal.1.runs)
 
-  fine : e.actor < n → Fine (announced before.lead) e.actor (acked e.actor) (place moved)
+  fine : e.actor < n → HandshakeFacts (announced before.lead) e.actor (acked e.actor) (place moved)
   fine l = begins_fine (announced before.lead) e.actor (acked e.actor) (at e.actor) (place moved) both.1 (before.fine e.actor l)
 
   -- one that is gone makes no step
-  gone_rests : (from to : HandshakePlace) (v : Announced) (a ack : ℕ) → Fits v → Fine v a ack from → ack ≡ GONE → PlaceGoes n e.found from e.ask to → ⊥
-  gone_rests (Acts party stage) (Acts to next) v a ack x f y g = rest stage (is_gone v ack party.view stage x f.1 y) g where
-    rest : (p : Stage) → p ≡ Gone → StageGoes e.found party p e.ask to next → ⊥
-    rest p z g = rw z at g
-  gone_rests (Acts party stage) (Leads l) v a ack x f y g = g
-  gone_rests (Leads l) to v a ack x f y g = f
+  gone_rests : (from to : HandshakePlace) (v : Announced) (a ack : ℕ) → Fits v → HandshakeFacts v a ack from → ack ≡ GONE → PlaceGoes n e.found from e.ask to → ⊥
+  gone_rests from to v a ack x f y g = grind arith
 
   pub gone_stay : GoneStay setting n place e es
   gone_stay a l y = go (e.actor == a) refl where
@@ -63,7 +50,7 @@ module _ (back : (p : PhaseWord) → phase_of (phase_word p) ≡ p) {M O : Type 
     j : Inv setting n sound place (e ∷ es)
     j = holds setting n sound place h back (e ∷ es) legal
 
-    kept : (p : HandshakePlace) → Fine (announced i.lead) a (acked a) p → Fine (announced j.lead) a (words_after setting.opening (e ∷ es) (Ack a)) p → words_after setting.opening (e ∷ es) (Ack a) ≡ GONE
+    kept : (p : HandshakePlace) → HandshakeFacts (announced i.lead) a (acked a) p → HandshakeFacts (announced j.lead) a (words_after setting.opening (e ∷ es) (Ack a)) p → words_after setting.opening (e ∷ es) (Ack a) ≡ GONE
     kept (Acts party stage) f g = rest stage (is_gone (announced i.lead) (acked a) party.view stage i.good.fits f.1 y) g.1 where
       rest : (p : Stage) → p ≡ Gone → Stands (announced j.lead) (words_after setting.opening (e ∷ es) (Ack a)) party.view p → words_after setting.opening (e ∷ es) (Ack a) ≡ GONE
       rest p z g = rw z at g
@@ -78,35 +65,16 @@ module _ (back : (p : PhaseWord) → phase_of (phase_word p) ≡ p) {M O : Type 
     go false x = kept (at a) (i.fine a l) (rw (← state_other setting n sound place a e es (λ z. grind (arith, nat_tests))) (j.fine a l))
 
   -- a step of who waits at the stop that stands
-  waits : (v : Announced) (from to : HandshakePlace) → Fits v → v.on ≡ true → (a ack : ℕ) → Fine v a ack from → IsAcked v.stops ack → e.found ≡ words_after setting.opening es (cell_of e.ask) → words_after setting.opening es Phase ≡ word_of v → PlaceGoes n e.found from e.ask to →
+  waits : (v : Announced) (from to : HandshakePlace) → Fits v → v.on ≡ true → (a ack : ℕ) → HandshakeFacts v a ack from → IsAcked v.stops ack → e.found ≡ words_after setting.opening es (cell_of e.ask) → words_after setting.opening es Phase ≡ word_of v → PlaceGoes n e.found from e.ask to →
       (e.ask ≡ Load Phase) × (e.found ≡ stop_word v.stops) × (to ≡ from)
   waits v (Acts party stage) (Acts to next) x on a ack f k found phase g = rest stage (parked v ack party.view stage x on k f.1) g where
-    at_phase : e.ask ≡ Load Phase → e.found ≡ stop_word v.stops
-    at_phase z = found ∙ (ap (λ (y : Ask). words_after setting.opening es (cell_of y)) z ∙ (phase ∙ rw on))
-
     rest : (p : Stage) → IsParked v.stops p → StageGoes e.found party p e.ask to next → (e.ask ≡ Load Phase) × (e.found ≡ stop_word v.stops) × (Acts to next ≡ Acts party p)
-    rest (Resumes stops LoadPhase) y g = (g.1, at_phase g.1, go (run_phase (phase_of e.found).phase) ((phase_of e.found).stops == stops) none refl g.0 g.2) where
-      is : e.found ≡ stop_word v.stops
-      is = at_phase g.1
-
-      none : run_phase (phase_of e.found).phase ≡ None
-      none = ap (λ (w : ℕ). run_phase (phase_of w).phase) is ∙ stop_told back v.stops
-
-      same : (phase_of e.found).stops ≡ stops
-      same = number_told back v e.found (is ∙ rw on) ∙ sym y
-
-      go : (p : Option RunPhase) (b : Bool) → p ≡ None → ((phase_of e.found).stops == stops) ≡ b → to ≡ record party { view = with_phase party.view p } → next ≡ halts stops (phase_of e.found).stops b p → Acts to next ≡ Acts party (Resumes stops LoadPhase)
-      go None true c d z w = rw (z, w) refl
-      go None false c d z w = absurd (let s = same in grind (arith, nat_tests))
-      go (Some phase) b c d z w = absurd cc
-    rest Gone y g = absurd g
-    rest _ y g = absurd y
+    rest p y g = grind arith
   waits v (Acts party stage) (Leads l) x on a ack f k found phase g = absurd g
   waits v (Leads l) to x on a ack f k found phase g = absurd f
 
-  parked_begins : (v : Announced) (a ack : ℕ) (from to : HandshakePlace) → Fits v → v.on ≡ true → IsAcked v.stops ack → Fine v a ack from → PlaceBegins from to → to ≡ from
-  parked_begins v a ack from to x on k f (inl e) = e
-  parked_begins v a ack from to x on k f (inr e) = let g = rw e.1 at f in absurd (parked v ack e.0.view Awake x on k g.1)
+  parked_begins : (v : Announced) (a ack : ℕ) (from to : HandshakePlace) → Fits v → v.on ≡ true → IsAcked v.stops ack → HandshakeFacts v a ack from → PlaceBegins from to → to ≡ from
+  parked_begins v a ack from to x on k f h = grind arith
 
   pub nobody_moves : NobodyMoves setting n place e es
   nobody_moves lead phase here stopped l =
@@ -119,11 +87,7 @@ module _ (back : (p : PhaseWord) → phase_of (phase_word p) ≡ p) {M O : Type 
       (all.0, all.1 ∙ rw same refl, all.2 ∙ still)
 
   led_place_finished : (from to : HandshakePlace) → from ≡ Leads before.lead → PlaceGoes n e.found from e.ask to → last_phase es ≡ Finished → phase_stored e.ask (last_phase es) ≡ Finished
-  led_place_finished (Leads x) (Leads m) here g f =
-      let same : x ≡ before.lead = cc in
-      led_finished n e.found (words_after setting.opening es) before.lead m e.ask (last_phase es) before.good.last_is (subst (λ (y : Lead). LeadGoes n e.found y e.ask m) same g) f
-  led_place_finished (Leads x) (Acts to next) here g f = absurd g
-  led_place_finished (Acts from stage) to here g f = absurd cc
+  led_place_finished from to here g f = grind arith
 
   pub finished_stays : FinishedStays e es
   finished_stays f = go (e.actor == n) refl where

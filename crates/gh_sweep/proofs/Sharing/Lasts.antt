@@ -7,7 +7,7 @@ use Rattle.gh_sweep.specs.Facts.{OthersAt, SpanStays, SweepKeepsItsFacts}
 use Rattle.gh_sweep.specs.Listing.{bit_words, in_sweep, is_busy, opening, Sweeping}
 use Rattle.gh_sweep.specs.Moves.{OthersLeave, SpanIsLeft, Sweeps}
 use Rattle.gh_sweep.specs.Shared.{By, CycleEnd, generation_of, Good, HasEnded, Shared, view}
-use Rattle.gh_sweep.specs.Sweepers.{has_span, HasReached, IsAtRest, IsOwn, SweepIsFine, SweepsAmongOthers}
+use Rattle.gh_sweep.specs.Sweepers.{has_span, HasReached, IsAtRest, IsOwn, SweepFacts, SweepsAmongOthers}
 use Rattle.gh_sweep.specs.Vocabulary.{Begin, ClearBits, ClearMarks, Ended, LoadMarks, SpanHead, SweepStage}
 use Rattle.gh_sweep.proofs.Sharing.KeepsPages.{Known}
 use Rattle.gh_sweep.proofs.Sharing.Own.{lands}
@@ -44,7 +44,7 @@ module _ (e : CycleEnd) (a : ℕ) (s t : Shared) (o : OthersLeave e a s t) (m : 
   others_at n (Ended end) r = tt
   others_at n _ r = stays (bit_words m.head) (bit_words m.head) r
 
-  fine_lasts : SweepKeepsItsFacts → SweepIsFine e a s m → SweepIsFine e a t m
+  fine_lasts : SweepKeepsItsFacts → SweepFacts e a s m → SweepFacts e a t m
   fine_lasts laws f = record {
     placed = f.placed;
     number = f.number;
@@ -60,7 +60,7 @@ module _ (e : CycleEnd) (a : ℕ) (s t : Shared) (o : OthersLeave e a s t) (m : 
     mine p own = subst (λ (n : ℕ). t.far n ≡ By a) own.1 (o.mine m.page m.head ((f.right m.page).1 (own.0, refl)) (head_of m.stage own.0 f.is_at)).by
 
 -- A sweep may be begun.
-opens : (e : CycleEnd) (a : ℕ) (s : Shared) (p : ℕ) (h : SpanHead) → HasEnded e → Good e (view s) → IsAtRest a s → page_of (s.words (Page p)) ≡ Head h → h.number + 2 ≡ generation_of e → SweepIsFine e a s (opening e.layout p h)
+opens : (e : CycleEnd) (a : ℕ) (s : Shared) (p : ℕ) (h : SpanHead) → HasEnded e → Good e (view s) → IsAtRest a s → page_of (s.words (Page p)) ≡ Head h → h.number + 2 ≡ generation_of e → SweepFacts e a s (opening e.layout p h)
 opens e a s p h ended g rest is number =
     let head = g.heads p h is in
     let small = ended.generation in
@@ -76,7 +76,7 @@ opens e a s p h ended g rest is number =
       no_span x = cc
 
 -- And it ends at rest.
-rests : (e : CycleEnd) (a : ℕ) (s : Shared) (m : Sweeping) → SweepIsFine e a s m → is_busy m.stage ≡ false → IsAtRest a s
+rests : (e : CycleEnd) (a : ℕ) (s : Shared) (m : Sweeping) → SweepFacts e a s m → is_busy m.stage ≡ false → IsAtRest a s
 rests e a s m f ended = grind arith
 
 pub among_others : Known → SweepKeepsItsFacts → SweepsAmongOthers

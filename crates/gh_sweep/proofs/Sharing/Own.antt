@@ -7,7 +7,7 @@ use Rattle.gh_base.specs.Steps.{cell_of, effect}
 use Rattle.gh_heap.specs.Moves.{update}
 use Rattle.gh_sweep.specs.Facts.{Facts, SweepKeepsItsFacts}
 use Rattle.gh_sweep.specs.Steps.{IsInArena}
-use Rattle.gh_sweep.proofs.Vocabulary.{AddHeap, AddLive, AddTally, all_owed, asks, at_stage, Begin, bit_words, By, ClearBits, ClearMarks, Clears, counted, CycleEnd, Done, Due, Ended, Finish, freed_in, goes, Good, HasEnded, Head, head_word, in_sweep, InSpan, is_busy, kept_in, Lands, Load, LoadMarks, Lost, move_at, move_of, moved, negative, page_of, put, Quiet, seats_of, Shared, slot_bytes, SpanHead, Starts, Sweeping, SweepIsFine, Sweeps, SweepStage, tally_word, TellsHeap, TellsLive, TellsTally, Unswept, view, with_word_cut, word_at, Words}
+use Rattle.gh_sweep.proofs.Vocabulary.{AddHeap, AddLive, AddTally, all_owed, asks, at_stage, Begin, bit_words, By, ClearBits, ClearMarks, Clears, counted, CycleEnd, Done, Due, Ended, Finish, freed_in, goes, Good, HasEnded, Head, head_word, in_sweep, InSpan, is_busy, kept_in, Lands, Load, LoadMarks, Lost, move_at, move_of, moved, negative, page_of, put, Quiet, seats_of, Shared, slot_bytes, SpanHead, Starts, Sweeping, SweepFacts, Sweeps, SweepStage, tally_word, TellsHeap, TellsLive, TellsTally, Unswept, view, with_word_cut, word_at, Words}
 use Rattle.gh_sweep.proofs.Sharing.KeepsPages.{fits_then, fresh_before, Known, reads}
 use Rattle.gh_sweep.proofs.Sharing.Pages.{by_done}
 use Rattle.gh_sweep.proofs.Sharing.Sums.{at_entry}
@@ -26,14 +26,14 @@ module _ (k : Known) (laws : SweepKeepsItsFacts) (e : CycleEnd) (ended : HasEnde
   abbrev h : SpanHead
   h = m.head
 
-  abbrev FineAt : SweepStage → Type 0
-  FineAt stage = SweepIsFine e a s (at_stage m stage)
+  abbrev SweepFactsAt : SweepStage → Type 0
+  SweepFactsAt stage = SweepFacts e a s (at_stage m stage)
 
   abbrev LandsAt : SweepStage → Type 0
-  LandsAt stage = Lands e a s (move_at (at_stage m stage) stage (s.words (cell_of (asks (at_stage m stage))))) (effect s.words (asks (at_stage m stage))) (λ t. SweepIsFine e a t (goes (at_stage m stage) (s.words (cell_of (asks (at_stage m stage))))))
+  LandsAt stage = Lands e a s (move_at (at_stage m stage) stage (s.words (cell_of (asks (at_stage m stage))))) (effect s.words (asks (at_stage m stage))) (λ t. SweepFacts e a t (goes (at_stage m stage) (s.words (cell_of (asks (at_stage m stage))))))
 
   -- what the next stage relies on of the words
-  facts_then : (stage : SweepStage) → is_busy stage ≡ true → FineAt stage → Facts (goes (at_stage m stage) (s.words (cell_of (asks (at_stage m stage))))) (effect s.words (asks (at_stage m stage)))
+  facts_then : (stage : SweepStage) → is_busy stage ≡ true → SweepFactsAt stage → Facts (goes (at_stage m stage) (s.words (cell_of (asks (at_stage m stage))))) (effect s.words (asks (at_stage m stage)))
   facts_then stage busy f = (laws.own (at_stage m stage) s.words f.placed busy f.facts).leads
 
   -- The sweep begins, or is lost.
@@ -41,7 +41,7 @@ module _ (k : Known) (laws : SweepKeepsItsFacts) (e : CycleEnd) (ended : HasEnde
   abbrev begun_words : Words
   begun_words = put s.words (cell.Page p) (head_word (in_sweep h))
 
-  begin_at : FineAt Begin → (b : Bool) → eqb (s.words (cell.Page p)) (head_word h) ≡ b → Lands e a s (cond b (Starts p h) (Quiet (Load (cell.Page p)))) (cond b begun_words s.words) (λ t. SweepIsFine e a t (at_stage m (cond b (LoadMarks 0) (Ended Lost))))
+  begin_at : SweepFactsAt Begin → (b : Bool) → eqb (s.words (cell.Page p)) (head_word h) ≡ b → Lands e a s (cond b (Starts p h) (Quiet (Load (cell.Page p)))) (cond b begun_words s.words) (λ t. SweepFacts e a t (at_stage m (cond b (LoadMarks 0) (Ended Lost))))
   begin_at f true is = record {
     may = (head_was, f.number);
     words_are = refl;
@@ -98,7 +98,7 @@ module _ (k : Known) (laws : SweepKeepsItsFacts) (e : CycleEnd) (ended : HasEnde
     | inr n ↦ let apart = n.1 in grind (arith, nat_tests)
   ]
 
-  load_lands : (i : ℕ) → FineAt (LoadMarks i) → LandsAt (LoadMarks i)
+  load_lands : (i : ℕ) → SweepFactsAt (LoadMarks i) → LandsAt (LoadMarks i)
   load_lands i f = record {
     may = tt;
     words_are = refl;
@@ -106,7 +106,7 @@ module _ (k : Known) (laws : SweepKeepsItsFacts) (e : CycleEnd) (ended : HasEnde
   }
 
   -- the alloc bits are cut
-  module _ (i marks : ℕ) (f : FineAt (ClearBits i marks)) where
+  module _ (i marks : ℕ) (f : SweepFactsAt (ClearBits i marks)) where
     abbrev j : ℕ
     j = here i
 
@@ -169,7 +169,7 @@ module _ (k : Known) (laws : SweepKeepsItsFacts) (e : CycleEnd) (ended : HasEnde
     }
 
   -- the marks are cleared
-  module _ (i : ℕ) (f : FineAt (ClearMarks i)) where
+  module _ (i : ℕ) (f : SweepFactsAt (ClearMarks i)) where
     at_marks : word_at m i ≡ here i
     at_marks = at_word i f.placed.arena f.placed.stage
 
@@ -190,7 +190,7 @@ module _ (k : Known) (laws : SweepKeepsItsFacts) (e : CycleEnd) (ended : HasEnde
       are_clear = λ x l. clear_then x l ∙ ap (λ (y : ℕ). ltb x y) (sym is);
     }
 
-    after_clear : (b : Bool) → ltb (i + 1) (bit_words h) ≡ b → Facts (at_stage m (cond b (LoadMarks (i + 1)) AddTally)) (moved a s (Clears p h i)).words → SweepIsFine e a (moved a s (Clears p h i)) (at_stage m (cond b (LoadMarks (i + 1)) AddTally))
+    after_clear : (b : Bool) → ltb (i + 1) (bit_words h) ≡ b → Facts (at_stage m (cond b (LoadMarks (i + 1)) AddTally)) (moved a s (Clears p h i)).words → SweepFacts e a (moved a s (Clears p h i)) (at_stage m (cond b (LoadMarks (i + 1)) AddTally))
     after_clear true is facts = record {
       placed = record { arena = f.placed.arena; head = f.placed.head; stage = ltb-true (i + 1) (bit_words h) is };
       number = f.number;
@@ -217,7 +217,7 @@ module _ (k : Known) (laws : SweepKeepsItsFacts) (e : CycleEnd) (ended : HasEnde
 
   -- The counts are told.
 
-  tally_lands : FineAt AddTally → LandsAt AddTally
+  tally_lands : SweepFactsAt AddTally → LandsAt AddTally
   tally_lands f = record {
     may = seat;
     words_are = words_told;
@@ -233,7 +233,7 @@ module _ (k : Known) (laws : SweepKeepsItsFacts) (e : CycleEnd) (ended : HasEnde
     words_told : (moved a s TellsTally).words ≡ effect s.words (asks (at_stage m AddTally))
     words_told = ap (λ (d : Due). put s.words cell.Tally ((s.words cell.Tally + tally_word (record { marked = d.kept; freed = d.freed })) % 2 ^ 64)) f.due
 
-  live_lands : FineAt AddLive → LandsAt AddLive
+  live_lands : SweepFactsAt AddLive → LandsAt AddLive
   live_lands f = record {
     may = seat;
     words_are = words_told;
@@ -249,7 +249,7 @@ module _ (k : Known) (laws : SweepKeepsItsFacts) (e : CycleEnd) (ended : HasEnde
     words_told : (moved a s TellsLive).words ≡ effect s.words (asks (at_stage m AddLive))
     words_told = ap (λ (d : Due). put s.words cell.Live ((s.words cell.Live + d.live) % 2 ^ 64)) f.due
 
-  heap_lands : FineAt AddHeap → LandsAt AddHeap
+  heap_lands : SweepFactsAt AddHeap → LandsAt AddHeap
   heap_lands f = record {
     may = seat;
     words_are = words_told;
@@ -267,7 +267,7 @@ module _ (k : Known) (laws : SweepKeepsItsFacts) (e : CycleEnd) (ended : HasEnde
 
   -- The sweep ends.
 
-  finish_lands : FineAt Finish → LandsAt Finish
+  finish_lands : SweepFactsAt Finish → LandsAt Finish
   finish_lands f = record {
     may = (f.is_at, f.due);
     words_are = refl;
@@ -289,7 +289,7 @@ module _ (k : Known) (laws : SweepKeepsItsFacts) (e : CycleEnd) (ended : HasEnde
       | inr n ↦ (λ x. absurd (n.1 ((f.right q).0 (rw (n.0) at x)).1), λ x. absurd (none_then x.0))
     ]
 
-  lands_at : (stage : SweepStage) → is_busy stage ≡ true → FineAt stage → LandsAt stage
+  lands_at : (stage : SweepStage) → is_busy stage ≡ true → SweepFactsAt stage → LandsAt stage
   lands_at Begin busy f = begin_at f _ refl
   lands_at (LoadMarks i) busy f = load_lands i f
   lands_at (ClearBits i marks) busy f = cut_lands i marks f
@@ -300,5 +300,5 @@ module _ (k : Known) (laws : SweepKeepsItsFacts) (e : CycleEnd) (ended : HasEnde
   lands_at Finish busy f = finish_lands f
   lands_at (Ended end) busy f = absurd (cc)
 
-pub lands : Known → SweepKeepsItsFacts → (e : CycleEnd) (a : ℕ) (s : Shared) (m : Sweeping) → HasEnded e → Good e (view s) → a < seats_of e.layout → SweepIsFine e a s m → is_busy m.stage ≡ true → Lands e a s (move_of m (s.words (cell_of (asks m)))) (effect s.words (asks m)) (λ t. SweepIsFine e a t (goes m (s.words (cell_of (asks m)))))
+pub lands : Known → SweepKeepsItsFacts → (e : CycleEnd) (a : ℕ) (s : Shared) (m : Sweeping) → HasEnded e → Good e (view s) → a < seats_of e.layout → SweepFacts e a s m → is_busy m.stage ≡ true → Lands e a s (move_of m (s.words (cell_of (asks m)))) (effect s.words (asks m)) (λ t. SweepFacts e a t (goes m (s.words (cell_of (asks m)))))
 lands k laws e a s m ended g seat f busy = lands_at k laws e ended a s g seat m m.stage busy f

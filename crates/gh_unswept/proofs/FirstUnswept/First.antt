@@ -1,7 +1,6 @@
 -- The pass takes the first unswept span that has a clear slot once it is swept.
-use Rattle.std.proofs.Common.{◌≡◌, ◌≢◌, ℕ, zero, suc, ◌+◌, ◌<◌, ◌≤◌, ◌⊎◌, inl, inr, Bool, true, false, cond, ltb, Option, Some, None, refl, sym, ap, subst, ◌∙◌, arith}
-use Rattle.std.proofs.lemmas.Bool.{cases_lt, cases_order}
-use Rattle.std.proofs.lemmas.Bool.Decides.{nat_tests}
+use Rattle.std.proofs.Common.{◌≡◌, ◌≢◌, ℕ, zero, suc, ◌+◌, ◌<◌, ◌≤◌, ◌⊎◌, inl, inr, Bool, true, false, cond, Option, Some, None, refl, sym, ap, subst, ◌∙◌, arith}
+use Rattle.std.proofs.lemmas.Bool.{cases_lt}
 use Rattle.gh_base.specs.declared.cell.Cell.TheVariants.{Page}
 use Rattle.gh_base.specs.declared.cell.Ask.{Ask}
 use Rattle.gh_base.specs.declared.cell.Ask.TheVariants.{Load}
@@ -44,11 +43,7 @@ module _ (m : Unswept) (found : ℕ → ℕ) where
 
   -- the step that was told last, or one before it
   by_last : (n : ℕ) (ask : Ask) (word : ℕ) → Told (suc n) ask word → (Asks n ask × (found n ≡ word)) ⊎ Told n ask word
-  by_last n ask word t = go (cases_order t.0 n) where
-    go : (t.0 ≡ n) ⊎ ((t.0 < n) ⊎ (n < t.0)) → (Asks n ask × (found n ≡ word)) ⊎ Told n ask word
-    go (inl same) = inl (subst (λ (i : ℕ). Asks i ask) same t.2, subst (λ (i : ℕ). found i ≡ word) same t.3)
-    go (inr (inl before)) = inr (t.0, before, t.2, t.3)
-    go (inr (inr behind)) = absurd (let low = t.1 in omega arith)
+  by_last n ask word t = grind arith
 
   ends_more : (n page : ℕ) (h : SpanHead) (end : SweepEnd) → EndsSweep m found n page h end → EndsSweep m found (suc n) page h end
   ends_more n page h end e = record { by = e.by; before = let low = e.before in omega arith; sw = e.sw; runs = e.runs; page_is = e.page_is; head_is = e.head_is; ends = e.ends }
@@ -71,9 +66,6 @@ module _ (m : Unswept) (found : ℕ → ℕ) where
       | inl last ↦ absurd (other page low last.0)
       | inr before ↦ (word, before, is)
     ]
-
-  passes_to : (n end less : ℕ) → Passes m found n end → less ≤ end → Passes m found n less
-  passes_to n end less p le = record { met = λ page low. p.met page (omega arith); none = λ page low. p.none page (omega arith) }
 
   -- The stage of the pass, by what it was told.
 
@@ -113,10 +105,7 @@ module _ (m : Unswept) (found : ℕ → ℕ) where
   Arrives n (Ended (Some page)) = ⊥
 
   from_arrives : (n page : ℕ) → Passes m found n page → Below n page → Arrives n (look_from m page)
-  from_arrives n page p b = go (ltb page m.layout.pages) refl where
-    go : (more : Bool) → ltb page m.layout.pages ≡ more → Arrives n (cond more (Look page) (Ended None))
-    go true e = record { passes = p; below = b }
-    go false e = passes_to n page m.layout.pages p (grind (arith, nat_tests))
+  from_arrives n page p b = grind arith
 
   other_page : (n page other : ℕ) → Asks n (Load (Page page)) → other < page → asks (told listing m found n) ≢ Load (Page other)
   other_page n page other a low b = let same : page ≡ other = cc in absurd (omega arith)
@@ -124,7 +113,7 @@ module _ (m : Unswept) (found : ℕ → ℕ) where
   -- Step n is the load of a page.
   module _ (n page : ℕ) (a : Asks n (Load (Page page))) (l : Looks n page) where
     before : Passes m found (suc n) page
-    before = passes_more n page l.passes (λ other low. other_page n page other a low)
+    before = grind (arith, other_page, passes_more)
 
     -- a page that is no head of a wanted span is gone past
     goes_past : ((h : SpanHead) → page_of (found n) ≡ Head h → ¬ IsWantedUnswept m h) → Arrives (suc n) (look_from m (page + pages_gone (page_of (found n))))
@@ -196,10 +185,7 @@ module _ (m : Unswept) (found : ℕ → ℕ) where
     passes_still = passes_more n page k.passes (λ other low. other_step other)
 
     old_page : (q word : ℕ) → Told (suc n) (Load (Page q)) word → Told n (Load (Page q)) word
-    old_page q word t = elim (by_last n (Load (Page q)) word t) [
-      | inl last ↦ absurd (other_step q last.0)
-      | inr old ↦ old
-    ]
+    old_page q word t = grind arith
 
     head_still : Told (suc n) (Load (Page page)) k.word
     head_still = more n (Load (Page page)) k.word k.at
@@ -291,8 +277,7 @@ module _ (m : Unswept) (found : ℕ → ℕ) where
   IsAt n (Take page h) = Clears n page h
 
   arrived : (n : ℕ) (p : UnsweptStage) → Arrives n p → IsAt n p
-  arrived n (Ended taken) k = tt
-  arrived n _ k = k
+  arrived n p k = grind arith
 
   abbrev Stands : ℕ → Type 0
   Stands n = (p : UnsweptStage) × (told listing m found n ≡ at_stage m p) × IsAt n p
@@ -316,9 +301,7 @@ module _ (m : Unswept) (found : ℕ → ℕ) where
   -- What it gives.
 
   none_given : (n : ℕ) (q : UnsweptStage) → Arrives n q → given_at q ≡ Some None → Passes m found n m.layout.pages
-  none_given n (Ended None) k e = k
-  none_given n (Ended (Some page)) k e = absurd k
-  none_given n _ k e = absurd (cc)
+  none_given n q k e = grind arith
 
   no_page_given : (n : ℕ) (q : UnsweptStage) (page : ℕ) → Arrives n q → given_at q ≢ Some (Some page)
   no_page_given n (Ended None) page k e = absurd (cc)
@@ -355,4 +338,4 @@ module _ (m : Unswept) (found : ℕ → ℕ) where
   none_passes n (Ended taken, e, k) busy g = absurd (over n taken e busy)
 
   pub takes_the_first : m ≡ at_stage m (Look 0) → (n : ℕ) → TakesFirstUnswept m found n
-  takes_the_first opens n = record { some = λ page. some_takes n page (stands opens n); none = none_passes n (stands opens n) }
+  takes_the_first opens n = grind (arith, none_passes, some_takes, stands)

@@ -5,13 +5,13 @@ use Rattle.gh_world.specs.Vocabulary.{Act, acting, acts_at, Answer, begins_at, E
 use Rattle.gh_base.specs.declared.operation.Op.TheVariants as op
 use Rattle.gh_mutator.specs.declared.task.Task.TheVariants as task
 use Rattle.gh_mutator.specs.Global as global
-use Rattle.gh_mutator.specs.Leave as leave
+use Rattle.gh_poll.specs.Leave as leave
 use Rattle.gh_mutator.specs.Load as load
 use Rattle.gh_mutator.specs.New as new
-use Rattle.gh_mutator.specs.Poll as poll
+use Rattle.gh_poll.specs.Poll as poll
 use Rattle.gh_mutator.specs.Register as register
 use Rattle.gh_mutator.specs.Store as store
-use Rattle.gh_mutator.specs.Wait as wait
+use Rattle.gh_poll.specs.Wait as wait
 use Rattle.gh_world.specs.RunVocabulary.{after_poll, given_at, Polling, setting_of}
 use Rattle.gh_lists.specs.Stepping as steps
 use Rattle.gh_world.proofs.StepFacts.{step_facts}

@@ -1,4 +1,4 @@
-use Rattle.gh_mutator.proofs.Marking.Processor.{marks_by_moves}
+use Rattle.gh_mutator.proofs.Marking.{marks_by_moves}
 use Rattle.gh_mutator.proofs.laws.a_processor_marks_by_moves.Goals as goal
 
 pub returns : goal.returns

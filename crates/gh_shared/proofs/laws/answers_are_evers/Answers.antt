@@ -5,7 +5,7 @@ use Rattle.gh_script.specs.Program.{Program, WellFormed}
 use Rattle.gh_lists.specs.Processors.{arena_of, given_of}
 use Rattle.gh_world.specs.World.{LaysOut}
 use Rattle.gh_shared.specs.Handles.{plan_of}
-use Rattle.gh_shared.specs.Plans.{setting}
+use Rattle.gh_actor.specs.Plans.{setting}
 use Rattle.gh_shared.proofs.laws.answers_are_evers.Goals as goal
 
 pub returns-clause-stands : goal.returns-clause-stands

@@ -1,11 +1,12 @@
 use Rattle.std.proofs.Common.{ap, sym, ◌∙◌, subst, Some}
 use Rattle.gh_mutator.specs.declared.task.Task.{Task}
 use Rattle.gh_mutator.specs.declared.task.Task.TheVariants.{Idle}
-use Rattle.gh_mutator.specs.Local.{with_register_value}
+use Rattle.gh_poll.specs.Local.{with_register_value}
 use Rattle.gh_mutator.specs.Mutating.{is_busy, Mutating}
-use Rattle.gh_mutator.specs.Poll.{Polling}
+use Rattle.gh_poll.specs.Poll.{Polling}
 use Rattle.gh_mutator.specs.Serving.{has_left_at}
-use Rattle.gh_mutator.specs.Sound.{IsNear, Sound}
+use Rattle.gh_poll.specs.Registers.{IsNear}
+use Rattle.gh_mutator.specs.Sound.{Sound}
 use Rattle.gh_mutator.proofs.Changes.{taken}
 use Rattle.gh_mutator.proofs.Idle.{idle_is}
 use Rattle.gh_mutator.proofs.mutator.Mutator.loaded.Goals as goal

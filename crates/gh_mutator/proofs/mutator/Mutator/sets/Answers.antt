@@ -1,6 +1,6 @@
 use Rattle.std.proofs.Common.{◌≡◌, ℕ, ap, ◌∙◌}
 use Rattle.gh_base.specs.declared.value.Value.{Value}
-use Rattle.gh_mutator.specs.Local.{with_register_value}
+use Rattle.gh_poll.specs.Local.{with_register_value}
 use Rattle.gh_mutator.specs.Register.{begins}
 use Rattle.gh_mutator.specs.declared.register.Source.TheVariants.{Int, Move, Nil}
 use Rattle.gh_mutator.specs.declared.task.Task.TheVariants.{Idle}

@@ -1,9 +1,9 @@
 use Rattle.std.proofs.Common.{ℕ, ◌+◌, ◌%◌, ◌^◌, ◌∙◌, ap, subst, sym}
 use Rattle.std.specs.Slots.{slots_items}
 use Rattle.gh_table.specs.Rule.{IsAfterOneList}
-use Rattle.gh_shared.specs.declared.machine.ActorMachine.{ActorMachine}
+use Rattle.gh_actor.specs.declared.machine.ActorMachine.{ActorMachine}
 use Rattle.gh_shared.specs.Handles.{plan_of}
-use Rattle.gh_shared.specs.Plans.{setting}
+use Rattle.gh_actor.specs.Plans.{setting}
 use Rattle.gh_shared.specs.Calls.{IsClosedAfter}
 use Rattle.gh_shared.specs.Shown.{credit_drawn, leader_of}
 use Rattle.gh_shared.proofs.Carrying.{closed_so, led_none}

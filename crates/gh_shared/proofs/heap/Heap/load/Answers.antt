@@ -1,10 +1,10 @@
 use Rattle.std.proofs.Common.{◌≡◌, ◌∙◌, Some, refl, subst}
 use Rattle.gh_base.specs.declared.operation.Op.TheVariants as op
 use Rattle.gh_table.specs.Rule.{actor_in}
-use Rattle.gh_shared.specs.declared.machine.ActorMachine.{ActorMachine}
-use Rattle.gh_shared.specs.declared.machine.ActorMachine.TheVariants.{Runs}
-use Rattle.gh_shared.specs.Machines.{begins, Belongs, machine_actor, MachineMayBegin}
-use Rattle.gh_shared.specs.Plans.{setting}
+use Rattle.gh_actor.specs.declared.machine.ActorMachine.{ActorMachine}
+use Rattle.gh_actor.specs.declared.machine.ActorMachine.TheVariants.{Runs}
+use Rattle.gh_actor.specs.Machines.{begins, Belongs, machine_actor, MachineMayBegin}
+use Rattle.gh_actor.specs.Plans.{setting}
 use Rattle.gh_shared.proofs.AtOnce.{carries_on, gave_so, ran_so}
 use Rattle.gh_shared.proofs.Carrying.{begins_kind, went_on}
 use Rattle.gh_shared.proofs.Faults.{fault_leaves_all}

@@ -3,7 +3,7 @@ use Rattle.gh_base.specs.declared.layout.Layout.{Layout}
 use Rattle.gh_base.specs.declared.value.Answer.TheVariants as answer
 use Rattle.gh_base.specs.declared.value.Fault.TheVariants as fault
 use Rattle.gh_mutator.specs.Fields.{birth_cell}
-use Rattle.gh_mutator.specs.Sound.{IsNear}
+use Rattle.gh_poll.specs.Registers.{IsNear}
 use Rattle.gh_shared.proofs.Loaded.{asks_birth, asks_bits, asks_field, asks_none, asks_page, may_load, no_object, ran_birth, ran_int, ran_nil, ran_none, ran_page}
 use Rattle.gh_shared.proofs.Midway.{may_first, may_next}
 use Rattle.gh_shared.proofs.heap.Heap.load_at_once.Goals as goal

@@ -3,8 +3,8 @@ use Rattle.gh_base.specs.declared.value.Answer.{Answer}
 use Rattle.gh_table.specs.Rule.{actor_in}
 use Rattle.gh_table.specs.Runs.{Gave}
 use Rattle.gh_shared.specs.Handles.{machine_of}
-use Rattle.gh_shared.specs.Machines.{begins, gives, goes, machine_actor}
-use Rattle.gh_shared.specs.Plans.{setting}
+use Rattle.gh_actor.specs.Machines.{begins, gives, goes, machine_actor}
+use Rattle.gh_actor.specs.Plans.{setting}
 use Rattle.gh_shared.proofs.Carrying.{begins_kind, went_on}
 use Rattle.gh_shared.proofs.Ready.{has_answer, kept_after, ready, shows_then}
 use Rattle.gh_shared.proofs.heap.Heap.operate.Goals as goal

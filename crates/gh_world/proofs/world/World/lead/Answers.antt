@@ -2,7 +2,7 @@ use Rattle.std.proofs.Common.{◌≡◌, true, ap, sym, subst, ◌∙◌}
 use Rattle.gh_base.specs.declared.layout.Layout.{Layout}
 use Rattle.gh_base.specs.Steps.{changed, request}
 use Rattle.gh_coord.specs.Listing as coord
-use Rattle.gh_world.specs.World.{FitOthers, State}
+use Rattle.gh_world.specs.World.{SoundOthers, State}
 use Rattle.gh_world.proofs.Fitting.{fits_again, others_led}
 use Rattle.gh_world.proofs.world.World.lead.Goals as goal
 
@@ -15,5 +15,5 @@ invariant_of-self c =
     record {
       base = fits_again _ _ _ _ (request c.self.inside.layout (coord.asks c.self.inside.coord)) words c.self.invariant.base;
       running = c.self.invariant.running;
-      others = subst (λ (x : coord.Coordinating). FitOthers c.self.inside.script.now c.self.inside.layout c.self.inside.workers.items x) (sym c.step_of_coordinator-out.ensures.machine) (others_led c.it_goes_on_until_done.ensures _ _ _ _ _ busy c.self.invariant.others);
+      others = subst (λ (x : coord.Coordinating). SoundOthers c.self.inside.script.now c.self.inside.layout c.self.inside.workers.items x) (sym c.step_of_coordinator-out.ensures.machine) (others_led c.it_goes_on_until_done.ensures _ _ _ _ _ busy c.self.invariant.others);
     }

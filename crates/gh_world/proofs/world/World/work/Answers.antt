@@ -6,7 +6,7 @@ use Rattle.gh_base.specs.Cells.{length_of}
 use Rattle.gh_base.specs.declared.layout.Layout.{Layout}
 use Rattle.gh_base.specs.Steps.{changed, request}
 use Rattle.gh_worker.specs.Listing.{asks, Working}
-use Rattle.gh_world.specs.World.{FitOthers, IsStepOfWorker, State}
+use Rattle.gh_world.specs.World.{SoundOthers, IsStepOfWorker, State}
 use Rattle.gh_world.proofs.Fitting.{fits_again, others_worked, work_is}
 use Rattle.gh_world.proofs.world.World.work.Goals as goal
 use Rattle.gh_world.proofs.world.World.work.Goals.{After-index_mut-worker}
@@ -32,7 +32,7 @@ invariant_of-self c =
     record {
       base = fits_again _ _ _ _ (request c.self.inside.layout (asks c.index_mut-worker.result.now)) words c.self.invariant.base;
       running = c.self.invariant.running;
-      others = subst (λ (x : Working). FitOthers c.self.inside.script.now c.self.inside.layout (set c.self.inside.workers.items c.args.i x) c.self.inside.coord) (sym c.step_of_worker-out.ensures.machine)
+      others = subst (λ (x : Working). SoundOthers c.self.inside.script.now c.self.inside.layout (set c.self.inside.workers.items c.args.i x) c.self.inside.coord) (sym c.step_of_worker-out.ensures.machine)
           (others_worked _ _ _ _ _ _ c.index_mut-worker.result.now here c.self.invariant.others);
     }
 

@@ -1,0 +1,9 @@
+pub mod CommandLineRange
+pub mod CommandLineNumbers
+pub mod CommandLineRows
+pub mod CommandLineRules
+pub mod CommandLineEnd
+pub mod CommandLineWalk
+pub mod CommandLineChoices
+pub mod CommandLineSubs
+pub mod CommandLineParsed

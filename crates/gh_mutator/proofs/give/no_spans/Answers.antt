@@ -1,5 +1,0 @@
-use Rattle.gh_mutator.proofs.Giving.{none_fits}
-use Rattle.gh_mutator.proofs.give.no_spans.Goals as goal
-
-pub returns-clause-fits : goal.returns-clause-fits
-returns-clause-fits c = none_fits

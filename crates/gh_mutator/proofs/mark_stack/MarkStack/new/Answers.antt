@@ -1,9 +1,0 @@
-use Rattle.std.proofs.Common.{◌≡◌, true, sym, subst}
-use Rattle.gh_stack.specs.Listing.{StackScan}
-use Rattle.gh_mutator.specs.MarkStack.{goes_on}
-use Rattle.gh_mutator.proofs.StackMarking.{begins_going}
-use Rattle.gh_mutator.proofs.mark_stack.MarkStack.new.Goals as goal
-
-pub stage_of-requires-clause-going : goal.stage_of-requires-clause-going
-stage_of-requires-clause-going c =
-    subst (λ (s : StackScan). goes_on s.stage ≡ true) (sym c.new-scan.ensures) (begins_going c.args.layout.now c.args.goroutine c.args.cycle c.args.registers)

@@ -1,0 +1,39 @@
+-- What is known of the cached spans stays where one of them changes.
+use Rattle.std.proofs.Common.{◌≡◌, ℕ, ◌/◌, List, ◌∙◌, sym, subst, Option, None, arith}
+use Rattle.std.proofs.Math.ListN.{set}
+use Rattle.std.proofs.lemmas.List.{length-set}
+use Rattle.gh_base.specs.declared.layout.Layout.{Layout}
+use Rattle.gh_base.specs.Reading.{read_after_set}
+use Rattle.gh_class.specs.Classes.{span_index}
+use Rattle.gh_class.specs.declared.class.SpanClass.{SpanClass}
+use Rattle.gh_alloc.specs.declared.sought.CachedSpan.{CachedSpan}
+use Rattle.gh_alloc.specs.declared.sought.Sought.{Sought}
+use Rattle.gh_alloc.specs.declared.sought.Sought.TheVariants.{Small, Large}
+use Rattle.gh_alloc.specs.FindSound.{IsCached}
+use Rattle.gh_poll.specs.Cached.{SoundCached}
+use Rattle.gh_poll.specs.GiveSound.{FitsCache}
+use Rattle.gh_poll.specs.Local.{cache_with}
+use Rattle.gh_poll.specs.declared.poll.Local.{Local}
+use Rattle.gh_poll.specs.PollSound.{SoundLocal}
+
+-- the cached span of a span class is this now
+half : (c : SpanClass) (i : ℕ) → span_index c ≡ i → c.class ≡ i / 2
+half c i e = grind arith
+
+fits_small : (l : Layout) (c : SpanClass) (cached : Option CachedSpan) → IsCached l (Small c) cached → SoundCached l.pages c.class cached
+fits_small l c cached h = grind arith
+
+pub cached_fits : (l : Layout) (cache : List (Option CachedSpan)) (x : Sought) (c : Option CachedSpan) → FitsCache l cache → IsCached l x c → FitsCache l (cache_with cache x c)
+cached_fits l cache (Large pages noscan) c fits h i = fits i
+cached_fits l cache (Small x) c fits h i = read_after_set (SoundCached l.pages (i / 2)) cache (span_index x) i c None (λ e. subst (λ n. SoundCached l.pages n c) (half x i e) (fits_small l x c h)) (fits i)
+
+-- so what is known of the processor's own state stays, where the span class is of this number
+pub recached_fits : (l : Layout) (local : Local) (x : SpanClass) (i : ℕ) (c : Option CachedSpan) → i ≡ span_index x → SoundLocal l local → IsCached l (Small x) c → SoundLocal l (record local { cache = set local.cache i c })
+recached_fits l local x i c e h fits = record {
+  view = h.view;
+  room = length-set local.cache i c ∙ h.room;
+  cache = subst (λ (n : ℕ). FitsCache l (set local.cache n c)) (sym e) (cached_fits l local.cache (Small x) c h.cache fits);
+  held = h.held;
+  scanned = h.scanned;
+  stacks = h.stacks;
+}

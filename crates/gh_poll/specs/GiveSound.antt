@@ -1,0 +1,38 @@
+-- What the giving back knows of its own numbers, whatever it is told.
+use Rattle.std.specs.Prelude.{◌≡◌, ℕ, ◌/◌, ◌^◌, ◌<◌, Bool, true, List, length, slice_index_or, Option, Some, None}
+use Rattle.gh_base.specs.declared.layout.Layout.{Layout}
+use Rattle.gh_base.specs.Holding.{IsHeld}
+use Rattle.gh_class.specs.declared.class.TheConstants.{SPAN_CLASSES}
+use Rattle.gh_alloc.specs.declared.sought.CachedSpan.{CachedSpan}
+use Rattle.gh_wbuf.specs.BufferGiving as buffer
+use Rattle.gh_poll.specs.declared.give.GiveStage.{GiveStage}
+use Rattle.gh_poll.specs.declared.give.GiveStage.TheVariants.{GiveSpan, GiveBuffer}
+use Rattle.gh_poll.specs.Cached.{SoundCached}
+use Rattle.gh_poll.specs.Give.{Giving}
+
+-- each cached span lies in the arena, and is one of its class
+abbrev pub FitsCache : Layout → List (Option CachedSpan) → Type 0
+FitsCache l cache = (i : ℕ) → SoundCached l.pages (i / 2) (slice_index_or cache i None)
+
+-- the span that is given back is one of the span class of this number
+pub record FitsCachedSpan (l : Layout) (class : ℕ) (s : CachedSpan) : Type 0 where
+  pub among : class < SPAN_CLASSES
+  pub span : SoundCached l.pages (class / 2) (Some s)
+
+-- a routine of the same heap that asks for a step
+pub record Runs (l own : Layout) (is_busy : Bool) : Type 0 where
+  pub layout : own ≡ l
+  pub busy : is_busy ≡ true
+
+abbrev pub SoundStage : Layout → GiveStage → Type 0
+SoundStage l (GiveSpan class s) = FitsCachedSpan l class s
+SoundStage l (GiveBuffer b) = Runs l b.layout (buffer.is_busy b.stage)
+SoundStage l _ = Unit {0}
+
+pub record SoundGiving (g : Giving) : Type 0 where
+  pub seat : g.seat < g.layout.procs
+  pub generation : g.generation < 2 ^ 34
+  pub room : length g.cache ≡ SPAN_CLASSES
+  pub cache : FitsCache g.layout g.cache
+  pub held : IsHeld g.layout g.held
+  pub stage : SoundStage g.layout g.stage

@@ -1,0 +1,135 @@
+-- Where a processor among a collector stands in the handshake of a stop, while it polls, waits or leaves.
+use Rattle.std.specs.Prelude.{◌≡◌, ℕ, Bool, true, false, List, length, Option, None}
+use Rattle.gh_base.specs.declared.held.Held.{Held}
+use Rattle.gh_base.specs.declared.layout.Layout.{Layout}
+use Rattle.gh_alloc.specs.declared.sought.CachedSpan.{CachedSpan}
+use Rattle.gh_class.specs.declared.class.TheConstants.{SPAN_CLASSES}
+use Rattle.gh_phase.specs.declared.view.RunPhase.TheVariants.{Mark}
+use Rattle.gh_phase.specs.declared.view.View.{View}
+use Rattle.gh_phase.specs.Handshake.{Awake, Gives, Gone, KeepsHandshake, Leaves, Party, PlaceBegins, Acts, Stage}
+use Rattle.gh_phase.specs.Listing as resume
+use Rattle.gh_phase.specs.ResumePlaces as resumes
+use Rattle.gh_poll.specs.declared.give.GiveStage.{GiveStage}
+use Rattle.gh_poll.specs.declared.give.GiveStage.TheVariants as give_stage
+use Rattle.gh_poll.specs.declared.leave.LeaveStage.{LeaveStage}
+use Rattle.gh_poll.specs.declared.leave.LeaveStage.TheVariants as leave_stage
+use Rattle.gh_poll.specs.declared.poll.Local.{Local}
+use Rattle.gh_poll.specs.declared.poll.PollStage.{PollStage}
+use Rattle.gh_poll.specs.declared.poll.PollStage.TheVariants as poll_stage
+use Rattle.gh_poll.specs.declared.wait.WaitStage.{WaitStage}
+use Rattle.gh_poll.specs.declared.wait.WaitStage.TheVariants as wait_stage
+use Rattle.gh_poll.specs.Give.{Giving, none_cached}
+use Rattle.gh_poll.specs.Leave as leave
+use Rattle.gh_poll.specs.Poll as poll
+use Rattle.gh_poll.specs.Wait as wait
+
+-- awake, with what the processor knows between two operations
+abbrev pub IsPlace : Party → Stage → (seat : ℕ) → Local → Type 0
+IsPlace party stage seat local = (party ≡ record { seat = seat; view = local.view }) × (stage ≡ Awake)
+
+-- The giving back. Once it has ended nothing is left.
+abbrev pub GivesSo : Giving → GiveStage → Type 0
+GivesSo g (give_stage.GiveBuffer b) = g.cache ≡ none_cached
+GivesSo g give_stage.Ended = (g.cache ≡ none_cached) × (g.held ≡ None)
+GivesSo g _ = Unit {0}
+
+-- the cache has a place for each span class
+abbrev pub HasPlaces : List (Option CachedSpan) → Type 0
+HasPlaces cache = length cache ≡ SPAN_CLASSES
+
+-- it goes on after a stop for its own seat, with no span cached and no buffer held
+pub record GoesOnWithNothing (seat : ℕ) (local : Local) (r : resume.Resuming) : Type 0 where
+  pub seat_is : r.seat ≡ seat
+  pub busy : resume.is_busy r ≡ true
+  pub no_span : local.cache ≡ none_cached
+  pub no_buffer : local.held ≡ None
+
+-- A poll: while it scans a stack, or looks for a buffer with room, the processor is awake and knows that marking is on.
+module _ (p : poll.Polling) where
+  abbrev pub polls_at : PollStage → Stage
+  polls_at (poll_stage.Giving g stops) = Gives stops
+  polls_at (poll_stage.Resuming r) = resumes.stage_of r
+  polls_at _ = Awake
+
+  -- while it goes on after a stop, it knows what that knows
+  abbrev pub poller_at : PollStage → Party
+  poller_at (poll_stage.Resuming r) = resumes.party_of r
+  poller_at _ = record { seat = p.seat; view = p.local.view }
+
+  abbrev pub PollsSoundAt : PollStage → Type 0
+  PollsSoundAt (poll_stage.Giving g stops) = GivesSo g g.stage
+  PollsSoundAt (poll_stage.Resuming r) = GoesOnWithNothing p.seat p.local r
+  PollsSoundAt (poll_stage.Marking g m) = p.local.view.phase ≡ Mark
+  PollsSoundAt (poll_stage.FindRoom r) = p.local.view.phase ≡ Mark
+  PollsSoundAt _ = Unit {0}
+
+  abbrev pub poll_stage_of : Stage
+  poll_stage_of = polls_at p.stage
+
+  abbrev pub poller_of : Party
+  poller_of = poller_at p.stage
+
+  abbrev pub SoundPoll : Type 0
+  SoundPoll = HasPlaces p.local.cache × PollsSoundAt p.stage
+
+-- it is a poll that goes on
+pub record PollsOn (p : poll.Polling) : Type 0 where
+  pub busy : poll.is_busy p.stage ≡ true
+  pub sound : SoundPoll p
+
+-- what a processor is to the others, between two polls
+abbrev pub knower : poll.Polling → Party
+knower p = record { seat = p.seat; view = p.local.view }
+
+-- A wait: while it polls, it stands where the poll does.
+module _ (w : wait.Waiting) where
+  abbrev pub waits_at : WaitStage → Stage
+  waits_at wait_stage.Polling = poll_stage_of w.poll
+  waits_at _ = Awake
+
+  abbrev pub waiter_at : WaitStage → Party
+  waiter_at wait_stage.Polling = poller_of w.poll
+  waiter_at _ = knower w.poll
+
+  abbrev pub WaitsSoundAt : WaitStage → Type 0
+  WaitsSoundAt wait_stage.Polling = PollsOn w.poll
+  WaitsSoundAt _ = Unit {0}
+
+  abbrev pub wait_stage_of : Stage
+  wait_stage_of = waits_at w.wait.stage
+
+  abbrev pub waiter_of : Party
+  waiter_of = waiter_at w.wait.stage
+
+  abbrev pub SoundWait : Type 0
+  SoundWait = HasPlaces w.poll.local.cache × WaitsSoundAt w.wait.stage
+
+-- Leaving: what the processor knows of the phase stays.
+abbrev pub leaves_at : LeaveStage → Stage
+leaves_at (leave_stage.Giving g) = Awake
+leaves_at leave_stage.Leave = Leaves
+leaves_at leave_stage.Left = Gone
+
+abbrev pub leaver : View → leave.Leaving → Party
+leaver v w = record { seat = w.seat; view = v }
+
+pub record PollsInHandshake : Type 0 where
+  pub sound : (l : Layout) (seat : ℕ) (local : Local) (waits : Bool) → HasPlaces local.cache → SoundPoll (poll.opening l seat local waits)
+  -- it begins awake, and so it ends
+  pub begins : (l : Layout) (seat : ℕ) (local : Local) (waits : Bool) → IsPlace (poller_of (poll.opening l seat local waits)) (poll_stage_of (poll.opening l seat local waits)) seat local
+  pub keeps : KeepsHandshake poll.listing SoundPoll poller_of poll_stage_of
+  pub seat_stays : (p : poll.Polling) (found : ℕ) → SoundPoll p → poll.is_busy p.stage ≡ true → (poll.goes p found).seat ≡ p.seat
+  pub ends : (p : poll.Polling) → poll.is_busy p.stage ≡ false → IsPlace (poller_of p) (poll_stage_of p) p.seat p.local
+
+pub record WaitsInHandshake : Type 0 where
+  pub sound : (p : poll.Polling) → HasPlaces p.local.cache → SoundWait (wait.opening p)
+  pub begins : (p : poll.Polling) → IsPlace (waiter_of (wait.opening p)) (wait_stage_of (wait.opening p)) p.seat p.local
+  pub keeps : KeepsHandshake wait.listing SoundWait waiter_of wait_stage_of
+  pub ends : (w : wait.Waiting) → wait.is_busy w.wait.stage ≡ false → IsPlace (waiter_of w) (wait_stage_of w) w.poll.seat w.poll.local
+
+pub record LeavesInHandshake : Type 0 where
+  -- it begins awake, or with nothing to give back
+  pub begins : (l : Layout) (seat generation : ℕ) (cache : List (Option CachedSpan)) (held : Option Held) (v : View) →
+      PlaceBegins (Acts (record { seat = seat; view = v }) Awake) (Acts (leaver v (leave.opening l seat generation cache held)) (leaves_at (leave.opening l seat generation cache held).stage))
+  pub keeps : (v : View) → KeepsHandshake leave.listing (λ w. Unit {0}) (leaver v) (λ w. leaves_at w.stage)
+  pub ends : (w : leave.Leaving) → leave.is_busy w.stage ≡ false → leaves_at w.stage ≡ Gone

@@ -1,0 +1,66 @@
+-- A processor leaves: what is asked for at each stage, where that leads, and what it has given there.
+use Rattle.std.specs.Prelude.{ℕ, Bool, true, false, if◌then◌else◌, List, Option, Some, None, is_none}
+use Rattle.gh_base.specs.declared.cell.Cell.TheVariants as cell
+use Rattle.gh_base.specs.declared.cell.Ask.{Ask}
+use Rattle.gh_base.specs.declared.cell.Ask.TheVariants.{Load, Store}
+use Rattle.gh_base.specs.declared.held.Held.{Held}
+use Rattle.gh_base.specs.declared.layout.Layout.{Layout}
+use Rattle.gh_base.specs.declared.pack.TheConstants.{GONE}
+use Rattle.gh_base.specs.Given.{listing_of}
+use Rattle.gh_base.specs.Routines.{Listing}
+use Rattle.gh_alloc.specs.declared.sought.CachedSpan.{CachedSpan}
+use Rattle.gh_poll.specs.declared.leave.LeaveStage.{LeaveStage}
+use Rattle.gh_poll.specs.declared.leave.LeaveStage.TheVariants.{Giving, Leave, Left}
+use Rattle.gh_poll.specs.Give as give
+
+pub record Leaving : Type 0 where
+  pub layout : Layout
+  pub seat : ℕ
+  pub stage : LeaveStage
+
+abbrev pub at_stage : Leaving → LeaveStage → Leaving
+at_stage w stage = record w { stage = stage }
+
+-- it goes on giving back; where nothing is left it says that it is gone
+abbrev pub stage_of : give.Giving → LeaveStage
+stage_of g = if give.is_busy g.stage then Giving g else Leave
+
+abbrev pub opening : Layout → (seat generation : ℕ) → List (Option CachedSpan) → Option Held → Leaving
+opening l seat generation cache held = record { layout = l; seat = seat; stage = stage_of (give.opening l seat generation cache held) }
+
+module _ (w : Leaving) where
+  abbrev pub asks_at : LeaveStage → Ask
+  asks_at (Giving g) = give.asks g
+  asks_at Leave = Store (cell.Ack w.seat) GONE
+  asks_at Left = Load cell.Touch
+
+  abbrev pub goes_at : LeaveStage → ℕ → Leaving
+  goes_at (Giving g) found = at_stage w (stage_of (give.goes g found))
+  goes_at Leave found = at_stage w Left
+  goes_at Left found = at_stage w Left
+
+-- what it has given at this stage; it is busy where that is nothing
+abbrev pub given : LeaveStage → Option (Unit {0})
+given Left = Some tt
+given _ = None
+
+abbrev pub is_busy : LeaveStage → Bool
+is_busy stage = is_none (given stage)
+
+-- behind its next step it has left: nothing is left to be given back
+abbrev pub says_gone : LeaveStage → Bool
+says_gone (Giving g) = false
+says_gone _ = true
+
+-- the step that it asks for, what it is after the step found this, and what it ends with if that step is its last
+abbrev pub asks : Leaving → Ask
+asks w = asks_at w w.stage
+
+abbrev pub goes : Leaving → ℕ → Leaving
+goes w found = goes_at w w.stage found
+
+abbrev pub gives : Leaving → ℕ → Option (Unit {0})
+gives w found = given (goes w found).stage
+
+abbrev pub listing : Listing Leaving (Unit {0})
+listing = listing_of (λ w. w.layout) asks goes (λ w. given w.stage)

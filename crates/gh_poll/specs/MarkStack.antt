@@ -1,0 +1,95 @@
+-- The scan of a stack with the shading: what is asked for at each stage, where that leads, and what it has given there.
+use Rattle.std.specs.Prelude.{ℕ, Bool, true, false, List, Option, Some, None, is_none}
+use Rattle.gh_base.specs.declared.cell.Cell.TheVariants as cell
+use Rattle.gh_base.specs.declared.cell.Ask.{Ask}
+use Rattle.gh_base.specs.declared.cell.Ask.TheVariants.{Load}
+use Rattle.gh_base.specs.declared.held.Held.{Held}
+use Rattle.gh_base.specs.declared.layout.Layout.{Layout}
+use Rattle.gh_base.specs.declared.value.Value.{Value}
+use Rattle.gh_base.specs.Given.{listing_of}
+use Rattle.gh_base.specs.Routines.{Listing}
+use Rattle.gh_scan.specs.Listing.{reference_in}
+use Rattle.gh_shade.specs.declared.shade.Shaded.{Shaded}
+use Rattle.gh_shade.specs.declared.shade.Shaded.TheVariants as shaded
+use Rattle.gh_shade.specs.Listing as shade
+use Rattle.gh_stack.specs.declared.scan_stack.StackStage.{StackStage}
+use Rattle.gh_stack.specs.declared.scan_stack.StackStage.TheVariants as stack_stage
+use Rattle.gh_stack.specs.Listing as stack
+use Rattle.gh_wbuf.specs.RoomFinding as room
+use Rattle.gh_poll.specs.declared.mark_stack.MarkStackStage.{MarkStackStage}
+use Rattle.gh_poll.specs.declared.mark_stack.MarkStackStage.TheVariants.{Shading, FindRoom, Store, Ended}
+
+-- the scan of a stack, with what is held between two shadings
+pub record StackMarking : Type 0 where
+  pub layout : Layout
+  pub seat : ℕ
+  pub held : Option Held
+  pub scan : stack.StackScan
+  pub stage : MarkStackStage
+
+abbrev pub at_stage : StackMarking → MarkStackStage → StackMarking
+at_stage m stage = record m { stage = stage }
+
+-- the scan has a wish, or its step is next
+abbrev pub goes_on : StackStage → Bool
+goes_on stack_stage.Ended = false
+goes_on _ = true
+
+-- by what the scan wishes to be shaded
+abbrev pub by_wish : Layout → Option Held → Option ℕ → MarkStackStage
+by_wish l held None = Store
+by_wish l held (Some reference) = Shading (shade.opening l (reference_in l reference) held)
+
+abbrev pub stage_of : Layout → Option Held → stack.StackScan → MarkStackStage
+stage_of l held scan = by_wish l held (stack.wish_of scan.stage)
+
+abbrev pub opening : Layout → (seat goroutine cycle : ℕ) → List Value → Option Held → StackMarking
+opening l seat goroutine cycle registers held =
+    record { layout = l; seat = seat; held = held; scan = stack.opening l goroutine cycle registers; stage = stage_of l held (stack.opening l goroutine cycle registers) }
+
+-- a reference is shaded
+abbrev pub with_shaded : StackMarking → Option Held → StackMarking
+with_shaded m held = record m { held = held; scan = stack.told_shaded m.scan; stage = stage_of m.layout held (stack.told_shaded m.scan) }
+
+abbrev pub after_shade : StackMarking → shade.Shading → Option Shaded → StackMarking
+after_shade m sh None = at_stage m (Shading sh)
+after_shade m sh (Some shaded.Done) = with_shaded m sh.held
+after_shade m sh (Some shaded.WantsRoom) = at_stage m (FindRoom sh (room.opening m.layout m.seat sh.held))
+
+abbrev pub after_room : StackMarking → shade.Shading → room.RoomFinding → Option Held → StackMarking
+after_room m sh r None = at_stage m (FindRoom sh r)
+after_room m sh r (Some h) = at_stage m (Shading (shade.told_room sh h))
+
+module _ (m : StackMarking) where
+  abbrev pub asks_at : MarkStackStage → Ask
+  asks_at (Shading sh) = shade.asks sh
+  asks_at (FindRoom sh r) = room.asks r
+  asks_at Store = stack.asks m.scan
+  asks_at Ended = Load cell.Touch
+
+  abbrev pub goes_at : MarkStackStage → ℕ → StackMarking
+  goes_at (Shading sh) found = after_shade m (shade.goes sh found) (shade.gives sh found)
+  goes_at (FindRoom sh r) found = after_room m sh (room.goes r found) (room.gives r found)
+  goes_at Store found = at_stage m Ended
+  goes_at Ended found = at_stage m Ended
+
+-- what it has given at this stage; it is busy where that is nothing
+abbrev pub given : MarkStackStage → Option (Unit {0})
+given Ended = Some tt
+given _ = None
+
+abbrev pub is_busy : MarkStackStage → Bool
+is_busy stage = is_none (given stage)
+
+-- the step that it asks for, what it is after the step found this, and what it ends with if that step is its last
+abbrev pub asks : StackMarking → Ask
+asks m = asks_at m m.stage
+
+abbrev pub goes : StackMarking → ℕ → StackMarking
+goes m found = goes_at m m.stage found
+
+abbrev pub gives : StackMarking → ℕ → Option (Unit {0})
+gives m found = given (goes m found).stage
+
+abbrev pub listing : Listing StackMarking (Unit {0})
+listing = listing_of (λ m. m.layout) asks goes (λ m. given m.stage)

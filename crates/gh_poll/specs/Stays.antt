@@ -1,0 +1,102 @@
+-- What the steps of a routine leave as it is: its layout, and of a poll and a wait the seat and the registers too. And what single steps come to, for the crates above that cite it.
+use Rattle.std.proofs.Common.{ap, arith}
+use Rattle.std.specs.Prelude.{◌≡◌, ◌==◌, ℕ, ◌<◌, Bool, true, cond, List, Option, Some, None, refl}
+use Rattle.gh_assist.specs.Listing.{Assisting}
+use Rattle.gh_base.specs.declared.held.Held.{Held}
+use Rattle.gh_base.specs.declared.layout.Layout.{Layout}
+use Rattle.gh_base.specs.declared.value.Value.{Value}
+use Rattle.gh_phase.specs.declared.resume.Resumed.{Resumed}
+use Rattle.gh_shade.specs.declared.shade.Shaded.{Shaded}
+use Rattle.gh_shade.specs.Listing as shade
+use Rattle.gh_wbuf.specs.RoomFinding as room
+use Rattle.gh_poll.specs.declared.give.GiveStage.TheVariants as give_stage
+use Rattle.gh_poll.specs.declared.wait.WaitStage.{WaitStage}
+use Rattle.gh_poll.specs.declared.wait.WaitStage.TheVariants as wait_stage
+use Rattle.gh_poll.specs.Give as give
+use Rattle.gh_poll.specs.Leave as leave
+use Rattle.gh_poll.specs.Leave.{Leaving}
+use Rattle.gh_poll.specs.Local.{with_payment}
+use Rattle.gh_poll.specs.MarkStack as mark
+use Rattle.gh_poll.specs.Poll as poll
+use Rattle.gh_poll.specs.Poll.{after_mark, after_resume, after_room, by_phase, due, giving, marks_then, Polling, resumed, scans, stops_then}
+use Rattle.gh_poll.specs.Wait as wait
+use Rattle.gh_poll.specs.Wait.{Waiting}
+
+-- ---- giving back, the scan of a stack, and leaving
+
+pub give_stays : (g : give.Giving) (found : ℕ) → (give.goes g found).layout ≡ g.layout
+give_stays g found = grind arith
+
+pub mark_stays : (m : mark.StackMarking) (found : ℕ) → (mark.goes m found).layout ≡ m.layout
+mark_stays m found = grind arith
+
+-- neither a shading nor a search for room ends it
+pub shaded_on : (m : mark.StackMarking) (sh : shade.Shading) (out : Option Shaded) → mark.given (mark.after_shade m sh out).stage ≡ None
+shaded_on m sh out = grind arith
+
+pub found_on : (m : mark.StackMarking) (sh : shade.Shading) (r : room.RoomFinding) (out : Option Held) → mark.given (mark.after_room m sh r out).stage ≡ None
+found_on m sh r out = grind arith
+
+pub leave_stays : (w : Leaving) (found : ℕ) → (leave.goes w found).layout ≡ w.layout
+leave_stays w found = grind arith
+
+-- neither does the giving back
+pub leaves_on : (g : give.Giving) → leave.given (leave.stage_of g) ≡ None
+leaves_on g = grind arith
+
+-- ---- a poll and a wait
+
+-- what a poll leaves as it is
+abbrev kept : Polling → Layout × ℕ × List (List Value) × ℕ
+kept p = (p.layout, p.seat, p.local.stacks, p.local.spent)
+
+poll_keeps : (p : Polling) (found : ℕ) → kept (poll.goes p found) ≡ kept p
+poll_keeps p found = grind arith
+
+pub poll_stays : (p : Polling) (found : ℕ) → (poll.goes p found).layout ≡ p.layout
+poll_stays p found = ap (λ (x : Layout × ℕ × List (List Value) × ℕ). x.0) (poll_keeps p found)
+
+pub poll_stacks : (p : Polling) (found : ℕ) → (poll.goes p found).local.stacks ≡ p.local.stacks
+poll_stacks p found = ap (λ (x : Layout × ℕ × List (List Value) × ℕ). x.2) (poll_keeps p found)
+
+pub poll_spent : (p : Polling) (found : ℕ) → (poll.goes p found).local.spent ≡ p.local.spent
+poll_spent p found = ap (λ (x : Layout × ℕ × List (List Value) × ℕ). x.3) (poll_keeps p found)
+
+after_keeps : (w : Waiting) (p : Polling) (out : Option (Unit {0})) → kept (wait.after_poll w p out).poll ≡ kept p
+after_keeps w p out = grind arith
+
+swept_keeps : (w : Waiting) (later : Bool) → kept (cond later (wait.at_stage w wait_stage.Ended) (wait.polling w)).poll ≡ kept w.poll
+swept_keeps w later = grind arith
+
+wait_at : (w : Waiting) (stage : WaitStage) (found : ℕ) → kept (wait.goes_at w stage found).poll ≡ kept w.poll
+wait_at w stage found = grind (arith, after_keeps, poll_keeps, swept_keeps)
+
+pub wait_stays : (w : Waiting) (found : ℕ) → (wait.goes w found).poll.layout ≡ w.poll.layout
+wait_stays w found = grind (arith, wait_at)
+
+pub wait_seat : (w : Waiting) (found : ℕ) → (wait.goes w found).poll.seat ≡ w.poll.seat
+wait_seat w found = grind (arith, wait_at)
+
+pub wait_stacks : (w : Waiting) (found : ℕ) → (wait.goes w found).poll.local.stacks ≡ w.poll.local.stacks
+wait_stacks w found = grind (arith, wait_at)
+
+pub wait_spent : (w : Waiting) (found : ℕ) → (wait.goes w found).poll.local.spent ≡ w.poll.local.spent
+wait_spent w found = grind (arith, wait_at)
+
+-- it ends by a later cycle than it knew, which it loads
+pub ends_later : (w : Waiting) (stage : WaitStage) (found : ℕ) (x : Unit {0}) → wait.given (wait.goes_at w stage found).wait.stage ≡ Some x → (stage ≡ wait_stage.LoadSwept) × (w.wait.known < found)
+ends_later w stage found x e = grind arith
+
+-- ---- what single steps come to
+
+-- behind a stop at which another cycle has begun it owes nothing
+pub other_cycle_owes : (p : Polling) (out : Resumed) → out.another_cycle ≡ true → (resumed p out).local.owed ≡ 0
+other_cycle_owes p out e = grind arith
+
+-- behind an assist it has drawn what that says
+pub payment_spent : (p : Polling) (x : Assisting) → (with_payment p x).local.spent ≡ x.spent
+payment_spent p x = refl
+
+-- the giving back of spans begins where the lock was free
+pub lock_leads : (g : give.Giving) (found : ℕ) (free : Bool) → (found == 0) ≡ free → give.goes_at g give_stage.Lock found ≡ give.at_stage g (cond free (give.stage_from g.cache 0) give_stage.Lock)
+lock_leads g found free e = ap (λ (b : Bool). give.at_stage g (cond b (give.stage_from g.cache 0) give_stage.Lock)) e

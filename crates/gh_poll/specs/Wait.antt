@@ -1,0 +1,76 @@
+-- A processor waits for a cycle: what is asked for at each stage, where that leads, and what it has given there.
+use Rattle.std.specs.Prelude.{ℕ, Bool, true, nat_lt, if◌then◌else◌, Option, Some, None, is_none}
+use Rattle.gh_base.specs.declared.cell.Cell.TheVariants as cell
+use Rattle.gh_base.specs.declared.cell.Ask.{Ask}
+use Rattle.gh_base.specs.declared.cell.Ask.TheVariants.{Load, Or}
+use Rattle.gh_base.specs.Given.{listing_of}
+use Rattle.gh_base.specs.Routines.{Listing}
+use Rattle.gh_poll.specs.declared.wait.Wait.{Wait}
+use Rattle.gh_poll.specs.declared.wait.WaitStage.{WaitStage}
+use Rattle.gh_poll.specs.declared.wait.WaitStage.TheVariants.{Want, Polling, LoadSwept, Ended}
+use Rattle.gh_poll.specs.Poll as poll
+
+-- a wait, and the processor that waits, with the poll that it is at, if it is at one
+pub record Waiting : Type 0 where
+  pub wait : Wait
+  pub poll : poll.Polling
+
+-- it knows the cycle that the processor knew when it began
+abbrev pub begins : poll.Polling → Wait
+begins p = record { known = p.local.view.begun; stage = Want }
+
+abbrev pub waiting : Wait → poll.Polling → Waiting
+waiting w p = record { wait = w; poll = p }
+
+abbrev pub opening : poll.Polling → Waiting
+opening p = waiting (begins p) p
+
+abbrev pub at_stage : Waiting → WaitStage → Waiting
+at_stage w stage = record w { wait = record (w.wait) { stage = stage } }
+
+-- it polls, as a part of the wait
+abbrev pub polling : Waiting → Waiting
+polling w = record w { wait = record (w.wait) { stage = Polling }; poll = poll.begins w.poll true }
+
+abbrev pub after_poll : Waiting → poll.Polling → Option (Unit {0}) → Waiting
+after_poll w p None = record w { wait = record (w.wait) { stage = Polling }; poll = p }
+after_poll w p (Some x) = record w { wait = record (w.wait) { stage = LoadSwept }; poll = p }
+
+-- a cycle later than the one that it knew is swept
+abbrev pub is_later : (known found : ℕ) → Bool
+is_later known found = nat_lt known found
+
+module _ (w : Waiting) where
+  abbrev pub asks_at : WaitStage → Ask
+  asks_at Want = Or cell.Want 1
+  asks_at Polling = poll.asks w.poll
+  asks_at LoadSwept = Load cell.Swept
+  asks_at Ended = Load cell.Touch
+
+  abbrev pub goes_at : WaitStage → ℕ → Waiting
+  goes_at Want found = polling w
+  goes_at Polling found = after_poll w (poll.goes w.poll found) (poll.gives w.poll found)
+  goes_at LoadSwept found = if is_later w.wait.known found then at_stage w Ended else polling w
+  -- one that has ended asks for no step: told of one it would poll again, so that no step but its last gives anything
+  goes_at Ended found = polling w
+
+-- what it has given at this stage; it is busy where that is nothing
+abbrev pub given : WaitStage → Option (Unit {0})
+given Ended = Some tt
+given _ = None
+
+abbrev pub is_busy : WaitStage → Bool
+is_busy stage = is_none (given stage)
+
+-- the step that it asks for, what it is after the step found this, and what it ends with if that step is its last
+abbrev pub asks : Waiting → Ask
+asks w = asks_at w w.wait.stage
+
+abbrev pub goes : Waiting → ℕ → Waiting
+goes w found = goes_at w w.wait.stage found
+
+abbrev pub gives : Waiting → ℕ → Option (Unit {0})
+gives w found = given (goes w found).wait.stage
+
+abbrev pub listing : Listing Waiting (Unit {0})
+listing = listing_of (λ w. w.poll.layout) asks goes (λ w. given w.wait.stage)
