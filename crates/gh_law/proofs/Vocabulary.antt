@@ -61,7 +61,7 @@ pub use Rattle.gh_poll.specs.declared.leave.LeaveStage.{LeaveStage}
 pub use Rattle.gh_mutator.specs.declared.new.NewStage.{NewStage}
 pub use Rattle.gh_mutator.specs.declared.new.NewStage.TheVariants.{Place, Search, Wait}
 pub use Rattle.gh_poll.specs.declared.poll.PollStage.{PollStage}
-pub use Rattle.gh_mutator.specs.declared.processor.Processor.{Processor}
+pub use Rattle.gh_mutator.specs.Processing.{Processor}
 pub use Rattle.gh_mutator.specs.declared.task.Task.{Task}
 pub use Rattle.gh_poll.specs.declared.wait.WaitStage.{WaitStage}
 pub use Rattle.gh_mutator_writes.specs.Calm.{IsCalm as MarksNothing}

@@ -37,7 +37,7 @@ pub use Rattle.gh_mutator.specs.Serving.{has_left_at}
 pub use Rattle.gh_mutator.specs.declared.new.NewStage.{NewStage}
 pub use Rattle.gh_mutator.specs.declared.new.NewStage.TheVariants.{Assist, Place, Search, Wait, Want}
 pub use Rattle.gh_mutator.specs.declared.new.Wanted.{Wanted}
-pub use Rattle.gh_mutator.specs.declared.processor.Processor.{Processor}
+pub use Rattle.gh_mutator.specs.Processing.{Processor}
 pub use Rattle.gh_mutator.specs.declared.step.Then.{Then}
 pub use Rattle.gh_mutator.specs.declared.step.Then.TheVariants.{Ends, GoesOn}
 pub use Rattle.gh_mutator.specs.declared.task.Task.{Task}

@@ -9,7 +9,7 @@ use Rattle.gh_base.specs.declared.pack.TheConstants.{GONE}
 use Rattle.gh_base.specs.declared.shape.Shape.{Shape}
 use Rattle.gh_base.specs.Cells.{opening_words, seats_of, Words}
 use Rattle.gh_base.specs.Lists.{Kind, Legal, Setting, state_of, words_after}
-use Rattle.gh_mutator.specs.declared.processor.Processor.{Processor}
+use Rattle.gh_mutator.specs.Processing.{Processor}
 use Rattle.gh_mutator.specs.Deeds.{processor_kind}
 use Rattle.gh_mutator.specs.Listing as mutator
 use Rattle.gh_mutator.specs.Processor.{opening_processor}

@@ -37,7 +37,7 @@ pub use Rattle.gh_mutator.specs.Serving.{is_serving}
 pub use Rattle.gh_mutator.specs.Sound.{has_names}
 pub use Rattle.gh_mutator.specs.declared.new.NewStage.{NewStage}
 pub use Rattle.gh_poll.specs.declared.poll.PollStage.{PollStage}
-pub use Rattle.gh_mutator.specs.declared.processor.Processor.{Processor}
+pub use Rattle.gh_mutator.specs.Processing.{Processor}
 pub use Rattle.gh_mutator.specs.declared.task.Task.{Task}
 pub use Rattle.gh_poll.specs.declared.wait.WaitStage.{WaitStage}
 pub use Rattle.gh_mutator_writes.specs.Writing.{IsWritten, ProcessorWritesItsOwn, TellsScan, WritesOf}

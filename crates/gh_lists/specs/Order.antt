@@ -10,7 +10,7 @@ use Rattle.gh_base.specs.declared.limits.TheConstants.{REGISTERS}
 use Rattle.gh_base.specs.declared.machine.Entry.{Entry}
 use Rattle.gh_base.specs.Lists.{started, state_of}
 use Rattle.gh_model.specs.Ever.{Ever, opening_ever}
-use Rattle.gh_mutator.specs.declared.processor.Processor.{Processor}
+use Rattle.gh_mutator.specs.Processing.{Processor}
 use Rattle.gh_mutator.specs.Deeds.{acted, answer_at, processor_kind}
 use Rattle.gh_mutator.specs.Listing.{acts, Act}
 

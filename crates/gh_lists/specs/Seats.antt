@@ -7,7 +7,7 @@ use Rattle.gh_base.specs.Lists.{Kind, started, state_of}
 use Rattle.gh_coord.specs.Stays as coord_ends
 use Rattle.gh_coord.specs.Listing as coord
 use Rattle.gh_coord.specs.Stopping.{acks_of}
-use Rattle.gh_mutator.specs.declared.processor.Processor.{Processor}
+use Rattle.gh_mutator.specs.Processing.{Processor}
 use Rattle.gh_mutator.specs.Deeds.{processor_kind}
 use Rattle.gh_worker.specs.Stays as worker_ends
 use Rattle.gh_worker.specs.Listing as worker

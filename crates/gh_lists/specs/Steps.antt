@@ -7,7 +7,7 @@ use Rattle.gh_base.specs.declared.operation.Op.{Op}
 use Rattle.gh_base.specs.Cells.{Words}
 use Rattle.gh_base.specs.Lists.{Begins, Kind, Legal, Setting, started, state_of, words_after}
 use Rattle.gh_base.specs.Steps.{cell_of}
-use Rattle.gh_mutator.specs.declared.processor.Processor.{Processor}
+use Rattle.gh_mutator.specs.Processing.{Processor}
 use Rattle.gh_mutator.specs.Deeds.{processor_kind}
 use Rattle.gh_mutator.specs.Running.{IsSound}
 use Rattle.gh_mutator_writes.specs.Writing.{ProcessorWritesItsOwn}

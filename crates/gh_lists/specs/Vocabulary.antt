@@ -25,7 +25,7 @@ pub use Rattle.gh_mutator.specs.Listing.{Act, is_busy_at, op_at}
 pub use Rattle.gh_mutator.specs.New.{sought_for}
 pub use Rattle.gh_mutator.specs.Processor.{register_of}
 pub use Rattle.gh_mutator.specs.Sound.{has_names}
-pub use Rattle.gh_mutator.specs.declared.processor.Processor.{Processor}
+pub use Rattle.gh_mutator.specs.Processing.{Processor}
 pub use Rattle.gh_coord.specs.Keeping.{Kept}
 pub use Rattle.gh_coord.specs.Listing.{Coordinating}
 pub use Rattle.gh_coord.specs.Stopping.{acks_of}

@@ -75,7 +75,7 @@ pub use Rattle.gh_mutator.specs.Deeds.{acted, answer_at, deeds, given_at, has_po
 pub use Rattle.gh_mutator.specs.Listing.{Act, acting, acts, acts_at, after_gc, after_leave, after_poll, asks, begins, begins_at, follows, gives, gives_at, is_busy_at, once_ended, op_at, takes, takes_at}
 pub use Rattle.gh_mutator.specs.Processor.{cache_span, made_by, opening_processor, register_of}
 pub use Rattle.gh_mutator.specs.ProcessorMarks.{MarkFacts, only_polls}
-pub use Rattle.gh_mutator.specs.declared.processor.Processor.{Processor}
+pub use Rattle.gh_mutator.specs.Processing.{Processor}
 pub use Rattle.gh_poll.specs.Handshake.{leaves_at, polls_at, waits_at}
 pub use Rattle.gh_poll.specs.Leave.{Leaving}
 pub use Rattle.gh_poll.specs.Local.{register_at}

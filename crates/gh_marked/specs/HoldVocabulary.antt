@@ -28,7 +28,7 @@ pub use Rattle.gh_cycle.specs.Since.{HasGoneOn}
 pub use Rattle.gh_mutator.specs.Deeds.{deeds, processor_kind}
 pub use Rattle.gh_mutator.specs.ProcessorMarks.{MarkFacts}
 pub use Rattle.gh_mutator.specs.Running.{IsSound}
-pub use Rattle.gh_mutator.specs.declared.processor.Processor.{Processor}
+pub use Rattle.gh_mutator.specs.Processing.{Processor}
 pub use Rattle.gh_mutator.specs.declared.task.Task.{Task}
 pub use Rattle.gh_mutator.specs.declared.new.NewStage.{NewStage}
 pub use Rattle.gh_mutator_writes.specs.Calm.{IsCalm as MarksNothing}

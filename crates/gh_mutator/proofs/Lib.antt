@@ -15,5 +15,6 @@ pub mod Soundness
 pub mod Steps
 pub mod StoreSteps
 pub mod Sweeping
+pub mod Tasks
 pub mod Telling
 pub mod Vocabulary

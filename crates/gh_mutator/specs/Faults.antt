@@ -6,7 +6,7 @@ use Rattle.gh_base.specs.declared.operation.Op.{Op}
 use Rattle.gh_base.specs.declared.value.Answer.{Answer}
 use Rattle.gh_base.specs.declared.value.Answer.TheVariants.{Fault}
 use Rattle.gh_base.specs.declared.value.Fault.{Fault as Cause}
-use Rattle.gh_mutator.specs.declared.processor.Processor.{Processor}
+use Rattle.gh_mutator.specs.Processing.{Processor}
 use Rattle.gh_mutator.specs.declared.task.Task.TheVariants.{Idle}
 use Rattle.gh_mutator.specs.Mutating.{asks, begins, gives, listing, marks_after, Mutating}
 use Rattle.gh_mutator.specs.Processor.{at_task}

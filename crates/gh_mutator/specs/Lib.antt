@@ -13,6 +13,7 @@ pub mod Mutating
 pub mod New
 pub mod NewParts
 pub mod PollRoom
+pub mod Processing
 pub mod Processor
 pub mod ProcessorMarks
 pub mod ProcessorPlaces
@@ -26,5 +27,6 @@ pub mod Stays
 pub mod Step
 pub mod Store
 pub mod Sweeping
+pub mod Tasks
 pub mod Vocabulary
 pub mod Wanting

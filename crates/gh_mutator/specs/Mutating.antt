@@ -7,7 +7,7 @@ use Rattle.gh_base.specs.declared.operation.Op.TheVariants as op
 use Rattle.gh_base.specs.declared.shape.Shape.{Shape}
 use Rattle.gh_base.specs.declared.value.Answer.{Answer}
 use Rattle.gh_base.specs.Routines.{Listing}
-use Rattle.gh_mutator.specs.declared.processor.Processor.{Processor}
+use Rattle.gh_mutator.specs.Processing.{Processor}
 use Rattle.gh_mutator.specs.Listing.{acts as acts_by, Act, asks as asks_of, begins as begins_by, gives as gives_by, is_busy_at, takes}
 use Rattle.gh_poll.specs.Local.{passes as passes_by}
 use Rattle.gh_mutator.specs.Processor.{opening_processor}

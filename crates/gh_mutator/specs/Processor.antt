@@ -6,7 +6,7 @@ use Rattle.gh_base.specs.declared.limits.TheConstants.{MOST_GOROUTINES}
 use Rattle.gh_base.specs.declared.value.Value.{Value}
 use Rattle.gh_alloc.specs.declared.sought.CachedSpan.{CachedSpan}
 use Rattle.gh_alloc.specs.declared.sought.Sought.{Sought}
-use Rattle.gh_mutator.specs.declared.processor.Processor.{Processor}
+use Rattle.gh_mutator.specs.Processing.{Processor}
 use Rattle.gh_mutator.specs.declared.task.Task.{Task}
 use Rattle.gh_mutator.specs.declared.task.Task.TheVariants.{Idle}
 use Rattle.gh_poll.specs.Barrier.{with_held}

@@ -156,11 +156,6 @@ SoundTask shapes p made task.Poll = poll.is_busy p.stage ≡ true
 SoundTask shapes p made (task.End g) = g < p.layout.goroutines
 SoundTask shapes p made (task.Leave x) = SoundLeave p.layout x
 
--- it leaves
-abbrev pub LeavesSo : Layout → Task → Type 0
-LeavesSo l (task.Leave x) = SoundLeave l x
-LeavesSo l _ = ⊥
-
 -- beside what is known of its poll
 pub record Sound (shapes : List Shape) (m : Processor) : Type 0 where
   pub registers : (g d : ℕ) → IsNear m.poll.layout.pages (register_of m g d)

@@ -19,9 +19,7 @@ ghost use Rattle.gh_poll.specs.Registers.{IsNear, IsRegister};
 ghost use Rattle.gh_mutator.specs.Sound.{has_names, has_room, SoundOp};
 ghost use Rattle.gh_mutator.specs.Spending.{spent_of};
 
-use crate::new::NewStage;
 use crate::processor::Processor;
-use crate::task::Task;
 use gh_base::{Answer, Layout, Machine, Op, Req, Shapes, Value};
 use std::marker::Model;
 
@@ -87,10 +85,7 @@ impl<'s> Mutator<'s> {
         ensures passed { IsTrue result → self.new ≡ goes (begins self.old ops.Poll) found }
         ensures stays { result ≡ false → self.new ≡ self.old }
     {
-        match self.processor.task {
-            Task::Idle => self.processor.poll.passes(found),
-            _ => false,
-        }
+        self.processor.passes(found)
     }
 
     /// Makes a statement on registers alone at once: its one step is the same whatever it finds. It answers whether the
@@ -108,14 +103,14 @@ impl<'s> Mutator<'s> {
     {
         let (g, d, value) = match op {
             Op::Int { g, d, n } => (g, d, Value::Int(n)),
-            Op::Move { g, d, s } => (g, d, self.processor.poll.register(g, s)),
+            Op::Move { g, d, s } => (g, d, self.processor.register(g, s)),
             Op::Nil { g, d } => (g, d, Value::Nil),
             _ => return false,
         };
-        if !matches!(self.processor.task, Task::Idle) {
+        if self.processor.has_left() {
             return false;
         }
-        self.processor.poll.set_register(g, d, value);
+        self.processor.set_register(g, d, value);
         self.marks = self.marks.saturating_add(1);
         true
     }
@@ -127,7 +122,7 @@ impl<'s> Mutator<'s> {
         ensures is { result ≡ object_in (register_of self.now.processor g b) }
         ensures within { IfSome result (λ at. at < 1024 * self.now.processor.poll.layout.pages) }
     {
-        match self.processor.poll.register(g, b) {
+        match self.processor.register(g, b) {
             Value::Ref(reference) => Some(reference.saturating_sub(1) as u32),
             _ => None,
         }
@@ -136,7 +131,7 @@ impl<'s> Mutator<'s> {
     /// Ends a load whose steps were made without a task: register `d` of goroutine `g` takes the value that was found, and one
     /// statement more is answered. So the processor is where the task would have led it.
     ///
-    /// A task is 720 bytes, which are cleared where it begins, and a load has three or four steps. So who makes these itself
+    /// A load has three or four steps, and each would go through all that a processor may be at. So who makes these itself
     /// ([`crate::field`] says on which words) takes a tenth of the time.
     #[inline(always)]
     pub fn loaded(&mut self, g: u32, d: u32, found: Value)
@@ -146,7 +141,7 @@ impl<'s> Mutator<'s> {
         requires near { IsNear self.old.processor.poll.layout.pages found }
         ensures { (answer : Answer) → self.new ≡ rested self.old (set_register self.old.processor g d found) answer }
     {
-        self.processor.poll.set_register(g, d, found);
+        self.processor.set_register(g, d, found);
         self.marks = self.marks.saturating_add(1);
     }
 
@@ -171,7 +166,7 @@ impl<'s> Mutator<'s> {
     pub fn has_room(&self) -> bool
         ensures { result ≡ has_entries self.now.processor.poll }
     {
-        self.processor.poll.has_entries()
+        self.processor.has_entries()
     }
 
     /// How many entries more it has room for, as it knows: while marking is on, those of the work buffer that it holds, and 0
@@ -179,27 +174,21 @@ impl<'s> Mutator<'s> {
     pub fn room(&self) -> u32
         ensures { result ≡ room_in self.now.processor.poll }
     {
-        self.processor.poll.room()
+        self.processor.room()
     }
 
     /// It has left.
     pub fn has_left(&self) -> bool
         ensures { result ≡ has_left_at self.now.processor.task }
     {
-        match self.processor.task {
-            Task::Left => true,
-            _ => false,
-        }
+        self.processor.has_left()
     }
 
     /// Its next step is its last: it leaves.
     pub fn is_last(&self) -> bool
         ensures { result ≡ is_last self.now.processor.task }
     {
-        match &self.processor.task {
-            Task::Leave(leave) => leave.is_last(),
-            _ => false,
-        }
+        self.processor.is_last()
     }
 
     /// It runs a statement of a goroutine, and no operation of its own.
@@ -221,13 +210,7 @@ impl<'s> Mutator<'s> {
     pub fn is_searching(&self) -> bool
         ensures { result ≡ is_searching self.now.processor.task }
     {
-        match &self.processor.task {
-            Task::New(new) => match &new.stage {
-                NewStage::Search { .. } => true,
-                _ => false,
-            },
-            _ => false,
-        }
+        self.processor.is_searching()
     }
 
     /// Makes the step that found this at once, where by it the search of a `new`, in its first round, goes on to the next alloc
@@ -245,13 +228,7 @@ impl<'s> Mutator<'s> {
         ensures answer { IsTrue result → statement_answer self.old.processor found ≡ None }
         ensures stays { result ≡ false → self.new ≡ self.old }
     {
-        match &mut self.processor.task {
-            Task::New(new) => match &mut new.stage {
-                NewStage::Search { search, .. } => search.goes_on(found),
-                _ => false,
-            },
-            _ => false,
-        }
+        self.processor.goes_on(found)
     }
 
     /// The words that it has drawn from the bank of credit. The number stands at `u64::MAX`, which no run reaches.

@@ -20,7 +20,7 @@ ghost use Rattle.gh_poll.specs.Registers.{IsRegister};
 ghost use Rattle.gh_mutator.specs.Sound.{Sound, SoundWanted};
 
 use crate::processor::Processor;
-use crate::task::Task;
+use crate::task::{LargeTask, TaskAt};
 use gh_alloc::{Found, Place, Search, Sought};
 use gh_assist::Assist;
 use gh_base::{Answer, Machine, Name, Shapes, SpanHead, Value};
@@ -107,11 +107,11 @@ fn make(place: &mut Place<'_>, found: u64) -> (Option<u32>, Option<bool>)
 
 impl<'s> Processor<'s> {
     /// Begins a new object of type `t` for register `d` of goroutine `g`.
-    pub(crate) fn begin_new(&self, shapes: &Shapes, g: u32, d: u32, t: u32) -> Task<'s>
+    pub(crate) fn begin_new(&mut self, shapes: &Shapes, g: u32, d: u32, t: u32)
         requires fit { ShapesFit shapes.now }
         requires register { IsRegister g d }
         requires there { t < length shapes.now }
-        ensures { result ≡ searches (wanted_of shapes.now g d t) false (seeking self.now (wanted_of shapes.now g d t)) }
+        ensures { self.new ≡ at_task self.old (searches (wanted_of shapes.now g d t) false (seeking self.old (wanted_of shapes.now g d t))) }
     {
         size_class_laws();
         let wanted = Wanted::of(shapes, g, d, t);
@@ -120,7 +120,8 @@ impl<'s> Processor<'s> {
             waited: false,
             search,
         };
-        Task::New(New { wanted, stage })
+        self.large = LargeTask::New(New { wanted, stage });
+        self.at = TaskAt::Large;
     }
 
     /// The search for a slot for such an object.
@@ -175,7 +176,7 @@ impl<'s> Processor<'s> {
         ensures gives { result ≡ gives self.old found }
         ensures sound { Sound shapes.now self.new }
     {
-        let Task::New(new) = &mut self.task else {
+        let LargeTask::New(new) = &mut self.large else {
             return None;
         };
         // Most steps end none of its stages, and then no more of what is wanted is looked at than they need.
@@ -207,14 +208,14 @@ impl<'s> Processor<'s> {
             }
             NewStage::Want(name) => {
                 let name = *name;
-                self.task = Task::Idle;
+                self.at = TaskAt::Idle;
                 Some(Answer::Ref(name))
             }
             NewStage::Assist(name, assist) => {
                 assist.take(found)?;
                 let (name, assist) = (*name, *assist);
                 self.poll.pay(&assist);
-                self.task = Task::Idle;
+                self.at = TaskAt::Idle;
                 Some(Answer::Ref(name))
             }
         }
@@ -243,17 +244,19 @@ impl<'s> Processor<'s> {
                 let (layout, marking) = (self.poll.layout(), self.poll.marking());
                 let place = Place::new(layout, shape, at, wanted.slot, name, span, marking);
                 let stage = NewStage::Place(place);
-                self.task = Task::New(New { wanted, stage });
+                self.large = LargeTask::New(New { wanted, stage });
+                self.at = TaskAt::Large;
                 None
             }
             Found::NoRoom if waited => {
                 self.poll.set_register(wanted.g, wanted.d, Value::Nil);
-                self.task = Task::Idle;
+                self.at = TaskAt::Idle;
                 Some(Answer::Full)
             }
             Found::NoRoom => {
                 let stage = NewStage::Wait(Wait::begin(&self.poll));
-                self.task = Task::New(New { wanted, stage });
+                self.large = LargeTask::New(New { wanted, stage });
+                self.at = TaskAt::Large;
                 None
             }
         }
@@ -269,7 +272,8 @@ impl<'s> Processor<'s> {
             waited: true,
             search,
         };
-        self.task = Task::New(New { wanted, stage });
+        self.large = LargeTask::New(New { wanted, stage });
+        self.at = TaskAt::Large;
     }
 
     /// After a step of the making of the object of this name, by which it was made at this heap word, or not, and
@@ -305,10 +309,11 @@ impl<'s> Processor<'s> {
         } else if self.poll.marking() {
             NewStage::Assist(name, self.poll.assist(wanted.slot))
         } else {
-            self.task = Task::Idle;
+            self.at = TaskAt::Idle;
             return Some(Answer::Ref(name));
         };
-        self.task = Task::New(New { wanted, stage });
+        self.large = LargeTask::New(New { wanted, stage });
+        self.at = TaskAt::Large;
         None
     }
 

@@ -1,36 +1,51 @@
 //! A processor: its private state, and where an operation begins.
 
-ghost use Rattle.std.specs.Prelude.{◌≡◌, ◌<◌, true};
+ghost use Rattle.std.specs.Prelude.{◌≡◌, ◌<◌, ◌&&◌, not, List, IsTrue, true, false};
 ghost use Rattle.gh_poll.specs.Barrier.{has_entries};
-ghost use Rattle.gh_mutator.specs.Global as globals;
-ghost use Rattle.gh_poll.specs.Local.{leaving, with_nothing};
-ghost use Rattle.gh_mutator.specs.Listing.{begins, is_busy_at};
-ghost use Rattle.gh_mutator.specs.Processor.{at_poll, at_task, opening_processor, register_of};
+ghost use Rattle.gh_base.specs.declared.operation.Op.TheVariants as ops;
+ghost use Rattle.gh_base.specs.declared.shape.Shape.{Shape};
+ghost use Rattle.gh_poll.specs.Local.{leaving, passes, with_nothing};
+ghost use Rattle.gh_poll.specs.Room.{room_in};
+ghost use Rattle.gh_mutator.specs.Listing.{begins, is_busy_at, takes};
+ghost use Rattle.gh_mutator.specs.Serving.{has_left_at};
+ghost use Rattle.gh_mutator.specs.Processor.{at_poll, at_task, opening_processor, register_of, set_register};
 ghost use Rattle.gh_mutator.specs.declared.task.Task.TheVariants as task;
 ghost use Rattle.gh_mutator.specs.Register as register;
+ghost use Rattle.gh_mutator.specs.Store as stores;
 ghost use Rattle.gh_base.specs.Shapes.{ShapesFit};
 ghost use Rattle.gh_poll.specs.Registers.{IsNear, IsRegister};
 ghost use Rattle.gh_mutator.specs.Sound.{has_names, has_room, Sound, SoundOp};
 
-use crate::global::Global;
+use crate::global::Direct;
 use crate::load::Load;
 use crate::register::{Register, Source};
 use crate::store::Store;
-use crate::task::{Statement, Task};
+use crate::task::{LargeTask, Statement, TaskAt};
 use gh_base::limits::MOST_GOROUTINES;
-use gh_base::{Layout, Op, Shapes};
+use gh_base::{Layout, Op, Shapes, Value};
 use gh_class::size_class_laws;
 use gh_poll::{Local, Poll, Wait};
+use std::marker::Model;
 
 /// A processor.
 #[derive(Drop)]
 pub struct Processor<'s> {
-    /// Its layout, its seat and what it alone knows, with the poll that it is at, if it is at one.
-    pub poll: Poll,
-    /// How many objects each goroutine has made.
-    pub made: [u32; MOST_GOROUTINES as usize],
-    /// What it is at.
-    pub task: Task<'s>,
+    // Its layout, its seat and what it alone knows, with the poll that it is at, if it is at one.
+    pub(crate) poll: Poll,
+    // How many objects each goroutine has made.
+    pub(crate) made: [u32; MOST_GOROUTINES as usize],
+    // What it is at. The large task counts only where the tag says so.
+    pub(crate) at: TaskAt,
+    pub(crate) large: LargeTask<'s>,
+}
+
+impl<'s> Model for Processor<'s> {
+    ghost use Rattle.gh_mutator.specs.Processing.{Processor};
+    ghost use Rattle.gh_mutator.specs.Tasks.{task_kept};
+
+    ghost Value = { Processor };
+
+    ghost view = { λ p. record { poll = p.poll; made = p.made; task = task_kept p.at p.large } };
 }
 
 /// A statement begins that register `d` of goroutine `g` takes a value.
@@ -50,7 +65,9 @@ impl<'s> Processor<'s> {
         Processor {
             poll: Poll::resting(layout, seat, &local),
             made: [0; MOST_GOROUTINES as usize],
-            task: Task::Idle,
+            at: TaskAt::Idle,
+            // Some large task has to stand there: this one is never run.
+            large: LargeTask::Store(Store::begin(0, 0, 0, 0, Value::Nil)),
         }
     }
 
@@ -58,8 +75,8 @@ impl<'s> Processor<'s> {
     pub(crate) fn is_busy(&self) -> bool
         ensures { result ≡ is_busy_at self.now.task }
     {
-        match self.task {
-            Task::Idle | Task::Left => false,
+        match self.at {
+            TaskAt::Idle | TaskAt::Left => false,
             _ => true,
         }
     }
@@ -76,49 +93,43 @@ impl<'s> Processor<'s> {
     {
         size_class_laws();
         match op {
-            Op::New { g, d, t } => self.task = self.begin_new(shapes, g, d, t),
+            Op::New { g, d, t } => self.begin_new(shapes, g, d, t),
             Op::Load { g, d, b, k } => {
                 let base = self.poll.register(g, b);
-                self.start(Load::begin(g, d, b, k, base));
+                self.at = TaskAt::Load(Load::begin(g, d, b, k, base));
             }
-            Op::Store { g, b, k, v } => {
-                let base = self.poll.register(g, b);
-                self.start(Store::begin(g, b, k, v, base));
-            }
-            Op::GetGlobal { g, d, k } => self.start(Global::begin_load(g, d, k)),
+            Op::Store { g, b, k, v } => self.begin_store(g, b, k, v),
+            Op::GetGlobal { g, d, k } => self.at = TaskAt::Direct(Direct::begin_load(g, d, k)),
             Op::SetGlobal { g, k, v } => self.begin_set_global(g, k, v),
-            Op::Int { g, d, n } => self.start(begin_register(g, d, Source::Int(n))),
-            Op::Move { g, d, s } => self.start(begin_register(g, d, Source::Move(s))),
-            Op::Nil { g, d } => self.start(begin_register(g, d, Source::Nil)),
-            Op::Gc { g } => {
-                let wait = Wait::begin(&self.poll);
-                self.task = Task::Gc(g, wait);
-            }
+            Op::Int { g, d, n } => self.at = TaskAt::Register(begin_register(g, d, Source::Int(n))),
+            Op::Move { g, d, s } => self.at = TaskAt::Register(begin_register(
+                g,
+                d,
+                Source::Move(s),
+            )),
+            Op::Nil { g, d } => self.at = TaskAt::Register(begin_register(g, d, Source::Nil)),
+            Op::Gc { g } => self.at = TaskAt::Gc(g, Wait::begin(&self.poll)),
             Op::Poll => {
                 self.poll.begin(false);
-                self.task = Task::Poll;
+                self.at = TaskAt::Poll;
             }
-            Op::End(g) => self.task = Task::End(g),
+            Op::End(g) => self.at = TaskAt::End(g),
             Op::Leave => self.begin_leave(),
         }
     }
 
     // A function for what large values are built in: they are then no part of the others, which would clear them.
 
-    /// A store of global `k` begins from register `v`.
+    /// The store of field `k` begins.
     #[inline(never)]
-    fn begin_set_global(&mut self, g: u32, k: u32, v: u32)
-        requires global { k < self.old.poll.layout.globals }
-        requires register { IsRegister g v }
-        requires near { IsNear self.old.poll.layout.pages (register_of self.old g v) }
-        requires room { has_entries self.old.poll ≡ true }
-        ensures { self.new ≡ at_task self.old (task.Global (globals.begins_store self.old.poll.layout self.old.poll.local g k v (register_of self.old g v))) }
+    fn begin_store(&mut self, g: u32, b: u32, k: u32, v: u32)
+        requires register { IsRegister g b }
+        requires near { IsNear 1024 (register_of self.old g b) }
+        ensures { self.new ≡ at_task self.old (task.Store (stores.begins g b k v (register_of self.old g b))) }
     {
-        let held = self.poll.register(g, v);
-        let global = Global::begin_store(&self.poll, g, k, v, held);
-        // The stage's type has to be named here: the prover builds no plan for `start` without.
-        let _stage = &global.stage;
-        self.start(global);
+        let base = self.poll.register(g, b);
+        let store = Store::begin(g, b, k, v, base);
+        store.put(&mut self.at, &mut self.large);
     }
 
     /// The leave begins.
@@ -127,15 +138,54 @@ impl<'s> Processor<'s> {
         ensures { self.new ≡ at_task (at_poll self.old (with_nothing self.old.poll)) (task.Leave (leaving self.old.poll)) }
     {
         let leave = self.poll.leave();
-        self.task = Task::Leave(leave);
+        self.large = LargeTask::Leave(leave);
+        self.at = TaskAt::Large;
     }
 
-    /// It is at this statement from now on.
-    // Each branch of `begin` writes its own task, since one task that all branches make would be built
-    // with the fields of every kind, and then copied.
-    fn start<S: Statement<'s>>(&mut self, statement: S)
-        ensures { self.new ≡ at_task self.old (S.as_task statement) }
+    /// What this register holds.
+    #[inline(always)]
+    pub(crate) fn register(&self, g: u32, d: u32) -> Value
+        requires { IsRegister g d }
+        ensures { result ≡ register_of self.now g d }
     {
-        self.task = statement.as_task();
+        self.poll.register(g, d)
+    }
+
+    /// This register takes the value.
+    #[inline(always)]
+    pub(crate) fn set_register(&mut self, g: u32, d: u32, value: Value)
+        requires { IsRegister g d }
+        ensures { self.new ≡ set_register self.old g d value }
+    {
+        self.poll.set_register(g, d, value);
+    }
+
+    /// There is room for the entries of a write barrier, or marking is off, as it knows.
+    pub(crate) fn has_entries(&self) -> bool
+        ensures { result ≡ has_entries self.now.poll }
+    {
+        self.poll.has_entries()
+    }
+
+    /// How many entries more it has room for, as it knows.
+    pub(crate) fn room(&self) -> u32
+        ensures { result ≡ room_in self.now.poll }
+    {
+        self.poll.room()
+    }
+
+    /// Makes a poll at once, by the phase word that it finds, where it is idle and that is all that the poll has to do.
+    #[inline(always)]
+    pub(crate) fn passes(&mut self, found: u64) -> bool
+        requires { is_busy_at self.old.task ≡ false }
+        ensures exactly { result ≡ (not (has_left_at self.old.task) && passes self.old.poll found) }
+        ensures passed { IsTrue result → (shapes : List Shape) → self.new ≡ takes shapes (begins shapes self.old ops.Poll) found }
+        ensures sound { (shapes : List Shape) → Sound shapes self.old → Sound shapes self.new }
+        ensures stays { result ≡ false → self.new ≡ self.old }
+    {
+        match self.at {
+            TaskAt::Idle => self.poll.passes(found),
+            _ => false,
+        }
     }
 }

@@ -1,20 +1,21 @@
 //! The steps of a processor: what its task asks for, where it goes by what was found, what it then
 //! answers, and where a statement acts. A statement says so in its own file; here it is applied.
 
-ghost use Rattle.std.specs.Prelude.{◌≡◌, ◌<◌, true, List, Some};
+ghost use Rattle.std.specs.Prelude.{◌≡◌, ◌<◌, true, false, IsTrue, List, None, Some};
 ghost use Rattle.gh_base.specs.declared.shape.Shape.{Shape};
 ghost use Rattle.gh_base.specs.Cells.{InRange};
 ghost use Rattle.gh_base.specs.Steps.{cell_of, request};
 ghost use Rattle.gh_base.specs.declared.value.Answer.TheVariants.{Done, Swept};
-ghost use Rattle.gh_mutator.specs.Listing.{acts, after_gc, after_poll, applied, asks, gives, is_busy_at, once_ended, takes};
+ghost use Rattle.gh_mutator.specs.Listing.{acts, after_gc, after_poll, applied, asks, gives, is_busy_at, is_searching, once_ended, search_goes_on, takes};
 ghost use Rattle.gh_mutator.specs.Load as load;
 ghost use Rattle.gh_poll.specs.Local.{with_ended};
 ghost use Rattle.gh_poll.specs.Poll as polls;
 ghost use Rattle.gh_mutator.specs.Processor.{at_poll, at_task, register_of};
 ghost use Rattle.gh_mutator.specs.Register as register;
-ghost use Rattle.gh_mutator.specs.Serving.{is_point, is_serving};
+ghost use Rattle.gh_mutator.specs.Serving.{has_left_at, is_last, is_point, is_serving, statement_answer};
+ghost use Rattle.gh_mutator.specs.Tasks.{is_large};
 ghost use Rattle.gh_poll.specs.Registers.{IsRegister};
-ghost use Rattle.gh_mutator.specs.Sound.{LeavesSo, Sound, SoundLoad, SoundRegister};
+ghost use Rattle.gh_mutator.specs.Sound.{Sound, SoundLoad, SoundRegister};
 ghost use Rattle.gh_mutator.specs.Step.{answered};
 ghost use Rattle.gh_poll.specs.Wait as waits;
 ghost use Rattle.gh_poll.specs.WaitSound.{SoundWaiting};
@@ -25,7 +26,7 @@ use crate::new::NewStage;
 use crate::processor::Processor;
 use crate::register::Register;
 use crate::step::{Step, Then};
-use crate::task::{Statement, Task};
+use crate::task::{LargeTask, Statement, TaskAt};
 use gh_base::{Answer, Ask, Cell, END, Machine, Req, Shapes};
 use gh_class::size_class_laws;
 use gh_poll::Wait;
@@ -39,22 +40,25 @@ impl<'s> Processor<'s> {
         ensures within { InRange self.now.poll.layout (cell_of (asks self.now)) }
     {
         let layout = self.poll.layout();
-        let ask = match &self.task {
-            Task::Idle | Task::Left | Task::Register(_) => Ask::Load(Cell::Touch),
-            Task::Load(load) => load.ask(layout),
-            Task::Store(x) => return x.next(&self.poll, self.poll.register(x.g, x.v)),
-            Task::Global(x) => return x.next(&self.poll, self.poll.register(x.g, x.r)),
-            Task::New(new) => match &new.stage {
-                NewStage::Search { search, .. } => return search.next(),
-                NewStage::Wait(wait) => return wait.next(&self.poll),
-                NewStage::Place(place) => return place.next(),
-                NewStage::Want(_) => Ask::Or(Cell::Want, 1),
-                NewStage::Assist(_, assist) => return assist.next(),
+        let ask = match &self.at {
+            TaskAt::Idle | TaskAt::Left | TaskAt::Register(_) => Ask::Load(Cell::Touch),
+            TaskAt::Load(load) => load.ask(layout),
+            TaskAt::Direct(x) => x.ask(layout, self.poll.register(x.g, x.r)),
+            TaskAt::Gc(_, wait) => return wait.next(&self.poll),
+            TaskAt::Poll => return self.poll.next(),
+            TaskAt::End(g) => Ask::Store(Cell::Scanned(*g), END),
+            TaskAt::Large => match &self.large {
+                LargeTask::Store(x) => return x.next(&self.poll, self.poll.register(x.g, x.v)),
+                LargeTask::Write(x) => return x.write.next(),
+                LargeTask::New(new) => match &new.stage {
+                    NewStage::Search { search, .. } => return search.next(),
+                    NewStage::Wait(wait) => return wait.next(&self.poll),
+                    NewStage::Place(place) => return place.next(),
+                    NewStage::Want(_) => Ask::Or(Cell::Want, 1),
+                    NewStage::Assist(_, assist) => return assist.next(),
+                },
+                LargeTask::Leave(leave) => return leave.next(),
             },
-            Task::Gc(_, wait) => return wait.next(&self.poll),
-            Task::Poll => return self.poll.next(),
-            Task::End(g) => Ask::Store(Cell::Scanned(*g), END),
-            Task::Leave(leave) => return leave.next(),
         };
         layout.request(ask)
     }
@@ -75,11 +79,11 @@ impl<'s> Processor<'s> {
         }
         match step.then {
             Then::GoesOn(next) => {
-                next.put(&mut self.task);
+                next.put(&mut self.at, &mut self.large);
                 None
             }
             Then::Ends(answer) => {
-                self.task = Task::Idle;
+                self.at = TaskAt::Idle;
                 Some(answer)
             }
         }
@@ -94,22 +98,48 @@ impl<'s> Processor<'s> {
         ensures sound { Sound shapes.now self.new }
     {
         size_class_laws();
-        match self.task {
-            Task::Idle | Task::Left => None,
-            Task::Load(x) => self.take_load(x, found),
-            Task::Store(x) => self.take_store(&x, found),
-            Task::Global(x) => self.take_global(&x, found),
-            Task::Register(x) => self.take_register(x),
-            Task::New(_) => self.take_new(shapes, found),
-            Task::Gc(g, wait) => self.take_gc(g, wait, found),
-            Task::Poll => self.take_poll(found),
-            Task::End(g) => self.take_end(g),
-            Task::Leave(_) => self.take_leave(found),
+        match self.at {
+            TaskAt::Idle | TaskAt::Left => None,
+            TaskAt::Load(x) => self.take_load(x, found),
+            TaskAt::Direct(x) => self.take_direct(x, found),
+            TaskAt::Register(x) => self.take_register(x),
+            TaskAt::Gc(g, wait) => self.take_gc(g, wait, found),
+            TaskAt::Poll => self.take_poll(found),
+            TaskAt::End(g) => self.take_end(g),
+            TaskAt::Large => self.take_large(shapes, found),
         }
     }
 
-    // A function for each kind of statement: the step that it makes in memory is then no part of the others. A task that stays
-    // of its kind is written no further than that kind goes.
+    // A function for each kind of statement: the step that it makes in memory is then no part of the others.
+
+    /// Goes on with the large task that is kept, which is changed where it stands.
+    #[inline(always)]
+    fn take_large(&mut self, shapes: &'s Shapes, found: u64) -> Option<Answer>
+        requires sound { Sound shapes.now self.old }
+        requires large { is_large self.old.task ≡ true }
+        ensures goes { self.new ≡ takes shapes.now self.old found }
+        ensures gives { result ≡ gives self.old found }
+        ensures sound { Sound shapes.now self.new }
+    {
+        size_class_laws();
+        match &mut self.large {
+            LargeTask::Store(x) => {
+                let x = *x;
+                self.take_store(&x, found)
+            }
+            LargeTask::Write(x) => {
+                self.poll.take_write(&mut x.write, found)?;
+                self.at = TaskAt::Idle;
+                Some(Answer::Done)
+            }
+            LargeTask::New(_) => self.take_new(shapes, found),
+            LargeTask::Leave(leave) => {
+                leave.take(found)?;
+                self.at = TaskAt::Left;
+                Some(Answer::Done)
+            }
+        }
+    }
 
     /// Goes on with this load.
     fn take_load(&mut self, x: Load, found: u64) -> Option<Answer>
@@ -140,17 +170,11 @@ impl<'s> Processor<'s> {
         let mut wait = wait;
         match wait.take(&mut self.poll, found) {
             None => {
-                match &mut self.task {
-                    Task::Gc(h, x) => {
-                        *h = g;
-                        *x = wait;
-                    }
-                    task => *task = Task::Gc(g, wait),
-                }
+                self.at = TaskAt::Gc(g, wait);
                 None
             }
             Some(()) => {
-                self.task = Task::Idle;
+                self.at = TaskAt::Idle;
                 Some(Answer::Swept)
             }
         }
@@ -158,19 +182,15 @@ impl<'s> Processor<'s> {
 
     /// Goes on with the poll.
     fn take_poll(&mut self, found: u64) -> Option<Answer>
-        requires { polls.is_busy self.old.poll.stage ≡ true }
+        requires task { self.old.task ≡ task.Poll }
+        requires busy { polls.is_busy self.old.poll.stage ≡ true }
         ensures goes { self.new ≡ after_poll self.old (polls.goes self.old.poll found) (polls.gives self.old.poll found) }
         ensures gives { result ≡ once_ended (polls.gives self.old.poll found) Done }
     {
         match self.poll.take(found) {
-            None => {
-                if !matches!(self.task, Task::Poll) {
-                    self.task = Task::Poll;
-                }
-                None
-            }
+            None => None,
             Some(()) => {
-                self.task = Task::Idle;
+                self.at = TaskAt::Idle;
                 Some(Answer::Done)
             }
         }
@@ -183,23 +203,7 @@ impl<'s> Processor<'s> {
         ensures gives { result ≡ Some Done }
     {
         self.poll.end(g);
-        self.task = Task::Idle;
-        Some(Answer::Done)
-    }
-
-    /// Goes on with the leave.
-    fn take_leave(&mut self, found: u64) -> Option<Answer>
-        requires { LeavesSo self.old.poll.layout self.old.task }
-        ensures goes { (shapes : List Shape) → self.new ≡ takes shapes self.old found }
-        ensures gives { result ≡ gives self.old found }
-    {
-        let Task::Leave(leave) = &mut self.task else {
-            return None;
-        };
-        if leave.take(found).is_none() {
-            return None;
-        }
-        self.task = Task::Left;
+        self.at = TaskAt::Idle;
         Some(Answer::Done)
     }
 
@@ -207,8 +211,12 @@ impl<'s> Processor<'s> {
     pub(crate) fn is_serving(&self) -> bool
         ensures { result ≡ is_serving self.now.task }
     {
-        match &self.task {
-            Task::Idle | Task::Left | Task::Poll | Task::End(_) | Task::Leave(_) => false,
+        match &self.at {
+            TaskAt::Idle | TaskAt::Left | TaskAt::Poll | TaskAt::End(_) => false,
+            TaskAt::Large => match &self.large {
+                LargeTask::Leave(_) => false,
+                _ => true,
+            },
             _ => true,
         }
     }
@@ -218,19 +226,87 @@ impl<'s> Processor<'s> {
         requires { Sound shapes.now self.now }
         ensures { result ≡ is_point (acts self.now found) }
     {
-        match &self.task {
-            Task::Idle | Task::Left | Task::Poll | Task::End(_) | Task::Leave(_) => false,
-            Task::Load(x) => x.acts(found),
-            Task::Store(x) => x.acts(&self.poll, self.poll.register(x.g, x.v), found),
-            Task::Global(x) => x.acts(&self.poll),
-            Task::Register(_) => true,
-            Task::New(new) => match &new.stage {
-                NewStage::Search { waited, search } => *waited && search.refuses(),
-                NewStage::Wait(_) => false,
-                NewStage::Place(place) => place.acts(),
-                NewStage::Want(_) | NewStage::Assist(..) => false,
+        match &self.at {
+            TaskAt::Idle | TaskAt::Left | TaskAt::Poll | TaskAt::End(_) => false,
+            TaskAt::Load(x) => x.acts(found),
+            TaskAt::Direct(x) => x.acts(),
+            TaskAt::Register(_) => true,
+            TaskAt::Gc(_, wait) => wait.ends_by(found),
+            TaskAt::Large => match &self.large {
+                LargeTask::Leave(_) => false,
+                LargeTask::Store(x) => x.acts(&self.poll, self.poll.register(x.g, x.v), found),
+                LargeTask::Write(x) => x.write.is_point(),
+                LargeTask::New(new) => match &new.stage {
+                    NewStage::Search { waited, search } => *waited && search.refuses(),
+                    NewStage::Wait(_) => false,
+                    NewStage::Place(place) => place.acts(),
+                    NewStage::Want(_) | NewStage::Assist(..) => false,
+                },
             },
-            Task::Gc(_, wait) => wait.ends_by(found),
+        }
+    }
+
+    /// It has left.
+    pub(crate) fn has_left(&self) -> bool
+        ensures { result ≡ has_left_at self.now.task }
+    {
+        match self.at {
+            TaskAt::Left => true,
+            _ => false,
+        }
+    }
+
+    /// Its next step is its last: it leaves.
+    pub(crate) fn is_last(&self) -> bool
+        ensures { result ≡ is_last self.now.task }
+    {
+        match &self.at {
+            TaskAt::Large => match &self.large {
+                LargeTask::Leave(leave) => leave.is_last(),
+                _ => false,
+            },
+            _ => false,
+        }
+    }
+
+    /// It makes an object, and searches for its slot.
+    #[inline(always)]
+    pub(crate) fn is_searching(&self) -> bool
+        ensures { result ≡ is_searching self.now.task }
+    {
+        match &self.at {
+            TaskAt::Large => match &self.large {
+                LargeTask::New(new) => match &new.stage {
+                    NewStage::Search { .. } => true,
+                    _ => false,
+                },
+                _ => false,
+            },
+            _ => false,
+        }
+    }
+
+    /// Makes the step that found this at once, where by it the search of a `new`, in its first round, goes on to the next alloc
+    /// word of a span or to a further page, and answers whether that is so; where not, nothing has changed.
+    #[inline(always)]
+    pub(crate) fn goes_on(&mut self, found: u64) -> bool
+        ensures exactly { result ≡ search_goes_on self.old.task found }
+        ensures goes { IsTrue result → (shapes : List Shape) → Sound shapes self.old → self.new ≡ takes shapes self.old found }
+        ensures sound { (shapes : List Shape) → Sound shapes self.old → Sound shapes self.new }
+        ensures last { IsTrue result → is_last self.old.task ≡ false }
+        ensures point { IsTrue result → is_point (acts self.old found) ≡ false }
+        ensures answer { IsTrue result → statement_answer self.old found ≡ None }
+        ensures stays { result ≡ false → self.new ≡ self.old }
+    {
+        match &self.at {
+            TaskAt::Large => match &mut self.large {
+                LargeTask::New(new) => match &mut new.stage {
+                    NewStage::Search { search, .. } => search.goes_on(found),
+                    _ => false,
+                },
+                _ => false,
+            },
+            _ => false,
         }
     }
 }

@@ -28,7 +28,7 @@ pub use Rattle.gh_mutator.specs.declared.new.NewStage.{NewStage}
 pub use Rattle.gh_mutator.specs.declared.new.NewStage.TheVariants.{Assist, Place, Search, Wait, Want}
 pub use Rattle.gh_mutator.specs.declared.new.Wanted.{Wanted}
 pub use Rattle.gh_poll.specs.declared.poll.PollStage.{PollStage}
-pub use Rattle.gh_mutator.specs.declared.processor.Processor.{Processor}
+pub use Rattle.gh_mutator.specs.Processing.{Processor}
 pub use Rattle.gh_mutator.specs.declared.register.Register.{Register}
 pub use Rattle.gh_mutator.specs.declared.register.Source.{Source}
 pub use Rattle.gh_mutator.specs.declared.step.Step.{Step}

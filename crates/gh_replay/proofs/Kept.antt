@@ -1,8 +1,9 @@
 -- Who goes on behind a step: whoever did, but for its actor where the step says that this is done.
-use Rattle.std.proofs.Common.{◌≡◌, ℕ, zero, suc, ◌+◌, ◌<◌, Bool, true, false, cond, eqb, not, List, ◌∷◌, Option, refl, sym, ap, ◌∙◌, arith}
+use Rattle.std.proofs.Common.{◌≡◌, ◌≢◌, ℕ, zero, suc, ◌+◌, ◌<◌, Bool, true, false, cond, eqb, eq-eqb, not, List, ◌∷◌, Option, refl, sym, ap, ◌∙◌, arith}
 use Rattle.std.specs.Prelude.{◌↔◌, IfSome, is_some, IsNone}
 use Rattle.std.specs.List.{filter, range_with_len}
 use Rattle.std.proofs.lemmas.Bool.{eqb-true}
+use Rattle.gh_base.specs.Cells.{seats_of}
 use Rattle.gh_base.specs.declared.shape.Shape.{Shape}
 use Rattle.gh_base.specs.Lists.{started}
 use Rattle.gh_coord.specs.declared.coord.CoordStage.{CoordStage}
@@ -11,7 +12,7 @@ use Rattle.gh_coord.specs.Listing as coord
 use Rattle.gh_poll.specs.declared.leave.LeaveStage.{LeaveStage}
 use Rattle.gh_mutator.specs.declared.new.NewStage.{NewStage}
 use Rattle.gh_mutator.specs.declared.new.Wanted.{Wanted}
-use Rattle.gh_mutator.specs.declared.processor.Processor.{Processor}
+use Rattle.gh_mutator.specs.Processing.{Processor}
 use Rattle.gh_mutator.specs.declared.step.Then.{Then}
 use Rattle.gh_mutator.specs.declared.task.Task.{Task}
 use Rattle.gh_poll.specs.Leave.{says_gone}
@@ -28,7 +29,7 @@ use Rattle.gh_lists.specs.Handshake.{actor_takes}
 use Rattle.gh_world.specs.Schedule.{has_ended}
 use Rattle.gh_world.specs.World.{done_or, event_at, event_by, event_of, told_event}
 use Rattle.gh_replay.specs.declared.place.Place as place
-use Rattle.gh_replay.specs.Places.{KeepsThoseGoing, seen_of}
+use Rattle.gh_replay.specs.Places.{AllGoOn, KnowsThoseGoing, seen_of}
 use Rattle.gh_replay.specs.Standing.{going}
 use Rattle.gh_replay.proofs.Vocabulary.{actor_after, actors_of, Answer, Appends, Entry, is_done, IsAfter, Layout, layout_of, Op, Program, script_of, setting_of, State}
 
@@ -159,14 +160,32 @@ module _ (w v : State) (actor : ℕ) (happened : Event) (es : List (Entry Op)) (
     go b true same = sym s.on ∙ ap (is_done w) (eqb-true actor b same)
     go b false other = refl
 
--- ---- what is kept, where there is a generator
+-- ---- what a place knows of those that go on
+
+pub goes_on_to : (f : ℕ → Bool) (a : ℕ) → ((b : ℕ) → b < a → f b ≡ false) → f a ≡ false → (b : ℕ) → b < a + 1 → f b ≡ false
+goes_on_to f a before here b lt = go (eqb b a) refl where
+  go : (same : Bool) → eqb b a ≡ same → f b ≡ false
+  go true is = ap f (eqb-true b a is) ∙ here
+  go false other = before b (let apart : b ≢ a = λ is. absurd (cc (other, eq-eqb b a is)) in omega (arith, lt, apart))
 
 keep_by : {A B : Type 0} (o : Option ℕ) → IfSome o (λ x. A) → (A → B) → IfSome o (λ x. B)
 keep_by o h f = grind arith
 
-module _ (w v : State) (actor : ℕ) (happened : Event) (es : List (Entry Op)) (s : Stepped w v actor happened es) (c : place.Place) (kept : List ℕ) (all : KeepsThoseGoing c kept w) where
-  pub keeps_on : is_finished happened ≡ false → KeepsThoseGoing c kept v
-  keeps_on is = keep_by c.drawn all (λ h. h ∙ sym (going_same w v actor happened es s is))
+module _ (w v : State) (actor : ℕ) (happened : Event) (es : List (Entry Op)) (s : Stepped w v actor happened es) (c : place.Place) (kept : List ℕ) (known : KnowsThoseGoing c kept w) where
+  on_too : is_finished happened ≡ false → AllGoOn w → AllGoOn v
+  on_too is all b lt = ended_then w v actor happened es s b there ∙ go (eqb actor b) where
+    there : b < actors_of w
+    there = omega (arith, s.count, lt)
 
-  pub keeps_less : (less : List ℕ) → less ≡ filter (λ b. not (eqb actor b)) kept → is_finished happened ≡ true → KeepsThoseGoing c less v
-  keeps_less less items is = keep_by c.drawn all (λ h. items ∙ ap (filter (λ b. not (eqb actor b))) h ∙ sym (going_less w v actor happened es s is))
+    go : (same : Bool) → cond same (is_finished happened) (is_done w b) ≡ false
+    go true = is
+    go false = all b there
+
+  seats_then : actors_of v ≡ seats_of (layout_of v)
+  seats_then = s.count ∙ known.seats ∙ ap seats_of (sym s.layout)
+
+  pub knows_on : is_finished happened ≡ false → KnowsThoseGoing c kept v
+  knows_on is = record { actors = known.actors ∙ sym s.count; seats = seats_then; all = λ e. on_too is (known.all e); some = keep_by c.drawn known.some (λ h. h ∙ sym (going_same w v actor happened es s is)) }
+
+  pub knows_less : (less : List ℕ) → less ≡ filter (λ b. not (eqb actor b)) kept → is_finished happened ≡ true → KnowsThoseGoing (record c { all_go_on = false }) less v
+  knows_less less items is = record { actors = known.actors ∙ sym s.count; seats = seats_then; all = λ e. absurd (cc e); some = keep_by c.drawn known.some (λ h. items ∙ ap (filter (λ b. not (eqb actor b))) h ∙ sym (going_less w v actor happened es s is)) }

@@ -1,5 +1,6 @@
 -- What the code knows of a world and of where a schedule stands.
-use Rattle.std.specs.Prelude.{◌≡◌, ℕ, ◌≤◌, List, drop, length, IfSome}
+use Rattle.std.specs.Prelude.{◌≡◌, ℕ, ◌<◌, ◌≤◌, true, false, List, drop, length, IfSome}
+use Rattle.gh_base.specs.Cells.{seats_of}
 use Rattle.gh_base.specs.declared.operation.Op.{Op}
 use Rattle.gh_base.specs.declared.value.Answer.{Answer}
 use Rattle.gh_base.specs.declared.machine.Entry.{Entry}
@@ -19,9 +20,16 @@ seen_of w = record { actors = actors_of w; ended = is_done w; marks = marks_of w
 abbrev pub standing_at : Place → Standing
 standing_at c = record { items = drop c.at c.list.items; next = c.next; drawn = c.drawn }
 
--- where a generator draws, the actors that have not ended are kept
-abbrev pub KeepsThoseGoing : Place → List ℕ → State → Type 0
-KeepsThoseGoing c kept w = IfSome c.drawn (λ x. kept ≡ going (seen_of w))
+-- no actor has ended
+abbrev pub AllGoOn : State → Type 0
+AllGoOn w = (a : ℕ) → a < actors_of w → is_done w a ≡ false
+
+-- It knows how many actors there are, and where it says that none has ended, that is so. Where a generator draws, those that have not are kept.
+pub record KnowsThoseGoing (c : Place) (kept : List ℕ) (w : State) : Type 0 where
+  pub actors : c.actors ≡ actors_of w
+  pub seats : actors_of w ≡ seats_of (layout_of w)
+  pub all : c.all_go_on ≡ true → AllGoOn w
+  pub some : IfSome c.drawn (λ x. kept ≡ going (seen_of w))
 
 -- the world has taken turns within the budget, all of it where it is not done, and has answered so
 pub record RanWithinBudget (w : State) (plan : Plan) (budget : ℕ) (answers : List (ℕ × Answer)) : Type 0 where

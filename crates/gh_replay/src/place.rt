@@ -1,13 +1,13 @@
 //! Where a schedule stands in a run.
 
-ghost use Rattle.std.specs.Prelude.{◌≡◌, ◌<◌, ◌≤◌, ◌%◌, ◌-◌, ◌+◌, ◌==◌, false, not, IfOk, IfSome, None, [], drop, length, option_map, slice_get};
+ghost use Rattle.std.specs.Prelude.{◌≡◌, ◌<◌, ◌≤◌, ◌%◌, ◌-◌, ◌+◌, ◌==◌, false, not, IfOk, IfSome, IsTrue, None, [], drop, length, option_map, slice_get};
 ghost use Rattle.std.specs.List.{filter, range_with_len};
 ghost use Rattle.std.specs.Vec.{vec_capacity};
 ghost use Rattle.gh_base.specs.Cells.{seats_of};
 ghost use Rattle.rand_xoshiro.specs.SplitMix64.{mix_u64};
 ghost use Rattle.gh_world.specs.Schedule.{behind, first_going, turn_from};
 ghost use Rattle.gh_world.specs.World.{actors_of, is_done, layout_of, AllDone};
-ghost use Rattle.gh_replay.specs.Places.{KeepsThoseGoing, seen_of, standing_at};
+ghost use Rattle.gh_replay.specs.Places.{AllGoOn, KnowsThoseGoing, seen_of, standing_at};
 ghost use Rattle.gh_replay.specs.Standing.{
   going,
   is_gone,
@@ -39,6 +39,9 @@ pub struct Place {
     at: usize,
     next: u8,
     drawn: Option<SplitMix64>,
+    // The world's actors, and that none of them is done, as it is for most turns of most runs: then none is asked.
+    actors: u8,
+    all_go_on: bool,
 }
 
 impl Place {
@@ -48,7 +51,7 @@ impl Place {
         requires room { IfSome schedule.seed (λ seed. actors_of world.now ≤ vec_capacity kept.old) }
         ensures stands { standing_at result ≡ opening schedule }
         ensures within { result.at ≤ length result.list.items }
-        ensures kept { KeepsThoseGoing result kept.new.items world.now }
+        ensures kept { KnowsThoseGoing result kept.new.items world.now }
     {
         let Schedule { list, seed } = schedule;
         let drawn = match seed {
@@ -63,7 +66,19 @@ impl Place {
             at: 0,
             next: 0,
             drawn,
+            actors: world.actors(),
+            all_go_on: all_go_on(world),
         }
+    }
+
+    /// An actor is done by its step: of each actor once in a run, so apart from its turns.
+    #[cold]
+    pub fn take_out(&mut self, kept: &mut Vec<u8>, actor: u8)
+        ensures kept { kept.new.items ≡ filter (λ a. not (actor == a)) kept.old.items }
+        ensures place { self.new ≡ record self.old { all_go_on = false } }
+    {
+        kept.retain(|a| actor != *a);
+        self.all_go_on = false;
     }
 
     /// Who steps next, where anybody does; the place is then that behind this step. Where the generator draws, it
@@ -71,12 +86,12 @@ impl Place {
     pub fn take_turn(&mut self, world: &World, kept: &Vec<u8>) -> Option<u8>
         requires within { self.old.at ≤ length self.old.list.items }
         requires next { self.old.next < actors_of world.now }
-        requires kept { KeepsThoseGoing self.old kept.now.items world.now }
+        requires kept { KnowsThoseGoing self.old kept.now.items world.now }
         ensures who { result ≡ who (seen_of world.now) (standing_at self.old) }
         ensures moved { IfSome result (λ a. standing_at self.new ≡ moved (seen_of world.now) a (standing_at self.old)) }
         ensures within { self.new.at ≤ length self.new.list.items }
         ensures next { self.new.next < actors_of world.now }
-        ensures kept { KeepsThoseGoing self.new kept.now.items world.now }
+        ensures kept { KnowsThoseGoing self.new kept.now.items world.now }
         ensures going { IfSome result (λ a. (a < actors_of world.now) × (is_done world.now a ≡ false)) }
         ensures over { result ≡ None → AllDone world.now }
         ensures seats { actors_of world.now ≡ seats_of (layout_of world.now) }
@@ -93,6 +108,8 @@ impl Place {
         ensures within { self.new.at ≤ length self.new.list.items }
         ensures next { self.new.next < actors_of world.now }
         ensures drawn { self.new.drawn ≡ self.old.drawn }
+        ensures actors { self.new.actors ≡ self.old.actors }
+        ensures all { self.new.all_go_on ≡ self.old.all_go_on }
     {
         if self.at < self.list.len() {
             if is_over(world, self.list[self.at]) {
@@ -106,15 +123,14 @@ impl Place {
     fn take_next(&mut self, world: &World, kept: &Vec<u8>) -> Option<u8>
         requires within { self.old.at ≤ length self.old.list.items }
         requires next { self.old.next < actors_of world.now }
-        requires kept { KeepsThoseGoing self.old kept.now.items world.now }
+        requires kept { KnowsThoseGoing self.old kept.now.items world.now }
         ensures who { result ≡ who_at (seen_of world.now) (standing_at self.old) }
         ensures moved { IfSome result (λ a. standing_at self.new ≡ moved_at (seen_of world.now) a (standing_at self.old)) }
         ensures within { self.new.at ≤ length self.new.list.items }
         ensures next { self.new.next < actors_of world.now }
-        ensures kept { KeepsThoseGoing self.new kept.now.items world.now }
+        ensures kept { KnowsThoseGoing self.new kept.now.items world.now }
         ensures seats { actors_of world.now ≡ seats_of (layout_of world.now) }
     {
-        let actors = world.actors();
         if self.at < self.list.len() {
             let turn = self.list[self.at];
             self.list[self.at] = one_less(turn);
@@ -124,7 +140,7 @@ impl Place {
                 Until::Without(_) => {
                     match who_else(world, turn.actor, self.next, &mut self.drawn, kept) {
                         Some(other) => {
-                            self.next = behind(actors, other);
+                            self.next = behind(self.actors, other);
                             Some(other)
                         }
                         None => None,
@@ -132,9 +148,9 @@ impl Place {
                 }
             };
         }
-        match who_behind(world, self.next, &mut self.drawn, kept) {
+        match who_behind(world, self.next, self.all_go_on, &mut self.drawn, kept) {
             Some(actor) => {
-                self.next = behind(actors, actor);
+                self.next = behind(self.actors, actor);
                 Some(actor)
             }
             None => None,
@@ -166,12 +182,16 @@ fn add_going(world: &World, kept: &mut Vec<u8>)
     }
 }
 
-/// Takes an actor out of those that are kept, since it is done: of each actor once in a run, so apart from its turns.
-#[cold]
-pub fn take_out(kept: &mut Vec<u8>, actor: u8)
-    ensures { kept.new.items ≡ filter (λ a. not (actor == a)) kept.old.items }
+/// No actor is done.
+fn all_go_on(world: &World) -> bool
+    ensures { IsTrue result → AllGoOn world.now }
 {
-    kept.retain(|a| actor != *a);
+    for a in 0..world.actors() {
+        if world.is_done(a) {
+            return false;
+        }
+    }
+    true
 }
 
 /// The actor behind this one, which exists.
@@ -262,16 +282,24 @@ fn first_to_come(world: &World, list: &[Turn], at: usize) -> usize
     list.len()
 }
 
-/// Who steps next behind the items. Where the generator draws, it draws among those that are kept.
-fn who_behind(world: &World, next: u8, drawn: &mut Option<SplitMix64>, kept: &Vec<u8>) -> Option<u8>
+/// Who steps next behind the items. Where the generator draws, it draws among those that are kept. `all` says, where it is
+/// so, that no actor is done.
+fn who_behind(
+    world: &World,
+    next: u8,
+    all: bool,
+    drawn: &mut Option<SplitMix64>,
+    kept: &Vec<u8>,
+) -> Option<u8>
     requires next { next < actors_of world.now }
+    requires all { IsTrue all → AllGoOn world.now }
     requires kept { IfSome drawn.old (λ x. kept.now.items ≡ going (seen_of world.now)) }
     ensures who { result ≡ who_behind (seen_of world.now) next drawn.old }
     ensures drawn { drawn.new ≡ option_map (λ x. (mix_u64 x).1) drawn.old }
 {
     match drawn {
         Some(generator) => chosen(kept, generator.next_word()),
-        None => in_turn(world, next),
+        None => in_turn(world, next, all),
     }
 }
 
@@ -346,12 +374,13 @@ fn other_at(kept: &[u8], actor: u8, k: usize) -> Option<u8>
     None
 }
 
-/// Who steps next where actors take turns. Mostly `next` is not done, so it is asked first.
-fn in_turn(world: &World, next: u8) -> Option<u8>
-    requires { next < actors_of world.now }
+/// Who steps next where actors take turns. Mostly no actor is done, or `next` is not, so that is asked first.
+fn in_turn(world: &World, next: u8, all: bool) -> Option<u8>
+    requires next { next < actors_of world.now }
+    requires all { IsTrue all → AllGoOn world.now }
     ensures { result ≡ turn_from (is_done world.now) (actors_of world.now) next }
 {
-    if !world.is_done(next) {
+    if all || !world.is_done(next) {
         return Some(next);
     }
     world.turn_from(next)

@@ -15,7 +15,7 @@ ghost use Rattle.gh_world.specs.World.{actors_of, layout_of, script_of};
 use crate::check::run_beside;
 use crate::fault::ReplayFault;
 use crate::laws::one_outcome;
-use crate::place::{Place, room_to_keep, take_out};
+use crate::place::{Place, room_to_keep};
 use crate::report::Report;
 use crate::schedule::Schedule;
 use gh_base::Answer;
@@ -106,7 +106,7 @@ fn run(
             Event::Answered { g, answer, .. } => answers.push_reserved((g, answer)),
             Event::Moved => {}
             Event::Swept { .. } => {}
-            Event::Finished => take_out(kept, actor),
+            Event::Finished => place.take_out(kept, actor),
         }
         left -= 1;
     }

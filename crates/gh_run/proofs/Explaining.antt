@@ -16,7 +16,7 @@ use Rattle.gh_coord.specs.Listing.{Coordinating}
 use Rattle.gh_coord.specs.Stays.{cycle_room_stays}
 use Rattle.gh_coord.specs.Stopping.{acks_of}
 use Rattle.gh_lines.specs.Text.{answers_by}
-use Rattle.gh_mutator.specs.declared.processor.Processor.{Processor}
+use Rattle.gh_mutator.specs.Processing.{Processor}
 use Rattle.gh_mutator.specs.declared.task.Task.{Task}
 use Rattle.gh_mutator.specs.declared.task.Task.TheVariants as task
 use Rattle.gh_mutator.specs.Deeds.{deeds, given_at, has_point, processor_kind}

@@ -29,7 +29,7 @@ pub use Rattle.gh_mutator.specs.declared.load.Load.{Load}
 pub use Rattle.gh_mutator.specs.declared.load.LoadStage.{LoadStage}
 pub use Rattle.gh_mutator.specs.declared.new.NewStage.{NewStage}
 pub use Rattle.gh_mutator.specs.declared.new.NewStage.TheVariants.{Assist, Place, Want}
-pub use Rattle.gh_mutator.specs.declared.processor.Processor.{Processor}
+pub use Rattle.gh_mutator.specs.Processing.{Processor}
 pub use Rattle.gh_mutator.specs.declared.step.Step.{Step}
 pub use Rattle.gh_mutator.specs.declared.store.Store.{Store}
 pub use Rattle.gh_mutator.specs.declared.store.StoreStage.{StoreStage}

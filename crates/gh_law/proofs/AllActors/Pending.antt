@@ -1,6 +1,6 @@
 -- An answer is pending only once its operation has acted.
 use Rattle.std.proofs.Common.{◌≡◌, ℕ, Option, Some, None, arith}
-use Rattle.gh_mutator.specs.declared.processor.Processor.{Processor}
+use Rattle.gh_mutator.specs.Processing.{Processor}
 use Rattle.gh_mutator.specs.declared.task.Task.{Task}
 use Rattle.gh_mutator_heap.specs.Facts.{FactsAt}
 use Rattle.gh_mutator.specs.Listing.{op_at}

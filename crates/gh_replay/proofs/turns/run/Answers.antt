@@ -3,9 +3,9 @@ use Rattle.std.proofs.lemmas.List.{append-nil}
 use Rattle.gh_base.specs.declared.value.Answer.{Answer}
 use Rattle.gh_world.specs.Turns.{total_of}
 use Rattle.gh_world.specs.World.{actors_of, answered_in}
-use Rattle.gh_replay.specs.Places.{KeepsThoseGoing, standing_at}
+use Rattle.gh_replay.specs.Places.{KnowsThoseGoing, standing_at}
 use Rattle.gh_replay.specs.Standing.{Standing}
-use Rattle.gh_replay.proofs.Kept.{is_finished, keeps_less, keeps_on, Stepped}
+use Rattle.gh_replay.proofs.Kept.{is_finished, knows_less, knows_on, Stepped}
 use Rattle.gh_replay.proofs.Running.{Midway, more, opens, ran, room_for, roomy}
 use Rattle.gh_replay.proofs.turns.run.Goals as goal
 use Rattle.gh_replay.proofs.turns.run.Goals.{in-Answered, in-Moved, in-Swept, in-Finished}
@@ -35,51 +35,51 @@ loop-left-preserved c =
     (record { appended = c.step.ensures.appended; script = c.step.ensures.script; layout = c.step.ensures.layout }) c.loop-left.invariant.next c.take_turn.ensures.seats (sym c.in-Some.is ∙ c.take_turn.ensures.who) c.in-Some.ensures.moved) in
     let m = c.loop-left.invariant.midway in
     let going = c.in-Some.ensures.going in
-    let all : KeepsThoseGoing c.take_turn.new.self c.loop-left.kept.items c.loop-left.world = c.take_turn.ensures.kept in
+    let all : KnowsThoseGoing c.take_turn.new.self c.loop-left.kept.items c.loop-left.world = c.take_turn.ensures.kept in
     let step : Stepped c.loop-left.world c.step.new.self c.in-Some.actor c.step.result m.turns = record { before = m.after; appends = c.step.ensures.appended m.turns m.after; script = c.step.ensures.script; layout = c.step.ensures.layout; count = c.step.ensures.actors; there = going.0; on = going.1 } in
-    let same : is_finished c.step.result ≡ false → KeepsThoseGoing c.take_turn.new.self c.loop-left.kept.items c.step.new.self =
-    keeps_on c.loop-left.world c.step.new.self c.in-Some.actor c.step.result m.turns step c.take_turn.new.self c.loop-left.kept.items all in
+    let same : is_finished c.step.result ≡ false → KnowsThoseGoing c.take_turn.new.self c.loop-left.kept.items c.step.new.self =
+    knows_on c.loop-left.world c.step.new.self c.in-Some.actor c.step.result m.turns step c.take_turn.new.self c.loop-left.kept.items all in
     let next : c.take_turn.new.self.next < actors_of c.step.new.self = let there = c.take_turn.ensures.next in let count = c.step.ensures.actors in omega (arith, there, count) in
     elim c.match-step.branch [
       | in-Answered w ↦ record {
         script = c.step.ensures.script ∙ c.loop-left.invariant.script;
         layout = c.step.ensures.layout ∙ c.loop-left.invariant.layout;
-        midway = after _ (ap (λ v. v.items) w.answers-is ∙ w.push_reserved.ensures.items ∙ ap (λ e. c.loop-left.answers.items ++ answered_in e) (sym w.in-Answered.is));
+        midway = rw w.place-is (after _ (ap (λ v. v.items) w.answers-is ∙ w.push_reserved.ensures.items ∙ ap (λ e. c.loop-left.answers.items ++ answered_in e) (sym w.in-Answered.is)));
         few = c.step.ensures.few;
-        within = c.take_turn.ensures.within;
-        next = next;
-        kept = rw w.kept-is (same (ap is_finished w.in-Answered.is));
+        within = rw w.place-is c.take_turn.ensures.within;
+        next = rw w.place-is next;
+        kept = rw (w.kept-is, w.place-is) (same (ap is_finished w.in-Answered.is));
         room = rw (w.answers-is, c.step.ensures.script, w.push_reserved.ensures.capacity) c.loop-left.invariant.room;
       }
       | in-Moved w ↦ record {
         script = c.step.ensures.script ∙ c.loop-left.invariant.script;
         layout = c.step.ensures.layout ∙ c.loop-left.invariant.layout;
-        midway = after _ (ap (λ v. v.items) w.answers-is ∙ sym (append-nil c.loop-left.answers.items) ∙ ap (λ e. c.loop-left.answers.items ++ answered_in e) (sym w.in-Moved.is));
+        midway = rw w.place-is (after _ (ap (λ v. v.items) w.answers-is ∙ sym (append-nil c.loop-left.answers.items) ∙ ap (λ e. c.loop-left.answers.items ++ answered_in e) (sym w.in-Moved.is)));
         few = c.step.ensures.few;
-        within = c.take_turn.ensures.within;
-        next = next;
-        kept = rw w.kept-is (same (ap is_finished w.in-Moved.is));
+        within = rw w.place-is c.take_turn.ensures.within;
+        next = rw w.place-is next;
+        kept = rw (w.kept-is, w.place-is) (same (ap is_finished w.in-Moved.is));
         room = rw (w.answers-is, c.step.ensures.script) c.loop-left.invariant.room;
       }
       | in-Swept w ↦ record {
         script = c.step.ensures.script ∙ c.loop-left.invariant.script;
         layout = c.step.ensures.layout ∙ c.loop-left.invariant.layout;
-        midway = after _ (ap (λ v. v.items) w.answers-is ∙ sym (append-nil c.loop-left.answers.items) ∙ ap (λ e. c.loop-left.answers.items ++ answered_in e) (sym w.in-Swept.is));
+        midway = rw w.place-is (after _ (ap (λ v. v.items) w.answers-is ∙ sym (append-nil c.loop-left.answers.items) ∙ ap (λ e. c.loop-left.answers.items ++ answered_in e) (sym w.in-Swept.is)));
         few = c.step.ensures.few;
-        within = c.take_turn.ensures.within;
-        next = next;
-        kept = rw w.kept-is (same (ap is_finished w.in-Swept.is));
+        within = rw w.place-is c.take_turn.ensures.within;
+        next = rw w.place-is next;
+        kept = rw (w.kept-is, w.place-is) (same (ap is_finished w.in-Swept.is));
         room = rw (w.answers-is, c.step.ensures.script) c.loop-left.invariant.room;
       }
       | in-Finished w ↦ record {
         script = c.step.ensures.script ∙ c.loop-left.invariant.script;
         layout = c.step.ensures.layout ∙ c.loop-left.invariant.layout;
-        midway = after _ (ap (λ v. v.items) w.answers-is ∙ sym (append-nil c.loop-left.answers.items) ∙ ap (λ e. c.loop-left.answers.items ++ answered_in e) (sym w.in-Finished.is));
+        midway = rw (w.place-is, w.take_out.ensures.place) (after _ (ap (λ v. v.items) w.answers-is ∙ sym (append-nil c.loop-left.answers.items) ∙ ap (λ e. c.loop-left.answers.items ++ answered_in e) (sym w.in-Finished.is)));
         few = c.step.ensures.few;
-        within = c.take_turn.ensures.within;
-        next = next;
-        kept = rw w.kept-is (keeps_less c.loop-left.world c.step.new.self c.in-Some.actor c.step.result m.turns step c.take_turn.new.self c.loop-left.kept.items all
-            _ w.take_out.ensures (ap is_finished w.in-Finished.is));
+        within = rw (w.place-is, w.take_out.ensures.place) c.take_turn.ensures.within;
+        next = rw (w.place-is, w.take_out.ensures.place) next;
+        kept = rw (w.kept-is, w.place-is, w.take_out.ensures.place) (knows_less c.loop-left.world c.step.new.self c.in-Some.actor c.step.result m.turns step c.take_turn.new.self c.loop-left.kept.items all
+            _ w.take_out.ensures.kept (ap is_finished w.in-Finished.is));
         room = rw (w.answers-is, c.step.ensures.script) c.loop-left.invariant.room;
       }
     ]

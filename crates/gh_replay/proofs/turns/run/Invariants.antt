@@ -2,7 +2,7 @@ use Rattle.std.proofs.Common.{◌≡◌, ◌<◌, ◌≤◌, length}
 use Rattle.std.specs.Vec.{vec_capacity}
 use Rattle.gh_world.specs.Turns.{total_of}
 use Rattle.gh_world.specs.World.{actors_of, answered_of, layout_of, script_of}
-use Rattle.gh_replay.specs.Places.{KeepsThoseGoing, standing_at}
+use Rattle.gh_replay.specs.Places.{KnowsThoseGoing, standing_at}
 use Rattle.gh_replay.proofs.Running.{Midway}
 use Rattle.gh_replay.proofs.turns.run.Given as goal
 
@@ -14,7 +14,7 @@ invariant-loop-left l = record {
   within : l.place.at ≤ length l.place.list.items;
   few : answered_of l.world ≤ total_of (script_of l.world);
   next : l.place.next < actors_of l.world;
-  kept : KeepsThoseGoing l.place l.kept.items l.world;
+  kept : KnowsThoseGoing l.place l.kept.items l.world;
   room : total_of (script_of l.world) ≤ vec_capacity l.answers;
 }
 

@@ -3,7 +3,7 @@ use Rattle.gh_mutator.specs.declared.task.Task.{Task}
 use Rattle.gh_mutator.specs.declared.task.Task.TheVariants.{Idle}
 use Rattle.gh_poll.specs.Local.{with_register_value}
 use Rattle.gh_mutator.specs.Mutating.{is_busy, Mutating}
-use Rattle.gh_poll.specs.Poll.{Polling}
+use Rattle.gh_mutator.specs.Processing.{Processor}
 use Rattle.gh_mutator.specs.Serving.{has_left_at}
 use Rattle.gh_poll.specs.Registers.{IsNear}
 use Rattle.gh_mutator.specs.Sound.{Sound}
@@ -19,4 +19,4 @@ invariant_of-self c =
     let near = subst (λ (x : Mutating). IsNear x.processor.poll.layout.pages v) (sym c.self.view_is) c.requires.near in
     let sound = taken c.self.inside.shapes.now m c.args.g c.args.d (Some v) Idle c.self.invariant.1 near tt in
     let still = subst (λ (t : Task). Sound c.self.inside.shapes.now (record { poll = with_register_value m.poll c.args.g c.args.d v; made = m.made; task = t })) (sym idle) sound in
-    (c.self.invariant.0, subst (λ (p : Polling). Sound c.self.inside.shapes.now (record { poll = p; made = m.made; task = m.task })) (sym c.set_register.ensures) still)
+    (c.self.invariant.0, subst (λ (p : Processor). Sound c.self.inside.shapes.now p) (sym c.set_register.ensures) still)

@@ -1,10 +1,15 @@
-use Rattle.std.proofs.Common.{◌≡◌, ◌∙◌, rules}
+use Rattle.std.proofs.Common.{ap, sym, ◌∙◌}
+use Rattle.gh_mutator.specs.declared.task.Task.{Task}
+use Rattle.gh_mutator.specs.Listing.{acts_at}
+use Rattle.gh_mutator.specs.Processing.{Processor}
 use Rattle.gh_mutator.specs.Processor.{register_of}
-use Rattle.gh_mutator.specs.Global.{step}
+use Rattle.gh_mutator.specs.Serving.{is_point}
+use Rattle.gh_mutator.proofs.Tasks.{direct_is, point_direct}
 use Rattle.gh_mutator.proofs.processor.Processor.is_point.Goals as goal
 
-pub returns-in-Global : goal.returns-in-Global
-returns-in-Global c =
+pub returns-in-Direct : goal.returns-in-Direct
+returns-in-Direct c =
     let m = c.args.self.now in
-    let same : c.acts-in-Global.result ≡ (step m.poll.layout (register_of m c.in-Global.x.g c.in-Global.x.r) c.in-Global.x c.args.found).acts = c.acts-in-Global.ensures m.poll.layout (register_of m c.in-Global.x.g c.in-Global.x.r) c.args.found in
-    same ∙ (search rules)
+    let x = c.in-Direct.x in
+    c.acts-in-Direct.ensures m.poll.layout (register_of m x.g x.r) c.args.found ∙ sym (point_direct m x c.args.found)
+    ∙ ap (λ (t : Task). is_point (acts_at m t c.args.found)) (sym (direct_is m c.self.inside.at c.self.inside.large x (ap (λ (p : Processor). p.task) c.self.view_is) c.in-Direct.is))

@@ -1,8 +1,11 @@
-use Rattle.std.proofs.Common.{◌≡◌, false, rules}
-use Rattle.gh_mutator.specs.Listing.{takes}
+use Rattle.std.proofs.Common.{◌≡◌, false, ap, sym, ◌∙◌, rules}
+use Rattle.gh_mutator.specs.Listing.{takes, takes_at}
 use Rattle.gh_mutator.specs.Serving.{is_making}
 use Rattle.gh_mutator.proofs.ClassFacts.{ClassLaws}
+use Rattle.gh_mutator.specs.Processing.{Processor}
+use Rattle.gh_mutator.specs.declared.task.Task.{Task}
 use Rattle.gh_mutator.proofs.Soundness.{plain_next}
+use Rattle.gh_mutator.proofs.Tasks.{direct_is}
 use Rattle.gh_mutator.proofs.processor.Processor.take.Goals as goal
 
 pub returns-in-Load-clause-sound : goal.returns-in-Load-clause-sound
@@ -12,20 +15,6 @@ returns-in-Load-clause-sound c =
     let goes : c.take_load.new.self ≡ takes c.args.shapes.now c.args.self.now c.args.found = search rules in
     plain_next c.args.shapes.now laws c.args.self.now c.args.found c.take_load.new.self plain c.requires.sound goes
 
-pub returns-in-Store-clause-sound : goal.returns-in-Store-clause-sound
-returns-in-Store-clause-sound c =
-    let laws : ClassLaws = search rules in
-    let plain : is_making c.args.self.now.task ≡ false = search rules in
-    let goes : c.take_store.new.self ≡ takes c.args.shapes.now c.args.self.now c.args.found = search rules in
-    plain_next c.args.shapes.now laws c.args.self.now c.args.found c.take_store.new.self plain c.requires.sound goes
-
-pub returns-in-Global-clause-sound : goal.returns-in-Global-clause-sound
-returns-in-Global-clause-sound c =
-    let laws : ClassLaws = search rules in
-    let plain : is_making c.args.self.now.task ≡ false = search rules in
-    let goes : c.take_global.new.self ≡ takes c.args.shapes.now c.args.self.now c.args.found = search rules in
-    plain_next c.args.shapes.now laws c.args.self.now c.args.found c.take_global.new.self plain c.requires.sound goes
-
 pub returns-in-Register-clause-sound : goal.returns-in-Register-clause-sound
 returns-in-Register-clause-sound c =
     let laws : ClassLaws = search rules in
@@ -33,9 +22,13 @@ returns-in-Register-clause-sound c =
     let goes : c.take_register.new.self ≡ takes c.args.shapes.now c.args.self.now c.args.found = search rules in
     plain_next c.args.shapes.now laws c.args.self.now c.args.found c.take_register.new.self plain c.requires.sound goes
 
-pub returns-in-Leave-clause-sound : goal.returns-in-Leave-clause-sound
-returns-in-Leave-clause-sound c =
+pub returns-in-Direct-clause-goes : goal.returns-in-Direct-clause-goes
+returns-in-Direct-clause-goes c = c.take_direct.ensures.goes c.args.shapes.now ∙ ap (λ (t : Task). takes_at c.args.shapes.now c.args.self.now t c.args.found) (sym (direct_is c.args.self.now c.self.inside.at c.self.inside.large c.in-Direct.x (ap (λ (p : Processor). p.task) c.self.view_is) c.in-Direct.is))
+
+pub returns-in-Direct-clause-sound : goal.returns-in-Direct-clause-sound
+returns-in-Direct-clause-sound c =
     let laws : ClassLaws = search rules in
-    let plain : is_making c.args.self.now.task ≡ false = search rules in
-    let goes : c.take_leave.new.self ≡ takes c.args.shapes.now c.args.self.now c.args.found = c.take_leave.ensures.goes c.args.shapes.now in
-    plain_next c.args.shapes.now laws c.args.self.now c.args.found c.take_leave.new.self plain c.requires.sound goes
+    let is = direct_is c.args.self.now c.self.inside.at c.self.inside.large c.in-Direct.x (ap (λ (p : Processor). p.task) c.self.view_is) c.in-Direct.is in
+    let plain : is_making c.args.self.now.task ≡ false = ap is_making is in
+    plain_next c.args.shapes.now laws c.args.self.now c.args.found c.take_direct.new.self plain c.requires.sound
+    (c.take_direct.ensures.goes c.args.shapes.now ∙ ap (λ (t : Task). takes_at c.args.shapes.now c.args.self.now t c.args.found) (sym is))
