@@ -3,7 +3,7 @@
 ghost use Rattle.std.specs.Prelude.{◌≡◌, ◌<◌, true};
 ghost use Rattle.gh_coord.specs.Listing.{is_busy};
 
-use gh_base::trace::run_alone;
+use gh_base::trace::run_routine_alone;
 use gh_base::{GONE, Layout, Machine, Req};
 use gh_coord::{Coord, SweepAll, Watch, Watched};
 use std::alloc::{AllocError, Global};
@@ -93,8 +93,8 @@ fn words_are_watched(rt: HostRuntime) -> Result<(), Fail> {
             (BUFFER_ROW + 3, buffer),
         ];
         let mut words = words(rt.alloc(), &set)?;
-        let mut watch = Watch::new(&layout, 2);
-        let steps = run_alone(rt.alloc(), &mut watch, &layout, &mut words, 99)?;
+        let mut watch = Watch::new(2);
+        let steps = run_routine_alone(rt.alloc(), &mut watch, &layout, &mut words, 99)?;
         let line = steps.lines.last().map(|line| line.as_str());
         assert_eq!(rt;
             (steps.out, steps.lines.len(), line),
@@ -114,14 +114,14 @@ fn spans_of_an_earlier_sweep_are_swept(rt: HostRuntime) -> Result<(), Fail> {
         (PAGE_ROW + 3, 529 + (4 << 30)),
     ];
     let mut unswept = words(rt.alloc(), &set)?;
-    let mut sweep = SweepAll::new(&layout, 4);
-    let steps = run_alone(rt.alloc(), &mut sweep, &layout, &mut unswept, 99)?;
+    let mut sweep = SweepAll::new(4);
+    let steps = run_routine_alone(rt.alloc(), &mut sweep, &layout, &mut unswept, 99)?;
     // 16 pages are looked at; of the swept one 16 words of marks, by 3 steps each, the swap, and 4 steps behind them
     assert_eq!(rt; (steps.out, steps.lines.len()), (Some(()), 16 + 53));
 
     let mut in_sweep = words(rt.alloc(), &[(PAGE_ROW, 529 + (3 << 30))])?;
-    let mut sweep = SweepAll::new(&layout, 4);
-    let steps = run_alone(rt.alloc(), &mut sweep, &layout, &mut in_sweep, 3)?;
+    let mut sweep = SweepAll::new(4);
+    let steps = run_routine_alone(rt.alloc(), &mut sweep, &layout, &mut in_sweep, 3)?;
     let waits = "load page 0: 3221226001";
     assert!(rt; steps.out.is_none() && steps.are(&[waits, waits, waits]));
     Ok(())

@@ -34,7 +34,7 @@ pub record Known : Type 0 where
   pub few_pages : (c : ℕ) → c < 25 → pages_of c ≤ 4
 
 pub seeks-last : (z : Arena) (a : ℕ) (v w : View) (f : Finding) → Others z a v w → Seeks z a v f → Seeks z a w f
-seeks-last z a v w f o x = record { layout = x.layout; seat = x.seat; few = x.few; number = x.number ∙ sym o.generation; wanted = x.wanted }
+seeks-last z a v w f o x = record { seat = x.seat; few = x.few; number = x.number ∙ sym o.generation; wanted = x.wanted }
 
 cached-lasts : (z : Arena) (a : ℕ) (v w : View) (c : SpanClass) (x : CachedSpan) → Good z v → Others z a v w → IsCached a v c x → IsCached a w c x
 cached-lasts z a v w c x g o y = record {

@@ -3,7 +3,7 @@ use Rattle.std.proofs.Common.{◌≡◌, ℕ, ◌+◌, ◌*◌, ◌<◌, ◌≤�
 use Rattle.gh_class.specs.declared.class.SizeClass.TheVariants as size
 use Rattle.gh_cache.specs.Listing as slots
 use Rattle.gh_alloc.specs.FindFacts.{Caches, FactsAt, FindsNone, IsUsedUp, NoneIsTrue, Opens, Seeks, SweepsHere, cached_head, is_locked, laying, own, with_span}
-use Rattle.gh_alloc.proofs.Vocabulary.{Arena, begin, CachedSpan, End, Finding, FindStage, first_page, Good, IsFull, Lands, Large, Lock, May, Move, moved, NoRoom, refuses_at, Right, Row, row_bit, Shared, slot_count, slot_size, slot_words_of, Slots, slots_of, Small, Sought, span_at, SpanHead, sweep_generation_at, sweep_layout_at, Unlock, View, view, Words}
+use Rattle.gh_alloc.proofs.Vocabulary.{Arena, begin, CachedSpan, End, Finding, FindStage, first_page, Good, IsFull, Lands, Large, Layout, Lock, May, Move, moved, NoRoom, refuses_at, Right, Row, row_bit, Shared, slot_count, slot_size, slot_words_of, Slots, slots_of, Small, Sought, span_at, SpanHead, sweep_generation_at, Unlock, View, view, Words}
 use Rattle.gh_alloc.proofs.FindLasts.{Known}
 
 -- What its own steps keep.
@@ -29,7 +29,7 @@ finds-none z a sure v rest f x e = let y = refuses-at z a sure v f f.stage e x.s
 
 -- Whose routine sweeps.
 
-sweeps-at : (z : Arena) (a : ℕ) (sure : Bool) (v : View) (f : Finding) (q : FindStage) → Seeks z a v f → FactsAt z a sure v f q → (sweep_layout_at f q ≡ z.layout) × (sweep_generation_at f q ≡ v.generation)
+sweeps-at : (z : Arena) (a : ℕ) (sure : Bool) (v : View) (f : Finding) (q : FindStage) → Seeks z a v f → FactsAt z a sure v f q → sweep_generation_at f q ≡ v.generation
 sweeps-at z a sure v f q seeks x = grind arith
 
 pub sweeps-here : SweepsHere
@@ -38,8 +38,8 @@ sweeps-here z a sure v rest f x = sweeps-at z a sure v f f.stage x.seeks x.stage
 -- Numbers.
 
 -- a page from which the span fits is read as it is
-pub first-is : (f : Finding) (pages at : ℕ) → at + pages ≤ f.layout.pages → first_page f pages at ≡ at
-first-is f pages at le = ap (λ (b : Bool). cond b at 0) (le-leb (at + pages) f.layout.pages le)
+pub first-is : (l : Layout) (pages at : ℕ) → at + pages ≤ l.pages → first_page l pages at ≡ at
+first-is l pages at le = ap (λ (b : Bool). cond b at 0) (le-leb (at + pages) l.pages le)
 
 -- Slots.
 
@@ -81,9 +81,9 @@ module _ (z : Arena) (a : ℕ) (sure : Bool) (v : View) (rest : ℕ → Bool) (f
   abbrev pub Stands : FindStage → Type 0
   Stands q = Right a v (is_locked q) (with_span (own q) (with_span (cached_head f.cached) rest)) (laying q) × FactsAt z a sure v f q × OwnApart rest (own q)
 
-  pub begins : (wanted : Sought) (cached : Option CachedSpan) → f.wanted ≡ wanted → f.cached ≡ cached → Caches a v wanted cached → Right a v false (with_span (cached_head f.cached) rest) None → Stands (begin f.layout wanted cached)
+  pub begins : (wanted : Sought) (cached : Option CachedSpan) → f.wanted ≡ wanted → f.cached ≡ cached → Caches a v wanted cached → Right a v false (with_span (cached_head f.cached) rest) None → Stands (begin wanted cached)
   begins (Small c) (Some x) w y caches right = go (ltb x.cursor (slots_of c.class)) refl where
-    go : (b : Bool) → ltb x.cursor (slots_of c.class) ≡ b → Stands (cond b (Slots (slots.opening f.layout (span_at c.class x))) Lock)
+    go : (b : Bool) → ltb x.cursor (slots_of c.class) ≡ b → Stands (cond b (Slots (slots.opening (span_at c.class x))) Lock)
     go true e = (right, record { c = c; k = x; for = record { wanted = w; cached = y }; is = refl; left = ltb-true x.cursor (slots_of c.class) e }, none-own rest)
     go false e = (right, used-up f.wanted (Small c) f.cached (Some x) w y (ltb-false x.cursor (slots_of c.class) e), none-own rest)
   begins (Small c) None w y caches right = (right, used-up f.wanted (Small c) f.cached None w y tt, none-own rest)
@@ -92,6 +92,6 @@ module _ (z : Arena) (a : ℕ) (sure : Bool) (v : View) (rest : ℕ → Bool) (f
 
 pub opens : Opens
 opens z a v rest f seeks caches apart right e =
-    let at : f.stage ≡ begin f.layout f.wanted f.cached = ap (λ (g : Finding). g.stage) e in
+    let at : f.stage ≡ begin f.wanted f.cached = ap (λ (g : Finding). g.stage) e in
     let x : Stands z a false v rest f f.stage = subst (λ (q : FindStage). Stands z a false v rest f q) (sym at) (begins z a false v rest f f.wanted f.cached refl refl caches right) in
     (x.0, record { seeks = seeks; caches = caches; apart = apart; own_apart = x.2; round = λ is. absurd (cc is); stage = x.1 })

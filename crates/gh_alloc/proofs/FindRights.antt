@@ -18,12 +18,12 @@ use Rattle.gh_sweep.specs.Listing.{Sweeping}
 use Rattle.gh_pages.specs.Facts as carving
 use Rattle.gh_pages.specs.Listing as carve
 use Rattle.gh_alloc.specs.FindFacts.{Caches, Comes, Facts, FactsAt, FindsByItsRights, IsCached, IsCachedFor, IsUsedUp, LooksAgain, NoneLeft, OwnsLarge, OwnStep, Seeks, SweepStep, carve_at, head_for, cached_head, held, is_locked, laying, looks, own, pass_at, still, unswept_at, with_span}
-use Rattle.gh_alloc.proofs.Vocabulary.{after_carve, after_pass, after_slots, after_unswept, Again, Arena, asks, At, begin, behind_for, CachedSpan, Carve, CarveStage, cell_of, effect, End, Ended, eqb_tells, Finding, FindStage, first_page, FitsClass, Give, given, given_at, given_head, gives, goes, Good, IsSpan, KeepsObjects, Lands, Large, Layout, LeaveLock, Lock, locked_for, moved, NoRoom, owned_by, pages_of, Pass, put, Quiet, refuses_at, Right, searched, Shared, Slots, slots_of, Small, Sought, span_at, span_for, SpanClass, SpanHead, spans_for, Steps, sweep_at, TakeLock, taken_for, Unlock, Unswept, update, View, view}
+use Rattle.gh_alloc.proofs.Vocabulary.{after_carve, after_pass, after_slots, after_unswept, Again, Arena, asks, At, begin, behind_for, CachedSpan, Carve, CarveStage, cell_of, effect, End, Ended, eqb_tells, Finding, FindStage, first_page, FitsClass, Give, given, given_at, given_head, gives, goes, Good, IsSpan, KeepsObjects, Lands, Large, LeaveLock, Lock, locked_for, moved, NoRoom, owned_by, pages_of, Pass, put, Quiet, refuses_at, Right, searched, Shared, Slots, slots_of, Small, Sought, span_at, span_for, SpanClass, SpanHead, spans_for, Steps, sweep_at, TakeLock, taken_for, Unlock, Unswept, update, View, view}
 use Rattle.gh_alloc.proofs.FindLasts.{Known, lasts}
 use Rattle.gh_alloc.proofs.FindWithin.{within}
 use Rattle.gh_alloc.proofs.FindParts.{Apart, begins, finds-none, first-is, is-apart, is-own, Kept, lands, none-apart, none-own, opens, OwnApart, Stands, sweeps-here, taken-of}
 
--- It goes on, and has given nothing.
+-- It goes z.layout on, and has given nothing.
 
 abbrev Onward : Arena → (a : ℕ) → (sure : Bool) → View → (ℕ → Bool) → Finding → Type 0
 Onward z a sure v rest f = Right a v (is_locked f.stage) (held f rest) (laying f.stage) × Facts z a sure v rest f
@@ -33,19 +33,19 @@ goes-on z a sure v rest f = grind arith
 
 -- The own steps, in a round that looks for unswept spans or does not: the last one does not.
 
-module _ (k : Known) (z : Arena) (a : ℕ) (sure : Bool) (s : Shared) (rest : ℕ → Bool) (l : Layout) (e n : ℕ) (sweeps : Bool) (last : sure ≡ true → sweeps ≡ false) where
+module _ (k : Known) (z : Arena) (a : ℕ) (sure : Bool) (s : Shared) (rest : ℕ → Bool) (e n : ℕ) (sweeps : Bool) (last : sure ≡ true → sweeps ≡ false) where
   abbrev now : View
   now = view s
 
   abbrev at : Sought → Option CachedSpan → FindStage → Finding
-  at w c q = record { layout = l; seat = e; generation = n; wanted = w; cached = c; sweeps = sweeps; stage = q }
+  at w c q = record { seat = e; generation = n; wanted = w; cached = c; sweeps = sweeps; stage = q }
 
   -- whose search it is, at any stage
   abbrev Whose : Sought → Type 0
   Whose w = Seeks z a now (at w None Lock)
 
   whose-of : (w : Sought) (c : Option CachedSpan) (q : FindStage) → Seeks z a now (at w c q) → Whose w
-  whose-of w c q x = record { layout = x.layout; seat = x.seat; few = x.few; number = x.number; wanted = x.wanted }
+  whose-of w c q x = record { seat = x.seat; few = x.few; number = x.number; wanted = x.wanted }
 
   abbrev On : Shared → Finding → Type 0
   On t f = Onward z a sure (view t) rest f
@@ -62,7 +62,7 @@ module _ (k : Known) (z : Arena) (a : ℕ) (sure : Bool) (s : Shared) (rest : �
   none-at w q t same whose own looks-on x = grind arith
 
   abbrev Step : Finding → Type 0
-  Step f = Steps z a s (asks f) (λ t. KeepsObjects now (view t) × (looks f.stage ≡ true → Leaves now (view t)) × Comes z a (still sure f.stage) (view t) rest (gives f (s.words (cell_of (asks f)))) (goes f (s.words (cell_of (asks f)))))
+  Step f = Steps z a s (asks z.layout f) (λ t. KeepsObjects now (view t) × (looks f.stage ≡ true → Leaves now (view t)) × Comes z a (still sure f.stage) (view t) rest (gives z.layout f (s.words (cell_of (asks z.layout f)))) (goes z.layout f (s.words (cell_of (asks z.layout f)))))
 
   on-then : (t : Shared) (f : Finding) → On t f → Comes z a sure (view t) rest (given f) f
   on-then t f h = grind arith
@@ -70,10 +70,10 @@ module _ (k : Known) (z : Arena) (a : ℕ) (sure : Bool) (s : Shared) (rest : �
   -- The cached span is searched.
 
   abbrev start : SpanClass → CachedSpan → slots.Searching
-  start c x = slots.opening l (span_at c.class x)
+  start c x = slots.opening (span_at c.class x)
 
   abbrev next : SpanClass → CachedSpan → Bool → slots.Searching
-  next c x d = record { layout = l; span = record { head = x.head; class = c.class; cursor = x.cursor + 1 }; stage = cond d slot_stage.Look (slot_stage.Ended None) }
+  next c x d = record { span = record { head = x.head; class = c.class; cursor = x.cursor + 1 }; stage = cond d slot_stage.Look (slot_stage.Ended None) }
 
   -- by the tests that the slot at the cursor is clear and that one stands behind it
   abbrev After : SpanClass → CachedSpan → (b d : Bool) → slots.Searching
@@ -86,8 +86,8 @@ module _ (k : Known) (z : Arena) (a : ℕ) (sure : Bool) (s : Shared) (rest : �
   From c x b d = searched (at (Small c) (Some x) (Slots (start c x))) (After c x b d)
 
   slots-then : (c : SpanClass) (x : CachedSpan) (found : ℕ) (t : Shared) → Kept s t → Whose (Small c) → Looks (Slots (start c x)) → rest x.head ≡ false → x.cursor < slots_of c.class → Right a (view t) false (update rest x.head true) None →
-      searching.Comes z a (view t) c.noscan (slots.gives (start c x) found) (slots.goes (start c x) found) →
-      Comes z a sure (view t) rest (given (after_slots (searched (at (Small c) (Some x) (Slots (start c x))) (slots.goes (start c x) found)) (slots.gives (start c x) found))) (after_slots (searched (at (Small c) (Some x) (Slots (start c x))) (slots.goes (start c x) found)) (slots.gives (start c x) found))
+      searching.Comes z a (view t) c.noscan (slots.given (slots.goes (start c x) found)) (slots.goes (start c x) found) →
+      Comes z a sure (view t) rest (given (after_slots (searched (at (Small c) (Some x) (Slots (start c x))) (slots.goes (start c x) found)) (slots.given (slots.goes (start c x) found)))) (after_slots (searched (at (Small c) (Some x) (Slots (start c x))) (slots.goes (start c x) found)) (slots.given (slots.goes (start c x) found)))
   slots-then c x found t same whose calm apart left right r = go (slots.is_found (start c x) found) (ltb (x.cursor + 1) (slots_of c.class)) refl r where
     after : CachedSpan
     after = record x { cursor = x.cursor + 1 }
@@ -107,12 +107,12 @@ module _ (k : Known) (z : Arena) (a : ℕ) (sure : Bool) (s : Shared) (rest : �
 
   slots-own : (c : SpanClass) (x : CachedSpan) → Good z now → Whose (Small c) → Looks (Slots (start c x)) → IsCached a now c x → rest x.head ≡ false → x.cursor < slots_of c.class → Right a now false (update rest x.head true) None → Step (at (Small c) (Some x) (Slots (start c x)))
   slots-own c x good whose calm y apart left right =
-      lands k z a s _ _ _ good (λ t same r. (r.0, λ e. absurd (cc), slots-then c x (s.words (cell_of (slots.asks (start c x)))) t same whose calm apart left r.1 r.2))
-      (k.search.own_step z a s false (update rest x.head true) None c.noscan (start c x) good right (record { layout = whose.layout; span = y.span; stage = refl; cursor = left; taken = y.taken }))
+      lands k z a s _ _ _ good (λ t same r. (r.0, λ e. absurd (cc), slots-then c x (s.words (cell_of (slots.asks z.layout (start c x)))) t same whose calm apart left r.1 r.2))
+      (k.search.own_step z a s false (update rest x.head true) None c.noscan (start c x) good right (record { span = y.span; stage = refl; cursor = left; taken = y.taken }))
 
   -- With the lock.
 
-  carve-then : (w : Sought) (t : Shared) → Good z now → Kept s t → Whose w → NoneLeft z sure (view t) (at w None Lock) w → Right a (view t) true rest None → On t (at w None (Carve (carve.opening l e n (span_for w))))
+  carve-then : (w : Sought) (t : Shared) → Good z now → Kept s t → Whose w → NoneLeft z sure (view t) (at w None Lock) w → Right a (view t) true rest None → On t (at w None (Carve (carve.opening e n (span_for w))))
   carve-then w t good same whose none right = grind arith
 
   spans-then : (w : Sought) (t : Shared) → Good z now → Kept s t → Whose w → Right a (view t) true rest None → On t (at w None (spans_for (at w None Lock) w))
@@ -155,10 +155,10 @@ module _ (k : Known) (z : Arena) (a : ℕ) (sure : Bool) (s : Shared) (rest : �
   small-pages : (h : SpanHead) (c : ℕ) → FitsClass h → h.class ≡ size.Small c → h.pages ≡ pages_of c
   small-pages h c fits class = grind arith
 
-  give-own : (c : SpanClass) (x : CachedSpan) → Good z now → Whose (Small c) → IsCached a now c x → rest x.head ≡ false → slots_of c.class ≤ x.cursor → Right a now true (update rest x.head true) None → Step (at (Small c) (Some x) (Give (give.opening l x.head (given_head n c))))
+  give-own : (c : SpanClass) (x : CachedSpan) → Good z now → Whose (Small c) → IsCached a now c x → rest x.head ≡ false → slots_of c.class ≤ x.cursor → Right a now true (update rest x.head true) None → Step (at (Small c) (Some x) (Give (give.opening x.head (given_head n c))))
   give-own c x good whose y apart used right =
       lands k z a s _ _ _ good (λ t same r. (r.0, λ e. absurd (cc), on-then t _ (spans-then (Small c) t good same whose (record { locked = r.1.locked; holds = λ q. r.1.holds q ∙ given-back x.head apart q; laying = r.1.laying; freeing = r.1.freeing }))))
-      (k.give.gives z a s (update rest x.head true) (give.opening l x.head (given_head n c)) good right (record {
+      (k.give.gives z a s (update rest x.head true) (give.opening x.head (given_head n c)) good right (record {
         stage = refl;
         h = y.span.h;
         head = y.span.head;
@@ -171,7 +171,7 @@ module _ (k : Known) (z : Arena) (a : ℕ) (sure : Bool) (s : Shared) (rest : �
 
   -- A span is taken.
 
-  cached-then : (c : SpanClass) (p : ℕ) (h : SpanHead) (m : FindStage) (t : Shared) → Kept s t → Whose (Small c) → IsSpan z.layout.pages (view t).page p h → h.class ≡ size.Small c.class → h.noscan ≡ c.noscan → Right a (view t) true (update rest p true) None → rest p ≡ false → On t (taken_for (at (Small c) None m) (Small c) p)
+  cached-then : (c : SpanClass) (p : ℕ) (h : SpanHead) (m : FindStage) (t : Shared) → Kept s t → Whose (Small c) → IsSpan z.layout.pages (view t).page p h → h.class ≡ size.Small c.class → h.noscan ≡ c.noscan → Right a (view t) true (update rest p true) None → rest p ≡ false → On t (taken_for z.layout (at (Small c) None m) (Small c) p)
   cached-then c p h m t same whose span class noscan right apart = subst (λ (i : ℕ). On t (at (Small c) (Some (record { head = i; cursor = 0 })) (Unlock Again))) (sym first)
       (right, facts-at (Small c) (Some fresh) (Unlock Again) t same whose caches (is-apart rest fresh apart) (none-own rest) (λ is. refl) (record { c = c; k = fresh; for = record { wanted = refl; cached = refl } })) where
         fresh : CachedSpan
@@ -184,14 +184,14 @@ module _ (k : Known) (z : Arena) (a : ℕ) (sure : Bool) (s : Shared) (rest : �
           taken = λ j lt. absurd (omega (arith, lt));
         }
 
-        first : first_page (at (Small c) None m) (pages_of c.class) p ≡ p
-        first = first-is (at (Small c) None m) (pages_of c.class) p (subst (λ (y : Layout). p + pages_of c.class ≤ y.pages) (sym whose.layout) (subst (λ (i : ℕ). p + i ≤ z.layout.pages) (small-pages h c.class span.fits class) span.within))
+        first : first_page z.layout (pages_of c.class) p ≡ p
+        first = first-is z.layout (pages_of c.class) p (subst (λ (i : ℕ). p + i ≤ z.layout.pages) (small-pages h c.class span.fits class) span.within)
 
   -- behind the swept spans unswept ones, or else fresh pages
   behind-then : (c : SpanClass) (t : Shared) → Good z now → Kept s t → Whose (Small c) → NoneLeft z sure (view t) (at (Small c) None Lock) (Small c) → Right a (view t) true rest None → On t (at (Small c) None (behind_for (at (Small c) None Lock) (Small c)))
   behind-then c t good same whose none right = grind arith
 
-  pass-then : (c : SpanClass) (t : Shared) (given : Option (Option ℕ)) (m : pass.Pass) → Good z now → Kept s t → Whose (Small c) → m ≡ pass_at (at (Small c) None Lock) c m.stage → passing.Comes z a sure now (view t) rest given m → On t (after_pass (at (Small c) None (Pass m)) given)
+  pass-then : (c : SpanClass) (t : Shared) (given : Option (Option ℕ)) (m : pass.Pass) → Good z now → Kept s t → Whose (Small c) → m ≡ pass_at (at (Small c) None Lock) c m.stage → passing.Comes z a sure now (view t) rest given m → On t (after_pass z.layout (at (Small c) None (Pass m)) given)
   pass-then c t None m good same whose is r = (r.1, none-at (Small c) (Pass m) t same whose (none-own rest) refl (record { c = c; wanted = refl; cached = refl; is = is; facts = r.2 }))
   pass-then c t (Some None) m good same whose is r = behind-then c t good same whose (subst (λ (y : pass.Pass). passing.HasPassed sure (passing.sought y) (view t) z.layout.pages) is r.2) r.1
   pass-then c t (Some (Some p)) m good same whose is r =
@@ -203,8 +203,8 @@ module _ (k : Known) (z : Arena) (a : ℕ) (sure : Bool) (s : Shared) (rest : �
 
   pass-own : (c : SpanClass) (m : pass.Pass) → passing.IsSure z sure now → Good z now → Whose (Small c) → m ≡ pass_at (at (Small c) None Lock) c m.stage → passing.Facts z a sure now m → Right a now true rest None → Step (at (Small c) None (Pass m))
   pass-own c m tidy good whose is facts right =
-      let found : ℕ = s.words (cell_of (pass.asks m)) in
-      lands k z a s _ _ _ good (λ t same r. (r.0, λ e. pass-leaves (view t) (pass.gives m found) (pass.goes m found) r.1, on-then t _ (pass-then c t (pass.gives m found) (pass.goes m found) good same whose (ap (λ (y : pass.Pass). pass.at_stage y (pass.goes m found).stage) is) r.1)))
+      let found : ℕ = s.words (cell_of (pass.asks z.layout m)) in
+      lands k z a s _ _ _ good (λ t same r. (r.0, λ e. pass-leaves (view t) (pass.given (pass.goes z.layout m found)) (pass.goes z.layout m found) r.1, on-then t _ (pass-then c t (pass.given (pass.goes z.layout m found)) (pass.goes z.layout m found) good same whose (ap (λ (y : pass.Pass). pass.at_stage y (pass.goes z.layout m found).stage) is) r.1)))
       (k.pass.own_step z a sure s rest m good right tidy facts)
 
   -- An unswept span, where the round looks for those.
@@ -212,7 +212,7 @@ module _ (k : Known) (z : Arena) (a : ℕ) (sure : Bool) (s : Shared) (rest : �
   not-last : sweeps ≡ true → sure ≡ true → ⊥
   not-last first is = let e = last is in cc
 
-  unswept-then : (c : SpanClass) (t : Shared) (given : Option (Option ℕ)) (m : unswept.Unswept) → Good z now → Kept s t → sweeps ≡ true → Whose (Small c) → m ≡ unswept_at (at (Small c) None Lock) c m.stage → sweeping.Comes z a now (view t) rest given m → On t (after_unswept (at (Small c) None (Unswept m)) given)
+  unswept-then : (c : SpanClass) (t : Shared) (given : Option (Option ℕ)) (m : unswept.Unswept) → Good z now → Kept s t → sweeps ≡ true → Whose (Small c) → m ≡ unswept_at (at (Small c) None Lock) c m.stage → sweeping.Comes z a now (view t) rest given m → On t (after_unswept z.layout (at (Small c) None (Unswept m)) given)
   unswept-then c t None m good same first whose is r = (r.1, none-at (Small c) (Unswept m) t same whose (none-own rest) refl (record { c = c; wanted = refl; cached = refl; first = first; is = is; facts = r.2 }))
   unswept-then c t (Some None) m good same first whose is r = carve-then (Small c) t good same whose (λ sure-is. absurd (not-last first sure-is)) r.1
   unswept-then c t (Some (Some p)) m good same first whose is r =
@@ -224,20 +224,20 @@ module _ (k : Known) (z : Arena) (a : ℕ) (sure : Bool) (s : Shared) (rest : �
 
   unswept-own : (c : SpanClass) (m : unswept.Unswept) → unswept.sweep_in m ≡ None → Good z now → sweeps ≡ true → Whose (Small c) → m ≡ unswept_at (at (Small c) None Lock) c m.stage → sweeping.Facts z a now m → Right a now true rest None → Step (at (Small c) None (Unswept m))
   unswept-own c m idle good first whose is facts right =
-      let found : ℕ = s.words (cell_of (unswept.asks m)) in
-      lands k z a s _ _ _ good (λ t same r. (r.0, λ e. unswept-leaves (view t) (unswept.gives m found) (unswept.goes m found) r.1, on-then t _ (unswept-then c t (unswept.gives m found) (unswept.goes m found) good same first whose (ap (λ (y : unswept.Unswept). unswept.at_stage y (unswept.goes m found).stage) is) r.1)))
+      let found : ℕ = s.words (cell_of (unswept.asks z.layout m)) in
+      lands k z a s _ _ _ good (λ t same r. (r.0, λ e. unswept-leaves (view t) (unswept.given (unswept.goes z.layout m found)) (unswept.goes z.layout m found) r.1, on-then t _ (unswept-then c t (unswept.given (unswept.goes z.layout m found)) (unswept.goes z.layout m found) good same first whose (ap (λ (y : unswept.Unswept). unswept.at_stage y (unswept.goes z.layout m found).stage) is) r.1)))
       (k.unswept.own_step z a s rest m good right facts idle)
 
   -- what a step of a sweep comes to
   abbrev Sweeps : Shared → Finding → Type 0
-  Sweeps t f = KeepsObjects now (view t) × Comes z a sure (view t) rest (gives f (s.words (cell_of (asks f)))) (goes f (s.words (cell_of (asks f))))
+  Sweeps t f = KeepsObjects now (view t) × Comes z a sure (view t) rest (gives z.layout f (s.words (cell_of (asks z.layout f)))) (goes z.layout f (s.words (cell_of (asks z.layout f))))
 
   unswept-sweeps : (c : SpanClass) (m : unswept.Unswept) (sw : Sweeping) → unswept.sweep_in m ≡ Some sw → Good z now → sweeps ≡ true → Whose (Small c) → m ≡ unswept_at (at (Small c) None Lock) c m.stage → sweeping.Facts z a now m → Right a now true rest None →
-      (t : Shared) → SweepLeaves now (view t) → t.words ≡ effect s.words (unswept.asks m) → Sweeps t (at (Small c) None (Unswept m))
+      (t : Shared) → SweepLeaves now (view t) → t.words ≡ effect s.words (unswept.asks z.layout m) → Sweeps t (at (Small c) None (Unswept m))
   unswept-sweeps c m sw runs good first whose is facts right t leaves words =
-      let found : ℕ = s.words (cell_of (unswept.asks m)) in
+      let found : ℕ = s.words (cell_of (unswept.asks z.layout m)) in
       let r = k.unswept.sweep_step z a s t rest m sw good right facts runs leaves words in
-      (r.0, on-then t _ (unswept-then c t (unswept.gives m found) (unswept.goes m found) good leaves.leaves.generation first whose (ap (λ (y : unswept.Unswept). unswept.at_stage y (unswept.goes m found).stage) is) r.1))
+      (r.0, on-then t _ (unswept-then c t (unswept.given (unswept.goes z.layout m found)) (unswept.goes z.layout m found) good leaves.leaves.generation first whose (ap (λ (y : unswept.Unswept). unswept.at_stage y (unswept.goes z.layout m found).stage) is) r.1))
 
   -- Fresh pages.
 
@@ -245,7 +245,7 @@ module _ (k : Known) (z : Arena) (a : ℕ) (sure : Bool) (s : Shared) (rest : �
   none-goes (Small c) t leaves x = λ is. k.walks.full now (view t) (head_for (at (Small c) None Lock)) z.layout.pages leaves (x is)
   none-goes (Large pages noscan) t leaves x = x
 
-  large-then : (pages : ℕ) (noscan : Bool) (p : ℕ) (m : FindStage) (q : CarveStage) (t : Shared) → Kept s t → Whose (Large pages noscan) → carving.SpanIsFresh z (view t) (carve_at (at (Large pages noscan) None Lock) q) p → Right a (view t) true (update rest p true) None → rest p ≡ false → On t (taken_for (at (Large pages noscan) None m) (Large pages noscan) p)
+  large-then : (pages : ℕ) (noscan : Bool) (p : ℕ) (m : FindStage) (q : CarveStage) (t : Shared) → Kept s t → Whose (Large pages noscan) → carving.SpanIsFresh z (view t) (carve_at (at (Large pages noscan) None Lock) q) p → Right a (view t) true (update rest p true) None → rest p ≡ false → On t (taken_for z.layout (at (Large pages noscan) None m) (Large pages noscan) p)
   large-then pages noscan p m q t same whose fresh right apart = subst (λ (i : ℕ). On t (at (Large pages noscan) None (Unlock (End (At (1024 * i)))))) (sym first) (
     subst (λ (i : ℕ). Right a (view t) true (update rest i true) None) page-is right,
     none-at (Large pages noscan) (Unlock (End (At (1024 * p)))) t same whose (is-own rest (1024 * p / 1024) (subst (λ (i : ℕ). rest i ≡ false) page-is apart)) refl (record {
@@ -272,14 +272,14 @@ module _ (k : Known) (z : Arena) (a : ℕ) (sure : Bool) (s : Shared) (rest : �
     head : (owner number : ℕ) → SpanHead
     head owner number = record { class = size.Large; noscan = noscan; pages = pages; owner = owner; number = number }
 
-    first : first_page (at (Large pages noscan) None m) pages p ≡ p
-    first = first-is (at (Large pages noscan) None m) pages p (subst (λ (y : Layout). p + pages ≤ y.pages) (sym whose.layout) fresh.span.within)
+    first : first_page z.layout pages p ≡ p
+    first = first-is z.layout pages p fresh.span.within
 
-  fresh-then : (w : Sought) (t : Shared) (p : ℕ) (m : FindStage) (q : CarveStage) → Kept s t → Whose w → carving.SpanIsFresh z (view t) (carve_at (at w None Lock) q) p → Right a (view t) true (update rest p true) None → rest p ≡ false → On t (taken_for (at w None m) w p)
+  fresh-then : (w : Sought) (t : Shared) (p : ℕ) (m : FindStage) (q : CarveStage) → Kept s t → Whose w → carving.SpanIsFresh z (view t) (carve_at (at w None Lock) q) p → Right a (view t) true (update rest p true) None → rest p ≡ false → On t (taken_for z.layout (at w None m) w p)
   fresh-then (Small c) t p m q same whose fresh right apart = cached-then c p (carve.fresh_head (carve_at (at (Small c) None Lock) q)) m t same whose fresh.span refl refl right apart
   fresh-then (Large pages noscan) t p m q same whose fresh right apart = large-then pages noscan p m q t same whose fresh right apart
 
-  carved : (w : Sought) (t : Shared) (given : Option (Option ℕ)) (m : carve.Carving) → Kept s t → Whose w → NoneLeft z sure now (at w None Lock) w → m ≡ carve_at (at w None Lock) m.stage → carving.Comes z a now (view t) rest given m → On t (after_carve (at w None (Carve m)) given)
+  carved : (w : Sought) (t : Shared) (given : Option (Option ℕ)) (m : carve.Carving) → Kept s t → Whose w → NoneLeft z sure now (at w None Lock) w → m ≡ carve_at (at w None Lock) m.stage → carving.Comes z a now (view t) rest given m → On t (after_carve z.layout (at w None (Carve m)) given)
   carved w t None m same whose none is r = (r.1, none-at w (Carve m) t same whose (none-own rest) refl (record { cached = refl; none = none-goes w t r.0 none; is = is; facts = r.2 }))
   carved w t (Some None) m same whose none is r = (r.1, none-at w (Unlock (End NoRoom)) t same whose (none-own rest) refl (record { cached = refl; none = none-goes w t r.0 none; no_run = subst (λ (y : carve.Carving). carving.NoRun (view t).page y.span.pages z.layout.pages) is r.2 }))
   carved w t (Some (Some p)) m same whose none is r = fresh-then w t p (Carve m) m.stage same whose (subst (λ (y : carve.Carving). carving.SpanIsFresh z (view t) y p) is r.2) r.1 r.3
@@ -290,7 +290,7 @@ module _ (k : Known) (z : Arena) (a : ℕ) (sure : Bool) (s : Shared) (rest : �
   carve-own : (w : Sought) (m : carve.Carving) → Good z now → Whose w → NoneLeft z sure now (at w None Lock) w → m ≡ carve_at (at w None Lock) m.stage → carving.Facts z a now m → Right a now true rest (carving.laying m) → Step (at w None (Carve m))
   carve-own w m good whose none is facts right =
       let found : ℕ = s.words (cell_of (carve.asks m)) in
-      lands k z a s _ _ _ good (λ t same r. (r.0, λ e. carve-leaves (view t) (carve.gives m found) (carve.goes m found) r.1, on-then t _ (carved w t (carve.gives m found) (carve.goes m found) same whose none (ap (λ (y : carve.Carving). carve.at_stage y (carve.goes m found).stage) is) r.1)))
+      lands k z a s _ _ _ good (λ t same r. (r.0, λ e. carve-leaves (view t) (carve.given (carve.goes z.layout m found)) (carve.goes z.layout m found) r.1, on-then t _ (carved w t (carve.given (carve.goes z.layout m found)) (carve.goes z.layout m found) same whose none (ap (λ (y : carve.Carving). carve.at_stage y (carve.goes z.layout m found).stage) is) r.1)))
       (k.carve.own_step z a s rest m good right facts)
 
   -- The lock is freed.
@@ -317,12 +317,12 @@ module _ (k : Known) (z : Arena) (a : ℕ) (sure : Bool) (s : Shared) (rest : �
 
     -- a further round is the first
     anew : Finding
-    anew = record { layout = l; seat = e; generation = n; wanted = Small c; cached = Some x; sweeps = true; stage = begin l (Small c) (Some x) }
+    anew = record { seat = e; generation = n; wanted = Small c; cached = Some x; sweeps = true; stage = begin (Small c) (Some x) }
 
     seeks : Seeks z a (view t) anew
-    seeks = record { layout = whose.layout; seat = whose.seat; few = whose.few; number = whose.number; wanted = whose.wanted }
+    seeks = record { seat = whose.seat; few = whose.few; number = whose.number; wanted = whose.wanted }
 
-    begun : Stands z a false (view t) rest anew (begin l (Small c) (Some x))
+    begun : Stands z a false (view t) rest anew (begin (Small c) (Some x))
     begun = begins z a false (view t) rest anew (Small c) (Some x) refl refl caches (k.follow z a s true (update rest x.head true) None right).left
 
   large-own : (pages : ℕ) (noscan : Bool) (y : ℕ) → OwnsLarge z a now (at (Large pages noscan) None (Unlock (End (At y)))) y → OwnApart rest (Some (y / 1024)) → Right a now true (update rest (y / 1024) true) None → Step (at (Large pages noscan) None (Unlock (End (At y))))
@@ -381,7 +381,7 @@ module _ (k : Known) (z : Arena) (a : ℕ) (sure : Bool) (s : Shared) (rest : �
   own-at tidy (Ended out) w c x round go idle = absurd x
 
   abbrev Sweep : Sought → Option CachedSpan → FindStage → Type 0
-  Sweep w c q = (sw : Sweeping) → sweep_at q ≡ Some sw → Good z now → Whose w → Right a now (is_locked q) (held (at w c q) rest) (laying q) → (t : Shared) → SweepLeaves now (view t) → t.words ≡ effect s.words (asks (at w c q)) → Sweeps t (at w c q)
+  Sweep w c q = (sw : Sweeping) → sweep_at q ≡ Some sw → Good z now → Whose w → Right a now (is_locked q) (held (at w c q) rest) (laying q) → (t : Shared) → SweepLeaves now (view t) → t.words ≡ effect s.words (asks z.layout (at w c q)) → Sweeps t (at w c q)
 
   sweep-stage : (q : FindStage) (w : Sought) (c : Option CachedSpan) → FactsAt z a sure now (at w c q) q → Sweep w c q
   sweep-stage (Unswept m) w c x = subst (λ (v : Sought). Sweep v c (Unswept m)) (sym x.wanted) (subst (λ (d : Option CachedSpan). Sweep (Small x.c) d (Unswept m)) (sym x.cached)
@@ -389,18 +389,18 @@ module _ (k : Known) (z : Arena) (a : ℕ) (sure : Bool) (s : Shared) (rest : �
   sweep-stage _ w c x = λ sw runs. absurd (cc runs)
 
 again : Known → LooksAgain
-again k z a sure s rest f good tidy seeks cached last right = subst (λ (c : Option CachedSpan). Onward z a sure (view s) rest (record { layout = f.layout; seat = f.seat; generation = f.generation; wanted = f.wanted; cached = c; sweeps = f.sweeps; stage = spans_for f f.wanted })) (sym cached)
-    (spans-then k z a sure s rest f.layout f.seat f.generation f.sweeps last f.wanted s good refl (whose-of k z a sure s rest f.layout f.seat f.generation f.sweeps last f.wanted f.cached f.stage seeks) right)
+again k z a sure s rest f good tidy seeks cached last right = subst (λ (c : Option CachedSpan). Onward z a sure (view s) rest (record { seat = f.seat; generation = f.generation; wanted = f.wanted; cached = c; sweeps = f.sweeps; stage = spans_for f f.wanted })) (sym cached)
+    (spans-then k z a sure s rest f.seat f.generation f.sweeps last f.wanted s good refl (whose-of k z a sure s rest f.seat f.generation f.sweeps last f.wanted f.cached f.stage seeks) right)
 
 own-step : Known → OwnStep
 own-step k z a sure s rest f good tidy right x go idle =
     let last : sure ≡ true → f.sweeps ≡ false = λ is. (x.round is).1 in
-    own-at k z a sure s rest f.layout f.seat f.generation f.sweeps last tidy f.stage f.wanted f.cached x.stage (λ is. (x.round is).0) go idle good (whose-of k z a sure s rest f.layout f.seat f.generation f.sweeps last f.wanted f.cached f.stage x.seeks) x.caches x.apart x.own_apart right
+    own-at k z a sure s rest f.seat f.generation f.sweeps last tidy f.stage f.wanted f.cached x.stage (λ is. (x.round is).0) go idle good (whose-of k z a sure s rest f.seat f.generation f.sweeps last f.wanted f.cached f.stage x.seeks) x.caches x.apart x.own_apart right
 
 sweep-step : Known → SweepStep
 sweep-step k z a sure s t rest f sw good then right x runs leaves words =
     let last : sure ≡ true → f.sweeps ≡ false = λ is. (x.round is).1 in
-    sweep-stage k z a sure s rest f.layout f.seat f.generation f.sweeps last f.stage f.wanted f.cached x.stage sw runs good (whose-of k z a sure s rest f.layout f.seat f.generation f.sweeps last f.wanted f.cached f.stage x.seeks) right t leaves words
+    sweep-stage k z a sure s rest f.seat f.generation f.sweeps last f.stage f.wanted f.cached x.stage sw runs good (whose-of k z a sure s rest f.seat f.generation f.sweeps last f.wanted f.cached f.stage x.seeks) right t leaves words
 
 pub finds_by_its_rights : Known → FindsByItsRights
 finds_by_its_rights k = record { opens = opens; again = again k; own_step = own-step k; sweep_step = sweep-step k; here = sweeps-here; within = within k; none = finds-none; lasts = lasts k }

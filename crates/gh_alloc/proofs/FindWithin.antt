@@ -14,11 +14,11 @@ module _ (k : Known) (z : Arena) (a : ℕ) (sure : Bool) (v : View) (f : Finding
   cached : (c : SpanClass) (x : CachedSpan) → IsCachedFor f c x → IsCached a v c x
   cached c x for = subst (λ (y : Option CachedSpan). Caches a v (Small c) y) for.cached (subst (λ (w : Sought). Caches a v w f.cached) for.wanted caches)
 
-  within-at : (q : FindStage) → FactsAt z a sure v f q → InRange z.layout (cell_of (asks (at_stage f q)))
+  within-at : (q : FindStage) → FactsAt z a sure v f q → InRange z.layout (cell_of (asks z.layout (at_stage f q)))
   within-at (Slots s) x =
       let y = cached x.c x.k x.for in
-      let there = k.search.within z a v x.c.noscan (slots.opening f.layout (span_at x.c.class x.k)) (record { layout = seeks.layout; span = y.span; stage = refl; cursor = x.left; taken = y.taken }) in
-      subst (λ (m : slots.Searching). InRange z.layout (cell_of (slots.asks m))) (sym x.is) there
+      let there = k.search.within z a v x.c.noscan (slots.opening (span_at x.c.class x.k)) (record { span = y.span; stage = refl; cursor = x.left; taken = y.taken }) in
+      subst (λ (m : slots.Searching). InRange z.layout (cell_of (slots.asks z.layout m))) (sym x.is) there
   within-at Lock x = tt
   within-at (Give g) x =
       let y = cached x.c x.k x.for in

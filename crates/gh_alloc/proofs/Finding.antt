@@ -1,3 +1,4 @@
 pub mod Locking
 pub mod Refusing
 pub mod Within
+pub mod Sound

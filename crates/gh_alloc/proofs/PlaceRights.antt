@@ -1,5 +1,5 @@
 -- The making's own steps are moves that its rights allow, and what it knows lasts. Of the heap and of its routines it is known what their laws say.
-use Rattle.std.proofs.Common.{◌≡◌, ℕ, ◌+◌, ◌*◌, ◌/◌, ◌%◌, ◌^◌, ◌<◌, Bool, true, false, cond, eqb, ltb, nat_le, inl, inr, Option, Some, None, refl, sym, ap, subst, ◌∙◌, arith, eq-eqb, ltb-true, ltb-false}
+use Rattle.std.proofs.Common.{◌≡◌, ℕ, ◌+◌, ◌*◌, ◌/◌, ◌%◌, ◌^◌, ◌<◌, Bool, true, false, cond, eqb, ltb, nat_le, inl, inr, Option, Some, None, is_none, refl, sym, ap, subst, ◌∙◌, arith, eq-eqb, ltb-true, ltb-false}
 use Rattle.gh_base.specs.declared.cell.Cell.TheVariants as cell
 use Rattle.gh_base.specs.declared.limits.TheConstants.{MOST_STATEMENTS}
 use Rattle.gh_base.specs.declared.pack.PageWord.TheVariants as page
@@ -27,7 +27,7 @@ opens : Opens
 opens z a v f p unmade stage = subst (λ (q : PlaceStage). FactsAt z a v f (base p) q) (sym stage) (at-base unmade, unmade.places.some, λ j lt. absurd (omega arith)) where
   at-base : Unmade z a v f p → Unmade z a v f (base p)
   at-base u = record {
-    places = record { layout = u.places.layout; shape = u.places.shape; slot = u.places.slot; fits = u.places.fits; some = u.places.some; register = u.places.register; type = u.places.type };
+    places = record { shape = u.places.shape; slot = u.places.slot; fits = u.places.fits; some = u.places.some; register = u.places.register; type = u.places.type };
     runs = u.runs;
     few = u.few;
     name = u.name;
@@ -133,10 +133,10 @@ module _ (k : Known) (z : Arena) (a : ℕ) (s : Shared) (f : For) (held : ℕ �
 
   -- what the step at this stage comes to
   abbrev Goes : PlaceStage → Shared → Type 0
-  Goes q t = Changes z f (at_stage p q) (makes_its_object_at q) now (view t) × Comes z a (view t) f held (given (goes (at_stage p q) (s.words (cell_of (asks (at_stage p q)))))) (goes (at_stage p q) (s.words (cell_of (asks (at_stage p q))))) × CountsAlone q s t
+  Goes q t = Changes z f (at_stage p q) (makes_its_object_at q) now (view t) × Comes z a (view t) f held (given (goes (at_stage p q) (s.words (cell_of (asks z.layout (at_stage p q)))))) (goes (at_stage p q) (s.words (cell_of (asks z.layout (at_stage p q))))) × CountsAlone q s t
 
   abbrev Step : PlaceStage → Type 0
-  Step q = Steps z a s (asks (at_stage p q)) (Goes q)
+  Step q = Steps z a s (asks z.layout (at_stage p q)) (Goes q)
 
   clear : (i : ℕ) → Right a now false held None → Knows (Clear i) → Step (Clear i)
   clear i right x = record {
@@ -166,7 +166,7 @@ module _ (k : Known) (z : Arena) (a : ℕ) (s : Shared) (f : For) (held : ℕ �
     move = SetBirth p.at p.slot p.name;
     may = x.0.claim;
     words_are = refl;
-    after = ((refl, refl), (right-then, (unmade, born, refl, k.bits.opens z a (view t) (setting_at_stage p (bits_stage.Clear (p.at / 64))) x.0.places.layout x.0.places.fits unmade.claim x.0.places.some refl)), tt);
+    after = ((refl, refl), (right-then, (unmade, born, refl, k.bits.opens z a (view t) (setting_at_stage p (bits_stage.Clear (p.at / 64))) x.0.places.fits unmade.claim x.0.places.some refl)), tt);
   } where
     t : Shared
     t = moved z a s (SetBirth p.at p.slot p.name)
@@ -186,7 +186,7 @@ module _ (k : Known) (z : Arena) (a : ℕ) (s : Shared) (f : For) (held : ℕ �
 
   -- what its routine comes to
   bits-then : (t : Shared) → Unmade z a now f (base p) → Born now (base p) → view t ≡ record now { bitmap = (view t).bitmap } → Right a (view t) false held None → (q : SetStage) → bits.Comes z a (view t) (setter.given_at q) (setting_at_stage p q) →
-      Comes z a (view t) f held (given_at (cond (setter.is_busy q) (Bits (setting_at_stage p q)) (filled p.marking))) (at_stage p (cond (setter.is_busy q) (Bits (setting_at_stage p q)) (filled p.marking)))
+      Comes z a (view t) f held (given_at (cond (is_none (setter.given_at q)) (Bits (setting_at_stage p q)) (filled p.marking))) (at_stage p (cond (is_none (setter.given_at q)) (Bits (setting_at_stage p q)) (filled p.marking)))
   bits-then t u born e right q x = go q x where
     unmade : Unmade z a (view t) f (base p)
     unmade = subst (λ (w : View). Unmade z a w f (base p)) (sym e) (unmade-rows z a now f (base p) now.field now.birth (view t).bitmap u)
@@ -194,7 +194,7 @@ module _ (k : Known) (z : Arena) (a : ℕ) (s : Shared) (f : For) (held : ℕ �
     named : Born (view t) (base p)
     named = subst (λ (w : View). Born w (base p)) (sym e) (record { fields = born.fields; birth = born.birth })
 
-    go : (q : SetStage) → bits.Comes z a (view t) (setter.given_at q) (setting_at_stage p q) → Comes z a (view t) f held (given_at (cond (setter.is_busy q) (Bits (setting_at_stage p q)) (filled p.marking))) (at_stage p (cond (setter.is_busy q) (Bits (setting_at_stage p q)) (filled p.marking)))
+    go : (q : SetStage) → bits.Comes z a (view t) (setter.given_at q) (setting_at_stage p q) → Comes z a (view t) f held (given_at (cond (is_none (setter.given_at q)) (Bits (setting_at_stage p q)) (filled p.marking))) (at_stage p (cond (is_none (setter.given_at q)) (Bits (setting_at_stage p q)) (filled p.marking)))
     go bits_stage.Ended x = filled-then t right (unmade, named, x.1) p.marking
     go _ x = (right, (unmade, named, refl, x))
 
@@ -206,7 +206,7 @@ module _ (k : Known) (z : Arena) (a : ℕ) (s : Shared) (f : For) (held : ℕ �
   -- the mark is no word that a right guards
   mark : Right a now false held None → Knows Mark → Step Mark
   mark right x = record {
-    move = Quiet (asks_at p Mark);
+    move = Quiet (asks_at z.layout p Mark);
     may = tt;
     words_are = refl;
     after = ((refl, refl), (record { locked = right.locked; holds = right.holds; laying = right.laying; freeing = right.freeing }, (unmade-rows z a now f (base p) now.field now.birth now.bitmap x.0, record { fields = x.1.fields; birth = x.1.birth }, x.2)), tt);
@@ -306,9 +306,9 @@ module _ (k : Known) (z : Arena) (a : ℕ) (s : Shared) (f : For) (held : ℕ �
       (k.give.gives_large z a s false held None g good right x.1.back x.1.large x.1.full)
 
   count : Right a now false (held_by Count p.span (p.at / 1024) held) None → Knows Count → Step Count
-  count right x = record { move = Quiet (asks_at p Count); may = tt; words_are = refl; after = ((refl, refl), then p.marking, refl) } where
+  count right x = record { move = Quiet (asks_at z.layout p Count); may = tt; words_are = refl; after = ((refl, refl), then p.marking, refl) } where
     t : Shared
-    t = moved z a s (Quiet (asks_at p Count))
+    t = moved z a s (Quiet (asks_at z.layout p Count))
 
     bytes : ℕ
     bytes = (s.words cell.Heap + 8 * p.slot) % 2 ^ 64
@@ -326,9 +326,9 @@ module _ (k : Known) (z : Arena) (a : ℕ) (s : Shared) (f : For) (held : ℕ �
     then false = (looks p.span right, record { made = x.made; at = x.at })
 
   load : (bytes : ℕ) → Right a now false (held_by (LoadTrigger bytes) p.span (p.at / 1024) held) None → Knows (LoadTrigger bytes) → Step (LoadTrigger bytes)
-  load bytes right x = record { move = Quiet (asks_at p (LoadTrigger bytes)); may = tt; words_are = refl; after = ((refl, refl), (go p.span right, record { made = x.made; at = x.at }), tt) } where
+  load bytes right x = record { move = Quiet (asks_at z.layout p (LoadTrigger bytes)); may = tt; words_are = refl; after = ((refl, refl), (go p.span right, record { made = x.made; at = x.at }), tt) } where
     t : Shared
-    t = moved z a s (Quiet (asks_at p (LoadTrigger bytes)))
+    t = moved z a s (Quiet (asks_at z.layout p (LoadTrigger bytes)))
 
     asks-so : Bool
     asks-so = nat_le (s.words cell.Trigger) bytes
@@ -358,7 +358,7 @@ module _ (k : Known) (z : Arena) (a : ℕ) (v : View) (f : For) (p : Placing) (g
   inside : (i : ℕ) → Unmade z a v f (base p) → i < p.slot → p.at + i < 1024 * z.layout.pages
   inside i u lt = let claim = u.claim in let slot = (k.apart z v good).inside claim.p claim.i p.at p.slot i claim.h claim.slot lt in omega (arith, slot.1, claim.slot.span.within)
 
-  within-at : (q : PlaceStage) → FactsAt z a v f (base p) q → InRange z.layout (cell_of (asks (at_stage p q)))
+  within-at : (q : PlaceStage) → FactsAt z a v f (base p) q → InRange z.layout (cell_of (asks z.layout (at_stage p q)))
   within-at (Clear i) x = inside i x.0 x.1
   within-at (Bits m) x = k.bits.within z a v m x.3
   within-at (Give g) x = k.give.within z a v g good x.1.back

@@ -4,3 +4,4 @@ pub mod Parts
 pub mod Refusing
 pub mod Rounds
 pub mod Sweeping
+pub mod Sound

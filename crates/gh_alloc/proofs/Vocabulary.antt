@@ -24,7 +24,7 @@ pub use Rattle.gh_central.specs.declared.pass.PassStage.{PassStage}
 pub use Rattle.gh_central.specs.declared.reclaim.ReclaimStage.{ReclaimStage}
 pub use Rattle.gh_central.specs.declared.unswept.UnsweptStage.{UnsweptStage}
 pub use Rattle.gh_sweep.specs.declared.sweep.SweepStage.{SweepStage}
-pub use Rattle.gh_alloc.specs.Find.{after_carve, after_give, after_pass, after_slots, after_unswept, asks, at_stage, begin, behind_for, carving, Finding, finds_none_at, first_page, given, given_at, given_head, gives, goes, locked_for, refuses_at, searched, span_at, span_for, spans_for, sweep_at, sweep_generation_at, sweep_layout_at, taken_for, unlocked}
+pub use Rattle.gh_alloc.specs.Find.{after_carve, after_give, after_pass, after_slots, after_unswept, asks, at_stage, begin, behind_for, carving, Finding, finds_none_at, first_page, given, given_at, given_head, gives, goes, locked_for, refuses_at, searched, span_at, span_for, spans_for, sweep_at, sweep_generation_at, taken_for, unlocked}
 pub use Rattle.gh_alloc.specs.Locking.{holds}
 pub use Rattle.gh_alloc.specs.Place.{filled, is_busy, listing, made, makes_its_object_at, opening, Placing}
 pub use Rattle.gh_alloc.specs.Quiet.{AllocationIsQuiet}

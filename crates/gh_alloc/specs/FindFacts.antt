@@ -17,7 +17,7 @@ use Rattle.gh_pages.specs.declared.carve.CarveStage.{CarveStage}
 use Rattle.gh_pages.specs.Facts as carving
 use Rattle.gh_pages.specs.Listing as carve
 use Rattle.gh_alloc.specs.Vocabulary.{SpanClass, Sought, Small, Large, CachedSpan, Found, At, NoRoom, Again, End, FindStage, Slots, Lock, Give, Pass, Unswept, Carve, Unlock, Ended}
-use Rattle.gh_alloc.specs.Find.{Finding, asks, at_stage, given_head, gives, goes, opening, refuses, span_at, span_for, spans_for, sweep_generation, sweep_in, sweep_layout}
+use Rattle.gh_alloc.specs.Find.{Finding, asks, at_stage, given_head, gives, goes, opening, refuses, span_at, span_for, spans_for, sweep_generation, sweep_in}
 use Rattle.gh_alloc.specs.FindSound.{IsSought}
 use Rattle.gh_alloc.specs.Vocabulary.{Arena, cell_of, Claims, Good, InRange, KeepsObjects, Laying, Leaves, Others, Right, Shared, slot_words_of, slots_of, SpanHead, Steps, update, View, view}
 
@@ -90,7 +90,6 @@ held f rest = with_span (own f.stage) (with_span (cached_head f.cached) rest)
 
 -- the search is this seat's, in this arena
 pub record Seeks (z : Arena) (a : ℕ) (v : View) (f : Finding) : Type 0 where
-  pub layout : f.layout ≡ z.layout
   pub seat : f.seat ≡ a
   pub few : a + 1 < 2 ^ 8
   pub number : f.generation ≡ v.generation
@@ -126,18 +125,18 @@ pub record InSlots (f : Finding) (s : slots.Searching) : Type 0 where
   pub c : SpanClass
   pub k : CachedSpan
   pub for : IsCachedFor f c k
-  pub is : s ≡ slots.opening f.layout (span_at c.class k)
+  pub is : s ≡ slots.opening (span_at c.class k)
   pub left : k.cursor < slots_of c.class
 
 pub record InGive (f : Finding) (g : give.SpanGiving) : Type 0 where
   pub c : SpanClass
   pub k : CachedSpan
   pub for : IsCachedFor f c k
-  pub is : g ≡ give.opening f.layout k.head (given_head f.generation c)
+  pub is : g ≡ give.opening k.head (given_head f.generation c)
   pub used : slots_of c.class ≤ k.cursor
 
 abbrev pub pass_at : Finding → SpanClass → PassStage → pass.Pass
-pass_at f c q = record { layout = f.layout; seat = f.seat; generation = f.generation; wanted = c; stage = q }
+pass_at f c q = record { seat = f.seat; generation = f.generation; wanted = c; stage = q }
 
 pub record InPass (z : Arena) (a : ℕ) (sure : Bool) (v : View) (f : Finding) (p : pass.Pass) : Type 0 where
   pub c : SpanClass
@@ -147,7 +146,7 @@ pub record InPass (z : Arena) (a : ℕ) (sure : Bool) (v : View) (f : Finding) (
   pub facts : passing.Facts z a sure v p
 
 abbrev pub unswept_at : Finding → SpanClass → UnsweptStage → unswept.Unswept
-unswept_at f c q = record { layout = f.layout; seat = f.seat; generation = f.generation; wanted = c; stage = q }
+unswept_at f c q = record { seat = f.seat; generation = f.generation; wanted = c; stage = q }
 
 pub record InUnswept (z : Arena) (a : ℕ) (v : View) (f : Finding) (u : unswept.Unswept) : Type 0 where
   pub c : SpanClass
@@ -158,7 +157,7 @@ pub record InUnswept (z : Arena) (a : ℕ) (v : View) (f : Finding) (u : unswept
   pub facts : sweeping.Facts z a v u
 
 abbrev pub carve_at : Finding → CarveStage → carve.Carving
-carve_at f q = record { layout = f.layout; seat = f.seat; generation = f.generation; span = span_for f.wanted; stage = q }
+carve_at f q = record { seat = f.seat; generation = f.generation; span = span_for f.wanted; stage = q }
 
 pub record InCarve (z : Arena) (a : ℕ) (sure : Bool) (v : View) (f : Finding) (m : carve.Carving) : Type 0 where
   pub cached : f.cached ≡ None
@@ -225,7 +224,7 @@ Comes z a sure w rest (Some NoRoom) f = ⊥
 -- begun with what is cached
 abbrev pub Opens : Type 0
 Opens = (z : Arena) (a : ℕ) (v : View) (rest : ℕ → Bool) (f : Finding) → Seeks z a v f → Caches a v f.wanted f.cached → ((k : CachedSpan) → f.cached ≡ Some k → rest k.head ≡ false) → Right a v false (with_span (cached_head f.cached) rest) None →
-    f ≡ opening f.layout f.seat f.generation f.wanted f.cached → Right a v (is_locked f.stage) (held f rest) (laying f.stage) × Facts z a false v rest f
+    f ≡ opening f.seat f.generation f.wanted f.cached → Right a v (is_locked f.stage) (held f rest) (laying f.stage) × Facts z a false v rest f
 
 -- with the lock and nothing cached, a span is looked for once more
 abbrev pub LooksAgain : Type 0
@@ -240,20 +239,20 @@ still sure _ = sure
 -- a step of its own, short of the one that finds no room, where it runs no sweep; and while it looks for a span, what that leaves to who runs it
 abbrev pub OwnStep : Type 0
 OwnStep = (z : Arena) (a : ℕ) (sure : Bool) (s : Shared) (rest : ℕ → Bool) (f : Finding) → Good z (view s) → passing.IsSure z sure (view s) → Right a (view s) (is_locked f.stage) (held f rest) (laying f.stage) → Facts z a sure (view s) rest f → refuses f ≡ false → sweep_in f ≡ None →
-    Steps z a s (asks f) (λ t. KeepsObjects (view s) (view t) × (looks f.stage ≡ true → Leaves (view s) (view t)) × Comes z a (still sure f.stage) (view t) rest (gives f (s.words (cell_of (asks f)))) (goes f (s.words (cell_of (asks f)))))
+    Steps z a s (asks z.layout f) (λ t. KeepsObjects (view s) (view t) × (looks f.stage ≡ true → Leaves (view s) (view t)) × Comes z a (still sure f.stage) (view t) rest (gives z.layout f (s.words (cell_of (asks z.layout f)))) (goes z.layout f (s.words (cell_of (asks z.layout f)))))
 
 -- a step of the sweep that it runs
 abbrev pub SweepStep : Type 0
-SweepStep = (z : Arena) (a : ℕ) (sure : Bool) (s t : Shared) (rest : ℕ → Bool) (f : Finding) (sw : Sweeping) → Good z (view s) → Good z (view t) → Right a (view s) (is_locked f.stage) (held f rest) (laying f.stage) → Facts z a sure (view s) rest f → sweep_in f ≡ Some sw → SweepLeaves (view s) (view t) → t.words ≡ effect s.words (asks f) →
-    KeepsObjects (view s) (view t) × Comes z a sure (view t) rest (gives f (s.words (cell_of (asks f)))) (goes f (s.words (cell_of (asks f))))
+SweepStep = (z : Arena) (a : ℕ) (sure : Bool) (s t : Shared) (rest : ℕ → Bool) (f : Finding) (sw : Sweeping) → Good z (view s) → Good z (view t) → Right a (view s) (is_locked f.stage) (held f rest) (laying f.stage) → Facts z a sure (view s) rest f → sweep_in f ≡ Some sw → SweepLeaves (view s) (view t) → t.words ≡ effect s.words (asks z.layout f) →
+    KeepsObjects (view s) (view t) × Comes z a sure (view t) rest (gives z.layout f (s.words (cell_of (asks z.layout f)))) (goes z.layout f (s.words (cell_of (asks z.layout f))))
 
--- the routine that it runs sweeps by the layout of this heap, and for its sweep generation
+-- the routine that it runs sweeps for the sweep generation of this heap
 abbrev pub SweepsHere : Type 0
-SweepsHere = (z : Arena) (a : ℕ) (sure : Bool) (v : View) (rest : ℕ → Bool) (f : Finding) → Facts z a sure v rest f → (sweep_layout f ≡ z.layout) × (sweep_generation f ≡ v.generation)
+SweepsHere = (z : Arena) (a : ℕ) (sure : Bool) (v : View) (rest : ℕ → Bool) (f : Finding) → Facts z a sure v rest f → sweep_generation f ≡ v.generation
 
 -- each is on a word that there is
 abbrev pub Within : Type 0
-Within = (z : Arena) (a : ℕ) (sure : Bool) (v : View) (rest : ℕ → Bool) (f : Finding) → Good z v → Facts z a sure v rest f → InRange z.layout (cell_of (asks f))
+Within = (z : Arena) (a : ℕ) (sure : Bool) (v : View) (rest : ℕ → Bool) (f : Finding) → Good z v → Facts z a sure v rest f → InRange z.layout (cell_of (asks z.layout f))
 
 -- where it finds none there is no room, and it asks for the lock's word to be freed
 pub record Refuses (z : Arena) (sure : Bool) (v : View) (f : Finding) : Type 0 where

@@ -1,4 +1,3 @@
-pub mod Blind
 pub mod Find
 pub mod FindFacts
 pub mod FindSound

@@ -6,16 +6,17 @@ use Rattle.gh_base.specs.declared.layout.Layout.{Layout}
 use Rattle.gh_base.specs.declared.pack.SpanHead.{SpanHead}
 use Rattle.gh_base.specs.declared.shape.Shape.{Shape}
 use Rattle.gh_base.specs.declared.value.Name.{Name}
+use Rattle.gh_base.specs.Machines.{steps_of}
 use Rattle.gh_base.specs.Routines.{told}
 use Rattle.gh_base.specs.Steps.{cell_of}
 use Rattle.gh_alloc.specs.declared.place.PlaceStage.TheVariants as stage
 use Rattle.gh_alloc.specs.Place.{Placing, asks, goes, listing, opening}
 
 -- before this step one has set the same bits of the mark word
-pub record IsMarkedBefore (p : Placing) (found : ℕ → ℕ) (step i bits : ℕ) : Type 0 where
+pub record IsMarkedBefore (l : Layout) (p : Placing) (found : ℕ → ℕ) (step i bits : ℕ) : Type 0 where
   pub earlier : ℕ
   pub before : earlier < step
-  pub marks : asks (told listing p found earlier) ≡ Or (Mark i) bits
+  pub marks : asks l (told (steps_of l (listing l)) p found earlier) ≡ Or (Mark i) bits
 
 -- the object is made while marking is off
 pub record IsMadeUnmarked (p : Placing) : Type 0 where
@@ -26,9 +27,9 @@ pub record IsMadeUnmarked (p : Placing) : Type 0 where
 pub record AnObjectIsMarkedBeforeItIsMade : Type 0 where
   -- a step that sets bits of an alloc word, while marking is on
   pub marked : (l : Layout) (shape : Shape) (at slot : ℕ) (name : Name) (span : Option SpanHead) (found : ℕ → ℕ) (step i bits : ℕ) →
-      let p = opening l shape at slot name span true in
-      asks (told listing p found step) ≡ Or (Alloc i) bits → IsMarkedBefore p found step i bits
+      let p = opening shape at slot name span true in
+      asks l (told (steps_of l (listing l)) p found step) ≡ Or (Alloc i) bits → IsMarkedBefore l p found step i bits
   -- while it is off, at its first step and behind each, no step is on a mark word
-  pub opens_off : (l : Layout) (shape : Shape) (at slot : ℕ) (name : Name) (span : Option SpanHead) → IsMadeUnmarked (opening l shape at slot name span false)
+  pub opens_off : (shape : Shape) (at slot : ℕ) (name : Name) (span : Option SpanHead) → IsMadeUnmarked (opening shape at slot name span false)
   pub stays_off : (p : Placing) (found : ℕ) → IsMadeUnmarked p → IsMadeUnmarked (goes p found)
-  pub unmarked : (p : Placing) (i : ℕ) → IsMadeUnmarked p → cell_of (asks p) ≢ Mark i
+  pub unmarked : (l : Layout) (p : Placing) (i : ℕ) → IsMadeUnmarked p → cell_of (asks l p) ≢ Mark i

@@ -1,4 +1,4 @@
--- Making an object in its slot: what is asked for at each stage, where that leads, and what it has given.
+-- Making an object in its slot: what is asked for at each stage, where that leads, what it has given, and what it writes.
 use Rattle.std.specs.Prelude.{ℕ, ◌+◌, ◌*◌, ◌/◌, ◌%◌, ◌^◌, Bool, true, false, nat_le, nat_lt, if◌then◌else◌, Option, Some, None, is_none}
 use Rattle.gh_base.specs.declared.cell.Cell.TheVariants as cell
 use Rattle.gh_base.specs.declared.cell.Ask.{Ask}
@@ -7,40 +7,32 @@ use Rattle.gh_base.specs.declared.layout.Layout.{Layout}
 use Rattle.gh_base.specs.declared.pack.SpanHead.{SpanHead}
 use Rattle.gh_base.specs.declared.shape.Shape.{Shape}
 use Rattle.gh_base.specs.declared.value.Name.{Name}
-use Rattle.gh_base.specs.Given.{listing_of}
+use Rattle.gh_base.specs.Footprints.{Footprint}
+use Rattle.gh_base.specs.Footprints as row
+use Rattle.gh_base.specs.Machines.{Listing}
 use Rattle.gh_base.specs.Packing.{birth_word}
-use Rattle.gh_base.specs.Routines.{Listing}
 use Rattle.gh_bitmap.specs.SetPointers as bits
 use Rattle.gh_central.specs.GiveBack as give
 use Rattle.gh_alloc.specs.declared.place.PlaceStage.{PlaceStage}
 use Rattle.gh_alloc.specs.declared.place.PlaceStage.TheVariants.{Clear, Birth, Bits, Mark, Alloc, Give, Count, LoadTrigger, Ended}
-
--- the making of an object: of which shape and name, in the slot at which heap word and of how many words, a large one's span, whether marking is on, and its stage
-pub record Placing : Type 0 where
-  pub layout : Layout
-  pub shape : Shape
-  pub at : ℕ
-  pub slot : ℕ
-  pub name : Name
-  pub span : Option SpanHead
-  pub marking : Bool
-  pub stage : PlaceStage
+use Rattle.gh_alloc.specs.PlaceSound.{Sound}
+pub use Rattle.gh_alloc.specs.PlaceSound.{Placing}
 
 abbrev pub at_stage : Placing → PlaceStage → Placing
 at_stage p stage = record p { stage = stage }
 
-abbrev pub opening : Layout → Shape → (at slot : ℕ) → Name → Option SpanHead → (marking : Bool) → Placing
-opening l shape at slot name span marking = record { layout = l; shape = shape; at = at; slot = slot; name = name; span = span; marking = marking; stage = Clear 0 }
+abbrev pub opening : Shape → (at slot : ℕ) → Name → Option SpanHead → (marking : Bool) → Placing
+opening shape at slot name span marking = record { shape = shape; at = at; slot = slot; name = name; span = span; marking = marking; stage = Clear 0 }
 
 -- the object is marked before it is made, where marking is on
 abbrev pub filled : (marking : Bool) → PlaceStage
 filled marking = if marking then Mark else Alloc
 
-module _ (p : Placing) where
+module _ (l : Layout) (p : Placing) where
   abbrev pub asks_at : PlaceStage → Ask
   asks_at (Clear k) = Store (cell.Field (p.at + k)) 0
   asks_at Birth = Store (cell.Birth p.at) (birth_word p.name)
-  asks_at (Bits s) = bits.asks s
+  asks_at (Bits s) = bits.asks l s
   asks_at Mark = Or (cell.Mark (p.at / 64)) (2 ^ (p.at % 64))
   asks_at Alloc = Or (cell.Alloc (p.at / 64)) (2 ^ (p.at % 64))
   asks_at (Give g) = give.asks g
@@ -48,10 +40,11 @@ module _ (p : Placing) where
   asks_at (LoadTrigger bytes) = Load cell.Trigger
   asks_at (Ended wants) = Load cell.Touch
 
+module _ (p : Placing) where
   -- once the object is made, a large one's span is given back
   abbrev pub made : Option SpanHead → PlaceStage
   made None = Count
-  made (Some head) = Give (give.opening p.layout (p.at / 1024) head)
+  made (Some head) = Give (give.opening (p.at / 1024) head)
 
   -- once the slot's bytes are counted, and the heap had this many before: while marking is off the trigger is looked at
   abbrev pub counted : (found : ℕ) → PlaceStage
@@ -59,8 +52,8 @@ module _ (p : Placing) where
 
   abbrev pub goes_at : PlaceStage → ℕ → PlaceStage
   goes_at (Clear k) found = if nat_lt (k + 1) p.slot then Clear (k + 1) else Birth
-  goes_at Birth found = Bits (bits.opening p.layout p.shape p.at p.slot)
-  goes_at (Bits s) found = if bits.is_busy (bits.goes s found).stage then Bits (bits.goes s found) else filled p.marking
+  goes_at Birth found = Bits (bits.opening p.shape p.at p.slot)
+  goes_at (Bits s) found = if is_none (bits.given (bits.goes s found)) then Bits (bits.goes s found) else filled p.marking
   goes_at Mark found = Alloc
   goes_at Alloc found = made p.span
   goes_at (Give g) found = Count
@@ -82,8 +75,8 @@ makes_its_object_at Alloc = true
 makes_its_object_at _ = false
 
 -- the step that it asks for, what it is after the step found this, what it has given, and what it has given after that step
-abbrev pub asks : Placing → Ask
-asks p = asks_at p p.stage
+abbrev pub asks : Layout → Placing → Ask
+asks l p = asks_at l p p.stage
 
 abbrev pub goes : Placing → ℕ → Placing
 goes p found = at_stage p (goes_at p p.stage found)
@@ -94,8 +87,18 @@ given p = given_at p.stage
 abbrev pub gives : Placing → ℕ → Option Bool
 gives p found = given (goes p found)
 
-abbrev pub listing : Listing Placing Bool
-listing = listing_of (λ p. p.layout) asks goes given
+abbrev pub writes : Footprint
+writes row.Field = true
+writes row.Birth = true
+writes row.Bitmap = true
+writes row.Mark = true
+writes row.Alloc = true
+writes row.Page = true
+writes row.Heap = true
+writes _ = false
+
+abbrev pub listing : Layout → Listing Placing Bool
+listing l = record { asks = asks l; goes = goes; given = given; sound = Sound l; writes = writes }
 
 -- its next step makes the object
 abbrev pub makes_its_object : Placing → Bool

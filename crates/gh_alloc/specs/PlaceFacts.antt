@@ -37,7 +37,6 @@ IsItsSpan (Some head) p h at = (p ≡ at / 1024) × (owned_by 0 h ≡ owned_by 0
 
 -- what is to be made, and for whom: it does not change
 pub record Places (z : Arena) (f : For) (p : Placing) : Type 0 where
-  pub layout : p.layout ≡ z.layout
   pub shape : p.shape ≡ shape_at z.shapes f.t
   pub slot : p.slot ≡ field_count (shape_at z.shapes f.t)
   pub fits : FitsSlot p.shape p.slot
@@ -72,7 +71,7 @@ pub record Made (v : View) (p : Placing) : Type 0 where
 
 -- the routine that sets the bits of the slot, at this stage
 abbrev pub setting_at_stage : Placing → SetStage → PointerSetting
-setting_at_stage p q = bits_at (begin_bits p.layout p.shape p.at p.slot) q
+setting_at_stage p q = bits_at (begin_bits p.shape p.at p.slot) q
 
 -- the slot is as the object's is to be: its fields, its birth word and its pointer bits
 abbrev pub Filled : Arena → (a : ℕ) → View → For → Placing → Type 0
@@ -132,11 +131,11 @@ Opens = (z : Arena) (a : ℕ) (v : View) (f : For) (p : Placing) → Unmade z a 
 -- a step of its own; it needs no lock
 abbrev pub OwnStep : Type 0
 OwnStep = (z : Arena) (a : ℕ) (s : Shared) (f : For) (held : ℕ → Bool) (p : Placing) → Good z (view s) → Right a (view s) false (held_in p held) None → Facts z a (view s) f p →
-    Steps z a s (asks p) (λ t. Changes z f p (makes_its_object p) (view s) (view t) × Comes z a (view t) f held (gives p (s.words (cell_of (asks p)))) (goes p (s.words (cell_of (asks p)))) × CountsAlone p.stage s t)
+    Steps z a s (asks z.layout p) (λ t. Changes z f p (makes_its_object p) (view s) (view t) × Comes z a (view t) f held (gives p (s.words (cell_of (asks z.layout p)))) (goes p (s.words (cell_of (asks z.layout p)))) × CountsAlone p.stage s t)
 
 -- it is on a word that there is
 abbrev pub Within : Type 0
-Within = (z : Arena) (a : ℕ) (v : View) (f : For) (p : Placing) → Good z v → Facts z a v f p → InRange z.layout (cell_of (asks p))
+Within = (z : Arena) (a : ℕ) (v : View) (f : For) (p : Placing) → Good z v → Facts z a v f p → InRange z.layout (cell_of (asks z.layout p))
 
 -- the steps of others
 abbrev pub Lasts : Type 0

@@ -3,9 +3,10 @@ use Rattle.gh_phase.specs.Handshake.{IsQuietInHandshake}
 use Rattle.gh_alloc.specs.Find as find
 use Rattle.gh_alloc.specs.Place as place
 use Rattle.gh_alloc.specs.Search as search
+use Rattle.gh_base.specs.declared.layout.Layout.{Layout}
 
 -- whatever their numbers, and at each stage
 pub record AllocationIsQuiet : Type 0 where
-  pub finds : (f : find.Finding) → IsQuietInHandshake (find.asks f)
-  pub searches : (s : search.Seeking) → IsQuietInHandshake (search.asks s)
-  pub places : (p : place.Placing) → IsQuietInHandshake (place.asks p)
+  pub finds : (l : Layout) (f : find.Finding) → IsQuietInHandshake (find.asks l f)
+  pub searches : (l : Layout) (s : search.Seeking) → IsQuietInHandshake (search.asks l s)
+  pub places : (l : Layout) (p : place.Placing) → IsQuietInHandshake (place.asks l p)

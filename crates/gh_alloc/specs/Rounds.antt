@@ -3,6 +3,7 @@ use Rattle.std.specs.Prelude.{◌≡◌, ℕ, ◌+◌, ◌<◌, ◌≤◌, ◌�
 use Rattle.gh_base.specs.declared.cell.Cell.TheVariants as cell
 use Rattle.gh_base.specs.declared.cell.Ask.{Ask}
 use Rattle.gh_base.specs.declared.cell.Ask.TheVariants.{Store, Swap}
+use Rattle.gh_base.specs.Machines.{steps_of}
 use Rattle.gh_base.specs.Packing.{head_word}
 use Rattle.gh_base.specs.Routines.{EndsWith, GoesOn, Listing, told}
 use Rattle.gh_central.specs.Reclaim as reclaim
@@ -28,19 +29,19 @@ module _ (asks : ℕ → Ask) (found : ℕ → ℕ) where
   module _ (l : Layout) (seat generation : ℕ) where
     -- of a size class a pass over the spans comes first, and ends with none
     abbrev pub Passed : Sought → (first from : ℕ) → Type 0
-    Passed (Small c) first from = (last : ℕ) × Runs pass.listing (pass.opening l seat generation c) first last None × (last + 1 ≡ from)
+    Passed (Small c) first from = (last : ℕ) × Runs (steps_of l (pass.listing l)) (pass.opening seat generation c) first last None × (last + 1 ≡ from)
     Passed (Large pages noscan) first from = first ≡ from
 
     -- and behind it, in the first round, one over the spans that are not swept
     abbrev pub Swept : Sought → (first from : ℕ) → Type 0
-    Swept (Small c) first from = (last : ℕ) × Runs unswept.listing (unswept.opening l seat generation c) first last None × (last + 1 ≡ from)
+    Swept (Small c) first from = (last : ℕ) × Runs (steps_of l (unswept.listing l)) (unswept.opening seat generation c) first last None × (last + 1 ≡ from)
     Swept (Large pages noscan) first from = first ≡ from
 
     -- from the first step to the last: no swept span is found, and then no fresh pages
     pub record FindsNone (wanted : Sought) (first last : ℕ) : Type 0 where
       pub from : ℕ
       pub passed : Passed wanted first from
-      pub none : Runs carve.listing (carve.opening l seat generation (span_for wanted)) from last None
+      pub none : Runs (steps_of l (carve.listing l)) (carve.opening seat generation (span_for wanted)) from last None
 
     -- in the first round no unswept one with room either
     pub record FindsNoneFirst (wanted : Sought) (first last : ℕ) : Type 0 where
@@ -48,7 +49,7 @@ module _ (asks : ℕ → Ask) (found : ℕ → ℕ) where
       pub passed : Passed wanted first behind
       pub from : ℕ
       pub swept : Swept wanted behind from
-      pub none : Runs carve.listing (carve.opening l seat generation (span_for wanted)) from last None
+      pub none : Runs (steps_of l (carve.listing l)) (carve.opening seat generation (span_for wanted)) from last None
 
     -- by this step a cached span of the class is given back, as a swept one that nobody owns
     pub record GivesBack (wanted : Sought) (step : ℕ) : Type 0 where
@@ -63,12 +64,12 @@ module _ (asks : ℕ → Ask) (found : ℕ → ℕ) where
 
     -- from the first step to the last: the pages of empty spans are freed
     abbrev pub FreesSpans : (first last : ℕ) → Type 0
-    FreesSpans first last = Runs reclaim.listing (reclaim.opening l generation) first last tt
+    FreesSpans first last = Runs (steps_of l (reclaim.listing l)) (reclaim.opening generation) first last tt
 
 -- of the search, before its step of this number
 module _ (s : Seeking) (found : ℕ → ℕ) (l : Layout) (seat generation : ℕ) (wanted : Sought) (step : ℕ) where
   abbrev asked : ℕ → Ask
-  asked n = asks (told listing s found n)
+  asked n = asks l (told (steps_of l (listing l)) s found n)
 
   pub record HasFoundNoneTwice : Type 0 where
     -- it took the lock
@@ -89,9 +90,9 @@ module _ (s : Seeking) (found : ℕ → ℕ) (l : Layout) (seat generation : ℕ
     pub next : last_again + 1 ≡ step
     pub frees_lock : asked step ≡ Store cell.Lock 0
     -- all the while it had the lock
-    pub held : (n : ℕ) → lock < n → n ≤ step → holds listing s found n ≡ true
+    pub held : (n : ℕ) → lock < n → n ≤ step → holds (steps_of l (listing l)) s found n ≡ true
 
 abbrev pub NoRoomIsAfterReclaim : Type 0
 NoRoomIsAfterReclaim = (l : Layout) (seat generation : ℕ) (wanted : Sought) (cached : Option CachedSpan) (found : ℕ → ℕ) (step : ℕ) →
-    let s = opening l seat generation wanted cached in
-    GoesOn listing s found step → EndsWith listing s found step NoRoom → HasFoundNoneTwice s found l seat generation wanted step
+    let s = opening seat generation wanted cached in
+    GoesOn (steps_of l (listing l)) s found step → EndsWith (steps_of l (listing l)) s found step NoRoom → HasFoundNoneTwice s found l seat generation wanted step

@@ -1,24 +1,24 @@
--- Looking for a slot where a collector runs: what is asked for at each stage, where that leads, and what it has given.
+-- Looking for a slot where a collector runs: what is asked for at each stage, where that leads, what it has given, and that it writes what the search does that it runs.
 use Rattle.std.specs.Prelude.{ℕ, Bool, true, false, if◌then◌else◌, Option, Some, None, is_none}
 use Rattle.gh_base.specs.declared.cell.Ask.{Ask}
-use Rattle.gh_base.specs.Given.{listing_of}
-use Rattle.gh_base.specs.Routines.{Listing}
+use Rattle.gh_base.specs.Machines.{Listing}
 use Rattle.gh_central.specs.Reclaim.{Reclaiming}
 use Rattle.gh_central.specs.Reclaim as reclaim
+use Rattle.gh_alloc.specs.declared.search.Search.{Search}
 use Rattle.gh_alloc.specs.declared.search.SearchStage.{SearchStage}
 use Rattle.gh_alloc.specs.declared.search.SearchStage.TheVariants.{First, Free, Second}
+use Rattle.gh_alloc.specs.SearchSound.{Sound}
 use Rattle.gh_alloc.specs.Vocabulary.{Layout, Sought, CachedSpan, Found, FindStage, Unlock}
 use Rattle.gh_alloc.specs.Find.{Finding, spans_for}
 use Rattle.gh_alloc.specs.Find as find
 use Rattle.gh_sweep.specs.Listing.{Sweeping}
 
 -- the search of the cached span and of the heap, and the stage that says which search it is
-pub record Seeking : Type 0 where
-  pub find : Finding
-  pub stage : SearchStage
+abbrev pub Seeking : Type 0
+Seeking = Search
 
-abbrev pub opening : Layout → (seat generation : ℕ) → Sought → Option CachedSpan → Seeking
-opening l seat generation wanted cached = record { find = find.opening l seat generation wanted cached; stage = First }
+abbrev pub opening : (seat generation : ℕ) → Sought → Option CachedSpan → Seeking
+opening seat generation wanted cached = record { find = find.opening seat generation wanted cached; stage = First }
 
 -- the next step frees the lock
 abbrev pub frees_at : FindStage → Bool
@@ -27,7 +27,7 @@ frees_at _ = false
 
 -- the pages of empty spans are freed
 abbrev pub reclaiming : Finding → Reclaiming
-reclaiming f = reclaim.opening f.layout f.generation
+reclaiming f = reclaim.opening f.generation
 
 -- a span is looked for once more, under the same lock: each is swept by then
 abbrev pub again : Finding → Finding
@@ -42,22 +42,23 @@ abbrev pub after_free : Finding → Reclaiming → Option (Unit {0}) → Seeking
 after_free f r None = record { find = f; stage = Free r }
 after_free f r (Some _) = record { find = again f; stage = Second }
 
-module _ (f : Finding) where
+module _ (l : Layout) (f : Finding) where
   abbrev pub asks_at : SearchStage → Ask
-  asks_at (Free r) = reclaim.asks r
-  asks_at _ = find.asks f
+  asks_at (Free r) = reclaim.asks l r
+  asks_at _ = find.asks l f
 
   -- the second search ends where the lock is freed
   abbrev pub goes_at : SearchStage → ℕ → Seeking
-  goes_at First found = record { find = find.goes f found; stage = after_first (find.goes f found) }
-  goes_at (Free r) found = after_free f (reclaim.goes r found) (reclaim.gives r found)
-  goes_at Second found = record { find = find.goes f found; stage = if frees_at f.stage then First else Second }
+  goes_at First found = record { find = find.goes l f found; stage = after_first (find.goes l f found) }
+  goes_at (Free r) found = after_free f (reclaim.goes l r found) (reclaim.given (reclaim.goes l r found))
+  goes_at Second found = record { find = find.goes l f found; stage = if frees_at f.stage then First else Second }
 
   -- by the word found the first search goes on in a span, or to a further page
   abbrev pub goes_further_at : SearchStage → (found : ℕ) → Bool
-  goes_further_at First found = find.goes_further_at f.stage found
+  goes_further_at First found = find.goes_further_at l f.stage found
   goes_further_at _ found = false
 
+module _ (f : Finding) where
   -- what the search has given that it runs
   abbrev pub given_at : SearchStage → Option Found
   given_at (Free r) = None
@@ -72,20 +73,20 @@ module _ (f : Finding) where
   refuses_at _ = find.refuses f
 
 -- the step that it asks for, what it is after the step found this, what it has given, and what it has given after that step
-abbrev pub asks : Seeking → Ask
-asks s = asks_at s.find s.stage
+abbrev pub asks : Layout → Seeking → Ask
+asks l s = asks_at l s.find s.stage
 
-abbrev pub goes : Seeking → ℕ → Seeking
-goes s found = goes_at s.find s.stage found
+abbrev pub goes : Layout → Seeking → ℕ → Seeking
+goes l s found = goes_at l s.find s.stage found
 
 abbrev pub given : Seeking → Option Found
 given s = given_at s.find s.stage
 
-abbrev pub gives : Seeking → ℕ → Option Found
-gives s found = given (goes s found)
+abbrev pub gives : Layout → Seeking → ℕ → Option Found
+gives l s found = given (goes l s found)
 
-abbrev pub listing : Listing Seeking Found
-listing = listing_of (λ s. s.find.layout) asks goes given
+abbrev pub listing : Layout → Listing Seeking Found
+listing l = record { asks = asks l; goes = goes l; given = given; sound = Sound l; writes = find.writes }
 
 abbrev pub refuses : Seeking → Bool
 refuses s = refuses_at s.find s.stage
@@ -98,14 +99,7 @@ sweep_at f _ = find.sweep_in f
 abbrev pub sweep_in : Seeking → Option Sweeping
 sweep_in s = sweep_at s.find s.stage
 
--- the layout and the sweep generation by which the routine sweeps that it runs
-abbrev pub sweep_layout_at : Finding → SearchStage → Layout
-sweep_layout_at f (Free r) = r.layout
-sweep_layout_at f _ = find.sweep_layout f
-
-abbrev pub sweep_layout : Seeking → Layout
-sweep_layout s = sweep_layout_at s.find s.stage
-
+-- the sweep generation by which the routine sweeps that it runs
 abbrev pub sweep_generation_at : Finding → SearchStage → ℕ
 sweep_generation_at f (Free r) = r.generation
 sweep_generation_at f _ = find.sweep_generation f

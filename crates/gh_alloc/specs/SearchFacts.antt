@@ -19,7 +19,7 @@ use Rattle.gh_alloc.specs.Vocabulary.{CachedSpan, Found, At, NoRoom, End, Unlock
 use Rattle.gh_alloc.specs.Find.{Finding, span_for}
 use Rattle.gh_alloc.specs.Find as find
 use Rattle.gh_alloc.specs.FindFacts as finding
-use Rattle.gh_alloc.specs.Search.{Seeking, asks, gives, goes, opening, refuses, sweep_generation, sweep_in, sweep_layout}
+use Rattle.gh_alloc.specs.Search.{Seeking, asks, gives, goes, opening, refuses, sweep_generation, sweep_in}
 
 -- The rights at a stage.
 
@@ -46,7 +46,7 @@ Has a v rest q = Rights a v (is_locked q.find q.stage) (held q.find q.stage rest
 -- The facts.
 
 abbrev pub reclaim_at : Finding → ReclaimStage → Reclaiming
-reclaim_at f q = record { layout = f.layout; generation = f.generation; stage = q }
+reclaim_at f q = record { generation = f.generation; stage = q }
 
 -- the first search has ended with none, and pages of empty spans are freed: nothing is cached
 pub record FreesEmptySpans (z : Arena) (a : ℕ) (v : View) (f : Finding) (r : Reclaiming) : Type 0 where
@@ -97,25 +97,25 @@ Comes z a w rest (Some NoRoom) q = ⊥
 -- begun with what is cached
 abbrev pub Opens : Type 0
 Opens = (z : Arena) (a : ℕ) (v : View) (rest : ℕ → Bool) (q : Seeking) → finding.Seeks z a v q.find → finding.Caches a v q.find.wanted q.find.cached → ((k : CachedSpan) → q.find.cached ≡ Some k → rest k.head ≡ false) → Right a v false (finding.with_span (finding.cached_head q.find.cached) rest) None →
-    q ≡ opening q.find.layout q.find.seat q.find.generation q.find.wanted q.find.cached → Has a v rest q × Facts z a v rest q
+    q ≡ opening q.find.seat q.find.generation q.find.wanted q.find.cached → Has a v rest q × Facts z a v rest q
 
 -- a step of its own, short of the one that finds no room, where it runs no sweep
 abbrev pub OwnStep : Type 0
 OwnStep = (z : Arena) (a : ℕ) (s : Shared) (rest : ℕ → Bool) (q : Seeking) → Good z (view s) → Has a (view s) rest q → Facts z a (view s) rest q → refuses q ≡ false → sweep_in q ≡ None →
-    Steps z a s (asks q) (λ t. KeepsObjects (view s) (view t) × Comes z a (view t) rest (gives q (s.words (cell_of (asks q)))) (goes q (s.words (cell_of (asks q)))))
+    Steps z a s (asks z.layout q) (λ t. KeepsObjects (view s) (view t) × Comes z a (view t) rest (gives z.layout q (s.words (cell_of (asks z.layout q)))) (goes z.layout q (s.words (cell_of (asks z.layout q)))))
 
 -- a step of the sweep that it runs
 abbrev pub SweepStep : Type 0
-SweepStep = (z : Arena) (a : ℕ) (s t : Shared) (rest : ℕ → Bool) (q : Seeking) (sw : Sweeping) → Good z (view s) → Good z (view t) → Has a (view s) rest q → Facts z a (view s) rest q → sweep_in q ≡ Some sw → SweepLeaves (view s) (view t) → t.words ≡ effect s.words (asks q) →
-    KeepsObjects (view s) (view t) × Comes z a (view t) rest (gives q (s.words (cell_of (asks q)))) (goes q (s.words (cell_of (asks q))))
+SweepStep = (z : Arena) (a : ℕ) (s t : Shared) (rest : ℕ → Bool) (q : Seeking) (sw : Sweeping) → Good z (view s) → Good z (view t) → Has a (view s) rest q → Facts z a (view s) rest q → sweep_in q ≡ Some sw → SweepLeaves (view s) (view t) → t.words ≡ effect s.words (asks z.layout q) →
+    KeepsObjects (view s) (view t) × Comes z a (view t) rest (gives z.layout q (s.words (cell_of (asks z.layout q)))) (goes z.layout q (s.words (cell_of (asks z.layout q))))
 
--- the routine that it runs sweeps by the layout of this heap, and for its sweep generation
+-- the routine that it runs sweeps for the sweep generation of this heap
 abbrev pub SweepsHere : Type 0
-SweepsHere = (z : Arena) (a : ℕ) (v : View) (rest : ℕ → Bool) (q : Seeking) → Facts z a v rest q → (sweep_layout q ≡ z.layout) × (sweep_generation q ≡ v.generation)
+SweepsHere = (z : Arena) (a : ℕ) (v : View) (rest : ℕ → Bool) (q : Seeking) → Facts z a v rest q → sweep_generation q ≡ v.generation
 
 -- each is on a word that there is
 abbrev pub Within : Type 0
-Within = (z : Arena) (a : ℕ) (v : View) (rest : ℕ → Bool) (q : Seeking) → Good z v → Facts z a v rest q → InRange z.layout (cell_of (asks q))
+Within = (z : Arena) (a : ℕ) (v : View) (rest : ℕ → Bool) (q : Seeking) → Good z v → Facts z a v rest q → InRange z.layout (cell_of (asks z.layout q))
 
 -- where it finds none there is no room, and it asks for the lock's word to be freed
 pub record Refuses (z : Arena) (v : View) (q : Seeking) : Type 0 where

@@ -3,19 +3,20 @@ use Rattle.std.specs.Prelude.{◌≡◌, ℕ, ◌+◌, ◌*◌, ◌%◌, ◌^◌
 use Rattle.gh_base.specs.declared.cell.Ask.TheVariants.{Add, Load}
 use Rattle.gh_base.specs.declared.cell.Cell.TheVariants.{Heap, Trigger}
 use Rattle.gh_alloc.specs.declared.place.PlaceStage.TheVariants.{Count, LoadTrigger}
+use Rattle.gh_base.specs.declared.layout.Layout.{Layout}
 use Rattle.gh_alloc.specs.Place.{Placing, asks, gives, goes}
 
 -- it adds the object's bytes while marking is off, and the heap has so many with them, by what the step finds
 pub record CountsUpTo (p : Placing) (found bytes : ℕ) : Type 0 where
   pub off : p.marking ≡ false
   pub stage : p.stage ≡ Count
-  pub adds : asks p ≡ Add Heap (8 * p.slot)
+  pub adds : (l : Layout) → asks l p ≡ Add Heap (8 * p.slot)
   pub bytes_are : bytes ≡ (found + 8 * p.slot) % 2 ^ 64
 
 -- it loads the trigger, which so many bytes reach
 pub record SeesReached (p : Placing) (found bytes : ℕ) : Type 0 where
   pub stage : p.stage ≡ LoadTrigger bytes
-  pub loads : asks p ≡ Load Trigger
+  pub loads : (l : Layout) → asks l p ≡ Load Trigger
   pub reached : found ≤ bytes
 
 -- whatever it is told

@@ -1,22 +1,35 @@
 //! The routine that looks for a slot for an object.
 
 ghost use Rattle.std.specs.Prelude.{◌≡◌, ℕ, ◌+◌, ◌*◌, ◌^◌, ◌<◌, ◌≤◌, ◌↔◌, IfSome, IsTrue, None, Option, false, true};
-ghost use Rattle.gh_base.specs.Cells.{seats_of};
+ghost use Rattle.gh_base.specs.declared.layout.Layout.{Layout};
 ghost use Rattle.gh_central.specs.GiveBack as giving;
 ghost use Rattle.gh_alloc.specs.declared.find.FindStage.TheVariants.{Give};
-ghost use Rattle.gh_alloc.specs.declared.sought.Found.TheVariants.{At, NoRoom};
+ghost use Rattle.gh_alloc.specs.declared.sought.Found.TheVariants.{NoRoom};
 ghost use Rattle.gh_alloc.specs.Find.{after_carve, after_give, after_lock, after_pass, after_slots, after_unswept, at_stage, begin, behind_for, carving, finds_none, first_page, given, given_head, gives, goes, goes_further_at, is_busy, locked_for, opening, refuses, spans_for, taken, word_at_cursor};
-ghost use Rattle.gh_alloc.specs.FindSound.{FitsPages, IsCached, IsCachedSpan};
+ghost use Rattle.gh_alloc.specs.FindSound.{FitsPages, FitsWord, IsCached, Sound};
 ghost use Rattle.gh_alloc.specs.Search.{again, frees_at, reclaiming};
-ghost use Rattle.gh_alloc.specs.Within.{FitsFrom, FitsGiven, LiesWithin};
+ghost use Rattle.gh_alloc.specs.Within.{LiesWithin};
 
+use crate::laws::finding_is_a_routine;
 use crate::sought::{CachedSpan, Found, Sought, given_head, move_cursor};
-use gh_base::{Ask, Cell, Layout, Machine, Req};
+use gh_base::{Ask, Cell, Layout, Req, Routine};
 use gh_cache::NextSlot;
 use gh_central::{GiveBack, Reclaim, SweptPass, UnsweptPass};
 use gh_class::{Class, SpanClass, size_class_laws};
 use gh_pages::Carve;
-use std::marker::Model;
+
+/// The page, where so many fit from it on, and else 0.
+fn first_page(layout: &Layout, pages: u32, page: u32) -> u32
+    requires { 1 ≤ pages }
+    ensures page { result ≡ first_page layout.now pages page }
+    ensures there { result ≤ layout.now.pages }
+{
+    if page <= layout.pages.saturating_sub(pages) {
+        page
+    } else {
+        0
+    }
+}
 
 /// What follows once the lock is free.
 #[derive(Clone, Copy, Debug, PartialEq, Eq)]
@@ -58,48 +71,27 @@ pub enum FindStage {
 /// lock. It ends with `NoRoom` where there are none.
 #[derive(Clone, Copy)]
 pub struct Find {
-    layout: Layout,
-    seat: u32,
-    generation: u64,
-    wanted: Sought,
-    cached: Option<CachedSpan>,
-    // Unswept spans are looked for too: not in the round behind the freeing of empty spans, where each is swept.
-    sweeps: bool,
-    stage: FindStage,
-}
-
-impl Model for Find {
-    ghost use Rattle.gh_alloc.specs.Find.{Finding};
-    ghost use Rattle.gh_alloc.specs.FindSound.{Sound};
-
-    ghost Value = { Finding };
-
-    ghost view = { λ f. record { layout = f.layout; seat = f.seat; generation = f.generation; wanted = f.wanted; cached = f.cached; sweeps = f.sweeps; stage = f.stage } };
-
-    ghost invariant = { λ f. Sound (record { layout = f.layout; seat = f.seat; generation = f.generation; wanted = f.wanted; cached = f.cached; sweeps = f.sweeps; stage = f.stage }) };
-
-    ghost inverse = { λ f. record { layout = f.layout; seat = f.seat; generation = f.generation; wanted = f.wanted; cached = f.cached; sweeps = f.sweeps; stage = f.stage } };
+    /// The seat that looks.
+    pub seat: u32,
+    /// The sweep generation.
+    pub generation: u64,
+    /// What it looks for.
+    pub wanted: Sought,
+    /// The span that is cached now, with its cursor.
+    pub cached: Option<CachedSpan>,
+    /// Unswept spans are looked for too: not in the round behind the freeing of empty spans, where each is swept.
+    pub sweeps: bool,
+    /// Its stage.
+    pub stage: FindStage,
 }
 
 impl Find {
     /// Looks for a slot. The head words that it writes say that the seat has the span cached, or nobody
-    /// where it gives one back, and that it is swept in this sweep generation. A span that is cached for
-    /// the class of a small object lies in the arena.
-    pub fn new(
-        layout: &Layout,
-        seat: u32,
-        generation: u64,
-        wanted: Sought,
-        cached: Option<CachedSpan>,
-    ) -> Find
-        requires seat { seat < seats_of layout.now }
-        requires generation { generation < 2 ^ 34 }
-        requires pages { FitsPages wanted }
-        requires cached { IsCached layout.now wanted cached }
-        ensures { result ≡ opening layout.now seat generation wanted cached }
+    /// where it gives one back, and that it is swept in this sweep generation.
+    pub fn new(seat: u32, generation: u64, wanted: Sought, cached: Option<CachedSpan>) -> Find
+        ensures { result ≡ opening seat generation wanted cached }
     {
         let mut find = Find {
-            layout: *layout,
             seat,
             generation,
             wanted,
@@ -114,7 +106,7 @@ impl Find {
     /// The span that is cached now, with its cursor: it lies in the arena.
     pub fn cached(&self) -> Option<CachedSpan>
         ensures is { result ≡ self.now.cached }
-        ensures within { IsCached self.now.layout self.now.wanted result }
+        ensures within { (l : Layout) → Sound l self.now → IsCached l self.now.wanted result }
     {
         self.cached
     }
@@ -122,7 +114,7 @@ impl Find {
     /// With the next step the search has ended with `NoRoom`.
     pub fn refuses(&self) -> bool
         ensures is { result ≡ refuses self.now }
-        ensures exactly { (found : ℕ) → IsTrue result ↔ (gives self.now found ≡ Some NoRoom) }
+        ensures exactly { (l : Layout) (found : ℕ) → IsTrue result ↔ (gives l self.now found ≡ Some NoRoom) }
     {
         matches!(
             self.stage,
@@ -140,7 +132,7 @@ impl Find {
     /// What it has given.
     pub(crate) fn given(&self) -> Option<Found>
         ensures is { result ≡ given self.now }
-        ensures within { IfSome result (LiesWithin self.now.layout self.now.wanted) }
+        ensures within { (l : Layout) → Sound l self.now → IfSome result (LiesWithin l self.now.wanted) }
     {
         match self.stage {
             FindStage::Ended(found) => Some(found),
@@ -159,14 +151,14 @@ impl Find {
     pub(crate) fn reclaim(&self) -> Reclaim
         ensures { result ≡ reclaiming self.now }
     {
-        Reclaim::new(&self.layout, self.generation)
+        Reclaim::new(self.generation)
     }
 }
 
 impl Find {
     /// Its first stage: the search of the cached span, if a slot is left from its cursor on, and else the lock.
     fn begin(&mut self)
-        ensures { self.new ≡ at_stage self.old (begin self.old.layout self.old.wanted self.old.cached) }
+        ensures { self.new ≡ at_stage self.old (begin self.old.wanted self.old.cached) }
     {
         self.stage = FindStage::Lock;
         if let Sought::Small(class) = self.wanted {
@@ -174,7 +166,7 @@ impl Find {
                 // The span is this seat's own, and no other takes a slot of it: it is searched without the lock.
                 if span.cursor < class.class.slots() {
                     let span = span.of_class(class.class);
-                    self.stage = FindStage::Slots(NextSlot::new(&self.layout, span));
+                    self.stage = FindStage::Slots(NextSlot::new(span));
                 }
             }
         }
@@ -182,19 +174,20 @@ impl Find {
 
     /// It looks for fresh pages next.
     fn carving(&self) -> FindStage
+        requires { FitsPages self.now.wanted }
         ensures { result ≡ carving self.now }
     {
         let span = self.wanted.span();
-        FindStage::Carve(Carve::new(&self.layout, self.seat, self.generation, span))
+        FindStage::Carve(Carve::new(self.seat, self.generation, span))
     }
 
     /// It looks for a span next.
     fn spans(&self) -> FindStage
+        requires { FitsPages self.now.wanted }
         ensures { result ≡ spans_for self.now self.now.wanted }
     {
         match self.wanted {
             Sought::Small(class) => FindStage::Pass(SweptPass::new(
-                &self.layout,
                 self.seat,
                 self.generation,
                 class,
@@ -205,6 +198,7 @@ impl Find {
 
     /// It goes over to the last search for a span, where each is swept.
     pub(crate) fn look_for_swept(&mut self)
+        requires { FitsPages self.old.wanted }
         ensures { self.new ≡ again self.old }
     {
         self.sweeps = false;
@@ -213,11 +207,11 @@ impl Find {
 
     /// What it looks for behind the swept spans.
     fn behind(&self) -> FindStage
+        requires { FitsPages self.now.wanted }
         ensures { result ≡ behind_for self.now self.now.wanted }
     {
         match self.wanted {
             Sought::Small(class) if self.sweeps => FindStage::Unswept(UnsweptPass::new(
-                &self.layout,
                 self.seat,
                 self.generation,
                 class,
@@ -228,6 +222,8 @@ impl Find {
 
     /// What follows once it has the lock.
     fn locked(&self) -> FindStage
+        requires pages { FitsPages self.now.wanted }
+        requires generation { self.now.generation < 2 ^ 34 }
         ensures { result ≡ locked_for self.now self.now.wanted self.now.cached }
     {
         match self.wanted {
@@ -242,39 +238,26 @@ impl Find {
 
     /// It gives the cached span back next.
     fn giving(&self, class: SpanClass, span: CachedSpan) -> FindStage
-        requires { IsCachedSpan self.now.layout class.class span }
-        ensures { result ≡ Give (giving.opening self.now.layout span.head (given_head self.now.generation class)) }
+        requires { self.now.generation < 2 ^ 34 }
+        ensures { result ≡ Give (giving.opening span.head (given_head self.now.generation class)) }
     {
         let head = given_head(class, self.generation);
-        FindStage::Give(GiveBack::new(&self.layout, span.head, head))
-    }
-
-    /// The page, where so many fit from it on, and else 0.
-    fn first_page(&self, pages: u32, page: u32) -> u32
-        ensures page { result ≡ first_page self.now pages page }
-        ensures within { pages ≤ self.now.layout.pages → result + pages ≤ self.now.layout.pages }
-        ensures there { result ≤ self.now.layout.pages }
-    {
-        if page <= self.layout.pages.saturating_sub(pages) {
-            page
-        } else {
-            0
-        }
+        FindStage::Give(GiveBack::new(span.head, head))
     }
 
     /// It goes on with the span from this page on.
-    fn take_span(&mut self, page: u32)
-        requires { FitsFrom self.old.layout self.old.wanted page }
-        ensures { self.new ≡ taken self.old page }
+    fn take_span(&mut self, layout: &Layout, page: u32)
+        requires { FitsPages self.old.wanted }
+        ensures { self.new ≡ taken layout.now self.old page }
     {
         match self.wanted {
             Sought::Small(class) => {
-                let head = self.first_page(class.class.pages(), page);
+                let head = first_page(layout, class.class.pages(), page);
                 self.cached = Some(CachedSpan { head, cursor: 0 });
                 self.stage = FindStage::Unlock(After::Again);
             }
             Sought::Large { pages, .. } => {
-                let word = 1024 * self.first_page(pages, page);
+                let word = 1024 * first_page(layout, pages, page);
                 self.stage = FindStage::Unlock(After::End(Found::At(word)));
             }
         }
@@ -282,7 +265,9 @@ impl Find {
 
     /// Goes on after it asked for the lock and found this.
     fn after_lock(&mut self, found: u64)
-        requires { self.old.stage ≡ FindStage.Lock }
+        requires pages { FitsPages self.old.wanted }
+        requires generation { self.old.generation < 2 ^ 34 }
+        requires stage { self.old.stage ≡ FindStage.Lock }
         ensures { self.new ≡ after_lock self.old found }
     {
         // 0 is nobody: the swap has made this seat the one that has the lock. Otherwise another has it, and it is asked for again.
@@ -292,42 +277,43 @@ impl Find {
     }
 
     /// Goes on after the pass has given this.
-    fn after_pass(&mut self, out: Option<u32>)
-        requires { FitsGiven self.old.layout self.old.wanted (Some out) }
-        ensures { self.new ≡ after_pass self.old (Some out) }
+    fn after_pass(&mut self, layout: &Layout, out: Option<u32>)
+        requires { FitsPages self.old.wanted }
+        ensures { self.new ≡ after_pass layout.now self.old (Some out) }
     {
         match out {
             // No swept span will do. An unswept one may have clear slots that only its sweep tells of, so it comes before fresh pages.
             None => self.stage = self.behind(),
-            Some(page) => self.take_span(page),
+            Some(page) => self.take_span(layout, page),
         }
     }
 
     /// Goes on after the pass over unswept spans has given this.
-    fn after_unswept(&mut self, out: Option<u32>)
-        requires { FitsGiven self.old.layout self.old.wanted (Some out) }
-        ensures { self.new ≡ after_unswept self.old (Some out) }
+    fn after_unswept(&mut self, layout: &Layout, out: Option<u32>)
+        requires { FitsPages self.old.wanted }
+        ensures { self.new ≡ after_unswept layout.now self.old (Some out) }
     {
         match out {
             None => self.stage = self.carving(),
-            Some(page) => self.take_span(page),
+            Some(page) => self.take_span(layout, page),
         }
     }
 
     /// Goes on after the search for pages has given this.
-    fn after_carve(&mut self, out: Option<u32>)
-        requires { FitsGiven self.old.layout self.old.wanted (Some out) }
-        ensures { self.new ≡ after_carve self.old (Some out) }
+    fn after_carve(&mut self, layout: &Layout, out: Option<u32>)
+        requires { FitsPages self.old.wanted }
+        ensures { self.new ≡ after_carve layout.now self.old (Some out) }
     {
         match out {
             // The lock stays held until the next step: `Search` may go on under it.
             None => self.stage = FindStage::Unlock(After::End(Found::NoRoom)),
-            Some(page) => self.take_span(page),
+            Some(page) => self.take_span(layout, page),
         }
     }
 
     /// Goes on after the cached span was given back.
     fn after_give(&mut self)
+        requires { FitsPages self.old.wanted }
         ensures { self.new ≡ after_give self.old (Some tt) }
     {
         self.cached = None;
@@ -336,6 +322,7 @@ impl Find {
 
     /// The first heap word of the slot at the cursor; 0 where no span is cached.
     fn word(&self) -> u32
+        requires { FitsWord self.now.wanted self.now.cached }
         ensures { result ≡ word_at_cursor self.now.wanted self.now.cached }
     {
         size_class_laws();
@@ -348,9 +335,9 @@ impl Find {
         }
     }
 
-    /// Goes on after the search of the cached span has given this: a slot, which lies in the arena, or none.
+    /// Goes on after the search of the cached span has given this: a slot, or none.
     fn after_slots(&mut self, slot: Option<u32>)
-        requires { IfSome slot (λ _. LiesWithin self.old.layout self.old.wanted (At (word_at_cursor self.old.wanted self.old.cached))) }
+        requires { FitsWord self.old.wanted self.old.cached }
         ensures { self.new ≡ after_slots self.old (Some slot) }
     {
         match slot {
@@ -362,18 +349,19 @@ impl Find {
     /// Goes on in the routine that it runs, to the next alloc word of a span or to a further page, where the word found
     /// leads there, and answers whether it did; where it did not, nothing has changed, and `take_step` makes the step.
     #[inline(always)]
-    pub(crate) fn goes_on(&mut self, found: u64) -> bool
-        ensures exactly { result ≡ goes_further_at self.old.stage found }
-        ensures goes { IsTrue result → self.new ≡ goes self.old found }
-        ensures gives { IsTrue result → gives self.old found ≡ None }
-        ensures searches { IsTrue result → finds_none (goes self.old found) ≡ false }
+    pub(crate) fn goes_on(&mut self, layout: &Layout, found: u64) -> bool
+        requires { Sound layout.now self.old }
+        ensures exactly { result ≡ goes_further_at layout.now self.old.stage found }
+        ensures goes { IsTrue result → self.new ≡ goes layout.now self.old found }
+        ensures gives { IsTrue result → gives layout.now self.old found ≡ None }
+        ensures searches { IsTrue result → finds_none (goes layout.now self.old found) ≡ false }
         ensures cached { self.new.cached ≡ self.old.cached }
         ensures stays { result ≡ false → self.new ≡ self.old }
     {
         match &mut self.stage {
-            FindStage::Pass(pass) => pass.goes_on(found),
-            FindStage::Unswept(pass) => pass.goes_on(found),
-            FindStage::Carve(carve) => carve.goes_on(found),
+            FindStage::Pass(pass) => pass.goes_on(layout, found),
+            FindStage::Unswept(pass) => pass.goes_on(layout, found),
+            FindStage::Carve(carve) => carve.goes_on(layout, found),
             _ => false,
         }
     }
@@ -381,16 +369,15 @@ impl Find {
     /// Takes any step. Where a routine has ended, its stage gives way to another at once. It stands apart, since
     /// most steps of a search go on (`goes_on`) and need none of the memory that the other stages want.
     #[inline(never)]
-    fn take_step(&mut self, found: u64) -> Option<Found>
-        requires { is_busy self.old.stage ≡ true }
-        ensures state { self.new ≡ goes self.old found }
-        ensures out { result ≡ gives self.old found }
-        ensures within { IfSome result (LiesWithin self.old.layout self.old.wanted) }
+    fn take_step(&mut self, layout: &Layout, found: u64)
+        requires sound { Sound layout.now self.old }
+        requires busy { is_busy self.old.stage ≡ true }
+        ensures { self.new ≡ goes layout.now self.old found }
     {
         size_class_laws();
         match &mut self.stage {
             FindStage::Slots(search) => {
-                let out = search.take(found);
+                let out = search.take(layout, found);
                 self.cached = move_cursor(self.cached, search.cursor());
                 if let Some(slot) = out {
                     self.stage = FindStage::Lock;
@@ -398,27 +385,27 @@ impl Find {
                 }
             }
             FindStage::Give(give) => {
-                if give.take(found).is_some() {
+                if give.take(layout, found).is_some() {
                     self.stage = FindStage::Lock;
                     self.after_give();
                 }
             }
             FindStage::Pass(pass) => {
-                if let Some(out) = pass.take(found) {
+                if let Some(out) = pass.take(layout, found) {
                     self.stage = FindStage::Lock;
-                    self.after_pass(out);
+                    self.after_pass(layout, out);
                 }
             }
             FindStage::Unswept(pass) => {
-                if let Some(out) = pass.take(found) {
+                if let Some(out) = pass.take(layout, found) {
                     self.stage = FindStage::Lock;
-                    self.after_unswept(out);
+                    self.after_unswept(layout, out);
                 }
             }
             FindStage::Carve(carve) => {
-                if let Some(out) = carve.take(found) {
+                if let Some(out) = carve.take(layout, found) {
                     self.stage = FindStage::Lock;
-                    self.after_carve(out);
+                    self.after_carve(layout, out);
                 }
             }
             FindStage::Lock => self.after_lock(found),
@@ -433,56 +420,49 @@ impl Find {
             }
             FindStage::Ended(_) => {}
         }
-        self.given()
     }
 }
 
-impl Machine for Find {
-    ghost use Rattle.gh_base.specs.Given.{is_over};
-    ghost use Rattle.gh_alloc.specs.Find.{gives, goes, is_busy, listing};
-    ghost use Rattle.gh_alloc.specs.Stays.{find_stays};
+impl Routine for Find {
+    ghost use Rattle.std.specs.Prelude.{IfSome};
+    ghost use Rattle.gh_base.specs.Machines.{IsBusy};
+    ghost use Rattle.gh_alloc.specs.Find.{goes, listing};
+    ghost use Rattle.gh_alloc.specs.FindSound.{Sound};
+    ghost use Rattle.gh_alloc.specs.Within.{LiesWithin};
 
     type Out = Found;
 
-    ghost layout = { listing.layout };
+    ghost listing = { listing };
 
-    ghost busy = { listing.busy };
-
-    ghost asks = { listing.asks };
-
-    ghost goes = { listing.goes };
-
-    ghost gives = { listing.gives };
-
-    fn next(&self) -> Req {
+    fn next(&self, layout: &Layout) -> Req {
         match &self.stage {
-            FindStage::Slots(search) => search.next(),
+            FindStage::Slots(search) => search.next(layout),
             FindStage::Lock => {
                 let mine = u64::from(self.seat) + 1;
-                self.layout.request(Ask::Swap(Cell::Lock, 0, mine))
+                layout.request(Ask::Swap(Cell::Lock, 0, mine))
             }
-            FindStage::Give(give) => give.next(),
-            FindStage::Pass(pass) => pass.next(),
-            FindStage::Unswept(pass) => pass.next(),
-            FindStage::Carve(carve) => carve.next(),
-            FindStage::Unlock(_) => self.layout.request(Ask::Store(Cell::Lock, 0)),
-            FindStage::Ended(_) => self.layout.request(Ask::Load(Cell::Touch)),
+            FindStage::Give(give) => give.next(layout),
+            FindStage::Pass(pass) => pass.next(layout),
+            FindStage::Unswept(pass) => pass.next(layout),
+            FindStage::Carve(carve) => carve.next(layout),
+            FindStage::Unlock(_) => layout.request(Ask::Store(Cell::Lock, 0)),
+            FindStage::Ended(_) => layout.request(Ask::Load(Cell::Touch)),
         }
     }
 
-    fn take(&mut self, found: u64) -> Option<Found>
-        requires { is_busy self.old.stage ≡ true }
-        ensures state { self.new ≡ goes self.old found }
-        ensures out { result ≡ gives self.old found }
-        ensures within { IfSome result (LiesWithin self.old.layout self.old.wanted) }
+    fn take(&mut self, layout: &Layout, found: u64) -> Option<Found>
+        requires sound { Sound layout.now self.old }
+        requires busy { IsBusy (listing layout.now) self.old }
+        ensures state { self.new ≡ goes layout.now self.old found }
+        ensures out { result ≡ (listing layout.now).given self.new }
+        ensures sound { Sound layout.now self.new }
+        ensures within { IfSome result (LiesWithin layout.now self.old.wanted) }
     {
-        if self.goes_on(found) {
+        finding_is_a_routine();
+        if self.goes_on(layout, found) {
             return None;
         }
-        self.take_step(found)
+        self.take_step(layout, found);
+        self.given()
     }
-
-    ghost ends = { λ m found busy. is_over (listing.gives m found) };
-
-    ghost stays = { find_stays };
 }

@@ -1,27 +1,58 @@
 //! Laws of the routines. The functions do nothing; what they ensure is proved.
 
+ghost use Rattle.gh_base.specs.declared.layout.Layout.{Layout};
+ghost use Rattle.gh_base.specs.Machines.{IsRoutine};
 ghost use Rattle.gh_central.specs.Sweeping.{RunsSweeps};
+ghost use Rattle.gh_alloc.specs.Find as finding;
 ghost use Rattle.gh_alloc.specs.FindFacts.{FindsByItsRights};
 ghost use Rattle.gh_alloc.specs.Marking.{AnObjectIsMarkedBeforeItIsMade};
+ghost use Rattle.gh_alloc.specs.Place as placing;
 ghost use Rattle.gh_alloc.specs.PlaceFacts.{PlacesByItsRights};
 ghost use Rattle.gh_alloc.specs.Quiet.{AllocationIsQuiet};
 ghost use Rattle.gh_alloc.specs.Rounds.{NoRoomIsAfterReclaim};
-ghost use Rattle.gh_alloc.specs.Search.{asks, goes, sweep_generation, sweep_in, sweep_layout};
+ghost use Rattle.gh_alloc.specs.Search.{asks, goes, listing, sweep_generation, sweep_in};
 ghost use Rattle.gh_alloc.specs.SearchFacts.{SeeksByItsRights};
 ghost use Rattle.gh_alloc.specs.Trigger.{AnObjectAsksAtTheTrigger};
 
-use crate::place::Place;
-use gh_base::laws::{cells_are_told, rows_are_written, steps_are_folded};
-use gh_bitmap::SetPointers;
-use gh_bitmap::laws::{pointers_are_set, setting_keeps_its_facts};
-use gh_cache::laws::the_search_keeps_its_facts;
+use gh_base::laws::rows_are_written;
+use gh_bitmap::laws::{setting_is_a_routine, setting_keeps_its_facts};
+use gh_cache::laws::{the_search_is_a_routine, the_search_keeps_its_facts};
 use gh_central::laws::{
-    giving_back_keeps_its_facts, passes_run_sweeps, the_pass_keeps_its_facts,
+    giving_back_keeps_its_facts, passes_run_sweeps, spans_go_by_routines, the_pass_keeps_its_facts,
     the_reclaiming_keeps_its_facts, the_unswept_pass_keeps_its_facts,
 };
 use gh_class::size_class_laws;
 use gh_heap::laws::{each_move_keeps, facts_last, rights_follow, the_heap_is_apart};
-use gh_pages::laws::the_carve_keeps_its_facts;
+use gh_pages::laws::{the_carve_is_a_routine, the_carve_keeps_its_facts};
+
+/// The search for a slot is a routine: its numbers and the routine that it runs stay sound, each step is on a word that there
+/// is, and it writes what a sweep does and the lock.
+pub fn finding_is_a_routine()
+    ensures { (l : Layout) → IsRoutine l (finding.listing l) }
+{
+    size_class_laws();
+    the_search_is_a_routine();
+    the_carve_is_a_routine();
+    spans_go_by_routines();
+}
+
+/// So is the search where a collector runs.
+pub fn searching_is_a_routine()
+    ensures { (l : Layout) → IsRoutine l (listing l) }
+{
+    size_class_laws();
+    finding_is_a_routine();
+    spans_go_by_routines();
+}
+
+/// And so is the making of an object in its slot: it writes the slot's words and bits, the heap's bytes, and a page word where
+/// the object is large.
+pub fn making_is_a_routine()
+    ensures { (l : Layout) → IsRoutine l (placing.listing l) }
+{
+    setting_is_a_routine();
+    spans_go_by_routines();
+}
 
 /// Whatever the making of an object is told: while marking is on, the step that sets its alloc bit comes
 /// behind one that has set the same bit of the marks. While marking is off, no step of it is on a mark word.
@@ -76,7 +107,7 @@ pub fn searching_keeps_its_facts()
 /// While a search runs a sweep its steps are those of the sweep, until that has ended; and it begins one only of a
 /// span whose head it finds with the number before the sweep generation.
 pub fn searches_run_sweeps()
-    ensures { RunsSweeps asks goes sweep_layout sweep_generation sweep_in }
+    ensures { (l : Layout) → RunsSweeps (asks l) (goes l) (λ _. l) sweep_generation sweep_in }
 {
     passes_run_sweeps();
 }

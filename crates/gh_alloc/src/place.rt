@@ -6,13 +6,15 @@
 //! at the same time. While a cycle is under way the trigger is 2^64 - 1, so that a second one is not asked for; and
 //! who knows that marking is on does not look.
 
-ghost use Rattle.std.specs.Prelude.{◌≡◌, ℕ, ◌+◌, ◌*◌, ◌^◌, ◌<◌, ◌≤◌};
-ghost use Rattle.gh_alloc.specs.Place.{counted, filled, given, made, makes_its_object, opening};
-ghost use Rattle.gh_alloc.specs.PlaceSound.{FitsSpanHead};
+ghost use Rattle.std.specs.Prelude.{◌≡◌, ℕ, ◌+◌, ◌*◌, ◌^◌, ◌<◌, ◌≤◌, true};
+ghost use Rattle.gh_base.specs.declared.layout.Layout.{Layout};
+ghost use Rattle.gh_alloc.specs.Place.{counted, filled, given, goes, is_busy, made, makes_its_object, opening};
+ghost use Rattle.gh_alloc.specs.PlaceSound.{Sound};
 ghost use Rattle.gh_alloc.specs.declared.place.PlaceStage.TheVariants.{Bits};
 ghost use Rattle.gh_bitmap.specs.SetPointers as setting;
 
-use gh_base::{Ask, Cell, Layout, Machine, Name, Req, Shape, SpanHead};
+use crate::laws::making_is_a_routine;
+use gh_base::{Ask, Cell, Layout, Name, Req, Routine, Shape, SpanHead};
 use gh_bitmap::SetPointers;
 use gh_central::GiveBack;
 use std::marker::Model;
@@ -55,7 +57,6 @@ pub enum PlaceStage<'s> {
 /// bit is set nothing refers to the slot, and its fields are clear: a mark alone harms nobody.
 #[derive(Drop)]
 pub struct Place<'s> {
-    layout: Layout,
     shape: &'s Shape,
     at: u32,
     slot: u32,
@@ -67,13 +68,10 @@ pub struct Place<'s> {
 
 impl<'s> Model for Place<'s> {
     ghost use Rattle.gh_alloc.specs.Place.{Placing};
-    ghost use Rattle.gh_alloc.specs.PlaceSound.{Sound};
 
     ghost Value = { Placing };
 
-    ghost view = { λ p. record { layout = p.layout; shape = p.shape.now; at = p.at; slot = p.slot; name = p.name; span = p.span; marking = p.marking; stage = p.stage } };
-
-    ghost invariant = { λ p. Sound (record { layout = p.layout; shape = p.shape.now; at = p.at; slot = p.slot; name = p.name; span = p.span; marking = p.marking; stage = p.stage }) };
+    ghost view = { λ p. record { shape = p.shape.now; at = p.at; slot = p.slot; name = p.name; span = p.span; marking = p.marking; stage = p.stage } };
 }
 
 impl<'s> Place<'s> {
@@ -81,7 +79,6 @@ impl<'s> Place<'s> {
     /// word is `at`. A large object has a span of its own, and `span` is what that span's head word says. Where
     /// marking is on it is marked.
     pub fn new(
-        layout: &Layout,
         shape: &'s Shape,
         at: u32,
         slot: u32,
@@ -89,14 +86,9 @@ impl<'s> Place<'s> {
         span: Option<SpanHead>,
         marking: bool,
     ) -> Place<'s>
-        requires some { 1 ≤ slot }
-        requires within { at + slot ≤ 1024 * layout.now.pages }
-        requires name { name.g + 1 < 2 ^ 32 }
-        requires span { FitsSpanHead span }
-        ensures { result ≡ opening layout.now shape.now at slot name span marking }
+        ensures { result ≡ opening shape.now at slot name span marking }
     {
         Place {
-            layout: *layout,
             shape,
             at,
             slot,
@@ -110,8 +102,8 @@ impl<'s> Place<'s> {
     /// The first heap word of the slot.
     pub fn word(&self) -> u32
         ensures is { result ≡ self.now.at }
-        ensures within { result + self.now.slot ≤ 1024 * self.now.layout.pages }
-        ensures some { 1 ≤ self.now.slot }
+        ensures within { (l : Layout) → Sound l self.now → result + self.now.slot ≤ 1024 * l.pages }
+        ensures some { (l : Layout) → Sound l self.now → 1 ≤ self.now.slot }
     {
         self.at
     }
@@ -138,16 +130,16 @@ impl<'s> Place<'s> {
         ensures { result ≡ made self.now self.now.span }
     {
         match self.span {
-            Some(head) => PlaceStage::Give(GiveBack::new(&self.layout, self.at / 1024, head)),
+            Some(head) => PlaceStage::Give(GiveBack::new(self.at / 1024, head)),
             None => PlaceStage::Count,
         }
     }
 
     /// It writes the pointer bits next.
     fn bits(&self) -> PlaceStage<'s>
-        ensures { result ≡ Bits (setting.opening self.now.layout self.now.shape self.now.at self.now.slot) }
+        ensures { result ≡ Bits (setting.opening self.now.shape self.now.at self.now.slot) }
     {
-        PlaceStage::Bits(SetPointers::new(&self.layout, self.shape, self.at, self.slot))
+        PlaceStage::Bits(SetPointers::new(self.shape, self.at, self.slot))
     }
 
     /// What follows once the slot's bytes are counted, where the heap had this many before: it ends while marking is on.
@@ -183,41 +175,13 @@ fn filled<'s>(marking: bool) -> PlaceStage<'s>
     }
 }
 
-impl<'s> Machine for Place<'s> {
-    ghost use Rattle.std.specs.Prelude.{refl};
-    ghost use Rattle.gh_base.specs.Given.{is_over};
-    ghost use Rattle.gh_alloc.specs.Place.{listing};
-
-    /// A cycle is to be asked for.
-    type Out = bool;
-
-    ghost layout = { listing.layout };
-
-    ghost busy = { listing.busy };
-
-    ghost asks = { listing.asks };
-
-    ghost goes = { listing.goes };
-
-    ghost gives = { listing.gives };
-
-    #[inline(always)]
-    fn next(&self) -> Req {
-        let ask = match &self.stage {
-            PlaceStage::Clear(k) => Ask::Store(Cell::Field(self.at + *k), 0),
-            PlaceStage::Birth => Ask::Store(Cell::Birth(self.at), self.name.pack()),
-            PlaceStage::Bits(bits) => return bits.next(),
-            PlaceStage::Mark => Ask::Or(Cell::Mark(self.at / 64), 1 << (self.at % 64)),
-            PlaceStage::Alloc => Ask::Or(Cell::Alloc(self.at / 64), 1 << (self.at % 64)),
-            PlaceStage::Give(give) => return give.next(),
-            PlaceStage::Count => Ask::Add(Cell::Heap, 8 * u64::from(self.slot)),
-            PlaceStage::LoadTrigger(_) => Ask::Load(Cell::Trigger),
-            PlaceStage::Ended(_) => Ask::Load(Cell::Touch),
-        };
-        self.layout.request(ask)
-    }
-
-    fn take(&mut self, found: u64) -> Option<bool> {
+impl<'s> Place<'s> {
+    /// Goes on by what its step found.
+    fn go(&mut self, layout: &Layout, found: u64)
+        requires sound { Sound layout.now self.old }
+        requires busy { is_busy self.old.stage ≡ true }
+        ensures { self.new ≡ goes self.old found }
+    {
         match &mut self.stage {
             PlaceStage::Clear(k) => {
                 let next = *k + 1;
@@ -229,7 +193,7 @@ impl<'s> Machine for Place<'s> {
             }
             PlaceStage::Birth => self.stage = self.bits(),
             PlaceStage::Bits(bits) => {
-                if bits.take(found).is_some() {
+                if bits.take(layout, found).is_some() {
                     self.stage = filled(self.marking);
                 }
             }
@@ -241,10 +205,36 @@ impl<'s> Machine for Place<'s> {
             // A cycle is asked for once.
             PlaceStage::Ended(asks) => *asks = false,
         }
-        self.given()
+    }
+}
+
+impl<'s> Routine for Place<'s> {
+    ghost use Rattle.gh_alloc.specs.Place.{listing};
+
+    /// A cycle is to be asked for.
+    type Out = bool;
+
+    ghost listing = { listing };
+
+    #[inline(always)]
+    fn next(&self, layout: &Layout) -> Req {
+        let ask = match &self.stage {
+            PlaceStage::Clear(k) => Ask::Store(Cell::Field(self.at + *k), 0),
+            PlaceStage::Birth => Ask::Store(Cell::Birth(self.at), self.name.pack()),
+            PlaceStage::Bits(bits) => return bits.next(layout),
+            PlaceStage::Mark => Ask::Or(Cell::Mark(self.at / 64), 1 << (self.at % 64)),
+            PlaceStage::Alloc => Ask::Or(Cell::Alloc(self.at / 64), 1 << (self.at % 64)),
+            PlaceStage::Give(give) => return give.next(layout),
+            PlaceStage::Count => Ask::Add(Cell::Heap, 8 * u64::from(self.slot)),
+            PlaceStage::LoadTrigger(_) => Ask::Load(Cell::Trigger),
+            PlaceStage::Ended(_) => Ask::Load(Cell::Touch),
+        };
+        layout.request(ask)
     }
 
-    ghost ends = { λ m found busy. is_over (listing.gives m found) };
-
-    ghost stays = { λ _ _. refl };
+    fn take(&mut self, layout: &Layout, found: u64) -> Option<bool> {
+        making_is_a_routine();
+        self.go(layout, found);
+        self.given()
+    }
 }

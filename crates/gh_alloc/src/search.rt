@@ -1,18 +1,19 @@
 //! The search for a slot where a collector runs.
 
 ghost use Rattle.std.specs.Prelude.{◌≡◌, ℕ, ◌^◌, ◌<◌, ◌↔◌, IfSome, IsTrue, None, Option, false, true};
-ghost use Rattle.gh_base.specs.Cells.{seats_of};
+ghost use Rattle.gh_base.specs.declared.layout.Layout.{Layout};
 ghost use Rattle.gh_alloc.specs.declared.search.SearchStage.TheVariants.{Free};
 ghost use Rattle.gh_alloc.specs.declared.sought.Found.TheVariants.{NoRoom};
-ghost use Rattle.gh_alloc.specs.FindSound.{FitsPages, IsCached};
+ghost use Rattle.gh_alloc.specs.FindSound.{IsCached};
 ghost use Rattle.gh_alloc.specs.Search.{given, gives, goes, goes_further_at, is_busy, opening, reclaiming, refuses};
+ghost use Rattle.gh_alloc.specs.SearchSound.{Sound};
 ghost use Rattle.gh_alloc.specs.Within.{LiesWithin};
 
 use crate::find::Find;
+use crate::laws::searching_is_a_routine;
 use crate::sought::{CachedSpan, Found, Sought};
-use gh_base::{Layout, Machine, Req};
+use gh_base::{Layout, Req, Routine};
 use gh_central::Reclaim;
-use std::marker::Model;
 
 /// The stages of the search where a collector runs.
 #[derive(Clone, Copy)]
@@ -35,42 +36,20 @@ pub enum SearchStage {
 /// `NoRoom` where there are none then. A search that takes the lock anew may sweep and free spans anew.
 #[derive(Clone, Copy)]
 pub struct Search {
-    find: Find,
-    stage: SearchStage,
-}
-
-impl Model for Search {
-    ghost use Rattle.gh_alloc.specs.Search.{Seeking};
-    ghost use Rattle.gh_alloc.specs.SearchSound.{Sound};
-
-    ghost Value = { Seeking };
-
-    ghost view = { λ s. record { find = s.find; stage = s.stage } };
-
-    ghost invariant = { λ s. Sound (record { find = s.find; stage = s.stage }) };
-
-    ghost inverse = { λ s. record { find = s.find; stage = s.stage } };
+    /// The search of the cached span and of the heap.
+    pub find: Find,
+    /// Its stage.
+    pub stage: SearchStage,
 }
 
 impl Search {
     /// Looks for a slot. The head words that it writes say that the seat has the span cached, or nobody
-    /// where it gives one back, and that it is swept in this sweep generation. A span that is cached for
-    /// the class of a small object lies in the arena.
-    pub fn new(
-        layout: &Layout,
-        seat: u32,
-        generation: u64,
-        wanted: Sought,
-        cached: Option<CachedSpan>,
-    ) -> Search
-        requires seat { seat < seats_of layout.now }
-        requires generation { generation < 2 ^ 34 }
-        requires pages { FitsPages wanted }
-        requires cached { IsCached layout.now wanted cached }
-        ensures { result ≡ opening layout.now seat generation wanted cached }
+    /// where it gives one back, and that it is swept in this sweep generation.
+    pub fn new(seat: u32, generation: u64, wanted: Sought, cached: Option<CachedSpan>) -> Search
+        ensures { result ≡ opening seat generation wanted cached }
     {
         Search {
-            find: Find::new(layout, seat, generation, wanted, cached),
+            find: Find::new(seat, generation, wanted, cached),
             stage: SearchStage::First,
         }
     }
@@ -78,7 +57,7 @@ impl Search {
     /// The span that is cached now, with its cursor: it lies in the arena.
     pub fn cached(&self) -> Option<CachedSpan>
         ensures is { result ≡ self.now.find.cached }
-        ensures within { IsCached self.now.find.layout self.now.find.wanted result }
+        ensures within { (l : Layout) → Sound l self.now → IsCached l self.now.find.wanted result }
     {
         self.find.cached()
     }
@@ -86,7 +65,7 @@ impl Search {
     /// With the next step the search has ended with `NoRoom`.
     pub fn refuses(&self) -> bool
         ensures is { result ≡ refuses self.now }
-        ensures exactly { (found : ℕ) → IsTrue result ↔ (gives self.now found ≡ Some NoRoom) }
+        ensures exactly { (l : Layout) (found : ℕ) → IsTrue result ↔ (gives l self.now found ≡ Some NoRoom) }
     {
         match self.stage {
             SearchStage::Free(_) => false,
@@ -96,17 +75,18 @@ impl Search {
 
     /// In its first round goes on to the next alloc word of a span or to a further page, where the word found leads there, and answers
     /// whether it did. Most steps of a search do, and they change one number or two; where it did not, nothing has
-    /// changed, and [`take`](Machine::take) makes the step.
+    /// changed, and [`take`](Routine::take) makes the step.
     #[inline(always)]
-    pub fn goes_on(&mut self, found: u64) -> bool
-        ensures exactly { result ≡ goes_further_at self.old.find self.old.stage found }
-        ensures goes { IsTrue result → self.new ≡ goes self.old found }
-        ensures gives { IsTrue result → gives self.old found ≡ None }
+    pub fn goes_on(&mut self, layout: &Layout, found: u64) -> bool
+        requires { Sound layout.now self.old }
+        ensures exactly { result ≡ goes_further_at layout.now self.old.find self.old.stage found }
+        ensures goes { IsTrue result → self.new ≡ goes layout.now self.old found }
+        ensures gives { IsTrue result → gives layout.now self.old found ≡ None }
         ensures cached { self.new.find.cached ≡ self.old.find.cached }
         ensures stays { result ≡ false → self.new ≡ self.old }
     {
         match self.stage {
-            SearchStage::First => self.find.goes_on(found),
+            SearchStage::First => self.find.goes_on(layout, found),
             SearchStage::Free(_) | SearchStage::Second => false,
         }
     }
@@ -123,57 +103,31 @@ impl Search {
     /// What it has given.
     fn given(&self) -> Option<Found>
         ensures is { result ≡ given self.now }
-        ensures within { IfSome result (LiesWithin self.now.find.layout self.now.find.wanted) }
+        ensures within { (l : Layout) → Sound l self.now → IfSome result (LiesWithin l self.now.find.wanted) }
     {
         match self.stage {
             SearchStage::Free(_) => None,
             SearchStage::First | SearchStage::Second => self.find.given(),
         }
     }
-}
 
-impl Machine for Search {
-    ghost use Rattle.gh_base.specs.Given.{is_over};
-    ghost use Rattle.gh_alloc.specs.Search.{gives, goes, is_busy, listing};
-    ghost use Rattle.gh_alloc.specs.Stays.{stays};
-
-    type Out = Found;
-
-    ghost layout = { listing.layout };
-
-    ghost busy = { listing.busy };
-
-    ghost asks = { listing.asks };
-
-    ghost goes = { listing.goes };
-
-    ghost gives = { listing.gives };
-
-    #[inline(always)]
-    fn next(&self) -> Req {
-        match &self.stage {
-            SearchStage::Free(reclaim) => reclaim.next(),
-            SearchStage::First | SearchStage::Second => self.find.next(),
-        }
-    }
-
-    fn take(&mut self, found: u64) -> Option<Found>
-        requires { is_busy self.old.find self.old.stage ≡ true }
-        ensures state { self.new ≡ goes self.old found }
-        ensures out { result ≡ gives self.old found }
-        ensures within { IfSome result (LiesWithin self.old.find.layout self.old.find.wanted) }
+    /// Goes on by what its step found.
+    fn go(&mut self, layout: &Layout, found: u64)
+        requires sound { Sound layout.now self.old }
+        requires busy { is_busy self.old.find self.old.stage ≡ true }
+        ensures { self.new ≡ goes layout.now self.old found }
     {
         match &mut self.stage {
             SearchStage::First => {
                 // Where nothing is found the lock is not freed: empty spans give their pages back first, and what they give must still
                 // be there when it is searched once more.
-                self.find.take(found);
+                self.find.take(layout, found);
                 if self.find.finds_none() {
                     self.begin_freeing();
                 }
             }
             SearchStage::Free(reclaim) => {
-                if reclaim.take(found).is_some() {
+                if reclaim.take(layout, found).is_some() {
                     self.find.look_for_swept();
                     self.stage = SearchStage::Second;
                 }
@@ -181,16 +135,44 @@ impl Machine for Search {
             SearchStage::Second => {
                 // With the lock gone others may take what was freed, or free more, so the search is a first one again.
                 let frees = self.find.frees_lock();
-                self.find.take(found);
+                self.find.take(layout, found);
                 if frees {
                     self.stage = SearchStage::First;
                 }
             }
         }
-        self.given()
+    }
+}
+
+impl Routine for Search {
+    ghost use Rattle.std.specs.Prelude.{IfSome};
+    ghost use Rattle.gh_base.specs.Machines.{IsBusy};
+    ghost use Rattle.gh_alloc.specs.Search.{goes, listing};
+    ghost use Rattle.gh_alloc.specs.SearchSound.{Sound};
+    ghost use Rattle.gh_alloc.specs.Within.{LiesWithin};
+
+    type Out = Found;
+
+    ghost listing = { listing };
+
+    #[inline(always)]
+    fn next(&self, layout: &Layout) -> Req {
+        match &self.stage {
+            SearchStage::Free(reclaim) => reclaim.next(layout),
+            SearchStage::First | SearchStage::Second => self.find.next(layout),
+        }
     }
 
-    ghost ends = { λ m found busy. is_over (listing.gives m found) };
-
-    ghost stays = { stays };
+    fn take(&mut self, layout: &Layout, found: u64) -> Option<Found>
+        requires sound { Sound layout.now self.old }
+        requires busy { IsBusy (listing layout.now) self.old }
+        ensures state { self.new ≡ goes layout.now self.old found }
+        ensures out { result ≡ (listing layout.now).given self.new }
+        ensures sound { Sound layout.now self.new }
+        ensures within { IfSome result (LiesWithin layout.now self.old.find.wanted) }
+    {
+        searching_is_a_routine();
+        self.go(layout, found);
+        self.given()
+    }
 }

@@ -1,10 +1,10 @@
 //! Runs of `Search`, which runs `Find`, and of `Place`.
 
-ghost use Rattle.std.specs.Prelude.{◌≡◌};
-ghost use Rattle.gh_alloc.specs.FindSound.{FitsPages};
+ghost use Rattle.std.specs.Prelude.{◌≡◌, ◌<◌};
+ghost use Rattle.gh_alloc.specs.FindSound.{IsSought};
 
 use gh_alloc::{CachedSpan, Found, Place, Search, Sought};
-use gh_base::trace::run_alone;
+use gh_base::trace::run_routine_alone;
 use gh_base::{Bits, Cell, Layout, Name, PageWord, Shape, SpanHead};
 use gh_class::{Class, SizeClass, SpanClass};
 use std::alloc::{AllocError, Global};
@@ -12,7 +12,8 @@ use std::test::Fail;
 
 /// An object of the class that has no pointer fields.
 fn without_pointers(class: &Class) -> Sought
-    ensures { FitsPages result }
+    requires { class.now < 25 }
+    ensures { IsSought result }
 {
     Sought::Small(SpanClass {
         class: *class,
@@ -28,8 +29,8 @@ fn cuts_fresh_spans(rt: HostRuntime) -> Result<(), Fail> {
     // 8 slots of 384 words on 3 pages
     let class = Class::from_number(20).ok_or("no class")?;
     // the lock, two passes over 16 pages, 3 pages looked at and written, the lock freed, a slot
-    let mut search = Search::new(&layout, 1, 4, without_pointers(&class), None);
-    let steps = run_alone(rt.alloc(), &mut search, &layout, &mut words, 999)?;
+    let mut search = Search::new(1, 4, without_pointers(&class), None);
+    let steps = run_routine_alone(rt.alloc(), &mut search, &layout, &mut words, 999)?;
     let told = ((steps.out, steps.lines.len()), search.cached());
     assert_eq!(rt;
         told,
@@ -39,16 +40,16 @@ fn cuts_fresh_spans(rt: HostRuntime) -> Result<(), Fail> {
         )
     );
     // the span of the other seat is passed over twice, and its pages are looked at
-    let mut search = Search::new(&layout, 0, 4, without_pointers(&class), None);
-    let steps = run_alone(rt.alloc(), &mut search, &layout, &mut words, 999)?;
+    let mut search = Search::new(0, 4, without_pointers(&class), None);
+    let steps = run_routine_alone(rt.alloc(), &mut search, &layout, &mut words, 999)?;
     assert_eq!(rt; (steps.out, steps.lines.len()), (Some(Found::At(3072)), 40));
     let large = Sought::Large {
         pages: 2,
         noscan: false,
     };
     // the lock, 8 pages looked at and 2 written, the lock freed
-    let mut search = Search::new(&layout, 1, 4, large, None);
-    let steps = run_alone(rt.alloc(), &mut search, &layout, &mut words, 999)?;
+    let mut search = Search::new(1, 4, large, None);
+    let steps = run_routine_alone(rt.alloc(), &mut search, &layout, &mut words, 999)?;
     assert_eq!(rt; (steps.out, steps.lines.len()), (Some(Found::At(6144)), 12));
     // each head by the number of its word: the row of page words begins at 15
     for (at, class, noscan, pages, owner) in [
@@ -90,8 +91,8 @@ fn frees_empty_spans_for_a_small_object(rt: HostRuntime) -> Result<(), Fail> {
     let layout = Layout::new(16, 1, 1, 1, 1)?;
     let mut words = one_large_span(rt.alloc(), &layout)?;
     let class = Class::from_number(20).ok_or("no class")?;
-    let mut search = Search::new(&layout, 1, 4, without_pointers(&class), None);
-    let steps = run_alone(rt.alloc(), &mut search, &layout, &mut words, 999)?;
+    let mut search = Search::new(1, 4, without_pointers(&class), None);
+    let steps = run_routine_alone(rt.alloc(), &mut search, &layout, &mut words, 999)?;
     assert_eq!(rt; (steps.out, steps.lines.len()), (Some(Found::At(0)), 316));
     for (i, line) in [
         (0, "swap lock 0 2: 0"),
@@ -142,8 +143,8 @@ fn sweeps_a_span_and_takes_it(rt: HostRuntime) -> Result<(), Fail> {
     }
     // 2 slots of 512 words on a page
     let class = Class::from_number(21).ok_or("no class")?;
-    let mut search = Search::new(&layout, 1, 4, without_pointers(&class), None);
-    let steps = run_alone(rt.alloc(), &mut search, &layout, &mut words, 999)?;
+    let mut search = Search::new(1, 4, without_pointers(&class), None);
+    let steps = run_routine_alone(rt.alloc(), &mut search, &layout, &mut words, 999)?;
     assert_eq!(rt; (steps.out, steps.lines.len()), (Some(Found::At(1024)), 75));
     for (i, line) in [
         (0, "swap lock 0 2: 0"),
@@ -199,9 +200,9 @@ fn makes_objects(rt: HostRuntime) -> Result<(), Fail> {
         number: 4,
     };
     let name = Name { g: 0, k: 7 };
-    let mut place = Place::new(&layout, &shape, 1024, 2, name, Some(span), false);
+    let mut place = Place::new(&shape, 1024, 2, name, Some(span), false);
     assert_eq!(rt; (place.word(), place.name()), (1024, name));
-    let steps = run_alone(rt.alloc(), &mut place, &layout, &mut words, 99)?;
+    let steps = run_routine_alone(rt.alloc(), &mut place, &layout, &mut words, 99)?;
     let lines = [
         "store field 1024 0: 0",
         "store field 1025 0: 0",
@@ -214,8 +215,8 @@ fn makes_objects(rt: HostRuntime) -> Result<(), Fail> {
         "load trigger: 0",
     ];
     assert!(rt; steps.are(&lines) && steps.out == Some(true));
-    let mut place = Place::new(&layout, &shape, 66, 2, name, None, true);
-    let steps = run_alone(rt.alloc(), &mut place, &layout, &mut words, 99)?;
+    let mut place = Place::new(&shape, 66, 2, name, None, true);
+    let steps = run_routine_alone(rt.alloc(), &mut place, &layout, &mut words, 99)?;
     let lines = [
         "store field 66 0: 0",
         "store field 67 0: 0",

@@ -55,8 +55,8 @@ fn sets_the_bits_of_the_slot(rt: HostRuntime) -> Result<(), Fail> {
         let shape = shape(rt.alloc(), slot, &fields)?;
         let mut words = vec![in rt.alloc(); was; start + 256]?;
         assert!(rt; 1 <= slot && slot <= 16_384 && at <= 16_384 - slot);
-        let mut routine = SetPointers::new(&layout, &shape, at, slot);
-        let made = trace::run_alone(rt.alloc(), &mut routine, &layout, &mut words, 100)?;
+        let mut routine = SetPointers::new(&shape, at, slot);
+        let made = trace::run_routine_alone(rt.alloc(), &mut routine, &layout, &mut words, 100)?;
         assert!(rt; made.out.is_some(), "{at} {slot}");
         assert_eq!(rt; made.lines.len(), steps, "{at} {slot}");
         for (i, word) in left.iter().enumerate() {
@@ -75,10 +75,10 @@ fn sets_the_bits_of_the_slot(rt: HostRuntime) -> Result<(), Fail> {
 fn writes_and_reads_word_by_word(rt: HostRuntime) -> Result<(), Fail> {
     let layout = Layout::new(16, 1, 1, 1, 1)?;
     let shape = shape(rt.alloc(), 4, &[9])?;
-    let mut routine = SetPointers::new(&layout, &shape, 62, 4);
+    let mut routine = SetPointers::new(&shape, 62, 4);
     let start = layout.word(Cell::Bitmap(0)) as usize;
     let mut words = vec![in rt.alloc(); 7u64; start + 256]?;
-    let steps = trace::run_alone(rt.alloc(), &mut routine, &layout, &mut words, 9)?;
+    let steps = trace::run_routine_alone(rt.alloc(), &mut routine, &layout, &mut words, 9)?;
     let lines = [
         "and bitmap 0 4611686018427387903: 7",
         "or bitmap 0 4611686018427387904: 7",
@@ -98,8 +98,8 @@ fn writes_and_reads_word_by_word(rt: HostRuntime) -> Result<(), Fail> {
         (67, false),
         (16_384 + 65, true),
     ] {
-        let mut routine = ReadPointer::new(&layout, at);
-        let steps = trace::run_alone(rt.alloc(), &mut routine, &layout, &mut words, 9)?;
+        let mut routine = ReadPointer::new(at);
+        let steps = trace::run_routine_alone(rt.alloc(), &mut routine, &layout, &mut words, 9)?;
         assert_eq!(rt; (steps.out, steps.lines.len()), (Some(bit), 1), "{at}");
     }
     Ok(())

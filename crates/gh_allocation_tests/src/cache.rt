@@ -125,9 +125,9 @@ fn finds_the_next_clear_slot(rt: HostRuntime) -> Result<(), Fail> {
             class,
             cursor,
         };
-        let mut search = NextSlot::new(&layout, span);
+        let mut search = NextSlot::new(span);
         let mut words = alloc_words(rt.alloc(), start, &set)?;
-        let steps = trace::run_alone(rt.alloc(), &mut search, &layout, &mut words, 2000)?;
+        let steps = trace::run_routine_alone(rt.alloc(), &mut search, &layout, &mut words, 2000)?;
         let found = (steps.out, search.cursor(), steps.lines.len());
         assert_eq!(rt; found, (Some(slot), after, loads), "{span:?}");
         let line = steps.lines.last().map(|line| line.as_str());

@@ -1,10 +1,11 @@
 //! Runs of `SweptPass`, `GiveBack` and `Reclaim`.
 
-ghost use Rattle.std.specs.Prelude.{◌≡◌, ◌<◌, ◌≤◌, true};
+ghost use Rattle.std.specs.Prelude.{◌≡◌, ◌<◌, ◌≤◌};
+ghost use Rattle.gh_base.specs.Machines.{IsBusy};
 ghost use Rattle.gh_base.specs.Packing.{FitsBody, FitsHead};
 
-use gh_base::trace::run_alone;
-use gh_base::{Cell, Layout, Machine, PageWord, Req, SpanBody, SpanHead};
+use gh_base::trace::run_routine_alone;
+use gh_base::{Cell, Layout, PageWord, Req, Routine, SpanBody, SpanHead};
 use gh_central::{GiveBack, Reclaim, SweptPass};
 use gh_class::{Class, SizeClass, SpanClass};
 use std::alloc::{AllocError, Global};
@@ -104,8 +105,8 @@ fn takes_the_first_span_with_room(rt: HostRuntime) -> Result<(), Fail> {
             class: class(),
             noscan: true,
         };
-        let mut pass = SweptPass::new(&layout, 1, generation, wanted);
-        let run = run_alone(rt.alloc(), &mut pass, &layout, &mut words, 999)?;
+        let mut pass = SweptPass::new(1, generation, wanted);
+        let run = run_routine_alone(rt.alloc(), &mut pass, &layout, &mut words, 999)?;
         assert_eq!(rt;
             (run.out, run.lines.len()),
             (Some(page), steps),
@@ -128,8 +129,8 @@ fn takes_the_first_span_with_room(rt: HostRuntime) -> Result<(), Fail> {
 fn gives_a_span_back(rt: HostRuntime) -> Result<(), Fail> {
     let layout = Layout::new(16, 1, 1, 1, 1)?;
     let mut words = vec![in rt.alloc(); 0u64; 31]?;
-    let mut give = GiveBack::new(&layout, 5, span(true, 3, 4));
-    let run = run_alone(rt.alloc(), &mut give, &layout, &mut words, 9)?;
+    let mut give = GiveBack::new(5, span(true, 3, 4));
+    let run = run_routine_alone(rt.alloc(), &mut give, &layout, &mut words, 9)?;
     assert!(rt; run.are(&["store page 5 4294969169: 0"]) && run.out.is_some());
     Ok(())
 }
@@ -156,8 +157,8 @@ fn frees_empty_spans(rt: HostRuntime) -> Result<(), Fail> {
             words[word] = value;
         }
     }
-    let mut reclaim = Reclaim::new(&layout, 4);
-    let run = run_alone(rt.alloc(), &mut reclaim, &layout, &mut words, 999)?;
+    let mut reclaim = Reclaim::new(4);
+    let run = run_routine_alone(rt.alloc(), &mut reclaim, &layout, &mut words, 999)?;
     assert_eq!(rt; (run.out, run.lines.len()), (Some(()), 74));
     for (i, line) in [
         (0, "load page 0: 0"),
@@ -185,14 +186,15 @@ fn frees_empty_spans(rt: HostRuntime) -> Result<(), Fail> {
 }
 
 /// Tells it what its steps find: what it ends with, if it asks for just these steps up to its end.
-fn tell<M: Machine>(machine: &mut M, steps: &[(Req, u64)]) -> Option<M::Out>
-    requires { M.busy machine.old ≡ true }
+fn tell<M: Routine>(machine: &mut M, layout: &Layout, steps: &[(Req, u64)]) -> Option<M::Out>
+    requires sound { (M.listing layout.now).sound machine.old }
+    requires busy { IsBusy (M.listing layout.now) machine.old }
 {
     for (request, found) in steps {
-        if machine.next() != *request {
+        if machine.next(layout) != *request {
             return None;
         }
-        if let Some(out) = machine.take(*found) {
+        if let Some(out) = machine.take(layout, *found) {
             return Some(out);
         }
     }
@@ -232,8 +234,8 @@ fn waits_for_a_span_in_sweep(rt: HostRuntime) -> Result<(), Fail> {
             (alloc, 1),
         ],
     ] {
-        let mut reclaim = Reclaim::new(&layout, 4);
-        assert_eq!(rt; tell(&mut reclaim, &steps), Some(()));
+        let mut reclaim = Reclaim::new(4);
+        assert_eq!(rt; tell(&mut reclaim, &layout, &steps), Some(()));
     }
     Ok(())
 }

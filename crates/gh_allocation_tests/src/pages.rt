@@ -38,8 +38,8 @@ fn takes_the_first_row_that_fits(rt: HostRuntime) -> Result<(), Fail> {
             noscan: false,
             pages,
         };
-        let mut carve = Carve::new(&layout, 2, 4, span);
-        let made = trace::run_alone(rt.alloc(), &mut carve, &layout, &mut words, 100)?;
+        let mut carve = Carve::new(2, 4, span);
+        let made = trace::run_routine_alone(rt.alloc(), &mut carve, &layout, &mut words, 100)?;
         let found = (made.out, made.lines.len());
         assert_eq!(rt; found, (Some(first), steps), "{pages} pages");
     }
@@ -58,8 +58,8 @@ fn writes_a_span(rt: HostRuntime) -> Result<(), Fail> {
         noscan: true,
         pages: 3,
     };
-    let mut carve = Carve::new(&layout, 1, 6, span);
-    let steps = trace::run_alone(rt.alloc(), &mut carve, &layout, &mut words, 100)?;
+    let mut carve = Carve::new(1, 6, span);
+    let steps = trace::run_routine_alone(rt.alloc(), &mut carve, &layout, &mut words, 100)?;
     let lines = [
         "load page 0: 1",
         "load page 1: 0",

@@ -3,7 +3,7 @@
 ghost use Rattle.std.specs.Prelude.{◌<◌};
 ghost use Rattle.gh_sweep.specs.Sound.{FitsSweep};
 
-use gh_base::trace::{Steps, run_alone};
+use gh_base::trace::{Steps, run_routine_alone};
 use gh_base::{Layout, SpanHead};
 use gh_class::{Class, SizeClass};
 use gh_sweep::{Sweep, SweepEnd, SweptSpan};
@@ -71,8 +71,8 @@ fn sweep_page_3(
 ) -> Result<Steps<SweepEnd>, AllocError>
     requires { 3 < layout.now.pages }
 {
-    let mut routine = Sweep::new(layout, 3, head());
-    run_alone(alloc, &mut routine, layout, words, 1000)
+    let mut routine = Sweep::new(3, head());
+    run_routine_alone(alloc, &mut routine, layout, words, 1000)
 }
 
 /// Five objects of 48 bytes in the span at page 3, in slots 0, 1, 10, 11 and 100: those in slots 1 and 11

@@ -6,9 +6,9 @@ use Rattle.gh_assist.specs.declared.assist.AssistStage.TheVariants.{Drawing, End
 use Rattle.gh_assist.specs.Listing.{Assisting, at_stage, draws_if_owed, pays}
 
 -- where the debt is known
-pub by_owes : (P : Assisting → Type 0) (x : Assisting) → (x.owed ≡ 0 → P (at_stage x Ended)) → P (at_stage x (Drawing (draw.opening x.layout x.owed))) → P (draws_if_owed x)
+pub by_owes : (P : Assisting → Type 0) (x : Assisting) → (x.owed ≡ 0 → P (at_stage x Ended)) → P (at_stage x (Drawing (draw.opening x.owed))) → P (draws_if_owed x)
 by_owes P x ended draws = grind arith
 
 -- behind a payment
-pub by_pays : (P : Assisting → Type 0) (x : Assisting) → (x.owed ≡ 0 → P (at_stage x Ended)) → P (at_stage x (Taking (take.opening x.layout x.seat x.held))) → P (pays x)
+pub by_pays : (P : Assisting → Type 0) (x : Assisting) → (x.owed ≡ 0 → P (at_stage x Ended)) → P (at_stage x (Taking (take.opening x.seat x.held))) → P (pays x)
 by_pays P x ended takes = grind arith

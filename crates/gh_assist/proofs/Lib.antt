@@ -3,5 +3,5 @@ pub mod Buffers
 pub mod Marking
 pub mod Paying
 pub mod Scans
+pub mod Sound
 pub mod Within
-pub mod Writing

@@ -37,12 +37,12 @@ pub record Known : Type 0 where
 
 module _ (k : Known) (z : Cycle) (a : ℕ) where
   -- where it goes on with its buffer alone in hand
-  module _ (t : Shared) (x : Assisting) (layout_is : x.layout ≡ z.arena.layout) (seat_is : x.seat ≡ a) (h : Hands a t (holding nothing x.held)) where
+  module _ (t : Shared) (x : Assisting) (seat_is : x.seat ≡ a) (h : Hands a t (holding nothing x.held)) where
     at_stage : (stage : AssistStage) → StageFacts z a t x.held stage → Facts z a t (assist.at_stage x stage)
-    at_stage stage f = record { layout_is = layout_is; seat_is = seat_is; stage_is = f }
+    at_stage stage f = record { seat_is = seat_is; stage_is = f }
 
     owes : Facts z a t (assist.draws_if_owed x)
-    owes = by_owes (Facts z a t) x (λ e. at_stage at.Ended h) (at_stage (at.Drawing (draw.opening x.layout x.owed)) h)
+    owes = by_owes (Facts z a t) x (λ e. at_stage at.Ended h) (at_stage (at.Drawing (draw.opening x.owed)) h)
 
   module _ (s : Shared) (good : Good z s) (objects : KnowsObjects z s) where
     abbrev Leads : Ask → Assisting → Type 0
@@ -57,7 +57,7 @@ module _ (k : Known) (z : Cycle) (a : ℕ) where
     quiet_step held step n may h f = lands_by z a s (effect s.words step) (λ t. Keeps z a s t × Facts z a t n) (Quiet step) may refl
         (k.leave z a s (Quiet step) good may tt, f (moved z a s (Quiet step)) ((k.follow z a s (holding nothing held) good h).quiet step may))
 
-    module _ (x : Assisting) (layout_is : x.layout ≡ z.arena.layout) (seat_is : x.seat ≡ a) where
+    module _ (x : Assisting) (seat_is : x.seat ≡ a) where
       -- it draws on the bank
       bank_is_aside : (d : draw.Drawing) (p : DrawStage) → IsQuietInMarking s (draw.asks_at d p)
       bank_is_aside d p = grind arith
@@ -65,7 +65,7 @@ module _ (k : Known) (z : Cycle) (a : ℕ) where
       drawn_then : (t : Shared) (d : draw.Drawing) (out : Option ℕ) → Hands a t (holding nothing x.held) → Facts z a t (assist.after_draw x d out)
       drawn_then t d out h = grind arith
 
-      draws : (d : draw.Drawing) → Hands a s (holding nothing x.held) → Leads (draw.asks d) (assist.goes_at x (at.Drawing d) (s.words (cell_of (draw.asks d))))
+      draws : (d : draw.Drawing) → Hands a s (holding nothing x.held) → Leads (draw.asks d) (assist.goes_at z.arena.layout x (at.Drawing d) (s.words (cell_of (draw.asks d))))
       draws d h =
           let n : ℕ = s.words (cell_of (draw.asks d)) in
           quiet_step x.held (draw.asks d) (assist.after_draw x (draw.goes d n) (draw.gives d n)) (bank_is_aside d d.stage) h (λ t h. drawn_then t (draw.goes d n) (draw.gives d n) h)
@@ -74,30 +74,30 @@ module _ (k : Known) (z : Cycle) (a : ℕ) where
       taken_then : (t : Shared) → Good z t → (m : take.EntryTaking) (out : Option (Option ℕ)) → buffer_facts.TakeComes z a t nothing out m → Facts z a t (assist.after_take x m out)
       taken_then t well m out f = grind arith
 
-      takes : (m : take.EntryTaking) → buffer_facts.TakeFacts z a s nothing m → Leads (take.asks m) (assist.goes_at x (at.Taking m) (s.words (cell_of (take.asks m))))
+      takes : (m : take.EntryTaking) → buffer_facts.TakeFacts z a s nothing m → Leads (take.asks m) (assist.goes_at z.arena.layout x (at.Taking m) (s.words (cell_of (take.asks m))))
       takes m f =
           let n : ℕ = s.words (cell_of (take.asks m)) in
-          landing z a s (effect s.words (take.asks m)) (λ t. Keeps z a s t × buffer_facts.TakeComes z a t nothing (take.gives m n) (take.goes m n)) (λ t. Keeps z a s t × Facts z a t (assist.after_take x (take.goes m n) (take.gives m n)))
-          (λ t went h. (h.0, taken_then t (k.steps z a s t good went).good (take.goes m n) (take.gives m n) h.1))
+          landing z a s (effect s.words (take.asks m)) (λ t. Keeps z a s t × buffer_facts.TakeComes z a t nothing (take.gives z.arena.layout m n) (take.goes z.arena.layout m n)) (λ t. Keeps z a s t × Facts z a t (assist.after_take x (take.goes z.arena.layout m n) (take.gives z.arena.layout m n)))
+          (λ t went h. (h.0, taken_then t (k.steps z a s t good went).good (take.goes z.arena.layout m n) (take.gives z.arena.layout m n) h.1))
           (k.buffers.takes.own_step z a s nothing m good objects f)
 
-      scanned_then : (t : Shared) (m : scan.Scanning) (n : ℕ) (out : Option ℕ) → scan.gives m n ≡ out → scan_facts.Facts z a t nothing (scan.goes m n) → Facts z a t (assist.after_scan x (scan.goes m n) out)
+      scanned_then : (t : Shared) (m : scan.Scanning) (n : ℕ) (out : Option ℕ) → scan.gives z.arena.layout m n ≡ out → scan_facts.Facts z a t nothing (scan.goes z.arena.layout m n) → Facts z a t (assist.after_scan x (scan.goes z.arena.layout m n) out)
       scanned_then t m n out e f = grind arith
 
-      scans : (m : scan.Scanning) → scan_facts.Facts z a s nothing m → Leads (scan.asks m) (assist.goes_at x (at.Scanning m) (s.words (cell_of (scan.asks m))))
+      scans : (m : scan.Scanning) → scan_facts.Facts z a s nothing m → Leads (scan.asks z.arena.layout m) (assist.goes_at z.arena.layout x (at.Scanning m) (s.words (cell_of (scan.asks z.arena.layout m))))
       scans m f =
-          let n : ℕ = s.words (cell_of (scan.asks m)) in
-          landing z a s (effect s.words (scan.asks m)) (λ t. Keeps z a s t × scan_facts.Facts z a t nothing (scan.goes m n)) (λ t. Keeps z a s t × Facts z a t (assist.after_scan x (scan.goes m n) (scan.gives m n)))
-          (λ t went h. (h.0, scanned_then t m n (scan.gives m n) refl h.1))
+          let n : ℕ = s.words (cell_of (scan.asks z.arena.layout m)) in
+          landing z a s (effect s.words (scan.asks z.arena.layout m)) (λ t. Keeps z a s t × scan_facts.Facts z a t nothing (scan.goes z.arena.layout m n)) (λ t. Keeps z a s t × Facts z a t (assist.after_scan x (scan.goes z.arena.layout m n) (scan.gives z.arena.layout m n)))
+          (λ t went h. (h.0, scanned_then t m n (scan.gives z.arena.layout m n) refl h.1))
           (k.scan.keeps.own_step z a s nothing m good objects f)
 
-      own_at : (p : AssistStage) → StageFacts z a s x.held p → Leads (assist.asks_at p) (assist.goes_at x p (s.words (cell_of (assist.asks_at p))))
-      own_at at.LoadWork h = still cell.Work (assist.at_stage x (at.LoadSlack (assist.work_in (s.words cell.Work)))) (record { layout_is = layout_is; seat_is = seat_is; stage_is = h })
-      own_at (at.LoadSlack work) h = still cell.Slack (assist.with_debt x work (s.words cell.Slack)) (owes s (assist.owing x work (s.words cell.Slack)) layout_is seat_is h)
+      own_at : (p : AssistStage) → StageFacts z a s x.held p → Leads (assist.asks_at z.arena.layout p) (assist.goes_at z.arena.layout x p (s.words (cell_of (assist.asks_at z.arena.layout p))))
+      own_at at.LoadWork h = still cell.Work (assist.at_stage x (at.LoadSlack (assist.work_in (s.words cell.Work)))) (record { seat_is = seat_is; stage_is = h })
+      own_at (at.LoadSlack work) h = still cell.Slack (assist.with_debt x work (s.words cell.Slack)) (owes s (assist.owing x work (s.words cell.Slack)) seat_is h)
       own_at (at.Drawing d) h = draws d h
       own_at (at.Taking m) f = takes m f
       own_at (at.Scanning m) f = scans m f.1
-      own_at at.Ended h = still cell.Touch (assist.at_stage x at.Ended) (record { layout_is = layout_is; seat_is = seat_is; stage_is = h })
+      own_at at.Ended h = still cell.Touch (assist.at_stage x at.Ended) (record { seat_is = seat_is; stage_is = h })
 
   stage_lasts : (s t : Shared) (held : Option Held) (p : AssistStage) → Others z a s t → StageFacts z a s held p → StageFacts z a t held p
   stage_lasts s t held (at.Taking m) o f = k.buffers.takes.lasts z a s t nothing m o f
@@ -109,8 +109,8 @@ module _ (k : Known) (z : Cycle) (a : ℕ) where
 
 pub assists_by_moves : Known → AssistsByMoves
 assists_by_moves k = record {
-  begins = λ z a s held bytes owed spent h. record { layout_is = refl; seat_is = refl; stage_is = h };
-  own_step = λ z a s x good objects f. own_at k z a s good objects x f.layout_is f.seat_is x.stage f.stage_is;
-  lasts = λ z a s t x o f. record { layout_is = f.layout_is; seat_is = f.seat_is; stage_is = stage_lasts k z a s t x.held x.stage o f.stage_is };
+  begins = λ z a s held bytes owed spent h. record { seat_is = refl; stage_is = h };
+  own_step = λ z a s x good objects f. own_at k z a s good objects x f.seat_is x.stage f.stage_is;
+  lasts = λ z a s t x o f. record { seat_is = f.seat_is; stage_is = stage_lasts k z a s t x.held x.stage o f.stage_is };
   ends = λ z a s x e f. ends_at k z a s x.held x.stage e f.stage_is;
 }

@@ -1,5 +1,6 @@
 -- How an assist pays what is owed, step by step, by the law of the draws.
 use Rattle.std.proofs.Common.{◌≡◌, ℕ, ◌+◌, ◌-◌, ◌^◌, ◌<◌, ◌⊎◌, true, false, Option, refl, ap, arith}
+use Rattle.gh_base.specs.declared.layout.Layout.{Layout}
 use Rattle.gh_credit.specs.Drawing as draw
 use Rattle.gh_credit.specs.Drawing.{drawn_by, DrawsCredit, LeavesOrDraws, words_given}
 use Rattle.gh_scan.specs.Listing as scan
@@ -23,8 +24,8 @@ take_sound x t out e = grind arith
 scan_sound : (x : Assisting) (m : scan.Scanning) (out : Option ℕ) → scan.given m ≡ out → IsSound (assist.after_scan x m out)
 scan_sound x m out e = grind arith
 
-sound_at : (x : Assisting) (p : AssistStage) (found : ℕ) → SoundParts x.owed p → IsSound (assist.goes_at x p found)
-sound_at x p found s = grind (arith, draw_sound, owes_sound, scan_sound, take_sound)
+sound_at : (l : Layout) (x : Assisting) (p : AssistStage) (found : ℕ) → SoundParts x.owed p → IsSound (assist.goes_at l x p found)
+sound_at l x p found s = grind (arith, draw_sound, owes_sound, scan_sound, take_sound)
 
 -- What is owed, and what is spent, behind each step.
 drawn_owed : (x : Assisting) (d : draw.Drawing) (out : Option ℕ) (drawn : ℕ) → words_given out ≡ drawn → (assist.after_draw x d out).owed ≡ x.owed - (drawn + 0)
@@ -45,24 +46,25 @@ scanned_owed x m out drawn e = grind arith
 scanned_spent : (x : Assisting) (m : scan.Scanning) (out : Option ℕ) (drawn : ℕ) → drawn ≡ 0 → (assist.after_scan x m out).spent ≡ x.spent + drawn
 scanned_spent x m out drawn e = grind arith
 
-ends_at : (x : Assisting) (p : AssistStage) (found : ℕ) → assist.is_busy p ≡ true → assist.is_busy (assist.goes_at x p found).stage ≡ false → ((assist.goes_at x p found).owed ≡ 0) ⊎ FindsNoGreyObject p found
-ends_at x p found b e = grind arith
+module _ (l : Layout) where
+  ends_at : (x : Assisting) (p : AssistStage) (found : ℕ) → assist.is_busy p ≡ true → assist.is_busy (assist.goes_at l x p found).stage ≡ false → ((assist.goes_at l x p found).owed ≡ 0) ⊎ FindsNoGreyObject l p found
+  ends_at x p found b e = grind arith
 
-loads : (x : Assisting) → LoadsDebt x
-loads x = record {
-  loads_work = λ found e. (ap assist.asks_at e, ap (λ (p : AssistStage). (assist.goes_at x p found).stage) e, ap (λ (p : AssistStage). (assist.goes_at x p found).owed) e);
-  loads_slack = λ work found e. (ap assist.asks_at e, ap (λ (p : AssistStage). (assist.goes_at x p found).owed) e);
-}
+  loads : (x : Assisting) → LoadsDebt l x
+  loads x = record {
+    loads_work = λ found e. (ap (assist.asks_at l) e, ap (λ (p : AssistStage). (assist.goes_at l x p found).stage) e, ap (λ (p : AssistStage). (assist.goes_at l x p found).owed) e);
+    loads_slack = λ work found e. (ap (assist.asks_at l) e, ap (λ (p : AssistStage). (assist.goes_at l x p found).owed) e);
+  }
 
 module _ (k : DrawsCredit) where
-  pays_at : (x : Assisting) (p : AssistStage) (found : ℕ) → SoundParts x.owed p → (AddsDebt p → ⊥) → (assist.goes_at x p found).owed ≡ x.owed - (drawn_by (assist.asks_at p) found + scanned_by p found)
-  pays_at x p found s other = grind (arith, drawn_owed, scanned_owed, taken_owed)
+  pays_at : (l : Layout) (x : Assisting) (p : AssistStage) (found : ℕ) → SoundParts x.owed p → (AddsDebt p → ⊥) → (assist.goes_at l x p found).owed ≡ x.owed - (drawn_by (assist.asks_at l p) found + scanned_by l p found)
+  pays_at l x p found s other = grind (arith, drawn_owed, scanned_owed, taken_owed)
 
-  spends_at : (x : Assisting) (p : AssistStage) (found : ℕ) → SoundParts x.owed p → x.spent + drawn_by (assist.asks_at p) found < 2 ^ 64 → (assist.goes_at x p found).spent ≡ x.spent + drawn_by (assist.asks_at p) found
-  spends_at x p found s lt = grind (arith, drawn_spent, scanned_spent, taken_spent)
+  spends_at : (l : Layout) (x : Assisting) (p : AssistStage) (found : ℕ) → SoundParts x.owed p → x.spent + drawn_by (assist.asks_at l p) found < 2 ^ 64 → (assist.goes_at l x p found).spent ≡ x.spent + drawn_by (assist.asks_at l p) found
+  spends_at l x p found s lt = grind (arith, drawn_spent, scanned_spent, taken_spent)
 
-  draws_at : (p : AssistStage) → LeavesOrDraws (assist.asks_at p)
-  draws_at p = grind arith
+  draws_at : (l : Layout) (p : AssistStage) → LeavesOrDraws (assist.asks_at l p)
+  draws_at l p = grind arith
 
   pub assists_pay : AssistsPay
   assists_pay = grind (arith, draws_at, ends_at, loads, pays_at, sound_at, spends_at)

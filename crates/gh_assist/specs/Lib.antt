@@ -1,8 +1,6 @@
-pub mod Blind
 pub mod Facts
 pub mod Listing
 pub mod Paying
 pub mod Quiet
 pub mod Sound
-pub mod Stays
 pub mod Within

@@ -1,5 +1,7 @@
 -- An assist: what is asked for at each stage, where that leads, and when it has ended.
-use Rattle.std.specs.Prelude.{ℕ, ◌+◌, ◌-◌, ◌%◌, ◌^◌, ◌==◌, if◌then◌else◌, Bool, Option, Some, None, is_none, max, min}
+use Rattle.std.specs.Prelude.{ℕ, ◌+◌, ◌-◌, ◌%◌, ◌^◌, ◌==◌, if◌then◌else◌, Bool, true, Option, Some, None, is_none, max, min}
+use Rattle.gh_assist.specs.Sound.{SoundAssisting}
+use Rattle.gh_assist.specs.declared.assist.Assist.{Assist}
 use Rattle.gh_assist.specs.declared.assist.AssistStage.{AssistStage}
 use Rattle.gh_assist.specs.declared.assist.AssistStage.TheVariants.{LoadWork, LoadSlack, Drawing, Taking, Scanning, Ended}
 use Rattle.gh_base.specs.declared.cell.Ask.{Ask}
@@ -7,25 +9,20 @@ use Rattle.gh_base.specs.declared.cell.Ask.TheVariants.{Load}
 use Rattle.gh_base.specs.declared.cell.Cell.TheVariants as cell
 use Rattle.gh_base.specs.declared.held.Held.{Held}
 use Rattle.gh_base.specs.declared.layout.Layout.{Layout}
-use Rattle.gh_base.specs.Given.{listing_of}
-use Rattle.gh_base.specs.Routines.{Listing}
+use Rattle.gh_base.specs.Footprints.{Footprint}
+use Rattle.gh_base.specs.Footprints as row
+use Rattle.gh_base.specs.Machines.{Listing}
 use Rattle.gh_credit.specs.Drawing as draw
 use Rattle.gh_pacer.specs.Pacing.{debt}
 use Rattle.gh_scan.specs.Listing as scan
 use Rattle.gh_wbuf.specs.EntryTaking as take
 
 -- an assist behind the making of an object of so many bytes: the buffer that is held between its routines, the words that are owed, those that its seat has ever drawn, and its stage
-pub record Assisting : Type 0 where
-  pub layout : Layout
-  pub seat : ℕ
-  pub held : Option Held
-  pub bytes : ℕ
-  pub owed : ℕ
-  pub spent : ℕ
-  pub stage : AssistStage
+abbrev pub Assisting : Type 0
+Assisting = Assist
 
-abbrev pub opening : Layout → (seat : ℕ) → Option Held → (bytes owed spent : ℕ) → Assisting
-opening l seat held bytes owed spent = record { layout = l; seat = seat; held = held; bytes = bytes; owed = owed; spent = spent; stage = LoadWork }
+abbrev pub opening : (seat : ℕ) → Option Held → (bytes owed spent : ℕ) → Assisting
+opening seat held bytes owed spent = record { seat = seat; held = held; bytes = bytes; owed = owed; spent = spent; stage = LoadWork }
 
 abbrev pub at_stage : Assisting → AssistStage → Assisting
 at_stage x stage = record x { stage = stage }
@@ -43,21 +40,13 @@ held_at held (Taking t) = take.held_at t.stage
 held_at held (Scanning s) = scan.held_at s.held s.stage
 held_at held _ = held
 
-abbrev pub asks_at : AssistStage → Ask
-asks_at LoadWork = Load cell.Work
-asks_at (LoadSlack work) = Load cell.Slack
-asks_at (Drawing d) = draw.asks d
-asks_at (Taking t) = take.asks t
-asks_at (Scanning s) = scan.asks s
-asks_at Ended = Load cell.Touch
-
 -- where something is owed it draws on the bank
 abbrev pub draws_if_owed : Assisting → Assisting
-draws_if_owed x = at_stage x (if x.owed == 0 then Ended else Drawing (draw.opening x.layout x.owed))
+draws_if_owed x = at_stage x (if x.owed == 0 then Ended else Drawing (draw.opening x.owed))
 
 -- while something is owed behind a payment it takes a grey object
 abbrev pub pays : Assisting → Assisting
-pays x = at_stage x (if x.owed == 0 then Ended else Taking (take.opening x.layout x.seat x.held))
+pays x = at_stage x (if x.owed == 0 then Ended else Taking (take.opening x.seat x.held))
 
 -- what is owed grows by the debt of the object's bytes
 abbrev pub owing : Assisting → (work found : ℕ) → Assisting
@@ -82,7 +71,7 @@ after_draw x d (Some drawn) = pays (drawn_for x drawn)
 abbrev pub after_take : Assisting → take.EntryTaking → Option (Option ℕ) → Assisting
 after_take x t None = at_stage x (Taking t)
 after_take x t (Some None) = record x { held = take.held_at t.stage; stage = Ended }
-after_take x t (Some (Some reference)) = record x { held = take.held_at t.stage; stage = Scanning (scan.opening x.layout x.seat reference (take.held_at t.stage)) }
+after_take x t (Some (Some reference)) = record x { held = take.held_at t.stage; stage = Scanning (scan.opening x.seat reference (take.held_at t.stage)) }
 
 -- the words of the object's slot are paid
 abbrev pub scanned_for : Assisting → Option Held → (words : ℕ) → Assisting
@@ -92,13 +81,28 @@ abbrev pub after_scan : Assisting → scan.Scanning → Option ℕ → Assisting
 after_scan x s None = at_stage x (Scanning s)
 after_scan x s (Some words) = pays (scanned_for x (scan.held_at s.held s.stage) words)
 
-abbrev pub goes_at : Assisting → AssistStage → ℕ → Assisting
-goes_at x LoadWork found = at_stage x (LoadSlack (work_in found))
-goes_at x (LoadSlack work) found = with_debt x work found
-goes_at x (Drawing d) found = after_draw x (draw.goes d found) (draw.gives d found)
-goes_at x (Taking t) found = after_take x (take.goes t found) (take.gives t found)
-goes_at x (Scanning s) found = after_scan x (scan.goes s found) (scan.gives s found)
-goes_at x Ended found = at_stage x Ended
+module _ (l : Layout) where
+  abbrev pub asks_at : AssistStage → Ask
+  asks_at LoadWork = Load cell.Work
+  asks_at (LoadSlack work) = Load cell.Slack
+  asks_at (Drawing d) = draw.asks d
+  asks_at (Taking t) = take.asks t
+  asks_at (Scanning s) = scan.asks l s
+  asks_at Ended = Load cell.Touch
+
+  abbrev pub goes_at : Assisting → AssistStage → ℕ → Assisting
+  goes_at x LoadWork found = at_stage x (LoadSlack (work_in found))
+  goes_at x (LoadSlack work) found = with_debt x work found
+  goes_at x (Drawing d) found = after_draw x (draw.goes d found) (draw.gives d found)
+  goes_at x (Taking t) found = after_take x (take.goes l t found) (take.gives l t found)
+  goes_at x (Scanning s) found = after_scan x (scan.goes l s found) (scan.gives l s found)
+  goes_at x Ended found = at_stage x Ended
+
+  abbrev pub asks : Assisting → Ask
+  asks x = asks_at x.stage
+
+  abbrev pub goes : Assisting → ℕ → Assisting
+  goes x found = goes_at x x.stage found
 
 abbrev pub given_at : AssistStage → Option (Unit {0})
 given_at Ended = Some tt
@@ -107,17 +111,16 @@ given_at _ = None
 abbrev pub is_busy : AssistStage → Bool
 is_busy stage = is_none (given_at stage)
 
-abbrev pub asks : Assisting → Ask
-asks x = asks_at x.stage
-
-abbrev pub goes : Assisting → ℕ → Assisting
-goes x found = goes_at x x.stage found
-
 abbrev pub given : Assisting → Option (Unit {0})
 given x = given_at x.stage
 
-abbrev pub gives : Assisting → ℕ → Option (Unit {0})
-gives x found = given (goes x found)
+abbrev pub gives : Layout → Assisting → ℕ → Option (Unit {0})
+gives l x found = given (goes l x found)
 
-abbrev pub listing : Listing Assisting (Unit {0})
-listing = listing_of (λ x. x.layout) asks goes given
+-- the bank, and what the scan of an object writes
+abbrev pub writes : Footprint
+writes row.Bank = true
+writes r = scan.writes r
+
+abbrev pub listing : Layout → Listing Assisting (Unit {0})
+listing l = record { asks = asks l; goes = goes l; given = given; sound = SoundAssisting l; writes = writes }

@@ -4,6 +4,7 @@ use Rattle.gh_base.specs.declared.cell.Ask.{Ask}
 use Rattle.gh_base.specs.declared.cell.Ask.TheVariants as ask
 use Rattle.gh_base.specs.declared.cell.Cell.{Cell}
 use Rattle.gh_base.specs.declared.cell.Cell.TheVariants as cell
+use Rattle.gh_base.specs.declared.layout.Layout.{Layout}
 use Rattle.gh_heap.specs.Moves as rights
 use Rattle.gh_phase.specs.Handshake as handshake
 
@@ -24,6 +25,6 @@ WritesSo (ask.Swap cell.Bank old new) = Unit {0}
 WritesSo (ask.Swap c old new) = IsWritten c
 
 pub record AssistsAreQuiet : Type 0 where
-  pub writes : (x : Assisting) → WritesSo (asks x)
-  pub handshake : (x : Assisting) → handshake.IsQuietInHandshake (asks x)
-  pub rights : (x : Assisting) → rights.IsQuiet (asks x)
+  pub writes : (l : Layout) (x : Assisting) → WritesSo (asks l x)
+  pub handshake : (l : Layout) (x : Assisting) → handshake.IsQuietInHandshake (asks l x)
+  pub rights : (l : Layout) (x : Assisting) → rights.IsQuiet (asks l x)

@@ -22,8 +22,7 @@ use Rattle.gh_wbuf.specs.declared.try_buffer.Wish.TheVariants.{Room}
 use Rattle.gh_wbuf.specs.EntryTaking as take
 use Rattle.gh_wbuf.specs.RoomFinding as room
 use Rattle.gh_wbuf.specs.Trying as try
-use Rattle.gh_wbuf.specs.Trying.{Trying}
-use Rattle.gh_wbuf.specs.TrySound.{SoundTryStage}
+use Rattle.gh_wbuf.specs.Trying.{SoundTryStage, Trying}
 
 -- a try of a buffer that there is
 pub record TryWithin (l : Layout) (t : Trying) : Type 0 where
@@ -37,7 +36,6 @@ RoomStageWithin l (room_at.Try t) = TryWithin l t × (t.wish ≡ Room) × (try.i
 RoomStageWithin l (room_at.Ended h) = FitsBuffers l h × (h.count < ENTRIES)
 
 pub record RoomWithin (l : Layout) (r : room.RoomFinding) : Type 0 where
-  pub layout_is : r.layout ≡ l
   pub stage : RoomStageWithin l r.stage
 
 -- an entry that is taken is a reference
@@ -51,7 +49,6 @@ TakeStageWithin l (take_at.Take h) = FitsBuffers l h
 TakeStageWithin l (take_at.Ended held entry) = IsHeld l held × TakenIsReference l (Some entry)
 
 pub record TakeWithin (l : Layout) (t : take.EntryTaking) : Type 0 where
-  pub layout_is : t.layout ≡ l
   pub stage : TakeStageWithin l t.stage
 
 -- a buffer with room for an entry, if one is given
@@ -60,7 +57,6 @@ HasRoomForEntry l None = Unit {0}
 HasRoomForEntry l (Some h) = FitsBuffers l h × (h.count < ENTRIES)
 
 pub record ShadeWithin (l : Layout) (s : shade.Shading) : Type 0 where
-  pub layout_is : s.layout ≡ l
   pub reference : IsReference l s.reference
   pub held : IsHeld l s.held
   pub stage : SoundStage s.held s.stage
@@ -71,7 +67,6 @@ ScanStageWithin l (scan_at.FindRoom sh r) = ShadeWithin l sh × RoomWithin l r
 ScanStageWithin l _ = Unit {0}
 
 pub record ScanWithin (l : Layout) (s : scan.Scanning) : Type 0 where
-  pub layout_is : s.layout ≡ l
   pub reference : IsReference l s.reference
   pub held : IsHeld l s.held
   pub stage : ScanStageWithin l s.stage
@@ -79,28 +74,28 @@ pub record ScanWithin (l : Layout) (s : scan.Scanning) : Type 0 where
 -- What is known of the routines by which objects are taken and scanned, whatever they are told: it holds where they begin and behind each of their steps, and by it each step is on a word that there is, and what they hold and give is of this layout.
 pub record TakingAndScanningAreWithin : Type 0 where
   -- looking for room
-  pub room_first : (l : Layout) (seat : ℕ) (held : Option Held) → IsHeld l held → RoomWithin l (room.opening l seat held)
-  pub room_goes : (l : Layout) (r : room.RoomFinding) (found : ℕ) → RoomWithin l r → RoomWithin l (room.goes r found)
-  pub room_gives : (l : Layout) (r : room.RoomFinding) (found : ℕ) → RoomWithin l r → HasRoomForEntry l (room.gives r found)
+  pub room_first : (l : Layout) (seat : ℕ) (held : Option Held) → IsHeld l held → RoomWithin l (room.opening seat held)
+  pub room_goes : (l : Layout) (r : room.RoomFinding) (found : ℕ) → RoomWithin l r → RoomWithin l (room.goes l r found)
+  pub room_gives : (l : Layout) (r : room.RoomFinding) (found : ℕ) → RoomWithin l r → HasRoomForEntry l (room.gives l r found)
   pub room_within : (l : Layout) (r : room.RoomFinding) → RoomWithin l r → InRange l (cell_of (room.asks r))
   -- taking an entry
-  pub take_first : (l : Layout) (seat : ℕ) (held : Option Held) → IsHeld l held → TakeWithin l (take.opening l seat held)
-  pub take_goes : (l : Layout) (t : take.EntryTaking) (found : ℕ) → TakeWithin l t → TakeWithin l (take.goes t found)
-  pub taken : (l : Layout) (t : take.EntryTaking) (found : ℕ) → TakeWithin l t → TakenIsReference l (take.gives t found)
+  pub take_first : (l : Layout) (seat : ℕ) (held : Option Held) → IsHeld l held → TakeWithin l (take.opening seat held)
+  pub take_goes : (l : Layout) (t : take.EntryTaking) (found : ℕ) → TakeWithin l t → TakeWithin l (take.goes l t found)
+  pub taken : (l : Layout) (t : take.EntryTaking) (found : ℕ) → TakeWithin l t → TakenIsReference l (take.gives l t found)
   pub take_holds : (l : Layout) (t : take.EntryTaking) → TakeWithin l t → IsHeld l (take.held_at t.stage)
   pub take_within : (l : Layout) (t : take.EntryTaking) → TakeWithin l t → InRange l (cell_of (take.asks t))
   -- a found word that is taken modulo the heap's words is a reference
   pub referred : (l : Layout) (found : ℕ) → 1 ≤ l.pages → IsReference l (found % (1024 * l.pages) + 1)
   -- shading
-  pub shade_first : (l : Layout) (reference : ℕ) (held : Option Held) → IsReference l reference → IsHeld l held → ShadeWithin l (shade.opening l reference held)
+  pub shade_first : (l : Layout) (reference : ℕ) (held : Option Held) → IsReference l reference → IsHeld l held → ShadeWithin l (shade.opening reference held)
   pub shade_told : (l : Layout) (s : shade.Shading) (h : Held) → ShadeWithin l s → HasRoomForEntry l (Some h) → ShadeWithin l (shade.told_room s h)
   pub shade_goes : (l : Layout) (s : shade.Shading) (found : ℕ) → ShadeWithin l s → ShadeWithin l (shade.goes s found)
   pub shade_within : (l : Layout) (s : shade.Shading) → ShadeWithin l s → InRange l (cell_of (shade.asks s))
   -- the scan of an object
-  pub scan_first : (l : Layout) (seat reference : ℕ) (held : Option Held) → IsReference l reference → IsHeld l held → ScanWithin l (scan.opening l seat reference held)
-  pub scan_goes : (l : Layout) (s : scan.Scanning) (found : ℕ) → ScanWithin l s → ScanWithin l (scan.goes s found)
+  pub scan_first : (l : Layout) (seat reference : ℕ) (held : Option Held) → IsReference l reference → IsHeld l held → ScanWithin l (scan.opening seat reference held)
+  pub scan_goes : (l : Layout) (s : scan.Scanning) (found : ℕ) → ScanWithin l s → ScanWithin l (scan.goes l s found)
   pub scan_holds : (l : Layout) (s : scan.Scanning) → ScanWithin l s → IsHeld l (scan.held_at s.held s.stage)
-  pub scan_within : (l : Layout) (s : scan.Scanning) → ScanWithin l s → InRange l (cell_of (scan.asks s))
+  pub scan_within : (l : Layout) (s : scan.Scanning) → ScanWithin l s → InRange l (cell_of (scan.asks l s))
 
 abbrev pub StageWithin : Layout → AssistStage → Type 0
 StageWithin l (Taking t) = TakeWithin l t
@@ -109,14 +104,13 @@ StageWithin l _ = Unit {0}
 
 -- the buffer that it holds is one of this layout
 pub record AssistWithin (l : Layout) (x : Assisting) : Type 0 where
-  pub layout_is : x.layout ≡ l
   pub held : IsHeld l x.held
   pub stage : StageWithin l x.stage
 
 pub record AssistsAreWithin : Type 0 where
-  pub begins : (l : Layout) (seat : ℕ) (held : Option Held) (bytes owed spent : ℕ) → IsHeld l held → AssistWithin l (opening l seat held bytes owed spent)
-  pub goes_on : (l : Layout) (x : Assisting) (found : ℕ) → AssistWithin l x → AssistWithin l (goes x found)
+  pub begins : (l : Layout) (seat : ℕ) (held : Option Held) (bytes owed spent : ℕ) → IsHeld l held → AssistWithin l (opening seat held bytes owed spent)
+  pub goes_on : (l : Layout) (x : Assisting) (found : ℕ) → AssistWithin l x → AssistWithin l (goes l x found)
   -- its step is on a word that there is
-  pub within : (l : Layout) (x : Assisting) → AssistWithin l x → InRange l (cell_of (asks x))
+  pub within : (l : Layout) (x : Assisting) → AssistWithin l x → InRange l (cell_of (asks l x))
   -- and what it holds is a buffer of this layout
   pub holds : (l : Layout) (x : Assisting) → AssistWithin l x → IsHeld l (held_at x.held x.stage)

@@ -2,20 +2,19 @@
 
 ghost use Rattle.std.specs.Prelude.{◌≡◌, ◌^◌, ◌<◌, ◌≤◌, true};
 ghost use Rattle.gh_assist.specs.Listing.{draws_if_owed, given, goes_at, held_at, is_busy, opening, pays, slack_in, with_debt, work_in};
-ghost use Rattle.gh_assist.specs.Sound.{FitsSlack};
-ghost use Rattle.gh_base.specs.Cells.{seats_of};
+ghost use Rattle.gh_assist.specs.Sound.{FitsSlack, SoundAssisting};
+ghost use Rattle.gh_base.specs.declared.layout.Layout.{Layout};
 ghost use Rattle.gh_base.specs.Holding.{IsHeld};
+ghost use Rattle.gh_base.specs.Machines.{Runs};
 ghost use Rattle.gh_credit.specs.Drawing as draws;
 ghost use Rattle.gh_scan.specs.Listing as scans;
-ghost use Rattle.gh_scan.specs.Sound.{Runs};
 ghost use Rattle.gh_wbuf.specs.EntryTaking as takes;
 
-use gh_base::{Ask, Cell, Held, Layout, Machine, Req};
+use gh_base::{Ask, Cell, Held, Layout, Req, Routine};
 use gh_credit::Draw;
 use gh_pacer::debt;
 use gh_scan::Scan;
 use gh_wbuf::TakeEntry;
-use std::marker::Model;
 
 /// The most bytes of an object that an assist is begun for: 2^31. A slot has fewer.
 pub const MOST_ASSIST_BYTES: u64 = 1 << 31;
@@ -44,29 +43,18 @@ pub enum AssistStage {
 /// nothing is owed, or no buffer has a grey object.
 #[derive(Clone, Copy, Debug, PartialEq, Eq)]
 pub struct Assist {
-    layout: Layout,
-    seat: u32,
-    held: Option<Held>,
-    // The bytes of the object.
-    bytes: u64,
-    // The words that are owed: modulo 2^64, as all sums of found words.
-    owed: u64,
-    // The words that were ever drawn by this seat.
-    spent: u64,
-    stage: AssistStage,
-}
-
-impl Model for Assist {
-    ghost use Rattle.gh_assist.specs.Listing.{Assisting};
-    ghost use Rattle.gh_assist.specs.Sound.{SoundAssisting};
-
-    ghost Value = { Assisting };
-
-    ghost view = { λ x. record { layout = x.layout; seat = x.seat; held = x.held; bytes = x.bytes; owed = x.owed; spent = x.spent; stage = x.stage } };
-
-    ghost invariant = { λ x. SoundAssisting (record { layout = x.layout; seat = x.seat; held = x.held; bytes = x.bytes; owed = x.owed; spent = x.spent; stage = x.stage }) };
-
-    ghost inverse = { λ x. record { layout = x.layout; seat = x.seat; held = x.held; bytes = x.bytes; owed = x.owed; spent = x.spent; stage = x.stage } };
+    /// Its seat.
+    pub seat: u32,
+    /// The buffer that is held between its routines, if any.
+    pub held: Option<Held>,
+    /// The bytes of the object.
+    pub bytes: u64,
+    /// The words that are still owed: modulo 2^64, as all sums of found words.
+    pub owed: u64,
+    /// The words that were ever drawn by its seat. The number stands at `u64::MAX`, which no run reaches.
+    pub spent: u64,
+    /// Its stage.
+    pub stage: AssistStage,
 }
 
 /// A found word as the words that a cycle has to scan: modulo 2^31.
@@ -88,22 +76,11 @@ fn slack_in(found: u64) -> u64
 impl Assist {
     /// Behind the making of an object of so many bytes, with this buffer held, if any. So many words are owed from before,
     /// and so many were drawn by this seat.
-    pub fn new(
-        layout: &Layout,
-        seat: u32,
-        held: Option<Held>,
-        bytes: u64,
-        owed: u64,
-        spent: u64,
-    ) -> Assist
-        requires seat { seat < seats_of layout.now }
-        requires held { IsHeld layout.now held }
-        requires bytes { bytes ≤ MOST_ASSIST_BYTES }
-        ensures opening { result ≡ opening layout.now seat held bytes owed spent }
+    pub fn new(seat: u32, held: Option<Held>, bytes: u64, owed: u64, spent: u64) -> Assist
+        ensures opening { result ≡ opening seat held bytes owed spent }
         ensures begun { is_busy result.stage ≡ true }
     {
         Assist {
-            layout: *layout,
             seat,
             held,
             bytes,
@@ -116,27 +93,13 @@ impl Assist {
     /// The buffer that is held now, if any.
     pub fn held(&self) -> Option<Held>
         ensures is { result ≡ held_at self.now.held self.now.stage }
-        ensures fits { IsHeld self.now.layout result }
+        ensures fits { (l : Layout) → SoundAssisting l self.now → IsHeld l result }
     {
         match &self.stage {
             AssistStage::Taking(take) => take.held(),
             AssistStage::Scanning(scan) => scan.held(),
             _ => self.held,
         }
-    }
-
-    /// The words that are still owed.
-    pub fn owed(&self) -> u64
-        ensures { result ≡ self.now.owed }
-    {
-        self.owed
-    }
-
-    /// The words that were ever drawn by its seat. The number stands at `u64::MAX`, which no run reaches.
-    pub fn spent(&self) -> u64
-        ensures { result ≡ self.now.spent }
-    {
-        self.spent
     }
 
     /// Goes on where the debt is known: where something is owed it draws on the bank.
@@ -146,7 +109,7 @@ impl Assist {
         self.stage = if self.owed == 0 {
             AssistStage::Ended
         } else {
-            AssistStage::Drawing(Draw::new(&self.layout, self.owed))
+            AssistStage::Drawing(Draw::new(self.owed))
         };
     }
 
@@ -157,13 +120,14 @@ impl Assist {
         self.stage = if self.owed == 0 {
             AssistStage::Ended
         } else {
-            AssistStage::Taking(TakeEntry::new(&self.layout, self.seat, self.held))
+            AssistStage::Taking(TakeEntry::new(self.seat, self.held))
         };
     }
 
     /// Goes on by the slack, where the work is this: what is owed grows by the debt.
     fn add_debt(&mut self, work: u64, found: u64)
-        requires { work < 2 ^ 31 }
+        requires work { work < 2 ^ 31 }
+        requires bytes { self.old.bytes ≤ MOST_ASSIST_BYTES }
         ensures { self.new ≡ with_debt self.old work found }
     {
         self.owed = self
@@ -173,12 +137,14 @@ impl Assist {
     }
 
     /// Takes a step of this draw.
-    fn draw(&mut self, draw: &Draw, found: u64)
-        requires { Runs self.old.layout draw.now.layout (draws.is_busy draw.now.stage) }
-        ensures { self.new ≡ goes_at self.old (AssistStage.Drawing draw.now) found }
+    fn draw(&mut self, layout: &Layout, draw: &Draw, found: u64)
+        requires sound { SoundAssisting layout.now self.old }
+        requires runs { Runs (draws.listing layout.now) draw.now }
+        ensures goes { self.new ≡ goes_at layout.now self.old (AssistStage.Drawing draw.now) found }
+        ensures sound { SoundAssisting layout.now self.new }
     {
         let mut draw = *draw;
-        match draw.take(found) {
+        match draw.take(layout, found) {
             None => self.stage = AssistStage::Drawing(draw),
             Some(drawn) => {
                 self.owed = self.owed.saturating_sub(drawn);
@@ -189,12 +155,14 @@ impl Assist {
     }
 
     /// Takes a step of the taking of an object.
-    fn take_entry(&mut self, take: &TakeEntry, found: u64)
-        requires { Runs self.old.layout take.now.layout (takes.is_busy take.now.stage) }
-        ensures { self.new ≡ goes_at self.old (AssistStage.Taking take.now) found }
+    fn take_entry(&mut self, layout: &Layout, take: &TakeEntry, found: u64)
+        requires sound { SoundAssisting layout.now self.old }
+        requires runs { Runs (takes.listing layout.now) take.now }
+        ensures goes { self.new ≡ goes_at layout.now self.old (AssistStage.Taking take.now) found }
+        ensures sound { SoundAssisting layout.now self.new }
     {
         let mut take = *take;
-        match take.take(found) {
+        match take.take(layout, found) {
             None => self.stage = AssistStage::Taking(take),
             Some(None) => {
                 self.held = take.held();
@@ -202,19 +170,21 @@ impl Assist {
             }
             Some(Some(reference)) => {
                 self.held = take.held();
-                let scan = Scan::new(&self.layout, self.seat, reference, self.held);
+                let scan = Scan::new(self.seat, reference, self.held);
                 self.stage = AssistStage::Scanning(scan);
             }
         }
     }
 
     /// Takes a step of the scan of an object.
-    fn scan(&mut self, scan: &Scan, found: u64)
-        requires { Runs self.old.layout scan.now.layout (scans.is_busy scan.now.stage) }
-        ensures { self.new ≡ goes_at self.old (AssistStage.Scanning scan.now) found }
+    fn scan(&mut self, layout: &Layout, scan: &Scan, found: u64)
+        requires sound { SoundAssisting layout.now self.old }
+        requires runs { Runs (scans.listing layout.now) scan.now }
+        ensures goes { self.new ≡ goes_at layout.now self.old (AssistStage.Scanning scan.now) found }
+        ensures sound { SoundAssisting layout.now self.new }
     {
         let mut scan = *scan;
-        match scan.take(found) {
+        match scan.take(layout, found) {
             None => self.stage = AssistStage::Scanning(scan),
             Some(words) => {
                 self.held = scan.held();
@@ -235,36 +205,25 @@ impl Assist {
     }
 }
 
-impl Machine for Assist {
-    ghost use Rattle.gh_base.specs.Given.{is_over};
+impl Routine for Assist {
     ghost use Rattle.gh_assist.specs.Listing.{listing};
-    ghost use Rattle.gh_assist.specs.Stays.{stays};
 
     type Out = ();
 
-    ghost layout = { listing.layout };
+    ghost listing = { listing };
 
-    ghost busy = { listing.busy };
-
-    ghost asks = { listing.asks };
-
-    ghost goes = { listing.goes };
-
-    ghost gives = { listing.gives };
-
-    fn next(&self) -> Req {
-        let ask = match &self.stage {
-            AssistStage::LoadWork => Ask::Load(Cell::Work),
-            AssistStage::LoadSlack(_) => Ask::Load(Cell::Slack),
-            AssistStage::Drawing(draw) => return draw.next(),
-            AssistStage::Taking(take) => return take.next(),
-            AssistStage::Scanning(scan) => return scan.next(),
-            AssistStage::Ended => Ask::Load(Cell::Touch),
-        };
-        self.layout.request(ask)
+    fn next(&self, layout: &Layout) -> Req {
+        match &self.stage {
+            AssistStage::LoadWork => layout.request(Ask::Load(Cell::Work)),
+            AssistStage::LoadSlack(_) => layout.request(Ask::Load(Cell::Slack)),
+            AssistStage::Drawing(draw) => draw.next(layout),
+            AssistStage::Taking(take) => take.next(layout),
+            AssistStage::Scanning(scan) => scan.next(layout),
+            AssistStage::Ended => layout.request(Ask::Load(Cell::Touch)),
+        }
     }
 
-    fn take(&mut self, found: u64) -> Option<()> {
+    fn take(&mut self, layout: &Layout, found: u64) -> Option<()> {
         match &self.stage {
             AssistStage::LoadWork => self.stage = AssistStage::LoadSlack(work_in(found)),
             AssistStage::LoadSlack(work) => {
@@ -273,22 +232,18 @@ impl Machine for Assist {
             }
             AssistStage::Drawing(draw) => {
                 let draw = *draw;
-                self.draw(&draw, found);
+                self.draw(layout, &draw, found);
             }
             AssistStage::Taking(take) => {
                 let take = *take;
-                self.take_entry(&take, found);
+                self.take_entry(layout, &take, found);
             }
             AssistStage::Scanning(scan) => {
                 let scan = *scan;
-                self.scan(&scan, found);
+                self.scan(layout, &scan, found);
             }
             AssistStage::Ended => {}
         }
         self.given()
     }
-
-    ghost ends = { λ m found busy. is_over (listing.gives m found) };
-
-    ghost stays = { stays };
 }

@@ -1,14 +1,27 @@
 //! Laws of an assist. The functions do nothing; what they ensure is proved.
 
 ghost use Rattle.gh_assist.specs.Facts.{AssistsByMoves};
+ghost use Rattle.gh_assist.specs.Listing.{listing};
 ghost use Rattle.gh_assist.specs.Paying.{AssistsPay};
 ghost use Rattle.gh_assist.specs.Quiet.{AssistsAreQuiet};
 ghost use Rattle.gh_assist.specs.Within.{AssistsAreWithin, TakingAndScanningAreWithin};
+ghost use Rattle.gh_base.specs.declared.layout.Layout.{Layout};
+ghost use Rattle.gh_base.specs.Machines.{IsRoutine};
 
-use gh_credit::laws::credit_is_drawn;
+use gh_credit::laws::{credit_is_drawn, drawing_is_a_routine};
 use gh_marks::laws::{facts_last, hands_follow, own_moves_leave, steps_go_by_moves};
-use gh_scan::laws::{marking_is_quiet, scans_by_moves};
-use gh_wbuf::laws::buffers_pass_by_moves;
+use gh_scan::laws::{marking_is_quiet, scan_is_a_routine, scans_by_moves};
+use gh_wbuf::laws::{buffers_pass_by_moves, entry_taking_is_a_routine};
+
+/// An assist is a routine: it stays sound, each step is on a word that there is, and it writes marks, buffers and their
+/// entries, and the bank alone.
+pub fn assist_is_a_routine()
+    ensures { (l : Layout) → IsRoutine l (listing l) }
+{
+    drawing_is_a_routine();
+    entry_taking_is_a_routine();
+    scan_is_a_routine();
+}
 
 /// Whatever any number of actors do beside it while marking is on: each step of an assist is made of moves that its seat may
 /// make, leaves all that its caller knows, and what is known at each stage holds then and lasts. It has in hand what its

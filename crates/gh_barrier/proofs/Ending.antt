@@ -1,5 +1,6 @@
 -- Each step of the writing of a pointer leaves fewer steps, by its stages.
 use Rattle.std.proofs.Common.{◌≡◌, ℕ, ◌+◌, ◌≤◌, true, Option, None, arith}
+use Rattle.gh_base.specs.declared.layout.Layout.{Layout}
 use Rattle.gh_shade.specs.declared.shade.Shaded.{Shaded}
 use Rattle.gh_shade.specs.declared.shade.ShadeStage.{ShadeStage}
 use Rattle.gh_shade.specs.Listing as shade
@@ -27,8 +28,8 @@ after-new-left w sh few out some less = grind arith
 some-at : (q : WriteStage) → is_busy q ≡ true → 1 ≤ write_left q
 some-at q e = grind arith
 
-fewer-at : (w : Writing) (q : WriteStage) (found : ℕ) → is_busy q ≡ true → write_left (goes_at w q found).stage + 1 ≤ write_left q
-fewer-at w q found e = grind (arith, after-new-left, after-old-left, old-left, shade-fewer, some-left)
+fewer-at : (l : Layout) (w : Writing) (q : WriteStage) (found : ℕ) → is_busy q ≡ true → write_left (goes_at l w q found).stage + 1 ≤ write_left q
+fewer-at l w q found e = grind (arith, after-new-left, after-old-left, old-left, shade-fewer, some-left)
 
 pub writing-ends : WritingEnds
 writing-ends = grind (arith, fewer-at, some-at)

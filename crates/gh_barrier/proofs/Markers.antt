@@ -12,7 +12,7 @@ use Rattle.gh_marks.specs.Moves as move
 use Rattle.gh_marks.specs.Moves.{BehindBarrier, Keeps, Lands, Others, Steps, Went, landing, landing_on, lands_by, lands_still, moved}
 use Rattle.gh_marks.specs.Seats.{Hands, InHand}
 use Rattle.gh_barrier.specs.Facts.{Facts, IsCell, IsKnownPointer, OldValueStands, put_of, StageFacts, WritesByMoves}
-use Rattle.gh_barrier.proofs.Vocabulary.{after_new, after_old, Ask, asks_at, at_stage, behind_old, bitmap_words, Cell, cell_at, cell_of, Done, effect, Ended, Field, given_at, Global, goes, goes_at, HasTwo, Held, in_hand, LoadOld, mark_words, pointer_word, PointerCell, put, Shaded, ShadeNew, ShadeOld, shades_old, Store, WantsRoom, with_old, WriteStage, Writing}
+use Rattle.gh_barrier.proofs.Vocabulary.{after_new, after_old, Ask, asks_at, at_stage, behind_old, bitmap_words, Cell, cell_at, cell_of, Done, effect, Ended, Field, given_at, Global, goes, goes_at, HasTwo, Held, in_hand, Layout, LoadOld, mark_words, pointer_word, PointerCell, put, Shaded, ShadeNew, ShadeOld, shades_old, Store, WantsRoom, with_old, WriteStage, Writing}
 use Rattle.gh_barrier.proofs.Room.{held-stays, never-wants, place-of, place-then}
 use Rattle.gh_shade.specs.Facts as shade_facts
 use Rattle.gh_shade.specs.Listing.{object_of}
@@ -58,12 +58,12 @@ shaded-clean s c r some m h = grind arith
 
 module _ (k : Known) (z : Cycle) (a : ℕ) (s : Shared) (rest : InHand) where
   -- the old value is shaded, and the new one comes next
-  new-facts : (w : Writing) → w.layout ≡ z.arena.layout → IsCell s w.at → IsKnownPointer s w.pointer → HasPlace w.held → IsClean (mark_words s.words) (s.words (cell_at w.at)) → Hands a s (in_hand rest w.held None) → Facts z a s rest (behind_old w)
-  new-facts w layout_is is known place clean x = grind arith
+  new-facts : (w : Writing) → IsCell s w.at → IsKnownPointer s w.pointer → HasPlace w.held → IsClean (mark_words s.words) (s.words (cell_at w.at)) → Hands a s (in_hand rest w.held None) → Facts z a s rest (behind_old w)
+  new-facts w is known place clean x = grind arith
 
   -- the new value is shaded, and the store comes next
-  store-facts : (w : Writing) (r : ℕ) → w.layout ≡ z.arena.layout → IsCell s w.at → IsKnownPointer s w.pointer → IsClean (mark_words s.words) (s.words (cell_at w.at)) → w.pointer ≡ Some r → 1 ≤ r → IsMarked (mark_words s.words) (object_of r) → Hands a s (in_hand rest w.held None) → Facts z a s rest (at_stage w Store)
-  store-facts w r layout_is is known clean e some m x = record { layout_is = layout_is; is_cell = is; known = known; stage_is = (clean, subst (λ (v : ℕ). IsClean (mark_words s.words) v) (sym (ap pointer_word e)) (marked-clean s r some m), x) }
+  store-facts : (w : Writing) (r : ℕ) → IsCell s w.at → IsKnownPointer s w.pointer → IsClean (mark_words s.words) (s.words (cell_at w.at)) → w.pointer ≡ Some r → 1 ≤ r → IsMarked (mark_words s.words) (object_of r) → Hands a s (in_hand rest w.held None) → Facts z a s rest (at_stage w Store)
+  store-facts w r is known clean e some m x = record { is_cell = is; known = known; stage_is = (clean, subst (λ (v : ℕ). IsClean (mark_words s.words) v) (sym (ap pointer_word e)) (marked-clean s r some m), x) }
 
   behind : (w : Writing) → IsKnownPointer s w.pointer → StageFacts z a s rest w Store → BehindBarrier s (s.words (cell_at w.at)) (pointer_word w.pointer)
   behind w known f = grind arith
@@ -73,7 +73,7 @@ module _ (k : Known) (z : Cycle) (a : ℕ) (s : Shared) (rest : InHand) where
   stores-by (Field x) v b = lands_by z a s (put s.words (cell.Field x) v) (λ t. t ≡ moved z a s (move.PutField x v)) (move.PutField x v) b refl refl
   stores-by (Global i) v b = lands_by z a s (put s.words (cell.Global i) v) (λ t. t ≡ moved z a s (move.PutGlobal i v)) (move.PutGlobal i v) b refl refl
 
-module _ (k : Known) (z : Cycle) (a : ℕ) (s : Shared) (rest : InHand) (g : Good z s) (objects : KnowsObjects z s) (w : Writing) (layout_is : w.layout ≡ z.arena.layout) (is : IsCell s w.at) (known : IsKnownPointer s w.pointer) where
+module _ (k : Known) (z : Cycle) (a : ℕ) (s : Shared) (rest : InHand) (g : Good z s) (objects : KnowsObjects z s) (w : Writing) (is : IsCell s w.at) (known : IsKnownPointer s w.pointer) where
   abbrev c : Cell
   c = cell_at w.at
 
@@ -87,26 +87,24 @@ module _ (k : Known) (z : Cycle) (a : ℕ) (s : Shared) (rest : InHand) (g : Goo
   since-at : (at : PointerCell) → IsCell s at → IsSince s.since (s.words (cell_at at))
   since-at at h = grind arith
 
-  loads : HasTwo w.held → Hands a s (in_hand rest w.held None) → Leads (ask.Load c) (with_old w (s.words c))
+  loads : HasTwo w.held → Hands a s (in_hand rest w.held None) → Leads (ask.Load c) (with_old z.arena.layout w (s.words c))
   loads two x = by (eqb v 0) refl where
     v : ℕ
     v = s.words c
 
-    by : (b : Bool) → eqb v 0 ≡ b → Leads (ask.Load c) (shades_old w (cond b None (Some ((v - 1) % (1024 * w.layout.pages) + 1))))
-    by true e = still c (behind_old w) (new-facts k z a s rest w layout_is is known (place-of w.held two) (nil-clean s v (eqb-true _ _ e)) x)
+    by : (b : Bool) → eqb v 0 ≡ b → Leads (ask.Load c) (shades_old w (cond b None (Some ((v - 1) % (1024 * z.arena.layout.pages) + 1))))
+    by true e = still c (behind_old w) (new-facts k z a s rest w is known (place-of w.held two) (nil-clean s v (eqb-true _ _ e)) x)
     by false e =
         let some : v ≢ 0 = λ n. absurd (cc (e, eq-eqb _ _ n)) in
         let plus : v ≡ (v - 1) + 1 = omega arith in
         let since : s.since (v - 1) ≡ true = since-at w.at is (v - 1) plus in
         let there : KnowsObject z.arena.layout.pages (λ p. s.words (cell.Page p)) (bitmap_words s.words) s.extents (v - 1) = objects (v - 1) since in
         let within : v - 1 < 1024 * z.arena.layout.pages = omega (arith, there.within, there.some) in
-        let inside : v - 1 < 1024 * w.layout.pages = rw layout_is within in
-        let reference : (v - 1) % (1024 * w.layout.pages) + 1 ≡ v = ap (λ (n : ℕ). n + 1) (mod-eq_of_lt inside) ∙ sym plus in
-        still c (at_stage w (ShadeOld (shade.opening w.layout ((v - 1) % (1024 * w.layout.pages) + 1) w.held))) (record {
-          layout_is = layout_is;
+        let reference : (v - 1) % (1024 * z.arena.layout.pages) + 1 ≡ v = ap (λ (n : ℕ). n + 1) (mod-eq_of_lt within) ∙ sym plus in
+        still c (at_stage w (ShadeOld (shade.opening ((v - 1) % (1024 * z.arena.layout.pages) + 1) w.held))) (record {
           is_cell = is;
           known = known;
-          stage_is = (two, inl (sym reference), k.shade.begins z a s rest w.layout ((v - 1) % (1024 * w.layout.pages) + 1) w.held (omega arith) (ap (λ (n : ℕ). s.since (n - 1)) reference ∙ since) x, refl);
+          stage_is = (two, inl (sym reference), k.shade.begins z a s rest ((v - 1) % (1024 * z.arena.layout.pages) + 1) w.held (omega arith) (ap (λ (n : ℕ). s.since (n - 1)) reference ∙ since) x, refl);
         })
 
   -- a step of shading
@@ -124,30 +122,30 @@ module _ (k : Known) (z : Cycle) (a : ℕ) (s : Shared) (rest : InHand) (g : Goo
         Lands z a t t.words (λ u. Keeps z a s u × Facts z a u rest (after_old w (shade.goes sh f) out))
     old-after sh f None e busy two stands facts =
         let two-then : HasTwo (shade.goes sh f).held = subst (λ (h : Option Held). HasTwo h) (sym (held-stays sh f e)) two in
-        landed (at_stage w (ShadeOld (shade.goes sh f))) (record { layout_is = layout_is; is_cell = is-then; known = known-then; stage_is = (two-then, stands, facts, ap is_none e) })
+        landed (at_stage w (ShadeOld (shade.goes sh f))) (record { is_cell = is-then; known = known-then; stage_is = (two-then, stands, facts, ap is_none e) })
     old-after sh f (Some Done) e busy two stands facts =
         let shaded : shade_facts.ObjectIsShaded a t rest (shade.goes sh f) = k.shade.ends z a t rest sh f e facts in
-        landed (behind_old (record w { held = (shade.goes sh f).held })) (new-facts k z a t rest (record w { held = (shade.goes sh f).held }) layout_is is-then known-then (place-then sh f two) (shaded-clean t c (shade.goes sh f).reference facts.some shaded.marked stands) shaded.hands)
+        landed (behind_old (record w { held = (shade.goes sh f).held })) (new-facts k z a t rest (record w { held = (shade.goes sh f).held }) is-then known-then (place-then sh f two) (shaded-clean t c (shade.goes sh f).reference facts.some shaded.marked stands) shaded.hands)
     old-after sh f (Some WantsRoom) e busy two stands facts = absurd (never-wants sh f busy (place-of sh.held two) e)
 
     new-after : (sh : shade.Shading) (f : ℕ) (out : Option Shaded) → shade.gives sh f ≡ out → shade.is_busy sh.stage ≡ true → HasPlace sh.held → IsClean (mark_words t.words) (t.words c) → w.pointer ≡ Some (shade.goes sh f).reference → shade_facts.Facts z a t rest (shade.goes sh f) →
         Lands z a t t.words (λ u. Keeps z a s u × Facts z a u rest (after_new w (shade.goes sh f) out))
     new-after sh f None e busy place clean same facts =
         let place-on : HasPlace (shade.goes sh f).held = subst (λ (h : Option Held). HasPlace h) (sym (held-stays sh f e)) place in
-        landed (at_stage w (ShadeNew (shade.goes sh f))) (record { layout_is = layout_is; is_cell = is-then; known = known-then; stage_is = (place-on, clean, same, facts, ap is_none e) })
+        landed (at_stage w (ShadeNew (shade.goes sh f))) (record { is_cell = is-then; known = known-then; stage_is = (place-on, clean, same, facts, ap is_none e) })
     new-after sh f (Some Done) e busy place clean same facts =
         let shaded : shade_facts.ObjectIsShaded a t rest (shade.goes sh f) = k.shade.ends z a t rest sh f e facts in
-        landed (record w { held = (shade.goes sh f).held; stage = Store }) (store-facts k z a t rest (record w { held = (shade.goes sh f).held }) (shade.goes sh f).reference layout_is is-then known-then clean same facts.some shaded.marked shaded.hands)
+        landed (record w { held = (shade.goes sh f).held; stage = Store }) (store-facts k z a t rest (record w { held = (shade.goes sh f).held }) (shade.goes sh f).reference is-then known-then clean same facts.some shaded.marked shaded.hands)
     new-after sh f (Some WantsRoom) e busy place clean same facts = absurd (never-wants sh f busy place e)
 
-  shades-old : (sh : shade.Shading) → HasTwo sh.held → OldValueStands s c sh.reference → shade_facts.Facts z a s rest sh → shade.is_busy sh.stage ≡ true → Leads (shade.asks sh) (goes_at w (ShadeOld sh) (s.words (cell_of (shade.asks sh))))
+  shades-old : (sh : shade.Shading) → HasTwo sh.held → OldValueStands s c sh.reference → shade_facts.Facts z a s rest sh → shade.is_busy sh.stage ≡ true → Leads (shade.asks sh) (goes_at z.arena.layout w (ShadeOld sh) (s.words (cell_of (shade.asks sh))))
   shades-old sh two stands facts busy =
       let f : ℕ = s.words (cell_of (shade.asks sh)) in
       landing_on z a s (effect s.words (shade.asks sh)) (λ t. Keeps z a s t × shade_facts.Facts z a t rest (shade.goes sh f)) (λ u. Keeps z a s u × Facts z a u rest (after_old w (shade.goes sh f) (shade.gives sh f)))
       (λ t went h. old-after t went h.0 sh f (shade.gives sh f) refl busy two (subst (λ (r : ℕ). OldValueStands t c r) (sym (k.shade.same sh f)) (stands-kept k z a s t h.0 w.at sh.reference is stands)) h.1)
       (k.shade.keeps.own_step z a s rest sh g objects facts)
 
-  shades-new : (sh : shade.Shading) → HasPlace sh.held → IsClean (mark_words s.words) (s.words c) → w.pointer ≡ Some sh.reference → shade_facts.Facts z a s rest sh → shade.is_busy sh.stage ≡ true → Leads (shade.asks sh) (goes_at w (ShadeNew sh) (s.words (cell_of (shade.asks sh))))
+  shades-new : (sh : shade.Shading) → HasPlace sh.held → IsClean (mark_words s.words) (s.words c) → w.pointer ≡ Some sh.reference → shade_facts.Facts z a s rest sh → shade.is_busy sh.stage ≡ true → Leads (shade.asks sh) (goes_at z.arena.layout w (ShadeNew sh) (s.words (cell_of (shade.asks sh))))
   shades-new sh place clean same facts busy =
       let f : ℕ = s.words (cell_of (shade.asks sh)) in
       landing_on z a s (effect s.words (shade.asks sh)) (λ t. Keeps z a s t × shade_facts.Facts z a t rest (shade.goes sh f)) (λ u. Keeps z a s u × Facts z a u rest (after_new w (shade.goes sh f) (shade.gives sh f)))
@@ -161,15 +159,15 @@ module _ (k : Known) (z : Cycle) (a : ℕ) (s : Shared) (rest : InHand) (g : Goo
 
   stores : StageFacts z a s rest w Store → Leads (ask.Store c (pointer_word w.pointer)) (at_stage w Ended)
   stores f = landing z a s (put s.words c (pointer_word w.pointer)) (λ t. Keeps z a s t × Hands a t (in_hand rest w.held None)) (λ t. Keeps z a s t × Facts z a t rest (at_stage w Ended))
-      (λ t went h. (h.0, record { layout_is = layout_is; is_cell = cell-kept k z a s t h.0 w.at is; known = known-kept k z a s t h.0 w.pointer known; stage_is = h.1 }))
+      (λ t went h. (h.0, record { is_cell = cell-kept k z a s t h.0 w.at is; known = known-kept k z a s t h.0 w.pointer known; stage_is = h.1 }))
       (puts w.at (pointer_word w.pointer) (in_hand rest w.held None) (behind k z a s rest w known f) f.2)
 
-  own-at : (p : WriteStage) → Facts z a s rest w → StageFacts z a s rest w p → Leads (asks_at w p) (goes_at w p (s.words (cell_of (asks_at w p))))
+  own-at : (p : WriteStage) → Facts z a s rest w → StageFacts z a s rest w p → Leads (asks_at w p) (goes_at z.arena.layout w p (s.words (cell_of (asks_at w p))))
   own-at LoadOld f x = loads x.0 x.1
   own-at (ShadeOld sh) f x = shades-old sh x.0 x.1 x.2 x.3
   own-at (ShadeNew sh) f x = shades-new sh x.0 x.1 x.2 x.3 x.4
   own-at Store f x = stores x
-  own-at Ended f x = still cell.Touch (at_stage w Ended) (record { layout_is = layout_is; is_cell = is; known = known; stage_is = x })
+  own-at Ended f x = still cell.Touch (at_stage w Ended) (record { is_cell = is; known = known; stage_is = x })
 
 module _ (k : Known) (z : Cycle) (a : ℕ) (s t : Shared) (rest : InHand) (w : Writing) (o : Others z a s t) (is : IsCell s w.at) where
   stage-lasts : (p : WriteStage) → StageFacts z a s rest w p → StageFacts z a t rest w p
@@ -184,8 +182,8 @@ pub record Same (w n : Writing) : Type 0 where
   pub at : n.at ≡ w.at
   pub pointer : n.pointer ≡ w.pointer
 
-pub same-at : (w : Writing) (p : WriteStage) (found : ℕ) → Same w (goes_at w p found)
-same-at w p found = grind arith
+pub same-at : (l : Layout) (w : Writing) (p : WriteStage) (found : ℕ) → Same w (goes_at l w p found)
+same-at l w p found = grind arith
 
 -- what it has in hand where it has ended
 ended-then : (z : Cycle) (a : ℕ) (s : Shared) (rest : InHand) (w : Writing) (p : WriteStage) → given_at p ≡ Some tt → StageFacts z a s rest w p → Hands a s (in_hand rest w.held None)
@@ -194,18 +192,17 @@ ended-then z a s rest w p e f = grind arith
 pub writes-by-moves : Known → WritesByMoves
 writes-by-moves k = record {
   keeps = record {
-    own_step = λ z a s rest w g objects f. own-at k z a s rest g objects w f.layout_is f.is_cell f.known w.stage f f.stage_is;
+    own_step = λ z a s rest w g objects f. own-at k z a s rest g objects w f.is_cell f.known w.stage f f.stage_is;
     lasts = λ z a s t rest w o f. record {
-      layout_is = f.layout_is;
       is_cell = cell-kept k z a s t o.keeps w.at f.is_cell;
       known = known-kept k z a s t o.keeps w.pointer f.known;
       stage_is = stage-lasts k z a s t rest w o f.is_cell w.stage f.stage_is;
     };
   };
-  begins = λ z a s rest at pointer held is known two x. record { layout_is = refl; is_cell = is; known = known; stage_is = (two, x) };
+  begins = λ z a s rest at pointer held is known two x. record { is_cell = is; known = known; stage_is = (two, x) };
   stores = λ z a s rest w e f. behind k z a s rest w f.known (subst (λ (p : WriteStage). StageFacts z a s rest w p) e f.stage_is);
   stores_by = λ z a s rest w e f. subst (λ (p : WriteStage). Steps z a s (asks_at w p) (λ t. t ≡ moved z a s (put_of w.at (pointer_word w.pointer)))) (sym e) (stores-by k z a s rest w.at (pointer_word w.pointer) (behind k z a s rest w f.known (subst (λ (p : WriteStage). StageFacts z a s rest w p) e f.stage_is)));
-  ends = λ z a s rest w found e f. ended-then z a s rest (goes w found) (goes w found).stage e f.stage_is;
-  same_cell = λ w found. (same-at w w.stage found).at;
-  same_pointer = λ w found. (same-at w w.stage found).pointer;
+  ends = λ z a s rest w found e f. ended-then z a s rest (goes z.arena.layout w found) (goes z.arena.layout w found).stage e f.stage_is;
+  same_cell = λ l w found. (same-at l w w.stage found).at;
+  same_pointer = λ l w found. (same-at l w w.stage found).pointer;
 }

@@ -1,5 +1,6 @@
 -- How many steps the writing of a pointer has left at the most, at each of its stages: also where it was begun without room.
 use Rattle.std.specs.Prelude.{◌≡◌, ℕ, ◌+◌, ◌≤◌, true}
+use Rattle.gh_base.specs.declared.layout.Layout.{Layout}
 use Rattle.gh_barrier.specs.declared.write_pointer.WriteStage.{WriteStage}
 use Rattle.gh_barrier.specs.declared.write_pointer.WriteStage.TheVariants.{LoadOld, ShadeOld, ShadeNew, Store, Ended}
 use Rattle.gh_barrier.specs.Listing.{goes, is_busy, Writing}
@@ -23,4 +24,4 @@ write_left Ended = 0
 pub record WritingEnds : Type 0 where
   pub some : (w : Writing) → is_busy w.stage ≡ true → 1 ≤ write_left w.stage
   -- each step leaves fewer
-  pub fewer : (w : Writing) (found : ℕ) → is_busy w.stage ≡ true → write_left (goes w found).stage + 1 ≤ write_left w.stage
+  pub fewer : (l : Layout) (w : Writing) (found : ℕ) → is_busy w.stage ≡ true → write_left (goes l w found).stage + 1 ≤ write_left w.stage

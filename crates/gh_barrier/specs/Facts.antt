@@ -2,6 +2,7 @@
 use Rattle.std.specs.Prelude.{◌≡◌, ℕ, ◌+◌, ◌≤◌, ◌⊎◌, true, Option, Some, None}
 use Rattle.gh_base.specs.declared.cell.Cell.{Cell}
 use Rattle.gh_base.specs.declared.held.Held.{Held}
+use Rattle.gh_base.specs.declared.layout.Layout.{Layout}
 use Rattle.gh_base.specs.Rows.{mark_words}
 use Rattle.gh_marks.specs.Colours.{Cycle, IsClean, IsPointer, Shared}
 use Rattle.gh_marks.specs.Moves.{BehindBarrier, Move, PutField, PutGlobal, Steps, moved}
@@ -53,9 +54,8 @@ StageFacts z a s rest w (ShadeNew sh) = HasPlace sh.held × IsClean (mark_words 
 StageFacts z a s rest w Store = IsClean (mark_words s.words) (s.words (cell_at w.at)) × IsClean (mark_words s.words) (pointer_word w.pointer) × Hands a s (in_hand rest w.held None)
 StageFacts z a s rest w Ended = Hands a s (in_hand rest w.held None)
 
--- it writes to a pointer cell of this heap, and what it writes is nil or an object of the cycle
+-- it writes to a pointer cell, and what it writes is nil or an object of the cycle
 pub record Facts (z : Cycle) (a : ℕ) (s : Shared) (rest : InHand) (w : Writing) : Type 0 where
-  pub layout_is : w.layout ≡ z.arena.layout
   pub is_cell : IsCell s w.at
   pub known : IsKnownPointer s w.pointer
   pub stage_is : StageFacts z a s rest w w.stage
@@ -63,7 +63,7 @@ pub record Facts (z : Cycle) (a : ℕ) (s : Shared) (rest : InHand) (w : Writing
 module _ (z : Cycle) (a : ℕ) (s : Shared) (rest : InHand) where
   -- the facts hold where it begins
   abbrev pub Begins : Type 0
-  Begins = (at : PointerCell) (pointer : Option ℕ) (held : Option Held) → IsCell s at → IsKnownPointer s pointer → HasTwo held → Hands a s (in_hand rest held None) → Facts z a s rest (opening z.arena.layout at pointer held)
+  Begins = (at : PointerCell) (pointer : Option ℕ) (held : Option Held) → IsCell s at → IsKnownPointer s pointer → HasTwo held → Hands a s (in_hand rest held None) → Facts z a s rest (opening at pointer held)
 
   -- where it stores, the value that it overwrites then and the one that it writes are marked, if they are not nil
   abbrev pub Stores : Type 0
@@ -75,7 +75,7 @@ module _ (z : Cycle) (a : ℕ) (s : Shared) (rest : InHand) where
 
   -- where it has ended, the seat has nothing more in hand by it than its buffer
   abbrev pub Ends : Type 0
-  Ends = (w : Writing) (found : ℕ) → gives w found ≡ Some tt → Facts z a s rest (goes w found) → Hands a s (in_hand rest (goes w found).held None)
+  Ends = (w : Writing) (found : ℕ) → gives z.arena.layout w found ≡ Some tt → Facts z a s rest (goes z.arena.layout w found) → Hands a s (in_hand rest (goes z.arena.layout w found).held None)
 
 pub record WritesByMoves : Type 0 where
   pub keeps : KeepsItsFacts listing Facts
@@ -84,5 +84,5 @@ pub record WritesByMoves : Type 0 where
   pub stores_by : (z : Cycle) (a : ℕ) (s : Shared) (rest : InHand) → StoresBy z a s rest
   pub ends : (z : Cycle) (a : ℕ) (s : Shared) (rest : InHand) → Ends z a s rest
   -- it writes the same pointer to the same cell all the time
-  pub same_cell : (w : Writing) (found : ℕ) → (goes w found).at ≡ w.at
-  pub same_pointer : (w : Writing) (found : ℕ) → (goes w found).pointer ≡ w.pointer
+  pub same_cell : (l : Layout) (w : Writing) (found : ℕ) → (goes l w found).at ≡ w.at
+  pub same_pointer : (l : Layout) (w : Writing) (found : ℕ) → (goes l w found).pointer ≡ w.pointer

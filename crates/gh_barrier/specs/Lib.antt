@@ -1,7 +1,6 @@
-pub mod Blind
 pub mod Ending
 pub mod Facts
+pub mod Giving
 pub mod Listing
 pub mod Sound
-pub mod Stays
 pub mod Within

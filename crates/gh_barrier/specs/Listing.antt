@@ -1,24 +1,21 @@
 -- The writing of a pointer behind the write barrier: what is asked for at each stage, where that leads, and what it has given.
-use Rattle.std.specs.Prelude.{ℕ, ◌+◌, ◌-◌, ◌*◌, ◌%◌, Bool, ◌==◌, if◌then◌else◌, Option, Some, None, is_none}
+use Rattle.std.specs.Prelude.{ℕ, ◌+◌, ◌-◌, ◌*◌, ◌%◌, Bool, true, ◌==◌, if◌then◌else◌, Option, Some, None, is_none}
 use Rattle.gh_base.specs.declared.cell.Ask.{Ask}
 use Rattle.gh_base.specs.declared.cell.Ask.TheVariants as ask
-use Rattle.gh_base.specs.declared.cell.Cell.{Cell}
 use Rattle.gh_base.specs.declared.cell.Cell.TheVariants as cell
 use Rattle.gh_base.specs.declared.held.Held.{Held}
 use Rattle.gh_base.specs.declared.layout.Layout.{Layout}
-use Rattle.gh_base.specs.Given.{listing_of}
-use Rattle.gh_base.specs.Routines.{Listing}
+use Rattle.gh_base.specs.Footprints.{Footprint}
+use Rattle.gh_base.specs.Footprints as row
+use Rattle.gh_base.specs.Machines.{Listing}
+pub use Rattle.gh_barrier.specs.Sound.{cell_at}
+use Rattle.gh_barrier.specs.Sound.{SoundWriting}
 use Rattle.gh_barrier.specs.declared.pointer_cell.PointerCell.{PointerCell}
-use Rattle.gh_barrier.specs.declared.pointer_cell.PointerCell.TheVariants.{Field, Global}
+use Rattle.gh_barrier.specs.declared.write_pointer.WritePointer.{WritePointer}
 use Rattle.gh_barrier.specs.declared.write_pointer.WriteStage.{WriteStage}
 use Rattle.gh_barrier.specs.declared.write_pointer.WriteStage.TheVariants.{LoadOld, ShadeOld, ShadeNew, Store, Ended}
 use Rattle.gh_shade.specs.declared.shade.Shaded.{Shaded}
 use Rattle.gh_shade.specs.Listing as shade
-
--- the cell of the pointer
-abbrev pub cell_at : PointerCell → Cell
-cell_at (Field x) = cell.Field x
-cell_at (Global i) = cell.Global i
 
 -- the word of a pointer: 0 is nil
 abbrev pub pointer_word : (pointer : Option ℕ) → ℕ
@@ -30,15 +27,11 @@ abbrev pub read_as : Layout → (found : ℕ) → Option ℕ
 read_as l found = if found == 0 then None else Some ((found - 1) % (1024 * l.pages) + 1)
 
 -- the writing of a pointer: the cell, what it is to hold, the buffer that is held between shadings, and its stage
-pub record Writing : Type 0 where
-  pub layout : Layout
-  pub at : PointerCell
-  pub pointer : Option ℕ
-  pub held : Option Held
-  pub stage : WriteStage
+abbrev pub Writing : Type 0
+Writing = WritePointer
 
-abbrev pub opening : Layout → PointerCell → (pointer : Option ℕ) → Option Held → Writing
-opening l at pointer held = record { layout = l; at = at; pointer = pointer; held = held; stage = LoadOld }
+abbrev pub opening : PointerCell → (pointer : Option ℕ) → Option Held → Writing
+opening at pointer held = record { at = at; pointer = pointer; held = held; stage = LoadOld }
 
 abbrev pub at_stage : Writing → WriteStage → Writing
 at_stage w stage = record w { stage = stage }
@@ -60,7 +53,7 @@ module _ (w : Writing) where
   -- the shading of what is named; nil needs none
   abbrev pub shades_new : (pointer : Option ℕ) → Writing
   shades_new None = at_stage w Store
-  shades_new (Some reference) = at_stage w (ShadeNew (shade.opening w.layout reference w.held))
+  shades_new (Some reference) = at_stage w (ShadeNew (shade.opening reference w.held))
 
 -- it is done with the old value
 abbrev pub behind_old : Writing → Writing
@@ -68,11 +61,11 @@ behind_old w = shades_new w w.pointer
 
 abbrev pub shades_old : Writing → (old : Option ℕ) → Writing
 shades_old w None = behind_old w
-shades_old w (Some reference) = at_stage w (ShadeOld (shade.opening w.layout reference w.held))
+shades_old w (Some reference) = at_stage w (ShadeOld (shade.opening reference w.held))
 
 -- the cell held this
-abbrev pub with_old : Writing → (found : ℕ) → Writing
-with_old w found = shades_old w (read_as w.layout found)
+abbrev pub with_old : Layout → Writing → (found : ℕ) → Writing
+with_old l w found = shades_old w (read_as l found)
 
 -- After a step of shading, by whether that ended. There is room for both objects, so neither waits for it.
 abbrev pub after_old : Writing → shade.Shading → Option Shaded → Writing
@@ -83,12 +76,12 @@ abbrev pub after_new : Writing → shade.Shading → Option Shaded → Writing
 after_new w sh None = at_stage w (ShadeNew sh)
 after_new w sh (Some out) = record w { held = sh.held; stage = Store }
 
-abbrev pub goes_at : Writing → WriteStage → ℕ → Writing
-goes_at w LoadOld found = with_old w found
-goes_at w (ShadeOld sh) found = after_old w (shade.goes sh found) (shade.gives sh found)
-goes_at w (ShadeNew sh) found = after_new w (shade.goes sh found) (shade.gives sh found)
-goes_at w Store found = at_stage w Ended
-goes_at w Ended found = at_stage w Ended
+abbrev pub goes_at : Layout → Writing → WriteStage → ℕ → Writing
+goes_at l w LoadOld found = with_old l w found
+goes_at l w (ShadeOld sh) found = after_old w (shade.goes sh found) (shade.gives sh found)
+goes_at l w (ShadeNew sh) found = after_new w (shade.goes sh found) (shade.gives sh found)
+goes_at l w Store found = at_stage w Ended
+goes_at l w Ended found = at_stage w Ended
 
 -- it has ended behind the store
 abbrev pub given_at : WriteStage → Option (Unit {0})
@@ -101,14 +94,20 @@ is_busy stage = is_none (given_at stage)
 abbrev pub asks : Writing → Ask
 asks w = asks_at w w.stage
 
-abbrev pub goes : Writing → ℕ → Writing
-goes w found = goes_at w w.stage found
+abbrev pub goes : Layout → Writing → ℕ → Writing
+goes l w found = goes_at l w w.stage found
 
 abbrev pub given : Writing → Option (Unit {0})
 given w = given_at w.stage
 
-abbrev pub gives : Writing → ℕ → Option (Unit {0})
-gives w found = given (goes w found)
+abbrev pub gives : Layout → Writing → ℕ → Option (Unit {0})
+gives l w found = given (goes l w found)
 
-abbrev pub listing : Listing Writing (Unit {0})
-listing = listing_of (λ w. w.layout) asks goes given
+-- its cell is a field or a global; the other rows are those of shading
+abbrev pub writes : Footprint
+writes row.Field = true
+writes row.Global = true
+writes r = shade.writes r
+
+abbrev pub listing : Layout → Listing Writing (Unit {0})
+listing l = record { asks = asks; goes = goes l; given = given; sound = SoundWriting l; writes = writes }

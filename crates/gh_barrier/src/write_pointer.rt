@@ -1,18 +1,15 @@
 //! The routine that writes a pointer behind the write barrier.
 
-ghost use Rattle.std.specs.Prelude.{◌≡◌, ◌≢◌, ◌↔◌, IsTrue, Option, true};
-ghost use Rattle.gh_base.specs.Cells.{InRange};
+ghost use Rattle.std.specs.Prelude.{◌≡◌, ◌↔◌, IsTrue, true};
+ghost use Rattle.gh_base.specs.declared.layout.Layout.{Layout};
 ghost use Rattle.gh_base.specs.Holding.{IsHeld};
-ghost use Rattle.gh_barrier.specs.Listing.{after_new, after_old, behind_old, cell_at, given, held_at, is_busy, opening, pointer_word, read_as, with_old};
-ghost use Rattle.gh_barrier.specs.Sound.{FitsPointer, HasTwo};
+ghost use Rattle.gh_barrier.specs.Listing.{after_new, after_old, behind_old, given, held_at, is_busy, opening, pointer_word, read_as, with_old};
+ghost use Rattle.gh_barrier.specs.Sound.{FitsPointer, HasTwo, SoundWriting};
 ghost use Rattle.gh_barrier.specs.declared.write_pointer.WriteStage.TheVariants.{Store};
-ghost use Rattle.gh_shade.specs.Listing as shading;
-ghost use Rattle.gh_shade.specs.Sound.{HasPlace};
 
 use crate::pointer_cell::PointerCell;
-use gh_base::{Ask, Cell, ENTRIES, Held, Layout, Machine, Req};
+use gh_base::{Ask, Cell, ENTRIES, Held, Layout, Req, Routine};
 use gh_shade::{Shade, Shaded};
-use std::marker::Model;
 
 /// The stages of the writing of a pointer.
 #[derive(Clone, Copy, Debug, PartialEq, Eq)]
@@ -32,28 +29,18 @@ pub enum WriteStage {
 /// Writes a pointer while marking is on (proposal 17503's `writePointer`; Go's write barrier, mbarrier.go).
 ///
 /// It loads what the cell holds, shades the object that is named there, if one is, and then that of the new value,
-/// if it is not nil. Its last step stores the new value: with that step the store acts. It waits for nobody: the
-/// held buffer has room for both objects from the begin.
+/// if it is not nil. Its last step stores the new value: with that step the store acts. It waits for nobody: it is to
+/// be begun with a held buffer that has room for both objects.
 #[derive(Clone, Copy, Debug, PartialEq, Eq)]
 pub struct WritePointer {
-    layout: Layout,
-    at: PointerCell,
-    pointer: Option<u64>,
-    held: Option<Held>,
-    stage: WriteStage,
-}
-
-impl Model for WritePointer {
-    ghost use Rattle.gh_barrier.specs.Listing.{Writing};
-    ghost use Rattle.gh_barrier.specs.Sound.{SoundWriting};
-
-    ghost Value = { Writing };
-
-    ghost view = { λ s. record { layout = s.layout; at = s.at; pointer = s.pointer; held = s.held; stage = s.stage } };
-
-    ghost invariant = { λ s. SoundWriting (record { layout = s.layout; at = s.at; pointer = s.pointer; held = s.held; stage = s.stage }) };
-
-    ghost inverse = { λ s. record { layout = s.layout; at = s.at; pointer = s.pointer; held = s.held; stage = s.stage } };
+    /// The cell.
+    pub at: PointerCell,
+    /// What the cell is to hold.
+    pub pointer: Option<u64>,
+    /// The buffer that is held between shadings, if any.
+    pub held: Option<Held>,
+    /// Its stage.
+    pub stage: WriteStage,
 }
 
 /// A buffer is held, and two entries go into it: what a write is begun with.
@@ -80,22 +67,12 @@ fn read_as(layout: &Layout, found: u64) -> Option<u64>
 
 impl WritePointer {
     /// Writes a pointer to this cell: the reference of an object, the index of its first heap word plus 1, or nil.
-    /// This buffer is held, with room for two entries.
-    pub fn new(
-        layout: &Layout,
-        at: PointerCell,
-        pointer: Option<u64>,
-        held: Option<Held>,
-    ) -> WritePointer
-        requires cell { InRange layout.now (cell_at at) }
-        requires pointer { FitsPointer layout.now pointer }
-        requires held { IsHeld layout.now held }
-        requires room { HasTwo held }
-        ensures opening { result ≡ opening layout.now at pointer held }
+    /// This buffer is held, which is to have room for two entries.
+    pub fn new(at: PointerCell, pointer: Option<u64>, held: Option<Held>) -> WritePointer
+        ensures opening { result ≡ opening at pointer held }
         ensures begun { is_busy result.stage ≡ true }
     {
         WritePointer {
-            layout: *layout,
             at,
             pointer,
             held,
@@ -106,11 +83,11 @@ impl WritePointer {
     /// The buffer that is held now.
     pub fn held(&self) -> Option<Held>
         ensures is { result ≡ held_at self.now.held self.now.stage }
-        ensures fits { IsHeld self.now.layout result }
+        ensures fits { (l : Layout) → SoundWriting l self.now → IsHeld l result }
     {
         match &self.stage {
-            WriteStage::ShadeOld(shade) => shade.held(),
-            WriteStage::ShadeNew(shade) => shade.held(),
+            WriteStage::ShadeOld(shade) => shade.held,
+            WriteStage::ShadeNew(shade) => shade.held,
             WriteStage::LoadOld | WriteStage::Store | WriteStage::Ended => self.held,
         }
     }
@@ -133,15 +110,13 @@ impl WritePointer {
     }
 
     /// Goes on by what the cell held: nil, or a reference.
-    fn read_old(&mut self, found: u64)
-        requires { HasTwo self.old.held }
-        ensures { self.new ≡ with_old self.old found }
+    fn read_old(&mut self, layout: &Layout, found: u64)
+        ensures { self.new ≡ with_old layout.now self.old found }
     {
-        match read_as(&self.layout, found) {
+        match read_as(layout, found) {
             None => self.shade_new(self.held),
             Some(reference) => {
-                let shade = Shade::new(&self.layout, reference, self.held);
-                self.stage = WriteStage::ShadeOld(shade);
+                self.stage = WriteStage::ShadeOld(Shade::new(reference, self.held));
             }
         }
     }
@@ -149,50 +124,34 @@ impl WritePointer {
     /// Goes on behind the old value, with this buffer held: the new one is shaded, if it is not nil, and else
     /// stored.
     fn shade_new(&mut self, held: Option<Held>)
-        requires fits { IsHeld self.old.layout held }
-        requires place { HasPlace held }
         ensures { self.new ≡ behind_old (record self.old { held = held }) }
     {
-        let stage = match self.pointer {
+        self.held = held;
+        self.stage = match self.pointer {
             None => WriteStage::Store,
-            Some(reference) => WriteStage::ShadeNew(Shade::new(&self.layout, reference, held)),
-        };
-        *self = WritePointer {
-            held,
-            stage,
-            ..*self
+            Some(reference) => WriteStage::ShadeNew(Shade::new(reference, held)),
         };
     }
 
     /// Goes on after a step of this shading of the old value.
     fn after_old(&mut self, shade: &Shade, out: Option<Shaded>)
-        requires layout { shade.now.layout ≡ self.old.layout }
-        requires busy { out ≡ Option.None → shading.is_busy shade.now.stage ≡ true }
-        requires two { out ≡ Option.None → HasTwo shade.now.held }
-        requires place { out ≢ Option.None → HasPlace shade.now.held }
         ensures { self.new ≡ after_old self.old shade.now out }
     {
         match out {
             None => self.stage = WriteStage::ShadeOld(*shade),
-            Some(_) => self.shade_new(shade.held()),
+            Some(_) => self.shade_new(shade.held),
         }
     }
 
     /// Goes on after a step of this shading of the new value.
     fn after_new(&mut self, shade: &Shade, out: Option<Shaded>)
-        requires layout { shade.now.layout ≡ self.old.layout }
-        requires busy { out ≡ Option.None → shading.is_busy shade.now.stage ≡ true }
-        requires place { out ≡ Option.None → HasPlace shade.now.held }
         ensures { self.new ≡ after_new self.old shade.now out }
     {
         match out {
             None => self.stage = WriteStage::ShadeNew(*shade),
             Some(_) => {
-                *self = WritePointer {
-                    held: shade.held(),
-                    stage: WriteStage::Store,
-                    ..*self
-                };
+                self.held = shade.held;
+                self.stage = WriteStage::Store;
             }
         }
     }
@@ -208,45 +167,34 @@ impl WritePointer {
     }
 }
 
-impl Machine for WritePointer {
-    ghost use Rattle.gh_base.specs.Given.{is_over};
+impl Routine for WritePointer {
     ghost use Rattle.gh_barrier.specs.Listing.{listing};
-    ghost use Rattle.gh_barrier.specs.Stays.{stays};
 
     type Out = ();
 
-    ghost layout = { listing.layout };
+    ghost listing = { listing };
 
-    ghost busy = { listing.busy };
-
-    ghost asks = { listing.asks };
-
-    ghost goes = { listing.goes };
-
-    ghost gives = { listing.gives };
-
-    fn next(&self) -> Req {
-        let ask = match &self.stage {
-            WriteStage::LoadOld => Ask::Load(self.at.cell()),
-            WriteStage::ShadeOld(shade) => return shade.next(),
-            WriteStage::ShadeNew(shade) => return shade.next(),
-            WriteStage::Store => Ask::Store(self.at.cell(), self.word()),
-            WriteStage::Ended => Ask::Load(Cell::Touch),
-        };
-        self.layout.request(ask)
+    fn next(&self, layout: &Layout) -> Req {
+        match &self.stage {
+            WriteStage::LoadOld => layout.request(Ask::Load(self.at.cell())),
+            WriteStage::ShadeOld(shade) => shade.next(layout),
+            WriteStage::ShadeNew(shade) => shade.next(layout),
+            WriteStage::Store => layout.request(Ask::Store(self.at.cell(), self.word())),
+            WriteStage::Ended => layout.request(Ask::Load(Cell::Touch)),
+        }
     }
 
-    fn take(&mut self, found: u64) -> Option<()> {
+    fn take(&mut self, layout: &Layout, found: u64) -> Option<()> {
         match &self.stage {
-            WriteStage::LoadOld => self.read_old(found),
+            WriteStage::LoadOld => self.read_old(layout, found),
             WriteStage::ShadeOld(shade) => {
                 let mut shade = *shade;
-                let out = shade.take(found);
+                let out = shade.take(layout, found);
                 self.after_old(&shade, out);
             }
             WriteStage::ShadeNew(shade) => {
                 let mut shade = *shade;
-                let out = shade.take(found);
+                let out = shade.take(layout, found);
                 self.after_new(&shade, out);
             }
             WriteStage::Store => self.stage = WriteStage::Ended,
@@ -254,8 +202,4 @@ impl Machine for WritePointer {
         }
         self.given()
     }
-
-    ghost ends = { λ m found busy. is_over (listing.gives m found) };
-
-    ghost stays = { stays };
 }

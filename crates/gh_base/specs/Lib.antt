@@ -1,9 +1,11 @@
 pub mod Blind
 pub mod Cells
+pub mod Footprints
 pub mod Given
 pub mod Holding
 pub mod Limits
 pub mod Lists
+pub mod Machines
 pub mod Orders
 pub mod Packing
 pub mod Reading

@@ -3,6 +3,7 @@
 ghost use Rattle.std.specs.Prelude.{◌≡◌, List, ℕ};
 ghost use Rattle.gh_base.specs.declared.machine.Entry.{Entry};
 ghost use Rattle.gh_base.specs.Cells.{WordsAreApart, WordsAreBelow};
+ghost use Rattle.gh_base.specs.Footprints.{FootprintsHold};
 ghost use Rattle.gh_base.specs.Holding.{BuffersAreHeld};
 ghost use Rattle.gh_base.specs.Lists.{by, Kind, Setting, state_of};
 ghost use Rattle.gh_base.specs.Packing.{PackedWordsAreReadBack};
@@ -61,4 +62,9 @@ pub fn cells_are_told()
 /// holds.
 pub fn buffers_are_held()
     ensures { BuffersAreHeld }
+{}
+
+/// What a routine writes is among more rows, and it leaves every word of another row as it was.
+pub fn footprints_hold()
+    ensures { FootprintsHold }
 {}

@@ -21,6 +21,7 @@ pub mod limits;
 mod machine;
 mod operation;
 mod pack;
+mod routine;
 mod shape;
 pub mod trace;
 mod value;
@@ -34,5 +35,6 @@ pub use operation::Op;
 pub use pack::{
     BufferWord, END, ENTRIES, GONE, PageWord, Phase, PhaseWord, SpanBody, SpanHead, TallyWord,
 };
+pub use routine::Routine;
 pub use shape::{Bits, Shape, Shapes};
 pub use value::{Answer, Fault, Name, Value};

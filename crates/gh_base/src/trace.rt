@@ -6,10 +6,12 @@
 //! lock from 0 to 1 that found 0.
 
 ghost use Rattle.std.specs.Prelude.{◌≡◌, true};
+ghost use Rattle.gh_base.specs.Machines.{IsBusy};
 
 use crate::cell::Req;
 use crate::layout::Layout;
 use crate::machine::Machine;
+use crate::routine::Routine;
 use std::alloc::{AllocError, Global};
 
 /// What a run of a machine was.
@@ -119,6 +121,32 @@ pub fn run_alone<M: Machine>(
         let found = step(words, request);
         lines.push(line(alloc, layout, request, found)?)?;
         if let Some(out) = machine.take(found) {
+            return Ok(Steps {
+                lines,
+                out: Some(out),
+            });
+        }
+    }
+    Ok(Steps { lines, out: None })
+}
+
+/// Runs the routine alone over the words until it has given something, and for `most` steps at the most.
+pub fn run_routine_alone<R: Routine>(
+    alloc: Global,
+    routine: &mut R,
+    layout: &Layout,
+    words: &mut Vec<u64>,
+    most: u32,
+) -> Result<Steps<R::Out>, AllocError>
+    requires sound { (R.listing layout.now).sound routine.old }
+    requires busy { IsBusy (R.listing layout.now) routine.old }
+{
+    let mut lines = Vec::new(alloc);
+    for _ in 0..most {
+        let request = routine.next(layout);
+        let found = step(words, request);
+        lines.push(line(alloc, layout, request, found)?)?;
+        if let Some(out) = routine.take(layout, found) {
             return Ok(Steps {
                 lines,
                 out: Some(out),

@@ -8,7 +8,7 @@ use Rattle.gh_heap.specs.Moves.{KeepsOthers, Others, SetBits, Steps, moved}
 use Rattle.gh_heap.specs.Rights.{Arena, Claims, Good, Right, Shared, View, view}
 use Rattle.gh_heap.specs.Spans.{Laying}
 use Rattle.gh_bitmap.specs.Facts.{ClearIn, Comes, Facts, FactsAt, Lasts, Opens, OwnStep, SetsByItsRights, ToldBelow, Within}
-use Rattle.gh_bitmap.proofs.Vocabulary.{asks, at_stage, bit, bitmap_words, cell_of, Clear, EachStepIsOnItsBits, Ended, FitsSlot, given_at, gives, goes, InRange, is_pointer, IsHere, Layout, next_stage, pointer_bits, PointerSetting, put, Row, row_bit, Set, SetStage, slot_bits, StepsOn, Touches, word_at}
+use Rattle.gh_bitmap.proofs.Vocabulary.{asks, at_stage, bit, bitmap_words, cell_of, Clear, EachStepIsOnItsBits, Ended, FitsSlot, given, given_at, goes, is_pointer, IsHere, next_stage, pointer_bits, PointerSetting, put, Row, row_bit, Set, SetStage, slot_bits, StepsOn, Touches, word_at}
 
 pub record Known : Type 0 where
   pub last : EachFactLasts
@@ -17,8 +17,7 @@ pub record Known : Type 0 where
   pub bits : EachStepIsOnItsBits
 
 opens : Opens
-opens z a v s layout shape claim some stage = record {
-  layout = layout;
+opens z a v s shape claim some stage = record {
   shape = shape;
   some = some;
   claim = claim;
@@ -34,7 +33,7 @@ stage-lasts z a v w s (Set i) o claim x = (x.0, told-lasts z a v w s (64 * i) o 
 stage-lasts z a v w s Ended o claim x = x
 
 lasts : Known → Lasts
-lasts k z a v w s o x = record { layout = x.layout; shape = x.shape; some = x.some; claim = (k.last z a v w o).claim s.at s.slot x.claim; stage = stage-lasts z a v w s s.stage o x.claim x.stage }
+lasts k z a v w s o x = record { shape = x.shape; some = x.some; claim = (k.last z a v w o).claim s.at s.slot x.claim; stage = stage-lasts z a v w s s.stage o x.claim x.stage }
 
 -- heap words outside of the slot, and in a word before
 not-here : (s : PointerSetting) (i x : ℕ) → (x < s.at) ⊎ (s.at + s.slot ≤ x) → IsHere s i x → ⊥
@@ -62,43 +61,42 @@ module _ (k : Known) (z : Arena) (a : ℕ) (s : Shared) (l : Bool) (held : ℕ �
 
   -- once the word has this
   abbrev then_at : (i word : ℕ) → Shared
-  then_at i word = moved z a s (SetBits m.at m.slot (word_at m i) word)
+  then_at i word = moved z a s (SetBits m.at m.slot (word_at z.layout i) word)
 
   -- how it goes on behind word i
-  goes-on : (i word : ℕ) → m.layout ≡ z.layout → FitsSlot m.shape m.slot → 0 < m.slot → Claims z now a m.at m.slot → m.at / 64 ≤ i → ToldBelow m (view (then_at i word)).bitmap (64 * (i + 1)) →
+  goes-on : (i word : ℕ) → FitsSlot m.shape m.slot → 0 < m.slot → Claims z now a m.at m.slot → m.at / 64 ≤ i → ToldBelow m (view (then_at i word)).bitmap (64 * (i + 1)) →
       (b : Bool) → ltb (64 * (i + 1)) (m.at + m.slot) ≡ b → Comes z a (view (then_at i word)) (given_at (cond b (Clear (i + 1)) Ended)) (at_stage m (cond b (Clear (i + 1)) Ended))
-  goes-on i word layout shape some claim begins told true t = record {
-    layout = layout;
+  goes-on i word shape some claim begins told true t = record {
     shape = shape;
     some = some;
     claim = claim;
     stage = (record { begins = omega arith; ends = ltb-true (64 * (i + 1)) (m.at + m.slot) t }, told);
   }
-  goes-on i word layout shape some claim begins told false t = (claim, λ j few low. told j few (omega (arith, ltb-false (64 * (i + 1)) (m.at + m.slot) t)))
+  goes-on i word shape some claim begins told false t = (claim, λ j few low. told j few (omega (arith, ltb-false (64 * (i + 1)) (m.at + m.slot) t)))
 
   -- no bit of another slot is changed
-  keeps : (i word : ℕ) → ((x : ℕ) → (IsHere m i x → ⊥) → row_bit (bitmap_words (put s.words (cell.Bitmap (word_at m i)) word)) x ≡ row_bit now.bitmap x) → KeepsOthers now.bitmap m.at m.slot (word_at m i) word
+  keeps : (i word : ℕ) → ((x : ℕ) → (IsHere m i x → ⊥) → row_bit (bitmap_words (put s.words (cell.Bitmap (word_at z.layout i)) word)) x ≡ row_bit now.bitmap x) → KeepsOthers now.bitmap m.at m.slot (word_at z.layout i) word
   unfolding row_bit
-  keeps i word others x at out = sym (ap (λ (b : Bool). bit_at (cond b word (s.words (cell.Bitmap (x / 64)))) (x % 64)) (ap (λ (n : ℕ). eqb (word_at m i) n) at ∙ eq-eqb (word_at m i) (word_at m i) refl)) ∙ others x (not-here m i x out)
+  keeps i word others x at out = sym (ap (λ (b : Bool). bit_at (cond b word (s.words (cell.Bitmap (x / 64)))) (x % 64)) (ap (λ (n : ℕ). eqb (word_at z.layout i) n) at ∙ eq-eqb (word_at z.layout i) (word_at z.layout i) refl)) ∙ others x (not-here m i x out)
 
-  on-bits : (i : ℕ) → Good z now → m.layout ≡ z.layout → FitsSlot m.shape m.slot → 0 < m.slot → Claims z now a m.at m.slot → Touches m.at m.slot i → StepsOn m i s.words
-  on-bits i g layout shape some claim touches =
+  on-bits : (i : ℕ) → Good z now → FitsSlot m.shape m.slot → 0 < m.slot → Claims z now a m.at m.slot → Touches m.at m.slot i → StepsOn z.layout m i s.words
+  on-bits i g shape some claim touches =
       let inside = (k.apart z now g).inside claim.p claim.i m.at m.slot (m.slot - 1) claim.h claim.slot (omega arith) in
-      k.bits m i s.words (rw (layout) (omega (arith, inside.1, claim.slot.span.within, some))) shape touches
+      k.bits z.layout m i s.words (omega (arith, inside.1, claim.slot.span.within, some)) shape touches
 
   own-at : (q : SetStage) → Good z now → Right a now l held y → Facts z a now (at_stage m q) →
-      Steps z a s (asks (at_stage m q)) (λ t. (view t ≡ record now { bitmap = (view t).bitmap }) × Right a (view t) l held y × Comes z a (view t) (gives (at_stage m q) (s.words (cell_of (asks (at_stage m q))))) (goes (at_stage m q) (s.words (cell_of (asks (at_stage m q))))))
+      Steps z a s (asks z.layout (at_stage m q)) (λ t. (view t ≡ record now { bitmap = (view t).bitmap }) × Right a (view t) l held y × Comes z a (view t) (given (goes (at_stage m q) (s.words (cell_of (asks z.layout (at_stage m q)))))) (goes (at_stage m q) (s.words (cell_of (asks z.layout (at_stage m q))))))
   own-at (Clear i) g right x = record {
-    move = SetBits m.at m.slot (word_at m i) word;
+    move = SetBits m.at m.slot (word_at z.layout i) word;
     may = (x.claim, keeps i word law.clears.others);
     words_are = refl;
-    after = (refl, (k.follow z a s l held y right).pointed m.at m.slot (word_at m i) word, go (eqb (pointer_bits m.shape m.at i) 0) refl);
+    after = (refl, (k.follow z a s l held y right).pointed m.at m.slot (word_at z.layout i) word, go (eqb (pointer_bits m.shape m.at i) 0) refl);
   } where
     word : ℕ
-    word = bit_and (s.words (cell.Bitmap (word_at m i))) (2 ^ 64 - 1 - slot_bits m.at m.slot i)
+    word = bit_and (s.words (cell.Bitmap (word_at z.layout i))) (2 ^ 64 - 1 - slot_bits m.at m.slot i)
 
-    law : StepsOn m i s.words
-    law = on-bits i g x.layout x.shape x.some x.claim x.stage.0
+    law : StepsOn z.layout m i s.words
+    law = on-bits i g x.shape x.some x.claim x.stage.0
 
     told : ToldBelow m (view (then_at i word)).bitmap (64 * i)
     told j few low = law.clears.others (m.at + j) (not-yet m i (m.at + j) low) ∙ x.stage.1 j few low
@@ -110,19 +108,19 @@ module _ (k : Known) (z : Arena) (a : ℕ) (s : Shared) (l : Bool) (held : ℕ �
     none e j few at = bare j few at ∙ sym (ap bit (law.none e (m.at + j) (is-here m i j few at)))
 
     go : (b : Bool) → eqb (pointer_bits m.shape m.at i) 0 ≡ b → Comes z a (view (then_at i word)) (given_at (cond b (next_stage m i) (Set i))) (at_stage m (cond b (next_stage m i) (Set i)))
-    go true t = goes-on i word x.layout x.shape x.some x.claim x.stage.0.begins (told-more m (view (then_at i word)).bitmap i told (none (eqb-true (pointer_bits m.shape m.at i) 0 t))) (ltb (64 * (i + 1)) (m.at + m.slot)) refl
-    go false t = record { layout = x.layout; shape = x.shape; some = x.some; claim = x.claim; stage = (x.stage.0, told, bare) }
+    go true t = goes-on i word x.shape x.some x.claim x.stage.0.begins (told-more m (view (then_at i word)).bitmap i told (none (eqb-true (pointer_bits m.shape m.at i) 0 t))) (ltb (64 * (i + 1)) (m.at + m.slot)) refl
+    go false t = record { shape = x.shape; some = x.some; claim = x.claim; stage = (x.stage.0, told, bare) }
   own-at (Set i) g right x = record {
-    move = SetBits m.at m.slot (word_at m i) word;
+    move = SetBits m.at m.slot (word_at z.layout i) word;
     may = (x.claim, keeps i word law.sets.others);
     words_are = refl;
-    after = (refl, (k.follow z a s l held y right).pointed m.at m.slot (word_at m i) word, goes-on i word x.layout x.shape x.some x.claim x.stage.0.begins (told-more m (view (then_at i word)).bitmap i told here) (ltb (64 * (i + 1)) (m.at + m.slot)) refl);
+    after = (refl, (k.follow z a s l held y right).pointed m.at m.slot (word_at z.layout i) word, goes-on i word x.shape x.some x.claim x.stage.0.begins (told-more m (view (then_at i word)).bitmap i told here) (ltb (64 * (i + 1)) (m.at + m.slot)) refl);
   } where
     word : ℕ
-    word = bit_or (s.words (cell.Bitmap (word_at m i))) (pointer_bits m.shape m.at i)
+    word = bit_or (s.words (cell.Bitmap (word_at z.layout i))) (pointer_bits m.shape m.at i)
 
-    law : StepsOn m i s.words
-    law = on-bits i g x.layout x.shape x.some x.claim x.stage.0
+    law : StepsOn z.layout m i s.words
+    law = on-bits i g x.shape x.some x.claim x.stage.0
 
     told : ToldBelow m (view (then_at i word)).bitmap (64 * i)
     told j few low = law.sets.others (m.at + j) (not-yet m i (m.at + j) low) ∙ x.stage.1 j few low
@@ -134,18 +132,8 @@ module _ (k : Known) (z : Arena) (a : ℕ) (s : Shared) (l : Bool) (held : ℕ �
 own : Known → OwnStep
 own k z a s l held y m g right x = own-at k z a s l held y m m.stage g right x
 
--- Its words.
-
-within-at : (z : Arena) (m : PointerSetting) (bitmap : Row) (q : SetStage) → ((i : ℕ) → word_at m i < 16 * z.layout.pages) → FactsAt m bitmap q → InRange z.layout (cell_of (asks (at_stage m q)))
-within-at z m bitmap q there x = grind arith
-
 within : Within
-within z a v m x = within-at z m v.bitmap m.stage there x.stage where
-  arena : m.layout.pages ≡ z.layout.pages
-  arena = ap (λ (l : Layout). l.pages) x.layout
-
-  there : (i : ℕ) → word_at m i < 16 * z.layout.pages
-  there i = let some : 0 < 16 * m.layout.pages = omega (arith, m.layout.limits.pages_fit.0) in omega (arith, mod-lt i some, arena)
+within z a v m x = let fit = z.layout.limits.pages_fit.0 in grind (arith, mod-lt)
 
 pub sets_by_its_rights : Known → SetsByItsRights
 sets_by_its_rights k = record { opens = opens; own_step = own k; within = within; lasts = lasts k }

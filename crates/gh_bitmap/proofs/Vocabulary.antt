@@ -7,7 +7,7 @@ pub use Rattle.gh_base.specs.Shapes.{is_pointer}
 pub use Rattle.gh_base.specs.Steps.{cell_of, effect}
 pub use Rattle.gh_base.specs.declared.layout.Layout.{Layout}
 pub use Rattle.gh_bitmap.specs.Bits.{pointer_bits, slot_bits}
-pub use Rattle.gh_bitmap.specs.SetPointers.{asks, asks_at, at_stage, given_at, gives, goes, is_busy, listing, next_stage, opening, PointerSetting, word_at}
+pub use Rattle.gh_bitmap.specs.SetPointers.{asks, asks_at, at_stage, given, given_at, goes, goes_at, listing, next_stage, opening, PointerSetting, word_at, writes}
 pub use Rattle.gh_bitmap.specs.Sound.{Touches}
 pub use Rattle.gh_bitmap.specs.Stepping.{EachStepIsOnItsBits, FitsSlot, IsHere, StepsOn}
 pub use Rattle.gh_bitmap.specs.declared.set_pointers.SetStage.{SetStage}

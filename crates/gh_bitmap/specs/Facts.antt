@@ -10,7 +10,7 @@ use Rattle.gh_heap.specs.Rights.{Arena, Claims, Good, Right, Shared, View, view}
 use Rattle.gh_heap.specs.Spans.{Laying}
 use Rattle.gh_bitmap.specs.declared.set_pointers.SetStage.{SetStage}
 use Rattle.gh_bitmap.specs.declared.set_pointers.SetStage.TheVariants.{Clear, Set, Ended}
-use Rattle.gh_bitmap.specs.SetPointers.{PointerSetting, asks, gives, goes}
+use Rattle.gh_bitmap.specs.SetPointers.{PointerSetting, asks, given, goes}
 use Rattle.gh_bitmap.specs.Sound.{Touches}
 use Rattle.gh_bitmap.specs.Stepping.{FitsSlot}
 
@@ -28,7 +28,6 @@ FactsAt s bitmap (Set i) = Touches s.at s.slot i × ToldBelow s bitmap (64 * i) 
 FactsAt s bitmap Ended = ⊥
 
 pub record Facts (z : Arena) (a : ℕ) (v : View) (s : PointerSetting) : Type 0 where
-  pub layout : s.layout ≡ z.layout
   pub shape : FitsSlot s.shape s.slot
   pub some : 0 < s.slot
   pub claim : Claims z v a s.at s.slot
@@ -40,16 +39,16 @@ Comes z a w None s = Facts z a w s
 Comes z a w (Some _) s = Claims z w a s.at s.slot × ToldBelow s w.bitmap (s.at + s.slot)
 
 abbrev pub Opens : Type 0
-Opens = (z : Arena) (a : ℕ) (v : View) (s : PointerSetting) → s.layout ≡ z.layout → FitsSlot s.shape s.slot → Claims z v a s.at s.slot → 0 < s.slot → s.stage ≡ Clear (s.at / 64) → Facts z a v s
+Opens = (z : Arena) (a : ℕ) (v : View) (s : PointerSetting) → FitsSlot s.shape s.slot → Claims z v a s.at s.slot → 0 < s.slot → s.stage ≡ Clear (s.at / 64) → Facts z a v s
 
 -- A step of its own; it needs no lock, and of the rows it writes the bitmap alone.
 abbrev pub OwnStep : Type 0
 OwnStep = (z : Arena) (a : ℕ) (s : Shared) (l : Bool) (held : ℕ → Bool) (y : Option Laying) (m : PointerSetting) → Good z (view s) → Right a (view s) l held y → Facts z a (view s) m →
-    Steps z a s (asks m) (λ t. (view t ≡ record (view s) { bitmap = (view t).bitmap }) × Right a (view t) l held y × Comes z a (view t) (gives m (s.words (cell_of (asks m)))) (goes m (s.words (cell_of (asks m)))))
+    Steps z a s (asks z.layout m) (λ t. (view t ≡ record (view s) { bitmap = (view t).bitmap }) × Right a (view t) l held y × Comes z a (view t) (given (goes m (s.words (cell_of (asks z.layout m))))) (goes m (s.words (cell_of (asks z.layout m)))))
 
 -- it is on a word that there is
 abbrev pub Within : Type 0
-Within = (z : Arena) (a : ℕ) (v : View) (m : PointerSetting) → Facts z a v m → InRange z.layout (cell_of (asks m))
+Within = (z : Arena) (a : ℕ) (v : View) (m : PointerSetting) → Facts z a v m → InRange z.layout (cell_of (asks z.layout m))
 
 -- the steps of others
 abbrev pub Lasts : Type 0

@@ -1,5 +1,4 @@
 pub mod Bits
-pub mod Blind
 pub mod Facts
 pub mod Pointers
 pub mod ReadPointer

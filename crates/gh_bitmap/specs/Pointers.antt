@@ -7,6 +7,7 @@ use Rattle.gh_base.specs.declared.layout.Layout.{Layout}
 use Rattle.gh_base.specs.declared.shape.Shape.{Shape}
 use Rattle.gh_base.specs.Cells.{Words}
 use Rattle.gh_base.specs.Packing.{bit}
+use Rattle.gh_base.specs.Machines.{steps_of}
 use Rattle.gh_base.specs.Routines.{Leaves}
 use Rattle.gh_base.specs.Rows.{pointer_bit}
 use Rattle.gh_base.specs.Shapes.{is_pointer}
@@ -26,12 +27,12 @@ pub record AreSet (shape : Shape) (at slot : ℕ) (before after : Words) : Type 
 
 abbrev pub PointersAreSet : Type 0
 PointersAreSet = (l : Layout) (shape : Shape) (at slot : ℕ) (words : Words) → 1 ≤ slot → at + slot ≤ 1024 * l.pages → FitsSlot shape slot →
-    Leaves setting.listing (record { routine = setting.opening l shape at slot; words = words }) (AreSet shape at slot words)
+    Leaves (steps_of l (setting.listing l)) (record { routine = setting.opening shape at slot; words = words }) (AreSet shape at slot words)
 
 -- the routine that reads loads the word that has the bit, and ends with that bit
 pub record ReadsBit (l : Layout) (at : ℕ) (words : Words) : Type 0 where
-  pub loads : reading.asks (reading.opening l at) ≡ Load (Bitmap (at / 64))
-  pub gives : reading.gives (reading.opening l at) (words (cell_of (reading.asks (reading.opening l at)))) ≡ Some (pointer_bit words at == 1)
+  pub loads : reading.asks l (reading.opening at) ≡ Load (Bitmap (at / 64))
+  pub gives : reading.given (reading.goes (reading.opening at) (words (cell_of (reading.asks l (reading.opening at))))) ≡ Some (pointer_bit words at == 1)
 
 abbrev pub BitsAreRead : Type 0
 BitsAreRead = (l : Layout) (at : ℕ) (words : Words) → at < 1024 * l.pages → ReadsBit l at words

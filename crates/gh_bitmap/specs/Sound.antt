@@ -1,8 +1,16 @@
 -- What the routine that sets pointer bits knows of its own numbers, whatever it is told.
 use Rattle.std.specs.Prelude.{ℕ, ◌+◌, ◌*◌, ◌/◌, ◌<◌, ◌≤◌}
+use Rattle.gh_base.specs.declared.layout.Layout.{Layout}
+use Rattle.gh_base.specs.declared.shape.Shape.{Shape}
 use Rattle.gh_bitmap.specs.declared.set_pointers.SetStage.{SetStage}
 use Rattle.gh_bitmap.specs.declared.set_pointers.SetStage.TheVariants.{Clear, Set, Ended}
-use Rattle.gh_bitmap.specs.SetPointers.{PointerSetting}
+
+-- a routine that sets pointer bits: of which shape, for the slot at which heap word and of how many words, and its stage
+pub record PointerSetting : Type 0 where
+  pub shape : Shape
+  pub at : ℕ
+  pub slot : ℕ
+  pub stage : SetStage
 
 -- word i of the bitmap has bits of a slot of one word at least
 pub record Touches (at slot i : ℕ) : Type 0 where
@@ -15,7 +23,7 @@ IsStage at slot (Set i) = Touches at slot i
 IsStage at slot Ended = Unit {0}
 
 -- the slot has a word and lies in the arena, and the word that the routine is at has bits of it
-pub record Sound (s : PointerSetting) : Type 0 where
+pub record Sound (l : Layout) (s : PointerSetting) : Type 0 where
   pub some : 1 ≤ s.slot
-  pub within : s.at + s.slot ≤ 1024 * s.layout.pages
+  pub within : s.at + s.slot ≤ 1024 * l.pages
   pub stage : IsStage s.at s.slot s.stage

@@ -4,6 +4,7 @@ use Rattle.gh_base.specs.Cells.{Words}
 use Rattle.gh_base.specs.Packing.{bit}
 use Rattle.gh_base.specs.Rows.{pointer_bit}
 use Rattle.gh_base.specs.Steps.{effect}
+use Rattle.gh_base.specs.declared.layout.Layout.{Layout}
 use Rattle.gh_base.specs.declared.shape.Shape.{Shape}
 use Rattle.gh_base.specs.Shapes.{bits_at, is_pointer}
 use Rattle.gh_bitmap.specs.declared.set_pointers.SetStage.TheVariants.{Clear, Set}
@@ -24,25 +25,26 @@ module _ (s : PointerSetting) (i : ℕ) where
     pub from : s.at ≤ x
     pub below : x < s.at + s.slot
 
+  -- where word i has no bit of a pointer field, none of them is one
+  abbrev pub HasNone : Type 0
+  HasNone = pointer_bits s.shape s.at i ≡ 0 → (x : ℕ) → IsHere x → is_pointer s.shape (x - s.at) ≡ false
+
+module _ (l : Layout) (s : PointerSetting) (i : ℕ) where
   -- the first step on word i clears the slot's bits in it, and leaves every other bit
   pub record ClearsBits (words : Words) : Type 0 where
-    pub slot : (x : ℕ) → IsHere x → pointer_bit (effect words (asks_at s (Clear i))) x ≡ 0
-    pub others : (x : ℕ) → ¬ IsHere x → pointer_bit (effect words (asks_at s (Clear i))) x ≡ pointer_bit words x
+    pub slot : (x : ℕ) → IsHere s i x → pointer_bit (effect words (asks_at l s (Clear i))) x ≡ 0
+    pub others : (x : ℕ) → ¬ IsHere s i x → pointer_bit (effect words (asks_at l s (Clear i))) x ≡ pointer_bit words x
 
   -- the second one makes them those of the pointer fields, and leaves every other bit
   pub record SetsBits (words : Words) : Type 0 where
-    pub slot : (x : ℕ) → IsHere x → pointer_bit words x ≡ 0 → pointer_bit (effect words (asks_at s (Set i))) x ≡ bit (is_pointer s.shape (x - s.at))
-    pub others : (x : ℕ) → ¬ IsHere x → pointer_bit (effect words (asks_at s (Set i))) x ≡ pointer_bit words x
-
-  -- where there is no second one, none of them is a pointer field
-  abbrev pub HasNone : Type 0
-  HasNone = pointer_bits s.shape s.at i ≡ 0 → (x : ℕ) → IsHere x → is_pointer s.shape (x - s.at) ≡ false
+    pub slot : (x : ℕ) → IsHere s i x → pointer_bit words x ≡ 0 → pointer_bit (effect words (asks_at l s (Set i))) x ≡ bit (is_pointer s.shape (x - s.at))
+    pub others : (x : ℕ) → ¬ IsHere s i x → pointer_bit (effect words (asks_at l s (Set i))) x ≡ pointer_bit words x
 
   pub record StepsOn (words : Words) : Type 0 where
     pub clears : ClearsBits words
     pub sets : SetsBits words
-    pub none : HasNone
+    pub none : HasNone s i
 
 -- for a slot in the arena, and each word that has bits of it
 abbrev pub EachStepIsOnItsBits : Type 0
-EachStepIsOnItsBits = (s : PointerSetting) (i : ℕ) (words : Words) → s.at + s.slot ≤ 1024 * s.layout.pages → FitsSlot s.shape s.slot → Touches s.at s.slot i → StepsOn s i words
+EachStepIsOnItsBits = (l : Layout) (s : PointerSetting) (i : ℕ) (words : Words) → s.at + s.slot ≤ 1024 * l.pages → FitsSlot s.shape s.slot → Touches s.at s.slot i → StepsOn l s i words

@@ -1,12 +1,27 @@
 //! Laws of the routines. The functions do nothing; what they ensure is proved.
 
+ghost use Rattle.gh_base.specs.declared.layout.Layout.{Layout};
+ghost use Rattle.gh_base.specs.Machines.{IsRoutine};
 ghost use Rattle.gh_bitmap.specs.Facts.{SetsByItsRights};
 ghost use Rattle.gh_bitmap.specs.Pointers.{BitsAreRead, PointersAreSet};
+ghost use Rattle.gh_bitmap.specs.ReadPointer as reading;
+ghost use Rattle.gh_bitmap.specs.SetPointers as setting;
 ghost use Rattle.gh_bitmap.specs.Stepping.{EachStepIsOnItsBits};
 
 use crate::set_pointers::SetPointers;
 use gh_base::laws::{cells_are_told, rows_are_written, steps_are_folded};
 use gh_heap::laws::{facts_last, rights_follow, the_heap_is_apart};
+
+/// Reading a bit is a routine: each step is on a word that there is, and it writes nothing.
+pub fn reading_is_a_routine()
+    ensures { (l : Layout) → IsRoutine l (reading.listing l) }
+{}
+
+/// Setting bits is a routine: the word that it is at has bits of the slot, each step is on a word that there is, and it
+/// writes the bitmap alone.
+pub fn setting_is_a_routine()
+    ensures { (l : Layout) → IsRoutine l (setting.listing l) }
+{}
 
 /// Each step of the routine that sets pointer bits is on the slot's bits in one word: the first
 /// clears them, the second makes them those of the type's pointer fields. Every other bit stays.

@@ -5,8 +5,7 @@ ghost use Rattle.gh_base.specs.Cells.{InRange};
 ghost use Rattle.gh_base.specs.Steps.{cell_of};
 ghost use Rattle.gh_bitmap.specs.ReadPointer.{asks, given, opening};
 
-use gh_base::{Ask, Cell, Layout, Machine, Req, modulo};
-use std::marker::Model;
+use gh_base::{Ask, Cell, Layout, Req, Routine, modulo};
 
 /// The stages of the routine that reads a pointer bit.
 #[derive(Clone, Copy, Debug, PartialEq, Eq)]
@@ -24,43 +23,30 @@ pub enum ReadStage {
 /// `heapBits.isPointer`, mbitmap.go).
 #[derive(Clone, Copy, Debug, PartialEq, Eq)]
 pub struct ReadPointer {
-    layout: Layout,
-    at: u32,
-    stage: ReadStage,
-}
-
-impl Model for ReadPointer {
-    ghost use Rattle.gh_bitmap.specs.ReadPointer.{PointerReading};
-
-    ghost Value = { PointerReading };
-
-    ghost view = { λ r. record { layout = r.layout; at = r.at; stage = r.stage } };
-
-    ghost inverse = { λ r. record { layout = r.layout; at = r.at; stage = r.stage } };
+    /// The heap word, which is taken modulo the arena's words.
+    pub at: u32,
+    /// Its stage.
+    pub stage: ReadStage,
 }
 
 impl ReadPointer {
     /// Reads the bit of heap word `at`, which is taken modulo the arena's words.
-    pub fn new(layout: &Layout, at: u32) -> ReadPointer
-        ensures { result ≡ opening layout.now at }
+    pub fn new(at: u32) -> ReadPointer
+        ensures { result ≡ opening at }
     {
         ReadPointer {
-            layout: *layout,
             at,
             stage: ReadStage::Load,
         }
     }
 
     /// The step that it asks for.
-    pub fn ask(&self) -> Ask
-        ensures asks { result ≡ asks self.now }
-        ensures within { InRange self.now.layout (cell_of result) }
+    pub fn ask(&self, layout: &Layout) -> Ask
+        ensures asks { result ≡ asks layout.now self.now }
+        ensures within { InRange layout.now (cell_of result) }
     {
         match self.stage {
-            ReadStage::Load => Ask::Load(Cell::Bitmap(modulo(
-                self.at / 64,
-                16 * self.layout.pages,
-            ))),
+            ReadStage::Load => { Ask::Load(Cell::Bitmap(modulo(self.at / 64, 16 * layout.pages))) }
             ReadStage::Ended { .. } => Ask::Load(Cell::Touch),
         }
     }
@@ -76,28 +62,18 @@ impl ReadPointer {
     }
 }
 
-impl Machine for ReadPointer {
-    ghost use Rattle.std.specs.Prelude.{refl};
-    ghost use Rattle.gh_base.specs.Given.{is_over};
+impl Routine for ReadPointer {
     ghost use Rattle.gh_bitmap.specs.ReadPointer.{listing};
 
     type Out = bool;
 
-    ghost layout = { listing.layout };
+    ghost listing = { listing };
 
-    ghost busy = { listing.busy };
-
-    ghost asks = { listing.asks };
-
-    ghost goes = { listing.goes };
-
-    ghost gives = { listing.gives };
-
-    fn next(&self) -> Req {
-        self.layout.request(self.ask())
+    fn next(&self, layout: &Layout) -> Req {
+        layout.request(self.ask(layout))
     }
 
-    fn take(&mut self, found: u64) -> Option<bool> {
+    fn take(&mut self, _layout: &Layout, found: u64) -> Option<bool> {
         if let ReadStage::Load = self.stage {
             self.stage = ReadStage::Ended {
                 pointer: (found >> (self.at % 64)) & 1 == 1,
@@ -105,8 +81,4 @@ impl Machine for ReadPointer {
         }
         self.given()
     }
-
-    ghost ends = { λ r found busy. is_over (listing.gives r found) };
-
-    ghost stays = { λ _ _. refl };
 }

@@ -4,10 +4,11 @@ ghost use Rattle.std.specs.Prelude.{◌≡◌, ◌+◌, ◌*◌, ◌^◌, ◌<�
 ghost use Rattle.gh_base.specs.Cells.{InRange};
 ghost use Rattle.gh_base.specs.Steps.{cell_of};
 ghost use Rattle.gh_bitmap.specs.SetPointers.{asks, given, goes_at, next_stage, opening};
+ghost use Rattle.gh_bitmap.specs.Sound.{Sound};
 
 use crate::bits::{pointer_bits, slot_bits};
 use gh_base::limits::MOST_PAGES;
-use gh_base::{Ask, Cell, Layout, Machine, Req, Shape, modulo};
+use gh_base::{Ask, Cell, Layout, Req, Routine, Shape, modulo};
 use std::marker::Model;
 
 /// The stages of the routine that sets pointer bits.
@@ -29,7 +30,6 @@ pub enum SetStage {
 /// may write meanwhile.
 #[derive(Debug, Drop)]
 pub struct SetPointers<'s> {
-    layout: Layout,
     shape: &'s Shape,
     at: u32,
     slot: u32,
@@ -38,25 +38,19 @@ pub struct SetPointers<'s> {
 
 impl<'s> Model for SetPointers<'s> {
     ghost use Rattle.gh_bitmap.specs.SetPointers.{PointerSetting};
-    ghost use Rattle.gh_bitmap.specs.Sound.{Sound};
 
     ghost Value = { PointerSetting };
 
-    ghost view = { λ s. record { layout = s.layout; shape = s.shape.now; at = s.at; slot = s.slot; stage = s.stage } };
-
-    ghost invariant = { λ s. Sound (record { layout = s.layout; shape = s.shape.now; at = s.at; slot = s.slot; stage = s.stage }) };
+    ghost view = { λ s. record { shape = s.shape.now; at = s.at; slot = s.slot; stage = s.stage } };
 }
 
 impl<'s> SetPointers<'s> {
     /// Writes the bits of an object of this shape whose first heap word is `at`, in a slot of `slot`
-    /// words, 1 to `MOST_TYPE_WORDS`, which lies in the arena.
-    pub fn new(layout: &Layout, shape: &'s Shape, at: u32, slot: u32) -> SetPointers<'s>
-        requires some { 1 ≤ slot }
-        requires within { at + slot ≤ 1024 * layout.now.pages }
-        ensures { result ≡ opening layout.now shape.now at slot }
+    /// words.
+    pub fn new(shape: &'s Shape, at: u32, slot: u32) -> SetPointers<'s>
+        ensures { result ≡ opening shape.now at slot }
     {
         SetPointers {
-            layout: *layout,
             shape,
             at,
             slot,
@@ -65,11 +59,12 @@ impl<'s> SetPointers<'s> {
     }
 
     /// The step that it asks for.
-    fn ask(&self) -> Ask
-        ensures asks { result ≡ asks self.now }
-        ensures within { InRange self.now.layout (cell_of result) }
+    fn ask(&self, layout: &Layout) -> Ask
+        requires { Sound layout.now self.now }
+        ensures asks { result ≡ asks layout.now self.now }
+        ensures within { InRange layout.now (cell_of result) }
     {
-        let row = 16 * self.layout.pages;
+        let row = 16 * layout.pages;
         match self.stage {
             SetStage::Clear(i) => {
                 let others = u64::MAX - slot_bits(self.at, self.slot, i);
@@ -85,7 +80,8 @@ impl<'s> SetPointers<'s> {
 
     /// The next word of the bitmap that has bits of the slot, if there is one.
     fn next_stage(&self, i: u32) -> SetStage
-        requires { i < 16 * MOST_PAGES }
+        requires word { i < 16 * MOST_PAGES }
+        requires slot { self.now.at + self.now.slot ≤ 1024 * MOST_PAGES }
         ensures { result ≡ next_stage self.now i }
     {
         if 64 * (i + 1) < self.at + self.slot {
@@ -96,7 +92,8 @@ impl<'s> SetPointers<'s> {
     }
 
     /// Its stage after its step.
-    fn go(&self) -> SetStage
+    fn go(&self, layout: &Layout) -> SetStage
+        requires { Sound layout.now self.now }
         ensures { result ≡ goes_at self.now self.now.stage }
     {
         match self.stage {
@@ -123,33 +120,19 @@ impl<'s> SetPointers<'s> {
     }
 }
 
-impl<'s> Machine for SetPointers<'s> {
-    ghost use Rattle.std.specs.Prelude.{refl};
-    ghost use Rattle.gh_base.specs.Given.{is_over};
+impl<'s> Routine for SetPointers<'s> {
     ghost use Rattle.gh_bitmap.specs.SetPointers.{listing};
 
     type Out = ();
 
-    ghost layout = { listing.layout };
+    ghost listing = { listing };
 
-    ghost busy = { listing.busy };
-
-    ghost asks = { listing.asks };
-
-    ghost goes = { listing.goes };
-
-    ghost gives = { listing.gives };
-
-    fn next(&self) -> Req {
-        self.layout.request(self.ask())
+    fn next(&self, layout: &Layout) -> Req {
+        layout.request(self.ask(layout))
     }
 
-    fn take(&mut self, found: u64) -> Option<()> {
-        self.stage = self.go();
+    fn take(&mut self, layout: &Layout, _found: u64) -> Option<()> {
+        self.stage = self.go(layout);
         self.given()
     }
-
-    ghost ends = { λ s found busy. is_over (listing.gives s found) };
-
-    ghost stays = { λ _ _. refl };
 }

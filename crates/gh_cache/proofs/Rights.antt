@@ -4,7 +4,6 @@ use Rattle.std.proofs.Math.Nat.{mod-eq_of_lt, mod-lt}
 use Rattle.std.proofs.lemmas.Bool.{eqb-false}
 use Rattle.std.proofs.lemmas.Bool.Decides.{eqb_tells}
 use Rattle.gh_base.specs.declared.cell.Cell.TheVariants as cell
-use Rattle.gh_base.specs.Cells.{InRange}
 use Rattle.gh_base.specs.Rows.{row_bit}
 use Rattle.gh_base.specs.Steps.{cell_of}
 use Rattle.gh_class.specs.declared.class.SizeClass.{SizeClass}
@@ -14,7 +13,7 @@ use Rattle.gh_heap.specs.Moves.{KeepsObjects, Others, Quiet, Steps}
 use Rattle.gh_heap.specs.Rights.{Arena, Good, Right, Shared, View, view}
 use Rattle.gh_heap.specs.Spans.{IsFull, IsSlotOf, Laying, is_own_class, number_of_class, owner_at, owner_in, slot_size}
 use Rattle.gh_cache.specs.Facts.{Comes, Facts, Lasts, OwnStep, SearchesByItsRights, SpanIsHeld, TakenBelow, Within}
-use Rattle.gh_cache.proofs.Vocabulary.{alloc_word, asks, at_stage, bit_at, bit_at-lt, Cached, Ended, given, given_at, gives, goes, goes_at, IsSizeClass, Layout, Look, passed, Searching, slot_at, slot_of, slot_words_of, slots_of, SlotStage}
+use Rattle.gh_cache.proofs.Vocabulary.{alloc_word, asks, at_stage, bit_at, bit_at-lt, Cached, Ended, given, given_at, goes, goes_at, IsSizeClass, Look, passed, Searching, slot_at, slot_of, slot_words_of, slots_of, SlotStage}
 
 pub record Known : Type 0 where
   pub apart : TheHeapIsApart
@@ -31,7 +30,6 @@ held-lasts z a v w span noscan g o x = record {
 
 lasts : Lasts
 lasts z a v w noscan m g o x = record {
-  layout = x.layout;
   span = held-lasts z a v w m.span noscan g o x.span;
   stage = x.stage;
   cursor = x.cursor;
@@ -63,12 +61,12 @@ module _ (k : Known) (z : Arena) (a : ℕ) (v : View) (noscan : Bool) (m : Searc
   }
 
   -- the word that has its bit
-  word_is : (j : ℕ) → Good z v → m.layout ≡ z.layout → (x : SpanIsHeld a v m.span noscan) → j < slots_of m.span.class → alloc_word m.layout (slot_at m.span j) ≡ slot_at m.span j / 64
-  word_is j g layout x few =
+  word_is : (j : ℕ) → Good z v → (x : SpanIsHeld a v m.span noscan) → j < slots_of m.span.class → alloc_word z.layout (slot_at m.span j) ≡ slot_at m.span j / 64
+  word_is j g x few =
       let span = g.spans m.span.head x.h x.head in
       let below : m.span.class < 25 = class_below x.h.class m.span.class x.class span.fits.class in
       let inside = (k.apart z v g).inside m.span.head j (slot_at m.span j) (slot_words_of m.span.class) 0 x.h (slot_is j g x few) (omega (arith, k.least_slot m.span.class below)) in
-      rw (layout) (mod-eq_of_lt (omega (arith, inside.1, span.within))) where
+      mod-eq_of_lt (omega (arith, inside.1, span.within)) where
         class_below : (class : SizeClass) (c : ℕ) → class ≡ size.Small c → IsSizeClass class → c < 25
         class_below class c e fits = subst IsSizeClass e fits
 
@@ -81,7 +79,6 @@ module _ (k : Known) (z : Arena) (a : ℕ) (v : View) (noscan : Bool) (m : Searc
     next : row_bit v.alloc (slot_at m.span m.span.cursor) ≡ 1 → (b : Bool) → ltb (m.span.cursor + 1) (slots_of m.span.class) ≡ b →
         Comes z a v noscan (given_at (cond b Look (Ended None))) (record m { span = record (m.span) { cursor = m.span.cursor + 1 }; stage = cond b Look (Ended None) })
     next set true t = record {
-      layout = x.layout;
       span = record { h = x.span.h; head = x.span.head; class = x.span.class; noscan_is = x.span.noscan_is; held = x.span.held };
       stage = refl;
       cursor = ltb-true (m.span.cursor + 1) (slots_of m.span.class) t;
@@ -113,13 +110,13 @@ module _ (k : Known) (z : Arena) (a : ℕ) (v : View) (noscan : Bool) (m : Searc
       set n lt ne = omega arith
 
 own-at : Known → (z : Arena) (a : ℕ) (s : Shared) (l : Bool) (held : ℕ → Bool) (y : Option Laying) (noscan : Bool) (m : Searching) (q : SlotStage) → q ≡ Look → Good z (view s) → Right a (view s) l held y → Facts z a (view s) noscan (at_stage m q) →
-    Steps z a s (asks (at_stage m q)) (λ t. KeepsObjects (view s) (view t) × Right a (view t) l held y × Comes z a (view t) noscan (gives (at_stage m q) (s.words (cell_of (asks (at_stage m q))))) (goes (at_stage m q) (s.words (cell_of (asks (at_stage m q))))))
+    Steps z a s (asks z.layout (at_stage m q)) (λ t. KeepsObjects (view s) (view t) × Right a (view t) l held y × Comes z a (view t) noscan (given (goes (at_stage m q) (s.words (cell_of (asks z.layout (at_stage m q)))))) (goes (at_stage m q) (s.words (cell_of (asks z.layout (at_stage m q))))))
 unfolding row_bit
 own-at k z a s l held y noscan m Look e g right x = record {
-  move = Quiet (asks (at_stage m Look));
+  move = Quiet (asks z.layout (at_stage m Look));
   may = tt;
   words_are = refl;
-  after = ((refl, refl), record { locked = right.locked; holds = right.holds; laying = right.laying; freeing = right.freeing }, looked k z a (view s) noscan (at_stage m Look) (s.words (cell.Alloc (alloc_word m.layout (slot_at m.span m.span.cursor)))) (ap (λ (i : ℕ). bit_at (s.words (cell.Alloc i)) (slot_at m.span m.span.cursor % 64)) (word_is k z a (view s) noscan (at_stage m Look) m.span.cursor g x.layout x.span x.cursor)) g x);
+  after = ((refl, refl), record { locked = right.locked; holds = right.holds; laying = right.laying; freeing = right.freeing }, looked k z a (view s) noscan (at_stage m Look) (s.words (cell.Alloc (alloc_word z.layout (slot_at m.span m.span.cursor)))) (ap (λ (i : ℕ). bit_at (s.words (cell.Alloc i)) (slot_at m.span m.span.cursor % 64)) (word_is k z a (view s) noscan (at_stage m Look) m.span.cursor g x.span x.cursor)) g x);
 }
 own-at k z a s l held y noscan m (Ended slot) e g right x = absurd (cc)
 
@@ -127,10 +124,7 @@ own : Known → OwnStep
 own k z a s l held y noscan m g right x = own-at k z a s l held y noscan m m.stage x.stage g right x
 
 within : Within
-within z a v noscan m x =
-    let arena : m.layout.pages ≡ z.layout.pages = ap (λ (l : Layout). l.pages) x.layout in
-    let some : 0 < 16 * m.layout.pages = omega (arith, m.layout.limits.pages_fit.0) in
-    subst (λ (q : SlotStage). InRange z.layout (cell_of (asks (at_stage m q)))) (sym x.stage) (omega (arith, mod-lt (slot_at m.span m.span.cursor / 64) some, arena))
+within z a v noscan m x = let fit = z.layout.limits.pages_fit.0 in grind (arith, mod-lt)
 
 pub searches_by_its_rights : Known → SearchesByItsRights
 searches_by_its_rights k = record { own_step = own k; within = within; lasts = lasts }

@@ -13,7 +13,7 @@ use Rattle.gh_heap.specs.Rights.{Arena, Claims, Good, Right, Shared, View, view}
 use Rattle.gh_heap.specs.Spans.{IsFull, Laying}
 use Rattle.gh_cache.specs.declared.next_slot.Cached.{Cached}
 use Rattle.gh_cache.specs.declared.next_slot.SlotStage.TheVariants.{Look}
-use Rattle.gh_cache.specs.Listing.{Searching, asks, gives, goes, slot_at}
+use Rattle.gh_cache.specs.Listing.{Searching, asks, given, goes, slot_at}
 
 -- the seat holds the span, which begins at its head page and is of its class and noscan or not
 pub record SpanIsHeld (a : ℕ) (v : View) (span : Cached) (noscan : Bool) : Type 0 where
@@ -28,7 +28,6 @@ abbrev pub TakenBelow : (alloc : Row) → Cached → Type 0
 TakenBelow alloc span = (j : ℕ) → j < span.cursor → row_bit alloc (slot_at span j) ≡ 1
 
 pub record Facts (z : Arena) (a : ℕ) (v : View) (noscan : Bool) (s : Searching) : Type 0 where
-  pub layout : s.layout ≡ z.layout
   pub span : SpanIsHeld a v s.span noscan
   pub stage : s.stage ≡ Look
   pub cursor : s.span.cursor < slots_of s.span.class
@@ -58,11 +57,11 @@ Comes z a w noscan (Some (Some slot)) s = Finds z a w noscan s.span slot
 -- a step of its own; it needs no lock
 abbrev pub OwnStep : Type 0
 OwnStep = (z : Arena) (a : ℕ) (s : Shared) (l : Bool) (held : ℕ → Bool) (y : Option Laying) (noscan : Bool) (m : Searching) → Good z (view s) → Right a (view s) l held y → Facts z a (view s) noscan m →
-    Steps z a s (asks m) (λ t. KeepsObjects (view s) (view t) × Right a (view t) l held y × Comes z a (view t) noscan (gives m (s.words (cell_of (asks m)))) (goes m (s.words (cell_of (asks m)))))
+    Steps z a s (asks z.layout m) (λ t. KeepsObjects (view s) (view t) × Right a (view t) l held y × Comes z a (view t) noscan (given (goes m (s.words (cell_of (asks z.layout m))))) (goes m (s.words (cell_of (asks z.layout m)))))
 
 -- it is on a word that there is
 abbrev pub Within : Type 0
-Within = (z : Arena) (a : ℕ) (v : View) (noscan : Bool) (m : Searching) → Facts z a v noscan m → InRange z.layout (cell_of (asks m))
+Within = (z : Arena) (a : ℕ) (v : View) (noscan : Bool) (m : Searching) → Facts z a v noscan m → InRange z.layout (cell_of (asks z.layout m))
 
 -- the steps of others
 abbrev pub Lasts : Type 0

@@ -1,6 +1,4 @@
-pub mod Blind
 pub mod Facts
 pub mod Listing
 pub mod NextClear
 pub mod Sound
-pub mod Stays

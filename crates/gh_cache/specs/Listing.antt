@@ -1,26 +1,26 @@
--- The next clear slot of a cached span: what is asked for at each stage, where that leads, and what it has given.
-use Rattle.std.specs.Prelude.{ℕ, ◌+◌, ◌*◌, ◌/◌, ◌%◌, Bool, nat_lt, ◌==◌, if◌then◌else◌, Option, Some, None, is_none}
+-- The next clear slot of a cached span: what is asked for at each stage, where that leads, what it has given, and that it writes nothing.
+use Rattle.std.specs.Prelude.{ℕ, ◌+◌, ◌*◌, ◌/◌, ◌%◌, Bool, false, nat_lt, ◌==◌, if◌then◌else◌, Option, Some, None}
 use Rattle.std.specs.Int.{bit_at}
 use Rattle.gh_base.specs.declared.cell.Cell.TheVariants.{Touch, Alloc}
 use Rattle.gh_base.specs.declared.cell.Ask.{Ask}
 use Rattle.gh_base.specs.declared.cell.Ask.TheVariants.{Load}
 use Rattle.gh_base.specs.declared.layout.Layout.{Layout}
-use Rattle.gh_base.specs.Given.{listing_of}
-use Rattle.gh_base.specs.Routines.{Listing}
+use Rattle.gh_base.specs.Footprints.{Footprint}
+use Rattle.gh_base.specs.Machines.{Listing}
 use Rattle.gh_class.specs.Classes.{slot_words_of, slots_of}
 use Rattle.gh_cache.specs.declared.next_slot.Cached.{Cached}
+use Rattle.gh_cache.specs.declared.next_slot.NextSlot.{NextSlot}
 use Rattle.gh_cache.specs.declared.next_slot.SlotStage.{SlotStage}
 use Rattle.gh_cache.specs.declared.next_slot.SlotStage.TheVariants.{Look, Ended}
+use Rattle.gh_cache.specs.Sound.{Sound}
 
 -- a routine that looks for a clear slot: of which span, from which slot on, and its stage
-pub record Searching : Type 0 where
-  pub layout : Layout
-  pub span : Cached
-  pub stage : SlotStage
+abbrev pub Searching : Type 0
+Searching = NextSlot
 
 -- it has looked at no slot
-abbrev pub opening : Layout → Cached → Searching
-opening l span = record { layout = l; span = span; stage = Look }
+abbrev pub opening : Cached → Searching
+opening span = record { span = span; stage = Look }
 
 abbrev pub at_stage : Searching → SlotStage → Searching
 at_stage s stage = record s { stage = stage }
@@ -45,11 +45,11 @@ has_next_slot span = nat_lt (span.cursor + 1) (slots_of span.class)
 abbrev pub is_found : Searching → ℕ → Bool
 is_found s found = is_clear s.span s.span.cursor found
 
-module _ (s : Searching) where
-  abbrev pub asks_at : SlotStage → Ask
-  asks_at Look = Load (Alloc (alloc_word s.layout (slot_at s.span s.span.cursor)))
-  asks_at (Ended slot) = Load Touch
+abbrev pub asks_at : Layout → Searching → SlotStage → Ask
+asks_at l s Look = Load (Alloc (alloc_word l (slot_at s.span s.span.cursor)))
+asks_at l s (Ended slot) = Load Touch
 
+module _ (s : Searching) where
   -- the cursor moves on
   abbrev pub passed : Searching
   passed = record s { span = record (s.span) { cursor = s.span.cursor + 1 }; stage = if has_next_slot s.span then Look else Ended None }
@@ -63,13 +63,9 @@ abbrev pub given_at : SlotStage → Option (Option ℕ)
 given_at (Ended slot) = Some slot
 given_at _ = None
 
--- it asks for a step exactly where that is nothing
-abbrev pub is_busy : SlotStage → Bool
-is_busy p = is_none (given_at p)
-
 -- the step that it asks for, what it is after the step found this, and what it has given
-abbrev pub asks : Searching → Ask
-asks s = asks_at s s.stage
+abbrev pub asks : Layout → Searching → Ask
+asks l s = asks_at l s s.stage
 
 abbrev pub goes : Searching → ℕ → Searching
 goes s found = goes_at s s.stage found
@@ -77,9 +73,8 @@ goes s found = goes_at s s.stage found
 abbrev pub given : Searching → Option (Option ℕ)
 given s = given_at s.stage
 
--- and by a step
-abbrev pub gives : Searching → ℕ → Option (Option ℕ)
-gives s found = given (goes s found)
+abbrev pub writes : Footprint
+writes _ = false
 
-abbrev pub listing : Listing Searching (Option ℕ)
-listing = listing_of (λ s. s.layout) asks goes given
+abbrev pub listing : Layout → Listing Searching (Option ℕ)
+listing l = record { asks = asks l; goes = goes; given = given; sound = Sound l; writes = writes }

@@ -4,9 +4,9 @@ use Rattle.gh_base.specs.declared.layout.Layout.{Layout}
 use Rattle.gh_class.specs.declared.class.TheConstants.{CLASSES}
 use Rattle.gh_class.specs.Classes.{pages_of, slots_of}
 use Rattle.gh_cache.specs.declared.next_slot.Cached.{Cached}
+use Rattle.gh_cache.specs.declared.next_slot.NextSlot.{NextSlot}
 use Rattle.gh_cache.specs.declared.next_slot.SlotStage.{SlotStage}
 use Rattle.gh_cache.specs.declared.next_slot.SlotStage.TheVariants.{Look, Ended}
-use Rattle.gh_cache.specs.Listing.{Searching}
 
 -- a span of a size class, in the arena
 pub record FitsArena (l : Layout) (span : Cached) : Type 0 where
@@ -18,7 +18,7 @@ abbrev pub IsStage : Cached → SlotStage → Type 0
 IsStage span Look = span.cursor < slots_of span.class
 IsStage span (Ended slot) = span.cursor ≤ slots_of span.class
 
-pub record Sound (s : Searching) : Type 0 where
-  pub span : FitsArena s.layout s.span
+pub record Sound (l : Layout) (s : NextSlot) : Type 0 where
+  pub span : FitsArena l s.span
   pub few : s.span.cursor ≤ 1024
   pub stage : IsStage s.span s.stage

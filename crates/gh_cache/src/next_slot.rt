@@ -1,15 +1,15 @@
 //! The routine that looks for the next clear slot.
 
-ghost use Rattle.std.specs.Prelude.{◌≡◌, ◌+◌, ◌*◌, ◌<◌, ◌≤◌};
+ghost use Rattle.std.specs.Prelude.{◌≡◌, ◌+◌, ◌*◌, ◌<◌, ◌≤◌, is_none, true};
 ghost use Rattle.gh_base.specs.Cells.{InRange};
 ghost use Rattle.gh_base.specs.Steps.{cell_of};
 ghost use Rattle.gh_class.specs.Classes.{pages_of, slots_of};
 ghost use Rattle.gh_cache.specs.Listing.{asks, given, goes, opening, slot_at};
+ghost use Rattle.gh_cache.specs.Sound.{Sound};
 
 use gh_base::limits::MOST_PAGES;
-use gh_base::{Ask, Cell, Layout, Machine, Req, modulo};
+use gh_base::{Ask, Cell, Layout, Req, Routine, modulo};
 use gh_class::{Class, size_class_laws};
-use std::marker::Model;
 
 /// A span that a processor has cached.
 #[derive(Clone, Copy, Debug, PartialEq, Eq)]
@@ -42,22 +42,10 @@ pub enum SlotStage {
 /// `None` where no slot is left.
 #[derive(Clone, Copy, Debug, PartialEq, Eq)]
 pub struct NextSlot {
-    layout: Layout,
-    span: Cached,
-    stage: SlotStage,
-}
-
-impl Model for NextSlot {
-    ghost use Rattle.gh_cache.specs.Listing.{Searching};
-    ghost use Rattle.gh_cache.specs.Sound.{Sound};
-
-    ghost Value = { Searching };
-
-    ghost view = { λ s. record { layout = s.layout; span = s.span; stage = s.stage } };
-
-    ghost invariant = { λ s. Sound (record { layout = s.layout; span = s.span; stage = s.stage }) };
-
-    ghost inverse = { λ s. record { layout = s.layout; span = s.span; stage = s.stage } };
+    /// The span: its cursor is as far as the routine has come.
+    pub span: Cached,
+    /// Its stage.
+    pub stage: SlotStage,
 }
 
 impl Cached {
@@ -72,16 +60,11 @@ impl Cached {
 }
 
 impl NextSlot {
-    /// Looks for a clear slot of the span, from the cursor on. The cursor is that of a slot, and the
-    /// span's pages are in the arena.
-    pub fn new(layout: &Layout, span: Cached) -> NextSlot
-        requires cursor { span.cursor < slots_of span.class }
-        requires pages { span.head + pages_of span.class ≤ layout.now.pages }
-        ensures { result ≡ opening layout.now span }
+    /// Looks for a clear slot from the span's cursor on.
+    pub fn new(span: Cached) -> NextSlot
+        ensures { result ≡ opening span }
     {
-        size_class_laws();
         NextSlot {
-            layout: *layout,
             span,
             stage: SlotStage::Look,
         }
@@ -95,14 +78,15 @@ impl NextSlot {
     }
 
     /// The step that it asks for.
-    fn ask(&self) -> Ask
-        ensures asks { result ≡ asks self.now }
-        ensures within { InRange self.now.layout (cell_of result) }
+    fn ask(&self, layout: &Layout) -> Ask
+        requires { Sound layout.now self.now }
+        ensures asks { result ≡ asks layout.now self.now }
+        ensures within { InRange layout.now (cell_of result) }
     {
         match self.stage {
             SlotStage::Look => {
                 let word = self.span.word();
-                Ask::Load(Cell::Alloc(modulo(word / 64, 16 * self.layout.pages)))
+                Ask::Load(Cell::Alloc(modulo(word / 64, 16 * layout.pages)))
             }
             SlotStage::Ended { .. } => Ask::Load(Cell::Touch),
         }
@@ -112,7 +96,9 @@ impl NextSlot {
 impl NextSlot {
     /// Goes on by the alloc word of the slot at the cursor.
     fn look(&mut self, found: u64)
-        requires { self.old.stage ≡ SlotStage.Look }
+        requires head { self.old.span.head ≤ MOST_PAGES }
+        requires cursor { self.old.span.cursor ≤ 1024 }
+        requires busy { is_none (given self.old) ≡ true }
         ensures { self.new ≡ goes self.old found }
     {
         if (found >> (self.span.word() % 64)) & 1 == 0 {
@@ -138,35 +124,21 @@ impl NextSlot {
     }
 }
 
-impl Machine for NextSlot {
-    ghost use Rattle.gh_base.specs.Given.{is_over};
+impl Routine for NextSlot {
     ghost use Rattle.gh_cache.specs.Listing.{listing};
-    ghost use Rattle.gh_cache.specs.Stays.{stays};
 
     type Out = Option<u32>;
 
-    ghost layout = { listing.layout };
+    ghost listing = { listing };
 
-    ghost busy = { listing.busy };
-
-    ghost asks = { listing.asks };
-
-    ghost goes = { listing.goes };
-
-    ghost gives = { listing.gives };
-
-    fn next(&self) -> Req {
-        self.layout.request(self.ask())
+    fn next(&self, layout: &Layout) -> Req {
+        layout.request(self.ask(layout))
     }
 
-    fn take(&mut self, found: u64) -> Option<Option<u32>> {
-        if let SlotStage::Look = self.stage {
-            self.look(found);
-        }
+    #[tactic(auto, using(std::proofs::lemmas::Bool::Decides::nat_tests))]
+    fn take(&mut self, _layout: &Layout, found: u64) -> Option<Option<u32>> {
+        size_class_laws();
+        self.look(found);
         self.given()
     }
-
-    ghost ends = { λ s found busy. is_over (listing.gives s found) };
-
-    ghost stays = { stays };
 }

@@ -11,7 +11,8 @@ use Rattle.gh_heap.specs.Moves.{Disown, May, Publish}
 use Rattle.gh_heap.specs.Rights.{view}
 use Rattle.gh_central.specs.declared.give.GiveStage.{GiveStage}
 use Rattle.gh_central.specs.GiveBack.{asks_at}
-use Rattle.gh_central.specs.GiveFacts.{GivesBack, GivesByItsRights, GivesLarge, Lasts, Within}
+use Rattle.gh_central.specs.GiveFacts.{GivesBack, GivesByItsRights, GivesLarge, Lasts, Within, WritesHeads}
+use Rattle.gh_central.specs.Owning.{WritesHead}
 
 pub record Known : Type 0 where
   pub follow : EachRightFollows
@@ -37,6 +38,9 @@ gives_large k z a s l held y g good right x large full = record {
 within : Within
 within z a v g good x = let span = good.spans g.page x.h x.head in subst (λ (q : GiveStage). InRange z.layout (cell_of (asks_at g q))) (sym x.stage) (omega (arith, span.within, span.fits.some))
 
+heads : WritesHeads
+heads z a v g x = subst (λ (q : GiveStage). WritesHead v.page (asks_at g q)) (sym x.stage) (x.h, x.head)
+
 lasts : Lasts
 lasts z a v w g o x = record {
   stage = x.stage;
@@ -48,4 +52,4 @@ lasts z a v w g o x = record {
 }
 
 pub gives_by_its_rights : Known → GivesByItsRights
-gives_by_its_rights k = record { gives = gives k; gives_large = gives_large k; within = within; lasts = lasts }
+gives_by_its_rights k = record { gives = gives k; gives_large = gives_large k; within = within; heads = heads; lasts = lasts }

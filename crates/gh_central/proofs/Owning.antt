@@ -2,7 +2,6 @@
 use Rattle.std.proofs.Common.{ℕ, ◌<◌, ◌^◌, lit<, sym, ap, ◌∙◌}
 use Rattle.gh_base.specs.declared.cell.Cell.TheVariants.{Page}
 use Rattle.gh_base.specs.declared.cell.Ask.TheVariants.{Store}
-use Rattle.gh_base.specs.declared.layout.Layout.{Layout}
 use Rattle.gh_base.specs.declared.pack.PageWord.TheVariants.{Head}
 use Rattle.gh_base.specs.declared.pack.SpanHead.{SpanHead}
 use Rattle.gh_base.specs.Cells.{Words}
@@ -19,5 +18,5 @@ module _ (packed : PackedWordsAreReadBack) (told : CellsAreTold) where
     others = λ cell other. told.put_elsewhere words (Page page) cell (head_word (owned_by owner h)) (λ e. other (sym e));
   }
 
-  pub giving_back : (l : Layout) (page : ℕ) (h : SpanHead) (words : Words) → FitsHead h → ChangesTheOwner page h 0 (giving.asks (giving.opening l page h)) words
-  giving_back l page h words f = changes page h 0 words f (lit< tt)
+  pub giving_back : (page : ℕ) (h : SpanHead) (words : Words) → FitsHead h → ChangesTheOwner page h 0 (giving.asks (giving.opening page h)) words
+  giving_back page h words f = changes page h 0 words f (lit< tt)

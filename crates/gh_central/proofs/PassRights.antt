@@ -2,11 +2,13 @@
 use Rattle.std.proofs.Common.{◌≡◌, ◌≢◌, ℕ, ◌+◌, ◌*◌, ◌/◌, ◌%◌, ◌<◌, ◌≤◌, Bool, true, false, cond, ltb, inl, inr, Some, None, refl, sym, ap, subst, ◌∙◌, arith, ltb-true, ltb-false}
 use Rattle.gh_base.specs.declared.cell.Cell.TheVariants as cell
 use Rattle.gh_base.specs.declared.pack.PageWord.TheVariants as page
-use Rattle.gh_central.proofs.Vocabulary.{after_page, alloc_word, Arena, asks, at_stage, bit_at, Bits, cell_of, EachFactLasts, EachMoveKeeps, EachOwnMoveLeaves, EachRightFollows, Ended, eqb_tells, given_at, gives, goes, goes_at, Good, InRange, is_wanted, IsFull, IsSpan, KeepsObjects, lacks_at, Layout, Leaves, Look, look_from, mod-eq_of_lt, mod-lt, Others, PackedWordsAreReadBack, page_of, PageWord, Pass, PassStage, Quiet, Right, row_bit, Shared, SizeClass, slot_count, slot_of, slot_size, slot_words_of, slots_of, Small, SpanHead, Steps, Take, TheHeapIsApart, View, view}
+use Rattle.gh_central.specs.declared.pass.PassStage.TheVariants.{Bits, Ended, Look, Take}
+use Rattle.gh_central.proofs.Vocabulary.{after_page, alloc_word, Arena, asks, asks_at, at_stage, bit_at, cell_of, EachFactLasts, EachMoveKeeps, EachOwnMoveLeaves, EachRightFollows, eqb_tells, given, given_at, goes, goes_at, Good, InRange, is_wanted, IsFull, IsSpan, KeepsObjects, lacks_at, Leaves, look_from, mod-eq_of_lt, mod-lt, Others, PackedWordsAreReadBack, page_of, PageWord, Pass, PassStage, Quiet, Right, row_bit, Shared, SizeClass, slot_count, slot_of, slot_size, slot_words_of, slots_of, Small, SpanHead, Steps, TheHeapIsApart, View, view}
 use Rattle.gh_central.proofs.Heads.{past-page, past-span}
 use Rattle.gh_central.proofs.HeadTests.{wanted-is, wanted-test}
 use Rattle.gh_central.proofs.Taking as taking
-use Rattle.gh_central.specs.PassFacts.{Comes, Facts, FactsAt, HasPassed, IsSure, IsUnowned, Lasts, LooksAt, LooksInto, Opens, OwnStep, Passes, PassesByItsRights, SlotsTakenBelow, Within, sought}
+use Rattle.gh_central.specs.PassFacts.{Comes, Facts, FactsAt, HasPassed, IsSure, IsUnowned, Lasts, LooksAt, LooksInto, Opens, OwnStep, Passes, PassesByItsRights, SlotsTakenBelow, sought}
+use Rattle.gh_central.specs.Owning.{WritesHead}
 use Rattle.gh_central.specs.Slots.{TheTestSaysIt}
 use Rattle.gh_heap.specs.Spans.{is_own_class, number_of_class}
 
@@ -25,10 +27,10 @@ of-heap k = record { packed = k.packed; keep = k.keep; follow = k.follow; leave 
 
 -- it is the same routine at another stage
 whose-at : (z : Arena) (a : ℕ) (v : View) (m : Pass) (q : PassStage) → Passes z a v m → Passes z a v (at_stage m q)
-whose-at z a v m q h = record { layout = h.layout; seat = h.seat; few = h.few; number = h.number; class = h.class }
+whose-at z a v m q h = record { seat = h.seat; few = h.few; number = h.number; class = h.class }
 
 whose-of : (z : Arena) (a : ℕ) (v : View) (m : Pass) (q : PassStage) → Passes z a v (at_stage m q) → Passes z a v m
-whose-of z a v m q h = record { layout = h.layout; seat = h.seat; few = h.few; number = h.number; class = h.class }
+whose-of z a v m q h = record { seat = h.seat; few = h.few; number = h.number; class = h.class }
 
 pub opens : Opens
 opens z a sure v m whose stage = record {
@@ -56,7 +58,7 @@ stage-lasts k z a sure v w m (Ended taken) o l x = x
 
 pub lasts : Known → Lasts
 lasts k z a sure v w m o l x = record {
-  whose = record { layout = x.whose.layout; seat = x.whose.seat; few = x.whose.few; number = x.whose.number ∙ sym o.generation; class = x.whose.class };
+  whose = record { seat = x.whose.seat; few = x.whose.few; number = x.whose.number ∙ sym o.generation; class = x.whose.class };
   stage = stage-lasts k z a sure v w m m.stage o l x.stage;
 }
 
@@ -82,18 +84,16 @@ module _ (k : Known) (z : Arena) (a : ℕ) (sure : Bool) (s : Shared) (held : �
   stays g = (k.leave z a s g).stays
 
   -- a stage from which a look goes on, or the end
-  looks : (p : ℕ) → Good z now → Right a now true held None → Passes z a now m → HasPassed sure (sought m) now p → (b : Bool) → ltb p m.layout.pages ≡ b → Goes (cond b (Look p) (Ended None))
-  looks p g right whose full true t = (stays g, right, record { whose = whose-at z a now m (Look p) whose; stage = record { there = subst (λ (l : Layout). p < l.pages) whose.layout (ltb-true p m.layout.pages t); full = full } })
-  looks p g right whose full false t =
-      let last : z.layout.pages ≤ p = subst (λ (l : Layout). l.pages ≤ p) whose.layout (ltb-false p m.layout.pages t) in
-      (stays g, right, λ is q h lt. full is q h (omega arith))
+  looks : (p : ℕ) → Good z now → Right a now true held None → Passes z a now m → HasPassed sure (sought m) now p → (b : Bool) → ltb p z.layout.pages ≡ b → Goes (cond b (Look p) (Ended None))
+  looks p g right whose full true t = (stays g, right, record { whose = whose-at z a now m (Look p) whose; stage = record { there = ltb-true p z.layout.pages t; full = full } })
+  looks p g right whose full false t = (stays g, right, λ is q h lt. full is q h (omega (arith, ltb-false p z.layout.pages t)))
 
-  look : (p : ℕ) → Good z now → Right a now true held None → IsSure z sure now → Passes z a now m → LooksAt z sure (sought m) now p → Goes (goes_at m (Look p) (now.page p))
+  look : (p : ℕ) → Good z now → Right a now true held None → IsSure z sure now → Passes z a now m → LooksAt z sure (sought m) now p → Goes (goes_at z.layout m (Look p) (now.page p))
   look p g right tidy whose x = go (page_of (now.page p)) refl where
     no-head : (w : PageWord) (h : SpanHead) → page_of (now.page p) ≡ w → w ≢ page.Head h → page_of (now.page p) ≢ page.Head h
     no-head w h e n f = n (sym e ∙ f)
 
-    on-head : (h : SpanHead) → page_of (now.page p) ≡ page.Head h → (b : Bool) → is_wanted m h ≡ b → Goes (cond b (Bits p h 0) (look_from m (p + h.pages)))
+    on-head : (h : SpanHead) → page_of (now.page p) ≡ page.Head h → (b : Bool) → is_wanted m h ≡ b → Goes (cond b (Bits p h 0) (look_from z.layout (p + h.pages)))
     on-head h head true t =
         let w = wanted-is m h t in
         let span = g.spans p h head in (
@@ -111,13 +111,13 @@ module _ (k : Known) (z : Arena) (a : ℕ) (sure : Bool) (s : Shared) (held : �
         ) where
           not-below : (p y : ℕ) → (1024 * p + y) / 64 < 16 * p + 0 → ⊥
           not-below p y lt = omega arith
-    on-head h head false t = looks (p + h.pages) g right whose (λ is. past-span now.page IsDone z.layout.pages p h (whole g right p h head) (x.full is) (λ class noscan owner. absurd (clash (wanted-test m h class noscan owner ((tidy is p h x.there head owner).0 ∙ sym whose.number))))) (ltb (p + h.pages) m.layout.pages) refl where
+    on-head h head false t = looks (p + h.pages) g right whose (λ is. past-span now.page IsDone z.layout.pages p h (whole g right p h head) (x.full is) (λ class noscan owner. absurd (clash (wanted-test m h class noscan owner ((tidy is p h x.there head owner).0 ∙ sym whose.number))))) (ltb (p + h.pages) z.layout.pages) refl where
       clash : is_wanted m h ≡ true → ⊥
       clash e = cc
 
-    go : (w : PageWord) → page_of (now.page p) ≡ w → Goes (after_page m p w)
-    go page.Free e = looks (p + 1) g right whose (λ is. past-page now.page IsDone p (x.full is) (λ h. no-head page.Free h e (λ f. absurd cc))) (ltb (p + 1) m.layout.pages) refl
-    go (page.Body b) e = looks (p + 1) g right whose (λ is. past-page now.page IsDone p (x.full is) (λ h. no-head (page.Body b) h e (λ f. absurd cc))) (ltb (p + 1) m.layout.pages) refl
+    go : (w : PageWord) → page_of (now.page p) ≡ w → Goes (after_page z.layout m p w)
+    go page.Free e = looks (p + 1) g right whose (λ is. past-page now.page IsDone p (x.full is) (λ h. no-head page.Free h e (λ f. absurd cc))) (ltb (p + 1) z.layout.pages) refl
+    go (page.Body b) e = looks (p + 1) g right whose (λ is. past-page now.page IsDone p (x.full is) (λ h. no-head (page.Body b) h e (λ f. absurd cc))) (ltb (p + 1) z.layout.pages) refl
     go (page.Head h) e = on-head h e (is_wanted m h) refl
 
   -- an alloc word of a span that is looked into
@@ -127,10 +127,10 @@ module _ (k : Known) (z : Arena) (a : ℕ) (sure : Bool) (s : Shared) (held : �
   lacks-none : (p i found : ℕ) → lacks_at m p i found ≡ false → (j : ℕ) → j < slots_of m.wanted.class → slot_at p j / 64 ≡ 16 * p + i → bit_at found (slot_at p j % 64) ≡ 1
   lacks-none p i found none j few at = grind arith
 
-  word-is : (p i : ℕ) (h : SpanHead) → Good z now → Passes z a now m → LooksInto sure m.wanted (sought m) now p h i → alloc_word m p i ≡ 16 * p + i
+  word-is : (p i : ℕ) (h : SpanHead) → Good z now → Passes z a now m → LooksInto sure m.wanted (sought m) now p h i → alloc_word z.layout p i ≡ 16 * p + i
   word-is p i h g whose x =
       let span = g.spans p h x.unowned.head in
-      rw (whose.layout) (mod-eq_of_lt (omega (arith, span.within, x.within)))
+      mod-eq_of_lt (omega (arith, span.within, x.within))
 
   more-taken : (p i found : ℕ) (h : SpanHead) → found ≡ now.alloc (16 * p + i) → lacks_at m p i found ≡ false → LooksInto sure m.wanted (sought m) now p h i → SlotsTakenBelow m.wanted now.alloc p (i + 1)
   unfolding row_bit
@@ -150,25 +150,25 @@ module _ (k : Known) (z : Arena) (a : ℕ) (sure : Bool) (s : Shared) (held : �
         below : (y : ℕ) → 1024 * p + y + 0 < 1024 * (p + h.pages) → (1024 * p + y) / 64 < 16 * p + i
         below y lt = omega (arith, le)
 
-  bits : (p i found : ℕ) (h : SpanHead) → found ≡ now.alloc (16 * p + i) → Good z now → Right a now true held None → Passes z a now m → LooksInto sure m.wanted (sought m) now p h i → Goes (goes_at m (Bits p h i) found)
+  bits : (p i found : ℕ) (h : SpanHead) → found ≡ now.alloc (16 * p + i) → Good z now → Right a now true held None → Passes z a now m → LooksInto sure m.wanted (sought m) now p h i → Goes (goes_at z.layout m (Bits p h i) found)
   bits p i found h is g right whose x = go (lacks_at m p i found) refl where
-    more : lacks_at m p i found ≡ false → (b : Bool) → ltb (i + 1) (16 * h.pages) ≡ b → Goes (cond b (Bits p h (i + 1)) (look_from m (p + h.pages)))
+    more : lacks_at m p i found ≡ false → (b : Bool) → ltb (i + 1) (16 * h.pages) ≡ b → Goes (cond b (Bits p h (i + 1)) (look_from z.layout (p + h.pages)))
     more none true t = (stays g, right, record { whose = whose-at z a now m (Bits p h (i + 1)) whose; stage = record { unowned = x.unowned; full = x.full; within = ltb-true (i + 1) (16 * h.pages) t; taken = more-taken p i found h is none x } })
-    more none false t = looks (p + h.pages) g right whose (λ sure_is. past-span now.page IsDone z.layout.pages p h (whole g right p h x.unowned.head) (x.full sure_is) (λ class noscan owner. (x.unowned.number, all-taken p (i + 1) h g right whose x.unowned (ltb-false (i + 1) (16 * h.pages) t) (more-taken p i found h is none x)))) (ltb (p + h.pages) m.layout.pages) refl
+    more none false t = looks (p + h.pages) g right whose (λ sure_is. past-span now.page IsDone z.layout.pages p h (whole g right p h x.unowned.head) (x.full sure_is) (λ class noscan owner. (x.unowned.number, all-taken p (i + 1) h g right whose x.unowned (ltb-false (i + 1) (16 * h.pages) t) (more-taken p i found h is none x)))) (ltb (p + h.pages) z.layout.pages) refl
 
-    go : (b : Bool) → lacks_at m p i found ≡ b → Goes (cond b (Take p h) (cond (ltb (i + 1) (16 * h.pages)) (Bits p h (i + 1)) (look_from m (p + h.pages))))
+    go : (b : Bool) → lacks_at m p i found ≡ b → Goes (cond b (Take p h) (cond (ltb (i + 1) (16 * h.pages)) (Bits p h (i + 1)) (look_from z.layout (p + h.pages))))
     go true t = (stays g, right, record { whose = whose-at z a now m (Take p h) whose; stage = x.unowned })
     go false t = more t (ltb (i + 1) (16 * h.pages)) refl
 
-  take : (p : ℕ) (h : SpanHead) → Good z now → Right a now true held None → Passes z a now m → IsUnowned m.wanted now.page now.generation p h → Steps z a s (asks (at_stage m (Take p h))) (λ t. KeepsObjects now (view t) × Comes z a sure now (view t) held (Some (Some p)) (at_stage m (Ended (Some p))))
+  take : (p : ℕ) (h : SpanHead) → Good z now → Right a now true held None → Passes z a now m → IsUnowned m.wanted now.page now.generation p h → Steps z a s (asks z.layout (at_stage m (Take p h))) (λ t. KeepsObjects now (view t) × Comes z a sure now (view t) held (Some (Some p)) (at_stage m (Ended (Some p))))
   take p h g right whose x = taking.takes (of-heap k) z a s held m.wanted m.seat whose.seat p h g right whose.few x
 
   own-at : (q : PassStage) → Good z now → Right a now true held None → IsSure z sure now → Facts z a sure now (at_stage m q) →
-      Steps z a s (asks (at_stage m q)) (λ t. KeepsObjects now (view t) × Comes z a sure now (view t) held (gives (at_stage m q) (s.words (cell_of (asks (at_stage m q))))) (goes (at_stage m q) (s.words (cell_of (asks (at_stage m q))))))
-  own-at (Look p) g right tidy x = record { move = Quiet (asks (at_stage m (Look p))); may = tt; words_are = refl; after = ((refl, refl), look p g right tidy (whose-of z a now m (Look p) x.whose) x.stage) }
+      Steps z a s (asks z.layout (at_stage m q)) (λ t. KeepsObjects now (view t) × Comes z a sure now (view t) held (given (goes z.layout (at_stage m q) (s.words (cell_of (asks z.layout (at_stage m q)))))) (goes z.layout (at_stage m q) (s.words (cell_of (asks z.layout (at_stage m q))))))
+  own-at (Look p) g right tidy x = record { move = Quiet (asks z.layout (at_stage m (Look p))); may = tt; words_are = refl; after = ((refl, refl), look p g right tidy (whose-of z a now m (Look p) x.whose) x.stage) }
   own-at (Bits p h i) g right tidy x =
       let whose = whose-of z a now m (Bits p h i) x.whose in
-      record { move = Quiet (asks (at_stage m (Bits p h i))); may = tt; words_are = refl; after = ((refl, refl), bits p i (s.words (cell.Alloc (alloc_word m p i))) h (ap (λ (n : ℕ). now.alloc n) (word-is p i h g whose x.stage)) g right whose x.stage) }
+      record { move = Quiet (asks z.layout (at_stage m (Bits p h i))); may = tt; words_are = refl; after = ((refl, refl), bits p i (s.words (cell.Alloc (alloc_word z.layout p i))) h (ap (λ (n : ℕ). now.alloc n) (word-is p i h g whose x.stage)) g right whose x.stage) }
   own-at (Take p h) g right tidy x = take p h g right (whose-of z a now m (Take p h) x.whose) x.stage
   own-at (Ended taken) g right tidy x = absurd x.stage
 
@@ -177,17 +177,18 @@ own k z a sure s held m g right tidy x = own-at k z a sure s held m m.stage g ri
 
 -- Its words.
 
-within-at : (z : Arena) (sure : Bool) (v : View) (m : Pass) (q : PassStage) → Good z v → m.layout ≡ z.layout → FactsAt z sure m v q → InRange z.layout (cell_of (asks (at_stage m q)))
-within-at z sure v m (Look p) g layout x = x.there
-within-at z sure v m (Bits p h i) g layout x =
-    let arena : m.layout.pages ≡ z.layout.pages = ap (λ (l : Layout). l.pages) layout in
-    let some : 0 < 16 * m.layout.pages = omega (arith, m.layout.limits.pages_fit.0) in
-    omega (arith, mod-lt (16 * p + i) some, arena)
-within-at z sure v m (Take p h) g layout x = let span = g.spans p h x.head in omega (arith, span.within, span.fits.some)
-within-at z sure v m (Ended taken) g layout x = absurd x
+within-at : (z : Arena) (sure : Bool) (v : View) (m : Pass) (q : PassStage) → Good z v → FactsAt z sure m v q → InRange z.layout (cell_of (asks z.layout (at_stage m q)))
+within-at z sure v m (Take p h) g x = let span = g.spans p h x.head in omega (arith, span.within, span.fits.some)
+within-at z sure v m q g x = let fit = z.layout.limits.pages_fit.0 in grind (arith, mod-lt)
 
-within : Within
-within z a sure v m g x = within-at z sure v m m.stage g x.whose.layout x.stage
+heads-at : (z : Arena) (sure : Bool) (v : View) (m : Pass) (q : PassStage) → FactsAt z sure m v q → WritesHead v.page (asks_at z.layout m q)
+heads-at z sure v m q x = grind arith
 
 pub passes_by_its_rights : Known → PassesByItsRights
-passes_by_its_rights k = record { opens = opens; own_step = own k; within = within; lasts = lasts k }
+passes_by_its_rights k = record {
+  opens = opens;
+  own_step = own k;
+  within = λ z a sure v m g x. within-at z sure v m m.stage g x.stage;
+  heads = λ z a sure v m x. heads-at z sure v m m.stage x.stage;
+  lasts = lasts k;
+}

@@ -1,3 +1,3 @@
 pub mod First
-pub mod Keeping
+pub mod Sound
 pub mod Walking

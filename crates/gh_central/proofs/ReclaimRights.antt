@@ -4,9 +4,10 @@ use Rattle.gh_base.specs.declared.cell.Cell.TheVariants as cell
 use Rattle.gh_base.specs.declared.pack.PageWord.TheVariants as page
 use Rattle.gh_central.specs.declared.reclaim.ReclaimStage.{ReclaimStage}
 use Rattle.gh_central.specs.declared.reclaim.ReclaimStage.TheVariants.{Look, Sweep, Wait, Bits, Body, Head, Ended}
-use Rattle.gh_central.specs.Reclaim.{Reclaiming, after_page, after_wait, alloc_word, asks, at_stage, body_page, free_from, given_at, gives, goes, goes_at, look_from, sweep_at, unswept}
+use Rattle.gh_central.specs.Reclaim.{Reclaiming, after_page, after_wait, asks, asks_at, at_stage, body_page, free_from, given, given_at, goes, goes_at, look_from, sweep_at, unswept}
+use Rattle.gh_central.specs.Owning.{FreesPage}
 use Rattle.gh_central.specs.ReclaimFacts.{ClearBelow, Comes, Facts, FactsAt, FreesFrom, IsIdleSpan, IsReadyToFree, IsUnowned, Lasts, LooksAt, LooksInto, Opens, OwnStep, Reclaims, WaitsFor, Within, freed_to, freeing_at}
-use Rattle.gh_central.proofs.Vocabulary.{Arena, BeingFreed, bit_at, bit_at-trailing_zeros, bit_at-zero, cell_of, EachFactLasts, EachFreeingFollows, EachOwnMoveLeaves, eqb-false, eqb_tells, FreeBody, freed_yet, FreeHead, Freeing, Good, InRange, IsEmpty, IsInUse, IsSpan, KeepsObjects, Layout, Leaves, MayFree, mod-eq_of_lt, moved, Others, PackedWordsAreReadBack, page_of, PageWord, put, Quiet, Right, Rights, row_bit, Shared, SpanHead, Steps, TheHeapIsApart, TidyBefore, trailing_zeros, View, view, WalksGoOn}
+use Rattle.gh_central.proofs.Vocabulary.{alloc_word, Arena, BeingFreed, bit_at, bit_at-trailing_zeros, bit_at-zero, cell_of, EachFactLasts, EachFreeingFollows, EachOwnMoveLeaves, eqb-false, eqb_tells, FreeBody, freed_yet, FreeHead, Freeing, Good, InRange, IsEmpty, IsInUse, IsSpan, KeepsObjects, Layout, Leaves, MayFree, mod-eq_of_lt, moved, Others, PackedWordsAreReadBack, page_of, PageWord, put, Quiet, Right, Rights, row_bit, Shared, SpanHead, Steps, TheHeapIsApart, TidyBefore, trailing_zeros, View, view, WalksGoOn}
 use Rattle.gh_central.proofs.Heads.{past-page, past-span}
 use Rattle.gh_central.proofs.Sweeping.Steps as steps
 use Rattle.gh_sweep.specs.Listing as sweep
@@ -56,7 +57,7 @@ module _ (k : Known) (z : Arena) (a : ℕ) (v w : View) (g : Good z v) (o : Othe
 
   stage-lasts : (q : ReclaimStage) → v.freeing a ≡ freeing_at q → FactsAt z v q → FactsAt z w q
   stage-lasts (Look p) right x = record { there = x.there; tidy = (k.last z a v w o).tidy_before p l x.tidy }
-  stage-lasts (Sweep p count sw) right x = record { waits = waits-last p x.waits; layout = x.layout; page_is = x.page_is; size = x.size; fits = x.fits; number = x.number ∙ sym o.generation; busy = x.busy }
+  stage-lasts (Sweep p count sw) right x = record { waits = waits-last p x.waits; page_is = x.page_is; size = x.size; fits = x.fits; number = x.number ∙ sym o.generation; busy = x.busy }
   stage-lasts (Wait p) right x = waits-last p x
   stage-lasts (Bits p count i) right x = record {
     idle = record { h = x.idle.h; head = (k.last z a v w o).idle p x.idle.h l x.idle.owner x.idle.number x.idle.head; owner = x.idle.owner; size = x.idle.size; number = x.idle.number ∙ sym o.generation };
@@ -69,7 +70,7 @@ module _ (k : Known) (z : Arena) (a : ℕ) (v w : View) (g : Good z v) (o : Othe
   stage-lasts Ended right x = x
 
 pub lasts : Known → Lasts
-lasts k z a v w held m g o right x = record { whose = record { layout = x.whose.layout; number = x.whose.number ∙ sym o.generation }; stage = stage-lasts k z a v w g o right.locked m.stage right.freeing x.stage }
+lasts k z a v w held m g o right x = record { whose = x.whose ∙ sym o.generation; stage = stage-lasts k z a v w g o right.locked m.stage right.freeing x.stage }
 
 -- The own steps.
 
@@ -85,12 +86,10 @@ module _ (k : Known) (z : Arena) (a : ℕ) (s : Shared) (held : ℕ → Bool) (m
   stays g = (k.leave z a s g).stays
 
   -- it looks from this page on, or has ended
-  looks : (w : View) (p : ℕ) → Leaves now w → Right a w true held None → Reclaims z w m → TidyBefore w.page w.alloc w.generation p → (b : Bool) → ltb p m.layout.pages ≡ b →
+  looks : (w : View) (p : ℕ) → Leaves now w → Right a w true held None → Reclaims w m → TidyBefore w.page w.alloc w.generation p → (b : Bool) → ltb p z.layout.pages ≡ b →
       Comes z a now w held (given_at (cond b (Look p) Ended)) (at_stage m (cond b (Look p) Ended))
-  looks w p leaves right whose tidy true t = (leaves, right, record { whose = record { layout = whose.layout; number = whose.number }; stage = record { there = subst (λ (l : Layout). p < l.pages) whose.layout (ltb-true p m.layout.pages t); tidy = tidy } })
-  looks w p leaves right whose tidy false t =
-      let last : z.layout.pages ≤ p = subst (λ (l : Layout). l.pages ≤ p) whose.layout (ltb-false p m.layout.pages t) in
-      (leaves, right, λ q h lt. tidy q h (omega (arith, lt, last)))
+  looks w p leaves right whose tidy true t = (leaves, right, record { whose = whose; stage = record { there = ltb-true p z.layout.pages t; tidy = tidy } })
+  looks w p leaves right whose tidy false t = (leaves, right, λ q h lt. tidy q h (omega (arith, lt, ltb-false p z.layout.pages t)))
 
   -- what holds of a head that is gone past
   abbrev IsDone : ℕ → SpanHead → Type 0
@@ -100,14 +99,14 @@ module _ (k : Known) (z : Arena) (a : ℕ) (s : Shared) (held : ℕ → Bool) (m
   whole g right p h = (k.apart z now g).locked a p h right.locked right.freeing
 
   -- it looks into a swept span that nobody owns
-  looks-into : (p : ℕ) (h : SpanHead) → Good z now → Right a now true held None → Reclaims z now m → TidyBefore now.page now.alloc now.generation p → page_of (now.page p) ≡ page.Head h → h.owner ≡ 0 → h.number ≡ m.generation → Goes (Bits p h.pages 0)
+  looks-into : (p : ℕ) (h : SpanHead) → Good z now → Right a now true held None → Reclaims now m → TidyBefore now.page now.alloc now.generation p → page_of (now.page p) ≡ page.Head h → h.owner ≡ 0 → h.number ≡ m.generation → Goes (Bits p h.pages 0)
   looks-into p h g right whose tidy head owner number = (
     stays g,
     right,
     record {
-      whose = record { layout = whose.layout; number = whose.number };
+      whose = whose;
       stage = record {
-        idle = record { h = h; head = head; owner = owner; size = refl; number = number ∙ whose.number };
+        idle = record { h = h; head = head; owner = owner; size = refl; number = number ∙ whose };
         tidy = tidy;
         within = let some = (g.spans p h head).fits.some in omega arith;
         clear = λ y low high. absurd (omega arith);
@@ -115,7 +114,7 @@ module _ (k : Known) (z : Arena) (a : ℕ) (s : Shared) (held : ℕ → Bool) (m
     },
   )
 
-  look : (p : ℕ) → Good z now → Right a now true held None → Reclaims z now m → LooksAt z now p → Goes (goes_at m (Look p) (now.page p))
+  look : (p : ℕ) → Good z now → Right a now true held None → Reclaims now m → LooksAt z now p → Goes (goes_at z.layout m (Look p) (now.page p))
   look p g right whose x = go (page_of (now.page p)) refl where
     owned : (h : SpanHead) → eqb h.owner 0 ≡ false → h.owner ≡ 0 → (h.number ≡ now.generation) × IsInUse now.alloc p h
     owned h t none = absurd (eqb-false h.owner 0 t none)
@@ -123,37 +122,37 @@ module _ (k : Known) (z : Arena) (a : ℕ) (s : Shared) (held : ℕ → Bool) (m
     waits : (h : SpanHead) → page_of (now.page p) ≡ page.Head h → h.owner ≡ 0 → WaitsFor z now p
     waits h head owner = record { there = x.there; tidy = x.tidy; unowned = record { h = h; head = head; owner = owner } }
 
-    on-unswept : (h : SpanHead) → page_of (now.page p) ≡ page.Head h → h.owner ≡ 0 → (b : Bool) → eqb (h.number + 2) m.generation ≡ b → Goes (cond b (Sweep p h.pages (sweep.opening m.layout p h)) (Wait p))
+    on-unswept : (h : SpanHead) → page_of (now.page p) ≡ page.Head h → h.owner ≡ 0 → (b : Bool) → eqb (h.number + 2) m.generation ≡ b → Goes (cond b (Sweep p h.pages (sweep.opening p h)) (Wait p))
     on-unswept h head owner true t = (
       stays g,
       right,
       record {
-        whose = record { layout = whose.layout; number = whose.number };
-        stage = record { waits = waits h head owner; layout = whose.layout; page_is = refl; size = refl; fits = steps.fits_now z now g p h head owner; number = eqb-true (h.number + 2) m.generation t ∙ whose.number; busy = refl };
+        whose = whose;
+        stage = record { waits = waits h head owner; page_is = refl; size = refl; fits = steps.fits_now z now g p h head owner; number = eqb-true (h.number + 2) m.generation t ∙ whose; busy = refl };
       },
     )
-    on-unswept h head owner false t = (stays g, right, record { whose = record { layout = whose.layout; number = whose.number }; stage = waits h head owner })
+    on-unswept h head owner false t = (stays g, right, record { whose = whose; stage = waits h head owner })
 
     on-head : (h : SpanHead) → page_of (now.page p) ≡ page.Head h → (b : Bool) → eqb h.owner 0 ≡ b → (c : Bool) → eqb h.number m.generation ≡ c →
-        Goes (cond b (cond c (Bits p h.pages 0) (unswept m p h)) (look_from m (p + h.pages)))
+        Goes (cond b (cond c (Bits p h.pages 0) (unswept m p h)) (look_from z.layout (p + h.pages)))
     on-head h head true t true u = looks-into p h g right whose x.tidy head (eqb-true h.owner 0 t) (eqb-true h.number m.generation u)
     on-head h head true t false u = on-unswept h head (eqb-true h.owner 0 t) (eqb (h.number + 2) m.generation) refl
-    on-head h head false t c u = looks now (p + h.pages) (stays g) right whose (past-span now.page IsDone z.layout.pages p h (whole g right p h head) x.tidy (owned h t)) (ltb (p + h.pages) m.layout.pages) refl
+    on-head h head false t c u = looks now (p + h.pages) (stays g) right whose (past-span now.page IsDone z.layout.pages p h (whole g right p h head) x.tidy (owned h t)) (ltb (p + h.pages) z.layout.pages) refl
 
-    go : (w : PageWord) → page_of (now.page p) ≡ w → Goes (after_page m p w)
-    go page.Free e = looks now (p + 1) (stays g) right whose (past-page now.page IsDone p x.tidy (λ h f. absurd (cc (e, f)))) (ltb (p + 1) m.layout.pages) refl
-    go (page.Body b) e = looks now (p + 1) (stays g) right whose (past-page now.page IsDone p x.tidy (λ h f. absurd (cc (e, f)))) (ltb (p + 1) m.layout.pages) refl
+    go : (w : PageWord) → page_of (now.page p) ≡ w → Goes (after_page z.layout m p w)
+    go page.Free e = looks now (p + 1) (stays g) right whose (past-page now.page IsDone p x.tidy (λ h f. absurd (cc (e, f)))) (ltb (p + 1) z.layout.pages) refl
+    go (page.Body b) e = looks now (p + 1) (stays g) right whose (past-page now.page IsDone p x.tidy (λ h f. absurd (cc (e, f)))) (ltb (p + 1) z.layout.pages) refl
     go (page.Head h) e = on-head h e (eqb h.owner 0) refl (eqb h.number m.generation) refl
 
   -- a span that is waited for
-  wait : (p : ℕ) → Good z now → Right a now true held None → Reclaims z now m → WaitsFor z now p → Goes (goes_at m (Wait p) (now.page p))
+  wait : (p : ℕ) → Good z now → Right a now true held None → Reclaims now m → WaitsFor z now p → Goes (goes_at z.layout m (Wait p) (now.page p))
   wait p g right whose x = go (page_of (now.page p)) refl where
     u : IsUnowned now.page p
     u = x.unowned
 
     on-head : (h : SpanHead) → page_of (now.page p) ≡ page.Head h → h.owner ≡ 0 → (b : Bool) → eqb h.number m.generation ≡ b → Goes (cond b (Bits p h.pages 0) (Wait p))
     on-head h head owner true t = looks-into p h g right whose x.tidy head owner (eqb-true h.number m.generation t)
-    on-head h head owner false t = (stays g, right, record { whose = record { layout = whose.layout; number = whose.number }; stage = x })
+    on-head h head owner false t = (stays g, right, record { whose = whose; stage = x })
 
     go : (w : PageWord) → page_of (now.page p) ≡ w → Goes (after_wait m p w)
     go page.Free e = absurd (cc (e, u.head))
@@ -164,10 +163,10 @@ module _ (k : Known) (z : Arena) (a : ℕ) (s : Shared) (held : ℕ → Bool) (m
 
   -- An alloc word of a span that is looked into.
 
-  word-is : (p count i : ℕ) → Good z now → Right a now true held None → Reclaims z now m → LooksInto now p count i → alloc_word m p i ≡ 16 * p + i
+  word-is : (p count i : ℕ) → Good z now → Right a now true held None → Reclaims now m → LooksInto now p count i → alloc_word z.layout p i ≡ 16 * p + i
   word-is p count i g right whose x =
       let span = whole g right p x.idle.h x.idle.head in
-      rw (whose.layout) (mod-eq_of_lt (omega (arith, span.within, x.within, x.idle.size)))
+      mod-eq_of_lt (omega (arith, span.within, x.within, x.idle.size))
 
   -- it has the bit of an object
   bit-set : (p i : ℕ) → Good z now → now.alloc (16 * p + i) ≢ 0 → (j : ℕ) × (j < 64) × (row_bit now.alloc (64 * (16 * p + i) + j) ≡ 1)
@@ -211,7 +210,7 @@ module _ (k : Known) (z : Arena) (a : ℕ) (s : Shared) (held : ℕ → Bool) (m
       }
 
   -- which page is freed first
-  first : (p count : ℕ) → Good z now → Right a now true held None → Reclaims z now m → IsIdleSpan now.page now.generation p count → TidyBefore now.page now.alloc now.generation p → IsEmpty now.alloc p count → (b : Bool) → ltb 1 count ≡ b →
+  first : (p count : ℕ) → Good z now → Right a now true held None → Reclaims now m → IsIdleSpan now.page now.generation p count → TidyBefore now.page now.alloc now.generation p → IsEmpty now.alloc p count → (b : Bool) → ltb 1 count ≡ b →
       Goes (cond b (Body p count 1) (Head p count))
   first p count g right whose x tidy empty b t = go b t where
     span : IsSpan z.layout.pages now.page p x.h
@@ -224,27 +223,27 @@ module _ (k : Known) (z : Arena) (a : ℕ) (s : Shared) (held : ℕ → Bool) (m
     frees d low few = record { tidy = tidy; there = omega (arith, span.within, x.size); some = low; few = few; vacant = λ e. is-vacant p count g right x some empty }
 
     go : (b : Bool) → ltb 1 count ≡ b → Goes (cond b (Body p count 1) (Head p count))
-    go true t = (stays g, right, record { whose = record { layout = whose.layout; number = whose.number }; stage = (frees 1 (omega arith) some, ltb-true 1 count t) })
+    go true t = (stays g, right, record { whose = whose; stage = (frees 1 (omega arith) some, ltb-true 1 count t) })
     go false t =
         let one : count ≡ 1 = omega (arith, some, ltb-false 1 count t) in
-        (stays g, subst (λ (n : ℕ). Rights a now true held None (freed_yet (freed_to p count n))) (sym one) right, record { whose = record { layout = whose.layout; number = whose.number }; stage = frees count some (omega arith) })
+        (stays g, subst (λ (n : ℕ). Rights a now true held None (freed_yet (freed_to p count n))) (sym one) right, record { whose = whose; stage = frees count some (omega arith) })
 
-  bits-step : (p count i found : ℕ) → found ≡ now.alloc (16 * p + i) → Good z now → Right a now true held None → Reclaims z now m → LooksInto now p count i → Goes (goes_at m (Bits p count i) found)
+  bits-step : (p count i found : ℕ) → found ≡ now.alloc (16 * p + i) → Good z now → Right a now true held None → Reclaims now m → LooksInto now p count i → Goes (goes_at z.layout m (Bits p count i) found)
   bits-step p count i found is g right whose x = go (eqb found 0) refl where
     clear : eqb found 0 ≡ true → ClearBelow now.alloc p (i + 1)
     clear t = more-clear p i (sym is ∙ eqb-true found 0 t) x.clear
 
     more : eqb found 0 ≡ true → (b : Bool) → ltb (i + 1) (16 * count) ≡ b → Goes (cond b (Bits p count (i + 1)) (free_from p count 1))
-    more t true u = (stays g, right, record { whose = record { layout = whose.layout; number = whose.number }; stage = record { idle = x.idle; tidy = x.tidy; within = ltb-true (i + 1) (16 * count) u; clear = clear t } })
+    more t true u = (stays g, right, record { whose = whose; stage = record { idle = x.idle; tidy = x.tidy; within = ltb-true (i + 1) (16 * count) u; clear = clear t } })
     more t false u = let all = ltb-false (i + 1) (16 * count) u in first p count g right whose x.idle x.tidy (λ y low high. clear t y low (omega (arith, high, all))) (ltb 1 count) refl
 
     past : eqb found 0 ≡ false → TidyBefore now.page now.alloc now.generation (p + count)
     past t = subst (λ (n : ℕ). TidyBefore now.page now.alloc now.generation (p + n)) x.idle.size
         (past-span now.page IsDone z.layout.pages p x.idle.h (whole g right p x.idle.h x.idle.head) x.tidy (λ none. (x.idle.number, in-use p count i g right x (λ e. eqb-false found 0 t (is ∙ e)))))
 
-    go : (b : Bool) → eqb found 0 ≡ b → Goes (cond b (cond (ltb (i + 1) (16 * count)) (Bits p count (i + 1)) (free_from p count 1)) (look_from m (p + count)))
+    go : (b : Bool) → eqb found 0 ≡ b → Goes (cond b (cond (ltb (i + 1) (16 * count)) (Bits p count (i + 1)) (free_from p count 1)) (look_from z.layout (p + count)))
     go true t = more t (ltb (i + 1) (16 * count)) refl
-    go false t = looks now (p + count) (stays g) right whose (past t) (ltb (p + count) m.layout.pages) refl
+    go false t = looks now (p + count) (stays g) right whose (past t) (ltb (p + count) z.layout.pages) refl
 
   -- The stores.
 
@@ -263,8 +262,8 @@ module _ (k : Known) (z : Arena) (a : ℕ) (s : Shared) (held : ℕ → Bool) (m
       let r = ready p count d g right x in
       record { locked = right.locked; laying = right.laying; freeing = right.freeing; being = r.0; swept = r.2; empty = r.1 }
 
-  body : (p count d : ℕ) → Good z now → Rights a now true held None (freed_yet (freed_to p count d)) → Reclaims z now m → FreesFrom z now p count d → d < count →
-      Steps z a s (asks (at_stage m (Body p count d))) (λ t. KeepsObjects now (view t) × Comes z a now (view t) held (given_at (free_from p count (d + 1))) (at_stage m (free_from p count (d + 1))))
+  body : (p count d : ℕ) → Good z now → Rights a now true held None (freed_yet (freed_to p count d)) → Reclaims now m → FreesFrom z now p count d → d < count →
+      Steps z a s (asks z.layout (at_stage m (Body p count d))) (λ t. KeepsObjects now (view t) × Comes z a now (view t) held (given_at (free_from p count (d + 1))) (at_stage m (free_from p count (d + 1))))
   body p count d g right whose x more = record {
     move = FreeBody y;
     may = (may-free p count d g right x, more);
@@ -274,8 +273,8 @@ module _ (k : Known) (z : Arena) (a : ℕ) (s : Shared) (held : ℕ → Bool) (m
     y : Freeing
     y = freed_to p count d
 
-    page-is : body_page m p d ≡ p + d
-    page-is = rw (whose.layout) (mod-eq_of_lt (omega (arith, x.there, more)))
+    page-is : body_page z.layout p d ≡ p + d
+    page-is = mod-eq_of_lt (omega (arith, x.there, more))
 
     t : Shared
     t = moved z a s (FreeBody y)
@@ -292,18 +291,18 @@ module _ (k : Known) (z : Arena) (a : ℕ) (s : Shared) (held : ℕ → Bool) (m
     frees n e = record { tidy = k.walks.tidy now (view t) p leaves x.tidy; there = x.there; some = omega (arith, e); few = omega (arith, e, more); vacant = λ q. absurd (omega (arith, q, e, x.some)) }
 
     go : (b : Bool) → ltb (d + 1) count ≡ b → Comes z a now (view t) held (given_at (cond b (Body p count (d + 1)) (Head p count))) (at_stage m (cond b (Body p count (d + 1)) (Head p count)))
-    go true u = (leaves, right-then (d + 1) refl, record { whose = record { layout = whose.layout; number = whose.number }; stage = (frees (d + 1) refl, ltb-true (d + 1) count u) })
+    go true u = (leaves, right-then (d + 1) refl, record { whose = whose; stage = (frees (d + 1) refl, ltb-true (d + 1) count u) })
     go false u =
         let all : count ≡ d + 1 = omega (arith, more, ltb-false (d + 1) count u) in
-        (leaves, right-then count all, record { whose = record { layout = whose.layout; number = whose.number }; stage = frees count all })
+        (leaves, right-then count all, record { whose = whose; stage = frees count all })
 
-  head : (p count : ℕ) → Good z now → Rights a now true held None (freed_yet (freed_to p count count)) → Reclaims z now m → FreesFrom z now p count count →
-      Steps z a s (asks (at_stage m (Head p count))) (λ t. KeepsObjects now (view t) × Comes z a now (view t) held (given_at (look_from m (p + count))) (at_stage m (look_from m (p + count))))
+  head : (p count : ℕ) → Good z now → Rights a now true held None (freed_yet (freed_to p count count)) → Reclaims now m → FreesFrom z now p count count →
+      Steps z a s (asks z.layout (at_stage m (Head p count))) (λ t. KeepsObjects now (view t) × Comes z a now (view t) held (given_at (look_from z.layout (p + count))) (at_stage m (look_from z.layout (p + count))))
   head p count g right whose x = record {
     move = FreeHead y;
     may = (may-free p count count g right x, refl);
     words_are = refl;
-    after = ((refl, refl), looks (view t) (p + count) leaves ((k.freeing z a s true held None (freed_yet y) right).head y) (record { layout = whose.layout; number = whose.number }) tidy (ltb (p + count) m.layout.pages) refl);
+    after = ((refl, refl), looks (view t) (p + count) leaves ((k.freeing z a s true held None (freed_yet y) right).head y) (whose) tidy (ltb (p + count) z.layout.pages) refl);
   } where
     y : Freeing
     y = freed_to p count count
@@ -336,15 +335,15 @@ module _ (k : Known) (z : Arena) (a : ℕ) (s : Shared) (held : ℕ → Bool) (m
       by false u = absurd (no-head ((view t).page q) h (free q (ltb-false q p u) lt) e)
 
   own-at : (q : ReclaimStage) → Good z now → Rights a now true held None (freeing_at q) → Facts z now (at_stage m q) → sweep_at q ≡ None →
-      Steps z a s (asks (at_stage m q)) (λ t. KeepsObjects now (view t) × Comes z a now (view t) held (gives (at_stage m q) (s.words (cell_of (asks (at_stage m q))))) (goes (at_stage m q) (s.words (cell_of (asks (at_stage m q))))))
-  own-at (Look p) g right x none = record { move = Quiet (asks (at_stage m (Look p))); may = tt; words_are = refl; after = ((refl, refl), look p g right (record { layout = x.whose.layout; number = x.whose.number }) x.stage) }
+      Steps z a s (asks z.layout (at_stage m q)) (λ t. KeepsObjects now (view t) × Comes z a now (view t) held (given (goes z.layout (at_stage m q) (s.words (cell_of (asks z.layout (at_stage m q)))))) (goes z.layout (at_stage m q) (s.words (cell_of (asks z.layout (at_stage m q))))))
+  own-at (Look p) g right x none = record { move = Quiet (asks z.layout (at_stage m (Look p))); may = tt; words_are = refl; after = ((refl, refl), look p g right (x.whose) x.stage) }
   own-at (Sweep p count sw) g right x none = absurd (cc)
-  own-at (Wait p) g right x none = record { move = Quiet (asks (at_stage m (Wait p))); may = tt; words_are = refl; after = ((refl, refl), wait p g right (record { layout = x.whose.layout; number = x.whose.number }) x.stage) }
+  own-at (Wait p) g right x none = record { move = Quiet (asks z.layout (at_stage m (Wait p))); may = tt; words_are = refl; after = ((refl, refl), wait p g right (x.whose) x.stage) }
   own-at (Bits p count i) g right x none =
-      let whose : Reclaims z now m = record { layout = x.whose.layout; number = x.whose.number } in
-      record { move = Quiet (asks (at_stage m (Bits p count i))); may = tt; words_are = refl; after = ((refl, refl), bits-step p count i (s.words (cell.Alloc (alloc_word m p i))) (ap (λ (n : ℕ). now.alloc n) (word-is p count i g right whose x.stage)) g right whose x.stage) }
-  own-at (Body p count d) g right x none = body p count d g right (record { layout = x.whose.layout; number = x.whose.number }) x.stage.0 x.stage.1
-  own-at (Head p count) g right x none = head p count g right (record { layout = x.whose.layout; number = x.whose.number }) x.stage
+      let whose : Reclaims now m = x.whose in
+      record { move = Quiet (asks z.layout (at_stage m (Bits p count i))); may = tt; words_are = refl; after = ((refl, refl), bits-step p count i (s.words (cell.Alloc (alloc_word z.layout p i))) (ap (λ (n : ℕ). now.alloc n) (word-is p count i g right whose x.stage)) g right whose x.stage) }
+  own-at (Body p count d) g right x none = body p count d g right (x.whose) x.stage.0 x.stage.1
+  own-at (Head p count) g right x none = head p count g right (x.whose) x.stage
   own-at Ended g right x none = absurd x.stage
 
 pub own : Known → OwnStep
@@ -352,8 +351,11 @@ own k z a s held m g right x none = own-at k z a s held m m.stage g right x none
 
 -- Its words.
 
-within-at : (z : Arena) (v : View) (m : Reclaiming) (q : ReclaimStage) → m.layout ≡ z.layout → FactsAt z v q → InRange z.layout (cell_of (asks (at_stage m q)))
-within-at z v m q layout x = grind arith
+within-at : (z : Arena) (v : View) (q : ReclaimStage) → FactsAt z v q → InRange z.layout (cell_of (asks_at z.layout q))
+within-at z v q x = grind arith
 
 pub within : Within
-within z v m g x = within-at z v m m.stage x.whose.layout x.stage
+within z v m g x = within-at z v m.stage x.stage
+
+pub frees-at : (l : Layout) (q : ReclaimStage) → sweep_at q ≡ None → FreesPage (asks_at l q)
+frees-at l q none = grind arith

@@ -4,19 +4,18 @@ use Rattle.gh_base.specs.declared.pack.PageWord.TheVariants as page
 use Rattle.gh_base.specs.Packing.{FitsHead}
 use Rattle.gh_central.specs.declared.reclaim.ReclaimStage.{ReclaimStage}
 use Rattle.gh_central.specs.declared.reclaim.ReclaimStage.TheVariants.{Bits, Sweep, Wait}
-use Rattle.gh_central.specs.Reclaim.{Reclaiming, after_sweep, asks, at_stage, given_at, gives, goes, sweep_at}
+use Rattle.gh_central.specs.Reclaim.{Reclaiming, after_sweep, asks, at_stage, given, given_at, goes, sweep_at}
 use Rattle.gh_central.specs.ReclaimFacts.{Comes, Facts, freeing_at, ReclaimsByItsRights, Reclaims, SweepsIt, SweepStep, WaitsFor}
 use Rattle.gh_central.specs.Sweeping.{SweepLeaves}
-use Rattle.gh_central.proofs.ReclaimRights.{Known, lasts, opens, own, within}
+use Rattle.gh_central.proofs.ReclaimRights.{frees-at, Known, lasts, opens, own, within}
 use Rattle.gh_central.proofs.Sweeping.Steps as steps
 use Rattle.gh_central.proofs.Vocabulary.{Arena, cell_of, effect, Good, page_of, Right, Rights, Shared, SpanHead, TidyBefore, View, view}
 use Rattle.gh_sweep.specs.declared.sweep.SweepEnd.{SweepEnd}
 use Rattle.gh_sweep.specs.declared.sweep.SweepEnd.TheVariants.{Lost, Swept}
 use Rattle.gh_sweep.specs.Listing as sweep
 use Rattle.gh_sweep.specs.Listing.{once_swept, Sweeping}
-use Rattle.gh_sweep.specs.Stays as layouts
 
-module _ (k : Known) (z : Arena) (a : ℕ) (s t : Shared) (held : ℕ → Bool) (m : Reclaiming) (g : Good z (view s)) (o : SweepLeaves (view s) (view t)) (right : Right a (view t) true held None) (whose : Reclaims z (view s) m) where
+module _ (k : Known) (z : Arena) (a : ℕ) (s t : Shared) (held : ℕ → Bool) (m : Reclaiming) (g : Good z (view s)) (o : SweepLeaves (view s) (view t)) (right : Right a (view t) true held None) (whose : Reclaims (view s) m) where
   abbrev before : View
   before = view s
 
@@ -30,14 +29,14 @@ module _ (k : Known) (z : Arena) (a : ℕ) (s t : Shared) (held : ℕ → Bool) 
   waits-then : (p : ℕ) → WaitsFor z before p → WaitsFor z then p
   waits-then p x = record { there = x.there; tidy = tidy-then p x.tidy; unowned = steps.unowned_then before then o p x.unowned }
 
-  whose-at : (q : ReclaimStage) → Reclaims z then (at_stage m q)
-  whose-at q = record { layout = whose.layout; number = whose.number ∙ sym o.leaves.generation }
+  whose-at : (q : ReclaimStage) → Reclaims then (at_stage m q)
+  whose-at q = whose ∙ sym o.leaves.generation
 
   -- the sweep goes on, is lost, or has swept the span
-  ran : (p count : ℕ) (sw : Sweeping) → SweepsIt z before p count sw → t.words ≡ effect s.words (sweep.asks sw) → (end : Option SweepEnd) → sweep.gives sw (s.words (cell_of (sweep.asks sw))) ≡ end →
-      Comes z a before then held (given_at (after_sweep p count (sweep.goes sw (s.words (cell_of (sweep.asks sw)))) end)) (at_stage m (after_sweep p count (sweep.goes sw (s.words (cell_of (sweep.asks sw)))) end))
+  ran : (p count : ℕ) (sw : Sweeping) → SweepsIt z before p count sw → t.words ≡ effect s.words (sweep.asks z.layout sw) → (end : Option SweepEnd) → sweep.gives sw (s.words (cell_of (sweep.asks z.layout sw))) ≡ end →
+      Comes z a before then held (given_at (after_sweep p count (sweep.goes sw (s.words (cell_of (sweep.asks z.layout sw)))) end)) (at_stage m (after_sweep p count (sweep.goes sw (s.words (cell_of (sweep.asks z.layout sw)))) end))
   ran p count sw x words None e =
-      let found = s.words (cell_of (sweep.asks sw)) in
+      let found = s.words (cell_of (sweep.asks z.layout sw)) in
       let same = steps.same_head sw found in (
         o.leaves,
         right,
@@ -45,7 +44,6 @@ module _ (k : Known) (z : Arena) (a : ℕ) (s t : Shared) (held : ℕ → Bool) 
           whose = whose-at (Sweep p count (sweep.goes sw found));
           stage = record {
             waits = waits-then p x.waits;
-            layout = layouts.stays sw found ∙ x.layout;
             page_is = steps.same_page sw found ∙ x.page_is;
             size = ap (λ (h : SpanHead). h.pages) same ∙ x.size;
             fits = subst (λ (h : SpanHead). FitsHead h) (sym same) x.fits;
@@ -57,7 +55,7 @@ module _ (k : Known) (z : Arena) (a : ℕ) (s t : Shared) (held : ℕ → Bool) 
   ran p count sw x words (Some Lost) e = (o.leaves, right, record { whose = whose-at (Wait p); stage = waits-then p x.waits })
   ran p count sw x words (Some (Swept span)) e =
       let few : sw.head.number + 2 < 2 ^ 34 = omega (arith, x.number, g.generation) in
-      let head : page_of (then.page p) ≡ page.Head (once_swept sw.head) = steps.swept_then k.packed s.words t.words sw p sw.head span words x.page_is refl x.busy x.fits few e in (
+      let head : page_of (then.page p) ≡ page.Head (once_swept sw.head) = steps.swept_then k.packed z.layout s.words t.words sw p sw.head span words x.page_is refl x.busy x.fits few e in (
         o.leaves,
         right,
         record {
@@ -71,12 +69,12 @@ module _ (k : Known) (z : Arena) (a : ℕ) (s t : Shared) (held : ℕ → Bool) 
         },
       )
 
-sweep-at : Known → (z : Arena) (a : ℕ) (s t : Shared) (held : ℕ → Bool) (m : Reclaiming) (q : ReclaimStage) (sw : Sweeping) → Good z (view s) → Rights a (view s) true held None (freeing_at q) → Facts z (view s) (at_stage m q) → sweep_at q ≡ Some sw → SweepLeaves (view s) (view t) → t.words ≡ effect s.words (asks (at_stage m q)) →
-    Comes z a (view s) (view t) held (gives (at_stage m q) (s.words (cell_of (asks (at_stage m q))))) (goes (at_stage m q) (s.words (cell_of (asks (at_stage m q)))))
+sweep-at : Known → (z : Arena) (a : ℕ) (s t : Shared) (held : ℕ → Bool) (m : Reclaiming) (q : ReclaimStage) (sw : Sweeping) → Good z (view s) → Rights a (view s) true held None (freeing_at q) → Facts z (view s) (at_stage m q) → sweep_at q ≡ Some sw → SweepLeaves (view s) (view t) → t.words ≡ effect s.words (asks z.layout (at_stage m q)) →
+    Comes z a (view s) (view t) held (given (goes z.layout (at_stage m q) (s.words (cell_of (asks z.layout (at_stage m q)))))) (goes z.layout (at_stage m q) (s.words (cell_of (asks z.layout (at_stage m q)))))
 sweep-at k z a s t held m q on g right x is o words = grind (arith, ran)
 
 sweep-step : Known → SweepStep
 sweep-step k z a s t held m sw g right x is o words = (steps.objects_then (view s) (view t) o, sweep-at k z a s t held m m.stage sw g right x is o words)
 
 pub reclaims_by_its_rights : Known → ReclaimsByItsRights
-reclaims_by_its_rights k = record { opens = opens; own_step = own k; sweep_step = sweep-step k; within = within; lasts = lasts k }
+reclaims_by_its_rights k = record { opens = opens; own_step = own k; sweep_step = sweep-step k; within = within; frees = λ l m none. frees-at l m.stage none; lasts = lasts k }

@@ -1,3 +1,3 @@
-pub mod Keeping
+pub mod Sound
 pub mod Running
 pub mod Steps

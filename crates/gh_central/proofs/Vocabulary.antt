@@ -19,6 +19,5 @@ pub use Rattle.gh_heap.specs.Laws.{EachFactLasts, EachFreeingFollows, EachMoveKe
 pub use Rattle.gh_heap.specs.Moves.{FreeBody, freed_yet, FreeHead, KeepsObjects, Leaves, MayFree, MayPass, moved, Others, Own, Quiet, Steps, update}
 pub use Rattle.gh_heap.specs.Rights.{Arena, FullBefore, Good, Right, Rights, Shared, TidyBefore, View, view}
 pub use Rattle.gh_heap.specs.Spans.{BeingFreed, Freeing, IsEmpty, IsFull, IsInUse, IsSpan, Laying, owned_by, owner_at, owner_in, slot_count, slot_size}
-pub use Rattle.gh_central.specs.SweptPass.{after_page, alloc_word, asks, at_stage, given_at, gives, goes, goes_at, is_busy, is_small, is_wanted, lacks_at, listing, look_from, pages_gone, Pass}
+pub use Rattle.gh_central.specs.SweptPass.{after_page, alloc_word, asks, asks_at, at_stage, given, given_at, goes, goes_at, is_small, is_wanted, lacks_at, listing, look_from, pages_gone, Pass}
 pub use Rattle.gh_central.specs.declared.pass.PassStage.{PassStage}
-pub use Rattle.gh_central.specs.declared.pass.PassStage.TheVariants.{Bits, Ended, Look, Take}

@@ -11,6 +11,7 @@ use Rattle.gh_heap.specs.Rights.{Arena, Good, Right, Shared, View, view}
 use Rattle.gh_heap.specs.Spans.{IsFull, Laying, owned_by}
 use Rattle.gh_central.specs.declared.give.GiveStage.TheVariants.{Write}
 use Rattle.gh_central.specs.GiveBack.{SpanGiving, asks}
+use Rattle.gh_central.specs.Owning.{WritesHead}
 
 -- the head of the span, which the seat holds, is what is written but for its owner
 pub record CanGiveBack (z : Arena) (a : ℕ) (v : View) (g : SpanGiving) : Type 0 where
@@ -31,6 +32,10 @@ abbrev pub GivesLarge : Type 0
 GivesLarge = (z : Arena) (a : ℕ) (s : Shared) (l : Bool) (held : ℕ → Bool) (y : Option Laying) (g : SpanGiving) → Good z (view s) → Right a (view s) l held y → (c : CanGiveBack z a (view s) g) → c.h.class ≡ Large → IsFull (view s).alloc g.page c.h →
     Steps z a s (asks g) (λ t. KeepsObjects (view s) (view t) × Right a (view t) l (update held g.page false) y)
 
+-- what it writes is the word of a page at which a span begins
+abbrev pub WritesHeads : Type 0
+WritesHeads = (z : Arena) (a : ℕ) (v : View) (g : SpanGiving) → CanGiveBack z a v g → WritesHead v.page (asks g)
+
 -- it is on a word that there is
 abbrev pub Within : Type 0
 Within = (z : Arena) (a : ℕ) (v : View) (g : SpanGiving) → Good z v → CanGiveBack z a v g → InRange z.layout (cell_of (asks g))
@@ -43,4 +48,5 @@ pub record GivesByItsRights : Type 0 where
   pub gives : GivesBack
   pub gives_large : GivesLarge
   pub within : Within
+  pub heads : WritesHeads
   pub lasts : Lasts

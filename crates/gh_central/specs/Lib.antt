@@ -1,4 +1,3 @@
-pub mod Blind
 pub mod GiveBack
 pub mod GiveFacts
 pub mod Owning
@@ -8,7 +7,6 @@ pub mod Reclaim
 pub mod ReclaimFacts
 pub mod ReclaimSound
 pub mod Slots
-pub mod Sound
 pub mod Sweeping
 pub mod SweptPass
 pub mod UnsweptFacts

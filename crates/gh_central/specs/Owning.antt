@@ -1,16 +1,29 @@
--- What the store changes that gives a span back.
+-- What the stores change that give a span back, take one and free its pages.
 use Rattle.std.specs.Prelude.{◌≡◌, ◌≢◌, ℕ}
 use Rattle.gh_base.specs.declared.cell.Ask.{Ask}
+use Rattle.gh_base.specs.declared.cell.Ask.TheVariants.{Load, Store}
 use Rattle.gh_base.specs.declared.cell.Cell.{Cell}
 use Rattle.gh_base.specs.declared.cell.Cell.TheVariants.{Page}
-use Rattle.gh_base.specs.declared.layout.Layout.{Layout}
 use Rattle.gh_base.specs.declared.pack.PageWord.TheVariants.{Head}
 use Rattle.gh_base.specs.declared.pack.SpanHead.{SpanHead}
 use Rattle.gh_base.specs.Cells.{Words}
 use Rattle.gh_base.specs.Packing.{FitsHead, page_of}
+use Rattle.gh_base.specs.Rows.{Row}
 use Rattle.gh_base.specs.Steps.{effect}
 use Rattle.gh_central.specs.GiveBack as giving
 use Rattle.gh_central.specs.SweptPass.{owned_by}
+
+-- a step writes nothing, or the word of a page at which a span begins
+abbrev pub WritesHead : Row → Ask → Type 0
+WritesHead page_words (Load c) = Unit {0}
+WritesHead page_words (Store (Page p) word) = (h : SpanHead) × (page_of (page_words p) ≡ Head h)
+WritesHead page_words _ = ⊥
+
+-- or it makes a page free
+abbrev pub FreesPage : Ask → Type 0
+FreesPage (Load c) = Unit {0}
+FreesPage (Store (Page p) word) = word ≡ 0
+FreesPage _ = ⊥
 
 -- the step leaves this head with this owner on the page, and every other cell as it was
 pub record ChangesTheOwner (page : ℕ) (h : SpanHead) (owner : ℕ) (step : Ask) (words : Words) : Type 0 where
@@ -18,4 +31,4 @@ pub record ChangesTheOwner (page : ℕ) (h : SpanHead) (owner : ℕ) (step : Ask
   pub others : (cell : Cell) → cell ≢ Page page → effect words step cell ≡ words cell
 
 abbrev pub GivingChangesTheOwner : Type 0
-GivingChangesTheOwner = (l : Layout) (page : ℕ) (h : SpanHead) (words : Words) → FitsHead h → ChangesTheOwner page h 0 (giving.asks (giving.opening l page h)) words
+GivingChangesTheOwner = (page : ℕ) (h : SpanHead) (words : Words) → FitsHead h → ChangesTheOwner page h 0 (giving.asks (giving.opening page h)) words

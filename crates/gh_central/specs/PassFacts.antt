@@ -14,11 +14,11 @@ use Rattle.gh_heap.specs.Rights.{Arena, FullBefore, TidyBefore, Good, Right, Sha
 use Rattle.gh_heap.specs.Spans.{IsSpan}
 use Rattle.gh_central.specs.declared.pass.PassStage.{PassStage}
 use Rattle.gh_central.specs.declared.pass.PassStage.TheVariants.{Look, Bits, Take, Ended}
-use Rattle.gh_central.specs.SweptPass.{Pass, asks, gives, goes}
+use Rattle.gh_central.specs.Owning.{WritesHead}
+use Rattle.gh_central.specs.SweptPass.{Pass, asks, given, goes}
 
 -- the routine is this seat's, in this arena, and looks for spans of a class there is
 pub record Passes (z : Arena) (a : ℕ) (v : View) (m : Pass) : Type 0 where
-  pub layout : m.layout ≡ z.layout
   pub seat : m.seat ≡ a
   pub few : a + 1 < 2 ^ 8
   pub number : m.generation ≡ v.generation
@@ -88,11 +88,15 @@ IsSure z sure v = sure ≡ true → TidyBefore v.page v.alloc v.generation z.lay
 -- a step of its own
 abbrev pub OwnStep : Type 0
 OwnStep = (z : Arena) (a : ℕ) (sure : Bool) (s : Shared) (held : ℕ → Bool) (m : Pass) → Good z (view s) → Right a (view s) true held None → IsSure z sure (view s) → Facts z a sure (view s) m →
-    Steps z a s (asks m) (λ t. KeepsObjects (view s) (view t) × Comes z a sure (view s) (view t) held (gives m (s.words (cell_of (asks m)))) (goes m (s.words (cell_of (asks m)))))
+    Steps z a s (asks z.layout m) (λ t. KeepsObjects (view s) (view t) × Comes z a sure (view s) (view t) held (given (goes z.layout m (s.words (cell_of (asks z.layout m))))) (goes z.layout m (s.words (cell_of (asks z.layout m)))))
 
 -- it is on a word that there is
 abbrev pub Within : Type 0
-Within = (z : Arena) (a : ℕ) (sure : Bool) (v : View) (m : Pass) → Good z v → Facts z a sure v m → InRange z.layout (cell_of (asks m))
+Within = (z : Arena) (a : ℕ) (sure : Bool) (v : View) (m : Pass) → Good z v → Facts z a sure v m → InRange z.layout (cell_of (asks z.layout m))
+
+-- what it writes is the word of a page at which a span begins
+abbrev pub WritesHeads : Type 0
+WritesHeads = (z : Arena) (a : ℕ) (sure : Bool) (v : View) (m : Pass) → Facts z a sure v m → WritesHead v.page (asks z.layout m)
 
 -- the steps of others
 abbrev pub Lasts : Type 0
@@ -102,4 +106,5 @@ pub record PassesByItsRights : Type 0 where
   pub opens : Opens
   pub own_step : OwnStep
   pub within : Within
+  pub heads : WritesHeads
   pub lasts : Lasts

@@ -7,16 +7,22 @@ use Rattle.gh_base.specs.declared.layout.Layout.{Layout}
 use Rattle.gh_base.specs.declared.pack.PageWord.TheVariants.{Head}
 use Rattle.gh_base.specs.declared.pack.SpanHead.{SpanHead}
 use Rattle.gh_base.specs.Packing.{head_word, page_of}
-use Rattle.gh_base.specs.Routines.{EndsWith, GoesOn, told}
+use Rattle.gh_base.specs.Machines.{steps_of}
+use Rattle.gh_base.specs.Routines as routine
 use Rattle.gh_class.specs.declared.class.SizeClass.TheVariants.{Small}
 use Rattle.gh_class.specs.declared.class.SpanClass.{SpanClass}
 use Rattle.gh_class.specs.Classes.{slot_words_of, slots_of}
 use Rattle.gh_central.specs.Slots.{LacksSlot}
 use Rattle.gh_central.specs.SweptPass.{Pass, alloc_word, asks, listing, opening, owned_by, pages_gone}
 
--- one of its first n steps is this, and was told this word
-abbrev pub StepWasTold : Pass → (ℕ → ℕ) → (n : ℕ) → Ask → ℕ → Type 0
-StepWasTold m found n ask word = (i : ℕ) × (i < n) × (asks (told listing m found i) ≡ ask) × (found i ≡ word)
+module _ (l : Layout) (m : Pass) (found : ℕ → ℕ) where
+  -- after n steps
+  abbrev pub told : (n : ℕ) → Pass
+  told = routine.told (steps_of l (listing l)) m found
+
+  -- one of its first n steps is this, and was told this word
+  abbrev pub StepWasTold : (n : ℕ) → Ask → ℕ → Type 0
+  StepWasTold n ask word = (i : ℕ) × (i < n) × (asks l (told i) ≡ ask) × (found i ≡ word)
 
 -- the head of a span of the wanted span class that nobody owns, and that is swept
 pub record IsWanted (m : Pass) (h : SpanHead) : Type 0 where
@@ -30,14 +36,14 @@ abbrev pub LacksAt : Pass → (page i word : ℕ) → Type 0
 LacksAt m page i word = LacksSlot (slot_words_of m.wanted.class) (slots_of m.wanted.class) (1024 * page) (16 * page + i) word
 
 -- by its first n steps
-module _ (m : Pass) (found : ℕ → ℕ) (n : ℕ) where
+module _ (l : Layout) (m : Pass) (found : ℕ → ℕ) (n : ℕ) where
   -- the page was told to be this head
   abbrev pub IsHead : ℕ → SpanHead → Type 0
-  IsHead page h = (word : ℕ) × StepWasTold m found n (Load (Page page)) word × (page_of word ≡ Head h)
+  IsHead page h = (word : ℕ) × StepWasTold l m found n (Load (Page page)) word × (page_of word ≡ Head h)
 
   -- alloc word i of the span at this page was told to be this
   abbrev pub IsBits : (page i word : ℕ) → Type 0
-  IsBits page i word = StepWasTold m found n (Load (Alloc (alloc_word m page i))) word
+  IsBits page i word = StepWasTold l m found n (Load (Alloc (alloc_word l page i))) word
 
   -- each slot that begins in an alloc word of the span is taken, as they were told
   abbrev pub IsFull : ℕ → SpanHead → Type 0
@@ -45,7 +51,7 @@ module _ (m : Pass) (found : ℕ → ℕ) (n : ℕ) where
 
   -- the page was told, or it lies in the span of a head that was told
   abbrev pub IsMet : ℕ → Type 0
-  IsMet page = (first word : ℕ) × StepWasTold m found n (Load (Page first)) word × (first ≤ page) × (page < first + pages_gone (page_of word))
+  IsMet page = (first word : ℕ) × StepWasTold l m found n (Load (Page first)) word × (first ≤ page) × (page < first + pages_gone (page_of word))
 
   -- the pages before this one were met, and a head of a wanted span that was told of one of them is of a full span
   pub record Passes (end : ℕ) : Type 0 where
@@ -59,13 +65,13 @@ module _ (m : Pass) (found : ℕ → ℕ) (n : ℕ) where
     pub wanted : IsWanted m head
     pub lacks : (i word : ℕ) × (i < 16 * head.pages) × IsBits page i word × LacksAt m page i word
     pub first : Passes page
-    pub last : (other word : ℕ) → StepWasTold m found n (Load (Page other)) word → other ≤ page
-    pub store : asks (told listing m found n) ≡ Store (Page page) (head_word (owned_by (m.seat + 1) head))
+    pub last : (other word : ℕ) → StepWasTold l m found n (Load (Page other)) word → other ≤ page
+    pub store : asks l (told l m found n) ≡ Store (Page page) (head_word (owned_by (m.seat + 1) head))
 
 -- what it gives if step n is its last
-pub record TakesTheFirst (m : Pass) (found : ℕ → ℕ) (n : ℕ) : Type 0 where
-  pub some : (page : ℕ) → GoesOn listing m found n → EndsWith listing m found n (Some page) → Takes m found n page
-  pub none : GoesOn listing m found n → EndsWith listing m found n None → Passes m found (suc n) m.layout.pages
+pub record TakesTheFirst (l : Layout) (m : Pass) (found : ℕ → ℕ) (n : ℕ) : Type 0 where
+  pub some : (page : ℕ) → routine.GoesOn (steps_of l (listing l)) m found n → routine.EndsWith (steps_of l (listing l)) m found n (Some page) → Takes l m found n page
+  pub none : routine.GoesOn (steps_of l (listing l)) m found n → routine.EndsWith (steps_of l (listing l)) m found n None → Passes l m found (suc n) l.pages
 
 abbrev pub PassTakesTheFirst : Type 0
-PassTakesTheFirst = (l : Layout) (seat generation : ℕ) (wanted : SpanClass) (found : ℕ → ℕ) (n : ℕ) → TakesTheFirst (opening l seat generation wanted) found n
+PassTakesTheFirst = (l : Layout) (seat generation : ℕ) (wanted : SpanClass) (found : ℕ → ℕ) (n : ℕ) → TakesTheFirst l (opening seat generation wanted) found n

@@ -1,5 +1,6 @@
 -- What is known at each stage of the freeing of empty spans while any number of processors change the heap and sweep spans, under which rights, and the laws: what each step of its own is, that it is on a word that there is, that what is known lasts whatever others do, and that each span that nobody owns is swept and has an object when it ends.
 use Rattle.std.specs.Prelude.{◌≡◌, ℕ, ◌+◌, ◌*◌, ◌<◌, ◌≤◌, Bool, true, Option, Some, None}
+use Rattle.gh_base.specs.declared.layout.Layout.{Layout}
 use Rattle.gh_base.specs.declared.pack.PageWord.TheVariants as page
 use Rattle.gh_base.specs.declared.pack.SpanHead.{SpanHead}
 use Rattle.gh_base.specs.Cells.{InRange}
@@ -11,7 +12,8 @@ use Rattle.gh_heap.specs.Rights.{Arena, Good, Right, Rights, Shared, TidyBefore,
 use Rattle.gh_heap.specs.Spans.{BeingFreed, Freeing, IsEmpty}
 use Rattle.gh_central.specs.declared.reclaim.ReclaimStage.{ReclaimStage}
 use Rattle.gh_central.specs.declared.reclaim.ReclaimStage.TheVariants.{Look, Sweep, Wait, Bits, Body, Head, Ended}
-use Rattle.gh_central.specs.Reclaim.{Reclaiming, asks, gives, goes, sweep_in}
+use Rattle.gh_central.specs.Owning.{FreesPage}
+use Rattle.gh_central.specs.Reclaim.{Reclaiming, asks, given, goes, sweep_in}
 use Rattle.gh_central.specs.Sweeping.{SweepLeaves}
 use Rattle.gh_sweep.specs.Listing.{is_busy, Sweeping}
 
@@ -31,10 +33,9 @@ freeing m = freeing_at m.stage
 
 -- The facts.
 
--- the routine is run in this arena, in its sweep generation
-pub record Reclaims (z : Arena) (v : View) (m : Reclaiming) : Type 0 where
-  pub layout : m.layout ≡ z.layout
-  pub number : m.generation ≡ v.generation
+-- the routine is run in this sweep generation
+abbrev pub Reclaims : View → Reclaiming → Type 0
+Reclaims v m = m.generation ≡ v.generation
 
 pub record LooksAt (z : Arena) (v : View) (p : ℕ) : Type 0 where
   pub there : p < z.layout.pages
@@ -54,7 +55,6 @@ pub record WaitsFor (z : Arena) (v : View) (p : ℕ) : Type 0 where
 -- that span is swept, which had so many pages by its head
 pub record SweepsIt (z : Arena) (v : View) (p count : ℕ) (sw : Sweeping) : Type 0 where
   pub waits : WaitsFor z v p
-  pub layout : sw.layout ≡ z.layout
   pub page_is : sw.page ≡ p
   pub size : sw.head.pages ≡ count
   pub fits : FitsHead sw.head
@@ -103,7 +103,7 @@ FactsAt z v (Head p count) = FreesFrom z v p count count
 FactsAt z v Ended = ⊥
 
 pub record Facts (z : Arena) (v : View) (m : Reclaiming) : Type 0 where
-  pub whose : Reclaims z v m
+  pub whose : Reclaims v m
   pub stage : FactsAt z v m.stage
 
 -- What a step from v comes to in w, where the seat holds those spans: what it leaves to who runs the routine; the right that its seat has then; and the facts of the next stage, or that in each span which nobody owns an object stands.
@@ -112,21 +112,25 @@ Comes z a v w held None m = Leaves v w × Rights a w true held None (freeing m) 
 Comes z a v w held (Some _) m = Leaves v w × Right a w true held None × TidyBefore w.page w.alloc w.generation z.layout.pages
 
 abbrev pub Opens : Type 0
-Opens = (z : Arena) (v : View) (m : Reclaiming) → Reclaims z v m → m.stage ≡ Look 0 → Facts z v m
+Opens = (z : Arena) (v : View) (m : Reclaiming) → Reclaims v m → m.stage ≡ Look 0 → Facts z v m
 
 -- a step of its own, where it runs no sweep
 abbrev pub OwnStep : Type 0
 OwnStep = (z : Arena) (a : ℕ) (s : Shared) (held : ℕ → Bool) (m : Reclaiming) → Good z (view s) → Rights a (view s) true held None (freeing m) → Facts z (view s) m → sweep_in m ≡ None →
-    Steps z a s (asks m) (λ t. KeepsObjects (view s) (view t) × Comes z a (view s) (view t) held (gives m (s.words (cell_of (asks m)))) (goes m (s.words (cell_of (asks m)))))
+    Steps z a s (asks z.layout m) (λ t. KeepsObjects (view s) (view t) × Comes z a (view s) (view t) held (given (goes z.layout m (s.words (cell_of (asks z.layout m))))) (goes z.layout m (s.words (cell_of (asks z.layout m)))))
 
 -- a step of the sweep that it runs
 abbrev pub SweepStep : Type 0
-SweepStep = (z : Arena) (a : ℕ) (s t : Shared) (held : ℕ → Bool) (m : Reclaiming) (sw : Sweeping) → Good z (view s) → Rights a (view s) true held None (freeing m) → Facts z (view s) m → sweep_in m ≡ Some sw → SweepLeaves (view s) (view t) → t.words ≡ effect s.words (asks m) →
-    KeepsObjects (view s) (view t) × Comes z a (view s) (view t) held (gives m (s.words (cell_of (asks m)))) (goes m (s.words (cell_of (asks m))))
+SweepStep = (z : Arena) (a : ℕ) (s t : Shared) (held : ℕ → Bool) (m : Reclaiming) (sw : Sweeping) → Good z (view s) → Rights a (view s) true held None (freeing m) → Facts z (view s) m → sweep_in m ≡ Some sw → SweepLeaves (view s) (view t) → t.words ≡ effect s.words (asks z.layout m) →
+    KeepsObjects (view s) (view t) × Comes z a (view s) (view t) held (given (goes z.layout m (s.words (cell_of (asks z.layout m))))) (goes z.layout m (s.words (cell_of (asks z.layout m))))
 
 -- it is on a word that there is
 abbrev pub Within : Type 0
-Within = (z : Arena) (v : View) (m : Reclaiming) → Good z v → Facts z v m → InRange z.layout (cell_of (asks m))
+Within = (z : Arena) (v : View) (m : Reclaiming) → Good z v → Facts z v m → InRange z.layout (cell_of (asks z.layout m))
+
+-- where it runs no sweep, what it writes makes a page free
+abbrev pub FreesPages : Type 0
+FreesPages = (l : Layout) (m : Reclaiming) → sweep_in m ≡ None → FreesPage (asks l m)
 
 -- the steps of others
 abbrev pub Lasts : Type 0
@@ -137,4 +141,5 @@ pub record ReclaimsByItsRights : Type 0 where
   pub own_step : OwnStep
   pub sweep_step : SweepStep
   pub within : Within
+  pub frees : FreesPages
   pub lasts : Lasts

@@ -1,9 +1,10 @@
 -- What the freeing of empty spans knows of its own numbers, whatever it is told.
-use Rattle.std.specs.Prelude.{◌≡◌, ℕ, ◌*◌, ◌^◌, ◌<◌, ◌≤◌, true}
+use Rattle.std.specs.Prelude.{ℕ, ◌*◌, ◌^◌, ◌<◌, ◌≤◌}
 use Rattle.gh_base.specs.declared.layout.Layout.{Layout}
+use Rattle.gh_base.specs.Machines.{Runs}
 use Rattle.gh_central.specs.declared.reclaim.ReclaimStage.{ReclaimStage}
 use Rattle.gh_central.specs.declared.reclaim.ReclaimStage.TheVariants.{Look, Sweep, Wait, Bits, Body, Head, Ended}
-use Rattle.gh_central.specs.Reclaim.{Reclaiming}
+use Rattle.gh_central.specs.declared.reclaim.Reclaim.{Reclaim}
 use Rattle.gh_sweep.specs.Listing as sweep
 
 -- the page is one of the arena, and a head word has room for the number of pages
@@ -14,13 +15,13 @@ pub record CanBeASpan (l : Layout) (page pages : ℕ) : Type 0 where
 
 abbrev pub IsStage : Layout → ReclaimStage → Type 0
 IsStage l (Look page) = page < l.pages
-IsStage l (Sweep page pages sw) = CanBeASpan l page pages × (sw.layout ≡ l) × (sweep.is_busy sw.stage ≡ true)
+IsStage l (Sweep page pages sw) = CanBeASpan l page pages × Runs (sweep.listing l) sw
 IsStage l (Wait page) = page < l.pages
 IsStage l (Bits page pages i) = CanBeASpan l page pages × (i < 16 * pages)
 IsStage l (Body page pages distance) = CanBeASpan l page pages × (distance < pages)
 IsStage l (Head page pages) = CanBeASpan l page pages
 IsStage l Ended = Unit {0}
 
-pub record Sound (m : Reclaiming) : Type 0 where
+pub record Sound (l : Layout) (m : Reclaim) : Type 0 where
   pub generation : m.generation < 2 ^ 34
-  pub stage : IsStage m.layout m.stage
+  pub stage : IsStage l m.stage

@@ -11,15 +11,15 @@ use Rattle.gh_heap.specs.Rights.{Arena, Good, Right, Shared, View, view}
 use Rattle.gh_sweep.specs.Listing.{is_busy, Sweeping}
 use Rattle.gh_central.specs.declared.unswept.UnsweptStage.{UnsweptStage}
 use Rattle.gh_central.specs.declared.unswept.UnsweptStage.TheVariants.{Look, Sweep, Take, Ended}
+use Rattle.gh_central.specs.Owning.{WritesHead}
 use Rattle.gh_central.specs.PassFacts as swept
 use Rattle.gh_central.specs.PassFacts.{SpanIsTaken}
 use Rattle.gh_central.specs.ReclaimFacts as reclaiming
 use Rattle.gh_central.specs.Sweeping.{SweepLeaves}
-use Rattle.gh_central.specs.UnsweptPass.{Unswept, asks, gives, goes, sweep_in}
+use Rattle.gh_central.specs.UnsweptPass.{Unswept, asks, given, goes, sweep_in}
 
 -- the routine is this seat's, in this arena, and looks for spans of a class there is
 pub record Passes (z : Arena) (a : ℕ) (v : View) (m : Unswept) : Type 0 where
-  pub layout : m.layout ≡ z.layout
   pub seat : m.seat ≡ a
   pub few : a + 1 < 2 ^ 8
   pub number : m.generation ≡ v.generation
@@ -31,7 +31,6 @@ pub record SweepsIt (z : Arena) (wanted : SpanClass) (v : View) (p : ℕ) (h : S
   pub unowned : reclaiming.IsUnowned v.page p
   pub class : h.class ≡ Small wanted.class
   pub noscan : h.noscan ≡ wanted.noscan
-  pub layout : sw.layout ≡ z.layout
   pub page_is : sw.page ≡ p
   pub head_is : sw.head ≡ h
   pub fits : FitsHead h
@@ -60,16 +59,20 @@ Opens = (z : Arena) (a : ℕ) (v : View) (m : Unswept) → Passes z a v m → m.
 -- a step of its own, where it runs no sweep
 abbrev pub OwnStep : Type 0
 OwnStep = (z : Arena) (a : ℕ) (s : Shared) (held : ℕ → Bool) (m : Unswept) → Good z (view s) → Right a (view s) true held None → Facts z a (view s) m → sweep_in m ≡ None →
-    Steps z a s (asks m) (λ t. KeepsObjects (view s) (view t) × Comes z a (view s) (view t) held (gives m (s.words (cell_of (asks m)))) (goes m (s.words (cell_of (asks m)))))
+    Steps z a s (asks z.layout m) (λ t. KeepsObjects (view s) (view t) × Comes z a (view s) (view t) held (given (goes z.layout m (s.words (cell_of (asks z.layout m))))) (goes z.layout m (s.words (cell_of (asks z.layout m)))))
 
 -- a step of the sweep that it runs
 abbrev pub SweepStep : Type 0
-SweepStep = (z : Arena) (a : ℕ) (s t : Shared) (held : ℕ → Bool) (m : Unswept) (sw : Sweeping) → Good z (view s) → Right a (view s) true held None → Facts z a (view s) m → sweep_in m ≡ Some sw → SweepLeaves (view s) (view t) → t.words ≡ effect s.words (asks m) →
-    KeepsObjects (view s) (view t) × Comes z a (view s) (view t) held (gives m (s.words (cell_of (asks m)))) (goes m (s.words (cell_of (asks m))))
+SweepStep = (z : Arena) (a : ℕ) (s t : Shared) (held : ℕ → Bool) (m : Unswept) (sw : Sweeping) → Good z (view s) → Right a (view s) true held None → Facts z a (view s) m → sweep_in m ≡ Some sw → SweepLeaves (view s) (view t) → t.words ≡ effect s.words (asks z.layout m) →
+    KeepsObjects (view s) (view t) × Comes z a (view s) (view t) held (given (goes z.layout m (s.words (cell_of (asks z.layout m))))) (goes z.layout m (s.words (cell_of (asks z.layout m))))
 
 -- it is on a word that there is
 abbrev pub Within : Type 0
-Within = (z : Arena) (a : ℕ) (v : View) (m : Unswept) → Good z v → Facts z a v m → InRange z.layout (cell_of (asks m))
+Within = (z : Arena) (a : ℕ) (v : View) (m : Unswept) → Good z v → Facts z a v m → InRange z.layout (cell_of (asks z.layout m))
+
+-- where it runs no sweep, what it writes is the word of a page at which a span begins
+abbrev pub WritesHeads : Type 0
+WritesHeads = (z : Arena) (a : ℕ) (v : View) (m : Unswept) → Facts z a v m → sweep_in m ≡ None → WritesHead v.page (asks z.layout m)
 
 -- the steps of others
 abbrev pub Lasts : Type 0
@@ -80,4 +83,5 @@ pub record SweepsByItsRights : Type 0 where
   pub own_step : OwnStep
   pub sweep_step : SweepStep
   pub within : Within
+  pub heads : WritesHeads
   pub lasts : Lasts

@@ -1,5 +1,5 @@
--- The pass for an unswept span that has room once it is swept: what it asks for at each stage, where that leads, and what it has given.
-use Rattle.std.specs.Prelude.{ℕ, ◌+◌, Bool, true, false, nat_lt, ◌==◌, ◌&&◌, if◌then◌else◌, Option, Some, None, is_none}
+-- The pass for an unswept span that has room once it is swept: what it asks for at each stage, where that leads, what it has given, and that it writes what a sweep does.
+use Rattle.std.specs.Prelude.{ℕ, ◌+◌, Bool, true, false, nat_lt, ◌==◌, ◌&&◌, if◌then◌else◌, Option, Some, None}
 use Rattle.std.specs.Bool.{beq}
 use Rattle.gh_base.specs.declared.cell.Cell.TheVariants as cell
 use Rattle.gh_base.specs.declared.cell.Ask.{Ask}
@@ -8,9 +8,8 @@ use Rattle.gh_base.specs.declared.layout.Layout.{Layout}
 use Rattle.gh_base.specs.declared.pack.PageWord.{PageWord}
 use Rattle.gh_base.specs.declared.pack.PageWord.TheVariants.{Free, Head, Body}
 use Rattle.gh_base.specs.declared.pack.SpanHead.{SpanHead}
-use Rattle.gh_base.specs.Given.{listing_of}
+use Rattle.gh_base.specs.Machines.{Listing}
 use Rattle.gh_base.specs.Packing.{page_of, head_word}
-use Rattle.gh_base.specs.Routines.{Listing}
 use Rattle.gh_class.specs.declared.class.SpanClass.{SpanClass}
 use Rattle.gh_sweep.specs.declared.sweep.SweepEnd.{SweepEnd}
 use Rattle.gh_sweep.specs.declared.sweep.SweepEnd.TheVariants.{Lost, Swept}
@@ -18,65 +17,59 @@ use Rattle.gh_sweep.specs.Listing as sweep
 use Rattle.gh_sweep.specs.Listing.{once_swept, Sweeping}
 use Rattle.gh_central.specs.declared.unswept.UnsweptStage.{UnsweptStage}
 use Rattle.gh_central.specs.declared.unswept.UnsweptStage.TheVariants.{Look, Sweep, Take, Ended}
+use Rattle.gh_central.specs.declared.unswept.UnsweptPass.{UnsweptPass}
 use Rattle.gh_central.specs.SweptPass.{is_small, owned_by}
+use Rattle.gh_central.specs.UnsweptSound.{Sound}
 
 -- whose pass it is, the sweep generation, the span class that is wanted, and its stage
-pub record Unswept : Type 0 where
-  pub layout : Layout
-  pub seat : ℕ
-  pub generation : ℕ
-  pub wanted : SpanClass
-  pub stage : UnsweptStage
+abbrev pub Unswept : Type 0
+Unswept = UnsweptPass
 
 abbrev pub at_stage : Unswept → UnsweptStage → Unswept
 at_stage m p = record m { stage = p }
 
 -- it has looked at no page
-abbrev pub opening : Layout → (seat generation : ℕ) → SpanClass → Unswept
-opening l seat generation wanted = record { layout = l; seat = seat; generation = generation; wanted = wanted; stage = Look 0 }
+abbrev pub opening : (seat generation : ℕ) → SpanClass → Unswept
+opening seat generation wanted = record { seat = seat; generation = generation; wanted = wanted; stage = Look 0 }
 
 -- what it has given at a stage
 abbrev pub given_at : UnsweptStage → Option (Option ℕ)
 given_at (Ended taken) = Some taken
 given_at _ = None
 
--- it asks for a step exactly where that is nothing
-abbrev pub is_busy : UnsweptStage → Bool
-is_busy p = is_none (given_at p)
-
 -- it looks at a page
 abbrev pub looks : UnsweptStage → Bool
 looks (Look page) = true
 looks _ = false
 
-module _ (m : Unswept) where
-  -- a span of the wanted span class that is not swept, and that nobody sweeps
-  abbrev pub is_unswept : SpanHead → Bool
-  is_unswept h = is_small m.wanted.class h.class && beq h.noscan m.wanted.noscan && (h.number + 2 == m.generation)
+abbrev pub look_from : Layout → ℕ → UnsweptStage
+look_from l page = if nat_lt page l.pages then Look page else Ended None
 
+-- a span of the wanted span class that is not swept, and that nobody sweeps
+abbrev pub is_unswept : Unswept → SpanHead → Bool
+is_unswept m h = is_small m.wanted.class h.class && beq h.noscan m.wanted.noscan && (h.number + 2 == m.generation)
+
+-- after a step of the sweep, by what that has given: its own counts say whether a slot is clear
+abbrev pub after_sweep : Layout → ℕ → SpanHead → Sweeping → Option SweepEnd → UnsweptStage
+after_sweep l page h sw None = Sweep page h sw
+after_sweep l page h sw (Some Lost) = look_from l (page + h.pages)
+after_sweep l page h sw (Some (Swept span)) = if span.clear then Take page (once_swept h) else look_from l (page + h.pages)
+
+module _ (l : Layout) (m : Unswept) where
   abbrev pub asks_at : UnsweptStage → Ask
   asks_at (Look page) = Load (cell.Page page)
-  asks_at (Sweep page h sw) = sweep.asks sw
+  asks_at (Sweep page h sw) = sweep.asks l sw
   asks_at (Take page h) = Store (cell.Page page) (head_word (owned_by (m.seat + 1) h))
   asks_at (Ended taken) = Load cell.Touch
 
-  abbrev pub look_from : ℕ → UnsweptStage
-  look_from page = if nat_lt page m.layout.pages then Look page else Ended None
-
   abbrev pub after_page : ℕ → PageWord → UnsweptStage
-  after_page page Free = look_from (page + 1)
-  after_page page (Body b) = look_from (page + 1)
-  after_page page (Head h) = if is_unswept h then Sweep page h (sweep.opening m.layout page h) else look_from (page + h.pages)
-
-  -- after a step of the sweep, by what that has given: its own counts say whether a slot is clear
-  abbrev pub after_sweep : ℕ → SpanHead → Sweeping → Option SweepEnd → UnsweptStage
-  after_sweep page h sw None = Sweep page h sw
-  after_sweep page h sw (Some Lost) = look_from (page + h.pages)
-  after_sweep page h sw (Some (Swept span)) = if span.clear then Take page (once_swept h) else look_from (page + h.pages)
+  after_page page Free = look_from l (page + 1)
+  after_page page (Body b) = look_from l (page + 1)
+  after_page page (Head h) = if is_unswept m h then Sweep page h (sweep.opening page h) else look_from l (page + h.pages)
 
   abbrev pub goes_at : UnsweptStage → ℕ → UnsweptStage
   goes_at (Look page) found = after_page page (page_of found)
-  goes_at (Sweep page h sw) found = after_sweep page h (sweep.goes sw found) (sweep.gives sw found)
+  goes_at (Sweep page h sw) found = after_sweep l page h (sweep.goes sw found) (sweep.gives sw found)
   goes_at (Take page h) found = Ended (Some page)
   goes_at (Ended taken) found = Ended taken
 
@@ -85,21 +78,17 @@ module _ (m : Unswept) where
   looks_on_at p found = looks p && looks (goes_at p found)
 
 -- the step that it asks for, what it is after the step found this, and what it has given
-abbrev pub asks : Unswept → Ask
-asks m = asks_at m m.stage
+abbrev pub asks : Layout → Unswept → Ask
+asks l m = asks_at l m m.stage
 
-abbrev pub goes : Unswept → ℕ → Unswept
-goes m found = at_stage m (goes_at m m.stage found)
+abbrev pub goes : Layout → Unswept → ℕ → Unswept
+goes l m found = at_stage m (goes_at l m m.stage found)
 
 abbrev pub given : Unswept → Option (Option ℕ)
 given m = given_at m.stage
 
--- and by a step
-abbrev pub gives : Unswept → ℕ → Option (Option ℕ)
-gives m found = given (goes m found)
-
-abbrev pub listing : Listing Unswept (Option ℕ)
-listing = listing_of (λ m. m.layout) asks goes given
+abbrev pub listing : Layout → Listing Unswept (Option ℕ)
+listing l = record { asks = asks l; goes = goes l; given = given; sound = Sound l; writes = sweep.writes }
 
 -- the sweep that it runs, if it runs one
 abbrev pub sweep_at : UnsweptStage → Option Sweeping

@@ -1,12 +1,11 @@
 //! Giving a cached span back.
 
-ghost use Rattle.std.specs.Prelude.{◌≡◌, ◌<◌};
+ghost use Rattle.std.specs.Prelude.{◌≡◌};
 ghost use Rattle.gh_base.specs.Packing.{FitsHead, head_word};
 ghost use Rattle.gh_central.specs.GiveBack.{given, opening};
 ghost use Rattle.gh_central.specs.SweptPass.{owned_by};
 
-use gh_base::{Ask, Cell, Layout, Machine, PageWord, Req, SpanHead};
-use std::marker::Model;
+use gh_base::{Ask, Cell, Layout, PageWord, Req, Routine, SpanHead};
 
 /// The stages of the routine that gives a span back.
 #[derive(Clone, Copy, Debug, PartialEq, Eq)]
@@ -23,33 +22,20 @@ pub enum GiveStage {
 /// It writes the span's head word with nobody as its owner, and ends.
 #[derive(Clone, Copy)]
 pub struct GiveBack {
-    layout: Layout,
-    page: u32,
-    head: SpanHead,
-    stage: GiveStage,
-}
-
-impl Model for GiveBack {
-    ghost use Rattle.gh_central.specs.GiveBack.{SpanGiving, CanGive};
-
-    ghost Value = { SpanGiving };
-
-    ghost view = { λ g. record { layout = g.layout; page = g.page; head = g.head; stage = g.stage } };
-
-    ghost invariant = { λ g. CanGive g.layout g.page g.head };
-
-    ghost inverse = { λ g. record { layout = g.layout; page = g.page; head = g.head; stage = g.stage } };
+    /// The span's first page.
+    pub page: u32,
+    /// What its head word says.
+    pub head: SpanHead,
+    /// Its stage.
+    pub stage: GiveStage,
 }
 
 impl GiveBack {
     /// Gives back the span whose first page this is, and whose head word says this.
-    pub fn new(layout: &Layout, page: u32, head: SpanHead) -> GiveBack
-        requires page { page < layout.now.pages }
-        requires head { FitsHead head }
-        ensures { result ≡ opening layout.now page head }
+    pub fn new(page: u32, head: SpanHead) -> GiveBack
+        ensures { result ≡ opening page head }
     {
         GiveBack {
-            layout: *layout,
             page,
             head,
             stage: GiveStage::Write,
@@ -58,6 +44,7 @@ impl GiveBack {
 
     /// The head word with nobody as its owner.
     fn given_word(&self) -> u64
+        requires { FitsHead self.now.head }
         ensures { result ≡ head_word (owned_by 0 self.now.head) }
     {
         PageWord::Head(SpanHead {
@@ -78,37 +65,23 @@ impl GiveBack {
     }
 }
 
-impl Machine for GiveBack {
-    ghost use Rattle.std.specs.Prelude.{refl};
-    ghost use Rattle.gh_base.specs.Given.{is_over};
+impl Routine for GiveBack {
     ghost use Rattle.gh_central.specs.GiveBack.{listing};
 
     type Out = ();
 
-    ghost layout = { listing.layout };
+    ghost listing = { listing };
 
-    ghost busy = { listing.busy };
-
-    ghost asks = { listing.asks };
-
-    ghost goes = { listing.goes };
-
-    ghost gives = { listing.gives };
-
-    fn next(&self) -> Req {
+    fn next(&self, layout: &Layout) -> Req {
         let ask = match self.stage {
             GiveStage::Write => Ask::Store(Cell::Page(self.page), self.given_word()),
             GiveStage::Ended => Ask::Load(Cell::Touch),
         };
-        self.layout.request(ask)
+        layout.request(ask)
     }
 
-    fn take(&mut self, _found: u64) -> Option<()> {
+    fn take(&mut self, _layout: &Layout, _found: u64) -> Option<()> {
         self.stage = GiveStage::Ended;
         self.given()
     }
-
-    ghost ends = { λ g found busy. is_over (listing.gives g found) };
-
-    ghost stays = { λ _ _. refl };
 }

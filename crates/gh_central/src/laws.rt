@@ -1,5 +1,8 @@
 //! Laws of the routines. The functions do nothing; what they ensure is proved.
 
+ghost use Rattle.gh_base.specs.declared.layout.Layout.{Layout};
+ghost use Rattle.gh_base.specs.Machines.{IsRoutine};
+ghost use Rattle.gh_central.specs.GiveBack as give;
 ghost use Rattle.gh_central.specs.GiveFacts.{GivesByItsRights};
 ghost use Rattle.gh_central.specs.PassFacts.{PassesByItsRights};
 ghost use Rattle.gh_central.specs.ReclaimFacts.{ReclaimsByItsRights};
@@ -8,12 +11,26 @@ ghost use Rattle.gh_central.specs.Passing.{PassTakesTheFirst};
 ghost use Rattle.gh_central.specs.Reclaim as reclaim;
 ghost use Rattle.gh_central.specs.Slots.{TheTestSaysIt};
 ghost use Rattle.gh_central.specs.Sweeping.{RunsSweeps};
+ghost use Rattle.gh_central.specs.SweptPass as swept;
 ghost use Rattle.gh_central.specs.UnsweptFacts.{SweepsByItsRights};
 ghost use Rattle.gh_central.specs.UnsweptPass as unswept;
 
 use gh_base::laws::{cells_are_told, packed_words_are_read_back};
 use gh_class::size_class_laws;
 use gh_heap::laws::{each_move_keeps, facts_last, rights_follow, the_heap_is_apart};
+use gh_sweep::laws::the_sweep_is_a_routine;
+
+/// The four are routines: each knows that its pages are in the arena and that the sweep that it runs is one, each step is on a
+/// word that there is, and it writes page words alone, but by a sweep.
+pub fn spans_go_by_routines()
+    ensures give { (l : Layout) → IsRoutine l (give.listing l) }
+    ensures swept { (l : Layout) → IsRoutine l (swept.listing l) }
+    ensures unswept { (l : Layout) → IsRoutine l (unswept.listing l) }
+    ensures reclaim { (l : Layout) → IsRoutine l (reclaim.listing l) }
+{
+    packed_words_are_read_back();
+    the_sweep_is_a_routine();
+}
 
 /// Whatever words it is told, the pass gives a page only where it was told that the head of a
 /// wanted span stands there with an alloc word that lacks a slot's bit, and where each page before
@@ -90,6 +107,6 @@ pub fn the_unswept_pass_keeps_its_facts()
 /// While `Reclaim` or `UnsweptPass` runs a sweep its steps are those of the sweep, until that has ended; and it begins one
 /// only of a span whose head it finds with the number before the sweep generation.
 pub fn passes_run_sweeps()
-    ensures reclaims { RunsSweeps reclaim.asks reclaim.goes (λ m. m.layout) (λ m. m.generation) reclaim.sweep_in }
-    ensures passes { RunsSweeps unswept.asks unswept.goes (λ m. m.layout) (λ m. m.generation) unswept.sweep_in }
+    ensures reclaims { (l : Layout) → RunsSweeps (reclaim.asks l) (reclaim.goes l) (λ _. l) (λ m. m.generation) reclaim.sweep_in }
+    ensures passes { (l : Layout) → RunsSweeps (unswept.asks l) (unswept.goes l) (λ _. l) (λ m. m.generation) unswept.sweep_in }
 {}

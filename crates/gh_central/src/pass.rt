@@ -1,17 +1,16 @@
 //! The pass over the spans for one with a clear slot.
 
 ghost use Rattle.std.specs.Prelude.{◌≡◌, ◌+◌, ◌*◌, ◌^◌, ◌<◌, IsTrue, None, false};
-ghost use Rattle.gh_base.specs.Cells.{InRange, seats_of};
+ghost use Rattle.gh_base.specs.Cells.{InRange};
 ghost use Rattle.gh_base.specs.Steps.{cell_of};
 ghost use Rattle.gh_base.specs.Packing.{FitsHead, FitsPage, head_word};
-ghost use Rattle.gh_central.specs.SweptPass.{after_bits, after_page, alloc_word, asks, given, gives, goes, goes_at, goes_on_at, is_wanted, lacks_at, look_from, opening, owned_by};
+ghost use Rattle.gh_central.specs.SweptPass.{Sound, after_bits, after_page, alloc_word, asks, given, goes, goes_at, goes_on_at, is_wanted, lacks_at, look_from, opening, owned_by};
 
 use crate::slots::{lacks_slot, none_clear};
 use gh_base::laws::packed_words_are_read_back;
 use gh_base::limits::MOST_PAGES;
-use gh_base::{Ask, Cell, Layout, Machine, PageWord, Req, SpanHead, modulo};
+use gh_base::{Ask, Cell, Layout, PageWord, Req, Routine, SpanHead, modulo};
 use gh_class::{SizeClass, SpanClass};
-use std::marker::Model;
 
 /// The stages of the pass.
 #[derive(Clone, Copy, Debug, PartialEq, Eq)]
@@ -54,36 +53,44 @@ pub enum PassStage {
 /// and the pass ends with its first page. It ends with `None` behind the last page.
 #[derive(Clone, Copy)]
 pub struct SweptPass {
-    layout: Layout,
-    seat: u32,
-    generation: u64,
-    wanted: SpanClass,
-    stage: PassStage,
+    /// The seat that looks.
+    pub seat: u32,
+    /// The sweep generation.
+    pub generation: u64,
+    /// The span class that is wanted.
+    pub wanted: SpanClass,
+    /// Its stage.
+    pub stage: PassStage,
 }
 
-impl Model for SweptPass {
-    ghost use Rattle.gh_central.specs.SweptPass.{Pass};
-    ghost use Rattle.gh_central.specs.Sound.{Sound};
+/// Where alloc word `word` of the span at this page is loaded.
+pub(crate) fn alloc_word(layout: &Layout, page: u32, word: u32) -> u32
+    requires page { page < MOST_PAGES }
+    requires word { word < 2 ^ 17 }
+    ensures is { result ≡ alloc_word layout.now page word }
+    ensures within { result < 16 * layout.now.pages }
+{
+    modulo(16 * page + word, 16 * layout.pages)
+}
 
-    ghost Value = { Pass };
-
-    ghost view = { λ m. record { layout = m.layout; seat = m.seat; generation = m.generation; wanted = m.wanted; stage = m.stage } };
-
-    ghost invariant = { λ m. Sound (record { layout = m.layout; seat = m.seat; generation = m.generation; wanted = m.wanted; stage = m.stage }) };
-
-    ghost inverse = { λ m. record { layout = m.layout; seat = m.seat; generation = m.generation; wanted = m.wanted; stage = m.stage } };
+/// It looks at this page next, if there is one.
+fn look_from(layout: &Layout, page: u32) -> PassStage
+    ensures { result ≡ look_from layout.now page }
+{
+    if page < layout.pages {
+        PassStage::Look { page }
+    } else {
+        PassStage::Ended { taken: None }
+    }
 }
 
 impl SweptPass {
     /// Looks for a span of the class, from page 0 on. A span is swept where its number is this sweep
     /// generation. The head word of the one that it takes will say that the seat has it cached.
-    pub fn new(layout: &Layout, seat: u32, generation: u64, wanted: SpanClass) -> SweptPass
-        requires seat { seat < seats_of layout.now }
-        requires generation { generation < 2 ^ 34 }
-        ensures { result ≡ opening layout.now seat generation wanted }
+    pub fn new(seat: u32, generation: u64, wanted: SpanClass) -> SweptPass
+        ensures { result ≡ opening seat generation wanted }
     {
         SweptPass {
-            layout: *layout,
             seat,
             generation,
             wanted,
@@ -99,16 +106,6 @@ impl SweptPass {
             && head.noscan == self.wanted.noscan
             && head.owner == 0
             && head.number == self.generation
-    }
-
-    /// Where alloc word `word` of the span at this page is loaded.
-    fn alloc_word(&self, page: u32, word: u32) -> u32
-        requires page { page < MOST_PAGES }
-        requires word { word < 2 ^ 17 }
-        ensures is { result ≡ alloc_word self.now page word }
-        ensures within { result < 16 * self.now.layout.pages }
-    {
-        modulo(16 * page + word, 16 * self.layout.pages)
     }
 
     /// Alloc word `word` of the span at this page lacks a slot's bit.
@@ -127,7 +124,8 @@ impl SweptPass {
 
     /// The head word of a span that it takes.
     fn taken_word(&self, head: SpanHead) -> u64
-        requires { FitsHead head }
+        requires seat { self.now.seat + 1 < 2 ^ 8 }
+        requires head { FitsHead head }
         ensures { result ≡ head_word (owned_by (self.now.seat + 1) head) }
     {
         PageWord::Head(SpanHead {
@@ -138,36 +136,26 @@ impl SweptPass {
     }
 
     /// The step that it asks for.
-    fn ask(&self) -> Ask
-        ensures asks { result ≡ asks self.now }
-        ensures within { InRange self.now.layout (cell_of result) }
+    fn ask(&self, layout: &Layout) -> Ask
+        requires { Sound layout.now self.now }
+        ensures asks { result ≡ asks layout.now self.now }
+        ensures within { InRange layout.now (cell_of result) }
     {
         match self.stage {
             PassStage::Look { page } => Ask::Load(Cell::Page(page)),
             PassStage::Bits { page, word, .. } => {
-                Ask::Load(Cell::Alloc(self.alloc_word(page, word)))
+                Ask::Load(Cell::Alloc(alloc_word(layout, page, word)))
             }
             PassStage::Take { page, head } => Ask::Store(Cell::Page(page), self.taken_word(head)),
             PassStage::Ended { .. } => Ask::Load(Cell::Touch),
         }
     }
 
-    /// It looks at this page next, if there is one.
-    fn look_from(&self, page: u32) -> PassStage
-        ensures { result ≡ look_from self.now page }
-    {
-        if page < self.layout.pages {
-            PassStage::Look { page }
-        } else {
-            PassStage::Ended { taken: None }
-        }
-    }
-
     /// Its stage after a page was found to be this.
-    fn after_page(&self, page: u32, found: PageWord) -> PassStage
+    fn after_page(&self, layout: &Layout, page: u32, found: PageWord) -> PassStage
         requires page { page < MOST_PAGES }
         requires fits { FitsPage found }
-        ensures { result ≡ after_page self.now page found }
+        ensures { result ≡ after_page layout.now self.now page found }
     {
         match found {
             PageWord::Head(head) => {
@@ -178,19 +166,26 @@ impl SweptPass {
                         word: 0,
                     }
                 } else {
-                    self.look_from(page + head.pages)
+                    look_from(layout, page + head.pages)
                 }
             }
-            PageWord::Free | PageWord::Body(_) => self.look_from(page + 1),
+            PageWord::Free | PageWord::Body(_) => look_from(layout, page + 1),
         }
     }
 
     /// Its stage after an alloc word of the span was found to be this.
-    fn after_bits(&self, page: u32, head: SpanHead, word: u32, found: u64) -> PassStage
+    fn after_bits(
+        &self,
+        layout: &Layout,
+        page: u32,
+        head: SpanHead,
+        word: u32,
+        found: u64,
+    ) -> PassStage
         requires page { page < MOST_PAGES }
         requires fits { FitsHead head }
         requires word { word < 16 * head.pages }
-        ensures { result ≡ after_bits self.now page head word found }
+        ensures { result ≡ after_bits layout.now self.now page head word found }
     {
         if self.lacks(page, word, found) {
             PassStage::Take { page, head }
@@ -201,17 +196,18 @@ impl SweptPass {
                 word: word + 1,
             }
         } else {
-            self.look_from(page + head.pages)
+            look_from(layout, page + head.pages)
         }
     }
 
     /// Goes on to the span's next alloc word, where the word found leads there, and answers whether it did. Of
     /// all steps of a pass most do, and they change one number; where it did not, nothing has changed, and
-    /// [`take`](Machine::take) makes the step.
-    pub fn goes_on(&mut self, found: u64) -> bool
+    /// [`take`](Routine::take) makes the step.
+    pub fn goes_on(&mut self, layout: &Layout, found: u64) -> bool
+        requires { Sound layout.now self.old }
         ensures exactly { result ≡ goes_on_at self.old self.old.stage found }
-        ensures goes { IsTrue result → self.new ≡ goes self.old found }
-        ensures gives { IsTrue result → gives self.old found ≡ None }
+        ensures goes { IsTrue result → self.new ≡ goes layout.now self.old found }
+        ensures gives { IsTrue result → given (goes layout.now self.old found) ≡ None }
         ensures stays { result ≡ false → self.new ≡ self.old }
     {
         let PassStage::Bits { page, head, word } = self.stage else {
@@ -229,12 +225,15 @@ impl SweptPass {
     }
 
     /// Its stage after its step found this.
-    fn go(&self, found: u64) -> PassStage
-        ensures { result ≡ goes_at self.now self.now.stage found }
+    fn go(&self, layout: &Layout, found: u64) -> PassStage
+        requires { Sound layout.now self.now }
+        ensures { result ≡ goes_at layout.now self.now self.now.stage found }
     {
         match self.stage {
-            PassStage::Look { page } => self.after_page(page, PageWord::unpack(found)),
-            PassStage::Bits { page, head, word } => self.after_bits(page, head, word, found),
+            PassStage::Look { page } => self.after_page(layout, page, PageWord::unpack(found)),
+            PassStage::Bits { page, head, word } => self.after_bits(
+                layout, page, head, word, found,
+            ),
             PassStage::Take { page, .. } => PassStage::Ended { taken: Some(page) },
             PassStage::Ended { taken } => PassStage::Ended { taken },
         }
@@ -251,37 +250,24 @@ impl SweptPass {
     }
 }
 
-impl Machine for SweptPass {
-    ghost use Rattle.std.specs.Prelude.{refl};
-    ghost use Rattle.gh_base.specs.Given.{is_over};
+impl Routine for SweptPass {
     ghost use Rattle.gh_central.specs.SweptPass.{listing};
 
     type Out = Option<u32>;
 
-    ghost layout = { listing.layout };
+    ghost listing = { listing };
 
-    ghost busy = { listing.busy };
-
-    ghost asks = { listing.asks };
-
-    ghost goes = { listing.goes };
-
-    ghost gives = { listing.gives };
-
-    fn next(&self) -> Req {
-        self.layout.request(self.ask())
+    fn next(&self, layout: &Layout) -> Req {
+        layout.request(self.ask(layout))
     }
 
-    fn take(&mut self, found: u64) -> Option<Option<u32>> {
+    #[tactic(auto, using(crate::proofs::Passing::Sound::keeps_at))]
+    fn take(&mut self, layout: &Layout, found: u64) -> Option<Option<u32>> {
         packed_words_are_read_back();
-        if self.goes_on(found) {
+        if self.goes_on(layout, found) {
             return None;
         }
-        self.stage = self.go(found);
+        self.stage = self.go(layout, found);
         self.given()
     }
-
-    ghost ends = { λ m found busy. is_over (listing.gives m found) };
-
-    ghost stays = { λ _ _. refl };
 }

@@ -2,16 +2,19 @@
 
 ghost use Rattle.std.specs.Prelude.{◌≡◌, ◌+◌, ◌*◌, ◌^◌, ◌<◌, ◌≤◌, true};
 ghost use Rattle.gh_base.specs.Cells.{InRange};
+ghost use Rattle.gh_base.specs.Machines.{Runs};
 ghost use Rattle.gh_base.specs.Steps.{cell_of};
 ghost use Rattle.gh_base.specs.Packing.{FitsHead, FitsPage};
-ghost use Rattle.gh_central.specs.Reclaim.{after_bits, after_page, after_sweep, after_wait, alloc_word, asks, body_page, free_from, given, goes_at, is_swept, look_from, opening, unowned, unswept};
+ghost use Rattle.gh_central.specs.Reclaim.{after_bits, after_page, after_sweep, after_wait, asks, body_page, free_from, given, goes_at, is_swept, look_from, opening, unowned, unswept};
+ghost use Rattle.gh_central.specs.ReclaimSound.{Sound};
 ghost use Rattle.gh_sweep.specs.Listing as sweeping;
 
+use crate::pass::alloc_word;
 use gh_base::laws::packed_words_are_read_back;
 use gh_base::limits::MOST_PAGES;
-use gh_base::{Ask, Cell, Layout, Machine, PageWord, Req, SpanHead, modulo};
+use gh_base::{Ask, Cell, Layout, PageWord, Req, Routine, SpanHead, modulo};
+use gh_sweep::laws::the_sweep_is_a_routine;
 use gh_sweep::{Sweep, SweepEnd};
-use std::marker::Model;
 
 /// The stages of the freeing of empty spans.
 #[derive(Clone, Copy, Debug, PartialEq, Eq)]
@@ -77,87 +80,43 @@ pub enum ReclaimStage {
 /// whose word is 0 is free, and `Carve` of `gh_pages` may take it. It ends behind the last page.
 #[derive(Clone, Copy)]
 pub struct Reclaim {
-    layout: Layout,
-    generation: u64,
-    stage: ReclaimStage,
-}
-
-impl Model for Reclaim {
-    ghost use Rattle.gh_central.specs.Reclaim.{Reclaiming};
-    ghost use Rattle.gh_central.specs.ReclaimSound.{Sound};
-
-    ghost Value = { Reclaiming };
-
-    ghost view = { λ m. record { layout = m.layout; generation = m.generation; stage = m.stage } };
-
-    ghost invariant = { λ m. Sound (record { layout = m.layout; generation = m.generation; stage = m.stage }) };
-
-    ghost inverse = { λ m. record { layout = m.layout; generation = m.generation; stage = m.stage } };
+    /// The sweep generation.
+    pub generation: u64,
+    /// Its stage.
+    pub stage: ReclaimStage,
 }
 
 impl Reclaim {
     /// Looks for empty spans, from page 0 on. A span is swept where its number is this sweep
     /// generation.
-    pub fn new(layout: &Layout, generation: u64) -> Reclaim
-        requires { generation < 2 ^ 34 }
-        ensures { result ≡ opening layout.now generation }
+    pub fn new(generation: u64) -> Reclaim
+        ensures { result ≡ opening generation }
     {
         Reclaim {
-            layout: *layout,
             generation,
             stage: ReclaimStage::Look { page: 0 },
         }
     }
 
-    /// Where alloc word `word` of the span at this page is loaded.
-    fn alloc_word(&self, page: u32, word: u32) -> u32
-        requires page { page < MOST_PAGES }
-        requires word { word < 2 ^ 17 }
-        ensures is { result ≡ alloc_word self.now page word }
-        ensures within { result < 16 * self.now.layout.pages }
-    {
-        modulo(16 * page + word, 16 * self.layout.pages)
-    }
-
-    /// The page at this distance from the first page of a span.
-    fn body_page(&self, page: u32, distance: u32) -> u32
-        requires page { page < MOST_PAGES }
-        requires distance { distance < 2 ^ 13 }
-        ensures is { result ≡ body_page self.now page distance }
-        ensures within { result < self.now.layout.pages }
-    {
-        modulo(page + distance, self.layout.pages)
-    }
-
     /// The step that it asks for.
-    fn ask(&self) -> Ask
-        ensures asks { result ≡ asks self.now }
-        ensures within { InRange self.now.layout (cell_of result) }
+    fn ask(&self, layout: &Layout) -> Ask
+        requires { Sound layout.now self.now }
+        ensures asks { result ≡ asks layout.now self.now }
+        ensures within { InRange layout.now (cell_of result) }
     {
         match self.stage {
             ReclaimStage::Look { page } | ReclaimStage::Wait { page } => {
                 Ask::Load(Cell::Page(page))
             }
-            ReclaimStage::Sweep { sweep, .. } => sweep.ask(),
+            ReclaimStage::Sweep { sweep, .. } => sweep.ask(layout),
             ReclaimStage::Bits { page, word, .. } => {
-                Ask::Load(Cell::Alloc(self.alloc_word(page, word)))
+                Ask::Load(Cell::Alloc(alloc_word(layout, page, word)))
             }
             ReclaimStage::Body { page, distance, .. } => {
-                Ask::Store(Cell::Page(self.body_page(page, distance)), 0)
+                Ask::Store(Cell::Page(body_page(layout, page, distance)), 0)
             }
             ReclaimStage::Head { page, .. } => Ask::Store(Cell::Page(page), 0),
             ReclaimStage::Ended => Ask::Load(Cell::Touch),
-        }
-    }
-
-    /// It looks at this page next, if there is one.
-    fn look_from(&self, page: u32) -> ReclaimStage
-        ensures { result ≡ look_from self.now page }
-    {
-        if page < self.layout.pages {
-            ReclaimStage::Look { page }
-        } else {
-            ReclaimStage::Ended
         }
     }
 
@@ -170,15 +129,14 @@ impl Reclaim {
 
     /// It sweeps a span that nobody owns and that is not swept, or waits for another's sweep of it.
     fn unswept(&self, page: u32, head: &SpanHead) -> ReclaimStage
-        requires page { page < self.now.layout.pages }
-        requires fits { FitsHead head.now }
+        requires { FitsHead head.now }
         ensures { result ≡ unswept self.now page head.now }
     {
         if head.number + 2 == self.generation {
             ReclaimStage::Sweep {
                 page,
                 pages: head.pages,
-                sweep: Sweep::new(&self.layout, page, *head),
+                sweep: Sweep::new(page, *head),
             }
         } else {
             // Another sweeps it. It may be empty then, so it is not passed over.
@@ -188,8 +146,7 @@ impl Reclaim {
 
     /// Its stage after it met the head of a span that nobody owns.
     fn unowned(&self, page: u32, head: &SpanHead) -> ReclaimStage
-        requires page { page < self.now.layout.pages }
-        requires fits { FitsHead head.now }
+        requires { FitsHead head.now }
         ensures { result ≡ unowned self.now page head.now }
     {
         if self.is_swept(head) {
@@ -200,20 +157,20 @@ impl Reclaim {
     }
 
     /// Its stage after a page was found to be this.
-    fn after_page(&self, page: u32, found: PageWord) -> ReclaimStage
-        requires page { page < self.now.layout.pages }
+    fn after_page(&self, layout: &Layout, page: u32, found: PageWord) -> ReclaimStage
+        requires page { page < layout.now.pages }
         requires fits { FitsPage found }
-        ensures { result ≡ after_page self.now page found }
+        ensures { result ≡ after_page layout.now self.now page found }
     {
         match found {
             PageWord::Head(head) => {
                 if head.owner == 0 {
                     self.unowned(page, &head)
                 } else {
-                    self.look_from(page + head.pages)
+                    look_from(layout, page + head.pages)
                 }
             }
-            PageWord::Free | PageWord::Body(_) => self.look_from(page + 1),
+            PageWord::Free | PageWord::Body(_) => look_from(layout, page + 1),
         }
     }
 
@@ -227,41 +184,26 @@ impl Reclaim {
         }
     }
 
-    /// Its stage after an alloc word of the span was found to be this.
-    fn after_bits(&self, page: u32, pages: u32, word: u32, found: u64) -> ReclaimStage
-        requires page { page < MOST_PAGES }
-        requires pages { pages < 2 ^ 13 }
-        requires word { word < 16 * pages }
-        ensures { result ≡ after_bits self.now page pages word found }
-    {
-        if found != 0 {
-            self.look_from(page + pages)
-        } else if word + 1 < 16 * pages {
-            ReclaimStage::Bits {
-                page,
-                pages,
-                word: word + 1,
-            }
-        } else {
-            free_from(page, pages, 1)
-        }
-    }
-
     /// Its stage after its step found this.
-    fn go(&self, found: u64) -> ReclaimStage
-        ensures { result ≡ goes_at self.now self.now.stage found }
+    fn go(&self, layout: &Layout, found: u64) -> ReclaimStage
+        requires { Sound layout.now self.now }
+        ensures { result ≡ goes_at layout.now self.now self.now.stage found }
     {
         match self.stage {
-            ReclaimStage::Look { page } => self.after_page(page, PageWord::unpack(found)),
-            ReclaimStage::Sweep { page, pages, sweep } => swept_on(page, pages, sweep, found),
+            ReclaimStage::Look { page } => self.after_page(layout, page, PageWord::unpack(found)),
+            ReclaimStage::Sweep { page, pages, sweep } => swept_on(
+                layout, page, pages, sweep, found,
+            ),
             ReclaimStage::Wait { page } => self.after_wait(page, PageWord::unpack(found)),
-            ReclaimStage::Bits { page, pages, word } => self.after_bits(page, pages, word, found),
+            ReclaimStage::Bits { page, pages, word } => after_bits(
+                layout, page, pages, word, found,
+            ),
             ReclaimStage::Body {
                 page,
                 pages,
                 distance,
             } => free_from(page, pages, distance + 1),
-            ReclaimStage::Head { page, pages } => self.look_from(page + pages),
+            ReclaimStage::Head { page, pages } => look_from(layout, page + pages),
             ReclaimStage::Ended => ReclaimStage::Ended,
         }
     }
@@ -277,6 +219,27 @@ impl Reclaim {
     }
 }
 
+/// The page at this distance from the first page of a span.
+fn body_page(layout: &Layout, page: u32, distance: u32) -> u32
+    requires page { page < MOST_PAGES }
+    requires distance { distance < 2 ^ 13 }
+    ensures is { result ≡ body_page layout.now page distance }
+    ensures within { result < layout.now.pages }
+{
+    modulo(page + distance, layout.pages)
+}
+
+/// It looks at this page next, if there is one.
+fn look_from(layout: &Layout, page: u32) -> ReclaimStage
+    ensures { result ≡ look_from layout.now page }
+{
+    if page < layout.pages {
+        ReclaimStage::Look { page }
+    } else {
+        ReclaimStage::Ended
+    }
+}
+
 /// It looks into the swept span at this page.
 fn look_into(page: u32, pages: u32) -> ReclaimStage
     ensures { result ≡ ReclaimStage.Bits page pages 0 }
@@ -288,14 +251,34 @@ fn look_into(page: u32, pages: u32) -> ReclaimStage
     }
 }
 
+/// Its stage after an alloc word of the span was found to be this.
+fn after_bits(layout: &Layout, page: u32, pages: u32, word: u32, found: u64) -> ReclaimStage
+    requires page { page < MOST_PAGES }
+    requires pages { pages < 2 ^ 13 }
+    requires word { word < 16 * pages }
+    ensures { result ≡ after_bits layout.now page pages word found }
+{
+    if found != 0 {
+        look_from(layout, page + pages)
+    } else if word + 1 < 16 * pages {
+        ReclaimStage::Bits {
+            page,
+            pages,
+            word: word + 1,
+        }
+    } else {
+        free_from(page, pages, 1)
+    }
+}
+
 /// Its stage after the next step of the sweep found this: a span that it has swept is looked into, and one that
 /// another has begun to sweep is waited for.
-fn swept_on(page: u32, pages: u32, sweep: Sweep, found: u64) -> ReclaimStage
-    requires { sweeping.is_busy sweep.stage ≡ true }
+fn swept_on(layout: &Layout, page: u32, pages: u32, sweep: Sweep, found: u64) -> ReclaimStage
+    requires { Runs (sweeping.listing layout.now) sweep }
     ensures { result ≡ after_sweep page pages (sweeping.goes sweep found) (sweeping.gives sweep found) }
 {
     let mut sweep = sweep;
-    match sweep.take(found) {
+    match sweep.take(layout, found) {
         None => ReclaimStage::Sweep { page, pages, sweep },
         Some(SweepEnd::Lost) => ReclaimStage::Wait { page },
         Some(SweepEnd::Swept(_)) => look_into(page, pages),
@@ -317,34 +300,22 @@ fn free_from(page: u32, pages: u32, distance: u32) -> ReclaimStage
     }
 }
 
-impl Machine for Reclaim {
-    ghost use Rattle.std.specs.Prelude.{refl};
-    ghost use Rattle.gh_base.specs.Given.{is_over};
+impl Routine for Reclaim {
     ghost use Rattle.gh_central.specs.Reclaim.{listing};
 
     type Out = ();
 
-    ghost layout = { listing.layout };
+    ghost listing = { listing };
 
-    ghost busy = { listing.busy };
-
-    ghost asks = { listing.asks };
-
-    ghost goes = { listing.goes };
-
-    ghost gives = { listing.gives };
-
-    fn next(&self) -> Req {
-        self.layout.request(self.ask())
+    fn next(&self, layout: &Layout) -> Req {
+        layout.request(self.ask(layout))
     }
 
-    fn take(&mut self, found: u64) -> Option<()> {
+    #[tactic(auto, using(crate::proofs::Reclaiming::Sound::keeps_at))]
+    fn take(&mut self, layout: &Layout, found: u64) -> Option<()> {
         packed_words_are_read_back();
-        self.stage = self.go(found);
+        the_sweep_is_a_routine();
+        self.stage = self.go(layout, found);
         self.given()
     }
-
-    ghost ends = { λ m found busy. is_over (listing.gives m found) };
-
-    ghost stays = { λ _ _. refl };
 }

@@ -1,20 +1,22 @@
 //! The pass over the spans for one that is not swept, and has room once it is.
 
 ghost use Rattle.std.specs.Prelude.{◌≡◌, ◌+◌, ◌^◌, ◌<◌, IfSome, IsTrue, None, false, true};
-ghost use Rattle.gh_base.specs.Cells.{InRange, seats_of};
+ghost use Rattle.gh_base.specs.Cells.{InRange};
+ghost use Rattle.gh_base.specs.Machines.{Runs};
 ghost use Rattle.gh_base.specs.Steps.{cell_of};
 ghost use Rattle.gh_base.specs.Packing.{FitsHead, FitsPage, head_word};
 ghost use Rattle.gh_central.specs.SweptPass.{owned_by};
-ghost use Rattle.gh_central.specs.UnsweptPass.{after_page, after_sweep, asks, given, gives, goes, goes_at, is_unswept, look_from, looks, looks_on_at, opening};
+ghost use Rattle.gh_central.specs.UnsweptPass.{after_page, after_sweep, asks, given, goes, goes_at, is_unswept, look_from, looks, looks_on_at, opening};
+ghost use Rattle.gh_central.specs.UnsweptSound.{Sound};
 ghost use Rattle.gh_sweep.specs.Listing as sweeping;
 ghost use Rattle.gh_sweep.specs.Listing.{once_swept};
 ghost use Rattle.gh_sweep.specs.Sound.{FitsSweep};
 
 use gh_base::laws::packed_words_are_read_back;
-use gh_base::{Ask, Cell, Layout, Machine, PageWord, Req, SpanHead};
+use gh_base::{Ask, Cell, Layout, PageWord, Req, Routine, SpanHead};
 use gh_class::{SizeClass, SpanClass};
+use gh_sweep::laws::the_sweep_is_a_routine;
 use gh_sweep::{Sweep, SweepEnd};
-use std::marker::Model;
 
 /// The stages of the pass.
 #[derive(Clone, Copy, Debug, PartialEq, Eq)]
@@ -58,36 +60,53 @@ pub enum UnsweptStage {
 /// and the next pass over swept spans meets it. It ends with `None` behind the last page.
 #[derive(Clone, Copy)]
 pub struct UnsweptPass {
-    layout: Layout,
-    seat: u32,
-    generation: u64,
-    wanted: SpanClass,
-    stage: UnsweptStage,
+    /// The seat that looks.
+    pub seat: u32,
+    /// The sweep generation.
+    pub generation: u64,
+    /// The span class that is wanted.
+    pub wanted: SpanClass,
+    /// Its stage.
+    pub stage: UnsweptStage,
 }
 
-impl Model for UnsweptPass {
-    ghost use Rattle.gh_central.specs.UnsweptPass.{Unswept};
-    ghost use Rattle.gh_central.specs.UnsweptSound.{Sound};
+/// It looks at this page next, if there is one.
+fn look_from(layout: &Layout, page: u32) -> UnsweptStage
+    ensures { result ≡ look_from layout.now page }
+{
+    if page < layout.pages {
+        UnsweptStage::Look { page }
+    } else {
+        UnsweptStage::Ended { taken: None }
+    }
+}
 
-    ghost Value = { Unswept };
-
-    ghost view = { λ m. record { layout = m.layout; seat = m.seat; generation = m.generation; wanted = m.wanted; stage = m.stage } };
-
-    ghost invariant = { λ m. Sound (record { layout = m.layout; seat = m.seat; generation = m.generation; wanted = m.wanted; stage = m.stage }) };
-
-    ghost inverse = { λ m. record { layout = m.layout; seat = m.seat; generation = m.generation; wanted = m.wanted; stage = m.stage } };
+/// Its stage after the next step of the sweep found this.
+fn swept_on(layout: &Layout, page: u32, head: SpanHead, sweep: Sweep, found: u64) -> UnsweptStage
+    requires page { page < layout.now.pages }
+    requires head { FitsSweep head }
+    requires sweep { Runs (sweeping.listing layout.now) sweep }
+    ensures { result ≡ after_sweep layout.now page head (sweeping.goes sweep found) (sweeping.gives sweep found) }
+{
+    let mut sweep = sweep;
+    match sweep.take(layout, found) {
+        None => UnsweptStage::Sweep { page, head, sweep },
+        Some(SweepEnd::Swept(span)) if span.clear => UnsweptStage::Take {
+            page,
+            head: once_swept(head),
+        },
+        // Full, or another's sweep: it is met once. Where no span will do, `Reclaim` sees each swept.
+        Some(_) => look_from(layout, page + head.pages),
+    }
 }
 
 impl UnsweptPass {
     /// Looks for a span of the class, from page 0 on. A span is unswept where its number is 2 below this sweep
     /// generation. The head word of the one that it takes will say that the seat has it cached.
-    pub fn new(layout: &Layout, seat: u32, generation: u64, wanted: SpanClass) -> UnsweptPass
-        requires seat { seat < seats_of layout.now }
-        requires generation { generation < 2 ^ 34 }
-        ensures { result ≡ opening layout.now seat generation wanted }
+    pub fn new(seat: u32, generation: u64, wanted: SpanClass) -> UnsweptPass
+        ensures { result ≡ opening seat generation wanted }
     {
         UnsweptPass {
-            layout: *layout,
             seat,
             generation,
             wanted,
@@ -107,7 +126,8 @@ impl UnsweptPass {
 
     /// The head word of a span that it takes.
     fn taken_word(&self, head: SpanHead) -> u64
-        requires { FitsHead head }
+        requires seat { self.now.seat + 1 < 2 ^ 8 }
+        requires head { FitsHead head }
         ensures { result ≡ head_word (owned_by (self.now.seat + 1) head) }
     {
         PageWord::Head(SpanHead {
@@ -118,13 +138,14 @@ impl UnsweptPass {
     }
 
     /// The step that it asks for.
-    fn ask(&self) -> Ask
-        ensures asks { result ≡ asks self.now }
-        ensures within { InRange self.now.layout (cell_of result) }
+    fn ask(&self, layout: &Layout) -> Ask
+        requires { Sound layout.now self.now }
+        ensures asks { result ≡ asks layout.now self.now }
+        ensures within { InRange layout.now (cell_of result) }
     {
         match self.stage {
             UnsweptStage::Look { page } => Ask::Load(Cell::Page(page)),
-            UnsweptStage::Sweep { sweep, .. } => sweep.ask(),
+            UnsweptStage::Sweep { sweep, .. } => sweep.ask(layout),
             UnsweptStage::Take { page, head } => {
                 Ask::Store(Cell::Page(page), self.taken_word(head))
             }
@@ -132,22 +153,11 @@ impl UnsweptPass {
         }
     }
 
-    /// It looks at this page next, if there is one.
-    fn look_from(&self, page: u32) -> UnsweptStage
-        ensures { result ≡ look_from self.now page }
-    {
-        if page < self.layout.pages {
-            UnsweptStage::Look { page }
-        } else {
-            UnsweptStage::Ended { taken: None }
-        }
-    }
-
     /// Its stage after a page was found to be this.
-    fn after_page(&self, page: u32, found: PageWord) -> UnsweptStage
-        requires page { page < self.now.layout.pages }
+    fn after_page(&self, layout: &Layout, page: u32, found: PageWord) -> UnsweptStage
+        requires page { page < layout.now.pages }
         requires fits { FitsPage found }
-        ensures { result ≡ after_page self.now page found }
+        ensures { result ≡ after_page layout.now self.now page found }
     {
         match found {
             PageWord::Head(head) => {
@@ -155,42 +165,23 @@ impl UnsweptPass {
                     UnsweptStage::Sweep {
                         page,
                         head,
-                        sweep: Sweep::new(&self.layout, page, head),
+                        sweep: Sweep::new(page, head),
                     }
                 } else {
-                    self.look_from(page + head.pages)
+                    look_from(layout, page + head.pages)
                 }
             }
-            PageWord::Free | PageWord::Body(_) => self.look_from(page + 1),
-        }
-    }
-
-    /// Its stage after the next step of the sweep found this.
-    fn swept_on(&self, page: u32, head: SpanHead, sweep: Sweep, found: u64) -> UnsweptStage
-        requires page { page < self.now.layout.pages }
-        requires head { FitsSweep head }
-        requires busy { sweeping.is_busy sweep.stage ≡ true }
-        ensures { result ≡ after_sweep self.now page head (sweeping.goes sweep found) (sweeping.gives sweep found) }
-    {
-        let mut sweep = sweep;
-        match sweep.take(found) {
-            None => UnsweptStage::Sweep { page, head, sweep },
-            Some(SweepEnd::Swept(span)) if span.clear => UnsweptStage::Take {
-                page,
-                head: once_swept(head),
-            },
-            // Full, or another's sweep: it is met once. Where no span will do, `Reclaim` sees each swept.
-            Some(_) => self.look_from(page + head.pages),
+            PageWord::Free | PageWord::Body(_) => look_from(layout, page + 1),
         }
     }
 
     /// The page behind the span or the page, where the page was found to be this; `None` for a span that it sweeps.
     #[inline(always)]
-    fn next_page(&self, page: u32, found: PageWord) -> Option<u32>
-        requires page { page < self.now.layout.pages }
+    fn next_page(&self, layout: &Layout, page: u32, found: PageWord) -> Option<u32>
+        requires page { page < layout.now.pages }
         requires fits { FitsPage found }
-        ensures looks { IfSome result (λ next. after_page self.now page found ≡ look_from self.now next) }
-        ensures sweeps { result ≡ None → looks (after_page self.now page found) ≡ false }
+        ensures looks { IfSome result (λ next. after_page layout.now self.now page found ≡ look_from layout.now next) }
+        ensures sweeps { result ≡ None → looks (after_page layout.now self.now page found) ≡ false }
     {
         match found {
             PageWord::Head(head) => {
@@ -206,21 +197,22 @@ impl UnsweptPass {
 
     /// Goes on to a further page, where the word found leads there, and answers whether it did: behind a span that it
     /// does not sweep, or behind a page that is no head. It changes one number then; where it did not, nothing has
-    /// changed, and [`take`](Machine::take) makes the step.
+    /// changed, and [`take`](Routine::take) makes the step.
     #[inline(always)]
-    pub fn goes_on(&mut self, found: u64) -> bool
-        ensures exactly { result ≡ looks_on_at self.old self.old.stage found }
-        ensures goes { IsTrue result → self.new ≡ goes self.old found }
-        ensures gives { IsTrue result → gives self.old found ≡ None }
+    pub fn goes_on(&mut self, layout: &Layout, found: u64) -> bool
+        requires { Sound layout.now self.old }
+        ensures exactly { result ≡ looks_on_at layout.now self.old self.old.stage found }
+        ensures goes { IsTrue result → self.new ≡ goes layout.now self.old found }
+        ensures gives { IsTrue result → given (goes layout.now self.old found) ≡ None }
         ensures stays { result ≡ false → self.new ≡ self.old }
     {
         let UnsweptStage::Look { page } = self.stage else {
             return false;
         };
-        let Some(next) = self.next_page(page, PageWord::unpack(found)) else {
+        let Some(next) = self.next_page(layout, page, PageWord::unpack(found)) else {
             return false;
         };
-        if next >= self.layout.pages {
+        if next >= layout.pages {
             return false;
         }
         // The page alone is written: the stage has room for a sweep.
@@ -231,12 +223,13 @@ impl UnsweptPass {
     }
 
     /// Its stage after its step found this.
-    fn go(&self, found: u64) -> UnsweptStage
-        ensures { result ≡ goes_at self.now self.now.stage found }
+    fn go(&self, layout: &Layout, found: u64) -> UnsweptStage
+        requires { Sound layout.now self.now }
+        ensures { result ≡ goes_at layout.now self.now self.now.stage found }
     {
         match self.stage {
-            UnsweptStage::Look { page } => self.after_page(page, PageWord::unpack(found)),
-            UnsweptStage::Sweep { page, head, sweep } => self.swept_on(page, head, sweep, found),
+            UnsweptStage::Look { page } => self.after_page(layout, page, PageWord::unpack(found)),
+            UnsweptStage::Sweep { page, head, sweep } => swept_on(layout, page, head, sweep, found),
             UnsweptStage::Take { page, .. } => UnsweptStage::Ended { taken: Some(page) },
             UnsweptStage::Ended { taken } => UnsweptStage::Ended { taken },
         }
@@ -265,34 +258,22 @@ fn once_swept(head: SpanHead) -> SpanHead
     }
 }
 
-impl Machine for UnsweptPass {
-    ghost use Rattle.std.specs.Prelude.{refl};
-    ghost use Rattle.gh_base.specs.Given.{is_over};
+impl Routine for UnsweptPass {
     ghost use Rattle.gh_central.specs.UnsweptPass.{listing};
 
     type Out = Option<u32>;
 
-    ghost layout = { listing.layout };
+    ghost listing = { listing };
 
-    ghost busy = { listing.busy };
-
-    ghost asks = { listing.asks };
-
-    ghost goes = { listing.goes };
-
-    ghost gives = { listing.gives };
-
-    fn next(&self) -> Req {
-        self.layout.request(self.ask())
+    fn next(&self, layout: &Layout) -> Req {
+        layout.request(self.ask(layout))
     }
 
-    fn take(&mut self, found: u64) -> Option<Option<u32>> {
+    #[tactic(auto, using(crate::proofs::Sweeping::Sound::keeps_at))]
+    fn take(&mut self, layout: &Layout, found: u64) -> Option<Option<u32>> {
         packed_words_are_read_back();
-        self.stage = self.go(found);
+        the_sweep_is_a_routine();
+        self.stage = self.go(layout, found);
         self.given()
     }
-
-    ghost ends = { λ m found busy. is_over (listing.gives m found) };
-
-    ghost stays = { λ _ _. refl };
 }

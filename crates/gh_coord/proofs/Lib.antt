@@ -3,9 +3,11 @@ pub mod GoingOn
 pub mod Lapsing
 pub mod LastCycle
 pub mod MarkingEnds
+pub mod PartsRoutines
 pub mod QuietParts
 pub mod Shaking
 pub mod Stepping
 pub mod Sweeping
 pub mod SweptPages
 pub mod Triggering
+pub mod Within

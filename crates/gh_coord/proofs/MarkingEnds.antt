@@ -8,16 +8,14 @@ use Rattle.gh_base.specs.declared.pack.Phase.TheVariants as phase
 use Rattle.gh_base.specs.Packing.{buffer_of}
 use Rattle.gh_coord.specs.declared.close.CloseStage.TheVariants as c
 use Rattle.gh_coord.specs.declared.stop.StopStage.TheVariants as p
-use Rattle.gh_coord.specs.declared.tell.TellStage.TheVariants as t
 use Rattle.gh_coord.specs.declared.watch.WatchStage.TheVariants as w
 use Rattle.gh_coord.specs.Events.{by_event}
 use Rattle.gh_coord.specs.MarkingEnds.{EndsWithNothingLeft, Finds, HasNothingLeft, LeavesMarks, NothingIsLeft, state}
 use Rattle.gh_coord.specs.Closing as close
 use Rattle.gh_coord.specs.Stopping as stop
-use Rattle.gh_coord.specs.Telling as tell
 use Rattle.gh_coord.specs.Watching as watch
 use Rattle.gh_coord.proofs.Stepping.{Run, same_ask}
-use Rattle.gh_coord.proofs.Vocabulary.{after_check, after_close, after_stop_again, All, Ask, asks, asks_at, at_stage, Check, Close, CloseStage, Coordinating, CoordStage, counted, Done, goes_at, GONE, IsQuietInHandshake, Layout, Load, nat_tests, NotYet, phase_word, StopAgain, StopStage, Store, TellStage, WatchStage}
+use Rattle.gh_coord.proofs.Vocabulary.{after_check, after_close, after_stop_again, All, asks, asks_at, at_stage, Check, Close, CloseStage, Coordinating, CoordStage, counted, Done, goes_at, GONE, Layout, Load, nat_tests, NotYet, phase_word, StopAgain, StopStage, Store, WatchStage}
 
 -- what the tests of the listing say of the words
 acked : (stops v : ℕ) → stop.is_acknowledged stops v ≡ true → (v ≡ stops) ⊎ (v ≡ GONE)
@@ -68,12 +66,10 @@ module _ (run : Run) where
   CheckKnows stops begun n (w.Ended watched) = ⊥
 
   record StopIs (stops n : ℕ) (st : stop.Stopping) : Type 0 where
-    layout_is : st.layout ≡ run.layout
     stops_is : st.stops ≡ stops
     knows : StopKnows stops n st.stage
 
   record CheckIs (stops begun n : ℕ) (x : watch.Watching) : Type 0 where
-    layout_is : x.layout ≡ run.layout
     cycle_is : x.cycle ≡ begun
     knows : CheckKnows stops begun n x.stage
 
@@ -158,68 +154,67 @@ module _ (run : Run) where
     close_step cl stage v e asked k = grind (arith, looks_on)
 
     -- the second stop
-    module _ (st : stop.Stopping) (st_in : st.layout ≡ run.layout) (numbered : st.stops ≡ s.stops) where
+    module _ (st : stop.Stopping) (numbered : st.stops ≡ s.stops) where
       abbrev stopped : StopStage → Coordinating
       stopped stage = after_stop_again (at_stage s (StopAgain (record st { stage = stage }))) (stop.given_at stage)
 
       awaits : (i : ℕ) → Stopped s.stops (suc n) i → Has (suc n) (stopped (p.Await i))
-      awaits i k = record { layout_is = here; knows = record { layout_is = st_in; stops_is = numbered; knows = k } }
+      awaits i k = record { layout_is = here; knows = record { stops_is = numbered; knows = k } }
 
       checks : (i : ℕ) → stop.acks_of run.layout ≤ i → Stopped s.stops (suc n) i → Has (suc n) (stopped p.Ended)
       checks i most k = record {
         layout_is = here;
         knows = record {
-          layout_is = here;
           cycle_is = refl;
           knows = (omega arith, record { first = k.first; last = suc n; is_before = k.is_before; is_by = omega arith; stores = k.stores; leaves = k.leaves; acknowledged = λ j lt. k.each j (omega arith); each = λ j lt. absurd (omega arith) });
         };
       }
 
-      await_step : (i v : ℕ) → v ≡ run.found n → asks (now n) ≡ Load (cell.Ack i) → Stopped s.stops n i → (is more : Bool) → stop.is_acknowledged st.stops v ≡ is → ltb (i + 1) (stop.acks_of st.layout) ≡ more →
+      await_step : (i v : ℕ) → v ≡ run.found n → asks (now n) ≡ Load (cell.Ack i) → Stopped s.stops n i → (is more : Bool) → stop.is_acknowledged st.stops v ≡ is → ltb (i + 1) (stop.acks_of s.layout) ≡ more →
           Has (suc n) (stopped (cond is (cond more (p.Await (i + 1)) p.Ended) (p.Await i)))
       await_step i v told loads k is more e f = by is more e f where
         more_are : stop.is_acknowledged st.stops v ≡ true → Stopped s.stops (suc n) (i + 1)
         more_are a = finds_ack s.stops n i k loads (ap (λ (x : ℕ). stop.is_acknowledged x (run.found n)) (sym numbered) ∙ ap (λ (x : ℕ). stop.is_acknowledged st.stops x) (sym told) ∙ a)
 
-        by : (is more : Bool) → stop.is_acknowledged st.stops v ≡ is → ltb (i + 1) (stop.acks_of st.layout) ≡ more → Has (suc n) (stopped (cond is (cond more (p.Await (i + 1)) p.Ended) (p.Await i)))
+        by : (is more : Bool) → stop.is_acknowledged st.stops v ≡ is → ltb (i + 1) (stop.acks_of s.layout) ≡ more → Has (suc n) (stopped (cond is (cond more (p.Await (i + 1)) p.Ended) (p.Await i)))
         by true true e f = awaits (i + 1) (more_are e)
-        by true false e f = checks (i + 1) (subst (λ (x : Layout). stop.acks_of x ≤ i + 1) st_in (ltb-false _ _ f)) (more_are e)
+        by true false e f = checks (i + 1) (subst (λ (x : Layout). stop.acks_of x ≤ i + 1) here (ltb-false _ _ f)) (more_are e)
         by false more e f = awaits i (waits s.stops n i k (subst LeavesMarks (sym loads) tt))
 
       again_step : (stage : StopStage) (v : ℕ) → v ≡ run.found n → asks (now n) ≡ stop.asks_at st stage → StopKnows s.stops n stage →
-          Has (suc n) (after_stop_again (at_stage s (StopAgain (stop.goes_at st stage v))) (stop.given (stop.goes_at st stage v)))
+          Has (suc n) (after_stop_again (at_stage s (StopAgain (stop.goes_at s.layout st stage v))) (stop.given (stop.goes_at s.layout st stage v)))
       again_step stage v told asked k = grind (arith, await_step, awaits)
 
     -- the check
-    module _ (x : watch.Watching) (x_in : x.layout ≡ run.layout) (numbered : x.cycle ≡ s.begun) where
+    module _ (x : watch.Watching) (numbered : x.cycle ≡ s.begun) where
       abbrev checked : WatchStage → Coordinating
       checked stage = after_check (at_stage s (Check (record x { stage = stage }))) (watch.given_at stage)
 
-      look_step : (i v : ℕ) → v ≡ run.found n → asks (now n) ≡ Load (watch.cell_at x.layout i) → Looked s.stops s.begun n i → i < watch.words_of run.layout → (is more : Bool) → watch.is_wanted x.layout x.cycle (watch.cell_at x.layout i) v ≡ is → ltb (i + 1) (watch.words_of x.layout) ≡ more →
+      look_step : (i v : ℕ) → v ≡ run.found n → asks (now n) ≡ Load (watch.cell_at s.layout i) → Looked s.stops s.begun n i → i < watch.words_of run.layout → (is more : Bool) → watch.is_wanted s.layout x.cycle (watch.cell_at s.layout i) v ≡ is → ltb (i + 1) (watch.words_of s.layout) ≡ more →
           Has (suc n) (checked (cond is (cond more (w.Look (i + 1)) (w.Ended All)) (w.Ended NotYet)))
       look_step i v told loads k within is more e f = by is more e f where
-        finds : watch.is_wanted x.layout x.cycle (watch.cell_at x.layout i) v ≡ true → Looked s.stops s.begun (suc n) (i + 1)
+        finds : watch.is_wanted s.layout x.cycle (watch.cell_at s.layout i) v ≡ true → Looked s.stops s.begun (suc n) (i + 1)
         finds a =
-            finds_word s.stops s.begun n i k (loads ∙ ap (λ (y : Layout). Load (watch.cell_at y i)) x_in)
-            (ap (λ (y : ℕ). watch.is_wanted run.layout y (watch.cell_at run.layout i) (run.found n)) (sym numbered) ∙ ap (λ (y : Layout). watch.is_wanted y x.cycle (watch.cell_at y i) (run.found n)) (sym x_in) ∙ ap (λ (y : ℕ). watch.is_wanted x.layout x.cycle (watch.cell_at x.layout i) y) (sym told) ∙ a)
+            finds_word s.stops s.begun n i k (loads ∙ ap (λ (y : Layout). Load (watch.cell_at y i)) here)
+            (ap (λ (y : ℕ). watch.is_wanted run.layout y (watch.cell_at run.layout i) (run.found n)) (sym numbered) ∙ ap (λ (y : Layout). watch.is_wanted y x.cycle (watch.cell_at y i) (run.found n)) (sym here) ∙ ap (λ (y : ℕ). watch.is_wanted s.layout x.cycle (watch.cell_at s.layout i) y) (sym told) ∙ a)
 
-        by : (is more : Bool) → watch.is_wanted x.layout x.cycle (watch.cell_at x.layout i) v ≡ is → ltb (i + 1) (watch.words_of x.layout) ≡ more → Has (suc n) (checked (cond is (cond more (w.Look (i + 1)) (w.Ended All)) (w.Ended NotYet)))
+        by : (is more : Bool) → watch.is_wanted s.layout x.cycle (watch.cell_at s.layout i) v ≡ is → ltb (i + 1) (watch.words_of s.layout) ≡ more → Has (suc n) (checked (cond is (cond more (w.Look (i + 1)) (w.Ended All)) (w.Ended NotYet)))
         by true true e f =
-            let further : i + 1 < watch.words_of run.layout = subst (λ (y : Layout). i + 1 < watch.words_of y) x_in (ltb-true _ _ f) in
-            record { layout_is = here; knows = record { layout_is = x_in; cycle_is = numbered; knows = (further, finds e) } }
+            let further : i + 1 < watch.words_of run.layout = subst (λ (y : Layout). i + 1 < watch.words_of y) here (ltb-true _ _ f) in
+            record { layout_is = here; knows = record { cycle_is = numbered; knows = (further, finds e) } }
         by true false e f =
-            let last : watch.words_of run.layout ≤ i + 1 = subst (λ (y : Layout). watch.words_of y ≤ i + 1) x_in (ltb-false _ _ f) in
+            let last : watch.words_of run.layout ≤ i + 1 = subst (λ (y : Layout). watch.words_of y ≤ i + 1) here (ltb-false _ _ f) in
             let end : i + 1 ≡ watch.words_of run.layout = omega arith in
             record { layout_is = here; knows = subst (λ (j : ℕ). Looked s.stops s.begun (suc n) j) end (finds e) }
         by false more e f = record { layout_is = here; knows = tt }
 
-      check_step : (stage : WatchStage) (v : ℕ) → v ≡ run.found n → asks (now n) ≡ watch.asks_at x stage → CheckKnows s.stops s.begun n stage →
-          Has (suc n) (after_check (at_stage s (Check (watch.goes_at x stage v))) (watch.given (watch.goes_at x stage v)))
+      check_step : (stage : WatchStage) (v : ℕ) → v ≡ run.found n → asks (now n) ≡ watch.asks_at s.layout stage → CheckKnows s.stops s.begun n stage →
+          Has (suc n) (after_check (at_stage s (Check (watch.goes_at s.layout x stage v))) (watch.given (watch.goes_at s.layout x stage v)))
       check_step stage v told asked k = grind (arith, look_step)
 
     step_at : (stage : CoordStage) (v : ℕ) → v ≡ run.found n → s.stage ≡ stage → asks (now n) ≡ asks_at s stage → Knows s.stops s.begun n stage → Has (suc n) (goes_at s stage v)
-    step_at (StopAgain st) v told is asked k = again_step st k.layout_is k.stops_is st.stage v told asked k.knows
-    step_at (Check x) v told is asked k = check_step x k.layout_is k.cycle_is x.stage v told asked k.knows
+    step_at (StopAgain st) v told is asked k = again_step st k.stops_is st.stage v told asked k.knows
+    step_at (Check x) v told is asked k = check_step x k.cycle_is x.stage v told asked k.knows
     step_at (Close cl) v told is asked k = close_step cl cl.stage v refl asked k
     step_at Done v told is asked k = record { layout_is = here; knows = subst (λ (stage : CoordStage). Knows s.stops s.begun (suc n) stage) (sym is) tt }
     step_at q v told is asked k = by_event s v (Has (suc n)) q (λ e may. grind arith)
@@ -246,7 +241,7 @@ module _ (run : Run) where
     stack_at i g is lt = grind (arith, nat_tests)
 
     buffer_at : (i b : ℕ) → i ≡ run.layout.goroutines + b + 1 → watch.cell_at run.layout i ≡ cell.Buffer b
-    buffer_at i b is = grind arith
+    buffer_at i b is = grind (arith, nat_tests)
 
     is_clean : NothingIsLeft run.layout run.seat run.gogc run.minheap run.room run.found n
     is_clean = record {
@@ -260,13 +255,6 @@ module _ (run : Run) where
       buffers = λ i lt. so k.last n (cell.Buffer i) (IsWanted begun (cell.Buffer i)) (λ v. HasNothingLeft (buffer_of v)) (λ v e. left (buffer_of v) e) (subst Saw (buffer_at (run.layout.goroutines + i + 1) i refl) (k.each (run.layout.goroutines + i + 1) (omega arith)));
       leaves = k.leaves;
     }
-
-pub never : (ask : Ask) (g : ℕ) → IsQuietInHandshake ask → ask ≡ Store cell.Gen g → ⊥
-never ask g q e = subst IsQuietInHandshake e q
-
-pub tell_never : (te : tell.Telling) (stage : TellStage) (g : ℕ) → tell.asks_at te stage ≡ Store cell.Gen g → ⊥
-tell_never te t.StoreTrigger g e = cc
-tell_never te _ g e = cc
 
 module _ (run : Run) (n g : ℕ) (s : Coordinating) where
   abbrev Checked : Type 0

@@ -1,19 +1,13 @@
--- The parts of the coordinator that write no word of the handshake.
-use Rattle.std.proofs.Common.{arith}
-use Rattle.gh_coord.specs.declared.count.CountStage.TheVariants as count_stage
-use Rattle.gh_coord.specs.declared.watch.WatchStage.TheVariants as watch_stage
-use Rattle.gh_coord.specs.Counting as count
-use Rattle.gh_coord.specs.SweepingAll as all
-use Rattle.gh_coord.specs.Watching as watch
-use Rattle.gh_coord.proofs.Vocabulary.{CountStage, IsQuietInHandshake, SweepAllStage, WatchStage}
+-- What a step leaves by its footprint: the words of the handshake, and the sweep generation.
+use Rattle.std.proofs.Common.{◌≡◌, ℕ, false, subst, arith}
+use Rattle.gh_base.specs.declared.cell.Cell.TheVariants as cell
+use Rattle.gh_base.specs.Footprints.{Footprint, Writes}
+use Rattle.gh_base.specs.Footprints as row
+use Rattle.gh_coord.proofs.Vocabulary.{Ask, IsQuietInHandshake, Store}
 
-pub watch_quiet : (w : watch.Watching) (stage : WatchStage) → IsQuietInHandshake (watch.asks_at w stage)
-watch_quiet w (watch_stage.Look i) = tt
-watch_quiet w (watch_stage.Ended watched) = tt
+module _ (f : Footprint) (step : Ask) (w : Writes f step) where
+  pub quiet_by : f row.Phase ≡ false → f row.Gen ≡ false → f row.Begun ≡ false → f row.Ack ≡ false → IsQuietInHandshake step
+  quiet_by phase gen begun ack = grind arith
 
-pub sweep_quiet : (s : all.SweepingAll) (stage : SweepAllStage) → IsQuietInHandshake (all.asks_at s stage)
-sweep_quiet s stage = grind arith
-
-pub count_quiet : (stage : CountStage) → IsQuietInHandshake (count.asks_at stage)
-count_quiet count_stage.LoadTally = tt
-count_quiet _ = tt
+  pub never : (g : ℕ) → f row.Gen ≡ false → step ≡ Store cell.Gen g → ⊥
+  never g gen e = absurd (let stores = subst (Writes f) e w in cc)

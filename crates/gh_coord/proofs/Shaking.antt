@@ -11,14 +11,14 @@ use Rattle.gh_coord.specs.Counting as count
 use Rattle.gh_coord.specs.Events.{by_event}
 use Rattle.gh_coord.specs.Handshake.{StopsFor}
 use Rattle.gh_coord.specs.Opening as opens_by
+use Rattle.gh_coord.specs.PartsRoutines.{PartsAreRoutines}
 use Rattle.gh_coord.specs.Stopping as stop
-use Rattle.gh_coord.specs.Stays.{sweep_all_number, sweep_all_stays}
 use Rattle.gh_coord.specs.SweepingAll as all
 use Rattle.gh_coord.specs.Telling as tell
 use Rattle.gh_coord.specs.Watching as watch
 use Rattle.gh_coord.proofs.Vocabulary.{acks_of, after_ack, after_check, after_count, after_stop, after_stop_again, after_sweep, after_want, after_watch, All, asks, asks_at, at_stage, begins, Calm, Check, Close, CloseStage, Coordinating, CoordStage, Count, Counted, counted, cycle_before, Done, ends, FitsNumbers, generation_before, goes_at, is_acknowledged, is_busy, IsAcked, IsQuietInHandshake, Layout, lead_at, lead_of, LeadGoes, LeadsHandshake, LoadAck, LoadWant, Looks, MarkOn, next_cycle, next_generation, Open, OpenStage, quiet, sees, Sound, SoundAt, Stop, stop_before, stop_word, StopAgain, Stopped, stops, StopStage, Store, Sweep, Tell, TellStage, Watch, Watched}
 use Rattle.gh_coord.proofs.LastCycle.{finds_gone, finishes_at, marks_at, stops_go_on}
-use Rattle.gh_coord.proofs.QuietParts.{count_quiet, sweep_quiet, watch_quiet}
+use Rattle.gh_coord.proofs.QuietParts.{quiet_by}
 use Rattle.gh_coord.proofs.Stepping.{same_ask}
 
 -- numbers that go round
@@ -68,7 +68,7 @@ module _ (found : ℕ) (s : Coordinating) (f : FitsNumbers s.stops s.begun s.gen
 
   -- a stop
   abbrev stopping : StopStage → stop.Stopping
-  stopping stage = record { layout = s.layout; stops = s.stops; stage = stage }
+  stopping stage = record { stops = s.stops; stage = stage }
 
   -- what a load of this acknowledgement leads to
   abbrev seeing : (ack : ℕ) → (there more : Bool) → stop.Stopping
@@ -109,28 +109,28 @@ module _ (found : ℕ) (s : Coordinating) (f : FitsNumbers s.stops s.begun s.gen
   opening o _ busy = ((f, (refl, refl)), quiet tt refl)
 
   -- the look and the check
-  watching : (w v : watch.Watching) (out : Option Watched) → IsQuietInHandshake (watch.asks w) → Goes found s (Watch w) (after_watch (at_stage s (Watch v)) out)
+  watching : (w v : watch.Watching) (out : Option Watched) → IsQuietInHandshake (watch.asks s.layout w) → Goes found s (Watch w) (after_watch (at_stage s (Watch v)) out)
   watching w v (Some All) q = ((fits_raised, refl), quiet q (ap (λ (n : ℕ). record { stops = n; begun = s.begun; generation = s.generation; post = Calm run.Mark }) (stop_behind s.stops f.stops_fit)))
   watching w v _ q = ((f, tt), quiet q refl)
 
-  checking : (w v : watch.Watching) (out : Option Watched) → IsQuietInHandshake (watch.asks w) → Goes found s (Check w) (after_check (at_stage s (Check v)) out)
+  checking : (w v : watch.Watching) (out : Option Watched) → IsQuietInHandshake (watch.asks s.layout w) → Goes found s (Check w) (after_check (at_stage s (Check v)) out)
   checking w v (Some All) q = ((raised_generation s.stops s.begun s.generation f, refl), quiet q (ap (λ (n : ℕ). record { stops = s.stops; begun = s.begun; generation = n; post = Stopped run.Mark }) (generation_behind s.generation f.generation_fits)))
   checking w v _ q = ((f, tt), quiet q refl)
 
   -- marking is ended
-  abbrev close_at : Layout → (lapsed : ℕ) → CloseStage → close.Closing
-  close_at l lapsed stage = record { layout = l; lapsed = lapsed; generation = s.generation; stops = s.stops; stage = stage }
+  abbrev close_at : (lapsed : ℕ) → CloseStage → close.Closing
+  close_at lapsed stage = record { lapsed = lapsed; generation = s.generation; stops = s.stops; stage = stage }
 
-  closing : (l : Layout) (lapsed : ℕ) (stage : CloseStage) → close.is_busy stage ≡ true → Goes found s (Close (close_at l lapsed stage)) (goes_at s (Close (close_at l lapsed stage)) found)
-  closing l lapsed close_stage.StoreGen busy =
+  closing : (lapsed : ℕ) (stage : CloseStage) → close.is_busy stage ≡ true → Goes found s (Close (close_at lapsed stage)) (goes_at s (Close (close_at lapsed stage)) found)
+  closing lapsed close_stage.StoreGen busy =
       let is : next_generation (generation_before s.generation) ≡ s.generation = generation_ahead s.generation f.generation_fits in
       ((f, refl), ends run.Mark refl (ap (λ (n : ℕ). Store cell.Gen n) (sym is)) (ap (λ (n : ℕ). record { stops = s.stops; begun = s.begun; generation = n; post = Stopped run.Mark }) (sym is)))
-  closing l lapsed close_stage.StorePhase busy = ((f, (refl, refl)), goes run.Mark run.Off (λ e. cc) refl refl refl)
-  closing l lapsed close_stage.Ended busy = absurd cc
-  closing l lapsed _ busy = ((f, refl), quiet tt refl)
+  closing lapsed close_stage.StorePhase busy = ((f, refl), goes run.Mark run.Off (λ e. cc) refl refl refl)
+  closing lapsed close_stage.Ended busy = absurd cc
+  closing lapsed _ busy = ((f, refl), quiet tt refl)
 
   -- the sweep, and what it has counted
-  sweeping : (w v : all.SweepingAll) (out : Option (Unit {0})) → (v.layout ≡ s.layout) × (v.generation ≡ s.generation) → IsQuietInHandshake (all.asks w) → Goes found s (Sweep w) (after_sweep (at_stage s (Sweep v)) out)
+  sweeping : (w v : all.SweepingAll) (out : Option (Unit {0})) → v.generation ≡ s.generation → IsQuietInHandshake (all.asks s.layout w) → Goes found s (Sweep w) (after_sweep (at_stage s (Sweep v)) out)
   sweeping w v None e q = ((f, e), quiet q refl)
   sweeping w v (Some u) e q = ((f, tt), quiet q refl)
 
@@ -139,26 +139,30 @@ module _ (found : ℕ) (s : Coordinating) (f : FitsNumbers s.stops s.begun s.gen
   counting w v (Some read) q = ((f, (refl, λ e. absurd (cc))), quiet q refl)
 
   -- the cycle is told
-  abbrev tell_at : Layout → (trigger cycle : ℕ) → TellStage → tell.Telling
-  tell_at l trigger cycle stage = record { layout = l; trigger = trigger; cycle = cycle; stops = s.stops; is_last = s.is_last; stage = stage }
+  abbrev tell_at : (trigger cycle : ℕ) → TellStage → tell.Telling
+  tell_at trigger cycle stage = record { trigger = trigger; cycle = cycle; stops = s.stops; is_last = s.is_last; stage = stage }
 
-  tells : (l : Layout) (trigger cycle : ℕ) (stage : TellStage) → (tell.stores_phase stage ≡ true → s.is_last ≡ true) → tell.is_busy stage ≡ true → Goes found s (Tell (tell_at l trigger cycle stage)) (goes_at s (Tell (tell_at l trigger cycle stage)) found)
-  tells l trigger cycle stage last busy = grind arith
+  tells : (trigger cycle : ℕ) (stage : TellStage) → (tell.stores_phase stage ≡ true → s.is_last ≡ true) → tell.is_busy stage ≡ true → Goes found s (Tell (tell_at trigger cycle stage)) (goes_at s (Tell (tell_at trigger cycle stage)) found)
+  tells trigger cycle stage last busy = grind arith
 
-goes_so : (found : ℕ) (s : Coordinating) (stage : CoordStage) → FitsNumbers s.stops s.begun s.generation → SoundAt s stage → is_busy stage ≡ true → Goes found s stage (goes_at s stage found)
-goes_so found s (LoadAck i) f e busy = acks found s f i
-goes_so found s LoadWant f e busy = wants found s f
-goes_so found s (Stop st) f e busy = subst (λ (x : stop.Stopping). Goes found s (Stop x) (goes_at s (Stop x) found)) (sym e) (first_stop found s f st.stage busy)
-goes_so found s (Open o) f e busy = subst (λ (x : opens_by.CycleOpening). Goes found s (Open x) (goes_at s (Open x) found)) (sym e.0) (opening found s f o o.stage busy)
-goes_so found s (Watch w) f e busy = watching found s f w (watch.goes w found) (watch.gives w found) (watch_quiet w w.stage)
-goes_so found s (StopAgain st) f e busy = subst (λ (x : stop.Stopping). Goes found s (StopAgain x) (goes_at s (StopAgain x) found)) (sym e) (second_stop found s f st.stage busy)
-goes_so found s (Check w) f e busy = checking found s f w (watch.goes w found) (watch.gives w found) (watch_quiet w w.stage)
-goes_so found s MarkOn f e busy = ((f, tt), goes run.Mark run.Mark (λ x. cc) refl refl refl)
-goes_so found s (Close c) f e busy = subst (λ (x : close.Closing). Goes found s (Close x) (goes_at s (Close x) found)) (sym e) (closing found s f c.layout c.lapsed c.stage busy)
-goes_so found s (Sweep w) f e busy = sweeping found s f w (all.goes w found) (all.gives w found) (sweep_all_stays w found ∙ e.0, sweep_all_number w found ∙ e.1) (sweep_quiet w w.stage)
-goes_so found s (Count c) f e busy = counting found s f c (count.goes c found) (count.gives c found) (count_quiet c.stage)
-goes_so found s (Tell t) f e busy = subst (λ (x : tell.Telling). Goes found s (Tell x) (goes_at s (Tell x) found)) (sym e.0) (tells found s f t.layout t.trigger t.cycle t.stage e.1 busy)
-goes_so found s Done f e busy = absurd cc
+module _ (found : ℕ) (s : Coordinating) (is : PartsAreRoutines s.layout) where
+  sweep_number : (w : all.SweepingAll) → (all.goes s.layout w found).generation ≡ w.generation
+  sweep_number w = grind arith
+
+  goes_so : (stage : CoordStage) → FitsNumbers s.stops s.begun s.generation → SoundAt s stage → is_busy stage ≡ true → Goes found s stage (goes_at s stage found)
+  goes_so (LoadAck i) f e busy = acks found s f i
+  goes_so LoadWant f e busy = wants found s f
+  goes_so (Stop st) f e busy = subst (λ (x : stop.Stopping). Goes found s (Stop x) (goes_at s (Stop x) found)) (sym e) (first_stop found s f st.stage busy)
+  goes_so (Open o) f e busy = subst (λ (x : opens_by.CycleOpening). Goes found s (Open x) (goes_at s (Open x) found)) (sym e.0) (opening found s f o o.stage busy)
+  goes_so (Watch w) f e busy = watching found s f w (watch.goes s.layout w found) (watch.given (watch.goes s.layout w found)) (quiet_by watch.writes _ (is.watch.writes w) refl refl refl refl)
+  goes_so (StopAgain st) f e busy = subst (λ (x : stop.Stopping). Goes found s (StopAgain x) (goes_at s (StopAgain x) found)) (sym e) (second_stop found s f st.stage busy)
+  goes_so (Check w) f e busy = checking found s f w (watch.goes s.layout w found) (watch.given (watch.goes s.layout w found)) (quiet_by watch.writes _ (is.watch.writes w) refl refl refl refl)
+  goes_so MarkOn f e busy = ((f, tt), goes run.Mark run.Mark (λ x. cc) refl refl refl)
+  goes_so (Close c) f e busy = subst (λ (x : close.Closing). Goes found s (Close x) (goes_at s (Close x) found)) (sym e) (closing found s f c.lapsed c.stage busy)
+  goes_so (Sweep w) f e busy = sweeping found s f w (all.goes s.layout w found) (all.given (all.goes s.layout w found)) (sweep_number w ∙ e) (quiet_by all.writes _ (is.sweep.writes w) refl refl refl refl)
+  goes_so (Count c) f e busy = counting found s f c (count.goes c found) (count.given (count.goes c found)) (quiet_by count.writes _ (is.count.writes c) refl refl refl refl)
+  goes_so (Tell t) f e busy = subst (λ (x : tell.Telling). Goes found s (Tell x) (goes_at s (Tell x) found)) (sym e.0) (tells found s f t.trigger t.cycle t.stage e.1 busy)
+  goes_so Done f e busy = absurd cc
 
 -- counting the steps that store the phase word leaves the place
 counted_sound : (s : Coordinating) (stage : CoordStage) → SoundAt s stage → SoundAt (counted s) stage
@@ -173,16 +177,16 @@ module _ (s m : Coordinating) (found : ℕ) where
   stops_so : (stage : CoordStage) → s.stage ≡ stage → m.stage ≡ stage → HasReason (goes_at m stage found)
   stops_so stage is stays = by_event m found HasReason stage (λ e may. grind arith)
 
-pub leads_handshake : LeadsHandshake
-leads_handshake = record {
+pub leads_handshake : ((l : Layout) → PartsAreRoutines l) → LeadsHandshake
+leads_handshake parts = record {
   sound = λ l seat gogc minheap room. (record { stops_fit = omega arith; begun_fits = omega arith; generation_fits = omega arith }, tt);
   leads = λ l seat gogc minheap room. refl;
-  stays_sound = λ s found sound busy. (goes_so found (counted s) s.stage sound.0 (counted_sound s s.stage sound.1) busy).0;
+  stays_sound = λ s found sound busy. (goes_so found (counted s) (parts s.layout) s.stage sound.0 (counted_sound s s.stage sound.1) busy).0;
   finds_gone = finds_gone;
   stops_for = λ s found. stops_so s (counted s) found s.stage refl refl;
   stops_at_first = λ l seat gogc minheap room stop e. cc;
   stops_go_on = stops_go_on;
   marks_on = λ s sound runs. marks_at s s.stage sound.1 runs;
   finishes = λ s sound e. finishes_at s s.stage sound.1 e;
-  goes = λ s found sound busy. rw (← same_ask s s.stage) (goes_so found (counted s) s.stage sound.0 (counted_sound s s.stage sound.1) busy).1;
+  goes = λ s found sound busy. rw (← same_ask s s.stage) (goes_so found (counted s) (parts s.layout) s.stage sound.0 (counted_sound s s.stage sound.1) busy).1;
 }

@@ -1,5 +1,5 @@
 -- The coordinator runs the steps of sweeps, and begins one where it finds the head of an unswept span.
-use Rattle.std.proofs.Common.{◌≡◌, ℕ, ◌+◌, ◌==◌, Bool, cond, Option, Some, None, refl, sym, ap, ◌∙◌, arith}
+use Rattle.std.proofs.Common.{◌≡◌, ℕ, ◌+◌, ◌==◌, Bool, cond, Option, Some, None, refl, subst, sym, ◌∙◌, arith}
 use Rattle.gh_base.specs.declared.pack.PageWord.{PageWord}
 use Rattle.gh_base.specs.declared.pack.PageWord.TheVariants.{Body, Free, Head}
 use Rattle.gh_base.specs.Packing.{page_of}
@@ -7,6 +7,7 @@ use Rattle.gh_sweep.specs.Listing as sweep
 use Rattle.gh_sweep.specs.Running.{BeginsSweep, on_from}
 use Rattle.gh_coord.specs.declared.sweep_all.SweepAllStage.TheVariants as all_stage
 use Rattle.gh_coord.specs.Events.{by_event}
+use Rattle.gh_coord.specs.PartsRoutines.{PartsAreRoutines}
 use Rattle.gh_coord.specs.Sweeping.{TheCoordinatorRunsSweeps}
 use Rattle.gh_coord.specs.SweepingAll as all
 use Rattle.gh_coord.proofs.SweptPages.{tells_once_swept}
@@ -16,38 +17,37 @@ use Rattle.gh_coord.proofs.Vocabulary.{after_sweep, asks_at, at_stage, Coordinat
 behind_none : (pages page : ℕ) → all.sweep_at (all.behind_of pages page) ≡ None
 behind_none pages page = grind arith
 
-walk_on : (w : all.SweepingAll) (sw : sweep.Sweeping) (p : SweepAllStage) → all.sweep_at p ≡ Some sw → (all.asks_at w p ≡ sweep.asks sw) × ((found : ℕ) → all.sweep_at (all.goes_at w p found).stage ≡ on_from sw found)
-walk_on w sw p is = grind arith
+walk_on : (l : Layout) (w : all.SweepingAll) (sw : sweep.Sweeping) (p : SweepAllStage) → all.sweep_at p ≡ Some sw → (all.asks_at l p ≡ sweep.asks l sw) × ((found : ℕ) → all.sweep_at (all.goes_at l w p found).stage ≡ on_from sw found)
+walk_on l w sw p is = grind arith
 
-module _ (w : all.SweepingAll) (found : ℕ) (sw : sweep.Sweeping) where
+module _ (l : Layout) (w : all.SweepingAll) (found : ℕ) (sw : sweep.Sweeping) where
   abbrev WalkBegins : SweepAllStage → Type 0
-  WalkBegins p = BeginsSweep w.layout w.generation (all.asks_at w p) found sw
+  WalkBegins p = BeginsSweep w.generation (all.asks_at l p) found sw
 
-  loads : (page : ℕ) (word : PageWord) → page_of found ≡ word → all.sweep_at (all.after_load w page word).stage ≡ Some sw → WalkBegins (all_stage.LoadPage page)
+  loads : (page : ℕ) (word : PageWord) → page_of found ≡ word → all.sweep_at (all.after_load l w page word).stage ≡ Some sw → WalkBegins (all_stage.LoadPage page)
   loads page (Head h) is some = by (h.number + 2 == w.generation) (h.number + 1 == w.generation) refl some where
-    by : (b c : Bool) → (h.number + 2 == w.generation) ≡ b → all.sweep_at (cond b (all_stage.Sweep page (sweep.opening w.layout page h)) (cond c (all_stage.Await page) (all.behind w page))) ≡ Some sw → WalkBegins (all_stage.LoadPage page)
+    by : (b c : Bool) → (h.number + 2 == w.generation) ≡ b → all.sweep_at (cond b (all_stage.Sweep page (sweep.opening page h)) (cond c (all_stage.Await page) (all.behind l page))) ≡ Some sw → WalkBegins (all_stage.LoadPage page)
     by b c e some = grind arith
-  loads page Free is some = absurd (let none = behind_none w.layout.pages page in cc)
-  loads page (Body b) is some = absurd (let none = behind_none w.layout.pages page in cc)
+  loads page Free is some = absurd (let none = behind_none l.pages page in cc)
+  loads page (Body b) is some = absurd (let none = behind_none l.pages page in cc)
 
-  awaits : (page : ℕ) (b : Bool) → all.sweep_at (cond b (all_stage.Await page) (all.behind w page)) ≡ None
+  awaits : (page : ℕ) (b : Bool) → all.sweep_at (cond b (all_stage.Await page) (all.behind l page)) ≡ None
   awaits page b = grind arith
 
-  walk_begins : (p : SweepAllStage) → all.sweep_at p ≡ None → all.sweep_at (all.goes_at w p found).stage ≡ Some sw → WalkBegins p
+  walk_begins : (p : SweepAllStage) → all.sweep_at p ≡ None → all.sweep_at (all.goes_at l w p found).stage ≡ Some sw → WalkBegins p
   walk_begins p none some = grind (arith, awaits, loads)
 
 walk_then : (m : Coordinating) (v : all.SweepingAll) (out : Option (Unit {0})) → all.given v ≡ out → sweep_in (after_sweep (at_stage m (Sweep v)) out) ≡ all.sweep_at v.stage
 walk_then m v out e = grind arith
 
-on_at : (s m : Coordinating) (sw : sweep.Sweeping) (p : CoordStage) → sweep_at p ≡ Some sw → (asks_at s p ≡ sweep.asks sw) × ((found : ℕ) → sweep_in (goes_at m p found) ≡ on_from sw found)
+on_at : (s m : Coordinating) (sw : sweep.Sweeping) (p : CoordStage) → sweep_at p ≡ Some sw → (asks_at s p ≡ sweep.asks s.layout sw) × ((found : ℕ) → sweep_in (goes_at m p found) ≡ on_from sw found)
 on_at s m sw (Sweep w) is =
-    let o = walk_on w sw w.stage is in
-    (o.0, λ found. walk_then m (all.goes w found) (all.gives w found) refl ∙ o.1 found)
+    ((walk_on s.layout w sw w.stage is).0, λ found. walk_then m (all.goes m.layout w found) (all.given (all.goes m.layout w found)) refl ∙ (walk_on m.layout w sw w.stage is).1 found)
 on_at s m sw _ is = absurd (cc)
 
-module _ (s m : Coordinating) (found : ℕ) (sw : sweep.Sweeping) where
+module _ (s m : Coordinating) (same : m.layout ≡ s.layout) (found : ℕ) (sw : sweep.Sweeping) where
   abbrev Begins : CoordStage → Type 0
-  Begins p = BeginsSweep s.layout s.generation (asks_at s p) found sw
+  Begins p = BeginsSweep s.generation (asks_at s p) found sw
 
   abbrev None_in : Coordinating → Type 0
   None_in to = sweep_in to ≡ None
@@ -55,26 +55,19 @@ module _ (s m : Coordinating) (found : ℕ) (sw : sweep.Sweeping) where
   none_so : (to : Coordinating) → None_in to → sweep_in to ≡ Some sw → ⊥
   none_so to none some = cc
 
-  walked : (w : all.SweepingAll) → (w.layout ≡ s.layout) × (w.generation ≡ s.generation) → all.sweep_at w.stage ≡ None → sweep_in (goes_at m (Sweep w) found) ≡ Some sw → Begins (Sweep w)
+  walked : (w : all.SweepingAll) → w.generation ≡ s.generation → all.sweep_at w.stage ≡ None → sweep_in (goes_at m (Sweep w) found) ≡ Some sw → Begins (Sweep w)
   walked w is none some =
-      let b = walk_begins w found sw w.stage none (sym (walk_then m (all.goes w found) (all.gives w found) refl) ∙ some) in
-      record {
-        page = b.page;
-        head = b.head;
-        step_is = b.step_is;
-        head_is = b.head_is;
-        number = b.number ∙ is.1;
-        sweep_is = b.sweep_is ∙ ap (λ (l : Layout). sweep.opening l b.page b.head) is.0;
-      }
+      let b = walk_begins m.layout w found sw w.stage none (sym (walk_then m (all.goes m.layout w found) (all.given (all.goes m.layout w found)) refl) ∙ some) in
+      subst (λ (l : Layout). BeginsSweep s.generation (all.asks l w) found sw) same (record { page = b.page; head = b.head; step_is = b.step_is; head_is = b.head_is; number = b.number ∙ is; sweep_is = b.sweep_is })
 
   begins_at : (p : CoordStage) → SoundAt s p → sweep_at p ≡ None → None_in m → sweep_in (goes_at m p found) ≡ Some sw → Begins p
   begins_at (Sweep w) e none here some = walked w e none some
   begins_at p e none here some = absurd (none_so (goes_at m p found) (by_event m found None_in p (λ x may. grind arith)) some)
 
-pub runs_sweeps : TheCoordinatorRunsSweeps
-runs_sweeps = record {
+pub runs_sweeps : ((l : Layout) → PartsAreRoutines l) → TheCoordinatorRunsSweeps
+runs_sweeps parts = record {
   at_first = λ l seat gogc minheap room. refl;
   on = λ s sw is busy. let o = on_at s (counted s) sw s.stage is in record { asks_so = o.0; goes_so = o.1 };
-  begins = λ s found sw sound none some. begins_at s (counted s) found sw s.stage sound.1 none none some;
-  tells = tells_once_swept;
+  begins = λ s found sw sound none some. begins_at s (counted s) refl found sw s.stage sound.1 none none some;
+  tells = tells_once_swept parts;
 }

@@ -1,26 +1,25 @@
 -- Marking is ended: what is asked for at each stage, where that leads, and what it gives.
-use Rattle.std.specs.Prelude.{ℕ, ◌+◌, ◌%◌, ◌^◌, Bool, true, false, Option, Some, None}
+use Rattle.std.specs.Prelude.{ℕ, ◌+◌, ◌%◌, ◌^◌, ◌<◌, Bool, true, false, Option, Some, None}
 use Rattle.gh_base.specs.declared.cell.Cell.TheVariants as cell
 use Rattle.gh_base.specs.declared.cell.Ask.{Ask}
 use Rattle.gh_base.specs.declared.cell.Ask.TheVariants.{Load, Store}
 use Rattle.gh_base.specs.declared.layout.Layout.{Layout}
 use Rattle.gh_base.specs.declared.pack.Phase.TheVariants.{Off}
 use Rattle.gh_base.specs.declared.pack.PhaseWord.{PhaseWord}
+use Rattle.gh_base.specs.Footprints.{Footprint}
+use Rattle.gh_base.specs.Footprints as row
+use Rattle.gh_base.specs.Machines.{Listing}
 use Rattle.gh_base.specs.Packing.{phase_word}
-use Rattle.gh_base.specs.Routines.{Listing}
+use Rattle.gh_coord.specs.declared.close.Close.{Close}
 use Rattle.gh_coord.specs.declared.close.CloseStage.{CloseStage}
 use Rattle.gh_coord.specs.declared.close.CloseStage.TheVariants.{LoadBank, ClearBank, StoreGen, StorePhase, Ended}
 
 -- the credit that has lapsed by now, the sweep generation that is to be stored, the number of stops, and the stage
-pub record Closing : Type 0 where
-  pub layout : Layout
-  pub lapsed : ℕ
-  pub generation : ℕ
-  pub stops : ℕ
-  pub stage : CloseStage
+abbrev pub Closing : Type 0
+Closing = Close
 
-abbrev pub opening : Layout → (lapsed generation stops : ℕ) → Closing
-opening l lapsed generation stops = record { layout = l; lapsed = lapsed; generation = generation; stops = stops; stage = LoadBank }
+abbrev pub opening : (lapsed generation stops : ℕ) → Closing
+opening lapsed generation stops = record { lapsed = lapsed; generation = generation; stops = stops; stage = LoadBank }
 
 abbrev pub at_stage : Closing → CloseStage → Closing
 at_stage c stage = record c { stage = stage }
@@ -72,8 +71,12 @@ asks c = asks_at c c.stage
 abbrev pub goes : Closing → ℕ → Closing
 goes c found = goes_at c c.stage found
 
-abbrev pub gives : Closing → ℕ → Option ℕ
-gives c found = given (goes c found)
+abbrev pub writes : Footprint
+writes row.Bank = true
+writes row.Gen = true
+writes row.Phase = true
+writes _ = false
 
-abbrev pub listing : Listing Closing ℕ
-listing = record { layout = λ c. c.layout; busy = λ c. is_busy c.stage; asks = asks; goes = goes; gives = gives }
+-- its number of stops fits the phase word
+abbrev pub listing : Layout → Listing Closing ℕ
+listing l = record { asks = asks; goes = goes; given = given; sound = λ c. c.stops < 2 ^ 62; writes = writes }

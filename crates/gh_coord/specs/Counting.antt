@@ -1,22 +1,22 @@
 -- What the sweep has counted is read: what is asked for at each stage, where that leads, and what it gives.
-use Rattle.std.specs.Prelude.{ℕ, Bool, Option, Some, None, is_none}
+use Rattle.std.specs.Prelude.{ℕ, Bool, false, Option, Some, None, is_none}
 use Rattle.gh_base.specs.declared.cell.Cell.TheVariants as cell
 use Rattle.gh_base.specs.declared.cell.Ask.{Ask}
 use Rattle.gh_base.specs.declared.cell.Ask.TheVariants.{Load}
 use Rattle.gh_base.specs.declared.layout.Layout.{Layout}
-use Rattle.gh_base.specs.Given.{listing_of}
+use Rattle.gh_base.specs.Footprints.{Footprint}
+use Rattle.gh_base.specs.Machines.{Listing}
 use Rattle.gh_base.specs.Packing.{tally_of}
-use Rattle.gh_base.specs.Routines.{Listing}
+use Rattle.gh_coord.specs.declared.count.Count.{Count}
 use Rattle.gh_coord.specs.declared.count.Counted.{Counted}
 use Rattle.gh_coord.specs.declared.count.CountStage.{CountStage}
 use Rattle.gh_coord.specs.declared.count.CountStage.TheVariants.{LoadTally, LoadLive, Ended}
 
-pub record Counting : Type 0 where
-  pub layout : Layout
-  pub stage : CountStage
+abbrev pub Counting : Type 0
+Counting = Count
 
-abbrev pub opening : Layout → Counting
-opening l = record { layout = l; stage = LoadTally }
+abbrev pub opening : Counting
+opening = record { stage = LoadTally }
 
 abbrev pub at_stage : Counting → CountStage → Counting
 at_stage c stage = record c { stage = stage }
@@ -48,8 +48,8 @@ asks c = asks_at c.stage
 abbrev pub goes : Counting → ℕ → Counting
 goes c found = goes_at c c.stage found
 
-abbrev pub gives : Counting → ℕ → Option Counted
-gives c found = given (goes c found)
+abbrev pub writes : Footprint
+writes _ = false
 
-abbrev pub listing : Listing Counting Counted
-listing = listing_of (λ c. c.layout) asks goes given
+abbrev pub listing : Layout → Listing Counting Counted
+listing l = record { asks = asks; goes = goes; given = given; sound = λ c. Unit {0}; writes = writes }

@@ -9,7 +9,7 @@ use Rattle.gh_coord.specs.Stopping as stop
 use Rattle.gh_coord.specs.SweepingAll as sweep
 use Rattle.gh_coord.specs.Telling as tell
 use Rattle.gh_coord.specs.Watching as watch
-use Rattle.gh_coord.specs.Vocabulary.{All, Check, Close, CloseStage, CoordStage, Count, Counted, Done, GONE, LoadAck, LoadWant, MarkOn, NotYet, Open, Stop, StopAgain, Sweep, Tell, Watch, Watched}
+use Rattle.gh_coord.specs.Vocabulary.{All, Check, Close, CloseStage, CoordStage, Count, Counted, Done, GONE, Layout, LoadAck, LoadWant, MarkOn, NotYet, Open, Stop, StopAgain, Sweep, Tell, Watch, Watched}
 
 pub data Event : Type 0 where
   -- its part goes on, and is at this stage then
@@ -65,21 +65,21 @@ led u Ends = at_stage u Done
 led u Stays = u
 
 -- how its part goes on, where it does
-abbrev pub GoesOnTo : (found : ℕ) → CoordStage → CoordStage → Type 0
-GoesOnTo found (Stop st) p = p ≡ Stop (stop.goes st found)
-GoesOnTo found (Open o) p = p ≡ Open (open_.goes o found)
-GoesOnTo found (Watch w) p = p ≡ Watch (watch.goes w found)
-GoesOnTo found (StopAgain st) p = p ≡ StopAgain (stop.goes st found)
-GoesOnTo found (Check w) p = p ≡ Check (watch.goes w found)
-GoesOnTo found (Close c) p = p ≡ Close (close.goes c found)
-GoesOnTo found (Sweep w) p = p ≡ Sweep (sweep.goes w found)
-GoesOnTo found (Count c) p = p ≡ Count (count.goes c found)
-GoesOnTo found (Tell t) p = p ≡ Tell (tell.goes t found)
-GoesOnTo found _ p = ⊥
+abbrev pub GoesOnTo : Layout → (found : ℕ) → CoordStage → CoordStage → Type 0
+GoesOnTo l found (Stop st) p = p ≡ Stop (stop.goes l st found)
+GoesOnTo l found (Open o) p = p ≡ Open (open_.goes o found)
+GoesOnTo l found (Watch w) p = p ≡ Watch (watch.goes l w found)
+GoesOnTo l found (StopAgain st) p = p ≡ StopAgain (stop.goes l st found)
+GoesOnTo l found (Check w) p = p ≡ Check (watch.goes l w found)
+GoesOnTo l found (Close c) p = p ≡ Close (close.goes c found)
+GoesOnTo l found (Sweep w) p = p ≡ Sweep (sweep.goes l w found)
+GoesOnTo l found (Count c) p = p ≡ Count (count.goes c found)
+GoesOnTo l found (Tell t) p = p ≡ Tell (tell.goes t found)
+GoesOnTo l found _ p = ⊥
 
 -- which events a step may come to, by the stage at which it is made
 abbrev pub MayCome : Coordinating → (found : ℕ) → CoordStage → Event → Type 0
-MayCome u found p (GoesOn q) = GoesOnTo found p q × (is_busy q ≡ true)
+MayCome u found p (GoesOn q) = GoesOnTo u.layout found p q × (is_busy q ≡ true)
 MayCome u found (LoadAck i) (LooksAt j) = (found ≡ GONE) × (j ≡ i + 1) × (j < u.layout.procs)
 MayCome u found (LoadAck i) LooksForWant = found ≢ GONE
 MayCome u found (LoadAck i) StopsForLast = (found ≡ GONE) × (u.layout.procs ≤ i + 1)
@@ -121,37 +121,37 @@ module _ (u : Coordinating) (found : ℕ) where
   wants true is = record { event = LooksAt 0; may = grind (arith, nat_tests); leads = refl }
   wants false is = record { event = StopsForNext; may = grind (arith, nat_tests); leads = refl }
 
-  stopped : (st : stop.Stopping) (out : Option (Unit {0})) → stop.gives st found ≡ out → Comes u found (Stop st) (after_stop (at_stage u (Stop (stop.goes st found))) out)
-  stopped st None e = record { event = GoesOn (Stop (stop.goes st found)); may = (refl, ap is_none e); leads = refl }
+  stopped : (st : stop.Stopping) (out : Option (Unit {0})) → stop.given (stop.goes u.layout st found) ≡ out → Comes u found (Stop st) (after_stop (at_stage u (Stop (stop.goes u.layout st found))) out)
+  stopped st None e = record { event = GoesOn (Stop (stop.goes u.layout st found)); may = (refl, ap is_none e); leads = refl }
   stopped st (Some x) e = record { event = Opens; may = tt; leads = refl }
 
-  opened : (o : open_.CycleOpening) (out : Option (Unit {0})) → open_.gives o found ≡ out → Comes u found (Open o) (after_open (at_stage u (Open (open_.goes o found))) out)
+  opened : (o : open_.CycleOpening) (out : Option (Unit {0})) → open_.given (open_.goes o found) ≡ out → Comes u found (Open o) (after_open (at_stage u (Open (open_.goes o found))) out)
   opened o None e = record { event = GoesOn (Open (open_.goes o found)); may = (refl, ap is_none e); leads = refl }
   opened o (Some x) e = record { event = Watches; may = tt; leads = refl }
 
-  watched : (w : watch.Watching) (out : Option Watched) → watch.gives w found ≡ out → Comes u found (Watch w) (after_watch (at_stage u (Watch (watch.goes w found))) out)
-  watched w None e = record { event = GoesOn (Watch (watch.goes w found)); may = (refl, ap is_none e); leads = refl }
+  watched : (w : watch.Watching) (out : Option Watched) → watch.given (watch.goes u.layout w found) ≡ out → Comes u found (Watch w) (after_watch (at_stage u (Watch (watch.goes u.layout w found))) out)
+  watched w None e = record { event = GoesOn (Watch (watch.goes u.layout w found)); may = (refl, ap is_none e); leads = refl }
   watched w (Some All) e = record { event = StopsAgain; may = tt; leads = refl }
   watched w (Some NotYet) e = record { event = Watches; may = tt; leads = refl }
 
-  stopped_again : (st : stop.Stopping) (out : Option (Unit {0})) → stop.gives st found ≡ out → Comes u found (StopAgain st) (after_stop_again (at_stage u (StopAgain (stop.goes st found))) out)
-  stopped_again st None e = record { event = GoesOn (StopAgain (stop.goes st found)); may = (refl, ap is_none e); leads = refl }
+  stopped_again : (st : stop.Stopping) (out : Option (Unit {0})) → stop.given (stop.goes u.layout st found) ≡ out → Comes u found (StopAgain st) (after_stop_again (at_stage u (StopAgain (stop.goes u.layout st found))) out)
+  stopped_again st None e = record { event = GoesOn (StopAgain (stop.goes u.layout st found)); may = (refl, ap is_none e); leads = refl }
   stopped_again st (Some x) e = record { event = Checks; may = tt; leads = refl }
 
-  checked : (w : watch.Watching) (out : Option Watched) → watch.gives w found ≡ out → Comes u found (Check w) (after_check (at_stage u (Check (watch.goes w found))) out)
-  checked w None e = record { event = GoesOn (Check (watch.goes w found)); may = (refl, ap is_none e); leads = refl }
+  checked : (w : watch.Watching) (out : Option Watched) → watch.given (watch.goes u.layout w found) ≡ out → Comes u found (Check w) (after_check (at_stage u (Check (watch.goes u.layout w found))) out)
+  checked w None e = record { event = GoesOn (Check (watch.goes u.layout w found)); may = (refl, ap is_none e); leads = refl }
   checked w (Some All) e = record { event = Closes; may = tt; leads = refl }
   checked w (Some NotYet) e = record { event = MarksOn; may = tt; leads = refl }
 
-  closed : (c : close.Closing) (out : Option ℕ) → close.gives c found ≡ out → Comes u found (Close c) (after_close (at_stage u (Close (close.goes c found))) out)
+  closed : (c : close.Closing) (out : Option ℕ) → close.given (close.goes c found) ≡ out → Comes u found (Close c) (after_close (at_stage u (Close (close.goes c found))) out)
   closed c None e = record { event = GoesOn (Close (close.goes c found)); may = (refl, sym (close_busy (close.goes c found) (close.goes c found).stage) ∙ ap is_none e); leads = refl }
   closed c (Some lapsed) e = record { event = Sweeps lapsed; may = tt; leads = refl }
 
-  swept : (w : sweep.SweepingAll) (out : Option (Unit {0})) → sweep.gives w found ≡ out → Comes u found (Sweep w) (after_sweep (at_stage u (Sweep (sweep.goes w found))) out)
-  swept w None e = record { event = GoesOn (Sweep (sweep.goes w found)); may = (refl, ap is_none e); leads = refl }
+  swept : (w : sweep.SweepingAll) (out : Option (Unit {0})) → sweep.given (sweep.goes u.layout w found) ≡ out → Comes u found (Sweep w) (after_sweep (at_stage u (Sweep (sweep.goes u.layout w found))) out)
+  swept w None e = record { event = GoesOn (Sweep (sweep.goes u.layout w found)); may = (refl, ap is_none e); leads = refl }
   swept w (Some x) e = record { event = Counts; may = tt; leads = refl }
 
-  counted : (c : count.Counting) (out : Option Counted) → count.gives c found ≡ out → Comes u found (Count c) (after_count (at_stage u (Count (count.goes c found))) out)
+  counted : (c : count.Counting) (out : Option Counted) → count.given (count.goes c found) ≡ out → Comes u found (Count c) (after_count (at_stage u (Count (count.goes c found))) out)
   counted c None e = record { event = GoesOn (Count (count.goes c found)); may = (refl, ap is_none e); leads = refl }
   counted c (Some x) e = record { event = Tells x; may = tt; leads = refl }
 
@@ -159,23 +159,23 @@ module _ (u : Coordinating) (found : ℕ) where
   told_so t true e = record { event = Ends; may = e; leads = refl }
   told_so t false e = record { event = Rests; may = e; leads = refl }
 
-  told : (t : tell.Telling) (out : Option (Unit {0})) → tell.gives t found ≡ out → Comes u found (Tell t) (after_tell (at_stage u (Tell (tell.goes t found))) out)
+  told : (t : tell.Telling) (out : Option (Unit {0})) → tell.given (tell.goes t found) ≡ out → Comes u found (Tell t) (after_tell (at_stage u (Tell (tell.goes t found))) out)
   told t None e = record { event = GoesOn (Tell (tell.goes t found)); may = (refl, ap is_none e); leads = refl }
   told t (Some x) e = told_so t u.is_last refl
 
   comes : (p : CoordStage) → Comes u found p (goes_at u p found)
   comes (LoadAck i) = acks i (found == GONE) (ltb (i + 1) u.layout.procs) refl refl
   comes LoadWant = wants (found == 0) refl
-  comes (Stop st) = stopped st (stop.gives st found) refl
-  comes (Open o) = opened o (open_.gives o found) refl
-  comes (Watch w) = watched w (watch.gives w found) refl
-  comes (StopAgain st) = stopped_again st (stop.gives st found) refl
-  comes (Check w) = checked w (watch.gives w found) refl
+  comes (Stop st) = stopped st (stop.given (stop.goes u.layout st found)) refl
+  comes (Open o) = opened o (open_.given (open_.goes o found)) refl
+  comes (Watch w) = watched w (watch.given (watch.goes u.layout w found)) refl
+  comes (StopAgain st) = stopped_again st (stop.given (stop.goes u.layout st found)) refl
+  comes (Check w) = checked w (watch.given (watch.goes u.layout w found)) refl
   comes MarkOn = record { event = Watches; may = tt; leads = refl }
-  comes (Close c) = closed c (close.gives c found) refl
-  comes (Sweep w) = swept w (sweep.gives w found) refl
-  comes (Count c) = counted c (count.gives c found) refl
-  comes (Tell t) = told t (tell.gives t found) refl
+  comes (Close c) = closed c (close.given (close.goes c found)) refl
+  comes (Sweep w) = swept w (sweep.given (sweep.goes u.layout w found)) refl
+  comes (Count c) = counted c (count.given (count.goes c found)) refl
+  comes (Tell t) = told t (tell.given (tell.goes t found)) refl
   comes Done = record { event = Stays; may = tt; leads = refl }
 
   -- what holds behind each event that a step at a stage may come to holds behind the step

@@ -102,12 +102,12 @@ pub record FitsNumbers (stops begun generation : ℕ) : Type 0 where
 
 -- what is stored at each stage is by the coordinator's own numbers
 abbrev pub SoundAt : Coordinating → CoordStage → Type 0
-SoundAt s (Stop st) = st ≡ record { layout = s.layout; stops = s.stops; stage = st.stage }
-SoundAt s (StopAgain st) = st ≡ record { layout = s.layout; stops = s.stops; stage = st.stage }
-SoundAt s (Open o) = (o ≡ record { layout = o.layout; stops = s.stops; cycle = s.begun; work = o.work; goal = o.goal; heap = o.heap; stage = o.stage }) × (open_.is_busy o.stage ≡ true)
-SoundAt s (Close c) = c ≡ record { layout = c.layout; lapsed = c.lapsed; generation = s.generation; stops = s.stops; stage = c.stage }
-SoundAt s (Sweep w) = (w.layout ≡ s.layout) × (w.generation ≡ s.generation)
-SoundAt s (Tell t) = (t ≡ record { layout = t.layout; trigger = t.trigger; cycle = t.cycle; stops = s.stops; is_last = s.is_last; stage = t.stage }) × (tell.stores_phase t.stage ≡ true → s.is_last ≡ true)
+SoundAt s (Stop st) = st ≡ record { stops = s.stops; stage = st.stage }
+SoundAt s (StopAgain st) = st ≡ record { stops = s.stops; stage = st.stage }
+SoundAt s (Open o) = (o ≡ record { stops = s.stops; cycle = s.begun; work = o.work; goal = o.goal; heap = o.heap; stage = o.stage }) × (open_.is_busy o.stage ≡ true)
+SoundAt s (Close c) = c ≡ record { lapsed = c.lapsed; generation = s.generation; stops = s.stops; stage = c.stage }
+SoundAt s (Sweep w) = w.generation ≡ s.generation
+SoundAt s (Tell t) = (t ≡ record { trigger = t.trigger; cycle = t.cycle; stops = s.stops; is_last = s.is_last; stage = t.stage }) × (tell.stores_phase t.stage ≡ true → s.is_last ≡ true)
 SoundAt s Done = s.is_last ≡ true
 SoundAt s _ = Unit {0}
 

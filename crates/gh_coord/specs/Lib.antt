@@ -11,7 +11,7 @@ pub mod MarkingEnds
 pub mod Opening
 pub mod Pacing
 pub mod Parts
-pub mod PartsSound
+pub mod PartsRoutines
 pub mod Sound
 pub mod Stays
 pub mod Stopping
@@ -22,3 +22,4 @@ pub mod Telling
 pub mod Triggering
 pub mod Vocabulary
 pub mod Watching
+pub mod Within

@@ -71,46 +71,46 @@ module _ (s : Coordinating) where
   asks_at LoadWant = Load cell.Want
   asks_at (Stop st) = stop.asks st
   asks_at (Open o) = open_.asks o
-  asks_at (Watch w) = watch.asks w
+  asks_at (Watch w) = watch.asks s.layout w
   asks_at (StopAgain st) = stop.asks st
-  asks_at (Check w) = watch.asks w
+  asks_at (Check w) = watch.asks s.layout w
   asks_at MarkOn = Store cell.Phase (phase_word (record { stops = s.stops; phase = phase.Mark }))
   asks_at (Close c) = close.asks c
-  asks_at (Sweep w) = sweep.asks w
+  asks_at (Sweep w) = sweep.asks s.layout w
   asks_at (Count c) = count.asks c
   asks_at (Tell t) = tell.asks t
   asks_at Done = Load cell.Touch
 
   -- it begins to stop the world, for a cycle that is to be opened or for the check that marking is over
   abbrev pub stops_world : Coordinating
-  stops_world = record s { stops = next_stop s.stops; stage = Stop (stop.opening s.layout (next_stop s.stops)) }
+  stops_world = record s { stops = next_stop s.stops; stage = Stop (stop.opening (next_stop s.stops)) }
 
   abbrev pub stops_again : Coordinating
-  stops_again = record s { stops = next_stop s.stops; stage = StopAgain (stop.opening s.layout (next_stop s.stops)) }
+  stops_again = record s { stops = next_stop s.stops; stage = StopAgain (stop.opening (next_stop s.stops)) }
 
   -- it opens a cycle, with the work and the goal by what the last left live
   abbrev pub opens : Coordinating
-  opens = record s { begun = next_cycle s.begun; stage = Open (open_.opening s.layout s.stops (next_cycle s.begun) (next_work s.layout s.gogc s.minheap s.live) (next_goal s.layout s.gogc s.minheap s.live)) }
+  opens = record s { begun = next_cycle s.begun; stage = Open (open_.opening s.stops (next_cycle s.begun) (next_work s.layout s.gogc s.minheap s.live) (next_goal s.layout s.gogc s.minheap s.live)) }
 
   abbrev pub watches : Coordinating
-  watches = at_stage s (Watch (watch.opening s.layout s.begun))
+  watches = at_stage s (Watch (watch.opening s.begun))
 
   abbrev pub checks : Coordinating
-  checks = at_stage s (Check (watch.opening s.layout s.begun))
+  checks = at_stage s (Check (watch.opening s.begun))
 
   abbrev pub closes : Coordinating
-  closes = record s { generation = next_generation s.generation; stage = Close (close.opening s.layout s.lapsed (next_generation s.generation) s.stops) }
+  closes = record s { generation = next_generation s.generation; stage = Close (close.opening s.lapsed (next_generation s.generation) s.stops) }
 
   -- where so much credit has lapsed by now
   abbrev pub sweeps : (lapsed : ℕ) → Coordinating
-  sweeps lapsed = record s { lapsed = lapsed; stage = Sweep (sweep.opening s.layout s.generation) }
+  sweeps lapsed = record s { lapsed = lapsed; stage = Sweep (sweep.opening s.generation) }
 
   abbrev pub counts : Coordinating
-  counts = at_stage s (Count (count.opening s.layout))
+  counts = at_stage s (Count count.opening)
 
   -- the cycle is kept, by what was counted, and the trigger is that of the next
   abbrev pub tells : Counted → Coordinating
-  tells c = record s { live = c.live; cycles = kept_with_cycle s.cycles (cycle_of s.begun c.tally); stage = Tell (tell.opening s.layout (next_trigger s.layout s.gogc s.minheap c.live) s.begun s.stops s.is_last) }
+  tells c = record s { live = c.live; cycles = kept_with_cycle s.cycles (cycle_of s.begun c.tally); stage = Tell (tell.opening (next_trigger s.layout s.gogc s.minheap c.live) s.begun s.stops s.is_last) }
 
 module _ (s : Coordinating) where
   -- a processor is found to be done, or not
@@ -162,16 +162,16 @@ module _ (s : Coordinating) where
 abbrev pub goes_at : Coordinating → CoordStage → ℕ → Coordinating
 goes_at s (LoadAck i) found = after_ack s i found
 goes_at s LoadWant found = after_want s found
-goes_at s (Stop st) found = after_stop (at_stage s (Stop (stop.goes st found))) (stop.gives st found)
-goes_at s (Open o) found = after_open (at_stage s (Open (open_.goes o found))) (open_.gives o found)
-goes_at s (Watch w) found = after_watch (at_stage s (Watch (watch.goes w found))) (watch.gives w found)
-goes_at s (StopAgain st) found = after_stop_again (at_stage s (StopAgain (stop.goes st found))) (stop.gives st found)
-goes_at s (Check w) found = after_check (at_stage s (Check (watch.goes w found))) (watch.gives w found)
+goes_at s (Stop st) found = after_stop (at_stage s (Stop (stop.goes s.layout st found))) (stop.given (stop.goes s.layout st found))
+goes_at s (Open o) found = after_open (at_stage s (Open (open_.goes o found))) (open_.given (open_.goes o found))
+goes_at s (Watch w) found = after_watch (at_stage s (Watch (watch.goes s.layout w found))) (watch.given (watch.goes s.layout w found))
+goes_at s (StopAgain st) found = after_stop_again (at_stage s (StopAgain (stop.goes s.layout st found))) (stop.given (stop.goes s.layout st found))
+goes_at s (Check w) found = after_check (at_stage s (Check (watch.goes s.layout w found))) (watch.given (watch.goes s.layout w found))
 goes_at s MarkOn found = watches s
-goes_at s (Close c) found = after_close (at_stage s (Close (close.goes c found))) (close.gives c found)
-goes_at s (Sweep w) found = after_sweep (at_stage s (Sweep (sweep.goes w found))) (sweep.gives w found)
-goes_at s (Count c) found = after_count (at_stage s (Count (count.goes c found))) (count.gives c found)
-goes_at s (Tell t) found = after_tell (at_stage s (Tell (tell.goes t found))) (tell.gives t found)
+goes_at s (Close c) found = after_close (at_stage s (Close (close.goes c found))) (close.given (close.goes c found))
+goes_at s (Sweep w) found = after_sweep (at_stage s (Sweep (sweep.goes s.layout w found))) (sweep.given (sweep.goes s.layout w found))
+goes_at s (Count c) found = after_count (at_stage s (Count (count.goes c found))) (count.given (count.goes c found))
+goes_at s (Tell t) found = after_tell (at_stage s (Tell (tell.goes t found))) (tell.given (tell.goes t found))
 goes_at s Done found = s
 
 -- it waits until each processor is done, or a cycle is asked for

@@ -1,13 +1,15 @@
 -- A cycle is opened: what is asked for at each stage, where that leads, and what it gives.
-use Rattle.std.specs.Prelude.{ℕ, Bool, true, false, Option, Some, None, is_none}
+use Rattle.std.specs.Prelude.{ℕ, ◌^◌, ◌<◌, Bool, true, false, Option, Some, None, is_none}
 use Rattle.gh_base.specs.declared.cell.Cell.TheVariants as cell
 use Rattle.gh_base.specs.declared.cell.Ask.{Ask}
 use Rattle.gh_base.specs.declared.cell.Ask.TheVariants.{Load, Store}
 use Rattle.gh_base.specs.declared.layout.Layout.{Layout}
 use Rattle.gh_base.specs.declared.pack.Phase.TheVariants as phase
-use Rattle.gh_base.specs.Given.{listing_of}
+use Rattle.gh_base.specs.Footprints.{Footprint}
+use Rattle.gh_base.specs.Footprints as row
+use Rattle.gh_base.specs.Machines.{Listing}
 use Rattle.gh_base.specs.Packing.{phase_word}
-use Rattle.gh_base.specs.Routines.{Listing}
+use Rattle.gh_coord.specs.declared.open.Open.{Open}
 use Rattle.gh_coord.specs.declared.open.OpenStage.{OpenStage}
 use Rattle.gh_coord.specs.declared.open.OpenStage.TheVariants.{ClearWant, ClearGcur, ClearTally, ClearLive, StoreTrigger, LoadHeap, StoreWork, StoreSlack, StoreBegun, StorePhase, Ended}
 use Rattle.gh_coord.specs.Pacing.{taken_bytes}
@@ -15,17 +17,11 @@ use Rattle.gh_pacer.specs.declared.pacing.TheConstants.{NEVER}
 use Rattle.gh_pacer.specs.Pacing.{slack}
 
 -- the number of stops, that of the cycle, the words that are to be scanned, the goal, the heap's bytes once they are found, and the stage
-pub record CycleOpening : Type 0 where
-  pub layout : Layout
-  pub stops : ℕ
-  pub cycle : ℕ
-  pub work : ℕ
-  pub goal : Option ℕ
-  pub heap : ℕ
-  pub stage : OpenStage
+abbrev pub CycleOpening : Type 0
+CycleOpening = Open
 
-abbrev pub opening : Layout → (stops cycle work : ℕ) → (goal : Option ℕ) → CycleOpening
-opening l stops cycle work goal = record { layout = l; stops = stops; cycle = cycle; work = work; goal = goal; heap = 0; stage = ClearWant }
+abbrev pub opening : (stops cycle work : ℕ) → (goal : Option ℕ) → CycleOpening
+opening stops cycle work goal = record { stops = stops; cycle = cycle; work = work; goal = goal; heap = 0; stage = ClearWant }
 
 abbrev pub behind : OpenStage → OpenStage
 behind ClearWant = ClearGcur
@@ -84,8 +80,18 @@ asks o = asks_at o o.stage
 abbrev pub goes : CycleOpening → ℕ → CycleOpening
 goes o found = goes_at o o.stage found
 
-abbrev pub gives : CycleOpening → ℕ → Option (Unit {0})
-gives o found = given (goes o found)
+abbrev pub writes : Footprint
+writes row.Want = true
+writes row.Gcur = true
+writes row.Tally = true
+writes row.Live = true
+writes row.Trigger = true
+writes row.Work = true
+writes row.Slack = true
+writes row.Begun = true
+writes row.Phase = true
+writes _ = false
 
-abbrev pub listing : Listing CycleOpening (Unit {0})
-listing = listing_of (λ o. o.layout) asks goes given
+-- its number of stops fits the phase word
+abbrev pub listing : Layout → Listing CycleOpening (Unit {0})
+listing l = record { asks = asks; goes = goes; given = given; sound = λ o. o.stops < 2 ^ 62; writes = writes }

@@ -1,28 +1,25 @@
 -- It is told that a cycle is swept: what is asked for at each stage, where that leads, and what it gives.
-use Rattle.std.specs.Prelude.{ℕ, Bool, true, false, if◌then◌else◌, Option, Some, None, is_none}
+use Rattle.std.specs.Prelude.{ℕ, ◌^◌, ◌<◌, Bool, true, false, if◌then◌else◌, Option, Some, None, is_none}
 use Rattle.gh_base.specs.declared.cell.Cell.TheVariants as cell
 use Rattle.gh_base.specs.declared.cell.Ask.{Ask}
 use Rattle.gh_base.specs.declared.cell.Ask.TheVariants.{Load, Store}
 use Rattle.gh_base.specs.declared.layout.Layout.{Layout}
 use Rattle.gh_base.specs.declared.pack.Phase.TheVariants.{Finished}
 use Rattle.gh_base.specs.declared.pack.PhaseWord.{PhaseWord}
-use Rattle.gh_base.specs.Given.{listing_of}
+use Rattle.gh_base.specs.Footprints.{Footprint}
+use Rattle.gh_base.specs.Footprints as row
+use Rattle.gh_base.specs.Machines.{Listing}
 use Rattle.gh_base.specs.Packing.{phase_word}
-use Rattle.gh_base.specs.Routines.{Listing}
+use Rattle.gh_coord.specs.declared.tell.Tell.{Tell}
 use Rattle.gh_coord.specs.declared.tell.TellStage.{TellStage}
 use Rattle.gh_coord.specs.declared.tell.TellStage.TheVariants.{StoreTrigger, StoreSwept, StorePhase, Ended}
 
 -- the trigger of the next cycle, the number of this one, that of the stops, that it was the last cycle, and the stage
-pub record Telling : Type 0 where
-  pub layout : Layout
-  pub trigger : ℕ
-  pub cycle : ℕ
-  pub stops : ℕ
-  pub is_last : Bool
-  pub stage : TellStage
+abbrev pub Telling : Type 0
+Telling = Tell
 
-abbrev pub opening : Layout → (trigger cycle stops : ℕ) → (is_last : Bool) → Telling
-opening l trigger cycle stops is_last = record { layout = l; trigger = trigger; cycle = cycle; stops = stops; is_last = is_last; stage = StoreTrigger }
+abbrev pub opening : (trigger cycle stops : ℕ) → (is_last : Bool) → Telling
+opening trigger cycle stops is_last = record { trigger = trigger; cycle = cycle; stops = stops; is_last = is_last; stage = StoreTrigger }
 
 module _ (t : Telling) where
   -- the world is done
@@ -69,8 +66,12 @@ asks t = asks_at t t.stage
 abbrev pub goes : Telling → ℕ → Telling
 goes t found = record t { stage = behind t.is_last t.stage }
 
-abbrev pub gives : Telling → ℕ → Option (Unit {0})
-gives t found = given (goes t found)
+abbrev pub writes : Footprint
+writes row.Trigger = true
+writes row.Swept = true
+writes row.Phase = true
+writes _ = false
 
-abbrev pub listing : Listing Telling (Unit {0})
-listing = listing_of (λ t. t.layout) asks goes given
+-- its number of stops fits the phase word
+abbrev pub listing : Layout → Listing Telling (Unit {0})
+listing l = record { asks = asks; goes = goes; given = given; sound = λ t. t.stops < 2 ^ 62; writes = writes }

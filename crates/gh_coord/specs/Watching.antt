@@ -1,28 +1,27 @@
 -- A look at the words that say whether marking is over: what is asked for at each stage, where that leads, and what it gives.
-use Rattle.std.specs.Prelude.{ℕ, ◌+◌, ◌-◌, Bool, true, nat_le, nat_lt, ◌==◌, ◌||◌, not, if◌then◌else◌, Option, Some, None, is_none}
+use Rattle.std.specs.Prelude.{ℕ, ◌+◌, ◌-◌, ◌<◌, Bool, true, false, nat_le, nat_lt, ◌==◌, ◌||◌, not, if◌then◌else◌, Option, Some, None, is_none}
 use Rattle.gh_base.specs.declared.cell.Cell.{Cell}
 use Rattle.gh_base.specs.declared.cell.Cell.TheVariants.{Touch, Gcur, Buffer, Scanned}
 use Rattle.gh_base.specs.declared.cell.Ask.{Ask}
 use Rattle.gh_base.specs.declared.cell.Ask.TheVariants.{Load}
 use Rattle.gh_base.specs.declared.layout.Layout.{Layout}
 use Rattle.gh_base.specs.declared.pack.BufferWord.{BufferWord}
-use Rattle.gh_base.specs.Given.{listing_of}
 use Rattle.gh_base.specs.Cells.{buffers_of}
+use Rattle.gh_base.specs.Footprints.{Footprint}
+use Rattle.gh_base.specs.Machines.{Listing}
 use Rattle.gh_base.specs.Packing.{buffer_of}
-use Rattle.gh_base.specs.Routines.{Listing}
+use Rattle.gh_coord.specs.declared.watch.Watch.{Watch}
 use Rattle.gh_coord.specs.declared.watch.Watched.{Watched}
 use Rattle.gh_coord.specs.declared.watch.Watched.TheVariants.{All, NotYet}
 use Rattle.gh_coord.specs.declared.watch.WatchStage.{WatchStage}
 use Rattle.gh_coord.specs.declared.watch.WatchStage.TheVariants.{Look, Ended}
 
 -- the number of the cycle, and the stage
-pub record Watching : Type 0 where
-  pub layout : Layout
-  pub cycle : ℕ
-  pub stage : WatchStage
+abbrev pub Watching : Type 0
+Watching = Watch
 
-abbrev pub opening : Layout → (cycle : ℕ) → Watching
-opening l cycle = record { layout = l; cycle = cycle; stage = Look 0 }
+abbrev pub opening : (cycle : ℕ) → Watching
+opening cycle = record { cycle = cycle; stage = Look 0 }
 
 abbrev pub at_stage : Watching → WatchStage → Watching
 at_stage w stage = record w { stage = stage }
@@ -50,14 +49,14 @@ is_wanted l cycle (Scanned g) found = nat_le cycle found
 is_wanted l cycle (Buffer i) found = is_held_or_empty (buffer_of found)
 is_wanted l cycle _ found = true
 
-module _ (w : Watching) where
+module _ (l : Layout) where
   abbrev pub asks_at : WatchStage → Ask
-  asks_at (Look i) = Load (cell_at w.layout i)
+  asks_at (Look i) = Load (cell_at l i)
   asks_at (Ended watched) = Load Touch
 
-  abbrev pub goes_at : WatchStage → ℕ → Watching
-  goes_at (Look i) found = at_stage w (if is_wanted w.layout w.cycle (cell_at w.layout i) found then behind w.layout i else Ended NotYet)
-  goes_at (Ended watched) found = at_stage w (Ended watched)
+  abbrev pub goes_at : Watching → WatchStage → ℕ → Watching
+  goes_at w (Look i) found = at_stage w (if is_wanted l w.cycle (cell_at l i) found then behind l i else Ended NotYet)
+  goes_at w (Ended watched) found = at_stage w (Ended watched)
 
 -- what it has given, and whether it is busy
 abbrev pub given_at : WatchStage → Option Watched
@@ -70,14 +69,22 @@ is_busy stage = is_none (given_at stage)
 abbrev pub given : Watching → Option Watched
 given w = given_at w.stage
 
-abbrev pub asks : Watching → Ask
-asks w = asks_at w w.stage
+abbrev pub asks : Layout → Watching → Ask
+asks l w = asks_at l w.stage
 
-abbrev pub goes : Watching → ℕ → Watching
-goes w found = goes_at w w.stage found
+abbrev pub goes : Layout → Watching → ℕ → Watching
+goes l w found = goes_at l w w.stage found
 
-abbrev pub gives : Watching → ℕ → Option Watched
-gives w found = given (goes w found)
+-- the word that is next is one that there is
+abbrev pub SoundAt : Layout → WatchStage → Type 0
+SoundAt l (Look i) = i < words_of l
+SoundAt l (Ended watched) = Unit {0}
 
-abbrev pub listing : Listing Watching Watched
-listing = listing_of (λ w. w.layout) asks goes given
+abbrev pub Sound : Layout → Watching → Type 0
+Sound l w = SoundAt l w.stage
+
+abbrev pub writes : Footprint
+writes _ = false
+
+abbrev pub listing : Layout → Listing Watching Watched
+listing l = record { asks = asks l; goes = goes l; given = given; sound = Sound l; writes = writes }

@@ -1,13 +1,10 @@
 //! The routine that ends marking.
 
-ghost use Rattle.std.specs.Prelude.{◌≡◌, ◌<◌, ◌^◌, true};
-ghost use Rattle.gh_base.specs.Cells.{InRange};
+ghost use Rattle.std.specs.Prelude.{◌≡◌, ◌<◌, ◌^◌};
 ghost use Rattle.gh_base.specs.Packing.{phase_word};
-ghost use Rattle.gh_base.specs.Steps.{cell_of};
-ghost use Rattle.gh_coord.specs.Closing.{asks, given, is_busy, opening, phase_at, stores_phase};
+ghost use Rattle.gh_coord.specs.Closing.{asks, given, opening, phase_at, stores_phase};
 
-use gh_base::{Ask, Cell, Layout, Machine, Phase, PhaseWord, Req};
-use std::marker::Model;
+use gh_base::{Ask, Cell, Layout, Phase, PhaseWord, Req, Routine};
 
 /// The stages in which marking is ended.
 #[derive(Clone, Copy)]
@@ -33,47 +30,27 @@ pub enum CloseStage {
 /// that the sweep frees.
 #[derive(Clone, Copy)]
 pub struct Close {
-    layout: Layout,
-    lapsed: u64,
-    generation: u64,
-    stops: u64,
-    stage: CloseStage,
-}
-
-impl Model for Close {
-    ghost use Rattle.gh_coord.specs.Closing.{Closing};
-    ghost use Rattle.gh_coord.specs.PartsSound.{SoundClosing};
-
-    ghost Value = { Closing };
-
-    ghost view = { λ c. record { layout = c.layout; lapsed = c.lapsed; generation = c.generation; stops = c.stops; stage = c.stage } };
-
-    ghost invariant = { λ c. SoundClosing (record { layout = c.layout; lapsed = c.lapsed; generation = c.generation; stops = c.stops; stage = c.stage }) };
-
-    ghost inverse = { λ c. record { layout = c.layout; lapsed = c.lapsed; generation = c.generation; stops = c.stops; stage = c.stage } };
+    /// The credit that has lapsed by now, in words modulo 2^64.
+    pub lapsed: u64,
+    /// The sweep generation that it stores.
+    pub generation: u64,
+    /// The number of stops.
+    pub stops: u64,
+    /// Where it is.
+    pub stage: CloseStage,
 }
 
 impl Close {
     /// Ends marking with this sweep generation and number of stops, where so much credit has lapsed before.
-    pub fn new(layout: &Layout, lapsed: u64, generation: u64, stops: u64) -> Close
-        requires { stops < 2 ^ 62 }
-        ensures opening { result ≡ opening layout.now lapsed generation stops }
-        ensures begun { is_busy result.stage ≡ true }
+    pub fn new(lapsed: u64, generation: u64, stops: u64) -> Close
+        ensures { result ≡ opening lapsed generation stops }
     {
         Close {
-            layout: *layout,
             lapsed,
             generation,
             stops,
             stage: CloseStage::LoadBank,
         }
-    }
-
-    /// The credit that has lapsed by now, modulo 2^64.
-    pub fn lapsed(&self) -> u64
-        ensures { result ≡ self.now.lapsed }
-    {
-        self.lapsed
     }
 
     /// Its next step stores the phase word.
@@ -85,6 +62,7 @@ impl Close {
 
     /// The phase word that it stores.
     fn phase_word(&self) -> u64
+        requires { self.now.stops < 2 ^ 62 }
         ensures { result ≡ phase_word (phase_at self.now) }
     {
         PhaseWord {
@@ -96,8 +74,8 @@ impl Close {
 
     /// The step that it asks for.
     fn ask(&self) -> Ask
-        ensures asks { result ≡ asks self.now }
-        ensures within { InRange self.now.layout (cell_of result) }
+        requires { self.now.stops < 2 ^ 62 }
+        ensures { result ≡ asks self.now }
     {
         match self.stage {
             CloseStage::LoadBank => Ask::Load(Cell::Bank),
@@ -119,27 +97,18 @@ impl Close {
     }
 }
 
-impl Machine for Close {
+impl Routine for Close {
     ghost use Rattle.gh_coord.specs.Closing.{listing};
-    ghost use Rattle.gh_coord.specs.Stays as proved;
 
     type Out = u64;
 
-    ghost layout = { listing.layout };
+    ghost listing = { listing };
 
-    ghost busy = { listing.busy };
-
-    ghost asks = { listing.asks };
-
-    ghost goes = { listing.goes };
-
-    ghost gives = { listing.gives };
-
-    fn next(&self) -> Req {
-        self.layout.request(self.ask())
+    fn next(&self, layout: &Layout) -> Req {
+        layout.request(self.ask())
     }
 
-    fn take(&mut self, found: u64) -> Option<u64> {
+    fn take(&mut self, layout: &Layout, found: u64) -> Option<u64> {
         match self.stage {
             CloseStage::LoadBank => {
                 self.lapsed = self.lapsed.wrapping_add(found);
@@ -152,8 +121,4 @@ impl Machine for Close {
         }
         self.given()
     }
-
-    ghost ends = { proved.close_ends };
-
-    ghost stays = { proved.close_stays };
 }

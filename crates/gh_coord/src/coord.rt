@@ -19,7 +19,7 @@ use crate::stop::Stop;
 use crate::sweep_all::SweepAll;
 use crate::tell::Tell;
 use crate::watch::{Watch, Watched};
-use gh_base::{Ask, Cell, GONE, Layout, Machine, Phase, PhaseWord, Req, TallyWord};
+use gh_base::{Ask, Cell, GONE, Layout, Machine, Phase, PhaseWord, Req, Routine, TallyWord};
 use std::alloc::{AllocError, Global};
 use std::marker::Model;
 
@@ -206,7 +206,7 @@ impl Coord {
         ensures { result ≡ lapsed_at self.now.lapsed self.now.stage }
     {
         match &self.stage {
-            CoordStage::Close(close) => close.lapsed(),
+            CoordStage::Close(close) => close.lapsed,
             _ => self.lapsed,
         }
     }
@@ -234,7 +234,7 @@ impl Coord {
     {
         self.stops = self.next_stop();
         self.looks = None;
-        self.stage = CoordStage::Stop(Stop::new(&self.layout, self.stops));
+        self.stage = CoordStage::Stop(Stop::new(self.stops));
     }
 
     /// Goes on by the acknowledgement of this processor.
@@ -288,7 +288,7 @@ impl Coord {
             self.begun = self.begun.wrapping_add(1);
             let work = next_work(&self.layout, self.gogc, self.minheap, self.live);
             let goal = next_goal(&self.layout, self.gogc, self.minheap, self.live);
-            let open = Open::new(&self.layout, self.stops, self.begun, work, goal);
+            let open = Open::new(self.stops, self.begun, work, goal);
             self.looks = None;
             self.stage = CoordStage::Open(open);
         }
@@ -299,7 +299,7 @@ impl Coord {
         ensures { self.new ≡ watches self.old }
     {
         self.looks = None;
-        self.stage = CoordStage::Watch(Watch::new(&self.layout, self.begun));
+        self.stage = CoordStage::Watch(Watch::new(self.begun));
     }
 
     /// Goes on after a step of the opening of a cycle.
@@ -323,7 +323,7 @@ impl Coord {
                 // nobody steps.
                 self.stops = self.next_stop();
                 self.looks = None;
-                self.stage = CoordStage::StopAgain(Stop::new(&self.layout, self.stops));
+                self.stage = CoordStage::StopAgain(Stop::new(self.stops));
             }
         }
     }
@@ -334,7 +334,7 @@ impl Coord {
     {
         if out.is_some() {
             self.looks = None;
-            self.stage = CoordStage::Check(Watch::new(&self.layout, self.begun));
+            self.stage = CoordStage::Check(Watch::new(self.begun));
         }
     }
 
@@ -351,7 +351,7 @@ impl Coord {
             }
             Some(Watched::All) => {
                 self.generation = (self.generation + 2) % GENERATIONS;
-                let close = Close::new(&self.layout, self.lapsed, self.generation, self.stops);
+                let close = Close::new(self.lapsed, self.generation, self.stops);
                 self.looks = None;
                 self.stage = CoordStage::Close(close);
             }
@@ -366,7 +366,7 @@ impl Coord {
             // The goroutines run from here on, and whoever meets an unswept span sweeps it. The walk sees to it that none is left.
             self.lapsed = lapsed;
             self.looks = None;
-            self.stage = CoordStage::Sweep(SweepAll::new(&self.layout, self.generation));
+            self.stage = CoordStage::Sweep(SweepAll::new(self.generation));
         }
     }
 
@@ -376,7 +376,7 @@ impl Coord {
     {
         if out.is_some() {
             self.looks = None;
-            self.stage = CoordStage::Count(Count::new(&self.layout));
+            self.stage = CoordStage::Count(Count::new());
         }
     }
 
@@ -388,7 +388,7 @@ impl Coord {
             self.live = counted.live;
             self.cycles.keep(cycle_of(self.begun, counted.tally));
             let trigger = next_trigger(&self.layout, self.gogc, self.minheap, self.live);
-            let tell = Tell::new(&self.layout, trigger, self.begun, self.stops, self.is_last);
+            let tell = Tell::new(trigger, self.begun, self.stops, self.is_last);
             self.looks = None;
             self.stage = CoordStage::Tell(tell);
         }
@@ -455,23 +455,23 @@ impl Coord {
     {
         match &mut self.stage {
             CoordStage::Stop(stop) => {
-                let out = stop.take(found);
+                let out = stop.take(&self.layout, found);
                 self.after_stop(out);
             }
             CoordStage::Open(open) => {
-                let out = open.take(found);
+                let out = open.take(&self.layout, found);
                 self.after_open(out);
             }
             CoordStage::Watch(watch) => {
-                let out = watch.take(found);
+                let out = watch.take(&self.layout, found);
                 self.after_watch(out);
             }
             CoordStage::StopAgain(stop) => {
-                let out = stop.take(found);
+                let out = stop.take(&self.layout, found);
                 self.after_stop_again(out);
             }
             CoordStage::Check(watch) => {
-                let out = watch.take(found);
+                let out = watch.take(&self.layout, found);
                 self.after_check(out);
             }
             CoordStage::MarkOn => self.watch(),
@@ -487,19 +487,19 @@ impl Coord {
     {
         match &mut self.stage {
             CoordStage::Close(close) => {
-                let out = close.take(found);
+                let out = close.take(&self.layout, found);
                 self.after_close(out);
             }
             CoordStage::Sweep(sweep) => {
-                let out = sweep.take(found);
+                let out = sweep.take(&self.layout, found);
                 self.after_sweep(out);
             }
             CoordStage::Count(count) => {
-                let out = count.take(found);
+                let out = count.take(&self.layout, found);
                 self.after_count(out);
             }
             CoordStage::Tell(tell) => {
-                let out = tell.take(found);
+                let out = tell.take(&self.layout, found);
                 self.after_tell(out);
             }
             _ => {}
@@ -553,14 +553,14 @@ impl Machine for Coord {
         let ask = match &self.stage {
             CoordStage::LoadAck(proc) => return self.layout.request(Ask::Load(Cell::Ack(*proc))),
             CoordStage::LoadWant => return self.layout.request(Ask::Load(Cell::Want)),
-            CoordStage::Stop(stop) | CoordStage::StopAgain(stop) => return stop.next(),
-            CoordStage::Open(open) => return open.next(),
-            CoordStage::Watch(watch) | CoordStage::Check(watch) => return watch.next(),
+            CoordStage::Stop(stop) | CoordStage::StopAgain(stop) => return stop.next(&self.layout),
+            CoordStage::Open(open) => return open.next(&self.layout),
+            CoordStage::Watch(watch) | CoordStage::Check(watch) => return watch.next(&self.layout),
             CoordStage::MarkOn => Ask::Store(Cell::Phase, self.mark_word()),
-            CoordStage::Close(close) => return close.next(),
-            CoordStage::Sweep(sweep) => return sweep.next(),
-            CoordStage::Count(count) => return count.next(),
-            CoordStage::Tell(tell) => return tell.next(),
+            CoordStage::Close(close) => return close.next(&self.layout),
+            CoordStage::Sweep(sweep) => return sweep.next(&self.layout),
+            CoordStage::Count(count) => return count.next(&self.layout),
+            CoordStage::Tell(tell) => return tell.next(&self.layout),
             CoordStage::Done => Ask::Load(Cell::Touch),
         };
         self.layout.request(ask)

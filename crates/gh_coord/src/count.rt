@@ -1,12 +1,9 @@
 //! The routine that reads what the sweep has counted.
 
-ghost use Rattle.std.specs.Prelude.{◌≡◌, true};
-ghost use Rattle.gh_base.specs.Cells.{InRange};
-ghost use Rattle.gh_base.specs.Steps.{cell_of};
-ghost use Rattle.gh_coord.specs.Counting.{asks, given, is_busy, opening};
+ghost use Rattle.std.specs.Prelude.{◌≡◌};
+ghost use Rattle.gh_coord.specs.Counting.{asks, given, opening};
 
-use gh_base::{Ask, Cell, Layout, Machine, Req, TallyWord};
-use std::marker::Model;
+use gh_base::{Ask, Cell, Layout, Req, Routine, TallyWord};
 
 /// What the sweep of a cycle has counted.
 #[derive(Clone, Copy, Debug, PartialEq, Eq)]
@@ -32,36 +29,23 @@ pub enum CountStage {
 /// goroutines run: an object that is made meanwhile is in none of them.
 #[derive(Clone, Copy)]
 pub struct Count {
-    layout: Layout,
-    stage: CountStage,
-}
-
-impl Model for Count {
-    ghost use Rattle.gh_coord.specs.Counting.{Counting};
-
-    ghost Value = { Counting };
-
-    ghost view = { λ c. record { layout = c.layout; stage = c.stage } };
-
-    ghost inverse = { λ c. record { layout = c.layout; stage = c.stage } };
+    /// Where it is.
+    pub stage: CountStage,
 }
 
 impl Count {
     /// Reads the counts of this heap.
-    pub fn new(layout: &Layout) -> Count
-        ensures opening { result ≡ opening layout.now }
-        ensures begun { is_busy result.stage ≡ true }
+    pub fn new() -> Count
+        ensures { result ≡ opening }
     {
         Count {
-            layout: *layout,
             stage: CountStage::LoadTally,
         }
     }
 
     /// The step that it asks for.
     fn ask(&self) -> Ask
-        ensures asks { result ≡ asks self.now }
-        ensures within { InRange self.now.layout (cell_of result) }
+        ensures { result ≡ asks self.now }
     {
         match self.stage {
             CountStage::LoadTally => Ask::Load(Cell::Tally),
@@ -81,28 +65,18 @@ impl Count {
     }
 }
 
-impl Machine for Count {
-    ghost use Rattle.gh_base.specs.Given.{is_over};
+impl Routine for Count {
     ghost use Rattle.gh_coord.specs.Counting.{listing};
-    ghost use Rattle.gh_coord.specs.Stays as proved;
 
     type Out = Counted;
 
-    ghost layout = { listing.layout };
+    ghost listing = { listing };
 
-    ghost busy = { listing.busy };
-
-    ghost asks = { listing.asks };
-
-    ghost goes = { listing.goes };
-
-    ghost gives = { listing.gives };
-
-    fn next(&self) -> Req {
-        self.layout.request(self.ask())
+    fn next(&self, layout: &Layout) -> Req {
+        layout.request(self.ask())
     }
 
-    fn take(&mut self, found: u64) -> Option<Counted> {
+    fn take(&mut self, _layout: &Layout, found: u64) -> Option<Counted> {
         match self.stage {
             CountStage::LoadTally => self.stage = CountStage::LoadLive(TallyWord::unpack(found)),
             CountStage::LoadLive(tally) => {
@@ -112,8 +86,4 @@ impl Machine for Count {
         }
         self.given()
     }
-
-    ghost ends = { λ c found busy. is_over (listing.gives c found) };
-
-    ghost stays = { proved.count_stays };
 }

@@ -1,11 +1,31 @@
 //! Laws of the coordinator and its parts. The functions do nothing; what they ensure is proved.
 
+ghost use Rattle.gh_base.specs.declared.layout.Layout.{Layout};
 ghost use Rattle.gh_coord.specs.GoingOn.{GoesOnUntilDone};
 ghost use Rattle.gh_coord.specs.Handshake.{LeadsHandshake};
 ghost use Rattle.gh_coord.specs.Lapsing.{TheBankLapses};
 ghost use Rattle.gh_coord.specs.MarkingEnds.{EndsWithNothingLeft};
+ghost use Rattle.gh_coord.specs.PartsRoutines.{PartsAreRoutines};
 ghost use Rattle.gh_coord.specs.Sweeping.{TheCoordinatorRunsSweeps};
 ghost use Rattle.gh_coord.specs.Triggering.{TheTriggerIsByWhatIsLive};
+ghost use Rattle.gh_coord.specs.Within.{TheCoordinatorStaysWithin};
+
+use gh_base::laws::packed_words_are_read_back;
+use gh_sweep::laws::the_sweep_is_a_routine;
+
+/// Each part of the coordinator is a routine: it keeps what it knows of its own numbers, each of its steps is on a word that
+/// there is and writes a row of its footprint, and by a store it goes over to the same, whatever word that overwrites.
+pub fn the_parts_are_routines()
+    ensures { (l : Layout) → PartsAreRoutines l }
+{
+    packed_words_are_read_back();
+    the_sweep_is_a_routine();
+}
+
+/// Each step of the coordinator is on a word that there is, whatever it is told, in a heap with processors and pages.
+pub fn the_coordinator_stays_within()
+    ensures { TheCoordinatorStaysWithin }
+{}
 
 /// The coordinator has a further step exactly where it is not done: so it is at first, and so after each step
 /// that it asked for.
@@ -20,7 +40,9 @@ pub fn it_goes_on_until_done()
 /// stop, or to be gone.
 pub fn the_coordinator_leads_the_handshake()
     ensures { LeadsHandshake }
-{}
+{
+    the_parts_are_routines();
+}
 
 /// The coordinator ends a cycle's marking only where it has found that nothing is left to mark: since it told the
 /// world to stop it has found that each processor and each worker has acknowledged that stop or is gone, and
@@ -36,7 +58,9 @@ pub fn nothing_is_left_to_mark()
 /// word that none is unswept there and that nobody sweeps one: a span that another sweeps it waits for.
 pub fn the_coordinator_runs_sweeps()
     ensures { TheCoordinatorRunsSweeps }
-{}
+{
+    the_parts_are_routines();
+}
 
 /// Where the coordinator turns marking off, what the bank holds lapses, and the bank is empty then: the last two steps
 /// before the one that stores the next sweep generation loaded the bank, and stored 0 there. What that load found has

@@ -1,14 +1,11 @@
 //! The routine that opens a cycle.
 
-ghost use Rattle.std.specs.Prelude.{◌≡◌, ◌<◌, ◌^◌, true};
-ghost use Rattle.gh_base.specs.Cells.{InRange};
-ghost use Rattle.gh_base.specs.Steps.{cell_of};
-ghost use Rattle.gh_coord.specs.Opening.{asks, behind, found_at, given, is_busy, opening, stores_phase};
+ghost use Rattle.std.specs.Prelude.{◌≡◌, ◌<◌, ◌^◌};
+ghost use Rattle.gh_coord.specs.Opening.{asks, behind, found_at, given, opening, stores_phase};
 
 use crate::pacing::taken;
-use gh_base::{Ask, Cell, Layout, Machine, Phase, PhaseWord, Req};
+use gh_base::{Ask, Cell, Layout, Phase, PhaseWord, Req, Routine};
 use gh_pacer::{NEVER, slack};
-use std::marker::Model;
 
 /// The stages in which a cycle is opened.
 #[derive(Clone, Copy)]
@@ -43,38 +40,27 @@ pub enum OpenStage {
 /// paces the cycle, and then the cycle's number; with the phase word marking is on.
 #[derive(Clone, Copy)]
 pub struct Open {
-    layout: Layout,
-    stops: u64,
-    cycle: u64,
-    work: u64,
-    goal: Option<u64>,
-    heap: u64,
-    stage: OpenStage,
-}
-
-impl Model for Open {
-    ghost use Rattle.gh_coord.specs.Opening.{CycleOpening};
-    ghost use Rattle.gh_coord.specs.PartsSound.{SoundCycleOpening};
-
-    ghost Value = { CycleOpening };
-
-    ghost view = { λ o. record { layout = o.layout; stops = o.stops; cycle = o.cycle; work = o.work; goal = o.goal; heap = o.heap; stage = o.stage } };
-
-    ghost invariant = { λ o. SoundCycleOpening (record { layout = o.layout; stops = o.stops; cycle = o.cycle; work = o.work; goal = o.goal; heap = o.heap; stage = o.stage }) };
-
-    ghost inverse = { λ o. record { layout = o.layout; stops = o.stops; cycle = o.cycle; work = o.work; goal = o.goal; heap = o.heap; stage = o.stage } };
+    /// The number of stops.
+    pub stops: u64,
+    /// The number of the cycle.
+    pub cycle: u64,
+    /// The words that are to be scanned.
+    pub work: u64,
+    /// The most bytes that the heap is to have when the cycle ends, if there is such a goal.
+    pub goal: Option<u64>,
+    /// The heap's bytes, once they are found.
+    pub heap: u64,
+    /// Where it is.
+    pub stage: OpenStage,
 }
 
 impl Open {
     /// Opens the cycle of this number, with this number of stops. So many words are to be scanned in it, and the heap
     /// is to have so many bytes at most when it ends, if there is such a goal.
-    pub fn new(layout: &Layout, stops: u64, cycle: u64, work: u64, goal: Option<u64>) -> Open
-        requires { stops < 2 ^ 62 }
-        ensures opening { result ≡ opening layout.now stops cycle work goal }
-        ensures begun { is_busy result.stage ≡ true }
+    pub fn new(stops: u64, cycle: u64, work: u64, goal: Option<u64>) -> Open
+        ensures { result ≡ opening stops cycle work goal }
     {
         Open {
-            layout: *layout,
             stops,
             cycle,
             work,
@@ -93,8 +79,8 @@ impl Open {
 
     /// The step that it asks for.
     fn ask(&self) -> Ask
-        ensures asks { result ≡ asks self.now }
-        ensures within { InRange self.now.layout (cell_of result) }
+        requires { self.now.stops < 2 ^ 62 }
+        ensures { result ≡ asks self.now }
     {
         match self.stage {
             OpenStage::ClearWant => Ask::Store(Cell::Want, 0),
@@ -156,34 +142,20 @@ impl Open {
     }
 }
 
-impl Machine for Open {
-    ghost use Rattle.std.specs.Prelude.{refl};
-    ghost use Rattle.gh_base.specs.Given.{is_over};
+impl Routine for Open {
     ghost use Rattle.gh_coord.specs.Opening.{listing};
 
     type Out = ();
 
-    ghost layout = { listing.layout };
+    ghost listing = { listing };
 
-    ghost busy = { listing.busy };
-
-    ghost asks = { listing.asks };
-
-    ghost goes = { listing.goes };
-
-    ghost gives = { listing.gives };
-
-    fn next(&self) -> Req {
-        self.layout.request(self.ask())
+    fn next(&self, layout: &Layout) -> Req {
+        layout.request(self.ask())
     }
 
-    fn take(&mut self, found: u64) -> Option<()> {
+    fn take(&mut self, _layout: &Layout, found: u64) -> Option<()> {
         self.heap = self.found_at(found);
         self.stage = self.behind();
         self.given()
     }
-
-    ghost ends = { λ o found busy. is_over (listing.gives o found) };
-
-    ghost stays = { λ _ _. refl };
 }

@@ -1,12 +1,9 @@
 //! The routine that stops the world.
 
-ghost use Rattle.std.specs.Prelude.{◌≡◌, ◌<◌, ◌^◌, ◌↔◌, IsTrue, true};
-ghost use Rattle.gh_base.specs.Cells.{InRange};
-ghost use Rattle.gh_base.specs.Steps.{cell_of};
-ghost use Rattle.gh_coord.specs.Stopping.{acks_of, asks, behind, given, is_acknowledged, is_busy, opening, stores_phase};
+ghost use Rattle.std.specs.Prelude.{◌≡◌, ◌<◌, ◌^◌};
+ghost use Rattle.gh_coord.specs.Stopping.{acks_of, asks, behind, given, is_acknowledged, opening, stores_phase};
 
-use gh_base::{Ask, Cell, GONE, Layout, Machine, Phase, PhaseWord, Req};
-use std::marker::Model;
+use gh_base::{Ask, Cell, GONE, Layout, Phase, PhaseWord, Req, Routine};
 
 /// The stages of a stop.
 #[derive(Clone, Copy)]
@@ -26,33 +23,18 @@ pub enum StopStage {
 /// that of an actor that is done.
 #[derive(Clone, Copy)]
 pub struct Stop {
-    layout: Layout,
-    stops: u64,
-    stage: StopStage,
-}
-
-impl Model for Stop {
-    ghost use Rattle.gh_coord.specs.Stopping.{Stopping};
-    ghost use Rattle.gh_coord.specs.PartsSound.{SoundStopping};
-
-    ghost Value = { Stopping };
-
-    ghost view = { λ s. record { layout = s.layout; stops = s.stops; stage = s.stage } };
-
-    ghost invariant = { λ s. SoundStopping (record { layout = s.layout; stops = s.stops; stage = s.stage }) };
-
-    ghost inverse = { λ s. record { layout = s.layout; stops = s.stops; stage = s.stage } };
+    /// The number of the stop.
+    pub stops: u64,
+    /// Where it is.
+    pub stage: StopStage,
 }
 
 impl Stop {
     /// The stop of this number.
-    pub fn new(layout: &Layout, stops: u64) -> Stop
-        requires { stops < 2 ^ 62 }
-        ensures opening { result ≡ opening layout.now stops }
-        ensures begun { is_busy result.stage ≡ true }
+    pub fn new(stops: u64) -> Stop
+        ensures { result ≡ opening stops }
     {
         Stop {
-            layout: *layout,
             stops,
             stage: StopStage::StorePhase,
         }
@@ -73,11 +55,11 @@ impl Stop {
     }
 
     /// What follows behind this acknowledgement.
-    fn behind(&self, ack: u32) -> StopStage
-        requires { ack < acks_of self.now.layout }
-        ensures { result ≡ behind self.now ack }
+    fn behind(layout: &Layout, ack: u32) -> StopStage
+        requires { ack < acks_of layout.now }
+        ensures { result ≡ behind layout.now ack }
     {
-        if ack + 1 < self.layout.procs + self.layout.workers {
+        if ack + 1 < layout.procs + layout.workers {
             StopStage::Await(ack + 1)
         } else {
             StopStage::Ended
@@ -86,8 +68,8 @@ impl Stop {
 
     /// The step that it asks for.
     fn ask(&self) -> Ask
-        ensures asks { result ≡ asks self.now }
-        ensures within { InRange self.now.layout (cell_of result) }
+        requires { self.now.stops < 2 ^ 62 }
+        ensures { result ≡ asks self.now }
     {
         match self.stage {
             StopStage::StorePhase => {
@@ -113,41 +95,27 @@ impl Stop {
     }
 }
 
-impl Machine for Stop {
-    ghost use Rattle.gh_base.specs.Given.{is_over};
+impl Routine for Stop {
     ghost use Rattle.gh_coord.specs.Stopping.{listing};
-    ghost use Rattle.gh_coord.specs.Stays as proved;
 
     type Out = ();
 
-    ghost layout = { listing.layout };
+    ghost listing = { listing };
 
-    ghost busy = { listing.busy };
-
-    ghost asks = { listing.asks };
-
-    ghost goes = { listing.goes };
-
-    ghost gives = { listing.gives };
-
-    fn next(&self) -> Req {
-        self.layout.request(self.ask())
+    fn next(&self, layout: &Layout) -> Req {
+        layout.request(self.ask())
     }
 
-    fn take(&mut self, found: u64) -> Option<()> {
+    fn take(&mut self, layout: &Layout, found: u64) -> Option<()> {
         match self.stage {
             StopStage::StorePhase => self.stage = StopStage::Await(0),
             StopStage::Await(ack) => {
                 if self.is_acknowledged(found) {
-                    self.stage = self.behind(ack);
+                    self.stage = Stop::behind(layout, ack);
                 }
             }
             StopStage::Ended => {}
         }
         self.given()
     }
-
-    ghost ends = { λ s found busy. is_over (listing.gives s found) };
-
-    ghost stays = { proved.stop_stays };
 }

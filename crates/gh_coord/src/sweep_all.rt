@@ -1,12 +1,11 @@
 //! The routine that has each span swept.
 
-ghost use Rattle.std.specs.Prelude.{◌≡◌, ◌<◌, ◌^◌, true};
+ghost use Rattle.std.specs.Prelude.{◌≡◌, ◌<◌, ◌^◌};
 ghost use Rattle.gh_base.specs.Packing.{page_of};
-ghost use Rattle.gh_coord.specs.SweepingAll.{after_await, after_load, behind_of, given, is_busy, is_in_sweep, opening};
+ghost use Rattle.gh_coord.specs.SweepingAll.{after_await, after_load, behind_of, given, is_in_sweep, opening};
 
-use gh_base::{Ask, Cell, Layout, Machine, PageWord, Req};
+use gh_base::{Ask, Cell, Layout, PageWord, Req, Routine};
 use gh_sweep::{Sweep, SweepEnd};
-use std::marker::Model;
 
 /// The stages of the sweep of all spans.
 #[derive(Clone, Copy)]
@@ -30,22 +29,10 @@ pub enum SweepAllStage {
 /// has passed needs no second look: a span that is laid out later has the sweep generation's number.
 #[derive(Clone, Copy)]
 pub struct SweepAll {
-    layout: Layout,
-    generation: u64,
-    stage: SweepAllStage,
-}
-
-impl Model for SweepAll {
-    ghost use Rattle.gh_coord.specs.SweepingAll.{SweepingAll};
-    ghost use Rattle.gh_coord.specs.PartsSound.{SoundSweepingAll};
-
-    ghost Value = { SweepingAll };
-
-    ghost view = { λ s. record { layout = s.layout; generation = s.generation; stage = s.stage } };
-
-    ghost invariant = { λ s. SoundSweepingAll (record { layout = s.layout; generation = s.generation; stage = s.stage }) };
-
-    ghost inverse = { λ s. record { layout = s.layout; generation = s.generation; stage = s.stage } };
+    /// The sweep generation.
+    pub generation: u64,
+    /// Where it is.
+    pub stage: SweepAllStage,
 }
 
 /// What follows behind this page of so many: the next, if there is one.
@@ -62,13 +49,10 @@ fn behind(pages: u32, page: u32) -> SweepAllStage
 
 impl SweepAll {
     /// Has each span swept in this sweep generation.
-    pub fn new(layout: &Layout, generation: u64) -> SweepAll
-        requires { generation < 2 ^ 34 }
-        ensures opening { result ≡ opening layout.now generation }
-        ensures begun { is_busy result.stage ≡ true }
+    pub fn new(generation: u64) -> SweepAll
+        ensures { result ≡ opening generation }
     {
         SweepAll {
-            layout: *layout,
             generation,
             stage: SweepAllStage::LoadPage(0),
         }
@@ -85,30 +69,31 @@ impl SweepAll {
     }
 
     /// Goes on by what the page word says: the span is unswept, somebody sweeps it, or neither.
-    fn after_load(&mut self, page: u32, found: u64)
-        requires { page < self.old.layout.pages }
-        ensures { self.new ≡ after_load self.old page (page_of found) }
+    fn after_load(&mut self, layout: &Layout, page: u32, found: u64)
+        requires page { page < layout.now.pages }
+        requires generation { self.old.generation < 2 ^ 34 }
+        ensures { self.new ≡ after_load layout.now self.old page (page_of found) }
     {
         self.stage = match PageWord::unpack(found) {
             PageWord::Head(head) if head.number + 2 == self.generation => {
-                SweepAllStage::Sweep(page, Sweep::new(&self.layout, page, head))
+                SweepAllStage::Sweep(page, Sweep::new(page, head))
             }
             PageWord::Head(head) if head.number + 1 == self.generation => {
                 SweepAllStage::Await(page)
             }
-            _ => behind(self.layout.pages, page),
+            _ => behind(layout.pages, page),
         };
     }
 
     /// Goes on where somebody swept the span at this page.
-    fn after_await(&mut self, page: u32, found: u64)
-        requires page { page < self.old.layout.pages }
-        ensures { self.new ≡ after_await self.old page (page_of found) }
+    fn after_await(&mut self, layout: &Layout, page: u32, found: u64)
+        requires { page < layout.now.pages }
+        ensures { self.new ≡ after_await layout.now self.old page (page_of found) }
     {
         self.stage = if self.is_in_sweep(found) {
             SweepAllStage::Await(page)
         } else {
-            behind(self.layout.pages, page)
+            behind(layout.pages, page)
         };
     }
 
@@ -123,58 +108,44 @@ impl SweepAll {
     }
 }
 
-impl Machine for SweepAll {
-    ghost use Rattle.gh_base.specs.Given.{is_over};
+impl Routine for SweepAll {
     ghost use Rattle.gh_coord.specs.SweepingAll.{listing};
-    ghost use Rattle.gh_coord.specs.Stays as proved;
 
     type Out = ();
 
-    ghost layout = { listing.layout };
+    ghost listing = { listing };
 
-    ghost busy = { listing.busy };
-
-    ghost asks = { listing.asks };
-
-    ghost goes = { listing.goes };
-
-    ghost gives = { listing.gives };
-
-    fn next(&self) -> Req {
+    fn next(&self, layout: &Layout) -> Req {
         let ask = match &self.stage {
             SweepAllStage::LoadPage(page) | SweepAllStage::Await(page) => {
                 Ask::Load(Cell::Page(*page))
             }
-            SweepAllStage::Sweep(_, sweep) => return sweep.next(),
+            SweepAllStage::Sweep(_, sweep) => return sweep.next(layout),
             SweepAllStage::Ended => Ask::Load(Cell::Touch),
         };
-        self.layout.request(ask)
+        layout.request(ask)
     }
 
-    fn take(&mut self, found: u64) -> Option<()> {
+    fn take(&mut self, layout: &Layout, found: u64) -> Option<()> {
         match &mut self.stage {
             SweepAllStage::LoadPage(page) => {
                 let page = *page;
-                self.after_load(page, found);
+                self.after_load(layout, page, found);
             }
             SweepAllStage::Sweep(page, sweep) => {
                 let page = *page;
-                match sweep.take(found) {
+                match sweep.take(layout, found) {
                     None => {}
                     Some(SweepEnd::Lost) => self.stage = SweepAllStage::Await(page),
-                    Some(SweepEnd::Swept(_)) => self.stage = behind(self.layout.pages, page),
+                    Some(SweepEnd::Swept(_)) => self.stage = behind(layout.pages, page),
                 }
             }
             SweepAllStage::Await(page) => {
                 let page = *page;
-                self.after_await(page, found);
+                self.after_await(layout, page, found);
             }
             SweepAllStage::Ended => {}
         }
         self.given()
     }
-
-    ghost ends = { λ s found busy. is_over (listing.gives s found) };
-
-    ghost stays = { proved.sweep_all_stays };
 }

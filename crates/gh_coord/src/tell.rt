@@ -1,13 +1,10 @@
 //! The routine that tells that a cycle is swept.
 
-ghost use Rattle.std.specs.Prelude.{◌≡◌, ◌<◌, ◌^◌, true};
-ghost use Rattle.gh_base.specs.Cells.{InRange};
+ghost use Rattle.std.specs.Prelude.{◌≡◌, ◌<◌, ◌^◌};
 ghost use Rattle.gh_base.specs.Packing.{phase_word};
-ghost use Rattle.gh_base.specs.Steps.{cell_of};
-ghost use Rattle.gh_coord.specs.Telling.{asks, given, is_busy, opening, phase_at, stores_phase, stores_swept};
+ghost use Rattle.gh_coord.specs.Telling.{asks, given, opening, phase_at, stores_phase, stores_swept};
 
-use gh_base::{Ask, Cell, Layout, Machine, Phase, PhaseWord, Req};
-use std::marker::Model;
+use gh_base::{Ask, Cell, Layout, Phase, PhaseWord, Req, Routine};
 
 /// The stages in which it is told that a cycle is swept.
 #[derive(Clone, Copy)]
@@ -28,37 +25,25 @@ pub enum TellStage {
 /// workers leave then.
 #[derive(Clone, Copy)]
 pub struct Tell {
-    layout: Layout,
-    trigger: u64,
-    cycle: u64,
-    stops: u64,
-    is_last: bool,
-    stage: TellStage,
-}
-
-impl Model for Tell {
-    ghost use Rattle.gh_coord.specs.Telling.{Telling};
-    ghost use Rattle.gh_coord.specs.PartsSound.{SoundTelling};
-
-    ghost Value = { Telling };
-
-    ghost view = { λ t. record { layout = t.layout; trigger = t.trigger; cycle = t.cycle; stops = t.stops; is_last = t.is_last; stage = t.stage } };
-
-    ghost invariant = { λ t. SoundTelling (record { layout = t.layout; trigger = t.trigger; cycle = t.cycle; stops = t.stops; is_last = t.is_last; stage = t.stage }) };
-
-    ghost inverse = { λ t. record { layout = t.layout; trigger = t.trigger; cycle = t.cycle; stops = t.stops; is_last = t.is_last; stage = t.stage } };
+    /// The trigger of the next cycle, in bytes.
+    pub trigger: u64,
+    /// The number of this cycle.
+    pub cycle: u64,
+    /// The number of stops.
+    pub stops: u64,
+    /// This is the last cycle.
+    pub is_last: bool,
+    /// Where it is.
+    pub stage: TellStage,
 }
 
 impl Tell {
     /// Tells that the cycle of this number is swept, with the trigger of the next. Behind the last cycle the world is
     /// done, with this number of stops.
-    pub fn new(layout: &Layout, trigger: u64, cycle: u64, stops: u64, is_last: bool) -> Tell
-        requires { stops < 2 ^ 62 }
-        ensures opening { result ≡ opening layout.now trigger cycle stops is_last }
-        ensures begun { is_busy result.stage ≡ true }
+    pub fn new(trigger: u64, cycle: u64, stops: u64, is_last: bool) -> Tell
+        ensures { result ≡ opening trigger cycle stops is_last }
     {
         Tell {
-            layout: *layout,
             trigger,
             cycle,
             stops,
@@ -83,6 +68,7 @@ impl Tell {
 
     /// The phase word that it stores.
     fn phase_word(&self) -> u64
+        requires { self.now.stops < 2 ^ 62 }
         ensures { result ≡ phase_word (phase_at self.now) }
     {
         PhaseWord {
@@ -94,8 +80,8 @@ impl Tell {
 
     /// The step that it asks for.
     fn ask(&self) -> Ask
-        ensures asks { result ≡ asks self.now }
-        ensures within { InRange self.now.layout (cell_of result) }
+        requires { self.now.stops < 2 ^ 62 }
+        ensures { result ≡ asks self.now }
     {
         match self.stage {
             TellStage::StoreTrigger => Ask::Store(Cell::Trigger, self.trigger),
@@ -116,28 +102,18 @@ impl Tell {
     }
 }
 
-impl Machine for Tell {
-    ghost use Rattle.std.specs.Prelude.{refl};
-    ghost use Rattle.gh_base.specs.Given.{is_over};
+impl Routine for Tell {
     ghost use Rattle.gh_coord.specs.Telling.{listing};
 
     type Out = ();
 
-    ghost layout = { listing.layout };
+    ghost listing = { listing };
 
-    ghost busy = { listing.busy };
-
-    ghost asks = { listing.asks };
-
-    ghost goes = { listing.goes };
-
-    ghost gives = { listing.gives };
-
-    fn next(&self) -> Req {
-        self.layout.request(self.ask())
+    fn next(&self, layout: &Layout) -> Req {
+        layout.request(self.ask())
     }
 
-    fn take(&mut self, _found: u64) -> Option<()> {
+    fn take(&mut self, _layout: &Layout, _found: u64) -> Option<()> {
         self.stage = match self.stage {
             TellStage::StoreTrigger => TellStage::StoreSwept,
             TellStage::StoreSwept if self.is_last => TellStage::StorePhase,
@@ -145,8 +121,4 @@ impl Machine for Tell {
         };
         self.given()
     }
-
-    ghost ends = { λ t found busy. is_over (listing.gives t found) };
-
-    ghost stays = { λ _ _. refl };
 }

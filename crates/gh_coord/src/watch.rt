@@ -1,13 +1,10 @@
 //! The routine that looks whether marking is over.
 
-ghost use Rattle.std.specs.Prelude.{◌≡◌, ◌<◌, true};
-ghost use Rattle.gh_base.specs.Cells.{InRange};
-ghost use Rattle.gh_base.specs.Steps.{cell_of};
-ghost use Rattle.gh_coord.specs.Watching.{asks, behind, cell_at, given, goes_at, is_busy, is_wanted, opening, words_of};
+ghost use Rattle.std.specs.Prelude.{◌≡◌, ◌<◌};
+ghost use Rattle.gh_coord.specs.Watching.{asks, behind, cell_at, given, goes_at, is_wanted, opening, words_of};
 ghost use Rattle.gh_coord.specs.declared.watch.WatchStage.TheVariants.{Look};
 
-use gh_base::{Ask, BufferWord, Cell, Layout, Machine, Req};
-use std::marker::Model;
+use gh_base::{Ask, BufferWord, Cell, Layout, Req, Routine};
 
 /// What was found of the words that are watched.
 #[derive(Clone, Copy, Debug, PartialEq, Eq)]
@@ -35,59 +32,43 @@ pub enum WatchStage {
 /// each grey work buffer, which is to be held or empty. It ends at the first that is not as wanted.
 #[derive(Clone, Copy)]
 pub struct Watch {
-    layout: Layout,
-    cycle: u64,
-    stage: WatchStage,
-}
-
-impl Model for Watch {
-    ghost use Rattle.gh_coord.specs.Watching.{Watching};
-    ghost use Rattle.gh_coord.specs.PartsSound.{SoundWatching};
-
-    ghost Value = { Watching };
-
-    ghost view = { λ w. record { layout = w.layout; cycle = w.cycle; stage = w.stage } };
-
-    ghost invariant = { λ w. SoundWatching (record { layout = w.layout; cycle = w.cycle; stage = w.stage }) };
-
-    ghost inverse = { λ w. record { layout = w.layout; cycle = w.cycle; stage = w.stage } };
+    /// The number of the cycle.
+    pub cycle: u64,
+    /// Where it is.
+    pub stage: WatchStage,
 }
 
 impl Watch {
     /// Looks at the words of the cycle of this number.
-    pub fn new(layout: &Layout, cycle: u64) -> Watch
-        ensures opening { result ≡ opening layout.now cycle }
-        ensures begun { is_busy result.stage ≡ true }
+    pub fn new(cycle: u64) -> Watch
+        ensures { result ≡ opening cycle }
     {
         Watch {
-            layout: *layout,
             cycle,
             stage: WatchStage::Look(0),
         }
     }
 
     /// The word of this number.
-    fn cell(&self, i: u32) -> Cell
-        requires { i < words_of self.now.layout }
-        ensures is { result ≡ cell_at self.now.layout i }
-        ensures within { InRange self.now.layout result }
+    fn cell(layout: &Layout, i: u32) -> Cell
+        ensures { result ≡ cell_at layout.now i }
     {
         if i == 0 {
             return Cell::Gcur;
         }
-        if i - 1 < self.layout.goroutines {
+        if i - 1 < layout.goroutines {
             Cell::Scanned(i - 1)
         } else {
-            Cell::Buffer(i - 1 - self.layout.goroutines)
+            Cell::Buffer(i - 1 - layout.goroutines)
         }
     }
 
     /// The word is as wanted where this was found in it.
-    fn is_wanted(&self, cell: Cell, found: u64) -> bool
-        ensures { result ≡ is_wanted self.now.layout self.now.cycle cell found }
+    fn is_wanted(&self, layout: &Layout, cell: Cell, found: u64) -> bool
+        ensures { result ≡ is_wanted layout.now self.now.cycle cell found }
     {
         match cell {
-            Cell::Gcur => found >= u64::from(self.layout.globals),
+            Cell::Gcur => found >= u64::from(layout.globals),
             Cell::Scanned(_) => found >= self.cycle,
             Cell::Buffer(_) => {
                 let buffer = BufferWord::unpack(found);
@@ -98,11 +79,11 @@ impl Watch {
     }
 
     /// What follows behind the word of this number.
-    fn behind(&self, i: u32) -> WatchStage
-        requires { i < words_of self.now.layout }
-        ensures { result ≡ behind self.now.layout i }
+    fn behind(layout: &Layout, i: u32) -> WatchStage
+        requires { i < words_of layout.now }
+        ensures { result ≡ behind layout.now i }
     {
-        if i + 1 < 1 + self.layout.goroutines + self.layout.buffers() {
+        if i + 1 < 1 + layout.goroutines + layout.buffers() {
             WatchStage::Look(i + 1)
         } else {
             WatchStage::Ended(Watched::All)
@@ -110,24 +91,23 @@ impl Watch {
     }
 
     /// The step that it asks for.
-    fn ask(&self) -> Ask
-        ensures asks { result ≡ asks self.now }
-        ensures within { InRange self.now.layout (cell_of result) }
+    fn ask(&self, layout: &Layout) -> Ask
+        ensures { result ≡ asks layout.now self.now }
     {
         match self.stage {
-            WatchStage::Look(i) => Ask::Load(self.cell(i)),
+            WatchStage::Look(i) => Ask::Load(Watch::cell(layout, i)),
             WatchStage::Ended(_) => Ask::Load(Cell::Touch),
         }
     }
 
     /// Goes on by what the word of this number holds.
-    fn look(&mut self, i: u32, found: u64)
-        requires { self.old.stage ≡ WatchStage.Look i }
-        ensures { self.new ≡ goes_at self.old (Look i) found }
+    fn look(&mut self, layout: &Layout, i: u32, found: u64)
+        requires { i < words_of layout.now }
+        ensures { self.new ≡ goes_at layout.now self.old (Look i) found }
     {
-        let cell = self.cell(i);
-        self.stage = if self.is_wanted(cell, found) {
-            self.behind(i)
+        let cell = Watch::cell(layout, i);
+        self.stage = if self.is_wanted(layout, cell, found) {
+            Watch::behind(layout, i)
         } else {
             WatchStage::Ended(Watched::NotYet)
         };
@@ -144,36 +124,22 @@ impl Watch {
     }
 }
 
-impl Machine for Watch {
-    ghost use Rattle.gh_base.specs.Given.{is_over};
+impl Routine for Watch {
     ghost use Rattle.gh_coord.specs.Watching.{listing};
-    ghost use Rattle.gh_coord.specs.Stays as proved;
 
     type Out = Watched;
 
-    ghost layout = { listing.layout };
+    ghost listing = { listing };
 
-    ghost busy = { listing.busy };
-
-    ghost asks = { listing.asks };
-
-    ghost goes = { listing.goes };
-
-    ghost gives = { listing.gives };
-
-    fn next(&self) -> Req {
-        self.layout.request(self.ask())
+    fn next(&self, layout: &Layout) -> Req {
+        layout.request(self.ask(layout))
     }
 
-    fn take(&mut self, found: u64) -> Option<Watched> {
+    fn take(&mut self, layout: &Layout, found: u64) -> Option<Watched> {
         match self.stage {
-            WatchStage::Look(i) => self.look(i, found),
+            WatchStage::Look(i) => self.look(layout, i, found),
             WatchStage::Ended(_) => {}
         }
         self.given()
     }
-
-    ghost ends = { λ w found busy. is_over (listing.gives w found) };
-
-    ghost stays = { proved.watch_stays };
 }

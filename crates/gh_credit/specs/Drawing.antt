@@ -1,22 +1,22 @@
 -- Drawing on the bank: what is asked for at each stage, where that leads, and how many words are taken.
-use Rattle.std.specs.Prelude.{◌≡◌, ◌≢◌, ◌↔◌, ℕ, ◌-◌, ◌≤◌, ◌==◌, if◌then◌else◌, Bool, true, Option, Some, None, is_none, min}
+use Rattle.std.specs.Prelude.{◌≡◌, ◌≢◌, ◌↔◌, ℕ, ◌-◌, ◌≤◌, ◌==◌, if◌then◌else◌, Bool, true, false, Option, Some, None, is_none, min}
 use Rattle.gh_base.specs.declared.cell.Ask.{Ask}
 use Rattle.gh_base.specs.declared.cell.Ask.TheVariants as ask
 use Rattle.gh_base.specs.declared.cell.Cell.TheVariants.{Bank, Touch}
 use Rattle.gh_base.specs.declared.layout.Layout.{Layout}
-use Rattle.gh_base.specs.Given.{listing_of}
-use Rattle.gh_base.specs.Routines.{Listing}
+use Rattle.gh_base.specs.Footprints.{Footprint}
+use Rattle.gh_base.specs.Footprints as row
+use Rattle.gh_base.specs.Machines.{Listing}
+use Rattle.gh_credit.specs.declared.draw.Draw.{Draw}
 use Rattle.gh_credit.specs.declared.draw.DrawStage.{DrawStage}
 use Rattle.gh_credit.specs.declared.draw.DrawStage.TheVariants.{LoadBank, Swap, Ended}
 
 -- so many words are owed
-pub record Drawing : Type 0 where
-  pub layout : Layout
-  pub owed : ℕ
-  pub stage : DrawStage
+abbrev pub Drawing : Type 0
+Drawing = Draw
 
-abbrev pub opening : Layout → (owed : ℕ) → Drawing
-opening l owed = record { layout = l; owed = owed; stage = LoadBank }
+abbrev pub opening : (owed : ℕ) → Drawing
+opening owed = record { owed = owed; stage = LoadBank }
 
 -- the most that is taken of a bank that holds so many words
 abbrev pub most_drawn : Drawing → (bank : ℕ) → ℕ
@@ -59,8 +59,12 @@ given d = given_at d.stage
 abbrev pub gives : Drawing → ℕ → Option ℕ
 gives d found = given (goes d found)
 
-abbrev pub listing : Listing Drawing ℕ
-listing = listing_of (λ d. d.layout) asks goes given
+abbrev pub writes : Footprint
+writes row.Bank = true
+writes _ = false
+
+abbrev pub listing : Layout → Listing Drawing ℕ
+listing l = record { asks = asks; goes = goes; given = given; sound = λ d. Unit {0}; writes = writes }
 
 -- the words that a step takes out of the bank: by a swap that wrote, those that the word is less by then
 abbrev pub drawn_by : Ask → (found : ℕ) → ℕ
@@ -89,7 +93,7 @@ pub record DrawsCredit : Type 0 where
   -- no more than is owed
   pub at_most : (d : Drawing) (found words : ℕ) → is_busy d.stage ≡ true → gives d found ≡ Some words → words ≤ d.owed
   -- it takes none by its load exactly where the bank is empty, and by its swap exactly where another changed the bank in between
-  pub none_there : (l : Layout) (owed found : ℕ) → owed ≢ 0 → (gives (opening l owed) found ≡ Some 0) ↔ (found ≡ 0)
-  pub none_taken : (l : Layout) (owed bank found : ℕ) → owed ≢ 0 → bank ≢ 0 → (gives (record { layout = l; owed = owed; stage = Swap bank }) found ≡ Some 0) ↔ (found ≢ bank)
+  pub none_there : (owed found : ℕ) → owed ≢ 0 → (gives (opening owed) found ≡ Some 0) ↔ (found ≡ 0)
+  pub none_taken : (owed bank found : ℕ) → owed ≢ 0 → bank ≢ 0 → (gives (record { owed = owed; stage = Swap bank }) found ≡ Some 0) ↔ (found ≢ bank)
   -- and it writes the bank by such swaps alone
   pub draws : (d : Drawing) → LeavesOrDraws (asks d)

@@ -1,22 +1,22 @@
 -- Handing scanned words over to the bank: what is asked for at each stage, where that leads, and when it has ended.
-use Rattle.std.specs.Prelude.{◌≢◌, ℕ, Bool, Option, Some, None, is_none}
+use Rattle.std.specs.Prelude.{◌≢◌, ℕ, Bool, true, false, Option, Some, None, is_none}
 use Rattle.gh_base.specs.declared.cell.Ask.{Ask}
 use Rattle.gh_base.specs.declared.cell.Ask.TheVariants as ask
 use Rattle.gh_base.specs.declared.cell.Cell.TheVariants.{Bank, Touch}
 use Rattle.gh_base.specs.declared.layout.Layout.{Layout}
-use Rattle.gh_base.specs.Given.{listing_of}
-use Rattle.gh_base.specs.Routines.{Listing}
+use Rattle.gh_base.specs.Footprints.{Footprint}
+use Rattle.gh_base.specs.Footprints as row
+use Rattle.gh_base.specs.Machines.{Listing}
 use Rattle.gh_base.specs.Steps.{cell_of}
+use Rattle.gh_credit.specs.declared.earn.Earn.{Earn}
 use Rattle.gh_credit.specs.declared.earn.EarnStage.{EarnStage}
 use Rattle.gh_credit.specs.declared.earn.EarnStage.TheVariants.{Add, Ended}
 
-pub record Earning : Type 0 where
-  pub layout : Layout
-  pub words : ℕ
-  pub stage : EarnStage
+abbrev pub Earning : Type 0
+Earning = Earn
 
-abbrev pub opening : Layout → (words : ℕ) → Earning
-opening l words = record { layout = l; words = words; stage = Add }
+abbrev pub opening : (words : ℕ) → Earning
+opening words = record { words = words; stage = Add }
 
 abbrev pub asks_at : Earning → EarnStage → Ask
 asks_at e Add = ask.Add Bank e.words
@@ -42,8 +42,12 @@ given e = given_at e.stage
 abbrev pub gives : Earning → ℕ → Option (Unit {0})
 gives e found = given (goes e found)
 
-abbrev pub listing : Listing Earning (Unit {0})
-listing = listing_of (λ e. e.layout) asks goes given
+abbrev pub writes : Footprint
+writes row.Bank = true
+writes _ = false
+
+abbrev pub listing : Layout → Listing Earning (Unit {0})
+listing l = record { asks = asks; goes = goes; given = given; sound = λ e. Unit {0}; writes = writes }
 
 -- the words that a step hands over
 abbrev pub handed_by : Ask → ℕ

@@ -1,12 +1,9 @@
 //! The routine that draws on the bank.
 
 ghost use Rattle.std.specs.Prelude.{◌≡◌};
-ghost use Rattle.gh_base.specs.Cells.{InRange};
-ghost use Rattle.gh_base.specs.Steps.{cell_of};
-ghost use Rattle.gh_credit.specs.Drawing.{after_load, after_swap, asks, given, most_drawn, opening};
+ghost use Rattle.gh_credit.specs.Drawing.{after_load, after_swap, given, most_drawn, opening};
 
-use gh_base::{Ask, Cell, Layout, Machine, Req};
-use std::marker::Model;
+use gh_base::{Ask, Cell, Layout, Req, Routine};
 
 /// The stages of the routine that draws on the bank.
 #[derive(Clone, Copy, Debug, PartialEq, Eq)]
@@ -27,29 +24,18 @@ pub enum DrawStage {
 /// hand over or draw meanwhile would be lost, or drawn twice.
 #[derive(Clone, Copy, Debug, PartialEq, Eq)]
 pub struct Draw {
-    layout: Layout,
-    // The words that are owed.
-    owed: u64,
-    stage: DrawStage,
-}
-
-impl Model for Draw {
-    ghost use Rattle.gh_credit.specs.Drawing.{Drawing};
-
-    ghost Value = { Drawing };
-
-    ghost view = { λ d. record { layout = d.layout; owed = d.owed; stage = d.stage } };
-
-    ghost inverse = { λ d. record { layout = d.layout; owed = d.owed; stage = d.stage } };
+    /// The words that are owed.
+    pub owed: u64,
+    /// Its stage.
+    pub stage: DrawStage,
 }
 
 impl Draw {
     /// So many words are owed.
-    pub fn new(layout: &Layout, owed: u64) -> Draw
-        ensures { result ≡ opening layout.now owed }
+    pub fn new(owed: u64) -> Draw
+        ensures { result ≡ opening owed }
     {
         Draw {
-            layout: *layout,
             owed,
             stage: DrawStage::LoadBank,
         }
@@ -60,18 +46,6 @@ impl Draw {
         ensures { result ≡ most_drawn self.now bank }
     {
         bank.min(self.owed)
-    }
-
-    /// The step that it asks for.
-    fn ask(&self) -> Ask
-        ensures asks { result ≡ asks self.now }
-        ensures within { InRange self.now.layout (cell_of result) }
-    {
-        match self.stage {
-            DrawStage::LoadBank => Ask::Load(Cell::Bank),
-            DrawStage::Swap(bank) => Ask::Swap(Cell::Bank, bank, bank - self.most(bank)),
-            DrawStage::Ended(_) => Ask::Load(Cell::Touch),
-        }
     }
 
     /// Goes on where the bank holds so many words: it ends where none is to be taken.
@@ -107,28 +81,24 @@ impl Draw {
     }
 }
 
-impl Machine for Draw {
-    ghost use Rattle.std.specs.Prelude.{refl};
-    ghost use Rattle.gh_base.specs.Given.{is_over};
+impl Routine for Draw {
     ghost use Rattle.gh_credit.specs.Drawing.{listing};
 
     type Out = u64;
 
-    ghost layout = { listing.layout };
+    ghost listing = { listing };
 
-    ghost busy = { listing.busy };
-
-    ghost asks = { listing.asks };
-
-    ghost goes = { listing.goes };
-
-    ghost gives = { listing.gives };
-
-    fn next(&self) -> Req {
-        self.layout.request(self.ask())
+    fn next(&self, layout: &Layout) -> Req {
+        match self.stage {
+            DrawStage::LoadBank => layout.request(Ask::Load(Cell::Bank)),
+            DrawStage::Swap(bank) => {
+                layout.request(Ask::Swap(Cell::Bank, bank, bank - self.most(bank)))
+            }
+            DrawStage::Ended(_) => layout.request(Ask::Load(Cell::Touch)),
+        }
     }
 
-    fn take(&mut self, found: u64) -> Option<u64> {
+    fn take(&mut self, _layout: &Layout, found: u64) -> Option<u64> {
         self.stage = match self.stage {
             DrawStage::LoadBank => self.after_load(found),
             DrawStage::Swap(bank) => self.after_swap(bank, found),
@@ -136,8 +106,4 @@ impl Machine for Draw {
         };
         self.given()
     }
-
-    ghost ends = { λ m found busy. is_over (listing.gives m found) };
-
-    ghost stays = { λ _ _. refl };
 }

@@ -1,12 +1,9 @@
 //! The routine that hands scanned words over to the bank.
 
 ghost use Rattle.std.specs.Prelude.{◌≡◌};
-ghost use Rattle.gh_base.specs.Cells.{InRange};
-ghost use Rattle.gh_base.specs.Steps.{cell_of};
-ghost use Rattle.gh_credit.specs.Earning.{asks, given, opening};
+ghost use Rattle.gh_credit.specs.Earning.{given, opening};
 
-use gh_base::{Ask, Cell, Layout, Machine, Req};
-use std::marker::Model;
+use gh_base::{Ask, Cell, Layout, Req, Routine};
 
 /// The words that a worker scans before it hands them over to the bank (Go's `gcCreditSlack`, mgcpacer.go).
 pub const CREDIT_SLACK: u64 = 2000;
@@ -25,42 +22,20 @@ pub enum EarnStage {
 /// It adds them by one atomic step, so that none is lost where others hand over or draw at the same time.
 #[derive(Clone, Copy, Debug, PartialEq, Eq)]
 pub struct Earn {
-    layout: Layout,
-    // The words that it hands over.
-    words: u64,
-    stage: EarnStage,
-}
-
-impl Model for Earn {
-    ghost use Rattle.gh_credit.specs.Earning.{Earning};
-
-    ghost Value = { Earning };
-
-    ghost view = { λ e. record { layout = e.layout; words = e.words; stage = e.stage } };
-
-    ghost inverse = { λ e. record { layout = e.layout; words = e.words; stage = e.stage } };
+    /// The words that it hands over.
+    pub words: u64,
+    /// Its stage.
+    pub stage: EarnStage,
 }
 
 impl Earn {
     /// Hands so many words over.
-    pub fn new(layout: &Layout, words: u64) -> Earn
-        ensures { result ≡ opening layout.now words }
+    pub fn new(words: u64) -> Earn
+        ensures { result ≡ opening words }
     {
         Earn {
-            layout: *layout,
             words,
             stage: EarnStage::Add,
-        }
-    }
-
-    /// The step that it asks for.
-    fn ask(&self) -> Ask
-        ensures asks { result ≡ asks self.now }
-        ensures within { InRange self.now.layout (cell_of result) }
-    {
-        match self.stage {
-            EarnStage::Add => Ask::Add(Cell::Bank, self.words),
-            EarnStage::Ended => Ask::Load(Cell::Touch),
         }
     }
 
@@ -75,33 +50,22 @@ impl Earn {
     }
 }
 
-impl Machine for Earn {
-    ghost use Rattle.std.specs.Prelude.{refl};
-    ghost use Rattle.gh_base.specs.Given.{is_over};
+impl Routine for Earn {
     ghost use Rattle.gh_credit.specs.Earning.{listing};
 
     type Out = ();
 
-    ghost layout = { listing.layout };
+    ghost listing = { listing };
 
-    ghost busy = { listing.busy };
-
-    ghost asks = { listing.asks };
-
-    ghost goes = { listing.goes };
-
-    ghost gives = { listing.gives };
-
-    fn next(&self) -> Req {
-        self.layout.request(self.ask())
+    fn next(&self, layout: &Layout) -> Req {
+        match self.stage {
+            EarnStage::Add => layout.request(Ask::Add(Cell::Bank, self.words)),
+            EarnStage::Ended => layout.request(Ask::Load(Cell::Touch)),
+        }
     }
 
-    fn take(&mut self, _found: u64) -> Option<()> {
+    fn take(&mut self, _layout: &Layout, _found: u64) -> Option<()> {
         self.stage = EarnStage::Ended;
         self.given()
     }
-
-    ghost ends = { λ m found busy. is_over (listing.gives m found) };
-
-    ghost stays = { λ _ _. refl };
 }

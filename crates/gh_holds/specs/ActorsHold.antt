@@ -44,7 +44,6 @@ module _ (s : State) where
 
   -- the spans that begin before its page are swept, whoever swept them
   pub record Walks (w : SweepingAll) : Type 0 where
-    pub layout_is : w.layout ≡ s.end.layout
     pub generation_is : w.generation ≡ generation_of s.end
     pub passed : PassedBefore s (page_at w.stage)
     pub stage_is : WalksAt w.stage
@@ -171,7 +170,7 @@ module _ (setup : Setup) where
 
   -- It has stored the next sweep generation: each span is unswept, or begun to be swept, until the walk begins.
   abbrev pub IsClosing : List (Entry Op) → Coordinating → CloseStage → Type 0
-  IsClosing es c closing.StorePhase = IsSweeping es c (over.opening c.layout c.generation)
+  IsClosing es c closing.StorePhase = IsSweeping es c (over.opening c.generation)
   IsClosing es c closing.Ended = ⊥
   IsClosing es c _ = Unit {0}
 

@@ -11,9 +11,16 @@ ghost use Rattle.gh_marked.specs.Known.{Known};
 ghost use Rattle.gh_holds.specs.OfLists.{LawsOfLists};
 
 use gh_assist::laws::taking_and_scanning_are_within;
-use gh_base::laws::{a_step_changes_one_cell, packed_words_are_read_back, rows_are_written};
+use gh_base::laws::{
+    a_step_changes_one_cell, footprints_hold, packed_words_are_read_back, rows_are_written,
+};
+use gh_central::laws::{
+    the_pass_keeps_its_facts, the_reclaiming_keeps_its_facts, the_unswept_pass_keeps_its_facts,
+};
 use gh_class::size_class_laws;
-use gh_coord::laws::the_coordinator_runs_sweeps;
+use gh_coord::laws::{
+    the_coordinator_runs_sweeps, the_coordinator_stays_within, the_parts_are_routines,
+};
 use gh_cycle::beside::{
     cycles_begin_beside, marking_alone_goes_beside, objects_are_known_beside, the_marked_stand,
     the_reached_are_marked_beside,
@@ -40,6 +47,7 @@ use gh_mutator_heap::laws::{a_processor_runs_by_its_rights, processors_run_sweep
 use gh_mutator_writes::laws::{
     a_processor_writes_its_own, calm_processors_mark_nothing, stacks_are_noted,
 };
+use gh_pages::laws::the_carve_keeps_its_facts;
 use gh_state::laws::{
     counts_are_told, cycles_open_and_end, each_move_keeps,
     each_move_leaves as each_move_leaves_others, routines_are_made_of_moves, slots_are_read,
@@ -47,7 +55,10 @@ use gh_state::laws::{
 };
 use gh_sweep::laws::bits_are_objects;
 use gh_tri::{an_opening_has_the_invariants, each_step_keeps_the_invariants};
-use gh_worker::laws::{a_worker_writes_its_own, calm_workers_mark_nothing, workers_run_sweeps};
+use gh_worker::laws::{
+    a_worker_writes_its_own, calm_workers_mark_nothing, workers_are_routines, workers_keep_places,
+    workers_run_sweeps,
+};
 
 /// After every legal list of steps of all actors, in every order: there is the one state of the heap and its sweep, and what holds
 /// at the coordinator's stage; while a cycle is marked there is a state of marking of this heap, with its picture, and what was
@@ -62,6 +73,7 @@ pub fn every_list_holds()
 {
     a_step_changes_one_cell();
     rows_are_written();
+    footprints_hold();
     packed_words_are_read_back();
     size_class_laws();
     the_heap_is_apart();
@@ -75,12 +87,18 @@ pub fn every_list_holds()
     cycles_open_and_end();
     counts_are_told();
     slots_are_read();
+    the_pass_keeps_its_facts();
+    the_unswept_pass_keeps_its_facts();
+    the_reclaiming_keeps_its_facts();
+    the_carve_keeps_its_facts();
     mark_words_stay_words();
     the_marked_stand();
     bits_are_objects();
     processors_run_sweeps();
     workers_run_sweeps();
     the_coordinator_runs_sweeps();
+    the_coordinator_stays_within();
+    the_parts_are_routines();
     a_processor_runs_by_its_rights();
     a_processor_marks_by_moves();
     a_processor_goes_on_beside_marking();
@@ -98,6 +116,8 @@ pub fn every_list_holds()
     marking_is_drawn();
     the_picture_says();
     the_processor_keeps_the_handshake();
+    workers_are_routines();
+    workers_keep_places();
     a_worker_writes_its_own();
     taking_and_scanning_are_within();
     calm_workers_mark_nothing();

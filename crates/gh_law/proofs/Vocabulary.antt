@@ -1,9 +1,8 @@
 -- The names that the files of proofs with many imports share.
 pub use Rattle.std.proofs.lemmas.Bool.Decides.{nat_tests}
-pub use Rattle.std.proofs.lemmas.Nat.{mod_below}
 pub use Rattle.std.specs.Option.{option_to_list}
-pub use Rattle.std.specs.Prelude.{is_some, nat_lt, ◌%◌}
-pub use Rattle.gh_base.specs.Cells.{buffers_of, InRange, opening_words, put, seats_of, Words}
+pub use Rattle.std.specs.Prelude.{◌%◌}
+pub use Rattle.gh_base.specs.Cells.{InRange, opening_words, seats_of, Words}
 pub use Rattle.gh_base.specs.Holding.{IsHeld}
 pub use Rattle.gh_base.specs.Lists.{Begins, by, Kind, Legal, started, state_of}
 pub use Rattle.gh_base.specs.Packing.{page_of, phase_of}
@@ -19,48 +18,37 @@ pub use Rattle.gh_base.specs.declared.machine.Entry.{Entry}
 pub use Rattle.gh_base.specs.declared.operation.Op.{Op}
 pub use Rattle.gh_base.specs.declared.pack.PageWord.{PageWord}
 pub use Rattle.gh_base.specs.declared.pack.PageWord.TheVariants.{Head}
-pub use Rattle.gh_base.specs.declared.pack.TheConstants.{END, GONE}
+pub use Rattle.gh_base.specs.declared.pack.TheConstants.{END}
 pub use Rattle.gh_base.specs.declared.shape.Shape.{Shape}
 pub use Rattle.gh_base.specs.declared.value.Answer.{Answer}
 pub use Rattle.gh_base.specs.declared.value.Name.{Name}
 pub use Rattle.gh_model.specs.Ever.{Ever, Reach}
 pub use Rattle.gh_heap.specs.Rights.{Arena, Good, Shared as Heap, View, view}
 pub use Rattle.gh_marks.specs.Colours.{Cycle, Shared as Marking}
-pub use Rattle.gh_marks.specs.Seats.{Hands, nothing}
+pub use Rattle.gh_marks.specs.Seats.{Hands}
 pub use Rattle.gh_phase.specs.Handshake.{Party, Resumes}
 pub use Rattle.gh_phase.specs.Shakes.{IsAwake, last_phase}
-pub use Rattle.gh_phase.specs.Views.{run_phase}
 pub use Rattle.gh_phase.specs.declared.resume.ResumeStage.{ResumeStage}
 pub use Rattle.gh_phase.specs.declared.resume.Resumed.{Resumed}
-pub use Rattle.gh_phase.specs.declared.view.RunPhase.{RunPhase}
 pub use Rattle.gh_wbuf.specs.Sound.{SoundGiveStage}
-pub use Rattle.gh_wbuf.specs.declared.give_buffer.GiveStage.{GiveStage}
 pub use Rattle.gh_shade.specs.declared.shade.Shaded.{Shaded}
-pub use Rattle.gh_scan.specs.declared.scan.ScanStage.{ScanStage}
 pub use Rattle.gh_sweep.specs.Shared.{CycleEnd, generation_of, marks_at, placed}
 pub use Rattle.gh_sweep.specs.declared.sweep.SweepEnd.{SweepEnd}
-pub use Rattle.gh_sweep.specs.declared.sweep.SweepEnd.TheVariants.{Lost, Swept}
 pub use Rattle.gh_sweep.specs.declared.sweep.SweepStage.{SweepStage}
 pub use Rattle.gh_state.specs.Routines.{SweepRuns}
 pub use Rattle.gh_state.specs.Shared.{Shared as State}
 pub use Rattle.gh_state.specs.Slots.{slot_row}
 pub use Rattle.gh_alloc.specs.Search.{Seeking}
-pub use Rattle.gh_alloc.specs.declared.sought.Found.TheVariants.{NoRoom}
 pub use Rattle.gh_mutator.specs.Deeds.{deeds, processor_kind}
-pub use Rattle.gh_poll.specs.Handshake.{leaves_at}
 pub use Rattle.gh_poll.specs.Leave.{Leaving}
-pub use Rattle.gh_mutator.specs.Listing.{acts, after_gc, after_leave, after_poll, asks, begins, begins_at, is_busy_at, takes}
+pub use Rattle.gh_mutator.specs.Listing.{acts, after_gc, after_leave, after_poll, asks, is_busy_at, takes}
 pub use Rattle.gh_poll.specs.Poll.{Polling}
-pub use Rattle.gh_mutator.specs.Processor.{made_by, opening_processor}
-pub use Rattle.gh_mutator.specs.ProcessorMarks.{MarkFacts, new_polls, only_polls}
-pub use Rattle.gh_mutator.specs.ProcessorPlaces.{new_stage_at, party_at, party_of, SoundAt, SoundPlace, stage_at, stage_of}
-pub use Rattle.gh_mutator.specs.Serving.{has_left_at}
-pub use Rattle.gh_poll.specs.Wait.{waiting}
+pub use Rattle.gh_mutator.specs.Processor.{made_by}
+pub use Rattle.gh_mutator.specs.ProcessorMarks.{MarkFacts, only_polls}
+pub use Rattle.gh_mutator.specs.ProcessorPlaces.{party_at, party_of, SoundPlace, stage_at, stage_of}
 pub use Rattle.gh_mutator.specs.declared.global.GlobalStage.{GlobalStage}
 pub use Rattle.gh_poll.specs.declared.leave.LeaveStage.{LeaveStage}
 pub use Rattle.gh_mutator.specs.declared.new.NewStage.{NewStage}
-pub use Rattle.gh_mutator.specs.declared.new.NewStage.TheVariants.{Place, Search, Wait}
-pub use Rattle.gh_poll.specs.declared.poll.PollStage.{PollStage}
 pub use Rattle.gh_mutator.specs.Processing.{Processor}
 pub use Rattle.gh_mutator.specs.declared.task.Task.{Task}
 pub use Rattle.gh_poll.specs.declared.wait.WaitStage.{WaitStage}
@@ -70,22 +58,15 @@ pub use Rattle.gh_mutator_heap.specs.Facts.{ProcessorFacts, ShapesAreGood}
 pub use Rattle.gh_worker.specs.Listing.{Working}
 pub use Rattle.gh_worker.specs.Writing.{WorkersWriteTheirOwn, WritesItsOwn}
 pub use Rattle.gh_worker.specs.declared.worker.WorkerStage.{WorkerStage}
-pub use Rattle.gh_coord.specs.Listing.{after_check, after_close, after_count, after_open, after_stop, after_stop_again, after_sweep, after_tell, after_watch, asks_at, at_stage, Coordinating, counted, goes, goes_at, stops_world}
+pub use Rattle.gh_coord.specs.Listing.{after_open, asks_at, at_stage, Coordinating, goes_at}
 pub use Rattle.gh_coord.specs.Stopping.{acks_of}
 pub use Rattle.gh_coord.specs.declared.close.CloseStage.{CloseStage}
 pub use Rattle.gh_coord.specs.declared.coord.CoordStage.{CoordStage}
 pub use Rattle.gh_coord.specs.declared.coord.CoordStage.TheVariants.{Check, Close, Count, Done, LoadAck, LoadWant, MarkOn, Open, Stop, StopAgain, Sweep, Tell, Watch}
-pub use Rattle.gh_coord.specs.declared.count.CountStage.{CountStage}
-pub use Rattle.gh_coord.specs.declared.count.Counted.{Counted}
 pub use Rattle.gh_coord.specs.declared.open.OpenStage.{OpenStage}
-pub use Rattle.gh_coord.specs.declared.stop.StopStage.{StopStage}
-pub use Rattle.gh_coord.specs.declared.sweep_all.SweepAllStage.{SweepAllStage}
 pub use Rattle.gh_coord.specs.declared.tell.TellStage.{TellStage}
-pub use Rattle.gh_coord.specs.declared.watch.WatchStage.{WatchStage}
-pub use Rattle.gh_coord.specs.declared.watch.Watched.{Watched}
-pub use Rattle.gh_coord.specs.declared.watch.Watched.TheVariants.{All, NotYet}
-pub use Rattle.gh_lists.specs.Handshake.{actors, is_busy, KeepsIt, Pacing, place_of, those}
-pub use Rattle.gh_lists.specs.Lists.{arena, ever, IsLed, IsStepIn, may_of, words}
+pub use Rattle.gh_lists.specs.Handshake.{actors, is_busy, KeepsIt, place_of, those}
+pub use Rattle.gh_lists.specs.Lists.{arena, ever, IsLed, IsStepIn, words}
 pub use Rattle.gh_lists.specs.Marking.{actors_after, IsBeginning, IsInLimits, IsStartOf}
 pub use Rattle.gh_coord.specs.Parts.{part_of}
 pub use Rattle.gh_lists.specs.Numbers.{ahead_at, asked_after, opened_after}

@@ -1,9 +1,4 @@
 pub mod Actors
-pub mod Buffers
-pub mod CoordParts
-pub mod Coordinators
-pub mod Leading
 pub mod Lists
 pub mod Processors
-pub mod Spans
 pub mod Workers

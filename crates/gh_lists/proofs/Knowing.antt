@@ -16,7 +16,8 @@ use Rattle.gh_lists.specs.declared.handshake.Actor.TheVariants as actor
 use Rattle.gh_lists.specs.Handshake.{IsExact, Sound, Setup}
 use Rattle.gh_lists.proofs.Vocabulary.{acks_of, Actor, Acts, Entry, GONE, Gone, IsAwake, IsParked, KeepsIt, last_of, last_phase, Lead, Leads, Legal, Op, Party, party_of, place_of, Processor, ResumeStage, RunPhase, Stage, stage_of, Stopped, WaitsWithNone, WorkerStage, ◌↔◌}
 use Rattle.gh_lists.specs.Seats.{IsSeated, seated}
-use Rattle.gh_lists.proofs.LastCycle.{Cited, Ends, follows, it, opens, state, words}
+use Rattle.gh_lists.specs.Steps.{at as state, it, words}
+use Rattle.gh_lists.proofs.LastCycle.{Cited, Ends, follows, opens}
 
 -- who is awake does not wait at a stop
 awake_moves : (stops : ℕ) (s : Stage) → IsAwake s → IsParked stops s → ⊥
@@ -39,9 +40,6 @@ module _ (setup : Setup) where
   leads_at (actor.Runs m) lead e = absurd cc
   leads_at (actor.Marks w) lead e = absurd cc
 
-  layout_of : (m : Actor) (c : coord.Coordinating) → m ≡ actor.Leads c → Sound setup.layout m → c.layout ≡ setup.layout
-  layout_of m c e s = (subst (λ (y : Actor). Sound setup.layout y) e s).0
-
   sound_of : (m : Actor) (c : coord.Coordinating) → m ≡ actor.Leads c → Sound setup.layout m → leading.Sound c
   sound_of m c e s = (subst (λ (y : Actor). Sound setup.layout y) e s).1
 
@@ -52,21 +50,9 @@ module _ (setup : Setup) where
       (shakes : (es : List (Entry Op)) → Legal (it setup) es → Shakes (it setup) n (Sound setup.layout) place es)
       (gone : (e : Entry Op) (es : List (Entry Op)) → Legal (it setup) (e ∷ es) → GoneStay (it setup) n place e es)
       (stays : (e : Entry Op) (es : List (Entry Op)) → Legal (it setup) (e ∷ es) → FinishedStays e es) where
-    layouts : (es : List (Entry Op)) (h : Legal (it setup) es) (c : coord.Coordinating) → state setup es n ≡ actor.Leads c → c.layout ≡ setup.layout
-    layouts es h c e = layout_of (state setup es n) c e ((shakes es h).all_sound n (omega arith))
-
-    -- a worker at its load of the phase is awake
-    awake_at : (w : worker.Working) (s : WorkerStage) → s ≡ work.LoadPhase → IsAwake (working.stands_at s) × (working.party_at w s ≡ record { seat = w.seat; view = w.view })
-    awake_at w s e = rw e (tt, refl)
-
-    currents : (es : List (Entry Op)) → Legal (it setup) es → (a : ℕ) (w : worker.Working) → a < n → state setup es a ≡ actor.Marks w → w.stage ≡ work.LoadPhase → IsCurrent (last_phase es) (words setup es) w.view
-    currents es h a w lt at e =
-        let y = awake_at w w.stage e in
-        subst (λ (p : Party). IsCurrent (last_phase es) (words setup es) p.view) y.1 ((shakes es h).views a (working.party_of w) (working.stage_of w) lt (ap place at) y.0)
-
     ends : (es : List (Entry Op)) → Legal (it setup) es → Ends setup es
     ends [] h = opens setup
-    ends (e ∷ es) h = let x = shakes es h.0 in follows setup cited es e (record { may = h.1; was = ends es h.0; lead = x.lead; led = x.led; gone = gone e es h; stays = stays e es h; layout_is = layouts es h.0; current = currents es h.0 })
+    ends (e ∷ es) h = follows setup cited es e (record { legal = h; was = ends es h.0; shakes = shakes es h.0; gone = gone e es h; stays = stays e es h })
 
     module _ (es : List (Entry Op)) (h : Legal (it setup) es) where
       x : Shakes (it setup) n (Sound setup.layout) place es
@@ -130,14 +116,10 @@ module _ (setup : Setup) where
         known : p.view.phase ≡ run.Mark ↔ (last_phase es ≡ run.Mark)
         known = reads (last_phase es) p.view.phase (x.views a p s lt at awake).phase_is
 
-      -- a worker that marks is awake
-      marks_awake : (w : worker.Working) (s : WorkerStage) → working.IsMarking s → IsAwake (working.stands_at s) × (working.party_at w s ≡ record { seat = w.seat; view = w.view })
-      marks_awake w s m = grind arith
-
       marking : (c : coord.Coordinating) (a : ℕ) (w : worker.Working) → state setup es n ≡ actor.Leads c → a < n → state setup es a ≡ actor.Marks w → working.IsMarking w.stage → leading.Marks c.stage
       marking c a w e lt at m =
-          let y = marks_awake w w.stage m in
-          (marks_so c a (working.party_of w) (working.stage_of w) e lt (ap place at) y.0).0 (ap (λ (p : Party). p.view.phase) y.1 ∙ i.marks a w lt at m)
+          let y = cited.places.marks w m in
+          (marks_so c a (working.party_of w) (working.stage_of w) e lt (ap place at) (subst IsAwake (sym y.awake) tt)).0 (ap (λ (p : Party). p.view.phase) y.party_is ∙ i.marks a w at m)
 
       -- a stop is behind a phase that is not the last
       stop_goes_on : (c : coord.Coordinating) (phase : RunPhase) → state setup es n ≡ actor.Leads c → leading.post_at c.stage ≡ Stopped phase → last_phase es ≡ run.Finished → ⊥

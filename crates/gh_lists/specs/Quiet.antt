@@ -5,10 +5,9 @@ use Rattle.gh_coord.specs.Counting as count
 use Rattle.gh_coord.specs.Stopping as stop
 use Rattle.gh_coord.specs.SweepingAll as all
 use Rattle.gh_coord.specs.Watching as watch
-use Rattle.gh_sweep.specs.Listing as sweep
 use Rattle.gh_worker.specs.Handshake as working
 use Rattle.gh_worker.specs.Listing as worker
-use Rattle.gh_lists.specs.LemmaVocabulary.{Ask, asked_after, CountStage, effect, opened_after, StopStage, SweepAllStage, SweepStage, WatchStage, Words, WorkersWriteTheirOwn}
+use Rattle.gh_lists.specs.LemmaVocabulary.{Ask, asked_after, CountStage, effect, Layout, opened_after, StopStage, SweepAllStage, WatchStage, Words, WorkersWriteTheirOwn}
 use Rattle.gh_lists.specs.Frames.{LeavesCycleWords, numbers_of}
 
 -- no cycle is opened, asked for, begun, ended or told, and no stack's word is written
@@ -27,18 +26,14 @@ module _ (w : Words) where
   pub stop_quiet : (st : stop.Stopping) (p : StopStage) → Quiet w (stop.asks_at st p)
   stop_quiet st p = grind arith
 
-  pub watch_quiet : (v : watch.Watching) (p : WatchStage) → Quiet w (watch.asks_at v p)
-  watch_quiet v p = grind arith
+  pub watch_quiet : (l : Layout) (p : WatchStage) → Quiet w (watch.asks_at l p)
+  watch_quiet l p = grind arith
 
   pub count_quiet : (p : CountStage) → Quiet w (count.asks_at p)
   count_quiet p = grind arith
 
-  -- a span is swept
-  pub span_quiet : (v : sweep.Sweeping) (p : SweepStage) → Quiet w (sweep.asks_at v p)
-  span_quiet v p = grind arith
-
-  pub all_quiet : (v : all.SweepingAll) (p : SweepAllStage) → Quiet w (all.asks_at v p)
-  all_quiet v p = record { opens_none = grind arith; asks_none = grind arith; want = grind arith; scanned = grind arith; numbers = grind arith }
+  pub all_quiet : (l : Layout) (p : SweepAllStage) → Quiet w (all.asks_at l p)
+  all_quiet l p = record { opens_none = grind arith; asks_none = grind arith; want = grind arith; scanned = grind arith; numbers = grind arith }
 
   module _ (works : WorkersWriteTheirOwn) (v : worker.Working) (sound : working.Sound v) (busy : worker.is_busy v.stage ≡ true) where
     pub worker_quiet : Quiet w (worker.asks v)

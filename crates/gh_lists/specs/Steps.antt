@@ -1,5 +1,5 @@
 -- What an entry of a legal list is: a step of a processor, of a worker, or of the coordinator.
-use Rattle.std.proofs.Common.{◌≡◌, ℕ, ◌+◌, ◌<◌, ◌≤◌, true, refl, sym, ap, subst, ◌∙◌, arith, List, [], ◌∷◌, Option, Some, None}
+use Rattle.std.proofs.Common.{◌≡◌, ℕ, ◌+◌, ◌<◌, ◌≤◌, ◌==◌, Bool, true, false, refl, sym, ap, subst, ◌∙◌, arith, List, [], ◌∷◌, Option, Some, None}
 use Rattle.std.proofs.lemmas.Bool.Decides.{nat_tests}
 use Rattle.gh_base.specs.declared.cell.Ask.{Ask}
 use Rattle.gh_base.specs.declared.machine.Entry.{Entry}
@@ -90,7 +90,32 @@ module _ (setup : Setup) where
       by_worker : (w : worker.Working) → WorksIt w → at (e ∷ es) n ≡ at es n → Step
       by_lead : (c : coord.Coordinating) → LeadsIt c → Step
 
-    module _ (writes : ProcessorWritesItsOwn) (legal : Legal it (e ∷ es)) (keeps : KeepsIt it es) where
+    -- what the worker at a seat and the coordinator were: they have made the step, or were so before it
+    pub data WorkerWas (a : ℕ) (w : worker.Working) : Type 0 where
+      worker_stepped : (v : worker.Working) → WorksIt v → w ≡ worker.goes v e.found → WorkerWas a w
+      worker_stayed : at es a ≡ actor.Marks w → WorkerWas a w
+
+    pub worker_was : Step → (a : ℕ) (w : worker.Working) → at (e ∷ es) a ≡ actor.Marks w → WorkerWas a w
+    worker_was step a w is = go (e.actor == a) refl step where
+      here : (e.actor == a) ≡ true → at (e ∷ es) e.actor ≡ actor.Marks w
+      here own = let end : e.actor ≡ a = grind (arith, nat_tests, own) in ap (at (e ∷ es)) end ∙ is
+
+      go : (b : Bool) → (e.actor == a) ≡ b → Step → WorkerWas a w
+      go false apart s = worker_stayed (sym (other setup e es a apart) ∙ is)
+      go true own (by_worker v x stays) = worker_stepped v x (let both : actor.Marks w ≡ actor.Marks (worker.goes v e.found) = sym (here own) ∙ x.then in cc)
+      go true own (by_processor m x stays) = absurd (let both = sym (here own) ∙ x.then in cc)
+      go true own (by_lead c x) = absurd (let both = sym (here own) ∙ ap (at (e ∷ es)) x.seat ∙ x.then in cc)
+
+    pub data LeadWas (c : coord.Coordinating) : Type 0 where
+      lead_stepped : (b : coord.Coordinating) → LeadsIt b → c ≡ coord.goes b e.found → LeadWas c
+      lead_stayed : at es n ≡ actor.Leads c → LeadWas c
+
+    pub lead_was : Step → (c : coord.Coordinating) → at (e ∷ es) n ≡ actor.Leads c → LeadWas c
+    lead_was (by_processor m x stays) c is = lead_stayed (sym stays ∙ is)
+    lead_was (by_worker w x stays) c is = lead_stayed (sym stays ∙ is)
+    lead_was (by_lead b x) c is = lead_stepped b x (let both : actor.Leads c ≡ actor.Leads (coord.goes b e.found) = sym is ∙ x.then in cc)
+
+    module _ (writes : ProcessorWritesItsOwn) (legal : Legal it (e ∷ es)) (all_sound : (a : ℕ) → a < n + 1 → Sound setup.layout (at es a)) where
       abbrev begun : Actor
       begun = started it.kind e.begun (at es e.actor)
 
@@ -98,7 +123,7 @@ module _ (setup : Setup) where
       within = legal.1.actor
 
       sound_of : (m : Actor) → at es e.actor ≡ m → Sound setup.layout m
-      sound_of m is = subst (Sound setup.layout) is (keeps.shakes.all_sound e.actor within)
+      sound_of m is = subst (Sound setup.layout) is (all_sound e.actor within)
 
       seat_of : (m : Actor) → at es e.actor ≡ m → IsSeated setup.layout e.actor m
       seat_of m is = subst (IsSeated setup.layout e.actor) is (seated setup es e.actor)
@@ -156,5 +181,8 @@ module _ (setup : Setup) where
             found = legal.1.found ∙ ap (λ (q : Ask). words es (cell_of q)) asked_it;
           })
 
-      pub step : Step
-      step = by (at es e.actor) refl
+      pub step_by : Step
+      step_by = by (at es e.actor) refl
+
+    pub step : ProcessorWritesItsOwn → Legal it (e ∷ es) → KeepsIt it es → Step
+    step writes legal keeps = step_by writes legal keeps.shakes.all_sound

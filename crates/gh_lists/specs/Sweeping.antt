@@ -8,7 +8,7 @@ use Rattle.gh_lists.specs.LemmaVocabulary.{WorkerStage, is_busy_at, Task}
 use Rattle.gh_mutator.specs.Sweeping.{sweep_at}
 
 -- it runs no sweep, or asks for what that asks for
-pub asks_by_sweep : (w : worker.Working) (p : WorkerStage) → (worker.sweep_at p ≡ None) ⊎ ((sw : Sweeping) × (worker.asks_at w p ≡ sweep.asks sw))
+pub asks_by_sweep : (w : worker.Working) (p : WorkerStage) → (worker.sweep_at p ≡ None) ⊎ ((sw : Sweeping) × (worker.asks_at w p ≡ sweep.asks w.layout sw))
 asks_by_sweep w (working_at.Sweeping sw) = inr (sw, refl)
 asks_by_sweep w _ = inl refl
 

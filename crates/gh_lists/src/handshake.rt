@@ -16,7 +16,7 @@ use gh_mutator_writes::laws::a_processor_writes_its_own;
 use gh_phase::InHandshake;
 use gh_phase::laws::{nobody_moves, the_gone_stay_gone, the_handshake_holds, the_last_phase_stays};
 use gh_worker::Worker;
-use gh_worker::laws::a_worker_keeps_the_handshake;
+use gh_worker::laws::{a_worker_keeps_the_handshake, workers_keep_places};
 
 /// An actor of a heap with a collector. No value of it is made: it is what clauses on lists of their steps
 /// speak of.
@@ -51,6 +51,7 @@ pub fn every_list_keeps_the_handshake()
     the_last_phase_stays::<Actor<'_>, Op>();
     the_coordinator_leads_the_handshake();
     a_worker_keeps_the_handshake();
+    workers_keep_places();
     the_processor_keeps_the_handshake();
     a_processor_writes_its_own();
 }

@@ -30,7 +30,7 @@ pub use Rattle.gh_base.specs.declared.pack.TheConstants.{END, GONE}
 pub use Rattle.gh_base.specs.declared.value.Answer.{Answer}
 pub use Rattle.gh_base.specs.declared.value.Name.{Name}
 pub use Rattle.gh_base.specs.declared.value.Value.{Value}
-pub use Rattle.gh_model.specs.Ever.{Ever, ever_after, Reach}
+pub use Rattle.gh_model.specs.Ever.{Ever, Reach}
 pub use Rattle.gh_model.specs.declared.EverValue.{EverValue}
 pub use Rattle.gh_heap.specs.Rights.{Arena, Good, IsOf, Right, Shared as Heap, view}
 pub use Rattle.gh_heap.specs.Moves.{moved, Steps}
@@ -44,13 +44,8 @@ pub use Rattle.gh_phase.specs.Handshake.{Acts, Awake, Gone, last_of, Lead, Leads
 pub use Rattle.gh_phase.specs.Shakes.{IsAwake, IsParked, last_phase}
 pub use Rattle.gh_phase.specs.Views.{run_phase}
 pub use Rattle.gh_phase.specs.declared.resume.ResumeStage.{ResumeStage}
-pub use Rattle.gh_phase.specs.declared.resume.Resumed.{Resumed}
 pub use Rattle.gh_phase.specs.declared.view.RunPhase.{RunPhase}
 pub use Rattle.gh_phase.specs.declared.view.View.{View}
-pub use Rattle.gh_wbuf.specs.declared.find_room.RoomStage.{RoomStage}
-pub use Rattle.gh_wbuf.specs.declared.give_buffer.GiveStage.{GiveStage}
-pub use Rattle.gh_wbuf.specs.declared.take_entry.TakeStage.{TakeStage}
-pub use Rattle.gh_wbuf.specs.declared.try_buffer.TryStage.{TryStage}
 pub use Rattle.gh_shade.specs.declared.shade.ShadeStage.{ShadeStage}
 pub use Rattle.gh_shade.specs.declared.shade.Shaded.{Shaded}
 pub use Rattle.gh_stack.specs.Facts.{AreRegisters}
@@ -58,9 +53,8 @@ pub use Rattle.gh_scan.specs.declared.scan.ScanStage.{ScanStage}
 pub use Rattle.gh_assist.specs.Listing.{Assisting}
 pub use Rattle.gh_sweep.specs.declared.sweep.SweepEnd.{SweepEnd}
 pub use Rattle.gh_sweep.specs.declared.sweep.SweepStage.{SweepStage}
-pub use Rattle.gh_sweep.specs.AtEnd.{far_in}
 pub use Rattle.gh_sweep.specs.Counts.{AreWords}
-pub use Rattle.gh_sweep.specs.Shared.{By, CycleEnd, placed}
+pub use Rattle.gh_sweep.specs.Shared.{CycleEnd, placed}
 pub use Rattle.gh_sweep.specs.declared.sweep.SweepEnd.TheVariants.{Lost, Swept}
 pub use Rattle.gh_state.specs.Good.{Good as StateGood}
 pub use Rattle.gh_state.specs.Shared.{Shared as State}
@@ -70,9 +64,8 @@ pub use Rattle.gh_cycle.specs.Reached.{IsBounded}
 pub use Rattle.gh_alloc.specs.Place.{Placing}
 pub use Rattle.gh_alloc.specs.declared.place.PlaceStage.{PlaceStage}
 pub use Rattle.gh_alloc.specs.declared.sought.Found.{Found}
-pub use Rattle.gh_alloc.specs.declared.sought.Found.TheVariants.{At, NoRoom}
 pub use Rattle.gh_mutator.specs.Deeds.{acted, answer_at, deeds, given_at, has_point, point_of, processor_kind}
-pub use Rattle.gh_mutator.specs.Listing.{Act, acting, acts, acts_at, after_gc, after_leave, after_poll, asks, begins, begins_at, follows, gives, gives_at, is_busy_at, once_ended, op_at, takes, takes_at}
+pub use Rattle.gh_mutator.specs.Listing.{Act, acting, acts, acts_at, after_gc, after_leave, after_poll, asks, begins, follows, gives, is_busy_at, op_at, takes, takes_at}
 pub use Rattle.gh_mutator.specs.Processor.{cache_span, made_by, opening_processor, register_of}
 pub use Rattle.gh_mutator.specs.ProcessorMarks.{MarkFacts, only_polls}
 pub use Rattle.gh_mutator.specs.Processing.{Processor}
@@ -84,7 +77,6 @@ pub use Rattle.gh_poll.specs.Poll.{Polling}
 pub use Rattle.gh_mutator.specs.ProcessorPlaces.{new_stage_at, party_at, party_of, SoundAt, SoundPlace, stage_at, stage_of}
 pub use Rattle.gh_mutator.specs.Running.{IsSound}
 pub use Rattle.gh_mutator.specs.Serving.{has_left_at}
-pub use Rattle.gh_poll.specs.Wait.{Waiting, waiting}
 pub use Rattle.gh_mutator.specs.declared.global.Global.{Global}
 pub use Rattle.gh_mutator.specs.declared.global.GlobalStage.{GlobalStage}
 pub use Rattle.gh_poll.specs.declared.leave.LeaveStage.{LeaveStage}
@@ -96,7 +88,6 @@ pub use Rattle.gh_poll.specs.declared.poll.PollStage.{PollStage}
 pub use Rattle.gh_mutator.specs.declared.register.Register.{Register}
 pub use Rattle.gh_mutator.specs.declared.register.Source.{Source}
 pub use Rattle.gh_mutator.specs.declared.step.Then.{Then}
-pub use Rattle.gh_mutator.specs.declared.step.Then.TheVariants.{Ends, GoesOn}
 pub use Rattle.gh_mutator.specs.declared.task.Task.{Task}
 pub use Rattle.gh_poll.specs.declared.wait.WaitStage.{WaitStage}
 pub use Rattle.gh_mutator_writes.specs.Calm.{IsCalm as MarksNothing}
@@ -107,7 +98,7 @@ pub use Rattle.gh_mutator_heap.specs.Runs.{DoesPoints}
 pub use Rattle.gh_worker.specs.Listing.{Working}
 pub use Rattle.gh_worker.specs.declared.worker.WorkerStage.{WorkerStage}
 pub use Rattle.gh_worker.specs.Writing.{WritesItsOwn}
-pub use Rattle.gh_coord.specs.Listing.{after_close, asks_at, at_stage, Coordinating}
+pub use Rattle.gh_coord.specs.Listing.{asks_at, Coordinating}
 pub use Rattle.gh_coord.specs.Stopping.{acks_of}
 pub use Rattle.gh_coord.specs.declared.close.CloseStage.{CloseStage}
 pub use Rattle.gh_coord.specs.declared.coord.CoordStage.{CoordStage}
@@ -119,8 +110,6 @@ pub use Rattle.gh_coord.specs.declared.sweep_all.SweepAllStage.{SweepAllStage}
 pub use Rattle.gh_coord.specs.declared.tell.TellStage.{TellStage}
 pub use Rattle.gh_coord.specs.declared.watch.WatchStage.{WatchStage}
 pub use Rattle.gh_coord.specs.declared.count.Counted.{Counted}
-pub use Rattle.gh_coord.specs.declared.watch.Watched.{Watched}
-pub use Rattle.gh_coord.specs.declared.watch.Watched.TheVariants.{All, NotYet}
 pub use Rattle.gh_lists.specs.LemmaVocabulary.{ProcessorWritesItsOwn}
 pub use Rattle.gh_lists.specs.Handshake.{actors, is_busy, KeepsIt, Pacing, place_of, StepKeepsIt, those, WaitsWithNone}
 pub use Rattle.gh_lists.specs.Lists.{arena, EndsCycle, ever, IsEnding, IsLed, IsStepIn, may_of, words}

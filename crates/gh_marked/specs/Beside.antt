@@ -1,8 +1,9 @@
 -- The steps of a worker that does not sweep: they write no word of pages, slots and pointer bits.
-use Rattle.std.proofs.Common.{◌≡◌, ℕ, true, refl, None, arith}
+use Rattle.std.proofs.Common.{◌≡◌, ℕ, refl, None}
 use Rattle.gh_base.specs.declared.cell.Cell.TheVariants as cell
-use Rattle.gh_worker.specs.Listing.{asks, is_busy, sweep_in}
-use Rattle.gh_marked.specs.LemmaVocabulary.{Ask, Cell, effect, Load, Store, Words, Working}
+use Rattle.gh_worker.specs.Listing.{asks, sweep_in}
+use Rattle.gh_worker.specs.Routine.{marks, WorkersAreRoutines, WritesAlone}
+use Rattle.gh_marked.specs.LemmaVocabulary.{Ask, effect, Words, Working}
 
 -- no word of pages, slots and pointer bits is written
 pub record LeavesHeap (ask : Ask) : Type 0 where
@@ -10,12 +11,7 @@ pub record LeavesHeap (ask : Ask) : Type 0 where
   pub alloc : (words : Words) (i : ℕ) → effect words ask (cell.Alloc i) ≡ words (cell.Alloc i)
   pub bitmap : (words : Words) (i : ℕ) → effect words ask (cell.Bitmap i) ≡ words (cell.Bitmap i)
 
-pub loads : (c : Cell) → LeavesHeap (Load c)
-loads c = record { page = λ w i. refl; alloc = λ w i. refl; bitmap = λ w i. refl }
-
-pub stores_bank : (x : ℕ) → LeavesHeap (Store cell.Bank x)
-stores_bank x = record { page = λ w i. refl; alloc = λ w i. refl; bitmap = λ w i. refl }
-
-module _ (w : Working) where
-  pub works_so : sweep_in w ≡ None → is_busy w.stage ≡ true → LeavesHeap (asks w)
-  works_so n b = record { page = grind arith; alloc = grind arith; bitmap = grind arith }
+pub works_so : WorkersAreRoutines → (w : Working) → sweep_in w ≡ None → LeavesHeap (asks w)
+works_so k w none =
+    let alone : WritesAlone marks (asks w) = k.marks_alone w none in
+    record { page = λ words i. alone.leaves words (cell.Page i) refl; alloc = λ words i. alone.leaves words (cell.Alloc i) refl; bitmap = λ words i. alone.leaves words (cell.Bitmap i) refl }

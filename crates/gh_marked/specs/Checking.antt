@@ -30,7 +30,6 @@ module _ (l : Layout) (number : ℕ) (words : Words) where
   StageSees (watch_stage.Ended w) = ⊥
 
   pub record Sees (w : watch.Watching) : Type 0 where
-    pub layout_is : w.layout ≡ l
     pub cycle_is : w.cycle ≡ number
     pub stage_is : StageSees w.stage
 
@@ -82,8 +81,8 @@ module _ (l : Layout) (number : ℕ) (words : Words) (s : Coordinating) (marks :
   opening : (o : opens_by.CycleOpening) (p : OpenStage) (found : ℕ) → o.stage ≡ p → opens_by.is_busy p ≡ true → To (Open o) (after_open (at_stage u (Open (opens_by.goes_at o p found))) (opens_by.given_at (opens_by.behind p)))
   opening o p found e b = grind arith
 
-  watching_quiet : (w : watch.Watching) (p : WatchStage) → IsLight (watch.asks_at w p)
-  watching_quiet w p = grind arith
+  watching_quiet : (p : WatchStage) → IsLight (watch.asks_at s.layout p)
+  watching_quiet p = grind arith
 
   -- one word more is as wanted
   one_more : (i : ℕ) → ((j : ℕ) → j < i → IsWanted l number words j) → IsWanted l number words i → (j : ℕ) → j < i + 1 → IsWanted l number words j
@@ -93,22 +92,22 @@ module _ (l : Layout) (number : ℕ) (words : Words) (s : Coordinating) (marks :
   abbrev behind_look : watch.Watching → (i : ℕ) → (b d : Bool) → watch.Watching
   behind_look w i b d = watch.at_stage w (cond b (cond d (watch_stage.Look (i + 1)) (watch_stage.Ended All)) (watch_stage.Ended NotYet))
 
-  looking : (w : watch.Watching) (i found : ℕ) → w.stage ≡ watch_stage.Look i → w.layout ≡ l → w.cycle ≡ number → found ≡ words (cell_at w.layout i) → StageSees l number words (watch_stage.Look i) →
-      CheckedAt l number words (after_check (at_stage u (Check (watch.goes_at w (watch_stage.Look i) found))) (watch.given (watch.goes_at w (watch_stage.Look i) found))).stage
-  looking w i found e h c f seen = go (is_wanted w.layout w.cycle (cell_at w.layout i) found) (ltb (i + 1) (words_of w.layout)) refl refl where
-    wanted : is_wanted w.layout w.cycle (cell_at w.layout i) found ≡ true → IsWanted l number words i
-    wanted y = subst (λ (x : Layout). is_wanted x number (cell_at x i) (words (cell_at x i)) ≡ true) h (subst (λ (n : ℕ). is_wanted w.layout n (cell_at w.layout i) (words (cell_at w.layout i)) ≡ true) c (subst (λ (v : ℕ). is_wanted w.layout w.cycle (cell_at w.layout i) v ≡ true) f y))
+  looking : (w : watch.Watching) (i found : ℕ) → w.stage ≡ watch_stage.Look i → w.cycle ≡ number → found ≡ words (cell_at s.layout i) → StageSees l number words (watch_stage.Look i) →
+      CheckedAt l number words (after_check (at_stage u (Check (watch.goes_at s.layout w (watch_stage.Look i) found))) (watch.given (watch.goes_at s.layout w (watch_stage.Look i) found))).stage
+  looking w i found e c f seen = go (is_wanted s.layout w.cycle (cell_at s.layout i) found) (ltb (i + 1) (words_of s.layout)) refl refl where
+    wanted : is_wanted s.layout w.cycle (cell_at s.layout i) found ≡ true → IsWanted l number words i
+    wanted y = subst (λ (x : Layout). is_wanted x number (cell_at x i) (words (cell_at x i)) ≡ true) layout_is (subst (λ (n : ℕ). is_wanted s.layout n (cell_at s.layout i) (words (cell_at s.layout i)) ≡ true) c (subst (λ (v : ℕ). is_wanted s.layout w.cycle (cell_at s.layout i) v ≡ true) f y))
 
-    go : (b d : Bool) → is_wanted w.layout w.cycle (cell_at w.layout i) found ≡ b → ltb (i + 1) (words_of w.layout) ≡ d → CheckedAt l number words (after_check (at_stage u (Check (behind_look w i b d))) (watch.given (behind_look w i b d))).stage
-    go true true y x = record { layout_is = h; cycle_is = c; stage_is = one_more i seen (wanted y) }
-    go true false y x = all_found l number words (λ j m. one_more i seen (wanted y) j (let few : words_of w.layout ≤ i + 1 = ltb-false _ _ x in let more : words_of l ≤ i + 1 = subst (λ (z : Layout). words_of z ≤ i + 1) h few in omega arith))
+    go : (b d : Bool) → is_wanted s.layout w.cycle (cell_at s.layout i) found ≡ b → ltb (i + 1) (words_of s.layout) ≡ d → CheckedAt l number words (after_check (at_stage u (Check (behind_look w i b d))) (watch.given (behind_look w i b d))).stage
+    go true true y x = record { cycle_is = c; stage_is = one_more i seen (wanted y) }
+    go true false y x = all_found l number words (λ j m. one_more i seen (wanted y) j (let few : words_of s.layout ≤ i + 1 = ltb-false _ _ x in let more : words_of l ≤ i + 1 = subst (λ (z : Layout). words_of z ≤ i + 1) layout_is few in omega arith))
     go false d y x = tt
 
   checking_begun : (w : watch.Watching) (out : Option Watched) → (after_check (at_stage u (Check w)) out).begun ≡ s.begun
   checking_begun w out = grind arith
 
-  checking : (w : watch.Watching) (p : WatchStage) (found : ℕ) → w.stage ≡ p → watch.is_busy p ≡ true → found ≡ words (cell_of (watch.asks_at w p)) →
-      To (Check w) (after_check (at_stage u (Check (watch.goes_at w p found))) (watch.given (watch.goes_at w p found)))
+  checking : (w : watch.Watching) (p : WatchStage) (found : ℕ) → w.stage ≡ p → watch.is_busy p ≡ true → found ≡ words (cell_of (watch.asks_at s.layout p)) →
+      To (Check w) (after_check (at_stage u (Check (watch.goes_at s.layout w p found))) (watch.given (watch.goes_at s.layout w p found)))
   checking w p found e b f = grind (arith, checking_begun, looking, watching_quiet)
 
   closing : (c : close.Closing) (p : CloseStage) (found : ℕ) → c.stage ≡ p → close.is_busy p ≡ true → To (Close c) (after_close (at_stage u (Close (close.goes_at c p found))) (close.given (close.goes_at c p found)))

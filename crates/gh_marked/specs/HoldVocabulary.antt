@@ -15,7 +15,7 @@ pub use Rattle.gh_model.specs.Ever.{Ever, Reach}
 pub use Rattle.gh_heap.specs.Rights.{Arena, Good, IsOf, Right, Shared as Heap, view, View}
 pub use Rattle.gh_heap.specs.Objects.{IsMade}
 pub use Rattle.gh_marks.specs.Colours.{Cycle, Shared as Marking}
-pub use Rattle.gh_sweep.specs.Counts.{AreWords, marked_objects}
+pub use Rattle.gh_sweep.specs.Counts.{AreWords}
 pub use Rattle.gh_sweep.specs.Shared.{alloc_at, CycleEnd, generation_of, marks_at}
 pub use Rattle.gh_state.specs.Good.{Good as StateGood}
 pub use Rattle.gh_state.specs.Shared.{Shared as State, Told}
@@ -32,14 +32,14 @@ pub use Rattle.gh_mutator.specs.Processing.{Processor}
 pub use Rattle.gh_mutator.specs.declared.task.Task.{Task}
 pub use Rattle.gh_mutator.specs.declared.new.NewStage.{NewStage}
 pub use Rattle.gh_mutator_writes.specs.Calm.{IsCalm as MarksNothing}
-pub use Rattle.gh_mutator_heap.specs.Facts.{ProcessorFacts, ShapesAreGood}
+pub use Rattle.gh_mutator_heap.specs.Facts.{ProcessorFacts}
 pub use Rattle.gh_coord.specs.Listing.{Coordinating}
 pub use Rattle.gh_coord.specs.Stopping.{acks_of}
 pub use Rattle.gh_coord.specs.SweepingAll.{SweepingAll}
 pub use Rattle.gh_coord.specs.declared.coord.CoordStage.{CoordStage}
 pub use Rattle.gh_lists.specs.Handshake.{Pacing}
 pub use Rattle.gh_lists.specs.Lists.{arena, BeginsCycle, EndsCycle, ever, IsLed, words}
-pub use Rattle.gh_lists.specs.Marking.{actors_after, IsBeginning, IsInLimits, IsStartOf}
+pub use Rattle.gh_lists.specs.Marking.{actors_after, IsBeginning, IsStartOf}
 pub use Rattle.gh_lists.specs.Order.{ended_in}
 pub use Rattle.gh_lists.specs.Processors.{answers_of, FullOnlyThere, given_of, IsPlacedAt}
 pub use Rattle.gh_marked.specs.Drawn.{IsDrawnSo, IsToBegin}

@@ -1,6 +1,7 @@
 -- What lower crates say, as the lemmas of lists of all actors use it.
 use Rattle.std.proofs.Common.{ℕ, List, ◌∷◌}
 use Rattle.gh_assist.specs.Within.{TakingAndScanningAreWithin}
+use Rattle.gh_base.specs.Footprints.{FootprintsHold}
 use Rattle.gh_base.specs.Rows.{RowsAreWritten}
 use Rattle.gh_heap.specs.Laws.{EachFactLasts, EachMoveLeaves, EachMoveReachesNoMore, TheHeapIsApart}
 use Rattle.gh_sweep.specs.AtEnd.{TheBitsAreObjects}
@@ -21,13 +22,17 @@ use Rattle.gh_mutator.specs.ProcessorMarks.{MarksByMoves}
 use Rattle.gh_mutator_heap.specs.Runs.{RunsByItsRights}
 use Rattle.gh_mutator_heap.specs.Sweeping.{ProcessorsRunSweeps}
 use Rattle.gh_mutator_writes.specs.Writing.{StacksAreNoted}
+use Rattle.gh_worker.specs.Places.{WorkersKeepPlaces}
+use Rattle.gh_worker.specs.Routine.{WorkersAreRoutines}
 use Rattle.gh_worker.specs.Sweeping.{WorkersRunSweeps}
 use Rattle.gh_worker.specs.Writing.{CalmWorkersMarkNothing}
+use Rattle.gh_coord.specs.PartsRoutines.{PartsAreRoutines}
 use Rattle.gh_coord.specs.Sweeping.{TheCoordinatorRunsSweeps}
+use Rattle.gh_coord.specs.Within.{TheCoordinatorStaysWithin}
 use Rattle.gh_lists.specs.Counts.{CountsPlainly}
 use Rattle.gh_lists.specs.Waits.{StackGoes, StacksAreNumbered, WorkersRest}
 use Rattle.gh_lists.specs.Wants.{CountsWants}
-use Rattle.gh_marked.specs.LemmaVocabulary.{ChangesOneCell, Coordinating, CountsCycles, Entry, IsFew, IsLed, KeepsIt, Legal, MarkingBegins, Op, ProcessorInHandshake, ProcessorWritesItsOwn, StepKeepsIt, those, words_after, WorkersWriteTheirOwn}
+use Rattle.gh_marked.specs.LemmaVocabulary.{ChangesOneCell, Coordinating, CountsCycles, Entry, IsFew, IsLed, KeepsIt, Layout, Legal, MarkingBegins, Op, ProcessorInHandshake, ProcessorWritesItsOwn, StepKeepsIt, those, words_after, WorkersWriteTheirOwn}
 use Rattle.gh_marked.specs.Drawing.{DrawnKnown}
 use Rattle.gh_lists.specs.Changes.{Change, Rises}
 use Rattle.gh_lists.specs.Handshake.{Setup}
@@ -38,6 +43,7 @@ use Rattle.gh_mutator_heap.specs.Facts.{ShapesAreGood}
 pub record Known : Type 0 where
   pub one : ChangesOneCell
   pub rows : RowsAreWritten
+  pub footprints : FootprintsHold
   pub apart : TheHeapIsApart
   pub keeps : state_laws.EachMoveKeeps
   pub leaves : EachMoveLeaves
@@ -48,6 +54,8 @@ pub record Known : Type 0 where
   pub processors_sweep : ProcessorsRunSweeps
   pub workers_sweep : WorkersRunSweeps
   pub coordinator_sweeps : TheCoordinatorRunsSweeps
+  pub coordinator_within : TheCoordinatorStaysWithin
+  pub coordinator_parts : (l : Layout) → PartsAreRoutines l
   pub walkers : WalkersPass
   pub bits : TheBitsAreObjects
   pub runs : RunsByItsRights
@@ -57,6 +65,8 @@ pub record Known : Type 0 where
   pub notes : StacksAreNoted
   pub points : OnlyPointsChange
   pub places : ProcessorInHandshake
+  pub workers : WorkersAreRoutines
+  pub workers_places : WorkersKeepPlaces
   pub workers_write : WorkersWriteTheirOwn
   pub workers_calm : CalmWorkersMarkNothing
   pub mark_words : MarksStayWords

@@ -1,13 +1,10 @@
 -- How many words workers scan, in every legal list of steps of all actors: each global is counted once in a cycle of marking, and of objects there is a most.
-use Rattle.std.specs.Prelude.{◌≡◌, ℕ, ◌+◌, ◌*◌, ◌≤◌, ◌==◌, if◌then◌else◌, min, List, [], ◌∷◌}
+use Rattle.std.specs.Prelude.{◌≡◌, ℕ, ◌+◌, ◌*◌, ◌≤◌, min, List, [], ◌∷◌}
 use Rattle.gh_base.specs.Cells.{seats_of}
 use Rattle.gh_base.specs.declared.cell.Cell.TheVariants as cell
 use Rattle.gh_coord.specs.Handshake as leading
-use Rattle.gh_scan.specs.Listing as scan
-use Rattle.gh_shade.specs.Listing as shade
-use Rattle.gh_worker.specs.declared.worker.WorkerStage.{WorkerStage}
-use Rattle.gh_worker.specs.declared.worker.WorkerStage.TheVariants as at
-use Rattle.gh_worker.specs.Works.{scan_words, shading_word, words_done}
+use Rattle.gh_worker.specs.Globals.{global_done, global_held, object_done}
+use Rattle.gh_worker.specs.Works.{words_done}
 use Rattle.gh_lists.specs.declared.handshake.Actor.TheVariants.{Marks}
 use Rattle.gh_lists.specs.Counts.{stored_in}
 use Rattle.gh_lists.specs.Handshake.{actors, Setup}
@@ -16,35 +13,20 @@ use Rattle.gh_lists.specs.Wants.{total}
 
 -- the words that are done with a step of this actor: a worker's
 abbrev pub done_by : Actor → (found : ℕ) → ℕ
-done_by (Marks w) found = words_done w.stage found
+done_by (Marks w) found = words_done w.layout w.stage found
 done_by _ found = 0
 
--- Of these, one where the step is done with a global: it found none there, or the shading of what it names ends.
-abbrev pub global_done : WorkerStage → (found : ℕ) → ℕ
-global_done (at.LoadGlobal i) found = if found == 0 then 1 else 0
-global_done (at.Shading sh) found = shading_word (shade.gives sh found)
-global_done _ found = 0
-
+-- of these, one where the step is done with a global
 abbrev pub global_by : Actor → (found : ℕ) → ℕ
 global_by (Marks w) found = global_done w.stage found
 global_by _ found = 0
 
 -- and the words of the object whose scan ends with it
-abbrev pub object_done : WorkerStage → (found : ℕ) → ℕ
-object_done (at.Scanning s) found = scan_words (scan.gives s found)
-object_done _ found = 0
-
 abbrev pub objects_by : Actor → (found : ℕ) → ℕ
-objects_by (Marks w) found = object_done w.stage found
+objects_by (Marks w) found = object_done w.layout w.stage found
 objects_by _ found = 0
 
 -- a worker has a global in hand from where it has moved the cursor past it until it is done with it: 1, or 0
-abbrev pub global_held : WorkerStage → ℕ
-global_held (at.LoadGlobal i) = 1
-global_held (at.Shading sh) = 1
-global_held (at.FindRoom sh r) = 1
-global_held _ = 0
-
 abbrev pub global_in_hand : Actor → ℕ
 global_in_hand (Marks w) = global_held w.stage
 global_in_hand _ = 0

@@ -17,7 +17,9 @@ use gh_marks::laws::{
     facts_last, hands_follow, marking_begins, marking_ends_clean, steps_go_by_moves,
 };
 use gh_mutator::laws::a_processor_marks_by_moves;
-use gh_worker::laws::works_by_moves;
+use gh_worker::laws::{
+    workers_are_routines, workers_count_globals, workers_keep_places, works_by_moves,
+};
 
 /// While a cycle is marked there is a state of marking of this list, in which each actor has in hand what its stage says; workers
 /// have scanned no more than the cycles before had, and so much of this one. Where the coordinator has checked its end nothing is
@@ -28,7 +30,10 @@ pub fn every_cycle_is_marked()
     a_step_changes_one_cell();
     packed_words_are_read_back();
     a_processor_marks_by_moves();
+    a_processor_writes_its_own();
     works_by_moves();
+    workers_are_routines();
+    workers_keep_places();
     marking_begins();
     steps_go_by_moves();
     hands_follow();
@@ -44,6 +49,8 @@ pub fn every_global_is_counted()
     ensures { EveryGlobalIsCounted }
 {
     a_processor_writes_its_own();
+    workers_are_routines();
+    workers_count_globals();
     every_list_keeps_the_handshake();
     every_list_rests_workers();
     every_list_counts_plainly();

@@ -1,9 +1,14 @@
 //! Writes of pointers behind the write barrier.
 
+ghost use Rattle.std.specs.Prelude.{◌≡◌, true};
+ghost use Rattle.gh_base.specs.Cells.{InRange};
+ghost use Rattle.gh_barrier.specs.Listing.{cell_at, is_busy};
+ghost use Rattle.gh_barrier.specs.Sound.{FitsPointer, SoundWriting};
+
 use crate::runs::{FIELD_ROW, GLOBAL_ROW, MARK_ROW, ONE, PAGE_ROW, words};
 use gh_barrier::{PointerCell, WritePointer};
-use gh_base::trace::run_alone;
-use gh_base::{Held, Layout};
+use gh_base::trace::run_routine_alone;
+use gh_base::{Held, Layout, Routine};
 use std::test::Fail;
 
 /// What field 70 holds, the object at heap word 3077, and what is written, that at heap word 5184: the words of
@@ -52,6 +57,17 @@ fn set(field: u64, old: u64, new: u64) -> [(usize, u64); 6] {
         (FIELD_ROW + 70, field),
         (GLOBAL_ROW, OLD),
     ]
+}
+
+/// A write of this pointer to this cell of the heap, with that buffer.
+fn begin(layout: &Layout, at: PointerCell, pointer: Option<u64>) -> WritePointer
+    requires cell { InRange layout.now (cell_at at) }
+    requires pointer { FitsPointer layout.now pointer }
+    ensures sound { SoundWriting layout.now result }
+    ensures busy { is_busy result.stage ≡ true }
+{
+    let _ = layout;
+    WritePointer::new(at, pointer, Some(OWN))
 }
 
 #[test]
@@ -199,8 +215,8 @@ fn old_and_new_are_shaded(rt: HostRuntime) -> Result<(), Fail> {
         ),
     ] {
         let mut words = words(rt.alloc(), &set)?;
-        let mut write = WritePointer::new(&layout, at, pointer, Some(OWN));
-        let steps = run_alone(rt.alloc(), &mut write, &layout, &mut words, 9)?;
+        let mut write = begin(&layout, at, pointer);
+        let steps = run_routine_alone(rt.alloc(), &mut write, &layout, &mut words, 9)?;
         let told = (steps.out, steps.are(lines), write.held());
         assert_eq!(rt; told, (Some(()), true, Some(Held { index: 1, count })));
     }
@@ -210,16 +226,15 @@ fn old_and_new_are_shaded(rt: HostRuntime) -> Result<(), Fail> {
 #[test]
 fn another_store_comes_between(rt: HostRuntime) -> Result<(), Fail> {
     let layout = Layout::new(16, 1, 1, 1, 1)?;
-    let mut list = words(rt.alloc(), &set(OLD, OLD_WHITE, NEW_WHITE))?;
-    let mut write = WritePointer::new(&layout, PointerCell::Field(70), None, Some(OWN));
-    let steps = run_alone(rt.alloc(), &mut write, &layout, &mut list, 4)?;
-    let told = (steps.out, write.is_point());
-    assert_eq!(rt; told, (None, true));
+    let mut write = begin(&layout, PointerCell::Field(70), None);
+    assert_eq!(rt; write.take(&layout, OLD), None);
+    assert_eq!(rt; write.take(&layout, ONE), None);
+    assert_eq!(rt; write.take(&layout, OLD_WHITE), None);
+    assert_eq!(rt; write.take(&layout, 0), None);
+    assert!(rt; write.is_point());
     // another goroutine has stored what its own barrier has shaded; it is overwritten, and is not shaded again
-    if list.len() == 60_000 {
-        list[FIELD_ROW + 70] = NEW;
-    }
-    let steps = run_alone(rt.alloc(), &mut write, &layout, &mut list, 9)?;
+    let mut list = words(rt.alloc(), &set(NEW, OLD_MARKED, NEW_MARKED))?;
+    let steps = run_routine_alone(rt.alloc(), &mut write, &layout, &mut list, 9)?;
     let told = (
         steps.out,
         steps.are(&["store field 70 0: 5185"]),

@@ -1,7 +1,7 @@
 //! Work buffers: giving one back, looking for one with room, taking an entry.
 
-use crate::runs::{BUFFER, BUFFER_ROW, ENTRY, ENTRY_ROW, tell, words};
-use gh_base::trace::run_alone;
+use crate::runs::{BUFFER, BUFFER_ROW, ENTRY, ENTRY_ROW, tell_routine, words};
+use gh_base::trace::run_routine_alone;
 use gh_base::{Held, Layout, Req};
 use gh_wbuf::{FindRoom, GiveBuffer, TakeEntry};
 use std::test::Fail;
@@ -42,24 +42,27 @@ fn room_is_found(rt: HostRuntime) -> Result<(), Fail> {
         (Some(full), own.as_slice(), given, empty),
     ] {
         let mut words = words(rt.alloc(), set)?;
-        let mut room = FindRoom::new(&layout, 1, held);
-        let steps = run_alone(rt.alloc(), &mut room, &layout, &mut words, 99)?;
+        let mut room = FindRoom::new(1, held);
+        let steps = run_routine_alone(rt.alloc(), &mut room, &layout, &mut words, 99)?;
         let told = (steps.out, steps.are(&lines), room.held());
         assert_eq!(rt; told, (Some(taken), true, Some(taken)));
     }
     // a swap that finds another word: the next buffer is tried
-    let mut room = FindRoom::new(&layout, 1, None);
+    let mut room = FindRoom::new(1, None);
     let steps = [
         (Req::Load(BUFFER), 7),
         (Req::Swap(BUFFER, 7, 519), 8),
         (Req::Load(BUFFER + 1), 7),
         (Req::Swap(BUFFER + 1, 7, 519), 7),
     ];
-    assert_eq!(rt; tell(&mut room, &steps), Some(Held { index: 1, count: 7 }));
+    assert_eq!(rt;
+        tell_routine(&mut room, &layout, &steps),
+        Some(Held { index: 1, count: 7 })
+    );
     // all are held: it begins again behind the last
     let mut words = vec![in rt.alloc(); 256u64; 60_000]?;
-    let mut room = FindRoom::new(&layout, 1, None);
-    let steps = run_alone(rt.alloc(), &mut room, &layout, &mut words, 71)?;
+    let mut room = FindRoom::new(1, None);
+    let steps = run_routine_alone(rt.alloc(), &mut room, &layout, &mut words, 71)?;
     assert_eq!(rt; steps.out, None);
     assert_eq!(rt; steps.lines.len(), 71);
     assert_eq!(rt; steps.lines[68].as_str(), "load buffer 68: 256");
@@ -89,8 +92,8 @@ fn entries_are_taken(rt: HostRuntime) -> Result<(), Fail> {
     let taken = ["load entry 509: 1025"];
     for (held, lines) in [(empty, tried.as_slice()), (full, taken.as_slice())] {
         let mut found = words(rt.alloc(), &set)?;
-        let mut entry = TakeEntry::new(&layout, 1, Some(held));
-        let steps = run_alone(rt.alloc(), &mut entry, &layout, &mut found, 99)?;
+        let mut entry = TakeEntry::new(1, Some(held));
+        let steps = run_routine_alone(rt.alloc(), &mut entry, &layout, &mut found, 99)?;
         let told = (steps.out, steps.are(lines), entry.held());
         assert_eq!(rt;
             told,
@@ -99,8 +102,8 @@ fn entries_are_taken(rt: HostRuntime) -> Result<(), Fail> {
     }
     // none has one: each is tried once
     let mut found = words(rt.alloc(), &[])?;
-    let mut entry = TakeEntry::new(&layout, 1, Some(empty));
-    let steps = run_alone(rt.alloc(), &mut entry, &layout, &mut found, 99)?;
+    let mut entry = TakeEntry::new(1, Some(empty));
+    let steps = run_routine_alone(rt.alloc(), &mut entry, &layout, &mut found, 99)?;
     let told = (steps.out, steps.lines.len(), entry.held());
     assert_eq!(rt; told, (Some(None), 69, Some(empty)));
     // what is found is read as a reference
@@ -111,14 +114,18 @@ fn entries_are_taken(rt: HostRuntime) -> Result<(), Fail> {
         (16_385, 1),
         (u64::MAX, 16_383),
     ] {
-        let mut entry = TakeEntry::new(&layout, 0, Some(full));
+        let mut entry = TakeEntry::new(0, Some(full));
         let steps = [(Req::Load(ENTRY + 509), found)];
-        assert_eq!(rt; tell(&mut entry, &steps), Some(Some(reference)), "{found}");
+        assert_eq!(rt;
+            tell_routine(&mut entry, &layout, &steps),
+            Some(Some(reference)),
+            "{found}"
+        );
     }
     // a held buffer is given back with its count
     let mut held = words(rt.alloc(), &[(BUFFER_ROW + 2, 512)])?;
-    let mut give = GiveBuffer::new(&layout, full);
-    let steps = run_alone(rt.alloc(), &mut give, &layout, &mut held, 9)?;
+    let mut give = GiveBuffer::new(full);
+    let steps = run_routine_alone(rt.alloc(), &mut give, &layout, &mut held, 9)?;
     let told = (
         steps.out,
         steps.are(&["store buffer 2 4: 512"]),

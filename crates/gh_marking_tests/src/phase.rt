@@ -1,6 +1,6 @@
 //! Going on after a stop.
 
-use crate::runs::{ACK, tell};
+use crate::runs::{ACK, tell_routine};
 use gh_base::{Layout, Req};
 use gh_phase::{Resume, Resumed, RunPhase, View};
 use std::test::Fail;
@@ -14,7 +14,7 @@ fn each_stop_is_acknowledged(rt: HostRuntime) -> Result<(), Fail> {
         (21, RunPhase::Mark),
         (23, RunPhase::Finished),
     ] {
-        let mut resume = Resume::new(&layout, 1, 5, View::first());
+        let mut resume = Resume::new(1, 5, View::first());
         let steps = [
             (Req::Store(ACK + 1, 5), 4),
             (Req::Load(1), 22),
@@ -30,7 +30,7 @@ fn each_stop_is_acknowledged(rt: HostRuntime) -> Result<(), Fail> {
             },
             another_cycle: true,
         };
-        assert_eq!(rt; tell(&mut resume, &steps), Some(resumed));
+        assert_eq!(rt; tell_routine(&mut resume, &layout, &steps), Some(resumed));
     }
     // another stop follows, and no cycle has begun
     let view = View {
@@ -38,7 +38,7 @@ fn each_stop_is_acknowledged(rt: HostRuntime) -> Result<(), Fail> {
         generation: 6,
         begun: 4,
     };
-    let mut resume = Resume::new(&layout, 0, 5, view);
+    let mut resume = Resume::new(0, 5, view);
     let steps = [
         (Req::Store(ACK, 5), 4),
         (Req::Load(1), 22),
@@ -58,6 +58,6 @@ fn each_stop_is_acknowledged(rt: HostRuntime) -> Result<(), Fail> {
         },
         another_cycle: false,
     };
-    assert_eq!(rt; tell(&mut resume, &steps), Some(resumed));
+    assert_eq!(rt; tell_routine(&mut resume, &layout, &steps), Some(resumed));
     Ok(())
 }

@@ -1,8 +1,9 @@
 //! Runs of a routine over words that are drawn up by hand.
 
 ghost use Rattle.std.specs.Prelude.{◌≡◌, true};
+ghost use Rattle.gh_base.specs.Machines.{IsBusy};
 
-use gh_base::{Machine, Req};
+use gh_base::{Layout, Machine, Req, Routine};
 use std::alloc::{AllocError, Global};
 
 /// The first words of the rows of a layout of 16 pages, one global and three seats.
@@ -59,6 +60,26 @@ pub(crate) fn tell<M: Machine>(machine: &mut M, steps: &[(Req, u64)]) -> Option<
             return None;
         }
         if let Some(out) = machine.take(*found) {
+            return Some(out);
+        }
+    }
+    None
+}
+
+/// The same of a routine in a heap of this layout.
+pub(crate) fn tell_routine<R: Routine>(
+    routine: &mut R,
+    layout: &Layout,
+    steps: &[(Req, u64)],
+) -> Option<R::Out>
+    requires sound { (R.listing layout.now).sound routine.old }
+    requires busy { IsBusy (R.listing layout.now) routine.old }
+{
+    for (request, found) in steps {
+        if routine.next(layout) != *request {
+            return None;
+        }
+        if let Some(out) = routine.take(layout, *found) {
             return Some(out);
         }
     }

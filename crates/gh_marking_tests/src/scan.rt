@@ -1,7 +1,7 @@
 //! The scan of an object.
 
 use crate::runs::{BITMAP_ROW, BUFFER_ROW, FIELD_ROW, LARGE, MARK_ROW, ONE, PAGE_ROW, TWO, words};
-use gh_base::trace::run_alone;
+use gh_base::trace::run_routine_alone;
 use gh_base::{Held, Layout};
 use gh_scan::Scan;
 use std::test::Fail;
@@ -21,8 +21,8 @@ fn a_reference_is_shaded(rt: HostRuntime) -> Result<(), Fail> {
         (PAGE_ROW + 1, ONE),
     ];
     let mut words = words(rt.alloc(), &set)?;
-    let mut scan = Scan::new(&layout, 1, 3135, Some(own));
-    let steps = run_alone(rt.alloc(), &mut scan, &layout, &mut words, 99)?;
+    let mut scan = Scan::new(1, 3135, Some(own));
+    let steps = run_routine_alone(rt.alloc(), &mut scan, &layout, &mut words, 99)?;
     assert_eq!(rt; steps.out, Some(2));
     let lines = [
         "load page 3: 2147484165",
@@ -50,8 +50,8 @@ fn the_bitmap_is_loaded_anew(rt: HostRuntime) -> Result<(), Fail> {
         (MARK_ROW + 16, 1),
     ];
     let mut few = words(rt.alloc(), &set)?;
-    let mut scan = Scan::new(&layout, 1, 64, None);
-    let steps = run_alone(rt.alloc(), &mut scan, &layout, &mut few, 99)?;
+    let mut scan = Scan::new(1, 64, None);
+    let steps = run_routine_alone(rt.alloc(), &mut scan, &layout, &mut few, 99)?;
     assert_eq!(rt; steps.out, Some(2));
     let lines = [
         "load page 0: 2147484165",
@@ -64,8 +64,8 @@ fn the_bitmap_is_loaded_anew(rt: HostRuntime) -> Result<(), Fail> {
     assert!(rt; steps.are(&lines));
     // a large object of one page has 16 bitmap words
     let mut many = words(rt.alloc(), &[(PAGE_ROW + 2, LARGE)])?;
-    let mut large = Scan::new(&layout, 1, 2049, None);
-    let steps = run_alone(rt.alloc(), &mut large, &layout, &mut many, 99)?;
+    let mut large = Scan::new(1, 2049, None);
+    let steps = run_routine_alone(rt.alloc(), &mut large, &layout, &mut many, 99)?;
     let told = (steps.out, steps.lines.len());
     assert_eq!(rt; told, (Some(1024), 17));
     assert_eq!(rt; steps.lines[16].as_str(), "load bitmap 47: 0");
@@ -88,8 +88,8 @@ fn room_is_found_for_shading(rt: HostRuntime) -> Result<(), Fail> {
         (BUFFER_ROW, 512),
     ];
     let mut words = words(rt.alloc(), &set)?;
-    let mut scan = Scan::new(&layout, 1, 8, Some(full));
-    let steps = run_alone(rt.alloc(), &mut scan, &layout, &mut words, 99)?;
+    let mut scan = Scan::new(1, 8, Some(full));
+    let steps = run_routine_alone(rt.alloc(), &mut scan, &layout, &mut words, 99)?;
     assert_eq!(rt; steps.out, Some(1));
     let lines = [
         "load page 0: 2147484161",

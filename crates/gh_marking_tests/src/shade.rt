@@ -1,8 +1,8 @@
 //! Shading an object.
 
 use crate::runs::{MARK_ROW, ONE, PAGE_ROW, words};
-use gh_base::trace::run_alone;
-use gh_base::{Held, Layout, Machine, Value};
+use gh_base::trace::run_routine_alone;
+use gh_base::{Held, Layout, Routine, Value};
 use gh_shade::{Shade, Shaded};
 use std::test::Fail;
 
@@ -25,9 +25,9 @@ fn an_object_is_shaded(rt: HostRuntime) -> Result<(), Fail> {
         (ONE, 36, was_set.as_slice(), own),
     ] {
         let mut words = words(rt.alloc(), &[(PAGE_ROW + 3, page), (MARK_ROW + 48, mark)])?;
-        let mut shade = Shade::new(&layout, 3078, Some(own));
-        let steps = run_alone(rt.alloc(), &mut shade, &layout, &mut words, 9)?;
-        let told = (steps.out, steps.are(lines), shade.held());
+        let mut shade = Shade::new(3078, Some(own));
+        let steps = run_routine_alone(rt.alloc(), &mut shade, &layout, &mut words, 9)?;
+        let told = (steps.out, steps.are(lines), shade.held);
         assert_eq!(rt; told, (Some(Shaded::Done), true, Some(held)));
     }
     Ok(())
@@ -41,25 +41,25 @@ fn room_is_wished_for(rt: HostRuntime) -> Result<(), Fail> {
         count: 253,
     };
     for held in [None, Some(full)] {
-        let mut shade = Shade::new(&layout, 3078, held);
-        assert_eq!(rt; shade.take(ONE), None);
-        assert_eq!(rt; shade.take(0), Some(Shaded::WantsRoom));
-        assert_eq!(rt; shade.held(), held);
+        let mut shade = Shade::new(3078, held);
+        assert_eq!(rt; shade.take(&layout, ONE), None);
+        assert_eq!(rt; shade.take(&layout, 0), Some(Shaded::WantsRoom));
+        assert_eq!(rt; shade.held, held);
         shade.told_room(Held { index: 0, count: 9 });
         let mut words = words(rt.alloc(), &[])?;
-        let steps = run_alone(rt.alloc(), &mut shade, &layout, &mut words, 9)?;
+        let steps = run_routine_alone(rt.alloc(), &mut shade, &layout, &mut words, 9)?;
         let told = (steps.out, steps.are(&["store entry 9 3078: 0"]));
         assert_eq!(rt; told, (Some(Shaded::Done), true));
         let more = Held {
             index: 0,
             count: 10,
         };
-        assert_eq!(rt; shade.held(), Some(more));
+        assert_eq!(rt; shade.held, Some(more));
     }
     let made = [
-        Shade::of(&layout, Value::Nil, None).is_some(),
-        Shade::of(&layout, Value::Int(5), None).is_some(),
-        Shade::of(&layout, Value::Ref(5), None).is_some(),
+        Shade::of(Value::Nil, None).is_some(),
+        Shade::of(Value::Int(5), None).is_some(),
+        Shade::of(Value::Ref(5), None).is_some(),
     ];
     assert_eq!(rt; made, [false, false, true]);
     Ok(())

@@ -1,7 +1,7 @@
 //! The scan of a stack.
 
 use crate::runs::words;
-use gh_base::trace::run_alone;
+use gh_base::trace::run_routine_alone;
 use gh_base::{Layout, Value};
 use gh_stack::{REGISTER_COUNT, ScanStack};
 use std::test::Fail;
@@ -18,7 +18,7 @@ fn a_stack_is_scanned(rt: HostRuntime) -> Result<(), Fail> {
     some[15] = Value::Ref(1);
     // the registers, and the references that are wished to be shaded
     for (registers, wishes) in [(none, [].as_slice()), (some, [9, 5, 9, 1].as_slice())] {
-        let mut scan = ScanStack::new(&layout, 2, 6, registers);
+        let mut scan = ScanStack::new(2, 6, registers);
         for wish in wishes {
             let told = (scan.wish(), scan.waits());
             assert_eq!(rt; told, (Some(*wish), true));
@@ -27,7 +27,7 @@ fn a_stack_is_scanned(rt: HostRuntime) -> Result<(), Fail> {
         let told = (scan.wish(), scan.stores());
         assert_eq!(rt; told, (None, true));
         let mut words = words(rt.alloc(), &[])?;
-        let steps = run_alone(rt.alloc(), &mut scan, &layout, &mut words, 9)?;
+        let steps = run_routine_alone(rt.alloc(), &mut scan, &layout, &mut words, 9)?;
         let told = (
             steps.out,
             steps.are(&["store scanned 2 6: 0"]),

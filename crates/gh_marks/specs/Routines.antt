@@ -1,6 +1,7 @@
 -- What is said of each routine of marking: its steps are moves that its seat may make, what is known at its stages follows from stage to stage, and it lasts whatever others do.
 use Rattle.std.specs.Prelude.{ℕ}
-use Rattle.gh_base.specs.Routines.{Listing}
+use Rattle.gh_base.specs.declared.layout.Layout.{Layout}
+use Rattle.gh_base.specs.Machines.{Listing}
 use Rattle.gh_base.specs.Steps.{cell_of}
 use Rattle.gh_marks.specs.Colours.{Cycle, Shared}
 use Rattle.gh_marks.specs.Good.{Good}
@@ -12,11 +13,11 @@ use Rattle.gh_marks.specs.Seats.{InHand}
 abbrev pub FactsOf : (M : Type 0) → Type 1
 FactsOf M = Cycle → (a : ℕ) → Shared → (rest : InHand) → M → Type 0
 
-module _ {M Out : Type 0} (r : Listing M Out) (Facts : FactsOf M) where
+module _ {M Out : Type 0} (r : Layout → Listing M Out) (Facts : FactsOf M) where
   -- A step of its own is made of moves that its seat may make. It leaves what the caller knows, and the facts of the next stage hold then.
   abbrev pub OwnStep : Type 0
   OwnStep = (z : Cycle) (a : ℕ) (s : Shared) (rest : InHand) (m : M) → Good z s → KnowsObjects z s → Facts z a s rest m →
-      Steps z a s (r.asks m) (λ t. Keeps z a s t × Facts z a t rest (r.goes m (s.words (cell_of (r.asks m)))))
+      Steps z a s ((r z.arena.layout).asks m) (λ t. Keeps z a s t × Facts z a t rest ((r z.arena.layout).goes m (s.words (cell_of ((r z.arena.layout).asks m)))))
 
   pub record KeepsItsFacts : Type 0 where
     pub own_step : OwnStep

@@ -22,6 +22,7 @@ pub record ClassLaws : Type 0 where
   pub fit : (c : ℕ) → c < 25 → slots_of c * slot_of c ≤ 8192 * pages_of c
   pub whole_words : (c : ℕ) → c < 25 → slot_of c % 8 ≡ 0
   pub some_slot : (c : ℕ) → c < 25 → 1 ≤ slots_of c
+  pub few_slots : (c : ℕ) → c < 25 → slots_of c ≤ 1024
   pub number : (bytes : ℕ) → bytes ≤ 32768 → IsClassOf bytes (class_number bytes)
   pub small_slot : (words : ℕ) → 8 * words ≤ 32768 → slot_words words ≡ slot_of (class_number (8 * words)) / 8
   pub large_slot : (words : ℕ) → 32768 < 8 * words → slot_words words ≡ 1024 * large_pages words

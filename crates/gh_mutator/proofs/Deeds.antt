@@ -50,8 +50,8 @@ module _ (shapes : List Shape) (m : Processor) where
   ActsAt t found = ActsOnce (op_at t) (op_at (takes_at shapes m t found).task) (acts_at m t found)
 
   search_acts : (w : Wanted) (waited : Bool) (s : Seeking) (found : ℕ) → ActsAt (searches w waited s) found
-  search_acts w waited s found = go waited (search.gives s found) where
-    go : (b : Bool) (out : Option Found) → ActsOnce (Some (new_op w)) (op_at (after_search shapes (cache_span m w.sought (search.goes s found).find.cached) w b (search.goes s found) out).task) (acting (refuses_behind_wait b out) (new_op w) true)
+  search_acts w waited s found = go waited (search.gives m.poll.layout s found) where
+    go : (b : Bool) (out : Option Found) → ActsOnce (Some (new_op w)) (op_at (after_search shapes (cache_span m w.sought (search.goes m.poll.layout s found).find.cached) w b (search.goes m.poll.layout s found) out).task) (acting (refuses_behind_wait b out) (new_op w) true)
     go b out = grind arith
 
   -- the wait for a cycle is no point
@@ -73,7 +73,7 @@ module _ (shapes : List Shape) (m : Processor) where
   new_acts w (Wait x) found = wait_acts w (wait.goes (wait.waiting x m.poll) found) (wait.gives (wait.waiting x m.poll) found)
   new_acts w (Place p) found = place_acts w p found p.stage
   new_acts w (Want n) found = refl
-  new_acts w (Assist n x) found = assist_acts w n (assist.goes x found) (assist.gives x found)
+  new_acts w (Assist n x) found = assist_acts w n (assist.goes m.poll.layout x found) (assist.gives m.poll.layout x found)
 
   -- what ends acts
   gc_acts : (g : ℕ) (x : Waiting) (out : Option (Unit {0})) → ActsOnce (Some (op.Gc g)) (op_at (after_gc m g x out).task) (acting (is_some out) (op.Gc g) false)

@@ -1,7 +1,9 @@
 -- Own steps of the load and the store of a global.
-use Rattle.std.proofs.Common.{◌≡◌, ℕ, ◌+◌, ◌≤◌, Bool, true, false, cond, Option, arith}
+use Rattle.std.proofs.Common.{◌≡◌, ℕ, ◌+◌, ◌^◌, ◌<◌, ◌≤◌, Bool, true, false, cond, Option, arith}
 use Rattle.gh_base.specs.declared.held.Held.{Held}
 use Rattle.gh_base.specs.declared.layout.Layout.{Layout}
+use Rattle.gh_base.specs.Holding.{IsHeld}
+use Rattle.gh_base.specs.Machines.{IsRoutine}
 use Rattle.gh_base.specs.declared.value.Value.{Value}
 use Rattle.gh_barrier.specs.Ending.{write_left, WritingEnds}
 use Rattle.gh_barrier.specs.Listing.{Writing as PointerWrite}
@@ -17,6 +19,8 @@ use Rattle.gh_mutator.specs.Global.{asks, begins_store, held_behind, step}
 use Rattle.gh_poll.specs.Local.{is_mark}
 use Rattle.gh_poll.specs.Poll.{Polling}
 use Rattle.gh_mutator.specs.Sound.{GlobalRoom, SoundGlobal}
+use Rattle.gh_poll.specs.Registers.{IsNear, IsRegister}
+use Rattle.gh_mutator.proofs.Opens.{write_opens}
 use Rattle.gh_mutator.proofs.Steps.{FaultsFrom, GoesTo, StepSound}
 
 -- ---- its numbers stay in their ranges
@@ -24,9 +28,15 @@ use Rattle.gh_mutator.proofs.Steps.{FaultsFrom, GoesTo, StepSound}
 pub step_sound : (l : Layout) (held : Value) (x : Global) (found : ℕ) → SoundGlobal l.globals x → StepSound (SoundGlobal l.globals) l.pages (step l held x found)
 step_sound l held x found h = grind arith
 
--- and its write goes on in this heap
-pub step_room : (p : Polling) (held : Value) (x : Global) (found : ℕ) → GlobalRoom p x.stage → GoesTo (λ (y : Global). GlobalRoom (with_held p (held_behind p.local.held x.stage found)) y.stage) (step p.layout held x found).then
-step_room p held x found h = grind arith
+-- and its write is sound and goes on
+pub step_room : ((l : Layout) → IsRoutine l (write.listing l)) → (p : Polling) (held : Value) (x : Global) (found : ℕ) → found < 2 ^ 64 → GlobalRoom p x.stage → GoesTo (λ (y : Global). GlobalRoom (with_held p (held_behind p.layout p.local.held x.stage found)) y.stage) (step p.layout held x found).then
+step_room k p held x found few h = grind arith
+
+pub begins_sound : (own : Local) (globals g k v : ℕ) (held : Value) → IsRegister g v → k < globals → SoundGlobal globals (begins_store own g k v held)
+begins_sound own globals g k v held register there = record { register = grind arith; global = grind arith }
+
+pub begins_room : (p : Polling) (g k v : ℕ) (held : Value) → k < p.layout.globals → IsNear p.layout.pages held → IsHeld p.layout p.local.held → GlobalRoom p (begins_store p.local g k v held).stage
+begins_room p g k v held there near fits = grind (arith, write_opens)
 
 -- ---- it ends after a few steps
 
@@ -50,8 +60,8 @@ Left most then = GoesTo (λ (y : Global). (writes_on y.stage ≡ true) × (left 
 pub nears : WritingEnds → (l : Layout) (held : Value) (x : Global) (found : ℕ) → writes_on x.stage ≡ true → (1 ≤ left x) × Left (left x) (step l held x found).then
 nears ends_so l held x found on = grind arith
 
-pub begins_store_left : (l : Layout) (own : Local) (g k v : ℕ) (held : Value) → (writes_on (begins_store l own g k v held).stage ≡ true) × (left (begins_store l own g k v held) ≤ cond (is_mark own.view.phase) 8 1)
-begins_store_left l own g k v held = grind arith
+pub begins_store_left : (own : Local) (g k v : ℕ) (held : Value) → (writes_on (begins_store own g k v held).stage ≡ true) × (left (begins_store own g k v held) ≤ cond (is_mark own.view.phase) 8 1)
+begins_store_left own g k v held = grind arith
 
 -- ---- a fault has loaded words alone
 
@@ -66,8 +76,8 @@ pub faults : (l : Layout) (held : Value) (x : Global) (found : ℕ) → FaultsFr
 faults l held x found = grind arith
 
 -- what is held stays
-pub holds_still : (held : Option Held) (s : GlobalStage) (found : ℕ) → may_fault_at s ≡ true → held_behind held s found ≡ held
-holds_still held s found e = grind arith
+pub holds_still : (l : Layout) (held : Option Held) (s : GlobalStage) (found : ℕ) → may_fault_at s ≡ true → held_behind l held s found ≡ held
+holds_still l held s found e = grind arith
 
 pub loads : (l : Layout) (held : Value) (x : Global) → may_fault x ≡ true → is_load (asks l held x) ≡ true
 loads l held x e = grind arith

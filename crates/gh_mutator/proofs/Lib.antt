@@ -8,6 +8,7 @@ pub mod Idle
 pub mod LoadSteps
 pub mod Marking
 pub mod NewSteps
+pub mod Opens
 pub mod Owing
 pub mod PollRoom
 pub mod Shaking

@@ -119,7 +119,7 @@ module _ (shapes : List Shape) (p : Polling) (made : List ℕ) (found : ℕ) whe
   behind e d = subst (λ (x : Due). Drops (due_at p) x) (sym e) d
 
   new_drops : (w : Wanted) (q : NewStage) → (IsAssisting (with_stage w q) → ⊥) → DropsAt (with_stage w q)
-  new_drops w (Search waited y) rests = same (search_owes shapes (running p made (with_stage w (Search waited y))) w waited (search.goes y found).find.cached (search.goes y found) (search.gives y found))
+  new_drops w (Search waited y) rests = same (search_owes shapes (running p made (with_stage w (Search waited y))) w waited (search.goes p.layout y found).find.cached (search.goes p.layout y found) (search.gives p.layout y found))
   new_drops w (Wait x) rests = behind (wait_then (running p made (with_stage w (Wait x))) w (wait.goes (wait.waiting x p) found) (wait.gives (wait.waiting x p) found)) (wait_drops (wait.waiting x p) found)
   new_drops w (Place y) rests = same (place_owes (running p made (with_stage w (Place y))) w (place.makes_its_object y) y.at (place.goes y found))
   new_drops w (Want n) rests = same refl
@@ -130,9 +130,9 @@ module _ (shapes : List Shape) (p : Polling) (made : List ℕ) (found : ℕ) whe
   drops_at task.Left busy rests = absurd (cc)
   drops_at (task.Load x) busy rests = same (let step = load.step p.layout x found in into_owes task.Load (running p made (task.Load x)) x.g x.d step.sets step.then (λ q y. refl))
   drops_at (task.Store x) busy rests = same
-      (let step = store.step p.layout p.local (register_of (running p made (task.Store x)) x.g x.v) x found in into_owes task.Store (keeping (running p made (task.Store x)) (store.held_behind p.local.held x.stage found)) x.g x.v step.sets step.then (λ q y. refl))
+      (let step = store.step p.layout p.local (register_of (running p made (task.Store x)) x.g x.v) x found in into_owes task.Store (keeping (running p made (task.Store x)) (store.held_behind p.layout p.local.held x.stage found)) x.g x.v step.sets step.then (λ q y. refl))
   drops_at (task.Global x) busy rests = same
-      (let step = global.step p.layout (register_of (running p made (task.Global x)) x.g x.r) x found in into_owes task.Global (keeping (running p made (task.Global x)) (global.held_behind p.local.held x.stage found)) x.g x.r step.sets step.then (λ q y. refl))
+      (let step = global.step p.layout (register_of (running p made (task.Global x)) x.g x.r) x found in into_owes task.Global (keeping (running p made (task.Global x)) (global.held_behind p.layout p.local.held x.stage found)) x.g x.r step.sets step.then (λ q y. refl))
   drops_at (task.Register x) busy rests = same (let step = register.step (register_of (running p made (task.Register x)) x.g (register.read_of x)) x in into_owes task.Register (running p made (task.Register x)) x.g x.d step.sets step.then (λ q y. refl))
   drops_at (task.New x) busy rests = new_drops x.wanted x.stage rests
   drops_at (task.Gc g x) busy rests = behind (gc_owes (running p made (task.Gc g x)) g (wait.goes (wait.waiting x p) found) (wait.gives (wait.waiting x p) found)) (wait_drops (wait.waiting x p) found)
@@ -141,7 +141,7 @@ module _ (shapes : List Shape) (p : Polling) (made : List ℕ) (found : ℕ) whe
   drops_at (task.Leave x) busy rests = same (leave_owes (running p made (task.Leave x)) (leave.goes x found) (leave.gives x found))
 
   -- in an assist it is the assist's own account, and marking is on
-  assists_at : (w : Wanted) (n : Name) (x : Assisting) → due_of (takes_at shapes (running p made (assists w n x)) (assists w n x) found) ≡ (p.local.view, (assist.goes x found).owed)
+  assists_at : (w : Wanted) (n : Name) (x : Assisting) → due_of (takes_at shapes (running p made (assists w n x)) (assists w n x) found) ≡ (p.local.view, (assist.goes p.layout x found).owed)
   assists_at w n x = grind arith
 
 -- Who does not know of marking owes nothing.
@@ -184,7 +184,7 @@ begun shapes l m o rests = grind arith
 other_cycle_step : (p : Polling) (r : resume.Resuming) (found : ℕ) (out : Resumed) → p.stage ≡ poll_stage.Resuming r → resume.gives r found ≡ Some out → out.another_cycle ≡ true → (poll.goes p found).local.owed ≡ 0
 other_cycle_step p r found out is gives another = grind arith
 
-assists_so : (shapes : List Shape) (m : Processor) (found : ℕ) (w : Wanted) (n : Name) (x : Assisting) (t : Task) → t ≡ assists w n x → owed_of (takes_at shapes m t found) ≡ (assist.goes x found).owed
+assists_so : (shapes : List Shape) (m : Processor) (found : ℕ) (w : Wanted) (n : Name) (x : Assisting) (t : Task) → t ≡ assists w n x → owed_of (takes_at shapes m t found) ≡ (assist.goes m.poll.layout x found).owed
 assists_so shapes m found w n x t e = grind arith
 
 pub debts_are_dropped : DebtsAreDropped

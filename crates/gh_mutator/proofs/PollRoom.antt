@@ -17,13 +17,12 @@ use Rattle.gh_poll.specs.MarkStack as mark
 use Rattle.gh_poll.specs.Poll.{after_mark, after_resume, after_room, by_phase, counted, given, giving, goes_at, has_two, marks_then, resumed, scanned, stops_then}
 use Rattle.gh_mutator.specs.PollRoom.{HasRoomToStore, LooksForRoom, MakesRoom, PollsMakeRoom, RoomAt, RoomBehind, TriesForRoom}
 use Rattle.gh_mutator.specs.Sound.{has_room}
-use Rattle.gh_mutator.specs.Vocabulary.{Op, Polling, Processor, Shape, Task}
+use Rattle.gh_mutator.specs.Vocabulary.{Layout, Op, Polling, Processor, Shape, Task}
 
 -- The search.
 
-module _ (r : room.RoomFinding) where
-  searched : (p : RoomStage) (found : ℕ) → TriesForRoom p → TriesForRoom (room.goes_at r p found).stage
-  searched p found k = grind (arith, nat_tests)
+searched : (l : Layout) (r : room.RoomFinding) (p : RoomStage) (found : ℕ) → TriesForRoom p → TriesForRoom (room.goes_at l r p found).stage
+searched l r p found k = grind (arith, nat_tests)
 
 found_two : (q : RoomStage) (h : Held) → TriesForRoom q → room.given_at q ≡ Some h → has_two (Some h) ≡ true
 found_two q h k e = grind arith
@@ -56,13 +55,13 @@ goes_so p (poll_stage.Marking g m) found turn is k = by (mark.gives m found) whe
   by : (out : Option (Unit {0})) → MakesRoom (after_mark p g (mark.goes m found) out)
   by None = record { no_wait = turn; stage = tt }
   by (Some x) = counts (scanned p g (mark.goes m found).held) turn
-goes_so p (poll_stage.FindRoom r) found turn is k = by (room.gives r found) refl where
-  then : TriesForRoom (room.goes r found).stage
-  then = searched r r.stage found k
+goes_so p (poll_stage.FindRoom r) found turn is k = by (room.gives p.layout r found) refl where
+  then : TriesForRoom (room.goes p.layout r found).stage
+  then = searched p.layout r r.stage found k
 
-  by : (out : Option Held) → room.gives r found ≡ out → MakesRoom (after_room p (room.goes r found) out)
+  by : (out : Option Held) → room.gives p.layout r found ≡ out → MakesRoom (after_room p (room.goes p.layout r found) out)
   by None e = record { no_wait = turn; stage = then }
-  by (Some own) e = record { no_wait = turn; stage = entries_if (record (p.local) { held = Some own }) (is_mark p.local.view.phase) (found_two (room.goes r found).stage own then e) }
+  by (Some own) e = record { no_wait = turn; stage = entries_if (record (p.local) { held = Some own }) (is_mark p.local.view.phase) (found_two (room.goes p.layout r found).stage own then e) }
 goes_so p poll_stage.Ended found turn is k = record { no_wait = turn; stage = k }
 
 takes_none : (p : Polling) (q : PollStage) (found : ℕ) → p.stage ≡ q → p.waits ≡ true → LooksForRoom (goes_at p q found).stage → LooksForRoom q

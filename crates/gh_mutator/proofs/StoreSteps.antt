@@ -1,13 +1,14 @@
 -- Own steps of a store.
-use Rattle.std.proofs.Common.{◌≡◌, ℕ, ◌+◌, ◌*◌, ◌<◌, ◌≤◌, Bool, true, false, cond, Option, Some, None, refl, ap, ◌∙◌, arith}
+use Rattle.std.proofs.Common.{◌≡◌, ℕ, ◌+◌, ◌*◌, ◌^◌, ◌<◌, ◌≤◌, Bool, true, false, cond, Option, Some, None, refl, ap, arith}
 use Rattle.std.specs.Prelude.{is_none}
 use Rattle.gh_base.specs.declared.held.Held.{Held}
 use Rattle.gh_base.specs.declared.layout.Layout.{Layout}
+use Rattle.gh_base.specs.Holding.{IsHeld}
+use Rattle.gh_base.specs.Machines.{IsRoutine}
 use Rattle.gh_base.specs.declared.value.Answer.TheVariants as answer
 use Rattle.gh_base.specs.declared.value.Fault.TheVariants as fault
 use Rattle.gh_base.specs.declared.value.Value.{Value}
 use Rattle.gh_barrier.specs.Ending.{write_left, WritingEnds}
-use Rattle.gh_barrier.specs.Stays as write_proved
 use Rattle.gh_barrier.specs.Listing.{Writing as PointerWrite}
 use Rattle.gh_barrier.specs.Listing as write
 use Rattle.gh_poll.specs.declared.poll.Local.{Local}
@@ -20,12 +21,13 @@ use Rattle.gh_mutator.specs.Faults.{is_load}
 use Rattle.gh_mutator.specs.Fields.{has_field, is_pointer_by}
 use Rattle.gh_poll.specs.Local.{is_mark}
 use Rattle.gh_poll.specs.Poll.{Polling}
-use Rattle.gh_poll.specs.Registers.{IsRegister}
+use Rattle.gh_poll.specs.Registers.{IsNear, IsRegister}
 use Rattle.gh_mutator.specs.Sound.{SoundStore, SoundStoreStage, StoreRoom}
 use Rattle.gh_mutator.specs.Step.{ends, goes_on}
 use Rattle.gh_mutator.specs.Store.{after_write, asks, at_stage, begins, by_kind, held_behind, step, step_at}
 use Rattle.gh_mutator.proofs.ClassFacts.{ClassLaws}
 use Rattle.gh_mutator.proofs.Fields.{field_there}
+use Rattle.gh_mutator.proofs.Opens.{write_opens}
 use Rattle.gh_mutator.proofs.Steps.{FaultsFrom, GoesTo, StepSound}
 
 -- ---- its numbers stay in their ranges
@@ -47,33 +49,34 @@ module _ (l : Layout) (own : Local) (held : Value) (x : Store) (register : IsReg
     go : (p : Bool) → StepSound (SoundStore l.pages) l.pages (by_kind l own held x p)
     go p = grind arith
   step_sound_at laws Field found h = record { next = tt; sets = tt }
-  step_sound_at laws (Writing w) found h = write_sound (write.goes w found) (write.gives w found)
+  step_sound_at laws (Writing w) found h = write_sound (write.goes l w found) (write.gives l w found)
 
 pub step_sound : ClassLaws → (l : Layout) (own : Local) (held : Value) (x : Store) (found : ℕ) → SoundStore l.pages x → StepSound (SoundStore l.pages) l.pages (step l own held x found)
 step_sound laws l own held x found h = grind (arith, step_sound_at)
 
--- and there is room for its write, which goes on in this heap
-module _ (p : Polling) (held : Value) (x : Store) where
+-- and there is room for its write, which is sound and goes on
+module _ (k : (l : Layout) → IsRoutine l (write.listing l)) (p : Polling) (held : Value) (x : Store) (near : IsNear p.layout.pages held) (fits : IsHeld p.layout p.local.held) where
   abbrev RoomThen : Option Held → Store → Type 0
   RoomThen h y = StoreRoom (with_held p h) y.stage
 
-  room_at : (s : StoreStage) (found : ℕ) → StoreRoom p s → GoesTo (RoomThen (held_behind p.local.held s found)) (step_at p.layout p.local held x s found).then
-  room_at NilBase found h = tt
-  room_at Page found h = go (has_field x.k found) where
+  room_at : (s : StoreStage) (found : ℕ) → found < 2 ^ 64 → StoreRoom p s → GoesTo (RoomThen (held_behind p.layout p.local.held s found)) (step_at p.layout p.local held x s found).then
+  room_at NilBase found few h = tt
+  room_at Page found few h = go (has_field x.k found) where
     go : (b : Bool) → GoesTo (RoomThen p.local.held) (cond b (goes_on (at_stage x Bits)) (ends (answer.Fault fault.Field))).then
     go true = h
     go false = tt
-  room_at Bits found h = go (is_pointer_by p.layout (x.at + x.k) found) where
-    go : (k : Bool) → GoesTo (RoomThen p.local.held) (by_kind p.layout p.local held x k).then
-    go k = grind arith
-  room_at Field found h = tt
-  room_at (Writing w) found h = by (write.gives w found) refl where
-    by : (out : Option (Unit {0})) → write.gives w found ≡ out → GoesTo (RoomThen (held_then w found)) (after_write x (write.goes w found) out).then
-    by None e = record { layout = write_proved.stays w found ∙ h.layout; busy = ap is_none e }
+  room_at Bits found few h = go (is_pointer_by p.layout (x.at + x.k) found) where
+    go : (pointer : Bool) → GoesTo (RoomThen p.local.held) (by_kind p.layout p.local held x pointer).then
+    go pointer = grind (arith, write_opens)
+  room_at Field found few h = tt
+  room_at (Writing w) found few h = by (write.gives p.layout w found) refl where
+    by : (out : Option (Unit {0})) → write.gives p.layout w found ≡ out → GoesTo (RoomThen (held_then p.layout w found)) (after_write x (write.goes p.layout w found) out).then
+    by None e = record { sound = (k p.layout).keeps w found few h.sound h.busy; busy = ap is_none e }
     by (Some y) e = tt
 
-pub step_room : (p : Polling) (held : Value) (x : Store) (found : ℕ) → StoreRoom p x.stage → GoesTo (λ (y : Store). StoreRoom (with_held p (held_behind p.local.held x.stage found)) y.stage) (step p.layout p.local held x found).then
-step_room p held x found h = grind (arith, room_at)
+pub step_room : ((l : Layout) → IsRoutine l (write.listing l)) → (p : Polling) (held : Value) (x : Store) (found : ℕ) → found < 2 ^ 64 → IsNear p.layout.pages held → IsHeld p.layout p.local.held → StoreRoom p x.stage →
+    GoesTo (λ (y : Store). StoreRoom (with_held p (held_behind p.layout p.local.held x.stage found)) y.stage) (step p.layout p.local held x found).then
+step_room k p held x found few near fits h = grind (arith, room_at)
 
 -- behind the bitmap word, by whether marking is on
 abbrev pub then_left : (marking : Bool) → ℕ
@@ -106,7 +109,7 @@ module _ (ends_so : WritingEnds) (l : Layout) (own : Local) (held : Value) (x : 
   bits_nears : (p : Bool) → Left (is_mark own.view.phase) (then_left (is_mark own.view.phase) + 1) (by_kind l own held x p).then
   bits_nears p = grind arith
 
-  write_nears : (marking : Bool) (w : PointerWrite) (found : ℕ) → write.is_busy w.stage ≡ true → Left marking (write_left w.stage) (after_write x (write.goes w found) (write.gives w found)).then
+  write_nears : (marking : Bool) (w : PointerWrite) (found : ℕ) → write.is_busy w.stage ≡ true → Left marking (write_left w.stage) (after_write x (write.goes l w found) (write.gives l w found)).then
   write_nears marking w found busy = grind arith
 
   nears_at : (s : StoreStage) (found : ℕ) → writes_on s ≡ true → (1 ≤ left_at (is_mark own.view.phase) s) × Left (is_mark own.view.phase) (left_at (is_mark own.view.phase) s) (step_at l own held x s found).then
@@ -139,8 +142,8 @@ pub faults : (l : Layout) (own : Local) (held : Value) (x : Store) (found : ℕ)
 faults l own held x found = record { here = grind arith; keeps = grind arith; before = grind arith }
 
 -- what is held stays until its write
-pub holds_still : (held : Option Held) (s : StoreStage) (found : ℕ) → may_fault_at s ≡ true → held_behind held s found ≡ held
-holds_still held s found e = grind arith
+pub holds_still : (l : Layout) (held : Option Held) (s : StoreStage) (found : ℕ) → may_fault_at s ≡ true → held_behind l held s found ≡ held
+holds_still l held s found e = grind arith
 
 pub loads : (l : Layout) (held : Value) (x : Store) → may_fault x ≡ true → is_load (asks l held x) ≡ true
 loads l held x e = grind arith

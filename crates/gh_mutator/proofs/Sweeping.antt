@@ -27,12 +27,12 @@ search_then : (shapes : List Shape) (m : Processor) (w : Wanted) (waited : Bool)
 search_then shapes m w waited q out e = grind arith
 
 -- While it sweeps.
-on_at : RunsSweeps search.asks search.goes search.sweep_layout search.sweep_generation search.sweep_in → (shapes : List Shape) (m : Processor) (sw : Sweeping) (q : Task) → sweep_at q ≡ Some sw → is_busy sw.stage ≡ true → (asks_at m q ≡ sweep.asks sw) × ((found : ℕ) → sweep_in (takes_at shapes m q found) ≡ on_from sw found)
+on_at : ((l : Layout) → RunsSweeps (search.asks l) (search.goes l) (λ (q : Seeking). l) search.sweep_generation search.sweep_in) → (shapes : List Shape) (m : Processor) (sw : Sweeping) (q : Task) → sweep_at q ≡ Some sw → is_busy sw.stage ≡ true → (asks_at m q ≡ sweep.asks m.poll.layout sw) × ((found : ℕ) → sweep_in (takes_at shapes m q found) ≡ on_from sw found)
 on_at k shapes m sw (task.New x) is busy = by x.stage is where
-  by : (n : NewStage) → sweep_new n ≡ Some sw → (new.asks_at m n ≡ sweep.asks sw) × ((found : ℕ) → sweep_in (new.takes_at shapes m x.wanted n found) ≡ on_from sw found)
+  by : (n : NewStage) → sweep_new n ≡ Some sw → (new.asks_at m n ≡ sweep.asks m.poll.layout sw) × ((found : ℕ) → sweep_in (new.takes_at shapes m x.wanted n found) ≡ on_from sw found)
   by (Search waited y) is =
-      let o = k.on y sw is busy in
-      (o.asks_so, λ found. search_then shapes (cache_span m x.wanted.sought (search.goes y found).find.cached) x.wanted waited (search.goes y found) (search.gives y found) refl ∙ o.goes_so found)
+      let o = (k m.poll.layout).on y sw is busy in
+      (o.asks_so, λ found. search_then shapes (cache_span m x.wanted.sought (search.goes m.poll.layout y found).find.cached) x.wanted waited (search.goes m.poll.layout y found) (search.gives m.poll.layout y found) refl ∙ o.goes_so found)
   by (Wait y) is = absurd (cc)
   by (Place y) is = absurd (cc)
   by (Want n) is = absurd (cc)
@@ -80,11 +80,11 @@ begun_none shapes l m o none = by (has_left_at m.task) where
   by true = none
   by false = op_none o
 
-pub sweeps_run_on : RunsSweeps search.asks search.goes search.sweep_layout search.sweep_generation search.sweep_in → SweepsAreRunOn
+pub sweeps_run_on : ((l : Layout) → RunsSweeps (search.asks l) (search.goes l) (λ (q : Seeking). l) search.sweep_generation search.sweep_in) → SweepsAreRunOn
 sweeps_run_on k = record {
   at_first = λ l seat. refl;
   begun = begun_none;
   on = λ shapes m sw is busy. let o = on_at k shapes m sw m.task is busy in record { asks_so = o.0; goes_so = o.1 };
-  searches = λ shapes m w waited q found. search_then shapes (cache_span m w.sought (search.goes q found).find.cached) w waited (search.goes q found) (search.gives q found) refl;
+  searches = λ shapes m w waited q found. search_then shapes (cache_span m w.sought (search.goes m.poll.layout q found).find.cached) w waited (search.goes m.poll.layout q found) (search.gives m.poll.layout q found) refl;
   others = λ shapes m found none not. others_at shapes m found m.task refl none not;
 }

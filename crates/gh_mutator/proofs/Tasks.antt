@@ -1,5 +1,5 @@
 -- What the code knows of a task by how it is kept.
-use Rattle.std.proofs.Common.{◌≡◌, ℕ, Bool, List, None, true, false, refl, sym, ap, subst, ◌∙◌, arith, Option}
+use Rattle.std.proofs.Common.{◌≡◌, ℕ, ◌^◌, ◌<◌, Bool, IsTrue, List, None, true, false, sym, ap, subst, ◌∙◌, arith, Option}
 use Rattle.gh_base.specs.declared.held.Held.{Held}
 use Rattle.gh_mutator.specs.declared.global.Direct.{Direct}
 use Rattle.gh_mutator.specs.declared.global.DirectStage.{DirectStage}
@@ -20,11 +20,12 @@ use Rattle.gh_mutator.specs.New.{searches}
 use Rattle.gh_mutator.specs.Processing.{Processor}
 use Rattle.gh_mutator.specs.Processor.{at_task, keeping, register_of, taking}
 use Rattle.gh_mutator.specs.Serving.{is_making, is_point}
-use Rattle.gh_mutator.specs.Sound.{Sound}
+use Rattle.gh_base.specs.Machines.{IsRoutine}
+use Rattle.gh_mutator.specs.Sound.{Sound, SoundSearch, SoundTask}
 use Rattle.gh_mutator.specs.Step.{answered}
-use Rattle.gh_mutator.specs.Vocabulary.{NewStage, Search, Seeking, Shape}
+use Rattle.gh_mutator.specs.Vocabulary.{Layout, NewStage, Search, Seeking, Shape}
 use Rattle.gh_mutator.specs.Tasks.{as_global, direct, global_of, stage_of, task_kept, then_global}
-use Rattle.gh_mutator.proofs.NewSteps.{searches_on}
+use Rattle.gh_mutator.proofs.NewSteps.{going_on_sound, searches_on}
 
 -- an object is to be made: the large task that is kept is run
 kept_new : (a : TaskAt) (k : LargeTask) (n : New) → is_making (task_kept a k) ≡ true → k ≡ large.New n → task_kept a k ≡ task.New n
@@ -44,11 +45,11 @@ pub answered_global : (t : Then Direct) → answered t ≡ answered (then_global
 answered_global t = grind arith
 
 -- it holds what it held
-held_direct : (held : Option Held) (stage : DirectStage) (found : ℕ) → held_behind held (stage_of stage) found ≡ held
-held_direct held stage found = grind arith
+held_direct : (l : Layout) (held : Option Held) (stage : DirectStage) (found : ℕ) → held_behind l held (stage_of stage) found ≡ held
+held_direct l held stage found = grind arith
 
-pub direct_goes : (m : Processor) (g d found : ℕ) (stage : DirectStage) (s : Step Direct) → applied direct m g d s ≡ applied task.Global (keeping m (held_behind m.poll.local.held (stage_of stage) found)) g d (as_global s)
-direct_goes m g d found stage s = applied_global m g d s ∙ ap (λ (h : Option Held). applied task.Global (keeping m h) g d (as_global s)) (sym (held_direct m.poll.local.held stage found))
+pub direct_goes : (m : Processor) (g d found : ℕ) (stage : DirectStage) (s : Step Direct) → applied direct m g d s ≡ applied task.Global (keeping m (held_behind m.poll.layout m.poll.local.held (stage_of stage) found)) g d (as_global s)
+direct_goes m g d found stage s = applied_global m g d s ∙ ap (λ (h : Option Held). applied task.Global (keeping m h) g d (as_global s)) (sym (held_direct m.poll.layout m.poll.local.held stage found))
 
 -- the task is this one
 pub direct_is : (m : Processor) (a : TaskAt) (k : LargeTask) (x : Direct) → task_kept a k ≡ m.task → a ≡ at.Direct x → m.task ≡ direct x
@@ -61,11 +62,25 @@ point_at b x stage = grind arith
 pub point_direct : (m : Processor) (x : Direct) (found : ℕ) → is_point (acts_at m (direct x) found) ≡ (step m.poll.layout (register_of m x.g x.r) (global_of x) found).acts
 point_direct m x found = point_at (step m.poll.layout (register_of m x.g x.r) (global_of x) found).acts (global_of x) x.stage
 
--- A search that has gone on stands where the step leads, once it is kept.
-pub searches_kept : (shapes : List Shape) (m : Processor) (a : TaskAt) (n : New) (waited : Bool) (x y : Seeking) (found : ℕ) → Sound shapes m → a ≡ at.Large → m.task ≡ task_kept a (large.New n) → n.stage ≡ Search waited x → y ≡ search.goes x found → search.gives x found ≡ None → y.find.cached ≡ x.find.cached →
-    at_task m (task_kept a (large.New (record { wanted = n.wanted; stage = Search waited y }))) ≡ takes shapes m found
-searches_kept shapes m a n waited x y found s large_at task_is is goes none same =
-    let on : m.task ≡ searches n.wanted waited x = task_is ∙ ap (λ (b : TaskAt). task_kept b (large.New n)) large_at ∙ ap (λ (k : NewStage). task.New (record { wanted = n.wanted; stage = k })) is in
-    ap (λ (b : TaskAt). at_task m (task_kept b (large.New (record { wanted = n.wanted; stage = Search waited y })))) large_at
-    ∙ ap (λ (z : Seeking). at_task m (searches n.wanted waited z)) goes
-    ∙ searches_on shapes m n.wanted waited x found s on none (ap (λ (z : Seeking). z.find.cached) (sym goes) ∙ same)
+-- The search that it runs, as it is kept, and where it has gone on.
+module _ (shapes : List Shape) (m : Processor) (a : TaskAt) (n : New) (waited : Bool) (x : Seeking) (s : Sound shapes m) (large_at : a ≡ at.Large) (task_is : m.task ≡ task_kept a (large.New n)) (is : n.stage ≡ Search waited x) where
+  new_at : m.task ≡ task.New n
+  new_at = task_is ∙ ap (λ (b : TaskAt). task_kept b (large.New n)) large_at
+
+  on : m.task ≡ searches n.wanted waited x
+  on = new_at ∙ ap (λ (k : NewStage). task.New (record { wanted = n.wanted; stage = k })) is
+
+  abbrev kept_at : TaskAt → Seeking → Processor
+  kept_at b y = at_task m (task_kept b (large.New (record { wanted = n.wanted; stage = Search waited y })))
+
+  pub runs_search : SoundSearch m.poll n.wanted x
+  runs_search = (subst (λ (t : Task). SoundTask shapes m.poll m.made t) on s.task).1
+
+  pub searches_kept : (y : Seeking) (found : ℕ) → y ≡ search.goes m.poll.layout x found → search.gives m.poll.layout x found ≡ None → y.find.cached ≡ x.find.cached → kept_at a y ≡ takes shapes m found
+  searches_kept y found goes none same =
+      ap (λ (b : TaskAt). kept_at b y) large_at
+      ∙ ap (λ (z : Seeking). at_task m (searches n.wanted waited z)) goes
+      ∙ searches_on shapes m n.wanted waited x found s on none (ap (λ (z : Seeking). z.find.cached) (sym goes) ∙ same)
+
+  pub kept_sound : ((l : Layout) → IsRoutine l (search.listing l)) → (went : Bool) (y : Seeking) (found : ℕ) → found < 2 ^ 64 → (IsTrue went → y ≡ search.goes m.poll.layout x found) → (IsTrue went → search.gives m.poll.layout x found ≡ None) → y.find.cached ≡ x.find.cached → (went ≡ false → y ≡ x) → Sound shapes (kept_at a y)
+  kept_sound q went y found few goes gives same still = subst (λ (b : TaskAt). Sound shapes (kept_at b y)) (sym large_at) (going_on_sound shapes q m n waited went x y found few s new_at is goes gives same still)

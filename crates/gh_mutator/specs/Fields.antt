@@ -33,7 +33,7 @@ has_field k found = nat_lt k (slot_in (page_of found))
 
 -- heap word `at` is a pointer field, by the word of the bitmap that was found
 abbrev pub is_pointer_by : Layout → (at found : ℕ) → Bool
-is_pointer_by l at found = unwrap_or (reading.gives (reading.opening l at) found) false
+is_pointer_by l at found = unwrap_or (reading.given (reading.goes (reading.opening at) found)) false
 
 -- a found word of a pointer field, or of a number field; a reference is taken modulo the heap's words
 abbrev pub value_of : (pages : ℕ) → (pointer : Bool) → (found : ℕ) → Value

@@ -42,13 +42,13 @@ abbrev pub begins_load : (g d k : ℕ) → Global
 begins_load g d k = record { g = g; r = d; k = k; stage = Load }
 
 -- a pointer is written behind the write barrier while marking is on, as this processor knows
-abbrev pub stores : Layout → Local → (k : ℕ) → Value → GlobalStage
-stores l own k held = if is_mark own.view.phase then Writing (written l own (pointer_cell.Global k) held) else Store
+abbrev pub stores : Local → (k : ℕ) → Value → GlobalStage
+stores own k held = if is_mark own.view.phase then Writing (written own (pointer_cell.Global k) held) else Store
 
 -- global k takes what register v holds, which is this; a number is a fault
-abbrev pub begins_store : Layout → Local → (g k v : ℕ) → Value → Global
-begins_store l own g k v (value.Int n) = record { g = g; r = v; k = k; stage = Number }
-begins_store l own g k v held = record { g = g; r = v; k = k; stage = stores l own k held }
+abbrev pub begins_store : Local → (g k v : ℕ) → Value → Global
+begins_store own g k v (value.Int n) = record { g = g; r = v; k = k; stage = Number }
+begins_store own g k v held = record { g = g; r = v; k = k; stage = stores own k held }
 
 -- once a reference was found, to the object at this heap word
 abbrev pub naming : Global → (at : ℕ) → Global
@@ -72,13 +72,13 @@ module _ (l : Layout) (held : Value) (x : Global) where
   step_at Load found = takes (naming x) (value_of l.pages true found)
   step_at (Birth at) found = ends_with_name l found
   step_at Store found = ends answer.Done
-  step_at (Writing w) found = after_write x (write.goes w found) (write.gives w found)
+  step_at (Writing w) found = after_write x (write.goes l w found) (write.gives l w found)
   step_at Number found = ends (answer.Fault fault.Kind)
 
 -- the buffer that is held behind its step, where this one was
-abbrev pub held_behind : Option Held → GlobalStage → (found : ℕ) → Option Held
-held_behind held (Writing w) found = held_then w found
-held_behind held _ found = held
+abbrev pub held_behind : Layout → Option Held → GlobalStage → (found : ℕ) → Option Held
+held_behind l held (Writing w) found = held_then l w found
+held_behind l held _ found = held
 
 -- the step that it asks for, and what that step does where it found this
 abbrev pub asks : Layout → (held : Value) → Global → Ask

@@ -1,6 +1,6 @@
 -- The processor's listing: what its task asks for, where that leads, what is answered at its end, and where it acts. Each statement's own listing is in the file of its name.
 use Rattle.std.specs.Prelude.{ℕ, Bool, true, false, List, Option, Some, None, is_some}
-use Rattle.gh_mutator.specs.Vocabulary.{Ask, Op, Shape, Answer, Leaving, Polling, Processor, Step, Then, GoesOn, Ends, Task, Waiting}
+use Rattle.gh_mutator.specs.Vocabulary.{Ask, Op, Shape, Answer, Layout, Leaving, Polling, Processor, Step, Then, GoesOn, Ends, Task, Waiting}
 use Rattle.gh_base.specs.declared.cell.Ask.TheVariants as ask
 use Rattle.gh_base.specs.declared.cell.Cell.TheVariants as cell
 use Rattle.gh_base.specs.declared.operation.Op.TheVariants as op
@@ -33,7 +33,7 @@ begins_at shapes m (op.New g d t) = searches (wanted_of shapes g d t) false (see
 begins_at shapes m (op.Load g d b k) = task.Load (load.begins g d b k (register_of m g b))
 begins_at shapes m (op.Store g b k v) = task.Store (store.begins g b k v (register_of m g b))
 begins_at shapes m (op.GetGlobal g d k) = task.Global (global.begins_load g d k)
-begins_at shapes m (op.SetGlobal g k v) = task.Global (global.begins_store m.poll.layout m.poll.local g k v (register_of m g v))
+begins_at shapes m (op.SetGlobal g k v) = task.Global (global.begins_store m.poll.local g k v (register_of m g v))
 begins_at shapes m (op.Int g d n) = task.Register (register.begins g d (source.Int n))
 begins_at shapes m (op.Move g d s) = task.Register (register.begins g d (source.Move s))
 begins_at shapes m (op.Nil g d) = task.Register (register.begins g d source.Nil)
@@ -97,8 +97,8 @@ abbrev pub takes_at : List Shape → Processor → Task → (found : ℕ) → Pr
 takes_at shapes m task.Idle found = m
 takes_at shapes m task.Left found = m
 takes_at shapes m (task.Load x) found = applied task.Load m x.g x.d (load.step m.poll.layout x found)
-takes_at shapes m (task.Store x) found = applied task.Store (keeping m (store.held_behind m.poll.local.held x.stage found)) x.g x.v (store.step m.poll.layout m.poll.local (register_of m x.g x.v) x found)
-takes_at shapes m (task.Global x) found = applied task.Global (keeping m (global.held_behind m.poll.local.held x.stage found)) x.g x.r (global.step m.poll.layout (register_of m x.g x.r) x found)
+takes_at shapes m (task.Store x) found = applied task.Store (keeping m (store.held_behind m.poll.layout m.poll.local.held x.stage found)) x.g x.v (store.step m.poll.layout m.poll.local (register_of m x.g x.v) x found)
+takes_at shapes m (task.Global x) found = applied task.Global (keeping m (global.held_behind m.poll.layout m.poll.local.held x.stage found)) x.g x.r (global.step m.poll.layout (register_of m x.g x.r) x found)
 takes_at shapes m (task.Register x) found = applied task.Register m x.g x.d (register.step (register_of m x.g (register.read_of x)) x)
 takes_at shapes m (task.New x) found = new.takes_at shapes m x.wanted x.stage found
 takes_at shapes m (task.Gc g x) found = after_gc m g (wait.goes (wait.waiting x m.poll) found) (wait.gives (wait.waiting x m.poll) found)
@@ -115,9 +115,9 @@ is_searching (task.New x) = new.searches_at x.stage
 is_searching _ = false
 
 -- By the word found the search for its slot goes on in a span, or to a further page.
-abbrev pub search_goes_on : Task → (found : ℕ) → Bool
-search_goes_on (task.New x) found = new.goes_further_at x.stage found
-search_goes_on _ found = false
+abbrev pub search_goes_on : Layout → Task → (found : ℕ) → Bool
+search_goes_on l (task.New x) found = new.goes_further_at l x.stage found
+search_goes_on l _ found = false
 
 -- What is answered to the operation that ends with the step, if one does.
 
@@ -133,7 +133,7 @@ gives_at m (task.Load x) found = answered (load.step m.poll.layout x found).then
 gives_at m (task.Store x) found = answered (store.step m.poll.layout m.poll.local (register_of m x.g x.v) x found).then
 gives_at m (task.Global x) found = answered (global.step m.poll.layout (register_of m x.g x.r) x found).then
 gives_at m (task.Register x) found = answered (register.step (register_of m x.g (register.read_of x)) x).then
-gives_at m (task.New x) found = new.gives_at (marking_at m.poll) x.stage found
+gives_at m (task.New x) found = new.gives_at m.poll.layout (marking_at m.poll) x.stage found
 gives_at m (task.Gc g x) found = once_ended (wait.gives (wait.waiting x m.poll) found) answer.Swept
 gives_at m task.Poll found = once_ended (poll.gives m.poll found) answer.Done
 gives_at m (task.End g) found = Some answer.Done
@@ -159,7 +159,7 @@ acts_at m (task.Load x) found = acting (load.step m.poll.layout x found).acts (l
 acts_at m (task.Store x) found = acting (store.step m.poll.layout m.poll.local (register_of m x.g x.v) x found).acts (store.op_of x) false
 acts_at m (task.Global x) found = acting (global.step m.poll.layout (register_of m x.g x.r) x found).acts (global.op_of x) false
 acts_at m (task.Register x) found = acting (register.step (register_of m x.g (register.read_of x)) x).acts (register.op_of x) false
-acts_at m (task.New x) found = acting (new.acts_at x.stage found) (new.op_of x.wanted) (new.is_full_at x.stage)
+acts_at m (task.New x) found = acting (new.acts_at m.poll.layout x.stage found) (new.op_of x.wanted) (new.is_full_at x.stage)
 acts_at m (task.Gc g x) found = acting (is_some (wait.gives (wait.waiting x m.poll) found)) (op.Gc g) false
 acts_at m task.Poll found = acting (is_some (poll.gives m.poll found)) op.Poll false
 acts_at m (task.End g) found = acting true (op.End g) false

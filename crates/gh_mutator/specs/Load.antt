@@ -37,7 +37,7 @@ module _ (l : Layout) (x : Load) where
   abbrev pub asks_at : LoadStage → Ask
   asks_at NilBase = ask.Load cell.Touch
   asks_at Page = ask.Load (page_cell l x.at)
-  asks_at Bits = reading.asks (reading.opening l (x.at + x.k))
+  asks_at Bits = reading.asks l (reading.opening (x.at + x.k))
   asks_at (Field pointer) = ask.Load (field_cell l (x.at + x.k))
   asks_at (Birth at) = ask.Load (birth_cell l at)
 

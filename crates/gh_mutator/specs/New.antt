@@ -1,6 +1,6 @@
 -- A new object: the search for its slot, the wait for a cycle where there is none, the search once more, the making of the object in its slot, and behind that the request for a cycle where the heap then reaches the trigger, or the assist while marking is on. Its steps change what the processor alone knows and the number of objects too, so they are steps of the processor.
 use Rattle.std.specs.Prelude.{ℕ, ◌+◌, ◌*◌, ◌/◌, Bool, true, false, if◌then◌else◌, List, slice_set, Option, Some, None}
-use Rattle.gh_mutator.specs.Vocabulary.{Ask, Assist, Assisting, Op, Polling, Shape, Answer, Name, shape_at, SizeClass, slot_words, Found, At, NoRoom, Sought, PlaceStage, Seeking, Placing, NewStage, Search, Wait, Place, Want, Waiting, Wanted, Processor, Task}
+use Rattle.gh_mutator.specs.Vocabulary.{Ask, Assist, Assisting, Layout, Op, Polling, Shape, Answer, Name, shape_at, SizeClass, slot_words, Found, At, NoRoom, Sought, PlaceStage, Seeking, Placing, NewStage, Search, Wait, Place, Want, Waiting, Wanted, Processor, Task}
 use Rattle.gh_assist.specs.Listing as assist
 use Rattle.gh_base.specs.declared.cell.Ask.TheVariants as ask
 use Rattle.gh_base.specs.declared.cell.Cell.TheVariants as cell
@@ -48,11 +48,11 @@ own_span seat generation (Large pages noscan) = Some (record { class = size.Larg
 
 -- the search for the slot
 abbrev pub seeking : Processor → Wanted → Seeking
-seeking m w = search.opening m.poll.layout m.poll.seat m.poll.local.view.generation w.sought (cached_for m w.sought)
+seeking m w = search.opening m.poll.seat m.poll.local.view.generation w.sought (cached_for m w.sought)
 
 -- the making of the object in the slot at heap word a; while marking is on it is marked
 abbrev pub placing : List Shape → Processor → Wanted → (a : ℕ) → Placing
-placing shapes m w a = place.opening m.poll.layout (shape_at shapes w.t) a w.slot (next_of m w) (own_span m.poll.seat m.poll.local.view.generation w.sought) (marking_at m.poll)
+placing shapes m w a = place.opening (shape_at shapes w.t) a w.slot (next_of m w) (own_span m.poll.seat m.poll.local.view.generation w.sought) (marking_at m.poll)
 
 -- the object is made
 abbrev pub is_made : PlaceStage → Bool
@@ -80,25 +80,25 @@ assists w n x = task.New (record { wanted = w; stage = Assist n x })
 
 -- the assist for the bytes of the object's slot, with the buffer that is held
 abbrev pub assisting : Polling → Wanted → Assisting
-assisting p w = assist.opening p.layout p.seat p.local.held (8 * w.slot) p.local.owed p.local.spent
+assisting p w = assist.opening p.seat p.local.held (8 * w.slot) p.local.owed p.local.spent
 
 -- The steps.
 
 abbrev pub asks_at : Processor → NewStage → Ask
-asks_at m (Search waited s) = search.asks s
+asks_at m (Search waited s) = search.asks m.poll.layout s
 asks_at m (Wait x) = wait.asks (wait.waiting x m.poll)
-asks_at m (Place p) = place.asks p
+asks_at m (Place p) = place.asks m.poll.layout p
 asks_at m (Want n) = ask.Or cell.Want 1
-asks_at m (Assist n x) = assist.asks x
+asks_at m (Assist n x) = assist.asks m.poll.layout x
 
 abbrev pub searches_at : NewStage → Bool
 searches_at (Search waited s) = true
 searches_at _ = false
 
 -- by the word found the search goes on in a span, or to a further page
-abbrev pub goes_further_at : NewStage → (found : ℕ) → Bool
-goes_further_at (Search waited s) found = search.goes_further_at s.find s.stage found
-goes_further_at _ found = false
+abbrev pub goes_further_at : Layout → NewStage → (found : ℕ) → Bool
+goes_further_at l (Search waited s) found = search.goes_further_at l s.find s.stage found
+goes_further_at l _ found = false
 
 -- the search has ended, and has found this: the object is made there; where there is no room, a cycle is waited for, and behind that the register is nil
 abbrev pub after_found : List Shape → Processor → Wanted → (waited : Bool) → Found → Processor
@@ -141,11 +141,11 @@ after_assist m w n x (Some y) = at_task (at_poll m (with_payment m.poll x)) task
 
 -- the processor after the step; the cached span is what the search says
 abbrev pub takes_at : List Shape → Processor → Wanted → NewStage → (found : ℕ) → Processor
-takes_at shapes m w (Search waited s) found = after_search shapes (cache_span m w.sought (search.goes s found).find.cached) w waited (search.goes s found) (search.gives s found)
+takes_at shapes m w (Search waited s) found = after_search shapes (cache_span m w.sought (search.goes m.poll.layout s found).find.cached) w waited (search.goes m.poll.layout s found) (search.gives m.poll.layout s found)
 takes_at shapes m w (Wait x) found = after_wait m w (wait.goes (wait.waiting x m.poll) found) (wait.gives (wait.waiting x m.poll) found)
 takes_at shapes m w (Place p) found = after_place m w (place.makes_its_object p) p.at (place.goes p found)
 takes_at shapes m w (Want n) found = at_task m task.Idle
-takes_at shapes m w (Assist n x) found = after_assist m w n (assist.goes x found) (assist.gives x found)
+takes_at shapes m w (Assist n x) found = after_assist m w n (assist.goes m.poll.layout x found) (assist.gives m.poll.layout x found)
 
 -- the search behind the wait has found no room
 abbrev pub refuses_behind_wait : (waited : Bool) → Option Found → Bool
@@ -170,20 +170,20 @@ abbrev pub answer_assist : Name → Option (Unit {0}) → Option Answer
 answer_assist n None = None
 answer_assist n (Some y) = Some (answer.Ref n)
 
-abbrev pub gives_at : (marking : Bool) → NewStage → (found : ℕ) → Option Answer
-gives_at marking (Search waited s) found = answer_search waited (search.gives s found)
-gives_at marking (Wait x) found = None
-gives_at marking (Place p) found = answer_made marking p.name (place.gives p found)
-gives_at marking (Want n) found = Some (answer.Ref n)
-gives_at marking (Assist n x) found = answer_assist n (assist.gives x found)
+abbrev pub gives_at : Layout → (marking : Bool) → NewStage → (found : ℕ) → Option Answer
+gives_at l marking (Search waited s) found = answer_search waited (search.gives l s found)
+gives_at l marking (Wait x) found = None
+gives_at l marking (Place p) found = answer_made marking p.name (place.gives p found)
+gives_at l marking (Want n) found = Some (answer.Ref n)
+gives_at l marking (Assist n x) found = answer_assist n (assist.gives l x found)
 
 -- the statement acts by the step, and whether it then found no room
-abbrev pub acts_at : NewStage → (found : ℕ) → Bool
-acts_at (Search waited s) found = refuses_behind_wait waited (search.gives s found)
-acts_at (Wait x) found = false
-acts_at (Place p) found = place.makes_its_object p
-acts_at (Want n) found = false
-acts_at (Assist n x) found = false
+abbrev pub acts_at : Layout → NewStage → (found : ℕ) → Bool
+acts_at l (Search waited s) found = refuses_behind_wait waited (search.gives l s found)
+acts_at l (Wait x) found = false
+acts_at l (Place p) found = place.makes_its_object p
+acts_at l (Want n) found = false
+acts_at l (Assist n x) found = false
 
 abbrev pub is_full_at : NewStage → Bool
 is_full_at (Place p) = false

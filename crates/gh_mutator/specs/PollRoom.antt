@@ -4,8 +4,7 @@ use Rattle.gh_base.specs.declared.operation.Op.TheVariants as op
 use Rattle.gh_wbuf.specs.declared.find_room.RoomStage.{RoomStage}
 use Rattle.gh_wbuf.specs.declared.find_room.RoomStage.TheVariants.{GiveBack, Try, Ended as Found}
 use Rattle.gh_wbuf.specs.declared.try_buffer.Wish.TheVariants.{Room}
-use Rattle.gh_wbuf.specs.Trying.{is_busy as try_busy}
-use Rattle.gh_wbuf.specs.TrySound.{SoundTryStage}
+use Rattle.gh_wbuf.specs.Trying.{is_busy as try_busy, SoundTryStage}
 use Rattle.gh_poll.specs.declared.poll.PollStage.{PollStage}
 use Rattle.gh_poll.specs.declared.poll.PollStage.TheVariants.{FindRoom, Ended}
 use Rattle.gh_mutator.specs.declared.task.Task.TheVariants as task

@@ -1,7 +1,8 @@
 -- What the processor knows of its own state, whatever words it finds: its numbers are in their ranges.
 use Rattle.std.specs.Prelude.{◌≡◌, ℕ, ◌*◌, ◌^◌, ◌<◌, ◌≤◌, nat_lt, Bool, true, false, List, length, slice_index}
-use Rattle.gh_mutator.specs.Vocabulary.{REGISTERS, Layout, Op, Shape, Seeking, Placing, Global, GlobalStage, LoadStage, NewStage, Wanted, Polling, Processor, Register, StoreStage, Task}
+use Rattle.gh_mutator.specs.Vocabulary.{REGISTERS, Layout, Op, Shape, Seeking, Global, GlobalStage, LoadStage, NewStage, Wanted, Polling, Processor, Register, StoreStage, Task}
 use Rattle.gh_base.specs.declared.limits.TheConstants.{MOST_STATEMENTS}
+use Rattle.gh_base.specs.Machines.{Runs}
 use Rattle.gh_base.specs.declared.operation.Op.TheVariants as op
 use Rattle.gh_alloc.specs.Place as place
 use Rattle.gh_assist.specs.Listing as assist
@@ -17,7 +18,6 @@ use Rattle.gh_mutator.specs.declared.store.Store.{Store}
 use Rattle.gh_mutator.specs.declared.store.StoreStage.TheVariants as store
 use Rattle.gh_mutator.specs.declared.task.Task.TheVariants as task
 use Rattle.gh_poll.specs.Barrier.{has_entries}
-use Rattle.gh_poll.specs.GiveSound.{Runs}
 use Rattle.gh_poll.specs.Leave as leave
 use Rattle.gh_poll.specs.Local.{cache_with}
 use Rattle.gh_mutator.specs.New.{is_made}
@@ -83,11 +83,11 @@ pub record SoundStore (pages : ℕ) (x : Store) : Type 0 where
   pub within : x.at < 1024 * pages
   pub stage : SoundStoreStage x.k x.stage
 
--- there is room for its write, until that is begun; the write is of this heap, and it is not over
+-- there is room for its write, until that is begun; the write is sound, and it is not over
 abbrev pub StoreRoom : Polling → StoreStage → Type 0
 StoreRoom p store.Page = has_entries p ≡ true
 StoreRoom p store.Bits = has_entries p ≡ true
-StoreRoom p (store.Writing w) = Runs p.layout w.layout (write.is_busy w.stage)
+StoreRoom p (store.Writing w) = Runs (write.listing p.layout) w
 StoreRoom p _ = Unit {0}
 
 pub record SoundGlobal (globals : ℕ) (x : Global) : Type 0 where
@@ -95,7 +95,7 @@ pub record SoundGlobal (globals : ℕ) (x : Global) : Type 0 where
   pub global : x.k < globals
 
 abbrev pub GlobalRoom : Polling → GlobalStage → Type 0
-GlobalRoom p (global.Writing w) = Runs p.layout w.layout (write.is_busy w.stage)
+GlobalRoom p (global.Writing w) = Runs (write.listing p.layout) w
 GlobalRoom p _ = Unit {0}
 
 pub record SoundRegister (x : Register) : Type 0 where
@@ -110,24 +110,18 @@ pub record SoundWanted (shapes : List Shape) (w : Wanted) : Type 0 where
   pub slot : 1 ≤ w.slot
   pub words : w.slot ≡ words_sought w.sought
 
--- the search is for this object, in this heap, and it is not over; the span that it has cached is cached with the poll, where to cache it changes nothing
+-- the search is for this object, it is sound, and it is not over; the span that it has cached is cached with the poll, where to cache it changes nothing
 pub record SoundSearch (p : Polling) (w : Wanted) (s : Seeking) : Type 0 where
-  pub busy : search.is_busy s.find s.stage ≡ true
-  pub layout : s.find.layout ≡ p.layout
+  pub runs : Runs (search.listing p.layout) s
   pub wanted : s.find.wanted ≡ w.sought
   pub cached : cache_with p.local.cache w.sought s.find.cached ≡ p.local.cache
-
--- the making is one in this heap, and it is not over
-pub record SoundPlace (l : Layout) (p : Placing) : Type 0 where
-  pub busy : place.is_busy p.stage ≡ true
-  pub layout : p.layout ≡ l
 
 abbrev pub SoundNewStage : Polling → Wanted → NewStage → Type 0
 SoundNewStage p w (new.Search waited s) = SoundSearch p w s
 SoundNewStage p w (new.Wait x) = SoundWaiting p x
-SoundNewStage p w (new.Place x) = SoundPlace p.layout x
+SoundNewStage p w (new.Place x) = Runs (place.listing p.layout) x
 SoundNewStage p w (new.Want n) = Unit {0}
-SoundNewStage p w (new.Assist n x) = Runs p.layout x.layout (assist.is_busy x.stage)
+SoundNewStage p w (new.Assist n x) = Runs (assist.listing p.layout) x
 
 -- there is a further name for the object that is being made
 abbrev pub HasName : (made : ℕ) → NewStage → Type 0

@@ -53,5 +53,5 @@ pub record DebtsAreDropped : Type 0 where
   pub other_cycle : (p : Polling) (out : Resumed) → out.another_cycle ≡ true → (resumed p out).local.owed ≡ 0
   pub other_cycle_step : (p : Polling) (r : Resuming) (found : ℕ) (out : Resumed) → p.stage ≡ poll_stage.Resuming r → resume.gives r found ≡ Some out → out.another_cycle ≡ true → (goes p found).local.owed ≡ 0
   -- behind a step of an assist it owes what that says, and behind any other as much as before, or nothing
-  pub assists_so : (shapes : List Shape) (m : Processor) (found : ℕ) (w : Wanted) (n : Name) (x : Assisting) → m.task ≡ assists w n x → owed_of (takes shapes m found) ≡ (assist.goes x found).owed
+  pub assists_so : (shapes : List Shape) (m : Processor) (found : ℕ) (w : Wanted) (n : Name) (x : Assisting) → m.task ≡ assists w n x → owed_of (takes shapes m found) ≡ (assist.goes m.poll.layout x found).owed
   pub stays : (shapes : List Shape) (m : Processor) (found : ℕ) → IsSound m → is_busy_at m.task ≡ true → (IsAssisting m.task → ⊥) → (owed_of (takes shapes m found) ≡ owed_of m) ⊎ (owed_of (takes shapes m found) ≡ 0)

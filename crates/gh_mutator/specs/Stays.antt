@@ -51,7 +51,7 @@ assist_ends m w n x out = grind arith
 once_ends : (after : Option (Unit {0}) → Processor) (a : Answer) → is_busy_at (after None).task ≡ true → ((x : Unit {0}) → is_busy_at (after (Some x)).task ≡ false) → (out : Option (Unit {0})) → is_busy_at (after out).task ≡ is_none (once_ended out a)
 once_ends after a on over out = grind arith
 
-new_ends : (shapes : List Shape) (m : Processor) (w : Wanted) (s : NewStage) (found : ℕ) → is_busy_at (new.takes_at shapes m w s found).task ≡ is_none (new.gives_at (marking_at m.poll) s found)
+new_ends : (shapes : List Shape) (m : Processor) (w : Wanted) (s : NewStage) (found : ℕ) → is_busy_at (new.takes_at shapes m w s found).task ≡ is_none (new.gives_at m.poll.layout (marking_at m.poll) s found)
 new_ends shapes m w s found = grind (arith, assist_ends, once, place_ends, search_ends)
 
 ends_at : (shapes : List Shape) (m : Processor) (t : Task) (found : ℕ) → is_busy_at t ≡ true → is_busy_at (takes_at shapes m t found).task ≡ is_none (gives_at m t found)
@@ -91,11 +91,11 @@ waits_stay : (m : Processor) (after : Waiting → Option (Unit {0}) → Processo
 waits_stay m after stays x found = stays (wait.goes (wait.waiting x m.poll) found) (wait.gives (wait.waiting x m.poll) found) ∙ wait_stays (wait.waiting x m.poll) found
 
 new_stays : (shapes : List Shape) (m : Processor) (w : Wanted) (s : NewStage) (found : ℕ) → (new.takes_at shapes m w s found).poll.layout ≡ m.poll.layout
-new_stays shapes m w (Search waited s) found = search_stays shapes (cache_span m w.sought (search.goes s found).find.cached) w waited (search.goes s found) (search.gives s found)
+new_stays shapes m w (Search waited s) found = search_stays shapes (cache_span m w.sought (search.goes m.poll.layout s found).find.cached) w waited (search.goes m.poll.layout s found) (search.gives m.poll.layout s found)
 new_stays shapes m w (Wait x) found = waits_stay m (after_wait m w) (λ y. once (In y.poll) (after_wait m w y) refl (λ u. refl)) x found
 new_stays shapes m w (Place p) found = place_stays m w (place.makes_its_object p) p.at (place.goes p found)
 new_stays shapes m w (Want n) found = refl
-new_stays shapes m w (Assist n x) found = assist_stays m w n (assist.goes x found) (assist.gives x found)
+new_stays shapes m w (Assist n x) found = assist_stays m w n (assist.goes m.poll.layout x found) (assist.gives m.poll.layout x found)
 
 stays_at : (shapes : List Shape) (m : Processor) (t : Task) (found : ℕ) → (takes_at shapes m t found).poll.layout ≡ m.poll.layout
 stays_at shapes m t found = grind (arith, new_stays, once, poll_stays, takes_stay, waits_stay)
@@ -106,8 +106,8 @@ stays m found = grind (arith, stays_at)
 -- ---- what a routine of it keeps, and what it takes from the processor
 
 -- a search is for the same until it ends
-pub search_wants : (s : Seeking) (found : ℕ) → (search.goes s found).find.wanted ≡ s.find.wanted
-search_wants s found = ap (λ (b : Base). b.wanted) (search_base s.find s.stage found)
+pub search_wants : (l : Layout) (s : Seeking) (found : ℕ) → (search.goes l s found).find.wanted ≡ s.find.wanted
+search_wants l s found = ap (λ (b : Base). b.wanted) (search_base l s.find s.stage found)
 
 -- and it begins with the sweep generation that the processor knows
 pub seeks_now : (m : Processor) (w : Wanted) → (new.seeking m w).find.generation ≡ m.poll.local.view.generation
@@ -118,5 +118,5 @@ pub assist_spent : (m : Processor) (w : Wanted) (n : Name) (x : Assisting) (out 
 assist_spent m w n x out = grind (arith, payment_spent)
 
 -- a pointer is stored behind the write barrier where marking is on, as the processor knows
-pub stores_behind : (l : Layout) (own : Local) (held : Value) (x : Store) → is_mark own.view.phase ≡ true → store.stores l own held x true ≡ store_stage.Writing (written l own (store.pointer_cell_at l (x.at + x.k)) held)
-stores_behind l own held x on = ap (λ (marking : Bool). cond marking (store_stage.Writing (written l own (store.pointer_cell_at l (x.at + x.k)) held)) store_stage.Field) on
+pub stores_behind : (l : Layout) (own : Local) (held : Value) (x : Store) → is_mark own.view.phase ≡ true → store.stores l own held x true ≡ store_stage.Writing (written own (store.pointer_cell_at l (x.at + x.k)) held)
+stores_behind l own held x on = ap (λ (marking : Bool). cond marking (store_stage.Writing (written own (store.pointer_cell_at l (x.at + x.k)) held)) store_stage.Field) on

@@ -46,7 +46,7 @@ module _ (l : Layout) (held : Value) (x : Store) where
   abbrev pub asks_at : StoreStage → Ask
   asks_at NilBase = ask.Load cell.Touch
   asks_at Page = ask.Load (page_cell l x.at)
-  asks_at Bits = reading.asks (reading.opening l (x.at + x.k))
+  asks_at Bits = reading.asks l (reading.opening (x.at + x.k))
   asks_at Field = ask.Store (field_cell l (x.at + x.k)) (word_of_value held)
   asks_at (Writing w) = write.asks w
 
@@ -59,7 +59,7 @@ after_write x w (Some y) = ends answer.Done
 module _ (l : Layout) (own : Local) (held : Value) (x : Store) where
   -- behind the bitmap word, by whether the field is a pointer
   abbrev pub stores : (pointer : Bool) → StoreStage
-  stores pointer = if pointer && is_mark own.view.phase then Writing (written l own (pointer_cell_at l (x.at + x.k)) held) else Field
+  stores pointer = if pointer && is_mark own.view.phase then Writing (written own (pointer_cell_at l (x.at + x.k)) held) else Field
 
   abbrev pub by_kind : (pointer : Bool) → Step Store
   by_kind pointer = if kinds_differ pointer held then ends (answer.Fault fault.Kind) else goes_on (at_stage x (stores pointer))
@@ -69,12 +69,12 @@ module _ (l : Layout) (own : Local) (held : Value) (x : Store) where
   step_at Page found = if has_field x.k found then goes_on (at_stage x Bits) else ends (answer.Fault fault.Field)
   step_at Bits found = by_kind (is_pointer_by l (x.at + x.k) found)
   step_at Field found = ends answer.Done
-  step_at (Writing w) found = after_write x (write.goes w found) (write.gives w found)
+  step_at (Writing w) found = after_write x (write.goes l w found) (write.gives l w found)
 
 -- the buffer that is held behind its step, where this one was
-abbrev pub held_behind : Option Held → StoreStage → (found : ℕ) → Option Held
-held_behind held (Writing w) found = held_then w found
-held_behind held _ found = held
+abbrev pub held_behind : Layout → Option Held → StoreStage → (found : ℕ) → Option Held
+held_behind l held (Writing w) found = held_then l w found
+held_behind l held _ found = held
 
 -- the step that it asks for, and what that step does where it found this
 abbrev pub asks : Layout → (held : Value) → Store → Ask

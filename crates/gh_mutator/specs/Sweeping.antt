@@ -40,8 +40,8 @@ pub record SweepsAreRunOn : Type 0 where
   pub at_first : (l : Layout) (seat : ℕ) → sweep_in (opening_processor l seat) ≡ None
   pub begun : (shapes : List Shape) (l : Layout) (m : Processor) (o : Op) → sweep_in m ≡ None → sweep_in ((processor_kind shapes l).begins m o) ≡ None
   -- while it runs a sweep its step is the sweep's, and it runs that on until it has ended
-  pub on : (shapes : List Shape) (m : Processor) (sw : Sweeping) → sweep_in m ≡ Some sw → is_busy sw.stage ≡ true → SweepsOn asks (takes shapes) sweep_in m sw
+  pub on : (shapes : List Shape) (m : Processor) (sw : Sweeping) → sweep_in m ≡ Some sw → is_busy sw.stage ≡ true → SweepsOn m.poll.layout asks (takes shapes) sweep_in m sw
   -- a step of a search leads to the sweep that the search runs then
-  pub searches : (shapes : List Shape) (m : Processor) (w : Wanted) (waited : Bool) (q : Seeking) (found : ℕ) → sweep_in (takes_at shapes m (looks w waited q) found) ≡ search.sweep_in (search.goes q found)
+  pub searches : (shapes : List Shape) (m : Processor) (w : Wanted) (waited : Bool) (q : Seeking) (found : ℕ) → sweep_in (takes_at shapes m (looks w waited q) found) ≡ search.sweep_in (search.goes m.poll.layout q found)
   -- and any other to none
   pub others : (shapes : List Shape) (m : Processor) (found : ℕ) → sweep_in m ≡ None → (IsSearching m.task → ⊥) → sweep_in (takes shapes m found) ≡ None

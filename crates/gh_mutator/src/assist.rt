@@ -15,7 +15,7 @@ impl<'s> Processor<'s> {
         match &self.at {
             TaskAt::Large => match &self.large {
                 LargeTask::New(new) => match &new.stage {
-                    NewStage::Assist(_, assist) => assist.spent(),
+                    NewStage::Assist(_, assist) => assist.spent,
                     _ => self.poll.spent(),
                 },
                 _ => self.poll.spent(),

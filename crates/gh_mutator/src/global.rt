@@ -169,7 +169,7 @@ impl<'s> Processor<'s> {
         requires register { IsRegister g v }
         requires near { IsNear self.old.poll.layout.pages (register_of self.old g v) }
         requires room { has_entries self.old.poll ≡ true }
-        ensures { self.new ≡ at_task self.old (task.Global (begins_store self.old.poll.layout self.old.poll.local g k v (register_of self.old g v))) }
+        ensures { self.new ≡ at_task self.old (task.Global (begins_store self.old.poll.local g k v (register_of self.old g v))) }
     {
         let stage = match self.poll.register(g, v) {
             Value::Int(_) => DirectStage::Number,
@@ -190,7 +190,7 @@ impl<'s> Processor<'s> {
         requires near { IsNear self.old.poll.layout.pages held }
         requires marking { marking_at self.old.poll ≡ true }
         requires room { has_entries self.old.poll ≡ true }
-        ensures { self.new ≡ at_task self.old (task.Global (record { g = g; r = v; k = k; stage = stage.Writing (written self.old.poll.layout self.old.poll.local (pointer_cell.Global k) held) })) }
+        ensures { self.new ≡ at_task self.old (task.Global (record { g = g; r = v; k = k; stage = stage.Writing (written self.old.poll.local (pointer_cell.Global k) held) })) }
     {
         let write = self.poll.write(PointerCell::Global(k), held);
         self.large = LargeTask::Write(GlobalWrite { g, r: v, k, write });

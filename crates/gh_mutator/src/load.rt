@@ -84,7 +84,7 @@ impl Load {
         match self.stage {
             LoadStage::NilBase => Ask::Load(Cell::Touch),
             LoadStage::Page => Ask::Load(page_cell(layout, self.at)),
-            LoadStage::Bits => ReadPointer::new(layout, self.at + self.k).ask(),
+            LoadStage::Bits => ReadPointer::new(self.at + self.k).ask(layout),
             LoadStage::Field { pointer: _ } => Ask::Load(field_cell(layout, self.at + self.k)),
             LoadStage::Birth { at } => Ask::Load(birth_cell(layout, at)),
         }

@@ -221,14 +221,14 @@ impl<'s> Mutator<'s> {
     /// through all that a processor may be at.
     #[inline(always)]
     pub fn goes_on(&mut self, found: u64) -> bool
-        ensures exactly { result ≡ search_goes_on self.old.processor.task found }
+        ensures exactly { result ≡ search_goes_on self.old.processor.poll.layout self.old.processor.task found }
         ensures goes { IsTrue result → self.new ≡ goes self.old found }
         ensures last { IsTrue result → is_last self.old.processor.task ≡ false }
         ensures point { IsTrue result → is_point (acts self.old found) ≡ false }
         ensures answer { IsTrue result → statement_answer self.old.processor found ≡ None }
         ensures stays { result ≡ false → self.new ≡ self.old }
     {
-        self.processor.goes_on(found)
+        self.processor.goes_on(self.shapes, found)
     }
 
     /// The words that it has drawn from the bank of credit. The number stands at `u64::MAX`, which no run reaches.

@@ -8,24 +8,28 @@ ghost use Rattle.std.specs.Prelude.{◌≡◌, ◌+◌, ◌*◌, ◌^◌, ◌<�
 ghost use Rattle.gh_alloc.specs.FindSound.{FitsPages};
 ghost use Rattle.gh_alloc.specs.PlaceSound.{FitsSpanHead};
 ghost use Rattle.gh_alloc.specs.Within.{LiesWithin};
+ghost use Rattle.gh_base.specs.Machines.{Runs};
 ghost use Rattle.gh_mutator.specs.Listing.{gives, takes};
 ghost use Rattle.gh_alloc.specs.Place as places;
+ghost use Rattle.gh_alloc.specs.Search as sought;
 ghost use Rattle.gh_mutator.specs.New.{after_found, answer_found, answer_made, next_of, own_span, searches, seeking, wanted_of};
 ghost use Rattle.gh_mutator.specs.NewParts.{after_making, made_at, made_by_step, MakingFits};
 ghost use Rattle.gh_mutator.specs.Processor.{at_task, made_by};
-ghost use Rattle.gh_poll.specs.Local.{marking_at};
+ghost use Rattle.gh_poll.specs.Local.{marking_at, with_cached};
 ghost use Rattle.gh_mutator.specs.Serving.{is_making};
 ghost use Rattle.gh_base.specs.Shapes.{ShapesFit};
 ghost use Rattle.gh_poll.specs.Registers.{IsRegister};
-ghost use Rattle.gh_mutator.specs.Sound.{Sound, SoundWanted};
+ghost use Rattle.gh_mutator.specs.Sound.{Sound, SoundSearch, SoundWanted};
 
 use crate::processor::Processor;
 use crate::task::{LargeTask, TaskAt};
+use gh_alloc::laws::{making_is_a_routine, searching_is_a_routine};
 use gh_alloc::{Found, Place, Search, Sought};
 use gh_assist::Assist;
-use gh_base::{Answer, Machine, Name, Shapes, SpanHead, Value};
+use gh_assist::laws::assist_is_a_routine;
+use gh_base::{Answer, Layout, Name, Routine, Shapes, SpanHead, Value};
 use gh_class::{SizeClass, SpanClass, size_class_laws, slot_words};
-use gh_poll::Wait;
+use gh_poll::{Poll, Wait};
 
 /// An object that is to be made: of type `t`, for register `d` of goroutine `g`.
 #[derive(Clone, Copy, Debug, PartialEq, Eq)]
@@ -88,21 +92,34 @@ impl Wanted {
     }
 }
 
+/// A step of the search for this object: the poll caches the span that the search has cached then.
+fn seek(poll: &mut Poll, wanted: &Wanted, search: &mut Search, found: u64) -> Option<Found>
+    requires { SoundSearch poll.old wanted.now search.old }
+    ensures goes { search.new ≡ sought.goes poll.old.layout search.old found }
+    ensures gives { result ≡ sought.gives poll.old.layout search.old found }
+    ensures caches { poll.new ≡ with_cached poll.old wanted.now.sought search.new.find.cached }
+    ensures within { IfSome result (LiesWithin poll.old.layout wanted.now.sought) }
+{
+    let out = search.take(poll.layout(), found);
+    poll.cache_span(&wanted.sought, search.cached());
+    out
+}
+
 /// A step of the making: the object's first heap word, where the step makes the object, and whether a cycle is to be
 /// asked for, where the making is over.
-fn make(place: &mut Place<'_>, found: u64) -> (Option<u32>, Option<bool>)
-    requires { places.is_busy place.old.stage ≡ true }
+fn make(place: &mut Place<'_>, layout: &Layout, found: u64) -> (Option<u32>, Option<bool>)
+    requires { Runs (places.listing layout.now) place.old }
     ensures goes { place.new ≡ places.goes place.old found }
     ensures made { result.0 ≡ made_at place.old }
     ensures asks { result.1 ≡ places.gives place.old found }
-    ensures fits { MakingFits place.old.layout result.0 }
+    ensures fits { MakingFits layout.now result.0 }
 {
     let made = if place.acts() {
         Some(place.word())
     } else {
         None
     };
-    (made, place.take(found))
+    (made, place.take(layout, found))
 }
 
 impl<'s> Processor<'s> {
@@ -131,7 +148,6 @@ impl<'s> Processor<'s> {
     {
         let cached = self.poll.cached_for(&wanted.sought);
         Search::new(
-            self.poll.layout(),
             self.poll.seat(),
             self.poll.generation(),
             wanted.sought,
@@ -176,15 +192,18 @@ impl<'s> Processor<'s> {
         ensures gives { result ≡ gives self.old found }
         ensures sound { Sound shapes.now self.new }
     {
+        size_class_laws();
+        searching_is_a_routine();
+        making_is_a_routine();
+        assist_is_a_routine();
+        self.poll.numbers_fit();
         let LargeTask::New(new) = &mut self.large else {
             return None;
         };
         // Most steps end none of its stages, and then no more of what is wanted is looked at than they need.
         match &mut new.stage {
             NewStage::Search { waited, search } => {
-                let out = search.take(found);
-                self.poll.cache_span(&new.wanted.sought, search.cached());
-                match out {
+                match seek(&mut self.poll, &new.wanted, search, found) {
                     None => None,
                     Some(out) => {
                         let (wanted, waited) = (new.wanted, *waited);
@@ -193,16 +212,17 @@ impl<'s> Processor<'s> {
                 }
             }
             NewStage::Wait(wait) => {
-                if wait.take(&mut self.poll, found).is_some() {
+                let ended = wait.take(&mut self.poll, found).is_some();
+                self.poll.numbers_fit();
+                if ended {
                     let wanted = new.wanted;
                     self.search_again(shapes, wanted);
                 }
                 None
             }
             NewStage::Place(place) => {
-                size_class_laws();
                 let name = place.name();
-                let (made, asks) = make(place, found);
+                let (made, asks) = make(place, self.poll.layout(), found);
                 let wanted = new.wanted;
                 self.after_place(wanted, made, name, asks)
             }
@@ -212,7 +232,7 @@ impl<'s> Processor<'s> {
                 Some(Answer::Ref(name))
             }
             NewStage::Assist(name, assist) => {
-                assist.take(found)?;
+                assist.take(self.poll.layout(), found)?;
                 let (name, assist) = (*name, *assist);
                 self.poll.pay(&assist);
                 self.at = TaskAt::Idle;
@@ -241,8 +261,8 @@ impl<'s> Processor<'s> {
                 let shape = &shapes.rows[wanted.t as usize];
                 let name = self.next_name(&wanted);
                 let span = self.own_span(&wanted.sought);
-                let (layout, marking) = (self.poll.layout(), self.poll.marking());
-                let place = Place::new(layout, shape, at, wanted.slot, name, span, marking);
+                let marking = self.poll.marking();
+                let place = Place::new(shape, at, wanted.slot, name, span, marking);
                 let stage = NewStage::Place(place);
                 self.large = LargeTask::New(New { wanted, stage });
                 self.at = TaskAt::Large;

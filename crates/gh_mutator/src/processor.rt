@@ -92,6 +92,7 @@ impl<'s> Processor<'s> {
         ensures sound { Sound shapes.now self.new }
     {
         size_class_laws();
+        self.poll.numbers_fit();
         match op {
             Op::New { g, d, t } => self.begin_new(shapes, g, d, t),
             Op::Load { g, d, b, k } => {

@@ -1,8 +1,7 @@
 //! The steps of a processor: what its task asks for, where it goes by what was found, what it then
 //! answers, and where a statement acts. A statement says so in its own file; here it is applied.
 
-ghost use Rattle.std.specs.Prelude.{◌≡◌, ◌<◌, true, false, IsTrue, List, None, Some};
-ghost use Rattle.gh_base.specs.declared.shape.Shape.{Shape};
+ghost use Rattle.std.specs.Prelude.{◌≡◌, ◌<◌, true, false, IsTrue, None, Some};
 ghost use Rattle.gh_base.specs.Cells.{InRange};
 ghost use Rattle.gh_base.specs.Steps.{cell_of, request};
 ghost use Rattle.gh_base.specs.declared.value.Answer.TheVariants.{Done, Swept};
@@ -27,7 +26,9 @@ use crate::processor::Processor;
 use crate::register::Register;
 use crate::step::{Step, Then};
 use crate::task::{LargeTask, Statement, TaskAt};
-use gh_base::{Answer, Ask, Cell, END, Machine, Req, Shapes};
+use gh_alloc::laws::searching_is_a_routine;
+use gh_barrier::laws::writing_is_a_routine;
+use gh_base::{Answer, Ask, Cell, END, Machine, Req, Routine, Shapes};
 use gh_class::size_class_laws;
 use gh_poll::Wait;
 
@@ -49,13 +50,13 @@ impl<'s> Processor<'s> {
             TaskAt::End(g) => Ask::Store(Cell::Scanned(*g), END),
             TaskAt::Large => match &self.large {
                 LargeTask::Store(x) => return x.next(&self.poll, self.poll.register(x.g, x.v)),
-                LargeTask::Write(x) => return x.write.next(),
+                LargeTask::Write(x) => return x.write.next(layout),
                 LargeTask::New(new) => match &new.stage {
-                    NewStage::Search { search, .. } => return search.next(),
+                    NewStage::Search { search, .. } => return search.next(layout),
                     NewStage::Wait(wait) => return wait.next(&self.poll),
-                    NewStage::Place(place) => return place.next(),
+                    NewStage::Place(place) => return place.next(layout),
                     NewStage::Want(_) => Ask::Or(Cell::Want, 1),
-                    NewStage::Assist(_, assist) => return assist.next(),
+                    NewStage::Assist(_, assist) => return assist.next(layout),
                 },
                 LargeTask::Leave(leave) => return leave.next(),
             },
@@ -98,6 +99,8 @@ impl<'s> Processor<'s> {
         ensures sound { Sound shapes.now self.new }
     {
         size_class_laws();
+        writing_is_a_routine();
+        self.poll.numbers_fit();
         match self.at {
             TaskAt::Idle | TaskAt::Left => None,
             TaskAt::Load(x) => self.take_load(x, found),
@@ -122,6 +125,8 @@ impl<'s> Processor<'s> {
         ensures sound { Sound shapes.now self.new }
     {
         size_class_laws();
+        writing_is_a_routine();
+        self.poll.numbers_fit();
         match &mut self.large {
             LargeTask::Store(x) => {
                 let x = *x;
@@ -289,19 +294,21 @@ impl<'s> Processor<'s> {
     /// Makes the step that found this at once, where by it the search of a `new`, in its first round, goes on to the next alloc
     /// word of a span or to a further page, and answers whether that is so; where not, nothing has changed.
     #[inline(always)]
-    pub(crate) fn goes_on(&mut self, found: u64) -> bool
-        ensures exactly { result ≡ search_goes_on self.old.task found }
-        ensures goes { IsTrue result → (shapes : List Shape) → Sound shapes self.old → self.new ≡ takes shapes self.old found }
-        ensures sound { (shapes : List Shape) → Sound shapes self.old → Sound shapes self.new }
+    pub(crate) fn goes_on(&mut self, _shapes: &Shapes, found: u64) -> bool
+        requires { Sound _shapes.now self.old }
+        ensures exactly { result ≡ search_goes_on self.old.poll.layout self.old.task found }
+        ensures goes { IsTrue result → self.new ≡ takes _shapes.now self.old found }
+        ensures sound { Sound _shapes.now self.new }
         ensures last { IsTrue result → is_last self.old.task ≡ false }
         ensures point { IsTrue result → is_point (acts self.old found) ≡ false }
         ensures answer { IsTrue result → statement_answer self.old found ≡ None }
         ensures stays { result ≡ false → self.new ≡ self.old }
     {
+        searching_is_a_routine();
         match &self.at {
             TaskAt::Large => match &mut self.large {
                 LargeTask::New(new) => match &mut new.stage {
-                    NewStage::Search { search, .. } => search.goes_on(found),
+                    NewStage::Search { search, .. } => search.goes_on(self.poll.layout(), found),
                     _ => false,
                 },
                 _ => false,

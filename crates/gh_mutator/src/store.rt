@@ -3,9 +3,9 @@
 ghost use Rattle.std.specs.Prelude.{◌≡◌, true};
 ghost use Rattle.gh_barrier.specs.Listing as writes;
 ghost use Rattle.gh_base.specs.Cells.{InRange};
+ghost use Rattle.gh_base.specs.Machines.{Runs};
 ghost use Rattle.gh_base.specs.Steps.{cell_of, request};
 ghost use Rattle.gh_poll.specs.Barrier.{has_entries, held_then, with_held};
-ghost use Rattle.gh_poll.specs.GiveSound.{Runs};
 ghost use Rattle.gh_mutator.specs.Listing.{applied};
 ghost use Rattle.gh_mutator.specs.Processor.{keeping, register_of};
 ghost use Rattle.gh_mutator.specs.Step.{answered};
@@ -20,7 +20,7 @@ use crate::field::{
 use crate::processor::Processor;
 use crate::step::Step;
 use gh_barrier::WritePointer;
-use gh_base::{Answer, Ask, Cell, Fault, Layout, Machine, Req, Value};
+use gh_base::{Answer, Ask, Cell, Fault, Layout, Req, Routine, Value};
 use gh_bitmap::ReadPointer;
 use gh_poll::Poll;
 
@@ -90,12 +90,12 @@ impl Store {
         let ask = match &self.stage {
             StoreStage::NilBase => Ask::Load(Cell::Touch),
             StoreStage::Page => Ask::Load(page_cell(layout, self.at)),
-            StoreStage::Bits => ReadPointer::new(layout, self.at + self.k).ask(),
+            StoreStage::Bits => ReadPointer::new(self.at + self.k).ask(layout),
             StoreStage::Field => {
                 let word = word_of_value(held);
                 Ask::Store(field_cell(layout, self.at + self.k), word)
             }
-            StoreStage::Writing(write) => return write.next(),
+            StoreStage::Writing(write) => return write.next(layout),
         };
         layout.request(ask)
     }
@@ -122,9 +122,9 @@ impl Store {
 
     /// A step of its write.
     fn write(&self, poll: &mut Poll, write: &WritePointer, found: u64) -> Step<Store>
-        requires { Runs poll.old.layout write.now.layout (writes.is_busy write.now.stage) }
-        ensures is { result ≡ after_write self.now (writes.goes write.now found) (writes.gives write.now found) }
-        ensures holds { poll.new ≡ with_held poll.old (held_then write.now found) }
+        requires { Runs (writes.listing poll.old.layout) write.now }
+        ensures is { result ≡ after_write self.now (writes.goes poll.old.layout write.now found) (writes.gives poll.old.layout write.now found) }
+        ensures holds { poll.new ≡ with_held poll.old (held_then poll.old.layout write.now found) }
     {
         let mut write = *write;
         match poll.take_write(&mut write, found) {
@@ -139,7 +139,7 @@ impl Store {
         requires room { StoreRoom poll.old self.now.stage }
         requires near { IsNear poll.old.layout.pages held }
         ensures is { result ≡ step poll.old.layout poll.old.local held self.now found }
-        ensures holds { poll.new ≡ with_held poll.old (held_behind poll.old.local.held self.now.stage found) }
+        ensures holds { poll.new ≡ with_held poll.old (held_behind poll.old.layout poll.old.local.held self.now.stage found) }
     {
         match &self.stage {
             StoreStage::NilBase => Step::ends(Answer::Fault(Fault::NilBase)),
@@ -182,7 +182,7 @@ impl<'s> Processor<'s> {
         requires sound { SoundStore self.old.poll.layout.pages x.now }
         requires room { StoreRoom self.old.poll x.now.stage }
         requires near { IsNear self.old.poll.layout.pages (register_of self.old x.now.g x.now.v) }
-        ensures goes { self.new ≡ applied task.Store (keeping self.old (held_behind self.old.poll.local.held x.now.stage found)) x.now.g x.now.v (step self.old.poll.layout self.old.poll.local (register_of self.old x.now.g x.now.v) x.now found) }
+        ensures goes { self.new ≡ applied task.Store (keeping self.old (held_behind self.old.poll.layout self.old.poll.local.held x.now.stage found)) x.now.g x.now.v (step self.old.poll.layout self.old.poll.local (register_of self.old x.now.g x.now.v) x.now found) }
         ensures gives { result ≡ answered (step self.old.poll.layout self.old.poll.local (register_of self.old x.now.g x.now.v) x.now found).then }
     {
         // The stage's type has to be named here: the prover builds no plan for `apply` without.

@@ -2,7 +2,7 @@
 use Rattle.std.proofs.Common.{subst, ◌≡◌, ℕ, Bool, Option, Some, None, sym, ap, ◌∙◌, arith}
 use Rattle.gh_alloc.specs.Search as search
 use Rattle.gh_alloc.specs.SearchFacts.{SweepsHere}
-use Rattle.gh_sweep.specs.Listing.{opening, Sweeping}
+use Rattle.gh_sweep.specs.Listing.{Sweeping}
 use Rattle.gh_sweep.specs.Running.{BeginsSweep, RunsSweeps}
 use Rattle.gh_mutator.specs.declared.task.Task.TheVariants as task
 use Rattle.gh_mutator_heap.specs.Facts.{FactsAt, rest}
@@ -16,29 +16,29 @@ use Rattle.gh_mutator.specs.Listing.{takes}
 
 -- what is known of the search and of the processor by their laws
 pub record Known : Type 0 where
-  pub runs : RunsSweeps search.asks search.goes search.sweep_layout search.sweep_generation search.sweep_in
+  pub runs : (l : Layout) → RunsSweeps (search.asks l) (search.goes l) (λ (q : Seeking). l) search.sweep_generation search.sweep_in
   pub here : SweepsHere
   pub run_on : SweepsAreRunOn
 
 module _ (k : Known) (z : Arena) (a : ℕ) (v : View) (m : Processor) (pending : Option Answer) (found : ℕ) (sw : Sweeping) where
   abbrev Begins : Task → Type 0
-  Begins q = FactsAt z a v m pending q → sweep_at q ≡ None → sweep_in (takes_at z.shapes m q found) ≡ Some sw → BeginsSweep z.layout v.generation (asks_at m q) found sw
+  Begins q = FactsAt z a v m pending q → sweep_at q ≡ None → sweep_in (takes_at z.shapes m q found) ≡ Some sw → BeginsSweep v.generation (asks_at m q) found sw
 
   none_so : (o : Option Sweeping) → o ≡ None → o ≡ Some sw → ⊥
   none_so o none some = cc
 
   searched : (x : Wanted) (waited : Bool) (y : Seeking) → Begins (searches x waited y)
   searched x waited y f none some =
-      let there : search.sweep_in (search.goes y found) ≡ Some sw = sym (k.run_on.searches z.shapes m x waited y found) ∙ some in
-      let b = k.runs.begins y found sw none there in
+      let there : search.sweep_in (search.goes m.poll.layout y found) ≡ Some sw = sym (k.run_on.searches z.shapes m x waited y found) ∙ some in
+      let b = (k.runs m.poll.layout).begins y found sw none there in
       let here = k.here z a v (rest m x) y f.facts in
       record {
         page = b.page;
         head = b.head;
         step_is = b.step_is;
         head_is = b.head_is;
-        number = b.number ∙ here.1;
-        sweep_is = b.sweep_is ∙ ap (λ (l : Layout). opening l b.page b.head) here.0;
+        number = b.number ∙ here;
+        sweep_is = b.sweep_is;
       }
 
   other : (q : Task) → m.task ≡ q → (IsSearching q → ⊥) → Begins q

@@ -6,7 +6,7 @@ use Rattle.gh_phase.specs.declared.resume.ResumeStage.{ResumeStage}
 use Rattle.gh_phase.specs.declared.resume.ResumeStage.TheVariants as resume_stage
 use Rattle.gh_phase.specs.declared.view.View.{View as PhaseView}
 use Rattle.gh_phase.specs.Listing as resume
-use Rattle.gh_wbuf.specs.Sound.{SoundGiveStage}
+use Rattle.gh_wbuf.specs.Sound.{SoundGiveStage, SoundRoomFinding}
 use Rattle.gh_poll.specs.declared.give.GiveStage.{GiveStage}
 use Rattle.gh_poll.specs.declared.give.GiveStage.TheVariants as give_stage
 use Rattle.gh_poll.specs.declared.leave.LeaveStage.{LeaveStage}
@@ -17,7 +17,7 @@ use Rattle.gh_poll.specs.declared.wait.WaitStage.{WaitStage}
 use Rattle.gh_poll.specs.declared.wait.WaitStage.TheVariants as wait_stage
 use Rattle.gh_poll.specs.Give.{Giving, none_cached, span_class}
 use Rattle.gh_poll.specs.Local.{cached_in, register_at}
-use Rattle.gh_mutator_heap.specs.PollWithin.{FindsWithin, ScansWithin}
+use Rattle.gh_mutator_heap.specs.PollWithin.{ScansWithin}
 use Rattle.gh_mutator.specs.Vocabulary.{CachedSpan, IsOf, Leaving, MOST_GOROUTINES, Polling, REGISTERS, Small, SpanClass, Waiting}
 use Rattle.gh_mutator_heap.specs.Vocabulary.{Arena, Means, Right, SPAN_CLASSES, View}
 
@@ -176,7 +176,7 @@ abbrev pub PollStageFacts : Arena → (a : ℕ) → View → Polling → PollSta
 PollStageFacts z a v p (poll_stage.Giving g stops) = GiveFacts z a v g
 PollStageFacts z a v p (poll_stage.Resuming r) = ResumeFacts a v p r
 PollStageFacts z a v p (poll_stage.Marking g m) = KnowsSpans a v p × ScansWithin z.layout m
-PollStageFacts z a v p (poll_stage.FindRoom r) = KnowsSpans a v p × FindsWithin z.layout r
+PollStageFacts z a v p (poll_stage.FindRoom r) = KnowsSpans a v p × SoundRoomFinding z.layout r
 PollStageFacts z a v p _ = KnowsSpans a v p
 
 pub record PollFacts (z : Arena) (a : ℕ) (v : View) (p : Polling) : Type 0 where

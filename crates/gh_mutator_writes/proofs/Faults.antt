@@ -84,15 +84,15 @@ assist_quiet m w n x out = grind arith
 assist_answers : (n : Name) (out : Option (Unit {0})) (cause : Cause) → new.answer_assist n out ≡ Some (answer.Fault cause) → ⊥
 assist_answers n out cause e = grind arith
 
-new_faults : (shapes : List Shape) (n m : Processor) (t : Task) (w : Wanted) (s : NewStage) (found : ℕ) → FaultsAt n t (new.takes_at shapes m w s found) (new.gives_at (marking_at m.poll) s found)
+new_faults : (shapes : List Shape) (n m : Processor) (t : Task) (w : Wanted) (s : NewStage) (found : ℕ) → FaultsAt n t (new.takes_at shapes m w s found) (new.gives_at m.poll.layout (marking_at m.poll) s found)
 new_faults shapes n m t w (Search waited s) found =
-    none_at n t _ _ (search_answers waited (search.gives s found)) (search_quiet shapes (cache_span m w.sought (search.goes s found).find.cached) w waited (search.goes s found) (search.gives s found))
+    none_at n t _ _ (search_answers waited (search.gives m.poll.layout s found)) (search_quiet shapes (cache_span m w.sought (search.goes m.poll.layout s found).find.cached) w waited (search.goes m.poll.layout s found) (search.gives m.poll.layout s found))
 new_faults shapes n m t w (Wait x) found =
     none_at n t _ _ (λ cause e. absurd (cc)) (wait_quiet m w (wait.goes (wait.waiting x m.poll) found) (wait.gives (wait.waiting x m.poll) found))
 new_faults shapes n m t w (Place p) found =
     none_at n t _ _ (place_answers (marking_at m.poll) p.name (place.gives p found)) (place_quiet m.poll w (place.goes p found) (place.gives p found))
 new_faults shapes n m t w (Want u) found = none_at n t _ _ (λ cause e. absurd (cc)) refl
-new_faults shapes n m t w (Assist u x) found = none_at n t _ _ (assist_answers u (assist.gives x found)) (assist_quiet m w u (assist.goes x found) (assist.gives x found))
+new_faults shapes n m t w (Assist u x) found = none_at n t _ _ (assist_answers u (assist.gives m.poll.layout x found)) (assist_quiet m w u (assist.goes m.poll.layout x found) (assist.gives m.poll.layout x found))
 
 -- a `gc`, and what is the processor's own
 gc_faults : (n m : Processor) (t : Task) (g : ℕ) (x : Waiting) (out : Option (Unit {0})) → FaultsAt n t (after_gc m g x out) (once_ended out answer.Swept)
@@ -107,9 +107,9 @@ leave_faults n m t x out = grind arith
 module _ (shapes : List Shape) where
   faults_at : (m : Processor) (t : Task) (found : ℕ) → FaultsAt m t (takes_at shapes (at_task m t) t found) (gives_at (at_task m t) t found)
   faults_at m (task.Load x) found = from_step load.may_fault task.Load m x.g x.d x (load_listing.step m.poll.layout x found) (λ y. refl) (load.faults m.poll.layout x found)
-  faults_at m (task.Store x) found = keeps_buffer m (task.Store x) (store_listing.held_behind m.poll.local.held x.stage found) (applied task.Store m x.g x.v (store_listing.step m.poll.layout m.poll.local (register_of m x.g x.v) x found)) _ (store.holds_still m.poll.local.held x.stage found) (λ held. applied task.Store (keeping m held) x.g x.v (store_listing.step m.poll.layout m.poll.local (register_of m x.g x.v) x found)) refl refl
+  faults_at m (task.Store x) found = keeps_buffer m (task.Store x) (store_listing.held_behind m.poll.layout m.poll.local.held x.stage found) (applied task.Store m x.g x.v (store_listing.step m.poll.layout m.poll.local (register_of m x.g x.v) x found)) _ (store.holds_still m.poll.layout m.poll.local.held x.stage found) (λ held. applied task.Store (keeping m held) x.g x.v (store_listing.step m.poll.layout m.poll.local (register_of m x.g x.v) x found)) refl refl
       (from_step store.may_fault task.Store m x.g x.v x (store_listing.step m.poll.layout m.poll.local (register_of m x.g x.v) x found) (λ y. refl) (store.faults m.poll.layout m.poll.local (register_of m x.g x.v) x found))
-  faults_at m (task.Global x) found = keeps_buffer m (task.Global x) (global_listing.held_behind m.poll.local.held x.stage found) (applied task.Global m x.g x.r (global_listing.step m.poll.layout (register_of m x.g x.r) x found)) _ (global.holds_still m.poll.local.held x.stage found) (λ held. applied task.Global (keeping m held) x.g x.r (global_listing.step m.poll.layout (register_of m x.g x.r) x found)) refl refl
+  faults_at m (task.Global x) found = keeps_buffer m (task.Global x) (global_listing.held_behind m.poll.layout m.poll.local.held x.stage found) (applied task.Global m x.g x.r (global_listing.step m.poll.layout (register_of m x.g x.r) x found)) _ (global.holds_still m.poll.layout m.poll.local.held x.stage found) (λ held. applied task.Global (keeping m held) x.g x.r (global_listing.step m.poll.layout (register_of m x.g x.r) x found)) refl refl
       (from_step global.may_fault task.Global m x.g x.r x (global_listing.step m.poll.layout (register_of m x.g x.r) x found) (λ y. refl) (global.faults m.poll.layout (register_of m x.g x.r) x found))
   faults_at m (task.New x) found = new_faults shapes m (at_task m (task.New x)) (task.New x) x.wanted x.stage found
   faults_at m (task.Gc g x) found = gc_faults m (at_task m (task.Gc g x)) (task.Gc g x) g (wait.goes (wait.waiting x m.poll) found) (wait.gives (wait.waiting x m.poll) found)

@@ -13,7 +13,7 @@ use Rattle.gh_poll.specs.Stays.{ends_later, wait_seat, wait_stacks, wait_stays}
 use Rattle.gh_mutator.specs.Stays.{search_wants}
 use Rattle.gh_mutator.specs.Vocabulary.{Polling}
 use Rattle.gh_poll.specs.Wait as wait
-use Rattle.gh_mutator_writes.proofs.Vocabulary.{Assist, after_search, after_wait, answer_search, At, at_poll, cache_span, cache_with, CachedSpan, Found, gives_at, is_looking, NewStage, NoRoom, Place, Processor, rested, Search, Seeking, set, Small, Sought, Task, Wait, Waiting, WaitStage, WaitState, Wanted, wanted_of, Want}
+use Rattle.gh_mutator_writes.proofs.Vocabulary.{Assist, after_search, after_wait, answer_search, At, at_poll, cache_span, cache_with, CachedSpan, Found, gives_at, is_looking, Layout, NewStage, NoRoom, Place, Processor, rested, Search, Seeking, set, Small, Sought, Task, Wait, Waiting, WaitStage, WaitState, Wanted, wanted_of, Want}
 use Rattle.gh_mutator_writes.proofs.Refusing.{KeptFor, kept, kept_first, refuses_none}
 use Rattle.gh_mutator_writes.proofs.Telling.{held_before}
 
@@ -118,8 +118,8 @@ module _ (m : Mutating) (g d t : ℕ) (found : ℕ → ℕ) where
   wait_next i p x y None k f h = inl (record { p = y.poll; s = Wait y.wait; is = refl; same = k; facts = f })
   wait_next i p x y (Some u) k f h = inl (record { p = y.poll; s = Search true (seeking (at_poll m.processor y.poll) w); is = refl; same = k; facts = (h u refl, seeks_first y.poll) })
 
-  seeks_on : (s : Seeking) (v : ℕ) → Seeks s → Seeks (search.goes s v)
-  seeks_on s v r = record { wanted = search_wants s v ∙ r.wanted; kept = kept w.sought s v r.wanted r.kept }
+  seeks_on : (l : Layout) (s : Seeking) (v : ℕ) → Seeks s → Seeks (search.goes l s v)
+  seeks_on l s v r = record { wanted = search_wants l s v ∙ r.wanted; kept = kept w.sought l s v r.wanted r.kept }
 
   wait_same : (p : Polling) (x : WaitState) (v : ℕ) → Same p → Same (wait.goes (wait.waiting x p) v).poll
   wait_same p x v k = record {
@@ -129,7 +129,7 @@ module _ (m : Mutating) (g d t : ℕ) (found : ℕ → ℕ) where
   }
 
   next_at : (i : ℕ) (p : Polling) (s : NewStage) → now i ≡ state p s → Same p → Facts i p s → Next (suc i) (goes (state p s) (found i))
-  next_at i p (Search waited s) e k f = search_next i p waited s (search.goes s (found i)) (search.gives s (found i)) k f (seeks_on s (found i) (seeks waited f)) where
+  next_at i p (Search waited s) e k f = search_next i p waited s (search.goes p.layout s (found i)) (search.gives p.layout s (found i)) k f (seeks_on p.layout s (found i) (seeks waited f)) where
     seeks : (b : Bool) → Facts i p (Search b s) → Seeks s
     seeks true f = f.1
     seeks false f = f.1
@@ -179,8 +179,8 @@ module _ (m : Mutating) (g d t : ℕ) (found : ℕ → ℕ) where
 
   leaves_at : (n : ℕ) (p : Polling) (s : NewStage) → Same p → Facts n p s → gives (state p s) (found n) ≡ Some answer.Full → Leaves n (goes (state p s) (found n))
   leaves_at n p (Search waited s) k f e =
-      let is = full_is waited (search.gives s (found n)) e in
-      full_leaves n p s (search.goes s (found n)) waited (search.gives s (found n)) k f is.0 is.1 (λ c small. refuses_none w.sought (search.goes s (found n)) c small is.1 (seeks_on s (found n) (seeks waited f)).kept) where
+      let is = full_is waited (search.gives p.layout s (found n)) e in
+      full_leaves n p s (search.goes p.layout s (found n)) waited (search.gives p.layout s (found n)) k f is.0 is.1 (λ c small. refuses_none w.sought (search.goes p.layout s (found n)) c small is.1 (seeks_on p.layout s (found n) (seeks waited f)).kept) where
         seeks : (b : Bool) → Facts n p (Search b s) → Seeks s
         seeks true f = f.1
         seeks false f = f.1

@@ -6,7 +6,7 @@ use Rattle.gh_alloc.specs.declared.find.FindStage.TheVariants as seek
 use Rattle.gh_alloc.specs.declared.search.SearchStage.TheVariants as search_stage
 use Rattle.gh_alloc.specs.Find as find
 use Rattle.gh_alloc.specs.Search as search
-use Rattle.gh_mutator_writes.proofs.Vocabulary.{CachedSpan, Finding, FindStage, Large, NoRoom, Reclaiming, SearchStage, Seeking, Small, Sought}
+use Rattle.gh_mutator_writes.proofs.Vocabulary.{CachedSpan, Finding, FindStage, Large, Layout, NoRoom, Reclaiming, SearchStage, Seeking, Small, Sought}
 
 -- ---- the search
 
@@ -43,17 +43,17 @@ module _ (c : SpanClass) where
   free_kept : (f : Finding) (r : Reclaiming) (out : Option (Unit {0})) → f.wanted ≡ Small c → f.cached ≡ None → KeptAt (search.after_free f r out).find (search.after_free f r out).stage
   free_kept f r out is h = grind arith
 
-  find_kept : (f : Finding) (found : ℕ) → f.wanted ≡ Small c → Kept f → Kept (find.goes f found)
-  find_kept f found is h = grind arith
+  find_kept : (l : Layout) (f : Finding) (found : ℕ) → f.wanted ≡ Small c → Kept f → Kept (find.goes l f found)
+  find_kept l f found is h = grind arith
 
-  search_kept : (f : Finding) (p : SearchStage) (found : ℕ) → f.wanted ≡ Small c → KeptAt f p → KeptAt (search.goes_at f p found).find (search.goes_at f p found).stage
-  search_kept f p found is h = grind (arith, find_kept, first_kept, free_kept, second_kept)
+  search_kept : (l : Layout) (f : Finding) (p : SearchStage) (found : ℕ) → f.wanted ≡ Small c → KeptAt f p → KeptAt (search.goes_at l f p found).find (search.goes_at l f p found).stage
+  search_kept l f p found is h = grind (arith, find_kept, first_kept, free_kept, second_kept)
 
-pub kept : (x : Sought) (s : Seeking) (found : ℕ) → s.find.wanted ≡ x → KeptFor x s → KeptFor x (search.goes s found)
-kept (Large pages noscan) s found is h = tt
-kept (Small c) s found is h = search_kept c s.find s.stage found is h
+pub kept : (x : Sought) (l : Layout) (s : Seeking) (found : ℕ) → s.find.wanted ≡ x → KeptFor x s → KeptFor x (search.goes l s found)
+kept (Large pages noscan) l s found is h = tt
+kept (Small c) l s found is h = search_kept c l s.find s.stage found is h
 
-pub kept_first : (x : Sought) (s : Seeking) → s ≡ search.opening s.find.layout s.find.seat s.find.generation x s.find.cached → KeptFor x s
+pub kept_first : (x : Sought) (s : Seeking) → s ≡ search.opening s.find.seat s.find.generation x s.find.cached → KeptFor x s
 kept_first x s is = grind arith
 
 pub refuses_none : (x : Sought) (s : Seeking) (c : SpanClass) → x ≡ Small c → search.given s ≡ Some NoRoom → KeptFor x s → s.find.cached ≡ None

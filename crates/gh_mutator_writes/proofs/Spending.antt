@@ -76,11 +76,11 @@ module _ (shapes : List Shape) (p : Polling) (made : List ℕ) (found : ℕ) whe
     by e = omega arith
 
   module _ (pay : AssistsPay) where
-    assisted : (w : Wanted) (n : Name) (x : Assisting) → SoundAssistAt p (Assist n x) → x.spent + drawn_by (assist.asks x) found < 2 ^ 64 → Spends (assists w n x)
-    assisted w n x s most = record { spends = assist_spent (running p made (assists w n x)) w n (assist.goes x found) (assist.gives x found) ∙ pay.spends x found s.1 most }
+    assisted : (w : Wanted) (n : Name) (x : Assisting) → SoundAssistAt p (Assist n x) → x.spent + drawn_by (assist.asks p.layout x) found < 2 ^ 64 → Spends (assists w n x)
+    assisted w n x s most = record { spends = assist_spent (running p made (assists w n x)) w n (assist.goes p.layout x found) (assist.gives p.layout x found) ∙ pay.spends p.layout x found s.1 most }
 
     new_spends : (w : Wanted) (q : NewStage) → let t : Task = task.New (record { wanted = w; stage = q }) in SoundAssistAt p q → WritesOf (IsWritten (running p made t)) (asks (running p made t)) → spent_in_task p t + drawn_by (asks (running p made t)) found < 2 ^ 64 → Spends t
-    new_spends w (Search waited y) s writes most = plainly (with_stage w (Search waited y)) (λ a. a) writes (search_spent shapes (running p made (with_stage w (Search waited y))) w waited (search.goes y found).find.cached (search.goes y found) (search.gives y found))
+    new_spends w (Search waited y) s writes most = plainly (with_stage w (Search waited y)) (λ a. a) writes (search_spent shapes (running p made (with_stage w (Search waited y))) w waited (search.goes p.layout y found).find.cached (search.goes p.layout y found) (search.gives p.layout y found))
     new_spends w (Wait x) s writes most = plainly (with_stage w (Wait x)) (λ a. a) writes (wait_then (running p made (with_stage w (Wait x))) w (wait.goes (wait.waiting x p) found) (wait.gives (wait.waiting x p) found) ∙ wait_spent (wait.waiting x p) found)
     new_spends w (Place y) s writes most = plainly (with_stage w (Place y)) (λ a. a) writes (place_spent (running p made (with_stage w (Place y))) w (place.makes_its_object y) y.at (place.goes y found))
     new_spends w (Want n) s writes most = plainly (with_stage w (Want n)) (λ a. a) writes refl
@@ -91,9 +91,9 @@ module _ (shapes : List Shape) (p : Polling) (made : List ℕ) (found : ℕ) whe
     spends_at task.Left s busy writes most = absurd (cc)
     spends_at (task.Load x) s busy writes most = plainly (task.Load x) (λ a. a) writes (let step = load.step p.layout x found in into_spent task.Load (running p made (task.Load x)) x.g x.d step.sets step.then (λ q y. refl))
     spends_at (task.Store x) s busy writes most = plainly (task.Store x) (λ a. a) writes
-        (let step = store.step p.layout p.local (register_of (running p made (task.Store x)) x.g x.v) x found in into_spent task.Store (keeping (running p made (task.Store x)) (store.held_behind p.local.held x.stage found)) x.g x.v step.sets step.then (λ q y. refl))
+        (let step = store.step p.layout p.local (register_of (running p made (task.Store x)) x.g x.v) x found in into_spent task.Store (keeping (running p made (task.Store x)) (store.held_behind p.layout p.local.held x.stage found)) x.g x.v step.sets step.then (λ q y. refl))
     spends_at (task.Global x) s busy writes most = plainly (task.Global x) (λ a. a) writes
-        (let step = global.step p.layout (register_of (running p made (task.Global x)) x.g x.r) x found in into_spent task.Global (keeping (running p made (task.Global x)) (global.held_behind p.local.held x.stage found)) x.g x.r step.sets step.then (λ q y. refl))
+        (let step = global.step p.layout (register_of (running p made (task.Global x)) x.g x.r) x found in into_spent task.Global (keeping (running p made (task.Global x)) (global.held_behind p.layout p.local.held x.stage found)) x.g x.r step.sets step.then (λ q y. refl))
     spends_at (task.Register x) s busy writes most = plainly (task.Register x) (λ a. a) writes (let step = register.step (register_of (running p made (task.Register x)) x.g (register.read_of x)) x in into_spent task.Register (running p made (task.Register x)) x.g x.d step.sets step.then (λ q y. refl))
     spends_at (task.New x) s busy writes most = new_spends x.wanted x.stage s writes most
     spends_at (task.Gc g x) s busy writes most = plainly (task.Gc g x) (λ a. a) writes (gc_spent (running p made (task.Gc g x)) g (wait.goes (wait.waiting x p) found) (wait.gives (wait.waiting x p) found) ∙ wait_spent (wait.waiting x p) found)

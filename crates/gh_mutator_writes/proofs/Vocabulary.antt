@@ -6,11 +6,7 @@ pub use Rattle.gh_base.specs.Rows.{CellsAreTold}
 pub use Rattle.gh_base.specs.declared.cell.Ask.TheVariants.{Load, Store, Swap}
 pub use Rattle.gh_phase.specs.Handshake.{Acts, Awake, PlaceBegins, StageGoes}
 pub use Rattle.gh_wbuf.specs.declared.give_buffer.GiveStage.{GiveStage as BufferStage}
-pub use Rattle.gh_pages.specs.declared.carve.CarveStage.{CarveStage}
-pub use Rattle.gh_cache.specs.declared.next_slot.SlotStage.{SlotStage}
 pub use Rattle.gh_central.specs.Reclaim.{Reclaiming}
-pub use Rattle.gh_central.specs.declared.pass.PassStage.{PassStage}
-pub use Rattle.gh_central.specs.declared.reclaim.ReclaimStage.{ReclaimStage}
 pub use Rattle.gh_alloc.specs.declared.search.SearchStage.{SearchStage}
 pub use Rattle.gh_mutator_writes.specs.Calm.{GivesNoBuffer, HoldsNoBuffer, IsNoBuffer, KnowsNoMarking, LeavesWithNone, MakesWithNone, PollsWithNone, RunsWithNone, WaitsWithNone}
 pub use Rattle.gh_poll.specs.Collecting.{phase_of, Resumed, ResumeStage, RoomStage, run_phase, RunPhase, Shaded, ShadeStage, TryStage}

@@ -50,14 +50,14 @@ load_blind l x stage found other e = grind arith
 
 -- the buffer that is held behind its step, and what the step does
 abbrev stored : Layout → Local → Value → Store → StoreStage → (found : ℕ) → Option Held × Step Store
-stored l own v x stage found = (store.held_behind own.held stage found, store.step_at l own v x stage found)
+stored l own v x stage found = (store.held_behind l own.held stage found, store.step_at l own v x stage found)
 
 store_blind : (l : Layout) (own : Local) (v : Value) (x : Store) (stage : StoreStage) (found other : ℕ) → is_store (store.asks_at l v x stage) ≡ true → stored l own v x stage found ≡ stored l own v x stage other
 store_blind l own v x stage found other e = grind arith
 
 -- so of a global, where this buffer was held
 abbrev global_step : Layout → Option Held → Value → Global → GlobalStage → (found : ℕ) → Option Held × Step Global
-global_step l held v x stage found = (global.held_behind held stage found, global.step_at l v x stage found)
+global_step l held v x stage found = (global.held_behind l held stage found, global.step_at l v x stage found)
 
 global_blind : (l : Layout) (held : Option Held) (v : Value) (x : Global) (stage : GlobalStage) (found other : ℕ) → is_store (global.asks_at l v x stage) ≡ true → global_step l held v x stage found ≡ global_step l held v x stage other
 global_blind l held v x stage found other e = grind arith
@@ -66,7 +66,7 @@ global_blind l held v x stage found other e = grind arith
 
 -- the processor behind the step, and what the operation is answered if it ends
 abbrev new_step : List Shape → Processor → Wanted → NewStage → (found : ℕ) → Processor × Option Answer
-new_step shapes m w s found = (new.takes_at shapes m w s found, new.gives_at (marking_at m.poll) s found)
+new_step shapes m w s found = (new.takes_at shapes m w s found, new.gives_at m.poll.layout (marking_at m.poll) s found)
 
 new_blind : (shapes : List Shape) (m : Processor) (w : Wanted) (s : NewStage) (found other : ℕ) → is_store (new.asks_at m s) ≡ true → new_step shapes m w s found ≡ new_step shapes m w s other
 new_blind shapes m w s found other e = grind arith

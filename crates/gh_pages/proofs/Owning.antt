@@ -2,7 +2,6 @@
 use Rattle.std.proofs.Common.{◌≡◌, ◌≢◌, ℕ, ◌+◌, ◌-◌, ◌<◌, ◌≤◌, Bool, true, false, not, cond, eqb, ltb, inl, inr, Option, Some, None, refl, sym, ap, subst, ◌∙◌, arith}
 use Rattle.std.proofs.lemmas.Bool.{eqb-true, eqb-false, eq-eqb, ltb-true, ltb-false}
 use Rattle.std.proofs.lemmas.Bool.Decides.{nat_tests, eqb_tells}
-use Rattle.gh_base.specs.declared.layout.Layout.{Layout}
 use Rattle.gh_base.specs.declared.pack.PageWord.{PageWord}
 use Rattle.gh_base.specs.declared.pack.PageWord.TheVariants as page
 use Rattle.gh_base.specs.Cells.{InRange}
@@ -15,8 +14,8 @@ use Rattle.gh_heap.specs.Rights.{Arena, Good, Right, Shared, View, view}
 use Rattle.gh_heap.specs.Spans.{IsSpan, LaidOut, Laying, owner_at, owner_in}
 use Rattle.gh_pages.specs.declared.carve.CarveStage.{CarveStage}
 use Rattle.gh_pages.specs.declared.carve.CarveStage.TheVariants.{Look, Body, Head, Ended}
-use Rattle.gh_pages.specs.Facts.{Carves, CarvesByItsRights, Comes, Facts, FactsAt, FreeBefore, Lasts, Looks, NoRun, NoRunBefore, Opens, OwnStep, Within, fresh_from, laying_at}
-use Rattle.gh_pages.specs.Listing.{Carving, after_look, asks, at_stage, first_store, fresh_head, given_at, gives, goes, goes_at, is_free, is_last_page, next_store}
+use Rattle.gh_pages.specs.Facts.{Carves, CarvesByItsRights, Comes, Facts, FactsAt, FreeBefore, IsPageOf, Lasts, LaysPage, Looks, NoRun, NoRunBefore, Opens, OwnStep, Within, fresh_from, laying_at}
+use Rattle.gh_pages.specs.Listing.{Carving, after_look, asks, asks_at, at_stage, first_store, fresh_body, fresh_head, given, given_at, goes, goes_at, is_free, is_last_page, next_store}
 
 pub record Known : Type 0 where
   pub packed : PackedWordsAreReadBack
@@ -38,10 +37,10 @@ not-held z a v l held y p g right none = grind arith
 
 -- it is the same routine at another stage
 whose-at : (z : Arena) (a : ℕ) (v : View) (c : Carving) (q : CarveStage) → Carves z a v c → Carves z a v (at_stage c q)
-whose-at z a v c q h = record { layout = h.layout; seat = h.seat; number = h.number; class = h.class; word = h.word }
+whose-at z a v c q h = record { seat = h.seat; number = h.number; class = h.class; word = h.word }
 
 whose-of : (z : Arena) (a : ℕ) (v : View) (c : Carving) (q : CarveStage) → Carves z a v (at_stage c q) → Carves z a v c
-whose-of z a v c q h = record { layout = h.layout; seat = h.seat; number = h.number; class = h.class; word = h.word }
+whose-of z a v c q h = record { seat = h.seat; number = h.number; class = h.class; word = h.word }
 
 -- The opening.
 
@@ -72,7 +71,7 @@ looks-last k z a v w need p run o l h = let last = k.last z a v w o in record {
 }
 
 whose-last : (z : Arena) (a : ℕ) (v w : View) (c : Carving) → Others z a v w → Carves z a v c → Carves z a w c
-whose-last z a v w c o h = record { layout = h.layout; seat = h.seat; number = h.number ∙ sym o.generation; class = h.class; word = h.word }
+whose-last z a v w c o h = record { seat = h.seat; number = h.number ∙ sym o.generation; class = h.class; word = h.word }
 
 stage-lasts : (k : Known) (z : Arena) (a : ℕ) (v w : View) (c : Carving) (q : CarveStage) → Others z a v w → v.locked a ≡ true → FactsAt z c v.page q → FactsAt z c w.page q
 stage-lasts k z a v w c (Look p run) o l h = looks-last k z a v w c.span.pages p run o l h
@@ -157,25 +156,24 @@ module _ (k : Known) (z : Arena) (a : ℕ) (s : Shared) (held : ℕ → Bool) (c
 
   -- after a look at page p, with so many free pages in a row up to it
   looked : (p row : ℕ) → Good z now → Right a now true held None → Carves z a now c → p < z.layout.pages → row ≤ c.span.pages → FreeBefore now.page (p + 1) row → (row < c.span.pages → NoRunBefore now.page c.span.pages (p + 1) row) →
-      Goes (after_look c p row)
+      Goes (after_look z.layout c p row)
   looked p row g right whose there few free none = go (eqb row c.span.pages) refl where
     begun-at : row ≡ c.span.pages → LaidOut z.layout.pages now.page (fresh_from c (p + 1 - c.span.pages) 1)
     begun-at e = first-laid (p + 1 - c.span.pages) (omega (arith, free.fits)) whose.class.some (λ d low. free.free (p + 1 - c.span.pages + d) (omega (arith, free.fits)) (omega (arith, free.fits)))
 
-    ends : row ≢ c.span.pages → (b : Bool) → ltb (p + 1) c.layout.pages ≡ b → Goes (cond (not b) (Ended None) (Look (p + 1) row))
-    ends ne true e = (stays g, right, record { whose = whose-at z a now c (Look (p + 1) row) whose; stage = record { there = subst (λ (l : Layout). p + 1 < l.pages) whose.layout (ltb-true (p + 1) c.layout.pages e); few = omega arith; before = free; no_run = none (omega arith) } })
+    ends : row ≢ c.span.pages → (b : Bool) → ltb (p + 1) z.layout.pages ≡ b → Goes (cond (not b) (Ended None) (Look (p + 1) row))
+    ends ne true e = (stays g, right, record { whose = whose-at z a now c (Look (p + 1) row) whose; stage = record { there = ltb-true (p + 1) z.layout.pages e; few = omega arith; before = free; no_run = none (omega arith) } })
     ends ne false e =
-        let last : c.layout.pages ≤ p + 1 = ltb-false (p + 1) c.layout.pages e in
-        let all : p + 1 ≡ z.layout.pages = omega (arith, there, subst (λ (l : Layout). l.pages ≤ p + 1) whose.layout last) in
+        let all : p + 1 ≡ z.layout.pages = omega (arith, there, ltb-false (p + 1) z.layout.pages e) in
         (stays g, right, subst (λ (n : ℕ). NoRun now.page c.span.pages n) all (none (omega arith)).none)
 
-    go : (b : Bool) → eqb row c.span.pages ≡ b → Goes (cond b (first_store c.span (p + 1 - c.span.pages)) (cond (is_last_page c p) (Ended None) (Look (p + 1) row)))
+    go : (b : Bool) → eqb row c.span.pages ≡ b → Goes (cond b (first_store c.span (p + 1 - c.span.pages)) (cond (is_last_page z.layout p) (Ended None) (Look (p + 1) row)))
     go true e = begins (p + 1 - c.span.pages) g right whose (begun-at (eqb-true row c.span.pages e))
-    go false e = ends (eqb-false row c.span.pages e) (ltb (p + 1) c.layout.pages) refl
+    go false e = ends (eqb-false row c.span.pages e) (ltb (p + 1) z.layout.pages) refl
 
-  look : (p run : ℕ) → Good z now → Right a now true held None → Carves z a now c → Looks z now.page c.span.pages p run → Goes (goes_at c (Look p run) (now.page p))
+  look : (p run : ℕ) → Good z now → Right a now true held None → Carves z a now c → Looks z now.page c.span.pages p run → Goes (goes_at z.layout c (Look p run) (now.page p))
   look p run g right whose h = go (is_free (page_of (now.page p))) refl where
-    go : (b : Bool) → is_free (page_of (now.page p)) ≡ b → Goes (after_look c p (cond b (run + 1) 0))
+    go : (b : Bool) → is_free (page_of (now.page p)) ≡ b → Goes (after_look z.layout c p (cond b (run + 1) 0))
     go true e = looked p (run + 1) g right whose h.there (omega (arith, h.few)) (free-more now.page p run h.before (free-is (page_of (now.page p)) e)) (λ few. none-more now.page c.span.pages p run few h.no_run)
     go false e = looked p 0 g right whose h.there (omega arith) (record { fits = omega arith; free = λ q high low. absurd (omega arith) }) (λ few. none-past now.page c.span.pages p whose.class.some h.no_run.none (taken-is (page_of (now.page p)) e))
 
@@ -200,7 +198,7 @@ module _ (k : Known) (z : Arena) (a : ℕ) (s : Shared) (held : ℕ → Bool) (c
     after = (k.follow z a s true held (laid_so_far y) right).body y
 
     whose-then : Carves z a (view t) c
-    whose-then = record { layout = whose.layout; seat = whose.seat; number = whose.number; class = whose.class; word = whose.word }
+    whose-then = record { seat = whose.seat; number = whose.number; class = whose.class; word = whose.word }
 
     laid-then : LaidOut z.layout.pages (view t).page (fresh_from c first (d + 1))
     laid-then = ((k.keep z a s (LayBody y) g may).laying a (fresh_from c first (d + 1)) after.laying).laid
@@ -244,7 +242,7 @@ module _ (k : Known) (z : Arena) (a : ℕ) (s : Shared) (held : ℕ → Bool) (c
     span = (k.apart z (view t) (k.keep z a s (LayHead y) g may)).held a first (fresh_head c) (right-then.holds first ∙ ap (λ (b : Bool). cond b true (held first)) (eq-eqb first first refl)) (ap page_of written ∙ k.packed.page (page.Head (fresh_head c)) whose.word)
 
   own-at : (q : CarveStage) → Good z now → Right a now true held (laying_at c q) → Facts z a now (at_stage c q) →
-      Steps z a s (asks (at_stage c q)) (λ t. KeepsObjects now (view t) × Comes z a now (view t) held (gives (at_stage c q) (s.words (cell_of (asks (at_stage c q))))) (goes (at_stage c q) (s.words (cell_of (asks (at_stage c q))))))
+      Steps z a s (asks (at_stage c q)) (λ t. KeepsObjects now (view t) × Comes z a now (view t) held (given (goes z.layout (at_stage c q) (s.words (cell_of (asks (at_stage c q)))))) (goes z.layout (at_stage c q) (s.words (cell_of (asks (at_stage c q))))))
   own-at (Look p run) g right h = record { move = Quiet (asks (at_stage c (Look p run))); may = tt; words_are = refl; after = ((refl, refl), look p run g right (whose-of z a now c (Look p run) h.whose) h.stage) }
   own-at (Body first d) g right h = body first d g right (whose-of z a now c (Body first d) h.whose) h.stage.0 h.stage.1
   own-at (Head first) g right h = head first g right (whose-of z a now c (Head first) h.whose) h.stage
@@ -261,5 +259,14 @@ within-at z c page_words q x = grind arith
 within : Within
 within z a v c x = within-at z c v.page c.stage x.stage
 
+lays-at : Known → (z : Arena) (a : ℕ) (v : View) (c : Carving) (q : CarveStage) → Carves z a v c → FactsAt z c v.page q → LaysPage c.span (asks_at c q)
+lays-at k z a v c (Look p run) whose x = tt
+lays-at k z a v c (Body first d) whose x =
+    let some = x.0.some in
+    let few = whose.word.pages in
+    subst (IsPageOf c.span) (sym (k.packed.page (page.Body (fresh_body c d)) (record { class = whose.word.class; some = omega (arith, some); distance = omega (arith, x.1, few) }))) (refl, refl, omega (arith, some), x.1)
+lays-at k z a v c (Head first) whose x = subst (IsPageOf c.span) (sym (k.packed.page (page.Head (fresh_head c)) whose.word)) (refl, refl, refl)
+lays-at k z a v c (Ended taken) whose x = absurd x
+
 pub carves_by_its_rights : Known → CarvesByItsRights
-carves_by_its_rights k = record { opens = opens; own_step = own k; within = within; lasts = lasts k }
+carves_by_its_rights k = record { opens = opens; own_step = own k; within = within; lays = λ z a v c x. lays-at k z a v c c.stage x.whose x.stage; lasts = lasts k }

@@ -1,5 +1,9 @@
 -- What is known at each stage of the search for fresh pages while any number of processors change the heap, under which rights, and the laws: what each step of its own is, that it is on a word that there is, and that what is known lasts whatever others do.
 use Rattle.std.specs.Prelude.{◌≡◌, ◌≢◌, ℕ, ◌+◌, ◌-◌, ◌<◌, ◌≤◌, Bool, true, false, Option, Some, None}
+use Rattle.gh_base.specs.declared.cell.Ask.{Ask}
+use Rattle.gh_base.specs.declared.cell.Ask.TheVariants.{Load, Store}
+use Rattle.gh_base.specs.declared.cell.Cell.TheVariants.{Page}
+use Rattle.gh_base.specs.declared.pack.PageWord.{PageWord}
 use Rattle.gh_base.specs.declared.pack.PageWord.TheVariants as page
 use Rattle.gh_base.specs.Cells.{InRange}
 use Rattle.gh_base.specs.Packing.{FitsHead, page_of}
@@ -10,7 +14,8 @@ use Rattle.gh_heap.specs.Rights.{Arena, Good, Right, Shared, View, view}
 use Rattle.gh_heap.specs.Spans.{FitsClass, IsEmpty, IsSpan, LaidOut, Laying}
 use Rattle.gh_pages.specs.declared.carve.CarveStage.{CarveStage}
 use Rattle.gh_pages.specs.declared.carve.CarveStage.TheVariants.{Look, Body, Head, Ended}
-use Rattle.gh_pages.specs.Listing.{Carving, asks, fresh_head, gives, goes}
+use Rattle.gh_pages.specs.declared.carve.Span.{Span}
+use Rattle.gh_pages.specs.Listing.{Carving, asks, fresh_head, given, goes}
 
 -- the span from page `first` on, of whose further pages those below this distance are written
 abbrev pub fresh_from : Carving → (first next : ℕ) → Laying
@@ -27,7 +32,6 @@ laying c = laying_at c c.stage
 
 -- the routine is this seat's, in this arena, and the head that it will write fits
 pub record Carves (z : Arena) (a : ℕ) (v : View) (c : Carving) : Type 0 where
-  pub layout : c.layout ≡ z.layout
   pub seat : c.seat ≡ a
   pub number : c.generation ≡ v.generation
   pub class : FitsClass (fresh_head c)
@@ -81,11 +85,25 @@ Opens = (z : Arena) (a : ℕ) (v : View) (c : Carving) → Carves z a v c → c.
 -- a step of its own
 abbrev pub OwnStep : Type 0
 OwnStep = (z : Arena) (a : ℕ) (s : Shared) (held : ℕ → Bool) (c : Carving) → Good z (view s) → Right a (view s) true held (laying c) → Facts z a (view s) c →
-    Steps z a s (asks c) (λ t. KeepsObjects (view s) (view t) × Comes z a (view s) (view t) held (gives c (s.words (cell_of (asks c)))) (goes c (s.words (cell_of (asks c)))))
+    Steps z a s (asks c) (λ t. KeepsObjects (view s) (view t) × Comes z a (view s) (view t) held (given (goes z.layout c (s.words (cell_of (asks c))))) (goes z.layout c (s.words (cell_of (asks c)))))
 
 -- it is on a word that there is
 abbrev pub Within : Type 0
 Within = (z : Arena) (a : ℕ) (v : View) (c : Carving) → Facts z a v c → InRange z.layout (cell_of (asks c))
+
+-- what it writes is a page word of the span: of its first page, or of one further on
+abbrev pub IsPageOf : Span → PageWord → Type 0
+IsPageOf span page.Free = ⊥
+IsPageOf span (page.Head h) = (h.class ≡ span.class) × (h.noscan ≡ span.noscan) × (h.pages ≡ span.pages)
+IsPageOf span (page.Body b) = (b.class ≡ span.class) × (b.noscan ≡ span.noscan) × (0 < b.distance) × (b.distance < span.pages)
+
+abbrev pub LaysPage : Span → Ask → Type 0
+LaysPage span (Load c) = Unit {0}
+LaysPage span (Store (Page p) word) = IsPageOf span (page_of word)
+LaysPage span _ = ⊥
+
+abbrev pub LaysPages : Type 0
+LaysPages = (z : Arena) (a : ℕ) (v : View) (c : Carving) → Facts z a v c → LaysPage c.span (asks c)
 
 -- the steps of others
 abbrev pub Lasts : Type 0
@@ -95,4 +113,5 @@ pub record CarvesByItsRights : Type 0 where
   pub opens : Opens
   pub own_step : OwnStep
   pub within : Within
+  pub lays : LaysPages
   pub lasts : Lasts

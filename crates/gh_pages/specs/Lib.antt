@@ -1,4 +1,3 @@
-pub mod Blind
 pub mod Facts
 pub mod FirstFit
 pub mod Listing

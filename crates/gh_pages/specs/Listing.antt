@@ -1,5 +1,5 @@
--- Fresh pages for a span: what is asked for at each stage, where that leads, and what it has given.
-use Rattle.std.specs.Prelude.{ℕ, ◌+◌, ◌-◌, Bool, true, false, not, nat_lt, ◌==◌, ◌&&◌, if◌then◌else◌, Option, Some, None, is_none}
+-- Fresh pages for a span: what is asked for at each stage, where that leads, what it has given, and that it writes page words.
+use Rattle.std.specs.Prelude.{ℕ, ◌+◌, ◌-◌, Bool, true, false, not, nat_lt, ◌==◌, ◌&&◌, if◌then◌else◌, Option, Some, None}
 use Rattle.gh_base.specs.declared.cell.Cell.TheVariants.{Touch, Page}
 use Rattle.gh_base.specs.declared.cell.Ask.{Ask}
 use Rattle.gh_base.specs.declared.cell.Ask.TheVariants.{Load, Store}
@@ -8,27 +8,26 @@ use Rattle.gh_base.specs.declared.pack.PageWord.{PageWord}
 use Rattle.gh_base.specs.declared.pack.PageWord.TheVariants.{Free}
 use Rattle.gh_base.specs.declared.pack.SpanHead.{SpanHead}
 use Rattle.gh_base.specs.declared.pack.SpanBody.{SpanBody}
-use Rattle.gh_base.specs.Given.{listing_of}
+use Rattle.gh_base.specs.Footprints.{Footprint}
+use Rattle.gh_base.specs.Footprints as row
+use Rattle.gh_base.specs.Machines.{Listing}
 use Rattle.gh_base.specs.Packing.{page_of, head_word, body_word}
-use Rattle.gh_base.specs.Routines.{Listing}
+use Rattle.gh_pages.specs.declared.carve.Carve.{Carve}
 use Rattle.gh_pages.specs.declared.carve.Span.{Span}
 use Rattle.gh_pages.specs.declared.carve.CarveStage.{CarveStage}
 use Rattle.gh_pages.specs.declared.carve.CarveStage.TheVariants.{Look, Body, Head, Ended}
+use Rattle.gh_pages.specs.Sound.{Sound}
 
 -- a routine that looks for pages for a span: whose it is, the sweep generation, the span, and its stage
-pub record Carving : Type 0 where
-  pub layout : Layout
-  pub seat : ℕ
-  pub generation : ℕ
-  pub span : Span
-  pub stage : CarveStage
+abbrev pub Carving : Type 0
+Carving = Carve
 
 abbrev pub at_stage : Carving → CarveStage → Carving
 at_stage c stage = record c { stage = stage }
 
 -- it has looked at no page
-abbrev pub opening : Layout → (seat generation : ℕ) → Span → Carving
-opening l seat generation span = record { layout = l; seat = seat; generation = generation; span = span; stage = Look 0 0 }
+abbrev pub opening : (seat generation : ℕ) → Span → Carving
+opening seat generation span = record { seat = seat; generation = generation; span = span; stage = Look 0 0 }
 
 -- what is written to the span's first page, and to one further on
 abbrev pub fresh_head : Carving → SpanHead
@@ -53,20 +52,20 @@ next_store span first distance = if nat_lt (distance + 1) span.pages then Body f
 abbrev pub first_store : Span → ℕ → CarveStage
 first_store span first = next_store span first 0
 
-abbrev pub is_last_page : Carving → ℕ → Bool
-is_last_page c page = not (nat_lt (page + 1) c.layout.pages)
+abbrev pub is_last_page : Layout → ℕ → Bool
+is_last_page l page = not (nat_lt (page + 1) l.pages)
 
-module _ (c : Carving) where
-  abbrev pub asks_at : CarveStage → Ask
-  asks_at (Look page run) = Load (Page page)
-  asks_at (Body first distance) = Store (Page (first + distance)) (body_word (fresh_body c distance))
-  asks_at (Head first) = Store (Page first) (head_word (fresh_head c))
-  asks_at (Ended taken) = Load Touch
+abbrev pub asks_at : Carving → CarveStage → Ask
+asks_at c (Look page run) = Load (Page page)
+asks_at c (Body first distance) = Store (Page (first + distance)) (body_word (fresh_body c distance))
+asks_at c (Head first) = Store (Page first) (head_word (fresh_head c))
+asks_at c (Ended taken) = Load Touch
 
+module _ (l : Layout) (c : Carving) where
   abbrev pub after_look : ℕ → ℕ → CarveStage
   after_look page row =
       if row == c.span.pages then first_store c.span (page + 1 - c.span.pages)
-      else if is_last_page c page then Ended None else Look (page + 1) row
+      else if is_last_page l page then Ended None else Look (page + 1) row
 
   abbrev pub goes_at : CarveStage → ℕ → CarveStage
   goes_at (Look page run) found = after_look page (row_after run found)
@@ -80,31 +79,27 @@ looks (Look page run) = true
 looks _ = false
 
 -- it looks at a page, and at the next one once the word is found
-abbrev pub looks_on_at : Carving → CarveStage → (found : ℕ) → Bool
-looks_on_at c p found = looks p && looks (goes_at c p found)
+abbrev pub looks_on_at : Layout → Carving → CarveStage → (found : ℕ) → Bool
+looks_on_at l c p found = looks p && looks (goes_at l c p found)
 
 -- what it has given at a stage
 abbrev pub given_at : CarveStage → Option (Option ℕ)
 given_at (Ended taken) = Some taken
 given_at _ = None
 
--- it asks for a step exactly where that is nothing
-abbrev pub is_busy : CarveStage → Bool
-is_busy p = is_none (given_at p)
-
 -- the step that it asks for, what it is after the step found this, and what it has given
 abbrev pub asks : Carving → Ask
 asks c = asks_at c c.stage
 
-abbrev pub goes : Carving → ℕ → Carving
-goes c found = at_stage c (goes_at c c.stage found)
+abbrev pub goes : Layout → Carving → ℕ → Carving
+goes l c found = at_stage c (goes_at l c c.stage found)
 
 abbrev pub given : Carving → Option (Option ℕ)
 given c = given_at c.stage
 
--- and by a step
-abbrev pub gives : Carving → ℕ → Option (Option ℕ)
-gives c found = given (goes c found)
+abbrev pub writes : Footprint
+writes row.Page = true
+writes _ = false
 
-abbrev pub listing : Listing Carving (Option ℕ)
-listing = listing_of (λ c. c.layout) asks goes given
+abbrev pub listing : Layout → Listing Carving (Option ℕ)
+listing l = record { asks = asks; goes = goes l; given = given; sound = Sound l; writes = writes }

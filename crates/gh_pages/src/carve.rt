@@ -1,15 +1,14 @@
 //! The routine that looks for the pages of a span and writes their page words.
 
 ghost use Rattle.std.specs.Prelude.{◌≡◌, ◌+◌, ◌^◌, ◌<◌, ◌≤◌, IsTrue, None, false};
-ghost use Rattle.gh_base.specs.Cells.{InRange, seats_of};
+ghost use Rattle.gh_base.specs.Cells.{InRange};
 ghost use Rattle.gh_base.specs.Steps.{cell_of};
 ghost use Rattle.gh_base.specs.Packing.{body_word, head_word};
-ghost use Rattle.gh_pages.specs.Listing.{after_look, asks, fresh_body, fresh_head, given, gives, goes, goes_at, is_last_page, looks_on_at, next_store, opening, row_after};
-ghost use Rattle.gh_pages.specs.Sound.{FitsSpan};
+ghost use Rattle.gh_pages.specs.Listing.{after_look, asks, fresh_body, fresh_head, given, goes, goes_at, is_last_page, looks_on_at, next_store, opening, row_after};
+ghost use Rattle.gh_pages.specs.Sound.{FitsSpan, Sound};
 
-use gh_base::{Ask, Cell, Layout, Machine, PageWord, Req, SpanBody, SpanHead};
+use gh_base::{Ask, Cell, Layout, PageWord, Req, Routine, SpanBody, SpanHead};
 use gh_class::SizeClass;
-use std::marker::Model;
 
 /// What a span is cut for.
 #[derive(Clone, Copy, Debug, PartialEq, Eq)]
@@ -60,24 +59,22 @@ pub enum CarveStage {
 /// long enough.
 #[derive(Clone, Copy)]
 pub struct Carve {
-    layout: Layout,
-    seat: u32,
-    generation: u64,
-    span: Span,
-    stage: CarveStage,
+    /// The seat that the span will be cached by.
+    pub seat: u32,
+    /// The sweep generation, in which the span counts as swept.
+    pub generation: u64,
+    /// What the pages are for.
+    pub span: Span,
+    /// Its stage.
+    pub stage: CarveStage,
 }
 
-impl Model for Carve {
-    ghost use Rattle.gh_pages.specs.Listing.{Carving};
-    ghost use Rattle.gh_pages.specs.Sound.{Sound};
-
-    ghost Value = { Carving };
-
-    ghost view = { λ c. record { layout = c.layout; seat = c.seat; generation = c.generation; span = c.span; stage = c.stage } };
-
-    ghost invariant = { λ c. Sound (record { layout = c.layout; seat = c.seat; generation = c.generation; span = c.span; stage = c.stage }) };
-
-    ghost inverse = { λ c. record { layout = c.layout; seat = c.seat; generation = c.generation; span = c.span; stage = c.stage } };
+/// No page of the arena lies behind this one.
+fn is_last(layout: &Layout, page: u32) -> bool
+    requires { page + 1 < 2 ^ 32 }
+    ensures { result ≡ is_last_page layout.now page }
+{
+    page + 1 >= layout.pages
 }
 
 /// So many free pages stand in a row up to the page whose word was found.
@@ -112,14 +109,10 @@ impl Span {
 impl Carve {
     /// Looks for pages for the span, from page 0 on. The head word will say that the seat has the
     /// span cached, and that it is swept in this sweep generation.
-    pub fn new(layout: &Layout, seat: u32, generation: u64, span: Span) -> Carve
-        requires seat { seat < seats_of layout.now }
-        requires generation { generation < 2 ^ 34 }
-        requires span { FitsSpan span }
-        ensures { result ≡ opening layout.now seat generation span }
+    pub fn new(seat: u32, generation: u64, span: Span) -> Carve
+        ensures { result ≡ opening seat generation span }
     {
         Carve {
-            layout: *layout,
             seat,
             generation,
             span,
@@ -129,6 +122,9 @@ impl Carve {
 
     /// The word of the span's first page.
     fn head_word(&self) -> u64
+        requires seat { self.now.seat + 1 < 2 ^ 8 }
+        requires generation { self.now.generation < 2 ^ 34 }
+        requires span { FitsSpan self.now.span }
         ensures { result ≡ head_word (fresh_head self.now) }
     {
         PageWord::Head(SpanHead {
@@ -145,6 +141,7 @@ impl Carve {
     fn body_word(&self, distance: u32) -> u64
         requires some { 1 ≤ distance }
         requires few { distance < 2 ^ 13 }
+        requires span { FitsSpan self.now.span }
         ensures { result ≡ body_word (fresh_body self.now distance) }
     {
         PageWord::Body(SpanBody {
@@ -156,9 +153,10 @@ impl Carve {
     }
 
     /// The step that it asks for.
-    fn ask(&self) -> Ask
+    fn ask(&self, layout: &Layout) -> Ask
+        requires { Sound layout.now self.now }
         ensures asks { result ≡ asks self.now }
-        ensures within { InRange self.now.layout (cell_of result) }
+        ensures within { InRange layout.now (cell_of result) }
     {
         match self.stage {
             CarveStage::Look { page, .. } => Ask::Load(Cell::Page(page)),
@@ -169,26 +167,16 @@ impl Carve {
             CarveStage::Ended { .. } => Ask::Load(Cell::Touch),
         }
     }
-}
-
-impl Carve {
-    /// No page of the arena lies behind this one.
-    fn is_last(&self, page: u32) -> bool
-        requires { page + 1 < 2 ^ 32 }
-        ensures { result ≡ is_last_page self.now page }
-    {
-        page + 1 >= self.layout.pages
-    }
 
     /// Its stage after the page was looked at, with so many free ones in a row up to it.
-    fn after_look(&self, page: u32, row: u32) -> CarveStage
+    fn after_look(&self, layout: &Layout, page: u32, row: u32) -> CarveStage
         requires few { row ≤ page + 1 }
         requires page { page + 1 < 2 ^ 32 }
-        ensures { result ≡ after_look self.now page row }
+        ensures { result ≡ after_look layout.now self.now page row }
     {
         if row == self.span.pages {
             self.span.next_store(page + 1 - row, 0)
-        } else if self.is_last(page) {
+        } else if is_last(layout, page) {
             CarveStage::Ended { taken: None }
         } else {
             CarveStage::Look {
@@ -199,19 +187,20 @@ impl Carve {
     }
 
     /// Goes on to the next page, where the word found leads there, and answers whether it did. It changes two numbers
-    /// then; where it did not, nothing has changed, and [`take`](Machine::take) makes the step.
+    /// then; where it did not, nothing has changed, and [`take`](Routine::take) makes the step.
     #[inline(always)]
-    pub fn goes_on(&mut self, found: u64) -> bool
-        ensures exactly { result ≡ looks_on_at self.old self.old.stage found }
-        ensures goes { IsTrue result → self.new ≡ goes self.old found }
-        ensures gives { IsTrue result → gives self.old found ≡ None }
+    pub fn goes_on(&mut self, layout: &Layout, found: u64) -> bool
+        requires { Sound layout.now self.old }
+        ensures exactly { result ≡ looks_on_at layout.now self.old self.old.stage found }
+        ensures goes { IsTrue result → self.new ≡ goes layout.now self.old found }
+        ensures gives { IsTrue result → given (goes layout.now self.old found) ≡ None }
         ensures stays { result ≡ false → self.new ≡ self.old }
     {
         let CarveStage::Look { page, run } = self.stage else {
             return false;
         };
         let row = row_after(run, found);
-        if row == self.span.pages || self.is_last(page) {
+        if row == self.span.pages || is_last(layout, page) {
             return false;
         }
         if let CarveStage::Look { page, run } = &mut self.stage {
@@ -222,11 +211,12 @@ impl Carve {
     }
 
     /// Its stage after its step found this.
-    fn go(&self, found: u64) -> CarveStage
-        ensures { result ≡ goes_at self.now self.now.stage found }
+    fn go(&self, layout: &Layout, found: u64) -> CarveStage
+        requires { Sound layout.now self.now }
+        ensures { result ≡ goes_at layout.now self.now self.now.stage found }
     {
         match self.stage {
-            CarveStage::Look { page, run } => self.after_look(page, row_after(run, found)),
+            CarveStage::Look { page, run } => self.after_look(layout, page, row_after(run, found)),
             CarveStage::Body { first, distance } => self.span.next_store(first, distance),
             CarveStage::Head { first } => CarveStage::Ended { taken: Some(first) },
             CarveStage::Ended { taken } => CarveStage::Ended { taken },
@@ -244,33 +234,20 @@ impl Carve {
     }
 }
 
-impl Machine for Carve {
-    ghost use Rattle.std.specs.Prelude.{refl};
-    ghost use Rattle.gh_base.specs.Given.{is_over};
+impl Routine for Carve {
     ghost use Rattle.gh_pages.specs.Listing.{listing};
 
     type Out = Option<u32>;
 
-    ghost layout = { listing.layout };
+    ghost listing = { listing };
 
-    ghost busy = { listing.busy };
-
-    ghost asks = { listing.asks };
-
-    ghost goes = { listing.goes };
-
-    ghost gives = { listing.gives };
-
-    fn next(&self) -> Req {
-        self.layout.request(self.ask())
+    fn next(&self, layout: &Layout) -> Req {
+        layout.request(self.ask(layout))
     }
 
-    fn take(&mut self, found: u64) -> Option<Option<u32>> {
-        self.stage = self.go(found);
+    #[tactic(auto, using(std::proofs::lemmas::Bool::Decides::nat_tests))]
+    fn take(&mut self, layout: &Layout, found: u64) -> Option<Option<u32>> {
+        self.stage = self.go(layout, found);
         self.given()
     }
-
-    ghost ends = { λ c found busy. is_over (listing.gives c found) };
-
-    ghost stays = { λ _ _. refl };
 }

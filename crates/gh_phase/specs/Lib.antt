@@ -1,9 +1,8 @@
-pub mod Blind
 pub mod Handshake
 pub mod Listing
 pub mod ResumePlaces
 pub mod Resumes
 pub mod Shakes
 pub mod Sound
-pub mod Stays
 pub mod Views
+pub mod Waiting

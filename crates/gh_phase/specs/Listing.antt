@@ -1,12 +1,16 @@
 -- Going on after a stop: what is asked for at each stage, where that leads, and what it gives.
-use Rattle.std.specs.Prelude.{ℕ, Bool, not, ◌==◌, if◌then◌else◌, Option, Some, None, is_none}
+use Rattle.std.specs.Prelude.{ℕ, Bool, true, false, not, ◌==◌, if◌then◌else◌, Option, Some, None, is_none}
 use Rattle.gh_base.specs.declared.cell.Cell.TheVariants.{Touch, Phase, Gen, Begun, Ack}
 use Rattle.gh_base.specs.declared.cell.Ask.{Ask}
 use Rattle.gh_base.specs.declared.cell.Ask.TheVariants.{Load, Store}
 use Rattle.gh_base.specs.declared.layout.Layout.{Layout}
-use Rattle.gh_base.specs.Given.{listing_of}
+use Rattle.gh_base.specs.Footprints.{Footprint}
+use Rattle.gh_base.specs.Footprints as row
+use Rattle.gh_base.specs.Machines.{Listing, steps_of}
 use Rattle.gh_base.specs.Packing.{phase_of}
-use Rattle.gh_base.specs.Routines.{Listing}
+use Rattle.gh_base.specs.Routines as routine
+use Rattle.gh_phase.specs.Sound.{SoundResuming}
+use Rattle.gh_phase.specs.declared.resume.Resume.{Resume}
 use Rattle.gh_phase.specs.declared.resume.Resumed.{Resumed}
 use Rattle.gh_phase.specs.declared.resume.ResumeStage.{ResumeStage}
 use Rattle.gh_phase.specs.declared.resume.ResumeStage.TheVariants.{Acknowledge, LoadPhase, LoadGeneration, LoadBegun, Ended}
@@ -15,15 +19,11 @@ use Rattle.gh_phase.specs.declared.view.View.{View}
 use Rattle.gh_phase.specs.Views.{generation_found, run_phase}
 
 -- an actor that goes on after a stop: the number of the stop, what it knows so far, and its stage
-pub record Resuming : Type 0 where
-  pub layout : Layout
-  pub seat : ℕ
-  pub stops : ℕ
-  pub view : View
-  pub stage : ResumeStage
+abbrev pub Resuming : Type 0
+Resuming = Resume
 
-abbrev pub opening : Layout → (seat stops : ℕ) → View → Resuming
-opening l seat stops view = record { layout = l; seat = seat; stops = stops; view = view; stage = Acknowledge }
+abbrev pub opening : (seat stops : ℕ) → View → Resuming
+opening seat stops view = record { seat = seat; stops = stops; view = view; stage = Acknowledge }
 
 abbrev pub at_stage : Resuming → ResumeStage → Resuming
 at_stage r stage = record r { stage = stage }
@@ -77,5 +77,13 @@ goes r found = goes_at r r.stage found
 abbrev pub gives : Resuming → ℕ → Option Resumed
 gives r found = given (goes r found)
 
-abbrev pub listing : Listing Resuming Resumed
-listing = listing_of (λ r. r.layout) asks goes given
+-- it writes what its seat acknowledges
+abbrev pub writes : Footprint
+writes row.Ack = true
+writes _ = false
+
+abbrev pub listing : Layout → Listing Resuming Resumed
+listing l = record { asks = asks; goes = goes; given = given; sound = SoundResuming l; writes = writes }
+
+abbrev pub transitions : Layout → routine.Listing Resuming Resumed
+transitions l = steps_of l (listing l)

@@ -6,7 +6,7 @@ use Rattle.gh_phase.specs.declared.resume.ResumeStage.{ResumeStage}
 use Rattle.gh_phase.specs.declared.resume.ResumeStage.TheVariants.{Acknowledge, LoadPhase, LoadGeneration, LoadBegun, Ended}
 use Rattle.gh_phase.specs.declared.view.View.{View}
 use Rattle.gh_phase.specs.Handshake.{Awake, KeepsHandshake, Party, Resumes, Stage}
-use Rattle.gh_phase.specs.Listing.{gives, goes, listing, opening, Resuming}
+use Rattle.gh_phase.specs.Listing.{gives, goes, opening, Resuming, transitions}
 
 abbrev pub party_of : Resuming → Party
 party_of r = record { seat = r.seat; view = r.view }
@@ -25,7 +25,7 @@ stage_of r = stands_at r.stops r.stage
 -- its steps are those of the handshake, and what it ends with is what is known then
 pub record ResumesInHandshake : Type 0 where
   -- it begins where that stop is to be acknowledged, with what is known before
-  pub begins : (l : Layout) (seat stops : ℕ) (view : View) → (party_of (opening l seat stops view) ≡ record { seat = seat; view = view }) × (stage_of (opening l seat stops view) ≡ Resumes stops Acknowledge)
-  pub keeps : KeepsHandshake listing (λ r. Unit {0}) party_of stage_of
+  pub begins : (seat stops : ℕ) (view : View) → (party_of (opening seat stops view) ≡ record { seat = seat; view = view }) × (stage_of (opening seat stops view) ≡ Resumes stops Acknowledge)
+  pub keeps : (l : Layout) → KeepsHandshake (transitions l) (λ r. Unit {0}) party_of stage_of
   pub seat_stays : (r : Resuming) (found : ℕ) → (goes r found).seat ≡ r.seat
   pub ends : (r : Resuming) (found : ℕ) (out : Resumed) → gives r found ≡ Some out → ((goes r found).view ≡ out.view) × (stage_of (goes r found) ≡ Awake)

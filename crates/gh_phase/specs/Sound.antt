@@ -1,10 +1,11 @@
 -- What the routine knows of its own numbers, whatever it is told.
 use Rattle.std.specs.Prelude.{◌+◌, ◌^◌, ◌<◌}
-use Rattle.gh_phase.specs.Listing.{Resuming}
+use Rattle.gh_base.specs.declared.layout.Layout.{Layout}
+use Rattle.gh_phase.specs.declared.resume.Resume.{Resume}
 use Rattle.gh_phase.specs.Views.{FitsView}
 
 -- the seat is that of a processor or a worker, who acknowledge stops
-pub record Sound (r : Resuming) : Type 0 where
-  pub seat : r.seat < r.layout.procs + r.layout.workers
+pub record SoundResuming (l : Layout) (r : Resume) : Type 0 where
+  pub seat : r.seat < l.procs + l.workers
   pub stops : r.stops < 2 ^ 62
   pub view : FitsView r.view

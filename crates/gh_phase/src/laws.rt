@@ -2,14 +2,23 @@
 //! ensure is proved.
 
 ghost use Rattle.std.specs.Prelude.{ℕ, List, ◌∷◌};
+ghost use Rattle.gh_base.specs.declared.layout.Layout.{Layout};
 ghost use Rattle.gh_base.specs.declared.machine.Entry.{Entry};
 ghost use Rattle.gh_base.specs.Lists.{Legal, Setting};
+ghost use Rattle.gh_base.specs.Machines.{IsRoutine};
 ghost use Rattle.gh_phase.specs.Handshake.{IsHandshake};
+ghost use Rattle.gh_phase.specs.Listing.{listing};
 ghost use Rattle.gh_phase.specs.ResumePlaces.{ResumesInHandshake};
 ghost use Rattle.gh_phase.specs.Shakes.{FinishedStays, GoneStay, NobodyMoves, Shakes};
 
 use crate::handshake::InHandshake;
 use gh_base::laws::packed_words_are_read_back;
+
+/// Going on after a stop is a routine: it stays sound, each step is on a word that there is, and it writes acknowledgements
+/// alone.
+pub fn going_on_is_a_routine()
+    ensures { (l : Layout) → IsRoutine l (listing l) }
+{}
 
 /// Going on after a stop makes the steps of the handshake: it begins with the acknowledgement of that stop, by its
 /// seat, and ends where the actor is awake; what it ends with is what the actor knows then.

@@ -1,14 +1,12 @@
 //! The routine by which an actor acknowledges a stop and goes on.
 
-ghost use Rattle.std.specs.Prelude.{◌≡◌, ◌+◌, ◌^◌, ◌<◌, IfSome, true};
-ghost use Rattle.gh_base.specs.Cells.{InRange};
-ghost use Rattle.gh_base.specs.Steps.{cell_of};
-ghost use Rattle.gh_phase.specs.Listing.{asks, given, goes_at, is_busy, opening};
+ghost use Rattle.std.specs.Prelude.{◌≡◌, IfSome, true};
+ghost use Rattle.gh_phase.specs.Listing.{given, goes, goes_at, is_busy, opening};
+ghost use Rattle.gh_phase.specs.Sound.{SoundResuming};
 ghost use Rattle.gh_phase.specs.Views.{FitsView};
 
 use crate::view::{RunPhase, View, generation};
-use gh_base::{Ask, Cell, Layout, Machine, PhaseWord, Req};
-use std::marker::Model;
+use gh_base::{Ask, Cell, Layout, PhaseWord, Req, Routine};
 
 /// The stages of going on after a stop.
 #[derive(Clone, Copy, Debug, PartialEq, Eq)]
@@ -42,56 +40,28 @@ pub struct Resumed {
 /// ends with what it knows then.
 #[derive(Clone, Copy, Debug, PartialEq, Eq)]
 pub struct Resume {
-    layout: Layout,
-    seat: u32,
-    stops: u64,
-    view: View,
-    stage: ResumeStage,
-}
-
-impl Model for Resume {
-    ghost use Rattle.gh_phase.specs.Listing.{Resuming};
-    ghost use Rattle.gh_phase.specs.Sound.{Sound};
-
-    ghost Value = { Resuming };
-
-    ghost view = { λ r. record { layout = r.layout; seat = r.seat; stops = r.stops; view = r.view; stage = r.stage } };
-
-    ghost invariant = { λ r. Sound (record { layout = r.layout; seat = r.seat; stops = r.stops; view = r.view; stage = r.stage }) };
-
-    ghost inverse = { λ r. record { layout = r.layout; seat = r.seat; stops = r.stops; view = r.view; stage = r.stage } };
+    /// Its seat.
+    pub seat: u32,
+    /// The number of the stop.
+    pub stops: u64,
+    /// What it knows of the phase so far.
+    pub view: View,
+    /// Its stage.
+    pub stage: ResumeStage,
 }
 
 impl Resume {
     /// The seat, of a processor or a worker, acknowledges the stop of this number and goes on; before, it
     /// knew this of the phase.
-    pub fn new(layout: &Layout, seat: u32, stops: u64, view: View) -> Resume
-        requires seat { seat < layout.now.procs + layout.now.workers }
-        requires stops { stops < 2 ^ 62 }
-        requires view { FitsView view }
-        ensures opening { result ≡ opening layout.now seat stops view }
+    pub fn new(seat: u32, stops: u64, view: View) -> Resume
+        ensures opening { result ≡ opening seat stops view }
         ensures begun { is_busy result ≡ true }
     {
         Resume {
-            layout: *layout,
             seat,
             stops,
             view,
             stage: ResumeStage::Acknowledge,
-        }
-    }
-
-    /// The step that it asks for.
-    fn ask(&self) -> Ask
-        ensures asks { result ≡ asks self.now }
-        ensures within { InRange self.now.layout (cell_of result) }
-    {
-        match self.stage {
-            ResumeStage::Acknowledge => Ask::Store(Cell::Ack(self.seat), self.stops),
-            ResumeStage::LoadPhase => Ask::Load(Cell::Phase),
-            ResumeStage::LoadGeneration => Ask::Load(Cell::Gen),
-            ResumeStage::LoadBegun => Ask::Load(Cell::Begun),
-            ResumeStage::Ended(_) => Ask::Load(Cell::Touch),
         }
     }
 
@@ -124,6 +94,7 @@ impl Resume {
 
     /// What it has given.
     fn given(&self) -> Option<Resumed>
+        requires { FitsView self.now.view }
         ensures is { result ≡ given self.now }
         ensures fits { IfSome result (λ r. FitsView r.view) }
     {
@@ -137,33 +108,31 @@ impl Resume {
     }
 }
 
-impl Machine for Resume {
-    ghost use Rattle.std.specs.Prelude.{IfSome};
-    ghost use Rattle.gh_base.specs.Given.{is_over};
-    ghost use Rattle.gh_phase.specs.Listing.{gives, goes, is_busy, listing};
-    ghost use Rattle.gh_phase.specs.Stays.{stays};
-    ghost use Rattle.gh_phase.specs.Views.{FitsView};
+impl Routine for Resume {
+    ghost use Rattle.gh_phase.specs.Listing.{listing};
 
     type Out = Resumed;
 
-    ghost layout = { listing.layout };
+    ghost listing = { listing };
 
-    ghost busy = { listing.busy };
-
-    ghost asks = { listing.asks };
-
-    ghost goes = { listing.goes };
-
-    ghost gives = { listing.gives };
-
-    fn next(&self) -> Req {
-        self.layout.request(self.ask())
+    fn next(&self, layout: &Layout) -> Req {
+        match self.stage {
+            ResumeStage::Acknowledge => {
+                layout.request(Ask::Store(Cell::Ack(self.seat), self.stops))
+            }
+            ResumeStage::LoadPhase => layout.request(Ask::Load(Cell::Phase)),
+            ResumeStage::LoadGeneration => layout.request(Ask::Load(Cell::Gen)),
+            ResumeStage::LoadBegun => layout.request(Ask::Load(Cell::Begun)),
+            ResumeStage::Ended(_) => layout.request(Ask::Load(Cell::Touch)),
+        }
     }
 
-    fn take(&mut self, found: u64) -> Option<Resumed>
-        requires { is_busy self.old ≡ true }
+    fn take(&mut self, layout: &Layout, found: u64) -> Option<Resumed>
+        requires sound { SoundResuming layout.now self.old }
+        requires busy { is_busy self.old ≡ true }
         ensures state { self.new ≡ goes self.old found }
-        ensures out { result ≡ gives self.old found }
+        ensures out { result ≡ given self.new }
+        ensures sound { SoundResuming layout.now self.new }
         ensures fits { IfSome result (λ r. FitsView r.view) }
     {
         match self.stage {
@@ -178,8 +147,4 @@ impl Machine for Resume {
         }
         self.given()
     }
-
-    ghost ends = { λ m found busy. is_over (listing.gives m found) };
-
-    ghost stays = { stays };
 }

@@ -24,7 +24,7 @@ after_fine g b out e = grind arith
 fine_at : (g : Giving) (stage : GiveStage) (w : ℕ) → GivingFacts g stage → GivingFacts (goes_at g stage w) (goes_at g stage w).stage
 fine_at g Lock w k = lock_fine g (eqb w 0)
 fine_at g (GiveSpan i s) w k = first_fine (at_stage g (stage_from g.cache (i + 1))) (i + 1) (drop (i + 1) g.cache)
-fine_at g Unlock w k = buffer_fine (record g { cache = none_cached; stage = giving_buffer g.layout g.held }) g.held refl refl
+fine_at g Unlock w k = buffer_fine (record g { cache = none_cached; stage = giving_buffer g.held }) g.held refl refl
 fine_at g (GiveBuffer b) w k = after_fine g (buffer.goes b w) (buffer.gives b w) k
 fine_at g Ended w k = k
 

@@ -1,6 +1,5 @@
 -- The scan of a stack goes on until its step.
 use Rattle.std.proofs.Common.{◌≡◌, ℕ, ◌+◌, true, List, [], ◌∷◌, Some, None, refl, arith}
-use Rattle.gh_base.specs.declared.layout.Layout.{Layout}
 use Rattle.gh_base.specs.declared.value.Value.{Value}
 use Rattle.gh_base.specs.declared.value.Value.TheVariants as value
 use Rattle.gh_stack.specs.declared.scan_stack.StackStage.{StackStage}
@@ -13,8 +12,8 @@ first_going i (value.Ref r ∷ values) = refl
 first_going i (value.Nil ∷ values) = first_going (i + 1) values
 first_going i (value.Int n ∷ values) = first_going (i + 1) values
 
-pub begins_going : (l : Layout) (goroutine cycle : ℕ) (registers : List Value) → goes_on (opening l goroutine cycle registers).stage ≡ true
-begins_going l goroutine cycle registers = grind (arith, first_going)
+pub begins_going : (goroutine cycle : ℕ) (registers : List Value) → goes_on (opening goroutine cycle registers).stage ≡ true
+begins_going goroutine cycle registers = grind (arith, first_going)
 
 told_at : (registers : List Value) (stage : StackStage) → is_waiting stage ≡ true → goes_on (after_shade registers stage) ≡ true
 told_at registers stage e = grind (arith, first_going)

@@ -7,7 +7,7 @@ use Rattle.gh_base.specs.declared.value.Value.TheVariants as value
 use Rattle.gh_barrier.specs.declared.pointer_cell.PointerCell.{PointerCell}
 use Rattle.gh_barrier.specs.Listing.{Writing}
 use Rattle.gh_barrier.specs.Listing as write
-use Rattle.gh_barrier.specs.Within.{WritesWithin}
+use Rattle.gh_barrier.specs.Sound.{SoundWriting}
 use Rattle.gh_poll.specs.declared.poll.Local.{Local}
 use Rattle.gh_poll.specs.Registers.{is_number_value}
 use Rattle.gh_poll.specs.Local.{marking_at}
@@ -20,23 +20,23 @@ pointer_of (value.Int n) = None
 pointer_of (value.Ref r) = if r == 0 then None else Some r
 
 -- the value is written to the cell, with the buffer that is held
-abbrev pub written : Layout → Local → PointerCell → Value → Writing
-written l own at v = write.opening l at (pointer_of v) own.held
+abbrev pub written : Local → PointerCell → Value → Writing
+written own at v = write.opening at (pointer_of v) own.held
 
 -- It is the write of this value to this cell; a number is not written so.
 pub record WritesIt (l : Layout) (at : PointerCell) (v : Value) (w : Writing) : Type 0 where
   pub same_cell : w.at ≡ at
   pub same_pointer : w.pointer ≡ pointer_of v
   pub names : is_number_value v ≡ false
-  pub within : WritesWithin l w
+  pub within : SoundWriting l w
   pub busy : write.is_busy w.stage ≡ true
 
 -- what is held behind a step of the write
 abbrev pub held_behind_write : Writing → Option Held
 held_behind_write w = write.held_at w.held w.stage
 
-abbrev pub held_then : Writing → (found : ℕ) → Option Held
-held_then w found = held_behind_write (write.goes w found)
+abbrev pub held_then : Layout → Writing → (found : ℕ) → Option Held
+held_then l w found = held_behind_write (write.goes l w found)
 
 -- the processor holds this
 abbrev pub with_held : Polling → Option Held → Polling

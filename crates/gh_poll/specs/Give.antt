@@ -51,17 +51,17 @@ abbrev pub none_cached : List (Option CachedSpan)
 none_cached = replicate SPAN_CLASSES None
 
 -- a buffer that is held is given back
-abbrev pub giving_buffer : Layout → Option Held → GiveStage
-giving_buffer l None = Ended
-giving_buffer l (Some h) = GiveBuffer (buffer.opening l h)
+abbrev pub giving_buffer : Option Held → GiveStage
+giving_buffer None = Ended
+giving_buffer (Some h) = GiveBuffer (buffer.opening h)
 
 -- by what would follow under the lock: the lock is needed where a span is cached
-abbrev pub begins : Layout → Option Held → GiveStage → GiveStage
-begins l held Unlock = giving_buffer l held
-begins l held _ = Lock
+abbrev pub begins : Option Held → GiveStage → GiveStage
+begins held Unlock = giving_buffer held
+begins held _ = Lock
 
 abbrev pub opening : Layout → (seat generation : ℕ) → List (Option CachedSpan) → Option Held → Giving
-opening l seat generation cache held = record { layout = l; seat = seat; generation = generation; cache = cache; held = held; stage = begins l held (stage_from cache 0) }
+opening l seat generation cache held = record { layout = l; seat = seat; generation = generation; cache = cache; held = held; stage = begins held (stage_from cache 0) }
 
 -- after a step of the giving back of the buffer
 abbrev pub after_buffer : Giving → buffer.BufferGiving → Option (Unit {0}) → Giving
@@ -79,7 +79,7 @@ module _ (g : Giving) where
   abbrev pub goes_at : GiveStage → ℕ → Giving
   goes_at Lock found = at_stage g (if found == 0 then stage_from g.cache 0 else Lock)
   goes_at (GiveSpan class s) found = at_stage g (stage_from g.cache (class + 1))
-  goes_at Unlock found = record g { cache = none_cached; stage = giving_buffer g.layout g.held }
+  goes_at Unlock found = record g { cache = none_cached; stage = giving_buffer g.held }
   goes_at (GiveBuffer b) found = after_buffer g (buffer.goes b found) (buffer.gives b found)
   goes_at Ended found = at_stage g Ended
 

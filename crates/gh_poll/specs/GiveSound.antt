@@ -2,6 +2,7 @@
 use Rattle.std.specs.Prelude.{◌≡◌, ℕ, ◌/◌, ◌^◌, ◌<◌, Bool, true, List, length, slice_index_or, Option, Some, None}
 use Rattle.gh_base.specs.declared.layout.Layout.{Layout}
 use Rattle.gh_base.specs.Holding.{IsHeld}
+use Rattle.gh_base.specs.Machines as routine
 use Rattle.gh_class.specs.declared.class.TheConstants.{SPAN_CLASSES}
 use Rattle.gh_alloc.specs.declared.sought.CachedSpan.{CachedSpan}
 use Rattle.gh_wbuf.specs.BufferGiving as buffer
@@ -19,14 +20,14 @@ pub record FitsCachedSpan (l : Layout) (class : ℕ) (s : CachedSpan) : Type 0 w
   pub among : class < SPAN_CLASSES
   pub span : SoundCached l.pages (class / 2) (Some s)
 
--- a routine of the same heap that asks for a step
+-- a machine of the same heap that asks for a step
 pub record Runs (l own : Layout) (is_busy : Bool) : Type 0 where
   pub layout : own ≡ l
   pub busy : is_busy ≡ true
 
 abbrev pub SoundStage : Layout → GiveStage → Type 0
 SoundStage l (GiveSpan class s) = FitsCachedSpan l class s
-SoundStage l (GiveBuffer b) = Runs l b.layout (buffer.is_busy b.stage)
+SoundStage l (GiveBuffer b) = routine.Runs (buffer.listing l) b
 SoundStage l _ = Unit {0}
 
 pub record SoundGiving (g : Giving) : Type 0 where

@@ -20,7 +20,7 @@ GivingFacts g (GiveBuffer b) = g.cache ≡ none_cached
 GivingFacts g Ended = (g.cache ≡ none_cached) × (g.held ≡ None)
 GivingFacts g _ = Unit {0}
 
-pub buffer_fine : (g : Giving) (held : Option Held) → g.held ≡ held → g.cache ≡ none_cached → GivingFacts g (giving_buffer g.layout held)
+pub buffer_fine : (g : Giving) (held : Option Held) → g.held ≡ held → g.cache ≡ none_cached → GivingFacts g (giving_buffer held)
 buffer_fine g held e none = grind arith
 
 pub first_fine : (g : Giving) (i : ℕ) (spans : List (Option CachedSpan)) → GivingFacts g (first_cached i spans)

@@ -38,14 +38,14 @@ goes_on _ = true
 -- by what the scan wishes to be shaded
 abbrev pub by_wish : Layout → Option Held → Option ℕ → MarkStackStage
 by_wish l held None = Store
-by_wish l held (Some reference) = Shading (shade.opening l (reference_in l reference) held)
+by_wish l held (Some reference) = Shading (shade.opening (reference_in l reference) held)
 
 abbrev pub stage_of : Layout → Option Held → stack.StackScan → MarkStackStage
 stage_of l held scan = by_wish l held (stack.wish_of scan.stage)
 
 abbrev pub opening : Layout → (seat goroutine cycle : ℕ) → List Value → Option Held → StackMarking
 opening l seat goroutine cycle registers held =
-    record { layout = l; seat = seat; held = held; scan = stack.opening l goroutine cycle registers; stage = stage_of l held (stack.opening l goroutine cycle registers) }
+    record { layout = l; seat = seat; held = held; scan = stack.opening goroutine cycle registers; stage = stage_of l held (stack.opening goroutine cycle registers) }
 
 -- a reference is shaded
 abbrev pub with_shaded : StackMarking → Option Held → StackMarking
@@ -54,7 +54,7 @@ with_shaded m held = record m { held = held; scan = stack.told_shaded m.scan; st
 abbrev pub after_shade : StackMarking → shade.Shading → Option Shaded → StackMarking
 after_shade m sh None = at_stage m (Shading sh)
 after_shade m sh (Some shaded.Done) = with_shaded m sh.held
-after_shade m sh (Some shaded.WantsRoom) = at_stage m (FindRoom sh (room.opening m.layout m.seat sh.held))
+after_shade m sh (Some shaded.WantsRoom) = at_stage m (FindRoom sh (room.opening m.seat sh.held))
 
 abbrev pub after_room : StackMarking → shade.Shading → room.RoomFinding → Option Held → StackMarking
 after_room m sh r None = at_stage m (FindRoom sh r)
@@ -69,7 +69,7 @@ module _ (m : StackMarking) where
 
   abbrev pub goes_at : MarkStackStage → ℕ → StackMarking
   goes_at (Shading sh) found = after_shade m (shade.goes sh found) (shade.gives sh found)
-  goes_at (FindRoom sh r) found = after_room m sh (room.goes r found) (room.gives r found)
+  goes_at (FindRoom sh r) found = after_room m sh (room.goes m.layout r found) (room.gives m.layout r found)
   goes_at Store found = at_stage m Ended
   goes_at Ended found = at_stage m Ended
 

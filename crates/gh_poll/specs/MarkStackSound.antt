@@ -3,25 +3,27 @@ use Rattle.std.specs.Prelude.{◌≡◌, ◌<◌, true}
 use Rattle.gh_base.specs.declared.layout.Layout.{Layout}
 use Rattle.gh_base.specs.Cells.{seats_of}
 use Rattle.gh_base.specs.Holding.{IsHeld}
+use Rattle.gh_base.specs.Machines.{Runs}
 use Rattle.gh_shade.specs.declared.shade.ShadeStage.TheVariants.{WaitForRoom}
 use Rattle.gh_shade.specs.Listing as shade
+use Rattle.gh_shade.specs.Sound.{SoundShading}
 use Rattle.gh_stack.specs.Listing as stack
+use Rattle.gh_stack.specs.Sound.{SoundStackScan}
 use Rattle.gh_wbuf.specs.RoomFinding as room
 use Rattle.gh_poll.specs.declared.mark_stack.MarkStackStage.{MarkStackStage}
 use Rattle.gh_poll.specs.declared.mark_stack.MarkStackStage.TheVariants.{Shading, FindRoom, Store}
-use Rattle.gh_poll.specs.GiveSound.{Runs}
 use Rattle.gh_poll.specs.MarkStack.{StackMarking}
 
 -- the scan waits until what it wishes for is shaded
 pub record StackScanShades (l : Layout) (scan : stack.StackScan) (sh : shade.Shading) : Type 0 where
-  pub runs : Runs l sh.layout (shade.is_busy sh.stage)
+  pub runs : Runs (shade.listing l) sh
   pub scan_waits : stack.is_waiting scan.stage ≡ true
 
 -- and the shading for the room that is looked for
 pub record StackShadingWaits (l : Layout) (scan : stack.StackScan) (sh : shade.Shading) (r : room.RoomFinding) : Type 0 where
-  pub shade_in : sh.layout ≡ l
+  pub shade : SoundShading l sh
   pub waits : sh.stage ≡ WaitForRoom
-  pub runs : Runs l r.layout (room.is_busy r.stage)
+  pub runs : Runs (room.listing l) r
   pub scan_waits : stack.is_waiting scan.stage ≡ true
 
 abbrev pub SoundStage : Layout → stack.StackScan → MarkStackStage → Type 0
@@ -33,5 +35,5 @@ SoundStage l scan _ = Unit {0}
 pub record SoundStackMarking (m : StackMarking) : Type 0 where
   pub seat : m.seat < seats_of m.layout
   pub held : IsHeld m.layout m.held
-  pub scan_in : m.scan.layout ≡ m.layout
+  pub scan : SoundStackScan m.layout m.scan
   pub stage : SoundStage m.layout m.scan m.stage

@@ -62,13 +62,13 @@ has_two None = false
 has_two (Some h) = nat_le (h.count + 2) ENTRIES
 
 -- a processor that does not wait is to have such a buffer
-abbrev pub room_stage : Layout → (seat : ℕ) → (waits : Bool) → Option Held → PollStage
-room_stage l seat true held = Ended
-room_stage l seat false held = if has_two held then Ended else FindRoom (room.opening l seat held)
+abbrev pub room_stage : (seat : ℕ) → (waits : Bool) → Option Held → PollStage
+room_stage seat true held = Ended
+room_stage seat false held = if has_two held then Ended else FindRoom (room.opening seat held)
 
 -- the poll is counted
 abbrev pub counted : Polling → Polling
-counted p = record p { local = record (p.local) { polls = (p.local.polls + 1) % 2 ^ 64 }; stage = room_stage p.layout p.seat p.waits p.local.held }
+counted p = record p { local = record (p.local) { polls = (p.local.polls + 1) % 2 ^ 64 }; stage = room_stage p.seat p.waits p.local.held }
 
 abbrev pub begins_stack : Polling → (g : ℕ) → Polling
 begins_stack p g = at_stage p (Marking g (mark.opening p.layout p.seat g p.local.view.begun (slice_index_or p.local.stacks g []) p.local.held))
@@ -87,7 +87,7 @@ marks_then p run.Finished = at_stage p Ended
 abbrev pub stops_then : Polling → give.Giving → (stops : ℕ) → Polling
 stops_then p g stops =
     if give.is_busy g.stage then at_stage p (Giving g stops)
-    else record p { local = record (p.local) { cache = g.cache; held = g.held }; stage = Resuming (resume.opening p.layout p.seat stops p.local.view) }
+    else record p { local = record (p.local) { cache = g.cache; held = g.held }; stage = Resuming (resume.opening p.seat stops p.local.view) }
 
 abbrev pub giving : Polling → give.Giving
 giving p = give.opening p.layout p.seat p.local.view.generation p.local.cache p.local.held
@@ -137,7 +137,7 @@ goes_at p LoadPhase found = by_phase p (phase_of found).stops (run_phase (phase_
 goes_at p (Giving g stops) found = stops_then p (give.goes g found) stops
 goes_at p (Resuming r) found = after_resume p (resume.goes r found) (resume.gives r found)
 goes_at p (Marking g m) found = after_mark p g (mark.goes m found) (mark.gives m found)
-goes_at p (FindRoom r) found = after_room p (room.goes r found) (room.gives r found)
+goes_at p (FindRoom r) found = after_room p (room.goes p.layout r found) (room.gives p.layout r found)
 goes_at p Ended found = at_stage p Ended
 
 -- what it has given at this stage; it is busy where that is nothing

@@ -3,6 +3,7 @@ use Rattle.std.specs.Prelude.{◌≡◌, ℕ, ◌^◌, ◌<◌, Bool, true, fals
 use Rattle.gh_base.specs.declared.layout.Layout.{Layout}
 use Rattle.gh_base.specs.declared.limits.TheConstants.{MOST_GOROUTINES}
 use Rattle.gh_base.specs.Holding.{IsHeld}
+use Rattle.gh_base.specs.Machines as routine
 use Rattle.gh_class.specs.declared.class.TheConstants.{SPAN_CLASSES}
 use Rattle.gh_phase.specs.Listing as resume
 use Rattle.gh_phase.specs.Views.{FitsView}
@@ -35,9 +36,9 @@ pub record MarksOne (l : Layout) (g : ℕ) (m : mark.StackMarking) : Type 0 wher
 
 abbrev pub SoundStage : Layout → PollStage → Type 0
 SoundStage l (Giving g stops) = GivesAt l g stops
-SoundStage l (Resuming r) = Runs l r.layout (resume.is_busy r)
+SoundStage l (Resuming r) = routine.Runs (resume.listing l) r
 SoundStage l (Marking g m) = MarksOne l g m
-SoundStage l (FindRoom r) = Runs l r.layout (room.is_busy r.stage)
+SoundStage l (FindRoom r) = routine.Runs (room.listing l) r
 SoundStage l _ = Unit {0}
 
 -- a poll has begun, and is not over

@@ -7,7 +7,8 @@
 ghost use Rattle.std.specs.Prelude.{◌≡◌, ◌*◌, ◌^◌, ◌≤◌, true};
 ghost use Rattle.gh_assist.specs.Listing as assists;
 ghost use Rattle.gh_assist.specs.Listing.{opening};
-ghost use Rattle.gh_poll.specs.GiveSound.{Runs};
+ghost use Rattle.gh_assist.specs.Sound.{SoundAssisting};
+ghost use Rattle.gh_base.specs.Machines.{Runs};
 ghost use Rattle.gh_poll.specs.Local.{with_payment};
 
 use crate::poll::Poll;
@@ -17,28 +18,21 @@ impl Poll {
     /// The assist for an object of so many words of its slot.
     pub fn assist(&self, slot: u32) -> Assist
         requires slot { 8 * slot ≤ 2 ^ 31 }
-        ensures is { result ≡ opening self.now.layout self.now.seat self.now.local.held (8 * slot) self.now.local.owed self.now.local.spent }
-        ensures runs { Runs self.now.layout result.layout (assists.is_busy result.stage) }
+        ensures is { result ≡ opening self.now.seat self.now.local.held (8 * slot) self.now.local.owed self.now.local.spent }
+        ensures runs { Runs (assists.listing self.now.layout) result }
     {
         let (held, owed, spent) = (self.local.held, self.local.owed, self.local.spent);
-        Assist::new(
-            &self.layout,
-            self.seat,
-            held,
-            8 * u64::from(slot),
-            owed,
-            spent,
-        )
+        Assist::new(self.seat, held, 8 * u64::from(slot), owed, spent)
     }
 
     /// The processor holds what this assist holds, and owes and has drawn what that says.
     pub fn pay(&mut self, assist: &Assist)
-        requires layout { assist.now.layout ≡ self.old.layout }
+        requires sound { SoundAssisting self.old.layout assist.now }
         ensures { self.new ≡ with_payment self.old assist.now }
     {
         self.local.held = assist.held();
-        self.local.owed = assist.owed();
-        self.local.spent = assist.spent();
+        self.local.owed = assist.owed;
+        self.local.spent = assist.spent;
     }
 
     /// The words that the processor has ever drawn from the bank, but for those of an assist that is under way.

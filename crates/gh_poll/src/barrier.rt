@@ -6,18 +6,18 @@
 ghost use Rattle.std.specs.Prelude.{◌≡◌, ◌≤◌, IsTrue, true};
 ghost use Rattle.gh_base.specs.Cells.{InRange};
 ghost use Rattle.gh_base.specs.Holding.{IsHeld};
+ghost use Rattle.gh_base.specs.Machines.{Runs};
 ghost use Rattle.gh_barrier.specs.Listing as writes;
 ghost use Rattle.gh_barrier.specs.Listing.{cell_at};
 ghost use Rattle.gh_barrier.specs.Sound.{FitsPointer, HasTwo};
 ghost use Rattle.gh_poll.specs.Barrier.{has_entries, held_then, pointer_of, with_held, written};
-ghost use Rattle.gh_poll.specs.GiveSound.{Runs};
 ghost use Rattle.gh_poll.specs.Local.{marking_at};
 ghost use Rattle.gh_poll.specs.Room.{room_in};
 ghost use Rattle.gh_poll.specs.Registers.{IsNear};
 
 use crate::poll::Poll;
 use gh_barrier::{PointerCell, WritePointer, has_two};
-use gh_base::{ENTRIES, Held, Layout, Machine, Value};
+use gh_base::{ENTRIES, Held, Layout, Routine, Value};
 
 /// The object that a value names; nil and numbers name none.
 fn pointer_of(layout: &Layout, value: Value) -> Option<u64>
@@ -65,11 +65,11 @@ impl Poll {
         requires near { IsNear self.now.layout.pages value }
         requires marking { marking_at self.now ≡ true }
         requires room { has_entries self.now ≡ true }
-        ensures is { result ≡ written self.now.layout self.now.local at value }
-        ensures runs { Runs self.now.layout result.layout (writes.is_busy result.stage) }
+        ensures is { result ≡ written self.now.local at value }
+        ensures runs { Runs (writes.listing self.now.layout) result }
     {
         let pointer = pointer_of(&self.layout, value);
-        WritePointer::new(&self.layout, at, pointer, self.local.held)
+        WritePointer::new(at, pointer, self.local.held)
     }
 
     /// The processor holds this buffer from now on.
@@ -82,12 +82,12 @@ impl Poll {
 
     /// Takes a step of this write.
     pub fn take_write(&mut self, write: &mut WritePointer, found: u64) -> Option<()>
-        requires { Runs self.old.layout write.old.layout (writes.is_busy write.old.stage) }
-        ensures goes { write.new ≡ writes.goes write.old found }
-        ensures gives { result ≡ writes.gives write.old found }
-        ensures holds { self.new ≡ with_held self.old (held_then write.old found) }
+        requires { Runs (writes.listing self.old.layout) write.old }
+        ensures goes { write.new ≡ writes.goes self.old.layout write.old found }
+        ensures gives { result ≡ writes.gives self.old.layout write.old found }
+        ensures holds { self.new ≡ with_held self.old (held_then self.old.layout write.old found) }
     {
-        let out = write.take(found);
+        let out = write.take(&self.layout, found);
         self.hold(write.held());
         out
     }

@@ -3,14 +3,15 @@
 ghost use Rattle.std.specs.Prelude.{◌≡◌, ◌^◌, ◌<◌, Option, length};
 ghost use Rattle.gh_base.specs.Cells.{InRange};
 ghost use Rattle.gh_base.specs.Holding.{IsHeld};
+ghost use Rattle.gh_base.specs.Machines.{Runs};
 ghost use Rattle.gh_base.specs.Steps.{cell_of};
 ghost use Rattle.gh_class.specs.declared.class.TheConstants.{SPAN_CLASSES};
 ghost use Rattle.gh_wbuf.specs.BufferGiving as buffers;
 ghost use Rattle.gh_poll.specs.Give.{given, giving_buffer, goes_at, head_store, is_busy, none_cached, opening, span_class, stage_from};
-ghost use Rattle.gh_poll.specs.GiveSound.{FitsCache, FitsCachedSpan, SoundStage, Runs};
+ghost use Rattle.gh_poll.specs.GiveSound.{FitsCache, FitsCachedSpan, SoundStage};
 
 use gh_alloc::{CachedSpan, given_head};
-use gh_base::{Ask, Cell, Held, Layout, Machine, PageWord, Req};
+use gh_base::{Ask, Cell, Held, Layout, Machine, PageWord, Req, Routine};
 use gh_class::{Class, SPAN_CLASSES, SpanClass, size_class_laws};
 use gh_wbuf::GiveBuffer;
 use std::marker::Model;
@@ -106,14 +107,13 @@ pub(crate) fn no_spans() -> Cache
 }
 
 /// What follows once no span is cached.
-fn giving_buffer(layout: &Layout, held: Option<Held>) -> GiveStage
-    requires { IsHeld layout.now held }
-    ensures is { result ≡ giving_buffer layout.now held }
-    ensures fits { SoundStage layout.now result }
+fn giving_buffer(held: Option<Held>) -> GiveStage
+    ensures is { result ≡ giving_buffer held }
+    ensures fits { (l : Layout) → IsHeld l held → SoundStage l result }
 {
     match held {
         None => GiveStage::Ended,
-        Some(held) => GiveStage::GiveBuffer(GiveBuffer::new(layout, held)),
+        Some(held) => GiveStage::GiveBuffer(GiveBuffer::new(held)),
     }
 }
 
@@ -134,7 +134,7 @@ impl Give {
         ensures { result ≡ opening layout.now seat generation cache held }
     {
         let stage = match stage_from(&cache, 0) {
-            GiveStage::Unlock => giving_buffer(layout, held),
+            GiveStage::Unlock => giving_buffer(held),
             _ => GiveStage::Lock,
         };
         Give {
@@ -182,19 +182,19 @@ impl Give {
 
     /// The lock is free, and no span is cached.
     fn unlocked(&mut self)
-        ensures { self.new ≡ record self.old { cache = none_cached; stage = giving_buffer self.old.layout self.old.held } }
+        ensures { self.new ≡ record self.old { cache = none_cached; stage = giving_buffer self.old.held } }
     {
         self.cache = no_spans();
-        self.stage = giving_buffer(&self.layout, self.held);
+        self.stage = giving_buffer(self.held);
     }
 
     /// Takes a step of the giving back of the buffer.
     fn give_buffer(&mut self, give: &GiveBuffer, found: u64)
-        requires { Runs self.old.layout give.now.layout (buffers.is_busy give.now.stage) }
+        requires { Runs (buffers.listing self.old.layout) give.now }
         ensures { self.new ≡ goes_at self.old (GiveStage.GiveBuffer give.now) found }
     {
         let mut give = *give;
-        match give.take(found) {
+        match give.take(&self.layout, found) {
             None => self.stage = GiveStage::GiveBuffer(give),
             Some(()) => {
                 self.held = None;
@@ -236,7 +236,7 @@ impl Machine for Give {
             GiveStage::Lock => Ask::Swap(Cell::Lock, 0, u64::from(self.seat) + 1),
             GiveStage::GiveSpan { class, span } => self.give_span(*class, *span),
             GiveStage::Unlock => Ask::Store(Cell::Lock, 0),
-            GiveStage::GiveBuffer(give) => return give.next(),
+            GiveStage::GiveBuffer(give) => return give.next(&self.layout),
             GiveStage::Ended => Ask::Load(Cell::Touch),
         };
         self.layout.request(ask)

@@ -8,7 +8,7 @@ ghost use Rattle.std.specs.Prelude.{◌≡◌, ◌^◌, ◌<◌, true};
 ghost use Rattle.gh_alloc.specs.FindSound.{IsCached};
 ghost use Rattle.gh_poll.specs.Leave.{is_busy};
 ghost use Rattle.gh_poll.specs.Local.{cached_at, first_local, leaving, marking_at, register_at, with_cached, with_ended, with_nothing, with_register_value};
-ghost use Rattle.gh_poll.specs.PollSound.{SoundLocal};
+ghost use Rattle.gh_poll.specs.PollSound.{SoundLocal, SoundPolling};
 ghost use Rattle.gh_poll.specs.Registers.{IsRegister};
 
 use crate::give::no_spans;
@@ -45,6 +45,14 @@ impl Local {
 }
 
 impl Poll {
+    /// What it knows of its own numbers. The call does nothing: its contract is what a proof of who runs it wants.
+    #[inline(always)]
+    pub fn numbers_fit(&self)
+        ensures { SoundPolling self.now }
+    {
+        let _seat = self.seat;
+    }
+
     /// The heap's layout.
     #[inline(always)]
     pub fn layout(&self) -> &Layout

@@ -3,15 +3,15 @@
 ghost use Rattle.std.specs.Prelude.{◌≡◌, ◌*◌, ◌<◌, ◌≤◌, Option, true};
 ghost use Rattle.gh_base.specs.Cells.{seats_of};
 ghost use Rattle.gh_base.specs.Holding.{IsHeld};
+ghost use Rattle.gh_base.specs.Machines.{Runs};
 ghost use Rattle.gh_shade.specs.Listing as shades;
 ghost use Rattle.gh_shade.specs.Sound.{IsReference};
 ghost use Rattle.gh_scan.specs.Listing.{reference_in};
 ghost use Rattle.gh_stack.specs.Listing as stacks;
-ghost use Rattle.gh_poll.specs.GiveSound.{Runs};
 ghost use Rattle.gh_poll.specs.MarkStack.{given, goes_at, goes_on, is_busy, opening, stage_of};
 ghost use Rattle.gh_poll.specs.MarkStackSound.{SoundStage, StackShadingWaits};
 
-use gh_base::{Ask, Cell, Held, Layout, Machine, Req, Value};
+use gh_base::{Ask, Cell, Held, Layout, Machine, Req, Routine, Value};
 use gh_shade::{Shade, Shaded};
 use gh_stack::{REGISTER_COUNT, ScanStack};
 use gh_wbuf::FindRoom;
@@ -75,9 +75,7 @@ fn stage_of(layout: &Layout, held: Option<Held>, scan: &ScanStack) -> MarkStackS
 {
     match scan.wish() {
         None => MarkStackStage::Store,
-        Some(reference) => {
-            MarkStackStage::Shading(Shade::new(layout, near(layout, reference), held))
-        }
+        Some(reference) => { MarkStackStage::Shading(Shade::new(near(layout, reference), held)) }
     }
 }
 
@@ -98,7 +96,7 @@ impl MarkStack {
         ensures opening { result ≡ opening layout.now seat goroutine cycle registers held }
         ensures begun { is_busy result.stage ≡ true }
     {
-        let scan = ScanStack::new(layout, goroutine, cycle, registers);
+        let scan = ScanStack::new(goroutine, cycle, registers);
         MarkStack {
             layout: *layout,
             seat,
@@ -132,16 +130,16 @@ impl MarkStack {
 
     /// Takes a step of this shading.
     fn shade(&mut self, shade: &Shade, found: u64)
-        requires runs { Runs self.old.layout shade.now.layout (shades.is_busy shade.now.stage) }
+        requires runs { Runs (shades.listing self.old.layout) shade.now }
         requires waits { stacks.is_waiting self.old.scan.stage ≡ true }
         ensures { self.new ≡ goes_at self.old (MarkStackStage.Shading shade.now) found }
     {
         let mut shade = *shade;
-        match shade.take(found) {
+        match shade.take(&self.layout, found) {
             None => self.stage = MarkStackStage::Shading(shade),
-            Some(Shaded::Done) => self.shaded(shade.held()),
+            Some(Shaded::Done) => self.shaded(shade.held),
             Some(Shaded::WantsRoom) => {
-                let room = FindRoom::new(&self.layout, self.seat, shade.held());
+                let room = FindRoom::new(self.seat, shade.held);
                 self.stage = MarkStackStage::FindRoom(shade, room);
             }
         }
@@ -153,7 +151,7 @@ impl MarkStack {
         ensures { self.new ≡ goes_at self.old (MarkStackStage.FindRoom shade.now room.now) found }
     {
         let (mut shade, mut room) = (*shade, *room);
-        match room.take(found) {
+        match room.take(&self.layout, found) {
             None => self.stage = MarkStackStage::FindRoom(shade, room),
             Some(held) => {
                 shade.told_room(held);
@@ -192,9 +190,9 @@ impl Machine for MarkStack {
 
     fn next(&self) -> Req {
         match &self.stage {
-            MarkStackStage::Shading(shade) => shade.next(),
-            MarkStackStage::FindRoom(_, room) => room.next(),
-            MarkStackStage::Store => self.scan.next(),
+            MarkStackStage::Shading(shade) => shade.next(&self.layout),
+            MarkStackStage::FindRoom(_, room) => room.next(&self.layout),
+            MarkStackStage::Store => self.scan.next(&self.layout),
             MarkStackStage::Ended => self.layout.request(Ask::Load(Cell::Touch)),
         }
     }

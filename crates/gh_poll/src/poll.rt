@@ -15,7 +15,7 @@ ghost use Rattle.gh_phase.specs.Views.{FitsView};
 use crate::give::{Cache, Give};
 use crate::mark_stack::MarkStack;
 use gh_base::limits::MOST_GOROUTINES;
-use gh_base::{Ask, Cell, END, ENTRIES, Held, Layout, Machine, PhaseWord, Req, Value};
+use gh_base::{Ask, Cell, END, ENTRIES, Held, Layout, Machine, PhaseWord, Req, Routine, Value};
 use gh_phase::{Resume, Resumed, RunPhase, View};
 use gh_stack::REGISTER_COUNT;
 use gh_wbuf::FindRoom;
@@ -212,7 +212,7 @@ impl Poll {
         if self.waits || has_two(self.local.held) {
             self.at = PollAt::Over;
         } else {
-            let room = FindRoom::new(&self.layout, self.seat, self.local.held);
+            let room = FindRoom::new(self.seat, self.local.held);
             self.at = PollAt::Amid;
             self.stage = PollStage::FindRoom(room);
         }
@@ -261,9 +261,9 @@ impl Poll {
     // So whoever stops the world finds each entry in a buffer that nobody holds, and each span without an owner.
     fn acknowledge(&mut self, stops: u64)
         requires stops { stops < 2 ^ 62 }
-        ensures { self.new ≡ at_stage self.old (PollStage.Resuming (resumes.opening self.old.layout self.old.seat stops self.old.local.view)) }
+        ensures { self.new ≡ at_stage self.old (PollStage.Resuming (resumes.opening self.old.seat stops self.old.local.view)) }
     {
-        let resume = Resume::new(&self.layout, self.seat, stops, self.local.view);
+        let resume = Resume::new(self.seat, stops, self.local.view);
         self.at = PollAt::Amid;
         self.stage = PollStage::Resuming(resume);
     }
@@ -329,7 +329,7 @@ impl Poll {
                 }
             }
             PollStage::Resuming(resume) => {
-                if let Some(resumed) = resume.take(found) {
+                if let Some(resumed) = resume.take(&self.layout, found) {
                     self.at = PollAt::Over;
                     self.resumed(&resumed);
                 }
@@ -344,7 +344,7 @@ impl Poll {
                 }
             }
             PollStage::FindRoom(room) => {
-                if let Some(held) = room.take(found) {
+                if let Some(held) = room.take(&self.layout, found) {
                     self.at = PollAt::Over;
                     self.local.held = Some(held);
                 }
@@ -389,9 +389,9 @@ impl Machine for Poll {
         }
         match &self.stage {
             PollStage::Giving(give, _) => give.next(),
-            PollStage::Resuming(resume) => resume.next(),
+            PollStage::Resuming(resume) => resume.next(&self.layout),
             PollStage::Marking(_, mark) => mark.next(),
-            PollStage::FindRoom(room) => room.next(),
+            PollStage::FindRoom(room) => room.next(&self.layout),
             PollStage::LoadPhase => self.layout.request(Ask::Load(Cell::Phase)),
             PollStage::Ended => self.layout.request(Ask::Load(Cell::Touch)),
         }

@@ -12,7 +12,7 @@ use Rattle.gh_base.specs.Routines.{Alone, alone, IsFolded, steps_alone}
 use Rattle.gh_wbuf.specs.declared.try_buffer.TryStage.TheVariants.{Claim, Ended}
 use Rattle.gh_wbuf.specs.declared.find_room.RoomStage.TheVariants.{Try}
 use Rattle.gh_wbuf.specs.declared.try_buffer.Wish.TheVariants.{Room}
-use Rattle.gh_wbuf.specs.RoomFinding.{after_try, at_stage, is_busy, listing, RoomFinding}
+use Rattle.gh_wbuf.specs.RoomFinding.{after_try, at_stage, is_busy, RoomFinding, transitions}
 use Rattle.gh_room.specs.Rounds.{FindsAlone, looking, SearchesAloneFind}
 use Rattle.gh_wbuf.specs.Trying as try
 
@@ -23,9 +23,9 @@ serves_room count h = grind (arith, nat_tests)
 is_open : (word : ℕ) → HasRoom word → try.is_open Room word ≡ true
 is_open word h = ap (λ (b : Bool). b && try.serves Room (buffer_of word).count) (eq-eqb _ _ h.free) ∙ serves_room (buffer_of word).count h.room
 
-module _ (folded : IsFolded listing) (l : Layout) (seat : ℕ) (words : Words) where
+module _ (l : Layout) (folded : IsFolded (transitions l)) (seat : ℕ) (words : Words) where
   abbrev from : (index : ℕ) → Alone RoomFinding
-  from index = record { routine = looking l seat index; words = words }
+  from index = record { routine = looking seat index; words = words }
 
   abbrev HasEnded : Alone RoomFinding → Type 0
   HasEnded s = is_busy s.routine.stage ≡ false
@@ -33,20 +33,20 @@ module _ (folded : IsFolded listing) (l : Layout) (seat : ℕ) (words : Words) w
   -- behind the load of a buffer's word
   abbrev looked : (index : ℕ) → Bool → Alone RoomFinding
   looked index b = record {
-    routine = after_try (at_stage (looking l seat index) (Try (try.at_stage (try.opening l seat Room index None) (cond b (Claim (words (Buffer index))) (Ended None))))) index (try.given_at (cond b (Claim (words (Buffer index))) (Ended None)));
+    routine = after_try l (at_stage (looking seat index) (Try (try.at_stage (try.opening seat Room index None) (cond b (Claim (words (Buffer index))) (Ended None))))) index (try.given_at (cond b (Claim (words (Buffer index))) (Ended None)));
     words = words;
   }
 
-  looks : (index : ℕ) (b : Bool) → try.is_open Room (words (Buffer index)) ≡ b → steps_alone listing (from index) ≡ looked index b
+  looks : (index : ℕ) (b : Bool) → try.is_open Room (words (Buffer index)) ≡ b → steps_alone (transitions l) (from index) ≡ looked index b
   looks index b e = ap (looked index) e
 
-  takes : (index : ℕ) → try.is_open Room (words (Buffer index)) ≡ true → HasEnded (alone listing (from index) 2)
+  takes : (index : ℕ) → try.is_open Room (words (Buffer index)) ≡ true → HasEnded (alone (transitions l) (from index) 2)
   takes index e = grind arith
 
   record EndsIn (most index : ℕ) : Type 0 where
     steps : ℕ
     few : steps ≤ most
-    ended : HasEnded (alone listing (from index) steps)
+    ended : HasEnded (alone (transitions l) (from index) steps)
 
   module _ (buffer : ℕ) (there : buffer < buffers_of l) (room : HasRoom (words (Buffer buffer))) where
     -- so many further looks lead to it
@@ -68,8 +68,8 @@ module _ (folded : IsFolded listing) (l : Layout) (seat : ℕ) (words : Words) w
           let n = next index d lt to t e in
           let x = on (cond t (index + 1) 0) n.1 n.0 in
           let few = x.few in
-          let at : steps_alone listing (from index) ≡ from (cond t (index + 1) 0) = looks index false closed ∙ ap (λ (b : Bool). from (cond b (index + 1) 0)) e in
-          record { steps = suc x.steps; few = omega (arith, few); ended = subst HasEnded (sym (folded.alone_first (from index) x.steps ∙ ap (λ (s : Alone RoomFinding). alone listing s x.steps) at)) x.ended }
+          let at : steps_alone (transitions l) (from index) ≡ from (cond t (index + 1) 0) = looks index false closed ∙ ap (λ (b : Bool). from (cond b (index + 1) 0)) e in
+          record { steps = suc x.steps; few = omega (arith, few); ended = subst HasEnded (sym (folded.alone_first (from index) x.steps ∙ ap (λ (s : Alone RoomFinding). alone (transitions l) s x.steps) at)) x.ended }
 
     pub finds_alone : (index : ℕ) → index < buffers_of l → FindsAlone l seat index words
     finds_alone index lt = by (leb index buffer) refl where
@@ -80,5 +80,5 @@ module _ (folded : IsFolded listing) (l : Layout) (seat : ℕ) (words : Words) w
       by true e = let le : index ≤ buffer = grind (arith, nat_tests, e) in within (buffer - index) (omega (arith, there, le)) (inl (omega (arith, le)))
       by false e = let gt : buffer < index = grind (arith, nat_tests, e) in within (buffer + buffers_of l - index) (omega (arith, gt, lt)) (inr (omega (arith, gt, lt)))
 
-pub searches_alone : IsFolded listing → SearchesAloneFind
-searches_alone folded l seat index buffer words lt there room = finds_alone folded l seat words buffer there room index lt
+pub searches_alone : ((l : Layout) → IsFolded (transitions l)) → SearchesAloneFind
+searches_alone folded l seat index buffer words lt there room = finds_alone l (folded l) seat words buffer there room index lt

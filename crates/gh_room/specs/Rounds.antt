@@ -5,17 +5,17 @@ use Rattle.gh_base.specs.declared.layout.Layout.{Layout}
 use Rattle.gh_base.specs.Cells.{buffers_of, Words}
 use Rattle.gh_room.specs.Room.{HasRoom}
 use Rattle.gh_base.specs.Routines.{alone}
-use Rattle.gh_wbuf.specs.RoomFinding.{is_busy, listing, RoomFinding, try_at}
+use Rattle.gh_wbuf.specs.RoomFinding.{is_busy, RoomFinding, transitions, try_at}
 
 -- it is about to look at this buffer
-abbrev pub looking : Layout → (seat index : ℕ) → RoomFinding
-looking l seat index = record { layout = l; seat = seat; stage = try_at l seat index }
+abbrev pub looking : (seat index : ℕ) → RoomFinding
+looking seat index = record { seat = seat; stage = try_at seat index }
 
 -- From whichever buffer it looks on, it has taken one after a load for each buffer, and a swap.
 pub record FindsAlone (l : Layout) (seat index : ℕ) (words : Words) : Type 0 where
   pub steps : ℕ
   pub few : steps ≤ buffers_of l + 1
-  pub ended : is_busy (alone listing (record { routine = looking l seat index; words = words }) steps).routine.stage ≡ false
+  pub ended : is_busy (alone (transitions l) (record { routine = looking seat index; words = words }) steps).routine.stage ≡ false
 
 -- So it is where one buffer has room and nobody holds it.
 abbrev pub SearchesAloneFind : Type 0

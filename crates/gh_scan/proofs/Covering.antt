@@ -1,6 +1,6 @@
 -- The scan of an object has loaded the bitmap word of each word of the slot and the field of each pointer once it ends, by rows that agree with what it was told.
 use Rattle.std.proofs.Common.{◌≡◌, ℕ, zero, suc, ◌+◌, ◌-◌, ◌*◌, ◌/◌, ◌%◌, ◌<◌, ◌≤◌, ◌==◌, ◌||◌, ltb, Bool, true, false, cond, List, Option, Some, None, refl, sym, ap, subst, ◌∙◌, arith, eq-eqb, ltb-true, ltb-false}
-use Rattle.gh_scan.proofs.Vocabulary.{after, after_room, after_shade, AreTold, asks, at_next, begun, behind, bit_says_pointer, Bitmap, bits_of, Cell, Done, Ended, EndsWith, Field, FindRoom, from, goes, Held, is_loaded, Layout, listing, Load, LoadBitmap, LoadField, LoadPage, mul-mod_right, next_in, object_of, reference_in, Row, Scanning, ScanStage, Shaded, Shading, slot_told, WantsRoom}
+use Rattle.gh_scan.proofs.Vocabulary.{after, after_room, after_shade, AreTold, asks, at_next, begun, behind, bit_says_pointer, Bitmap, bits_of, Cell, Done, Ended, EndsWith, Field, FindRoom, from, goes, Held, is_loaded, Layout, Load, LoadBitmap, LoadField, LoadPage, mul-mod_right, next_in, object_of, reference_in, Row, Scanning, ScanStage, Shaded, Shading, slot_told, transitions, WantsRoom}
 use Rattle.gh_scan.proofs.Order.{in_order}
 use Rattle.gh_scan.proofs.Ending.{has_ended}
 use Rattle.gh_scan.proofs.Scanning.{AtField, Finds, Is, is_at, Knows}
@@ -97,7 +97,7 @@ module _ (bits fields : Row) (l : Layout) where
     CoversIn Has s = Covers (object_of reference) high Has s.at s.stage
 
     abbrev state : Option Held → (x w : ℕ) → ScanStage → Scanning
-    state h x w stage = record { layout = l; seat = seat; reference = reference; held = h; slot = slot; at = x; bits = w; stage = stage }
+    state h x w stage = record { seat = seat; reference = reference; held = h; slot = slot; at = x; bits = w; stage = stage }
 
     -- the next for which something is loaded, if it has the same bitmap word
     same_next : (w x z : ℕ) → x + 1 ≤ z → ((y : ℕ) → x + 1 ≤ y → y < z → is_loaded w y ≡ false) → (z % 64 == 0) ≡ false → z / 64 ≡ x / 64
@@ -130,7 +130,7 @@ module _ (bits fields : Row) (l : Layout) where
           record { bit = more _ was.bit; field = λ on. more _ (was.field on) }
 
       step : (v : ℕ) (h : Option Held) (x w : ℕ) (stage : ScanStage) (done : List ℕ) → Knows bits fields l seat reference slot x w done stage → Finds bits fields l seat reference slot v (state h x w stage) →
-          object_of reference ≤ x → ((c : Cell) → asks (state h x w stage) ≡ Load c → New c) → CoversIn Old (state h x w stage) → CoversIn New (goes (state h x w stage) v)
+          object_of reference ≤ x → ((c : Cell) → asks l (state h x w stage) ≡ Load c → New c) → CoversIn Old (state h x w stage) → CoversIn New (goes l (state h x w stage) v)
       step v h x w LoadPage done k f low now before = absurd k
       step v h x w LoadBitmap done k f low now before = by (bit_says_pointer v x) refl where
         v_is : v ≡ bits_of bits fields l x
@@ -146,7 +146,7 @@ module _ (bits fields : Row) (l : Layout) where
         this : Before (object_of reference) high New (x + 1)
         this = with_this (object_of reference) high New x (grown x before.0) (record { bit = more _ before.1; field = λ on. now (field_cell x) refl })
 
-        by : (b : Bool) → CoversIn New (cond b (behind (state h x w LoadField)) (state h x w (Shading (shade.opening l (reference_in l v) h))))
+        by : (b : Bool) → CoversIn New (cond b (behind (state h x w LoadField)) (state h x w (Shading (shade.opening (reference_in l v) h))))
         by true = go New h x w LoadField low k.below k.word this
         by false = this
       step v h x w (Shading sh) done k f low now before = by (shade.goes sh v) (shade.gives sh v) where
@@ -154,7 +154,7 @@ module _ (bits fields : Row) (l : Layout) where
         by next None = grown (x + 1) before
         by next (Some Done) = go New next.held x w (Shading sh) low k.below k.word (grown (x + 1) before)
         by next (Some WantsRoom) = grown (x + 1) before
-      step v h x w (FindRoom sh r) done k f low now before = by (room.goes r v) (room.gives r v) where
+      step v h x w (FindRoom sh r) done k f low now before = by (room.goes l r v) (room.gives l r v) where
         by : (next : room.RoomFinding) (out : Option Held) → CoversIn New (after_room (state h x w (FindRoom sh r)) sh next out)
         by next None = grown (x + 1) before
         by next (Some own) = grown (x + 1) before
@@ -174,7 +174,7 @@ module _ (l : Layout) (seat reference : ℕ) (held : Option Held) (found : ℕ �
   pub record Has (n : ℕ) (c : Cell) : Type 0 where
     pub step_of : ℕ
     pub before : step_of < n
-    pub asked : asks (state_n step_of) ≡ Load c
+    pub asked : asks l (state_n step_of) ≡ Load c
 
   module _ (bits fields : Row) (told_rows : AreTold l seat reference held found bits fields) where
     more : (n : ℕ) (c : Cell) → Has n c → Has (suc n) c
@@ -182,14 +182,14 @@ module _ (l : Layout) (seat reference : ℕ) (held : Option Held) (found : ℕ �
         let lt : h.step_of < n = h.before in
         record { step_of = h.step_of; before = omega arith; asked = h.asked }
 
-    now : (n : ℕ) (c : Cell) → asks (state_n n) ≡ Load c → Has (suc n) c
+    now : (n : ℕ) (c : Cell) → asks l (state_n n) ≡ Load c → Has (suc n) c
     now n c e = record { step_of = n; before = omega arith; asked = e }
 
     on : (n : ℕ) (s : Scanning) (v : ℕ) → Is bits fields l seat reference slot s (begun_n (suc n)) → Finds bits fields l seat reference slot v s → object_of reference ≤ s.at →
-        ((c : Cell) → asks s ≡ Load c → Has (suc (suc n)) c) → CoversIn bits fields l seat reference slot (Has (suc n)) s → CoversIn bits fields l seat reference slot (Has (suc (suc n))) (goes s v)
+        ((c : Cell) → asks l s ≡ Load c → Has (suc (suc n)) c) → CoversIn bits fields l seat reference slot (Has (suc n)) s → CoversIn bits fields l seat reference slot (Has (suc (suc n))) (goes l s v)
     on n s v i =
-        subst (λ (t : Scanning). Finds bits fields l seat reference slot v t → object_of reference ≤ t.at → ((c : Cell) → asks t ≡ Load c → Has (suc (suc n)) c) →
-        CoversIn bits fields l seat reference slot (Has (suc n)) t → CoversIn bits fields l seat reference slot (Has (suc (suc n))) (goes t v))
+        subst (λ (t : Scanning). Finds bits fields l seat reference slot v t → object_of reference ≤ t.at → ((c : Cell) → asks l t ≡ Load c → Has (suc (suc n)) c) →
+        CoversIn bits fields l seat reference slot (Has (suc n)) t → CoversIn bits fields l seat reference slot (Has (suc (suc n))) (goes l t v))
         (sym i.is) (step bits fields l seat reference slot (Has (suc n)) (Has (suc (suc n))) (more (suc n)) v i.held i.at i.word i.stage (begun_n (suc n)) i.knows)
 
     covers : (n : ℕ) → CoversIn bits fields l seat reference slot (Has (suc n)) (state_n (suc n))
@@ -199,7 +199,7 @@ module _ (l : Layout) (seat reference : ℕ) (held : Option Held) (found : ℕ �
         ((in_order l seat reference held found some).from_first n) (now (suc n)) (covers n)
 
     -- once it has ended, each word of the slot
-    pub covered : (n w x : ℕ) → EndsWith listing (from l seat reference held found) found n w → object_of reference ≤ x → x < object_of reference + slot → IsCovered bits fields l (Has (suc n)) x
+    pub covered : (n w x : ℕ) → EndsWith (transitions l) (from l seat reference held found) found n w → object_of reference ≤ x → x < object_of reference + slot → IsCovered bits fields l (Has (suc n)) x
     covered n w x e low below =
         let ended : (state_n (suc n)).stage ≡ Ended w = has_ended (state_n (suc n)).stage w e in
         subst (λ (g : ScanStage). Covers bits fields l (object_of reference) (object_of reference + slot) (Has (suc n)) (state_n (suc n)).at g) ended (covers n) x low below

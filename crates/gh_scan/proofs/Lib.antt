@@ -9,4 +9,5 @@ pub mod Order
 pub mod Quiet
 pub mod Scanning
 pub mod Slots
+pub mod Sound
 pub mod Told

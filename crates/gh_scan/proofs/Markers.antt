@@ -14,7 +14,7 @@ use Rattle.gh_shade.specs.Listing as shade
 use Rattle.gh_wbuf.specs.Facts as room_facts
 use Rattle.gh_wbuf.specs.RoomFinding as room
 use Rattle.gh_scan.specs.Facts.{BitsAre, Facts, IsAt, IsAtPointerField, ScansByMoves, Shades, StageFacts, besides, in_hand}
-use Rattle.gh_scan.proofs.Vocabulary.{after_room, after_shade, asks_at, at_stage, behind, bit_at, bit_says_pointer, bitmap_words, Cell, cell_of, Done, effect, Ended, FindRoom, given_at, goes, goes_at, Held, Layout, Load, LoadBitmap, LoadField, LoadPage, mark_words, mod-eq_of_lt, object_of, reference_in, RowsAreWritten, Scanning, ScanStage, Shaded, Shading, WantsRoom, with_bits, with_found_field}
+use Rattle.gh_scan.proofs.Vocabulary.{after_room, after_shade, asks_at, at_stage, behind, bit_at, bit_says_pointer, bitmap_words, Cell, cell_of, Done, effect, Ended, FindRoom, given_at, goes, goes_at, Held, Load, LoadBitmap, LoadField, LoadPage, mark_words, mod-eq_of_lt, object_of, reference_in, RowsAreWritten, Scanning, ScanStage, Shaded, Shading, WantsRoom, with_bits, with_found_field}
 use Rattle.gh_scan.proofs.MarkersAt.{IsDone, KnownOfFacts, at-kept, field-kept, goes-behind, shades-kept}
 
 pub record Known : Type 0 where
@@ -25,7 +25,7 @@ pub record Known : Type 0 where
   pub shade : shade_facts.ShadesByMoves
   pub room : room_facts.BuffersPassByMoves
 
-module _ (k : Known) (z : Cycle) (a : ℕ) (s : Shared) (rest : InHand) (g : Good z s) (objects : KnowsObjects z s) (m : Scanning) (layout_is : m.layout ≡ z.arena.layout) (seat_is : m.seat ≡ a) (known : s.since (object_of m.reference) ≡ true) where
+module _ (k : Known) (z : Cycle) (a : ℕ) (s : Shared) (rest : InHand) (g : Good z s) (objects : KnowsObjects z s) (m : Scanning) (seat_is : m.seat ≡ a) (known : s.since (object_of m.reference) ≡ true) where
   abbrev o : ℕ
   o = object_of m.reference
 
@@ -45,9 +45,8 @@ module _ (k : Known) (z : Cycle) (a : ℕ) (s : Shared) (rest : InHand) (g : Goo
   passes : (c : Cell) (n : Scanning) → IsDone k.marks z a s rest g n → Leads (Load c) (behind n)
   passes c n d = goes-behind k.marks z a s rest g n d
 
-  page : Hands a s (in_hand rest m.held (Some o)) → Leads (Load (cell.Page (o / 1024))) (goes_at m LoadPage (s.words (cell.Page (o / 1024))))
-  page x = still (cell.Page (o / 1024)) (goes_at m LoadPage (s.words (cell.Page (o / 1024)))) (record {
-    layout_is = layout_is;
+  page : Hands a s (in_hand rest m.held (Some o)) → Leads (Load (cell.Page (o / 1024))) (goes_at z.arena.layout m LoadPage (s.words (cell.Page (o / 1024))))
+  page x = still (cell.Page (o / 1024)) (goes_at z.arena.layout m LoadPage (s.words (cell.Page (o / 1024)))) (record {
     seat_is = seat_is;
     known = known;
     stage_is = (record { slot_is = object.size_is; from = omega arith; below = omega (arith, object.some); clean = λ j l lt. absurd (omega arith) }, x);
@@ -60,25 +59,25 @@ module _ (k : Known) (z : Cycle) (a : ℕ) (s : Shared) (rest : InHand) (g : Goo
     scanned : s.extents.noscan o ≡ false
     scanned = g.objects.grey o (rw taken tt)
 
-    in_heap : m.at < 1024 * m.layout.pages
-    in_heap = let below : m.at < 1024 * z.arena.layout.pages = omega (arith, is_at.below, object.within) in rw layout_is below
+    in_heap : m.at < 1024 * z.arena.layout.pages
+    in_heap = omega (arith, is_at.below, object.within)
 
-    group : m.at / 64 % (16 * m.layout.pages) ≡ m.at / 64
-    group = let less : m.at / 64 < 16 * m.layout.pages = omega (arith, in_heap) in mod-eq_of_lt less
+    group : m.at / 64 % (16 * z.arena.layout.pages) ≡ m.at / 64
+    group = let less : m.at / 64 < 16 * z.arena.layout.pages = omega (arith, in_heap) in mod-eq_of_lt less
 
     bit-one : (b : Bool) (n : ℕ) → n ≡ bit b → eqb n 1 ≡ b
     bit-one b n e = grind arith
 
     -- the word of the bitmap says which words are pointer fields
-    bits-are : BitsAre s.extents o (s.words (cell.Bitmap (m.at / 64 % (16 * m.layout.pages)))) m.at
+    bits-are : BitsAre s.extents o (s.words (cell.Bitmap (m.at / 64 % (16 * z.arena.layout.pages)))) m.at
     bits-are j l e =
         let word : bit_at (s.words (cell.Bitmap ((o + j) / 64))) ((o + j) % 64) ≡ bit (s.extents.pointer o j) = sym (k.rows.bit_of (bitmap_words s.words) ((o + j) / 64) (o + j) refl) ∙ object.pointers_are j l in
-        bit-one (s.extents.pointer o j) (bit_at (s.words (cell.Bitmap (m.at / 64 % (16 * m.layout.pages)))) ((o + j) % 64)) (ap (λ (i : ℕ). bit_at (s.words (cell.Bitmap i)) ((o + j) % 64)) (group ∙ sym e) ∙ word)
+        bit-one (s.extents.pointer o j) (bit_at (s.words (cell.Bitmap (m.at / 64 % (16 * z.arena.layout.pages)))) ((o + j) % 64)) (ap (λ (i : ℕ). bit_at (s.words (cell.Bitmap i)) ((o + j) % 64)) (group ∙ sym e) ∙ word)
 
-    bitmap : Leads (Load (cell.Bitmap (m.at / 64 % (16 * m.layout.pages)))) (with_bits m (s.words (cell.Bitmap (m.at / 64 % (16 * m.layout.pages)))))
+    bitmap : Leads (Load (cell.Bitmap (m.at / 64 % (16 * z.arena.layout.pages)))) (with_bits m (s.words (cell.Bitmap (m.at / 64 % (16 * z.arena.layout.pages)))))
     bitmap = by (bit_says_pointer f m.at) refl where
       f : ℕ
-      f = s.words (cell.Bitmap (m.at / 64 % (16 * m.layout.pages)))
+      f = s.words (cell.Bitmap (m.at / 64 % (16 * z.arena.layout.pages)))
 
       index : m.at ≡ o + (m.at - o)
       index = omega (arith, is_at.from)
@@ -89,15 +88,13 @@ module _ (k : Known) (z : Cycle) (a : ℕ) (s : Shared) (rest : InHand) (g : Goo
       same : bit_says_pointer f m.at ≡ s.extents.pointer o (m.at - o)
       same = ap (bit_says_pointer f) index ∙ bits-are (m.at - o) less (ap (λ (n : ℕ). n / 64) (sym index))
 
-      by : (b : Bool) → bit_says_pointer f m.at ≡ b → Leads (Load (cell.Bitmap (m.at / 64 % (16 * m.layout.pages)))) (cond b (record m { bits = f; stage = LoadField }) (behind (record m { bits = f })))
-      by true e = still (cell.Bitmap (m.at / 64 % (16 * m.layout.pages))) (record m { bits = f; stage = LoadField }) (record {
-        layout_is = layout_is;
+      by : (b : Bool) → bit_says_pointer f m.at ≡ b → Leads (Load (cell.Bitmap (m.at / 64 % (16 * z.arena.layout.pages)))) (cond b (record m { bits = f; stage = LoadField }) (behind (record m { bits = f })))
+      by true e = still (cell.Bitmap (m.at / 64 % (16 * z.arena.layout.pages))) (record m { bits = f; stage = LoadField }) (record {
         seat_is = seat_is;
         known = known;
         stage_is = (is_at, record { k = m.at - o; at_is = index; pointer = (less, sym same ∙ e, scanned); bits_are = bits-are }, x);
       })
-      by false e = passes (cell.Bitmap (m.at / 64 % (16 * m.layout.pages))) (record m { bits = f }) (record {
-        layout_is = layout_is;
+      by false e = passes (cell.Bitmap (m.at / 64 % (16 * z.arena.layout.pages))) (record m { bits = f }) (record {
         seat_is = seat_is;
         known = known;
         is_at = is_at;
@@ -110,8 +107,8 @@ module _ (k : Known) (z : Cycle) (a : ℕ) (s : Shared) (rest : InHand) (g : Goo
             let not : bit_says_pointer f (o + j) ≡ false = ap (bit_says_pointer f) at ∙ e in
             cc
 
-    field : IsAtPointerField s o m.bits m.at → Leads (Load (cell.Field (m.at % (1024 * m.layout.pages)))) (with_found_field m (s.words (cell.Field (m.at % (1024 * m.layout.pages)))))
-    field h = subst (λ (i : ℕ). Leads (Load (cell.Field i)) (with_found_field m (s.words (cell.Field i)))) (sym (mod-eq_of_lt in_heap)) (by (eqb v 0) refl) where
+    field : IsAtPointerField s o m.bits m.at → Leads (Load (cell.Field (m.at % (1024 * z.arena.layout.pages)))) (with_found_field z.arena.layout m (s.words (cell.Field (m.at % (1024 * z.arena.layout.pages)))))
+    field h = subst (λ (i : ℕ). Leads (Load (cell.Field i)) (with_found_field z.arena.layout m (s.words (cell.Field i)))) (sym (mod-eq_of_lt in_heap)) (by (eqb v 0) refl) where
       v : ℕ
       v = s.words (cell.Field m.at)
 
@@ -121,9 +118,8 @@ module _ (k : Known) (z : Cycle) (a : ℕ) (s : Shared) (rest : InHand) (g : Goo
       at-it : (j : ℕ) → o + j ≡ m.at → s.words (cell.Field (o + j)) ≡ v
       at-it j e = ap (λ (i : ℕ). s.words (cell.Field i)) e
 
-      by : (b : Bool) → eqb v 0 ≡ b → Leads (Load (cell.Field m.at)) (cond b (behind m) (at_stage m (Shading (shade.opening m.layout (reference_in m.layout v) m.held))))
+      by : (b : Bool) → eqb v 0 ≡ b → Leads (Load (cell.Field m.at)) (cond b (behind m) (at_stage m (Shading (shade.opening (reference_in z.arena.layout v) m.held))))
       by true e = passes (cell.Field m.at) m (record {
-        layout_is = layout_is;
         seat_is = seat_is;
         known = known;
         is_at = is_at;
@@ -139,15 +135,13 @@ module _ (k : Known) (z : Cycle) (a : ℕ) (s : Shared) (rest : InHand) (g : Goo
           let since : s.since (v - 1) ≡ true = g.values.fields o h.k known h.pointer (v - 1) (is-v ∙ is) in
           let there : KnowsObject z.arena.layout.pages (λ p. s.words (cell.Page p)) (bitmap_words s.words) s.extents (v - 1) = objects (v - 1) since in
           let within : v - 1 < 1024 * z.arena.layout.pages = omega (arith, there.within, there.some) in
-          let inside : v - 1 < 1024 * m.layout.pages = rw layout_is within in
-          let reference : reference_in m.layout v ≡ v = ap (λ (n : ℕ). n + 1) (mod-eq_of_lt inside) ∙ sym is in
-          still (cell.Field m.at) (at_stage m (Shading (shade.opening m.layout (reference_in m.layout v) m.held))) (record {
-            layout_is = layout_is;
+          let reference : reference_in z.arena.layout v ≡ v = ap (λ (n : ℕ). n + 1) (mod-eq_of_lt within) ∙ sym is in
+          still (cell.Field m.at) (at_stage m (Shading (shade.opening (reference_in z.arena.layout v) m.held))) (record {
             seat_is = seat_is;
             known = known;
             stage_is = (
               record { is_at = is_at; is_field = h; stands = inl (sym reference) },
-              k.shade.begins z a s (besides rest o) m.layout (reference_in m.layout v) m.held (omega arith) (ap (λ (n : ℕ). s.since (n - 1)) reference ∙ since) x,
+              k.shade.begins z a s (besides rest o) (reference_in z.arena.layout v) m.held (omega arith) (ap (λ (n : ℕ). s.since (n - 1)) reference ∙ since) x,
             );
           })
 
@@ -169,7 +163,7 @@ module _ (k : Known) (z : Cycle) (a : ℕ) (s : Shared) (rest : InHand) (g : Goo
       landed n f = lands_still z a t t.words (λ u. Keeps z a s u × Facts z a u rest n) refl (keeps, f)
 
       after : (f : ℕ) (out : Option Shaded) → shade.gives sh f ≡ out → f ≡ s.words (cell_of (shade.asks sh)) → shade_facts.Facts z a t (besides rest o) (shade.goes sh f) → Lands z a t t.words (λ u. Keeps z a s u × Facts z a u rest (after_shade m (shade.goes sh f) out))
-      after f None e is facts = landed (at_stage m (Shading (shade.goes sh f))) (record { layout_is = layout_is; seat_is = seat_is; known = known-then; stage_is = (subst (λ (n : ℕ). Shades t o m.slot m.at m.bits (shade.goes sh n).reference) (sym is) (shades-then t keeps), facts) })
+      after f None e is facts = landed (at_stage m (Shading (shade.goes sh f))) (record { seat_is = seat_is; known = known-then; stage_is = (subst (λ (n : ℕ). Shades t o m.slot m.at m.bits (shade.goes sh n).reference) (sym is) (shades-then t keeps), facts) })
       after f (Some Done) e is facts = landing z a t t.words (λ u. Keeps z a t u × Facts z a u rest (behind n)) (λ u. Keeps z a s u × Facts z a u rest (behind n)) (λ u w h. ((k.marks.go_on z a).then s t u keeps h.0, h.1)) (goes-behind k.marks z a t rest good-then n d) where
         n : Scanning
         n = record m { held = (shade.goes sh f).held }
@@ -192,7 +186,6 @@ module _ (k : Known) (z : Cycle) (a : ℕ) (s : Shared) (rest : InHand) (g : Goo
 
         d : IsDone k.marks z a t rest good-then n
         d = record {
-          layout_is = layout_is;
           seat_is = seat_is;
           known = known-then;
           is_at = at-then.is_at;
@@ -200,19 +193,18 @@ module _ (k : Known) (z : Cycle) (a : ℕ) (s : Shared) (rest : InHand) (g : Goo
           clean = λ j l at. subst (λ (x : ℕ). IsClean (mark_words t.words) (t.words (cell.Field x))) (sym at) clean;
           hands = shaded.hands;
         }
-      after f (Some WantsRoom) e is facts = landed (at_stage m (FindRoom (shade.goes sh f) (room.opening m.layout m.seat (shade.goes sh f).held))) (record { layout_is = layout_is; seat_is = seat_is; known = known-then; stage_is = (subst (λ (i : ℕ). Shades t o m.slot m.at m.bits (shade.goes sh i).reference) (sym is) (shades-then t keeps), waits.some, waits.marked, found) }) where
+      after f (Some WantsRoom) e is facts = landed (at_stage m (FindRoom (shade.goes sh f) (room.opening m.seat (shade.goes sh f).held))) (record { seat_is = seat_is; known = known-then; stage_is = (subst (λ (i : ℕ). Shades t o m.slot m.at m.bits (shade.goes sh i).reference) (sym is) (shades-then t keeps), waits.some, waits.marked, found) }) where
         waits : shade_facts.WaitsForRoom a t (besides rest o) (shade.goes sh f)
         waits = k.shade.wants z a t (besides rest o) sh f e facts
 
         pending : InHand
         pending = record rest { pending = Some (shade.object_of (shade.goes sh f).reference); scanning = Some o }
 
-        found : room_facts.RoomFacts z a t (record rest { pending = Some (shade.object_of (shade.goes sh f).reference); scanning = Some o }) (room.opening m.layout m.seat (shade.goes sh f).held)
-        found = subst (λ (l : Layout). room_facts.RoomFacts z a t (record rest { pending = Some (shade.object_of (shade.goes sh f).reference); scanning = Some o }) (room.opening l m.seat (shade.goes sh f).held)) (sym layout_is)
-            (subst (λ (b : ℕ). room_facts.RoomFacts z a t (record rest { pending = Some (shade.object_of (shade.goes sh f).reference); scanning = Some o }) (room.opening z.arena.layout b (shade.goes sh f).held)) (sym seat_is)
-            (k.room.begin z a t (record rest { pending = Some (shade.object_of (shade.goes sh f).reference); scanning = Some o }) (shade.goes sh f).held waits.hands).finds)
+        found : room_facts.RoomFacts z a t (record rest { pending = Some (shade.object_of (shade.goes sh f).reference); scanning = Some o }) (room.opening m.seat (shade.goes sh f).held)
+        found = subst (λ (b : ℕ). room_facts.RoomFacts z a t (record rest { pending = Some (shade.object_of (shade.goes sh f).reference); scanning = Some o }) (room.opening b (shade.goes sh f).held)) (sym seat_is)
+            (k.room.begin z a t (record rest { pending = Some (shade.object_of (shade.goes sh f).reference); scanning = Some o }) (shade.goes sh f).held waits.hands).finds
 
-    shades : shade_facts.Facts z a s (besides rest o) sh → Leads (shade.asks sh) (goes_at m (Shading sh) (s.words (cell_of (shade.asks sh))))
+    shades : shade_facts.Facts z a s (besides rest o) sh → Leads (shade.asks sh) (goes_at z.arena.layout m (Shading sh) (s.words (cell_of (shade.asks sh))))
     shades facts =
         let f : ℕ = s.words (cell_of (shade.asks sh)) in
         landing_on z a s (effect s.words (shade.asks sh)) (λ t. Keeps z a s t × shade_facts.Facts z a t (besides rest o) (shade.goes sh f)) (λ u. Keeps z a s u × Facts z a u rest (after_shade m (shade.goes sh f) (shade.gives sh f)))
@@ -224,33 +216,32 @@ module _ (k : Known) (z : Cycle) (a : ℕ) (s : Shared) (rest : InHand) (g : Goo
       abbrev with_pending : InHand
       with_pending = record rest { pending = Some (shade.object_of sh.reference); scanning = Some o }
 
-      found-room : (t : Shared) (keeps : Keeps z a s t) (f : ℕ) (out : Option Held) → room.gives r f ≡ out → room_facts.RoomFacts z a s with_pending r → room_facts.RoomFacts z a t with_pending (room.goes r f) → Facts z a t rest (after_room m sh (room.goes r f) out)
-      found-room t keeps f None e was facts = record { layout_is = layout_is; seat_is = seat_is; known = keeps.since o known; stage_is = (shades-kept k.marks z a s t o known keeps m.slot m.at m.bits sh.reference sha, some, keeps.marks (shade.object_of sh.reference) marked, facts) }
+      found-room : (t : Shared) (keeps : Keeps z a s t) (f : ℕ) (out : Option Held) → room.gives z.arena.layout r f ≡ out → room_facts.RoomFacts z a s with_pending r → room_facts.RoomFacts z a t with_pending (room.goes z.arena.layout r f) → Facts z a t rest (after_room m sh (room.goes z.arena.layout r f) out)
+      found-room t keeps f None e was facts = record { seat_is = seat_is; known = keeps.since o known; stage_is = (shades-kept k.marks z a s t o known keeps m.slot m.at m.bits sh.reference sha, some, keeps.marks (shade.object_of sh.reference) marked, facts) }
       found-room t keeps f (Some h) e was facts = record {
-        layout_is = layout_is;
         seat_is = seat_is;
         known = keeps.since o known;
         stage_is = (
           shades-kept k.marks z a s t o known keeps m.slot m.at m.bits sh.reference sha,
-          k.shade.told z a t (besides rest o) sh h some (keeps.marks (shade.object_of sh.reference) marked) (omega (arith, k.room.room a f r h was.knows e))
-              (subst (λ (held : Option Held). Hands a t (room_facts.holding with_pending held)) (k.room.held f r h e) facts.hands),
+          k.shade.told z a t (besides rest o) sh h some (keeps.marks (shade.object_of sh.reference) marked) (omega (arith, k.room.room z.arena.layout a f r h was.knows e))
+              (subst (λ (held : Option Held). Hands a t (room_facts.holding with_pending held)) (k.room.held z.arena.layout f r h e) facts.hands),
         );
       }
 
-      finds : room_facts.RoomFacts z a s with_pending r → Leads (room.asks r) (goes_at m (FindRoom sh r) (s.words (cell_of (room.asks r))))
+      finds : room_facts.RoomFacts z a s with_pending r → Leads (room.asks r) (goes_at z.arena.layout m (FindRoom sh r) (s.words (cell_of (room.asks r))))
       finds facts =
           let f : ℕ = s.words (cell_of (room.asks r)) in
-          landing z a s (effect s.words (room.asks r)) (λ t. Keeps z a s t × room_facts.RoomFacts z a t with_pending (room.goes r f)) (λ t. Keeps z a s t × Facts z a t rest (after_room m sh (room.goes r f) (room.gives r f)))
-          (λ t w h. (h.0, found-room t h.0 f (room.gives r f) refl facts h.1))
+          landing z a s (effect s.words (room.asks r)) (λ t. Keeps z a s t × room_facts.RoomFacts z a t with_pending (room.goes z.arena.layout r f)) (λ t. Keeps z a s t × Facts z a t rest (after_room m sh (room.goes z.arena.layout r f) (room.gives z.arena.layout r f)))
+          (λ t w h. (h.0, found-room t h.0 f (room.gives z.arena.layout r f) refl facts h.1))
           (k.room.finds.own_step z a s with_pending r g objects facts)
 
-  own-at : (p : ScanStage) → StageFacts z a s rest m p → Leads (asks_at m p) (goes_at m p (s.words (cell_of (asks_at m p))))
+  own-at : (p : ScanStage) → StageFacts z a s rest m p → Leads (asks_at z.arena.layout m p) (goes_at z.arena.layout m p (s.words (cell_of (asks_at z.arena.layout m p))))
   own-at LoadPage x = page x
   own-at LoadBitmap x = bitmap x.0 x.1
   own-at LoadField x = field x.0 x.2 x.1
   own-at (Shading sh) x = shades sh x.0 x.1
   own-at (FindRoom sh r) x = finds sh x.0 r x.1 x.2 x.3
-  own-at (Ended words) x = still cell.Touch (at_stage m (Ended words)) (record { layout_is = layout_is; seat_is = seat_is; known = known; stage_is = x })
+  own-at (Ended words) x = still cell.Touch (at_stage m (Ended words)) (record { seat_is = seat_is; known = known; stage_is = x })
 
 stage-lasts : (k : Known) (z : Cycle) (a : ℕ) (s t : Shared) (rest : InHand) (m : Scanning) (p : ScanStage) → Others z a s t → s.since (object_of m.reference) ≡ true → StageFacts z a s rest m p → StageFacts z a t rest m p
 stage-lasts k z a s t rest m LoadPage o known x = k.last z a s t (in_hand rest m.held (Some (object_of m.reference))) o x
@@ -275,9 +266,9 @@ ended-at z a s rest n p words e x = grind arith
 pub scans-by-moves : Known → ScansByMoves
 scans-by-moves k = record {
   keeps = record {
-    own_step = λ z a s rest m g objects f. own-at k z a s rest g objects m f.layout_is f.seat_is f.known m.stage f.stage_is;
-    lasts = λ z a s t rest m o f. record { layout_is = f.layout_is; seat_is = f.seat_is; known = o.keeps.since (object_of m.reference) f.known; stage_is = stage-lasts k z a s t rest m m.stage o f.known f.stage_is };
+    own_step = λ z a s rest m g objects f. own-at k z a s rest g objects m f.seat_is f.known m.stage f.stage_is;
+    lasts = λ z a s t rest m o f. record { seat_is = f.seat_is; known = o.keeps.since (object_of m.reference) f.known; stage_is = stage-lasts k z a s t rest m m.stage o f.known f.stage_is };
   };
-  begins = λ z a s rest reference held known x. record { layout_is = refl; seat_is = refl; known = known; stage_is = x };
-  ends = λ z a s rest m found words e f. ended-at z a s rest (goes m found) (goes m found).stage words e f.stage_is;
+  begins = λ z a s rest reference held known x. record { seat_is = refl; known = known; stage_is = x };
+  ends = λ z a s rest m found words e f. ended-at z a s rest (goes z.arena.layout m found) (goes z.arena.layout m found).stage words e f.stage_is;
 }

@@ -93,7 +93,6 @@ module _ (k : KnownOfFacts) (z : Cycle) (a : ℕ) (t : Shared) (rest : InHand) (
 
   -- done with the word that it is at
   pub record IsDone : Type 0 where
-    pub layout_is : n.layout ≡ z.arena.layout
     pub seat_is : n.seat ≡ a
     pub known : t.since o ≡ true
     pub is_at : IsAt t o n.slot n.at
@@ -138,7 +137,7 @@ module _ (k : KnownOfFacts) (z : Cycle) (a : ℕ) (t : Shared) (rest : InHand) (
         let all : CleanBefore t.extents (mark_words t.words) (field_words t.words) o (end n) = clean-to (end n) (omega (arith, stop)) (λ y le lt. none y le lt) in
         let may : (t.colour o ≡ Taken a) × ((j : ℕ) → IsPointer t.extents o j → IsClean (mark_words t.words) (t.words (cell.Field (o + j)))) = (taken, λ j l. all j l (omega (arith, l.0, d.is_at.slot_is))) in
         lands_by z a t t.words (λ u. Keeps z a t u × Facts z a u rest (at_stage n (Ended n.slot))) (Blacken o) may refl
-        (k.leave z a t (Blacken o) g may tt, record { layout_is = d.layout_is; seat_is = d.seat_is; known = d.known; stage_is = (k.follow z a t (in_hand rest n.held (Some o)) g d.hands).blackened o refl })
+        (k.leave z a t (Blacken o) g may tt, record { seat_is = d.seat_is; known = d.known; stage_is = (k.follow z a t (in_hand rest n.held (Some o)) g d.hands).blackened o refl })
 
     goes-on : (q : ℕ) → Skips n.bits (n.at + 1) (end n) (Some q) → Goal (record n { at = q; stage = loads_at q })
     goes-on q h = by (eqb (q % 64) 0) refl where
@@ -154,7 +153,7 @@ module _ (k : KnownOfFacts) (z : Cycle) (a : ℕ) (t : Shared) (rest : InHand) (
       still stage f = lands_still z a t t.words (λ u. Keeps z a t u × Facts z a u rest (record n { at = q; stage = stage })) refl ((k.go_on z a).stays t, f)
 
       by : (b : Bool) → eqb (q % 64) 0 ≡ b → Goal (record n { at = q; stage = cond b LoadBitmap LoadField })
-      by true e = still LoadBitmap (record { layout_is = d.layout_is; seat_is = d.seat_is; known = d.known; stage_is = (is_at, d.hands) })
+      by true e = still LoadBitmap (record { seat_is = d.seat_is; known = d.known; stage_is = (is_at, d.hands) })
       by false e =
           let off : q % 64 ≢ 0 = λ x. absurd (cc (e, eq-eqb _ _ x)) in
           let group : q / 64 ≡ n.at / 64 = one-group n.at q (omega (arith, h.0)) (λ v x y. begins v x y off) in
@@ -163,7 +162,6 @@ module _ (k : KnownOfFacts) (z : Cycle) (a : ℕ) (t : Shared) (rest : InHand) (
           let same : bit_says_pointer n.bits (o + (q - o)) ≡ t.extents.pointer o (q - o) = d.bits_are (q - o) less (ap (λ (x : ℕ). x / 64) (sym index) ∙ group) in
           let set : t.extents.pointer o (q - o) ≡ true = sym same ∙ ap (bit_says_pointer n.bits) (sym index) ∙ is-pointer n.bits q h.2 e in
           still LoadField (record {
-            layout_is = d.layout_is;
             seat_is = d.seat_is;
             known = d.known;
             stage_is = (is_at, record { k = q - o; at_is = index; pointer = (less, set, scanned); bits_are = λ j l x. d.bits_are j l (x ∙ group) }, d.hands);

@@ -1,9 +1,9 @@
 -- The law of the scan of an object, put together.
 use Rattle.std.proofs.Common.{◌≡◌, ◌≢◌, ◌↔◌, ℕ, zero, suc, ◌+◌, ◌*◌, ◌/◌, ◌%◌, ◌<◌, ◌≤◌, ltb, Bool, true, false, Option, refl, sym, ap, subst, ◌∙◌, arith, ltb-true, ltb-false}
-use Rattle.gh_scan.proofs.Vocabulary.{after, AreTold, asks, asks_at, bit_at, bit_says_pointer, Bitmap, bitmap_words, Cell, CellsAreTold, Ended, EndsWith, Field, field_words, from, Held, InSlot, is_busy, Layout, LiesInHeap, listing, Load, LoadBitmap, LoadField, mod-eq_of_lt, object_of, pointer_bit, row_bit, Scanning, ScansInOrder, ScansObject, ScanStage, ShadesAsTold, slot_told, Touch, WasLoaded, Words, words_told}
+use Rattle.gh_scan.proofs.Vocabulary.{after, AreTold, asks, asks_at, bit_at, bit_says_pointer, Bitmap, bitmap_words, Cell, CellsAreTold, Ended, EndsWith, Field, field_words, from, Held, InSlot, is_busy, Layout, LiesInHeap, Load, LoadBitmap, LoadField, mod-eq_of_lt, object_of, pointer_bit, row_bit, Scanning, ScansInOrder, ScansObject, ScanStage, ShadesAsTold, slot_told, Touch, transitions, WasLoaded, Words, words_told}
 use Rattle.gh_scan.proofs.Covering.{covered, Has, IsCovered, pointer_at}
 use Rattle.gh_scan.proofs.Ending.{at_once, rests}
-use Rattle.gh_scan.proofs.Order.{end_is, in_order, layout_is, slot_is}
+use Rattle.gh_scan.proofs.Order.{end_is, in_order, slot_is}
 use Rattle.gh_scan.proofs.Scanning.{all_begun, steps_at}
 use Rattle.gh_scan.proofs.Told.{bitmap_once, bits_kept, fields_kept, fields_once}
 
@@ -12,11 +12,11 @@ unfolding row_bit
 bit_is words x = refl
 
 -- where a bitmap word is loaded, and where a field is
-bits_asked : (s : Scanning) (stage : ScanStage) (i : ℕ) → asks_at s stage ≡ Load (Bitmap i) → (stage ≡ LoadBitmap) × (s.at / 64 % (16 * s.layout.pages) ≡ i)
-bits_asked s stage i e = grind arith
+bits_asked : (l : Layout) (s : Scanning) (stage : ScanStage) (i : ℕ) → asks_at l s stage ≡ Load (Bitmap i) → (stage ≡ LoadBitmap) × (s.at / 64 % (16 * l.pages) ≡ i)
+bits_asked l s stage i e = grind arith
 
-field_asked : (s : Scanning) (stage : ScanStage) (i : ℕ) → asks_at s stage ≡ Load (Field i) → (stage ≡ LoadField) × (s.at % (1024 * s.layout.pages) ≡ i)
-field_asked s stage i e = grind arith
+field_asked : (l : Layout) (s : Scanning) (stage : ScanStage) (i : ℕ) → asks_at l s stage ≡ Load (Field i) → (stage ≡ LoadField) × (s.at % (1024 * l.pages) ≡ i)
+field_asked l s stage i e = grind arith
 
 module _ (l : Layout) (seat reference : ℕ) (held : Option Held) (found : ℕ → ℕ) (some : 1 ≤ slot_told l seat reference held found) where
   abbrev slot : ℕ
@@ -46,31 +46,31 @@ module _ (l : Layout) (seat reference : ℕ) (held : Option Held) (found : ℕ �
     order = in_order l seat reference held found some
 
     -- a step at which it asks for such a word comes before its end
-    asks_before : (n k w : ℕ) (c : Cell) → EndsWith listing (from l seat reference held found) found n w → asks (state_n k) ≡ Load c → c ≢ Touch → k < suc n
+    asks_before : (n k w : ℕ) (c : Cell) → EndsWith (transitions l) (from l seat reference held found) found n w → asks l (state_n k) ≡ Load c → c ≢ Touch → k < suc n
     asks_before n k w c e a other = by (ltb k (suc n)) refl where
       by : (b : Bool) → ltb k (suc n) ≡ b → k < suc n
       by true t = ltb-true _ _ t
       by false t =
           let le : suc n ≤ k = ltb-false _ _ t in
           let ended : (state_n k).stage ≡ Ended w = rests l seat reference held found n k w e (omega arith) in
-          let idle : asks (state_n k) ≡ Load Touch = ap (asks_at (state_n k)) ended in
+          let idle : asks l (state_n k) ≡ Load Touch = ap (asks_at l (state_n k)) ended in
           let same : Load c ≡ Load Touch = sym a ∙ idle in
           absurd (other (cc))
 
-    agree : (n w : ℕ) → EndsWith listing (from l seat reference held found) found n w → AreTold l seat reference held found (bitmap_words (words_n (suc n))) (field_words (words_n (suc n)))
+    agree : (n w : ℕ) → EndsWith (transitions l) (from l seat reference held found) found n w → AreTold l seat reference held found (bitmap_words (words_n (suc n))) (field_words (words_n (suc n)))
     agree n w e = record { bits_are = bits_are; fields_are = fields_are } where
-      bits_are : (k i : ℕ) → asks (state_n k) ≡ Load (Bitmap i) → found k ≡ words_n (suc n) (Bitmap i)
+      bits_are : (k i : ℕ) → asks l (state_n k) ≡ Load (Bitmap i) → found k ≡ words_n (suc n) (Bitmap i)
       bits_are k i a =
           let other : Bitmap i ≢ Touch = λ (t : Bitmap i ≡ Touch). cc in
-          bits_kept cells l seat reference held found order lies (layout_is l seat reference held found some) (suc n) k i (asks_before n k w (Bitmap i) e a other) a
+          bits_kept cells l seat reference held found order lies (suc n) k i (asks_before n k w (Bitmap i) e a other) a
 
-      fields_are : (k i : ℕ) → asks (state_n k) ≡ Load (Field i) → found k ≡ words_n (suc n) (Field i)
+      fields_are : (k i : ℕ) → asks l (state_n k) ≡ Load (Field i) → found k ≡ words_n (suc n) (Field i)
       fields_are k i a =
           let other : Field i ≢ Touch = λ (t : Field i ≡ Touch). cc in
-          fields_kept cells l seat reference held found order lies (layout_is l seat reference held found some) (suc n) k i (asks_before n k w (Field i) e a other) a
+          fields_kept cells l seat reference held found order lies (suc n) k i (asks_before n k w (Field i) e a other) a
 
     -- once it has ended with step n
-    module _ (n w : ℕ) (e : EndsWith listing (from l seat reference held found) found n w) where
+    module _ (n w : ℕ) (e : EndsWith (transitions l) (from l seat reference held found) found n w) where
       covered_by : (x : ℕ) → object_of reference ≤ x → x < object_of reference + slot → IsCovered (bitmap_words (words_n (suc n))) (field_words (words_n (suc n))) l (Has l seat reference held found some (suc n)) x
       covered_by x low below = covered l seat reference held found some (bitmap_words (words_n (suc n))) (field_words (words_n (suc n))) (agree n w e) n w x e low below
 
@@ -95,16 +95,13 @@ module _ (l : Layout) (seat reference : ℕ) (held : Option Held) (found : ℕ �
           let below : (state_n (suc k)).at < object_of reference + slot = order.within k busy in
           record { inside_heap = in_heap (state_n (suc k)).at below; in_slot = record { from_first = order.from_first k; below = below } }
 
-      same_pages : (k : ℕ) → (state_n k).layout.pages ≡ l.pages
-      same_pages k = ap (λ (m : Layout). m.pages) (layout_is l seat reference held found some k)
-
-      bitmap_of : (k i : ℕ) → asks (state_n k) ≡ Load (Bitmap i) → (x : ℕ) × InSlot l seat reference held found x × (x / 64 ≡ i)
+      bitmap_of : (k i : ℕ) → asks l (state_n k) ≡ Load (Bitmap i) → (x : ℕ) × InSlot l seat reference held found x × (x / 64 ≡ i)
       bitmap_of zero i a = absurd (cc)
       bitmap_of (suc k) i a =
-          let at_bits = bits_asked (state_n (suc k)) (state_n (suc k)).stage i a in
+          let at_bits = bits_asked l (state_n (suc k)) (state_n (suc k)).stage i a in
           let at = at_step k (ap is_busy at_bits.0) in
           let whole : (state_n (suc k)).at / 64 % (16 * l.pages) ≡ (state_n (suc k)).at / 64 = whole_bits (state_n (suc k)).at at.inside_heap in
-          let index : (state_n (suc k)).at / 64 % (16 * l.pages) ≡ i = subst (λ (m : ℕ). (state_n (suc k)).at / 64 % (16 * m) ≡ i) (same_pages (suc k)) at_bits.1 in
+          let index : (state_n (suc k)).at / 64 % (16 * l.pages) ≡ i = at_bits.1 in
           ((state_n (suc k)).at, at.in_slot, sym whole ∙ index)
 
       loads_bitmap : (i : ℕ) → WasLoaded l seat reference held found n (Bitmap i) ↔ ((x : ℕ) × InSlot l seat reference held found x × (x / 64 ≡ i))
@@ -112,12 +109,12 @@ module _ (l : Layout) (seat reference : ℕ) (held : Option Held) (found : ℕ �
         back : (x : ℕ) → InSlot l seat reference held found x → x / 64 ≡ i → WasLoaded l seat reference held found n (Bitmap i)
         back x inside e = subst (λ (j : ℕ). WasLoaded l seat reference held found n (Bitmap j)) (whole_bits x (in_heap x inside.below) ∙ e) (was_loaded _ (covered_by x inside.from_first inside.below).bit)
 
-      field_of : (k x : ℕ) → asks (state_n k) ≡ Load (Field x) → InSlot l seat reference held found x × (pointer_bit (words_n (suc n)) x ≡ 1)
+      field_of : (k x : ℕ) → asks l (state_n k) ≡ Load (Field x) → InSlot l seat reference held found x × (pointer_bit (words_n (suc n)) x ≡ 1)
       field_of zero x a = absurd (cc)
       field_of (suc k) x a =
-          let at_field = field_asked (state_n (suc k)) (state_n (suc k)).stage x a in
+          let at_field = field_asked l (state_n (suc k)) (state_n (suc k)).stage x a in
           let at = at_step k (ap is_busy at_field.0) in
-          let index : (state_n (suc k)).at % (1024 * l.pages) ≡ x = subst (λ (m : ℕ). (state_n (suc k)).at % (1024 * m) ≡ x) (same_pages (suc k)) at_field.1 in
+          let index : (state_n (suc k)).at % (1024 * l.pages) ≡ x = at_field.1 in
           let here : (state_n (suc k)).at ≡ x = sym (mod-eq_of_lt at.inside_heap) ∙ index in
           let set = pointer_at l seat reference held found some (bitmap_words (words_n (suc n))) (field_words (words_n (suc n))) (agree n w e) k at_field.0 in
           subst (λ (y : ℕ). InSlot l seat reference held found y × (pointer_bit (words_n (suc n)) y ≡ 1)) here (at.in_slot, bit_by (words_n (suc n)) (state_n (suc k)).at at.inside_heap set)
@@ -130,8 +127,8 @@ module _ (l : Layout) (seat reference : ℕ) (held : Option Held) (found : ℕ �
 
     as_told : ShadesAsTold l seat reference held found
     as_told = record {
-      bitmap_once = bitmap_once cells l seat reference held found order lies (layout_is l seat reference held found some);
-      fields_once = fields_once cells l seat reference held found order lies (layout_is l seat reference held found some);
+      bitmap_once = bitmap_once cells l seat reference held found order lies;
+      fields_once = fields_once cells l seat reference held found order lies;
       loads_bitmap = λ n w i e. loads_bitmap n w e i;
       loads_fields = λ n w x e. loads_fields n w e x;
       agree = agree;

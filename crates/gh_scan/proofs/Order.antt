@@ -5,15 +5,12 @@ use Rattle.gh_base.specs.declared.layout.Layout.{Layout}
 use Rattle.gh_base.specs.Routines.{EndsWith, GoesOn}
 use Rattle.gh_scan.specs.declared.scan.ScanStage.{ScanStage}
 use Rattle.gh_scan.specs.declared.scan.ScanStage.TheVariants.{LoadPage, LoadBitmap, LoadField, Shading, FindRoom, Ended}
-use Rattle.gh_scan.specs.Listing.{after_room, after_shade, at_next, behind, bit_says_pointer, end, given, given_at, goes, is_busy, is_loaded, listing, next_in, object_of, reference_in, Scanning}
+use Rattle.gh_scan.specs.Listing.{after_room, after_shade, at_next, behind, bit_says_pointer, end, given, given_at, goes, is_busy, is_loaded, next_in, object_of, reference_in, Scanning, transitions}
 use Rattle.gh_scan.specs.Scans.{after, from, ScansInOrder, slot_told}
 use Rattle.gh_shade.specs.declared.shade.Shaded.{Shaded}
 use Rattle.gh_shade.specs.declared.shade.Shaded.TheVariants.{Done, WantsRoom}
 use Rattle.gh_shade.specs.Listing as shade
 use Rattle.gh_wbuf.specs.RoomFinding as room
-
-pub some_is : {a b : ℕ} → Some a ≡ Some b → a ≡ b
-some_is e = cc
 
 abbrev pub Between : (low above : ℕ) → Option ℕ → Type 0
 Between low above None = Unit {0}
@@ -34,7 +31,7 @@ module _ (l : Layout) (seat reference slot : ℕ) where
   stop = object_of reference + slot
 
   abbrev state : Option Held → (x w : ℕ) → ScanStage → Scanning
-  state h x w stage = record { layout = l; seat = seat; reference = reference; held = h; slot = slot; at = x; bits = w; stage = stage }
+  state h x w stage = record { seat = seat; reference = reference; held = h; slot = slot; at = x; bits = w; stage = stage }
 
   abbrev Lies : (x : ℕ) → ScanStage → Type 0
   Lies x LoadPage = ⊥
@@ -65,28 +62,28 @@ module _ (l : Layout) (seat reference slot : ℕ) where
   same : (x : ℕ) → x ≤ x
   same x = omega arith
 
-  step : (v : ℕ) (h : Option Held) (x w : ℕ) (stage : ScanStage) → Lies x stage → Is x (goes (state h x w stage) v)
+  step : (v : ℕ) (h : Option Held) (x w : ℕ) (stage : ScanStage) → Lies x stage → Is x (goes l (state h x w stage) v)
   step v h x w LoadPage k = absurd k
   step v h x w LoadBitmap k = by (bit_says_pointer v x) where
     by : (b : Bool) → Is x (cond b (state h x v LoadField) (behind (state h x v LoadBitmap)))
     by true = record { held = h; at = x; word = v; stage = LoadField; is = refl; lies = k; up = same x }
     by false = go h x v LoadBitmap k
   step v h x w LoadField k = by (v == 0) where
-    by : (b : Bool) → Is x (cond b (behind (state h x w LoadField)) (state h x w (Shading (shade.opening l (reference_in l v) h))))
+    by : (b : Bool) → Is x (cond b (behind (state h x w LoadField)) (state h x w (Shading (shade.opening (reference_in l v) h))))
     by true = go h x w LoadField k
-    by false = record { held = h; at = x; word = w; stage = Shading (shade.opening l (reference_in l v) h); is = refl; lies = k; up = same x }
+    by false = record { held = h; at = x; word = w; stage = Shading (shade.opening (reference_in l v) h); is = refl; lies = k; up = same x }
   step v h x w (Shading sh) k = by (shade.goes sh v) (shade.gives sh v) where
     by : (next : shade.Shading) (out : Option Shaded) → Is x (after_shade (state h x w (Shading sh)) next out)
     by next None = record { held = h; at = x; word = w; stage = Shading next; is = refl; lies = k; up = same x }
     by next (Some Done) = go next.held x w (Shading sh) k
-    by next (Some WantsRoom) = record { held = h; at = x; word = w; stage = FindRoom next (room.opening l seat next.held); is = refl; lies = k; up = same x }
-  step v h x w (FindRoom sh r) k = by (room.goes r v) (room.gives r v) where
+    by next (Some WantsRoom) = record { held = h; at = x; word = w; stage = FindRoom next (room.opening seat next.held); is = refl; lies = k; up = same x }
+  step v h x w (FindRoom sh r) k = by (room.goes l r v) (room.gives l r v) where
     by : (next : room.RoomFinding) (out : Option Held) → Is x (after_room (state h x w (FindRoom sh r)) sh next out)
     by next None = record { held = h; at = x; word = w; stage = FindRoom sh next; is = refl; lies = k; up = same x }
     by next (Some own) = record { held = h; at = x; word = w; stage = Shading (shade.told_room sh own); is = refl; lies = k; up = same x }
   step v h x w (Ended words) k = record { held = h; at = x; word = w; stage = Ended words; is = refl; lies = k; up = same x }
 
-  goes_up : (s : Scanning) (v low : ℕ) → Is low s → Is s.at (goes s v)
+  goes_up : (s : Scanning) (v low : ℕ) → Is low s → Is s.at (goes l s v)
   goes_up s v low i = grind (arith, step)
 
   ended : (x : ℕ) (stage : ScanStage) (out : ℕ) → Lies x stage → given_at stage ≡ Some out → out ≡ slot
@@ -127,18 +124,14 @@ module _ (l : Layout) (seat reference : ℕ) (held : Option Held) (found : ℕ �
   pub end_is : (n : ℕ) → end (state_n (suc n)) ≡ object_of reference + slot
   end_is n = ap (λ (t : Scanning). end t) (lying n).is.is
 
-  pub layout_is : (n : ℕ) → (state_n n).layout ≡ l
-  layout_is zero = refl
-  layout_is (suc n) = ap (λ (t : Scanning). t.layout) (lying n).is.is
-
   pub in_order : ScansInOrder l seat reference held found
   in_order = record { gives_slot = gives_slot; within = within; from_first = λ n. (lying n).from_object; ascends = ascends } where
-    gives_slot : (n w : ℕ) → EndsWith listing (from l seat reference held found) found n w → w ≡ slot
+    gives_slot : (n w : ℕ) → EndsWith (transitions l) (from l seat reference held found) found n w → w ≡ slot
     gives_slot n w e =
         let i = (lying n).is in
         ended l seat reference slot i.at i.stage w i.lies (sym (ap given i.is) ∙ e)
 
-    within : (n : ℕ) → GoesOn listing (from l seat reference held found) found (suc n) → (state_n (suc n)).at < object_of reference + slot
+    within : (n : ℕ) → GoesOn (transitions l) (from l seat reference held found) found (suc n) → (state_n (suc n)).at < object_of reference + slot
     within n e =
         let i = (lying n).is in
         subst (λ (t : Scanning). t.at < object_of reference + slot) (sym i.is) (busy_below l seat reference slot i.at i.stage i.lies (sym (ap (λ (t : Scanning). is_busy t.stage) i.is) ∙ e))

@@ -9,7 +9,7 @@ use Rattle.gh_base.specs.Routines.{EndsWith}
 use Rattle.gh_base.specs.Rows.{Row}
 use Rattle.gh_scan.specs.declared.scan.ScanStage.{ScanStage}
 use Rattle.gh_scan.specs.declared.scan.ScanStage.TheVariants.{LoadPage, LoadBitmap, LoadField, Shading, FindRoom, Ended}
-use Rattle.gh_scan.specs.Listing.{after_room, after_shade, asks, asks_at, at_next, behind, bit_says_pointer, given, given_at, goes, goes_at, listing, next_in, object_of, reference_in, Scanning}
+use Rattle.gh_scan.specs.Listing.{after_room, after_shade, asks, asks_at, at_next, behind, bit_says_pointer, given, given_at, goes, goes_at, next_in, object_of, reference_in, Scanning, transitions}
 use Rattle.gh_scan.specs.Scans.{after, AreTold, begun, begun_between, bits_of, field_of, from, references_at, references_in, shaded_at, slot_told, StepsAt}
 use Rattle.gh_shade.specs.declared.shade.Shaded.{Shaded}
 use Rattle.gh_shade.specs.declared.shade.Shaded.TheVariants.{Done, WantsRoom}
@@ -86,7 +86,7 @@ module _ (bits fields : Row) (l : Layout) where
     all = refs slot (object_of reference)
 
     abbrev state : Option Held → (x w : ℕ) → ScanStage → Scanning
-    state h x w stage = record { layout = l; seat = seat; reference = reference; held = h; slot = slot; at = x; bits = w; stage = stage }
+    state h x w stage = record { seat = seat; reference = reference; held = h; slot = slot; at = x; bits = w; stage = stage }
 
     pub record AtBits (x : ℕ) (done : List ℕ) : Type 0 where
       pub below : x < stop
@@ -147,11 +147,11 @@ module _ (bits fields : Row) (l : Layout) where
     module _ (v : ℕ) where
       -- the step finds a word of the row that it is on
       pub record Finds (s : Scanning) : Type 0 where
-        pub bits_are : (i : ℕ) → asks s ≡ Load (Bitmap i) → v ≡ bits i
-        pub fields_are : (i : ℕ) → asks s ≡ Load (Field i) → v ≡ fields i
+        pub bits_are : (i : ℕ) → asks l s ≡ Load (Bitmap i) → v ≡ bits i
+        pub fields_are : (i : ℕ) → asks l s ≡ Load (Field i) → v ≡ fields i
 
       step : (h : Option Held) (x w : ℕ) (stage : ScanStage) (done : List ℕ) → Knows x w done stage → Finds (state h x w stage) →
-          Is (goes (state h x w stage) v) (done ++ begun_between stage (goes (state h x w stage) v).stage)
+          Is (goes l (state h x w stage) v) (done ++ begun_between stage (goes l (state h x w stage) v).stage)
       step h x w LoadPage done k f = absurd k
       step h x w LoadBitmap done k f = by (bit_says_pointer v x) refl where
         v_is : v ≡ bits_of bits fields l x
@@ -171,7 +171,7 @@ module _ (bits fields : Row) (l : Layout) where
         on_bit : bit_says_pointer (bits_of bits fields l x) x ≡ true
         on_bit = ap (λ (u : ℕ). bit_says_pointer u x) (sym k.word) ∙ k.pointer
 
-        by : (b : Bool) → (v == 0) ≡ b → Is (cond b (behind (state h x w LoadField)) (state h x w (Shading (shade.opening l (reference_in l v) h)))) (done ++ shaded_at (cond b (behind (state h x w LoadField)) (state h x w (Shading (shade.opening l (reference_in l v) h)))).stage)
+        by : (b : Bool) → (v == 0) ≡ b → Is (cond b (behind (state h x w LoadField)) (state h x w (Shading (shade.opening (reference_in l v) h)))) (done ++ shaded_at (cond b (behind (state h x w LoadField)) (state h x w (Shading (shade.opening (reference_in l v) h)))).stage)
         by true e =
             let nil : references_at bits fields l x ≡ [] = field_at x true on_bit (ap (λ (u : ℕ). u == 0) (sym v_is) ∙ e) in
             let skip : refs_from stop x ≡ refs_from stop (x + 1) = first stop x k.below ∙ ap (λ (ls : List ℕ). ls ++ refs_from stop (x + 1)) nil in
@@ -181,13 +181,13 @@ module _ (bits fields : Row) (l : Layout) where
             let one : references_at bits fields l x ≡ reference_in l v ∷ [] = field_at x false on_bit (ap (λ (u : ℕ). u == 0) (sym v_is) ∙ e) ∙ ap (λ (u : ℕ). reference_in l u ∷ []) (sym v_is) in
             let more : refs_from stop x ≡ reference_in l v ∷ refs_from stop (x + 1) = first stop x k.below ∙ ap (λ (ls : List ℕ). ls ++ refs_from stop (x + 1)) one in
             let left : (done ++ (reference_in l v ∷ [])) ++ refs_from stop (x + 1) ≡ all = append_one done (reference_in l v) (refs_from stop (x + 1)) ∙ ap (λ (ls : List ℕ). done ++ ls) (sym more) ∙ k.left in
-            record { held = h; at = x; word = w; stage = Shading (shade.opening l (reference_in l v) h); is = refl; knows = record { below = k.below; left = left; word = k.word } }
+            record { held = h; at = x; word = w; stage = Shading (shade.opening (reference_in l v) h); is = refl; knows = record { below = k.below; left = left; word = k.word } }
       step h x w (Shading sh) done k f = with_none _ done [] refl (by (shade.goes sh v) (shade.gives sh v)) where
         by : (next : shade.Shading) (out : Option Shaded) → Is (after_shade (state h x w (Shading sh)) next out) done
         by next None = record { held = h; at = x; word = w; stage = Shading next; is = refl; knows = k }
         by next (Some Done) = (go next.held x w (Shading sh) done k).0
-        by next (Some WantsRoom) = record { held = h; at = x; word = w; stage = FindRoom next (room.opening l seat next.held); is = refl; knows = k }
-      step h x w (FindRoom sh r) done k f = with_none _ done [] refl (by (room.goes r v) (room.gives r v)) where
+        by next (Some WantsRoom) = record { held = h; at = x; word = w; stage = FindRoom next (room.opening seat next.held); is = refl; knows = k }
+      step h x w (FindRoom sh r) done k f = with_none _ done [] refl (by (room.goes l r v) (room.gives l r v)) where
         by : (next : room.RoomFinding) (out : Option Held) → Is (after_room (state h x w (FindRoom sh r)) sh next out) done
         by next None = record { held = h; at = x; word = w; stage = FindRoom sh next; is = refl; knows = k }
         by next (Some own) = record { held = h; at = x; word = w; stage = Shading (shade.told_room sh own); is = refl; knows = k }
@@ -205,7 +205,7 @@ module _ (l : Layout) (seat reference : ℕ) (held : Option Held) (found : ℕ �
 
   module _ (bits fields : Row) (told_rows : AreTold l seat reference held found bits fields) where
     step_of : (s : Scanning) (done : List ℕ) (v : ℕ) → Is bits fields l seat reference slot s done → Finds bits fields l seat reference slot v s →
-        Is bits fields l seat reference slot (goes s v) (done ++ begun_between s.stage (goes s v).stage)
+        Is bits fields l seat reference slot (goes l s v) (done ++ begun_between s.stage (goes l s v).stage)
     step_of s done v i = grind (arith, step)
 
     pub is_at : (n : ℕ) → Is bits fields l seat reference slot (state_n (suc n)) (begun_n (suc n))
@@ -218,25 +218,25 @@ module _ (l : Layout) (seat reference : ℕ) (held : Option Held) (found : ℕ �
     ended : (x w : ℕ) (done : List ℕ) (stage : ScanStage) (out : ℕ) → Knows bits fields l seat reference slot x w done stage → given_at stage ≡ Some out → done ≡ all bits fields l seat reference slot
     ended x w done stage out k e = grind arith
 
-    pub all_begun : (n w : ℕ) → EndsWith listing (from l seat reference held found) found n w → begun_n (suc n) ≡ all bits fields l seat reference slot
+    pub all_begun : (n w : ℕ) → EndsWith (transitions l) (from l seat reference held found) found n w → begun_n (suc n) ≡ all bits fields l seat reference slot
     all_begun n w e =
         let i = is_at n in
         ended i.at i.word (begun_n (suc n)) i.stage w i.knows (sym (ap given i.is) ∙ e)
 
-  pub steps_at : (s : Scanning) (stage : ScanStage) → s.stage ≡ stage → StepsAt s stage
-  steps_at s LoadPage e = record { cell = Page (object_of s.reference / 1024); loads = ap (asks_at s) e }
-  steps_at s LoadBitmap e = record { cell = Bitmap (s.at / 64 % (16 * s.layout.pages)); loads = ap (asks_at s) e }
-  steps_at s LoadField e = record { cell = Field (s.at % (1024 * s.layout.pages)); loads = ap (asks_at s) e }
-  steps_at s (Ended words) e = record { cell = Touch; loads = ap (asks_at s) e }
-  steps_at s (Shading sh) e = record { asks_it = ap (asks_at s) e; goes_on = goes_on; wants = wants } where
-    goes_on : (v : ℕ) → shade.gives sh v ≡ None → (goes s v).stage ≡ Shading (shade.goes sh v)
-    goes_on v none = ap (λ (g : ScanStage). (goes_at s g v).stage) e ∙ ap (λ (out : Option Shaded). (after_shade s (shade.goes sh v) out).stage) none
+  pub steps_at : (s : Scanning) (stage : ScanStage) → s.stage ≡ stage → StepsAt l s stage
+  steps_at s LoadPage e = record { cell = Page (object_of s.reference / 1024); loads = ap (asks_at l s) e }
+  steps_at s LoadBitmap e = record { cell = Bitmap (s.at / 64 % (16 * l.pages)); loads = ap (asks_at l s) e }
+  steps_at s LoadField e = record { cell = Field (s.at % (1024 * l.pages)); loads = ap (asks_at l s) e }
+  steps_at s (Ended words) e = record { cell = Touch; loads = ap (asks_at l s) e }
+  steps_at s (Shading sh) e = record { asks_it = ap (asks_at l s) e; goes_on = goes_on; wants = wants } where
+    goes_on : (v : ℕ) → shade.gives sh v ≡ None → (goes l s v).stage ≡ Shading (shade.goes sh v)
+    goes_on v none = ap (λ (g : ScanStage). (goes_at l s g v).stage) e ∙ ap (λ (out : Option Shaded). (after_shade s (shade.goes sh v) out).stage) none
 
-    wants : (v : ℕ) → shade.gives sh v ≡ Some WantsRoom → (goes s v).stage ≡ FindRoom (shade.goes sh v) (room.opening s.layout s.seat (shade.goes sh v).held)
-    wants v want = ap (λ (g : ScanStage). (goes_at s g v).stage) e ∙ ap (λ (out : Option Shaded). (after_shade s (shade.goes sh v) out).stage) want
-  steps_at s (FindRoom sh r) e = record { asks_it = ap (asks_at s) e; goes_on = goes_on; tells = tells } where
-    goes_on : (v : ℕ) → room.gives r v ≡ None → (goes s v).stage ≡ FindRoom sh (room.goes r v)
-    goes_on v none = ap (λ (g : ScanStage). (goes_at s g v).stage) e ∙ ap (λ (out : Option Held). (after_room s sh (room.goes r v) out).stage) none
+    wants : (v : ℕ) → shade.gives sh v ≡ Some WantsRoom → (goes l s v).stage ≡ FindRoom (shade.goes sh v) (room.opening s.seat (shade.goes sh v).held)
+    wants v want = ap (λ (g : ScanStage). (goes_at l s g v).stage) e ∙ ap (λ (out : Option Shaded). (after_shade s (shade.goes sh v) out).stage) want
+  steps_at s (FindRoom sh r) e = record { asks_it = ap (asks_at l s) e; goes_on = goes_on; tells = tells } where
+    goes_on : (v : ℕ) → room.gives l r v ≡ None → (goes l s v).stage ≡ FindRoom sh (room.goes l r v)
+    goes_on v none = ap (λ (g : ScanStage). (goes_at l s g v).stage) e ∙ ap (λ (out : Option Held). (after_room s sh (room.goes l r v) out).stage) none
 
-    tells : (v : ℕ) (h : Held) → room.gives r v ≡ Some h → (goes s v).stage ≡ Shading (shade.told_room sh h)
-    tells v h took = ap (λ (g : ScanStage). (goes_at s g v).stage) e ∙ ap (λ (out : Option Held). (after_room s sh (room.goes r v) out).stage) took
+    tells : (v : ℕ) (h : Held) → room.gives l r v ≡ Some h → (goes l s v).stage ≡ Shading (shade.told_room sh h)
+    tells v h took = ap (λ (g : ScanStage). (goes_at l s g v).stage) e ∙ ap (λ (out : Option Held). (after_room s sh (room.goes l r v) out).stage) took

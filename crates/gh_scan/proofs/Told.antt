@@ -50,26 +50,26 @@ behind_passes s = by (next_from s.bits (end s) (s.at + 1)) (next_between (s.at +
   by : (next : Option ℕ) → Between (s.at + 1) ((s.at + 1) + (end s - (s.at + 1))) next → Passes (s.at / 64 + 1) (s.at + 1) (at_next s next)
   by next b = grind arith
 
-passes_at : (s : Scanning) (stage : ScanStage) (v : ℕ) → s.stage ≡ stage → Passes (bits_passed s.at stage) (fields_passed s.at stage) (goes_at s stage v)
-passes_at s LoadPage v is = record { bits_up = omega arith; fields_up = omega arith }
-passes_at s LoadBitmap v is = by (bit_says_pointer v s.at) where
+passes_at : (l : Layout) (s : Scanning) (stage : ScanStage) (v : ℕ) → s.stage ≡ stage → Passes (bits_passed s.at stage) (fields_passed s.at stage) (goes_at l s stage v)
+passes_at l s LoadPage v is = record { bits_up = omega arith; fields_up = omega arith }
+passes_at l s LoadBitmap v is = by (bit_says_pointer v s.at) where
   by : (b : Bool) → Passes (s.at / 64 + 1) s.at (cond b (record s { bits = v; stage = LoadField }) (behind (record s { bits = v })))
   by true = record { bits_up = same (s.at / 64 + 1); fields_up = same s.at }
   by false = less (s.at / 64 + 1) (s.at + 1) s.at (behind (record s { bits = v })) (one_more s.at) (behind_passes (record s { bits = v }))
-passes_at s LoadField v is = by (v == 0) where
-  by : (b : Bool) → Passes (s.at / 64 + 1) (s.at + 1) (cond b (behind s) (record s { stage = Shading (shade.opening s.layout (reference_in s.layout v) s.held) }))
+passes_at l s LoadField v is = by (v == 0) where
+  by : (b : Bool) → Passes (s.at / 64 + 1) (s.at + 1) (cond b (behind s) (record s { stage = Shading (shade.opening (reference_in l v) s.held) }))
   by true = behind_passes s
   by false = record { bits_up = same (s.at / 64 + 1); fields_up = same (s.at + 1) }
-passes_at s (Shading sh) v is = by (shade.goes sh v) (shade.gives sh v) where
+passes_at l s (Shading sh) v is = by (shade.goes sh v) (shade.gives sh v) where
   by : (next : shade.Shading) (out : Option Shaded) → Passes (s.at / 64 + 1) (s.at + 1) (after_shade s next out)
   by next None = record { bits_up = same (s.at / 64 + 1); fields_up = same (s.at + 1) }
   by next (Some Done) = behind_passes (record s { held = next.held })
   by next (Some WantsRoom) = record { bits_up = same (s.at / 64 + 1); fields_up = same (s.at + 1) }
-passes_at s (FindRoom sh r) v is = by (room.goes r v) (room.gives r v) where
+passes_at l s (FindRoom sh r) v is = by (room.goes l r v) (room.gives l r v) where
   by : (next : room.RoomFinding) (out : Option Held) → Passes (s.at / 64 + 1) (s.at + 1) (after_room s sh next out)
   by next None = record { bits_up = same (s.at / 64 + 1); fields_up = same (s.at + 1) }
   by next (Some own) = record { bits_up = same (s.at / 64 + 1); fields_up = same (s.at + 1) }
-passes_at s (Ended words) v is =
+passes_at l s (Ended words) v is =
     let bits : bits_front s.at s.stage ≡ s.at / 64 + 1 = ap (λ (g : ScanStage). bits_front s.at g) is in
     let fields : fields_front s.at s.stage ≡ s.at + 1 = ap (λ (g : ScanStage). fields_front s.at g) is in
     record { bits_up = omega arith; fields_up = omega arith }
@@ -85,15 +85,15 @@ record AtFront (front passed i : ℕ) : Type 0 where
   here : front ≤ i
   below : i < passed
 
-module _ (s : Scanning) where
+module _ (l : Layout) (s : Scanning) where
   -- where it asks for a word of the slot that lies in the heap
   abbrev Inside : ScanStage → Type 0
-  Inside stage = is_busy stage ≡ true → s.at < 1024 * s.layout.pages
+  Inside stage = is_busy stage ≡ true → s.at < 1024 * l.pages
 
-  bits_at : (stage : ScanStage) (i : ℕ) → Inside stage → cell_of (asks_at s stage) ≡ Bitmap i → AtFront (bits_front s.at stage) (bits_passed s.at stage) i
+  bits_at : (stage : ScanStage) (i : ℕ) → Inside stage → cell_of (asks_at l s stage) ≡ Bitmap i → AtFront (bits_front s.at stage) (bits_passed s.at stage) i
   bits_at stage i inside e = grind arith
 
-  fields_at : (stage : ScanStage) (i : ℕ) → Inside stage → cell_of (asks_at s stage) ≡ Field i → AtFront (fields_front s.at stage) (fields_passed s.at stage) i
+  fields_at : (stage : ScanStage) (i : ℕ) → Inside stage → cell_of (asks_at l s stage) ≡ Field i → AtFront (fields_front s.at stage) (fields_passed s.at stage) i
   fields_at stage i inside e = grind arith
 
 module _ (cells : CellsAreTold) (l : Layout) (seat reference : ℕ) (held : Option Held) (found : ℕ → ℕ) where
@@ -105,20 +105,20 @@ module _ (cells : CellsAreTold) (l : Layout) (seat reference : ℕ) (held : Opti
 
   -- a row of which each word is asked for at a front that rises
   module _ (row : ℕ → Cell) (front : ℕ → ℕ) (rises : (n : ℕ) → front n ≤ front (suc n))
-      (at_front : (n i : ℕ) → cell_of (asks (state_n n)) ≡ row i → AtFront (front n) (front (suc n)) i) where
+      (at_front : (n i : ℕ) → cell_of (asks l (state_n n)) ≡ row i → AtFront (front n) (front (suc n)) i) where
     record Kept (n k i : ℕ) : Type 0 where
       holds : found k ≡ words_n n (row i)
       below : i < front n
 
     abbrev KeptOf : (n k : ℕ) → Type 0
-    KeptOf n k = (i : ℕ) → asks (state_n k) ≡ Load (row i) → Kept n k i
+    KeptOf n k = (i : ℕ) → asks l (state_n k) ≡ Load (row i) → Kept n k i
 
     -- the step that asks for it
     kept_here : (n : ℕ) → KeptOf (suc n) n
     kept_here n i e =
-        let cell : cell_of (asks (state_n n)) ≡ row i = ap cell_of e in
+        let cell : cell_of (asks l (state_n n)) ≡ row i = ap cell_of e in
         let wrote : put (words_n n) (row i) (found n) (row i) ≡ found n = cells.put_here (words_n n) (row i) (found n) in
-        let holds : put (words_n n) (cell_of (asks (state_n n))) (found n) (row i) ≡ found n = ap (λ (c : Cell). put (words_n n) c (found n) (row i)) cell ∙ wrote in
+        let holds : put (words_n n) (cell_of (asks l (state_n n))) (found n) (row i) ≡ found n = ap (λ (c : Cell). put (words_n n) c (found n) (row i)) cell ∙ wrote in
         record { holds = sym holds; below = (at_front n i cell).below }
 
     -- and each step after it
@@ -126,8 +126,8 @@ module _ (cells : CellsAreTold) (l : Layout) (seat reference : ℕ) (held : Opti
     kept_on n k i was =
         let below : i < front n = was.below in
         let up : front n ≤ front (suc n) = rises n in
-        let apart : cell_of (asks (state_n n)) ≢ row i = λ e. (let here : front n ≤ i = (at_front n i e).here in omega arith) in
-        let stays : put (words_n n) (cell_of (asks (state_n n))) (found n) (row i) ≡ words_n n (row i) = cells.put_elsewhere (words_n n) (cell_of (asks (state_n n))) (row i) (found n) apart in
+        let apart : cell_of (asks l (state_n n)) ≢ row i = λ e. (let here : front n ≤ i = (at_front n i e).here in omega arith) in
+        let stays : put (words_n n) (cell_of (asks l (state_n n))) (found n) (row i) ≡ words_n n (row i) = cells.put_elsewhere (words_n n) (cell_of (asks l (state_n n))) (row i) (found n) apart in
         record { holds = was.holds ∙ sym stays; below = omega arith }
 
     kept : (n k : ℕ) → k < n → KeptOf n k
@@ -136,13 +136,13 @@ module _ (cells : CellsAreTold) (l : Layout) (seat reference : ℕ) (held : Opti
         let lt_more : k < n + 1 = omega arith in
         below_more (λ (j : ℕ). KeptOf (suc n) j) n (λ j below i e. kept_on n j i (kept n j below i e)) (kept_here n) k lt_more
 
-    once : (k n i : ℕ) → k < n → asks (state_n k) ≡ Load (row i) → asks (state_n n) ≢ Load (row i)
+    once : (k n i : ℕ) → k < n → asks l (state_n k) ≡ Load (row i) → asks l (state_n n) ≢ Load (row i)
     once k n i lt e again =
         let below : i < front n = (kept n k lt i e).below in
         let here : front n ≤ i = (at_front n i (ap cell_of again)).here in
         omega arith
 
-  module _ (order : ScansInOrder l seat reference held found) (lies : LiesInHeap l seat reference held found) (stays : (n : ℕ) → (state_n n).layout ≡ l) where
+  module _ (order : ScansInOrder l seat reference held found) (lies : LiesInHeap l seat reference held found) where
     abbrev bits_n : ℕ → ℕ
     bits_n n = bits_front (state_n n).at (state_n n).stage
 
@@ -150,7 +150,7 @@ module _ (cells : CellsAreTold) (l : Layout) (seat reference : ℕ) (held : Opti
     fields_n n = fields_front (state_n n).at (state_n n).stage
 
     passes : (n : ℕ) → Passes (bits_passed (state_n n).at (state_n n).stage) (fields_passed (state_n n).at (state_n n).stage) (state_n (suc n))
-    passes n = passes_at (state_n n) (state_n n).stage (found n) refl
+    passes n = passes_at l (state_n n) (state_n n).stage (found n) refl
 
     bits_rise_n : (n : ℕ) → bits_n n ≤ bits_n (suc n)
     bits_rise_n n = grind (arith, bits_rise, passes)
@@ -161,38 +161,37 @@ module _ (cells : CellsAreTold) (l : Layout) (seat reference : ℕ) (held : Opti
         let on : fields_passed (state_n n).at (state_n n).stage ≤ fields_n (suc n) = (passes n).fields_up in
         omega arith
 
-    inside : (n : ℕ) → Inside (state_n (suc n)) (state_n (suc n)).stage
+    inside : (n : ℕ) → Inside l (state_n (suc n)) (state_n (suc n)).stage
     inside n busy =
         let within : (state_n (suc n)).at < object_of reference + slot_told l seat reference held found = order.within n busy in
         let heap : object_of reference + slot_told l seat reference held found ≤ 1024 * l.pages = lies in
-        let pages : (state_n (suc n)).layout.pages ≡ l.pages = ap (λ (m : Layout). m.pages) (stays (suc n)) in
         omega arith
 
-    bits_ask : (n i : ℕ) → cell_of (asks (state_n n)) ≡ Bitmap i → AtFront (bits_n n) (bits_n (suc n)) i
+    bits_ask : (n i : ℕ) → cell_of (asks l (state_n n)) ≡ Bitmap i → AtFront (bits_n n) (bits_n (suc n)) i
     bits_ask zero i e = absurd (cc)
     bits_ask (suc n) i e =
-        let at = bits_at (state_n (suc n)) (state_n (suc n)).stage i (inside n) e in
+        let at = bits_at l (state_n (suc n)) (state_n (suc n)).stage i (inside n) e in
         let below : i < bits_passed (state_n (suc n)).at (state_n (suc n)).stage = at.below in
         let on : bits_passed (state_n (suc n)).at (state_n (suc n)).stage ≤ bits_n (suc (suc n)) = (passes (suc n)).bits_up in
         record { here = at.here; below = omega arith }
 
-    fields_ask : (n i : ℕ) → cell_of (asks (state_n n)) ≡ Field i → AtFront (fields_n n) (fields_n (suc n)) i
+    fields_ask : (n i : ℕ) → cell_of (asks l (state_n n)) ≡ Field i → AtFront (fields_n n) (fields_n (suc n)) i
     fields_ask zero i e = absurd (cc)
     fields_ask (suc n) i e =
-        let at = fields_at (state_n (suc n)) (state_n (suc n)).stage i (inside n) e in
+        let at = fields_at l (state_n (suc n)) (state_n (suc n)).stage i (inside n) e in
         let below : i < fields_passed (state_n (suc n)).at (state_n (suc n)).stage = at.below in
         let on : fields_passed (state_n (suc n)).at (state_n (suc n)).stage ≤ fields_n (suc (suc n)) = (passes (suc n)).fields_up in
         record { here = at.here; below = omega arith }
 
-    pub bitmap_once : (k n i : ℕ) → k < n → asks (state_n k) ≡ Load (Bitmap i) → asks (state_n n) ≢ Load (Bitmap i)
+    pub bitmap_once : (k n i : ℕ) → k < n → asks l (state_n k) ≡ Load (Bitmap i) → asks l (state_n n) ≢ Load (Bitmap i)
     bitmap_once = once Bitmap bits_n bits_rise_n bits_ask
 
-    pub fields_once : (k n i : ℕ) → k < n → asks (state_n k) ≡ Load (Field i) → asks (state_n n) ≢ Load (Field i)
+    pub fields_once : (k n i : ℕ) → k < n → asks l (state_n k) ≡ Load (Field i) → asks l (state_n n) ≢ Load (Field i)
     fields_once = once Field fields_n fields_rise_n fields_ask
 
     -- what was told in the first n steps is what the rows have then
-    pub bits_kept : (n k i : ℕ) → k < n → asks (state_n k) ≡ Load (Bitmap i) → found k ≡ words_n n (Bitmap i)
+    pub bits_kept : (n k i : ℕ) → k < n → asks l (state_n k) ≡ Load (Bitmap i) → found k ≡ words_n n (Bitmap i)
     bits_kept n k i lt e = (kept Bitmap bits_n bits_rise_n bits_ask n k lt i e).holds
 
-    pub fields_kept : (n k i : ℕ) → k < n → asks (state_n k) ≡ Load (Field i) → found k ≡ words_n n (Field i)
+    pub fields_kept : (n k i : ℕ) → k < n → asks l (state_n k) ≡ Load (Field i) → found k ≡ words_n n (Field i)
     fields_kept n k i lt e = (kept Field fields_n fields_rise_n fields_ask n k lt i e).holds

@@ -16,7 +16,7 @@ pub use Rattle.gh_wbuf.specs.declared.try_buffer.TryStage.{TryStage}
 pub use Rattle.gh_shade.specs.declared.shade.ShadeStage.{ShadeStage}
 pub use Rattle.gh_shade.specs.declared.shade.Shaded.{Shaded}
 pub use Rattle.gh_shade.specs.declared.shade.Shaded.TheVariants.{Done, WantsRoom}
-pub use Rattle.gh_scan.specs.Listing.{after_room, after_shade, asks, asks_at, at_next, at_stage, behind, bit_says_pointer, end, given_at, goes, goes_at, is_busy, is_loaded, listing, next_from, next_in, object_of, reference_in, Scanning, with_bits, with_found_field}
+pub use Rattle.gh_scan.specs.Listing.{after_room, after_shade, asks, asks_at, at_next, at_stage, behind, bit_says_pointer, end, given_at, goes, goes_at, is_busy, is_loaded, next_from, next_in, object_of, reference_in, Scanning, transitions, with_bits, with_found_field}
 pub use Rattle.gh_scan.specs.Scans.{after, AreTold, begun, bits_of, from, InSlot, LiesInHeap, ScansInOrder, ScansObject, ShadesAsTold, slot_told, WasLoaded, words_told}
 pub use Rattle.gh_scan.specs.declared.scan.ScanStage.{ScanStage}
 pub use Rattle.gh_scan.specs.declared.scan.ScanStage.TheVariants.{Ended, FindRoom, LoadBitmap, LoadField, LoadPage, Shading}

@@ -63,9 +63,8 @@ StageFacts z a s rest m (FindRoom sh r) =
     × room_facts.RoomFacts z a s (record rest { pending = Some (shade.object_of sh.reference); scanning = Some (object_of m.reference) }) r
 StageFacts z a s rest m (Ended words) = Hands a s (in_hand rest m.held None)
 
--- it is this seat's, in this heap, and its object is one of the cycle
+-- it is this seat's, and its object is one of the cycle
 pub record Facts (z : Cycle) (a : ℕ) (s : Shared) (rest : InHand) (m : Scanning) : Type 0 where
-  pub layout_is : m.layout ≡ z.arena.layout
   pub seat_is : m.seat ≡ a
   pub known : s.since (object_of m.reference) ≡ true
   pub stage_is : StageFacts z a s rest m m.stage
@@ -73,6 +72,6 @@ pub record Facts (z : Cycle) (a : ℕ) (s : Shared) (rest : InHand) (m : Scannin
 pub record ScansByMoves : Type 0 where
   pub keeps : KeepsItsFacts listing Facts
   -- they hold where it begins, once the seat has taken the object
-  pub begins : (z : Cycle) (a : ℕ) (s : Shared) (rest : InHand) (reference : ℕ) (held : Option Held) → s.since (object_of reference) ≡ true → Hands a s (in_hand rest held (Some (object_of reference))) → Facts z a s rest (opening z.arena.layout a reference held)
+  pub begins : (z : Cycle) (a : ℕ) (s : Shared) (rest : InHand) (reference : ℕ) (held : Option Held) → s.since (object_of reference) ≡ true → Hands a s (in_hand rest held (Some (object_of reference))) → Facts z a s rest (opening a reference held)
   -- where it ends the object is black, and out of its hands
-  pub ends : (z : Cycle) (a : ℕ) (s : Shared) (rest : InHand) (m : Scanning) (found words : ℕ) → gives m found ≡ Some words → Facts z a s rest (goes m found) → Hands a s (in_hand rest (goes m found).held None)
+  pub ends : (z : Cycle) (a : ℕ) (s : Shared) (rest : InHand) (m : Scanning) (found words : ℕ) → gives z.arena.layout m found ≡ Some words → Facts z a s rest (goes z.arena.layout m found) → Hands a s (in_hand rest (goes z.arena.layout m found).held None)

@@ -1,7 +1,5 @@
-pub mod Blind
 pub mod Facts
 pub mod Listing
 pub mod Quiet
 pub mod Scans
 pub mod Sound
-pub mod Stays

@@ -1,14 +1,18 @@
 -- The scan of an object: what is asked for at each stage, where that leads, and what it gives.
-use Rattle.std.specs.Prelude.{ℕ, zero, suc, ◌+◌, ◌-◌, ◌*◌, ◌/◌, ◌%◌, Bool, ◌==◌, ◌||◌, if◌then◌else◌, Option, Some, None, is_none}
+use Rattle.std.specs.Prelude.{ℕ, zero, suc, ◌+◌, ◌-◌, ◌*◌, ◌/◌, ◌%◌, Bool, true, ◌==◌, ◌||◌, if◌then◌else◌, Option, Some, None, is_none}
 use Rattle.std.specs.Int.{bit_at}
 use Rattle.gh_base.specs.declared.cell.Cell.TheVariants.{Touch, Page, Bitmap, Field}
 use Rattle.gh_base.specs.declared.cell.Ask.{Ask}
 use Rattle.gh_base.specs.declared.cell.Ask.TheVariants.{Load}
 use Rattle.gh_base.specs.declared.held.Held.{Held}
 use Rattle.gh_base.specs.declared.layout.Layout.{Layout}
-use Rattle.gh_base.specs.Given.{listing_of}
+use Rattle.gh_base.specs.Footprints.{Footprint}
+use Rattle.gh_base.specs.Footprints as row
+use Rattle.gh_base.specs.Machines.{Listing, steps_of}
 use Rattle.gh_base.specs.Packing.{page_of, slot_in}
-use Rattle.gh_base.specs.Routines.{Listing}
+use Rattle.gh_base.specs.Routines as routine
+use Rattle.gh_scan.specs.Sound.{SoundScanning}
+use Rattle.gh_scan.specs.declared.scan.Scan.{Scan}
 use Rattle.gh_scan.specs.declared.scan.ScanStage.{ScanStage}
 use Rattle.gh_scan.specs.declared.scan.ScanStage.TheVariants.{LoadPage, LoadBitmap, LoadField, Shading, FindRoom, Ended}
 use Rattle.gh_shade.specs.declared.shade.Shaded.{Shaded}
@@ -17,18 +21,11 @@ use Rattle.gh_shade.specs.Listing as shade
 use Rattle.gh_wbuf.specs.RoomFinding as room
 
 -- the scan of an object by its reference: the buffer that is held between shadings, the words of the slot, the heap word that it is at, the bitmap word that it found last, and its stage
-pub record Scanning : Type 0 where
-  pub layout : Layout
-  pub seat : ℕ
-  pub reference : ℕ
-  pub held : Option Held
-  pub slot : ℕ
-  pub at : ℕ
-  pub bits : ℕ
-  pub stage : ScanStage
+abbrev pub Scanning : Type 0
+Scanning = Scan
 
-abbrev pub opening : Layout → (seat reference : ℕ) → Option Held → Scanning
-opening l seat reference held = record { layout = l; seat = seat; reference = reference; held = held; slot = 0; at = 0; bits = 0; stage = LoadPage }
+abbrev pub opening : (seat reference : ℕ) → Option Held → Scanning
+opening seat reference held = record { seat = seat; reference = reference; held = held; slot = 0; at = 0; bits = 0; stage = LoadPage }
 
 abbrev pub at_stage : Scanning → ScanStage → Scanning
 at_stage s stage = record s { stage = stage }
@@ -73,14 +70,6 @@ module _ (s : Scanning) where
   abbrev pub end : ℕ
   end = object_of s.reference + s.slot
 
-  abbrev pub asks_at : ScanStage → Ask
-  asks_at LoadPage = Load (Page (object_of s.reference / 1024))
-  asks_at LoadBitmap = Load (Bitmap (s.at / 64 % (16 * s.layout.pages)))
-  asks_at LoadField = Load (Field (s.at % (1024 * s.layout.pages)))
-  asks_at (Shading sh) = shade.asks sh
-  asks_at (FindRoom sh r) = room.asks r
-  asks_at (Ended words) = Load Touch
-
   -- it goes on at this heap word, or ends with the words of the slot where there is none
   abbrev pub at_next : Option ℕ → Scanning
   at_next None = at_stage s (Ended s.slot)
@@ -94,28 +83,43 @@ behind s = at_next s (next_from s.bits (end s) (s.at + 1))
 abbrev pub with_bits : Scanning → (found : ℕ) → Scanning
 with_bits s found = if bit_says_pointer found s.at then record s { bits = found; stage = LoadField } else behind (record s { bits = found })
 
--- the field holds this
-abbrev pub with_found_field : Scanning → (found : ℕ) → Scanning
-with_found_field s found = if found == 0 then behind s else at_stage s (Shading (shade.opening s.layout (reference_in s.layout found) s.held))
-
 -- after a step of shading, by what that gave
 abbrev pub after_shade : Scanning → shade.Shading → Option Shaded → Scanning
 after_shade s sh None = at_stage s (Shading sh)
 after_shade s sh (Some Done) = behind (record s { held = sh.held })
-after_shade s sh (Some WantsRoom) = at_stage s (FindRoom sh (room.opening s.layout s.seat sh.held))
+after_shade s sh (Some WantsRoom) = at_stage s (FindRoom sh (room.opening s.seat sh.held))
 
 -- after a step of the search for room, by what that gave
 abbrev pub after_room : Scanning → shade.Shading → room.RoomFinding → Option Held → Scanning
 after_room s sh r None = at_stage s (FindRoom sh r)
 after_room s sh r (Some h) = at_stage s (Shading (shade.told_room sh h))
 
-abbrev pub goes_at : Scanning → ScanStage → ℕ → Scanning
-goes_at s LoadPage found = record s { slot = slot_in (page_of found); at = object_of s.reference; stage = LoadBitmap }
-goes_at s LoadBitmap found = with_bits s found
-goes_at s LoadField found = with_found_field s found
-goes_at s (Shading sh) found = after_shade s (shade.goes sh found) (shade.gives sh found)
-goes_at s (FindRoom sh r) found = after_room s sh (room.goes r found) (room.gives r found)
-goes_at s (Ended words) found = at_stage s (Ended words)
+module _ (l : Layout) where
+  abbrev pub asks_at : Scanning → ScanStage → Ask
+  asks_at s LoadPage = Load (Page (object_of s.reference / 1024))
+  asks_at s LoadBitmap = Load (Bitmap (s.at / 64 % (16 * l.pages)))
+  asks_at s LoadField = Load (Field (s.at % (1024 * l.pages)))
+  asks_at s (Shading sh) = shade.asks sh
+  asks_at s (FindRoom sh r) = room.asks r
+  asks_at s (Ended words) = Load Touch
+
+  -- the field holds this
+  abbrev pub with_found_field : Scanning → (found : ℕ) → Scanning
+  with_found_field s found = if found == 0 then behind s else at_stage s (Shading (shade.opening (reference_in l found) s.held))
+
+  abbrev pub goes_at : Scanning → ScanStage → ℕ → Scanning
+  goes_at s LoadPage found = record s { slot = slot_in (page_of found); at = object_of s.reference; stage = LoadBitmap }
+  goes_at s LoadBitmap found = with_bits s found
+  goes_at s LoadField found = with_found_field s found
+  goes_at s (Shading sh) found = after_shade s (shade.goes sh found) (shade.gives sh found)
+  goes_at s (FindRoom sh r) found = after_room s sh (room.goes l r found) (room.gives l r found)
+  goes_at s (Ended words) found = at_stage s (Ended words)
+
+  abbrev pub asks : Scanning → Ask
+  asks s = asks_at s s.stage
+
+  abbrev pub goes : Scanning → ℕ → Scanning
+  goes s found = goes_at s s.stage found
 
 -- where it has ended it has given the words that it has scanned
 abbrev pub given_at : ScanStage → Option ℕ
@@ -125,17 +129,19 @@ given_at _ = None
 abbrev pub is_busy : ScanStage → Bool
 is_busy stage = is_none (given_at stage)
 
-abbrev pub asks : Scanning → Ask
-asks s = asks_at s s.stage
-
-abbrev pub goes : Scanning → ℕ → Scanning
-goes s found = goes_at s s.stage found
-
 abbrev pub given : Scanning → Option ℕ
 given s = given_at s.stage
 
-abbrev pub gives : Scanning → ℕ → Option ℕ
-gives s found = given (goes s found)
+abbrev pub gives : Layout → Scanning → ℕ → Option ℕ
+gives l s found = given (goes l s found)
 
-abbrev pub listing : Listing Scanning ℕ
-listing = listing_of (λ s. s.layout) asks goes given
+-- those of the search for room, and those of shading
+abbrev pub writes : Footprint
+writes row.Buffer = true
+writes r = shade.writes r
+
+abbrev pub listing : Layout → Listing Scanning ℕ
+listing l = record { asks = asks l; goes = goes l; given = given; sound = SoundScanning l; writes = writes }
+
+abbrev pub transitions : Layout → routine.Listing Scanning ℕ
+transitions l = steps_of l (listing l)

@@ -1,4 +1,5 @@
 -- The routines of marking write no word of the handshake.
+use Rattle.gh_base.specs.declared.layout.Layout.{Layout}
 use Rattle.gh_phase.specs.Handshake.{IsQuietInHandshake}
 use Rattle.gh_scan.specs.Listing as scan
 use Rattle.gh_shade.specs.Listing as shade
@@ -12,4 +13,4 @@ pub record MarkingIsQuiet : Type 0 where
   pub takes : (t : take.EntryTaking) → IsQuietInHandshake (take.asks t)
   pub finds_room : (r : room.RoomFinding) → IsQuietInHandshake (room.asks r)
   pub shades : (s : shade.Shading) → IsQuietInHandshake (shade.asks s)
-  pub scans : (s : scan.Scanning) → IsQuietInHandshake (scan.asks s)
+  pub scans : (l : Layout) (s : scan.Scanning) → IsQuietInHandshake (scan.asks l s)

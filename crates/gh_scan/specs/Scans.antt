@@ -12,7 +12,7 @@ use Rattle.gh_base.specs.Rows.{bitmap_words, field_words, pointer_bit, Row}
 use Rattle.gh_base.specs.Steps.{cell_of}
 use Rattle.gh_scan.specs.declared.scan.ScanStage.{ScanStage}
 use Rattle.gh_scan.specs.declared.scan.ScanStage.TheVariants.{LoadBitmap, LoadField, Shading, FindRoom}
-use Rattle.gh_scan.specs.Listing.{asks, bit_says_pointer, goes, is_loaded, listing, object_of, opening, reference_in, Scanning}
+use Rattle.gh_scan.specs.Listing.{asks, bit_says_pointer, goes, is_loaded, object_of, opening, reference_in, Scanning, transitions}
 use Rattle.gh_shade.specs.declared.shade.Shaded.TheVariants.{Done, WantsRoom}
 use Rattle.gh_shade.specs.Listing as shade
 use Rattle.gh_wbuf.specs.RoomFinding as room
@@ -45,28 +45,29 @@ begun_between (Shading sh) after = []
 begun_between (FindRoom sh r) after = []
 begun_between _ after = shaded_at after
 
--- it loads one word
-pub record LoadsOne (s : Scanning) : Type 0 where
-  pub cell : Cell
-  pub loads : asks s ≡ Load cell
+module _ (l : Layout) where
+  -- it loads one word
+  pub record LoadsOne (s : Scanning) : Type 0 where
+    pub cell : Cell
+    pub loads : asks l s ≡ Load cell
 
--- its step is one of shading; where that gives nothing yet the shading goes on, and where it wishes for room that is looked for
-pub record StepsOfShading (s : Scanning) (sh : shade.Shading) : Type 0 where
-  pub asks_it : asks s ≡ shade.asks sh
-  pub goes_on : (v : ℕ) → shade.gives sh v ≡ None → (goes s v).stage ≡ Shading (shade.goes sh v)
-  pub wants : (v : ℕ) → shade.gives sh v ≡ Some WantsRoom → (goes s v).stage ≡ FindRoom (shade.goes sh v) (room.opening s.layout s.seat (shade.goes sh v).held)
+  -- its step is one of shading; where that gives nothing yet the shading goes on, and where it wishes for room that is looked for
+  pub record StepsOfShading (s : Scanning) (sh : shade.Shading) : Type 0 where
+    pub asks_it : asks l s ≡ shade.asks sh
+    pub goes_on : (v : ℕ) → shade.gives sh v ≡ None → (goes l s v).stage ≡ Shading (shade.goes sh v)
+    pub wants : (v : ℕ) → shade.gives sh v ≡ Some WantsRoom → (goes l s v).stage ≡ FindRoom (shade.goes sh v) (room.opening s.seat (shade.goes sh v).held)
 
--- its step is one of the search for room; where that gives nothing yet the search goes on, and the shading is told the buffer that it gives
-pub record StepsOfRoom (s : Scanning) (sh : shade.Shading) (r : room.RoomFinding) : Type 0 where
-  pub asks_it : asks s ≡ room.asks r
-  pub goes_on : (v : ℕ) → room.gives r v ≡ None → (goes s v).stage ≡ FindRoom sh (room.goes r v)
-  pub tells : (v : ℕ) (h : Held) → room.gives r v ≡ Some h → (goes s v).stage ≡ Shading (shade.told_room sh h)
+  -- its step is one of the search for room; where that gives nothing yet the search goes on, and the shading is told the buffer that it gives
+  pub record StepsOfRoom (s : Scanning) (sh : shade.Shading) (r : room.RoomFinding) : Type 0 where
+    pub asks_it : asks l s ≡ room.asks r
+    pub goes_on : (v : ℕ) → room.gives l r v ≡ None → (goes l s v).stage ≡ FindRoom sh (room.goes l r v)
+    pub tells : (v : ℕ) (h : Held) → room.gives l r v ≡ Some h → (goes l s v).stage ≡ Shading (shade.told_room sh h)
 
--- Its own steps are Loads. All others are those of shading, and of the search for room that shading wishes for.
-abbrev pub StepsAt : Scanning → ScanStage → Type 0
-StepsAt s (Shading sh) = StepsOfShading s sh
-StepsAt s (FindRoom sh r) = StepsOfRoom s sh r
-StepsAt s _ = LoadsOne s
+  -- Its own steps are Loads. All others are those of shading, and of the search for room that shading wishes for.
+  abbrev pub StepsAt : Scanning → ScanStage → Type 0
+  StepsAt s (Shading sh) = StepsOfShading s sh
+  StepsAt s (FindRoom sh r) = StepsOfRoom s sh r
+  StepsAt s _ = LoadsOne s
 
 -- with a step at this stage that found v it is done with heap word x: it is no pointer field, it is nil, or what it refers to is shaded
 abbrev pub IsDoneWithWord : ScanStage → (x v : ℕ) → Type 0
@@ -77,10 +78,10 @@ IsDoneWithWord _ x v = ⊥
 
 module _ (l : Layout) (seat reference : ℕ) (held : Option Held) (found : ℕ → ℕ) where
   abbrev pub from : Scanning
-  from = opening l seat reference held
+  from = opening seat reference held
 
   abbrev pub after : ℕ → Scanning
-  after n = told listing from found n
+  after n = told (transitions l) from found n
 
   -- the words of the slot, by the page word that was found
   abbrev pub slot_told : ℕ
@@ -93,13 +94,13 @@ module _ (l : Layout) (seat reference : ℕ) (held : Option Held) (found : ℕ �
 
   -- the bitmap words and the fields that it was told are of these rows
   pub record AreTold (bits fields : Row) : Type 0 where
-    pub bits_are : (n i : ℕ) → asks (after n) ≡ Load (Bitmap i) → found n ≡ bits i
-    pub fields_are : (n i : ℕ) → asks (after n) ≡ Load (Field i) → found n ≡ fields i
+    pub bits_are : (n i : ℕ) → asks l (after n) ≡ Load (Bitmap i) → found n ≡ bits i
+    pub fields_are : (n i : ℕ) → asks l (after n) ≡ Load (Field i) → found n ≡ fields i
 
   -- the words as the first n steps found them: each cell has what was found there last, and 0 where none of the steps was on it
   abbrev pub words_told : (n : ℕ) → Words
   words_told zero = λ cell. 0
-  words_told (suc n) = put (words_told n) (cell_of (asks (after n))) (found n)
+  words_told (suc n) = put (words_told n) (cell_of (asks l (after n))) (found n)
 
   -- the references of the slot by these
   abbrev pub references_told : (n : ℕ) → List ℕ
@@ -114,7 +115,7 @@ module _ (l : Layout) (seat reference : ℕ) (held : Option Held) (found : ℕ �
   pub record WasLoaded (n : ℕ) (cell : Cell) : Type 0 where
     pub step : ℕ
     pub by_then : step ≤ n
-    pub loads : asks (after step) ≡ Load cell
+    pub loads : asks l (after step) ≡ Load cell
 
   -- The slot lies in the heap. Then what it was told is what some rows hold, since it asks for each of their words once.
   abbrev pub LiesInHeap : Type 0
@@ -122,15 +123,15 @@ module _ (l : Layout) (seat reference : ℕ) (held : Option Held) (found : ℕ �
 
   pub record ShadesAsTold : Type 0 where
     -- no bitmap word and no field is loaded again
-    pub bitmap_once : (k n i : ℕ) → k < n → asks (after k) ≡ Load (Bitmap i) → asks (after n) ≢ Load (Bitmap i)
-    pub fields_once : (k n i : ℕ) → k < n → asks (after k) ≡ Load (Field i) → asks (after n) ≢ Load (Field i)
+    pub bitmap_once : (k n i : ℕ) → k < n → asks l (after k) ≡ Load (Bitmap i) → asks l (after n) ≢ Load (Bitmap i)
+    pub fields_once : (k n i : ℕ) → k < n → asks l (after k) ≡ Load (Field i) → asks l (after n) ≢ Load (Field i)
     -- by its end it has loaded exactly the bitmap words of the words of the slot, and exactly the fields of the pointers among these
-    pub loads_bitmap : (n w i : ℕ) → EndsWith listing from found n w → WasLoaded n (Bitmap i) ↔ ((x : ℕ) × InSlot x × (x / 64 ≡ i))
-    pub loads_fields : (n w x : ℕ) → EndsWith listing from found n w → WasLoaded n (Field x) ↔ (InSlot x × (pointer_bit (words_told (suc n)) x ≡ 1))
+    pub loads_bitmap : (n w i : ℕ) → EndsWith (transitions l) from found n w → WasLoaded n (Bitmap i) ↔ ((x : ℕ) × InSlot x × (x / 64 ≡ i))
+    pub loads_fields : (n w x : ℕ) → EndsWith (transitions l) from found n w → WasLoaded n (Field x) ↔ (InSlot x × (pointer_bit (words_told (suc n)) x ≡ 1))
     -- the words that it found are rows which agree with all that it was told
-    pub agree : (n w : ℕ) → EndsWith listing from found n w → AreTold (bitmap_words (words_told (suc n))) (field_words (words_told (suc n)))
+    pub agree : (n w : ℕ) → EndsWith (transitions l) from found n w → AreTold (bitmap_words (words_told (suc n))) (field_words (words_told (suc n)))
     -- it ends once it has shaded exactly the references of the slot by these, in their order
-    pub shades : (n w : ℕ) → EndsWith listing from found n w → begun (suc n) ≡ references_told (suc n)
+    pub shades : (n w : ℕ) → EndsWith (transitions l) from found n w → begun (suc n) ≡ references_told (suc n)
 
   -- with step n it is done with the heap word that it is at
   abbrev pub DoneWith : (n : ℕ) → Type 0
@@ -142,28 +143,28 @@ module _ (l : Layout) (seat reference : ℕ) (held : Option Held) (found : ℕ �
 
   pub record EndsAtOnce : Type 0 where
     -- it ends by a step exactly where it is done then with the word that it is at, and none is left
-    pub ends : (n : ℕ) → DoneWith n → NoneLeft n → EndsWith listing from found n slot_told
-    pub ends_only : (n w : ℕ) → GoesOn listing from found n → EndsWith listing from found n w → DoneWith n × NoneLeft n
+    pub ends : (n : ℕ) → DoneWith n → NoneLeft n → EndsWith (transitions l) from found n slot_told
+    pub ends_only : (n w : ℕ) → GoesOn (transitions l) from found n → EndsWith (transitions l) from found n w → DoneWith n × NoneLeft n
     -- so it ends by the step that is done with the last word of the slot
-    pub behind_last : (n : ℕ) → suc (after n).at ≡ object_of reference + slot_told → DoneWith n → EndsWith listing from found n slot_told
+    pub behind_last : (n : ℕ) → suc (after n).at ≡ object_of reference + slot_told → DoneWith n → EndsWith (transitions l) from found n slot_told
     -- and asks for no further step
-    pub rests : (n w k : ℕ) → EndsWith listing from found n w → n < k → ¬ GoesOn listing from found k
+    pub rests : (n w k : ℕ) → EndsWith (transitions l) from found n w → n < k → ¬ GoesOn (transitions l) from found k
 
   -- it goes over the words of the slot in ascending order, and gives their number
   pub record ScansInOrder : Type 0 where
-    pub gives_slot : (n w : ℕ) → EndsWith listing from found n w → w ≡ slot_told
+    pub gives_slot : (n w : ℕ) → EndsWith (transitions l) from found n w → w ≡ slot_told
     -- until it ends it is at a word of the slot
-    pub within : (n : ℕ) → GoesOn listing from found (suc n) → (after (suc n)).at < object_of reference + slot_told
+    pub within : (n : ℕ) → GoesOn (transitions l) from found (suc n) → (after (suc n)).at < object_of reference + slot_told
     pub from_first : (n : ℕ) → object_of reference ≤ (after (suc n)).at
     pub ascends : (n : ℕ) → (after (suc n)).at ≤ (after (suc (suc n))).at
 
   pub record ScansObject : Type 0 where
     -- it begins with the page word
-    pub begins : asks (after 0) ≡ Load (Page (object_of reference / 1024))
-    pub steps : (n : ℕ) → StepsAt (after n) (after n).stage
+    pub begins : asks l (after 0) ≡ Load (Page (object_of reference / 1024))
+    pub steps : (n : ℕ) → StepsAt l (after n) (after n).stage
     pub in_order : ScansInOrder
     -- Where it is told words of these rows it ends once it has shaded exactly the references of the slot by them, in their order. Rows may hold anything where it has loaded nothing: so it has loaded each word that these references depend on.
-    pub shades : (bits fields : Row) → AreTold bits fields → (n w : ℕ) → EndsWith listing from found n w → begun (suc n) ≡ references_in bits fields l slot_told (object_of reference)
+    pub shades : (bits fields : Row) → AreTold bits fields → (n w : ℕ) → EndsWith (transitions l) from found n w → begun (suc n) ≡ references_in bits fields l slot_told (object_of reference)
     -- and there are such rows, wherever the slot lies in the heap
     pub as_told : LiesInHeap → ShadesAsTold
     -- it ends at once behind the last word of the slot

@@ -1,14 +1,28 @@
 //! Laws of the routine, and of those that it runs. The functions do nothing; what they ensure is proved.
 
+ghost use Rattle.gh_base.specs.declared.layout.Layout.{Layout};
+ghost use Rattle.gh_base.specs.Machines.{IsRoutine};
 ghost use Rattle.gh_scan.specs.Facts.{ScansByMoves};
+ghost use Rattle.gh_scan.specs.Listing.{listing};
 ghost use Rattle.gh_scan.specs.Quiet.{MarkingIsQuiet};
 ghost use Rattle.gh_scan.specs.Scans.{ObjectsAreScanned};
 
 use gh_base::laws::{cells_are_told, packed_words_are_read_back, rows_are_written};
 use gh_class::size_class_laws;
 use gh_marks::laws::{facts_last, hands_follow, own_moves_leave, steps_go_by_moves};
-use gh_shade::laws::shades_by_moves;
-use gh_wbuf::laws::buffers_pass_by_moves;
+use gh_shade::laws::{shades_by_moves, shading_is_a_routine};
+use gh_wbuf::laws::{buffers_pass_by_moves, room_search_is_a_routine};
+
+/// The scan of an object is a routine: it stays sound, each step is on a word that there is, and it writes marks, entries
+/// and words of buffers alone.
+pub fn scan_is_a_routine()
+    ensures { (l : Layout) → IsRoutine l (listing l) }
+{
+    size_class_laws();
+    packed_words_are_read_back();
+    shading_is_a_routine();
+    room_search_is_a_routine();
+}
 
 /// The scan of an object goes over the words of its slot in ascending order, and gives their number by the
 /// page word. Where the slot lies in the heap it loads the bitmap words of the slot and the fields whose bit

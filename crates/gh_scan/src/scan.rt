@@ -1,20 +1,19 @@
 //! The routine that scans an object.
 
 ghost use Rattle.std.specs.Prelude.{◌≡◌, ◌+◌, ◌*◌, ◌^◌, ◌<◌, ◌≤◌, IfSome, true};
-ghost use Rattle.gh_base.specs.Cells.{InRange, seats_of};
+ghost use Rattle.gh_base.specs.declared.layout.Layout.{Layout};
 ghost use Rattle.gh_base.specs.Holding.{IsHeld};
+ghost use Rattle.gh_base.specs.Machines.{Runs};
 ghost use Rattle.gh_base.specs.Packing.{page_of, slot_in};
-ghost use Rattle.gh_base.specs.Steps.{cell_of};
-ghost use Rattle.gh_scan.specs.Listing.{at_next, behind, bit_says_pointer, given, goes_at, held_at, is_busy, is_loaded, loads_at, next_from, object_of, opening, reference_in, with_bits, with_found_field};
-ghost use Rattle.gh_scan.specs.Sound.{Runs, ShadingWaits};
+ghost use Rattle.gh_scan.specs.Listing.{behind, bit_says_pointer, given, goes_at, held_at, is_busy, next_from, object_of, opening, with_bits, with_found_field};
+ghost use Rattle.gh_scan.specs.Sound.{ShadingWaits, SoundScanning};
 ghost use Rattle.gh_shade.specs.Listing as shades;
 ghost use Rattle.gh_shade.specs.Sound.{IsReference};
 
-use gh_base::{Ask, Cell, Held, Layout, Machine, PageWord, Req};
+use gh_base::{Ask, Cell, Held, Layout, PageWord, Req, Routine};
 use gh_class::size_class_laws;
 use gh_shade::{Shade, Shaded};
 use gh_wbuf::FindRoom;
-use std::marker::Model;
 
 /// The stages of the scan of an object.
 #[derive(Clone, Copy, Debug, PartialEq, Eq)]
@@ -41,27 +40,20 @@ pub enum ScanStage {
 /// is. It ends with the slot's words.
 #[derive(Clone, Copy, Debug, PartialEq, Eq)]
 pub struct Scan {
-    layout: Layout,
-    seat: u32,
-    reference: u64,
-    held: Option<Held>,
-    slot: u32,
-    at: u32,
-    bits: u64,
-    stage: ScanStage,
-}
-
-impl Model for Scan {
-    ghost use Rattle.gh_scan.specs.Listing.{Scanning};
-    ghost use Rattle.gh_scan.specs.Sound.{SoundScanning};
-
-    ghost Value = { Scanning };
-
-    ghost view = { λ s. record { layout = s.layout; seat = s.seat; reference = s.reference; held = s.held; slot = s.slot; at = s.at; bits = s.bits; stage = s.stage } };
-
-    ghost invariant = { λ s. SoundScanning (record { layout = s.layout; seat = s.seat; reference = s.reference; held = s.held; slot = s.slot; at = s.at; bits = s.bits; stage = s.stage }) };
-
-    ghost inverse = { λ s. record { layout = s.layout; seat = s.seat; reference = s.reference; held = s.held; slot = s.slot; at = s.at; bits = s.bits; stage = s.stage } };
+    /// Whose scan it is.
+    pub seat: u32,
+    /// The reference of the object, the index of its first heap word plus 1.
+    pub reference: u64,
+    /// The buffer that is held between shadings, if any.
+    pub held: Option<Held>,
+    /// The words of the slot.
+    pub slot: u32,
+    /// The heap word that it is at.
+    pub at: u32,
+    /// The bitmap word that it found last.
+    pub bits: u64,
+    /// Its stage.
+    pub stage: ScanStage,
 }
 
 /// The words of an object's slot, by the page word that was found.
@@ -98,15 +90,11 @@ fn next_from(bits: u64, end: u32, from: u32) -> Option<u32>
 impl Scan {
     /// The seat scans the object of this reference, the index of its first heap word plus 1, with this
     /// buffer held, if any.
-    pub fn new(layout: &Layout, seat: u32, reference: u64, held: Option<Held>) -> Scan
-        requires seat { seat < seats_of layout.now }
-        requires reference { IsReference layout.now reference }
-        requires held { IsHeld layout.now held }
-        ensures opening { result ≡ opening layout.now seat reference held }
+    pub fn new(seat: u32, reference: u64, held: Option<Held>) -> Scan
+        ensures opening { result ≡ opening seat reference held }
         ensures begun { is_busy result.stage ≡ true }
     {
         Scan {
-            layout: *layout,
             seat,
             reference,
             held,
@@ -120,28 +108,31 @@ impl Scan {
     /// The buffer that is held now, if any.
     pub fn held(&self) -> Option<Held>
         ensures is { result ≡ held_at self.now.held self.now.stage }
-        ensures fits { IsHeld self.now.layout result }
+        ensures fits { (l : Layout) → SoundScanning l self.now → IsHeld l result }
     {
         match &self.stage {
-            ScanStage::Shading(shade) => shade.held(),
+            ScanStage::Shading(shade) => shade.held,
             ScanStage::FindRoom(_, room) => room.held(),
             _ => self.held,
         }
     }
 
     /// The first heap word of the object.
-    fn object(&self) -> u32
+    fn object(&self, layout: &Layout) -> u32
+        requires { IsReference layout.now self.now.reference }
         ensures is { result ≡ object_of self.now.reference }
-        ensures there { result < 1024 * self.now.layout.pages }
+        ensures there { result < 1024 * layout.now.pages }
     {
         (self.reference - 1) as u32
     }
 
     /// It is done with the word that it is at, and goes on to the next for which it loads something.
-    fn go_on(&mut self)
-        ensures { self.new ≡ behind self.old }
+    fn go_on(&mut self, layout: &Layout)
+        requires sound { SoundScanning layout.now self.old }
+        ensures goes { self.new ≡ behind self.old }
+        ensures sound { SoundScanning layout.now self.new }
     {
-        match next_from(self.bits, self.object() + self.slot, self.at + 1) {
+        match next_from(self.bits, self.object(layout) + self.slot, self.at + 1) {
             None => self.stage = ScanStage::Ended(self.slot),
             Some(x) => {
                 self.at = x;
@@ -155,65 +146,75 @@ impl Scan {
     }
 
     /// Begins at the first word of the slot, by the page word.
-    fn begin(&mut self, found: u64)
-        ensures { self.new ≡ goes_at self.old ScanStage.LoadPage found }
+    fn begin(&mut self, layout: &Layout, found: u64)
+        requires sound { SoundScanning layout.now self.old }
+        ensures goes { self.new ≡ goes_at layout.now self.old ScanStage.LoadPage found }
+        ensures sound { SoundScanning layout.now self.new }
     {
         self.slot = slot_words(found);
-        self.at = self.object();
+        self.at = self.object(layout);
         self.stage = ScanStage::LoadBitmap;
     }
 
     /// Goes on by the bitmap word.
-    fn read_bits(&mut self, found: u64)
-        ensures { self.new ≡ with_bits self.old found }
+    fn read_bits(&mut self, layout: &Layout, found: u64)
+        requires sound { SoundScanning layout.now self.old }
+        ensures goes { self.new ≡ with_bits self.old found }
+        ensures sound { SoundScanning layout.now self.new }
     {
         self.bits = found;
         if is_pointer(found, self.at) {
             self.stage = ScanStage::LoadField;
         } else {
-            self.go_on();
+            self.go_on(layout);
         }
     }
 
     /// Goes on by what the field holds: nil, or a reference.
-    fn read_field(&mut self, found: u64)
-        ensures { self.new ≡ with_found_field self.old found }
+    fn read_field(&mut self, layout: &Layout, found: u64)
+        requires sound { SoundScanning layout.now self.old }
+        ensures goes { self.new ≡ with_found_field layout.now self.old found }
+        ensures sound { SoundScanning layout.now self.new }
     {
         if found == 0 {
-            self.go_on();
+            self.go_on(layout);
         } else {
-            let words = 1024 * u64::from(self.layout.pages);
+            let words = 1024 * u64::from(layout.pages);
             let reference = (found - 1) % words + 1;
-            self.stage = ScanStage::Shading(Shade::new(&self.layout, reference, self.held));
+            self.stage = ScanStage::Shading(Shade::new(reference, self.held));
         }
     }
 
     /// Takes a step of this shading.
-    fn shade(&mut self, shade: Shade, found: u64)
-        requires { Runs self.old.layout shade.layout (shades.is_busy shade.stage) }
-        ensures { self.new ≡ goes_at self.old (ScanStage.Shading shade) found }
+    fn shade(&mut self, layout: &Layout, shade: Shade, found: u64)
+        requires sound { SoundScanning layout.now self.old }
+        requires runs { Runs (shades.listing layout.now) shade }
+        ensures goes { self.new ≡ goes_at layout.now self.old (ScanStage.Shading shade) found }
+        ensures sound { SoundScanning layout.now self.new }
     {
         let mut shade = shade;
-        match shade.take(found) {
+        match shade.take(layout, found) {
             None => self.stage = ScanStage::Shading(shade),
             Some(Shaded::Done) => {
-                self.held = shade.held();
-                self.go_on();
+                self.held = shade.held;
+                self.go_on(layout);
             }
             Some(Shaded::WantsRoom) => {
-                let room = FindRoom::new(&self.layout, self.seat, shade.held());
+                let room = FindRoom::new(self.seat, shade.held);
                 self.stage = ScanStage::FindRoom(shade, room);
             }
         }
     }
 
     /// Takes a step of this search for room, which that shading waits for.
-    fn find_room(&mut self, shade: Shade, room: FindRoom, found: u64)
-        requires { ShadingWaits self.old.layout shade room }
-        ensures { self.new ≡ goes_at self.old (ScanStage.FindRoom shade room) found }
+    fn find_room(&mut self, layout: &Layout, shade: Shade, room: FindRoom, found: u64)
+        requires sound { SoundScanning layout.now self.old }
+        requires waits { ShadingWaits layout.now shade room }
+        ensures goes { self.new ≡ goes_at layout.now self.old (ScanStage.FindRoom shade room) found }
+        ensures sound { SoundScanning layout.now self.new }
     {
         let (mut shade, mut room) = (shade, room);
-        match room.take(found) {
+        match room.take(layout, found) {
             None => self.stage = ScanStage::FindRoom(shade, room),
             Some(held) => {
                 shade.told_room(held);
@@ -233,56 +234,47 @@ impl Scan {
     }
 }
 
-impl Machine for Scan {
-    ghost use Rattle.gh_base.specs.Given.{is_over};
+impl Routine for Scan {
     ghost use Rattle.gh_scan.specs.Listing.{listing};
-    ghost use Rattle.gh_scan.specs.Stays.{stays};
 
     type Out = u32;
 
-    ghost layout = { listing.layout };
+    ghost listing = { listing };
 
-    ghost busy = { listing.busy };
-
-    ghost asks = { listing.asks };
-
-    ghost goes = { listing.goes };
-
-    ghost gives = { listing.gives };
-
-    fn next(&self) -> Req {
-        let ask = match &self.stage {
-            ScanStage::LoadPage => Ask::Load(Cell::Page(self.object() / 1024)),
-            ScanStage::LoadBitmap => {
-                Ask::Load(Cell::Bitmap(self.at / 64 % (16 * self.layout.pages)))
+    fn next(&self, layout: &Layout) -> Req {
+        match &self.stage {
+            ScanStage::LoadPage => {
+                layout.request(Ask::Load(Cell::Page(self.object(layout) / 1024)))
             }
-            ScanStage::LoadField => Ask::Load(Cell::Field(self.at % (1024 * self.layout.pages))),
-            ScanStage::Shading(shade) => return shade.next(),
-            ScanStage::FindRoom(_, room) => return room.next(),
-            ScanStage::Ended(_) => Ask::Load(Cell::Touch),
-        };
-        self.layout.request(ask)
+            ScanStage::LoadBitmap => {
+                let group = self.at / 64 % (16 * layout.pages);
+                layout.request(Ask::Load(Cell::Bitmap(group)))
+            }
+            ScanStage::LoadField => {
+                let field = self.at % (1024 * layout.pages);
+                layout.request(Ask::Load(Cell::Field(field)))
+            }
+            ScanStage::Shading(shade) => shade.next(layout),
+            ScanStage::FindRoom(_, room) => room.next(layout),
+            ScanStage::Ended(_) => layout.request(Ask::Load(Cell::Touch)),
+        }
     }
 
-    fn take(&mut self, found: u64) -> Option<u32> {
+    fn take(&mut self, layout: &Layout, found: u64) -> Option<u32> {
         match &self.stage {
-            ScanStage::LoadPage => self.begin(found),
-            ScanStage::LoadBitmap => self.read_bits(found),
-            ScanStage::LoadField => self.read_field(found),
+            ScanStage::LoadPage => self.begin(layout, found),
+            ScanStage::LoadBitmap => self.read_bits(layout, found),
+            ScanStage::LoadField => self.read_field(layout, found),
             ScanStage::Shading(shade) => {
                 let shade = *shade;
-                self.shade(shade, found);
+                self.shade(layout, shade, found);
             }
             ScanStage::FindRoom(shade, room) => {
                 let (shade, room) = (*shade, *room);
-                self.find_room(shade, room, found);
+                self.find_room(layout, shade, room, found);
             }
             ScanStage::Ended(_) => {}
         }
         self.given()
     }
-
-    ghost ends = { λ m found busy. is_over (listing.gives m found) };
-
-    ghost stays = { stays };
 }

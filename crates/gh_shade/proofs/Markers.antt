@@ -143,7 +143,7 @@ shades-by-moves k = record {
       hands = k.last z a s t (in_hand rest m.held (pending_at (object_of m.reference) m.stage)) o f.hands;
     };
   };
-  begins = λ z a s rest l reference held some known x. record { some = some; stage_is = known; hands = x };
+  begins = λ z a s rest reference held some known x. record { some = some; stage_is = known; hands = x };
   told = λ z a s rest m h some set few x. record { some = some; stage_is = (set, few); hands = x };
   ends = λ z a s rest m found e f. shaded-then z a s rest (goes m found) (done-at (goes m found).stage e) f;
   wants = λ z a s rest m found e f. waits-then z a s rest (goes m found) (wants-at (goes m found).stage e) f;

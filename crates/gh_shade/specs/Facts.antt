@@ -1,7 +1,6 @@
 -- What is known at each stage of shading while marking is on, and what each step of its own is then. Between its mark and its entry the object is pending in the hands of the seat. Whoever shades finds what it knows left.
 use Rattle.std.specs.Prelude.{◌≡◌, ℕ, ◌<◌, ◌≤◌, true, Option, Some, None}
 use Rattle.gh_base.specs.declared.held.Held.{Held}
-use Rattle.gh_base.specs.declared.layout.Layout.{Layout}
 use Rattle.gh_base.specs.declared.pack.TheConstants.{ENTRIES}
 use Rattle.gh_base.specs.Rows.{mark_words}
 use Rattle.gh_marks.specs.Colours.{Cycle, IsMarked, Shared}
@@ -52,7 +51,7 @@ pub record WaitsForRoom (a : ℕ) (s : Shared) (rest : InHand) (m : Shading) : T
 module _ (z : Cycle) (a : ℕ) (s : Shared) (rest : InHand) where
   -- the facts hold where it begins, with an object of the cycle
   abbrev pub Begins : Type 0
-  Begins = (l : Layout) (reference : ℕ) (held : Option Held) → 1 ≤ reference → s.since (object_of reference) ≡ true → Hands a s (in_hand rest held None) → Facts z a s rest (opening l reference held)
+  Begins = (reference : ℕ) (held : Option Held) → 1 ≤ reference → s.since (object_of reference) ≡ true → Hands a s (in_hand rest held None) → Facts z a s rest (opening reference held)
 
   -- and where it is told a buffer with a place
   abbrev pub IsTold : Type 0

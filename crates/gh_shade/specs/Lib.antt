@@ -1,5 +1,3 @@
-pub mod Blind
 pub mod Facts
 pub mod Listing
 pub mod Sound
-pub mod Stays

@@ -1,5 +1,5 @@
 -- Shading an object: what is asked for at each stage, where that leads, and what it has given.
-use Rattle.std.specs.Prelude.{ℕ, ◌+◌, ◌-◌, ◌/◌, ◌%◌, ◌^◌, Bool, false, nat_lt, ◌==◌, ◌||◌, if◌then◌else◌, Option, Some, None, is_none}
+use Rattle.std.specs.Prelude.{ℕ, ◌+◌, ◌-◌, ◌/◌, ◌%◌, ◌^◌, Bool, true, false, nat_lt, ◌==◌, ◌||◌, if◌then◌else◌, Option, Some, None, is_none}
 use Rattle.std.specs.Int.{bit_at}
 use Rattle.gh_base.specs.declared.cell.Cell.TheVariants.{Touch, Page, Mark, Entry}
 use Rattle.gh_base.specs.declared.cell.Ask.{Ask}
@@ -9,28 +9,28 @@ use Rattle.gh_base.specs.declared.layout.Layout.{Layout}
 use Rattle.gh_base.specs.declared.pack.TheConstants.{ENTRIES}
 use Rattle.gh_base.specs.declared.value.Value.{Value}
 use Rattle.gh_base.specs.declared.value.Value.TheVariants as value
-use Rattle.gh_base.specs.Given.{listing_of}
+use Rattle.gh_base.specs.Footprints.{Footprint}
+use Rattle.gh_base.specs.Footprints as row
+use Rattle.gh_base.specs.Machines.{Listing}
 use Rattle.gh_base.specs.Packing.{page_noscan, page_of}
-use Rattle.gh_base.specs.Routines.{Listing}
+use Rattle.gh_shade.specs.Sound.{SoundShading}
+use Rattle.gh_shade.specs.declared.shade.Shade.{Shade}
 use Rattle.gh_shade.specs.declared.shade.Shaded.{Shaded}
 use Rattle.gh_shade.specs.declared.shade.Shaded.TheVariants.{Done, WantsRoom}
 use Rattle.gh_shade.specs.declared.shade.ShadeStage.{ShadeStage}
 use Rattle.gh_shade.specs.declared.shade.ShadeStage.TheVariants.{LoadPage, SetMark, WaitForRoom, Enter, Ended}
 
 -- the shading of an object, by its reference: what is held, and its stage
-pub record Shading : Type 0 where
-  pub layout : Layout
-  pub reference : ℕ
-  pub held : Option Held
-  pub stage : ShadeStage
+abbrev pub Shading : Type 0
+Shading = Shade
 
-abbrev pub opening : Layout → (reference : ℕ) → Option Held → Shading
-opening l reference held = record { layout = l; reference = reference; held = held; stage = LoadPage }
+abbrev pub opening : (reference : ℕ) → Option Held → Shading
+opening reference held = record { reference = reference; held = held; stage = LoadPage }
 
 -- nil and numbers name no object
-abbrev pub begins : Layout → Option Held → Value → Option Shading
-begins l held (value.Ref r) = Some (opening l r held)
-begins l held _ = None
+abbrev pub begins : Option Held → Value → Option Shading
+begins held (value.Ref r) = Some (opening r held)
+begins held _ = None
 
 abbrev pub at_stage : Shading → ShadeStage → Shading
 at_stage s stage = record s { stage = stage }
@@ -119,5 +119,11 @@ given s = given_at s.stage
 abbrev pub gives : Shading → ℕ → Option Shaded
 gives s found = given (goes s found)
 
-abbrev pub listing : Listing Shading Shaded
-listing = listing_of (λ s. s.layout) asks goes given
+-- it sets a mark, and puts in an entry
+abbrev pub writes : Footprint
+writes row.Mark = true
+writes row.Entry = true
+writes _ = false
+
+abbrev pub listing : Layout → Listing Shading Shaded
+listing l = record { asks = asks; goes = goes; given = given; sound = SoundShading l; writes = writes }

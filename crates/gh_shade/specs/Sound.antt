@@ -6,9 +6,9 @@ use Rattle.gh_base.specs.declared.pack.TheConstants.{ENTRIES}
 use Rattle.gh_base.specs.declared.value.Value.{Value}
 use Rattle.gh_base.specs.declared.value.Value.TheVariants as value
 use Rattle.gh_base.specs.Holding.{IsHeld}
+use Rattle.gh_shade.specs.declared.shade.Shade.{Shade}
 use Rattle.gh_shade.specs.declared.shade.ShadeStage.{ShadeStage}
 use Rattle.gh_shade.specs.declared.shade.ShadeStage.TheVariants.{Enter}
-use Rattle.gh_shade.specs.Listing.{Shading}
 
 -- a heap word's index plus 1
 pub record IsReference (l : Layout) (reference : ℕ) : Type 0 where
@@ -28,7 +28,7 @@ abbrev pub SoundStage : Option Held → ShadeStage → Type 0
 SoundStage held Enter = HasPlace held
 SoundStage held _ = Unit {0}
 
-pub record SoundShading (s : Shading) : Type 0 where
-  pub reference : IsReference s.layout s.reference
-  pub held : IsHeld s.layout s.held
+pub record SoundShading (l : Layout) (s : Shade) : Type 0 where
+  pub reference : IsReference l s.reference
+  pub held : IsHeld l s.held
   pub stage : SoundStage s.held s.stage

@@ -61,7 +61,7 @@ module _ (s : Shared) (g : ℕ) where
     some = λ n reference l e. h.some (i + n) reference (omega (arith, l, length-drop i registers)) (sym (get_or-drop i registers n value.Nil) ∙ e);
   }
 
-begins : (z : Cycle) (a : ℕ) (s : Shared) (g : ℕ) (registers : List Value) → Begins z a s g → AreRegisters (s.registers g) registers → Facts z a s (opening z.arena.layout g z.number registers)
+begins : (z : Cycle) (a : ℕ) (s : Shared) (g : ℕ) (registers : List Value) → Begins z a s g → AreRegisters (s.registers g) registers → Facts z a s (opening g z.number registers)
 begins z a s g registers b h = record {
   own = b.own;
   goes_on = b.goes_on;

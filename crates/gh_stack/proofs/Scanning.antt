@@ -1,7 +1,6 @@
 -- The scan of a stack, register by register.
 use Rattle.std.proofs.Common.{◌≡◌, ℕ, zero, suc, ◌+◌, ◌<◌, false, List, [], ◌∷◌, length, drop, Some, refl, sym, ap, subst, ◌∙◌, arith}
 use Rattle.std.specs.Prelude.{slice_index}
-use Rattle.gh_base.specs.declared.layout.Layout.{Layout}
 use Rattle.gh_base.specs.declared.value.Value.{Value}
 use Rattle.gh_base.specs.declared.value.Value.TheVariants as value
 use Rattle.gh_stack.specs.declared.scan_stack.StackStage.{StackStage}
@@ -17,9 +16,9 @@ drop_next (suc i) (x ∷ xs) v vs e =
     let is : suc i + 1 ≡ suc (i + 1) = omega arith in
     ap (λ (n : ℕ). drop n (x ∷ xs)) is ∙ drop_next i xs v vs e
 
-module _ (l : Layout) (goroutine cycle : ℕ) (registers : List Value) where
+module _ (goroutine cycle : ℕ) (registers : List Value) where
   abbrev at : StackStage → StackScan
-  at stage = record { layout = l; goroutine = goroutine; cycle = cycle; registers = registers; stage = stage }
+  at stage = record { goroutine = goroutine; cycle = cycle; registers = registers; stage = stage }
 
   -- from this stage on these references are wished
   record Wishes (stage : StackStage) (refs : List ℕ) : Type 0 where
@@ -44,7 +43,7 @@ module _ (l : Layout) (goroutine cycle : ℕ) (registers : List Value) where
           waits zero lt = refl
           waits (suc n) lt = rest.waits n (omega arith)
 
-  pub scans : ScansStack l goroutine cycle registers
+  pub scans : ScansStack goroutine cycle registers
   scans =
       let all : Wishes (first_reference 0 registers) (references registers) = from_here registers 0 refl in
       record {

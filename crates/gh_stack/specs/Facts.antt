@@ -58,7 +58,7 @@ pub record IsWish (s : Shared) (reference : ℕ) : Type 0 where
   pub known : s.since (reference - 1) ≡ true
 
 pub record StacksAreScannedByMoves : Type 0 where
-  pub begins : (z : Cycle) (a : ℕ) (s : Shared) (g : ℕ) (registers : List Value) → Begins z a s g → AreRegisters (s.registers g) registers → Facts z a s (opening z.arena.layout g z.number registers)
+  pub begins : (z : Cycle) (a : ℕ) (s : Shared) (g : ℕ) (registers : List Value) → Begins z a s g → AreRegisters (s.registers g) registers → Facts z a s (opening g z.number registers)
   pub wishes : (z : Cycle) (a : ℕ) (s : Shared) (m : StackScan) (reference : ℕ) → Good z s → Facts z a s m → wish_of m.stage ≡ Some reference → IsWish s reference
   -- once that is marked it goes on
   pub told : (z : Cycle) (a : ℕ) (s : Shared) (m : StackScan) (reference : ℕ) → Facts z a s m → wish_of m.stage ≡ Some reference → IsMarked (mark_words s.words) (reference - 1) → Facts z a s (told_shaded m)

@@ -1,6 +1,4 @@
-pub mod Blind
 pub mod Facts
 pub mod Listing
 pub mod Scans
 pub mod Sound
-pub mod Stays

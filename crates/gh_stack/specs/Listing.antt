@@ -6,18 +6,17 @@ use Rattle.gh_base.specs.declared.cell.Ask.TheVariants as ask
 use Rattle.gh_base.specs.declared.layout.Layout.{Layout}
 use Rattle.gh_base.specs.declared.value.Value.{Value}
 use Rattle.gh_base.specs.declared.value.Value.TheVariants as value
-use Rattle.gh_base.specs.Given.{listing_of}
-use Rattle.gh_base.specs.Routines.{Listing}
+use Rattle.gh_base.specs.Footprints.{Footprint}
+use Rattle.gh_base.specs.Footprints as row
+use Rattle.gh_base.specs.Machines.{Listing}
+use Rattle.gh_stack.specs.Sound.{SoundStackScan}
+use Rattle.gh_stack.specs.declared.scan_stack.ScanStack.{ScanStack}
 use Rattle.gh_stack.specs.declared.scan_stack.StackStage.{StackStage}
 use Rattle.gh_stack.specs.declared.scan_stack.StackStage.TheVariants.{Shade, Store, Ended}
 
 -- the scan of a goroutine's stack in a cycle: the registers, and its stage
-pub record StackScan : Type 0 where
-  pub layout : Layout
-  pub goroutine : ℕ
-  pub cycle : ℕ
-  pub registers : List Value
-  pub stage : StackStage
+abbrev pub StackScan : Type 0
+StackScan = ScanStack
 
 -- the first of these registers, numbered from here on, that holds a reference; where none does, the store
 abbrev pub first_reference : (register : ℕ) → List Value → StackStage
@@ -30,8 +29,8 @@ first_reference register (value.Int n ∷ values) = first_reference (register + 
 abbrev pub shade_stage_from : List Value → (register : ℕ) → StackStage
 shade_stage_from registers register = first_reference register (drop register registers)
 
-abbrev pub opening : Layout → (goroutine cycle : ℕ) → List Value → StackScan
-opening l goroutine cycle registers = record { layout = l; goroutine = goroutine; cycle = cycle; registers = registers; stage = shade_stage_from registers 0 }
+abbrev pub opening : (goroutine cycle : ℕ) → List Value → StackScan
+opening goroutine cycle registers = record { goroutine = goroutine; cycle = cycle; registers = registers; stage = shade_stage_from registers 0 }
 
 abbrev pub at_stage : StackScan → StackStage → StackScan
 at_stage s stage = record s { stage = stage }
@@ -82,5 +81,10 @@ given s = given_at s.stage
 abbrev pub gives : StackScan → ℕ → Option (Unit {0})
 gives s found = given (goes s found)
 
-abbrev pub listing : Listing StackScan (Unit {0})
-listing = listing_of (λ s. s.layout) asks goes given
+-- it says in which cycle the stack was scanned
+abbrev pub writes : Footprint
+writes row.Scanned = true
+writes _ = false
+
+abbrev pub listing : Layout → Listing StackScan (Unit {0})
+listing l = record { asks = asks; goes = goes; given = given; sound = SoundStackScan l; writes = writes }

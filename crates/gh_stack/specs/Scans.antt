@@ -2,7 +2,6 @@
 use Rattle.std.specs.Prelude.{◌≡◌, ℕ, zero, suc, ◌<◌, true, false, List, [], ◌∷◌, length, slice_index, Some, None}
 use Rattle.gh_base.specs.declared.cell.Cell.TheVariants.{Scanned}
 use Rattle.gh_base.specs.declared.cell.Ask.TheVariants.{Store}
-use Rattle.gh_base.specs.declared.layout.Layout.{Layout}
 use Rattle.gh_base.specs.declared.value.Value.{Value}
 use Rattle.gh_base.specs.declared.value.Value.TheVariants as value
 use Rattle.gh_stack.specs.Listing.{asks, gives, goes, is_busy, opening, StackScan, told_shaded, wish_of}
@@ -19,9 +18,9 @@ abbrev pub shaded_times : StackScan → ℕ → StackScan
 shaded_times s zero = s
 shaded_times s (suc n) = shaded_times (told_shaded s) n
 
-module _ (l : Layout) (goroutine cycle : ℕ) (registers : List Value) where
+module _ (goroutine cycle : ℕ) (registers : List Value) where
   abbrev from : StackScan
-  from = opening l goroutine cycle registers
+  from = opening goroutine cycle registers
 
   pub record ScansStack : Type 0 where
     -- its wishes are the references of the registers, one after the other; it asks for no step meanwhile
@@ -35,4 +34,4 @@ module _ (l : Layout) (goroutine cycle : ℕ) (registers : List Value) where
     pub over : (found : ℕ) → is_busy (goes (shaded_times from (length (references registers))) found).stage ≡ false
 
 abbrev pub StacksAreScanned : Type 0
-StacksAreScanned = (l : Layout) (goroutine cycle : ℕ) (registers : List Value) → ScansStack l goroutine cycle registers
+StacksAreScanned = (goroutine cycle : ℕ) (registers : List Value) → ScansStack goroutine cycle registers

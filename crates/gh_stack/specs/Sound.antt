@@ -1,16 +1,17 @@
 -- What the scan of a stack knows of its own numbers, whatever it is told.
 use Rattle.std.specs.Prelude.{◌≡◌, ◌<◌, length}
+use Rattle.gh_base.specs.declared.layout.Layout.{Layout}
 use Rattle.gh_base.specs.declared.limits.TheConstants.{REGISTERS}
+use Rattle.gh_stack.specs.declared.scan_stack.ScanStack.{ScanStack}
 use Rattle.gh_stack.specs.declared.scan_stack.StackStage.{StackStage}
 use Rattle.gh_stack.specs.declared.scan_stack.StackStage.TheVariants.{Shade}
-use Rattle.gh_stack.specs.Listing.{StackScan}
 
 -- the register is one of the goroutine's
 abbrev pub SoundStage : StackStage → Type 0
 SoundStage (Shade register reference) = register < REGISTERS
 SoundStage _ = Unit {0}
 
-pub record SoundStackScan (s : StackScan) : Type 0 where
-  pub goroutine : s.goroutine < s.layout.goroutines
+pub record SoundStackScan (l : Layout) (s : ScanStack) : Type 0 where
+  pub goroutine : s.goroutine < l.goroutines
   pub registers : length s.registers ≡ REGISTERS
   pub stage : SoundStage s.stage

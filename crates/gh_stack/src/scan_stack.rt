@@ -1,14 +1,11 @@
 //! The routine that scans a stack.
 
-ghost use Rattle.std.specs.Prelude.{◌≡◌, ◌<◌, ◌↔◌, IsTrue, length, true};
-ghost use Rattle.gh_base.specs.Cells.{InRange};
-ghost use Rattle.gh_base.specs.Steps.{cell_of};
+ghost use Rattle.std.specs.Prelude.{◌≡◌, ◌↔◌, IsTrue, length, true};
 ghost use Rattle.gh_stack.specs.Sound.{SoundStage};
-ghost use Rattle.gh_stack.specs.Listing.{asks, given, is_busy, is_waiting, opening, shade_stage_from, told_shaded, wish_of};
+ghost use Rattle.gh_stack.specs.Listing.{given, is_busy, is_waiting, opening, shade_stage_from, told_shaded, wish_of};
 
 use gh_base::limits::REGISTERS;
-use gh_base::{Ask, Cell, Layout, Machine, Req, Value};
-use std::marker::Model;
+use gh_base::{Ask, Cell, Layout, Req, Routine, Value};
 
 /// The registers of a goroutine.
 pub const REGISTER_COUNT: usize = REGISTERS as usize;
@@ -36,24 +33,14 @@ pub enum StackStage {
 /// its only step.
 #[derive(Clone, Copy, Debug, PartialEq, Eq)]
 pub struct ScanStack {
-    layout: Layout,
-    goroutine: u32,
-    cycle: u64,
-    registers: [Value; REGISTER_COUNT],
-    stage: StackStage,
-}
-
-impl Model for ScanStack {
-    ghost use Rattle.gh_stack.specs.Listing.{StackScan};
-    ghost use Rattle.gh_stack.specs.Sound.{SoundStackScan};
-
-    ghost Value = { StackScan };
-
-    ghost view = { λ s. record { layout = s.layout; goroutine = s.goroutine; cycle = s.cycle; registers = s.registers; stage = s.stage } };
-
-    ghost invariant = { λ s. SoundStackScan (record { layout = s.layout; goroutine = s.goroutine; cycle = s.cycle; registers = s.registers; stage = s.stage }) };
-
-    ghost inverse = { λ s. record { layout = s.layout; goroutine = s.goroutine; cycle = s.cycle; registers = s.registers; stage = s.stage } };
+    /// The goroutine.
+    pub goroutine: u32,
+    /// The cycle.
+    pub cycle: u64,
+    /// The goroutine's registers.
+    pub registers: [Value; REGISTER_COUNT],
+    /// Its stage.
+    pub stage: StackStage,
 }
 
 /// What follows from this register on: the first that holds a reference, or the store.
@@ -75,17 +62,12 @@ fn stage_from(registers: &[Value], from: u32) -> StackStage
 
 impl ScanStack {
     /// Scans the stack of this goroutine in this cycle; its registers are these.
-    pub fn new(
-        layout: &Layout,
-        goroutine: u32,
-        cycle: u64,
-        registers: [Value; REGISTER_COUNT],
-    ) -> ScanStack
-        requires { goroutine < layout.now.goroutines }
-        ensures { result ≡ opening layout.now goroutine cycle registers }
+    pub fn new(goroutine: u32, cycle: u64, registers: [Value; REGISTER_COUNT]) -> ScanStack
+        ensures opening { result ≡ opening goroutine cycle registers }
+        ensures whole { length result.registers ≡ REGISTERS }
+        ensures fits { SoundStage result.stage }
     {
         ScanStack {
-            layout: *layout,
             goroutine,
             cycle,
             registers,
@@ -119,22 +101,13 @@ impl ScanStack {
 
     /// Goes on where that is shaded.
     pub fn told_shaded(&mut self)
-        requires { is_waiting self.old.stage ≡ true }
-        ensures { self.new ≡ told_shaded self.old }
+        requires waits { is_waiting self.old.stage ≡ true }
+        requires fits { SoundStage self.old.stage }
+        ensures goes { self.new ≡ told_shaded self.old }
+        ensures fits { SoundStage self.new.stage }
     {
         if let StackStage::Shade { register, .. } = self.stage {
             self.stage = stage_from(&self.registers, register + 1);
-        }
-    }
-
-    /// The step that it asks for.
-    fn ask(&self) -> Ask
-        ensures asks { result ≡ asks self.now }
-        ensures within { InRange self.now.layout (cell_of result) }
-    {
-        match self.stage {
-            StackStage::Store => Ask::Store(Cell::Scanned(self.goroutine), self.cycle),
-            StackStage::Shade { .. } | StackStage::Ended => Ask::Load(Cell::Touch),
         }
     }
 
@@ -149,35 +122,26 @@ impl ScanStack {
     }
 }
 
-impl Machine for ScanStack {
-    ghost use Rattle.gh_base.specs.Given.{is_over};
+impl Routine for ScanStack {
     ghost use Rattle.gh_stack.specs.Listing.{listing};
-    ghost use Rattle.gh_stack.specs.Stays.{stays};
 
     type Out = ();
 
-    ghost layout = { listing.layout };
+    ghost listing = { listing };
 
-    ghost busy = { listing.busy };
-
-    ghost asks = { listing.asks };
-
-    ghost goes = { listing.goes };
-
-    ghost gives = { listing.gives };
-
-    fn next(&self) -> Req {
-        self.layout.request(self.ask())
+    fn next(&self, layout: &Layout) -> Req {
+        match self.stage {
+            StackStage::Store => {
+                layout.request(Ask::Store(Cell::Scanned(self.goroutine), self.cycle))
+            }
+            StackStage::Shade { .. } | StackStage::Ended => layout.request(Ask::Load(Cell::Touch)),
+        }
     }
 
-    fn take(&mut self, _found: u64) -> Option<()> {
+    fn take(&mut self, _layout: &Layout, _found: u64) -> Option<()> {
         if let StackStage::Store = self.stage {
             self.stage = StackStage::Ended;
         }
         self.given()
     }
-
-    ghost ends = { λ m found busy. is_over (listing.gives m found) };
-
-    ghost stays = { stays };
 }

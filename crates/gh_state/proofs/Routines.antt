@@ -42,10 +42,13 @@ module _ (z : Arena) (a : ℕ) (was : Shared) where
 
   module _ (k : SweepsAmongOthers) (leave : SweepsLeave) (g : Good z s) (seat : a < seats_of z.layout) (m : Sweeping) (fine : SweepFacts s.end a raw m) (busy : is_busy m.stage ≡ true) where
     abbrev found : ℕ
-    found = s.heap.words (cell_of (asks m))
+    found = s.heap.words (cell_of (asks z.layout m))
 
-    lands : sweep.Lands s.end a raw (move_of m found) (effect s.heap.words (asks m)) (λ t. SweepFacts s.end a t (goes m found))
-    lands = k.own s.end a raw m g.ended (raw_good g) (subst (λ (x : Layout). a < seats_of x) (sym g.layout) seat) fine busy
+    abbrev LandsIn : Layout → Type 0
+    LandsIn l = let f = s.heap.words (cell_of (asks l m)) in sweep.Lands s.end a raw (move_of m f) (effect s.heap.words (asks l m)) (λ t. SweepFacts s.end a t (goes m f))
+
+    lands : LandsIn z.layout
+    lands = subst LandsIn g.layout (k.own s.end a raw m g.ended (raw_good g) (subst (λ (x : Layout). a < seats_of x) (sym g.layout) seat) fine busy)
 
     allowed : May z a s (Sweep (move_of m found))
     allowed = grind (arith, lands, may_here, moves_so)
@@ -83,12 +86,12 @@ sweeps k leave = record {
   last = last_here k;
   rests = λ a s m r busy. k.rests s.end a (sweep_over s s.heap.words) m r.fine busy;
 } where
-  opens_here : (z : Arena) (a : ℕ) (s : Shared) (p : ℕ) (h : SpanHead) → Good z s → s.told ≡ None → SeatSweepsNothing a s → page_of (s.heap.words (cell.Page p)) ≡ Head h → h.number + 2 ≡ generation_of s.end → SweepFacts s.end a (sweep_over s s.heap.words) (opening s.end.layout p h)
+  opens_here : (z : Arena) (a : ℕ) (s : Shared) (p : ℕ) (h : SpanHead) → Good z s → s.told ≡ None → SeatSweepsNothing a s → page_of (s.heap.words (cell.Page p)) ≡ Head h → h.number + 2 ≡ generation_of s.end → SweepFacts s.end a (sweep_over s s.heap.words) (opening p h)
   opens_here z a s p h g quiet rests head number =
-      subst (λ (b : Option Told). Good z (record s { told = b }) → SweepFacts s.end a (sweep_over s s.heap.words) (opening s.end.layout p h)) (sym quiet)
+      subst (λ (b : Option Told). Good z (record s { told = b }) → SweepFacts s.end a (sweep_over s s.heap.words) (opening p h)) (sym quiet)
       (λ good. k.opens s.end a (sweep_over s s.heap.words) p h good.ended (raw_good z a s good) rests head number) g
 
-  own_at : (z : Arena) (a : ℕ) (s : Shared) (m : Sweeping) → Good z s → a < seats_of z.layout → SweepRuns a s m → is_busy m.stage ≡ true → GoesOn z a s m (s.heap.words (cell_of (asks m)))
+  own_at : (z : Arena) (a : ℕ) (s : Shared) (m : Sweeping) → Good z s → a < seats_of z.layout → SweepRuns a s m → is_busy m.stage ≡ true → GoesOn z a s m (s.heap.words (cell_of (asks z.layout m)))
   own_at z a s m g seat r busy =
-      subst (λ (b : Option Told). Good z (record s { told = b }) → GoesOn z a (record s { told = b }) m (s.heap.words (cell_of (asks m)))) (sym r.quiet)
+      subst (λ (b : Option Told). Good z (record s { told = b }) → GoesOn z a (record s { told = b }) m (s.heap.words (cell_of (asks z.layout m)))) (sym r.quiet)
       (λ good. own_here z a s k leave good seat m r.fine busy) g

@@ -45,15 +45,15 @@ SeatSweepsNothing a s = IsAtRest a (sweep_over s s.heap.words)
 -- what a step of a sweep comes to, where it finds this: it is a move of the sweep, which the seat may make, and leads on
 pub record GoesOn (z : Arena) (a : ℕ) (s : Shared) (m : Sweeping) (found : ℕ) : Type 0 where
   pub may : May z a s (Sweep (move_of m found))
-  pub words_are : (moved z a s (Sweep (move_of m found))).heap.words ≡ effect s.heap.words (asks m)
+  pub words_are : (moved z a s (Sweep (move_of m found))).heap.words ≡ effect s.heap.words (asks z.layout m)
   pub runs : SweepRuns a (moved z a s (Sweep (move_of m found))) (goes m found)
   pub keeps : SweepKeeps s (moved z a s (Sweep (move_of m found)))
 
 pub record SweepsByTheState : Type 0 where
   -- it may be begun, by whomever, where the page's word is found to be the head of an unswept span
-  pub opens : (z : Arena) (a : ℕ) (s : Shared) (p : ℕ) (h : SpanHead) → Good z s → s.told ≡ None → SeatSweepsNothing a s → page_of (s.heap.words (cell.Page p)) ≡ Head h → h.number + 2 ≡ generation_of s.end → SweepRuns a s (opening s.end.layout p h)
+  pub opens : (z : Arena) (a : ℕ) (s : Shared) (p : ℕ) (h : SpanHead) → Good z s → s.told ≡ None → SeatSweepsNothing a s → page_of (s.heap.words (cell.Page p)) ≡ Head h → h.number + 2 ≡ generation_of s.end → SweepRuns a s (opening p h)
   -- each of its steps is a move, and leads on
-  pub own : (z : Arena) (a : ℕ) (s : Shared) (m : Sweeping) → Good z s → a < seats_of z.layout → SweepRuns a s m → is_busy m.stage ≡ true → GoesOn z a s m (s.heap.words (cell_of (asks m)))
+  pub own : (z : Arena) (a : ℕ) (s : Shared) (m : Sweeping) → Good z s → a < seats_of z.layout → SweepRuns a s m → is_busy m.stage ≡ true → GoesOn z a s m (s.heap.words (cell_of (asks z.layout m)))
   -- and what is known lasts
   pub last : (z : Arena) (a : ℕ) (s t : Shared) (m : Sweeping) → Others z a s t → SweepRuns a s m → SweepRuns a t m
   pub rests : (a : ℕ) (s : Shared) (m : Sweeping) → SweepRuns a s m → is_busy m.stage ≡ false → SeatSweepsNothing a s

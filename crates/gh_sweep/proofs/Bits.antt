@@ -1,5 +1,5 @@
 -- Sums, and the count of a word's set bits as the sum of its bits.
-use Rattle.std.proofs.Common.{ap, ◌-◌, ◌≡◌, ℕ, suc, zero, ◌+◌, ◌/◌, ◌%◌, ◌^◌, ◌<◌, arith, refl, sym, ◌∙◌, eqb}
+use Rattle.std.proofs.Common.{ap, ◌-◌, ◌≡◌, ℕ, suc, zero, ◌+◌, ◌/◌, ◌%◌, ◌^◌, ◌<◌, ◌≤◌, arith, refl, sym, ◌∙◌, eqb}
 use Rattle.std.specs.Prelude.{bit_and, count_ones, min, ◌&&◌, not}
 use Rattle.std.specs.Int.{bit_at, w64}
 use Rattle.std.specs.Int.Count.{ones_step}
@@ -82,3 +82,11 @@ kept_or_freed a m l s =
     let two = sum_of_two (λ j. bit (eqb (bit_at a j) 1 && eqb (bit_at m j) 1)) (λ j. bit (eqb (bit_at a j) 1 && not (eqb (bit_at m j) 1))) 64 in
     let all = sum_same (λ j. bit (eqb (bit_at a j) 1 && eqb (bit_at m j) 1) + bit (eqb (bit_at a j) 1 && not (eqb (bit_at m j) 1))) (λ j. bit_at a j) 64 (λ j lt. one_of_both (bit_at a j) (bit_at m j) (bit_at-lt a j) (bit_at-lt m j)) in
     ap (λ (n : ℕ). n + freed_in a m) k ∙ ap (λ (n : ℕ). sum_below (λ j. bit (eqb (bit_at a j) 1 && eqb (bit_at m j) 1)) 64 + n) f ∙ two ∙ all ∙ sym (set_bits a l)
+
+-- no more of a word's bits are counted than it has
+few_bits : (word n : ℕ) → sum_below (λ j. bit_at word j) n ≤ n
+few_bits word zero = omega (arith, sum_none (λ j. bit_at word j))
+few_bits word (suc n) = omega (arith, few_bits word n, sum_more (λ j. bit_at word j) n, bit_at-lt word n)
+
+pub few_ones : (a b : ℕ) → a < 2 ^ 64 → count_ones (bit_and a b) ≤ 64
+few_ones a b fits = omega (arith, set_bits (bit_and a b) (omega (arith, fits, and_le_l a b)), few_bits (bit_and a b) 64)

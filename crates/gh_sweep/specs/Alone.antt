@@ -6,7 +6,9 @@ use Rattle.gh_base.specs.declared.layout.Layout.{Layout}
 use Rattle.gh_base.specs.declared.pack.SpanHead.{SpanHead}
 use Rattle.gh_base.specs.Cells.{Words}
 use Rattle.gh_base.specs.Packing.{head_word}
-use Rattle.gh_base.specs.Routines.{Alone, alone, Leaves}
+use Rattle.gh_base.specs.Machines.{steps_of}
+use Rattle.gh_base.specs.Routines.{Alone, Leaves}
+use Rattle.gh_base.specs.Routines as routine
 use Rattle.gh_base.specs.Rows.{alloc_bit, alloc_words, mark_bit, mark_words}
 use Rattle.gh_base.specs.Steps.{cell_of}
 use Rattle.gh_sweep.specs.declared.sweep.SweepEnd.TheVariants.{Swept}
@@ -44,17 +46,21 @@ module _ (l : Layout) (page : ℕ) (head : SpanHead) (before : Words) where
     pub others : (c : Cell) → IsOther c → after c ≡ before c
 
   abbrev pub from : Alone Sweeping
-  from = record { routine = opening l page head; words = before }
+  from = record { routine = opening page head; words = before }
+
+  -- what it is, and the words are, after n steps
+  abbrev pub alone : ℕ → Alone Sweeping
+  alone = routine.alone (steps_of l (listing l)) from
 
   -- what its step n finds
   abbrev pub found_alone : ℕ → ℕ
-  found_alone n = (alone listing from n).words (cell_of (asks (alone listing from n).routine))
+  found_alone n = (alone n).words (cell_of (asks l (alone n).routine))
 
   -- it leaves the span swept, and its last step gives the numbers of the objects kept and freed
   pub record SweepsSpan : Type 0 where
-    pub leaves : Leaves listing from IsSwept
+    pub leaves : Leaves (steps_of l (listing l)) from IsSwept
     pub steps : leaves.steps ≡ steps_on_bits head + 4
-    pub gives_counts : gives (alone listing from (steps_on_bits head + 3)).routine (found_alone (steps_on_bits head + 3)) ≡ Some (Swept (span_of head objects_kept objects_freed))
+    pub gives_counts : gives (alone (steps_on_bits head + 3)).routine (found_alone (steps_on_bits head + 3)) ≡ Some (Swept (span_of head objects_kept objects_freed))
 
 abbrev pub SpansAreSwept : Type 0
 SpansAreSwept = (l : Layout) (page : ℕ) (head : SpanHead) (before : Words) → IsInArena l page head → ((c : Cell) → before c < 2 ^ 64) → before (cell.Page page) ≡ head_word head → SweepsSpan l page head before

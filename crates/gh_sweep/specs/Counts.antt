@@ -5,6 +5,7 @@ use Rattle.gh_base.specs.declared.cell.Ask.TheVariants.{Add, And}
 use Rattle.gh_base.specs.declared.layout.Layout.{Layout}
 use Rattle.gh_base.specs.declared.pack.SpanHead.{SpanHead}
 use Rattle.gh_base.specs.Packing.{bit}
+use Rattle.gh_base.specs.Machines.{steps_of}
 use Rattle.gh_base.specs.Routines.{EndsWith}
 use Rattle.gh_base.specs.Rows.{Row, row_bit}
 use Rattle.gh_sweep.specs.declared.sweep.SweepEnd.TheVariants.{Swept}
@@ -52,11 +53,11 @@ module _ (alloc mark : Row) (l : Layout) (page : ℕ) (head : SpanHead) (found :
   pub record SweepsRows : Type 0 where
     pub kept_are : kept_told found (bit_words head) ≡ marked
     pub freed_are : freed_told found (bit_words head) ≡ unmarked
-    pub clears_bits : (i : ℕ) → i < bit_words head → asks (after l page head found (2 + 3 * i)) ≡ And (cell.Alloc (16 * page + i)) (mark (16 * page + i))
-    pub adds_tally : asks (after l page head found (steps_on_bits head)) ≡ Add cell.Tally (marked + 2 ^ 32 * unmarked)
-    pub adds_live : asks (after l page head found (steps_on_bits head + 1)) ≡ Add cell.Live (marked * slot_bytes head)
-    pub adds_heap : asks (after l page head found (steps_on_bits head + 2)) ≡ Add cell.Heap (negative (unmarked * slot_bytes head))
-    pub gives_counts : EndsWith listing (opening l page head) found (steps_on_bits head + 3) (Swept (span_of head marked unmarked))
+    pub clears_bits : (i : ℕ) → i < bit_words head → asks l (after l page head found (2 + 3 * i)) ≡ And (cell.Alloc (16 * page + i)) (mark (16 * page + i))
+    pub adds_tally : asks l (after l page head found (steps_on_bits head)) ≡ Add cell.Tally (marked + 2 ^ 32 * unmarked)
+    pub adds_live : asks l (after l page head found (steps_on_bits head + 1)) ≡ Add cell.Live (marked * slot_bytes head)
+    pub adds_heap : asks l (after l page head found (steps_on_bits head + 2)) ≡ Add cell.Heap (negative (unmarked * slot_bytes head))
+    pub gives_counts : EndsWith (steps_of l (listing l)) (opening page head) found (steps_on_bits head + 3) (Swept (span_of head marked unmarked))
 
 abbrev pub ObjectsAreCounted : Type 0
 ObjectsAreCounted = (alloc mark : Row) (l : Layout) (page : ℕ) (head : SpanHead) (found : ℕ → ℕ) → IsInArena l page head → AreWords alloc → AreWords mark → IsBegun l page head found → AreTold alloc mark l page head found → SweepsRows alloc mark l page head found

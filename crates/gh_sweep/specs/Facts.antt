@@ -2,6 +2,7 @@
 use Rattle.std.specs.Prelude.{◌≡◌, ◌≢◌, ℕ, ◌+◌, ◌*◌, ◌<◌, ◌≤◌, ◌⊎◌, true, nat_lt, Some, bit_and, count_ones}
 use Rattle.std.specs.Int.{bit_at}
 use Rattle.gh_base.specs.declared.cell.Cell.TheVariants.{Alloc, Mark, Page}
+use Rattle.gh_base.specs.declared.layout.Layout.{Layout}
 use Rattle.gh_base.specs.declared.pack.PageWord.TheVariants.{Head}
 use Rattle.gh_base.specs.declared.pack.SpanHead.{SpanHead}
 use Rattle.gh_base.specs.Cells.{Words}
@@ -85,17 +86,17 @@ abbrev pub Facts : Sweeping → Words → Type 0
 Facts s words = FactsAt s words s.stage
 
 -- the span lies in the arena, its head fits its word, and the stage is one of the span
-pub record IsPlaced (s : Sweeping) : Type 0 where
-  pub arena : IsInArena s.layout s.page s.head
+pub record IsPlaced (l : Layout) (s : Sweeping) : Type 0 where
+  pub arena : IsInArena l s.page s.head
   pub head : FitsSweep s.head
   pub stage : IsStage s.head s.stage
 
-module _ (s : Sweeping) (words : Words) where
+module _ (l : Layout) (s : Sweeping) (words : Words) where
   abbrev finds : ℕ
-  finds = words (cell_of (asks s))
+  finds = words (cell_of (asks l s))
 
   abbrev then : Words
-  then = effect words (asks s)
+  then = effect words (asks l s)
 
   -- its own step is allowed, and leads to the next stage's facts, or to its end
   pub record OwnStep : Type 0 where
@@ -136,8 +137,8 @@ pub record IsBehind (s t : Sweeping) : Type 0 where
 
 pub record SweepKeepsItsFacts : Type 0 where
   -- its own step is allowed and leads on
-  pub own : (s : Sweeping) (words : Words) → IsPlaced s → is_busy s.stage ≡ true → Facts s words → OwnStep s words
+  pub own : (l : Layout) (s : Sweeping) (words : Words) → IsPlaced l s → is_busy s.stage ≡ true → Facts s words → OwnStep l s words
   -- its facts last under what others do
-  pub last : (s : Sweeping) (before after : Words) → IsPlaced s → Others s before after → Facts s before → Facts s after
+  pub last : (l : Layout) (s : Sweeping) (before after : Words) → IsPlaced l s → Others s before after → Facts s before → Facts s after
   -- the steps of another sweep are of these: of another span, or of the same where one of the two has begun and the other has not
-  pub others : (s t : Sweeping) (words : Words) → IsPlaced s → IsPlaced t → SpansAreApart s t ⊎ IsBehind s t → Others t words (effect words (asks s))
+  pub others : (l : Layout) (s t : Sweeping) (words : Words) → IsPlaced l s → IsPlaced l t → SpansAreApart s t ⊎ IsBehind s t → Others t words (effect words (asks l s))

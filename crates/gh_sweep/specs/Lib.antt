@@ -1,7 +1,6 @@
 pub mod Alone
 pub mod AtEnd
 pub mod Bits
-pub mod Blind
 pub mod Counts
 pub mod Facts
 pub mod Joined
@@ -11,7 +10,6 @@ pub mod Running
 pub mod Shared
 pub mod Slots
 pub mod Sound
-pub mod Stays
 pub mod Steps
 pub mod Sweepers
 pub mod Vocabulary

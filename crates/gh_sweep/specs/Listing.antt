@@ -1,34 +1,33 @@
--- A span is swept: what is asked for at each stage, where that leads, and what is given.
-use Rattle.std.specs.Prelude.{ℕ, ◌+◌, ◌-◌, ◌*◌, ◌%◌, ◌^◌, Bool, nat_lt, ◌==◌, if◌then◌else◌, Option, Some, None, is_none}
+-- A span is swept: what is asked for at each stage, where that leads, what is given, and what is written.
+use Rattle.std.specs.Prelude.{ℕ, ◌+◌, ◌-◌, ◌*◌, ◌%◌, ◌^◌, Bool, true, false, nat_lt, ◌==◌, if◌then◌else◌, Option, Some, None, is_none}
 use Rattle.gh_base.specs.declared.cell.Cell.TheVariants as cell
 use Rattle.gh_base.specs.declared.cell.Ask.{Ask}
 use Rattle.gh_base.specs.declared.cell.Ask.TheVariants.{Load, Store, And, Add, Swap}
 use Rattle.gh_base.specs.declared.layout.Layout.{Layout}
 use Rattle.gh_base.specs.declared.pack.SpanHead.{SpanHead}
-use Rattle.gh_base.specs.Given.{listing_of}
+use Rattle.gh_base.specs.Footprints.{Footprint}
+use Rattle.gh_base.specs.Footprints as row
+use Rattle.gh_base.specs.Machines.{Listing}
 use Rattle.gh_base.specs.Packing.{head_word, tally_word}
-use Rattle.gh_base.specs.Routines.{Listing}
 use Rattle.gh_class.specs.declared.class.SizeClass.{SizeClass}
 use Rattle.gh_class.specs.declared.class.SizeClass.TheVariants.{Small, Large}
 use Rattle.gh_class.specs.Classes.{slot_of, slots_of}
+use Rattle.gh_sweep.specs.declared.sweep.Sweep.{Sweep}
 use Rattle.gh_sweep.specs.declared.sweep.SweepEnd.{SweepEnd}
 use Rattle.gh_sweep.specs.declared.sweep.SweepEnd.TheVariants.{Lost, Swept}
 use Rattle.gh_sweep.specs.declared.sweep.SweepStage.{SweepStage}
 use Rattle.gh_sweep.specs.declared.sweep.SweepStage.TheVariants.{Begin, LoadMarks, ClearBits, ClearMarks, AddTally, AddLive, AddHeap, Finish, Ended}
 use Rattle.gh_sweep.specs.declared.sweep.SweptSpan.{SweptSpan}
 use Rattle.gh_sweep.specs.Bits.{freed_in, kept_in}
+use Rattle.gh_sweep.specs.Sound.{Sound}
+pub use Rattle.gh_sweep.specs.Sound.{bit_words}
 
 -- the span's first page and what its head word was found to say, the bits kept and freed so far, and the routine's stage
-pub record Sweeping : Type 0 where
-  pub layout : Layout
-  pub page : ℕ
-  pub head : SpanHead
-  pub kept : ℕ
-  pub freed : ℕ
-  pub stage : SweepStage
+abbrev pub Sweeping : Type 0
+Sweeping = Sweep
 
-abbrev pub opening : Layout → ℕ → SpanHead → Sweeping
-opening l page head = record { layout = l; page = page; head = head; kept = 0; freed = 0; stage = Begin }
+abbrev pub opening : ℕ → SpanHead → Sweeping
+opening page head = record { page = page; head = head; kept = 0; freed = 0; stage = Begin }
 
 abbrev pub at_stage : Sweeping → SweepStage → Sweeping
 at_stage s stage = record s { stage = stage }
@@ -52,18 +51,14 @@ abbrev pub slots_in : SizeClass → ℕ
 slots_in (Small c) = slots_of c
 slots_in Large = 1
 
--- the span's words of alloc bits, and as many of mark bits
-abbrev pub bit_words : SpanHead → ℕ
-bit_words h = 16 * h.pages
-
 -- what is taken off the heap's bytes, as it is added
 abbrev pub negative : ℕ → ℕ
 negative bytes = (2 ^ 64 - bytes % 2 ^ 64) % 2 ^ 64
 
-module _ (s : Sweeping) where
+module _ (l : Layout) (s : Sweeping) where
   -- where word i of the span's bits lies in its row
   abbrev pub word_at : ℕ → ℕ
-  word_at i = (16 * s.page + i) % (16 * s.layout.pages)
+  word_at i = (16 * s.page + i) % (16 * l.pages)
 
   abbrev pub asks_at : SweepStage → Ask
   asks_at Begin = Swap (cell.Page s.page) (head_word s.head) (head_word (in_sweep s.head))
@@ -76,6 +71,7 @@ module _ (s : Sweeping) where
   asks_at Finish = Store (cell.Page s.page) (head_word (once_swept s.head))
   asks_at (Ended end) = Load cell.Touch
 
+module _ (s : Sweeping) where
   -- the next word of the span's bits, if there is one
   abbrev pub behind : ℕ → SweepStage
   behind i = if nat_lt (i + 1) (bit_words s.head) then LoadMarks (i + 1) else AddTally
@@ -114,8 +110,8 @@ abbrev pub is_busy : SweepStage → Bool
 is_busy stage = is_none (given_at stage)
 
 -- the step that it asks for, what it is after the step found this, and what it has given then
-abbrev pub asks : Sweeping → Ask
-asks s = asks_at s s.stage
+abbrev pub asks : Layout → Sweeping → Ask
+asks l s = asks_at l s s.stage
 
 abbrev pub goes : Sweeping → ℕ → Sweeping
 goes s found = goes_at s s.stage found
@@ -123,5 +119,14 @@ goes s found = goes_at s s.stage found
 abbrev pub gives : Sweeping → ℕ → Option SweepEnd
 gives s found = given (goes s found)
 
-abbrev pub listing : Listing Sweeping SweepEnd
-listing = listing_of (λ s. s.layout) asks goes given
+abbrev pub writes : Footprint
+writes row.Page = true
+writes row.Alloc = true
+writes row.Mark = true
+writes row.Tally = true
+writes row.Live = true
+writes row.Heap = true
+writes _ = false
+
+abbrev pub listing : Layout → Listing Sweeping SweepEnd
+listing l = record { asks = asks l; goes = goes; given = given; sound = Sound l; writes = writes }

@@ -1,10 +1,15 @@
 -- What the routine knows of its own numbers, whatever it is told.
 use Rattle.std.specs.Prelude.{ℕ, ◌+◌, ◌*◌, ◌^◌, ◌<◌, ◌≤◌}
+use Rattle.gh_base.specs.declared.layout.Layout.{Layout}
 use Rattle.gh_base.specs.declared.pack.SpanHead.{SpanHead}
 use Rattle.gh_base.specs.Packing.{FitsHead}
 use Rattle.gh_sweep.specs.declared.sweep.SweepStage.{SweepStage}
 use Rattle.gh_sweep.specs.declared.sweep.SweepStage.TheVariants.{Begin, LoadMarks, ClearBits, ClearMarks, AddTally, AddLive, AddHeap, Finish, Ended}
-use Rattle.gh_sweep.specs.Listing.{bit_words, Sweeping}
+use Rattle.gh_sweep.specs.declared.sweep.Sweep.{Sweep}
+
+-- the span's words of alloc bits, and as many of mark bits
+abbrev pub bit_words : SpanHead → ℕ
+bit_words h = 16 * h.pages
 
 -- a head that fits its word, and so do those of the next two sweep generations
 pub record FitsSweep (h : SpanHead) : Type 0 where
@@ -35,8 +40,8 @@ reached h AddHeap = bit_words h
 reached h Finish = bit_words h
 reached h (Ended end) = bit_words h
 
-pub record Sound (s : Sweeping) : Type 0 where
-  pub page : s.page < s.layout.pages
+pub record Sound (l : Layout) (s : Sweep) : Type 0 where
+  pub page : s.page < l.pages
   pub head : FitsSweep s.head
   pub kept : s.kept ≤ 64 * reached s.head s.stage
   pub freed : s.freed ≤ 64 * reached s.head s.stage

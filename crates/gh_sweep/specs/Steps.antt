@@ -5,7 +5,9 @@ use Rattle.gh_base.specs.declared.cell.Ask.TheVariants.{Load, Store, And, Add, S
 use Rattle.gh_base.specs.declared.layout.Layout.{Layout}
 use Rattle.gh_base.specs.declared.pack.SpanHead.{SpanHead}
 use Rattle.gh_base.specs.Packing.{head_word}
-use Rattle.gh_base.specs.Routines.{EndsWith, EndsWithin, GoesOn, told}
+use Rattle.gh_base.specs.Machines.{steps_of}
+use Rattle.gh_base.specs.Routines.{EndsWith, EndsWithin, told}
+use Rattle.gh_base.specs.Routines as routine
 use Rattle.gh_sweep.specs.declared.sweep.SweepEnd.{SweepEnd}
 use Rattle.gh_sweep.specs.declared.sweep.SweepEnd.TheVariants.{Lost, Swept}
 use Rattle.gh_sweep.specs.declared.sweep.SweptSpan.{SweptSpan}
@@ -42,7 +44,7 @@ steps_on_bits head = 1 + 3 * bit_words head
 
 module _ (l : Layout) (page : ℕ) (head : SpanHead) (found : ℕ → ℕ) where
   abbrev pub after : ℕ → Sweeping
-  after n = told listing (opening l page head) found n
+  after n = told (steps_of l (listing l)) (opening page head) found n
 
   -- the bits kept and freed in the whole span
   abbrev pub kept : ℕ
@@ -57,30 +59,33 @@ module _ (l : Layout) (page : ℕ) (head : SpanHead) (found : ℕ → ℕ) where
 
   -- the three steps for a word of the span's bits
   pub record StepsOnWord (i : ℕ) : Type 0 where
-    pub loads_marks : asks (after (1 + 3 * i)) ≡ Load (cell.Mark (16 * page + i))
-    pub clears_bits : asks (after (2 + 3 * i)) ≡ And (cell.Alloc (16 * page + i)) (marks_told found i)
-    pub clears_marks : asks (after (3 + 3 * i)) ≡ Store (cell.Mark (16 * page + i)) 0
+    pub loads_marks : asks l (after (1 + 3 * i)) ≡ Load (cell.Mark (16 * page + i))
+    pub clears_bits : asks l (after (2 + 3 * i)) ≡ And (cell.Alloc (16 * page + i)) (marks_told found i)
+    pub clears_marks : asks l (after (3 + 3 * i)) ≡ Store (cell.Mark (16 * page + i)) 0
 
   -- the last four steps
   pub record StepsOnCounts : Type 0 where
-    pub adds_tally : asks (after (steps_on_bits head)) ≡ Add cell.Tally (kept + 2 ^ 32 * freed)
-    pub adds_live : asks (after (steps_on_bits head + 1)) ≡ Add cell.Live (kept * slot_bytes head)
-    pub adds_heap : asks (after (steps_on_bits head + 2)) ≡ Add cell.Heap (negative (freed * slot_bytes head))
-    pub finishes : asks (after (steps_on_bits head + 3)) ≡ Store (cell.Page page) (head_word (once_swept head))
+    pub adds_tally : asks l (after (steps_on_bits head)) ≡ Add cell.Tally (kept + 2 ^ 32 * freed)
+    pub adds_live : asks l (after (steps_on_bits head + 1)) ≡ Add cell.Live (kept * slot_bytes head)
+    pub adds_heap : asks l (after (steps_on_bits head + 2)) ≡ Add cell.Heap (negative (freed * slot_bytes head))
+    pub finishes : asks l (after (steps_on_bits head + 3)) ≡ Store (cell.Page page) (head_word (once_swept head))
+
+  abbrev pub GoesOn : ℕ → Type 0
+  GoesOn = routine.GoesOn (steps_of l (listing l)) (opening page head) found
 
   -- step n is its last, and gives this
   abbrev pub EndsBy : ℕ → SweepEnd → Type 0
-  EndsBy n end = GoesOn listing (opening l page head) found n × EndsWith listing (opening l page head) found n end
+  EndsBy n end = GoesOn n × EndsWith (steps_of l (listing l)) (opening page head) found n end
 
   pub record SweepsAsTold : Type 0 where
-    pub begins : asks (after 0) ≡ Swap (cell.Page page) (head_word head) (head_word (in_sweep head))
+    pub begins : asks l (after 0) ≡ Swap (cell.Page page) (head_word head) (head_word (in_sweep head))
     -- it is lost exactly by its first step, and exactly where that found another word
     pub lost : (n : ℕ) → EndsBy n Lost ↔ ((n ≡ 0) × (found 0 ≢ head_word head))
     -- else it takes these steps, and no other
     pub on_words : IsBegun → (i : ℕ) → i < bit_words head → StepsOnWord i
     pub on_counts : IsBegun → StepsOnCounts
-    pub goes_on : (n : ℕ) → GoesOn listing (opening l page head) found n ↔ ((n ≡ 0) ⊎ (IsBegun × (n < steps_on_bits head + 4)))
-    pub ends : EndsWithin listing (steps_on_bits head + 4) (opening l page head) found
+    pub goes_on : (n : ℕ) → GoesOn n ↔ ((n ≡ 0) ⊎ (IsBegun × (n < steps_on_bits head + 4)))
+    pub ends : EndsWithin (steps_of l (listing l)) (steps_on_bits head + 4) (opening page head) found
     -- and ends with what it has counted
     pub swept : (n : ℕ) (span : SweptSpan) → EndsBy n (Swept span) ↔ (IsBegun × (n ≡ steps_on_bits head + 3) × (span ≡ span_of head kept freed))
 

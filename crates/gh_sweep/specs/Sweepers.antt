@@ -1,12 +1,12 @@
 -- A sweep among other actors: what its stage stands for, what it relies on, and that its steps are moves that it may make.
 use Rattle.std.specs.Prelude.{◌≡◌, ◌≢◌, ℕ, ◌+◌, ◌*◌, ◌<◌, ◌↔◌, Bool, true, false, if◌then◌else◌}
-use Rattle.gh_base.specs.declared.cell.Cell.TheVariants.{Page}
+use Rattle.gh_base.specs.declared.cell.Cell.TheVariants.{Page, Touch}
 use Rattle.gh_base.specs.declared.pack.PageWord.TheVariants.{Head}
 use Rattle.gh_base.specs.Cells.{seats_of}
 use Rattle.gh_base.specs.Packing.{page_of}
 use Rattle.gh_base.specs.Steps.{cell_of, effect}
 use Rattle.gh_sweep.specs.Facts.{Facts, IsPlaced}
-use Rattle.gh_sweep.specs.Listing.{asks, asks_at, goes, is_busy, opening, slot_bytes, Sweeping, wrote}
+use Rattle.gh_sweep.specs.Listing.{asks, goes, is_busy, opening, slot_bytes, Sweeping, wrote}
 use Rattle.gh_sweep.specs.Moves.{Clears, Cuts, Ends, Lands, Move, OthersLeave, Quiet, Starts, Sweeps, TellsHeap, TellsLive, TellsTally}
 use Rattle.gh_sweep.specs.Shared.{By, CycleEnd, Due, generation_of, Good, HasEnded, nothing_due, Shared, view}
 use Rattle.gh_sweep.specs.Sound.{reached}
@@ -53,14 +53,14 @@ owes m = owes_at m m.stage
 module _ (m : Sweeping) where
   abbrev pub move_at : SweepStage → (found : ℕ) → Move
   move_at Begin found = if wrote m found then Starts m.page m.head else Quiet (Load (Page m.page))
-  move_at (LoadMarks i) found = Quiet (asks_at m (LoadMarks i))
+  move_at (LoadMarks i) found = Quiet (Load Touch)
   move_at (ClearBits i marks) found = Cuts m.page m.head i
   move_at (ClearMarks i) found = Clears m.page m.head i
   move_at AddTally found = TellsTally
   move_at AddLive found = TellsLive
   move_at AddHeap found = TellsHeap
   move_at Finish found = Ends m.page m.head
-  move_at (Ended end) found = Quiet (asks_at m (Ended end))
+  move_at (Ended end) found = Quiet (Load Touch)
 
 abbrev pub move_of : Sweeping → (found : ℕ) → Move
 move_of m found = move_at m m.stage found
@@ -73,7 +73,7 @@ HasReached a s m stage = Sweeps a m.page m.head (reached m.head stage) (marks_cl
 
 -- What holds of the sweep that an actor runs: the spans that are the actor's are those of its stage, which says too what it has yet to tell.
 pub record SweepFacts (e : CycleEnd) (a : ℕ) (s : Shared) (m : Sweeping) : Type 0 where
-  pub placed : IsPlaced m
+  pub placed : IsPlaced e.layout m
   pub number : m.head.number + 2 ≡ generation_of e
   pub right : (p : ℕ) → (s.far p ≡ By a) ↔ IsOwn m p
   pub due : s.due a ≡ owes m
@@ -87,10 +87,10 @@ pub record IsAtRest (a : ℕ) (s : Shared) : Type 0 where
 
 pub record SweepsAmongOthers : Type 0 where
   -- a sweep may be begun where the page's word is found to have the head of an unswept span
-  pub opens : (e : CycleEnd) (a : ℕ) (s : Shared) (p : ℕ) (h : SpanHead) → HasEnded e → Good e (view s) → IsAtRest a s → page_of (s.words (Page p)) ≡ Head h → h.number + 2 ≡ generation_of e → SweepFacts e a s (opening e.layout p h)
+  pub opens : (e : CycleEnd) (a : ℕ) (s : Shared) (p : ℕ) (h : SpanHead) → HasEnded e → Good e (view s) → IsAtRest a s → page_of (s.words (Page p)) ≡ Head h → h.number + 2 ≡ generation_of e → SweepFacts e a s (opening p h)
   -- each of its steps is its move, which it may make, and the same holds of it then
   pub own : (e : CycleEnd) (a : ℕ) (s : Shared) (m : Sweeping) → HasEnded e → Good e (view s) → a < seats_of e.layout → SweepFacts e a s m → is_busy m.stage ≡ true →
-      Lands e a s (move_of m (s.words (cell_of (asks m)))) (effect s.words (asks m)) (λ t. SweepFacts e a t (goes m (s.words (cell_of (asks m)))))
+      Lands e a s (move_of m (s.words (cell_of (asks e.layout m)))) (effect s.words (asks e.layout m)) (λ t. SweepFacts e a t (goes m (s.words (cell_of (asks e.layout m)))))
   -- and that lasts under the moves of others
   pub last : (e : CycleEnd) (a : ℕ) (s t : Shared) (m : Sweeping) → OthersLeave e a s t → SweepFacts e a s m → SweepFacts e a t m
   -- once it has ended the actor is at rest

@@ -1,11 +1,14 @@
 //! Laws of the routine. The functions do nothing; what they ensure is proved.
 
+ghost use Rattle.gh_base.specs.declared.layout.Layout.{Layout};
+ghost use Rattle.gh_base.specs.Machines.{IsRoutine};
 ghost use Rattle.gh_sweep.specs.Alone.{SpansAreSwept};
 ghost use Rattle.gh_sweep.specs.AtEnd.{EndsWell, TheBitsAreObjects};
 ghost use Rattle.gh_sweep.specs.Bits.{SetBitsAreCounted};
 ghost use Rattle.gh_sweep.specs.Counts.{ObjectsAreCounted};
 ghost use Rattle.gh_sweep.specs.Facts.{SweepKeepsItsFacts};
 ghost use Rattle.gh_sweep.specs.Joined.{SpansFit};
+ghost use Rattle.gh_sweep.specs.Listing.{listing};
 ghost use Rattle.gh_sweep.specs.Moves.{DoneStays, EachMoveKeeps, EachMoveLeaves};
 ghost use Rattle.gh_sweep.specs.Slots.{ClearSlotsAreTold};
 ghost use Rattle.gh_sweep.specs.Steps.{SweepTakesItsSteps};
@@ -15,6 +18,12 @@ use gh_base::laws::{
     a_step_changes_one_cell, cells_are_told, packed_words_are_read_back, rows_are_written,
 };
 use gh_class::size_class_laws;
+
+/// It is a routine: the word of the span's bits is one that there is, each step is on a word that there is, and it writes
+/// page words, the span's bits and the counts alone.
+pub fn the_sweep_is_a_routine()
+    ensures { (l : Layout) → IsRoutine l (listing l) }
+{}
 
 /// The number of set bits of a word is the sum of its bits.
 pub fn set_bits_are_counted()

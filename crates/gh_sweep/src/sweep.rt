@@ -6,11 +6,10 @@ ghost use Rattle.gh_base.specs.Packing.{FitsHead, head_word};
 ghost use Rattle.gh_base.specs.Steps.{cell_of};
 ghost use Rattle.gh_sweep.specs.Bits.{freed_in, kept_in};
 ghost use Rattle.gh_sweep.specs.Listing.{asks, behind, bit_words, counted, given, goes, in_sweep, once_swept, opening, slot_bytes, slots_in, swept_span, word_at};
-ghost use Rattle.gh_sweep.specs.Sound.{FitsSweep};
+ghost use Rattle.gh_sweep.specs.Sound.{FitsSweep, Sound};
 
-use gh_base::{Ask, Cell, Layout, Machine, PageWord, Req, SpanHead, TallyWord};
+use gh_base::{Ask, Cell, Layout, PageWord, Req, Routine, SpanHead, TallyWord};
 use gh_class::SizeClass;
-use std::marker::Model;
 
 /// The stages of the routine. A word of the span's bits is numbered from the span's first, 16 a page.
 #[derive(Clone, Copy, Debug, PartialEq, Eq)]
@@ -64,25 +63,16 @@ pub enum SweepEnd {
 /// the head with the number of a swept span and no owner.
 #[derive(Clone, Copy, Debug, PartialEq, Eq)]
 pub struct Sweep {
-    layout: Layout,
-    page: u32,
-    head: SpanHead,
-    kept: u32,
-    freed: u32,
-    stage: SweepStage,
-}
-
-impl Model for Sweep {
-    ghost use Rattle.gh_sweep.specs.Listing.{Sweeping};
-    ghost use Rattle.gh_sweep.specs.Sound.{Sound};
-
-    ghost Value = { Sweeping };
-
-    ghost view = { λ s. record { layout = s.layout; page = s.page; head = s.head; kept = s.kept; freed = s.freed; stage = s.stage } };
-
-    ghost invariant = { λ s. Sound (record { layout = s.layout; page = s.page; head = s.head; kept = s.kept; freed = s.freed; stage = s.stage }) };
-
-    ghost inverse = { λ s. record { layout = s.layout; page = s.page; head = s.head; kept = s.kept; freed = s.freed; stage = s.stage } };
+    /// The span's first page.
+    pub page: u32,
+    /// What its head word was found to say.
+    pub head: SpanHead,
+    /// The objects kept so far.
+    pub kept: u32,
+    /// The objects freed so far.
+    pub freed: u32,
+    /// Its stage.
+    pub stage: SweepStage,
 }
 
 /// The bytes of a slot of the span.
@@ -109,13 +99,10 @@ fn slots_in(class: &SizeClass) -> u32
 
 impl Sweep {
     /// Sweeps the span whose first page this is, and whose head word was found to say this.
-    pub fn new(layout: &Layout, page: u32, head: SpanHead) -> Sweep
-        requires page { page < layout.now.pages }
-        requires head { FitsSweep head }
-        ensures { result ≡ opening layout.now page head }
+    pub fn new(page: u32, head: SpanHead) -> Sweep
+        ensures { result ≡ opening page head }
     {
         Sweep {
-            layout: *layout,
             page,
             head,
             kept: 0,
@@ -126,6 +113,7 @@ impl Sweep {
 
     /// The head word as it was found.
     fn found_word(&self) -> u64
+        requires { FitsSweep self.now.head }
         ensures { result ≡ head_word self.now.head }
     {
         PageWord::Head(self.head).pack()
@@ -133,6 +121,7 @@ impl Sweep {
 
     /// The head word while the span is swept.
     fn begun_word(&self) -> u64
+        requires { FitsSweep self.now.head }
         ensures { result ≡ head_word (in_sweep self.now.head) }
     {
         PageWord::Head(SpanHead {
@@ -144,6 +133,7 @@ impl Sweep {
 
     /// The head word of the swept span.
     fn swept_word(&self) -> u64
+        requires { FitsSweep self.now.head }
         ensures { result ≡ head_word (once_swept self.now.head) }
     {
         PageWord::Head(SpanHead {
@@ -155,27 +145,32 @@ impl Sweep {
     }
 
     /// Where word `i` of the span's bits lies in its row.
-    fn word_at(&self, i: u32) -> u32
-        requires { i < bit_words self.now.head }
-        ensures is { result ≡ word_at self.now i }
-        ensures within { result < 16 * self.now.layout.pages }
+    fn word_at(&self, layout: &Layout, i: u32) -> u32
+        requires sound { Sound layout.now self.now }
+        requires word { i < bit_words self.now.head }
+        ensures is { result ≡ word_at layout.now self.now i }
+        ensures within { result < 16 * layout.now.pages }
     {
-        (16 * self.page + i) % (16 * self.layout.pages)
+        (16 * self.page + i) % (16 * layout.pages)
     }
 
     /// The step that it asks for.
-    pub fn ask(&self) -> Ask
-        ensures asks { result ≡ asks self.now }
-        ensures within { InRange self.now.layout (cell_of result) }
+    pub fn ask(&self, layout: &Layout) -> Ask
+        requires { Sound layout.now self.now }
+        ensures asks { result ≡ asks layout.now self.now }
+        ensures within { InRange layout.now (cell_of result) }
     {
         match self.stage {
             SweepStage::Begin => {
                 let page = Cell::Page(self.page);
                 Ask::Swap(page, self.found_word(), self.begun_word())
             }
-            SweepStage::LoadMarks(i) => Ask::Load(Cell::Mark(self.word_at(i))),
-            SweepStage::ClearBits(i, marks) => Ask::And(Cell::Alloc(self.word_at(i)), marks),
-            SweepStage::ClearMarks(i) => Ask::Store(Cell::Mark(self.word_at(i)), 0),
+            SweepStage::LoadMarks(i) => Ask::Load(Cell::Mark(self.word_at(layout, i))),
+            SweepStage::ClearBits(i, marks) => {
+                let alloc = Cell::Alloc(self.word_at(layout, i));
+                Ask::And(alloc, marks)
+            }
+            SweepStage::ClearMarks(i) => Ask::Store(Cell::Mark(self.word_at(layout, i)), 0),
             SweepStage::AddTally => {
                 let tally = TallyWord {
                     marked: self.kept,
@@ -194,6 +189,7 @@ impl Sweep {
 
     /// The bytes of so many slots.
     fn bytes(&self, slots: u32) -> u64
+        requires { FitsSweep self.now.head }
         ensures is { result ≡ slots * slot_bytes self.now.head }
         ensures fits { result < 2 ^ 64 }
     {
@@ -213,7 +209,8 @@ impl Sweep {
 
     /// Its stage behind word `i` of the span's bits.
     fn behind(&self, i: u32) -> SweepStage
-        requires { i < bit_words self.now.head }
+        requires head { FitsSweep self.now.head }
+        requires word { i < bit_words self.now.head }
         ensures { result ≡ behind self.now i }
     {
         let words = 16 * self.head.pages;
@@ -236,37 +233,21 @@ impl Sweep {
 
     /// Counts the bits of an alloc word that are kept and freed.
     fn count(&mut self, i: u32, marks: u64, found: u64)
-        requires { self.old.stage ≡ SweepStage.ClearBits i marks }
+        requires word { i < 2 ^ 17 }
+        requires kept { self.old.kept ≤ 64 * i }
+        requires freed { self.old.freed ≤ 64 * i }
         ensures { self.new ≡ counted self.old i marks found }
     {
         self.kept += (found & marks).count_ones();
         self.freed += (found & !marks).count_ones();
         self.stage = SweepStage::ClearMarks(i);
     }
-}
 
-impl Machine for Sweep {
-    ghost use Rattle.gh_base.specs.Given.{is_over};
-    ghost use Rattle.gh_sweep.specs.Listing.{listing};
-    ghost use Rattle.gh_sweep.specs.Stays as proved;
-
-    type Out = SweepEnd;
-
-    ghost layout = { listing.layout };
-
-    ghost busy = { listing.busy };
-
-    ghost asks = { listing.asks };
-
-    ghost goes = { listing.goes };
-
-    ghost gives = { listing.gives };
-
-    fn next(&self) -> Req {
-        self.layout.request(self.ask())
-    }
-
-    fn take(&mut self, found: u64) -> Option<SweepEnd> {
+    /// Goes on by what its step found.
+    fn go(&mut self, layout: &Layout, found: u64)
+        requires { Sound layout.now self.old }
+        ensures { self.new ≡ goes self.old found }
+    {
         match self.stage {
             SweepStage::Begin => {
                 // Another word means that another has swapped the head first, and the span is its to sweep. So each object is kept or
@@ -291,10 +272,23 @@ impl Machine for Sweep {
             }
             SweepStage::Ended(_) => {}
         }
-        self.given()
+    }
+}
+
+impl Routine for Sweep {
+    ghost use Rattle.gh_sweep.specs.Listing.{listing};
+
+    type Out = SweepEnd;
+
+    ghost listing = { listing };
+
+    fn next(&self, layout: &Layout) -> Req {
+        layout.request(self.ask(layout))
     }
 
-    ghost ends = { λ s found busy. is_over (listing.gives s found) };
-
-    ghost stays = { proved.stays };
+    #[tactic(auto, using(crate::proofs::Bits::few_ones))]
+    fn take(&mut self, layout: &Layout, found: u64) -> Option<SweepEnd> {
+        self.go(layout, found);
+        self.given()
+    }
 }

@@ -7,7 +7,8 @@ use Rattle.gh_base.specs.declared.layout.Layout.{Layout}
 use Rattle.gh_base.specs.declared.pack.PageWord.TheVariants.{Head}
 use Rattle.gh_base.specs.declared.pack.SpanHead.{SpanHead}
 use Rattle.gh_base.specs.Packing.{page_of}
-use Rattle.gh_base.specs.Routines.{EndsWith, GoesOn, told}
+use Rattle.gh_base.specs.Machines.{steps_of}
+use Rattle.gh_base.specs.Routines as routine
 use Rattle.gh_central.specs.declared.reclaim.ReclaimStage.{ReclaimStage}
 use Rattle.gh_central.specs.declared.reclaim.ReclaimStage.TheVariants.{Look, Wait}
 use Rattle.gh_central.specs.Reclaim.{asks, listing, opening, Reclaiming, sweep_in}
@@ -18,17 +19,20 @@ use Rattle.gh_sweep.specs.declared.sweep.SweptSpan.{SweptSpan}
 use Rattle.gh_sweep.specs.Listing.{gives, Sweeping}
 
 -- by its first n steps
-module _ (m : Reclaiming) (found : ℕ → ℕ) (n : ℕ) where
+module _ (l : Layout) (m : Reclaiming) (found : ℕ → ℕ) (n : ℕ) where
+  abbrev pub told : ℕ → Reclaiming
+  told = routine.told (steps_of l (listing l)) m found
+
   -- step i is one of them, is this, and was told this word
   pub record IsTold (i : ℕ) (ask : Ask) (word : ℕ) : Type 0 where
     pub before : i < n
-    pub asks_it : asks (told listing m found i) ≡ ask
+    pub asks_it : asks l (told i) ≡ ask
     pub word_is : found i ≡ word
 
   -- Step i is one of them, at this stage, and was told that the page it loads is this head. A page is first looked at, and may then be loaded again while it waits there.
   pub record IsHead (stage : ReclaimStage) (i : ℕ) (h : SpanHead) : Type 0 where
     pub before : i < n
-    pub stage_is : (told listing m found i).stage ≡ stage
+    pub stage_is : (told i).stage ≡ stage
     pub head_is : page_of (found i) ≡ Head h
 
   -- the page was told, or it lies in the span of a head that was told
@@ -39,7 +43,7 @@ module _ (m : Reclaiming) (found : ℕ → ℕ) (n : ℕ) where
   pub record EndsSweep (i page : ℕ) (h : SpanHead) (end : SweepEnd) : Type 0 where
     pub before : i < n
     pub sw : Sweeping
-    pub runs : sweep_in (told listing m found i) ≡ Some sw
+    pub runs : sweep_in (told i) ≡ Some sw
     pub page_is : sw.page ≡ page
     pub head_is : sw.head ≡ h
     pub ends : gives sw (found i) ≡ Some end
@@ -58,8 +62,8 @@ module _ (m : Reclaiming) (found : ℕ → ℕ) (n : ℕ) where
 
   -- Each page was met. A span that nobody owned where its head was looked at was swept by then, or it has swept it, or has waited for another who sweeps it.
   pub record SweepsEach : Type 0 where
-    pub met : (page : ℕ) → page < m.layout.pages → IsMet page
+    pub met : (page : ℕ) → page < l.pages → IsMet page
     pub each : (i page : ℕ) (h : SpanHead) → IsHead (Look page) i h → h.owner ≡ 0 → (h.number ≡ m.generation) ⊎ HasSwept i page h ⊎ HasWaited i page h
 
 abbrev pub TheReclaimingSweepsEach : Type 0
-TheReclaimingSweepsEach = (l : Layout) (generation : ℕ) (found : ℕ → ℕ) (n : ℕ) → let m = opening l generation in GoesOn listing m found n → EndsWith listing m found n tt → SweepsEach m found (suc n)
+TheReclaimingSweepsEach = (l : Layout) (generation : ℕ) (found : ℕ → ℕ) (n : ℕ) → let m = opening generation in routine.GoesOn (steps_of l (listing l)) m found n → routine.EndsWith (steps_of l (listing l)) m found n tt → SweepsEach l m found (suc n)

@@ -7,7 +7,8 @@ use Rattle.gh_base.specs.declared.layout.Layout.{Layout}
 use Rattle.gh_base.specs.declared.pack.PageWord.TheVariants.{Head}
 use Rattle.gh_base.specs.declared.pack.SpanHead.{SpanHead}
 use Rattle.gh_base.specs.Packing.{head_word, page_of}
-use Rattle.gh_base.specs.Routines.{EndsWith, GoesOn, told}
+use Rattle.gh_base.specs.Machines.{steps_of}
+use Rattle.gh_base.specs.Routines as routine
 use Rattle.gh_class.specs.declared.class.SizeClass.TheVariants.{Small}
 use Rattle.gh_class.specs.declared.class.SpanClass.{SpanClass}
 use Rattle.gh_central.specs.SweptPass.{owned_by, pages_gone}
@@ -24,10 +25,13 @@ pub record IsWantedUnswept (m : Unswept) (h : SpanHead) : Type 0 where
   pub unswept : h.number + 2 ≡ m.generation
 
 -- by its first n steps
-module _ (m : Unswept) (found : ℕ → ℕ) (n : ℕ) where
+module _ (l : Layout) (m : Unswept) (found : ℕ → ℕ) (n : ℕ) where
+  abbrev pub told : ℕ → Unswept
+  told = routine.told (steps_of l (listing l)) m found
+
   -- one of them is this, and was told this word
   abbrev pub IsTold : Ask → ℕ → Type 0
-  IsTold ask word = (i : ℕ) × (i < n) × (asks (told listing m found i) ≡ ask) × (found i ≡ word)
+  IsTold ask word = (i : ℕ) × (i < n) × (asks l (told i) ≡ ask) × (found i ≡ word)
 
   -- the page was told to be this head
   abbrev pub IsHead : ℕ → SpanHead → Type 0
@@ -42,7 +46,7 @@ module _ (m : Unswept) (found : ℕ → ℕ) (n : ℕ) where
     pub by : ℕ
     pub before : by < n
     pub sw : Sweeping
-    pub runs : sweep_in (told listing m found by) ≡ Some sw
+    pub runs : sweep_in (told by) ≡ Some sw
     pub page_is : sw.page ≡ page
     pub head_is : sw.head ≡ h
     pub ends : gives sw (found by) ≡ Some end
@@ -67,12 +71,12 @@ module _ (m : Unswept) (found : ℕ → ℕ) (n : ℕ) where
     pub clear : HasClear page head
     pub first : Passes page
     pub last : (other word : ℕ) → IsTold (Load (Page other)) word → other ≤ page
-    pub store : asks (told listing m found n) ≡ Store (Page page) (head_word (owned_by (m.seat + 1) (once_swept head)))
+    pub store : asks l (told n) ≡ Store (Page page) (head_word (owned_by (m.seat + 1) (once_swept head)))
 
 -- what it gives if step n is its last
-pub record TakesFirstUnswept (m : Unswept) (found : ℕ → ℕ) (n : ℕ) : Type 0 where
-  pub some : (page : ℕ) → GoesOn listing m found n → EndsWith listing m found n (Some page) → Takes m found n page
-  pub none : GoesOn listing m found n → EndsWith listing m found n None → Passes m found (suc n) m.layout.pages
+pub record TakesFirstUnswept (l : Layout) (m : Unswept) (found : ℕ → ℕ) (n : ℕ) : Type 0 where
+  pub some : (page : ℕ) → routine.GoesOn (steps_of l (listing l)) m found n → routine.EndsWith (steps_of l (listing l)) m found n (Some page) → Takes l m found n page
+  pub none : routine.GoesOn (steps_of l (listing l)) m found n → routine.EndsWith (steps_of l (listing l)) m found n None → Passes l m found (suc n) l.pages
 
 abbrev pub TheUnsweptPassTakesTheFirst : Type 0
-TheUnsweptPassTakesTheFirst = (l : Layout) (seat generation : ℕ) (wanted : SpanClass) (found : ℕ → ℕ) (n : ℕ) → TakesFirstUnswept (opening l seat generation wanted) found n
+TheUnsweptPassTakesTheFirst = (l : Layout) (seat generation : ℕ) (wanted : SpanClass) (found : ℕ → ℕ) (n : ℕ) → TakesFirstUnswept l (opening seat generation wanted) found n

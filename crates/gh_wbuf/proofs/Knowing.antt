@@ -62,35 +62,35 @@ module _ (law : BuffersAreHeld) where
 
     -- the search for room
 
-    pub room_holds : (r : finding.RoomFinding) (t : Trying) (index : ℕ) (out : Option (Option Held)) → (out ≡ Some None → t.held ≡ None) → ((h : Held) → out ≡ Some (Some h) → t.held ≡ Some h) →
-        t.held ≡ finding.held_at (finding.after_try (finding.at_stage r (room.Try t)) index out).stage
-    room_holds r t index out lost won = grind arith
+    pub room_holds : (l : Layout) (r : finding.RoomFinding) (t : Trying) (index : ℕ) (out : Option (Option Held)) → (out ≡ Some None → t.held ≡ None) → ((h : Held) → out ≡ Some (Some h) → t.held ≡ Some h) →
+        t.held ≡ finding.held_at (finding.after_try l (finding.at_stage r (room.Try t)) index out).stage
+    room_holds l r t index out lost won = grind arith
 
-    room_moves : (r : finding.RoomFinding) (p : RoomStage) → RoomStageKnows seat p → HoldsBuffer s seat (finding.held_at p) →
-        Moves seat s words (finding.asks_at r p) (finding.held_at (finding.goes_at r p (words (cell_of (finding.asks_at r p)))).stage)
-    room_moves r (room.GiveBack h) k holds = steps.gives_back h holds
-    room_moves r (room.Try t) k holds =
+    room_moves : (l : Layout) (r : finding.RoomFinding) (p : RoomStage) → RoomStageKnows seat p → HoldsBuffer s seat (finding.held_at p) →
+        Moves seat s words (finding.asks_at r p) (finding.held_at (finding.goes_at l r p (words (cell_of (finding.asks_at r p)))).stage)
+    room_moves l r (room.GiveBack h) k holds = steps.gives_back h holds
+    room_moves l r (room.Try t) k holds =
         let f : ℕ = words (cell_of (try.asks t)) in
         subst (Moves seat s words (try.asks t))
-        (room_holds r (try.goes t f) t.index (try.gives t f) (lost_none t t.stage f k.none) (λ h e. given_held t t.stage f h k.busy e))
+        (room_holds l r (try.goes t f) t.index (try.gives t f) (lost_none t t.stage f k.none) (λ h e. given_held t t.stage f h k.busy e))
         (try_own t k.tries holds)
-    room_moves r (room.Ended h) k holds = steps.loads _ _ holds
+    room_moves l r (room.Ended h) k holds = steps.loads _ _ holds
 
     -- the taking of an entry
 
-    pub take_holds : (r : taking.EntryTaking) (t : Trying) (index : ℕ) (out : Option (Option Held)) → ((h : Held) → out ≡ Some (Some h) → t.held ≡ Some h) →
-        t.held ≡ taking.held_at (taking.after_try (taking.at_stage r (take.Try t)) index t.held out).stage
-    take_holds r t index out won = grind arith
+    pub take_holds : (l : Layout) (r : taking.EntryTaking) (t : Trying) (index : ℕ) (out : Option (Option Held)) → ((h : Held) → out ≡ Some (Some h) → t.held ≡ Some h) →
+        t.held ≡ taking.held_at (taking.after_try l (taking.at_stage r (take.Try t)) index t.held out).stage
+    take_holds l r t index out won = grind arith
 
-    take_moves : (r : taking.EntryTaking) (p : TakeStage) → TakeStageKnows seat p → HoldsBuffer s seat (taking.held_at p) →
-        Moves seat s words (taking.asks_at r p) (taking.held_at (taking.goes_at r p (words (cell_of (taking.asks_at r p)))).stage)
-    take_moves r (take.Try t) k holds =
+    take_moves : (l : Layout) (r : taking.EntryTaking) (p : TakeStage) → TakeStageKnows seat p → HoldsBuffer s seat (taking.held_at p) →
+        Moves seat s words (taking.asks_at r p) (taking.held_at (taking.goes_at l r p (words (cell_of (taking.asks_at r p)))).stage)
+    take_moves l r (take.Try t) k holds =
         let f : ℕ = words (cell_of (try.asks t)) in
         subst (Moves seat s words (try.asks t))
-        (take_holds r (try.goes t f) t.index (try.gives t f) (λ h e. given_held t t.stage f h k.busy e))
+        (take_holds l r (try.goes t f) t.index (try.gives t f) (λ h e. given_held t t.stage f h k.busy e))
         (try_own t k.tries holds)
-    take_moves r (take.Take h) k holds = steps.takes_entry h holds k
-    take_moves r (take.Ended held entry) k holds = steps.loads _ _ holds
+    take_moves l r (take.Take h) k holds = steps.takes_entry h holds k
+    take_moves l r (take.Ended held entry) k holds = steps.loads _ _ holds
 
     give_moves : (g : giving.BufferGiving) (p : GiveStage) → HoldsBuffer s seat (giving.held_at p) → Moves seat s words (giving.asks_at p) None
     give_moves g (give.Give h) holds = steps.gives_back h holds
@@ -98,32 +98,32 @@ module _ (law : BuffersAreHeld) where
 
   -- what the next stage knows
 
-  room_fresh : (seat : ℕ) (l : Layout) (own index : ℕ) → own ≡ seat → RoomTryKnows seat (try.opening l own Room index None)
-  room_fresh seat l own index e = record { tries = record { seat_is = e; opened = tt; free = tt }; wish_is = refl; none = refl; busy = refl }
+  room_fresh : (seat own index : ℕ) → own ≡ seat → RoomTryKnows seat (try.opening own Room index None)
+  room_fresh seat own index e = record { tries = record { seat_is = e; opened = tt; free = tt }; wish_is = refl; none = refl; busy = refl }
 
-  room_after : (seat : ℕ) (r : finding.RoomFinding) (index : ℕ) (out : Option (Option Held)) → r.seat ≡ seat → (out ≡ None → RoomStageKnows seat r.stage) → ((h : Held) → out ≡ Some (Some h) → h.count + 2 ≤ ENTRIES) →
-      RoomKnows seat (finding.after_try r index out)
-  room_after seat r index out e here some = grind arith
+  room_after : (l : Layout) (seat : ℕ) (r : finding.RoomFinding) (index : ℕ) (out : Option (Option Held)) → r.seat ≡ seat → (out ≡ None → RoomStageKnows seat r.stage) → ((h : Held) → out ≡ Some (Some h) → h.count + 2 ≤ ENTRIES) →
+      RoomKnows seat (finding.after_try l r index out)
+  room_after l seat r index out e here some = grind arith
 
-  pub room_next : (seat : ℕ) (r : finding.RoomFinding) (p : RoomStage) (f : ℕ) → RoomKnows seat r → RoomStageKnows seat p → RoomKnows seat (finding.goes_at r p f)
-  room_next seat r (room.GiveBack h) f whole k = record { seat_is = whole.seat_is; stage = room_fresh seat r.layout r.seat 0 whole.seat_is }
-  room_next seat r (room.Try t) f whole k =
-      room_after seat (finding.at_stage r (room.Try (try.goes t f))) t.index (try.gives t f) whole.seat_is
+  pub room_next : (l : Layout) (seat : ℕ) (r : finding.RoomFinding) (p : RoomStage) (f : ℕ) → RoomKnows seat r → RoomStageKnows seat p → RoomKnows seat (finding.goes_at l r p f)
+  room_next l seat r (room.GiveBack h) f whole k = record { seat_is = whole.seat_is; stage = room_fresh seat r.seat 0 whole.seat_is }
+  room_next l seat r (room.Try t) f whole k =
+      room_after l seat (finding.at_stage r (room.Try (try.goes t f))) t.index (try.gives t f) whole.seat_is
       (λ e. record { tries = try_next seat t f k.tries; wish_is = (same_step t f).wish ∙ k.wish_is; none = still_none t t.stage f k.none e; busy = ap is_none e })
       (λ h e. (took seat Room t f h (record { seat_is = k.tries.seat_is; wish_is = k.wish_is; stage_is = k.tries.opened }) k.busy e).1)
-  room_next seat r (room.Ended h) f whole k = record { seat_is = whole.seat_is; stage = k }
+  room_next l seat r (room.Ended h) f whole k = record { seat_is = whole.seat_is; stage = k }
 
-  take_after : (seat : ℕ) (r : taking.EntryTaking) (index : ℕ) (held : Option Held) (out : Option (Option Held)) → r.seat ≡ seat → (out ≡ None → TakeStageKnows seat r.stage) → ((h : Held) → out ≡ Some (Some h) → 0 < h.count) →
-      TakeKnows seat (taking.after_try r index held out)
-  take_after seat r index held out e here some = grind arith
+  take_after : (l : Layout) (seat : ℕ) (r : taking.EntryTaking) (index : ℕ) (held : Option Held) (out : Option (Option Held)) → r.seat ≡ seat → (out ≡ None → TakeStageKnows seat r.stage) → ((h : Held) → out ≡ Some (Some h) → 0 < h.count) →
+      TakeKnows seat (taking.after_try l r index held out)
+  take_after l seat r index held out e here some = grind arith
 
-  take_next : (seat : ℕ) (r : taking.EntryTaking) (p : TakeStage) (f : ℕ) → TakeKnows seat r → TakeStageKnows seat p → TakeKnows seat (taking.goes_at r p f)
-  take_next seat r (take.Try t) f whole k =
-      take_after seat (taking.at_stage r (take.Try (try.goes t f))) t.index (try.goes t f).held (try.gives t f) whole.seat_is
+  take_next : (l : Layout) (seat : ℕ) (r : taking.EntryTaking) (p : TakeStage) (f : ℕ) → TakeKnows seat r → TakeStageKnows seat p → TakeKnows seat (taking.goes_at l r p f)
+  take_next l seat r (take.Try t) f whole k =
+      take_after l seat (taking.at_stage r (take.Try (try.goes t f))) t.index (try.goes t f).held (try.gives t f) whole.seat_is
       (λ e. record { tries = try_next seat t f k.tries; wish_is = (same_step t f).wish ∙ k.wish_is; busy = ap is_none e })
       (λ h e. (took seat Entry t f h (record { seat_is = k.tries.seat_is; wish_is = k.wish_is; stage_is = k.tries.opened }) k.busy e).1)
-  take_next seat r (take.Take h) f whole k = record { seat_is = whole.seat_is; stage = tt }
-  take_next seat r (take.Ended held entry) f whole k = record { seat_is = whole.seat_is; stage = tt }
+  take_next l seat r (take.Take h) f whole k = record { seat_is = whole.seat_is; stage = tt }
+  take_next l seat r (take.Ended held entry) f whole k = record { seat_is = whole.seat_is; stage = tt }
 
   -- the two laws of a routine, whose stage speaks of nothing shared
   module _ {M Out : Type 0} (r : Listing M Out) (held_of : M → Option Held) (Knows : (seat : ℕ) → M → Type 0) where
@@ -133,31 +133,31 @@ module _ (law : BuffersAreHeld) where
     pub keeps : ((s : Buffers) (seat : ℕ) (words : Words) (m : M) → AreCounted s → AreBuffersOf words s → Facts r held_of Knows s seat m → OwnStep r held_of Knows s seat words m) → KeepsItsBuffer r held_of Knows
     keeps own = record { own_step = own; lasts = lasts }
 
-  finds_begin : (l : Layout) (seat : ℕ) (held : Option Held) → RoomKnows seat (finding.opening l seat held) × (finding.held_at (finding.begin l seat held) ≡ held)
-  finds_begin l seat held = grind arith
+  finds_begin : (seat : ℕ) (held : Option Held) → RoomKnows seat (finding.opening seat held) × (finding.held_at (finding.begin seat held) ≡ held)
+  finds_begin seat held = grind arith
 
-  takes_begin : (l : Layout) (seat : ℕ) (held : Option Held) → TakeKnows seat (taking.opening l seat held) × (taking.held_at (taking.begin l seat held) ≡ held)
-  takes_begin l seat held = grind arith
+  takes_begin : (seat : ℕ) (held : Option Held) → TakeKnows seat (taking.opening seat held) × (taking.held_at (taking.begin seat held) ≡ held)
+  takes_begin seat held = grind arith
 
   pub kept : BuffersAreKept
   kept = record {
-    tries = keeps try.listing (λ t. t.held) TryKnows (λ s seat words t counted shown f. record {
+    tries = λ l. keeps (try.transitions l) (λ t. t.held) TryKnows (λ s seat words t counted shown f. record {
       moves = try_own seat s words counted shown t f.knows f.holds;
       knows = try_next seat t (words (cell_of (try.asks t))) f.knows;
     });
-    finds = keeps finding.listing (λ r. finding.held_at r.stage) RoomKnows (λ s seat words r counted shown f. record {
-      moves = room_moves seat s words counted shown r r.stage f.knows.stage f.holds;
-      knows = room_next seat r r.stage (words (cell_of (finding.asks r))) f.knows f.knows.stage;
+    finds = λ l. keeps (finding.transitions l) (λ r. finding.held_at r.stage) RoomKnows (λ s seat words r counted shown f. record {
+      moves = room_moves seat s words counted shown l r r.stage f.knows.stage f.holds;
+      knows = room_next l seat r r.stage (words (cell_of (finding.asks r))) f.knows f.knows.stage;
     });
-    takes = keeps taking.listing (λ t. taking.held_at t.stage) TakeKnows (λ s seat words t counted shown f. record {
-      moves = take_moves seat s words counted shown t t.stage f.knows.stage f.holds;
-      knows = take_next seat t t.stage (words (cell_of (taking.asks t))) f.knows f.knows.stage;
+    takes = λ l. keeps (taking.transitions l) (λ t. taking.held_at t.stage) TakeKnows (λ s seat words t counted shown f. record {
+      moves = take_moves seat s words counted shown l t t.stage f.knows.stage f.holds;
+      knows = take_next l seat t t.stage (words (cell_of (taking.asks t))) f.knows f.knows.stage;
     });
-    gives = keeps giving.listing (λ g. giving.held_at g.stage) GiveKnows (λ s seat words g counted shown f. record {
+    gives = λ l. keeps (giving.transitions l) (λ g. giving.held_at g.stage) GiveKnows (λ s seat words g counted shown f. record {
       moves = give_moves seat s words counted shown g g.stage f.holds;
       knows = tt;
     });
-    tries_begin = λ l seat wish index held. record { seat_is = refl; opened = tt; free = tt };
+    tries_begin = λ seat wish index held. record { seat_is = refl; opened = tt; free = tt };
     finds_begin = finds_begin;
     takes_begin = takes_begin;
   }

@@ -79,12 +79,12 @@ module _ (k : Known) (z : Cycle) (a : ℕ) (s : Shared) (rest : InHand) (g : Goo
   tries t knows x = grind (arith, tries-at)
 
   finds-at : (r : finding.RoomFinding) (p : RoomStage) → RoomStageKnows a p → Hands a s (holding rest (finding.held_at p)) →
-      Holding (finding.asks_at r p) (finding.held_at (finding.goes_at r p (s.words (cell_of (finding.asks_at r p)))).stage)
+      Holding (finding.asks_at r p) (finding.held_at (finding.goes_at z.arena.layout r p (s.words (cell_of (finding.asks_at r p)))).stage)
   finds-at r (room.GiveBack h) knows x = gives-back h x
   finds-at r (room.Try t) knows x =
       let f : ℕ = s.words (cell_of (try.asks t)) in
       subst (Holding (try.asks t))
-      (room_holds k.held a (buffers_as_held s.words s.filled) s.words g.counts shown r (try.goes t f) t.index (try.gives t f) (lost_none t t.stage f knows.none) (λ h e. given_held t t.stage f h knows.busy e))
+      (room_holds k.held a (buffers_as_held s.words s.filled) s.words g.counts shown z.arena.layout r (try.goes t f) t.index (try.gives t f) (lost_none t t.stage f knows.none) (λ h e. given_held t t.stage f h knows.busy e))
       (tries t knows.tries x)
   finds-at r (room.Ended h) knows x = loads Touch (Some h) x
 
@@ -96,16 +96,16 @@ module _ (k : Known) (z : Cycle) (a : ℕ) (s : Shared) (rest : InHand) (g : Goo
   own-try : (t : Trying) → TryFacts z a s rest t → Steps z a s (try.asks t) (λ u. Keeps z a s u × TryFacts z a u rest (try.goes t (s.words (cell_of (try.asks t)))))
   own-try t f =
       let n : Trying = try.goes t (s.words (cell_of (try.asks t))) in
-      let knows : TryKnows a n = (k.kept.tries.own_step (buffers_as_held s.words s.filled) a s.words t g.counts shown (record { knows = f.knows; holds = f.hands.holds })).knows in
+      let knows : TryKnows a n = ((k.kept.tries z.arena.layout).own_step (buffers_as_held s.words s.filled) a s.words t g.counts shown (record { knows = f.knows; holds = f.hands.holds })).knows in
       landing z a s (effect s.words (try.asks t)) (λ u. Keeps z a s u × Hands a u (holding rest n.held)) (λ u. Keeps z a s u × TryFacts z a u rest n)
       (λ u w h. (h.0, record { knows = knows; hands = h.1 }))
       (tries t f.knows f.hands)
 
-  own-find : (r : finding.RoomFinding) → RoomFacts z a s rest r → Steps z a s (finding.asks r) (λ u. Keeps z a s u × RoomFacts z a u rest (finding.goes r (s.words (cell_of (finding.asks r)))))
+  own-find : (r : finding.RoomFinding) → RoomFacts z a s rest r → Steps z a s (finding.asks r) (λ u. Keeps z a s u × RoomFacts z a u rest (finding.goes z.arena.layout r (s.words (cell_of (finding.asks r)))))
   own-find r f =
-      let n : finding.RoomFinding = finding.goes r (s.words (cell_of (finding.asks r))) in
+      let n : finding.RoomFinding = finding.goes z.arena.layout r (s.words (cell_of (finding.asks r))) in
       landing z a s (effect s.words (finding.asks r)) (λ u. Keeps z a s u × Hands a u (holding rest (finding.held_at n.stage))) (λ u. Keeps z a s u × RoomFacts z a u rest n)
-      (λ u w h. (h.0, record { knows = (k.kept.finds.own_step (buffers_as_held s.words s.filled) a s.words r g.counts shown (record { knows = f.knows; holds = f.hands.holds })).knows; hands = h.1 }))
+      (λ u w h. (h.0, record { knows = ((k.kept.finds z.arena.layout).own_step (buffers_as_held s.words s.filled) a s.words r g.counts shown (record { knows = f.knows; holds = f.hands.holds })).knows; hands = h.1 }))
       (finds-at r r.stage f.knows.stage f.hands)
 
   own-give : (m : giving.BufferGiving) → GiveFacts z a s rest m → Steps z a s (giving.asks m) (λ u. Keeps z a s u × GiveFacts z a u rest (giving.goes m (s.words (cell_of (giving.asks m)))))

@@ -5,8 +5,7 @@ use Rattle.gh_wbuf.specs.declared.try_buffer.TryStage.{TryStage}
 use Rattle.gh_wbuf.specs.declared.try_buffer.TryStage.TheVariants.{Look, GiveBack, Claim, Ended}
 use Rattle.gh_wbuf.specs.declared.try_buffer.Wish.{Wish}
 use Rattle.gh_wbuf.specs.Tries.{Has, Took}
-use Rattle.gh_wbuf.specs.Trying.{asks, asks_at, claimed, claims, given, given_at, gives, goes, goes_at, is_busy, is_open, Trying}
-use Rattle.gh_wbuf.specs.TrySound.{SoundTryStage}
+use Rattle.gh_wbuf.specs.Trying.{asks, asks_at, claimed, claims, given, given_at, gives, goes, goes_at, is_busy, is_open, SoundTryStage, Trying}
 
 -- with an open buffer it goes on
 pub claims_nothing : (t : Trying) (held : Option Held) (word : ℕ) → given_at (claims t held word) ≡ None

@@ -16,8 +16,7 @@ pub use Rattle.gh_marks.specs.Moves.{GiveBuffer, HasBuffer, Keeps, landing, land
 pub use Rattle.gh_marks.specs.Seats.{Hands, InHand}
 pub use Rattle.gh_wbuf.specs.Facts.{BuffersPassByMoves, FactsBegin, GiveFacts, holding, RoomFacts, TakeComes, TakeFacts, TakesByMoves, Took, TryFacts}
 pub use Rattle.gh_wbuf.specs.Knowing.{BuffersAreKept, GiveKnows, IsFreeAt, RoomKnows, RoomStageKnows, RoomTryKnows, TakeKnows, TakeStageKnows, TakeTryKnows, TryKnows}
-pub use Rattle.gh_wbuf.specs.TrySound.{SoundTryStage}
-pub use Rattle.gh_wbuf.specs.Trying.{Trying}
+pub use Rattle.gh_wbuf.specs.Trying.{SoundTryStage, Trying}
 pub use Rattle.gh_wbuf.specs.declared.find_room.RoomStage.{RoomStage}
 pub use Rattle.gh_wbuf.specs.declared.give_buffer.GiveStage.{GiveStage}
 pub use Rattle.gh_wbuf.specs.declared.take_entry.TakeStage.{TakeStage}

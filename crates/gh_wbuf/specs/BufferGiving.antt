@@ -5,18 +5,19 @@ use Rattle.gh_base.specs.declared.cell.Ask.{Ask}
 use Rattle.gh_base.specs.declared.cell.Ask.TheVariants.{Load}
 use Rattle.gh_base.specs.declared.held.Held.{Held}
 use Rattle.gh_base.specs.declared.layout.Layout.{Layout}
-use Rattle.gh_base.specs.Given.{listing_of}
-use Rattle.gh_base.specs.Routines.{Listing}
+use Rattle.gh_base.specs.Machines.{Listing, steps_of}
+use Rattle.gh_base.specs.Routines as routine
+use Rattle.gh_wbuf.specs.Sound.{SoundBufferGiving}
+use Rattle.gh_wbuf.specs.declared.give_buffer.GiveBuffer.{GiveBuffer}
 use Rattle.gh_wbuf.specs.declared.give_buffer.GiveStage.{GiveStage}
 use Rattle.gh_wbuf.specs.declared.give_buffer.GiveStage.TheVariants.{Give, Ended}
-use Rattle.gh_wbuf.specs.Trying.{gives_back}
+use Rattle.gh_wbuf.specs.Trying.{gives_back, writes}
 
-pub record BufferGiving : Type 0 where
-  pub layout : Layout
-  pub stage : GiveStage
+abbrev pub BufferGiving : Type 0
+BufferGiving = GiveBuffer
 
-abbrev pub opening : Layout → Held → BufferGiving
-opening l h = record { layout = l; stage = Give h }
+abbrev pub opening : Held → BufferGiving
+opening h = record { stage = Give h }
 
 -- what is held at each stage
 abbrev pub held_at : GiveStage → Option Held
@@ -47,5 +48,8 @@ given g = given_at g.stage
 abbrev pub gives : BufferGiving → ℕ → Option (Unit {0})
 gives g found = given (goes g found)
 
-abbrev pub listing : Listing BufferGiving (Unit {0})
-listing = listing_of (λ g. g.layout) asks goes given
+abbrev pub listing : Layout → Listing BufferGiving (Unit {0})
+listing l = record { asks = asks; goes = goes; given = given; sound = SoundBufferGiving l; writes = writes }
+
+abbrev pub transitions : Layout → routine.Listing BufferGiving (Unit {0})
+transitions l = steps_of l (listing l)

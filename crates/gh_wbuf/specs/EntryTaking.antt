@@ -6,29 +6,29 @@ use Rattle.gh_base.specs.declared.cell.Ask.TheVariants.{Load}
 use Rattle.gh_base.specs.declared.held.Held.{Held}
 use Rattle.gh_base.specs.declared.layout.Layout.{Layout}
 use Rattle.gh_base.specs.Cells.{buffers_of}
-use Rattle.gh_base.specs.Given.{listing_of}
-use Rattle.gh_base.specs.Routines.{Listing}
+use Rattle.gh_base.specs.Machines.{Listing, steps_of}
+use Rattle.gh_base.specs.Routines as routine
+use Rattle.gh_wbuf.specs.Sound.{SoundEntryTaking}
+use Rattle.gh_wbuf.specs.declared.take_entry.TakeEntry.{TakeEntry}
 use Rattle.gh_wbuf.specs.declared.take_entry.TakeStage.{TakeStage}
 use Rattle.gh_wbuf.specs.declared.take_entry.TakeStage.TheVariants.{Try, Take, Ended}
 use Rattle.gh_wbuf.specs.declared.try_buffer.Wish.TheVariants.{Entry}
 use Rattle.gh_wbuf.specs.Trying as try
 
-pub record EntryTaking : Type 0 where
-  pub layout : Layout
-  pub seat : ℕ
-  pub stage : TakeStage
+abbrev pub EntryTaking : Type 0
+EntryTaking = TakeEntry
 
 -- it tries this buffer next, and holds this
-abbrev pub try_at : Layout → (seat index : ℕ) → Option Held → TakeStage
-try_at l seat index held = Try (try.opening l seat Entry index held)
+abbrev pub try_at : (seat index : ℕ) → Option Held → TakeStage
+try_at seat index held = Try (try.opening seat Entry index held)
 
 -- a held buffer with an entry gives it
-abbrev pub begin : Layout → (seat : ℕ) → Option Held → TakeStage
-begin l seat None = try_at l seat 0 None
-begin l seat (Some h) = if nat_lt 0 h.count then Take h else try_at l seat 0 (Some h)
+abbrev pub begin : (seat : ℕ) → Option Held → TakeStage
+begin seat None = try_at seat 0 None
+begin seat (Some h) = if nat_lt 0 h.count then Take h else try_at seat 0 (Some h)
 
-abbrev pub opening : Layout → (seat : ℕ) → Option Held → EntryTaking
-opening l seat held = record { layout = l; seat = seat; stage = begin l seat held }
+abbrev pub opening : (seat : ℕ) → Option Held → EntryTaking
+opening seat held = record { seat = seat; stage = begin seat held }
 
 abbrev pub at_stage : EntryTaking → TakeStage → EntryTaking
 at_stage t stage = record t { stage = stage }
@@ -53,24 +53,27 @@ has_next l index = nat_lt (index + 1) (buffers_of l)
 
 -- behind this buffer: the next, or the end, with none
 abbrev pub behind : Layout → (seat index : ℕ) → Option Held → TakeStage
-behind l seat index held = if has_next l index then try_at l seat (index + 1) held else Ended held None
+behind l seat index held = if has_next l index then try_at seat (index + 1) held else Ended held None
 
-module _ (t : EntryTaking) where
-  abbrev pub asks_at : TakeStage → Ask
-  asks_at (Try tries) = try.asks tries
-  asks_at (Take h) = Load (cell.Entry h.index (h.count - 1))
-  asks_at (Ended held entry) = Load cell.Touch
+abbrev pub asks_at : EntryTaking → TakeStage → Ask
+asks_at t (Try tries) = try.asks tries
+asks_at t (Take h) = Load (cell.Entry h.index (h.count - 1))
+asks_at t (Ended held entry) = Load cell.Touch
 
+module _ (l : Layout) where
   -- what it is after the try of this buffer has given this, with what is held then
-  abbrev pub after_try : (index : ℕ) → Option Held → Option (Option Held) → EntryTaking
-  after_try index held None = t
-  after_try index held (Some None) = at_stage t (behind t.layout t.seat index held)
-  after_try index held (Some (Some h)) = at_stage t (Take h)
+  abbrev pub after_try : EntryTaking → (index : ℕ) → Option Held → Option (Option Held) → EntryTaking
+  after_try t index held None = t
+  after_try t index held (Some None) = at_stage t (behind l t.seat index held)
+  after_try t index held (Some (Some h)) = at_stage t (Take h)
 
-abbrev pub goes_at : EntryTaking → TakeStage → ℕ → EntryTaking
-goes_at t (Try tries) found = after_try (at_stage t (Try (try.goes tries found))) tries.index (try.goes tries found).held (try.gives tries found)
-goes_at t (Take h) found = at_stage t (Ended (Some (less h)) (Some (entry_of t.layout found)))
-goes_at t (Ended held entry) found = at_stage t (Ended held entry)
+  abbrev pub goes_at : EntryTaking → TakeStage → ℕ → EntryTaking
+  goes_at t (Try tries) found = after_try (at_stage t (Try (try.goes tries found))) tries.index (try.goes tries found).held (try.gives tries found)
+  goes_at t (Take h) found = at_stage t (Ended (Some (less h)) (Some (entry_of l found)))
+  goes_at t (Ended held entry) found = at_stage t (Ended held entry)
+
+  abbrev pub goes : EntryTaking → ℕ → EntryTaking
+  goes t found = goes_at t t.stage found
 
 -- where it has ended, the reference that it has taken, or none
 abbrev pub given_at : TakeStage → Option (Option ℕ)
@@ -83,14 +86,14 @@ is_busy stage = is_none (given_at stage)
 abbrev pub asks : EntryTaking → Ask
 asks t = asks_at t t.stage
 
-abbrev pub goes : EntryTaking → ℕ → EntryTaking
-goes t found = goes_at t t.stage found
-
 abbrev pub given : EntryTaking → Option (Option ℕ)
 given t = given_at t.stage
 
-abbrev pub gives : EntryTaking → ℕ → Option (Option ℕ)
-gives t found = given (goes t found)
+abbrev pub gives : Layout → EntryTaking → ℕ → Option (Option ℕ)
+gives l t found = given (goes l t found)
 
-abbrev pub listing : Listing EntryTaking (Option ℕ)
-listing = listing_of (λ t. t.layout) asks goes given
+abbrev pub listing : Layout → Listing EntryTaking (Option ℕ)
+listing l = record { asks = asks; goes = goes l; given = given; sound = SoundEntryTaking l; writes = try.writes }
+
+abbrev pub transitions : Layout → routine.Listing EntryTaking (Option ℕ)
+transitions l = steps_of l (listing l)

@@ -1,6 +1,7 @@
 -- What is known at each stage of the routines while marking is on, and what each step of their own is then. They take and give buffers alone, so they leave all that their caller knows.
 use Rattle.std.specs.Prelude.{◌≡◌, ℕ, ◌+◌, ◌-◌, ◌≤◌, true, Option, Some, None}
 use Rattle.gh_base.specs.declared.held.Held.{Held}
+use Rattle.gh_base.specs.declared.layout.Layout.{Layout}
 use Rattle.gh_base.specs.declared.pack.TheConstants.{ENTRIES}
 use Rattle.gh_base.specs.Steps.{cell_of}
 use Rattle.gh_marks.specs.Colours.{Cycle, Shared}
@@ -33,7 +34,6 @@ pub record GiveFacts (z : Cycle) (a : ℕ) (s : Shared) (rest : InHand) (g : giv
 
 -- the seat takes an object only while it scans none, and only until it has one
 pub record TakeFacts (z : Cycle) (a : ℕ) (s : Shared) (rest : InHand) (t : taking.EntryTaking) : Type 0 where
-  pub layout_is : t.layout ≡ z.arena.layout
   pub knows : TakeKnows a t
   pub hands : Hands a s (holding rest (taking.held_at t.stage))
   pub idle : rest.scanning ≡ None
@@ -52,15 +52,15 @@ TakeComes z a s rest (Some (Some reference)) t = Took a s rest (taking.held_at t
 
 pub record TakesByMoves : Type 0 where
   pub own_step : (z : Cycle) (a : ℕ) (s : Shared) (rest : InHand) (t : taking.EntryTaking) → Good z s → KnowsObjects z s → TakeFacts z a s rest t →
-      Steps z a s (taking.asks t) (λ u. Keeps z a s u × TakeComes z a u rest (taking.gives t (s.words (cell_of (taking.asks t)))) (taking.goes t (s.words (cell_of (taking.asks t)))))
+      Steps z a s (taking.asks t) (λ u. Keeps z a s u × TakeComes z a u rest (taking.gives z.arena.layout t (s.words (cell_of (taking.asks t)))) (taking.goes z.arena.layout t (s.words (cell_of (taking.asks t)))))
   pub lasts : (z : Cycle) (a : ℕ) (s u : Shared) (rest : InHand) (t : taking.EntryTaking) → Others z a s u → TakeFacts z a s rest t → TakeFacts z a u rest t
 
 -- The facts hold where the routines begin, with what the seat holds then.
 pub record FactsBegin (z : Cycle) (a : ℕ) (s : Shared) (rest : InHand) (held : Option Held) : Type 0 where
-  pub tries : (wish : Wish) (index : ℕ) → TryFacts z a s rest (try.opening z.arena.layout a wish index held)
-  pub finds : RoomFacts z a s rest (finding.opening z.arena.layout a held)
-  pub takes : rest.scanning ≡ None → TakeFacts z a s rest (taking.opening z.arena.layout a held)
-  pub gives : (own : Held) → held ≡ Some own → GiveFacts z a s rest (giving.opening z.arena.layout own)
+  pub tries : (wish : Wish) (index : ℕ) → TryFacts z a s rest (try.opening a wish index held)
+  pub finds : RoomFacts z a s rest (finding.opening a held)
+  pub takes : rest.scanning ≡ None → TakeFacts z a s rest (taking.opening a held)
+  pub gives : (own : Held) → held ≡ Some own → GiveFacts z a s rest (giving.opening own)
 
 pub record BuffersPassByMoves : Type 0 where
   pub begin : (z : Cycle) (a : ℕ) (s : Shared) (rest : InHand) (held : Option Held) → Hands a s (holding rest held) → FactsBegin z a s rest held
@@ -69,6 +69,6 @@ pub record BuffersPassByMoves : Type 0 where
   pub takes : TakesByMoves
   pub gives : KeepsItsFacts giving.listing GiveFacts
   -- a buffer that was found has room for the entry of a pending object, and for one more
-  pub room : (a found : ℕ) (r : finding.RoomFinding) (h : Held) → RoomKnows a r → finding.gives r found ≡ Some h → h.count + 2 ≤ ENTRIES
+  pub room : (l : Layout) (a found : ℕ) (r : finding.RoomFinding) (h : Held) → RoomKnows a r → finding.gives l r found ≡ Some h → h.count + 2 ≤ ENTRIES
   -- and is held then
-  pub held : (found : ℕ) (r : finding.RoomFinding) (h : Held) → finding.gives r found ≡ Some h → finding.held_at (finding.goes r found).stage ≡ Some h
+  pub held : (l : Layout) (found : ℕ) (r : finding.RoomFinding) (h : Held) → finding.gives l r found ≡ Some h → finding.held_at (finding.goes l r found).stage ≡ Some h

@@ -16,7 +16,7 @@ use Rattle.gh_wbuf.specs.BufferGiving as giving
 use Rattle.gh_wbuf.specs.EntryTaking as taking
 use Rattle.gh_wbuf.specs.RoomFinding as finding
 use Rattle.gh_wbuf.specs.Trying as try
-use Rattle.gh_wbuf.specs.TrySound.{SoundTryStage}
+use Rattle.gh_wbuf.specs.Trying.{SoundTryStage}
 
 -- at its swap a try holds no buffer
 abbrev pub IsFreeAt : Option Held → TryStage → Type 0
@@ -66,11 +66,11 @@ GiveKnows seat g = Unit {0}
 
 -- Each step of the routines is a move that their seat may make, and leads to what the next stage knows; and that lasts.
 pub record BuffersAreKept : Type 0 where
-  pub tries : KeepsItsBuffer try.listing (λ t. t.held) TryKnows
-  pub finds : KeepsItsBuffer finding.listing (λ r. finding.held_at r.stage) RoomKnows
-  pub takes : KeepsItsBuffer taking.listing (λ t. taking.held_at t.stage) TakeKnows
-  pub gives : KeepsItsBuffer giving.listing (λ g. giving.held_at g.stage) GiveKnows
+  pub tries : (l : Layout) → KeepsItsBuffer (try.transitions l) (λ t. t.held) TryKnows
+  pub finds : (l : Layout) → KeepsItsBuffer (finding.transitions l) (λ r. finding.held_at r.stage) RoomKnows
+  pub takes : (l : Layout) → KeepsItsBuffer (taking.transitions l) (λ t. taking.held_at t.stage) TakeKnows
+  pub gives : (l : Layout) → KeepsItsBuffer (giving.transitions l) (λ g. giving.held_at g.stage) GiveKnows
   -- they know it where they begin
-  pub tries_begin : (l : Layout) (seat : ℕ) (wish : Wish) (index : ℕ) (held : Option Held) → TryKnows seat (try.opening l seat wish index held)
-  pub finds_begin : (l : Layout) (seat : ℕ) (held : Option Held) → RoomKnows seat (finding.opening l seat held) × (finding.held_at (finding.begin l seat held) ≡ held)
-  pub takes_begin : (l : Layout) (seat : ℕ) (held : Option Held) → TakeKnows seat (taking.opening l seat held) × (taking.held_at (taking.begin l seat held) ≡ held)
+  pub tries_begin : (seat : ℕ) (wish : Wish) (index : ℕ) (held : Option Held) → TryKnows seat (try.opening seat wish index held)
+  pub finds_begin : (seat : ℕ) (held : Option Held) → RoomKnows seat (finding.opening seat held) × (finding.held_at (finding.begin seat held) ≡ held)
+  pub takes_begin : (seat : ℕ) (held : Option Held) → TakeKnows seat (taking.opening seat held) × (taking.held_at (taking.begin seat held) ≡ held)

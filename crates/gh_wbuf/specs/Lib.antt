@@ -1,4 +1,3 @@
-pub mod Blind
 pub mod BufferGiving
 pub mod Entries
 pub mod EntryTaking
@@ -6,7 +5,5 @@ pub mod Facts
 pub mod Knowing
 pub mod RoomFinding
 pub mod Sound
-pub mod Stays
 pub mod Tries
-pub mod TrySound
 pub mod Trying

@@ -6,28 +6,28 @@ use Rattle.gh_base.specs.declared.cell.Ask.TheVariants.{Load}
 use Rattle.gh_base.specs.declared.held.Held.{Held}
 use Rattle.gh_base.specs.declared.layout.Layout.{Layout}
 use Rattle.gh_base.specs.Cells.{buffers_of}
-use Rattle.gh_base.specs.Given.{listing_of}
-use Rattle.gh_base.specs.Routines.{Listing}
+use Rattle.gh_base.specs.Machines.{Listing, steps_of}
+use Rattle.gh_base.specs.Routines as routine
+use Rattle.gh_wbuf.specs.Sound.{SoundRoomFinding}
+use Rattle.gh_wbuf.specs.declared.find_room.FindRoom.{FindRoom}
 use Rattle.gh_wbuf.specs.declared.find_room.RoomStage.{RoomStage}
 use Rattle.gh_wbuf.specs.declared.find_room.RoomStage.TheVariants.{GiveBack, Try, Ended}
 use Rattle.gh_wbuf.specs.declared.try_buffer.Wish.TheVariants.{Room}
 use Rattle.gh_wbuf.specs.Trying as try
 
-pub record RoomFinding : Type 0 where
-  pub layout : Layout
-  pub seat : ℕ
-  pub stage : RoomStage
+abbrev pub RoomFinding : Type 0
+RoomFinding = FindRoom
 
 -- it tries this buffer next, and holds none
-abbrev pub try_at : Layout → (seat index : ℕ) → RoomStage
-try_at l seat index = Try (try.opening l seat Room index None)
+abbrev pub try_at : (seat index : ℕ) → RoomStage
+try_at seat index = Try (try.opening seat Room index None)
 
-abbrev pub begin : Layout → (seat : ℕ) → Option Held → RoomStage
-begin l seat None = try_at l seat 0
-begin l seat (Some h) = GiveBack h
+abbrev pub begin : (seat : ℕ) → Option Held → RoomStage
+begin seat None = try_at seat 0
+begin seat (Some h) = GiveBack h
 
-abbrev pub opening : Layout → (seat : ℕ) → Option Held → RoomFinding
-opening l seat held = record { layout = l; seat = seat; stage = begin l seat held }
+abbrev pub opening : (seat : ℕ) → Option Held → RoomFinding
+opening seat held = record { seat = seat; stage = begin seat held }
 
 abbrev pub at_stage : RoomFinding → RoomStage → RoomFinding
 at_stage r stage = record r { stage = stage }
@@ -42,22 +42,25 @@ held_at (GiveBack h) = Some h
 held_at (Try t) = t.held
 held_at (Ended h) = Some h
 
-module _ (r : RoomFinding) where
-  abbrev pub asks_at : RoomStage → Ask
-  asks_at (GiveBack h) = try.gives_back h
-  asks_at (Try t) = try.asks t
-  asks_at (Ended h) = Load Touch
+abbrev pub asks_at : RoomFinding → RoomStage → Ask
+asks_at r (GiveBack h) = try.gives_back h
+asks_at r (Try t) = try.asks t
+asks_at r (Ended h) = Load Touch
 
+module _ (l : Layout) where
   -- what it is after the try of this buffer has given this
-  abbrev pub after_try : (index : ℕ) → Option (Option Held) → RoomFinding
-  after_try index None = r
-  after_try index (Some None) = at_stage r (try_at r.layout r.seat (next_index r.layout index))
-  after_try index (Some (Some h)) = at_stage r (Ended h)
+  abbrev pub after_try : RoomFinding → (index : ℕ) → Option (Option Held) → RoomFinding
+  after_try r index None = r
+  after_try r index (Some None) = at_stage r (try_at r.seat (next_index l index))
+  after_try r index (Some (Some h)) = at_stage r (Ended h)
 
-abbrev pub goes_at : RoomFinding → RoomStage → ℕ → RoomFinding
-goes_at r (GiveBack h) found = at_stage r (try_at r.layout r.seat 0)
-goes_at r (Try t) found = after_try (at_stage r (Try (try.goes t found))) t.index (try.gives t found)
-goes_at r (Ended h) found = at_stage r (Ended h)
+  abbrev pub goes_at : RoomFinding → RoomStage → ℕ → RoomFinding
+  goes_at r (GiveBack h) found = at_stage r (try_at r.seat 0)
+  goes_at r (Try t) found = after_try (at_stage r (Try (try.goes t found))) t.index (try.gives t found)
+  goes_at r (Ended h) found = at_stage r (Ended h)
+
+  abbrev pub goes : RoomFinding → ℕ → RoomFinding
+  goes r found = goes_at r r.stage found
 
 -- it ends with the buffer that a try took
 abbrev pub given_at : RoomStage → Option Held
@@ -70,14 +73,14 @@ is_busy stage = is_none (given_at stage)
 abbrev pub asks : RoomFinding → Ask
 asks r = asks_at r r.stage
 
-abbrev pub goes : RoomFinding → ℕ → RoomFinding
-goes r found = goes_at r r.stage found
-
 abbrev pub given : RoomFinding → Option Held
 given r = given_at r.stage
 
-abbrev pub gives : RoomFinding → ℕ → Option Held
-gives r found = given (goes r found)
+abbrev pub gives : Layout → RoomFinding → ℕ → Option Held
+gives l r found = given (goes l r found)
 
-abbrev pub listing : Listing RoomFinding Held
-listing = listing_of (λ r. r.layout) asks goes given
+abbrev pub listing : Layout → Listing RoomFinding Held
+listing l = record { asks = asks; goes = goes l; given = given; sound = SoundRoomFinding l; writes = try.writes }
+
+abbrev pub transitions : Layout → routine.Listing RoomFinding Held
+transitions l = steps_of l (listing l)

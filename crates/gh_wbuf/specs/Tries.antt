@@ -10,7 +10,7 @@ use Rattle.gh_base.specs.Packing.{buffer_of, buffer_word}
 use Rattle.gh_base.specs.Routines.{EndsWith, GoesOn, Listing, told}
 use Rattle.gh_wbuf.specs.declared.try_buffer.Wish.{Wish}
 use Rattle.gh_wbuf.specs.declared.try_buffer.Wish.TheVariants.{Room, Entry}
-use Rattle.gh_wbuf.specs.Trying.{Trying, asks, listing, opening}
+use Rattle.gh_wbuf.specs.Trying.{Trying, asks, opening, transitions}
 
 -- There is a step n, and with it the routine ends, and gives this: what it has given stands for ever.
 abbrev pub EndsAt : {M Out : Type 0} → Listing M Out → M → (ℕ → ℕ) → ℕ → Out → Type 0
@@ -36,7 +36,7 @@ abbrev pub swap_step : Option Held → ℕ
 swap_step None = 1
 swap_step (Some h) = 2
 
-module _ (t : Trying) (found : ℕ → ℕ) where
+module _ (l : Layout) (t : Trying) (found : ℕ → ℕ) where
   -- the word that its Load found says that it may be taken
   abbrev pub IsFree : Type 0
   IsFree = IsOpen t.wish (found 0)
@@ -49,18 +49,18 @@ module _ (t : Trying) (found : ℕ → ℕ) where
     -- it begins with the Load of the buffer's word
     pub loads : asks t ≡ Load (Buffer t.index)
     -- where that may be taken, a held buffer is given back: its word is its count, with no holder
-    pub gives_back : (h : Held) → t.held ≡ Some h → IsFree → asks (told listing t found 1) ≡ Store (Buffer h.index) (buffer_word (record { count = h.count; holder = 0 }))
+    pub gives_back : (h : Held) → t.held ≡ Some h → IsFree → asks (told (transitions l) t found 1) ≡ Store (Buffer h.index) (buffer_word (record { count = h.count; holder = 0 }))
     -- and the Swap of that very word for the same count, with this seat as the holder, is its last step
-    pub swaps : IsFree → asks (told listing t found (swap_step t.held)) ≡ Swap (Buffer t.index) (found 0) (buffer_word (record { count = (buffer_of (found 0)).count; holder = t.seat + 1 }))
+    pub swaps : IsFree → asks (told (transitions l) t found (swap_step t.held)) ≡ Swap (Buffer t.index) (found 0) (buffer_word (record { count = (buffer_of (found 0)).count; holder = t.seat + 1 }))
     -- it answers none exactly where somebody held the buffer or it lacked what is wished, or its Swap found another word than its Load
-    pub none : ((n : ℕ) × EndsAt listing t found n None) ↔ ((¬ IsFree) ⊎ (found (swap_step t.held) ≢ found 0))
+    pub none : ((n : ℕ) × EndsAt (transitions l) t found n None) ↔ ((¬ IsFree) ⊎ (found (swap_step t.held) ≢ found 0))
     -- it answers with a buffer exactly where neither was so, and with this one
-    pub some : (h : Held) → ((n : ℕ) × EndsAt listing t found n (Some h)) ↔ (IsFree × SwapWrites × (h ≡ record { index = t.index; count = (buffer_of (found 0)).count }))
+    pub some : (h : Held) → ((n : ℕ) × EndsAt (transitions l) t found n (Some h)) ↔ (IsFree × SwapWrites × (h ≡ record { index = t.index; count = (buffer_of (found 0)).count }))
     -- it does end, and then holds what it took; where its Swap was lost, none; and what it held where it made none
-    pub ends : (n : ℕ) × (out : Option Held) × EndsAt listing t found n out
-    pub holds_some : (n : ℕ) (h : Held) → EndsAt listing t found n (Some h) → (told listing t found (suc n)).held ≡ Some h
-    pub holds_none : (n : ℕ) → EndsAt listing t found n None → IsFree → (told listing t found (suc n)).held ≡ None
-    pub holds_still : (n : ℕ) → EndsAt listing t found n None → (¬ IsFree) → (told listing t found (suc n)).held ≡ t.held
+    pub ends : (n : ℕ) × (out : Option Held) × EndsAt (transitions l) t found n out
+    pub holds_some : (n : ℕ) (h : Held) → EndsAt (transitions l) t found n (Some h) → (told (transitions l) t found (suc n)).held ≡ Some h
+    pub holds_none : (n : ℕ) → EndsAt (transitions l) t found n None → IsFree → (told (transitions l) t found (suc n)).held ≡ None
+    pub holds_still : (n : ℕ) → EndsAt (transitions l) t found n None → (¬ IsFree) → (told (transitions l) t found (suc n)).held ≡ t.held
 
 abbrev pub BuffersAreTried : Type 0
-BuffersAreTried = (l : Layout) (seat : ℕ) (wish : Wish) (index : ℕ) (held : Option Held) (found : ℕ → ℕ) → TriesBuffer (opening l seat wish index held) found
+BuffersAreTried = (l : Layout) (seat : ℕ) (wish : Wish) (index : ℕ) (held : Option Held) (found : ℕ → ℕ) → TriesBuffer l (opening seat wish index held) found

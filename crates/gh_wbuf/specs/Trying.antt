@@ -1,30 +1,30 @@
 -- A try to take one buffer: what is asked for at each stage, where that leads, and what it has given.
-use Rattle.std.specs.Prelude.{ℕ, ◌+◌, Bool, nat_lt, nat_le, ◌==◌, ◌&&◌, if◌then◌else◌, Option, Some, None, is_none}
+use Rattle.std.specs.Prelude.{◌≡◌, ℕ, ◌+◌, ◌<◌, Bool, true, false, nat_lt, nat_le, ◌==◌, ◌&&◌, if◌then◌else◌, Option, Some, None, is_none}
 use Rattle.gh_base.specs.declared.cell.Cell.TheVariants.{Touch, Buffer}
 use Rattle.gh_base.specs.declared.cell.Ask.{Ask}
 use Rattle.gh_base.specs.declared.cell.Ask.TheVariants.{Load, Store, Swap}
 use Rattle.gh_base.specs.declared.held.Held.{Held}
 use Rattle.gh_base.specs.declared.layout.Layout.{Layout}
-use Rattle.gh_base.specs.Given.{listing_of}
+use Rattle.gh_base.specs.Cells.{buffers_of, seats_of}
+use Rattle.gh_base.specs.Footprints.{Footprint}
+use Rattle.gh_base.specs.Footprints as row
+use Rattle.gh_base.specs.Holding.{FitsBuffers, IsHeld}
+use Rattle.gh_base.specs.Machines.{Listing, steps_of}
 use Rattle.gh_base.specs.Packing.{buffer_of, buffer_word}
-use Rattle.gh_base.specs.Routines.{Listing}
+use Rattle.gh_base.specs.Routines as routine
 use Rattle.gh_wbuf.specs.declared.try_buffer.TheConstants.{MOST_WITH_ROOM}
+use Rattle.gh_wbuf.specs.declared.try_buffer.TryBuffer.{TryBuffer}
 use Rattle.gh_wbuf.specs.declared.try_buffer.TryStage.{TryStage}
 use Rattle.gh_wbuf.specs.declared.try_buffer.TryStage.TheVariants.{Look, GiveBack, Claim, Ended}
 use Rattle.gh_wbuf.specs.declared.try_buffer.Wish.{Wish}
 use Rattle.gh_wbuf.specs.declared.try_buffer.Wish.TheVariants.{Room, Entry}
 
 -- a try: whose it is, what the buffer is to have, which buffer it is on, what is held, and its stage
-pub record Trying : Type 0 where
-  pub layout : Layout
-  pub seat : ℕ
-  pub wish : Wish
-  pub index : ℕ
-  pub held : Option Held
-  pub stage : TryStage
+abbrev pub Trying : Type 0
+Trying = TryBuffer
 
-abbrev pub opening : Layout → (seat : ℕ) → Wish → (index : ℕ) → Option Held → Trying
-opening l seat wish index held = record { layout = l; seat = seat; wish = wish; index = index; held = held; stage = Look }
+abbrev pub opening : (seat : ℕ) → Wish → (index : ℕ) → Option Held → Trying
+opening seat wish index held = record { seat = seat; wish = wish; index = index; held = held; stage = Look }
 
 abbrev pub at_stage : Trying → TryStage → Trying
 at_stage t stage = record t { stage = stage }
@@ -100,5 +100,38 @@ given t = given_at t.stage
 abbrev pub gives : Trying → ℕ → Option (Option Held)
 gives t found = given (goes t found)
 
-abbrev pub listing : Listing Trying (Option Held)
-listing = listing_of (λ t. t.layout) asks goes given
+-- What it knows of its own numbers, whatever it is told.
+
+-- the buffer that it is to take had what is wished
+abbrev pub SoundTryStage : Wish → TryStage → Type 0
+SoundTryStage wish (GiveBack word) = is_open wish word ≡ true
+SoundTryStage wish (Claim word) = is_open wish word ≡ true
+SoundTryStage wish _ = Unit {0}
+
+pub record SoundTrying (l : Layout) (t : Trying) : Type 0 where
+  pub seat : t.seat < seats_of l
+  pub index : t.index < buffers_of l
+  pub held : IsHeld l t.held
+  pub stage : SoundTryStage t.wish t.stage
+
+-- a buffer of the layout that has what is wished
+pub record Serves (l : Layout) (wish : Wish) (h : Held) : Type 0 where
+  pub fits : FitsBuffers l h
+  pub serves : serves wish h.count ≡ true
+
+-- a try has taken such a buffer, if it has taken one
+abbrev pub GivesServing : Layout → Wish → Option (Option Held) → Type 0
+GivesServing l wish (Some (Some h)) = Serves l wish h
+GivesServing l wish _ = Unit {0}
+
+-- it writes words of buffers
+abbrev pub writes : Footprint
+writes row.Buffer = true
+writes _ = false
+
+abbrev pub listing : Layout → Listing Trying (Option Held)
+listing l = record { asks = asks; goes = goes; given = given; sound = SoundTrying l; writes = writes }
+
+-- over told words
+abbrev pub transitions : Layout → routine.Listing Trying (Option Held)
+transitions l = steps_of l (listing l)

@@ -1,13 +1,15 @@
 //! The routine that looks for a buffer with room.
 
 ghost use Rattle.std.specs.Prelude.{◌≡◌, ◌<◌, Option, true};
-ghost use Rattle.gh_base.specs.Cells.{buffers_of, seats_of};
+ghost use Rattle.gh_base.specs.declared.layout.Layout.{Layout};
+ghost use Rattle.gh_base.specs.Cells.{buffers_of};
 ghost use Rattle.gh_base.specs.Holding.{IsHeld};
-ghost use Rattle.gh_wbuf.specs.RoomFinding.{given, held_at, is_busy, next_index, opening, try_at};
+ghost use Rattle.gh_wbuf.specs.RoomFinding.{given, goes, held_at, is_busy, next_index, opening, try_at};
+ghost use Rattle.gh_wbuf.specs.Sound.{SoundRoomFinding};
+ghost use Rattle.gh_wbuf.specs.Trying.{GivesServing};
 
 use crate::try_buffer::{TryBuffer, Wish, give_back};
-use gh_base::{Ask, Cell, Held, Layout, Machine, Req};
-use std::marker::Model;
+use gh_base::{Ask, Cell, Held, Layout, Req, Routine};
 
 /// The stages of the routine that looks for room.
 #[derive(Clone, Copy, Debug, PartialEq, Eq)]
@@ -27,38 +29,23 @@ pub enum RoomStage {
 /// room that nobody holds.
 #[derive(Clone, Copy, Debug, PartialEq, Eq)]
 pub struct FindRoom {
-    layout: Layout,
-    seat: u32,
-    stage: RoomStage,
-}
-
-impl Model for FindRoom {
-    ghost use Rattle.gh_wbuf.specs.RoomFinding.{RoomFinding};
-    ghost use Rattle.gh_wbuf.specs.Sound.{SoundRoomFinding};
-
-    ghost Value = { RoomFinding };
-
-    ghost view = { λ r. record { layout = r.layout; seat = r.seat; stage = r.stage } };
-
-    ghost invariant = { λ r. SoundRoomFinding (record { layout = r.layout; seat = r.seat; stage = r.stage }) };
-
-    ghost inverse = { λ r. record { layout = r.layout; seat = r.seat; stage = r.stage } };
+    /// Whose search it is.
+    pub seat: u32,
+    /// Its stage.
+    pub stage: RoomStage,
 }
 
 impl FindRoom {
     /// The seat takes a buffer with room, and holds this one before, if any.
-    pub fn new(layout: &Layout, seat: u32, held: Option<Held>) -> FindRoom
-        requires seat { seat < seats_of layout.now }
-        requires held { IsHeld layout.now held }
-        ensures opening { result ≡ opening layout.now seat held }
+    pub fn new(seat: u32, held: Option<Held>) -> FindRoom
+        ensures opening { result ≡ opening seat held }
         ensures begun { is_busy result.stage ≡ true }
     {
         FindRoom {
-            layout: *layout,
             seat,
             stage: match held {
                 Some(held) => RoomStage::GiveBack(held),
-                None => RoomStage::Try(TryBuffer::new(layout, seat, Wish::Room, 0, None)),
+                None => try_at(seat, 0),
             },
         }
     }
@@ -66,11 +53,11 @@ impl FindRoom {
     /// The buffer that is held now, if any.
     pub fn held(&self) -> Option<Held>
         ensures is { result ≡ held_at self.now.stage }
-        ensures fits { IsHeld self.now.layout result }
+        ensures fits { (l : Layout) → SoundRoomFinding l self.now → IsHeld l result }
     {
         match &self.stage {
             RoomStage::GiveBack(held) | RoomStage::Ended(held) => Some(*held),
-            RoomStage::Try(tried) => tried.held(),
+            RoomStage::Try(tried) => tried.held,
         }
     }
 
@@ -86,12 +73,10 @@ impl FindRoom {
 }
 
 /// It tries this buffer next.
-fn try_at(layout: &Layout, seat: u32, index: u32) -> RoomStage
-    requires seat { seat < seats_of layout.now }
-    requires index { index < buffers_of layout.now }
-    ensures { result ≡ try_at layout.now seat index }
+fn try_at(seat: u32, index: u32) -> RoomStage
+    ensures { result ≡ try_at seat index }
 {
-    RoomStage::Try(TryBuffer::new(layout, seat, Wish::Room, index, None))
+    RoomStage::Try(TryBuffer::new(seat, Wish::Room, index, None))
 }
 
 /// The buffer behind this one, and behind the last the first.
@@ -107,48 +92,36 @@ fn next_index(layout: &Layout, index: u32) -> u32
     }
 }
 
-impl Machine for FindRoom {
-    ghost use Rattle.gh_base.specs.Given.{is_over};
-    ghost use Rattle.gh_wbuf.specs.RoomFinding.{gives, goes, is_busy, listing};
-    ghost use Rattle.gh_wbuf.specs.Stays.{room_stays};
-    ghost use Rattle.gh_wbuf.specs.TrySound.{GivesServing};
+impl Routine for FindRoom {
     ghost use Rattle.gh_wbuf.specs.declared.try_buffer.Wish.TheVariants.{Room};
+    ghost use Rattle.gh_wbuf.specs.RoomFinding.{listing};
 
     type Out = Held;
 
-    ghost layout = { listing.layout };
+    ghost listing = { listing };
 
-    ghost busy = { listing.busy };
-
-    ghost asks = { listing.asks };
-
-    ghost goes = { listing.goes };
-
-    ghost gives = { listing.gives };
-
-    fn next(&self) -> Req {
+    fn next(&self, layout: &Layout) -> Req {
         match &self.stage {
-            RoomStage::GiveBack(held) => self.layout.request(give_back(*held)),
-            RoomStage::Try(tried) => tried.next(),
-            RoomStage::Ended(_) => self.layout.request(Ask::Load(Cell::Touch)),
+            RoomStage::GiveBack(held) => layout.request(give_back(*held)),
+            RoomStage::Try(tried) => tried.next(layout),
+            RoomStage::Ended(_) => layout.request(Ask::Load(Cell::Touch)),
         }
     }
 
-    fn take(&mut self, found: u64) -> Option<Held>
-        requires { is_busy self.old.stage ≡ true }
-        ensures state { self.new ≡ goes self.old found }
-        ensures out { result ≡ gives self.old found }
-        ensures serves { GivesServing self.old.layout Room (Option.Some result) }
+    fn take(&mut self, layout: &Layout, found: u64) -> Option<Held>
+        requires sound { SoundRoomFinding layout.now self.old }
+        requires busy { is_busy self.old.stage ≡ true }
+        ensures state { self.new ≡ goes layout.now self.old found }
+        ensures out { result ≡ given self.new }
+        ensures sound { SoundRoomFinding layout.now self.new }
+        ensures serves { GivesServing layout.now Room (Option.Some result) }
     {
         match &mut self.stage {
-            RoomStage::GiveBack(_) => self.stage = try_at(&self.layout, self.seat, 0),
+            RoomStage::GiveBack(_) => self.stage = try_at(self.seat, 0),
             RoomStage::Try(tried) => {
-                let out = tried.take(found)?;
+                let out = tried.take(layout, found)?;
                 self.stage = match out {
-                    None => {
-                        let next = next_index(&self.layout, tried.index());
-                        try_at(&self.layout, self.seat, next)
-                    }
+                    None => try_at(self.seat, next_index(layout, tried.index)),
                     Some(held) => RoomStage::Ended(held),
                 };
             }
@@ -156,8 +129,4 @@ impl Machine for FindRoom {
         }
         self.given()
     }
-
-    ghost ends = { λ m found busy. is_over (listing.gives m found) };
-
-    ghost stays = { room_stays };
 }

@@ -1,13 +1,43 @@
 //! Laws of the routines. The functions do nothing; what they ensure is proved.
 
+ghost use Rattle.gh_base.specs.declared.layout.Layout.{Layout};
+ghost use Rattle.gh_base.specs.Machines.{IsRoutine};
+ghost use Rattle.gh_wbuf.specs.BufferGiving as giving;
 ghost use Rattle.gh_wbuf.specs.Entries.{EntriesAreTaken};
+ghost use Rattle.gh_wbuf.specs.EntryTaking as taking;
 ghost use Rattle.gh_wbuf.specs.Facts.{BuffersPassByMoves};
 ghost use Rattle.gh_wbuf.specs.Knowing.{BuffersAreKept};
+ghost use Rattle.gh_wbuf.specs.RoomFinding as finding;
 ghost use Rattle.gh_wbuf.specs.Tries.{BuffersAreTried};
+ghost use Rattle.gh_wbuf.specs.Trying as trying;
 
 use crate::take_entry::TakeEntry;
 use gh_base::laws::{buffers_are_held, steps_are_folded};
 use gh_marks::laws::{facts_last, hands_follow, own_moves_leave};
+
+/// A try is a routine: it stays sound, each step is on a word that there is, and it writes words of buffers alone.
+pub fn try_is_a_routine()
+    ensures { (l : Layout) → IsRoutine l (trying.listing l) }
+{}
+
+/// So is the search for room.
+pub fn room_search_is_a_routine()
+    ensures { (l : Layout) → IsRoutine l (finding.listing l) }
+{
+    try_is_a_routine();
+}
+
+/// So is the taking of an entry.
+pub fn entry_taking_is_a_routine()
+    ensures { (l : Layout) → IsRoutine l (taking.listing l) }
+{
+    try_is_a_routine();
+}
+
+/// So is giving a buffer back.
+pub fn giving_back_is_a_routine()
+    ensures { (l : Layout) → IsRoutine l (giving.listing l) }
+{}
 
 /// A try answers none exactly where the buffer was held or lacked what is wished, by the word that it
 /// loaded, or its swap found another word. Else it ends with the buffer, of the count of that word, and

@@ -1,13 +1,14 @@
 //! The routine that takes an entry.
 
 ghost use Rattle.std.specs.Prelude.{◌≡◌, ◌*◌, ◌<◌, ◌≤◌, Option, true};
-ghost use Rattle.gh_base.specs.Cells.{buffers_of, seats_of};
+ghost use Rattle.gh_base.specs.declared.layout.Layout.{Layout};
+ghost use Rattle.gh_base.specs.Cells.{buffers_of};
 ghost use Rattle.gh_base.specs.Holding.{IsHeld};
 ghost use Rattle.gh_wbuf.specs.EntryTaking.{begin, behind, entry_of, given, held_at, is_busy, less, opening, try_at};
+ghost use Rattle.gh_wbuf.specs.Sound.{SoundEntryTaking};
 
 use crate::try_buffer::{TryBuffer, Wish};
-use gh_base::{Ask, Cell, Held, Layout, Machine, Req};
-use std::marker::Model;
+use gh_base::{Ask, Cell, Held, Layout, Req, Routine};
 
 /// The stages of the routine that takes an entry.
 #[derive(Clone, Copy, Debug, PartialEq, Eq)]
@@ -37,74 +38,54 @@ pub enum TakeStage {
 /// first heap word.
 #[derive(Clone, Copy, Debug, PartialEq, Eq)]
 pub struct TakeEntry {
-    layout: Layout,
-    seat: u32,
-    stage: TakeStage,
-}
-
-impl Model for TakeEntry {
-    ghost use Rattle.gh_wbuf.specs.EntryTaking.{EntryTaking};
-    ghost use Rattle.gh_wbuf.specs.Sound.{SoundEntryTaking};
-
-    ghost Value = { EntryTaking };
-
-    ghost view = { λ t. record { layout = t.layout; seat = t.seat; stage = t.stage } };
-
-    ghost invariant = { λ t. SoundEntryTaking (record { layout = t.layout; seat = t.seat; stage = t.stage }) };
-
-    ghost inverse = { λ t. record { layout = t.layout; seat = t.seat; stage = t.stage } };
+    /// Whose taking it is.
+    pub seat: u32,
+    /// Its stage.
+    pub stage: TakeStage,
 }
 
 /// It tries this buffer next, and holds this one, if any.
-fn try_at(layout: &Layout, seat: u32, index: u32, held: Option<Held>) -> TakeStage
-    requires seat { seat < seats_of layout.now }
-    requires index { index < buffers_of layout.now }
-    requires held { IsHeld layout.now held }
-    ensures { result ≡ try_at layout.now seat index held }
+fn try_at(seat: u32, index: u32, held: Option<Held>) -> TakeStage
+    ensures { result ≡ try_at seat index held }
 {
-    TakeStage::Try(TryBuffer::new(layout, seat, Wish::Entry, index, held))
+    TakeStage::Try(TryBuffer::new(seat, Wish::Entry, index, held))
 }
 
 /// Where it begins: with the entry of a held buffer that has one, or with the first try.
-fn begin(layout: &Layout, seat: u32, held: Option<Held>) -> TakeStage
-    requires seat { seat < seats_of layout.now }
-    requires held { IsHeld layout.now held }
-    ensures { result ≡ begin layout.now seat held }
+fn begin(seat: u32, held: Option<Held>) -> TakeStage
+    ensures { result ≡ begin seat held }
 {
     match held {
         Some(own) => {
             if 0 < own.count {
                 TakeStage::Take(own)
             } else {
-                try_at(layout, seat, 0, Some(own))
+                try_at(seat, 0, Some(own))
             }
         }
-        None => try_at(layout, seat, 0, None),
+        None => try_at(seat, 0, None),
     }
 }
 
 impl TakeEntry {
     /// The seat takes an entry, and holds this buffer before, if any.
-    pub fn new(layout: &Layout, seat: u32, held: Option<Held>) -> TakeEntry
-        requires seat { seat < seats_of layout.now }
-        requires held { IsHeld layout.now held }
-        ensures opening { result ≡ opening layout.now seat held }
+    pub fn new(seat: u32, held: Option<Held>) -> TakeEntry
+        ensures opening { result ≡ opening seat held }
         ensures begun { is_busy result.stage ≡ true }
     {
         TakeEntry {
-            layout: *layout,
             seat,
-            stage: begin(layout, seat, held),
+            stage: begin(seat, held),
         }
     }
 
     /// The buffer that is held now, if any.
     pub fn held(&self) -> Option<Held>
         ensures is { result ≡ held_at self.now.stage }
-        ensures fits { IsHeld self.now.layout result }
+        ensures fits { (l : Layout) → SoundEntryTaking l self.now → IsHeld l result }
     {
         match &self.stage {
-            TakeStage::Try(tried) => tried.held(),
+            TakeStage::Try(tried) => tried.held,
             TakeStage::Take(held) => Some(*held),
             TakeStage::Ended { held, .. } => *held,
         }
@@ -123,13 +104,11 @@ impl TakeEntry {
 
 /// What follows behind this buffer, with this one held, if any.
 fn behind(layout: &Layout, seat: u32, index: u32, held: Option<Held>) -> TakeStage
-    requires seat { seat < seats_of layout.now }
-    requires index { index < buffers_of layout.now }
-    requires held { IsHeld layout.now held }
+    requires { index < buffers_of layout.now }
     ensures { result ≡ behind layout.now seat index held }
 {
     if index + 1 < layout.buffers() {
-        try_at(layout, seat, index + 1, held)
+        try_at(seat, index + 1, held)
     } else {
         TakeStage::Ended { held, entry: None }
     }
@@ -159,50 +138,36 @@ fn take_from(layout: &Layout, held: Held, found: u64) -> TakeStage
     }
 }
 
-impl Machine for TakeEntry {
-    ghost use Rattle.gh_base.specs.Given.{is_over};
+impl Routine for TakeEntry {
     ghost use Rattle.gh_wbuf.specs.EntryTaking.{listing};
-    ghost use Rattle.gh_wbuf.specs.Stays.{take_stays};
 
     type Out = Option<u64>;
 
-    ghost layout = { listing.layout };
+    ghost listing = { listing };
 
-    ghost busy = { listing.busy };
-
-    ghost asks = { listing.asks };
-
-    ghost goes = { listing.goes };
-
-    ghost gives = { listing.gives };
-
-    fn next(&self) -> Req {
+    fn next(&self, layout: &Layout) -> Req {
         match &self.stage {
-            TakeStage::Try(tried) => tried.next(),
+            TakeStage::Try(tried) => tried.next(layout),
             TakeStage::Take(held) => {
                 let last = Cell::Entry(held.index, held.count - 1);
-                self.layout.request(Ask::Load(last))
+                layout.request(Ask::Load(last))
             }
-            TakeStage::Ended { .. } => self.layout.request(Ask::Load(Cell::Touch)),
+            TakeStage::Ended { .. } => layout.request(Ask::Load(Cell::Touch)),
         }
     }
 
-    fn take(&mut self, found: u64) -> Option<Option<u64>> {
+    fn take(&mut self, layout: &Layout, found: u64) -> Option<Option<u64>> {
         match &mut self.stage {
             TakeStage::Try(tried) => {
-                let out = tried.take(found)?;
+                let out = tried.take(layout, found)?;
                 self.stage = match out {
-                    None => behind(&self.layout, self.seat, tried.index(), tried.held()),
+                    None => behind(layout, self.seat, tried.index, tried.held),
                     Some(taken) => TakeStage::Take(taken),
                 };
             }
-            TakeStage::Take(held) => self.stage = take_from(&self.layout, *held, found),
+            TakeStage::Take(held) => self.stage = take_from(layout, *held, found),
             TakeStage::Ended { .. } => {}
         }
         self.given()
     }
-
-    ghost ends = { λ m found busy. is_over (listing.gives m found) };
-
-    ghost stays = { take_stays };
 }

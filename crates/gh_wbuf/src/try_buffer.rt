@@ -1,14 +1,10 @@
 //! The routine that tries to take one buffer.
 
-ghost use Rattle.std.specs.Prelude.{◌≡◌, ◌<◌, ◌≤◌, Option, true};
-ghost use Rattle.gh_base.specs.Cells.{buffers_of, InRange, seats_of};
-ghost use Rattle.gh_base.specs.Holding.{IsHeld};
-ghost use Rattle.gh_base.specs.Steps.{cell_of};
-ghost use Rattle.gh_wbuf.specs.TrySound.{GivesServing};
-ghost use Rattle.gh_wbuf.specs.Trying.{asks, claims, given, gives_back, goes, is_open, opening, taken_word};
+ghost use Rattle.std.specs.Prelude.{◌≡◌, ◌≤◌, Option, true};
+ghost use Rattle.gh_base.specs.declared.layout.Layout.{Layout};
+ghost use Rattle.gh_wbuf.specs.Trying.{claims, given, gives_back, GivesServing, goes, is_busy, is_open, opening, SoundTrying, taken_word};
 
-use gh_base::{Ask, BufferWord, Cell, ENTRIES, Held, Layout, Machine, Req};
-use std::marker::Model;
+use gh_base::{Ask, BufferWord, Cell, ENTRIES, Held, Layout, Req, Routine};
 
 /// The most entries of a buffer that has room: two more go in.
 pub const MOST_WITH_ROOM: u32 = ENTRIES - 2;
@@ -43,25 +39,16 @@ pub enum TryStage {
 /// found another word than the load: another actor was there first.
 #[derive(Clone, Copy, Debug, PartialEq, Eq)]
 pub struct TryBuffer {
-    layout: Layout,
-    seat: u32,
-    wish: Wish,
-    index: u32,
-    held: Option<Held>,
-    stage: TryStage,
-}
-
-impl Model for TryBuffer {
-    ghost use Rattle.gh_wbuf.specs.TrySound.{SoundTrying};
-    ghost use Rattle.gh_wbuf.specs.Trying.{Trying};
-
-    ghost Value = { Trying };
-
-    ghost view = { λ t. record { layout = t.layout; seat = t.seat; wish = t.wish; index = t.index; held = t.held; stage = t.stage } };
-
-    ghost invariant = { λ t. SoundTrying (record { layout = t.layout; seat = t.seat; wish = t.wish; index = t.index; held = t.held; stage = t.stage }) };
-
-    ghost inverse = { λ t. record { layout = t.layout; seat = t.seat; wish = t.wish; index = t.index; held = t.held; stage = t.stage } };
+    /// Whose try it is.
+    pub seat: u32,
+    /// What the buffer is to have.
+    pub wish: Wish,
+    /// The buffer that it tries.
+    pub index: u32,
+    /// The buffer that is held now, if any.
+    pub held: Option<Held>,
+    /// Its stage.
+    pub stage: TryStage,
 }
 
 /// The store that gives a held buffer back: its word is its count, and nobody holds it.
@@ -92,36 +79,16 @@ impl Wish {
 
 impl TryBuffer {
     /// The seat tries to take the buffer of this index, and holds this one, if any.
-    pub fn new(layout: &Layout, seat: u32, wish: Wish, index: u32, held: Option<Held>) -> TryBuffer
-        requires seat { seat < seats_of layout.now }
-        requires index { index < buffers_of layout.now }
-        requires held { IsHeld layout.now held }
-        ensures { result ≡ opening layout.now seat wish index held }
+    pub fn new(seat: u32, wish: Wish, index: u32, held: Option<Held>) -> TryBuffer
+        ensures { result ≡ opening seat wish index held }
     {
         TryBuffer {
-            layout: *layout,
             seat,
             wish,
             index,
             held,
             stage: TryStage::Look,
         }
-    }
-
-    /// The buffer that it tries.
-    pub fn index(&self) -> u32
-        ensures is { result ≡ self.now.index }
-        ensures there { result < buffers_of self.now.layout }
-    {
-        self.index
-    }
-
-    /// The buffer that is held now, if any.
-    pub fn held(&self) -> Option<Held>
-        ensures is { result ≡ self.now.held }
-        ensures fits { IsHeld self.now.layout result }
-    {
-        self.held
     }
 
     /// The word of the buffer once it is taken.
@@ -133,24 +100,6 @@ impl TryBuffer {
             holder: u64::from(self.seat) + 1,
         }
         .pack()
-    }
-
-    /// The step that it asks for.
-    fn ask(&self) -> Ask
-        ensures asks { result ≡ asks self.now }
-        ensures within { InRange self.now.layout (cell_of result) }
-    {
-        match self.stage {
-            TryStage::Look => Ask::Load(Cell::Buffer(self.index)),
-            TryStage::GiveBack(_) => match self.held {
-                Some(held) => give_back(held),
-                None => Ask::Load(Cell::Touch),
-            },
-            TryStage::Claim(word) => {
-                Ask::Swap(Cell::Buffer(self.index), word, self.taken_word(word))
-            }
-            TryStage::Ended(_) => Ask::Load(Cell::Touch),
-        }
     }
 
     /// What it does with an open buffer.
@@ -167,7 +116,7 @@ impl TryBuffer {
     fn look(&mut self, found: u64)
         requires { self.old.stage ≡ TryStage.Look }
         ensures goes { self.new ≡ goes self.old found }
-        ensures serves { GivesServing self.old.layout self.old.wish (given self.new) }
+        ensures serves { (l : Layout) → GivesServing l self.old.wish (given self.new) }
     {
         self.stage = if self.wish.is_met_by(found) {
             self.claims(found)
@@ -180,7 +129,7 @@ impl TryBuffer {
     fn claim(&mut self, word: u64, found: u64)
         requires at { self.old.stage ≡ TryStage.Claim word }
         ensures goes { self.new ≡ goes self.old found }
-        ensures serves { GivesServing self.old.layout self.old.wish (given self.new) }
+        ensures serves { (l : Layout) → SoundTrying l self.old → GivesServing l self.old.wish (given self.new) }
     {
         if found != word {
             self.stage = TryStage::Ended(None);
@@ -205,33 +154,35 @@ impl TryBuffer {
     }
 }
 
-impl Machine for TryBuffer {
-    ghost use Rattle.gh_base.specs.Given.{is_over};
-    ghost use Rattle.gh_wbuf.specs.Stays.{try_stays};
-    ghost use Rattle.gh_wbuf.specs.TrySound.{GivesServing};
-    ghost use Rattle.gh_wbuf.specs.Trying.{goes, gives, is_busy, listing};
+impl Routine for TryBuffer {
+    ghost use Rattle.gh_wbuf.specs.Trying.{listing};
 
     type Out = Option<Held>;
 
-    ghost layout = { listing.layout };
+    ghost listing = { listing };
 
-    ghost busy = { listing.busy };
-
-    ghost asks = { listing.asks };
-
-    ghost goes = { listing.goes };
-
-    ghost gives = { listing.gives };
-
-    fn next(&self) -> Req {
-        self.layout.request(self.ask())
+    fn next(&self, layout: &Layout) -> Req {
+        match self.stage {
+            TryStage::Look => layout.request(Ask::Load(Cell::Buffer(self.index))),
+            TryStage::GiveBack(_) => match self.held {
+                Some(held) => layout.request(give_back(held)),
+                None => layout.request(Ask::Load(Cell::Touch)),
+            },
+            TryStage::Claim(word) => {
+                let taken = self.taken_word(word);
+                layout.request(Ask::Swap(Cell::Buffer(self.index), word, taken))
+            }
+            TryStage::Ended(_) => layout.request(Ask::Load(Cell::Touch)),
+        }
     }
 
-    fn take(&mut self, found: u64) -> Option<Option<Held>>
-        requires { is_busy self.old.stage ≡ true }
+    fn take(&mut self, layout: &Layout, found: u64) -> Option<Option<Held>>
+        requires sound { SoundTrying layout.now self.old }
+        requires busy { is_busy self.old.stage ≡ true }
         ensures state { self.new ≡ goes self.old found }
-        ensures out { result ≡ gives self.old found }
-        ensures serves { GivesServing self.old.layout self.old.wish result }
+        ensures out { result ≡ given self.new }
+        ensures sound { SoundTrying layout.now self.new }
+        ensures serves { GivesServing layout.now self.old.wish result }
     {
         match self.stage {
             TryStage::Look => self.look(found),
@@ -244,8 +195,4 @@ impl Machine for TryBuffer {
         }
         self.given()
     }
-
-    ghost ends = { λ m found busy. is_over (listing.gives m found) };
-
-    ghost stays = { try_stays };
 }

@@ -58,18 +58,18 @@ module _ (w : Working) (P : (d marks scan_work earned : ℕ) → Type 0) (same :
   room_so : (sh : shade.Shading) (r : room.RoomFinding) (out : Option Held) → Counts 0 (after_room w sh r out)
   room_so sh r out = grind arith
 
-  pub step_so : (stage : WorkerStage) (found : ℕ) → (IsEarning stage → P 0 w.marks 0 (counted w.earned w.scan_work)) → Counts (words_done stage found) (goes_at w stage found)
+  pub step_so : (stage : WorkerStage) (found : ℕ) → (IsEarning stage → P 0 w.marks 0 (counted w.earned w.scan_work)) → Counts (words_done w.layout stage found) (goes_at w stage found)
   step_so LoadPage found handed = page_so (page_of found)
   step_so (Sweeping sw) found handed = sweep_so (sweep.goes sw found) (sweep.gives sw found)
   step_so (EarningAtStop e stops) found handed = handed tt
   step_so (GiveBack g stops) found handed = give_so (give.goes g found) stops (give.gives g found)
   step_so (Resuming r) found handed = resume_so (resume.goes r found) (resume.gives r found)
-  step_so (Taking t) found handed = take_so (take.goes t found) (take.gives t found)
-  step_so (Scanning sc) found handed = scan_so (scan.goes sc found) (scan.gives sc found)
+  step_so (Taking t) found handed = take_so (take.goes w.layout t found) (take.gives w.layout t found)
+  step_so (Scanning sc) found handed = scan_so (scan.goes w.layout sc found) (scan.gives w.layout sc found)
   step_so (Earning e) found handed = handed tt
   step_so (LoadGlobal i) found handed = global_so _ (eqb found 0)
   step_so (Shading sh) found handed = shade_so (shade.goes sh found) (shade.gives sh found)
-  step_so (FindRoom sh r) found handed = room_so sh (room.goes r found) (room.gives r found)
+  step_so (FindRoom sh r) found handed = room_so sh (room.goes w.layout r found) (room.gives w.layout r found)
   step_so _ found handed = same
 
 -- the count of so many words

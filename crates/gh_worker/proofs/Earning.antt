@@ -7,15 +7,15 @@ use Rattle.gh_sweep.specs.Listing as sweep
 use Rattle.gh_worker.specs.Earning.{WorkersEarn}
 use Rattle.gh_worker.specs.Works.{words_done}
 use Rattle.gh_worker.proofs.Counting.{IsEarning, step_so}
-use Rattle.gh_worker.proofs.Vocabulary.{Ask, asks_at, EarnStage, goes_at, is_busy, SoundAt, WorkerStage, Working}
+use Rattle.gh_worker.proofs.Vocabulary.{Ask, asks_at, EarnStage, goes_at, is_busy, Layout, SoundAt, WorkerStage, Working}
 use Rattle.gh_worker.proofs.Writing.{WritesPlainly}
 
 -- What its steps add to the bank: none but the steps that hand over.
 plain_none : (seat : ℕ) (step : Ask) → WritesPlainly seat step → handed_by step ≡ 0
 plain_none seat step x = grind arith
 
-sweep_none : (sw : sweep.Sweeping) (p : SweepStage) → handed_by (sweep.asks_at sw p) ≡ 0
-sweep_none sw p = grind arith
+sweep_none : (l : Layout) (sw : sweep.Sweeping) (p : SweepStage) → handed_by (sweep.asks_at l sw p) ≡ 0
+sweep_none l sw p = grind arith
 
 hands_over : (e : earn.Earning) (p : EarnStage) → earn.is_busy p ≡ true → handed_by (earn.asks_at e p) ≡ e.words
 hands_over e p b = grind arith
@@ -23,9 +23,9 @@ hands_over e p b = grind arith
 module _ (w : Working) (found : ℕ) where
   -- the counts are within their type behind the step
   abbrev IsWithin : WorkerStage → Type 0
-  IsWithin p = w.earned + w.scan_work + words_done p found < 2 ^ 64
+  IsWithin p = w.earned + w.scan_work + words_done w.layout p found < 2 ^ 64
 
-  keeps_at : (p : WorkerStage) → IsWithin p → (goes_at w p found).earned + (goes_at w p found).scan_work ≡ w.earned + w.scan_work + words_done p found
+  keeps_at : (p : WorkerStage) → IsWithin p → (goes_at w p found).earned + (goes_at w p found).scan_work ≡ w.earned + w.scan_work + words_done w.layout p found
   keeps_at p = step_so w (λ d marks scan_work earned. w.earned + w.scan_work + d < 2 ^ 64 → earned + scan_work ≡ w.earned + w.scan_work + d) (λ b. omega arith) (λ d b. omega (arith, b)) p found (λ e b. omega (arith, b))
 
   plain : (p : WorkerStage) → (IsEarning p → ⊥) → handed_by (asks_at w p) ≡ 0 → (goes_at w p found).earned ≡ w.earned + handed_by (asks_at w p)

@@ -1,10 +1,12 @@
 pub mod Vocabulary
 pub mod Counting
 pub mod Earning
-pub mod Looking
+pub mod Globals
 pub mod MarkShades
 pub mod MarkSteps
 pub mod Phases
+pub mod Places
 pub mod Shaking
+pub mod Sound
 pub mod Sweeping
 pub mod Writing

@@ -16,7 +16,7 @@ use Rattle.gh_wbuf.specs.EntryTaking as take
 use Rattle.gh_wbuf.specs.Facts as buffer_facts
 use Rattle.gh_sweep.specs.Listing as sweep
 use Rattle.gh_worker.specs.declared.worker.WorkerStage.TheVariants as worker
-use Rattle.gh_worker.proofs.Vocabulary.{Add, after_give, after_global, after_page, after_resume, after_scan, after_take, Ask, at_stage, by_phase, by_work, Cell, cell_of, ClaimGlobal, ClaimOf, counted, Cycle, done_with, EarnStage, effect, Facts, Body, Free, gives_back, goes_at, Good, handed_over, Hands, Head, Held, in_hand, InHand, IsQuietInMarking, Keeps, KnowsObject, KnowsObjects, landing, landing_on, Lands, lands_by, lands_still, Layout, Load, moved, NoClaim, nothing, page_done, page_of, PageWord, PassGlobals, Phase, phase_of, put, Quiet, ReadGlobal, ReadOf, reference_in, Resumed, ResumeStage, ScanGlobal, seats_of, Shared, StageFacts, Steps, stops_at, Store, Went, WorkerStage, Working}
+use Rattle.gh_worker.proofs.Vocabulary.{Add, after_give, after_global, after_page, after_resume, after_scan, after_take, Ask, at_stage, by_phase, by_work, Cell, cell_of, ClaimGlobal, ClaimOf, counted, Cycle, done_with, EarnStage, effect, Facts, Body, Free, gives_back, goes_at, Good, handed_over, Hands, Head, Held, in_hand, InHand, IsQuietInMarking, Keeps, KnowsObject, KnowsObjects, landing, landing_on, Lands, lands_by, lands_still, Load, moved, NoClaim, nothing, page_done, page_of, PageWord, PassGlobals, Phase, phase_of, put, Quiet, ReadGlobal, ReadOf, reference_in, Resumed, ResumeStage, ScanGlobal, seats_of, Shared, StageFacts, Steps, stops_at, Store, Went, WorkerStage, Working}
 
 pub record Known : Type 0 where
   pub last : EachHandLasts
@@ -27,7 +27,11 @@ pub record Known : Type 0 where
   pub shade : shade_facts.ShadesByMoves
   pub scan : scan_facts.ScansByMoves
 
-module _ (k : Known) (z : Cycle) (a : ℕ) (s : Shared) (g : Good z s) (objects : KnowsObjects z s) (w : Working) (layout_is : w.layout ≡ z.arena.layout) (seat_is : w.seat ≡ a) (seat_in : a < seats_of z.arena.layout) where
+module _ (k : Known) (z : Cycle) (a : ℕ) (s : Shared) (g : Good z s) (objects : KnowsObjects z s) (own : Working) (seat_is : own.seat ≡ a) (seat_in : a < seats_of z.arena.layout) where
+  -- the worker, in this heap
+  abbrev w : Working
+  w = record own { layout = z.arena.layout }
+
   abbrev Leads : Ask → Working → Type 0
   Leads ask n = Steps z a s ask (λ t. Facts z a t n)
 
@@ -37,7 +41,7 @@ module _ (k : Known) (z : Cycle) (a : ℕ) (s : Shared) (g : Good z s) (objects 
 
   -- the same worker, with another buffer, at another stage
   same : (t : Shared) (held : Option Held) (marks : ℕ) (stage : WorkerStage) → StageFacts z a t held stage → Facts z a t (record w { held = held; marks = marks; stage = stage })
-  same t held marks stage f = record { layout_is = layout_is; seat_is = seat_is; seat_in = seat_in; stage_is = f }
+  same t held marks stage f = record { layout_is = refl; seat_is = seat_is; seat_in = seat_in; stage_is = f }
 
   pub begin : (t : Shared) (rest : InHand) (held : Option Held) → Hands a t (buffer_facts.holding rest held) → buffer_facts.FactsBegin z a t rest held
   begin t rest held x = k.buffers.begin z a t rest held x
@@ -58,11 +62,11 @@ module _ (k : Known) (z : Cycle) (a : ℕ) (s : Shared) (g : Good z s) (objects 
   -- a page
   paged : (word : PageWord) → Hands a s (in_hand w.held NoClaim) → Facts z a s (after_page w word)
   paged (Head h) x = by _ where
-    by : (b : Bool) → Facts z a s (cond b (at_stage w (worker.Sweeping (sweep.opening w.layout w.page h))) (page_done w))
-    by true = same s w.held w.marks (worker.Sweeping (sweep.opening w.layout w.page h)) x
-    by false = record { layout_is = layout_is; seat_is = seat_is; seat_in = seat_in; stage_is = x }
-  paged Free x = record { layout_is = layout_is; seat_is = seat_is; seat_in = seat_in; stage_is = x }
-  paged (Body b) x = record { layout_is = layout_is; seat_is = seat_is; seat_in = seat_in; stage_is = x }
+    by : (b : Bool) → Facts z a s (cond b (at_stage w (worker.Sweeping (sweep.opening w.page h))) (page_done w))
+    by true = same s w.held w.marks (worker.Sweeping (sweep.opening w.page h)) x
+    by false = record { layout_is = refl; seat_is = seat_is; seat_in = seat_in; stage_is = x }
+  paged Free x = record { layout_is = refl; seat_is = seat_is; seat_in = seat_in; stage_is = x }
+  paged (Body b) x = record { layout_is = refl; seat_is = seat_is; seat_in = seat_in; stage_is = x }
 
   pub load-page : Hands a s (in_hand w.held NoClaim) → Leads (Load (cell.Page w.page)) (goes_at w worker.LoadPage (s.words (cell.Page w.page)))
   load-page x = still (cell.Page w.page) (after_page w (page_of (s.words (cell.Page w.page)))) (paged (page_of (s.words (cell.Page w.page))) x)
@@ -77,7 +81,7 @@ module _ (k : Known) (z : Cycle) (a : ℕ) (s : Shared) (g : Good z s) (objects 
 
         then : (t : Shared) → buffer_facts.GiveFacts z a t nothing (give.goes m n) → (out : Option (Unit {0})) → Facts z a t (after_give w (give.goes m n) number out)
         then t f None = same t w.held w.marks (worker.GiveBack (give.goes m n) number) f
-        then t f (Some x) = record { layout_is = layout_is; seat_is = seat_is; seat_in = seat_in; stage_is = (f.hands, refl) }
+        then t f (Some x) = record { layout_is = refl; seat_is = seat_is; seat_in = seat_in; stage_is = (f.hands, refl) }
 
   -- a step that marking does not read
   quiet-step : (hand : InHand) (step : Ask) (n : Working) → IsQuietInMarking s step → Hands a s hand → ((t : Shared) → Hands a t hand → Facts z a t n) → Leads step n
@@ -85,7 +89,7 @@ module _ (k : Known) (z : Cycle) (a : ℕ) (s : Shared) (g : Good z s) (objects 
 
   -- what is scanned is handed over
   earns-to : (m : earn.Earning) (p : EarnStage) (stage : WorkerStage) → Hands a s (in_hand w.held NoClaim) → ((t : Shared) → Hands a t (in_hand w.held NoClaim) → StageFacts z a t w.held stage) → Leads (earn.asks_at m p) (handed_over w stage)
-  earns-to m p stage x f = quiet-step (in_hand w.held NoClaim) (earn.asks_at m p) (handed_over w stage) (quiet p) x (λ t h. record { layout_is = layout_is; seat_is = seat_is; seat_in = seat_in; stage_is = f t h }) where
+  earns-to m p stage x f = quiet-step (in_hand w.held NoClaim) (earn.asks_at m p) (handed_over w stage) (quiet p) x (λ t h. record { layout_is = refl; seat_is = seat_is; seat_in = seat_in; stage_is = f t h }) where
     quiet : (q : EarnStage) → IsQuietInMarking s (earn.asks_at m q)
     quiet earning.Add = tt
     quiet earning.Ended = tt
@@ -115,27 +119,27 @@ module _ (k : Known) (z : Cycle) (a : ℕ) (s : Shared) (g : Good z s) (objects 
   pub takes : (m : take.EntryTaking) → buffer_facts.TakeFacts z a s nothing m → Leads (take.asks m) (goes_at w (worker.Taking m) (s.words (cell_of (take.asks m))))
   takes m f =
       let n : ℕ = s.words (cell_of (take.asks m)) in
-      landing z a s (effect s.words (take.asks m)) (λ t. Keeps z a s t × buffer_facts.TakeComes z a t nothing (take.gives m n) (take.goes m n)) (λ t. Facts z a t (after_take w (take.goes m n) (take.gives m n)))
-      (λ t v h. taken-then t (k.steps z a s t g v).good (take.goes m n) (take.gives m n) h.1)
+      landing z a s (effect s.words (take.asks m)) (λ t. Keeps z a s t × buffer_facts.TakeComes z a t nothing (take.gives z.arena.layout m n) (take.goes z.arena.layout m n)) (λ t. Facts z a t (after_take w (take.goes z.arena.layout m n) (take.gives z.arena.layout m n)))
+      (λ t v h. taken-then t (k.steps z a s t g v).good (take.goes z.arena.layout m n) (take.gives z.arena.layout m n) h.1)
       (k.buffers.takes.own_step z a s nothing m g objects f)
 
   -- so many words are scanned, and nothing but this buffer is in hand
   pub done : (t : Shared) (held : Option Held) (words : ℕ) → Hands a t (in_hand held NoClaim) → Facts z a t (done_with w held words)
   done t held words x = record {
-    layout_is = layout_is;
+    layout_is = refl;
     seat_is = seat_is;
     seat_in = seat_in;
-    stage_is = by_work (StageFacts z a t held) w.layout (counted w.scan_work words) x x;
+    stage_is = by_work (StageFacts z a t held) (counted w.scan_work words) x x;
   }
 
-  scanned-then : (t : Shared) (m : scan.Scanning) (n : ℕ) (out : Option ℕ) → scan.gives m n ≡ out → scan_facts.Facts z a t nothing (scan.goes m n) → Facts z a t (after_scan w (scan.goes m n) out)
+  scanned-then : (t : Shared) (m : scan.Scanning) (n : ℕ) (out : Option ℕ) → scan.gives z.arena.layout m n ≡ out → scan_facts.Facts z a t nothing (scan.goes z.arena.layout m n) → Facts z a t (after_scan w (scan.goes z.arena.layout m n) out)
   scanned-then t m n out e f = grind arith
 
-  pub scans : (m : scan.Scanning) → scan_facts.Facts z a s nothing m → Leads (scan.asks m) (goes_at w (worker.Scanning m) (s.words (cell_of (scan.asks m))))
+  pub scans : (m : scan.Scanning) → scan_facts.Facts z a s nothing m → Leads (scan.asks z.arena.layout m) (goes_at w (worker.Scanning m) (s.words (cell_of (scan.asks z.arena.layout m))))
   scans m f =
-      let n : ℕ = s.words (cell_of (scan.asks m)) in
-      landing z a s (effect s.words (scan.asks m)) (λ t. Keeps z a s t × scan_facts.Facts z a t nothing (scan.goes m n)) (λ t. Facts z a t (after_scan w (scan.goes m n) (scan.gives m n)))
-      (λ t v h. scanned-then t m n (scan.gives m n) refl h.1)
+      let n : ℕ = s.words (cell_of (scan.asks z.arena.layout m)) in
+      landing z a s (effect s.words (scan.asks z.arena.layout m)) (λ t. Keeps z a s t × scan_facts.Facts z a t nothing (scan.goes z.arena.layout m n)) (λ t. Facts z a t (after_scan w (scan.goes z.arena.layout m n) (scan.gives z.arena.layout m n)))
+      (λ t v h. scanned-then t m n (scan.gives z.arena.layout m n) refl h.1)
       (k.scan.keeps.own_step z a s nothing m g objects f)
 
   -- the cursor
@@ -159,12 +163,12 @@ module _ (k : Known) (z : Cycle) (a : ℕ) (s : Shared) (g : Good z s) (objects 
     by : (b : Bool) → ltb c w.layout.globals ≡ b → Leads (Add cell.Gcur 1) (at_stage w (cond b (worker.LoadGlobal c) worker.LoadPhase))
     by true e =
         let less : c < w.layout.globals = ltb-true _ _ e in
-        let inside : c < z.arena.layout.globals = subst (λ (l : Layout). c < l.globals) layout_is less in
+        let inside : c < z.arena.layout.globals = less in
         lands_by z a s (effect s.words (Add cell.Gcur 1)) (λ t. Facts z a t (at_stage w (worker.LoadGlobal c))) (ClaimGlobal c) (refl, inside) sum
         (same (moved z a s (ClaimGlobal c)) w.held w.marks (worker.LoadGlobal c) (inside, (k.follow z a s (in_hand w.held NoClaim) g x).claimed c (refl, inside) refl))
     by false e =
         let more : w.layout.globals ≤ c = ltb-false _ _ e in
-        let behind : z.arena.layout.globals ≤ c = subst (λ (l : Layout). l.globals ≤ c) layout_is more in
+        let behind : z.arena.layout.globals ≤ c = more in
         lands_by z a s (effect s.words (Add cell.Gcur 1)) (λ t. Facts z a t (at_stage w worker.LoadPhase)) (PassGlobals c) (record { at = refl; behind = behind; seat = seat_in; first = first }) sum
         (same (moved z a s (PassGlobals c)) w.held w.marks worker.LoadPhase ((k.follow z a s (in_hand w.held NoClaim) g x).passed c))
 
@@ -184,7 +188,7 @@ module _ (k : Known) (z : Cycle) (a : ℕ) (s : Shared) (g : Good z s) (objects 
 
         then : Good z (read i) → Lands z a (read i) (read i).words (λ u. Facts z a u (after_global w v))
         then good = by (eqb v 0) refl where
-          by : (b : Bool) → eqb v 0 ≡ b → Lands z a (read i) (read i).words (λ u. Facts z a u (cond b (done_with w w.held 1) (at_stage w (worker.Shading (shade.opening w.layout (reference_in w.layout v) w.held)))))
+          by : (b : Bool) → eqb v 0 ≡ b → Lands z a (read i) (read i).words (λ u. Facts z a u (cond b (done_with w w.held 1) (at_stage w (worker.Shading (shade.opening (reference_in w.layout v) w.held)))))
           by true e = lands_by z a (read i) (read i).words (λ u. Facts z a u (done_with w w.held 1)) (ScanGlobal i v) ((reads.has.is_read i v).0 refl, λ o p. absurd (nil o (eqb-true _ _ e) p)) refl
               (done (moved z a (read i) (ScanGlobal i v)) w.held 1 ((k.follow z a (read i) (in_hand w.held (ReadOf i v)) good reads).scanned i v refl)) where
                 nil : (o : ℕ) → v ≡ 0 → v ≡ o + 1 → ⊥
@@ -195,8 +199,7 @@ module _ (k : Known) (z : Cycle) (a : ℕ) (s : Shared) (g : Good z s) (objects 
               let known : s.since (v - 1) ≡ true = g.values.globals i (v - 1) is in
               let there : KnowsObject z.arena.layout.pages _ _ s.extents (v - 1) = objects (v - 1) known in
               let within : v - 1 < 1024 * z.arena.layout.pages = omega (arith, there.within, there.some) in
-              let inside : v - 1 < 1024 * w.layout.pages = rw layout_is within in
-              let reference : reference_in w.layout v ≡ v = ap (λ (n : ℕ). n + 1) (mod-eq_of_lt inside) ∙ sym is in
+              let reference : reference_in w.layout v ≡ v = ap (λ (n : ℕ). n + 1) (mod-eq_of_lt within) ∙ sym is in
               let hands : Hands a (read i) (shade_facts.in_hand (in_hand None (ReadOf i (reference_in w.layout v))) w.held None) = subst (λ (n : ℕ). Hands a (read i) (in_hand w.held (ReadOf i n))) (sym reference) reads in
-              lands_still z a (read i) (read i).words (λ u. Facts z a u (at_stage w (worker.Shading (shade.opening w.layout (reference_in w.layout v) w.held)))) refl
-              (same (read i) w.held w.marks (worker.Shading (shade.opening w.layout (reference_in w.layout v) w.held)) (i, k.shade.begins z a (read i) (in_hand None (ReadOf i (reference_in w.layout v))) w.layout (reference_in w.layout v) w.held (omega arith) (ap (λ (n : ℕ). s.since (n - 1)) reference ∙ known) hands))
+              lands_still z a (read i) (read i).words (λ u. Facts z a u (at_stage w (worker.Shading (shade.opening (reference_in w.layout v) w.held)))) refl
+              (same (read i) w.held w.marks (worker.Shading (shade.opening (reference_in w.layout v) w.held)) (i, k.shade.begins z a (read i) (in_hand None (ReadOf i (reference_in w.layout v))) (reference_in w.layout v) w.held (omega arith) (ap (λ (n : ℕ). s.since (n - 1)) reference ∙ known) hands))

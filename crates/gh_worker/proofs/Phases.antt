@@ -1,6 +1,7 @@
--- A worker leaves only where it finds the last phase, and marks only where it finds that marking is on: by its stages.
-use Rattle.std.proofs.Common.{◌≡◌, ℕ, Bool, true, false, cond, ltb, ◌==◌, ◌⊎◌, refl, inl, inr, Option, Some, arith}
+-- What a worker does, by its stage: it polls the phase, looks for spans, marks, stops, or leaves; and what it does behind each step.
+use Rattle.std.proofs.Common.{◌≡◌, ◌≢◌, ℕ, Bool, true, cond, ltb, ◌==◌, ◌⊎◌, refl, ap, inl, inr, Option, Some, arith}
 use Rattle.gh_base.specs.declared.cell.Cell.TheVariants as cell
+use Rattle.gh_base.specs.declared.pack.Phase.TheVariants as kind
 use Rattle.gh_phase.specs.declared.view.RunPhase.TheVariants as run
 use Rattle.gh_phase.specs.Listing as resume
 use Rattle.gh_scan.specs.Listing as scan
@@ -9,121 +10,154 @@ use Rattle.gh_sweep.specs.Listing as sweep
 use Rattle.gh_wbuf.specs.BufferGiving as give
 use Rattle.gh_wbuf.specs.EntryTaking as take
 use Rattle.gh_wbuf.specs.RoomFinding as room
-use Rattle.gh_worker.proofs.Vocabulary.{after_give, after_page, after_resume, after_room, after_scan, after_shade, after_sweep, after_take, asks_at, at_stage, by_phase, by_work, Claim, counted, Done, done_with, Earning, EarningAtStop, FindRoom, FindsMarking, GiveBack, gives_back, goes_at, Held, is_busy, IsLeaving, IsMarking, Leave, Load, LoadCursor, LoadGlobal, LoadPage, LoadPhase, page_of, PageWord, Phase, phase_of, reference_in, Resumed, Resuming, run_phase, Scanning, Shaded, Shading, SweepEnd, Sweeping, Taking, with_work, WorkerStage, Working}
+use Rattle.gh_worker.proofs.Vocabulary.{after_give, after_page, after_resume, after_room, after_scan, after_shade, after_sweep, after_take, asks_at, at_stage, by_phase, by_stop, Claim, Done, done_with, Earning, EarningAtStop, FindRoom, FindsMarking, GiveBack, gives_back, goes_at, Held, is_busy, IsLeaving, IsMarking, Leave, Load, LoadCursor, LoadGlobal, LoadPage, LoadPhase, page_of, PageWord, Phase, phase_of, reference_in, Resumed, Resuming, run_phase, Scanning, Shaded, Shading, SweepEnd, Sweeping, Taking, WorkerStage, Working}
 
--- Where a step does not find the last phase, the worker goes on.
+pub data Doing : Type 0 where
+  Polls : Doing
+  Looks : Doing
+  Marks : Doing
+  Stops : Doing
+  Leaves : Doing
+
+abbrev pub doing : WorkerStage → Doing
+doing LoadPhase = Polls
+doing LoadPage = Looks
+doing (Sweeping sw) = Looks
+doing (EarningAtStop e stops) = Stops
+doing (GiveBack g stops) = Stops
+doing (Resuming r) = Stops
+doing Leave = Leaves
+doing Done = Leaves
+doing _ = Marks
+
+-- what it does behind a load that finds this phase
+abbrev pub doing_by : Phase → Doing
+doing_by kind.Off = Looks
+doing_by kind.Mark = Marks
+doing_by kind.Stop = Stops
+doing_by kind.Finished = Leaves
+
+pub is_marking : (p : WorkerStage) → IsMarking p → doing p ≡ Marks
+is_marking p x = grind arith
+
+marks_then : (p : WorkerStage) → doing p ≡ Marks → IsMarking p
+marks_then p e = grind arith
+
+is_leaving : (p : WorkerStage) → IsLeaving p → doing p ≡ Leaves
+is_leaving p x = grind arith
+
+leaves_then : (p : WorkerStage) → doing p ≡ Leaves → IsLeaving p
+leaves_then p e = grind arith
+
+pub polls_then : (p : WorkerStage) → doing p ≡ Polls → p ≡ LoadPhase
+polls_then p e = grind arith
+
+mark_found : (phase : Phase) → doing_by phase ≡ Marks → run_phase phase ≡ Some run.Mark
+mark_found phase e = grind arith
+
+last_found : (phase : Phase) → doing_by phase ≡ Leaves → run_phase phase ≡ Some run.Finished
+last_found phase e = grind arith
+
 module _ (found : ℕ) (w : Working) where
-  backs_on : (n : ℕ) (held : Option Held) → IsLeaving (gives_back w n held) → ⊥
-  backs_on n held x = grind arith
+  -- it goes on with that, or polls
+  abbrev GoesOn : Doing → Working → Type 0
+  GoesOn does to = (doing to.stage ≡ does) ⊎ (doing to.stage ≡ Polls)
 
-  works_on : (scan_work : ℕ) → IsLeaving (with_work w.layout scan_work) → ⊥
-  works_on scan_work = by_work (λ p. IsLeaving p → ⊥) w.layout scan_work (λ x. x) (λ x. x)
+  -- and what it knows of the phase stays
+  abbrev Keeps : Doing → Working → Type 0
+  Keeps does to = (to.view ≡ w.view) × GoesOn does to
 
-  phases_on : (phase : Phase) → (phase_of found).phase ≡ phase → IsLeaving (by_phase w (phase_of found).stops phase) → run_phase (phase_of found).phase ≡ Some run.Finished
-  phases_on phase e x = grind arith
+  back_so : (stops : ℕ) (held : Option Held) → doing (gives_back w stops held) ≡ Stops
+  back_so stops held = grind arith
 
-  gives_on : (g : give.BufferGiving) (n : ℕ) (out : Option (Unit {0})) → IsLeaving (after_give w g n out).stage → ⊥
-  gives_on g n out x = grind arith
+  phase_so : (stops : ℕ) (phase : Phase) → doing (by_phase w stops phase) ≡ doing_by phase
+  phase_so stops kind.Stop = by_stop (λ p. doing p ≡ Stops) w stops w.held (λ z. back_so stops w.held) refl
+  phase_so stops _ = refl
 
-  resumes_on : (r : resume.Resuming) (out : Option Resumed) → IsLeaving (after_resume w r out).stage → ⊥
-  resumes_on r out x = grind arith
+  page_so : (word : PageWord) → Keeps Looks (after_page w word)
+  page_so word = grind arith
 
-  takes_on : (t : take.EntryTaking) (out : Option (Option ℕ)) → IsLeaving (after_take w t out).stage → ⊥
-  takes_on t out x = grind arith
+  sweep_so : (sw : sweep.Sweeping) (out : Option SweepEnd) → Keeps Looks (after_sweep w sw out)
+  sweep_so sw out = grind arith
 
-  scans_on : (s : scan.Scanning) (out : Option ℕ) → IsLeaving (after_scan w s out).stage → ⊥
-  scans_on s out x = grind arith
+  give_so : (g : give.BufferGiving) (stops : ℕ) (out : Option (Unit {0})) → GoesOn Stops (after_give w g stops out)
+  give_so g stops out = grind arith
 
-  shades_on : (sh : shade.Shading) (out : Option Shaded) → IsLeaving (after_shade w sh out).stage → ⊥
-  shades_on sh out x = grind arith
+  resume_so : (r : resume.Resuming) (out : Option Resumed) → GoesOn Stops (after_resume w r out)
+  resume_so r out = grind arith
 
-  room_on : (sh : shade.Shading) (r : room.RoomFinding) (out : Option Held) → IsLeaving (after_room w sh r out).stage → ⊥
-  room_on sh r out x = grind arith
+  take_so : (t : take.EntryTaking) (out : Option (Option ℕ)) → Keeps Marks (after_take w t out)
+  take_so t out = grind arith
 
-  stage_on : (b : Bool) (one other : WorkerStage) → (IsLeaving one → ⊥) → (IsLeaving other → ⊥) → IsLeaving (cond b one other) → ⊥
-  stage_on true one other f g x = f x
-  stage_on false one other f g x = g x
+  scan_so : (s : scan.Scanning) (out : Option ℕ) → Keeps Marks (after_scan w s out)
+  scan_so s out = grind arith
 
-  either_on : (b : Bool) (one other : Working) → (IsLeaving one.stage → ⊥) → (IsLeaving other.stage → ⊥) → IsLeaving (cond b one other).stage → ⊥
-  either_on b one other f g x = grind arith
+  cursor_so : (b : Bool) → Keeps Marks (at_stage w (cond b Claim LoadPhase))
+  cursor_so b = grind arith
 
-  page_on : (word : PageWord) → IsLeaving (after_page w word).stage → ⊥
-  page_on word x = grind arith
+  claim_so : (b : Bool) → Keeps Marks (at_stage w (cond b (LoadGlobal found) LoadPhase))
+  claim_so b = grind arith
 
-  sweep_on : (sw : sweep.Sweeping) (out : Option SweepEnd) → IsLeaving (after_sweep w sw out).stage → ⊥
-  sweep_on sw out x = grind arith
+  global_so : (b : Bool) → Keeps Marks (cond b (done_with w w.held 1) (at_stage w (Shading (shade.opening (reference_in w.layout found) w.held))))
+  global_so b = grind arith
+
+  shade_so : (sh : shade.Shading) (out : Option Shaded) → Keeps Marks (after_shade w sh out)
+  shade_so sh out = grind arith
+
+  room_so : (sh : shade.Shading) (r : room.RoomFinding) (out : Option Held) → Keeps Marks (after_room w sh r out)
+  room_so sh r out = grind arith
+
+  -- what it does behind a step, by what it did
+  abbrev Leads : Doing → Working → Type 0
+  Leads Polls to = (to.view ≡ w.view) × (doing to.stage ≡ doing_by (phase_of found).phase)
+  Leads Looks to = Keeps Looks to
+  Leads Marks to = Keeps Marks to
+  Leads Stops to = GoesOn Stops to
+  Leads Leaves to = doing to.stage ≡ Leaves
+
+  leads_at : (p : WorkerStage) → Leads (doing p) (goes_at w p found)
+  leads_at LoadPhase = (refl, phase_so (phase_of found).stops (phase_of found).phase)
+  leads_at LoadPage = page_so (page_of found)
+  leads_at (Sweeping sw) = sweep_so (sweep.goes sw found) (sweep.gives sw found)
+  leads_at (EarningAtStop e stops) = inl (back_so stops w.held)
+  leads_at (GiveBack g stops) = give_so (give.goes g found) stops (give.gives g found)
+  leads_at (Resuming r) = resume_so (resume.goes r found) (resume.gives r found)
+  leads_at (Taking t) = take_so (take.goes w.layout t found) (take.gives w.layout t found)
+  leads_at (Scanning s) = scan_so (scan.goes w.layout s found) (scan.gives w.layout s found)
+  leads_at (Earning e) = (refl, inr refl)
+  leads_at LoadCursor = cursor_so (ltb found w.layout.globals)
+  leads_at Claim = claim_so (ltb found w.layout.globals)
+  leads_at (LoadGlobal i) = global_so (found == 0)
+  leads_at (Shading sh) = shade_so (shade.goes sh found) (shade.gives sh found)
+  leads_at (FindRoom sh r) = room_so sh (room.goes w.layout r found) (room.gives w.layout r found)
+  leads_at Leave = refl
+  leads_at Done = refl
+
+  -- it did so before the step, or found the phase for it
+  abbrev Came : Doing → (was : Doing) → Type 0
+  Came does was = (was ≡ does) ⊎ ((was ≡ Polls) × (doing_by (phase_of found).phase ≡ does))
+
+  came : (does was : Doing) (to : Working) → does ≢ Polls → Leads was to → doing to.stage ≡ does → Came does was
+  came does was to other l e = grind arith
+
+  pub came_at : (does : Doing) (p : WorkerStage) → does ≢ Polls → doing (goes_at w p found).stage ≡ does → Came does (doing p)
+  came_at does p other e = came does (doing p) (goes_at w p found) other (leads_at p) e
+
+  view_so : (does was : Doing) (to : Working) → does ≢ Polls → does ≢ Stops → does ≢ Leaves → Leads was to → doing to.stage ≡ does → to.view ≡ w.view
+  view_so does was to other on stays l e = grind arith
+
+  pub view_at : (does : Doing) (p : WorkerStage) → does ≢ Polls → does ≢ Stops → does ≢ Leaves → doing (goes_at w p found).stage ≡ does → (goes_at w p found).view ≡ w.view
+  view_at does p other on stays e = view_so does (doing p) (goes_at w p found) other on stays (leads_at p) e
 
   -- it was about to leave, or found the last phase
-  abbrev FindsLast : WorkerStage → Type 0
-  FindsLast stage = IsLeaving stage ⊎ ((asks_at w stage ≡ Load cell.Phase) × (run_phase (phase_of found).phase ≡ Some run.Finished))
+  pub leaves_at : (p : WorkerStage) → is_busy p ≡ true → IsLeaving (goes_at w p found).stage → IsLeaving p ⊎ ((asks_at w p ≡ Load cell.Phase) × (run_phase (phase_of found).phase ≡ Some run.Finished))
+  leaves_at p busy x = elim (came_at Leaves p (λ e. absurd cc) (is_leaving _ x)) [
+    | inl was ↦ inl (leaves_then p was)
+    | inr polled ↦ inr (ap (asks_at w) (polls_then p polled.0), last_found (phase_of found).phase polled.1)
+  ]
 
-  pub leaves_at : (stage : WorkerStage) → is_busy stage ≡ true → IsLeaving (goes_at w stage found).stage → FindsLast stage
-  leaves_at LoadPhase busy x = inr (refl, phases_on (phase_of found).phase refl x)
-  leaves_at LoadPage busy x = absurd (page_on (page_of found) x)
-  leaves_at (Sweeping sw) busy x = absurd (sweep_on (sweep.goes sw found) (sweep.gives sw found) x)
-  leaves_at (EarningAtStop e n) busy x = absurd (backs_on n w.held x)
-  leaves_at (GiveBack g n) busy x = absurd (gives_on (give.goes g found) n (give.gives g found) x)
-  leaves_at (Resuming r) busy x = absurd (resumes_on (resume.goes r found) (resume.gives r found) x)
-  leaves_at (Taking t) busy x = absurd (takes_on (take.goes t found) (take.gives t found) x)
-  leaves_at (Scanning s) busy x = absurd (scans_on (scan.goes s found) (scan.gives s found) x)
-  leaves_at (Earning e) busy x = absurd x
-  leaves_at LoadCursor busy x = absurd (stage_on (ltb found w.layout.globals) Claim LoadPhase (λ y. y) (λ y. y) x)
-  leaves_at Claim busy x = absurd (stage_on (ltb found w.layout.globals) (LoadGlobal found) LoadPhase (λ y. y) (λ y. y) x)
-  leaves_at (LoadGlobal i) busy x = absurd (either_on (found == 0) (done_with w w.held 1) (at_stage w (Shading (shade.opening w.layout (reference_in w.layout found) w.held))) (works_on (counted w.scan_work 1)) (λ y. y) x)
-  leaves_at (Shading sh) busy x = absurd (shades_on (shade.goes sh found) (shade.gives sh found) x)
-  leaves_at (FindRoom sh r) busy x = absurd (room_on sh (room.goes r found) (room.gives r found) x)
-  leaves_at Leave busy x = inl tt
-  leaves_at Done busy x = absurd cc
-
--- Where it marks, it did so before, or has found that marking is on.
-module _ (found : ℕ) (w : Working) where
-  backs_not : (n : ℕ) (held : Option Held) → IsMarking (gives_back w n held) → ⊥
-  backs_not n held x = grind arith
-
-  phases_mark : (phase : Phase) → (phase_of found).phase ≡ phase → IsMarking (by_phase w (phase_of found).stops phase) → run_phase (phase_of found).phase ≡ Some run.Mark
-  phases_mark phase e x = grind arith
-
-  page_not : (word : PageWord) → IsMarking (after_page w word).stage → ⊥
-  page_not word x = grind arith
-
-  sweep_not : (sw : sweep.Sweeping) (out : Option SweepEnd) → IsMarking (after_sweep w sw out).stage → ⊥
-  sweep_not sw out x = grind arith
-
-  gives_not : (g : give.BufferGiving) (n : ℕ) (out : Option (Unit {0})) → IsMarking (after_give w g n out).stage → ⊥
-  gives_not g n out x = grind arith
-
-  resumes_not : (r : resume.Resuming) (out : Option Resumed) → IsMarking (after_resume w r out).stage → ⊥
-  resumes_not r out x = grind arith
-
-  take_view : (t : take.EntryTaking) (out : Option (Option ℕ)) → (after_take w t out).view ≡ w.view
-  take_view t out = grind arith
-
-  scan_view : (s : scan.Scanning) (out : Option ℕ) → (after_scan w s out).view ≡ w.view
-  scan_view s out = grind arith
-
-  shade_view : (sh : shade.Shading) (out : Option Shaded) → (after_shade w sh out).view ≡ w.view
-  shade_view sh out = grind arith
-
-  room_view : (sh : shade.Shading) (r : room.RoomFinding) (out : Option Held) → (after_room w sh r out).view ≡ w.view
-  room_view sh r out = grind arith
-
-  either_view : (b : Bool) (one other : Working) → one.view ≡ w.view → other.view ≡ w.view → (cond b one other).view ≡ w.view
-  either_view b one other e f = grind arith
-
-  pub marks_at : (stage : WorkerStage) → is_busy stage ≡ true → IsMarking (goes_at w stage found).stage → FindsMarking found w stage (goes_at w stage found)
-  marks_at LoadPhase busy x = record { view_stays = refl; finds = inr (refl, phases_mark (phase_of found).phase refl x) }
-  marks_at LoadPage busy x = absurd (page_not (page_of found) x)
-  marks_at (Sweeping sw) busy x = absurd (sweep_not (sweep.goes sw found) (sweep.gives sw found) x)
-  marks_at (EarningAtStop e n) busy x = absurd (backs_not n w.held x)
-  marks_at (GiveBack g n) busy x = absurd (gives_not (give.goes g found) n (give.gives g found) x)
-  marks_at (Resuming r) busy x = absurd (resumes_not (resume.goes r found) (resume.gives r found) x)
-  marks_at (Taking t) busy x = record { view_stays = take_view (take.goes t found) (take.gives t found); finds = inl tt }
-  marks_at (Scanning s) busy x = record { view_stays = scan_view (scan.goes s found) (scan.gives s found); finds = inl tt }
-  marks_at (Earning e) busy x = absurd x
-  marks_at LoadCursor busy x = record { view_stays = refl; finds = inl tt }
-  marks_at Claim busy x = record { view_stays = refl; finds = inl tt }
-  marks_at (LoadGlobal i) busy x = record { view_stays = either_view (found == 0) (done_with w w.held 1) (at_stage w (Shading (shade.opening w.layout (reference_in w.layout found) w.held))) refl refl; finds = inl tt }
-  marks_at (Shading sh) busy x = record { view_stays = shade_view (shade.goes sh found) (shade.gives sh found); finds = inl tt }
-  marks_at (FindRoom sh r) busy x = record { view_stays = room_view sh (room.goes r found) (room.gives r found); finds = inl tt }
-  marks_at Leave busy x = absurd x
-  marks_at Done busy x = absurd cc
+  pub marks_at : (p : WorkerStage) → is_busy p ≡ true → IsMarking (goes_at w p found).stage → FindsMarking found w p (goes_at w p found)
+  marks_at p busy x = record {
+    view_stays = view_at Marks p (λ e. absurd cc) (λ e. absurd cc) (λ e. absurd cc) (is_marking _ x);
+    finds = elim (came_at Marks p (λ e. absurd cc) (is_marking _ x)) [ inl was ↦ inl (marks_then p was) | inr polled ↦ inr (polls_then p polled.0, mark_found (phase_of found).phase polled.1) ];
+  }

@@ -13,7 +13,7 @@ use Rattle.gh_sweep.specs.Listing as sweep
 use Rattle.gh_wbuf.specs.BufferGiving as give
 use Rattle.gh_wbuf.specs.EntryTaking as take
 use Rattle.gh_wbuf.specs.RoomFinding as room
-use Rattle.gh_worker.proofs.Vocabulary.{Add, after_give, after_page, after_resume, after_room, after_scan, after_shade, after_sweep, after_take, Ask, asks_at, at_stage, by_phase, by_stop, by_work, Claim, counted, Done, done_with, Earning, EarningAtStop, EarnStage, FindRoom, GiveBack, gives_back, goes_at, GoesOnWithNone, handed_over, Held, is_busy, Leave, Load, LoadCursor, LoadGlobal, LoadPage, LoadPhase, page_of, PageWord, party_at, party_of, Phase, phase_of, reference_in, Resumed, Resuming, run_phase, Scanning, Shaded, Shading, Sound, SoundAt, stage_of, stands_at, Stop, stops_at, SweepEnd, Sweeping, Taking, WorkersKeepHandshake, WorkerStage, Working}
+use Rattle.gh_worker.proofs.Vocabulary.{Add, after_give, after_page, after_resume, after_room, after_scan, after_shade, after_sweep, after_take, Ask, asks_at, at_stage, by_phase, by_stop, by_work, Claim, counted, Done, done_with, Earning, EarningAtStop, EarnStage, FindRoom, GiveBack, gives_back, goes_at, GoesOnWithNone, handed_over, Held, is_busy, Layout, Leave, Load, LoadCursor, LoadGlobal, LoadPage, LoadPhase, page_of, PageWord, party_at, party_of, Phase, phase_of, reference_in, Resumed, Resuming, run_phase, Scanning, Shaded, Shading, Sound, SoundAt, stage_of, stands_at, Stop, stops_at, SweepEnd, Sweeping, Taking, WorkersKeepHandshake, WorkerStage, Working}
 use Rattle.gh_worker.proofs.Phases.{leaves_at, marks_at}
 
 -- what is scanned is handed over by no word of the handshake
@@ -44,7 +44,7 @@ module _ (found : ℕ) (w : Working) where
   takes ask t out = grind arith
 
   works : (ask : Ask) (held : Option Held) (words : ℕ) → FromAwakeTo found ask w (done_with w held words)
-  works ask held words = by_work (λ p. FromAwakeTo found ask w (record (done_with w held words) { stage = p })) w.layout (counted w.scan_work words) (tt, refl, tt) (record { words_are = refl; busy = refl }, refl, tt)
+  works ask held words = by_work (λ p. FromAwakeTo found ask w (record (done_with w held words) { stage = p })) (counted w.scan_work words) (tt, refl, tt) (record { words_are = refl; busy = refl }, refl, tt)
 
   scans : (ask : Ask) (s : scan.Scanning) (out : Option ℕ) → FromAwakeTo found ask w (after_scan w s out)
   scans ask s out = grind arith
@@ -79,11 +79,11 @@ module _ (found : ℕ) (w : Working) where
   -- it goes on after the stop
   module _ (h : ResumesInHandshake) (r : resume.Resuming) (s : GoesOnWithNone w.seat w.held w.scan_work r) where
     goes_on : (out : Option Resumed) → resume.gives r found ≡ out → Goes found w (Resuming r) (after_resume w (resume.goes r found) out)
-    goes_on out e = grind arith
+    goes_on out e = let keeps = h.keeps w.layout in grind arith
 
 -- a sweep writes no word of the handshake
-sweep_quiet : (sw : sweep.Sweeping) (p : SweepStage) → IsQuietInHandshake (sweep.asks_at sw p)
-sweep_quiet sw p = grind arith
+sweep_quiet : (l : Layout) (sw : sweep.Sweeping) (p : SweepStage) → IsQuietInHandshake (sweep.asks_at l sw p)
+sweep_quiet l sw p = grind arith
 
 awakes : (found : ℕ) (w to : Working) (ask : Ask) → IsQuietInHandshake ask → FromAwakeTo found ask w to → Sound to × StageGoes found (record { seat = w.seat; view = w.view }) Awake ask (party_of to) (stage_of to)
 awakes found w to ask q f = (f.0, (f.1, q, f.2))
@@ -92,18 +92,18 @@ module _ (q : MarkingIsQuiet) (h : ResumesInHandshake) where
   goes : (found : ℕ) (w : Working) (stage : WorkerStage) → SoundAt w stage → is_busy stage ≡ true → Goes found w stage (goes_at w stage found)
   goes found w LoadPhase s busy = awakes found w (goes_at w LoadPhase found) (Load cell.Phase) tt (phases found w (phase_of found).phase refl)
   goes found w LoadPage s busy = awakes found w (goes_at w LoadPage found) (Load (cell.Page w.page)) tt (pages found w (Load (cell.Page w.page)) (page_of found))
-  goes found w (Sweeping sw) s busy = awakes found w (goes_at w (Sweeping sw) found) (sweep.asks sw) (sweep_quiet sw sw.stage) (sweeps found w (sweep.asks sw) (sweep.goes sw found) (sweep.gives sw found))
+  goes found w (Sweeping sw) s busy = awakes found w (goes_at w (Sweeping sw) found) (sweep.asks w.layout sw) (sweep_quiet w.layout sw sw.stage) (sweeps found w (sweep.asks w.layout sw) (sweep.goes sw found) (sweep.gives sw found))
   goes found w (EarningAtStop x stops) s busy = earns found w x stops w.held refl
   goes found w (GiveBack g stops) s busy = gives found w q g stops (give.gives g found) s
   goes found w (Resuming r) s busy = goes_on found w h r s (resume.gives r found) refl
-  goes found w (Taking t) s busy = awakes found w (goes_at w (Taking t) found) (take.asks t) (q.takes t) (takes found w (take.asks t) (take.goes t found) (take.gives t found))
-  goes found w (Scanning sc) s busy = awakes found w (goes_at w (Scanning sc) found) (scan.asks sc) (q.scans sc) (scans found w (scan.asks sc) (scan.goes sc found) (scan.gives sc found))
+  goes found w (Taking t) s busy = awakes found w (goes_at w (Taking t) found) (take.asks t) (q.takes t) (takes found w (take.asks t) (take.goes w.layout t found) (take.gives w.layout t found))
+  goes found w (Scanning sc) s busy = awakes found w (goes_at w (Scanning sc) found) (scan.asks w.layout sc) (q.scans w.layout sc) (scans found w (scan.asks w.layout sc) (scan.goes w.layout sc found) (scan.gives w.layout sc found))
   goes found w (Earning x) s busy = awakes found w (goes_at w (Earning x) found) (earn.asks x) (earn_quiet x x.stage) (tt, refl, tt)
   goes found w LoadCursor s busy = awakes found w (goes_at w LoadCursor found) (Load cell.Gcur) tt (at_either found w (Load cell.Gcur) (ltb found w.layout.globals) Claim LoadPhase (tt, refl, tt) (tt, refl, tt))
   goes found w Claim s busy = awakes found w (goes_at w Claim found) (Add cell.Gcur 1) tt (at_either found w (Add cell.Gcur 1) (ltb found w.layout.globals) (LoadGlobal found) LoadPhase (tt, refl, tt) (tt, refl, tt))
-  goes found w (LoadGlobal i) s busy = awakes found w (goes_at w (LoadGlobal i) found) (Load (cell.Global i)) tt (either found w (Load (cell.Global i)) (found == 0) (done_with w w.held 1) (at_stage w (Shading (shade.opening w.layout (reference_in w.layout found) w.held))) (works found w (Load (cell.Global i)) w.held 1) (tt, refl, tt))
+  goes found w (LoadGlobal i) s busy = awakes found w (goes_at w (LoadGlobal i) found) (Load (cell.Global i)) tt (either found w (Load (cell.Global i)) (found == 0) (done_with w w.held 1) (at_stage w (Shading (shade.opening (reference_in w.layout found) w.held))) (works found w (Load (cell.Global i)) w.held 1) (tt, refl, tt))
   goes found w (Shading sh) s busy = awakes found w (goes_at w (Shading sh) found) (shade.asks sh) (q.shades sh) (shades found w (shade.asks sh) (shade.goes sh found) (shade.gives sh found))
-  goes found w (FindRoom sh r) s busy = awakes found w (goes_at w (FindRoom sh r) found) (room.asks r) (q.finds_room r) (finds_room found w (room.asks r) sh (room.goes r found) (room.gives r found))
+  goes found w (FindRoom sh r) s busy = awakes found w (goes_at w (FindRoom sh r) found) (room.asks r) (q.finds_room r) (finds_room found w (room.asks r) sh (room.goes w.layout r found) (room.gives w.layout r found))
   goes found w Leave s busy = (tt, (refl, refl, refl))
   goes found w Done s busy = absurd cc
 

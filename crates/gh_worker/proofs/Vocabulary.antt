@@ -32,6 +32,6 @@ pub use Rattle.gh_scan.specs.declared.scan.ScanStage.{ScanStage}
 pub use Rattle.gh_worker.specs.Handshake.{FindsMarking, GoesOnWithNone, HandsOver, IsLeaving, IsMarking, party_at, party_of, Sound, SoundAt, stage_of, stands_at, WorkersKeepHandshake}
 pub use Rattle.gh_worker.specs.Choices.{by_stop, by_work}
 pub use Rattle.gh_worker.specs.Listing.{after_give, after_global, after_page, after_resume, after_room, after_scan, after_shade, after_sweep, after_take, asks, asks_at, at_stage, by_phase, counted, done_with, gives_back, goes, goes_at, handed_over, held_at, is_busy, page_done, stops_at, with_work, sweep_at, sweep_in, Working}
-pub use Rattle.gh_worker.specs.MarkFacts.{claim_at, Facts, in_hand, StageFacts, WorksByMoves}
+pub use Rattle.gh_worker.specs.MarkFacts.{claim_at, Facts, HasInHand, in_hand, StageFacts, WorksByMoves}
 pub use Rattle.gh_worker.specs.declared.worker.WorkerStage.{WorkerStage}
 pub use Rattle.gh_worker.specs.declared.worker.WorkerStage.TheVariants.{Claim, Done, Earning, EarningAtStop, FindRoom, GiveBack, Leave, LoadCursor, LoadGlobal, LoadPage, LoadPhase, Resuming, Scanning, Shading, Sweeping, Taking}

@@ -10,7 +10,7 @@ use Rattle.gh_wbuf.specs.EntryTaking as take
 use Rattle.gh_wbuf.specs.RoomFinding as room
 use Rattle.gh_wbuf.specs.Trying as try
 use Rattle.gh_worker.specs.Writing.{CalmWorkersMarkNothing, WorkersWriteTheirOwn, WritesItsOwn}
-use Rattle.gh_worker.proofs.Vocabulary.{Ask, asks_at, is_busy, ResumeStage, RoomStage, ScanStage, ShadeStage, SoundAt, sweep_at, TakeStage, TryStage, WorkerStage, Working}
+use Rattle.gh_worker.proofs.Vocabulary.{Ask, asks_at, is_busy, Layout, ResumeStage, RoomStage, ScanStage, ShadeStage, SoundAt, sweep_at, TakeStage, TryStage, WorkerStage, Working}
 
 -- a routine of marking writes these words by no addition
 abbrev pub WritesPlainly : (seat : ℕ) → Ask → Type 0
@@ -33,8 +33,8 @@ module _ (seat : ℕ) where
   pub shades : (s : shade.Shading) (p : ShadeStage) → WritesPlainly seat (shade.asks_at s p)
   shades s p = grind arith
 
-  pub scans : (s : scan.Scanning) (p : ScanStage) → WritesPlainly seat (scan.asks_at s p)
-  scans s p = grind arith
+  pub scans : (l : Layout) (s : scan.Scanning) (p : ScanStage) → WritesPlainly seat (scan.asks_at l s p)
+  scans l s p = grind arith
 
   pub resumes : (r : resume.Resuming) (p : ResumeStage) → r.seat ≡ seat → WritesPlainly seat (resume.asks_at r p)
   resumes r p e = grind arith

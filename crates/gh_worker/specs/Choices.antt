@@ -3,12 +3,12 @@ use Rattle.std.specs.Prelude.{◌≡◌, ℕ, Option}
 use Rattle.std.proofs.Common.{arith}
 use Rattle.gh_credit.specs.Earning as earn
 use Rattle.gh_worker.specs.Listing.{gives_back, stops_at, with_work, Working}
-use Rattle.gh_worker.specs.Vocabulary.{Earning, EarningAtStop, Held, Layout, LoadPhase, WorkerStage}
+use Rattle.gh_worker.specs.Vocabulary.{Earning, EarningAtStop, Held, LoadPhase, WorkerStage}
 
 -- with so many words scanned and not handed over
-pub by_work : (P : WorkerStage → Type 0) (l : Layout) (scan_work : ℕ) → P LoadPhase → P (Earning (earn.opening l scan_work)) → P (with_work l scan_work)
-by_work P l scan_work one other = grind arith
+pub by_work : (P : WorkerStage → Type 0) (scan_work : ℕ) → P LoadPhase → P (Earning (earn.opening scan_work)) → P (with_work scan_work)
+by_work P scan_work one other = grind arith
 
 -- at a stop
-pub by_stop : (P : WorkerStage → Type 0) (w : Working) (stops : ℕ) (held : Option Held) → (w.scan_work ≡ 0 → P (gives_back w stops held)) → P (EarningAtStop (earn.opening w.layout w.scan_work) stops) → P (stops_at w stops held)
+pub by_stop : (P : WorkerStage → Type 0) (w : Working) (stops : ℕ) (held : Option Held) → (w.scan_work ≡ 0 → P (gives_back w stops held)) → P (EarningAtStop (earn.opening w.scan_work) stops) → P (stops_at w stops held)
 by_stop P w stops held one other = grind arith

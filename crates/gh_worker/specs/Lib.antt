@@ -2,9 +2,12 @@ pub mod Vocabulary
 pub mod Blind
 pub mod Choices
 pub mod Earning
+pub mod Globals
 pub mod Handshake
 pub mod Listing
 pub mod MarkFacts
+pub mod Places
+pub mod Routine
 pub mod Sound
 pub mod Stays
 pub mod Sweeping

@@ -51,12 +51,12 @@ counted count words = min (count + words) (2 ^ 64 - 1)
 abbrev pub asks_at : Working → WorkerStage → Ask
 asks_at w LoadPhase = Load cell.Phase
 asks_at w LoadPage = Load (cell.Page w.page)
-asks_at w (Sweeping sw) = sweep.asks sw
+asks_at w (Sweeping sw) = sweep.asks w.layout sw
 asks_at w (EarningAtStop e stops) = earn.asks e
 asks_at w (GiveBack g stops) = give.asks g
 asks_at w (Resuming r) = resume.asks r
 asks_at w (Taking t) = take.asks t
-asks_at w (Scanning s) = scan.asks s
+asks_at w (Scanning s) = scan.asks w.layout s
 asks_at w (Earning e) = earn.asks e
 asks_at w LoadCursor = Load cell.Gcur
 asks_at w Claim = Add cell.Gcur 1
@@ -68,21 +68,21 @@ asks_at w Done = Load cell.Touch
 
 -- it acknowledges the stop of this number and goes on
 abbrev pub resuming : Working → (stops : ℕ) → WorkerStage
-resuming w stops = Resuming (resume.opening w.layout w.seat stops w.view)
+resuming w stops = Resuming (resume.opening w.seat stops w.view)
 
 -- before that it gives the buffer that it holds back
 abbrev pub gives_back : Working → (stops : ℕ) → Option Held → WorkerStage
 gives_back w stops None = resuming w stops
-gives_back w stops (Some h) = GiveBack (give.opening w.layout h) stops
+gives_back w stops (Some h) = GiveBack (give.opening h) stops
 
 -- and first, at a stop, it hands over what it has scanned
 abbrev pub stops_at : Working → (stops : ℕ) → Option Held → WorkerStage
-stops_at w stops held = if w.scan_work == 0 then gives_back w stops held else EarningAtStop (earn.opening w.layout w.scan_work) stops
+stops_at w stops held = if w.scan_work == 0 then gives_back w stops held else EarningAtStop (earn.opening w.scan_work) stops
 
 -- by the phase that was found, with the number of stops
 abbrev pub by_phase : Working → (stops : ℕ) → Phase → WorkerStage
 by_phase w stops Off = LoadPage
-by_phase w stops Mark = Taking (take.opening w.layout w.seat w.held)
+by_phase w stops Mark = Taking (take.opening w.seat w.held)
 by_phase w stops Stop = stops_at w stops w.held
 by_phase w stops Finished = Leave
 
@@ -96,7 +96,7 @@ page_done w = record w { page = page_past w.layout w.page; stage = LoadPhase }
 
 -- where the page's word is the head of a span that is not swept, it sweeps the span
 abbrev pub after_page : Working → PageWord → Working
-after_page w (Head h) = if h.number + 2 == w.view.generation then at_stage w (Sweeping (sweep.opening w.layout w.page h)) else page_done w
+after_page w (Head h) = if h.number + 2 == w.view.generation then at_stage w (Sweeping (sweep.opening w.page h)) else page_done w
 after_page w Free = page_done w
 after_page w (Body b) = page_done w
 
@@ -130,15 +130,15 @@ after_resume w r (Some out) = record w { view = out.view; stage = LoadPhase }
 abbrev pub after_take : Working → take.EntryTaking → Option (Option ℕ) → Working
 after_take w t None = at_stage w (Taking t)
 after_take w t (Some None) = record w { held = take.held_at t.stage; stage = LoadCursor }
-after_take w t (Some (Some reference)) = record w { held = take.held_at t.stage; stage = Scanning (scan.opening w.layout w.seat reference (take.held_at t.stage)) }
+after_take w t (Some (Some reference)) = record w { held = take.held_at t.stage; stage = Scanning (scan.opening w.seat reference (take.held_at t.stage)) }
 
 -- where the words that are not handed over are enough, it hands them over
-abbrev pub with_work : Layout → (scan_work : ℕ) → WorkerStage
-with_work l scan_work = if nat_lt scan_work CREDIT_SLACK then LoadPhase else Earning (earn.opening l scan_work)
+abbrev pub with_work : (scan_work : ℕ) → WorkerStage
+with_work scan_work = if nat_lt scan_work CREDIT_SLACK then LoadPhase else Earning (earn.opening scan_work)
 
 -- so many words are scanned, and this is held then
 abbrev pub done_with : Working → Option Held → (words : ℕ) → Working
-done_with w held words = record w { held = held; marks = counted w.marks words; scan_work = counted w.scan_work words; stage = with_work w.layout (counted w.scan_work words) }
+done_with w held words = record w { held = held; marks = counted w.marks words; scan_work = counted w.scan_work words; stage = with_work (counted w.scan_work words) }
 
 abbrev pub after_scan : Working → scan.Scanning → Option ℕ → Working
 after_scan w s None = at_stage w (Scanning s)
@@ -146,12 +146,12 @@ after_scan w s (Some words) = done_with w (scan.held_at s.held s.stage) words
 
 -- a global that is nil needs no step more; any other is taken modulo the heap's words
 abbrev pub after_global : Working → (found : ℕ) → Working
-after_global w found = if found == 0 then done_with w w.held 1 else at_stage w (Shading (shade.opening w.layout (reference_in w.layout found) w.held))
+after_global w found = if found == 0 then done_with w w.held 1 else at_stage w (Shading (shade.opening (reference_in w.layout found) w.held))
 
 abbrev pub after_shade : Working → shade.Shading → Option Shaded → Working
 after_shade w sh None = at_stage w (Shading sh)
 after_shade w sh (Some shaded.Done) = done_with w sh.held 1
-after_shade w sh (Some shaded.WantsRoom) = at_stage w (FindRoom sh (room.opening w.layout w.seat sh.held))
+after_shade w sh (Some shaded.WantsRoom) = at_stage w (FindRoom sh (room.opening w.seat sh.held))
 
 abbrev pub after_room : Working → shade.Shading → room.RoomFinding → Option Held → Working
 after_room w sh r None = at_stage w (FindRoom sh r)
@@ -164,14 +164,14 @@ goes_at w (Sweeping sw) found = after_sweep w (sweep.goes sw found) (sweep.gives
 goes_at w (EarningAtStop e stops) found = after_earn_at_stop w (earn.goes e found) stops (earn.gives e found)
 goes_at w (GiveBack g stops) found = after_give w (give.goes g found) stops (give.gives g found)
 goes_at w (Resuming r) found = after_resume w (resume.goes r found) (resume.gives r found)
-goes_at w (Taking t) found = after_take w (take.goes t found) (take.gives t found)
-goes_at w (Scanning s) found = after_scan w (scan.goes s found) (scan.gives s found)
+goes_at w (Taking t) found = after_take w (take.goes w.layout t found) (take.gives w.layout t found)
+goes_at w (Scanning s) found = after_scan w (scan.goes w.layout s found) (scan.gives w.layout s found)
 goes_at w (Earning e) found = after_earn w (earn.goes e found) (earn.gives e found)
 goes_at w LoadCursor found = at_stage w (if nat_lt found w.layout.globals then Claim else LoadPhase)
 goes_at w Claim found = at_stage w (if nat_lt found w.layout.globals then LoadGlobal found else LoadPhase)
 goes_at w (LoadGlobal i) found = after_global w found
 goes_at w (Shading sh) found = after_shade w (shade.goes sh found) (shade.gives sh found)
-goes_at w (FindRoom sh r) found = after_room w sh (room.goes r found) (room.gives r found)
+goes_at w (FindRoom sh r) found = after_room w sh (room.goes w.layout r found) (room.gives w.layout r found)
 goes_at w Leave found = at_stage w Done
 goes_at w Done found = at_stage w Done
 

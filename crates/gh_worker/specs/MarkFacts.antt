@@ -17,7 +17,7 @@ use Rattle.gh_shade.specs.Listing as shade
 use Rattle.gh_wbuf.specs.Facts as buffer_facts
 use Rattle.gh_worker.specs.declared.worker.WorkerStage.{WorkerStage}
 use Rattle.gh_worker.specs.declared.worker.WorkerStage.TheVariants as worker
-use Rattle.gh_worker.specs.Listing.{Working, asks, goes, opening, sweep_in}
+use Rattle.gh_worker.specs.Listing.{Working, asks, goes, held_at, opening, sweep_in}
 
 -- What it has in hand: a buffer, and a global.
 abbrev pub in_hand : Option Held → Claim → InHand
@@ -55,8 +55,16 @@ pub record Facts (z : Cycle) (a : ℕ) (s : Shared) (w : Working) : Type 0 where
   pub seat_in : a < seats_of z.arena.layout
   pub stage_is : StageFacts z a s w.held w.stage
 
+-- it has something in hand, and that is this buffer, if any
+pub record HasInHand (a : ℕ) (s : Shared) (held : Option Held) : Type 0 where
+  pub hand : InHand
+  pub has : Hands a s hand
+  pub held_is : hand.held ≡ held
+
 pub record WorksByMoves : Type 0 where
   pub begins : (z : Cycle) (a : ℕ) (s : Shared) → a < seats_of z.arena.layout → Hands a s nothing → Facts z a s (opening z.arena.layout a)
   -- none sweeps while marking is on
   pub own_step : (z : Cycle) (a : ℕ) (s : Shared) (w : Working) → Good z s → KnowsObjects z s → sweep_in w ≡ None → Facts z a s w → Steps z a s (asks w) (λ t. Facts z a t (goes w (s.words (cell_of (asks w)))))
   pub lasts : (z : Cycle) (a : ℕ) (s t : Shared) (w : Working) → Others z a s t → Facts z a s w → Facts z a t w
+  -- the buffer that it has in hand is the one that it holds
+  pub holds : (z : Cycle) (a : ℕ) (s : Shared) (w : Working) → Facts z a s w → HasInHand a s (held_at w.held w.stage)

@@ -2,11 +2,12 @@
 use Rattle.std.specs.Prelude.{◌≡◌, ℕ, ◌+◌, ◌^◌, ◌<◌, ◌≤◌, Bool, true, false}
 use Rattle.gh_base.specs.declared.layout.Layout.{Layout}
 use Rattle.gh_base.specs.Holding.{IsHeld}
+use Rattle.gh_base.specs.Machines.{Listing, Runs}
 use Rattle.gh_credit.specs.Earning as earn
 use Rattle.gh_phase.specs.Listing as resume
 use Rattle.gh_phase.specs.Views.{FitsView}
 use Rattle.gh_scan.specs.Listing as scan
-use Rattle.gh_scan.specs.Sound.{Runs, ShadingWaits}
+use Rattle.gh_scan.specs.Sound.{ShadingWaits}
 use Rattle.gh_shade.specs.Listing as shade
 use Rattle.gh_sweep.specs.Listing as sweep
 use Rattle.gh_wbuf.specs.BufferGiving as give
@@ -21,20 +22,20 @@ pub record IsWorkersSeat (l : Layout) (seat : ℕ) : Type 0 where
   pub below : seat < l.procs + l.workers
 
 -- a routine that it runs at the stop of this number
-pub record RunsAtStop (l own : Layout) (is_busy : Bool) (number : ℕ) : Type 0 where
-  pub runs : Runs l own is_busy
+pub record RunsAtStop {M Out : Type 0} (r : Listing M Out) (m : M) (number : ℕ) : Type 0 where
+  pub runs : Runs r m
   pub stops : number < 2 ^ 62
 
 abbrev pub SoundStage : Layout → WorkerStage → Type 0
-SoundStage l (Sweeping sw) = Runs l sw.layout (sweep.is_busy sw.stage)
-SoundStage l (EarningAtStop e stops) = RunsAtStop l e.layout (earn.is_busy e.stage) stops
-SoundStage l (GiveBack g stops) = RunsAtStop l g.layout (give.is_busy g.stage) stops
-SoundStage l (Resuming r) = Runs l r.layout (resume.is_busy r)
-SoundStage l (Taking t) = Runs l t.layout (take.is_busy t.stage)
-SoundStage l (Scanning s) = Runs l s.layout (scan.is_busy s.stage)
-SoundStage l (Earning e) = Runs l e.layout (earn.is_busy e.stage)
+SoundStage l (Sweeping sw) = Runs (sweep.listing l) sw
+SoundStage l (EarningAtStop e stops) = RunsAtStop (earn.listing l) e stops
+SoundStage l (GiveBack g stops) = RunsAtStop (give.listing l) g stops
+SoundStage l (Resuming r) = Runs (resume.listing l) r
+SoundStage l (Taking t) = Runs (take.listing l) t
+SoundStage l (Scanning s) = Runs (scan.listing l) s
+SoundStage l (Earning e) = Runs (earn.listing l) e
 SoundStage l (LoadGlobal i) = i < l.globals
-SoundStage l (Shading sh) = Runs l sh.layout (shade.is_busy sh.stage)
+SoundStage l (Shading sh) = Runs (shade.listing l) sh
 SoundStage l (FindRoom sh r) = ShadingWaits l sh r
 SoundStage l _ = Unit {0}
 

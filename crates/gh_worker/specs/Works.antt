@@ -15,11 +15,11 @@ abbrev pub shading_word : Option Shaded → ℕ
 shading_word (Some shaded.Done) = 1
 shading_word _ = 0
 
-abbrev pub words_done : WorkerStage → (found : ℕ) → ℕ
-words_done (Scanning s) found = scan_words (scan.gives s found)
-words_done (LoadGlobal i) found = if found == 0 then 1 else 0
-words_done (Shading sh) found = shading_word (shade.gives sh found)
-words_done _ found = 0
+abbrev pub words_done : Layout → WorkerStage → (found : ℕ) → ℕ
+words_done l (Scanning s) found = scan_words (scan.gives l s found)
+words_done l (LoadGlobal i) found = if found == 0 then 1 else 0
+words_done l (Shading sh) found = shading_word (shade.gives sh found)
+words_done l _ found = 0
 
 module _ (l : Layout) (seat : ℕ) (found : ℕ → ℕ) where
   abbrev pub from : Working
@@ -31,7 +31,7 @@ module _ (l : Layout) (seat : ℕ) (found : ℕ → ℕ) where
   -- the words that it has scanned in the first n steps
   abbrev pub scanned : (n : ℕ) → ℕ
   scanned zero = 0
-  scanned (suc n) = scanned n + words_done (after n).stage (found n)
+  scanned (suc n) = scanned n + words_done (after n).layout (after n).stage (found n)
 
   -- its count is that of the words which it has scanned, and stands still at its type's end
   pub record CountsWords : Type 0 where

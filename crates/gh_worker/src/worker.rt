@@ -3,18 +3,11 @@
 ghost use Rattle.std.specs.Prelude.{◌≡◌, ◌^◌, ◌<◌, IsTrue, ◌↔◌, Option, false, true};
 ghost use Rattle.gh_base.specs.Holding.{IsHeld};
 ghost use Rattle.gh_base.specs.Packing.{page_of};
-ghost use Rattle.gh_credit.specs.Earning as earns;
-ghost use Rattle.gh_phase.specs.Listing as resumes;
-ghost use Rattle.gh_scan.specs.Listing as scans;
-ghost use Rattle.gh_scan.specs.Sound.{Runs, ShadingWaits};
-ghost use Rattle.gh_shade.specs.Listing as shades;
-ghost use Rattle.gh_sweep.specs.Listing as sweeps;
-ghost use Rattle.gh_wbuf.specs.EntryTaking as takes;
 ghost use Rattle.gh_worker.specs.Handshake.{IsMarking};
 ghost use Rattle.gh_worker.specs.Listing.{after_global, after_page, done_with, given, gives, gives_back, goes, goes_at, handed_over, held_at, is_busy, loads_phase_or_page, opening, page_done, page_past, resuming, stops_at, with_work};
 ghost use Rattle.gh_worker.specs.Sound.{IsWorkersSeat};
 
-use gh_base::{Ask, Cell, GONE, Held, Layout, Machine, PageWord, Phase, PhaseWord, Req};
+use gh_base::{Ask, Cell, GONE, Held, Layout, Machine, PageWord, Phase, PhaseWord, Req, Routine};
 use gh_credit::{CREDIT_SLACK, Earn};
 use gh_phase::{Resume, Resumed, View};
 use gh_scan::Scan;
@@ -166,7 +159,7 @@ impl Worker {
             WorkerStage::GiveBack(give, _) => give.held(),
             WorkerStage::Taking(take) => take.held(),
             WorkerStage::Scanning(scan) => scan.held(),
-            WorkerStage::Shading(shade) => shade.held(),
+            WorkerStage::Shading(shade) => shade.held,
             WorkerStage::FindRoom(_, room) => room.held(),
             _ => self.held,
         }
@@ -177,7 +170,7 @@ impl Worker {
         requires { stops < 2 ^ 62 }
         ensures { result ≡ resuming self.now stops }
     {
-        WorkerStage::Resuming(Resume::new(&self.layout, self.seat, stops, self.view))
+        WorkerStage::Resuming(Resume::new(self.seat, stops, self.view))
     }
 
     /// Acknowledges the stop of this number, and gives the buffer that it holds back first.
@@ -187,7 +180,7 @@ impl Worker {
     {
         match self.held {
             None => self.resuming(stops),
-            Some(held) => WorkerStage::GiveBack(GiveBuffer::new(&self.layout, held), stops),
+            Some(held) => WorkerStage::GiveBack(GiveBuffer::new(held), stops),
         }
     }
 
@@ -201,7 +194,7 @@ impl Worker {
         self.stage = if self.scan_work == 0 {
             self.gives_back(stops)
         } else {
-            WorkerStage::EarningAtStop(Earn::new(&self.layout, self.scan_work), stops)
+            WorkerStage::EarningAtStop(Earn::new(self.scan_work), stops)
         };
     }
 
@@ -215,7 +208,7 @@ impl Worker {
         match word.phase {
             Phase::Off => self.at_page = true,
             Phase::Mark => {
-                let take = TakeEntry::new(&self.layout, self.seat, self.held);
+                let take = TakeEntry::new(self.seat, self.held);
                 self.at_page = false;
                 self.stage = WorkerStage::Taking(take);
             }
@@ -256,7 +249,7 @@ impl Worker {
         match PageWord::unpack(found) {
             PageWord::Head(head) => {
                 if head.number + 2 == self.view.generation {
-                    let sweep = Sweep::new(&self.layout, self.page, head);
+                    let sweep = Sweep::new(self.page, head);
                     self.at_page = false;
                     self.stage = WorkerStage::Sweeping(sweep);
                 } else {
@@ -313,12 +306,12 @@ impl Worker {
 
     /// Goes on where so many words are scanned and not handed over: enough of them it hands over.
     fn with_work(&self, scan_work: u64) -> WorkerStage
-        ensures { result ≡ with_work self.now.layout scan_work }
+        ensures { result ≡ with_work scan_work }
     {
         if scan_work < CREDIT_SLACK {
             WorkerStage::LoadPhase
         } else {
-            WorkerStage::Earning(Earn::new(&self.layout, scan_work))
+            WorkerStage::Earning(Earn::new(scan_work))
         }
     }
 
@@ -375,7 +368,7 @@ impl Worker {
             let words = 1024 * u64::from(self.layout.pages);
             let reference = (found - 1) % words + 1;
             self.at_page = false;
-            self.stage = WorkerStage::Shading(Shade::new(&self.layout, reference, self.held));
+            self.stage = WorkerStage::Shading(Shade::new(reference, self.held));
         }
     }
 
@@ -385,7 +378,7 @@ impl Worker {
         ensures { self.new ≡ goes self.old found }
     {
         match &mut self.stage {
-            WorkerStage::Taking(take) => match take.take(found) {
+            WorkerStage::Taking(take) => match take.take(&self.layout, found) {
                 None => {}
                 Some(None) => {
                     self.held = take.held();
@@ -393,12 +386,12 @@ impl Worker {
                 }
                 Some(Some(reference)) => {
                     self.held = take.held();
-                    let scan = Scan::new(&self.layout, self.seat, reference, self.held);
+                    let scan = Scan::new(self.seat, reference, self.held);
                     self.stage = WorkerStage::Scanning(scan);
                 }
             },
             WorkerStage::Scanning(scan) => {
-                if let Some(words) = scan.take(found) {
+                if let Some(words) = scan.take(&self.layout, found) {
                     let held = scan.held();
                     self.stage = WorkerStage::LoadPhase;
                     self.done_with(held, words);
@@ -411,21 +404,21 @@ impl Worker {
             WorkerStage::LoadCursor => self.after_cursor(found),
             WorkerStage::Claim => self.after_claim(found),
             WorkerStage::LoadGlobal(_) => self.after_global(found),
-            WorkerStage::Shading(shade) => match shade.take(found) {
+            WorkerStage::Shading(shade) => match shade.take(&self.layout, found) {
                 None => {}
                 Some(Shaded::Done) => {
-                    let held = shade.held();
+                    let held = shade.held;
                     self.stage = WorkerStage::LoadPhase;
                     self.done_with(held, 1);
                 }
                 Some(Shaded::WantsRoom) => {
                     let shade = *shade;
-                    let room = FindRoom::new(&self.layout, self.seat, shade.held());
+                    let room = FindRoom::new(self.seat, shade.held);
                     self.stage = WorkerStage::FindRoom(shade, room);
                 }
             },
             WorkerStage::FindRoom(shade, room) => {
-                if let Some(held) = room.take(found) {
+                if let Some(held) = room.take(&self.layout, found) {
                     // The shading that waits for room has it, and goes on.
                     let mut shade = *shade;
                     shade.told_room(held);
@@ -472,18 +465,18 @@ impl Machine for Worker {
         let ask = match &self.stage {
             WorkerStage::LoadPhase => Ask::Load(Cell::Phase),
             WorkerStage::LoadPage => Ask::Load(Cell::Page(self.page)),
-            WorkerStage::Sweeping(sweep) => return sweep.next(),
-            WorkerStage::EarningAtStop(earn, _) => return earn.next(),
-            WorkerStage::GiveBack(give, _) => return give.next(),
-            WorkerStage::Resuming(resume) => return resume.next(),
-            WorkerStage::Taking(take) => return take.next(),
-            WorkerStage::Scanning(scan) => return scan.next(),
-            WorkerStage::Earning(earn) => return earn.next(),
+            WorkerStage::Sweeping(sweep) => return sweep.next(&self.layout),
+            WorkerStage::EarningAtStop(earn, _) => return earn.next(&self.layout),
+            WorkerStage::GiveBack(give, _) => return give.next(&self.layout),
+            WorkerStage::Resuming(resume) => return resume.next(&self.layout),
+            WorkerStage::Taking(take) => return take.next(&self.layout),
+            WorkerStage::Scanning(scan) => return scan.next(&self.layout),
+            WorkerStage::Earning(earn) => return earn.next(&self.layout),
             WorkerStage::LoadCursor => Ask::Load(Cell::Gcur),
             WorkerStage::Claim => Ask::Add(Cell::Gcur, 1),
             WorkerStage::LoadGlobal(i) => Ask::Load(Cell::Global(*i)),
-            WorkerStage::Shading(shade) => return shade.next(),
-            WorkerStage::FindRoom(_, room) => return room.next(),
+            WorkerStage::Shading(shade) => return shade.next(&self.layout),
+            WorkerStage::FindRoom(_, room) => return room.next(&self.layout),
             WorkerStage::Leave => Ask::Store(Cell::Ack(self.seat), GONE),
             WorkerStage::Done => Ask::Load(Cell::Touch),
         };
@@ -503,7 +496,7 @@ impl Machine for Worker {
             WorkerStage::LoadPage => self.after_page(found),
             WorkerStage::Sweeping(sweep) => {
                 // One that is lost another has begun.
-                if sweep.take(found).is_some() {
+                if sweep.take(&self.layout, found).is_some() {
                     self.stage = WorkerStage::LoadPhase;
                     self.page_done();
                 }
@@ -519,7 +512,7 @@ impl Machine for Worker {
                 self.given_back(stops);
             }
             WorkerStage::Resuming(resume) => {
-                if let Some(resumed) = resume.take(found) {
+                if let Some(resumed) = resume.take(&self.layout, found) {
                     self.view = resumed.view;
                     self.stage = WorkerStage::LoadPhase;
                 }

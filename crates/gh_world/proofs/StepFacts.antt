@@ -27,7 +27,7 @@ use Rattle.gh_mutator.specs.Serving.{answer_at}
 use Rattle.gh_mutator.specs.Step.{answered}
 use Rattle.gh_mutator.specs.Store as store
 use Rattle.gh_world.specs.World.{making}
-use Rattle.gh_world.proofs.Vocabulary.{Act, acting, acts_at, after_assist, after_gc, after_leave, after_poll, Answer, Assist, Assisting, assisting, assists, begins_at, bit, cache_span, follows, Found, gives_at, Global, GlobalStage, in_range, is_busy_at, is_leave, is_leaving, is_point, is_some, is_statement, is_unacted, Layout, Leaving, made_by, Name, NewStage, once_ended, Op, op_at, Place, PlaceStage, Placing, Polling, Processor, read_after_set, Register, register_of, Search, Seeking, set, Shape, Source, SpanHead, takes_at, Task, Then, Value, Wait, Waiting, Want, Wanted}
+use Rattle.gh_world.proofs.Vocabulary.{Act, acting, acts_at, after_assist, after_gc, after_leave, after_poll, Answer, Assist, Assisting, assisting, assists, begins_at, bit, cache_span, follows, Found, gives_at, Global, GlobalStage, in_range, is_busy_at, is_leave, is_leaving, is_none, is_point, is_some, is_statement, is_unacted, Layout, Leaving, made_by, Name, NewStage, once_ended, Op, op_at, Place, PlaceStage, Placing, Polling, Processor, read_after_set, Register, register_of, Search, Seeking, set, Shape, Source, SpanHead, takes_at, Task, Then, Value, Wait, Waiting, Want, Wanted}
 
 -- from task t and the processor m to the next one, with the act and the answer of the step
 pub record StepFacts (m : Processor) (t : Task) (next : Processor) (act : Option Act) (given : Option Answer) : Type 0 where
@@ -79,8 +79,8 @@ store_once l own held x store_stage.Bits found =
     let pointer = is_pointer_by l (x.at + x.k) found in
     store_bits_once x (store.stores l own held x pointer) (kinds_differ pointer held)
 store_once l own held x store_stage.Field found = refl
-store_once l own held x (store_stage.Writing w) found = by (write.gives w found) where
-  by : (out : Option (Unit {0})) → ActsOnce task.Store (store.at_stage x (store_stage.Writing w)) (store.after_write x (write.goes w found) out)
+store_once l own held x (store_stage.Writing w) found = by (write.gives l w found) where
+  by : (out : Option (Unit {0})) → ActsOnce task.Store (store.at_stage x (store_stage.Writing w)) (store.after_write x (write.goes l w found) out)
   by None = refl
   by (Some y) = refl
 
@@ -116,8 +116,8 @@ module _ (shapes : List Shape) (m : Processor) where
   end_facts g found = record { counted = λ h. omega arith; leaves = refl; answered = omega arith; once = refl; ends = refl; serves = refl }
 
   search_facts : (w : Wanted) (waited : Bool) (s : Seeking) (found : ℕ) → FactsAt (searches w waited s) found
-  search_facts w waited s found = go waited (search.gives s found) where
-    go : (b : Bool) (out : Option Found) → StepFacts m (searches w b s) (after_search shapes (cache_span m w.sought (search.goes s found).find.cached) w b (search.goes s found) out) (acting (refuses_behind_wait b out) (new_op w) true) (answer_search b out)
+  search_facts w waited s found = go waited (search.gives m.poll.layout s found) where
+    go : (b : Bool) (out : Option Found) → StepFacts m (searches w b s) (after_search shapes (cache_span m w.sought (search.goes m.poll.layout s found).find.cached) w b (search.goes m.poll.layout s found) out) (acting (refuses_behind_wait b out) (new_op w) true) (answer_search b out)
     go b out = grind arith
 
   wait_facts : (w : Wanted) (x : WaitState) (next : Waiting) (out : Option (Unit {0})) → StepFacts m (task.New (record { wanted = w; stage = Wait x })) (after_wait m w next out) None None
@@ -144,7 +144,7 @@ module _ (shapes : List Shape) (m : Processor) where
     go true = before_made w _ _ refl refl
     go false = before_made w _ _ refl refl
   place_facts w p found place_stage.Birth = before_made w _ _ refl refl
-  place_facts w p found (place_stage.Bits s) = go (bits.is_busy (bits.goes s found).stage) where
+  place_facts w p found (place_stage.Bits s) = go (is_none (bits.given (bits.goes s found))) where
     next : Bool → PlaceStage
     next b = cond b (place_stage.Bits (bits.goes s found)) (place.filled p.marking)
 
@@ -177,14 +177,14 @@ module _ (shapes : List Shape) (m : Processor) where
   new_facts w (Wait x) found = wait_facts w x (wait.goes (wait.waiting x m.poll) found) (wait.gives (wait.waiting x m.poll) found)
   new_facts w (Place p) found = place_facts w p found p.stage
   new_facts w (Want n) found = record { counted = λ g. omega arith; leaves = refl; answered = omega arith; once = refl; ends = refl; serves = refl }
-  new_facts w (Assist n x) found = assist_facts w n x (assist.goes x found) (assist.gives x found)
+  new_facts w (Assist n x) found = assist_facts w n x (assist.goes m.poll.layout x found) (assist.gives m.poll.layout x found)
 
   pub step_facts : (t : Task) (found : ℕ) → is_busy_at t ≡ true → FactsAt t found
   step_facts task.Idle found busy = absurd (cc)
   step_facts task.Left found busy = absurd (cc)
   step_facts (task.Load x) found busy = from_step task.Load m m x.g x.d x (load.step m.poll.layout x found) (load.op_of x) load_served refl (load_once m.poll.layout x x.stage found) (λ k. refl)
-  step_facts (task.Store x) found busy = from_step task.Store m (keeping m (store.held_behind m.poll.local.held x.stage found)) x.g x.v x (store.step m.poll.layout m.poll.local (register_of m x.g x.v) x found) (store.op_of x) store_served refl (store_once m.poll.layout m.poll.local (register_of m x.g x.v) x x.stage found) (λ k. refl)
-  step_facts (task.Global x) found busy = from_step task.Global m (keeping m (global.held_behind m.poll.local.held x.stage found)) x.g x.r x (global.step m.poll.layout (register_of m x.g x.r) x found) (global.op_of x) global_served (global_statement x x.stage) (global_once m.poll.layout (register_of m x.g x.r) x x.stage found) (λ k. refl)
+  step_facts (task.Store x) found busy = from_step task.Store m (keeping m (store.held_behind m.poll.layout m.poll.local.held x.stage found)) x.g x.v x (store.step m.poll.layout m.poll.local (register_of m x.g x.v) x found) (store.op_of x) store_served refl (store_once m.poll.layout m.poll.local (register_of m x.g x.v) x x.stage found) (λ k. refl)
+  step_facts (task.Global x) found busy = from_step task.Global m (keeping m (global.held_behind m.poll.layout m.poll.local.held x.stage found)) x.g x.r x (global.step m.poll.layout (register_of m x.g x.r) x found) (global.op_of x) global_served (global_statement x x.stage) (global_once m.poll.layout (register_of m x.g x.r) x x.stage found) (λ k. refl)
   step_facts (task.Register x) found busy = register_facts x x.source found
   step_facts (task.New x) found busy = new_facts x.wanted x.stage found
   step_facts (task.Gc g x) found busy = gc_facts g x (wait.goes (wait.waiting x m.poll) found) (wait.gives (wait.waiting x m.poll) found)

@@ -1,14 +1,14 @@
 -- The names that the files of proofs with many imports share.
 pub use Rattle.std.proofs.Math.ListN.{set}
-pub use Rattle.std.proofs.lemmas.Bool.{eq-eqb, eqb-false, eqb-true, ltb-true}
+pub use Rattle.std.proofs.lemmas.Bool.{eq-eqb, eqb-false, eqb-true}
 pub use Rattle.std.proofs.lemmas.Bool.Decides.{nat_tests}
 pub use Rattle.std.proofs.lemmas.List.{get_or-set_other, get_or-set_same}
 pub use Rattle.std.proofs.lemmas.List.FromFn.{get_or-map-range_with_len, length-map-range_with_len}
 pub use Rattle.std.proofs.lemmas.Option.{get_or_from_slice_get, slice_get-get_or, slice_get_past, slice_get_within}
 pub use Rattle.std.specs.Option.{option_to_list}
-pub use Rattle.std.specs.Prelude.{is_some, slice_get, ◌%◌}
+pub use Rattle.std.specs.Prelude.{is_none, is_some, slice_get, ◌%◌}
 pub use Rattle.gh_base.specs.Cells.{InRange}
-pub use Rattle.gh_base.specs.Lists.{Begins, by, Kind, Legal, started, state_of, words_after}
+pub use Rattle.gh_base.specs.Lists.{Begins, by, Legal, started, state_of, words_after}
 pub use Rattle.gh_base.specs.Packing.{bit}
 pub use Rattle.gh_base.specs.Reading.{read_after_set, read_replicate}
 pub use Rattle.gh_base.specs.Steps.{cell_of, changed, request, StepsAreShown, target}
@@ -27,7 +27,6 @@ pub use Rattle.gh_alloc.specs.Place.{Placing}
 pub use Rattle.gh_alloc.specs.Search.{Seeking}
 pub use Rattle.gh_alloc.specs.declared.place.PlaceStage.{PlaceStage}
 pub use Rattle.gh_alloc.specs.declared.sought.Found.{Found}
-pub use Rattle.gh_alloc.specs.declared.sought.Found.TheVariants.{At, NoRoom}
 pub use Rattle.gh_mutator.specs.Deeds.{processor_kind}
 pub use Rattle.gh_poll.specs.Leave.{Leaving}
 pub use Rattle.gh_mutator.specs.Listing.{Act, acting, acts, acts_at, after_gc, after_leave, after_poll, asks, begins, begins_at, follows, gives_at, is_busy_at, once_ended, op_at, takes, takes_at}
@@ -47,7 +46,6 @@ pub use Rattle.gh_mutator.specs.Processing.{Processor}
 pub use Rattle.gh_mutator.specs.declared.register.Register.{Register}
 pub use Rattle.gh_mutator.specs.declared.register.Source.{Source}
 pub use Rattle.gh_mutator.specs.declared.step.Then.{Then}
-pub use Rattle.gh_mutator.specs.declared.step.Then.TheVariants.{Ends, GoesOn}
 pub use Rattle.gh_mutator.specs.declared.task.Task.{Task}
 pub use Rattle.gh_coord.specs.GoingOn.{GoesOnUntilDone}
 pub use Rattle.gh_coord.specs.Stopping.{acks_of}

@@ -28,7 +28,7 @@ use gh_words::{Plain, Words};
 // It stands apart, so that the loop of turns holds none of it.
 #[inline(never)]
 fn goes_on<'s>(mutator: &mut Mutator<'s>, found: u64) -> bool
-    ensures exactly { result ≡ search_goes_on mutator.old.processor.task found }
+    ensures exactly { result ≡ search_goes_on mutator.old.processor.poll.layout mutator.old.processor.task found }
     ensures goes { IsTrue result → mutator.new ≡ goes mutator.old found }
     ensures last { IsTrue result → is_last mutator.old.processor.task ≡ false }
     ensures point { IsTrue result → is_point (mutating.acts mutator.old found) ≡ false }

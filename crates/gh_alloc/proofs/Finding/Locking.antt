@@ -21,24 +21,24 @@ has_lock (Ended out) = false
 has_lock _ = true
 
 -- the steps of the routines that it runs neither take the lock nor free it
-slots_asks : (s : slots.Searching) (p : SlotStage) (held : Bool) (w : ℕ) → lock_after held (slots.asks_at s p) w ≡ held
-slots_asks s p held w = grind arith
+slots_asks : (l : Layout) (s : slots.Searching) (p : SlotStage) (held : Bool) (w : ℕ) → lock_after held (slots.asks_at l s p) w ≡ held
+slots_asks l s p held w = grind arith
 
 give_asks : (g : give.SpanGiving) (p : GiveStage) (held : Bool) (w : ℕ) → lock_after held (give.asks_at g p) w ≡ held
 give_asks g p held w = grind arith
 
-pass_asks : (m : pass.Pass) (p : PassStage) (held : Bool) (w : ℕ) → lock_after held (pass.asks_at m p) w ≡ held
-pass_asks m p held w = grind arith
+pass_asks : (l : Layout) (m : pass.Pass) (p : PassStage) (held : Bool) (w : ℕ) → lock_after held (pass.asks_at l m p) w ≡ held
+pass_asks l m p held w = grind arith
 
-unswept_asks : (m : unswept.Unswept) (p : UnsweptStage) (held : Bool) (w : ℕ) → lock_after held (unswept.asks_at m p) w ≡ held
-unswept_asks m p held w = grind arith
+unswept_asks : (l : Layout) (m : unswept.Unswept) (p : UnsweptStage) (held : Bool) (w : ℕ) → lock_after held (unswept.asks_at l m p) w ≡ held
+unswept_asks l m p held w = grind arith
 
 carve_asks : (c : carve.Carving) (p : CarveStage) (held : Bool) (w : ℕ) → lock_after held (carve.asks_at c p) w ≡ held
 carve_asks c p held w = grind arith
 
 -- where it goes
-pub begin_without : (l : Layout) (w : Sought) (s : Option CachedSpan) → has_lock (begin l w s) ≡ false
-begin_without l w s = grind arith
+pub begin_without : (w : Sought) (s : Option CachedSpan) → has_lock (begin w s) ≡ false
+begin_without w s = grind arith
 
 pub unlocked_without : (f : Finding) (after : After) → has_lock (unlocked f after) ≡ false
 unlocked_without f after = grind arith
@@ -49,24 +49,24 @@ slots_without f out h = grind arith
 pub give_with : (f : Finding) (out : Option (Unit {0})) → has_lock f.stage ≡ true → has_lock (after_give f out).stage ≡ true
 give_with f out h = grind arith
 
-pub pass_with : (f : Finding) (out : Option (Option ℕ)) → has_lock f.stage ≡ true → has_lock (after_pass f out).stage ≡ true
-pass_with f out h = grind arith
+pub pass_with : (l : Layout) (f : Finding) (out : Option (Option ℕ)) → has_lock f.stage ≡ true → has_lock (after_pass l f out).stage ≡ true
+pass_with l f out h = grind arith
 
-pub unswept_with : (f : Finding) (out : Option (Option ℕ)) → has_lock f.stage ≡ true → has_lock (after_unswept f out).stage ≡ true
-unswept_with f out h = grind arith
+pub unswept_with : (l : Layout) (f : Finding) (out : Option (Option ℕ)) → has_lock f.stage ≡ true → has_lock (after_unswept l f out).stage ≡ true
+unswept_with l f out h = grind arith
 
-pub carve_with : (f : Finding) (out : Option (Option ℕ)) → has_lock f.stage ≡ true → has_lock (after_carve f out).stage ≡ true
-carve_with f out h = grind arith
+pub carve_with : (l : Layout) (f : Finding) (out : Option (Option ℕ)) → has_lock f.stage ≡ true → has_lock (after_carve l f out).stage ≡ true
+carve_with l f out h = grind arith
 
 lock_found : (f : Finding) (b : Bool) → cond b true false ≡ has_lock (cond b (locked_for f f.wanted f.cached) Lock)
 lock_found f b = grind arith
 
-pub step : (f : Finding) (p : FindStage) (w : ℕ) → lock_after (has_lock p) (asks_at f p) w ≡ has_lock (goes_at f p w).stage
-step f (Slots s) w = slots_asks s s.stage false w ∙ sym (slots_without (searched f (slots.goes s w)) (slots.gives s w) refl)
-step f Lock w = lock_found f (nat_eq w 0)
-step f (Give g) w = give_asks g g.stage true w ∙ sym (give_with (at_stage f (Give (give.goes g w))) (give.gives g w) refl)
-step f (Pass m) w = pass_asks m m.stage true w ∙ sym (pass_with (at_stage f (Pass (pass.goes m w))) (pass.gives m w) refl)
-step f (Unswept u) w = unswept_asks u u.stage true w ∙ sym (unswept_with (at_stage f (Unswept (unswept.goes u w))) (unswept.gives u w) refl)
-step f (Carve c) w = carve_asks c c.stage true w ∙ sym (carve_with (at_stage f (Carve (carve.goes c w))) (carve.gives c w) refl)
-step f (Unlock after) w = sym (unlocked_without f after)
-step f (Ended out) w = refl
+pub step : (l : Layout) (f : Finding) (p : FindStage) (w : ℕ) → lock_after (has_lock p) (asks_at l f p) w ≡ has_lock (goes_at l f p w).stage
+step l f (Slots s) w = slots_asks l s s.stage false w ∙ sym (slots_without (searched f (slots.goes s w)) (slots.given (slots.goes s w)) refl)
+step l f Lock w = lock_found f (nat_eq w 0)
+step l f (Give g) w = give_asks g g.stage true w ∙ sym (give_with (at_stage f (Give (give.goes g w))) (give.given (give.goes g w)) refl)
+step l f (Pass m) w = pass_asks l m m.stage true w ∙ sym (pass_with l (at_stage f (Pass (pass.goes l m w))) (pass.given (pass.goes l m w)) refl)
+step l f (Unswept u) w = unswept_asks l u u.stage true w ∙ sym (unswept_with l (at_stage f (Unswept (unswept.goes l u w))) (unswept.given (unswept.goes l u w)) refl)
+step l f (Carve c) w = carve_asks c c.stage true w ∙ sym (carve_with l (at_stage f (Carve (carve.goes l c w))) (carve.given (carve.goes l c w)) refl)
+step l f (Unlock after) w = sym (unlocked_without f after)
+step l f (Ended out) w = refl

@@ -9,7 +9,7 @@ use Rattle.gh_cache.specs.Sound as slots_sound
 use Rattle.gh_cache.specs.declared.next_slot.SlotStage.{SlotStage}
 use Rattle.gh_alloc.specs.Vocabulary.{Layout, SpanClass, Sought, Small, CachedSpan, At, Slots}
 use Rattle.gh_alloc.specs.Find.{Finding, move_cursor, span_for, word_at_cursor}
-use Rattle.gh_alloc.specs.FindSound.{IsCached, IsStage, Sound}
+use Rattle.gh_alloc.specs.FindSound.{IsCached, IsStage}
 use Rattle.gh_alloc.specs.Within.{LiesWithin, words_sought}
 
 -- a slot of a span in the arena lies in the arena
@@ -40,10 +40,10 @@ module _ (fit : (c : ℕ) → c < CLASSES → slots_of c * slot_of c ≤ 8192 * 
       word_at_cursor w (move_cursor cursor cached) + words_sought w ≤ 1024 * l.pages
   word_fits l w cached cursor class at same within = grind (arith, small_fits)
 
-  look_fits : (f : Finding) (s : slots.Searching) (p : SlotStage) (found : ℕ) → slots_sound.FitsArena s.layout s.span → slots_sound.IsStage s.span p → IsStage f.layout f.wanted (Slots (slots.at_stage s p)) → IsCached f.layout f.wanted f.cached → (out : Option ℕ) → slots.given (slots.goes_at s p found) ≡ Some out →
-      IfSome out (λ _. LiesWithin f.layout f.wanted (At (word_at_cursor f.wanted (move_cursor (slots.goes_at s p found).span.cursor f.cached))))
-  look_fits f s p found span here runs within = grind (arith, word_fits)
+  look_fits : (l : Layout) (f : Finding) (s : slots.Searching) (p : SlotStage) (found : ℕ) → slots_sound.FitsArena l s.span → slots_sound.IsStage s.span p → IsStage l f.wanted (Slots (slots.at_stage s p)) → IsCached l f.wanted f.cached →
+      IfSome (slots.given (slots.goes_at s p found)) (λ out. IfSome out (λ _. LiesWithin l f.wanted (At (word_at_cursor f.wanted (move_cursor (slots.goes_at s p found).span.cursor f.cached)))))
+  look_fits l f s p found span here runs within = grind (arith, word_fits)
 
-  pub slot_fits_heap : (f : Finding) (s : slots.Searching) (found : ℕ) → Sound f → slots_sound.Sound s → f.stage ≡ Slots s → (out : Option ℕ) → slots.gives s found ≡ Some out →
-      IfSome out (λ _. LiesWithin f.layout f.wanted (At (word_at_cursor f.wanted (move_cursor (slots.goes s found).span.cursor f.cached))))
-  slot_fits_heap f s found sound search is = grind (arith, look_fits)
+  pub slot_fits_heap : (l : Layout) (f : Finding) (s : slots.Searching) (found : ℕ) → IsStage l f.wanted (Slots s) → IsCached l f.wanted f.cached →
+      IfSome (slots.given (slots.goes s found)) (λ out. IfSome out (λ _. LiesWithin l f.wanted (At (word_at_cursor f.wanted (move_cursor (slots.goes s found).span.cursor f.cached)))))
+  slot_fits_heap l f s found runs cached = look_fits l f s s.stage found runs.0.sound.span runs.0.sound.stage runs cached

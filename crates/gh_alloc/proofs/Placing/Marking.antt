@@ -1,8 +1,10 @@
 -- While marking is on, an object is marked before it is made; while it is off, nothing is marked: by its stages.
-use Rattle.std.proofs.Common.{◌≡◌, ◌≢◌, ℕ, zero, suc, ◌+◌, ◌*◌, ◌%◌, ◌^◌, Bool, true, false, cond, nat_lt, Option, Some, None, refl, sym, ap, ◌∙◌, arith}
+use Rattle.std.proofs.Common.{◌≡◌, ◌≢◌, ℕ, zero, suc, ◌+◌, ◌*◌, ◌%◌, ◌^◌, Bool, true, false, cond, nat_lt, Option, Some, None, is_none, refl, sym, ap, ◌∙◌, arith}
 use Rattle.gh_base.specs.declared.cell.Cell.TheVariants as cell
 use Rattle.gh_base.specs.declared.cell.Ask.TheVariants.{Or}
 use Rattle.gh_base.specs.declared.pack.SpanHead.{SpanHead}
+use Rattle.gh_base.specs.declared.layout.Layout.{Layout}
+use Rattle.gh_base.specs.Machines.{steps_of}
 use Rattle.gh_base.specs.Routines.{told}
 use Rattle.gh_base.specs.Steps.{cell_of}
 use Rattle.gh_bitmap.specs.SetPointers as bits
@@ -13,11 +15,11 @@ use Rattle.gh_alloc.specs.Place.{Placing, asks, asks_at, counted, filled, goes_a
 
 -- The alloc bits are set at one stage, and the mark bits at one.
 
-sets_alloc : (p : Placing) (q : PlaceStage) (i w : ℕ) → asks_at p q ≡ Or (cell.Alloc i) w → q ≡ Alloc
-sets_alloc p q i w e = grind arith
+sets_alloc : (l : Layout) (p : Placing) (q : PlaceStage) (i w : ℕ) → asks_at l p q ≡ Or (cell.Alloc i) w → q ≡ Alloc
+sets_alloc l p q i w e = grind arith
 
-sets_mark : (p : Placing) (q : PlaceStage) (i : ℕ) → cell_of (asks_at p q) ≡ cell.Mark i → q ≡ Mark
-sets_mark p q i e = grind arith
+sets_mark : (l : Layout) (p : Placing) (q : PlaceStage) (i : ℕ) → cell_of (asks_at l p q) ≡ cell.Mark i → q ≡ Mark
+sets_mark l p q i e = grind arith
 
 -- Where marking is on, the stage before that of the alloc bit is that of the mark bit.
 
@@ -46,7 +48,7 @@ unmarked_counted p found e = by p.marking e where
 
 no_mark : (p : Placing) (q : PlaceStage) (w : ℕ) → p.marking ≡ false → goes_at p q w ≢ Mark
 no_mark p (Clear k) w off e = absurd (unmarked_cleared (nat_lt (k + 1) p.slot) (k + 1) e)
-no_mark p (Bits s) w off e = absurd (unmarked_filled (bits.is_busy (bits.goes s w).stage) (bits.goes s w) (ap (λ (m : Bool). cond (bits.is_busy (bits.goes s w).stage) (Bits (bits.goes s w)) (filled m)) (sym off) ∙ e))
+no_mark p (Bits s) w off e = absurd (unmarked_filled (is_none (bits.given (bits.goes s w))) (bits.goes s w) (ap (λ (m : Bool). cond (is_none (bits.given (bits.goes s w))) (Bits (bits.goes s w)) (filled m)) (sym off) ∙ e))
 no_mark p Alloc w off e = absurd (unmarked_made p p.span e)
 no_mark p Count w off e = absurd (unmarked_counted p w e)
 no_mark p _ w off e = absurd (cc)
@@ -54,21 +56,21 @@ no_mark p _ w off e = absurd (cc)
 same_bits : (i j w x : ℕ) → Or (cell.Alloc i) w ≡ Or (cell.Alloc j) x → Or (cell.Mark i) w ≡ Or (cell.Mark j) x
 same_bits i j w x e = cc
 
-module _ (p : Placing) (found : ℕ → ℕ) where
+module _ (l : Layout) (p : Placing) (found : ℕ → ℕ) where
   abbrev after : ℕ → Placing
-  after n = told listing p found n
+  after n = told (steps_of l (listing l)) p found n
 
   keeps_marking : (n : ℕ) → (after n).marking ≡ p.marking
   keeps_marking zero = refl
   keeps_marking (suc n) = keeps_marking n
 
-  marked : p.marking ≡ true → p.stage ≡ Clear 0 → (n i w : ℕ) → asks (after n) ≡ Or (cell.Alloc i) w → IsMarkedBefore p found n i w
+  marked : p.marking ≡ true → p.stage ≡ Clear 0 → (n i w : ℕ) → asks l (after n) ≡ Or (cell.Alloc i) w → IsMarkedBefore l p found n i w
   marked on first n i w e = grind (arith, from_mark, keeps_marking, same_bits, sets_alloc)
 
 pub marked_first : AnObjectIsMarkedBeforeItIsMade
 marked_first = record {
-  marked = λ l shape at slot name span found. marked (opening l shape at slot name span true) found refl refl;
-  opens_off = λ l shape at slot name span. record { off = refl; stage = λ e. absurd (cc) };
+  marked = λ l shape at slot name span found. marked l (opening shape at slot name span true) found refl refl;
+  opens_off = λ shape at slot name span. record { off = refl; stage = λ e. absurd (cc) };
   stays_off = λ p found x. record { off = x.off; stage = no_mark p p.stage found x.off };
-  unmarked = λ p i x e. x.stage (sets_mark p p.stage i e);
+  unmarked = λ l p i x e. x.stage (sets_mark l p p.stage i e);
 }

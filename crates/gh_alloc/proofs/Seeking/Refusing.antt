@@ -4,7 +4,7 @@ use Rattle.gh_central.specs.Reclaim.{Reclaiming}
 use Rattle.gh_central.specs.Reclaim as reclaim
 use Rattle.gh_alloc.specs.declared.search.SearchStage.{SearchStage}
 use Rattle.gh_alloc.specs.declared.search.SearchStage.TheVariants.{First, Free, Second}
-use Rattle.gh_alloc.specs.Vocabulary.{NoRoom}
+use Rattle.gh_alloc.specs.Vocabulary.{Layout, NoRoom}
 use Rattle.gh_alloc.specs.Find.{Finding, spans_for}
 use Rattle.gh_alloc.specs.Find as find
 use Rattle.gh_alloc.specs.Search.{after_first, after_free, frees_at, given, given_at, goes_at, refuses_at}
@@ -19,7 +19,7 @@ second_gives g b = grind arith
 free_gives : (f : Finding) (r : Reclaiming) (out : Option (Unit {0})) → given (after_free f r out) ≡ None
 free_gives f r out = grind arith
 
-pub search_refuses : (f : Finding) (p : SearchStage) (w : ℕ) → given (goes_at f p w) ≡ Some NoRoom → IsTrue (refuses_at f p)
-search_refuses f First w e = giver_refuses f f.stage w (sym (first_gives (find.goes f w)) ∙ e)
-search_refuses f (Free r) w e = let none : given (after_free f (reclaim.goes r w) (reclaim.gives r w)) ≡ None = free_gives f (reclaim.goes r w) (reclaim.gives r w) in absurd (cc)
-search_refuses f Second w e = giver_refuses f f.stage w (sym (second_gives (find.goes f w) (frees_at f.stage)) ∙ e)
+pub search_refuses : (l : Layout) (f : Finding) (p : SearchStage) (w : ℕ) → given (goes_at l f p w) ≡ Some NoRoom → IsTrue (refuses_at f p)
+search_refuses l f First w e = giver_refuses l f f.stage w (sym (first_gives (find.goes l f w)) ∙ e)
+search_refuses l f (Free r) w e = let none : given (after_free f (reclaim.goes l r w) (reclaim.given (reclaim.goes l r w))) ≡ None = free_gives f (reclaim.goes l r w) (reclaim.given (reclaim.goes l r w)) in absurd (cc)
+search_refuses l f Second w e = giver_refuses l f f.stage w (sym (second_gives (find.goes l f w) (frees_at f.stage)) ∙ e)

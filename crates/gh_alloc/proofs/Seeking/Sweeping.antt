@@ -10,7 +10,7 @@ use Rattle.gh_pages.specs.Listing as carve
 use Rattle.gh_sweep.specs.Listing.{is_busy, Sweeping}
 use Rattle.gh_alloc.specs.Find as find
 use Rattle.gh_alloc.specs.Search as search
-use Rattle.gh_alloc.specs.Vocabulary.{After}
+use Rattle.gh_alloc.specs.Vocabulary.{After, Layout}
 use Rattle.gh_alloc.proofs.Vocabulary.{after_carve, after_first, after_free, after_give, after_pass, after_slots, at_stage, Carve, Ended, Finding, FindStage, First, Free, frees_at, Give, goes_at, Lock, locked_for, Pass, Reclaiming, searched, SearchStage, Second, Slots, sweep_at, Unlock, unlocked, Unswept}
 
 none-some : {x : Option Sweeping} {sw : Sweeping} → x ≡ None → x ≡ Some sw → ⊥
@@ -30,28 +30,28 @@ lock-idle f b = grind arith
 give-idle : (f : Finding) (g : give.SpanGiving) (out : Option (Unit {0})) → sweep_at (after_give (at_stage f (Give g)) out).stage ≡ None
 give-idle f g out = grind arith
 
-pass-idle : (f : Finding) (m : pass.Pass) (out : Option (Option ℕ)) → sweep_at (after_pass (at_stage f (Pass m)) out).stage ≡ None
-pass-idle f m out = grind arith
+pass-idle : (l : Layout) (f : Finding) (m : pass.Pass) (out : Option (Option ℕ)) → sweep_at (after_pass l (at_stage f (Pass m)) out).stage ≡ None
+pass-idle l f m out = grind arith
 
-carve-idle : (f : Finding) (c : carve.Carving) (out : Option (Option ℕ)) → sweep_at (after_carve (at_stage f (Carve c)) out).stage ≡ None
-carve-idle f c out = grind arith
+carve-idle : (l : Layout) (f : Finding) (c : carve.Carving) (out : Option (Option ℕ)) → sweep_at (after_carve l (at_stage f (Carve c)) out).stage ≡ None
+carve-idle l f c out = grind arith
 
 -- The search of the heap.
 
-module _ (passes : RunsSweeps unswept.asks unswept.goes (λ (m : unswept.Unswept). m.layout) (λ (m : unswept.Unswept). m.generation) unswept.sweep_in) where
-  find-goes : (f : Finding) (u : unswept.Unswept) (w : ℕ) → find.sweep_in (find.goes_at f (Unswept u) w) ≡ unswept.sweep_in (unswept.goes u w)
+module _ (l : Layout) (passes : RunsSweeps (unswept.asks l) (unswept.goes l) (λ _. l) (λ (m : unswept.Unswept). m.generation) unswept.sweep_in) where
+  find-goes : (f : Finding) (u : unswept.Unswept) (w : ℕ) → find.sweep_in (find.goes_at l f (Unswept u) w) ≡ unswept.sweep_in (unswept.goes l u w)
   find-goes f u w = grind arith
 
-  find-on : (f : Finding) (p : FindStage) (sw : Sweeping) → sweep_at p ≡ Some sw → is_busy sw.stage ≡ true → SweepsOn find.asks find.goes find.sweep_in (at_stage f p) sw
+  find-on : (f : Finding) (p : FindStage) (sw : Sweeping) → sweep_at p ≡ Some sw → is_busy sw.stage ≡ true → SweepsOn l (find.asks l) (find.goes l) find.sweep_in (at_stage f p) sw
   find-on f p sw e busy = grind arith
 
-  find-begins : (f : Finding) (p : FindStage) (w : ℕ) (sw : Sweeping) → sweep_at p ≡ None → find.sweep_in (find.goes_at f p w) ≡ Some sw → BeginsSweep (find.sweep_layout_at f p) (find.sweep_generation_at f p) (find.asks_at f p) w sw
-  find-begins f (Slots s) w sw none e = absurd (none-some (slots-idle f (slots.goes s w) (slots.gives s w)) e)
+  find-begins : (f : Finding) (p : FindStage) (w : ℕ) (sw : Sweeping) → sweep_at p ≡ None → find.sweep_in (find.goes_at l f p w) ≡ Some sw → BeginsSweep (find.sweep_generation_at f p) (find.asks_at l f p) w sw
+  find-begins f (Slots s) w sw none e = absurd (none-some (slots-idle f (slots.goes s w) (slots.given (slots.goes s w))) e)
   find-begins f Lock w sw none e = absurd (none-some (lock-idle f (eqb w 0)) e)
-  find-begins f (Give g) w sw none e = absurd (none-some (give-idle f (give.goes g w) (give.gives g w)) e)
-  find-begins f (Pass m) w sw none e = absurd (none-some (pass-idle f (pass.goes m w) (pass.gives m w)) e)
+  find-begins f (Give g) w sw none e = absurd (none-some (give-idle f (give.goes g w) (give.given (give.goes g w))) e)
+  find-begins f (Pass m) w sw none e = absurd (none-some (pass-idle l f (pass.goes l m w) (pass.given (pass.goes l m w))) e)
   find-begins f (Unswept u) w sw none e = passes.begins u w sw none (sym (find-goes f u w) ∙ e)
-  find-begins f (Carve c) w sw none e = absurd (none-some (carve-idle f (carve.goes c w) (carve.gives c w)) e)
+  find-begins f (Carve c) w sw none e = absurd (none-some (carve-idle l f (carve.goes l c w) (carve.given (carve.goes l c w))) e)
   find-begins f (Unlock after) w sw none e = absurd (none-some (unlocked-idle f after) e)
   find-begins f (Ended out) w sw none e = absurd (none-some refl e)
 
@@ -66,16 +66,16 @@ module _ (passes : RunsSweeps unswept.asks unswept.goes (λ (m : unswept.Unswept
   free-goes : (f : Finding) (r : Reclaiming) (out : Option (Unit {0})) → reclaim.given r ≡ out → search.sweep_in (after_free f r out) ≡ reclaim.sweep_in r
   free-goes f r out e = grind arith
 
-  module _ (reclaims : RunsSweeps reclaim.asks reclaim.goes (λ (m : Reclaiming). m.layout) (λ (m : Reclaiming). m.generation) reclaim.sweep_in) where
-    on : (f : Finding) (p : SearchStage) (sw : Sweeping) → search.sweep_at f p ≡ Some sw → is_busy sw.stage ≡ true → SweepsOn search.asks search.goes search.sweep_in (record { find = f; stage = p }) sw
-    on f First sw e busy = let y = find-on f f.stage sw e busy in record { asks_so = y.asks_so; goes_so = λ w. first-goes (find.goes f w) ∙ y.goes_so w }
-    on f (Free r) sw e busy = let y = reclaims.on r sw e busy in record { asks_so = y.asks_so; goes_so = λ w. free-goes f (reclaim.goes r w) (reclaim.gives r w) refl ∙ y.goes_so w }
-    on f Second sw e busy = let y = find-on f f.stage sw e busy in record { asks_so = y.asks_so; goes_so = λ w. second-goes (find.goes f w) (frees_at f.stage) ∙ y.goes_so w }
+  module _ (reclaims : RunsSweeps (reclaim.asks l) (reclaim.goes l) (λ _. l) (λ (m : Reclaiming). m.generation) reclaim.sweep_in) where
+    on : (f : Finding) (p : SearchStage) (sw : Sweeping) → search.sweep_at f p ≡ Some sw → is_busy sw.stage ≡ true → SweepsOn l (search.asks l) (search.goes l) search.sweep_in (record { find = f; stage = p }) sw
+    on f First sw e busy = let y = find-on f f.stage sw e busy in record { asks_so = y.asks_so; goes_so = λ w. first-goes (find.goes l f w) ∙ y.goes_so w }
+    on f (Free r) sw e busy = let y = reclaims.on r sw e busy in record { asks_so = y.asks_so; goes_so = λ w. free-goes f (reclaim.goes l r w) (reclaim.given (reclaim.goes l r w)) refl ∙ y.goes_so w }
+    on f Second sw e busy = let y = find-on f f.stage sw e busy in record { asks_so = y.asks_so; goes_so = λ w. second-goes (find.goes l f w) (frees_at f.stage) ∙ y.goes_so w }
 
-    begins : (f : Finding) (p : SearchStage) (w : ℕ) (sw : Sweeping) → search.sweep_at f p ≡ None → search.sweep_in (goes_at f p w) ≡ Some sw → BeginsSweep (search.sweep_layout_at f p) (search.sweep_generation_at f p) (search.asks_at f p) w sw
-    begins f First w sw none e = find-begins f f.stage w sw none (sym (first-goes (find.goes f w)) ∙ e)
-    begins f (Free r) w sw none e = reclaims.begins r w sw none (sym (free-goes f (reclaim.goes r w) (reclaim.gives r w) refl) ∙ e)
-    begins f Second w sw none e = find-begins f f.stage w sw none (sym (second-goes (find.goes f w) (frees_at f.stage)) ∙ e)
+    begins : (f : Finding) (p : SearchStage) (w : ℕ) (sw : Sweeping) → search.sweep_at f p ≡ None → search.sweep_in (goes_at l f p w) ≡ Some sw → BeginsSweep (search.sweep_generation_at f p) (search.asks_at l f p) w sw
+    begins f First w sw none e = find-begins f f.stage w sw none (sym (first-goes (find.goes l f w)) ∙ e)
+    begins f (Free r) w sw none e = reclaims.begins r w sw none (sym (free-goes f (reclaim.goes l r w) (reclaim.given (reclaim.goes l r w)) refl) ∙ e)
+    begins f Second w sw none e = find-begins f f.stage w sw none (sym (second-goes (find.goes l f w) (frees_at f.stage)) ∙ e)
 
-    pub runs_sweeps : RunsSweeps search.asks search.goes search.sweep_layout search.sweep_generation search.sweep_in
+    pub runs_sweeps : RunsSweeps (search.asks l) (search.goes l) (λ _. l) search.sweep_generation search.sweep_in
     runs_sweeps = record { on = λ q. on q.find q.stage; begins = λ q. begins q.find q.stage }

@@ -1,11 +1,12 @@
 -- The routine that sets pointer bits, run to its end: word after word of the bitmap.
-use Rattle.std.proofs.Common.{◌≡◌, ◌≢◌, ℕ, zero, suc, ◌+◌, ◌-◌, ◌*◌, ◌/◌, ◌<◌, ◌≤◌, ◌⊎◌, Bool, true, false, cond, eqb, ltb, refl, sym, ap, subst, ◌∙◌, arith, inl, inr, eqb-true, ltb-true, ltb-false}
+use Rattle.std.proofs.Common.{◌≡◌, ◌≢◌, ℕ, zero, suc, ◌+◌, ◌-◌, ◌*◌, ◌/◌, ◌<◌, ◌≤◌, ◌⊎◌, Bool, true, false, is_none, cond, eqb, ltb, refl, sym, ap, subst, ◌∙◌, arith, inl, inr, eqb-true, ltb-true, ltb-false}
 use Rattle.gh_base.specs.declared.cell.Cell.{Cell}
 use Rattle.gh_base.specs.declared.cell.Cell.TheVariants.{Bitmap}
 use Rattle.gh_base.specs.declared.shape.Shape.{Shape}
+use Rattle.gh_base.specs.Machines.{steps_of}
 use Rattle.gh_base.specs.Routines.{Alone, alone, IsFolded, Leaves, steps_alone}
 use Rattle.gh_bitmap.specs.Pointers.{AreSet}
-use Rattle.gh_bitmap.proofs.Vocabulary.{asks_at, bit, CellsAreTold, Clear, effect, Ended, FitsSlot, is_busy, is_pointer, IsHere, Layout, listing, next_stage, opening, pointer_bit, pointer_bits, PointerSetting, RowsAreWritten, Set, SetStage, StepsOn, Touches, word_at, Words}
+use Rattle.gh_bitmap.proofs.Vocabulary.{asks_at, bit, CellsAreTold, Clear, effect, Ended, FitsSlot, given, is_pointer, IsHere, Layout, listing, next_stage, opening, pointer_bit, pointer_bits, PointerSetting, RowsAreWritten, Set, SetStage, StepsOn, Touches, word_at, Words}
 use Rattle.gh_bitmap.proofs.PointerSetting.Steps.{steps_on, word_is}
 
 -- a word that has bits of the slot has that of one of its words
@@ -18,24 +19,24 @@ first_here at slot i some begins ends = by (ltb at (64 * i)) refl where
       (64 * i - at, omega arith, rw sum (omega arith))
   by false e = let ge : 64 * i ≤ at = ltb-false _ _ e in (0, omega arith, omega arith)
 
-module _ (folded : IsFolded listing) where
-  busy_more : (r : Alone PointerSetting) → is_busy r.routine.stage ≡ true → (steps : ℕ) → ((n : ℕ) → n < steps → is_busy (alone listing (steps_alone listing r) n).routine.stage ≡ true) →
-      (n : ℕ) → n < suc steps → is_busy (alone listing r n).routine.stage ≡ true
+module _ (l : Layout) (folded : IsFolded (steps_of l (listing l))) where
+  busy_more : (r : Alone PointerSetting) → is_none (given r.routine) ≡ true → (steps : ℕ) → ((n : ℕ) → n < steps → is_none (given (alone (steps_of l (listing l)) (steps_alone (steps_of l (listing l)) r) n).routine) ≡ true) →
+      (n : ℕ) → n < suc steps → is_none (given (alone (steps_of l (listing l)) r n).routine) ≡ true
   busy_more r busy steps later zero lt = busy
-  busy_more r busy steps later (suc n) lt = ap (λ (s : Alone PointerSetting). is_busy s.routine.stage) (folded.alone_first r n) ∙ later n (omega arith)
+  busy_more r busy steps later (suc n) lt = ap (λ (s : Alone PointerSetting). is_none (given s.routine)) (folded.alone_first r n) ∙ later n (omega arith)
 
   -- it ends from where its next step leads
-  ends_more : (r : Alone PointerSetting) (IsLeft : Words → Type 0) → is_busy r.routine.stage ≡ true → Leaves listing (steps_alone listing r) IsLeft → Leaves listing r IsLeft
+  ends_more : (r : Alone PointerSetting) (IsLeft : Words → Type 0) → is_none (given r.routine) ≡ true → Leaves (steps_of l (listing l)) (steps_alone (steps_of l (listing l)) r) IsLeft → Leaves (steps_of l (listing l)) r IsLeft
   ends_more r IsLeft busy e = record {
     steps = suc e.steps;
     busy = busy_more r busy e.steps e.busy;
-    ended = ap (λ (s : Alone PointerSetting). is_busy s.routine.stage) (folded.alone_first r e.steps) ∙ e.ended;
+    ended = ap (λ (s : Alone PointerSetting). is_none (given s.routine)) (folded.alone_first r e.steps) ∙ e.ended;
     left = subst (λ (s : Alone PointerSetting). IsLeft s.words) (sym (folded.alone_first r e.steps)) e.left;
   }
 
-module _ (rows : RowsAreWritten) (told : CellsAreTold) (folded : IsFolded listing) (l : Layout) (shape : Shape) (at slot : ℕ) (words : Words) (some : 1 ≤ slot) (within : at + slot ≤ 1024 * l.pages) (fits : FitsSlot shape slot) where
+module _ (rows : RowsAreWritten) (told : CellsAreTold) (l : Layout) (folded : IsFolded (steps_of l (listing l))) (shape : Shape) (at slot : ℕ) (words : Words) (some : 1 ≤ slot) (within : at + slot ≤ 1024 * l.pages) (fits : FitsSlot shape slot) where
   abbrev here : SetStage → PointerSetting
-  here p = record { layout = l; shape = shape; at = at; slot = slot; stage = p }
+  here p = record { shape = shape; at = at; slot = slot; stage = p }
 
   abbrev run : SetStage → Words → Alone PointerSetting
   run p ws = record { routine = here p; words = ws }
@@ -64,21 +65,21 @@ module _ (rows : RowsAreWritten) (told : CellsAreTold) (folded : IsFolded listin
   not_here i x (inr behind) h = let below : x < at + slot = h.below in absurd (omega arith)
 
   module _ (i : ℕ) (touches : Touches at slot i) where
-    on : (ws : Words) → StepsOn (here Ended) i ws
-    on ws = steps_on rows (here Ended) i ws within fits touches
+    on : (ws : Words) → StepsOn l (here Ended) i ws
+    on ws = steps_on rows l (here Ended) i ws within fits touches
 
     -- word i has a bit of the slot, so it is none of the other cells
-    not_other : (cell : Cell) → IsOther cell → cell ≢ Bitmap (word_at (here Ended) i)
+    not_other : (cell : Cell) → IsOther cell → cell ≢ Bitmap (word_at l i)
     not_other cell other e =
         let h = first_here at slot i some touches.begins touches.ends in
-        other h.0 h.1 (e ∙ ap Bitmap (word_is (here Ended) i within touches ∙ sym h.2))
+        other h.0 h.1 (e ∙ ap Bitmap (word_is l (here Ended) i within touches ∙ sym h.2))
 
     module _ (ws : Words) (done : Done i ws) where
       abbrev cleared : Words
-      cleared = effect ws (asks_at (here Ended) (Clear i))
+      cleared = effect ws (asks_at l (here Ended) (Clear i))
 
       abbrev both : Words
-      both = effect cleared (asks_at (here Ended) (Set i))
+      both = effect cleared (asks_at l (here Ended) (Set i))
 
       before : (x : ℕ) → x < 64 * i → ¬ IsHere (here Ended) i x
       before x lt h = let is : x / 64 ≡ i = h.word in absurd (omega arith)
@@ -87,7 +88,7 @@ module _ (rows : RowsAreWritten) (told : CellsAreTold) (folded : IsFolded listin
       cleared_kept = record {
         set = λ x from below lt. (on ws).clears.others x (before x lt) ∙ done.set x from below lt;
         others = λ x out. (on ws).clears.others x (not_here i x out) ∙ done.others x out;
-        cells = λ cell other. told.put_elsewhere ws (Bitmap (word_at (here Ended) i)) cell _ (λ e. not_other cell other (sym e)) ∙ done.cells cell other;
+        cells = λ cell other. told.put_elsewhere ws (Bitmap (word_at l i)) cell _ (λ e. not_other cell other (sym e)) ∙ done.cells cell other;
       }
 
       set_here : (ws' : Words) → ((x : ℕ) → IsHere (here Ended) i x → pointer_bit ws' x ≡ bit (is_pointer shape (x - at))) → ((x : ℕ) → at ≤ x → x < at + slot → x < 64 * i → pointer_bit ws' x ≡ bit (is_pointer shape (x - at))) →
@@ -106,11 +107,11 @@ module _ (rows : RowsAreWritten) (told : CellsAreTold) (folded : IsFolded listin
       done_with = record {
         set = set_here both (λ x h. (on cleared).sets.slot x h ((on ws).clears.slot x h)) (λ x from below lt. (on cleared).sets.others x (before x lt) ∙ cleared_kept.set x from below lt);
         others = λ x out. (on cleared).sets.others x (not_here i x out) ∙ cleared_kept.others x out;
-        cells = λ cell other. told.put_elsewhere cleared (Bitmap (word_at (here Ended) i)) cell _ (λ e. not_other cell other (sym e)) ∙ cleared_kept.cells cell other;
+        cells = λ cell other. told.put_elsewhere cleared (Bitmap (word_at l i)) cell _ (λ e. not_other cell other (sym e)) ∙ cleared_kept.cells cell other;
       }
 
   abbrev Ends : SetStage → Words → Type 0
-  Ends p ws = Leaves listing (run p ws) (AreSet shape at slot words)
+  Ends p ws = Leaves (steps_of l (listing l)) (run p ws) (AreSet shape at slot words)
 
   -- from word i on it ends, if it does from the next
   abbrev EndsFrom : ℕ → Type 0
@@ -126,14 +127,14 @@ module _ (rows : RowsAreWritten) (told : CellsAreTold) (folded : IsFolded listin
     by false e = finished (i + 1) ws (ltb-false _ _ e) done
 
   ends_here : (d : ℕ) → EndsFrom d → EndsFrom (suc d)
-  ends_here d later i ws touches fuel done = ends_more folded (run (Clear i) ws) _ refl (by (eqb (pointer_bits shape at i) 0) refl) where
+  ends_here d later i ws touches fuel done = ends_more l folded (run (Clear i) ws) _ refl (by (eqb (pointer_bits shape at i) 0) refl) where
     by : (none : Bool) → eqb (pointer_bits shape at i) 0 ≡ none → Ends (cond none (next_stage (here Ended) i) (Set i)) (cleared i touches ws done)
     by true e = ends_next d i (cleared i touches ws done) later touches.begins fuel (done_without i touches ws done (eqb-true _ _ e))
-    by false e = ends_more folded (run (Set i) (cleared i touches ws done)) _ refl (ends_next d i (both i touches ws done) later touches.begins fuel (done_with i touches ws done))
+    by false e = ends_more l folded (run (Set i) (cleared i touches ws done)) _ refl (ends_next d i (both i touches ws done) later touches.begins fuel (done_with i touches ws done))
 
   ends_from : (d : ℕ) → EndsFrom d
   ends_from zero i ws touches fuel done = let ends : 64 * i < at + slot = touches.ends in absurd (omega arith)
   ends_from (suc d) i ws touches fuel done = ends_here d (ends_from d) i ws touches fuel done
 
-  pub ends : Leaves listing (record { routine = opening l shape at slot; words = words }) (AreSet shape at slot words)
+  pub ends : Leaves (steps_of l (listing l)) (record { routine = opening shape at slot; words = words }) (AreSet shape at slot words)
   ends = ends_from (slot + 1) (at / 64) words (record { begins = omega arith; ends = omega arith }) (omega arith) none_done

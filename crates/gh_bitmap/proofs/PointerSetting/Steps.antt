@@ -3,6 +3,7 @@ use Rattle.std.proofs.Common.{◌≡◌, ◌≢◌, ℕ, ◌+◌, ◌-◌, ◌*�
 use Rattle.std.specs.Prelude.{bit_or, bit_and}
 use Rattle.std.proofs.Math.Nat.{mod-eq_of_lt}
 use Rattle.gh_base.specs.Cells.{Words}
+use Rattle.gh_base.specs.declared.layout.Layout.{Layout}
 use Rattle.gh_base.specs.Packing.{bit}
 use Rattle.gh_base.specs.Rows.{bitmap_words, Row, row_bit, RowsAreWritten, with_word}
 use Rattle.gh_base.specs.Shapes.{is_pointer}
@@ -13,14 +14,14 @@ use Rattle.gh_bitmap.specs.Stepping.{ClearsBits, FitsSlot, HasNone, IsHere, Sets
 use Rattle.gh_bitmap.proofs.PointerSetting.BitRows.{clear_slot, clear_slot_other, no_pointers, set_pointers, set_pointers_other}
 
 -- a word that has bits of a slot in the arena is one of the row's
-pub word_is : (s : PointerSetting) (i : ℕ) → s.at + s.slot ≤ 1024 * s.layout.pages → Touches s.at s.slot i → word_at s i ≡ i
-word_is s i within touches = let ends : 64 * i < s.at + s.slot = touches.ends in mod-eq_of_lt (omega arith)
+pub word_is : (l : Layout) (s : PointerSetting) (i : ℕ) → s.at + s.slot ≤ 1024 * l.pages → Touches s.at s.slot i → word_at l i ≡ i
+word_is l s i within touches = let ends : 64 * i < s.at + s.slot = touches.ends in mod-eq_of_lt (omega arith)
 
 -- a heap word that has its bit elsewhere, or is not of the slot
 outside : (s : PointerSetting) (i x : ℕ) → ¬ IsHere s i x → (i ≢ x / 64) ⊎ ((x < s.at) ⊎ (s.at + s.slot ≤ x))
 outside s i x not = grind arith
 
-module _ (rows : RowsAreWritten) (s : PointerSetting) (i : ℕ) (words : Words) (within : s.at + s.slot ≤ 1024 * s.layout.pages) (fits : FitsSlot s.shape s.slot) (touches : Touches s.at s.slot i) where
+module _ (rows : RowsAreWritten) (l : Layout) (s : PointerSetting) (i : ℕ) (words : Words) (within : s.at + s.slot ≤ 1024 * l.pages) (fits : FitsSlot s.shape s.slot) (touches : Touches s.at s.slot i) where
   abbrev row : Row
   row = bitmap_words words
 
@@ -30,13 +31,13 @@ module _ (rows : RowsAreWritten) (s : PointerSetting) (i : ℕ) (words : Words) 
   abbrev set : ℕ → Row
   set w = with_word row w (bit_or (row w) (pointer_bits s.shape s.at i))
 
-  is : i ≡ word_at s i
-  is = sym (word_is s i within touches)
+  is : i ≡ word_at l i
+  is = sym (word_is l s i within touches)
 
   behind : (k : ℕ) → s.slot ≤ k → is_pointer s.shape k ≡ false
   behind k above = let few = fits.within in fits.none k (omega arith)
 
-  clears : ClearsBits s i words
+  clears : ClearsBits l s i words
   clears = record {
     slot = λ x here. subst (λ (w : ℕ). row_bit (cleared w) x ≡ 0) is (clear_slot rows row s.at s.slot i x here.word here.from here.below);
     others = λ x not. subst (λ (w : ℕ). row_bit (cleared w) x ≡ row_bit row x) is (elim (outside s i x not) [
@@ -45,7 +46,7 @@ module _ (rows : RowsAreWritten) (s : PointerSetting) (i : ℕ) (words : Words) 
     ]);
   }
 
-  sets : SetsBits s i words
+  sets : SetsBits l s i words
   sets = record {
     slot = λ x here clear. subst (λ (w : ℕ). row_bit (set w) x ≡ bit (is_pointer s.shape (x - s.at))) is (set_pointers rows row s.shape s.at i x fits.narrow here.word here.from clear);
     others = λ x not. subst (λ (w : ℕ). row_bit (set w) x ≡ row_bit row x) is (elim (outside s i x not) [
@@ -60,5 +61,5 @@ module _ (rows : RowsAreWritten) (s : PointerSetting) (i : ℕ) (words : Words) 
   has_none : HasNone s i
   has_none none x here = unset (is_pointer s.shape (x - s.at)) (no_pointers s.shape s.at i x fits.narrow none here.word here.from)
 
-  pub steps_on : StepsOn s i words
+  pub steps_on : StepsOn l s i words
   steps_on = grind (arith, clears, has_none, sets)

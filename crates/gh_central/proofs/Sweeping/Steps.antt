@@ -29,14 +29,14 @@ pub same_head : (sw : Sweeping) (found : ℕ) → (goes sw found).head ≡ sw.he
 same_head sw found = grind arith
 
 -- a span is swept by its last step, which writes the head
-writes_at : (sw : Sweeping) (q : SweepStage) (found : ℕ) (span : SweptSpan) → is_busy q ≡ true → given (goes_at sw q found) ≡ Some (Swept span) → asks_at sw q ≡ Store (Page sw.page) (head_word (once_swept sw.head))
-writes_at sw q found span b e = grind arith
+writes_at : (l : Layout) (sw : Sweeping) (q : SweepStage) (found : ℕ) (span : SweptSpan) → is_busy q ≡ true → given (goes_at sw q found) ≡ Some (Swept span) → asks_at l sw q ≡ Store (Page sw.page) (head_word (once_swept sw.head))
+writes_at l sw q found span b e = grind arith
 
 -- so its head says that it is
-head_then : PackedWordsAreReadBack → (sw : Sweeping) (words : Words) (found : ℕ) (span : SweptSpan) → is_busy sw.stage ≡ true → FitsHead (once_swept sw.head) → gives sw found ≡ Some (Swept span) → page_of (effect words (asks sw) (Page sw.page)) ≡ Head (once_swept sw.head)
-head_then packed sw words found span b fits e =
+head_then : PackedWordsAreReadBack → (l : Layout) (sw : Sweeping) (words : Words) (found : ℕ) (span : SweptSpan) → is_busy sw.stage ≡ true → FitsHead (once_swept sw.head) → gives sw found ≡ Some (Swept span) → page_of (effect words (asks l sw) (Page sw.page)) ≡ Head (once_swept sw.head)
+head_then packed l sw words found span b fits e =
     let written : effect words (Store (Page sw.page) (head_word (once_swept sw.head))) (Page sw.page) ≡ head_word (once_swept sw.head) = ap (λ (c : Bool). cond c (head_word (once_swept sw.head)) (words (Page sw.page))) (eq-eqb sw.page sw.page refl) in
-    ap (λ (step : Ask). page_of (effect words step (Page sw.page))) (writes_at sw sw.stage found span b e) ∙ ap page_of written ∙ packed.page (Head (once_swept sw.head)) fits
+    ap (λ (step : Ask). page_of (effect words step (Page sw.page))) (writes_at l sw sw.stage found span b e) ∙ ap page_of written ∙ packed.page (Head (once_swept sw.head)) fits
 
 -- the head of a swept span fits its word
 pub fits_then : (h : SpanHead) → FitsHead h → h.number + 2 < 2 ^ 34 → FitsHead (once_swept h)
@@ -49,16 +49,16 @@ fits_now z v g p h head owner =
     record { class = span.fits.class; some = span.fits.some; pages = omega (arith, span.within, z.layout.limits.pages_fit.1); owner = omega (arith, owner); number = omega (arith, (g.numbers p h head).few, g.generation) }
 
 -- the page of a span that it has swept says so
-pub swept_then : PackedWordsAreReadBack → (words then : Words) (sw : Sweeping) (p : ℕ) (h : SpanHead) (span : SweptSpan) → then ≡ effect words (asks sw) → sw.page ≡ p → sw.head ≡ h → is_busy sw.stage ≡ true → FitsHead h → h.number + 2 < 2 ^ 34 →
-    gives sw (words (cell_of (asks sw))) ≡ Some (Swept span) → page_of (then (Page p)) ≡ Head (once_swept h)
-swept_then packed words then sw p h span are at head b fits few e =
+pub swept_then : PackedWordsAreReadBack → (l : Layout) (words then : Words) (sw : Sweeping) (p : ℕ) (h : SpanHead) (span : SweptSpan) → then ≡ effect words (asks l sw) → sw.page ≡ p → sw.head ≡ h → is_busy sw.stage ≡ true → FitsHead h → h.number + 2 < 2 ^ 34 →
+    gives sw (words (cell_of (asks l sw))) ≡ Some (Swept span) → page_of (then (Page p)) ≡ Head (once_swept h)
+swept_then packed l words then sw p h span are at head b fits few e =
     let fit : FitsHead (once_swept sw.head) = subst (λ (x : SpanHead). FitsHead (once_swept x)) (sym head) (fits_then h fits few) in
-    ap (λ (w : Words). page_of (w (Page p))) are ∙ ap (λ (q : ℕ). page_of (effect words (asks sw) (Page q))) (sym at) ∙ head_then packed sw words (words (cell_of (asks sw))) span b fit e ∙ ap (λ (x : SpanHead). Head (once_swept x)) head
+    ap (λ (w : Words). page_of (w (Page p))) are ∙ ap (λ (q : ℕ). page_of (effect words (asks l sw) (Page q))) (sym at) ∙ head_then packed l sw words (words (cell_of (asks l sw))) span b fit e ∙ ap (λ (x : SpanHead). Head (once_swept x)) head
 
 -- Its words.
 
-pub within : (z : Layout) (sw : Sweeping) → sw.layout ≡ z → sw.page < z.pages → InRange z (cell_of (asks sw))
-within z sw layout there = grind arith
+pub within : (l : Layout) (sw : Sweeping) → sw.page < l.pages → InRange l (cell_of (asks l sw))
+within l sw there = grind arith
 
 -- What its step leaves.
 

@@ -1,21 +1,23 @@
--- Steps of workers and of the coordinator outside of marking: they are those of sweeps, or on no word of which anything is said of the heap, its spans, stacks and buffers.
+-- Steps of workers and of the coordinator outside of marking: they are those of sweeps, or write no row of which anything is said of the heap, its spans, stacks and buffers.
 use Rattle.std.proofs.Common.{◌≡◌, ◌⊎◌, ℕ, ◌<◌, ◌≤◌, ◌==◌, Bool, true, false, refl, sym, ap, subst, ◌∙◌, arith, List, ◌∷◌, None, ◌≢◌, ◌↔◌, Option, Some}
 use Rattle.std.proofs.lemmas.Bool.Decides.{nat_tests}
 use Rattle.gh_base.specs.declared.cell.Ask.{Ask}
-use Rattle.gh_base.specs.declared.cell.Ask.TheVariants.{Load, Store}
 use Rattle.gh_base.specs.declared.cell.Cell.{Cell}
 use Rattle.gh_base.specs.declared.cell.Cell.TheVariants as cell
 use Rattle.gh_base.specs.declared.pack.TheConstants.{END}
+use Rattle.gh_base.specs.declared.layout.Layout.{Layout}
 use Rattle.gh_base.specs.Cells.{Words, seats_of}
+use Rattle.gh_base.specs.Footprints.{Footprint, FootprintsHold, row_of, Writes}
+use Rattle.gh_base.specs.Footprints as row
 use Rattle.gh_base.specs.Steps.{effect, cell_of}
 use Rattle.gh_base.specs.Rows.{Row}
-use Rattle.gh_heap.specs.Moves.{IsQuiet, Others, Quiet}
+use Rattle.gh_heap.specs.Moves.{IsAside as IsAsideCell, IsQuiet, Others, Quiet}
 use Rattle.gh_heap.specs.Spans.{Freeing, Laying}
-use Rattle.gh_worker.specs.Writing.{AcksAlone}
 use Rattle.gh_lists.specs.Handshake.{those, Setup}
 use Rattle.gh_state.specs.Moves as state
 use Rattle.gh_state.specs.Moves.{Deed}
 use Rattle.gh_state.specs.Routines.{GoesOn}
+use Rattle.gh_sweep.specs.declared.sweep.SweepStage.{SweepStage}
 use Rattle.gh_sweep.specs.Listing as sweep
 use Rattle.gh_sweep.specs.Listing.{Sweeping}
 use Rattle.gh_sweep.specs.Running.{on_from}
@@ -33,74 +35,68 @@ use Rattle.gh_marked.proofs.OneStep.Sweepers.{rests_on}
 use Rattle.gh_lists.specs.Seats.{other}
 use Rattle.std.proofs.lemmas.Bool.{eqb-true}
 
--- what the step leaves, whatever the words are
-pub record IsAside (ask : Ask) : Type 0 where
-  pub quiet : IsQuiet ask
-  pub heap : (w : Words) → effect w ask cell.Heap ≡ w cell.Heap
-  pub page : (w : Words) (i : ℕ) → effect w ask (cell.Page i) ≡ w (cell.Page i)
-  pub alloc : (w : Words) (i : ℕ) → effect w ask (cell.Alloc i) ≡ w (cell.Alloc i)
-  pub mark : (w : Words) (i : ℕ) → effect w ask (cell.Mark i) ≡ w (cell.Mark i)
-  pub birth : (w : Words) (i : ℕ) → effect w ask (cell.Birth i) ≡ w (cell.Birth i)
-  pub global : (w : Words) (i : ℕ) → effect w ask (cell.Global i) ≡ w (cell.Global i)
-  pub buffer : (w : Words) (i : ℕ) → effect w ask (cell.Buffer i) ≡ w (cell.Buffer i)
-  pub scanned : (w : Words) (i : ℕ) → effect w ask (cell.Scanned i) ≡ w (cell.Scanned i)
+-- The rows that a step beside the heap may write: of no other is anything said of the heap, its spans and stacks. It may be on marks, buffers and counts.
+abbrev pub beside_rows : Footprint
+beside_rows row.Lock = false
+beside_rows row.Gen = false
+beside_rows row.Page = false
+beside_rows row.Alloc = false
+beside_rows row.Bitmap = false
+beside_rows row.Birth = false
+beside_rows row.Field = false
+beside_rows row.Global = false
+beside_rows row.Heap = false
+beside_rows row.Scanned = false
+beside_rows _ = true
 
--- it may be on marks and buffers
-pub record IsBeside (ask : Ask) : Type 0 where
-  pub quiet : IsQuiet ask
-  pub heap : (w : Words) → effect w ask cell.Heap ≡ w cell.Heap
-  pub page : (w : Words) (i : ℕ) → effect w ask (cell.Page i) ≡ w (cell.Page i)
-  pub alloc : (w : Words) (i : ℕ) → effect w ask (cell.Alloc i) ≡ w (cell.Alloc i)
-  pub birth : (w : Words) (i : ℕ) → effect w ask (cell.Birth i) ≡ w (cell.Birth i)
-  pub global : (w : Words) (i : ℕ) → effect w ask (cell.Global i) ≡ w (cell.Global i)
-  pub scanned : (w : Words) (i : ℕ) → effect w ask (cell.Scanned i) ≡ w (cell.Scanned i)
+-- but for those of marks and buffers
+abbrev pub aside_rows : Footprint
+aside_rows row.Mark = false
+aside_rows row.Buffer = false
+aside_rows r = beside_rows r
 
-pub beside_of : (ask : Ask) → IsAside ask → IsBeside ask
-beside_of ask is = record { quiet = is.quiet; heap = is.heap; page = is.page; alloc = is.alloc; birth = is.birth; global = is.global; scanned = is.scanned }
+-- and but for the counts of the sweep and the cursor
+abbrev pub telling_rows : Footprint
+telling_rows row.Tally = false
+telling_rows row.Live = false
+telling_rows row.Gcur = false
+telling_rows r = aside_rows r
 
--- it leaves the counts of the sweep too
-pub record TellsNothing (ask : Ask) : Type 0 where
-  pub aside : IsAside ask
-  pub tally : (w : Words) → effect w ask cell.Tally ≡ w cell.Tally
-  pub live : (w : Words) → effect w ask cell.Live ≡ w cell.Live
-  pub cursor : (w : Words) → effect w ask cell.Gcur ≡ w cell.Gcur
+-- those that a sweep may write: none of stacks, births, globals and buffers
+abbrev pub spans_rows : Footprint
+spans_rows row.Scanned = false
+spans_rows row.Birth = false
+spans_rows row.Global = false
+spans_rows row.Buffer = false
+spans_rows _ = true
 
-pub loads : (c : Cell) → IsAside (Load c)
-loads c = record { quiet = tt; heap = λ w. refl; page = λ w i. refl; alloc = λ w i. refl; mark = λ w i. refl; birth = λ w i. refl; global = λ w i. refl; buffer = λ w i. refl; scanned = λ w i. refl }
+abbrev pub IsBeside : Ask → Type 0
+IsBeside ask = Writes beside_rows ask
 
-pub stores_bank : (x : ℕ) → IsAside (Store cell.Bank x)
-stores_bank x = record { quiet = tt; heap = λ w. refl; page = λ w i. refl; alloc = λ w i. refl; mark = λ w i. refl; birth = λ w i. refl; global = λ w i. refl; buffer = λ w i. refl; scanned = λ w i. refl }
+abbrev pub IsAside : Ask → Type 0
+IsAside ask = Writes aside_rows ask
 
-pub stores_ack : (a x : ℕ) → IsAside (Store (cell.Ack a) x)
-stores_ack a x = record { quiet = tt; heap = λ w. refl; page = λ w i. refl; alloc = λ w i. refl; mark = λ w i. refl; birth = λ w i. refl; global = λ w i. refl; buffer = λ w i. refl; scanned = λ w i. refl }
+abbrev pub TellsNothing : Ask → Type 0
+TellsNothing ask = Writes telling_rows ask
 
-pub stores_phase : (x : ℕ) → IsAside (Store cell.Phase x)
-stores_phase x = record { quiet = tt; heap = λ w. refl; page = λ w i. refl; alloc = λ w i. refl; mark = λ w i. refl; birth = λ w i. refl; global = λ w i. refl; buffer = λ w i. refl; scanned = λ w i. refl }
+abbrev pub IsOfSpans : Ask → Type 0
+IsOfSpans ask = Writes spans_rows ask
 
-pub stores_swept : (x : ℕ) → IsAside (Store cell.Swept x)
-stores_swept x = record { quiet = tt; heap = λ w. refl; page = λ w i. refl; alloc = λ w i. refl; mark = λ w i. refl; birth = λ w i. refl; global = λ w i. refl; buffer = λ w i. refl; scanned = λ w i. refl }
+quiet_cell : (c : Cell) → beside_rows (row_of c) ≡ true → IsAsideCell c
+quiet_cell c is = grind arith
 
-pub loads_only : (c : Cell) → TellsNothing (Load c)
-loads_only c = record { aside = loads c; tally = λ w. refl; live = λ w. refl; cursor = λ w. refl }
+pub quiet_of : (ask : Ask) → IsBeside ask → IsQuiet ask
+quiet_of ask is = grind (arith, quiet_cell)
 
-pub acks_only : (a x : ℕ) → TellsNothing (Store (cell.Ack a) x)
-acks_only a x = record { aside = stores_ack a x; tally = λ w. refl; live = λ w. refl; cursor = λ w. refl }
+sweeps_spans : (l : Layout) (m : Sweeping) (p : SweepStage) → IsOfSpans (sweep.asks_at l m p)
+sweeps_spans l m p = grind arith
 
-pub phase_only : (x : ℕ) → TellsNothing (Store cell.Phase x)
-phase_only x = record { aside = stores_phase x; tally = λ w. refl; live = λ w. refl; cursor = λ w. refl }
+module _ (k : FootprintsHold) (ask : Ask) (tells : TellsNothing ask) where
+  pub beside_of : IsBeside ask
+  beside_of = k.among telling_rows beside_rows ask refl tells
 
--- a worker at rest writes its acknowledgement alone
-pub acks_aside : (seat : ℕ) (ask : Ask) → AcksAlone seat ask → TellsNothing ask
-acks_aside seat (Load c) is = loads_only c
-acks_aside seat (Store (cell.Ack a) x) is = acks_only a x
-acks_aside seat _ is = absurd is
-
--- what the step leaves of the words, whatever these are
-pub record IsOfSpans (ask : Ask) : Type 0 where
-  pub scanned : (w : Words) (i : ℕ) → effect w ask (cell.Scanned i) ≡ w (cell.Scanned i)
-  pub birth : (w : Words) (i : ℕ) → effect w ask (cell.Birth i) ≡ w (cell.Birth i)
-  pub global : (w : Words) (i : ℕ) → effect w ask (cell.Global i) ≡ w (cell.Global i)
-  pub buffer : (w : Words) (i : ℕ) → effect w ask (cell.Buffer i) ≡ w (cell.Buffer i)
+  pub keeps_buffers : (w : Words) (i : ℕ) → effect w ask (cell.Buffer i) ≡ w (cell.Buffer i)
+  keeps_buffers w i = k.leaves telling_rows ask w (cell.Buffer i) tells refl
 
 module _ (setup : Setup) (known : Known) where
   abbrev z : Arena
@@ -154,8 +150,13 @@ module _ (setup : Setup) (known : Known) where
       pub quiet_allowed : state.May z a s quiet_move
       quiet_allowed = record {
         seat = legal.1.actor;
-        may = aside.quiet;
-        counts = record { heap = aside.heap h.words; tally = λ over. (leaves over).tally h.words; live = λ over. (leaves over).live h.words; marks = λ over i. (leaves over).aside.mark h.words i };
+        may = quiet_of e.ask aside;
+        counts = record {
+          heap = known.footprints.leaves beside_rows e.ask h.words cell.Heap aside refl;
+          tally = λ over. known.footprints.leaves telling_rows e.ask h.words cell.Tally (leaves over) refl;
+          live = λ over. known.footprints.leaves telling_rows e.ask h.words cell.Live (leaves over) refl;
+          marks = λ over i. known.footprints.leaves telling_rows e.ask h.words (cell.Mark i) (leaves over) refl;
+        };
       }
 
       pub quiet_good : StateGood z quiet_state
@@ -172,9 +173,9 @@ module _ (setup : Setup) (known : Known) where
         words_are = refl;
         ever_is = refl;
         right = λ r. record { locked = r.locked; holds = r.holds; laying = r.laying; freeing = r.freeing };
-        scanned = aside.scanned h.words;
-        global = aside.global h.words;
-        birth = aside.birth h.words;
+        scanned = λ i. known.footprints.leaves beside_rows e.ask h.words (cell.Scanned i) aside refl;
+        global = λ i. known.footprints.leaves beside_rows e.ask h.words (cell.Global i) aside refl;
+        birth = λ i. known.footprints.leaves beside_rows e.ask h.words (cell.Birth i) aside refl;
         pend = refl;
         sweeps = sweeps;
       }
@@ -183,11 +184,11 @@ module _ (setup : Setup) (known : Known) where
       by_quiet_none still = by_quiet (subst (IsInSweep a quiet_state) (sym still) quiet_rests)
 
     -- A step of the sweep that it runs.
-    module _ (m : Sweeping) (is : swept_before ≡ Some m) (asks_is : e.ask ≡ sweep.asks m) (then_is : swept_then ≡ on_from m e.found) where
+    module _ (m : Sweeping) (is : swept_before ≡ Some m) (asks_is : e.ask ≡ sweep.asks setup.layout m) (then_is : swept_then ≡ on_from m e.found) where
       pub runs : IsInSweep a s (Some m)
       runs = subst (IsInSweep a s) is in_sweep
 
-      pub found_is : e.found ≡ h.words (cell_of (sweep.asks m))
+      pub found_is : e.found ≡ h.words (cell_of (sweep.asks setup.layout m))
       found_is = grind arith
 
       abbrev pub sweep_move : state.Move
@@ -203,7 +204,7 @@ module _ (setup : Setup) (known : Known) where
       sweep_words = sweep_goes.words_are ∙ ap (effect h.words) (sym asks_is)
 
       pub only : IsOfSpans e.ask
-      only = grind (arith, nat_tests)
+      only = subst IsOfSpans (sym asks_is) (sweeps_spans setup.layout m m.stage)
 
       abbrev pub by_sweep : Lands
       by_sweep = record {
@@ -217,15 +218,15 @@ module _ (setup : Setup) (known : Known) where
           laying = ap (λ (x : ℕ → Option Laying). x a) sweep_goes.keeps.laying ∙ r.laying;
           freeing = ap (λ (x : ℕ → Option Freeing). x a) sweep_goes.keeps.freeing ∙ r.freeing;
         };
-        scanned = λ i. ap (λ (w : Words). w (cell.Scanned i)) sweep_words ∙ only.scanned h.words i;
-        global = λ i. ap (λ (w : Words). w (cell.Global i)) sweep_words ∙ only.global h.words i;
-        birth = λ i. ap (λ (w : Words). w (cell.Birth i)) sweep_words ∙ only.birth h.words i;
+        scanned = λ i. ap (λ (w : Words). w (cell.Scanned i)) sweep_words ∙ known.footprints.leaves spans_rows e.ask h.words (cell.Scanned i) only refl;
+        global = λ i. ap (λ (w : Words). w (cell.Global i)) sweep_words ∙ known.footprints.leaves spans_rows e.ask h.words (cell.Global i) only refl;
+        birth = λ i. ap (λ (w : Words). w (cell.Birth i)) sweep_words ∙ known.footprints.leaves spans_rows e.ask h.words (cell.Birth i) only refl;
         pend = (sweepers.rows_stay known z a s m m.stage e.found).pend;
         sweeps = sweepers.sweeps_on known z a s has.good seat m runs e.found found_is swept_then then_is;
       }
 
       pub sweep_buffers : (b : ℕ) → sweep_state.heap.words (cell.Buffer b) ≡ h.words (cell.Buffer b)
-      sweep_buffers b = ap (λ (w : Words). w (cell.Buffer b)) sweep_words ∙ only.buffer h.words b
+      sweep_buffers b = ap (λ (w : Words). w (cell.Buffer b)) sweep_words ∙ known.footprints.leaves spans_rows e.ask h.words (cell.Buffer b) only refl
 
     -- The state behind it.
     module _ (x : Lands) where
@@ -249,10 +250,9 @@ module _ (setup : Setup) (known : Known) where
 
       -- each processor is as it was
       pub was_there : (b : ℕ) → b < setup.layout.procs → processor_at setup (e ∷ es) b ≡ processor_at setup es b
-      was_there b lt = state_stays setup e es b (apart (e.actor == b) refl) where
-        apart : (y : Bool) → (e.actor == b) ≡ y → (e.actor == b) ≡ false
-        apart false y = y
-        apart true y = absurd (let same : e.actor ≡ b = grind (arith, nat_tests) in omega (arith, same, lt, ge))
+      was_there b lt = state_stays setup e es b apart where
+        apart : (e.actor == b) ≡ false
+        apart = grind arith
 
       pub good_then : StateGood z then
       good_then = known.keeps z a s x.move has.good x.allowed

@@ -128,7 +128,7 @@ module _ (given : Given) (wanted : Wanted) (lists : ListsKnown (setup_for given)
 
     -- what was placed where the cycle began stays placed
     stays : Stays (words (setup_for given) es) (words (setup_for given) (e ∷ es))
-    stays = subst (Stays (words (setup_for given) es)) has_then.of_list.words_are (subst (λ (w : Words). Stays w t.words) marked.kn.has.of_list.words_are (subst (λ (x : Heap). Stays h.words x.words) (sym t_is) (move_stays lists.known.one lists.known.rows z a h land.move land.may)))
+    stays = subst (Stays (words (setup_for given) es)) has_then.of_list.words_are (subst (λ (w : Words). Stays w t.words) marked.kn.has.of_list.words_are (subst (λ (x : Heap). Stays h.words x.words) (sym t_is) (move_stays lists.known.footprints lists.known.rows z a h land.move land.may)))
 
     -- nothing of the next sweep is counted
     uncounted_then : (d : Cell) → (IsWritten now d → ⊥) → h.words d ≡ 0 → t.words d ≡ 0

@@ -1,20 +1,35 @@
 -- One entry more of the coordinator outside of marking: it keeps whether the cycle is the last, and what is said of the cycle that ended last goes on; and where its step is on no word of spans and counts, so does all that is swept.
-use Rattle.std.proofs.Common.{◌≡◌, ℕ, ◌+◌, ◌≤◌, true, refl, sym, ap, subst, ◌∙◌, List, ◌∷◌, None}
+use Rattle.std.proofs.Common.{◌≡◌, ℕ, ◌+◌, ◌≤◌, true, refl, sym, ap, subst, ◌∙◌, arith, List, ◌∷◌, None}
 use Rattle.gh_base.specs.declared.cell.Cell.TheVariants as cell
+use Rattle.gh_coord.specs.Events.{by_event}
 use Rattle.gh_coord.specs.Listing as coord
 use Rattle.gh_holds.specs.ActorsHold.{HasEnded, IsOff}
 use Rattle.gh_marked.specs.State.{HasState}
 use Rattle.gh_marked.specs.HoldVocabulary.{State}
 use Rattle.gh_marked.specs.Sweepers.{sweep_of}
-use Rattle.gh_marked.proofs.Vocabulary.{actors_after, Arena, arena, Coordinating, Entry, IsLed, Op}
+use Rattle.gh_marked.proofs.Vocabulary.{actors_after, Arena, arena, Coordinating, CoordStage, Done, Entry, IsLed, Op, Sweep}
 use Rattle.gh_holds.proofs.AllActors.Aside as aside
-use Rattle.gh_holds.proofs.AllActors.Aside.{beside_of, Lands, TellsNothing}
+use Rattle.gh_holds.proofs.AllActors.Aside.{beside_of, keeps_buffers, Lands, TellsNothing}
 use Rattle.gh_lists.specs.Going.{keeps_last, NotAcks}
 use Rattle.gh_marked.specs.Known.{ListsKnown}
-use Rattle.gh_holds.proofs.AllActors.LeadingSeat.{ByLead, from, goes_at as goes_by, led_then, sweeps_before, sweeps_then}
+use Rattle.gh_holds.proofs.AllActors.LeadingSeat.{ByLead, from, led_then, sweeps_before, sweeps_then}
 use Rattle.gh_lists.specs.Resting.{ever_stays}
 use Rattle.gh_holds.proofs.AllActors.SinceEnd.{as_it_ended, has_ended_on, KeepsEnd, LastStays, MovesBy, quiet_keeps_end}
 use Rattle.gh_lists.specs.Handshake.{Setup}
+
+-- it runs no sweep, and begins none
+abbrev pub NotSweeps : CoordStage → Type 0
+NotSweeps (Sweep w) = ⊥
+NotSweeps Done = ⊥
+NotSweeps _ = Unit {0}
+
+sweeps_none : (p : CoordStage) → NotSweeps p → coord.sweep_at p ≡ None
+sweeps_none p other = grind arith
+
+begins_none : (u : Coordinating) (p : CoordStage) (found : ℕ) → NotSweeps p → coord.sweep_in (coord.goes_at u p found) ≡ None
+begins_none u (Sweep w) found other = absurd other
+begins_none u Done found other = absurd other
+begins_none u p found other = by_event u found (λ (to : Coordinating). coord.sweep_in to ≡ None) p (λ x may. grind arith)
 
 module _ (setup : Setup) (lists : ListsKnown setup) where
   abbrev z : Arena
@@ -41,8 +56,7 @@ module _ (setup : Setup) (lists : ListsKnown setup) where
     -- it was the last before
     last_so : NotAcks by.lead.stage → (d : Coordinating) → IsLed setup (e ∷ es) d → d.is_last ≡ true → by.lead.is_last ≡ true
     last_so other d led_d is =
-        let there : IsLed setup (e ∷ es) (coord.goes_at u by.lead.stage e.found) = subst (IsLed setup (e ∷ es)) (goes_by setup lists e es by by.lead.stage refl) (led_then setup lists e es by) in
-        let one : coord.goes_at u by.lead.stage e.found ≡ d = (let both = sym there ∙ led_d in cc) in
+        let one : coord.goes by.lead e.found ≡ d = (let both = sym (led_then setup lists e es by) ∙ led_d in cc) in
         sym (keeps_last u by.lead.stage e.found other) ∙ (ap (λ (x : Coordinating). x.is_last) one ∙ is)
 
     pub last_stays : NotAcks by.lead.stage → (s t : State) → KeepsEnd s t → LastStays setup e es s t
@@ -68,19 +82,19 @@ module _ (setup : Setup) (lists : ListsKnown setup) where
     }
 
     -- A step that runs no sweep, on no word of spans and counts.
-    module _ (none : coord.sweep_at by.lead.stage ≡ None) (still : coord.sweep_in (coord.goes_at u by.lead.stage e.found) ≡ None) where
+    module _ (still : NotSweeps by.lead.stage) where
       pub none_before : sweep_of (actors_after z setup.pacing setup.may es e.actor) ≡ None
-      none_before = sweeps_before setup lists e es by by.lead.stage refl ∙ none
+      none_before = sweeps_before setup lists e es by by.lead.stage refl ∙ sweeps_none by.lead.stage still
 
       pub none_then : sweep_of (actors_after z setup.pacing setup.may (e ∷ es) e.actor) ≡ None
-      none_then = sweeps_then setup lists e es by by.lead.stage refl ∙ still
+      none_then = sweeps_then setup lists e es by by.lead.stage refl ∙ begins_none u by.lead.stage e.found still
 
       module _ (tells : TellsNothing e.ask) where
         abbrev pub steps : (has : HasState setup es) → Step has
-        steps has = aside.by_quiet_none setup lists.known e es by.legal ge has none_before (beside_of e.ask tells.aside) (λ over. tells) none_then
+        steps has = aside.by_quiet_none setup lists.known e es by.legal ge has none_before (beside_of lists.known.footprints e.ask tells) (λ over. tells) none_then
 
         abbrev pub quiet_on : (cycle page : ℕ) → IsOff setup es cycle page → (later : ℕ) → later ≡ cycle → IsOff setup (e ∷ es) later page
-        quiet_on cycle page q later same = aside.off_then setup lists.known e es by.legal ge cycle page q (steps q.has) (tells.aside.buffer q.has.state.heap.words) later same
+        quiet_on cycle page q later same = aside.off_then setup lists.known e es by.legal ge cycle page q (steps q.has) (keeps_buffers lists.known.footprints e.ask tells q.has.state.heap.words) later same
 
         abbrev pub told_on : NotAcks by.lead.stage → (page : ℕ) → IsBehind es by.lead page → (d : Coordinating) → d.begun ≡ by.lead.begun → IsBehind (e ∷ es) d page
-        told_on other page b d same = goes_on other page b (steps b.off.has) (tells.aside.buffer b.off.has.state.heap.words) (quiet_keeps_end z e.actor b.off.has.state e.ask) d same
+        told_on other page b d same = goes_on other page b (steps b.off.has) (keeps_buffers lists.known.footprints e.ask tells b.off.has.state.heap.words) (quiet_keeps_end z e.actor b.off.has.state e.ask) d same

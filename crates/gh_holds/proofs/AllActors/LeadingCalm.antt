@@ -11,19 +11,15 @@ use Rattle.gh_state.specs.Cycles.{AreSwept, opened, Opens}
 use Rattle.gh_holds.specs.ActorsHold.{HasCleared, HasCursor, HoldsAt, IsOpening, IsQuiet, IsReady, NobodyMarks}
 use Rattle.gh_marked.specs.HoldVocabulary.{SeatSweepsNothing, State}
 use Rattle.gh_marked.specs.Sweepers.{IsInSweep, sweep_of}
-use Rattle.gh_marked.proofs.Vocabulary.{actors_after, ahead_at, Arena, arena, Ask, Coordinating, CoordStage, effect, Entry, GONE, IsLed, Legal, LoadAck, LoadWant, Op, Open, OpenStage, part_of, seats_of, Stop, Stopped, StopStage, those, Words, words}
+use Rattle.gh_marked.proofs.Vocabulary.{actors_after, ahead_at, Arena, arena, Ask, Coordinating, CoordStage, effect, Entry, GONE, IsLed, Legal, LoadAck, LoadWant, Op, Open, OpenStage, part_of, seats_of, Stop, Stopped, those, Words, words}
 use Rattle.gh_holds.proofs.AllActors.Aside as aside_of
-use Rattle.gh_holds.proofs.AllActors.Aside.{beside_of, IsAside, Lands, loads_only, TellsNothing}
+use Rattle.gh_holds.proofs.AllActors.Aside.{aside_rows, beside_rows, IsAside, Lands, telling_rows, TellsNothing}
 use Rattle.gh_marked.specs.Known.{ListsKnown}
-use Rattle.gh_holds.proofs.AllActors.LeadingAside.{quiet_on}
+use Rattle.gh_holds.proofs.AllActors.LeadingAside.{NotSweeps, quiet_on}
 use Rattle.gh_holds.proofs.AllActors.LeadingSeat.{asked_at, ByLead, from, led_then, goes_at as goes_by, stopped_sweeps_none, sweeps_before}
 use Rattle.gh_lists.specs.Handshake.{Setup}
 
--- each request of an opening leaves the heap as it is
-opens_aside : (o : opens_by.CycleOpening) (p : OpenStage) → IsAside (opens_by.asks_at o p)
-opens_aside o p = grind arith
-
--- and the cursor, once it is cleared
+-- each request of an opening leaves the cursor, once it is cleared
 opens_cursor : (o : opens_by.CycleOpening) (p : OpenStage) (w : Words) → HasCursor (w cell.Gcur) p → HasCursor (effect w (opens_by.asks_at o p) cell.Gcur) (opens_by.behind p)
 opens_cursor o p w h = grind arith
 
@@ -31,24 +27,9 @@ opens_cursor o p w h = grind arith
 opens_counts : (o : opens_by.CycleOpening) (p : OpenStage) (w : Words) → HasCleared (w cell.Tally) (w cell.Live) p → HasCleared (effect w (opens_by.asks_at o p) cell.Tally) (effect w (opens_by.asks_at o p) cell.Live) (opens_by.behind p)
 opens_counts o p w h = grind arith
 
--- no span is swept behind such a step
-module _ (u : Coordinating) where
-  acks_sweep : (b f : Bool) (i : ℕ) → coord.sweep_in (cond b (cond f (coord.at_stage u (LoadAck (i + 1))) (coord.stops_world (record u { is_last = true }))) (coord.at_stage u LoadWant)) ≡ None
-  acks_sweep b f i = grind arith
-
-  wants_sweep : (b : Bool) → coord.sweep_in (cond b (coord.at_stage u (LoadAck 0)) (coord.stops_world u)) ≡ None
-  wants_sweep b = grind arith
-
-  stops_sweep : (st : stop.Stopping) (out : Option (Unit {0})) → coord.sweep_in (coord.after_stop (coord.at_stage u (Stop st)) out) ≡ None
-  stops_sweep st out = grind arith
-
 -- who rests does so still where a cycle is opened
 rests_opened : (a : ℕ) (s : State) → SeatSweepsNothing a s → SeatSweepsNothing a (opened s)
 rests_opened a s r = record { none = r.none; told = r.told }
-
--- each request of a stop is a load, or stores the phase
-stops_tell : (st : stop.Stopping) (p : StopStage) → TellsNothing (stop.asks_at st p)
-stops_tell st p = grind arith
 
 module _ (setup : Setup) (lists : ListsKnown setup) where
   abbrev z : Arena
@@ -90,13 +71,13 @@ module _ (setup : Setup) (lists : ListsKnown setup) where
     asks_so p is = asked_at setup lists e es by p is
 
     -- between two cycles
-    still_quiet : (p : CoordStage) → by.lead.stage ≡ p → coord.sweep_at p ≡ None → coord.sweep_in (coord.goes_at u p e.found) ≡ None → TellsNothing (coord.asks_at by.lead p) → (d : Coordinating) → d.begun ≡ by.lead.begun → IsQuiet setup es by.lead → IsQuiet setup (e ∷ es) d
-    still_quiet p is none still tells d same q = quiet_on setup lists e es by (ap coord.sweep_at is ∙ none) (ap (λ (y : CoordStage). coord.sweep_in (coord.goes_at u y e.found)) is ∙ still) (subst TellsNothing (sym (asks_so p is)) tells) (by.lead.begun + 1) setup.layout.pages q (d.begun + 1) (ap (λ (n : ℕ). n + 1) same)
+    still_quiet : (p : CoordStage) → by.lead.stage ≡ p → NotSweeps p → TellsNothing (coord.asks_at by.lead p) → (d : Coordinating) → d.begun ≡ by.lead.begun → IsQuiet setup es by.lead → IsQuiet setup (e ∷ es) d
+    still_quiet p is still tells d same q = quiet_on setup lists e es by (subst NotSweeps (sym is) still) (subst TellsNothing (sym (asks_so p is)) tells) (by.lead.begun + 1) setup.layout.pages q (d.begun + 1) (ap (λ (n : ℕ). n + 1) same)
 
     pub acks : (i : ℕ) → by.lead.stage ≡ LoadAck i → IsQuiet setup es by.lead → To (coord.goes_at u (LoadAck i) e.found)
     acks i is q = go (e.found == GONE) (ltb (i + 1) u.layout.procs) where
       so : IsQuiet setup (e ∷ es) by.lead
-      so = still_quiet (LoadAck i) is refl (acks_sweep u (e.found == GONE) (ltb (i + 1) u.layout.procs) i) (loads_only _) by.lead refl q
+      so = still_quiet (LoadAck i) is tt refl by.lead refl q
 
       go : (b f : Bool) → To (cond b (cond f (coord.at_stage u (LoadAck (i + 1))) (coord.stops_world (record u { is_last = true }))) (coord.at_stage u LoadWant))
       go true true = so
@@ -106,7 +87,7 @@ module _ (setup : Setup) (lists : ListsKnown setup) where
     pub wants : by.lead.stage ≡ LoadWant → IsQuiet setup es by.lead → To (coord.goes_at u LoadWant e.found)
     wants is q = go (e.found == 0) where
       so : IsQuiet setup (e ∷ es) by.lead
-      so = still_quiet LoadWant is refl (wants_sweep u (e.found == 0)) (loads_only _) by.lead refl q
+      so = still_quiet LoadWant is tt refl by.lead refl q
 
       go : (b : Bool) → To (cond b (coord.at_stage u (LoadAck 0)) (coord.stops_world u))
       go true = so
@@ -120,28 +101,28 @@ module _ (setup : Setup) (lists : ListsKnown setup) where
       was_number : by.lead.begun ≡ words setup es cell.Swept + 0
       was_number = (subst (λ (p : CoordStage). by.lead.begun ≡ words setup es cell.Swept + (ahead_at (part_of p)).numbered) is (lists.counts es by.lead by.legal.0 by.led).number)
 
-      module _ (d : Coordinating) (work : ℕ) (goal : Option ℕ) (led_d : IsLed setup (e ∷ es) d) (at : d.stage ≡ Open (opens_by.opening u.layout u.stops (coord.next_cycle u.begun) work goal)) where
+      module _ (d : Coordinating) (work : ℕ) (goal : Option ℕ) (led_d : IsLed setup (e ∷ es) d) (at : d.stage ≡ Open (opens_by.opening u.stops (coord.next_cycle u.begun) work goal)) where
         pub next_number : d.begun ≡ by.lead.begun + 1
         next_number =
             let now : d.begun ≡ words setup (e ∷ es) cell.Swept + 1 = subst (λ (p : CoordStage). d.begun ≡ words setup (e ∷ es) cell.Swept + (ahead_at (part_of p)).numbered) at (lists.counts (e ∷ es) d by.legal led_d).number in
             omega (arith, now, was_number, same_swept)
 
       pub stops : IsQuiet setup es by.lead → To (coord.goes_at u (Stop st) e.found)
-      stops q = go (stop.gives st e.found) refl where
+      stops q = go (stop.given (stop.goes u.layout st e.found)) refl where
         quiet_then : IsQuiet setup (e ∷ es) by.lead
-        quiet_then = still_quiet (Stop st) is refl (stops_sweep u (stop.goes st e.found) (stop.gives st e.found)) (stops_tell st st.stage) by.lead refl q
+        quiet_then = still_quiet (Stop st) is tt (lists.known.footprints.among stop.writes telling_rows (stop.asks st) refl ((lists.known.coordinator_parts setup.layout).stop.writes st)) by.lead refl q
 
-        go : (out : Option (Unit {0})) → stop.gives st e.found ≡ out → To (coord.after_stop (coord.at_stage u (Stop (stop.goes st e.found))) out)
+        go : (out : Option (Unit {0})) → stop.given (stop.goes u.layout st e.found) ≡ out → To (coord.after_stop (coord.at_stage u (Stop (stop.goes u.layout st e.found))) out)
         go None x = quiet_then
         go (Some y) x =
-            let d_is : coord.goes by.lead e.found ≡ coord.opens (coord.at_stage u (Stop (stop.goes st e.found))) = goes_by setup lists e es by (Stop st) is ∙ ap (coord.after_stop (coord.at_stage u (Stop (stop.goes st e.found)))) x in
-            let led_d : IsLed setup (e ∷ es) (coord.opens (coord.at_stage u (Stop (stop.goes st e.found)))) = subst (IsLed setup (e ∷ es)) d_is (led_then setup lists e es by) in
+            let d_is : coord.goes by.lead e.found ≡ coord.opens (coord.at_stage u (Stop (stop.goes u.layout st e.found))) = goes_by setup lists e es by (Stop st) is ∙ ap (coord.after_stop (coord.at_stage u (Stop (stop.goes u.layout st e.found)))) x in
+            let led_d : IsLed setup (e ∷ es) (coord.opens (coord.at_stage u (Stop (stop.goes u.layout st e.found)))) = subst (IsLed setup (e ∷ es)) d_is (led_then setup lists e es by) in
             (ready (e ∷ es) by.legal by.lead _ led_d refl (next_number _ _ _ led_d refl) quiet_then, tt, tt)
 
     -- while a cycle is opened
     module _ (o : opens_by.CycleOpening) (is : by.lead.stage ≡ Open o) (r : IsOpening setup es by.lead o.stage) where
       aside : IsAside e.ask
-      aside = grind (arith, asks_so, opens_aside)
+      aside = subst IsAside (sym (asks_so (Open o) is)) (lists.known.footprints.among opens_by.writes aside_rows (opens_by.asks o) refl ((lists.known.coordinator_parts setup.layout).opens.writes o))
 
       under : r.0.has.state.told ≡ None → TellsNothing e.ask
       under over = absurd (let no : None ≡ Some r.0.under_way.0 = sym over ∙ r.0.under_way.1 in cc)
@@ -153,14 +134,14 @@ module _ (setup : Setup) (lists : ListsKnown setup) where
       behind = grind arith
 
       abbrev land : Lands setup lists.known e es by.legal ge r.0.has
-      land = aside_of.by_quiet_none setup lists.known e es by.legal ge r.0.has before (beside_of e.ask aside) under behind
+      land = aside_of.by_quiet_none setup lists.known e es by.legal ge r.0.has before (lists.known.footprints.among aside_rows beside_rows e.ask refl aside) under behind
 
       ready_then : (d : Coordinating) → d.begun ≡ by.lead.begun → IsReady setup (e ∷ es) d
       ready_then d same = record {
         has = aside_of.has_then setup lists.known e es by.legal ge r.0.has land;
         under_way = r.0.under_way;
-        marks = λ i. aside.mark r.0.has.state.heap.words i ∙ r.0.marks i;
-        nobody = aside_of.nobody_marks setup lists.known e es by.legal ge r.0.has land (aside.buffer r.0.has.state.heap.words) by.lead.begun d.begun same r.0.nobody;
+        marks = λ i. lists.known.footprints.leaves aside_rows e.ask r.0.has.state.heap.words (cell.Mark i) aside refl ∙ r.0.marks i;
+        nobody = aside_of.nobody_marks setup lists.known e es by.legal ge r.0.has land (λ b. lists.known.footprints.leaves aside_rows e.ask r.0.has.state.heap.words (cell.Buffer b) aside refl) by.lead.begun d.begun same r.0.nobody;
       }
 
       so : (d : Coordinating) → d.begun ≡ by.lead.begun → IsOpening setup (e ∷ es) d (opens_by.behind o.stage)

@@ -1,5 +1,5 @@
 -- The store of the next sweep generation ends a cycle: what holds then is what the sweep begins with.
-use Rattle.std.proofs.Common.{◌≡◌, ◌⊎◌, inl, inr, ℕ, ◌+◌, ◌*◌, ◌^◌, ◌<◌, ◌≤◌, Bool, true, false, ltb, refl, sym, ap, subst, ◌∙◌, arith, List, ◌∷◌, None}
+use Rattle.std.proofs.Common.{◌≡◌, ◌⊎◌, inl, inr, ℕ, ◌+◌, ◌*◌, ◌^◌, ◌<◌, ◌≤◌, Bool, true, false, ltb, refl, sym, ap, subst, ◌∙◌, arith, List, ◌∷◌}
 use Rattle.gh_base.specs.declared.cell.Cell.TheVariants as cell
 use Rattle.gh_coord.specs.declared.close.CloseStage.TheVariants as closing
 use Rattle.gh_coord.specs.Closing as close
@@ -15,11 +15,11 @@ use Rattle.gh_marked.specs.State.{HasState}
 use Rattle.gh_marked.specs.Sweepers.{IsInSweep, sweep_of}
 use Rattle.gh_marked.specs.HoldVocabulary.{IsAsItEnded, Name, row_bit, SeatSweepsNothing, State, StateGood}
 use Rattle.gh_marked.proofs.Vocabulary.{acks_of, actors_after, ahead_at, alloc_words, Arena, arena, Checked, Close, close_part, CloseStage, Coordinating, CoordStage, effect, END, Entry, eqb-true, Heap, IsBeginning, IsEnding, IsInCycle, IsLed, IsToBegin, Layout, mark_words, MarksNothing, MarksToTheEnd, nat_tests, Op, Part, part_of, Processor, processor_at, put, seats_of, Stopped, Store, uncounted, Words, words}
-use Rattle.gh_holds.proofs.AllActors.Aside.{IsOfSpans, phase_only, TellsNothing}
+use Rattle.gh_holds.proofs.AllActors.Aside.{IsOfSpans, TellsNothing}
 use Rattle.gh_lists.specs.Going.{NotAcks}
 use Rattle.gh_marked.specs.Known.{ListsKnown}
 use Rattle.gh_holds.proofs.AllActors.LeadingEnds.{buffers, facts, none_placing, post, reached_are_marked, still_at}
-use Rattle.gh_holds.proofs.AllActors.LeadingAside.{last_stays, told_on}
+use Rattle.gh_holds.proofs.AllActors.LeadingAside.{last_stays, NotSweeps, told_on}
 use Rattle.gh_holds.proofs.AllActors.LeadingSeat.{asked_at, ByLead, from, goes_at as goes_by, is_still, IsStill, led_then, owes_nothing, stopped_sweeps_none}
 use Rattle.gh_holds.proofs.AllActors.LeadingSwept.{apart, behind_of, heap_on, nobody_on, sweeping_of}
 use Rattle.gh_lists.specs.Resting.{state_stays}
@@ -91,7 +91,7 @@ module _ (setup : Setup) (lists : ListsKnown setup) where
     words_so = ap (put h.words cell.Gen) next ∙ sym (ap (effect h.words) asked)
 
     only : IsOfSpans e.ask
-    only = grind (arith, asked)
+    only = subst IsOfSpans (sym asked) refl
 
     -- Marking is over: nobody holds anything, and each processor has counted what it placed.
 
@@ -138,9 +138,8 @@ module _ (setup : Setup) (lists : ListsKnown setup) where
     pages : s.end.layout.pages ≡ setup.layout.pages
     pages = ap (λ (y : Layout). y.pages) mark.marking.known.has.good.layout
 
-    walks : Walks then (over_all.opening by.lead.layout by.lead.generation)
+    walks : Walks then (over_all.opening by.lead.generation)
     walks = record {
-      layout_is = sound.0 ∙ sym mark.marking.known.has.good.layout;
       generation_is = sym stored ∙ sym next;
       passed = λ p lt. absurd (omega (arith, lt));
       stage_is = let some = lists.limits.pages_fit.0 in omega (arith, some, pages);
@@ -226,7 +225,7 @@ module _ (setup : Setup) (lists : ListsKnown setup) where
       sweeps = sweeps_none;
     }
 
-    pub sweeping : (d : Coordinating) → d.begun ≡ by.lead.begun → IsSweeping setup (e ∷ es) d (over_all.opening by.lead.layout by.lead.generation)
+    pub sweeping : (d : Coordinating) → d.begun ≡ by.lead.begun → IsSweeping setup (e ∷ es) d (over_all.opening by.lead.generation)
     sweeping d same = record {
       has = has_then;
       over = refl;
@@ -236,20 +235,14 @@ module _ (setup : Setup) (lists : ListsKnown setup) where
     }
 
   -- With the store of the phase the world runs, and the walk begins.
-  module _ (e : Entry Op) (es : List (Entry Op)) (by : ByLead setup e es) (x : close.Closing) (is : by.lead.stage ≡ Close x) (at : x.stage ≡ closing.StorePhase) (k : IsSweeping setup es by.lead (over_all.opening by.lead.layout by.lead.generation)) where
+  module _ (e : Entry Op) (es : List (Entry Op)) (by : ByLead setup e es) (x : close.Closing) (is : by.lead.stage ≡ Close x) (at : x.stage ≡ closing.StorePhase) (k : IsSweeping setup es by.lead (over_all.opening by.lead.generation)) where
     at_close : by.lead.stage ≡ Close (close.at_stage x closing.StorePhase)
     at_close = is ∙ ap (λ (p : CloseStage). Close (close.at_stage x p)) at
 
     tells : TellsNothing e.ask
-    tells = subst TellsNothing (sym (asked_at setup lists e es by (Close (close.at_stage x closing.StorePhase)) at_close)) (phase_only _)
+    tells = subst TellsNothing (sym (asked_at setup lists e es by (Close (close.at_stage x closing.StorePhase)) at_close)) refl
 
-    none : coord.sweep_at by.lead.stage ≡ None
-    none = ap coord.sweep_at at_close
-
-    still_none : coord.sweep_in (coord.goes_at (coord.counted by.lead) by.lead.stage e.found) ≡ None
-    still_none = ap (λ (p : CoordStage). coord.sweep_in (coord.goes_at (coord.counted by.lead) p e.found)) at_close
-
-    pub runs_on : (d : Coordinating) → d.begun ≡ by.lead.begun → IsSweeping setup (e ∷ es) d (over_all.opening by.lead.layout by.lead.generation)
-    runs_on d same = sweeping_of setup lists (e ∷ es) d (over_all.opening by.lead.layout by.lead.generation) 0
-        (told_on setup lists e es by none still_none tells (subst NotAcks (sym is) tt) 0 (behind_of setup lists es by.lead (over_all.opening by.lead.layout by.lead.generation) k) d same)
-        (record { layout_is = k.walks.layout_is; generation_is = k.walks.generation_is; passed = k.walks.passed; stage_is = k.walks.stage_is })
+    pub runs_on : (d : Coordinating) → d.begun ≡ by.lead.begun → IsSweeping setup (e ∷ es) d (over_all.opening by.lead.generation)
+    runs_on d same = sweeping_of setup lists (e ∷ es) d (over_all.opening by.lead.generation) 0
+        (told_on setup lists e es by (subst NotSweeps (sym is) tt) tells (subst NotAcks (sym is) tt) 0 (behind_of setup lists es by.lead (over_all.opening by.lead.generation) k) d same)
+        (record { generation_is = k.walks.generation_is; passed = k.walks.passed; stage_is = k.walks.stage_is })

@@ -12,10 +12,10 @@ use Rattle.gh_sweep.specs.Shared.{Done}
 use Rattle.gh_sweep.specs.Sweepers as sweepers
 use Rattle.gh_holds.specs.ActorsHold.{IsBegun, page_at, Walks, WalksAt}
 use Rattle.gh_marked.specs.HoldVocabulary.{generation_of, head_word, PassedBefore, State, StateGood, SweepingAll, SweepRuns}
-use Rattle.gh_marked.proofs.Vocabulary.{Arena, Body, cell_of, Free, Head, Load, Lost, nat_tests, page_of, PageWord, SpanHead, SweepAllStage, SweepEnd, SweepStage, Swept}
+use Rattle.gh_marked.proofs.Vocabulary.{Arena, Body, cell_of, Free, Head, Layout, Load, Lost, nat_tests, page_of, PageWord, SpanHead, SweepAllStage, SweepEnd, SweepStage, Swept}
 use Rattle.gh_marked.specs.Known.{Known}
 
-module _ (z : Arena) (known : Known) (w : SweepingAll) where
+module _ (z : Arena) (known : Known) (l : Layout) (w : SweepingAll) where
   -- a page more is passed
   one_more : (t : State) (page : ℕ) → PassedBefore t page → t.far page ≡ Done → PassedBefore t (page + 1)
   one_more t page passed this p lt = go (p == page) refl where
@@ -24,17 +24,17 @@ module _ (z : Arena) (known : Known) (w : SweepingAll) where
     go false x = passed p (let differs : p ≢ page = (λ y. absurd (grind (arith, nat_tests))) in omega (arith, lt, differs))
 
   -- the page is passed, and the next one is looked at, if there is one
-  next_page : (t : State) (page : ℕ) → w.layout ≡ t.end.layout → w.generation ≡ generation_of t.end → PassedBefore t (page + 1) → Walks t (over_all.at_stage w (over_all.behind w page))
+  next_page : (t : State) (page : ℕ) → l ≡ t.end.layout → w.generation ≡ generation_of t.end → PassedBefore t (page + 1) → Walks t (over_all.at_stage w (over_all.behind l page))
   next_page t page layout_is generation_is passed = grind arith
 
-  module _ (s : State) (good : StateGood z s) (walks : Walks s w) where
+  module _ (s : State) (good : StateGood z s) (walks : Walks s w) (laid : l ≡ s.end.layout) where
     -- a head with neither of the two numbers before it has that of the sweep generation
     number_is : (page : ℕ) (g : SpanHead) → page_of (s.heap.words (cell.Page page)) ≡ Head g → g.number + 2 ≢ w.generation → g.number + 1 ≢ w.generation → g.number ≡ s.heap.words cell.Gen
     number_is page g is not_two not_one = grind arith
 
     -- so it is passed
-    passes : (page : ℕ) → PassedBefore s page → ((g : SpanHead) → page_of (s.heap.words (cell.Page page)) ≡ Head g → (g.number + 2 ≢ w.generation) × (g.number + 1 ≢ w.generation)) → Walks s (over_all.at_stage w (over_all.behind w page))
-    passes page passed none = next_page s page walks.layout_is walks.generation_is (known.walkers.passes z s page good (λ g is. number_is page g is (none g is).0 (none g is).1) passed)
+    passes : (page : ℕ) → PassedBefore s page → ((g : SpanHead) → page_of (s.heap.words (cell.Page page)) ≡ Head g → (g.number + 2 ≢ w.generation) × (g.number + 1 ≢ w.generation)) → Walks s (over_all.at_stage w (over_all.behind l page))
+    passes page passed none = next_page s page laid walks.generation_is (known.walkers.passes z s page good (λ g is. number_is page g is (none g is).0 (none g is).1) passed)
 
     -- the word of a page is found
     module _ (page : ℕ) (found : ℕ) (found_is : found ≡ s.heap.words (cell.Page page)) where
@@ -50,7 +50,6 @@ module _ (z : Arena) (known : Known) (w : SweepingAll) where
       -- another sweeps the span
       awaits : page < s.end.layout.pages → PassedBefore s page → (g : SpanHead) → page_of (s.heap.words (cell.Page page)) ≡ Head g → g.number + 1 ≡ w.generation → Walks s (over_all.at_stage w (all.Await page))
       awaits within passed g is_g number = record {
-        layout_is = walks.layout_is;
         generation_is = walks.generation_is;
         passed = passed;
         stage_is = (within, λ n two h is_h. λ x. absurd (let same = ap (λ (y : SpanHead). y.number) (one_head g h is_g is_h) in let gen = walks.generation_is in omega (arith, same, gen, number, two, x)));
@@ -64,17 +63,17 @@ module _ (z : Arena) (known : Known) (w : SweepingAll) where
         passed : PassedBefore s page
         passed = subst (λ (p : SweepAllStage). PassedBefore s (page_at s p)) is walks.passed
 
-        begins : (g : SpanHead) → Walks s (over_all.at_stage w (all.Sweep page (sweep.opening w.layout page g)))
-        begins g = record { layout_is = walks.layout_is; generation_is = walks.generation_is; passed = passed; stage_is = (within, refl) }
+        begins : (g : SpanHead) → Walks s (over_all.at_stage w (all.Sweep page (sweep.opening page g)))
+        begins g = record { generation_is = walks.generation_is; passed = passed; stage_is = (within, refl) }
 
-        at_head : (g : SpanHead) → page_of (s.heap.words (cell.Page page)) ≡ Head g → (b d : Bool) → (g.number + 2 == w.generation) ≡ b → (g.number + 1 == w.generation) ≡ d → Walks s (over_all.at_stage w (cond b (all.Sweep page (sweep.opening w.layout page g)) (cond d (all.Await page) (over_all.behind w page))))
+        at_head : (g : SpanHead) → page_of (s.heap.words (cell.Page page)) ≡ Head g → (b d : Bool) → (g.number + 2 == w.generation) ≡ b → (g.number + 1 == w.generation) ≡ d → Walks s (over_all.at_stage w (cond b (all.Sweep page (sweep.opening page g)) (cond d (all.Await page) (over_all.behind l page))))
         at_head g is_g true d x y = begins g
         at_head g is_g false true x y = awaits within passed g is_g (grind (arith, nat_tests))
         at_head g is_g false false x y = passes page passed (numbers_of g is_g (λ n. absurd (grind (arith, nat_tests))) (λ n. absurd (grind (arith, nat_tests))))
 
-        pub loaded : Walks s (over_all.goes_at w (all.LoadPage page) found)
+        pub loaded : Walks s (over_all.goes_at l w (all.LoadPage page) found)
         loaded = go (page_of found) (ap page_of (sym found_is)) where
-          go : (x : PageWord) → page_of (s.heap.words (cell.Page page)) ≡ x → Walks s (over_all.after_load w page x)
+          go : (x : PageWord) → page_of (s.heap.words (cell.Page page)) ≡ x → Walks s (over_all.after_load l w page x)
           go Free i = passes page passed (no_head Free i (λ g y. absurd cc))
           go (Head g) i = at_head g i (g.number + 2 == w.generation) (g.number + 1 == w.generation) refl refl
           go (Body b) i = passes page passed (no_head (Body b) i (λ g y. absurd cc))
@@ -90,13 +89,13 @@ module _ (z : Arena) (known : Known) (w : SweepingAll) where
         not_unswept : (g : SpanHead) → page_of (s.heap.words (cell.Page page)) ≡ Head g → g.number + 2 ≢ w.generation
         not_unswept g is_g two = stage_at.1 g.number (two ∙ walks.generation_is) g is_g refl
 
-        by_number : (g : SpanHead) → page_of (s.heap.words (cell.Page page)) ≡ Head g → (b : Bool) → (g.number + 1 == w.generation) ≡ b → Walks s (over_all.at_stage w (cond b (all.Await page) (over_all.behind w page)))
+        by_number : (g : SpanHead) → page_of (s.heap.words (cell.Page page)) ≡ Head g → (b : Bool) → (g.number + 1 == w.generation) ≡ b → Walks s (over_all.at_stage w (cond b (all.Await page) (over_all.behind l page)))
         by_number g is_g true x = awaits stage_at.0 passed_below g is_g (grind (arith, nat_tests))
         by_number g is_g false x = passes page passed_below (numbers_of g is_g (not_unswept g is_g) (λ n. absurd (grind (arith, nat_tests))))
 
-        pub awaited : Walks s (over_all.goes_at w (all.Await page) found)
+        pub awaited : Walks s (over_all.goes_at l w (all.Await page) found)
         awaited = go (page_of found) (ap page_of (sym found_is)) where
-          go : (x : PageWord) → page_of (s.heap.words (cell.Page page)) ≡ x → Walks s (over_all.after_await w page x)
+          go : (x : PageWord) → page_of (s.heap.words (cell.Page page)) ≡ x → Walks s (over_all.after_await l w page x)
           go Free i = passes page passed_below (no_head Free i (λ g y. absurd cc))
           go (Head g) i = by_number g i (g.number + 1 == w.generation) refl
           go (Body b) i = passes page passed_below (no_head (Body b) i (λ g y. absurd cc))
@@ -106,7 +105,7 @@ module _ (z : Arena) (known : Known) (w : SweepingAll) where
       pub is : w.stage ≡ all.Sweep page m
       pub runs : SweepRuns a s m
       pub busy : sweep.is_busy m.stage ≡ true
-      pub found_is : found ≡ s.heap.words (cell_of (sweep.asks m))
+      pub found_is : found ≡ s.heap.words (cell_of (sweep.asks l m))
       pub may : state.May z a s (state.Sweep (sweepers.move_of m found))
 
     module _ (a page : ℕ) (m : sweep.Sweeping) (found : ℕ) (step : StepsInSpan a page m found) where
@@ -120,10 +119,10 @@ module _ (z : Arena) (known : Known) (w : SweepingAll) where
       passed_then = known.walkers.own z a s (state.Sweep (sweepers.move_of m found)) page good step.may (subst (λ (p : SweepAllStage). PassedBefore s (page_at s p)) step.is walks.passed)
 
       abbrev Next : State → sweep.Sweeping → Option SweepEnd → Type 0
-      Next t x out = Walks t (over_all.after_sweep (over_all.at_stage w (all.Sweep page x)) page out)
+      Next t x out = Walks t (over_all.after_sweep l (over_all.at_stage w (all.Sweep page x)) page out)
 
       goes_on : (x : sweep.Sweeping) → x.page ≡ m.page → Next then x None
-      goes_on x page_is = record { layout_is = walks.layout_is; generation_is = walks.generation_is; passed = passed_then; stage_is = (at_page.0, page_is ∙ at_page.1) }
+      goes_on x page_is = record { generation_is = walks.generation_is; passed = passed_then; stage_is = (at_page.0, page_is ∙ at_page.1) }
 
       abbrev Behind : SweepStage → Type 0
       Behind q = Next then (sweep.at_stage m q) (sweep.given_at q)
@@ -134,7 +133,7 @@ module _ (z : Arena) (known : Known) (w : SweepingAll) where
 
       -- the span is swept
       ended : m.stage ≡ sweep_stage.Finish → Behind (sweep_stage.Ended (Swept (sweep.swept_span m)))
-      ended y = next_page then page walks.layout_is walks.generation_is (one_more then page passed_then swept_page) where
+      ended y = next_page then page laid walks.generation_is (one_more then page passed_then swept_page) where
         swept_page : then.far page ≡ Done
         swept_page = ap (λ (q : SweepStage). (state.moved z a s (state.Sweep (sweepers.move_at m q found))).far page) y ∙ rw (eq-eqb m.page page at_page.1) refl
 
@@ -144,7 +143,7 @@ module _ (z : Arena) (known : Known) (w : SweepingAll) where
         lost : sweep.wrote m found ≡ false → HasNotNumber m.head.number (s.heap.words (cell.Page m.page))
         lost x = by (subst (λ (q : SweepStage). FactsAt m s.heap.words q) y step.runs.fine.facts).head_is where
           here : found ≡ s.heap.words (cell.Page m.page)
-          here = step.found_is ∙ ap (λ (q : SweepStage). s.heap.words (cell_of (sweep.asks_at m q))) y
+          here = step.found_is ∙ ap (λ (q : SweepStage). s.heap.words (cell_of (sweep.asks_at l m q))) y
 
           by : (s.heap.words (cell.Page m.page) ≡ head_word m.head) ⊎ HasNotNumber m.head.number (s.heap.words (cell.Page m.page)) → HasNotNumber m.head.number (s.heap.words (cell.Page m.page))
           by (inl same) = absurd (let yes : sweep.wrote m found ≡ true = eq-eqb found (head_word m.head) (here ∙ same) in let no : true ≡ false = sym yes ∙ x in cc)
@@ -156,7 +155,6 @@ module _ (z : Arena) (known : Known) (w : SweepingAll) where
         go : (b : Bool) → sweep.wrote m found ≡ b → Behind (cond b (sweep_stage.LoadMarks 0) (sweep_stage.Ended Lost))
         go true x = goes_on _ refl
         go false x = record {
-          layout_is = walks.layout_is;
           generation_is = walks.generation_is;
           passed = passed_then;
           stage_is = (at_page.0, subst (λ (t : State). IsBegun t page) (sym (then_by false x)) begun_there);
@@ -166,14 +164,10 @@ module _ (z : Arena) (known : Known) (w : SweepingAll) where
 
       by_stage : (q : SweepStage) → m.stage ≡ q → sweep.is_busy q ≡ true → Next then (sweep.goes_at m q found) (sweep.given (sweep.goes_at m q found))
       by_stage sweep_stage.Begin y b = begun y
-      by_stage (sweep_stage.LoadMarks i) y b = goes_on _ refl
-      by_stage (sweep_stage.ClearBits i marks) y b = goes_on _ refl
       by_stage (sweep_stage.ClearMarks i) y b = behind (ltb (i + 1) (sweep.bit_words m.head)) (i + 1)
-      by_stage sweep_stage.AddTally y b = goes_on _ refl
-      by_stage sweep_stage.AddLive y b = goes_on _ refl
-      by_stage sweep_stage.AddHeap y b = goes_on _ refl
       by_stage sweep_stage.Finish y b = ended y
       by_stage (sweep_stage.Ended end) y b = absurd cc
+      by_stage _ y b = goes_on _ refl
 
-      pub stepped : Walks then (over_all.goes_at w (all.Sweep page m) found)
+      pub stepped : Walks then (over_all.goes_at l w (all.Sweep page m) found)
       stepped = grind (arith, by_stage)

@@ -16,7 +16,7 @@ use Rattle.gh_marked.specs.HoldVocabulary.{PassedBefore, State, SweepingAll}
 use Rattle.gh_marked.specs.Sweepers.{IsInSweep, sweep_of}
 use Rattle.gh_marked.proofs.Vocabulary.{acks_of, actors_after, Answer, Arena, arena, Ask, by, cell_of, Coordinating, CoordStage, effect, END, ended_in, Entry, Heap, IsAsItShould, IsHeapOf, Layout, Legal, Load, MarksNothing, nat_tests, Op, option_to_list, Processor, processor_at, Right, Stopped, Sweep, SweepAllStage, those, view, Words, words}
 use Rattle.gh_holds.proofs.AllActors.Aside as aside_of
-use Rattle.gh_holds.proofs.AllActors.Aside.{beside_of, IsOfSpans, Lands, loads_only, TellsNothing}
+use Rattle.gh_holds.proofs.AllActors.Aside.{beside_of, IsBeside, IsOfSpans, keeps_buffers, Lands, spans_rows, TellsNothing}
 use Rattle.gh_lists.specs.Going.{NotAcks}
 use Rattle.gh_marked.specs.Known.{ListsKnown}
 use Rattle.gh_holds.proofs.AllActors.LeadingAside.{goes_on, IsBehind}
@@ -47,10 +47,10 @@ module _ (setup : Setup) (lists : ListsKnown setup) where
     then = with_words h w
 
     pub scanned : (g : ℕ) → w (cell.Scanned g) ≡ h.words (cell.Scanned g)
-    scanned g = ap (λ (x : Words). x (cell.Scanned g)) words_are ∙ only.scanned h.words g
+    scanned g = ap (λ (x : Words). x (cell.Scanned g)) words_are ∙ lists.known.footprints.leaves spans_rows e.ask h.words (cell.Scanned g) only refl
 
     pub buffer : (b : ℕ) → w (cell.Buffer b) ≡ h.words (cell.Buffer b)
-    buffer b = ap (λ (x : Words). x (cell.Buffer b)) words_are ∙ only.buffer h.words b
+    buffer b = ap (λ (x : Words). x (cell.Buffer b)) words_are ∙ lists.known.footprints.leaves spans_rows e.ask h.words (cell.Buffer b) only refl
 
     -- nobody marks still
     pub nobody_on : (cycle later : ℕ) → later ≡ cycle → NobodyMarks setup es cycle h.words → NobodyMarks setup (e ∷ es) later w
@@ -99,7 +99,7 @@ module _ (setup : Setup) (lists : ListsKnown setup) where
       processors = stands;
       others = λ a le. right a (of.others a le);
       stacks = λ g. ((λ x. (of.stacks g).0 (sym (scanned g) ∙ x)), (λ x. scanned g ∙ (of.stacks g).1 x));
-      globals = λ i le. (ap (λ (x : Words). x (cell.Global i)) words_are ∙ only.global h.words i) ∙ of.globals i le;
+      globals = λ i le. (ap (λ (x : Words). x (cell.Global i)) words_are ∙ lists.known.footprints.leaves spans_rows e.ask h.words (cell.Global i) only refl) ∙ of.globals i le;
     }
 
   -- What holds while it is swept, as what is behind its page and the walk.
@@ -142,10 +142,10 @@ module _ (setup : Setup) (lists : ListsKnown setup) where
     abbrev Still : SweepingAll → Type 0
     Still x = (d : Coordinating) → d.begun ≡ by_it.lead.begun → IsSweeping setup (e ∷ es) d x
 
-    asks_so : (p : SweepAllStage) → w.stage ≡ p → e.ask ≡ over.asks_at w p
-    asks_so p x = asked_at setup lists e es by_it (Sweep w) is ∙ ap (over.asks_at w) x
+    asks_so : (p : SweepAllStage) → w.stage ≡ p → e.ask ≡ over.asks_at u.layout p
+    asks_so p x = asked_at setup lists e es by_it (Sweep w) is ∙ ap (over.asks_at u.layout) x
 
-    found_so : (p : SweepAllStage) → w.stage ≡ p → e.found ≡ now.heap.words (cell_of (over.asks_at w p))
+    found_so : (p : SweepAllStage) → w.stage ≡ p → e.found ≡ now.heap.words (cell_of (over.asks_at u.layout p))
     found_so p x =
         let here : e.found ≡ words setup es (cell_of e.ask) = by_it.legal.1.found in
         (here ∙ ap (λ (y : Words). y (cell_of e.ask)) (sym s.has.of_list.words_are)) ∙ ap (λ (q : Ask). now.heap.words (cell_of q)) (asks_so p x)
@@ -163,49 +163,54 @@ module _ (setup : Setup) (lists : ListsKnown setup) where
     sound : (by_it.lead.layout ≡ setup.layout) × leading.Sound by_it.lead
     sound = subst (ActorSound setup.layout) by_it.led ((lists.keeps es by_it.legal.0).shakes.all_sound (acks_of setup.layout) (omega arith))
 
+    here : by_it.lead.layout ≡ now.end.layout
+    here = sound.0 ∙ sym s.has.good.layout
+
     generation : by_it.lead.generation ≡ now.heap.words cell.Gen
     generation =
-        let own : w.generation ≡ by_it.lead.generation = (subst (leading.SoundAt by_it.lead) is sound.1.1).1 in
+        let own : w.generation ≡ by_it.lead.generation = subst (leading.SoundAt by_it.lead) is sound.1.1 in
         sym own ∙ (s.walks.generation_is ∙ sym s.has.good.sweep.generation)
 
     -- A load: the sweep of a span may begin with it.
     module _ (at : ℕ) (asks : e.ask ≡ Load (cell.Page at)) (none : sweep_of (actors_after z setup.pacing setup.may es e.actor) ≡ None) (runs_none : coord.sweep_in by_it.lead ≡ None) where
       tells : TellsNothing e.ask
-      tells = subst TellsNothing (sym asks) (loads_only _)
+      tells = subst TellsNothing (sym asks) refl
+
+      abbrev beside : IsBeside e.ask
+      beside = beside_of lists.known.footprints e.ask tells
 
       abbrev loaded_state : State
-      loaded_state = aside_of.quiet_state setup lists.known e es by_it.legal seat_from s.has none (beside_of e.ask tells.aside) (λ over. tells)
+      loaded_state = aside_of.quiet_state setup lists.known e es by_it.legal seat_from s.has none beside (λ over. tells)
 
       same_words : (x : _) → loaded_state.heap.words x ≡ now.heap.words x
       same_words x = ap (λ (q : Ask). effect now.heap.words q x) asks
 
       begins_then : IsInSweep e.actor loaded_state (sweep_of (actors_after z setup.pacing setup.may (e ∷ es) e.actor))
       begins_then = sweepers.begins_or_rests lists.known z e.actor loaded_state
-          (aside_of.quiet_good setup lists.known e es by_it.legal seat_from s.has none (beside_of e.ask tells.aside) (λ over. tells))
-          (aside_of.quiet_rests setup lists.known e es by_it.legal seat_from s.has none (beside_of e.ask tells.aside) (λ over. tells))
-          by_it.lead.layout by_it.lead.generation (coord.asks by_it.lead) e.found (sweep_of (actors_after z setup.pacing setup.may (e ∷ es) e.actor))
-          (sound.0 ∙ sym s.has.good.layout)
+          (aside_of.quiet_good setup lists.known e es by_it.legal seat_from s.has none beside (λ over. tells))
+          (aside_of.quiet_rests setup lists.known e es by_it.legal seat_from s.has none beside (λ over. tells))
+          by_it.lead.generation (coord.asks by_it.lead) e.found (sweep_of (actors_after z setup.pacing setup.may (e ∷ es) e.actor))
           (generation ∙ sym (same_words cell.Gen))
           (by_it.legal.1.found ∙ (ap (λ (y : Words). y (cell_of e.ask)) (sym s.has.of_list.words_are) ∙ (sym (same_words (cell_of e.ask)) ∙ ap (λ (q : Ask). loaded_state.heap.words (cell_of q)) (asked_at setup lists e es by_it by_it.lead.stage refl))))
           (λ m same. lists.known.coordinator_sweeps.begins by_it.lead e.found m sound.1 runs_none (sym swept_then ∙ same))
 
       abbrev load : Step
-      load = aside_of.by_quiet setup lists.known e es by_it.legal seat_from s.has none (beside_of e.ask tells.aside) (λ over. tells) begins_then
+      load = aside_of.by_quiet setup lists.known e es by_it.legal seat_from s.has none beside (λ over. tells) begins_then
 
       abbrev loads_on : (d : Coordinating) → d.begun ≡ by_it.lead.begun → Behind (e ∷ es) d page
-      loads_on d same = goes_on setup lists e es by_it other page before load (tells.aside.buffer now.heap.words) (quiet_keeps_end z e.actor now e.ask) d same
+      loads_on d same = goes_on setup lists e es by_it other page before load (keeps_buffers lists.known.footprints e.ask tells now.heap.words) (quiet_keeps_end z e.actor now e.ask) d same
 
       -- the walk behind it
       walks_then : (x : SweepingAll) → Walks now x → Walks loaded_state x
-      walks_then x y = subst (λ (q : Ask). Walks (state.moved z e.actor now (state.Deed (Quiet q))) x) (sym asks) (record { layout_is = y.layout_is; generation_is = y.generation_is; passed = y.passed; stage_is = y.stage_is })
+      walks_then x y = subst (λ (q : Ask). Walks (state.moved z e.actor now (state.Deed (Quiet q))) x) (sym asks) (record { generation_is = y.generation_is; passed = y.passed; stage_is = y.stage_is })
 
       loads_still : (x : SweepingAll) → Walks now x → Still x
       loads_still x y d same = record { has = aside_of.has_then setup lists.known e es by_it.legal seat_from s.has load; over = (loads_on d same).off.over; walks = walks_then x y; behind = (loads_on d same).behind; nobody = (loads_on d same).off.nobody }
 
     -- A step of the sweep that it runs.
     module _ (at : ℕ) (m : sweep.Sweeping) (x : w.stage ≡ all.Sweep at m) where
-      asks_m : e.ask ≡ sweep.asks m
-      asks_m = asks_so (all.Sweep at m) x
+      asks_m : e.ask ≡ sweep.asks setup.layout m
+      asks_m = asks_so (all.Sweep at m) x ∙ ap (λ (y : Layout). sweep.asks y m) sound.0
 
       runs_m : IsInSweep e.actor now (Some m)
       runs_m = subst (IsInSweep e.actor now) (swept_before (all.Sweep at m) x) (s.has.sweeps e.actor by_it.legal.1.actor)
@@ -221,16 +226,16 @@ module _ (setup : Setup) (lists : ListsKnown setup) where
           (aside_of.sweep_buffers setup lists.known e es by_it.legal seat_from s.has m (swept_before (all.Sweep at m) x) asks_m then_m)
           (sweep_keeps_end z e.actor now _ step.allowed.of_sweep) d same
 
-      walks_m : Walks (state.moved z e.actor now step.move) (over.goes_at w (all.Sweep at m) e.found)
-      walks_m = stepped z lists.known w now s.has.good s.walks e.actor at m e.found (record { is = x; runs = runs_m.0; busy = runs_m.1; found_is = found_so (all.Sweep at m) x; may = step.allowed })
+      walks_m : Walks (state.moved z e.actor now step.move) (over.goes_at u.layout w (all.Sweep at m) e.found)
+      walks_m = stepped z lists.known u.layout w now s.has.good s.walks here e.actor at m e.found (record { is = x; runs = runs_m.0; busy = runs_m.1; found_is = found_so (all.Sweep at m) x; may = step.allowed })
 
-      sweeps_still : Still (over.goes_at w (all.Sweep at m) e.found)
+      sweeps_still : Still (over.goes_at u.layout w (all.Sweep at m) e.found)
       sweeps_still d same = record { has = aside_of.has_then setup lists.known e es by_it.legal seat_from s.has step; over = (sweeps_on d same).off.over; walks = walks_m; behind = (sweeps_on d same).behind; nobody = (sweeps_on d same).off.nobody }
 
-    goes_so : (p : SweepAllStage) → w.stage ≡ p → over.is_busy p ≡ true → Still (over.goes_at w p e.found)
-    goes_so (all.LoadPage at) x b = loads_still at (asks_so (all.LoadPage at) x) (swept_before (all.LoadPage at) x) (swept_in (all.LoadPage at) x) _ (loaded z lists.known w now s.has.good s.walks at e.found (found_so (all.LoadPage at) x) x)
+    goes_so : (p : SweepAllStage) → w.stage ≡ p → over.is_busy p ≡ true → Still (over.goes_at u.layout w p e.found)
+    goes_so (all.LoadPage at) x b = loads_still at (asks_so (all.LoadPage at) x) (swept_before (all.LoadPage at) x) (swept_in (all.LoadPage at) x) _ (loaded z lists.known u.layout w now s.has.good s.walks here at e.found (found_so (all.LoadPage at) x) x)
     goes_so (all.Sweep at m) x b = sweeps_still at m x
-    goes_so (all.Await at) x b = loads_still at (asks_so (all.Await at) x) (swept_before (all.Await at) x) (swept_in (all.Await at) x) _ (awaited z lists.known w now s.has.good s.walks at e.found (found_so (all.Await at) x) x)
+    goes_so (all.Await at) x b = loads_still at (asks_so (all.Await at) x) (swept_before (all.Await at) x) (swept_in (all.Await at) x) _ (awaited z lists.known u.layout w now s.has.good s.walks here at e.found (found_so (all.Await at) x) x)
     goes_so all.Ended x b = absurd cc
 
     abbrev After : SweepingAll → SweepAllStage → Coordinating
@@ -249,12 +254,10 @@ module _ (setup : Setup) (lists : ListsKnown setup) where
 
     finish : (x : SweepingAll) (p : SweepAllStage) → x.stage ≡ p → Still x → To (After x p)
     finish x all.Ended at still = counts x at still
-    finish x (all.LoadPage i) at still = still _ refl
-    finish x (all.Sweep i m) at still = still _ refl
-    finish x (all.Await i) at still = still _ refl
+    finish x _ at still = still _ refl
 
     busy_so : over.is_busy w.stage ≡ true
     busy_so = subst (λ (p : CoordStage). coord.is_busy p ≡ true) is (busy setup lists e es by_it)
 
     pub sweeps : To (coord.goes_at u (Sweep w) e.found)
-    sweeps = finish (over.goes w e.found) (over.goes w e.found).stage refl (goes_so w.stage refl busy_so)
+    sweeps = finish (over.goes u.layout w e.found) (over.goes u.layout w e.found).stage refl (goes_so w.stage refl busy_so)

@@ -1,5 +1,5 @@
 -- The coordinator reads what the sweep has counted, keeps it, and tells that the cycle is swept: what holds behind each of its steps.
-use Rattle.std.proofs.Common.{◌≡◌, ◌⊎◌, inl, inr, ℕ, zero, suc, Bool, true, false, cond, ltb, refl, sym, ap, subst, ◌∙◌, List, [], ◌∷◌, ◌++◌, length, slice_get, Option, Some, None, arith}
+use Rattle.std.proofs.Common.{◌≡◌, ◌⊎◌, inl, inr, ℕ, zero, suc, Bool, true, false, cond, ltb, refl, sym, ap, subst, ◌∙◌, List, [], ◌∷◌, ◌++◌, length, slice_get, Some, arith}
 use Rattle.gh_coord.specs.declared.count.CountStage.TheVariants as counting
 use Rattle.gh_coord.specs.declared.cycles.Cycle.{Cycle as CycleNumbers}
 use Rattle.gh_coord.specs.declared.tell.TellStage.TheVariants as telling
@@ -10,21 +10,14 @@ use Rattle.gh_holds.specs.Objects.{AllWereCounted, WasCounted}
 use Rattle.gh_state.specs.Cycles.{AllIsTold}
 use Rattle.gh_holds.specs.ActorsHold.{HasRead, HoldsAt, IsCounting, IsRead, IsTelling, IsTold}
 use Rattle.gh_marked.specs.HoldVocabulary.{State, TallyWord, tally_of}
-use Rattle.gh_marked.proofs.Vocabulary.{Arena, arena, Ask, cell_of, Coordinating, CoordStage, Count, Counted, CountStage, Done, Entry, LoadAck, Op, Tell, TellStage, Words}
-use Rattle.gh_holds.proofs.AllActors.Aside.{TellsNothing}
+use Rattle.gh_marked.proofs.Vocabulary.{Arena, arena, Ask, cell_of, Coordinating, CoordStage, Count, CountStage, Done, Entry, LoadAck, Op, Tell, TellStage, Words}
+use Rattle.gh_holds.proofs.AllActors.Aside.{telling_rows, TellsNothing}
 use Rattle.gh_lists.specs.Going.{NotAcks}
 use Rattle.gh_marked.specs.Known.{ListsKnown}
-use Rattle.gh_holds.proofs.AllActors.LeadingAside.{IsBehind, told_on}
+use Rattle.gh_holds.proofs.AllActors.LeadingAside.{IsBehind, NotSweeps, told_on}
 use Rattle.gh_holds.proofs.AllActors.LeadingSeat.{asked_at, busy, ByLead}
 use Rattle.gh_holds.proofs.AllActors.Starts.{counted_on}
 use Rattle.gh_lists.specs.Handshake.{Setup}
-
--- each request is a load, or stores the trigger, the last swept cycle or the phase
-counts_tell : (p : CountStage) → TellsNothing (count.asks_at p)
-counts_tell p = grind arith
-
-tells_tell : (t : tell.Telling) (p : TellStage) → TellsNothing (tell.asks_at t p)
-tells_tell t p = grind arith
 
 -- an item of the list with one more is one of the list, or that one
 one_of : (xs : List CycleNumbers) (x y : CycleNumbers) (i : ℕ) → slice_get (xs ++ x ∷ []) i ≡ Some y → ((j : ℕ) × (slice_get xs j ≡ Some y)) ⊎ (y ≡ x)
@@ -35,14 +28,6 @@ one_of (w ∷ xs) x y (suc i) is = go (one_of xs x y i is) where
   go : ((j : ℕ) × (slice_get xs j ≡ Some y)) ⊎ (y ≡ x) → ((j : ℕ) × (slice_get (w ∷ xs) j ≡ Some y)) ⊎ (y ≡ x)
   go (inl k) = inl (suc k.0, k.1)
   go (inr k) = inr k
-
--- no span is swept behind a step of counting or of telling
-module _ (u : Coordinating) where
-  counts_sweep : (x : count.Counting) (out : Option Counted) → coord.sweep_in (coord.after_count (coord.at_stage u (Count x)) out) ≡ None
-  counts_sweep x out = grind arith
-
-  tells_sweep : (t : tell.Telling) (out : Option (Unit {0})) → coord.sweep_in (coord.after_tell (coord.at_stage u (Tell t)) out) ≡ None
-  tells_sweep t out = grind arith
 
 module _ (setup : Setup) (lists : ListsKnown setup) where
   abbrev z : Arena
@@ -76,7 +61,7 @@ module _ (setup : Setup) (lists : ListsKnown setup) where
       counts_no_acks = subst NotAcks (sym is) tt
 
       none_counted : TellsNothing e.ask
-      none_counted = grind (arith, asks_so, counts_tell)
+      none_counted = subst TellsNothing (sym (asks_so (Count x) is)) (lists.known.footprints.among count.writes telling_rows (count.asks x) refl ((lists.known.coordinator_parts setup.layout).count.writes x))
 
       abbrev here : State
       here = k.quiet.has.state
@@ -85,7 +70,7 @@ module _ (setup : Setup) (lists : ListsKnown setup) where
       all_told = lists.known.swept z here k.quiet.has.good k.quiet.over (lists.known.walkers.all z here k.quiet.has.good k.quiet.passed)
 
       abbrev counting_on : (d : Coordinating) → d.begun ≡ by.lead.begun → Behind (e ∷ es) d
-      counting_on d same = told_on setup lists e es by (ap coord.sweep_at is) (ap (λ (p : CoordStage). coord.sweep_in (coord.goes_at u p e.found)) is ∙ counts_sweep u (count.goes x e.found) (count.gives x e.found)) none_counted counts_no_acks setup.layout.pages (record { off = k.quiet; behind = k.behind }) d same
+      counting_on d same = told_on setup lists e es by (subst NotSweeps (sym is) tt) none_counted counts_no_acks setup.layout.pages (record { off = k.quiet; behind = k.behind }) d same
 
       -- the word that it finds
       found_at : (p : CountStage) → x.stage ≡ p → e.found ≡ here.heap.words (cell_of (count.asks_at p))
@@ -142,10 +127,10 @@ module _ (setup : Setup) (lists : ListsKnown setup) where
       tells_no_acks = subst NotAcks (sym is) tt
 
       none_told : TellsNothing e.ask
-      none_told = grind (arith, asks_so, tells_tell)
+      none_told = subst TellsNothing (sym (asks_so (Tell t) is)) (lists.known.footprints.among tell.writes telling_rows (tell.asks t) refl ((lists.known.coordinator_parts setup.layout).tell.writes t))
 
       abbrev telling_on : Behind (e ∷ es) by.lead
-      telling_on = told_on setup lists e es by (ap coord.sweep_at is) (ap (λ (p : CoordStage). coord.sweep_in (coord.goes_at u p e.found)) is ∙ tells_sweep u (tell.goes t e.found) (tell.gives t e.found)) none_told tells_no_acks setup.layout.pages (record { off = k.quiet; behind = k.behind }) by.lead refl
+      telling_on = told_on setup lists e es by (subst NotSweeps (sym is) tt) none_told tells_no_acks setup.layout.pages (record { off = k.quiet; behind = k.behind }) by.lead refl
 
       pub told_then : Told (e ∷ es) by.lead
       told_then = record { quiet = telling_on.off; behind = telling_on.behind; live = k.live }

@@ -1,5 +1,6 @@
 -- While a cycle is marked, what is known of the heap lasts behind an entry of a worker or of the coordinator.
-use Rattle.std.proofs.Common.{◌≡◌, ◌≢◌, ◌⊎◌, inl, inr, ℕ, ◌+◌, ◌%◌, ◌<◌, ◌≤◌, ◌==◌, Bool, true, false, refl, sym, ap, subst, ◌∙◌, arith, List, ◌∷◌, Some, None}
+use Rattle.std.proofs.Common.{◌≡◌, ◌≢◌, ◌⊎◌, inl, inr, ℕ, ◌%◌, ◌<◌, ◌≤◌, ◌==◌, Bool, true, false, refl, sym, ap, subst, ◌∙◌, arith, List, ◌∷◌, Some, None}
+use Rattle.gh_base.specs.declared.cell.Cell.TheVariants as cell
 use Rattle.gh_coord.specs.Handshake as leading
 use Rattle.gh_coord.specs.Listing as coord
 use Rattle.gh_coord.specs.Listing.{sweep_at}
@@ -8,24 +9,26 @@ use Rattle.gh_cycle.specs.Since.{HasGoneOn}
 use Rattle.gh_heap.specs.Moves.{Quiet}
 use Rattle.gh_marks.specs.Colours.{Placing}
 use Rattle.gh_worker.specs.Listing as worker
+use Rattle.gh_worker.specs.Routine.{marks}
 use Rattle.gh_lists.specs.declared.handshake.Actor.TheVariants as actor
-use Rattle.gh_lists.specs.Handshake.{asks, Setup}
+use Rattle.gh_lists.specs.Handshake.{Setup}
 use Rattle.gh_marked.specs.State.{began, began_words, HasState, IsUnderWay}
 use Rattle.gh_marked.specs.Sweepers.{sweep_of}
-use Rattle.gh_marked.proofs.Vocabulary.{acks_of, Actor, actors, actors_after, Arena, arena, AreWords, Ask, cell_of, Coordinating, CoordStage, Cycle, Entry, Ever, ever, Good, Heap, is_busy, IsInCycle, IsKnown, IsLed, IsOf, IsToBegin, Legal, mark_words, Marking, MarkingGood, mod_below, nat_tests, Op, started, State, those, view, Went, Words, words, WritesItsOwn}
+use Rattle.gh_marked.proofs.Vocabulary.{acks_of, Actor, actors_after, Arena, arena, AreWords, Coordinating, CoordStage, Cycle, Entry, Ever, ever, Good, Heap, IsInCycle, IsKnown, IsLed, IsOf, IsToBegin, Legal, mark_words, Marking, MarkingGood, mod_below, nat_tests, Op, State, those, view, Went, Words, words}
 use Rattle.gh_holds.proofs.AllActors.Aside as aside
-use Rattle.gh_holds.proofs.AllActors.Aside.{IsBeside, TellsNothing}
+use Rattle.gh_holds.proofs.AllActors.Aside.{beside_rows, IsBeside, quiet_of, TellsNothing}
 use Rattle.gh_marked.specs.Drawing.{drawn_then}
-use Rattle.gh_lists.specs.Going.{IsLedThen, last_was, led_then as leads_then}
+use Rattle.gh_lists.specs.Going.{last_was}
 use Rattle.gh_marked.specs.Known.{ListsKnown}
-use Rattle.gh_holds.proofs.AllActors.Marks.{begins_beside, LeavesCounts, marks_beside, stays_marked, words_stay, works_beside, works_counts}
+use Rattle.gh_holds.proofs.AllActors.Marks.{begins_marked, goes_on_marked, IsOfMarking, marking_rows, stays_marked, words_stay}
 use Rattle.gh_lists.specs.Resting.{ever_stays}
-use Rattle.gh_holds.proofs.AllActors.Stood.{beside_stays, Stays}
+use Rattle.gh_holds.proofs.AllActors.Stood.{quiet_stays, Stays}
 use Rattle.gh_marked.proofs.OneStep.Sweepers as sweepers
 use Rattle.gh_holds.proofs.AllActors.Tied.{is_of_heap}
 use Rattle.gh_marked.proofs.OneStep.WorkersSweep as sweeping
 use Rattle.gh_marked.specs.Checking.{begins, CoordinatorGoes, goes_on, goes_so, leaves}
-use Rattle.gh_lists.specs.Seats.{IsSeated, lead_started, leads, other, seated}
+use Rattle.gh_lists.specs.Seats.{IsSeated, other, seated}
+use Rattle.gh_lists.specs.Steps as seats
 
 module _ (setup : Setup) (lists : ListsKnown setup)
     (e : Entry Op) (es : List (Entry Op)) (legal : Legal (those setup) (e ∷ es)) (ge : setup.layout.procs ≤ e.actor) where
@@ -38,8 +41,9 @@ module _ (setup : Setup) (lists : ListsKnown setup)
   abbrev at : List (Entry Op) → ℕ → Actor
   at xs a = actors_after z setup.pacing setup.may xs a
 
-  seat_of : (a : ℕ) (m : Actor) → at es a ≡ m → IsSeated setup.layout a m
-  seat_of a m is = subst (IsSeated setup.layout a) is (seated setup es a)
+  -- what the entry is
+  its : seats.Step setup e es
+  its = seats.step setup e es lists.known.writes legal (lists.keeps es legal.0)
 
   one_lead : (xs : List (Entry Op)) (c d : Coordinating) → at xs n ≡ actor.Leads c → at xs n ≡ actor.Leads d → c ≡ d
   one_lead xs c d x y = let both : actor.Leads c ≡ actor.Leads d = sym x ∙ y in cc
@@ -55,15 +59,8 @@ module _ (setup : Setup) (lists : ListsKnown setup)
   -- a worker's step
   module _ (w : worker.Working) (is : at es e.actor ≡ actor.Marks w) where
     -- it runs no sweep
-    module _ (none : worker.sweep_in w ≡ None) where
-      writes : WritesItsOwn w.seat (worker.asks w)
-      writes = lists.known.workers_write w (sweeping.sound setup lists e es legal w is) none (sweeping.busy setup lists e es legal w is)
-
-      worker_beside : IsBeside e.ask
-      worker_beside = subst IsBeside (sym (sweeping.asked setup lists e es legal w is)) (works_beside lists.known.one w.seat (worker.asks w) writes)
-
-      worker_counts : LeavesCounts e.ask
-      worker_counts = subst LeavesCounts (sym (sweeping.asked setup lists e es legal w is)) (works_counts lists.known.one w.seat (worker.asks w) writes)
+    worker_marks : worker.sweep_in w ≡ None → IsOfMarking e.ask
+    worker_marks none = subst IsOfMarking (sym (sweeping.asked setup lists e es legal w is)) (lists.known.footprints.among marks marking_rows (worker.asks w) refl (lists.known.workers.marks_alone w none).writes)
 
     module _ (has : HasState setup es) (under : IsUnderWay has.state) where
       pub worker_none : worker.sweep_in w ≡ None
@@ -86,71 +83,43 @@ module _ (setup : Setup) (lists : ListsKnown setup)
     pub on : leading.Marks lead.stage
 
   -- the coordinator's step, as long as the cycle is marked behind it
-  module _ (c : Coordinating) (is : at es e.actor ≡ actor.Leads c) (still : MarksStill) where
-    lead_begun : started (actors setup) e.begun (at es e.actor) ≡ actor.Leads c
-    lead_begun = ap (started (actors setup) e.begun) is ∙ lead_started setup e.begun c
-
-    lead_asked : e.ask ≡ coord.asks c
-    lead_asked = legal.1.asks ∙ ap asks lead_begun
-
-    lead_busy : coord.is_busy c.stage ≡ true
-    lead_busy = sym (ap is_busy lead_begun) ∙ legal.1.runs
-
-    lead_found : e.found ≡ words setup es (cell_of (coord.asks c))
-    lead_found = legal.1.found ∙ ap (λ (q : Ask). words setup es (cell_of q)) lead_asked
-
-    at_end : e.actor ≡ n
-    at_end = let ge : n ≤ e.actor = (seat_of e.actor (actor.Leads c) is).0 in let lt : e.actor < n + 1 = legal.1.actor in omega (arith, ge, lt)
-
+  module _ (c : Coordinating) (x : seats.LeadsIt setup e es c) (still : MarksStill) where
     goes_is : coord.goes c e.found ≡ still.lead
-    goes_is = let end = at_end in one_lead (e ∷ es) (coord.goes c e.found) still.lead (sym (ap (at (e ∷ es)) end) ∙ leads setup e es c is) still.led
+    goes_is = one_lead (e ∷ es) (coord.goes c e.found) still.lead x.then still.led
 
     goes_by : CoordinatorGoes setup.layout c.begun (words setup es) c c.stage (coord.goes c e.found)
-    goes_by = goes_so setup.layout c.begun (words setup es) c (coord.counted c).marks (seat_of e.actor (actor.Leads c) is).1 refl c.stage e.found lead_busy lead_found
+    goes_by = goes_so setup.layout c.begun (words setup es) c (coord.counted c).marks (subst (IsSeated setup.layout n) x.is (seated setup es n)).1 refl c.stage e.found x.busy x.found
 
     on_goes : leading.Marks (coord.goes c e.found).stage
     on_goes = subst (λ (x : Coordinating). leading.Marks x.stage) (sym goes_is) still.on
 
-    by_goes : CoordinatorGoes setup.layout c.begun (words setup es) c c.stage (coord.goes c e.found) → IsBeside (coord.asks c)
-    by_goes (begins b quiet same x) = begins_beside setup lists.known c c.stage b
-    by_goes (goes_on was quiet same x) = marks_beside setup lists.known c c.stage was (stays_marked setup lists.known (coord.counted c) c.stage e.found on_goes)
+    by_goes : CoordinatorGoes setup.layout c.begun (words setup es) c c.stage (coord.goes c e.found) → IsOfMarking (coord.asks c)
+    by_goes (begins b quiet same x) = begins_marked c c.stage b
+    by_goes (goes_on was quiet same x) = goes_on_marked c c.stage was (stays_marked (coord.counted c) c.stage e.found on_goes)
     by_goes (leaves off) = absurd (off on_goes)
 
-    lead_beside : IsBeside e.ask
-    lead_beside = grind (arith, by_goes, goes_by, lead_asked)
-
-    counts_by : CoordinatorGoes setup.layout c.begun (words setup es) c c.stage (coord.goes c e.found) → LeavesCounts (coord.asks c)
-    counts_by h = grind (arith, on_goes)
-
-    lead_counts : LeavesCounts e.ask
-    lead_counts = grind (arith, counts_by, goes_by, lead_asked)
+    lead_marks : IsOfMarking e.ask
+    lead_marks = subst IsOfMarking (sym x.asked) (by_goes goes_by)
 
   -- As long as the cycle is marked behind the entry.
   module _ (still : MarksStill) where
-    pub is_beside : (has : HasState setup es) → IsUnderWay has.state → IsBeside e.ask
-    is_beside has under = go (at es e.actor) refl where
-      go : (m : Actor) → at es e.actor ≡ m → IsBeside e.ask
-      go (actor.Runs m) is = absurd (let lt : e.actor < setup.layout.procs = seat_of e.actor (actor.Runs m) is in omega (arith, lt, ge))
-      go (actor.Marks w) is = worker_beside w is (worker_none w is has under)
-      go (actor.Leads c) is = lead_beside c is still
-
-    leaves_counts : (has : HasState setup es) → IsUnderWay has.state → LeavesCounts e.ask
-    leaves_counts has under = go (at es e.actor) refl where
-      go : (m : Actor) → at es e.actor ≡ m → LeavesCounts e.ask
-      go (actor.Runs m) is = absurd (let lt : e.actor < setup.layout.procs = seat_of e.actor (actor.Runs m) is in omega (arith, lt, ge))
-      go (actor.Marks w) is = worker_counts w is (worker_none w is has under)
-      go (actor.Leads c) is = lead_counts c is still
+    pub marks_on : (has : HasState setup es) → IsUnderWay has.state → IsOfMarking e.ask
+    marks_on has under = by its where
+      by : seats.Step setup e es → IsOfMarking e.ask
+      by (seats.by_processor m x stays) = absurd (let lt = x.seat in omega (arith, lt, ge))
+      by (seats.by_worker w x stays) = worker_marks w x.is (worker_none w x.is has under)
+      by (seats.by_lead c x) = lead_marks c x still
 
     -- the coordinator sweeps nothing while it marks a cycle
     lead_none : (p : CoordStage) → leading.Marks p → sweep_at p ≡ None
     lead_none p marks = grind arith
 
     pub none_then : (has : HasState setup es) → IsUnderWay has.state → IsBeside e.ask → sweep_of (at (e ∷ es) e.actor) ≡ None
-    none_then has under beside = go (at es e.actor) refl where
-      go : (m : Actor) → at es e.actor ≡ m → sweep_of (at (e ∷ es) e.actor) ≡ None
-      go (actor.Runs m) is = absurd (let lt : e.actor < setup.layout.procs = seat_of e.actor (actor.Runs m) is in omega (arith, lt, ge))
-      go (actor.Marks w) is = worker_then w is has under beside
-      go (actor.Leads c) is = ap sweep_of (ap (at (e ∷ es)) (at_end c is still) ∙ still.led) ∙ lead_none still.lead.stage still.on
+    none_then has under beside = by its where
+      by : seats.Step setup e es → sweep_of (at (e ∷ es) e.actor) ≡ None
+      by (seats.by_processor m x stays) = absurd (let lt = x.seat in omega (arith, lt, ge))
+      by (seats.by_worker w x stays) = worker_then w x.is has under beside
+      by (seats.by_lead c x) = ap sweep_of (ap (at (e ∷ es)) x.seat ∙ still.led) ∙ lead_none still.lead.stage still.on
 
   -- the step from what was known to the next marking, behind which the actor places nothing
   pub record MarksOn (c : Cycle) (s t : Marking) : Type 0 where
@@ -166,8 +135,11 @@ module _ (setup : Setup) (lists : ListsKnown setup)
     abbrev k : IsKnown setup c s es
     k = step.known
 
+    marking : IsOfMarking e.ask
+    marking = marks_on still k.has k.under_way
+
     beside : IsBeside e.ask
-    beside = is_beside still k.has k.under_way
+    beside = lists.known.footprints.among marking_rows beside_rows e.ask refl marking
 
     over : k.has.state.told ≡ None → TellsNothing e.ask
     over is = absurd (under_told k.has k.under_way is)
@@ -192,7 +164,7 @@ module _ (setup : Setup) (lists : ListsKnown setup)
     not_its g its = let seat = its.1 in let some = lists.limits.procs_fit.0 in let below : g % setup.layout.procs < setup.layout.procs = mod_below g setup.layout.procs (omega (arith, some)) in omega (arith, ge, seat, below)
 
     together : IsTogether z h t
-    together = subst (λ (r : Arena). IsTogether r h t) k.arena_is (lists.known.beside_lasts c e.actor k.has.state.heap s t (Quiet e.ask) good_there step.good (subst (λ (r : Arena). IsTogether r k.has.state.heap s) (sym k.arena_is) k.beside) beside.quiet refl alone) where
+    together = subst (λ (r : Arena). IsTogether r h t) k.arena_is (lists.known.beside_lasts c e.actor k.has.state.heap s t (Quiet e.ask) good_there step.good (subst (λ (r : Arena). IsTogether r k.has.state.heap s) (sym k.arena_is) k.beside) (quiet_of e.ask beside) refl alone) where
       alone : MarksAlone c e.actor k.has.state.heap h s t
       alone = record {
         went = step.went;
@@ -214,25 +186,19 @@ module _ (setup : Setup) (lists : ListsKnown setup)
     Since = (x : Cycles (e ∷ es)) × HasGoneOn (began setup (e ∷ es) c.number x) h t × Stays (began_words setup (e ∷ es) c.number x) (words setup (e ∷ es))
 
     goes_on_so : (v : Ever) → HasGoneOn v k.has.state.heap s → HasGoneOn v h t
-    goes_on_so v x = lists.known.gone_on c e.actor k.has.state.heap s t (Quiet e.ask) v good_there step.good beside.quiet step.went same_words k.beside.words x
+    goes_on_so v x = lists.known.gone_on c e.actor k.has.state.heap s t (Quiet e.ask) v good_there step.good (quiet_of e.ask beside) step.went same_words k.beside.words x
 
     one_then : (d : Coordinating) → IsLed setup (e ∷ es) d → d ≡ still.lead
     one_then d x = one_lead (e ∷ es) d still.lead x still.led
 
     last_then : (i : IsInCycle setup es c.number) (d : Coordinating) → IsLed setup (e ∷ es) d → d.is_last ≡ true → ever setup (e ∷ es) ≡ ever setup i.begun
-    last_then i d led_d is = go (e.actor == n) refl where
-      go : (x : Bool) → (e.actor == n) ≡ x → ever setup (e ∷ es) ≡ ever setup i.begun
-      go false x = ever_then ∙ i.last d (sym (other setup e es n x) ∙ led_d) is
-      go true x = by_lead (leads_then setup es) where
-        by_lead : IsLedThen setup es → ever setup (e ∷ es) ≡ ever setup i.begun
-        by_lead b =
-            let end : e.actor ≡ n = grind (arith, nat_tests) in
-            let here : at es e.actor ≡ actor.Leads b.lead = ap (at es) end ∙ b.led_by in
-            let same : coord.goes b.lead e.found ≡ d = goes_is b.lead here (record { lead = d; led = led_d; on = subst (λ (y : Coordinating). leading.Marks y.stage) (sym (one_then d led_d)) still.on }) in
-            ever_then ∙ i.last b.lead b.led_by (last_was (coord.counted b.lead) b.lead.stage e.found (subst (λ (y : Coordinating). leading.Marks y.stage) (sym (same ∙ one_then d led_d)) still.on) (ap (λ (y : Coordinating). y.is_last) same ∙ is))
+    last_then i d led_d is = by (seats.lead_was setup e es its d led_d) where
+      by : seats.LeadWas setup e es d → ever setup (e ∷ es) ≡ ever setup i.begun
+      by (seats.lead_stayed was) = ever_then ∙ i.last d was is
+      by (seats.lead_stepped b x same) = ever_then ∙ i.last b x.is (last_was (coord.counted b) b.stage e.found (subst (λ (y : Coordinating). leading.Marks y.stage) (sym (sym same ∙ one_then d led_d)) still.on) (ap (λ (y : Coordinating). y.is_last) (sym same) ∙ is))
 
     cycle_then : (x : Cycles es) → HasGoneOn (began setup es c.number x) k.has.state.heap s → Stays (began_words setup es c.number x) (words setup es) → Since
-    cycle_then (inr i) g so = (inr (record { begun = i.begun; start = inr i.start; begins = i.begins; last = last_then i }), goes_on_so (ever setup i.begun) g, λ n x p. beside_stays e.ask beside (words setup es) n x (so n x p))
+    cycle_then (inr i) g so = (inr (record { begun = i.begun; start = inr i.start; begins = i.begins; last = last_then i }), goes_on_so (ever setup i.begun) g, λ n x p. quiet_stays lists.known.footprints e.ask (quiet_of e.ask beside) (words setup es) n x (so n x p))
     cycle_then (inl b) g so = go (e.actor == n) refl where
       gone : HasGoneOn (ever setup (e ∷ es)) h t
       gone = goes_on_so (ever setup (e ∷ es)) (subst (λ (v : Ever). HasGoneOn v k.has.state.heap s) (sym ever_then) g)
@@ -244,9 +210,6 @@ module _ (setup : Setup) (lists : ListsKnown setup)
     abbrev since : Since
     since = cycle_then k.cycle k.gone_on k.stood
 
-    counts_stay : LeavesCounts e.ask
-    counts_stay = leaves_counts still k.has k.under_way
-
     pub lasts : IsKnown setup c t (e ∷ es)
     lasts = record {
       arena_is = k.arena_is;
@@ -257,6 +220,6 @@ module _ (setup : Setup) (lists : ListsKnown setup)
       gone_on = since.1;
       stood = since.2;
       drawn = drawn_then setup lists.known.drawn c e es s t step.good step.went step.words_are (is_of_heap setup lists.known (e ∷ es) has_then c t k.arena_is step.good_then together) k.drawn;
-      counts = (counts_stay.tally k.has.state.heap.words ∙ k.counts.0, counts_stay.live k.has.state.heap.words ∙ k.counts.1);
+      counts = (lists.known.footprints.leaves marking_rows e.ask k.has.state.heap.words cell.Tally marking refl ∙ k.counts.0, lists.known.footprints.leaves marking_rows e.ask k.has.state.heap.words cell.Live marking refl ∙ k.counts.1);
       marks_fit = subst (λ (w : Words). AreWords (mark_words w)) same_words (words_stay lists.known.mark_words c e.actor s t step.went (subst (λ (w : Words). AreWords (mark_words w)) (sym k.beside.words) k.marks_fit));
     }

@@ -13,7 +13,7 @@ use Rattle.gh_worker.specs.Works.{words_done}
 use Rattle.gh_lists.specs.declared.handshake.Actor.TheVariants as actor
 use Rattle.gh_lists.specs.Counts.{CountsPlainly, stored_in, stores_cell}
 use Rattle.gh_marked.specs.Scanned.{done_by, FewAreScanned, most_scanned, scanned_by, scanned_in}
-use Rattle.gh_marked.proofs.Vocabulary.{Actor, alloc_words, Arena, arena, Coordinating, Entry, Good, Heap, IsLed, Legal, Marking, nat_tests, Op, Placed, row_bit, SpanHead, those, view, WasMarked, Words, WorkerStage}
+use Rattle.gh_marked.proofs.Vocabulary.{Actor, alloc_words, Arena, arena, Coordinating, Entry, Good, Heap, IsLed, Layout, Legal, Marking, nat_tests, Op, Placed, row_bit, SpanHead, those, view, WasMarked, Words, WorkerStage}
 use Rattle.gh_lists.specs.Going.{led_then}
 use Rattle.gh_marked.specs.Known.{ListsKnown}
 use Rattle.gh_holds.proofs.AllActors.Marks.{objects}
@@ -25,8 +25,8 @@ use Rattle.gh_marked.specs.Weights.{ArePacked, black_words, counted, counted_mos
 use Rattle.gh_lists.specs.Handshake.{Setup}
 
 -- a worker that is done with something takes, scans or shades
-done_or_marking : (p : WorkerStage) (found : ℕ) → (words_done p found ≡ 0) ⊎ working.IsMarking p
-done_or_marking p found = grind arith
+done_or_marking : (l : Layout) (p : WorkerStage) (found : ℕ) → (words_done l p found ≡ 0) ⊎ working.IsMarking p
+done_or_marking l p found = grind arith
 
 black_of : (size : ℕ) (c : Colour) → 0 < black_words size c → (c ≡ Black) × (black_words size c ≡ size)
 black_of size c some = grind arith
@@ -123,8 +123,8 @@ module _ (setup : Setup) (lists : ListsKnown setup) where
     by : ((d : Coordinating) → IsLed setup es d → (leading.Marks d.stage → ⊥) → Few es) → seats.Step setup e es → Few (e ∷ es)
     by before (seats.by_processor m x stays) = none_more e es (done_is e es (actor.Runs m) x.is) (before c (sym stays ∙ led) off)
     by before (seats.by_worker w x stays) = none_more e es (done_is e es (actor.Marks w) x.is ∙ none) (before c (sym stays ∙ led) off) where
-      none : words_done w.stage e.found ≡ 0
-      none = elim (done_or_marking w.stage e.found) [ inl is ↦ is | inr marking ↦ absurd (off ((lists.keeps es legal.0).marking c e.actor w (sym stays ∙ led) x.seat x.is marking)) ]
+      none : words_done w.layout w.stage e.found ≡ 0
+      none = elim (done_or_marking w.layout w.stage e.found) [ inl is ↦ is | inr marking ↦ absurd (off ((lists.keeps es legal.0).marking c e.actor w (sym stays ∙ led) x.seat x.is marking)) ]
     by before (seats.by_lead lead x) = go (marks_or_not lead.stage) where
       none : scanned_by setup e es ≡ 0
       none = done_is e es (actor.Leads lead) (ap (seats.at setup es) x.seat ∙ x.is)

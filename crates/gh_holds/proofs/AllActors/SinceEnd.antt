@@ -82,7 +82,7 @@ module _ (known : Known) where
       bits = move_bits m may;
       births = λ x set.
           let b = good.bits x set in
-          (move_stays known.one known.rows z a h m may b.0 x (record { set = set; says = b.3 })).says ∙ sym b.3;
+          (move_stays known.footprints known.rows z a h m may b.0 x (record { set = set; says = b.3 })).says ∙ sym b.3;
     }
 
   -- a word of alloc bits is cut: a bit that is set then was set

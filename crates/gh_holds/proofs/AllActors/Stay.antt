@@ -1,5 +1,5 @@
 -- An entry that changes nothing: no word, no processor, no sweep that anyone runs, and nothing of the heap that never frees. So is each entry of another than the coordinator in a stopped world. What holds stays as it is.
-use Rattle.std.proofs.Common.{◌≡◌, inl, inr, ℕ, ◌+◌, ◌<◌, ◌≤◌, ◌==◌, Bool, true, false, refl, sym, ap, subst, ◌∙◌, arith, List, ◌∷◌, None}
+use Rattle.std.proofs.Common.{◌≡◌, inl, inr, ℕ, ◌+◌, ◌<◌, ◌≤◌, ◌==◌, false, refl, sym, ap, subst, ◌∙◌, arith, List, ◌∷◌, None}
 use Rattle.std.proofs.lemmas.Bool.Decides.{nat_tests}
 use Rattle.gh_base.specs.Lists.{by}
 use Rattle.gh_coord.specs.declared.count.CountStage.{CountStage}
@@ -61,16 +61,15 @@ module _ (setup : Setup) (e : Entry Op) (es : List (Entry Op)) where
   changes_nothing known legal ge among same own = record {
     words_are = same;
     ever_is = ever_stays setup known.points e es legal ge;
-    processors = λ a lt. state_stays setup e es a (apart a lt (e.actor == a) refl);
-    answers = λ a lt. answers_stay setup e es a (apart a lt (e.actor == a) refl);
-    given = λ a lt. given_stay setup e es a (apart a lt (e.actor == a) refl);
-    ended = λ a lt g. ap (λ (ys : List (Entry Op)). ended_in ys g) (own_stay setup e es a (apart a lt (e.actor == a) refl));
+    processors = λ a lt. state_stays setup e es a (apart a lt);
+    answers = λ a lt. answers_stay setup e es a (apart a lt);
+    given = λ a lt. given_stay setup e es a (apart a lt);
+    ended = λ a lt g. ap (λ (ys : List (Entry Op)). ended_in ys g) (own_stay setup e es a (apart a lt));
     led = led_by_it among;
     sweeps = sweeps_same own;
   } where
-    apart : (a : ℕ) → a < setup.layout.procs → (b : Bool) → (e.actor == a) ≡ b → (e.actor == a) ≡ false
-    apart a lt false x = x
-    apart a lt true x = absurd (let is : e.actor ≡ a = grind (arith, nat_tests) in omega (arith, is, lt, ge))
+    apart : (a : ℕ) → a < setup.layout.procs → (e.actor == a) ≡ false
+    apart a lt = grind arith
 
   module _ (still : ChangesNothing) where
     pub heap_stays : (h : Heap) → IsHeapOf setup es h → IsHeapOf setup (e ∷ es) h

@@ -23,7 +23,7 @@ module _ (setup : Setup) (e : Entry Op) (es : List (Entry Op)) (still : ChangesN
   cleared_still stage x = subst (λ (w : Words). HasCleared (w cell.Tally) (w cell.Live) stage) (sym still.words_are) x
 
   closing_still : (stage : CloseStage) → IsClosing setup es c stage → IsClosing setup (e ∷ es) c stage
-  closing_still closing.StorePhase x = sweeping_stays setup e es still c (opening c.layout c.generation) x
+  closing_still closing.StorePhase x = sweeping_stays setup e es still c (opening c.generation) x
   closing_still closing.Ended x = x
   closing_still _ x = x
 

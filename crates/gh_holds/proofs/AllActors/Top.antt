@@ -1,11 +1,9 @@
 -- The induction over lists of all actors, and what every list keeps.
-use Rattle.std.proofs.Common.{◌≡◌, ℕ, ◌+◌, ◌<◌, ◌≤◌, ◌==◌, Bool, true, false, refl, sym, ap, subst, ◌∙◌, arith, List, [], ◌∷◌, inr}
-use Rattle.std.proofs.lemmas.Bool.Decides.{nat_tests}
+use Rattle.std.proofs.Common.{◌≡◌, sym, subst, ◌∙◌, List, [], ◌∷◌, inr}
 use Rattle.gh_coord.specs.Listing as coord
-use Rattle.gh_lists.specs.declared.handshake.Actor.{Actor}
 use Rattle.gh_lists.specs.declared.handshake.Actor.TheVariants as actor
 use Rattle.gh_lists.specs.Lists.{may_of, Given, setup_for}
-use Rattle.gh_marked.specs.HoldVocabulary.{acks_of, Coordinating, Entry, Op}
+use Rattle.gh_marked.specs.HoldVocabulary.{Coordinating, Entry, Op}
 use Rattle.gh_marked.proofs.OneStep.Beside.{not_beginning}
 use Rattle.gh_marked.specs.Known.{ListsKnown}
 use Rattle.gh_holds.proofs.AllActors.Marks as marks
@@ -15,20 +13,13 @@ use Rattle.gh_holds.proofs.AllActors.Steps as steps
 use Rattle.gh_marked.proofs.OneStep.Wanted.{Wanted}
 use Rattle.gh_marked.specs.Marked.{KnowsHeap}
 use Rattle.gh_lists.specs.Steps as seats
-use Rattle.gh_lists.specs.Seats.{IsSeated, leads, other, seated}
 
 module _ (given : Given) (wanted : Wanted) (lists : ListsKnown (setup_for given)) where
-  abbrev n : ℕ
-  n = acks_of given.layout
-
   abbrev pub Lawful : List (Entry Op) → Type 0
   Lawful = steps.Lawful given wanted lists
 
   abbrev Led : List (Entry Op) → Coordinating → Type 0
   Led = steps.Led given wanted lists
-
-  abbrev at : List (Entry Op) → ℕ → Actor
-  at = steps.at given wanted lists
 
   abbrev H : List (Entry Op) → Coordinating → Type 0
   H = steps.H given wanted lists
@@ -36,29 +27,14 @@ module _ (given : Given) (wanted : Wanted) (lists : ListsKnown (setup_for given)
   abbrev Was : List (Entry Op) → Type 0
   Was = steps.Was given wanted lists
 
-  seat_of : (es : List (Entry Op)) (a : ℕ) (m : Actor) → at es a ≡ m → IsSeated given.layout a m
-  seat_of es a m is = subst (IsSeated given.layout a) is (seated (setup_for given) es a)
-
-  by_others : (e : Entry Op) (es : List (Entry Op)) → Lawful (e ∷ es) → Was es → (c : Coordinating) → Led es c → e.actor < n → H es c → H (e ∷ es) c
-  by_others e es legal was c led among h = go (at es e.actor) refl where
-    go : (m : Actor) → at es e.actor ≡ m → H (e ∷ es) c
-    go (actor.Runs m) is = steps.by_processor given wanted lists e es legal was c m led (seat_of es e.actor (actor.Runs m) is) is h
-    go (actor.Marks w) is = steps.by_worker given wanted lists e es legal was c w led (seat_of es e.actor (actor.Marks w) is).0 among is h
-    go (actor.Leads x) is = absurd (let ge : n ≤ e.actor = (seat_of es e.actor (actor.Leads x) is).0 in omega (arith, ge, among))
-
   one_more : (e : Entry Op) (es : List (Entry Op)) → Lawful (e ∷ es) → Was es → ((c : Coordinating) → Led es c → H es c) → (c : Coordinating) → Led (e ∷ es) c → H (e ∷ es) c
-  one_more e es legal was before c led = go (e.actor == n) refl where
-    go : (b : Bool) → (e.actor == n) ≡ b → H (e ∷ es) c
-    go false x =
-        let led_was : Led es c = sym (other (setup_for given) e es n x) ∙ led in
-        let within : e.actor < n + 1 = legal.1.actor in
-        by_others e es legal was c led_was (grind (arith, nat_tests, x, within)) (before c led_was)
-    go true x =
-        let end : e.actor ≡ n = grind (arith, nat_tests) in
-        let b = seats.led_by (setup_for given) es in
-        let then : at (e ∷ es) n ≡ actor.Leads (coord.goes b.lead e.found) = sym (ap (at (e ∷ es)) end) ∙ leads (setup_for given) e es b.lead (ap (at es) end ∙ b.led_by) in
-        let same : coord.goes b.lead e.found ≡ c = (let both : actor.Leads c ≡ actor.Leads (coord.goes b.lead e.found) = sym led ∙ then in cc) in
-        subst (H (e ∷ es)) same (steps.by_lead given wanted lists e es legal was b.lead b.led_by end then (before b.lead b.led_by))
+  one_more e es legal was before c led = by (seats.step (setup_for given) e es lists.known.writes legal (lists.keeps es legal.0)) where
+    by : seats.Step (setup_for given) e es → H (e ∷ es) c
+    by (seats.by_processor m x stays) = steps.by_processor given wanted lists e es legal was c m (sym stays ∙ led) x.seat x.is (before c (sym stays ∙ led))
+    by (seats.by_worker w x stays) = steps.by_worker given wanted lists e es legal was c w (sym stays ∙ led) x.from x.seat x.is (before c (sym stays ∙ led))
+    by (seats.by_lead b x) =
+        let same : coord.goes b e.found ≡ c = (let both : actor.Leads c ≡ actor.Leads (coord.goes b e.found) = sym led ∙ x.then in cc) in
+        subst (H (e ∷ es)) same (steps.by_lead given wanted lists e es legal was b x.is x.seat x.then (before b x.is))
 
   -- what was marked before a start of the list was so before the list
   was_before : (e : Entry Op) (es : List (Entry Op)) → Was (e ∷ es) → Was es

@@ -5,7 +5,7 @@ use Rattle.gh_base.specs.declared.pack.Phase.TheVariants as kind
 use Rattle.gh_phase.specs.declared.resume.ResumeStage.TheVariants as resuming
 use Rattle.gh_phase.specs.Listing as resume
 use Rattle.gh_phase.specs.ResumePlaces as places
-use Rattle.gh_phase.specs.Stays.{phase_on}
+use Rattle.gh_phase.specs.Waiting.{phase_on}
 use Rattle.gh_mutator.specs.declared.new.NewStage.TheVariants as making
 use Rattle.gh_poll.specs.declared.poll.PollStage.TheVariants as polling
 use Rattle.gh_mutator.specs.declared.task.Task.TheVariants as task

@@ -43,7 +43,6 @@ module _ (known : Known) (z : Arena) (a b : ℕ) (differs : b ≢ a) (s : State)
 
   pub walks_last : (w : SweepingAll) → Walks s w → Walks then w
   walks_last w is = record {
-    layout_is = is.layout_is ∙ ap (λ (e : CycleEnd). e.layout) (sym same_end);
     generation_is = is.generation_is ∙ ap (λ (e : CycleEnd). generation_of e) (sym same_end);
     passed = pages_last w.stage is.passed;
     stage_is = stage_last w.stage is.stage_is;

@@ -7,6 +7,7 @@ use Rattle.gh_coord.specs.Closing as closes_by
 use Rattle.gh_coord.specs.Handshake as leading
 use Rattle.gh_coord.specs.Opening as opens_by
 use Rattle.gh_phase.specs.declared.view.RunPhase.TheVariants as run
+use Rattle.gh_phase.specs.Listing as resume
 use Rattle.gh_sweep.specs.Listing as sweep
 use Rattle.gh_sweep.specs.Listing.{Sweeping}
 use Rattle.gh_sweep.specs.Running.{on_from}
@@ -21,7 +22,7 @@ use Rattle.gh_marked.specs.HoldVocabulary.{SweepingAll}
 use Rattle.gh_marked.specs.Sweepers.{IsInSweep}
 use Rattle.gh_marked.proofs.Vocabulary.{acks_of, actors_after, Arena, arena, Close, CloseStage, Coordinating, CoordStage, Count, CountStage, CycleEnd, Done, effect, Entry, HasState, IsLed, Legal, LoadAck, LoadWant, Op, Open, OpenStage, place_of, RunPhase, State, Stop, Stopped, Sweep, Tell, TellStage, those, Words, words}
 use Rattle.gh_holds.proofs.AllActors.Aside as aside
-use Rattle.gh_holds.proofs.AllActors.Aside.{acks_aside, TellsNothing}
+use Rattle.gh_holds.proofs.AllActors.Aside.{telling_rows, TellsNothing}
 use Rattle.gh_marked.specs.Known.{ListsKnown}
 use Rattle.gh_holds.proofs.AllActors.Others.{no_full, was_by_others}
 use Rattle.gh_lists.specs.Resting.{ever_stays}
@@ -80,7 +81,7 @@ module _ (setup : Setup) (lists : ListsKnown setup)
         its_busy : sweep.is_busy sw.stage ≡ true
         its_busy = (subst (IsInSweep e.actor has.state) swept (has.sweeps e.actor (aside.seat setup lists.known e es legal ge has))).1
 
-        asks_is : e.ask ≡ sweep.asks sw
+        asks_is : e.ask ≡ sweep.asks setup.layout sw
         asks_is = asked ∙ (sweeping.goes_on setup lists e es legal w is sw runs its_busy).asks_so
 
         then_is : aside.swept_then setup lists.known e es legal ge has ≡ on_from sw e.found
@@ -102,10 +103,10 @@ module _ (setup : Setup) (lists : ListsKnown setup)
         calm = lists.rests es legal.0 c e.actor w led off is
 
         tells : TellsNothing e.ask
-        tells = subst TellsNothing (sym asked) (acks_aside w.seat (worker.asks w) (lists.known.workers_calm.writes w (sweeping.sound setup lists e es legal w is) calm none (sweeping.busy setup lists e es legal w is)))
+        tells = subst TellsNothing (sym asked) (lists.known.footprints.among resume.writes telling_rows (worker.asks w) refl (lists.known.workers.rests_alone w calm none).writes)
 
         abbrev beside : aside.IsBeside e.ask
-        beside = aside.beside_of e.ask tells.aside
+        beside = aside.beside_of lists.known.footprints e.ask tells
 
         sweeps : IsInSweep e.actor (aside.quiet_state setup lists.known e es legal ge has unswept beside (λ over. tells)) (aside.swept_then setup lists.known e es legal ge has)
         sweeps = sweeping.begins_or_rests setup lists e es legal w is has none (aside.quiet_state setup lists.known e es legal ge has unswept beside (λ over. tells))
@@ -114,7 +115,7 @@ module _ (setup : Setup) (lists : ListsKnown setup)
         lands_quiet : WorkerLands
         lands_quiet = record {
           lands = aside.by_quiet setup lists.known e es legal ge has unswept beside (λ over. tells) sweeps;
-          buffers = λ b. tells.aside.buffer has.state.heap.words b;
+          buffers = aside.keeps_buffers lists.known.footprints e.ask tells has.state.heap.words;
           ends = quiet_keeps_end z e.actor has.state e.ask;
         }
 

@@ -12,13 +12,12 @@ use Rattle.gh_coord.specs.Handshake as leading
 use Rattle.gh_mutator_writes.specs.Calm.{IsWrittenCalmly}
 use Rattle.gh_mutator_heap.specs.Facts.{FactsAt}
 use Rattle.gh_mutator.specs.Sweeping.{sweep_in}
-use Rattle.gh_worker.specs.Handshake as working
 use Rattle.gh_worker.specs.Writing.{AcksAlone}
 use Rattle.gh_lists.specs.declared.handshake.Actor.TheVariants as actor
 use Rattle.gh_lists.specs.Handshake as handshake
 use Rattle.gh_law.specs.Phases.{EndsInOrder, FindsTheStop, IsMarkingStep, IsStopped, MarksInPhase, PhasesAreKnown, PhasesStand, StandsEmpty, StandsStill}
 use Rattle.gh_holds.specs.Below.{calm_now, IsInSweep, ListsKnown, sweep_of}
-use Rattle.gh_law.proofs.Vocabulary.{answers_of, given_of, opening_words, View, acks_of, Actor, actors_after, Answer, Arena, arena, Ask, asks_at, Begins, Check, Close, CloseStage, Coordinating, CoordStage, Count, Done, Entry, HasState, Holds, HoldsAt, is_busy_at, IsClosing, IsLed, IsQuiet, IsStartOf, IsTelling, KeepsIt, Kind, last_phase, Legal, LoadAck, LoadWant, MarkOn, MarksNothing, NobodyMarks, only_polls, Op, Open, option_to_list, place_of, Processor, processor_at, processor_kind, Resumes, ResumeStage, SoundPlace, stage_of, started, Stop, StopAgain, Sweep, SweepStage, Task, Tell, TellStage, those, view, Watch, words, Words, Working, WorkerStage, WritesOf}
+use Rattle.gh_law.proofs.Vocabulary.{answers_of, given_of, opening_words, View, acks_of, Actor, actors_after, Answer, Arena, arena, Ask, asks_at, Begins, Check, Close, CloseStage, Coordinating, CoordStage, Count, Done, Entry, HasState, Holds, HoldsAt, is_busy_at, IsClosing, IsLed, IsQuiet, IsStartOf, IsTelling, KeepsIt, Kind, last_phase, Layout, Legal, LoadAck, LoadWant, MarkOn, MarksNothing, NobodyMarks, only_polls, Op, Open, option_to_list, place_of, Processor, processor_at, processor_kind, Resumes, ResumeStage, SoundPlace, stage_of, started, Stop, StopAgain, Sweep, SweepStage, Task, Tell, TellStage, those, view, Watch, words, Words, Working, WritesOf}
 use Rattle.gh_lists.specs.Going.{ClosingIsBusy, goes_then}
 use Rattle.gh_lists.specs.Sweeping.{idle_sweeps_none, asks_by_sweep}
 use Rattle.gh_lists.specs.Resting.{run_is}
@@ -36,9 +35,6 @@ stands_empty m stops stage is sound = grind arith
 none_pending : (z : Arena) (a : ℕ) (v : View) (m : Processor) (pending : Option Answer) (t : Task) → only_polls t ≡ true → FactsAt z a v m pending t → pending ≡ None
 none_pending z a v m pending t polls is = grind arith
 
-worker_empty : (w : Working) (s : WorkerStage) (stops : ℕ) (stage : ResumeStage) → working.stands_at s ≡ Resumes stops stage → working.SoundAt w s → w.held ≡ None
-worker_empty w s stops stage is sound = grind arith
-
 -- Who is calm makes no step that marks.
 
 calm_none : (m : Processor) → sweep_in m ≡ None → (q : Ask) → WritesOf (IsWrittenCalmly m) q → IsMarkingStep q → ⊥
@@ -49,8 +45,8 @@ rest_none seat q w x = grind arith
 
 -- Nor does the coordinator.
 
-span_none : (m : sweep.Sweeping) (p : SweepStage) → IsMarkingStep (sweep.asks_at m p) → ⊥
-span_none m p x = grind arith
+span_none : (l : Layout) (m : sweep.Sweeping) (p : SweepStage) → IsMarkingStep (sweep.asks_at l m p) → ⊥
+span_none l m p x = grind arith
 
 lead_none : (c : Coordinating) (p : CoordStage) → IsMarkingStep (asks_at c p) → ⊥
 lead_none c p x = grind arith
@@ -141,12 +137,12 @@ module _ (setup : Setup) (lists : ListsKnown setup) where
             calm_none (started kind e.begun m) none e.ask (subst (WritesOf (IsWrittenCalmly (started kind e.begun m))) (sym x.asked) (lists.known.calm.writes (started kind e.begun m) quiet)) y
         runs m x (Some sw) is y =
             let busy = (subst (IsInSweep e.actor has.state) is (in_sweep m x e.begun (idle m x.is e.begun legal.1.begins))).1 in
-            span_none sw sw.stage (subst IsMarkingStep (x.asked ∙ (lists.known.processors_sweep.on setup.shapes (started kind e.begun m) sw is busy).asks_so) y)
+            span_none (started kind e.begun m).poll.layout sw sw.stage (subst IsMarkingStep (x.asked ∙ (lists.known.processors_sweep.on setup.shapes (started kind e.begun m) sw is busy).asks_so) y)
 
         works : (w : Working) → seats.WorksIt setup e es w → IsMarkingStep e.ask → ⊥
         works w x y = elim (asks_by_sweep w w.stage) [
           | inl none ↦ rest_none w.seat e.ask (subst (AcksAlone w.seat) (sym x.asked) (lists.known.workers_calm.writes w x.sound_it (lists.rests es legal.0 c e.actor w led off x.is) none x.busy)) y
-          | inr s ↦ span_none s.0 s.0.stage (subst IsMarkingStep (x.asked ∙ s.1) y)
+          | inr s ↦ span_none w.layout s.0 s.0.stage (subst IsMarkingStep (x.asked ∙ s.1) y)
         ]
 
         by : seats.Step setup e es → IsMarkingStep e.ask → ⊥
@@ -199,7 +195,7 @@ module _ (setup : Setup) (lists : ListsKnown setup) where
       workers = λ a w is. keeps.workers_know a w (works_below a w is) is;
       resuming = empty;
       answered = answered has;
-      workers_resuming = λ a w stops stage is y. worker_empty w w.stage stops stage y (sound_at a (actor.Marks w) (works_below a w is) is);
+      workers_resuming = λ a w stops stage is y. (lists.known.workers_places.rests w stops stage (sound_at a (actor.Marks w) (works_below a w is) is) y).calm.none;
     }
 
     marks_in_phase : (c : Coordinating) → Led es c → MarksInPhase setup es c

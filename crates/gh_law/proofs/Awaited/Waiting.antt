@@ -88,7 +88,7 @@ gc_acts m (task.Load y) found g x e f = absurd (other_acts (load.step m.poll.lay
 gc_acts m (task.Store y) found g x e f = absurd (other_acts (store.step m.poll.layout m.poll.local (register_of m y.g y.v) y found).acts false (store.op_of y) g x refl e f)
 gc_acts m (task.Global y) found g x e f = absurd (other_acts (global.step m.poll.layout (register_of m y.g y.r) y found).acts false (global.op_of y) g x (global_other y y.stage) e f)
 gc_acts m (task.Register y) found g x e f = absurd (other_acts (register.step (register_of m y.g (register.read_of y)) y).acts false (register.op_of y) g x (register_other y y.source) e f)
-gc_acts m (task.New y) found g x e f = absurd (other_acts (new.acts_at y.stage found) (new.is_full_at y.stage) (new.op_of y.wanted) g x refl e f)
+gc_acts m (task.New y) found g x e f = absurd (other_acts (new.acts_at m.poll.layout y.stage found) (new.is_full_at y.stage) (new.op_of y.wanted) g x refl e f)
 gc_acts m (task.Gc h y) found g x e f = gc_waited y m.poll found (wait.gives (wait.waiting y m.poll) found) refl h x e
 gc_acts m task.Poll found g x e f = absurd (other_acts (is_some (poll.gives m.poll found)) false op.Poll g x refl e f)
 gc_acts m (task.End h) found g x e f = absurd (other_acts true false (op.End h) g x refl e f)
@@ -132,11 +132,11 @@ module _ (shapes : List Shape) (m : Processor) (low swept found : ℕ) where
   assisted w n x out = grind arith
 
   new_steps : (w : Wanted) (st : NewStage) → HasWaitedAt low swept st → (IsSearchingAt st → low ≤ m.poll.local.view.begun) → (new.asks_at m st ≡ ask.Load cell.Swept → found ≤ swept) → HasWaited low swept (new.takes_at shapes m w st found).task
-  new_steps w (Search again s) h knows so = finds (cache_span m w.sought (search.goes s found).find.cached) w again (search.goes s found) (search.gives s found) (knows tt) (was_second again s h)
+  new_steps w (Search again s) h knows so = finds (cache_span m w.sought (search.goes m.poll.layout s found).find.cached) w again (search.goes m.poll.layout s found) (search.gives m.poll.layout s found) (knows tt) (was_second again s h)
   new_steps w (Wait x) h knows so = waited w x (wait.gives (wait.waiting x m.poll) found) refl h so
   new_steps w (Place p) h knows so = placed w (place.makes_its_object p) p.at (place.goes p found)
   new_steps w (Want n) h knows so = tt
-  new_steps w (Assist n x) h knows so = assisted w n (assist.goes x found) (assist.gives x found)
+  new_steps w (Assist n x) h knows so = assisted w n (assist.goes m.poll.layout x found) (assist.gives m.poll.layout x found)
 
   gc_waits : (g : ℕ) (x : WaitState) (out : Option (Unit {0})) → low ≤ x.known → HasWaited low swept (after_gc m g (wait.goes (wait.waiting x m.poll) found) out).task
   gc_waits g x out h = grind arith

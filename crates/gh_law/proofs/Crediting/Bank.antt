@@ -8,7 +8,7 @@ use Rattle.gh_credit.specs.Earning.{handed_by}
 use Rattle.gh_mutator.specs.Running.{IsAssisting}
 use Rattle.gh_sweep.specs.Listing as sweep
 use Rattle.gh_law.specs.Credit.{lapsed_by}
-use Rattle.gh_law.proofs.Vocabulary.{Add, And, Ask, asks_at, Cell, Close, Coordinating, CoordStage, effect, IsWritten, Load, Or, Processor, Store, Swap, SweepStage, Words, WritesItsOwn, WritesOf}
+use Rattle.gh_law.proofs.Vocabulary.{Add, And, Ask, asks_at, Cell, Close, Coordinating, CoordStage, effect, IsWritten, Layout, Load, Or, Processor, Store, Swap, SweepStage, Words, WritesItsOwn, WritesOf}
 
 abbrev pub IsOther : Cell → Type 0
 IsOther cell.Bank = ⊥
@@ -50,8 +50,8 @@ pub processor_beside : (m : Processor) (q : Ask) → WritesOf (IsWritten m) q �
 processor_beside m q is draws = grind arith
 
 -- A step of a sweep.
-pub sweep_beside : (v : sweep.Sweeping) (p : SweepStage) → IsBeside (sweep.asks_at v p)
-sweep_beside v p = grind arith
+pub sweep_beside : (l : Layout) (v : sweep.Sweeping) (p : SweepStage) → IsBeside (sweep.asks_at l v p)
+sweep_beside l v p = grind arith
 
 -- A worker's, while it sweeps no span: it is a hand-over to the bank, or beside.
 

@@ -325,7 +325,7 @@ module _ (setup : Setup) (cited : Cited setup) where
       wb : Balanced es c
       wb = was c led
 
-      scanned_now : scanned_in setup (e ∷ es) ≡ scanned_in setup es + words_done w.stage e.found
+      scanned_now : scanned_in setup (e ∷ es) ≡ scanned_in setup es + words_done w.layout w.stage e.found
       scanned_now = ap (λ (z : Actor). scanned_in setup es + done_by z e.found) x.is
 
       left_was : w.scan_work ≤ left_among (who es) (seats_of setup.layout)
@@ -334,7 +334,7 @@ module _ (setup : Setup) (cited : Cited setup) where
       earned_was : w.earned ≤ earned_in es
       earned_was = wb.each e.actor w x.is
 
-      small : w.earned + w.scan_work + words_done w.stage e.found < 2 ^ 64
+      small : w.earned + w.scan_work + words_done w.layout w.stage e.found < 2 ^ 64
       small = let a = wb.scanned in let d = scanned_now in let f = cited.few (e ∷ es) legal in let g = left_was in let h = earned_was in omega (arith, a, d, f, g, h)
 
       left_now : left_among (who (e ∷ es)) (seats_of setup.layout) + w.scan_work ≡ left_among (who es) (seats_of setup.layout) + (worker.goes w e.found).scan_work
@@ -354,7 +354,7 @@ module _ (setup : Setup) (cited : Cited setup) where
       earns_so : (worker.goes w e.found).earned ≡ w.earned + handed_by (worker.asks w)
       earns_so = (cited.earns.earns w e.found x.sound_it x.busy small).counts
 
-      counts_so : (worker.goes w e.found).earned + (worker.goes w e.found).scan_work ≡ w.earned + w.scan_work + words_done w.stage e.found
+      counts_so : (worker.goes w e.found).earned + (worker.goes w e.found).scan_work ≡ w.earned + w.scan_work + words_done w.layout w.stage e.found
       counts_so = (cited.earns.earns w e.found x.sound_it x.busy small).keeps
 
       scanned_then : scanned_in setup (e ∷ es) ≡ earned_in (e ∷ es) + left_among (who (e ∷ es)) (seats_of setup.layout)
@@ -435,7 +435,7 @@ module _ (setup : Setup) (cited : Cited setup) where
           | inl y ↦ off_bank (worker.asks w) refl y
           | inr y ↦ hands_over y.0 y.1 none
         ]
-        | inr y ↦ off_bank (sweep.asks y.0) y.1 (sweep_beside y.0 (y.0).stage)
+        | inr y ↦ off_bank (sweep.asks w.layout y.0) y.1 (sweep_beside w.layout y.0 (y.0).stage)
       ]
 
     by_step : seats.Step setup e es → Balance (e ∷ es)

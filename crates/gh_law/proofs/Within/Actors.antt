@@ -1,16 +1,13 @@
 -- The next step of each actor is on a word that there is: a processor's by its rights, a worker's and the coordinator's whatever was found.
-use Rattle.std.proofs.Common.{◌≡◌, ℕ, ◌<◌, ◌≤◌, refl, sym, ap, subst, ◌∙◌, List, Option, arith}
-use Rattle.gh_coord.specs.Listing as coord
-use Rattle.gh_worker.specs.Listing as worker
+use Rattle.std.proofs.Common.{◌≡◌, ◌<◌, refl, sym, ap, subst, ◌∙◌, List}
 use Rattle.gh_lists.specs.declared.handshake.Actor.TheVariants as actor
 use Rattle.gh_law.specs.Actors.{StepsWithin}
 use Rattle.gh_lists.specs.Handshake as handshake
-use Rattle.gh_law.proofs.Vocabulary.{acks_of, Actor, actors, cell_of, Entry, HasState, InRange, IsInLimits, Kind, Op, processor_at, ShapesAreGood, started, state_of}
+use Rattle.gh_law.proofs.Vocabulary.{Actor, actors, cell_of, Entry, HasState, InRange, IsInLimits, Kind, Op, processor_at, ShapesAreGood, started, state_of}
 use Rattle.gh_holds.specs.Below.{Known}
 use Rattle.gh_lists.specs.Resting.{runs_are}
-use Rattle.gh_lists.specs.Seats.{IsSeated, run_started, seated}
-use Rattle.gh_law.proofs.Within.Leading.{lead_asks}
-use Rattle.gh_law.proofs.Within.Lists.{worker_step_within}
+use Rattle.gh_lists.specs.Seats.{IsSeated, lead_started, run_started, seated, worker_started}
+use Rattle.gh_law.proofs.Within.Lists.{lead_asks, worker_asks}
 use Rattle.gh_law.proofs.Within.Processors.{by_rights}
 use Rattle.gh_lists.specs.Lists.{Given, setup_for}
 
@@ -21,13 +18,6 @@ module _ (given : Given) (good : ShapesAreGood given.shapes) (limits : IsInLimit
   abbrev IsWithin : Actor → Type 0
   IsWithin m = InRange given.layout (cell_of (handshake.asks m))
 
-  -- only a processor begins an operation
-  worker_begun : (o : Option Op) (w : worker.Working) → started all o (actor.Marks w) ≡ actor.Marks w
-  worker_begun o w = grind arith
-
-  lead_begun : (o : Option Op) (c : coord.Coordinating) → started all o (actor.Leads c) ≡ actor.Leads c
-  lead_begun o c = grind arith
-
   pub steps_within : (es : List (Entry Op)) → HasState (setup_for given) es → StepsWithin (setup_for given) es
   steps_within es has a o step = go (state_of all a es) refl where
     go : (m : Actor) → state_of all a es ≡ m → IsWithin (started all o (state_of all a es))
@@ -35,11 +25,5 @@ module _ (given : Given) (good : ShapesAreGood given.shapes) (limits : IsInLimit
         let seat : a < given.layout.procs = subst (IsSeated given.layout a) is (seated (setup_for given) es a) in
         let own = ap (started all o) (runs_are (setup_for given) es a seat) ∙ run_started (setup_for given) o (processor_at (setup_for given) es a) in
         subst IsWithin (sym own) (by_rights given good known es a o seat step.begins has)
-    go (actor.Marks w) is =
-        let own = ap (started all o) is ∙ worker_begun o w in
-        subst IsWithin (sym own) (worker_step_within known.taking (setup_for given) es limits a w is)
-    go (actor.Leads c) is =
-        let own = ap (started all o) is ∙ lead_begun o c in
-        let high : acks_of given.layout ≤ a = (subst (IsSeated given.layout a) is (seated (setup_for given) es a)).0 in
-        let last : a ≡ acks_of given.layout = omega (arith, high, step.seat) in
-        subst IsWithin (sym own) (lead_asks (setup_for given) limits es c (ap (λ (b : ℕ). state_of all b es) (sym last) ∙ is))
+    go (actor.Marks w) is = subst IsWithin (sym (ap (started all o) is ∙ worker_started (setup_for given) o w)) (worker_asks known.taking known.coordinator_within (setup_for given) limits es a w is)
+    go (actor.Leads c) is = subst IsWithin (sym (ap (started all o) is ∙ lead_started (setup_for given) o c)) (lead_asks known.taking known.coordinator_within (setup_for given) limits es a c is)

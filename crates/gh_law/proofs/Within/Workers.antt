@@ -16,11 +16,9 @@ use Rattle.gh_worker.specs.Choices.{by_work}
 use Rattle.gh_worker.specs.Listing as worker
 use Rattle.gh_worker.specs.Sound.{IsWorkersSeat}
 use Rattle.gh_law.proofs.Vocabulary.{cell_of, SoundGiveStage, Held, InRange, IsHeld, Layout, nat_tests, page_of, PageWord, phase_of, Resumed, ResumeStage, Shaded, SweepEnd, WorkerStage, Working}
-use Rattle.gh_law.proofs.Within.Buffers.{give_within}
-use Rattle.gh_law.proofs.Within.Spans.{FitsSpan, span_goes, span_within}
 
-abbrev pub StageWithin : Layout → WorkerStage → Type 0
-StageWithin l (at.Sweeping sw) = FitsSpan l sw
+abbrev StageWithin : Layout → WorkerStage → Type 0
+StageWithin l (at.Sweeping sw) = sw.page < l.pages
 StageWithin l (at.GiveBack g stops) = SoundGiveStage l g.stage
 StageWithin l (at.Resuming r) = r.seat < l.procs + l.workers
 StageWithin l (at.Taking t) = TakeWithin l t
@@ -38,8 +36,13 @@ pub record FitsWhole (w : Working) : Type 0 where
   pub page : w.page < w.layout.pages
   pub stage : StageWithin w.layout w.stage
 
-pub first : (l : Layout) (seat : ℕ) → 1 ≤ l.pages → l.procs ≤ seat → seat < l.procs + l.workers → FitsWhole (worker.opening l seat)
-first l seat some from below = record { pages = some; seat = record { from = from; below = below }; held = tt; page = omega (arith, some); stage = tt }
+-- routines whose steps depend on few of their numbers
+
+span_stays : (sw : sweep.Sweeping) (found : ℕ) → (sweep.goes sw found).page ≡ sw.page
+span_stays sw found = grind arith
+
+span_within : (l : Layout) (sw : sweep.Sweeping) → sw.page < l.pages → InRange l (cell_of (sweep.asks l sw))
+span_within l sw lt = grind arith
 
 seat_stays : (r : resume.Resuming) (p : ResumeStage) (found : ℕ) → (resume.goes_at r p found).seat ≡ r.seat
 seat_stays r p found = grind arith
@@ -47,9 +50,11 @@ seat_stays r p found = grind arith
 resume_within : (l : Layout) (r : resume.Resuming) → r.seat < l.procs + l.workers → InRange l (cell_of (resume.asks r))
 resume_within l r lt = grind arith
 
--- handing over what is scanned
 earn_within : (l : Layout) (x : earn.Earning) (p : EarnStage) → InRange l (cell_of (earn.asks_at x p))
 earn_within l x p = grind arith
+
+give_within : (l : Layout) (g : give.BufferGiving) → SoundGiveStage l g.stage → InRange l (cell_of (give.asks g))
+give_within l g f = grind arith
 
 module _ (k : TakingAndScanningAreWithin) (w : Working) (f : FitsWhole w) where
   abbrev l : Layout
@@ -63,7 +68,7 @@ module _ (k : TakingAndScanningAreWithin) (w : Working) (f : FitsWhole w) where
   at_stage stage s = on w.held stage f.held s
 
   done_with : (held : Option Held) (words : ℕ) → IsHeld l held → FitsWhole (worker.done_with w held words)
-  done_with held words h = record { pages = f.pages; seat = f.seat; held = h; page = f.page; stage = by_work (StageWithin l) l (worker.counted w.scan_work words) tt tt }
+  done_with held words h = record { pages = f.pages; seat = f.seat; held = h; page = f.page; stage = by_work (StageWithin l) (worker.counted w.scan_work words) tt tt }
 
   gives_back : (stops : ℕ) (held : Option Held) → IsHeld l held → StageWithin l (worker.gives_back w stops held)
   gives_back stops held h = grind arith
@@ -77,11 +82,8 @@ module _ (k : TakingAndScanningAreWithin) (w : Working) (f : FitsWhole w) where
   after_page : (word : PageWord) → FitsWhole (worker.after_page w word)
   after_page word = grind (arith, nat_tests)
 
-  after_sweep : (sw : sweep.Sweeping) (out : Option SweepEnd) → FitsSpan l sw → FitsWhole (worker.after_sweep w sw out)
+  after_sweep : (sw : sweep.Sweeping) (out : Option SweepEnd) → sw.page < l.pages → FitsWhole (worker.after_sweep w sw out)
   after_sweep sw out s = grind arith
-
-  after_give : (g : give.BufferGiving) (stops : ℕ) (out : Option (Unit {0})) → SoundGiveStage l g.stage → FitsWhole (worker.after_give w g stops out)
-  after_give g stops out s = grind arith
 
   after_resume : (r : resume.Resuming) (out : Option Resumed) → r.seat < l.procs + l.workers → FitsWhole (worker.after_resume w r out)
   after_resume r out s = grind arith
@@ -93,7 +95,7 @@ module _ (k : TakingAndScanningAreWithin) (w : Working) (f : FitsWhole w) where
   after_scan s None x = at_stage (at.Scanning s) x
   after_scan s (Some words) x = done_with _ words (k.scan_holds l s x)
 
-  after_global : (found : ℕ) (b : Bool) → FitsWhole (cond b (worker.done_with w w.held 1) (worker.at_stage w (at.Shading (shade.opening l (scan.reference_in l found) w.held))))
+  after_global : (found : ℕ) (b : Bool) → FitsWhole (cond b (worker.done_with w w.held 1) (worker.at_stage w (at.Shading (shade.opening (scan.reference_in l found) w.held))))
   after_global found b = grind arith
 
   after_shade : (sh : shade.Shading) (out : Option Shaded) → ShadeWithin l sh → FitsWhole (worker.after_shade w sh out)
@@ -111,18 +113,18 @@ module _ (k : TakingAndScanningAreWithin) (w : Working) (f : FitsWhole w) where
   goes_at : (p : WorkerStage) (found : ℕ) → StageWithin l p → FitsWhole (worker.goes_at w p found)
   goes_at at.LoadPhase found s = at_stage _ (by_phase (phase_of found).stops (phase_of found).phase)
   goes_at at.LoadPage found s = after_page (page_of found)
-  goes_at (at.Sweeping sw) found s = after_sweep (sweep.goes sw found) (sweep.gives sw found) (span_goes l sw found s)
+  goes_at (at.Sweeping sw) found s = after_sweep (sweep.goes sw found) (sweep.gives sw found) (rw (span_stays sw found) s)
   goes_at (at.EarningAtStop x stops) found s = handed_over _ (gives_back stops w.held f.held)
-  goes_at (at.GiveBack g stops) found s = after_give (give.goes g found) stops (give.gives g found) tt
+  goes_at (at.GiveBack g stops) found s = on None _ tt f.seat.below
   goes_at (at.Resuming r) found s = after_resume (resume.goes r found) (resume.gives r found) (rw (seat_stays r r.stage found) s)
-  goes_at (at.Taking t) found s = after_take (take.goes t found) (take.gives t found) (k.take_goes l t found s) (k.taken l t found s)
-  goes_at (at.Scanning x) found s = after_scan (scan.goes x found) (scan.gives x found) (k.scan_goes l x found s)
+  goes_at (at.Taking t) found s = after_take (take.goes l t found) (take.gives l t found) (k.take_goes l t found s) (k.taken l t found s)
+  goes_at (at.Scanning x) found s = after_scan (scan.goes l x found) (scan.gives l x found) (k.scan_goes l x found s)
   goes_at (at.Earning x) found s = handed_over at.LoadPhase tt
   goes_at at.LoadCursor found s = at_stage _ (cursor_leads (ltb found l.globals))
   goes_at at.Claim found s = at_stage _ (claim_leads found (ltb found l.globals) refl)
   goes_at (at.LoadGlobal i) found s = after_global found (found == 0)
   goes_at (at.Shading sh) found s = after_shade (shade.goes sh found) (shade.gives sh found) (k.shade_goes l sh found s)
-  goes_at (at.FindRoom sh r) found s = after_room sh (room.goes r found) (room.gives r found) s.0 (k.room_goes l r found s.1) (k.room_gives l r found s.1)
+  goes_at (at.FindRoom sh r) found s = after_room sh (room.goes l r found) (room.gives l r found) s.0 (k.room_goes l r found s.1) (k.room_gives l r found s.1)
   goes_at at.Leave found s = at_stage at.Done tt
   goes_at at.Done found s = at_stage at.Done tt
 
@@ -142,7 +144,7 @@ module _ (k : TakingAndScanningAreWithin) (w : Working) (f : FitsWhole w) where
   within_at _ s = tt
 
 pub goes_on : TakingAndScanningAreWithin → (w : Working) (found : ℕ) → FitsWhole w → FitsWhole (worker.goes w found)
-goes_on k w found f = grind (arith, goes_at)
+goes_on k w found f = goes_at k w f w.stage found f.stage
 
 pub within : TakingAndScanningAreWithin → (w : Working) → FitsWhole w → InRange w.layout (cell_of (worker.asks w))
-within k w f = grind (arith, within_at)
+within k w f = within_at k w f w.stage f.stage

@@ -48,10 +48,10 @@ module _ (room : ℕ) where
     opening o p found b e h = grind arith
 
     -- it is marked
-    checking : (v next : watch.Watching) (out : Option Watched) → opened + 2 ≤ 2 ^ 33 → In Begun → Next (watch.asks v) (after_check (at_stage u (Check next)) out)
-    checking v next None few h = record { at = keeps (watch.asks v) (own_counts s) Begun (watch_quiet w v v.stage) h; reads = tt }
-    checking v next (Some All) few h = record { at = keeps (watch.asks v) _ Checked (watch_quiet w v v.stage) (to_checked room opened n (own_counts s) few h); reads = tt }
-    checking v next (Some NotYet) few h = record { at = keeps (watch.asks v) (own_counts s) Begun (watch_quiet w v v.stage) h; reads = tt }
+    checking : (v next : watch.Watching) (out : Option Watched) → opened + 2 ≤ 2 ^ 33 → In Begun → Next (watch.asks s.layout v) (after_check (at_stage u (Check next)) out)
+    checking v next None few h = record { at = keeps (watch.asks s.layout v) (own_counts s) Begun (watch_quiet w s.layout v.stage) h; reads = tt }
+    checking v next (Some All) few h = record { at = keeps (watch.asks s.layout v) _ Checked (watch_quiet w s.layout v.stage) (to_checked room opened n (own_counts s) few h); reads = tt }
+    checking v next (Some NotYet) few h = record { at = keeps (watch.asks s.layout v) (own_counts s) Begun (watch_quiet w s.layout v.stage) h; reads = tt }
 
     -- its marking is ended
     closing : (c : close.Closing) (p : CloseStage) (found : ℕ) → close.is_busy p ≡ true → c.generation ≡ s.generation → In (part_of (Close (record c { stage = p }))) →
@@ -77,7 +77,7 @@ module _ (room : ℕ) where
 
     pub goes_so : (p : CoordStage) (found : ℕ) → SoundAt s p → opened + 2 ≤ 2 ^ 33 → is_busy p ≡ true → found ≡ w (cell_of (asks_at s p)) → Is opened n s p → Next (asks_at s p) (goes_at u p found)
     goes_so (Open o) found e few b f h = opening o o.stage found b (open_cycle o e) h.at
-    goes_so (Check v) found e few b f h = checking v (watch.goes v found) (watch.gives v found) few h.at
+    goes_so (Check v) found e few b f h = checking v (watch.goes s.layout v found) (watch.given (watch.goes s.layout v found)) few h.at
     goes_so (Close c) found e few b f h = closing c c.stage found b (close_generation c e) h.at
     goes_so (Count c) found e few b f h = counting c c.stage found b h.at
     goes_so (Tell t) found e few b f h = telling t t.stage b h.reads h.at

@@ -37,7 +37,7 @@ module _ (opened asked : ℕ) (w : Words) (s : Coordinating) (marks : ℕ) where
   opening : (o : opens_by.CycleOpening) (p : OpenStage) (found : ℕ) → opens_by.is_busy p ≡ true → In (Open (record o { stage = p })) →
       Next (opens_by.asks_at o p) (after_open (at_stage u (Open (opens_by.goes_at o p found))) (opens_by.given_at (opens_by.behind p)))
   opening o open_stage.ClearWant found b h = clearing o h
-  opening o open_stage.StorePhase found b h = within (Open (record o { stage = open_stage.StorePhase })) (Watch (watch.opening s.layout s.begun)) refl refl (λ x. x) (λ x. x) h
+  opening o open_stage.StorePhase found b h = within (Open (record o { stage = open_stage.StorePhase })) (Watch (watch.opening s.begun)) refl refl (λ x. x) (λ x. x) h
   opening o open_stage.Ended found b h = absurd cc
   opening o _ found b h = within _ _ refl refl (λ x. x) (λ x. cc) h
 

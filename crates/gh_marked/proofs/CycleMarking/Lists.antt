@@ -1,5 +1,5 @@
 -- What holds while a cycle is marked, after every legal list; and what holds behind the coordinator's check.
-use Rattle.std.proofs.Common.{◌≡◌, ◌≢◌, ℕ, ◌+◌, ◌<◌, ◌≤◌, ◌==◌, Bool, true, false, ltb, refl, sym, ap, subst, ◌∙◌, arith, inl, inr, Some, None, List, [], ◌∷◌}
+use Rattle.std.proofs.Common.{◌≡◌, ℕ, ◌<◌, ◌≤◌, Bool, true, false, ltb, refl, sym, ap, subst, ◌∙◌, arith, inl, inr, Some, None, List, [], ◌∷◌}
 use Rattle.gh_base.specs.declared.cell.Cell.TheVariants as cell
 use Rattle.gh_marks.specs.Colours.{Black, Buffered, Colour, IsShaded, mark_of, Pending, Placing, Taken, White}
 use Rattle.gh_marks.specs.Ends.{IsDone, IsFoundAtTheEnd}
@@ -10,17 +10,17 @@ use Rattle.gh_coord.specs.Listing as coord
 use Rattle.gh_worker.specs.Listing as worker
 use Rattle.gh_worker.specs.MarkFacts as marks
 use Rattle.gh_lists.specs.declared.handshake.Actor.TheVariants as actor
-use Rattle.gh_lists.specs.Handshake.{asks}
+use Rattle.gh_lists.specs.Handshake.{Setup}
 use Rattle.gh_lists.specs.Marking.{setup_in, IsLedBy, setting, words}
 use Rattle.gh_lists.specs.Starts.{legal_start, whole}
-use Rattle.gh_marked.proofs.Vocabulary.{acks_of, Actor, actors, actors_after, Arena, Ask, buffer_of, buffers_of, cell_of, ChangesOneCell, CoordStage, Cycle, effect, EndsClean, Entry, Hands, holder_in, is_busy, IsChecked, IsInLimits, IsStartOf, KeepsIt, Layout, Legal, ltb-false, ltb-true, mark_words, Marking as Shared, nat_tests, nothing, Op, Pacing, place_of, row_bit, RunPhase, started, StepKeepsIt, Stopped, WaitsWithNone, Words}
+use Rattle.gh_marked.proofs.Vocabulary.{acks_of, Actor, actors_after, Arena, Ask, buffer_of, buffers_of, ChangesOneCell, CoordStage, Cycle, effect, EndsClean, Entry, Hands, holder_in, IsChecked, IsInLimits, IsStartOf, KeepsIt, Layout, Legal, ltb-false, ltb-true, mark_words, Marking as Shared, nothing, Op, Pacing, place_of, row_bit, RunPhase, StepKeepsIt, Stopped, WaitsWithNone, Words}
 use Rattle.gh_marked.proofs.CycleMarking.Apart.{stays_clear}
 use Rattle.gh_marked.specs.Marked.{IsInMarking, MarksToTheEnd, WasMarked}
 use Rattle.gh_marked.specs.Checking.{begins as begins_cycle, checked_lasts, CheckedAt, CoordinatorGoes, Found, goes_on, goes_so, leaves}
 use Rattle.gh_marked.proofs.CycleMarking.Looking.{none_sweeps}
 use Rattle.gh_marked.proofs.CycleMarking.Moving as moving
 use Rattle.gh_lists.specs.Steps as seats
-use Rattle.gh_lists.specs.Seats.{IsSeated, lead_started, leads, other, seated}
+use Rattle.gh_lists.specs.Seats.{IsSeated, seated}
 
 -- What is cited of steps and of lists.
 pub record Cited (arena : Arena) (pacing : Pacing) (may : ℕ → List (Entry Op) → Op → Bool) : Type 0 where
@@ -35,6 +35,9 @@ pub record Cited (arena : Arena) (pacing : Pacing) (may : ℕ → List (Entry Op
 module _ (arena : Arena) (pacing : Pacing) (may : ℕ → List (Entry Op) → Op → Bool) (cited : Cited arena pacing may) where
   abbrev n : ℕ
   n = acks_of arena.layout
+
+  abbrev it : Setup
+  it = setup_in arena pacing may
 
   abbrev at : List (Entry Op) → ℕ → Actor
   at = actors_after arena pacing may
@@ -56,7 +59,7 @@ module _ (arena : Arena) (pacing : Pacing) (may : ℕ → List (Entry Op) → Op
     checked : CheckedAt arena.layout c.begun (told es) c.stage
 
   seat_of : (es : List (Entry Op)) (a : ℕ) (m : Actor) → at es a ≡ m → IsSeated arena.layout a m
-  seat_of es a m is = subst (IsSeated arena.layout a) is (seated (setup_in arena pacing may) es a)
+  seat_of es a m is = subst (IsSeated arena.layout a) is (seated it es a)
 
   -- before the first step nothing is marked
   none_at_first : (c : coord.Coordinating) → Led [] c → leading.Marks c.stage → ⊥
@@ -143,83 +146,57 @@ module _ (arena : Arena) (pacing : Pacing) (may : ℕ → List (Entry Op) → Op
   was_marked : (es : List (Entry Op)) → Lawful es → HeldBefore es → WasMarked arena pacing may es
   was_marked es legal before start c of led on = to_the_end start c (legal_start (setting arena pacing may) start es of legal) led on (before start c of led on)
 
-  module _ (e : Entry Op) (es : List (Entry Op)) (legal : Lawful (e ∷ es)) where
-    abbrev a : ℕ
-    a = e.actor
+  module _ (e : Entry Op) (es : List (Entry Op)) (legal : Lawful (e ∷ es)) (before : HeldBefore es) (c : coord.Coordinating) (led : Led (e ∷ es) c) (on : leading.Marks c.stage) where
+    -- a step of a processor or a worker: the coordinator stays as it is
+    module _ (stays : at (e ∷ es) n ≡ at es n) (among : e.actor < n) where
+      was : Led es c
+      was = sym stays ∙ led
 
-    others_stay : (b : ℕ) → b ≢ a → at (e ∷ es) b ≡ at es b
-    others_stay b differs = other (setup_in arena pacing may) e es b (grind (arith, nat_tests, differs))
-
-    -- a step of a processor or a worker
-    module _ (c : coord.Coordinating) (led : Led es c) (on : leading.Marks c.stage) (h : Holds es c) (among : a < n) where
-      -- the coordinator stays as it is
-      led_still : Led (e ∷ es) c
-      led_still = grind (arith, among, others_stay)
+      holds : Holds es c
+      holds = before es c (whole es) was on
 
       -- where the world is stopped it changes no word
       still : (phase : RunPhase) → leading.post_at c.stage ≡ Stopped phase → told (e ∷ es) ≡ told es
-      still phase post = ap (effect (told es)) ((cited.step_keeps e es legal).still (leading.lead_of c) phase (ap place_of led) post among).0
+      still phase post = ap (effect (told es)) ((cited.step_keeps e es legal).still (leading.lead_of c) phase (ap place_of was) post among).0
 
-      by : (m : Actor) → at es a ≡ m → In (e ∷ es) c
-      by (actor.Runs m) is = moving.by_processor arena pacing may cited.moves e es c c (record { legal = legal; led = led; led_then = led_still; on_then = on; begun_is = refl; i = h.marking }) m on (seat_of es a (actor.Runs m) is) is
-      by (actor.Marks w) is = moving.by_worker arena pacing may cited.moves e es c c (record { legal = legal; led = led; led_then = led_still; on_then = on; begun_is = refl; i = h.marking }) w (none_sweeps (setup_in arena pacing may) cited.moves.known.read cited.keeps es c legal.0 led on a w among is) (seat_of es a (actor.Marks w) is).0 among is
-      by (actor.Leads x) is = absurd (let ge : n ≤ a = (seat_of es a (actor.Leads x) is).0 in omega (arith, ge, among))
+      marks_on : moving.MarksOn arena pacing may cited.moves e es c c
+      marks_on = record { legal = legal; led = was; led_then = led; on_then = on; begun_is = refl; i = holds.marking }
 
-      by_others : Holds (e ∷ es) c
-      by_others = record { marking = by (at es a) refl; checked = checked_lasts arena.layout c.begun (told es) (told (e ∷ es)) c.stage on still h.checked }
+      by_others : In (e ∷ es) c → Holds (e ∷ es) c
+      by_others marking = record { marking = marking; checked = checked_lasts arena.layout c.begun (told es) (told (e ∷ es)) c.stage on still holds.checked }
 
     -- a step of the coordinator
-    module _ (c to : coord.Coordinating) (end : a ≡ n) (led : Led es c) (then : to ≡ coord.goes c e.found) (led_then : Led (e ∷ es) to) (on : leading.Marks to.stage) (before : HeldBefore es) where
-      here : at es a ≡ actor.Leads c
-      here = ap (at es) end ∙ led
+    module _ (b : coord.Coordinating) (x : seats.LeadsIt it e es b) (then : c ≡ coord.goes b e.found) where
+      goes_by : CoordinatorGoes arena.layout b.begun (told es) b b.stage c
+      goes_by = subst (λ (y : coord.Coordinating). CoordinatorGoes arena.layout b.begun (told es) b b.stage y) (sym then) (goes_so arena.layout b.begun (told es) b (coord.counted b).marks (seat_of es n (actor.Leads b) x.is).1 refl b.stage e.found x.busy x.found)
 
-      abbrev begun : Actor
-      begun = started (actors (setup_in arena pacing may)) e.begun (at es a)
+      checked_then : c.begun ≡ b.begun → CheckedAt arena.layout b.begun (effect (told es) (coord.asks b)) c.stage → CheckedAt arena.layout c.begun (told (e ∷ es)) c.stage
+      checked_then same y = subst (λ (k : ℕ). CheckedAt arena.layout k (told (e ∷ es)) c.stage) (sym same) (subst (λ (q : Ask). CheckedAt arena.layout b.begun (effect (told es) q) c.stage) (sym x.asked) y)
 
-      begun_is : begun ≡ actor.Leads c
-      begun_is = ap (started (actors (setup_in arena pacing may)) e.begun) here ∙ lead_started (setup_in arena pacing may) e.begun c
-
-      busy : coord.is_busy c.stage ≡ true
-      busy = sym (ap is_busy begun_is) ∙ legal.1.runs
-
-      asked : e.ask ≡ coord.asks c
-      asked = legal.1.asks ∙ ap asks begun_is
-
-      found : e.found ≡ told es (cell_of (coord.asks c))
-      found = legal.1.found ∙ ap (λ (q : Ask). told es (cell_of q)) asked
-
-      goes_by : CoordinatorGoes arena.layout c.begun (told es) c c.stage (coord.goes c e.found)
-      goes_by = goes_so arena.layout c.begun (told es) c (coord.counted c).marks (seat_of es n (actor.Leads c) led).1 refl c.stage e.found busy found
-
-      checked_then : to.begun ≡ c.begun → CheckedAt arena.layout c.begun (effect (told es) (coord.asks c)) to.stage → CheckedAt arena.layout to.begun (told (e ∷ es)) to.stage
-      checked_then same x = subst (λ (b : ℕ). CheckedAt arena.layout b (told (e ∷ es)) to.stage) (sym same) (subst (λ (q : Ask). CheckedAt arena.layout c.begun (effect (told es) q) to.stage) (sym asked) x)
-
-      by_lead : CoordinatorGoes arena.layout c.begun (told es) c c.stage to → Holds (e ∷ es) to
-      by_lead (begins_cycle b quiet same x) = record {
-        marking = moving.by_coordinator arena pacing may cited.moves e es c to (record { legal = legal; led = led; led_then = led_then; on_then = on; begun_is = same; i = moving.begins arena pacing may cited.moves es c legal.0 led b (was_marked es legal.0 before) (cited.keeps es legal.0) }) end here quiet;
-        checked = checked_then same x;
+      by_lead : CoordinatorGoes arena.layout b.begun (told es) b b.stage c → Holds (e ∷ es) c
+      by_lead (begins_cycle first quiet same y) = record {
+        marking = moving.by_coordinator arena pacing may cited.moves e es b c (record { legal = legal; led = x.is; led_then = led; on_then = on; begun_is = same; i = moving.begins arena pacing may cited.moves es b legal.0 x.is first (was_marked es legal.0 before) (cited.keeps es legal.0) }) x quiet;
+        checked = checked_then same y;
       }
-      by_lead (goes_on was quiet same x) = record {
-        marking = moving.by_coordinator arena pacing may cited.moves e es c to (record { legal = legal; led = led; led_then = led_then; on_then = on; begun_is = same; i = (before es c (whole es) led was).marking }) end here quiet;
-        checked = checked_then same (x (before es c (whole es) led was).checked);
+      by_lead (goes_on on_was quiet same y) = record {
+        marking = moving.by_coordinator arena pacing may cited.moves e es b c (record { legal = legal; led = x.is; led_then = led; on_then = on; begun_is = same; i = (before es b (whole es) x.is on_was).marking }) x quiet;
+        checked = checked_then same (y (before es b (whole es) x.is on_was).checked);
       }
       by_lead (leaves off) = absurd (off on)
 
-      by_it : Holds (e ∷ es) to
-      by_it = by_lead (subst (λ (y : coord.Coordinating). CoordinatorGoes arena.layout c.begun (told es) c c.stage y) (sym then) goes_by)
+    by_step : seats.Step it e es → Holds (e ∷ es) c
+    by_step (seats.by_processor m x stays) =
+        let among : e.actor < n = let lt = x.seat in omega (arith, lt) in
+        by_others stays among (moving.by_processor arena pacing may cited.moves e es c c (marks_on stays among) m on x)
+    by_step (seats.by_worker w x stays) =
+        let none = none_sweeps it cited.moves.known.read cited.moves.known.writes cited.moves.known.places cited.keeps es c legal.0 (was stays x.seat) on e.actor w x.seat x.is in
+        by_others stays x.seat (moving.by_worker arena pacing may cited.moves e es c c (marks_on stays x.seat) w none x)
+    by_step (seats.by_lead b x) =
+        let then : c ≡ coord.goes b e.found = let both : actor.Leads c ≡ actor.Leads (coord.goes b e.found) = sym led ∙ x.then in cc in
+        by_lead b x then (goes_by b x then)
 
-  follows : (e : Entry Op) (es : List (Entry Op)) → Lawful (e ∷ es) → HeldBefore es → (c : coord.Coordinating) → Led (e ∷ es) c → leading.Marks c.stage → Holds (e ∷ es) c
-  follows e es legal before c led on = go (e.actor == n) refl where
-    go : (b : Bool) → (e.actor == n) ≡ b → Holds (e ∷ es) c
-    go false x =
-        let was : Led es c = sym (other (setup_in arena pacing may) e es n x) ∙ led in
-        let within : e.actor < n + 1 = legal.1.actor in
-        by_others e es legal c was on (before es c (whole es) was on) (grind (arith, nat_tests, x, within))
-    go true x =
-        let end : e.actor ≡ n = grind (arith, nat_tests) in
-        let b = seats.led_by (setup_in arena pacing may) es in
-        let then : at (e ∷ es) n ≡ actor.Leads (coord.goes b.lead e.found) = sym (ap (at (e ∷ es)) end) ∙ leads (setup_in arena pacing may) e es b.lead (ap (at es) end ∙ b.led_by) in
-        by_it e es legal b.lead c end b.led_by (let both : actor.Leads c ≡ actor.Leads (coord.goes b.lead e.found) = sym led ∙ then in cc) led on before
+    follows : Holds (e ∷ es) c
+    follows = by_step (seats.step it e es cited.moves.known.writes legal (cited.keeps es legal.0))
 
   held : (es : List (Entry Op)) → Lawful es → HeldBefore es
   held [] legal start c of led on = absurd (none_at_first c (subst (λ (x : List (Entry Op)). Led x c) of led) on)

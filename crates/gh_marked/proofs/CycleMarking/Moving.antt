@@ -5,25 +5,28 @@ use Rattle.gh_base.specs.declared.cell.Cell.TheVariants as cell
 use Rattle.gh_marks.specs.Laws.{Begins, EachHandFollows, EachHandLasts, EachStepGoesByMoves, StepsGoByMoves}
 use Rattle.gh_marks.specs.Moves.{goes, moved, Others, Quiet, SameExtent, stays, Steps}
 use Rattle.gh_phase.specs.declared.view.RunPhase.TheVariants as run
-use Rattle.gh_phase.specs.Listing as resume
+use Rattle.gh_phase.specs.declared.resume.ResumeStage.TheVariants.{LoadPhase}
+use Rattle.gh_phase.specs.ResumePlaces as resumes
 use Rattle.gh_coord.specs.Handshake as leading
 use Rattle.gh_coord.specs.Listing as coord
-use Rattle.gh_worker.specs.declared.worker.WorkerStage.TheVariants.{Resuming}
 use Rattle.gh_mutator.specs.ProcessorMarks.{MarksByMoves}
 use Rattle.gh_worker.specs.Handshake as working
 use Rattle.gh_worker.specs.Listing as worker
 use Rattle.gh_worker.specs.MarkFacts as marks
+use Rattle.gh_worker.specs.Places.{RestsAtStop, WorkersKeepPlaces}
+use Rattle.gh_worker.specs.Routine.{WorkersAreRoutines}
 use Rattle.gh_lists.specs.declared.handshake.Actor.TheVariants as actor
-use Rattle.gh_lists.specs.Handshake.{asks, Sound}
+use Rattle.gh_lists.specs.Handshake.{Setup, Sound}
 use Rattle.gh_lists.specs.Counts.{stored_in}
 use Rattle.gh_lists.specs.Marking.{setup_in, IsLedBy, setting, words}
 use Rattle.gh_marked.specs.Scanned.{done_by, most_scanned, scanned_by}
-use Rattle.gh_marked.proofs.Vocabulary.{acks_of, Actor, actors, actors_after, Acts, alloc_words, Arena, Ask, bit_at, cell_of, Cycle, effect, Entry, Hands, is_busy, IsBeginning, KeepsIt, Kind, Legal, MarkFacts, Marking as Shared, MarkingBegins, MarkingGood as Good, nat_tests, nothing, Op, PackedWordsAreReadBack, Pacing, Party, place_of, Processor, processor_kind, Row, row_bit, seats_of, started, WaitsWithNone, Went, Words}
+use Rattle.gh_marked.proofs.Vocabulary.{acks_of, Actor, actors_after, Acts, alloc_words, Arena, Ask, bit_at, cell_of, Cycle, effect, Entry, Hands, IsBeginning, KeepsIt, Kind, Legal, MarkFacts, Marking as Shared, MarkingBegins, MarkingGood as Good, nat_tests, nothing, Op, PackedWordsAreReadBack, Pacing, Party, place_of, Processor, processor_kind, ProcessorWritesItsOwn, Row, row_bit, seats_of, started, WaitsWithNone, Went, Words}
 use Rattle.gh_marked.specs.Marked.{IsInMarking, Knows, KnowsHeap, LeavesObjects, MayBegin, StepsByMoves, WasMarked}
 use Rattle.gh_marked.specs.Beside.{LeavesHeap, works_so}
 use Rattle.gh_marked.specs.Checking.{IsLight, begin_post}
 use Rattle.gh_marked.proofs.CycleMarking.Placing.{places_none}
-use Rattle.gh_lists.specs.Seats.{IsSeated, lead_started, leads, other, runs, seated, worker_started, works}
+use Rattle.gh_lists.specs.Seats.{IsSeated, other, seated, works}
+use Rattle.gh_lists.specs.Steps as seats
 use Rattle.gh_marked.specs.Levels.{beyond_goes}
 use Rattle.gh_marked.proofs.Scanned.Routines.{has_step}
 use Rattle.gh_marked.specs.Weights.{counted, stored_rises}
@@ -62,11 +65,14 @@ is_one a b x = grind (arith, nat_tests, x)
 is_other : (a b : ℕ) → (a == b) ≡ false → b ≢ a
 is_other a b x y = grind (arith, nat_tests, x, y)
 
--- what gh_base, gh_marks, gh_mutator and gh_worker say
+-- what gh_base, gh_marks, gh_mutator, its writes and gh_worker say
 pub record Known : Type 0 where
   pub read : PackedWordsAreReadBack
   pub processors : MarksByMoves
+  pub writes : ProcessorWritesItsOwn
   pub workers : marks.WorksByMoves
+  pub routines : WorkersAreRoutines
+  pub places : WorkersKeepPlaces
   pub begin : MarkingBegins
   pub steps : EachStepGoesByMoves
   pub follow : EachHandFollows
@@ -84,6 +90,9 @@ module _ (arena : Arena) (pacing : Pacing) (may : ℕ → List (Entry Op) → Op
 
   abbrev n : ℕ
   n = acks_of arena.layout
+
+  abbrev it : Setup
+  it = setup_in arena pacing may
 
   abbrev at : List (Entry Op) → ℕ → Actor
   at = actors_after arena pacing may
@@ -131,13 +140,13 @@ module _ (arena : Arena) (pacing : Pacing) (may : ℕ → List (Entry Op) → Op
       processors b m lt is = go (a == b) refl where
         go : (x : Bool) → (a == b) ≡ x → MarkFacts z b t m
         go true x = subst (λ (y : ℕ). MarkFacts z y t m) (is_one a b x) (landed.own_processor m (ap (at (e ∷ es)) (is_one a b x) ∙ is))
-        go false x = moves.known.processors.lasts z b s t m (step.others b (is_other a b x)) (marking_on.i.processors b m lt (sym (other (setup_in arena pacing may) e es b x) ∙ is))
+        go false x = moves.known.processors.lasts z b s t m (step.others b (is_other a b x)) (marking_on.i.processors b m lt (sym (other it e es b x) ∙ is))
 
       workers : (b : ℕ) (w : worker.Working) → b < n → at (e ∷ es) b ≡ actor.Marks w → marks.Facts z b t w
       workers b w lt is = go (a == b) refl where
         go : (x : Bool) → (a == b) ≡ x → marks.Facts z b t w
         go true x = subst (λ (y : ℕ). marks.Facts z y t w) (is_one a b x) (landed.own_worker w (ap (at (e ∷ es)) (is_one a b x) ∙ is))
-        go false x = moves.known.workers.lasts z b s t w (step.others b (is_other a b x)) (marking_on.i.workers b w lt (sym (other (setup_in arena pacing may) e es b x) ∙ is))
+        go false x = moves.known.workers.lasts z b s t w (step.others b (is_other a b x)) (marking_on.i.workers b w lt (sym (other it e es b x) ∙ is))
 
       coordinator : (b : ℕ) → n ≤ b → Hands b t nothing
       coordinator b le = go (a == b) refl where
@@ -146,12 +155,12 @@ module _ (arena : Arena) (pacing : Pacing) (may : ℕ → List (Entry Op) → Op
         go false x = moves.known.last z b s t nothing (step.others b (is_other a b x)) (marking_on.i.coordinator b le)
 
       -- what its seat is done with is counted
-      scans : (m : Actor) → at es a ≡ m → scanned_by (setup_in arena pacing may) e es + counted arena.layout s ≤ counted arena.layout t
+      scans : (m : Actor) → at es a ≡ m → scanned_by it e es + counted arena.layout s ≤ counted arena.layout t
       scans m is = subst (λ (x : Actor). done_by x e.found + counted arena.layout s ≤ counted arena.layout t) (sym is) (subst (λ (r : Arena). done_by m e.found + counted r.layout s ≤ counted r.layout t) marking_on.i.is.arena_is (go m is)) where
         go : (m : Actor) → at es a ≡ m → done_by m e.found + counted z.arena.layout s ≤ counted z.arena.layout t
         go (actor.Runs m) is = scanned.none_done moves.known.steps z a s t marking_on.i.good (moves.heap.objects z s es marking_on.i.good marking_on.i.known) marking_on.i.none_beyond landed.went
-        go (actor.Marks w) is = scanned.works moves.known.steps z a s t marking_on.i.good (moves.heap.objects z s es marking_on.i.good marking_on.i.known) marking_on.i.none_beyond landed.went w e.found (has_step (setup_in arena pacing may) es a w is)
-            (marking_on.i.workers a w (subst (IsSeated arena.layout a) is (seated (setup_in arena pacing may) es a)).1 is) (landed.own_worker (worker.goes w e.found) (works (setup_in arena pacing may) e es w is))
+        go (actor.Marks w) is = scanned.works moves.known.steps z a s t marking_on.i.good (moves.heap.objects z s es marking_on.i.good marking_on.i.known) marking_on.i.none_beyond landed.went w e.found (has_step it es a w is)
+            (marking_on.i.workers a w (subst (IsSeated arena.layout a) is (seated it es a)).1 is) (landed.own_worker (worker.goes w e.found) (works it e es w is))
         go (actor.Leads x) is = scanned.none_done moves.known.steps z a s t marking_on.i.good (moves.heap.objects z s es marking_on.i.good marking_on.i.known) marking_on.i.none_beyond landed.went
 
       next : In (e ∷ es) to
@@ -188,61 +197,46 @@ module _ (arena : Arena) (pacing : Pacing) (may : ℕ → List (Entry Op) → Op
       objects = objects_stay moves.known.steps z a s t marking_on.i.good went slots
 
     -- by a processor
-    pub by_processor : (m : Processor) → leading.Marks c.stage → a < arena.layout.procs → at es a ≡ actor.Runs m → In (e ∷ es) to
-    by_processor m on lt is = next (record {
+    pub by_processor : (m : Processor) → leading.Marks c.stage → seats.RunsIt it e es m → In (e ∷ es) to
+    by_processor m on x = next (record {
       shared = land.then;
       went = land.went;
       words_are = words_then land.then e.ask land.words_are refl;
       heap_is = land.after.1;
-      own_processor = λ p now. subst (MarkFacts z a land.then) (let both : actor.Runs (k.takes (started k e.begun m) e.found) ≡ actor.Runs p = sym then ∙ now in cc) land.after.0;
-      own_worker = λ w now. absurd (let both : actor.Runs (k.takes (started k e.begun m) e.found) ≡ actor.Marks w = sym then ∙ now in cc);
-      own_hand = λ le. absurd (omega arith);
+      own_processor = λ p now. subst (MarkFacts z a land.then) (let both : actor.Runs (k.takes (started k e.begun m) e.found) ≡ actor.Runs p = sym x.then ∙ now in cc) land.after.0;
+      own_worker = λ w now. absurd (let both : actor.Runs (k.takes (started k e.begun m) e.found) ≡ actor.Marks w = sym x.then ∙ now in cc);
+      own_hand = λ le. absurd (let lt = x.seat in omega (arith, lt, le));
     }) where
       land : Steps z a s e.ask (λ t. MarkFacts z a t (k.takes (started k e.begun m) e.found) × Knows arena pacing may z t (e ∷ es))
-      land = moves.polls e es c marking_on.legal marking_on.led on z s m marking_on.i.is marking_on.i.good marking_on.i.known lt is (marking_on.i.processors a m lt is)
-
-      then : at (e ∷ es) a ≡ actor.Runs (k.takes (started k e.begun m) e.found)
-      then = runs (setup_in arena pacing may) e es m is
+      land = moves.polls e es c marking_on.legal marking_on.led on z s m marking_on.i.is marking_on.i.good marking_on.i.known x.seat x.is (marking_on.i.processors a m x.seat x.is)
 
     -- by a worker, which sweeps no span
-    pub by_worker : (w : worker.Working) → worker.sweep_in w ≡ None → arena.layout.procs ≤ a → a < n → at es a ≡ actor.Marks w → In (e ∷ es) to
-    by_worker w none ge lt is = next (record {
+    pub by_worker : (w : worker.Working) → worker.sweep_in w ≡ None → seats.WorksIt it e es w → In (e ∷ es) to
+    by_worker w none x = next (record {
       shared = land.then;
       went = land.went;
       words_are = then_words;
-      heap_is = moves.heap.lasts e es c to marking_on.legal marking_on.led marking_on.led_then marking_on.on_then z s land.then marking_on.i.is marking_on.i.good (moves.known.steps z a s land.then marking_on.i.good land.went).good marking_on.i.known ge land.went (leaves_objects land.then (worker.asks w) land.went land.words_are (works_so w none busy)) (places_none z a land.then (worker.goes w (s.words (cell_of (worker.asks w)))) land.after) then_words;
-      own_processor = λ p now. absurd (let both : actor.Marks (worker.goes w e.found) ≡ actor.Runs p = sym then ∙ now in cc);
-      own_worker = λ v now. subst (marks.Facts z a land.then) (let both : actor.Marks (worker.goes w e.found) ≡ actor.Marks v = sym then ∙ now in cc) (subst (λ (x : ℕ). marks.Facts z a land.then (worker.goes w x)) (sym found) land.after);
-      own_hand = λ le. absurd (omega arith);
+      heap_is = moves.heap.lasts e es c to marking_on.legal marking_on.led marking_on.led_then marking_on.on_then z s land.then marking_on.i.is marking_on.i.good (moves.known.steps z a s land.then marking_on.i.good land.went).good marking_on.i.known x.from land.went (leaves_objects land.then (worker.asks w) land.went land.words_are (works_so moves.known.routines w none)) (places_none z a land.then (worker.goes w (s.words (cell_of (worker.asks w)))) land.after) then_words;
+      own_processor = λ p now. absurd (let both : actor.Marks (worker.goes w e.found) ≡ actor.Runs p = sym x.then ∙ now in cc);
+      own_worker = λ v now. subst (marks.Facts z a land.then) (let both : actor.Marks (worker.goes w e.found) ≡ actor.Marks v = sym x.then ∙ now in cc) (subst (λ (y : ℕ). marks.Facts z a land.then (worker.goes w y)) (sym found) land.after);
+      own_hand = λ le. absurd (let lt = x.seat in omega (arith, lt, le));
     }) where
       land : Steps z a s (worker.asks w) (λ t. marks.Facts z a t (worker.goes w (s.words (cell_of (worker.asks w)))))
-      land = moves.known.workers.own_step z a s w marking_on.i.good (moves.heap.objects z s es marking_on.i.good marking_on.i.known) none (marking_on.i.workers a w lt is)
-
-      asked : e.ask ≡ worker.asks w
-      asked = marking_on.legal.1.asks ∙ ap asks (ap (started (actors (setup_in arena pacing may)) e.begun) is ∙ worker_started (setup_in arena pacing may) e.begun w)
-
-      busy : worker.is_busy w.stage ≡ true
-      busy = sym (ap is_busy (ap (started (actors (setup_in arena pacing may)) e.begun) is ∙ worker_started (setup_in arena pacing may) e.begun w)) ∙ marking_on.legal.1.runs
-
-      told : e.found ≡ words arena pacing may es (cell_of (worker.asks w))
-      told = marking_on.legal.1.found ∙ ap (λ (q : Ask). words arena pacing may es (cell_of q)) asked
+      land = moves.known.workers.own_step z a s w marking_on.i.good (moves.heap.objects z s es marking_on.i.good marking_on.i.known) none (marking_on.i.workers a w x.seat x.is)
 
       found : e.found ≡ s.words (cell_of (worker.asks w))
-      found = told ∙ ap (λ (x : Words). x (cell_of (worker.asks w))) (sym marking_on.i.is.words_are)
-
-      then : at (e ∷ es) a ≡ actor.Marks (worker.goes w e.found)
-      then = works (setup_in arena pacing may) e es w is
+      found = marking_on.legal.1.found ∙ (ap (λ (q : Ask). words arena pacing may es (cell_of q)) x.asked ∙ ap (λ (v : Words). v (cell_of (worker.asks w))) (sym marking_on.i.is.words_are))
 
       then_words : land.then.words ≡ words arena pacing may (e ∷ es)
-      then_words = words_then land.then (worker.asks w) land.words_are asked
+      then_words = words_then land.then (worker.asks w) land.words_are x.asked
 
     -- by the coordinator
-    pub by_coordinator : a ≡ n → at es a ≡ actor.Leads c → IsLight (coord.asks c) → In (e ∷ es) to
-    by_coordinator end is light = next (record {
+    pub by_coordinator : seats.LeadsIt it e es c → IsLight (coord.asks c) → In (e ∷ es) to
+    by_coordinator x light = next (record {
       shared = t;
       went = went;
       words_are = then_words;
-      heap_is = moves.heap.lasts e es c to marking_on.legal marking_on.led marking_on.led_then marking_on.on_then z s t marking_on.i.is marking_on.i.good (moves.known.steps z a s t marking_on.i.good went).good marking_on.i.known (omega (arith, end)) went (leaves_objects t (coord.asks c) went refl light.aside) (λ o is. absurd (let none : None ≡ Some o = ((marking_on.i.coordinator a (omega (arith, end))).has.is_reserved o).1 is in cc)) then_words;
+      heap_is = moves.heap.lasts e es c to marking_on.legal marking_on.led marking_on.led_then marking_on.on_then z s t marking_on.i.is marking_on.i.good (moves.known.steps z a s t marking_on.i.good went).good marking_on.i.known behind_processors went (leaves_objects t (coord.asks c) went refl light.aside) (λ o is. absurd (let none : None ≡ Some o = ((marking_on.i.coordinator a (subst (λ (y : ℕ). n ≤ y) (sym x.seat) (omega arith))).has.is_reserved o).1 is in cc)) then_words;
       own_processor = λ p now. absurd (let both : actor.Leads (coord.goes c e.found) ≡ actor.Runs p = sym then ∙ now in cc);
       own_worker = λ v now. absurd (let both : actor.Leads (coord.goes c e.found) ≡ actor.Marks v = sym then ∙ now in cc);
       own_hand = λ le. (moves.known.follow z a s nothing marking_on.i.good (marking_on.i.coordinator a le)).quiet (coord.asks c) (light.quiet s);
@@ -253,14 +247,14 @@ module _ (arena : Arena) (pacing : Pacing) (may : ℕ → List (Entry Op) → Op
       went : Went z a s t
       went = goes s (Quiet (coord.asks c)) stays (light.quiet s)
 
-      asked : e.ask ≡ coord.asks c
-      asked = marking_on.legal.1.asks ∙ ap asks (ap (started (actors (setup_in arena pacing may)) e.begun) is ∙ lead_started (setup_in arena pacing may) e.begun c)
+      behind_processors : arena.layout.procs ≤ a
+      behind_processors = let end = x.seat in omega (arith, end)
 
       then : at (e ∷ es) a ≡ actor.Leads (coord.goes c e.found)
-      then = leads (setup_in arena pacing may) e es c is
+      then = ap (at (e ∷ es)) x.seat ∙ x.then
 
       then_words : t.words ≡ words arena pacing may (e ∷ es)
-      then_words = words_then t (coord.asks c) refl asked
+      then_words = words_then t (coord.asks c) refl x.asked
 
   -- The begin of a cycle: the world is stopped, and nobody has anything in hand.
   module _ (es : List (Entry Op)) (c : coord.Coordinating) (legal : Legal (setting arena pacing may) es) (led : IsLedBy arena pacing may es c) (b : IsBeginning c.stage)
@@ -271,19 +265,18 @@ module _ (arena : Arena) (pacing : Pacing) (may : ℕ → List (Entry Op) → Op
     begun : Begins opened.cycle opened.shared
     begun = moves.known.begin opened.cycle opened.shared opened.opens
 
-    -- a worker that waits is at its seat
-    seat_at : (w : worker.Working) (a : ℕ) (r : resume.Resuming) → w.stage ≡ Resuming r → working.Sound w → (working.party_of w).seat ≡ a → w.seat ≡ a
-    seat_at w a r e s is = grind arith
-
     worker_knows : (a : ℕ) (w : worker.Working) → a < n → at es a ≡ actor.Marks w → marks.Facts opened.cycle a opened.shared w
     worker_knows a w lt is = record {
-      layout_is = (subst (IsSeated arena.layout a) is (seated (setup_in arena pacing may) es a)).2 ∙ ap (λ (x : Arena). x.layout) (sym opened.is.arena_is);
+      layout_is = (subst (IsSeated arena.layout a) is (seated it es a)).2 ∙ ap (λ (x : Arena). x.layout) (sym opened.is.arena_is);
       seat_in = subst (λ (x : Arena). a < seats_of x.layout) (sym opened.is.arena_is) (omega (arith, lt));
-      seat_is = seat_at w a waits.routine waits.is_at (subst (Sound arena.layout) is (keeps.shakes.all_sound a (omega arith))) seat;
-      stage_is = subst (marks.StageFacts opened.cycle a opened.shared w.held) (sym waits.is_at) (begun.seats a, waits.none);
+      seat_is = sym rests.seat_is ∙ seat;
+      stage_is = rests.hands opened.cycle a opened.shared (begun.seats a);
     } where
       waits : WaitsWithNone (leading.lead_of c).stops w
       waits = keeps.workers_wait c run.Off a w led (begin_post c.stage b) lt is
+
+      rests : RestsAtStop w
+      rests = moves.known.places.rests w waits.routine.stops LoadPhase (subst (Sound arena.layout) is (keeps.shakes.all_sound a (omega arith))) (ap working.stands_at waits.is_at ∙ ap (resumes.stands_at waits.routine.stops) waits.loads)
 
       seat : (working.party_of w).seat ≡ a
       seat =

@@ -8,14 +8,12 @@ use Rattle.gh_sweep.specs.Facts as sweep_facts
 use Rattle.gh_sweep.specs.Listing as sweep
 use Rattle.gh_sweep.specs.Listing.{Sweeping}
 use Rattle.gh_coord.specs.Listing as coord
-use Rattle.gh_coord.specs.SweepingAll as over
 use Rattle.gh_mutator.specs.Sweeping.{sweep_in}
 use Rattle.gh_worker.specs.Listing as worker
-use Rattle.gh_worker.specs.Writing.{WritesItsOwn}
 use Rattle.gh_marked.specs.HoldVocabulary.{SweepRuns}
 use Rattle.gh_marked.specs.Spans.{IsForTypes, PagesAreForTypes}
 use Rattle.gh_marked.specs.Sweepers.{IsInSweep, sweep_of}
-use Rattle.gh_marked.proofs.Vocabulary.{acks_of, Actor, arena, Arena, Ask, asks, Coordinating, CoordStage, effect, Entry, HasState, Heap, Legal, moved, Op, page_of, Processor, State, Sweep, those, Words, words}
+use Rattle.gh_marked.proofs.Vocabulary.{acks_of, Actor, arena, Arena, Ask, asks, Coordinating, effect, Entry, HasState, Heap, Layout, Legal, moved, Op, page_of, Processor, State, those, Words, words}
 use Rattle.gh_marked.proofs.OneStep.FreshPages.{fresh_page}
 use Rattle.gh_marked.specs.Known.{ListsKnown}
 use Rattle.gh_marked.proofs.OneStep.Landing as landing
@@ -58,27 +56,24 @@ module _ (given : Given) (wanted : Wanted) (lists : ListsKnown (setup_for given)
       begun = λ at. ap (λ (w : Words). w (cell.Page m.page)) (sym has.of_list.words_are) ∙ (subst (sweep_facts.FactsAt m h.words) at runs.fine.facts).own;
     }
 
-    swept : (m : Sweeping) (a : ℕ) → SweepRuns a s m → e.ask ≡ sweep.asks m → For (e ∷ es) q
-    swept m a runs asks_is = subst (λ (ask : Ask). ForPage (effect (told es) ask (cell.Page q))) (sym asks_is) (pages.sweeps wanted.read given.shapes (told es) q was m m.stage refl (is_swept m a runs))
+    swept : (l : Layout) (m : Sweeping) (a : ℕ) → SweepRuns a s m → e.ask ≡ sweep.asks l m → For (e ∷ es) q
+    swept l m a runs asks_is = subst (λ (ask : Ask). ForPage (effect (told es) ask (cell.Page q))) (sym asks_is) (pages.sweeps wanted.read given.shapes (told es) q was l m m.stage refl (is_swept m a runs))
 
     by_worker : (w : worker.Working) → seats.WorksIt (setup_for given) e es w → For (e ∷ es) q
     by_worker w x = go (worker.sweep_in w) refl where
       go : (y : Option Sweeping) → worker.sweep_in w ≡ y → For (e ∷ es) q
-      go None none = pages.worked wanted.read given.shapes (told es) q was lists.known.one w.seat e.ask (subst (WritesItsOwn w.seat) (sym x.asked) (lists.known.workers_write w x.sound_it none x.busy))
+      go None none = subst (λ (ask : Ask). ForPage (effect (told es) ask (cell.Page q))) (sym x.asked) (pages.worked wanted.read given.shapes (told es) q was lists.known.workers w none)
       go (Some m) is =
           let runs = subst (IsInSweep e.actor s) is (subst (λ (y : Actor). IsInSweep e.actor s (sweep_of y)) x.is (has.sweeps e.actor legal.1.actor)) in
-          swept m e.actor runs.0 (x.asked ∙ (lists.known.workers_sweep.runs.on w m is runs.1).asks_so)
-
-    -- of the coordinator's sweep
-    leads_sweep : (d : Coordinating) (p : CoordStage) → d.stage ≡ p → seats.LeadsIt (setup_for given) e es d → pages.SweepsAt wanted.read given.shapes (told es) q was p
-    leads_sweep d (Sweep v) at x = λ page m is.
-        let in_sweep = subst (λ (y : Actor). IsInSweep (acks_of given.layout) s (sweep_of y)) x.is (has.sweeps (acks_of given.layout) (omega arith)) in
-        let here : coord.sweep_in d ≡ Some m = ap coord.sweep_at at ∙ ap over.sweep_at is in
-        is_swept m (acks_of given.layout) (subst (IsInSweep (acks_of given.layout) s) here in_sweep).0
-    leads_sweep d _ at x = tt
+          swept w.layout m e.actor runs.0 (x.asked ∙ (lists.known.workers_sweep.runs.on w m is runs.1).asks_so)
 
     by_lead : (d : Coordinating) → seats.LeadsIt (setup_for given) e es d → For (e ∷ es) q
-    by_lead d x = subst (λ (ask : Ask). ForPage (effect (told es) ask (cell.Page q))) (sym x.asked) (pages.led wanted.read given.shapes (told es) q was d d.stage (leads_sweep d d.stage refl x))
+    by_lead d x = go (coord.sweep_in d) refl where
+      go : (y : Option Sweeping) → coord.sweep_in d ≡ y → For (e ∷ es) q
+      go None none = subst (λ (ask : Ask). ForPage (effect (told es) ask (cell.Page q))) (sym x.asked) (pages.led wanted.read given.shapes (told es) q was lists.known.footprints d (lists.known.coordinator_parts d.layout) d.stage none)
+      go (Some m) is =
+          let runs = subst (IsInSweep (acks_of given.layout) s) is (subst (λ (y : Actor). IsInSweep (acks_of given.layout) s (sweep_of y)) x.is (has.sweeps (acks_of given.layout) (omega arith))) in
+          swept d.layout m (acks_of given.layout) runs.0 (x.asked ∙ (lists.known.coordinator_sweeps.on d m is runs.1).asks_so)
 
     module _ (lt : e.actor < given.layout.procs) where
       abbrev now : Processor
@@ -99,7 +94,7 @@ module _ (given : Given) (wanted : Wanted) (lists : ListsKnown (setup_for given)
           let then : ForPage ((moved z e.actor h land.move).words (cell.Page q)) =
           pages.moved wanted.read given.shapes lists.known.one z e.actor h (omega (arith, lt, lists.limits.procs_fit)) heads q was_now land.move land.may
           (λ locked free. subst (λ (w : Words). ForPage (w (cell.Page q))) (sym land.words_are)
-          (fresh_page wanted.read z e.actor h q free now _ (step.fine_now given lists.good lists.limits lists.known e es legal lt has) none locked)) in
+          (fresh_page wanted.pages z e.actor h q free now _ (step.fine_now given lists.good lists.limits lists.known e es legal lt has) none locked)) in
           subst (λ (w : Words). ForPage (w (cell.Page q))) (land.words_are ∙ (ap (effect h.words) (sym asked) ∙ ap (λ (w : Words). effect w e.ask) has.of_list.words_are)) then
 
       by_processor : For (e ∷ es) q
@@ -108,7 +103,7 @@ module _ (given : Given) (wanted : Wanted) (lists : ListsKnown (setup_for given)
         go None none = moves none
         go (Some m) is =
             let runs = subst (IsInSweep e.actor s) is (landing.in_sweep_now given lists.good lists.limits lists.known wanted e es legal lt has) in
-            swept m e.actor runs.0 (asked ∙ (lists.known.processors_sweep.on given.shapes now m is runs.1).asks_so)
+            swept now.poll.layout m e.actor runs.0 (asked ∙ (lists.known.processors_sweep.on given.shapes now m is runs.1).asks_so)
 
     goes_on : For (e ∷ es) q
     goes_on = by (seats.step (setup_for given) e es lists.known.writes legal (lists.keeps es legal.0)) where

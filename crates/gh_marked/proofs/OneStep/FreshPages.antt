@@ -1,33 +1,27 @@
 -- Whatever a processor that runs no sweep writes to a free page is one of a span for objects of one of the types: the span that it lays out is for the object that it is to make. Another step leaves the page free.
-use Rattle.std.proofs.Common.{◌≡◌, inl, inr, ℕ, ◌+◌, ◌<◌, Bool, true, false, cond, eqb, refl, sym, ap, subst, ◌∙◌, arith, length, Option, Some, None}
+use Rattle.std.proofs.Common.{◌≡◌, inl, inr, ℕ, ◌<◌, Bool, true, false, cond, eqb, refl, sym, ap, subst, ◌∙◌, arith, length, Option, Some, None}
 use Rattle.std.proofs.lemmas.Bool.{eqb-true}
 use Rattle.gh_base.specs.declared.cell.Ask.{Ask}
-use Rattle.gh_base.specs.declared.cell.Ask.TheVariants.{Store}
+use Rattle.gh_base.specs.declared.cell.Ask.TheVariants.{Load, Store}
 use Rattle.gh_base.specs.declared.cell.Cell.TheVariants as cell
 use Rattle.gh_base.specs.declared.pack.PageWord.{PageWord}
 use Rattle.gh_base.specs.declared.pack.PageWord.TheVariants.{Body, Free, Head}
 use Rattle.gh_base.specs.declared.pack.SpanHead.{SpanHead}
-use Rattle.gh_base.specs.Packing.{body_word, FitsBody, head_word, PackedWordsAreReadBack, page_of}
+use Rattle.gh_base.specs.Packing.{page_of}
 use Rattle.gh_base.specs.Shapes.{shape_at}
 use Rattle.gh_base.specs.Steps.{effect}
 use Rattle.gh_class.specs.declared.class.SpanClass.{SpanClass}
-use Rattle.gh_pages.specs.declared.carve.CarveStage.{CarveStage}
-use Rattle.gh_pages.specs.declared.carve.CarveStage.TheVariants as carve_stage
 use Rattle.gh_pages.specs.declared.carve.Span.{Span}
-use Rattle.gh_pages.specs.Facts as carving
+use Rattle.gh_pages.specs.Facts.{CarvesByItsRights, IsPageOf, LaysPage}
 use Rattle.gh_pages.specs.Listing as carve
-use Rattle.gh_central.specs.declared.pass.PassStage.{PassStage}
-use Rattle.gh_central.specs.declared.pass.PassStage.TheVariants as pass_stage
-use Rattle.gh_central.specs.declared.reclaim.ReclaimStage.{ReclaimStage}
-use Rattle.gh_central.specs.declared.reclaim.ReclaimStage.TheVariants as reclaim_stage
 use Rattle.gh_central.specs.GiveBack as give_back
-use Rattle.gh_central.specs.PassFacts as passing
+use Rattle.gh_central.specs.Owning.{FreesPage, WritesHead}
+use Rattle.gh_central.specs.PassFacts.{PassesByItsRights}
 use Rattle.gh_central.specs.Reclaim as reclaim
+use Rattle.gh_central.specs.ReclaimFacts.{ReclaimsByItsRights}
 use Rattle.gh_central.specs.SweptPass as pass
-use Rattle.gh_central.specs.UnsweptFacts as sweeping
+use Rattle.gh_central.specs.UnsweptFacts.{SweepsByItsRights}
 use Rattle.gh_central.specs.UnsweptPass as unswept
-use Rattle.gh_central.specs.declared.unswept.UnsweptStage.{UnsweptStage}
-use Rattle.gh_central.specs.declared.unswept.UnsweptStage.TheVariants as unswept_stage
 use Rattle.gh_alloc.specs.declared.find.FindStage.{FindStage}
 use Rattle.gh_alloc.specs.declared.find.FindStage.TheVariants as find_stage
 use Rattle.gh_alloc.specs.declared.search.SearchStage.{SearchStage}
@@ -64,10 +58,17 @@ use Rattle.gh_mutator_heap.specs.PollHeap.{give_locked_at, GiveStageFacts, leave
 use Rattle.gh_mutator.specs.Sweeping.{sweep_at, sweep_in, sweep_new}
 use Rattle.gh_poll.specs.Wait.{Waiting, waiting}
 use Rattle.gh_poll.specs.Wait as wait
-use Rattle.gh_marked.specs.HoldVocabulary.{Answer, Arena, ProcessorFacts, Heap, NewStage, Processor, Task, View, view, Words}
+use Rattle.gh_marked.specs.HoldVocabulary.{Answer, Arena, ProcessorFacts, Heap, Layout, NewStage, Processor, Task, View, view, Words}
 use Rattle.gh_marked.specs.Spans.{IsForTypes, IsPageFor}
 
-module _ (read : PackedWordsAreReadBack) (z : Arena) (a : ℕ) (h : Heap) (q : ℕ) (free : page_of (h.words (cell.Page q)) ≡ Free) where
+-- what the parts of a search write
+pub record WritesOfSearches : Type 0 where
+  pub passes : PassesByItsRights
+  pub sweeps : SweepsByItsRights
+  pub reclaims : ReclaimsByItsRights
+  pub carves : CarvesByItsRights
+
+module _ (parts : WritesOfSearches) (z : Arena) (a : ℕ) (h : Heap) (q : ℕ) (free : page_of (h.words (cell.Page q)) ≡ Free) where
   abbrev v : View
   v = view h
 
@@ -121,85 +122,63 @@ module _ (read : PackedWordsAreReadBack) (z : Arena) (a : ℕ) (h : Heap) (q : �
 
   -- A slot is looked for.
 
-  reclaims : (r : reclaim.Reclaiming) (s : ReclaimStage) → reclaim.sweep_at s ≡ None → For (reclaim.asks_at r s)
-  reclaims r (reclaim_stage.Look page) none = still
-  reclaims r (reclaim_stage.Sweep page pages sw) none = absurd (cc)
-  reclaims r (reclaim_stage.Wait page) none = still
-  reclaims r (reclaim_stage.Bits page pages i) none = still
-  reclaims r (reclaim_stage.Body page pages distance) none = freed (reclaim.body_page r page distance)
-  reclaims r (reclaim_stage.Head page pages) none = freed page
-  reclaims r reclaim_stage.Ended none = still
+  -- what is written is a head where one stands, or a free page
+  heads : (step : Ask) → WritesHead v.page step → For step
+  heads (Load c) is = still
+  heads (Store (cell.Page p) word) is = elsewhere p word is.0 is.1
+  heads _ is = absurd is
 
-  passes : (sure : Bool) (x : pass.Pass) (s : PassStage) → passing.FactsAt z sure x v s → For (pass.asks_at x s)
-  passes sure x (pass_stage.Look page) f = still
-  passes sure x (pass_stage.Bits page k i) f = still
-  passes sure x (pass_stage.Take page k) f = elsewhere page _ k f.head
-  passes sure x (pass_stage.Ended taken) f = absurd f
-
-  takes_unswept : (x : unswept.Unswept) (s : UnsweptStage) → unswept.sweep_at s ≡ None → sweeping.FactsAt z x v s → For (unswept.asks_at x s)
-  takes_unswept x (unswept_stage.Look page) none f = still
-  takes_unswept x (unswept_stage.Sweep page k sw) none f = absurd (cc)
-  takes_unswept x (unswept_stage.Take page k) none f = elsewhere page _ k f.head
-  takes_unswept x (unswept_stage.Ended taken) none f = absurd f
+  frees : (step : Ask) → FreesPage step → For step
+  frees (Load c) is = still
+  frees (Store (cell.Page p) word) is = subst (λ (x : ℕ). For (Store (cell.Page p) x)) (sym is) (freed p)
+  frees _ is = absurd is
 
   -- the cached span is given back
-  gives_back : (c : SpanClass) (k : CachedSpan) (f : Finding) (g : give_back.SpanGiving) → finding.IsCached a v c k → g ≡ give_back.opening f.layout k.head (find.given_head f.generation c) → For (give_back.asks g)
+  gives_back : (c : SpanClass) (k : CachedSpan) (f : Finding) (g : give_back.SpanGiving) → finding.IsCached a v c k → g ≡ give_back.opening k.head (find.given_head f.generation c) → For (give_back.asks g)
   gives_back c k f g cached is = subst (λ (x : give_back.SpanGiving). For (give_back.asks x)) (sym is) (elsewhere k.head _ cached.span.h cached.span.head)
 
   module _ (t : ℕ) (type : t < length z.shapes) where
     abbrev span : Span
     span = span_for (sought_for (shape_at z.shapes t))
 
-    is_for : (word : ℕ) (page : PageWord) → page_of word ≡ page → IsPageFor (shape_at z.shapes t) page → ForPage word
-    is_for word page is for = inr (t, type, subst (IsPageFor (shape_at z.shapes t)) (sym is) for)
+    page_for : (page : PageWord) → IsPageOf span page → IsPageFor (shape_at z.shapes t) page
+    page_for Free is = absurd is
+    page_for (Head k) is = record { class = is.0; noscan = is.1; pages = is.2 }
+    page_for (Body b) is = record { class = is.0; noscan = is.1; distance = (is.2, is.3) }
 
-    carves : (c : carve.Carving) (s : CarveStage) → c.span ≡ span → carving.Carves z a v c → carving.FactsAt z c v.page s → For (carve.asks_at c s)
-    carves c (carve_stage.Look page run) is whose f = still
-    carves c (carve_stage.Body first distance) is whose f =
-        let b = carve.fresh_body c distance in
-        let some = f.0.some in let below = f.1 in let few = whose.word.pages in
-        let fits : FitsBody b = record { class = whose.word.class; some = omega (arith, some); distance = omega (arith, below, few) } in
-        onto (first + distance) (body_word b) (is_for (body_word b) (Body b) (read.page (Body b) fits) (record {
-          class = ap (λ (x : Span). x.class) is;
-          noscan = ap (λ (x : Span). x.noscan) is;
-          distance = (some, subst (λ (x : Span). distance < x.pages) is below);
-        }))
-    carves c (carve_stage.Head first) is whose f =
-        let k = carve.fresh_head c in
-        onto first (head_word k) (is_for (head_word k) (Head k) (read.page (Head k) whose.word) (record {
-          class = ap (λ (x : Span). x.class) is;
-          noscan = ap (λ (x : Span). x.noscan) is;
-          pages = ap (λ (x : Span). x.pages) is;
-        }))
-    carves c (carve_stage.Ended taken) is whose f = absurd f
+    -- or a page of the span that is laid out
+    lays : (step : Ask) → LaysPage span step → For step
+    lays (Load c) is = still
+    lays (Store (cell.Page p) word) is = onto p word (inr (t, type, page_for (page_of word) is))
+    lays _ is = absurd is
 
-    finds : (sure : Bool) (rest : ℕ → Bool) (f : Finding) (s : FindStage) → f.wanted ≡ sought_for (shape_at z.shapes t) → finding.Caches a v f.wanted f.cached → finding.is_locked s ≡ true → find.sweep_at s ≡ None → finding.FactsAt z a sure v f s → For (find.asks_at f s)
+    finds : (sure : Bool) (rest : ℕ → Bool) (f : Finding) (s : FindStage) → f.wanted ≡ sought_for (shape_at z.shapes t) → finding.Caches a v f.wanted f.cached → finding.is_locked s ≡ true → find.sweep_at s ≡ None → finding.FactsAt z a sure v f s → For (find.asks_at z.layout f s)
     finds sure rest f (find_stage.Give g) wanted caches locked none x = gives_back x.c x.k f g (cached x.for.wanted x.for.cached caches) x.is where
       cached : {c : SpanClass} {k : CachedSpan} → f.wanted ≡ Small c → f.cached ≡ Some k → finding.Caches a v f.wanted f.cached → finding.IsCached a v c k
       cached {c} {k} small some caches = subst (λ (o : Option CachedSpan). finding.Caches a v (Small c) o) some (subst (λ (s : Sought). finding.Caches a v s f.cached) small caches)
-    finds sure rest f (find_stage.Unswept u) wanted caches locked none x = takes_unswept u u.stage none x.facts.stage
-    finds sure rest f (find_stage.Pass p) wanted caches locked none x = passes sure p p.stage x.facts.stage
+    finds sure rest f (find_stage.Unswept u) wanted caches locked none x = heads (unswept.asks z.layout u) (parts.sweeps.heads z a v u x.facts none)
+    finds sure rest f (find_stage.Pass p) wanted caches locked none x = heads (pass.asks z.layout p) (parts.passes.heads z a sure v p x.facts)
     finds sure rest f (find_stage.Carve c) wanted caches locked none x =
-        carves c c.stage (ap (λ (y : carve.Carving). y.span) x.is ∙ ap span_for wanted) x.facts.whose x.facts.stage
+        lays (carve.asks c) (subst (λ (y : Span). LaysPage y (carve.asks c)) (ap (λ (y : carve.Carving). y.span) x.is ∙ ap span_for wanted) (parts.carves.lays z a v c x.facts))
     finds sure rest f (find_stage.Unlock after) wanted caches locked none x = still
     finds sure rest f (find_stage.Slots s) wanted caches locked none x = absurd (cc)
     finds sure rest f find_stage.Lock wanted caches locked none x = absurd (cc)
     finds sure rest f (find_stage.Ended out) wanted caches locked none x = absurd (cc)
 
-    seeks : (rest : ℕ → Bool) (f : Finding) (s : SearchStage) → f.wanted ≡ sought_for (shape_at z.shapes t) → searching.is_locked f s ≡ true → search.sweep_at f s ≡ None → searching.FactsAt z a v rest f s → For (search.asks_at f s)
+    seeks : (rest : ℕ → Bool) (f : Finding) (s : SearchStage) → f.wanted ≡ sought_for (shape_at z.shapes t) → searching.is_locked f s ≡ true → search.sweep_at f s ≡ None → searching.FactsAt z a v rest f s → For (search.asks_at z.layout f s)
     seeks rest f search_stage.First wanted locked none x = finds false rest f f.stage wanted x.facts.caches locked none x.facts.stage
-    seeks rest f (search_stage.Free r) wanted locked none x = reclaims r r.stage none
+    seeks rest f (search_stage.Free r) wanted locked none x = frees (reclaim.asks z.layout r) (parts.reclaims.frees z.layout r none)
     seeks rest f search_stage.Second wanted locked none x = finds true rest f f.stage wanted x.facts.caches locked none x.facts.stage
 
   -- At each task.
   module _ (m : Processor) (pending : Option Answer) where
-    searches : (wanted : Wanted) (s : Seeking) → Searches z a v m wanted s pending → searching.is_locked s.find s.stage ≡ true → search.sweep_in s ≡ None → For (search.asks s)
+    searches : (wanted : Wanted) (s : Seeking) → Searches z a v m wanted s pending → searching.is_locked s.find s.stage ≡ true → search.sweep_in s ≡ None → For (search.asks z.layout s)
     searches wanted s f locked none =
         let sought : wanted.sought ≡ sought_for (shape_at z.shapes wanted.t) = ap (λ (x : Wanted). x.sought) f.wants.is in
         seeks wanted.t f.wants.type (rest m wanted) s.find s.stage (f.wanted ∙ sought) locked none f.facts
 
     new_page : (wanted : Wanted) (s : NewStage) → locked_new m s ≡ true → sweep_new s ≡ None → KnowsNew z a v m.poll s → NewFacts z a v m wanted pending s → For (new.asks_at m s)
-    new_page wanted (new_stage.Search waited s) locked none k f = searches wanted s f locked none
+    new_page wanted (new_stage.Search waited s) locked none k f = subst (λ (l : Layout). For (search.asks l s)) (sym k.stands.sits.layout) (searches wanted s f locked none)
     new_page wanted (new_stage.Wait x) locked none k f = waits_at (waiting x m.poll) x.stage locked k
     new_page wanted (new_stage.Place x) locked none k f = absurd (cc)
     new_page wanted (new_stage.Want n) locked none k f = absurd (cc)

@@ -12,7 +12,7 @@ use Rattle.gh_sweep.specs.Listing.{Sweeping}
 use Rattle.gh_sweep.specs.Running.{BeginsSweep, SweepsOn}
 use Rattle.gh_marked.specs.HoldVocabulary.{SeatSweepsNothing, State, StateGood}
 use Rattle.gh_marked.specs.Sweepers.{IsInSweep, sweep_of}
-use Rattle.gh_marked.proofs.Vocabulary.{Answer, Arena, arena, Ask, asks, begins, cell_of, DoesPoints, effect, Entry, ProcessorFacts, has_left_at, HasState, Heap, is_busy_at, IsInLimits, Legal, MarksNothing, may_of, moved, Op, Processor, processor_at, processor_kind, Row, Shape, ShapesAreGood, started, Steps, takes, those, uncounted, view, Words}
+use Rattle.gh_marked.proofs.Vocabulary.{Answer, Arena, arena, Ask, asks, begins, cell_of, DoesPoints, effect, Entry, ProcessorFacts, has_left_at, HasState, Heap, is_busy_at, IsInLimits, Layout, Legal, MarksNothing, may_of, moved, Op, Processor, processor_at, processor_kind, Row, Shape, ShapesAreGood, started, Steps, takes, those, uncounted, view, Words}
 use Rattle.gh_marked.proofs.OneStep.Counting as counting
 use Rattle.gh_marked.specs.Known.{Known}
 use Rattle.gh_marked.proofs.OneStep.OwnStep as step
@@ -138,12 +138,9 @@ module _ (given : Given) (good : ShapesAreGood given.shapes) (limits : IsInLimit
 
         go : (x : Option Sweeping) → sweep_in (takes given.shapes now found) ≡ x → IsInSweep a t x
         go None is = rests
-        go (Some sw) is = sweepers.begins known z a t good_then rests given.layout (view h).generation (asks now) found sw laid number loaded b where
-          b : BeginsSweep given.layout (view h).generation (asks now) found sw
+        go (Some sw) is = sweepers.begins known z a t good_then rests (view h).generation (asks now) found sw number loaded b where
+          b : BeginsSweep (view h).generation (asks now) found sw
           b = known.processors_sweep.begins z a (view h) now pending found sw fine_now none is
-
-          laid : given.layout ≡ t.end.layout
-          laid = sym (ap (λ (y : _). y.layout) (sweepers.end_stays known z a s counted.to_move).0 ∙ has.good.layout)
 
           same_words : (c : _) → t.heap.words c ≡ h.words c
           same_words c = ap (λ (w : Words). w c) words_then ∙ ap (λ (q : Ask). effect h.words q c) b.step_is
@@ -174,10 +171,10 @@ module _ (given : Given) (good : ShapesAreGood given.shapes) (limits : IsInLimit
       runs : IsInSweep a s (Some sw)
       runs = grind (arith, in_sweep_now)
 
-      on : SweepsOn asks (takes given.shapes) sweep_in now sw
-      on = known.processors_sweep.on given.shapes now sw is runs.1
+      on : SweepsOn given.layout asks (takes given.shapes) sweep_in now sw
+      on = subst (λ (l : Layout). SweepsOn l asks (takes given.shapes) sweep_in now sw) (known.runs.stands z a (view h) now pending fine_now).sits.layout (known.processors_sweep.on given.shapes now sw is runs.1)
 
-      found_is : found ≡ h.words (cell_of (sweep.asks sw))
+      found_is : found ≡ h.words (cell_of (sweep.asks given.layout sw))
       found_is = ap (λ (q : Ask). h.words (cell_of q)) on.asks_so
 
       abbrev swept : State

@@ -1,5 +1,5 @@
 -- What one step leaves of the word of a page, whoever makes it. A move of a processor leaves it, frees the page, or gives the span another owner; or it lays a page that was free. A sweep gives the span another number. So the page stays one of a span for objects of one of the types, as long as what is laid is.
-use Rattle.std.proofs.Common.{◌≡◌, inl, inr, ℕ, ◌+◌, ◌^◌, ◌<◌, Bool, true, false, cond, eqb, refl, sym, ap, subst, ◌∙◌, arith, List}
+use Rattle.std.proofs.Common.{◌≡◌, inl, inr, ℕ, ◌+◌, ◌^◌, ◌<◌, Bool, true, false, cond, eqb, refl, sym, ap, subst, ◌∙◌, arith, List, None}
 use Rattle.std.proofs.lemmas.Bool.{eqb-true}
 use Rattle.std.proofs.lemmas.Bool.Decides.{eqb_tells}
 use Rattle.gh_base.specs.declared.cell.Ask.{Ask}
@@ -9,6 +9,8 @@ use Rattle.gh_base.specs.declared.cell.Cell.TheVariants as cell
 use Rattle.gh_base.specs.declared.pack.PageWord.TheVariants.{Free, Head}
 use Rattle.gh_base.specs.declared.pack.SpanHead.{SpanHead}
 use Rattle.gh_base.specs.Cells.{same_cell}
+use Rattle.gh_base.specs.Footprints.{Footprint, FootprintsHold, Writes}
+use Rattle.gh_base.specs.Footprints as row
 use Rattle.gh_base.specs.Packing.{FitsHead, PackedWordsAreReadBack}
 use Rattle.gh_base.specs.Shapes.{shape_at}
 use Rattle.gh_base.specs.Steps.{cell_of, ChangesOneCell, effect, left}
@@ -17,31 +19,22 @@ use Rattle.gh_heap.specs.Spans.{owned_by}
 use Rattle.gh_sweep.specs.declared.sweep.SweepStage.{SweepStage}
 use Rattle.gh_sweep.specs.declared.sweep.SweepStage.TheVariants as sweep_stage
 use Rattle.gh_sweep.specs.Listing as sweep
-use Rattle.gh_coord.specs.declared.close.CloseStage.{CloseStage}
-use Rattle.gh_coord.specs.declared.close.CloseStage.TheVariants as close_stage
 use Rattle.gh_coord.specs.declared.coord.CoordStage.TheVariants.{Check, Close, Count, Open, Stop, StopAgain, Sweep, Tell, Watch}
-use Rattle.gh_coord.specs.declared.count.CountStage.{CountStage}
-use Rattle.gh_coord.specs.declared.count.CountStage.TheVariants as count_stage
-use Rattle.gh_coord.specs.declared.open.OpenStage.{OpenStage}
-use Rattle.gh_coord.specs.declared.open.OpenStage.TheVariants as open_stage
-use Rattle.gh_coord.specs.declared.stop.StopStage.{StopStage}
-use Rattle.gh_coord.specs.declared.stop.StopStage.TheVariants as stop_stage
 use Rattle.gh_coord.specs.declared.sweep_all.SweepAllStage.{SweepAllStage}
 use Rattle.gh_coord.specs.declared.sweep_all.SweepAllStage.TheVariants as all_stage
-use Rattle.gh_coord.specs.declared.tell.TellStage.{TellStage}
-use Rattle.gh_coord.specs.declared.tell.TellStage.TheVariants as tell_stage
-use Rattle.gh_coord.specs.declared.watch.WatchStage.{WatchStage}
-use Rattle.gh_coord.specs.declared.watch.WatchStage.TheVariants as watch_stage
 use Rattle.gh_coord.specs.Closing as close
 use Rattle.gh_coord.specs.Counting as count
-use Rattle.gh_coord.specs.Listing.{asks_at}
+use Rattle.gh_coord.specs.Listing.{asks_at, sweep_at}
 use Rattle.gh_coord.specs.Opening as open_
+use Rattle.gh_coord.specs.PartsRoutines.{PartsAreRoutines}
 use Rattle.gh_coord.specs.Stopping as stop
 use Rattle.gh_coord.specs.SweepingAll as all
 use Rattle.gh_coord.specs.Telling as tell
 use Rattle.gh_coord.specs.Watching as watch
-use Rattle.gh_worker.specs.Writing.{IsWritten, WritesItsOwn}
-use Rattle.gh_marked.specs.HoldVocabulary.{Arena, Coordinating, CoordStage, head_word, Heap, page_of, Shape, view, Words}
+use Rattle.gh_worker.specs.Listing as worker
+use Rattle.gh_worker.specs.Listing.{sweep_in, Working}
+use Rattle.gh_worker.specs.Routine.{WorkersAreRoutines}
+use Rattle.gh_marked.specs.HoldVocabulary.{Arena, Coordinating, CoordStage, head_word, Heap, Layout, page_of, Shape, view, Words}
 use Rattle.gh_marked.specs.Spans.{IsForTypes, IsHeadFor, IsPageFor}
 
 -- the two are heads of one span class, with as many pages
@@ -93,22 +86,9 @@ module _ (read : PackedWordsAreReadBack) (shapes : List Shape) where
       quiet (Add c v) is = leaves (Add c v) (not_page c is)
       quiet (Swap c v u) is = leaves (Swap c v u) (not_page c is)
 
-      not_worked : (seat : ℕ) (c : Cell) → IsWritten seat c → same_cell c (cell.Page q) ≡ false
-      not_worked seat (cell.Buffer b) is = refl
-      not_worked seat (cell.Entry b j) is = refl
-      not_worked seat (cell.Mark i) is = refl
-      not_worked seat (cell.Ack a) is = refl
-      not_worked seat _ is = absurd is
-
-      -- a worker's
-      pub worked : (seat : ℕ) (ask : Ask) → WritesItsOwn seat ask → ForPage (effect w ask (cell.Page q))
-      worked seat (Load c) is = was
-      worked seat (Store c v) is = leaves (Store c v) (not_worked seat c is)
-      worked seat (Or c v) is = leaves (Or c v) (not_worked seat c is)
-      worked seat (And c v) is = leaves (And c v) (not_worked seat c is)
-      worked seat (Add c v) (inl is) = leaves (Add c v) (ap (λ (x : Cell). same_cell x (cell.Page q)) is.0)
-      worked seat (Add c v) (inr is) = leaves (Add c v) (ap (λ (x : Cell). same_cell x (cell.Page q)) is)
-      worked seat (Swap c v u) is = leaves (Swap c v u) (not_worked seat c is)
+    -- A step of a worker that runs no sweep.
+    pub worked : (k : WorkersAreRoutines) (m : Working) → sweep_in m ≡ None → ForPage (effect w (worker.asks m) (cell.Page q))
+    worked k m none = subst ForPage (sym ((k.marks_alone m none).leaves w (cell.Page q) refl)) was
 
     -- A step of the coordinator.
 
@@ -130,58 +110,33 @@ module _ (read : PackedWordsAreReadBack) (shapes : List Shape) where
     fits_once_swept : (m : sweep.Sweeping) → IsSwept m → FitsHead (sweep.once_swept m.head)
     fits_once_swept m s = record { class = s.fits.class; some = s.fits.some; pages = s.fits.pages; owner = omega arith; number = s.few }
 
-    pub sweeps : (m : sweep.Sweeping) (p : SweepStage) → m.stage ≡ p → IsSwept m → ForPage (effect w (sweep.asks_at m p) (cell.Page q))
-    sweeps m sweep_stage.Begin at s = swap m.page (head_word m.head) m.head (sweep.in_sweep m.head) (fits_in_sweep m s) (record { class = refl; noscan = refl; pages = refl }) (read.page (Head m.head) s.fits)
-    sweeps m sweep_stage.Finish at s =
+    pub sweeps : (l : Layout) (m : sweep.Sweeping) (p : SweepStage) → m.stage ≡ p → IsSwept m → ForPage (effect w (sweep.asks_at l m p) (cell.Page q))
+    sweeps l m sweep_stage.Begin at s = swap m.page (head_word m.head) m.head (sweep.in_sweep m.head) (fits_in_sweep m s) (record { class = refl; noscan = refl; pages = refl }) (read.page (Head m.head) s.fits)
+    sweeps l m sweep_stage.Finish at s =
         onto_head m.page (sweep.in_sweep m.head) (sweep.once_swept m.head) (fits_once_swept m s) (record { class = refl; noscan = refl; pages = refl }) (ap page_of (s.begun at) ∙ read.page (Head (sweep.in_sweep m.head)) (fits_in_sweep m s))
-    sweeps m _ at s = was
+    sweeps l m _ at s = was
 
-    sweeps_all : (v : all.SweepingAll) (p : SweepAllStage) → ((page : ℕ) (m : sweep.Sweeping) → p ≡ all_stage.Sweep page m → IsSwept m) → ForPage (effect w (all.asks_at v p) (cell.Page q))
-    sweeps_all v (all_stage.LoadPage page) s = was
-    sweeps_all v (all_stage.Sweep page m) s = sweeps m m.stage refl (s page m refl)
-    sweeps_all v (all_stage.Await page) s = was
-    sweeps_all v all_stage.Ended s = was
+    -- between two sweeps of spans it loads
+    rests : (l : Layout) (p : SweepAllStage) → all.sweep_at p ≡ None → ForPage (effect w (all.asks_at l p) (cell.Page q))
+    rests l (all_stage.Sweep page m) none = absurd (cc)
+    rests l _ none = was
 
-    stops : (st : stop.Stopping) (p : StopStage) → ForPage (effect w (stop.asks_at st p) (cell.Page q))
-    stops st stop_stage.StorePhase = was
-    stops st _ = was
+    -- and of the other parts none writes a page
+    module _ (k : FootprintsHold) (c : Coordinating) (is : PartsAreRoutines c.layout) where
+      spares : (f : Footprint) (step : Ask) → Writes f step → f row.Page ≡ false → ForPage (effect w step (cell.Page q))
+      spares f step writes none = subst ForPage (sym (k.leaves f step w (cell.Page q) writes none)) was
 
-    opens : (o : open_.CycleOpening) (p : OpenStage) → ForPage (effect w (open_.asks_at o p) (cell.Page q))
-    opens o open_stage.LoadHeap = was
-    opens o _ = was
-
-    watches : (v : watch.Watching) (p : WatchStage) → ForPage (effect w (watch.asks_at v p) (cell.Page q))
-    watches v (watch_stage.Look i) = was
-    watches v (watch_stage.Ended x) = was
-
-    closes : (c : close.Closing) (p : CloseStage) → ForPage (effect w (close.asks_at c p) (cell.Page q))
-    closes c close_stage.LoadBank = was
-    closes c _ = was
-
-    counts : (p : CountStage) → ForPage (effect w (count.asks_at p) (cell.Page q))
-    counts count_stage.LoadTally = was
-    counts _ = was
-
-    tells : (t : tell.Telling) (p : TellStage) → ForPage (effect w (tell.asks_at t p) (cell.Page q))
-    tells t tell_stage.StoreTrigger = was
-    tells t _ = was
-
-    -- of a sweep this is asked
-    abbrev pub SweepsAt : CoordStage → Type 0
-    SweepsAt (Sweep v) = (page : ℕ) (m : sweep.Sweeping) → v.stage ≡ all_stage.Sweep page m → IsSwept m
-    SweepsAt _ = Unit {0}
-
-    pub led : (c : Coordinating) (p : CoordStage) → SweepsAt p → ForPage (effect w (asks_at c p) (cell.Page q))
-    led c (Stop st) s = stops st st.stage
-    led c (Open o) s = opens o o.stage
-    led c (Watch v) s = watches v v.stage
-    led c (StopAgain st) s = stops st st.stage
-    led c (Check v) s = watches v v.stage
-    led c (Close x) s = closes x x.stage
-    led c (Sweep v) s = sweeps_all v v.stage s
-    led c (Count x) s = counts x.stage
-    led c (Tell t) s = tells t t.stage
-    led c _ s = was
+      pub led : (p : CoordStage) → sweep_at p ≡ None → ForPage (effect w (asks_at c p) (cell.Page q))
+      led (Stop st) s = spares stop.writes _ (is.stop.writes st) refl
+      led (Open o) s = spares open_.writes _ (is.opens.writes o) refl
+      led (Watch v) s = spares watch.writes _ (is.watch.writes v) refl
+      led (StopAgain st) s = spares stop.writes _ (is.stop.writes st) refl
+      led (Check v) s = spares watch.writes _ (is.watch.writes v) refl
+      led (Close x) s = spares close.writes _ (is.close.writes x) refl
+      led (Sweep v) s = rests c.layout v.stage s
+      led (Count x) s = spares count.writes _ (is.count.writes x) refl
+      led (Tell t) s = spares tell.writes _ (is.tell.writes t) refl
+      led _ s = was
 
   -- A move of a processor.
   module _ (one : ChangesOneCell) (z : Arena) (a : ℕ) (s : Heap) (few : a + 1 < 2 ^ 8) (heads : (p : ℕ) (h : SpanHead) → page_of (s.words (cell.Page p)) ≡ Head h → FitsHead h) (q : ℕ) (was : ForPage (s.words (cell.Page q))) where

@@ -1,5 +1,6 @@
 -- What a processor has placed and not counted, over a step of it: the step that makes an object adds the bytes of its slot, the one that counts them takes them off, and no other changes that or makes anything.
 use Rattle.std.proofs.Common.{◌≡◌, ℕ, ◌+◌, ◌*◌, ◌%◌, ◌^◌, nat_le, Bool, true, false, cond, refl, ◌⊎◌, inl, inr, List, Option, Some, arith}
+use Rattle.std.specs.Prelude.{is_none}
 use Rattle.gh_base.specs.declared.cell.Cell.TheVariants as cell
 use Rattle.gh_base.specs.declared.operation.Op.TheVariants as op
 use Rattle.gh_alloc.specs.declared.place.PlaceStage.TheVariants as making
@@ -98,7 +99,7 @@ module _ (shapes : List Shape) (m : Processor) (found : ℕ) where
     by true = refl
     by false = refl
   placed w p making.Birth = inr (inr (record { same = refl; silent = λ y. absurd (let x = y.0 in cc); nothing = λ e g. refl }))
-  placed w p (making.Bits q) = inr (inr (record { same = by (bits.is_busy (bits.goes q found).stage); silent = λ y. absurd (let x = y.0 in cc); nothing = λ e g. refl })) where
+  placed w p (making.Bits q) = inr (inr (record { same = by (is_none (bits.given (bits.goes q found))); silent = λ y. absurd (let x = y.0 in cc); nothing = λ e g. refl })) where
     by : (b : Bool) → uncounted (new.made_task m.poll w (place.at_stage p (cond b (making.Bits (bits.goes q found)) (place.filled p.marking))) (place.given_at (cond b (making.Bits (bits.goes q found)) (place.filled p.marking)))) ≡ 0
     by b = grind arith
   placed w p making.Mark = inr (inr (record { same = refl; silent = λ y. absurd (let x = y.0 in cc); nothing = λ e g. refl }))
@@ -132,11 +133,11 @@ module _ (shapes : List Shape) (m : Processor) (found : ℕ) where
   kind (task.Register x) busy = inr (inr (record { same = refl; silent = λ y. y; nothing = acting_made shapes true (register.op_of x) (no_new_register x x.source) }))
   kind (task.New x) busy = new_kind x.wanted x.stage where
     new_kind : (w : Wanted) (s : NewStage) → StepOf (task.New (record { wanted = w; stage = s }))
-    new_kind w (Search waited q) = inr (inr (record { same = searched w waited (search.goes q found) (cache_span m w.sought (search.goes q found).find.cached) (search.gives q found); silent = λ y. y; nothing = refused_made shapes (new.refuses_behind_wait waited (search.gives q found)) w }))
+    new_kind w (Search waited q) = inr (inr (record { same = searched w waited (search.goes m.poll.layout q found) (cache_span m w.sought (search.goes m.poll.layout q found).find.cached) (search.gives m.poll.layout q found); silent = λ y. y; nothing = refused_made shapes (new.refuses_behind_wait waited (search.gives m.poll.layout q found)) w }))
     new_kind w (Wait y) = inr (inr (record { same = waited_for w (wait.goes (wait.waiting y m.poll) found) (wait.gives (wait.waiting y m.poll) found); silent = λ y. y; nothing = λ e g. refl }))
     new_kind w (Place p) = placed w p p.stage
     new_kind w (Want n) = inr (inr (record { same = refl; silent = λ y. y; nothing = λ e g. refl }))
-    new_kind w (Assist n x) = inr (inr (record { same = assisted w n (assist.goes x found) (assist.gives x found); silent = λ y. y; nothing = λ e g. refl }))
+    new_kind w (Assist n x) = inr (inr (record { same = assisted w n (assist.goes m.poll.layout x found) (assist.gives m.poll.layout x found); silent = λ y. y; nothing = λ e g. refl }))
   kind (task.Gc g x) busy = inr (inr (record { same = ended_gc g (wait.goes (wait.waiting x m.poll) found) (wait.gives (wait.waiting x m.poll) found); silent = λ y. y; nothing = acting_made shapes (is_some (wait.gives (wait.waiting x m.poll) found)) (op.Gc g) tt }))
   kind task.Poll busy = inr (inr (record { same = ended_poll (poll.goes m.poll found) (poll.gives m.poll found); silent = λ y. y; nothing = acting_made shapes (is_some (poll.gives m.poll found)) op.Poll tt }))
   kind (task.End g) busy = inr (inr (record { same = refl; silent = λ y. y; nothing = λ e h. refl }))

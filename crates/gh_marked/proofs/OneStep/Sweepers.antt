@@ -11,7 +11,7 @@ use Rattle.gh_sweep.specs.Listing as sweep
 use Rattle.gh_sweep.specs.Listing.{Sweeping}
 use Rattle.gh_sweep.specs.Running.{BeginsSweep, on_from}
 use Rattle.gh_sweep.specs.Sweepers.{move_at, move_of}
-use Rattle.gh_marked.specs.HoldVocabulary.{generation_of, Layout, page_of, SeatSweepsNothing, State, StateGood, SweepRuns}
+use Rattle.gh_marked.specs.HoldVocabulary.{generation_of, page_of, SeatSweepsNothing, State, StateGood, SweepRuns}
 use Rattle.gh_marked.specs.Sweepers.{IsInSweep}
 use Rattle.gh_marked.proofs.Vocabulary.{Arena, Ask, cell_of}
 use Rattle.gh_marked.specs.Known.{Known}
@@ -39,9 +39,9 @@ module _ (known : Known) (z : Arena) (a : ℕ) where
   rests_counted s r = record { none = r.none; told = r.told }
 
   -- It begins one where it has found the head of an unswept span.
-  pub begins : (t : State) → StateGood z t → SeatSweepsNothing a t → (l : Layout) (generation : ℕ) (step : Ask) (found : ℕ) (m : Sweeping) → l ≡ t.end.layout → generation ≡ t.heap.words cell.Gen → found ≡ t.heap.words (cell_of step) → BeginsSweep l generation step found m → IsInSweep a t (Some m)
-  begins t good rest l generation step found m laid number found_is b = (
-    subst (SweepRuns a t) (sym (b.sweep_is ∙ ap (λ (y : Layout). sweep.opening y b.page b.head) laid)) (known.sweeps.opens z a t b.page b.head good told rest head unswept),
+  pub begins : (t : State) → StateGood z t → SeatSweepsNothing a t → (generation : ℕ) (step : Ask) (found : ℕ) (m : Sweeping) → generation ≡ t.heap.words cell.Gen → found ≡ t.heap.words (cell_of step) → BeginsSweep generation step found m → IsInSweep a t (Some m)
+  begins t good rest generation step found m number found_is b = (
+    subst (SweepRuns a t) (sym b.sweep_is) (known.sweeps.opens z a t b.page b.head good told rest head unswept),
     ap (λ (y : Sweeping). sweep.is_busy y.stage) b.sweep_is,
   ) where
     head : page_of (t.heap.words (cell.Page b.page)) ≡ Head b.head
@@ -56,12 +56,12 @@ module _ (known : Known) (z : Arena) (a : ℕ) where
     unswept : b.head.number + 2 ≡ generation_of t.end
     unswept = b.number ∙ (number ∙ good.sweep.generation)
 
-  pub begins_or_rests : (t : State) → StateGood z t → SeatSweepsNothing a t → (l : Layout) (generation : ℕ) (step : Ask) (found : ℕ) (x : Option Sweeping) → l ≡ t.end.layout → generation ≡ t.heap.words cell.Gen → found ≡ t.heap.words (cell_of step) → ((m : Sweeping) → x ≡ Some m → BeginsSweep l generation step found m) → IsInSweep a t x
-  begins_or_rests t good rest l generation step found None laid number found_is b = rest
-  begins_or_rests t good rest l generation step found (Some m) laid number found_is b = begins t good rest l generation step found m laid number found_is (b m refl)
+  pub begins_or_rests : (t : State) → StateGood z t → SeatSweepsNothing a t → (generation : ℕ) (step : Ask) (found : ℕ) (x : Option Sweeping) → generation ≡ t.heap.words cell.Gen → found ≡ t.heap.words (cell_of step) → ((m : Sweeping) → x ≡ Some m → BeginsSweep generation step found m) → IsInSweep a t x
+  begins_or_rests t good rest generation step found None number found_is b = rest
+  begins_or_rests t good rest generation step found (Some m) number found_is b = begins t good rest generation step found m number found_is (b m refl)
 
   -- A step of the sweep itself.
-  module _ (s : State) (good : StateGood z s) (seat : a < seats_of z.layout) (m : Sweeping) (is : SweepRuns a s m × (sweep.is_busy m.stage ≡ true)) (found : ℕ) (found_is : found ≡ s.heap.words (cell_of (sweep.asks m))) where
+  module _ (s : State) (good : StateGood z s) (seat : a < seats_of z.layout) (m : Sweeping) (is : SweepRuns a s m × (sweep.is_busy m.stage ≡ true)) (found : ℕ) (found_is : found ≡ s.heap.words (cell_of (sweep.asks z.layout m))) where
     abbrev pub move : Move
     move = Sweep (move_of m found)
 

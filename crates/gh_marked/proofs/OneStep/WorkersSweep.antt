@@ -6,23 +6,15 @@ use Rattle.gh_sweep.specs.Listing.{Sweeping}
 use Rattle.gh_sweep.specs.Running.{BeginsSweep, SweepsOn}
 use Rattle.gh_worker.specs.Handshake as working
 use Rattle.gh_worker.specs.Listing as worker
+use Rattle.gh_worker.specs.Places.{IsAtWork}
 use Rattle.gh_lists.specs.declared.handshake.Actor.TheVariants as actor
 use Rattle.gh_lists.specs.Handshake.{asks, Sound as SoundActor, Setup}
 use Rattle.gh_marked.specs.HoldVocabulary.{SeatSweepsNothing}
 use Rattle.gh_marked.specs.Sweepers.{IsInSweep, sweep_of}
-use Rattle.gh_marked.proofs.Vocabulary.{Actor, actors, actors_after, Arena, arena, Ask, cell_of, effect, Entry, HasState, is_busy, IsAwake, Legal, Load, Op, started, State, StateGood, those, View, WorkerStage, Words, words}
+use Rattle.gh_marked.proofs.Vocabulary.{Actor, actors, actors_after, Arena, arena, Ask, cell_of, effect, Entry, HasState, is_busy, IsAwake, Layout, Legal, Load, Op, Party, started, State, StateGood, those, Words, words}
 use Rattle.gh_marked.specs.Known.{ListsKnown}
 use Rattle.gh_marked.proofs.OneStep.Sweepers as sweepers
 use Rattle.gh_lists.specs.Seats.{IsSeated, seated, worker_started, works}
-
--- Where a step has begun a sweep, the worker is awake before it, and knows the sweep generation between two polls.
-module _ (w : worker.Working) (m : Sweeping) where
-  record IsAwakeAt (p : WorkerStage) : Type 0 where
-    pub awake : IsAwake (working.stands_at p)
-    pub view_is : (working.party_at w p).view ≡ w.view
-
-  awake_at : (p : WorkerStage) (found : ℕ) → worker.sweep_at (worker.goes_at w p found).stage ≡ Some m → IsAwakeAt p
-  awake_at p found is = grind arith
 
 module _ (setup : Setup) (lists : ListsKnown setup)
     (e : Entry Op) (es : List (Entry Op)) (legal : Legal (those setup) (e ∷ es)) (w : worker.Working) (is : actors_after (arena setup) setup.pacing setup.may es e.actor ≡ actor.Marks w) where
@@ -55,15 +47,15 @@ module _ (setup : Setup) (lists : ListsKnown setup)
 
   -- It runs a sweep.
   module _ (sw : Sweeping) (runs : worker.sweep_in w ≡ Some sw) (its_busy : sweep.is_busy sw.stage ≡ true) where
-    pub goes_on : SweepsOn worker.asks worker.goes worker.sweep_in w sw
-    goes_on = lists.known.workers_sweep.runs.on w sw runs its_busy
+    pub goes_on : SweepsOn setup.layout worker.asks worker.goes worker.sweep_in w sw
+    goes_on = subst (λ (l : Layout). SweepsOn l worker.asks worker.goes worker.sweep_in w sw) its_seat.2 (lists.known.workers_sweep.runs.on w sw runs its_busy)
 
   -- It runs none. Of a state behind the step, with the words that it leaves.
   module _ (has : HasState setup es) (none : worker.sweep_in w ≡ None) (t : State) (good : StateGood z t) (rests : SeatSweepsNothing e.actor t) (words_are : t.heap.words ≡ effect has.state.heap.words e.ask) where
     then_by : (x : Option Sweeping) → worker.sweep_in (worker.goes w e.found) ≡ x → IsInSweep e.actor t x
     then_by None then = rests
-    then_by (Some m) then = sweepers.begins lists.known z e.actor t good rests w.layout w.view.generation (worker.asks w) e.found m laid number loaded b where
-      b : BeginsSweep w.layout w.view.generation (worker.asks w) e.found m
+    then_by (Some m) then = sweepers.begins lists.known z e.actor t good rests w.view.generation (worker.asks w) e.found m number loaded b where
+      b : BeginsSweep w.view.generation (worker.asks w) e.found m
       b = lists.known.workers_sweep.runs.begins w e.found m none then
 
       load_is : e.ask ≡ Load (cell.Page b.page)
@@ -72,14 +64,12 @@ module _ (setup : Setup) (lists : ListsKnown setup)
       same_words : (c : _) → t.heap.words c ≡ words setup es c
       same_words c = ap (λ (v : Words). v c) words_are ∙ (ap (λ (q : Ask). effect has.state.heap.words q c) load_is ∙ ap (λ (v : Words). v c) has.of_list.words_are)
 
-      laid : w.layout ≡ t.end.layout
-      laid = its_seat.2 ∙ sym good.layout
-
-      awake : IsAwakeAt w m w.stage
-      awake = awake_at w m w.stage e.found then
+      -- it is awake there, and knows the sweep generation between two polls
+      at_work : IsAtWork w
+      at_work = lists.known.workers_places.looks w (lists.known.workers_places.begins w e.found m then)
 
       number : w.view.generation ≡ t.heap.words cell.Gen
-      number = ap (λ (v : View). v.generation) (sym awake.view_is) ∙ (((lists.keeps es legal.0).workers_know e.actor w its_seat.1 is awake.awake).generation_is ∙ sym (same_words cell.Gen))
+      number = ap (λ (p : Party). p.view.generation) (sym at_work.party_is) ∙ (((lists.keeps es legal.0).workers_know e.actor w its_seat.1 is (subst IsAwake (sym at_work.awake) tt)).generation_is ∙ sym (same_words cell.Gen))
 
       loaded : e.found ≡ t.heap.words (cell_of (worker.asks w))
       loaded = legal.1.found ∙ (ap (λ (q : Ask). words setup es (cell_of q)) asked ∙ sym (same_words (cell_of (worker.asks w))))

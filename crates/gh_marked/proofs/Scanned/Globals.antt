@@ -5,26 +5,24 @@ use Rattle.gh_base.specs.declared.cell.Cell.TheVariants as cell
 use Rattle.gh_coord.specs.Handshake as leading
 use Rattle.gh_coord.specs.Listing as coord
 use Rattle.gh_mutator.specs.Listing.{takes}
+use Rattle.gh_worker.specs.Globals.{claimed_by, global_done, global_held, WorkersCountGlobals}
 use Rattle.gh_worker.specs.Listing as worker
-use Rattle.gh_worker.specs.Writing.{IsOutsideMarking}
+use Rattle.gh_worker.specs.Routine.{WorkersAreRoutines}
 use Rattle.gh_lists.specs.declared.handshake.Actor.TheVariants as actor
 use Rattle.gh_lists.specs.Lists.{IsEnding}
 use Rattle.gh_lists.specs.Counts.{CountsPlainly, stored_in, stores_cell}
 use Rattle.gh_marked.specs.EveryCycle.{CursorGoes}
-use Rattle.gh_marked.specs.Scanned.{global_by, global_done, global_held, global_in_hand, globals_held, globals_in, GlobalsAreCounted, objects_in, scanned_in}
+use Rattle.gh_marked.specs.Scanned.{done_by, global_by, global_in_hand, globals_held, globals_in, GlobalsAreCounted, objects_by, objects_in, scanned_in}
 use Rattle.gh_lists.specs.Waits.{WorkersRest}
-use Rattle.gh_marked.proofs.Vocabulary.{acks_of, Actor, Add, Ask, cell_of, Coordinating, CoordStage, effect, Entry, IsBeginning, IsLed, KeepsIt, Layout, Legal, nat_tests, Op, Processor, processor_kind, ProcessorWritesItsOwn, seats_of, started, those, words, WorkerStage, Working}
+use Rattle.gh_marked.proofs.Vocabulary.{acks_of, Actor, Add, Ask, cell_of, Coordinating, CoordStage, effect, Entry, IsBeginning, IsLed, KeepsIt, Layout, Legal, nat_tests, Op, Processor, processor_kind, ProcessorWritesItsOwn, seats_of, started, those, words, Working}
 use Rattle.gh_marked.specs.Checking.{begins, CoordinatorGoes, goes_on, goes_so, leaves}
 use Rattle.gh_lists.specs.Seats.{IsSeated, other, seated}
 use Rattle.gh_lists.specs.Leaving.{ends_marking, marks_or_not}
 use Rattle.gh_lists.specs.Steps as seats
 use Rattle.gh_lists.specs.Sums.{total_at, total_none, total_same}
 use Rattle.gh_lists.specs.Writing.{leaves_numbers}
-use Rattle.gh_marked.proofs.Scanned.Claims.{claimed_at, holds, IsClearing, leads_at, leaves_cursor, LeavesCursor, parts_by, works_at}
+use Rattle.gh_marked.proofs.Scanned.Claims.{IsClearing, leads_at, leaves_cursor, LeavesCursor, works_at}
 use Rattle.gh_lists.specs.Handshake.{Setup}
-
-rests_done : (p : WorkerStage) (found : ℕ) → IsOutsideMarking p → global_done p found ≡ 0
-rests_done p found r = grind arith
 
 -- the cursor moves on by one
 moves_on : (cursor globals : ℕ) → min (cursor + 1) globals ≡ min cursor globals + cond (ltb cursor globals) 1 0
@@ -45,9 +43,11 @@ module _ (c : Coordinating) where
   ending_off : (p : CoordStage) (found : ℕ) → IsEnding p → leading.Marks (coord.goes_at c p found).stage → ⊥
   ending_off p found is on = grind arith
 
--- What is cited of processors, and of the lists of a heap that is set up so.
+-- What is cited of processors and workers, and of the lists of a heap that is set up so.
 pub record Cited (setup : Setup) : Type 0 where
   pub writes : ProcessorWritesItsOwn
+  pub workers : WorkersAreRoutines
+  pub globals : WorkersCountGlobals
   pub keeps : (es : List (Entry Op)) → Legal (those setup) es → KeepsIt (those setup) es
   pub rests : (es : List (Entry Op)) → Legal (those setup) es → WorkersRest (those setup) es
   pub plainly : (es : List (Entry Op)) (c : Coordinating) → Legal (those setup) es → IsLed setup es c → CountsPlainly (those setup) setup.pacing.room es c
@@ -146,25 +146,25 @@ module _ (setup : Setup) (cited : Cited setup) where
       counted_now = ap (λ (z : Actor). counted es + global_by z e.found) x.is
 
       -- so many more are counted or in hand as the step claims
-      both_now : counted (e ∷ es) + held (e ∷ es) ≡ counted es + held es + claimed_at w.layout w.stage e.found
+      both_now : counted (e ∷ es) + held (e ∷ es) ≡ counted es + held es + claimed_by w.layout (worker.asks w) e.found
       both_now =
           let one = total_at (λ a. global_in_hand (who es a)) (λ a. global_in_hand (who (e ∷ es) a)) (seats_of setup.layout) e.actor seat_in (λ a lt ne. ap global_in_hand (others a ne)) in
           let two : global_in_hand (who es e.actor) ≡ global_held w.stage = ap global_in_hand x.is in
           let three : global_in_hand (who (e ∷ es) e.actor) ≡ global_held (worker.goes w e.found).stage = ap global_in_hand x.then in
           let now = counted_now in
-          let four = holds w e.found in
+          let four = cited.globals.holds w e.found in
           omega (arith, one, two, three, now, four)
 
-      stays_or_moves : (stores_cell cell.Gen e.ask ≡ false) × (leading.Marks c.stage → min (cursor (e ∷ es)) setup.layout.globals ≡ min (cursor es) setup.layout.globals + claimed_at w.layout w.stage e.found)
-      stays_or_moves = elim (works_at w w.stage) [
+      stays_or_moves : (stores_cell cell.Gen e.ask ≡ false) × (leading.Marks c.stage → min (cursor (e ∷ es)) setup.layout.globals ≡ min (cursor es) setup.layout.globals + claimed_by w.layout (worker.asks w) e.found)
+      stays_or_moves = elim (works_at cited.workers w x.sound_it) [
         | inl y ↦ (
-            let q : LeavesCursor e.ask = subst LeavesCursor (sym x.asked) y.0 in
-            (q.ends, λ on. let u = ap (λ (i : ℕ). min i setup.layout.globals) (q.cursor (words setup es)) in let none = y.1 e.found in omega (arith, u, none))
+            let q : LeavesCursor e.ask = subst LeavesCursor (sym x.asked) y.leaves in
+            (q.ends, λ on. let u = ap (λ (i : ℕ). min i setup.layout.globals) (q.cursor (words setup es)) in let none = y.none e.found in omega (arith, u, none))
             )
         | inr is ↦ (
-            let ask_is : e.ask ≡ Add cell.Gcur 1 = x.asked ∙ ap (worker.asks_at w) is in
+            let ask_is : e.ask ≡ Add cell.Gcur 1 = x.asked ∙ is in
             let found_is : e.found ≡ cursor es = legal.1.found ∙ ap (λ (q : Ask). words setup es (cell_of q)) ask_is in
-            let claimed : claimed_at w.layout w.stage e.found ≡ cond (ltb (cursor es) setup.layout.globals) 1 0 = ap (λ (p : WorkerStage). claimed_at w.layout p e.found) is ∙ ap (λ (i : ℕ). cond (ltb i w.layout.globals) 1 0) found_is ∙ ap (λ (y : Layout). cond (ltb (cursor es) y.globals) 1 0) layout_is in (
+            let claimed : claimed_by w.layout (worker.asks w) e.found ≡ cond (ltb (cursor es) setup.layout.globals) 1 0 = ap (λ (q : Ask). claimed_by w.layout q e.found) is ∙ ap (λ (i : ℕ). cond (ltb i w.layout.globals) 1 0) found_is ∙ ap (λ (y : Layout). cond (ltb (cursor es) y.globals) 1 0) layout_is in (
               ap (stores_cell cell.Gen) ask_is,
               λ on.
                   let few = cited.cursor.small es c legal.0 led on in
@@ -181,7 +181,7 @@ module _ (setup : Setup) (cited : Cited setup) where
           let g = whole_same stays_or_moves.0 in
           let now = counted_now in
           record {
-            once = λ off. let o = b.once off in let none = rests_done w.stage e.found (cited.rests es legal.0 c e.actor w led off x.is).rests in omega (arith, o, g, now, none);
+            once = λ off. let o = b.once off in let none = cited.globals.rests w e.found (cited.rests es legal.0 c e.actor w led off x.is) in let sum = cited.globals.parts w e.found in omega (arith, o, g, now, none, sum);
             so_far = λ on. let o = b.so_far on in let u = stays_or_moves.1 on in let k = both_now in omega (arith, o, g, u, k);
             least = let o = b.least in omega (arith, o, g, now);
           }
@@ -279,7 +279,11 @@ module _ (setup : Setup) (cited : Cited setup) where
 
   parts : (es : List (Entry Op)) → scanned_in setup es ≡ globals_in setup es + objects_in setup es
   parts [] = refl
-  parts (e ∷ es) = let rest = parts es in let now = parts_by (who es e.actor) e.found in omega (arith, rest, now)
+  parts (e ∷ es) = let rest = parts es in let now = parts_by (who es e.actor) in omega (arith, rest, now) where
+    parts_by : (m : Actor) → done_by m e.found ≡ global_by m e.found + objects_by m e.found
+    parts_by (actor.Marks w) = cited.globals.parts w e.found
+    parts_by (actor.Runs m) = refl
+    parts_by (actor.Leads c) = refl
 
   pub globals_are_counted : (es : List (Entry Op)) (c : Coordinating) → Legal (those setup) es → IsLed setup es c → GlobalsAreCounted setup es c
   globals_are_counted es c legal led =

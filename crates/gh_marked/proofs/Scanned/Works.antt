@@ -19,7 +19,7 @@ use Rattle.gh_worker.specs.declared.worker.WorkerStage.TheVariants as at
 use Rattle.gh_worker.specs.Listing as worker
 use Rattle.gh_worker.specs.MarkFacts as marks
 use Rattle.gh_worker.specs.Works.{scan_words, shading_word, words_done}
-use Rattle.gh_marked.proofs.Vocabulary.{Held, ScanStage, Shaded, ShadeStage, Working, WorkerStage}
+use Rattle.gh_marked.proofs.Vocabulary.{Held, Layout, ScanStage, Shaded, ShadeStage, Working, WorkerStage}
 use Rattle.gh_marked.specs.Levels.{colour_goes, far, global_goes, global_there, level, NoneBeyond}
 use Rattle.gh_marked.proofs.Scanned.Routines.{HasStep}
 use Rattle.gh_marked.specs.Weights.{AllGoOn, black_last, by_entry, by_global, by_object, counted, entered_high, grows}
@@ -43,16 +43,16 @@ record Scans (a : ℕ) (s : Shared) (o words : ℕ) : Type 0 where
   words_are : words ≡ s.extents.size o
   taken : s.colour o ≡ Taken a
 
-module _ (z : Cycle) (a : ℕ) (s : Shared) (m : scan.Scanning) (found words : ℕ) where
+module _ (l : Layout) (z : Cycle) (a : ℕ) (s : Shared) (m : scan.Scanning) (found words : ℕ) where
   abbrev o : ℕ
   o = scan.object_of m.reference
 
-  ends_at : (p : ScanStage) → scan.is_busy p ≡ true → scan_facts.StageFacts z a s nothing m p → scan.given (scan.goes_at m p found) ≡ Some words → Scans a s o words
+  ends_at : (p : ScanStage) → scan.is_busy p ≡ true → scan_facts.StageFacts z a s nothing m p → scan.given (scan.goes_at l m p found) ≡ Some words → Scans a s o words
   ends_at scan_at.LoadPage busy f is = absurd cc
   ends_at scan_at.LoadBitmap busy f is = record { words_are = bits_give words m found (scan.bit_says_pointer found m.at) is ∙ f.0.slot_is; taken = (f.1.has.is_taken o).0 refl }
   ends_at scan_at.LoadField busy f is = record { words_are = field_gives words m _ (found == 0) is ∙ f.0.slot_is; taken = (f.2.has.is_taken o).0 refl }
   ends_at (scan_at.Shading sh) busy f is = record { words_are = shade_gives words m (shade.goes sh found) (shade.gives sh found) is ∙ f.0.is_at.slot_is; taken = (f.1.hands.has.is_taken o).0 refl }
-  ends_at (scan_at.FindRoom sh r) busy f is = absurd (room_gives words m sh (room.goes r found) (room.gives r found) is)
+  ends_at (scan_at.FindRoom sh r) busy f is = absurd (room_gives words m sh (room.goes l r found) (room.gives l r found) is)
   ends_at (scan_at.Ended x) busy f is = absurd cc
 
 -- The states before and behind the step.
@@ -131,9 +131,9 @@ module _ (steps : EachStepGoesByMoves) (z : Cycle) (a : ℕ) (s t : Shared) (goo
     done_with : (held : Option Held) (words : ℕ) → Facts (worker.done_with w held words) → Hands a t (marks.in_hand held NoClaim)
     done_with held words g = grind arith
 
-    after_scan : (m : scan.Scanning) → scan.is_busy m.stage ≡ true → scan_facts.Facts z a s nothing m → (out : Option ℕ) → scan.gives m found ≡ out → Facts (worker.after_scan w (scan.goes m found) out) → scan_words out + C s ≤ C t
+    after_scan : (m : scan.Scanning) → scan.is_busy m.stage ≡ true → scan_facts.Facts z a s nothing m → (out : Option ℕ) → scan.gives w.layout m found ≡ out → Facts (worker.after_scan w (scan.goes w.layout m found) out) → scan_words out + C s ≤ C t
     after_scan m busy f None is g = none_done
-    after_scan m busy f (Some words) is g = scans_object (scan.object_of m.reference) words f.known (ends_at z a s m found words m.stage busy f.stage_is is) (λ taken. let no : None ≡ Some (scan.object_of m.reference) = ((done_with (scan.held_at (scan.goes m found).held (scan.goes m found).stage) words g).has.is_taken (scan.object_of m.reference)).1 taken in cc)
+    after_scan m busy f (Some words) is g = scans_object (scan.object_of m.reference) words f.known (ends_at w.layout z a s m found words m.stage busy f.stage_is is) (λ taken. let no : None ≡ Some (scan.object_of m.reference) = ((done_with (scan.held_at (scan.goes w.layout m found).held (scan.goes w.layout m found).stage) words g).has.is_taken (scan.object_of m.reference)).1 taken in cc)
 
     after_global : (i : ℕ) (sh : shade.Shading) → Hands a s (marks.in_hand w.held (ClaimOf i)) → (b : Bool) → Facts (cond b (worker.done_with w w.held 1) (worker.at_stage w (at.Shading sh))) → cond b 1 0 + C s ≤ C t
     after_global i sh f true g = claimed_global i ((f.has.is_claimed i).0 refl) (λ is. let no : NoClaim ≡ ClaimOf i = (then.has.is_claimed i).1 is in cc) (λ value is. let no : NoClaim ≡ ReadOf i value = (then.has.is_read i value).1 is in cc) where
@@ -152,8 +152,8 @@ module _ (steps : EachStepGoesByMoves) (z : Cycle) (a : ℕ) (s t : Shared) (goo
     after_shade : (i : ℕ) (sh : shade.Shading) → shade.is_busy sh.stage ≡ true → shade_facts.Facts z a s (marks.in_hand None (marks.claim_at i sh.reference sh.stage)) sh → (out : Option Shaded) → shade.gives sh found ≡ out → Facts (worker.after_shade w (shade.goes sh found) out) → shading_word out + C s ≤ C t
     after_shade i sh busy f out is g = grind (arith, done_with, none_done, shade_ends)
 
-    done_at : (p : WorkerStage) → HasStep p → marks.StageFacts z a s w.held p → Facts (worker.goes_at w p found) → words_done p found + C s ≤ C t
+    done_at : (p : WorkerStage) → HasStep p → marks.StageFacts z a s w.held p → Facts (worker.goes_at w p found) → words_done w.layout p found + C s ≤ C t
     done_at p busy f g = grind (arith, after_global, after_scan, after_shade, none_done)
 
-    pub works : HasStep w.stage → marks.Facts z a s w → marks.Facts z a t (worker.goes w found) → words_done w.stage found + C s ≤ C t
+    pub works : HasStep w.stage → marks.Facts z a s w → marks.Facts z a t (worker.goes w found) → words_done w.layout w.stage found + C s ≤ C t
     works busy f g = grind (arith, done_at)

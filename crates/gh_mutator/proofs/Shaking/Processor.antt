@@ -117,18 +117,18 @@ module _ (q : ProcessorIsQuiet) (k : MarkingIsQuiet) (h : PollsInHandshake) (v :
 
   module _ (shapes : List Shape) where
     new_goes : (found : ℕ) (m : Processor) (w : Wanted) (s : NewStage) → HasPlaces m.poll.local.cache → SoundAt m.poll (task.New (record { wanted = w; stage = s })) → Goes found m (task.New (record { wanted = w; stage = s })) (takes_at shapes m (task.New (record { wanted = w; stage = s })) found)
-    new_goes found m w (Search waited s) has sound = awake found m _ _ refl refl (q.searches s) (search_lands shapes m w waited (search.goes s found) (search.goes s found).find.cached (search.gives s found) has)
+    new_goes found m w (Search waited s) has sound = awake found m _ _ refl refl (q.searches m.poll.layout s) (search_lands shapes m w waited (search.goes m.poll.layout s found) (search.goes m.poll.layout s found).find.cached (search.gives m.poll.layout s found) has)
     new_goes found m w (Wait x) has sound = wait_goes found m w x sound.0 sound.1 (wait.gives (wait.waiting x m.poll) found) refl
     new_goes found m w (Want n) has sound = awake found m _ _ refl refl tt (lands m _ has refl idle_plain)
-    new_goes found m w (Assist n x) has sound = awake found m _ _ refl refl (q.assists x) (assist_lands m w n (assist.goes x found) (assist.gives x found) has)
-    new_goes found m w (Place p) has sound = awake found m _ _ refl refl (q.makes p) (place_lands m w (place.makes_its_object p) p.at (place.goes p found) has)
+    new_goes found m w (Assist n x) has sound = awake found m _ _ refl refl (q.assists m.poll.layout x) (assist_lands m w n (assist.goes m.poll.layout x found) (assist.gives m.poll.layout x found) has)
+    new_goes found m w (Place p) has sound = awake found m _ _ refl refl (q.makes m.poll.layout p) (place_lands m w (place.makes_its_object p) p.at (place.goes p found) has)
 
     goes_at : (found : ℕ) (m : Processor) (t : Task) → HasPlaces m.poll.local.cache → SoundAt m.poll t → is_busy_at t ≡ true → Goes found m t (takes_at shapes m t found)
     goes_at found m task.Idle has s busy = absurd cc
     goes_at found m task.Left has s busy = absurd cc
     goes_at found m (task.Load x) has s busy = awake found m _ _ refl refl (q.loads m.poll.layout x) (applied_lands task.Load m m x.g x.d (load.step m.poll.layout x found) has refl load_plain)
-    goes_at found m (task.Store x) has s busy = awake found m _ _ refl refl (q.stores m.poll.layout (register_of m x.g x.v) x) (applied_lands task.Store m (keeping m (store.held_behind m.poll.local.held x.stage found)) x.g x.v (store.step m.poll.layout m.poll.local (register_of m x.g x.v) x found) has refl store_plain)
-    goes_at found m (task.Global x) has s busy = awake found m _ _ refl refl (q.globals m.poll.layout (register_of m x.g x.r) x) (applied_lands task.Global m (keeping m (global.held_behind m.poll.local.held x.stage found)) x.g x.r (global.step m.poll.layout (register_of m x.g x.r) x found) has refl global_plain)
+    goes_at found m (task.Store x) has s busy = awake found m _ _ refl refl (q.stores m.poll.layout (register_of m x.g x.v) x) (applied_lands task.Store m (keeping m (store.held_behind m.poll.layout m.poll.local.held x.stage found)) x.g x.v (store.step m.poll.layout m.poll.local (register_of m x.g x.v) x found) has refl store_plain)
+    goes_at found m (task.Global x) has s busy = awake found m _ _ refl refl (q.globals m.poll.layout (register_of m x.g x.r) x) (applied_lands task.Global m (keeping m (global.held_behind m.poll.layout m.poll.local.held x.stage found)) x.g x.r (global.step m.poll.layout (register_of m x.g x.r) x found) has refl global_plain)
     goes_at found m (task.Register x) has s busy = awake found m _ _ refl refl (q.registers x) (applied_lands task.Register m m x.g x.d (register.step (register_of m x.g (register.read_of x)) x) has refl register_plain)
     goes_at found m (task.New x) has s busy = new_goes found m x.wanted x.stage has s
     goes_at found m (task.Gc g x) has s busy = gc_goes found m g x s.0 s.1 (wait.gives (wait.waiting x m.poll) found) refl

@@ -42,16 +42,16 @@ module _ (k : Known) (z : Cycle) (a : ℕ) (h : Heap) (s : Marking) (m : Process
     abbrev held : Value
     held = register_of m g v
 
-    stores_facts : (marking : Bool) → is_mark m.poll.local.view.phase ≡ marking → GlobalFacts z a s m.poll (cond marking (global_stage.Writing (written m.poll.layout m.poll.local (pointer_cell.Global i) held)) global_stage.Store)
-    stores_facts true on = write_begins k z a h s t.shapes t.heap t.marking t.beside m.poll (pointer_cell.Global i) held t.facts.layout_is tt
+    stores_facts : (marking : Bool) → is_mark m.poll.local.view.phase ≡ marking → GlobalFacts z a s m.poll (cond marking (global_stage.Writing (written m.poll.local (pointer_cell.Global i) held)) global_stage.Store)
+    stores_facts true on = write_begins k z a h s t.shapes t.heap t.marking t.beside m.poll (pointer_cell.Global i) held tt
         (known_pointer k z a h s t.shapes t.heap t.marking t.beside (h.ever.register g v) held (register_reached h.ever g v runs.goes_on (h.ever.register g v) refl) ((stands_always z.arena a (view h) m None t.fine).registers g v runs.of low))
         (room_for_two m.poll room (mark_is m.poll.local.view.phase on)) b
     stores_facts false off = (b, not_mark m.poll.local.view.phase off)
 
-    global_facts : (y : Value) → held ≡ y → GlobalFacts z a s m.poll (global.begins_store m.poll.layout m.poll.local g i v y).stage
+    global_facts : (y : Value) → held ≡ y → GlobalFacts z a s m.poll (global.begins_store m.poll.local g i v y).stage
     global_facts (value.Int n) e = b
-    global_facts value.Nil e = subst (λ (y : Value). GlobalFacts z a s m.poll (global.stores m.poll.layout m.poll.local i y)) e (stores_facts (is_mark m.poll.local.view.phase) refl)
-    global_facts (value.Ref r) e = subst (λ (y : Value). GlobalFacts z a s m.poll (global.stores m.poll.layout m.poll.local i y)) e (stores_facts (is_mark m.poll.local.view.phase) refl)
+    global_facts value.Nil e = subst (λ (y : Value). GlobalFacts z a s m.poll (global.stores m.poll.local i y)) e (stores_facts (is_mark m.poll.local.view.phase) refl)
+    global_facts (value.Ref r) e = subst (λ (y : Value). GlobalFacts z a s m.poll (global.stores m.poll.local i y)) e (stores_facts (is_mark m.poll.local.view.phase) refl)
 
   abbrev Begun : Op → Type 0
   Begun o = MarkFacts z a s (begins z.arena.shapes m o)

@@ -1,5 +1,5 @@
 -- Steps of the making of an object beside marking: its slot is cleared and laid out, then it is marked, and then it is made.
-use Rattle.std.proofs.Common.{◌≡◌, ℕ, ◌+◌, ◌*◌, ◌%◌, ◌^◌, ◌<◌, Bool, true, false, cond, eqb, ltb, nat_le, Option, Some, None, refl, sym, ap, subst, ◌∙◌, arith}
+use Rattle.std.proofs.Common.{◌≡◌, ℕ, ◌+◌, ◌*◌, ◌%◌, ◌^◌, ◌<◌, Bool, true, false, cond, eqb, ltb, nat_le, is_none, Option, Some, None, refl, sym, ap, subst, ◌∙◌, arith}
 use Rattle.std.proofs.lemmas.Bool.{eqb-true}
 use Rattle.gh_base.specs.declared.cell.Cell.TheVariants as cell
 use Rattle.gh_base.specs.declared.pack.SpanHead.{SpanHead}
@@ -29,14 +29,14 @@ use Rattle.gh_mutator.specs.MarkVocabulary.{Cycle, Hands, Keeps}
 use Rattle.gh_mutator.specs.New.{made_object, made_task, makes, wants}
 use Rattle.gh_mutator.specs.Processor.{at_task}
 use Rattle.gh_mutator.specs.ProcessorMarks.{reserved_at, TaskFacts}
-use Rattle.gh_mutator.specs.Vocabulary.{Answer, Name, PlaceStage}
+use Rattle.gh_mutator.specs.Vocabulary.{Answer, Layout, Name, PlaceStage}
 use Rattle.gh_mutator_heap.specs.Vocabulary.{view, Processor, Wanted}
 use Rattle.gh_mutator_heap.proofs.Going.Known.{by_deed, by_keeping, fills_none, heap_then, Known, processor_then, StepAt, StepOf}
 use Rattle.gh_mutator_heap.proofs.Owning.SearchSteps.{sized}
 
 -- its routines write no word that marking reads
-bits_quiet : (s : Marking) (b : bits.PointerSetting) (q : SetStage) → marks.IsQuietInMarking s (bits.asks_at b q)
-bits_quiet s b q = grind arith
+bits_quiet : (s : Marking) (l : Layout) (b : bits.PointerSetting) (q : SetStage) → marks.IsQuietInMarking s (bits.asks_at l b q)
+bits_quiet s l b q = grind arith
 
 give_quiet : (s : Marking) (g : give.SpanGiving) (q : GiveStage) → marks.IsQuietInMarking s (give.asks_at g q)
 give_quiet s g q = grind arith
@@ -133,10 +133,10 @@ place_at k w p (making.Clear i) z a h s m pending t kn l = by_deed k z a h s (at
       by u true b = goes_facts z a u m w p (making.Clear (i + 1)) t.facts.task_is.marking refl refl b
       by u false b = goes_facts z a u m w p making.Birth t.facts.task_is.marking refl refl b
 place_at k w p making.Birth z a h s m pending t kn l = by_deed k z a h s (at w p making.Birth m) pending t l Rests tt refl (tt, fills k w p z a h s m pending making.Birth t refl)
-    (λ u hands stacks. goes_facts z a u m w p (making.Bits (bits.opening p.layout p.shape p.at p.slot)) t.facts.task_is.marking refl refl (record { stacks = stacks; number = t.facts.task_is.number; hands = hands (holding_only m.poll.local.held) (between k w p z a h s m pending making.Birth t refl) }))
-place_at k w p (making.Bits b) z a h s m pending t kn l = by_deed k z a h s (at w p (making.Bits b) m) pending t l Rests tt refl (bits_quiet s b b.stage, fills k w p z a h s m pending (making.Bits b) t refl)
-    (λ u hands stacks. by u (bits.is_busy (bits.goes b 0).stage) p.marking t.facts.task_is.marking refl (record { stacks = stacks; number = t.facts.task_is.number; hands = hands (holding_only m.poll.local.held) (between k w p z a h s m pending (making.Bits b) t refl) })) where
-      by : (u : Marking) (busy marking : Bool) → marking ≡ true → bits.is_busy (bits.goes b 0).stage ≡ busy → IsBetween z a u m.poll.local → TaskFacts z a u m.poll (made_task m.poll w (place.at_stage p (cond busy (making.Bits (bits.goes b 0)) (place.filled marking))) (place.given_at (cond busy (making.Bits (bits.goes b 0)) (place.filled marking))))
+    (λ u hands stacks. goes_facts z a u m w p (making.Bits (bits.opening p.shape p.at p.slot)) t.facts.task_is.marking refl refl (record { stacks = stacks; number = t.facts.task_is.number; hands = hands (holding_only m.poll.local.held) (between k w p z a h s m pending making.Birth t refl) }))
+place_at k w p (making.Bits b) z a h s m pending t kn l = by_deed k z a h s (at w p (making.Bits b) m) pending t l Rests tt refl (bits_quiet s m.poll.layout b b.stage, fills k w p z a h s m pending (making.Bits b) t refl)
+    (λ u hands stacks. by u (is_none (bits.given (bits.goes b 0))) p.marking t.facts.task_is.marking refl (record { stacks = stacks; number = t.facts.task_is.number; hands = hands (holding_only m.poll.local.held) (between k w p z a h s m pending (making.Bits b) t refl) })) where
+      by : (u : Marking) (busy marking : Bool) → marking ≡ true → is_none (bits.given (bits.goes b 0)) ≡ busy → IsBetween z a u m.poll.local → TaskFacts z a u m.poll (made_task m.poll w (place.at_stage p (cond busy (making.Bits (bits.goes b 0)) (place.filled marking))) (place.given_at (cond busy (making.Bits (bits.goes b 0)) (place.filled marking))))
       by u true marking on busy x = goes_facts z a u m w p (making.Bits (bits.goes b 0)) t.facts.task_is.marking refl refl x
       by u false true on busy x = goes_facts z a u m w p making.Mark t.facts.task_is.marking refl refl x
       by u false false on busy x = absurd (cc)

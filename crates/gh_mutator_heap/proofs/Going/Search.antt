@@ -1,6 +1,5 @@
 -- Steps of the search for a slot beside marking: they are on the lock and on page words, or load. A slot that is found is to be marked before its object is made.
 use Rattle.std.proofs.Common.{◌≡◌, ℕ, Bool, true, false, Option, Some, None, refl, sym, ap, subst, ◌∙◌, arith}
-use Rattle.gh_base.specs.declared.cell.Ask.{Ask}
 use Rattle.gh_base.specs.declared.operation.Op.TheVariants as op
 use Rattle.gh_alloc.specs.Search as search
 use Rattle.gh_cycle.specs.Beside.{FillsNone}
@@ -19,15 +18,13 @@ use Rattle.gh_mutator.specs.MarkVocabulary.{Cycle, Hands}
 use Rattle.gh_mutator.specs.New.{after_search, refuses_behind_wait, searches}
 use Rattle.gh_mutator.specs.Processor.{at_task, cache_span}
 use Rattle.gh_mutator.specs.ProcessorMarks.{TaskFacts}
-use Rattle.gh_mutator.specs.Vocabulary.{Answer, At, Found, NoRoom, Op, Seeking, cell_of}
+use Rattle.gh_mutator.specs.Vocabulary.{Answer, At, Found, Layout, NoRoom, Op, Seeking, cell_of}
 use Rattle.gh_mutator_heap.specs.Vocabulary.{Processor, Wanted}
 use Rattle.gh_mutator_heap.proofs.Going.Known.{by_deed, fills_none, found_there, heap_then, Known, processor_then, StepAt, StepOf}
-use Rattle.gh_mutator_heap.proofs.Vocabulary.{WritesOf}
-use Rattle.gh_mutator_writes.specs.SearchRows.{seeking_writes}
 
--- a step that writes no word which marking reads
-pub quiet_by : (s : Marking) (step : Ask) → WritesOf (IsAside s) step → IsQuietInMarking s step
-quiet_by s step w = grind arith
+-- where it sweeps no span it writes no word which marking reads
+quiet_at : (s : Marking) (l : Layout) (y : Seeking) → search.sweep_in y ≡ None → IsQuietInMarking s (search.asks l y)
+quiet_at s l y none = grind arith
 
 module _ (k : Known) (v : Wanted) (waited : Bool) (y : Seeking) (z : Cycle) (a : ℕ) (h : Heap) (s : Marking) (m : Processor) (pending : Option Answer) where
   abbrev here : Processor
@@ -45,44 +42,44 @@ module _ (k : Known) (v : Wanted) (waited : Bool) (y : Seeking) (z : Cycle) (a :
 
     -- the processor with what is cached, and behind the search, by what that has found
     abbrev cached : Processor
-    cached = cache_span here v.sought (search.goes y n).find.cached
+    cached = cache_span here v.sought (search.goes m.poll.layout y n).find.cached
 
     abbrev then : Option Found → Processor
-    then o = after_search z.arena.shapes cached v waited (search.goes y n) o
+    then o = after_search z.arena.shapes cached v waited (search.goes m.poll.layout y n) o
 
     abbrev Knows : Option Found → Type 0
     Knows o = (u : Marking) → Hands a u (holding_only m.poll.local.held) → KnowsStacks z a u (then o).poll.local.stacks (then o).poll.local.scanned → TaskFacts z a u (then o).poll (then o).task
 
-    quiet : IsQuietInMarking s (search.asks y)
-    quiet = quiet_by s (search.asks y) (seeking_writes (IsAside s) (record { lock = tt; page = λ i. tt }) y (λ sw e. absurd (let none = t.sweeps in cc)))
+    quiet : IsQuietInMarking s (search.asks m.poll.layout y)
+    quiet = quiet_at s m.poll.layout y t.sweeps
 
     fills : FillsNone a s
     fills = fills_none a s (holding_only m.poll.local.held) refl t.facts.task_is.hands
 
-    knows_at : (o : Option Found) → search.gives y n ≡ o → Knows o → Knows (search.gives y n)
+    knows_at : (o : Option Found) → search.gives m.poll.layout y n ≡ o → Knows o → Knows (search.gives m.poll.layout y n)
     knows_at o e f = subst Knows (sym e) f
 
-    rests : (o : Option Found) → search.gives y n ≡ o → refuses_behind_wait waited o ≡ false → Knows o → Goes
+    rests : (o : Option Found) → search.gives m.poll.layout y n ≡ o → refuses_behind_wait waited o ≡ false → Knows o → Goes
     rests o e none f = by_deed k z a h s here pending t l Rests tt
         (ap (λ (x : Option Found). acted z.arena.shapes h.ever (acting (refuses_behind_wait waited x) op_now true)) e ∙ ap (λ (b : Bool). acted z.arena.shapes h.ever (acting b op_now true)) none)
         (quiet, fills) (λ u hands stacks. knows_at o e f u (hands (holding_only m.poll.local.held) t.facts.task_is.hands) stacks)
 
-    refused : search.gives y n ≡ Some NoRoom → waited ≡ true → Goes
+    refused : search.gives m.poll.layout y n ≡ Some NoRoom → waited ≡ true → Goes
     refused e last = by_deed k z a h s here pending t l (Sets v.g v.d ever.Nil) tt
         (ap (λ (x : Option Found). acted z.arena.shapes h.ever (acting (refuses_behind_wait waited x) op_now true)) e ∙ ap (λ (b : Bool). acted z.arena.shapes h.ever (acting (refuses_behind_wait b (Some NoRoom)) op_now true)) last)
         (quiet, fills, t.fine.task.wants.runs, t.fine.task.wants.register, from_nil)
         (λ u hands stacks. knows_at (Some NoRoom) e (nil waited last) u (hands (holding_only m.poll.local.held) t.facts.task_is.hands) stacks) where
-          nil : (b : Bool) → b ≡ true → (u : Marking) → Hands a u (holding_only m.poll.local.held) → KnowsStacks z a u (after_search z.arena.shapes cached v b (search.goes y n) (Some NoRoom)).poll.local.stacks (after_search z.arena.shapes cached v b (search.goes y n) (Some NoRoom)).poll.local.scanned →
-              TaskFacts z a u (after_search z.arena.shapes cached v b (search.goes y n) (Some NoRoom)).poll (after_search z.arena.shapes cached v b (search.goes y n) (Some NoRoom)).task
+          nil : (b : Bool) → b ≡ true → (u : Marking) → Hands a u (holding_only m.poll.local.held) → KnowsStacks z a u (after_search z.arena.shapes cached v b (search.goes m.poll.layout y n) (Some NoRoom)).poll.local.stacks (after_search z.arena.shapes cached v b (search.goes m.poll.layout y n) (Some NoRoom)).poll.local.scanned →
+              TaskFacts z a u (after_search z.arena.shapes cached v b (search.goes m.poll.layout y n) (Some NoRoom)).poll (after_search z.arena.shapes cached v b (search.goes m.poll.layout y n) (Some NoRoom)).task
           nil b e u hands stacks = grind arith
 
     -- no cycle was waited for yet
-    waits : (b : Bool) → b ≡ false → (u : Marking) → Hands a u (holding_only m.poll.local.held) → KnowsStacks z a u (after_search z.arena.shapes cached v b (search.goes y n) (Some NoRoom)).poll.local.stacks (after_search z.arena.shapes cached v b (search.goes y n) (Some NoRoom)).poll.local.scanned →
-        TaskFacts z a u (after_search z.arena.shapes cached v b (search.goes y n) (Some NoRoom)).poll (after_search z.arena.shapes cached v b (search.goes y n) (Some NoRoom)).task
+    waits : (b : Bool) → b ≡ false → (u : Marking) → Hands a u (holding_only m.poll.local.held) → KnowsStacks z a u (after_search z.arena.shapes cached v b (search.goes m.poll.layout y n) (Some NoRoom)).poll.local.stacks (after_search z.arena.shapes cached v b (search.goes m.poll.layout y n) (Some NoRoom)).poll.local.scanned →
+        TaskFacts z a u (after_search z.arena.shapes cached v b (search.goes m.poll.layout y n) (Some NoRoom)).poll (after_search z.arena.shapes cached v b (search.goes m.poll.layout y n) (Some NoRoom)).task
     waits false e u hands stacks = record { layout_is = t.facts.layout_is; seat_is = t.facts.seat_is; between = record { stacks = stacks; number = t.facts.task_is.number; hands = hands } }
     waits true e u hands stacks = absurd (cc)
 
-    no_room : search.gives y n ≡ Some NoRoom → (b : Bool) → waited ≡ b → Goes
+    no_room : search.gives m.poll.layout y n ≡ Some NoRoom → (b : Bool) → waited ≡ b → Goes
     no_room e true last = refused e last
     no_room e false first = rests (Some NoRoom) e (ap (λ (b : Bool). refuses_behind_wait b (Some NoRoom)) first) (waits waited first)
 
@@ -94,10 +91,10 @@ module _ (k : Known) (v : Wanted) (waited : Bool) (y : Seeking) (z : Cycle) (a :
     refuses_none true = refl
     refuses_none false = refl
 
-    by : (o : Option Found) → search.gives y n ≡ o → Goes
+    by : (o : Option Found) → search.gives m.poll.layout y n ≡ o → Goes
     by None e = rests None e (refuses_none waited) (λ u hands stacks. record { stacks = stacks; number = t.facts.task_is.number; hands = hands })
     by (Some (At at)) e = rests (Some (At at)) e (refuses_at waited at) (λ u hands stacks. record { marking = ap is_mark on; stacks = stacks; number = t.facts.task_is.number; hands = hands })
     by (Some NoRoom) e = no_room e waited refl
 
 pub search_step : Known → (v : Wanted) (waited : Bool) (y : Seeking) → StepAt (searches v waited y)
-search_step k v waited y z a h s m pending t kn l = by k v waited y z a h s m pending t l (kn refl) (search.gives y (h.words (cell_of (search.asks y)))) refl
+search_step k v waited y z a h s m pending t kn l = by k v waited y z a h s m pending t l (kn refl) (search.gives m.poll.layout y (h.words (cell_of (search.asks m.poll.layout y)))) refl

@@ -8,7 +8,7 @@ use Rattle.gh_base.specs.declared.value.Answer.TheVariants as answer
 use Rattle.gh_base.specs.declared.value.Fault.TheVariants as fault
 use Rattle.gh_base.specs.Cells.{Words}
 use Rattle.gh_base.specs.Rows.{mark_words}
-use Rattle.gh_barrier.specs.Stays as write_on
+use Rattle.gh_barrier.specs.Giving as write_on
 use Rattle.gh_barrier.specs.declared.pointer_cell.PointerCell.{PointerCell}
 use Rattle.gh_barrier.specs.declared.write_pointer.WriteStage.{WriteStage}
 use Rattle.gh_barrier.specs.declared.write_pointer.WriteStage.TheVariants as write_stage
@@ -108,12 +108,12 @@ module _ (k : Known) (x : Store) (z : Cycle) (a : ℕ) (h : Heap) (s : Marking) 
     kinds : (p b : Bool) → Quits (cond b (ends (answer.Fault fault.Kind)) (goes_on (at_stage x (stores m.poll.layout m.poll.local held x p))))
     kinds p b = grind arith
 
-    begun : points z.arena.shapes h.ever.type_of f.n x.k ≡ true → Behind (goes_on (at_stage x (stage.Writing (written m.poll.layout m.poll.local there held))))
+    begun : points z.arena.shapes h.ever.type_of f.n x.k ≡ true → Behind (goes_on (at_stage x (stage.Writing (written m.poll.local there held))))
     begun kind = record {
       layout_is = t.facts.layout_is;
       seat_is = t.facts.seat_is;
       stacks = t.facts.stacks;
-      task_is = write_begins k z a h s t.shapes t.heap t.marking t.beside m.poll there held t.facts.layout_is
+      task_is = write_begins k z a h s t.shapes t.heap t.marking t.beside m.poll there held
           (record { o = h.place f.n; k = x.k; at_is = word_there k z a h s t.shapes t.heap t.marking t.beside f.n f.through.made reach x.k t.fine.task.1 m.poll.layout x.at t.facts.layout_is f.through.here; known = t.beside.reached f.n reach; pointer = is_pointer_there z h s t.shapes t.heap t.beside f.n x.k f.through.made reach t.fine.task.1 kind })
           (known_pointer k z a h s t.shapes t.heap t.marking t.beside (h.ever.register x.g x.v) held (register_reached h.ever x.g x.v f.through.runs.goes_on (h.ever.register x.g x.v) refl) (t.fine.knows.stands.registers x.g x.v f.through.runs.of f.register))
           (room_for_two m.poll t.facts.task_is.1 on) t.facts.task_is.0;
@@ -201,14 +201,14 @@ module _ (k : Known) (x : Store) (w : PointerWrite) (z : Cycle) (a : ℕ) (h : H
 
   -- the processor behind the step, by whether that ends the write
   abbrev then : Option (Unit {0}) → Processor
-  then o = applied task.Store (keeping me (held_then w n)) x.g x.v (after_write x (write.goes w n) o)
+  then o = applied task.Store (keeping me (held_then m.poll.layout w n)) x.g x.v (after_write x (write.goes m.poll.layout w n) o)
 
-  written_then : (u : Marking) → Keeps z a s u → Facts z a u nothing (write.goes w n) → MarkFacts z a u (then None)
+  written_then : (u : Marking) → Keeps z a s u → Facts z a u nothing (write.goes m.poll.layout w n) → MarkFacts z a u (then None)
   written_then u kept f = let stacks = stacks_last z a s u m.poll.local.stacks m.poll.local.scanned kept t.facts.stacks in record { layout_is = t.facts.layout_is; seat_is = t.facts.seat_is; stacks = stacks; task_is = record { stacks = stacks; number = t.facts.task_is.number; writes = f } }
 
-  goes_before : write.gives w n ≡ None → StepsOn z a (heap_then k z a h s me pending t l) s (processor_then k z a h s me pending t l)
+  goes_before : write.gives m.poll.layout w n ≡ None → StepsOn z a (heap_then k z a h s me pending t l) s (processor_then k z a h s me pending t l)
   goes_before on = write_goes k z a h s me pending t l w refl t.facts.task_is.writes
-      (ap (λ (o : Option (Unit {0})). acted z.arena.shapes h.ever (acting (after_write x (write.goes w n) o).acts (op_of x) false)) on)
+      (ap (λ (o : Option (Unit {0})). acted z.arena.shapes h.ever (acting (after_write x (write.goes m.poll.layout w n) o).acts (op_of x) false)) on)
       (λ u kept f. subst (λ (o : Option (Unit {0})). MarkFacts z a u (then o)) (sym on) (written_then u kept f))
 
 -- Its last step: what stood there and what is written are shaded.
@@ -246,9 +246,9 @@ module _ (k : Known) (x : Store) (w : PointerWrite) (z : Cycle) (a : ℕ) (h : H
 
 write_at : Known → (x : Store) (w : PointerWrite) (q : WriteStage) → StepAt (task.Store (at_stage x (stage.Writing (write.at_stage w q))))
 write_at k x w write_stage.Store z a h s m pending t kn l = puts k x w z a h s m pending t l
-write_at k x w write_stage.LoadOld z a h s m pending t kn l = goes_before k x (write.at_stage w write_stage.LoadOld) z a h s m pending t l (write_on.load_gives_none (write.at_stage w write_stage.LoadOld) (n k x (write.at_stage w write_stage.LoadOld) z a h s m pending t l))
-write_at k x w (write_stage.ShadeOld sh) z a h s m pending t kn l = goes_before k x (write.at_stage w (write_stage.ShadeOld sh)) z a h s m pending t l (write_on.old_gives_none (write.at_stage w (write_stage.ShadeOld sh)) sh (n k x (write.at_stage w (write_stage.ShadeOld sh)) z a h s m pending t l))
-write_at k x w (write_stage.ShadeNew sh) z a h s m pending t kn l = goes_before k x (write.at_stage w (write_stage.ShadeNew sh)) z a h s m pending t l (write_on.new_gives_none (write.at_stage w (write_stage.ShadeNew sh)) sh (n k x (write.at_stage w (write_stage.ShadeNew sh)) z a h s m pending t l))
+write_at k x w write_stage.LoadOld z a h s m pending t kn l = goes_before k x (write.at_stage w write_stage.LoadOld) z a h s m pending t l (write_on.load_gives_none m.poll.layout (write.at_stage w write_stage.LoadOld) (n k x (write.at_stage w write_stage.LoadOld) z a h s m pending t l))
+write_at k x w (write_stage.ShadeOld sh) z a h s m pending t kn l = goes_before k x (write.at_stage w (write_stage.ShadeOld sh)) z a h s m pending t l (write_on.old_gives_none m.poll.layout (write.at_stage w (write_stage.ShadeOld sh)) sh (n k x (write.at_stage w (write_stage.ShadeOld sh)) z a h s m pending t l))
+write_at k x w (write_stage.ShadeNew sh) z a h s m pending t kn l = goes_before k x (write.at_stage w (write_stage.ShadeNew sh)) z a h s m pending t l (write_on.new_gives_none m.poll.layout (write.at_stage w (write_stage.ShadeNew sh)) sh (n k x (write.at_stage w (write_stage.ShadeNew sh)) z a h s m pending t l))
 write_at k x w write_stage.Ended z a h s m pending t kn l = absurd (let busy = t.fine.task.3.busy in cc)
 
 store_at : Known → (x : Store) (q : StoreStage) → StepAt (task.Store (at_stage x q))

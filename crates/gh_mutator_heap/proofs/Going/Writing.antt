@@ -64,23 +64,24 @@ module _ (k : Known) (z : Cycle) (a : ℕ) (h : Heap) (s : Marking) (shapes : Sh
   pub known_pointer : (v : EverValue) (y : Value) → IsReached h.ever v → Means h.place h.ever.made v y → IsKnownPointer s (pointer_of y)
   known_pointer v y reached means = grind arith
 
-  pub write_begins : (p : Polling) (at : PointerCell) (y : Value) → p.layout ≡ z.arena.layout → IsCell s at → IsKnownPointer s (pointer_of y) → HasTwo p.local.held → IsBetween z a s p.local → IsWriting z a s p.local (written p.layout p.local at y)
-  write_begins p at y layout_is there known two b = record {
+  pub write_begins : (p : Polling) (at : PointerCell) (y : Value) → IsCell s at → IsKnownPointer s (pointer_of y) → HasTwo p.local.held → IsBetween z a s p.local → IsWriting z a s p.local (written p.local at y)
+  write_begins p at y there known two b = record {
     stacks = b.stacks;
     number = b.number;
-    writes = subst (λ (l : Layout). Facts z a s nothing (written l p.local at y)) (sym layout_is) (k.writes.begins z a s nothing at (pointer_of y) p.local.held there known two b.hands);
+    writes = k.writes.begins z a s nothing at (pointer_of y) p.local.held there known two b.hands;
   }
 
   -- a step of the write is made of moves of marking, which change no stack
-  pub write_lands : (w : Writing) → Facts z a s nothing w → Steps z a s (write.asks w) (λ u. Keeps z a s u × Facts z a u nothing (write.goes w (h.words (cell_of (write.asks w)))))
-  write_lands w f = subst (λ (n : ℕ). Steps z a s (write.asks w) (λ u. Keeps z a s u × Facts z a u nothing (write.goes w n))) (ap (λ (v : Words). v (cell_of (write.asks w))) beside.words) (k.writes.keeps.own_step z a s nothing w well objects f)
+  pub write_lands : (l : Layout) (w : Writing) → l ≡ z.arena.layout → Facts z a s nothing w → Steps z a s (write.asks w) (λ u. Keeps z a s u × Facts z a u nothing (write.goes l w (h.words (cell_of (write.asks w)))))
+  write_lands l w here f = subst (λ (l : Layout). Steps z a s (write.asks w) (λ u. Keeps z a s u × Facts z a u nothing (write.goes l w (h.words (cell_of (write.asks w)))))) (sym here)
+      (subst (λ (n : ℕ). Steps z a s (write.asks w) (λ u. Keeps z a s u × Facts z a u nothing (write.goes z.arena.layout w n))) (ap (λ (v : Words). v (cell_of (write.asks w))) beside.words) (k.writes.keeps.own_step z a s nothing w well objects f))
 
 -- A step of a write, of a processor that asks for it.
 module _ (k : Known) (z : Cycle) (a : ℕ) (h : Heap) (s : Marking) (m : Processor) (pending : Option Answer) (t : Together z a h s m pending) (l : StepOf z a h m pending) (w : Writing) (asks_is : asks m ≡ write.asks w) (f : Facts z a s nothing w) where
-  land : Steps z a s (write.asks w) (λ u. Keeps z a s u × Facts z a u nothing (write.goes w (h.words (cell_of (write.asks w)))))
-  land = write_lands k z a h s t.shapes t.heap t.marking t.beside w f
+  land : Steps z a s (write.asks w) (λ u. Keeps z a s u × Facts z a u nothing (write.goes m.poll.layout w (h.words (cell_of (write.asks w)))))
+  land = write_lands k z a h s t.shapes t.heap t.marking t.beside m.poll.layout w t.facts.layout_is f
 
-  pub write_goes : acted z.arena.shapes h.ever (acts m (found_there k z a h s m pending t l)) ≡ h.ever → ((u : Marking) → Keeps z a s u → Facts z a u nothing (write.goes w (h.words (cell_of (write.asks w)))) → MarkFacts z a u (processor_then k z a h s m pending t l)) →
+  pub write_goes : acted z.arena.shapes h.ever (acts m (found_there k z a h s m pending t l)) ≡ h.ever → ((u : Marking) → Keeps z a s u → Facts z a u nothing (write.goes m.poll.layout w (h.words (cell_of (write.asks w)))) → MarkFacts z a u (processor_then k z a h s m pending t l)) →
       StepsOn z a (heap_then k z a h s m pending t l) s (processor_then k z a h s m pending t l)
   write_goes is facts = by_keeping k z a h s m pending t l is land.then land.went (land.words_are ∙ ap (λ (x : Ask). effect s.words x) (sym asks_is))
-      (λ o e. absurd (write_fills z a land.then (write.goes w (h.words (cell_of (write.asks w)))) land.after.1 o e)) land.after.0 (facts land.then land.after.0 land.after.1)
+      (λ o e. absurd (write_fills z a land.then (write.goes m.poll.layout w (h.words (cell_of (write.asks w)))) land.after.1 o e)) land.after.0 (facts land.then land.after.0 land.after.1)

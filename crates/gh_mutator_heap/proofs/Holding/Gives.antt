@@ -74,7 +74,7 @@ module _ (z : Arena) (a : ℕ) (v : View) (l : Layout) (seat generation : ℕ) (
     locked : false ≡ give_locked_at stage
     same : (p : ℕ) → lists cache p ≡ give_held_at cache stage p
 
-  begun : IsHeld z.layout held → CachesFrom a v cache 0 → (stage : GiveStage) → GivingFacts from (begins l held stage) → Begun (begins l held stage)
+  begun : IsHeld z.layout held → CachesFrom a v cache 0 → (stage : GiveStage) → GivingFacts from (begins held stage) → Begun (begins held stage)
   begun is x stage f = grind arith
 
   pub gives_begin : l ≡ z.layout → seat ≡ a → generation ≡ v.generation → length cache ≡ SPAN_CLASSES → IsHeld z.layout held → CachesAll a v cache → Has a v false (lists cache) → Gives z a v from
@@ -166,7 +166,7 @@ module _ (k : Known) (z : Arena) (a : ℕ) where
           (ap (λ (h : SpanHead). put s.words (cell.Page c.head) (head_word h)) written) (refl, refl)
           (λ kept. (kept, goes_from then (class + 1) kept (omega (arith, x.among)) (λ i y after below at. x.caches i y (omega (arith, after)) below at) left))
 
-    buffer_then : (t : Shared) (own : Option Held) → IsHeld z.layout own → g.held ≡ own → Kept a (view s) (view t) → Has a (view t) false no_page → Gives z a (view t) (record g { cache = none_cached; stage = giving_buffer g.layout own })
+    buffer_then : (t : Shared) (own : Option Held) → IsHeld z.layout own → g.held ≡ own → Kept a (view s) (view t) → Has a (view t) false no_page → Gives z a (view t) (record g { cache = none_cached; stage = giving_buffer own })
     buffer_then t own fits e kept has = grind arith
 
     unlocks : Has a (view s) true no_page → Leads Unlock

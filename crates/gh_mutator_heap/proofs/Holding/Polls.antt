@@ -7,7 +7,7 @@ use Rattle.gh_base.specs.declared.cell.Cell.TheVariants as cell
 use Rattle.gh_phase.specs.declared.resume.ResumeStage.TheVariants as resume_stage
 use Rattle.gh_phase.specs.declared.view.RunPhase.TheVariants as run
 use Rattle.gh_phase.specs.Listing as resume
-use Rattle.gh_phase.specs.Stays.{phase_on}
+use Rattle.gh_phase.specs.Waiting.{phase_on}
 use Rattle.gh_wbuf.specs.RoomFinding as room
 use Rattle.gh_poll.specs.declared.poll.PollStage.TheVariants.{LoadPhase, Giving, Resuming, Marking, FindRoom, Ended}
 use Rattle.gh_poll.specs.Give.{none_cached}
@@ -21,7 +21,7 @@ use Rattle.gh_mutator_heap.proofs.Holding.Known.{HoldsSwept, Kept, Known, by_qui
 use Rattle.gh_mutator_heap.proofs.Holding.Lists.{none_cached_all}
 use Rattle.gh_mutator_heap.proofs.Holding.Ranges.{room_gives, room_goes, room_quiet, room_within}
 use Rattle.gh_mutator_heap.proofs.Holding.Scans.{scan_begins, scan_goes, scan_quiet, scan_within}
-use Rattle.gh_mutator_heap.proofs.Holding.Vocabulary.{Arena, CachesAll, FindsWithin, Good, Has, HasLoaded, Held, InRange, IsBetweenOperations, IsHeld, IsParked, KeepsGhosts, KeepsObjects, KnowsSpans, Layout, Others, PhaseView, PollFacts, PollStage, PollStageFacts, Polling, Polls, PollsByRights, ResumeFacts, ResumeStage, Resumed, RunPhase, ScansWithin, Shared, KnowsAtAnyTime, Steps, View, cell_of, effect, landing, lists, no_page, phase_of, poll_held_at, poll_locked_at, run_phase, seats_of, view}
+use Rattle.gh_mutator_heap.proofs.Holding.Vocabulary.{Arena, CachesAll, Good, Has, HasLoaded, Held, InRange, IsBetweenOperations, IsHeld, IsParked, KeepsGhosts, KeepsObjects, KnowsSpans, Layout, Others, PhaseView, PollFacts, PollStage, PollStageFacts, Polling, Polls, PollsByRights, ResumeFacts, ResumeStage, Resumed, RunPhase, ScansWithin, SoundRoomFinding, Shared, KnowsAtAnyTime, Steps, View, cell_of, effect, landing, lists, no_page, phase_of, poll_held_at, poll_locked_at, run_phase, seats_of, view}
 
 module _ (z : Arena) (a : ℕ) (v : View) where
   -- another stage
@@ -41,7 +41,7 @@ module _ (z : Arena) (a : ℕ) (v : View) where
   ends_now : (p : Polling) → IsBetweenOperations z a v p → Polls z a v (at_stage p Ended)
   ends_now p r = (r.0, record { stands = stands_at p Ended r.1.stands; stage_is = knows_at p Ended r.1.knows })
 
-  finds_now : (p : Polling) (r : room.RoomFinding) → IsBetweenOperations z a v p → FindsWithin z.layout r → Polls z a v (at_stage p (FindRoom r))
+  finds_now : (p : Polling) (r : room.RoomFinding) → IsBetweenOperations z a v p → SoundRoomFinding z.layout r → Polls z a v (at_stage p (FindRoom r))
   finds_now p r rest f = (rest.0, record { stands = stands_at p (FindRoom r) rest.1.stands; stage_is = (knows_at p (FindRoom r) rest.1.knows, f) })
 
   counted_polls : (p : Polling) → IsBetweenOperations z a v p → Polls z a v (counted p)
@@ -95,8 +95,8 @@ module _ (z : Arena) (a : ℕ) (v : View) where
     },
   )
 
-  found_polls : (p : Polling) (r : room.RoomFinding) (found : ℕ) (out : Option Held) → room.gives r found ≡ out → IsBetweenOperations z a v p → FindsWithin z.layout r → Polls z a v (after_room p (room.goes r found) out)
-  found_polls p r found None e rest f = finds_now p (room.goes r found) rest (room_goes z.layout r found f)
+  found_polls : (p : Polling) (r : room.RoomFinding) (found : ℕ) (out : Option Held) → room.gives z.layout r found ≡ out → IsBetweenOperations z a v p → SoundRoomFinding z.layout r → Polls z a v (after_room p (room.goes z.layout r found) out)
+  found_polls p r found None e rest f = finds_now p (room.goes z.layout r found) rest (room_goes z.layout r found f)
   found_polls p r found (Some h) e rest f =
       let to : Polling = record p { local = record (p.local) { held = Some h }; stage = Ended } in (
         rest.0,
@@ -172,11 +172,11 @@ module _ (k : Known) (z : Arena) (a : ℕ) (s : Shared) (good : Good z (view s))
       by_quiet k z a s good (mark.asks m) false (lists p.local.cache) (λ t. KeepsObjects (view s) (view t) × Polls z a (view t) (after_mark p g (mark.goes m n) (mark.gives m n))) (scan_quiet m) has
       (λ t kept r. (kept.objects, marked_polls z a (view t) p g (mark.goes m n) (mark.gives m n) (rests_then t kept r x) (scan_goes z.layout m n f)))
 
-  finds_next : (r : room.RoomFinding) → Has a (view s) false (lists p.local.cache) → KnowsSpans a (view s) p → FindsWithin z.layout r → Leads (FindRoom r)
+  finds_next : (r : room.RoomFinding) → Has a (view s) false (lists p.local.cache) → KnowsSpans a (view s) p → SoundRoomFinding z.layout r → Leads (FindRoom r)
   finds_next r has x f =
       let n : ℕ = s.words (cell_of (room.asks r)) in
-      by_quiet k z a s good (room.asks r) false (lists p.local.cache) (λ t. KeepsObjects (view s) (view t) × Polls z a (view t) (after_room p (room.goes r n) (room.gives r n))) (room_quiet r) has
-      (λ t kept h. (kept.objects, found_polls z a (view t) p r n (room.gives r n) refl (rests_then t kept h x) f))
+      by_quiet k z a s good (room.asks r) false (lists p.local.cache) (λ t. KeepsObjects (view s) (view t) × Polls z a (view t) (after_room p (room.goes p.layout r n) (room.gives p.layout r n))) (room_quiet r) has
+      (λ t kept h. (kept.objects, subst (λ (l : Layout). Polls z a (view t) (after_room p (room.goes l r n) (room.gives l r n))) (sym stands.sits.layout) (found_polls z a (view t) p r n (room.gives z.layout r n) refl (rests_then t kept h x) f)))
 
   polls_at_stage : (q : PollStage) → Has a (view s) (poll_locked_at q) (poll_held_at p.local.cache q) → PollStageFacts z a (view s) p q → Leads q
   polls_at_stage LoadPhase has x = loads_phase has x

@@ -11,10 +11,8 @@ use Rattle.gh_wbuf.specs.declared.find_room.RoomStage.{RoomStage}
 use Rattle.gh_wbuf.specs.declared.find_room.RoomStage.TheVariants as room_stage
 use Rattle.gh_wbuf.specs.declared.try_buffer.Wish.TheVariants.{Room}
 use Rattle.gh_wbuf.specs.RoomFinding as room
-use Rattle.gh_wbuf.specs.Sound.{SoundRoomStage, IsTryOf}
+use Rattle.gh_wbuf.specs.Sound.{IsTryOf, SoundRoomFinding, SoundRoomStage}
 use Rattle.gh_wbuf.specs.Trying as try
-use Rattle.gh_wbuf.specs.TrySound.{SoundTrying}
-use Rattle.gh_mutator_heap.specs.PollWithin.{FindsWithin, TriesWithin}
 
 -- It changes no word that a right guards.
 
@@ -31,22 +29,21 @@ pub record Given (l : Layout) (h : Held) : Type 0 where
 -- The search for a buffer with room.
 
 module _ (l : Layout) where
-  fresh : (seat index : ℕ) → seat < seats_of l → index < buffers_of l → FindsWithin l (record { layout = l; seat = seat; stage = room.try_at l seat index })
-  fresh seat index few below = record { layout_is = refl; fits = record { seat = few; stage = record { layout_is = refl; seat_is = refl; wish_is = refl; busy = refl } }; tries = record { seat = few; index = below; held = tt; stage = tt } }
+  fresh : (seat index : ℕ) → seat < seats_of l → index < buffers_of l → SoundRoomFinding l (record { seat = seat; stage = room.try_at seat index })
+  fresh seat index few below = record { seat = few; stage = record { sound = record { seat = few; index = below; held = tt; stage = tt }; seat_is = refl; wish_is = refl; busy = refl } }
 
-module _ (r : room.RoomFinding) (seat : r.seat < seats_of r.layout) where
-  module _ (t : try.Trying) (of : IsTryOf r.layout r.seat Room t) (fits : SoundTrying t) where
-    tried_then : (found : ℕ) (out : Option (Option Held)) → try.gives t found ≡ out → FindsWithin r.layout (room.after_try (room.at_stage r (room_stage.Try (try.goes t found))) t.index out)
-    tried_then found out e = record { layout_is = grind arith; fits = grind arith; tries = grind arith }
+  module _ (r : room.RoomFinding) (seat : r.seat < seats_of l) where
+    tried_then : (t : try.Trying) → IsTryOf l r.seat Room t → (found : ℕ) (out : Option (Option Held)) → try.gives t found ≡ out → SoundRoomFinding l (room.after_try l (room.at_stage r (room_stage.Try (try.goes t found))) t.index out)
+    tried_then t of found out e = grind arith
 
-  room_goes_at : (q : RoomStage) (found : ℕ) → FindsWithin r.layout r → SoundRoomStage r.layout r.seat q → TriesWithin q → FindsWithin r.layout (room.goes_at r q found)
-  room_goes_at q found now f t = grind (arith, fresh, tried_then)
+    room_goes_at : (q : RoomStage) (found : ℕ) → SoundRoomFinding l r → SoundRoomStage l r.seat q → SoundRoomFinding l (room.goes_at l r q found)
+    room_goes_at q found now f = grind (arith, fresh, tried_then)
 
-pub room_goes : (l : Layout) (r : room.RoomFinding) (found : ℕ) → FindsWithin l r → FindsWithin l (room.goes r found)
+pub room_goes : (l : Layout) (r : room.RoomFinding) (found : ℕ) → SoundRoomFinding l r → SoundRoomFinding l (room.goes l r found)
 room_goes l r found f = grind (arith, room_goes_at)
 
-pub room_gives : (l : Layout) (r : room.RoomFinding) (found : ℕ) (h : Held) → FindsWithin l r → room.gives r found ≡ Some h → Given l h
+pub room_gives : (l : Layout) (r : room.RoomFinding) (found : ℕ) (h : Held) → SoundRoomFinding l r → room.gives l r found ≡ Some h → Given l h
 room_gives l r found h f e = record { fits = grind arith; few = grind arith }
 
-pub room_within : (l : Layout) (r : room.RoomFinding) → FindsWithin l r → InRange l (cell_of (room.asks r))
+pub room_within : (l : Layout) (r : room.RoomFinding) → SoundRoomFinding l r → InRange l (cell_of (room.asks r))
 room_within l r f = grind arith

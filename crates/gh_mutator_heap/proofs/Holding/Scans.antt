@@ -1,5 +1,5 @@
 -- The scan of a stack with the shading changes no word that a right guards, and asks for words that there are.
-use Rattle.std.proofs.Common.{◌≡◌, ℕ, ◌<◌, List, Option, Some, None, refl, sym, subst, arith}
+use Rattle.std.proofs.Common.{◌≡◌, ℕ, ◌<◌, List, Option, Some, None, refl, arith}
 use Rattle.gh_base.specs.declared.held.Held.{Held}
 use Rattle.gh_base.specs.declared.layout.Layout.{Layout}
 use Rattle.gh_base.specs.declared.value.Value.{Value}
@@ -9,11 +9,13 @@ use Rattle.gh_base.specs.Steps.{cell_of}
 use Rattle.gh_heap.specs.Moves.{IsQuiet}
 use Rattle.gh_shade.specs.declared.shade.Shaded.{Shaded}
 use Rattle.gh_shade.specs.Listing as shade
+use Rattle.gh_shade.specs.Sound.{SoundShading}
 use Rattle.gh_wbuf.specs.RoomFinding as room
+use Rattle.gh_wbuf.specs.Sound.{SoundRoomFinding}
 use Rattle.gh_poll.specs.declared.mark_stack.MarkStackStage.{MarkStackStage}
 use Rattle.gh_poll.specs.declared.mark_stack.MarkStackStage.TheVariants.{Shading, FindRoom, Store, Ended}
 use Rattle.gh_poll.specs.MarkStack as mark
-use Rattle.gh_mutator_heap.specs.PollWithin.{FindsWithin, ScansWithin, MarkStackStageWithin, StackShadesWithin}
+use Rattle.gh_mutator_heap.specs.PollWithin.{ScansWithin, MarkStackStageWithin}
 use Rattle.gh_mutator_heap.proofs.Holding.Ranges.{Given, room_gives, room_goes}
 
 -- It changes no word that a right guards.
@@ -23,14 +25,11 @@ scan_quiet m = grind arith
 
 -- Shading.
 
-shade_goes : (l : Layout) (s : shade.Shading) (found : ℕ) → StackShadesWithin l s → StackShadesWithin l (shade.goes s found)
+shade_goes : (l : Layout) (s : shade.Shading) (found : ℕ) → SoundShading l s → SoundShading l (shade.goes s found)
 shade_goes l s found f = grind arith
 
-shade_held : (l : Layout) (s : shade.Shading) → StackShadesWithin l s → IsHeld l s.held
-shade_held l s f = subst (λ (k : Layout). IsHeld k s.held) f.layout_is f.fits.held
-
-told_room : (l : Layout) (s : shade.Shading) (h : Held) → StackShadesWithin l s → Given l h → StackShadesWithin l (shade.told_room s h)
-told_room l s h f g = record { layout_is = f.layout_is; fits = record { reference = f.fits.reference; held = subst (λ (k : Layout). IsHeld k (Some h)) (sym f.layout_is) g.fits; stage = g.few } }
+told_room : (l : Layout) (s : shade.Shading) (h : Held) → SoundShading l s → Given l h → SoundShading l (shade.told_room s h)
+told_room l s h f g = record { reference = f.reference; held = g.fits; stage = g.few }
 
 -- The scan.
 
@@ -44,16 +43,16 @@ module _ (m : mark.StackMarking) (now : ScansWithin m.layout m) where
   scan_at : (q : MarkStackStage) → MarkStackStageWithin m.layout q → ScansWithin m.layout (mark.at_stage m q)
   scan_at q f = record { layout_is = refl; seat = now.seat; goroutine = now.goroutine; held = now.held; stage = f }
 
-  shaded_then : (s : shade.Shading) → StackShadesWithin m.layout s → (out : Option Shaded) → ScansWithin m.layout (mark.after_shade m s out)
-  shaded_then s f out = grind (arith, scan_at, shade_held, wish_within)
+  shaded_then : (s : shade.Shading) → SoundShading m.layout s → (out : Option Shaded) → ScansWithin m.layout (mark.after_shade m s out)
+  shaded_then s f out = grind (arith, scan_at, wish_within)
 
-  found_then : (s : shade.Shading) (r : room.RoomFinding) (found : ℕ) → StackShadesWithin m.layout s → FindsWithin m.layout r → (out : Option Held) → room.gives r found ≡ out → ScansWithin m.layout (mark.after_room m s (room.goes r found) out)
-  found_then s r found f g None e = scan_at (FindRoom s (room.goes r found)) (f, room_goes m.layout r found g)
+  found_then : (s : shade.Shading) (r : room.RoomFinding) (found : ℕ) → SoundShading m.layout s → SoundRoomFinding m.layout r → (out : Option Held) → room.gives m.layout r found ≡ out → ScansWithin m.layout (mark.after_room m s (room.goes m.layout r found) out)
+  found_then s r found f g None e = scan_at (FindRoom s (room.goes m.layout r found)) (f, room_goes m.layout r found g)
   found_then s r found f g (Some h) e = scan_at (Shading (shade.told_room s h)) (told_room m.layout s h f (room_gives m.layout r found h g e))
 
   scan_goes_at : (q : MarkStackStage) (found : ℕ) → MarkStackStageWithin m.layout q → ScansWithin m.layout (mark.goes_at m q found)
   scan_goes_at (Shading s) found f = shaded_then (shade.goes s found) (shade_goes m.layout s found f) (shade.gives s found)
-  scan_goes_at (FindRoom s r) found f = found_then s r found f.0 f.1 (room.gives r found) refl
+  scan_goes_at (FindRoom s r) found f = found_then s r found f.0 f.1 (room.gives m.layout r found) refl
   scan_goes_at Store found f = scan_at Ended tt
   scan_goes_at Ended found f = scan_at Ended tt
 

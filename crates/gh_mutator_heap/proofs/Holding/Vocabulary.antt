@@ -12,7 +12,7 @@ pub use Rattle.gh_heap.specs.Moves.{Disown, IsQuiet, KeepsObjects, Lands, LeaveL
 pub use Rattle.gh_heap.specs.Spans.{FitsClass, number_of_class, owned_by}
 pub use Rattle.gh_mutator_heap.specs.PollHeap.{CachesAll, CachesFrom, GiveFacts, GiveStageFacts, GivesSpan, Has, HasLoaded, KeepsGhosts, KnowsSpans, LeaveStageFacts, PollFacts, PollStageFacts, ResumeFacts, KnowsAtAnyTime, give_held, give_held_at, give_locked, give_locked_at, leave_held_at, leave_locked_at, lists, no_page, poll_held_at, poll_locked_at}
 pub use Rattle.gh_mutator_heap.specs.PollHeapLaws.{IsBetweenOperations, LeavesByRights, Polls, PollsByRights, TakesLeave}
-pub use Rattle.gh_mutator_heap.specs.PollWithin.{FindsWithin, MarkStackStageWithin, ScansWithin, StackShadesWithin, TriesWithin}
+pub use Rattle.gh_mutator_heap.specs.PollWithin.{MarkStackStageWithin, ScansWithin}
 pub use Rattle.gh_mutator.specs.Vocabulary.{CachedSpan, Layout, Leaving, Polling, SizeClass, SpanClass, Waiting, cell_of}
 pub use Rattle.gh_mutator_heap.specs.Vocabulary.{Arena, Good, SPAN_CLASSES, Shared, SpanHead, Steps, View, pages_of, view}
 pub use Rattle.gh_poll.specs.declared.give.GiveStage.{GiveStage}
@@ -30,8 +30,8 @@ pub use Rattle.gh_shade.specs.Sound.{SoundShading, SoundStage, HasPlace, IsRefer
 pub use Rattle.gh_shade.specs.declared.shade.ShadeStage.{ShadeStage}
 pub use Rattle.gh_shade.specs.declared.shade.Shaded.{Shaded}
 pub use Rattle.gh_stack.specs.declared.scan_stack.StackStage.{StackStage}
-pub use Rattle.gh_wbuf.specs.Sound.{SoundGiveStage, SoundRoomStage, IsTryOf}
-pub use Rattle.gh_wbuf.specs.TrySound.{SoundTrying, SoundTryStage}
+pub use Rattle.gh_wbuf.specs.Sound.{SoundGiveStage, SoundRoomFinding, SoundRoomStage, IsTryOf}
+pub use Rattle.gh_wbuf.specs.Trying.{SoundTrying, SoundTryStage}
 pub use Rattle.gh_wbuf.specs.declared.find_room.RoomStage.{RoomStage}
 pub use Rattle.gh_wbuf.specs.declared.give_buffer.GiveStage.{GiveStage as BufferStage}
 pub use Rattle.gh_wbuf.specs.declared.try_buffer.TryStage.{TryStage}

@@ -16,7 +16,7 @@ use Rattle.gh_barrier.specs.declared.pointer_cell.PointerCell.{PointerCell}
 use Rattle.gh_barrier.specs.declared.write_pointer.WriteStage.{WriteStage}
 use Rattle.gh_barrier.specs.Listing.{Writing}
 use Rattle.gh_barrier.specs.Listing as write
-use Rattle.gh_barrier.specs.Sound.{FitsPointer}
+use Rattle.gh_barrier.specs.Sound.{FitsPointer, SoundWriting}
 use Rattle.gh_poll.specs.declared.poll.Local.{Local}
 use Rattle.gh_poll.specs.Barrier.{held_then, pointer_of, WritesIt, written}
 use Rattle.gh_poll.specs.Registers.{is_number_value}
@@ -39,14 +39,14 @@ shade_leaves : (s : shade.Shading) (q : ShadeStage) → LeavesAll (shade.asks_at
 shade_leaves s q = grind arith
 
 -- a step before the last
-pub record IsBefore (w : Writing) (found : ℕ) : Type 0 where
+pub record IsBefore (l : Layout) (w : Writing) (found : ℕ) : Type 0 where
   pub leaves : LeavesAll (write.asks w)
-  pub goes_on : write.gives w found ≡ None
+  pub goes_on : write.gives l w found ≡ None
 
 -- its last
-pub record IsLast (w : Writing) (found : ℕ) : Type 0 where
+pub record IsLast (l : Layout) (w : Writing) (found : ℕ) : Type 0 where
   pub stores : write.asks w ≡ ask.Store (write.cell_at w.at) (write.pointer_word w.pointer)
-  pub ends : write.gives w found ≡ Some tt
+  pub ends : write.gives l w found ≡ Some tt
 
 old_goes_on : (w : Writing) (old : Option ℕ) → write.given (write.shades_old w old) ≡ None
 old_goes_on w old = grind arith
@@ -57,17 +57,17 @@ after_old_goes_on w sh out = grind arith
 after_new_goes_on : (w : Writing) (sh : shade.Shading) (out : Option Shaded) → write.given (write.after_new w sh out) ≡ None
 after_new_goes_on w sh out = grind arith
 
-module _ (w : Writing) (found : ℕ) where
+module _ (l : Layout) (w : Writing) (found : ℕ) where
   abbrev then : WriteStage → Writing
-  then q = write.goes_at w q found
+  then q = write.goes_at l w q found
 
-  before : (q : WriteStage) → w.stage ≡ q → LeavesAll (write.asks_at w q) → write.given (then q) ≡ None → IsBefore w found ⊎ IsLast w found
+  before : (q : WriteStage) → w.stage ≡ q → LeavesAll (write.asks_at w q) → write.given (then q) ≡ None → IsBefore l w found ⊎ IsLast l w found
   before q e leaves on = inl (record { leaves = subst (λ (p : WriteStage). LeavesAll (write.asks_at w p)) (sym e) leaves; goes_on = ap (λ (p : WriteStage). write.given (then p)) e ∙ on })
 
-  step_at : (q : WriteStage) → w.stage ≡ q → write.is_busy q ≡ true → IsBefore w found ⊎ IsLast w found
+  step_at : (q : WriteStage) → w.stage ≡ q → write.is_busy q ≡ true → IsBefore l w found ⊎ IsLast l w found
   step_at q e busy = grind (arith, after_new_goes_on, after_old_goes_on, before, old_goes_on, shade_leaves)
 
-  pub step_is : write.is_busy w.stage ≡ true → IsBefore w found ⊎ IsLast w found
+  pub step_is : write.is_busy w.stage ≡ true → IsBefore l w found ⊎ IsLast l w found
   step_is busy = grind (arith, step_at)
 
 -- What it writes.
@@ -88,22 +88,22 @@ module _ (laws : Known) (z : Arena) (v : View) (good : Good z v) where
     by false some within = record { some = some; within = within }
 
 -- where it begins
-pub begins_so : Known → (l : Layout) (own : Local) (at : PointerCell) (v : Value) → InRange l (write.cell_at at) → FitsPointer l (pointer_of v) → IsHeld l own.held → is_number_value v ≡ false → WritesIt l at v (written l own at v)
+pub begins_so : Known → (l : Layout) (own : Local) (at : PointerCell) (v : Value) → InRange l (write.cell_at at) → FitsPointer l (pointer_of v) → IsHeld l own.held → is_number_value v ≡ false → WritesIt l at v (written own at v)
 begins_so laws l own at v there fits is names = record { same_cell = refl; same_pointer = refl; names = names; within = laws.within.begins l at (pointer_of v) own.held there fits is; busy = refl }
 
 -- and goes on
-pub goes_so : Known → (l : Layout) (at : PointerCell) (v : Value) (w : Writing) (found : ℕ) → WritesIt l at v w → write.gives w found ≡ None → WritesIt l at v (write.goes w found)
-goes_so laws l at v w found it e = record {
-  same_cell = laws.writes.same_cell w found ∙ it.same_cell;
-  same_pointer = laws.writes.same_pointer w found ∙ it.same_pointer;
+pub goes_so : Known → (l own : Layout) → own ≡ l → (at : PointerCell) (v : Value) (w : Writing) (found : ℕ) → WritesIt l at v w → write.gives own w found ≡ None → WritesIt l at v (write.goes own w found)
+goes_so laws l own here at v w found it e = record {
+  same_cell = laws.writes.same_cell own w found ∙ it.same_cell;
+  same_pointer = laws.writes.same_pointer own w found ∙ it.same_pointer;
   names = it.names;
-  within = laws.within.goes_on l w found it.within;
+  within = subst (λ (k : Layout). SoundWriting l (write.goes k w found)) (sym here) (laws.within.goes_on l w found it.within);
   busy = ap is_none e;
 }
 
 -- What it holds is a buffer of the heap, and nothing else of the processor changes.
-pub held_so : Known → (l : Layout) (at : PointerCell) (v : Value) (w : Writing) (found : ℕ) → WritesIt l at v w → IsHeld l (held_then w found)
-held_so laws l at v w found it = laws.within.holds l (write.goes w found) (laws.within.goes_on l w found it.within)
+pub held_so : Known → (l own : Layout) → own ≡ l → (at : PointerCell) (v : Value) (w : Writing) (found : ℕ) → WritesIt l at v w → IsHeld l (held_then own w found)
+held_so laws l own here at v w found it = subst (λ (k : Layout). IsHeld l (held_then k w found)) (sym here) (laws.within.holds l (write.goes l w found) (laws.within.goes_on l w found it.within))
 
 pub steady_held : (z : Arena) (a : ℕ) (v : View) (m : Processor) (held : Option Held) → IsHeld z.layout held → Steady z a v m → Steady z a v (keeping m held)
 steady_held z a v m held is st =

@@ -1,15 +1,15 @@
 -- Where an operation begins, what is known of the processor is what its first stage says.
-use Rattle.std.proofs.Common.{◌≡◌, ℕ, ◌<◌, Bool, true, false, cond, None, refl, sym, ap, subst, arith}
+use Rattle.std.proofs.Common.{◌≡◌, ℕ, ◌<◌, Bool, true, false, cond, None, refl, ap, subst, arith}
 use Rattle.gh_mutator_heap.proofs.Owning.Vocabulary.{begins, ProcessorFacts, GlobalFacts, LoadFacts, MayBegin, register_of, ShapesAreGood, StoreFacts}
 use Rattle.gh_base.specs.declared.operation.Op.TheVariants as op
 use Rattle.gh_base.specs.declared.value.Value.TheVariants as value
 use Rattle.gh_model.specs.declared.EverValue.TheVariants as ever
-use Rattle.gh_mutator.specs.Vocabulary.{Layout, Polling, Op, REGISTERS, Value}
+use Rattle.gh_mutator.specs.Vocabulary.{Polling, Op, REGISTERS, Value}
 use Rattle.gh_mutator_heap.specs.Vocabulary.{Good, Arena, EverValue, is_number, Means, GoroutineRuns, View, Processor, Task}
 use Rattle.gh_barrier.specs.declared.pointer_cell.PointerCell.TheVariants as pointer_cell
 use Rattle.gh_mutator.specs.declared.global.GlobalStage.TheVariants as global_stage
 use Rattle.gh_mutator.specs.declared.task.Task.TheVariants as task
-use Rattle.gh_poll.specs.Barrier.{WritesIt, written}
+use Rattle.gh_poll.specs.Barrier.{written}
 use Rattle.gh_poll.specs.Registers.{is_number_value}
 use Rattle.gh_mutator.specs.Global as global
 use Rattle.gh_mutator.specs.Listing.{is_busy_at}
@@ -41,18 +41,17 @@ module _ (z : Arena) (a : ℕ) (v : View) where
 
     -- it is written behind the barrier while marking is on
     stores_so : is_number (v.ever.register g u) ≡ false → is_number_value held ≡ false → (b : Bool) →
-        GlobalFacts z a v m.poll (record { g = g; r = u; k = k; stage = cond b (global_stage.Writing (written m.poll.layout m.poll.local (pointer_cell.Global k) held)) global_stage.Store }) None (cond b (global_stage.Writing (written m.poll.layout m.poll.local (pointer_cell.Global k) held)) global_stage.Store)
+        GlobalFacts z a v m.poll (record { g = g; r = u; k = k; stage = cond b (global_stage.Writing (written m.poll.local (pointer_cell.Global k) held)) global_stage.Store }) None (cond b (global_stage.Writing (written m.poll.local (pointer_cell.Global k) held)) global_stage.Store)
     stores_so number plain true =
-        let layout = st.1.stands.sits.layout in
         let fits = names_fit laws z v good (v.ever.register g u) held (register_reached v.ever g u runs.goes_on (v.ever.register g u) refl) (st.1.stands.registers g u runs.of low) in
         let begun = begins_so laws z.layout m.poll.local (pointer_cell.Global k) held there fits st.1.stands.sits.held plain in
-        (runs, low, there, number, subst (λ (l : Layout). WritesIt z.layout (pointer_cell.Global k) held (written l m.poll.local (pointer_cell.Global k) held)) (sym layout) begun, refl)
+        (runs, low, there, number, begun, refl)
     stores_so number plain false = (runs, low, there, number, refl)
 
-    begin_global : (x : EverValue) (y : Value) → held ≡ y → v.ever.register g u ≡ x → means x y → GlobalFacts z a v m.poll (global.begins_store m.poll.layout m.poll.local g k u y) None (global.begins_store m.poll.layout m.poll.local g k u y).stage
-    begin_global ever.Nil value.Nil e is h = subst (λ (y : Value). GlobalFacts z a v m.poll (record { g = g; r = u; k = k; stage = global.stores m.poll.layout m.poll.local k y }) None (global.stores m.poll.layout m.poll.local k y)) e (stores_so (ap is_number is) (ap is_number_value e) (is_mark m.poll.local.view.phase))
+    begin_global : (x : EverValue) (y : Value) → held ≡ y → v.ever.register g u ≡ x → means x y → GlobalFacts z a v m.poll (global.begins_store m.poll.local g k u y) None (global.begins_store m.poll.local g k u y).stage
+    begin_global ever.Nil value.Nil e is h = subst (λ (y : Value). GlobalFacts z a v m.poll (record { g = g; r = u; k = k; stage = global.stores m.poll.local k y }) None (global.stores m.poll.local k y)) e (stores_so (ap is_number is) (ap is_number_value e) (is_mark m.poll.local.view.phase))
     begin_global (ever.Int n) (value.Int w) e is h = (runs, ap is_number is, refl)
-    begin_global (ever.Ref n) (value.Ref w) e is h = subst (λ (y : Value). GlobalFacts z a v m.poll (record { g = g; r = u; k = k; stage = global.stores m.poll.layout m.poll.local k y }) None (global.stores m.poll.layout m.poll.local k y)) e (stores_so (ap is_number is) (ap is_number_value e) (is_mark m.poll.local.view.phase))
+    begin_global (ever.Ref n) (value.Ref w) e is h = subst (λ (y : Value). GlobalFacts z a v m.poll (record { g = g; r = u; k = k; stage = global.stores m.poll.local k y }) None (global.stores m.poll.local k y)) e (stores_so (ap is_number is) (ap is_number_value e) (is_mark m.poll.local.view.phase))
     begin_global ever.Nil (value.Int w) e is h = absurd h
     begin_global ever.Nil (value.Ref w) e is h = absurd h
     begin_global (ever.Int n) value.Nil e is h = absurd h

@@ -114,7 +114,7 @@ module _ (k : Known) (x : Global) (z : Arena) (a : ℕ) (s : Shared) (m : Proces
   abbrev word : GlobalStage → ℕ
   word q = s.words (cell_of (asks (here q)))
 
-  does : (q : GlobalStage) (u : Shared) → global.op_of (at_stage x q) ≡ o → Comes Global task.Global z a s u (keeping m (held_behind m.poll.local.held q (word q))) x.g x.r o None (step m.poll.layout held (at_stage x q) (word q)) → Does z a s u (here q) None (word q)
+  does : (q : GlobalStage) (u : Shared) → global.op_of (at_stage x q) ≡ o → Comes Global task.Global z a s u (keeping m (held_behind m.poll.layout m.poll.local.held q (word q))) x.g x.r o None (step m.poll.layout held (at_stage x q) (word q)) → Does z a s u (here q) None (word q)
   does q u of c = record {
     after = c.after;
     fine = c.fine;
@@ -132,34 +132,34 @@ module _ (k : Known) (x : Global) (z : Arena) (a : ℕ) (s : Shared) (m : Proces
     abbrev stage : GlobalStage
     stage = global_stage.Writing w
 
-    steady-then : Steady z a (view s) (keeping m (held_then w (word stage)))
-    steady-then = steady_held z a (view s) m (held_then w (word stage)) (held_so k z.layout (pointer_cell.Global x.k) held w (word stage) it) steady
+    steady-then : Steady z a (view s) (keeping m (held_then m.poll.layout w (word stage)))
+    steady-then = steady_held z a (view s) m (held_then m.poll.layout w (word stage)) (held_so k z.layout m.poll.layout steady.1.stands.sits.layout (pointer_cell.Global x.k) held w (word stage) it) steady
 
     abbrev beside : Shared
     beside = moved z a s (Quiet (write.asks w))
 
-    writes_on : IsBefore w (word stage) → Comes Global task.Global z a s beside (keeping m (held_then w (word stage))) x.g x.r o None (after_write x (write.goes w (word stage)) (write.gives w (word stage)))
-    writes_on b = subst (λ (y : Option (Unit {0})). Comes Global task.Global z a s beside (keeping m (held_then w (word stage))) x.g x.r o None (after_write x (write.goes w (word stage)) y)) (sym b.goes_on) (record {
+    writes_on : IsBefore m.poll.layout w (word stage) → Comes Global task.Global z a s beside (keeping m (held_then m.poll.layout w (word stage))) x.g x.r o None (after_write x (write.goes m.poll.layout w (word stage)) (write.gives m.poll.layout w (word stage)))
+    writes_on b = subst (λ (y : Option (Unit {0})). Comes Global task.Global z a s beside (keeping m (held_then m.poll.layout w (word stage))) x.g x.r o None (after_write x (write.goes m.poll.layout w (word stage)) y)) (sym b.goes_on) (record {
       after = None;
-      fine = subst (λ (v : View). ProcessorFacts z a v (at_task (keeping m (held_then w (word stage))) (task.Global (at_stage x (global_stage.Writing (write.goes w (word stage)))))) None) (sym (b.leaves.same z a s))
-          (record { counts = steady-then.0; knows = steady-then.1; right = right; task = (runs, low, few, plain, goes_so k z.layout (pointer_cell.Global x.k) held w (word stage) it b.goes_on, refl) });
+      fine = subst (λ (v : View). ProcessorFacts z a v (at_task (keeping m (held_then m.poll.layout w (word stage))) (task.Global (at_stage x (global_stage.Writing (write.goes m.poll.layout w (word stage)))))) None) (sym (b.leaves.same z a s))
+          (record { counts = steady-then.0; knows = steady-then.1; right = right; task = (runs, low, few, plain, goes_so k z.layout m.poll.layout steady.1.stands.sits.layout (pointer_cell.Global x.k) held w (word stage) it b.goes_on, refl) });
       ever = refl;
       answers = refl;
     })
 
-    write_now : IsBefore w (word stage) ⊎ IsLast w (word stage) → StepFrom z a s (here stage) None
+    write_now : IsBefore m.poll.layout w (word stage) ⊎ IsLast m.poll.layout w (word stage) → StepFrom z a s (here stage) None
     write_now (inl b) = record { move = Quiet (write.asks w); may = b.leaves.quiet; words_are = refl; after = does stage beside refl (writes_on b) }
     write_now (inr b) = stored_by (write.asks w) (λ u. Does z a s u (here stage) None (word stage))
         (b.stores ∙ ap (λ (c : PointerCell). ask.Store (write.cell_at c) (write.pointer_word w.pointer)) it.same_cell ∙ ap (λ (n : ℕ). ask.Store (cell.Global x.k) n) (word_written z.layout (pointer_cell.Global x.k) held w it))
         (does stage t refl
-        (subst (λ (y : Option (Unit {0})). Comes Global task.Global z a s t (keeping m (held_then w (word stage))) x.g x.r o None (after_write x (write.goes w (word stage)) y)) (sym b.ends) (lands stage (held_then w (word stage)) steady-then)))
+        (subst (λ (y : Option (Unit {0})). Comes Global task.Global z a s t (keeping m (held_then m.poll.layout w (word stage))) x.g x.r o None (after_write x (write.goes m.poll.layout w (word stage)) y)) (sym b.ends) (lands stage (held_then m.poll.layout w (word stage)) steady-then)))
 
 store_step : Known → (x : Global) → StepAt (at x global_stage.Store)
 store_step k x z a s m pending shapes good f = subst (λ (y : Option Answer). StepFrom z a s (at_task m (at x global_stage.Store)) y) (sym f.task.4) (store_now k x z a s m (f.counts, f.knows) f.right f.task.0 f.task.1 f.task.2 f.task.3)
 
 write_step : Known → (x : Global) (w : PointerWrite) → StepAt (at x (global_stage.Writing w))
 write_step k x w z a s m pending shapes good f = subst (λ (y : Option Answer). StepFrom z a s (at_task m (at x (global_stage.Writing w))) y) (sym f.task.5)
-    (write_now k x z a s m (f.counts, f.knows) f.right f.task.0 f.task.1 f.task.2 f.task.3 w f.task.4 (step_is w _ f.task.4.busy))
+    (write_now k x z a s m (f.counts, f.knows) f.right f.task.0 f.task.1 f.task.2 f.task.3 w f.task.4 (step_is m.poll.layout w _ f.task.4.busy))
 
 number_step : (x : Global) → StepAt (at x global_stage.Number)
 number_step x z a s m pending shapes good f =

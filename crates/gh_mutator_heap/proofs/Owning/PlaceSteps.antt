@@ -1,5 +1,5 @@
 -- The steps of a new object's making. The making is known by its law, and by which of its steps makes the object and which is its last.
-use Rattle.std.proofs.Common.{◌≡◌, ℕ, ◌+◌, ◌*◌, ◌/◌, ◌%◌, ◌^◌, ◌<◌, Bool, true, false, cond, eqb, ltb, nat_le, List, [], ◌∷◌, ◌++◌, length, get_or, Option, Some, None, refl, sym, ap, subst, ◌∙◌, arith, length-set, get_or-set_same, get_or-set_other}
+use Rattle.std.proofs.Common.{◌≡◌, ℕ, ◌+◌, ◌*◌, ◌/◌, ◌%◌, ◌^◌, ◌<◌, Bool, true, false, cond, eqb, ltb, nat_le, List, [], ◌∷◌, ◌++◌, length, get_or, Option, Some, None, is_none, refl, sym, ap, subst, ◌∙◌, arith, length-set, get_or-set_same, get_or-set_other}
 use Rattle.std.specs.Option.{option_to_list}
 use Rattle.std.proofs.Math.ListN.{set}
 use Rattle.std.proofs.lemmas.Bool.{eqb-true, eqb-false, eq-eqb}
@@ -11,7 +11,6 @@ use Rattle.gh_base.specs.declared.cell.Ask.TheVariants as ask
 use Rattle.gh_base.specs.declared.cell.Cell.TheVariants as cell
 use Rattle.gh_base.specs.declared.value.Answer.TheVariants as answer
 use Rattle.gh_base.specs.declared.value.Value.TheVariants as value
-use Rattle.gh_base.specs.Holding.{IsHeld}
 use Rattle.gh_model.specs.declared.EverValue.TheVariants as ever
 use Rattle.gh_model.specs.Ever.{next_name, same_name, with_object}
 use Rattle.gh_heap.specs.Moves.{placed_at, Quiet}
@@ -48,8 +47,8 @@ kind-of p (making.Clear i) found busy = go (ltb (i + 1) p.slot) refl where
   go true e = onward refl (ap (λ (b : Bool). placer.given_at (cond b (making.Clear (i + 1)) making.Birth)) e) (ap (λ (b : Bool). is_made (cond b (making.Clear (i + 1)) making.Birth)) e)
   go false e = onward refl (ap (λ (b : Bool). placer.given_at (cond b (making.Clear (i + 1)) making.Birth)) e) (ap (λ (b : Bool). is_made (cond b (making.Clear (i + 1)) making.Birth)) e)
 kind-of p making.Birth found busy = onward refl refl refl
-kind-of p (making.Bits s) found busy = go (setter.is_busy (setter.goes s found).stage) refl where
-  go : (b : Bool) → setter.is_busy (setter.goes s found).stage ≡ b → Kind p (making.Bits s) found
+kind-of p (making.Bits s) found busy = go (is_none (setter.given (setter.goes s found))) refl where
+  go : (b : Bool) → is_none (setter.given (setter.goes s found)) ≡ b → Kind p (making.Bits s) found
   go true e = onward refl (ap (λ (b : Bool). placer.given_at (cond b (making.Bits (setter.goes s found)) (placer.filled p.marking))) e) (ap (λ (b : Bool). is_made (cond b (making.Bits (setter.goes s found)) (placer.filled p.marking))) e)
   go false e = onward refl (ap (λ (b : Bool). placer.given_at (cond b (making.Bits (setter.goes s found)) (placer.filled p.marking))) e ∙ filled-none p.marking) (ap (λ (b : Bool). is_made (cond b (making.Bits (setter.goes s found)) (placer.filled p.marking))) e ∙ filled-unmade p.marking)
 kind-of p making.Mark found busy = onward refl refl refl
@@ -120,7 +119,7 @@ module _ (k : Known) (z : Arena) (a : ℕ) (s : Shared) (m : Processor) (x : Wan
   making-at = at_task m (makes x p)
 
   abbrev found : ℕ
-  found = s.words (cell_of (placer.asks p))
+  found = s.words (cell_of (placer.asks m.poll.layout p))
 
   abbrev next : placer.Placing
   next = placer.goes p found
@@ -231,11 +230,8 @@ module _ (k : Known) (z : Arena) (a : ℕ) (s : Shared) (m : Processor) (x : Wan
       sits : SeatFacts z a m.poll
       sits = (steady false ended).1.stands.sits
 
-      held_fits : IsHeld m.poll.layout m.poll.local.held
-      held_fits = subst (λ (l : Layout). IsHeld l m.poll.local.held) (sym sits.layout) sits.held
-
       within : AssistWithin z.layout (assisting m.poll x)
-      within = subst (λ (l : Layout). AssistWithin l (assisting m.poll x)) sits.layout (k.assists_within.begins m.poll.layout m.poll.seat m.poll.local.held (8 * x.slot) m.poll.local.owed m.poll.local.spent held_fits)
+      within = k.assists_within.begins z.layout m.poll.seat m.poll.local.held (8 * x.slot) m.poll.local.owed m.poll.local.spent sits.held
 
       -- while marking is on it assists first
       by : (c : Bool) → marking_at m.poll ≡ c → Does z a s t making-at pending found
@@ -246,11 +242,12 @@ module _ (k : Known) (z : Arena) (a : ℕ) (s : Shared) (m : Processor) (x : Wan
           (subst (λ (c : Bool). ProcessorFacts z a (view t) (at_task making-at (cond c (assists x p.name (assisting m.poll x)) Idle)) None) (sym e) (idle z a (view t) m (steady false ended) (has false ended)))
           (ap option_to_list named ∙ sym (ap (λ (c : Bool). [] ++ option_to_list (cond c None (Some (answer.Ref p.name)))) e))
 
-  pub place-steps : ShapesAreGood z.shapes → Good z now → ProcessorFacts z a now making-at pending → Steps z a s (placer.asks p) (λ t. Does z a s t making-at pending found)
+  pub place-steps : ShapesAreGood z.shapes → Good z now → ProcessorFacts z a now making-at pending → Steps z a s (placer.asks m.poll.layout p) (λ t. Does z a s t making-at pending found)
   place-steps sg g fine =
       let mk : Makes z a now m x p pending = record { facts = fine.task.facts; register = fine.task.register; of = fine.task.of; span = fine.task.span; apart = fine.task.apart; named = fine.task.named } in
       let st : Steady z a now m = (fine.counts, fine.knows) in
-      let l = k.place.own_step z a s (for_whom x) (base z a now m x p) p g fine.right mk.facts in
+      let l = subst (λ (l : Layout). Steps z a s (placer.asks l p) (λ t. place.Changes z (for_whom x) p (placer.makes_its_object p) now (view t) × place.Comes z a (view t) (for_whom x) (base z a now m x p) (placer.gives p (s.words (cell_of (placer.asks l p)))) (placer.goes p (s.words (cell_of (placer.asks l p)))) × place.CountsAlone p.stage s t)) (sym st.1.stands.sits.layout)
+      (k.place.own_step z a s (for_whom x) (base z a now m x p) p g fine.right mk.facts) in
       record { move = l.move; may = l.may; words_are = l.words_are; after = done (moved z a s l.move) sg st mk (holds_swept z a now g) (k.own z a s l.move g l.may) l.after.0 l.after.1 l.after.2 (kind-of p p.stage found (unended mk.facts)) } where
         unended : place.Facts z a now (for_whom x) p → (asks : Bool) → p.stage ≡ making.Ended asks → ⊥
         unended facts asks e = subst (λ (q : PlaceStage). place.FactsAt z a now (for_whom x) (place.base p) q) e facts

@@ -111,7 +111,7 @@ module _ (k : Known) (z : Arena) (a : ℕ) (v : View) (m : Processor) where
     y = st.1
 
     seeks : find.Seeks z a v (seeking m x).find
-    seeks = record { layout = y.stands.sits.layout; seat = y.stands.sits.seat; few = omega (arith, y.stands.sits.few, z.layout.limits.procs_fit.1); number = seeks_now m x ∙ y.knows.generation; wanted = sought }
+    seeks = record { seat = y.stands.sits.seat; few = omega (arith, y.stands.sits.few, z.layout.limits.procs_fit.1); number = seeks_now m x ∙ y.knows.generation; wanted = sought }
 
     began : search.Has a v (rest m x) (seeking m x) × search.Facts z a v (rest m x) (seeking m x)
     began = k.search.opens z a v (rest m x) (seeking m x) seeks (caches x.sought sought y.knows.caches) (apart x.sought sought y.stands.sits.cache y.knows.caches)
@@ -124,11 +124,11 @@ module _ (z : Arena) (a : ℕ) (s : Shared) (m : Processor) (x : Wanted) (q : Se
   now = view s
 
   abbrev found : ℕ
-  found = s.words (cell_of (searcher.asks q))
+  found = s.words (cell_of (searcher.asks m.poll.layout q))
 
   -- the search after the step, and the processor that has cached what it has
   abbrev next : Seeking
-  next = searcher.goes q found
+  next = searcher.goes m.poll.layout q found
 
   abbrev caching : Processor
   caching = cache_span m x.sought next.find.cached
@@ -150,7 +150,7 @@ module _ (z : Arena) (a : ℕ) (s : Shared) (m : Processor) (x : Wanted) (q : Se
     has = seeks-with z a (view t) (rest m x) next.find next.stage c.1
 
     wanted : next.find.wanted ≡ x.sought
-    wanted = search_wants q found ∙ r.wanted
+    wanted = search_wants m.poll.layout q found ∙ r.wanted
 
     sought : IsSought x.sought
     sought = subst IsSought wanted has.seeks.wanted

@@ -83,7 +83,7 @@ module _ (laws : Known) (z : Arena) (a : ℕ) (s : Shared) (m : Processor) (x : 
   abbrev To : Shared → Option Answer → Step Store → Type 0
   To t pending next = Comes Store task.Store z a s t m x.g x.v (op_of x) pending next
 
-  does : (q : StoreStage) (pending : Option Answer) (t : Shared) → ToWith (held_behind m.poll.local.held q (found q)) t pending (step m.poll.layout m.poll.local held (at_stage x q) (found q)) → Does z a s t (here q) pending (found q)
+  does : (q : StoreStage) (pending : Option Answer) (t : Shared) → ToWith (held_behind m.poll.layout m.poll.local.held q (found q)) t pending (step m.poll.layout m.poll.local held (at_stage x q) (found q)) → Does z a s t (here q) pending (found q)
   does q pending t c = record { after = c.after; fine = c.fine; ever = c.ever; answers = c.answers; full = λ y is full. absurd (not_full (step m.poll.layout m.poll.local held (at_stage x q) (found q)).acts (op_of x) y is full); counts = tt }
 
   module _ (steady : Steady z a (view s) m) (right : HasCached a (view s) m) where
@@ -116,17 +116,17 @@ module _ (laws : Known) (z : Arena) (a : ℕ) (s : Shared) (m : Processor) (x : 
     }
 
     -- what it writes behind the barrier
-    begun : (l : Stores z a (view s) (at_stage x Bits) None) → x.k < size l.n → is_number_value held ≡ false → WritesIt z.layout (pointer_cell_at m.poll.layout (x.at + x.k)) held (written m.poll.layout m.poll.local (pointer_cell_at m.poll.layout (x.at + x.k)) held)
+    begun : (l : Stores z a (view s) (at_stage x Bits) None) → x.k < size l.n → is_number_value held ≡ false → WritesIt z.layout (pointer_cell_at m.poll.layout (x.at + x.k)) held (written m.poll.local (pointer_cell_at m.poll.layout (x.at + x.k)) held)
     begun l few plain =
         let layout = steady.1.stands.sits.layout in
         let fit = names_fit laws z (view s) good stored held (register_reached e x.g x.v l.through.runs.goes_on stored refl) (means l.n l.through Bits l) in
-        subst (λ (k : Layout). WritesIt z.layout (pointer_cell_at k (x.at + x.k)) held (written k m.poll.local (pointer_cell_at k (x.at + x.k)) held)) (sym layout)
+        subst (λ (k : Layout). WritesIt z.layout (pointer_cell_at k (x.at + x.k)) held (written m.poll.local (pointer_cell_at k (x.at + x.k)) held)) (sym layout)
         (begins_so laws z.layout m.poll.local (pointer_cell_at z.layout (x.at + x.k)) held (heap (x.at + x.k)) fit steady.1.stands.sits.held plain)
 
     -- the field's kind is that of the value, or not
     kind_by : (l : Stores z a (view s) (at_stage x Bits) None) → x.k < size l.n → fits (kind l.n) stored ≡ true → (p marking : Bool) → kinds_differ p held ≡ false →
-        StoreFacts z a (view s) m.poll (at_stage x (cond (p && marking) (Writing (written m.poll.layout m.poll.local (pointer_cell_at m.poll.layout (x.at + x.k)) held)) Field)) None (cond (p && marking) (Writing (written m.poll.layout m.poll.local (pointer_cell_at m.poll.layout (x.at + x.k)) held)) Field)
-    kind_by l few fit true true same = (stores_at Bits (Writing (written m.poll.layout m.poll.local (pointer_cell_at m.poll.layout (x.at + x.k)) held)) l, few, fit, begun l few same)
+        StoreFacts z a (view s) m.poll (at_stage x (cond (p && marking) (Writing (written m.poll.local (pointer_cell_at m.poll.layout (x.at + x.k)) held)) Field)) None (cond (p && marking) (Writing (written m.poll.local (pointer_cell_at m.poll.layout (x.at + x.k)) held)) Field)
+    kind_by l few fit true true same = (stores_at Bits (Writing (written m.poll.local (pointer_cell_at m.poll.layout (x.at + x.k)) held)) l, few, fit, begun l few same)
     kind_by l few fit true false same = (stores_at Bits Field l, few, fit)
     kind_by l few fit false marking same = (stores_at Bits Field l, few, fit)
 
@@ -191,27 +191,27 @@ module _ (laws : Known) (z : Arena) (a : ℕ) (s : Shared) (m : Processor) (x : 
       abbrev word : ℕ
       word = found (Writing w)
 
-      steady-then : Steady z a (view s) (keeping m (held_then w word))
-      steady-then = steady_held z a (view s) m (held_then w word) (held_so laws z.layout (pointer_cell_at m.poll.layout (x.at + x.k)) held w word it) steady
+      steady-then : Steady z a (view s) (keeping m (held_then m.poll.layout w word))
+      steady-then = steady_held z a (view s) m (held_then m.poll.layout w word) (held_so laws z.layout m.poll.layout steady.1.stands.sits.layout (pointer_cell_at m.poll.layout (x.at + x.k)) held w word it) steady
 
       abbrev beside : Shared
       beside = moved z a s (Quiet (write.asks w))
 
-      writes_on : IsBefore w word → ToWith (held_then w word) beside None (after_write x (write.goes w word) (write.gives w word))
-      writes_on b = subst (λ (o : Option (Unit {0})). ToWith (held_then w word) beside None (after_write x (write.goes w word) o)) (sym b.goes_on) (record {
+      writes_on : IsBefore m.poll.layout w word → ToWith (held_then m.poll.layout w word) beside None (after_write x (write.goes m.poll.layout w word) (write.gives m.poll.layout w word))
+      writes_on b = subst (λ (o : Option (Unit {0})). ToWith (held_then m.poll.layout w word) beside None (after_write x (write.goes m.poll.layout w word) o)) (sym b.goes_on) (record {
         after = None;
-        fine = subst (λ (v : View). ProcessorFacts z a v (at_task (keeping m (held_then w word)) (task.Store (at_stage x (Writing (write.goes w word))))) None) (sym (b.leaves.same z a s))
-            (record { counts = steady-then.0; knows = steady-then.1; right = right; task = (stores_at (Writing w) (Writing (write.goes w word)) l, few, fit, goes_so laws z.layout (pointer_cell_at m.poll.layout (x.at + x.k)) held w word it b.goes_on) });
+        fine = subst (λ (v : View). ProcessorFacts z a v (at_task (keeping m (held_then m.poll.layout w word)) (task.Store (at_stage x (Writing (write.goes m.poll.layout w word))))) None) (sym (b.leaves.same z a s))
+            (record { counts = steady-then.0; knows = steady-then.1; right = right; task = (stores_at (Writing w) (Writing (write.goes m.poll.layout w word)) l, few, fit, goes_so laws z.layout m.poll.layout steady.1.stands.sits.layout (pointer_cell_at m.poll.layout (x.at + x.k)) held w word it b.goes_on) });
         ever = refl;
         answers = refl;
       })
 
-      writing : IsBefore w word ⊎ IsLast w word → Own (Writing w) None
+      writing : IsBefore m.poll.layout w word ⊎ IsLast m.poll.layout w word → Own (Writing w) None
       writing (inl b) = record { move = Quiet (write.asks w); may = b.leaves.quiet; words_are = refl; after = does (Writing w) None beside (writes_on b) }
       writing (inr b) = stored_by (Writing w) l few fit (write.asks w) (λ t. Does z a s t (here (Writing w)) None word)
           (b.stores ∙ ap (λ (c : PointerCell). ask.Store (write.cell_at c) (write.pointer_word w.pointer)) it.same_cell ∙ ap (λ (n : ℕ). ask.Store (field_cell m.poll.layout (x.at + x.k)) n) (word_written z.layout (pointer_cell_at m.poll.layout (x.at + x.k)) held w it))
           (does (Writing w) None (t (Writing w) l few fit)
-          (subst (λ (o : Option (Unit {0})). ToWith (held_then w word) (t (Writing w) l few fit) None (after_write x (write.goes w word) o)) (sym b.ends) (lands (Writing w) l few fit (held_then w word) steady-then)))
+          (subst (λ (o : Option (Unit {0})). ToWith (held_then m.poll.layout w word) (t (Writing w) l few fit) None (after_write x (write.goes m.poll.layout w word) o)) (sym b.ends) (lands (Writing w) l few fit (held_then m.poll.layout w word) steady-then)))
 
     nil_base : IsPlain (e.register x.g x.b) → Own NilBase None
     nil_base plain = record {
@@ -227,7 +227,7 @@ module _ (laws : Known) (z : Arena) (a : ℕ) (s : Shared) (m : Processor) (x : 
     by Page None fine steady = page steady fine.right fine.task
     by Bits None fine steady = bits steady fine.right fine.task.0 fine.task.1
     by Field None fine steady = field steady fine.right fine.task.0 fine.task.1 fine.task.2
-    by (Writing w) None fine steady = writing steady fine.right w fine.task.0 fine.task.1 fine.task.2 fine.task.3 (step_is w (found (Writing w)) fine.task.3.busy)
+    by (Writing w) None fine steady = writing steady fine.right w fine.task.0 fine.task.1 fine.task.2 fine.task.3 (step_is m.poll.layout w (found (Writing w)) fine.task.3.busy)
     by NilBase None fine steady = nil_base steady fine.right fine.task.2
     by Page (Some y) fine steady = absurd (cc fine.task.unanswered)
     by Bits (Some y) fine steady = absurd (cc fine.task.0.unanswered)

@@ -31,8 +31,8 @@ first_none class [] = tt
 first_none class (Some s ∷ spans) = tt
 first_none class (None ∷ spans) = first_none (class + 1) spans
 
-buffer_none : (l : Layout) (held : Option Held) → held ≡ None → IsNoBuffer (give.giving_buffer l held)
-buffer_none l held e = grind arith
+buffer_none : (held : Option Held) → held ≡ None → IsNoBuffer (give.giving_buffer held)
+buffer_none held e = grind arith
 
 gives_none : (g : give.Giving) (q : GiveStage) (found : ℕ) → g.held ≡ None → IsNoBuffer q → GivesNoBuffer (give.goes_at g q found)
 gives_none g q found e x = grind (arith, buffer_none, first_none)
@@ -112,11 +112,11 @@ global_goes : (l : Layout) (held : Value) (x : Global) (q : GlobalStage) (found 
 global_goes l held x q found h = grind arith
 
 -- and the buffer stays
-store_keeps : (held : Option Held) (q : StoreStage) (found : ℕ) → StoresWithNone q → held ≡ None → store.held_behind held q found ≡ None
-store_keeps held q found h e = grind arith
+store_keeps : (l : Layout) (held : Option Held) (q : StoreStage) (found : ℕ) → StoresWithNone q → held ≡ None → store.held_behind l held q found ≡ None
+store_keeps l held q found h e = grind arith
 
-global_keeps : (held : Option Held) (q : GlobalStage) (found : ℕ) → SetsWithNone q → held ≡ None → global.held_behind held q found ≡ None
-global_keeps held q found h e = grind arith
+global_keeps : (l : Layout) (held : Option Held) (q : GlobalStage) (found : ℕ) → SetsWithNone q → held ≡ None → global.held_behind l held q found ≡ None
+global_keeps l held q found h e = grind arith
 
 found_none : (shapes : List Shape) (m : Processor) (w : Wanted) (waited : Bool) (c : Option CachedSpan) (s : Seeking) (out : Option Found) → m.poll.local.view.phase ≢ run.Mark → m.poll.local.held ≡ None → HoldsNoBuffer (new.after_search shapes (cache_span m w.sought c) w waited s out)
 found_none shapes m w waited c s out off e = grind arith
@@ -138,7 +138,7 @@ module _ (marks : AnObjectIsMarkedBeforeItIsMade) (shapes : List Shape) (m : Pro
   gone_none x out h = grind arith
 
   new_none : (n : Wanted) (q : NewStage) → MakesWithNone m.poll q → KnowsNoMarking (party_at m.poll (task.New (record { wanted = n; stage = q }))) (stage_at m.poll (task.New (record { wanted = n; stage = q }))) → HoldsNoBuffer (new.takes_at shapes m n q found)
-  new_none n (Search waited y) x off = found_none shapes m n waited (search.goes y found).find.cached (search.goes y found) (search.gives y found) off e
+  new_none n (Search waited y) x off = found_none shapes m n waited (search.goes m.poll.layout y found).find.cached (search.goes m.poll.layout y found) (search.gives m.poll.layout y found) off e
   new_none n (Wait y) x off = let w : Waiting = wait.waiting y m.poll in waited_none n (wait.goes w found) (wait.gives w found) (wait_none w y.stage found e x off)
   new_none n (Place y) x off = made_none m n (place.makes_its_object y) y.at (place.goes y found) (not_mark m.poll.local.view.phase off) (marks.stays_off y found x) e
   new_none n (Want u) x off = record { none = e; runs = tt }
@@ -148,8 +148,8 @@ module _ (marks : AnObjectIsMarkedBeforeItIsMade) (shapes : List Shape) (m : Pro
   holds_at task.Idle x off is = record { none = e; runs = subst (λ (t : Task). RunsWithNone m.poll t) is tt }
   holds_at task.Left x off is = record { none = e; runs = subst (λ (t : Task). RunsWithNone m.poll t) is tt }
   holds_at (task.Load y) x off is = applied_none task.Load m y.g y.d (load.step m.poll.layout y found) (load_goes _) e
-  holds_at (task.Store y) x off is = applied_none task.Store (keeping m (store.held_behind m.poll.local.held y.stage found)) y.g y.v (store.step m.poll.layout m.poll.local (register_of m y.g y.v) y found) (store_goes m.poll.layout m.poll.local (not_mark m.poll.local.view.phase off) (register_of m y.g y.v) y y.stage found x) (store_keeps m.poll.local.held y.stage found x e)
-  holds_at (task.Global y) x off is = applied_none task.Global (keeping m (global.held_behind m.poll.local.held y.stage found)) y.g y.r (global.step m.poll.layout (register_of m y.g y.r) y found) (global_goes m.poll.layout (register_of m y.g y.r) y y.stage found x) (global_keeps m.poll.local.held y.stage found x e)
+  holds_at (task.Store y) x off is = applied_none task.Store (keeping m (store.held_behind m.poll.layout m.poll.local.held y.stage found)) y.g y.v (store.step m.poll.layout m.poll.local (register_of m y.g y.v) y found) (store_goes m.poll.layout m.poll.local (not_mark m.poll.local.view.phase off) (register_of m y.g y.v) y y.stage found x) (store_keeps m.poll.layout m.poll.local.held y.stage found x e)
+  holds_at (task.Global y) x off is = applied_none task.Global (keeping m (global.held_behind m.poll.layout m.poll.local.held y.stage found)) y.g y.r (global.step m.poll.layout (register_of m y.g y.r) y found) (global_goes m.poll.layout (register_of m y.g y.r) y y.stage found x) (global_keeps m.poll.layout m.poll.local.held y.stage found x e)
   holds_at (task.Register y) x off is = applied_none task.Register m y.g y.d (register.step (register_of m y.g (register.read_of y)) y) (register_goes (register.step (register_of m y.g (register.read_of y)) y).then) e
   holds_at (task.New y) x off is = new_none y.wanted y.stage x off
   holds_at (task.Gc g y) x off is = let w : Waiting = wait.waiting y m.poll in gc_none g (wait.goes w found) (wait.gives w found) (wait_none w y.stage found e x off)

@@ -152,7 +152,7 @@ module _ (p : Polling) (g : ℕ) (m : mark.StackMarking) (s : ScansItsOwn p g m)
 
   mark_goes : (q : MarkStackStage) → m.stage ≡ q → Goes (mark.asks_at m q) p (after_mark p g (mark.goes_at m q found) (mark.given (mark.goes_at m q found).stage))
   mark_goes (Shading sh) e = goes_by (shade.asks sh) p _ (shade_writes NotStack marking_not sh) (on _ (shaded_on m (shade.goes sh found) (shade.gives sh found)) (shades_on (shade.goes sh found) (shade.gives sh found) (subst (λ (q : MarkStackStage). ShadesByWish m.scan.stage q) e s.by_wish)))
-  mark_goes (FindRoom sh r) e = goes_by (room.asks r) p _ (room_writes NotStack marking_not r) (on _ (found_on m sh (room.goes r found) (room.gives r found)) (finds_on sh (room.goes r found) (room.gives r found) (subst (λ (q : MarkStackStage). ShadesByWish m.scan.stage q) e s.by_wish)))
+  mark_goes (FindRoom sh r) e = goes_by (room.asks r) p _ (room_writes NotStack marking_not r) (on _ (found_on m sh (room.goes m.layout r found) (room.gives m.layout r found)) (finds_on sh (room.goes m.layout r found) (room.gives m.layout r found) (subst (λ (q : MarkStackStage). ShadesByWish m.scan.stage q) e s.by_wish)))
   mark_goes Store e = scanned_goes e
   mark_goes Ended e = absurd (subst (λ (q : MarkStackStage). ShadesByWish m.scan.stage q) e s.by_wish)
 
@@ -161,5 +161,5 @@ poll_goes p poll_stage.LoadPhase found s = goes_by _ p _ tt (phases_stay p (phas
 poll_goes p (poll_stage.Giving g stops) found s = goes_by (give.asks g) p _ (gives_not g) (stops_stay p (give.goes g found) stops)
 poll_goes p (poll_stage.Resuming r) found s = goes_by (resume.asks r) p _ (resume_not r r.stage) (resume_stays p (resume.goes r found) (resume.gives r found))
 poll_goes p (poll_stage.Marking g m) found s = mark_goes p g m s found m.stage refl
-poll_goes p (poll_stage.FindRoom r) found s = goes_by (room.asks r) p _ (room_writes NotStack marking_not r) (room_stays p (room.goes r found) (room.gives r found))
+poll_goes p (poll_stage.FindRoom r) found s = goes_by (room.asks r) p _ (room_writes NotStack marking_not r) (room_stays p (room.goes p.layout r found) (room.gives p.layout r found))
 poll_goes p poll_stage.Ended found s = goes_by _ p _ tt (record { layout = refl; seat = refl; scanned = refl; scan = tt })

@@ -1,18 +1,15 @@
 -- Which rows the routines of allocation and of marking write: by their stages.
-use Rattle.std.proofs.Common.{◌≡◌, ℕ, ◌/◌, Bool, true, false, cond, eqb, Some, refl, subst, arith}
+use Rattle.std.proofs.Common.{◌≡◌, ℕ, ◌/◌, Bool, true, false, cond, eqb, refl, subst, arith}
 use Rattle.gh_base.specs.declared.cell.Ask.TheVariants as ask
 use Rattle.gh_base.specs.declared.cell.Cell.TheVariants as cell
 use Rattle.gh_base.specs.Cells.{put, Words}
-use Rattle.gh_sweep.specs.Listing.{Sweeping}
 use Rattle.gh_alloc.specs.declared.place.PlaceStage.TheVariants as place_stage
 use Rattle.gh_alloc.specs.Place as place
-use Rattle.gh_alloc.specs.Search as search
 use Rattle.gh_assist.specs.Quiet.{WritesSo}
 use Rattle.gh_shade.specs.Listing as shade
 use Rattle.gh_wbuf.specs.BufferGiving as buffer
 use Rattle.gh_wbuf.specs.RoomFinding as room
-use Rattle.gh_mutator_writes.specs.SearchRows.{OfSpans, OfSweeps, seeking_writes}
-use Rattle.gh_mutator_writes.proofs.Vocabulary.{Ask, BufferStage, Cell, CellsAreTold, effect, WritesOf}
+use Rattle.gh_mutator_writes.proofs.Vocabulary.{Ask, BufferStage, Cell, CellsAreTold, effect, Layout, WritesOf}
 
 -- these rows may be written
 pub record OfHeap (P : Cell → Type 0) : Type 0 where
@@ -31,14 +28,8 @@ pub record OfMarking (P : Cell → Type 0) : Type 0 where
 
 -- Allocation.
 module _ (P : Cell → Type 0) (r : OfHeap P) where
-  spans : OfSpans P
-  spans = record { lock = r.lock; page = r.page }
-
-  pub search_writes : (s : search.Seeking) → ((sw : Sweeping) → search.sweep_in s ≡ Some sw → OfSweeps P) → WritesOf P (search.asks s)
-  search_writes s k = seeking_writes P spans s k
-
-  pub place_writes : (p : place.Placing) → (p.stage ≡ place_stage.Mark → P (cell.Mark (p.at / 64))) → (p.stage ≡ place_stage.Count → P cell.Heap) → WritesOf P (place.asks p)
-  place_writes p mark count = grind arith
+  pub place_writes : (l : Layout) (p : place.Placing) → (p.stage ≡ place_stage.Mark → P (cell.Mark (p.at / 64))) → (p.stage ≡ place_stage.Count → P cell.Heap) → WritesOf P (place.asks l p)
+  place_writes l p mark count = grind arith
 
 -- Marking.
 module _ (P : Cell → Type 0) (r : OfMarking P) where

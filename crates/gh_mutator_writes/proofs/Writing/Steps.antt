@@ -16,10 +16,10 @@ use Rattle.gh_mutator.specs.Register as register
 use Rattle.gh_mutator.specs.Store as store
 use Rattle.gh_mutator.specs.Vocabulary.{Polling}
 use Rattle.gh_poll.specs.Wait as wait
-use Rattle.gh_mutator_writes.proofs.Vocabulary.{after_assist, Assist, Assisting, Name, Held, after_gc, after_poll, asks_at, begun_with, cache_span, CachedSpan, Found, Leaving, NewStage, Op, Place, Placing, Processor, register_of, Search, Seeking, Shape, SoundScanAt, takes_at, taking, Task, Value, Wait, Waiting, WaitStage, WaitState, Wanted, with_ended, Want}
+use Rattle.gh_mutator_writes.proofs.Vocabulary.{after_assist, Assist, Assisting, Name, Held, after_gc, after_poll, asks_at, begun_with, cache_span, CachedSpan, Found, Layout, Leaving, NewStage, Op, Place, Placing, Processor, register_of, Search, Seeking, Shape, SoundScanAt, takes_at, taking, Task, Value, Wait, Waiting, WaitStage, WaitState, Wanted, with_ended, Want, WritesOf}
 use Rattle.gh_mutator_writes.proofs.Writing.Polls.{carried, ended_noted, Goes, goes_by, heap_not, marking_not, NotStack, poll_goes, Stays, stays_so, told_noted}
 use Rattle.gh_mutator_writes.proofs.Writing.Routines.{global_writes, load_writes, store_writes}
-use Rattle.gh_mutator_writes.proofs.Writing.Rows.{assist_writes, place_writes, search_writes}
+use Rattle.gh_mutator_writes.proofs.Writing.Rows.{assist_writes, place_writes}
 
 -- a register takes a value
 taking_stays : (m : Processor) (g d : ℕ) (v : Option Value) → SoundScanAt m.poll m.poll.stage → Stays m.poll (taking m g d v).poll
@@ -30,6 +30,9 @@ kept_stays : (m : Processor) (g d : ℕ) (held : Option Held) (v : Option Value)
 kept_stays m g d held v s = grind arith
 
 -- a new object
+search_not : (l : Layout) (s : Seeking) → WritesOf NotStack (search.asks l s)
+search_not l s = grind arith
+
 found_stays : (shapes : List Shape) (m : Processor) (w : Wanted) (waited : Bool) (c : Option CachedSpan) (s : Seeking) (out : Option Found) → SoundScanAt m.poll m.poll.stage → Stays m.poll (new.after_search shapes (cache_span m w.sought c) w waited s out).poll
 found_stays shapes m w waited c s out scan = grind arith
 
@@ -66,11 +69,11 @@ module _ (k : AssistsAreQuiet) (shapes : List Shape) (m : Processor) (found : �
     by (Some u) = wait_goes (wait.waiting x m.poll) x.stage found s
 
   new_goes : (n : Wanted) (q : NewStage) → Goes (new.asks_at m q) m.poll (new.takes_at shapes m n q found).poll
-  new_goes n (Search waited y) = goes_by _ m.poll _ (search_writes NotStack heap_not y (λ sw e. record { alloc = λ i. tt; mark = λ i. tt; tally = tt; live = tt; heap = tt })) (found_stays shapes m n waited (search.goes y found).find.cached (search.goes y found) (search.gives y found) s)
+  new_goes n (Search waited y) = goes_by _ m.poll _ (search_not m.poll.layout y) (found_stays shapes m n waited (search.goes m.poll.layout y found).find.cached (search.goes m.poll.layout y found) (search.gives m.poll.layout y found) s)
   new_goes n (Wait x) = new_waits n x
-  new_goes n (Place y) = goes_by _ m.poll _ (place_writes NotStack heap_not y (λ e. tt) (λ e. tt)) (made_stays m n (place.makes_its_object y) y.at (place.goes y found) s)
+  new_goes n (Place y) = goes_by _ m.poll _ (place_writes NotStack heap_not m.poll.layout y (λ e. tt) (λ e. tt)) (made_stays m n (place.makes_its_object y) y.at (place.goes y found) s)
   new_goes n (Want u) = goes_by _ m.poll _ tt (stays_so m.poll s)
-  new_goes n (Assist u y) = goes_by _ m.poll _ (assist_writes NotStack marking_not (assist.asks y) (λ old new e. tt) (k.writes y)) (assist_stays m n u (assist.goes y found) (assist.gives y found) s)
+  new_goes n (Assist u y) = goes_by _ m.poll _ (assist_writes NotStack marking_not (assist.asks m.poll.layout y) (λ old new e. tt) (k.writes m.poll.layout y)) (assist_stays m n u (assist.goes m.poll.layout y found) (assist.gives m.poll.layout y found) s)
 
   polls : Goes (poll.asks m.poll) m.poll (takes_at shapes m task.Poll found).poll
   polls = by (poll.gives m.poll found) where
@@ -88,8 +91,8 @@ module _ (k : AssistsAreQuiet) (shapes : List Shape) (m : Processor) (found : �
   goes_at task.Idle = goes_by _ m.poll _ tt (stays_so m.poll s)
   goes_at task.Left = goes_by _ m.poll _ tt (stays_so m.poll s)
   goes_at (task.Load x) = goes_by _ m.poll _ (load_writes NotStack heap_not m.poll.layout x) (taking_stays m x.g x.d (load.step m.poll.layout x found).sets s)
-  goes_at (task.Store x) = goes_by _ m.poll _ (store_writes NotStack heap_not m.poll.layout (register_of m x.g x.v) x (λ w e. marking_not)) (kept_stays m x.g x.v (store.held_behind m.poll.local.held x.stage found) (store.step m.poll.layout m.poll.local (register_of m x.g x.v) x found).sets s)
-  goes_at (task.Global x) = goes_by _ m.poll _ (global_writes NotStack heap_not m.poll.layout (register_of m x.g x.r) x (λ w e. marking_not)) (kept_stays m x.g x.r (global.held_behind m.poll.local.held x.stage found) (global.step m.poll.layout (register_of m x.g x.r) x found).sets s)
+  goes_at (task.Store x) = goes_by _ m.poll _ (store_writes NotStack heap_not m.poll.layout (register_of m x.g x.v) x (λ w e. marking_not)) (kept_stays m x.g x.v (store.held_behind m.poll.layout m.poll.local.held x.stage found) (store.step m.poll.layout m.poll.local (register_of m x.g x.v) x found).sets s)
+  goes_at (task.Global x) = goes_by _ m.poll _ (global_writes NotStack heap_not m.poll.layout (register_of m x.g x.r) x (λ w e. marking_not)) (kept_stays m x.g x.r (global.held_behind m.poll.layout m.poll.local.held x.stage found) (global.step m.poll.layout (register_of m x.g x.r) x found).sets s)
   goes_at (task.Register x) = goes_by _ m.poll _ tt (taking_stays m x.g x.d (register.step (register_of m x.g (register.read_of x)) x).sets s)
   goes_at (task.New x) = new_goes x.wanted x.stage
   goes_at (task.Gc g x) = gc_goes g x

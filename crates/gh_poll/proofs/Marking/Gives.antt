@@ -17,8 +17,8 @@ first_facts z a t held class (Some s ∷ spans) x = x
 first_facts z a t held class (None ∷ spans) x = first_facts z a t held (class + 1) spans x
 
 module _ (k : Known) (z : Cycle) (a : ℕ) where
-  buffer_facts_of : (t : Shared) (l : Layout) (held : Option Held) → l ≡ z.arena.layout → Hands a t (holding_only held) → GiveStageFacts z a t held (giving_buffer l held)
-  buffer_facts_of t l held e x = grind arith
+  buffer_facts_of : (t : Shared) (held : Option Held) → Hands a t (holding_only held) → GiveStageFacts z a t held (giving_buffer held)
+  buffer_facts_of t held x = grind arith
 
   pub gives_begin : (t : Shared) (l : Layout) (seat generation : ℕ) (cache : List (Option CachedSpan)) (held : Option Held) → l ≡ z.arena.layout → Hands a t (holding_only held) → GiveFacts z a t (opening l seat generation cache held)
   gives_begin t l seat generation cache held e x = grind arith
@@ -47,7 +47,7 @@ module _ (k : Known) (z : Cycle) (a : ℕ) where
       gives_at (GiveSpan class c) x = by_quiet k z a s good (head_store m.generation class c) (holding_only m.held) (λ t. Keeps z a s t × GiveFacts z a t (goes_at m (GiveSpan class c) (s.words (cell.Page c.head)))) tt x
           (λ t kept h. (kept, record { layout_is = layout_is; stage_is = first_facts z a t m.held (class + 1) (drop (class + 1) m.cache) h }))
       gives_at Unlock x = by_quiet k z a s good (Store cell.Lock 0) (holding_only m.held) (λ t. Keeps z a s t × GiveFacts z a t (goes_at m Unlock (s.words cell.Lock))) tt x
-          (λ t kept h. (kept, record { layout_is = layout_is; stage_is = buffer_facts_of t m.layout m.held layout_is h }))
+          (λ t kept h. (kept, record { layout_is = layout_is; stage_is = buffer_facts_of t m.held h }))
       gives_at (GiveBuffer b) x =
           let n : ℕ = s.words (cell_of (buffer.asks b)) in
           landing z a s (effect s.words (buffer.asks b)) (λ t. Keeps z a s t × buffer_facts.GiveFacts z a t nothing (buffer.goes b n)) (λ t. Keeps z a s t × GiveFacts z a t (after_buffer m (buffer.goes b n) (buffer.gives b n)))

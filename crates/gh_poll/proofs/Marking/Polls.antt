@@ -6,7 +6,7 @@ use Rattle.gh_base.specs.declared.pack.TheConstants.{END}
 use Rattle.gh_phase.specs.declared.resume.ResumeStage.TheVariants as resume_stage
 use Rattle.gh_phase.specs.declared.view.RunPhase.TheVariants as run
 use Rattle.gh_phase.specs.Listing as resume
-use Rattle.gh_phase.specs.Stays.{phase_on}
+use Rattle.gh_phase.specs.Waiting.{phase_on}
 use Rattle.gh_wbuf.specs.Facts as buffer_facts
 use Rattle.gh_wbuf.specs.RoomFinding as room
 use Rattle.gh_poll.specs.declared.poll.PollStage.TheVariants.{LoadPhase, Giving, Resuming, Marking, FindRoom, Ended}
@@ -104,15 +104,16 @@ module _ (k : Known) (z : Cycle) (a : ℕ) where
       })
 
       -- a buffer with room is looked for
-      found_then : (t : Shared) (r : room.RoomFinding) (n : ℕ) (out : Option Held) → room.gives r n ≡ out → Keeps z a s t → KnowsNumber z p.local.view → buffer_facts.RoomFacts z a s nothing r → buffer_facts.RoomFacts z a t nothing (room.goes r n) → PollFacts z a t (after_room p (room.goes r n) out)
+      found_then : (t : Shared) (r : room.RoomFinding) (n : ℕ) (out : Option Held) → room.gives z.arena.layout r n ≡ out → Keeps z a s t → KnowsNumber z p.local.view → buffer_facts.RoomFacts z a s nothing r → buffer_facts.RoomFacts z a t nothing (room.goes z.arena.layout r n) → PollFacts z a t (after_room p (room.goes z.arena.layout r n) out)
       found_then t r n out e kept number was f = record { layout_is = grind arith; seat_is = grind arith; stacks = grind arith; stage_is = grind arith }
 
       finds : (r : room.RoomFinding) → KnowsNumber z p.local.view → buffer_facts.RoomFacts z a s nothing r → Leads (FindRoom r)
       finds r number f =
           let n : ℕ = s.words (cell_of (room.asks r)) in
-          landing z a s (effect s.words (room.asks r)) (λ t. Keeps z a s t × buffer_facts.RoomFacts z a t nothing (room.goes r n)) (λ t. PollFacts z a t (after_room p (room.goes r n) (room.gives r n)))
-          (λ t went h. found_then t r n (room.gives r n) refl h.0 number f h.1)
-          (k.buffers.finds.own_step z a s nothing r good objects f)
+          subst (λ (l : Layout). Steps z a s (room.asks r) (λ t. PollFacts z a t (after_room p (room.goes l r n) (room.gives l r n)))) (sym layout_is)
+          (landing z a s (effect s.words (room.asks r)) (λ t. Keeps z a s t × buffer_facts.RoomFacts z a t nothing (room.goes z.arena.layout r n)) (λ t. PollFacts z a t (after_room p (room.goes z.arena.layout r n) (room.gives z.arena.layout r n)))
+          (λ t went h. found_then t r n (room.gives z.arena.layout r n) refl h.0 number f h.1)
+          (k.buffers.finds.own_step z a s nothing r good objects f))
 
       marks : (g : ℕ) (m : mark.StackMarking) → p.local.view.begun ≡ z.number → ScanFacts z a s g m → Leads (Marking g m)
       marks g m number f =

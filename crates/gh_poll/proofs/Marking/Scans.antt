@@ -57,7 +57,7 @@ module _ (k : Known) (z : Cycle) (a : ℕ) (s : Shared) (good : Good z s) (objec
   wishes t m l held well kept f e hands (Some reference) on wish =
       let known = k.stacks.wishes z a t m reference well f wish in
       let same : reference_in l reference ≡ reference = wish_is t m l reference kept f e known.some wish in
-      (record { scans = f; wish = wish ∙ ap (λ (r : ℕ). Some r) (sym same) }, k.shade.begins z a t nothing l (reference_in l reference) held (rw same known.some) (ap (λ (r : ℕ). t.since (r - 1)) same ∙ known.known) hands)
+      (record { scans = f; wish = wish ∙ ap (λ (r : ℕ). Some r) (sym same) }, k.shade.begins z a t nothing (reference_in l reference) held (rw same known.some) (ap (λ (r : ℕ). t.since (r - 1)) same ∙ known.known) hands)
 
   -- where it begins, in this very state
   pub scan_begins : (l : Layout) (seat g cycle : ℕ) (registers : List Value) (held : Option Held) → l ≡ z.arena.layout → seat ≡ a → cycle ≡ z.number → stack_facts.Begins z a s g → stack_facts.AreRegisters (s.registers g) registers → Hands a s (holding_only held) → ScanFacts z a s g (opening l seat g cycle registers held)
@@ -65,16 +65,19 @@ module _ (k : Known) (z : Cycle) (a : ℕ) (s : Shared) (good : Good z s) (objec
     layout_is = e;
     seat_is = seat_is;
     of = refl;
-    stage_is = wishes s (stack.opening l g cycle registers) l held good ((k.go_on z a).stays s) facts e hands (stack.wish_of (stack.opening l g cycle registers).stage) (begins_going l g cycle registers) refl;
+    stage_is = wishes s (stack.opening g cycle registers) l held good ((k.go_on z a).stays s) facts e hands (stack.wish_of (stack.opening g cycle registers).stage) (begins_going g cycle registers) refl;
   } where
-    facts : stack_facts.Facts z a s (stack.opening l g cycle registers)
-    facts = subst (λ (l : Layout). stack_facts.Facts z a s (stack.opening l g cycle registers)) (sym e)
-        (subst (λ (c : ℕ). stack_facts.Facts z a s (stack.opening z.arena.layout g c registers)) (sym number) (k.stacks.begins z a s g registers may are))
+    facts : stack_facts.Facts z a s (stack.opening g cycle registers)
+    facts = subst (λ (c : ℕ). stack_facts.Facts z a s (stack.opening g c registers)) (sym number) (k.stacks.begins z a s g registers may are)
 
-  module _ (g : ℕ) (m : StackMarking) (layout_is : m.layout ≡ z.arena.layout) (seat_is : m.seat ≡ a) (of : m.scan.goroutine ≡ g) where
+  module _ (g : ℕ) (own : StackMarking) (seat_is : own.seat ≡ a) (of : own.scan.goroutine ≡ g) where
+    -- the scan, in this heap
+    abbrev m : StackMarking
+    m = record own { layout = z.arena.layout }
+
     shaded_then : (t : Shared) (sh : shade.Shading) (n : ℕ) → Good z t → Keeps z a s t → ShadesWish z a s m.scan sh.reference → (out : Option Shaded) → shade.gives sh n ≡ out → shade_facts.Facts z a t nothing (shade.goes sh n) → ScanFacts z a t g (after_shade m (shade.goes sh n) out)
     shaded_then t sh n well kept w None e f = record {
-      layout_is = layout_is;
+      layout_is = refl;
       seat_is = seat_is;
       of = of;
       stage_is = (record { scans = k.stacks.lasts z a s t m.scan kept w.scans; wish = w.wish ∙ ap (λ (r : ℕ). Some r) (sym (k.shade.same sh n)) }, f);
@@ -84,23 +87,22 @@ module _ (k : Known) (z : Cycle) (a : ℕ) (s : Shared) (good : Good z s) (objec
         let wish : stack.wish_of m.scan.stage ≡ Some (shade.goes sh n).reference = w.wish ∙ ap (λ (r : ℕ). Some r) (sym (k.shade.same sh n)) in
         let told : stack_facts.Facts z a t (stack.told_shaded m.scan) = k.stacks.told z a t m.scan (shade.goes sh n).reference (k.stacks.lasts z a s t m.scan kept w.scans) wish ended.marked in
         record {
-          layout_is = layout_is;
+          layout_is = refl;
           seat_is = seat_is;
           of = of;
-          stage_is = wishes t (stack.told_shaded m.scan) m.layout (shade.goes sh n).held well kept told layout_is ended.hands (stack.wish_of (stack.told_shaded m.scan).stage) (told_going m.scan (waits_then m.scan.stage (shade.goes sh n).reference wish)) refl;
+          stage_is = wishes t (stack.told_shaded m.scan) m.layout (shade.goes sh n).held well kept told refl ended.hands (stack.wish_of (stack.told_shaded m.scan).stage) (told_going m.scan (waits_then m.scan.stage (shade.goes sh n).reference wish)) refl;
         }
     shaded_then t sh n well kept w (Some shaded.WantsRoom) e f =
         let waits : shade_facts.WaitsForRoom a t nothing (shade.goes sh n) = k.shade.wants z a t nothing sh n e f in
-        let found : buffer_facts.RoomFacts z a t (pending (shade.goes sh n).reference) (room.opening z.arena.layout a (shade.goes sh n).held) = (k.buffers.begin z a t (pending (shade.goes sh n).reference) (shade.goes sh n).held waits.hands).finds in
+        let found : buffer_facts.RoomFacts z a t (pending (shade.goes sh n).reference) (room.opening a (shade.goes sh n).held) = (k.buffers.begin z a t (pending (shade.goes sh n).reference) (shade.goes sh n).held waits.hands).finds in
         record {
-          layout_is = layout_is;
+          layout_is = refl;
           seat_is = seat_is;
           of = of;
           stage_is = (
             record { scans = k.stacks.lasts z a s t m.scan kept w.scans; wish = w.wish ∙ ap (λ (r : ℕ). Some r) (sym (k.shade.same sh n)) },
             record { some = waits.some; marked = waits.marked },
-            subst (λ (l : Layout). buffer_facts.RoomFacts z a t (pending (shade.goes sh n).reference) (room.opening l m.seat (shade.goes sh n).held)) (sym layout_is)
-                (subst (λ (b : ℕ). buffer_facts.RoomFacts z a t (pending (shade.goes sh n).reference) (room.opening z.arena.layout b (shade.goes sh n).held)) (sym seat_is) found),
+            subst (λ (b : ℕ). buffer_facts.RoomFacts z a t (pending (shade.goes sh n).reference) (room.opening b (shade.goes sh n).held)) (sym seat_is) found,
           );
         }
 
@@ -118,14 +120,14 @@ module _ (k : Known) (z : Cycle) (a : ℕ) (s : Shared) (good : Good z s) (objec
         (k.shade.keeps.own_step z a s nothing sh good objects f)
 
     -- the search for room
-    found_then : (t : Shared) (sh : shade.Shading) (r : room.RoomFinding) (n : ℕ) → Keeps z a s t → ShadesWish z a s m.scan sh.reference → LooksForRoom s sh.reference → (out : Option Held) → room.gives r n ≡ out → buffer_facts.RoomFacts z a s (pending sh.reference) r → buffer_facts.RoomFacts z a t (pending sh.reference) (room.goes r n) → ScanFacts z a t g (after_room m sh (room.goes r n) out)
+    found_then : (t : Shared) (sh : shade.Shading) (r : room.RoomFinding) (n : ℕ) → Keeps z a s t → ShadesWish z a s m.scan sh.reference → LooksForRoom s sh.reference → (out : Option Held) → room.gives z.arena.layout r n ≡ out → buffer_facts.RoomFacts z a s (pending sh.reference) r → buffer_facts.RoomFacts z a t (pending sh.reference) (room.goes z.arena.layout r n) → ScanFacts z a t g (after_room m sh (room.goes z.arena.layout r n) out)
     found_then t sh r n kept w looks out e was f = grind arith
 
     finds : (sh : shade.Shading) (r : room.RoomFinding) → ShadesWish z a s m.scan sh.reference → LooksForRoom s sh.reference → buffer_facts.RoomFacts z a s (pending sh.reference) r → Leads (FindRoom sh r)
     finds sh r w looks f =
         let n : ℕ = s.words (cell_of (room.asks r)) in
-        landing z a s (effect s.words (room.asks r)) (λ t. Keeps z a s t × buffer_facts.RoomFacts z a t (pending sh.reference) (room.goes r n)) (λ t. let to = after_room m sh (room.goes r n) (room.gives r n) in Comes z a s t g to (given to.stage))
-        (λ t went h. goes_so t _ (found_on m sh (room.goes r n) (room.gives r n)) (h.0, found_then t sh r n h.0 w looks (room.gives r n) refl f h.1))
+        landing z a s (effect s.words (room.asks r)) (λ t. Keeps z a s t × buffer_facts.RoomFacts z a t (pending sh.reference) (room.goes z.arena.layout r n)) (λ t. let to = after_room m sh (room.goes z.arena.layout r n) (room.gives z.arena.layout r n) in Comes z a s t g to (given to.stage))
+        (λ t went h. goes_so t _ (found_on m sh (room.goes z.arena.layout r n) (room.gives z.arena.layout r n)) (h.0, found_then t sh r n h.0 w looks (room.gives z.arena.layout r n) refl f h.1))
         (k.buffers.finds.own_step z a s (pending sh.reference) r good objects f)
 
     stores : stack_facts.Facts z a s m.scan → m.scan.stage ≡ stack_stage.Store → Hands a s (holding_only m.held) → Leads Store
@@ -137,7 +139,8 @@ module _ (k : Known) (z : Cycle) (a : ℕ) (s : Shared) (good : Good z s) (objec
     scans_at p x = grind (arith, finds, shades, stores)
 
   pub scans_on : (g : ℕ) (m : StackMarking) → ScanFacts z a s g m → Steps z a s (asks m) (λ t. Comes z a s t g (goes m (s.words (cell_of (asks m)))) (gives m (s.words (cell_of (asks m)))))
-  scans_on g m f = scans_at g m f.layout_is f.seat_is f.of m.stage f.stage_is
+  scans_on g m f = subst (λ (n : StackMarking). Steps z a s (asks n) (λ t. Comes z a s t g (goes n (s.words (cell_of (asks n)))) (gives n (s.words (cell_of (asks n)))))) (ap (λ (l : Layout). record m { layout = l }) (sym f.layout_is))
+      (scans_at g m f.seat_is f.of m.stage f.stage_is)
 
 wish_lasts : (k : Known) (z : Cycle) (a : ℕ) (s t : Shared) (m : stack.StackScan) (reference : ℕ) → Others z a s t → ShadesWish z a s m reference → ShadesWish z a t m reference
 wish_lasts k z a s t m reference o w = record { scans = k.stacks.lasts z a s t m o.keeps w.scans; wish = w.wish }

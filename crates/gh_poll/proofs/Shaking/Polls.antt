@@ -77,7 +77,7 @@ awakes found p stage to party awake q a = record { sound = a.sound; seat = a.sea
 -- it goes on after the stop
 module _ (h : ResumesInHandshake) (found : ℕ) (p : Polling) (has : HasPlaces p.local.cache) (r : resume.Resuming) (s : GoesOnWithNothing p.seat p.local r) where
   goes_so : StageGoes found (resumes.party_of r) (resumes.stage_of r) (resume.asks r) (resumes.party_of (resume.goes r found)) (resumes.stage_of (resume.goes r found))
-  goes_so = h.keeps.goes r found tt s.busy
+  goes_so = (h.keeps p.layout).goes r found tt s.busy
 
   seat_is : (resume.goes r found).seat ≡ p.seat
   seat_is = h.seat_stays r found ∙ s.seat_is
@@ -100,7 +100,7 @@ module _ (q : WhatPollsRunIsQuiet) (m : MarkingIsQuiet) (h : ResumesInHandshake)
   goes_at_stage found p (Giving g stops) has s busy = gives_so found p has g stops s
   goes_at_stage found p (Resuming r) has s busy = resumes_so h found p has r s (resume.gives r found) refl
   goes_at_stage found p (Marking g x) has s busy = awakes found p (Marking g x) (goes_at p (Marking g x) found) refl refl (q.marks_a_stack x) (stays_awake found (mark.asks x) p (goes_at p (Marking g x) found) (marked_awake p has s g (mark.goes x found) (mark.gives x found)))
-  goes_at_stage found p (FindRoom r) has s busy = awakes found p (FindRoom r) (goes_at p (FindRoom r) found) refl refl (m.finds_room r) (stays_awake found (room.asks r) p (goes_at p (FindRoom r) found) (room_found p has s (room.goes r found) (room.gives r found)))
+  goes_at_stage found p (FindRoom r) has s busy = awakes found p (FindRoom r) (goes_at p (FindRoom r) found) refl refl (m.finds_room r) (stays_awake found (room.asks r) p (goes_at p (FindRoom r) found) (room_found p has s (room.goes p.layout r found) (room.gives p.layout r found)))
   goes_at_stage found p Ended has s busy = absurd cc
 
   goes_on : (p : Polling) (found : ℕ) → SoundPoll p → is_busy p.stage ≡ true → Goes found p p.stage (goes p found)

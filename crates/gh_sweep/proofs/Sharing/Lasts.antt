@@ -50,7 +50,7 @@ module _ (e : CycleEnd) (a : ℕ) (s t : Shared) (o : OthersLeave e a s t) (m : 
     number = f.number;
     right = λ p. (λ is. (f.right p).0 (o.back p is), λ own. mine p own);
     due = o.due ∙ f.due;
-    facts = laws.last m s.words t.words f.placed (others_at f.number m.stage f.is_at) f.facts;
+    facts = laws.last e.layout m s.words t.words f.placed (others_at f.number m.stage f.is_at) f.facts;
     is_at = reached_lasts m.stage f.is_at;
   } where
     head_of : (stage : SweepStage) → has_span stage ≡ true → HasReached a s m stage → page_of (s.words (Page m.page)) ≡ Head (in_sweep m.head)
@@ -60,7 +60,7 @@ module _ (e : CycleEnd) (a : ℕ) (s t : Shared) (o : OthersLeave e a s t) (m : 
     mine p own = subst (λ (n : ℕ). t.far n ≡ By a) own.1 (o.mine m.page m.head ((f.right m.page).1 (own.0, refl)) (head_of m.stage own.0 f.is_at)).by
 
 -- A sweep may be begun.
-opens : (e : CycleEnd) (a : ℕ) (s : Shared) (p : ℕ) (h : SpanHead) → HasEnded e → Good e (view s) → IsAtRest a s → page_of (s.words (Page p)) ≡ Head h → h.number + 2 ≡ generation_of e → SweepFacts e a s (opening e.layout p h)
+opens : (e : CycleEnd) (a : ℕ) (s : Shared) (p : ℕ) (h : SpanHead) → HasEnded e → Good e (view s) → IsAtRest a s → page_of (s.words (Page p)) ≡ Head h → h.number + 2 ≡ generation_of e → SweepFacts e a s (opening p h)
 opens e a s p h ended g rest is number =
     let head = g.heads p h is in
     let small = ended.generation in

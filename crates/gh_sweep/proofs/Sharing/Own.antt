@@ -30,11 +30,11 @@ module _ (k : Known) (laws : SweepKeepsItsFacts) (e : CycleEnd) (ended : HasEnde
   SweepFactsAt stage = SweepFacts e a s (at_stage m stage)
 
   abbrev LandsAt : SweepStage → Type 0
-  LandsAt stage = Lands e a s (move_at (at_stage m stage) stage (s.words (cell_of (asks (at_stage m stage))))) (effect s.words (asks (at_stage m stage))) (λ t. SweepFacts e a t (goes (at_stage m stage) (s.words (cell_of (asks (at_stage m stage))))))
+  LandsAt stage = Lands e a s (move_at (at_stage m stage) stage (s.words (cell_of (asks e.layout (at_stage m stage))))) (effect s.words (asks e.layout (at_stage m stage))) (λ t. SweepFacts e a t (goes (at_stage m stage) (s.words (cell_of (asks e.layout (at_stage m stage))))))
 
   -- what the next stage relies on of the words
-  facts_then : (stage : SweepStage) → is_busy stage ≡ true → SweepFactsAt stage → Facts (goes (at_stage m stage) (s.words (cell_of (asks (at_stage m stage))))) (effect s.words (asks (at_stage m stage)))
-  facts_then stage busy f = (laws.own (at_stage m stage) s.words f.placed busy f.facts).leads
+  facts_then : (stage : SweepStage) → is_busy stage ≡ true → SweepFactsAt stage → Facts (goes (at_stage m stage) (s.words (cell_of (asks e.layout (at_stage m stage))))) (effect s.words (asks e.layout (at_stage m stage)))
+  facts_then stage busy f = (laws.own e.layout (at_stage m stage) s.words f.placed busy f.facts).leads
 
   -- The sweep begins, or is lost.
 
@@ -89,8 +89,8 @@ module _ (k : Known) (laws : SweepKeepsItsFacts) (e : CycleEnd) (ended : HasEnde
   abbrev here : ℕ → ℕ
   here i = 16 * p + i
 
-  at_word : (i : ℕ) → IsInArena m.layout p h → i < bit_words h → word_at m i ≡ here i
-  at_word i arena l = word_is m.layout p h i arena l
+  at_word : (i : ℕ) → IsInArena e.layout p h → i < bit_words h → word_at e.layout m i ≡ here i
+  at_word i arena l = word_is e.layout p h i arena l
 
   next_below : (i x : ℕ) → here i ≢ here x → ltb x i ≡ ltb x (i + 1)
   next_below i x ne = elim (eqb_tells x i) [
@@ -113,11 +113,11 @@ module _ (k : Known) (laws : SweepKeepsItsFacts) (e : CycleEnd) (ended : HasEnde
     within : i < bit_words h
     within = f.placed.stage
 
-    at_alloc : word_at m i ≡ j
+    at_alloc : word_at e.layout m i ≡ j
     at_alloc = at_word i f.placed.arena within
 
     abbrev found : ℕ
-    found = s.words (cell.Alloc (word_at m i))
+    found = s.words (cell.Alloc (word_at e.layout m i))
 
     found_is : s.words (cell.Alloc j) ≡ found
     found_is = ap (λ (n : ℕ). s.words (cell.Alloc n)) (sym at_alloc)
@@ -125,7 +125,7 @@ module _ (k : Known) (laws : SweepKeepsItsFacts) (e : CycleEnd) (ended : HasEnde
     marks_are : s.words (cell.Mark j) ≡ marks
     marks_are = f.facts.1
 
-    words_cut : put s.words (cell.Alloc j) (bit_and (s.words (cell.Alloc j)) (s.words (cell.Mark j))) ≡ put s.words (cell.Alloc (word_at m i)) (bit_and found marks)
+    words_cut : put s.words (cell.Alloc j) (bit_and (s.words (cell.Alloc j)) (s.words (cell.Mark j))) ≡ put s.words (cell.Alloc (word_at e.layout m i)) (bit_and found marks)
     words_cut = ap (λ (x : ℕ). put s.words (cell.Alloc j) (bit_and (s.words (cell.Alloc j)) x)) marks_are ∙ ap (λ (n : ℕ). put s.words (cell.Alloc n) (bit_and (s.words (cell.Alloc n)) marks)) (sym at_alloc)
 
     slot_is : s.slot j ≡ slot_bytes h
@@ -170,10 +170,10 @@ module _ (k : Known) (laws : SweepKeepsItsFacts) (e : CycleEnd) (ended : HasEnde
 
   -- the marks are cleared
   module _ (i : ℕ) (f : SweepFactsAt (ClearMarks i)) where
-    at_marks : word_at m i ≡ here i
+    at_marks : word_at e.layout m i ≡ here i
     at_marks = at_word i f.placed.arena f.placed.stage
 
-    words_cleared : put s.words (cell.Mark (here i)) 0 ≡ put s.words (cell.Mark (word_at m i)) 0
+    words_cleared : put s.words (cell.Mark (here i)) 0 ≡ put s.words (cell.Mark (word_at e.layout m i)) 0
     words_cleared = ap (λ (n : ℕ). put s.words (cell.Mark n) 0) (sym at_marks)
 
     clear_then : (x : ℕ) → x < bit_words h → update s.clear (here i) true (here x) ≡ ltb x (i + 1)
@@ -230,7 +230,7 @@ module _ (k : Known) (laws : SweepKeepsItsFacts) (e : CycleEnd) (ended : HasEnde
       is_at = record { by = f.is_at.by; head = f.is_at.head; are_cut = f.is_at.are_cut; are_clear = f.is_at.are_clear };
     };
   } where
-    words_told : (moved a s TellsTally).words ≡ effect s.words (asks (at_stage m AddTally))
+    words_told : (moved a s TellsTally).words ≡ effect s.words (asks e.layout (at_stage m AddTally))
     words_told = ap (λ (d : Due). put s.words cell.Tally ((s.words cell.Tally + tally_word (record { marked = d.kept; freed = d.freed })) % 2 ^ 64)) f.due
 
   live_lands : SweepFactsAt AddLive → LandsAt AddLive
@@ -246,7 +246,7 @@ module _ (k : Known) (laws : SweepKeepsItsFacts) (e : CycleEnd) (ended : HasEnde
       is_at = record { by = f.is_at.by; head = f.is_at.head; are_cut = f.is_at.are_cut; are_clear = f.is_at.are_clear };
     };
   } where
-    words_told : (moved a s TellsLive).words ≡ effect s.words (asks (at_stage m AddLive))
+    words_told : (moved a s TellsLive).words ≡ effect s.words (asks e.layout (at_stage m AddLive))
     words_told = ap (λ (d : Due). put s.words cell.Live ((s.words cell.Live + d.live) % 2 ^ 64)) f.due
 
   heap_lands : SweepFactsAt AddHeap → LandsAt AddHeap
@@ -262,7 +262,7 @@ module _ (k : Known) (laws : SweepKeepsItsFacts) (e : CycleEnd) (ended : HasEnde
       is_at = record { by = f.is_at.by; head = f.is_at.head; are_cut = f.is_at.are_cut; are_clear = f.is_at.are_clear };
     };
   } where
-    words_told : (moved a s TellsHeap).words ≡ effect s.words (asks (at_stage m AddHeap))
+    words_told : (moved a s TellsHeap).words ≡ effect s.words (asks e.layout (at_stage m AddHeap))
     words_told = ap (λ (d : Due). put s.words cell.Heap ((s.words cell.Heap + negative d.cleared) % 2 ^ 64)) f.due
 
   -- The sweep ends.
@@ -300,5 +300,5 @@ module _ (k : Known) (laws : SweepKeepsItsFacts) (e : CycleEnd) (ended : HasEnde
   lands_at Finish busy f = finish_lands f
   lands_at (Ended end) busy f = absurd (cc)
 
-pub lands : Known → SweepKeepsItsFacts → (e : CycleEnd) (a : ℕ) (s : Shared) (m : Sweeping) → HasEnded e → Good e (view s) → a < seats_of e.layout → SweepFacts e a s m → is_busy m.stage ≡ true → Lands e a s (move_of m (s.words (cell_of (asks m)))) (effect s.words (asks m)) (λ t. SweepFacts e a t (goes m (s.words (cell_of (asks m)))))
+pub lands : Known → SweepKeepsItsFacts → (e : CycleEnd) (a : ℕ) (s : Shared) (m : Sweeping) → HasEnded e → Good e (view s) → a < seats_of e.layout → SweepFacts e a s m → is_busy m.stage ≡ true → Lands e a s (move_of m (s.words (cell_of (asks e.layout m)))) (effect s.words (asks e.layout m)) (λ t. SweepFacts e a t (goes m (s.words (cell_of (asks e.layout m)))))
 lands k laws e a s m ended g seat f busy = lands_at k laws e ended a s g seat m m.stage busy f

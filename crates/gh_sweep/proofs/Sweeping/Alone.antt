@@ -5,10 +5,11 @@ use Rattle.std.specs.Int.{bit_at}
 use Rattle.std.proofs.lemmas.Nat.Bits.{bit_at_and}
 use Rattle.gh_base.specs.declared.cell.Cell.TheVariants as cell
 use Rattle.gh_base.specs.Packing.{head_word}
-use Rattle.gh_base.specs.Routines.{alone, Leaves}
+use Rattle.gh_base.specs.Machines.{steps_of}
+use Rattle.gh_base.specs.Routines.{Leaves}
 use Rattle.gh_base.specs.Rows.{alloc_bit, alloc_words, CellsAreTold, mark_bit, mark_words, row_bit, RowsAreWritten}
 use Rattle.gh_base.specs.Steps.{cell_of, effect}
-use Rattle.gh_sweep.specs.Alone.{found_alone, from, IsOther, IsSwept, objects_freed, objects_kept, SweepsSpan}
+use Rattle.gh_sweep.specs.Alone.{alone, found_alone, from, IsOther, IsSwept, objects_freed, objects_kept, SweepsSpan}
 use Rattle.gh_sweep.specs.Counts.{AreTold}
 use Rattle.gh_sweep.specs.Listing.{asks, bit_words, gives, goes, in_sweep, is_busy, listing, negative, once_swept, slot_bytes, Sweeping}
 use Rattle.gh_sweep.specs.Steps.{after, freed, IsBegun, IsInArena, kept, marks_told, span_of, steps_on_bits, SweepsAsTold}
@@ -21,10 +22,10 @@ module _ (cells : CellsAreTold) (rows : RowsAreWritten) (l : Layout) (page : ℕ
   found = found_alone l page head before
 
   abbrev routine : ℕ → Sweeping
-  routine n = (alone listing (from l page head before) n).routine
+  routine n = (alone l page head before n).routine
 
   abbrev words : ℕ → Words
-  words n = (alone listing (from l page head before) n).words
+  words n = (alone l page head before n).words
 
   abbrev bits : ℕ
   bits = bit_words head
@@ -40,8 +41,8 @@ module _ (cells : CellsAreTold) (rows : RowsAreWritten) (l : Layout) (page : ℕ
   steps : SweepsAsTold l page head found
   steps = takes_its_steps l page head found arena
 
-  module _ (n : ℕ) (step : Ask) (e : asks (after l page head found n) ≡ step) where
-    asks_alone : asks (routine n) ≡ step
+  module _ (n : ℕ) (step : Ask) (e : asks l (after l page head found n) ≡ step) where
+    asks_alone : asks l (routine n) ≡ step
     asks_alone = grind (arith, as_told)
 
     next_words : words (suc n) ≡ effect (words n) step
@@ -242,7 +243,7 @@ module _ (cells : CellsAreTold) (rows : RowsAreWritten) (l : Layout) (page : ℕ
       | inr h ↦ absurd (let lt : last + 4 < last + 4 = h.1 in omega arith)
     ]
 
-  leaves_swept : Leaves listing (from l page head before) (IsSwept l page head before)
+  leaves_swept : Leaves (steps_of l (listing l)) (from l page head before) (IsSwept l page head before)
   leaves_swept = record {
     steps = last + 4;
     busy = busy_until;

@@ -13,7 +13,7 @@ use Rattle.gh_sweep.specs.Facts.{alloc_here, Facts, FactsAt, HasCleared, HasNotN
 use Rattle.gh_sweep.specs.Listing.{asks_at, at_stage, bit_words, counted, given_at, in_sweep, is_busy, once_swept, slots_in, Sweeping, swept_span, word_at}
 use Rattle.gh_sweep.specs.Sound.{FitsSweep, IsStage}
 use Rattle.gh_sweep.specs.Steps.{IsInArena}
-use Rattle.gh_sweep.specs.Vocabulary.{AddHeap, AddLive, AddTally, Ask, Begin, Cell, ClearBits, ClearMarks, Ended, Finish, LoadMarks, Lost, put, SpanHead, SweepEnd, SweepStage, Swept, SweptSpan, Words}
+use Rattle.gh_sweep.specs.Vocabulary.{AddHeap, AddLive, AddTally, Ask, Begin, Cell, ClearBits, ClearMarks, Ended, Finish, Layout, LoadMarks, Lost, SpanHead, SweepEnd, SweepStage, Swept, SweptSpan, Words, put}
 use Rattle.gh_sweep.proofs.Bits.{sum_more, sum_none, sum_same}
 use Rattle.gh_sweep.proofs.Sweeping.Steps.{word_is}
 
@@ -65,37 +65,37 @@ module _ (changes : ChangesOneCell) (cells : CellsAreTold) where
   stays_to_others : (t : Sweeping) (before after : Words) (stage : SweepStage) → SpanStays t before after → OthersAt t before after stage
   stays_to_others t before after stage o = grind arith
 
-  module _ (s t : Sweeping) (words : Words) (placed : IsPlaced s) (apart : SpansAreApart s t) (there : IsInArena t.layout t.page t.head) where
+  module _ (l : Layout) (s t : Sweeping) (words : Words) (placed : IsPlaced l s) (apart : SpansAreApart s t) (there : IsInArena l t.page t.head) where
     pages_apart : s.page ≢ t.page
     pages_apart e =
         let a : 1 ≤ s.head.pages = placed.arena.some in
         let b : 1 ≤ t.head.pages = there.some in
         elim apart [ inl x ↦ absurd (omega arith) | inr y ↦ absurd (omega arith) ]
 
-    word_here : (i : ℕ) → i < bit_words s.head → word_at s i ≡ 16 * s.page + i
-    word_here i lt = word_is s.layout s.page s.head i placed.arena lt
+    word_here : (i : ℕ) → i < bit_words s.head → word_at l s i ≡ 16 * s.page + i
+    word_here i lt = word_is l s.page s.head i placed.arena lt
 
-    bits_apart : (i j : ℕ) → i < bit_words s.head → j < bit_words t.head → word_at s i ≢ 16 * t.page + j
+    bits_apart : (i j : ℕ) → i < bit_words s.head → j < bit_words t.head → word_at l s i ≢ 16 * t.page + j
     bits_apart i j below lt e =
-        let is : word_at s i ≡ 16 * s.page + i = word_here i below in
+        let is : word_at l s i ≡ 16 * s.page + i = word_here i below in
         let same : 16 * s.page + i ≡ 16 * t.page + j = sym is ∙ e in
         elim apart [ inl x ↦ absurd (omega (arith, same, x)) | inr y ↦ absurd (omega (arith, same, y)) ]
 
-    stays_at : (stage : SweepStage) → IsStage s.head stage → SpanStays t words (effect words (asks_at s stage))
-    stays_at Begin is = stays_but t words (asks_at s Begin) (λ e. pages_apart (cc)) (λ i lt e. absurd (cc)) (λ i lt e. absurd (cc))
+    stays_at : (stage : SweepStage) → IsStage s.head stage → SpanStays t words (effect words (asks_at l s stage))
+    stays_at Begin is = stays_but t words (asks_at l s Begin) (λ e. pages_apart (cc)) (λ i lt e. absurd (cc)) (λ i lt e. absurd (cc))
     stays_at (LoadMarks i) is = record { head_stays = refl; alloc_stays = λ j lt. refl; marks_stay = λ j lt. refl }
-    stays_at (ClearBits i marks) is = stays_but t words (asks_at s (ClearBits i marks)) (λ e. absurd (cc)) (λ j lt e. bits_apart i j is lt (cc)) (λ j lt e. absurd (cc))
-    stays_at (ClearMarks i) is = stays_but t words (asks_at s (ClearMarks i)) (λ e. absurd (cc)) (λ j lt e. absurd (cc)) (λ j lt e. bits_apart i j is lt (cc))
-    stays_at AddTally is = stays_but t words (asks_at s AddTally) (λ e. absurd (cc)) (λ i lt e. absurd (cc)) (λ i lt e. absurd (cc))
-    stays_at AddLive is = stays_but t words (asks_at s AddLive) (λ e. absurd (cc)) (λ i lt e. absurd (cc)) (λ i lt e. absurd (cc))
-    stays_at AddHeap is = stays_but t words (asks_at s AddHeap) (λ e. absurd (cc)) (λ i lt e. absurd (cc)) (λ i lt e. absurd (cc))
-    stays_at Finish is = stays_but t words (asks_at s Finish) (λ e. pages_apart (cc)) (λ i lt e. absurd (cc)) (λ i lt e. absurd (cc))
+    stays_at (ClearBits i marks) is = stays_but t words (asks_at l s (ClearBits i marks)) (λ e. absurd (cc)) (λ j lt e. bits_apart i j is lt (cc)) (λ j lt e. absurd (cc))
+    stays_at (ClearMarks i) is = stays_but t words (asks_at l s (ClearMarks i)) (λ e. absurd (cc)) (λ j lt e. absurd (cc)) (λ j lt e. bits_apart i j is lt (cc))
+    stays_at AddTally is = stays_but t words (asks_at l s AddTally) (λ e. absurd (cc)) (λ i lt e. absurd (cc)) (λ i lt e. absurd (cc))
+    stays_at AddLive is = stays_but t words (asks_at l s AddLive) (λ e. absurd (cc)) (λ i lt e. absurd (cc)) (λ i lt e. absurd (cc))
+    stays_at AddHeap is = stays_but t words (asks_at l s AddHeap) (λ e. absurd (cc)) (λ i lt e. absurd (cc)) (λ i lt e. absurd (cc))
+    stays_at Finish is = stays_but t words (asks_at l s Finish) (λ e. pages_apart (cc)) (λ i lt e. absurd (cc)) (λ i lt e. absurd (cc))
     stays_at (Ended end) is = record { head_stays = refl; alloc_stays = λ j lt. refl; marks_stay = λ j lt. refl }
 
   -- of the same span, where the other has not begun
-  module _ (packed : PackedWordsAreReadBack) (s : Sweeping) (words : Words) (fits : FitsSweep s.head) where
+  module _ (packed : PackedWordsAreReadBack) (l : Layout) (s : Sweeping) (words : Words) (fits : FitsSweep s.head) where
     abbrev HeadStaysAt : SweepStage → Type 0
-    HeadStaysAt stage = (effect words (asks_at s stage) (cell.Page s.page) ≡ words (cell.Page s.page)) ⊎ HasNotNumber s.head.number (effect words (asks_at s stage) (cell.Page s.page))
+    HeadStaysAt stage = (effect words (asks_at l s stage) (cell.Page s.page) ≡ words (cell.Page s.page)) ⊎ HasNotNumber s.head.number (effect words (asks_at l s stage) (cell.Page s.page))
 
     swept_gone : HasNotNumber s.head.number (head_word (once_swept s.head))
     swept_gone = grind arith
@@ -108,23 +108,23 @@ module _ (changes : ChangesOneCell) (cells : CellsAreTold) where
     head_stays_at Finish = inr (subst (λ (w : ℕ). HasNotNumber s.head.number w) (sym (cells.put_here words (cell.Page s.page) (head_word (once_swept s.head)))) swept_gone)
     head_stays_at _ = inl refl
 
-    behind_stays : (t : Sweeping) → IsBehind s t → Others t words (effect words (asks_at s s.stage))
-    behind_stays t b = subst (λ (stage : SweepStage). OthersAt t words (effect words (asks_at s s.stage)) stage) (sym b.not_begun) (subst (λ (p : ℕ). HeadAt p t.head.number) b.same_page (subst (λ (n : ℕ). HeadAt s.page n) b.same_number (head_stays_at s.stage))) where
+    behind_stays : (t : Sweeping) → IsBehind s t → Others t words (effect words (asks_at l s s.stage))
+    behind_stays t b = subst (λ (stage : SweepStage). OthersAt t words (effect words (asks_at l s s.stage)) stage) (sym b.not_begun) (subst (λ (p : ℕ). HeadAt p t.head.number) b.same_page (subst (λ (n : ℕ). HeadAt s.page n) b.same_number (head_stays_at s.stage))) where
       HeadAt : (page number : ℕ) → Type 0
-      HeadAt page number = (effect words (asks_at s s.stage) (cell.Page page) ≡ words (cell.Page page)) ⊎ HasNotNumber number (effect words (asks_at s s.stage) (cell.Page page))
+      HeadAt page number = (effect words (asks_at l s s.stage) (cell.Page page) ≡ words (cell.Page page)) ⊎ HasNotNumber number (effect words (asks_at l s s.stage) (cell.Page page))
 
-  others_stay : PackedWordsAreReadBack → (s t : Sweeping) (words : Words) → IsPlaced s → IsPlaced t → SpansAreApart s t ⊎ IsBehind s t → Others t words (effect words (asks_at s s.stage))
-  others_stay packed s t words placed there (inl apart) = stays_to_others t words _ t.stage (stays_at s t words placed apart there.arena s.stage placed.stage)
-  others_stay packed s t words placed there (inr behind) = behind_stays packed s words placed.head t behind
+  others_stay : PackedWordsAreReadBack → (l : Layout) (s t : Sweeping) (words : Words) → IsPlaced l s → IsPlaced l t → SpansAreApart s t ⊎ IsBehind s t → Others t words (effect words (asks_at l s s.stage))
+  others_stay packed l s t words placed there (inl apart) = stays_to_others t words _ t.stage (stays_at l s t words placed apart there.arena s.stage placed.stage)
+  others_stay packed l s t words placed there (inr behind) = behind_stays packed l s words placed.head t behind
 
 -- The own step.
 
-module _ (changes : ChangesOneCell) (cells : CellsAreTold) (s : Sweeping) (words : Words) (arena : IsInArena s.layout s.page s.head) where
-  own_word : (i : ℕ) → i < bit_words s.head → word_at s i ≡ 16 * s.page + i
-  own_word i lt = word_is s.layout s.page s.head i arena lt
+module _ (changes : ChangesOneCell) (cells : CellsAreTold) (l : Layout) (s : Sweeping) (words : Words) (arena : IsInArena l s.page s.head) where
+  own_word : (i : ℕ) → i < bit_words s.head → word_at l s i ≡ 16 * s.page + i
+  own_word i lt = word_is l s.page s.head i arena lt
 
   abbrev StepAt : SweepStage → Type 0
-  StepAt stage = OwnStep (record s { stage = stage }) words
+  StepAt stage = OwnStep l (record s { stage = stage }) words
 
   nothing_given : (end : SweepEnd) → None ≡ Some end → ⊥
   nothing_given end e = absurd (cc)
@@ -247,7 +247,7 @@ module _ (changes : ChangesOneCell) (cells : CellsAreTold) (s : Sweeping) (words
 
 pub keeps : ChangesOneCell → CellsAreTold → PackedWordsAreReadBack → SweepKeepsItsFacts
 keeps changes cells packed = record {
-  own = λ s words placed busy h. own_step_at changes cells s words placed.arena s.stage placed.stage busy h;
-  last = λ s before after placed others h. lasts_at s before after s.stage placed.stage others h;
-  others = λ s t words placed there where_are. others_stay changes cells packed s t words placed there where_are;
+  own = λ l s words placed busy h. own_step_at changes cells l s words placed.arena s.stage placed.stage busy h;
+  last = λ l s before after placed others h. lasts_at s before after s.stage placed.stage others h;
+  others = λ l s t words placed there where_are. others_stay changes cells packed l s t words placed there where_are;
 }

@@ -4,10 +4,11 @@ use Rattle.std.proofs.Math.Nat.{mod-eq_of_lt}
 use Rattle.std.proofs.lemmas.Bool.{eqb-true, eq-eqb, ltb-true, ltb-false, lt-ltb, le-ltb}
 use Rattle.gh_base.specs.declared.cell.Cell.TheVariants as cell
 use Rattle.gh_base.specs.Packing.{head_word}
-use Rattle.gh_base.specs.Routines.{EndsWithin, GoesOn}
+use Rattle.gh_base.specs.Machines.{steps_of}
+use Rattle.gh_base.specs.Routines.{EndsWithin}
 use Rattle.gh_sweep.specs.Bits.{freed_in, kept_in}
 use Rattle.gh_sweep.specs.Listing.{asks, bit_words, gives, goes, is_busy, listing, opening, Sweeping}
-use Rattle.gh_sweep.specs.Steps.{after, alloc_told, EndsBy, freed, freed_told, IsBegun, IsInArena, kept, kept_told, marks_told, span_of, steps_on_bits, StepsOnCounts, StepsOnWord, SweepTakesItsSteps}
+use Rattle.gh_sweep.specs.Steps.{after, alloc_told, EndsBy, freed, freed_told, GoesOn, IsBegun, IsInArena, kept, kept_told, marks_told, span_of, steps_on_bits, StepsOnCounts, StepsOnWord, SweepTakesItsSteps}
 use Rattle.gh_sweep.specs.Vocabulary.{AddHeap, AddLive, AddTally, And, Begin, ClearBits, ClearMarks, Ended, Finish, Layout, Load, LoadMarks, Lost, SpanHead, Store, SweepEnd, SweepStage, Swept, SweptSpan}
 use Rattle.gh_sweep.proofs.Bits.{sum_more, sum_none}
 
@@ -18,16 +19,16 @@ word_is l page head i arena lt = let w : page + head.pages ≤ l.pages = arena.w
 module _ (l : Layout) (page : ℕ) (head : SpanHead) (found : ℕ → ℕ) where
   -- it is at this stage, and has counted the bits of so many words
   abbrev pub at : ℕ → SweepStage → Sweeping
-  at words stage = record { layout = l; page = page; head = head; kept = kept_told found words; freed = freed_told found words; stage = stage }
+  at words stage = record { page = page; head = head; kept = kept_told found words; freed = freed_told found words; stage = stage }
 
   abbrev now : ℕ → Sweeping
   now n = after l page head found n
 
-  begins_at : opening l page head ≡ at 0 Begin
+  begins_at : opening page head ≡ at 0 Begin
   begins_at =
       let k : 0 ≡ kept_told found 0 = sym (sum_none (λ i. kept_in (alloc_told found i) (marks_told found i))) in
       let f : 0 ≡ freed_told found 0 = sym (sum_none (λ i. freed_in (alloc_told found i) (marks_told found i))) in
-      ap (λ (n : ℕ). record { layout = l; page = page; head = head; kept = n; freed = 0; stage = Begin }) k ∙ ap (λ (n : ℕ). record { layout = l; page = page; head = head; kept = kept_told found 0; freed = n; stage = Begin }) f
+      ap (λ (n : ℕ). record { page = page; head = head; kept = n; freed = 0; stage = Begin }) k ∙ ap (λ (n : ℕ). record { page = page; head = head; kept = kept_told found 0; freed = n; stage = Begin }) f
 
   abbrev counted_span : SweptSpan
   counted_span = span_of head (kept l page head found) (freed l page head found)
@@ -50,7 +51,7 @@ module _ (l : Layout) (page : ℕ) (head : SpanHead) (found : ℕ → ℕ) where
     counts_word i n e =
         let k : kept_told found i + kept_in (found n) (marks_told found i) ≡ kept_told found (suc i) = ap (λ (m : ℕ). kept_told found i + kept_in (found m) (marks_told found i)) e ∙ sym (sum_more (λ j. kept_in (alloc_told found j) (marks_told found j)) i) in
         let f : freed_told found i + freed_in (found n) (marks_told found i) ≡ freed_told found (suc i) = ap (λ (m : ℕ). freed_told found i + freed_in (found m) (marks_told found i)) e ∙ sym (sum_more (λ j. freed_in (alloc_told found j) (marks_told found j)) i) in
-        ap (λ (m : ℕ). record { layout = l; page = page; head = head; kept = m; freed = freed_told found i + freed_in (found n) (marks_told found i); stage = ClearMarks i }) k ∙ ap (λ (m : ℕ). record { layout = l; page = page; head = head; kept = kept_told found (suc i); freed = m; stage = ClearMarks i }) f
+        ap (λ (m : ℕ). record { page = page; head = head; kept = m; freed = freed_told found i + freed_in (found n) (marks_told found i); stage = ClearMarks i }) k ∙ ap (λ (m : ℕ). record { page = page; head = head; kept = kept_told found (suc i); freed = m; stage = ClearMarks i }) f
 
     clears_next : (i : ℕ) → now (1 + 3 * i) ≡ at i (LoadMarks i) → now (2 + 3 * i) ≡ at i (ClearBits i (marks_told found i))
     clears_next i e =
@@ -186,18 +187,18 @@ module _ (l : Layout) (page : ℕ) (head : SpanHead) (found : ℕ → ℕ) where
   module _ (arena : IsInArena l page head) where
     on_word : IsBegun l page head found → (i : ℕ) → i < bit_words head → StepsOnWord l page head found i
     on_word begun i lt = record {
-      loads_marks = ap asks (loads begun arena.some i lt) ∙ ap (λ (n : ℕ). Load (cell.Mark n)) (word_is l page head i arena lt);
-      clears_bits = ap asks (clears begun arena.some i lt) ∙ ap (λ (n : ℕ). And (cell.Alloc n) (marks_told found i)) (word_is l page head i arena lt);
-      clears_marks = ap asks (clears_marks begun arena.some i lt) ∙ ap (λ (n : ℕ). Store (cell.Mark n) 0) (word_is l page head i arena lt);
+      loads_marks = ap (asks l) (loads begun arena.some i lt) ∙ ap (λ (n : ℕ). Load (cell.Mark n)) (word_is l page head i arena lt);
+      clears_bits = ap (asks l) (clears begun arena.some i lt) ∙ ap (λ (n : ℕ). And (cell.Alloc n) (marks_told found i)) (word_is l page head i arena lt);
+      clears_marks = ap (asks l) (clears_marks begun arena.some i lt) ∙ ap (λ (n : ℕ). Store (cell.Mark n) 0) (word_is l page head i arena lt);
     }
 
     on_counts : IsBegun l page head found → StepsOnCounts l page head found
     on_counts begun = grind (arith, finishes, tells, tells_heap, tells_live)
 
-    goes_on_from : (n : ℕ) → (b : Bool) → eqb (found 0) (head_word head) ≡ b → GoesOn listing (opening l page head) found n → (n ≡ 0) ⊎ (IsBegun l page head found × (n < steps_on_bits head + 4))
+    goes_on_from : (n : ℕ) → (b : Bool) → eqb (found 0) (head_word head) ≡ b → GoesOn l page head found n → (n ≡ 0) ⊎ (IsBegun l page head found × (n < steps_on_bits head + 4))
     goes_on_from n b e busy = grind (arith, goes_on_until, is_other, not_busy, over)
 
-    goes_on_to : (n : ℕ) → (n ≡ 0) ⊎ (IsBegun l page head found × (n < steps_on_bits head + 4)) → GoesOn listing (opening l page head) found n
+    goes_on_to : (n : ℕ) → (n ≡ 0) ⊎ (IsBegun l page head found × (n < steps_on_bits head + 4)) → GoesOn l page head found n
     goes_on_to n h = grind (arith, goes_on_until)
 
     lost_from : (n : ℕ) → (b : Bool) → eqb (found 0) (head_word head) ≡ b → EndsBy l page head found n Lost → (n ≡ 0) × (found 0 ≢ head_word head)
@@ -206,7 +207,7 @@ module _ (l : Layout) (page : ℕ) (head : SpanHead) (found : ℕ → ℕ) where
     lost_to : (n : ℕ) → (n ≡ 0) × (found 0 ≢ head_word head) → EndsBy l page head found n Lost
     lost_to n h = subst (λ (k : ℕ). EndsBy l page head found k Lost) (sym h.0) (refl, lost_first h.1)
 
-    ends_by : (b : Bool) → eqb (found 0) (head_word head) ≡ b → EndsWithin listing (steps_on_bits head + 4) (opening l page head) found
+    ends_by : (b : Bool) → eqb (found 0) (head_word head) ≡ b → EndsWithin (steps_of l (listing l)) (steps_on_bits head + 4) (opening page head) found
     ends_by b e = grind (arith, goes_on_until, is_other, not_busy)
 
     swept_from : (n : ℕ) (span : SweptSpan) → (b : Bool) → eqb (found 0) (head_word head) ≡ b → EndsBy l page head found n (Swept span) → IsBegun l page head found × (n ≡ steps_on_bits head + 3) × (span ≡ counted_span)

@@ -2,6 +2,7 @@
 use Rattle.std.proofs.Common.{◌≡◌, ◌≢◌, ℕ, ◌≤◌, true, arith}
 use Rattle.gh_base.specs.declared.cell.Ask.TheVariants.{Load}
 use Rattle.gh_base.specs.declared.cell.Cell.TheVariants.{Page}
+use Rattle.gh_base.specs.declared.layout.Layout.{Layout}
 use Rattle.gh_base.specs.declared.pack.PageWord.TheVariants.{Head}
 use Rattle.gh_base.specs.declared.pack.SpanHead.{SpanHead}
 use Rattle.gh_base.specs.Packing.{page_of}
@@ -28,8 +29,8 @@ some_gone word = grind arith
 
 -- A sweep loads no page word, and stays with its span.
 
-pub no_page_loaded : (s : Sweeping) (page : ℕ) → asks s ≢ Load (Page page)
-no_page_loaded s page = grind arith
+pub no_page_loaded : (l : Layout) (s : Sweeping) (page : ℕ) → asks l s ≢ Load (Page page)
+no_page_loaded l s page = grind arith
 
 pub stays : (s : Sweeping) (found : ℕ) → ((goes s found).page ≡ s.page) × ((goes s found).head ≡ s.head)
 stays s found = grind arith

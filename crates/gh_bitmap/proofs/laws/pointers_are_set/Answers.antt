@@ -1,6 +1,7 @@
+use Rattle.gh_base.specs.Machines.{steps_of}
 use Rattle.gh_bitmap.specs.SetPointers.{listing}
 use Rattle.gh_bitmap.proofs.PointerSetting.Running.{ends}
 use Rattle.gh_bitmap.proofs.laws.pointers_are_set.Goals as goal
 
 pub returns : goal.returns
-returns c = ends c.rows_are_written.ensures c.cells_are_told.ensures (c.steps_are_folded.ensures listing)
+returns c l = ends c.rows_are_written.ensures c.cells_are_told.ensures l (c.steps_are_folded.ensures (steps_of l (listing l)))

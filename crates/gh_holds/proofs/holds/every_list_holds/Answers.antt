@@ -21,7 +21,14 @@ module _ (c : goal.After-every_global_is_counted) where
   known = grind arith
 
   wanted : Wanted
-  wanted = record { read = c.packed_words_are_read_back.ensures; whole = c.size_class_laws.ensures.whole_words; slots = c.slots_are_read.ensures; steps = c.steps_go_by_moves.ensures; small = c.the_cursor_is_small.ensures }
+  wanted = record {
+    read = c.packed_words_are_read_back.ensures;
+    whole = c.size_class_laws.ensures.whole_words;
+    slots = c.slots_are_read.ensures;
+    pages = record { passes = c.the_pass_keeps_its_facts.ensures; sweeps = c.the_unswept_pass_keeps_its_facts.ensures; reclaims = c.the_reclaiming_keeps_its_facts.ensures; carves = c.the_carve_keeps_its_facts.ensures };
+    steps = c.steps_go_by_moves.ensures;
+    small = c.the_cursor_is_small.ensures;
+  }
 
   laws : LawsOfLists
   laws = record {

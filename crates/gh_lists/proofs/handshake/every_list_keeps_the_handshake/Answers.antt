@@ -9,7 +9,7 @@ returns c setup es legal =
     let leads = c.the_coordinator_leads_the_handshake.ensures in
     let works = c.a_worker_keeps_the_handshake.ensures in
     let in_it = in_handshake setup c.the_processor_keeps_the_handshake.ensures c.a_processor_writes_its_own.ensures leads works in
-    keeps_it setup (record { back = c.packed_words_are_read_back.ensures.phase; leads = leads; works = works })
+    keeps_it setup (record { back = c.packed_words_are_read_back.ensures.phase; leads = leads; works = works; places = c.workers_keep_places.ensures; writes = c.a_processor_writes_its_own.ensures })
     (c.the_handshake_holds.ensures (those setup) (acks_of setup.layout) in_it)
     (c.the_gone_stay_gone.ensures (those setup) (acks_of setup.layout) in_it)
     (c.the_last_phase_stays.ensures (those setup) (acks_of setup.layout) in_it)

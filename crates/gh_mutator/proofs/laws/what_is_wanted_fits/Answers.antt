@@ -12,6 +12,7 @@ returns c =
       fit = table.fit;
       whole_words = table.whole_words;
       some_slot = table.some_slot;
+      few_slots = table.few_slots;
       number = table.number;
       small_slot = table.small_slot;
       large_slot = table.large_slot;

@@ -1,6 +1,6 @@
-use Rattle.gh_wbuf.specs.EntryTaking.{listing}
+use Rattle.gh_wbuf.specs.EntryTaking.{transitions}
 use Rattle.gh_wbuf.proofs.Entries.{takes}
 use Rattle.gh_wbuf.proofs.laws.entries_are_taken.Goals as goal
 
 pub returns : goal.returns
-returns c l seat held found = takes l seat (c.steps_are_folded.ensures listing) held found
+returns c l seat held found = takes l seat (c.steps_are_folded.ensures (transitions l)) held found

@@ -16,7 +16,7 @@ pub returns-clause-goes : goal.returns-clause-goes
 returns-clause-goes c = λ shapes.
     let m = c.args.self.now in
     let x = c.args.x in
-    c.apply.ensures.goes ∙ direct_goes m x.g x.r c.args.found x.stage c.step-step.result ∙ ap (λ (s : Step Global). applied task.Global (keeping m (held_behind m.poll.local.held (stage_of x.stage) c.args.found)) x.g x.r s) (c.step-step.ensures (register_of m x.g x.r) ∙ ap (λ (l : Layout). step l (register_of m x.g x.r) (global_of x) c.args.found) (c.layout.ensures ∙ ap (λ (p : Processor). p.poll.layout) c.self.view_is))
+    c.apply.ensures.goes ∙ direct_goes m x.g x.r c.args.found x.stage c.step-step.result ∙ ap (λ (s : Step Global). applied task.Global (keeping m (held_behind m.poll.layout m.poll.local.held (stage_of x.stage) c.args.found)) x.g x.r s) (c.step-step.ensures (register_of m x.g x.r) ∙ ap (λ (l : Layout). step l (register_of m x.g x.r) (global_of x) c.args.found) (c.layout.ensures ∙ ap (λ (p : Processor). p.poll.layout) c.self.view_is))
 
 pub returns-clause-gives : goal.returns-clause-gives
 returns-clause-gives c =

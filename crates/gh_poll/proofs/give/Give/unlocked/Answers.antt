@@ -7,5 +7,5 @@ invariant_of-self c = record {
   room = c.no_spans-self-inside.ensures.room;
   cache = c.no_spans-self-inside.ensures.fits c.self.inside.layout;
   held = c.self.invariant.held;
-  stage = c.giving_buffer-self-inside.ensures.fits;
+  stage = c.giving_buffer-self-inside.ensures.fits c.self.inside.layout c.self.invariant.held;
 }

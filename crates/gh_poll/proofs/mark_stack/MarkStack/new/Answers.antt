@@ -6,4 +6,4 @@ use Rattle.gh_poll.proofs.mark_stack.MarkStack.new.Goals as goal
 
 pub stage_of-requires-clause-going : goal.stage_of-requires-clause-going
 stage_of-requires-clause-going c =
-    subst (λ (s : StackScan). goes_on s.stage ≡ true) (sym c.new-scan.ensures) (begins_going c.args.layout.now c.args.goroutine c.args.cycle c.args.registers)
+    subst (λ (s : StackScan). goes_on s.stage ≡ true) (sym c.new-scan.ensures.opening) (begins_going c.args.goroutine c.args.cycle c.args.registers)

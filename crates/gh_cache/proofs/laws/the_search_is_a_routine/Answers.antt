@@ -1,0 +1,7 @@
+use Rattle.std.proofs.Common.{arith}
+use Rattle.std.proofs.Math.Nat.{mod-lt}
+use Rattle.std.proofs.lemmas.Bool.Decides.{nat_tests}
+use Rattle.gh_cache.proofs.laws.the_search_is_a_routine.Goals as goal
+
+pub returns : goal.returns
+returns c = λ l. let fit = l.limits.pages_fit.0 in grind (arith, nat_tests, mod-lt, c.size_class_laws.ensures.few_slots)

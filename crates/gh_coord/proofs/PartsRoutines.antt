@@ -1,0 +1,54 @@
+-- Each part of the coordinator is a routine: by its stages.
+use Rattle.std.proofs.Common.{◌≡◌, ℕ, ◌^◌, ◌<◌, Option, Some, None, refl, ◌∙◌, ap, arith}
+use Rattle.std.specs.Prelude.{is_none}
+use Rattle.gh_base.specs.Machines.{IsRoutine}
+use Rattle.gh_base.specs.Packing.{FitsPage, PackedWordsAreReadBack, page_of}
+use Rattle.gh_coord.specs.declared.sweep_all.SweepAllStage.TheVariants as a
+use Rattle.gh_coord.specs.PartsRoutines.{PartsAreRoutines}
+use Rattle.gh_coord.specs.SweepingAll as all
+use Rattle.gh_coord.specs.Vocabulary.{Lost, PageWord, Swept, SweepEnd}
+use Rattle.gh_coord.proofs.Vocabulary.{Layout, nat_tests, SweepAllStage, SweepStage}
+use Rattle.gh_sweep.specs.Listing as sweep
+use Rattle.gh_sweep.specs.Sound as sweeps
+
+-- a sweep stays at its page
+pub page_stays : (sw : sweep.Sweeping) (stage : SweepStage) (found : ℕ) → (sweep.goes_at sw stage found).page ≡ sw.page
+page_stays sw stage found = grind arith
+
+module _ (l : Layout) (s : all.SweepingAll) (generation : s.generation < 2 ^ 34) where
+  sound_behind : (page : ℕ) → all.Sound l (all.at_stage s (all.behind l page))
+  sound_behind page = grind (arith, nat_tests)
+
+  sound_load : (page : ℕ) (word : PageWord) → page < l.pages → FitsPage word → all.Sound l (all.after_load l s page word)
+  sound_load page word low fits = grind (arith, nat_tests, sound_behind)
+
+  sound_sweep : (page : ℕ) (sw : sweep.Sweeping) (out : Option SweepEnd) → page < l.pages → sw.page ≡ page → sweeps.Sound l sw → sweep.given sw ≡ out → all.Sound l (all.after_sweep l (all.at_stage s (a.Sweep page sw)) page out)
+  sound_sweep page sw None low at sound e = record { generation = generation; page = (low, at); sweep = record { sound = sound; busy = ap is_none e } }
+  sound_sweep page sw (Some Lost) low at sound e = record { generation = generation; page = low; sweep = tt }
+  sound_sweep page sw (Some (Swept span)) low at sound e = sound_behind page
+
+  sound_await : (page : ℕ) (word : PageWord) → page < l.pages → all.Sound l (all.after_await l s page word)
+  sound_await page word low = grind (arith, nat_tests, sound_behind)
+
+  module _ (words : PackedWordsAreReadBack) (is : IsRoutine l (sweep.listing l)) (found : ℕ) (fits : found < 2 ^ 64) where
+    sound_at : (stage : SweepAllStage) → all.IsAtPage l stage → all.RunsSweep l stage → all.Sound l (all.goes_at l s stage found)
+    sound_at (a.LoadPage page) at runs = sound_load page (page_of found) at (words.page_reads found fits)
+    sound_at (a.Sweep page sw) at runs = sound_sweep page (sweep.goes sw found) (sweep.gives sw found) at.0 (page_stays sw sw.stage found ∙ at.1) (is.keeps sw found fits runs.sound runs.busy) refl
+    sound_at (a.Await page) at runs = sound_await page (page_of found) at
+    sound_at a.Ended at runs = record { generation = generation; page = tt; sweep = tt }
+
+pub parts_are_routines : PackedWordsAreReadBack → ((l : Layout) → IsRoutine l (sweep.listing l)) → (l : Layout) → PartsAreRoutines l
+parts_are_routines words sweeps_are l = record {
+  stop = grind (arith, nat_tests);
+  opens = grind (arith, nat_tests);
+  watch = grind (arith, nat_tests);
+  close = grind (arith, nat_tests);
+  sweep = record {
+    keeps = λ s found fits x busy. sound_at l s x.generation words (sweeps_are l) found fits s.stage x.page x.sweep;
+    within = λ s x busy. grind arith;
+    writes = λ s. grind arith;
+    blind = λ s found other store. grind arith;
+  };
+  count = grind (arith, nat_tests);
+  tell = grind (arith, nat_tests);
+}

@@ -1,0 +1,27 @@
+-- Whatever the coordinator is told, each of its steps is on a word that there is.
+use Rattle.std.specs.Prelude.{ℕ, ◌^◌, ◌<◌}
+use Rattle.gh_base.specs.declared.layout.Layout.{Layout}
+use Rattle.gh_base.specs.Cells.{InRange}
+use Rattle.gh_base.specs.Steps.{cell_of}
+use Rattle.gh_coord.specs.Listing.{asks, Coordinating, goes, opening}
+use Rattle.gh_coord.specs.Sound.{SoundStage}
+use Rattle.gh_coord.specs.SweepingAll.{IsAtPage}
+use Rattle.gh_coord.specs.Vocabulary.{CoordStage, Sweep}
+
+-- of the sweep the page alone: what a sweep has counted it knows only by words of 64 bits
+abbrev pub StandsAt : Layout → CoordStage → Type 0
+StandsAt l (Sweep s) = IsAtPage l s.stage
+StandsAt l stage = SoundStage l stage
+
+-- what it knows of its own numbers, in a heap with processors and pages
+pub record StandsWithin (s : Coordinating) : Type 0 where
+  pub procs : 0 < s.layout.procs
+  pub pages : 0 < s.layout.pages
+  pub stops : s.stops < 2 ^ 62
+  pub generation : s.generation < 2 ^ 34
+  pub stage : StandsAt s.layout s.stage
+
+pub record TheCoordinatorStaysWithin : Type 0 where
+  pub at_first : (l : Layout) (seat gogc minheap room : ℕ) → 0 < l.procs → 0 < l.pages → StandsWithin (opening l seat gogc minheap room)
+  pub stays : (s : Coordinating) (found : ℕ) → StandsWithin s → StandsWithin (goes s found)
+  pub within : (s : Coordinating) → StandsWithin s → InRange s.layout (cell_of (asks s))
