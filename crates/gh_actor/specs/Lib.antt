@@ -1,5 +1,7 @@
+pub mod Acting
+pub mod ActingActs
+pub mod ActingRuns
 pub mod Counting
 pub mod Machines
 pub mod MachinesAct
-pub mod MachinesEnd
 pub mod Plans

@@ -2,8 +2,10 @@
 use Rattle.gh_base.specs.declared.layout.Layout.{Layout}
 use Rattle.gh_base.specs.declared.operation.Op.{Op}
 use Rattle.gh_base.specs.Lists.{Setting}
+use Rattle.gh_coord.specs.Listing.{opening}
 use Rattle.gh_script.specs.Program.{Program}
 use Rattle.gh_lists.specs.declared.handshake.Actor.{Actor}
+use Rattle.gh_lists.specs.declared.handshake.Actor.TheVariants.{Leads}
 use Rattle.gh_world.specs.World.{setting_of}
 use Rattle.std.proofs.Common.{arith}
 
@@ -21,4 +23,4 @@ pub nothing_planned : Planned
 nothing_planned = grind arith
 
 pub no_actor : Actor
-no_actor = grind arith
+no_actor = Leads (opening nothing_planned.layout 0 0 0 0)

@@ -2,10 +2,12 @@
 //! of a processor's goroutines.
 #![tactic(auto)]
 
+mod actor;
 mod counts;
 mod machine;
 mod plan;
 
+pub use actor::HeapActor;
 pub use counts::Counts;
 pub use machine::ActorMachine;
 pub use plan::{AnyActor, HeapPlan};

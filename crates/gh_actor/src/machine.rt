@@ -1,33 +1,118 @@
 //! The machine of any actor of a heap.
 
-ghost use Rattle.std.specs.Prelude.{◌≡◌};
+ghost use Rattle.std.specs.Prelude.{◌≡◌, ◌*◌, ◌<◌, IfSome};
+ghost use Rattle.gh_base.specs.declared.value.Answer.{Answer};
+ghost use Rattle.gh_mutator.specs.AtOnce.{object_in};
+ghost use Rattle.gh_mutator.specs.Faults.{rested};
+ghost use Rattle.gh_mutator.specs.Mutating.{Mutating};
+ghost use Rattle.gh_mutator.specs.Processor.{register_of, set_register};
+ghost use Rattle.gh_poll.specs.Registers.{IsNear, IsRegister};
+ghost use Rattle.gh_actor.specs.declared.actor.HeapActor.TheVariants.{Runs};
+ghost use Rattle.gh_actor.specs.Acting.{IsSoundIn};
+ghost use Rattle.gh_actor.specs.Machines.{IsAtRest, IsProcessor};
 
+use crate::actor::HeapActor;
 use crate::plan::{AnyActor, HeapPlan};
-use gh_base::{Answer, Machine, Op, Req};
-use gh_coord::Coord;
-use gh_mutator::Mutator;
+use gh_base::{Answer, Layout, Machine, Op, Req, Routine, Value};
 use gh_table::{Acts, Marked, Operates};
-use gh_worker::Worker;
+use std::marker::Model;
 
-/// The machine of an actor, whichever it is.
+/// An actor with the layout of its heap, in which it is sound.
 #[derive(Drop)]
-pub enum ActorMachine<'s> {
-    /// A processor, which runs what operations are begun.
-    Runs(Mutator<'s>),
-    /// A worker, which marks until the last cycle is swept.
-    Marks(Worker),
-    /// The coordinator, which leads the cycles.
-    Leads(Coord),
+pub struct ActorMachine<'s> {
+    layout: Layout,
+    actor: HeapActor<'s>,
+}
+
+impl<'s> Model for ActorMachine<'s> {
+    ghost use Rattle.gh_actor.specs.Acting.{Acting, IsSoundIn};
+
+    ghost Value = { Acting };
+
+    ghost view = { λ m. record { layout = m.layout; actor = m.actor } };
+
+    ghost invariant = { λ m. IsSoundIn m.layout m.actor };
+}
+
+impl<'s> ActorMachine<'s> {
+    /// The machine of this actor of a heap of the layout.
+    pub fn new(layout: &Layout, actor: HeapActor<'s>) -> ActorMachine<'s>
+        requires { IsSoundIn layout.now actor }
+        ensures { result ≡ record { layout = layout.now; actor = actor.entry } }
+    {
+        ActorMachine {
+            layout: *layout,
+            actor,
+        }
+    }
+
+    /// The actor.
+    #[inline(always)]
+    pub fn actor(&self) -> &HeapActor<'s>
+        ensures { result.now ≡ self.now.actor }
+    {
+        &self.actor
+    }
+
+    /// The actor alone.
+    pub fn into_actor(self) -> HeapActor<'s>
+        ensures { result ≡ self.entry.actor }
+    {
+        let ActorMachine { layout: _, actor } = self;
+        actor
+    }
+
+    // A processor's load whose steps are made without a task.
+
+    /// The first heap word of the object that register `b` of goroutine `g` names; `None` where it holds no reference.
+    #[inline(always)]
+    pub fn object(&self, g: u32, b: u32) -> Option<u32>
+        requires processor { IsProcessor self.now.actor }
+        requires register { IsRegister g b }
+        ensures is { (m : Mutating) → self.now.actor ≡ Runs m → result ≡ object_in (register_of m.processor g b) }
+        ensures within { IfSome result (λ at. at < 1024 * self.now.layout.pages) }
+    {
+        match &self.actor {
+            HeapActor::Runs(processor) => processor.object(&self.layout, g, b),
+            _ => None,
+        }
+    }
+
+    /// Ends the load: register `d` of goroutine `g` takes the value that was found.
+    #[inline(always)]
+    pub fn loaded(&mut self, g: u32, d: u32, found: Value)
+        requires rests { IsAtRest self.old.actor }
+        requires register { IsRegister g d }
+        requires near { IsNear self.old.layout.pages found }
+        ensures is { (m : Mutating) (answer : Answer) → self.old.actor ≡ Runs m → self.new ≡ record self.old { actor = Runs (rested m (set_register m.processor g d found) answer) } }
+        ensures layout { self.new.layout ≡ self.old.layout }
+    {
+        if let HeapActor::Runs(processor) = &mut self.actor {
+            processor.loaded(&self.layout, g, d, found);
+        }
+    }
+
+    /// Ends the load, which is answered a fault.
+    #[inline(always)]
+    pub fn refused(&mut self)
+        requires { IsAtRest self.old.actor }
+        ensures is { (m : Mutating) (answer : Answer) → self.old.actor ≡ Runs m → self.new ≡ record self.old { actor = Runs (rested m m.processor answer) } }
+        ensures layout { self.new.layout ≡ self.old.layout }
+    {
+        if let HeapActor::Runs(processor) = &mut self.actor {
+            processor.refused();
+        }
+    }
 }
 
 impl<'s> Machine for ActorMachine<'s> {
-    ghost use Rattle.gh_actor.specs.Machines.{asks, gives, goes, is_busy, machine_layout};
-    ghost use Rattle.gh_actor.specs.MachinesEnd as proved;
+    ghost use Rattle.gh_actor.specs.Acting.{asks, gives, goes, is_busy, layout_of};
+    ghost use Rattle.gh_actor.specs.ActingActs as proved;
 
     /// The answer of an operation; none where a worker or the coordinator is done.
     type Out = Option<Answer>;
 
-    ghost layout = { machine_layout };
+    ghost layout = { layout_of };
 
     ghost busy = { is_busy };
 
@@ -38,24 +123,24 @@ impl<'s> Machine for ActorMachine<'s> {
     ghost gives = { gives };
 
     fn next(&self) -> Req {
-        match self {
-            ActorMachine::Runs(processor) => processor.next(),
-            ActorMachine::Marks(worker) => worker.next(),
-            ActorMachine::Leads(coordinator) => coordinator.next(),
+        match &self.actor {
+            HeapActor::Runs(processor) => processor.next(&self.layout),
+            HeapActor::Marks(worker) => worker.next(&self.layout),
+            HeapActor::Leads(coordinator) => coordinator.next(&self.layout),
         }
     }
 
     fn take(&mut self, found: u64) -> Option<Option<Answer>> {
-        match self {
-            ActorMachine::Runs(processor) => match processor.take(found) {
+        match &mut self.actor {
+            HeapActor::Runs(processor) => match processor.take(&self.layout, found) {
                 Some(answer) => Some(Some(answer)),
                 None => None,
             },
-            ActorMachine::Marks(worker) => match worker.take(found) {
+            HeapActor::Marks(worker) => match worker.take(&self.layout, found) {
                 Some(()) => Some(None),
                 None => None,
             },
-            ActorMachine::Leads(coordinator) => match coordinator.take(found) {
+            HeapActor::Leads(coordinator) => match coordinator.take(&self.layout, found) {
                 Some(()) => Some(None),
                 None => None,
             },
@@ -68,10 +153,10 @@ impl<'s> Machine for ActorMachine<'s> {
 }
 
 impl<'s> Acts<HeapPlan, AnyActor, Op> for ActorMachine<'s> {
-    ghost use Rattle.gh_actor.specs.Machines.{Belongs, machine_actor};
-    ghost use Rattle.gh_actor.specs.MachinesAct as proved;
+    ghost use Rattle.gh_actor.specs.Acting.{acts_as, Belongs};
+    ghost use Rattle.gh_actor.specs.ActingActs as proved;
 
-    ghost acts_as = { machine_actor };
+    ghost acts_as = { acts_as };
 
     ghost belongs = { Belongs };
 
@@ -91,32 +176,32 @@ impl<'s> Acts<HeapPlan, AnyActor, Op> for ActorMachine<'s> {
 }
 
 impl<'s> Marked for ActorMachine<'s> {
-    ghost use Rattle.gh_actor.specs.Machines.{machine_marks};
+    ghost use Rattle.gh_actor.specs.Acting.{marked};
 
-    ghost marked = { machine_marks };
+    ghost marked = { marked };
 
     fn marks(&self) -> u64 {
-        match self {
-            ActorMachine::Runs(processor) => processor.marks(),
-            ActorMachine::Marks(worker) => worker.marks(),
-            ActorMachine::Leads(coordinator) => coordinator.marks(),
+        match &self.actor {
+            HeapActor::Runs(processor) => processor.marks(),
+            HeapActor::Marks(worker) => worker.marks(),
+            HeapActor::Leads(coordinator) => coordinator.marks(),
         }
     }
 }
 
 impl<'s> Operates<HeapPlan, AnyActor, Op> for ActorMachine<'s> {
-    ghost use Rattle.gh_actor.specs.Machines.{begins, MachineMayBegin};
-    ghost use Rattle.gh_actor.specs.MachinesAct as proved;
+    ghost use Rattle.gh_actor.specs.Acting.{begins, MayBegin};
+    ghost use Rattle.gh_actor.specs.ActingActs as proved;
 
-    ghost may = { MachineMayBegin };
+    ghost may = { MayBegin };
 
     ghost begins = { begins };
 
     fn begin_with(&mut self, op: &Op) {
-        match self {
-            ActorMachine::Runs(processor) => processor.begin(*op),
-            ActorMachine::Marks(_) => unreachable!(),
-            ActorMachine::Leads(_) => unreachable!(),
+        match &mut self.actor {
+            HeapActor::Runs(processor) => processor.begin(&self.layout, *op),
+            HeapActor::Marks(_) => unreachable!(),
+            HeapActor::Leads(_) => unreachable!(),
         }
     }
 

@@ -1,10 +1,11 @@
 //! Runs of the coordinator and its parts.
 
-ghost use Rattle.std.specs.Prelude.{◌≡◌, ◌<◌, true};
-ghost use Rattle.gh_coord.specs.Listing.{is_busy};
+ghost use Rattle.std.specs.Prelude.{◌<◌};
+ghost use Rattle.gh_base.specs.Machines.{IsBusy};
+ghost use Rattle.gh_coord.specs.Sound.{listing, SoundCoordinating};
 
 use gh_base::trace::run_routine_alone;
-use gh_base::{GONE, Layout, Machine, Req};
+use gh_base::{GONE, Layout, Req, Routine};
 use gh_coord::{Coord, SweepAll, Watch, Watched};
 use std::alloc::{AllocError, Global};
 use std::test::Fail;
@@ -59,14 +60,15 @@ fn words(alloc: Global, set: &[(u32, u64)]) -> Result<Vec<u64>, AllocError> {
 }
 
 /// How many of these steps it asks for, one after the other, where each finds the word beside it.
-fn asks_for(coord: &mut Coord, told: &[(Req, u64)]) -> usize
-    requires { is_busy coord.old.stage ≡ true }
+fn asks_for(layout: &Layout, coord: &mut Coord, told: &[(Req, u64)]) -> usize
+    requires sound { SoundCoordinating layout.now coord.old }
+    requires busy { IsBusy (listing layout.now) coord.old }
 {
     for (i, (request, found)) in told.iter().enumerate() {
-        if coord.next() != *request {
+        if coord.next(layout) != *request {
             return i;
         }
-        match coord.take(*found) {
+        match coord.take(layout, *found) {
             None => {}
             Some(()) => return i + 1,
         }
@@ -257,12 +259,12 @@ fn last_cycle(told: &mut Told) -> Result<(), AllocError> {
 fn cycles_are_run(rt: HostRuntime) -> Result<(), Fail> {
     let layout = Layout::new(16, 1, 1, 1, 1)?;
     let mut coord = Coord::new(rt.alloc(), &layout, 2, 100, 65_536, 1)?;
-    assert_eq!(rt; coord.opening(), 45_875);
+    assert_eq!(rt; coord.opening(&layout), 45_875);
     let mut told = Vec::new(rt.alloc());
     first_cycle(&mut told)?;
     last_cycle(&mut told)?;
     let steps = told.len();
-    assert_eq!(rt; asks_for(&mut coord, &told), steps);
+    assert_eq!(rt; asks_for(&layout, &mut coord, &told), steps);
     assert!(rt; coord.is_done());
     assert_eq!(rt; coord.cycles().len(), 1);
     for cycle in coord.cycles() {

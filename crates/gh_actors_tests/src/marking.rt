@@ -2,9 +2,10 @@
 
 ghost use Rattle.std.specs.Prelude.{◌≡◌, IsTrue, true, false};
 ghost use Rattle.gh_base.specs.Shapes.{ShapesFit};
-ghost use Rattle.gh_mutator.specs.Mutating.{is_busy, layout as layout_of};
+ghost use Rattle.gh_mutator.specs.Mutating.{is_busy};
+ghost use Rattle.gh_mutator.specs.Sound.{SoundMutating};
 
-use gh_base::{Answer, Layout, Machine, Name, Op, Req, Shapes};
+use gh_base::{Answer, Layout, Name, Op, Req, Shapes};
 use gh_mutator::Mutator;
 use std::alloc::Global;
 use std::test::Fail;
@@ -47,15 +48,15 @@ fn no_types(alloc: Global) -> Shapes
 /// Tells it what its steps find: that it asks for just these steps, and is answered this with the last.
 fn tell(layout: &Layout, mutator: &mut Mutator<'_>, steps: &[(Req, u64)], answer: Answer) -> bool
     requires busy { is_busy mutator.old ≡ true }
-    requires layout { layout_of mutator.old ≡ layout.now }
-    ensures layout { layout_of mutator.new ≡ layout.now }
+    requires sound { SoundMutating layout.now mutator.old.shapes mutator.old.processor }
+    ensures sound { SoundMutating layout.now mutator.new.shapes mutator.new.processor }
     ensures rests { IsTrue result → is_busy mutator.new ≡ false }
 {
     for (request, found) in steps {
-        if mutator.next() != *request {
+        if mutator.next(layout) != *request {
             return false;
         }
-        let told = mutator.take(*found);
+        let told = mutator.take(layout, *found);
         if told.is_some() {
             return told == Some(answer);
         }
@@ -67,8 +68,8 @@ fn tell(layout: &Layout, mutator: &mut Mutator<'_>, steps: &[(Req, u64)], answer
 fn a_cycle_is_waited_for_and_marked(rt: HostRuntime) -> Result<(), Fail> {
     let layout = Layout::new(16, 1, 1, 1, 1)?;
     let shapes = no_types(rt.alloc());
-    let mut mutator = Mutator::new(&layout, 0, &shapes);
-    mutator.begin(Op::Gc { g: 0 });
+    let mut mutator = Mutator::new(0, &shapes);
+    mutator.begin(&layout, Op::Gc { g: 0 });
     let steps = [
         (Req::Or(6, 1), 0),
         // no marking, and no cycle is swept
@@ -88,14 +89,14 @@ fn a_cycle_is_waited_for_and_marked(rt: HostRuntime) -> Result<(), Fail> {
     ];
     assert!(rt; tell(&layout, &mut mutator, &steps, Answer::Swept));
     // a turn's own poll, with marking on: it takes a buffer with room
-    mutator.begin(Op::Poll);
+    mutator.begin(&layout, Op::Poll);
     let steps = [
         (Req::Load(1), 5),
         (Req::Load(BUFFER_ROW), 0),
         (Req::Swap(BUFFER_ROW, 0, 256), 0),
     ];
     assert!(rt; tell(&layout, &mut mutator, &steps, Answer::Done));
-    mutator.begin(Op::GetGlobal { g: 0, d: 0, k: 0 });
+    mutator.begin(&layout, Op::GetGlobal { g: 0, d: 0, k: 0 });
     let steps = [
         (Req::Load(GLOBAL_ROW), 1),
         (Req::Load(BIRTH_ROW), 4_294_967_296),
@@ -110,7 +111,7 @@ fn a_cycle_is_waited_for_and_marked(rt: HostRuntime) -> Result<(), Fail> {
     );
     // the global held another object by now: both are shaded
     assert!(rt; mutator.has_room());
-    mutator.begin(Op::SetGlobal { g: 0, k: 0, v: 0 });
+    mutator.begin(&layout, Op::SetGlobal { g: 0, k: 0, v: 0 });
     let steps = [
         (Req::Load(GLOBAL_ROW), 65),
         (Req::Load(PAGE_ROW), HEAD),
@@ -130,7 +131,7 @@ fn a_cycle_is_waited_for_and_marked(rt: HostRuntime) -> Result<(), Fail> {
         k: 0,
         v: 0,
     };
-    mutator.begin(store);
+    mutator.begin(&layout, store);
     let steps = [
         (Req::Load(PAGE_ROW), HEAD),
         (Req::Load(BITMAP_ROW), 1),
@@ -141,10 +142,10 @@ fn a_cycle_is_waited_for_and_marked(rt: HostRuntime) -> Result<(), Fail> {
     ];
     assert!(rt; tell(&layout, &mut mutator, &steps, Answer::Done));
     // the goroutine ends, and the buffer is given back with its two entries
-    mutator.begin(Op::End(0));
+    mutator.begin(&layout, Op::End(0));
     let steps = [(Req::Store(SCANNED_ROW, u64::MAX), 1)];
     assert!(rt; tell(&layout, &mut mutator, &steps, Answer::Done));
-    mutator.begin(Op::Leave);
+    mutator.begin(&layout, Op::Leave);
     let steps = [
         (Req::Store(BUFFER_ROW, 2), 256),
         (Req::Store(ACK_ROW, u64::MAX), 1),

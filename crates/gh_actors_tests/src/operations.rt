@@ -1,13 +1,76 @@
 //! Operations of a processor: what they are answered, and which steps they take.
 
-ghost use Rattle.std.specs.Prelude.{◌≡◌, IfOk, length};
+ghost use Rattle.std.specs.Prelude.{◌≡◌, ◌<◌, IfOk, length, true};
 ghost use Rattle.gh_base.specs.Shapes.{ShapesFit};
+ghost use Rattle.gh_mutator.specs.Mutating.{is_busy};
 
 use gh_base::trace::run_alone;
-use gh_base::{Answer, Bits, Cell, Layout, Machine, Name, Op, Shape, Shapes};
+use gh_base::{Answer, Bits, Cell, Layout, Machine, Name, Op, Req, Shape, Shapes};
 use gh_mutator::Mutator;
 use std::alloc::{AllocError, Global};
+use std::marker::Model;
 use std::test::Fail;
+
+/// A processor with the layout of its heap, in which it is sound, as a machine.
+#[derive(Drop)]
+struct Alone<'s> {
+    layout: Layout,
+    processor: Mutator<'s>,
+}
+
+impl<'s> Model for Alone<'s> {
+    ghost use Rattle.gh_base.specs.declared.layout.Layout.{Layout};
+    ghost use Rattle.gh_mutator.specs.Mutating.{Mutating};
+    ghost use Rattle.gh_mutator.specs.Sound.{SoundMutating};
+
+    ghost Value = { Layout × Mutating };
+
+    ghost view = { λ m. (m.layout, m.processor) };
+
+    ghost invariant = { λ m. SoundMutating m.layout m.processor.shapes m.processor.processor };
+}
+
+impl<'s> Machine for Alone<'s> {
+    ghost use Rattle.std.specs.Prelude.{refl};
+    ghost use Rattle.gh_mutator.specs.Mutating.{asks, gives, goes, is_busy};
+    ghost use Rattle.gh_mutator.specs.Stays as proved;
+
+    type Out = Answer;
+
+    ghost layout = { λ m. m.0 };
+
+    ghost busy = { λ m. is_busy m.1 };
+
+    ghost asks = { λ m. asks m.0 m.1 };
+
+    ghost goes = { λ m found. (m.0, goes m.0 m.1 found) };
+
+    ghost gives = { λ m found. gives m.0 m.1 found };
+
+    fn next(&self) -> Req {
+        self.processor.next(&self.layout)
+    }
+
+    fn take(&mut self, found: u64) -> Option<Answer> {
+        self.processor.take(&self.layout, found)
+    }
+
+    ghost ends = { λ m found busy. proved.ends m.0 m.1 found busy };
+
+    ghost stays = { λ _ _. refl };
+}
+
+/// A new processor that has begun a `new` of the first type.
+fn making<'s>(layout: Layout, shapes: &'s Shapes) -> Alone<'s>
+    requires seat { 0 < layout.procs }
+    requires types { 0 < length shapes.now }
+    requires shapes { ShapesFit shapes.now }
+    ensures { is_busy result.1 ≡ true }
+{
+    let mut processor = Mutator::new(0, shapes);
+    processor.begin(&layout, Op::New { g: 0, d: 1, t: 0 });
+    Alone { layout, processor }
+}
 
 /// One type of two numbers.
 fn one_type(alloc: Global) -> Result<Shapes, AllocError>
@@ -110,13 +173,12 @@ fn a_full_heap_is_told_full(rt: HostRuntime) -> Result<(), Fail> {
     let layout = Layout::new(16, 1, 1, 1, 1)?;
     let numbers = one_type(rt.alloc())?;
     let mut full = full_words(rt.alloc(), &layout, 0)?;
-    let mut mutator = Mutator::new(&layout, 0, &numbers);
-    mutator.begin(Op::New { g: 0, d: 1, t: 0 });
-    let steps = run_alone(rt.alloc(), &mut mutator, &layout, &mut full, 999)?;
+    let mut alone = making(layout, &numbers);
+    let steps = run_alone(rt.alloc(), &mut alone, &layout, &mut full, 999)?;
     // a search: the lock; the passes over swept and over unswept spans see the span; 16 pages are looked at; an object
     // stands in the span; the pass over swept spans and the pages once more; the lock is freed. Then the wait: a cycle is
     // asked for, a poll, the last swept cycle. Then a search again.
-    let told = (steps.out, steps.lines.len(), mutator.marks());
+    let told = (steps.out, steps.lines.len(), alone.processor.marks());
     assert_eq!(rt; told, (Some(Answer::Full), 81, 1));
     let wait = steps.lines[39].as_str() == "or want 1: 0"
         && steps.lines[41].as_str() == "load swept: 1";
@@ -130,18 +192,17 @@ fn an_object_is_made_behind_a_stop(rt: HostRuntime) -> Result<(), Fail> {
     let shapes = node_type(rt.alloc())?;
     // no room; a cycle is asked for, and the poll finds stop 1 and acknowledges it
     let mut stopped = full_words(rt.alloc(), &layout, 6)?;
-    let mut mutator = Mutator::new(&layout, 0, &shapes);
-    mutator.begin(Op::New { g: 0, d: 1, t: 0 });
-    let steps = run_alone(rt.alloc(), &mut mutator, &layout, &mut stopped, 42)?;
+    let mut alone = making(layout, &shapes);
+    let steps = run_alone(rt.alloc(), &mut alone, &layout, &mut stopped, 42)?;
     let stops = steps.lines.len() == 42 && steps.lines[41].as_str() == "store ack 0 1: 0";
-    assert!(rt; steps.out.is_none() && stops && mutator.is_busy());
+    assert!(rt; steps.out.is_none() && stops && alone.processor.is_busy());
     // behind it the second cycle is marked, and all pages are free
     let mut free = vec![in rt.alloc(); 0u64; layout.words() as usize]?;
     free[layout.word(Cell::Phase) as usize] = 5;
     free[layout.word(Cell::Gen) as usize] = 2;
     free[layout.word(Cell::Begun) as usize] = 2;
     free[layout.word(Cell::Swept) as usize] = 1;
-    let steps = run_alone(rt.alloc(), &mut mutator, &layout, &mut free, 999)?;
+    let steps = run_alone(rt.alloc(), &mut alone, &layout, &mut free, 999)?;
     // the phase, the generation, the cycle, the stack's scan and the last swept cycle; then as with marking off, but
     // for the mark, and for the work and the slack, by which nothing is owed
     let told = (steps.out, steps.lines.len());

@@ -1,5 +1,5 @@
 -- Making an object in its slot: what is asked for at each stage, where that leads, what it has given, and what it writes.
-use Rattle.std.specs.Prelude.{ℕ, ◌+◌, ◌*◌, ◌/◌, ◌%◌, ◌^◌, Bool, true, false, nat_le, nat_lt, if◌then◌else◌, Option, Some, None, is_none}
+use Rattle.std.specs.Prelude.{ℕ, ◌+◌, ◌*◌, ◌/◌, ◌%◌, ◌^◌, Bool, true, false, nat_le, nat_lt, not, if◌then◌else◌, Option, Some, None, is_none}
 use Rattle.gh_base.specs.declared.cell.Cell.TheVariants as cell
 use Rattle.gh_base.specs.declared.cell.Ask.{Ask}
 use Rattle.gh_base.specs.declared.cell.Ask.TheVariants.{Load, Store, Or, Add}
@@ -103,3 +103,15 @@ listing l = record { asks = asks l; goes = goes; given = given; sound = Sound l;
 -- its next step makes the object
 abbrev pub makes_its_object : Placing → Bool
 makes_its_object p = makes_its_object_at p.stage
+
+-- its next step neither makes the object, nor gives a span back, nor is its last
+abbrev pub goes_further_at : (marking : Bool) → PlaceStage → Bool
+goes_further_at marking Alloc = false
+goes_further_at marking (Give g) = false
+goes_further_at marking Count = not marking
+goes_further_at marking (LoadTrigger bytes) = false
+goes_further_at marking (Ended wants) = false
+goes_further_at marking _ = true
+
+abbrev pub goes_further : Placing → Bool
+goes_further p = goes_further_at p.marking p.stage

@@ -6,9 +6,9 @@
 //! at the same time. While a cycle is under way the trigger is 2^64 - 1, so that a second one is not asked for; and
 //! who knows that marking is on does not look.
 
-ghost use Rattle.std.specs.Prelude.{◌≡◌, ℕ, ◌+◌, ◌*◌, ◌^◌, ◌<◌, ◌≤◌, true};
+ghost use Rattle.std.specs.Prelude.{◌≡◌, ℕ, ◌+◌, ◌*◌, ◌^◌, ◌<◌, ◌≤◌, IsTrue, None, false, true};
 ghost use Rattle.gh_base.specs.declared.layout.Layout.{Layout};
-ghost use Rattle.gh_alloc.specs.Place.{counted, filled, given, goes, is_busy, made, makes_its_object, opening};
+ghost use Rattle.gh_alloc.specs.Place.{counted, filled, given, goes, goes_further, is_busy, made, makes_its_object, opening};
 ghost use Rattle.gh_alloc.specs.PlaceSound.{Sound};
 ghost use Rattle.gh_alloc.specs.declared.place.PlaceStage.TheVariants.{Bits};
 ghost use Rattle.gh_bitmap.specs.SetPointers as setting;
@@ -176,20 +176,39 @@ fn filled<'s>(marking: bool) -> PlaceStage<'s>
 }
 
 impl<'s> Place<'s> {
-    /// Goes on by what its step found.
-    fn go(&mut self, layout: &Layout, found: u64)
-        requires sound { Sound layout.now self.old }
-        requires busy { is_busy self.old.stage ≡ true }
-        ensures { self.new ≡ goes self.old found }
+    /// Its next step neither makes the object, nor gives a span back, nor is its last: [`Place::goes_on`] may make it.
+    #[inline(always)]
+    pub fn goes_further(&self) -> bool
+        ensures exactly { result ≡ goes_further self.now }
+        ensures busy { IsTrue result → given self.now ≡ None }
+        ensures acts { IsTrue result → makes_its_object self.now ≡ false }
+        ensures goes_on { IsTrue result → (found : ℕ) → given (goes self.now found) ≡ None }
     {
+        match self.stage {
+            PlaceStage::Clear(_) | PlaceStage::Birth | PlaceStage::Bits(_) | PlaceStage::Mark =>
+                true,
+            PlaceStage::Count => !self.marking,
+            _ => false,
+        }
+    }
+
+    /// Makes such a step, which found this. Most steps of a making are such, and change a number or the stage alone.
+    #[inline(always)]
+    pub fn goes_on(&mut self, layout: &Layout, found: u64)
+        requires sound { Sound layout.now self.old }
+        requires further { goes_further self.old ≡ true }
+        ensures goes { self.new ≡ goes self.old found }
+        ensures sound { Sound layout.now self.new }
+    {
+        making_is_a_routine();
         match &mut self.stage {
             PlaceStage::Clear(k) => {
                 let next = *k + 1;
-                self.stage = if next < self.slot {
-                    PlaceStage::Clear(next)
+                if next < self.slot {
+                    *k = next;
                 } else {
-                    PlaceStage::Birth
-                };
+                    self.stage = PlaceStage::Birth;
+                }
             }
             PlaceStage::Birth => self.stage = self.bits(),
             PlaceStage::Bits(bits) => {
@@ -198,12 +217,25 @@ impl<'s> Place<'s> {
                 }
             }
             PlaceStage::Mark => self.stage = PlaceStage::Alloc,
+            PlaceStage::Count => self.stage = self.counted(found),
+            _ => {}
+        }
+    }
+
+    /// Goes on by what its step found.
+    fn go(&mut self, layout: &Layout, found: u64)
+        requires sound { Sound layout.now self.old }
+        requires busy { is_busy self.old.stage ≡ true }
+        ensures { self.new ≡ goes self.old found }
+    {
+        match &mut self.stage {
             PlaceStage::Alloc => self.stage = self.made(),
             PlaceStage::Give(_) => self.stage = PlaceStage::Count,
             PlaceStage::Count => self.stage = self.counted(found),
             PlaceStage::LoadTrigger(bytes) => self.stage = PlaceStage::Ended(found <= *bytes),
             // A cycle is asked for once.
             PlaceStage::Ended(asks) => *asks = false,
+            _ => self.goes_on(layout, found),
         }
     }
 }

@@ -11,19 +11,19 @@ abbrev Closes : CoordStage → Type 0
 Closes (Close e) = Unit {0}
 Closes _ = ⊥
 
-writes_at : (s : Coordinating) (stage : CoordStage) → LeavesOrClears (asks_at s stage)
-writes_at s stage = grind arith
+writes_at : (l : Layout) (s : Coordinating) (stage : CoordStage) → LeavesOrClears (asks_at l s stage)
+writes_at l s stage = grind arith
 
 -- What each step leads to.
-module _ (s m : Coordinating) (found : ℕ) where
+module _ (l : Layout) (s m : Coordinating) (found : ℕ) where
   abbrev closed : close.Closing → Coordinating
   closed e = after_close (at_stage m (Close e)) (close.given e)
 
   -- Any other step: as much has lapsed as before, and the step behind it clears no bank; where that stores the generation, this one has cleared the bank.
   record Goes (stage : CoordStage) (to : Coordinating) : Type 0 where
-    stays : (asks_at s stage ≡ Load cell.Bank → ⊥) → lapsed_by_now to ≡ lapsed_at m.lapsed stage
-    clears : (value : ℕ) → asks to ≡ Store cell.Bank value → asks_at s stage ≡ Load cell.Bank
-    ends : (generation : ℕ) → asks to ≡ Store cell.Gen generation → asks_at s stage ≡ Store cell.Bank 0
+    stays : (asks_at l s stage ≡ Load cell.Bank → ⊥) → lapsed_by_now to ≡ lapsed_at m.lapsed stage
+    clears : (value : ℕ) → asks l to ≡ Store cell.Bank value → asks_at l s stage ≡ Load cell.Bank
+    ends : (generation : ℕ) → asks l to ≡ Store cell.Gen generation → asks_at l s stage ≡ Store cell.Bank 0
 
   -- it leads to another part than the end of marking
   aside : {stage : CoordStage} (to : Coordinating) → (Closes to.stage → ⊥) → lapsed_by_now to ≡ lapsed_at m.lapsed stage → Goes stage to
@@ -32,43 +32,43 @@ module _ (s m : Coordinating) (found : ℕ) where
   close_goes : (e : close.Closing) (stage : CloseStage) → e.stage ≡ stage → Goes (Close e) (closed (close.goes_at e stage found))
   close_goes e stage is = grind arith
 
-  goes_so : (stage : CoordStage) → m.stage ≡ stage → Goes stage (goes_at m stage found)
+  goes_so : (stage : CoordStage) → m.stage ≡ stage → Goes stage (goes_at l m stage found)
   goes_so (Close e) is = close_goes e e.stage refl
   goes_so Done is = subst (λ (stage : CoordStage). Goes stage m) is (aside m (λ x. subst Closes is x) refl)
-  goes_so p is = by_event m found (Goes p) p (λ e may. grind arith)
+  goes_so p is = by_event l m found (Goes p) p (λ e may. grind arith)
 
-lapses : (s : Coordinating) (found : ℕ) → asks s ≡ Load cell.Bank → Lapses s found
-lapses s found e = grind arith
+lapses : (l : Layout) (s : Coordinating) (found : ℕ) → asks l s ≡ Load cell.Bank → Lapses l s found
+lapses l s found e = grind arith
 
-leads : (s : Coordinating) (found : ℕ) → Goes s (counted s) found s.stage (goes s found)
-leads s found = grind (arith, goes_so)
+leads : (l : Layout) (s : Coordinating) (found : ℕ) → Goes l s (counted s) found s.stage (goes l s found)
+leads l s found = grind (arith, goes_so)
 
 -- In a run the step before the store of the generation has cleared the bank, and the one before that has loaded it.
 module _ (l : Layout) (seat gogc minheap room : ℕ) (found : ℕ → ℕ) where
   abbrev now : ℕ → Coordinating
   now n = state l seat gogc minheap room found n
 
-  ends_so : (n generation : ℕ) → asks (now n) ≡ Store cell.Gen generation → HasLapsed l seat gogc minheap room found n
+  ends_so : (n generation : ℕ) → asks l (now n) ≡ Store cell.Gen generation → HasLapsed l seat gogc minheap room found n
   ends_so zero generation e = absurd (cc)
-  ends_so (suc zero) generation e = absurd (let first = (leads (now 0) (found 0)).ends generation e in cc)
+  ends_so (suc zero) generation e = absurd (let first = (leads l (now 0) (found 0)).ends generation e in cc)
   ends_so (suc (suc n)) generation e =
-      let clears = (leads (now (suc n)) (found (suc n))).ends generation e in
-      let loads = (leads (now n) (found n)).clears 0 clears in
+      let clears = (leads l (now (suc n)) (found (suc n))).ends generation e in
+      let loads = (leads l (now n) (found n)).clears 0 clears in
       record {
         load = n;
         is_before = refl;
         loads = loads;
         clears = clears;
-        lapsed_is = (leads (now (suc n)) (found (suc n))).stays (λ x. absurd (let no = sym clears ∙ x in cc)) ∙ (lapses (now n) (found n) loads).adds;
+        lapsed_is = (leads l (now (suc n)) (found (suc n))).stays (λ x. absurd (let no = sym clears ∙ x in cc)) ∙ (lapses l (now n) (found n) loads).adds;
       }
 
 pub the_bank_lapses : TheBankLapses
 the_bank_lapses = record {
   at_first = λ l seat gogc minheap room. refl;
   lapses = lapses;
-  stays = λ s found. (leads s found).stays;
-  writes = λ s. writes_at s s.stage;
-  clears_behind = λ s found. (leads s found).clears;
+  stays = λ l s found. (leads l s found).stays;
+  writes = λ l s. writes_at l s s.stage;
+  clears_behind = λ l s found. (leads l s found).clears;
   clears_no_first = λ l seat gogc minheap room value e. cc;
   ends = ends_so;
 }

@@ -2,10 +2,10 @@
 use Rattle.std.proofs.Common.{◌≡◌, ◌≢◌, ℕ, true, arith, ◌↔◌}
 use Rattle.gh_phase.specs.declared.view.RunPhase.{RunPhase}
 use Rattle.gh_phase.specs.declared.view.RunPhase.TheVariants as run
-use Rattle.gh_coord.proofs.Vocabulary.{Coordinating, CoordStage, FindsGone, goes, is_busy, last_of, Marks, Post, post_at, SoundAt, Stopped}
+use Rattle.gh_coord.proofs.Vocabulary.{Coordinating, CoordStage, FindsGone, goes, is_busy, last_of, Layout, Marks, Post, post_at, SoundAt, Stopped}
 
-pub finds_gone : (s : Coordinating) (found : ℕ) → is_busy s.stage ≡ true → FindsGone found s s.stage (goes s found)
-finds_gone s found busy = record { below = grind arith; last = grind arith }
+pub finds_gone : (l : Layout) (s : Coordinating) (found : ℕ) → is_busy s.stage ≡ true → FindsGone l found s s.stage (goes l s found)
+finds_gone l s found busy = record { below = grind arith; last = grind arith }
 
 pub finishes_at : (s : Coordinating) (stage : CoordStage) → SoundAt s stage → last_of (post_at stage) ≡ run.Finished → s.is_last ≡ true
 finishes_at s stage f e = grind arith

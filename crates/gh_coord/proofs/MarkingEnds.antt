@@ -15,7 +15,7 @@ use Rattle.gh_coord.specs.Closing as close
 use Rattle.gh_coord.specs.Stopping as stop
 use Rattle.gh_coord.specs.Watching as watch
 use Rattle.gh_coord.proofs.Stepping.{Run, same_ask}
-use Rattle.gh_coord.proofs.Vocabulary.{after_check, after_close, after_stop_again, All, asks, asks_at, at_stage, Check, Close, CloseStage, Coordinating, CoordStage, counted, Done, goes_at, GONE, Layout, Load, nat_tests, NotYet, phase_word, StopAgain, StopStage, Store, WatchStage}
+use Rattle.gh_coord.proofs.Vocabulary.{after_check, after_close, after_stop_again, All, asks, asks_at, at_stage, Check, Close, CloseStage, Coordinating, CoordStage, counted, Done, goes_at, GONE, Load, nat_tests, NotYet, phase_word, StopAgain, StopStage, Store, WatchStage}
 
 -- what the tests of the listing say of the words
 acked : (stops v : ℕ) → stop.is_acknowledged stops v ≡ true → (v ≡ stops) ⊎ (v ≡ GONE)
@@ -41,8 +41,8 @@ module _ (run : Run) where
   record Stopped (stops n actors : ℕ) : Type 0 where
     first : ℕ
     is_before : first < n
-    stores : asks (now first) ≡ Store cell.Phase (phase_word (record { stops = stops; phase = phase.Stop }))
-    leaves : (m : ℕ) → first < m → m < n → LeavesMarks (asks (now m))
+    stores : asks run.layout (now first) ≡ Store cell.Phase (phase_word (record { stops = stops; phase = phase.Stop }))
+    leaves : (m : ℕ) → first < m → m < n → LeavesMarks (asks run.layout (now m))
     each : (i : ℕ) → i < actors → Found first n (cell.Ack i) (IsAcked stops)
 
   -- and the first so many words that are watched were found as wanted
@@ -51,8 +51,8 @@ module _ (run : Run) where
     last : ℕ
     is_before : first < n
     is_by : last ≤ n
-    stores : asks (now first) ≡ Store cell.Phase (phase_word (record { stops = stops; phase = phase.Stop }))
-    leaves : (m : ℕ) → first < m → m < n → LeavesMarks (asks (now m))
+    stores : asks run.layout (now first) ≡ Store cell.Phase (phase_word (record { stops = stops; phase = phase.Stop }))
+    leaves : (m : ℕ) → first < m → m < n → LeavesMarks (asks run.layout (now m))
     acknowledged : (i : ℕ) → i < stop.acks_of run.layout → Found first last (cell.Ack i) (IsAcked stops)
     each : (i : ℕ) → i < words → Found last n (watch.cell_at run.layout i) (IsWanted begun (watch.cell_at run.layout i))
 
@@ -84,15 +84,14 @@ module _ (run : Run) where
   Knows stops begun n (Close cl) = CloseKnows stops begun n cl.stage
   Knows stops begun n _ = Unit {0}
 
-  record Has (n : ℕ) (s : Coordinating) : Type 0 where
-    layout_is : s.layout ≡ run.layout
-    knows : Knows s.stops s.begun n s.stage
+  abbrev Has : ℕ → Coordinating → Type 0
+  Has n s = Knows s.stops s.begun n s.stage
 
   -- what was found is found by any later step
   later : (first n : ℕ) (at : Cell) (IsSo : ℕ → Type 0) → Found first n at IsSo → Found first (suc n) at IsSo
   later first n at IsSo f = grind arith
 
-  leaves_on : (first n : ℕ) → ((m : ℕ) → first < m → m < n → LeavesMarks (asks (now m))) → LeavesMarks (asks (now n)) → (m : ℕ) → first < m → m < suc n → LeavesMarks (asks (now m))
+  leaves_on : (first n : ℕ) → ((m : ℕ) → first < m → m < n → LeavesMarks (asks run.layout (now m))) → LeavesMarks (asks run.layout (now n)) → (m : ℕ) → first < m → m < suc n → LeavesMarks (asks run.layout (now m))
   leaves_on first n before one m behind lt = grind arith
 
   -- one more of a row
@@ -100,10 +99,10 @@ module _ (run : Run) where
   one_more P i before one j lt = grind arith
 
   module _ (stops n : ℕ) where
-    waits : (i : ℕ) → Stopped stops n i → LeavesMarks (asks (now n)) → Stopped stops (suc n) i
+    waits : (i : ℕ) → Stopped stops n i → LeavesMarks (asks run.layout (now n)) → Stopped stops (suc n) i
     waits i k one = let before : k.first < n = k.is_before in record { first = k.first; is_before = omega arith; stores = k.stores; leaves = leaves_on k.first n k.leaves one; each = λ j lt. later k.first n (cell.Ack j) (IsAcked stops) (k.each j lt) }
 
-    finds_ack : (i : ℕ) → Stopped stops n i → asks (now n) ≡ Load (cell.Ack i) → stop.is_acknowledged stops (run.found n) ≡ true → Stopped stops (suc n) (i + 1)
+    finds_ack : (i : ℕ) → Stopped stops n i → asks run.layout (now n) ≡ Load (cell.Ack i) → stop.is_acknowledged stops (run.found n) ≡ true → Stopped stops (suc n) (i + 1)
     unfolding waits
     finds_ack i k loads is =
         let before : k.first < n = k.is_before in
@@ -117,7 +116,7 @@ module _ (run : Run) where
         }
 
   module _ (stops begun n : ℕ) where
-    looks_on : (i : ℕ) → Looked stops begun n i → LeavesMarks (asks (now n)) → Looked stops begun (suc n) i
+    looks_on : (i : ℕ) → Looked stops begun n i → LeavesMarks (asks run.layout (now n)) → Looked stops begun (suc n) i
     looks_on i k one =
         let before : k.first < n = k.is_before in
         let by : k.last ≤ n = k.is_by in
@@ -132,7 +131,7 @@ module _ (run : Run) where
           each = λ j lt. later k.last n (watch.cell_at run.layout j) (IsWanted begun (watch.cell_at run.layout j)) (k.each j lt);
         }
 
-    finds_word : (i : ℕ) → Looked stops begun n i → asks (now n) ≡ Load (watch.cell_at run.layout i) → watch.is_wanted run.layout begun (watch.cell_at run.layout i) (run.found n) ≡ true → Looked stops begun (suc n) (i + 1)
+    finds_word : (i : ℕ) → Looked stops begun n i → asks run.layout (now n) ≡ Load (watch.cell_at run.layout i) → watch.is_wanted run.layout begun (watch.cell_at run.layout i) (run.found n) ≡ true → Looked stops begun (suc n) (i + 1)
     unfolding looks_on
     finds_word i k loads is =
         let on = looks_on i k (subst LeavesMarks (sym loads) tt) in
@@ -148,9 +147,9 @@ module _ (run : Run) where
           each = one_more (λ j. Found k.last (suc n) (watch.cell_at run.layout j) (IsWanted begun (watch.cell_at run.layout j))) i on.each (record { by = n; is_behind = by; is_before = omega arith; loads = loads; is_so = is });
         }
 
-  module _ (n : ℕ) (s : Coordinating) (here : s.layout ≡ run.layout) where
+  module _ (n : ℕ) (s : Coordinating) where
     -- the end of marking
-    close_step : (cl : close.Closing) (stage : CloseStage) (v : ℕ) → cl.stage ≡ stage → asks (now n) ≡ close.asks_at cl stage → CloseKnows s.stops s.begun n stage → Has (suc n) (after_close (at_stage s (Close (close.goes_at cl stage v))) (close.given (close.goes_at cl stage v)))
+    close_step : (cl : close.Closing) (stage : CloseStage) (v : ℕ) → cl.stage ≡ stage → asks run.layout (now n) ≡ close.asks_at cl stage → CloseKnows s.stops s.begun n stage → Has (suc n) (after_close (at_stage s (Close (close.goes_at cl stage v))) (close.given (close.goes_at cl stage v)))
     close_step cl stage v e asked k = grind (arith, looks_on)
 
     -- the second stop
@@ -159,30 +158,27 @@ module _ (run : Run) where
       stopped stage = after_stop_again (at_stage s (StopAgain (record st { stage = stage }))) (stop.given_at stage)
 
       awaits : (i : ℕ) → Stopped s.stops (suc n) i → Has (suc n) (stopped (p.Await i))
-      awaits i k = record { layout_is = here; knows = record { stops_is = numbered; knows = k } }
+      awaits i k = record { stops_is = numbered; knows = k }
 
       checks : (i : ℕ) → stop.acks_of run.layout ≤ i → Stopped s.stops (suc n) i → Has (suc n) (stopped p.Ended)
       checks i most k = record {
-        layout_is = here;
-        knows = record {
-          cycle_is = refl;
-          knows = (omega arith, record { first = k.first; last = suc n; is_before = k.is_before; is_by = omega arith; stores = k.stores; leaves = k.leaves; acknowledged = λ j lt. k.each j (omega arith); each = λ j lt. absurd (omega arith) });
-        };
+        cycle_is = refl;
+        knows = (omega arith, record { first = k.first; last = suc n; is_before = k.is_before; is_by = omega arith; stores = k.stores; leaves = k.leaves; acknowledged = λ j lt. k.each j (omega arith); each = λ j lt. absurd (omega arith) });
       }
 
-      await_step : (i v : ℕ) → v ≡ run.found n → asks (now n) ≡ Load (cell.Ack i) → Stopped s.stops n i → (is more : Bool) → stop.is_acknowledged st.stops v ≡ is → ltb (i + 1) (stop.acks_of s.layout) ≡ more →
+      await_step : (i v : ℕ) → v ≡ run.found n → asks run.layout (now n) ≡ Load (cell.Ack i) → Stopped s.stops n i → (is more : Bool) → stop.is_acknowledged st.stops v ≡ is → ltb (i + 1) (stop.acks_of run.layout) ≡ more →
           Has (suc n) (stopped (cond is (cond more (p.Await (i + 1)) p.Ended) (p.Await i)))
       await_step i v told loads k is more e f = by is more e f where
         more_are : stop.is_acknowledged st.stops v ≡ true → Stopped s.stops (suc n) (i + 1)
         more_are a = finds_ack s.stops n i k loads (ap (λ (x : ℕ). stop.is_acknowledged x (run.found n)) (sym numbered) ∙ ap (λ (x : ℕ). stop.is_acknowledged st.stops x) (sym told) ∙ a)
 
-        by : (is more : Bool) → stop.is_acknowledged st.stops v ≡ is → ltb (i + 1) (stop.acks_of s.layout) ≡ more → Has (suc n) (stopped (cond is (cond more (p.Await (i + 1)) p.Ended) (p.Await i)))
+        by : (is more : Bool) → stop.is_acknowledged st.stops v ≡ is → ltb (i + 1) (stop.acks_of run.layout) ≡ more → Has (suc n) (stopped (cond is (cond more (p.Await (i + 1)) p.Ended) (p.Await i)))
         by true true e f = awaits (i + 1) (more_are e)
-        by true false e f = checks (i + 1) (subst (λ (x : Layout). stop.acks_of x ≤ i + 1) here (ltb-false _ _ f)) (more_are e)
+        by true false e f = checks (i + 1) (ltb-false _ _ f) (more_are e)
         by false more e f = awaits i (waits s.stops n i k (subst LeavesMarks (sym loads) tt))
 
-      again_step : (stage : StopStage) (v : ℕ) → v ≡ run.found n → asks (now n) ≡ stop.asks_at st stage → StopKnows s.stops n stage →
-          Has (suc n) (after_stop_again (at_stage s (StopAgain (stop.goes_at s.layout st stage v))) (stop.given (stop.goes_at s.layout st stage v)))
+      again_step : (stage : StopStage) (v : ℕ) → v ≡ run.found n → asks run.layout (now n) ≡ stop.asks_at st stage → StopKnows s.stops n stage →
+          Has (suc n) (after_stop_again (at_stage s (StopAgain (stop.goes_at run.layout st stage v))) (stop.given (stop.goes_at run.layout st stage v)))
       again_step stage v told asked k = grind (arith, await_step, awaits)
 
     -- the check
@@ -190,41 +186,38 @@ module _ (run : Run) where
       abbrev checked : WatchStage → Coordinating
       checked stage = after_check (at_stage s (Check (record x { stage = stage }))) (watch.given_at stage)
 
-      look_step : (i v : ℕ) → v ≡ run.found n → asks (now n) ≡ Load (watch.cell_at s.layout i) → Looked s.stops s.begun n i → i < watch.words_of run.layout → (is more : Bool) → watch.is_wanted s.layout x.cycle (watch.cell_at s.layout i) v ≡ is → ltb (i + 1) (watch.words_of s.layout) ≡ more →
+      look_step : (i v : ℕ) → v ≡ run.found n → asks run.layout (now n) ≡ Load (watch.cell_at run.layout i) → Looked s.stops s.begun n i → i < watch.words_of run.layout → (is more : Bool) → watch.is_wanted run.layout x.cycle (watch.cell_at run.layout i) v ≡ is → ltb (i + 1) (watch.words_of run.layout) ≡ more →
           Has (suc n) (checked (cond is (cond more (w.Look (i + 1)) (w.Ended All)) (w.Ended NotYet)))
       look_step i v told loads k within is more e f = by is more e f where
-        finds : watch.is_wanted s.layout x.cycle (watch.cell_at s.layout i) v ≡ true → Looked s.stops s.begun (suc n) (i + 1)
+        finds : watch.is_wanted run.layout x.cycle (watch.cell_at run.layout i) v ≡ true → Looked s.stops s.begun (suc n) (i + 1)
         finds a =
-            finds_word s.stops s.begun n i k (loads ∙ ap (λ (y : Layout). Load (watch.cell_at y i)) here)
-            (ap (λ (y : ℕ). watch.is_wanted run.layout y (watch.cell_at run.layout i) (run.found n)) (sym numbered) ∙ ap (λ (y : Layout). watch.is_wanted y x.cycle (watch.cell_at y i) (run.found n)) (sym here) ∙ ap (λ (y : ℕ). watch.is_wanted s.layout x.cycle (watch.cell_at s.layout i) y) (sym told) ∙ a)
+            finds_word s.stops s.begun n i k loads
+            (ap (λ (y : ℕ). watch.is_wanted run.layout y (watch.cell_at run.layout i) (run.found n)) (sym numbered) ∙ ap (λ (y : ℕ). watch.is_wanted run.layout x.cycle (watch.cell_at run.layout i) y) (sym told) ∙ a)
 
-        by : (is more : Bool) → watch.is_wanted s.layout x.cycle (watch.cell_at s.layout i) v ≡ is → ltb (i + 1) (watch.words_of s.layout) ≡ more → Has (suc n) (checked (cond is (cond more (w.Look (i + 1)) (w.Ended All)) (w.Ended NotYet)))
-        by true true e f =
-            let further : i + 1 < watch.words_of run.layout = subst (λ (y : Layout). i + 1 < watch.words_of y) here (ltb-true _ _ f) in
-            record { layout_is = here; knows = record { cycle_is = numbered; knows = (further, finds e) } }
+        by : (is more : Bool) → watch.is_wanted run.layout x.cycle (watch.cell_at run.layout i) v ≡ is → ltb (i + 1) (watch.words_of run.layout) ≡ more → Has (suc n) (checked (cond is (cond more (w.Look (i + 1)) (w.Ended All)) (w.Ended NotYet)))
+        by true true e f = record { cycle_is = numbered; knows = (ltb-true _ _ f, finds e) }
         by true false e f =
-            let last : watch.words_of run.layout ≤ i + 1 = subst (λ (y : Layout). watch.words_of y ≤ i + 1) here (ltb-false _ _ f) in
+            let last : watch.words_of run.layout ≤ i + 1 = ltb-false _ _ f in
             let end : i + 1 ≡ watch.words_of run.layout = omega arith in
-            record { layout_is = here; knows = subst (λ (j : ℕ). Looked s.stops s.begun (suc n) j) end (finds e) }
-        by false more e f = record { layout_is = here; knows = tt }
+            subst (λ (j : ℕ). Looked s.stops s.begun (suc n) j) end (finds e)
+        by false more e f = tt
 
-      check_step : (stage : WatchStage) (v : ℕ) → v ≡ run.found n → asks (now n) ≡ watch.asks_at s.layout stage → CheckKnows s.stops s.begun n stage →
-          Has (suc n) (after_check (at_stage s (Check (watch.goes_at s.layout x stage v))) (watch.given (watch.goes_at s.layout x stage v)))
+      check_step : (stage : WatchStage) (v : ℕ) → v ≡ run.found n → asks run.layout (now n) ≡ watch.asks_at run.layout stage → CheckKnows s.stops s.begun n stage →
+          Has (suc n) (after_check (at_stage s (Check (watch.goes_at run.layout x stage v))) (watch.given (watch.goes_at run.layout x stage v)))
       check_step stage v told asked k = grind (arith, look_step)
 
-    step_at : (stage : CoordStage) (v : ℕ) → v ≡ run.found n → s.stage ≡ stage → asks (now n) ≡ asks_at s stage → Knows s.stops s.begun n stage → Has (suc n) (goes_at s stage v)
+    step_at : (stage : CoordStage) (v : ℕ) → v ≡ run.found n → s.stage ≡ stage → asks run.layout (now n) ≡ asks_at run.layout s stage → Knows s.stops s.begun n stage → Has (suc n) (goes_at run.layout s stage v)
     step_at (StopAgain st) v told is asked k = again_step st k.stops_is st.stage v told asked k.knows
     step_at (Check x) v told is asked k = check_step x k.cycle_is x.stage v told asked k.knows
     step_at (Close cl) v told is asked k = close_step cl cl.stage v refl asked k
-    step_at Done v told is asked k = record { layout_is = here; knows = subst (λ (stage : CoordStage). Knows s.stops s.begun (suc n) stage) (sym is) tt }
-    step_at q v told is asked k = by_event s v (Has (suc n)) q (λ e may. grind arith)
+    step_at Done v told is asked k = subst (λ (stage : CoordStage). Knows s.stops s.begun (suc n) stage) (sym is) tt
+    step_at q v told is asked k = by_event run.layout s v (Has (suc n)) q (λ e may. grind arith)
 
   has : (n : ℕ) → Has n (now n)
-  has zero = record { layout_is = refl; knows = tt }
+  has zero = tt
   has (suc n) =
-      let h = has n in
       let s : Coordinating = now n in
-      step_at n (counted s) h.layout_is s.stage (run.found n) refl refl (sym (same_ask s s.stage)) h.knows
+      step_at n (counted s) s.stage (run.found n) refl refl (sym (same_ask run.layout s s.stage)) (has n)
 
   -- the words that are watched, each by its name
   module _ (n : ℕ) (k : Looked (now n).stops (now n).begun n (watch.words_of run.layout)) where
@@ -260,11 +253,11 @@ module _ (run : Run) (n g : ℕ) (s : Coordinating) where
   abbrev Checked : Type 0
   Checked = Looked run s.stops s.begun n (watch.words_of run.layout)
 
-  is_checked : (stage : CoordStage) → Knows run s.stops s.begun n stage → asks_at s stage ≡ Store cell.Gen g → Checked
+  is_checked : (stage : CoordStage) → Knows run s.stops s.begun n stage → asks_at run.layout s stage ≡ Store cell.Gen g → Checked
   is_checked stage k e = grind arith
 
 pub marking_ends_clean : EndsWithNothingLeft
 marking_ends_clean l seat gogc minheap room found n g e =
     let run : Run = record { layout = l; seat = seat; gogc = gogc; minheap = minheap; room = room; found = found } in
     let s : Coordinating = now run n in
-    is_clean run n (is_checked run n g s s.stage (has run n).knows e)
+    is_clean run n (is_checked run n g s s.stage (has run n) e)

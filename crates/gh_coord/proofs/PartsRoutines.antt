@@ -1,13 +1,21 @@
--- Each part of the coordinator is a routine: by its stages.
+-- The coordinator is a routine, and so is each part of it: by the stages.
 use Rattle.std.proofs.Common.{◌≡◌, ℕ, ◌^◌, ◌<◌, Option, Some, None, refl, ◌∙◌, ap, arith}
 use Rattle.std.specs.Prelude.{is_none}
-use Rattle.gh_base.specs.Machines.{IsRoutine}
+use Rattle.gh_base.specs.Cells.{InRange}
+use Rattle.gh_base.specs.Footprints.{Writes}
+use Rattle.gh_base.specs.Machines.{IsRoutine, Runs}
 use Rattle.gh_base.specs.Packing.{FitsPage, PackedWordsAreReadBack, page_of}
+use Rattle.gh_base.specs.Steps.{cell_of}
 use Rattle.gh_coord.specs.declared.sweep_all.SweepAllStage.TheVariants as a
-use Rattle.gh_coord.specs.PartsRoutines.{PartsAreRoutines}
+use Rattle.gh_coord.specs.Blind.{blind}
+use Rattle.gh_coord.specs.Events.{by_event}
+use Rattle.gh_coord.specs.PartsRoutines.{PartsAreRoutines, TheCoordinatorIsARoutine}
+use Rattle.gh_coord.specs.Sound.{SoundCoordinating, SoundStage, writes}
+use Rattle.gh_coord.specs.Stopping as stop
 use Rattle.gh_coord.specs.SweepingAll as all
 use Rattle.gh_coord.specs.Vocabulary.{Lost, PageWord, Swept, SweepEnd}
-use Rattle.gh_coord.proofs.Vocabulary.{Layout, nat_tests, SweepAllStage, SweepStage}
+use Rattle.gh_coord.specs.Watching as watch
+use Rattle.gh_coord.proofs.Vocabulary.{asks_at, Coordinating, CoordStage, counted, goes, goes_at, Layout, nat_tests, SweepAllStage, SweepStage}
 use Rattle.gh_sweep.specs.Listing as sweep
 use Rattle.gh_sweep.specs.Sound as sweeps
 
@@ -51,4 +59,35 @@ parts_are_routines words sweeps_are l = record {
   };
   count = grind (arith, nat_tests);
   tell = grind (arith, nat_tests);
+}
+
+module _ (l : Layout) (is : PartsAreRoutines l) where
+  within_at : (s : Coordinating) (p : CoordStage) → SoundStage l p → InRange l (cell_of (asks_at l s p))
+  within_at s p sound = grind arith
+
+  writes_at : (s : Coordinating) (p : CoordStage) → Writes writes (asks_at l s p)
+  writes_at s p = grind arith
+
+  module _ (found : ℕ) (fits : found < 2 ^ 64) where
+    stop_on : (s : stop.Stopping) → Runs (stop.listing l) s → stop.Sound l (stop.goes l s found)
+    stop_on s x = is.stop.keeps s found fits x.sound x.busy
+
+    watch_on : (w : watch.Watching) → Runs (watch.listing l) w → watch.Sound l (watch.goes l w found)
+    watch_on w x = is.watch.keeps w found fits x.sound x.busy
+
+    sweep_on : (s : all.SweepingAll) → Runs (all.listing l) s → all.Sound l (all.goes l s found)
+    sweep_on s x = is.sweep.keeps s found fits x.sound x.busy
+
+    keeps_sound : (s : Coordinating) → SoundCoordinating l s → (p : CoordStage) → SoundStage l p → SoundCoordinating l (goes_at l s p found)
+    keeps_sound s so p sound = by_event l s found (SoundCoordinating l) p (λ e may. grind (arith, stop_on, watch_on, sweep_on))
+
+    pub sound_stays : (s : Coordinating) → SoundCoordinating l s → SoundCoordinating l (goes l s found)
+    sound_stays s so = keeps_sound (counted s) (record { procs = so.procs; pages = so.pages; first_ack = so.first_ack; numbers = so.numbers; stage = so.stage }) s.stage so.stage
+
+pub coordinator_is : ((l : Layout) → PartsAreRoutines l) → TheCoordinatorIsARoutine
+coordinator_is parts l = record {
+  keeps = λ s found fits sound busy. sound_stays l (parts l) found fits s sound;
+  within = λ s sound busy. within_at l (parts l) s s.stage sound.stage;
+  writes = λ s. writes_at l (parts l) s s.stage;
+  blind = blind l;
 }

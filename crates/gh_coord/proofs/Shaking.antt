@@ -50,20 +50,20 @@ raised_generation : (number begun generation : ℕ) → FitsNumbers number begun
 raised_generation number begun generation f = record { stops_fit = f.stops_fit; begun_fits = f.begun_fits; generation_fits = omega arith }
 
 -- a step at this stage leads here
-abbrev Goes : (found : ℕ) → Coordinating → CoordStage → (to : Coordinating) → Type 0
-Goes found s stage to = Sound to × LeadGoes (acks_of s.layout) found (lead_at s stage) (asks_at s stage) (lead_of to)
+abbrev Goes : Layout → (found : ℕ) → Coordinating → CoordStage → (to : Coordinating) → Type 0
+Goes l found s stage to = Sound to × LeadGoes (acks_of l) found (lead_at s stage) (asks_at l s stage) (lead_of to)
 
 acked : (number found : ℕ) → is_acknowledged number found ≡ true → IsAcked number found
 acked number found e = grind arith
 
-module _ (found : ℕ) (s : Coordinating) (f : FitsNumbers s.stops s.begun s.generation) where
+module _ (l : Layout) (found : ℕ) (s : Coordinating) (f : FitsNumbers s.stops s.begun s.generation) where
   fits_raised : FitsNumbers (next_stop s.stops) s.begun s.generation
   fits_raised = raised_stop s.stops s.begun s.generation f
 
-  acks : (i : ℕ) → Goes found s (LoadAck i) (after_ack s i found)
+  acks : (i : ℕ) → Goes l found s (LoadAck i) (after_ack l s i found)
   acks i = grind arith
 
-  wants : Goes found s LoadWant (after_want s found)
+  wants : Goes l found s LoadWant (after_want s found)
   wants = grind arith
 
   -- a stop
@@ -74,23 +74,23 @@ module _ (found : ℕ) (s : Coordinating) (f : FitsNumbers s.stops s.begun s.gen
   abbrev seeing : (ack : ℕ) → (there more : Bool) → stop.Stopping
   seeing ack there more = stopping (cond there (cond more (stop_stage.Await (ack + 1)) stop_stage.Ended) (stop_stage.Await ack))
 
-  first_stop : (stage : StopStage) → stop.is_busy stage ≡ true → Goes found s (Stop (stopping stage)) (goes_at s (Stop (stopping stage)) found)
+  first_stop : (stage : StopStage) → stop.is_busy stage ≡ true → Goes l found s (Stop (stopping stage)) (goes_at l s (Stop (stopping stage)) found)
   first_stop stop_stage.StorePhase busy =
       let is : next_stop (stop_before s.stops) ≡ s.stops = stop_ahead s.stops f.stops_fit in
       ((f, refl), stops run.Off (λ e. cc) refl (ap (λ (n : ℕ). Store cell.Phase (stop_word n)) (sym is)) (ap (λ (n : ℕ). record { stops = n; begun = s.begun; generation = s.generation; post = Looks run.Off 0 }) (sym is)))
-  first_stop (stop_stage.Await ack) busy = go (is_acknowledged s.stops found) (ltb (ack + 1) (acks_of s.layout)) refl refl where
-    go : (there more : Bool) → is_acknowledged s.stops found ≡ there → ltb (ack + 1) (acks_of s.layout) ≡ more → Goes found s (Stop (stopping (stop_stage.Await ack))) (after_stop (at_stage s (Stop (seeing ack there more))) (stop.given (seeing ack there more)))
+  first_stop (stop_stage.Await ack) busy = go (is_acknowledged s.stops found) (ltb (ack + 1) (acks_of l)) refl refl where
+    go : (there more : Bool) → is_acknowledged s.stops found ≡ there → ltb (ack + 1) (acks_of l) ≡ more → Goes l found s (Stop (stopping (stop_stage.Await ack))) (after_stop l (at_stage s (Stop (seeing ack there more))) (stop.given (seeing ack there more)))
     go true true e m = ((f, refl), sees run.Off ack refl refl (acked s.stops found e) (rw m refl))
     go true false e m = ((raised_cycle s.stops s.begun s.generation f, (refl, refl)), sees run.Off ack refl refl (acked s.stops found e) (rw (m, cycle_behind s.begun f.begun_fits) refl))
     go false more e m = ((f, refl), quiet tt refl)
   first_stop stop_stage.Ended busy = absurd cc
 
-  second_stop : (stage : StopStage) → stop.is_busy stage ≡ true → Goes found s (StopAgain (stopping stage)) (goes_at s (StopAgain (stopping stage)) found)
+  second_stop : (stage : StopStage) → stop.is_busy stage ≡ true → Goes l found s (StopAgain (stopping stage)) (goes_at l s (StopAgain (stopping stage)) found)
   second_stop stop_stage.StorePhase busy =
       let is : next_stop (stop_before s.stops) ≡ s.stops = stop_ahead s.stops f.stops_fit in
       ((f, refl), stops run.Mark (λ e. cc) refl (ap (λ (n : ℕ). Store cell.Phase (stop_word n)) (sym is)) (ap (λ (n : ℕ). record { stops = n; begun = s.begun; generation = s.generation; post = Looks run.Mark 0 }) (sym is)))
-  second_stop (stop_stage.Await ack) busy = go (is_acknowledged s.stops found) (ltb (ack + 1) (acks_of s.layout)) refl refl where
-    go : (there more : Bool) → is_acknowledged s.stops found ≡ there → ltb (ack + 1) (acks_of s.layout) ≡ more → Goes found s (StopAgain (stopping (stop_stage.Await ack))) (after_stop_again (at_stage s (StopAgain (seeing ack there more))) (stop.given (seeing ack there more)))
+  second_stop (stop_stage.Await ack) busy = go (is_acknowledged s.stops found) (ltb (ack + 1) (acks_of l)) refl refl where
+    go : (there more : Bool) → is_acknowledged s.stops found ≡ there → ltb (ack + 1) (acks_of l) ≡ more → Goes l found s (StopAgain (stopping (stop_stage.Await ack))) (after_stop_again (at_stage s (StopAgain (seeing ack there more))) (stop.given (seeing ack there more)))
     go true true e m = ((f, refl), sees run.Mark ack refl refl (acked s.stops found e) (rw m refl))
     go true false e m = ((f, tt), sees run.Mark ack refl refl (acked s.stops found e) (rw m refl))
     go false more e m = ((f, refl), quiet tt refl)
@@ -100,7 +100,7 @@ module _ (found : ℕ) (s : Coordinating) (f : FitsNumbers s.stops s.begun s.gen
   abbrev open_at : opens_by.CycleOpening → OpenStage → opens_by.CycleOpening
   open_at o stage = record o { stops = s.stops; cycle = s.begun; stage = stage }
 
-  opening : (o : opens_by.CycleOpening) (stage : OpenStage) → opens_by.is_busy stage ≡ true → Goes found s (Open (open_at o stage)) (goes_at s (Open (open_at o stage)) found)
+  opening : (o : opens_by.CycleOpening) (stage : OpenStage) → opens_by.is_busy stage ≡ true → Goes l found s (Open (open_at o stage)) (goes_at l s (Open (open_at o stage)) found)
   opening o open_stage.StoreBegun busy =
       let is : next_cycle (cycle_before s.begun) ≡ s.begun = cycle_ahead s.begun f.begun_fits in
       ((f, (refl, refl)), begins run.Off refl (ap (λ (n : ℕ). Store cell.Begun n) (sym is)) (ap (λ (n : ℕ). record { stops = s.stops; begun = n; generation = s.generation; post = Stopped run.Off }) (sym is)))
@@ -109,11 +109,11 @@ module _ (found : ℕ) (s : Coordinating) (f : FitsNumbers s.stops s.begun s.gen
   opening o _ busy = ((f, (refl, refl)), quiet tt refl)
 
   -- the look and the check
-  watching : (w v : watch.Watching) (out : Option Watched) → IsQuietInHandshake (watch.asks s.layout w) → Goes found s (Watch w) (after_watch (at_stage s (Watch v)) out)
+  watching : (w v : watch.Watching) (out : Option Watched) → IsQuietInHandshake (watch.asks l w) → Goes l found s (Watch w) (after_watch (at_stage s (Watch v)) out)
   watching w v (Some All) q = ((fits_raised, refl), quiet q (ap (λ (n : ℕ). record { stops = n; begun = s.begun; generation = s.generation; post = Calm run.Mark }) (stop_behind s.stops f.stops_fit)))
   watching w v _ q = ((f, tt), quiet q refl)
 
-  checking : (w v : watch.Watching) (out : Option Watched) → IsQuietInHandshake (watch.asks s.layout w) → Goes found s (Check w) (after_check (at_stage s (Check v)) out)
+  checking : (w v : watch.Watching) (out : Option Watched) → IsQuietInHandshake (watch.asks l w) → Goes l found s (Check w) (after_check (at_stage s (Check v)) out)
   checking w v (Some All) q = ((raised_generation s.stops s.begun s.generation f, refl), quiet q (ap (λ (n : ℕ). record { stops = s.stops; begun = s.begun; generation = n; post = Stopped run.Mark }) (generation_behind s.generation f.generation_fits)))
   checking w v _ q = ((f, tt), quiet q refl)
 
@@ -121,7 +121,7 @@ module _ (found : ℕ) (s : Coordinating) (f : FitsNumbers s.stops s.begun s.gen
   abbrev close_at : (lapsed : ℕ) → CloseStage → close.Closing
   close_at lapsed stage = record { lapsed = lapsed; generation = s.generation; stops = s.stops; stage = stage }
 
-  closing : (lapsed : ℕ) (stage : CloseStage) → close.is_busy stage ≡ true → Goes found s (Close (close_at lapsed stage)) (goes_at s (Close (close_at lapsed stage)) found)
+  closing : (lapsed : ℕ) (stage : CloseStage) → close.is_busy stage ≡ true → Goes l found s (Close (close_at lapsed stage)) (goes_at l s (Close (close_at lapsed stage)) found)
   closing lapsed close_stage.StoreGen busy =
       let is : next_generation (generation_before s.generation) ≡ s.generation = generation_ahead s.generation f.generation_fits in
       ((f, refl), ends run.Mark refl (ap (λ (n : ℕ). Store cell.Gen n) (sym is)) (ap (λ (n : ℕ). record { stops = s.stops; begun = s.begun; generation = n; post = Stopped run.Mark }) (sym is)))
@@ -130,11 +130,11 @@ module _ (found : ℕ) (s : Coordinating) (f : FitsNumbers s.stops s.begun s.gen
   closing lapsed _ busy = ((f, refl), quiet tt refl)
 
   -- the sweep, and what it has counted
-  sweeping : (w v : all.SweepingAll) (out : Option (Unit {0})) → v.generation ≡ s.generation → IsQuietInHandshake (all.asks s.layout w) → Goes found s (Sweep w) (after_sweep (at_stage s (Sweep v)) out)
+  sweeping : (w v : all.SweepingAll) (out : Option (Unit {0})) → v.generation ≡ s.generation → IsQuietInHandshake (all.asks l w) → Goes l found s (Sweep w) (after_sweep (at_stage s (Sweep v)) out)
   sweeping w v None e q = ((f, e), quiet q refl)
   sweeping w v (Some u) e q = ((f, tt), quiet q refl)
 
-  counting : (w v : count.Counting) (out : Option Counted) → IsQuietInHandshake (count.asks w) → Goes found s (Count w) (after_count (at_stage s (Count v)) out)
+  counting : (w v : count.Counting) (out : Option Counted) → IsQuietInHandshake (count.asks w) → Goes l found s (Count w) (after_count l (at_stage s (Count v)) out)
   counting w v None q = ((f, tt), quiet q refl)
   counting w v (Some read) q = ((f, (refl, λ e. absurd (cc))), quiet q refl)
 
@@ -142,26 +142,26 @@ module _ (found : ℕ) (s : Coordinating) (f : FitsNumbers s.stops s.begun s.gen
   abbrev tell_at : (trigger cycle : ℕ) → TellStage → tell.Telling
   tell_at trigger cycle stage = record { trigger = trigger; cycle = cycle; stops = s.stops; is_last = s.is_last; stage = stage }
 
-  tells : (trigger cycle : ℕ) (stage : TellStage) → (tell.stores_phase stage ≡ true → s.is_last ≡ true) → tell.is_busy stage ≡ true → Goes found s (Tell (tell_at trigger cycle stage)) (goes_at s (Tell (tell_at trigger cycle stage)) found)
+  tells : (trigger cycle : ℕ) (stage : TellStage) → (tell.stores_phase stage ≡ true → s.is_last ≡ true) → tell.is_busy stage ≡ true → Goes l found s (Tell (tell_at trigger cycle stage)) (goes_at l s (Tell (tell_at trigger cycle stage)) found)
   tells trigger cycle stage last busy = grind arith
 
-module _ (found : ℕ) (s : Coordinating) (is : PartsAreRoutines s.layout) where
-  sweep_number : (w : all.SweepingAll) → (all.goes s.layout w found).generation ≡ w.generation
+module _ (l : Layout) (found : ℕ) (s : Coordinating) (is : PartsAreRoutines l) where
+  sweep_number : (w : all.SweepingAll) → (all.goes l w found).generation ≡ w.generation
   sweep_number w = grind arith
 
-  goes_so : (stage : CoordStage) → FitsNumbers s.stops s.begun s.generation → SoundAt s stage → is_busy stage ≡ true → Goes found s stage (goes_at s stage found)
-  goes_so (LoadAck i) f e busy = acks found s f i
-  goes_so LoadWant f e busy = wants found s f
-  goes_so (Stop st) f e busy = subst (λ (x : stop.Stopping). Goes found s (Stop x) (goes_at s (Stop x) found)) (sym e) (first_stop found s f st.stage busy)
-  goes_so (Open o) f e busy = subst (λ (x : opens_by.CycleOpening). Goes found s (Open x) (goes_at s (Open x) found)) (sym e.0) (opening found s f o o.stage busy)
-  goes_so (Watch w) f e busy = watching found s f w (watch.goes s.layout w found) (watch.given (watch.goes s.layout w found)) (quiet_by watch.writes _ (is.watch.writes w) refl refl refl refl)
-  goes_so (StopAgain st) f e busy = subst (λ (x : stop.Stopping). Goes found s (StopAgain x) (goes_at s (StopAgain x) found)) (sym e) (second_stop found s f st.stage busy)
-  goes_so (Check w) f e busy = checking found s f w (watch.goes s.layout w found) (watch.given (watch.goes s.layout w found)) (quiet_by watch.writes _ (is.watch.writes w) refl refl refl refl)
+  goes_so : (stage : CoordStage) → FitsNumbers s.stops s.begun s.generation → SoundAt s stage → is_busy stage ≡ true → Goes l found s stage (goes_at l s stage found)
+  goes_so (LoadAck i) f e busy = acks l found s f i
+  goes_so LoadWant f e busy = wants l found s f
+  goes_so (Stop st) f e busy = subst (λ (x : stop.Stopping). Goes l found s (Stop x) (goes_at l s (Stop x) found)) (sym e) (first_stop l found s f st.stage busy)
+  goes_so (Open o) f e busy = subst (λ (x : opens_by.CycleOpening). Goes l found s (Open x) (goes_at l s (Open x) found)) (sym e.0) (opening l found s f o o.stage busy)
+  goes_so (Watch w) f e busy = watching l found s f w (watch.goes l w found) (watch.given (watch.goes l w found)) (quiet_by watch.writes _ (is.watch.writes w) refl refl refl refl)
+  goes_so (StopAgain st) f e busy = subst (λ (x : stop.Stopping). Goes l found s (StopAgain x) (goes_at l s (StopAgain x) found)) (sym e) (second_stop l found s f st.stage busy)
+  goes_so (Check w) f e busy = checking l found s f w (watch.goes l w found) (watch.given (watch.goes l w found)) (quiet_by watch.writes _ (is.watch.writes w) refl refl refl refl)
   goes_so MarkOn f e busy = ((f, tt), goes run.Mark run.Mark (λ x. cc) refl refl refl)
-  goes_so (Close c) f e busy = subst (λ (x : close.Closing). Goes found s (Close x) (goes_at s (Close x) found)) (sym e) (closing found s f c.lapsed c.stage busy)
-  goes_so (Sweep w) f e busy = sweeping found s f w (all.goes s.layout w found) (all.given (all.goes s.layout w found)) (sweep_number w ∙ e) (quiet_by all.writes _ (is.sweep.writes w) refl refl refl refl)
-  goes_so (Count c) f e busy = counting found s f c (count.goes c found) (count.given (count.goes c found)) (quiet_by count.writes _ (is.count.writes c) refl refl refl refl)
-  goes_so (Tell t) f e busy = subst (λ (x : tell.Telling). Goes found s (Tell x) (goes_at s (Tell x) found)) (sym e.0) (tells found s f t.trigger t.cycle t.stage e.1 busy)
+  goes_so (Close c) f e busy = subst (λ (x : close.Closing). Goes l found s (Close x) (goes_at l s (Close x) found)) (sym e) (closing l found s f c.lapsed c.stage busy)
+  goes_so (Sweep w) f e busy = sweeping l found s f w (all.goes l w found) (all.given (all.goes l w found)) (sweep_number w ∙ e) (quiet_by all.writes _ (is.sweep.writes w) refl refl refl refl)
+  goes_so (Count c) f e busy = counting l found s f c (count.goes c found) (count.given (count.goes c found)) (quiet_by count.writes _ (is.count.writes c) refl refl refl refl)
+  goes_so (Tell t) f e busy = subst (λ (x : tell.Telling). Goes l found s (Tell x) (goes_at l s (Tell x) found)) (sym e.0) (tells l found s f t.trigger t.cycle t.stage e.1 busy)
   goes_so Done f e busy = absurd cc
 
 -- counting the steps that store the phase word leaves the place
@@ -170,23 +170,23 @@ counted_sound s (Stop st) e = e
 counted_sound s _ e = e
 
 -- why it stops the world
-module _ (s m : Coordinating) (found : ℕ) where
+module _ (l : Layout) (s m : Coordinating) (found : ℕ) where
   abbrev HasReason : Coordinating → Type 0
-  HasReason to = (stop : ℕ) → asks to ≡ Store cell.Phase (stop_word stop) → StopsFor found s to
+  HasReason to = (stop : ℕ) → asks l to ≡ Store cell.Phase (stop_word stop) → StopsFor l found s to
 
-  stops_so : (stage : CoordStage) → s.stage ≡ stage → m.stage ≡ stage → HasReason (goes_at m stage found)
-  stops_so stage is stays = by_event m found HasReason stage (λ e may. grind arith)
+  stops_so : (stage : CoordStage) → s.stage ≡ stage → m.stage ≡ stage → HasReason (goes_at l m stage found)
+  stops_so stage is stays = by_event l m found HasReason stage (λ e may. grind arith)
 
 pub leads_handshake : ((l : Layout) → PartsAreRoutines l) → LeadsHandshake
 leads_handshake parts = record {
   sound = λ l seat gogc minheap room. (record { stops_fit = omega arith; begun_fits = omega arith; generation_fits = omega arith }, tt);
   leads = λ l seat gogc minheap room. refl;
-  stays_sound = λ s found sound busy. (goes_so found (counted s) (parts s.layout) s.stage sound.0 (counted_sound s s.stage sound.1) busy).0;
+  stays_sound = λ l s found sound busy. (goes_so l found (counted s) (parts l) s.stage sound.0 (counted_sound s s.stage sound.1) busy).0;
   finds_gone = finds_gone;
-  stops_for = λ s found. stops_so s (counted s) found s.stage refl refl;
+  stops_for = λ l s found. stops_so l s (counted s) found s.stage refl refl;
   stops_at_first = λ l seat gogc minheap room stop e. cc;
   stops_go_on = stops_go_on;
   marks_on = λ s sound runs. marks_at s s.stage sound.1 runs;
   finishes = λ s sound e. finishes_at s s.stage sound.1 e;
-  goes = λ s found sound busy. rw (← same_ask s s.stage) (goes_so found (counted s) (parts s.layout) s.stage sound.0 (counted_sound s s.stage sound.1) busy).1;
+  goes = λ l s found sound busy. rw (← same_ask l s s.stage) (goes_so l found (counted s) (parts l) s.stage sound.0 (counted_sound s s.stage sound.1) busy).1;
 }

@@ -13,6 +13,6 @@ pub record Run : Type 0 where
   pub found : ℕ → ℕ
 
 -- counting the steps that store the phase word leaves what is asked for
-pub same_ask : (s : Coordinating) (stage : CoordStage) → asks_at (counted s) stage ≡ asks_at s stage
-same_ask s (LoadAck i) = refl
-same_ask s _ = refl
+pub same_ask : (l : Layout) (s : Coordinating) (stage : CoordStage) → asks_at l (counted s) stage ≡ asks_at l s stage
+same_ask l s (LoadAck i) = refl
+same_ask l s _ = refl

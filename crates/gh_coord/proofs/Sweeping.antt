@@ -1,5 +1,5 @@
 -- The coordinator runs the steps of sweeps, and begins one where it finds the head of an unswept span.
-use Rattle.std.proofs.Common.{◌≡◌, ℕ, ◌+◌, ◌==◌, Bool, cond, Option, Some, None, refl, subst, sym, ◌∙◌, arith}
+use Rattle.std.proofs.Common.{◌≡◌, ℕ, ◌+◌, ◌==◌, Bool, cond, Option, Some, None, refl, sym, ◌∙◌, arith}
 use Rattle.gh_base.specs.declared.pack.PageWord.{PageWord}
 use Rattle.gh_base.specs.declared.pack.PageWord.TheVariants.{Body, Free, Head}
 use Rattle.gh_base.specs.Packing.{page_of}
@@ -40,14 +40,15 @@ module _ (l : Layout) (w : all.SweepingAll) (found : ℕ) (sw : sweep.Sweeping) 
 walk_then : (m : Coordinating) (v : all.SweepingAll) (out : Option (Unit {0})) → all.given v ≡ out → sweep_in (after_sweep (at_stage m (Sweep v)) out) ≡ all.sweep_at v.stage
 walk_then m v out e = grind arith
 
-on_at : (s m : Coordinating) (sw : sweep.Sweeping) (p : CoordStage) → sweep_at p ≡ Some sw → (asks_at s p ≡ sweep.asks s.layout sw) × ((found : ℕ) → sweep_in (goes_at m p found) ≡ on_from sw found)
-on_at s m sw (Sweep w) is =
-    ((walk_on s.layout w sw w.stage is).0, λ found. walk_then m (all.goes m.layout w found) (all.given (all.goes m.layout w found)) refl ∙ (walk_on m.layout w sw w.stage is).1 found)
-on_at s m sw _ is = absurd (cc)
+on_at : (l : Layout) (s m : Coordinating) (sw : sweep.Sweeping) (p : CoordStage) → sweep_at p ≡ Some sw → (asks_at l s p ≡ sweep.asks l sw) × ((found : ℕ) → sweep_in (goes_at l m p found) ≡ on_from sw found)
+on_at l s m sw (Sweep w) is =
+    let o = walk_on l w sw w.stage is in
+    (o.0, λ found. walk_then m (all.goes l w found) (all.given (all.goes l w found)) refl ∙ o.1 found)
+on_at l s m sw _ is = absurd (cc)
 
-module _ (s m : Coordinating) (same : m.layout ≡ s.layout) (found : ℕ) (sw : sweep.Sweeping) where
+module _ (l : Layout) (s m : Coordinating) (found : ℕ) (sw : sweep.Sweeping) where
   abbrev Begins : CoordStage → Type 0
-  Begins p = BeginsSweep s.generation (asks_at s p) found sw
+  Begins p = BeginsSweep s.generation (asks_at l s p) found sw
 
   abbrev None_in : Coordinating → Type 0
   None_in to = sweep_in to ≡ None
@@ -55,19 +56,19 @@ module _ (s m : Coordinating) (same : m.layout ≡ s.layout) (found : ℕ) (sw :
   none_so : (to : Coordinating) → None_in to → sweep_in to ≡ Some sw → ⊥
   none_so to none some = cc
 
-  walked : (w : all.SweepingAll) → w.generation ≡ s.generation → all.sweep_at w.stage ≡ None → sweep_in (goes_at m (Sweep w) found) ≡ Some sw → Begins (Sweep w)
+  walked : (w : all.SweepingAll) → w.generation ≡ s.generation → all.sweep_at w.stage ≡ None → sweep_in (goes_at l m (Sweep w) found) ≡ Some sw → Begins (Sweep w)
   walked w is none some =
-      let b = walk_begins m.layout w found sw w.stage none (sym (walk_then m (all.goes m.layout w found) (all.given (all.goes m.layout w found)) refl) ∙ some) in
-      subst (λ (l : Layout). BeginsSweep s.generation (all.asks l w) found sw) same (record { page = b.page; head = b.head; step_is = b.step_is; head_is = b.head_is; number = b.number ∙ is; sweep_is = b.sweep_is })
+      let b = walk_begins l w found sw w.stage none (sym (walk_then m (all.goes l w found) (all.given (all.goes l w found)) refl) ∙ some) in
+      record { page = b.page; head = b.head; step_is = b.step_is; head_is = b.head_is; number = b.number ∙ is; sweep_is = b.sweep_is }
 
-  begins_at : (p : CoordStage) → SoundAt s p → sweep_at p ≡ None → None_in m → sweep_in (goes_at m p found) ≡ Some sw → Begins p
+  begins_at : (p : CoordStage) → SoundAt s p → sweep_at p ≡ None → None_in m → sweep_in (goes_at l m p found) ≡ Some sw → Begins p
   begins_at (Sweep w) e none here some = walked w e none some
-  begins_at p e none here some = absurd (none_so (goes_at m p found) (by_event m found None_in p (λ x may. grind arith)) some)
+  begins_at p e none here some = absurd (none_so (goes_at l m p found) (by_event l m found None_in p (λ x may. grind arith)) some)
 
 pub runs_sweeps : ((l : Layout) → PartsAreRoutines l) → TheCoordinatorRunsSweeps
 runs_sweeps parts = record {
   at_first = λ l seat gogc minheap room. refl;
-  on = λ s sw is busy. let o = on_at s (counted s) sw s.stage is in record { asks_so = o.0; goes_so = o.1 };
-  begins = λ s found sw sound none some. begins_at s (counted s) refl found sw s.stage sound.1 none none some;
+  on = λ l s sw is busy. let o = on_at l s (counted s) sw s.stage is in record { asks_so = o.0; goes_so = o.1 };
+  begins = λ l s found sw sound none some. begins_at l s (counted s) found sw s.stage sound.1 none none some;
   tells = tells_once_swept parts;
 }

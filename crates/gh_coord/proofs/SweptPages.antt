@@ -45,7 +45,7 @@ module _ (run : Run) where
     first : ℕ
     is_before : first < n
     is_so : Begins generation page first
-    since : (m : ℕ) → first ≤ m → m < n → StoresNone (asks (now m))
+    since : (m : ℕ) → first ≤ m → m < n → StoresNone (asks run.layout (now m))
 
   abbrev WalkKnows : (generation n : ℕ) → SweepAllStage → Type 0
   WalkKnows generation n (a.LoadPage page) = Below generation n page
@@ -63,16 +63,15 @@ module _ (run : Run) where
   Knows generation n (Tell te) = Below generation n run.layout.pages
   Knows generation n _ = Unit {0}
 
-  record Has (n : ℕ) (s : Coordinating) : Type 0 where
-    layout_is : s.layout ≡ run.layout
-    knows : Knows s.generation n s.stage
+  abbrev Has : ℕ → Coordinating → Type 0
+  Has n s = Knows s.generation n s.stage
 
-  module _ (generation n : ℕ) (none : StoresNone (asks (now n))) where
-    since_on : (by : ℕ) → ((m : ℕ) → by ≤ m → m < n → StoresNone (asks (now m))) → (m : ℕ) → by ≤ m → m < suc n → StoresNone (asks (now m))
+  module _ (generation n : ℕ) (none : StoresNone (asks run.layout (now n))) where
+    since_on : (by : ℕ) → ((m : ℕ) → by ≤ m → m < n → StoresNone (asks run.layout (now m))) → (m : ℕ) → by ≤ m → m < suc n → StoresNone (asks run.layout (now m))
     since_on by before m from lt = so (ltb m n) refl where
-      so : (b : Bool) → ltb m n ≡ b → StoresNone (asks (now m))
+      so : (b : Bool) → ltb m n ≡ b → StoresNone (asks run.layout (now m))
       so true e = before m from (ltb-true _ _ e)
-      so false e = let ge : n ≤ m = ltb-false _ _ e in let is : n ≡ m = omega arith in subst (λ (x : ℕ). StoresNone (asks (now x))) is none
+      so false e = let ge : n ≤ m = ltb-false _ _ e in let is : n ≡ m = omega arith in subst (λ (x : ℕ). StoresNone (asks run.layout (now x))) is none
 
     -- the pages that are passed stay so
     stay : (pages : ℕ) → Below generation n pages → Below generation (suc n) pages
@@ -103,49 +102,49 @@ module _ (run : Run) where
         let before : h.first < suc n = h.is_before in
         record { first = h.first; by = n; is_behind = omega arith; is_before = omega arith; is_so = inr (h.is_so, is); since = h.since }
 
-  module _ (n : ℕ) (s : Coordinating) (here : s.layout ≡ run.layout) where
+  module _ (n : ℕ) (s : Coordinating) where
     abbrev walks_to : all.SweepingAll → Coordinating
     walks_to y = after_sweep (at_stage s (Sweep y)) (all.given y)
 
-    module _ (x : all.SweepingAll) (numbered : x.generation ≡ s.generation) (none : StoresNone (asks (now n))) where
+    module _ (x : all.SweepingAll) (numbered : x.generation ≡ s.generation) (none : StoresNone (asks run.layout (now n))) where
       abbrev walked : SweepAllStage → Coordinating
       walked stage = walks_to (all.at_stage x stage)
 
       -- it goes on behind this page
-      behind : (page : ℕ) → Below s.generation n page → Passed s.generation (suc n) page → Has (suc n) (walked (all.behind_of s.layout.pages page))
-      behind page k one = by (ltb (page + 1) s.layout.pages) refl where
+      behind : (page : ℕ) → Below s.generation n page → Passed s.generation (suc n) page → Has (suc n) (walked (all.behind_of run.layout.pages page))
+      behind page k one = by (ltb (page + 1) run.layout.pages) refl where
         most : Below s.generation (suc n) (page + 1)
         most = one_more s.generation n none page k one
 
-        by : (b : Bool) → ltb (page + 1) s.layout.pages ≡ b → Has (suc n) (walked (cond b (a.LoadPage (page + 1)) a.Ended))
-        by true e = record { layout_is = here; knows = record { generation_is = numbered; knows = most } }
+        by : (b : Bool) → ltb (page + 1) run.layout.pages ≡ b → Has (suc n) (walked (cond b (a.LoadPage (page + 1)) a.Ended))
+        by true e = record { generation_is = numbered; knows = most }
         by false e =
-            let last : run.layout.pages ≤ page + 1 = subst (λ (y : Layout). y.pages ≤ page + 1) here (ltb-false _ _ e) in
-            record { layout_is = here; knows = λ i lt. most i (omega arith) }
+            let last : run.layout.pages ≤ page + 1 = ltb-false _ _ e in
+            λ i lt. most i (omega arith)
 
       waits : (page : ℕ) → Begun s.generation (suc n) page → Below s.generation n page → Has (suc n) (walked (a.Await page))
-      waits page h k = record { layout_is = here; knows = record { generation_is = numbered; knows = (h, stay s.generation n none page k) } }
+      waits page h k = record { generation_is = numbered; knows = (h, stay s.generation n none page k) }
 
       -- by the page's word
-      module _ (page : ℕ) (loads : asks (now n) ≡ Load (cell.Page page)) where
+      module _ (page : ℕ) (loads : asks run.layout (now n) ≡ Load (cell.Page page)) where
         begun : (word : PageWord) → page_of (run.found n) ≡ word → IsNone 2 s.generation word → Begun s.generation (suc n) page
         begun word is so = grind arith
 
         done : (word : PageWord) → page_of (run.found n) ≡ word → IsNone 1 s.generation word → Begun s.generation (suc n) page → Passed s.generation (suc n) page
         done word is so h = grind (arith, done_here, so)
 
-        load_step : (word : PageWord) → page_of (run.found n) ≡ word → Below s.generation n page → Has (suc n) (walks_to (all.after_load s.layout x page word))
+        load_step : (word : PageWord) → page_of (run.found n) ≡ word → Below s.generation n page → Has (suc n) (walks_to (all.after_load run.layout x page word))
         load_step (Head h) is k = by (h.number + 2 == x.generation) (h.number + 1 == x.generation) refl refl where
-          by : (b d : Bool) → (h.number + 2 == x.generation) ≡ b → (h.number + 1 == x.generation) ≡ d → Has (suc n) (walked (cond b (a.Sweep page (sweep.opening page h)) (cond d (a.Await page) (all.behind_of s.layout.pages page))))
-          by true d e f = record { layout_is = here; knows = record { generation_is = numbered; knows = (refl, stay s.generation n none page k) } }
+          by : (b d : Bool) → (h.number + 2 == x.generation) ≡ b → (h.number + 1 == x.generation) ≡ d → Has (suc n) (walked (cond b (a.Sweep page (sweep.opening page h)) (cond d (a.Await page) (all.behind_of run.layout.pages page))))
+          by true d e f = record { generation_is = numbered; knows = (refl, stay s.generation n none page k) }
           by false true e f = waits page (begun (Head h) is (λ i. grind (arith, nat_tests))) k
           by false false e f = behind page k (done (Head h) is (λ i. grind (arith, nat_tests)) (begun (Head h) is (λ i. grind (arith, nat_tests))))
         load_step Free is k = behind page k (done Free is tt (begun Free is tt))
         load_step (Body b) is k = behind page k (done (Body b) is tt (begun (Body b) is tt))
 
-        await_step : (word : PageWord) → page_of (run.found n) ≡ word → Begun s.generation n page → Below s.generation n page → Has (suc n) (walks_to (all.after_await s.layout x page word))
+        await_step : (word : PageWord) → page_of (run.found n) ≡ word → Begun s.generation n page → Below s.generation n page → Has (suc n) (walks_to (all.after_await run.layout x page word))
         await_step (Head h) is was k = by (h.number + 1 == x.generation) refl where
-          by : (d : Bool) → (h.number + 1 == x.generation) ≡ d → Has (suc n) (walked (cond d (a.Await page) (all.behind_of s.layout.pages page)))
+          by : (d : Bool) → (h.number + 1 == x.generation) ≡ d → Has (suc n) (walked (cond d (a.Await page) (all.behind_of run.layout.pages page)))
           by true f = waits page (begun_on s.generation n none page was) k
           by false f = behind page k (done (Head h) is (λ i. grind (arith, nat_tests)) (begun_on s.generation n none page was))
         await_step Free is was k = behind page k (done Free is tt (begun_on s.generation n none page was))
@@ -153,37 +152,36 @@ module _ (run : Run) where
 
       -- by what its own sweep gives
       swept_step : (page : ℕ) (sw : sweep.Sweeping) (out : Option SweepEnd) → sweep_in (now n) ≡ Some sw → sw.page ≡ page → sweep.gives sw (run.found n) ≡ out → Below s.generation n page →
-          Has (suc n) (walks_to (all.after_sweep s.layout (all.at_stage x (a.Sweep page (sweep.goes sw (run.found n)))) page out))
-      swept_step page sw None runs at is k = record { layout_is = here; knows = record { generation_is = numbered; knows = (page_stays sw sw.stage (run.found n) ∙ at, stay s.generation n none page k) } }
+          Has (suc n) (walks_to (all.after_sweep run.layout (all.at_stage x (a.Sweep page (sweep.goes sw (run.found n)))) page out))
+      swept_step page sw None runs at is k = record { generation_is = numbered; knows = (page_stays sw sw.stage (run.found n) ∙ at, stay s.generation n none page k) }
       swept_step page sw (Some Lost) runs at is k = waits page (begun_here s.generation n none page (inr (record { sw = sw; runs = runs; page_is = at; ends = is }))) k
       swept_step page sw (Some (Swept span)) runs at is k = behind page k (swept_here s.generation n none page (span, record { sw = sw; runs = runs; page_is = at; ends = is }))
 
-      walk_step : (stage : SweepAllStage) → sweep_in (now n) ≡ all.sweep_at stage → asks (now n) ≡ all.asks_at s.layout stage → WalkKnows s.generation n stage → Has (suc n) (walks_to (all.goes_at s.layout x stage (run.found n)))
+      walk_step : (stage : SweepAllStage) → sweep_in (now n) ≡ all.sweep_at stage → asks run.layout (now n) ≡ all.asks_at run.layout stage → WalkKnows s.generation n stage → Has (suc n) (walks_to (all.goes_at run.layout x stage (run.found n)))
       walk_step stage runs asked k = grind (arith, await_step, load_step, swept_step)
 
-    step_at : PartsAreRoutines s.layout → (stage : CoordStage) → (now n).stage ≡ stage → s.stage ≡ stage → asks (now n) ≡ asks_at s stage → Knows s.generation n stage → Has (suc n) (goes_at s stage (run.found n))
-    step_at parts (Close cl) was is asked k = by_event s (run.found n) (Has (suc n)) (Close cl) (λ e may. closes e may) where
-      closes : (e : Event) → MayCome s (run.found n) (Close cl) e → Has (suc n) (led s e)
+    step_at : PartsAreRoutines run.layout → (stage : CoordStage) → (now n).stage ≡ stage → s.stage ≡ stage → asks run.layout (now n) ≡ asks_at run.layout s stage → Knows s.generation n stage → Has (suc n) (goes_at run.layout s stage (run.found n))
+    step_at parts (Close cl) was is asked k = by_event run.layout s (run.found n) (Has (suc n)) (Close cl) (λ e may. closes e may) where
+      closes : (e : Event) → MayCome run.layout s (run.found n) (Close cl) e → Has (suc n) (led run.layout s e)
       closes e may = grind arith
     step_at parts (Sweep x) was is asked k = walk_step x k.generation_is (λ v e. never all.writes _ (parts.sweep.writes x) v refl (sym asked ∙ e)) x.stage (ap sweep_at was) asked k.knows
-    step_at parts (Count co) was is asked k = let on = stay s.generation n (λ v e. never count.writes _ (parts.count.writes co) v refl (sym asked ∙ e)) run.layout.pages k in by_event s (run.found n) (Has (suc n)) (Count co) (λ e may. grind (arith, on))
-    step_at parts (Tell te) was is asked k = let on = stay s.generation n (λ v e. never tell.writes _ (parts.tell.writes te) v refl (sym asked ∙ e)) run.layout.pages k in by_event s (run.found n) (Has (suc n)) (Tell te) (λ e may. grind (arith, on))
-    step_at parts Done was is asked k = record { layout_is = here; knows = subst (λ (stage : CoordStage). Knows s.generation (suc n) stage) (sym is) tt }
-    step_at parts q was is asked k = by_event s (run.found n) (Has (suc n)) q (λ e may. grind arith)
+    step_at parts (Count co) was is asked k = let on = stay s.generation n (λ v e. never count.writes _ (parts.count.writes co) v refl (sym asked ∙ e)) run.layout.pages k in by_event run.layout s (run.found n) (Has (suc n)) (Count co) (λ e may. grind (arith, on))
+    step_at parts (Tell te) was is asked k = let on = stay s.generation n (λ v e. never tell.writes _ (parts.tell.writes te) v refl (sym asked ∙ e)) run.layout.pages k in by_event run.layout s (run.found n) (Has (suc n)) (Tell te) (λ e may. grind (arith, on))
+    step_at parts Done was is asked k = subst (λ (stage : CoordStage). Knows s.generation (suc n) stage) (sym is) tt
+    step_at parts q was is asked k = by_event run.layout s (run.found n) (Has (suc n)) q (λ e may. grind arith)
 
   has : ((l : Layout) → PartsAreRoutines l) → (n : ℕ) → Has n (now n)
-  has parts zero = record { layout_is = refl; knows = tt }
+  has parts zero = tt
   has parts (suc n) =
-      let h = has parts n in
       let s : Coordinating = now n in
-      step_at n (counted s) h.layout_is (parts s.layout) s.stage refl refl (sym (same_ask s s.stage)) h.knows
+      step_at n (counted s) (parts run.layout) s.stage refl refl (sym (same_ask run.layout s s.stage)) (has parts n)
 
 module _ (run : Run) (n v : ℕ) (s : Coordinating) where
-  tells_at : (stage : CoordStage) → Knows run s.generation n stage → asks_at s stage ≡ Store cell.Swept v → Below run s.generation n run.layout.pages
+  tells_at : (stage : CoordStage) → Knows run s.generation n stage → asks_at run.layout s stage ≡ Store cell.Swept v → Below run s.generation n run.layout.pages
   tells_at stage k e = grind arith
 
 pub tells_once_swept : ((l : Layout) → PartsAreRoutines l) → TellsOnceAllAreSwept
 tells_once_swept parts l seat gogc minheap room found n cycle page e lt =
     let run : Run = record { layout = l; seat = seat; gogc = gogc; minheap = minheap; room = room; found = found } in
     let s : Coordinating = now run n in
-    tells_at run n cycle s s.stage (has run parts n).knows e page lt
+    tells_at run n cycle s s.stage (has run parts n) e page lt

@@ -18,9 +18,9 @@ module _ (l : Layout) (found : ℕ) where
   sweep_on : (s : all.SweepingAll) → all.IsAtPage l s.stage → all.IsAtPage l (all.goes l s found).stage
   sweep_on s f = grind (arith, nat_tests, page_stays)
 
-module _ (u : Coordinating) (found : ℕ) (procs : 0 < u.layout.procs) (pages : 0 < u.layout.pages) (stops : u.stops < 2 ^ 62) (generation : u.generation < 2 ^ 34) where
-  stays_at : (p : CoordStage) → StandsAt u.layout p → StandsAt u.layout u.stage → StandsWithin (goes_at u p found)
-  stays_at p f here = by_event u found StandsWithin p (λ e may. grind (arith, stop_on, watch_on, sweep_on))
+module _ (l : Layout) (u : Coordinating) (found : ℕ) (procs : 0 < l.procs) (pages : 0 < l.pages) (stops : u.stops < 2 ^ 62) (generation : u.generation < 2 ^ 34) where
+  stays_at : (p : CoordStage) → StandsAt l p → StandsAt l u.stage → StandsWithin l (goes_at l u p found)
+  stays_at p f here = by_event l u found (StandsWithin l) p (λ e may. grind (arith, stop_on, watch_on, sweep_on))
 
 pub stays_within : TheCoordinatorStaysWithin
 stays_within = record { at_first = grind arith; stays = grind (arith, stays_at); within = grind arith }

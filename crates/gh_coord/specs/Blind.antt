@@ -3,11 +3,11 @@ use Rattle.std.specs.Prelude.{◌≡◌, ℕ, true}
 use Rattle.std.proofs.Common.{arith}
 use Rattle.gh_base.specs.Blind.{is_store, StoresAreBlind}
 use Rattle.gh_coord.specs.Listing.{asks, asks_at, Coordinating, counted, goes, goes_at}
-use Rattle.gh_coord.specs.Vocabulary.{CoordStage}
+use Rattle.gh_coord.specs.Vocabulary.{CoordStage, Layout}
 
 -- the coordinator that asks, and the same once it has counted the step
-blind_at : (s m : Coordinating) (stage : CoordStage) (found other : ℕ) → is_store (asks_at s stage) ≡ true → goes_at m stage found ≡ goes_at m stage other
-blind_at s m stage found other e = grind arith
+blind_at : (l : Layout) (s m : Coordinating) (stage : CoordStage) (found other : ℕ) → is_store (asks_at l s stage) ≡ true → goes_at l m stage found ≡ goes_at l m stage other
+blind_at l s m stage found other e = grind arith
 
-pub blind : StoresAreBlind asks goes
-blind s found other e = blind_at s (counted s) s.stage found other e
+pub blind : (l : Layout) → StoresAreBlind (asks l) (goes l)
+blind l s found other e = blind_at l s (counted s) s.stage found other e

@@ -45,24 +45,24 @@ pub data Event : Type 0 where
   Stays : Event
 
 -- where an event leads
-abbrev pub led : Coordinating → Event → Coordinating
-led u (GoesOn p) = at_stage u p
-led u (LooksAt i) = at_stage u (LoadAck i)
-led u LooksForWant = at_stage u LoadWant
-led u StopsForLast = stops_world (record u { is_last = true })
-led u StopsForNext = stops_world u
-led u Opens = opens u
-led u Watches = watches u
-led u StopsAgain = stops_again u
-led u Checks = checks u
-led u MarksOn = at_stage u MarkOn
-led u Closes = closes u
-led u (Sweeps lapsed) = sweeps u lapsed
-led u Counts = counts u
-led u (Tells c) = tells u c
-led u Rests = at_stage u (LoadAck 0)
-led u Ends = at_stage u Done
-led u Stays = u
+abbrev pub led : Layout → Coordinating → Event → Coordinating
+led l u (GoesOn p) = at_stage u p
+led l u (LooksAt i) = at_stage u (LoadAck i)
+led l u LooksForWant = at_stage u LoadWant
+led l u StopsForLast = stops_world (record u { is_last = true })
+led l u StopsForNext = stops_world u
+led l u Opens = opens l u
+led l u Watches = watches u
+led l u StopsAgain = stops_again u
+led l u Checks = checks u
+led l u MarksOn = at_stage u MarkOn
+led l u Closes = closes u
+led l u (Sweeps lapsed) = sweeps u lapsed
+led l u Counts = counts u
+led l u (Tells c) = tells l u c
+led l u Rests = at_stage u (LoadAck 0)
+led l u Ends = at_stage u Done
+led l u Stays = u
 
 -- how its part goes on, where it does
 abbrev pub GoesOnTo : Layout → (found : ℕ) → CoordStage → CoordStage → Type 0
@@ -78,106 +78,106 @@ GoesOnTo l found (Tell t) p = p ≡ Tell (tell.goes t found)
 GoesOnTo l found _ p = ⊥
 
 -- which events a step may come to, by the stage at which it is made
-abbrev pub MayCome : Coordinating → (found : ℕ) → CoordStage → Event → Type 0
-MayCome u found p (GoesOn q) = GoesOnTo u.layout found p q × (is_busy q ≡ true)
-MayCome u found (LoadAck i) (LooksAt j) = (found ≡ GONE) × (j ≡ i + 1) × (j < u.layout.procs)
-MayCome u found (LoadAck i) LooksForWant = found ≢ GONE
-MayCome u found (LoadAck i) StopsForLast = (found ≡ GONE) × (u.layout.procs ≤ i + 1)
-MayCome u found LoadWant (LooksAt j) = (found ≡ 0) × (j ≡ 0)
-MayCome u found LoadWant StopsForNext = found ≢ 0
-MayCome u found (Stop st) Opens = Unit {0}
-MayCome u found (Open o) Watches = Unit {0}
-MayCome u found (Watch w) Watches = Unit {0}
-MayCome u found (Watch w) StopsAgain = Unit {0}
-MayCome u found (StopAgain st) Checks = Unit {0}
-MayCome u found (Check w) MarksOn = Unit {0}
-MayCome u found (Check w) Closes = Unit {0}
-MayCome u found MarkOn Watches = Unit {0}
-MayCome u found (Close c) (Sweeps lapsed) = Unit {0}
-MayCome u found (Sweep w) Counts = Unit {0}
-MayCome u found (Count c) (Tells x) = Unit {0}
-MayCome u found (Tell t) Rests = u.is_last ≡ false
-MayCome u found (Tell t) Ends = u.is_last ≡ true
-MayCome u found Done Stays = Unit {0}
-MayCome u found _ _ = ⊥
+abbrev pub MayCome : Layout → Coordinating → (found : ℕ) → CoordStage → Event → Type 0
+MayCome l u found p (GoesOn q) = GoesOnTo l found p q × (is_busy q ≡ true)
+MayCome l u found (LoadAck i) (LooksAt j) = (found ≡ GONE) × (j ≡ i + 1) × (j < l.procs)
+MayCome l u found (LoadAck i) LooksForWant = found ≢ GONE
+MayCome l u found (LoadAck i) StopsForLast = (found ≡ GONE) × (l.procs ≤ i + 1)
+MayCome l u found LoadWant (LooksAt j) = (found ≡ 0) × (j ≡ 0)
+MayCome l u found LoadWant StopsForNext = found ≢ 0
+MayCome l u found (Stop st) Opens = Unit {0}
+MayCome l u found (Open o) Watches = Unit {0}
+MayCome l u found (Watch w) Watches = Unit {0}
+MayCome l u found (Watch w) StopsAgain = Unit {0}
+MayCome l u found (StopAgain st) Checks = Unit {0}
+MayCome l u found (Check w) MarksOn = Unit {0}
+MayCome l u found (Check w) Closes = Unit {0}
+MayCome l u found MarkOn Watches = Unit {0}
+MayCome l u found (Close c) (Sweeps lapsed) = Unit {0}
+MayCome l u found (Sweep w) Counts = Unit {0}
+MayCome l u found (Count c) (Tells x) = Unit {0}
+MayCome l u found (Tell t) Rests = u.is_last ≡ false
+MayCome l u found (Tell t) Ends = u.is_last ≡ true
+MayCome l u found Done Stays = Unit {0}
+MayCome l u found _ _ = ⊥
 
 -- a step at this stage comes to such an event, and so leads here
-record Comes (u : Coordinating) (found : ℕ) (p : CoordStage) (to : Coordinating) : Type 0 where
+record Comes (l : Layout) (u : Coordinating) (found : ℕ) (p : CoordStage) (to : Coordinating) : Type 0 where
   event : Event
-  may : MayCome u found p event
-  leads : to ≡ led u event
+  may : MayCome l u found p event
+  leads : to ≡ led l u event
 
 -- marking is being ended exactly where the end of marking has given nothing
 close_busy : (c : close.Closing) (p : CloseStage) → is_none (close.given_at c p) ≡ close.is_busy p
 close_busy c p = grind arith
 
-module _ (u : Coordinating) (found : ℕ) where
-  acks : (i : ℕ) (gone more : Bool) → (found == GONE) ≡ gone → ltb (i + 1) u.layout.procs ≡ more → Comes u found (LoadAck i) (cond gone (cond more (at_stage u (LoadAck (i + 1))) (stops_world (record u { is_last = true }))) (at_stage u LoadWant))
+module _ (l : Layout) (u : Coordinating) (found : ℕ) where
+  acks : (i : ℕ) (gone more : Bool) → (found == GONE) ≡ gone → ltb (i + 1) l.procs ≡ more → Comes l u found (LoadAck i) (cond gone (cond more (at_stage u (LoadAck (i + 1))) (stops_world (record u { is_last = true }))) (at_stage u LoadWant))
   acks i true true is e = record { event = LooksAt (i + 1); may = grind (arith, nat_tests); leads = refl }
   acks i true false is e = record { event = StopsForLast; may = grind (arith, nat_tests); leads = refl }
   acks i false more is e = record { event = LooksForWant; may = grind (arith, nat_tests); leads = refl }
 
-  wants : (none : Bool) → (found == 0) ≡ none → Comes u found LoadWant (cond none (at_stage u (LoadAck 0)) (stops_world u))
+  wants : (none : Bool) → (found == 0) ≡ none → Comes l u found LoadWant (cond none (at_stage u (LoadAck 0)) (stops_world u))
   wants true is = record { event = LooksAt 0; may = grind (arith, nat_tests); leads = refl }
   wants false is = record { event = StopsForNext; may = grind (arith, nat_tests); leads = refl }
 
-  stopped : (st : stop.Stopping) (out : Option (Unit {0})) → stop.given (stop.goes u.layout st found) ≡ out → Comes u found (Stop st) (after_stop (at_stage u (Stop (stop.goes u.layout st found))) out)
-  stopped st None e = record { event = GoesOn (Stop (stop.goes u.layout st found)); may = (refl, ap is_none e); leads = refl }
+  stopped : (st : stop.Stopping) (out : Option (Unit {0})) → stop.given (stop.goes l st found) ≡ out → Comes l u found (Stop st) (after_stop l (at_stage u (Stop (stop.goes l st found))) out)
+  stopped st None e = record { event = GoesOn (Stop (stop.goes l st found)); may = (refl, ap is_none e); leads = refl }
   stopped st (Some x) e = record { event = Opens; may = tt; leads = refl }
 
-  opened : (o : open_.CycleOpening) (out : Option (Unit {0})) → open_.given (open_.goes o found) ≡ out → Comes u found (Open o) (after_open (at_stage u (Open (open_.goes o found))) out)
+  opened : (o : open_.CycleOpening) (out : Option (Unit {0})) → open_.given (open_.goes o found) ≡ out → Comes l u found (Open o) (after_open (at_stage u (Open (open_.goes o found))) out)
   opened o None e = record { event = GoesOn (Open (open_.goes o found)); may = (refl, ap is_none e); leads = refl }
   opened o (Some x) e = record { event = Watches; may = tt; leads = refl }
 
-  watched : (w : watch.Watching) (out : Option Watched) → watch.given (watch.goes u.layout w found) ≡ out → Comes u found (Watch w) (after_watch (at_stage u (Watch (watch.goes u.layout w found))) out)
-  watched w None e = record { event = GoesOn (Watch (watch.goes u.layout w found)); may = (refl, ap is_none e); leads = refl }
+  watched : (w : watch.Watching) (out : Option Watched) → watch.given (watch.goes l w found) ≡ out → Comes l u found (Watch w) (after_watch (at_stage u (Watch (watch.goes l w found))) out)
+  watched w None e = record { event = GoesOn (Watch (watch.goes l w found)); may = (refl, ap is_none e); leads = refl }
   watched w (Some All) e = record { event = StopsAgain; may = tt; leads = refl }
   watched w (Some NotYet) e = record { event = Watches; may = tt; leads = refl }
 
-  stopped_again : (st : stop.Stopping) (out : Option (Unit {0})) → stop.given (stop.goes u.layout st found) ≡ out → Comes u found (StopAgain st) (after_stop_again (at_stage u (StopAgain (stop.goes u.layout st found))) out)
-  stopped_again st None e = record { event = GoesOn (StopAgain (stop.goes u.layout st found)); may = (refl, ap is_none e); leads = refl }
+  stopped_again : (st : stop.Stopping) (out : Option (Unit {0})) → stop.given (stop.goes l st found) ≡ out → Comes l u found (StopAgain st) (after_stop_again (at_stage u (StopAgain (stop.goes l st found))) out)
+  stopped_again st None e = record { event = GoesOn (StopAgain (stop.goes l st found)); may = (refl, ap is_none e); leads = refl }
   stopped_again st (Some x) e = record { event = Checks; may = tt; leads = refl }
 
-  checked : (w : watch.Watching) (out : Option Watched) → watch.given (watch.goes u.layout w found) ≡ out → Comes u found (Check w) (after_check (at_stage u (Check (watch.goes u.layout w found))) out)
-  checked w None e = record { event = GoesOn (Check (watch.goes u.layout w found)); may = (refl, ap is_none e); leads = refl }
+  checked : (w : watch.Watching) (out : Option Watched) → watch.given (watch.goes l w found) ≡ out → Comes l u found (Check w) (after_check (at_stage u (Check (watch.goes l w found))) out)
+  checked w None e = record { event = GoesOn (Check (watch.goes l w found)); may = (refl, ap is_none e); leads = refl }
   checked w (Some All) e = record { event = Closes; may = tt; leads = refl }
   checked w (Some NotYet) e = record { event = MarksOn; may = tt; leads = refl }
 
-  closed : (c : close.Closing) (out : Option ℕ) → close.given (close.goes c found) ≡ out → Comes u found (Close c) (after_close (at_stage u (Close (close.goes c found))) out)
+  closed : (c : close.Closing) (out : Option ℕ) → close.given (close.goes c found) ≡ out → Comes l u found (Close c) (after_close (at_stage u (Close (close.goes c found))) out)
   closed c None e = record { event = GoesOn (Close (close.goes c found)); may = (refl, sym (close_busy (close.goes c found) (close.goes c found).stage) ∙ ap is_none e); leads = refl }
   closed c (Some lapsed) e = record { event = Sweeps lapsed; may = tt; leads = refl }
 
-  swept : (w : sweep.SweepingAll) (out : Option (Unit {0})) → sweep.given (sweep.goes u.layout w found) ≡ out → Comes u found (Sweep w) (after_sweep (at_stage u (Sweep (sweep.goes u.layout w found))) out)
-  swept w None e = record { event = GoesOn (Sweep (sweep.goes u.layout w found)); may = (refl, ap is_none e); leads = refl }
+  swept : (w : sweep.SweepingAll) (out : Option (Unit {0})) → sweep.given (sweep.goes l w found) ≡ out → Comes l u found (Sweep w) (after_sweep (at_stage u (Sweep (sweep.goes l w found))) out)
+  swept w None e = record { event = GoesOn (Sweep (sweep.goes l w found)); may = (refl, ap is_none e); leads = refl }
   swept w (Some x) e = record { event = Counts; may = tt; leads = refl }
 
-  counted : (c : count.Counting) (out : Option Counted) → count.given (count.goes c found) ≡ out → Comes u found (Count c) (after_count (at_stage u (Count (count.goes c found))) out)
+  counted : (c : count.Counting) (out : Option Counted) → count.given (count.goes c found) ≡ out → Comes l u found (Count c) (after_count l (at_stage u (Count (count.goes c found))) out)
   counted c None e = record { event = GoesOn (Count (count.goes c found)); may = (refl, ap is_none e); leads = refl }
   counted c (Some x) e = record { event = Tells x; may = tt; leads = refl }
 
-  told_so : (t : tell.Telling) (last : Bool) → u.is_last ≡ last → Comes u found (Tell t) (at_stage u (cond last Done (LoadAck 0)))
+  told_so : (t : tell.Telling) (last : Bool) → u.is_last ≡ last → Comes l u found (Tell t) (at_stage u (cond last Done (LoadAck 0)))
   told_so t true e = record { event = Ends; may = e; leads = refl }
   told_so t false e = record { event = Rests; may = e; leads = refl }
 
-  told : (t : tell.Telling) (out : Option (Unit {0})) → tell.given (tell.goes t found) ≡ out → Comes u found (Tell t) (after_tell (at_stage u (Tell (tell.goes t found))) out)
+  told : (t : tell.Telling) (out : Option (Unit {0})) → tell.given (tell.goes t found) ≡ out → Comes l u found (Tell t) (after_tell (at_stage u (Tell (tell.goes t found))) out)
   told t None e = record { event = GoesOn (Tell (tell.goes t found)); may = (refl, ap is_none e); leads = refl }
   told t (Some x) e = told_so t u.is_last refl
 
-  comes : (p : CoordStage) → Comes u found p (goes_at u p found)
-  comes (LoadAck i) = acks i (found == GONE) (ltb (i + 1) u.layout.procs) refl refl
+  comes : (p : CoordStage) → Comes l u found p (goes_at l u p found)
+  comes (LoadAck i) = acks i (found == GONE) (ltb (i + 1) l.procs) refl refl
   comes LoadWant = wants (found == 0) refl
-  comes (Stop st) = stopped st (stop.given (stop.goes u.layout st found)) refl
+  comes (Stop st) = stopped st (stop.given (stop.goes l st found)) refl
   comes (Open o) = opened o (open_.given (open_.goes o found)) refl
-  comes (Watch w) = watched w (watch.given (watch.goes u.layout w found)) refl
-  comes (StopAgain st) = stopped_again st (stop.given (stop.goes u.layout st found)) refl
-  comes (Check w) = checked w (watch.given (watch.goes u.layout w found)) refl
+  comes (Watch w) = watched w (watch.given (watch.goes l w found)) refl
+  comes (StopAgain st) = stopped_again st (stop.given (stop.goes l st found)) refl
+  comes (Check w) = checked w (watch.given (watch.goes l w found)) refl
   comes MarkOn = record { event = Watches; may = tt; leads = refl }
   comes (Close c) = closed c (close.given (close.goes c found)) refl
-  comes (Sweep w) = swept w (sweep.given (sweep.goes u.layout w found)) refl
+  comes (Sweep w) = swept w (sweep.given (sweep.goes l w found)) refl
   comes (Count c) = counted c (count.given (count.goes c found)) refl
   comes (Tell t) = told t (tell.given (tell.goes t found)) refl
   comes Done = record { event = Stays; may = tt; leads = refl }
 
   -- what holds behind each event that a step at a stage may come to holds behind the step
-  pub by_event : (Holds : Coordinating → Type 0) (p : CoordStage) → ((e : Event) → MayCome u found p e → Holds (led u e)) → Holds (goes_at u p found)
+  pub by_event : (Holds : Coordinating → Type 0) (p : CoordStage) → ((e : Event) → MayCome l u found p e → Holds (led l u e)) → Holds (goes_at l u p found)
   by_event Holds p each = subst Holds (sym (comes p).leads) (each (comes p).event (comes p).may)

@@ -10,4 +10,4 @@ HasNext s = is_busy s.stage ≡ not (is_done_at s.stage)
 pub record GoesOnUntilDone : Type 0 where
   pub at_first : (l : Layout) (seat gogc minheap room : ℕ) → HasNext (opening l seat gogc minheap room)
   -- a step keeps it
-  pub step : (s : Coordinating) (found : ℕ) → is_busy s.stage ≡ true → HasNext (goes s found)
+  pub step : (l : Layout) (s : Coordinating) (found : ℕ) → is_busy s.stage ≡ true → HasNext (goes l s found)

@@ -131,32 +131,32 @@ gone_to (LoadAck i) = i
 gone_to _ = 0
 
 -- the processor at this seat was found gone before, or is found so by this step
-abbrev pub IsFoundGone : (found : ℕ) → Coordinating → CoordStage → (a : ℕ) → Type 0
-IsFoundGone found s stage a = (a < gone_to stage) ⊎ ((asks_at s stage ≡ Load (cell.Ack a)) × (found ≡ GONE))
+abbrev pub IsFoundGone : Layout → (found : ℕ) → Coordinating → CoordStage → (a : ℕ) → Type 0
+IsFoundGone l found s stage a = (a < gone_to stage) ⊎ ((asks_at l s stage ≡ Load (cell.Ack a)) × (found ≡ GONE))
 
 -- a step that leads here
-pub record FindsGone (found : ℕ) (s : Coordinating) (stage : CoordStage) (to : Coordinating) : Type 0 where
-  pub below : (a : ℕ) → a < gone_to to.stage → IsFoundGone found s stage a
-  pub last : to.is_last ≡ true → (s.is_last ≡ true) ⊎ ((a : ℕ) → a < s.layout.procs → IsFoundGone found s stage a)
+pub record FindsGone (l : Layout) (found : ℕ) (s : Coordinating) (stage : CoordStage) (to : Coordinating) : Type 0 where
+  pub below : (a : ℕ) → a < gone_to to.stage → IsFoundGone l found s stage a
+  pub last : to.is_last ≡ true → (s.is_last ≡ true) ⊎ ((a : ℕ) → a < l.procs → IsFoundGone l found s stage a)
 
 -- Why it stops the world behind a step that leads here: that found a request for a cycle; or it is for the last cycle; or a cycle is marked, and its marking seems to be over.
-abbrev pub StopsFor : (found : ℕ) → (s to : Coordinating) → Type 0
-StopsFor found s to = ((asks s ≡ Load cell.Want) × (found ≢ 0)) ⊎ ((to.is_last ≡ true) ⊎ (last_of (post_at s.stage) ≡ run.Mark))
+abbrev pub StopsFor : Layout → (found : ℕ) → (s to : Coordinating) → Type 0
+StopsFor l found s to = ((asks l s ≡ Load cell.Want) × (found ≢ 0)) ⊎ ((to.is_last ≡ true) ⊎ (last_of (post_at s.stage) ≡ run.Mark))
 
 pub record LeadsHandshake : Type 0 where
   -- before its first step
   pub sound : (l : Layout) (seat gogc minheap room : ℕ) → Sound (opening l seat gogc minheap room)
   pub leads : (l : Layout) (seat gogc minheap room : ℕ) → lead_of (opening l seat gogc minheap room) ≡ first_lead
   -- the last phase is stored in the last cycle, for which each processor was found gone
-  pub finds_gone : (s : Coordinating) (found : ℕ) → is_busy s.stage ≡ true → FindsGone found s s.stage (goes s found)
+  pub finds_gone : (l : Layout) (s : Coordinating) (found : ℕ) → is_busy s.stage ≡ true → FindsGone l found s s.stage (goes l s found)
   pub finishes : (s : Coordinating) → Sound s → last_of (post_at s.stage) ≡ run.Finished → s.is_last ≡ true
   -- it stores a stop only where there is a reason to
-  pub stops_for : (s : Coordinating) (found stop : ℕ) → asks (goes s found) ≡ Store cell.Phase (stop_word stop) → StopsFor found s (goes s found)
-  pub stops_at_first : (l : Layout) (seat gogc minheap room stop : ℕ) → asks (opening l seat gogc minheap room) ≢ Store cell.Phase (stop_word stop)
+  pub stops_for : (l : Layout) (s : Coordinating) (found stop : ℕ) → asks l (goes l s found) ≡ Store cell.Phase (stop_word stop) → StopsFor l found s (goes l s found)
+  pub stops_at_first : (l : Layout) (seat gogc minheap room stop : ℕ) → asks l (opening l seat gogc minheap room) ≢ Store cell.Phase (stop_word stop)
   -- the world is never stopped behind the last phase
   pub stops_go_on : (s : Coordinating) (phase : RunPhase) → post_at s.stage ≡ Stopped phase → phase ≢ run.Finished
   -- where the world is not stopped the last phase that was no stop is that of marking exactly while a cycle is marked
   pub marks_on : (s : Coordinating) → Sound s → ((phase : RunPhase) → post_at s.stage ≡ Stopped phase → ⊥) → last_of (post_at s.stage) ≡ run.Mark ↔ Marks s.stage
   -- each step is one of the handshake
-  pub stays_sound : (s : Coordinating) (found : ℕ) → Sound s → is_busy s.stage ≡ true → Sound (goes s found)
-  pub goes : (s : Coordinating) (found : ℕ) → Sound s → is_busy s.stage ≡ true → LeadGoes (acks_of s.layout) found (lead_of s) (asks s) (lead_of (goes s found))
+  pub stays_sound : (l : Layout) (s : Coordinating) (found : ℕ) → Sound s → is_busy s.stage ≡ true → Sound (goes l s found)
+  pub goes : (l : Layout) (s : Coordinating) (found : ℕ) → Sound s → is_busy s.stage ≡ true → LeadGoes (acks_of l) found (lead_of s) (asks l s) (lead_of (goes l s found))

@@ -2,8 +2,10 @@
 use Rattle.std.specs.Prelude.{◌≡◌, ◌≢◌, ℕ, suc, ◌+◌, ◌%◌, ◌^◌}
 use Rattle.gh_base.specs.declared.cell.Ask.TheVariants as ask
 use Rattle.gh_base.specs.declared.cell.Cell.TheVariants.{Bank, Gen}
+use Rattle.gh_base.specs.Machines.{steps_of}
 use Rattle.gh_base.specs.Routines.{told}
-use Rattle.gh_coord.specs.Listing.{asks, Coordinating, goes, lapsed_at, listing, opening}
+use Rattle.gh_coord.specs.Listing.{asks, Coordinating, goes, lapsed_at, opening}
+use Rattle.gh_coord.specs.Sound.{listing}
 use Rattle.gh_coord.specs.Vocabulary.{Ask, Layout, Load, Store}
 
 -- the credit that has lapsed by now
@@ -21,31 +23,31 @@ LeavesOrClears (ask.Add c more) = c ≢ Bank
 LeavesOrClears (ask.Swap c old new) = c ≢ Bank
 
 -- A step that loads the bank: what it found has lapsed, and the next step clears the bank.
-pub record Lapses (s : Coordinating) (found : ℕ) : Type 0 where
-  pub adds : lapsed_by_now (goes s found) ≡ (lapsed_by_now s + found) % 2 ^ 64
-  pub clears : asks (goes s found) ≡ Store Bank 0
+pub record Lapses (l : Layout) (s : Coordinating) (found : ℕ) : Type 0 where
+  pub adds : lapsed_by_now (goes l s found) ≡ (lapsed_by_now s + found) % 2 ^ 64
+  pub clears : asks l (goes l s found) ≡ Store Bank 0
 
 module _ (l : Layout) (seat gogc minheap room : ℕ) (found : ℕ → ℕ) where
   -- after n steps
   abbrev pub state : ℕ → Coordinating
-  state n = told listing (opening l seat gogc minheap room) found n
+  state n = told (steps_of l (listing l)) (opening l seat gogc minheap room) found n
 
   -- of the two steps before step n one loaded the bank, and the other cleared it: what the load found has lapsed by then
   pub record HasLapsed (n : ℕ) : Type 0 where
     pub load : ℕ
     pub is_before : n ≡ suc (suc load)
-    pub loads : asks (state load) ≡ Load Bank
-    pub clears : asks (state (suc load)) ≡ Store Bank 0
+    pub loads : asks l (state load) ≡ Load Bank
+    pub clears : asks l (state (suc load)) ≡ Store Bank 0
     pub lapsed_is : lapsed_by_now (state n) ≡ (lapsed_by_now (state load) + found load) % 2 ^ 64
 
 pub record TheBankLapses : Type 0 where
   pub at_first : (l : Layout) (seat gogc minheap room : ℕ) → lapsed_by_now (opening l seat gogc minheap room) ≡ 0
   -- what it finds in the bank lapses, and by no other step of the coordinator does credit lapse
-  pub lapses : (s : Coordinating) (found : ℕ) → asks s ≡ Load Bank → Lapses s found
-  pub stays : (s : Coordinating) (found : ℕ) → asks s ≢ Load Bank → lapsed_by_now (goes s found) ≡ lapsed_by_now s
+  pub lapses : (l : Layout) (s : Coordinating) (found : ℕ) → asks l s ≡ Load Bank → Lapses l s found
+  pub stays : (l : Layout) (s : Coordinating) (found : ℕ) → asks l s ≢ Load Bank → lapsed_by_now (goes l s found) ≡ lapsed_by_now s
   -- it writes the bank by the store of 0 behind that load alone
-  pub writes : (s : Coordinating) → LeavesOrClears (asks s)
-  pub clears_behind : (s : Coordinating) (found value : ℕ) → asks (goes s found) ≡ Store Bank value → asks s ≡ Load Bank
-  pub clears_no_first : (l : Layout) (seat gogc minheap room value : ℕ) → asks (opening l seat gogc minheap room) ≢ Store Bank value
+  pub writes : (l : Layout) (s : Coordinating) → LeavesOrClears (asks l s)
+  pub clears_behind : (l : Layout) (s : Coordinating) (found value : ℕ) → asks l (goes l s found) ≡ Store Bank value → asks l s ≡ Load Bank
+  pub clears_no_first : (l : Layout) (seat gogc minheap room value : ℕ) → asks l (opening l seat gogc minheap room) ≢ Store Bank value
   -- the step that ends marking stores the next sweep generation: by then the credit has lapsed
-  pub ends : (l : Layout) (seat gogc minheap room : ℕ) (found : ℕ → ℕ) (n generation : ℕ) → asks (state l seat gogc minheap room found n) ≡ Store Gen generation → HasLapsed l seat gogc minheap room found n
+  pub ends : (l : Layout) (seat gogc minheap room : ℕ) (found : ℕ → ℕ) (n generation : ℕ) → asks l (state l seat gogc minheap room found n) ≡ Store Gen generation → HasLapsed l seat gogc minheap room found n

@@ -2,7 +2,7 @@
 use Rattle.std.specs.Prelude.{ℕ, ◌+◌, ◌-◌, ◌%◌, ◌^◌, Bool, true, false, min, nat_lt, ◌==◌, if◌then◌else◌, [], Option, Some, None}
 use Rattle.gh_base.specs.declared.cell.Cell.TheVariants as cell
 use Rattle.gh_base.specs.declared.pack.Phase.TheVariants as phase
-use Rattle.gh_base.specs.Routines.{Listing}
+use Rattle.gh_base.specs.Cells.{ack_row}
 use Rattle.gh_coord.specs.Closing as close
 use Rattle.gh_coord.specs.Counting as count
 use Rattle.gh_coord.specs.Keeping.{Kept, kept_with_cycle, last_kept}
@@ -15,12 +15,12 @@ use Rattle.gh_coord.specs.Watching as watch
 use Rattle.gh_sweep.specs.Listing.{Sweeping}
 use Rattle.gh_coord.specs.Vocabulary.{All, Ask, bit, Check, Close, CoordStage, Count, Counted, Cycle, Done, GONE, Layout, Load, LoadAck, LoadWant, MarkOn, NotYet, Open, phase_word, Stop, StopAgain, Store, Sweep, TallyWord, Tell, Watch, Watched}
 
--- What the coordinator knows: its heap, seat and pacing; the numbers of the stops and of the cycle, and the sweep generation; the bytes marked of the last swept cycle; the credit that had lapsed by the last cycle; that each processor is done; how often it has stored the phase word; the cycles that it keeps; and its stage.
+-- What the coordinator knows: its seat and pacing, and where the acknowledgements begin; the numbers of the stops and of the cycle, and the sweep generation; the bytes marked of the last swept cycle; the credit that had lapsed by the last cycle; that each processor is done; how often it has stored the phase word; the cycles that it keeps; and its stage.
 pub record Coordinating : Type 0 where
-  pub layout : Layout
   pub seat : ℕ
   pub gogc : ℕ
   pub minheap : ℕ
+  pub first_ack : ℕ
   pub stops : ℕ
   pub begun : ℕ
   pub generation : ℕ
@@ -33,10 +33,10 @@ pub record Coordinating : Type 0 where
 
 abbrev pub opening : Layout → (seat gogc minheap room : ℕ) → Coordinating
 opening l seat gogc minheap room = record {
-  layout = l;
   seat = seat;
   gogc = gogc;
   minheap = minheap;
+  first_ack = ack_row l;
   stops = 0;
   begun = 0;
   generation = 2;
@@ -65,32 +65,28 @@ next_generation generation = (generation + 2) % 2 ^ 34
 abbrev pub cycle_of : (k : ℕ) → TallyWord → Cycle
 cycle_of k t = record { k = k; marked = t.marked; freed = t.freed }
 
-module _ (s : Coordinating) where
-  abbrev pub asks_at : CoordStage → Ask
-  asks_at (LoadAck i) = Load (cell.Ack i)
-  asks_at LoadWant = Load cell.Want
-  asks_at (Stop st) = stop.asks st
-  asks_at (Open o) = open_.asks o
-  asks_at (Watch w) = watch.asks s.layout w
-  asks_at (StopAgain st) = stop.asks st
-  asks_at (Check w) = watch.asks s.layout w
-  asks_at MarkOn = Store cell.Phase (phase_word (record { stops = s.stops; phase = phase.Mark }))
-  asks_at (Close c) = close.asks c
-  asks_at (Sweep w) = sweep.asks s.layout w
-  asks_at (Count c) = count.asks c
-  asks_at (Tell t) = tell.asks t
-  asks_at Done = Load cell.Touch
+abbrev pub asks_at : Layout → Coordinating → CoordStage → Ask
+asks_at l s (LoadAck i) = Load (cell.Ack i)
+asks_at l s LoadWant = Load cell.Want
+asks_at l s (Stop st) = stop.asks st
+asks_at l s (Open o) = open_.asks o
+asks_at l s (Watch w) = watch.asks l w
+asks_at l s (StopAgain st) = stop.asks st
+asks_at l s (Check w) = watch.asks l w
+asks_at l s MarkOn = Store cell.Phase (phase_word (record { stops = s.stops; phase = phase.Mark }))
+asks_at l s (Close c) = close.asks c
+asks_at l s (Sweep w) = sweep.asks l w
+asks_at l s (Count c) = count.asks c
+asks_at l s (Tell t) = tell.asks t
+asks_at l s Done = Load cell.Touch
 
+module _ (s : Coordinating) where
   -- it begins to stop the world, for a cycle that is to be opened or for the check that marking is over
   abbrev pub stops_world : Coordinating
   stops_world = record s { stops = next_stop s.stops; stage = Stop (stop.opening (next_stop s.stops)) }
 
   abbrev pub stops_again : Coordinating
   stops_again = record s { stops = next_stop s.stops; stage = StopAgain (stop.opening (next_stop s.stops)) }
-
-  -- it opens a cycle, with the work and the goal by what the last left live
-  abbrev pub opens : Coordinating
-  opens = record s { begun = next_cycle s.begun; stage = Open (open_.opening s.stops (next_cycle s.begun) (next_work s.layout s.gogc s.minheap s.live) (next_goal s.layout s.gogc s.minheap s.live)) }
 
   abbrev pub watches : Coordinating
   watches = at_stage s (Watch (watch.opening s.begun))
@@ -108,22 +104,31 @@ module _ (s : Coordinating) where
   abbrev pub counts : Coordinating
   counts = at_stage s (Count count.opening)
 
+module _ (l : Layout) (s : Coordinating) where
+  -- it opens a cycle, with the work and the goal by what the last left live
+  abbrev pub opens : Coordinating
+  opens = record s { begun = next_cycle s.begun; stage = Open (open_.opening s.stops (next_cycle s.begun) (next_work l s.gogc s.minheap s.live) (next_goal l s.gogc s.minheap s.live)) }
+
   -- the cycle is kept, by what was counted, and the trigger is that of the next
   abbrev pub tells : Counted → Coordinating
-  tells c = record s { live = c.live; cycles = kept_with_cycle s.cycles (cycle_of s.begun c.tally); stage = Tell (tell.opening (next_trigger s.layout s.gogc s.minheap c.live) s.begun s.stops s.is_last) }
+  tells c = record s { live = c.live; cycles = kept_with_cycle s.cycles (cycle_of s.begun c.tally); stage = Tell (tell.opening (next_trigger l s.gogc s.minheap c.live) s.begun s.stops s.is_last) }
 
-module _ (s : Coordinating) where
   -- a processor is found to be done, or not
   abbrev pub after_ack : (i found : ℕ) → Coordinating
-  after_ack i found = if found == GONE then (if nat_lt (i + 1) s.layout.procs then at_stage s (LoadAck (i + 1)) else stops_world (record s { is_last = true })) else at_stage s LoadWant
-
-  abbrev pub after_want : (found : ℕ) → Coordinating
-  after_want found = if found == 0 then at_stage s (LoadAck 0) else stops_world s
+  after_ack i found = if found == GONE then (if nat_lt (i + 1) l.procs then at_stage s (LoadAck (i + 1)) else stops_world (record s { is_last = true })) else at_stage s LoadWant
 
   -- after a step of a part, by what that gave
   abbrev pub after_stop : Option (Unit {0}) → Coordinating
   after_stop None = s
-  after_stop (Some u) = opens s
+  after_stop (Some u) = opens
+
+  abbrev pub after_count : Option Counted → Coordinating
+  after_count None = s
+  after_count (Some c) = tells c
+
+module _ (s : Coordinating) where
+  abbrev pub after_want : (found : ℕ) → Coordinating
+  after_want found = if found == 0 then at_stage s (LoadAck 0) else stops_world s
 
   abbrev pub after_open : Option (Unit {0}) → Coordinating
   after_open None = s
@@ -151,28 +156,24 @@ module _ (s : Coordinating) where
   after_sweep None = s
   after_sweep (Some u) = counts s
 
-  abbrev pub after_count : Option Counted → Coordinating
-  after_count None = s
-  after_count (Some c) = tells s c
-
   abbrev pub after_tell : Option (Unit {0}) → Coordinating
   after_tell None = s
   after_tell (Some u) = at_stage s (if s.is_last then Done else LoadAck 0)
 
-abbrev pub goes_at : Coordinating → CoordStage → ℕ → Coordinating
-goes_at s (LoadAck i) found = after_ack s i found
-goes_at s LoadWant found = after_want s found
-goes_at s (Stop st) found = after_stop (at_stage s (Stop (stop.goes s.layout st found))) (stop.given (stop.goes s.layout st found))
-goes_at s (Open o) found = after_open (at_stage s (Open (open_.goes o found))) (open_.given (open_.goes o found))
-goes_at s (Watch w) found = after_watch (at_stage s (Watch (watch.goes s.layout w found))) (watch.given (watch.goes s.layout w found))
-goes_at s (StopAgain st) found = after_stop_again (at_stage s (StopAgain (stop.goes s.layout st found))) (stop.given (stop.goes s.layout st found))
-goes_at s (Check w) found = after_check (at_stage s (Check (watch.goes s.layout w found))) (watch.given (watch.goes s.layout w found))
-goes_at s MarkOn found = watches s
-goes_at s (Close c) found = after_close (at_stage s (Close (close.goes c found))) (close.given (close.goes c found))
-goes_at s (Sweep w) found = after_sweep (at_stage s (Sweep (sweep.goes s.layout w found))) (sweep.given (sweep.goes s.layout w found))
-goes_at s (Count c) found = after_count (at_stage s (Count (count.goes c found))) (count.given (count.goes c found))
-goes_at s (Tell t) found = after_tell (at_stage s (Tell (tell.goes t found))) (tell.given (tell.goes t found))
-goes_at s Done found = s
+abbrev pub goes_at : Layout → Coordinating → CoordStage → ℕ → Coordinating
+goes_at l s (LoadAck i) found = after_ack l s i found
+goes_at l s LoadWant found = after_want s found
+goes_at l s (Stop st) found = after_stop l (at_stage s (Stop (stop.goes l st found))) (stop.given (stop.goes l st found))
+goes_at l s (Open o) found = after_open (at_stage s (Open (open_.goes o found))) (open_.given (open_.goes o found))
+goes_at l s (Watch w) found = after_watch (at_stage s (Watch (watch.goes l w found))) (watch.given (watch.goes l w found))
+goes_at l s (StopAgain st) found = after_stop_again (at_stage s (StopAgain (stop.goes l st found))) (stop.given (stop.goes l st found))
+goes_at l s (Check w) found = after_check (at_stage s (Check (watch.goes l w found))) (watch.given (watch.goes l w found))
+goes_at l s MarkOn found = watches s
+goes_at l s (Close c) found = after_close (at_stage s (Close (close.goes c found))) (close.given (close.goes c found))
+goes_at l s (Sweep w) found = after_sweep (at_stage s (Sweep (sweep.goes l w found))) (sweep.given (sweep.goes l w found))
+goes_at l s (Count c) found = after_count l (at_stage s (Count (count.goes c found))) (count.given (count.goes c found))
+goes_at l s (Tell t) found = after_tell (at_stage s (Tell (tell.goes t found))) (tell.given (tell.goes t found))
+goes_at l s Done found = s
 
 -- it waits until each processor is done, or a cycle is asked for
 abbrev pub is_idle : CoordStage → Bool
@@ -234,23 +235,17 @@ abbrev pub given_at : CoordStage → Option (Unit {0})
 given_at Done = Some tt
 given_at _ = None
 
-abbrev pub asks : Coordinating → Ask
-asks s = asks_at s s.stage
+abbrev pub asks : Layout → Coordinating → Ask
+asks l s = asks_at l s s.stage
 
 abbrev pub counted : Coordinating → Coordinating
 counted s = record s { marks = phase_marks_after s.marks s.stage }
 
-abbrev pub goes : Coordinating → ℕ → Coordinating
-goes s found = goes_at (counted s) s.stage found
+abbrev pub goes : Layout → Coordinating → ℕ → Coordinating
+goes l s found = goes_at l (counted s) s.stage found
 
 abbrev pub given : Coordinating → Option (Unit {0})
 given s = given_at s.stage
-
-abbrev pub gives : Coordinating → ℕ → Option (Unit {0})
-gives s found = given (goes s found)
-
-abbrev pub listing : Listing Coordinating (Unit {0})
-listing = record { layout = λ s. s.layout; busy = λ s. is_busy s.stage; asks = asks; goes = goes; gives = gives }
 
 -- the sweep of a span that it runs, if it runs one
 abbrev pub sweep_at : CoordStage → Option Sweeping

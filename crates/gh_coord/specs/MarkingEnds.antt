@@ -6,8 +6,10 @@ use Rattle.gh_base.specs.declared.pack.BufferWord.{BufferWord}
 use Rattle.gh_base.specs.declared.pack.Phase.TheVariants as phase
 use Rattle.gh_base.specs.Cells.{buffers_of}
 use Rattle.gh_base.specs.Packing.{buffer_of, phase_word}
+use Rattle.gh_base.specs.Machines.{steps_of}
 use Rattle.gh_base.specs.Routines.{told}
-use Rattle.gh_coord.specs.Listing.{asks, Coordinating, listing, opening}
+use Rattle.gh_coord.specs.Listing.{asks, Coordinating, opening}
+use Rattle.gh_coord.specs.Sound.{listing}
 use Rattle.gh_coord.specs.Vocabulary.{Ask, GONE, Layout, Load, Store}
 
 -- the step writes no word but the bank of credit
@@ -23,14 +25,14 @@ HasNothingLeft b = (b.holder ≢ 0) ⊎ (b.count ≡ 0)
 module _ (l : Layout) (seat gogc minheap room : ℕ) (found : ℕ → ℕ) where
   -- after n steps
   abbrev pub state : ℕ → Coordinating
-  state n = told listing (opening l seat gogc minheap room) found n
+  state n = told (steps_of l (listing l)) (opening l seat gogc minheap room) found n
 
   -- from the one step on, and before the other, it has loaded this word, and what it found is so
   pub record Finds (first last : ℕ) (at : Cell) (IsSo : ℕ → Type 0) : Type 0 where
     pub by : ℕ
     pub is_behind : first ≤ by
     pub is_before : by < last
-    pub loads : asks (state by) ≡ Load at
+    pub loads : asks l (state by) ≡ Load at
     pub is_so : IsSo (found by)
 
   pub record NothingIsLeft (n : ℕ) : Type 0 where
@@ -38,15 +40,15 @@ module _ (l : Layout) (seat gogc minheap room : ℕ) (found : ℕ → ℕ) where
     pub stop : ℕ
     pub stopped : ℕ
     pub is_before : stop < n
-    pub stops : asks (state stop) ≡ Store Phase (phase_word (record { stops = (state n).stops; phase = phase.Stop }))
+    pub stops : asks l (state stop) ≡ Store Phase (phase_word (record { stops = (state n).stops; phase = phase.Stop }))
     pub acknowledged : (i : ℕ) → i < l.procs + l.workers → Finds stop stopped (Ack i) (λ v. (v ≡ (state n).stops) ⊎ (v ≡ GONE))
     -- behind that the cursor is past the globals, each stack is scanned in this cycle or has ended, and no buffer has anything left
     pub globals : Finds stopped n Gcur (λ v. l.globals ≤ v)
     pub stacks : (g : ℕ) → g < l.goroutines → Finds stopped n (Scanned g) (λ v. (state n).begun ≤ v)
     pub buffers : (i : ℕ) → i < buffers_of l → Finds stopped n (Buffer i) (λ v. HasNothingLeft (buffer_of v))
-    pub leaves : (m : ℕ) → stop < m → m < n → LeavesMarks (asks (state m))
+    pub leaves : (m : ℕ) → stop < m → m < n → LeavesMarks (asks l (state m))
 
 -- the step that ends marking stores the next sweep generation
 abbrev pub EndsWithNothingLeft : Type 0
 EndsWithNothingLeft = (l : Layout) (seat gogc minheap room : ℕ) (found : ℕ → ℕ) (n generation : ℕ) →
-    asks (state l seat gogc minheap room found n) ≡ Store Gen generation → NothingIsLeft l seat gogc minheap room found n
+    asks l (state l seat gogc minheap room found n) ≡ Store Gen generation → NothingIsLeft l seat gogc minheap room found n

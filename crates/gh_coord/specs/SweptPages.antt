@@ -1,8 +1,10 @@
 -- Where the coordinator tells that a cycle is swept, it has found of each page that nothing is left to sweep there: said by the words, whatever it is told.
 use Rattle.std.specs.Prelude.{◌≡◌, ◌≢◌, ℕ, ◌+◌, ◌<◌, ◌≤◌, ◌⊎◌, Option, Some}
 use Rattle.gh_base.specs.declared.cell.Cell.TheVariants.{Gen, Page, Swept}
+use Rattle.gh_base.specs.Machines.{steps_of}
 use Rattle.gh_base.specs.Routines.{told}
-use Rattle.gh_coord.specs.Listing.{asks, Coordinating, listing, opening, sweep_in}
+use Rattle.gh_coord.specs.Listing.{asks, Coordinating, opening, sweep_in}
+use Rattle.gh_coord.specs.Sound.{listing}
 use Rattle.gh_coord.specs.Vocabulary.{Ask, Head, Layout, Load, Lost, page_of, PageWord, Store, SweepEnd}
 use Rattle.gh_sweep.specs.declared.sweep.SweepEnd.TheVariants as sweep_end
 use Rattle.gh_sweep.specs.declared.sweep.SweptSpan.{SweptSpan}
@@ -28,15 +30,15 @@ pub record EndsSweep (running : Option Sweeping) (found page : ℕ) (end : Sweep
 module _ (l : Layout) (seat gogc minheap room : ℕ) (found : ℕ → ℕ) where
   -- after n steps
   abbrev pub state : ℕ → Coordinating
-  state n = told listing (opening l seat gogc minheap room) found n
+  state n = told (steps_of l (listing l)) (opening l seat gogc minheap room) found n
 
   -- with this step it has found that no unswept span begins at the page: by the word, or since another has begun to sweep it
   abbrev pub FindsBegun : (generation page by : ℕ) → Type 0
-  FindsBegun generation page by = FindsNoSpanBelow 2 generation (asks (state by)) (found by) page ⊎ EndsSweep (sweep_in (state by)) (found by) page Lost
+  FindsBegun generation page by = FindsNoSpanBelow 2 generation (asks l (state by)) (found by) page ⊎ EndsSweep (sweep_in (state by)) (found by) page Lost
 
   -- with this step it has found that somebody sweeps no span there
   abbrev pub FindsDone : (generation page by : ℕ) → Type 0
-  FindsDone generation page by = FindsNoSpanBelow 1 generation (asks (state by)) (found by) page
+  FindsDone generation page by = FindsNoSpanBelow 1 generation (asks l (state by)) (found by) page
 
   -- with this step it has swept the span there itself
   abbrev pub HasSwept : (page by : ℕ) → Type 0
@@ -49,8 +51,8 @@ module _ (l : Layout) (seat gogc minheap room : ℕ) (found : ℕ → ℕ) where
     pub is_behind : first ≤ by
     pub is_before : by < n
     pub is_so : HasSwept page by ⊎ (FindsBegun generation page first × FindsDone generation page by)
-    pub since : (m : ℕ) → first ≤ m → m < n → (other : ℕ) → asks (state m) ≢ Store Gen other
+    pub since : (m : ℕ) → first ≤ m → m < n → (other : ℕ) → asks l (state m) ≢ Store Gen other
 
 abbrev pub TellsOnceAllAreSwept : Type 0
 TellsOnceAllAreSwept = (l : Layout) (seat gogc minheap room : ℕ) (found : ℕ → ℕ) (n cycle page : ℕ) →
-    asks (state l seat gogc minheap room found n) ≡ Store Swept cycle → page < l.pages → HasPassed l seat gogc minheap room found n (state l seat gogc minheap room found n).generation page
+    asks l (state l seat gogc minheap room found n) ≡ Store Swept cycle → page < l.pages → HasPassed l seat gogc minheap room found n (state l seat gogc minheap room found n).generation page

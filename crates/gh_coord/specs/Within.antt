@@ -14,14 +14,14 @@ StandsAt l (Sweep s) = IsAtPage l s.stage
 StandsAt l stage = SoundStage l stage
 
 -- what it knows of its own numbers, in a heap with processors and pages
-pub record StandsWithin (s : Coordinating) : Type 0 where
-  pub procs : 0 < s.layout.procs
-  pub pages : 0 < s.layout.pages
+pub record StandsWithin (l : Layout) (s : Coordinating) : Type 0 where
+  pub procs : 0 < l.procs
+  pub pages : 0 < l.pages
   pub stops : s.stops < 2 ^ 62
   pub generation : s.generation < 2 ^ 34
-  pub stage : StandsAt s.layout s.stage
+  pub stage : StandsAt l s.stage
 
 pub record TheCoordinatorStaysWithin : Type 0 where
-  pub at_first : (l : Layout) (seat gogc minheap room : ℕ) → 0 < l.procs → 0 < l.pages → StandsWithin (opening l seat gogc minheap room)
-  pub stays : (s : Coordinating) (found : ℕ) → StandsWithin s → StandsWithin (goes s found)
-  pub within : (s : Coordinating) → StandsWithin s → InRange s.layout (cell_of (asks s))
+  pub at_first : (l : Layout) (seat gogc minheap room : ℕ) → 0 < l.procs → 0 < l.pages → StandsWithin l (opening l seat gogc minheap room)
+  pub stays : (l : Layout) (s : Coordinating) (found : ℕ) → StandsWithin l s → StandsWithin l (goes l s found)
+  pub within : (l : Layout) (s : Coordinating) → StandsWithin l s → InRange l (cell_of (asks l s))

@@ -1,25 +1,28 @@
 //! The coordinator's machine.
 
-ghost use Rattle.std.specs.Prelude.{◌≡◌, ◌+◌, ◌<◌, ◌≤◌, ◌^◌, length, IfOk, Option, false, true};
+ghost use Rattle.std.specs.Prelude.{◌≡◌, ◌+◌, ◌<◌, ◌≤◌, ◌^◌, length, IfOk, IfSome, IsTrue, Option, false, true};
 ghost use Rattle.gh_base.specs.declared.pack.Phase.{Phase};
+ghost use Rattle.gh_base.specs.Cells.{InRange};
 ghost use Rattle.gh_base.specs.Packing.{phase_word};
 ghost use Rattle.gh_pacer.specs.declared.pacing.TheConstants.{MOST_GOGC};
 ghost use Rattle.gh_coord.specs.declared.count.Counted.{Counted};
 ghost use Rattle.gh_coord.specs.declared.watch.Watched.{Watched};
-ghost use Rattle.gh_coord.specs.Listing.{after_ack, after_check, after_close, after_count, after_open, after_stop, after_stop_again, after_sweep, after_tell, after_want, after_watch, counted, cycle_of, given, gives, goes, goes_at, is_busy, is_done_at, is_ending, is_idle, lapsed_at, next_stop, opening, stores_phase, stops_world, told_at, watches};
+ghost use Rattle.gh_coord.specs.Listing.{after_ack, after_check, after_close, after_count, after_open, after_stop, after_stop_again, after_sweep, after_tell, after_want, after_watch, asks, counted, cycle_of, given, goes, goes_at, is_done_at, is_ending, is_idle, lapsed_at, next_stop, opening, stores_phase, stops_world, told_at, watches};
 ghost use Rattle.gh_coord.specs.Keeping.{last_kept};
 ghost use Rattle.gh_coord.specs.Pacing.{first_trigger};
+ghost use Rattle.gh_coord.specs.Sound.{SoundCoordinating, SoundStage};
 
 use crate::close::Close;
 use crate::count::{Count, Counted};
 use crate::cycles::{Cycle, Cycles};
+use crate::laws::the_parts_are_routines;
 use crate::open::Open;
 use crate::pacing::{first_trigger, next_goal, next_trigger, next_work};
 use crate::stop::Stop;
 use crate::sweep_all::SweepAll;
 use crate::tell::Tell;
 use crate::watch::{Watch, Watched};
-use gh_base::{Ask, Cell, GONE, Layout, Machine, Phase, PhaseWord, Req, Routine, TallyWord};
+use gh_base::{Ask, Cell, GONE, Layout, Phase, PhaseWord, Req, Routine, TallyWord};
 use std::alloc::{AllocError, Global};
 use std::marker::Model;
 
@@ -67,10 +70,11 @@ pub enum CoordStage {
 /// sweep generation modulo 2^34, the credit that has lapsed modulo 2^64.
 #[derive(Drop)]
 pub struct Coord {
-    layout: Layout,
     seat: u32,
     gogc: u32,
     minheap: u32,
+    // The number of the first acknowledgement's word. It is kept, since every second step of an idle coordinator loads one.
+    first_ack: u32,
     stops: u64,
     begun: u64,
     generation: u64,
@@ -80,8 +84,6 @@ pub struct Coord {
     is_last: bool,
     marks: u64,
     cycles: Cycles,
-    // The number of the first acknowledgement's word. It is kept, since every second step of an idle coordinator loads one.
-    first_ack: u32,
     // The acknowledgement that it loads next, if it does. Then `stage` is `LoadWant`, so that an idle step writes this alone and no
     // stage, which has room for the largest.
     looks: Option<u32>,
@@ -89,16 +91,17 @@ pub struct Coord {
 }
 
 impl Model for Coord {
-    ghost use Rattle.std.specs.Prelude.{◌≡◌};
-    ghost use Rattle.gh_base.specs.Cells.{ack_row};
+    ghost use Rattle.std.specs.Prelude.{◌≤◌};
+    ghost use Rattle.gh_pacer.specs.declared.pacing.TheConstants.{MOST_GOGC};
+    ghost use Rattle.gh_coord.specs.Handshake.{FitsNumbers};
     ghost use Rattle.gh_coord.specs.Listing.{Coordinating};
-    ghost use Rattle.gh_coord.specs.Sound.{SoundCoordinating, LooksSo, stage_kept};
+    ghost use Rattle.gh_coord.specs.Sound.{LooksSo, stage_kept};
 
     ghost Value = { Coordinating };
 
-    ghost view = { λ c. record { layout = c.layout; seat = c.seat; gogc = c.gogc; minheap = c.minheap; stops = c.stops; begun = c.begun; generation = c.generation; live = c.live; lapsed = c.lapsed; is_last = c.is_last; marks = c.marks; cycles = c.cycles; stage = stage_kept c.looks c.stage } };
+    ghost view = { λ c. record { seat = c.seat; gogc = c.gogc; minheap = c.minheap; first_ack = c.first_ack; stops = c.stops; begun = c.begun; generation = c.generation; live = c.live; lapsed = c.lapsed; is_last = c.is_last; marks = c.marks; cycles = c.cycles; stage = stage_kept c.looks c.stage } };
 
-    ghost invariant = { λ c. SoundCoordinating (record { layout = c.layout; seat = c.seat; gogc = c.gogc; minheap = c.minheap; stops = c.stops; begun = c.begun; generation = c.generation; live = c.live; lapsed = c.lapsed; is_last = c.is_last; marks = c.marks; cycles = c.cycles; stage = stage_kept c.looks c.stage }) × (c.first_ack ≡ ack_row c.layout) × LooksSo c.looks c.stage };
+    ghost invariant = { λ c. (c.gogc ≤ MOST_GOGC) × FitsNumbers c.stops c.begun c.generation × LooksSo c.looks c.stage };
 }
 
 /// The cycle as it is kept.
@@ -126,14 +129,15 @@ impl Coord {
     ) -> Result<Coord, AllocError>
         requires seat { seat ≡ layout.now.procs + layout.now.workers }
         requires gogc { gogc ≤ MOST_GOGC }
-        ensures { IfOk result (λ c. c ≡ opening layout.now seat gogc minheap cycles) }
+        ensures opens { IfOk result (λ c. c ≡ opening layout.now seat gogc minheap cycles) }
+        ensures sound { IfOk result (λ c. SoundCoordinating layout.now c) }
     {
         let cycles = Cycles::new(alloc, cycles)?;
         Ok(Coord {
-            layout: *layout,
             seat,
             gogc,
             minheap,
+            first_ack: layout.word(Cell::Ack(0)),
             stops: 0,
             begun: 0,
             generation: 2,
@@ -142,17 +146,16 @@ impl Coord {
             is_last: false,
             marks: 0,
             cycles,
-            first_ack: layout.word(Cell::Ack(0)),
             looks: Some(0),
             stage: CoordStage::LoadWant,
         })
     }
 
     /// The word that the heap's trigger opens with, in bytes.
-    pub fn opening(&self) -> u64
-        ensures { result ≡ first_trigger self.now.layout.globals self.now.layout.goroutines self.now.gogc self.now.minheap }
+    pub fn opening(&self, layout: &Layout) -> u64
+        ensures { result ≡ first_trigger layout.now.globals layout.now.goroutines self.now.gogc self.now.minheap }
     {
-        first_trigger(&self.layout, self.gogc, self.minheap)
+        first_trigger(layout, self.gogc, self.minheap)
     }
 
     /// The last cycle is swept, and it has no further step.
@@ -238,15 +241,15 @@ impl Coord {
     }
 
     /// Goes on by the acknowledgement of this processor.
-    fn after_ack(&mut self, proc: u32, found: u64)
-        requires there { proc < self.old.layout.procs }
+    fn after_ack(&mut self, layout: &Layout, proc: u32, found: u64)
+        requires there { proc < layout.now.procs }
         requires stage { self.old.stage ≡ CoordStage.LoadAck proc }
-        ensures { self.new ≡ after_ack self.old proc found }
+        ensures { self.new ≡ after_ack layout.now self.old proc found }
     {
         // Who is not gone may still ask for a cycle, so the request is looked at.
         if found != GONE {
             self.looks = None;
-        } else if proc + 1 < self.layout.procs {
+        } else if proc + 1 < layout.procs {
             self.looks = Some(proc + 1);
         } else {
             // All are gone, and nobody asks any more: one cycle more frees what they have left.
@@ -269,25 +272,27 @@ impl Coord {
 
     /// Takes a step of the idle coordinator, which stores no phase word, and is not its last.
     #[inline(always)]
-    pub fn idle(&mut self, found: u64)
-        requires { is_idle self.old.stage ≡ true }
-        ensures goes { self.new ≡ goes self.old found }
-        ensures goes_on { gives self.old found ≡ Option.None }
+    pub fn idle(&mut self, layout: &Layout, found: u64)
+        requires sound { SoundCoordinating layout.now self.old }
+        requires idle { is_idle self.old.stage ≡ true }
+        ensures goes { self.new ≡ goes layout.now self.old found }
+        ensures goes_on { given self.new ≡ Option.None }
+        ensures sound { SoundCoordinating layout.now self.new }
     {
         match self.looks {
-            Some(proc) => self.after_ack(proc, found),
+            Some(proc) => self.after_ack(layout, proc, found),
             None => self.after_want(found),
         }
     }
 
     /// Goes on after a step of the stop: the cycle is opened where the world is stopped.
-    fn after_stop(&mut self, out: Option<()>)
-        ensures { self.new ≡ after_stop self.old out }
+    fn after_stop(&mut self, layout: &Layout, out: Option<()>)
+        ensures { self.new ≡ after_stop layout.now self.old out }
     {
         if out.is_some() {
             self.begun = self.begun.wrapping_add(1);
-            let work = next_work(&self.layout, self.gogc, self.minheap, self.live);
-            let goal = next_goal(&self.layout, self.gogc, self.minheap, self.live);
+            let work = next_work(layout, self.gogc, self.minheap, self.live);
+            let goal = next_goal(layout, self.gogc, self.minheap, self.live);
             let open = Open::new(self.stops, self.begun, work, goal);
             self.looks = None;
             self.stage = CoordStage::Open(open);
@@ -325,6 +330,42 @@ impl Coord {
                 self.looks = None;
                 self.stage = CoordStage::StopAgain(Stop::new(self.stops));
             }
+        }
+    }
+
+    /// The cell that its next step loads, where it looks whether marking is over, while the world runs.
+    #[inline(always)]
+    pub fn looks(&self, layout: &Layout) -> Option<Cell>
+        ensures asks { IfSome result (λ c. asks layout.now self.now ≡ Ask.Load c) }
+        ensures busy { IfSome result (λ c. given self.now ≡ Option.None) }
+        ensures within { SoundCoordinating layout.now self.now → IfSome result (λ c. InRange layout.now c) }
+    {
+        match &self.stage {
+            CoordStage::Watch(watch) => watch.looks(layout),
+            _ => None,
+        }
+    }
+
+    /// Goes on with that look, where the word is as wanted and another stands behind it, or begins it anew, where the word is not,
+    /// and answers whether it did. While marking is on almost each of its steps is such, and changes a number or two; where it did
+    /// not, nothing has changed, and [`take`](Routine::take) makes the step.
+    #[inline(always)]
+    pub fn goes_on(&mut self, layout: &Layout, found: u64) -> bool
+        requires sound { SoundCoordinating layout.now self.old }
+        ensures goes { IsTrue result → self.new ≡ goes layout.now self.old found }
+        ensures busy { IsTrue result → given self.new ≡ Option.None }
+        ensures sound { SoundCoordinating layout.now self.new }
+        ensures stays { result ≡ false → self.new ≡ self.old }
+    {
+        match &mut self.stage {
+            CoordStage::Watch(watch) => {
+                if watch.refuses(layout, found) {
+                    *watch = Watch::new(self.begun);
+                    return true;
+                }
+                watch.goes_on(layout, found)
+            }
+            _ => false,
         }
     }
 
@@ -381,13 +422,13 @@ impl Coord {
     }
 
     /// Goes on after a step of the reading of the counts: the cycle is kept, and what it left live paces the next.
-    fn after_count(&mut self, out: Option<Counted>)
-        ensures { self.new ≡ after_count self.old out }
+    fn after_count(&mut self, layout: &Layout, out: Option<Counted>)
+        ensures { self.new ≡ after_count layout.now self.old out }
     {
         if let Some(counted) = out {
             self.live = counted.live;
             self.cycles.keep(cycle_of(self.begun, counted.tally));
-            let trigger = next_trigger(&self.layout, self.gogc, self.minheap, self.live);
+            let trigger = next_trigger(layout, self.gogc, self.minheap, self.live);
             let tell = Tell::new(trigger, self.begun, self.stops, self.is_last);
             self.looks = None;
             self.stage = CoordStage::Tell(tell);
@@ -447,31 +488,31 @@ impl Coord {
     }
 
     /// Goes on after a step at work, up to the end of marking.
-    fn go_on_marking(&mut self, found: u64)
+    fn go_on_marking(&mut self, layout: &Layout, found: u64)
         requires working { is_idle self.old.stage ≡ false }
         requires marking { is_ending self.old.stage ≡ false }
-        requires busy { is_busy self.old.stage ≡ true }
-        ensures { self.new ≡ goes_at self.old self.old.stage found }
+        requires sound { SoundStage layout.now self.old.stage }
+        ensures { self.new ≡ goes_at layout.now self.old self.old.stage found }
     {
         match &mut self.stage {
             CoordStage::Stop(stop) => {
-                let out = stop.take(&self.layout, found);
-                self.after_stop(out);
+                let out = stop.take(layout, found);
+                self.after_stop(layout, out);
             }
             CoordStage::Open(open) => {
-                let out = open.take(&self.layout, found);
+                let out = open.take(layout, found);
                 self.after_open(out);
             }
             CoordStage::Watch(watch) => {
-                let out = watch.take(&self.layout, found);
+                let out = watch.take(layout, found);
                 self.after_watch(out);
             }
             CoordStage::StopAgain(stop) => {
-                let out = stop.take(&self.layout, found);
+                let out = stop.take(layout, found);
                 self.after_stop_again(out);
             }
             CoordStage::Check(watch) => {
-                let out = watch.take(&self.layout, found);
+                let out = watch.take(layout, found);
                 self.after_check(out);
             }
             CoordStage::MarkOn => self.watch(),
@@ -480,26 +521,26 @@ impl Coord {
     }
 
     /// Goes on after a step from the end of marking on.
-    fn go_on_ending(&mut self, found: u64)
+    fn go_on_ending(&mut self, layout: &Layout, found: u64)
         requires ending { is_ending self.old.stage ≡ true }
-        requires busy { is_busy self.old.stage ≡ true }
-        ensures { self.new ≡ goes_at self.old self.old.stage found }
+        requires sound { SoundStage layout.now self.old.stage }
+        ensures { self.new ≡ goes_at layout.now self.old self.old.stage found }
     {
         match &mut self.stage {
             CoordStage::Close(close) => {
-                let out = close.take(&self.layout, found);
+                let out = close.take(layout, found);
                 self.after_close(out);
             }
             CoordStage::Sweep(sweep) => {
-                let out = sweep.take(&self.layout, found);
+                let out = sweep.take(layout, found);
                 self.after_sweep(out);
             }
             CoordStage::Count(count) => {
-                let out = count.take(&self.layout, found);
-                self.after_count(out);
+                let out = count.take(layout, found);
+                self.after_count(layout, out);
             }
             CoordStage::Tell(tell) => {
-                let out = tell.take(&self.layout, found);
+                let out = tell.take(layout, found);
                 self.after_tell(out);
             }
             _ => {}
@@ -528,59 +569,47 @@ impl Coord {
     }
 }
 
-impl Machine for Coord {
-    ghost use Rattle.gh_coord.specs.Listing.{listing};
-    ghost use Rattle.gh_coord.specs.Stays as proved;
+impl Routine for Coord {
+    ghost use Rattle.gh_coord.specs.Sound.{listing};
 
     type Out = ();
 
-    ghost layout = { listing.layout };
-
-    ghost busy = { listing.busy };
-
-    ghost asks = { listing.asks };
-
-    ghost goes = { listing.goes };
-
-    ghost gives = { listing.gives };
+    ghost listing = { listing };
 
     // An idle step has an arm of its own, so that whoever makes it knows it to be a load.
     #[inline(always)]
-    fn next(&self) -> Req {
+    fn next(&self, layout: &Layout) -> Req {
         if let Some(proc) = self.looks {
             return Req::Load(self.first_ack + proc);
         }
         let ask = match &self.stage {
-            CoordStage::LoadAck(proc) => return self.layout.request(Ask::Load(Cell::Ack(*proc))),
-            CoordStage::LoadWant => return self.layout.request(Ask::Load(Cell::Want)),
-            CoordStage::Stop(stop) | CoordStage::StopAgain(stop) => return stop.next(&self.layout),
-            CoordStage::Open(open) => return open.next(&self.layout),
-            CoordStage::Watch(watch) | CoordStage::Check(watch) => return watch.next(&self.layout),
+            CoordStage::LoadAck(proc) => return layout.request(Ask::Load(Cell::Ack(*proc))),
+            CoordStage::LoadWant => return layout.request(Ask::Load(Cell::Want)),
+            CoordStage::Stop(stop) | CoordStage::StopAgain(stop) => return stop.next(layout),
+            CoordStage::Open(open) => return open.next(layout),
+            CoordStage::Watch(watch) | CoordStage::Check(watch) => return watch.next(layout),
             CoordStage::MarkOn => Ask::Store(Cell::Phase, self.mark_word()),
-            CoordStage::Close(close) => return close.next(&self.layout),
-            CoordStage::Sweep(sweep) => return sweep.next(&self.layout),
-            CoordStage::Count(count) => return count.next(&self.layout),
-            CoordStage::Tell(tell) => return tell.next(&self.layout),
+            CoordStage::Close(close) => return close.next(layout),
+            CoordStage::Sweep(sweep) => return sweep.next(layout),
+            CoordStage::Count(count) => return count.next(layout),
+            CoordStage::Tell(tell) => return tell.next(layout),
             CoordStage::Done => Ask::Load(Cell::Touch),
         };
-        self.layout.request(ask)
+        layout.request(ask)
     }
 
-    fn take(&mut self, found: u64) -> Option<()> {
+    fn take(&mut self, layout: &Layout, found: u64) -> Option<()> {
         if self.is_idle() {
-            self.idle(found);
+            self.idle(layout, found);
             return None;
         }
+        the_parts_are_routines();
         self.count_mark();
         if self.is_ending() {
-            self.go_on_ending(found);
+            self.go_on_ending(layout, found);
         } else {
-            self.go_on_marking(found);
+            self.go_on_marking(layout, found);
         }
         self.given()
     }
-
-    ghost ends = { proved.ends };
-
-    ghost stays = { proved.stays };
 }

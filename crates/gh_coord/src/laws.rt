@@ -5,7 +5,7 @@ ghost use Rattle.gh_coord.specs.GoingOn.{GoesOnUntilDone};
 ghost use Rattle.gh_coord.specs.Handshake.{LeadsHandshake};
 ghost use Rattle.gh_coord.specs.Lapsing.{TheBankLapses};
 ghost use Rattle.gh_coord.specs.MarkingEnds.{EndsWithNothingLeft};
-ghost use Rattle.gh_coord.specs.PartsRoutines.{PartsAreRoutines};
+ghost use Rattle.gh_coord.specs.PartsRoutines.{PartsAreRoutines, TheCoordinatorIsARoutine};
 ghost use Rattle.gh_coord.specs.Sweeping.{TheCoordinatorRunsSweeps};
 ghost use Rattle.gh_coord.specs.Triggering.{TheTriggerIsByWhatIsLive};
 ghost use Rattle.gh_coord.specs.Within.{TheCoordinatorStaysWithin};
@@ -20,6 +20,13 @@ pub fn the_parts_are_routines()
 {
     packed_words_are_read_back();
     the_sweep_is_a_routine();
+}
+
+/// So is the coordinator, in a heap with processors and pages.
+pub fn the_coordinator_is_a_routine()
+    ensures { TheCoordinatorIsARoutine }
+{
+    the_parts_are_routines();
 }
 
 /// Each step of the coordinator is on a word that there is, whatever it is told, in a heap with processors and pages.

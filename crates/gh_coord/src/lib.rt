@@ -2,8 +2,8 @@
 //! that they are.
 //!
 //! One actor runs all of a cycle, and all others follow the phase word that it stores. So what is to happen
-//! in order happens in the order of its steps. [`Coord`] is that actor, put together from parts, each a
-//! routine of its own: [`Stop`], [`Open`], [`Watch`], [`Close`], [`SweepAll`], [`Count`] and [`Tell`].
+//! in order happens in the order of its steps. [`Coord`] is that actor, a routine put together from parts, each a
+//! routine too: [`Stop`], [`Open`], [`Watch`], [`Close`], [`SweepAll`], [`Count`] and [`Tell`].
 //!
 //! It stops the world twice in a cycle. A stop is over once each processor and each worker has acknowledged
 //! it, and who acknowledges has nothing begun, holds no work buffer and caches no span.

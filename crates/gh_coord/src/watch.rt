@@ -1,7 +1,8 @@
 //! The routine that looks whether marking is over.
 
-ghost use Rattle.std.specs.Prelude.{◌≡◌, ◌<◌};
-ghost use Rattle.gh_coord.specs.Watching.{asks, behind, cell_at, given, goes_at, is_wanted, opening, words_of};
+ghost use Rattle.std.specs.Prelude.{◌≡◌, ◌<◌, IfSome, IsTrue, Option, false};
+ghost use Rattle.gh_base.specs.Cells.{InRange};
+ghost use Rattle.gh_coord.specs.Watching.{Sound, asks, behind, cell_at, given, goes, goes_at, is_wanted, opening, words_of};
 ghost use Rattle.gh_coord.specs.declared.watch.WatchStage.TheVariants.{Look};
 
 use gh_base::{Ask, BufferWord, Cell, Layout, Req, Routine};
@@ -111,6 +112,52 @@ impl Watch {
         } else {
             WatchStage::Ended(Watched::NotYet)
         };
+    }
+
+    /// The cell that its next step loads, where there is one.
+    #[inline(always)]
+    pub fn looks(&self, layout: &Layout) -> Option<Cell>
+        ensures asks { IfSome result (λ c. asks layout.now self.now ≡ Ask.Load c) }
+        ensures busy { IfSome result (λ c. given self.now ≡ Option.None) }
+        ensures within { Sound layout.now self.now → IfSome result (λ c. InRange layout.now c) }
+    {
+        match self.stage {
+            WatchStage::Look(i) => Some(Watch::cell(layout, i)),
+            WatchStage::Ended(_) => None,
+        }
+    }
+
+    /// Goes on to the next word, where this one is as wanted and another stands behind it, and answers whether it did. Such a
+    /// step changes one number; where it did not, nothing has changed, and [`take`](Routine::take) makes the step.
+    #[inline(always)]
+    pub fn goes_on(&mut self, layout: &Layout, found: u64) -> bool
+        requires sound { Sound layout.now self.old }
+        ensures goes { IsTrue result → self.new ≡ goes layout.now self.old found }
+        ensures busy { IsTrue result → given self.new ≡ Option.None }
+        ensures sound { Sound layout.now self.new }
+        ensures stays { result ≡ false → self.new ≡ self.old }
+    {
+        let WatchStage::Look(i) = self.stage else {
+            return false;
+        };
+        if i + 1 >= 1 + layout.goroutines + layout.buffers()
+            || !self.is_wanted(layout, Watch::cell(layout, i), found)
+        {
+            return false;
+        }
+        self.stage = WatchStage::Look(i + 1);
+        true
+    }
+
+    /// What its step found is not as wanted: it ends with that.
+    #[inline(always)]
+    pub fn refuses(&self, layout: &Layout, found: u64) -> bool
+        ensures { IsTrue result → given (goes layout.now self.now found) ≡ Option.Some Watched.NotYet }
+    {
+        match self.stage {
+            WatchStage::Look(i) => !self.is_wanted(layout, Watch::cell(layout, i), found),
+            WatchStage::Ended(_) => false,
+        }
     }
 
     /// What it has given.

@@ -102,7 +102,7 @@ module _ (p : Program) (l : Layout) (each : EachOperationActsOnce) where
     go true rest = one e.begun refl rest
     go false rest = rest
 
-  acts_in : (es : List (Entry Op)) (e : Entry Op) (legal : Legal (setting_of p l) (e ∷ es)) (x : Act) → acts (before_step p.shapes l es e) e.found ≡ Some x → IsIn x.op
+  acts_in : (es : List (Entry Op)) (e : Entry Op) (legal : Legal (setting_of p l) (e ∷ es)) (x : Act) → acts l (before_step p.shapes l es e) e.found ≡ Some x → IsIn x.op
   acts_in es e legal x is = elim (cases_lt e.actor l.procs) [
     | inl lt ↦ (subst AreIn (acts_last p l each e.actor lt es e legal (its_own p l es e legal e.actor lt refl) x is) (all_in e.actor (e ∷ es) legal)).0
     | inr le ↦ absurd (let no : None ≡ Some x = sym (no_processors p l es e legal le).acts_not ∙ is in cc)
@@ -113,8 +113,8 @@ module _ (p : Program) (l : Layout) (each : EachOperationActsOnce) where
 
   none_beyond : (es : List (Entry Op)) → Legal (setting_of p l) es → (g : ℕ) → l.goroutines ≤ g → (ever_of p.shapes l es).ended g ≡ false
   none_beyond [] legal g le = refl
-  none_beyond (e ∷ es) legal g le = go (acts (before_step p.shapes l es e) e.found) refl (none_beyond es legal.0 g le) where
-    go : (x : Option Act) → acts (before_step p.shapes l es e) e.found ≡ x → (ever_of p.shapes l es).ended g ≡ false → (acted p.shapes (ever_of p.shapes l es) x).ended g ≡ false
+  none_beyond (e ∷ es) legal g le = go (acts l (before_step p.shapes l es e) e.found) refl (none_beyond es legal.0 g le) where
+    go : (x : Option Act) → acts l (before_step p.shapes l es e) e.found ≡ x → (ever_of p.shapes l es).ended g ≡ false → (acted p.shapes (ever_of p.shapes l es) x).ended g ≡ false
     go None is ih = ih
     go (Some x) is ih = keeps_ended (ever_of p.shapes l es) x.op (answer_at p.shapes (ever_of p.shapes l es) x) g le (acts_in es e legal x is) ∙ ih
 

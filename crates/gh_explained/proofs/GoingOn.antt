@@ -58,13 +58,13 @@ module _ (p : Program) (l : Layout) where
     next_first : (a : ℕ) → HasNextAt (actor_after p l [] a)
     next_first a = grind arith
 
-    next_then : (o : Option Op) (x : Actor) (found : ℕ) → all.busy (started all o x) ≡ true → HasNextAt x → HasNextAt (actor_takes p.shapes (started all o x) found)
+    next_then : (o : Option Op) (x : Actor) (found : ℕ) → all.busy (started all o x) ≡ true → HasNextAt x → HasNextAt (actor_takes p.shapes l (started all o x) found)
     next_then o x found busy h = grind arith
 
     next_at : (es : List (Entry Op)) → Lawful es → (a : ℕ) → HasNextAt (actor_after p l es a)
     next_at [] legal a = next_first a
     next_at (e ∷ es) legal a = go (eqb e.actor a) refl (next_at es legal.0 a) where
-      go : (b : Bool) → eqb e.actor a ≡ b → HasNextAt (actor_after p l es a) → HasNextAt (cond b (actor_takes p.shapes (started all e.begun (actor_after p l es a)) e.found) (actor_after p l es a))
+      go : (b : Bool) → eqb e.actor a ≡ b → HasNextAt (actor_after p l es a) → HasNextAt (cond b (actor_takes p.shapes l (started all e.begun (actor_after p l es a)) e.found) (actor_after p l es a))
       go false x h = h
       go true x h =
           let same : e.actor ≡ a = eqb-true e.actor a x in
@@ -75,8 +75,8 @@ polled_unless : (t : Next) (m : Processor) → is_run_due t ≡ false → Polled
 polled_unless t m e = grind arith
 
 -- before its first step a processor has made nothing
-made_none : (l : Layout) (a : ℕ) → MadeAtMost 0 (opening_processor l a)
-made_none l a g = let none : made_by (opening_processor l a) g ≡ 0 = read_replicate {A = ℕ} 32 g 0 in omega (arith, none)
+made_none : (a : ℕ) → MadeAtMost 0 (opening_processor a)
+made_none a g = let none : made_by (opening_processor a) g ≡ 0 = read_replicate {A = ℕ} 32 g 0 in omega (arith, none)
 
 module _ (p : Program) (l : Layout) (formed : WellFormed p) (lays : LaysOut p l) (laws : Laws p l) where
   -- ---- what a run has begun of a processor
@@ -116,11 +116,11 @@ module _ (p : Program) (l : Layout) (formed : WellFormed p) (lays : LaysOut p l)
         record {
           turn = c.turn;
           stated = 0;
-          made = made_none l a;
+          made = made_none a;
           stands = c.stands;
           all = omega (arith, say, few, same);
           leaves = sym c.going;
-          polled = polled_unless c.turn (opening_processor l a) c.no_run;
+          polled = polled_unless c.turn (opening_processor a) c.no_run;
           turns = turns;
           ended = λ g e. absurd cc;
           left = λ e. absurd cc;
@@ -181,7 +181,7 @@ module _ (p : Program) (l : Layout) (formed : WellFormed p) (lays : LaysOut p l)
     stepped es e own b =
         let k = b.keeps in
         let m = started (one p l) e.begun (after_list es) in
-        let s : StepFacts m m.task (takes p.shapes m e.found) (acts m e.found) (gives_at m m.task e.found) = step_facts p.shapes m m.task e.found b.busy in
+        let s : StepFacts m m.task (takes l p.shapes m e.found) (acts l m e.found) (gives_at l m m.task e.found) = step_facts l p.shapes m m.task e.found b.busy in
         rw own (record {
           turn = k.turn;
           stated = k.stated;
@@ -189,7 +189,7 @@ module _ (p : Program) (l : Layout) (formed : WellFormed p) (lays : LaysOut p l)
           stands = k.stands;
           all = k.all;
           leaves = s.leaves ∙ k.leaves;
-          polled = polled_stepped laws.polls p.shapes m k.turn e.found k.polled;
+          polled = polled_stepped laws.polls l p.shapes m k.turn e.found k.polled;
           turns = k.turns;
           ended = k.ended;
           left = k.left;
@@ -271,7 +271,7 @@ module _ (p : Program) (l : Layout) (formed : WellFormed p) (lays : LaysOut p l)
           of_other a (actor.Marks w) is high lt (not_false (worker.is_busy w.stage) (sym (ap has_ended is) ∙ going))
       go (actor.Leads c) is =
           let next : HasNext c = subst (HasNextAt p l laws.on) is (next_at p l laws.on es r.legal a) in
-          let high : acks_of l ≤ a = (subst (IsSeated l a) is (seated (setup_of p l) es a)).0 in
+          let high : acks_of l ≤ a = subst (IsSeated l a) is (seated (setup_of p l) es a) in
           of_other a (actor.Leads c) is (omega (arith, high)) lt (next ∙ ap not (sym (ap has_ended is) ∙ going))
 
     pub ends_whole : ((a : ℕ) → a < (setting_of p l).actors → has_ended_in p l es a) → IsRun p l es

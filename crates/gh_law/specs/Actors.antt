@@ -106,11 +106,11 @@ module _ (setup : Setup) where
   -- Where a `gc` acts with this entry it is answered `swept` with it, and has waited for a cycle; and so has a `new` that acts where it finds no room.
   pub record HasAwaited (e : Entry Op) (before : List (Entry Op)) (x : Act) : Type 0 where
     pub gc : (g : ℕ) → x.op ≡ op.Gc g → AwaitedCycle e.actor before x.op
-    pub answered : (g : ℕ) → x.op ≡ op.Gc g → gives (before_step setup.shapes setup.layout before e) e.found ≡ Some answer.Swept
+    pub answered : (g : ℕ) → x.op ≡ op.Gc g → gives setup.layout (before_step setup.shapes setup.layout before e) e.found ≡ Some answer.Swept
     pub full : x.full ≡ true → AwaitedCycle e.actor before x.op
 
   abbrev pub Awaits : List (Entry Op) → Type 0
-  Awaits es = (e : Entry Op) (before : List (Entry Op)) (x : Act) → IsStartOf (e ∷ before) es → done_at (processor_kind setup.shapes setup.layout) (deeds setup.shapes) before e ≡ Some x → HasAwaited e before x
+  Awaits es = (e : Entry Op) (before : List (Entry Op)) (x : Act) → IsStartOf (e ∷ before) es → done_at (processor_kind setup.shapes setup.layout) (deeds setup.layout setup.shapes) before e ≡ Some x → HasAwaited e before x
 
   -- each cycle that begins was opened, and no other since; so each was asked for, but the last
   abbrev pub AllWereOpened : List (Entry Op) → Type 0
@@ -130,7 +130,7 @@ module _ (setup : Setup) where
 
   -- each step that an actor may make is on a word that there is; so that condition is always met
   abbrev pub StepsWithin : List (Entry Op) → Type 0
-  StepsWithin es = (a : ℕ) (o : Option Op) → MayStep es a o → InRange setup.layout (cell_of (asks (next_of es a o)))
+  StepsWithin es = (a : ℕ) (o : Option Op) → MayStep es a o → InRange setup.layout (cell_of (asks setup.layout (next_of es a o)))
 
   pub record AllStands (es : List (Entry Op)) : Type 0 where
     pub stands : ListStands arena (opening_words setup.pacing.trigger) es

@@ -11,7 +11,7 @@ use Rattle.gh_coord.specs.Telling as tell
 use Rattle.gh_worker.specs.Listing as worker
 use Rattle.gh_lists.specs.Lists.{IsTelling}
 use Rattle.gh_coord.specs.Parts.{Counted, Opened}
-use Rattle.gh_lists.proofs.Vocabulary.{CoordStage, Entry, Kind, Legal, Op, OpenStage, Processor, processor_kind, started, Words, Ask, Check, Checked, Close, CloseStage, Count, Done, effect, IsFew, KeepsIt, LoadAck, LoadWant, MarkOn, Open, opened_in, Part, part_of, ProcessorWritesItsOwn, Stop, StopAgain, Sweep, Tell, TellStage, Watch, WorkersWriteTheirOwn}
+use Rattle.gh_lists.proofs.Vocabulary.{Ask, Check, Checked, Close, CloseStage, CoordStage, Count, Done, effect, Entry, IsFew, KeepsIt, Kind, Layout, Legal, LoadAck, LoadWant, MarkOn, Op, Open, opened_in, OpenStage, Part, part_of, Processor, processor_kind, ProcessorWritesItsOwn, started, Stop, StopAgain, Sweep, Tell, TellStage, Watch, Words, WorkersWriteTheirOwn}
 use Rattle.gh_lists.specs.Frames.{CycleWords, leaves, numbers_of}
 use Rattle.gh_lists.proofs.CycleNumbers.Leading.{Is, Reads}
 use Rattle.gh_lists.proofs.CycleNumbers.Lists.{holds}
@@ -32,7 +32,7 @@ pub data Does (c : coord.Coordinating) (p : CoordStage) (ask : Ask) : Type 0 whe
   ends_it : part_of p ≡ Checked → (x : close.Closing) → p ≡ Close x → x.stage ≡ close_stage.StoreGen → ask ≡ Store cell.Gen c.generation → Does c p ask
   tells_it : part_of p ≡ Counted → IsTelling p → ask ≡ Store cell.Swept c.begun → Does c p ask
 
-module _ (c : coord.Coordinating) where
+module _ (l : Layout) (c : coord.Coordinating) where
   opening : (o : opens_by.CycleOpening) (p : OpenStage) → o.cycle ≡ c.begun → Does c (Open (record o { stage = p })) (opens_by.asks_at o p)
   opening o p e = grind arith
 
@@ -46,18 +46,18 @@ module _ (c : coord.Coordinating) where
   telling : (t : tell.Telling) (p : TellStage) → t.cycle ≡ c.begun → Does c (Tell (record t { stage = p })) (tell.asks_at t p)
   telling t p e = grind arith
 
-  does : (p : CoordStage) → leading.SoundAt c p → Reads c p → Does c p (coord.asks_at c p)
+  does : (p : CoordStage) → leading.SoundAt c p → Reads c p → Does c p (coord.asks_at l c p)
   does (LoadAck i) s r = spares_them (record { gen = λ w. refl; begun = λ w. refl; swept = λ w. refl })
   does LoadWant s r = spares_them (record { gen = λ w. refl; begun = λ w. refl; swept = λ w. refl })
-  does (Stop st) s r = spares_them (spares (coord.asks_at c (Stop st)) (λ w. (stop_quiet w st st.stage).numbers))
+  does (Stop st) s r = spares_them (spares (coord.asks_at l c (Stop st)) (λ w. (stop_quiet w st st.stage).numbers))
   does (Open o) s r = opening o o.stage (ap (λ (x : opens_by.CycleOpening). x.cycle) s.0)
-  does (Watch v) s r = spares_them (spares (coord.asks_at c (Watch v)) (λ w. (watch_quiet w c.layout v.stage).numbers))
-  does (StopAgain st) s r = spares_them (spares (coord.asks_at c (StopAgain st)) (λ w. (stop_quiet w st st.stage).numbers))
-  does (Check v) s r = spares_them (spares (coord.asks_at c (Check v)) (λ w. (watch_quiet w c.layout v.stage).numbers))
+  does (Watch v) s r = spares_them (spares (coord.asks_at l c (Watch v)) (λ w. (watch_quiet w l v.stage).numbers))
+  does (StopAgain st) s r = spares_them (spares (coord.asks_at l c (StopAgain st)) (λ w. (stop_quiet w st st.stage).numbers))
+  does (Check v) s r = spares_them (spares (coord.asks_at l c (Check v)) (λ w. (watch_quiet w l v.stage).numbers))
   does MarkOn s r = spares_them (record { gen = λ w. refl; begun = λ w. refl; swept = λ w. refl })
   does (Close x) s r = closing x x.stage (ap (λ (y : close.Closing). y.generation) s)
-  does (Sweep v) s r = spares_them (spares (coord.asks_at c (Sweep v)) (λ w. (all_quiet w c.layout v.stage).numbers))
-  does (Count x) s r = spares_them (spares (coord.asks_at c (Count x)) (λ w. (count_quiet w x.stage).numbers))
+  does (Sweep v) s r = spares_them (spares (coord.asks_at l c (Sweep v)) (λ w. (all_quiet w l v.stage).numbers))
+  does (Count x) s r = spares_them (spares (coord.asks_at l c (Count x)) (λ w. (count_quiet w x.stage).numbers))
   does (Tell t) s r = telling t t.stage r
   does Done s r = spares_them (record { gen = λ w. refl; begun = λ w. refl; swept = λ w. refl })
 
@@ -72,7 +72,7 @@ module _ (setup : Setup)
 
   pub change : (e : Entry Op) (es : List (Entry Op)) → Legal (seats.it setup) (e ∷ es) → IsFew es → Change setup e es
   change e es legal few = by (seats.step setup e es writes legal (keeps es legal.0)) where
-    by_lead : (c : coord.Coordinating) (x : seats.LeadsIt setup e es c) → Is setup.pacing.room (opened_in es) (numbers_of (words es)) c c.stage → Does c c.stage (coord.asks c) → Change setup e es
+    by_lead : (c : coord.Coordinating) (x : seats.LeadsIt setup e es c) → Is setup.pacing.room (opened_in es) (numbers_of (words es)) c c.stage → Does c c.stage (coord.asks setup.layout c) → Change setup e es
     by_lead c x h (spares_them y) = same (subst Spares (sym x.asked) y)
     by_lead c x h (begins_it part ask) =
         let at = subst (λ (q : Part). At setup.pacing.room (opened_in es) (numbers_of (words es)) (own_counts c) q) part h.at in
@@ -98,11 +98,11 @@ module _ (setup : Setup)
         tells (record { lead = c; led = x.is; telling_it = at_it; actor_is = x.seat; ask_is = x.asked ∙ ask ∙ ap (Store cell.Swept) value; number = value })
 
     by : seats.Step setup e es → Change setup e es
-    by (seats.by_processor m x s) = same (subst Spares (sym x.asked) (spares (k.asks (started k e.begun m)) (λ w. (leaves w (k.asks (started k e.begun m)) (leaves_numbers writes (started k e.begun m) x.sound_then)).numbers)))
-    by (seats.by_worker v x s) = same (subst Spares (sym x.asked) (spares (worker.asks v) (λ w. (worker_quiet w works v x.sound_it x.busy).numbers)))
+    by (seats.by_processor m x s) = same (subst Spares (sym x.asked) (spares (k.asks (started k e.begun m)) (λ w. (leaves w (k.asks (started k e.begun m)) (leaves_numbers writes setup.layout (started k e.begun m) x.sound_then)).numbers)))
+    by (seats.by_worker v x s) = same (subst Spares (sym x.asked) (spares (worker.asks setup.layout v) (λ w. (worker_quiet w works setup.layout v x.sound_it x.busy).numbers)))
     by (seats.by_lead c x) =
         let h = holds setup writes works keeps es legal.0 few c x.is in
-        by_lead c x h (does c c.stage x.sound_it.1 h.reads)
+        by_lead c x h (does setup.layout c c.stage x.sound_it.1 h.reads)
 
   pub rise : (e : Entry Op) (es : List (Entry Op)) → Legal (seats.it setup) (e ∷ es) → IsFew es → Rises setup e es
   rise e es legal few = by (change e es legal few) where

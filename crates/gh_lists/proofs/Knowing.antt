@@ -41,7 +41,7 @@ module _ (setup : Setup) where
   leads_at (actor.Marks w) lead e = absurd cc
 
   sound_of : (m : Actor) (c : coord.Coordinating) → m ≡ actor.Leads c → Sound setup.layout m → leading.Sound c
-  sound_of m c e s = (subst (λ (y : Actor). Sound setup.layout y) e s).1
+  sound_of m c e s = subst (λ (y : Actor). Sound setup.layout y) e s
 
   worker_sound : (m : Actor) (w : worker.Working) → m ≡ actor.Marks w → Sound setup.layout m → working.Sound w
   worker_sound m w e s = subst (λ (y : Actor). Sound setup.layout y) e s

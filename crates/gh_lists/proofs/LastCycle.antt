@@ -11,9 +11,8 @@ use Rattle.gh_worker.specs.Listing as worker
 use Rattle.gh_worker.specs.Places.{IsAtWork, Polls, WorkersKeepPlaces}
 use Rattle.gh_lists.specs.declared.handshake.Actor.TheVariants as actor
 use Rattle.gh_lists.specs.Handshake.{Setup, Sound}
-use Rattle.gh_lists.proofs.Vocabulary.{cell_of, Ask, Entry, GONE, IsAwake, last_phase, Layout, LeadsHandshake, Legal, Load, Op, Party, phase_of, phase_word, PhaseWord, place_of, ProcessorWritesItsOwn, run_phase, RunPhase, View, WorkersKeepHandshake}
+use Rattle.gh_lists.proofs.Vocabulary.{cell_of, Ask, Entry, GONE, IsAwake, last_phase, LeadsHandshake, Legal, Load, Op, Party, phase_of, phase_word, PhaseWord, place_of, ProcessorWritesItsOwn, run_phase, RunPhase, View, WorkersKeepHandshake}
 use Rattle.gh_lists.specs.Phase.{is_last}
-use Rattle.gh_lists.specs.Seats.{IsSeated, seated}
 use Rattle.gh_lists.specs.Steps as seats
 use Rattle.gh_lists.specs.Steps.{at, it, words}
 
@@ -53,7 +52,7 @@ module _ (setup : Setup) where
     step = seats.step_by setup e es cited.writes more.legal more.shakes.all_sound
 
     -- a worker's load that finds the world running finds the last phase
-    finds_last : (v : worker.Working) (phase : RunPhase) → seats.WorksIt setup e es v → worker.asks v ≡ Load cell.Phase → run_phase (phase_of e.found).phase ≡ Some phase → last_phase es ≡ phase
+    finds_last : (v : worker.Working) (phase : RunPhase) → seats.WorksIt setup e es v → worker.asks setup.layout v ≡ Load cell.Phase → run_phase (phase_of e.found).phase ≡ Some phase → last_phase es ≡ phase
     finds_last v phase x asks finds =
         let led = more.shakes.led in
         is_last cited.back (is_stop more.shakes.lead.post) more.shakes.lead.stops (last_phase es) phase e.found (more.legal.1.found ∙ (ap (λ (q : Ask). words setup es (cell_of q)) (x.asked ∙ asks) ∙ led.phase_is)) finds
@@ -62,7 +61,7 @@ module _ (setup : Setup) where
     leaves_next a w is leaving = by (seats.worker_was setup e es step a w is) where
       by : seats.WorkerWas setup e es a w → last_phase (e ∷ es) ≡ run.Finished
       by (seats.worker_stayed was) = more.stays (more.was.leaves a w was leaving)
-      by (seats.worker_stepped v x then) = more.stays (elim (cited.works.leaves v e.found x.busy (subst (λ (y : worker.Working). IsLeaving y.stage) then leaving)) [
+      by (seats.worker_stepped v x then) = more.stays (elim (cited.works.leaves setup.layout v e.found x.busy (subst (λ (y : worker.Working). IsLeaving y.stage) then leaving)) [
         | inl y ↦ more.was.leaves e.actor v x.is y
         | inr y ↦ finds_last v run.Finished x y.0 y.1
       ])
@@ -78,23 +77,23 @@ module _ (setup : Setup) where
 
       of : (v : worker.Working) → seats.WorksIt setup e es v → IsMarking v.stage ⊎ (Polls v × (run_phase (phase_of e.found).phase ≡ Some run.Mark)) → v.view.phase ≡ run.Mark
       of v x (inl y) = more.was.marks e.actor v x.is y
-      of v x (inr y) = known v.view (current v x y.0.works) (finds_last v run.Mark x y.0.asks_it y.1)
+      of v x (inr y) = known v.view (current v x y.0.works) (finds_last v run.Mark x (y.0.asks_it setup.layout) y.1)
 
       by : seats.WorkerWas setup e es a w → w.view.phase ≡ run.Mark
       by (seats.worker_stayed was) = more.was.marks a w was marking
       by (seats.worker_stepped v x then) =
-          let found = cited.places.finds_on v e.found x.busy (subst (λ (y : worker.Working). IsMarking y.stage) then marking) in
+          let found = cited.places.finds_on setup.layout v e.found x.busy (subst (λ (y : worker.Working). IsMarking y.stage) then marking) in
           ap (λ (y : worker.Working). y.view.phase) then ∙ (ap (λ (y : View). y.phase) found.view_stays ∙ of v x found.finds)
 
     -- a processor that the coordinator finds gone is so
-    found_gone : (c : coord.Coordinating) → seats.LeadsIt setup e es c → (a : ℕ) → a < n → IsFoundGone e.found c c.stage a → words setup (e ∷ es) (cell.Ack a) ≡ GONE
+    found_gone : (c : coord.Coordinating) → seats.LeadsIt setup e es c → (a : ℕ) → a < n → IsFoundGone setup.layout e.found c c.stage a → words setup (e ∷ es) (cell.Ack a) ≡ GONE
     found_gone c x a m h = grind arith
 
     below_next : (c : coord.Coordinating) → at setup (e ∷ es) n ≡ actor.Leads c → (a : ℕ) → a < n → a < gone_to c.stage → words setup (e ∷ es) (cell.Ack a) ≡ GONE
     below_next c is a m to = by (seats.lead_was setup e es step c is) where
       by : seats.LeadWas setup e es c → words setup (e ∷ es) (cell.Ack a) ≡ GONE
       by (seats.lead_stayed was) = more.gone a m (more.was.below c was a m to)
-      by (seats.lead_stepped b x then) = found_gone b x a m ((cited.leads.finds_gone b e.found x.busy).below a (subst (λ (y : coord.Coordinating). a < gone_to y.stage) then to))
+      by (seats.lead_stepped b x then) = found_gone b x a m ((cited.leads.finds_gone setup.layout b e.found x.busy).below a (subst (λ (y : coord.Coordinating). a < gone_to y.stage) then to))
 
     last_next : (c : coord.Coordinating) → at setup (e ∷ es) n ≡ actor.Leads c → c.is_last ≡ true → (a : ℕ) → a < setup.layout.procs → words setup (e ∷ es) (cell.Ack a) ≡ GONE
     last_next c is last a m = by (seats.lead_was setup e es step c is) where
@@ -103,9 +102,9 @@ module _ (setup : Setup) where
 
       by : seats.LeadWas setup e es c → words setup (e ∷ es) (cell.Ack a) ≡ GONE
       by (seats.lead_stayed was) = more.gone a among (more.was.last c was last a m)
-      by (seats.lead_stepped b x then) = elim ((cited.leads.finds_gone b e.found x.busy).last (subst (λ (y : coord.Coordinating). y.is_last ≡ true) then last)) [
+      by (seats.lead_stepped b x then) = elim ((cited.leads.finds_gone setup.layout b e.found x.busy).last (subst (λ (y : coord.Coordinating). y.is_last ≡ true) then last)) [
         | inl y ↦ more.gone a among (more.was.last b x.is y a m)
-        | inr y ↦ found_gone b x a among (y a (subst (λ (l : Layout). a < l.procs) (sym (subst (IsSeated setup.layout n) x.is (seated setup es n)).1) m))
+        | inr y ↦ found_gone b x a among (y a m)
       ]
 
     pub follows : Ends (e ∷ es)

@@ -1,12 +1,8 @@
 -- Every legal list of processors, workers and a coordinator keeps the handshake.
-use Rattle.std.proofs.Common.{◌≡◌, ℕ, ◌<◌, true, false, subst, ◌∙◌, arith}
-use Rattle.gh_base.specs.declared.layout.Layout.{Layout}
+use Rattle.std.proofs.Common.{◌≡◌, ℕ, ◌<◌, true, false, arith}
 use Rattle.gh_base.specs.declared.operation.Op.{Op}
-use Rattle.gh_phase.specs.Handshake.{Acts, Awake, first_lead, first_party, IsHandshake, Leads, LeadGoes, HandshakePlace, PlaceBegins, PlaceGoes}
-use Rattle.gh_coord.specs.Stays.{stays}
+use Rattle.gh_phase.specs.Handshake.{Acts, Awake, first_lead, first_party, IsHandshake, Leads, HandshakePlace, PlaceBegins, PlaceGoes}
 use Rattle.gh_coord.specs.Handshake.{LeadsHandshake}
-use Rattle.gh_coord.specs.Handshake as leading
-use Rattle.gh_coord.specs.Listing as coord
 use Rattle.gh_coord.specs.Stopping.{acks_of}
 use Rattle.gh_mutator.specs.ProcessorPlaces.{ProcessorInHandshake}
 use Rattle.gh_mutator_writes.specs.Writing.{ProcessorWritesItsOwn}
@@ -25,15 +21,15 @@ module _ (setup : Setup) (places : ProcessorInHandshake) (writes : ProcessorWrit
   begun_place : (m : Actor) (o : Op) → Sound setup.layout m → is_busy m ≡ false → PlaceBegins (place m) (place (begins setup.shapes setup.layout m o))
   begun_place m o s b = grind arith
 
-  taken_sound : (m : Actor) (found : ℕ) → Sound setup.layout m → is_busy m ≡ true → Sound setup.layout (actor_takes setup.shapes m found)
-  taken_sound (actor.Runs m) found s b = (writes.sound_takes setup.shapes m found s.0 b, (writes.stays_there setup.shapes m found s.0).layout ∙ s.1)
-  taken_sound (actor.Marks x) found s b = w.keeps.stays_sound x found s b
-  taken_sound (actor.Leads x) found s b = (stays x found ∙ s.0, c.stays_sound x found s.1 b)
+  taken_sound : (m : Actor) (found : ℕ) → Sound setup.layout m → is_busy m ≡ true → Sound setup.layout (actor_takes setup.shapes setup.layout m found)
+  taken_sound (actor.Runs m) found s b = writes.sound_takes setup.layout setup.shapes m found s b
+  taken_sound (actor.Marks x) found s b = (w.keeps setup.layout).stays_sound x found s b
+  taken_sound (actor.Leads x) found s b = c.stays_sound setup.layout x found s b
 
-  taken_place : (m : Actor) (found : ℕ) → Sound setup.layout m → is_busy m ≡ true → PlaceGoes (acks_of setup.layout) found (place m) (asks m) (place (actor_takes setup.shapes m found))
-  taken_place (actor.Runs m) found s b = places.takes_so setup.shapes m found s.0.place b
-  taken_place (actor.Marks x) found s b = w.keeps.goes x found s b
-  taken_place (actor.Leads x) found s b = subst (λ (y : Layout). LeadGoes (acks_of y) found (leading.lead_of x) (coord.asks x) (leading.lead_of (coord.goes x found))) s.0 (c.goes x found s.1 b)
+  taken_place : (m : Actor) (found : ℕ) → Sound setup.layout m → is_busy m ≡ true → PlaceGoes (acks_of setup.layout) found (place m) (asks setup.layout m) (place (actor_takes setup.shapes setup.layout m found))
+  taken_place (actor.Runs m) found s b = places.takes_so setup.layout setup.shapes m found s.place b
+  taken_place (actor.Marks x) found s b = (w.keeps setup.layout).goes x found s b
+  taken_place (actor.Leads x) found s b = c.goes setup.layout x found s b
 
   first_place : (a : ℕ) → a < acks_of setup.layout → place (start setup.layout setup.pacing a) ≡ Acts (first_party a) Awake
   first_place a m = grind arith

@@ -13,10 +13,10 @@ module _ (setup : Setup) (places : ProcessorInHandshake) (writes : ProcessorWrit
 
   -- One that is awake, once it has begun an operation or not, was so before, with what it knows of the phase.
   module _ (a : ℕ) (m : Processor) where
-    pub was_awake : (o : Option Op) (es : List (Entry Op)) → seats.at setup es a ≡ actor.Runs m → IsSound m → Begins (seats.it setup) a es o → IsAwake (stage_of (started k o m)) → (party_of (started k o m) ≡ party_of m) × IsAwake (stage_of m)
+    pub was_awake : (o : Option Op) (es : List (Entry Op)) → seats.at setup es a ≡ actor.Runs m → IsSound setup.layout m → Begins (seats.it setup) a es o → IsAwake (stage_of (started k o m)) → (party_of (started k o m) ≡ party_of m) × IsAwake (stage_of m)
     was_awake o es is s b y = grind arith
 
   -- so it knows the cycle that has begun last
-  pub knows_begun : (a : ℕ) (m : Processor) (o : Option Op) (es : List (Entry Op)) → Legal (seats.it setup) es → a < setup.layout.procs → seats.at setup es a ≡ actor.Runs m → IsSound m → Begins (seats.it setup) a es o → IsAwake (stage_of (started k o m)) →
+  pub knows_begun : (a : ℕ) (m : Processor) (o : Option Op) (es : List (Entry Op)) → Legal (seats.it setup) es → a < setup.layout.procs → seats.at setup es a ≡ actor.Runs m → IsSound setup.layout m → Begins (seats.it setup) a es o → IsAwake (stage_of (started k o m)) →
       (party_of (started k o m)).view.begun ≡ seats.words setup es cell.Begun
   knows_begun a m o es legal lt is s b awake = grind (arith, was_awake)

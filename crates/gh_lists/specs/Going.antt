@@ -5,7 +5,7 @@ use Rattle.gh_coord.specs.Events.{by_event}
 use Rattle.gh_coord.specs.Handshake as leading
 use Rattle.gh_coord.specs.Listing as coord
 use Rattle.gh_lists.specs.declared.handshake.Actor.TheVariants as actor
-use Rattle.gh_lists.specs.LemmaVocabulary.{acks_of, Actor, actors_after, arena, Close, Coordinating, CoordStage, counted, Entry, goes, goes_at, IsLed, LoadAck, nat_tests, Op}
+use Rattle.gh_lists.specs.LemmaVocabulary.{acks_of, Actor, actors_after, arena, Close, Coordinating, CoordStage, counted, Entry, goes, goes_at, IsLed, Layout, LoadAck, nat_tests, Op}
 use Rattle.gh_lists.specs.Seats.{leads, other}
 use Rattle.gh_lists.specs.Handshake.{Setup}
 
@@ -15,8 +15,8 @@ ClosingIsBusy (Close c) = close.is_busy c.stage ≡ true
 ClosingIsBusy _ = Unit {0}
 
 -- each step leads to such a stage
-goes_on : (u : Coordinating) (p : CoordStage) (found : ℕ) → ClosingIsBusy u.stage → ClosingIsBusy (goes_at u p found).stage
-goes_on u p found g = by_event u found (λ (d : Coordinating). ClosingIsBusy d.stage) p (λ e may. grind arith)
+goes_on : (l : Layout) (u : Coordinating) (p : CoordStage) (found : ℕ) → ClosingIsBusy u.stage → ClosingIsBusy (goes_at l u p found).stage
+goes_on l u p found g = by_event l u found (λ (d : Coordinating). ClosingIsBusy d.stage) p (λ e may. grind arith)
 
 -- Whether the cycle is the last one it finds while it looks for acknowledgements, and keeps from then on.
 
@@ -27,11 +27,11 @@ NotAcks _ = Unit {0}
 abbrev Kept : Coordinating → Coordinating → Type 0
 Kept u d = d.is_last ≡ u.is_last
 
-pub keeps_last : (u : Coordinating) (p : CoordStage) (found : ℕ) → NotAcks p → Kept u (goes_at u p found)
-keeps_last u p found other = grind arith
+pub keeps_last : (l : Layout) (u : Coordinating) (p : CoordStage) (found : ℕ) → NotAcks p → Kept u (goes_at l u p found)
+keeps_last l u p found other = grind arith
 
-pub last_was : (u : Coordinating) (p : CoordStage) (found : ℕ) → leading.Marks (goes_at u p found).stage → (goes_at u p found).is_last ≡ true → u.is_last ≡ true
-last_was u p found on is = grind arith
+pub last_was : (l : Layout) (u : Coordinating) (p : CoordStage) (found : ℕ) → leading.Marks (goes_at l u p found).stage → (goes_at l u p found).is_last ≡ true → u.is_last ≡ true
+last_was l u p found on is = grind arith
 
 module _ (setup : Setup) where
   abbrev n : ℕ
@@ -69,9 +69,9 @@ module _ (setup : Setup) where
     go true b =
         let end : e.actor ≡ n = grind (arith, nat_tests) in
         record {
-          lead = goes x.lead e.found;
+          lead = goes setup.layout x.lead e.found;
           led_by = sym (ap (at (e ∷ es)) end) ∙ leads setup e es x.lead (ap (at es) end ∙ x.led_by);
-          going = goes_on (counted x.lead) x.lead.stage e.found x.going;
+          going = goes_on setup.layout (counted x.lead) x.lead.stage e.found x.going;
         }
 
   pub led_then : (es : List (Entry Op)) → IsLedThen es

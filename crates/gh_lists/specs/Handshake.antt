@@ -48,8 +48,8 @@ pub record Setup : Type 0 where
 -- the actor at each seat: the processors, the workers, the coordinator
 abbrev pub start : (l : Layout) (pacing : Pacing) → (a : ℕ) → Actor
 start l pacing a =
-    if nat_lt a l.procs then actor.Runs (opening_processor l a)
-    else if nat_lt a (acks_of l) then actor.Marks (worker.opening l a)
+    if nat_lt a l.procs then actor.Runs (opening_processor a)
+    else if nat_lt a (acks_of l) then actor.Marks (worker.opening a)
     else actor.Leads (coord.opening l a pacing.gogc pacing.minheap pacing.room)
 
 -- an operation is begun by a processor alone
@@ -58,15 +58,15 @@ begins shapes l (actor.Runs m) o = actor.Runs ((processor_kind shapes l).begins 
 begins shapes l (actor.Marks w) o = actor.Marks w
 begins shapes l (actor.Leads c) o = actor.Leads c
 
-abbrev pub asks : Actor → Ask
-asks (actor.Runs m) = mutator.asks m
-asks (actor.Marks w) = worker.asks w
-asks (actor.Leads c) = coord.asks c
+abbrev pub asks : Layout → Actor → Ask
+asks l (actor.Runs m) = mutator.asks l m
+asks l (actor.Marks w) = worker.asks l w
+asks l (actor.Leads c) = coord.asks l c
 
-abbrev pub actor_takes : List Shape → Actor → (found : ℕ) → Actor
-actor_takes shapes (actor.Runs m) found = actor.Runs (mutator.takes shapes m found)
-actor_takes shapes (actor.Marks w) found = actor.Marks (worker.goes w found)
-actor_takes shapes (actor.Leads c) found = actor.Leads (coord.goes c found)
+abbrev pub actor_takes : List Shape → Layout → Actor → (found : ℕ) → Actor
+actor_takes shapes l (actor.Runs m) found = actor.Runs (mutator.takes l shapes m found)
+actor_takes shapes l (actor.Marks w) found = actor.Marks (worker.goes l w found)
+actor_takes shapes l (actor.Leads c) found = actor.Leads (coord.goes l c found)
 
 abbrev pub is_busy : Actor → Bool
 is_busy (actor.Runs m) = mutator.is_busy_at m.task
@@ -74,7 +74,7 @@ is_busy (actor.Marks w) = worker.is_busy w.stage
 is_busy (actor.Leads c) = coord.is_busy c.stage
 
 abbrev pub actors : Setup → Kind Actor Op
-actors setup = record { start = start setup.layout setup.pacing; begins = begins setup.shapes setup.layout; asks = asks; takes = actor_takes setup.shapes; busy = is_busy }
+actors setup = record { start = start setup.layout setup.pacing; begins = begins setup.shapes setup.layout; asks = asks setup.layout; takes = actor_takes setup.shapes setup.layout; busy = is_busy }
 
 -- The lists of all actors of a heap, by what a processor may begin.
 abbrev pub those : Setup → Setting Actor Op
@@ -88,9 +88,9 @@ place_of (actor.Leads c) = Leads (leading.lead_of c)
 
 -- what holds of an actor of a heap of this layout, whatever it was told
 abbrev pub Sound : Layout → Actor → Type 0
-Sound l (actor.Runs m) = IsSound m × (m.poll.layout ≡ l)
+Sound l (actor.Runs m) = IsSound l m
 Sound l (actor.Marks w) = working.Sound w
-Sound l (actor.Leads c) = (c.layout ≡ l) × leading.Sound c
+Sound l (actor.Leads c) = leading.Sound c
 
 -- a view is the last phase that was no stop, and the words as they stand
 pub record IsExact (phase : RunPhase) (words : Words) (v : View) : Type 0 where

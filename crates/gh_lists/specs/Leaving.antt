@@ -1,6 +1,7 @@
 -- A cycle's marking ends in a stopped world, with the store of the next sweep generation.
 use Rattle.std.proofs.Common.{◌≡◌, ℕ, ◌⊎◌, true, arith}
 use Rattle.gh_base.specs.declared.cell.Cell.TheVariants as cell
+use Rattle.gh_base.specs.declared.layout.Layout.{Layout}
 use Rattle.gh_phase.specs.declared.view.RunPhase.TheVariants as run
 use Rattle.gh_phase.specs.Handshake.{Stopped}
 use Rattle.gh_coord.specs.declared.coord.CoordStage.{CoordStage}
@@ -16,9 +17,9 @@ marks_or_not p = grind arith
 abbrev pub MayLeaveMarking : CoordStage → Type 0
 MayLeaveMarking p = (Marks p → ⊥) ⊎ (post_at p ≡ Stopped run.Mark)
 
-pub leaves_marking : (s : Coordinating) (found : ℕ) → is_busy s.stage ≡ true → (Marks (goes s found).stage → ⊥) → MayLeaveMarking s.stage
-leaves_marking s found b off = grind arith
+pub leaves_marking : (l : Layout) (s : Coordinating) (found : ℕ) → is_busy s.stage ≡ true → (Marks (goes l s found).stage → ⊥) → MayLeaveMarking s.stage
+leaves_marking l s found b off = grind arith
 
 -- the step that ends marking stores the next sweep generation
-pub ends_marking : (s : Coordinating) (found : ℕ) → Marks s.stage → Marks (goes s found).stage ⊎ (stores_cell cell.Gen (asks s) ≡ true)
-ends_marking s found on = grind arith
+pub ends_marking : (l : Layout) (s : Coordinating) (found : ℕ) → Marks s.stage → Marks (goes l s found).stage ⊎ (stores_cell cell.Gen (asks l s) ≡ true)
+ends_marking l s found on = grind arith

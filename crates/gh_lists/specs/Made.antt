@@ -38,5 +38,5 @@ module _ (shapes : List Shape) (g : ℕ) where
   grows l start (e ∷ es) (inl is) = let same = ap (λ (xs : List (Entry Op)). (ever_of shapes l xs).made g) is in omega (arith, same)
   grows l start (e ∷ es) (inr is) =
       let before = grows l start es is in
-      let more = acted_no_fewer (ever_of shapes l es) (acts (before_step shapes l es e) e.found) in
+      let more = acted_no_fewer (ever_of shapes l es) (acts l (before_step shapes l es e) e.found) in
       omega (arith, before, more)

@@ -87,7 +87,7 @@ module _ (shapes : List Shape) (l : Layout) where
   -- the heap that never frees after the list
   abbrev pub ever_of : List (Entry Op) → Ever
   ever_of [] = opening_ever
-  ever_of (e ∷ es) = acted shapes (ever_of es) (acts (before_step es e) e.found)
+  ever_of (e ∷ es) = acted shapes (ever_of es) (acts l (before_step es e) e.found)
 
   abbrev pub answered : Ever → Option Act → Option Answered
   answered e None = None
@@ -96,7 +96,7 @@ module _ (shapes : List Shape) (l : Layout) where
   -- the operations in the order of their points, with the answers of the heap that never frees
   abbrev pub order_of : List (Entry Op) → List Answered
   order_of [] = []
-  order_of (e ∷ es) = option_to_list (answered (ever_of es) (acts (before_step es e) e.found)) ++ order_of es
+  order_of (e ∷ es) = option_to_list (answered (ever_of es) (acts l (before_step es e) e.found)) ++ order_of es
 
   -- the first of them first
   abbrev pub acted_in : List (Entry Op) → List Answered
@@ -105,7 +105,7 @@ module _ (shapes : List Shape) (l : Layout) where
   -- those of one actor, the newest first and the first of them first
   abbrev pub order_at : (a : ℕ) → List (Entry Op) → List Answered
   order_at a [] = []
-  order_at a (e ∷ es) = (if e.actor == a then option_to_list (answered (ever_of es) (acts (before_step es e) e.found)) else []) ++ order_at a es
+  order_at a (e ∷ es) = (if e.actor == a then option_to_list (answered (ever_of es) (acts l (before_step es e) e.found)) else []) ++ order_at a es
 
   abbrev pub acted_at : (a : ℕ) → List (Entry Op) → List Answered
   acted_at a es = reverse (order_at a es)

@@ -130,19 +130,19 @@ module _ (z : Arena) (opening : Words) where
 
   -- the heap that never frees after the list
   abbrev pub ever_after_list : List (Entry Op) → Ever
-  ever_after_list es = model_after (processor_kind z.shapes z.layout) (deeds z.shapes) (meaning z.shapes) es
+  ever_after_list es = model_after (processor_kind z.shapes z.layout) (deeds z.layout z.shapes) (meaning z.shapes) es
 
   -- the answers of that heap to the actor's operations, in the order of their points, and those that it gave; the newest first
   abbrev pub answers_of : ℕ → List (Entry Op) → List Answer
-  answers_of a es = map (λ (x : AnsweredDeed Act Answer). x.answer) (answered_by (processor_kind z.shapes z.layout) (deeds z.shapes) (meaning z.shapes) a es)
+  answers_of a es = map (λ (x : AnsweredDeed Act Answer). x.answer) (answered_by (processor_kind z.shapes z.layout) (deeds z.layout z.shapes) (meaning z.shapes) a es)
 
   abbrev pub given_of : ℕ → List (Entry Op) → List Answer
-  given_of a es = given_by (processor_kind z.shapes z.layout) (deeds z.shapes) a es
+  given_of a es = given_by (processor_kind z.shapes z.layout) (deeds z.layout z.shapes) a es
 
   -- `full` stands only where there was no room
   abbrev pub FullOnlyThere : List (Entry Op) → Type 0
   FullOnlyThere [] = Unit {0}
-  FullOnlyThere (e ∷ es) = FullOnlyThere es × ((x : Act) → done_at (processor_kind z.shapes z.layout) (deeds z.shapes) es e ≡ Some x → x.full ≡ true → IsFullFor z e.actor (words_after opening es) x.op)
+  FullOnlyThere (e ∷ es) = FullOnlyThere es × ((x : Act) → done_at (processor_kind z.shapes z.layout) (deeds z.layout z.shapes) es e ≡ Some x → x.full ≡ true → IsFullFor z e.actor (words_after opening es) x.op)
 
   -- What a processor was answered is what that heap answers its operations, save at most one answer that it has still to give: none where nothing is begun, and none before what is begun has acted.
   pub record AnswersAsEver (a : ℕ) (es : List (Entry Op)) : Type 0 where

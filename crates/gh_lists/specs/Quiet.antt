@@ -35,6 +35,6 @@ module _ (w : Words) where
   pub all_quiet : (l : Layout) (p : SweepAllStage) → Quiet w (all.asks_at l p)
   all_quiet l p = record { opens_none = grind arith; asks_none = grind arith; want = grind arith; scanned = grind arith; numbers = grind arith }
 
-  module _ (works : WorkersWriteTheirOwn) (v : worker.Working) (sound : working.Sound v) (busy : worker.is_busy v.stage ≡ true) where
-    pub worker_quiet : Quiet w (worker.asks v)
+  module _ (works : WorkersWriteTheirOwn) (l : Layout) (v : worker.Working) (sound : working.Sound v) (busy : worker.is_busy v.stage ≡ true) where
+    pub worker_quiet : Quiet w (worker.asks l v)
     worker_quiet = record { opens_none = grind arith; asks_none = grind arith; want = grind arith; scanned = grind arith; numbers = grind arith }

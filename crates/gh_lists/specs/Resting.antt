@@ -32,20 +32,20 @@ module _ (setup : Setup) where
     begins_nothing = grind (arith, begins_none)
 
     -- the step of a worker or of the coordinator
-    pub rests_on : state_of (processor_kind setup.shapes setup.layout) e.actor es ≡ opening_processor setup.layout e.actor → before_step (processor_kind setup.shapes setup.layout) (deeds setup.shapes) es e ≡ opening_processor setup.layout e.actor
+    pub rests_on : state_of (processor_kind setup.shapes setup.layout) e.actor es ≡ opening_processor e.actor → before_step (processor_kind setup.shapes setup.layout) (deeds setup.layout setup.shapes) es e ≡ opening_processor e.actor
     rests_on is = ap (λ (o : Option Op). started (processor_kind setup.shapes setup.layout) o (state_of (processor_kind setup.shapes setup.layout) e.actor es)) begins_nothing ∙ is
 
   -- a processor that nobody is rests
-  still : (e : Entry Op) (es : List (Entry Op)) → Legal (those setup) (e ∷ es) → (a : ℕ) → setup.layout.procs ≤ a → state_of (processor_kind setup.shapes setup.layout) a es ≡ opening_processor setup.layout a → state_of (processor_kind setup.shapes setup.layout) a (e ∷ es) ≡ opening_processor setup.layout a
+  still : (e : Entry Op) (es : List (Entry Op)) → Legal (those setup) (e ∷ es) → (a : ℕ) → setup.layout.procs ≤ a → state_of (processor_kind setup.shapes setup.layout) a es ≡ opening_processor a → state_of (processor_kind setup.shapes setup.layout) a (e ∷ es) ≡ opening_processor a
   still e es legal a ge before = go (e.actor == a) refl where
-    go : (b : Bool) → (e.actor == a) ≡ b → cond b ((processor_kind setup.shapes setup.layout).takes (started (processor_kind setup.shapes setup.layout) e.begun (state_of (processor_kind setup.shapes setup.layout) a es)) e.found) (state_of (processor_kind setup.shapes setup.layout) a es) ≡ opening_processor setup.layout a
+    go : (b : Bool) → (e.actor == a) ≡ b → cond b ((processor_kind setup.shapes setup.layout).takes (started (processor_kind setup.shapes setup.layout) e.begun (state_of (processor_kind setup.shapes setup.layout) a es)) e.found) (state_of (processor_kind setup.shapes setup.layout) a es) ≡ opening_processor a
     go false x = before
     go true x =
         let same : e.actor ≡ a = grind (arith, nat_tests) in
         let none : e.begun ≡ None = begins_nothing e es legal (subst (λ (y : ℕ). setup.layout.procs ≤ y) (sym same) ge) in
         ap (λ (o : Option Op). (processor_kind setup.shapes setup.layout).takes (started (processor_kind setup.shapes setup.layout) o (state_of (processor_kind setup.shapes setup.layout) a es)) e.found) none ∙ ap (λ (m : Processor). (processor_kind setup.shapes setup.layout).takes m e.found) before
 
-  pub rests : (es : List (Entry Op)) → Legal (those setup) es → (a : ℕ) → setup.layout.procs ≤ a → state_of (processor_kind setup.shapes setup.layout) a es ≡ opening_processor setup.layout a
+  pub rests : (es : List (Entry Op)) → Legal (those setup) es → (a : ℕ) → setup.layout.procs ≤ a → state_of (processor_kind setup.shapes setup.layout) a es ≡ opening_processor a
   rests [] legal a ge = refl
   rests (e ∷ es) legal a ge = still e es legal a ge (rests es legal.0 a ge)
 
@@ -68,7 +68,7 @@ module _ (setup : Setup) where
     own_stay = rw other refl
 
   -- At a processor's seat.
-  runs_first : (a : ℕ) → a < setup.layout.procs → at [] a ≡ actor.Runs (opening_processor setup.layout a)
+  runs_first : (a : ℕ) → a < setup.layout.procs → at [] a ≡ actor.Runs (opening_processor a)
   runs_first a lt = grind arith
 
   runs_on : (e : Entry Op) (es : List (Entry Op)) (a : ℕ) → at es a ≡ actor.Runs (state_of (processor_kind setup.shapes setup.layout) a es) → at (e ∷ es) a ≡ actor.Runs (state_of (processor_kind setup.shapes setup.layout) a (e ∷ es))

@@ -1,25 +1,23 @@
 -- Which actor is at which seat after every list, and what an entry makes of it.
-use Rattle.std.proofs.Common.{◌≡◌, ℕ, ◌<◌, ◌≤◌, Bool, false, cond, ◌==◌, refl, ◌∙◌, arith, List, [], ◌∷◌, Option, eq-eqb}
+use Rattle.std.proofs.Common.{◌≡◌, ℕ, ◌<◌, ◌≤◌, Bool, false, cond, ◌==◌, refl, arith, List, [], ◌∷◌, Option, eq-eqb}
 use Rattle.gh_base.specs.declared.layout.Layout.{Layout}
 use Rattle.gh_base.specs.declared.machine.Entry.{Entry}
 use Rattle.gh_base.specs.declared.operation.Op.{Op}
 use Rattle.gh_base.specs.Lists.{Kind, started, state_of}
-use Rattle.gh_coord.specs.Stays as coord_ends
 use Rattle.gh_coord.specs.Listing as coord
 use Rattle.gh_coord.specs.Stopping.{acks_of}
 use Rattle.gh_mutator.specs.Processing.{Processor}
 use Rattle.gh_mutator.specs.Deeds.{processor_kind}
-use Rattle.gh_worker.specs.Stays as worker_ends
 use Rattle.gh_worker.specs.Listing as worker
 use Rattle.gh_lists.specs.declared.handshake.Actor.{Actor}
 use Rattle.gh_lists.specs.declared.handshake.Actor.TheVariants as actor
 use Rattle.gh_lists.specs.Handshake.{actors, start, actor_takes, Setup}
 
--- processors, then workers, then the coordinator, each with the heap's layout
+-- processors, then workers, then the coordinator
 abbrev pub IsSeated : Layout → (a : ℕ) → Actor → Type 0
 IsSeated l a (actor.Runs m) = a < l.procs
-IsSeated l a (actor.Marks w) = (l.procs ≤ a) × (a < acks_of l) × (w.layout ≡ l)
-IsSeated l a (actor.Leads c) = (acks_of l ≤ a) × (c.layout ≡ l)
+IsSeated l a (actor.Marks w) = (l.procs ≤ a) × (a < acks_of l)
+IsSeated l a (actor.Leads c) = acks_of l ≤ a
 
 module _ (setup : Setup) where
   abbrev k : Kind Processor Op
@@ -44,15 +42,15 @@ module _ (setup : Setup) where
   begun : (a : ℕ) (o : Option Op) (m : Actor) → IsSeated setup.layout a m → IsSeated setup.layout a (started all o m)
   begun a o m s = grind arith
 
-  taken : (a found : ℕ) (m : Actor) → IsSeated setup.layout a m → IsSeated setup.layout a (actor_takes setup.shapes m found)
+  taken : (a found : ℕ) (m : Actor) → IsSeated setup.layout a m → IsSeated setup.layout a (actor_takes setup.shapes setup.layout m found)
   taken a found (actor.Runs m) s = s
-  taken a found (actor.Marks w) s = (s.0, s.1, worker_ends.stays w found ∙ s.2)
-  taken a found (actor.Leads c) s = (s.0, coord_ends.stays c found ∙ s.1)
+  taken a found (actor.Marks w) s = s
+  taken a found (actor.Leads c) s = s
 
   abbrev state : List (Entry Op) → ℕ → Actor
   state es a = state_of all a es
 
-  next : (e : Entry Op) (a : ℕ) (m : Actor) (b : Bool) → IsSeated setup.layout a m → IsSeated setup.layout a (cond b (actor_takes setup.shapes (started all e.begun m) e.found) m)
+  next : (e : Entry Op) (a : ℕ) (m : Actor) (b : Bool) → IsSeated setup.layout a m → IsSeated setup.layout a (cond b (actor_takes setup.shapes setup.layout (started all e.begun m) e.found) m)
   next e a m b s = grind (arith, begun, taken)
 
   pub seated : (es : List (Entry Op)) (a : ℕ) → IsSeated setup.layout a (state es a)
@@ -61,7 +59,7 @@ module _ (setup : Setup) where
 
   -- one entry more
   module _ (e : Entry Op) (es : List (Entry Op)) where
-    pub own : state (e ∷ es) e.actor ≡ actor_takes setup.shapes (started all e.begun (state es e.actor)) e.found
+    pub own : state (e ∷ es) e.actor ≡ actor_takes setup.shapes setup.layout (started all e.begun (state es e.actor)) e.found
     own = rw (eq-eqb e.actor e.actor refl) refl
 
     pub other : (a : ℕ) → (e.actor == a) ≡ false → state (e ∷ es) a ≡ state es a
@@ -70,8 +68,8 @@ module _ (setup : Setup) where
     pub runs : (m : Processor) → state es e.actor ≡ actor.Runs m → state (e ∷ es) e.actor ≡ actor.Runs (k.takes (started k e.begun m) e.found)
     runs m is = grind arith
 
-    pub works : (w : worker.Working) → state es e.actor ≡ actor.Marks w → state (e ∷ es) e.actor ≡ actor.Marks (worker.goes w e.found)
+    pub works : (w : worker.Working) → state es e.actor ≡ actor.Marks w → state (e ∷ es) e.actor ≡ actor.Marks (worker.goes setup.layout w e.found)
     works w is = grind arith
 
-    pub leads : (c : coord.Coordinating) → state es e.actor ≡ actor.Leads c → state (e ∷ es) e.actor ≡ actor.Leads (coord.goes c e.found)
+    pub leads : (c : coord.Coordinating) → state es e.actor ≡ actor.Leads c → state (e ∷ es) e.actor ≡ actor.Leads (coord.goes setup.layout c e.found)
     leads c is = grind arith

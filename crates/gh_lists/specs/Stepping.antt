@@ -28,18 +28,18 @@ module _ (setup : Setup) (es : List (Entry Op)) (e : Entry Op) (legal : Legal (t
   -- who is no processor has no operation begun
   pub record IsNoProcessors : Type 0 where
     pub none : e.begun ≡ None
-    pub acts_not : acts m e.found ≡ None
-    pub gives_not : gives m e.found ≡ None
+    pub acts_not : acts setup.layout m e.found ≡ None
+    pub gives_not : gives setup.layout m e.found ≡ None
     pub idle : is_serving m.task ≡ false
 
   pub no_processors : setup.layout.procs ≤ e.actor → IsNoProcessors
   no_processors le =
       let none = begins_none setup e.actor es e.begun le legal.1.begins legal.1.runs in
-      let rest : m ≡ opening_processor setup.layout e.actor = ap (λ (o : Option Op). started (processor_kind setup.shapes setup.layout) o (state_of (processor_kind setup.shapes setup.layout) e.actor es)) none ∙ rests setup es legal.0 e.actor le in
+      let rest : m ≡ opening_processor e.actor = ap (λ (o : Option Op). started (processor_kind setup.shapes setup.layout) o (state_of (processor_kind setup.shapes setup.layout) e.actor es)) none ∙ rests setup es legal.0 e.actor le in
       record {
         none = none;
-        acts_not = ap (λ (y : Processor). acts y e.found) rest;
-        gives_not = ap (λ (y : Processor). gives y e.found) rest;
+        acts_not = ap (λ (y : Processor). acts setup.layout y e.found) rest;
+        gives_not = ap (λ (y : Processor). gives setup.layout y e.found) rest;
         idle = ap (λ (y : Processor). is_serving y.task) rest;
       }
 
@@ -54,9 +54,9 @@ module _ (setup : Setup) (es : List (Entry Op)) (e : Entry Op) (legal : Legal (t
       pub here : eqb e.actor a ≡ true
       pub before : m ≡ started (processor_kind setup.shapes setup.layout) e.begun (own es)
       pub busy : is_busy_at m.task ≡ true
-      pub asked : e.ask ≡ asks m
+      pub asked : e.ask ≡ asks setup.layout m
       pub rested : (o : Op) → e.begun ≡ Some o → is_busy_at (own es).task ≡ false
-      pub after : own (e ∷ es) ≡ takes setup.shapes m e.found
+      pub after : own (e ∷ es) ≡ takes setup.layout setup.shapes m e.found
 
     -- or another's
     pub record IsAnothers : Type 0 where
@@ -76,7 +76,7 @@ module _ (setup : Setup) (es : List (Entry Op)) (e : Entry Op) (legal : Legal (t
           busy = sym (ap everyone.busy (begun_is e.actor there e.begun)) ∙ legal.1.runs;
           asked = legal.1.asks ∙ ap everyone.asks (begun_is e.actor there e.begun);
           rested = λ o is. rested same there o is;
-          after = ap (λ (b : Bool). cond b (takes setup.shapes (started (processor_kind setup.shapes setup.layout) e.begun (own es)) e.found) (own es)) here ∙ ap (λ (y : Processor). takes setup.shapes y e.found) (sym before);
+          after = ap (λ (b : Bool). cond b (takes setup.layout setup.shapes (started (processor_kind setup.shapes setup.layout) e.begun (own es)) e.found) (own es)) here ∙ ap (λ (y : Processor). takes setup.layout setup.shapes y e.found) (sym before);
         } where
           rested : e.actor ≡ a → e.actor < setup.layout.procs → (o : Op) → e.begun ≡ Some o → is_busy_at (own es).task ≡ false
           rested same there o is =
@@ -87,7 +87,7 @@ module _ (setup : Setup) (es : List (Entry Op)) (e : Entry Op) (legal : Legal (t
     anothers apart = record {
       other = eqb-false e.actor a apart;
       apart = apart;
-      after = ap (λ (b : Bool). cond b (takes setup.shapes (started (processor_kind setup.shapes setup.layout) e.begun (own es)) e.found) (own es)) apart;
+      after = ap (λ (b : Bool). cond b (takes setup.layout setup.shapes (started (processor_kind setup.shapes setup.layout) e.begun (own es)) e.found) (own es)) apart;
     }
 
     pub who_steps : IsItsOwn ⊎ IsAnothers

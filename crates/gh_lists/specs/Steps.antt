@@ -62,8 +62,8 @@ module _ (setup : Setup) where
       pub is : at es e.actor ≡ actor.Runs m
       pub seat : e.actor < setup.layout.procs
       pub then : at (e ∷ es) e.actor ≡ actor.Runs (k.takes (started k e.begun m) e.found)
-      pub sound_it : IsSound m
-      pub sound_then : IsSound (started k e.begun m)
+      pub sound_it : IsSound setup.layout m
+      pub sound_then : IsSound setup.layout (started k e.begun m)
       pub busy : k.busy (started k e.begun m) ≡ true
       pub asked : e.ask ≡ k.asks (started k e.begun m)
 
@@ -71,19 +71,19 @@ module _ (setup : Setup) where
       pub is : at es e.actor ≡ actor.Marks w
       pub from : setup.layout.procs ≤ e.actor
       pub seat : e.actor < n
-      pub then : at (e ∷ es) e.actor ≡ actor.Marks (worker.goes w e.found)
+      pub then : at (e ∷ es) e.actor ≡ actor.Marks (worker.goes setup.layout w e.found)
       pub sound_it : working.Sound w
       pub busy : worker.is_busy w.stage ≡ true
-      pub asked : e.ask ≡ worker.asks w
+      pub asked : e.ask ≡ worker.asks setup.layout w
 
     pub record LeadsIt (c : coord.Coordinating) : Type 0 where
       pub is : at es n ≡ actor.Leads c
       pub seat : e.actor ≡ n
-      pub then : at (e ∷ es) n ≡ actor.Leads (coord.goes c e.found)
+      pub then : at (e ∷ es) n ≡ actor.Leads (coord.goes setup.layout c e.found)
       pub sound_it : leading.Sound c
       pub busy : coord.is_busy c.stage ≡ true
-      pub asked : e.ask ≡ coord.asks c
-      pub found : e.found ≡ words es (cell_of (coord.asks c))
+      pub asked : e.ask ≡ coord.asks setup.layout c
+      pub found : e.found ≡ words es (cell_of (coord.asks setup.layout c))
 
     pub data Step : Type 0 where
       by_processor : (m : Processor) → RunsIt m → at (e ∷ es) n ≡ at es n → Step
@@ -92,7 +92,7 @@ module _ (setup : Setup) where
 
     -- what the worker at a seat and the coordinator were: they have made the step, or were so before it
     pub data WorkerWas (a : ℕ) (w : worker.Working) : Type 0 where
-      worker_stepped : (v : worker.Working) → WorksIt v → w ≡ worker.goes v e.found → WorkerWas a w
+      worker_stepped : (v : worker.Working) → WorksIt v → w ≡ worker.goes setup.layout v e.found → WorkerWas a w
       worker_stayed : at es a ≡ actor.Marks w → WorkerWas a w
 
     pub worker_was : Step → (a : ℕ) (w : worker.Working) → at (e ∷ es) a ≡ actor.Marks w → WorkerWas a w
@@ -102,18 +102,18 @@ module _ (setup : Setup) where
 
       go : (b : Bool) → (e.actor == a) ≡ b → Step → WorkerWas a w
       go false apart s = worker_stayed (sym (other setup e es a apart) ∙ is)
-      go true own (by_worker v x stays) = worker_stepped v x (let both : actor.Marks w ≡ actor.Marks (worker.goes v e.found) = sym (here own) ∙ x.then in cc)
+      go true own (by_worker v x stays) = worker_stepped v x (let both : actor.Marks w ≡ actor.Marks (worker.goes setup.layout v e.found) = sym (here own) ∙ x.then in cc)
       go true own (by_processor m x stays) = absurd (let both = sym (here own) ∙ x.then in cc)
       go true own (by_lead c x) = absurd (let both = sym (here own) ∙ ap (at (e ∷ es)) x.seat ∙ x.then in cc)
 
     pub data LeadWas (c : coord.Coordinating) : Type 0 where
-      lead_stepped : (b : coord.Coordinating) → LeadsIt b → c ≡ coord.goes b e.found → LeadWas c
+      lead_stepped : (b : coord.Coordinating) → LeadsIt b → c ≡ coord.goes setup.layout b e.found → LeadWas c
       lead_stayed : at es n ≡ actor.Leads c → LeadWas c
 
     pub lead_was : Step → (c : coord.Coordinating) → at (e ∷ es) n ≡ actor.Leads c → LeadWas c
     lead_was (by_processor m x stays) c is = lead_stayed (sym stays ∙ is)
     lead_was (by_worker w x stays) c is = lead_stayed (sym stays ∙ is)
-    lead_was (by_lead b x) c is = lead_stepped b x (let both : actor.Leads c ≡ actor.Leads (coord.goes b e.found) = sym is ∙ x.then in cc)
+    lead_was (by_lead b x) c is = lead_stepped b x (let both : actor.Leads c ≡ actor.Leads (coord.goes setup.layout b e.found) = sym is ∙ x.then in cc)
 
     module _ (writes : ProcessorWritesItsOwn) (legal : Legal it (e ∷ es)) (all_sound : (a : ℕ) → a < n + 1 → Sound setup.layout (at es a)) where
       abbrev begun : Actor
@@ -131,10 +131,10 @@ module _ (setup : Setup) where
       busy_of : (m : Actor) → begun ≡ m → is_busy m ≡ true
       busy_of m is = sym (ap is_busy is) ∙ legal.1.runs
 
-      asked_of : (m : Actor) → begun ≡ m → e.ask ≡ asks m
-      asked_of m is = legal.1.asks ∙ ap asks is
+      asked_of : (m : Actor) → begun ≡ m → e.ask ≡ asks setup.layout m
+      asked_of m is = legal.1.asks ∙ ap (asks setup.layout) is
 
-      sound_begun : (m : Processor) (o : Option Op) → at es e.actor ≡ actor.Runs m → Begins it e.actor es o → IsSound m → IsSound (started k o m)
+      sound_begun : (m : Processor) (o : Option Op) → at es e.actor ≡ actor.Runs m → Begins it e.actor es o → IsSound setup.layout m → IsSound setup.layout (started k o m)
       sound_begun m None is b s = s
       sound_begun m (Some o) is b s = writes.sound_begins setup.shapes setup.layout m o s (sym (ap is_busy is) ∙ b.0)
 
@@ -149,8 +149,8 @@ module _ (setup : Setup) where
             is = is;
             seat = lt;
             then = runs setup e es m is;
-            sound_it = (sound_of (actor.Runs m) is).0;
-            sound_then = sound_begun m e.begun is legal.1.begins (sound_of (actor.Runs m) is).0;
+            sound_it = sound_of (actor.Runs m) is;
+            sound_then = sound_begun m e.begun is legal.1.begins (sound_of (actor.Runs m) is);
             busy = busy_of (actor.Runs (started k e.begun m)) begun_is;
             asked = asked_of (actor.Runs (started k e.begun m)) begun_is;
           }) (stays (omega (arith, lt)))
@@ -167,15 +167,15 @@ module _ (setup : Setup) where
             asked = asked_of (actor.Marks w) begun_is;
           }) (stays lt)
       by (actor.Leads c) is =
-          let ge : n ≤ e.actor = (seat_of (actor.Leads c) is).0 in
+          let ge : n ≤ e.actor = seat_of (actor.Leads c) is in
           let end : e.actor ≡ n = omega (arith, ge, within) in
           let begun_is : begun ≡ actor.Leads c = ap (started it.kind e.begun) is ∙ lead_started setup e.begun c in
-          let asked_it : e.ask ≡ coord.asks c = asked_of (actor.Leads c) begun_is in
+          let asked_it : e.ask ≡ coord.asks setup.layout c = asked_of (actor.Leads c) begun_is in
           by_lead c (record {
             is = sym (ap (at es) end) ∙ is;
             seat = end;
             then = sym (ap (at (e ∷ es)) end) ∙ leads setup e es c is;
-            sound_it = (sound_of (actor.Leads c) is).1;
+            sound_it = sound_of (actor.Leads c) is;
             busy = busy_of (actor.Leads c) begun_is;
             asked = asked_it;
             found = legal.1.found ∙ ap (λ (q : Ask). words es (cell_of q)) asked_it;

@@ -4,13 +4,13 @@ use Rattle.gh_sweep.specs.Listing as sweep
 use Rattle.gh_sweep.specs.Listing.{Sweeping}
 use Rattle.gh_worker.specs.declared.worker.WorkerStage.TheVariants as working_at
 use Rattle.gh_worker.specs.Listing as worker
-use Rattle.gh_lists.specs.LemmaVocabulary.{WorkerStage, is_busy_at, Task}
+use Rattle.gh_lists.specs.LemmaVocabulary.{is_busy_at, Layout, Task, WorkerStage}
 use Rattle.gh_mutator.specs.Sweeping.{sweep_at}
 
 -- it runs no sweep, or asks for what that asks for
-pub asks_by_sweep : (w : worker.Working) (p : WorkerStage) → (worker.sweep_at p ≡ None) ⊎ ((sw : Sweeping) × (worker.asks_at w p ≡ sweep.asks w.layout sw))
-asks_by_sweep w (working_at.Sweeping sw) = inr (sw, refl)
-asks_by_sweep w _ = inl refl
+pub asks_by_sweep : (l : Layout) (w : worker.Working) (p : WorkerStage) → (worker.sweep_at p ≡ None) ⊎ ((sw : Sweeping) × (worker.asks_at l w p ≡ sweep.asks l sw))
+asks_by_sweep l w (working_at.Sweeping sw) = inr (sw, refl)
+asks_by_sweep l w _ = inl refl
 
 -- who rests sweeps nothing
 pub idle_sweeps_none : (t : Task) → is_busy_at t ≡ false → sweep_at t ≡ None

@@ -2,11 +2,11 @@
 use Rattle.std.proofs.Common.{◌≡◌, ℕ, ◌⊎◌, true, List, arith}
 use Rattle.gh_base.specs.declared.cell.Cell.TheVariants as cell
 use Rattle.gh_mutator.specs.Listing.{asks_at}
-use Rattle.gh_lists.specs.LemmaVocabulary.{Add, And, Ask, asks, END, is_busy_at, IsAwake, IsSound, IsWritten, Or, Party, party_at, party_of, Processor, ProcessorInHandshake, ProcessorWritesItsOwn, Shape, Stage, stage_of, StageGoes, Store, Swap, Task, WritesOf}
+use Rattle.gh_lists.specs.LemmaVocabulary.{Add, And, Ask, asks, END, is_busy_at, IsAwake, IsSound, IsWritten, Layout, Or, Party, party_at, party_of, Processor, ProcessorInHandshake, ProcessorWritesItsOwn, Shape, Stage, stage_of, StageGoes, Store, Swap, Task, WritesOf}
 use Rattle.gh_lists.specs.Frames.{LeavesNumbers}
 
-leaves_by : (m : Processor) (q : Ask) → asks m ≡ q → WritesOf (IsWritten m) q → LeavesNumbers q
-leaves_by m q is w = grind arith
+leaves_by : (l : Layout) (m : Processor) (q : Ask) → asks l m ≡ q → WritesOf (IsWritten l m) q → LeavesNumbers q
+leaves_by l m q is w = grind arith
 
 -- The word of a stack.
 
@@ -29,18 +29,18 @@ pub awake_at : (found : ℕ) (from : Party) (s : Stage) (q : Ask) (to : Party) (
 awake_at found from s q to then g value is goes = grind arith
 
 -- and what it knows of the phase is what it knows between two polls
-module _ (m : Processor) (g value : ℕ) where
-  pub knows_at : (t : Task) → Store (cell.Scanned g) value ≡ asks_at m t → (party_at m.poll t).view ≡ m.poll.local.view
+module _ (l : Layout) (m : Processor) (g value : ℕ) where
+  pub knows_at : (t : Task) → Store (cell.Scanned g) value ≡ asks_at l m t → (party_at m.poll t).view ≡ m.poll.local.view
   knows_at t is = grind arith
 
 -- so its steps leave the numbers
-pub leaves_numbers : ProcessorWritesItsOwn → (m : Processor) → IsSound m → LeavesNumbers (asks m)
-leaves_numbers writes m sound = grind (arith, leaves_by)
+pub leaves_numbers : ProcessorWritesItsOwn → (l : Layout) (m : Processor) → IsSound l m → LeavesNumbers (asks l m)
+leaves_numbers writes l m sound = grind (arith, leaves_by)
 
-module _ (places : ProcessorInHandshake) (writes : ProcessorWritesItsOwn) (shapes : List Shape) where
-  module _ (m : Processor) (sound : IsSound m) (busy : is_busy_at m.task ≡ true) where
-    numbers : (q : Ask) → asks m ≡ q → WritesOf (IsWritten m) q → NumbersStack (party_of m) (stage_of m) q
+module _ (places : ProcessorInHandshake) (writes : ProcessorWritesItsOwn) (l : Layout) (shapes : List Shape) where
+  module _ (m : Processor) (sound : IsSound l m) (busy : is_busy_at m.task ≡ true) where
+    numbers : (q : Ask) → asks l m ≡ q → WritesOf (IsWritten l m) q → NumbersStack (party_of m) (stage_of m) q
     numbers q is w = grind arith
 
-  pub numbers_stack : (m : Processor) → IsSound m → is_busy_at m.task ≡ true → NumbersStack (party_of m) (stage_of m) (asks m)
+  pub numbers_stack : (m : Processor) → IsSound l m → is_busy_at m.task ≡ true → NumbersStack (party_of m) (stage_of m) (asks l m)
   numbers_stack m sound busy = grind (arith, numbers)

@@ -66,11 +66,11 @@ pub record IsLight (ask : Ask) : Type 0 where
 
 -- What a step of the coordinator leads to: a cycle begins; or it goes on to be marked, with what the next stage says; or no cycle is marked then.
 pub data CoordinatorGoes (l : Layout) (number : ℕ) (words : Words) (s : Coordinating) (p : CoordStage) (to : Coordinating) : Type 0 where
-  begins : IsBeginning p → IsLight (asks_at s p) → to.begun ≡ s.begun → CheckedAt l number (effect words (asks_at s p)) to.stage → CoordinatorGoes l number words s p to
-  goes_on : Marks p → IsLight (asks_at s p) → to.begun ≡ s.begun → (CheckedAt l number words p → CheckedAt l number (effect words (asks_at s p)) to.stage) → CoordinatorGoes l number words s p to
+  begins : IsBeginning p → IsLight (asks_at l s p) → to.begun ≡ s.begun → CheckedAt l number (effect words (asks_at l s p)) to.stage → CoordinatorGoes l number words s p to
+  goes_on : Marks p → IsLight (asks_at l s p) → to.begun ≡ s.begun → (CheckedAt l number words p → CheckedAt l number (effect words (asks_at l s p)) to.stage) → CoordinatorGoes l number words s p to
   leaves : (Marks to.stage → ⊥) → CoordinatorGoes l number words s p to
 
-module _ (l : Layout) (number : ℕ) (words : Words) (s : Coordinating) (marks : ℕ) (layout_is : s.layout ≡ l) (number_is : s.begun ≡ number) where
+module _ (l : Layout) (number : ℕ) (words : Words) (s : Coordinating) (marks : ℕ) (number_is : s.begun ≡ number) where
   -- with its steps counted
   abbrev u : Coordinating
   u = record s { marks = marks }
@@ -81,7 +81,7 @@ module _ (l : Layout) (number : ℕ) (words : Words) (s : Coordinating) (marks :
   opening : (o : opens_by.CycleOpening) (p : OpenStage) (found : ℕ) → o.stage ≡ p → opens_by.is_busy p ≡ true → To (Open o) (after_open (at_stage u (Open (opens_by.goes_at o p found))) (opens_by.given_at (opens_by.behind p)))
   opening o p found e b = grind arith
 
-  watching_quiet : (p : WatchStage) → IsLight (watch.asks_at s.layout p)
+  watching_quiet : (p : WatchStage) → IsLight (watch.asks_at l p)
   watching_quiet p = grind arith
 
   -- one word more is as wanted
@@ -92,33 +92,33 @@ module _ (l : Layout) (number : ℕ) (words : Words) (s : Coordinating) (marks :
   abbrev behind_look : watch.Watching → (i : ℕ) → (b d : Bool) → watch.Watching
   behind_look w i b d = watch.at_stage w (cond b (cond d (watch_stage.Look (i + 1)) (watch_stage.Ended All)) (watch_stage.Ended NotYet))
 
-  looking : (w : watch.Watching) (i found : ℕ) → w.stage ≡ watch_stage.Look i → w.cycle ≡ number → found ≡ words (cell_at s.layout i) → StageSees l number words (watch_stage.Look i) →
-      CheckedAt l number words (after_check (at_stage u (Check (watch.goes_at s.layout w (watch_stage.Look i) found))) (watch.given (watch.goes_at s.layout w (watch_stage.Look i) found))).stage
-  looking w i found e c f seen = go (is_wanted s.layout w.cycle (cell_at s.layout i) found) (ltb (i + 1) (words_of s.layout)) refl refl where
-    wanted : is_wanted s.layout w.cycle (cell_at s.layout i) found ≡ true → IsWanted l number words i
-    wanted y = subst (λ (x : Layout). is_wanted x number (cell_at x i) (words (cell_at x i)) ≡ true) layout_is (subst (λ (n : ℕ). is_wanted s.layout n (cell_at s.layout i) (words (cell_at s.layout i)) ≡ true) c (subst (λ (v : ℕ). is_wanted s.layout w.cycle (cell_at s.layout i) v ≡ true) f y))
+  looking : (w : watch.Watching) (i found : ℕ) → w.stage ≡ watch_stage.Look i → w.cycle ≡ number → found ≡ words (cell_at l i) → StageSees l number words (watch_stage.Look i) →
+      CheckedAt l number words (after_check (at_stage u (Check (watch.goes_at l w (watch_stage.Look i) found))) (watch.given (watch.goes_at l w (watch_stage.Look i) found))).stage
+  looking w i found e c f seen = go (is_wanted l w.cycle (cell_at l i) found) (ltb (i + 1) (words_of l)) refl refl where
+    wanted : is_wanted l w.cycle (cell_at l i) found ≡ true → IsWanted l number words i
+    wanted y = subst (λ (n : ℕ). is_wanted l n (cell_at l i) (words (cell_at l i)) ≡ true) c (subst (λ (v : ℕ). is_wanted l w.cycle (cell_at l i) v ≡ true) f y)
 
-    go : (b d : Bool) → is_wanted s.layout w.cycle (cell_at s.layout i) found ≡ b → ltb (i + 1) (words_of s.layout) ≡ d → CheckedAt l number words (after_check (at_stage u (Check (behind_look w i b d))) (watch.given (behind_look w i b d))).stage
+    go : (b d : Bool) → is_wanted l w.cycle (cell_at l i) found ≡ b → ltb (i + 1) (words_of l) ≡ d → CheckedAt l number words (after_check (at_stage u (Check (behind_look w i b d))) (watch.given (behind_look w i b d))).stage
     go true true y x = record { cycle_is = c; stage_is = one_more i seen (wanted y) }
-    go true false y x = all_found l number words (λ j m. one_more i seen (wanted y) j (let few : words_of s.layout ≤ i + 1 = ltb-false _ _ x in let more : words_of l ≤ i + 1 = subst (λ (z : Layout). words_of z ≤ i + 1) layout_is few in omega arith))
+    go true false y x = all_found l number words (λ j m. one_more i seen (wanted y) j (let few : words_of l ≤ i + 1 = ltb-false _ _ x in omega arith))
     go false d y x = tt
 
   checking_begun : (w : watch.Watching) (out : Option Watched) → (after_check (at_stage u (Check w)) out).begun ≡ s.begun
   checking_begun w out = grind arith
 
-  checking : (w : watch.Watching) (p : WatchStage) (found : ℕ) → w.stage ≡ p → watch.is_busy p ≡ true → found ≡ words (cell_of (watch.asks_at s.layout p)) →
-      To (Check w) (after_check (at_stage u (Check (watch.goes_at s.layout w p found))) (watch.given (watch.goes_at s.layout w p found)))
+  checking : (w : watch.Watching) (p : WatchStage) (found : ℕ) → w.stage ≡ p → watch.is_busy p ≡ true → found ≡ words (cell_of (watch.asks_at l p)) →
+      To (Check w) (after_check (at_stage u (Check (watch.goes_at l w p found))) (watch.given (watch.goes_at l w p found)))
   checking w p found e b f = grind (arith, checking_begun, looking, watching_quiet)
 
   closing : (c : close.Closing) (p : CloseStage) (found : ℕ) → c.stage ≡ p → close.is_busy p ≡ true → To (Close c) (after_close (at_stage u (Close (close.goes_at c p found))) (close.given (close.goes_at c p found)))
   closing c p found e b = grind arith
 
-  pub goes_so : (p : CoordStage) (found : ℕ) → is_busy p ≡ true → found ≡ words (cell_of (asks_at s p)) → To p (goes_at u p found)
+  pub goes_so : (p : CoordStage) (found : ℕ) → is_busy p ≡ true → found ≡ words (cell_of (asks_at l s p)) → To p (goes_at l u p found)
   goes_so (Open o) found b f = opening o o.stage found refl b
   goes_so (Check w) found b f = checking w w.stage found refl b f
   goes_so (Close c) found b f = closing c c.stage found refl b
   goes_so Done found b f = absurd cc
-  goes_so p found b f = by_event u found (To p) p (λ e may. grind (arith, watching_quiet))
+  goes_so p found b f = by_event l u found (To p) p (λ e may. grind (arith, watching_quiet))
 
 -- the world is stopped while marking is being ended
 pub still_stopped : (p : CloseStage) → close.is_marking p ≡ true → close_post p ≡ Stopped run.Mark

@@ -43,7 +43,7 @@ module _ (arena : Arena) (pacing : Pacing) (may_begin : ℕ → List (Entry Op) 
   abbrev pub StepsByMoves : Type 0
   StepsByMoves = (e : Entry Op) (es : List (Entry Op)) (c : coord.Coordinating) → Legal (setting arena pacing may_begin) (e ∷ es) → IsLedBy arena pacing may_begin es c → leading.Marks c.stage → (z : Cycle) (s : Shared) (m : Processor) → IsStateOf arena pacing may_begin es c z s → Good z s → Knows z s es →
       e.actor < arena.layout.procs → actors_after arena pacing may_begin es e.actor ≡ actor.Runs m → MarkFacts z e.actor s m →
-      Steps z e.actor s e.ask (λ t. MarkFacts z e.actor t (takes arena.shapes (started (processor_kind arena.shapes arena.layout) e.begun m) e.found) × Knows z t (e ∷ es))
+      Steps z e.actor s e.ask (λ t. MarkFacts z e.actor t (takes arena.layout arena.shapes (started (processor_kind arena.shapes arena.layout) e.begun m) e.found) × Knows z t (e ∷ es))
 
   -- A cycle may begin: nothing is marked, in a buffer or scanned, and what globals and stacks name is of the cycle.
   pub record MayBegin (es : List (Entry Op)) (c : coord.Coordinating) : Type 0 where

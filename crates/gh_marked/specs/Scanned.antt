@@ -12,9 +12,9 @@ use Rattle.gh_marked.specs.Vocabulary.{Actor, Coordinating, Entry, Layout, Op, o
 use Rattle.gh_lists.specs.Wants.{total}
 
 -- the words that are done with a step of this actor: a worker's
-abbrev pub done_by : Actor → (found : ℕ) → ℕ
-done_by (Marks w) found = words_done w.layout w.stage found
-done_by _ found = 0
+abbrev pub done_by : Layout → Actor → (found : ℕ) → ℕ
+done_by l (Marks w) found = words_done l w.stage found
+done_by l _ found = 0
 
 -- of these, one where the step is done with a global
 abbrev pub global_by : Actor → (found : ℕ) → ℕ
@@ -22,9 +22,9 @@ global_by (Marks w) found = global_done w.stage found
 global_by _ found = 0
 
 -- and the words of the object whose scan ends with it
-abbrev pub objects_by : Actor → (found : ℕ) → ℕ
-objects_by (Marks w) found = object_done w.layout w.stage found
-objects_by _ found = 0
+abbrev pub objects_by : Layout → Actor → (found : ℕ) → ℕ
+objects_by l (Marks w) found = object_done l w.stage found
+objects_by l _ found = 0
 
 -- a worker has a global in hand from where it has moved the cursor past it until it is done with it: 1, or 0
 abbrev pub global_in_hand : Actor → ℕ
@@ -38,7 +38,7 @@ most_scanned l = l.globals + 2 * (1024 * l.pages)
 module _ (setup : Setup) where
   -- what the entry behind the list is done with
   abbrev pub scanned_by : Entry Op → List (Entry Op) → ℕ
-  scanned_by e es = done_by (state_of (actors setup) e.actor es) e.found
+  scanned_by e es = done_by setup.layout (state_of (actors setup) e.actor es) e.found
 
   abbrev pub scanned_in : List (Entry Op) → ℕ
   scanned_in [] = 0
@@ -51,7 +51,7 @@ module _ (setup : Setup) where
 
   abbrev pub objects_in : List (Entry Op) → ℕ
   objects_in [] = 0
-  objects_in (e ∷ es) = objects_in es + objects_by (state_of (actors setup) e.actor es) e.found
+  objects_in (e ∷ es) = objects_in es + objects_by setup.layout (state_of (actors setup) e.actor es) e.found
 
   -- how many globals workers have in hand
   abbrev pub globals_held : List (Entry Op) → ℕ

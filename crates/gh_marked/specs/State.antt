@@ -33,14 +33,14 @@ module _ (setup : Setup) where
 
   -- what holds of a processor: all that is known of it, and that it was answered as the heap that never frees answers; what it has noted of its stacks; and that it leaves once its goroutines have ended
   pub record IsAsItShould (es : List (Entry Op)) (h : Heap) (a : ℕ) (m : Processor) : Type 0 where
-    pub sound : IsSound m
+    pub sound : IsSound setup.layout m
     pub pending : Option Answer
     pub fine : ProcessorFacts z a (view h) m pending
     pub answers : answers_of z (opening_words setup.pacing.trigger) a es ≡ option_to_list pending ++ given_of z (opening_words setup.pacing.trigger) a es
     pub notes : (g : ℕ) → IsOf z a g → slice_index m.poll.local.scanned g ≡ h.words (cell.Scanned g)
     -- a goroutine of its own has ended, or ends now, exactly where that was begun
-    pub ended : (g : ℕ) → IsOf z a g → ((deeds setup.shapes).unacted m ≡ Some (op.End g)) ⊎ (h.ever.ended g ≡ true) → ended_in (by a es) g ≡ true
-    pub ends : (g : ℕ) → IsOf z a g → ended_in (by a es) g ≡ true → ((deeds setup.shapes).unacted m ≡ Some (op.End g)) ⊎ (h.ever.ended g ≡ true)
+    pub ended : (g : ℕ) → IsOf z a g → ((deeds setup.layout setup.shapes).unacted m ≡ Some (op.End g)) ⊎ (h.ever.ended g ≡ true) → ended_in (by a es) g ≡ true
+    pub ends : (g : ℕ) → IsOf z a g → ended_in (by a es) g ≡ true → ((deeds setup.layout setup.shapes).unacted m ≡ Some (op.End g)) ⊎ (h.ever.ended g ≡ true)
     pub left : is_last_task m.task ≡ true → (g : ℕ) → IsOf z a g → h.ever.ended g ≡ true
 
   -- a state of the heap is that of this list

@@ -1,9 +1,8 @@
 //! Runs of a routine over words that are drawn up by hand.
 
-ghost use Rattle.std.specs.Prelude.{◌≡◌, true};
 ghost use Rattle.gh_base.specs.Machines.{IsBusy};
 
-use gh_base::{Layout, Machine, Req, Routine};
+use gh_base::{Layout, Req, Routine};
 use std::alloc::{AllocError, Global};
 
 /// The first words of the rows of a layout of 16 pages, one global and three seats.
@@ -51,22 +50,8 @@ pub(crate) fn words(alloc: Global, set: &[(usize, u64)]) -> Result<Vec<u64>, All
     Ok(words)
 }
 
-/// Tells it what its steps find: what it ends with, if it asks for just these steps up to its end.
-pub(crate) fn tell<M: Machine>(machine: &mut M, steps: &[(Req, u64)]) -> Option<M::Out>
-    requires { M.busy machine.old ≡ true }
-{
-    for (request, found) in steps {
-        if machine.next() != *request {
-            return None;
-        }
-        if let Some(out) = machine.take(*found) {
-            return Some(out);
-        }
-    }
-    None
-}
-
-/// The same of a routine in a heap of this layout.
+/// Tells a routine in a heap of this layout what its steps find: what it ends with, if it asks for just these steps up to
+/// its end.
 pub(crate) fn tell_routine<R: Routine>(
     routine: &mut R,
     layout: &Layout,

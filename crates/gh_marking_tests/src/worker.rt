@@ -1,9 +1,10 @@
 //! The worker.
 
 use crate::runs::{
-    ACK, BITMAP, BUFFER, BUFFER_ROW, ENTRY, ENTRY_ROW, GLOBAL_ROW, PAGE, PAGE_ROW, TWO, tell, words,
+    ACK, BITMAP, BUFFER, BUFFER_ROW, ENTRY, ENTRY_ROW, GLOBAL_ROW, PAGE, PAGE_ROW, TWO,
+    tell_routine, words,
 };
-use gh_base::trace::{Steps, run_alone};
+use gh_base::trace::{Steps, run_routine_alone};
 use gh_base::{Held, Layout, Req};
 use gh_worker::Worker;
 use std::test::Fail;
@@ -57,8 +58,8 @@ fn objects_and_globals_are_marked(rt: HostRuntime) -> Result<(), Fail> {
         (ENTRY_ROW, 3135),
     ];
     let mut words = words(rt.alloc(), &set)?;
-    let mut worker = Worker::new(&layout, 1);
-    let steps = run_alone(rt.alloc(), &mut worker, &layout, &mut words, 86)?;
+    let mut worker = Worker::new(1);
+    let steps = run_routine_alone(rt.alloc(), &mut worker, &layout, &mut words, 86)?;
     let told = (
         steps.out,
         steps.lines.len(),
@@ -74,7 +75,7 @@ fn objects_and_globals_are_marked(rt: HostRuntime) -> Result<(), Fail> {
 #[test]
 fn stops_and_leaves(rt: HostRuntime) -> Result<(), Fail> {
     let layout = Layout::new(16, 1, 1, 1, 1)?;
-    let mut worker = Worker::new(&layout, 1);
+    let mut worker = Worker::new(1);
     let steps = [
         (Req::Load(1), 5),
         (Req::Load(BUFFER), 1),
@@ -101,7 +102,7 @@ fn stops_and_leaves(rt: HostRuntime) -> Result<(), Fail> {
         (Req::Load(1), 11),
         (Req::Store(ACK + 1, u64::MAX), 2),
     ];
-    assert_eq!(rt; tell(&mut worker, &steps), Some(()));
+    assert_eq!(rt; tell_routine(&mut worker, &layout, &steps), Some(()));
     let told = (worker.is_done(), (worker.marks(), worker.held()));
     assert_eq!(rt; told, (true, (2, None)));
     assert_eq!(rt; (worker.scan_work(), worker.earned()), (0, 2));

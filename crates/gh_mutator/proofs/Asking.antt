@@ -8,6 +8,7 @@ use Rattle.gh_mutator.specs.New as new
 use Rattle.gh_mutator.specs.Vocabulary.{Polling}
 use Rattle.gh_mutator.specs.Asking.{Compares, CountsUpTo, SawReached, SeesReached, SeesReachedAt, ProcessorsAskAtTheTrigger}
 use Rattle.gh_mutator.proofs.Vocabulary.{after_assist, Assisting, Name, after_gc, after_leave, after_poll, follows, Found, Leaving, NewStage, Place, PlaceStage, Placing, Processor, Seeking, Shape, takes_at, Task, Then, Waiting, Want, Wanted}
+use Rattle.gh_base.specs.declared.layout.Layout.{Layout}
 
 -- The making of an object: behind the counting it looks at the trigger, and behind that it may ask for a cycle.
 
@@ -39,7 +40,7 @@ compares_behind : (bytes : ℕ) (t : Task) → Compares t bytes → IsBehind t
 compares_behind bytes t e = grind arith
 
 -- so it was making an object before
-module _ (shapes : List Shape) (m : Processor) (found : ℕ) where
+module _ (l : Layout) (shapes : List Shape) (m : Processor) (found : ℕ) where
   search_behind : (n : Wanted) (waited : Bool) (s : Seeking) (p : Processor) (out : Option Found) → IsBehind (new.after_search shapes p n waited s out).task → ⊥
   search_behind n waited s p out e = grind arith
 
@@ -61,27 +62,27 @@ module _ (shapes : List Shape) (m : Processor) (found : ℕ) where
   into_behind : {S : Type 0} (into : S → Task) (then : Then S) → ((y : S) → IsBehind (into y) → ⊥) → IsBehind (follows into then) → ⊥
   into_behind into then spared e = grind arith
 
-  new_behind : (n : Wanted) (q : NewStage) → IsBehind (new.takes_at shapes m n q found).task → IsPlacingAt q
+  new_behind : (n : Wanted) (q : NewStage) → IsBehind (new.takes_at l shapes m n q found).task → IsPlacingAt q
   new_behind n q e = grind (arith, assist_behind, search_behind, wait_behind)
 
-  was_placing : (t : Task) → t ≡ m.task → IsBehind (takes_at shapes m t found).task → IsPlacing t
+  was_placing : (t : Task) → t ≡ m.task → IsBehind (takes_at l shapes m t found).task → IsPlacing t
   was_placing t is e = grind (arith, gc_behind, into_behind, leave_behind, new_behind, poll_behind)
 
   module _ (k : AnObjectAsksAtTheTrigger) where
     made_asks : (n : Wanted) (y : Placing) (asks : Option Bool) → SawReached (new.made_task m.poll n y asks) → asks ≡ Some true
     made_asks n y asks saw = grind arith
 
-    saw_at : (n : Wanted) (q : NewStage) → IsPlacingAt q → SawReached (new.takes_at shapes m n q found).task → (bytes : ℕ) × SeesReachedAt found bytes q
+    saw_at : (n : Wanted) (q : NewStage) → IsPlacingAt q → SawReached (new.takes_at l shapes m n q found).task → (bytes : ℕ) × SeesReachedAt found bytes q
     saw_at n (Place y) here e = k.asks_there y found (made_asks n (place.goes y found) (place.gives y found) e)
     saw_at n _ here e = absurd here
 
-    saw_by : (t : Task) → IsPlacing t → SawReached (takes_at shapes m t found).task → (bytes : ℕ) × SeesReached t found bytes
+    saw_by : (t : Task) → IsPlacing t → SawReached (takes_at l shapes m t found).task → (bytes : ℕ) × SeesReached t found bytes
     saw_by t here e = grind (arith, saw_at)
 
-    sees_by : (bytes : ℕ) (t : Task) → SeesReached t found bytes → SawReached (takes_at shapes m t found).task
+    sees_by : (bytes : ℕ) (t : Task) → SeesReached t found bytes → SawReached (takes_at l shapes m t found).task
     sees_by bytes t e = grind arith
 
-    compares_by : (bytes : ℕ) (t : Task) → IsPlacing t → Compares (takes_at shapes m t found).task bytes → CountsUpTo t found bytes
+    compares_by : (bytes : ℕ) (t : Task) → IsPlacing t → Compares (takes_at l shapes m t found).task bytes → CountsUpTo t found bytes
     compares_by bytes t here e = grind arith
 
 pub asks_at_the_trigger : AnObjectAsksAtTheTrigger → ProcessorsAskAtTheTrigger

@@ -10,6 +10,7 @@ use Rattle.gh_poll.specs.Registers.{IsNear}
 use Rattle.gh_mutator.specs.Sound.{Sound, SoundTask}
 use Rattle.gh_base.specs.Reading.{read_after_set}
 use Rattle.gh_mutator.proofs.Steps.{GoesTo, SetsNear, StepSound}
+use Rattle.gh_base.specs.declared.layout.Layout.{Layout}
 
 -- what holds of a value that a register takes, and of what all registers held before
 pub registers_after : (P : Value → Type 0) (stacks : List (List Value)) (g d i j : ℕ) (v : Value) → P v → P value.Nil → P (register_in_stacks stacks i j) → ((e : ℕ) → P (register_in_stacks stacks g e)) → P (register_in_stacks (stacks_with stacks g d v) i j)
@@ -21,31 +22,27 @@ pub record SameBuffer (p q : Polling) : Type 0 where
   pub view : p.local.view ≡ q.local.view
   pub held : p.local.held ≡ q.local.held
 
-module _ (shapes : List Shape) where
+module _ (l : Layout) (shapes : List Shape) where
   -- it is at another task
-  pub moved : (m : Processor) (t : Task) → Sound shapes m → SoundTask shapes m.poll m.made t → Sound shapes (at_task m t)
+  pub moved : (m : Processor) (t : Task) → Sound l shapes m → SoundTask l shapes m.poll m.made t → Sound l shapes (at_task m t)
   moved m t s h = record { registers = s.registers; few = s.few; task = h }
 
   -- its poll has changed, and its registers stay
-  pub polled : (m : Processor) (p : Polling) (t : Task) → Sound shapes m → p.layout ≡ m.poll.layout → p.local.stacks ≡ m.poll.local.stacks → SoundTask shapes p m.made t → Sound shapes (at_task (at_poll m p) t)
-  polled m p t s layout stacks h = record { registers = λ g d. rw (layout, stacks) (s.registers g d); few = s.few; task = h }
+  pub polled : (m : Processor) (p : Polling) (t : Task) → Sound l shapes m → p.local.stacks ≡ m.poll.local.stacks → SoundTask l shapes p m.made t → Sound l shapes (at_task (at_poll m p) t)
+  polled m p t s stacks h = record { registers = λ g d. rw stacks (s.registers g d); few = s.few; task = h }
 
   -- a register took a value, if there was one
-  pub taken : (m : Processor) (g d : ℕ) (v : Option Value) (t : Task) → Sound shapes m → SetsNear m.poll.layout.pages v → SoundTask shapes (taking m g d v).poll m.made t → Sound shapes (at_task (taking m g d v) t)
+  pub taken : (m : Processor) (g d : ℕ) (v : Option Value) (t : Task) → Sound l shapes m → SetsNear l.pages v → SoundTask l shapes (taking m g d v).poll m.made t → Sound l shapes (at_task (taking m g d v) t)
   taken m g d None t s near h = moved m t s h
-  taken m g d (Some v) t s near h = record { registers = λ i j. registers_after (IsNear m.poll.layout.pages) m.poll.local.stacks g d i j v near tt (s.registers i j) (s.registers g); few = s.few; task = h }
+  taken m g d (Some v) t s near h = record { registers = λ i j. registers_after (IsNear l.pages) m.poll.local.stacks g d i j v near tt (s.registers i j) (s.registers g); few = s.few; task = h }
 
   -- a statement's step was made
-  pub applied_sound : {S : Type 0} (P : S → Type 0) (goes : S → Task) (m : Processor) (g d : ℕ) (step : Step S) → Sound shapes m → StepSound P m.poll.layout.pages step → ((x : S) (p : Polling) → p.layout ≡ m.poll.layout → SameBuffer p m.poll → P x → SoundTask shapes p m.made (goes x)) → Sound shapes (applied goes m g d step)
+  pub applied_sound : {S : Type 0} (P : S → Type 0) (goes : S → Task) (m : Processor) (g d : ℕ) (step : Step S) → Sound l shapes m → StepSound P l.pages step → ((x : S) (p : Polling) → SameBuffer p m.poll → P x → SoundTask l shapes p m.made (goes x)) → Sound l shapes (applied goes m g d step)
   applied_sound {S} P goes m g d step s h sound = by step.then h.next where
-    same : (v : Option Value) → (taking m g d v).poll.layout ≡ m.poll.layout
-    same None = refl
-    same (Some v) = refl
-
     buffer : (v : Option Value) → SameBuffer (taking m g d v).poll m.poll
     buffer None = record { view = refl; held = refl }
     buffer (Some v) = record { view = refl; held = refl }
 
-    by : (t : Then S) → GoesTo P t → Sound shapes (at_task (taking m g d step.sets) (follows goes t))
+    by : (t : Then S) → GoesTo P t → Sound l shapes (at_task (taking m g d step.sets) (follows goes t))
     by (Ends a) p = taken m g d step.sets Idle s h.sets tt
-    by (GoesOn x) p = taken m g d step.sets (goes x) s h.sets (sound x (taking m g d step.sets).poll (same step.sets) (buffer step.sets) p)
+    by (GoesOn x) p = taken m g d step.sets (goes x) s h.sets (sound x (taking m g d step.sets).poll (buffer step.sets) p)

@@ -45,13 +45,13 @@ global_acts l held x s found = grind arith
 
 -- ---- each step acts once
 
-module _ (shapes : List Shape) (m : Processor) where
+module _ (l : Layout) (shapes : List Shape) (m : Processor) where
   abbrev ActsAt : Task → ℕ → Type 0
-  ActsAt t found = ActsOnce (op_at t) (op_at (takes_at shapes m t found).task) (acts_at m t found)
+  ActsAt t found = ActsOnce (op_at t) (op_at (takes_at l shapes m t found).task) (acts_at l m t found)
 
   search_acts : (w : Wanted) (waited : Bool) (s : Seeking) (found : ℕ) → ActsAt (searches w waited s) found
-  search_acts w waited s found = go waited (search.gives m.poll.layout s found) where
-    go : (b : Bool) (out : Option Found) → ActsOnce (Some (new_op w)) (op_at (after_search shapes (cache_span m w.sought (search.goes m.poll.layout s found).find.cached) w b (search.goes m.poll.layout s found) out).task) (acting (refuses_behind_wait b out) (new_op w) true)
+  search_acts w waited s found = go waited (search.gives l s found) where
+    go : (b : Bool) (out : Option Found) → ActsOnce (Some (new_op w)) (op_at (after_search shapes (cache_span m w.sought (search.goes l s found).find.cached) w b (search.goes l s found) out).task) (acting (refuses_behind_wait b out) (new_op w) true)
     go b out = grind arith
 
   -- the wait for a cycle is no point
@@ -70,10 +70,10 @@ module _ (shapes : List Shape) (m : Processor) where
 
   new_acts : (w : Wanted) (s : NewStage) (found : ℕ) → ActsAt (task.New (record { wanted = w; stage = s })) found
   new_acts w (Search waited s) found = search_acts w waited s found
-  new_acts w (Wait x) found = wait_acts w (wait.goes (wait.waiting x m.poll) found) (wait.gives (wait.waiting x m.poll) found)
+  new_acts w (Wait x) found = wait_acts w (wait.goes l (wait.waiting x m.poll) found) (wait.gives l (wait.waiting x m.poll) found)
   new_acts w (Place p) found = place_acts w p found p.stage
   new_acts w (Want n) found = refl
-  new_acts w (Assist n x) found = assist_acts w n (assist.goes m.poll.layout x found) (assist.gives m.poll.layout x found)
+  new_acts w (Assist n x) found = assist_acts w n (assist.goes l x found) (assist.gives l x found)
 
   -- what ends acts
   gc_acts : (g : ℕ) (x : Waiting) (out : Option (Unit {0})) → ActsOnce (Some (op.Gc g)) (op_at (after_gc m g x out).task) (acting (is_some out) (op.Gc g) false)
@@ -88,13 +88,13 @@ module _ (shapes : List Shape) (m : Processor) where
   acts_once_at : (t : Task) (found : ℕ) → is_busy_at t ≡ true → ActsAt t found
   acts_once_at task.Idle found busy = absurd (cc)
   acts_once_at task.Left found busy = absurd (cc)
-  acts_once_at (task.Load x) found busy = load_acts m.poll.layout x x.stage found
-  acts_once_at (task.Store x) found busy = store_acts m.poll.layout m.poll.local (register_of m x.g x.v) x x.stage found
-  acts_once_at (task.Global x) found busy = global_acts m.poll.layout (register_of m x.g x.r) x x.stage found
+  acts_once_at (task.Load x) found busy = load_acts l x x.stage found
+  acts_once_at (task.Store x) found busy = store_acts l m.poll.local (register_of m x.g x.v) x x.stage found
+  acts_once_at (task.Global x) found busy = global_acts l (register_of m x.g x.r) x x.stage found
   acts_once_at (task.Register x) found busy = (refl, refl)
   acts_once_at (task.New x) found busy = new_acts x.wanted x.stage found
-  acts_once_at (task.Gc g x) found busy = gc_acts g (wait.goes (wait.waiting x m.poll) found) (wait.gives (wait.waiting x m.poll) found)
-  acts_once_at task.Poll found busy = poll_acts (poll.goes m.poll found) (poll.gives m.poll found)
+  acts_once_at (task.Gc g x) found busy = gc_acts g (wait.goes l (wait.waiting x m.poll) found) (wait.gives l (wait.waiting x m.poll) found)
+  acts_once_at task.Poll found busy = poll_acts (poll.goes l m.poll found) (poll.gives l m.poll found)
   acts_once_at (task.End g) found busy = (refl, refl)
   acts_once_at (task.Leave x) found busy = leave_acts (leave.goes x found) (leave.gives x found)
 
@@ -116,8 +116,8 @@ leaves_it before after act same none = grind arith
 acts_for_it : (before after : Option Op) (act : Option Act) (x : Act) → ActsOnce before after act → point_of act ≡ Some x → (pointed before ≡ Some x.op) × (pointed after ≡ None)
 acts_for_it before after act x same is = grind arith
 
-acts_once : (shapes : List Shape) (m : Processor) (found : ℕ) → is_busy_at m.task ≡ true → ActsOnce (op_at m.task) (op_at (takes shapes m found).task) (acts m found)
-acts_once shapes m found busy = acts_once_at shapes m m.task found busy
+acts_once : (l : Layout) (shapes : List Shape) (m : Processor) (found : ℕ) → is_busy_at m.task ≡ true → ActsOnce (op_at m.task) (op_at (takes l shapes m found).task) (acts l m found)
+acts_once l shapes m found busy = acts_once_at l shapes m m.task found busy
 
 pub each_operation_acts_once : EachOperationActsOnce
 each_operation_acts_once = record { begins = to_act; rests = none_at_rest; steps = acts_once }
@@ -131,9 +131,9 @@ processors_deeds_fit shapes l = record {
   opens = λ a. refl;
   idle = λ m idle. ap pointed (none_at_rest m.task idle);
   begins = λ m o idle busy. ap pointed (begins_to_act shapes m o (has_left_at m.task) idle busy);
-  goes_on = λ m found busy none. leaves_it _ _ (acts m found) (acts_once shapes m found busy) none;
-  acts_for = λ m found x busy is. (acts_for_it _ _ (acts m found) x (acts_once shapes m found busy) is).0;
-  acts_once = λ m found x busy is. (acts_for_it _ _ (acts m found) x (acts_once shapes m found busy) is).1;
+  goes_on = λ m found busy none. leaves_it _ _ (acts l m found) (acts_once l shapes m found busy) none;
+  acts_for = λ m found x busy is. (acts_for_it _ _ (acts l m found) x (acts_once l shapes m found busy) is).0;
+  acts_once = λ m found x busy is. (acts_for_it _ _ (acts l m found) x (acts_once l shapes m found busy) is).1;
 }
 
 -- ---- only points change the heap that never frees
@@ -148,6 +148,6 @@ left_is shapes e x = grind arith
 pub only_points_change : OnlyPointsChange
 only_points_change shapes l = record {
   alone = alone shapes;
-  follows = λ es e. left_is shapes _ (point_of (acts (before_step (processor_kind shapes l) (deeds shapes) es e) e.found))
-      ∙ alone shapes (model_after (processor_kind shapes l) (deeds shapes) (meaning shapes) es) (acts (before_step (processor_kind shapes l) (deeds shapes) es e) e.found);
+  follows = λ es e. left_is shapes _ (point_of (acts l (before_step (processor_kind shapes l) (deeds l shapes) es e) e.found))
+      ∙ alone shapes (model_after (processor_kind shapes l) (deeds l shapes) (meaning shapes) es) (acts l (before_step (processor_kind shapes l) (deeds l shapes) es e) e.found);
 }

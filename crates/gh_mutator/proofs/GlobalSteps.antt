@@ -13,7 +13,6 @@ use Rattle.gh_mutator.specs.declared.global.GlobalStage.{GlobalStage}
 use Rattle.gh_mutator.specs.declared.global.GlobalStage.TheVariants.{Load, Writing, Number}
 use Rattle.gh_poll.specs.declared.poll.Local.{Local}
 use Rattle.gh_mutator.specs.declared.step.Then.{Then}
-use Rattle.gh_poll.specs.Barrier.{with_held}
 use Rattle.gh_mutator.specs.Faults.{is_load}
 use Rattle.gh_mutator.specs.Global.{asks, begins_store, held_behind, step}
 use Rattle.gh_poll.specs.Local.{is_mark}
@@ -29,14 +28,14 @@ pub step_sound : (l : Layout) (held : Value) (x : Global) (found : ℕ) → Soun
 step_sound l held x found h = grind arith
 
 -- and its write is sound and goes on
-pub step_room : ((l : Layout) → IsRoutine l (write.listing l)) → (p : Polling) (held : Value) (x : Global) (found : ℕ) → found < 2 ^ 64 → GlobalRoom p x.stage → GoesTo (λ (y : Global). GlobalRoom (with_held p (held_behind p.layout p.local.held x.stage found)) y.stage) (step p.layout held x found).then
-step_room k p held x found few h = grind arith
+pub step_room : (l : Layout) → ((z : Layout) → IsRoutine z (write.listing z)) → (p : Polling) (held : Value) (x : Global) (found : ℕ) → found < 2 ^ 64 → GlobalRoom l x.stage → GoesTo (λ (y : Global). GlobalRoom l y.stage) (step l held x found).then
+step_room l k p held x found few h = grind arith
 
 pub begins_sound : (own : Local) (globals g k v : ℕ) (held : Value) → IsRegister g v → k < globals → SoundGlobal globals (begins_store own g k v held)
 begins_sound own globals g k v held register there = record { register = grind arith; global = grind arith }
 
-pub begins_room : (p : Polling) (g k v : ℕ) (held : Value) → k < p.layout.globals → IsNear p.layout.pages held → IsHeld p.layout p.local.held → GlobalRoom p (begins_store p.local g k v held).stage
-begins_room p g k v held there near fits = grind (arith, write_opens)
+pub begins_room : (l : Layout) (p : Polling) (g k v : ℕ) (held : Value) → k < l.globals → IsNear l.pages held → IsHeld l p.local.held → GlobalRoom l (begins_store p.local g k v held).stage
+begins_room l p g k v held there near fits = grind (arith, write_opens)
 
 -- ---- it ends after a few steps
 

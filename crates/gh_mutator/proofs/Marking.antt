@@ -31,31 +31,31 @@ module _ (k : Known) (h : PollsByMoves) (v : WaitsByMoves) (l : LeavesByMoves) (
   new_then : (t : Shared) (m : Processor) (n : Wanted) (w : Waiting) (out : Option (Unit {0})) → wait.given w.wait.stage ≡ out → WaitFacts z a t w → MarkFacts z a t (new.after_wait m n w out)
   new_then t m n w out e f = grind arith
 
-  module _ (s : Shared) (good : Good z s) (objects : KnowsObjects z s) (now : KnowsCycle z s) (shapes : List Shape) (m : Processor) (layout_is : m.poll.layout ≡ z.arena.layout) (seat_is : m.poll.seat ≡ a) (stacks : KnowsStacks z a s m.poll.local.stacks m.poll.local.scanned) where
+  module _ (s : Shared) (good : Good z s) (objects : KnowsObjects z s) (now : KnowsCycle z s) (shapes : List Shape) (m : Processor) (seat_is : m.poll.seat ≡ a) (stacks : KnowsStacks z a s m.poll.local.stacks m.poll.local.scanned) where
     abbrev Leads : Task → Type 0
-    Leads t = Steps z a s (asks_at m t) (λ u. MarkFacts z a u (takes_at shapes m t (s.words (cell_of (asks_at m t)))))
+    Leads t = Steps z a s (asks_at z.arena.layout m t) (λ u. MarkFacts z a u (takes_at z.arena.layout shapes m t (s.words (cell_of (asks_at z.arena.layout m t)))))
 
     polls : PollFacts z a s m.poll → Leads task.Poll
     polls f =
         let n : ℕ = s.words (cell_of (poll.asks m.poll)) in
-        landing z a s (effect s.words (poll.asks m.poll)) (λ t. PollFacts z a t (poll.goes m.poll n)) (λ t. MarkFacts z a t (after_poll m (poll.goes m.poll n) (poll.gives m.poll n)))
-        (λ t went f. polled_then t m (poll.goes m.poll n) (poll.gives m.poll n) refl f)
+        landing z a s (effect s.words (poll.asks m.poll)) (λ t. PollFacts z a t (poll.goes z.arena.layout m.poll n)) (λ t. MarkFacts z a t (after_poll m (poll.goes z.arena.layout m.poll n) (poll.gives z.arena.layout m.poll n)))
+        (λ t went f. polled_then t m (poll.goes z.arena.layout m.poll n) (poll.gives z.arena.layout m.poll n) refl f)
         (h.own_step z a s m.poll good objects now f)
 
     waits : (g : ℕ) (x : WaitState) → WaitFacts z a s (wait.waiting x m.poll) → Leads (task.Gc g x)
     waits g x f =
         let w : Waiting = wait.waiting x m.poll in
         let n : ℕ = s.words (cell_of (wait.asks w)) in
-        landing z a s (effect s.words (wait.asks w)) (λ t. WaitFacts z a t (wait.goes w n)) (λ t. MarkFacts z a t (after_gc m g (wait.goes w n) (wait.gives w n)))
-        (λ t went f. gc_then t m g (wait.goes w n) (wait.gives w n) refl f)
+        landing z a s (effect s.words (wait.asks w)) (λ t. WaitFacts z a t (wait.goes z.arena.layout w n)) (λ t. MarkFacts z a t (after_gc m g (wait.goes z.arena.layout w n) (wait.gives z.arena.layout w n)))
+        (λ t went f. gc_then t m g (wait.goes z.arena.layout w n) (wait.gives z.arena.layout w n) refl f)
         (v.own_step z a s w good objects now f)
 
     new_waits : (n : Wanted) (x : WaitState) → WaitFacts z a s (wait.waiting x m.poll) → Leads (task.New (record { wanted = n; stage = Wait x }))
     new_waits wanted x f =
         let w : Waiting = wait.waiting x m.poll in
         let n : ℕ = s.words (cell_of (wait.asks w)) in
-        landing z a s (effect s.words (wait.asks w)) (λ t. WaitFacts z a t (wait.goes w n)) (λ t. MarkFacts z a t (new.after_wait m wanted (wait.goes w n) (wait.gives w n)))
-        (λ t went f. new_then t m wanted (wait.goes w n) (wait.gives w n) refl f)
+        landing z a s (effect s.words (wait.asks w)) (λ t. WaitFacts z a t (wait.goes z.arena.layout w n)) (λ t. MarkFacts z a t (new.after_wait m wanted (wait.goes z.arena.layout w n) (wait.gives z.arena.layout w n)))
+        (λ t went f. new_then t m wanted (wait.goes z.arena.layout w n) (wait.gives z.arena.layout w n) refl f)
         (v.own_step z a s w good objects now f)
 
     new_steps : (n : Wanted) (q : NewStage) → new_polls q ≡ true → NewFacts z a s m.poll q → Leads (task.New (record { wanted = n; stage = q }))
@@ -63,9 +63,9 @@ module _ (k : Known) (h : PollsByMoves) (v : WaitsByMoves) (l : LeavesByMoves) (
 
     left_then : (t : Shared) (x : Leaving) (q : LeaveStage) (found : ℕ) → m.poll.local.held ≡ None → Keeps z a s t → LeaveFacts z a t (leave.goes_at x q found).stage → MarkFacts z a t (after_leave m (leave.goes_at x q found) (leave.given (leave.goes_at x q found).stage))
     left_then t x (leave_stage.Giving g) found none kept f = subst (λ (o : Option (Unit {0})). MarkFacts z a t (after_leave m (leave.goes_at x (leave_stage.Giving g) found) o)) (sym (leaves_on (give.goes g found)))
-        (record { layout_is = layout_is; seat_is = seat_is; stacks = stacks_last z a s t m.poll.local.stacks m.poll.local.scanned kept stacks; task_is = (none, f) })
-    left_then t x leave_stage.Leave found none kept f = record { layout_is = layout_is; seat_is = seat_is; stacks = stacks_last z a s t m.poll.local.stacks m.poll.local.scanned kept stacks; task_is = (none, f) }
-    left_then t x leave_stage.Left found none kept f = record { layout_is = layout_is; seat_is = seat_is; stacks = stacks_last z a s t m.poll.local.stacks m.poll.local.scanned kept stacks; task_is = (none, f) }
+        (record { seat_is = seat_is; stacks = stacks_last z a s t m.poll.local.stacks m.poll.local.scanned kept stacks; task_is = (none, f) })
+    left_then t x leave_stage.Leave found none kept f = record { seat_is = seat_is; stacks = stacks_last z a s t m.poll.local.stacks m.poll.local.scanned kept stacks; task_is = (none, f) }
+    left_then t x leave_stage.Left found none kept f = record { seat_is = seat_is; stacks = stacks_last z a s t m.poll.local.stacks m.poll.local.scanned kept stacks; task_is = (none, f) }
 
     leaves : (x : Leaving) → m.poll.local.held ≡ None → LeaveFacts z a s x.stage → Leads (task.Leave x)
     leaves x none f =
@@ -129,7 +129,7 @@ module _ (k : Known) (h : PollsByMoves) (v : WaitsByMoves) (l : LeavesByMoves) (
   stands s p t stops still x = grind arith
 
   -- where a cycle begins
-  module _ (s : Shared) (p : Polling) (stops : ℕ) (layout_is : p.layout ≡ z.arena.layout) (seat_is : p.seat ≡ a) (none : p.local.held ≡ None) (stacks : KnowsStacks z a s p.local.stacks p.local.scanned) (x : Hands a s nothing) where
+  module _ (s : Shared) (p : Polling) (stops : ℕ) (seat_is : p.seat ≡ a) (none : p.local.held ≡ None) (stacks : KnowsStacks z a s p.local.stacks p.local.scanned) (x : Hands a s nothing) where
     task_opens : (t : Task) → IsParked stops (stage_at p t) → TaskFacts z a s p t
     task_opens t still = grind arith
 
@@ -139,9 +139,9 @@ module _ (k : Known) (h : PollsByMoves) (v : WaitsByMoves) (l : LeavesByMoves) (
 
 pub marks_by_moves : Known → PollsByMoves → WaitsByMoves → LeavesByMoves → WritesByMoves → AssistsByMoves → MarksByMoves
 marks_by_moves k h v l b c = record {
-  opens = λ z a s m n. record { layout_is = n.layout_is; seat_is = n.seat_is; stacks = n.stacks; task_is = task_opens k h v l b c z a s m.poll n.stops n.layout_is n.seat_is n.no_buffer n.stacks n.nothing_in_hand m.task n.parked };
-  begins = λ shapes z a s m o idle only f. begins_facts k h v l b c z a shapes s m o only (record { layout_is = f.layout_is; seat_is = f.seat_is; between = subst (λ (t : Task). TaskFacts z a s m.poll t) idle f.task_is });
-  own_step = λ shapes z a s m good objects now only f. steps_at k h v l b c z a s good objects now shapes m f.layout_is f.seat_is f.stacks m.task only f.task_is;
-  lasts = λ z a s t m o f. record { layout_is = f.layout_is; seat_is = f.seat_is; stacks = stacks_last z a s t m.poll.local.stacks m.poll.local.scanned o.keeps f.stacks; task_is = task_lasts k h v l b c z a s t m.poll m.task o f.task_is };
-  waits = λ z a s m stops still f. let x = stands k h v l b c z a s m.poll m.task stops still f.task_is in record { stops = stops; parked = still; layout_is = f.layout_is; seat_is = f.seat_is; no_buffer = x.0; stacks = f.stacks; nothing_in_hand = x.1 };
+  opens = λ z a s m n. record { seat_is = n.seat_is; stacks = n.stacks; task_is = task_opens k h v l b c z a s m.poll n.stops n.seat_is n.no_buffer n.stacks n.nothing_in_hand m.task n.parked };
+  begins = λ shapes z a s m o idle only f. begins_facts k h v l b c z a shapes s m o only (record { seat_is = f.seat_is; between = subst (λ (t : Task). TaskFacts z a s m.poll t) idle f.task_is });
+  own_step = λ shapes z a s m good objects now only f. steps_at k h v l b c z a s good objects now shapes m f.seat_is f.stacks m.task only f.task_is;
+  lasts = λ z a s t m o f. record { seat_is = f.seat_is; stacks = stacks_last z a s t m.poll.local.stacks m.poll.local.scanned o.keeps f.stacks; task_is = task_lasts k h v l b c z a s t m.poll m.task o f.task_is };
+  waits = λ z a s m stops still f. let x = stands k h v l b c z a s m.poll m.task stops still f.task_is in record { stops = stops; parked = still; seat_is = f.seat_is; no_buffer = x.0; stacks = f.stacks; nothing_in_hand = x.1 };
 }

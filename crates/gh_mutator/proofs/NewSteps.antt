@@ -11,7 +11,7 @@ use Rattle.gh_alloc.specs.SearchSound as search_fits
 use Rattle.gh_alloc.specs.Within.{LiesWithin}
 use Rattle.gh_assist.specs.Listing as assist
 use Rattle.gh_assist.specs.Sound.{SoundAssisting}
-use Rattle.gh_base.specs.Machines.{IsRoutine, Runs}
+use Rattle.gh_base.specs.Machines.{IsRoutine}
 use Rattle.gh_mutator.specs.declared.task.Task.TheVariants as task
 use Rattle.gh_mutator.specs.declared.new.New.{New}
 use Rattle.gh_poll.specs.Local.{cache_with, cached_in, marking_at}
@@ -20,7 +20,7 @@ use Rattle.gh_poll.specs.Poll.{Polling}
 use Rattle.gh_poll.specs.PollSound.{SoundPolling}
 use Rattle.gh_mutator.specs.Processor.{made_by, set_register}
 use Rattle.gh_mutator.specs.Sound.{most_objects, Sound, SoundSearch, SoundTask, SoundWanted}
-use Rattle.gh_poll.specs.Stays.{wait_stacks, wait_stays}
+use Rattle.gh_poll.specs.Stays.{wait_stacks}
 use Rattle.gh_mutator.specs.Stays.{search_wants}
 use Rattle.gh_poll.specs.Wait as wait
 use Rattle.gh_mutator.proofs.Vocabulary.{after_assist, Assist, Assisting, assisting, assists, Name, after_search, after_wait, At, at_poll, at_task, cache_span, CachedSpan, SoundWaiting, Found, Large, Layout, made_object, makes, NewStage, NoRoom, Place, PlaceStage, Placing, Processor, read_after_set, Search, Seeking, set, Shape, Small, Sought, takes, takes_at as takes_by, Task, Wait, Waiting, WaitState, Want, Wanted}
@@ -53,15 +53,15 @@ caches_on : (cache : List (Option CachedSpan)) (x : Sought) (c : Option CachedSp
 caches_on cache (Small k) c = set_twice cache (span_index k) c c
 caches_on cache (Large pages noscan) c = refl
 
-pub search_sound : ClassLaws → (shapes : List Shape) (m : Processor) (w : Wanted) → SoundPolling m.poll → SoundWanted shapes w → SoundSearch m.poll w (seeking m w)
-search_sound laws shapes m w fits wanted = record { runs = search_opens laws m.poll w.sought fits wanted.sought; wanted = refl; cached = search_caches m.poll.local.cache w.sought }
+pub search_sound : (l : Layout) → ClassLaws → (shapes : List Shape) (m : Processor) (w : Wanted) → SoundPolling l m.poll → SoundWanted shapes w → SoundSearch l m.poll w (seeking m w)
+search_sound l laws shapes m w fits wanted = record { runs = search_opens l laws m.poll w.sought fits wanted.sought; wanted = refl; cached = search_caches m.poll.local.cache w.sought }
 
 -- the laws of what a new object runs
 pub record NewLaws : Type 0 where
   pub classes : ClassLaws
-  pub searches : (l : Layout) → IsRoutine l (search.listing l)
-  pub makes : (l : Layout) → IsRoutine l (place.listing l)
-  pub assists : (l : Layout) → IsRoutine l (assist.listing l)
+  pub searches : (z : Layout) → IsRoutine z (search.listing z)
+  pub makes : (z : Layout) → IsRoutine z (place.listing z)
+  pub assists : (z : Layout) → IsRoutine z (assist.listing z)
 
 -- the slot that the search has found lies in the arena
 found_within : (l : Layout) (s : Seeking) (out : Found) → search_fits.Sound l s → search.given s ≡ Some out → LiesWithin l s.find.wanted out
@@ -71,98 +71,97 @@ found_within l s out h e = grind arith
 pub slot_bytes : ClassLaws → (shapes : List Shape) (w : Wanted) → SoundWanted shapes w → 8 * w.slot ≤ 2 ^ 31
 slot_bytes laws shapes w wanted = omega (arith, wanted.words, sought_small laws w.sought wanted.sought)
 
-module _ (k : NewLaws) (shapes : List Shape) where
+module _ (l : Layout) (k : NewLaws) (shapes : List Shape) where
   -- the cached span has changed, and the task is not looked at
-  recached : (m : Processor) (x : Sought) (c : Option CachedSpan) → Sound shapes m → Sound shapes (at_task (cache_span m x c) task.Idle)
+  recached : (m : Processor) (x : Sought) (c : Option CachedSpan) → Sound l shapes m → Sound l shapes (at_task (cache_span m x c) task.Idle)
   recached m x c s = record { registers = s.registers; few = s.few; task = tt }
 
   -- once the search has found this
-  found_on : (n : Processor) (w : Wanted) (waited : Bool) (out : Found) → n.poll.seat < n.poll.layout.procs → n.poll.local.view.generation < 2 ^ 34 → Sound shapes (at_task n task.Idle) → SoundWanted shapes w → LiesWithin n.poll.layout w.sought out → made_by n w.g < most_objects → Sound shapes (after_found shapes n w waited out)
+  found_on : (n : Processor) (w : Wanted) (waited : Bool) (out : Found) → n.poll.seat < l.procs → n.poll.local.view.generation < 2 ^ 34 → Sound l shapes (at_task n task.Idle) → SoundWanted shapes w → LiesWithin l w.sought out → made_by n w.g < most_objects → Sound l shapes (after_found shapes n w waited out)
   found_on n w waited (At a) seat number s wanted within name =
-      moved shapes (at_task n task.Idle) (makes w (placing shapes n w a)) s
-      (wanted, place_opens n.poll.layout n.poll.seat n.poll.local.view.generation w.sought (shape_at shapes w.t) a w.slot (next_of n w) (marking_at n.poll) seat number wanted.sought wanted.slot (subst (λ (slot : ℕ). a + slot ≤ 1024 * n.poll.layout.pages) (sym wanted.words) within) wanted.register.0, λ e. name)
-  found_on n w true NoRoom seat number s wanted within name = taken shapes (at_task n task.Idle) w.g w.d (Some value.Nil) task.Idle s tt tt
-  found_on n w false NoRoom seat number s wanted within name = moved shapes (at_task n task.Idle) (waits w (wait.opening n.poll)) s (wanted, record { busy = refl; polls = tt }, name)
+      moved l shapes (at_task n task.Idle) (makes w (placing shapes n w a)) s
+      (wanted, place_opens l n.poll.seat n.poll.local.view.generation w.sought (shape_at shapes w.t) a w.slot (next_of n w) (marking_at n.poll) seat number wanted.sought wanted.slot (subst (λ (slot : ℕ). a + slot ≤ 1024 * l.pages) (sym wanted.words) within) wanted.register.0, λ e. name)
+  found_on n w true NoRoom seat number s wanted within name = taken l shapes (at_task n task.Idle) w.g w.d (Some value.Nil) task.Idle s tt tt
+  found_on n w false NoRoom seat number s wanted within name = moved l shapes (at_task n task.Idle) (waits w (wait.opening n.poll)) s (wanted, record { busy = refl; polls = tt }, name)
 
-  search_on : (n : Processor) (w : Wanted) (waited : Bool) (x : Seeking) (out : Option Found) → n.poll.seat < n.poll.layout.procs → n.poll.local.view.generation < 2 ^ 34 → Sound shapes (at_task n task.Idle) → SoundWanted shapes w → made_by n w.g < most_objects → search_fits.Sound n.poll.layout x → x.find.wanted ≡ w.sought →
-      cache_with n.poll.local.cache w.sought x.find.cached ≡ n.poll.local.cache → search.given x ≡ out → Sound shapes (after_search shapes n w waited x out)
-  search_on n w waited x None seat number s wanted name sound wants cached e = moved shapes (at_task n task.Idle) (searches w waited x) s (wanted, record { runs = record { sound = sound; busy = ap is_none e }; wanted = wants; cached = cached }, name)
-  search_on n w waited x (Some out) seat number s wanted name sound wants cached e = found_on n w waited out seat number s wanted (subst (λ (v : Sought). LiesWithin n.poll.layout v out) wants (found_within n.poll.layout x out sound e)) name
+  search_on : (n : Processor) (w : Wanted) (waited : Bool) (x : Seeking) (out : Option Found) → n.poll.seat < l.procs → n.poll.local.view.generation < 2 ^ 34 → Sound l shapes (at_task n task.Idle) → SoundWanted shapes w → made_by n w.g < most_objects → search_fits.Sound l x → x.find.wanted ≡ w.sought →
+      cache_with n.poll.local.cache w.sought x.find.cached ≡ n.poll.local.cache → search.given x ≡ out → Sound l shapes (after_search shapes n w waited x out)
+  search_on n w waited x None seat number s wanted name sound wants cached e = moved l shapes (at_task n task.Idle) (searches w waited x) s (wanted, record { runs = record { sound = sound; busy = ap is_none e }; wanted = wants; cached = cached }, name)
+  search_on n w waited x (Some out) seat number s wanted name sound wants cached e = found_on n w waited out seat number s wanted (subst (λ (v : Sought). LiesWithin l v out) wants (found_within l x out sound e)) name
 
   -- one object more
-  counts : (m : Processor) (g i : ℕ) → Sound shapes m → made_by m g < most_objects → get_or (set m.made g (made_by m g + 1)) i 0 ≤ most_objects
+  counts : (m : Processor) (g i : ℕ) → Sound l shapes m → made_by m g < most_objects → get_or (set m.made g (made_by m g + 1)) i 0 ≤ most_objects
   counts m g i s few = read_after_set (λ n. n ≤ most_objects) m.made g i (made_by m g + 1) 0 (λ e. omega arith) (s.few i)
 
-  made_sound : (m : Processor) (w : Wanted) (a : ℕ) (t : Task) → Sound shapes m → a + 1 ≤ 1024 * m.poll.layout.pages → made_by m w.g < most_objects → SoundTask shapes (set_register m w.g w.d (value.Ref (a + 1))).poll (set m.made w.g (made_by m w.g + 1)) t → Sound shapes (at_task (made_object m w a) t)
+  made_sound : (m : Processor) (w : Wanted) (a : ℕ) (t : Task) → Sound l shapes m → a + 1 ≤ 1024 * l.pages → made_by m w.g < most_objects → SoundTask l shapes (set_register m w.g w.d (value.Ref (a + 1))).poll (set m.made w.g (made_by m w.g + 1)) t → Sound l shapes (at_task (made_object m w a) t)
   made_sound m w a t s near few h =
-      let n : Sound shapes (at_task (set_register m w.g w.d (value.Ref (a + 1))) task.Idle) = taken shapes m w.g w.d (Some (value.Ref (a + 1))) task.Idle s near tt in
+      let n : Sound l shapes (at_task (set_register m w.g w.d (value.Ref (a + 1))) task.Idle) = taken l shapes m w.g w.d (Some (value.Ref (a + 1))) task.Idle s near tt in
       record { registers = n.registers; few = λ i. counts m w.g i s few; task = h }
 
   -- the assist behind it is sound
-  then_sound : (p q : Polling) (made : List ℕ) (w : Wanted) (n : Name) → p.layout ≡ q.layout → SoundPolling p → SoundWanted shapes w → (marking : Bool) → SoundTask shapes q made (cond marking (assists w n (assisting p w)) task.Idle)
-  then_sound p q made w n same fits wanted true = (wanted, subst (λ (l : Layout). Runs (assist.listing l) (assisting p w)) same (assist_opens p w.slot fits (slot_bytes k.classes shapes w wanted)), tt)
-  then_sound p q made w n same fits wanted false = tt
+  then_sound : (p q : Polling) (made : List ℕ) (w : Wanted) (n : Name) → SoundPolling l p → SoundWanted shapes w → (marking : Bool) → SoundTask l shapes q made (cond marking (assists w n (assisting p w)) task.Idle)
+  then_sound p q made w n fits wanted true = (wanted, assist_opens l p w.slot fits (slot_bytes k.classes shapes w wanted), tt)
+  then_sound p q made w n fits wanted false = tt
 
-  place_on : (m : Processor) (w : Wanted) (made : Bool) (asks : Option Bool) (a : ℕ) (p : Placing) → Sound shapes m → SoundPolling m.poll → SoundWanted shapes w → place_fits.Sound m.poll.layout p → a + 1 ≤ 1024 * m.poll.layout.pages → place.given p ≡ asks → (made ≡ true → made_by m w.g < most_objects) → (made ≡ true → is_made p.stage ≡ true) → (made ≡ false → is_made p.stage ≡ false → made_by m w.g < most_objects) →
-      Sound shapes (at_task (cond made (made_object m w a) m) (made_task m.poll w p asks))
+  place_on : (m : Processor) (w : Wanted) (made : Bool) (asks : Option Bool) (a : ℕ) (p : Placing) → Sound l shapes m → SoundPolling l m.poll → SoundWanted shapes w → place_fits.Sound l p → a + 1 ≤ 1024 * l.pages → place.given p ≡ asks → (made ≡ true → made_by m w.g < most_objects) → (made ≡ true → is_made p.stage ≡ true) → (made ≡ false → is_made p.stage ≡ false → made_by m w.g < most_objects) →
+      Sound l shapes (at_task (cond made (made_object m w a) m) (made_task m.poll w p asks))
   place_on m w true None a p s fits wanted sound near asks few gone unmade = made_sound m w a (makes w p) s near (few refl) (wanted, record { sound = sound; busy = ap is_none asks }, λ e. absurd (cc (e, gone refl)))
   place_on m w true (Some true) a p s fits wanted sound near asks few gone unmade = made_sound m w a (wants w p.name) s near (few refl) (wanted, tt, tt)
-  place_on m w true (Some false) a p s fits wanted sound near asks few gone unmade = made_sound m w a (made_then m.poll w p.name) s near (few refl) (then_sound m.poll (set_register m w.g w.d (value.Ref (a + 1))).poll (set m.made w.g (made_by m w.g + 1)) w p.name refl fits wanted (marking_at m.poll))
-  place_on m w false None a p s fits wanted sound near asks few gone unmade = moved shapes m (makes w p) s (wanted, record { sound = sound; busy = ap is_none asks }, unmade refl)
-  place_on m w false (Some true) a p s fits wanted sound near asks few gone unmade = moved shapes m (wants w p.name) s (wanted, tt, tt)
-  place_on m w false (Some false) a p s fits wanted sound near asks few gone unmade = moved shapes m (made_then m.poll w p.name) s (then_sound m.poll m.poll m.made w p.name refl fits wanted (marking_at m.poll))
+  place_on m w true (Some false) a p s fits wanted sound near asks few gone unmade = made_sound m w a (made_then m.poll w p.name) s near (few refl) (then_sound m.poll (set_register m w.g w.d (value.Ref (a + 1))).poll (set m.made w.g (made_by m w.g + 1)) w p.name fits wanted (marking_at m.poll))
+  place_on m w false None a p s fits wanted sound near asks few gone unmade = moved l shapes m (makes w p) s (wanted, record { sound = sound; busy = ap is_none asks }, unmade refl)
+  place_on m w false (Some true) a p s fits wanted sound near asks few gone unmade = moved l shapes m (wants w p.name) s (wanted, tt, tt)
+  place_on m w false (Some false) a p s fits wanted sound near asks few gone unmade = moved l shapes m (made_then m.poll w p.name) s (then_sound m.poll m.poll m.made w p.name fits wanted (marking_at m.poll))
 
   -- after a step of the wait
-  wait_on : (m : Processor) (w : Wanted) (x : Waiting) (out : Option (Unit {0})) → Sound shapes m → SoundWanted shapes w → made_by m w.g < most_objects → x.poll.layout ≡ m.poll.layout → x.poll.local.stacks ≡ m.poll.local.stacks → (out ≡ None → SoundWaiting x.poll x.wait) → SoundPolling x.poll → Sound shapes (after_wait m w x out)
-  wait_on m w x None s wanted name layout stacks waits_on after = polled shapes m x.poll (waits w x) s layout stacks (wanted, waits_on refl, name)
-  wait_on m w x (Some y) s wanted name layout stacks waits_on after = polled shapes m x.poll (searches w true (seeking (at_poll m x.poll) w)) s layout stacks (wanted, search_sound k.classes shapes (at_poll m x.poll) w after wanted, name)
+  wait_on : (m : Processor) (w : Wanted) (x : Waiting) (out : Option (Unit {0})) → Sound l shapes m → SoundWanted shapes w → made_by m w.g < most_objects → x.poll.local.stacks ≡ m.poll.local.stacks → (out ≡ None → SoundWaiting x.poll x.wait) → SoundPolling l x.poll → Sound l shapes (after_wait m w x out)
+  wait_on m w x None s wanted name stacks waits_on after = polled l shapes m x.poll (waits w x) s stacks (wanted, waits_on refl, name)
+  wait_on m w x (Some y) s wanted name stacks waits_on after = polled l shapes m x.poll (searches w true (seeking (at_poll m x.poll) w)) s stacks (wanted, search_sound l k.classes shapes (at_poll m x.poll) w after wanted, name)
 
-  polls_fit : (m : Processor) (w : Wanted) (x : Waiting) (out : Option (Unit {0})) → SoundPolling (after_wait m w x out).poll → SoundPolling x.poll
+  polls_fit : (m : Processor) (w : Wanted) (x : Waiting) (out : Option (Unit {0})) → SoundPolling l (after_wait m w x out).poll → SoundPolling l x.poll
   polls_fit m w x None fits = fits
   polls_fit m w x (Some y) fits = fits
 
   -- after a step of the assist
-  assist_on : (m : Processor) (w : Wanted) (n : Name) (x : Assisting) (out : Option (Unit {0})) → Sound shapes m → SoundWanted shapes w → SoundAssisting m.poll.layout x → assist.given x ≡ out → Sound shapes (after_assist m w n x out)
+  assist_on : (m : Processor) (w : Wanted) (n : Name) (x : Assisting) (out : Option (Unit {0})) → Sound l shapes m → SoundWanted shapes w → SoundAssisting l x → assist.given x ≡ out → Sound l shapes (after_assist m w n x out)
   assist_on m w n x out s wanted sound e = grind arith
 
   -- the step at this stage
-  pub new_sound : (m : Processor) (w : Wanted) (x : NewStage) (found : ℕ) → found < 2 ^ 64 → SoundPolling m.poll → ((y : WaitState) → x ≡ Wait y → SoundPolling (takes_at shapes m w x found).poll) → Sound shapes m → SoundTask shapes m.poll m.made (task.New (record { wanted = w; stage = x })) → Sound shapes (takes_at shapes m w x found)
+  pub new_sound : (m : Processor) (w : Wanted) (x : NewStage) (found : ℕ) → found < 2 ^ 64 → SoundPolling l m.poll → ((y : WaitState) → x ≡ Wait y → SoundPolling l (takes_at l shapes m w x found).poll) → Sound l shapes m → SoundTask l shapes m.poll m.made (task.New (record { wanted = w; stage = x })) → Sound l shapes (takes_at l shapes m w x found)
   new_sound m w (Search waited x) found few fits after s here =
-      let l = m.poll.layout in
       search_on (cache_span m w.sought (search.goes l x found).find.cached) w waited (search.goes l x found) (search.gives l x found) fits.seat fits.local.view.generation
       (recached m w.sought (search.goes l x found).find.cached s) here.0 here.2 ((k.searches l).keeps x found few here.1.runs.sound here.1.runs.busy) (search_wants l x found ∙ here.1.wanted)
       (caches_on m.poll.local.cache w.sought (search.goes l x found).find.cached) refl
   new_sound m w (Wait x) found few fits after s here =
-      wait_on m w (wait.goes (wait.waiting x m.poll) found) (wait.gives (wait.waiting x m.poll) found) s here.0 here.2 (wait_stays (wait.waiting x m.poll) found) (wait_stacks (wait.waiting x m.poll) found) (wait_fits (wait.waiting x m.poll) found) (polls_fit m w (wait.goes (wait.waiting x m.poll) found) (wait.gives (wait.waiting x m.poll) found) (after x refl))
+      wait_on m w (wait.goes l (wait.waiting x m.poll) found) (wait.gives l (wait.waiting x m.poll) found) s here.0 here.2 (wait_stacks l (wait.waiting x m.poll) found) (wait_fits l (wait.waiting x m.poll) found) (polls_fit m w (wait.goes l (wait.waiting x m.poll) found) (wait.gives l (wait.waiting x m.poll) found) (after x refl))
   new_sound m w (Place p) found few fits after s here =
-      place_on m w (place.makes_its_object p) (place.gives p found) p.at (place.goes p found) s fits here.0 ((k.makes m.poll.layout).keeps p found few here.1.sound here.1.busy) (omega (arith, here.1.sound.some, here.1.sound.within)) refl
+      place_on m w (place.makes_its_object p) (place.gives p found) p.at (place.goes p found) s fits here.0 ((k.makes l).keeps p found few here.1.sound here.1.busy) (omega (arith, here.1.sound.some, here.1.sound.within)) refl
       (λ e. here.2 (acts_unmade p.stage e)) (made_after p p.stage found) (λ e unmade. here.2 (unmade_before p p.stage found unmade))
-  new_sound m w (Want n) found few fits after s here = moved shapes m task.Idle s tt
+  new_sound m w (Want n) found few fits after s here = moved l shapes m task.Idle s tt
   new_sound m w (Assist n x) found few fits after s here =
-      assist_on m w n (assist.goes m.poll.layout x found) (assist.gives m.poll.layout x found) s here.0 ((k.assists m.poll.layout).keeps x found few here.1.sound here.1.busy) refl
+      assist_on m w n (assist.goes l x found) (assist.gives l x found) s here.0 ((k.assists l).keeps x found few here.1.sound here.1.busy) refl
 
-  pub take_sound : (m : Processor) (n : New) (found : ℕ) (next : Processor) → found < 2 ^ 64 → SoundPolling m.poll → ((x : WaitState) → n.stage ≡ Wait x → SoundPolling next.poll) → Sound shapes m → m.task ≡ task.New n → next ≡ takes shapes m found → Sound shapes next
+  pub take_sound : (m : Processor) (n : New) (found : ℕ) (next : Processor) → found < 2 ^ 64 → SoundPolling l m.poll → ((x : WaitState) → n.stage ≡ Wait x → SoundPolling l next.poll) → Sound l shapes m → m.task ≡ task.New n → next ≡ takes l shapes m found → Sound l shapes next
   take_sound m n found next few fits after s at goes = grind (arith, new_sound)
 
-module _ (shapes : List Shape) where
+module _ (l : Layout) (shapes : List Shape) where
   -- Where the search goes on with the span that it has cached, nothing else changes.
-  pub searches_on : (m : Processor) (w : Wanted) (waited : Bool) (x : Seeking) (found : ℕ) → Sound shapes m → m.task ≡ searches w waited x → search.gives m.poll.layout x found ≡ None → (search.goes m.poll.layout x found).find.cached ≡ x.find.cached → at_task m (searches w waited (search.goes m.poll.layout x found)) ≡ takes shapes m found
+  pub searches_on : (m : Processor) (w : Wanted) (waited : Bool) (x : Seeking) (found : ℕ) → Sound l shapes m → m.task ≡ searches w waited x → search.gives l x found ≡ None → (search.goes l x found).find.cached ≡ x.find.cached → at_task m (searches w waited (search.goes l x found)) ≡ takes l shapes m found
   searches_on m w waited x found s at none same =
-      let here = subst (λ (t : Task). SoundTask shapes m.poll m.made t) at s.task in
+      let here = subst (λ (t : Task). SoundTask l shapes m.poll m.made t) at s.task in
       let cached = ap (cache_with m.poll.local.cache w.sought) same ∙ here.1.cached in
-      sym (ap (λ (t : Task). takes_by shapes m t found) at
-      ∙ ap (after_search shapes (cache_span m w.sought (search.goes m.poll.layout x found).find.cached) w waited (search.goes m.poll.layout x found)) none
-      ∙ ap (λ (c : List (Option CachedSpan)). at_task (at_poll m (record (m.poll) { local = record (m.poll.local) { cache = c } })) (searches w waited (search.goes m.poll.layout x found))) cached)
+      sym (ap (λ (t : Task). takes_by l shapes m t found) at
+      ∙ ap (after_search shapes (cache_span m w.sought (search.goes l x found).find.cached) w waited (search.goes l x found)) none
+      ∙ ap (λ (c : List (Option CachedSpan)). at_task (at_poll m (record (m.poll) { local = record (m.poll.local) { cache = c } })) (searches w waited (search.goes l x found))) cached)
 
   -- So what is known of the processor stays, where the code says whether the search has gone on.
-  pub going_on_sound : ((l : Layout) → IsRoutine l (search.listing l)) → (m : Processor) (n : New) (waited went : Bool) (x y : Seeking) (found : ℕ) → found < 2 ^ 64 → Sound shapes m → m.task ≡ task.New n → n.stage ≡ Search waited x → (IsTrue went → y ≡ search.goes m.poll.layout x found) → (IsTrue went → search.gives m.poll.layout x found ≡ None) → y.find.cached ≡ x.find.cached → (went ≡ false → y ≡ x) → Sound shapes (at_task m (searches n.wanted waited y))
+  pub going_on_sound : ((z : Layout) → IsRoutine z (search.listing z)) → (m : Processor) (n : New) (waited went : Bool) (x y : Seeking) (found : ℕ) → found < 2 ^ 64 → Sound l shapes m → m.task ≡ task.New n → n.stage ≡ Search waited x → (IsTrue went → y ≡ search.goes l x found) → (IsTrue went → search.gives l x found ≡ None) → y.find.cached ≡ x.find.cached → (went ≡ false → y ≡ x) → Sound l shapes (at_task m (searches n.wanted waited y))
   going_on_sound q m n waited went x y found few s at is goes gives same still =
       let on : m.task ≡ searches n.wanted waited x = at ∙ ap (λ (k : NewStage). task.New (record { wanted = n.wanted; stage = k })) is in
-      let here = subst (λ (t : Task). SoundTask shapes m.poll m.made t) on s.task in
+      let here = subst (λ (t : Task). SoundTask l shapes m.poll m.made t) on s.task in
       by went goes gives still here where
-        by : (b : Bool) → (IsTrue b → y ≡ search.goes m.poll.layout x found) → (IsTrue b → search.gives m.poll.layout x found ≡ None) → (b ≡ false → y ≡ x) → SoundTask shapes m.poll m.made (searches n.wanted waited x) → Sound shapes (at_task m (searches n.wanted waited y))
+        by : (b : Bool) → (IsTrue b → y ≡ search.goes l x found) → (IsTrue b → search.gives l x found ≡ None) → (b ≡ false → y ≡ x) → SoundTask l shapes m.poll m.made (searches n.wanted waited x) → Sound l shapes (at_task m (searches n.wanted waited y))
         by true goes gives still here =
             let cached = ap (cache_with m.poll.local.cache n.wanted.sought) (ap (λ (z : Seeking). z.find.cached) (sym (goes refl)) ∙ same) ∙ here.1.cached in
-            subst (λ (z : Seeking). Sound shapes (at_task m (searches n.wanted waited z))) (sym (goes refl))
-            (moved shapes m (searches n.wanted waited (search.goes m.poll.layout x found)) s (here.0, record { runs = record { sound = (q m.poll.layout).keeps x found few here.1.runs.sound here.1.runs.busy; busy = ap is_none (gives refl) }; wanted = search_wants m.poll.layout x found ∙ here.1.wanted; cached = cached }, here.2))
-        by false goes gives still here = subst (λ (z : Seeking). Sound shapes (at_task m (searches n.wanted waited z))) (sym (still refl)) (moved shapes m (searches n.wanted waited x) s here)
+            subst (λ (z : Seeking). Sound l shapes (at_task m (searches n.wanted waited z))) (sym (goes refl))
+            (moved l shapes m (searches n.wanted waited (search.goes l x found)) s (here.0, record { runs = record { sound = (q l).keeps x found few here.1.runs.sound here.1.runs.busy; busy = ap is_none (gives refl) }; wanted = search_wants l x found ∙ here.1.wanted; cached = cached }, here.2))
+        by false goes gives still here = subst (λ (z : Seeking). Sound l shapes (at_task m (searches n.wanted waited z))) (sym (still refl)) (moved l shapes m (searches n.wanted waited x) s here)

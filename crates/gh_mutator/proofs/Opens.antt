@@ -38,8 +38,8 @@ cached_fits l cache (Large pages noscan) fits = tt
 begins : ClassLaws → (l : Layout) (seat generation : ℕ) (w : Sought) (c : Option CachedSpan) → seat < l.procs → generation < 2 ^ 34 → IsSought w → IsCached l w c → Runs (search.listing l) (search.opening seat generation w c)
 begins laws l seat generation w c there fits sought cached = grind (arith, nat_tests)
 
-pub search_opens : ClassLaws → (p : Polling) (w : Sought) → SoundPolling p → IsSought w → Runs (search.listing p.layout) (search.opening p.seat p.local.view.generation w (cached_in p.local.cache w))
-search_opens laws p w f sought = begins laws p.layout p.seat p.local.view.generation w (cached_in p.local.cache w) f.seat f.local.view.generation sought (cached_fits p.layout p.local.cache w f.local.cache)
+pub search_opens : (l : Layout) → ClassLaws → (p : Polling) (w : Sought) → SoundPolling l p → IsSought w → Runs (search.listing l) (search.opening p.seat p.local.view.generation w (cached_in p.local.cache w))
+search_opens l laws p w f sought = begins laws l p.seat p.local.view.generation w (cached_in p.local.cache w) f.seat f.local.view.generation sought (cached_fits l p.local.cache w f.local.cache)
 
 -- what the first page of a large object's span says
 span_fits : (l : Layout) (seat generation : ℕ) (w : Sought) → seat < l.procs → generation < 2 ^ 34 → IsSought w → FitsSpanHead (own_span seat generation w)
@@ -49,8 +49,8 @@ pub place_opens : (l : Layout) (seat generation : ℕ) (w : Sought) (shape : Sha
     Runs (place.listing l) (place.opening shape at slot name (own_span seat generation w) marking)
 place_opens l seat generation w shape at slot name marking there fits sought some within few = record { sound = record { some = some; within = within; name = omega (arith, few); span = span_fits l seat generation w there fits sought; stage = some }; busy = refl }
 
-pub assist_opens : (p : Polling) (slot : ℕ) → SoundPolling p → 8 * slot ≤ 2 ^ 31 → Runs (assist.listing p.layout) (assist.opening p.seat p.local.held (8 * slot) p.local.owed p.local.spent)
-assist_opens p slot f few = record { sound = record { seat = omega (arith, f.seat); held = f.local.held; bytes = few; stage = tt }; busy = refl }
+pub assist_opens : (l : Layout) (p : Polling) (slot : ℕ) → SoundPolling l p → 8 * slot ≤ 2 ^ 31 → Runs (assist.listing l) (assist.opening p.seat p.local.held (8 * slot) p.local.owed p.local.spent)
+assist_opens l p slot f few = record { sound = record { seat = omega (arith, f.seat); held = f.local.held; bytes = few; stage = tt }; busy = refl }
 
 pub write_opens : (l : Layout) (own : Local) (at : PointerCell) (v : Value) → InRange l (write.cell_at at) → IsNear l.pages v → IsHeld l own.held → Runs (write.listing l) (written own at v)
 write_opens l own at v there near held = grind arith

@@ -48,11 +48,11 @@ due_at p = (p.local.view, p.local.owed)
 stops_owe : (p : Polling) (g : give.Giving) (stops : ℕ) → due_at (stops_then p g stops) ≡ due_at p
 stops_owe p g stops = grind arith
 
-phase_owes : (p : Polling) (stops : ℕ) (phase : Option RunPhase) → due_at (by_phase p stops phase) ≡ due_at p
-phase_owes p stops phase = grind arith
+phase_owes : (l : Layout) (p : Polling) (stops : ℕ) (phase : Option RunPhase) → due_at (by_phase l p stops phase) ≡ due_at p
+phase_owes l p stops phase = grind arith
 
-resume_drops : (p : Polling) (r : resume.Resuming) (out : Option Resumed) → Drops (due_at p) (due_at (after_resume p r out))
-resume_drops p r out = grind arith
+resume_drops : (l : Layout) (p : Polling) (r : resume.Resuming) (out : Option Resumed) → Drops (due_at p) (due_at (after_resume l p r out))
+resume_drops l p r out = grind arith
 
 mark_owes : (p : Polling) (g : ℕ) (m : mark.StackMarking) (out : Option (Unit {0})) → due_at (after_mark p g m out) ≡ due_at p
 mark_owes p g m out = grind arith
@@ -60,11 +60,11 @@ mark_owes p g m out = grind arith
 room_owes : (p : Polling) (r : room.RoomFinding) (out : Option Held) → due_at (after_room p r out) ≡ due_at p
 room_owes p r out = grind arith
 
-poll_at : (p : Polling) (stage : PollStage) (found : ℕ) → Drops (due_at p) (due_at (poll.goes_at p stage found))
-poll_at p stage found = grind (arith, mark_owes, phase_owes, resume_drops, room_owes, same, stops_owe)
+poll_at : (l : Layout) (p : Polling) (stage : PollStage) (found : ℕ) → Drops (due_at p) (due_at (poll.goes_at l p stage found))
+poll_at l p stage found = grind (arith, mark_owes, phase_owes, resume_drops, room_owes, same, stops_owe)
 
-poll_drops : (p : Polling) (found : ℕ) → Drops (due_at p) (due_at (poll.goes p found))
-poll_drops p found = grind (arith, poll_at)
+poll_drops : (l : Layout) (p : Polling) (found : ℕ) → Drops (due_at p) (due_at (poll.goes l p found))
+poll_drops l p found = grind (arith, poll_at)
 
 after_owes : (w : Waiting) (p : Polling) (out : Option (Unit {0})) → due_at (wait.after_poll w p out).poll ≡ due_at p
 after_owes w p out = grind arith
@@ -72,11 +72,11 @@ after_owes w p out = grind arith
 swept_owes : (w : Waiting) (later : Bool) → due_at (cond later (wait.at_stage w wait_stage.Ended) (wait.polling w)).poll ≡ due_at w.poll
 swept_owes w later = grind arith
 
-wait_at : (w : Waiting) (stage : WaitStage) (found : ℕ) → Drops (due_at w.poll) (due_at (wait.goes_at w stage found).poll)
-wait_at w stage found = grind (arith, after_owes, poll_drops, same, swept_owes)
+wait_at : (l : Layout) (w : Waiting) (stage : WaitStage) (found : ℕ) → Drops (due_at w.poll) (due_at (wait.goes_at l w stage found).poll)
+wait_at l w stage found = grind (arith, after_owes, poll_drops, same, swept_owes)
 
-wait_drops : (w : Waiting) (found : ℕ) → Drops (due_at w.poll) (due_at (wait.goes w found).poll)
-wait_drops w found = grind (arith, wait_at)
+wait_drops : (l : Layout) (w : Waiting) (found : ℕ) → Drops (due_at w.poll) (due_at (wait.goes l w found).poll)
+wait_drops l w found = grind (arith, wait_at)
 
 -- ---- the processor
 
@@ -111,16 +111,16 @@ abbrev running : Polling → List ℕ → Task → Processor
 running p made t = record { poll = p; made = made; task = t }
 
 -- Any step but that of an assist.
-module _ (shapes : List Shape) (p : Polling) (made : List ℕ) (found : ℕ) where
+module _ (l : Layout) (shapes : List Shape) (p : Polling) (made : List ℕ) (found : ℕ) where
   abbrev DropsAt : Task → Type 0
-  DropsAt t = Drops (due_of (running p made t)) (due_of (takes_at shapes (running p made t) t found))
+  DropsAt t = Drops (due_of (running p made t)) (due_of (takes_at l shapes (running p made t) t found))
 
   behind : {now then : Due} → then ≡ now → Drops (due_at p) now → Drops (due_at p) then
   behind e d = subst (λ (x : Due). Drops (due_at p) x) (sym e) d
 
   new_drops : (w : Wanted) (q : NewStage) → (IsAssisting (with_stage w q) → ⊥) → DropsAt (with_stage w q)
-  new_drops w (Search waited y) rests = same (search_owes shapes (running p made (with_stage w (Search waited y))) w waited (search.goes p.layout y found).find.cached (search.goes p.layout y found) (search.gives p.layout y found))
-  new_drops w (Wait x) rests = behind (wait_then (running p made (with_stage w (Wait x))) w (wait.goes (wait.waiting x p) found) (wait.gives (wait.waiting x p) found)) (wait_drops (wait.waiting x p) found)
+  new_drops w (Search waited y) rests = same (search_owes shapes (running p made (with_stage w (Search waited y))) w waited (search.goes l y found).find.cached (search.goes l y found) (search.gives l y found))
+  new_drops w (Wait x) rests = behind (wait_then (running p made (with_stage w (Wait x))) w (wait.goes l (wait.waiting x p) found) (wait.gives l (wait.waiting x p) found)) (wait_drops l (wait.waiting x p) found)
   new_drops w (Place y) rests = same (place_owes (running p made (with_stage w (Place y))) w (place.makes_its_object y) y.at (place.goes y found))
   new_drops w (Want n) rests = same refl
   new_drops w (Assist n x) rests = absurd (rests tt)
@@ -128,20 +128,20 @@ module _ (shapes : List Shape) (p : Polling) (made : List ℕ) (found : ℕ) whe
   drops_at : (t : Task) → is_busy_at t ≡ true → (IsAssisting t → ⊥) → DropsAt t
   drops_at task.Idle busy rests = absurd (cc)
   drops_at task.Left busy rests = absurd (cc)
-  drops_at (task.Load x) busy rests = same (let step = load.step p.layout x found in into_owes task.Load (running p made (task.Load x)) x.g x.d step.sets step.then (λ q y. refl))
+  drops_at (task.Load x) busy rests = same (let step = load.step l x found in into_owes task.Load (running p made (task.Load x)) x.g x.d step.sets step.then (λ q y. refl))
   drops_at (task.Store x) busy rests = same
-      (let step = store.step p.layout p.local (register_of (running p made (task.Store x)) x.g x.v) x found in into_owes task.Store (keeping (running p made (task.Store x)) (store.held_behind p.layout p.local.held x.stage found)) x.g x.v step.sets step.then (λ q y. refl))
+      (let step = store.step l p.local (register_of (running p made (task.Store x)) x.g x.v) x found in into_owes task.Store (keeping (running p made (task.Store x)) (store.held_behind l p.local.held x.stage found)) x.g x.v step.sets step.then (λ q y. refl))
   drops_at (task.Global x) busy rests = same
-      (let step = global.step p.layout (register_of (running p made (task.Global x)) x.g x.r) x found in into_owes task.Global (keeping (running p made (task.Global x)) (global.held_behind p.layout p.local.held x.stage found)) x.g x.r step.sets step.then (λ q y. refl))
+      (let step = global.step l (register_of (running p made (task.Global x)) x.g x.r) x found in into_owes task.Global (keeping (running p made (task.Global x)) (global.held_behind l p.local.held x.stage found)) x.g x.r step.sets step.then (λ q y. refl))
   drops_at (task.Register x) busy rests = same (let step = register.step (register_of (running p made (task.Register x)) x.g (register.read_of x)) x in into_owes task.Register (running p made (task.Register x)) x.g x.d step.sets step.then (λ q y. refl))
   drops_at (task.New x) busy rests = new_drops x.wanted x.stage rests
-  drops_at (task.Gc g x) busy rests = behind (gc_owes (running p made (task.Gc g x)) g (wait.goes (wait.waiting x p) found) (wait.gives (wait.waiting x p) found)) (wait_drops (wait.waiting x p) found)
-  drops_at task.Poll busy rests = behind (poll_then (running p made task.Poll) (poll.goes p found) (poll.gives p found)) (poll_drops p found)
+  drops_at (task.Gc g x) busy rests = behind (gc_owes (running p made (task.Gc g x)) g (wait.goes l (wait.waiting x p) found) (wait.gives l (wait.waiting x p) found)) (wait_drops l (wait.waiting x p) found)
+  drops_at task.Poll busy rests = behind (poll_then (running p made task.Poll) (poll.goes l p found) (poll.gives l p found)) (poll_drops l p found)
   drops_at (task.End g) busy rests = same refl
   drops_at (task.Leave x) busy rests = same (leave_owes (running p made (task.Leave x)) (leave.goes x found) (leave.gives x found))
 
   -- in an assist it is the assist's own account, and marking is on
-  assists_at : (w : Wanted) (n : Name) (x : Assisting) → due_of (takes_at shapes (running p made (assists w n x)) (assists w n x) found) ≡ (p.local.view, (assist.goes p.layout x found).owed)
+  assists_at : (w : Wanted) (n : Name) (x : Assisting) → due_of (takes_at l shapes (running p made (assists w n x)) (assists w n x) found) ≡ (p.local.view, (assist.goes l x found).owed)
   assists_at w n x = grind arith
 
 -- Who does not know of marking owes nothing.
@@ -151,15 +151,15 @@ off_by h before off = grind arith
 stays_by : {was now : Due} → Drops was now → (now.1 ≡ was.1) ⊎ (now.1 ≡ 0)
 stays_by h = grind arith
 
-module _ (shapes : List Shape) (p : Polling) (made : List ℕ) (found : ℕ) where
+module _ (l : Layout) (shapes : List Shape) (p : Polling) (made : List ℕ) (found : ℕ) where
   abbrev OffAt : Task → Type 0
-  OffAt t = OwesWhileMarking (running p made t) → OwesWhileMarking (takes_at shapes (running p made t) t found)
+  OffAt t = OwesWhileMarking (running p made t) → OwesWhileMarking (takes_at l shapes (running p made t) t found)
 
   off_plainly : (t : Task) → is_busy_at t ≡ true → (IsAssisting t → ⊥) → OffAt t
-  off_plainly t busy rests before = off_by (drops_at shapes p made found t busy rests) before
+  off_plainly t busy rests before = off_by (drops_at l shapes p made found t busy rests) before
 
   off_new : (w : Wanted) (q : NewStage) → SoundAssistAt p q → OffAt (with_stage w q)
-  off_new w (Assist n x) s before = λ off. absurd (let e = ap (λ (d : Due). is_mark d.0.phase) (assists_at shapes p made found w n x) in let on = s.0 in cc)
+  off_new w (Assist n x) s before = λ off. absurd (let e = ap (λ (d : Due). is_mark d.0.phase) (assists_at l shapes p made found w n x) in let on = s.0 in cc)
   off_new w (Search waited y) s before = off_plainly (with_stage w (Search waited y)) refl (λ a. a) before
   off_new w (Wait x) s before = off_plainly (with_stage w (Wait x)) refl (λ a. a) before
   off_new w (Place y) s before = off_plainly (with_stage w (Place y)) refl (λ a. a) before
@@ -178,23 +178,23 @@ module _ (shapes : List Shape) (p : Polling) (made : List ℕ) (found : ℕ) whe
   off_at (task.End g) s busy before = off_plainly (task.End g) busy (λ a. a) before
   off_at (task.Leave x) s busy before = off_plainly (task.Leave x) busy (λ a. a) before
 
-begun : (shapes : List Shape) (l : Layout) (m : Processor) (o : Op) → is_busy_at m.task ≡ false → due_of ((processor_kind shapes l).begins m o) ≡ due_of m
-begun shapes l m o rests = grind arith
+begun : (shapes : List Shape) (z : Layout) (m : Processor) (o : Op) → is_busy_at m.task ≡ false → due_of ((processor_kind shapes z).begins m o) ≡ due_of m
+begun shapes z m o rests = grind arith
 
-other_cycle_step : (p : Polling) (r : resume.Resuming) (found : ℕ) (out : Resumed) → p.stage ≡ poll_stage.Resuming r → resume.gives r found ≡ Some out → out.another_cycle ≡ true → (poll.goes p found).local.owed ≡ 0
-other_cycle_step p r found out is gives another = grind arith
+other_cycle_step : (l : Layout) (p : Polling) (r : resume.Resuming) (found : ℕ) (out : Resumed) → p.stage ≡ poll_stage.Resuming r → resume.gives r found ≡ Some out → out.another_cycle ≡ true → (poll.goes l p found).local.owed ≡ 0
+other_cycle_step l p r found out is gives another = grind arith
 
-assists_so : (shapes : List Shape) (m : Processor) (found : ℕ) (w : Wanted) (n : Name) (x : Assisting) (t : Task) → t ≡ assists w n x → owed_of (takes_at shapes m t found) ≡ (assist.goes m.poll.layout x found).owed
-assists_so shapes m found w n x t e = grind arith
+assists_so : (l : Layout) (shapes : List Shape) (m : Processor) (found : ℕ) (w : Wanted) (n : Name) (x : Assisting) (t : Task) → t ≡ assists w n x → owed_of (takes_at l shapes m t found) ≡ (assist.goes l x found).owed
+assists_so l shapes m found w n x t e = grind arith
 
 pub debts_are_dropped : DebtsAreDropped
 debts_are_dropped = record {
-  at_first = λ l seat. refl;
-  begins = λ shapes l m o rests. ap (λ (d : Due). d.1) (begun shapes l m o rests);
-  off_begins = λ shapes l m o rests before. off_by (same (begun shapes l m o rests)) before;
-  off = λ shapes m found s busy before. off_at shapes m.poll m.made found m.task s.assist busy before;
+  at_first = λ seat. refl;
+  begins = λ shapes z m o rests. ap (λ (d : Due). d.1) (begun shapes z m o rests);
+  off_begins = λ shapes z m o rests before. off_by (same (begun shapes z m o rests)) before;
+  off = λ l shapes m found s busy before. off_at l shapes m.poll m.made found m.task s.assist busy before;
   other_cycle = other_cycle_owes;
   other_cycle_step = other_cycle_step;
-  assists_so = λ shapes m found w n x is. assists_so shapes m found w n x m.task is;
-  stays = λ shapes m found s busy rests. stays_by (drops_at shapes m.poll m.made found m.task busy rests);
+  assists_so = λ l shapes m found w n x is. assists_so l shapes m found w n x m.task is;
+  stays = λ l shapes m found s busy rests. stays_by (drops_at l shapes m.poll m.made found m.task busy rests);
 }

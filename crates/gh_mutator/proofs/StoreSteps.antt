@@ -55,28 +55,28 @@ pub step_sound : ClassLaws → (l : Layout) (own : Local) (held : Value) (x : St
 step_sound laws l own held x found h = grind (arith, step_sound_at)
 
 -- and there is room for its write, which is sound and goes on
-module _ (k : (l : Layout) → IsRoutine l (write.listing l)) (p : Polling) (held : Value) (x : Store) (near : IsNear p.layout.pages held) (fits : IsHeld p.layout p.local.held) where
+module _ (l : Layout) (k : (z : Layout) → IsRoutine z (write.listing z)) (p : Polling) (held : Value) (x : Store) (near : IsNear l.pages held) (fits : IsHeld l p.local.held) where
   abbrev RoomThen : Option Held → Store → Type 0
-  RoomThen h y = StoreRoom (with_held p h) y.stage
+  RoomThen h y = StoreRoom l (with_held p h) y.stage
 
-  room_at : (s : StoreStage) (found : ℕ) → found < 2 ^ 64 → StoreRoom p s → GoesTo (RoomThen (held_behind p.layout p.local.held s found)) (step_at p.layout p.local held x s found).then
+  room_at : (s : StoreStage) (found : ℕ) → found < 2 ^ 64 → StoreRoom l p s → GoesTo (RoomThen (held_behind l p.local.held s found)) (step_at l p.local held x s found).then
   room_at NilBase found few h = tt
   room_at Page found few h = go (has_field x.k found) where
     go : (b : Bool) → GoesTo (RoomThen p.local.held) (cond b (goes_on (at_stage x Bits)) (ends (answer.Fault fault.Field))).then
     go true = h
     go false = tt
-  room_at Bits found few h = go (is_pointer_by p.layout (x.at + x.k) found) where
-    go : (pointer : Bool) → GoesTo (RoomThen p.local.held) (by_kind p.layout p.local held x pointer).then
+  room_at Bits found few h = go (is_pointer_by l (x.at + x.k) found) where
+    go : (pointer : Bool) → GoesTo (RoomThen p.local.held) (by_kind l p.local held x pointer).then
     go pointer = grind (arith, write_opens)
   room_at Field found few h = tt
-  room_at (Writing w) found few h = by (write.gives p.layout w found) refl where
-    by : (out : Option (Unit {0})) → write.gives p.layout w found ≡ out → GoesTo (RoomThen (held_then p.layout w found)) (after_write x (write.goes p.layout w found) out).then
-    by None e = record { sound = (k p.layout).keeps w found few h.sound h.busy; busy = ap is_none e }
+  room_at (Writing w) found few h = by (write.gives l w found) refl where
+    by : (out : Option (Unit {0})) → write.gives l w found ≡ out → GoesTo (RoomThen (held_then l w found)) (after_write x (write.goes l w found) out).then
+    by None e = record { sound = (k l).keeps w found few h.sound h.busy; busy = ap is_none e }
     by (Some y) e = tt
 
-pub step_room : ((l : Layout) → IsRoutine l (write.listing l)) → (p : Polling) (held : Value) (x : Store) (found : ℕ) → found < 2 ^ 64 → IsNear p.layout.pages held → IsHeld p.layout p.local.held → StoreRoom p x.stage →
-    GoesTo (λ (y : Store). StoreRoom (with_held p (held_behind p.layout p.local.held x.stage found)) y.stage) (step p.layout p.local held x found).then
-step_room k p held x found few near fits h = grind (arith, room_at)
+pub step_room : (l : Layout) → ((z : Layout) → IsRoutine z (write.listing z)) → (p : Polling) (held : Value) (x : Store) (found : ℕ) → found < 2 ^ 64 → IsNear l.pages held → IsHeld l p.local.held → StoreRoom l p x.stage →
+    GoesTo (λ (y : Store). StoreRoom l (with_held p (held_behind l p.local.held x.stage found)) y.stage) (step l p.local held x found).then
+step_room l k p held x found few near fits h = grind (arith, room_at)
 
 -- behind the bitmap word, by whether marking is on
 abbrev pub then_left : (marking : Bool) → ℕ

@@ -27,17 +27,17 @@ search_then : (shapes : List Shape) (m : Processor) (w : Wanted) (waited : Bool)
 search_then shapes m w waited q out e = grind arith
 
 -- While it sweeps.
-on_at : ((l : Layout) → RunsSweeps (search.asks l) (search.goes l) (λ (q : Seeking). l) search.sweep_generation search.sweep_in) → (shapes : List Shape) (m : Processor) (sw : Sweeping) (q : Task) → sweep_at q ≡ Some sw → is_busy sw.stage ≡ true → (asks_at m q ≡ sweep.asks m.poll.layout sw) × ((found : ℕ) → sweep_in (takes_at shapes m q found) ≡ on_from sw found)
-on_at k shapes m sw (task.New x) is busy = by x.stage is where
-  by : (n : NewStage) → sweep_new n ≡ Some sw → (new.asks_at m n ≡ sweep.asks m.poll.layout sw) × ((found : ℕ) → sweep_in (new.takes_at shapes m x.wanted n found) ≡ on_from sw found)
+on_at : (l : Layout) → ((z : Layout) → RunsSweeps (search.asks z) (search.goes z) (λ (q : Seeking). z) search.sweep_generation search.sweep_in) → (shapes : List Shape) (m : Processor) (sw : Sweeping) (q : Task) → sweep_at q ≡ Some sw → is_busy sw.stage ≡ true → (asks_at l m q ≡ sweep.asks l sw) × ((found : ℕ) → sweep_in (takes_at l shapes m q found) ≡ on_from sw found)
+on_at l k shapes m sw (task.New x) is busy = by x.stage is where
+  by : (n : NewStage) → sweep_new n ≡ Some sw → (new.asks_at l m n ≡ sweep.asks l sw) × ((found : ℕ) → sweep_in (new.takes_at l shapes m x.wanted n found) ≡ on_from sw found)
   by (Search waited y) is =
-      let o = (k m.poll.layout).on y sw is busy in
-      (o.asks_so, λ found. search_then shapes (cache_span m x.wanted.sought (search.goes m.poll.layout y found).find.cached) x.wanted waited (search.goes m.poll.layout y found) (search.gives m.poll.layout y found) refl ∙ o.goes_so found)
+      let o = (k l).on y sw is busy in
+      (o.asks_so, λ found. search_then shapes (cache_span m x.wanted.sought (search.goes l y found).find.cached) x.wanted waited (search.goes l y found) (search.gives l y found) refl ∙ o.goes_so found)
   by (Wait y) is = absurd (cc)
   by (Place y) is = absurd (cc)
   by (Want n) is = absurd (cc)
   by (Assist n y) is = absurd (cc)
-on_at k shapes m sw _ is busy = absurd (cc)
+on_at l k shapes m sw _ is busy = absurd (cc)
 
 -- A step that is none of a search leads to none.
 
@@ -53,25 +53,25 @@ poll_none m p out = grind arith
 leave_none : (m : Processor) (x : Leaving) (out : Option (Unit {0})) → sweep_in (after_leave m x out) ≡ None
 leave_none m x out = grind arith
 
-module _ (shapes : List Shape) (m : Processor) (found : ℕ) where
-  others_at : (q : Task) → m.task ≡ q → sweep_at q ≡ None → (IsSearching q → ⊥) → sweep_in (takes_at shapes m q found) ≡ None
+module _ (l : Layout) (shapes : List Shape) (m : Processor) (found : ℕ) where
+  others_at : (q : Task) → m.task ≡ q → sweep_at q ≡ None → (IsSearching q → ⊥) → sweep_in (takes_at l shapes m q found) ≡ None
   others_at task.Idle is none not = ap sweep_at is
   others_at task.Left is none not = ap sweep_at is
-  others_at (task.Load x) is none not = follows_none task.Load (λ s. refl) (load.step m.poll.layout x found).then
-  others_at (task.Store x) is none not = follows_none task.Store (λ s. refl) (store.step m.poll.layout m.poll.local (register_of m x.g x.v) x found).then
-  others_at (task.Global x) is none not = follows_none task.Global (λ s. refl) (global.step m.poll.layout (register_of m x.g x.r) x found).then
+  others_at (task.Load x) is none not = follows_none task.Load (λ s. refl) (load.step l x found).then
+  others_at (task.Store x) is none not = follows_none task.Store (λ s. refl) (store.step l m.poll.local (register_of m x.g x.v) x found).then
+  others_at (task.Global x) is none not = follows_none task.Global (λ s. refl) (global.step l (register_of m x.g x.r) x found).then
   others_at (task.Register x) is none not = follows_none task.Register (λ s. refl) (register.step (register_of m x.g (register.read_of x)) x).then
   others_at (task.New x) is none not = by x.stage not where
-    by : (n : NewStage) → (SearchesAt n → ⊥) → sweep_in (new.takes_at shapes m x.wanted n found) ≡ None
+    by : (n : NewStage) → (SearchesAt n → ⊥) → sweep_in (new.takes_at l shapes m x.wanted n found) ≡ None
     by n not = grind arith
-  others_at (task.Gc g x) is none not = gc_none m g (wait.goes (wait.waiting x m.poll) found) (wait.gives (wait.waiting x m.poll) found)
-  others_at task.Poll is none not = poll_none m (poll.goes m.poll found) (poll.gives m.poll found)
+  others_at (task.Gc g x) is none not = gc_none m g (wait.goes l (wait.waiting x m.poll) found) (wait.gives l (wait.waiting x m.poll) found)
+  others_at task.Poll is none not = poll_none m (poll.goes l m.poll found) (poll.gives l m.poll found)
   others_at (task.End g) is none not = refl
   others_at (task.Leave x) is none not = leave_none m (leave.goes x found) (leave.gives x found)
 
 -- And where it begins an operation it begins none.
-begun_none : (shapes : List Shape) (l : Layout) (m : Processor) (o : Op) → sweep_in m ≡ None → sweep_in ((processor_kind shapes l).begins m o) ≡ None
-begun_none shapes l m o none = by (has_left_at m.task) where
+begun_none : (shapes : List Shape) (z : Layout) (m : Processor) (o : Op) → sweep_in m ≡ None → sweep_in ((processor_kind shapes z).begins m o) ≡ None
+begun_none shapes z m o none = by (has_left_at m.task) where
   op_none : (o : Op) → sweep_in (begins shapes m o) ≡ None
   op_none (op.New g d t) = seeking_none m (wanted_of shapes g d t)
   op_none _ = refl
@@ -80,11 +80,11 @@ begun_none shapes l m o none = by (has_left_at m.task) where
   by true = none
   by false = op_none o
 
-pub sweeps_run_on : ((l : Layout) → RunsSweeps (search.asks l) (search.goes l) (λ (q : Seeking). l) search.sweep_generation search.sweep_in) → SweepsAreRunOn
+pub sweeps_run_on : ((z : Layout) → RunsSweeps (search.asks z) (search.goes z) (λ (q : Seeking). z) search.sweep_generation search.sweep_in) → SweepsAreRunOn
 sweeps_run_on k = record {
-  at_first = λ l seat. refl;
+  at_first = λ seat. refl;
   begun = begun_none;
-  on = λ shapes m sw is busy. let o = on_at k shapes m sw m.task is busy in record { asks_so = o.0; goes_so = o.1 };
-  searches = λ shapes m w waited q found. search_then shapes (cache_span m w.sought (search.goes m.poll.layout q found).find.cached) w waited (search.goes m.poll.layout q found) (search.gives m.poll.layout q found) refl;
-  others = λ shapes m found none not. others_at shapes m found m.task refl none not;
+  on = λ l shapes m sw is busy. let o = on_at l k shapes m sw m.task is busy in record { asks_so = o.0; goes_so = o.1 };
+  searches = λ l shapes m w waited q found. search_then shapes (cache_span m w.sought (search.goes l q found).find.cached) w waited (search.goes l q found) (search.gives l q found) refl;
+  others = λ l shapes m found none not. others_at l shapes m found m.task refl none not;
 }

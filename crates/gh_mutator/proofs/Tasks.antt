@@ -48,8 +48,8 @@ answered_global t = grind arith
 held_direct : (l : Layout) (held : Option Held) (stage : DirectStage) (found : ℕ) → held_behind l held (stage_of stage) found ≡ held
 held_direct l held stage found = grind arith
 
-pub direct_goes : (m : Processor) (g d found : ℕ) (stage : DirectStage) (s : Step Direct) → applied direct m g d s ≡ applied task.Global (keeping m (held_behind m.poll.layout m.poll.local.held (stage_of stage) found)) g d (as_global s)
-direct_goes m g d found stage s = applied_global m g d s ∙ ap (λ (h : Option Held). applied task.Global (keeping m h) g d (as_global s)) (sym (held_direct m.poll.layout m.poll.local.held stage found))
+pub direct_goes : (l : Layout) (m : Processor) (g d found : ℕ) (stage : DirectStage) (s : Step Direct) → applied direct m g d s ≡ applied task.Global (keeping m (held_behind l m.poll.local.held (stage_of stage) found)) g d (as_global s)
+direct_goes l m g d found stage s = applied_global m g d s ∙ ap (λ (h : Option Held). applied task.Global (keeping m h) g d (as_global s)) (sym (held_direct l m.poll.local.held stage found))
 
 -- the task is this one
 pub direct_is : (m : Processor) (a : TaskAt) (k : LargeTask) (x : Direct) → task_kept a k ≡ m.task → a ≡ at.Direct x → m.task ≡ direct x
@@ -59,11 +59,11 @@ direct_is m a k x same is = sym same ∙ ap (λ (b : TaskAt). task_kept b k) is
 point_at : (b : Bool) (x : Global) (stage : DirectStage) → is_point (acting b (op_in x (stage_of stage)) false) ≡ b
 point_at b x stage = grind arith
 
-pub point_direct : (m : Processor) (x : Direct) (found : ℕ) → is_point (acts_at m (direct x) found) ≡ (step m.poll.layout (register_of m x.g x.r) (global_of x) found).acts
-point_direct m x found = point_at (step m.poll.layout (register_of m x.g x.r) (global_of x) found).acts (global_of x) x.stage
+pub point_direct : (l : Layout) (m : Processor) (x : Direct) (found : ℕ) → is_point (acts_at l m (direct x) found) ≡ (step l (register_of m x.g x.r) (global_of x) found).acts
+point_direct l m x found = point_at (step l (register_of m x.g x.r) (global_of x) found).acts (global_of x) x.stage
 
 -- The search that it runs, as it is kept, and where it has gone on.
-module _ (shapes : List Shape) (m : Processor) (a : TaskAt) (n : New) (waited : Bool) (x : Seeking) (s : Sound shapes m) (large_at : a ≡ at.Large) (task_is : m.task ≡ task_kept a (large.New n)) (is : n.stage ≡ Search waited x) where
+module _ (l : Layout) (shapes : List Shape) (m : Processor) (a : TaskAt) (n : New) (waited : Bool) (x : Seeking) (s : Sound l shapes m) (large_at : a ≡ at.Large) (task_is : m.task ≡ task_kept a (large.New n)) (is : n.stage ≡ Search waited x) where
   new_at : m.task ≡ task.New n
   new_at = task_is ∙ ap (λ (b : TaskAt). task_kept b (large.New n)) large_at
 
@@ -73,14 +73,14 @@ module _ (shapes : List Shape) (m : Processor) (a : TaskAt) (n : New) (waited : 
   abbrev kept_at : TaskAt → Seeking → Processor
   kept_at b y = at_task m (task_kept b (large.New (record { wanted = n.wanted; stage = Search waited y })))
 
-  pub runs_search : SoundSearch m.poll n.wanted x
-  runs_search = (subst (λ (t : Task). SoundTask shapes m.poll m.made t) on s.task).1
+  pub runs_search : SoundSearch l m.poll n.wanted x
+  runs_search = (subst (λ (t : Task). SoundTask l shapes m.poll m.made t) on s.task).1
 
-  pub searches_kept : (y : Seeking) (found : ℕ) → y ≡ search.goes m.poll.layout x found → search.gives m.poll.layout x found ≡ None → y.find.cached ≡ x.find.cached → kept_at a y ≡ takes shapes m found
+  pub searches_kept : (y : Seeking) (found : ℕ) → y ≡ search.goes l x found → search.gives l x found ≡ None → y.find.cached ≡ x.find.cached → kept_at a y ≡ takes l shapes m found
   searches_kept y found goes none same =
       ap (λ (b : TaskAt). kept_at b y) large_at
       ∙ ap (λ (z : Seeking). at_task m (searches n.wanted waited z)) goes
-      ∙ searches_on shapes m n.wanted waited x found s on none (ap (λ (z : Seeking). z.find.cached) (sym goes) ∙ same)
+      ∙ searches_on l shapes m n.wanted waited x found s on none (ap (λ (z : Seeking). z.find.cached) (sym goes) ∙ same)
 
-  pub kept_sound : ((l : Layout) → IsRoutine l (search.listing l)) → (went : Bool) (y : Seeking) (found : ℕ) → found < 2 ^ 64 → (IsTrue went → y ≡ search.goes m.poll.layout x found) → (IsTrue went → search.gives m.poll.layout x found ≡ None) → y.find.cached ≡ x.find.cached → (went ≡ false → y ≡ x) → Sound shapes (kept_at a y)
-  kept_sound q went y found few goes gives same still = subst (λ (b : TaskAt). Sound shapes (kept_at b y)) (sym large_at) (going_on_sound shapes q m n waited went x y found few s new_at is goes gives same still)
+  pub kept_sound : ((z : Layout) → IsRoutine z (search.listing z)) → (went : Bool) (y : Seeking) (found : ℕ) → found < 2 ^ 64 → (IsTrue went → y ≡ search.goes l x found) → (IsTrue went → search.gives l x found ≡ None) → y.find.cached ≡ x.find.cached → (went ≡ false → y ≡ x) → Sound l shapes (kept_at a y)
+  kept_sound q went y found few goes gives same still = subst (λ (b : TaskAt). Sound l shapes (kept_at b y)) (sym large_at) (going_on_sound l shapes q m n waited went x y found few s new_at is goes gives same still)

@@ -4,7 +4,7 @@ use Rattle.gh_alloc.specs.declared.place.PlaceStage.TheVariants as making
 use Rattle.gh_alloc.specs.Trigger as trigger
 use Rattle.gh_mutator.specs.declared.task.Task.TheVariants as task
 use Rattle.gh_mutator.specs.Listing.{takes}
-use Rattle.gh_mutator.specs.Vocabulary.{NewStage, Place, Processor, Shape, Task, Want}
+use Rattle.gh_mutator.specs.Vocabulary.{Layout, NewStage, Place, Processor, Shape, Task, Want}
 
 -- it has made an object, and seen that the heap reached the trigger
 abbrev pub SawReachedAt : NewStage → Type 0
@@ -42,7 +42,7 @@ Compares (task.New x) bytes = ComparesAt bytes x.stage
 Compares _ bytes = ⊥
 
 pub record ProcessorsAskAtTheTrigger : Type 0 where
-  pub saw : (shapes : List Shape) (m : Processor) (found : ℕ) → SawReached (takes shapes m found).task → (bytes : ℕ) × SeesReached m.task found bytes
-  pub sees : (shapes : List Shape) (m : Processor) (found bytes : ℕ) → SeesReached m.task found bytes → SawReached (takes shapes m found).task
+  pub saw : (l : Layout) (shapes : List Shape) (m : Processor) (found : ℕ) → SawReached (takes l shapes m found).task → (bytes : ℕ) × SeesReached m.task found bytes
+  pub sees : (l : Layout) (shapes : List Shape) (m : Processor) (found bytes : ℕ) → SeesReached m.task found bytes → SawReached (takes l shapes m found).task
   -- the bytes that it compares are those of the heap with the object's, as it found them where it added those, while marking was off
-  pub compares : (shapes : List Shape) (m : Processor) (found bytes : ℕ) → Compares (takes shapes m found).task bytes → CountsUpTo m.task found bytes
+  pub compares : (l : Layout) (shapes : List Shape) (m : Processor) (found bytes : ℕ) → Compares (takes l shapes m found).task bytes → CountsUpTo m.task found bytes

@@ -15,10 +15,10 @@ use Rattle.gh_mutator.specs.Serving.{has_left_at}
 -- the processor as a kind of actor; one that has left begins nothing
 abbrev pub processor_kind : List Shape → Layout → Kind Processor Op
 processor_kind shapes l = record {
-  start = λ seat. opening_processor l seat;
+  start = λ seat. opening_processor seat;
   begins = λ m o. if has_left_at m.task then m else begins shapes m o;
-  asks = asks;
-  takes = takes shapes;
+  asks = asks l;
+  takes = takes l shapes;
   busy = λ m. is_busy_at m.task;
 }
 
@@ -44,13 +44,13 @@ given_at task.Poll given = None
 given_at (task.Leave x) given = None
 given_at _ given = given
 
-abbrev pub deeds : List Shape → Deeds Processor Op Act Answer
-deeds shapes = record {
+abbrev pub deeds : Layout → List Shape → Deeds Processor Op Act Answer
+deeds l shapes = record {
   has_point = has_point;
   unacted = λ m. pointed (op_at m.task);
-  acts = λ m found. point_of (acts m found);
+  acts = λ m found. point_of (acts l m found);
   of = λ x. x.op;
-  gives = λ m found. given_at m.task (gives m found);
+  gives = λ m found. given_at m.task (gives l m found);
 }
 
 -- what an operation is answered where it acts
@@ -71,15 +71,15 @@ meaning shapes = record {
 
 -- Whatever the processor finds, each operation that has a point acts once, before it ends.
 abbrev pub ProcessorsDeedsFit : Type 0
-ProcessorsDeedsFit = (shapes : List Shape) (l : Layout) → DeedsFit (processor_kind shapes l) (deeds shapes)
+ProcessorsDeedsFit = (shapes : List Shape) (l : Layout) → DeedsFit (processor_kind shapes l) (deeds l shapes)
 
 -- The heap that never frees is changed by points alone.
 pub record IsChangedByPoints (shapes : List Shape) (l : Layout) : Type 0 where
   -- an act that is no point leaves it as it is
   pub alone : (e : Ever) (x : Option Act) → acted shapes e (point_of x) ≡ acted shapes e x
   -- so a list leaves in it what all acts leave
-  pub follows : (es : List (Entry Op)) (e : Entry Op) → model_after (processor_kind shapes l) (deeds shapes) (meaning shapes) (e ∷ es)
-      ≡ acted shapes (model_after (processor_kind shapes l) (deeds shapes) (meaning shapes) es) (acts (before_step (processor_kind shapes l) (deeds shapes) es e) e.found)
+  pub follows : (es : List (Entry Op)) (e : Entry Op) → model_after (processor_kind shapes l) (deeds l shapes) (meaning shapes) (e ∷ es)
+      ≡ acted shapes (model_after (processor_kind shapes l) (deeds l shapes) (meaning shapes) es) (acts l (before_step (processor_kind shapes l) (deeds l shapes) es e) e.found)
 
 abbrev pub OnlyPointsChange : Type 0
 OnlyPointsChange = (shapes : List Shape) (l : Layout) → IsChangedByPoints shapes l

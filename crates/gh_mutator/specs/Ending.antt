@@ -1,5 +1,6 @@
 -- How many steps an operation takes that neither makes an object nor polls.
 use Rattle.std.specs.Prelude.{◌≡◌, ℕ, Bool, true, false, if◌then◌else◌}
+use Rattle.gh_base.specs.declared.layout.Layout.{Layout}
 use Rattle.gh_base.specs.declared.operation.Op.{Op}
 use Rattle.gh_base.specs.declared.operation.Op.TheVariants as op
 use Rattle.gh_poll.specs.Local.{marking_at}
@@ -24,4 +25,4 @@ most_steps marking _ = 1
 
 -- whatever the steps find
 abbrev pub OperationsEnd : Type 0
-OperationsEnd = (m : Mutating) (o : Op) (found : ℕ → ℕ) → may_wait o ≡ false → EndsWithin listing (most_steps (marking_at m.processor.poll) o) (begins m o) found
+OperationsEnd = (l : Layout) (m : Mutating) (o : Op) (found : ℕ → ℕ) → may_wait o ≡ false → EndsWithin (listing l) (most_steps (marking_at m.processor.poll) o) (begins m o) found

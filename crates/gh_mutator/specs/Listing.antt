@@ -53,21 +53,21 @@ begins shapes m o = at_task (at_poll m (begun_with m.poll o)) (begins_at shapes 
 
 -- What is asked for.
 
-abbrev pub asks_at : Processor → Task → Ask
-asks_at m task.Idle = ask.Load cell.Touch
-asks_at m task.Left = ask.Load cell.Touch
-asks_at m (task.Load x) = load.asks m.poll.layout x
-asks_at m (task.Store x) = store.asks m.poll.layout (register_of m x.g x.v) x
-asks_at m (task.Global x) = global.asks m.poll.layout (register_of m x.g x.r) x
-asks_at m (task.Register x) = register.asks x
-asks_at m (task.New x) = new.asks_at m x.stage
-asks_at m (task.Gc g x) = wait.asks (wait.waiting x m.poll)
-asks_at m task.Poll = poll.asks m.poll
-asks_at m (task.End g) = ask.Store (cell.Scanned g) END
-asks_at m (task.Leave x) = leave.asks x
+abbrev pub asks_at : Layout → Processor → Task → Ask
+asks_at l m task.Idle = ask.Load cell.Touch
+asks_at l m task.Left = ask.Load cell.Touch
+asks_at l m (task.Load x) = load.asks l x
+asks_at l m (task.Store x) = store.asks l (register_of m x.g x.v) x
+asks_at l m (task.Global x) = global.asks l (register_of m x.g x.r) x
+asks_at l m (task.Register x) = register.asks x
+asks_at l m (task.New x) = new.asks_at l m x.stage
+asks_at l m (task.Gc g x) = wait.asks (wait.waiting x m.poll)
+asks_at l m task.Poll = poll.asks m.poll
+asks_at l m (task.End g) = ask.Store (cell.Scanned g) END
+asks_at l m (task.Leave x) = leave.asks x
 
-abbrev pub asks : Processor → Ask
-asks m = asks_at m m.task
+abbrev pub asks : Layout → Processor → Ask
+asks l m = asks_at l m m.task
 
 -- Where it goes by what was found.
 
@@ -93,31 +93,41 @@ abbrev pub after_leave : Processor → Leaving → Option (Unit {0}) → Process
 after_leave m x None = at_task m (task.Leave x)
 after_leave m x (Some y) = at_task m task.Left
 
-abbrev pub takes_at : List Shape → Processor → Task → (found : ℕ) → Processor
-takes_at shapes m task.Idle found = m
-takes_at shapes m task.Left found = m
-takes_at shapes m (task.Load x) found = applied task.Load m x.g x.d (load.step m.poll.layout x found)
-takes_at shapes m (task.Store x) found = applied task.Store (keeping m (store.held_behind m.poll.layout m.poll.local.held x.stage found)) x.g x.v (store.step m.poll.layout m.poll.local (register_of m x.g x.v) x found)
-takes_at shapes m (task.Global x) found = applied task.Global (keeping m (global.held_behind m.poll.layout m.poll.local.held x.stage found)) x.g x.r (global.step m.poll.layout (register_of m x.g x.r) x found)
-takes_at shapes m (task.Register x) found = applied task.Register m x.g x.d (register.step (register_of m x.g (register.read_of x)) x)
-takes_at shapes m (task.New x) found = new.takes_at shapes m x.wanted x.stage found
-takes_at shapes m (task.Gc g x) found = after_gc m g (wait.goes (wait.waiting x m.poll) found) (wait.gives (wait.waiting x m.poll) found)
-takes_at shapes m task.Poll found = after_poll m (poll.goes m.poll found) (poll.gives m.poll found)
-takes_at shapes m (task.End g) found = at_task (at_poll m (with_ended m.poll g)) task.Idle
-takes_at shapes m (task.Leave x) found = after_leave m (leave.goes x found) (leave.gives x found)
+abbrev pub takes_at : Layout → List Shape → Processor → Task → (found : ℕ) → Processor
+takes_at l shapes m task.Idle found = m
+takes_at l shapes m task.Left found = m
+takes_at l shapes m (task.Load x) found = applied task.Load m x.g x.d (load.step l x found)
+takes_at l shapes m (task.Store x) found = applied task.Store (keeping m (store.held_behind l m.poll.local.held x.stage found)) x.g x.v (store.step l m.poll.local (register_of m x.g x.v) x found)
+takes_at l shapes m (task.Global x) found = applied task.Global (keeping m (global.held_behind l m.poll.local.held x.stage found)) x.g x.r (global.step l (register_of m x.g x.r) x found)
+takes_at l shapes m (task.Register x) found = applied task.Register m x.g x.d (register.step (register_of m x.g (register.read_of x)) x)
+takes_at l shapes m (task.New x) found = new.takes_at l shapes m x.wanted x.stage found
+takes_at l shapes m (task.Gc g x) found = after_gc m g (wait.goes l (wait.waiting x m.poll) found) (wait.gives l (wait.waiting x m.poll) found)
+takes_at l shapes m task.Poll found = after_poll m (poll.goes l m.poll found) (poll.gives l m.poll found)
+takes_at l shapes m (task.End g) found = at_task (at_poll m (with_ended m.poll g)) task.Idle
+takes_at l shapes m (task.Leave x) found = after_leave m (leave.goes x found) (leave.gives x found)
 
-abbrev pub takes : List Shape → Processor → (found : ℕ) → Processor
-takes shapes m found = takes_at shapes m m.task found
+abbrev pub takes : Layout → List Shape → Processor → (found : ℕ) → Processor
+takes l shapes m found = takes_at l shapes m m.task found
 
 -- It makes an object, and searches for its slot.
 abbrev pub is_searching : Task → Bool
 is_searching (task.New x) = new.searches_at x.stage
 is_searching _ = false
 
+-- It waits in a `gc`.
+abbrev pub is_waiting : Task → Bool
+is_waiting (task.Gc g x) = true
+is_waiting _ = false
+
 -- By the word found the search for its slot goes on in a span, or to a further page.
 abbrev pub search_goes_on : Layout → Task → (found : ℕ) → Bool
 search_goes_on l (task.New x) found = new.goes_further_at l x.stage found
 search_goes_on l _ found = false
+
+-- It does, by a step that neither makes it, nor gives a span back, nor is its last.
+abbrev pub is_made_further : Task → Bool
+is_made_further (task.New x) = new.is_made_further_at x.stage
+is_made_further _ = false
 
 -- What is answered to the operation that ends with the step, if one does.
 
@@ -126,21 +136,21 @@ abbrev pub once_ended : Option (Unit {0}) → Answer → Option Answer
 once_ended None a = None
 once_ended (Some y) a = Some a
 
-abbrev pub gives_at : Processor → Task → (found : ℕ) → Option Answer
-gives_at m task.Idle found = None
-gives_at m task.Left found = None
-gives_at m (task.Load x) found = answered (load.step m.poll.layout x found).then
-gives_at m (task.Store x) found = answered (store.step m.poll.layout m.poll.local (register_of m x.g x.v) x found).then
-gives_at m (task.Global x) found = answered (global.step m.poll.layout (register_of m x.g x.r) x found).then
-gives_at m (task.Register x) found = answered (register.step (register_of m x.g (register.read_of x)) x).then
-gives_at m (task.New x) found = new.gives_at m.poll.layout (marking_at m.poll) x.stage found
-gives_at m (task.Gc g x) found = once_ended (wait.gives (wait.waiting x m.poll) found) answer.Swept
-gives_at m task.Poll found = once_ended (poll.gives m.poll found) answer.Done
-gives_at m (task.End g) found = Some answer.Done
-gives_at m (task.Leave x) found = once_ended (leave.gives x found) answer.Done
+abbrev pub gives_at : Layout → Processor → Task → (found : ℕ) → Option Answer
+gives_at l m task.Idle found = None
+gives_at l m task.Left found = None
+gives_at l m (task.Load x) found = answered (load.step l x found).then
+gives_at l m (task.Store x) found = answered (store.step l m.poll.local (register_of m x.g x.v) x found).then
+gives_at l m (task.Global x) found = answered (global.step l (register_of m x.g x.r) x found).then
+gives_at l m (task.Register x) found = answered (register.step (register_of m x.g (register.read_of x)) x).then
+gives_at l m (task.New x) found = new.gives_at l (marking_at m.poll) x.stage found
+gives_at l m (task.Gc g x) found = once_ended (wait.gives l (wait.waiting x m.poll) found) answer.Swept
+gives_at l m task.Poll found = once_ended (poll.gives l m.poll found) answer.Done
+gives_at l m (task.End g) found = Some answer.Done
+gives_at l m (task.Leave x) found = once_ended (leave.gives x found) answer.Done
 
-abbrev pub gives : Processor → (found : ℕ) → Option Answer
-gives m found = gives_at m m.task found
+abbrev pub gives : Layout → Processor → (found : ℕ) → Option Answer
+gives l m found = gives_at l m m.task found
 
 -- Where it acts: the operation whose point the step is, and whether it found no room.
 
@@ -152,21 +162,21 @@ abbrev pub acting : Bool → Op → Bool → Option Act
 acting true o full = Some (record { op = o; full = full })
 acting false o full = None
 
-abbrev pub acts_at : Processor → Task → (found : ℕ) → Option Act
-acts_at m task.Idle found = None
-acts_at m task.Left found = None
-acts_at m (task.Load x) found = acting (load.step m.poll.layout x found).acts (load.op_of x) false
-acts_at m (task.Store x) found = acting (store.step m.poll.layout m.poll.local (register_of m x.g x.v) x found).acts (store.op_of x) false
-acts_at m (task.Global x) found = acting (global.step m.poll.layout (register_of m x.g x.r) x found).acts (global.op_of x) false
-acts_at m (task.Register x) found = acting (register.step (register_of m x.g (register.read_of x)) x).acts (register.op_of x) false
-acts_at m (task.New x) found = acting (new.acts_at m.poll.layout x.stage found) (new.op_of x.wanted) (new.is_full_at x.stage)
-acts_at m (task.Gc g x) found = acting (is_some (wait.gives (wait.waiting x m.poll) found)) (op.Gc g) false
-acts_at m task.Poll found = acting (is_some (poll.gives m.poll found)) op.Poll false
-acts_at m (task.End g) found = acting true (op.End g) false
-acts_at m (task.Leave x) found = acting (is_some (leave.gives x found)) op.Leave false
+abbrev pub acts_at : Layout → Processor → Task → (found : ℕ) → Option Act
+acts_at l m task.Idle found = None
+acts_at l m task.Left found = None
+acts_at l m (task.Load x) found = acting (load.step l x found).acts (load.op_of x) false
+acts_at l m (task.Store x) found = acting (store.step l m.poll.local (register_of m x.g x.v) x found).acts (store.op_of x) false
+acts_at l m (task.Global x) found = acting (global.step l (register_of m x.g x.r) x found).acts (global.op_of x) false
+acts_at l m (task.Register x) found = acting (register.step (register_of m x.g (register.read_of x)) x).acts (register.op_of x) false
+acts_at l m (task.New x) found = acting (new.acts_at l x.stage found) (new.op_of x.wanted) (new.is_full_at x.stage)
+acts_at l m (task.Gc g x) found = acting (is_some (wait.gives l (wait.waiting x m.poll) found)) (op.Gc g) false
+acts_at l m task.Poll found = acting (is_some (poll.gives l m.poll found)) op.Poll false
+acts_at l m (task.End g) found = acting true (op.End g) false
+acts_at l m (task.Leave x) found = acting (is_some (leave.gives x found)) op.Leave false
 
-abbrev pub acts : Processor → (found : ℕ) → Option Act
-acts m found = acts_at m m.task found
+abbrev pub acts : Layout → Processor → (found : ℕ) → Option Act
+acts l m found = acts_at l m m.task found
 
 -- The operation of a task that has not acted yet; none: it has acted, or nothing is begun.
 abbrev pub op_at : Task → Option Op

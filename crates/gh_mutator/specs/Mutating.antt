@@ -9,8 +9,9 @@ use Rattle.gh_base.specs.declared.value.Answer.{Answer}
 use Rattle.gh_base.specs.Routines.{Listing}
 use Rattle.gh_mutator.specs.Processing.{Processor}
 use Rattle.gh_mutator.specs.Listing.{acts as acts_by, Act, asks as asks_of, begins as begins_by, gives as gives_by, is_busy_at, takes}
-use Rattle.gh_poll.specs.Local.{passes as passes_by}
-use Rattle.gh_mutator.specs.Processor.{opening_processor}
+use Rattle.gh_poll.specs.Local.{marking_at, passes as passes_by}
+use Rattle.gh_poll.specs.Registers.{is_number_value}
+use Rattle.gh_mutator.specs.Processor.{opening_processor, register_of}
 use Rattle.gh_mutator.specs.Serving.{has_left_at, statement_answer}
 
 pub record Mutating : Type 0 where
@@ -18,11 +19,8 @@ pub record Mutating : Type 0 where
   pub processor : Processor
   pub marks : ℕ
 
-abbrev pub opening : Layout → (seat : ℕ) → List Shape → Mutating
-opening l seat shapes = record { shapes = shapes; processor = opening_processor l seat; marks = 0 }
-
-abbrev pub layout : Mutating → Layout
-layout m = m.processor.poll.layout
+abbrev pub opening : (seat : ℕ) → List Shape → Mutating
+opening seat shapes = record { shapes = shapes; processor = opening_processor seat; marks = 0 }
 
 abbrev pub is_busy : Mutating → Bool
 is_busy m = is_busy_at m.processor.task
@@ -37,21 +35,22 @@ marks_after marks None = marks
 marks_after marks (Some a) = min (marks + 1) (2 ^ 64 - 1)
 
 -- the step that it asks for, what it is after the step found this, and what the operation is answered if it ends with that step
-abbrev pub asks : Mutating → Ask
-asks m = asks_of m.processor
+abbrev pub asks : Layout → Mutating → Ask
+asks l m = asks_of l m.processor
 
-abbrev pub goes : Mutating → (found : ℕ) → Mutating
-goes m found = record m { processor = takes m.shapes m.processor found; marks = marks_after m.marks (statement_answer m.processor found) }
+abbrev pub goes : Layout → Mutating → (found : ℕ) → Mutating
+goes l m found = record m { processor = takes l m.shapes m.processor found; marks = marks_after m.marks (statement_answer l m.processor found) }
 
-abbrev pub gives : Mutating → (found : ℕ) → Option Answer
-gives m found = gives_by m.processor found
+abbrev pub gives : Layout → Mutating → (found : ℕ) → Option Answer
+gives l m found = gives_by l m.processor found
 
-abbrev pub listing : Listing Mutating Answer
-listing = record { layout = layout; busy = is_busy; asks = asks; goes = goes; gives = gives }
+-- An operation is answered by its last step, and the answer is kept nowhere: so this is a listing of steps, and not of what was given.
+abbrev pub listing : Layout → Listing Mutating Answer
+listing l = record { layout = λ m. l; busy = is_busy; asks = asks l; goes = goes l; gives = gives l }
 
 -- the operation that acts by that step, if one does
-abbrev pub acts : Mutating → (found : ℕ) → Option Act
-acts m found = acts_by m.processor found
+abbrev pub acts : Layout → Mutating → (found : ℕ) → Option Act
+acts l m found = acts_by l m.processor found
 
 -- Where nothing is begun: it has not left, and a poll that it begins is ended at once by this phase word.
 abbrev pub passes : Mutating → (found : ℕ) → Bool
@@ -67,3 +66,12 @@ is_of_registers _ = false
 -- Where nothing is begun: it has not left, and the operation is such a statement.
 abbrev pub sets : Mutating → Op → Bool
 sets m o = not (has_left_at m.processor.task) && is_of_registers o
+
+-- Where nothing is begun: it has not left, and the operation is the load of a global, or the store of a pointer into one while marking is off, as it knows.
+abbrev pub is_direct_at : Processor → Op → Bool
+is_direct_at m (op.GetGlobal g d k) = not (has_left_at m.task)
+is_direct_at m (op.SetGlobal g k v) = not (has_left_at m.task) && not (marking_at m.poll) && not (is_number_value (register_of m g v))
+is_direct_at m _ = false
+
+abbrev pub is_direct : Mutating → Op → Bool
+is_direct m o = is_direct_at m.processor o

@@ -84,12 +84,12 @@ assisting p w = assist.opening p.seat p.local.held (8 * w.slot) p.local.owed p.l
 
 -- The steps.
 
-abbrev pub asks_at : Processor → NewStage → Ask
-asks_at m (Search waited s) = search.asks m.poll.layout s
-asks_at m (Wait x) = wait.asks (wait.waiting x m.poll)
-asks_at m (Place p) = place.asks m.poll.layout p
-asks_at m (Want n) = ask.Or cell.Want 1
-asks_at m (Assist n x) = assist.asks m.poll.layout x
+abbrev pub asks_at : Layout → Processor → NewStage → Ask
+asks_at l m (Search waited s) = search.asks l s
+asks_at l m (Wait x) = wait.asks (wait.waiting x m.poll)
+asks_at l m (Place p) = place.asks l p
+asks_at l m (Want n) = ask.Or cell.Want 1
+asks_at l m (Assist n x) = assist.asks l x
 
 abbrev pub searches_at : NewStage → Bool
 searches_at (Search waited s) = true
@@ -99,6 +99,11 @@ searches_at _ = false
 abbrev pub goes_further_at : Layout → NewStage → (found : ℕ) → Bool
 goes_further_at l (Search waited s) found = search.goes_further_at l s.find s.stage found
 goes_further_at l _ found = false
+
+-- it is, by a step that neither makes the object, nor gives a span back, nor is its last
+abbrev pub is_made_further_at : NewStage → Bool
+is_made_further_at (Place p) = place.goes_further p
+is_made_further_at _ = false
 
 -- the search has ended, and has found this: the object is made there; where there is no room, a cycle is waited for, and behind that the register is nil
 abbrev pub after_found : List Shape → Processor → Wanted → (waited : Bool) → Found → Processor
@@ -140,12 +145,12 @@ after_assist m w n x None = at_task m (assists w n x)
 after_assist m w n x (Some y) = at_task (at_poll m (with_payment m.poll x)) task.Idle
 
 -- the processor after the step; the cached span is what the search says
-abbrev pub takes_at : List Shape → Processor → Wanted → NewStage → (found : ℕ) → Processor
-takes_at shapes m w (Search waited s) found = after_search shapes (cache_span m w.sought (search.goes m.poll.layout s found).find.cached) w waited (search.goes m.poll.layout s found) (search.gives m.poll.layout s found)
-takes_at shapes m w (Wait x) found = after_wait m w (wait.goes (wait.waiting x m.poll) found) (wait.gives (wait.waiting x m.poll) found)
-takes_at shapes m w (Place p) found = after_place m w (place.makes_its_object p) p.at (place.goes p found)
-takes_at shapes m w (Want n) found = at_task m task.Idle
-takes_at shapes m w (Assist n x) found = after_assist m w n (assist.goes m.poll.layout x found) (assist.gives m.poll.layout x found)
+abbrev pub takes_at : Layout → List Shape → Processor → Wanted → NewStage → (found : ℕ) → Processor
+takes_at l shapes m w (Search waited s) found = after_search shapes (cache_span m w.sought (search.goes l s found).find.cached) w waited (search.goes l s found) (search.gives l s found)
+takes_at l shapes m w (Wait x) found = after_wait m w (wait.goes l (wait.waiting x m.poll) found) (wait.gives l (wait.waiting x m.poll) found)
+takes_at l shapes m w (Place p) found = after_place m w (place.makes_its_object p) p.at (place.goes p found)
+takes_at l shapes m w (Want n) found = at_task m task.Idle
+takes_at l shapes m w (Assist n x) found = after_assist m w n (assist.goes l x found) (assist.gives l x found)
 
 -- the search behind the wait has found no room
 abbrev pub refuses_behind_wait : (waited : Bool) → Option Found → Bool

@@ -12,7 +12,7 @@ use Rattle.gh_poll.specs.Barrier.{has_entries}
 use Rattle.gh_mutator.specs.Listing.{begins, is_busy_at, takes}
 use Rattle.gh_poll.specs.Poll.{goes, has_two}
 use Rattle.gh_mutator.specs.Sound.{has_room}
-use Rattle.gh_mutator.specs.Vocabulary.{Op, Polling, Processor, Shape, Task}
+use Rattle.gh_mutator.specs.Vocabulary.{Layout, Op, Polling, Processor, Shape, Task}
 
 -- the search tries for room, and what it is to take had some; what it has found has some
 abbrev pub TriesForRoom : RoomStage → Type 0
@@ -48,8 +48,8 @@ LooksForRoom _ = ⊥
 pub record PollsMakeRoom : Type 0 where
   -- it is so from the begin of the poll on, until another operation begins
   pub begins : (shapes : List Shape) (m : Processor) → HasRoomToStore (begins shapes m op.Poll)
-  pub goes_on : (shapes : List Shape) (m : Processor) (found : ℕ) → HasRoomToStore m → HasRoomToStore (takes shapes m found)
+  pub goes_on : (l : Layout) (shapes : List Shape) (m : Processor) (found : ℕ) → HasRoomToStore m → HasRoomToStore (takes l shapes m found)
   -- and then any operation may begin
   pub room : (m : Processor) (o : Op) → is_busy_at m.task ≡ false → HasRoomToStore m → has_room m o ≡ true
   -- a poll of a wait takes none: no step of it leads to the search for room
-  pub waits_take_none : (p : Polling) (found : ℕ) → p.waits ≡ true → LooksForRoom (goes p found).stage → LooksForRoom p.stage
+  pub waits_take_none : (l : Layout) (p : Polling) (found : ℕ) → p.waits ≡ true → LooksForRoom (goes l p found).stage → LooksForRoom p.stage

@@ -4,7 +4,7 @@ use Rattle.gh_mutator.specs.declared.task.Task.{Task}
 use Rattle.gh_poll.specs.Poll.{Polling}
 
 pub record Processor : Type 0 where
-  -- its layout, its seat and what it alone knows, with the poll that it is at, if it is at one
+  -- its seat and what it alone knows, with the poll that it is at, if it is at one
   pub poll : Polling
   -- how many objects each goroutine has made
   pub made : List ℕ

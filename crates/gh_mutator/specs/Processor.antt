@@ -1,7 +1,6 @@
 -- The processor's private state: what it alone knows, which is kept with its poll; the numbers of objects; and its task.
 use Rattle.std.specs.Prelude.{ℕ, Option, slice_index, replicate}
 use Rattle.gh_base.specs.declared.held.Held.{Held}
-use Rattle.gh_base.specs.declared.layout.Layout.{Layout}
 use Rattle.gh_base.specs.declared.limits.TheConstants.{MOST_GOROUTINES}
 use Rattle.gh_base.specs.declared.value.Value.{Value}
 use Rattle.gh_alloc.specs.declared.sought.CachedSpan.{CachedSpan}
@@ -46,5 +45,5 @@ abbrev pub cache_span : Processor → Sought → Option CachedSpan → Processor
 cache_span m sought cached = at_poll m (with_cached m.poll sought cached)
 
 -- the processor before its first step
-abbrev pub opening_processor : Layout → (seat : ℕ) → Processor
-opening_processor l seat = record { poll = resting l seat first_local; made = replicate MOST_GOROUTINES 0; task = Idle }
+abbrev pub opening_processor : (seat : ℕ) → Processor
+opening_processor seat = record { poll = resting seat first_local; made = replicate MOST_GOROUTINES 0; task = Idle }

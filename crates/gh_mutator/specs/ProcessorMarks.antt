@@ -78,7 +78,6 @@ module _ (z : Cycle) (a : ℕ) (s : Shared) (p : Polling) where
   TaskFacts _ = IsBetween z a s p.local
 
 pub record MarkFacts (z : Cycle) (a : ℕ) (s : Shared) (m : Processor) : Type 0 where
-  pub layout_is : m.poll.layout ≡ z.arena.layout
   pub seat_is : m.poll.seat ≡ a
   pub stacks : KnowsStacks z a s m.poll.local.stacks m.poll.local.scanned
   pub task_is : TaskFacts z a s m.poll m.task
@@ -99,7 +98,6 @@ only_polls _ = false
 pub record StandsWithNothing (z : Cycle) (a : ℕ) (s : Shared) (m : Processor) : Type 0 where
   pub stops : ℕ
   pub parked : IsParked stops (stage_of m)
-  pub layout_is : m.poll.layout ≡ z.arena.layout
   pub seat_is : m.poll.seat ≡ a
   pub no_buffer : m.poll.local.held ≡ None
   pub stacks : KnowsStacks z a s m.poll.local.stacks m.poll.local.scanned
@@ -111,7 +109,7 @@ pub record MarksByMoves : Type 0 where
   -- an idle processor begins to poll, to wait, or to leave
   pub begins : (shapes : List Shape) (z : Cycle) (a : ℕ) (s : Shared) (m : Processor) (o : Op) → m.task ≡ task.Idle → only_polls (begins shapes m o).task ≡ true → MarkFacts z a s m → MarkFacts z a s (begins shapes m o)
   pub own_step : (shapes : List Shape) (z : Cycle) (a : ℕ) (s : Shared) (m : Processor) → Good z s → KnowsObjects z s → KnowsCycle z s → only_polls m.task ≡ true → MarkFacts z a s m →
-      Steps z a s (asks m) (λ t. MarkFacts z a t (takes shapes m (s.words (cell_of (asks m)))))
+      Steps z a s (asks z.arena.layout m) (λ t. MarkFacts z a t (takes z.arena.layout shapes m (s.words (cell_of (asks z.arena.layout m)))))
   pub lasts : (z : Cycle) (a : ℕ) (s t : Shared) (m : Processor) → Others z a s t → MarkFacts z a s m → MarkFacts z a t m
   -- where a processor stands still it has nothing in hand, and so it is where the cycle ends
   pub waits : (z : Cycle) (a : ℕ) (s : Shared) (m : Processor) (stops : ℕ) → IsParked stops (stage_of m) → MarkFacts z a s m → StandsWithNothing z a s m

@@ -77,15 +77,15 @@ pub record HoldsNothing (p : Polling) (i : ℕ) : Type 0 where
 
 -- Whatever it finds, each of its steps is one of the handshake.
 pub record ProcessorInHandshake : Type 0 where
-  pub first : (l : Layout) (seat : ℕ) → party_of (opening_processor l seat) ≡ first_party seat
-  pub awake : (l : Layout) (seat : ℕ) → stage_of (opening_processor l seat) ≡ Awake
-  pub sound_first : (l : Layout) (seat : ℕ) → SoundPlace (opening_processor l seat)
+  pub first : (seat : ℕ) → party_of (opening_processor seat) ≡ first_party seat
+  pub awake : (seat : ℕ) → stage_of (opening_processor seat) ≡ Awake
+  pub sound_first : (seat : ℕ) → SoundPlace (opening_processor seat)
   pub sound_begins : (shapes : List Shape) (l : Layout) (m : Processor) (o : Op) → SoundPlace m → is_busy_at m.task ≡ false → SoundPlace ((processor_kind shapes l).begins m o)
-  pub sound_takes : (shapes : List Shape) (m : Processor) (found : ℕ) → SoundPlace m → is_busy_at m.task ≡ true → SoundPlace (takes shapes m found)
+  pub sound_takes : (l : Layout) (shapes : List Shape) (m : Processor) (found : ℕ) → SoundPlace m → is_busy_at m.task ≡ true → SoundPlace (takes l shapes m found)
   -- what it begins leaves it awake, or about to say that it is gone; one that has left begins nothing
   pub begins_so : (shapes : List Shape) (l : Layout) (m : Processor) (o : Op) → SoundPlace m → is_busy_at m.task ≡ false →
       PlaceBegins (Acts (party_of m) (stage_of m)) (Acts (party_of ((processor_kind shapes l).begins m o)) (stage_of ((processor_kind shapes l).begins m o)))
-  pub takes_so : (shapes : List Shape) (m : Processor) (found : ℕ) → SoundPlace m → is_busy_at m.task ≡ true →
-      StageGoes found (party_of m) (stage_of m) (asks m) (party_of (takes shapes m found)) (stage_of (takes shapes m found))
+  pub takes_so : (l : Layout) (shapes : List Shape) (m : Processor) (found : ℕ) → SoundPlace m → is_busy_at m.task ≡ true →
+      StageGoes found (party_of m) (stage_of m) (asks l m) (party_of (takes l shapes m found)) (stage_of (takes l shapes m found))
   -- whatever it runs, it acknowledges a stop, or says that it is gone, with nothing held
-  pub acknowledges : (m : Processor) (i number : ℕ) → SoundPlace m → asks m ≡ Store (Ack i) number → HoldsNothing m.poll i
+  pub acknowledges : (l : Layout) (m : Processor) (i number : ℕ) → SoundPlace m → asks l m ≡ Store (Ack i) number → HoldsNothing m.poll i

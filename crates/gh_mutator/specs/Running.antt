@@ -10,7 +10,7 @@ use Rattle.gh_poll.specs.declared.poll.PollStage.TheVariants.{Marking}
 use Rattle.gh_mutator.specs.declared.task.Task.TheVariants as task
 use Rattle.gh_poll.specs.Local.{marking_at}
 use Rattle.gh_mutator.specs.MarkVocabulary.{MarkStackStage, PollStage, SoundPlace, StackMarking, StackStage}
-use Rattle.gh_mutator.specs.Vocabulary.{Assist, NewStage, Polling, Processor, Task}
+use Rattle.gh_mutator.specs.Vocabulary.{Assist, Layout, NewStage, Polling, Processor, Task}
 
 -- What is to be shaded is what the scan wishes for; and where nothing is, the scan's own step is next.
 abbrev pub ShadesByWish : StackStage → MarkStackStage → Type 0
@@ -20,18 +20,18 @@ ShadesByWish scan mark_stage.Store = scan ≡ stack_stage.Store
 ShadesByWish scan mark_stage.Ended = ⊥
 
 -- The stack that it scans is that of a goroutine of its own, and the scan is that of the cycle which it knows, while marking is on; and it has not noted yet that this stack was scanned in that cycle.
-pub record ScansItsOwn (p : Polling) (g : ℕ) (m : StackMarking) : Type 0 where
-  pub there : g < p.layout.goroutines
-  pub own : g % p.layout.procs ≡ p.seat
+pub record ScansItsOwn (l : Layout) (p : Polling) (g : ℕ) (m : StackMarking) : Type 0 where
+  pub there : g < l.goroutines
+  pub own : g % l.procs ≡ p.seat
   pub marking : p.local.view.phase ≡ Mark
   pub of : m.scan.goroutine ≡ g
   pub cycle_is : m.scan.cycle ≡ p.local.view.begun
   pub unscanned : p.local.view.begun ≢ END → slice_index p.local.scanned g ≢ p.local.view.begun
   pub by_wish : ShadesByWish m.scan.stage m.stage
 
-abbrev pub SoundScanAt : Polling → PollStage → Type 0
-SoundScanAt p (Marking g m) = ScansItsOwn p g m
-SoundScanAt p _ = Unit {0}
+abbrev pub SoundScanAt : Layout → Polling → PollStage → Type 0
+SoundScanAt l p (Marking g m) = ScansItsOwn l p g m
+SoundScanAt l p _ = Unit {0}
 
 -- an assist runs while marking is on alone, as the processor knows
 abbrev pub SoundAssistAt : Polling → NewStage → Type 0
@@ -52,7 +52,7 @@ IsAssisting (task.New x) = IsAssistingAt x.stage
 IsAssisting _ = ⊥
 
 -- what holds of a processor, whatever it was told
-pub record IsSound (m : Processor) : Type 0 where
+pub record IsSound (l : Layout) (m : Processor) : Type 0 where
   pub place : SoundPlace m
-  pub scan : SoundScanAt m.poll m.poll.stage
+  pub scan : SoundScanAt l m.poll m.poll.stage
   pub assist : SoundAssist m.poll m.task

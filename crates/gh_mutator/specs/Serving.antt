@@ -1,5 +1,6 @@
 -- What a step, and the task before it, are to a goroutine's statement.
 use Rattle.std.specs.Prelude.{ℕ, Bool, true, false, if◌then◌else◌, Option, Some, None}
+use Rattle.gh_base.specs.declared.layout.Layout.{Layout}
 use Rattle.gh_base.specs.declared.value.Answer.{Answer}
 use Rattle.gh_base.specs.declared.operation.Op.{Op}
 use Rattle.gh_base.specs.declared.operation.Op.TheVariants as op
@@ -34,8 +35,8 @@ is_serving _ = true
 abbrev pub answer_at : Task → Option Answer → Option Answer
 answer_at t answer = if is_serving t then answer else None
 
-abbrev pub statement_answer : Processor → (found : ℕ) → Option Answer
-statement_answer m found = answer_at m.task (gives_at m m.task found)
+abbrev pub statement_answer : Layout → Processor → (found : ℕ) → Option Answer
+statement_answer l m found = answer_at m.task (gives_at l m m.task found)
 
 -- its next step is its last
 abbrev pub is_last : Task → Bool

@@ -25,6 +25,7 @@ use Rattle.gh_poll.specs.Poll as poll
 use Rattle.gh_mutator.specs.Processor.{made_by, register_of}
 use Rattle.gh_mutator.specs.Register.{read_of}
 use Rattle.gh_poll.specs.Registers.{IsNear, IsRegister}
+use Rattle.gh_poll.specs.PollSound.{SoundPolling}
 use Rattle.gh_poll.specs.WaitSound.{SoundWaiting}
 
 -- a goroutine makes at most so many objects
@@ -84,19 +85,19 @@ pub record SoundStore (pages : ℕ) (x : Store) : Type 0 where
   pub stage : SoundStoreStage x.k x.stage
 
 -- there is room for its write, until that is begun; the write is sound, and it is not over
-abbrev pub StoreRoom : Polling → StoreStage → Type 0
-StoreRoom p store.Page = has_entries p ≡ true
-StoreRoom p store.Bits = has_entries p ≡ true
-StoreRoom p (store.Writing w) = Runs (write.listing p.layout) w
-StoreRoom p _ = Unit {0}
+abbrev pub StoreRoom : Layout → Polling → StoreStage → Type 0
+StoreRoom l p store.Page = has_entries p ≡ true
+StoreRoom l p store.Bits = has_entries p ≡ true
+StoreRoom l p (store.Writing w) = Runs (write.listing l) w
+StoreRoom l p _ = Unit {0}
 
 pub record SoundGlobal (globals : ℕ) (x : Global) : Type 0 where
   pub register : IsRegister x.g x.r
   pub global : x.k < globals
 
-abbrev pub GlobalRoom : Polling → GlobalStage → Type 0
-GlobalRoom p (global.Writing w) = Runs (write.listing p.layout) w
-GlobalRoom p _ = Unit {0}
+abbrev pub GlobalRoom : Layout → GlobalStage → Type 0
+GlobalRoom l (global.Writing w) = Runs (write.listing l) w
+GlobalRoom l _ = Unit {0}
 
 pub record SoundRegister (x : Register) : Type 0 where
   pub register : IsRegister x.g x.d
@@ -111,17 +112,17 @@ pub record SoundWanted (shapes : List Shape) (w : Wanted) : Type 0 where
   pub words : w.slot ≡ words_sought w.sought
 
 -- the search is for this object, it is sound, and it is not over; the span that it has cached is cached with the poll, where to cache it changes nothing
-pub record SoundSearch (p : Polling) (w : Wanted) (s : Seeking) : Type 0 where
-  pub runs : Runs (search.listing p.layout) s
+pub record SoundSearch (l : Layout) (p : Polling) (w : Wanted) (s : Seeking) : Type 0 where
+  pub runs : Runs (search.listing l) s
   pub wanted : s.find.wanted ≡ w.sought
   pub cached : cache_with p.local.cache w.sought s.find.cached ≡ p.local.cache
 
-abbrev pub SoundNewStage : Polling → Wanted → NewStage → Type 0
-SoundNewStage p w (new.Search waited s) = SoundSearch p w s
-SoundNewStage p w (new.Wait x) = SoundWaiting p x
-SoundNewStage p w (new.Place x) = Runs (place.listing p.layout) x
-SoundNewStage p w (new.Want n) = Unit {0}
-SoundNewStage p w (new.Assist n x) = Runs (assist.listing p.layout) x
+abbrev pub SoundNewStage : Layout → Polling → Wanted → NewStage → Type 0
+SoundNewStage l p w (new.Search waited s) = SoundSearch l p w s
+SoundNewStage l p w (new.Wait x) = SoundWaiting p x
+SoundNewStage l p w (new.Place x) = Runs (place.listing l) x
+SoundNewStage l p w (new.Want n) = Unit {0}
+SoundNewStage l p w (new.Assist n x) = Runs (assist.listing l) x
 
 -- there is a further name for the object that is being made
 abbrev pub HasName : (made : ℕ) → NewStage → Type 0
@@ -130,28 +131,28 @@ HasName made (new.Want n) = Unit {0}
 HasName made (new.Assist n x) = Unit {0}
 HasName made _ = made < most_objects
 
--- the leave is of this heap, and it is not over
-pub record SoundLeave (l : Layout) (x : leave.Leaving) : Type 0 where
-  pub busy : leave.is_busy x.stage ≡ true
-  pub layout : x.layout ≡ l
-
 -- The processor.
 
-abbrev pub SoundTask : List Shape → Polling → (made : List ℕ) → Task → Type 0
-SoundTask shapes p made task.Idle = Unit {0}
-SoundTask shapes p made task.Left = Unit {0}
-SoundTask shapes p made (task.Load x) = SoundLoad p.layout.pages x
-SoundTask shapes p made (task.Store x) = SoundStore p.layout.pages x × StoreRoom p x.stage
-SoundTask shapes p made (task.Global x) = SoundGlobal p.layout.globals x × GlobalRoom p x.stage
-SoundTask shapes p made (task.Register x) = SoundRegister x
-SoundTask shapes p made (task.New x) = SoundWanted shapes x.wanted × SoundNewStage p x.wanted x.stage × HasName (slice_index made x.wanted.g) x.stage
-SoundTask shapes p made (task.Gc g x) = SoundWaiting p x
-SoundTask shapes p made task.Poll = poll.is_busy p.stage ≡ true
-SoundTask shapes p made (task.End g) = g < p.layout.goroutines
-SoundTask shapes p made (task.Leave x) = SoundLeave p.layout x
+abbrev pub SoundTask : Layout → List Shape → Polling → (made : List ℕ) → Task → Type 0
+SoundTask l shapes p made task.Idle = Unit {0}
+SoundTask l shapes p made task.Left = Unit {0}
+SoundTask l shapes p made (task.Load x) = SoundLoad l.pages x
+SoundTask l shapes p made (task.Store x) = SoundStore l.pages x × StoreRoom l p x.stage
+SoundTask l shapes p made (task.Global x) = SoundGlobal l.globals x × GlobalRoom l x.stage
+SoundTask l shapes p made (task.Register x) = SoundRegister x
+SoundTask l shapes p made (task.New x) = SoundWanted shapes x.wanted × SoundNewStage l p x.wanted x.stage × HasName (slice_index made x.wanted.g) x.stage
+SoundTask l shapes p made (task.Gc g x) = SoundWaiting p x
+SoundTask l shapes p made task.Poll = poll.is_busy p.stage ≡ true
+SoundTask l shapes p made (task.End g) = g < l.goroutines
+SoundTask l shapes p made (task.Leave x) = Runs (leave.listing l) x
 
 -- beside what is known of its poll
-pub record Sound (shapes : List Shape) (m : Processor) : Type 0 where
-  pub registers : (g d : ℕ) → IsNear m.poll.layout.pages (register_of m g d)
+pub record Sound (l : Layout) (shapes : List Shape) (m : Processor) : Type 0 where
+  pub registers : (g d : ℕ) → IsNear l.pages (register_of m g d)
   pub few : (g : ℕ) → made_by m g ≤ most_objects
-  pub task : SoundTask shapes m.poll m.made m.task
+  pub task : SoundTask l shapes m.poll m.made m.task
+
+-- the whole processor, in a heap of this layout
+pub record SoundMutating (l : Layout) (shapes : List Shape) (m : Processor) : Type 0 where
+  pub polls : SoundPolling l m.poll
+  pub sound : Sound l shapes m

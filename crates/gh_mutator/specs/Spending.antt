@@ -44,14 +44,14 @@ abbrev pub OwesWhileMarking : Processor → Type 0
 OwesWhileMarking m = marking_at m.poll ≡ false → owed_of m ≡ 0
 
 pub record DebtsAreDropped : Type 0 where
-  pub at_first : (l : Layout) (seat : ℕ) → owed_of (opening_processor l seat) ≡ 0
+  pub at_first : (seat : ℕ) → owed_of (opening_processor seat) ≡ 0
   pub begins : (shapes : List Shape) (l : Layout) (m : Processor) (o : Op) → is_busy_at m.task ≡ false → owed_of ((processor_kind shapes l).begins m o) ≡ owed_of m
   -- who does not know of marking owes nothing: so it is at first, where an operation begins, and so behind each step
   pub off_begins : (shapes : List Shape) (l : Layout) (m : Processor) (o : Op) → is_busy_at m.task ≡ false → OwesWhileMarking m → OwesWhileMarking ((processor_kind shapes l).begins m o)
-  pub off : (shapes : List Shape) (m : Processor) (found : ℕ) → IsSound m → is_busy_at m.task ≡ true → OwesWhileMarking m → OwesWhileMarking (takes shapes m found)
+  pub off : (l : Layout) (shapes : List Shape) (m : Processor) (found : ℕ) → IsSound l m → is_busy_at m.task ≡ true → OwesWhileMarking m → OwesWhileMarking (takes l shapes m found)
   -- where it learns behind a stop that another cycle has begun, what it owed is dropped
   pub other_cycle : (p : Polling) (out : Resumed) → out.another_cycle ≡ true → (resumed p out).local.owed ≡ 0
-  pub other_cycle_step : (p : Polling) (r : Resuming) (found : ℕ) (out : Resumed) → p.stage ≡ poll_stage.Resuming r → resume.gives r found ≡ Some out → out.another_cycle ≡ true → (goes p found).local.owed ≡ 0
+  pub other_cycle_step : (l : Layout) (p : Polling) (r : Resuming) (found : ℕ) (out : Resumed) → p.stage ≡ poll_stage.Resuming r → resume.gives r found ≡ Some out → out.another_cycle ≡ true → (goes l p found).local.owed ≡ 0
   -- behind a step of an assist it owes what that says, and behind any other as much as before, or nothing
-  pub assists_so : (shapes : List Shape) (m : Processor) (found : ℕ) (w : Wanted) (n : Name) (x : Assisting) → m.task ≡ assists w n x → owed_of (takes shapes m found) ≡ (assist.goes m.poll.layout x found).owed
-  pub stays : (shapes : List Shape) (m : Processor) (found : ℕ) → IsSound m → is_busy_at m.task ≡ true → (IsAssisting m.task → ⊥) → (owed_of (takes shapes m found) ≡ owed_of m) ⊎ (owed_of (takes shapes m found) ≡ 0)
+  pub assists_so : (l : Layout) (shapes : List Shape) (m : Processor) (found : ℕ) (w : Wanted) (n : Name) (x : Assisting) → m.task ≡ assists w n x → owed_of (takes l shapes m found) ≡ (assist.goes l x found).owed
+  pub stays : (l : Layout) (shapes : List Shape) (m : Processor) (found : ℕ) → IsSound l m → is_busy_at m.task ≡ true → (IsAssisting m.task → ⊥) → (owed_of (takes l shapes m found) ≡ owed_of m) ⊎ (owed_of (takes l shapes m found) ≡ 0)

@@ -1,18 +1,15 @@
--- What the steps of a processor leave as it is: its layout. An operation is answered exactly where no further step is asked for. And what single steps come to, for the crates above that cite it.
-use Rattle.std.proofs.Common.{ap, ◌∙◌, arith}
+-- An operation is answered exactly where no further step is asked for. And what single steps come to, for the crates above that cite it.
+use Rattle.std.proofs.Common.{ap, arith}
 use Rattle.std.specs.Prelude.{◌≡◌, ℕ, ◌+◌, Bool, true, false, cond, ◌↔◌, List, Option, Some, None, is_none, IsNone, refl}
 use Rattle.gh_base.specs.declared.value.Answer.TheVariants as answer
-use Rattle.gh_alloc.specs.Place as place
 use Rattle.gh_alloc.specs.Search as search
 use Rattle.gh_alloc.specs.Stays.{Base, search_base}
-use Rattle.gh_assist.specs.Listing as assist
 use Rattle.gh_poll.specs.Barrier.{written}
 use Rattle.gh_poll.specs.declared.poll.Local.{Local}
-use Rattle.gh_poll.specs.declared.wait.Wait.{Wait as WaitState}
 use Rattle.gh_poll.specs.Leave as leave
 use Rattle.gh_poll.specs.Local.{is_mark, marking_at}
 use Rattle.gh_poll.specs.Poll as poll
-use Rattle.gh_poll.specs.Stays.{payment_spent, poll_stays, wait_stays}
+use Rattle.gh_poll.specs.Stays.{payment_spent}
 use Rattle.gh_poll.specs.Wait as wait
 use Rattle.gh_mutator.specs.declared.store.Store.{Store}
 use Rattle.gh_mutator.specs.declared.store.StoreStage.TheVariants as store_stage
@@ -20,14 +17,14 @@ use Rattle.gh_mutator.specs.declared.task.Task.TheVariants as task
 use Rattle.gh_mutator.specs.Global as global
 use Rattle.gh_mutator.specs.Listing.{after_gc, after_leave, after_poll as after_polls, follows, gives_at, is_busy_at, once_ended, takes_at}
 use Rattle.gh_mutator.specs.Load as load
-use Rattle.gh_mutator.specs.Mutating.{Mutating, gives, goes, is_busy, layout}
+use Rattle.gh_mutator.specs.Mutating.{Mutating, gives, goes, is_busy}
 use Rattle.gh_mutator.specs.New.{after_assist, after_place, after_search, after_wait, answer_assist, answer_made, answer_search, assisting, assists, made_task}
 use Rattle.gh_mutator.specs.New as new
-use Rattle.gh_mutator.specs.Processor.{cache_span, register_of, taking}
+use Rattle.gh_mutator.specs.Processor.{register_of}
 use Rattle.gh_mutator.specs.Spending.{spent_of}
 use Rattle.gh_mutator.specs.Step.{answered}
 use Rattle.gh_mutator.specs.Store as store
-use Rattle.gh_mutator.specs.Vocabulary.{Assist, Assisting, Shape, Answer, Found, Layout, Placing, Polling, Seeking, Name, NewStage, Search, Wait, Place, Waiting, Want, Wanted, Processor, Then, Task, Value}
+use Rattle.gh_mutator.specs.Vocabulary.{Assisting, Shape, Answer, Found, Layout, Placing, Polling, Seeking, Name, NewStage, Wanted, Processor, Then, Task, Value}
 
 -- ---- the processor
 
@@ -51,57 +48,24 @@ assist_ends m w n x out = grind arith
 once_ends : (after : Option (Unit {0}) → Processor) (a : Answer) → is_busy_at (after None).task ≡ true → ((x : Unit {0}) → is_busy_at (after (Some x)).task ≡ false) → (out : Option (Unit {0})) → is_busy_at (after out).task ≡ is_none (once_ended out a)
 once_ends after a on over out = grind arith
 
-new_ends : (shapes : List Shape) (m : Processor) (w : Wanted) (s : NewStage) (found : ℕ) → is_busy_at (new.takes_at shapes m w s found).task ≡ is_none (new.gives_at m.poll.layout (marking_at m.poll) s found)
-new_ends shapes m w s found = grind (arith, assist_ends, once, place_ends, search_ends)
+new_ends : (l : Layout) (shapes : List Shape) (m : Processor) (w : Wanted) (s : NewStage) (found : ℕ) → is_busy_at (new.takes_at l shapes m w s found).task ≡ is_none (new.gives_at l (marking_at m.poll) s found)
+new_ends l shapes m w s found = grind (arith, assist_ends, once, place_ends, search_ends)
 
-ends_at : (shapes : List Shape) (m : Processor) (t : Task) (found : ℕ) → is_busy_at t ≡ true → is_busy_at (takes_at shapes m t found).task ≡ is_none (gives_at m t found)
-ends_at shapes m task.Idle found busy = absurd (cc)
-ends_at shapes m task.Left found busy = absurd (cc)
-ends_at shapes m (task.Load x) found busy = then_ends task.Load (load.step m.poll.layout x found).then (λ s. refl)
-ends_at shapes m (task.Store x) found busy = then_ends task.Store (store.step m.poll.layout m.poll.local (register_of m x.g x.v) x found).then (λ s. refl)
-ends_at shapes m (task.Global x) found busy = then_ends task.Global (global.step m.poll.layout (register_of m x.g x.r) x found).then (λ s. refl)
-ends_at shapes m (task.Register x) found busy = refl
-ends_at shapes m (task.New x) found busy = new_ends shapes m x.wanted x.stage found
-ends_at shapes m (task.Gc g x) found busy = once_ends (after_gc m g (wait.goes (wait.waiting x m.poll) found)) answer.Swept refl (λ y. refl) (wait.gives (wait.waiting x m.poll) found)
-ends_at shapes m task.Poll found busy = once_ends (after_polls m (poll.goes m.poll found)) answer.Done refl (λ y. refl) (poll.gives m.poll found)
-ends_at shapes m (task.End g) found busy = refl
-ends_at shapes m (task.Leave x) found busy = once_ends (after_leave m (leave.goes x found)) answer.Done refl (λ y. refl) (leave.gives x found)
+ends_at : (l : Layout) (shapes : List Shape) (m : Processor) (t : Task) (found : ℕ) → is_busy_at t ≡ true → is_busy_at (takes_at l shapes m t found).task ≡ is_none (gives_at l m t found)
+ends_at l shapes m task.Idle found busy = absurd (cc)
+ends_at l shapes m task.Left found busy = absurd (cc)
+ends_at l shapes m (task.Load x) found busy = then_ends task.Load (load.step l x found).then (λ s. refl)
+ends_at l shapes m (task.Store x) found busy = then_ends task.Store (store.step l m.poll.local (register_of m x.g x.v) x found).then (λ s. refl)
+ends_at l shapes m (task.Global x) found busy = then_ends task.Global (global.step l (register_of m x.g x.r) x found).then (λ s. refl)
+ends_at l shapes m (task.Register x) found busy = refl
+ends_at l shapes m (task.New x) found busy = new_ends l shapes m x.wanted x.stage found
+ends_at l shapes m (task.Gc g x) found busy = once_ends (after_gc m g (wait.goes l (wait.waiting x m.poll) found)) answer.Swept refl (λ y. refl) (wait.gives l (wait.waiting x m.poll) found)
+ends_at l shapes m task.Poll found busy = once_ends (after_polls m (poll.goes l m.poll found)) answer.Done refl (λ y. refl) (poll.gives l m.poll found)
+ends_at l shapes m (task.End g) found busy = refl
+ends_at l shapes m (task.Leave x) found busy = once_ends (after_leave m (leave.goes x found)) answer.Done refl (λ y. refl) (leave.gives x found)
 
-pub ends : (m : Mutating) (found : ℕ) → is_busy m ≡ true → IsNone (gives m found) ↔ (is_busy (goes m found) ≡ true)
-ends m found busy = grind (arith, ends_at)
-
--- and its layout stays
-takes_stay : (m : Processor) (g d : ℕ) (v : Option Value) → (taking m g d v).poll.layout ≡ m.poll.layout
-takes_stay m g d v = grind arith
-
-search_stays : (shapes : List Shape) (m : Processor) (w : Wanted) (waited : Bool) (s : Seeking) (out : Option Found) → (after_search shapes m w waited s out).poll.layout ≡ m.poll.layout
-search_stays shapes m w waited s out = grind arith
-
-place_stays : (m : Processor) (w : Wanted) (made : Bool) (a : ℕ) (p : Placing) → (after_place m w made a p).poll.layout ≡ m.poll.layout
-place_stays m w made a p = grind arith
-
-assist_stays : (m : Processor) (w : Wanted) (n : Name) (x : Assisting) (out : Option (Unit {0})) → (after_assist m w n x out).poll.layout ≡ m.poll.layout
-assist_stays m w n x out = grind arith
-
--- with this poll
-abbrev In : Polling → Processor → Type 0
-In p n = n.poll.layout ≡ p.layout
-
-waits_stay : (m : Processor) (after : Waiting → Option (Unit {0}) → Processor) → ((w : Waiting) (out : Option (Unit {0})) → In w.poll (after w out)) → (x : WaitState) (found : ℕ) → In m.poll (after (wait.goes (wait.waiting x m.poll) found) (wait.gives (wait.waiting x m.poll) found))
-waits_stay m after stays x found = stays (wait.goes (wait.waiting x m.poll) found) (wait.gives (wait.waiting x m.poll) found) ∙ wait_stays (wait.waiting x m.poll) found
-
-new_stays : (shapes : List Shape) (m : Processor) (w : Wanted) (s : NewStage) (found : ℕ) → (new.takes_at shapes m w s found).poll.layout ≡ m.poll.layout
-new_stays shapes m w (Search waited s) found = search_stays shapes (cache_span m w.sought (search.goes m.poll.layout s found).find.cached) w waited (search.goes m.poll.layout s found) (search.gives m.poll.layout s found)
-new_stays shapes m w (Wait x) found = waits_stay m (after_wait m w) (λ y. once (In y.poll) (after_wait m w y) refl (λ u. refl)) x found
-new_stays shapes m w (Place p) found = place_stays m w (place.makes_its_object p) p.at (place.goes p found)
-new_stays shapes m w (Want n) found = refl
-new_stays shapes m w (Assist n x) found = assist_stays m w n (assist.goes m.poll.layout x found) (assist.gives m.poll.layout x found)
-
-stays_at : (shapes : List Shape) (m : Processor) (t : Task) (found : ℕ) → (takes_at shapes m t found).poll.layout ≡ m.poll.layout
-stays_at shapes m t found = grind (arith, new_stays, once, poll_stays, takes_stay, waits_stay)
-
-pub stays : (m : Mutating) (found : ℕ) → layout (goes m found) ≡ layout m
-stays m found = grind (arith, stays_at)
+pub ends : (l : Layout) (m : Mutating) (found : ℕ) → is_busy m ≡ true → IsNone (gives l m found) ↔ (is_busy (goes l m found) ≡ true)
+ends l m found busy = grind (arith, ends_at)
 
 -- ---- what a routine of it keeps, and what it takes from the processor
 

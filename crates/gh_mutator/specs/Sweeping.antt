@@ -37,11 +37,11 @@ IsSearching _ = ⊥
 -- While it runs a sweep it goes on with it, and nothing but a search begins one.
 pub record SweepsAreRunOn : Type 0 where
   -- before its first step it runs none, and no operation begins with one
-  pub at_first : (l : Layout) (seat : ℕ) → sweep_in (opening_processor l seat) ≡ None
+  pub at_first : (seat : ℕ) → sweep_in (opening_processor seat) ≡ None
   pub begun : (shapes : List Shape) (l : Layout) (m : Processor) (o : Op) → sweep_in m ≡ None → sweep_in ((processor_kind shapes l).begins m o) ≡ None
   -- while it runs a sweep its step is the sweep's, and it runs that on until it has ended
-  pub on : (shapes : List Shape) (m : Processor) (sw : Sweeping) → sweep_in m ≡ Some sw → is_busy sw.stage ≡ true → SweepsOn m.poll.layout asks (takes shapes) sweep_in m sw
+  pub on : (l : Layout) (shapes : List Shape) (m : Processor) (sw : Sweeping) → sweep_in m ≡ Some sw → is_busy sw.stage ≡ true → SweepsOn l (asks l) (takes l shapes) sweep_in m sw
   -- a step of a search leads to the sweep that the search runs then
-  pub searches : (shapes : List Shape) (m : Processor) (w : Wanted) (waited : Bool) (q : Seeking) (found : ℕ) → sweep_in (takes_at shapes m (looks w waited q) found) ≡ search.sweep_in (search.goes m.poll.layout q found)
+  pub searches : (l : Layout) (shapes : List Shape) (m : Processor) (w : Wanted) (waited : Bool) (q : Seeking) (found : ℕ) → sweep_in (takes_at l shapes m (looks w waited q) found) ≡ search.sweep_in (search.goes l q found)
   -- and any other to none
-  pub others : (shapes : List Shape) (m : Processor) (found : ℕ) → sweep_in m ≡ None → (IsSearching m.task → ⊥) → sweep_in (takes shapes m found) ≡ None
+  pub others : (l : Layout) (shapes : List Shape) (m : Processor) (found : ℕ) → sweep_in m ≡ None → (IsSearching m.task → ⊥) → sweep_in (takes l shapes m found) ≡ None

@@ -1,6 +1,6 @@
 //! The machine of a processor.
 
-ghost use Rattle.std.specs.Prelude.{◌≡◌, ℕ, ◌*◌, ◌<◌, IfSome, IsTrue, None, Some, true, false};
+ghost use Rattle.std.specs.Prelude.{◌≡◌, ℕ, ◌*◌, ◌<◌, IfSome, IsTrue, None, Some, true, false, is_some};
 ghost use Rattle.gh_base.specs.declared.cell.Ask.TheVariants as ask;
 ghost use Rattle.gh_base.specs.declared.cell.Cell.TheVariants as cell;
 ghost use Rattle.gh_base.specs.declared.operation.Op.TheVariants as ops;
@@ -8,19 +8,22 @@ ghost use Rattle.gh_base.specs.declared.value.Answer.{Answer};
 ghost use Rattle.gh_base.specs.declared.value.Answer.TheVariants as answers;
 ghost use Rattle.gh_mutator.specs.AtOnce.{object_in};
 ghost use Rattle.gh_mutator.specs.Faults.{rested};
-ghost use Rattle.gh_mutator.specs.Listing.{is_searching, search_goes_on};
-ghost use Rattle.gh_mutator.specs.Mutating.{acts, asks, begins, goes, is_busy, opening, passes, sets};
+ghost use Rattle.gh_mutator.specs.Listing.{is_made_further, is_searching, is_waiting, search_goes_on};
+ghost use Rattle.gh_base.specs.declared.layout.Layout.{Layout};
+ghost use Rattle.gh_base.specs.Cells.{InRange};
+ghost use Rattle.gh_base.specs.Steps.{cell_of, request};
+ghost use Rattle.gh_mutator.specs.Mutating.{acts, asks, begins, gives, goes, is_busy, is_direct, opening, passes, sets};
 ghost use Rattle.gh_poll.specs.Barrier.{has_entries};
 ghost use Rattle.gh_mutator.specs.Processor.{register_of, set_register};
 ghost use Rattle.gh_poll.specs.Room.{room_in};
 ghost use Rattle.gh_mutator.specs.Serving.{has_left_at, is_last, is_point, is_serving, statement_answer};
 ghost use Rattle.gh_base.specs.Shapes.{ShapesFit};
 ghost use Rattle.gh_poll.specs.Registers.{IsNear, IsRegister};
-ghost use Rattle.gh_mutator.specs.Sound.{has_names, has_room, SoundOp};
+ghost use Rattle.gh_mutator.specs.Sound.{has_names, has_room, SoundMutating, SoundOp};
 ghost use Rattle.gh_mutator.specs.Spending.{spent_of};
 
 use crate::processor::Processor;
-use gh_base::{Answer, Layout, Machine, Op, Req, Shapes, Value};
+use gh_base::{Answer, Ask, Cell, Layout, Op, Req, Shapes, Value};
 use std::marker::Model;
 
 /// A processor (Go's P with its mcache): it runs the statements of goroutines, one operation at a time.
@@ -39,26 +42,25 @@ pub struct Mutator<'s> {
 impl<'s> Model for Mutator<'s> {
     ghost use Rattle.gh_mutator.specs.Mutating.{Mutating};
     ghost use Rattle.gh_base.specs.Shapes.{ShapesFit};
-    ghost use Rattle.gh_mutator.specs.Sound.{Sound};
 
     ghost Value = { Mutating };
 
     ghost view = { λ m. record { shapes = m.shapes.now; processor = m.processor; marks = m.marks } };
 
-    ghost invariant = { λ m. ShapesFit m.shapes.now × Sound m.shapes.now m.processor };
+    ghost invariant = { λ m. ShapesFit m.shapes.now };
 }
 
 impl<'s> Mutator<'s> {
     /// A processor at this seat, before its first step: all registers are nil, no span is cached, and
     /// nothing is begun. Each type has 1 to `MOST_TYPE_WORDS` words.
-    pub fn new(layout: &Layout, seat: u32, shapes: &'s Shapes) -> Mutator<'s>
-        requires seat { seat < layout.now.procs }
+    pub fn new(seat: u32, shapes: &'s Shapes) -> Mutator<'s>
         requires shapes { ShapesFit shapes.now }
-        ensures { result ≡ opening layout.now seat shapes.now }
+        ensures is { result ≡ opening seat shapes.now }
+        ensures sound { (l : Layout) → seat < l.procs → SoundMutating l shapes.now result.processor }
     {
         Mutator {
             shapes,
-            processor: Processor::opening(layout, seat),
+            processor: Processor::opening(seat),
             marks: 0,
         }
     }
@@ -66,14 +68,16 @@ impl<'s> Mutator<'s> {
     /// Begins an operation, where none is begun. Its goroutine, registers, type and global are there, and a
     /// goroutine that is to make an object has made fewer than 200,000. While marking is on, as it knows, a store is
     /// begun where two entries go into the buffer that it holds: [`Mutator::has_room`] says so, and a poll sees to it.
-    pub fn begin(&mut self, op: Op)
+    pub fn begin(&mut self, layout: &Layout, op: Op)
+        requires sound { SoundMutating layout.now self.old.shapes self.old.processor }
         requires idle { is_busy self.old ≡ false }
-        requires op { SoundOp self.old.shapes self.old.processor.poll.layout op }
+        requires op { SoundOp self.old.shapes layout.now op }
         requires names { has_names self.old.processor op ≡ true }
         requires room { has_room self.old.processor op ≡ true }
-        ensures { self.new ≡ begins self.old op }
+        ensures begins { self.new ≡ begins self.old op }
+        ensures sound { SoundMutating layout.now self.new.shapes self.new.processor }
     {
-        self.processor.begin(self.shapes, op);
+        self.processor.begin(layout, self.shapes, op);
     }
 
     /// Makes a poll at once, by the phase word that it finds, where that is all that the poll has to do: the world runs, and
@@ -82,7 +86,8 @@ impl<'s> Mutator<'s> {
     pub fn passes(&mut self, found: u64) -> bool
         requires idle { is_busy self.old ≡ false }
         ensures exactly { result ≡ passes self.old found }
-        ensures passed { IsTrue result → self.new ≡ goes (begins self.old ops.Poll) found }
+        ensures passed { IsTrue result → (l : Layout) → self.new ≡ goes l (begins self.old ops.Poll) found }
+        ensures sound { (l : Layout) → SoundMutating l self.old.shapes self.old.processor → SoundMutating l self.new.shapes self.new.processor }
         ensures stays { result ≡ false → self.new ≡ self.old }
     {
         self.processor.passes(found)
@@ -90,17 +95,20 @@ impl<'s> Mutator<'s> {
 
     /// Makes a statement on registers alone at once: its one step is the same whatever it finds. It answers whether the
     /// operation is such a statement and the processor has not left; where not, nothing is begun.
-    pub fn sets(&mut self, op: Op) -> bool
+    pub fn sets(&mut self, layout: &Layout, op: Op) -> bool
+        requires sound { SoundMutating layout.now self.old.shapes self.old.processor }
         requires idle { is_busy self.old ≡ false }
-        requires op { SoundOp self.old.shapes self.old.processor.poll.layout op }
+        requires op { SoundOp self.old.shapes layout.now op }
         ensures exactly { result ≡ sets self.old op }
-        ensures set { IsTrue result → (found : ℕ) → self.new ≡ goes (begins self.old op) found }
-        ensures asks { IsTrue result → asks (begins self.old op) ≡ ask.Load cell.Touch }
-        ensures answer { IsTrue result → (found : ℕ) → statement_answer (begins self.old op).processor found ≡ Some answers.Done }
+        ensures set { IsTrue result → (found : ℕ) → self.new ≡ goes layout.now (begins self.old op) found }
+        ensures asks { IsTrue result → asks layout.now (begins self.old op) ≡ ask.Load cell.Touch }
+        ensures answer { IsTrue result → (found : ℕ) → statement_answer layout.now (begins self.old op).processor found ≡ Some answers.Done }
         ensures goes_on { IsTrue result → is_last (begins self.old op).processor.task ≡ false }
-        ensures acts { IsTrue result → (found : ℕ) → is_point (acts (begins self.old op) found) ≡ true }
+        ensures acts { IsTrue result → (found : ℕ) → is_point (acts layout.now (begins self.old op) found) ≡ true }
+        ensures sound { SoundMutating layout.now self.new.shapes self.new.processor }
         ensures stays { result ≡ false → self.new ≡ self.old }
     {
+        let _ = layout;
         let (g, d, value) = match op {
             Op::Int { g, d, n } => (g, d, Value::Int(n)),
             Op::Move { g, d, s } => (g, d, self.processor.register(g, s)),
@@ -115,13 +123,53 @@ impl<'s> Mutator<'s> {
         true
     }
 
+    /// The first step of the load of a global, or of the store of a pointer into one while marking is off, as it knows:
+    /// [`Mutator::directly`] makes it without a task. `None` exactly where the operation is no such one, or the processor has left.
+    #[inline(always)]
+    pub fn direct(&self, layout: &Layout, op: Op) -> Option<Ask>
+        requires sound { SoundMutating layout.now self.now.shapes self.now.processor }
+        requires idle { is_busy self.now ≡ false }
+        requires op { SoundOp self.now.shapes layout.now op }
+        ensures exactly { is_some result ≡ is_direct self.now op }
+        ensures asks { IfSome result (λ a. asks layout.now (begins self.now op) ≡ a) }
+        ensures within { IfSome result (λ a. InRange layout.now (cell_of a)) }
+        ensures there { IfSome result (λ a. has_left_at self.now.processor.task ≡ false) }
+        ensures busy { IfSome result (λ a. is_busy (begins self.now op) ≡ true) }
+        ensures room { IfSome result (λ a. has_room self.now.processor op ≡ true) }
+    {
+        self.processor.direct(layout, self.shapes, op)
+    }
+
+    /// Begins that operation and makes its first step at once, which found this. It answers the operation where it ends with the
+    /// step: only the load of a reference goes on, since the name of its object is loaded too.
+    #[inline(always)]
+    pub fn directly(&mut self, layout: &Layout, op: Op, found: u64) -> Option<Answer>
+        requires sound { SoundMutating layout.now self.old.shapes self.old.processor }
+        requires op { SoundOp self.old.shapes layout.now op }
+        requires idle { is_busy self.old ≡ false }
+        requires direct { is_direct self.old op ≡ true }
+        ensures goes { self.new ≡ goes layout.now (begins self.old op) found }
+        ensures answer { result ≡ statement_answer layout.now (begins self.old op).processor found }
+        ensures goes_on { is_last (begins self.old op).processor.task ≡ false }
+        ensures acts { is_point (acts layout.now (begins self.old op) found) ≡ true }
+        ensures sound { SoundMutating layout.now self.new.shapes self.new.processor }
+    {
+        let answer = self.processor.directly(layout, self.shapes, op, found);
+        if answer.is_some() {
+            self.marks = self.marks.saturating_add(1);
+        }
+        answer
+    }
+
     /// The first heap word of the object that register `b` of goroutine `g` names; `None` exactly where it holds no reference.
     #[inline(always)]
-    pub fn object(&self, g: u32, b: u32) -> Option<u32>
-        requires { IsRegister g b }
+    pub fn object(&self, layout: &Layout, g: u32, b: u32) -> Option<u32>
+        requires sound { SoundMutating layout.now self.now.shapes self.now.processor }
+        requires register { IsRegister g b }
         ensures is { result ≡ object_in (register_of self.now.processor g b) }
-        ensures within { IfSome result (λ at. at < 1024 * self.now.processor.poll.layout.pages) }
+        ensures within { IfSome result (λ at. at < 1024 * layout.now.pages) }
     {
+        let _ = layout;
         match self.processor.register(g, b) {
             Value::Ref(reference) => Some(reference.saturating_sub(1) as u32),
             _ => None,
@@ -134,13 +182,16 @@ impl<'s> Mutator<'s> {
     /// A load has three or four steps, and each would go through all that a processor may be at. So who makes these itself
     /// ([`crate::field`] says on which words) takes a tenth of the time.
     #[inline(always)]
-    pub fn loaded(&mut self, g: u32, d: u32, found: Value)
+    pub fn loaded(&mut self, layout: &Layout, g: u32, d: u32, found: Value)
+        requires sound { SoundMutating layout.now self.old.shapes self.old.processor }
         requires idle { is_busy self.old ≡ false }
         requires there { has_left_at self.old.processor.task ≡ false }
         requires register { IsRegister g d }
-        requires near { IsNear self.old.processor.poll.layout.pages found }
-        ensures { (answer : Answer) → self.new ≡ rested self.old (set_register self.old.processor g d found) answer }
+        requires near { IsNear layout.now.pages found }
+        ensures is { (answer : Answer) → self.new ≡ rested self.old (set_register self.old.processor g d found) answer }
+        ensures sound { SoundMutating layout.now self.new.shapes self.new.processor }
     {
+        let _ = layout;
         self.processor.set_register(g, d, found);
         self.marks = self.marks.saturating_add(1);
     }
@@ -150,7 +201,8 @@ impl<'s> Mutator<'s> {
     pub fn refused(&mut self)
         requires idle { is_busy self.old ≡ false }
         requires there { has_left_at self.old.processor.task ≡ false }
-        ensures { (answer : Answer) → self.new ≡ rested self.old self.old.processor answer }
+        ensures is { (answer : Answer) → self.new ≡ rested self.old self.old.processor answer }
+        ensures sound { (l : Layout) → SoundMutating l self.old.shapes self.old.processor → SoundMutating l self.new.shapes self.new.processor }
     {
         self.marks = self.marks.saturating_add(1);
     }
@@ -199,10 +251,11 @@ impl<'s> Mutator<'s> {
     }
 
     /// The step that finds this is the point of a statement.
-    pub fn is_point(&self, found: u64) -> bool
-        ensures { result ≡ is_point (acts self.now found) }
+    pub fn is_point(&self, layout: &Layout, found: u64) -> bool
+        requires { SoundMutating layout.now self.now.shapes self.now.processor }
+        ensures { result ≡ is_point (acts layout.now self.now found) }
     {
-        self.processor.is_point(self.shapes, found)
+        self.processor.is_point(layout, self.shapes, found)
     }
 
     /// It makes an object, and searches for its slot: [`Mutator::goes_on`] may make its next step.
@@ -214,21 +267,97 @@ impl<'s> Mutator<'s> {
     }
 
     /// Makes the step that found this at once, where by it the search of a `new`, in its first round, goes on to the next alloc
-    /// word of a span or to a further page, and answers whether that is so; where not, nothing has changed, and [`take`](Machine::take) makes
+    /// word of a span or to a further page, and answers whether that is so; where not, nothing has changed, and [`Mutator::take`] makes
     /// the step. Such a step answers nothing and is the point of no statement.
     ///
     /// In a large arena most steps of a `new` are such. Each changes a number or two of the search, where `take` goes
     /// through all that a processor may be at.
     #[inline(always)]
-    pub fn goes_on(&mut self, found: u64) -> bool
-        ensures exactly { result ≡ search_goes_on self.old.processor.poll.layout self.old.processor.task found }
-        ensures goes { IsTrue result → self.new ≡ goes self.old found }
+    pub fn goes_on(&mut self, layout: &Layout, found: u64) -> bool
+        requires sound { SoundMutating layout.now self.old.shapes self.old.processor }
+        ensures exactly { result ≡ search_goes_on layout.now self.old.processor.task found }
+        ensures goes { IsTrue result → self.new ≡ goes layout.now self.old found }
         ensures last { IsTrue result → is_last self.old.processor.task ≡ false }
-        ensures point { IsTrue result → is_point (acts self.old found) ≡ false }
-        ensures answer { IsTrue result → statement_answer self.old.processor found ≡ None }
+        ensures point { IsTrue result → is_point (acts layout.now self.old found) ≡ false }
+        ensures answer { IsTrue result → statement_answer layout.now self.old.processor found ≡ None }
+        ensures sound { SoundMutating layout.now self.new.shapes self.new.processor }
         ensures stays { result ≡ false → self.new ≡ self.old }
     {
-        self.processor.goes_on(self.shapes, found)
+        self.processor.goes_on(layout, self.shapes, found)
+    }
+
+    /// It waits in a `gc`: [`Mutator::waits`] may make its next step.
+    #[inline(always)]
+    pub fn is_waiting(&self) -> bool
+        ensures { result ≡ is_waiting self.now.processor.task }
+    {
+        self.processor.is_waiting()
+    }
+
+    /// The cell that its next step loads, where it waits in a `gc` for the cycle, or for the end of a stop.
+    #[inline(always)]
+    pub fn looks(&self) -> Option<Cell>
+        ensures asks { IfSome result (λ c. (l : Layout) → asks l self.now ≡ ask.Load c) }
+        ensures within { IfSome result (λ c. (l : Layout) → InRange l c) }
+        ensures busy { IfSome result (λ c. is_busy self.now ≡ true) }
+    {
+        self.processor.looks()
+    }
+
+    /// Makes the step that found this at once, where by it the wait of a `gc` goes on with a number or two changed, and answers
+    /// whether that is so; where not, nothing has changed, and [`Mutator::take`] makes the step. Such a step answers nothing and is
+    /// the point of no statement.
+    ///
+    /// Where there are many processors most of their steps are such.
+    #[inline(always)]
+    pub fn waits(&mut self, layout: &Layout, found: u64) -> bool
+        requires sound { SoundMutating layout.now self.old.shapes self.old.processor }
+        ensures goes { IsTrue result → self.new ≡ goes layout.now self.old found }
+        ensures last { IsTrue result → is_last self.old.processor.task ≡ false }
+        ensures point { IsTrue result → is_point (acts layout.now self.old found) ≡ false }
+        ensures answer { IsTrue result → statement_answer layout.now self.old.processor found ≡ None }
+        ensures sound { SoundMutating layout.now self.new.shapes self.new.processor }
+        ensures stays { result ≡ false → self.new ≡ self.old }
+    {
+        self.processor.waits(layout, found)
+    }
+
+    /// It makes an object in its slot, and its next step neither makes it, nor gives a span back, nor is the last:
+    /// [`Mutator::making`] tells it.
+    #[inline(always)]
+    pub fn goes_further(&self) -> bool
+        ensures { result ≡ is_made_further self.now.processor.task }
+    {
+        self.processor.goes_further()
+    }
+
+    /// The request of its next step, where that is such a step: [`Mutator::makes`] makes it. It answers nothing and is the point of no
+    /// statement.
+    ///
+    /// Where spans have room most steps of a `new` are such. `next` and `take` go through all that a processor may be at.
+    #[inline(always)]
+    pub fn making(&self, layout: &Layout) -> Option<Req>
+        requires sound { SoundMutating layout.now self.now.shapes self.now.processor }
+        ensures exactly { is_some result ≡ is_made_further self.now.processor.task }
+        ensures same { IfSome result (λ r. r ≡ request layout.now (asks layout.now self.now)) }
+        ensures within { IfSome result (λ r. InRange layout.now (cell_of (asks layout.now self.now))) }
+        ensures busy { IfSome result (λ r. is_busy self.now ≡ true) }
+        ensures last { IfSome result (λ r. is_last self.now.processor.task ≡ false) }
+        ensures point { IfSome result (λ r. (found : ℕ) → is_point (acts layout.now self.now found) ≡ false) }
+        ensures answer { IfSome result (λ r. (found : ℕ) → statement_answer layout.now self.now.processor found ≡ None) }
+    {
+        self.processor.making(layout, self.shapes)
+    }
+
+    /// Makes that step, which found this.
+    #[inline(always)]
+    pub fn makes(&mut self, layout: &Layout, found: u64)
+        requires sound { SoundMutating layout.now self.old.shapes self.old.processor }
+        requires further { is_made_further self.old.processor.task ≡ true }
+        ensures goes { self.new ≡ goes layout.now self.old found }
+        ensures sound { SoundMutating layout.now self.new.shapes self.new.processor }
+    {
+        self.processor.makes(layout, self.shapes, found);
     }
 
     /// The words that it has drawn from the bank of credit. The number stands at `u64::MAX`, which no run reaches.
@@ -245,38 +374,33 @@ impl<'s> Mutator<'s> {
     {
         self.marks
     }
-}
 
-impl<'s> Machine for Mutator<'s> {
-    ghost use Rattle.gh_mutator.specs.Mutating.{asks, gives, goes, is_busy, layout};
-    ghost use Rattle.gh_mutator.specs.Stays as proved;
+    // Its steps are those of a routine, save that its answers are kept nowhere: what it has given cannot be read off it.
 
-    type Out = Answer;
-
-    ghost layout = { layout };
-
-    ghost busy = { is_busy };
-
-    ghost asks = { asks };
-
-    ghost goes = { goes };
-
-    ghost gives = { gives };
-
-    fn next(&self) -> Req {
-        self.processor.next(self.shapes)
+    /// The step that it asks for, on a word of the layout.
+    pub fn next(&self, layout: &Layout) -> Req
+        requires sound { SoundMutating layout.now self.now.shapes self.now.processor }
+        requires busy { is_busy self.now ≡ true }
+        ensures same { result ≡ request layout.now (asks layout.now self.now) }
+        ensures within { InRange layout.now (cell_of (asks layout.now self.now)) }
+    {
+        self.processor.next(layout, self.shapes)
     }
 
-    fn take(&mut self, found: u64) -> Option<Answer> {
+    /// Tells it what that step found, which may be any word. It answers the operation that ends with the step: `None` where it
+    /// asks for a further one.
+    pub fn take(&mut self, layout: &Layout, found: u64) -> Option<Answer>
+        requires sound { SoundMutating layout.now self.old.shapes self.old.processor }
+        requires busy { is_busy self.old ≡ true }
+        ensures state { self.new ≡ goes layout.now self.old found }
+        ensures out { result ≡ gives layout.now self.old found }
+        ensures sound { SoundMutating layout.now self.new.shapes self.new.processor }
+    {
         let is_serving = self.processor.is_serving();
-        let answer = self.processor.take(self.shapes, found);
+        let answer = self.processor.take(layout, self.shapes, found);
         if is_serving && answer.is_some() {
             self.marks = self.marks.saturating_add(1);
         }
         answer
     }
-
-    ghost ends = { proved.ends };
-
-    ghost stays = { proved.stays };
 }

@@ -18,6 +18,8 @@ ghost use Rattle.gh_mutator.specs.Processor.{at_task, made_by};
 ghost use Rattle.gh_poll.specs.Local.{marking_at, with_cached};
 ghost use Rattle.gh_mutator.specs.Serving.{is_making};
 ghost use Rattle.gh_base.specs.Shapes.{ShapesFit};
+ghost use Rattle.gh_base.specs.declared.limits.TheConstants.{MOST_GOROUTINES};
+ghost use Rattle.gh_poll.specs.PollSound.{SoundPolling};
 ghost use Rattle.gh_poll.specs.Registers.{IsRegister};
 ghost use Rattle.gh_mutator.specs.Sound.{Sound, SoundSearch, SoundWanted};
 
@@ -93,15 +95,23 @@ impl Wanted {
 }
 
 /// A step of the search for this object: the poll caches the span that the search has cached then.
-fn seek(poll: &mut Poll, wanted: &Wanted, search: &mut Search, found: u64) -> Option<Found>
-    requires { SoundSearch poll.old wanted.now search.old }
-    ensures goes { search.new ≡ sought.goes poll.old.layout search.old found }
-    ensures gives { result ≡ sought.gives poll.old.layout search.old found }
+fn seek(
+    layout: &Layout,
+    poll: &mut Poll,
+    wanted: &Wanted,
+    search: &mut Search,
+    found: u64,
+) -> Option<Found>
+    requires polls { SoundPolling layout.now poll.old }
+    requires searches { SoundSearch layout.now poll.old wanted.now search.old }
+    ensures goes { search.new ≡ sought.goes layout.now search.old found }
+    ensures gives { result ≡ sought.gives layout.now search.old found }
     ensures caches { poll.new ≡ with_cached poll.old wanted.now.sought search.new.find.cached }
-    ensures within { IfSome result (LiesWithin poll.old.layout wanted.now.sought) }
+    ensures within { IfSome result (LiesWithin layout.now wanted.now.sought) }
+    ensures polls { SoundPolling layout.now poll.new }
 {
-    let out = search.take(poll.layout(), found);
-    poll.cache_span(&wanted.sought, search.cached());
+    let out = search.take(layout, found);
+    poll.cache_span(layout, &wanted.sought, search.cached());
     out
 }
 
@@ -124,7 +134,8 @@ fn make(place: &mut Place<'_>, layout: &Layout, found: u64) -> (Option<u32>, Opt
 
 impl<'s> Processor<'s> {
     /// Begins a new object of type `t` for register `d` of goroutine `g`.
-    pub(crate) fn begin_new(&mut self, shapes: &Shapes, g: u32, d: u32, t: u32)
+    pub(crate) fn begin_new(&mut self, layout: &Layout, shapes: &Shapes, g: u32, d: u32, t: u32)
+        requires polls { SoundPolling layout.now self.old.poll }
         requires fit { ShapesFit shapes.now }
         requires register { IsRegister g d }
         requires there { t < length shapes.now }
@@ -132,7 +143,7 @@ impl<'s> Processor<'s> {
     {
         size_class_laws();
         let wanted = Wanted::of(shapes, g, d, t);
-        let search = self.seeking(shapes, &wanted);
+        let search = self.seeking(layout, shapes, &wanted);
         let stage = NewStage::Search {
             waited: false,
             search,
@@ -142,11 +153,12 @@ impl<'s> Processor<'s> {
     }
 
     /// The search for a slot for such an object.
-    fn seeking(&self, shapes: &Shapes, wanted: &Wanted) -> Search
+    fn seeking(&self, layout: &Layout, shapes: &Shapes, wanted: &Wanted) -> Search
+        requires polls { SoundPolling layout.now self.now.poll }
         requires wanted { SoundWanted shapes.now wanted.now }
         ensures { result ≡ seeking self.now wanted.now }
     {
-        let cached = self.poll.cached_for(&wanted.sought);
+        let cached = self.poll.cached_for(layout, &wanted.sought);
         Search::new(
             self.poll.seat(),
             self.poll.generation(),
@@ -156,11 +168,13 @@ impl<'s> Processor<'s> {
     }
 
     /// What the first page of a large object's span says while it is being made.
-    fn own_span(&self, sought: &Sought) -> Option<SpanHead>
-        requires { FitsPages sought.now }
+    fn own_span(&self, layout: &Layout, sought: &Sought) -> Option<SpanHead>
+        requires polls { SoundPolling layout.now self.now.poll }
+        requires fits { FitsPages sought.now }
         ensures is { result ≡ own_span self.now.poll.seat self.now.poll.local.view.generation sought.now }
         ensures fits { FitsSpanHead result }
     {
+        let _ = layout;
         match *sought {
             Sought::Small(_) => None,
             Sought::Large { pages, noscan } => Some(SpanHead {
@@ -185,46 +199,51 @@ impl<'s> Processor<'s> {
     }
 
     /// Goes on by what a step of it found, and answers the statement if it ends with the step.
-    pub(crate) fn take_new(&mut self, shapes: &'s Shapes, found: u64) -> Option<Answer>
-        requires sound { Sound shapes.now self.old }
+    pub(crate) fn take_new(
+        &mut self,
+        layout: &Layout,
+        shapes: &'s Shapes,
+        found: u64,
+    ) -> Option<Answer>
+        requires polls { SoundPolling layout.now self.old.poll }
+        requires sound { Sound layout.now shapes.now self.old }
         requires making { is_making self.old.task ≡ true }
-        ensures goes { self.new ≡ takes shapes.now self.old found }
-        ensures gives { result ≡ gives self.old found }
-        ensures sound { Sound shapes.now self.new }
+        ensures goes { self.new ≡ takes layout.now shapes.now self.old found }
+        ensures gives { result ≡ gives layout.now self.old found }
+        ensures polls { SoundPolling layout.now self.new.poll }
+        ensures sound { Sound layout.now shapes.now self.new }
     {
         size_class_laws();
         searching_is_a_routine();
         making_is_a_routine();
         assist_is_a_routine();
-        self.poll.numbers_fit();
         let LargeTask::New(new) = &mut self.large else {
             return None;
         };
         // Most steps end none of its stages, and then no more of what is wanted is looked at than they need.
         match &mut new.stage {
             NewStage::Search { waited, search } => {
-                match seek(&mut self.poll, &new.wanted, search, found) {
+                match seek(layout, &mut self.poll, &new.wanted, search, found) {
                     None => None,
                     Some(out) => {
                         let (wanted, waited) = (new.wanted, *waited);
-                        self.end_search(shapes, wanted, waited, out)
+                        self.end_search(layout, shapes, wanted, waited, out)
                     }
                 }
             }
             NewStage::Wait(wait) => {
-                let ended = wait.take(&mut self.poll, found).is_some();
-                self.poll.numbers_fit();
+                let ended = wait.take(layout, &mut self.poll, found).is_some();
                 if ended {
                     let wanted = new.wanted;
-                    self.search_again(shapes, wanted);
+                    self.search_again(layout, shapes, wanted);
                 }
                 None
             }
             NewStage::Place(place) => {
                 let name = place.name();
-                let (made, asks) = make(place, self.poll.layout(), found);
+                let (made, asks) = make(place, layout, found);
                 let wanted = new.wanted;
-                self.after_place(wanted, made, name, asks)
+                self.after_place(layout, wanted, made, name, asks)
             }
             NewStage::Want(name) => {
                 let name = *name;
@@ -232,9 +251,9 @@ impl<'s> Processor<'s> {
                 Some(Answer::Ref(name))
             }
             NewStage::Assist(name, assist) => {
-                assist.take(self.poll.layout(), found)?;
+                assist.take(layout, found)?;
                 let (name, assist) = (*name, *assist);
-                self.poll.pay(&assist);
+                self.poll.pay(layout, &assist);
                 self.at = TaskAt::Idle;
                 Some(Answer::Ref(name))
             }
@@ -246,21 +265,24 @@ impl<'s> Processor<'s> {
     /// statement ends; where there is no room, a cycle is waited for, and behind that the statement ends.
     fn end_search(
         &mut self,
+        layout: &Layout,
         shapes: &'s Shapes,
         wanted: Wanted,
         waited: bool,
         out: Found,
     ) -> Option<Answer>
+        requires polls { SoundPolling layout.now self.old.poll }
         requires wanted { SoundWanted shapes.now wanted }
-        requires slot { LiesWithin self.old.poll.layout wanted.sought out }
+        requires slot { LiesWithin layout.now wanted.sought out }
         ensures goes { self.new ≡ after_found shapes.now self.old wanted waited out }
+        ensures polls { SoundPolling layout.now self.new.poll }
         ensures gives { result ≡ answer_found waited out }
     {
         match out {
             Found::At(at) => {
                 let shape = &shapes.rows[wanted.t as usize];
                 let name = self.next_name(&wanted);
-                let span = self.own_span(&wanted.sought);
+                let span = self.own_span(layout, &wanted.sought);
                 let marking = self.poll.marking();
                 let place = Place::new(shape, at, wanted.slot, name, span, marking);
                 let stage = NewStage::Place(place);
@@ -283,11 +305,12 @@ impl<'s> Processor<'s> {
     }
 
     /// A cycle has been swept: the slot is searched for once more.
-    fn search_again(&mut self, shapes: &Shapes, wanted: Wanted)
+    fn search_again(&mut self, layout: &Layout, shapes: &Shapes, wanted: Wanted)
+        requires polls { SoundPolling layout.now self.old.poll }
         requires wanted { SoundWanted shapes.now wanted }
         ensures { self.new ≡ at_task self.old (searches wanted true (seeking self.old wanted)) }
     {
-        let search = self.seeking(shapes, &wanted);
+        let search = self.seeking(layout, shapes, &wanted);
         let stage = NewStage::Search {
             waited: true,
             search,
@@ -300,26 +323,36 @@ impl<'s> Processor<'s> {
     /// which is over where it says whether a cycle is to be asked for.
     fn after_place(
         &mut self,
+        layout: &Layout,
         wanted: Wanted,
         made: Option<u32>,
         name: Name,
         asks: Option<bool>,
     ) -> Option<Answer>
+        requires polls { SoundPolling layout.now self.old.poll }
         requires register { IsRegister wanted.g wanted.d }
         requires slot { 8 * wanted.slot ≤ 2 ^ 31 }
         requires name { IfSome made (λ _. made_by self.old wanted.g + 1 < 2 ^ 32) }
-        requires fits { MakingFits self.old.poll.layout made }
+        requires fits { MakingFits layout.now made }
         ensures goes { self.new ≡ after_making self.old wanted made name asks }
         ensures gives { result ≡ answer_made (marking_at self.old.poll) name asks }
+        ensures polls { SoundPolling layout.now self.new.poll }
     {
-        self.add_object(&wanted, made);
-        self.end_making(wanted, name, asks?)
+        self.add_object(layout, &wanted, made);
+        self.end_making(layout, wanted, name, asks?)
     }
 
     /// The making of the object of this name is over, and says whether a cycle is to be asked for.
     // Few steps end it. What is written then stands apart, so that the others clear no room for it.
     #[inline(never)]
-    fn end_making(&mut self, wanted: Wanted, name: Name, asks: bool) -> Option<Answer>
+    fn end_making(
+        &mut self,
+        layout: &Layout,
+        wanted: Wanted,
+        name: Name,
+        asks: bool,
+    ) -> Option<Answer>
+        requires polls { SoundPolling layout.now self.old.poll }
         requires slot { 8 * wanted.slot ≤ 2 ^ 31 }
         ensures goes { self.new ≡ after_making self.old wanted None name (Some asks) }
         ensures gives { result ≡ answer_made (marking_at self.old.poll) name (Some asks) }
@@ -327,7 +360,7 @@ impl<'s> Processor<'s> {
         let stage = if asks {
             NewStage::Want(name)
         } else if self.poll.marking() {
-            NewStage::Assist(name, self.poll.assist(wanted.slot))
+            NewStage::Assist(name, self.poll.assist(layout, wanted.slot))
         } else {
             self.at = TaskAt::Idle;
             return Some(Answer::Ref(name));
@@ -338,12 +371,15 @@ impl<'s> Processor<'s> {
     }
 
     /// Where the object was made at this heap word, it is there: it is counted, and the register names it.
-    fn add_object(&mut self, wanted: &Wanted, made: Option<u32>)
+    fn add_object(&mut self, layout: &Layout, wanted: &Wanted, made: Option<u32>)
+        requires polls { SoundPolling layout.now self.old.poll }
         requires register { IsRegister wanted.now.g wanted.now.d }
         requires name { IfSome made (λ _. made_by self.old wanted.now.g + 1 < 2 ^ 32) }
-        requires fits { MakingFits self.old.poll.layout made }
-        ensures { self.new ≡ made_by_step self.old wanted.now made }
+        requires fits { MakingFits layout.now made }
+        ensures is { self.new ≡ made_by_step self.old wanted.now made }
+        ensures polls { SoundPolling layout.now self.new.poll }
     {
+        let _ = layout;
         if let Some(at) = made {
             self.made[wanted.g as usize] += 1;
             let reference = Value::Ref(u64::from(at) + 1);

@@ -1,10 +1,14 @@
 //! A processor: its private state, and where an operation begins.
 
-ghost use Rattle.std.specs.Prelude.{◌≡◌, ◌<◌, ◌&&◌, not, List, IsTrue, true, false};
+ghost use Rattle.std.specs.Prelude.{◌≡◌, ◌<◌, ◌&&◌, not, length, List, IsTrue, true, false};
+ghost use Rattle.gh_base.specs.declared.layout.Layout.{Layout};
+ghost use Rattle.gh_base.specs.declared.limits.TheConstants.{MOST_GOROUTINES};
 ghost use Rattle.gh_poll.specs.Barrier.{has_entries};
 ghost use Rattle.gh_base.specs.declared.operation.Op.TheVariants as ops;
 ghost use Rattle.gh_base.specs.declared.shape.Shape.{Shape};
 ghost use Rattle.gh_poll.specs.Local.{leaving, passes, with_nothing};
+ghost use Rattle.gh_base.specs.Machines.{Runs};
+ghost use Rattle.gh_poll.specs.Leave as leaves;
 ghost use Rattle.gh_poll.specs.Room.{room_in};
 ghost use Rattle.gh_mutator.specs.Listing.{begins, is_busy_at, takes};
 ghost use Rattle.gh_mutator.specs.Serving.{has_left_at};
@@ -13,6 +17,7 @@ ghost use Rattle.gh_mutator.specs.declared.task.Task.TheVariants as task;
 ghost use Rattle.gh_mutator.specs.Register as register;
 ghost use Rattle.gh_mutator.specs.Store as stores;
 ghost use Rattle.gh_base.specs.Shapes.{ShapesFit};
+ghost use Rattle.gh_poll.specs.PollSound.{SoundPolling};
 ghost use Rattle.gh_poll.specs.Registers.{IsNear, IsRegister};
 ghost use Rattle.gh_mutator.specs.Sound.{has_names, has_room, Sound, SoundOp};
 
@@ -30,7 +35,7 @@ use std::marker::Model;
 /// A processor.
 #[derive(Drop)]
 pub struct Processor<'s> {
-    // Its layout, its seat and what it alone knows, with the poll that it is at, if it is at one.
+    // Its seat and what it alone knows, with the poll that it is at, if it is at one.
     pub(crate) poll: Poll,
     // How many objects each goroutine has made.
     pub(crate) made: [u32; MOST_GOROUTINES as usize],
@@ -57,13 +62,13 @@ fn begin_register(g: u32, d: u32, source: Source) -> Register
 
 impl<'s> Processor<'s> {
     /// A processor before its first step.
-    pub(crate) fn opening(layout: &Layout, seat: u32) -> Processor<'s>
-        requires { seat < layout.now.procs }
-        ensures { result ≡ opening_processor layout.now seat }
+    pub(crate) fn opening(seat: u32) -> Processor<'s>
+        ensures is { result ≡ opening_processor seat }
+        ensures polls { (l : Layout) → seat < l.procs → SoundPolling l result.poll }
     {
-        let local = Local::first(layout);
+        let local = Local::first();
         Processor {
-            poll: Poll::resting(layout, seat, &local),
+            poll: Poll::resting(seat, &local),
             made: [0; MOST_GOROUTINES as usize],
             at: TaskAt::Idle,
             // Some large task has to stand there: this one is never run.
@@ -82,26 +87,27 @@ impl<'s> Processor<'s> {
     }
 
     /// Begins an operation.
-    pub(crate) fn begin(&mut self, shapes: &Shapes, op: Op)
-        requires sound { Sound shapes.now self.old }
+    pub(crate) fn begin(&mut self, layout: &Layout, shapes: &Shapes, op: Op)
+        requires polls { SoundPolling layout.now self.old.poll }
+        requires sound { Sound layout.now shapes.now self.old }
         requires fit { ShapesFit shapes.now }
-        requires op { SoundOp shapes.now self.old.poll.layout op }
+        requires op { SoundOp shapes.now layout.now op }
         requires names { has_names self.old op ≡ true }
         requires room { has_room self.old op ≡ true }
         ensures begins { self.new ≡ begins shapes.now self.old op }
-        ensures sound { Sound shapes.now self.new }
+        ensures polls { SoundPolling layout.now self.new.poll }
+        ensures sound { Sound layout.now shapes.now self.new }
     {
         size_class_laws();
-        self.poll.numbers_fit();
         match op {
-            Op::New { g, d, t } => self.begin_new(shapes, g, d, t),
+            Op::New { g, d, t } => self.begin_new(layout, shapes, g, d, t),
             Op::Load { g, d, b, k } => {
                 let base = self.poll.register(g, b);
                 self.at = TaskAt::Load(Load::begin(g, d, b, k, base));
             }
             Op::Store { g, b, k, v } => self.begin_store(g, b, k, v),
             Op::GetGlobal { g, d, k } => self.at = TaskAt::Direct(Direct::begin_load(g, d, k)),
-            Op::SetGlobal { g, k, v } => self.begin_set_global(g, k, v),
+            Op::SetGlobal { g, k, v } => self.begin_set_global(layout, g, k, v),
             Op::Int { g, d, n } => self.at = TaskAt::Register(begin_register(g, d, Source::Int(n))),
             Op::Move { g, d, s } => self.at = TaskAt::Register(begin_register(
                 g,
@@ -115,7 +121,7 @@ impl<'s> Processor<'s> {
                 self.at = TaskAt::Poll;
             }
             Op::End(g) => self.at = TaskAt::End(g),
-            Op::Leave => self.begin_leave(),
+            Op::Leave => self.begin_leave(layout),
         }
     }
 
@@ -124,6 +130,7 @@ impl<'s> Processor<'s> {
     /// The store of field `k` begins.
     #[inline(never)]
     fn begin_store(&mut self, g: u32, b: u32, k: u32, v: u32)
+        requires stacks { length self.old.poll.local.stacks ≡ MOST_GOROUTINES }
         requires register { IsRegister g b }
         requires near { IsNear 1024 (register_of self.old g b) }
         ensures { self.new ≡ at_task self.old (task.Store (stores.begins g b k v (register_of self.old g b))) }
@@ -135,10 +142,13 @@ impl<'s> Processor<'s> {
 
     /// The leave begins.
     #[inline(never)]
-    fn begin_leave(&mut self)
-        ensures { self.new ≡ at_task (at_poll self.old (with_nothing self.old.poll)) (task.Leave (leaving self.old.poll)) }
+    fn begin_leave(&mut self, layout: &Layout)
+        requires { SoundPolling layout.now self.old.poll }
+        ensures is { self.new ≡ at_task (at_poll self.old (with_nothing self.old.poll)) (task.Leave (leaving self.old.poll)) }
+        ensures leaves { Runs (leaves.listing layout.now) (leaving self.old.poll) }
+        ensures polls { SoundPolling layout.now self.new.poll }
     {
-        let leave = self.poll.leave();
+        let leave = self.poll.leave(layout);
         self.large = LargeTask::Leave(leave);
         self.at = TaskAt::Large;
     }
@@ -146,7 +156,8 @@ impl<'s> Processor<'s> {
     /// What this register holds.
     #[inline(always)]
     pub(crate) fn register(&self, g: u32, d: u32) -> Value
-        requires { IsRegister g d }
+        requires stacks { length self.now.poll.local.stacks ≡ MOST_GOROUTINES }
+        requires there { IsRegister g d }
         ensures { result ≡ register_of self.now g d }
     {
         self.poll.register(g, d)
@@ -155,7 +166,8 @@ impl<'s> Processor<'s> {
     /// This register takes the value.
     #[inline(always)]
     pub(crate) fn set_register(&mut self, g: u32, d: u32, value: Value)
-        requires { IsRegister g d }
+        requires stacks { length self.old.poll.local.stacks ≡ MOST_GOROUTINES }
+        requires there { IsRegister g d }
         ensures { self.new ≡ set_register self.old g d value }
     {
         self.poll.set_register(g, d, value);
@@ -180,8 +192,9 @@ impl<'s> Processor<'s> {
     pub(crate) fn passes(&mut self, found: u64) -> bool
         requires { is_busy_at self.old.task ≡ false }
         ensures exactly { result ≡ (not (has_left_at self.old.task) && passes self.old.poll found) }
-        ensures passed { IsTrue result → (shapes : List Shape) → self.new ≡ takes shapes (begins shapes self.old ops.Poll) found }
-        ensures sound { (shapes : List Shape) → Sound shapes self.old → Sound shapes self.new }
+        ensures passed { IsTrue result → (l : Layout) → (shapes : List Shape) → self.new ≡ takes l shapes (begins shapes self.old ops.Poll) found }
+        ensures polls { (l : Layout) → SoundPolling l self.old.poll → SoundPolling l self.new.poll }
+        ensures sound { (l : Layout) → (shapes : List Shape) → Sound l shapes self.old → Sound l shapes self.new }
         ensures stays { result ≡ false → self.new ≡ self.old }
     {
         match self.at {

@@ -1,11 +1,14 @@
 //! The steps of a processor: what its task asks for, where it goes by what was found, what it then
 //! answers, and where a statement acts. A statement says so in its own file; here it is applied.
 
-ghost use Rattle.std.specs.Prelude.{◌≡◌, ◌<◌, true, false, IsTrue, None, Some};
+ghost use Rattle.std.specs.Prelude.{◌≡◌, ◌<◌, ℕ, length, true, false, is_some, IfSome, IsTrue, List, None, Some};
+ghost use Rattle.gh_base.specs.declared.layout.Layout.{Layout};
+ghost use Rattle.gh_base.specs.declared.shape.Shape.{Shape};
+ghost use Rattle.gh_base.specs.declared.limits.TheConstants.{MOST_GOROUTINES};
 ghost use Rattle.gh_base.specs.Cells.{InRange};
 ghost use Rattle.gh_base.specs.Steps.{cell_of, request};
 ghost use Rattle.gh_base.specs.declared.value.Answer.TheVariants.{Done, Swept};
-ghost use Rattle.gh_mutator.specs.Listing.{acts, after_gc, after_poll, applied, asks, gives, is_busy_at, is_searching, once_ended, search_goes_on, takes};
+ghost use Rattle.gh_mutator.specs.Listing.{acts, after_gc, after_poll, applied, asks, gives, is_busy_at, is_made_further, is_searching, is_waiting, once_ended, search_goes_on, takes};
 ghost use Rattle.gh_mutator.specs.Load as load;
 ghost use Rattle.gh_poll.specs.Local.{with_ended};
 ghost use Rattle.gh_poll.specs.Poll as polls;
@@ -17,6 +20,7 @@ ghost use Rattle.gh_poll.specs.Registers.{IsRegister};
 ghost use Rattle.gh_mutator.specs.Sound.{Sound, SoundLoad, SoundRegister};
 ghost use Rattle.gh_mutator.specs.Step.{answered};
 ghost use Rattle.gh_poll.specs.Wait as waits;
+ghost use Rattle.gh_poll.specs.PollSound.{SoundPolling};
 ghost use Rattle.gh_poll.specs.WaitSound.{SoundWaiting};
 ghost use Rattle.gh_mutator.specs.declared.task.Task.TheVariants as task;
 
@@ -28,37 +32,42 @@ use crate::step::{Step, Then};
 use crate::task::{LargeTask, Statement, TaskAt};
 use gh_alloc::laws::searching_is_a_routine;
 use gh_barrier::laws::writing_is_a_routine;
-use gh_base::{Answer, Ask, Cell, END, Machine, Req, Routine, Shapes};
+use gh_base::{Answer, Ask, Cell, END, Layout, Req, Routine, Shapes};
 use gh_class::size_class_laws;
 use gh_poll::Wait;
+use gh_poll::laws::leaving_is_a_routine;
 
 impl<'s> Processor<'s> {
     /// The step that it asks for.
-    pub(crate) fn next(&self, shapes: &Shapes) -> Req
-        requires sound { Sound shapes.now self.now }
+    pub(crate) fn next(&self, layout: &Layout, shapes: &Shapes) -> Req
+        requires polls { SoundPolling layout.now self.now.poll }
+        requires sound { Sound layout.now shapes.now self.now }
         requires busy { is_busy_at self.now.task ≡ true }
-        ensures same { result ≡ request self.now.poll.layout (asks self.now) }
-        ensures within { InRange self.now.poll.layout (cell_of (asks self.now)) }
+        ensures same { result ≡ request layout.now (asks layout.now self.now) }
+        ensures within { InRange layout.now (cell_of (asks layout.now self.now)) }
     {
-        let layout = self.poll.layout();
         let ask = match &self.at {
             TaskAt::Idle | TaskAt::Left | TaskAt::Register(_) => Ask::Load(Cell::Touch),
             TaskAt::Load(load) => load.ask(layout),
             TaskAt::Direct(x) => x.ask(layout, self.poll.register(x.g, x.r)),
-            TaskAt::Gc(_, wait) => return wait.next(&self.poll),
-            TaskAt::Poll => return self.poll.next(),
+            TaskAt::Gc(_, wait) => return wait.next(layout, &self.poll),
+            TaskAt::Poll => return self.poll.next(layout),
             TaskAt::End(g) => Ask::Store(Cell::Scanned(*g), END),
             TaskAt::Large => match &self.large {
-                LargeTask::Store(x) => return x.next(&self.poll, self.poll.register(x.g, x.v)),
+                LargeTask::Store(x) => return x.next(
+                    layout,
+                    &self.poll,
+                    self.poll.register(x.g, x.v),
+                ),
                 LargeTask::Write(x) => return x.write.next(layout),
                 LargeTask::New(new) => match &new.stage {
                     NewStage::Search { search, .. } => return search.next(layout),
-                    NewStage::Wait(wait) => return wait.next(&self.poll),
+                    NewStage::Wait(wait) => return wait.next(layout, &self.poll),
                     NewStage::Place(place) => return place.next(layout),
                     NewStage::Want(_) => Ask::Or(Cell::Want, 1),
                     NewStage::Assist(_, assist) => return assist.next(layout),
                 },
-                LargeTask::Leave(leave) => return leave.next(),
+                LargeTask::Leave(leave) => return leave.next(layout),
             },
         };
         layout.request(ask)
@@ -71,7 +80,8 @@ impl<'s> Processor<'s> {
         d: u32,
         step: Step<S>,
     ) -> Option<Answer>
-        requires { IsRegister g d }
+        requires stacks { length self.old.poll.local.stacks ≡ MOST_GOROUTINES }
+        requires there { IsRegister g d }
         ensures goes { self.new ≡ applied S.as_task self.old g d step }
         ensures gives { result ≡ answered step.then }
     {
@@ -91,25 +101,27 @@ impl<'s> Processor<'s> {
     }
 
     /// Goes on by what its step found, and answers the operation that ends with it, if one does.
-    pub(crate) fn take(&mut self, shapes: &'s Shapes, found: u64) -> Option<Answer>
-        requires sound { Sound shapes.now self.old }
+    pub(crate) fn take(&mut self, layout: &Layout, shapes: &'s Shapes, found: u64) -> Option<Answer>
+        requires polls { SoundPolling layout.now self.old.poll }
+        requires sound { Sound layout.now shapes.now self.old }
         requires busy { is_busy_at self.old.task ≡ true }
-        ensures goes { self.new ≡ takes shapes.now self.old found }
-        ensures gives { result ≡ gives self.old found }
-        ensures sound { Sound shapes.now self.new }
+        ensures goes { self.new ≡ takes layout.now shapes.now self.old found }
+        ensures gives { result ≡ gives layout.now self.old found }
+        ensures polls { SoundPolling layout.now self.new.poll }
+        ensures sound { Sound layout.now shapes.now self.new }
     {
         size_class_laws();
         writing_is_a_routine();
-        self.poll.numbers_fit();
+        leaving_is_a_routine();
         match self.at {
             TaskAt::Idle | TaskAt::Left => None,
-            TaskAt::Load(x) => self.take_load(x, found),
-            TaskAt::Direct(x) => self.take_direct(x, found),
-            TaskAt::Register(x) => self.take_register(x),
-            TaskAt::Gc(g, wait) => self.take_gc(g, wait, found),
-            TaskAt::Poll => self.take_poll(found),
-            TaskAt::End(g) => self.take_end(g),
-            TaskAt::Large => self.take_large(shapes, found),
+            TaskAt::Load(x) => self.take_load(layout, x, found),
+            TaskAt::Direct(x) => self.take_direct(layout, x, found),
+            TaskAt::Register(x) => self.take_register(layout, x),
+            TaskAt::Gc(g, wait) => self.take_gc(layout, g, wait, found),
+            TaskAt::Poll => self.take_poll(layout, found),
+            TaskAt::End(g) => self.take_end(layout, g),
+            TaskAt::Large => self.take_large(layout, shapes, found),
         }
     }
 
@@ -117,29 +129,31 @@ impl<'s> Processor<'s> {
 
     /// Goes on with the large task that is kept, which is changed where it stands.
     #[inline(always)]
-    fn take_large(&mut self, shapes: &'s Shapes, found: u64) -> Option<Answer>
-        requires sound { Sound shapes.now self.old }
+    fn take_large(&mut self, layout: &Layout, shapes: &'s Shapes, found: u64) -> Option<Answer>
+        requires polls { SoundPolling layout.now self.old.poll }
+        requires sound { Sound layout.now shapes.now self.old }
         requires large { is_large self.old.task ≡ true }
-        ensures goes { self.new ≡ takes shapes.now self.old found }
-        ensures gives { result ≡ gives self.old found }
-        ensures sound { Sound shapes.now self.new }
+        ensures goes { self.new ≡ takes layout.now shapes.now self.old found }
+        ensures gives { result ≡ gives layout.now self.old found }
+        ensures polls { SoundPolling layout.now self.new.poll }
+        ensures sound { Sound layout.now shapes.now self.new }
     {
         size_class_laws();
         writing_is_a_routine();
-        self.poll.numbers_fit();
+        leaving_is_a_routine();
         match &mut self.large {
             LargeTask::Store(x) => {
                 let x = *x;
-                self.take_store(&x, found)
+                self.take_store(layout, &x, found)
             }
             LargeTask::Write(x) => {
-                self.poll.take_write(&mut x.write, found)?;
+                self.poll.take_write(layout, &mut x.write, found)?;
                 self.at = TaskAt::Idle;
                 Some(Answer::Done)
             }
-            LargeTask::New(_) => self.take_new(shapes, found),
+            LargeTask::New(_) => self.take_new(layout, shapes, found),
             LargeTask::Leave(leave) => {
-                leave.take(found)?;
+                leave.take(layout, found)?;
                 self.at = TaskAt::Left;
                 Some(Answer::Done)
             }
@@ -147,33 +161,40 @@ impl<'s> Processor<'s> {
     }
 
     /// Goes on with this load.
-    fn take_load(&mut self, x: Load, found: u64) -> Option<Answer>
-        requires { SoundLoad self.old.poll.layout.pages x }
-        ensures goes { self.new ≡ applied task.Load self.old x.g x.d (load.step self.old.poll.layout x found) }
-        ensures gives { result ≡ answered (load.step self.old.poll.layout x found).then }
+    fn take_load(&mut self, layout: &Layout, x: Load, found: u64) -> Option<Answer>
+        requires polls { SoundPolling layout.now self.old.poll }
+        requires sound { SoundLoad layout.now.pages x }
+        ensures goes { self.new ≡ applied task.Load self.old x.g x.d (load.step layout.now x found) }
+        ensures gives { result ≡ answered (load.step layout.now x found).then }
+        ensures polls { SoundPolling layout.now self.new.poll }
     {
-        let step = x.step(self.poll.layout(), found);
+        let step = x.step(layout, found);
         self.apply(x.g, x.d, step)
     }
 
     /// Makes this statement on registers.
-    fn take_register(&mut self, x: Register) -> Option<Answer>
-        requires { SoundRegister x }
+    fn take_register(&mut self, layout: &Layout, x: Register) -> Option<Answer>
+        requires polls { SoundPolling layout.now self.old.poll }
+        requires sound { SoundRegister x }
         ensures goes { self.new ≡ applied task.Register self.old x.g x.d (register.step (register_of self.old x.g (register.read_of x)) x) }
         ensures gives { result ≡ answered (register.step (register_of self.old x.g (register.read_of x)) x).then }
+        ensures polls { SoundPolling layout.now self.new.poll }
     {
+        let _ = layout;
         let step = x.step(self.poll.register(x.g, x.read()));
         self.apply(x.g, x.d, step)
     }
 
     /// Goes on with this wait of a `gc` of goroutine `g`.
-    fn take_gc(&mut self, g: u32, wait: Wait, found: u64) -> Option<Answer>
-        requires { SoundWaiting self.old.poll wait }
-        ensures goes { self.new ≡ after_gc self.old g (waits.goes (waits.waiting wait self.old.poll) found) (waits.gives (waits.waiting wait self.old.poll) found) }
-        ensures gives { result ≡ once_ended (waits.gives (waits.waiting wait self.old.poll) found) Swept }
+    fn take_gc(&mut self, layout: &Layout, g: u32, wait: Wait, found: u64) -> Option<Answer>
+        requires polls { SoundPolling layout.now self.old.poll }
+        requires sound { SoundWaiting self.old.poll wait }
+        ensures goes { self.new ≡ after_gc self.old g (waits.goes layout.now (waits.waiting wait self.old.poll) found) (waits.gives layout.now (waits.waiting wait self.old.poll) found) }
+        ensures gives { result ≡ once_ended (waits.gives layout.now (waits.waiting wait self.old.poll) found) Swept }
+        ensures polls { SoundPolling layout.now self.new.poll }
     {
         let mut wait = wait;
-        match wait.take(&mut self.poll, found) {
+        match wait.take(layout, &mut self.poll, found) {
             None => {
                 self.at = TaskAt::Gc(g, wait);
                 None
@@ -186,13 +207,15 @@ impl<'s> Processor<'s> {
     }
 
     /// Goes on with the poll.
-    fn take_poll(&mut self, found: u64) -> Option<Answer>
+    fn take_poll(&mut self, layout: &Layout, found: u64) -> Option<Answer>
+        requires polls { SoundPolling layout.now self.old.poll }
         requires task { self.old.task ≡ task.Poll }
         requires busy { polls.is_busy self.old.poll.stage ≡ true }
-        ensures goes { self.new ≡ after_poll self.old (polls.goes self.old.poll found) (polls.gives self.old.poll found) }
-        ensures gives { result ≡ once_ended (polls.gives self.old.poll found) Done }
+        ensures goes { self.new ≡ after_poll self.old (polls.goes layout.now self.old.poll found) (polls.gives layout.now self.old.poll found) }
+        ensures gives { result ≡ once_ended (polls.gives layout.now self.old.poll found) Done }
+        ensures polls { SoundPolling layout.now self.new.poll }
     {
-        match self.poll.take(found) {
+        match self.poll.take(layout, found) {
             None => None,
             Some(()) => {
                 self.at = TaskAt::Idle;
@@ -202,11 +225,14 @@ impl<'s> Processor<'s> {
     }
 
     /// Goroutine `g` ends.
-    fn take_end(&mut self, g: u32) -> Option<Answer>
-        requires { g < self.old.poll.layout.goroutines }
+    fn take_end(&mut self, layout: &Layout, g: u32) -> Option<Answer>
+        requires polls { SoundPolling layout.now self.old.poll }
+        requires there { g < layout.now.goroutines }
         ensures goes { self.new ≡ at_task (at_poll self.old (with_ended self.old.poll g)) task.Idle }
         ensures gives { result ≡ Some Done }
+        ensures polls { SoundPolling layout.now self.new.poll }
     {
+        let _ = layout;
         self.poll.end(g);
         self.at = TaskAt::Idle;
         Some(Answer::Done)
@@ -227,9 +253,10 @@ impl<'s> Processor<'s> {
     }
 
     /// The step that found this is the point of a statement.
-    pub(crate) fn is_point(&self, shapes: &Shapes, found: u64) -> bool
-        requires { Sound shapes.now self.now }
-        ensures { result ≡ is_point (acts self.now found) }
+    pub(crate) fn is_point(&self, layout: &Layout, shapes: &Shapes, found: u64) -> bool
+        requires polls { SoundPolling layout.now self.now.poll }
+        requires sound { Sound layout.now shapes.now self.now }
+        ensures { result ≡ is_point (acts layout.now self.now found) }
     {
         match &self.at {
             TaskAt::Idle | TaskAt::Left | TaskAt::Poll | TaskAt::End(_) => false,
@@ -239,7 +266,12 @@ impl<'s> Processor<'s> {
             TaskAt::Gc(_, wait) => wait.ends_by(found),
             TaskAt::Large => match &self.large {
                 LargeTask::Leave(_) => false,
-                LargeTask::Store(x) => x.acts(&self.poll, self.poll.register(x.g, x.v), found),
+                LargeTask::Store(x) => x.acts(
+                    layout,
+                    &self.poll,
+                    self.poll.register(x.g, x.v),
+                    found,
+                ),
                 LargeTask::Write(x) => x.write.is_point(),
                 LargeTask::New(new) => match &new.stage {
                     NewStage::Search { waited, search } => *waited && search.refuses(),
@@ -294,26 +326,131 @@ impl<'s> Processor<'s> {
     /// Makes the step that found this at once, where by it the search of a `new`, in its first round, goes on to the next alloc
     /// word of a span or to a further page, and answers whether that is so; where not, nothing has changed.
     #[inline(always)]
-    pub(crate) fn goes_on(&mut self, _shapes: &Shapes, found: u64) -> bool
-        requires { Sound _shapes.now self.old }
-        ensures exactly { result ≡ search_goes_on self.old.poll.layout self.old.task found }
-        ensures goes { IsTrue result → self.new ≡ takes _shapes.now self.old found }
-        ensures sound { Sound _shapes.now self.new }
+    pub(crate) fn goes_on(&mut self, layout: &Layout, _shapes: &Shapes, found: u64) -> bool
+        requires polls { SoundPolling layout.now self.old.poll }
+        requires sound { Sound layout.now _shapes.now self.old }
+        ensures exactly { result ≡ search_goes_on layout.now self.old.task found }
+        ensures goes { IsTrue result → self.new ≡ takes layout.now _shapes.now self.old found }
+        ensures polls { SoundPolling layout.now self.new.poll }
+        ensures sound { Sound layout.now _shapes.now self.new }
         ensures last { IsTrue result → is_last self.old.task ≡ false }
-        ensures point { IsTrue result → is_point (acts self.old found) ≡ false }
-        ensures answer { IsTrue result → statement_answer self.old found ≡ None }
+        ensures point { IsTrue result → is_point (acts layout.now self.old found) ≡ false }
+        ensures answer { IsTrue result → statement_answer layout.now self.old found ≡ None }
         ensures stays { result ≡ false → self.new ≡ self.old }
     {
         searching_is_a_routine();
         match &self.at {
             TaskAt::Large => match &mut self.large {
                 LargeTask::New(new) => match &mut new.stage {
-                    NewStage::Search { search, .. } => search.goes_on(self.poll.layout(), found),
+                    NewStage::Search { search, .. } => search.goes_on(layout, found),
                     _ => false,
                 },
                 _ => false,
             },
             _ => false,
+        }
+    }
+
+    /// It waits in a `gc`: [`Processor::waits`] may make its next step.
+    #[inline(always)]
+    pub(crate) fn is_waiting(&self) -> bool
+        ensures { result ≡ is_waiting self.now.task }
+    {
+        match &self.at {
+            TaskAt::Gc(..) => true,
+            _ => false,
+        }
+    }
+
+    /// The cell that its next step loads, where it waits in a `gc` for the cycle, or for the end of a stop.
+    #[inline(always)]
+    pub(crate) fn looks(&self) -> Option<Cell>
+        ensures asks { IfSome result (λ c. (l : Layout) → asks l self.now ≡ Ask.Load c) }
+        ensures within { IfSome result (λ c. (l : Layout) → InRange l c) }
+        ensures busy { IfSome result (λ c. is_busy_at self.now.task ≡ true) }
+    {
+        match &self.at {
+            TaskAt::Gc(_, wait) => wait.looks(&self.poll),
+            _ => None,
+        }
+    }
+
+    /// Makes the step that found this at once, where by it the wait of a `gc` goes on with a number or two changed, and answers
+    /// whether that is so; where not, nothing has changed.
+    #[inline(always)]
+    pub(crate) fn waits(&mut self, layout: &Layout, found: u64) -> bool
+        requires polls { SoundPolling layout.now self.old.poll }
+        ensures goes { IsTrue result → (shapes : List Shape) → self.new ≡ takes layout.now shapes self.old found }
+        ensures polls { SoundPolling layout.now self.new.poll }
+        ensures sound { (shapes : List Shape) → Sound layout.now shapes self.old → Sound layout.now shapes self.new }
+        ensures last { IsTrue result → is_last self.old.task ≡ false }
+        ensures point { IsTrue result → is_point (acts layout.now self.old found) ≡ false }
+        ensures answer { IsTrue result → statement_answer layout.now self.old found ≡ None }
+        ensures stays { result ≡ false → self.new ≡ self.old }
+    {
+        match &mut self.at {
+            TaskAt::Gc(_, wait) => wait.goes_on(layout, &mut self.poll, found),
+            _ => false,
+        }
+    }
+
+    /// Its next step is one of the making of an object in its slot, and neither makes it, nor gives a span back, nor is the last:
+    /// [`Processor::making`] tells it.
+    #[inline(always)]
+    pub(crate) fn goes_further(&self) -> bool
+        ensures { result ≡ is_made_further self.now.task }
+    {
+        match &self.at {
+            TaskAt::Large => match &self.large {
+                LargeTask::New(new) => match &new.stage {
+                    NewStage::Place(place) => place.goes_further(),
+                    _ => false,
+                },
+                _ => false,
+            },
+            _ => false,
+        }
+    }
+
+    /// The request of its next step, where that is such a step: [`Processor::makes`] makes it.
+    #[inline(always)]
+    pub(crate) fn making(&self, layout: &Layout, _shapes: &Shapes) -> Option<Req>
+        requires sound { Sound layout.now _shapes.now self.now }
+        ensures exactly { is_some result ≡ is_made_further self.now.task }
+        ensures same { IfSome result (λ r. r ≡ request layout.now (asks layout.now self.now)) }
+        ensures within { IfSome result (λ r. InRange layout.now (cell_of (asks layout.now self.now))) }
+        ensures busy { IfSome result (λ r. is_busy_at self.now.task ≡ true) }
+        ensures last { IfSome result (λ r. is_last self.now.task ≡ false) }
+        ensures point { IfSome result (λ r. (found : ℕ) → is_point (acts layout.now self.now found) ≡ false) }
+        ensures answer { IfSome result (λ r. (found : ℕ) → statement_answer layout.now self.now found ≡ None) }
+    {
+        match &self.at {
+            TaskAt::Large => match &self.large {
+                LargeTask::New(new) => match &new.stage {
+                    NewStage::Place(place) if place.goes_further() => Some(place.next(layout)),
+                    _ => None,
+                },
+                _ => None,
+            },
+            _ => None,
+        }
+    }
+
+    /// Makes such a step, which found this.
+    #[inline(always)]
+    pub(crate) fn makes(&mut self, layout: &Layout, _shapes: &Shapes, found: u64)
+        requires polls { SoundPolling layout.now self.old.poll }
+        requires sound { Sound layout.now _shapes.now self.old }
+        requires further { is_made_further self.old.task ≡ true }
+        ensures goes { self.new ≡ takes layout.now _shapes.now self.old found }
+        ensures answer { statement_answer layout.now self.old found ≡ None }
+        ensures polls { SoundPolling layout.now self.new.poll }
+        ensures sound { Sound layout.now _shapes.now self.new }
+    {
+        if let LargeTask::New(new) = &mut self.large {
+            if let NewStage::Place(place) = &mut new.stage {
+                place.goes_on(layout, found);
+            }
         }
     }
 }

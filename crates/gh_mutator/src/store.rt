@@ -10,6 +10,7 @@ ghost use Rattle.gh_mutator.specs.Listing.{applied};
 ghost use Rattle.gh_mutator.specs.Processor.{keeping, register_of};
 ghost use Rattle.gh_mutator.specs.Step.{answered};
 ghost use Rattle.gh_mutator.specs.declared.task.Task.TheVariants as task;
+ghost use Rattle.gh_poll.specs.PollSound.{SoundPolling};
 ghost use Rattle.gh_poll.specs.Registers.{IsNear};
 ghost use Rattle.gh_mutator.specs.Sound.{IsFieldNumber, SoundStore, StoreRoom};
 ghost use Rattle.gh_mutator.specs.Store.{after_write, asks, at_stage, begins, by_kind, held_behind, step, stores};
@@ -80,13 +81,13 @@ impl Store {
     }
 
     /// The step that it asks for, where register `v` holds this.
-    pub(crate) fn next(&self, poll: &Poll, held: Value) -> Req
-        requires sound { SoundStore poll.now.layout.pages self.now }
-        requires room { StoreRoom poll.now self.now.stage }
-        ensures asks { result ≡ request poll.now.layout (asks poll.now.layout held self.now) }
-        ensures within { InRange poll.now.layout (cell_of (asks poll.now.layout held self.now)) }
+    pub(crate) fn next(&self, layout: &Layout, poll: &Poll, held: Value) -> Req
+        requires sound { SoundStore layout.now.pages self.now }
+        requires room { StoreRoom layout.now poll.now self.now.stage }
+        ensures asks { result ≡ request layout.now (asks layout.now held self.now) }
+        ensures within { InRange layout.now (cell_of (asks layout.now held self.now)) }
     {
-        let layout = poll.layout();
+        let _ = poll;
         let ask = match &self.stage {
             StoreStage::NilBase => Ask::Load(Cell::Touch),
             StoreStage::Page => Ask::Load(page_cell(layout, self.at)),
@@ -101,19 +102,20 @@ impl Store {
     }
 
     /// Behind the bitmap word, which says whether the field is a pointer.
-    fn by_kind(&self, poll: &Poll, held: Value, pointer: bool) -> Step<Store>
-        requires sound { SoundStore poll.now.layout.pages self.now }
+    fn by_kind(&self, layout: &Layout, poll: &Poll, held: Value, pointer: bool) -> Step<Store>
+        requires polls { SoundPolling layout.now poll.now }
+        requires sound { SoundStore layout.now.pages self.now }
         requires field { IsFieldNumber self.now.k }
         requires room { has_entries poll.now ≡ true }
-        requires near { IsNear poll.now.layout.pages held }
-        ensures { result ≡ by_kind poll.now.layout poll.now.local held self.now pointer }
+        requires near { IsNear layout.now.pages held }
+        ensures { result ≡ by_kind layout.now poll.now.local held self.now pointer }
     {
         if kinds_differ(pointer, held) {
             return Step::ends(Answer::Fault(Fault::Kind));
         }
         let stage = if pointer && poll.marking() {
-            let at = pointer_cell(poll.layout(), self.at + self.k);
-            StoreStage::Writing(poll.write(at, held))
+            let at = pointer_cell(layout, self.at + self.k);
+            StoreStage::Writing(poll.write(layout, at, held))
         } else {
             StoreStage::Field
         };
@@ -121,25 +123,41 @@ impl Store {
     }
 
     /// A step of its write.
-    fn write(&self, poll: &mut Poll, write: &WritePointer, found: u64) -> Step<Store>
-        requires { Runs (writes.listing poll.old.layout) write.now }
-        ensures is { result ≡ after_write self.now (writes.goes poll.old.layout write.now found) (writes.gives poll.old.layout write.now found) }
-        ensures holds { poll.new ≡ with_held poll.old (held_then poll.old.layout write.now found) }
+    fn write(
+        &self,
+        layout: &Layout,
+        poll: &mut Poll,
+        write: &WritePointer,
+        found: u64,
+    ) -> Step<Store>
+        requires polls { SoundPolling layout.now poll.old }
+        requires runs { Runs (writes.listing layout.now) write.now }
+        ensures is { result ≡ after_write self.now (writes.goes layout.now write.now found) (writes.gives layout.now write.now found) }
+        ensures holds { poll.new ≡ with_held poll.old (held_then layout.now write.now found) }
+        ensures polls { SoundPolling layout.now poll.new }
     {
         let mut write = *write;
-        match poll.take_write(&mut write, found) {
+        match poll.take_write(layout, &mut write, found) {
             None => Step::goes_on(self.at_stage(StoreStage::Writing(write))),
             Some(()) => Step::ends(Answer::Done),
         }
     }
 
     /// What its step does that found this. What its write holds is what the processor holds then.
-    pub(crate) fn step(&self, poll: &mut Poll, held: Value, found: u64) -> Step<Store>
-        requires sound { SoundStore poll.old.layout.pages self.now }
-        requires room { StoreRoom poll.old self.now.stage }
-        requires near { IsNear poll.old.layout.pages held }
-        ensures is { result ≡ step poll.old.layout poll.old.local held self.now found }
-        ensures holds { poll.new ≡ with_held poll.old (held_behind poll.old.layout poll.old.local.held self.now.stage found) }
+    pub(crate) fn step(
+        &self,
+        layout: &Layout,
+        poll: &mut Poll,
+        held: Value,
+        found: u64,
+    ) -> Step<Store>
+        requires polls { SoundPolling layout.now poll.old }
+        requires sound { SoundStore layout.now.pages self.now }
+        requires room { StoreRoom layout.now poll.old self.now.stage }
+        requires near { IsNear layout.now.pages held }
+        ensures is { result ≡ step layout.now poll.old.local held self.now found }
+        ensures holds { poll.new ≡ with_held poll.old (held_behind layout.now poll.old.local.held self.now.stage found) }
+        ensures polls { SoundPolling layout.now poll.new }
     {
         match &self.stage {
             StoreStage::NilBase => Step::ends(Answer::Fault(Fault::NilBase)),
@@ -151,25 +169,25 @@ impl Store {
                 }
             }
             StoreStage::Bits => {
-                let pointer = is_pointer_by(poll.layout(), self.at + self.k, found);
-                self.by_kind(poll, held, pointer)
+                let pointer = is_pointer_by(layout, self.at + self.k, found);
+                self.by_kind(layout, poll, held, pointer)
             }
             StoreStage::Field => Step::ends(Answer::Done),
-            StoreStage::Writing(write) => self.write(poll, write, found),
+            StoreStage::Writing(write) => self.write(layout, poll, write, found),
         }
     }
 
     /// That it acts by the step that finds this, where register `v` holds this.
-    pub(crate) fn acts(&self, poll: &Poll, held: Value, found: u64) -> bool
-        requires sound { SoundStore poll.now.layout.pages self.now }
-        requires room { StoreRoom poll.now self.now.stage }
-        ensures { result ≡ (step poll.now.layout poll.now.local held self.now found).acts }
+    pub(crate) fn acts(&self, layout: &Layout, poll: &Poll, held: Value, found: u64) -> bool
+        requires sound { SoundStore layout.now.pages self.now }
+        requires room { StoreRoom layout.now poll.now self.now.stage }
+        ensures { result ≡ (step layout.now poll.now.local held self.now found).acts }
     {
         match &self.stage {
             StoreStage::NilBase | StoreStage::Field => true,
             StoreStage::Page => !has_field(self.k, found),
             StoreStage::Bits => {
-                kinds_differ(is_pointer_by(poll.layout(), self.at + self.k, found), held)
+                kinds_differ(is_pointer_by(layout, self.at + self.k, found), held)
             }
             StoreStage::Writing(write) => write.is_point(),
         }
@@ -178,17 +196,19 @@ impl Store {
 
 impl<'s> Processor<'s> {
     /// Goes on with this store.
-    pub(crate) fn take_store(&mut self, x: &Store, found: u64) -> Option<Answer>
-        requires sound { SoundStore self.old.poll.layout.pages x.now }
-        requires room { StoreRoom self.old.poll x.now.stage }
-        requires near { IsNear self.old.poll.layout.pages (register_of self.old x.now.g x.now.v) }
-        ensures goes { self.new ≡ applied task.Store (keeping self.old (held_behind self.old.poll.layout self.old.poll.local.held x.now.stage found)) x.now.g x.now.v (step self.old.poll.layout self.old.poll.local (register_of self.old x.now.g x.now.v) x.now found) }
-        ensures gives { result ≡ answered (step self.old.poll.layout self.old.poll.local (register_of self.old x.now.g x.now.v) x.now found).then }
+    pub(crate) fn take_store(&mut self, layout: &Layout, x: &Store, found: u64) -> Option<Answer>
+        requires polls { SoundPolling layout.now self.old.poll }
+        requires sound { SoundStore layout.now.pages x.now }
+        requires room { StoreRoom layout.now self.old.poll x.now.stage }
+        requires near { IsNear layout.now.pages (register_of self.old x.now.g x.now.v) }
+        ensures goes { self.new ≡ applied task.Store (keeping self.old (held_behind layout.now self.old.poll.local.held x.now.stage found)) x.now.g x.now.v (step layout.now self.old.poll.local (register_of self.old x.now.g x.now.v) x.now found) }
+        ensures gives { result ≡ answered (step layout.now self.old.poll.local (register_of self.old x.now.g x.now.v) x.now found).then }
+        ensures polls { SoundPolling layout.now self.new.poll }
     {
         // The stage's type has to be named here: the prover builds no plan for `apply` without.
         let _stage = &x.stage;
         let held = self.poll.register(x.g, x.v);
-        let step = x.step(&mut self.poll, held, found);
+        let step = x.step(layout, &mut self.poll, held, found);
         self.apply(x.g, x.v, step)
     }
 }

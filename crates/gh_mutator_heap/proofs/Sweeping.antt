@@ -22,15 +22,15 @@ pub record Known : Type 0 where
 
 module _ (k : Known) (z : Arena) (a : ℕ) (v : View) (m : Processor) (pending : Option Answer) (found : ℕ) (sw : Sweeping) where
   abbrev Begins : Task → Type 0
-  Begins q = FactsAt z a v m pending q → sweep_at q ≡ None → sweep_in (takes_at z.shapes m q found) ≡ Some sw → BeginsSweep v.generation (asks_at m q) found sw
+  Begins q = FactsAt z a v m pending q → sweep_at q ≡ None → sweep_in (takes_at z.layout z.shapes m q found) ≡ Some sw → BeginsSweep v.generation (asks_at z.layout m q) found sw
 
   none_so : (o : Option Sweeping) → o ≡ None → o ≡ Some sw → ⊥
   none_so o none some = cc
 
   searched : (x : Wanted) (waited : Bool) (y : Seeking) → Begins (searches x waited y)
   searched x waited y f none some =
-      let there : search.sweep_in (search.goes m.poll.layout y found) ≡ Some sw = sym (k.run_on.searches z.shapes m x waited y found) ∙ some in
-      let b = (k.runs m.poll.layout).begins y found sw none there in
+      let there : search.sweep_in (search.goes z.layout y found) ≡ Some sw = sym (k.run_on.searches z.layout z.shapes m x waited y found) ∙ some in
+      let b = (k.runs z.layout).begins y found sw none there in
       let here = k.here z a v (rest m x) y f.facts in
       record {
         page = b.page;
@@ -42,7 +42,7 @@ module _ (k : Known) (z : Arena) (a : ℕ) (v : View) (m : Processor) (pending :
       }
 
   other : (q : Task) → m.task ≡ q → (IsSearching q → ⊥) → Begins q
-  other q is not f none some = absurd (none_so (sweep_in (takes z.shapes m found)) (k.run_on.others z.shapes m found (ap sweep_at is ∙ none) (λ e. not (subst IsSearching is e))) (ap (λ (t : Task). sweep_in (takes_at z.shapes m t found)) is ∙ some))
+  other q is not f none some = absurd (none_so (sweep_in (takes z.layout z.shapes m found)) (k.run_on.others z.layout z.shapes m found (ap sweep_at is ∙ none) (λ e. not (subst IsSearching is e))) (ap (λ (t : Task). sweep_in (takes_at z.layout z.shapes m t found)) is ∙ some))
 
   begins_at : (q : Task) → m.task ≡ q → Begins q
   begins_at task.Idle is = other task.Idle is (λ e. e)

@@ -32,7 +32,7 @@ pub record Together (z : Cycle) (a : ℕ) (h : Heap) (s : Marking) (m : Processo
   -- a goroutine that has ended its stack says so
   pub ends : (g : ℕ) → h.ever.ended g ≡ true → h.words (cell.Scanned g) ≡ END
   pub cycle : KnowsCycle z s
-  pub sound : IsSound m
+  pub sound : IsSound z.arena.layout m
   -- while a cycle is marked each span is swept
   pub sweeps : sweep_in m ≡ None
   pub fine : ProcessorFacts z.arena a (view h) m pending
@@ -52,8 +52,8 @@ pub record StepsOn (z : Cycle) (a : ℕ) (k : Heap) (s : Marking) (m : Processor
 -- A step of its own, by whichever move over the heap it is.
 abbrev pub StepsBesideMarking : Type 0
 StepsBesideMarking = (z : Cycle) (a : ℕ) (h : Heap) (s : Marking) (m : Processor) (pending : Option Answer) → Together z a h s m pending → is_busy_at m.task ≡ true → KnowsMarking m →
-    (l : heap.Steps z.arena a h (asks m) (λ t. DoesPoints z.arena a h t m pending (h.words (cell_of (asks m))))) →
-    StepsOn z a (heap.moved z.arena a h l.move) s (takes z.arena.shapes m (h.words (cell_of (asks m))))
+    (l : heap.Steps z.arena a h (asks z.arena.layout m) (λ t. DoesPoints z.arena a h t m pending (h.words (cell_of (asks z.arena.layout m))))) →
+    StepsOn z a (heap.moved z.arena a h l.move) s (takes z.arena.layout z.arena.shapes m (h.words (cell_of (asks z.arena.layout m))))
 
 -- Any operation may begin, a store where there is room for its write barrier.
 abbrev pub BeginsBesideMarking : Type 0

@@ -167,7 +167,7 @@ StoreFacts z a v p x pending store_stage.Page = Stores z a v x pending
 StoreFacts z a v p x pending store_stage.Bits = (l : Stores z a v x pending) × (x.k < size_for z.shapes v.ever.type_of l.n)
 StoreFacts z a v p x pending store_stage.Field = (l : Stores z a v x pending) × (x.k < size_for z.shapes v.ever.type_of l.n) × (fits (points z.shapes v.ever.type_of l.n x.k) (v.ever.register x.g x.v) ≡ true)
 StoreFacts z a v p x pending (store_stage.Writing w) =
-    (l : Stores z a v x pending) × (x.k < size_for z.shapes v.ever.type_of l.n) × (fits (points z.shapes v.ever.type_of l.n x.k) (v.ever.register x.g x.v) ≡ true) × WritesIt z.layout (pointer_cell_at p.layout (x.at + x.k)) (register_at p x.g x.v) w
+    (l : Stores z a v x pending) × (x.k < size_for z.shapes v.ever.type_of l.n) × (fits (points z.shapes v.ever.type_of l.n x.k) (v.ever.register x.g x.v) ≡ true) × WritesIt z.layout (pointer_cell_at z.layout (x.at + x.k)) (register_at p x.g x.v) w
 StoreFacts z a v p x pending store_stage.NilBase = GoroutineRuns z v a x.g × (x.b < REGISTERS) × IsPlain (v.ever.register x.g x.b) × (pending ≡ None)
 
 abbrev pub GlobalFacts : Arena → (a : ℕ) → View → Polling → Global → Option Answer → GlobalStage → Type 0
@@ -264,17 +264,17 @@ CountsAlone _ s t = Unit {0}
 -- What a step that found this comes to in t, from s: what is known of the processor then, with the answer that is pending; the heap that never frees, if it was a point; what is answered; that there was no room where it says so; and what changes where it counts an object's bytes.
 pub record Does (z : Arena) (a : ℕ) (s t : Shared) (m : Processor) (pending : Option Answer) (found : ℕ) : Type 0 where
   pub after : Option Answer
-  pub fine : ProcessorFacts z a (view t) (takes z.shapes m found) after
-  pub ever : t.ever ≡ acted z.shapes s.ever (acts m found)
-  pub answers : option_to_list (answered_at z.shapes s.ever (acts m found)) ++ option_to_list pending ≡ option_to_list after ++ option_to_list (gives m found)
-  pub full : (x : Act) → acts m found ≡ Some x → x.full ≡ true → FullAt z a (view s) m x.op
+  pub fine : ProcessorFacts z a (view t) (takes z.layout z.shapes m found) after
+  pub ever : t.ever ≡ acted z.shapes s.ever (acts z.layout m found)
+  pub answers : option_to_list (answered_at z.shapes s.ever (acts z.layout m found)) ++ option_to_list pending ≡ option_to_list after ++ option_to_list (gives z.layout m found)
+  pub full : (x : Act) → acts z.layout m found ≡ Some x → x.full ≡ true → FullAt z a (view s) m x.op
   -- the step that counts an object's bytes changes words alone
   pub counts : CountsAlone m.task s t
 
 -- a step of its own, at this task
 abbrev pub OwnStepAt : Task → Type 0
 OwnStepAt q = (z : Arena) (a : ℕ) (s : Shared) (m : Processor) (pending : Option Answer) → ShapesAreGood z.shapes → m.task ≡ q → Good z (view s) → ProcessorFacts z a (view s) m pending →
-    Steps z a s (asks m) (λ t. Does z a s t m pending (s.words (cell_of (asks m))))
+    Steps z a s (asks z.layout m) (λ t. Does z a s t m pending (s.words (cell_of (asks z.layout m))))
 
 -- the steps of others
 abbrev pub Lasts : Type 0

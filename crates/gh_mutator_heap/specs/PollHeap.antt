@@ -25,7 +25,6 @@ use Rattle.gh_mutator_heap.specs.Vocabulary.{Arena, Means, Right, SPAN_CLASSES, 
 
 -- the processor is at this seat, in this arena; its tables are whole, and there is such a buffer as it holds
 pub record SeatFacts (z : Arena) (a : ℕ) (p : Polling) : Type 0 where
-  pub layout : p.layout ≡ z.layout
   pub seat : p.seat ≡ a
   pub few : a < z.layout.procs
   pub stacks : length p.local.stacks ≡ MOST_GOROUTINES
@@ -153,7 +152,6 @@ GiveStageFacts z a v g give_stage.Ended = (g.cache ≡ none_cached) × (g.held �
 
 -- the giving back, which writes the sweep generation
 pub record GiveFacts (z : Arena) (a : ℕ) (v : View) (g : Giving) : Type 0 where
-  pub layout_is : g.layout ≡ z.layout
   pub seat_is : g.seat ≡ a
   pub generation : g.generation ≡ v.generation
   pub room : length g.cache ≡ SPAN_CLASSES

@@ -24,7 +24,7 @@ Polls z a v p = Has a v (poll_locked p) (poll_held p) × PollFacts z a v p
 pub record PollsByRights : Type 0 where
   pub begins : (z : Arena) (a : ℕ) (v : View) (p : Polling) (waits : Bool) → IsBetweenOperations z a v p → Polls z a v (poll.begins p waits)
   pub own_step : (z : Arena) (a : ℕ) (s : Shared) (p : Polling) → Good z (view s) → Polls z a (view s) p →
-      Steps z a s (poll.asks p) (λ t. KeepsObjects (view s) (view t) × Polls z a (view t) (poll.goes p (s.words (cell_of (poll.asks p)))))
+      Steps z a s (poll.asks p) (λ t. KeepsObjects (view s) (view t) × Polls z a (view t) (poll.goes z.layout p (s.words (cell_of (poll.asks p)))))
   pub within : (z : Arena) (a : ℕ) (v : View) (p : Polling) → Good z v → Polls z a v p → InRange z.layout (cell_of (poll.asks p))
   pub lasts : (z : Arena) (a : ℕ) (v w : View) (p : Polling) → Good z v → Others z a v w → PollFacts z a v p → PollFacts z a w p
   pub parked : (z : Arena) (a : ℕ) (v : View) (p : Polling) (stops : ℕ) → IsParked stops (poll_stage_of p) → Polls z a v p → Has a v false no_page
@@ -39,7 +39,7 @@ Waits z a v w = Has a v (waits_locked w) (waits_held w) × WaitFacts z a v w
 pub record WaitsByRights : Type 0 where
   pub begins : (z : Arena) (a : ℕ) (v : View) (p : Polling) → IsBetweenOperations z a v p → Waits z a v (wait.opening p)
   pub own_step : (z : Arena) (a : ℕ) (s : Shared) (w : Waiting) → Good z (view s) → Waits z a (view s) w →
-      Steps z a s (wait.asks w) (λ t. KeepsObjects (view s) (view t) × Waits z a (view t) (wait.goes w (s.words (cell_of (wait.asks w)))))
+      Steps z a s (wait.asks w) (λ t. KeepsObjects (view s) (view t) × Waits z a (view t) (wait.goes z.layout w (s.words (cell_of (wait.asks w)))))
   pub within : (z : Arena) (a : ℕ) (v : View) (w : Waiting) → Good z v → Waits z a v w → InRange z.layout (cell_of (wait.asks w))
   pub lasts : (z : Arena) (a : ℕ) (v u : View) (w : Waiting) → Good z v → Others z a v u → WaitFacts z a v w → WaitFacts z a u w
   pub parked : (z : Arena) (a : ℕ) (v : View) (w : Waiting) (stops : ℕ) → IsParked stops (wait_stage_of w) → Waits z a v w → Has a v false no_page

@@ -1,5 +1,5 @@
 -- The scan of a stack asks for words that there are: what is known of its numbers, whatever it is told.
-use Rattle.std.specs.Prelude.{◌≡◌, ◌<◌}
+use Rattle.std.specs.Prelude.{◌<◌}
 use Rattle.gh_base.specs.declared.layout.Layout.{Layout}
 use Rattle.gh_base.specs.Cells.{seats_of}
 use Rattle.gh_base.specs.Holding.{IsHeld}
@@ -15,7 +15,6 @@ MarkStackStageWithin l (FindRoom s r) = SoundShading l s × SoundRoomFinding l r
 MarkStackStageWithin l _ = Unit {0}
 
 pub record ScansWithin (l : Layout) (m : StackMarking) : Type 0 where
-  pub layout_is : m.layout ≡ l
   pub seat : m.seat < seats_of l
   pub goroutine : m.scan.goroutine < l.goroutines
   pub held : IsHeld l m.held

@@ -20,7 +20,7 @@ use Rattle.gh_base.specs.Steps.{effect}
 
 -- before its first step, at its seat in a heap that opens, where it holds nothing
 abbrev pub Opens : Type 0
-Opens = (z : Arena) (a : ℕ) (v : View) → a < z.layout.procs → v.generation ≡ first_view.generation → v.ever ≡ opening_ever → Has a v false no_page → ProcessorFacts z a v (opening_processor z.layout a) None
+Opens = (z : Arena) (a : ℕ) (v : View) → a < z.layout.procs → v.generation ≡ first_view.generation → v.ever ≡ opening_ever → Has a v false no_page → ProcessorFacts z a v (opening_processor a) None
 
 -- one that has left begins nothing
 abbrev pub Begins : Type 0
@@ -33,21 +33,21 @@ Rests = (z : Arena) (a : ℕ) (v : View) (m : Processor) (pending : Option Answe
 -- what the step does; and of operations with points, what is answered
 pub record DoesPoints (z : Arena) (a : ℕ) (s t : Shared) (m : Processor) (pending : Option Answer) (found : ℕ) : Type 0 where
   pub does : Does z a s t m pending found
-  pub answers : option_to_list (answered_at z.shapes s.ever (point_of (acts m found))) ++ option_to_list pending ≡ option_to_list does.after ++ option_to_list (given_at m.task (gives m found))
+  pub answers : option_to_list (answered_at z.shapes s.ever (point_of (acts z.layout m found))) ++ option_to_list pending ≡ option_to_list does.after ++ option_to_list (given_at m.task (gives z.layout m found))
 
 -- a step of its own, where it runs no sweep
 abbrev pub OwnStep : Type 0
 OwnStep = (z : Arena) (a : ℕ) (s : Shared) (m : Processor) (pending : Option Answer) → ShapesAreGood z.shapes → is_busy_at m.task ≡ true → Good z (view s) → sweep_in m ≡ None → ProcessorFacts z a (view s) m pending →
-    Steps z a s (asks m) (λ t. DoesPoints z a s t m pending (s.words (cell_of (asks m))))
+    Steps z a s (asks z.layout m) (λ t. DoesPoints z a s t m pending (s.words (cell_of (asks z.layout m))))
 
 -- a step of the sweep that it runs
 abbrev pub SweepStep : Type 0
-SweepStep = (z : Arena) (a : ℕ) (s t : Shared) (m : Processor) (pending : Option Answer) (sw : Sweeping) → ShapesAreGood z.shapes → Good z (view s) → Good z (view t) → ProcessorFacts z a (view s) m pending → sweep_in m ≡ Some sw → SweepLeaves (view s) (view t) → t.words ≡ effect s.words (asks m) →
-    DoesPoints z a s t m pending (s.words (cell_of (asks m)))
+SweepStep = (z : Arena) (a : ℕ) (s t : Shared) (m : Processor) (pending : Option Answer) (sw : Sweeping) → ShapesAreGood z.shapes → Good z (view s) → Good z (view t) → ProcessorFacts z a (view s) m pending → sweep_in m ≡ Some sw → SweepLeaves (view s) (view t) → t.words ≡ effect s.words (asks z.layout m) →
+    DoesPoints z a s t m pending (s.words (cell_of (asks z.layout m)))
 
 -- it is on a word that there is
 abbrev pub Within : Type 0
-Within = (z : Arena) (a : ℕ) (v : View) (m : Processor) (pending : Option Answer) → Good z v → ProcessorFacts z a v m pending → InRange z.layout (cell_of (asks m))
+Within = (z : Arena) (a : ℕ) (v : View) (m : Processor) (pending : Option Answer) → Good z v → ProcessorFacts z a v m pending → InRange z.layout (cell_of (asks z.layout m))
 
 -- Whatever is done to the words while it is parked at a stop, or is gone, its rights and the heap that never frees stay.
 abbrev pub Stopped : Type 0

@@ -17,6 +17,7 @@ use Rattle.gh_mutator.proofs.LoadSteps as load
 use Rattle.gh_mutator.proofs.Steps.{GoesTo}
 use Rattle.gh_mutator.proofs.StoreSteps as store
 use Rattle.gh_mutator.proofs.Telling.{told_first}
+use Rattle.gh_base.specs.declared.layout.Layout.{Layout}
 
 -- how many steps are left at most, where no object is made, by whether marking is on
 abbrev left : (marking : Bool) → Task → ℕ
@@ -63,41 +64,41 @@ global_plain marking most then h = grind arith
 on : (b : Bool) → not b ≡ false → b ≡ true
 on b e = grind arith
 
-module _ (ends_so : WritingEnds) (shapes : List Shape) where
+module _ (l : Layout) (ends_so : WritingEnds) (shapes : List Shape) where
   abbrev marks : Processor → Bool
   marks m = marking_at m.poll
 
-  fewer_at : (m : Processor) (t : Task) (found : ℕ) → is_long t ≡ false → is_busy_at t ≡ true → Fewer (marks m) t (takes_at shapes m t found).task
-  fewer_at m (task.Load x) found plain busy = let h = load.nears m.poll.layout x found in from_step (marks m) task.Load (task.Load x) _ h.0 (load_plain (marks m) _ _ h.1)
-  fewer_at m (task.Store x) found plain busy = let h = store.nears ends_so m.poll.layout m.poll.local (register_of m x.g x.v) x found (on _ plain) in from_step (marks m) task.Store (task.Store x) _ h.0 (store_plain (marks m) _ _ h.1)
-  fewer_at m (task.Global x) found plain busy = let h = global.nears ends_so m.poll.layout (register_of m x.g x.r) x found (on _ plain) in from_step (marks m) task.Global (task.Global x) _ h.0 (global_plain (marks m) _ _ h.1)
+  fewer_at : (m : Processor) (t : Task) (found : ℕ) → is_long t ≡ false → is_busy_at t ≡ true → Fewer (marks m) t (takes_at l shapes m t found).task
+  fewer_at m (task.Load x) found plain busy = let h = load.nears l x found in from_step (marks m) task.Load (task.Load x) _ h.0 (load_plain (marks m) _ _ h.1)
+  fewer_at m (task.Store x) found plain busy = let h = store.nears ends_so l m.poll.local (register_of m x.g x.v) x found (on _ plain) in from_step (marks m) task.Store (task.Store x) _ h.0 (store_plain (marks m) _ _ h.1)
+  fewer_at m (task.Global x) found plain busy = let h = global.nears ends_so l (register_of m x.g x.r) x found (on _ plain) in from_step (marks m) task.Global (task.Global x) _ h.0 (global_plain (marks m) _ _ h.1)
   fewer_at m (task.Register x) found plain busy = record { plain = refl; fewer = omega arith }
   fewer_at m (task.End g) found plain busy = record { plain = refl; fewer = omega arith }
   fewer_at m _ found plain busy = absurd (cc)
 
-  marks_stay : (m : Processor) (t : Task) (found : ℕ) → is_long t ≡ false → is_busy_at t ≡ true → marks (takes_at shapes m t found) ≡ marks m
+  marks_stay : (m : Processor) (t : Task) (found : ℕ) → is_long t ≡ false → is_busy_at t ≡ true → marks (takes_at l shapes m t found) ≡ marks m
   marks_stay m t found plain busy = grind arith
 
 -- one step more
-later : (most : ℕ) (m : Mutating) (found : ℕ → ℕ) → EndsWithin listing most (goes m (found 0)) (λ i. found (suc i)) → EndsWithin listing (suc most) m found
-later most m found h =
+later : (l : Layout) (most : ℕ) (m : Mutating) (found : ℕ → ℕ) → EndsWithin (listing l) most (goes l m (found 0)) (λ i. found (suc i)) → EndsWithin (listing l) (suc most) m found
+later l most m found h =
     let few = h.few in
-    record { steps = suc h.steps; few = omega arith; ended = ap (λ (x : Mutating). is_busy_at x.processor.task) (told_first listing m found h.steps) ∙ h.ended }
+    record { steps = suc h.steps; few = omega arith; ended = ap (λ (x : Mutating). is_busy_at x.processor.task) (told_first (listing l) m found h.steps) ∙ h.ended }
 
-module _ (ends_so : WritingEnds) where
-  ends_within : (most : ℕ) (m : Mutating) (found : ℕ → ℕ) → is_long m.processor.task ≡ false → left (marking_at m.processor.poll) m.processor.task ≤ most → EndsWithin listing most m found
+module _ (l : Layout) (ends_so : WritingEnds) where
+  ends_within : (most : ℕ) (m : Mutating) (found : ℕ → ℕ) → is_long m.processor.task ≡ false → left (marking_at m.processor.poll) m.processor.task ≤ most → EndsWithin (listing l) most m found
   ends_within zero m found plain few = by (is_busy_at m.processor.task) refl where
-    by : (b : Bool) → is_busy_at m.processor.task ≡ b → EndsWithin listing zero m found
+    by : (b : Bool) → is_busy_at m.processor.task ≡ b → EndsWithin (listing l) zero m found
     by false idle = record { steps = 0; few = omega arith; ended = idle }
-    by true busy = let fewer = (fewer_at ends_so m.shapes m.processor m.processor.task (found 0) plain busy).fewer in absurd (omega arith)
-  ends_within (suc most) m found plain few = by (is_busy_at m.processor.task) refl (ends_within most (goes m (found 0)) (λ i. found (suc i))) where
-    by : (b : Bool) → is_busy_at m.processor.task ≡ b → (is_long (goes m (found 0)).processor.task ≡ false → left (marking_at (goes m (found 0)).processor.poll) (goes m (found 0)).processor.task ≤ most → EndsWithin listing most (goes m (found 0)) (λ i. found (suc i))) → EndsWithin listing (suc most) m found
+    by true busy = let fewer = (fewer_at l ends_so m.shapes m.processor m.processor.task (found 0) plain busy).fewer in absurd (omega arith)
+  ends_within (suc most) m found plain few = by (is_busy_at m.processor.task) refl (ends_within most (goes l m (found 0)) (λ i. found (suc i))) where
+    by : (b : Bool) → is_busy_at m.processor.task ≡ b → (is_long (goes l m (found 0)).processor.task ≡ false → left (marking_at (goes l m (found 0)).processor.poll) (goes l m (found 0)).processor.task ≤ most → EndsWithin (listing l) most (goes l m (found 0)) (λ i. found (suc i))) → EndsWithin (listing l) (suc most) m found
     by false idle next = record { steps = 0; few = omega arith; ended = idle }
     by true busy next =
-        let h = fewer_at ends_so m.shapes m.processor m.processor.task (found 0) plain busy in
-        let same = marks_stay ends_so m.shapes m.processor m.processor.task (found 0) plain busy in
+        let h = fewer_at l ends_so m.shapes m.processor m.processor.task (found 0) plain busy in
+        let same = marks_stay l ends_so m.shapes m.processor m.processor.task (found 0) plain busy in
         let fewer = h.fewer in
-        later most m found (next h.plain (subst (λ (b : Bool). left b (goes m (found 0)).processor.task ≤ most) (sym same) (omega arith)))
+        later l most m found (next h.plain (subst (λ (b : Bool). left b (goes l m (found 0)).processor.task ≤ most) (sym same) (omega arith)))
 
 begins_few : (shapes : List Shape) (m : Processor) (o : Op) → may_wait o ≡ false → (is_long (begins_at shapes m o) ≡ false) × (left (marking_at m.poll) (begins_at shapes m o) ≤ most_steps (marking_at m.poll) o)
 begins_few shapes m o h = grind arith
@@ -107,6 +108,6 @@ same_phase : (m : Processor) (o : Op) → may_wait o ≡ false → marking_at (b
 same_phase m o h = grind arith
 
 pub operations_end : WritingEnds → OperationsEnd
-operations_end ends_so m o found h =
+operations_end ends_so l m o found h =
     let few = begins_few m.shapes m.processor o h in
-    ends_within ends_so (most_steps (marking_at m.processor.poll) o) (begins m o) found few.0 (subst (λ (b : Bool). left b (begins_at m.shapes m.processor o) ≤ most_steps (marking_at m.processor.poll) o) (sym (same_phase m.processor o h)) few.1)
+    ends_within l ends_so (most_steps (marking_at m.processor.poll) o) (begins m o) found few.0 (subst (λ (b : Bool). left b (begins_at m.shapes m.processor o) ≤ most_steps (marking_at m.processor.poll) o) (sym (same_phase m.processor o h)) few.1)

@@ -29,6 +29,7 @@ use Rattle.gh_mutator.proofs.LoadSteps as load
 use Rattle.gh_mutator.proofs.Steps.{FaultsFrom, GoesTo}
 use Rattle.gh_mutator.proofs.StoreSteps as store
 use Rattle.gh_mutator.proofs.Telling.{held_before}
+use Rattle.gh_base.specs.declared.layout.Layout.{Layout}
 
 -- from here a fault may be answered, and nothing was changed yet
 abbrev may_fault : Task → Bool
@@ -84,15 +85,15 @@ assist_quiet m w n x out = grind arith
 assist_answers : (n : Name) (out : Option (Unit {0})) (cause : Cause) → new.answer_assist n out ≡ Some (answer.Fault cause) → ⊥
 assist_answers n out cause e = grind arith
 
-new_faults : (shapes : List Shape) (n m : Processor) (t : Task) (w : Wanted) (s : NewStage) (found : ℕ) → FaultsAt n t (new.takes_at shapes m w s found) (new.gives_at m.poll.layout (marking_at m.poll) s found)
-new_faults shapes n m t w (Search waited s) found =
-    none_at n t _ _ (search_answers waited (search.gives m.poll.layout s found)) (search_quiet shapes (cache_span m w.sought (search.goes m.poll.layout s found).find.cached) w waited (search.goes m.poll.layout s found) (search.gives m.poll.layout s found))
-new_faults shapes n m t w (Wait x) found =
-    none_at n t _ _ (λ cause e. absurd (cc)) (wait_quiet m w (wait.goes (wait.waiting x m.poll) found) (wait.gives (wait.waiting x m.poll) found))
-new_faults shapes n m t w (Place p) found =
+new_faults : (l : Layout) (shapes : List Shape) (n m : Processor) (t : Task) (w : Wanted) (s : NewStage) (found : ℕ) → FaultsAt n t (new.takes_at l shapes m w s found) (new.gives_at l (marking_at m.poll) s found)
+new_faults l shapes n m t w (Search waited s) found =
+    none_at n t _ _ (search_answers waited (search.gives l s found)) (search_quiet shapes (cache_span m w.sought (search.goes l s found).find.cached) w waited (search.goes l s found) (search.gives l s found))
+new_faults l shapes n m t w (Wait x) found =
+    none_at n t _ _ (λ cause e. absurd (cc)) (wait_quiet m w (wait.goes l (wait.waiting x m.poll) found) (wait.gives l (wait.waiting x m.poll) found))
+new_faults l shapes n m t w (Place p) found =
     none_at n t _ _ (place_answers (marking_at m.poll) p.name (place.gives p found)) (place_quiet m.poll w (place.goes p found) (place.gives p found))
-new_faults shapes n m t w (Want u) found = none_at n t _ _ (λ cause e. absurd (cc)) refl
-new_faults shapes n m t w (Assist u x) found = none_at n t _ _ (assist_answers u (assist.gives m.poll.layout x found)) (assist_quiet m w u (assist.goes m.poll.layout x found) (assist.gives m.poll.layout x found))
+new_faults l shapes n m t w (Want u) found = none_at n t _ _ (λ cause e. absurd (cc)) refl
+new_faults l shapes n m t w (Assist u x) found = none_at n t _ _ (assist_answers u (assist.gives l x found)) (assist_quiet m w u (assist.goes l x found) (assist.gives l x found))
 
 -- a `gc`, and what is the processor's own
 gc_faults : (n m : Processor) (t : Task) (g : ℕ) (x : Waiting) (out : Option (Unit {0})) → FaultsAt n t (after_gc m g x out) (once_ended out answer.Swept)
@@ -104,21 +105,21 @@ poll_faults n m t p out = grind arith
 leave_faults : (n m : Processor) (t : Task) (x : Leaving) (out : Option (Unit {0})) → FaultsAt n t (after_leave m x out) (once_ended out answer.Done)
 leave_faults n m t x out = grind arith
 
-module _ (shapes : List Shape) where
-  faults_at : (m : Processor) (t : Task) (found : ℕ) → FaultsAt m t (takes_at shapes (at_task m t) t found) (gives_at (at_task m t) t found)
-  faults_at m (task.Load x) found = from_step load.may_fault task.Load m x.g x.d x (load_listing.step m.poll.layout x found) (λ y. refl) (load.faults m.poll.layout x found)
-  faults_at m (task.Store x) found = keeps_buffer m (task.Store x) (store_listing.held_behind m.poll.layout m.poll.local.held x.stage found) (applied task.Store m x.g x.v (store_listing.step m.poll.layout m.poll.local (register_of m x.g x.v) x found)) _ (store.holds_still m.poll.layout m.poll.local.held x.stage found) (λ held. applied task.Store (keeping m held) x.g x.v (store_listing.step m.poll.layout m.poll.local (register_of m x.g x.v) x found)) refl refl
-      (from_step store.may_fault task.Store m x.g x.v x (store_listing.step m.poll.layout m.poll.local (register_of m x.g x.v) x found) (λ y. refl) (store.faults m.poll.layout m.poll.local (register_of m x.g x.v) x found))
-  faults_at m (task.Global x) found = keeps_buffer m (task.Global x) (global_listing.held_behind m.poll.layout m.poll.local.held x.stage found) (applied task.Global m x.g x.r (global_listing.step m.poll.layout (register_of m x.g x.r) x found)) _ (global.holds_still m.poll.layout m.poll.local.held x.stage found) (λ held. applied task.Global (keeping m held) x.g x.r (global_listing.step m.poll.layout (register_of m x.g x.r) x found)) refl refl
-      (from_step global.may_fault task.Global m x.g x.r x (global_listing.step m.poll.layout (register_of m x.g x.r) x found) (λ y. refl) (global.faults m.poll.layout (register_of m x.g x.r) x found))
-  faults_at m (task.New x) found = new_faults shapes m (at_task m (task.New x)) (task.New x) x.wanted x.stage found
-  faults_at m (task.Gc g x) found = gc_faults m (at_task m (task.Gc g x)) (task.Gc g x) g (wait.goes (wait.waiting x m.poll) found) (wait.gives (wait.waiting x m.poll) found)
-  faults_at m task.Poll found = poll_faults m (at_task m task.Poll) task.Poll (poll.goes m.poll found) (poll.gives m.poll found)
+module _ (l : Layout) (shapes : List Shape) where
+  faults_at : (m : Processor) (t : Task) (found : ℕ) → FaultsAt m t (takes_at l shapes (at_task m t) t found) (gives_at l (at_task m t) t found)
+  faults_at m (task.Load x) found = from_step load.may_fault task.Load m x.g x.d x (load_listing.step l x found) (λ y. refl) (load.faults l x found)
+  faults_at m (task.Store x) found = keeps_buffer m (task.Store x) (store_listing.held_behind l m.poll.local.held x.stage found) (applied task.Store m x.g x.v (store_listing.step l m.poll.local (register_of m x.g x.v) x found)) _ (store.holds_still l m.poll.local.held x.stage found) (λ held. applied task.Store (keeping m held) x.g x.v (store_listing.step l m.poll.local (register_of m x.g x.v) x found)) refl refl
+      (from_step store.may_fault task.Store m x.g x.v x (store_listing.step l m.poll.local (register_of m x.g x.v) x found) (λ y. refl) (store.faults l m.poll.local (register_of m x.g x.v) x found))
+  faults_at m (task.Global x) found = keeps_buffer m (task.Global x) (global_listing.held_behind l m.poll.local.held x.stage found) (applied task.Global m x.g x.r (global_listing.step l (register_of m x.g x.r) x found)) _ (global.holds_still l m.poll.local.held x.stage found) (λ held. applied task.Global (keeping m held) x.g x.r (global_listing.step l (register_of m x.g x.r) x found)) refl refl
+      (from_step global.may_fault task.Global m x.g x.r x (global_listing.step l (register_of m x.g x.r) x found) (λ y. refl) (global.faults l (register_of m x.g x.r) x found))
+  faults_at m (task.New x) found = new_faults l shapes m (at_task m (task.New x)) (task.New x) x.wanted x.stage found
+  faults_at m (task.Gc g x) found = gc_faults m (at_task m (task.Gc g x)) (task.Gc g x) g (wait.goes l (wait.waiting x m.poll) found) (wait.gives l (wait.waiting x m.poll) found)
+  faults_at m task.Poll found = poll_faults m (at_task m task.Poll) task.Poll (poll.goes l m.poll found) (poll.gives l m.poll found)
   faults_at m (task.Leave x) found = leave_faults m (at_task m (task.Leave x)) (task.Leave x) (leave.goes x found) (leave.gives x found)
   faults_at m _ found = none_at m _ _ _ (λ cause e. absurd (cc)) refl
 
-loads_at : (m : Processor) (t : Task) → may_fault t ≡ true → is_load (asks_at m t) ≡ true
-loads_at m t e = grind arith
+loads_at : (l : Layout) (m : Processor) (t : Task) → may_fault t ≡ true → is_load (asks_at l m t) ≡ true
+loads_at l m t e = grind arith
 
 serves_at : (t : Task) → may_fault t ≡ true → is_serving t ≡ true
 serves_at t e = grind arith
@@ -128,31 +129,31 @@ serves_at t e = grind arith
 abbrev faulting : Mutating → Bool
 faulting x = may_fault x.processor.task
 
-faults_here : (x : Mutating) (word : ℕ) → FaultsAt x.processor x.processor.task (goes x word).processor (gives x word)
-faults_here x word = faults_at x.shapes x.processor x.processor.task word
+faults_here : (l : Layout) (x : Mutating) (word : ℕ) → FaultsAt x.processor x.processor.task (goes l x word).processor (gives l x word)
+faults_here l x word = faults_at l x.shapes x.processor x.processor.task word
 
 unanswered : (k : ℕ) (t : Task) → marks_after k (answer_at t None) ≡ k
 unanswered k t = grind arith
 
 -- a step to a task from which a fault may be answered changes no more than the task
-keeps : (x : Mutating) (word : ℕ) → faulting (goes x word) ≡ true → goes x word ≡ record x { processor = at_task x.processor (goes x word).processor.task }
-keeps x word e =
-    let h = (faults_here x word).before e in
-    ap (λ (p : Processor). record (goes x word) { processor = p }) h.1
-    ∙ ap (λ (k : ℕ). record x { processor = at_task x.processor (goes x word).processor.task; marks = k }) (ap (λ (a : Option Answer). marks_after x.marks (answer_at x.processor.task a)) h.2 ∙ unanswered x.marks x.processor.task)
+keeps : (l : Layout) (x : Mutating) (word : ℕ) → faulting (goes l x word) ≡ true → goes l x word ≡ record x { processor = at_task x.processor (goes l x word).processor.task }
+keeps l x word e =
+    let h = (faults_here l x word).before e in
+    ap (λ (p : Processor). record (goes l x word) { processor = p }) h.1
+    ∙ ap (λ (k : ℕ). record x { processor = at_task x.processor (goes l x word).processor.task; marks = k }) (ap (λ (a : Option Answer). marks_after x.marks (answer_at x.processor.task a)) h.2 ∙ unanswered x.marks x.processor.task)
 
-stays_until : (m : Mutating) (found : ℕ → ℕ) (i : ℕ) → ((j : ℕ) → j ≤ i → faulting (told listing m found j) ≡ true) → told listing m found i ≡ record m { processor = at_task m.processor (told listing m found i).processor.task }
-stays_until m found zero h = refl
-stays_until m found (suc i) h =
-    keeps (told listing m found i) (found i) (h (suc i) (omega arith))
-    ∙ ap (λ (x : Mutating). record x { processor = at_task x.processor (told listing m found (suc i)).processor.task }) (stays_until m found i (λ j le. h j (omega arith)))
+stays_until : (l : Layout) (m : Mutating) (found : ℕ → ℕ) (i : ℕ) → ((j : ℕ) → j ≤ i → faulting (told (listing l) m found j) ≡ true) → told (listing l) m found i ≡ record m { processor = at_task m.processor (told (listing l) m found i).processor.task }
+stays_until l m found zero h = refl
+stays_until l m found (suc i) h =
+    keeps l (told (listing l) m found i) (found i) (h (suc i) (omega arith))
+    ∙ ap (λ (x : Mutating). record x { processor = at_task x.processor (told (listing l) m found (suc i)).processor.task }) (stays_until l m found i (λ j le. h j (omega arith)))
 
 -- the step that answers the fault
-ends_so : (x : Mutating) (word : ℕ) (cause : Cause) → gives x word ≡ Some (answer.Fault cause) → goes x word ≡ rested x x.processor (answer.Fault cause)
-ends_so x word cause e =
-    let h = (faults_here x word).here cause e in
+ends_so : (l : Layout) (x : Mutating) (word : ℕ) (cause : Cause) → gives l x word ≡ Some (answer.Fault cause) → goes l x word ≡ rested x x.processor (answer.Fault cause)
+ends_so l x word cause e =
+    let h = (faults_here l x word).here cause e in
     let serves : is_serving x.processor.task ≡ true = serves_at x.processor.task h.0 in
-    ap (λ (p : Processor). record (goes x word) { processor = p }) h.1
+    ap (λ (p : Processor). record (goes l x word) { processor = p }) h.1
     ∙ ap (λ (a : Option Answer). record x { processor = at_task x.processor task.Idle; marks = marks_after x.marks (answer_at x.processor.task a) }) e
     ∙ ap (λ (b : Bool). record x { processor = at_task x.processor task.Idle; marks = marks_after x.marks (cond b (Some (answer.Fault cause)) None) }) serves
 
@@ -161,12 +162,12 @@ same_poll : (shapes : List Shape) (m : Processor) (o : Op) → may_fault (begins
 same_poll shapes m o e = grind arith
 
 pub faults_change_nothing : FaultsChangeNothing
-faults_change_nothing m o found n cause e =
+faults_change_nothing l m o found n cause e =
     let b = begins m o in
-    let all : (i : ℕ) → i ≤ n → faulting (told listing (begins m o) found i) ≡ true =
-    held_before faulting listing (begins m o) found (λ x word p. ((faults_here x word).before p).0) n ((faults_here (told listing (begins m o) found n) (found n)).here cause e).0 in
+    let all : (i : ℕ) → i ≤ n → faulting (told (listing l) (begins m o) found i) ≡ true =
+    held_before faulting (listing l) (begins m o) found (λ x word p. ((faults_here l x word).before p).0) n ((faults_here l (told (listing l) (begins m o) found n) (found n)).here cause e).0 in
     record {
-      loads = λ i le. loads_at (told listing (begins m o) found i).processor (told listing (begins m o) found i).processor.task (all i le);
-      stays = ends_so (told listing (begins m o) found n) (found n) cause e ∙ ap (λ (x : Mutating). rested x x.processor (answer.Fault cause)) (stays_until (begins m o) found n all)
+      loads = λ i le. loads_at l (told (listing l) (begins m o) found i).processor (told (listing l) (begins m o) found i).processor.task (all i le);
+      stays = ends_so l (told (listing l) (begins m o) found n) (found n) cause e ∙ ap (λ (x : Mutating). rested x x.processor (answer.Fault cause)) (stays_until l (begins m o) found n all)
           ∙ ap (λ (p : Polling). rested m (at_poll m.processor p) (answer.Fault cause)) (same_poll m.shapes m.processor o (all 0 (omega arith)));
     }

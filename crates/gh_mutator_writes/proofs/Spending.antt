@@ -25,11 +25,11 @@ use Rattle.gh_mutator_writes.specs.Writing.{IsWritten, ProcessorWritesItsOwn}
 use Rattle.gh_mutator_writes.proofs.Vocabulary.{after_gc, after_leave, after_place, after_poll, after_search, after_wait, Ask, asks, Assist, Assisting, assists, cache_span, CachedSpan, follows, Found, is_busy_at, Layout, Leaving, Name, NewStage, Op, Place, Placing, Processor, processor_kind, register_of, Search, Seeking, Shape, takes_at, taking, Task, Then, Value, Wait, Waiting, Want, Wanted, WritesOf}
 
 -- A step of a processor that does not assist takes nothing out of the bank, and leaves it.
-module _ (m : Processor) (rests : IsAssisting m.task → ⊥) where
-  draws_none : (step : Ask) (found : ℕ) → WritesOf (IsWritten m) step → drawn_by step found ≡ 0
+module _ (l : Layout) (m : Processor) (rests : IsAssisting m.task → ⊥) where
+  draws_none : (step : Ask) (found : ℕ) → WritesOf (IsWritten l m) step → drawn_by step found ≡ 0
   draws_none step found w = grind arith
 
-  leaves_bank : (step : Ask) → WritesOf (IsWritten m) step → LeavesOrDraws step
+  leaves_bank : (step : Ask) → WritesOf (IsWritten l m) step → LeavesOrDraws step
   leaves_bank step w = grind arith
 
 -- What is spent stays by each step but those of an assist.
@@ -64,60 +64,60 @@ with_stage w q = task.New (record { wanted = w; stage = q })
 abbrev running : Polling → List ℕ → Task → Processor
 running p made t = record { poll = p; made = made; task = t }
 
-module _ (shapes : List Shape) (p : Polling) (made : List ℕ) (found : ℕ) where
+module _ (l : Layout) (shapes : List Shape) (p : Polling) (made : List ℕ) (found : ℕ) where
   -- the step, at this task
   record Spends (t : Task) : Type 0 where
-    spends : spent_of (takes_at shapes (running p made t) t found) ≡ spent_in_task p t + drawn_by (asks (running p made t)) found
+    spends : spent_of (takes_at l shapes (running p made t) t found) ≡ spent_in_task p t + drawn_by (asks l (running p made t)) found
 
   -- where it does not assist
-  plainly : (t : Task) → (IsAssisting t → ⊥) → WritesOf (IsWritten (running p made t)) (asks (running p made t)) → spent_of (takes_at shapes (running p made t) t found) ≡ spent_in_task p t → Spends t
-  plainly t rests w stays = record { spends = stays ∙ by (draws_none (running p made t) rests (asks (running p made t)) found w) } where
+  plainly : (t : Task) → (IsAssisting t → ⊥) → WritesOf (IsWritten l (running p made t)) (asks l (running p made t)) → spent_of (takes_at l shapes (running p made t) t found) ≡ spent_in_task p t → Spends t
+  plainly t rests w stays = record { spends = stays ∙ by (draws_none l (running p made t) rests (asks l (running p made t)) found w) } where
     by : {a b : ℕ} → b ≡ 0 → a ≡ a + b
     by e = omega arith
 
   module _ (pay : AssistsPay) where
-    assisted : (w : Wanted) (n : Name) (x : Assisting) → SoundAssistAt p (Assist n x) → x.spent + drawn_by (assist.asks p.layout x) found < 2 ^ 64 → Spends (assists w n x)
-    assisted w n x s most = record { spends = assist_spent (running p made (assists w n x)) w n (assist.goes p.layout x found) (assist.gives p.layout x found) ∙ pay.spends p.layout x found s.1 most }
+    assisted : (w : Wanted) (n : Name) (x : Assisting) → SoundAssistAt p (Assist n x) → x.spent + drawn_by (assist.asks l x) found < 2 ^ 64 → Spends (assists w n x)
+    assisted w n x s most = record { spends = assist_spent (running p made (assists w n x)) w n (assist.goes l x found) (assist.gives l x found) ∙ pay.spends l x found s.1 most }
 
-    new_spends : (w : Wanted) (q : NewStage) → let t : Task = task.New (record { wanted = w; stage = q }) in SoundAssistAt p q → WritesOf (IsWritten (running p made t)) (asks (running p made t)) → spent_in_task p t + drawn_by (asks (running p made t)) found < 2 ^ 64 → Spends t
-    new_spends w (Search waited y) s writes most = plainly (with_stage w (Search waited y)) (λ a. a) writes (search_spent shapes (running p made (with_stage w (Search waited y))) w waited (search.goes p.layout y found).find.cached (search.goes p.layout y found) (search.gives p.layout y found))
-    new_spends w (Wait x) s writes most = plainly (with_stage w (Wait x)) (λ a. a) writes (wait_then (running p made (with_stage w (Wait x))) w (wait.goes (wait.waiting x p) found) (wait.gives (wait.waiting x p) found) ∙ wait_spent (wait.waiting x p) found)
+    new_spends : (w : Wanted) (q : NewStage) → let t : Task = task.New (record { wanted = w; stage = q }) in SoundAssistAt p q → WritesOf (IsWritten l (running p made t)) (asks l (running p made t)) → spent_in_task p t + drawn_by (asks l (running p made t)) found < 2 ^ 64 → Spends t
+    new_spends w (Search waited y) s writes most = plainly (with_stage w (Search waited y)) (λ a. a) writes (search_spent shapes (running p made (with_stage w (Search waited y))) w waited (search.goes l y found).find.cached (search.goes l y found) (search.gives l y found))
+    new_spends w (Wait x) s writes most = plainly (with_stage w (Wait x)) (λ a. a) writes (wait_then (running p made (with_stage w (Wait x))) w (wait.goes l (wait.waiting x p) found) (wait.gives l (wait.waiting x p) found) ∙ wait_spent l (wait.waiting x p) found)
     new_spends w (Place y) s writes most = plainly (with_stage w (Place y)) (λ a. a) writes (place_spent (running p made (with_stage w (Place y))) w (place.makes_its_object y) y.at (place.goes y found))
     new_spends w (Want n) s writes most = plainly (with_stage w (Want n)) (λ a. a) writes refl
     new_spends w (Assist n x) s writes most = assisted w n x s most
 
-    spends_at : (t : Task) → SoundAssist p t → is_busy_at t ≡ true → WritesOf (IsWritten (running p made t)) (asks (running p made t)) → spent_in_task p t + drawn_by (asks (running p made t)) found < 2 ^ 64 → Spends t
+    spends_at : (t : Task) → SoundAssist p t → is_busy_at t ≡ true → WritesOf (IsWritten l (running p made t)) (asks l (running p made t)) → spent_in_task p t + drawn_by (asks l (running p made t)) found < 2 ^ 64 → Spends t
     spends_at task.Idle s busy writes most = absurd (cc)
     spends_at task.Left s busy writes most = absurd (cc)
-    spends_at (task.Load x) s busy writes most = plainly (task.Load x) (λ a. a) writes (let step = load.step p.layout x found in into_spent task.Load (running p made (task.Load x)) x.g x.d step.sets step.then (λ q y. refl))
+    spends_at (task.Load x) s busy writes most = plainly (task.Load x) (λ a. a) writes (let step = load.step l x found in into_spent task.Load (running p made (task.Load x)) x.g x.d step.sets step.then (λ q y. refl))
     spends_at (task.Store x) s busy writes most = plainly (task.Store x) (λ a. a) writes
-        (let step = store.step p.layout p.local (register_of (running p made (task.Store x)) x.g x.v) x found in into_spent task.Store (keeping (running p made (task.Store x)) (store.held_behind p.layout p.local.held x.stage found)) x.g x.v step.sets step.then (λ q y. refl))
+        (let step = store.step l p.local (register_of (running p made (task.Store x)) x.g x.v) x found in into_spent task.Store (keeping (running p made (task.Store x)) (store.held_behind l p.local.held x.stage found)) x.g x.v step.sets step.then (λ q y. refl))
     spends_at (task.Global x) s busy writes most = plainly (task.Global x) (λ a. a) writes
-        (let step = global.step p.layout (register_of (running p made (task.Global x)) x.g x.r) x found in into_spent task.Global (keeping (running p made (task.Global x)) (global.held_behind p.layout p.local.held x.stage found)) x.g x.r step.sets step.then (λ q y. refl))
+        (let step = global.step l (register_of (running p made (task.Global x)) x.g x.r) x found in into_spent task.Global (keeping (running p made (task.Global x)) (global.held_behind l p.local.held x.stage found)) x.g x.r step.sets step.then (λ q y. refl))
     spends_at (task.Register x) s busy writes most = plainly (task.Register x) (λ a. a) writes (let step = register.step (register_of (running p made (task.Register x)) x.g (register.read_of x)) x in into_spent task.Register (running p made (task.Register x)) x.g x.d step.sets step.then (λ q y. refl))
     spends_at (task.New x) s busy writes most = new_spends x.wanted x.stage s writes most
-    spends_at (task.Gc g x) s busy writes most = plainly (task.Gc g x) (λ a. a) writes (gc_spent (running p made (task.Gc g x)) g (wait.goes (wait.waiting x p) found) (wait.gives (wait.waiting x p) found) ∙ wait_spent (wait.waiting x p) found)
-    spends_at task.Poll s busy writes most = plainly task.Poll (λ a. a) writes (poll_then (running p made task.Poll) (poll.goes p found) (poll.gives p found) ∙ poll_spent p found)
+    spends_at (task.Gc g x) s busy writes most = plainly (task.Gc g x) (λ a. a) writes (gc_spent (running p made (task.Gc g x)) g (wait.goes l (wait.waiting x p) found) (wait.gives l (wait.waiting x p) found) ∙ wait_spent l (wait.waiting x p) found)
+    spends_at task.Poll s busy writes most = plainly task.Poll (λ a. a) writes (poll_then (running p made task.Poll) (poll.goes l p found) (poll.gives l p found) ∙ poll_spent l p found)
     spends_at (task.End g) s busy writes most = plainly (task.End g) (λ a. a) writes refl
     spends_at (task.Leave x) s busy writes most = plainly (task.Leave x) (λ a. a) writes (leave_spent (running p made (task.Leave x)) (leave.goes x found) (leave.gives x found))
 
 -- The draws are those of an assist.
-module _ (pay : AssistsPay) (p : Polling) (made : List ℕ) where
-  new_draws : (w : Wanted) (q : NewStage) → let m : Processor = running p made (task.New (record { wanted = w; stage = q })) in WritesOf (IsWritten m) (asks m) → LeavesOrDraws (asks m)
+module _ (l : Layout) (pay : AssistsPay) (p : Polling) (made : List ℕ) where
+  new_draws : (w : Wanted) (q : NewStage) → let m : Processor = running p made (task.New (record { wanted = w; stage = q })) in WritesOf (IsWritten l m) (asks l m) → LeavesOrDraws (asks l m)
   new_draws w q writes = grind arith
 
-  draws_at : (t : Task) → WritesOf (IsWritten (running p made t)) (asks (running p made t)) → LeavesOrDraws (asks (running p made t))
+  draws_at : (t : Task) → WritesOf (IsWritten l (running p made t)) (asks l (running p made t)) → LeavesOrDraws (asks l (running p made t))
   draws_at (task.New x) writes = new_draws x.wanted x.stage writes
   draws_at task.Idle writes = tt
   draws_at task.Left writes = tt
-  draws_at (task.Load x) writes = leaves_bank (running p made (task.Load x)) (λ a. a) (asks (running p made (task.Load x))) writes
-  draws_at (task.Store x) writes = leaves_bank (running p made (task.Store x)) (λ a. a) (asks (running p made (task.Store x))) writes
-  draws_at (task.Global x) writes = leaves_bank (running p made (task.Global x)) (λ a. a) (asks (running p made (task.Global x))) writes
-  draws_at (task.Register x) writes = leaves_bank (running p made (task.Register x)) (λ a. a) (asks (running p made (task.Register x))) writes
-  draws_at (task.Gc g x) writes = leaves_bank (running p made (task.Gc g x)) (λ a. a) (asks (running p made (task.Gc g x))) writes
-  draws_at task.Poll writes = leaves_bank (running p made task.Poll) (λ a. a) (asks (running p made task.Poll)) writes
-  draws_at (task.End g) writes = leaves_bank (running p made (task.End g)) (λ a. a) (asks (running p made (task.End g))) writes
-  draws_at (task.Leave x) writes = leaves_bank (running p made (task.Leave x)) (λ a. a) (asks (running p made (task.Leave x))) writes
+  draws_at (task.Load x) writes = leaves_bank l (running p made (task.Load x)) (λ a. a) (asks l (running p made (task.Load x))) writes
+  draws_at (task.Store x) writes = leaves_bank l (running p made (task.Store x)) (λ a. a) (asks l (running p made (task.Store x))) writes
+  draws_at (task.Global x) writes = leaves_bank l (running p made (task.Global x)) (λ a. a) (asks l (running p made (task.Global x))) writes
+  draws_at (task.Register x) writes = leaves_bank l (running p made (task.Register x)) (λ a. a) (asks l (running p made (task.Register x))) writes
+  draws_at (task.Gc g x) writes = leaves_bank l (running p made (task.Gc g x)) (λ a. a) (asks l (running p made (task.Gc g x))) writes
+  draws_at task.Poll writes = leaves_bank l (running p made task.Poll) (λ a. a) (asks l (running p made task.Poll)) writes
+  draws_at (task.End g) writes = leaves_bank l (running p made (task.End g)) (λ a. a) (asks l (running p made (task.End g))) writes
+  draws_at (task.Leave x) writes = leaves_bank l (running p made (task.Leave x)) (λ a. a) (asks l (running p made (task.Leave x))) writes
 
 marking_at_task : (p : Polling) (t : Task) → SoundAssist p t → IsAssisting t → marking_at p ≡ true
 marking_at_task p t s is = grind arith
@@ -127,9 +127,9 @@ begun shapes l m o rests = grind arith
 
 pub processors_spend : AssistsPay → ProcessorWritesItsOwn → ProcessorsSpend
 processors_spend pay own = record {
-  at_first = λ l seat. refl;
+  at_first = λ seat. refl;
   begins = begun;
-  spends = λ shapes m found s busy most. (spends_at shapes m.poll m.made found pay m.task s.assist busy (own.writes m s) most).spends;
-  draws = λ m s busy. draws_at pay m.poll m.made m.task (own.writes m s);
-  marking = λ m s is. marking_at_task m.poll m.task s.assist is;
+  spends = λ l shapes m found s busy most. (spends_at l shapes m.poll m.made found pay m.task s.assist busy (own.writes l m s) most).spends;
+  draws = λ l m s busy. draws_at l pay m.poll m.made m.task (own.writes l m s);
+  marking = λ l m s is. marking_at_task m.poll m.task s.assist is;
 }

@@ -25,17 +25,17 @@ use Rattle.gh_poll.specs.Wait as wait
 
 -- ---- giving back, the scan of a stack, a poll, a wait, and leaving
 
-poll_blind_at : (p : Polling) (stage : PollStage) (found other : ℕ) → is_store (poll.asks_at stage) ≡ true → poll.goes_at p stage found ≡ poll.goes_at p stage other
-poll_blind_at p stage found other e = grind arith
+poll_blind_at : (l : Layout) (p : Polling) (stage : PollStage) (found other : ℕ) → is_store (poll.asks_at stage) ≡ true → poll.goes_at l p stage found ≡ poll.goes_at l p stage other
+poll_blind_at l p stage found other e = grind arith
 
-poll_blind : StoresAreBlind poll.asks poll.goes
-poll_blind p found other e = poll_blind_at p p.stage found other e
+poll_blind : (l : Layout) → StoresAreBlind poll.asks (poll.goes l)
+poll_blind l p found other e = poll_blind_at l p p.stage found other e
 
-wait_blind_at : (w : Waiting) (stage : WaitStage) (found other : ℕ) → is_store (wait.asks_at w stage) ≡ true → wait.goes_at w stage found ≡ wait.goes_at w stage other
-wait_blind_at w stage found other e = grind arith
+wait_blind_at : (l : Layout) (w : Waiting) (stage : WaitStage) (found other : ℕ) → is_store (wait.asks_at w stage) ≡ true → wait.goes_at l w stage found ≡ wait.goes_at l w stage other
+wait_blind_at l w stage found other e = grind arith
 
-wait_blind : StoresAreBlind wait.asks wait.goes
-wait_blind w found other e = wait_blind_at w w.wait.stage found other e
+wait_blind : (l : Layout) → StoresAreBlind wait.asks (wait.goes l)
+wait_blind l w found other e = wait_blind_at l w w.wait.stage found other e
 
 leave_blind_at : (w : Leaving) (stage : LeaveStage) (found other : ℕ) → is_store (leave.asks_at w stage) ≡ true → leave.goes_at w stage found ≡ leave.goes_at w stage other
 leave_blind_at w stage found other e = grind arith
@@ -65,23 +65,23 @@ global_blind l held v x stage found other e = grind arith
 -- ---- the processor
 
 -- the processor behind the step, and what the operation is answered if it ends
-abbrev new_step : List Shape → Processor → Wanted → NewStage → (found : ℕ) → Processor × Option Answer
-new_step shapes m w s found = (new.takes_at shapes m w s found, new.gives_at m.poll.layout (marking_at m.poll) s found)
+abbrev new_step : Layout → List Shape → Processor → Wanted → NewStage → (found : ℕ) → Processor × Option Answer
+new_step l shapes m w s found = (new.takes_at l shapes m w s found, new.gives_at l (marking_at m.poll) s found)
 
-new_blind : (shapes : List Shape) (m : Processor) (w : Wanted) (s : NewStage) (found other : ℕ) → is_store (new.asks_at m s) ≡ true → new_step shapes m w s found ≡ new_step shapes m w s other
-new_blind shapes m w s found other e = grind arith
+new_blind : (l : Layout) (shapes : List Shape) (m : Processor) (w : Wanted) (s : NewStage) (found other : ℕ) → is_store (new.asks_at l m s) ≡ true → new_step l shapes m w s found ≡ new_step l shapes m w s other
+new_blind l shapes m w s found other e = grind arith
 
-abbrev step_by : List Shape → Processor → Task → (found : ℕ) → Processor × Option Answer
-step_by shapes m t found = (takes_at shapes m t found, gives_at m t found)
+abbrev step_by : Layout → List Shape → Processor → Task → (found : ℕ) → Processor × Option Answer
+step_by l shapes m t found = (takes_at l shapes m t found, gives_at l m t found)
 
-blind_at : (shapes : List Shape) (m : Processor) (t : Task) (found other : ℕ) → is_store (asks_at m t) ≡ true → step_by shapes m t found ≡ step_by shapes m t other
-blind_at shapes m t found other e = grind (arith, global_blind, leave_blind, load_blind, new_blind, poll_blind, store_blind, wait_blind)
+blind_at : (l : Layout) (shapes : List Shape) (m : Processor) (t : Task) (found other : ℕ) → is_store (asks_at l m t) ≡ true → step_by l shapes m t found ≡ step_by l shapes m t other
+blind_at l shapes m t found other e = grind (arith, global_blind, leave_blind, load_blind, new_blind, poll_blind, store_blind, wait_blind)
 
-of_task : (m : Mutating) (found other : ℕ) → is_store (asks m) ≡ true → step_by m.shapes m.processor m.processor.task found ≡ step_by m.shapes m.processor m.processor.task other
-of_task m found other e = grind (arith, blind_at)
+of_task : (l : Layout) (m : Mutating) (found other : ℕ) → is_store (asks l m) ≡ true → step_by l m.shapes m.processor m.processor.task found ≡ step_by l m.shapes m.processor m.processor.task other
+of_task l m found other e = grind (arith, blind_at)
 
-pub blind : StoresAreBlind asks goes
-blind m found other e = ap (λ (x : Processor × Option Answer). record m { processor = x.0; marks = marks_after m.marks (answer_at m.processor.task x.1) }) (of_task m found other e)
+pub blind : (l : Layout) → StoresAreBlind (asks l) (goes l)
+blind l m found other e = ap (λ (x : Processor × Option Answer). record m { processor = x.0; marks = marks_after m.marks (answer_at m.processor.task x.1) }) (of_task l m found other e)
 
-pub blind_gives : (m : Mutating) (found other : ℕ) → is_store (asks m) ≡ true → gives m found ≡ gives m other
-blind_gives m found other e = ap (λ (x : Processor × Option Answer). x.1) (of_task m found other e)
+pub blind_gives : (l : Layout) (m : Mutating) (found other : ℕ) → is_store (asks l m) ≡ true → gives l m found ≡ gives l m other
+blind_gives l m found other e = ap (λ (x : Processor × Option Answer). x.1) (of_task l m found other e)

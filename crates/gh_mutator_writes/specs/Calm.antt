@@ -93,21 +93,21 @@ abbrev pub FindsNoMarking : Ask → (found : ℕ) → Type 0
 FindsNoMarking step found = step ≡ ask.Load cell.Phase → run_phase (phase_of found).phase ≢ Some run.Mark
 
 -- Mark bits, but those that a sweep clears, buffers and their entries it leaves, and of a stack it tells its end alone.
-abbrev pub IsWrittenCalmly : Processor → Cell → Type 0
-IsWrittenCalmly m (cell.Mark i) = IsSweeping m
-IsWrittenCalmly m (cell.Buffer i) = ⊥
-IsWrittenCalmly m (cell.Entry i j) = ⊥
-IsWrittenCalmly m (cell.Scanned g) = EndsStack m g
-IsWrittenCalmly m _ = Unit {0}
+abbrev pub IsWrittenCalmly : Layout → Processor → Cell → Type 0
+IsWrittenCalmly l m (cell.Mark i) = IsSweeping m
+IsWrittenCalmly l m (cell.Buffer i) = ⊥
+IsWrittenCalmly l m (cell.Entry i j) = ⊥
+IsWrittenCalmly l m (cell.Scanned g) = EndsStack l m g
+IsWrittenCalmly l m _ = Unit {0}
 
 pub record CalmProcessorsMarkNothing : Type 0 where
-  pub first : (l : Layout) (seat : ℕ) → IsCalm (opening_processor l seat)
+  pub first : (seat : ℕ) → IsCalm (opening_processor seat)
   pub begins : (shapes : List Shape) (l : Layout) (m : Processor) (o : Op) → SoundPlace m → is_busy_at m.task ≡ false → IsCalm m → IsCalm ((processor_kind shapes l).begins m o)
   -- it is calm as long as the phases that it finds are not that of marking
-  pub lasts : (shapes : List Shape) (m : Processor) (found : ℕ) → SoundPlace m → is_busy_at m.task ≡ true → IsCalm m → FindsNoMarking (asks m) found → IsCalm (takes shapes m found)
+  pub lasts : (l : Layout) (shapes : List Shape) (m : Processor) (found : ℕ) → SoundPlace m → is_busy_at m.task ≡ true → IsCalm m → FindsNoMarking (asks l m) found → IsCalm (takes l shapes m found)
   -- and holds no buffer also behind the step that finds that one
-  pub holds : (shapes : List Shape) (m : Processor) (found : ℕ) → IsCalm m → HoldsNoBuffer (takes shapes m found)
-  pub writes : (m : Processor) → IsCalm m → WritesOf (IsWrittenCalmly m) (asks m)
-  pub leaves : (m : Processor) (words : Words) (c : Cell) → IsCalm m → (IsWrittenCalmly m c → ⊥) → effect words (asks m) c ≡ words c
+  pub holds : (l : Layout) (shapes : List Shape) (m : Processor) (found : ℕ) → IsCalm m → HoldsNoBuffer (takes l shapes m found)
+  pub writes : (l : Layout) (m : Processor) → IsCalm m → WritesOf (IsWrittenCalmly l m) (asks l m)
+  pub leaves : (l : Layout) (m : Processor) (words : Words) (c : Cell) → IsCalm m → (IsWrittenCalmly l m c → ⊥) → effect words (asks l m) c ≡ words c
   -- where a cycle's marking has ended, one that stands still is calm
   pub behind : (z : Cycle) (a : ℕ) (s : Shared) (m : Processor) (stops : ℕ) → IsParked stops (stage_of m) → MarkFacts z a s m → IsCalm m

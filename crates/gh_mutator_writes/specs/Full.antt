@@ -14,6 +14,7 @@ use Rattle.gh_mutator.specs.Mutating.{asks, begins, gives, listing, Mutating}
 use Rattle.gh_mutator.specs.New.{wanted_of}
 use Rattle.gh_mutator.specs.Processor.{at_poll}
 use Rattle.gh_mutator_writes.specs.Vocabulary.{NewStage, Task, Wait}
+use Rattle.gh_base.specs.declared.layout.Layout.{Layout}
 
 -- a load, a step on the heap's lock, a store to a page word, which says who has a span cached, or a step of a sweep: it swaps a head, cuts alloc bits, clears marks, and adds what it counted
 abbrev pub is_looking : Ask → Bool
@@ -38,22 +39,22 @@ abbrev pub new_is_waiting : Task → Bool
 new_is_waiting (task.New x) = waits_at x.stage
 new_is_waiting _ = false
 
-module _ (m : Mutating) (g d t : ℕ) (found : ℕ → ℕ) where
+module _ (l : Layout) (m : Mutating) (g d t : ℕ) (found : ℕ → ℕ) where
   -- the `new` begun at m after so many steps
   abbrev pub after : (n : ℕ) → Mutating
-  after n = told listing (begins m (New g d t)) found n
+  after n = told (listing l) (begins m (New g d t)) found n
 
   -- before step n it loaded the number of the last swept cycle, and that was later than the cycle which the processor knew when the `new` began
   pub record HasWaited (n : ℕ) : Type 0 where
     pub at_step : ℕ
     pub before : at_step < n
-    pub loads : asks (after at_step) ≡ ask.Load cell.Swept
+    pub loads : asks l (after at_step) ≡ ask.Load cell.Swept
     pub later : m.processor.poll.local.view.begun < found at_step
 
   -- it is answered `full` by its step number n, counted from 0
   pub record ChangesLittle (n : ℕ) : Type 0 where
     -- each step up to that one looks for a slot, or is one of the wait for a cycle
-    pub looks : (i : ℕ) → i ≤ n → new_is_waiting (after i).processor.task ≡ false → is_looking (asks (after i)) ≡ true
+    pub looks : (i : ℕ) → i ≤ n → new_is_waiting (after i).processor.task ≡ false → is_looking (asks l (after i)) ≡ true
     -- a cycle that began after it did was swept
     pub waited : HasWaited n
     -- The processor is what it was, beside what the wait's polls have changed of what it alone knows:
@@ -62,10 +63,9 @@ module _ (m : Mutating) (g d t : ℕ) (found : ℕ → ℕ) where
     pub registers : (after (suc n)).processor.poll.local.stacks ≡ stacks_with m.processor.poll.local.stacks g d Nil
     -- and no span is cached of the object's span class
     pub cached : cached_at (after (suc n)).processor.poll (wanted_of m.shapes g d t).sought ≡ None
-    pub layout : (after (suc n)).processor.poll.layout ≡ m.processor.poll.layout
     pub seat : (after (suc n)).processor.poll.seat ≡ m.processor.poll.seat
 
 -- whatever the steps find
 abbrev pub FullChangesLittle : Type 0
-FullChangesLittle = (m : Mutating) (g d t : ℕ) (found : ℕ → ℕ) (n : ℕ) →
-    gives (after m g d t found n) (found n) ≡ Some Full → ChangesLittle m g d t found n
+FullChangesLittle = (l : Layout) (m : Mutating) (g d t : ℕ) (found : ℕ → ℕ) (n : ℕ) →
+    gives l (after l m g d t found n) (found n) ≡ Some Full → ChangesLittle l m g d t found n

@@ -1,7 +1,9 @@
 //! The routine by which an actor acknowledges a stop and goes on.
 
-ghost use Rattle.std.specs.Prelude.{◌≡◌, IfSome, true};
-ghost use Rattle.gh_phase.specs.Listing.{given, goes, goes_at, is_busy, opening};
+ghost use Rattle.std.specs.Prelude.{◌≡◌, IfSome, IsTrue, Option, true};
+ghost use Rattle.gh_base.specs.declared.layout.Layout.{Layout};
+ghost use Rattle.gh_base.specs.Cells.{InRange};
+ghost use Rattle.gh_phase.specs.Listing.{asks, given, goes, goes_at, is_busy, opening};
 ghost use Rattle.gh_phase.specs.Sound.{SoundResuming};
 ghost use Rattle.gh_phase.specs.Views.{FitsView};
 
@@ -80,6 +82,35 @@ impl Resume {
                 self.stops = word.stops;
                 self.stage = ResumeStage::Acknowledge;
             }
+        }
+    }
+
+    /// The cell that its next step loads, where it waits for the world to run again.
+    #[inline(always)]
+    pub fn looks(&self) -> Option<Cell>
+        ensures asks { IfSome result (λ c. asks self.now ≡ Ask.Load c) }
+        ensures busy { IfSome result (λ c. given self.now ≡ Option.None) }
+        ensures within { (l : Layout) → IfSome result (λ c. InRange l c) }
+    {
+        match self.stage {
+            ResumeStage::LoadPhase => Some(Cell::Phase),
+            _ => None,
+        }
+    }
+
+    /// It waits on where its step found this: the phase word still tells of the stop that it has acknowledged. The step changes
+    /// nothing then. While a stop lasts each step of an actor that waits for its end is such.
+    #[inline(always)]
+    pub fn stands(&self, found: u64) -> bool
+        ensures goes { IsTrue result → goes self.now found ≡ self.now }
+        ensures busy { IsTrue result → given self.now ≡ Option.None }
+    {
+        match self.stage {
+            ResumeStage::LoadPhase => {
+                let word = PhaseWord::unpack(found);
+                RunPhase::of(word.phase).is_none() && word.stops == self.stops
+            }
+            _ => false,
         }
     }
 

@@ -86,7 +86,7 @@ module _ (shapes : List Shape) (e : Ever) (g : ℕ) where
 module _ (p : Program) (l : Layout) (changed : OnlyPointsChange) where
   -- the heap that never frees after the list
   abbrev pub ever : List (Entry Op) → Ever
-  ever es = model_after (processor_kind p.shapes l) (deeds p.shapes) (meaning p.shapes) es
+  ever es = model_after (processor_kind p.shapes l) (deeds l p.shapes) (meaning p.shapes) es
 
   step_made : (e f : Ever) (g : ℕ) (x : Option Act) → (acted p.shapes e x).made g ≤ e.made g + made_in g (option_to_list (answered p.shapes l f x))
   step_made e f g None = omega arith
@@ -96,7 +96,7 @@ module _ (p : Program) (l : Layout) (changed : OnlyPointsChange) where
   pub made_few : (es : List (Entry Op)) (g : ℕ) → (ever es).made g ≤ made_in g (order_of p.shapes l es)
   made_few [] g = omega arith
   made_few (e ∷ es) g =
-      let x = acts (before_step p.shapes l es e) e.found in
+      let x = acts l (before_step p.shapes l es e) e.found in
       let one = step_made (ever es) (ever_of p.shapes l es) g x in
       let rest = made_few es g in
       let all = count-append (λ (y : Answered). makes_for g y.op) (option_to_list (answered p.shapes l (ever_of p.shapes l es) x)) (order_of p.shapes l es) in
@@ -108,7 +108,7 @@ module _ (p : Program) (l : Layout) (changed : OnlyPointsChange) where
   later_more [] es g = omega arith
   later_more (e ∷ later) es g =
       let rest = later_more later es g in
-      let all = count-append (λ (y : Answered). makes_for g y.op) (option_to_list (answered p.shapes l (ever_of p.shapes l (later ++ es)) (acts (before_step p.shapes l (later ++ es) e) e.found))) (order_of p.shapes l (later ++ es)) in
+      let all = count-append (λ (y : Answered). makes_for g y.op) (option_to_list (answered p.shapes l (ever_of p.shapes l (later ++ es)) (acts l (before_step p.shapes l (later ++ es) e) e.found))) (order_of p.shapes l (later ++ es)) in
       omega (arith, rest, all)
 
 -- The objects of a whole run are those of the script.

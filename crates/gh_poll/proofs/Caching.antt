@@ -1,8 +1,10 @@
 -- What is known of the cached spans stays where one of them changes.
-use Rattle.std.proofs.Common.{◌≡◌, ℕ, ◌/◌, List, ◌∙◌, sym, subst, Option, None, arith}
+use Rattle.std.proofs.Common.{◌≡◌, ℕ, ◌/◌, List, [], length, ◌∙◌, sym, subst, Option, None, arith}
 use Rattle.std.proofs.Math.ListN.{set}
 use Rattle.std.proofs.lemmas.List.{length-set}
 use Rattle.gh_base.specs.declared.layout.Layout.{Layout}
+use Rattle.std.specs.Prelude.{slice_index_or, slice_set}
+use Rattle.gh_base.specs.declared.limits.TheConstants.{REGISTERS}
 use Rattle.gh_base.specs.Reading.{read_after_set}
 use Rattle.gh_class.specs.Classes.{span_index}
 use Rattle.gh_class.specs.declared.class.SpanClass.{SpanClass}
@@ -12,9 +14,11 @@ use Rattle.gh_alloc.specs.declared.sought.Sought.TheVariants.{Small, Large}
 use Rattle.gh_alloc.specs.FindSound.{IsCached}
 use Rattle.gh_poll.specs.Cached.{SoundCached}
 use Rattle.gh_poll.specs.GiveSound.{FitsCache}
-use Rattle.gh_poll.specs.Local.{cache_with}
+use Rattle.gh_base.specs.declared.value.Value.{Value}
+use Rattle.gh_poll.specs.Local.{cache_with, stacks_with, with_register_value}
+use Rattle.gh_poll.specs.Poll.{Polling}
 use Rattle.gh_poll.specs.declared.poll.Local.{Local}
-use Rattle.gh_poll.specs.PollSound.{SoundLocal}
+use Rattle.gh_poll.specs.PollSound.{SoundLocal, SoundPolling}
 
 -- the cached span of a span class is this now
 half : (c : SpanClass) (i : ℕ) → span_index c ≡ i → c.class ≡ i / 2
@@ -36,4 +40,17 @@ recached_fits l local x i c e h fits = record {
   held = h.held;
   scanned = h.scanned;
   stacks = h.stacks;
+  rows = h.rows;
+}
+
+-- and where a register takes a value
+rows_after : (stacks : List (List Value)) (g d i : ℕ) (v : Value) → length (slice_index_or stacks i []) ≡ REGISTERS → length (slice_index_or (stacks_with stacks g d v) i []) ≡ REGISTERS
+rows_after stacks g d i v was =
+    read_after_set (λ (row : List Value). length row ≡ REGISTERS) stacks g i (slice_set (slice_index_or stacks g []) d v) [] (λ e. length-set (slice_index_or stacks g []) d v ∙ subst (λ (j : ℕ). length (slice_index_or stacks j []) ≡ REGISTERS) (sym e) was) was
+
+pub register_fits : (l : Layout) (p : Polling) (g d : ℕ) (v : Value) → SoundPolling l p → SoundPolling l (with_register_value p g d v)
+register_fits l p g d v s = record {
+  seat = s.seat;
+  local = record { view = s.local.view; room = s.local.room; cache = s.local.cache; held = s.local.held; scanned = s.local.scanned; stacks = length-set p.local.stacks g _ ∙ s.local.stacks; rows = λ i low. rows_after p.local.stacks g d i v (s.local.rows i low) };
+  stage = s.stage;
 }

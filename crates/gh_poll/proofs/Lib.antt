@@ -2,6 +2,8 @@ pub mod Caching
 pub mod Giving
 pub mod Marking
 pub mod Shaking
+pub mod Routines
+pub mod Sound
 pub mod StackMarking
 pub mod Vocabulary
 pub mod Waits

@@ -24,9 +24,9 @@ drop_next i xs v vs e = sym (drop-drop 1 i xs) ∙ ap (drop 1) e
 
 module _ (l : Layout) (seat : ℕ) (waits : Bool) (local : Local) where
   abbrev ended : Polling
-  ended = record { layout = l; seat = seat; waits = waits; local = local; stage = Ended }
+  ended = record { seat = seat; waits = waits; local = local; stage = Ended }
 
-  pub due_scans : (g : ℕ) → due ended ≡ Some g → IsUnscanned l seat local g
+  pub due_scans : (g : ℕ) → due l ended ≡ Some g → IsUnscanned l seat local g
   due_scans g e = by (eqb (local.polls % 4) 0) e where
     wants : (i : ℕ) → is_due l seat local.view.begun i (slice_index local.scanned i) ≡ true → IsUnscanned l seat local i
     wants i e = grind arith

@@ -1,29 +1,29 @@
 -- A processor gives back what it holds: what is asked for at each stage, where that leads, and what it has given there.
-use Rattle.std.specs.Prelude.{ℕ, ◌+◌, ◌/◌, ◌%◌, Bool, ◌==◌, if◌then◌else◌, List, [], ◌∷◌, drop, replicate, Option, Some, None, is_none}
+use Rattle.std.specs.Prelude.{ℕ, ◌+◌, ◌/◌, ◌%◌, Bool, true, ◌==◌, if◌then◌else◌, List, [], ◌∷◌, drop, replicate, Option, Some, None, is_none}
 use Rattle.gh_base.specs.declared.cell.Cell.TheVariants as cell
 use Rattle.gh_base.specs.declared.cell.Ask.{Ask}
 use Rattle.gh_base.specs.declared.cell.Ask.TheVariants.{Load, Store, Swap}
 use Rattle.gh_base.specs.declared.held.Held.{Held}
 use Rattle.gh_base.specs.declared.layout.Layout.{Layout}
-use Rattle.gh_base.specs.Given.{listing_of}
+use Rattle.gh_base.specs.Footprints.{Footprint}
+use Rattle.gh_base.specs.Footprints as row
+use Rattle.gh_base.specs.Machines.{Listing, steps_of}
 use Rattle.gh_base.specs.Packing.{head_word}
-use Rattle.gh_base.specs.Routines.{Listing}
+use Rattle.gh_base.specs.Routines as routine
 use Rattle.gh_class.specs.declared.class.SpanClass.{SpanClass}
 use Rattle.gh_class.specs.declared.class.TheConstants.{SPAN_CLASSES}
 use Rattle.gh_alloc.specs.declared.sought.CachedSpan.{CachedSpan}
 use Rattle.gh_alloc.specs.Find.{given_head}
 use Rattle.gh_wbuf.specs.BufferGiving as buffer
+use Rattle.gh_wbuf.specs.Trying as try
+use Rattle.gh_poll.specs.declared.give.Give.{Give}
 use Rattle.gh_poll.specs.declared.give.GiveStage.{GiveStage}
 use Rattle.gh_poll.specs.declared.give.GiveStage.TheVariants.{Lock, GiveSpan, Unlock, GiveBuffer, Ended}
+use Rattle.gh_poll.specs.GiveSound.{SoundGiving}
 
 -- a giving back: whose it is, the sweep generation, the spans that are cached, the buffer that is held, and its stage
-pub record Giving : Type 0 where
-  pub layout : Layout
-  pub seat : ℕ
-  pub generation : ℕ
-  pub cache : List (Option CachedSpan)
-  pub held : Option Held
-  pub stage : GiveStage
+abbrev pub Giving : Type 0
+Giving = Give
 
 abbrev pub at_stage : Giving → GiveStage → Giving
 at_stage g stage = record g { stage = stage }
@@ -60,8 +60,8 @@ abbrev pub begins : Option Held → GiveStage → GiveStage
 begins held Unlock = giving_buffer held
 begins held _ = Lock
 
-abbrev pub opening : Layout → (seat generation : ℕ) → List (Option CachedSpan) → Option Held → Giving
-opening l seat generation cache held = record { layout = l; seat = seat; generation = generation; cache = cache; held = held; stage = begins held (stage_from cache 0) }
+abbrev pub opening : (seat generation : ℕ) → List (Option CachedSpan) → Option Held → Giving
+opening seat generation cache held = record { seat = seat; generation = generation; cache = cache; held = held; stage = begins held (stage_from cache 0) }
 
 -- after a step of the giving back of the buffer
 abbrev pub after_buffer : Giving → buffer.BufferGiving → Option (Unit {0}) → Giving
@@ -98,5 +98,14 @@ asks g = asks_at g g.stage
 abbrev pub goes : Giving → ℕ → Giving
 goes g found = goes_at g g.stage found
 
-abbrev pub listing : Listing Giving (Unit {0})
-listing = listing_of (λ g. g.layout) asks goes (λ g. given g.stage)
+-- the lock, the pages of the spans, and the buffer
+abbrev pub writes : Footprint
+writes row.Lock = true
+writes row.Page = true
+writes r = try.writes r
+
+abbrev pub listing : Layout → Listing Giving (Unit {0})
+listing l = record { asks = asks; goes = goes; given = λ g. given g.stage; sound = SoundGiving l; writes = writes }
+
+abbrev pub transitions : Layout → routine.Listing Giving (Unit {0})
+transitions l = steps_of l (listing l)

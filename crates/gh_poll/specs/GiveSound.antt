@@ -1,15 +1,15 @@
 -- What the giving back knows of its own numbers, whatever it is told.
-use Rattle.std.specs.Prelude.{◌≡◌, ℕ, ◌/◌, ◌^◌, ◌<◌, Bool, true, List, length, slice_index_or, Option, Some, None}
+use Rattle.std.specs.Prelude.{◌≡◌, ℕ, ◌/◌, ◌^◌, ◌<◌, List, length, slice_index_or, Option, Some, None}
 use Rattle.gh_base.specs.declared.layout.Layout.{Layout}
 use Rattle.gh_base.specs.Holding.{IsHeld}
-use Rattle.gh_base.specs.Machines as routine
+use Rattle.gh_base.specs.Machines.{Runs}
 use Rattle.gh_class.specs.declared.class.TheConstants.{SPAN_CLASSES}
 use Rattle.gh_alloc.specs.declared.sought.CachedSpan.{CachedSpan}
 use Rattle.gh_wbuf.specs.BufferGiving as buffer
+use Rattle.gh_poll.specs.declared.give.Give.{Give}
 use Rattle.gh_poll.specs.declared.give.GiveStage.{GiveStage}
 use Rattle.gh_poll.specs.declared.give.GiveStage.TheVariants.{GiveSpan, GiveBuffer}
 use Rattle.gh_poll.specs.Cached.{SoundCached}
-use Rattle.gh_poll.specs.Give.{Giving}
 
 -- each cached span lies in the arena, and is one of its class
 abbrev pub FitsCache : Layout → List (Option CachedSpan) → Type 0
@@ -20,20 +20,15 @@ pub record FitsCachedSpan (l : Layout) (class : ℕ) (s : CachedSpan) : Type 0 w
   pub among : class < SPAN_CLASSES
   pub span : SoundCached l.pages (class / 2) (Some s)
 
--- a machine of the same heap that asks for a step
-pub record Runs (l own : Layout) (is_busy : Bool) : Type 0 where
-  pub layout : own ≡ l
-  pub busy : is_busy ≡ true
-
 abbrev pub SoundStage : Layout → GiveStage → Type 0
 SoundStage l (GiveSpan class s) = FitsCachedSpan l class s
-SoundStage l (GiveBuffer b) = routine.Runs (buffer.listing l) b
+SoundStage l (GiveBuffer b) = Runs (buffer.listing l) b
 SoundStage l _ = Unit {0}
 
-pub record SoundGiving (g : Giving) : Type 0 where
-  pub seat : g.seat < g.layout.procs
+pub record SoundGiving (l : Layout) (g : Give) : Type 0 where
+  pub seat : g.seat < l.procs
   pub generation : g.generation < 2 ^ 34
   pub room : length g.cache ≡ SPAN_CLASSES
-  pub cache : FitsCache g.layout g.cache
-  pub held : IsHeld g.layout g.held
-  pub stage : SoundStage g.layout g.stage
+  pub cache : FitsCache l g.cache
+  pub held : IsHeld l g.held
+  pub stage : SoundStage l g.stage

@@ -3,7 +3,7 @@ use Rattle.std.proofs.Common.{◌≡◌, ℕ, ◌+◌, List, [], ◌∷◌, leng
 use Rattle.gh_class.specs.declared.class.TheConstants.{SPAN_CLASSES}
 use Rattle.gh_poll.specs.declared.give.GiveStage.TheVariants.{Unlock, GiveBuffer, Ended}
 use Rattle.gh_poll.specs.Give.{first_cached, Giving, giving_buffer, none_cached, opening}
-use Rattle.gh_poll.specs.MarkVocabulary.{CachedSpan, GiveStage, Held, Layout}
+use Rattle.gh_poll.specs.MarkVocabulary.{CachedSpan, GiveStage, Held}
 
 abbrev no_span : Option CachedSpan
 no_span = None
@@ -28,6 +28,6 @@ first_fine g i [] = tt
 first_fine g i (Some s ∷ spans) = tt
 first_fine g i (None ∷ spans) = first_fine g (i + 1) spans
 
-pub opening_fine : (l : Layout) (seat generation : ℕ) (cache : List (Option CachedSpan)) (held : Option Held) → length cache ≡ SPAN_CLASSES →
-    GivingFacts (opening l seat generation cache held) (opening l seat generation cache held).stage
-opening_fine l seat generation cache held room = grind (arith, buffer_fine, none_left)
+pub opening_fine : (seat generation : ℕ) (cache : List (Option CachedSpan)) (held : Option Held) → length cache ≡ SPAN_CLASSES →
+    GivingFacts (opening seat generation cache held) (opening seat generation cache held).stage
+opening_fine seat generation cache held room = grind (arith, buffer_fine, none_left)

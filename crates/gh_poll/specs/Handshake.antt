@@ -114,22 +114,22 @@ abbrev pub leaver : View → leave.Leaving → Party
 leaver v w = record { seat = w.seat; view = v }
 
 pub record PollsInHandshake : Type 0 where
-  pub sound : (l : Layout) (seat : ℕ) (local : Local) (waits : Bool) → HasPlaces local.cache → SoundPoll (poll.opening l seat local waits)
+  pub sound : (seat : ℕ) (local : Local) (waits : Bool) → HasPlaces local.cache → SoundPoll (poll.opening seat local waits)
   -- it begins awake, and so it ends
-  pub begins : (l : Layout) (seat : ℕ) (local : Local) (waits : Bool) → IsPlace (poller_of (poll.opening l seat local waits)) (poll_stage_of (poll.opening l seat local waits)) seat local
-  pub keeps : KeepsHandshake poll.listing SoundPoll poller_of poll_stage_of
-  pub seat_stays : (p : poll.Polling) (found : ℕ) → SoundPoll p → poll.is_busy p.stage ≡ true → (poll.goes p found).seat ≡ p.seat
+  pub begins : (seat : ℕ) (local : Local) (waits : Bool) → IsPlace (poller_of (poll.opening seat local waits)) (poll_stage_of (poll.opening seat local waits)) seat local
+  pub keeps : (l : Layout) → KeepsHandshake (poll.transitions l) SoundPoll poller_of poll_stage_of
+  pub seat_stays : (l : Layout) (p : poll.Polling) (found : ℕ) → SoundPoll p → poll.is_busy p.stage ≡ true → (poll.goes l p found).seat ≡ p.seat
   pub ends : (p : poll.Polling) → poll.is_busy p.stage ≡ false → IsPlace (poller_of p) (poll_stage_of p) p.seat p.local
 
 pub record WaitsInHandshake : Type 0 where
   pub sound : (p : poll.Polling) → HasPlaces p.local.cache → SoundWait (wait.opening p)
   pub begins : (p : poll.Polling) → IsPlace (waiter_of (wait.opening p)) (wait_stage_of (wait.opening p)) p.seat p.local
-  pub keeps : KeepsHandshake wait.listing SoundWait waiter_of wait_stage_of
+  pub keeps : (l : Layout) → KeepsHandshake (wait.transitions l) SoundWait waiter_of wait_stage_of
   pub ends : (w : wait.Waiting) → wait.is_busy w.wait.stage ≡ false → IsPlace (waiter_of w) (wait_stage_of w) w.poll.seat w.poll.local
 
 pub record LeavesInHandshake : Type 0 where
   -- it begins awake, or with nothing to give back
-  pub begins : (l : Layout) (seat generation : ℕ) (cache : List (Option CachedSpan)) (held : Option Held) (v : View) →
-      PlaceBegins (Acts (record { seat = seat; view = v }) Awake) (Acts (leaver v (leave.opening l seat generation cache held)) (leaves_at (leave.opening l seat generation cache held).stage))
-  pub keeps : (v : View) → KeepsHandshake leave.listing (λ w. Unit {0}) (leaver v) (λ w. leaves_at w.stage)
+  pub begins : (seat generation : ℕ) (cache : List (Option CachedSpan)) (held : Option Held) (v : View) →
+      PlaceBegins (Acts (record { seat = seat; view = v }) Awake) (Acts (leaver v (leave.opening seat generation cache held)) (leaves_at (leave.opening seat generation cache held).stage))
+  pub keeps : (l : Layout) (v : View) → KeepsHandshake (leave.transitions l) (λ w. Unit {0}) (leaver v) (λ w. leaves_at w.stage)
   pub ends : (w : leave.Leaving) → leave.is_busy w.stage ≡ false → leaves_at w.stage ≡ Gone

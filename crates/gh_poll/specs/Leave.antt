@@ -6,17 +6,19 @@ use Rattle.gh_base.specs.declared.cell.Ask.TheVariants.{Load, Store}
 use Rattle.gh_base.specs.declared.held.Held.{Held}
 use Rattle.gh_base.specs.declared.layout.Layout.{Layout}
 use Rattle.gh_base.specs.declared.pack.TheConstants.{GONE}
-use Rattle.gh_base.specs.Given.{listing_of}
-use Rattle.gh_base.specs.Routines.{Listing}
+use Rattle.gh_base.specs.Footprints.{Footprint}
+use Rattle.gh_base.specs.Footprints as row
+use Rattle.gh_base.specs.Machines.{Listing, steps_of}
+use Rattle.gh_base.specs.Routines as routine
 use Rattle.gh_alloc.specs.declared.sought.CachedSpan.{CachedSpan}
+use Rattle.gh_poll.specs.declared.leave.Leave as declared
 use Rattle.gh_poll.specs.declared.leave.LeaveStage.{LeaveStage}
 use Rattle.gh_poll.specs.declared.leave.LeaveStage.TheVariants.{Giving, Leave, Left}
 use Rattle.gh_poll.specs.Give as give
+use Rattle.gh_poll.specs.LeaveSound.{SoundLeaving}
 
-pub record Leaving : Type 0 where
-  pub layout : Layout
-  pub seat : ℕ
-  pub stage : LeaveStage
+abbrev pub Leaving : Type 0
+Leaving = declared.Leave
 
 abbrev pub at_stage : Leaving → LeaveStage → Leaving
 at_stage w stage = record w { stage = stage }
@@ -25,8 +27,8 @@ at_stage w stage = record w { stage = stage }
 abbrev pub stage_of : give.Giving → LeaveStage
 stage_of g = if give.is_busy g.stage then Giving g else Leave
 
-abbrev pub opening : Layout → (seat generation : ℕ) → List (Option CachedSpan) → Option Held → Leaving
-opening l seat generation cache held = record { layout = l; seat = seat; stage = stage_of (give.opening l seat generation cache held) }
+abbrev pub opening : (seat generation : ℕ) → List (Option CachedSpan) → Option Held → Leaving
+opening seat generation cache held = record { seat = seat; stage = stage_of (give.opening seat generation cache held) }
 
 module _ (w : Leaving) where
   abbrev pub asks_at : LeaveStage → Ask
@@ -62,5 +64,13 @@ goes w found = goes_at w w.stage found
 abbrev pub gives : Leaving → ℕ → Option (Unit {0})
 gives w found = given (goes w found).stage
 
-abbrev pub listing : Listing Leaving (Unit {0})
-listing = listing_of (λ w. w.layout) asks goes (λ w. given w.stage)
+-- its acknowledgement, and what the giving back writes
+abbrev pub writes : Footprint
+writes row.Ack = true
+writes r = give.writes r
+
+abbrev pub listing : Layout → Listing Leaving (Unit {0})
+listing l = record { asks = asks; goes = goes; given = λ w. given w.stage; sound = SoundLeaving l; writes = writes }
+
+abbrev pub transitions : Layout → routine.Listing Leaving (Unit {0})
+transitions l = steps_of l (listing l)

@@ -15,6 +15,7 @@ pub mod MarkStackSound
 pub mod MarkVocabulary
 pub mod Poll
 pub mod PollSound
+pub mod Polling
 pub mod Quiet
 pub mod Registers
 pub mod Room

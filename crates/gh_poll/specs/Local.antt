@@ -95,7 +95,7 @@ with_ended p g = record p { local = record (p.local) { scanned = slice_set p.loc
 
 -- the processor leaves with what it holds, and holds nothing any more
 abbrev pub leaving : Polling → leave.Leaving
-leaving p = leave.opening p.layout p.seat p.local.view.generation p.local.cache p.local.held
+leaving p = leave.opening p.seat p.local.view.generation p.local.cache p.local.held
 
 abbrev pub with_nothing : Polling → Polling
 with_nothing p = record p { local = record (p.local) { cache = none_cached; held = None } }

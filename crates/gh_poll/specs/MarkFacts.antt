@@ -21,7 +21,7 @@ use Rattle.gh_poll.specs.declared.wait.WaitStage.TheVariants as wait_stage
 use Rattle.gh_poll.specs.Give as give
 use Rattle.gh_poll.specs.Leave as leave
 use Rattle.gh_poll.specs.MarkStack as mark
-use Rattle.gh_poll.specs.MarkVocabulary.{CachedSpan, Cycle, GiveStage, Good, Hands, Held, InHand, IsMarked, IsOf, Keeps, KnowsObjects, Layout, LeaveStage, Local, MarkStackStage, Others, PollStage, Shared, Steps, Value, View, WaitStage, cell_of, nothing}
+use Rattle.gh_poll.specs.MarkVocabulary.{CachedSpan, Cycle, GiveStage, Good, Hands, Held, InHand, IsMarked, IsOf, Keeps, KnowsObjects, LeaveStage, Local, MarkStackStage, Others, PollStage, Shared, Steps, Value, View, WaitStage, cell_of, nothing}
 use Rattle.gh_poll.specs.Poll as poll
 use Rattle.gh_poll.specs.Wait as wait
 
@@ -66,9 +66,8 @@ GiveStageFacts z a s held (give_stage.GiveBuffer b) = buffer_facts.GiveFacts z a
 GiveStageFacts z a s held give_stage.Ended = Hands a s nothing × (held ≡ None)
 GiveStageFacts z a s held _ = Hands a s (holding_only held)
 
-pub record GiveFacts (z : Cycle) (a : ℕ) (s : Shared) (g : give.Giving) : Type 0 where
-  pub layout_is : g.layout ≡ z.arena.layout
-  pub stage_is : GiveStageFacts z a s g.held g.stage
+abbrev pub GiveFacts : Cycle → (a : ℕ) → Shared → give.Giving → Type 0
+GiveFacts z a s g = GiveStageFacts z a s g.held g.stage
 
 -- The scan of a stack with the shading: what is shaded is what the scan wishes.
 pub record ShadesWish (z : Cycle) (a : ℕ) (s : Shared) (m : stack.StackScan) (reference : ℕ) : Type 0 where
@@ -91,7 +90,6 @@ ScanStageFacts z a s held m mark_stage.Ended = ⊥
 
 -- it is the scan of this goroutine's stack
 pub record ScanFacts (z : Cycle) (a : ℕ) (s : Shared) (g : ℕ) (m : mark.StackMarking) : Type 0 where
-  pub layout_is : m.layout ≡ z.arena.layout
   pub seat_is : m.seat ≡ a
   pub of : m.scan.goroutine ≡ g
   pub stage_is : ScanStageFacts z a s m.held m.scan m.stage
@@ -110,14 +108,12 @@ PollStageFacts z a s waits local (poll_stage.FindRoom r) = KnowsNumber z local.v
 PollStageFacts z a s waits local poll_stage.Ended = KnowsNumber z local.view × PollEndsWithRoom waits local × Hands a s (holding_only local.held)
 
 pub record PollFacts (z : Cycle) (a : ℕ) (s : Shared) (p : poll.Polling) : Type 0 where
-  pub layout_is : p.layout ≡ z.arena.layout
   pub seat_is : p.seat ≡ a
   pub stacks : KnowsStacks z a s p.local.stacks p.local.scanned
   pub stage_is : PollStageFacts z a s p.waits p.local p.stage
 
 -- a processor that is at no poll
 pub record RestFacts (z : Cycle) (a : ℕ) (s : Shared) (p : poll.Polling) : Type 0 where
-  pub layout_is : p.layout ≡ z.arena.layout
   pub seat_is : p.seat ≡ a
   pub between : IsBetween z a s p.local
 
@@ -138,7 +134,7 @@ LeaveFacts z a s leave_stage.Left = Hands a s nothing
 pub record PollsByMoves : Type 0 where
   pub begins : (z : Cycle) (a : ℕ) (s : Shared) (p : poll.Polling) (waits : Bool) → RestFacts z a s p → PollFacts z a s (poll.begins p waits)
   pub own_step : (z : Cycle) (a : ℕ) (s : Shared) (p : poll.Polling) → Good z s → KnowsObjects z s → KnowsCycle z s → PollFacts z a s p →
-      Steps z a s (poll.asks p) (λ t. PollFacts z a t (poll.goes p (s.words (cell_of (poll.asks p)))))
+      Steps z a s (poll.asks p) (λ t. PollFacts z a t (poll.goes z.arena.layout p (s.words (cell_of (poll.asks p)))))
   pub lasts : (z : Cycle) (a : ℕ) (s t : Shared) (p : poll.Polling) → Others z a s t → PollFacts z a s p → PollFacts z a t p
   pub ends : (z : Cycle) (a : ℕ) (s : Shared) (p : poll.Polling) → poll.is_busy p.stage ≡ false → PollFacts z a s p → RestFacts z a s p × PollEndsWithRoom p.waits p.local
   -- where it acknowledges a stop it has nothing in hand
@@ -147,14 +143,14 @@ pub record PollsByMoves : Type 0 where
 pub record WaitsByMoves : Type 0 where
   pub begins : (z : Cycle) (a : ℕ) (s : Shared) (p : poll.Polling) → RestFacts z a s p → WaitFacts z a s (wait.opening p)
   pub own_step : (z : Cycle) (a : ℕ) (s : Shared) (w : wait.Waiting) → Good z s → KnowsObjects z s → KnowsCycle z s → WaitFacts z a s w →
-      Steps z a s (wait.asks w) (λ t. WaitFacts z a t (wait.goes w (s.words (cell_of (wait.asks w)))))
+      Steps z a s (wait.asks w) (λ t. WaitFacts z a t (wait.goes z.arena.layout w (s.words (cell_of (wait.asks w)))))
   pub lasts : (z : Cycle) (a : ℕ) (s t : Shared) (w : wait.Waiting) → Others z a s t → WaitFacts z a s w → WaitFacts z a t w
   pub ends : (z : Cycle) (a : ℕ) (s : Shared) (w : wait.Waiting) → wait.is_busy w.wait.stage ≡ false → WaitFacts z a s w → RestFacts z a s w.poll
   pub stops : (z : Cycle) (a i number : ℕ) (s : Shared) (w : wait.Waiting) → wait.asks w ≡ ask.Store (cell.Ack i) number → WaitFacts z a s w → Hands a s nothing
 
 pub record LeavesByMoves : Type 0 where
-  pub begins : (z : Cycle) (a seat generation : ℕ) (s : Shared) (l : Layout) (cache : List (Option CachedSpan)) (held : Option Held) → l ≡ z.arena.layout → Hands a s (holding_only held) →
-      LeaveFacts z a s (leave.opening l seat generation cache held).stage
+  pub begins : (z : Cycle) (a seat generation : ℕ) (s : Shared) (cache : List (Option CachedSpan)) (held : Option Held) → Hands a s (holding_only held) →
+      LeaveFacts z a s (leave.opening seat generation cache held).stage
   -- and its steps change no stack
   pub own_step : (z : Cycle) (a : ℕ) (s : Shared) (w : leave.Leaving) → Good z s → KnowsObjects z s → LeaveFacts z a s w.stage →
       Steps z a s (leave.asks w) (λ t. Keeps z a s t × LeaveFacts z a t (leave.goes w (s.words (cell_of (leave.asks w)))).stage)

@@ -6,8 +6,9 @@ use Rattle.gh_base.specs.declared.cell.Ask.TheVariants.{Load}
 use Rattle.gh_base.specs.declared.held.Held.{Held}
 use Rattle.gh_base.specs.declared.layout.Layout.{Layout}
 use Rattle.gh_base.specs.declared.value.Value.{Value}
-use Rattle.gh_base.specs.Given.{listing_of}
-use Rattle.gh_base.specs.Routines.{Listing}
+use Rattle.gh_base.specs.Footprints.{Footprint}
+use Rattle.gh_base.specs.Footprints as row
+use Rattle.gh_base.specs.Machines.{Listing}
 use Rattle.gh_scan.specs.Listing.{reference_in}
 use Rattle.gh_shade.specs.declared.shade.Shaded.{Shaded}
 use Rattle.gh_shade.specs.declared.shade.Shaded.TheVariants as shaded
@@ -16,16 +17,14 @@ use Rattle.gh_stack.specs.declared.scan_stack.StackStage.{StackStage}
 use Rattle.gh_stack.specs.declared.scan_stack.StackStage.TheVariants as stack_stage
 use Rattle.gh_stack.specs.Listing as stack
 use Rattle.gh_wbuf.specs.RoomFinding as room
+use Rattle.gh_poll.specs.declared.mark_stack.MarkStack.{MarkStack}
 use Rattle.gh_poll.specs.declared.mark_stack.MarkStackStage.{MarkStackStage}
 use Rattle.gh_poll.specs.declared.mark_stack.MarkStackStage.TheVariants.{Shading, FindRoom, Store, Ended}
+use Rattle.gh_poll.specs.MarkStackSound.{SoundStackMarking}
 
 -- the scan of a stack, with what is held between two shadings
-pub record StackMarking : Type 0 where
-  pub layout : Layout
-  pub seat : ℕ
-  pub held : Option Held
-  pub scan : stack.StackScan
-  pub stage : MarkStackStage
+abbrev pub StackMarking : Type 0
+StackMarking = MarkStack
 
 abbrev pub at_stage : StackMarking → MarkStackStage → StackMarking
 at_stage m stage = record m { stage = stage }
@@ -45,16 +44,16 @@ stage_of l held scan = by_wish l held (stack.wish_of scan.stage)
 
 abbrev pub opening : Layout → (seat goroutine cycle : ℕ) → List Value → Option Held → StackMarking
 opening l seat goroutine cycle registers held =
-    record { layout = l; seat = seat; held = held; scan = stack.opening goroutine cycle registers; stage = stage_of l held (stack.opening goroutine cycle registers) }
+    record { seat = seat; held = held; scan = stack.opening goroutine cycle registers; stage = stage_of l held (stack.opening goroutine cycle registers) }
 
 -- a reference is shaded
-abbrev pub with_shaded : StackMarking → Option Held → StackMarking
-with_shaded m held = record m { held = held; scan = stack.told_shaded m.scan; stage = stage_of m.layout held (stack.told_shaded m.scan) }
+abbrev pub with_shaded : Layout → StackMarking → Option Held → StackMarking
+with_shaded l m held = record m { held = held; scan = stack.told_shaded m.scan; stage = stage_of l held (stack.told_shaded m.scan) }
 
-abbrev pub after_shade : StackMarking → shade.Shading → Option Shaded → StackMarking
-after_shade m sh None = at_stage m (Shading sh)
-after_shade m sh (Some shaded.Done) = with_shaded m sh.held
-after_shade m sh (Some shaded.WantsRoom) = at_stage m (FindRoom sh (room.opening m.seat sh.held))
+abbrev pub after_shade : Layout → StackMarking → shade.Shading → Option Shaded → StackMarking
+after_shade l m sh None = at_stage m (Shading sh)
+after_shade l m sh (Some shaded.Done) = with_shaded l m sh.held
+after_shade l m sh (Some shaded.WantsRoom) = at_stage m (FindRoom sh (room.opening m.seat sh.held))
 
 abbrev pub after_room : StackMarking → shade.Shading → room.RoomFinding → Option Held → StackMarking
 after_room m sh r None = at_stage m (FindRoom sh r)
@@ -67,11 +66,11 @@ module _ (m : StackMarking) where
   asks_at Store = stack.asks m.scan
   asks_at Ended = Load cell.Touch
 
-  abbrev pub goes_at : MarkStackStage → ℕ → StackMarking
-  goes_at (Shading sh) found = after_shade m (shade.goes sh found) (shade.gives sh found)
-  goes_at (FindRoom sh r) found = after_room m sh (room.goes m.layout r found) (room.gives m.layout r found)
-  goes_at Store found = at_stage m Ended
-  goes_at Ended found = at_stage m Ended
+abbrev pub goes_at : Layout → StackMarking → MarkStackStage → ℕ → StackMarking
+goes_at l m (Shading sh) found = after_shade l m (shade.goes sh found) (shade.gives sh found)
+goes_at l m (FindRoom sh r) found = after_room m sh (room.goes l r found) (room.gives l r found)
+goes_at l m Store found = at_stage m Ended
+goes_at l m Ended found = at_stage m Ended
 
 -- what it has given at this stage; it is busy where that is nothing
 abbrev pub given : MarkStackStage → Option (Unit {0})
@@ -85,11 +84,17 @@ is_busy stage = is_none (given stage)
 abbrev pub asks : StackMarking → Ask
 asks m = asks_at m m.stage
 
-abbrev pub goes : StackMarking → ℕ → StackMarking
-goes m found = goes_at m m.stage found
+abbrev pub goes : Layout → StackMarking → ℕ → StackMarking
+goes l m found = goes_at l m m.stage found
 
-abbrev pub gives : StackMarking → ℕ → Option (Unit {0})
-gives m found = given (goes m found).stage
+abbrev pub gives : Layout → StackMarking → ℕ → Option (Unit {0})
+gives l m found = given (goes l m found).stage
 
-abbrev pub listing : Listing StackMarking (Unit {0})
-listing = listing_of (λ m. m.layout) asks goes (λ m. given m.stage)
+-- the word of the stack, and what shading and the search for room write
+abbrev pub writes : Footprint
+writes row.Scanned = true
+writes row.Buffer = true
+writes r = shade.writes r
+
+abbrev pub listing : Layout → Listing StackMarking (Unit {0})
+listing l = record { asks = asks; goes = goes l; given = λ m. given m.stage; sound = SoundStackMarking l; writes = writes }

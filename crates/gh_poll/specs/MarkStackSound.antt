@@ -10,9 +10,9 @@ use Rattle.gh_shade.specs.Sound.{SoundShading}
 use Rattle.gh_stack.specs.Listing as stack
 use Rattle.gh_stack.specs.Sound.{SoundStackScan}
 use Rattle.gh_wbuf.specs.RoomFinding as room
+use Rattle.gh_poll.specs.declared.mark_stack.MarkStack.{MarkStack}
 use Rattle.gh_poll.specs.declared.mark_stack.MarkStackStage.{MarkStackStage}
 use Rattle.gh_poll.specs.declared.mark_stack.MarkStackStage.TheVariants.{Shading, FindRoom, Store}
-use Rattle.gh_poll.specs.MarkStack.{StackMarking}
 
 -- the scan waits until what it wishes for is shaded
 pub record StackScanShades (l : Layout) (scan : stack.StackScan) (sh : shade.Shading) : Type 0 where
@@ -32,8 +32,8 @@ SoundStage l scan (FindRoom sh r) = StackShadingWaits l scan sh r
 SoundStage l scan Store = stack.is_busy scan.stage ≡ true
 SoundStage l scan _ = Unit {0}
 
-pub record SoundStackMarking (m : StackMarking) : Type 0 where
-  pub seat : m.seat < seats_of m.layout
-  pub held : IsHeld m.layout m.held
-  pub scan : SoundStackScan m.layout m.scan
-  pub stage : SoundStage m.layout m.scan m.stage
+pub record SoundStackMarking (l : Layout) (m : MarkStack) : Type 0 where
+  pub seat : m.seat < seats_of l
+  pub held : IsHeld l m.held
+  pub scan : SoundStackScan l m.scan
+  pub stage : SoundStage l m.scan m.stage

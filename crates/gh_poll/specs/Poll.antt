@@ -6,9 +6,11 @@ use Rattle.gh_base.specs.declared.cell.Ask.TheVariants.{Load}
 use Rattle.gh_base.specs.declared.held.Held.{Held}
 use Rattle.gh_base.specs.declared.layout.Layout.{Layout}
 use Rattle.gh_base.specs.declared.pack.TheConstants.{END, ENTRIES}
-use Rattle.gh_base.specs.Given.{listing_of}
+use Rattle.gh_base.specs.Footprints.{Footprint}
+use Rattle.gh_base.specs.Footprints as row
+use Rattle.gh_base.specs.Machines.{Listing, steps_of}
 use Rattle.gh_base.specs.Packing.{phase_of}
-use Rattle.gh_base.specs.Routines.{Listing}
+use Rattle.gh_base.specs.Routines as routine
 use Rattle.gh_phase.specs.declared.resume.Resumed.{Resumed}
 use Rattle.gh_phase.specs.declared.view.RunPhase.{RunPhase}
 use Rattle.gh_phase.specs.declared.view.RunPhase.TheVariants as run
@@ -20,21 +22,15 @@ use Rattle.gh_poll.specs.declared.poll.PollStage.{PollStage}
 use Rattle.gh_poll.specs.declared.poll.PollStage.TheVariants.{LoadPhase, Giving, Resuming, Marking, FindRoom, Ended}
 use Rattle.gh_poll.specs.Give as give
 use Rattle.gh_poll.specs.MarkStack as mark
+use Rattle.gh_poll.specs.PollSound.{SoundPolling}
+pub use Rattle.gh_poll.specs.Polling.{Polling}
 
--- a poll: whether it is a part of a wait, what the processor alone knows, and its stage
-pub record Polling : Type 0 where
-  pub layout : Layout
-  pub seat : ℕ
-  pub waits : Bool
-  pub local : Local
-  pub stage : PollStage
-
-abbrev pub opening : Layout → (seat : ℕ) → Local → (waits : Bool) → Polling
-opening l seat local waits = record { layout = l; seat = seat; waits = waits; local = local; stage = LoadPhase }
+abbrev pub opening : (seat : ℕ) → Local → (waits : Bool) → Polling
+opening seat local waits = record { seat = seat; waits = waits; local = local; stage = LoadPhase }
 
 -- the processor is at no poll
-abbrev pub resting : Layout → (seat : ℕ) → Local → Polling
-resting l seat local = record { layout = l; seat = seat; waits = false; local = local; stage = Ended }
+abbrev pub resting : (seat : ℕ) → Local → Polling
+resting seat local = record { seat = seat; waits = false; local = local; stage = Ended }
 
 -- it polls, with what it knows
 abbrev pub begins : Polling → (waits : Bool) → Polling
@@ -53,8 +49,8 @@ first_due l seat cycle g [] = None
 first_due l seat cycle g (last ∷ others) = if is_due l seat cycle g last then Some g else first_due l seat cycle (g + 1) others
 
 -- every fourth poll scans a stack
-abbrev pub due : Polling → Option ℕ
-due p = if p.local.polls % 4 == 0 then first_due p.layout p.seat p.local.view.begun 0 p.local.scanned else None
+abbrev pub due : Layout → Polling → Option ℕ
+due l p = if p.local.polls % 4 == 0 then first_due l p.seat p.local.view.begun 0 p.local.scanned else None
 
 -- a buffer is held, and two entries go into it
 abbrev pub has_two : Option Held → Bool
@@ -70,18 +66,18 @@ room_stage seat false held = if has_two held then Ended else FindRoom (room.open
 abbrev pub counted : Polling → Polling
 counted p = record p { local = record (p.local) { polls = (p.local.polls + 1) % 2 ^ 64 }; stage = room_stage p.seat p.waits p.local.held }
 
-abbrev pub begins_stack : Polling → (g : ℕ) → Polling
-begins_stack p g = at_stage p (Marking g (mark.opening p.layout p.seat g p.local.view.begun (slice_index_or p.local.stacks g []) p.local.held))
+abbrev pub begins_stack : Layout → Polling → (g : ℕ) → Polling
+begins_stack l p g = at_stage p (Marking g (mark.opening l p.seat g p.local.view.begun (slice_index_or p.local.stacks g []) p.local.held))
 
-abbrev pub scans : Polling → Option ℕ → Polling
-scans p None = counted p
-scans p (Some g) = begins_stack p g
+abbrev pub scans : Layout → Polling → Option ℕ → Polling
+scans l p None = counted p
+scans l p (Some g) = begins_stack l p g
 
 -- where the world runs: by what the processor knows of the phase
-abbrev pub marks_then : Polling → RunPhase → Polling
-marks_then p run.Mark = scans p (due p)
-marks_then p run.Off = at_stage p Ended
-marks_then p run.Finished = at_stage p Ended
+abbrev pub marks_then : Layout → Polling → RunPhase → Polling
+marks_then l p run.Mark = scans l p (due l p)
+marks_then l p run.Off = at_stage p Ended
+marks_then l p run.Finished = at_stage p Ended
 
 -- at the stop of this number it gives back; where nothing is left it acknowledges the stop
 abbrev pub stops_then : Polling → give.Giving → (stops : ℕ) → Polling
@@ -90,11 +86,11 @@ stops_then p g stops =
     else record p { local = record (p.local) { cache = g.cache; held = g.held }; stage = Resuming (resume.opening p.seat stops p.local.view) }
 
 abbrev pub giving : Polling → give.Giving
-giving p = give.opening p.layout p.seat p.local.view.generation p.local.cache p.local.held
+giving p = give.opening p.seat p.local.view.generation p.local.cache p.local.held
 
-abbrev pub by_phase : Polling → (stops : ℕ) → Option RunPhase → Polling
-by_phase p stops None = stops_then p (giving p) stops
-by_phase p stops (Some phase) = marks_then p p.local.view.phase
+abbrev pub by_phase : Layout → Polling → (stops : ℕ) → Option RunPhase → Polling
+by_phase l p stops None = stops_then p (giving p) stops
+by_phase l p stops (Some phase) = marks_then l p p.local.view.phase
 
 -- what is owed behind a stop: where marking is off, or another cycle is marked, it is dropped
 abbrev pub owed_in : (another_cycle : Bool) → RunPhase → (owed : ℕ) → ℕ
@@ -108,9 +104,9 @@ owed_then out owed = owed_in out.another_cycle out.view.phase owed
 abbrev pub resumed : Polling → Resumed → Polling
 resumed p out = record p { local = record (p.local) { view = out.view; polls = (if out.another_cycle then 0 else p.local.polls); owed = owed_then out p.local.owed } }
 
-abbrev pub after_resume : Polling → resume.Resuming → Option Resumed → Polling
-after_resume p r None = at_stage p (Resuming r)
-after_resume p r (Some out) = marks_then (resumed p out) out.view.phase
+abbrev pub after_resume : Layout → Polling → resume.Resuming → Option Resumed → Polling
+after_resume l p r None = at_stage p (Resuming r)
+after_resume l p r (Some out) = marks_then l (resumed p out) out.view.phase
 
 -- the stack was scanned in this cycle
 abbrev pub scanned : Polling → (g : ℕ) → Option Held → Polling
@@ -132,13 +128,13 @@ asks_at (Marking g m) = mark.asks m
 asks_at (FindRoom r) = room.asks r
 asks_at Ended = Load cell.Touch
 
-abbrev pub goes_at : Polling → PollStage → ℕ → Polling
-goes_at p LoadPhase found = by_phase p (phase_of found).stops (run_phase (phase_of found).phase)
-goes_at p (Giving g stops) found = stops_then p (give.goes g found) stops
-goes_at p (Resuming r) found = after_resume p (resume.goes r found) (resume.gives r found)
-goes_at p (Marking g m) found = after_mark p g (mark.goes m found) (mark.gives m found)
-goes_at p (FindRoom r) found = after_room p (room.goes p.layout r found) (room.gives p.layout r found)
-goes_at p Ended found = at_stage p Ended
+abbrev pub goes_at : Layout → Polling → PollStage → ℕ → Polling
+goes_at l p LoadPhase found = by_phase l p (phase_of found).stops (run_phase (phase_of found).phase)
+goes_at l p (Giving g stops) found = stops_then p (give.goes g found) stops
+goes_at l p (Resuming r) found = after_resume l p (resume.goes r found) (resume.gives r found)
+goes_at l p (Marking g m) found = after_mark p g (mark.goes l m found) (mark.gives l m found)
+goes_at l p (FindRoom r) found = after_room p (room.goes l r found) (room.gives l r found)
+goes_at l p Ended found = at_stage p Ended
 
 -- what it has given at this stage; it is busy where that is nothing
 abbrev pub given : PollStage → Option (Unit {0})
@@ -152,11 +148,21 @@ is_busy stage = is_none (given stage)
 abbrev pub asks : Polling → Ask
 asks p = asks_at p.stage
 
-abbrev pub goes : Polling → ℕ → Polling
-goes p found = goes_at p p.stage found
+abbrev pub goes : Layout → Polling → ℕ → Polling
+goes l p found = goes_at l p p.stage found
 
-abbrev pub gives : Polling → ℕ → Option (Unit {0})
-gives p found = given (goes p found).stage
+abbrev pub gives : Layout → Polling → ℕ → Option (Unit {0})
+gives l p found = given (goes l p found).stage
 
-abbrev pub listing : Listing Polling (Unit {0})
-listing = listing_of (λ p. p.layout) asks goes (λ p. given p.stage)
+-- its acknowledgement, what the giving back writes, and what the scan of a stack does
+abbrev pub writes : Footprint
+writes row.Ack = true
+writes row.Lock = true
+writes row.Page = true
+writes r = mark.writes r
+
+abbrev pub listing : Layout → Listing Polling (Unit {0})
+listing l = record { asks = asks; goes = goes l; given = λ p. given p.stage; sound = SoundPolling l; writes = writes }
+
+abbrev pub transitions : Layout → routine.Listing Polling (Unit {0})
+transitions l = steps_of l (listing l)

@@ -1,9 +1,9 @@
 -- What a poll knows of its own numbers and routines, whatever it is told.
-use Rattle.std.specs.Prelude.{◌≡◌, ℕ, ◌^◌, ◌<◌, Bool, true, false, length}
+use Rattle.std.specs.Prelude.{◌≡◌, ℕ, ◌^◌, ◌<◌, Bool, true, false, [], length, slice_index_or}
 use Rattle.gh_base.specs.declared.layout.Layout.{Layout}
-use Rattle.gh_base.specs.declared.limits.TheConstants.{MOST_GOROUTINES}
+use Rattle.gh_base.specs.declared.limits.TheConstants.{MOST_GOROUTINES, REGISTERS}
 use Rattle.gh_base.specs.Holding.{IsHeld}
-use Rattle.gh_base.specs.Machines as routine
+use Rattle.gh_base.specs.Machines.{Runs}
 use Rattle.gh_class.specs.declared.class.TheConstants.{SPAN_CLASSES}
 use Rattle.gh_phase.specs.Listing as resume
 use Rattle.gh_phase.specs.Views.{FitsView}
@@ -14,9 +14,9 @@ use Rattle.gh_poll.specs.declared.poll.PollAt.{PollAt}
 use Rattle.gh_poll.specs.declared.poll.PollAt.TheVariants.{Begins, Amid, Over}
 use Rattle.gh_poll.specs.declared.poll.PollStage.TheVariants.{LoadPhase, Giving, Resuming, Marking, FindRoom, Ended}
 use Rattle.gh_poll.specs.Give as give
-use Rattle.gh_poll.specs.GiveSound.{FitsCache, Runs}
+use Rattle.gh_poll.specs.GiveSound.{FitsCache}
 use Rattle.gh_poll.specs.MarkStack as mark
-use Rattle.gh_poll.specs.Poll.{Polling}
+use Rattle.gh_poll.specs.Polling.{Polling}
 
 pub record SoundLocal (l : Layout) (local : Local) : Type 0 where
   pub view : FitsView local.view
@@ -25,20 +25,21 @@ pub record SoundLocal (l : Layout) (local : Local) : Type 0 where
   pub held : IsHeld l local.held
   pub scanned : length local.scanned ≡ MOST_GOROUTINES
   pub stacks : length local.stacks ≡ MOST_GOROUTINES
+  pub rows : (g : ℕ) → g < MOST_GOROUTINES → length (slice_index_or local.stacks g []) ≡ REGISTERS
 
 pub record GivesAt (l : Layout) (g : give.Giving) (stops : ℕ) : Type 0 where
-  pub runs : Runs l g.layout (give.is_busy g.stage)
+  pub runs : Runs (give.listing l) g
   pub number : stops < 2 ^ 62
 
 pub record MarksOne (l : Layout) (g : ℕ) (m : mark.StackMarking) : Type 0 where
   pub there : g < l.goroutines
-  pub runs : Runs l m.layout (mark.is_busy m.stage)
+  pub runs : Runs (mark.listing l) m
 
 abbrev pub SoundStage : Layout → PollStage → Type 0
 SoundStage l (Giving g stops) = GivesAt l g stops
-SoundStage l (Resuming r) = routine.Runs (resume.listing l) r
+SoundStage l (Resuming r) = Runs (resume.listing l) r
 SoundStage l (Marking g m) = MarksOne l g m
-SoundStage l (FindRoom r) = routine.Runs (room.listing l) r
+SoundStage l (FindRoom r) = Runs (room.listing l) r
 SoundStage l _ = Unit {0}
 
 -- a poll has begun, and is not over
@@ -57,7 +58,7 @@ abbrev pub StandsSo : PollAt → PollStage → Type 0
 StandsSo Amid stage = is_amid stage ≡ true
 StandsSo _ stage = Unit {0}
 
-pub record SoundPolling (p : Polling) : Type 0 where
-  pub seat : p.seat < p.layout.procs
-  pub local : SoundLocal p.layout p.local
-  pub stage : SoundStage p.layout p.stage
+pub record SoundPolling (l : Layout) (p : Polling) : Type 0 where
+  pub seat : p.seat < l.procs
+  pub local : SoundLocal l p.local
+  pub stage : SoundStage l p.stage

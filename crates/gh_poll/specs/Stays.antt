@@ -1,4 +1,4 @@
--- What the steps of a routine leave as it is: its layout, and of a poll and a wait the seat and the registers too. And what single steps come to, for the crates above that cite it.
+-- What the steps of a poll and a wait leave as it is: the seat, the registers and what was drawn. And what single steps come to, for the crates above that cite it.
 use Rattle.std.proofs.Common.{ap, arith}
 use Rattle.std.specs.Prelude.{◌≡◌, ◌==◌, ℕ, ◌<◌, Bool, true, cond, List, Option, Some, None, refl}
 use Rattle.gh_assist.specs.Listing.{Assisting}
@@ -14,7 +14,6 @@ use Rattle.gh_poll.specs.declared.wait.WaitStage.{WaitStage}
 use Rattle.gh_poll.specs.declared.wait.WaitStage.TheVariants as wait_stage
 use Rattle.gh_poll.specs.Give as give
 use Rattle.gh_poll.specs.Leave as leave
-use Rattle.gh_poll.specs.Leave.{Leaving}
 use Rattle.gh_poll.specs.Local.{with_payment}
 use Rattle.gh_poll.specs.MarkStack as mark
 use Rattle.gh_poll.specs.Poll as poll
@@ -24,21 +23,12 @@ use Rattle.gh_poll.specs.Wait.{Waiting}
 
 -- ---- giving back, the scan of a stack, and leaving
 
-pub give_stays : (g : give.Giving) (found : ℕ) → (give.goes g found).layout ≡ g.layout
-give_stays g found = grind arith
-
-pub mark_stays : (m : mark.StackMarking) (found : ℕ) → (mark.goes m found).layout ≡ m.layout
-mark_stays m found = grind arith
-
 -- neither a shading nor a search for room ends it
-pub shaded_on : (m : mark.StackMarking) (sh : shade.Shading) (out : Option Shaded) → mark.given (mark.after_shade m sh out).stage ≡ None
-shaded_on m sh out = grind arith
+pub shaded_on : (l : Layout) (m : mark.StackMarking) (sh : shade.Shading) (out : Option Shaded) → mark.given (mark.after_shade l m sh out).stage ≡ None
+shaded_on l m sh out = grind arith
 
 pub found_on : (m : mark.StackMarking) (sh : shade.Shading) (r : room.RoomFinding) (out : Option Held) → mark.given (mark.after_room m sh r out).stage ≡ None
 found_on m sh r out = grind arith
-
-pub leave_stays : (w : Leaving) (found : ℕ) → (leave.goes w found).layout ≡ w.layout
-leave_stays w found = grind arith
 
 -- neither does the giving back
 pub leaves_on : (g : give.Giving) → leave.given (leave.stage_of g) ≡ None
@@ -47,20 +37,17 @@ leaves_on g = grind arith
 -- ---- a poll and a wait
 
 -- what a poll leaves as it is
-abbrev kept : Polling → Layout × ℕ × List (List Value) × ℕ
-kept p = (p.layout, p.seat, p.local.stacks, p.local.spent)
+abbrev kept : Polling → ℕ × List (List Value) × ℕ
+kept p = (p.seat, p.local.stacks, p.local.spent)
 
-poll_keeps : (p : Polling) (found : ℕ) → kept (poll.goes p found) ≡ kept p
-poll_keeps p found = grind arith
+poll_keeps : (l : Layout) (p : Polling) (found : ℕ) → kept (poll.goes l p found) ≡ kept p
+poll_keeps l p found = grind arith
 
-pub poll_stays : (p : Polling) (found : ℕ) → (poll.goes p found).layout ≡ p.layout
-poll_stays p found = ap (λ (x : Layout × ℕ × List (List Value) × ℕ). x.0) (poll_keeps p found)
+pub poll_stacks : (l : Layout) (p : Polling) (found : ℕ) → (poll.goes l p found).local.stacks ≡ p.local.stacks
+poll_stacks l p found = ap (λ (x : ℕ × List (List Value) × ℕ). x.1) (poll_keeps l p found)
 
-pub poll_stacks : (p : Polling) (found : ℕ) → (poll.goes p found).local.stacks ≡ p.local.stacks
-poll_stacks p found = ap (λ (x : Layout × ℕ × List (List Value) × ℕ). x.2) (poll_keeps p found)
-
-pub poll_spent : (p : Polling) (found : ℕ) → (poll.goes p found).local.spent ≡ p.local.spent
-poll_spent p found = ap (λ (x : Layout × ℕ × List (List Value) × ℕ). x.3) (poll_keeps p found)
+pub poll_spent : (l : Layout) (p : Polling) (found : ℕ) → (poll.goes l p found).local.spent ≡ p.local.spent
+poll_spent l p found = ap (λ (x : ℕ × List (List Value) × ℕ). x.2) (poll_keeps l p found)
 
 after_keeps : (w : Waiting) (p : Polling) (out : Option (Unit {0})) → kept (wait.after_poll w p out).poll ≡ kept p
 after_keeps w p out = grind arith
@@ -68,24 +55,21 @@ after_keeps w p out = grind arith
 swept_keeps : (w : Waiting) (later : Bool) → kept (cond later (wait.at_stage w wait_stage.Ended) (wait.polling w)).poll ≡ kept w.poll
 swept_keeps w later = grind arith
 
-wait_at : (w : Waiting) (stage : WaitStage) (found : ℕ) → kept (wait.goes_at w stage found).poll ≡ kept w.poll
-wait_at w stage found = grind (arith, after_keeps, poll_keeps, swept_keeps)
+wait_at : (l : Layout) (w : Waiting) (stage : WaitStage) (found : ℕ) → kept (wait.goes_at l w stage found).poll ≡ kept w.poll
+wait_at l w stage found = grind (arith, after_keeps, poll_keeps, swept_keeps)
 
-pub wait_stays : (w : Waiting) (found : ℕ) → (wait.goes w found).poll.layout ≡ w.poll.layout
-wait_stays w found = grind (arith, wait_at)
+pub wait_seat : (l : Layout) (w : Waiting) (found : ℕ) → (wait.goes l w found).poll.seat ≡ w.poll.seat
+wait_seat l w found = grind (arith, wait_at)
 
-pub wait_seat : (w : Waiting) (found : ℕ) → (wait.goes w found).poll.seat ≡ w.poll.seat
-wait_seat w found = grind (arith, wait_at)
+pub wait_stacks : (l : Layout) (w : Waiting) (found : ℕ) → (wait.goes l w found).poll.local.stacks ≡ w.poll.local.stacks
+wait_stacks l w found = grind (arith, wait_at)
 
-pub wait_stacks : (w : Waiting) (found : ℕ) → (wait.goes w found).poll.local.stacks ≡ w.poll.local.stacks
-wait_stacks w found = grind (arith, wait_at)
-
-pub wait_spent : (w : Waiting) (found : ℕ) → (wait.goes w found).poll.local.spent ≡ w.poll.local.spent
-wait_spent w found = grind (arith, wait_at)
+pub wait_spent : (l : Layout) (w : Waiting) (found : ℕ) → (wait.goes l w found).poll.local.spent ≡ w.poll.local.spent
+wait_spent l w found = grind (arith, wait_at)
 
 -- it ends by a later cycle than it knew, which it loads
-pub ends_later : (w : Waiting) (stage : WaitStage) (found : ℕ) (x : Unit {0}) → wait.given (wait.goes_at w stage found).wait.stage ≡ Some x → (stage ≡ wait_stage.LoadSwept) × (w.wait.known < found)
-ends_later w stage found x e = grind arith
+pub ends_later : (l : Layout) (w : Waiting) (stage : WaitStage) (found : ℕ) (x : Unit {0}) → wait.given (wait.goes_at l w stage found).wait.stage ≡ Some x → (stage ≡ wait_stage.LoadSwept) × (w.wait.known < found)
+ends_later l w stage found x e = grind arith
 
 -- ---- what single steps come to
 

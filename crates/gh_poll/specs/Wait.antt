@@ -1,14 +1,18 @@
 -- A processor waits for a cycle: what is asked for at each stage, where that leads, and what it has given there.
-use Rattle.std.specs.Prelude.{ℕ, Bool, true, nat_lt, if◌then◌else◌, Option, Some, None, is_none}
+use Rattle.std.specs.Prelude.{◌≡◌, ℕ, Bool, true, nat_lt, if◌then◌else◌, Option, Some, None, is_none}
 use Rattle.gh_base.specs.declared.cell.Cell.TheVariants as cell
 use Rattle.gh_base.specs.declared.cell.Ask.{Ask}
 use Rattle.gh_base.specs.declared.cell.Ask.TheVariants.{Load, Or}
-use Rattle.gh_base.specs.Given.{listing_of}
-use Rattle.gh_base.specs.Routines.{Listing}
+use Rattle.gh_base.specs.declared.layout.Layout.{Layout}
+use Rattle.gh_base.specs.Footprints.{Footprint}
+use Rattle.gh_base.specs.Footprints as row
+use Rattle.gh_base.specs.Machines.{Listing, steps_of}
+use Rattle.gh_base.specs.Routines as routine
 use Rattle.gh_poll.specs.declared.wait.Wait.{Wait}
 use Rattle.gh_poll.specs.declared.wait.WaitStage.{WaitStage}
 use Rattle.gh_poll.specs.declared.wait.WaitStage.TheVariants.{Want, Polling, LoadSwept, Ended}
 use Rattle.gh_poll.specs.Poll as poll
+use Rattle.gh_poll.specs.PollSound.{SoundPolling}
 
 -- a wait, and the processor that waits, with the poll that it is at, if it is at one
 pub record Waiting : Type 0 where
@@ -47,12 +51,12 @@ module _ (w : Waiting) where
   asks_at LoadSwept = Load cell.Swept
   asks_at Ended = Load cell.Touch
 
-  abbrev pub goes_at : WaitStage → ℕ → Waiting
-  goes_at Want found = polling w
-  goes_at Polling found = after_poll w (poll.goes w.poll found) (poll.gives w.poll found)
-  goes_at LoadSwept found = if is_later w.wait.known found then at_stage w Ended else polling w
-  -- one that has ended asks for no step: told of one it would poll again, so that no step but its last gives anything
-  goes_at Ended found = polling w
+abbrev pub goes_at : Layout → Waiting → WaitStage → ℕ → Waiting
+goes_at l w Want found = polling w
+goes_at l w Polling found = after_poll w (poll.goes l w.poll found) (poll.gives l w.poll found)
+goes_at l w LoadSwept found = if is_later w.wait.known found then at_stage w Ended else polling w
+-- one that has ended asks for no step: told of one it would poll again, so that no step but its last gives anything
+goes_at l w Ended found = polling w
 
 -- what it has given at this stage; it is busy where that is nothing
 abbrev pub given : WaitStage → Option (Unit {0})
@@ -66,11 +70,24 @@ is_busy stage = is_none (given stage)
 abbrev pub asks : Waiting → Ask
 asks w = asks_at w w.wait.stage
 
-abbrev pub goes : Waiting → ℕ → Waiting
-goes w found = goes_at w w.wait.stage found
+abbrev pub goes : Layout → Waiting → ℕ → Waiting
+goes l w found = goes_at l w w.wait.stage found
 
-abbrev pub gives : Waiting → ℕ → Option (Unit {0})
-gives w found = given (goes w found).wait.stage
+abbrev pub gives : Layout → Waiting → ℕ → Option (Unit {0})
+gives l w found = given (goes l w found).wait.stage
 
-abbrev pub listing : Listing Waiting (Unit {0})
-listing = listing_of (λ w. w.poll.layout) asks goes (λ w. given w.wait.stage)
+-- while it polls, the poll goes on
+abbrev pub PollsOn : poll.Polling → WaitStage → Type 0
+PollsOn p Polling = poll.is_busy p.stage ≡ true
+PollsOn p _ = Unit {0}
+
+-- the wish for a cycle, and what its polls write
+abbrev pub writes : Footprint
+writes row.Want = true
+writes r = poll.writes r
+
+abbrev pub listing : Layout → Listing Waiting (Unit {0})
+listing l = record { asks = asks; goes = goes l; given = λ w. given w.wait.stage; sound = λ w. SoundPolling l w.poll × PollsOn w.poll w.wait.stage; writes = writes }
+
+abbrev pub transitions : Layout → routine.Listing Waiting (Unit {0})
+transitions l = steps_of l (listing l)

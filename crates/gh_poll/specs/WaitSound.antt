@@ -1,15 +1,8 @@
 -- What a wait knows of the poll that it runs, whatever it is told.
 use Rattle.std.specs.Prelude.{◌≡◌, true}
 use Rattle.gh_poll.specs.declared.wait.Wait.{Wait}
-use Rattle.gh_poll.specs.declared.wait.WaitStage.{WaitStage}
-use Rattle.gh_poll.specs.declared.wait.WaitStage.TheVariants.{Polling}
 use Rattle.gh_poll.specs.Poll as poll
-use Rattle.gh_poll.specs.Wait.{is_busy}
-
--- the poll goes on
-abbrev pub PollsOn : poll.Polling → WaitStage → Type 0
-PollsOn p Polling = poll.is_busy p.stage ≡ true
-PollsOn p _ = Unit {0}
+use Rattle.gh_poll.specs.Wait.{is_busy, PollsOn}
 
 -- it asks for a step, and so does the poll that it runs
 pub record SoundWaiting (p : poll.Polling) (w : Wait) : Type 0 where

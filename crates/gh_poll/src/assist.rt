@@ -10,26 +10,33 @@ ghost use Rattle.gh_assist.specs.Listing.{opening};
 ghost use Rattle.gh_assist.specs.Sound.{SoundAssisting};
 ghost use Rattle.gh_base.specs.Machines.{Runs};
 ghost use Rattle.gh_poll.specs.Local.{with_payment};
+ghost use Rattle.gh_poll.specs.PollSound.{SoundPolling};
 
 use crate::poll::Poll;
 use gh_assist::Assist;
+use gh_base::Layout;
 
 impl Poll {
     /// The assist for an object of so many words of its slot.
-    pub fn assist(&self, slot: u32) -> Assist
+    pub fn assist(&self, layout: &Layout, slot: u32) -> Assist
+        requires sound { SoundPolling layout.now self.now }
         requires slot { 8 * slot ≤ 2 ^ 31 }
         ensures is { result ≡ opening self.now.seat self.now.local.held (8 * slot) self.now.local.owed self.now.local.spent }
-        ensures runs { Runs (assists.listing self.now.layout) result }
+        ensures runs { Runs (assists.listing layout.now) result }
     {
+        let _ = layout;
         let (held, owed, spent) = (self.local.held, self.local.owed, self.local.spent);
         Assist::new(self.seat, held, 8 * u64::from(slot), owed, spent)
     }
 
     /// The processor holds what this assist holds, and owes and has drawn what that says.
-    pub fn pay(&mut self, assist: &Assist)
-        requires sound { SoundAssisting self.old.layout assist.now }
-        ensures { self.new ≡ with_payment self.old assist.now }
+    pub fn pay(&mut self, layout: &Layout, assist: &Assist)
+        requires sound { SoundPolling layout.now self.old }
+        requires assists { SoundAssisting layout.now assist.now }
+        ensures is { self.new ≡ with_payment self.old assist.now }
+        ensures sound { SoundPolling layout.now self.new }
     {
+        let _ = layout;
         self.local.held = assist.held();
         self.local.owed = assist.owed;
         self.local.spent = assist.spent;

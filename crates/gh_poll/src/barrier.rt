@@ -5,19 +5,19 @@
 
 ghost use Rattle.std.specs.Prelude.{◌≡◌, ◌≤◌, IsTrue, true};
 ghost use Rattle.gh_base.specs.Cells.{InRange};
-ghost use Rattle.gh_base.specs.Holding.{IsHeld};
 ghost use Rattle.gh_base.specs.Machines.{Runs};
 ghost use Rattle.gh_barrier.specs.Listing as writes;
 ghost use Rattle.gh_barrier.specs.Listing.{cell_at};
-ghost use Rattle.gh_barrier.specs.Sound.{FitsPointer, HasTwo};
+ghost use Rattle.gh_barrier.specs.Sound.{FitsPointer, HasTwo, SoundWriting};
 ghost use Rattle.gh_poll.specs.Barrier.{has_entries, held_then, pointer_of, with_held, written};
 ghost use Rattle.gh_poll.specs.Local.{marking_at};
 ghost use Rattle.gh_poll.specs.Room.{room_in};
 ghost use Rattle.gh_poll.specs.Registers.{IsNear};
+ghost use Rattle.gh_poll.specs.PollSound.{SoundPolling};
 
 use crate::poll::Poll;
 use gh_barrier::{PointerCell, WritePointer, has_two};
-use gh_base::{ENTRIES, Held, Layout, Routine, Value};
+use gh_base::{ENTRIES, Layout, Routine, Value};
 
 /// The object that a value names; nil and numbers name none.
 fn pointer_of(layout: &Layout, value: Value) -> Option<u64>
@@ -60,35 +60,36 @@ impl Poll {
     }
 
     /// A value is written to this cell, with the buffer that is held.
-    pub fn write(&self, at: PointerCell, value: Value) -> WritePointer
-        requires cell { InRange self.now.layout (cell_at at) }
-        requires near { IsNear self.now.layout.pages value }
+    pub fn write(&self, layout: &Layout, at: PointerCell, value: Value) -> WritePointer
+        requires sound { SoundPolling layout.now self.now }
+        requires cell { InRange layout.now (cell_at at) }
+        requires near { IsNear layout.now.pages value }
         requires marking { marking_at self.now ≡ true }
         requires room { has_entries self.now ≡ true }
         ensures is { result ≡ written self.now.local at value }
-        ensures runs { Runs (writes.listing self.now.layout) result }
+        ensures runs { Runs (writes.listing layout.now) result }
     {
-        let pointer = pointer_of(&self.layout, value);
+        let pointer = pointer_of(layout, value);
         WritePointer::new(at, pointer, self.local.held)
     }
 
-    /// The processor holds this buffer from now on.
-    fn hold(&mut self, held: Option<Held>)
-        requires { IsHeld self.old.layout held }
-        ensures { self.new ≡ with_held self.old held }
-    {
-        self.local.held = held;
-    }
-
     /// Takes a step of this write.
-    pub fn take_write(&mut self, write: &mut WritePointer, found: u64) -> Option<()>
-        requires { Runs (writes.listing self.old.layout) write.old }
-        ensures goes { write.new ≡ writes.goes self.old.layout write.old found }
-        ensures gives { result ≡ writes.gives self.old.layout write.old found }
-        ensures holds { self.new ≡ with_held self.old (held_then self.old.layout write.old found) }
+    pub fn take_write(
+        &mut self,
+        layout: &Layout,
+        write: &mut WritePointer,
+        found: u64,
+    ) -> Option<()>
+        requires sound { SoundPolling layout.now self.old }
+        requires runs { Runs (writes.listing layout.now) write.old }
+        ensures goes { write.new ≡ writes.goes layout.now write.old found }
+        ensures gives { result ≡ writes.gives layout.now write.old found }
+        ensures writes { SoundWriting layout.now write.new }
+        ensures holds { self.new ≡ with_held self.old (held_then layout.now write.old found) }
+        ensures sound { SoundPolling layout.now self.new }
     {
-        let out = write.take(&self.layout, found);
-        self.hold(write.held());
+        let out = write.take(layout, found);
+        self.local.held = write.held();
         out
     }
 }

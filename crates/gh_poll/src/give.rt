@@ -1,6 +1,7 @@
 //! The routine by which a processor gives back what it holds of the heap.
 
 ghost use Rattle.std.specs.Prelude.{◌≡◌, ◌^◌, ◌<◌, Option, length};
+ghost use Rattle.gh_base.specs.declared.layout.Layout.{Layout};
 ghost use Rattle.gh_base.specs.Cells.{InRange};
 ghost use Rattle.gh_base.specs.Holding.{IsHeld};
 ghost use Rattle.gh_base.specs.Machines.{Runs};
@@ -8,13 +9,12 @@ ghost use Rattle.gh_base.specs.Steps.{cell_of};
 ghost use Rattle.gh_class.specs.declared.class.TheConstants.{SPAN_CLASSES};
 ghost use Rattle.gh_wbuf.specs.BufferGiving as buffers;
 ghost use Rattle.gh_poll.specs.Give.{given, giving_buffer, goes_at, head_store, is_busy, none_cached, opening, span_class, stage_from};
-ghost use Rattle.gh_poll.specs.GiveSound.{FitsCache, FitsCachedSpan, SoundStage};
+ghost use Rattle.gh_poll.specs.GiveSound.{FitsCache, FitsCachedSpan, SoundGiving, SoundStage};
 
 use gh_alloc::{CachedSpan, given_head};
-use gh_base::{Ask, Cell, Held, Layout, Machine, PageWord, Req, Routine};
+use gh_base::{Ask, Cell, Held, Layout, PageWord, Req, Routine};
 use gh_class::{Class, SPAN_CLASSES, SpanClass, size_class_laws};
 use gh_wbuf::GiveBuffer;
-use std::marker::Model;
 
 /// The spans that a processor has cached, each at the place of its span class.
 pub type Cache = [Option<CachedSpan>; SPAN_CLASSES as usize];
@@ -47,25 +47,16 @@ pub enum GiveStage {
 /// Where there is neither it takes no step.
 #[derive(Clone, Copy)]
 pub struct Give {
-    layout: Layout,
-    seat: u32,
-    generation: u64,
-    cache: Cache,
-    held: Option<Held>,
-    stage: GiveStage,
-}
-
-impl Model for Give {
-    ghost use Rattle.gh_poll.specs.Give.{Giving};
-    ghost use Rattle.gh_poll.specs.GiveSound.{SoundGiving};
-
-    ghost Value = { Giving };
-
-    ghost view = { λ g. record { layout = g.layout; seat = g.seat; generation = g.generation; cache = g.cache; held = g.held; stage = g.stage } };
-
-    ghost invariant = { λ g. SoundGiving (record { layout = g.layout; seat = g.seat; generation = g.generation; cache = g.cache; held = g.held; stage = g.stage }) };
-
-    ghost inverse = { λ g. record { layout = g.layout; seat = g.seat; generation = g.generation; cache = g.cache; held = g.held; stage = g.stage } };
+    /// The processor's seat.
+    pub seat: u32,
+    /// The sweep generation that the head words say.
+    pub generation: u64,
+    /// The spans that are cached now.
+    pub cache: Cache,
+    /// The buffer that is held now, if any.
+    pub held: Option<Held>,
+    /// Its stage.
+    pub stage: GiveStage,
 }
 
 /// The span class of this number.
@@ -131,14 +122,15 @@ impl Give {
         requires generation { generation < 2 ^ 34 }
         requires cache { FitsCache layout.now cache }
         requires held { IsHeld layout.now held }
-        ensures { result ≡ opening layout.now seat generation cache held }
+        ensures opening { result ≡ opening seat generation cache held }
+        ensures sound { SoundGiving layout.now result }
     {
+        let _ = layout;
         let stage = match stage_from(&cache, 0) {
             GiveStage::Unlock => giving_buffer(held),
             _ => GiveStage::Lock,
         };
         Give {
-            layout: *layout,
             seat,
             generation,
             cache,
@@ -154,47 +146,36 @@ impl Give {
         !matches!(self.stage, GiveStage::Ended)
     }
 
-    /// The spans that are cached now.
-    pub fn cache(&self) -> Cache
-        ensures is { result ≡ self.now.cache }
-        ensures fits { FitsCache self.now.layout result }
-    {
-        self.cache
-    }
-
-    /// The buffer that is held now, if any.
-    pub fn held(&self) -> Option<Held>
-        ensures is { result ≡ self.now.held }
-        ensures fits { IsHeld self.now.layout result }
-    {
-        self.held
-    }
-
     /// The step that gives this span back.
-    fn give_span(&self, class: u32, span: CachedSpan) -> Ask
-        requires { FitsCachedSpan self.now.layout class span }
+    fn give_span(&self, layout: &Layout, class: u32, span: CachedSpan) -> Ask
+        requires sound { SoundGiving layout.now self.now }
+        requires fits { FitsCachedSpan layout.now class span }
         ensures is { result ≡ head_store self.now.generation class span }
-        ensures within { InRange self.now.layout (cell_of result) }
+        ensures within { InRange layout.now (cell_of result) }
     {
+        let _ = layout;
         let head = given_head(span_class(class), self.generation);
         Ask::Store(Cell::Page(span.head), PageWord::Head(head).pack())
     }
 
     /// The lock is free, and no span is cached.
     fn unlocked(&mut self)
-        ensures { self.new ≡ record self.old { cache = none_cached; stage = giving_buffer self.old.held } }
+        ensures is { self.new ≡ record self.old { cache = none_cached; stage = giving_buffer self.old.held } }
+        ensures fits { (l : Layout) → SoundGiving l self.old → SoundGiving l self.new }
     {
         self.cache = no_spans();
         self.stage = giving_buffer(self.held);
     }
 
     /// Takes a step of the giving back of the buffer.
-    fn give_buffer(&mut self, give: &GiveBuffer, found: u64)
-        requires { Runs (buffers.listing self.old.layout) give.now }
-        ensures { self.new ≡ goes_at self.old (GiveStage.GiveBuffer give.now) found }
+    fn give_buffer(&mut self, layout: &Layout, give: &GiveBuffer, found: u64)
+        requires sound { SoundGiving layout.now self.old }
+        requires runs { Runs (buffers.listing layout.now) give.now }
+        ensures goes { self.new ≡ goes_at self.old (GiveStage.GiveBuffer give.now) found }
+        ensures sound { SoundGiving layout.now self.new }
     {
         let mut give = *give;
-        match give.take(&self.layout, found) {
+        match give.take(layout, found) {
             None => self.stage = GiveStage::GiveBuffer(give),
             Some(()) => {
                 self.held = None;
@@ -214,35 +195,25 @@ impl Give {
     }
 }
 
-impl Machine for Give {
-    ghost use Rattle.gh_base.specs.Given.{is_over};
+impl Routine for Give {
     ghost use Rattle.gh_poll.specs.Give.{listing};
-    ghost use Rattle.gh_poll.specs.Stays.{give_stays};
 
     type Out = ();
 
-    ghost layout = { listing.layout };
+    ghost listing = { listing };
 
-    ghost busy = { listing.busy };
-
-    ghost asks = { listing.asks };
-
-    ghost goes = { listing.goes };
-
-    ghost gives = { listing.gives };
-
-    fn next(&self) -> Req {
+    fn next(&self, layout: &Layout) -> Req {
         let ask = match &self.stage {
             GiveStage::Lock => Ask::Swap(Cell::Lock, 0, u64::from(self.seat) + 1),
-            GiveStage::GiveSpan { class, span } => self.give_span(*class, *span),
+            GiveStage::GiveSpan { class, span } => self.give_span(layout, *class, *span),
             GiveStage::Unlock => Ask::Store(Cell::Lock, 0),
-            GiveStage::GiveBuffer(give) => return give.next(&self.layout),
+            GiveStage::GiveBuffer(give) => return give.next(layout),
             GiveStage::Ended => Ask::Load(Cell::Touch),
         };
-        self.layout.request(ask)
+        layout.request(ask)
     }
 
-    fn take(&mut self, found: u64) -> Option<()> {
+    fn take(&mut self, layout: &Layout, found: u64) -> Option<()> {
         let stage = self.stage;
         match &stage {
             GiveStage::Lock => {
@@ -252,13 +223,9 @@ impl Machine for Give {
             }
             GiveStage::GiveSpan { class, .. } => self.stage = stage_from(&self.cache, *class + 1),
             GiveStage::Unlock => self.unlocked(),
-            GiveStage::GiveBuffer(give) => self.give_buffer(give, found),
+            GiveStage::GiveBuffer(give) => self.give_buffer(layout, give, found),
             GiveStage::Ended => {}
         }
         self.given()
     }
-
-    ghost ends = { λ g found busy. is_over (listing.gives g found) };
-
-    ghost stays = { give_stays };
 }

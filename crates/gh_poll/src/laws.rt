@@ -1,15 +1,55 @@
 //! Laws of polls, waits and leaves. The functions do nothing; what they ensure is proved.
 
+ghost use Rattle.gh_base.specs.declared.layout.Layout.{Layout};
+ghost use Rattle.gh_base.specs.Machines.{IsRoutine};
+ghost use Rattle.gh_poll.specs.Give as gives;
+ghost use Rattle.gh_poll.specs.Leave as leaves;
+ghost use Rattle.gh_poll.specs.MarkStack as marks;
+ghost use Rattle.gh_poll.specs.Poll as polls;
+ghost use Rattle.gh_poll.specs.Wait as waits;
 ghost use Rattle.gh_poll.specs.Handshake.{LeavesInHandshake, PollsInHandshake, WaitsInHandshake};
 ghost use Rattle.gh_poll.specs.MarkFacts.{LeavesByMoves, PollsByMoves, WaitsByMoves};
 ghost use Rattle.gh_poll.specs.Quiet.{WhatPollsRunIsQuiet};
 
+use gh_base::laws::footprints_hold;
+use gh_class::size_class_laws;
 use gh_marks::laws::{facts_last, hands_follow, own_moves_leave, steps_go_by_moves};
-use gh_phase::laws::going_on_keeps_the_handshake;
+use gh_phase::laws::{going_on_is_a_routine, going_on_keeps_the_handshake};
 use gh_scan::laws::marking_is_quiet;
-use gh_shade::laws::shades_by_moves;
+use gh_shade::laws::{shades_by_moves, shading_is_a_routine};
 use gh_stack::laws::stacks_are_scanned_by_moves;
-use gh_wbuf::laws::buffers_pass_by_moves;
+use gh_wbuf::laws::{buffers_pass_by_moves, giving_back_is_a_routine, room_search_is_a_routine};
+
+/// The giving back is a routine: it stays sound, each step is on a word that there is, and it writes the lock, head words of
+/// spans and words of buffers alone.
+pub fn giving_is_a_routine()
+    ensures { (l : Layout) → IsRoutine l (gives.listing l) }
+{
+    size_class_laws();
+    giving_back_is_a_routine();
+}
+
+/// So is leaving, which writes its acknowledgement too.
+pub fn leaving_is_a_routine()
+    ensures { (l : Layout) → IsRoutine l (leaves.listing l) }
+{
+    size_class_laws();
+    giving_back_is_a_routine();
+}
+
+/// So are the scan of a stack, which writes the word of the stack, mark bits, buffers and their entries; a poll, which writes
+/// what it runs writes, and its acknowledgement; and a wait with its polls, which writes the wish for a cycle too.
+pub fn polls_are_routines()
+    ensures scans { (l : Layout) → IsRoutine l (marks.listing l) }
+    ensures polls { (l : Layout) → IsRoutine l (polls.listing l) }
+    ensures waits { (l : Layout) → IsRoutine l (waits.listing l) }
+{
+    giving_is_a_routine();
+    footprints_hold();
+    going_on_is_a_routine();
+    room_search_is_a_routine();
+    shading_is_a_routine();
+}
 
 /// Neither the giving back that a poll and a leave run, nor the scan of a stack in a poll, writes a word of the handshake of a
 /// stop.

@@ -2,14 +2,14 @@
 
 ghost use Rattle.std.specs.Prelude.{◌≡◌, ◌+◌, ◌^◌, ◌<◌, true};
 ghost use Rattle.gh_base.specs.Holding.{IsHeld};
+ghost use Rattle.gh_base.specs.Machines.{Runs};
 ghost use Rattle.gh_poll.specs.Give as gives;
-ghost use Rattle.gh_poll.specs.GiveSound.{FitsCache, Runs};
+ghost use Rattle.gh_poll.specs.GiveSound.{FitsCache, SoundGiving};
 ghost use Rattle.gh_poll.specs.Leave.{given, goes_at, is_busy, opening, says_gone, stage_of};
-ghost use Rattle.gh_poll.specs.LeaveSound.{SoundStage};
+ghost use Rattle.gh_poll.specs.LeaveSound.{SoundLeaving, SoundStage};
 
 use crate::give::{Cache, Give};
-use gh_base::{Ask, Cell, GONE, Held, Layout, Machine, Req};
-use std::marker::Model;
+use gh_base::{Ask, Cell, GONE, Held, Layout, Req, Routine};
 
 /// The stages of leaving.
 #[derive(Clone, Copy)]
@@ -29,29 +29,19 @@ pub enum LeaveStage {
 /// for acknowledgements waits for it no more.
 #[derive(Clone, Copy)]
 pub struct Leave {
-    layout: Layout,
-    seat: u32,
-    stage: LeaveStage,
-}
-
-impl Model for Leave {
-    ghost use Rattle.gh_poll.specs.Leave.{Leaving};
-    ghost use Rattle.gh_poll.specs.LeaveSound.{SoundLeaving};
-
-    ghost Value = { Leaving };
-
-    ghost view = { λ w. record { layout = w.layout; seat = w.seat; stage = w.stage } };
-
-    ghost invariant = { λ w. SoundLeaving (record { layout = w.layout; seat = w.seat; stage = w.stage }) };
-
-    ghost inverse = { λ w. record { layout = w.layout; seat = w.seat; stage = w.stage } };
+    /// The processor's seat.
+    pub seat: u32,
+    /// Its stage.
+    pub stage: LeaveStage,
 }
 
 /// It goes on giving back, or says that it is gone where nothing is left.
-fn stage_of(give: &Give) -> LeaveStage
+fn stage_of(layout: &Layout, give: &Give) -> LeaveStage
+    requires { SoundGiving layout.now give.now }
     ensures is { result ≡ stage_of give.now }
-    ensures fits { SoundStage give.now.layout result }
+    ensures fits { SoundStage layout.now result }
 {
+    let _ = layout;
     if give.is_busy() {
         LeaveStage::Giving(*give)
     } else {
@@ -73,14 +63,14 @@ impl Leave {
         requires generation { generation < 2 ^ 34 }
         requires cache { FitsCache layout.now cache }
         requires held { IsHeld layout.now held }
-        ensures opening { result ≡ opening layout.now seat generation cache held }
+        ensures opening { result ≡ opening seat generation cache held }
+        ensures sound { SoundLeaving layout.now result }
         ensures begun { is_busy result.stage ≡ true }
     {
         let give = Give::new(layout, seat, generation, cache, held);
         Leave {
-            layout: *layout,
             seat,
-            stage: stage_of(&give),
+            stage: stage_of(layout, &give),
         }
     }
 
@@ -93,13 +83,15 @@ impl Leave {
     }
 
     /// Takes a step of the giving back.
-    fn give(&mut self, give: &Give, found: u64)
-        requires { Runs self.old.layout give.now.layout (gives.is_busy give.now.stage) }
-        ensures { self.new ≡ goes_at self.old (LeaveStage.Giving give.now) found }
+    fn give(&mut self, layout: &Layout, give: &Give, found: u64)
+        requires sound { SoundLeaving layout.now self.old }
+        requires runs { Runs (gives.listing layout.now) give.now }
+        ensures goes { self.new ≡ goes_at self.old (LeaveStage.Giving give.now) found }
+        ensures sound { SoundLeaving layout.now self.new }
     {
         let mut give = *give;
-        give.take(found);
-        self.stage = stage_of(&give);
+        give.take(layout, found);
+        self.stage = stage_of(layout, &give);
     }
 
     /// What it has given: it has left, or not.
@@ -113,45 +105,31 @@ impl Leave {
     }
 }
 
-impl Machine for Leave {
-    ghost use Rattle.gh_base.specs.Given.{is_over};
+impl Routine for Leave {
     ghost use Rattle.gh_poll.specs.Leave.{listing};
-    ghost use Rattle.gh_poll.specs.Stays.{leave_stays};
 
     type Out = ();
 
-    ghost layout = { listing.layout };
+    ghost listing = { listing };
 
-    ghost busy = { listing.busy };
-
-    ghost asks = { listing.asks };
-
-    ghost goes = { listing.goes };
-
-    ghost gives = { listing.gives };
-
-    fn next(&self) -> Req {
+    fn next(&self, layout: &Layout) -> Req {
         let ask = match &self.stage {
-            LeaveStage::Giving(give) => return give.next(),
+            LeaveStage::Giving(give) => return give.next(layout),
             LeaveStage::Leave => Ask::Store(Cell::Ack(self.seat), GONE),
             LeaveStage::Left => Ask::Load(Cell::Touch),
         };
-        self.layout.request(ask)
+        layout.request(ask)
     }
 
-    fn take(&mut self, found: u64) -> Option<()> {
+    fn take(&mut self, layout: &Layout, found: u64) -> Option<()> {
         match &self.stage {
             LeaveStage::Giving(give) => {
                 let give = *give;
-                self.give(&give, found);
+                self.give(layout, &give, found);
             }
             LeaveStage::Leave => self.stage = LeaveStage::Left,
             LeaveStage::Left => {}
         }
         self.given()
     }
-
-    ghost ends = { λ w found busy. is_over (listing.gives w found) };
-
-    ghost stays = { leave_stays };
 }

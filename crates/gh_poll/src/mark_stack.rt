@@ -8,14 +8,13 @@ ghost use Rattle.gh_shade.specs.Listing as shades;
 ghost use Rattle.gh_shade.specs.Sound.{IsReference};
 ghost use Rattle.gh_scan.specs.Listing.{reference_in};
 ghost use Rattle.gh_stack.specs.Listing as stacks;
-ghost use Rattle.gh_poll.specs.MarkStack.{given, goes_at, goes_on, is_busy, opening, stage_of};
-ghost use Rattle.gh_poll.specs.MarkStackSound.{SoundStage, StackShadingWaits};
+ghost use Rattle.gh_poll.specs.MarkStack.{given, goes_at, goes_on, is_busy, opening, stage_of, with_shaded};
+ghost use Rattle.gh_poll.specs.MarkStackSound.{SoundStackMarking, SoundStage, StackShadingWaits};
 
-use gh_base::{Ask, Cell, Held, Layout, Machine, Req, Routine, Value};
+use gh_base::{Ask, Cell, Held, Layout, Req, Routine, Value};
 use gh_shade::{Shade, Shaded};
 use gh_stack::{REGISTER_COUNT, ScanStack};
 use gh_wbuf::FindRoom;
-use std::marker::Model;
 
 /// The stages of the scan of a stack, with the shading.
 #[derive(Clone, Copy, Debug, PartialEq, Eq)]
@@ -36,24 +35,14 @@ pub enum MarkStackStage {
 /// for one. Then the cycle is stored as the stack's last.
 #[derive(Clone, Copy, Debug, PartialEq, Eq)]
 pub struct MarkStack {
-    layout: Layout,
-    seat: u32,
-    held: Option<Held>,
-    scan: ScanStack,
-    stage: MarkStackStage,
-}
-
-impl Model for MarkStack {
-    ghost use Rattle.gh_poll.specs.MarkStack.{StackMarking};
-    ghost use Rattle.gh_poll.specs.MarkStackSound.{SoundStackMarking};
-
-    ghost Value = { StackMarking };
-
-    ghost view = { λ m. record { layout = m.layout; seat = m.seat; held = m.held; scan = m.scan; stage = m.stage } };
-
-    ghost invariant = { λ m. SoundStackMarking (record { layout = m.layout; seat = m.seat; held = m.held; scan = m.scan; stage = m.stage }) };
-
-    ghost inverse = { λ m. record { layout = m.layout; seat = m.seat; held = m.held; scan = m.scan; stage = m.stage } };
+    /// Its seat.
+    pub seat: u32,
+    /// The buffer that is held between two shadings, and once it has ended, if any.
+    pub held: Option<Held>,
+    /// The scan.
+    pub scan: ScanStack,
+    /// Its stage.
+    pub stage: MarkStackStage,
 }
 
 /// A reference of this heap: one that lies outside is taken modulo the heap's words.
@@ -94,11 +83,11 @@ impl MarkStack {
         requires goroutine { goroutine < layout.now.goroutines }
         requires held { IsHeld layout.now held }
         ensures opening { result ≡ opening layout.now seat goroutine cycle registers held }
+        ensures sound { SoundStackMarking layout.now result }
         ensures begun { is_busy result.stage ≡ true }
     {
         let scan = ScanStack::new(goroutine, cycle, registers);
         MarkStack {
-            layout: *layout,
             seat,
             held,
             scan,
@@ -106,38 +95,34 @@ impl MarkStack {
         }
     }
 
-    /// The buffer that is held once it has ended, if any.
-    pub fn held(&self) -> Option<Held>
-        ensures is { result ≡ self.now.held }
-        ensures fits { IsHeld self.now.layout result }
-    {
-        self.held
-    }
-
     /// A reference is shaded, and this is held: it goes on with the next.
     #[tactic(auto, using(crate::proofs::StackMarking::told_going))]
-    fn shaded(&mut self, held: Option<Held>)
-        requires held { IsHeld self.old.layout held }
+    fn shaded(&mut self, layout: &Layout, held: Option<Held>)
+        requires sound { SoundStackMarking layout.now self.old }
+        requires held { IsHeld layout.now held }
         requires waits { stacks.is_waiting self.old.scan.stage ≡ true }
-        ensures { self.new ≡ record self.old { held = held; scan = stacks.told_shaded self.old.scan; stage = stage_of self.old.layout held (stacks.told_shaded self.old.scan) } }
+        ensures goes { self.new ≡ with_shaded layout.now self.old held }
+        ensures sound { SoundStackMarking layout.now self.new }
     {
         let mut scan = self.scan;
         scan.told_shaded();
         self.held = held;
-        self.stage = stage_of(&self.layout, held, &scan);
+        self.stage = stage_of(layout, held, &scan);
         self.scan = scan;
     }
 
     /// Takes a step of this shading.
-    fn shade(&mut self, shade: &Shade, found: u64)
-        requires runs { Runs (shades.listing self.old.layout) shade.now }
+    fn shade(&mut self, layout: &Layout, shade: &Shade, found: u64)
+        requires sound { SoundStackMarking layout.now self.old }
+        requires runs { Runs (shades.listing layout.now) shade.now }
         requires waits { stacks.is_waiting self.old.scan.stage ≡ true }
-        ensures { self.new ≡ goes_at self.old (MarkStackStage.Shading shade.now) found }
+        ensures goes { self.new ≡ goes_at layout.now self.old (MarkStackStage.Shading shade.now) found }
+        ensures sound { SoundStackMarking layout.now self.new }
     {
         let mut shade = *shade;
-        match shade.take(&self.layout, found) {
+        match shade.take(layout, found) {
             None => self.stage = MarkStackStage::Shading(shade),
-            Some(Shaded::Done) => self.shaded(shade.held),
+            Some(Shaded::Done) => self.shaded(layout, shade.held),
             Some(Shaded::WantsRoom) => {
                 let room = FindRoom::new(self.seat, shade.held);
                 self.stage = MarkStackStage::FindRoom(shade, room);
@@ -146,12 +131,14 @@ impl MarkStack {
     }
 
     /// Takes a step of this search for room, which that shading waits for.
-    fn find_room(&mut self, shade: &Shade, room: &FindRoom, found: u64)
-        requires waits { StackShadingWaits self.old.layout self.old.scan shade.now room.now }
-        ensures { self.new ≡ goes_at self.old (MarkStackStage.FindRoom shade.now room.now) found }
+    fn find_room(&mut self, layout: &Layout, shade: &Shade, room: &FindRoom, found: u64)
+        requires sound { SoundStackMarking layout.now self.old }
+        requires waits { StackShadingWaits layout.now self.old.scan shade.now room.now }
+        ensures goes { self.new ≡ goes_at layout.now self.old (MarkStackStage.FindRoom shade.now room.now) found }
+        ensures sound { SoundStackMarking layout.now self.new }
     {
         let (mut shade, mut room) = (*shade, *room);
-        match room.take(&self.layout, found) {
+        match room.take(layout, found) {
             None => self.stage = MarkStackStage::FindRoom(shade, room),
             Some(held) => {
                 shade.told_room(held);
@@ -171,49 +158,35 @@ impl MarkStack {
     }
 }
 
-impl Machine for MarkStack {
-    ghost use Rattle.gh_base.specs.Given.{is_over};
+impl Routine for MarkStack {
     ghost use Rattle.gh_poll.specs.MarkStack.{listing};
-    ghost use Rattle.gh_poll.specs.Stays.{mark_stays};
 
     type Out = ();
 
-    ghost layout = { listing.layout };
+    ghost listing = { listing };
 
-    ghost busy = { listing.busy };
-
-    ghost asks = { listing.asks };
-
-    ghost goes = { listing.goes };
-
-    ghost gives = { listing.gives };
-
-    fn next(&self) -> Req {
+    fn next(&self, layout: &Layout) -> Req {
         match &self.stage {
-            MarkStackStage::Shading(shade) => shade.next(&self.layout),
-            MarkStackStage::FindRoom(_, room) => room.next(&self.layout),
-            MarkStackStage::Store => self.scan.next(&self.layout),
-            MarkStackStage::Ended => self.layout.request(Ask::Load(Cell::Touch)),
+            MarkStackStage::Shading(shade) => shade.next(layout),
+            MarkStackStage::FindRoom(_, room) => room.next(layout),
+            MarkStackStage::Store => self.scan.next(layout),
+            MarkStackStage::Ended => layout.request(Ask::Load(Cell::Touch)),
         }
     }
 
-    fn take(&mut self, found: u64) -> Option<()> {
+    fn take(&mut self, layout: &Layout, found: u64) -> Option<()> {
         match &self.stage {
             MarkStackStage::Shading(shade) => {
                 let shade = *shade;
-                self.shade(&shade, found);
+                self.shade(layout, &shade, found);
             }
             MarkStackStage::FindRoom(shade, room) => {
                 let (shade, room) = (*shade, *room);
-                self.find_room(&shade, &room, found);
+                self.find_room(layout, &shade, &room, found);
             }
             MarkStackStage::Store => self.stage = MarkStackStage::Ended,
             MarkStackStage::Ended => {}
         }
         self.given()
     }
-
-    ghost ends = { λ m found busy. is_over (listing.gives m found) };
-
-    ghost stays = { mark_stays };
 }

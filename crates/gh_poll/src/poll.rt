@@ -1,21 +1,19 @@
 //! The poll of a processor among a collector.
 
-ghost use Rattle.std.specs.Prelude.{◌≡◌, ◌^◌, ◌<◌, IfSome, IsTrue, Some, false, true, length};
+ghost use Rattle.std.specs.Prelude.{◌≡◌, ◌^◌, ◌<◌, IfSome, IsTrue, None, Some, false, true, length};
+ghost use Rattle.gh_base.specs.Cells.{InRange};
+ghost use Rattle.gh_base.specs.declared.layout.Layout.{Layout};
 ghost use Rattle.gh_base.specs.declared.limits.TheConstants.{MOST_GOROUTINES};
 ghost use Rattle.gh_phase.specs.Listing as resumes;
-ghost use Rattle.gh_wbuf.specs.RoomFinding as rooms;
-ghost use Rattle.gh_poll.specs.Give as gives;
 ghost use Rattle.gh_poll.specs.Local.{passes};
-ghost use Rattle.gh_poll.specs.MarkStack as marks;
-ghost use Rattle.gh_poll.specs.GiveSound.{Runs};
-ghost use Rattle.gh_poll.specs.Poll.{at_stage, begins, begins_stack, counted, due, first_due, given, gives as gives_by, giving, goes, goes_at, has_two, is_due, marks_then, owed_then, resting, resumed as resumed_by, stops_then};
-ghost use Rattle.gh_poll.specs.PollSound.{SoundLocal, is_amid};
+ghost use Rattle.gh_poll.specs.Poll.{asks, at_stage, begins, begins_stack, counted, due, first_due, given, gives as gives_by, giving, goes, goes_at, has_two, is_due, marks_then, owed_then, resting, resumed as resumed_by, stops_then};
+ghost use Rattle.gh_poll.specs.PollSound.{SoundPolling, is_amid};
 ghost use Rattle.gh_phase.specs.Views.{FitsView};
 
 use crate::give::{Cache, Give};
 use crate::mark_stack::MarkStack;
 use gh_base::limits::MOST_GOROUTINES;
-use gh_base::{Ask, Cell, END, ENTRIES, Held, Layout, Machine, PhaseWord, Req, Routine, Value};
+use gh_base::{Ask, Cell, END, ENTRIES, Held, Layout, PhaseWord, Req, Routine, Value};
 use gh_phase::{Resume, Resumed, RunPhase, View};
 use gh_stack::REGISTER_COUNT;
 use gh_wbuf::FindRoom;
@@ -87,7 +85,6 @@ pub enum PollAt {
 /// A processor has one for its whole life, which keeps what it alone knows: at rest it has ended.
 #[derive(Drop)]
 pub struct Poll {
-    pub(crate) layout: Layout,
     pub(crate) seat: u32,
     waits: bool,
     pub(crate) local: Local,
@@ -99,13 +96,13 @@ pub struct Poll {
 
 impl Model for Poll {
     ghost use Rattle.gh_poll.specs.Poll.{Polling};
-    ghost use Rattle.gh_poll.specs.PollSound.{SoundPolling, StandsSo, stage_kept};
+    ghost use Rattle.gh_poll.specs.PollSound.{StandsSo, stage_kept};
 
     ghost Value = { Polling };
 
-    ghost view = { λ p. record { layout = p.layout; seat = p.seat; waits = p.waits; local = p.local; stage = stage_kept p.at p.stage } };
+    ghost view = { λ p. record { seat = p.seat; waits = p.waits; local = p.local; stage = stage_kept p.at p.stage } };
 
-    ghost invariant = { λ p. SoundPolling (record { layout = p.layout; seat = p.seat; waits = p.waits; local = p.local; stage = stage_kept p.at p.stage }) × StandsSo p.at p.stage };
+    ghost invariant = { λ p. StandsSo p.at p.stage };
 }
 
 /// The stack of this goroutine is to be scanned in this cycle: it is one of the processor's, has not ended,
@@ -122,7 +119,7 @@ fn first_due(layout: &Layout, seat: u32, cycle: u64, scanned: &[u64]) -> Option<
     ensures is { result ≡ first_due layout.now seat cycle 0 scanned.now }
     ensures there { IfSome result (λ g. g < layout.now.goroutines) }
 {
-    for g in 0..MOST_GOROUTINES {
+    for g in 0..layout.goroutines {
         if is_due(layout, seat, cycle, g, scanned[g as usize]) {
             return Some(g);
         }
@@ -152,13 +149,10 @@ fn has_two(held: Option<Held>) -> bool
 
 impl Poll {
     /// The processor at this seat, at no poll, with what it knows.
-    pub fn resting(layout: &Layout, seat: u32, local: &Local) -> Poll
-        requires seat { seat < layout.now.procs }
-        requires local { SoundLocal layout.now local.now }
-        ensures { result ≡ resting layout.now seat local.now }
+    pub fn resting(seat: u32, local: &Local) -> Poll
+        ensures { result ≡ resting seat local.now }
     {
         Poll {
-            layout: *layout,
             seat,
             waits: false,
             local: *local,
@@ -181,7 +175,8 @@ impl Poll {
     #[inline(always)]
     pub fn passes(&mut self, found: u64) -> bool
         ensures exactly { result ≡ passes self.old found }
-        ensures passed { IsTrue result → (self.new ≡ goes (begins self.old false) found) × (gives_by (begins self.old false) found ≡ Some tt) }
+        ensures passed { IsTrue result → (l : Layout) → (self.new ≡ goes l (begins self.old false) found) × (gives_by l (begins self.old false) found ≡ Some tt) }
+        ensures sound { (l : Layout) → SoundPolling l self.old → SoundPolling l self.new }
         ensures stays { result ≡ false → self.new ≡ self.old }
     {
         if !matches!(self.at, PollAt::Over) {
@@ -202,10 +197,75 @@ impl Poll {
         }
     }
 
-    /// The poll is counted, and a buffer with room is looked for where the processor is to have one.
-    fn count(&mut self)
-        ensures { self.new ≡ counted self.old }
+    /// The cell that its next step loads, where it begins or waits for the end of a stop.
+    #[inline(always)]
+    pub fn looks(&self) -> Option<Cell>
+        ensures asks { IfSome result (λ c. asks self.now ≡ Ask.Load c) }
+        ensures within { IfSome result (λ c. (l : Layout) → InRange l c) }
+        ensures busy { IfSome result (λ c. given self.now.stage ≡ None) }
     {
+        match self.at {
+            PollAt::Begins => Some(Cell::Phase),
+            PollAt::Over => None,
+            PollAt::Amid => match &self.stage {
+                PollStage::Resuming(resume) => resume.looks(),
+                _ => None,
+            },
+        }
+    }
+
+    /// It waits on where its step found this: the stop that it has acknowledged lasts. The step changes nothing then.
+    #[inline(always)]
+    pub fn stands(&self, found: u64) -> bool
+        ensures goes { IsTrue result → (l : Layout) → goes l self.now found ≡ self.now }
+        ensures busy { IsTrue result → given self.now.stage ≡ None }
+    {
+        match self.at {
+            PollAt::Amid => match &self.stage {
+                PollStage::Resuming(resume) => resume.stands(found),
+                _ => false,
+            },
+            PollAt::Begins | PollAt::Over => false,
+        }
+    }
+
+    /// Makes the step that found this phase word at once, where by it a poll ends that has just begun: the world runs, and
+    /// marking is off, as the processor knows, or the poll is a part of a wait and scans no stack. It answers whether that is so;
+    /// where not, nothing has changed, and [`take`](Routine::take) makes the step.
+    #[inline(always)]
+    pub fn counts(&mut self, layout: &Layout, found: u64) -> bool
+        requires sound { SoundPolling layout.now self.old }
+        ensures goes { IsTrue result → self.new ≡ goes layout.now self.old found }
+        ensures ends { IsTrue result → gives_by layout.now self.old found ≡ Some tt }
+        ensures sound { SoundPolling layout.now self.new }
+        ensures stays { result ≡ false → self.new ≡ self.old }
+    {
+        if !matches!(self.at, PollAt::Begins) {
+            return false;
+        }
+        let word = PhaseWord::unpack(found);
+        if RunPhase::of(word.phase).is_none() {
+            return false;
+        }
+        match self.local.view.phase {
+            RunPhase::Off | RunPhase::Finished => self.at = PollAt::Over,
+            RunPhase::Mark => {
+                if !self.waits || self.due(layout).is_some() {
+                    return false;
+                }
+                self.count(layout);
+            }
+        }
+        true
+    }
+
+    /// The poll is counted, and a buffer with room is looked for where the processor is to have one.
+    fn count(&mut self, layout: &Layout)
+        requires sound { SoundPolling layout.now self.old }
+        ensures goes { self.new ≡ counted self.old }
+        ensures sound { SoundPolling layout.now self.new }
+    {
+        let _ = layout;
         self.local.polls = self.local.polls.wrapping_add(1);
         // Within a wait no buffer is taken: the coordinator cannot see into one that is held, and the cycle that is waited for
         // might never end.
@@ -219,88 +279,102 @@ impl Poll {
     }
 
     /// The goroutine whose stack this poll scans, if it scans one.
-    fn due(&self) -> Option<u32>
-        ensures is { result ≡ due self.now }
-        ensures there { IfSome result (λ g. g < self.now.layout.goroutines) }
+    fn due(&self, layout: &Layout) -> Option<u32>
+        requires { SoundPolling layout.now self.now }
+        ensures is { result ≡ due layout.now self.now }
+        ensures there { IfSome result (λ g. g < layout.now.goroutines) }
     {
         // A scan takes many steps, so three polls of four go without: statements go on between two stacks.
         if self.local.polls % 4 == 0 {
             let cycle = self.local.view.begun;
-            first_due(&self.layout, self.seat, cycle, &self.local.scanned)
+            first_due(layout, self.seat, cycle, &self.local.scanned)
         } else {
             None
         }
     }
 
     /// Goes on where the world runs.
-    fn mark(&mut self)
-        ensures { self.new ≡ marks_then self.old self.old.local.view.phase }
+    fn mark(&mut self, layout: &Layout)
+        requires sound { SoundPolling layout.now self.old }
+        ensures goes { self.new ≡ marks_then layout.now self.old self.old.local.view.phase }
+        ensures sound { SoundPolling layout.now self.new }
     {
         match self.local.view.phase {
             RunPhase::Off | RunPhase::Finished => self.at = PollAt::Over,
-            RunPhase::Mark => match self.due() {
-                None => self.count(),
-                Some(g) => self.begin_stack(g),
+            RunPhase::Mark => match self.due(layout) {
+                None => self.count(layout),
+                Some(g) => self.begin_stack(layout, g),
             },
         }
     }
 
     /// It scans the stack of this goroutine.
-    fn begin_stack(&mut self, g: u32)
-        requires { g < self.old.layout.goroutines }
-        ensures { self.new ≡ begins_stack self.old g }
+    fn begin_stack(&mut self, layout: &Layout, g: u32)
+        requires sound { SoundPolling layout.now self.old }
+        requires there { g < layout.now.goroutines }
+        ensures goes { self.new ≡ begins_stack layout.now self.old g }
+        ensures sound { SoundPolling layout.now self.new }
     {
         let stack = self.local.stacks[g as usize];
         let (cycle, held) = (self.local.view.begun, self.local.held);
-        let mark = MarkStack::new(&self.layout, self.seat, g, cycle, stack, held);
+        let mark = MarkStack::new(layout, self.seat, g, cycle, stack, held);
         self.at = PollAt::Amid;
         self.stage = PollStage::Marking(g, mark);
     }
 
     /// Nothing is cached or held any more, at the stop of this number: it acknowledges that.
     // So whoever stops the world finds each entry in a buffer that nobody holds, and each span without an owner.
-    fn acknowledge(&mut self, stops: u64)
+    fn acknowledge(&mut self, layout: &Layout, stops: u64)
+        requires sound { SoundPolling layout.now self.old }
         requires stops { stops < 2 ^ 62 }
-        ensures { self.new ≡ at_stage self.old (PollStage.Resuming (resumes.opening self.old.seat stops self.old.local.view)) }
+        ensures goes { self.new ≡ at_stage self.old (PollStage.Resuming (resumes.opening self.old.seat stops self.old.local.view)) }
+        ensures sound { SoundPolling layout.now self.new }
     {
+        let _ = layout;
         let resume = Resume::new(self.seat, stops, self.local.view);
         self.at = PollAt::Amid;
         self.stage = PollStage::Resuming(resume);
     }
 
     /// Begins to give back at the stop of this number; where nothing is left it acknowledges that.
-    fn stop(&mut self, stops: u64)
+    fn stop(&mut self, layout: &Layout, stops: u64)
+        requires sound { SoundPolling layout.now self.old }
         requires stops { stops < 2 ^ 62 }
-        ensures { self.new ≡ stops_then self.old (giving self.old) stops }
+        ensures goes { self.new ≡ stops_then self.old (giving self.old) stops }
+        ensures sound { SoundPolling layout.now self.new }
     {
         let generation = self.local.view.generation;
         let (cache, held) = (self.local.cache, self.local.held);
-        let give = Give::new(&self.layout, self.seat, generation, cache, held);
+        let give = Give::new(layout, self.seat, generation, cache, held);
         if give.is_busy() {
             self.at = PollAt::Amid;
             self.stage = PollStage::Giving(give, stops);
         } else {
-            self.local.cache = give.cache();
-            self.local.held = give.held();
-            self.acknowledge(stops);
+            self.local.cache = give.cache;
+            self.local.held = give.held;
+            self.acknowledge(layout, stops);
         }
     }
 
     /// Goes on by the phase word.
-    fn by_phase(&mut self, found: u64)
-        ensures { self.new ≡ goes_at self.old PollStage.LoadPhase found }
+    fn by_phase(&mut self, layout: &Layout, found: u64)
+        requires sound { SoundPolling layout.now self.old }
+        ensures goes { self.new ≡ goes_at layout.now self.old PollStage.LoadPhase found }
+        ensures sound { SoundPolling layout.now self.new }
     {
         let word = PhaseWord::unpack(found);
         match RunPhase::of(word.phase) {
-            None => self.stop(word.stops),
-            Some(_) => self.mark(),
+            None => self.stop(layout, word.stops),
+            Some(_) => self.mark(layout),
         }
     }
 
     /// Goes on behind a stop, with what is known of the phase then.
-    fn resumed(&mut self, resumed: &Resumed)
-        requires { FitsView resumed.now.view }
-        ensures { self.new ≡ marks_then (resumed_by self.old resumed.now) resumed.now.view.phase }
+    fn resumed(&mut self, layout: &Layout, resumed: &Resumed)
+        requires sound { SoundPolling layout.now self.old }
+        requires view { FitsView resumed.now.view }
+        ensures goes { self.new ≡ marks_then layout.now (resumed_by self.old resumed.now) resumed.now.view.phase }
+        ensures sound { SoundPolling layout.now self.new }
     {
         self.local.view = resumed.view;
         // Each cycle scans its stacks anew, and begins with one at once.
@@ -309,42 +383,44 @@ impl Poll {
         }
         // What it owes it owes to one cycle's marking: there is nobody to pay once that is over.
         self.local.owed = owed_then(resumed, self.local.owed);
-        self.mark();
+        self.mark(layout);
     }
 
     /// Takes a step amid its stages. Each stage is changed where it stands; one that is over is left behind before the poll goes on.
-    fn go_on(&mut self, found: u64)
-        requires { is_amid self.old.stage ≡ true }
-        ensures { self.new ≡ goes self.old found }
+    fn go_on(&mut self, layout: &Layout, found: u64)
+        requires sound { SoundPolling layout.now self.old }
+        requires amid { is_amid self.old.stage ≡ true }
+        ensures goes { self.new ≡ goes layout.now self.old found }
+        ensures sound { SoundPolling layout.now self.new }
     {
         match &mut self.stage {
             PollStage::Giving(give, stops) => {
-                give.take(found);
+                give.take(layout, found);
                 if !give.is_busy() {
-                    let (cache, held, stops) = (give.cache(), give.held(), *stops);
+                    let (cache, held, stops) = (give.cache, give.held, *stops);
                     self.at = PollAt::Over;
                     self.local.cache = cache;
                     self.local.held = held;
-                    self.acknowledge(stops);
+                    self.acknowledge(layout, stops);
                 }
             }
             PollStage::Resuming(resume) => {
-                if let Some(resumed) = resume.take(&self.layout, found) {
+                if let Some(resumed) = resume.take(layout, found) {
                     self.at = PollAt::Over;
-                    self.resumed(&resumed);
+                    self.resumed(layout, &resumed);
                 }
             }
             PollStage::Marking(g, mark) => {
-                if mark.take(found).is_some() {
-                    let (g, held) = (*g, mark.held());
+                if mark.take(layout, found).is_some() {
+                    let (g, held) = (*g, mark.held);
                     self.at = PollAt::Over;
                     self.local.held = held;
                     self.local.scanned[g as usize] = self.local.view.begun;
-                    self.count();
+                    self.count(layout);
                 }
             }
             PollStage::FindRoom(room) => {
-                if let Some(held) = room.take(&self.layout, found) {
+                if let Some(held) = room.take(layout, found) {
                     self.at = PollAt::Over;
                     self.local.held = Some(held);
                 }
@@ -364,49 +440,35 @@ impl Poll {
     }
 }
 
-impl Machine for Poll {
-    ghost use Rattle.gh_base.specs.Given.{is_over};
+impl Routine for Poll {
     ghost use Rattle.gh_poll.specs.Poll.{listing};
-    ghost use Rattle.gh_poll.specs.Stays.{poll_stays};
 
     type Out = ();
 
-    ghost layout = { listing.layout };
+    ghost listing = { listing };
 
-    ghost busy = { listing.busy };
-
-    ghost asks = { listing.asks };
-
-    ghost goes = { listing.goes };
-
-    ghost gives = { listing.gives };
-
-    fn next(&self) -> Req {
+    fn next(&self, layout: &Layout) -> Req {
         match self.at {
-            PollAt::Begins => return self.layout.request(Ask::Load(Cell::Phase)),
-            PollAt::Over => return self.layout.request(Ask::Load(Cell::Touch)),
+            PollAt::Begins => return layout.request(Ask::Load(Cell::Phase)),
+            PollAt::Over => return layout.request(Ask::Load(Cell::Touch)),
             PollAt::Amid => {}
         }
         match &self.stage {
-            PollStage::Giving(give, _) => give.next(),
-            PollStage::Resuming(resume) => resume.next(&self.layout),
-            PollStage::Marking(_, mark) => mark.next(),
-            PollStage::FindRoom(room) => room.next(&self.layout),
-            PollStage::LoadPhase => self.layout.request(Ask::Load(Cell::Phase)),
-            PollStage::Ended => self.layout.request(Ask::Load(Cell::Touch)),
+            PollStage::Giving(give, _) => give.next(layout),
+            PollStage::Resuming(resume) => resume.next(layout),
+            PollStage::Marking(_, mark) => mark.next(layout),
+            PollStage::FindRoom(room) => room.next(layout),
+            PollStage::LoadPhase => layout.request(Ask::Load(Cell::Phase)),
+            PollStage::Ended => layout.request(Ask::Load(Cell::Touch)),
         }
     }
 
-    fn take(&mut self, found: u64) -> Option<()> {
+    fn take(&mut self, layout: &Layout, found: u64) -> Option<()> {
         match self.at {
-            PollAt::Begins => self.by_phase(found),
-            PollAt::Amid => self.go_on(found),
+            PollAt::Begins => self.by_phase(layout, found),
+            PollAt::Amid => self.go_on(layout, found),
             PollAt::Over => {}
         }
         self.given()
     }
-
-    ghost ends = { λ p found busy. is_over (listing.gives p found) };
-
-    ghost stays = { poll_stays };
 }

@@ -27,7 +27,7 @@ led p l (e ∷ es) = go (eqb e.actor (l.procs + l.workers)) refl (led p l es) wh
 
   go : (b : Bool) → eqb e.actor (l.procs + l.workers) ≡ b → Led p l es → Led p l (e ∷ es)
   go false f h = record { lead = h.lead; is = rw f h.is }
-  go true f h = record { lead = coord.goes h.lead e.found; is = rw f (ap (λ (m : Actor). (setting_of p l).kind.takes (started (setting_of p l).kind e.begun m) e.found) h.is ∙ ap (λ (m : Actor). (setting_of p l).kind.takes m e.found) (stays e.begun h.lead)) }
+  go true f h = record { lead = coord.goes l h.lead e.found; is = rw f (ap (λ (m : Actor). (setting_of p l).kind.takes (started (setting_of p l).kind e.begun m) e.found) h.is ∙ ap (λ (m : Actor). (setting_of p l).kind.takes m e.found) (stays e.begun h.lead)) }
 
 -- a script's settings have a layout
 record HasLayout (p : Program) : Type 0 where

@@ -18,7 +18,7 @@ use Rattle.gh_mutator.specs.declared.task.Task.{Task}
 use Rattle.gh_poll.specs.Leave.{says_gone}
 use Rattle.gh_poll.specs.Leave as leave
 use Rattle.gh_mutator.specs.Listing.{after_gc, after_leave, after_poll, follows, takes_at}
-use Rattle.gh_mutator.specs.New.{after_assist, after_search, after_wait, assisting, assists, made_task}
+use Rattle.gh_mutator.specs.New.{after_assist, after_search, after_wait, made_task}
 use Rattle.gh_mutator.specs.New as new
 use Rattle.gh_mutator.specs.Serving.{has_left_at, is_last}
 use Rattle.gh_mutator.specs.Vocabulary.{Assisting, Found, Leaving, Name, Placing, Polling, Seeking, Waiting}
@@ -67,8 +67,8 @@ place_on poll w p asks = grind arith
 assist_on : (m : Processor) (w : Wanted) (n : Name) (x : Assisting) (out : Option (Unit {0})) → has_left_at (after_assist m w n x out).task ≡ false
 assist_on m w n x out = grind arith
 
-new_on : (shapes : List Shape) (m : Processor) (w : Wanted) (s : NewStage) (found : ℕ) → has_left_at (new.takes_at shapes m w s found).task ≡ false
-new_on shapes m w s found = grind (arith, assist_on, place_on, search_on, wait_on)
+new_on : (l : Layout) (shapes : List Shape) (m : Processor) (w : Wanted) (s : NewStage) (found : ℕ) → has_left_at (new.takes_at l shapes m w s found).task ≡ false
+new_on l shapes m w s found = grind (arith, assist_on, place_on, search_on, wait_on)
 
 gc_on : (m : Processor) (g : ℕ) (x : Waiting) (out : Option (Unit {0})) → has_left_at (after_gc m g x out).task ≡ false
 gc_on m g x out = grind arith
@@ -79,8 +79,8 @@ poll_on m p out = grind arith
 leave_last : (m : Processor) (x : Leaving) (stage : LeaveStage) (found : ℕ) → has_left_at (after_leave m (leave.goes_at x stage found) (leave.given (leave.goes_at x stage found).stage)).task ≡ says_gone stage
 leave_last m x stage found = grind arith
 
-left_by : (shapes : List Shape) (m : Processor) (t : Task) (found : ℕ) → m.task ≡ t → has_left_at t ≡ false → has_left_at (takes_at shapes m t found).task ≡ is_last t
-left_by shapes m t found is on = grind (arith, follow_on, gc_on, leave_last, new_on, poll_on)
+left_by : (l : Layout) (shapes : List Shape) (m : Processor) (t : Task) (found : ℕ) → m.task ≡ t → has_left_at t ≡ false → has_left_at (takes_at l shapes m t found).task ≡ is_last t
+left_by l shapes m t found is on = grind (arith, follow_on, gc_on, leave_last, new_on, poll_on)
 
 -- the others by what they give
 none_busy : (out : Option (Unit {0})) (busy : Bool) → (IsNone out ↔ (busy ≡ true)) → is_some out ≡ not busy
@@ -92,14 +92,14 @@ not_false b e = grind arith
 given_done : (stage : CoordStage) → is_some (coord.given_at stage) ≡ coord.is_done_at stage
 given_done stage = grind arith
 
-finished_by : (shapes : List Shape) (now : ℕ × ℕ) (x : Actor) (found : ℕ) → has_ended x ≡ false → is_finished (event_by now x found) ≡ has_ended (actor_takes shapes x found)
-finished_by shapes now x found on = grind (arith, given_done, left_by, none_busy, not_false, of_last, of_out, of_told)
+finished_by : (shapes : List Shape) (l : Layout) (now : ℕ × ℕ) (x : Actor) (found : ℕ) → has_ended x ≡ false → is_finished (event_by l now x found) ≡ has_ended (actor_takes shapes l x found)
+finished_by shapes l now x found on = grind (arith, given_done, left_by, none_busy, not_false, of_last, of_out, of_told)
 
 module _ (p : Program) (l : Layout) where
   started_on : (o : Option Op) (x : Actor) → has_ended x ≡ false → has_ended (started (setting_of p l).kind o x) ≡ false
   started_on o x on = grind arith
 
-  finished_in : (es : List (Entry Op)) (e : Entry Op) → has_ended (actor_after p l es e.actor) ≡ false → is_finished (event_of p l es e) ≡ has_ended (actor_takes p.shapes (started (setting_of p l).kind e.begun (actor_after p l es e.actor)) e.found)
+  finished_in : (es : List (Entry Op)) (e : Entry Op) → has_ended (actor_after p l es e.actor) ≡ false → is_finished (event_of p l es e) ≡ has_ended (actor_takes p.shapes l (started (setting_of p l).kind e.begun (actor_after p l es e.actor)) e.found)
   finished_in es e on = grind (arith, finished_by, started_on)
 
 -- ---- who has ended after a step, and who goes on
@@ -134,13 +134,13 @@ module _ (w v : State) (actor : ℕ) (happened : Event) (es : List (Entry Op)) (
   says : happened ≡ event_of (script_of w) (layout_of w) es s.appends.e
   says = s.appends.says ∙ ap (λ (q : Program). event_of q (layout_of v) es s.appends.e) s.script ∙ ap (λ (k : Layout). event_of (script_of w) k es s.appends.e) s.layout
 
-  own : is_finished happened ≡ has_ended (actor_takes (script_of w).shapes (started (setting_of (script_of w) (layout_of w)).kind s.appends.e.begun (actor_after (script_of w) (layout_of w) es s.appends.e.actor)) s.appends.e.found)
+  own : is_finished happened ≡ has_ended (actor_takes (script_of w).shapes (layout_of w) (started (setting_of (script_of w) (layout_of w)).kind s.appends.e.begun (actor_after (script_of w) (layout_of w) es s.appends.e.actor)) s.appends.e.found)
   own = ap is_finished says ∙ finished_in (script_of w) (layout_of w) es s.appends.e (ap (λ (b : ℕ). has_ended (actor_after (script_of w) (layout_of w) es b)) s.appends.by ∙ sym (ap has_ended (s.before.actors actor s.there)) ∙ s.on)
 
   ended_then : (b : ℕ) → b < actors_of w → is_done v b ≡ cond (eqb actor b) (is_finished happened) (is_done w b)
   ended_then b lt = after_it b lt ∙ go (eqb s.appends.e.actor b) refl ∙ ap (λ (c : ℕ). cond (eqb c b) (is_finished happened) (is_done w b)) s.appends.by where
-    go : (c : Bool) → eqb s.appends.e.actor b ≡ c → has_ended (cond c (actor_takes (script_of w).shapes (started (setting_of (script_of w) (layout_of w)).kind s.appends.e.begun (actor_after (script_of w) (layout_of w) es b)) s.appends.e.found) (actor_after (script_of w) (layout_of w) es b)) ≡ cond c (is_finished happened) (is_done w b)
-    go true same = sym (own ∙ ap (λ (d : ℕ). has_ended (actor_takes (script_of w).shapes (started (setting_of (script_of w) (layout_of w)).kind s.appends.e.begun (actor_after (script_of w) (layout_of w) es d)) s.appends.e.found)) (eqb-true s.appends.e.actor b same))
+    go : (c : Bool) → eqb s.appends.e.actor b ≡ c → has_ended (cond c (actor_takes (script_of w).shapes (layout_of w) (started (setting_of (script_of w) (layout_of w)).kind s.appends.e.begun (actor_after (script_of w) (layout_of w) es b)) s.appends.e.found) (actor_after (script_of w) (layout_of w) es b)) ≡ cond c (is_finished happened) (is_done w b)
+    go true same = sym (own ∙ ap (λ (d : ℕ). has_ended (actor_takes (script_of w).shapes (layout_of w) (started (setting_of (script_of w) (layout_of w)).kind s.appends.e.begun (actor_after (script_of w) (layout_of w) es d)) s.appends.e.found)) (eqb-true s.appends.e.actor b same))
     go false other = sym (ap has_ended (s.before.actors b lt))
 
   then' : (b : ℕ) → b < 0 + actors_of w → is_done v b ≡ cond (eqb actor b) (is_finished happened) (is_done w b)

@@ -29,7 +29,7 @@ use Rattle.gh_replay.proofs.Choosing.{Agree}
 done_quiet : (out : Option (Unit {0})) (told : Option Cycle) → answered_in (done_or out (told_event told)) ≡ []
 done_quiet out told = grind arith
 
-others_quiet : (p : Program) (l : Layout) (now : ℕ × ℕ) (found : ℕ) (c : coord.Coordinating) (begun : Option Op) (o : Option worker.Working) → answered_in (event_by now (started (setting_of p l).kind begun (worker_or c o)) found) ≡ []
+others_quiet : (p : Program) (l : Layout) (now : ℕ × ℕ) (found : ℕ) (c : coord.Coordinating) (begun : Option Op) (o : Option worker.Working) → answered_in (event_by l now (started (setting_of p l).kind begun (worker_or c o)) found) ≡ []
 others_quiet p l now found c begun o = grind (arith, done_quiet)
 
 module _ (w : State) (es : List (Entry Op)) (after : IsAfter w es) where
@@ -66,8 +66,8 @@ module _ (w : State) (es : List (Entry Op)) (after : IsAfter w es) (seats : acto
   }
 
   -- a step of an actor that is no processor answers no statement
-  pub quiet : (a : ℕ) → a < actors_of w → (layout_of w).procs ≤ a → (begun : Option Op) (found : ℕ) (now : ℕ × ℕ) → answered_in (event_by now (started (setting_of (script_of w) (layout_of w)).kind begun (actor_after (script_of w) (layout_of w) es a)) found) ≡ []
+  pub quiet : (a : ℕ) → a < actors_of w → (layout_of w).procs ≤ a → (begun : Option Op) (found : ℕ) (now : ℕ × ℕ) → answered_in (event_by (layout_of w) now (started (setting_of (script_of w) (layout_of w)).kind begun (actor_after (script_of w) (layout_of w) es a)) found) ≡ []
   quiet a lt le begun found now =
       let many = after.keeps.processors in
-      ap (λ (m : Actor). answered_in (event_by now (started (setting_of (script_of w) (layout_of w)).kind begun m) found)) (sym (behind_runners w es after a lt (omega (arith, many, le))))
+      ap (λ (m : Actor). answered_in (event_by (layout_of w) now (started (setting_of (script_of w) (layout_of w)).kind begun m) found)) (sym (behind_runners w es after a lt (omega (arith, many, le))))
       ∙ others_quiet (script_of w) (layout_of w) now found w.coord begun (slice_get w.workers (a - length w.runners))

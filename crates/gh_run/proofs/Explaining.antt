@@ -30,8 +30,8 @@ use Rattle.gh_run.proofs.Places.{each_first, there}
 use Rattle.gh_script.specs.Program.{Program, WellFormed}
 use Rattle.gh_shared.specs.declared.handle.Handle.{Handle}
 use Rattle.gh_shared.specs.declared.heap.Heap.{Heap}
-use Rattle.gh_actor.specs.declared.machine.ActorMachine.{ActorMachine}
-use Rattle.gh_actor.specs.declared.machine.ActorMachine.TheVariants.{Leads, Marks, Runs}
+use Rattle.gh_actor.specs.declared.actor.HeapActor.{HeapActor}
+use Rattle.gh_actor.specs.declared.actor.HeapActor.TheVariants.{Leads, Marks, Runs}
 use Rattle.gh_shared.specs.Calls.{IsClosedAfter}
 use Rattle.gh_shared.specs.Handles.{ended_at, ended_of, IsHeapOf, machine_of, number_of, own_of, plan_of, view_of}
 use Rattle.gh_actor.specs.Machines.{machine_actor}
@@ -66,7 +66,7 @@ left_idle _ e = absurd cc
 
 ended_has : (h : Handle) → ended_of h ≡ true → has_ended (machine_actor (machine_of h)) ≡ true
 ended_has h over = go (machine_of h) refl over where
-  go : (x : ActorMachine) → machine_of h ≡ x → ended_at x (own_of h) ≡ true → has_ended (machine_actor x) ≡ true
+  go : (x : HeapActor) → machine_of h ≡ x → ended_at x (own_of h) ≡ true → has_ended (machine_actor x) ≡ true
   go (Runs m) is e = let rests = h.kept.rests m is in left_then m.processor.task rests.idle (rests.leaves ∙ e)
   go (Marks w) is e = e
   go (Leads c) is e = e
@@ -97,7 +97,7 @@ module _ (q : Planned) (law : OfItsOwn) (a : ℕ) (lt : a < q.layout.procs) wher
   at es = state_of (processor_kind q.script.shapes q.layout) a es
 
   abbrev given : List (Entry Op) → List Answer
-  given es = given_by (processor_kind q.script.shapes q.layout) (deeds q.script.shapes) a es
+  given es = given_by (processor_kind q.script.shapes q.layout) (deeds q.layout q.script.shapes) a es
 
   at_own : (es : List (Entry Op)) → at es ≡ at (by a es)
   at_own es =
@@ -106,7 +106,7 @@ module _ (q : Planned) (law : OfItsOwn) (a : ℕ) (lt : a < q.layout.procs) wher
 
   -- what an entry gives, whose processor is this before it
   abbrev gave : Entry Op → Processor → Option Answer
-  gave e m = given_at (started (processor_kind q.script.shapes q.layout) e.begun m).task (gives_at (started (processor_kind q.script.shapes q.layout) e.begun m) (started (processor_kind q.script.shapes q.layout) e.begun m).task e.found)
+  gave e m = given_at (started (processor_kind q.script.shapes q.layout) e.begun m).task (gives_at q.layout (started (processor_kind q.script.shapes q.layout) e.begun m) (started (processor_kind q.script.shapes q.layout) e.begun m).task e.found)
 
   -- what it was given is said by its own entries
   given_own : (es : List (Entry Op)) → given es ≡ given (by a es)
@@ -140,23 +140,23 @@ module _ (q : Planned) where
 
   opens_roomy : (a : ℕ) → Roomy (start q.layout (pacing_of q.script) a)
   opens_roomy a = go (nat_lt a q.layout.procs) (nat_lt a (acks_of q.layout)) where
-    go : (b c : Bool) → Roomy (cond b (actor.Runs (opening_processor q.layout a)) (cond c (actor.Marks (worker.opening q.layout a)) (actor.Leads (opening a))))
+    go : (b c : Bool) → Roomy (cond b (actor.Runs (opening_processor a)) (cond c (actor.Marks (worker.opening a)) (actor.Leads (opening a))))
     go true c d e = absurd cc
     go false true d e = absurd cc
     go false false d e = let same : opening a ≡ d = cc in ap (λ (x : Coordinating). x.cycles.room) (sym same)
 
-  takes_roomy : (x : Actor) (o : Option Op) (found : ℕ) → Roomy x → Roomy (actor_takes q.script.shapes (started (setting q).kind o x) found)
+  takes_roomy : (x : Actor) (o : Option Op) (found : ℕ) → Roomy x → Roomy (actor_takes q.script.shapes q.layout (started (setting q).kind o x) found)
   takes_roomy (actor.Runs m) None found is c e = absurd cc
   takes_roomy (actor.Runs m) (Some o) found is c e = absurd cc
   takes_roomy (actor.Marks w) None found is c e = absurd cc
   takes_roomy (actor.Marks w) (Some o) found is c e = absurd cc
-  takes_roomy (actor.Leads d) None found is c e = let same : coord.goes d found ≡ c = cc in ap (λ (x : Coordinating). x.cycles.room) (sym same) ∙ cycle_room_stays d found ∙ is d refl
-  takes_roomy (actor.Leads d) (Some o) found is c e = let same : coord.goes d found ≡ c = cc in ap (λ (x : Coordinating). x.cycles.room) (sym same) ∙ cycle_room_stays d found ∙ is d refl
+  takes_roomy (actor.Leads d) None found is c e = let same : coord.goes q.layout d found ≡ c = cc in ap (λ (x : Coordinating). x.cycles.room) (sym same) ∙ cycle_room_stays q.layout d found ∙ is d refl
+  takes_roomy (actor.Leads d) (Some o) found is c e = let same : coord.goes q.layout d found ≡ c = cc in ap (λ (x : Coordinating). x.cycles.room) (sym same) ∙ cycle_room_stays q.layout d found ∙ is d refl
 
   roomy_after : (a : ℕ) (es : List (Entry Op)) → Roomy (state_of (setting q).kind a es)
   roomy_after a [] = opens_roomy a
   roomy_after a (e ∷ es) = go (eqb e.actor a) (roomy_after a es) where
-    go : (b : Bool) → Roomy (state_of (setting q).kind a es) → Roomy (cond b (actor_takes q.script.shapes (started (setting q).kind e.begun (state_of (setting q).kind a es)) e.found) (state_of (setting q).kind a es))
+    go : (b : Bool) → Roomy (state_of (setting q).kind a es) → Roomy (cond b (actor_takes q.script.shapes q.layout (started (setting q).kind e.begun (state_of (setting q).kind a es)) e.found) (state_of (setting q).kind a es))
     go true is = takes_roomy (state_of (setting q).kind a es) e.begun e.found is
     go false is = is
 

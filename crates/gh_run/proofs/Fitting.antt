@@ -11,7 +11,7 @@ use Rattle.gh_run.specs.Jobs.{IsBetweenTurns}
 use Rattle.gh_script.specs.Program.{Program, WellFormed}
 use Rattle.gh_shared.specs.declared.handle.Handle.{Handle}
 use Rattle.gh_shared.specs.declared.heap.Heap.{Heap}
-use Rattle.gh_actor.specs.declared.machine.ActorMachine.{ActorMachine}
+use Rattle.gh_actor.specs.declared.actor.HeapActor.{HeapActor}
 use Rattle.gh_shared.specs.Calls.{Fits, May, RunsIt}
 use Rattle.gh_shared.specs.Handles.{machine_of, number_of, own_of, plan_of, room_at, view_of}
 use Rattle.gh_actor.specs.Plans.{Planned}
@@ -47,7 +47,7 @@ none_beyond : (n c e : Bool) → n ≡ false → (n && c && not e) ≡ false
 none_beyond true c e h = absurd cc
 none_beyond false c e h = refl
 
-module _ (q : Planned) (a : ℕ) (x : ActorMachine) (own : List (Entry Op)) where
+module _ (q : Planned) (a : ℕ) (x : HeapActor) (own : List (Entry Op)) where
   abbrev L : Layout
   L = q.layout
 

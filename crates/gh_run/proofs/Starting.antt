@@ -14,8 +14,8 @@ use Rattle.gh_run.specs.Jobs.{answers_in, IsAtEnd, IsAtStart, IsBetweenTurns}
 use Rattle.gh_script.specs.Program.{Program}
 use Rattle.gh_shared.specs.declared.handle.Handle.{Handle}
 use Rattle.gh_shared.specs.declared.heap.Heap.{Heap}
-use Rattle.gh_actor.specs.declared.machine.ActorMachine.{ActorMachine}
-use Rattle.gh_actor.specs.declared.machine.ActorMachine.TheVariants.{Leads, Marks, Runs}
+use Rattle.gh_actor.specs.declared.actor.HeapActor.{HeapActor}
+use Rattle.gh_actor.specs.declared.actor.HeapActor.TheVariants.{Leads, Marks, Runs}
 use Rattle.gh_shared.specs.Calls.{RanToItsEnd}
 use Rattle.gh_shared.specs.Handles.{ended_at, ended_of, IsFresh, machine_of, number_of, own_of, plan_of, room_at, view_of}
 use Rattle.gh_actor.specs.Machines.{IsCoordinator, IsOther, IsProcessor, IsWorker, opening}
@@ -35,42 +35,42 @@ use Rattle.gh_world.specs.World.{opening_progress}
 -- ---- machines before their first steps
 
 -- who opens has not ended
-going_by : (q : Planned) (a : ℕ) (b c : Bool) → ended_at (cond b (Runs (mutating.opening q.layout a q.script.shapes)) (cond c (Marks (worker.opening q.layout a)) (Leads (coord.opening q.layout a q.script.settings.gogc q.script.settings.minheap (most_cycles q.script))))) [] ≡ false
+going_by : (q : Planned) (a : ℕ) (b c : Bool) → ended_at (cond b (Runs (mutating.opening a q.script.shapes)) (cond c (Marks (worker.opening a)) (Leads (coord.opening q.layout a q.script.settings.gogc q.script.settings.minheap (most_cycles q.script))))) [] ≡ false
 going_by q a true c = refl
 going_by q a false true = refl
 going_by q a false false = refl
 
 pub fresh_going : (heap : Heap) (h : Handle) → IsFresh heap (number_of h) h → ended_of h ≡ false
 fresh_going heap h fresh =
-    ap (λ (x : ActorMachine). ended_at x (own_of h)) fresh.machine
+    ap (λ (x : HeapActor). ended_at x (own_of h)) fresh.machine
     ∙ ap (λ (v : View Planned Op). ended_at (opening (plan_of heap) (number_of h)) (by (number_of h) v.log)) fresh.view
     ∙ going_by (plan_of heap) (number_of h) (nat_lt (number_of h) (plan_of heap).layout.procs) (nat_lt (number_of h) (acks_of (plan_of heap).layout))
 
 -- a processor that opens has room for a store
-room_by : (q : Planned) (a : ℕ) (b c : Bool) → IsProcessor (cond b (Runs (mutating.opening q.layout a q.script.shapes)) (cond c (Marks (worker.opening q.layout a)) (Leads (coord.opening q.layout a q.script.settings.gogc q.script.settings.minheap (most_cycles q.script))))) → 2 ≤ room_at (cond b (Runs (mutating.opening q.layout a q.script.shapes)) (cond c (Marks (worker.opening q.layout a)) (Leads (coord.opening q.layout a q.script.settings.gogc q.script.settings.minheap (most_cycles q.script)))))
+room_by : (q : Planned) (a : ℕ) (b c : Bool) → IsProcessor (cond b (Runs (mutating.opening a q.script.shapes)) (cond c (Marks (worker.opening a)) (Leads (coord.opening q.layout a q.script.settings.gogc q.script.settings.minheap (most_cycles q.script))))) → 2 ≤ room_at (cond b (Runs (mutating.opening a q.script.shapes)) (cond c (Marks (worker.opening a)) (Leads (coord.opening q.layout a q.script.settings.gogc q.script.settings.minheap (most_cycles q.script)))))
 room_by q a true c is = leb-true 2 ENTRIES refl
 room_by q a false true is = absurd is
 room_by q a false false is = absurd is
 
 -- who is at the seat of a processor is one
-seated : (q : Planned) (a : ℕ) (b c : Bool) → b ≡ true → IsOther (cond b (Runs (mutating.opening q.layout a q.script.shapes)) (cond c (Marks (worker.opening q.layout a)) (Leads (coord.opening q.layout a q.script.settings.gogc q.script.settings.minheap (most_cycles q.script))))) → ⊥
+seated : (q : Planned) (a : ℕ) (b c : Bool) → b ≡ true → IsOther (cond b (Runs (mutating.opening a q.script.shapes)) (cond c (Marks (worker.opening a)) (Leads (coord.opening q.layout a q.script.settings.gogc q.script.settings.minheap (most_cycles q.script))))) → ⊥
 seated q a true c e is = is
 seated q a false c e is = absurd cc
 
 no_seat : (heap : Heap) (h : Handle) → IsFresh heap (number_of h) h → IsOther (machine_of h) → number_of h < (plan_of heap).layout.procs → ⊥
 no_seat heap h fresh is lt = seated (plan_of heap) (number_of h) (nat_lt (number_of h) (plan_of heap).layout.procs) (nat_lt (number_of h) (acks_of (plan_of heap).layout)) (lt-ltb _ _ lt) (subst IsOther fresh.machine is)
 
-pub worker_other : (x : ActorMachine) → IsWorker x → IsOther x
+pub worker_other : (x : HeapActor) → IsWorker x → IsOther x
 worker_other (Runs m) is = absurd is
 worker_other (Marks w) is = tt
 worker_other (Leads c) is = tt
 
-pub coordinator_other : (x : ActorMachine) → IsCoordinator x → IsOther x
+pub coordinator_other : (x : HeapActor) → IsCoordinator x → IsOther x
 coordinator_other (Runs m) is = absurd is
 coordinator_other (Marks w) is = tt
 coordinator_other (Leads c) is = tt
 
-pub processor_else : (x : ActorMachine) → (IsWorker x → ⊥) → (IsCoordinator x → ⊥) → IsProcessor x
+pub processor_else : (x : HeapActor) → (IsWorker x → ⊥) → (IsCoordinator x → ⊥) → IsProcessor x
 processor_else (Runs m) worker leads = tt
 processor_else (Marks w) worker leads = absurd (worker tt)
 processor_else (Leads c) worker leads = absurd (leads tt)
@@ -107,7 +107,7 @@ module _ (p : Program) (heap : Heap) (h : Handle) (t : Progress) (answers : List
         turns = s.turns;
         place = subst (λ (u : Progress). KeepsPlace p a u (view_of h).log) (sym s.first) (subst (KeepsPlace p a (opening_progress t.next)) (sym log) first);
         left = fresh_going heap h s.fresh ∙ sym s.going;
-        polled = λ e. subst (λ (x : ActorMachine). 2 ≤ room_at x) (sym s.fresh.machine) (room_by q a (nat_lt a q.layout.procs) (nat_lt a (acks_of q.layout)) (subst IsProcessor s.fresh.machine is));
+        polled = λ e. subst (λ (x : HeapActor). 2 ≤ room_at x) (sym s.fresh.machine) (room_by q a (nat_lt a q.layout.procs) (nat_lt a (acks_of q.layout)) (subst IsProcessor s.fresh.machine is));
         kept = s.none ∙ sym (ap (λ (es : List (Entry Op)). answers_in q a (by a es)) log);
         roomy = omega (arith, all, roomy, none);
       }

@@ -3,6 +3,7 @@ use Rattle.std.proofs.Common.{◌≡◌, ℕ, ◌+◌, ◌<◌, Bool, true, fals
 use Rattle.std.specs.List.{filter}
 use Rattle.std.specs.Option.{option_to_list}
 use Rattle.std.proofs.lemmas.List.{append-nil}
+use Rattle.gh_base.specs.declared.layout.Layout.{Layout}
 use Rattle.gh_base.specs.declared.machine.Entry.{Entry}
 use Rattle.gh_base.specs.declared.operation.Op.{Op}
 use Rattle.gh_base.specs.declared.operation.Op.TheVariants as op
@@ -21,11 +22,11 @@ use Rattle.gh_run.proofs.Given as given
 use Rattle.gh_script.specs.Program.{Program, WellFormed}
 use Rattle.gh_shared.specs.declared.handle.Handle.{Handle}
 use Rattle.gh_shared.specs.declared.heap.Heap.{Heap}
-use Rattle.gh_actor.specs.declared.machine.ActorMachine.{ActorMachine}
-use Rattle.gh_actor.specs.declared.machine.ActorMachine.TheVariants.{Leads, Marks, Runs}
+use Rattle.gh_actor.specs.declared.actor.HeapActor.{HeapActor}
+use Rattle.gh_actor.specs.declared.actor.HeapActor.TheVariants.{Leads, Marks, Runs}
 use Rattle.gh_shared.specs.Calls.{Operated}
-use Rattle.gh_shared.specs.Handles.{ended_at, ended_of, machine_of, number_of, own_of, plan_of, view_of}
-use Rattle.gh_actor.specs.Machines.{asks, begins, Belongs, gives, goes, IsProcessor, IsProcessorOf, machine_actor}
+use Rattle.gh_shared.specs.Handles.{ended_at, ended_of, layout_of, machine_of, number_of, own_of, plan_of, view_of}
+use Rattle.gh_actor.specs.Machines.{asks, begins, gives, goes, HasShapes, IsProcessor, machine_actor}
 use Rattle.gh_actor.specs.Plans.{Planned, setting}
 use Rattle.gh_shared.proofs.Keeping.{by_made}
 use Rattle.gh_shared.proofs.Ready.{has_room_then, OfItsOwn}
@@ -46,12 +47,12 @@ use Rattle.gh_world.proofs.Resting.{is_processor}
 
 -- ---- its place
 
-module _ (p : Program) (a : ℕ) (t : Progress) (o : Op) (new : Next) (m : ActorMachine) (log : List (Entry Op)) (law : PlacesAreKept p a) (formed : WellFormed p) (turns : AreTurns p a t) (place : KeepsPlace p a t log) (due : op_due p t.next ≡ Some o) (follows : Follows p a t.next o new) where
-  place_then : (n : ℕ) (ns : List ℕ) → KeepsPlace p a (progress_after t (Some o) new) (entries_made asks goes a (Some o) m (n ∷ ns) ++ log)
+module _ (l : Layout) (p : Program) (a : ℕ) (t : Progress) (o : Op) (new : Next) (m : HeapActor) (log : List (Entry Op)) (law : PlacesAreKept p a) (formed : WellFormed p) (turns : AreTurns p a t) (place : KeepsPlace p a t log) (due : op_due p t.next ≡ Some o) (follows : Follows p a t.next o new) where
+  place_then : (n : ℕ) (ns : List ℕ) → KeepsPlace p a (progress_after t (Some o) new) (entries_made (asks l) (goes l) a (Some o) m (n ∷ ns) ++ log)
   place_then n [] = law.begins t log _ o new formed turns place refl refl due follows
-  place_then n (k ∷ ks) = law.goes_on (progress_after t (Some o) new) (entries_made asks goes a (Some o) m (k ∷ ks) ++ log) _ (place_then k ks) refl
+  place_then n (k ∷ ks) = law.goes_on (progress_after t (Some o) new) (entries_made (asks l) (goes l) a (Some o) m (k ∷ ks) ++ log) _ (place_then k ks) refl
 
-  pub keeps : (founds : List ℕ) (x : Option Answer) → Gave goes gives m founds x → KeepsPlace p a (progress_after t (Some o) new) (entries_made asks goes a (Some o) m founds ++ log)
+  pub keeps : (founds : List ℕ) (x : Option Answer) → Gave (goes l) (gives l) m founds x → KeepsPlace p a (progress_after t (Some o) new) (entries_made (asks l) (goes l) a (Some o) m founds ++ log)
   keeps [] x gave = absurd gave
   keeps (n ∷ ns) x gave = place_then n ns
 
@@ -75,22 +76,22 @@ module _ (law : OfItsOwn) (h h' : Handle) (o : Op) (founds : List ℕ) (x : Answ
   abbrev a : ℕ
   a = number_of h
 
-  answers_at : (m : Mutating) → machine_of h ≡ Runs m → ended_of h ≡ false → (view_of h').log ≡ entries_made asks goes a (Some o) (begins (Runs m) o) founds ++ (view_of h).log → Gave goes gives (begins (Runs m) o) founds (Some x) → answers_in q a (by a (view_of h').log) ≡ answers_in q a (own_of h) ++ told o x
+  answers_at : (m : Mutating) → machine_of h ≡ Runs m → ended_of h ≡ false → (view_of h').log ≡ entries_made (asks q.layout) (goes q.layout) a (Some o) (begins (Runs m) o) founds ++ (view_of h).log → Gave (goes q.layout) (gives q.layout) (begins (Runs m) o) founds (Some x) → answers_in q a (by a (view_of h').log) ≡ answers_in q a (own_of h) ++ told o x
   answers_at m is going log gave =
       let rests = h.kept.rests m is in
-      let belongs : IsProcessorOf q m = subst (Belongs q) is h.hand.belongs in
-      let own : by a (view_of h').log ≡ given.Made a m o (own_of h) founds = ap (by a) log ∙ by_made a (Some o) (begins (Runs m) o) founds (view_of h).log in
+      let shapes : HasShapes q (Runs m) = subst (HasShapes q) is h.hand.belongs.1 in
+      let own : by a (view_of h').log ≡ given.Made q.layout a m o (own_of h) founds = ap (by a) log ∙ by_made q.layout a (Some o) (begins (Runs m) o) founds (view_of h).log in
       let whole : actor.Runs m.processor ≡ actor.Runs (state_of (processor_kind q.script.shapes q.layout) a (own_of h)) = sym (ap machine_actor is) ∙ h.hand.state ∙ law (setting q).kind a (view_of h).log ∙ is_processor q.script q.layout a rests.seat (own_of h) in
       let state : state_of (processor_kind q.script.shapes q.layout) a (own_of h) ≡ m.processor = cc in
-      let there : has_left_at m.processor.task ≡ false = not_left m.processor.task (has_left (own_of h)) rests.leaves (subst (λ (y : ActorMachine). ended_at y (own_of h) ≡ false) is going) in
+      let there : has_left_at m.processor.task ≡ false = not_left m.processor.task (has_left (own_of h)) rests.leaves (subst (λ (y : HeapActor). ended_at y (own_of h) ≡ false) is going) in
       ap (answers_in q a) own
-      ∙ ap (λ (os : List Op). told_in_order (filter has_point os) (given_of (arena_of q.script.shapes q.layout) (setting q).opening a (given.Made a m o (own_of h) founds))) (given.begun_more a m o (own_of h) founds x gave)
-      ∙ ap (λ (gs : List Answer). told_in_order (filter has_point (o ∷ begun_in (own_of h))) gs) (given.given_more q a m o (own_of h) belongs.shapes state there founds x gave)
+      ∙ ap (λ (os : List Op). told_in_order (filter has_point os) (given_of (arena_of q.script.shapes q.layout) (setting q).opening a (given.Made q.layout a m o (own_of h) founds))) (given.begun_more q.layout a m o (own_of h) founds x gave)
+      ∙ ap (λ (gs : List Answer). told_in_order (filter has_point (o ∷ begun_in (own_of h))) gs) (given.given_more q a m o (own_of h) shapes state there founds x gave)
       ∙ told_more o (begun_in (own_of h)) x (given_of (arena_of q.script.shapes q.layout) (setting q).opening a (own_of h))
 
 -- ---- all of it
 
-processor_is : (x : ActorMachine) → IsProcessor x → (m : Mutating) × (x ≡ Runs m)
+processor_is : (x : HeapActor) → IsProcessor x → (m : Mutating) × (x ≡ Runs m)
 processor_is (Runs m) is = (m, refl)
 processor_is (Marks w) is = absurd is
 processor_is (Leads c) is = absurd is
@@ -122,8 +123,8 @@ module _ (p : Program) (heap : Heap) (h : Handle) (t : Progress) (answers : List
       let a = number_of h in
       let y = processor_is (machine_of h) b.processor in
       let ran = did.ran in
-      let place : KeepsPlace p a (progress_after t (Some o) t'.next) (entries_made asks goes a (Some o) (begins (machine_of h) o) founds ++ (view_of h).log) = keeps p a t o t'.next (begins (machine_of h) o) (view_of h).log (place_law p a) formed b.turns b.place due follows founds (Some x) did.gave in
-      let made = answers_at own_law h h' o founds x y.0 y.1 (b.left ∙ going_on p t.next o due) (subst (λ (m : ActorMachine). (view_of h').log ≡ entries_made asks goes a (Some o) (begins m o) founds ++ (view_of h).log) y.1 ran.log) (subst (λ (m : ActorMachine). Gave goes gives (begins m o) founds (Some x)) y.1 did.gave) in
+      let place : KeepsPlace p a (progress_after t (Some o) t'.next) (entries_made (asks (layout_of h)) (goes (layout_of h)) a (Some o) (begins (machine_of h) o) founds ++ (view_of h).log) = keeps (layout_of h) p a t o t'.next (begins (machine_of h) o) (view_of h).log (place_law p a) formed b.turns b.place due follows founds (Some x) did.gave in
+      let made = answers_at own_law h h' o founds x y.0 y.1 (b.left ∙ going_on p t.next o due) (subst (λ (m : HeapActor). (view_of h').log ≡ entries_made (asks (layout_of h)) (goes (layout_of h)) a (Some o) (begins m o) founds ++ (view_of h).log) y.1 ran.log) (subst (λ (m : HeapActor). Gave (goes (layout_of h)) (gives (layout_of h)) (begins m o) founds (Some x)) y.1 did.gave) in
       let come : statements_among (to_come p a t.next) ≡ bit (is_statement o) + statements_among (to_come p a t'.next) = ap statements_among follows.come in
       let long = ap length is ∙ length-append answers (told o x) in
       let one = told_long o x in
@@ -139,7 +140,7 @@ module _ (p : Program) (heap : Heap) (h : Handle) (t : Progress) (answers : List
         left = did.shows.ended ∙ leaves_is o ∙ sym follows.leaves;
         polled = λ e.
             let poll = poll_due p t.next o due (sym behind ∙ e) in
-            has_room_then (machine_of h) (machine_of h') founds polls b.processor (subst (λ (u : Op). machine_of h' ≡ machine_after goes (begins (machine_of h) u) founds) (sym poll) ran.machine) (λ m e. (h'.kept.rests m e).idle);
+            has_room_then (layout_of h) (machine_of h) (machine_of h') founds polls b.processor (subst (λ (u : Op). machine_of h' ≡ machine_after (goes (layout_of h)) (begins (machine_of h) u) founds) (sym poll) ran.machine) (λ m e. (h'.kept.rests m e).idle);
         kept = is
             ∙ ap (λ (xs : List (ℕ × Answer)). xs ++ told o x) (b.kept ∙ ap (λ (q : Planned). answers_in q a (own_of h)) (sym b.of.plan))
             ∙ sym made

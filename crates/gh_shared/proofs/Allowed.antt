@@ -22,9 +22,9 @@ use Rattle.gh_lists.specs.Processors.{all_ended, arena_of, asked_by, has_more, i
 use Rattle.gh_world.specs.Wishes.{wishes_of}
 use Rattle.gh_world.specs.World.{may_begin_of}
 use Rattle.gh_world.proofs.Due.{both_true}
-use Rattle.gh_actor.specs.declared.machine.ActorMachine.TheVariants.{Runs}
+use Rattle.gh_actor.specs.declared.actor.HeapActor.TheVariants.{Runs}
 use Rattle.gh_shared.specs.Calls.{Fits, RunsIt}
-use Rattle.gh_actor.specs.Machines.{IsProcessorOf, ProcessorMay}
+use Rattle.gh_actor.specs.Machines.{HasShapes, ProcessorMay}
 use Rattle.gh_actor.specs.Plans.{Planned}
 use Rattle.gh_shared.specs.Shown.{CountsSo, left_by, ProcessorRests, requests_begun, runs_by}
 
@@ -46,7 +46,7 @@ not_it b e = grind arith
 
 -- ---- the operation
 
-module _ (p : Planned) (a : ℕ) (m : Mutating) (own : List (Entry Op)) (procs : ℕ) (left : List ℕ) (over : List Bool) (gone : Bool) (counts : CountsSo p own procs left over gone) (rests : ProcessorRests p a m own) (belongs : IsProcessorOf p m) where
+module _ (p : Planned) (a : ℕ) (m : Mutating) (own : List (Entry Op)) (procs : ℕ) (left : List ℕ) (over : List Bool) (gone : Bool) (counts : CountsSo p own procs left over gone) (rests : ProcessorRests p a m own) (shapes : HasShapes p (Runs m)) where
   abbrev L : Layout
   L = p.layout
 
@@ -104,7 +104,7 @@ module _ (p : Planned) (a : ℕ) (m : Mutating) (own : List (Entry Op)) (procs :
   needs o r f = grind (arith, all_over, below, few, it_runs, lt, more, named, not_it)
 
   pub record Allowed (o : Op) : Type 0 where
-    pub may : ProcessorMay m o
+    pub may : ProcessorMay L m o
     pub allowed : may_begin_of p.script L a own o ≡ true
 
   pub allowed : (o : Op) → has_left own ≡ false → m.processor ≡ state_of (processor_kind p.script.shapes L) a own → RunsIt p a (Runs m) own (goroutine_of o) → Fits p a (Runs m) own o → Allowed o
@@ -116,7 +116,7 @@ module _ (p : Planned) (a : ℕ) (m : Mutating) (own : List (Entry Op)) (procs :
         may = record {
           idle = rests.idle;
           there = not_left m.processor.task (rests.leaves ∙ stays);
-          sound = subst (λ (l : Layout). SoundOp m.shapes l o) (sym belongs.layout) (subst (λ (xs : List Shape). SoundOp xs L o) (sym belongs.shapes) n.sound);
+          sound = subst (λ (xs : List Shape). SoundOp xs L o) (sym shapes) n.sound;
           names = n.names;
           room = n.room;
         };

@@ -3,6 +3,7 @@ use Rattle.std.proofs.Common.{◌≡◌, ◌≢◌, ◌↔◌, ℕ, zero, suc, �
 use Rattle.std.proofs.lemmas.Bool.Decides.{nat_tests}
 use Rattle.std.proofs.lemmas.Bool.{eqb-true, lt-ltb}
 use Rattle.atomic_table.specs.Table.{Me}
+use Rattle.gh_base.specs.declared.layout.Layout.{Layout}
 use Rattle.gh_base.specs.declared.machine.Entry.{Entry}
 use Rattle.gh_base.specs.declared.operation.Op.{Op}
 use Rattle.gh_base.specs.Cells.{seats_of}
@@ -17,8 +18,8 @@ use Rattle.gh_table.specs.Runs.{entries_made, machine_after, Ran}
 use Rattle.gh_table.specs.Views.{Carries, has, one_carried}
 use Rattle.gh_lists.specs.declared.handshake.Actor.{Actor}
 use Rattle.gh_lists.specs.declared.handshake.Actor.TheVariants as actor
-use Rattle.gh_actor.specs.declared.machine.ActorMachine.{ActorMachine}
-use Rattle.gh_actor.specs.declared.machine.ActorMachine.TheVariants.{Leads, Marks, Runs}
+use Rattle.gh_actor.specs.declared.actor.HeapActor.{HeapActor}
+use Rattle.gh_actor.specs.declared.actor.HeapActor.TheVariants.{Leads, Marks, Runs}
 use Rattle.gh_shared.specs.Calls.{IsClosedAfter}
 use Rattle.gh_actor.specs.Machines.{asks, begins, goes, is_coordinator, IsCoordinator, machine_actor, opening}
 use Rattle.gh_actor.specs.Plans.{Planned, setting}
@@ -70,37 +71,37 @@ only a (suc n) = ap (λ (b : Bool). count_among (a ∷ []) n + one_of b) (there 
 
 -- ---- the kind of a machine
 
-goes_kind : (x : ActorMachine) (n : ℕ) → IsCoordinator (goes x n) ≡ IsCoordinator x
-goes_kind x n = grind arith
+goes_kind : (l : Layout) (x : HeapActor) (n : ℕ) → IsCoordinator (goes l x n) ≡ IsCoordinator x
+goes_kind l x n = grind arith
 
-pub begins_kind : (x : ActorMachine) (o : Op) → IsCoordinator (begins x o) ≡ IsCoordinator x
+pub begins_kind : (x : HeapActor) (o : Op) → IsCoordinator (begins x o) ≡ IsCoordinator x
 begins_kind x o = grind arith
 
-after_kind : (x : ActorMachine) (founds : List ℕ) → IsCoordinator (machine_after goes x founds) ≡ IsCoordinator x
-after_kind x [] = refl
-after_kind x (n ∷ ns) = goes_kind (machine_after goes x ns) n ∙ after_kind x ns
+after_kind : (l : Layout) (x : HeapActor) (founds : List ℕ) → IsCoordinator (machine_after (goes l) x founds) ≡ IsCoordinator x
+after_kind l x [] = refl
+after_kind l x (n ∷ ns) = goes_kind l (machine_after (goes l) x ns) n ∙ after_kind l x ns
 
-pub same_kind : (x x' : ActorMachine) (founds : List ℕ) → x' ≡ machine_after goes x founds → IsCoordinator x' ≡ IsCoordinator x
-same_kind x x' founds is = grind (arith, after_kind)
+pub same_kind : (l : Layout) (x x' : HeapActor) (founds : List ℕ) → x' ≡ machine_after (goes l) x founds → IsCoordinator x' ≡ IsCoordinator x
+same_kind l x x' founds is = rw is (after_kind l x founds)
 
 -- ---- the entries of others
 
-pub by_others : (a : ℕ) (b : Option Op) (x : ActorMachine) (founds : List ℕ) (log : List (Entry Op)) (c : ℕ) → a ≢ c → by c (entries_made asks goes a b x founds ++ log) ≡ by c log
-by_others a b x [] log c ne = refl
-by_others a b x (n ∷ ns) log c ne = rw (ne_eqb a c ne) (by_others a b x ns log c ne)
+pub by_others : (l : Layout) (a : ℕ) (b : Option Op) (x : HeapActor) (founds : List ℕ) (log : List (Entry Op)) (c : ℕ) → a ≢ c → by c (entries_made (asks l) (goes l) a b x founds ++ log) ≡ by c log
+by_others l a b x [] log c ne = refl
+by_others l a b x (n ∷ ns) log c ne = rw (ne_eqb a c ne) (by_others l a b x ns log c ne)
 
 -- ---- the coordinator
 
-no_leader : (x : ActorMachine) (led : Option Coordinating) → (IsCoordinator x → ⊥) → leader_of x led ≡ led
+no_leader : (x : HeapActor) (led : Option Coordinating) → (IsCoordinator x → ⊥) → leader_of x led ≡ led
 no_leader x led never = grind arith
 
-still_leads : (x : ActorMachine) (led other : Option Coordinating) (c : Coordinating) → leader_of x led ≡ Some c → leader_of x (first_of led other) ≡ Some c
+still_leads : (x : HeapActor) (led other : Option Coordinating) (c : Coordinating) → leader_of x led ≡ Some c → leader_of x (first_of led other) ≡ Some c
 still_leads x led other c e = grind arith
 
-to_last : (x : ActorMachine) (a z : ℕ) → is_coordinator x ≡ (a == z) → IsCoordinator x ↔ (a ≡ z)
+to_last : (x : HeapActor) (a z : ℕ) → is_coordinator x ≡ (a == z) → IsCoordinator x ↔ (a ≡ z)
 to_last x a z e = grind arith
 
-from_last : (x : ActorMachine) (a z : ℕ) → IsCoordinator x ↔ (a ≡ z) → is_coordinator x ≡ (a == z)
+from_last : (x : HeapActor) (a z : ℕ) → IsCoordinator x ↔ (a ≡ z) → is_coordinator x ≡ (a == z)
 from_last x a z h = grind arith
 
 -- the coordinator's machine, which is this actor
@@ -115,11 +116,11 @@ from_led : (o : Option Coordinating) (s : Actor) → LedAs o s → as_actor o �
 from_led o s l = ap as_actor l.1 ∙ ap Some l.2
 
 module _ (law : OfItsOwn) (p : Planned) where
-  abbrev Led : List (Entry Op) → ActorMachine → Option Coordinating → Type 0
+  abbrev Led : List (Entry Op) → HeapActor → Option Coordinating → Type 0
   Led log x led = LedAs (leader_of x led) (state_of (setting p).kind (acks_of p.layout) log)
 
   -- the actor has gone on
-  pub carried_on : (xs : List ℕ) (log log' : List (Entry Op)) (a : ℕ) (x x' : ActorMachine) (carried drawn : ℕ) (led : Option Coordinating) → ((c : ℕ) → a ≢ c → by c log' ≡ by c log) → IsCoordinator x' ≡ IsCoordinator x → machine_actor x' ≡ state_of (setting p).kind a log' → CarriesSo p xs log a x carried drawn led → CarriesSo p xs log' a x' carried drawn led
+  pub carried_on : (xs : List ℕ) (log log' : List (Entry Op)) (a : ℕ) (x x' : HeapActor) (carried drawn : ℕ) (led : Option Coordinating) → ((c : ℕ) → a ≢ c → by c log' ≡ by c log) → IsCoordinator x' ≡ IsCoordinator x → machine_actor x' ≡ state_of (setting p).kind a log' → CarriesSo p xs log a x carried drawn led → CarriesSo p xs log' a x' carried drawn led
   carried_on xs log log' a x x' carried drawn led others kind state kept = record {
     known = kept.known;
     last = from_last x' a (acks_of p.layout) ((λ is. was.0 (subst (λ (T : Type 0). T) kind is)), (λ e. subst (λ (T : Type 0). T) (sym kind) (was.1 e)));
@@ -131,23 +132,23 @@ module _ (law : OfItsOwn) (p : Planned) where
     was : IsCoordinator x ↔ (a ≡ acks_of p.layout)
     was = to_last x a (acks_of p.layout) kept.last
 
-    elsewhere : (y : ActorMachine) → IsCoordinator y ≡ IsCoordinator x → (IsCoordinator y → ⊥) → Led log x led → Led log' y led
+    elsewhere : (y : HeapActor) → IsCoordinator y ≡ IsCoordinator x → (IsCoordinator y → ⊥) → Led log x led → Led log' y led
     elsewhere y k never led_so =
         let nox : IsCoordinator x → ⊥ = λ is. never (subst (λ (T : Type 0). T) (sym k) is) in
         (led_so.0, no_leader y led never ∙ sym (no_leader x led nox) ∙ led_so.1, led_so.2 ∙ same_state law (setting p).kind (acks_of p.layout) log log' (sym (others (acks_of p.layout) (λ e. nox (was.1 e)))))
 
-    go : (y : ActorMachine) → IsCoordinator y ≡ IsCoordinator x → machine_actor y ≡ state_of (setting p).kind a log' → Led log x led → Led log' y led
+    go : (y : HeapActor) → IsCoordinator y ≡ IsCoordinator x → machine_actor y ≡ state_of (setting p).kind a log' → Led log x led → Led log' y led
     go (Runs m) k st l = elsewhere (Runs m) k (λ is. is) l
     go (Marks w) k st l = elsewhere (Marks w) k (λ is. is) l
     go (Leads c) k st l = (c, refl, st ∙ ap (λ (b : ℕ). state_of (setting p).kind b log') (was.0 (subst (λ (T : Type 0). T) k tt)))
 
   -- by these steps
-  pub went_on : (a : ℕ) (x x' : ActorMachine) (b : Option Op) (y : ActorMachine) (me me' : Me (Unit {0}) (View Planned Op)) (founds : List ℕ) (carried drawn : ℕ) (led : Option Coordinating) → p ≡ me.0.plan → IsCoordinator y ≡ IsCoordinator x → Ran asks goes a b y me x' me' founds → machine_actor x' ≡ actor_in setting me'.0 a → CarriesSo p me.0.actors me.0.log a x carried drawn led → CarriesSo p me.0.actors me'.0.log a x' carried drawn led
+  pub went_on : (a : ℕ) (x x' : HeapActor) (b : Option Op) (y : HeapActor) (me me' : Me (Unit {0}) (View Planned Op)) (founds : List ℕ) (carried drawn : ℕ) (led : Option Coordinating) → p ≡ me.0.plan → IsCoordinator y ≡ IsCoordinator x → Ran (asks p.layout) (goes p.layout) a b y me x' me' founds → machine_actor x' ≡ actor_in setting me'.0 a → CarriesSo p me.0.actors me.0.log a x carried drawn led → CarriesSo p me.0.actors me'.0.log a x' carried drawn led
   went_on a x x' b y me me' founds carried drawn led plan kind ran state kept =
-      carried_on me.0.actors me.0.log me'.0.log a x x' carried drawn led (λ c ne. ap (by c) ran.log ∙ by_others a b y founds me.0.log c ne) (same_kind y x' founds ran.machine ∙ kind) (state ∙ ap (λ (q : Planned). state_of (setting q).kind a me'.0.log) (ran.plan ∙ sym plan)) kept
+      carried_on me.0.actors me.0.log me'.0.log a x x' carried drawn led (λ c ne. ap (by c) ran.log ∙ by_others p.layout a b y founds me.0.log c ne) (same_kind p.layout y x' founds ran.machine ∙ kind) (state ∙ ap (λ (q : Planned). state_of (setting q).kind a me'.0.log) (ran.plan ∙ sym plan)) kept
 
   -- two are joined
-  pub carried_both : (v w v' : View Planned Op) (a b : ℕ) (x y : ActorMachine) (n m d e : ℕ) (led that : Option Coordinating) → Joined v w v' → Carries v a → Carries w b → machine_actor y ≡ state_of (setting p).kind b w.log → CarriesSo p v.actors v.log a x n d led → CarriesSo p w.actors w.log b y m e that
+  pub carried_both : (v w v' : View Planned Op) (a b : ℕ) (x y : HeapActor) (n m d e : ℕ) (led that : Option Coordinating) → Joined v w v' → Carries v a → Carries w b → machine_actor y ≡ state_of (setting p).kind b w.log → CarriesSo p v.actors v.log a x n d led → CarriesSo p w.actors w.log b y m e that
       → CarriesSo p v'.actors v'.log a x (n + m) ((d + (e + credit_drawn y) % 2 ^ 64) % 2 ^ 64) (first_of led (leader_of y that))
   carried_both v w v' a b x y n m d e led that joined mine its state kept kept' = record {
     known = kept.known;
@@ -160,7 +161,7 @@ module _ (law : OfItsOwn) (p : Planned) where
     none = λ out. no_one (has v.actors (acks_of p.layout)) refl (has w.actors (acks_of p.layout)) refl (sym (joined.both (acks_of p.layout)) ∙ out);
     leader = λ holds. from_led (leader_of x (first_of led (leader_of y that))) (state_of (setting p).kind (acks_of p.layout) v'.log) (go (has v.actors (acks_of p.layout)) refl (sym (joined.both (acks_of p.layout)) ∙ holds));
   } where
-    not_it : (z : ℕ) (zs : List ℕ) (u : ActorMachine) → has zs z ≡ true → has zs (acks_of p.layout) ≡ false → (IsCoordinator u → z ≡ acks_of p.layout) → IsCoordinator u → ⊥
+    not_it : (z : ℕ) (zs : List ℕ) (u : HeapActor) → has zs z ≡ true → has zs (acks_of p.layout) ≡ false → (IsCoordinator u → z ≡ acks_of p.layout) → IsCoordinator u → ⊥
     not_it z zs u there out last is = true≢false (sym there ∙ ap (has zs) (last is) ∙ out)
 
     no_one : (t : Bool) → has v.actors (acks_of p.layout) ≡ t → (u : Bool) → has w.actors (acks_of p.layout) ≡ u → (has v.actors (acks_of p.layout) || has w.actors (acks_of p.layout)) ≡ false → first_of led (leader_of y that) ≡ None
@@ -178,10 +179,10 @@ module _ (law : OfItsOwn) (p : Planned) where
 -- ---- before the first step
 
 module _ (p : Planned) (a : ℕ) (lt : a < seats_of p.layout) where
-  last_is : (x : ActorMachine) → x ≡ opening p a → is_coordinator x ≡ (a == acks_of p.layout)
+  last_is : (x : HeapActor) → x ≡ opening p a → is_coordinator x ≡ (a == acks_of p.layout)
   last_is x is = grind arith
 
-  pub carried_first : (x : ActorMachine) → x ≡ opening p a → machine_actor x ≡ state_of (setting p).kind a [] → CarriesSo p (a ∷ []) [] a x 1 0 None
+  pub carried_first : (x : HeapActor) → x ≡ opening p a → machine_actor x ≡ state_of (setting p).kind a [] → CarriesSo p (a ∷ []) [] a x 1 0 None
   carried_first x is state = record {
     known = lt;
     last = last_is x is;
@@ -194,19 +195,19 @@ module _ (p : Planned) (a : ℕ) (lt : a < seats_of p.layout) where
     alone true q e = eqb-true a (acks_of p.layout) q
     alone false q e = absurd cc
 
-    go : (y : ActorMachine) → IsCoordinator y ↔ (a ≡ acks_of p.layout) → machine_actor y ≡ state_of (setting p).kind a [] → a ≡ acks_of p.layout → LedAs (leader_of y None) (state_of (setting p).kind (acks_of p.layout) [])
+    go : (y : HeapActor) → IsCoordinator y ↔ (a ≡ acks_of p.layout) → machine_actor y ≡ state_of (setting p).kind a [] → a ≡ acks_of p.layout → LedAs (leader_of y None) (state_of (setting p).kind (acks_of p.layout) [])
     go (Runs m) last st e = absurd (last.1 e)
     go (Marks w) last st e = absurd (last.1 e)
     go (Leads c) last st e = (c, refl, st ∙ ap (λ (b : ℕ). state_of (setting p).kind b []) e)
 
-pub carries_so : (p : Planned) (a : ℕ) (x : ActorMachine) (v : View Planned Op) → a < seats_of p.layout → v ≡ one_carried p a → x ≡ opening p a → machine_actor x ≡ actor_in setting v a → CarriesSo v.plan v.actors v.log a x 1 0 None
+pub carries_so : (p : Planned) (a : ℕ) (x : HeapActor) (v : View Planned Op) → a < seats_of p.layout → v ≡ one_carried p a → x ≡ opening p a → machine_actor x ≡ actor_in setting v a → CarriesSo v.plan v.actors v.log a x 1 0 None
 carries_so p a x v lt view is state =
     subst (λ (u : View Planned Op). CarriesSo u.plan u.actors u.log a x 1 0 None) (sym view) (carried_first p a lt x is (subst (λ (u : View Planned Op). machine_actor x ≡ actor_in setting u a) view state))
 
 -- ---- the close
 
 -- where all are carried
-module _ (law : OfItsOwn) (p : Planned) (v : View Planned Op) (a : ℕ) (x : ActorMachine) (carried drawn : ℕ) (led : Option Coordinating) (plan : v.plan ≡ p) (kept : CarriesSo v.plan v.actors v.log a x carried drawn led) (all : count_among v.actors (seats_of v.plan.layout) ≡ seats_of p.layout) where
+module _ (law : OfItsOwn) (p : Planned) (v : View Planned Op) (a : ℕ) (x : HeapActor) (carried drawn : ℕ) (led : Option Coordinating) (plan : v.plan ≡ p) (kept : CarriesSo v.plan v.actors v.log a x carried drawn led) (all : count_among v.actors (seats_of v.plan.layout) ≡ seats_of p.layout) where
   it_is_carried : (b : ℕ) → b < seats_of p.layout → Carries v b
   it_is_carried = grind (arith, count_all)
 

@@ -1,6 +1,7 @@
 -- A worker and the coordinator begin no operation, and run until they are done.
 use Rattle.std.proofs.Common.{◌≡◌, ℕ, ◌+◌, Bool, true, false, List, [], ◌∷◌, ◌++◌, refl, sym, ap, ◌∙◌, subst, None, arith}
 use Rattle.atomic_table.specs.Table.{Me}
+use Rattle.gh_base.specs.declared.layout.Layout.{Layout}
 use Rattle.gh_base.specs.declared.machine.Entry.{Entry}
 use Rattle.gh_base.specs.declared.operation.Op.{Op}
 use Rattle.gh_base.specs.Lists.{by}
@@ -8,14 +9,14 @@ use Rattle.gh_coord.specs.GoingOn.{GoesOnUntilDone, HasNext}
 use Rattle.gh_coord.specs.Listing as coord
 use Rattle.gh_coord.specs.Listing.{Coordinating}
 use Rattle.gh_mutator.specs.Mutating.{Mutating}
-use Rattle.gh_table.specs.declared.plan.View.{View}
-use Rattle.gh_table.specs.Runs.{entries_made, machine_after, Ran}
 use Rattle.gh_worker.specs.Listing as worker
 use Rattle.gh_worker.specs.Listing.{Working}
+use Rattle.gh_table.specs.declared.plan.View.{View}
+use Rattle.gh_table.specs.Runs.{entries_made, machine_after, Ran}
 use Rattle.gh_lists.specs.Order.{ended_in, has_left}
 use Rattle.gh_lists.specs.Processors.{asked_by}
-use Rattle.gh_actor.specs.declared.machine.ActorMachine.{ActorMachine}
-use Rattle.gh_actor.specs.declared.machine.ActorMachine.TheVariants.{Leads, Marks, Runs}
+use Rattle.gh_actor.specs.declared.actor.HeapActor.{HeapActor}
+use Rattle.gh_actor.specs.declared.actor.HeapActor.TheVariants.{Leads, Marks, Runs}
 use Rattle.gh_shared.specs.Handles.{ended_at}
 use Rattle.gh_actor.specs.Machines.{asks, goes, is_busy, IsOther}
 use Rattle.gh_actor.specs.Plans.{Planned}
@@ -24,9 +25,9 @@ use Rattle.gh_shared.proofs.Keeping.{by_made, same_then}
 
 -- ---- the entries
 
-module _ (a : ℕ) (x : ActorMachine) (own : List (Entry Op)) where
+module _ (l : Layout) (a : ℕ) (x : HeapActor) (own : List (Entry Op)) where
   abbrev Made : List ℕ → List (Entry Op)
-  Made founds = entries_made asks goes a None x founds ++ own
+  Made founds = entries_made (asks l) (goes l) a None x founds ++ own
 
   same_asked : (g : ℕ) (founds : List ℕ) → asked_by g (Made founds) ≡ 0 + asked_by g own
   same_asked g [] = omega arith
@@ -50,52 +51,54 @@ module _ (a : ℕ) (x : ActorMachine) (own : List (Entry Op)) where
 
 -- ---- the machine
 
-marks_after : (w : Working) (founds : List ℕ) → machine_after goes (Marks w) founds ≡ Marks (machine_after worker.goes w founds)
-marks_after w [] = refl
-marks_after w (n ∷ ns) = ap (λ (x : ActorMachine). goes x n) (marks_after w ns)
+marks_after : (l : Layout) (w : Working) (founds : List ℕ) → machine_after (goes l) (Marks w) founds ≡ Marks (machine_after (worker.goes l) w founds)
+marks_after l w [] = refl
+marks_after l w (n ∷ ns) = ap (λ (x : HeapActor). goes l x n) (marks_after l w ns)
 
-leads_after : (c : Coordinating) (founds : List ℕ) → machine_after goes (Leads c) founds ≡ Leads (machine_after coord.goes c founds)
-leads_after c [] = refl
-leads_after c (n ∷ ns) = ap (λ (x : ActorMachine). goes x n) (leads_after c ns)
+leads_after : (l : Layout) (c : Coordinating) (founds : List ℕ) → machine_after (goes l) (Leads c) founds ≡ Leads (machine_after (coord.goes l) c founds)
+leads_after l c [] = refl
+leads_after l c (n ∷ ns) = ap (λ (x : HeapActor). goes l x n) (leads_after l c ns)
 
-next_on : (s : Coordinating) (found : ℕ) → GoesOnUntilDone → HasNext s → HasNext (coord.goes s found)
-next_on s found law h = grind arith
+next_on : (l : Layout) (c : Coordinating) (found : ℕ) → GoesOnUntilDone → HasNext c → HasNext (coord.goes l c found)
+next_on l c found law h = grind arith
 
-next_after : (c : Coordinating) (founds : List ℕ) → GoesOnUntilDone → HasNext c → HasNext (machine_after coord.goes c founds)
-next_after c [] law h = h
-next_after c (n ∷ ns) law h = next_on (machine_after coord.goes c ns) n law (next_after c ns law h)
+next_after : (l : Layout) (c : Coordinating) (founds : List ℕ) → GoesOnUntilDone → HasNext c → HasNext (machine_after (coord.goes l) c founds)
+next_after l c [] law h = h
+next_after l c (n ∷ ns) law h = next_on l (machine_after (coord.goes l) c ns) n law (next_after l c ns law h)
 
-goes_on_after : (x x' : ActorMachine) (founds : List ℕ) → GoesOnUntilDone → CoordinatorGoesOn x → IsOther x → x' ≡ machine_after goes x founds → CoordinatorGoesOn x'
-goes_on_after (Runs m) x' founds law h is after c e = absurd is
-goes_on_after (Marks w) x' founds law h is after c e = let no : Marks (machine_after worker.goes w founds) ≡ Leads c = sym (marks_after w founds) ∙ sym after ∙ e in absurd cc
-goes_on_after (Leads d) x' founds law h is after c e =
-    let all : Leads (machine_after coord.goes d founds) ≡ Leads c = sym (leads_after d founds) ∙ sym after ∙ e in
-    let same : machine_after coord.goes d founds ≡ c = cc in
-    subst HasNext same (next_after d founds law (h d refl))
+goes_on_after : (l : Layout) (x x' : HeapActor) (founds : List ℕ) → GoesOnUntilDone → CoordinatorGoesOn x → IsOther x → x' ≡ machine_after (goes l) x founds → CoordinatorGoesOn x'
+goes_on_after l (Runs m) x' founds law h is after c e = absurd is
+goes_on_after l (Marks w) x' founds law h is after c e = let no : Marks (machine_after (worker.goes l) w founds) ≡ Leads c = sym (marks_after l w founds) ∙ sym after ∙ e in absurd cc
+goes_on_after l (Leads d) x' founds law h is after c e =
+    let all : Leads (machine_after (coord.goes l) d founds) ≡ Leads c = sym (leads_after l d founds) ∙ sym after ∙ e in
+    let same : machine_after (coord.goes l) d founds ≡ c = cc in
+    subst HasNext same (next_after l d founds law (h d refl))
 
-no_processor : (x x' : ActorMachine) (founds : List ℕ) → IsOther x → x' ≡ machine_after goes x founds → (m : Mutating) → x' ≡ Runs m → ⊥
-no_processor x x' founds is after n e = grind (arith, leads_after, marks_after)
+no_processor : (l : Layout) (x x' : HeapActor) (founds : List ℕ) → IsOther x → x' ≡ machine_after (goes l) x founds → (m : Mutating) → x' ≡ Runs m → ⊥
+no_processor l (Runs m) x' founds is after n e = is
+no_processor l (Marks w) x' founds is after n e = let no : Marks (machine_after (worker.goes l) w founds) ≡ Runs n = sym (marks_after l w founds) ∙ sym after ∙ e in absurd cc
+no_processor l (Leads c) x' founds is after n e = let no : Leads (machine_after (coord.goes l) c founds) ≡ Runs n = sym (leads_after l c founds) ∙ sym after ∙ e in absurd cc
 
 -- ---- all of it
 
-pub busy_at : (x : ActorMachine) (own : List (Entry Op)) → CoordinatorGoesOn x → IsOther x → ended_at x own ≡ false → is_busy x ≡ true
+pub busy_at : (x : HeapActor) (own : List (Entry Op)) → CoordinatorGoesOn x → IsOther x → ended_at x own ≡ false → is_busy x ≡ true
 busy_at x own h is going = grind arith
 
-pub kept_on : (p : Planned) (a : ℕ) (x x' : ActorMachine) (me me' : Me (Unit {0}) (View Planned Op)) (founds : List ℕ) (procs : ℕ) (left : List ℕ) (over : List Bool) (gone : Bool) → GoesOnUntilDone →
-    IsKeptByHandle p a x (by a me.0.log) procs left over gone → IsOther x → Ran asks goes a None x me x' me' founds → IsKeptByHandle p a x' (by a me'.0.log) procs left over gone
+pub kept_on : (p : Planned) (a : ℕ) (x x' : HeapActor) (me me' : Me (Unit {0}) (View Planned Op)) (founds : List ℕ) (procs : ℕ) (left : List ℕ) (over : List Bool) (gone : Bool) → GoesOnUntilDone →
+    IsKeptByHandle p a x (by a me.0.log) procs left over gone → IsOther x → Ran (asks p.layout) (goes p.layout) a None x me x' me' founds → IsKeptByHandle p a x' (by a me'.0.log) procs left over gone
 kept_on p a x x' me me' founds procs left over gone law kept is ran =
     let own = by a me.0.log in
-    let made : List (Entry Op) = entries_made asks goes a None x founds ++ own in
-    let own_is : by a me'.0.log ≡ made = ap (by a) ran.log ∙ by_made a None x founds me.0.log in
+    let made : List (Entry Op) = entries_made (asks p.layout) (goes p.layout) a None x founds ++ own in
+    let own_is : by a me'.0.log ≡ made = ap (by a) ran.log ∙ by_made p.layout a None x founds me.0.log in
     let all : IsKeptByHandle p a x' made procs left over gone = record {
-      counts = same_then p own made procs left over gone kept.counts (λ g. same_asked a x own g founds) (same_all a x own founds) (λ g. same_ended a x own g founds) gone (kept.counts.has_gone ∙ sym (same_left a x own founds));
-      rests = λ m e. absurd (no_processor x x' founds is ran.machine m e);
-      goes_on = goes_on_after x x' founds law kept.goes_on is ran.machine;
+      counts = same_then p own made procs left over gone kept.counts (λ g. same_asked p.layout a x own g founds) (same_all p.layout a x own founds) (λ g. same_ended p.layout a x own g founds) gone (kept.counts.has_gone ∙ sym (same_left p.layout a x own founds));
+      rests = λ m e. absurd (no_processor p.layout x x' founds is ran.machine m e);
+      goes_on = goes_on_after p.layout x x' founds law kept.goes_on is ran.machine;
     } in
     subst (λ (es : List (Entry Op)). IsKeptByHandle p a x' es procs left over gone) (sym own_is) all
 
-done_by : (x : ActorMachine) (own : List (Entry Op)) → CoordinatorGoesOn x → ((m : Mutating) → x ≡ Runs m → ⊥) → is_busy x ≡ false → ended_at x own ≡ true
+done_by : (x : HeapActor) (own : List (Entry Op)) → CoordinatorGoesOn x → ((m : Mutating) → x ≡ Runs m → ⊥) → is_busy x ≡ false → ended_at x own ≡ true
 done_by x own h never idle = grind arith
 
-pub is_done_then : (x x' : ActorMachine) (founds : List ℕ) (own : List (Entry Op)) → GoesOnUntilDone → CoordinatorGoesOn x → IsOther x → x' ≡ machine_after goes x founds → is_busy x' ≡ false → ended_at x' own ≡ true
-is_done_then x x' founds own law h is after idle = done_by x' own (goes_on_after x x' founds law h is after) (λ m e. no_processor x x' founds is after m e) idle
+pub is_done_then : (l : Layout) (x x' : HeapActor) (founds : List ℕ) (own : List (Entry Op)) → GoesOnUntilDone → CoordinatorGoesOn x → IsOther x → x' ≡ machine_after (goes l) x founds → is_busy x' ≡ false → ended_at x' own ≡ true
+is_done_then l x x' founds own law h is after idle = done_by x' own (goes_on_after l x x' founds law h is after) (λ m e. no_processor l x x' founds is after m e) idle

@@ -1,6 +1,7 @@
 -- A call that answers a fault leaves all as it was.
 use Rattle.std.proofs.Common.{◌≡◌, ◌≢◌, ℕ, zero, suc, ◌<◌, ◌≤◌, ◌==◌, true, false, cond, All, List, [], ◌∷◌, ◌++◌, length, arith, refl, sym, ap, ◌∙◌, subst, Option, Some, eq-eqb, ne_eqb}
 use Rattle.std.proofs.lemmas.List.Elements.{All-cons, All-nil}
+use Rattle.gh_base.specs.declared.layout.Layout.{Layout}
 use Rattle.gh_base.specs.declared.machine.Entry.{Entry}
 use Rattle.gh_base.specs.declared.operation.Op.{Op}
 use Rattle.gh_base.specs.declared.value.Answer.{Answer}
@@ -21,11 +22,11 @@ use Rattle.gh_table.specs.Views.{entry}
 use Rattle.gh_lists.specs.declared.handshake.Actor.TheVariants as actor
 use Rattle.gh_shared.specs.declared.handle.Handle.{Handle}
 use Rattle.gh_shared.specs.declared.heap.Heap.{Heap}
-use Rattle.gh_actor.specs.declared.machine.ActorMachine.{ActorMachine}
-use Rattle.gh_actor.specs.declared.machine.ActorMachine.TheVariants.{Leads, Marks, Runs}
+use Rattle.gh_actor.specs.declared.actor.HeapActor.{HeapActor}
+use Rattle.gh_actor.specs.declared.actor.HeapActor.TheVariants.{Leads, Marks, Runs}
 use Rattle.gh_shared.specs.Calls.{Operated}
 use Rattle.gh_shared.specs.Faults.{FaultLeavesAll, LeavesAll}
-use Rattle.gh_shared.specs.Handles.{ended_at, ended_of, machine_of, number_of, own_of, room_at, view_of}
+use Rattle.gh_shared.specs.Handles.{ended_at, ended_of, layout_of, machine_of, number_of, own_of, room_at, view_of}
 use Rattle.gh_actor.specs.Machines.{asks, begins, ends_with_answer, gives, goes, IsProcessor, machine_actor}
 use Rattle.gh_shared.specs.Shown.{ProcessorRests}
 use Rattle.gh_shared.proofs.Keeping.{by_made, runs_after}
@@ -44,15 +45,15 @@ found_here : (n : ℕ) (ns : List ℕ) → found_of (n ∷ ns) (length ns) ≡ n
 unfolding found_of
 found_here n ns = rw (eq-eqb (length ns) (length ns) refl) refl
 
-told_same : (m : Mutating) (f g : ℕ → ℕ) (s : ℕ) → ((i : ℕ) → i < s → f i ≡ g i) → told mutating.listing m f s ≡ told mutating.listing m g s
-told_same m f g zero same = refl
-told_same m f g (suc s) same = ap (λ (x : Mutating). mutating.goes x (f s)) (told_same m f g s (λ i lt. same i (omega (arith, lt)))) ∙ ap (λ (n : ℕ). mutating.goes (told mutating.listing m g s) n) (same s (omega arith))
+told_same : (l : Layout) (m : Mutating) (f g : ℕ → ℕ) (s : ℕ) → ((i : ℕ) → i < s → f i ≡ g i) → told (mutating.listing l) m f s ≡ told (mutating.listing l) m g s
+told_same l m f g zero same = refl
+told_same l m f g (suc s) same = ap (λ (x : Mutating). mutating.goes l x (f s)) (told_same l m f g s (λ i lt. same i (omega (arith, lt)))) ∙ ap (λ (n : ℕ). mutating.goes l (told (mutating.listing l) m g s) n) (same s (omega arith))
 
-told_all : (m : Mutating) (ns : List ℕ) → told mutating.listing m (found_of ns) (length ns) ≡ machine_after mutating.goes m ns
-told_all m [] = refl
-told_all m (n ∷ ns) =
-    let one : told mutating.listing m (found_of (n ∷ ns)) (length ns) ≡ machine_after mutating.goes m ns = told_same m (found_of (n ∷ ns)) (found_of ns) (length ns) (found_earlier n ns) ∙ told_all m ns in
-    ap (λ (x : Mutating). mutating.goes x (found_of (n ∷ ns) (length ns))) one ∙ ap (λ (k : ℕ). mutating.goes (machine_after mutating.goes m ns) k) (found_here n ns)
+told_all : (l : Layout) (m : Mutating) (ns : List ℕ) → told (mutating.listing l) m (found_of ns) (length ns) ≡ machine_after (mutating.goes l) m ns
+told_all l m [] = refl
+told_all l m (n ∷ ns) =
+    let one : told (mutating.listing l) m (found_of (n ∷ ns)) (length ns) ≡ machine_after (mutating.goes l) m ns = told_same l m (found_of (n ∷ ns)) (found_of ns) (length ns) (found_earlier n ns) ∙ told_all l m ns in
+    ap (λ (x : Mutating). mutating.goes l x (found_of (n ∷ ns) (length ns))) one ∙ ap (λ (k : ℕ). mutating.goes l (machine_after (mutating.goes l) m ns) k) (found_here n ns)
 
 -- ---- its entries
 
@@ -60,8 +61,8 @@ abbrev pub IsLoad : Entry Op → Type 0
 IsLoad e = is_load e.ask ≡ true
 
 -- the processor behind these steps, told what they found
-told_so : (m : Mutating) (founds : List ℕ) (found : ℕ → ℕ) → ((i : ℕ) → i < length founds → found i ≡ found_of founds i) → told mutating.listing m found (length founds) ≡ machine_after mutating.goes m founds
-told_so m founds found same = told_same m found (found_of founds) (length founds) same ∙ told_all m founds
+told_so : (l : Layout) (m : Mutating) (founds : List ℕ) (found : ℕ → ℕ) → ((i : ℕ) → i < length founds → found i ≡ found_of founds i) → told (mutating.listing l) m found (length founds) ≡ machine_after (mutating.goes l) m founds
+told_so l m founds found same = told_same l m found (found_of founds) (length founds) same ∙ told_all l m founds
 
 last_below : (k : ℕ) → k < suc k
 last_below k = omega arith
@@ -72,14 +73,14 @@ below_more i k lt = omega (arith, lt)
 at_most : (i k : ℕ) → i < suc k → i ≤ k
 at_most i k lt = omega (arith, lt)
 
-all_loads : (a : ℕ) (b : Option Op) (m : Mutating) (founds : List ℕ) (found : ℕ → ℕ) → ((i : ℕ) → i < length founds → found i ≡ found_of founds i) → ((i : ℕ) → i < length founds → is_load (mutating.asks (told mutating.listing m found i)) ≡ true) → All IsLoad (entries_made asks goes a b (Runs m) founds)
-all_loads a b m [] found same loads = All-nil IsLoad
-all_loads a b m (n ∷ ns) found same loads =
+all_loads : (l : Layout) (a : ℕ) (b : Option Op) (m : Mutating) (founds : List ℕ) (found : ℕ → ℕ) → ((i : ℕ) → i < length founds → found i ≡ found_of founds i) → ((i : ℕ) → i < length founds → is_load (mutating.asks l (told (mutating.listing l) m found i)) ≡ true) → All IsLoad (entries_made (asks l) (goes l) a b (Runs m) founds)
+all_loads l a b m [] found same loads = All-nil IsLoad
+all_loads l a b m (n ∷ ns) found same loads =
     let before : (i : ℕ) → i < length ns → found i ≡ found_of ns i = λ i lt. same i (below_more i (length ns) lt) ∙ found_earlier n ns i lt in
-    let is : is_load (mutating.asks (machine_after mutating.goes m ns)) ≡ true = ap (λ (x : Mutating). is_load (mutating.asks x)) (sym (told_so m ns found before)) ∙ loads (length ns) (last_below (length ns)) in
-    All-cons IsLoad (entry a (begun_next b ns) (asks (machine_after goes (Runs m) ns)) n) (entries_made asks goes a b (Runs m) ns)
-    (ap (λ (x : ActorMachine). is_load (asks x)) (runs_after m ns) ∙ is)
-    (all_loads a b m ns found before (λ i lt. loads i (below_more i (length ns) lt)))
+    let is : is_load (mutating.asks l (machine_after (mutating.goes l) m ns)) ≡ true = ap (λ (x : Mutating). is_load (mutating.asks l x)) (sym (told_so l m ns found before)) ∙ loads (length ns) (last_below (length ns)) in
+    All-cons IsLoad (entry a (begun_next b ns) (asks l (machine_after (goes l) (Runs m) ns)) n) (entries_made (asks l) (goes l) a b (Runs m) ns)
+    (ap (λ (x : HeapActor). is_load (asks l x)) (runs_after l m ns) ∙ is)
+    (all_loads l a b m ns found before (λ i lt. loads i (below_more i (length ns) lt)))
 
 -- ---- the processor
 
@@ -90,17 +91,17 @@ idle_is : (t : Task) → is_busy_at t ≡ false → is_leaving t ≡ false → t
 idle_is t idle stays = grind arith
 
 -- a fault by the last of these steps
-faulted : (m : Mutating) (o : Op) (n : ℕ) (ns : List ℕ) (cause : Fault) → FaultsChangeNothing → Gave goes gives (Runs (mutating.begins m o)) (n ∷ ns) (Some (answer.Fault cause)) → FaultChangesNothing m o (found_of (n ∷ ns)) (length ns) cause
-faulted m o n ns cause law gave =
+faulted : (l : Layout) (m : Mutating) (o : Op) (n : ℕ) (ns : List ℕ) (cause : Fault) → FaultsChangeNothing → Gave (goes l) (gives l) (Runs (mutating.begins m o)) (n ∷ ns) (Some (answer.Fault cause)) → FaultChangesNothing l m o (found_of (n ∷ ns)) (length ns) cause
+faulted l m o n ns cause law gave =
     let b = mutating.begins m o in
     let found : ℕ → ℕ = found_of (n ∷ ns) in
-    let by_last : mutating.gives (machine_after mutating.goes (mutating.begins m o) ns) n ≡ Some (answer.Fault cause) = answered_is (mutating.gives (machine_after mutating.goes b ns) n) (answer.Fault cause) (subst (λ (x : ActorMachine). gives x n ≡ Some (Some (answer.Fault cause))) (runs_after b ns) gave) in
-    let behind : told mutating.listing (mutating.begins m o) found (length ns) ≡ machine_after mutating.goes (mutating.begins m o) ns = told_so b ns found (found_earlier n ns) in
-    law m o found (length ns) cause (ap (λ (x : Mutating). mutating.gives x (found (length ns))) behind ∙ ap (mutating.gives (machine_after mutating.goes b ns)) (found_here n ns) ∙ by_last)
+    let by_last : mutating.gives l (machine_after (mutating.goes l) (mutating.begins m o) ns) n ≡ Some (answer.Fault cause) = answered_is (mutating.gives l (machine_after (mutating.goes l) b ns) n) (answer.Fault cause) (subst (λ (x : HeapActor). gives l x n ≡ Some (Some (answer.Fault cause))) (runs_after l b ns) gave) in
+    let behind : told (mutating.listing l) (mutating.begins m o) found (length ns) ≡ machine_after (mutating.goes l) (mutating.begins m o) ns = told_so l b ns found (found_earlier n ns) in
+    law l m o found (length ns) cause (ap (λ (x : Mutating). mutating.gives l x (found (length ns))) behind ∙ ap (mutating.gives l (machine_after (mutating.goes l) b ns)) (found_here n ns) ∙ by_last)
 
 -- the processor behind it
-rests_so : (m : Mutating) (o : Op) (n : ℕ) (ns : List ℕ) (cause : Fault) → FaultChangesNothing m o (found_of (n ∷ ns)) (length ns) cause → machine_after goes (begins (Runs m) o) (n ∷ ns) ≡ Runs (rested m m.processor (answer.Fault cause))
-rests_so m o n ns cause c = runs_after (mutating.begins m o) (n ∷ ns) ∙ ap Runs (sym (told_all (mutating.begins m o) (n ∷ ns)) ∙ c.stays)
+rests_so : (l : Layout) (m : Mutating) (o : Op) (n : ℕ) (ns : List ℕ) (cause : Fault) → FaultChangesNothing l m o (found_of (n ∷ ns)) (length ns) cause → machine_after (goes l) (begins (Runs m) o) (n ∷ ns) ≡ Runs (rested m m.processor (answer.Fault cause))
+rests_so l m o n ns cause c = runs_after l (mutating.begins m o) (n ∷ ns) ∙ ap Runs (sym (told_all l (mutating.begins m o) (n ∷ ns)) ∙ c.stays)
 
 stays_idle : (m : Mutating) (cause : Fault) → m.processor.task ≡ Idle → machine_actor (Runs (rested m m.processor (answer.Fault cause))) ≡ machine_actor (Runs m)
 stays_idle m cause idle = ap (λ (t : Task). actor.Runs (at_task m.processor t)) (sym idle)
@@ -112,30 +113,30 @@ abbrev pub RestsSo : Handle → Type 0
 RestsSo h = (m : Mutating) → machine_of h ≡ Runs m → ProcessorRests (view_of h).plan (number_of h) m (own_of h)
 
 module _ (heap : Heap) (o : Op) (h h' : Handle) (given : Answer) (founds : List ℕ) (law : FaultsChangeNothing) (rests : RestsSo h) (going : ended_of h ≡ false) (did : Operated heap o h h' given founds) where
-  own_is : own_of h' ≡ entries_made asks goes (number_of h) (Some o) (begins (machine_of h) o) founds ++ own_of h
+  own_is : own_of h' ≡ entries_made (asks (layout_of h)) (goes (layout_of h)) (number_of h) (Some o) (begins (machine_of h) o) founds ++ own_of h
   own_is =
       ap (λ (a : ℕ). by a (view_of h').log) did.number
       ∙ ap (by (number_of h)) did.ran.log
-      ∙ by_made (number_of h) (Some o) (begins (machine_of h) o) founds (view_of h).log
+      ∙ by_made (layout_of h) (number_of h) (Some o) (begins (machine_of h) o) founds (view_of h).log
 
-  leaves_by : (x : ActorMachine) (all : List ℕ) → machine_of h ≡ x → IsProcessor x → own_of h' ≡ entries_made asks goes (number_of h) (Some o) (begins x o) all ++ own_of h → machine_of h' ≡ machine_after goes (begins x o) all → (cause : Fault) → Gave goes gives (begins x o) all (Some (answer.Fault cause)) → LeavesAll h h'
+  leaves_by : (x : HeapActor) (all : List ℕ) → machine_of h ≡ x → IsProcessor x → own_of h' ≡ entries_made (asks (layout_of h)) (goes (layout_of h)) (number_of h) (Some o) (begins x o) all ++ own_of h → machine_of h' ≡ machine_after (goes (layout_of h)) (begins x o) all → (cause : Fault) → Gave (goes (layout_of h)) (gives (layout_of h)) (begins x o) all (Some (answer.Fault cause)) → LeavesAll h h'
   leaves_by (Marks w) all at is own after cause gave = absurd is
   leaves_by (Leads c) all at is own after cause gave = absurd is
   leaves_by (Runs m) [] at is own after cause gave = absurd gave
   leaves_by (Runs m) (n ∷ ns) at is own after cause gave =
-      let c = faulted m o n ns cause law gave in
+      let c = faulted (layout_of h) m o n ns cause law gave in
       let at_rest = rests m at in
-      let going_on : ended_at (Runs m) (own_of h) ≡ false = ap (λ (x : ActorMachine). ended_at x (own_of h)) (sym at) ∙ going in
+      let going_on : ended_at (Runs m) (own_of h) ≡ false = ap (λ (x : HeapActor). ended_at x (own_of h)) (sym at) ∙ going in
       let idle : m.processor.task ≡ Idle = idle_is m.processor.task at_rest.idle (at_rest.leaves ∙ going_on) in
-      let ends : machine_of h' ≡ Runs (rested m m.processor (answer.Fault cause)) = after ∙ rests_so m o n ns cause c in
+      let ends : machine_of h' ≡ Runs (rested m m.processor (answer.Fault cause)) = after ∙ rests_so (layout_of h) m o n ns cause c in
       record {
-        added = entries_made asks goes (number_of h) (Some o) (Runs (mutating.begins m o)) (n ∷ ns);
+        added = entries_made (asks (layout_of h)) (goes (layout_of h)) (number_of h) (Some o) (Runs (mutating.begins m o)) (n ∷ ns);
         own = own;
-        loads = all_loads (number_of h) (Some o) (mutating.begins m o) (n ∷ ns) (found_of (n ∷ ns)) (λ i lt. refl) (λ i lt. c.loads i (at_most i (length ns) lt));
+        loads = all_loads (layout_of h) (number_of h) (Some o) (mutating.begins m o) (n ∷ ns) (found_of (n ∷ ns)) (λ i lt. refl) (λ i lt. c.loads i (at_most i (length ns) lt));
         stays = ap machine_actor ends ∙ stays_idle m cause idle ∙ ap machine_actor (sym at);
         room = ap room_at ends ∙ ap room_at (sym at);
       }
 
   pub fault_leaves_all : IsProcessor (machine_of h) → FaultLeavesAll h h' given
   fault_leaves_all is cause e =
-      leaves_by (machine_of h) founds refl is own_is did.ran.machine cause (subst (λ (x : Answer). Gave goes gives (begins (machine_of h) o) founds (Some x)) e did.gave)
+      leaves_by (machine_of h) founds refl is own_is did.ran.machine cause (subst (λ (x : Answer). Gave (goes (layout_of h)) (gives (layout_of h)) (begins (machine_of h) o) founds (Some x)) e did.gave)

@@ -1,42 +1,46 @@
 -- Actors before their first steps.
 use Rattle.std.proofs.lemmas.Bool.Decides.{nat_tests}
-use Rattle.std.proofs.Common.{◌≡◌, ◌∙◌, arith, not, ℕ, Bool, true, false, sym, refl, subst, nat_lt, if◌then◌else◌, List, []}
+use Rattle.std.proofs.Common.{◌≡◌, ◌∙◌, arith, ℕ, Bool, true, false, sym, refl, subst, nat_lt, if◌then◌else◌, List, []}
 use Rattle.gh_base.specs.Reading.{read_replicate}
 use Rattle.gh_base.specs.declared.operation.Op.{Op}
-use Rattle.gh_coord.specs.Stopping.{acks_of}
 use Rattle.gh_coord.specs.Listing as coord
 use Rattle.gh_coord.specs.Listing.{Coordinating}
+use Rattle.gh_coord.specs.Stopping.{acks_of}
+use Rattle.gh_coord.specs.GoingOn.{HasNext}
 use Rattle.gh_mutator.specs.Mutating as mutating
 use Rattle.gh_mutator.specs.Mutating.{Mutating}
 use Rattle.gh_mutator.specs.Processor.{opening_processor, made_by}
-use Rattle.gh_worker.specs.Listing as worker
-use Rattle.gh_world.specs.Wishes.{most_cycles}
 use Rattle.gh_table.specs.declared.plan.View.{View}
 use Rattle.gh_table.specs.Rule.{actor_in}
 use Rattle.gh_table.specs.Views.{Carries, one_carried}
-use Rattle.gh_actor.specs.declared.machine.ActorMachine.{ActorMachine}
-use Rattle.gh_actor.specs.declared.machine.ActorMachine.TheVariants.{Leads, Marks, Runs}
-use Rattle.gh_actor.specs.Machines.{Belongs, machine_actor, opening}
+use Rattle.gh_actor.specs.declared.actor.HeapActor.{HeapActor}
+use Rattle.gh_actor.specs.declared.actor.HeapActor.TheVariants.{Leads, Marks, Runs}
+use Rattle.gh_actor.specs.Machines.{HasShapes, machine_actor, opening}
 use Rattle.gh_base.specs.Lists.{by}
+use Rattle.gh_worker.specs.Listing as worker
+use Rattle.gh_world.specs.Wishes.{most_cycles}
 use Rattle.gh_world.specs.World.{LaysOut}
 use Rattle.gh_actor.specs.Counting.{CountsFirst}
 use Rattle.gh_actor.specs.Plans.{Planned, setting}
 use Rattle.gh_shared.specs.Shown.{CoordinatorGoesOn, IsKeptByHandle, ProcessorRests, RestsIfProcessor}
 
 -- what a hand is made of
-pub record IsTied (a : ℕ) (m : ActorMachine) (v : View Planned Op) : Type 0 where
+pub record IsTied (a : ℕ) (m : HeapActor) (v : View Planned Op) : Type 0 where
   pub carries : Carries v a
-  pub belongs : Belongs v.plan m
+  pub shapes : HasShapes v.plan m
   pub state : machine_actor m ≡ actor_in setting v a
 
+abbrev first_leader : Planned → (a : ℕ) → Coordinating
+first_leader p a = coord.opening p.layout a p.script.settings.gogc p.script.settings.minheap (most_cycles p.script)
+
 module _ (p : Planned) (a : ℕ) where
-  abbrev first_of : Bool → Bool → ActorMachine
-  first_of b c = if b then Runs (mutating.opening p.layout a p.script.shapes) else if c then Marks (worker.opening p.layout a) else Leads (coord.opening p.layout a p.script.settings.gogc p.script.settings.minheap (most_cycles p.script))
+  abbrev first_of : Bool → Bool → HeapActor
+  first_of b c = if b then Runs (mutating.opening a p.script.shapes) else if c then Marks (worker.opening a) else Leads (first_leader p a)
 
   pub opens : IsTied a (opening p a) (one_carried p a)
   opens = grind arith
 
-pub opens_so : (p : Planned) (a : ℕ) (m : ActorMachine) (v : View Planned Op) → v ≡ one_carried p a → m ≡ opening p a → IsTied a m v
+pub opens_so : (p : Planned) (a : ℕ) (m : HeapActor) (v : View Planned Op) → v ≡ one_carried p a → m ≡ opening p a → IsTied a m v
 opens_so p a m v view machine = grind arith
 
 -- ---- what is kept of it
@@ -44,13 +48,13 @@ opens_so p a m v view machine = grind arith
 module _ (p : Planned) (a : ℕ) where
   rests_first : (b c : Bool) → nat_lt a p.layout.procs ≡ b → RestsIfProcessor p a (first_of p a b c) []
   rests_first true c lt m e =
-      let here : ProcessorRests p a (mutating.opening p.layout a p.script.shapes) [] = record {
+      let here : ProcessorRests p a (mutating.opening a p.script.shapes) [] = record {
         seat = (grind (arith, nat_tests));
         idle = refl;
         leaves = refl;
-        made = λ g. let none : made_by (opening_processor p.layout a) g ≡ 0 = read_replicate {A = ℕ} 32 g 0 in omega (arith, none);
+        made = λ g. let none : made_by (opening_processor a) g ≡ 0 = read_replicate {A = ℕ} 32 g 0 in omega (arith, none);
       } in
-      let same : mutating.opening p.layout a p.script.shapes ≡ m = cc in
+      let same : mutating.opening a p.script.shapes ≡ m = cc in
       subst (λ (n : Mutating). ProcessorRests p a n []) same here
   rests_first false true lt m e = absurd cc
   rests_first false false lt m e = absurd cc
@@ -59,8 +63,8 @@ module _ (p : Planned) (a : ℕ) where
   goes_on_first true c x e = absurd cc
   goes_on_first false true x e = absurd cc
   goes_on_first false false x e =
-      let same : coord.opening p.layout a p.script.settings.gogc p.script.settings.minheap (most_cycles p.script) ≡ x = cc in
-      subst (λ (y : Coordinating). coord.is_busy y.stage ≡ not (coord.is_done_at y.stage)) same refl
+      let same : first_leader p a ≡ x = cc in
+      subst HasNext same refl
 
   pub kept_first : (procs : ℕ) (left : List ℕ) (over : List Bool) (gone : Bool) → CountsFirst p.script procs left over gone → LaysOut p.script p.layout → IsKeptByHandle p a (opening p a) [] procs left over gone
   kept_first procs left over gone is lays = record {
@@ -77,6 +81,6 @@ module _ (p : Planned) (a : ℕ) where
     goes_on = goes_on_first (nat_lt a p.layout.procs) (nat_lt a (acks_of p.layout));
   }
 
-pub kept_so : (p : Planned) (a : ℕ) (m : ActorMachine) (v : View Planned Op) (procs : ℕ) (left : List ℕ) (over : List Bool) (gone : Bool) → v ≡ one_carried p a → m ≡ opening p a → CountsFirst p.script procs left over gone → LaysOut p.script p.layout → IsKeptByHandle v.plan a m (by a v.log) procs left over gone
+pub kept_so : (p : Planned) (a : ℕ) (m : HeapActor) (v : View Planned Op) (procs : ℕ) (left : List ℕ) (over : List Bool) (gone : Bool) → v ≡ one_carried p a → m ≡ opening p a → CountsFirst p.script procs left over gone → LaysOut p.script p.layout → IsKeptByHandle v.plan a m (by a v.log) procs left over gone
 kept_so p a m v procs left over gone view machine is lays =
-    subst (λ (n : ActorMachine). IsKeptByHandle v.plan a n (by a v.log) procs left over gone) (sym machine) (subst (λ (u : View Planned Op). IsKeptByHandle u.plan a (opening p a) (by a u.log) procs left over gone) (sym view) (kept_first p a procs left over gone is lays))
+    subst (λ (n : HeapActor). IsKeptByHandle v.plan a n (by a v.log) procs left over gone) (sym machine) (subst (λ (u : View Planned Op). IsKeptByHandle u.plan a (opening p a) (by a u.log) procs left over gone) (sym view) (kept_first p a procs left over gone is lays))

@@ -4,6 +4,7 @@ use Rattle.std.proofs.lemmas.Bool.Decides.{nat_tests}
 use Rattle.std.proofs.lemmas.List.Sums.{sum_by-set}
 use Rattle.std.proofs.lemmas.Option.{slice_get-get_or}
 use Rattle.atomic_table.specs.Table.{Me}
+use Rattle.gh_base.specs.declared.layout.Layout.{Layout}
 use Rattle.gh_base.specs.declared.machine.Entry.{Entry}
 use Rattle.gh_base.specs.declared.operation.Op.{Op}
 use Rattle.gh_base.specs.declared.operation.Op.TheVariants as op
@@ -27,11 +28,11 @@ use Rattle.gh_world.specs.World.{making}
 use Rattle.gh_world.proofs.Due.{leaves_is}
 use Rattle.gh_world.proofs.Runners.{each_set}
 use Rattle.gh_world.proofs.StepFacts.{begin_facts, step_facts}
-use Rattle.gh_actor.specs.declared.machine.ActorMachine.{ActorMachine}
-use Rattle.gh_actor.specs.declared.machine.ActorMachine.TheVariants.{Leads, Runs}
+use Rattle.gh_actor.specs.declared.actor.HeapActor.{HeapActor}
+use Rattle.gh_actor.specs.declared.actor.HeapActor.TheVariants.{Leads, Runs}
 use Rattle.gh_shared.specs.Calls.{Fits, RunsIt}
 use Rattle.gh_actor.specs.Counting.{gone_after, HasOneAt, left_after, MayCount, over_after}
-use Rattle.gh_actor.specs.Machines.{asks, begins, gives, goes, is_busy, IsProcessorOf}
+use Rattle.gh_actor.specs.Machines.{asks, begins, gives, goes, HasShapes, is_busy}
 use Rattle.gh_actor.specs.Plans.{Planned}
 use Rattle.gh_shared.specs.Shown.{asks_for_cycle, CountsSo, IsKeptByHandle, left_by, ProcessorRests, requests_begun, runs_by}
 use Rattle.gh_shared.proofs.Allowed.{below, it_runs, left_is}
@@ -45,9 +46,9 @@ pub record OneMore (o : Op) (own own' : List (Entry Op)) : Type 0 where
   pub ended : (g : ℕ) → ended_in own' g ≡ (ends (Some o) g || ended_in own g)
   pub left : has_left own' ≡ (leaves (Some o) || has_left own)
 
-module _ (a : ℕ) (o : Op) (m : ActorMachine) (own : List (Entry Op)) where
+module _ (l : Layout) (a : ℕ) (o : Op) (m : HeapActor) (own : List (Entry Op)) where
   abbrev Made : List ℕ → List (Entry Op)
-  Made founds = entries_made asks goes a (Some o) m founds ++ own
+  Made founds = entries_made (asks l) (goes l) a (Some o) m founds ++ own
 
   more_asked : (g n : ℕ) (ns : List ℕ) → asked_by g (Made (n ∷ ns)) ≡ (if asks_collector g (Some o) then 1 else 0) + asked_by g own
   more_asked g n [] = refl
@@ -68,14 +69,14 @@ module _ (a : ℕ) (o : Op) (m : ActorMachine) (own : List (Entry Op)) where
   pub one_more : (n : ℕ) (ns : List ℕ) → OneMore o own (Made (n ∷ ns))
   one_more n ns = record { asked = λ g. more_asked g n ns; all = more_all n ns; ended = λ g. more_ended g n ns; left = more_left n ns }
 
-pub by_made : (a : ℕ) (b : Option Op) (m : ActorMachine) (founds : List ℕ) (log : List (Entry Op)) → by a (entries_made asks goes a b m founds ++ log) ≡ entries_made asks goes a b m founds ++ by a log
-by_made a b m [] log = refl
-by_made a b m (n ∷ ns) log = rw (eq-eqb a a refl) (ap (λ (es : List (Entry Op)). entry a (begun_next b ns) (asks (machine_after goes m ns)) n ∷ es) (by_made a b m ns log))
+pub by_made : (l : Layout) (a : ℕ) (b : Option Op) (m : HeapActor) (founds : List ℕ) (log : List (Entry Op)) → by a (entries_made (asks l) (goes l) a b m founds ++ log) ≡ entries_made (asks l) (goes l) a b m founds ++ by a log
+by_made l a b m [] log = refl
+by_made l a b m (n ∷ ns) log = rw (eq-eqb a a refl) (ap (λ (es : List (Entry Op)). entry a (begun_next b ns) (asks l (machine_after (goes l) m ns)) n ∷ es) (by_made l a b m ns log))
 
 -- where an operation has run, its actor's entries are one operation more
-pub ran_more : (a : ℕ) (o : Op) (x x' : ActorMachine) (me me' : Me (Unit {0}) (View Planned Op)) (founds : List ℕ) (out : Option Answer) → Ran asks goes a (Some o) x me x' me' founds → Gave goes gives x founds out → OneMore o (by a me.0.log) (by a me'.0.log)
-ran_more a o x x' me me' [] out ran gave = absurd gave
-ran_more a o x x' me me' (n ∷ ns) out ran gave = subst (OneMore o (by a me.0.log)) (sym (ap (by a) ran.log ∙ by_made a (Some o) x (n ∷ ns) me.0.log)) (one_more a o x (by a me.0.log) n ns)
+pub ran_more : (l : Layout) (a : ℕ) (o : Op) (x x' : HeapActor) (me me' : Me (Unit {0}) (View Planned Op)) (founds : List ℕ) (out : Option Answer) → Ran (asks l) (goes l) a (Some o) x me x' me' founds → Gave (goes l) (gives l) x founds out → OneMore o (by a me.0.log) (by a me'.0.log)
+ran_more l a o x x' me me' [] out ran gave = absurd gave
+ran_more l a o x x' me me' (n ∷ ns) out ran gave = subst (OneMore o (by a me.0.log)) (sym (ap (by a) ran.log ∙ by_made l a (Some o) x (n ∷ ns) me.0.log)) (one_more l a o x (by a me.0.log) n ns)
 
 -- ---- the counts
 
@@ -139,25 +140,25 @@ module _ (p : Planned) (own own' : List (Entry Op)) (procs : ℕ) (left : List �
 -- ---- the processor
 
 -- one that rests stays as it is
-rests_on : (shapes : List Shape) (m : Processor) (t : Task) (found : ℕ) → is_busy_at t ≡ false → takes_at shapes m t found ≡ m
-rests_on shapes m t found e = grind arith
+rests_on : (l : Layout) (shapes : List Shape) (m : Processor) (t : Task) (found : ℕ) → is_busy_at t ≡ false → takes_at l shapes m t found ≡ m
+rests_on l shapes m t found e = grind arith
 
 -- steps make no more than one object, and lead to no leave
 record GoesSo (m n : Processor) : Type 0 where
   counted : (g : ℕ) → made_by n g + making n.task ≤ made_by m g + making m.task
   leaves_as : is_leaving n.task ≡ is_leaving m.task
 
-step_so : (m : Mutating) (found : ℕ) → GoesSo m.processor (mutating.goes m found).processor
-step_so m found = go (is_busy_at m.processor.task) refl where
-  go : (b : Bool) → is_busy_at m.processor.task ≡ b → GoesSo m.processor (mutating.goes m found).processor
-  go true e = let s = step_facts m.shapes m.processor m.processor.task found e in record { counted = s.counted; leaves_as = s.leaves }
-  go false e = rw (rests_on m.shapes m.processor m.processor.task found e) (record { counted = λ g. omega arith; leaves_as = refl })
+step_so : (l : Layout) (m : Mutating) (found : ℕ) → GoesSo m.processor (mutating.goes l m found).processor
+step_so l m found = go (is_busy_at m.processor.task) refl where
+  go : (b : Bool) → is_busy_at m.processor.task ≡ b → GoesSo m.processor (mutating.goes l m found).processor
+  go true e = let s = step_facts l m.shapes m.processor m.processor.task found e in record { counted = s.counted; leaves_as = s.leaves }
+  go false e = rw (rests_on l m.shapes m.processor m.processor.task found e) (record { counted = λ g. omega arith; leaves_as = refl })
 
-steps_so : (m : Mutating) (founds : List ℕ) → GoesSo m.processor (machine_after mutating.goes m founds).processor
-steps_so m [] = record { counted = λ g. omega arith; leaves_as = refl }
-steps_so m (n ∷ ns) =
-    let before = steps_so m ns in
-    let s = step_so (machine_after mutating.goes m ns) n in
+steps_so : (l : Layout) (m : Mutating) (founds : List ℕ) → GoesSo m.processor (machine_after (mutating.goes l) m founds).processor
+steps_so l m [] = record { counted = λ g. omega arith; leaves_as = refl }
+steps_so l m (n ∷ ns) =
+    let before = steps_so l m ns in
+    let s = step_so l (machine_after (mutating.goes l) m ns) n in
     record { counted = λ g. let x = before.counted g in let y = s.counted g in omega (arith, x, y); leaves_as = s.leaves_as ∙ before.leaves_as }
 
 begun_makes : (shapes : List Shape) (m : Processor) (o : Op) → making (begins_at shapes m o) ≤ (if asks_for_cycle (Some o) then 1 else 0)
@@ -166,14 +167,14 @@ begun_makes shapes m o = grind arith
 begun_busy : (shapes : List Shape) (m : Processor) (o : Op) → is_busy_at (begins_at shapes m o) ≡ true
 begun_busy shapes m o = grind arith
 
--- the machine of a processor stays one
-pub runs_after : (m : Mutating) (founds : List ℕ) → machine_after goes (Runs m) founds ≡ Runs (machine_after mutating.goes m founds)
-runs_after m [] = refl
-runs_after m (n ∷ ns) = ap (λ (x : ActorMachine). goes x n) (runs_after m ns)
+-- a processor stays one
+pub runs_after : (l : Layout) (m : Mutating) (founds : List ℕ) → machine_after (goes l) (Runs m) founds ≡ Runs (machine_after (mutating.goes l) m founds)
+runs_after l m [] = refl
+runs_after l m (n ∷ ns) = ap (λ (x : HeapActor). goes l x n) (runs_after l m ns)
 
-rests_then : (p : Planned) (a : ℕ) (m : Mutating) (own own' : List (Entry Op)) (o : Op) (founds : List ℕ) → ProcessorRests p a m own → has_left own ≡ false → OneMore o own own' → mutating.is_busy (machine_after mutating.goes (mutating.begins m o) founds) ≡ false → ProcessorRests p a (machine_after mutating.goes (mutating.begins m o) founds) own'
+rests_then : (p : Planned) (a : ℕ) (m : Mutating) (own own' : List (Entry Op)) (o : Op) (founds : List ℕ) → ProcessorRests p a m own → has_left own ≡ false → OneMore o own own' → mutating.is_busy (machine_after (mutating.goes p.layout) (mutating.begins m o) founds) ≡ false → ProcessorRests p a (machine_after (mutating.goes p.layout) (mutating.begins m o) founds) own'
 rests_then p a m own own' o founds rests stays one idle =
-    let s = steps_so (mutating.begins m o) founds in
+    let s = steps_so p.layout (mutating.begins m o) founds in
     let b = begin_facts m.shapes m.processor o (begun_busy m.shapes m.processor o) in
     let makes = begun_makes m.shapes m.processor o in
     let all = one.all in
@@ -190,30 +191,30 @@ rests_then p a m own own' o founds rests stays one idle =
 
 -- ---- all of it
 
-module _ (p : Planned) (a : ℕ) (m : Mutating) (own : List (Entry Op)) (procs : ℕ) (left : List ℕ) (over : List Bool) (gone : Bool) (counts : CountsSo p own procs left over gone) (rests : ProcessorRests p a m own) (belongs : IsProcessorOf p m) where
+module _ (p : Planned) (a : ℕ) (m : Mutating) (own : List (Entry Op)) (procs : ℕ) (left : List ℕ) (over : List Bool) (gone : Bool) (counts : CountsSo p own procs left over gone) (rests : ProcessorRests p a m own) (shapes : HasShapes p (Runs m)) where
   has_one : (g : ℕ) → runs_by p a own g ≡ true → 1 ≤ left_by p own g → HasOneAt left g
   has_one g r one =
-      let h = it_runs p a m own procs left over gone counts rests belongs g r in
-      let lt = below p a m own procs left over gone counts rests belongs g h in
-      let is = left_is p a m own procs left over gone counts rests belongs g h in
+      let h = it_runs p a m own procs left over gone counts rests shapes g r in
+      let lt = below p a m own procs left over gone counts rests shapes g h in
+      let is = left_is p a m own procs left over gone counts rests shapes g h in
       let many = counts.many_left in
       (omega (arith, lt, many), omega (arith, is, one))
 
   pub may_count : (o : Op) → RunsIt p a (Runs m) own (goroutine_of o) → Fits p a (Runs m) own o → MayCount left over o
   may_count o r f = grind (arith, has_one)
 
-pub kept_then : (p : Planned) (a : ℕ) (m : Mutating) (o : Op) (me me' : Me (Unit {0}) (View Planned Op)) (x : ActorMachine) (founds : List ℕ) (out : Option Answer) (procs : ℕ) (left : List ℕ) (over : List Bool) (gone : Bool) →
-    IsKeptByHandle p a (Runs m) (by a me.0.log) procs left over gone → has_left (by a me.0.log) ≡ false → MayCount left over o → Ran asks goes a (Some o) (begins (Runs m) o) me x me' founds → Gave goes gives (begins (Runs m) o) founds out → is_busy x ≡ false →
+pub kept_then : (p : Planned) (a : ℕ) (m : Mutating) (o : Op) (me me' : Me (Unit {0}) (View Planned Op)) (x : HeapActor) (founds : List ℕ) (out : Option Answer) (procs : ℕ) (left : List ℕ) (over : List Bool) (gone : Bool) →
+    IsKeptByHandle p a (Runs m) (by a me.0.log) procs left over gone → has_left (by a me.0.log) ≡ false → MayCount left over o → Ran (asks p.layout) (goes p.layout) a (Some o) (begins (Runs m) o) me x me' founds → Gave (goes p.layout) (gives p.layout) (begins (Runs m) o) founds out → is_busy x ≡ false →
     IsKeptByHandle p a x (by a me'.0.log) procs (left_after left o) (over_after over o) (gone_after gone o)
 kept_then p a m o me me' x [] out procs left over gone kept stays may ran gave idle = absurd gave
 kept_then p a m o me me' x (n ∷ ns) out procs left over gone kept stays may ran gave idle =
     let own = by a me.0.log in
-    let made : List (Entry Op) = entries_made asks goes a (Some o) (Runs (mutating.begins m o)) (n ∷ ns) ++ own in
-    let own_is : by a me'.0.log ≡ made = ap (by a) ran.log ∙ by_made a (Some o) (Runs (mutating.begins m o)) (n ∷ ns) me.0.log in
-    let one : OneMore o own made = one_more a o (Runs (mutating.begins m o)) own n ns in
-    let after : Mutating = machine_after mutating.goes (mutating.begins m o) (n ∷ ns) in
-    let is : x ≡ Runs after = ran.machine ∙ runs_after (mutating.begins m o) (n ∷ ns) in
-    let still : mutating.is_busy after ≡ false = subst (λ (y : ActorMachine). is_busy y ≡ false) is idle in
+    let made : List (Entry Op) = entries_made (asks p.layout) (goes p.layout) a (Some o) (Runs (mutating.begins m o)) (n ∷ ns) ++ own in
+    let own_is : by a me'.0.log ≡ made = ap (by a) ran.log ∙ by_made p.layout a (Some o) (Runs (mutating.begins m o)) (n ∷ ns) me.0.log in
+    let one : OneMore o own made = one_more p.layout a o (Runs (mutating.begins m o)) own n ns in
+    let after : Mutating = machine_after (mutating.goes p.layout) (mutating.begins m o) (n ∷ ns) in
+    let is : x ≡ Runs after = ran.machine ∙ runs_after p.layout (mutating.begins m o) (n ∷ ns) in
+    let still : mutating.is_busy after ≡ false = subst (λ (y : HeapActor). is_busy y ≡ false) is idle in
     let rests : ProcessorRests p a after made = rests_then p a m own made o (n ∷ ns) (kept.rests m refl) stays one still in
     let all : IsKeptByHandle p a x made procs (left_after left o) (over_after over o) (gone_after gone o) = record {
       counts = counts_then p own made procs left over gone kept.counts o may one;

@@ -1,5 +1,4 @@
 pub mod Allowed
-pub mod AtOnce
 pub mod Carrying
 pub mod Drawing
 pub mod Ending

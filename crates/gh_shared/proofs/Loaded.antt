@@ -1,5 +1,5 @@
 -- The five ways through a load whose steps are made at once.
-use Rattle.std.proofs.Common.{◌≡◌, ℕ, ◌+◌, ◌-◌, arith, Bool, true, false, List, [], ◌∷◌, refl, sym, ap, ◌∙◌, Option, Some, None}
+use Rattle.std.proofs.Common.{◌≡◌, ℕ, ◌+◌, ◌-◌, arith, Bool, true, false, List, [], ◌∷◌, refl, sym, ap, subst, ◌∙◌, Option, Some, None}
 use Rattle.gh_base.specs.declared.cell.Ask.TheVariants as ask
 use Rattle.gh_base.specs.declared.cell.Cell.{Cell}
 use Rattle.gh_base.specs.declared.cell.Cell.TheVariants as cell
@@ -28,9 +28,11 @@ use Rattle.gh_mutator.specs.Processor.{register_of, set_register}
 use Rattle.gh_table.specs.Rule.{actor_in, Tells}
 use Rattle.gh_table.specs.Views.{Carries}
 use Rattle.gh_world.specs.World.{may_begin_of}
-use Rattle.gh_actor.specs.declared.machine.ActorMachine.TheVariants.{Runs}
+use Rattle.gh_actor.specs.declared.actor.HeapActor.{HeapActor}
+use Rattle.gh_actor.specs.declared.actor.HeapActor.TheVariants.{Leads, Marks, Runs}
+use Rattle.gh_actor.specs.Acting.{Acting}
 use Rattle.gh_shared.specs.AtOnce.{RanAtOnce}
-use Rattle.gh_actor.specs.Machines.{IsProcessorOf, machine_actor, ProcessorMay}
+use Rattle.gh_actor.specs.Machines.{HasShapes, IsProcessor, machine_actor, MachineMayBegin}
 use Rattle.gh_actor.specs.Plans.{Planned, setting}
 use Rattle.gh_shared.proofs.Loading.{at_load, begins_none, begins_page, birth_ends, birth_gives, bits_goes, field_ends, field_gives, field_refers, load_at, none_gives, none_goes, page_ends, page_gives, page_goes, with_value}
 use Rattle.gh_shared.proofs.Midway.{ends_at_once, goes_on_so, MayStart, Midway, Seen, starts}
@@ -38,6 +40,12 @@ use Rattle.gh_shared.proofs.Midway.{ends_at_once, goes_on_so, MayStart, Midway, 
 -- where none of these is found there is none
 pub no_object : (x y : Option ℕ) → x ≡ y → ((at : ℕ) → x ≡ Some at → ⊥) → y ≡ None
 no_object x y e never = grind arith
+
+-- which processor it is
+pub processor_is : (x : HeapActor) → IsProcessor x → (m : Mutating) × (x ≡ Runs m)
+processor_is (Runs m) is = (m, refl)
+processor_is (Marks w) is = absurd is
+processor_is (Leads c) is = absurd is
 
 -- a load that a processor may begin at its seat, and the layout that its heap keeps
 pub record MayLoad : Type 0 where
@@ -50,21 +58,27 @@ pub record MayLoad : Type 0 where
   pub k : ℕ
   pub layout : Layout
   pub start : MayStart actor (op.Load g d b k) machine seat
-  pub laid : layout ≡ machine.processor.poll.layout
+  pub laid : layout ≡ seat.0.plan.layout
 
 -- where the layout is that of the plan
-abbrev pub may_load : {m : Mutating} {g d b k : ℕ} (a : ℕ) (me : Seen) {key : Planned} {l : Layout} → me.0.plan ≡ key → l ≡ key.layout → IsProcessorOf me.0.plan m → machine_actor (Runs m) ≡ actor_in setting me.0 a → ProcessorMay m (op.Load g d b k) → Carries me.0 a → may_begin_of me.0.plan.script me.0.plan.layout a (by a me.0.log) (op.Load g d b k) ≡ true → MayLoad
-may_load {m} {g} {d} {b} {k} a me {l} plan laid belongs state may carries allowed = record {
+abbrev pub may_load : (g d b k : ℕ) (a : ℕ) (me : Seen) (x : Acting) (y : (m : Mutating) × (x.actor ≡ Runs m)) {key : Planned} {l : Layout} → me.0.plan ≡ key → l ≡ key.layout → x.layout ≡ me.0.plan.layout → HasShapes me.0.plan x.actor → machine_actor x.actor ≡ actor_in setting me.0 a → MachineMayBegin x.layout x.actor (op.Load g d b k) → Carries me.0 a → may_begin_of me.0.plan.script me.0.plan.layout a (by a me.0.log) (op.Load g d b k) ≡ true → MayLoad
+may_load g d b k a me x y {l} plan of_heap laid shapes state may carries allowed = record {
   actor = a;
-  machine = m;
+  machine = y.0;
   seat = me;
   g = g;
   d = d;
   b = b;
   k = k;
   layout = l;
-  start = record { belongs = belongs; state = state; may = may; carries = carries; allowed = allowed };
-  laid = laid ∙ ap (λ (p : Planned). p.layout) (sym plan) ∙ sym belongs.layout;
+  start = record {
+    shapes = subst (HasShapes me.0.plan) y.1 shapes;
+    state = subst (λ (z : HeapActor). machine_actor z ≡ actor_in setting me.0 a) y.1 state;
+    may = subst (λ (z : HeapActor). MachineMayBegin me.0.plan.layout z (op.Load g d b k)) y.1 (subst (λ (n : Layout). MachineMayBegin n x.actor (op.Load g d b k)) laid may);
+    carries = carries;
+    allowed = allowed;
+  };
+  laid = of_heap ∙ ap (λ (p : Planned). p.layout) (sym plan);
 }
 
 module _ (x : MayLoad) where
@@ -73,9 +87,12 @@ module _ (x : MayLoad) where
   abbrev o : Op
   o = op.Load g d b k
 
+  abbrev L : Layout
+  L = me.0.plan.layout
+
   -- the load at this stage
   abbrev at_stage : (at : ℕ) → LoadStage → Load
-  at_stage at s = load_at m g d b k at s
+  at_stage at s = load_at L m g d b k at s
 
   -- by these steps it has come to y, which loads this cell next
   abbrev Asks : Mutating → Seen → List ℕ → Cell → Type 0
@@ -87,44 +104,51 @@ module _ (x : MayLoad) where
 
   -- it has ended, and is answered this
   abbrev EndsAs : Mutating → Seen → Answer → Type 0
-  EndsAs m' me' given = RanAtOnce a o 4 m me m' me' given
+  EndsAs m' me' given = RanAtOnce L a o 4 (Runs m) me (Runs m') me' given
+
+  -- so its machine has come from z to z'
+  pub ended_so : {z z' : Acting} {m' : Mutating} {me' : Seen} {given : Answer} → z.layout ≡ L → z.actor ≡ Runs m → z' ≡ record z { actor = Runs m' } → EndsAs m' me' given → RanAtOnce z.layout a o 4 z.actor me z'.actor me' given
+  ended_so {z} {z'} {me'} {given} laid is to ends =
+      subst (λ (n : Layout). RanAtOnce n a o 4 z.actor me z'.actor me' given) (sym laid)
+      (subst (λ (u : HeapActor). RanAtOnce L a o 4 u me z'.actor me' given) (sym is)
+      (subst (λ (u : HeapActor). RanAtOnce L a o 4 (Runs m) me u me' given) (sym (ap (λ (u : Acting). u.actor) to)) ends))
 
   -- ---- no object
 
   pub asks_none : object_in (register_of m.processor g b) ≡ None → Asks (at_load m (at_stage 0 NilBase)) me [] cell.Touch
-  asks_none e = starts start (begins_none m g d b k e) refl
+  asks_none e = starts start (begins_none L m g d b k e) refl
 
   pub ran_none : {me1 : Seen} {n1 : ℕ} {m' : Mutating} → Asks (at_load m (at_stage 0 NilBase)) me [] cell.Touch → Finds (Some o) cell.Touch n1 me me1 → m' ≡ rested m m.processor (answer.Fault fault.NilBase) → EndsAs m' me1 (answer.Fault fault.NilBase)
-  ran_none {n1} there finds is = ends_at_once there finds (omega arith) (is ∙ sym (none_goes m g d b k 0 n1)) (none_gives m g d b k 0 n1) (ap mutating.is_busy is)
+  ran_none {n1} there finds is = ends_at_once there finds (omega arith) (is ∙ sym (none_goes L m g d b k 0 n1)) (none_gives L m g d b k 0 n1) (ap mutating.is_busy is)
 
   -- ---- an object
 
   pub asks_page : {at : ℕ} {c : Cell} → object_in (register_of m.processor g b) ≡ Some at → c ≡ page_cell l at → Asks (at_load m (at_stage at Page)) me [] c
-  asks_page {at} object is = starts start (begins_page m g d b k at object) (ap ask.Load (is ∙ ap (λ (y : Layout). page_cell y at) laid))
+  asks_page {at} object is = starts start (begins_page L m g d b k at object) (ap ask.Load (is ∙ ap (λ (y : Layout). page_cell y at) laid))
 
   -- with its page word
   module _ {at : ℕ} {c : Cell} (there : Asks (at_load m (at_stage at Page)) me [] c) {me1 : Seen} {n1 : ℕ} (finds : Finds (Some o) c n1 me me1) where
     -- that has no such field
     pub ran_page : {m' : Mutating} → has_field k n1 ≡ false → m' ≡ rested m m.processor (answer.Fault fault.Field) → EndsAs m' me1 (answer.Fault fault.Field)
-    ran_page has is = ends_at_once there finds (omega arith) (is ∙ sym (page_ends m g d b k at n1 has)) (page_gives m g d b k at n1 has) (ap mutating.is_busy is)
+    ran_page has is = ends_at_once there finds (omega arith) (is ∙ sym (page_ends L m g d b k at n1 has)) (page_gives L m g d b k at n1 has) (ap mutating.is_busy is)
 
     pub asks_bits : {c' : Cell} → has_field k n1 ≡ true → c' ≡ bits_cell l (at + k) → Asks (at_load m (at_stage at Bits)) me1 (n1 ∷ []) c'
-    asks_bits has is = goes_on_so there finds (page_goes m g d b k at n1 has) (ap ask.Load (is ∙ ap (λ (y : Layout). bits_cell y (at + k)) laid))
+    asks_bits has is = goes_on_so there finds (page_goes L m g d b k at n1 has) (ap ask.Load (is ∙ ap (λ (y : Layout). bits_cell y (at + k)) laid))
 
   -- with the word of its bitmap
   module _ {at : ℕ} {c : Cell} {me1 : Seen} {n1 : ℕ} (there : Asks (at_load m (at_stage at Bits)) me1 (n1 ∷ []) c) {me2 : Seen} {n2 : ℕ} (finds : Finds None c n2 me1 me2) where
     pub asks_field : {pointer : Bool} {c' : Cell} → pointer ≡ is_pointer_by l (at + k) n2 → c' ≡ field_cell l (at + k) → Asks (at_load m (at_stage at (Field pointer))) me2 (n2 ∷ n1 ∷ []) c'
     asks_field {pointer} by_bit is =
-        goes_on_so there finds (bits_goes m g d b k at n2 pointer (by_bit ∙ ap (λ (y : Layout). is_pointer_by y (at + k) n2) laid)) (ap ask.Load (is ∙ ap (λ (y : Layout). field_cell y (at + k)) laid))
+        goes_on_so there finds (bits_goes L m g d b k at n2 pointer (by_bit ∙ ap (λ (y : Layout). is_pointer_by y (at + k) n2) laid)) (ap ask.Load (is ∙ ap (λ (y : Layout). field_cell y (at + k)) laid))
 
   -- with the field, whose value is v
   module _ {at : ℕ} {pointer : Bool} {c : Cell} {me2 : Seen} {n1 n2 : ℕ} (there : Asks (at_load m (at_stage at (Field pointer))) me2 (n2 ∷ n1 ∷ []) c) {me3 : Seen} {n3 : ℕ} (finds : Finds None c n3 me2 me3) {v : Value} (value_is : v ≡ value_of l.pages pointer n3) where
-    value_so : v ≡ value_of m.processor.poll.layout.pages pointer n3
+    value_so : v ≡ value_of L.pages pointer n3
     value_so = value_is ∙ ap (λ (y : Layout). value_of y.pages pointer n3) laid
 
     -- nil or a number
     ran_field : {m' : Mutating} {given : Answer} → value_told (load.naming (at_stage at (Field pointer))) v ≡ Ends given → m' ≡ rested m (set_register m.processor g d v) given → EndsAs m' me3 given
-    ran_field {given} e is = ends_at_once there finds (omega arith) (is ∙ sym (field_ends m g d b k at pointer n3 v value_so given e)) (field_gives m g d b k at pointer n3 v value_so given e) (ap mutating.is_busy is)
+    ran_field {given} e is = ends_at_once there finds (omega arith) (is ∙ sym (field_ends L m g d b k at pointer n3 v value_so given e)) (field_gives L m g d b k at pointer n3 v value_so given e) (ap mutating.is_busy is)
 
     pub ran_nil : {m' : Mutating} → v ≡ value.Nil → m' ≡ rested m (set_register m.processor g d v) answer.Nil → EndsAs m' me3 answer.Nil
     ran_nil e is = ran_field (ap (value_told (load.naming (at_stage at (Field pointer)))) e) is
@@ -134,11 +158,11 @@ module _ (x : MayLoad) where
 
     -- a reference
     pub asks_birth : {r : ℕ} {c' : Cell} → v ≡ value.Ref r → c' ≡ birth_cell l (r - 1) → Asks (at_load (with_value m g d v) (at_stage at (Birth (r - 1)))) me3 (n3 ∷ n2 ∷ n1 ∷ []) c'
-    asks_birth {r} refers is = goes_on_so there finds (field_refers m g d b k at pointer n3 v value_so r refers) (ap ask.Load (is ∙ ap (λ (y : Layout). birth_cell y (r - 1)) laid))
+    asks_birth {r} refers is = goes_on_so there finds (field_refers L m g d b k at pointer n3 v value_so r refers) (ap ask.Load (is ∙ ap (λ (y : Layout). birth_cell y (r - 1)) laid))
 
   -- with the name of the object found
   module _ {at i : ℕ} (v : Value) {c : Cell} {me3 : Seen} {n1 n2 n3 : ℕ} (there : Asks (at_load (with_value m g d v) (at_stage at (Birth i))) me3 (n3 ∷ n2 ∷ n1 ∷ []) c) {me4 : Seen} {n4 : ℕ} (finds : Finds None c n4 me3 me4) where
     pub ran_birth : {m' : Mutating} {name : Name} → name ≡ name_of l.goroutines n4 → m' ≡ rested m (set_register m.processor g d v) (answer.Ref name) → EndsAs m' me4 (answer.Ref name)
     ran_birth {name} name_is is =
-        let same : answer.Ref name ≡ answer.Ref (name_of m.processor.poll.layout.goroutines n4) = ap answer.Ref (name_is ∙ ap (λ (y : Layout). name_of y.goroutines n4) laid) in
-        ends_at_once there finds (omega arith) (is ∙ ap (rested m (set_register m.processor g d v)) same ∙ sym (birth_ends m g d b k at v i n4)) (birth_gives m g d b k at v i n4 ∙ ap Some (sym same)) (ap mutating.is_busy is)
+        let same : answer.Ref name ≡ answer.Ref (name_of L.goroutines n4) = ap answer.Ref (name_is ∙ ap (λ (y : Layout). name_of y.goroutines n4) laid) in
+        ends_at_once there finds (omega arith) (is ∙ ap (rested m (set_register m.processor g d v)) same ∙ sym (birth_ends L m g d b k at v i n4)) (birth_gives L m g d b k at v i n4 ∙ ap Some (sym same)) (ap mutating.is_busy is)

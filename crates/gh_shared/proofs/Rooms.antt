@@ -2,7 +2,7 @@
 use Rattle.std.proofs.Common.{◌≡◌, ◌↔◌, ◌≤◌, true, arith}
 use Rattle.gh_poll.specs.Barrier.{has_entries}
 use Rattle.gh_mutator.specs.Mutating.{Mutating}
-use Rattle.gh_actor.specs.declared.machine.ActorMachine.TheVariants.{Runs}
+use Rattle.gh_actor.specs.declared.actor.HeapActor.TheVariants.{Runs}
 use Rattle.gh_shared.specs.Handles.{room_at}
 
 pub room_so : (m : Mutating) → (has_entries m.processor.poll ≡ true) ↔ (2 ≤ room_at (Runs m))

@@ -19,8 +19,8 @@ use Rattle.gh_mutator.specs.Listing.{is_busy_at}
 use Rattle.gh_lists.specs.Processors.{answers_of, AnswersAsEver, arena_of, asks_collector, at_seat, given_of}
 use Rattle.gh_shared.specs.declared.handle.Handle.{Handle}
 use Rattle.gh_shared.specs.declared.heap.Heap.{Heap}
-use Rattle.gh_actor.specs.declared.machine.ActorMachine.{ActorMachine}
-use Rattle.gh_shared.specs.Handles.{carries_of, ended_of, IsHandleOf, left_of, machine_of, number_of, own_of, room_at, runs_in, view_of}
+use Rattle.gh_actor.specs.declared.actor.HeapActor.{HeapActor}
+use Rattle.gh_shared.specs.Handles.{carries_of, ended_of, IsHandleOf, layout_of, left_of, machine_of, number_of, own_of, room_at, runs_in, view_of}
 use Rattle.gh_actor.specs.Machines.{asks, begins, gives, goes, IsProcessor}
 use Rattle.gh_actor.specs.Plans.{Planned, setting}
 use Rattle.gh_shared.specs.Shown.{left_by, runs_by}
@@ -32,7 +32,7 @@ pub record IsGoing (heap : Heap) (h : Handle) : Type 0 where
   pub processor : IsProcessor (machine_of h)
   pub going : ended_of h ≡ false
 
-module _ (p : Planned) (a : ℕ) (x : ActorMachine) (own : List (Entry Op)) where
+module _ (p : Planned) (a : ℕ) (x : HeapActor) (own : List (Entry Op)) where
   -- the goroutine, if one is named, is one of the processor that has not ended
   abbrev pub RunsIt : Option ℕ → Type 0
   RunsIt None = Unit {0}
@@ -70,8 +70,8 @@ pub record ShowsAfter (o : Op) (h h' : Handle) : Type 0 where
 pub record Operated (heap : Heap) (o : Op) (h h' : Handle) (answer : Answer) (founds : List ℕ) : Type 0 where
   pub of : IsHandleOf heap h'
   pub number : number_of h' ≡ number_of h
-  pub ran : Ran asks goes (number_of h) (Some o) (begins (machine_of h) o) h.hand.seat.me (machine_of h') h'.hand.seat.me founds
-  pub gave : Gave goes gives (begins (machine_of h) o) founds (Some answer)
+  pub ran : Ran (asks (layout_of h)) (goes (layout_of h)) (number_of h) (Some o) (begins (machine_of h) o) h.hand.seat.me (machine_of h') h'.hand.seat.me founds
+  pub gave : Gave (goes (layout_of h)) (gives (layout_of h)) (begins (machine_of h) o) founds (Some answer)
   pub saw : SawLegalList setting (number_of h') h.hand.seat.me h'.hand.seat.me
   pub shows : ShowsAfter o h h'
 
@@ -102,7 +102,7 @@ AnswersAreEvers p = (es : List (Entry Op)) (a : ℕ) → Legal (setting p) es �
 pub record RanToItsEnd (heap : Heap) (h h' : Handle) (founds : List ℕ) : Type 0 where
   pub of : IsHandleOf heap h'
   pub number : number_of h' ≡ number_of h
-  pub ran : Ran asks goes (number_of h) None (machine_of h) h.hand.seat.me (machine_of h') h'.hand.seat.me founds
+  pub ran : Ran (asks (layout_of h)) (goes (layout_of h)) (number_of h) None (machine_of h) h.hand.seat.me (machine_of h') h'.hand.seat.me founds
   pub saw : SawLegalList setting (number_of h') h.hand.seat.me h'.hand.seat.me
   pub ended : ended_of h' ≡ true
 

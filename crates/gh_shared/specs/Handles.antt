@@ -1,5 +1,6 @@
 -- What a handle is, and which handles a heap opens with.
 use Rattle.std.specs.Prelude.{◌≡◌, ℕ, Bool, not, List, length, slice_get, Some}
+use Rattle.gh_base.specs.declared.layout.Layout.{Layout}
 use Rattle.gh_base.specs.declared.machine.Entry.{Entry}
 use Rattle.gh_base.specs.declared.operation.Op.{Op}
 use Rattle.gh_base.specs.Cells.{length_of, seats_of}
@@ -14,8 +15,8 @@ use Rattle.gh_lists.specs.Order.{has_left}
 use Rattle.gh_world.specs.World.{LaysOut}
 use Rattle.gh_shared.specs.declared.handle.Handle.{Handle}
 use Rattle.gh_shared.specs.declared.heap.Heap.{Heap}
-use Rattle.gh_actor.specs.declared.machine.ActorMachine.{ActorMachine}
-use Rattle.gh_actor.specs.declared.machine.ActorMachine.TheVariants.{Leads, Marks, Runs}
+use Rattle.gh_actor.specs.declared.actor.HeapActor.{HeapActor}
+use Rattle.gh_actor.specs.declared.actor.HeapActor.TheVariants.{Leads, Marks, Runs}
 use Rattle.gh_actor.specs.Machines.{opening}
 use Rattle.gh_actor.specs.Plans.{Planned}
 use Rattle.gh_shared.specs.Shown.{count_among, left_by, runs_by}
@@ -24,15 +25,18 @@ use Rattle.gh_shared.specs.Shown.{count_among, left_by, runs_by}
 abbrev pub plan_of : Heap → Planned
 plan_of heap = heap.table.shared.key
 
--- the actor's number, its machine, and what its seat knows
+-- the actor's number, the actor, what its seat knows, and the layout of its heap
 abbrev pub number_of : Handle → ℕ
 number_of h = h.hand.actor
 
-abbrev pub machine_of : Handle → ActorMachine
-machine_of h = h.hand.machine
+abbrev pub machine_of : Handle → HeapActor
+machine_of h = h.hand.machine.actor
 
 abbrev pub view_of : Handle → View Planned Op
 view_of h = h.hand.seat.me.0
+
+abbrev pub layout_of : Handle → Layout
+layout_of h = (view_of h).plan.layout
 
 -- its own entries
 abbrev pub own_of : Handle → List (Entry Op)
@@ -47,7 +51,7 @@ abbrev pub left_of : Handle → (g : ℕ) → ℕ
 left_of h g = left_by (view_of h).plan (own_of h) g
 
 -- how many entries more a processor has room for, as it knows
-abbrev pub room_at : ActorMachine → ℕ
+abbrev pub room_at : HeapActor → ℕ
 room_at (Runs m) = room_in m.processor.poll
 room_at _ = 0
 
@@ -59,7 +63,7 @@ abbrev pub carries_of : Handle → ℕ
 carries_of h = count_among (view_of h).actors (seats_of (view_of h).plan.layout)
 
 -- a processor has ended where it has begun to leave, and each other actor where it is done
-abbrev pub ended_at : ActorMachine → List (Entry Op) → Bool
+abbrev pub ended_at : HeapActor → List (Entry Op) → Bool
 ended_at (Runs m) own = has_left own
 ended_at (Marks w) own = not (worker.is_busy w.stage)
 ended_at (Leads c) own = coord.is_done_at c.stage

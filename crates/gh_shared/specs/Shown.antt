@@ -5,7 +5,7 @@ use Rattle.gh_base.specs.declared.operation.Op.{Op}
 use Rattle.gh_base.specs.declared.operation.Op.TheVariants as op
 use Rattle.gh_base.specs.Cells.{seats_of}
 use Rattle.gh_base.specs.Lists.{state_of}
-use Rattle.gh_coord.specs.Listing as coord
+use Rattle.gh_coord.specs.GoingOn.{HasNext}
 use Rattle.gh_coord.specs.Listing.{Coordinating}
 use Rattle.gh_coord.specs.Stopping.{acks_of}
 use Rattle.gh_mutator.specs.Mutating as mutating
@@ -21,8 +21,8 @@ use Rattle.gh_lists.specs.Processors.{asked_by}
 use Rattle.gh_lists.specs.Wants.{total}
 use Rattle.gh_world.specs.Wishes.{wishes_of}
 use Rattle.gh_world.specs.World.{MadeAtMost}
-use Rattle.gh_actor.specs.declared.machine.ActorMachine.{ActorMachine}
-use Rattle.gh_actor.specs.declared.machine.ActorMachine.TheVariants.{Leads, Runs}
+use Rattle.gh_actor.specs.declared.actor.HeapActor.{HeapActor}
+use Rattle.gh_actor.specs.declared.actor.HeapActor.TheVariants.{Leads, Runs}
 use Rattle.gh_actor.specs.Machines.{is_coordinator, machine_actor}
 use Rattle.gh_actor.specs.Plans.{Planned, setting}
 
@@ -63,15 +63,15 @@ pub record ProcessorRests (p : Planned) (a : ℕ) (m : Mutating) (own : List (En
   pub made : MadeAtMost (requests_begun own) m.processor
 
 -- if it is one
-abbrev pub RestsIfProcessor : Planned → (a : ℕ) → ActorMachine → List (Entry Op) → Type 0
+abbrev pub RestsIfProcessor : Planned → (a : ℕ) → HeapActor → List (Entry Op) → Type 0
 RestsIfProcessor p a x own = (m : Mutating) → x ≡ Runs m → ProcessorRests p a m own
 
 -- the coordinator has a further step exactly where it is not done, if it is one
-abbrev pub CoordinatorGoesOn : ActorMachine → Type 0
-CoordinatorGoesOn x = (c : Coordinating) → x ≡ Leads c → coord.is_busy c.stage ≡ not (coord.is_done_at c.stage)
+abbrev pub CoordinatorGoesOn : HeapActor → Type 0
+CoordinatorGoesOn x = (c : Coordinating) → x ≡ Leads c → HasNext c
 
 -- what a handle keeps of its actor between two calls
-pub record IsKeptByHandle (p : Planned) (a : ℕ) (m : ActorMachine) (own : List (Entry Op)) (procs : ℕ) (left : List ℕ) (over : List Bool) (gone : Bool) : Type 0 where
+pub record IsKeptByHandle (p : Planned) (a : ℕ) (m : HeapActor) (own : List (Entry Op)) (procs : ℕ) (left : List ℕ) (over : List Bool) (gone : Bool) : Type 0 where
   pub counts : CountsSo p own procs left over gone
   pub rests : RestsIfProcessor p a m own
   pub goes_on : CoordinatorGoesOn m
@@ -83,8 +83,8 @@ abbrev pub count_among : List ℕ → (n : ℕ) → ℕ
 count_among xs zero = 0
 count_among xs (suc n) = count_among xs n + (if has xs n then 1 else 0)
 
--- the coordinator's machine: the actor's own, if it is the coordinator, and else the one that was gathered, if one was
-abbrev pub leader_of : ActorMachine → Option Coordinating → Option Coordinating
+-- the coordinator: the actor itself, if it is the coordinator, and else the one that was gathered, if one was
+abbrev pub leader_of : HeapActor → Option Coordinating → Option Coordinating
 leader_of (Leads c) led = Some c
 leader_of _ led = led
 
@@ -99,7 +99,7 @@ first_of None led = led
 first_of (Some c) led = Some c
 
 -- the words of credit that the actor has drawn
-abbrev pub credit_drawn : ActorMachine → ℕ
+abbrev pub credit_drawn : HeapActor → ℕ
 credit_drawn x = spent_at (machine_actor x)
 
 -- what actor c has drawn by these entries, where it is among the actors xs and is not a
@@ -107,7 +107,7 @@ abbrev pub drawn_beside : Planned → (a : ℕ) → (xs : List ℕ) → List (En
 drawn_beside p a xs log c = if has xs c && not (a == c) then spent_at (state_of (setting p).kind c log) else 0
 
 -- What a handle keeps of the actors xs that its seat carries, where these are their entries: it is the handle of actor a, which is the coordinator exactly where it stands last; it has counted them, and what those beside a have drawn; and where the coordinator is carried its machine is there
-pub record CarriesSo (p : Planned) (xs : List ℕ) (log : List (Entry Op)) (a : ℕ) (x : ActorMachine) (carried drawn : ℕ) (led : Option Coordinating) : Type 0 where
+pub record CarriesSo (p : Planned) (xs : List ℕ) (log : List (Entry Op)) (a : ℕ) (x : HeapActor) (carried drawn : ℕ) (led : Option Coordinating) : Type 0 where
   pub known : a < seats_of p.layout
   pub last : is_coordinator x ≡ (a == acks_of p.layout)
   pub counted : carried ≡ count_among xs (seats_of p.layout)

@@ -10,12 +10,12 @@ ghost use Rattle.gh_base.specs.declared.value.Answer.{Answer};
 ghost use Rattle.gh_base.specs.Routines.{EndsWithin};
 ghost use Rattle.gh_shared.specs.Calls.{IsGoing, May, Operated, OperatedWithin};
 ghost use Rattle.gh_shared.specs.Faults.{FaultLeavesAll};
-ghost use Rattle.gh_shared.specs.Handles.{left_of, machine_of, plan_of, room_of, runs_in};
-ghost use Rattle.gh_actor.specs.Machines.{begins, listing};
+ghost use Rattle.gh_shared.specs.Handles.{left_of, plan_of, room_of, runs_in};
+ghost use Rattle.gh_actor.specs.Acting.{begins, listing};
 
 use crate::handle::Handle;
 use crate::heap::Heap;
-use gh_actor::{ActorMachine, AnyActor};
+use gh_actor::AnyActor;
 use gh_base::laws::a_state_is_of_its_own_entries;
 use gh_base::{Answer, Op};
 use gh_mutator::laws::polls_make_room;
@@ -37,13 +37,7 @@ impl Heap {
         faults_change_nothing();
         a_state_is_of_its_own_entries::<AnyActor, Op>();
         let hand = &mut h.hand;
-        match &mut hand.machine {
-            ActorMachine::Runs(processor) => {
-                self.load_at_once(hand.actor, processor, &mut hand.seat, g, d, b, k)
-            }
-            ActorMachine::Marks(_) => unreachable!(),
-            ActorMachine::Leads(_) => unreachable!(),
-        }
+        self.load_at_once(hand.actor, &mut hand.machine, &mut hand.seat, g, d, b, k)
     }
 
     /// Field `k` of the object in `b` takes what register `v` holds. At most 10 steps.
@@ -187,7 +181,7 @@ impl Heap {
     fn operate<'s>(&self, h: &mut Handle<'s>, op: Op, most: u32) -> Answer
         requires may { May self.now h.old op }
         requires some { 0 < most }
-        requires ends { (found : ℕ → ℕ) → EndsWithin listing most (begins (machine_of h.old) op) found }
+        requires ends { (found : ℕ → ℕ) → EndsWithin listing most (begins h.old.hand.machine op) found }
         ensures { OperatedWithin self.now op most h.old h.new result }
     {
         a_state_is_of_its_own_entries::<AnyActor, Op>();

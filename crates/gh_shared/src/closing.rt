@@ -12,7 +12,7 @@ ghost use Rattle.gh_shared.specs.Shown.{credit_drawn, first_of, leader_of};
 
 use crate::handle::Handle;
 use crate::heap::Heap;
-use gh_actor::{ActorMachine, AnyActor};
+use gh_actor::{ActorMachine, AnyActor, HeapActor};
 use gh_base::Op;
 use gh_base::laws::a_state_is_of_its_own_entries;
 use gh_coord::{Coord, Cycle};
@@ -31,10 +31,10 @@ pub struct Closed {
 
 /// The coordinator's machine, if the actor is the coordinator, and else the one that was gathered.
 fn leader_of<'s>(machine: ActorMachine<'s>, led: Option<Coord>) -> Option<Coord>
-    ensures { result ≡ leader_of machine.entry led }
+    ensures { result ≡ leader_of machine.entry.actor led }
 {
-    match machine {
-        ActorMachine::Leads(coordinator) => Some(coordinator),
+    match machine.into_actor() {
+        HeapActor::Leads(coordinator) => Some(coordinator),
         _ => led,
     }
 }
@@ -51,10 +51,10 @@ fn first_of(led: Option<Coord>, other: Option<Coord>) -> Option<Coord>
 
 /// The words of credit that the actor has drawn: none, if it is no processor.
 fn drawn_by<'s>(machine: &ActorMachine<'s>) -> u64
-    ensures { result ≡ credit_drawn machine.now }
+    ensures { result ≡ credit_drawn machine.now.actor }
 {
-    match machine {
-        ActorMachine::Runs(processor) => processor.spent(),
+    match machine.actor() {
+        HeapActor::Runs(processor) => processor.spent(),
         _ => 0,
     }
 }

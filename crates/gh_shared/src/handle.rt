@@ -20,6 +20,6 @@ pub struct Handle<'s> {
     pub drawn: u64,
     /// The coordinator's machine, once the coordinator's handle was gathered.
     pub led: Option<Coord>,
-    pub ghost kept: { IsKeptByHandle hand.seat.me.0.plan hand.actor hand.machine (by hand.actor hand.seat.me.0.log) counts.procs counts.left.items counts.over.items counts.gone },
-    pub ghost carries: { CarriesSo hand.seat.me.0.plan hand.seat.me.0.actors hand.seat.me.0.log hand.actor hand.machine carried drawn led },
+    pub ghost kept: { IsKeptByHandle hand.seat.me.0.plan hand.actor hand.machine.actor (by hand.actor hand.seat.me.0.log) counts.procs counts.left.items counts.over.items counts.gone },
+    pub ghost carries: { CarriesSo hand.seat.me.0.plan hand.seat.me.0.actors hand.seat.me.0.log hand.actor hand.machine.actor carried drawn led },
 }

@@ -8,19 +8,16 @@
 ghost use Rattle.std.specs.Prelude.{◌≡◌, true};
 ghost use Rattle.gh_base.specs.declared.operation.Op.TheVariants as ops;
 ghost use Rattle.gh_base.specs.Lists.{by};
-ghost use Rattle.gh_mutator.specs.Mutating.{Mutating};
 ghost use Rattle.gh_table.specs.Rule.{actor_in};
 ghost use Rattle.gh_table.specs.Views.{Carries};
 ghost use Rattle.gh_world.specs.World.{may_begin_of};
-ghost use Rattle.gh_actor.specs.declared.machine.ActorMachine.TheVariants.{Runs};
 ghost use Rattle.gh_shared.specs.AtOnce.{RanAtOnce};
-ghost use Rattle.gh_actor.specs.Machines.{IsProcessorOf, machine_actor, ProcessorMay};
+ghost use Rattle.gh_actor.specs.Machines.{HasShapes, IsProcessor, machine_actor, MachineMayBegin};
 ghost use Rattle.gh_actor.specs.Plans.{setting};
 
 use crate::heap::Heap;
-use gh_actor::{AnyActor, HeapPlan};
+use gh_actor::{ActorMachine, AnyActor, HeapPlan};
 use gh_base::{Answer, Cell, Fault, Name, Op, Value};
-use gh_mutator::Mutator;
 use gh_mutator::field::{
     birth_cell, bits_cell, field_cell, has_field, is_pointer_by, page_cell, value_of,
 };
@@ -34,7 +31,7 @@ impl Heap {
     pub(crate) fn load_at_once<'s>(
         &self,
         actor: u32,
-        processor: &mut Mutator<'s>,
+        machine: &mut ActorMachine<'s>,
         seat: &mut ActorSeat<HeapPlan, Op>,
         g: u32,
         d: u32,
@@ -43,24 +40,27 @@ impl Heap {
     ) -> Answer
         requires table { (seat.old.table_id ≡ self.now.table.shared.table_id) × (seat.old.me.0.plan ≡ self.now.table.shared.key) }
         requires carries { Carries seat.old.me.0 actor }
-        requires belongs { IsProcessorOf seat.old.me.0.plan processor.old }
-        requires state { machine_actor (Runs processor.old) ≡ actor_in setting seat.old.me.0 actor }
-        requires may { ProcessorMay processor.old (ops.Load g d b k) }
+        requires processor { IsProcessor machine.old.actor }
+        requires laid { machine.old.layout ≡ seat.old.me.0.plan.layout }
+        requires shapes { HasShapes seat.old.me.0.plan machine.old.actor }
+        requires state { machine_actor machine.old.actor ≡ actor_in setting seat.old.me.0 actor }
+        requires may { MachineMayBegin machine.old.layout machine.old.actor (ops.Load g d b k) }
         requires allowed { may_begin_of seat.old.me.0.plan.script seat.old.me.0.plan.layout actor (by actor seat.old.me.0.log) (ops.Load g d b k) ≡ true }
         ensures same { seat.new.table_id ≡ seat.old.table_id }
-        ensures ran { RanAtOnce actor (ops.Load g d b k) 4 processor.old seat.old.me processor.new seat.new.me result }
+        ensures laid { machine.new.layout ≡ machine.old.layout }
+        ensures ran { RanAtOnce machine.old.layout actor (ops.Load g d b k) 4 machine.old.actor seat.old.me machine.new.actor seat.new.me result }
     {
         let (words, layout) = (&self.table.shared, &self.layout);
         let begun = Some(Op::Load { g, d, b, k });
-        let Some(at) = processor.object(g, b) else {
+        let Some(at) = machine.object(g, b) else {
             load_cell::<AnyActor, Op, HeapPlan>(words, layout, seat, actor, &begun, Cell::Touch);
-            processor.refused();
+            machine.refused();
             return Answer::Fault(Fault::NilBase);
         };
         let page_at = page_cell(layout, at);
         let page = load_cell::<AnyActor, Op, HeapPlan>(words, layout, seat, actor, &begun, page_at);
         if !has_field(k, page) {
-            processor.refused();
+            machine.refused();
             return Answer::Fault(Fault::Field);
         }
         let bits_at = bits_cell(layout, at + k);
@@ -69,7 +69,7 @@ impl Heap {
         let field_at = field_cell(layout, at + k);
         let word = load_cell::<AnyActor, Op, HeapPlan>(words, layout, seat, actor, &None, field_at);
         let value = value_of(layout.pages, pointer, word);
-        processor.loaded(g, d, value);
+        machine.loaded(g, d, value);
         match value {
             Value::Nil => Answer::Nil,
             Value::Int(number) => Answer::Int(number),

@@ -1,6 +1,6 @@
 //! How a heap opens, with a handle for each actor.
 
-ghost use Rattle.std.specs.Prelude.{◌≡◌, ◌<◌, List, [], length, slice_get, IfOk, Some};
+ghost use Rattle.std.specs.Prelude.{◌≡◌, ◌<◌, [], IfOk};
 ghost use Rattle.gh_base.specs.Cells.{seats_of};
 ghost use Rattle.gh_table.specs.Views.{all_carried, one_carried};
 ghost use Rattle.gh_world.specs.World.{LaysOut, pacing_of};
@@ -11,7 +11,7 @@ ghost use Rattle.gh_actor.specs.Plans.{setting};
 use crate::fault::OpenFault;
 use crate::handle::Handle;
 use crate::heap::Heap;
-use gh_actor::{ActorMachine, Counts, HeapPlan};
+use gh_actor::{ActorMachine, Counts, HeapActor, HeapPlan};
 use gh_base::{Layout, Op};
 use gh_coord::Coord;
 use gh_mutator::Mutator;
@@ -50,15 +50,16 @@ fn machine_at<'s>(
 ) -> Result<ActorMachine<'s>, AllocError>
     requires script { script.now ≡ plan.now.script }
     requires actor { actor < seats_of plan.now.layout }
-    ensures { IfOk result (λ m. m ≡ opening plan.now actor) }
+    ensures { IfOk result (λ m. m ≡ record { layout = plan.now.layout; actor = opening plan.now actor }) }
 {
     script.is_well_formed();
     let layout = &plan.layout;
     if actor < layout.procs {
-        return Ok(ActorMachine::Runs(Mutator::new(layout, actor, script.shapes())));
+        let processor = Mutator::new(actor, script.shapes());
+        return Ok(ActorMachine::new(layout, HeapActor::Runs(processor)));
     }
     if actor < layout.procs + layout.workers {
-        return Ok(ActorMachine::Marks(Worker::new(layout, actor)));
+        return Ok(ActorMachine::new(layout, HeapActor::Marks(Worker::new(actor))));
     }
     let settings = script.settings();
     let cycles = most_cycles(script);
@@ -70,7 +71,7 @@ fn machine_at<'s>(
         settings.minheap,
         cycles,
     )?;
-    Ok(ActorMachine::Leads(coordinator))
+    Ok(ActorMachine::new(layout, HeapActor::Leads(coordinator)))
 }
 
 impl Heap {

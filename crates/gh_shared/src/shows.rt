@@ -7,7 +7,7 @@ ghost use Rattle.gh_actor.specs.Machines.{IsCoordinator, IsProcessor, IsWorker};
 
 use crate::handle::Handle;
 use crate::heap::Heap;
-use gh_actor::ActorMachine;
+use gh_actor::HeapActor;
 
 impl Heap {
     /// How many actors there are: the processors, the workers and the coordinator.
@@ -30,21 +30,21 @@ impl<'s> Handle<'s> {
     pub fn is_processor(&self) -> bool
         ensures { IsTrue result ↔ IsProcessor (machine_of self.now) }
     {
-        matches!(&self.hand.machine, ActorMachine::Runs(_))
+        matches!(self.hand.machine.actor(), HeapActor::Runs(_))
     }
 
     /// The actor is a worker.
     pub fn is_worker(&self) -> bool
         ensures { IsTrue result ↔ IsWorker (machine_of self.now) }
     {
-        matches!(&self.hand.machine, ActorMachine::Marks(_))
+        matches!(self.hand.machine.actor(), HeapActor::Marks(_))
     }
 
     /// The actor is the coordinator.
     pub fn is_coordinator(&self) -> bool
         ensures { IsTrue result ↔ IsCoordinator (machine_of self.now) }
     {
-        matches!(&self.hand.machine, ActorMachine::Leads(_))
+        matches!(self.hand.machine.actor(), HeapActor::Leads(_))
     }
 
     /// Goroutine `g` is one of this processor, and has not ended.
@@ -83,8 +83,8 @@ impl<'s> Handle<'s> {
     pub fn room(&self) -> u32
         ensures { result ≡ room_of self.now }
     {
-        match &self.hand.machine {
-            ActorMachine::Runs(processor) => processor.room(),
+        match self.hand.machine.actor() {
+            HeapActor::Runs(processor) => processor.room(),
             _ => 0,
         }
     }
@@ -100,10 +100,10 @@ impl<'s> Handle<'s> {
     pub fn ended(&self) -> bool
         ensures { result ≡ ended_of self.now }
     {
-        match &self.hand.machine {
-            ActorMachine::Runs(_) => self.counts.gone,
-            ActorMachine::Marks(worker) => worker.is_done(),
-            ActorMachine::Leads(coordinator) => coordinator.is_done(),
+        match self.hand.machine.actor() {
+            HeapActor::Runs(_) => self.counts.gone,
+            HeapActor::Marks(worker) => worker.is_done(),
+            HeapActor::Leads(coordinator) => coordinator.is_done(),
         }
     }
 }

@@ -69,7 +69,7 @@ module _ (g : ℕ) where
     NoOther es = (b : ℕ) → b ≢ a → mine (order_at shapes l b es) ≡ []
 
     abbrev acts_here : List (Entry Op) → Entry Op → List Answered
-    acts_here es e = option_to_list (answered shapes l (ever_of shapes l es) (acts (before_step shapes l es e) e.found))
+    acts_here es e = option_to_list (answered shapes l (ever_of shapes l es) (acts l (before_step shapes l es e) e.found))
 
     -- so what all do of it is what this one does
     one_does : (es : List (Entry Op)) → NoOther es → mine (order_of shapes l es) ≡ mine (order_at shapes l a es)
@@ -140,7 +140,7 @@ after_more shapes e (x ∷ xs) y = after_more shapes (ever_after shapes e x.op x
 -- it is what the operations leave that acted, answered as they were
 left_so : (shapes : List Shape) (l : Layout) (es : List (Entry Op)) → ever_of shapes l es ≡ ever_after_all shapes opening_ever (ops_of (acted_in shapes l es)) (answers_of (acted_in shapes l es))
 left_so shapes l [] = refl
-left_so shapes l (e ∷ es) = go (acts (before_step shapes l es e) e.found) (left_so shapes l es) where
+left_so shapes l (e ∷ es) = go (acts l (before_step shapes l es e) e.found) (left_so shapes l es) where
   go : (x : Option Act) → ever_of shapes l es ≡ ever_after_all shapes opening_ever (ops_of (acted_in shapes l es)) (answers_of (acted_in shapes l es)) → acted shapes (ever_of shapes l es) x
       ≡ ever_after_all shapes opening_ever (ops_of (reverse (option_to_list (answered shapes l (ever_of shapes l es) x) ++ order_of shapes l es))) (answers_of (reverse (option_to_list (answered shapes l (ever_of shapes l es) x) ++ order_of shapes l es)))
   go None before = before

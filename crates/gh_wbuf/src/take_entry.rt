@@ -1,13 +1,13 @@
 //! The routine that takes an entry.
 
-ghost use Rattle.std.specs.Prelude.{◌≡◌, ◌*◌, ◌<◌, ◌≤◌, Option, true};
+ghost use Rattle.std.specs.Prelude.{◌≡◌, ◌*◌, ◌<◌, ◌≤◌, IfSome, IsTrue, Option, false, true};
 ghost use Rattle.gh_base.specs.declared.layout.Layout.{Layout};
-ghost use Rattle.gh_base.specs.Cells.{buffers_of};
+ghost use Rattle.gh_base.specs.Cells.{InRange, buffers_of};
 ghost use Rattle.gh_base.specs.Holding.{IsHeld};
-ghost use Rattle.gh_wbuf.specs.EntryTaking.{begin, behind, entry_of, given, held_at, is_busy, less, opening, try_at};
+ghost use Rattle.gh_wbuf.specs.EntryTaking.{asks, begin, behind, entry_of, given, goes, held_at, is_busy, less, opening, try_at};
 ghost use Rattle.gh_wbuf.specs.Sound.{SoundEntryTaking};
 
-use crate::try_buffer::{TryBuffer, Wish};
+use crate::try_buffer::{TryBuffer, TryStage, Wish};
 use gh_base::{Ask, Cell, Held, Layout, Req, Routine};
 
 /// The stages of the routine that takes an entry.
@@ -88,6 +88,48 @@ impl TakeEntry {
             TakeStage::Try(tried) => tried.held,
             TakeStage::Take(held) => Some(*held),
             TakeStage::Ended { held, .. } => *held,
+        }
+    }
+
+    /// The cell that its next step loads, where it looks at a buffer.
+    #[inline(always)]
+    pub fn looks(&self) -> Option<Cell>
+        ensures asks { IfSome result (λ c. asks self.now ≡ Ask.Load c) }
+        ensures busy { IfSome result (λ c. given self.now ≡ Option.None) }
+        ensures within { (l : Layout) → SoundEntryTaking l self.now → IfSome result (λ c. InRange l c) }
+    {
+        match &self.stage {
+            TakeStage::Try(tried) => match tried.stage {
+                TryStage::Look => Some(Cell::Buffer(tried.index)),
+                _ => None,
+            },
+            _ => None,
+        }
+    }
+
+    /// Goes on to the next buffer, where by the word found this one does not serve, and answers whether it did. A worker that
+    /// finds no entry looks at each buffer so, and such a step changes one number; where it did not, nothing has changed, and
+    /// [`take`](Routine::take) makes the step.
+    #[inline(always)]
+    pub fn goes_on(&mut self, layout: &Layout, found: u64) -> bool
+        requires sound { SoundEntryTaking layout.now self.old }
+        ensures goes { IsTrue result → self.new ≡ goes layout.now self.old found }
+        ensures busy { IsTrue result → given self.new ≡ Option.None }
+        ensures sound { SoundEntryTaking layout.now self.new }
+        ensures stays { result ≡ false → self.new ≡ self.old }
+    {
+        match &mut self.stage {
+            TakeStage::Try(tried) => match tried.stage {
+                TryStage::Look => {
+                    if tried.index + 1 >= layout.buffers() || Wish::Entry.is_met_by(found) {
+                        return false;
+                    }
+                    tried.index += 1;
+                    true
+                }
+                _ => false,
+            },
+            _ => false,
         }
     }
 

@@ -65,7 +65,7 @@ pub(crate) fn give_back(held: Held) -> Ask
 
 impl Wish {
     /// By its word nobody holds the buffer, and it has what is wished.
-    fn is_met_by(self, found: u64) -> bool
+    pub(crate) fn is_met_by(self, found: u64) -> bool
         ensures { result ≡ is_open self found }
     {
         let word = BufferWord::unpack(found);

@@ -27,14 +27,14 @@ IsEarning (EarningAtStop e stops) = Unit {0}
 IsEarning _ = ⊥
 
 -- What holds of the counts as they are, of those with so many words more, and where it hands over also of those behind that, holds of them behind each step.
-module _ (w : Working) (P : (d marks scan_work earned : ℕ) → Type 0) (same : P 0 w.marks w.scan_work w.earned) (more : (d : ℕ) → P d (counted w.marks d) (counted w.scan_work d) w.earned) where
+module _ (l : Layout) (w : Working) (P : (d marks scan_work earned : ℕ) → Type 0) (same : P 0 w.marks w.scan_work w.earned) (more : (d : ℕ) → P d (counted w.marks d) (counted w.scan_work d) w.earned) where
   abbrev Counts : (d : ℕ) → Working → Type 0
   Counts d to = P d to.marks to.scan_work to.earned
 
-  page_so : (word : PageWord) → Counts 0 (after_page w word)
+  page_so : (word : PageWord) → Counts 0 (after_page l w word)
   page_so word = grind arith
 
-  sweep_so : (sw : sweep.Sweeping) (out : Option SweepEnd) → Counts 0 (after_sweep w sw out)
+  sweep_so : (sw : sweep.Sweeping) (out : Option SweepEnd) → Counts 0 (after_sweep l w sw out)
   sweep_so sw out = grind arith
 
   give_so : (g : give.BufferGiving) (stops : ℕ) (out : Option (Unit {0})) → Counts 0 (after_give w g stops out)
@@ -58,18 +58,18 @@ module _ (w : Working) (P : (d marks scan_work earned : ℕ) → Type 0) (same :
   room_so : (sh : shade.Shading) (r : room.RoomFinding) (out : Option Held) → Counts 0 (after_room w sh r out)
   room_so sh r out = grind arith
 
-  pub step_so : (stage : WorkerStage) (found : ℕ) → (IsEarning stage → P 0 w.marks 0 (counted w.earned w.scan_work)) → Counts (words_done w.layout stage found) (goes_at w stage found)
+  pub step_so : (stage : WorkerStage) (found : ℕ) → (IsEarning stage → P 0 w.marks 0 (counted w.earned w.scan_work)) → Counts (words_done l stage found) (goes_at l w stage found)
   step_so LoadPage found handed = page_so (page_of found)
   step_so (Sweeping sw) found handed = sweep_so (sweep.goes sw found) (sweep.gives sw found)
   step_so (EarningAtStop e stops) found handed = handed tt
   step_so (GiveBack g stops) found handed = give_so (give.goes g found) stops (give.gives g found)
   step_so (Resuming r) found handed = resume_so (resume.goes r found) (resume.gives r found)
-  step_so (Taking t) found handed = take_so (take.goes w.layout t found) (take.gives w.layout t found)
-  step_so (Scanning sc) found handed = scan_so (scan.goes w.layout sc found) (scan.gives w.layout sc found)
+  step_so (Taking t) found handed = take_so (take.goes l t found) (take.gives l t found)
+  step_so (Scanning sc) found handed = scan_so (scan.goes l sc found) (scan.gives l sc found)
   step_so (Earning e) found handed = handed tt
   step_so (LoadGlobal i) found handed = global_so _ (eqb found 0)
   step_so (Shading sh) found handed = shade_so (shade.goes sh found) (shade.gives sh found)
-  step_so (FindRoom sh r) found handed = room_so sh (room.goes w.layout r found) (room.gives w.layout r found)
+  step_so (FindRoom sh r) found handed = room_so sh (room.goes l r found) (room.gives l r found)
   step_so _ found handed = same
 
 -- the count of so many words
@@ -89,7 +89,7 @@ module _ (l : Layout) (seat : ℕ) (found : ℕ → ℕ) where
       let w : Working = after l seat found n in
       let s : ℕ = scanned l seat found n in
       let same : w.marks ≡ count (s + 0) = none_more w.marks s (counts_so n) in
-      step_so w (λ d marks scan_work earned. marks ≡ count (s + d)) same (λ d. more_so w.marks s d (counts_so n)) w.stage (found n) (λ e. same)
+      step_so l w (λ d marks scan_work earned. marks ≡ count (s + d)) same (λ d. more_so w.marks s d (counts_so n)) w.stage (found n) (λ e. same)
 
   pub counts : CountsWords l seat found
   counts = record { counts = counts_so }

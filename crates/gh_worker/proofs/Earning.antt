@@ -20,28 +20,28 @@ sweep_none l sw p = grind arith
 hands_over : (e : earn.Earning) (p : EarnStage) → earn.is_busy p ≡ true → handed_by (earn.asks_at e p) ≡ e.words
 hands_over e p b = grind arith
 
-module _ (w : Working) (found : ℕ) where
+module _ (l : Layout) (w : Working) (found : ℕ) where
   -- the counts are within their type behind the step
   abbrev IsWithin : WorkerStage → Type 0
-  IsWithin p = w.earned + w.scan_work + words_done w.layout p found < 2 ^ 64
+  IsWithin p = w.earned + w.scan_work + words_done l p found < 2 ^ 64
 
-  keeps_at : (p : WorkerStage) → IsWithin p → (goes_at w p found).earned + (goes_at w p found).scan_work ≡ w.earned + w.scan_work + words_done w.layout p found
-  keeps_at p = step_so w (λ d marks scan_work earned. w.earned + w.scan_work + d < 2 ^ 64 → earned + scan_work ≡ w.earned + w.scan_work + d) (λ b. omega arith) (λ d b. omega (arith, b)) p found (λ e b. omega (arith, b))
+  keeps_at : (p : WorkerStage) → IsWithin p → (goes_at l w p found).earned + (goes_at l w p found).scan_work ≡ w.earned + w.scan_work + words_done l p found
+  keeps_at p = step_so l w (λ d marks scan_work earned. w.earned + w.scan_work + d < 2 ^ 64 → earned + scan_work ≡ w.earned + w.scan_work + d) (λ b. omega arith) (λ d b. omega (arith, b)) p found (λ e b. omega (arith, b))
 
-  plain : (p : WorkerStage) → (IsEarning p → ⊥) → handed_by (asks_at w p) ≡ 0 → (goes_at w p found).earned ≡ w.earned + handed_by (asks_at w p)
+  plain : (p : WorkerStage) → (IsEarning p → ⊥) → handed_by (asks_at l w p) ≡ 0 → (goes_at l w p found).earned ≡ w.earned + handed_by (asks_at l w p)
   plain p other none =
-      let stays : (goes_at w p found).earned ≡ w.earned = step_so w (λ d marks scan_work earned. earned ≡ w.earned) refl (λ d. refl) p found (λ e. absurd (other e)) in
+      let stays : (goes_at l w p found).earned ≡ w.earned = step_so l w (λ d marks scan_work earned. earned ≡ w.earned) refl (λ d. refl) p found (λ e. absurd (other e)) in
       omega (arith, stays, none)
 
-  counts_at : (p : WorkerStage) → SoundAt w p → is_busy p ≡ true → IsWithin p → (goes_at w p found).earned ≡ w.earned + handed_by (asks_at w p)
+  counts_at : (p : WorkerStage) → SoundAt w p → is_busy p ≡ true → IsWithin p → (goes_at l w p found).earned ≡ w.earned + handed_by (asks_at l w p)
   counts_at p s b lt = grind (arith, hands_over, plain, plain_none, sweep_none)
 
-adds_at : (w : Working) (p : WorkerStage) → SoundAt w p → is_busy p ≡ true → LeavesOrAdds (asks_at w p)
-adds_at w p s b = grind arith
+adds_at : (l : Layout) (w : Working) (p : WorkerStage) → SoundAt w p → is_busy p ≡ true → LeavesOrAdds (asks_at l w p)
+adds_at l w p s b = grind arith
 
 pub earns : WorkersEarn
 earns = record {
-  at_first = λ l seat. (refl, refl);
-  earns = λ w found s b lt. record { counts = counts_at w found w.stage s b lt; keeps = keeps_at w found w.stage lt };
-  adds = λ w s b. adds_at w w.stage s b;
+  at_first = λ seat. (refl, refl);
+  earns = λ l w found s b lt. record { counts = counts_at l w found w.stage s b lt; keeps = keeps_at l w found w.stage lt };
+  adds = λ l w s b. adds_at l w w.stage s b;
 }

@@ -20,17 +20,17 @@ use Rattle.gh_worker.proofs.Vocabulary.{after_give, after_page, after_resume, af
 none_claimed : (l : Layout) (f : Footprint) (step : Ask) (found : ℕ) → Writes f step → f row.Gcur ≡ false → claimed_by l step found ≡ 0
 none_claimed l f step found writes other = grind arith
 
-module _ (w : Working) where
+module _ (l : Layout) (w : Working) where
   abbrev Left : Working → ℕ
   Left to = global_held to.stage
 
   by_phase_so : (stops : ℕ) (phase : Phase) → global_held (by_phase w stops phase) ≡ 0
   by_phase_so stops phase = grind arith
 
-  page_so : (word : PageWord) → Left (after_page w word) ≡ 0
+  page_so : (word : PageWord) → Left (after_page l w word) ≡ 0
   page_so word = grind arith
 
-  sweep_so : (sw : sweep.Sweeping) (out : Option SweepEnd) → Left (after_sweep w sw out) ≡ 0
+  sweep_so : (sw : sweep.Sweeping) (out : Option SweepEnd) → Left (after_sweep l w sw out) ≡ 0
   sweep_so sw out = grind arith
 
   back_so : (stops : ℕ) (held : Option Held) → global_held (gives_back w stops held) ≡ 0
@@ -68,21 +68,21 @@ module _ (w : Working) where
   none n c is other = omega (arith, is, other)
 
   module _ (k : Known) (found : ℕ) where
-    holds_at : (p : WorkerStage) → Left (goes_at w p found) + global_done p found ≡ global_held p + claimed_by w.layout (asks_at w p) found
+    holds_at : (p : WorkerStage) → Left (goes_at l w p found) + global_done p found ≡ global_held p + claimed_by l (asks_at l w p) found
     holds_at LoadPhase = none _ _ (by_phase_so (phase_of found).stops (phase_of found).phase) refl
     holds_at LoadPage = none _ _ (page_so (page_of found)) refl
-    holds_at (Sweeping sw) = none _ _ (sweep_so (sweep.goes sw found) (sweep.gives sw found)) (none_claimed w.layout sweep.writes _ found ((k.sweep w.layout).writes sw) refl)
-    holds_at (EarningAtStop e stops) = none _ _ (back_so stops w.held) (none_claimed w.layout earn.writes _ found ((k.earn w.layout).writes e) refl)
-    holds_at (GiveBack g stops) = none _ _ (give_so (give.goes g found) stops (give.gives g found)) (none_claimed w.layout (give.listing w.layout).writes _ found ((k.give w.layout).writes g) refl)
-    holds_at (Resuming r) = none _ _ (resume_so (resume.goes r found) (resume.gives r found)) (none_claimed w.layout resume.writes _ found ((k.resume w.layout).writes r) refl)
-    holds_at (Taking t) = none _ _ (take_so (take.goes w.layout t found) (take.gives w.layout t found)) (none_claimed w.layout (take.listing w.layout).writes _ found ((k.take w.layout).writes t) refl)
-    holds_at (Scanning s) = none _ _ (scan_so (scan.goes w.layout s found) (scan.gives w.layout s found)) (none_claimed w.layout scan.writes _ found ((k.scan w.layout).writes s) refl)
-    holds_at (Earning e) = none _ _ refl (none_claimed w.layout earn.writes _ found ((k.earn w.layout).writes e) refl)
-    holds_at LoadCursor = none _ _ (cursor_so (ltb found w.layout.globals)) refl
-    holds_at Claim = let is = claim_so found (ltb found w.layout.globals) in omega (arith, is)
-    holds_at (LoadGlobal i) = let is = global_so (shade.opening (reference_in w.layout found) w.held) (found == 0) in omega (arith, is)
-    holds_at (Shading sh) = let is = shade_so (shade.goes sh found) (shade.gives sh found) in let other = none_claimed w.layout shade.writes _ found ((k.shade w.layout).writes sh) refl in omega (arith, is, other)
-    holds_at (FindRoom sh r) = let is = room_so sh (room.goes w.layout r found) (room.gives w.layout r found) in let other = none_claimed w.layout (room.listing w.layout).writes _ found ((k.room w.layout).writes r) refl in omega (arith, is, other)
+    holds_at (Sweeping sw) = none _ _ (sweep_so (sweep.goes sw found) (sweep.gives sw found)) (none_claimed l sweep.writes _ found ((k.sweep l).writes sw) refl)
+    holds_at (EarningAtStop e stops) = none _ _ (back_so stops w.held) (none_claimed l earn.writes _ found ((k.earn l).writes e) refl)
+    holds_at (GiveBack g stops) = none _ _ (give_so (give.goes g found) stops (give.gives g found)) (none_claimed l (give.listing l).writes _ found ((k.give l).writes g) refl)
+    holds_at (Resuming r) = none _ _ (resume_so (resume.goes r found) (resume.gives r found)) (none_claimed l resume.writes _ found ((k.resume l).writes r) refl)
+    holds_at (Taking t) = none _ _ (take_so (take.goes l t found) (take.gives l t found)) (none_claimed l (take.listing l).writes _ found ((k.take l).writes t) refl)
+    holds_at (Scanning s) = none _ _ (scan_so (scan.goes l s found) (scan.gives l s found)) (none_claimed l scan.writes _ found ((k.scan l).writes s) refl)
+    holds_at (Earning e) = none _ _ refl (none_claimed l earn.writes _ found ((k.earn l).writes e) refl)
+    holds_at LoadCursor = none _ _ (cursor_so (ltb found l.globals)) refl
+    holds_at Claim = let is = claim_so found (ltb found l.globals) in omega (arith, is)
+    holds_at (LoadGlobal i) = let is = global_so (shade.opening (reference_in l found) w.held) (found == 0) in omega (arith, is)
+    holds_at (Shading sh) = let is = shade_so (shade.goes sh found) (shade.gives sh found) in let other = none_claimed l shade.writes _ found ((k.shade l).writes sh) refl in omega (arith, is, other)
+    holds_at (FindRoom sh r) = let is = room_so sh (room.goes l r found) (room.gives l r found) in let other = none_claimed l (room.listing l).writes _ found ((k.room l).writes r) refl in omega (arith, is, other)
     holds_at Leave = refl
     holds_at Done = refl
 
@@ -97,8 +97,8 @@ rests_at l p found rests = grind arith
 
 pub count_globals : Known → WorkersCountGlobals
 count_globals k = record {
-  parts = λ w found. parts_at w.layout w.stage found;
-  holds = λ w found. holds_at w k found w.stage;
-  marks = λ w found. marks_at w.layout w.stage found;
-  rests = λ w found calm. rests_at w.layout w.stage found calm.rests;
+  parts = λ l w found. parts_at l w.stage found;
+  holds = λ l w found. holds_at l w k found w.stage;
+  marks = λ l w found. marks_at l w.stage found;
+  rests = λ l w found calm. rests_at l w.stage found calm.rests;
 }

@@ -1,5 +1,5 @@
 -- While marking is on a worker shades the global that it has read; with its mark the global is scanned. And all of a worker's steps together.
-use Rattle.std.proofs.Common.{◌≡◌, ℕ, ◌≤◌, Bool, true, false, cond, Option, Some, None, inl, inr, refl, sym, ap, subst, arith, ◌<◌, ◌∙◌}
+use Rattle.std.proofs.Common.{◌≡◌, ℕ, ◌≤◌, Bool, true, false, cond, Option, Some, None, inl, inr, refl, sym, subst, arith, ◌<◌, ◌∙◌}
 use Rattle.gh_base.specs.declared.cell.Cell.TheVariants as cell
 use Rattle.gh_base.specs.Rows.{mark_words}
 use Rattle.gh_marks.specs.Seats.{Claim}
@@ -12,7 +12,7 @@ use Rattle.gh_shade.specs.Listing as shade
 use Rattle.gh_wbuf.specs.Facts as buffer_facts
 use Rattle.gh_wbuf.specs.RoomFinding as room
 use Rattle.gh_worker.specs.declared.worker.WorkerStage.TheVariants as worker
-use Rattle.gh_worker.proofs.Vocabulary.{after_room, after_shade, asks, asks_at, at_stage, cell_of, claim_at, ClaimOf, Cycle, effect, Facts, goes, goes_at, Good, Hands, HasInHand, Held, held_at, in_hand, InHand, IsClean, IsMarked, Keeps, KnowsObjects, landing, landing_on, Lands, lands_by, lands_still, Layout, NoClaim, nothing, Others, Quiet, ReadOf, ScanGlobal, ScanStage, seats_of, Shaded, ShadeStage, Shared, StageFacts, Steps, sweep_at, WorkerStage, Working, WorksByMoves}
+use Rattle.gh_worker.proofs.Vocabulary.{after_room, after_shade, asks_at, at_stage, cell_of, claim_at, ClaimOf, Cycle, effect, Facts, goes_at, Good, Hands, HasInHand, Held, held_at, in_hand, InHand, IsClean, IsMarked, Keeps, KnowsObjects, landing, landing_on, Lands, lands_by, lands_still, Layout, NoClaim, nothing, Others, Quiet, ReadOf, ScanGlobal, ScanStage, seats_of, Shaded, ShadeStage, Shared, StageFacts, Steps, sweep_at, WorkerStage, Working, WorksByMoves}
 use Rattle.gh_worker.proofs.MarkSteps.{Known, claims, earns, earns-at-stop, gives, load-cursor, load-page, load-phase, read-global, resumed, resumes, scans, still, takes}
 
 -- what shading leaves to be known at its next stage, with the global that the worker has then
@@ -30,10 +30,9 @@ scans-global k z a i t n good f marked = lands_by z a t t.words (λ u. Shading z
             let is : shade.object_of n.reference ≡ o = omega (arith, f.some, e, p) in
             subst (λ (x : ℕ). IsMarked (mark_words t.words) x) is marked
 
-module _ (k : Known) (z : Cycle) (a : ℕ) (s : Shared) (g : Good z s) (objects : KnowsObjects z s) (own : Working) (seat_is : own.seat ≡ a) (seat_in : a < seats_of z.arena.layout) where
-  -- the worker, in this heap
-  abbrev w : Working
-  w = record own { layout = z.arena.layout }
+module _ (k : Known) (z : Cycle) (a : ℕ) (s : Shared) (g : Good z s) (objects : KnowsObjects z s) (w : Working) (seat_is : w.seat ≡ a) (seat_in : a < seats_of z.arena.layout) where
+  abbrev l : Layout
+  l = z.arena.layout
 
   -- behind the mark the global is scanned, at whichever stage that leads to
   behind-mark : (i : ℕ) (t : Shared) (m : shade.Shading) (whole : Bool) → Good z t → Shading z a t (ReadOf i m.reference) (shade.at_stage m (shade.follows_mark m.held whole)) →
@@ -61,7 +60,7 @@ module _ (k : Known) (z : Cycle) (a : ℕ) (s : Shared) (g : Good z s) (objects 
     shaded-then : (i : ℕ) (out : Option Shaded) → shade.gives sh n ≡ out → Shading z a t (claim_at i (shade.goes sh n).reference (shade.goes sh n).stage) (shade.goes sh n) → Facts z a t (after_shade w (shade.goes sh n) out)
     shaded-then i out e f = grind arith
 
-  shades : (sh : shade.Shading) (i : ℕ) → Shading z a s (claim_at i sh.reference sh.stage) sh → Steps z a s (shade.asks sh) (λ t. Facts z a t (goes_at w (worker.Shading sh) (s.words (cell_of (shade.asks sh)))))
+  shades : (sh : shade.Shading) (i : ℕ) → Shading z a s (claim_at i sh.reference sh.stage) sh → Steps z a s (shade.asks sh) (λ t. Facts z a t (goes_at l w (worker.Shading sh) (s.words (cell_of (shade.asks sh)))))
   shades sh i f =
       let n : ℕ = s.words (cell_of (shade.asks sh)) in
       landing z a s (effect s.words (shade.asks sh)) (λ u. Shading z a u (claim_at i (shade.goes sh n).reference (shade.goes sh n).stage) (shade.goes sh n)) (λ u. Facts z a u (after_shade w (shade.goes sh n) (shade.gives sh n)))
@@ -75,36 +74,36 @@ module _ (k : Known) (z : Cycle) (a : ℕ) (s : Shared) (g : Good z s) (objects 
       Facts z a t (after_room w sh (room.goes z.arena.layout r n) out)
   found-then t sh r n out e some marked was f = grind arith
 
-  finds : (sh : shade.Shading) (r : room.RoomFinding) → 1 ≤ sh.reference → IsMarked (mark_words s.words) (shade.object_of sh.reference) → buffer_facts.RoomFacts z a s (pending sh.reference) r → Steps z a s (room.asks r) (λ t. Facts z a t (goes_at w (worker.FindRoom sh r) (s.words (cell_of (room.asks r)))))
+  finds : (sh : shade.Shading) (r : room.RoomFinding) → 1 ≤ sh.reference → IsMarked (mark_words s.words) (shade.object_of sh.reference) → buffer_facts.RoomFacts z a s (pending sh.reference) r → Steps z a s (room.asks r) (λ t. Facts z a t (goes_at l w (worker.FindRoom sh r) (s.words (cell_of (room.asks r)))))
   finds sh r some marked f =
       let n : ℕ = s.words (cell_of (room.asks r)) in
       landing z a s (effect s.words (room.asks r)) (λ t. Keeps z a s t × buffer_facts.RoomFacts z a t (pending sh.reference) (room.goes z.arena.layout r n)) (λ t. Facts z a t (after_room w sh (room.goes z.arena.layout r n) (room.gives z.arena.layout r n)))
       (λ t v h. found-then t sh r n (room.gives z.arena.layout r n) refl some (h.0.marks (shade.object_of sh.reference) marked) f h.1)
       (k.buffers.finds.own_step z a s (pending sh.reference) r g objects f)
 
-  leaves : Hands a s (in_hand w.held NoClaim) → Steps z a s (asks_at w worker.Leave) (λ t. Facts z a t (goes_at w worker.Leave (s.words (cell_of (asks_at w worker.Leave)))))
-  leaves x = lands_by z a s (effect s.words (asks_at w worker.Leave)) (λ t. Facts z a t (at_stage w worker.Done)) (Quiet (asks_at w worker.Leave)) tt refl
-      (record { layout_is = refl; seat_is = seat_is; seat_in = seat_in; stage_is = (k.follow z a s (in_hand w.held NoClaim) g x).quiet (asks_at w worker.Leave) tt })
+  leaves : Hands a s (in_hand w.held NoClaim) → Steps z a s (asks_at l w worker.Leave) (λ t. Facts z a t (goes_at l w worker.Leave (s.words (cell_of (asks_at l w worker.Leave)))))
+  leaves x = lands_by z a s (effect s.words (asks_at l w worker.Leave)) (λ t. Facts z a t (at_stage w worker.Done)) (Quiet (asks_at l w worker.Leave)) tt refl
+      (record { seat_is = seat_is; seat_in = seat_in; stage_is = (k.follow z a s (in_hand w.held NoClaim) g x).quiet (asks_at l w worker.Leave) tt })
 
-  own-at : (p : WorkerStage) → sweep_at p ≡ None → StageFacts z a s w.held p → Steps z a s (asks_at w p) (λ t. Facts z a t (goes_at w p (s.words (cell_of (asks_at w p)))))
-  own-at worker.LoadPhase e x = load-phase k z a s g objects own seat_is seat_in x
-  own-at worker.LoadPage e x = load-page k z a s g objects own seat_is seat_in x
+  own-at : (p : WorkerStage) → sweep_at p ≡ None → StageFacts z a s w.held p → Steps z a s (asks_at l w p) (λ t. Facts z a t (goes_at l w p (s.words (cell_of (asks_at l w p)))))
+  own-at worker.LoadPhase e x = load-phase k z a s g objects w seat_is seat_in x
+  own-at worker.LoadPage e x = load-page k z a s g objects w seat_is seat_in x
   own-at (worker.Sweeping sw) e x = absurd cc
-  own-at (worker.EarningAtStop m number) e x = earns-at-stop k z a s g objects own seat_is seat_in m number x
-  own-at (worker.GiveBack m number) e x = gives k z a s g objects own seat_is seat_in m number x
+  own-at (worker.EarningAtStop m number) e x = earns-at-stop k z a s g objects w seat_is seat_in m number x
+  own-at (worker.GiveBack m number) e x = gives k z a s g objects w seat_is seat_in m number x
   own-at (worker.Resuming r) e x =
       let n : ℕ = s.words (cell_of (resume.asks r)) in
-      resumes k z a s g objects own seat_is seat_in r r.stage (goes_at w (worker.Resuming r) n) x.0 (λ t h. resumed k z a s g objects own seat_is seat_in (resume.goes r n) (resume.gives r n) t x.1 h)
-  own-at (worker.Taking m) e x = takes k z a s g objects own seat_is seat_in m x
-  own-at (worker.Scanning m) e x = scans k z a s g objects own seat_is seat_in m x
-  own-at (worker.Earning m) e x = earns k z a s g objects own seat_is seat_in m x
-  own-at worker.LoadCursor e x = load-cursor k z a s g objects own seat_is seat_in x
-  own-at worker.Claim e x = claims k z a s g objects own seat_is seat_in x.0 x.1
-  own-at (worker.LoadGlobal i) e x = read-global k z a s g objects own seat_is seat_in i x.1
+      resumes k z a s g objects w seat_is seat_in r r.stage (goes_at l w (worker.Resuming r) n) x.0 (λ t h. resumed k z a s g objects w seat_is seat_in (resume.goes r n) (resume.gives r n) t x.1 h)
+  own-at (worker.Taking m) e x = takes k z a s g objects w seat_is seat_in m x
+  own-at (worker.Scanning m) e x = scans k z a s g objects w seat_is seat_in m x
+  own-at (worker.Earning m) e x = earns k z a s g objects w seat_is seat_in m x
+  own-at worker.LoadCursor e x = load-cursor k z a s g objects w seat_is seat_in x
+  own-at worker.Claim e x = claims k z a s g objects w seat_is seat_in x.0 x.1
+  own-at (worker.LoadGlobal i) e x = read-global k z a s g objects w seat_is seat_in i x.1
   own-at (worker.Shading sh) e x = shades sh x.0 x.1
   own-at (worker.FindRoom sh r) e x = finds sh r x.0 x.1 x.2
   own-at worker.Leave e x = leaves x
-  own-at worker.Done e x = still k z a s g objects own seat_is seat_in cell.Touch (at_stage w worker.Done) (record { layout_is = refl; seat_is = seat_is; seat_in = seat_in; stage_is = x })
+  own-at worker.Done e x = still k z a s g objects w seat_is seat_in cell.Touch (at_stage w worker.Done) (record { seat_is = seat_is; seat_in = seat_in; stage_is = x })
 
 stage-lasts : (k : Known) (z : Cycle) (a : ℕ) (s t : Shared) (held : Option Held) (p : WorkerStage) → Others z a s t → StageFacts z a s held p → StageFacts z a t held p
 stage-lasts k z a s t held (worker.GiveBack m number) o x = k.buffers.gives.lasts z a s t nothing m o x
@@ -134,9 +133,8 @@ module _ (z : Cycle) (a : ℕ) (s : Shared) (held : Option Held) where
 
 pub works-by-moves : Known → WorksByMoves
 works-by-moves k = record {
-  begins = λ z a s seat x. record { layout_is = refl; seat_is = refl; seat_in = seat; stage_is = x };
-  own_step = λ z a s w g objects e f. subst (λ (v : Working). Steps z a s (asks v) (λ t. Facts z a t (goes v (s.words (cell_of (asks v)))))) (ap (λ (l : Layout). record w { layout = l }) (sym f.layout_is))
-      (own-at k z a s g objects w f.seat_is f.seat_in w.stage e f.stage_is);
+  begins = λ z a s seat x. record { seat_is = refl; seat_in = seat; stage_is = x };
+  own_step = λ z a s w g objects e f. own-at k z a s g objects w f.seat_is f.seat_in w.stage e f.stage_is;
   holds = λ z a s w f. hand-at z a s w.held w.stage f.stage_is;
-  lasts = λ z a s t w o f. record { layout_is = f.layout_is; seat_is = f.seat_is; seat_in = f.seat_in; stage_is = stage-lasts k z a s t w.held w.stage o f.stage_is };
+  lasts = λ z a s t w o f. record { seat_is = f.seat_is; seat_in = f.seat_in; stage_is = stage-lasts k z a s t w.held w.stage o f.stage_is };
 }

@@ -10,7 +10,7 @@ use Rattle.gh_sweep.specs.Listing as sweep
 use Rattle.gh_wbuf.specs.BufferGiving as give
 use Rattle.gh_wbuf.specs.EntryTaking as take
 use Rattle.gh_wbuf.specs.RoomFinding as room
-use Rattle.gh_worker.proofs.Vocabulary.{after_give, after_page, after_resume, after_room, after_scan, after_shade, after_sweep, after_take, asks_at, at_stage, by_phase, by_stop, Claim, Done, done_with, Earning, EarningAtStop, FindRoom, FindsMarking, GiveBack, gives_back, goes_at, Held, is_busy, IsLeaving, IsMarking, Leave, Load, LoadCursor, LoadGlobal, LoadPage, LoadPhase, page_of, PageWord, Phase, phase_of, reference_in, Resumed, Resuming, run_phase, Scanning, Shaded, Shading, SweepEnd, Sweeping, Taking, WorkerStage, Working}
+use Rattle.gh_worker.proofs.Vocabulary.{after_give, after_page, after_resume, after_room, after_scan, after_shade, after_sweep, after_take, asks_at, at_stage, by_phase, by_stop, Claim, Done, done_with, Earning, EarningAtStop, FindRoom, FindsMarking, GiveBack, gives_back, goes_at, Held, is_busy, IsLeaving, IsMarking, Layout, Leave, Load, LoadCursor, LoadGlobal, LoadPage, LoadPhase, page_of, PageWord, Phase, phase_of, reference_in, Resumed, Resuming, run_phase, Scanning, Shaded, Shading, SweepEnd, Sweeping, Taking, WorkerStage, Working}
 
 pub data Doing : Type 0 where
   Polls : Doing
@@ -58,7 +58,7 @@ mark_found phase e = grind arith
 last_found : (phase : Phase) → doing_by phase ≡ Leaves → run_phase phase ≡ Some run.Finished
 last_found phase e = grind arith
 
-module _ (found : ℕ) (w : Working) where
+module _ (l : Layout) (found : ℕ) (w : Working) where
   -- it goes on with that, or polls
   abbrev GoesOn : Doing → Working → Type 0
   GoesOn does to = (doing to.stage ≡ does) ⊎ (doing to.stage ≡ Polls)
@@ -74,10 +74,10 @@ module _ (found : ℕ) (w : Working) where
   phase_so stops kind.Stop = by_stop (λ p. doing p ≡ Stops) w stops w.held (λ z. back_so stops w.held) refl
   phase_so stops _ = refl
 
-  page_so : (word : PageWord) → Keeps Looks (after_page w word)
+  page_so : (word : PageWord) → Keeps Looks (after_page l w word)
   page_so word = grind arith
 
-  sweep_so : (sw : sweep.Sweeping) (out : Option SweepEnd) → Keeps Looks (after_sweep w sw out)
+  sweep_so : (sw : sweep.Sweeping) (out : Option SweepEnd) → Keeps Looks (after_sweep l w sw out)
   sweep_so sw out = grind arith
 
   give_so : (g : give.BufferGiving) (stops : ℕ) (out : Option (Unit {0})) → GoesOn Stops (after_give w g stops out)
@@ -98,7 +98,7 @@ module _ (found : ℕ) (w : Working) where
   claim_so : (b : Bool) → Keeps Marks (at_stage w (cond b (LoadGlobal found) LoadPhase))
   claim_so b = grind arith
 
-  global_so : (b : Bool) → Keeps Marks (cond b (done_with w w.held 1) (at_stage w (Shading (shade.opening (reference_in w.layout found) w.held))))
+  global_so : (b : Bool) → Keeps Marks (cond b (done_with w w.held 1) (at_stage w (Shading (shade.opening (reference_in l found) w.held))))
   global_so b = grind arith
 
   shade_so : (sh : shade.Shading) (out : Option Shaded) → Keeps Marks (after_shade w sh out)
@@ -115,21 +115,21 @@ module _ (found : ℕ) (w : Working) where
   Leads Stops to = GoesOn Stops to
   Leads Leaves to = doing to.stage ≡ Leaves
 
-  leads_at : (p : WorkerStage) → Leads (doing p) (goes_at w p found)
+  leads_at : (p : WorkerStage) → Leads (doing p) (goes_at l w p found)
   leads_at LoadPhase = (refl, phase_so (phase_of found).stops (phase_of found).phase)
   leads_at LoadPage = page_so (page_of found)
   leads_at (Sweeping sw) = sweep_so (sweep.goes sw found) (sweep.gives sw found)
   leads_at (EarningAtStop e stops) = inl (back_so stops w.held)
   leads_at (GiveBack g stops) = give_so (give.goes g found) stops (give.gives g found)
   leads_at (Resuming r) = resume_so (resume.goes r found) (resume.gives r found)
-  leads_at (Taking t) = take_so (take.goes w.layout t found) (take.gives w.layout t found)
-  leads_at (Scanning s) = scan_so (scan.goes w.layout s found) (scan.gives w.layout s found)
+  leads_at (Taking t) = take_so (take.goes l t found) (take.gives l t found)
+  leads_at (Scanning s) = scan_so (scan.goes l s found) (scan.gives l s found)
   leads_at (Earning e) = (refl, inr refl)
-  leads_at LoadCursor = cursor_so (ltb found w.layout.globals)
-  leads_at Claim = claim_so (ltb found w.layout.globals)
+  leads_at LoadCursor = cursor_so (ltb found l.globals)
+  leads_at Claim = claim_so (ltb found l.globals)
   leads_at (LoadGlobal i) = global_so (found == 0)
   leads_at (Shading sh) = shade_so (shade.goes sh found) (shade.gives sh found)
-  leads_at (FindRoom sh r) = room_so sh (room.goes w.layout r found) (room.gives w.layout r found)
+  leads_at (FindRoom sh r) = room_so sh (room.goes l r found) (room.gives l r found)
   leads_at Leave = refl
   leads_at Done = refl
 
@@ -138,25 +138,25 @@ module _ (found : ℕ) (w : Working) where
   Came does was = (was ≡ does) ⊎ ((was ≡ Polls) × (doing_by (phase_of found).phase ≡ does))
 
   came : (does was : Doing) (to : Working) → does ≢ Polls → Leads was to → doing to.stage ≡ does → Came does was
-  came does was to other l e = grind arith
+  came does was to other x e = grind arith
 
-  pub came_at : (does : Doing) (p : WorkerStage) → does ≢ Polls → doing (goes_at w p found).stage ≡ does → Came does (doing p)
-  came_at does p other e = came does (doing p) (goes_at w p found) other (leads_at p) e
+  pub came_at : (does : Doing) (p : WorkerStage) → does ≢ Polls → doing (goes_at l w p found).stage ≡ does → Came does (doing p)
+  came_at does p other e = came does (doing p) (goes_at l w p found) other (leads_at p) e
 
   view_so : (does was : Doing) (to : Working) → does ≢ Polls → does ≢ Stops → does ≢ Leaves → Leads was to → doing to.stage ≡ does → to.view ≡ w.view
-  view_so does was to other on stays l e = grind arith
+  view_so does was to other on stays x e = grind arith
 
-  pub view_at : (does : Doing) (p : WorkerStage) → does ≢ Polls → does ≢ Stops → does ≢ Leaves → doing (goes_at w p found).stage ≡ does → (goes_at w p found).view ≡ w.view
-  view_at does p other on stays e = view_so does (doing p) (goes_at w p found) other on stays (leads_at p) e
+  pub view_at : (does : Doing) (p : WorkerStage) → does ≢ Polls → does ≢ Stops → does ≢ Leaves → doing (goes_at l w p found).stage ≡ does → (goes_at l w p found).view ≡ w.view
+  view_at does p other on stays e = view_so does (doing p) (goes_at l w p found) other on stays (leads_at p) e
 
   -- it was about to leave, or found the last phase
-  pub leaves_at : (p : WorkerStage) → is_busy p ≡ true → IsLeaving (goes_at w p found).stage → IsLeaving p ⊎ ((asks_at w p ≡ Load cell.Phase) × (run_phase (phase_of found).phase ≡ Some run.Finished))
+  pub leaves_at : (p : WorkerStage) → is_busy p ≡ true → IsLeaving (goes_at l w p found).stage → IsLeaving p ⊎ ((asks_at l w p ≡ Load cell.Phase) × (run_phase (phase_of found).phase ≡ Some run.Finished))
   leaves_at p busy x = elim (came_at Leaves p (λ e. absurd cc) (is_leaving _ x)) [
     | inl was ↦ inl (leaves_then p was)
-    | inr polled ↦ inr (ap (asks_at w) (polls_then p polled.0), last_found (phase_of found).phase polled.1)
+    | inr polled ↦ inr (ap (asks_at l w) (polls_then p polled.0), last_found (phase_of found).phase polled.1)
   ]
 
-  pub marks_at : (p : WorkerStage) → is_busy p ≡ true → IsMarking (goes_at w p found).stage → FindsMarking found w p (goes_at w p found)
+  pub marks_at : (p : WorkerStage) → is_busy p ≡ true → IsMarking (goes_at l w p found).stage → FindsMarking found w p (goes_at l w p found)
   marks_at p busy x = record {
     view_stays = view_at Marks p (λ e. absurd cc) (λ e. absurd cc) (λ e. absurd cc) (is_marking _ x);
     finds = elim (came_at Marks p (λ e. absurd cc) (is_marking _ x)) [ inl was ↦ inl (marks_then p was) | inr polled ↦ inr (polls_then p polled.0, mark_found (phase_of found).phase polled.1) ];

@@ -25,10 +25,10 @@ abbrev FromAwakeTo : (found : ℕ) → Ask → (w to : Working) → Type 0
 FromAwakeTo found ask w to = Sound to × (party_of to ≡ record { seat = w.seat; view = w.view }) × FromAwake found ask (stage_of to)
 
 -- and from one at this stage
-abbrev Goes : (found : ℕ) → (w : Working) → WorkerStage → (to : Working) → Type 0
-Goes found w stage to = Sound to × StageGoes found (party_at w stage) (stands_at stage) (asks_at w stage) (party_of to) (stage_of to)
+abbrev Goes : Layout → (found : ℕ) → (w : Working) → WorkerStage → (to : Working) → Type 0
+Goes l found w stage to = Sound to × StageGoes found (party_at w stage) (stands_at stage) (asks_at l w stage) (party_of to) (stage_of to)
 
-module _ (found : ℕ) (w : Working) where
+module _ (l : Layout) (found : ℕ) (w : Working) where
   -- by the phase that it found
   backs : (held : Option Held) → w.held ≡ held → w.scan_work ≡ 0 → (phase_of found).phase ≡ Stop → FromAwakeTo found (Load cell.Phase) w (at_stage w (gives_back w (phase_of found).stops held))
   backs held none z e = grind arith
@@ -58,28 +58,28 @@ module _ (found : ℕ) (w : Working) where
   either : (ask : Ask) (b : Bool) (one other : Working) → FromAwakeTo found ask w one → FromAwakeTo found ask w other → FromAwakeTo found ask w (cond b one other)
   either ask b one other f g = grind arith
 
-  pages : (ask : Ask) (word : PageWord) → FromAwakeTo found ask w (after_page w word)
+  pages : (ask : Ask) (word : PageWord) → FromAwakeTo found ask w (after_page l w word)
   pages ask word = grind arith
 
-  sweeps : (ask : Ask) (sw : sweep.Sweeping) (out : Option SweepEnd) → FromAwakeTo found ask w (after_sweep w sw out)
+  sweeps : (ask : Ask) (sw : sweep.Sweeping) (out : Option SweepEnd) → FromAwakeTo found ask w (after_sweep l w sw out)
   sweeps ask sw out = grind arith
 
   at_either : (ask : Ask) (b : Bool) (one other : WorkerStage) → FromAwakeTo found ask w (at_stage w one) → FromAwakeTo found ask w (at_stage w other) → FromAwakeTo found ask w (at_stage w (cond b one other))
   at_either ask b one other f g = grind arith
 
   -- what it has scanned is handed over at a stop
-  earns : (x : earn.Earning) (stops : ℕ) (held : Option Held) → w.held ≡ held → Goes found w (EarningAtStop x stops) (handed_over w (gives_back w stops held))
+  earns : (x : earn.Earning) (stops : ℕ) (held : Option Held) → w.held ≡ held → Goes l found w (EarningAtStop x stops) (handed_over w (gives_back w stops held))
   earns x stops held none = grind arith
 
   -- the buffer is given back
-  gives : (q : MarkingIsQuiet) (g : give.BufferGiving) (stops : ℕ) (out : Option (Unit {0})) → w.scan_work ≡ 0 → Goes found w (GiveBack g stops) (after_give w (give.goes g found) stops out)
+  gives : (q : MarkingIsQuiet) (g : give.BufferGiving) (stops : ℕ) (out : Option (Unit {0})) → w.scan_work ≡ 0 → Goes l found w (GiveBack g stops) (after_give w (give.goes g found) stops out)
   gives q g stops None z = (z, (refl, q.gives g, inl refl))
   gives q g stops (Some u) z = (record { seat_is = refl; busy = refl; none = refl; handed = z }, (refl, q.gives g, inr refl))
 
   -- it goes on after the stop
   module _ (h : ResumesInHandshake) (r : resume.Resuming) (s : GoesOnWithNone w.seat w.held w.scan_work r) where
-    goes_on : (out : Option Resumed) → resume.gives r found ≡ out → Goes found w (Resuming r) (after_resume w (resume.goes r found) out)
-    goes_on out e = let keeps = h.keeps w.layout in grind arith
+    goes_on : (out : Option Resumed) → resume.gives r found ≡ out → Goes l found w (Resuming r) (after_resume w (resume.goes r found) out)
+    goes_on out e = let keeps = h.keeps l in grind arith
 
 -- a sweep writes no word of the handshake
 sweep_quiet : (l : Layout) (sw : sweep.Sweeping) (p : SweepStage) → IsQuietInHandshake (sweep.asks_at l sw p)
@@ -89,30 +89,30 @@ awakes : (found : ℕ) (w to : Working) (ask : Ask) → IsQuietInHandshake ask �
 awakes found w to ask q f = (f.0, (f.1, q, f.2))
 
 module _ (q : MarkingIsQuiet) (h : ResumesInHandshake) where
-  goes : (found : ℕ) (w : Working) (stage : WorkerStage) → SoundAt w stage → is_busy stage ≡ true → Goes found w stage (goes_at w stage found)
-  goes found w LoadPhase s busy = awakes found w (goes_at w LoadPhase found) (Load cell.Phase) tt (phases found w (phase_of found).phase refl)
-  goes found w LoadPage s busy = awakes found w (goes_at w LoadPage found) (Load (cell.Page w.page)) tt (pages found w (Load (cell.Page w.page)) (page_of found))
-  goes found w (Sweeping sw) s busy = awakes found w (goes_at w (Sweeping sw) found) (sweep.asks w.layout sw) (sweep_quiet w.layout sw sw.stage) (sweeps found w (sweep.asks w.layout sw) (sweep.goes sw found) (sweep.gives sw found))
-  goes found w (EarningAtStop x stops) s busy = earns found w x stops w.held refl
-  goes found w (GiveBack g stops) s busy = gives found w q g stops (give.gives g found) s
-  goes found w (Resuming r) s busy = goes_on found w h r s (resume.gives r found) refl
-  goes found w (Taking t) s busy = awakes found w (goes_at w (Taking t) found) (take.asks t) (q.takes t) (takes found w (take.asks t) (take.goes w.layout t found) (take.gives w.layout t found))
-  goes found w (Scanning sc) s busy = awakes found w (goes_at w (Scanning sc) found) (scan.asks w.layout sc) (q.scans w.layout sc) (scans found w (scan.asks w.layout sc) (scan.goes w.layout sc found) (scan.gives w.layout sc found))
-  goes found w (Earning x) s busy = awakes found w (goes_at w (Earning x) found) (earn.asks x) (earn_quiet x x.stage) (tt, refl, tt)
-  goes found w LoadCursor s busy = awakes found w (goes_at w LoadCursor found) (Load cell.Gcur) tt (at_either found w (Load cell.Gcur) (ltb found w.layout.globals) Claim LoadPhase (tt, refl, tt) (tt, refl, tt))
-  goes found w Claim s busy = awakes found w (goes_at w Claim found) (Add cell.Gcur 1) tt (at_either found w (Add cell.Gcur 1) (ltb found w.layout.globals) (LoadGlobal found) LoadPhase (tt, refl, tt) (tt, refl, tt))
-  goes found w (LoadGlobal i) s busy = awakes found w (goes_at w (LoadGlobal i) found) (Load (cell.Global i)) tt (either found w (Load (cell.Global i)) (found == 0) (done_with w w.held 1) (at_stage w (Shading (shade.opening (reference_in w.layout found) w.held))) (works found w (Load (cell.Global i)) w.held 1) (tt, refl, tt))
-  goes found w (Shading sh) s busy = awakes found w (goes_at w (Shading sh) found) (shade.asks sh) (q.shades sh) (shades found w (shade.asks sh) (shade.goes sh found) (shade.gives sh found))
-  goes found w (FindRoom sh r) s busy = awakes found w (goes_at w (FindRoom sh r) found) (room.asks r) (q.finds_room r) (finds_room found w (room.asks r) sh (room.goes w.layout r found) (room.gives w.layout r found))
-  goes found w Leave s busy = (tt, (refl, refl, refl))
-  goes found w Done s busy = absurd cc
+  goes : (l : Layout) (found : ℕ) (w : Working) (stage : WorkerStage) → SoundAt w stage → is_busy stage ≡ true → Goes l found w stage (goes_at l w stage found)
+  goes l found w LoadPhase s busy = awakes found w (goes_at l w LoadPhase found) (Load cell.Phase) tt (phases l found w (phase_of found).phase refl)
+  goes l found w LoadPage s busy = awakes found w (goes_at l w LoadPage found) (Load (cell.Page w.page)) tt (pages l found w (Load (cell.Page w.page)) (page_of found))
+  goes l found w (Sweeping sw) s busy = awakes found w (goes_at l w (Sweeping sw) found) (sweep.asks l sw) (sweep_quiet l sw sw.stage) (sweeps l found w (sweep.asks l sw) (sweep.goes sw found) (sweep.gives sw found))
+  goes l found w (EarningAtStop x stops) s busy = earns l found w x stops w.held refl
+  goes l found w (GiveBack g stops) s busy = gives l found w q g stops (give.gives g found) s
+  goes l found w (Resuming r) s busy = goes_on l found w h r s (resume.gives r found) refl
+  goes l found w (Taking t) s busy = awakes found w (goes_at l w (Taking t) found) (take.asks t) (q.takes t) (takes l found w (take.asks t) (take.goes l t found) (take.gives l t found))
+  goes l found w (Scanning sc) s busy = awakes found w (goes_at l w (Scanning sc) found) (scan.asks l sc) (q.scans l sc) (scans l found w (scan.asks l sc) (scan.goes l sc found) (scan.gives l sc found))
+  goes l found w (Earning x) s busy = awakes found w (goes_at l w (Earning x) found) (earn.asks x) (earn_quiet x x.stage) (tt, refl, tt)
+  goes l found w LoadCursor s busy = awakes found w (goes_at l w LoadCursor found) (Load cell.Gcur) tt (at_either l found w (Load cell.Gcur) (ltb found l.globals) Claim LoadPhase (tt, refl, tt) (tt, refl, tt))
+  goes l found w Claim s busy = awakes found w (goes_at l w Claim found) (Add cell.Gcur 1) tt (at_either l found w (Add cell.Gcur 1) (ltb found l.globals) (LoadGlobal found) LoadPhase (tt, refl, tt) (tt, refl, tt))
+  goes l found w (LoadGlobal i) s busy = awakes found w (goes_at l w (LoadGlobal i) found) (Load (cell.Global i)) tt (either l found w (Load (cell.Global i)) (found == 0) (done_with w w.held 1) (at_stage w (Shading (shade.opening (reference_in l found) w.held))) (works l found w (Load (cell.Global i)) w.held 1) (tt, refl, tt))
+  goes l found w (Shading sh) s busy = awakes found w (goes_at l w (Shading sh) found) (shade.asks sh) (q.shades sh) (shades l found w (shade.asks sh) (shade.goes sh found) (shade.gives sh found))
+  goes l found w (FindRoom sh r) s busy = awakes found w (goes_at l w (FindRoom sh r) found) (room.asks r) (q.finds_room r) (finds_room l found w (room.asks r) sh (room.goes l r found) (room.gives l r found))
+  goes l found w Leave s busy = (tt, (refl, refl, refl))
+  goes l found w Done s busy = absurd cc
 
   pub keeps_handshake : WorkersKeepHandshake
   keeps_handshake = record {
-    sound = λ l seat. tt;
-    party = λ l seat. refl;
-    awake = λ l seat. refl;
-    leaves = λ w found busy x. leaves_at found w w.stage busy x;
-    marks = λ w found busy x. marks_at found w w.stage busy x;
-    keeps = record { stays_sound = λ w found s busy. (goes found w w.stage s busy).0; goes = λ w found s busy. (goes found w w.stage s busy).1 };
+    sound = λ seat. tt;
+    party = λ seat. refl;
+    awake = λ seat. refl;
+    leaves = λ l w found busy x. leaves_at l found w w.stage busy x;
+    marks = λ l w found busy x. marks_at l found w w.stage busy x;
+    keeps = λ l. record { stays_sound = λ w found s busy. (goes l found w w.stage s busy).0; goes = λ w found s busy. (goes l found w w.stage s busy).1 };
   }

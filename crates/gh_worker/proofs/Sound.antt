@@ -1,5 +1,5 @@
 -- A worker stays sound, its steps lie in the heap, and they write the rows of its footprint: by its stages. Of its routines it is known that they are routines.
-use Rattle.std.proofs.Common.{◌≡◌, ℕ, ◌^◌, ◌<◌, ◌==◌, Bool, true, cond, ltb, Option, Some, None, refl, subst, ◌∙◌, arith}
+use Rattle.std.proofs.Common.{◌≡◌, ℕ, ◌^◌, ◌<◌, ◌==◌, Bool, true, cond, ltb, Option, Some, None, refl, subst, arith}
 use Rattle.std.proofs.lemmas.Bool.Decides.{nat_tests}
 use Rattle.gh_base.specs.Cells.{InRange}
 use Rattle.gh_base.specs.Footprints.{Footprint, FootprintsHold, Writes}
@@ -21,9 +21,8 @@ use Rattle.gh_wbuf.specs.EntryTaking as take
 use Rattle.gh_wbuf.specs.RoomFinding as room
 use Rattle.gh_wbuf.specs.Sound.{SoundEntryTaking, SoundRoomFinding}
 use Rattle.gh_worker.specs.Blind as blind
-use Rattle.gh_worker.specs.Routine.{acknowledges, claims, hands_over, marks, OwnStep, shades, WorkersAreRoutines, writes, WritesAlone}
-use Rattle.gh_worker.specs.Sound.{SoundStage, SoundWorking}
-use Rattle.gh_worker.specs.Stays.{stays}
+use Rattle.gh_worker.specs.Routine.{acknowledges, claims, hands_over, OwnStep, shades, WorkersAreRoutines, WritesAlone}
+use Rattle.gh_worker.specs.Sound.{marks, SoundStage, SoundWorking, writes}
 use Rattle.gh_worker.specs.Writing.{IsOutsideMarking}
 use Rattle.gh_worker.proofs.Vocabulary.{after_give, after_page, after_resume, after_room, after_scan, after_shade, after_sweep, after_take, Ask, asks, asks_at, at_stage, by_phase, by_stop, by_work, cell_of, Claim, counted, Done, done_with, Earning, EarningAtStop, EarnStage, FindRoom, GiveBack, gives_back, goes_at, handed_over, Held, Layout, Leave, LoadCursor, LoadGlobal, LoadPage, LoadPhase, page_of, PageWord, Phase, phase_of, reference_in, Resumed, ResumeStage, Resuming, Scanning, Shaded, Shading, SoundAt, sweep_at, SweepEnd, Sweeping, Taking, WorkerStage, Working}
 
@@ -53,57 +52,54 @@ abbrev IsTaken : Layout → Option (Option ℕ) → Type 0
 IsTaken l (Some (Some reference)) = IsReference l reference
 IsTaken l _ = Unit {0}
 
-module _ (w : Working) (x : SoundWorking w) where
-  abbrev l : Layout
-  l = w.layout
-
+module _ (l : Layout) (w : Working) (x : SoundWorking l w) where
   taken_is : (t : take.EntryTaking) (found : ℕ) → take.is_busy t.stage ≡ true → IsTaken l (take.gives l t found)
   taken_is t found busy = let there = x.page in grind arith
 
   -- at another stage, with this held
-  on : (held : Option Held) (p : WorkerStage) → IsHeld l held → SoundStage l p → SoundWorking (record w { held = held; stage = p })
+  on : (held : Option Held) (p : WorkerStage) → IsHeld l held → SoundStage l p → SoundWorking l (record w { held = held; stage = p })
   on held p h s = record { seat = x.seat; held = h; view = x.view; page = x.page; stage = s }
 
-  at : (p : WorkerStage) → SoundStage l p → SoundWorking (at_stage w p)
+  at : (p : WorkerStage) → SoundStage l p → SoundWorking l (at_stage w p)
   at p s = on w.held p x.held s
 
-  done_so : (held : Option Held) (words : ℕ) → IsHeld l held → SoundWorking (done_with w held words)
+  done_so : (held : Option Held) (words : ℕ) → IsHeld l held → SoundWorking l (done_with w held words)
   done_so held words h = record { seat = x.seat; held = h; view = x.view; page = x.page; stage = by_work (SoundStage l) (counted w.scan_work words) tt (record { sound = tt; busy = refl }) }
 
   back_so : (stops : ℕ) (held : Option Held) → stops < 2 ^ 62 → IsHeld l held → SoundStage l (gives_back w stops held)
   back_so stops held few h = grind arith
 
-  handed_so : (p : WorkerStage) → SoundStage l p → SoundWorking (handed_over w p)
+  handed_so : (p : WorkerStage) → SoundStage l p → SoundWorking l (handed_over w p)
   handed_so p s = record { seat = x.seat; held = x.held; view = x.view; page = x.page; stage = s }
 
   phase_so : (stops : ℕ) (phase : Phase) → stops < 2 ^ 62 → SoundStage l (by_phase w stops phase)
   phase_so stops phase few = grind (arith, nat_tests, back_so, by_stop)
 
-  page_so : (word : PageWord) → FitsPage word → SoundWorking (after_page w word)
+  page_so : (word : PageWord) → FitsPage word → SoundWorking l (after_page l w word)
   page_so word fits = grind (arith, nat_tests)
 
-  sweep_so : (sw : sweep.Sweeping) (out : Option SweepEnd) → sweep.given sw ≡ out → (sweep.listing l).sound sw → SoundWorking (after_sweep w sw out)
+  sweep_so : (sw : sweep.Sweeping) (out : Option SweepEnd) → sweep.given sw ≡ out → (sweep.listing l).sound sw → SoundWorking l (after_sweep l w sw out)
   sweep_so sw out e s = grind (arith, nat_tests)
 
-  give_so : (g : give.BufferGiving) (stops : ℕ) (out : Option (Unit {0})) → give.given g ≡ out → (give.listing l).sound g → stops < 2 ^ 62 → SoundWorking (after_give w g stops out)
+  give_so : (g : give.BufferGiving) (stops : ℕ) (out : Option (Unit {0})) → give.given g ≡ out → (give.listing l).sound g → stops < 2 ^ 62 → SoundWorking l (after_give w g stops out)
   give_so g stops out e s few = grind arith
 
-  resume_so : (r : resume.Resuming) (out : Option Resumed) → resume.given r ≡ out → (resume.listing l).sound r → SoundWorking (after_resume w r out)
+  resume_so : (r : resume.Resuming) (out : Option Resumed) → resume.given r ≡ out → (resume.listing l).sound r → SoundWorking l (after_resume w r out)
   resume_so r out e s = grind arith
 
-  take_so : (t : take.EntryTaking) (out : Option (Option ℕ)) → take.given t ≡ out → SoundEntryTaking l t → IsTaken l out → SoundWorking (after_take w t out)
+  take_so : (t : take.EntryTaking) (out : Option (Option ℕ)) → take.given t ≡ out → SoundEntryTaking l t → IsTaken l out → SoundWorking l (after_take w t out)
   take_so t out e s is = grind arith
 
-  scan_so : (sc : scan.Scanning) (out : Option ℕ) → scan.given sc ≡ out → SoundScanning l sc → SoundWorking (after_scan w sc out)
+  scan_so : (sc : scan.Scanning) (out : Option ℕ) → scan.given sc ≡ out → SoundScanning l sc → SoundWorking l (after_scan w sc out)
   scan_so sc out e s = grind (arith, done_so)
 
-  global_so : (found : ℕ) (b : Bool) → SoundWorking (cond b (done_with w w.held 1) (at_stage w (Shading (shade.opening (reference_in l found) w.held))))
+  global_so : (found : ℕ) (b : Bool) → SoundWorking l (cond b (done_with w w.held 1) (at_stage w (Shading (shade.opening (reference_in l found) w.held))))
   global_so found b = let there = x.page in grind (arith, done_so)
 
-  shade_so : (sh : shade.Shading) (out : Option Shaded) → shade.given sh ≡ out → SoundShading l sh → SoundWorking (after_shade w sh out)
+  shade_so : (sh : shade.Shading) (out : Option Shaded) → shade.given sh ≡ out → SoundShading l sh → SoundWorking l (after_shade w sh out)
   shade_so sh out e s = grind (arith, done_so)
 
-  room_so : (sh : shade.Shading) (r : room.RoomFinding) (out : Option Held) → room.given r ≡ out → SoundShading l sh → sh.stage ≡ WaitForRoom → SoundRoomFinding l r → SoundWorking (after_room w sh r out)
+  room_so : (sh : shade.Shading) (r : room.RoomFinding) (out : Option Held) → room.given r ≡ out → SoundShading l sh → sh.stage ≡ WaitForRoom → SoundRoomFinding l r → SoundWorking l (after_room w sh r out)
   room_so sh r out e s waits sound = grind (arith, nat_tests)
 
   claim_so : (found : ℕ) (b : Bool) → ltb found l.globals ≡ b → SoundStage l (cond b (LoadGlobal found) LoadPhase)
@@ -113,7 +109,7 @@ module _ (w : Working) (x : SoundWorking w) where
   cursor_so b = grind arith
 
   module _ (k : Known) where
-    keeps_at : (p : WorkerStage) (found : ℕ) → found < 2 ^ 64 → SoundStage l p → SoundWorking (goes_at w p found)
+    keeps_at : (p : WorkerStage) (found : ℕ) → found < 2 ^ 64 → SoundStage l p → SoundWorking l (goes_at l w p found)
     keeps_at LoadPhase found few s = at _ (phase_so (phase_of found).stops (phase_of found).phase (omega arith))
     keeps_at LoadPage found few s = page_so (page_of found) (k.reads found few)
     keeps_at (Sweeping sw) found few s = sweep_so (sweep.goes sw found) _ refl ((k.sweep l).keeps sw found few s.sound s.busy)
@@ -131,7 +127,7 @@ module _ (w : Working) (x : SoundWorking w) where
     keeps_at Leave found few s = at Done tt
     keeps_at Done found few s = at Done tt
 
-    within_at : (p : WorkerStage) → SoundStage l p → InRange l (cell_of (asks_at w p))
+    within_at : (p : WorkerStage) → SoundStage l p → InRange l (cell_of (asks_at l w p))
     within_at LoadPage s = x.page
     within_at (Sweeping sw) s = (k.sweep l).within sw s.sound s.busy
     within_at (EarningAtStop e stops) s = (k.earn l).within e s.runs.sound s.runs.busy
@@ -146,44 +142,44 @@ module _ (w : Working) (x : SoundWorking w) where
     within_at Leave s = x.seat.below
     within_at _ s = tt
 
-module _ (k : Known) (w : Working) where
-  own_at : (p : WorkerStage) → SoundAt w p → sweep_at p ≡ None → OwnStep w.seat (asks_at w p)
+module _ (k : Known) (l : Layout) (w : Working) where
+  own_at : (p : WorkerStage) → SoundAt w p → sweep_at p ≡ None → OwnStep w.seat (asks_at l w p)
   own_at (Sweeping sw) s none = absurd (cc)
   own_at (EarningAtStop e stops) s none = earn_own w.seat e e.stage
-  own_at (GiveBack g stops) s none = shades (k.footprints.among (give.listing w.layout).writes scan.writes _ refl ((k.give w.layout).writes g))
+  own_at (GiveBack g stops) s none = shades (k.footprints.among (give.listing l).writes scan.writes _ refl ((k.give l).writes g))
   own_at (Resuming r) s none = subst (λ (seat : ℕ). OwnStep seat (resume.asks r)) s.seat_is (resume_own r r.stage)
-  own_at (Taking t) s none = shades (k.footprints.among (take.listing w.layout).writes scan.writes _ refl ((k.take w.layout).writes t))
-  own_at (Scanning sc) s none = shades ((k.scan w.layout).writes sc)
+  own_at (Taking t) s none = shades (k.footprints.among (take.listing l).writes scan.writes _ refl ((k.take l).writes t))
+  own_at (Scanning sc) s none = shades ((k.scan l).writes sc)
   own_at (Earning e) s none = earn_own w.seat e e.stage
   own_at Claim s none = claims refl
-  own_at (Shading sh) s none = shades (k.footprints.among shade.writes scan.writes _ refl ((k.shade w.layout).writes sh))
-  own_at (FindRoom sh r) s none = shades (k.footprints.among (room.listing w.layout).writes scan.writes _ refl ((k.room w.layout).writes r))
+  own_at (Shading sh) s none = shades (k.footprints.among shade.writes scan.writes _ refl ((k.shade l).writes sh))
+  own_at (FindRoom sh r) s none = shades (k.footprints.among (room.listing l).writes scan.writes _ refl ((k.room l).writes r))
   own_at Leave s none = acknowledges _ refl
   own_at _ s none = shades refl
 
-  marks_at : (p : WorkerStage) → sweep_at p ≡ None → Writes marks (asks_at w p)
+  marks_at : (p : WorkerStage) → sweep_at p ≡ None → Writes marks (asks_at l w p)
   marks_at (Sweeping sw) none = absurd (cc)
-  marks_at (EarningAtStop e stops) none = k.footprints.among earn.writes marks _ refl ((k.earn w.layout).writes e)
-  marks_at (GiveBack g stops) none = k.footprints.among (give.listing w.layout).writes marks _ refl ((k.give w.layout).writes g)
-  marks_at (Resuming r) none = k.footprints.among resume.writes marks _ refl ((k.resume w.layout).writes r)
-  marks_at (Taking t) none = k.footprints.among (take.listing w.layout).writes marks _ refl ((k.take w.layout).writes t)
-  marks_at (Scanning sc) none = k.footprints.among scan.writes marks _ refl ((k.scan w.layout).writes sc)
-  marks_at (Earning e) none = k.footprints.among earn.writes marks _ refl ((k.earn w.layout).writes e)
-  marks_at (Shading sh) none = k.footprints.among shade.writes marks _ refl ((k.shade w.layout).writes sh)
-  marks_at (FindRoom sh r) none = k.footprints.among (room.listing w.layout).writes marks _ refl ((k.room w.layout).writes r)
+  marks_at (EarningAtStop e stops) none = k.footprints.among earn.writes marks _ refl ((k.earn l).writes e)
+  marks_at (GiveBack g stops) none = k.footprints.among (give.listing l).writes marks _ refl ((k.give l).writes g)
+  marks_at (Resuming r) none = k.footprints.among resume.writes marks _ refl ((k.resume l).writes r)
+  marks_at (Taking t) none = k.footprints.among (take.listing l).writes marks _ refl ((k.take l).writes t)
+  marks_at (Scanning sc) none = k.footprints.among scan.writes marks _ refl ((k.scan l).writes sc)
+  marks_at (Earning e) none = k.footprints.among earn.writes marks _ refl ((k.earn l).writes e)
+  marks_at (Shading sh) none = k.footprints.among shade.writes marks _ refl ((k.shade l).writes sh)
+  marks_at (FindRoom sh r) none = k.footprints.among (room.listing l).writes marks _ refl ((k.room l).writes r)
   marks_at _ none = refl
 
-  writes_at : (p : WorkerStage) → Writes writes (asks_at w p)
-  writes_at (Sweeping sw) = k.footprints.among sweep.writes writes _ refl ((k.sweep w.layout).writes sw)
-  writes_at p = k.footprints.among marks writes (asks_at w p) refl (marks_at p refl)
+  writes_at : (p : WorkerStage) → Writes writes (asks_at l w p)
+  writes_at (Sweeping sw) = k.footprints.among sweep.writes writes _ refl ((k.sweep l).writes sw)
+  writes_at p = k.footprints.among marks writes (asks_at l w p) refl (marks_at p refl)
 
-  sweeps_at : (p : WorkerStage) (sw : sweep.Sweeping) → sweep_at p ≡ Some sw → Writes sweep.writes (asks_at w p)
-  sweeps_at (Sweeping x) sw is = (k.sweep w.layout).writes x
+  sweeps_at : (p : WorkerStage) (sw : sweep.Sweeping) → sweep_at p ≡ Some sw → Writes sweep.writes (asks_at l w p)
+  sweeps_at (Sweeping x) sw is = (k.sweep l).writes x
   sweeps_at _ sw is = absurd (cc)
 
-  rests_at : (p : WorkerStage) → IsOutsideMarking p → sweep_at p ≡ None → Writes resume.writes (asks_at w p)
+  rests_at : (p : WorkerStage) → IsOutsideMarking p → sweep_at p ≡ None → Writes resume.writes (asks_at l w p)
   rests_at (Sweeping sw) rests none = absurd (cc)
-  rests_at (Resuming r) rests none = (k.resume w.layout).writes r
+  rests_at (Resuming r) rests none = (k.resume l).writes r
   rests_at LoadPhase rests none = refl
   rests_at LoadPage rests none = refl
   rests_at Leave rests none = refl
@@ -196,15 +192,15 @@ alone k f step writes = record { writes = writes; leaves = λ words c none. k.fo
 pub are_routines : Known → WorkersAreRoutines
 are_routines k = record {
   is_routine = λ l. record {
-    keeps = λ w found few x busy. record { layout = stays w found ∙ x.layout; sound = keeps_at w x.sound k w.stage found few x.sound.stage };
-    within = λ w x busy. subst (λ (m : Layout). InRange m (cell_of (asks w))) x.layout (within_at w x.sound k w.stage x.sound.stage);
-    writes = λ w. writes_at k w w.stage;
-    blind = blind.blind;
+    keeps = λ w found few x busy. keeps_at l w x k w.stage found few x.stage;
+    within = λ w x busy. within_at l w x k w.stage x.stage;
+    writes = λ w. writes_at k l w w.stage;
+    blind = blind.blind l;
   };
-  opens = λ l seat is. record { layout = refl; sound = record { seat = is; held = tt; view = record { generation = omega arith; begun = omega arith }; page = omega (arith, l.limits.pages_fit.0); stage = tt } };
-  alone = λ w. alone k writes (asks w) (writes_at k w w.stage);
-  sweeps_alone = λ w sw is. alone k sweep.writes (asks w) (sweeps_at k w w.stage sw is);
-  marks_alone = λ w none. alone k marks (asks w) (marks_at k w w.stage none);
-  rests_alone = λ w calm none. alone k resume.writes (asks w) (rests_at k w w.stage calm.rests none);
-  own_step = λ w s none. own_at k w w.stage s none;
+  opens = λ l seat is. record { seat = is; held = tt; view = record { generation = omega arith; begun = omega arith }; page = omega (arith, l.limits.pages_fit.0); stage = tt };
+  alone = λ l w. alone k writes (asks l w) (writes_at k l w w.stage);
+  sweeps_alone = λ l w sw is. alone k sweep.writes (asks l w) (sweeps_at k l w w.stage sw is);
+  marks_alone = λ l w none. alone k marks (asks l w) (marks_at k l w w.stage none);
+  rests_alone = λ l w calm none. alone k resume.writes (asks l w) (rests_at k l w w.stage calm.rests none);
+  own_step = λ l w s none. own_at k l w w.stage s none;
 }

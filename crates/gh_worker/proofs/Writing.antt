@@ -39,11 +39,11 @@ module _ (seat : ℕ) where
   pub resumes : (r : resume.Resuming) (p : ResumeStage) → r.seat ≡ seat → WritesPlainly seat (resume.asks_at r p)
   resumes r p e = grind arith
 
-pub writes_at : (w : Working) (p : WorkerStage) → SoundAt w p → sweep_at p ≡ None → is_busy p ≡ true → WritesItsOwn w.seat (asks_at w p)
-writes_at w p s e b = grind arith
+pub writes_at : (l : Layout) (w : Working) (p : WorkerStage) → SoundAt w p → sweep_at p ≡ None → is_busy p ≡ true → WritesItsOwn w.seat (asks_at l w p)
+writes_at l w p s e b = grind arith
 
 pub writes_its_own : WorkersWriteTheirOwn
-writes_its_own w s e b = writes_at w w.stage s e b
+writes_its_own l w s e b = writes_at l w w.stage s e b
 
 -- While it is calm.
 

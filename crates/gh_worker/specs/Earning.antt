@@ -15,8 +15,8 @@ pub record EarnsInStep (ask : Ask) (words : ℕ) (w to : Working) : Type 0 where
 
 pub record WorkersEarn : Type 0 where
   -- before its first step it has scanned nothing
-  pub at_first : (l : Layout) (seat : ℕ) → ((opening l seat).earned ≡ 0) × ((opening l seat).scan_work ≡ 0)
+  pub at_first : (seat : ℕ) → ((opening seat).earned ≡ 0) × ((opening seat).scan_work ≡ 0)
   -- so it is with each step, as long as the counts are within their type
-  pub earns : (w : Working) (found : ℕ) → Sound w → is_busy w.stage ≡ true → w.earned + w.scan_work + words_done w.layout w.stage found < 2 ^ 64 → EarnsInStep (asks w) (words_done w.layout w.stage found) w (goes w found)
+  pub earns : (l : Layout) (w : Working) (found : ℕ) → Sound w → is_busy w.stage ≡ true → w.earned + w.scan_work + words_done l w.stage found < 2 ^ 64 → EarnsInStep (asks l w) (words_done l w.stage found) w (goes l w found)
   -- and it writes the bank by such additions alone
-  pub adds : (w : Working) → Sound w → is_busy w.stage ≡ true → LeavesOrAdds (asks w)
+  pub adds : (l : Layout) (w : Working) → Sound w → is_busy w.stage ≡ true → LeavesOrAdds (asks l w)

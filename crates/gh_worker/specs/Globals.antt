@@ -34,9 +34,9 @@ claimed_by l (Adds Gcur more) found = if nat_lt found l.globals then 1 else 0
 claimed_by l _ found = 0
 
 pub record WorkersCountGlobals : Type 0 where
-  pub parts : (w : Working) (found : ℕ) → words_done w.layout w.stage found ≡ global_done w.stage found + object_done w.layout w.stage found
+  pub parts : (l : Layout) (w : Working) (found : ℕ) → words_done l w.stage found ≡ global_done w.stage found + object_done l w.stage found
   -- with each step it has one in hand more where it has moved the cursor past one, and one less where it is done with one
-  pub holds : (w : Working) (found : ℕ) → global_held (goes w found).stage + global_done w.stage found ≡ global_held w.stage + claimed_by w.layout (asks w) found
+  pub holds : (l : Layout) (w : Working) (found : ℕ) → global_held (goes l w found).stage + global_done w.stage found ≡ global_held w.stage + claimed_by l (asks l w) found
   -- it is done with something only while it marks, and not at rest
-  pub marks : (w : Working) (found : ℕ) → (words_done w.layout w.stage found ≡ 0) ⊎ IsMarking w.stage
-  pub rests : (w : Working) (found : ℕ) → IsCalm w → words_done w.layout w.stage found ≡ 0
+  pub marks : (l : Layout) (w : Working) (found : ℕ) → (words_done l w.stage found ≡ 0) ⊎ IsMarking w.stage
+  pub rests : (l : Layout) (w : Working) (found : ℕ) → IsCalm w → words_done l w.stage found ≡ 0

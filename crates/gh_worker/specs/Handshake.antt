@@ -4,6 +4,7 @@ use Rattle.gh_base.specs.declared.cell.Ask.TheVariants.{Load}
 use Rattle.gh_base.specs.declared.cell.Cell.TheVariants as cell
 use Rattle.gh_base.specs.declared.held.Held.{Held}
 use Rattle.gh_base.specs.declared.layout.Layout.{Layout}
+use Rattle.gh_base.specs.Machines.{steps_of}
 use Rattle.gh_base.specs.Packing.{phase_of}
 use Rattle.gh_credit.specs.Earning as earn
 use Rattle.gh_phase.specs.declared.view.RunPhase.TheVariants.{Mark, Finished}
@@ -13,7 +14,8 @@ use Rattle.gh_phase.specs.ResumePlaces as resumes
 use Rattle.gh_phase.specs.Views.{run_phase}
 use Rattle.gh_worker.specs.declared.worker.WorkerStage.{WorkerStage}
 use Rattle.gh_worker.specs.declared.worker.WorkerStage.TheVariants.{LoadPhase, EarningAtStop, GiveBack, Resuming, Taking, Scanning, Earning, LoadCursor, Claim, LoadGlobal, Shading, FindRoom, Leave, Done}
-use Rattle.gh_worker.specs.Listing.{asks, goes, is_busy, listing, opening, Working}
+use Rattle.gh_worker.specs.Listing.{asks, goes, is_busy, opening, Working}
+use Rattle.gh_worker.specs.Sound.{listing}
 
 -- while it takes, scans and shades it is awake; at a stop it hands over what it has scanned, and gives its buffer back
 abbrev pub stands_at : WorkerStage → Stage
@@ -83,12 +85,12 @@ pub record FindsMarking (found : ℕ) (w : Working) (stage : WorkerStage) (to : 
 
 pub record WorkersKeepHandshake : Type 0 where
   -- before its first step
-  pub sound : (l : Layout) (seat : ℕ) → Sound (opening l seat)
-  pub party : (l : Layout) (seat : ℕ) → party_of (opening l seat) ≡ first_party seat
-  pub awake : (l : Layout) (seat : ℕ) → stage_of (opening l seat) ≡ Awake
+  pub sound : (seat : ℕ) → Sound (opening seat)
+  pub party : (seat : ℕ) → party_of (opening seat) ≡ first_party seat
+  pub awake : (seat : ℕ) → stage_of (opening seat) ≡ Awake
   -- and by each step
-  pub keeps : KeepsHandshake listing Sound party_of stage_of
+  pub keeps : (l : Layout) → KeepsHandshake (steps_of l (listing l)) Sound party_of stage_of
   -- it leaves only where it finds the last phase
-  pub leaves : (w : Working) (found : ℕ) → is_busy w.stage ≡ true → IsLeaving (goes w found).stage → IsLeaving w.stage ⊎ ((asks w ≡ Load cell.Phase) × (run_phase (phase_of found).phase ≡ Some Finished))
+  pub leaves : (l : Layout) (w : Working) (found : ℕ) → is_busy w.stage ≡ true → IsLeaving (goes l w found).stage → IsLeaving w.stage ⊎ ((asks l w ≡ Load cell.Phase) × (run_phase (phase_of found).phase ≡ Some Finished))
   -- it marks only where it finds that marking is on
-  pub marks : (w : Working) (found : ℕ) → is_busy w.stage ≡ true → IsMarking (goes w found).stage → FindsMarking found w w.stage (goes w found)
+  pub marks : (l : Layout) (w : Working) (found : ℕ) → is_busy w.stage ≡ true → IsMarking (goes l w found).stage → FindsMarking found w w.stage (goes l w found)

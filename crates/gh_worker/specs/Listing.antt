@@ -1,7 +1,6 @@
 -- The worker: what it asks for at each stage, where that leads, and when it is done.
 use Rattle.std.specs.Prelude.{ℕ, ◌+◌, ◌-◌, ◌^◌, Bool, true, false, min, nat_lt, ◌==◌, if◌then◌else◌, Option, Some, None, is_none}
 use Rattle.gh_base.specs.declared.cell.Cell.TheVariants as cell
-use Rattle.gh_base.specs.Given.{listing_of}
 use Rattle.gh_credit.specs.Earning as earn
 use Rattle.gh_phase.specs.declared.view.View.{View}
 use Rattle.gh_phase.specs.Listing as resume
@@ -15,11 +14,10 @@ use Rattle.gh_sweep.specs.Listing.{Sweeping as SpanSweep}
 use Rattle.gh_wbuf.specs.BufferGiving as give
 use Rattle.gh_wbuf.specs.EntryTaking as take
 use Rattle.gh_wbuf.specs.RoomFinding as room
-use Rattle.gh_worker.specs.Vocabulary.{Add, Ask, Claim, CREDIT_SLACK, Done, Earning, EarningAtStop, FindRoom, Finished, GiveBack, GONE, Free, Body, Head, Held, Layout, Leave, Listing, Load, LoadCursor, LoadGlobal, LoadPage, LoadPhase, Mark, Off, page_of, PageWord, Phase, phase_of, reference_in, Resumed, Resuming, Scanning, Shaded, Shading, Stop, Store, Sweeping, Taking, WorkerStage}
+use Rattle.gh_worker.specs.Vocabulary.{Add, Ask, Claim, CREDIT_SLACK, Done, Earning, EarningAtStop, FindRoom, Finished, GiveBack, GONE, Free, Body, Head, Held, Layout, Leave, Load, LoadCursor, LoadGlobal, LoadPage, LoadPhase, Mark, Off, page_of, PageWord, Phase, phase_of, reference_in, Resumed, Resuming, Scanning, Shaded, Shading, Stop, Store, Sweeping, Taking, WorkerStage}
 
 -- a worker: the buffer that it holds between its routines, what it knows of the phase, the words that it has scanned, those of them that it has not handed over to the bank of credit yet and those that it has, the page that it looks at next with marking off, and its stage
 pub record Working : Type 0 where
-  pub layout : Layout
   pub seat : ℕ
   pub held : Option Held
   pub view : View
@@ -29,8 +27,8 @@ pub record Working : Type 0 where
   pub page : ℕ
   pub stage : WorkerStage
 
-abbrev pub opening : Layout → (seat : ℕ) → Working
-opening l seat = record { layout = l; seat = seat; held = None; view = first_view; marks = 0; scan_work = 0; earned = 0; page = 0; stage = LoadPhase }
+abbrev pub opening : (seat : ℕ) → Working
+opening seat = record { seat = seat; held = None; view = first_view; marks = 0; scan_work = 0; earned = 0; page = 0; stage = LoadPhase }
 
 abbrev pub at_stage : Working → WorkerStage → Working
 at_stage w stage = record w { stage = stage }
@@ -48,23 +46,23 @@ held_at held _ = held
 abbrev pub counted : (count words : ℕ) → ℕ
 counted count words = min (count + words) (2 ^ 64 - 1)
 
-abbrev pub asks_at : Working → WorkerStage → Ask
-asks_at w LoadPhase = Load cell.Phase
-asks_at w LoadPage = Load (cell.Page w.page)
-asks_at w (Sweeping sw) = sweep.asks w.layout sw
-asks_at w (EarningAtStop e stops) = earn.asks e
-asks_at w (GiveBack g stops) = give.asks g
-asks_at w (Resuming r) = resume.asks r
-asks_at w (Taking t) = take.asks t
-asks_at w (Scanning s) = scan.asks w.layout s
-asks_at w (Earning e) = earn.asks e
-asks_at w LoadCursor = Load cell.Gcur
-asks_at w Claim = Add cell.Gcur 1
-asks_at w (LoadGlobal i) = Load (cell.Global i)
-asks_at w (Shading sh) = shade.asks sh
-asks_at w (FindRoom sh r) = room.asks r
-asks_at w Leave = Store (cell.Ack w.seat) GONE
-asks_at w Done = Load cell.Touch
+abbrev pub asks_at : Layout → Working → WorkerStage → Ask
+asks_at l w LoadPhase = Load cell.Phase
+asks_at l w LoadPage = Load (cell.Page w.page)
+asks_at l w (Sweeping sw) = sweep.asks l sw
+asks_at l w (EarningAtStop e stops) = earn.asks e
+asks_at l w (GiveBack g stops) = give.asks g
+asks_at l w (Resuming r) = resume.asks r
+asks_at l w (Taking t) = take.asks t
+asks_at l w (Scanning s) = scan.asks l s
+asks_at l w (Earning e) = earn.asks e
+asks_at l w LoadCursor = Load cell.Gcur
+asks_at l w Claim = Add cell.Gcur 1
+asks_at l w (LoadGlobal i) = Load (cell.Global i)
+asks_at l w (Shading sh) = shade.asks sh
+asks_at l w (FindRoom sh r) = room.asks r
+asks_at l w Leave = Store (cell.Ack w.seat) GONE
+asks_at l w Done = Load cell.Touch
 
 -- it acknowledges the stop of this number and goes on
 abbrev pub resuming : Working → (stops : ℕ) → WorkerStage
@@ -91,19 +89,19 @@ abbrev pub page_past : Layout → ℕ → ℕ
 page_past l page = if nat_lt (page + 1) l.pages then page + 1 else 0
 
 -- it is done with the page at its cursor
-abbrev pub page_done : Working → Working
-page_done w = record w { page = page_past w.layout w.page; stage = LoadPhase }
+abbrev pub page_done : Layout → Working → Working
+page_done l w = record w { page = page_past l w.page; stage = LoadPhase }
 
 -- where the page's word is the head of a span that is not swept, it sweeps the span
-abbrev pub after_page : Working → PageWord → Working
-after_page w (Head h) = if h.number + 2 == w.view.generation then at_stage w (Sweeping (sweep.opening w.page h)) else page_done w
-after_page w Free = page_done w
-after_page w (Body b) = page_done w
+abbrev pub after_page : Layout → Working → PageWord → Working
+after_page l w (Head h) = if h.number + 2 == w.view.generation then at_stage w (Sweeping (sweep.opening w.page h)) else page_done l w
+after_page l w Free = page_done l w
+after_page l w (Body b) = page_done l w
 
 -- a sweep that is lost another has begun
-abbrev pub after_sweep : Working → SpanSweep → Option SweepEnd → Working
-after_sweep w sw None = at_stage w (Sweeping sw)
-after_sweep w sw (Some end) = page_done w
+abbrev pub after_sweep : Layout → Working → SpanSweep → Option SweepEnd → Working
+after_sweep l w sw None = at_stage w (Sweeping sw)
+after_sweep l w sw (Some end) = page_done l w
 
 -- what it has scanned is handed over, and nothing is left of that
 abbrev pub handed_over : Working → WorkerStage → Working
@@ -145,8 +143,8 @@ after_scan w s None = at_stage w (Scanning s)
 after_scan w s (Some words) = done_with w (scan.held_at s.held s.stage) words
 
 -- a global that is nil needs no step more; any other is taken modulo the heap's words
-abbrev pub after_global : Working → (found : ℕ) → Working
-after_global w found = if found == 0 then done_with w w.held 1 else at_stage w (Shading (shade.opening (reference_in w.layout found) w.held))
+abbrev pub after_global : Layout → Working → (found : ℕ) → Working
+after_global l w found = if found == 0 then done_with w w.held 1 else at_stage w (Shading (shade.opening (reference_in l found) w.held))
 
 abbrev pub after_shade : Working → shade.Shading → Option Shaded → Working
 after_shade w sh None = at_stage w (Shading sh)
@@ -157,23 +155,23 @@ abbrev pub after_room : Working → shade.Shading → room.RoomFinding → Optio
 after_room w sh r None = at_stage w (FindRoom sh r)
 after_room w sh r (Some h) = at_stage w (Shading (shade.told_room sh h))
 
-abbrev pub goes_at : Working → WorkerStage → ℕ → Working
-goes_at w LoadPhase found = at_stage w (by_phase w (phase_of found).stops (phase_of found).phase)
-goes_at w LoadPage found = after_page w (page_of found)
-goes_at w (Sweeping sw) found = after_sweep w (sweep.goes sw found) (sweep.gives sw found)
-goes_at w (EarningAtStop e stops) found = after_earn_at_stop w (earn.goes e found) stops (earn.gives e found)
-goes_at w (GiveBack g stops) found = after_give w (give.goes g found) stops (give.gives g found)
-goes_at w (Resuming r) found = after_resume w (resume.goes r found) (resume.gives r found)
-goes_at w (Taking t) found = after_take w (take.goes w.layout t found) (take.gives w.layout t found)
-goes_at w (Scanning s) found = after_scan w (scan.goes w.layout s found) (scan.gives w.layout s found)
-goes_at w (Earning e) found = after_earn w (earn.goes e found) (earn.gives e found)
-goes_at w LoadCursor found = at_stage w (if nat_lt found w.layout.globals then Claim else LoadPhase)
-goes_at w Claim found = at_stage w (if nat_lt found w.layout.globals then LoadGlobal found else LoadPhase)
-goes_at w (LoadGlobal i) found = after_global w found
-goes_at w (Shading sh) found = after_shade w (shade.goes sh found) (shade.gives sh found)
-goes_at w (FindRoom sh r) found = after_room w sh (room.goes w.layout r found) (room.gives w.layout r found)
-goes_at w Leave found = at_stage w Done
-goes_at w Done found = at_stage w Done
+abbrev pub goes_at : Layout → Working → WorkerStage → ℕ → Working
+goes_at l w LoadPhase found = at_stage w (by_phase w (phase_of found).stops (phase_of found).phase)
+goes_at l w LoadPage found = after_page l w (page_of found)
+goes_at l w (Sweeping sw) found = after_sweep l w (sweep.goes sw found) (sweep.gives sw found)
+goes_at l w (EarningAtStop e stops) found = after_earn_at_stop w (earn.goes e found) stops (earn.gives e found)
+goes_at l w (GiveBack g stops) found = after_give w (give.goes g found) stops (give.gives g found)
+goes_at l w (Resuming r) found = after_resume w (resume.goes r found) (resume.gives r found)
+goes_at l w (Taking t) found = after_take w (take.goes l t found) (take.gives l t found)
+goes_at l w (Scanning s) found = after_scan w (scan.goes l s found) (scan.gives l s found)
+goes_at l w (Earning e) found = after_earn w (earn.goes e found) (earn.gives e found)
+goes_at l w LoadCursor found = at_stage w (if nat_lt found l.globals then Claim else LoadPhase)
+goes_at l w Claim found = at_stage w (if nat_lt found l.globals then LoadGlobal found else LoadPhase)
+goes_at l w (LoadGlobal i) found = after_global l w found
+goes_at l w (Shading sh) found = after_shade w (shade.goes sh found) (shade.gives sh found)
+goes_at l w (FindRoom sh r) found = after_room w sh (room.goes l r found) (room.gives l r found)
+goes_at l w Leave found = at_stage w Done
+goes_at l w Done found = at_stage w Done
 
 -- its next step loads the phase or a page's word
 abbrev pub loads_phase_or_page : WorkerStage → Bool
@@ -189,20 +187,14 @@ given_at _ = None
 abbrev pub is_busy : WorkerStage → Bool
 is_busy stage = is_none (given_at stage)
 
-abbrev pub asks : Working → Ask
-asks w = asks_at w w.stage
+abbrev pub asks : Layout → Working → Ask
+asks l w = asks_at l w w.stage
 
-abbrev pub goes : Working → ℕ → Working
-goes w found = goes_at w w.stage found
+abbrev pub goes : Layout → Working → ℕ → Working
+goes l w found = goes_at l w w.stage found
 
 abbrev pub given : Working → Option (Unit {0})
 given w = given_at w.stage
-
-abbrev pub gives : Working → ℕ → Option (Unit {0})
-gives w found = given (goes w found)
-
-abbrev pub listing : Listing Working (Unit {0})
-listing = listing_of (λ w. w.layout) asks goes given
 
 -- the sweep that it runs, if it runs one
 abbrev pub sweep_at : WorkerStage → Option SpanSweep

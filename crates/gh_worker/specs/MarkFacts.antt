@@ -50,7 +50,6 @@ StageFacts z a s held worker.Leave = Hands a s (in_hand held NoClaim)
 StageFacts z a s held worker.Done = Hands a s (in_hand held NoClaim)
 
 pub record Facts (z : Cycle) (a : ℕ) (s : Shared) (w : Working) : Type 0 where
-  pub layout_is : w.layout ≡ z.arena.layout
   pub seat_is : w.seat ≡ a
   pub seat_in : a < seats_of z.arena.layout
   pub stage_is : StageFacts z a s w.held w.stage
@@ -62,9 +61,9 @@ pub record HasInHand (a : ℕ) (s : Shared) (held : Option Held) : Type 0 where
   pub held_is : hand.held ≡ held
 
 pub record WorksByMoves : Type 0 where
-  pub begins : (z : Cycle) (a : ℕ) (s : Shared) → a < seats_of z.arena.layout → Hands a s nothing → Facts z a s (opening z.arena.layout a)
+  pub begins : (z : Cycle) (a : ℕ) (s : Shared) → a < seats_of z.arena.layout → Hands a s nothing → Facts z a s (opening a)
   -- none sweeps while marking is on
-  pub own_step : (z : Cycle) (a : ℕ) (s : Shared) (w : Working) → Good z s → KnowsObjects z s → sweep_in w ≡ None → Facts z a s w → Steps z a s (asks w) (λ t. Facts z a t (goes w (s.words (cell_of (asks w)))))
+  pub own_step : (z : Cycle) (a : ℕ) (s : Shared) (w : Working) → Good z s → KnowsObjects z s → sweep_in w ≡ None → Facts z a s w → Steps z a s (asks z.arena.layout w) (λ t. Facts z a t (goes z.arena.layout w (s.words (cell_of (asks z.arena.layout w)))))
   pub lasts : (z : Cycle) (a : ℕ) (s t : Shared) (w : Working) → Others z a s t → Facts z a s w → Facts z a t w
   -- the buffer that it has in hand is the one that it holds
   pub holds : (z : Cycle) (a : ℕ) (s : Shared) (w : Working) → Facts z a s w → HasInHand a s (held_at w.held w.stage)

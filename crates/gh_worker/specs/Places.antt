@@ -2,6 +2,7 @@
 use Rattle.std.specs.Prelude.{◌≡◌, ℕ, ◌⊎◌, true, Some}
 use Rattle.gh_base.specs.declared.cell.Ask.TheVariants.{Load}
 use Rattle.gh_base.specs.declared.cell.Cell.TheVariants as cell
+use Rattle.gh_base.specs.declared.layout.Layout.{Layout}
 use Rattle.gh_base.specs.Packing.{phase_of}
 use Rattle.gh_marks.specs.Colours.{Cycle, Shared}
 use Rattle.gh_marks.specs.Seats.{Hands, nothing}
@@ -31,7 +32,7 @@ pub record IsAtWork (w : Working) : Type 0 where
 
 -- so it is between two steps of its work, where it loads the phase
 pub record Polls (w : Working) : Type 0 where
-  pub asks_it : asks w ≡ Load cell.Phase
+  pub asks_it : (l : Layout) → asks l w ≡ Load cell.Phase
   pub works : IsAtWork w
 
 -- it was there before the step, or finds with it that this is the phase
@@ -50,10 +51,10 @@ pub record WorkersKeepPlaces : Type 0 where
   pub looks : (w : Working) → Looks w.stage → IsAtWork w
   pub sweeps : (w : Working) (sw : SpanSweep) → sweep_in w ≡ Some sw → Looks w.stage
   -- it marks only where it has found that marking is on, and looks for spans and sweeps them only where it has found that it is off
-  pub finds_on : (w : Working) (found : ℕ) → is_busy w.stage ≡ true → IsMarking (goes w found).stage → Finds Mark IsMarking found w (goes w found)
-  pub finds_off : (w : Working) (found : ℕ) → Looks (goes w found).stage → Finds Off Looks found w (goes w found)
+  pub finds_on : (l : Layout) (w : Working) (found : ℕ) → is_busy w.stage ≡ true → IsMarking (goes l w found).stage → Finds Mark IsMarking found w (goes l w found)
+  pub finds_off : (l : Layout) (w : Working) (found : ℕ) → Looks (goes l w found).stage → Finds Off Looks found w (goes l w found)
   -- it begins a sweep only where it looked
-  pub begins : (w : Working) (found : ℕ) (sw : SpanSweep) → sweep_in (goes w found) ≡ Some sw → Looks w.stage
+  pub begins : (l : Layout) (w : Working) (found : ℕ) (sw : SpanSweep) → sweep_in (goes l w found) ≡ Some sw → Looks w.stage
   -- where it stands as one that is gone it has left
   pub gone : (w : Working) → stage_of w ≡ Gone → IsLeaving w.stage
   pub rests : (w : Working) (stops : ℕ) (at : ResumeStage) → Sound w → stage_of w ≡ Resumes stops at → RestsAtStop w

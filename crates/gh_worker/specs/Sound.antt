@@ -1,6 +1,8 @@
--- What a worker knows of its own numbers and routines, whatever it is told.
-use Rattle.std.specs.Prelude.{◌≡◌, ℕ, ◌+◌, ◌^◌, ◌<◌, ◌≤◌, Bool, true, false}
+-- What a worker knows of its own numbers and routines, whatever it is told, and what it is as a routine.
+use Rattle.std.specs.Prelude.{◌≡◌, ℕ, ◌+◌, ◌^◌, ◌<◌, ◌≤◌, Bool, true, false, ◌||◌}
 use Rattle.gh_base.specs.declared.layout.Layout.{Layout}
+use Rattle.gh_base.specs.Footprints.{Footprint}
+use Rattle.gh_base.specs.Footprints as row
 use Rattle.gh_base.specs.Holding.{IsHeld}
 use Rattle.gh_base.specs.Machines.{Listing, Runs}
 use Rattle.gh_credit.specs.Earning as earn
@@ -14,7 +16,7 @@ use Rattle.gh_wbuf.specs.BufferGiving as give
 use Rattle.gh_wbuf.specs.EntryTaking as take
 use Rattle.gh_worker.specs.declared.worker.WorkerStage.{WorkerStage}
 use Rattle.gh_worker.specs.declared.worker.WorkerStage.TheVariants.{LoadPhase, LoadPage, Sweeping, EarningAtStop, GiveBack, Resuming, Taking, Scanning, Earning, LoadGlobal, Shading, FindRoom}
-use Rattle.gh_worker.specs.Listing.{Working}
+use Rattle.gh_worker.specs.Listing.{asks, given, goes, Working}
 
 -- the seat of a worker: the processors have the seats before, and the coordinator the one behind
 pub record IsWorkersSeat (l : Layout) (seat : ℕ) : Type 0 where
@@ -57,9 +59,23 @@ abbrev pub rest_of : WorkerStage → WorkerStage
 rest_of LoadPage = LoadPhase
 rest_of p = p
 
-pub record SoundWorking (w : Working) : Type 0 where
-  pub seat : IsWorkersSeat w.layout w.seat
-  pub held : IsHeld w.layout w.held
+pub record SoundWorking (l : Layout) (w : Working) : Type 0 where
+  pub seat : IsWorkersSeat l w.seat
+  pub held : IsHeld l w.held
   pub view : FitsView w.view
-  pub page : w.page < w.layout.pages
-  pub stage : SoundStage w.layout w.stage
+  pub page : w.page < l.pages
+  pub stage : SoundStage l w.stage
+
+-- the rows that it writes while it sweeps no span: those of the scan of an object, and three of its own
+abbrev pub marks : Footprint
+marks row.Gcur = true
+marks row.Bank = true
+marks row.Ack = true
+marks r = scan.writes r
+
+-- and those that its sweeps write
+abbrev pub writes : Footprint
+writes r = marks r || sweep.writes r
+
+abbrev pub listing : Layout → Listing Working (Unit {0})
+listing l = record { asks = asks l; goes = goes l; given = given; sound = SoundWorking l; writes = writes }

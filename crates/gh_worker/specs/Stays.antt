@@ -1,12 +1,8 @@
--- The layout of a worker stays.
-use Rattle.std.proofs.Common.{arith}
+-- A worker has given nothing exactly where it asks for a further step.
 use Rattle.std.specs.Prelude.{◌≡◌, ℕ, true, ◌↔◌, IsNone}
+use Rattle.gh_base.specs.declared.layout.Layout.{Layout}
 use Rattle.gh_base.specs.Given.{is_over}
-use Rattle.gh_worker.specs.Listing.{Working, gives, goes, is_busy}
+use Rattle.gh_worker.specs.Listing.{given, goes, is_busy, Working}
 
-pub stays : (w : Working) (found : ℕ) → (goes w found).layout ≡ w.layout
-stays w found = grind arith
-
--- it has given nothing exactly where it asks for a further step
-pub ends : (w : Working) (found : ℕ) → is_busy w.stage ≡ true → IsNone (gives w found) ↔ (is_busy (goes w found).stage ≡ true)
-ends w found busy = is_over (gives w found)
+pub ends : (l : Layout) (w : Working) (found : ℕ) → is_busy w.stage ≡ true → IsNone (given (goes l w found)) ↔ (is_busy (goes l w found).stage ≡ true)
+ends l w found busy = is_over (given (goes l w found))

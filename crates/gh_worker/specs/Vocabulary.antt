@@ -1,6 +1,6 @@
 -- The names that files with many imports share.
 pub use Rattle.gh_base.specs.Packing.{buffer_word, page_of, phase_of}
-pub use Rattle.gh_base.specs.Routines.{EndsWith, GoesOn, Listing, told}
+pub use Rattle.gh_base.specs.Routines.{told}
 pub use Rattle.gh_base.specs.declared.cell.Ask.{Ask}
 pub use Rattle.gh_base.specs.declared.cell.Ask.TheVariants.{Add, Load, Store}
 pub use Rattle.gh_base.specs.declared.held.Held.{Held}

@@ -1,9 +1,11 @@
 -- What a worker counts: the words that it has scanned.
 use Rattle.std.specs.Prelude.{◌≡◌, ℕ, zero, suc, ◌+◌, ◌-◌, ◌^◌, min, ◌==◌, if◌then◌else◌, Option, Some, None}
+use Rattle.gh_base.specs.Machines.{steps_of}
 use Rattle.gh_scan.specs.Listing as scan
 use Rattle.gh_shade.specs.declared.shade.Shaded.TheVariants as shaded
 use Rattle.gh_shade.specs.Listing as shade
-use Rattle.gh_worker.specs.Listing.{Working, listing, opening}
+use Rattle.gh_worker.specs.Listing.{opening, Working}
+use Rattle.gh_worker.specs.Sound.{listing}
 use Rattle.gh_worker.specs.Vocabulary.{Layout, LoadGlobal, Scanning, Shaded, Shading, told, WorkerStage}
 
 -- the words that are done with a step: those of an object whose scan ends, and one for a global that is nil or whose shading ends
@@ -23,15 +25,15 @@ words_done l _ found = 0
 
 module _ (l : Layout) (seat : ℕ) (found : ℕ → ℕ) where
   abbrev pub from : Working
-  from = opening l seat
+  from = opening seat
 
   abbrev pub after : (n : ℕ) → Working
-  after n = told listing from found n
+  after n = told (steps_of l (listing l)) from found n
 
   -- the words that it has scanned in the first n steps
   abbrev pub scanned : (n : ℕ) → ℕ
   scanned zero = 0
-  scanned (suc n) = scanned n + words_done (after n).layout (after n).stage (found n)
+  scanned (suc n) = scanned n + words_done l (after n).stage (found n)
 
   -- its count is that of the words which it has scanned, and stands still at its type's end
   pub record CountsWords : Type 0 where

@@ -29,7 +29,7 @@ WritesItsOwn seat (Add c more) = ((c ≡ cell.Gcur) × (more ≡ 1)) ⊎ (c ≡ 
 WritesItsOwn seat (Swap c old new) = IsWritten seat c
 
 abbrev pub WorkersWriteTheirOwn : Type 0
-WorkersWriteTheirOwn = (w : Working) → Sound w → sweep_in w ≡ None → is_busy w.stage ≡ true → WritesItsOwn w.seat (asks w)
+WorkersWriteTheirOwn = (l : Layout) (w : Working) → Sound w → sweep_in w ≡ None → is_busy w.stage ≡ true → WritesItsOwn w.seat (asks l w)
 
 -- it loads the phase or a page, sweeps, goes on after a stop, or leaves
 abbrev pub IsOutsideMarking : WorkerStage → Type 0
@@ -54,10 +54,10 @@ AcksAlone seat (Store (cell.Ack a) value) = a ≡ seat
 AcksAlone seat _ = ⊥
 
 pub record CalmWorkersMarkNothing : Type 0 where
-  pub at_first : (l : Layout) (seat : ℕ) → IsCalm (opening l seat)
+  pub at_first : (seat : ℕ) → IsCalm (opening seat)
   -- while it goes on after a stop it is calm
   pub after_stop : (w : Working) (r : resume.Resuming) → Sound w → w.stage ≡ Resuming r → IsCalm w
   -- and it stays so until it finds that marking is on
-  pub stays : (w : Working) (found : ℕ) → IsCalm w → is_busy w.stage ≡ true → IsCalm (goes w found) ⊎ IsMarking (goes w found).stage
+  pub stays : (l : Layout) (w : Working) (found : ℕ) → IsCalm w → is_busy w.stage ≡ true → IsCalm (goes l w found) ⊎ IsMarking (goes l w found).stage
   -- while it runs no sweep it writes its acknowledgement and nothing else
-  pub writes : (w : Working) → Sound w → IsCalm w → sweep_in w ≡ None → is_busy w.stage ≡ true → AcksAlone w.seat (asks w)
+  pub writes : (l : Layout) (w : Working) → Sound w → IsCalm w → sweep_in w ≡ None → is_busy w.stage ≡ true → AcksAlone w.seat (asks l w)

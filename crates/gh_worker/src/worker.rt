@@ -1,13 +1,16 @@
-//! The worker as a machine of single atomic steps.
+//! The worker as a routine of single atomic steps.
 
-ghost use Rattle.std.specs.Prelude.{◌≡◌, ◌^◌, ◌<◌, IsTrue, ◌↔◌, Option, false, true};
+ghost use Rattle.std.specs.Prelude.{◌≡◌, ◌^◌, ◌<◌, IfSome, IsTrue, ◌↔◌, Option, false, true};
+ghost use Rattle.gh_base.specs.declared.layout.Layout.{Layout};
+ghost use Rattle.gh_base.specs.Cells.{InRange};
 ghost use Rattle.gh_base.specs.Holding.{IsHeld};
 ghost use Rattle.gh_base.specs.Packing.{page_of};
 ghost use Rattle.gh_worker.specs.Handshake.{IsMarking};
-ghost use Rattle.gh_worker.specs.Listing.{after_global, after_page, done_with, given, gives, gives_back, goes, goes_at, handed_over, held_at, is_busy, loads_phase_or_page, opening, page_done, page_past, resuming, stops_at, with_work};
-ghost use Rattle.gh_worker.specs.Sound.{IsWorkersSeat};
+ghost use Rattle.gh_worker.specs.Listing.{after_global, after_page, asks, done_with, given, gives_back, goes, goes_at, handed_over, held_at, is_busy, loads_phase_or_page, opening, page_done, page_past, resuming, stops_at, with_work};
+ghost use Rattle.gh_worker.specs.Sound.{IsWorkersSeat, SoundStage, SoundWorking};
 
-use gh_base::{Ask, Cell, GONE, Held, Layout, Machine, PageWord, Phase, PhaseWord, Req, Routine};
+use crate::laws::workers_are_routines;
+use gh_base::{Ask, Cell, GONE, Held, Layout, PageWord, Phase, PhaseWord, Req, Routine};
 use gh_credit::{CREDIT_SLACK, Earn};
 use gh_phase::{Resume, Resumed, View};
 use gh_scan::Scan;
@@ -63,7 +66,6 @@ pub enum WorkerStage {
 /// the last cycle is swept it says that it is gone, and is done.
 #[derive(Clone, Copy, Debug)]
 pub struct Worker {
-    layout: Layout,
     seat: u32,
     held: Option<Held>,
     view: View,
@@ -82,26 +84,25 @@ pub struct Worker {
 
 impl Model for Worker {
     ghost use Rattle.gh_worker.specs.Listing.{Working};
-    ghost use Rattle.gh_worker.specs.Sound.{SoundWorking, is_at_page, LooksSo, rest_of, stage_kept};
+    ghost use Rattle.gh_worker.specs.Sound.{is_at_page, LooksSo, rest_of, stage_kept};
 
     ghost Value = { Working };
 
-    ghost view = { λ w. record { layout = w.layout; seat = w.seat; held = w.held; view = w.view; marks = w.marks; scan_work = w.scan_work; earned = w.earned; page = w.page; stage = stage_kept w.at_page w.stage } };
+    ghost view = { λ w. record { seat = w.seat; held = w.held; view = w.view; marks = w.marks; scan_work = w.scan_work; earned = w.earned; page = w.page; stage = stage_kept w.at_page w.stage } };
 
-    ghost invariant = { λ w. SoundWorking (record { layout = w.layout; seat = w.seat; held = w.held; view = w.view; marks = w.marks; scan_work = w.scan_work; earned = w.earned; page = w.page; stage = stage_kept w.at_page w.stage }) × LooksSo w.at_page w.stage };
+    ghost invariant = { λ w. LooksSo w.at_page w.stage };
 
-    ghost inverse = { λ w. record { layout = w.layout; seat = w.seat; held = w.held; view = w.view; marks = w.marks; scan_work = w.scan_work; earned = w.earned; page = w.page; at_page = is_at_page w.stage; stage = rest_of w.stage } };
+    ghost inverse = { λ w. record { seat = w.seat; held = w.held; view = w.view; marks = w.marks; scan_work = w.scan_work; earned = w.earned; page = w.page; at_page = is_at_page w.stage; stage = rest_of w.stage } };
 }
 
 impl Worker {
     /// A worker at this seat, before its first step: it holds no buffer.
-    pub fn new(layout: &Layout, seat: u32) -> Worker
-        requires { IsWorkersSeat layout.now seat }
-        ensures opening { result ≡ opening layout.now seat }
+    pub fn new(seat: u32) -> Worker
+        ensures opening { result ≡ opening seat }
         ensures begun { is_busy result.stage ≡ true }
+        ensures sound { (l : Layout) → IsWorkersSeat l seat → SoundWorking l result }
     {
         Worker {
-            layout: *layout,
             seat,
             held: None,
             view: View::first(),
@@ -153,7 +154,7 @@ impl Worker {
     /// The buffer that is held now, if any.
     pub fn held(&self) -> Option<Held>
         ensures is { result ≡ held_at self.now.held self.now.stage }
-        ensures fits { IsHeld self.now.layout result }
+        ensures fits { (l : Layout) → SoundWorking l self.now → IsHeld l result }
     {
         match &self.stage {
             WorkerStage::GiveBack(give, _) => give.held(),
@@ -167,7 +168,6 @@ impl Worker {
 
     /// It acknowledges the stop of this number.
     fn resuming(&self, stops: u64) -> WorkerStage
-        requires { stops < 2 ^ 62 }
         ensures { result ≡ resuming self.now stops }
     {
         WorkerStage::Resuming(Resume::new(self.seat, stops, self.view))
@@ -175,7 +175,6 @@ impl Worker {
 
     /// Acknowledges the stop of this number, and gives the buffer that it holds back first.
     fn gives_back(&self, stops: u64) -> WorkerStage
-        requires { stops < 2 ^ 62 }
         ensures { result ≡ gives_back self.now stops self.now.held }
     {
         match self.held {
@@ -186,7 +185,6 @@ impl Worker {
 
     /// Stops, and hands over what it has scanned first.
     fn stop(&mut self, stops: u64)
-        requires { stops < 2 ^ 62 }
         ensures goes { self.new ≡ record self.old { stage = stops_at self.old stops self.old.held } }
         ensures goes_on { given self.new ≡ Option.None }
     {
@@ -199,9 +197,9 @@ impl Worker {
     }
 
     /// Goes on by the phase word.
-    fn by_phase(&mut self, found: u64)
+    fn by_phase(&mut self, layout: &Layout, found: u64)
         requires { self.old.stage ≡ WorkerStage.LoadPhase }
-        ensures goes { self.new ≡ goes_at self.old WorkerStage.LoadPhase found }
+        ensures goes { self.new ≡ goes_at layout.now self.old WorkerStage.LoadPhase found }
         ensures goes_on { given self.new ≡ Option.None }
     {
         let word = PhaseWord::unpack(found);
@@ -220,31 +218,20 @@ impl Worker {
         }
     }
 
-    /// The page behind this one, and behind the last the first.
-    fn page_past(&self, page: u32) -> u32
-        requires { page < self.now.layout.pages }
-        ensures is { result ≡ page_past self.now.layout page }
-        ensures below { result < self.now.layout.pages }
-    {
-        if page + 1 < self.layout.pages {
-            page + 1
-        } else {
-            0
-        }
-    }
-
     /// It is done with the page at its cursor.
-    fn page_done(&mut self)
-        ensures { self.new ≡ page_done self.old }
+    fn page_done(&mut self, layout: &Layout)
+        requires { self.old.page < layout.now.pages }
+        ensures { self.new ≡ page_done layout.now self.old }
     {
-        self.page = self.page_past(self.page);
+        self.page = page_past(layout, self.page);
         self.at_page = false;
         self.stage = WorkerStage::LoadPhase;
     }
 
     /// Goes on by the word of the page: where that is the head of an unswept span, it sweeps it.
-    fn after_page(&mut self, found: u64)
-        ensures { self.new ≡ after_page self.old (page_of found) }
+    fn after_page(&mut self, layout: &Layout, found: u64)
+        requires { self.old.page < layout.now.pages }
+        ensures { self.new ≡ after_page layout.now self.old (page_of found) }
     {
         match PageWord::unpack(found) {
             PageWord::Head(head) => {
@@ -253,36 +240,82 @@ impl Worker {
                     self.at_page = false;
                     self.stage = WorkerStage::Sweeping(sweep);
                 } else {
-                    self.page_done();
+                    self.page_done(layout);
                 }
             }
-            PageWord::Free | PageWord::Body(_) => self.page_done(),
+            PageWord::Free | PageWord::Body(_) => self.page_done(layout),
         }
     }
 
     /// Takes the step of such a load.
+    #[inline(always)]
+    pub fn idle(&mut self, layout: &Layout, found: u64)
+        requires sound { SoundWorking layout.now self.old }
+        requires idle { loads_phase_or_page self.old.stage ≡ true }
+        ensures goes { self.new ≡ goes layout.now self.old found }
+        ensures goes_on { given self.new ≡ Option.None }
+        ensures sound { SoundWorking layout.now self.new }
+    {
+        workers_are_routines();
+        self.look(layout, found);
+    }
+
+    /// Goes on by such a load.
     // Mostly marking is off still, and the page in no unswept span: both are passed here, and all else by a call.
     #[inline(always)]
-    pub fn idle(&mut self, found: u64)
-        requires { loads_phase_or_page self.old.stage ≡ true }
-        ensures goes { self.new ≡ goes self.old found }
-        ensures goes_on { gives self.old found ≡ Option.None }
+    fn look(&mut self, layout: &Layout, found: u64)
+        requires page { self.old.page < layout.now.pages }
+        requires idle { loads_phase_or_page self.old.stage ≡ true }
+        ensures goes { self.new ≡ goes layout.now self.old found }
+        ensures goes_on { given self.new ≡ Option.None }
     {
         if !self.at_page {
             match PhaseWord::unpack(found).phase {
                 Phase::Off => self.at_page = true,
-                Phase::Mark | Phase::Stop | Phase::Finished => self.by_phase(found),
+                Phase::Mark | Phase::Stop | Phase::Finished => self.by_phase(layout, found),
             }
             return;
         }
         match PageWord::unpack(found) {
             PageWord::Head(head) if head.number + 2 == self.view.generation => {
-                self.after_page(found)
+                self.after_page(layout, found)
             }
             _ => {
-                self.page = self.page_past(self.page);
+                self.page = page_past(layout, self.page);
                 self.at_page = false;
             }
+        }
+    }
+
+    /// The cell that its next step loads, where it waits for the end of a stop, or looks at a buffer for an entry.
+    #[inline(always)]
+    pub fn looks(&self) -> Option<Cell>
+        ensures asks { (l : Layout) → IfSome result (λ c. asks l self.now ≡ Ask.Load c) }
+        ensures busy { IfSome result (λ c. given self.now ≡ Option.None) }
+        ensures within { (l : Layout) → SoundWorking l self.now → IfSome result (λ c. InRange l c) }
+    {
+        match &self.stage {
+            WorkerStage::Resuming(resume) => resume.looks(),
+            WorkerStage::Taking(take) => take.looks(),
+            _ => None,
+        }
+    }
+
+    /// Goes on by such a load, where the stop still lasts, or where that buffer does not serve and another stands behind it, and
+    /// answers whether it did. With many workers most of their steps are such, and each changes a number or nothing; where it did
+    /// not, nothing has changed, and [`take`](Routine::take) makes the step.
+    #[inline(always)]
+    pub fn goes_on(&mut self, layout: &Layout, found: u64) -> bool
+        requires sound { SoundWorking layout.now self.old }
+        ensures goes { IsTrue result → self.new ≡ goes layout.now self.old found }
+        ensures busy { IsTrue result → given self.new ≡ Option.None }
+        ensures sound { SoundWorking layout.now self.new }
+        ensures stays { result ≡ false → self.new ≡ self.old }
+    {
+        match &mut self.stage {
+            WorkerStage::Resuming(resume) => resume.stands(found),
+            WorkerStage::Taking(take) => take.goes_on(layout, found),
+            _ => false,
         }
     }
 
@@ -296,7 +329,6 @@ impl Worker {
 
     /// Goes on after its buffer is given back.
     fn given_back(&mut self, stops: u64)
-        requires { stops < 2 ^ 62 }
         ensures { self.new ≡ record self.old { held = Option.None; stage = resuming self.old stops } }
     {
         self.held = None;
@@ -317,7 +349,6 @@ impl Worker {
 
     /// So many words are scanned, and this buffer is held, if any.
     fn done_with(&mut self, held: Option<Held>, words: u32)
-        requires { IsHeld self.old.layout held }
         ensures { self.new ≡ done_with self.old held words }
     {
         self.held = held;
@@ -327,19 +358,12 @@ impl Worker {
         self.stage = self.with_work(self.scan_work);
     }
 
-    /// There is a global of this number.
-    fn is_global(&self, number: u64) -> bool
-        ensures { IsTrue result ↔ (number < self.now.layout.globals) }
-    {
-        number < u64::from(self.layout.globals)
-    }
-
     /// Goes on by the number of the next global: where there is one, it claims one.
-    fn after_cursor(&mut self, found: u64)
-        ensures { self.new ≡ goes_at self.old WorkerStage.LoadCursor found }
+    fn after_cursor(&mut self, layout: &Layout, found: u64)
+        ensures { self.new ≡ goes_at layout.now self.old WorkerStage.LoadCursor found }
     {
         self.at_page = false;
-        self.stage = if self.is_global(found) {
+        self.stage = if is_global(layout, found) {
             WorkerStage::Claim
         } else {
             WorkerStage::LoadPhase
@@ -347,11 +371,11 @@ impl Worker {
     }
 
     /// Goes on by the number that it has claimed.
-    fn after_claim(&mut self, found: u64)
-        ensures { self.new ≡ goes_at self.old WorkerStage.Claim found }
+    fn after_claim(&mut self, layout: &Layout, found: u64)
+        ensures { self.new ≡ goes_at layout.now self.old WorkerStage.Claim found }
     {
         self.at_page = false;
-        self.stage = if self.is_global(found) {
+        self.stage = if is_global(layout, found) {
             WorkerStage::LoadGlobal(found as u32)
         } else {
             WorkerStage::LoadPhase
@@ -359,13 +383,13 @@ impl Worker {
     }
 
     /// Goes on by what the global holds: nil, or a reference.
-    fn after_global(&mut self, found: u64)
-        ensures { self.new ≡ after_global self.old found }
+    fn after_global(&mut self, layout: &Layout, found: u64)
+        ensures { self.new ≡ after_global layout.now self.old found }
     {
         if found == 0 {
             self.done_with(self.held, 1);
         } else {
-            let words = 1024 * u64::from(self.layout.pages);
+            let words = 1024 * u64::from(layout.pages);
             let reference = (found - 1) % words + 1;
             self.at_page = false;
             self.stage = WorkerStage::Shading(Shade::new(reference, self.held));
@@ -373,12 +397,13 @@ impl Worker {
     }
 
     /// Takes a step of marking. Each stage is changed where it stands.
-    fn mark(&mut self, found: u64)
-        requires { IsMarking self.old.stage }
-        ensures { self.new ≡ goes self.old found }
+    fn mark(&mut self, layout: &Layout, found: u64)
+        requires marks { IsMarking self.old.stage }
+        requires sound { SoundStage layout.now self.old.stage }
+        ensures { self.new ≡ goes layout.now self.old found }
     {
         match &mut self.stage {
-            WorkerStage::Taking(take) => match take.take(&self.layout, found) {
+            WorkerStage::Taking(take) => match take.take(layout, found) {
                 None => {}
                 Some(None) => {
                     self.held = take.held();
@@ -391,7 +416,7 @@ impl Worker {
                 }
             },
             WorkerStage::Scanning(scan) => {
-                if let Some(words) = scan.take(&self.layout, found) {
+                if let Some(words) = scan.take(layout, found) {
                     let held = scan.held();
                     self.stage = WorkerStage::LoadPhase;
                     self.done_with(held, words);
@@ -401,10 +426,10 @@ impl Worker {
                 self.handed_over();
                 self.stage = WorkerStage::LoadPhase;
             }
-            WorkerStage::LoadCursor => self.after_cursor(found),
-            WorkerStage::Claim => self.after_claim(found),
-            WorkerStage::LoadGlobal(_) => self.after_global(found),
-            WorkerStage::Shading(shade) => match shade.take(&self.layout, found) {
+            WorkerStage::LoadCursor => self.after_cursor(layout, found),
+            WorkerStage::Claim => self.after_claim(layout, found),
+            WorkerStage::LoadGlobal(_) => self.after_global(layout, found),
+            WorkerStage::Shading(shade) => match shade.take(layout, found) {
                 None => {}
                 Some(Shaded::Done) => {
                     let held = shade.held;
@@ -418,7 +443,7 @@ impl Worker {
                 }
             },
             WorkerStage::FindRoom(shade, room) => {
-                if let Some(held) = room.take(&self.layout, found) {
+                if let Some(held) = room.take(layout, found) {
                     // The shading that waits for room has it, and goes on.
                     let mut shade = *shade;
                     shade.told_room(held);
@@ -426,6 +451,50 @@ impl Worker {
                 }
             }
             _ => {}
+        }
+    }
+
+    /// Goes on by what its step found.
+    fn go(&mut self, layout: &Layout, found: u64)
+        requires sound { SoundWorking layout.now self.old }
+        ensures { self.new ≡ goes layout.now self.old found }
+    {
+        if self.at_page {
+            self.after_page(layout, found);
+            return;
+        }
+        match &mut self.stage {
+            WorkerStage::LoadPhase => self.by_phase(layout, found),
+            WorkerStage::LoadPage => self.after_page(layout, found),
+            WorkerStage::Sweeping(sweep) => {
+                // One that is lost another has begun.
+                if sweep.take(layout, found).is_some() {
+                    self.stage = WorkerStage::LoadPhase;
+                    self.page_done(layout);
+                }
+            }
+            WorkerStage::EarningAtStop(_, stops) => {
+                let stops = *stops;
+                self.handed_over();
+                self.at_page = false;
+                self.stage = self.gives_back(stops);
+            }
+            WorkerStage::GiveBack(_, stops) => {
+                let stops = *stops;
+                self.given_back(stops);
+            }
+            WorkerStage::Resuming(resume) => {
+                if let Some(resumed) = resume.take(layout, found) {
+                    self.view = resumed.view;
+                    self.stage = WorkerStage::LoadPhase;
+                }
+            }
+            WorkerStage::Leave => {
+                self.at_page = false;
+                self.stage = WorkerStage::Done;
+            }
+            WorkerStage::Done => {}
+            _ => self.mark(layout, found),
         }
     }
 
@@ -440,94 +509,57 @@ impl Worker {
     }
 }
 
-impl Machine for Worker {
-    ghost use Rattle.gh_base.specs.Given.{is_over};
-    ghost use Rattle.gh_worker.specs.Listing.{listing};
-    ghost use Rattle.gh_worker.specs.Stays.{stays};
+/// The page behind this one, and behind the last the first.
+fn page_past(layout: &Layout, page: u32) -> u32
+    requires { page < layout.now.pages }
+    ensures { result ≡ page_past layout.now page }
+{
+    if page + 1 < layout.pages { page + 1 } else { 0 }
+}
+
+/// There is a global of this number.
+fn is_global(layout: &Layout, number: u64) -> bool
+    ensures { IsTrue result ↔ (number < layout.now.globals) }
+{
+    number < u64::from(layout.globals)
+}
+
+impl Routine for Worker {
+    ghost use Rattle.gh_worker.specs.Sound.{listing};
 
     type Out = ();
 
-    ghost layout = { listing.layout };
-
-    ghost busy = { listing.busy };
-
-    ghost asks = { listing.asks };
-
-    ghost goes = { listing.goes };
-
-    ghost gives = { listing.gives };
+    ghost listing = { listing };
 
     #[inline(always)]
-    fn next(&self) -> Req {
+    fn next(&self, layout: &Layout) -> Req {
         if self.at_page {
-            return self.layout.request(Ask::Load(Cell::Page(self.page)));
+            return layout.request(Ask::Load(Cell::Page(self.page)));
         }
         let ask = match &self.stage {
             WorkerStage::LoadPhase => Ask::Load(Cell::Phase),
             WorkerStage::LoadPage => Ask::Load(Cell::Page(self.page)),
-            WorkerStage::Sweeping(sweep) => return sweep.next(&self.layout),
-            WorkerStage::EarningAtStop(earn, _) => return earn.next(&self.layout),
-            WorkerStage::GiveBack(give, _) => return give.next(&self.layout),
-            WorkerStage::Resuming(resume) => return resume.next(&self.layout),
-            WorkerStage::Taking(take) => return take.next(&self.layout),
-            WorkerStage::Scanning(scan) => return scan.next(&self.layout),
-            WorkerStage::Earning(earn) => return earn.next(&self.layout),
+            WorkerStage::Sweeping(sweep) => return sweep.next(layout),
+            WorkerStage::EarningAtStop(earn, _) => return earn.next(layout),
+            WorkerStage::GiveBack(give, _) => return give.next(layout),
+            WorkerStage::Resuming(resume) => return resume.next(layout),
+            WorkerStage::Taking(take) => return take.next(layout),
+            WorkerStage::Scanning(scan) => return scan.next(layout),
+            WorkerStage::Earning(earn) => return earn.next(layout),
             WorkerStage::LoadCursor => Ask::Load(Cell::Gcur),
             WorkerStage::Claim => Ask::Add(Cell::Gcur, 1),
             WorkerStage::LoadGlobal(i) => Ask::Load(Cell::Global(*i)),
-            WorkerStage::Shading(shade) => return shade.next(&self.layout),
-            WorkerStage::FindRoom(_, room) => return room.next(&self.layout),
+            WorkerStage::Shading(shade) => return shade.next(layout),
+            WorkerStage::FindRoom(_, room) => return room.next(layout),
             WorkerStage::Leave => Ask::Store(Cell::Ack(self.seat), GONE),
             WorkerStage::Done => Ask::Load(Cell::Touch),
         };
-        self.layout.request(ask)
+        layout.request(ask)
     }
 
-    fn take(&mut self, found: u64) -> Option<()> {
-        if self.at_page {
-            self.after_page(found);
-            return None;
-        }
-        match &mut self.stage {
-            WorkerStage::LoadPhase => {
-                self.by_phase(found);
-                return None;
-            }
-            WorkerStage::LoadPage => self.after_page(found),
-            WorkerStage::Sweeping(sweep) => {
-                // One that is lost another has begun.
-                if sweep.take(&self.layout, found).is_some() {
-                    self.stage = WorkerStage::LoadPhase;
-                    self.page_done();
-                }
-            }
-            WorkerStage::EarningAtStop(_, stops) => {
-                let stops = *stops;
-                self.handed_over();
-                self.at_page = false;
-                self.stage = self.gives_back(stops);
-            }
-            WorkerStage::GiveBack(_, stops) => {
-                let stops = *stops;
-                self.given_back(stops);
-            }
-            WorkerStage::Resuming(resume) => {
-                if let Some(resumed) = resume.take(&self.layout, found) {
-                    self.view = resumed.view;
-                    self.stage = WorkerStage::LoadPhase;
-                }
-            }
-            WorkerStage::Leave => {
-                self.at_page = false;
-                self.stage = WorkerStage::Done;
-            }
-            WorkerStage::Done => {}
-            _ => self.mark(found),
-        }
+    fn take(&mut self, layout: &Layout, found: u64) -> Option<()> {
+        workers_are_routines();
+        self.go(layout, found);
         self.given()
     }
-
-    ghost ends = { λ m found busy. is_over (listing.gives m found) };
-
-    ghost stays = { stays };
 }

@@ -1,11 +1,11 @@
 -- An operation of one step that is begun and ended at once.
-use Rattle.std.proofs.Common.{◌≡◌, ℕ, Bool, true, false, List, refl, sym, subst, ◌∙◌, ap, Some, arith}
+use Rattle.std.proofs.Common.{◌≡◌, ℕ, Bool, false, List, refl, sym, ◌∙◌, ap, Some, arith}
 use Rattle.gh_base.specs.declared.operation.Op.TheVariants as op
 use Rattle.gh_mutator.specs.Mutating.{asks, begins, goes}
 use Rattle.gh_mutator.specs.PollRoom.{PollsMakeRoom}
 use Rattle.gh_world.specs.Turns.{Follows, is_poll_due, is_run_due, op_due}
 use Rattle.gh_world.specs.Vocabulary.{acting, is_last, WellFormed}
-use Rattle.gh_world.specs.World.{Begins, event_at, SoundTurns, found_for, LaysOut, now_of, op_at_turn, Ran}
+use Rattle.gh_world.specs.World.{event_at, SoundTurns, found_for, LaysOut, now_of, op_at_turn, Ran}
 use Rattle.gh_world.specs.declared.runner.Runner.{Runner}
 use Rattle.gh_world.proofs.Vocabulary.{acts, cell_of, changed, Event, has_left_at, InRange, is_busy_at, is_point, Layout, Next, Op, Program, progress_after, request, statement_answer}
 use Rattle.gh_world.proofs.Fitting.{busy_begun, fit_begun}
@@ -14,32 +14,14 @@ use Rattle.gh_world.proofs.Fitting.{busy_begun, fit_begun}
 pub polls_no_point : (b : Bool) → false ≡ is_point (acting b op.Poll false)
 polls_no_point b = grind arith
 
--- an operation that is begun, and the step behind that, where the layout is the processor's own
-pub begun_then : (p : Program) (j : Layout) (a : ℕ) (before behind : List ℕ) (x y z : Runner) (happened : Event) (pointed : Bool) → Begins p a x y → SoundTurns p j a y.mutator y.progress → is_busy_at y.mutator.processor.task ≡ true → InRange y.mutator.processor.poll.layout (cell_of (asks y.mutator)) →
-    behind ≡ changed (request y.mutator.processor.poll.layout (asks y.mutator)) before → z ≡ record y { mutator = goes y.mutator (found_for y.mutator.processor.poll.layout before y) } →
-    happened ≡ event_at (now_of y.progress) (is_last y.mutator.processor.task) (statement_answer y.mutator.processor (found_for y.mutator.processor.poll.layout before y)) → pointed ≡ is_point (acts y.mutator.processor (found_for y.mutator.processor.poll.layout before y)) →
-    Ran p j a before behind x z happened pointed
-begun_then p j a before behind x y z happened pointed begins fits busy within words after says point =
-    subst (λ (l : Layout). Ran p l a before behind x z happened pointed) fits.laid (record {
-      begun = y;
-      begins = begins;
-      fits = subst (λ (l : Layout). SoundTurns p l a y.mutator y.progress) (sym fits.laid) fits;
-      busy = busy;
-      within = within;
-      words = words;
-      goes = after;
-      says = says;
-      point = point;
-    })
-
-module _ (p : Program) (l : Layout) (script : WellFormed p) (layout : LaysOut p l) (a : ℕ) (x : Runner) (f : SoundTurns p l a x.mutator x.progress) (polls : PollsMakeRoom) (o : Op) (new : Next) where
+module _ (p : Program) (l : Layout) (script : WellFormed p) (layout : LaysOut p l) (a : ℕ) (x : Runner) (f : SoundTurns p a x.mutator x.progress) (polls : PollsMakeRoom) (o : Op) (new : Next) where
   abbrev pub begun : Runner
   begun = record { mutator = begins x.mutator o; progress = progress_after x.progress (Some o) new }
 
   pub at_once : (before behind : List ℕ) (y : Runner) (happened : Event) (pointed : Bool) → is_busy_at x.mutator.processor.task ≡ false → has_left_at x.mutator.processor.task ≡ false →
-      op_due p x.progress.next ≡ Some o → is_run_due new ≡ is_poll_due x.progress.next → Follows p a x.progress.next o new → InRange l (cell_of (asks begun.mutator)) → behind ≡ changed (request l (asks begun.mutator)) before →
-      y ≡ record begun { mutator = goes begun.mutator (found_for l before begun) } → happened ≡ event_at (now_of begun.progress) (is_last begun.mutator.processor.task) (statement_answer begun.mutator.processor (found_for l before begun)) →
-      pointed ≡ is_point (acts begun.mutator.processor (found_for l before begun)) → Ran p l a before behind x y happened pointed
+      op_due p x.progress.next ≡ Some o → is_run_due new ≡ is_poll_due x.progress.next → Follows p a x.progress.next o new → InRange l (cell_of (asks l begun.mutator)) → behind ≡ changed (request l (asks l begun.mutator)) before →
+      y ≡ record begun { mutator = goes l begun.mutator (found_for l before begun) } → happened ≡ event_at (now_of begun.progress) (is_last begun.mutator.processor.task) (statement_answer l begun.mutator.processor (found_for l before begun)) →
+      pointed ≡ is_point (acts l begun.mutator.processor (found_for l before begun)) → Ran p l a before behind x y happened pointed
   at_once before behind y happened pointed idle going due polled follows within words after says point =
       let is : Some o ≡ op_at_turn p (is_busy_at x.mutator.processor.task) x.progress.next = sym due ∙ ap (λ (b : Bool). op_at_turn p b x.progress.next) (sym idle) in
       record {

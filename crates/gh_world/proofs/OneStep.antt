@@ -4,6 +4,7 @@ use Rattle.gh_coord.specs.Listing as coord
 use Rattle.gh_mutator.specs.PollRoom.{PollsMakeRoom}
 use Rattle.gh_worker.specs.Listing as worker
 use Rattle.gh_mutator.specs.Mutating.{asks, goes}
+use Rattle.gh_mutator.specs.Sound.{SoundMutating}
 use Rattle.gh_world.specs.declared.runner.Runner.{Runner}
 use Rattle.gh_world.specs.Turns.{next_point, total_of}
 use Rattle.gh_world.specs.Vocabulary.{is_last, CoordStage}
@@ -36,13 +37,13 @@ runner_going w a x is going = ap has_ended (sym (runner_here w a x is)) ∙ goin
 -- the world behind a step of the processor at seat a on what it has begun, and what that step says
 abbrev stepped : State → (a : ℕ) → Runner → State
 stepped w a y = record w {
-  words = changed (request w.layout (asks y.mutator)) w.words;
-  runners = set w.runners a (record { mutator = goes y.mutator (found_by w (asks y.mutator)); progress = y.progress });
-  points = w.points ++ next_point (is_point (acts y.mutator.processor (found_by w (asks y.mutator)))) (now_of y.progress);
+  words = changed (request w.layout (asks w.layout y.mutator)) w.words;
+  runners = set w.runners a (record { mutator = goes w.layout y.mutator (found_by w (asks w.layout y.mutator)); progress = y.progress });
+  points = w.points ++ next_point (is_point (acts w.layout y.mutator.processor (found_by w (asks w.layout y.mutator)))) (now_of y.progress);
 }
 
 abbrev told : State → Runner → Event
-told w y = event_at (now_of y.progress) (is_last y.mutator.processor.task) (statement_answer y.mutator.processor (found_by w (asks y.mutator)))
+told w y = event_at (now_of y.progress) (is_last y.mutator.processor.task) (statement_answer w.layout y.mutator.processor (found_by w (asks w.layout y.mutator)))
 
 module _ (w : State) (f : Kept w) (a : ℕ) (x : Runner) (is : slice_get w.runners a ≡ Some x) where
   abbrev p : Program
@@ -51,7 +52,7 @@ module _ (w : State) (f : Kept w) (a : ℕ) (x : Runner) (is : slice_get w.runne
   abbrev l : Layout
   l = w.layout
 
-  fits : SoundTurns p l a x.mutator x.progress
+  fits : SoundTurns p a x.mutator x.progress
   fits = f.fit.running.each a x is
 
   seat : a < l.procs
@@ -67,12 +68,12 @@ module _ (w : State) (f : Kept w) (a : ℕ) (x : Runner) (is : slice_get w.runne
   begun_is : (y : Runner) (k : Begins p a x y) → is_done w a ≡ false → y ≡ with_begun k.o y.progress.next
   begun_is y k going = grind (arith, fits, going_on, mutator_is)
 
-  knows : PollsMakeRoom → (y : Runner) (k : Begins p a x y) → is_done w a ≡ false → InRange l (cell_of (asks y.mutator)) → Knows p l f.fit.base.script f.fit.base.layout a seat x.mutator.processor x.progress k.o y.progress.next
+  knows : PollsMakeRoom → (y : Runner) (k : Begins p a x y) → is_done w a ≡ false → InRange l (cell_of (asks l y.mutator)) → Knows p l f.fit.base.script f.fit.base.layout a seat x.mutator.processor x.progress k.o y.progress.next
   knows polls y k going within = record {
     is = k.is;
     goes = k.goes;
     busy = subst (λ (m : Mutating). is_busy_at m.processor.task ≡ true) (mutator_is x.mutator p.shapes l k.o fits.shapes (going_on going)) (busy_begun p l f.fit.base.script f.fit.base.layout a x.mutator x.progress fits k.o (going_on going) k.is);
-    within = subst (λ (z : Runner). InRange l (cell_of (asks z.mutator))) (begun_is y k going) within;
+    within = subst (λ (z : Runner). InRange l (cell_of (asks l z.mutator))) (begun_is y k going) within;
     made = fits.made;
     stands = fits.turns.stands;
     all = let all = fits.turns.all in let few = total_by-le p a in omega (arith, all, few);
@@ -91,11 +92,11 @@ module _ (w : State) (f : Kept w) (a : ℕ) (x : Runner) (is : slice_get w.runne
       let e = entry_of p l f.fit.base.script f.fit.base.layout a seat w.words x.mutator.processor b in
       let few = marks_few p l f.fit.base.script f.fit.base.layout a x.mutator x.progress fits in
       let said = says_so ∙ says p l f.fit.base.script f.fit.base.layout a seat w.words es x.mutator.shapes x.mutator.processor x.mutator.marks x.progress b new r k in
-      let marks = marks_more x.mutator.marks (statement_answer (with_begun b new).mutator.processor (found_by w (asks (with_begun b new).mutator))) few in
+      let marks = marks_more x.mutator.marks (statement_answer l (with_begun b new).mutator.processor (found_by w (asks l (with_begun b new).mutator))) few in
       subst (λ (z : State). Appends z a es happened) (sym is_so) (record {
         e = e;
         by = refl;
-        after = of_parts (stepped w a (with_begun b new)) (e ∷ es) (subst (λ (n : ℕ). After p l (record (parts_of (stepped w a (with_begun b new))) { runners = set w.runners a (runner_of p.shapes (takes p.shapes (with_begun b new).mutator.processor (found_by w (asks (with_begun b new).mutator))) n (progress_after x.progress b new)) }) (e ∷ es)) (sym marks)
+        after = of_parts (stepped w a (with_begun b new)) (e ∷ es) (subst (λ (n : ℕ). After p l (record (parts_of (stepped w a (with_begun b new))) { runners = set w.runners a (runner_of p.shapes (takes l p.shapes (with_begun b new).mutator.processor (found_by w (asks l (with_begun b new).mutator))) n (progress_after x.progress b new)) }) (e ∷ es)) (sym marks)
             (follows p l f.fit.base.script f.fit.base.layout a seat own shown (parts_of w) es parts x.mutator.shapes x.mutator.processor x.mutator.marks x.progress b new is k)) f.fit.others.many;
         says = said;
         answers = ap answered_in said ∙ tells p l f.fit.base.script f.fit.base.layout a seat w.words x.mutator.processor es b r.processor;
@@ -108,23 +109,26 @@ appends polls w v a es happened own shown f going st after =
 
 -- ---- what the code's step of a processor has done
 
-module _ (polls : PollsMakeRoom) (w : State) (points room : ℕ) (f : SoundState w points room) (a : ℕ) (x z : Runner) (is : slice_get w.runners a ≡ Some x) (list : List ℕ) (happened : Event) (b : Bool) (r : Ran w.script w.layout a w.words list x z happened b) where
+module _ (polls : PollsMakeRoom) (w : State) (points room : ℕ) (f : SoundState w points room) (a : ℕ) (x z : Runner) (is : slice_get w.runners a ≡ Some x) (list : List ℕ) (happened : Event) (b : Bool) (r : Ran w.script w.layout a w.words list x z happened b) (sound : SoundMutating w.layout z.mutator.shapes z.mutator.processor) where
   abbrev pub found_there : ℕ
-  found_there = found_by w (asks r.begun.mutator)
+  found_there = found_by w (asks w.layout r.begun.mutator)
+
+  sound_there : SoundMutating w.layout r.begun.mutator.shapes (goes w.layout r.begun.mutator found_there).processor
+  sound_there = subst (λ (y : Runner). SoundMutating w.layout y.mutator.shapes y.mutator.processor) r.goes sound
 
   pub room_there : b ≡ true → points < room
-  room_there = point_room polls w points room f a x r.begun is r.begins r.fits r.busy found_there b r.point
+  room_there = point_room polls w points room f a x r.begun is r.begins r.fits r.busy found_there sound_there b r.point
 
   pub ran_there : SoundRunners w.script w.layout (set w.runners a z) (points + bit b) room
-  ran_there = rw (r.goes, r.point) (ran polls w points room f a x r.begun is r.begins r.fits r.busy found_there)
+  ran_there = rw (r.goes, r.point) (ran polls w points room f a x r.begun is r.begins r.fits r.busy found_there sound_there)
 
   pub words_there : SoundWords w.script w.layout list
-  words_there = fits_again _ _ _ _ (request w.layout (asks r.begun.mutator)) r.words f.base
+  words_there = fits_again _ _ _ _ (request w.layout (asks w.layout r.begun.mutator)) r.words f.base
 
   pub run_is : (items : List (ℕ × ℕ)) (now : ℕ × ℕ) → now ≡ now_of z.progress → items ≡ w.points ++ next_point b now → IsStepOfProcessor w (record w { words = list; runners = set w.runners a z; points = items }) a happened
   run_is items now noted items_are =
       let now_is : now ≡ now_of r.begun.progress = noted ∙ ap (λ (y : Runner). now_of y.progress) r.goes in
-      let points_are : items ≡ w.points ++ next_point (is_point (acts r.begun.mutator.processor found_there)) (now_of r.begun.progress) =
+      let points_are : items ≡ w.points ++ next_point (is_point (acts w.layout r.begun.mutator.processor found_there)) (now_of r.begun.progress) =
       items_are ∙ ap (λ (t : ℕ × ℕ). w.points ++ next_point b t) now_is ∙ ap (λ (c : Bool). w.points ++ next_point c (now_of r.begun.progress)) r.point in
       record {
         before_it = x;
@@ -152,7 +156,7 @@ appends_work w v a i es happened shown f at going st after =
     let busy = busy_worker w a i st.before_it at st.is going in
     let procs = f.fit.running.many in
     let parts = in_parts w es after in
-    let next = worker.goes st.before_it (found_by w (worker.asks st.before_it)) in
+    let next = worker.goes w.layout st.before_it (found_by w (worker.asks w.layout st.before_it)) in
     let workers : length (set w.workers i next) ≡ w.layout.workers = length-set w.workers i next ∙ f.fit.others.many in
     subst (λ (y : State). Appends y a es happened) (sym st.others) (record {
       e = work_entry w.script w.layout shown (parts_of w) es parts i st.before_it st.is few busy st.within;

@@ -25,5 +25,5 @@ module _ (p : Program) (l : Layout) where
   other_none a es o le begins runs = resting.begins_none (setup_of p l) a es o le begins runs
 
   -- at its seat a processor would rest
-  pub rests : (a : ℕ) → l.procs ≤ a → (es : List (Entry Op)) → Legal (setting_of p l) es → state_of one a es ≡ opening_processor l a
+  pub rests : (a : ℕ) → l.procs ≤ a → (es : List (Entry Op)) → Legal (setting_of p l) es → state_of one a es ≡ opening_processor a
   rests a le es legal = resting.rests (setup_of p l) es legal a le

@@ -27,7 +27,7 @@ use Rattle.gh_mutator.specs.Serving.{answer_at}
 use Rattle.gh_mutator.specs.Step.{answered}
 use Rattle.gh_mutator.specs.Store as store
 use Rattle.gh_world.specs.World.{making}
-use Rattle.gh_world.proofs.Vocabulary.{Act, acting, acts_at, after_assist, after_gc, after_leave, after_poll, Answer, Assist, Assisting, assisting, assists, begins_at, bit, cache_span, follows, Found, gives_at, Global, GlobalStage, in_range, is_busy_at, is_leave, is_leaving, is_none, is_point, is_some, is_statement, is_unacted, Layout, Leaving, made_by, Name, NewStage, once_ended, Op, op_at, Place, PlaceStage, Placing, Polling, Processor, read_after_set, Register, register_of, Search, Seeking, set, Shape, Source, SpanHead, takes_at, Task, Then, Value, Wait, Waiting, Want, Wanted}
+use Rattle.gh_world.proofs.Vocabulary.{Act, acting, acts_at, after_assist, after_gc, after_leave, after_poll, Answer, Assist, assisting, Assisting, assists, begins_at, bit, cache_span, follows, Found, gives_at, Global, GlobalStage, in_range, is_busy_at, is_leave, is_leaving, is_none, is_point, is_some, is_statement, is_unacted, Layout, Leaving, made_by, Name, NewStage, once_ended, Op, op_at, Place, PlaceStage, Placing, Polling, Processor, read_after_set, Register, register_of, Search, Seeking, set, Shape, Source, SpanHead, takes_at, Task, Then, Value, Wait, Waiting, Want, Wanted}
 
 -- from task t and the processor m to the next one, with the act and the answer of the step
 pub record StepFacts (m : Processor) (t : Task) (next : Processor) (act : Option Act) (given : Option Answer) : Type 0 where
@@ -95,9 +95,9 @@ global_statement x s = grind arith
 
 -- ---- each step
 
-module _ (shapes : List Shape) (m : Processor) where
+module _ (l : Layout) (shapes : List Shape) (m : Processor) where
   abbrev pub FactsAt : Task → ℕ → Type 0
-  FactsAt t found = StepFacts m t (takes_at shapes m t found) (acts_at m t found) (gives_at m t found)
+  FactsAt t found = StepFacts m t (takes_at l shapes m t found) (acts_at l m t found) (gives_at l m t found)
 
   register_facts : (x : Register) (s : Source) (found : ℕ) → FactsAt (task.Register (record x { source = s })) found
   register_facts x s found = grind arith
@@ -116,8 +116,8 @@ module _ (shapes : List Shape) (m : Processor) where
   end_facts g found = record { counted = λ h. omega arith; leaves = refl; answered = omega arith; once = refl; ends = refl; serves = refl }
 
   search_facts : (w : Wanted) (waited : Bool) (s : Seeking) (found : ℕ) → FactsAt (searches w waited s) found
-  search_facts w waited s found = go waited (search.gives m.poll.layout s found) where
-    go : (b : Bool) (out : Option Found) → StepFacts m (searches w b s) (after_search shapes (cache_span m w.sought (search.goes m.poll.layout s found).find.cached) w b (search.goes m.poll.layout s found) out) (acting (refuses_behind_wait b out) (new_op w) true) (answer_search b out)
+  search_facts w waited s found = go waited (search.gives l s found) where
+    go : (b : Bool) (out : Option Found) → StepFacts m (searches w b s) (after_search shapes (cache_span m w.sought (search.goes l s found).find.cached) w b (search.goes l s found) out) (acting (refuses_behind_wait b out) (new_op w) true) (answer_search b out)
     go b out = grind arith
 
   wait_facts : (w : Wanted) (x : WaitState) (next : Waiting) (out : Option (Unit {0})) → StepFacts m (task.New (record { wanted = w; stage = Wait x })) (after_wait m w next out) None None
@@ -174,21 +174,21 @@ module _ (shapes : List Shape) (m : Processor) where
 
   new_facts : (w : Wanted) (s : NewStage) (found : ℕ) → FactsAt (task.New (record { wanted = w; stage = s })) found
   new_facts w (Search waited x) found = search_facts w waited x found
-  new_facts w (Wait x) found = wait_facts w x (wait.goes (wait.waiting x m.poll) found) (wait.gives (wait.waiting x m.poll) found)
+  new_facts w (Wait x) found = wait_facts w x (wait.goes l (wait.waiting x m.poll) found) (wait.gives l (wait.waiting x m.poll) found)
   new_facts w (Place p) found = place_facts w p found p.stage
   new_facts w (Want n) found = record { counted = λ g. omega arith; leaves = refl; answered = omega arith; once = refl; ends = refl; serves = refl }
-  new_facts w (Assist n x) found = assist_facts w n x (assist.goes m.poll.layout x found) (assist.gives m.poll.layout x found)
+  new_facts w (Assist n x) found = assist_facts w n x (assist.goes l x found) (assist.gives l x found)
 
   pub step_facts : (t : Task) (found : ℕ) → is_busy_at t ≡ true → FactsAt t found
   step_facts task.Idle found busy = absurd (cc)
   step_facts task.Left found busy = absurd (cc)
-  step_facts (task.Load x) found busy = from_step task.Load m m x.g x.d x (load.step m.poll.layout x found) (load.op_of x) load_served refl (load_once m.poll.layout x x.stage found) (λ k. refl)
-  step_facts (task.Store x) found busy = from_step task.Store m (keeping m (store.held_behind m.poll.layout m.poll.local.held x.stage found)) x.g x.v x (store.step m.poll.layout m.poll.local (register_of m x.g x.v) x found) (store.op_of x) store_served refl (store_once m.poll.layout m.poll.local (register_of m x.g x.v) x x.stage found) (λ k. refl)
-  step_facts (task.Global x) found busy = from_step task.Global m (keeping m (global.held_behind m.poll.layout m.poll.local.held x.stage found)) x.g x.r x (global.step m.poll.layout (register_of m x.g x.r) x found) (global.op_of x) global_served (global_statement x x.stage) (global_once m.poll.layout (register_of m x.g x.r) x x.stage found) (λ k. refl)
+  step_facts (task.Load x) found busy = from_step task.Load m m x.g x.d x (load.step l x found) (load.op_of x) load_served refl (load_once l x x.stage found) (λ k. refl)
+  step_facts (task.Store x) found busy = from_step task.Store m (keeping m (store.held_behind l m.poll.local.held x.stage found)) x.g x.v x (store.step l m.poll.local (register_of m x.g x.v) x found) (store.op_of x) store_served refl (store_once l m.poll.local (register_of m x.g x.v) x x.stage found) (λ k. refl)
+  step_facts (task.Global x) found busy = from_step task.Global m (keeping m (global.held_behind l m.poll.local.held x.stage found)) x.g x.r x (global.step l (register_of m x.g x.r) x found) (global.op_of x) global_served (global_statement x x.stage) (global_once l (register_of m x.g x.r) x x.stage found) (λ k. refl)
   step_facts (task.Register x) found busy = register_facts x x.source found
   step_facts (task.New x) found busy = new_facts x.wanted x.stage found
-  step_facts (task.Gc g x) found busy = gc_facts g x (wait.goes (wait.waiting x m.poll) found) (wait.gives (wait.waiting x m.poll) found)
-  step_facts task.Poll found busy = poll_facts (poll.goes m.poll found) (poll.gives m.poll found)
+  step_facts (task.Gc g x) found busy = gc_facts g x (wait.goes l (wait.waiting x m.poll) found) (wait.gives l (wait.waiting x m.poll) found)
+  step_facts task.Poll found busy = poll_facts (poll.goes l m.poll found) (poll.gives l m.poll found)
   step_facts (task.End g) found busy = end_facts g found
   step_facts (task.Leave x) found busy = leave_facts x (leave.goes x found) (leave.gives x found)
 

@@ -70,17 +70,17 @@ module _ (p : Program) (l : Layout) (runnable : WellFormed p) (laid : LaysOut p 
   begun m b = started (processor_kind p.shapes l) b m
 
   abbrev pub found_at : List ℕ → Processor → ℕ
-  found_at list m = get_or list (target (request l (asks m))) 0
+  found_at list m = get_or list (target (request l (asks l m))) 0
 
   abbrev pub entry_of : List ℕ → Processor → Option Op → Entry Op
-  entry_of list m b = record { actor = a; begun = b; ask = asks (begun m b); found = found_at list (begun m b) }
+  entry_of list m b = record { actor = a; begun = b; ask = asks l (begun m b); found = found_at list (begun m b) }
 
   -- what a world knows of itself that a further entry rests on
   pub record Knows (m : Processor) (t : Progress) (b : Option Op) (new : Next) : Type 0 where
     pub is : b ≡ op_at_turn p (is_busy_at m.task) t.next
     pub goes : ComesNext p a t.next b new
     pub busy : is_busy_at (begun m b).task ≡ true
-    pub within : InRange l (cell_of (asks (begun m b)))
+    pub within : InRange l (cell_of (asks l (begun m b)))
     pub made : MadeAtMost t.stated m
     pub stands : Stands p a t.next
     pub all : t.stated + statements_among (to_come p a t.next) ≤ total_of p
@@ -92,7 +92,7 @@ module _ (p : Program) (l : Layout) (runnable : WellFormed p) (laid : LaysOut p 
   now_then t b = pair_of (last_after t b) (get_or (counts_after t b) (last_after t b) 0)
 
   abbrev pub runner_then : List ℕ → Processor → (marks : ℕ) → Progress → Option Op → Next → Runner
-  runner_then list m marks t b new = runner_of p.shapes (takes p.shapes (begun m b) (found_at list (begun m b))) (marks + bit (is_some (statement_answer (begun m b) (found_at list (begun m b))))) (progress_after t b new)
+  runner_then list m marks t b new = runner_of p.shapes (takes l p.shapes (begun m b) (found_at list (begun m b))) (marks + bit (is_some (statement_answer l (begun m b) (found_at list (begun m b))))) (progress_after t b new)
 
   -- an operation that begins is the one that is due
   pub due_at : (m : Processor) (t : Next) (b : Option Op) (o : Op) → b ≡ op_at_turn p (is_busy_at m.task) t → b ≡ Some o → (is_busy_at m.task ≡ false) × (op_due p t ≡ Some o)
@@ -145,14 +145,14 @@ module _ (p : Program) (l : Layout) (runnable : WellFormed p) (laid : LaysOut p 
         now = now_at t b new marks shapes es m r k ∙ ap (λ (fs : List (Entry Op)). statement_now (begun_in fs)) (sym own);
         ended = λ g h. ended_after p a t.next b new (by a es) k.goes r.ended g (ap (λ (fs : List (Entry Op)). ended_in fs g) (sym own) ∙ h);
         left = λ h. left_after p a t.next b new (by a es) k.goes due r.left (ap has_left (sym own) ∙ h);
-        marked = rw same (ap (λ (n : ℕ). n + bit (is_some (statement_answer (begun m b) (found_at list (begun m b))))) r.marked);
+        marked = rw same (ap (λ (n : ℕ). n + bit (is_some (statement_answer l (begun m b) (found_at list (begun m b))))) r.marked);
       }
 
   -- what follows the list by one step more
   abbrev pub Goes : Parts → List (Entry Op) → (marks : ℕ) → Progress → Option Op → Next → Processor → Type 0
   Goes w es marks t b new m =
-      let points = w.points ++ next_point (is_point (acts (begun m b) (found_at w.words (begun m b)))) (now_then t b) in
-      After p l (record w { words = changed (request l (asks (begun m b))) w.words; runners = set w.runners a (runner_then w.words m marks t b new); points = points }) (entry_of w.words m b ∷ es)
+      let points = w.points ++ next_point (is_point (acts l (begun m b) (found_at w.words (begun m b)))) (now_then t b) in
+      After p l (record w { words = changed (request l (asks l (begun m b))) w.words; runners = set w.runners a (runner_then w.words m marks t b new); points = points }) (entry_of w.words m b ∷ es)
 
   apart : (e : Entry Op) (es : List (Entry Op)) (c : ℕ) → (e.actor ≡ c → ⊥) → {x : Actor} → actor_after p l es c ≡ x → actor_after p l (e ∷ es) c ≡ x
   apart e es c differ is = let other : eqb e.actor c ≡ false = false_unless (eqb e.actor c) (λ t. differ (eqb-true e.actor c t)) in rw other is
@@ -163,7 +163,7 @@ module _ (p : Program) (l : Layout) (runnable : WellFormed p) (laid : LaysOut p 
       let m = state_of (processor_kind p.shapes l) a es in
       let e = entry_of w.words m b in
       let r = h.running a (runner_of shapes m marks t) is in
-      let step : IsShown l w.words (words_after (setting_of p l).opening es) (asks (begun m b)) = shown w.words (words_after (setting_of p l).opening es) (asks (begun m b)) k.within h.words in
+      let step : IsShown l w.words (words_after (setting_of p l).opening es) (asks l (begun m b)) = shown w.words (words_after (setting_of p l).opening es) (asks l (begun m b)) k.within h.words in
       let now = now_at t b new marks shapes es m r k ∙ sym (ap statement_now (its_next w.words m b es)) in
       record {
         legal = (
@@ -183,8 +183,8 @@ module _ (p : Program) (l : Layout) (runnable : WellFormed p) (laid : LaysOut p 
             (λ d x differ there. runner_stays p l d x e es differ (h.running d x there));
         marking = λ i x there. apart e es (l.procs + i) (λ q. omega (arith, seat, q)) (h.marking i x there);
         coordinator = apart e es (acks_of l) (λ q. omega (arith, seat, q)) h.coordinator;
-        pointed = ap (λ (ps : List (ℕ × ℕ)). ps ++ next_point (is_point (acts (begun m b) (found_at w.words (begun m b)))) (now_then t b)) h.pointed
-            ∙ ap (λ (x : ℕ × ℕ). points_in p.shapes l es ++ next_point (is_point (acts (begun m b) (found_at w.words (begun m b)))) x) now;
+        pointed = ap (λ (ps : List (ℕ × ℕ)). ps ++ next_point (is_point (acts l (begun m b) (found_at w.words (begun m b)))) (now_then t b)) h.pointed
+            ∙ ap (λ (x : ℕ × ℕ). points_in p.shapes l es ++ next_point (is_point (acts l (begun m b) (found_at w.words (begun m b)))) x) now;
       }
 
   pub follows : OwnEntries → StepsAreShown l → (w : Parts) (es : List (Entry Op)) → After p l w es →
@@ -195,18 +195,18 @@ module _ (p : Program) (l : Layout) (runnable : WellFormed p) (laid : LaysOut p 
 
   -- what the step says
   says_at : (list : List ℕ) (t : Progress) (es : List (Entry Op)) (b : Option Op) → let m = state_of (processor_kind p.shapes l) a es in now_then t b ≡ statement_now (option_to_list b ++ begun_in (by a es)) →
-      event_at (now_then t b) (is_last (begun m b).task) (statement_answer (begun m b) (found_at list (begun m b))) ≡ event_of p l es (entry_of list m b)
+      event_at (now_then t b) (is_last (begun m b).task) (statement_answer l (begun m b) (found_at list (begun m b))) ≡ event_of p l es (entry_of list m b)
   says_at list t es b same =
       let m = state_of (processor_kind p.shapes l) a es in
       let now = same ∙ sym (ap statement_now (its_next list m b es)) in
-      ap (λ (x : ℕ × ℕ). event_at x (is_last (begun m b).task) (statement_answer (begun m b) (found_at list (begun m b)))) now
-      ∙ ap (λ (x : Actor). event_by (now_by a (entry_of list m b ∷ es)) x (found_at list (begun m b))) (sym (runs_so es b))
+      ap (λ (x : ℕ × ℕ). event_at x (is_last (begun m b).task) (statement_answer l (begun m b) (found_at list (begun m b)))) now
+      ∙ ap (λ (x : Actor). event_by l (now_by a (entry_of list m b ∷ es)) x (found_at list (begun m b))) (sym (runs_so es b))
 
   pub says : (list : List ℕ) (es : List (Entry Op)) (shapes : List Shape) (m : Processor) (marks : ℕ) (t : Progress) (b : Option Op) (new : Next) → IsRunnerAt p l a (runner_of shapes m marks t) es → Knows m t b new →
-      event_at (now_then t b) (is_last (begun m b).task) (statement_answer (begun m b) (found_at list (begun m b))) ≡ event_of p l es (entry_of list m b)
+      event_at (now_then t b) (is_last (begun m b).task) (statement_answer l (begun m b) (found_at list (begun m b))) ≡ event_of p l es (entry_of list m b)
   says list es shapes m marks t b new r k = subst Goal (sym r.processor) (says_at list t es b (now_at t b new marks shapes es m r k)) where
     Goal : Processor → Type 0
-    Goal n = event_at (now_then t b) (is_last (begun n b).task) (statement_answer (begun n b) (found_at list (begun n b))) ≡ event_of p l es (entry_of list n b)
+    Goal n = event_at (now_then t b) (is_last (begun n b).task) (statement_answer l (begun n b) (found_at list (begun n b))) ≡ event_of p l es (entry_of list n b)
 
   -- and the answer in it
   tells_at : (list : List ℕ) (es : List (Entry Op)) (b : Option Op) → let e = entry_of list (state_of (processor_kind p.shapes l) a es) b in answered_in (event_of p l es e) ≡ with_goroutine (now_in (e ∷ es)).0 (answer_in p.shapes l es e)
@@ -215,7 +215,7 @@ module _ (p : Program) (l : Layout) (runnable : WellFormed p) (laid : LaysOut p 
       let m = begun n b in
       let found = found_at list m in
       let now = now_in (entry_of list n b ∷ es) in
-      ap (λ (x : Actor). answered_in (event_by now x found)) (runs_so es b) ∙ told_at now m.task (gives_at m m.task found)
+      ap (λ (x : Actor). answered_in (event_by l now x found)) (runs_so es b) ∙ told_at now m.task (gives_at l m m.task found)
 
   pub tells : (list : List ℕ) (m : Processor) (es : List (Entry Op)) (b : Option Op) → m ≡ state_of (processor_kind p.shapes l) a es → answered_in (event_of p l es (entry_of list m b)) ≡ with_goroutine (now_in (entry_of list m b ∷ es)).0 (answer_in p.shapes l es (entry_of list m b))
   tells list m es b is = subst Goal (sym is) (tells_at list es b) where

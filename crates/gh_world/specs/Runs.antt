@@ -95,7 +95,7 @@ module _ (p : Program) (l : Layout) where
     pub later : List (Entry Op)
     pub there : es ≡ later ++ entry ∷ before
     pub behind : length (order_of p.shapes l before) ≡ i
-    pub acted : acts (before_step p.shapes l before entry) entry.found ≡ Some (record { op = o; full = full })
+    pub acted : acts l (before_step p.shapes l before entry) entry.found ≡ Some (record { op = o; full = full })
 
   -- the operation is the last that the actor began in the list, and has waited for a cycle
   abbrev pub Awaited : (a : ℕ) → List (Entry Op) → Op → Type 0
@@ -115,7 +115,7 @@ module _ (p : Program) (l : Layout) where
   pub record FoundSwept (es : List (Entry Op)) (i : ℕ) (a : Answered) : Type 0 where
     pub step : ActedBehind es i a.op false
     pub waited : Awaited step.entry.actor step.before a.op
-    pub given : gives (before_step p.shapes l step.before step.entry) step.entry.found ≡ Some answer.Swept
+    pub given : gives l (before_step p.shapes l step.before step.entry) step.entry.found ≡ Some answer.Swept
     pub answer : a.answer ≡ answer.Swept
 
   -- whichever operation is a `gc`, it acted where a cycle that began behind its first entry was swept

@@ -7,12 +7,15 @@ use Rattle.gh_world.specs.Vocabulary.{Answer, Assist, Op, Shape, Layout, MOST_GO
 use Rattle.gh_coord.specs.declared.cycles.Cycle.{Cycle}
 use Rattle.gh_coord.specs.Listing as coord
 use Rattle.gh_coord.specs.Pacing.{first_trigger}
+use Rattle.gh_coord.specs.Sound.{SoundCoordinating}
 use Rattle.gh_mutator.specs.declared.task.Task.TheVariants.{New}
 use Rattle.gh_mutator.specs.Deeds.{processor_kind}
 use Rattle.gh_mutator.specs.Mutating.{asks, begins, opening}
 use Rattle.gh_base.specs.Lists.{by}
 use Rattle.gh_mutator.specs.PollRoom.{HasRoomToStore}
+use Rattle.gh_mutator.specs.Sound.{SoundMutating}
 use Rattle.gh_worker.specs.Listing as worker
+use Rattle.gh_worker.specs.Sound.{SoundWorking}
 use Rattle.gh_lists.specs.declared.handshake.Actor.{Actor}
 use Rattle.gh_lists.specs.declared.handshake.Actor.TheVariants as actor
 use Rattle.gh_world.specs.declared.event.Event.TheVariants as event
@@ -71,10 +74,10 @@ done_or None other = other
 done_or (Some x) other = event.Finished
 
 -- what a step of this actor says that has found this
-abbrev pub event_by : ℕ × ℕ → Actor → (found : ℕ) → Event
-event_by now (actor.Runs m) found = event_at now (is_last m.task) (statement_answer m found)
-event_by now (actor.Marks w) found = done_or (worker.gives w found) event.Moved
-event_by now (actor.Leads c) found = done_or (coord.gives c found) (told_event (coord.told_at c.cycles c.stage))
+abbrev pub event_by : Layout → ℕ × ℕ → Actor → (found : ℕ) → Event
+event_by l now (actor.Runs m) found = event_at now (is_last m.task) (statement_answer l m found)
+event_by l now (actor.Marks w) found = done_or (worker.given (worker.goes l w found)) event.Moved
+event_by l now (actor.Leads c) found = done_or (coord.given (coord.goes l c found)) (told_event (coord.told_at c.cycles c.stage))
 
 -- the goroutine and the number of the statement that the actor began last
 abbrev pub now_by : (a : ℕ) → List (Entry Op) → ℕ × ℕ
@@ -100,12 +103,12 @@ answered_in event.Finished = []
 module _ (shapes : List Shape) (l : Layout) where
   -- what the entry's step gives the statement
   abbrev pub answer_in : List (Entry Op) → Entry Op → Option Answer
-  answer_in es e = statement_answer (before_step shapes l es e) e.found
+  answer_in es e = statement_answer l (before_step shapes l es e) e.found
 
   -- the goroutine and the number of each statement, in the order of their points
   abbrev pub points_in : List (Entry Op) → List (ℕ × ℕ)
   points_in [] = []
-  points_in (e ∷ es) = points_in es ++ next_point (is_point (acts (before_step shapes l es e) e.found)) (now_in (e ∷ es))
+  points_in (e ∷ es) = points_in es ++ next_point (is_point (acts l (before_step shapes l es e) e.found)) (now_in (e ∷ es))
 
   -- how many statements the processor at seat a has answered
   abbrev pub marks_at : (a : ℕ) → List (Entry Op) → ℕ
@@ -119,7 +122,7 @@ module _ (p : Program) (l : Layout) where
 
   -- what the entry's step says
   abbrev pub event_of : List (Entry Op) → Entry Op → Event
-  event_of es e = event_by (now_in (e ∷ es)) (started (setting_of p l).kind e.begun (actor_after es e.actor)) e.found
+  event_of es e = event_by l (now_in (e ∷ es)) (started (setting_of p l).kind e.begun (actor_after es e.actor)) e.found
 
 -- ---- the world
 
@@ -138,21 +141,22 @@ abbrev pub opening_progress : Next → Progress
 opening_progress first = record { next = first; begun = replicate MOST_GOROUTINES 0; stated = 0; last = 0 }
 
 -- the processor at seat a before its first step, and how far it is: at the first of its turns
-pub record IsOpening (p : Program) (l : Layout) (a : ℕ) (x : Runner) : Type 0 where
-  pub mutator : x.mutator ≡ opening l a p.shapes
+pub record IsOpening (p : Program) (a : ℕ) (x : Runner) : Type 0 where
+  pub mutator : x.mutator ≡ opening a p.shapes
   pub progress : x.progress ≡ opening_progress x.progress.next
   pub come : to_come p a x.progress.next ≡ later p a 0 0
   pub stands : Stands p a x.progress.next
   pub going : leave_is_begun x.progress.next ≡ false
 
--- the processors of a heap, each before its first step
+-- the processors of a heap, each before its first step, at a seat that there is
 pub record AreOpening (p : Program) (l : Layout) (runners : List Runner) : Type 0 where
   pub many : length runners ≡ l.procs
-  pub each : (a : ℕ) (x : Runner) → slice_get runners a ≡ Some x → IsOpening p l a x
+  pub each : (a : ℕ) (x : Runner) → slice_get runners a ≡ Some x → IsOpening p a x
+  pub sound : (a : ℕ) (x : Runner) → slice_get runners a ≡ Some x → SoundMutating l x.mutator.shapes x.mutator.processor
 
 -- the workers of a heap, each before its first step
 abbrev pub workers_at : Layout → List worker.Working
-workers_at l = map (worker.opening l) (range_with_len l.procs l.workers)
+workers_at l = map worker.opening (range_with_len l.procs l.workers)
 
 -- 1 where an object is being made that is not counted yet
 abbrev pub making_in : NewStage → ℕ
@@ -189,10 +193,9 @@ pub record AreTurns (p : Program) (a : ℕ) (t : Progress) : Type 0 where
   pub last : t.last < MOST_GOROUTINES
 
 -- of the processor and its turns,
-pub record SoundTurns (p : Program) (l : Layout) (a : ℕ) (m : Mutating) (t : Progress) : Type 0 where
+pub record SoundTurns (p : Program) (a : ℕ) (m : Mutating) (t : Progress) : Type 0 where
   pub turns : AreTurns p a t
   pub shapes : m.shapes ≡ p.shapes
-  pub laid : m.processor.poll.layout ≡ l
   pub made : MadeAtMost t.stated m.processor
   pub leaves : is_leaving m.processor.task ≡ leave_is_begun t.next
   pub marked : m.marks + bit (is_serving m.processor.task) ≤ t.stated
@@ -211,15 +214,16 @@ answered_by runners = sum_by (λ (x : Runner). x.mutator.marks) runners
 -- of all processors and the points, of which there are so many, and room for so many,
 pub record SoundRunners (p : Program) (l : Layout) (runners : List Runner) (points room : ℕ) : Type 0 where
   pub many : length runners ≡ l.procs
-  pub each : (a : ℕ) (x : Runner) → slice_get runners a ≡ Some x → SoundTurns p l a x.mutator x.progress
+  pub each : (a : ℕ) (x : Runner) → slice_get runners a ≡ Some x → SoundTurns p a x.mutator x.progress
+  pub sound : (a : ℕ) (x : Runner) → slice_get runners a ≡ Some x → SoundMutating l x.mutator.shapes x.mutator.processor
   pub pointed : points + unacted_by runners ≤ stated_by runners
   pub reserved : total_of p ≤ room
 
 -- and of the others.
 pub record SoundOthers (p : Program) (l : Layout) (workers : List worker.Working) (c : coord.Coordinating) : Type 0 where
   pub many : length workers ≡ l.workers
-  pub laid : (i : ℕ) (x : worker.Working) → slice_get workers i ≡ Some x → x.layout ≡ l
-  pub leads : c.layout ≡ l
+  pub works : (i : ℕ) (x : worker.Working) → slice_get workers i ≡ Some x → SoundWorking l x
+  pub leads : SoundCoordinating l c
   pub room : c.cycles.room ≡ most_cycles p
   pub goes_on : coord.is_busy c.stage ≡ not (coord.is_done_at c.stage)
 
@@ -346,19 +350,19 @@ pub record Begins (p : Program) (a : ℕ) (old new : Runner) : Type 0 where
 
 -- what the processor's step finds in these words, in a heap of this layout
 abbrev pub found_for : Layout → List ℕ → Runner → ℕ
-found_for l words x = slice_index words (target (request l (asks x.mutator)))
+found_for l words x = slice_index words (target (request l (asks l x.mutator)))
 
 -- What the code of a processor's step has done: what it has begun, the step on that, and what is told of it.
 pub record Ran (p : Program) (l : Layout) (a : ℕ) (before behind : List ℕ) (old new : Runner) (happened : Event) (pointed : Bool) : Type 0 where
   pub begun : Runner
   pub begins : Begins p a old begun
-  pub fits : SoundTurns p l a begun.mutator begun.progress
+  pub fits : SoundTurns p a begun.mutator begun.progress
   pub busy : is_busy_at begun.mutator.processor.task ≡ true
-  pub within : InRange l (cell_of (asks begun.mutator))
-  pub words : behind ≡ changed (request l (asks begun.mutator)) before
-  pub goes : new ≡ record begun { mutator = goes begun.mutator (found_for l before begun) }
-  pub says : happened ≡ event_at (now_of begun.progress) (is_last begun.mutator.processor.task) (statement_answer begun.mutator.processor (found_for l before begun))
-  pub point : pointed ≡ is_point (acts begun.mutator.processor (found_for l before begun))
+  pub within : InRange l (cell_of (asks l begun.mutator))
+  pub words : behind ≡ changed (request l (asks l begun.mutator)) before
+  pub goes : new ≡ record begun { mutator = goes l begun.mutator (found_for l before begun) }
+  pub says : happened ≡ event_at (now_of begun.progress) (is_last begun.mutator.processor.task) (statement_answer l begun.mutator.processor (found_for l before begun))
+  pub point : pointed ≡ is_point (acts l begun.mutator.processor (found_for l before begun))
 
 -- One step of the processor at seat a: an operation is begun where none is, and the processor takes its step.
 pub record IsStepOfProcessor (old new : State) (a : ℕ) (happened : Event) : Type 0 where
@@ -366,13 +370,13 @@ pub record IsStepOfProcessor (old new : State) (a : ℕ) (happened : Event) : Ty
   pub is : slice_get old.runners a ≡ Some before_it
   pub begun : Runner
   pub begins : Begins old.script a before_it begun
-  pub within : InRange old.layout (cell_of (asks begun.mutator))
+  pub within : InRange old.layout (cell_of (asks old.layout begun.mutator))
   pub others : new ≡ record old {
-    words = changed (request old.layout (asks begun.mutator)) old.words;
-    runners = slice_set old.runners a (record { mutator = goes begun.mutator (found_by old (asks begun.mutator)); progress = begun.progress });
-    points = old.points ++ next_point (is_point (acts begun.mutator.processor (found_by old (asks begun.mutator)))) (now_of begun.progress);
+    words = changed (request old.layout (asks old.layout begun.mutator)) old.words;
+    runners = slice_set old.runners a (record { mutator = goes old.layout begun.mutator (found_by old (asks old.layout begun.mutator)); progress = begun.progress });
+    points = old.points ++ next_point (is_point (acts old.layout begun.mutator.processor (found_by old (asks old.layout begun.mutator)))) (now_of begun.progress);
   }
-  pub says : happened ≡ event_at (now_of begun.progress) (is_last begun.mutator.processor.task) (statement_answer begun.mutator.processor (found_by old (asks begun.mutator)))
+  pub says : happened ≡ event_at (now_of begun.progress) (is_last begun.mutator.processor.task) (statement_answer old.layout begun.mutator.processor (found_by old (asks old.layout begun.mutator)))
 
 -- ---- how a step of another actor is made
 
@@ -380,12 +384,12 @@ pub record IsStepOfProcessor (old new : State) (a : ℕ) (happened : Event) : Ty
 pub record IsStepOfWorker (old new : State) (i : ℕ) (happened : Event) : Type 0 where
   pub before_it : worker.Working
   pub is : slice_get old.workers i ≡ Some before_it
-  pub within : InRange old.layout (cell_of (worker.asks before_it))
-  pub others : new ≡ record old { words = changed (request old.layout (worker.asks before_it)) old.words; workers = slice_set old.workers i (worker.goes before_it (found_by old (worker.asks before_it))) }
-  pub says : happened ≡ done_or (worker.gives before_it (found_by old (worker.asks before_it))) event.Moved
+  pub within : InRange old.layout (cell_of (worker.asks old.layout before_it))
+  pub others : new ≡ record old { words = changed (request old.layout (worker.asks old.layout before_it)) old.words; workers = slice_set old.workers i (worker.goes old.layout before_it (found_by old (worker.asks old.layout before_it))) }
+  pub says : happened ≡ done_or (worker.given (worker.goes old.layout before_it (found_by old (worker.asks old.layout before_it)))) event.Moved
 
 -- one step of the coordinator
 pub record IsStepOfCoordinator (old new : State) (happened : Event) : Type 0 where
-  pub within : InRange old.layout (cell_of (coord.asks old.coord))
-  pub others : new ≡ record old { words = changed (request old.layout (coord.asks old.coord)) old.words; coord = coord.goes old.coord (found_by old (coord.asks old.coord)) }
-  pub says : happened ≡ done_or (coord.gives old.coord (found_by old (coord.asks old.coord))) (told_event (coord.told_at old.coord.cycles old.coord.stage))
+  pub within : InRange old.layout (cell_of (coord.asks old.layout old.coord))
+  pub others : new ≡ record old { words = changed (request old.layout (coord.asks old.layout old.coord)) old.words; coord = coord.goes old.layout old.coord (found_by old (coord.asks old.layout old.coord)) }
+  pub says : happened ≡ done_or (coord.given (coord.goes old.layout old.coord (found_by old (coord.asks old.layout old.coord)))) (told_event (coord.told_at old.coord.cycles old.coord.stage))

@@ -5,14 +5,17 @@
 
 ghost use Rattle.std.specs.Prelude.{◌≡◌, ◌+◌, ◌%◌, ◌^◌, ◌<◌, ◌≤◌, List, [], length, slice_get, slice_index, true, false, IfOk, IfSome, IsTrue, None, Some};
 ghost use Rattle.gh_base.specs.Cells.{InRange, length_of, seats_of, word_of};
+ghost use Rattle.gh_base.specs.Machines.{IsBusy};
 ghost use Rattle.gh_base.specs.Steps.{cell_of, changed, request, target};
 ghost use Rattle.gh_world.specs.Schedule.{turn_from};
 ghost use Rattle.gh_base.specs.declared.machine.Entry.{Entry};
 ghost use Rattle.gh_base.specs.declared.operation.Op.{Op};
 ghost use Rattle.gh_coord.specs.Keeping.{last_kept};
 ghost use Rattle.gh_coord.specs.Listing as coord;
+ghost use Rattle.gh_coord.specs.Sound.{listing, SoundCoordinating};
 ghost use Rattle.gh_worker.specs.Listing as worker;
 ghost use Rattle.gh_worker.specs.Listing.{Working};
+ghost use Rattle.gh_worker.specs.Sound.{SoundWorking};
 ghost use Rattle.gh_world.specs.After.{Appends, IsAfter};
 ghost use Rattle.gh_world.specs.Runs.{IsRun, drawn_of, marked_by};
 ghost use Rattle.gh_world.specs.Turns.{total_of};
@@ -25,7 +28,7 @@ use crate::runner::Runner;
 use crate::turns::total_of;
 use crate::wishes::most_cycles;
 use gh_base::laws::{a_state_is_of_its_own_entries, steps_are_shown};
-use gh_base::{Cell, Layout, Machine, Op};
+use gh_base::{Ask, Cell, Layout, Op, Req, Routine};
 use gh_coord::laws::it_goes_on_until_done;
 use gh_coord::{Coord, Cycle, first_trigger};
 use gh_mutator::Processor;
@@ -33,6 +36,7 @@ use gh_mutator::laws::polls_make_room;
 use gh_script::Script;
 use gh_words::{Plain, Words};
 use gh_worker::Worker;
+use gh_worker::laws::workers_are_routines;
 use std::alloc::{AllocError, Global};
 use std::marker::Model;
 
@@ -72,7 +76,7 @@ fn runners_of<'s>(
 {
     let mut runners = Vec::with_capacity(alloc, layout.procs as usize)?;
     for seat in 0..layout.procs {
-        runners.push_reserved(Runner::opening(layout, script, seat));
+        runners.push_reserved(Runner::opening(script, seat));
     }
     Ok(runners)
 }
@@ -84,59 +88,115 @@ fn workers_of(alloc: Global, layout: &Layout) -> Result<Vec<Worker>, AllocError>
     let (first, many) = (layout.procs, layout.workers);
     let mut workers = Vec::with_capacity(alloc, many as usize)?;
     for i in 0..many {
-        workers.push_reserved(Worker::new(layout, first + i));
+        workers.push_reserved(Worker::new(first + i));
     }
     Ok(workers)
 }
 
-/// One step of a machine over the words of its heap: what the machine then gives.
-#[inline(never)]
-fn step_on<M: Machine>(words: &mut Plain, machine: &mut M) -> Option<M::Out>
-    requires busy { M.busy machine.old ≡ true }
-    requires long { length words.old ≡ length_of (M.layout machine.old) }
-    ensures within { InRange (M.layout machine.old) (cell_of (M.asks machine.old)) }
-    ensures words { words.new ≡ changed (request (M.layout machine.old) (M.asks machine.old)) words.old }
-    ensures machine { machine.new ≡ M.goes machine.old (slice_index words.old (target (request (M.layout machine.old) (M.asks machine.old)))) }
-    ensures out { result ≡ M.gives machine.old (slice_index words.old (target (request (M.layout machine.old) (M.asks machine.old)))) }
+/// The step that a worker asks for. Mostly it waits, and loads a word that it looks at, so that is tried first.
+#[inline(always)]
+fn asked_of_worker(layout: &Layout, machine: &Worker) -> Req
+    requires sound { SoundWorking layout.now machine.now }
+    requires busy { worker.is_busy machine.now.stage ≡ true }
+    ensures same { result ≡ request layout.now (worker.asks layout.now machine.now) }
+    ensures within { InRange layout.now (cell_of (worker.asks layout.now machine.now)) }
 {
-    let found = words.step(machine.next());
-    machine.take(found)
+    match machine.looks() {
+        Some(cell) => layout.request(Ask::Load(cell)),
+        None => machine.next(layout),
+    }
+}
+
+/// The step that a coordinator asks for, in the same way.
+#[inline(always)]
+fn asked_of_coordinator(layout: &Layout, machine: &Coord) -> Req
+    requires sound { SoundCoordinating layout.now machine.now }
+    requires busy { IsBusy (listing layout.now) machine.now }
+    ensures same { result ≡ request layout.now (coord.asks layout.now machine.now) }
+    ensures within { InRange layout.now (cell_of (coord.asks layout.now machine.now)) }
+{
+    match machine.looks(layout) {
+        Some(cell) => layout.request(Ask::Load(cell)),
+        None => machine.next(layout),
+    }
+}
+
+/// One step of a worker that is not idle. Mostly it waits: it loads a word and goes on at once ([`Worker::goes_on`]).
+#[inline(never)]
+fn work_on(layout: &Layout, words: &mut Plain, machine: &mut Worker) -> Option<()>
+    requires sound { SoundWorking layout.now machine.old }
+    requires busy { worker.is_busy machine.old.stage ≡ true }
+    requires long { length words.old ≡ length_of layout.now }
+    ensures within { InRange layout.now (cell_of (worker.asks layout.now machine.old)) }
+    ensures words { words.new ≡ changed (request layout.now (worker.asks layout.now machine.old)) words.old }
+    ensures machine { machine.new ≡ worker.goes layout.now machine.old (slice_index words.old (target (request layout.now (worker.asks layout.now machine.old)))) }
+    ensures out { result ≡ worker.given machine.new }
+    ensures sound { SoundWorking layout.now machine.new }
+{
+    let found = words.step(asked_of_worker(layout, machine));
+    if machine.goes_on(layout, found) {
+        return None;
+    }
+    machine.take(layout, found)
+}
+
+/// One step of a coordinator that is not idle, in the same way.
+#[inline(never)]
+fn lead_on(layout: &Layout, words: &mut Plain, machine: &mut Coord) -> Option<()>
+    requires sound { SoundCoordinating layout.now machine.old }
+    requires busy { IsBusy (listing layout.now) machine.old }
+    requires long { length words.old ≡ length_of layout.now }
+    ensures within { InRange layout.now (cell_of (coord.asks layout.now machine.old)) }
+    ensures words { words.new ≡ changed (request layout.now (coord.asks layout.now machine.old)) words.old }
+    ensures machine { machine.new ≡ coord.goes layout.now machine.old (slice_index words.old (target (request layout.now (coord.asks layout.now machine.old)))) }
+    ensures out { result ≡ coord.given machine.new }
+    ensures sound { SoundCoordinating layout.now machine.new }
+{
+    let found = words.step(asked_of_coordinator(layout, machine));
+    if machine.goes_on(layout, found) {
+        return None;
+    }
+    machine.take(layout, found)
 }
 
 /// One step of a worker, which mostly finds that marking is off and a page without an unswept span. That is made where the caller
-/// stands, and any other step by `step_on`.
+/// stands, and any other step by [`work_on`].
 #[inline(always)]
-fn step_of_worker(words: &mut Plain, machine: &mut Worker) -> Option<()>
+fn step_of_worker(layout: &Layout, words: &mut Plain, machine: &mut Worker) -> Option<()>
+    requires sound { SoundWorking layout.now machine.old }
     requires busy { worker.is_busy machine.old.stage ≡ true }
-    requires long { length words.old ≡ length_of machine.old.layout }
-    ensures within { InRange machine.old.layout (cell_of (worker.asks machine.old)) }
-    ensures words { words.new ≡ changed (request machine.old.layout (worker.asks machine.old)) words.old }
-    ensures machine { machine.new ≡ worker.goes machine.old (slice_index words.old (target (request machine.old.layout (worker.asks machine.old)))) }
-    ensures out { result ≡ worker.gives machine.old (slice_index words.old (target (request machine.old.layout (worker.asks machine.old)))) }
+    requires long { length words.old ≡ length_of layout.now }
+    ensures within { InRange layout.now (cell_of (worker.asks layout.now machine.old)) }
+    ensures words { words.new ≡ changed (request layout.now (worker.asks layout.now machine.old)) words.old }
+    ensures machine { machine.new ≡ worker.goes layout.now machine.old (slice_index words.old (target (request layout.now (worker.asks layout.now machine.old)))) }
+    ensures out { result ≡ worker.given machine.new }
+    ensures sound { SoundWorking layout.now machine.new }
 {
     if !machine.is_idle() {
-        return step_on(words, machine);
+        return work_on(layout, words, machine);
     }
-    let word = words.step(machine.next());
-    machine.idle(word);
+    let word = words.step(machine.next(layout));
+    machine.idle(layout, word);
     None
 }
 
 /// One step of the coordinator, which mostly is idle, in the same way.
 #[inline(always)]
-fn step_of_coordinator(words: &mut Plain, machine: &mut Coord) -> Option<()>
-    requires busy { coord.is_busy machine.old.stage ≡ true }
-    requires long { length words.old ≡ length_of machine.old.layout }
-    ensures within { InRange machine.old.layout (cell_of (coord.asks machine.old)) }
-    ensures words { words.new ≡ changed (request machine.old.layout (coord.asks machine.old)) words.old }
-    ensures machine { machine.new ≡ coord.goes machine.old (slice_index words.old (target (request machine.old.layout (coord.asks machine.old)))) }
-    ensures out { result ≡ coord.gives machine.old (slice_index words.old (target (request machine.old.layout (coord.asks machine.old)))) }
+fn step_of_coordinator(layout: &Layout, words: &mut Plain, machine: &mut Coord) -> Option<()>
+    requires sound { SoundCoordinating layout.now machine.old }
+    requires busy { IsBusy (listing layout.now) machine.old }
+    requires long { length words.old ≡ length_of layout.now }
+    ensures within { InRange layout.now (cell_of (coord.asks layout.now machine.old)) }
+    ensures words { words.new ≡ changed (request layout.now (coord.asks layout.now machine.old)) words.old }
+    ensures machine { machine.new ≡ coord.goes layout.now machine.old (slice_index words.old (target (request layout.now (coord.asks layout.now machine.old)))) }
+    ensures out { result ≡ coord.given machine.new }
+    ensures sound { SoundCoordinating layout.now machine.new }
 {
     if !machine.is_idle() {
-        return step_on(words, machine);
+        return lead_on(layout, words, machine);
     }
-    let found = words.step(machine.next());
-    machine.idle(found);
+    let found = words.step(machine.next(layout));
+    machine.idle(layout, found);
     None
 }
 
@@ -173,6 +233,7 @@ impl<'s> World<'s> {
         let trigger = opening_trigger(script, &layout);
         let words = Plain::new(alloc, &layout, trigger)?;
         let runners = runners_of(alloc, &layout, script)?;
+        workers_are_routines();
         let workers = workers_of(alloc, &layout)?;
         let seat = settings.procs + settings.workers;
         let cycles = most_cycles(script);
@@ -395,7 +456,7 @@ impl<'s> World<'s> {
         ensures { IsStepOfWorker self.old self.new i result }
     {
         let worker = &mut self.workers[i];
-        let out = step_of_worker(&mut self.words, worker);
+        let out = step_of_worker(&self.layout, &mut self.words, worker);
         done_or(out, Event::Moved)
     }
 
@@ -407,7 +468,7 @@ impl<'s> World<'s> {
     {
         it_goes_on_until_done();
         let told = self.coord.told();
-        let out = step_of_coordinator(&mut self.words, &mut self.coord);
+        let out = step_of_coordinator(&self.layout, &mut self.words, &mut self.coord);
         done_or(out, told_event(told))
     }
 }

@@ -4,15 +4,17 @@
 //! and leaves. In each round it makes one step, then the worker, then the coordinator. `runs/cycle_steps.heap`
 //! is that script, and `runs/cycle_steps.steps` says at which of these steps something happens.
 
-ghost use Rattle.std.specs.Prelude.{◌≡◌, ◌+◌, ◌<◌, ◌≤◌, length, true, IsNone, IsTrue};
+ghost use Rattle.std.specs.Prelude.{◌≡◌, ◌+◌, ◌<◌, length, true, IsNone, IsTrue};
 ghost use Rattle.gh_base.specs.Cells.{length_of};
-ghost use Rattle.gh_coord.specs.Listing as coord;
-ghost use Rattle.gh_mutator.specs.Mutating.{is_busy, layout as layout_of};
-ghost use Rattle.gh_mutator.specs.Sound.{has_room, SoundOp};
+ghost use Rattle.gh_base.specs.Machines.{IsBusy};
+ghost use Rattle.gh_coord.specs.Sound.{listing, SoundCoordinating};
+ghost use Rattle.gh_mutator.specs.Mutating.{is_busy};
+ghost use Rattle.gh_mutator.specs.Sound.{has_room, SoundMutating, SoundOp};
+ghost use Rattle.gh_worker.specs.Sound.{SoundWorking};
 ghost use Rattle.gh_world.specs.World.{MadeAtMost};
 
 use crate::lines::{COORDINATOR, Column, NEVER, PROCESSOR, WORKER};
-use gh_base::{Answer, Layout, Machine, Name, Op};
+use gh_base::{Answer, Layout, Name, Op, Routine};
 use gh_coord::Coord;
 use gh_mutator::Mutator;
 use gh_script::parse;
@@ -61,32 +63,39 @@ struct Actors<'s> {
     columns: Columns,
 }
 
-/// One step of a machine.
-fn step<M: Machine>(words: &mut Plain, column: &mut Column, machine: &mut M) -> Option<M::Out>
-    requires busy { M.busy machine.old ≡ true }
-    requires words { length words.old ≡ length_of (M.layout machine.old) }
-    ensures layout { M.layout machine.new ≡ M.layout machine.old }
+/// One step of a routine.
+fn step<R: Routine>(
+    layout: &Layout,
+    words: &mut Plain,
+    column: &mut Column,
+    routine: &mut R,
+) -> Option<R::Out>
+    requires sound { (R.listing layout.now).sound routine.old }
+    requires busy { IsBusy (R.listing layout.now) routine.old }
+    requires words { length words.old ≡ length_of layout.now }
+    ensures sound { (R.listing layout.now).sound routine.new }
     ensures words { length words.new ≡ length words.old }
-    ensures busy { IsNone result → M.busy machine.new ≡ true }
+    ensures out { result ≡ (R.listing layout.now).given routine.new }
 {
-    let request = machine.next();
+    let request = routine.next(layout);
     let found = words.step(request);
     column.count(request, found);
-    machine.take(found)
+    routine.take(layout, found)
 }
 
 /// One step of the worker, if it is not done.
 fn works(actors: &mut Actors<'_>)
     requires words { length actors.old.words ≡ length_of actors.old.layout }
-    requires worker { actors.old.worker.layout ≡ actors.old.layout }
-    requires coord { (IsTrue actors.old.leads → coord.is_busy actors.old.coord.stage ≡ true) × (actors.old.coord.layout ≡ actors.old.layout) }
+    requires worker { SoundWorking actors.old.layout actors.old.worker }
+    requires coord { (IsTrue actors.old.leads → IsBusy (listing actors.old.layout) actors.old.coord) × SoundCoordinating actors.old.layout actors.old.coord }
     ensures words { length actors.new.words ≡ length_of actors.new.layout }
-    ensures worker { actors.new.worker.layout ≡ actors.new.layout }
-    ensures coord { (IsTrue actors.new.leads → coord.is_busy actors.new.coord.stage ≡ true) × (actors.new.coord.layout ≡ actors.new.layout) }
+    ensures worker { SoundWorking actors.new.layout actors.new.worker }
+    ensures coord { (IsTrue actors.new.leads → IsBusy (listing actors.new.layout) actors.new.coord) × SoundCoordinating actors.new.layout actors.new.coord }
     ensures others { actors.new ≡ record actors.old { words = actors.new.words; worker = actors.new.worker; columns = actors.new.columns } }
 {
     if !actors.worker.is_done() {
         step(
+            &actors.layout,
             &mut actors.words,
             &mut actors.columns.worker,
             &mut actors.worker,
@@ -97,15 +106,16 @@ fn works(actors: &mut Actors<'_>)
 /// One step of the coordinator, if it is not done.
 fn leads(actors: &mut Actors<'_>)
     requires words { length actors.old.words ≡ length_of actors.old.layout }
-    requires worker { actors.old.worker.layout ≡ actors.old.layout }
-    requires coord { (IsTrue actors.old.leads → coord.is_busy actors.old.coord.stage ≡ true) × (actors.old.coord.layout ≡ actors.old.layout) }
+    requires worker { SoundWorking actors.old.layout actors.old.worker }
+    requires coord { (IsTrue actors.old.leads → IsBusy (listing actors.old.layout) actors.old.coord) × SoundCoordinating actors.old.layout actors.old.coord }
     ensures words { length actors.new.words ≡ length_of actors.new.layout }
-    ensures worker { actors.new.worker.layout ≡ actors.new.layout }
-    ensures coord { (IsTrue actors.new.leads → coord.is_busy actors.new.coord.stage ≡ true) × (actors.new.coord.layout ≡ actors.new.layout) }
+    ensures worker { SoundWorking actors.new.layout actors.new.worker }
+    ensures coord { (IsTrue actors.new.leads → IsBusy (listing actors.new.layout) actors.new.coord) × SoundCoordinating actors.new.layout actors.new.coord }
     ensures others { actors.new ≡ record actors.old { words = actors.new.words; coord = actors.new.coord; leads = actors.new.leads; columns = actors.new.columns } }
 {
     if actors.leads {
         let out = step(
+            &actors.layout,
             &mut actors.words,
             &mut actors.columns.coord,
             &mut actors.coord,
@@ -117,11 +127,11 @@ fn leads(actors: &mut Actors<'_>)
 /// One step of the worker and one of the coordinator, of those that are not done.
 fn others(actors: &mut Actors<'_>)
     requires words { length actors.old.words ≡ length_of actors.old.layout }
-    requires worker { actors.old.worker.layout ≡ actors.old.layout }
-    requires coord { (IsTrue actors.old.leads → coord.is_busy actors.old.coord.stage ≡ true) × (actors.old.coord.layout ≡ actors.old.layout) }
+    requires worker { SoundWorking actors.old.layout actors.old.worker }
+    requires coord { (IsTrue actors.old.leads → IsBusy (listing actors.old.layout) actors.old.coord) × SoundCoordinating actors.old.layout actors.old.coord }
     ensures words { length actors.new.words ≡ length_of actors.new.layout }
-    ensures worker { actors.new.worker.layout ≡ actors.new.layout }
-    ensures coord { (IsTrue actors.new.leads → coord.is_busy actors.new.coord.stage ≡ true) × (actors.new.coord.layout ≡ actors.new.layout) }
+    ensures worker { SoundWorking actors.new.layout actors.new.worker }
+    ensures coord { (IsTrue actors.new.leads → IsBusy (listing actors.new.layout) actors.new.coord) × SoundCoordinating actors.new.layout actors.new.coord }
     ensures others { actors.new ≡ record actors.old { words = actors.new.words; worker = actors.new.worker; coord = actors.new.coord; leads = actors.new.leads; columns = actors.new.columns } }
 {
     works(actors);
@@ -132,23 +142,23 @@ fn others(actors: &mut Actors<'_>)
 /// answered, if it is.
 fn round(actors: &mut Actors<'_>) -> Option<Answer>
     requires words { length actors.old.words ≡ length_of actors.old.layout }
-    requires worker { actors.old.worker.layout ≡ actors.old.layout }
-    requires coord { (IsTrue actors.old.leads → coord.is_busy actors.old.coord.stage ≡ true) × (actors.old.coord.layout ≡ actors.old.layout) }
-    requires processor { layout_of actors.old.processor ≡ actors.old.layout }
+    requires worker { SoundWorking actors.old.layout actors.old.worker }
+    requires coord { (IsTrue actors.old.leads → IsBusy (listing actors.old.layout) actors.old.coord) × SoundCoordinating actors.old.layout actors.old.coord }
+    requires processor { SoundMutating actors.old.layout actors.old.processor.shapes actors.old.processor.processor }
     requires busy { is_busy actors.old.processor ≡ true }
     requires made { MadeAtMost actors.old.begun actors.old.processor.processor }
     ensures words { length actors.new.words ≡ length_of actors.new.layout }
-    ensures worker { actors.new.worker.layout ≡ actors.new.layout }
-    ensures coord { (IsTrue actors.new.leads → coord.is_busy actors.new.coord.stage ≡ true) × (actors.new.coord.layout ≡ actors.new.layout) }
-    ensures processor { layout_of actors.new.processor ≡ actors.new.layout }
+    ensures worker { SoundWorking actors.new.layout actors.new.worker }
+    ensures coord { (IsTrue actors.new.leads → IsBusy (listing actors.new.layout) actors.new.coord) × SoundCoordinating actors.new.layout actors.new.coord }
+    ensures processor { SoundMutating actors.new.layout actors.new.processor.shapes actors.new.processor.processor }
     ensures busy { IsNone result → is_busy actors.new.processor ≡ true }
     ensures made { MadeAtMost actors.new.begun actors.new.processor.processor }
     ensures stays { (actors.new.layout ≡ actors.old.layout) × (actors.new.begun ≡ actors.old.begun) × (actors.new.processor.shapes ≡ actors.old.processor.shapes) }
 {
-    let request = actors.processor.next();
+    let request = actors.processor.next(&actors.layout);
     let found = actors.words.step(request);
     actors.columns.processor.count(request, found);
-    let answer = actors.processor.take(found);
+    let answer = actors.processor.take(&actors.layout, found);
     others(actors);
     answer
 }
@@ -156,23 +166,23 @@ fn round(actors: &mut Actors<'_>) -> Option<Answer>
 /// The processor runs an operation, if it is at none: what that is answered, if it ends within 1000 rounds.
 fn turn(actors: &mut Actors<'_>, op: Op) -> Option<Answer>
     requires words { length actors.old.words ≡ length_of actors.old.layout }
-    requires worker { actors.old.worker.layout ≡ actors.old.layout }
-    requires coord { (IsTrue actors.old.leads → coord.is_busy actors.old.coord.stage ≡ true) × (actors.old.coord.layout ≡ actors.old.layout) }
-    requires processor { layout_of actors.old.processor ≡ actors.old.layout }
+    requires worker { SoundWorking actors.old.layout actors.old.worker }
+    requires coord { (IsTrue actors.old.leads → IsBusy (listing actors.old.layout) actors.old.coord) × SoundCoordinating actors.old.layout actors.old.coord }
+    requires processor { SoundMutating actors.old.layout actors.old.processor.shapes actors.old.processor.processor }
     requires made { MadeAtMost actors.old.begun actors.old.processor.processor }
     requires op { SoundOp actors.old.processor.shapes actors.old.layout op }
     requires room { has_room actors.old.processor.processor op ≡ true }
     ensures words { length actors.new.words ≡ length_of actors.new.layout }
-    ensures worker { actors.new.worker.layout ≡ actors.new.layout }
-    ensures coord { (IsTrue actors.new.leads → coord.is_busy actors.new.coord.stage ≡ true) × (actors.new.coord.layout ≡ actors.new.layout) }
-    ensures processor { layout_of actors.new.processor ≡ actors.new.layout }
+    ensures worker { SoundWorking actors.new.layout actors.new.worker }
+    ensures coord { (IsTrue actors.new.leads → IsBusy (listing actors.new.layout) actors.new.coord) × SoundCoordinating actors.new.layout actors.new.coord }
+    ensures processor { SoundMutating actors.new.layout actors.new.processor.shapes actors.new.processor.processor }
     ensures made { MadeAtMost actors.new.begun actors.new.processor.processor }
     ensures stays { (actors.new.layout ≡ actors.old.layout) × (actors.new.processor.shapes ≡ actors.old.processor.shapes) }
 {
     if actors.processor.is_busy() || actors.begun >= 1000 {
         return None;
     }
-    actors.processor.begin(op);
+    actors.processor.begin(&actors.layout, op);
     actors.begun += 1;
     for _ in 0..1000 {
         if !actors.processor.is_busy() {
@@ -189,11 +199,11 @@ fn turn(actors: &mut Actors<'_>, op: Op) -> Option<Answer>
 /// As many as 1000 rounds once the processor has left.
 fn rest(actors: &mut Actors<'_>)
     requires words { length actors.old.words ≡ length_of actors.old.layout }
-    requires worker { actors.old.worker.layout ≡ actors.old.layout }
-    requires coord { (IsTrue actors.old.leads → coord.is_busy actors.old.coord.stage ≡ true) × (actors.old.coord.layout ≡ actors.old.layout) }
+    requires worker { SoundWorking actors.old.layout actors.old.worker }
+    requires coord { (IsTrue actors.old.leads → IsBusy (listing actors.old.layout) actors.old.coord) × SoundCoordinating actors.old.layout actors.old.coord }
     ensures words { length actors.new.words ≡ length_of actors.new.layout }
-    ensures worker { actors.new.worker.layout ≡ actors.new.layout }
-    ensures coord { (IsTrue actors.new.leads → coord.is_busy actors.new.coord.stage ≡ true) × (actors.new.coord.layout ≡ actors.new.layout) }
+    ensures worker { SoundWorking actors.new.layout actors.new.worker }
+    ensures coord { (IsTrue actors.new.leads → IsBusy (listing actors.new.layout) actors.new.coord) × SoundCoordinating actors.new.layout actors.new.coord }
     ensures layout { actors.new.layout ≡ actors.old.layout }
 {
     for _ in 0..1000 {
@@ -211,9 +221,9 @@ fn a_cycle_keeps_and_frees(rt: HostRuntime) -> Result<(), Fail> {
     let mut actors = Actors {
         layout,
         words: Plain::new(alloc, &layout, NEVER)?,
-        processor: Mutator::new(&layout, 0, script.shapes()),
+        processor: Mutator::new(0, script.shapes()),
         begun: 0,
-        worker: Worker::new(&layout, 1),
+        worker: Worker::new(1),
         coord: Coord::new(alloc, &layout, 2, 0, 0, 2)?,
         leads: true,
         columns: Columns {

@@ -36,7 +36,7 @@ module _ (p : Program) (l : Layout) where
     none : (i : ℕ) → slice_get {X = Answered} [] i ≡ Some x → ⊥
     none zero e = absurd (cc)
     none (suc i) e = absurd (cc)
-  acts_there (e ∷ es) legal room i x at = go (acts (before_step p.shapes l es e) e.found) refl (acts_there es legal.0 room.0 i x) at where
+  acts_there (e ∷ es) legal room i x at = go (acts l (before_step p.shapes l es e) e.found) refl (acts_there es legal.0 room.0 i x) at where
     further : (full : Bool) → ActsThere es i x full → ActsThere (e ∷ es) i x full
     further full f = record {
       step = record { before = f.step.before; entry = f.step.entry; later = e ∷ f.step.later; there = ap (λ (xs : List (Entry Op)). e ∷ xs) f.step.there; behind = f.step.behind; acted = f.step.acted };
@@ -45,7 +45,7 @@ module _ (p : Program) (l : Layout) where
       room = f.room;
     }
 
-    here : (a : Act) → acts (before_step p.shapes l es e) e.found ≡ Some a → length (reverse (order_of p.shapes l es)) ≡ i → record { op = a.op; answer = answer_at p.shapes (ever_of p.shapes l es) a } ≡ x → ActsThere (e ∷ es) i x a.full
+    here : (a : Act) → acts l (before_step p.shapes l es e) e.found ≡ Some a → length (reverse (order_of p.shapes l es)) ≡ i → record { op = a.op; answer = answer_at p.shapes (ever_of p.shapes l es) a } ≡ x → ActsThere (e ∷ es) i x a.full
     here a is long same =
         let o : a.op ≡ x.op = ap (λ (y : Answered). y.op) same in
         record {
@@ -55,7 +55,7 @@ module _ (p : Program) (l : Layout) where
           room = room;
         }
 
-    go : (a : Option Act) → acts (before_step p.shapes l es e) e.found ≡ a → (slice_get (reverse (order_of p.shapes l es)) i ≡ Some x → (full : Bool) × ActsThere es i x full) → slice_get (reverse (option_to_list (answered p.shapes l (ever_of p.shapes l es) a) ++ order_of p.shapes l es)) i ≡ Some x → (full : Bool) × ActsThere (e ∷ es) i x full
+    go : (a : Option Act) → acts l (before_step p.shapes l es e) e.found ≡ a → (slice_get (reverse (order_of p.shapes l es)) i ≡ Some x → (full : Bool) × ActsThere es i x full) → slice_get (reverse (option_to_list (answered p.shapes l (ever_of p.shapes l es) a) ++ order_of p.shapes l es)) i ≡ Some x → (full : Bool) × ActsThere (e ∷ es) i x full
     go None q earlier there = let f = earlier there in (f.0, further f.0 f.1)
     go (Some a) q earlier there =
         let y : Answered = record { op = a.op; answer = answer_at p.shapes (ever_of p.shapes l es) a } in

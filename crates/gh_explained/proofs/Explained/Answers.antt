@@ -106,7 +106,7 @@ module _ (p : Program) (l : Layout) (procs : l.procs ≡ p.settings.procs) (each
     given_are : point_answers ≡ given p l procs a es
     given_are =
         let own_answers = stands.answers a lt in
-        let said : point_answers ≡ answers_of (arena_of p.shapes l) (setting_of p l).opening a es = sym pointed_is ∙ deed_answers (answered_by (processor_kind p.shapes l) (deeds p.shapes) (meaning p.shapes) a es) in
+        let said : point_answers ≡ answers_of (arena_of p.shapes l) (setting_of p l).opening a es = sym pointed_is ∙ deed_answers (answered_by (processor_kind p.shapes l) (deeds l p.shapes) (meaning p.shapes) a es) in
         said ∙ own_answers.answers ∙ ap (λ (o : Option Answer). option_to_list o ++ given p l procs a es) (own_answers.resting idle)
 
     pub among_are : answers_at p a (answers_given p l es) ≡ answers_to (turns_of p a) its_answers

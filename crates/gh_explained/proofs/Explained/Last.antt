@@ -28,14 +28,14 @@ HasTold _ swept = Unit {0}
 more : (p : CoordStage) (n m : ℕ) → n ≤ m → HasTold p n → HasTold p m
 more p n m le h = grind arith
 
-module _ (u : Coordinating) (n m found : ℕ) (le : n ≤ m) where
+module _ (l : Layout) (u : Coordinating) (n m found : ℕ) (le : n ≤ m) where
   telling : (t : tell.Telling) (st : TellStage) → tell.is_busy st ≡ true → HasToldAt st n → (st ≡ tell_stage.StoreSwept → 1 ≤ m) → HasTold (after_tell (at_stage u (Tell (record t { stage = tell.behind t.is_last st }))) (tell.given_at (tell.behind t.is_last st))).stage m
   telling t st b h so = grind arith
 
-  goes : (p : CoordStage) → coord.is_busy p ≡ true → HasTold p n → ((t : tell.Telling) → p ≡ Tell t → t.stage ≡ tell_stage.StoreSwept → 1 ≤ m) → HasTold (goes_at u p found).stage m
+  goes : (p : CoordStage) → coord.is_busy p ≡ true → HasTold p n → ((t : tell.Telling) → p ≡ Tell t → t.stage ≡ tell_stage.StoreSwept → 1 ≤ m) → HasTold (goes_at l u p found).stage m
   goes (Tell t) b h so = telling t t.stage b h (λ is. so t refl is)
   goes Done b h so = absurd cc
-  goes p b h so = by_event u found (λ (to : Coordinating). HasTold to.stage m) p (λ e may. grind arith)
+  goes p b h so = by_event l u found (λ (to : Coordinating). HasTold to.stage m) p (λ e may. grind arith)
 
 module _ (p : Program) (l : Layout) (k : Known p l) where
   abbrev swept : List (Entry Op) → ℕ
@@ -57,15 +57,15 @@ module _ (p : Program) (l : Layout) (k : Known p l) where
       go (ends x) = absurd (let no = sym is ∙ x.ask_is in cc)
       go (tells next) = let then = ap (λ (q : Ask). effect (words_in p l es) q cell.Swept) next.ask_is in omega (arith, then)
 
-    by_lead : (b : Coordinating) → e.ask ≡ coord.asks b → coord.is_busy b.stage ≡ true → HasTold b.stage (swept es) → HasTold (coord.goes b e.found).stage (swept (e ∷ es))
-    by_lead b asked busy h = goes (coord.counted b) (swept es) (swept (e ∷ es)) e.found up b.stage busy h (λ t at is. stores t.cycle (asked ∙ ap (coord.asks_at b) at ∙ ap (tell.asks_at t) is))
+    by_lead : (b : Coordinating) → e.ask ≡ coord.asks l b → coord.is_busy b.stage ≡ true → HasTold b.stage (swept es) → HasTold (coord.goes l b e.found).stage (swept (e ∷ es))
+    by_lead b asked busy h = goes l (coord.counted b) (swept es) (swept (e ∷ es)) e.found up b.stage busy h (λ t at is. stores t.cycle (asked ∙ ap (coord.asks_at l b) at ∙ ap (tell.asks_at t) is))
 
     by : seats.Step (setup_of p l) e es → Holds (e ∷ es)
     by (seats.by_processor m x stays) c led = more c.stage (swept es) (swept (e ∷ es)) up (before c (sym stays ∙ led))
     by (seats.by_worker w x stays) c led = more c.stage (swept es) (swept (e ∷ es)) up (before c (sym stays ∙ led))
     by (seats.by_lead b x) c led =
-        let both : actor.Leads c ≡ actor.Leads (coord.goes b e.found) = sym led ∙ x.then in
-        let same : coord.goes b e.found ≡ c = cc in
+        let both : actor.Leads c ≡ actor.Leads (coord.goes l b e.found) = sym led ∙ x.then in
+        let same : coord.goes l b e.found ≡ c = cc in
         subst (λ (y : Coordinating). HasTold y.stage (swept (e ∷ es))) same (by_lead b x.asked x.busy (before b x.is))
 
   holds : (es : List (Entry Op)) → Legal (setting_of p l) es → Holds es

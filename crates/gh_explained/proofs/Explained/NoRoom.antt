@@ -22,7 +22,7 @@ module _ (p : Program) (l : Layout) (awaits : (es : List (Entry Op)) → Legal (
       record {
         step = s;
         no_room = full_there p l s.before s.entry t.room act s.acted refl;
-        waited = (awaits (s.entry ∷ s.before) t.legal s.entry s.before act (inl refl) (pointed act (acts m s.entry.found) s.acted (full_pointed m m.task s.entry.found act s.acted refl))).full refl;
+        waited = (awaits (s.entry ∷ s.before) t.legal s.entry s.before act (inl refl) (pointed act (acts l m s.entry.found) s.acted (full_pointed l m m.task s.entry.found act s.acted refl))).full refl;
       }
   found_none es i x false t is = absurd (ever_no_full p.shapes (ever_of p.shapes l t.step.before) x.op (t.answered_so ∙ is))
 

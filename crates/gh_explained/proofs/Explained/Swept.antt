@@ -15,7 +15,7 @@ module _ (p : Program) (l : Layout) (awaits : (es : List (Entry Op)) → Legal (
       let s = t.step in
       let m = before_step p.shapes l s.before s.entry in
       let act : Act = record { op = x.op; full = false } in
-      let has = awaits (s.entry ∷ s.before) t.legal s.entry s.before act (inl refl) (pointed act (acts m s.entry.found) s.acted (ap has_point is)) in
+      let has = awaits (s.entry ∷ s.before) t.legal s.entry s.before act (inl refl) (pointed act (acts l m s.entry.found) s.acted (ap has_point is)) in
       record {
         step = s;
         waited = has.gc g is;

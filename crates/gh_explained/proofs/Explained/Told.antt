@@ -60,7 +60,7 @@ module _ (p : Program) (l : Layout) (procs : l.procs ≡ p.settings.procs) where
   own a es = state_of (processor_kind p.shapes l) a es
 
   abbrev pub given : (a : ℕ) → List (Entry Op) → List Answer
-  given a es = given_by (processor_kind p.shapes l) (deeds p.shapes) a es
+  given a es = given_by (processor_kind p.shapes l) (deeds l p.shapes) a es
 
   -- what the statements of the processor's goroutines were answered
   abbrev pub given_to : (a : ℕ) → List (Entry Op) → List (ℕ × Answer)
@@ -101,7 +101,7 @@ module _ (p : Program) (l : Layout) (procs : l.procs ≡ p.settings.procs) where
 
     -- what the entry gives
     abbrev gave : Option Answer
-    gave = given_at m.task (gives m e.found)
+    gave = given_at m.task (gives l m e.found)
 
     -- and to which goroutine
     abbrev now : List (ℕ × Answer)
@@ -125,21 +125,21 @@ module _ (p : Program) (l : Layout) (procs : l.procs ≡ p.settings.procs) where
             let its = its_seat p l procs a o (subst (AreOf p l procs a) begun (all_its p l procs a (e ∷ es) legal)).0 is in
             ap (λ (c : Bool). cond c ((its_goroutine o, b) ∷ []) []) its
 
-      now_some : (x : IsItsOwn p l es e legal a lt) (o : Op) (os : List Op) → begun_in (by a (e ∷ es)) ≡ o ∷ os → is_serving m.task ≡ is_statement o → (b : Answer) → gives_at m m.task e.found ≡ Some b → now ≡ told o b
+      now_some : (x : IsItsOwn p l es e legal a lt) (o : Op) (os : List Op) → begun_in (by a (e ∷ es)) ≡ o ∷ os → is_serving m.task ≡ is_statement o → (b : Answer) → gives_at l m m.task e.found ≡ Some b → now ≡ told o b
       now_some x o os begun serving b is = grind arith
 
-      now_none : (x : IsItsOwn p l es e legal a lt) (o : Op) (os : List Op) → begun_in (by a (e ∷ es)) ≡ o ∷ os → is_serving m.task ≡ is_statement o → gives_at m m.task e.found ≡ None → now ≡ []
+      now_none : (x : IsItsOwn p l es e legal a lt) (o : Op) (os : List Op) → begun_in (by a (e ∷ es)) ≡ o ∷ os → is_serving m.task ≡ is_statement o → gives_at l m m.task e.found ≡ None → now ≡ []
       now_none x o os begun serving is = grind arith
 
       given_own : IsItsOwn p l es e legal a lt → given a (e ∷ es) ≡ option_to_list gave ++ given a es
       given_own x = ap (λ (b : Bool). cond b (option_to_list gave ++ given a es) (given a es)) x.here
 
-      goes_on : (x : IsItsOwn p l es e legal a lt) (o : Op) (os : List Op) → gives_at m m.task e.found ≡ None → begun_in (by a (e ∷ es)) ≡ o ∷ os → Runs a es o os m → Told a (e ∷ es)
+      goes_on : (x : IsItsOwn p l es e legal a lt) (o : Op) (os : List Op) → gives_at l m m.task e.found ≡ None → begun_in (by a (e ∷ es)) ≡ o ∷ os → Runs a es o os m → Told a (e ∷ es)
       goes_on x o os is begun r =
-          let s = step_facts p.shapes m m.task e.found x.busy in
-          let next : is_busy_at (takes p.shapes m e.found).task ≡ true = s.ends ∙ ap (λ (y : Option Answer). not (is_some y)) is in
+          let s = step_facts l p.shapes m m.task e.found x.busy in
+          let next : is_busy_at (takes l p.shapes m e.found).task ≡ true = s.ends ∙ ap (λ (y : Option Answer). not (is_some y)) is in
           let still : is_busy_at (own a (e ∷ es)).task ≡ true = ap (λ (n : Processor). is_busy_at n.task) x.after ∙ next in
-          let serving : is_serving (takes p.shapes m e.found).task ≡ is_statement o = s.serves ∙ ap (λ (b : Bool). b && is_serving m.task) next ∙ r.serving in
+          let serving : is_serving (takes l p.shapes m e.found).task ≡ is_statement o = s.serves ∙ ap (λ (b : Bool). b && is_serving m.task) next ∙ r.serving in
           let none : gave ≡ None = ap (λ (y : Option Answer). given_at m.task y) is ∙ given_is m.task None ∙ no_answer (is_pointed m.task) in
           let same : given a (e ∷ es) ≡ given a es = given_own x ∙ ap (λ (y : Option Answer). option_to_list y ++ given a es) none in
           let answers : given_to a (e ∷ es) ≡ given_to a es = answered_more a ∙ ap (λ (xs : List (ℕ × Answer)). given_to a es ++ answers_at p a xs) (now_none x o os begun r.serving is) ∙ append-nil (given_to a es) in
@@ -151,7 +151,7 @@ module _ (p : Program) (l : Layout) (procs : l.procs ≡ p.settings.procs) where
               begun,
               record {
                 serving = ap (λ (n : Processor). is_serving n.task) x.after ∙ serving;
-                pointed = ap (λ (n : Processor). is_pointed n.task) x.after ∙ stays_pointed p.shapes m m.task e.found x.busy next ∙ r.pointed;
+                pointed = ap (λ (n : Processor). is_pointed n.task) x.after ∙ stays_pointed l p.shapes m m.task e.found x.busy next ∙ r.pointed;
                 answers = answers ∙ r.answers ∙ ap (λ (xs : List Answer). told_of (filter has_point os) xs) (sym same);
                 long = r.long ∙ ap length (sym same);
               },
@@ -167,10 +167,10 @@ module _ (p : Program) (l : Layout) (procs : l.procs ≡ p.settings.procs) where
         go true t = (refl, ap suc long)
         go false t = (ap (λ (c : Bool). told_of (filter has_point os) gs ++ cond c ((its_goroutine o, b) ∷ []) []) (statement_pointed o t) ∙ append-nil (told_of (filter has_point os) gs), long)
 
-      ends : (x : IsItsOwn p l es e legal a lt) (o : Op) (os : List Op) (b : Answer) → gives_at m m.task e.found ≡ Some b → begun_in (by a (e ∷ es)) ≡ o ∷ os → Runs a es o os m → Told a (e ∷ es)
+      ends : (x : IsItsOwn p l es e legal a lt) (o : Op) (os : List Op) (b : Answer) → gives_at l m m.task e.found ≡ Some b → begun_in (by a (e ∷ es)) ≡ o ∷ os → Runs a es o os m → Told a (e ∷ es)
       ends x o os b is begun r =
-          let s = step_facts p.shapes m m.task e.found x.busy in
-          let next : is_busy_at (takes p.shapes m e.found).task ≡ false = s.ends ∙ ap (λ (y : Option Answer). not (is_some y)) is in
+          let s = step_facts l p.shapes m m.task e.found x.busy in
+          let next : is_busy_at (takes l p.shapes m e.found).task ≡ false = s.ends ∙ ap (λ (y : Option Answer). not (is_some y)) is in
           let over : is_busy_at (own a (e ∷ es)).task ≡ false = ap (λ (n : Processor). is_busy_at n.task) x.after ∙ next in
           let some : gave ≡ cond (has_point o) (Some b) None = ap (λ (y : Option Answer). given_at m.task y) is ∙ given_is m.task (Some b) ∙ ap (λ (c : Bool). cond c (Some b) None) r.pointed in
           let then : given a (e ∷ es) ≡ option_to_list (cond (has_point o) (Some b) None) ++ given a es = given_own x ∙ ap (λ (y : Option Answer). option_to_list y ++ given a es) some in
@@ -185,14 +185,14 @@ module _ (p : Program) (l : Layout) (procs : l.procs ≡ p.settings.procs) where
           }
 
       by_own : IsItsOwn p l es e legal a lt → Told a es → Told a (e ∷ es)
-      by_own x t = let w = runs x t in go (gives_at m m.task e.found) refl w.0 w.1 w.2 w.3 where
-        go : (b : Option Answer) → gives_at m m.task e.found ≡ b → (o : Op) (os : List Op) → begun_in (by a (e ∷ es)) ≡ o ∷ os → Runs a es o os m → Told a (e ∷ es)
+      by_own x t = let w = runs x t in go (gives_at l m m.task e.found) refl w.0 w.1 w.2 w.3 where
+        go : (b : Option Answer) → gives_at l m m.task e.found ≡ b → (o : Op) (os : List Op) → begun_in (by a (e ∷ es)) ≡ o ∷ os → Runs a es o os m → Told a (e ∷ es)
         go None is o os begun r = goes_on x o os is begun r
         go (Some b) is o os begun r = ends x o os b is begun r
 
     -- what another answers is none of its goroutines'
     elsewhere : (a b : ℕ) (lt : b < l.procs) → IsItsOwn p l es e legal b lt → Told b es → eqb b a ≡ false → answers_at p a now ≡ []
-    elsewhere a b lt x t apart = let w = runs b lt x t in go (gives_at m m.task e.found) refl w.0 w.1 w.2 w.3 where
+    elsewhere a b lt x t apart = let w = runs b lt x t in go (gives_at l m m.task e.found) refl w.0 w.1 w.2 w.3 where
       no_told : (o : Op) (os : List Op) → begun_in (by b (e ∷ es)) ≡ o ∷ os → (c : Answer) → answers_at p a (told o c) ≡ []
       no_told o os begun c = by_kind (is_statement o) refl where
         by_kind : (s : Bool) → is_statement o ≡ s → answers_at p a (cond s ((its_goroutine o, c) ∷ []) []) ≡ []
@@ -201,7 +201,7 @@ module _ (p : Program) (l : Layout) (procs : l.procs ≡ p.settings.procs) where
             let its = its_seat p l procs b o (subst (AreOf p l procs b) begun (all_its p l procs b (e ∷ es) legal)).0 is in
             ap (λ (d : Bool). cond d ((its_goroutine o, c) ∷ []) []) (not_another p a b (its_goroutine o) apart its)
 
-      go : (c : Option Answer) → gives_at m m.task e.found ≡ c → (o : Op) (os : List Op) → begun_in (by b (e ∷ es)) ≡ o ∷ os → Runs b es o os m → answers_at p a now ≡ []
+      go : (c : Option Answer) → gives_at l m m.task e.found ≡ c → (o : Op) (os : List Op) → begun_in (by b (e ∷ es)) ≡ o ∷ os → Runs b es o os m → answers_at p a now ≡ []
       go None is o os begun r = ap (answers_at p a) (now_none b lt x o os begun r.serving is)
       go (Some c) is o os begun r = ap (answers_at p a) (now_some b lt x o os begun r.serving c is) ∙ no_told o os begun c
 
@@ -232,7 +232,7 @@ module _ (p : Program) (l : Layout) (procs : l.procs ≡ p.settings.procs) where
     none_now : (a : ℕ) → eqb e.actor a ≡ false → ((b : ℕ) → b < l.procs → Told b es) → answers_at p a now ≡ []
     none_now a apart before = elim (cases_lt e.actor l.procs) [
       | inl lt ↦ elsewhere a e.actor lt (its_own p l es e legal e.actor lt refl) (before e.actor lt) apart
-      | inr le ↦ ap (λ (b : Bool). answers_at p a (with_goroutine (now_in (e ∷ es)).0 (cond b (gives_at m m.task e.found) None))) (no_processors p l es e legal le).idle
+      | inr le ↦ ap (λ (b : Bool). answers_at p a (with_goroutine (now_in (e ∷ es)).0 (cond b (gives_at l m m.task e.found) None))) (no_processors p l es e legal le).idle
     ]
 
     step : ((b : ℕ) → b < l.procs → Told b es) → (a : ℕ) → a < l.procs → Told a (e ∷ es)

@@ -97,7 +97,7 @@ module _ (laws : Laws) (p : Program) (l : Layout) (formed : WellFormed p) (out :
 
   is_named : (xs : List (Entry Op)) → IsNamed (ever_of p.shapes l xs)
   is_named [] = named-opening
-  is_named (e ∷ es) = named-acted p.shapes (ever_of p.shapes l es) (is_named es) (acts (before_step p.shapes l es e) e.found)
+  is_named (e ∷ es) = named-acted p.shapes (ever_of p.shapes l es) (is_named es) (acts l (before_step p.shapes l es e) e.found)
 
   made : (xs : List (Entry Op)) (n : Name) → Reach (ever xs) n → IsMade (ever xs).made n
   made xs n r = reached-made (ever xs) (subst IsNamed (sym (same_ever xs)) (is_named xs)) n r

@@ -113,7 +113,6 @@ module _ (setup : Setup) (lists : ListsKnown setup)
       stands_still = record {
         stops = (leading.lead_of c).stops;
         parked = (lists.keeps es legal).processors_wait c run.Off a it led (begin_post c.stage b) (omega (arith, lt)) (is ∙ sym (ap actor.Runs same));
-        layout_is = stands.sits.layout;
         seat_is = stands.sits.seat;
         no_buffer = (r.nobody.processors a lt).holds.none;
         stacks = stacks;

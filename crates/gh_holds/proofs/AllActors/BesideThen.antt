@@ -58,7 +58,7 @@ module _ (given : Given) (wanted : Wanted) (lists : ListsKnown (setup_for given)
     abbrev none : sweep_in now ≡ None
     none = beside.none given wanted lists e es c number few s marked
 
-    tells : TellsStacks h.words now
+    tells : TellsStacks given.layout h.words now
     tells = beside.tells given wanted lists e es c number few s marked
 
     abbrev pending : Option Answer
@@ -68,7 +68,7 @@ module _ (given : Given) (wanted : Wanted) (lists : ListsKnown (setup_for given)
     calm over = grind arith
 
     -- a move over the heap, and the same move of the one state
-    abbrev land : HeapSteps z a h (asks now) (λ t. DoesPoints z a h t now pending (h.words (cell_of (asks now))))
+    abbrev land : HeapSteps z a h (asks given.layout now) (λ t. DoesPoints z a h t now pending (h.words (cell_of (asks given.layout now))))
     land = step.land given lists.good lists.limits lists.known e es marked.legal marked.lt marked.kn.has none
 
     abbrev lands : landing.Lands given lists.good lists.limits lists.known wanted e es marked.legal marked.lt marked.kn.has
@@ -83,17 +83,17 @@ module _ (given : Given) (wanted : Wanted) (lists : ListsKnown (setup_for given)
     t_is : t ≡ there
     t_is = landing.deed_heap given lists.good lists.limits lists.known wanted e es marked.legal marked.lt marked.kn.has calm none
 
-    goes : StepsOn (cycle number few) a there s (takes given.shapes now (h.words (cell_of (asks now))))
+    goes : StepsOn (cycle number few) a there s (takes given.layout given.shapes now (h.words (cell_of (asks given.layout now))))
     goes = beside.goes given wanted lists e es c number few s marked
 
     beside_then : IsBeside z t goes.then
     beside_then = subst (λ (x : Heap). IsBeside z x goes.then) (sym t_is) goes.beside
 
     abbrev found : ℕ
-    found = h.words (cell_of (asks now))
+    found = h.words (cell_of (asks given.layout now))
 
     abbrev then : Processor
-    then = takes given.shapes now found
+    then = takes given.layout given.shapes now found
 
     -- The cycle, and what has become of the heap since it began.
 
@@ -131,8 +131,8 @@ module _ (given : Given) (wanted : Wanted) (lists : ListsKnown (setup_for given)
     stays = subst (Stays (words (setup_for given) es)) has_then.of_list.words_are (subst (λ (w : Words). Stays w t.words) marked.kn.has.of_list.words_are (subst (λ (x : Heap). Stays h.words x.words) (sym t_is) (move_stays lists.known.footprints lists.known.rows z a h land.move land.may)))
 
     -- nothing of the next sweep is counted
-    uncounted_then : (d : Cell) → (IsWritten now d → ⊥) → h.words d ≡ 0 → t.words d ≡ 0
-    uncounted_then d never is = ap (λ (w : Words). w d) lands.words_are ∙ (lists.known.writes.leaves now h.words d (step.sound_now given lists.good lists.limits lists.known e es marked.legal marked.lt marked.kn.has) never ∙ is)
+    uncounted_then : (d : Cell) → (IsWritten given.layout now d → ⊥) → h.words d ≡ 0 → t.words d ≡ 0
+    uncounted_then d never is = ap (λ (w : Words). w d) lands.words_are ∙ (lists.known.writes.leaves given.layout now h.words d (step.sound_now given lists.good lists.limits lists.known e es marked.legal marked.lt marked.kn.has) never ∙ is)
 
     no_sweep : IsSweeping now → ⊥
     no_sweep is = absurd (let no : false ≡ true = sym (ap (λ (x : Option Sweeping). is_some x) none) ∙ is in cc)
@@ -158,10 +158,10 @@ module _ (given : Given) (wanted : Wanted) (lists : ListsKnown (setup_for given)
       counts = (uncounted_then cell.Tally no_sweep marked.kn.counts.0, uncounted_then cell.Live no_sweep marked.kn.counts.1);
     }
 
-    asked : e.ask ≡ asks now
+    asked : e.ask ≡ asks given.layout now
     asked = step.asked given lists.good lists.limits lists.known e es marked.legal marked.lt marked.kn.has
 
-    pub steps : Steps (cycle number few) a s e.ask (λ t. MarkFacts (cycle number few) a t (takes given.shapes now e.found) × Knows z given.pacing may (cycle number few) t (e ∷ es))
+    pub steps : Steps (cycle number few) a s e.ask (λ t. MarkFacts (cycle number few) a t (takes given.layout given.shapes now e.found) × Knows z given.pacing may (cycle number few) t (e ∷ es))
     steps = grind (arith, asked, goes, known_then)
 
   -- The cycle is one of this arena.
@@ -171,7 +171,7 @@ module _ (given : Given) (wanted : Wanted) (lists : ListsKnown (setup_for given)
 
     abbrev Goes : Cycle → Type 0
     Goes y = MarkingGood y s → IsKnown (setup_for given) y s es → MarkFacts y e.actor s (processor_at (setup_for given) es e.actor) →
-        Steps y e.actor s e.ask (λ t. MarkFacts y e.actor t (takes given.shapes (started k e.begun (processor_at (setup_for given) es e.actor)) e.found) × Knows z given.pacing may y t (e ∷ es))
+        Steps y e.actor s e.ask (λ t. MarkFacts y e.actor t (takes given.layout given.shapes (started k e.begun (processor_at (setup_for given) es e.actor)) e.found) × Knows z given.pacing may y t (e ∷ es))
 
     pub goes_so : Goes x
     goes_so fine kn facts = subst (λ (r : Arena). Goes (in_arena r)) (sym kn.arena_is) (λ f i m. steps e es c x.number x.few s (record { legal = legal; led = led; on = on; lt = lt; number_is = number_is; fine = f; kn = i; facts = m })) fine kn facts
@@ -179,5 +179,5 @@ module _ (given : Given) (wanted : Wanted) (lists : ListsKnown (setup_for given)
   pub marked : StepsByMoves z given.pacing may
   marked e es c legal led on x s m is fine kn lt at facts =
       let same = run_is (setup_for given) es e.actor m lt at in
-      subst (λ (p : Processor). Steps x e.actor s e.ask (λ t. MarkFacts x e.actor t (takes given.shapes (started k e.begun p) e.found) × Knows z given.pacing may x t (e ∷ es))) same
+      subst (λ (p : Processor). Steps x e.actor s e.ask (λ t. MarkFacts x e.actor t (takes given.layout given.shapes (started k e.begun p) e.found) × Knows z given.pacing may x t (e ∷ es))) same
       (goes_so e es legal c led on lt x s is.number_is fine kn (subst (MarkFacts x e.actor s) (sym same) facts))

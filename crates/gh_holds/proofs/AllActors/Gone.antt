@@ -27,7 +27,7 @@ module _ (setup : Setup) (lists : ListsKnown setup)
   at_is = runs_are setup es e.actor lt
 
   sound : SoundPlace m
-  sound = (subst (handshake.Sound setup.layout) at_is (keeps.shakes.all_sound e.actor (omega (arith, lt)))).0.place
+  sound = (subst (handshake.Sound setup.layout) at_is (keeps.shakes.all_sound e.actor (omega (arith, lt)))).place
 
   runs : is_busy_at now.task ≡ true
   runs = sym (ap is_busy (ap (started all e.begun) at_is ∙ run_started setup e.begun m)) ∙ legal.1.runs
@@ -54,4 +54,4 @@ module _ (setup : Setup) (lists : ListsKnown setup)
   pub gone_rests : words setup es (cell.Ack e.actor) ≡ GONE → ⊥
   gone_rests said =
       let then = gone_begins e.begun refl (stage_gone said) in
-      gone_goes (party_of now) (stage_of now) (takes setup.shapes now e.found) then.0 (asks now) (lists.known.places.takes_so setup.shapes now e.found then.1 runs)
+      gone_goes (party_of now) (stage_of now) (takes setup.layout setup.shapes now e.found) then.0 (asks setup.layout now) (lists.known.places.takes_so setup.layout setup.shapes now e.found then.1 runs)

@@ -7,7 +7,7 @@ use Rattle.gh_holds.specs.ActorsHold.{HasEnded, IsOff}
 use Rattle.gh_marked.specs.State.{HasState}
 use Rattle.gh_marked.specs.HoldVocabulary.{State}
 use Rattle.gh_marked.specs.Sweepers.{sweep_of}
-use Rattle.gh_marked.proofs.Vocabulary.{actors_after, Arena, arena, Coordinating, CoordStage, Done, Entry, IsLed, Op, Sweep}
+use Rattle.gh_marked.proofs.Vocabulary.{actors_after, Arena, arena, Coordinating, CoordStage, Done, Entry, IsLed, Layout, Op, Sweep}
 use Rattle.gh_holds.proofs.AllActors.Aside as aside
 use Rattle.gh_holds.proofs.AllActors.Aside.{beside_of, keeps_buffers, Lands, TellsNothing}
 use Rattle.gh_lists.specs.Going.{keeps_last, NotAcks}
@@ -26,10 +26,10 @@ NotSweeps _ = Unit {0}
 sweeps_none : (p : CoordStage) → NotSweeps p → coord.sweep_at p ≡ None
 sweeps_none p other = grind arith
 
-begins_none : (u : Coordinating) (p : CoordStage) (found : ℕ) → NotSweeps p → coord.sweep_in (coord.goes_at u p found) ≡ None
-begins_none u (Sweep w) found other = absurd other
-begins_none u Done found other = absurd other
-begins_none u p found other = by_event u found (λ (to : Coordinating). coord.sweep_in to ≡ None) p (λ x may. grind arith)
+begins_none : (l : Layout) (u : Coordinating) (p : CoordStage) (found : ℕ) → NotSweeps p → coord.sweep_in (coord.goes_at l u p found) ≡ None
+begins_none l u (Sweep w) found other = absurd other
+begins_none l u Done found other = absurd other
+begins_none l u p found other = by_event l u found (λ (to : Coordinating). coord.sweep_in to ≡ None) p (λ x may. grind arith)
 
 module _ (setup : Setup) (lists : ListsKnown setup) where
   abbrev z : Arena
@@ -56,8 +56,8 @@ module _ (setup : Setup) (lists : ListsKnown setup) where
     -- it was the last before
     last_so : NotAcks by.lead.stage → (d : Coordinating) → IsLed setup (e ∷ es) d → d.is_last ≡ true → by.lead.is_last ≡ true
     last_so other d led_d is =
-        let one : coord.goes by.lead e.found ≡ d = (let both = sym (led_then setup lists e es by) ∙ led_d in cc) in
-        sym (keeps_last u by.lead.stage e.found other) ∙ (ap (λ (x : Coordinating). x.is_last) one ∙ is)
+        let one : coord.goes setup.layout by.lead e.found ≡ d = (let both = sym (led_then setup lists e es by) ∙ led_d in cc) in
+        sym (keeps_last setup.layout u by.lead.stage e.found other) ∙ (ap (λ (x : Coordinating). x.is_last) one ∙ is)
 
     pub last_stays : NotAcks by.lead.stage → (s t : State) → KeepsEnd s t → LastStays setup e es s t
     last_stays other s t keeps d led_d is = ((by.lead, by.led, last_so other d led_d is), ever_stays setup lists.known.points e es by.legal ge, as_it_ended s t keeps)
@@ -87,7 +87,7 @@ module _ (setup : Setup) (lists : ListsKnown setup) where
       none_before = sweeps_before setup lists e es by by.lead.stage refl ∙ sweeps_none by.lead.stage still
 
       pub none_then : sweep_of (actors_after z setup.pacing setup.may (e ∷ es) e.actor) ≡ None
-      none_then = sweeps_then setup lists e es by by.lead.stage refl ∙ begins_none u by.lead.stage e.found still
+      none_then = sweeps_then setup lists e es by by.lead.stage refl ∙ begins_none setup.layout u by.lead.stage e.found still
 
       module _ (tells : TellsNothing e.ask) where
         abbrev pub steps : (has : HasState setup es) → Step has

@@ -67,15 +67,15 @@ module _ (setup : Setup) (lists : ListsKnown setup) where
     ge : setup.layout.procs ≤ e.actor
     ge = from setup lists e es by
 
-    asks_so : (p : CoordStage) → by.lead.stage ≡ p → e.ask ≡ coord.asks_at by.lead p
+    asks_so : (p : CoordStage) → by.lead.stage ≡ p → e.ask ≡ coord.asks_at setup.layout by.lead p
     asks_so p is = asked_at setup lists e es by p is
 
     -- between two cycles
-    still_quiet : (p : CoordStage) → by.lead.stage ≡ p → NotSweeps p → TellsNothing (coord.asks_at by.lead p) → (d : Coordinating) → d.begun ≡ by.lead.begun → IsQuiet setup es by.lead → IsQuiet setup (e ∷ es) d
+    still_quiet : (p : CoordStage) → by.lead.stage ≡ p → NotSweeps p → TellsNothing (coord.asks_at setup.layout by.lead p) → (d : Coordinating) → d.begun ≡ by.lead.begun → IsQuiet setup es by.lead → IsQuiet setup (e ∷ es) d
     still_quiet p is still tells d same q = quiet_on setup lists e es by (subst NotSweeps (sym is) still) (subst TellsNothing (sym (asks_so p is)) tells) (by.lead.begun + 1) setup.layout.pages q (d.begun + 1) (ap (λ (n : ℕ). n + 1) same)
 
-    pub acks : (i : ℕ) → by.lead.stage ≡ LoadAck i → IsQuiet setup es by.lead → To (coord.goes_at u (LoadAck i) e.found)
-    acks i is q = go (e.found == GONE) (ltb (i + 1) u.layout.procs) where
+    pub acks : (i : ℕ) → by.lead.stage ≡ LoadAck i → IsQuiet setup es by.lead → To (coord.goes_at setup.layout u (LoadAck i) e.found)
+    acks i is q = go (e.found == GONE) (ltb (i + 1) setup.layout.procs) where
       so : IsQuiet setup (e ∷ es) by.lead
       so = still_quiet (LoadAck i) is tt refl by.lead refl q
 
@@ -84,7 +84,7 @@ module _ (setup : Setup) (lists : ListsKnown setup) where
       go true false = so
       go false f = so
 
-    pub wants : by.lead.stage ≡ LoadWant → IsQuiet setup es by.lead → To (coord.goes_at u LoadWant e.found)
+    pub wants : by.lead.stage ≡ LoadWant → IsQuiet setup es by.lead → To (coord.goes_at setup.layout u LoadWant e.found)
     wants is q = go (e.found == 0) where
       so : IsQuiet setup (e ∷ es) by.lead
       so = still_quiet LoadWant is tt refl by.lead refl q
@@ -107,16 +107,16 @@ module _ (setup : Setup) (lists : ListsKnown setup) where
             let now : d.begun ≡ words setup (e ∷ es) cell.Swept + 1 = subst (λ (p : CoordStage). d.begun ≡ words setup (e ∷ es) cell.Swept + (ahead_at (part_of p)).numbered) at (lists.counts (e ∷ es) d by.legal led_d).number in
             omega (arith, now, was_number, same_swept)
 
-      pub stops : IsQuiet setup es by.lead → To (coord.goes_at u (Stop st) e.found)
-      stops q = go (stop.given (stop.goes u.layout st e.found)) refl where
+      pub stops : IsQuiet setup es by.lead → To (coord.goes_at setup.layout u (Stop st) e.found)
+      stops q = go (stop.given (stop.goes setup.layout st e.found)) refl where
         quiet_then : IsQuiet setup (e ∷ es) by.lead
         quiet_then = still_quiet (Stop st) is tt (lists.known.footprints.among stop.writes telling_rows (stop.asks st) refl ((lists.known.coordinator_parts setup.layout).stop.writes st)) by.lead refl q
 
-        go : (out : Option (Unit {0})) → stop.given (stop.goes u.layout st e.found) ≡ out → To (coord.after_stop (coord.at_stage u (Stop (stop.goes u.layout st e.found))) out)
+        go : (out : Option (Unit {0})) → stop.given (stop.goes setup.layout st e.found) ≡ out → To (coord.after_stop setup.layout (coord.at_stage u (Stop (stop.goes setup.layout st e.found))) out)
         go None x = quiet_then
         go (Some y) x =
-            let d_is : coord.goes by.lead e.found ≡ coord.opens (coord.at_stage u (Stop (stop.goes u.layout st e.found))) = goes_by setup lists e es by (Stop st) is ∙ ap (coord.after_stop (coord.at_stage u (Stop (stop.goes u.layout st e.found)))) x in
-            let led_d : IsLed setup (e ∷ es) (coord.opens (coord.at_stage u (Stop (stop.goes u.layout st e.found)))) = subst (IsLed setup (e ∷ es)) d_is (led_then setup lists e es by) in
+            let d_is : coord.goes setup.layout by.lead e.found ≡ coord.opens setup.layout (coord.at_stage u (Stop (stop.goes setup.layout st e.found))) = goes_by setup lists e es by (Stop st) is ∙ ap (coord.after_stop setup.layout (coord.at_stage u (Stop (stop.goes setup.layout st e.found)))) x in
+            let led_d : IsLed setup (e ∷ es) (coord.opens setup.layout (coord.at_stage u (Stop (stop.goes setup.layout st e.found)))) = subst (IsLed setup (e ∷ es)) d_is (led_then setup lists e es by) in
             (ready (e ∷ es) by.legal by.lead _ led_d refl (next_number _ _ _ led_d refl) quiet_then, tt, tt)
 
     -- while a cycle is opened
@@ -159,8 +159,8 @@ module _ (setup : Setup) (lists : ListsKnown setup) where
       by_stage opening.Ended x = tt
       by_stage _ x = there _ x _ refl
 
-      by_any : (p : OpenStage) → o.stage ≡ p → To (coord.goes_at u (Open o) e.found)
+      by_any : (p : OpenStage) → o.stage ≡ p → To (coord.goes_at setup.layout u (Open o) e.found)
       by_any p x = grind (arith, behind, by_stage)
 
-      pub opens : To (coord.goes_at u (Open o) e.found)
+      pub opens : To (coord.goes_at setup.layout u (Open o) e.found)
       opens = by_any o.stage refl

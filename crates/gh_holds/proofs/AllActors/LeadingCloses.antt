@@ -75,11 +75,11 @@ module _ (setup : Setup) (lists : ListsKnown setup) where
         let gen = gen_is in
         omega (arith, few, opened, gen)
 
-    sound : (by.lead.layout ≡ setup.layout) × leading.Sound by.lead
+    sound : leading.Sound by.lead
     sound = subst (ActorSound setup.layout) by.led ((lists.keeps es by.legal.0).shakes.all_sound (acks_of setup.layout) (omega arith))
 
     stored : x.generation ≡ by.lead.generation
-    stored = ap (λ (v : close.Closing). v.generation) (subst (leading.SoundAt by.lead) is sound.1.1)
+    stored = ap (λ (v : close.Closing). v.generation) (subst (leading.SoundAt by.lead) is sound.1)
 
     asked : e.ask ≡ Store cell.Gen x.generation
     asked = asked_at setup lists e es by (Close x) is ∙ ap (close.asks_at x) at
@@ -155,7 +155,7 @@ module _ (setup : Setup) (lists : ListsKnown setup) where
     abbrev behind_it : Coordinating
     behind_it = coord.at_stage (coord.counted by.lead) (Close (close.at_stage x closing.StorePhase))
 
-    leads_to : coord.goes by.lead e.found ≡ behind_it
+    leads_to : coord.goes setup.layout by.lead e.found ≡ behind_it
     leads_to = goes_by setup lists e es by (Close x) is ∙ ap (λ (y : close.Closing). coord.after_close (coord.at_stage (coord.counted by.lead) (Close y)) (close.given y)) (sym (closes_to closing.StoreGen at))
 
     led_behind : IsLed setup (e ∷ es) behind_it

@@ -83,7 +83,7 @@ module _ (setup : Setup) (lists : ListsKnown setup) where
       go (actor.Marks w) i =
           let lt : a < acks_of setup.layout = (seat_of (actor.Marks w) i).1 in
           worker_has w ((lists.keeps es legal).workers_wait c run.Mark a w led post lt i) (mark.marking.workers a w lt i)
-      go (actor.Leads d) i = mark.marking.coordinator a (seat_of (actor.Leads d) i).0
+      go (actor.Leads d) i = mark.marking.coordinator a (seat_of (actor.Leads d) i)
 
     pub none_placing : (o a : ℕ) → mark.marking.shared.colour o ≢ Placing a
     none_placing o a i = absurd (let none : None ≡ Some o = ((seats a).has.is_reserved o).1 i in cc)

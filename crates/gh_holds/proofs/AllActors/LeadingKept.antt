@@ -22,9 +22,9 @@ module _ (setup : Setup) (lists : ListsKnown setup) where
       same_list : (d : Coordinating) → d.cycles ≡ by.lead.cycles → AllWereCounted setup (e ∷ es) d
       same_list d same i y is = counted_on setup e es by.lead before i y (subst (λ (k : Kept). slice_get k.items i ≡ Some y) same is)
 
-      same_at : (p : CoordStage) → (coord.goes_at u p e.found).cycles ≡ by.lead.cycles → AllWereCounted setup (e ∷ es) (coord.goes_at u p e.found)
-      same_at p same = same_list (coord.goes_at u p e.found) same
+      same_at : (p : CoordStage) → (coord.goes_at setup.layout u p e.found).cycles ≡ by.lead.cycles → AllWereCounted setup (e ∷ es) (coord.goes_at setup.layout u p e.found)
+      same_at p same = same_list (coord.goes_at setup.layout u p e.found) same
 
-      pub counted : (p : CoordStage) → by.lead.stage ≡ p → HoldsAt setup es by.lead p → AllWereCounted setup (e ∷ es) (coord.goes_at u p e.found)
+      pub counted : (p : CoordStage) → by.lead.stage ≡ p → HoldsAt setup es by.lead p → AllWereCounted setup (e ∷ es) (coord.goes_at setup.layout u p e.found)
       counted (Count x) is h = told.keeps setup lists e es by x is h before
-      counted p is h = same_at p (by_event u e.found (λ (to : Coordinating). to.cycles ≡ u.cycles) p (λ x may. grind arith))
+      counted p is h = same_at p (by_event setup.layout u e.found (λ (to : Coordinating). to.cycles ≡ u.cycles) p (λ x may. grind arith))

@@ -28,9 +28,9 @@ has_left : (p : Polling) (q : Task) → stage_at p q ≡ Gone → is_last_task q
 has_left p q is = grind arith
 
 -- the request that ends a cycle
-pub ends_by : (c : Coordinating) (p : CoordStage) → IsEnding p → (x : ℕ) × (coord.asks_at c p ≡ Store cell.Gen x)
-ends_by c (Close y) is = (y.generation, ap (close.asks_at y) is)
-ends_by c _ is = absurd is
+pub ends_by : (l : Layout) (c : Coordinating) (p : CoordStage) → IsEnding p → (x : ℕ) × (coord.asks_at l c p ≡ Store cell.Gen x)
+ends_by l c (Close y) is = (y.generation, ap (close.asks_at y) is)
+ends_by l c _ is = absurd is
 
 module _ (setup : Setup) (lists : ListsKnown setup) where
   abbrev z : Arena
@@ -42,7 +42,7 @@ module _ (setup : Setup) (lists : ListsKnown setup) where
   made_grows g start (e ∷ es) (inl is) = let same = ap (λ (xs : List (Entry Op)). (ever setup xs).made g) is in omega (arith, same)
   made_grows g start (e ∷ es) (inr is) =
       let before = made_grows g start es is in
-      let more = acted_no_fewer setup.shapes g (ever setup es) (acts (started (processor_kind setup.shapes setup.layout) e.begun (processor_at setup es e.actor)) e.found) in
+      let more = acted_no_fewer setup.shapes g (ever setup es) (acts setup.layout (started (processor_kind setup.shapes setup.layout) e.begun (processor_at setup es e.actor)) e.found) in
       let follows = ap (λ (v : Ever). v.made g) ((lists.known.points setup.shapes setup.layout).follows es e) in
       omega (arith, before, more, follows)
 
@@ -52,7 +52,7 @@ module _ (setup : Setup) (lists : ListsKnown setup) where
   -- the objects that are marked where a cycle ends are so behind the store that ends it
   module _ (d : Entry Op) (ds : List (Entry Op)) (legal : Legal (those setup) (d ∷ ds)) (k : ℕ) (x : IsStepIn setup IsEnding k d ds) (n : Name) where
     stores : (i : ℕ) × (d.ask ≡ Store cell.Gen i)
-    stores = let s = ends_by x.lead x.lead.stage x.stage in (s.0, asked_at setup lists d ds (by_step setup IsEnding k d ds legal x) x.lead.stage refl ∙ s.1)
+    stores = let s = ends_by setup.layout x.lead x.lead.stage x.stage in (s.0, asked_at setup lists d ds (by_step setup IsEnding k d ds legal x) x.lead.stage refl ∙ s.1)
 
     abbrev Is : Words → Type 0
     Is w = IsMarkedObject setup w n
@@ -151,7 +151,7 @@ module _ (setup : Setup) (lists : ListsKnown setup) where
     was_last : c.is_last ≡ true
     was_last =
         let sound = subst (ActorSound setup.layout) led ((lists.keeps es legal).shakes.all_sound (acks_of setup.layout) (omega arith)) in
-        subst (leading.SoundAt c) done sound.1.1
+        subst (leading.SoundAt c) done sound.1
 
     -- the last cycle has changed no value
     same_ever : ever setup es ≡ ever setup j.behind.cycle.begun

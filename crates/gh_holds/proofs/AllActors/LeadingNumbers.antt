@@ -4,7 +4,7 @@ use Rattle.gh_base.specs.declared.cell.Cell.TheVariants as cell
 use Rattle.gh_coord.specs.Listing as coord
 use Rattle.gh_lists.specs.Lists.{IsTelling, SweepsCycle}
 use Rattle.gh_lists.specs.Starts.{legal_start, compared}
-use Rattle.gh_marked.proofs.Vocabulary.{ahead_at, Coordinating, CoordStage, EndsCycle, Entry, generation_after, IsBeginning, IsEnding, IsLed, IsStartOf, Legal, Op, opened_in, part_of, those, words}
+use Rattle.gh_marked.proofs.Vocabulary.{ahead_at, Coordinating, CoordStage, EndsCycle, Entry, generation_after, IsBeginning, IsEnding, IsLed, IsStartOf, Layout, Legal, Op, opened_in, part_of, those, words}
 use Rattle.gh_marked.specs.Known.{ListsKnown}
 use Rattle.gh_holds.proofs.AllActors.LeadingSeat.{by_step, ByLead, goes_at as goes_by, led_then}
 use Rattle.gh_lists.specs.Counting.{rises}
@@ -31,16 +31,16 @@ pub record Numbered (p : CoordStage) (opened numbered ended : ℕ) : Type 0 wher
 pub beginning : (p : CoordStage) → IsBeginning p → Numbered p 1 1 0
 beginning p is = grind arith
 
-pub record Leads (u : Coordinating) (p : CoordStage) (found opened numbered ended opened_then numbered_then ended_then : ℕ) : Type 0 where
+pub record Leads (l : Layout) (u : Coordinating) (p : CoordStage) (found opened numbered ended opened_then numbered_then ended_then : ℕ) : Type 0 where
   pub now : Numbered p opened numbered ended
-  pub after : Numbered (coord.goes_at u p found).stage opened_then numbered_then ended_then
-  pub begun : (coord.goes_at u p found).begun ≡ u.begun
+  pub after : Numbered (coord.goes_at l u p found).stage opened_then numbered_then ended_then
+  pub begun : (coord.goes_at l u p found).begun ≡ u.begun
 
-ending : (u : Coordinating) (p : CoordStage) (found : ℕ) → IsEnding p → Leads u p found 1 1 0 1 1 1
-ending u p found is = grind arith
+ending : (l : Layout) (u : Coordinating) (p : CoordStage) (found : ℕ) → IsEnding p → Leads l u p found 1 1 0 1 1 1
+ending l u p found is = grind arith
 
-telling : (u : Coordinating) (p : CoordStage) (found : ℕ) → IsTelling p → Leads u p found 1 1 1 0 0 0
-telling u p found is = grind arith
+telling : (l : Layout) (u : Coordinating) (p : CoordStage) (found : ℕ) → IsTelling p → Leads l u p found 1 1 1 0 0 0
+telling l u p found is = grind arith
 
 module _ (setup : Setup) (lists : ListsKnown setup) where
   abbrev Lawful : List (Entry Op) → Type 0
@@ -74,7 +74,7 @@ module _ (setup : Setup) (lists : ListsKnown setup) where
     abbrev u : Coordinating
     u = coord.counted by.lead
 
-    led_at : (p : CoordStage) → by.lead.stage ≡ p → Led (e ∷ es) (coord.goes_at u p e.found)
+    led_at : (p : CoordStage) → by.lead.stage ≡ p → Led (e ∷ es) (coord.goes_at setup.layout u p e.found)
     led_at p is = subst (Led (e ∷ es)) (goes_by setup lists e es by p is) (led_then setup lists e es by)
 
     more : opened_in es ≤ opened_in (e ∷ es)
@@ -88,9 +88,9 @@ module _ (setup : Setup) (lists : ListsKnown setup) where
 
     pub ends_it : IsEnding by.lead.stage → Ended
     ends_it is =
-        let x = ending u by.lead.stage e.found is in
+        let x = ending setup.layout u by.lead.stage e.found is in
         let a = numbers_at es by.lead by.lead.stage 1 1 0 by.legal.0 by.led refl x.now in
-        let b = numbers_at (e ∷ es) (coord.goes_at u by.lead.stage e.found) (coord.goes_at u by.lead.stage e.found).stage 1 1 1 by.legal (led_at by.lead.stage refl) refl x.after in
+        let b = numbers_at (e ∷ es) (coord.goes_at setup.layout u by.lead.stage e.found) (coord.goes_at setup.layout u by.lead.stage e.found).stage 1 1 1 by.legal (led_at by.lead.stage refl) refl x.after in
         let same = x.begun in
         let m = more in
         let a0 = a.0 in
@@ -112,9 +112,9 @@ module _ (setup : Setup) (lists : ListsKnown setup) where
 
     pub tells_it : IsTelling by.lead.stage → Told
     tells_it is =
-        let x = telling u by.lead.stage e.found is in
+        let x = telling setup.layout u by.lead.stage e.found is in
         let a = numbers_at es by.lead by.lead.stage 1 1 1 by.legal.0 by.led refl x.now in
-        let b = numbers_at (e ∷ es) (coord.goes_at u by.lead.stage e.found) (coord.goes_at u by.lead.stage e.found).stage 0 0 0 by.legal (led_at by.lead.stage refl) refl x.after in
+        let b = numbers_at (e ∷ es) (coord.goes_at setup.layout u by.lead.stage e.found) (coord.goes_at setup.layout u by.lead.stage e.found).stage 0 0 0 by.legal (led_at by.lead.stage refl) refl x.after in
         let m = more in
         let a0 = a.0 in
         let a1 = a.1 in

@@ -6,7 +6,7 @@ use Rattle.gh_coord.specs.Listing as coord
 use Rattle.gh_coord.specs.Opening as opens_by
 use Rattle.gh_lists.specs.Lists.{BeginsCycle}
 use Rattle.gh_lists.specs.Starts.{legal_start, compared}
-use Rattle.gh_marked.proofs.Vocabulary.{acks_of, Ask, Coordinating, CoordStage, Done, Entry, IsBeginning, IsLed, IsStartOf, Legal, nat_tests, Op, Open, opened_after, opened_in, OpenStage, those}
+use Rattle.gh_marked.proofs.Vocabulary.{acks_of, Ask, Coordinating, CoordStage, Done, Entry, IsBeginning, IsLed, IsStartOf, Layout, Legal, nat_tests, Op, Open, opened_after, opened_in, OpenStage, those}
 use Rattle.gh_marked.specs.Known.{ListsKnown}
 use Rattle.gh_holds.proofs.AllActors.LeadingNumbers.{beginning, numbers_at}
 use Rattle.gh_holds.proofs.AllActors.LeadingSeat.{asked_at, busy, by_step, ByLead, goes_at as goes_by, led_then}
@@ -24,22 +24,22 @@ abbrev IsPast : CoordStage → Type 0
 IsPast (Open o) = IsToClear o.stage
 IsPast _ = Unit {0}
 
-module _ (u : Coordinating) where
+module _ (l : Layout) (u : Coordinating) where
   -- a step that clears the request counts one cycle more
   clears : (o : opens_by.CycleOpening) (p : OpenStage) → o.stage ≡ p → IsToClear p → (before : ℕ) → opened_after (opens_by.asks_at o o.stage) before ≡ suc before
   clears o p is past before = grind arith
 
-  stays_past : (c : Coordinating) (p : CoordStage) (found : ℕ) → coord.is_busy p ≡ true → IsPast p → IsPast (coord.goes_at u p found).stage ⊎ ((before : ℕ) → opened_after (coord.asks_at c p) before ≡ suc before)
+  stays_past : (c : Coordinating) (p : CoordStage) (found : ℕ) → coord.is_busy p ≡ true → IsPast p → IsPast (coord.goes_at l u p found).stage ⊎ ((before : ℕ) → opened_after (coord.asks_at l c p) before ≡ suc before)
   stays_past c (Open o) found b past = inr (clears o o.stage refl past)
   stays_past c Done found b past = absurd cc
-  stays_past c p found b past = inl (by_event u found (λ (to : Coordinating). IsPast to.stage) p (λ e may. grind arith))
+  stays_past c p found b past = inl (by_event l u found (λ (to : Coordinating). IsPast to.stage) p (λ e may. grind arith))
 
   -- where a cycle begins
-  begins_past : (p : CoordStage) (found : ℕ) → IsBeginning p → IsPast (coord.goes_at u p found).stage
+  begins_past : (p : CoordStage) (found : ℕ) → IsBeginning p → IsPast (coord.goes_at l u p found).stage
   begins_past p found is = grind arith
 
-begins_none : (c : Coordinating) (p : CoordStage) → IsBeginning p → (before : ℕ) → opened_after (coord.asks_at c p) before ≡ before
-begins_none c p is before = grind arith
+begins_none : (l : Layout) (c : Coordinating) (p : CoordStage) → IsBeginning p → (before : ℕ) → opened_after (coord.asks_at l c p) before ≡ before
+begins_none l c p is before = grind arith
 
 not_past : (p : CoordStage) → IsBeginning p → IsPast p → ⊥
 not_past p is past = grind arith
@@ -66,12 +66,12 @@ module _ (setup : Setup) (lists : ListsKnown setup) where
 
     past_by_lead : ByLead setup e es → opened_in (e ∷ es) ≡ opened → (d : Coordinating) → Led (e ∷ es) d → IsPast d.stage
     past_by_lead by same d led_d =
-        let then : Led (e ∷ es) (coord.goes_at (coord.counted by.lead) by.lead.stage e.found) = subst (Led (e ∷ es)) (goes_by setup lists e es by by.lead.stage refl) (led_then setup lists e es by) in
-        subst (λ (x : Coordinating). IsPast x.stage) (one_led (e ∷ es) (coord.goes_at (coord.counted by.lead) by.lead.stage e.found) d then led_d) (go (stays_past (coord.counted by.lead) by.lead by.lead.stage e.found (busy setup lists e es by) (p.past before by.lead by.led))) where
+        let then : Led (e ∷ es) (coord.goes_at setup.layout (coord.counted by.lead) by.lead.stage e.found) = subst (Led (e ∷ es)) (goes_by setup lists e es by by.lead.stage refl) (led_then setup lists e es by) in
+        subst (λ (x : Coordinating). IsPast x.stage) (one_led (e ∷ es) (coord.goes_at setup.layout (coord.counted by.lead) by.lead.stage e.found) d then led_d) (go (stays_past setup.layout (coord.counted by.lead) by.lead by.lead.stage e.found (busy setup lists e es by) (p.past before by.lead by.led))) where
           before : opened_in es ≡ opened
           before = let a = up in let b = p.least in omega (arith, a, b, same)
 
-          go : IsPast (coord.goes_at (coord.counted by.lead) by.lead.stage e.found).stage ⊎ ((n : ℕ) → opened_after (coord.asks_at by.lead by.lead.stage) n ≡ suc n) → IsPast (coord.goes_at (coord.counted by.lead) by.lead.stage e.found).stage
+          go : IsPast (coord.goes_at setup.layout (coord.counted by.lead) by.lead.stage e.found).stage ⊎ ((n : ℕ) → opened_after (coord.asks_at setup.layout by.lead by.lead.stage) n ≡ suc n) → IsPast (coord.goes_at setup.layout (coord.counted by.lead) by.lead.stage e.found).stage
           go (inl x) = x
           go (inr more) = absurd (let x : opened_in (e ∷ es) ≡ suc (opened_in es) = ap (λ (q : Ask). opened_after q (opened_in es)) (asked_at setup lists e es by by.lead.stage refl) ∙ more (opened_in es) in let y = before in omega (arith, x, y, same))
 
@@ -91,8 +91,8 @@ module _ (setup : Setup) (lists : ListsKnown setup) where
 
   -- from where a cycle begins
   past_begun : (k : ℕ) (d : Entry Op) (ds : List (Entry Op)) → Lawful (d ∷ ds) → BeginsCycle setup k (d ∷ ds) → PastSince k (d ∷ ds)
-  past_begun k d ds legal x = record { least = (let a = opened_is in omega (arith, a)); past = λ same c led. subst (λ (y : Coordinating). IsPast y.stage) (one_led (d ∷ ds) (coord.goes_at (coord.counted x.lead) x.lead.stage d.found) c then led) (begins_past (coord.counted x.lead) x.lead.stage d.found x.stage) } where
-    then : Led (d ∷ ds) (coord.goes_at (coord.counted x.lead) x.lead.stage d.found)
+  past_begun k d ds legal x = record { least = (let a = opened_is in omega (arith, a)); past = λ same c led. subst (λ (y : Coordinating). IsPast y.stage) (one_led (d ∷ ds) (coord.goes_at setup.layout (coord.counted x.lead) x.lead.stage d.found) c then led) (begins_past setup.layout (coord.counted x.lead) x.lead.stage d.found x.stage) } where
+    then : Led (d ∷ ds) (coord.goes_at setup.layout (coord.counted x.lead) x.lead.stage d.found)
     then = subst (Led (d ∷ ds)) (goes_by setup lists d ds (by_step setup IsBeginning k d ds legal x) x.lead.stage refl) (led_then setup lists d ds (by_step setup IsBeginning k d ds legal x))
 
     opened_is : opened_in (d ∷ ds) ≡ k
@@ -101,7 +101,7 @@ module _ (setup : Setup) (lists : ListsKnown setup) where
         let a = n.0 in
         let b = n.1 in
         let c = x.cycle in
-        let o : opened_in (d ∷ ds) ≡ opened_in ds = ap (λ (q : Ask). opened_after q (opened_in ds)) (asked_at setup lists d ds (by_step setup IsBeginning k d ds legal x) x.lead.stage refl) ∙ begins_none x.lead x.lead.stage x.stage (opened_in ds) in
+        let o : opened_in (d ∷ ds) ≡ opened_in ds = ap (λ (q : Ask). opened_after q (opened_in ds)) (asked_at setup lists d ds (by_step setup IsBeginning k d ds legal x) x.lead.stage refl) ∙ begins_none setup.layout x.lead x.lead.stage x.stage (opened_in ds) in
         omega (arith, a, b, c, o)
 
   begins_before : (k : ℕ) (d f : Entry Op) (ds fs : List (Entry Op)) → Lawful (f ∷ fs) → BeginsCycle setup k (d ∷ ds) → BeginsCycle setup k (f ∷ fs) → IsStartOf (d ∷ ds) fs → ⊥

@@ -72,7 +72,7 @@ module _ (setup : Setup) where
             let waits = (lists.keeps es legal).workers_wait c phase b w led post (seat_of (actor.Marks w) i).1 i in
             ap sweep_of i ∙ ap worker.sweep_at waits.is_at
         go (actor.Leads d) i =
-            let least = (seat_of (actor.Leads d) i).0 in
+            let least = seat_of (actor.Leads d) i in
             let same : b ≡ acks_of setup.layout = omega (arith, least, lt) in
             ap sweep_of (ap (at es) same ∙ led) ∙ lead_sweeps_none c.stage phase post
 
@@ -105,22 +105,22 @@ module _ (setup : Setup) where
       pub busy : coord.is_busy by.lead.stage ≡ true
       busy = sym (ap is_busy begun_is) ∙ by.legal.1.runs
 
-      pub asked : e.ask ≡ coord.asks by.lead
-      asked = by.legal.1.asks ∙ ap asks begun_is
+      pub asked : e.ask ≡ coord.asks setup.layout by.lead
+      asked = by.legal.1.asks ∙ ap (asks setup.layout) begun_is
 
-      pub led_then : Led (e ∷ es) (coord.goes by.lead e.found)
+      pub led_then : Led (e ∷ es) (coord.goes setup.layout by.lead e.found)
       led_then = sym (ap (at (e ∷ es)) by.seat) ∙ leads setup e es by.lead led_there
 
       -- at this stage
-      pub asked_at : (p : CoordStage) → by.lead.stage ≡ p → e.ask ≡ coord.asks_at by.lead p
-      asked_at p is = asked ∙ ap (coord.asks_at by.lead) is
+      pub asked_at : (p : CoordStage) → by.lead.stage ≡ p → e.ask ≡ coord.asks_at setup.layout by.lead p
+      asked_at p is = asked ∙ ap (coord.asks_at setup.layout by.lead) is
 
-      pub goes_at : (p : CoordStage) → by.lead.stage ≡ p → coord.goes by.lead e.found ≡ coord.goes_at (coord.counted by.lead) p e.found
-      goes_at p is = ap (λ (q : CoordStage). coord.goes_at (coord.counted by.lead) q e.found) is
+      pub goes_at : (p : CoordStage) → by.lead.stage ≡ p → coord.goes setup.layout by.lead e.found ≡ coord.goes_at setup.layout (coord.counted by.lead) p e.found
+      goes_at p is = ap (λ (q : CoordStage). coord.goes_at setup.layout (coord.counted by.lead) q e.found) is
 
       -- the sweep that it runs, before and behind the step
       pub sweeps_before : (p : CoordStage) → by.lead.stage ≡ p → sweep_of (at es e.actor) ≡ coord.sweep_at p
       sweeps_before p is = ap sweep_of led_there ∙ ap coord.sweep_at is
 
-      pub sweeps_then : (p : CoordStage) → by.lead.stage ≡ p → sweep_of (at (e ∷ es) e.actor) ≡ coord.sweep_in (coord.goes_at (coord.counted by.lead) p e.found)
+      pub sweeps_then : (p : CoordStage) → by.lead.stage ≡ p → sweep_of (at (e ∷ es) e.actor) ≡ coord.sweep_in (coord.goes_at setup.layout (coord.counted by.lead) p e.found)
       sweeps_then p is = ap sweep_of (leads setup e es by.lead led_there) ∙ ap coord.sweep_in (goes_at p is)

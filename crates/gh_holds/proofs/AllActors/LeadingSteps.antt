@@ -36,7 +36,7 @@ module _ (setup : Setup) (lists : ListsKnown setup) where
     busy_at : (p : CoordStage) → by.lead.stage ≡ p → coord.is_busy p ≡ true
     busy_at p is = subst (λ (q : CoordStage). coord.is_busy q ≡ true) is (busy setup lists e es by)
 
-    at_stage : (p : CoordStage) → by.lead.stage ≡ p → HoldsAt setup es by.lead p → To (coord.goes_at u p e.found)
+    at_stage : (p : CoordStage) → by.lead.stage ≡ p → HoldsAt setup es by.lead p → To (coord.goes_at setup.layout u p e.found)
     at_stage (LoadAck i) is h = calm.acks setup lists e es by i is h
     at_stage LoadWant is h = calm.wants setup lists e es by is h
     at_stage (Stop st) is h = calm.stops setup lists e es by st is h
@@ -47,9 +47,9 @@ module _ (setup : Setup) (lists : ListsKnown setup) where
     at_stage (Tell t) is h = told.tells setup lists e es by t is (told.told_at setup lists es by.lead t.stage h)
     at_stage Done is h = absurd (let b = busy_at Done is in cc)
     -- while a cycle is marked nothing is said here
-    at_stage p is h = by_event u e.found To p (λ x may. grind arith)
+    at_stage p is h = by_event setup.layout u e.found To p (λ x may. grind arith)
 
-    pub leads : Holds setup es by.lead → Holds setup (e ∷ es) (coord.goes by.lead e.found)
+    pub leads : Holds setup es by.lead → Holds setup (e ∷ es) (coord.goes setup.layout by.lead e.found)
     leads h = record {
       at = at_stage by.lead.stage refl h.at;
       was = was_then;

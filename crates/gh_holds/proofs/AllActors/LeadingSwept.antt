@@ -142,10 +142,10 @@ module _ (setup : Setup) (lists : ListsKnown setup) where
     abbrev Still : SweepingAll → Type 0
     Still x = (d : Coordinating) → d.begun ≡ by_it.lead.begun → IsSweeping setup (e ∷ es) d x
 
-    asks_so : (p : SweepAllStage) → w.stage ≡ p → e.ask ≡ over.asks_at u.layout p
-    asks_so p x = asked_at setup lists e es by_it (Sweep w) is ∙ ap (over.asks_at u.layout) x
+    asks_so : (p : SweepAllStage) → w.stage ≡ p → e.ask ≡ over.asks_at setup.layout p
+    asks_so p x = asked_at setup lists e es by_it (Sweep w) is ∙ ap (over.asks_at setup.layout) x
 
-    found_so : (p : SweepAllStage) → w.stage ≡ p → e.found ≡ now.heap.words (cell_of (over.asks_at u.layout p))
+    found_so : (p : SweepAllStage) → w.stage ≡ p → e.found ≡ now.heap.words (cell_of (over.asks_at setup.layout p))
     found_so p x =
         let here : e.found ≡ words setup es (cell_of e.ask) = by_it.legal.1.found in
         (here ∙ ap (λ (y : Words). y (cell_of e.ask)) (sym s.has.of_list.words_are)) ∙ ap (λ (q : Ask). now.heap.words (cell_of q)) (asks_so p x)
@@ -157,18 +157,18 @@ module _ (setup : Setup) (lists : ListsKnown setup) where
     swept_in : (p : SweepAllStage) → w.stage ≡ p → coord.sweep_in by_it.lead ≡ over.sweep_at p
     swept_in p x = ap coord.sweep_at is ∙ ap over.sweep_at x
 
-    swept_then : sweep_of (actors_after z setup.pacing setup.may (e ∷ es) e.actor) ≡ coord.sweep_in (coord.goes by_it.lead e.found)
+    swept_then : sweep_of (actors_after z setup.pacing setup.may (e ∷ es) e.actor) ≡ coord.sweep_in (coord.goes setup.layout by_it.lead e.found)
     swept_then = sweeps_then setup lists e es by_it by_it.lead.stage refl
 
-    sound : (by_it.lead.layout ≡ setup.layout) × leading.Sound by_it.lead
+    sound : leading.Sound by_it.lead
     sound = subst (ActorSound setup.layout) by_it.led ((lists.keeps es by_it.legal.0).shakes.all_sound (acks_of setup.layout) (omega arith))
 
-    here : by_it.lead.layout ≡ now.end.layout
-    here = sound.0 ∙ sym s.has.good.layout
+    here : setup.layout ≡ now.end.layout
+    here = sym s.has.good.layout
 
     generation : by_it.lead.generation ≡ now.heap.words cell.Gen
     generation =
-        let own : w.generation ≡ by_it.lead.generation = subst (leading.SoundAt by_it.lead) is sound.1.1 in
+        let own : w.generation ≡ by_it.lead.generation = subst (leading.SoundAt by_it.lead) is sound.1 in
         sym own ∙ (s.walks.generation_is ∙ sym s.has.good.sweep.generation)
 
     -- A load: the sweep of a span may begin with it.
@@ -189,10 +189,10 @@ module _ (setup : Setup) (lists : ListsKnown setup) where
       begins_then = sweepers.begins_or_rests lists.known z e.actor loaded_state
           (aside_of.quiet_good setup lists.known e es by_it.legal seat_from s.has none beside (λ over. tells))
           (aside_of.quiet_rests setup lists.known e es by_it.legal seat_from s.has none beside (λ over. tells))
-          by_it.lead.generation (coord.asks by_it.lead) e.found (sweep_of (actors_after z setup.pacing setup.may (e ∷ es) e.actor))
+          by_it.lead.generation (coord.asks setup.layout by_it.lead) e.found (sweep_of (actors_after z setup.pacing setup.may (e ∷ es) e.actor))
           (generation ∙ sym (same_words cell.Gen))
           (by_it.legal.1.found ∙ (ap (λ (y : Words). y (cell_of e.ask)) (sym s.has.of_list.words_are) ∙ (sym (same_words (cell_of e.ask)) ∙ ap (λ (q : Ask). loaded_state.heap.words (cell_of q)) (asked_at setup lists e es by_it by_it.lead.stage refl))))
-          (λ m same. lists.known.coordinator_sweeps.begins by_it.lead e.found m sound.1 runs_none (sym swept_then ∙ same))
+          (λ m same. lists.known.coordinator_sweeps.begins setup.layout by_it.lead e.found m sound runs_none (sym swept_then ∙ same))
 
       abbrev load : Step
       load = aside_of.by_quiet setup lists.known e es by_it.legal seat_from s.has none beside (λ over. tells) begins_then
@@ -210,7 +210,7 @@ module _ (setup : Setup) (lists : ListsKnown setup) where
     -- A step of the sweep that it runs.
     module _ (at : ℕ) (m : sweep.Sweeping) (x : w.stage ≡ all.Sweep at m) where
       asks_m : e.ask ≡ sweep.asks setup.layout m
-      asks_m = asks_so (all.Sweep at m) x ∙ ap (λ (y : Layout). sweep.asks y m) sound.0
+      asks_m = asks_so (all.Sweep at m) x
 
       runs_m : IsInSweep e.actor now (Some m)
       runs_m = subst (IsInSweep e.actor now) (swept_before (all.Sweep at m) x) (s.has.sweeps e.actor by_it.legal.1.actor)
@@ -226,16 +226,16 @@ module _ (setup : Setup) (lists : ListsKnown setup) where
           (aside_of.sweep_buffers setup lists.known e es by_it.legal seat_from s.has m (swept_before (all.Sweep at m) x) asks_m then_m)
           (sweep_keeps_end z e.actor now _ step.allowed.of_sweep) d same
 
-      walks_m : Walks (state.moved z e.actor now step.move) (over.goes_at u.layout w (all.Sweep at m) e.found)
-      walks_m = stepped z lists.known u.layout w now s.has.good s.walks here e.actor at m e.found (record { is = x; runs = runs_m.0; busy = runs_m.1; found_is = found_so (all.Sweep at m) x; may = step.allowed })
+      walks_m : Walks (state.moved z e.actor now step.move) (over.goes_at setup.layout w (all.Sweep at m) e.found)
+      walks_m = stepped z lists.known setup.layout w now s.has.good s.walks here e.actor at m e.found (record { is = x; runs = runs_m.0; busy = runs_m.1; found_is = found_so (all.Sweep at m) x; may = step.allowed })
 
-      sweeps_still : Still (over.goes_at u.layout w (all.Sweep at m) e.found)
+      sweeps_still : Still (over.goes_at setup.layout w (all.Sweep at m) e.found)
       sweeps_still d same = record { has = aside_of.has_then setup lists.known e es by_it.legal seat_from s.has step; over = (sweeps_on d same).off.over; walks = walks_m; behind = (sweeps_on d same).behind; nobody = (sweeps_on d same).off.nobody }
 
-    goes_so : (p : SweepAllStage) → w.stage ≡ p → over.is_busy p ≡ true → Still (over.goes_at u.layout w p e.found)
-    goes_so (all.LoadPage at) x b = loads_still at (asks_so (all.LoadPage at) x) (swept_before (all.LoadPage at) x) (swept_in (all.LoadPage at) x) _ (loaded z lists.known u.layout w now s.has.good s.walks here at e.found (found_so (all.LoadPage at) x) x)
+    goes_so : (p : SweepAllStage) → w.stage ≡ p → over.is_busy p ≡ true → Still (over.goes_at setup.layout w p e.found)
+    goes_so (all.LoadPage at) x b = loads_still at (asks_so (all.LoadPage at) x) (swept_before (all.LoadPage at) x) (swept_in (all.LoadPage at) x) _ (loaded z lists.known setup.layout w now s.has.good s.walks here at e.found (found_so (all.LoadPage at) x) x)
     goes_so (all.Sweep at m) x b = sweeps_still at m x
-    goes_so (all.Await at) x b = loads_still at (asks_so (all.Await at) x) (swept_before (all.Await at) x) (swept_in (all.Await at) x) _ (awaited z lists.known u.layout w now s.has.good s.walks here at e.found (found_so (all.Await at) x) x)
+    goes_so (all.Await at) x b = loads_still at (asks_so (all.Await at) x) (swept_before (all.Await at) x) (swept_in (all.Await at) x) _ (awaited z lists.known setup.layout w now s.has.good s.walks here at e.found (found_so (all.Await at) x) x)
     goes_so all.Ended x b = absurd cc
 
     abbrev After : SweepingAll → SweepAllStage → Coordinating
@@ -259,5 +259,5 @@ module _ (setup : Setup) (lists : ListsKnown setup) where
     busy_so : over.is_busy w.stage ≡ true
     busy_so = subst (λ (p : CoordStage). coord.is_busy p ≡ true) is (busy setup lists e es by_it)
 
-    pub sweeps : To (coord.goes_at u (Sweep w) e.found)
-    sweeps = finish (over.goes u.layout w e.found) (over.goes u.layout w e.found).stage refl (goes_so w.stage refl busy_so)
+    pub sweeps : To (coord.goes_at setup.layout u (Sweep w) e.found)
+    sweeps = finish (over.goes setup.layout w e.found) (over.goes setup.layout w e.found).stage refl (goes_so w.stage refl busy_so)

@@ -52,7 +52,7 @@ module _ (setup : Setup) (lists : ListsKnown setup) where
     abbrev To : Coordinating → Type 0
     To d = HoldsAt setup (e ∷ es) d d.stage
 
-    asks_so : (p : CoordStage) → by.lead.stage ≡ p → e.ask ≡ coord.asks_at by.lead p
+    asks_so : (p : CoordStage) → by.lead.stage ≡ p → e.ask ≡ coord.asks_at setup.layout by.lead p
     asks_so p is = asked_at setup lists e es by p is
 
     -- What is counted is read.
@@ -84,12 +84,12 @@ module _ (setup : Setup) (lists : ListsKnown setup) where
       read_now : x.stage ≡ counting.LoadTally → IsRead setup here.end (tally_of e.found)
       read_now y = grind (arith, all_told, found_at)
 
-      count_goes : (p : CountStage) → x.stage ≡ p → count.is_busy p ≡ true → To (coord.after_count (coord.at_stage u (Count (count.goes_at x p e.found))) (count.given (count.goes_at x p e.found)))
+      count_goes : (p : CountStage) → x.stage ≡ p → count.is_busy p ≡ true → To (coord.after_count setup.layout (coord.at_stage u (Count (count.goes_at x p e.found))) (count.given (count.goes_at x p e.found)))
       count_goes counting.LoadTally y b = record { quiet = (counting_on by.lead refl).off; behind = (counting_on by.lead refl).behind; read = read_now y }
       count_goes (counting.LoadLive t) y b = record { quiet = (counting_on by.lead refl).off; behind = (counting_on by.lead refl).behind; live = found_at (counting.LoadLive t) y ∙ all_told.live }
       count_goes (counting.Ended t) y b = absurd cc
 
-      pub counts : To (coord.goes_at u (Count x) e.found)
+      pub counts : To (coord.goes_at setup.layout u (Count x) e.found)
       counts = grind (arith, count_busy, count_goes)
 
       -- The cycle that is kept is as it was counted.
@@ -113,12 +113,12 @@ module _ (setup : Setup) (lists : ListsKnown setup) where
         read_tally : (p : CountStage) → x.stage ≡ p → HasRead setup here.end p
         read_tally p y = subst (HasRead setup here.end) y k.read
 
-        kept_goes : (p : CountStage) → x.stage ≡ p → count.is_busy p ≡ true → Were (coord.after_count (coord.at_stage u (Count (count.goes_at x p e.found))) (count.given (count.goes_at x p e.found)))
+        kept_goes : (p : CountStage) → x.stage ≡ p → count.is_busy p ≡ true → Were (coord.after_count setup.layout (coord.at_stage u (Count (count.goes_at x p e.found))) (count.given (count.goes_at x p e.found)))
         kept_goes counting.LoadTally y b = were
         kept_goes (counting.LoadLive t) y b = λ i v at. kept_counted t (read_tally (counting.LoadLive t) y) (ltb (length by.lead.cycles.items) by.lead.cycles.room) i v at
         kept_goes (counting.Ended t) y b = absurd cc
 
-        pub keeps : Were (coord.goes_at u (Count x) e.found)
+        pub keeps : Were (coord.goes_at setup.layout u (Count x) e.found)
         keeps = grind (arith, count_busy, kept_goes)
 
     -- It is told.
@@ -150,5 +150,5 @@ module _ (setup : Setup) (lists : ListsKnown setup) where
       tell_goes telling.StorePhase = ended_goes u.is_last
       tell_goes telling.Ended = ended_goes u.is_last
 
-      pub tells : To (coord.goes_at u (Tell t) e.found)
+      pub tells : To (coord.goes_at setup.layout u (Tell t) e.found)
       tells = grind (arith, tell_goes)

@@ -13,7 +13,7 @@ use Rattle.gh_coord.specs.Listing as coord
 use Rattle.gh_coord.specs.Opening as opens_by
 use Rattle.gh_coord.specs.Stopping as stop
 use Rattle.gh_coord.specs.Watching as watch
-use Rattle.gh_marked.proofs.Vocabulary.{Arena, arena, AreWords, Ask, Check, Close, CloseStage, Coordinating, CoordStage, Cycle, Entry, Good, IsBeginning, IsKnown, mark_words, Marking, MarkingGood, MarkOn, Op, Open, OpenStage, StopAgain, StopStage, view, Watch, WatchStage, Went}
+use Rattle.gh_marked.proofs.Vocabulary.{Arena, arena, AreWords, Ask, Check, Close, CloseStage, Coordinating, CoordStage, Cycle, Entry, Good, IsBeginning, IsKnown, Layout, mark_words, Marking, MarkingGood, MarkOn, Op, Open, OpenStage, StopAgain, StopStage, view, Watch, WatchStage, Went}
 use Rattle.gh_holds.proofs.AllActors.Aside.{beside_rows}
 use Rattle.gh_marked.specs.Known.{Known}
 use Rattle.gh_lists.specs.Handshake.{Setup}
@@ -41,8 +41,8 @@ abbrev pub IsOfMarking : Ask → Type 0
 IsOfMarking ask = Writes marking_rows ask
 
 -- the entries of the coordinator that leave the cycle marked
-module _ (s : Coordinating) where
-  watches : (p : WatchStage) → IsOfMarking (watch.asks_at s.layout p)
+module _ (l : Layout) (s : Coordinating) where
+  watches : (p : WatchStage) → IsOfMarking (watch.asks_at l p)
   watches p = grind arith
 
   stops : (st : stop.Stopping) (p : StopStage) → IsOfMarking (stop.asks_at st p)
@@ -56,7 +56,7 @@ module _ (s : Coordinating) where
   closes : (c : close.Closing) (p : CloseStage) → p ≢ close_stage.StoreGen → IsOfMarking (close.asks_at c p)
   closes c p other = grind arith
 
-  pub goes_on_marked : (p : CoordStage) → leading.Marks p → StaysMarked p → IsOfMarking (coord.asks_at s p)
+  pub goes_on_marked : (p : CoordStage) → leading.Marks p → StaysMarked p → IsOfMarking (coord.asks_at l s p)
   goes_on_marked (Watch w) on still = watches w.stage
   goes_on_marked (StopAgain st) on still = stops st st.stage
   goes_on_marked (Check w) on still = watches w.stage
@@ -64,9 +64,9 @@ module _ (s : Coordinating) where
   goes_on_marked (Close c) on still = closes c c.stage still
   goes_on_marked _ on still = absurd on
 
-  pub begins_marked : (p : CoordStage) → IsBeginning p → IsOfMarking (coord.asks_at s p)
+  pub begins_marked : (p : CoordStage) → IsBeginning p → IsOfMarking (coord.asks_at l s p)
   begins_marked (Open o) b = subst (λ (q : OpenStage). IsOfMarking (opens_by.asks_at o q)) (sym b) refl
   begins_marked _ b = absurd b
 
-  pub stays_marked : (p : CoordStage) (found : ℕ) → leading.Marks (coord.goes_at s p found).stage → StaysMarked p
+  pub stays_marked : (p : CoordStage) (found : ℕ) → leading.Marks (coord.goes_at l s p found).stage → StaysMarked p
   stays_marked p found on = grind arith

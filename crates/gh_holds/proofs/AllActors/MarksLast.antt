@@ -9,7 +9,7 @@ use Rattle.gh_cycle.specs.Since.{HasGoneOn}
 use Rattle.gh_heap.specs.Moves.{Quiet}
 use Rattle.gh_marks.specs.Colours.{Placing}
 use Rattle.gh_worker.specs.Listing as worker
-use Rattle.gh_worker.specs.Routine.{marks}
+use Rattle.gh_worker.specs.Sound.{marks}
 use Rattle.gh_lists.specs.declared.handshake.Actor.TheVariants as actor
 use Rattle.gh_lists.specs.Handshake.{Setup}
 use Rattle.gh_marked.specs.State.{began, began_words, HasState, IsUnderWay}
@@ -27,7 +27,7 @@ use Rattle.gh_marked.proofs.OneStep.Sweepers as sweepers
 use Rattle.gh_holds.proofs.AllActors.Tied.{is_of_heap}
 use Rattle.gh_marked.proofs.OneStep.WorkersSweep as sweeping
 use Rattle.gh_marked.specs.Checking.{begins, CoordinatorGoes, goes_on, goes_so, leaves}
-use Rattle.gh_lists.specs.Seats.{IsSeated, other, seated}
+use Rattle.gh_lists.specs.Seats.{other}
 use Rattle.gh_lists.specs.Steps as seats
 
 module _ (setup : Setup) (lists : ListsKnown setup)
@@ -60,7 +60,7 @@ module _ (setup : Setup) (lists : ListsKnown setup)
   module _ (w : worker.Working) (is : at es e.actor ≡ actor.Marks w) where
     -- it runs no sweep
     worker_marks : worker.sweep_in w ≡ None → IsOfMarking e.ask
-    worker_marks none = subst IsOfMarking (sym (sweeping.asked setup lists e es legal w is)) (lists.known.footprints.among marks marking_rows (worker.asks w) refl (lists.known.workers.marks_alone w none).writes)
+    worker_marks none = subst IsOfMarking (sym (sweeping.asked setup lists e es legal w is)) (lists.known.footprints.among marks marking_rows (worker.asks setup.layout w) refl (lists.known.workers.marks_alone setup.layout w none).writes)
 
     module _ (has : HasState setup es) (under : IsUnderWay has.state) where
       pub worker_none : worker.sweep_in w ≡ None
@@ -84,18 +84,18 @@ module _ (setup : Setup) (lists : ListsKnown setup)
 
   -- the coordinator's step, as long as the cycle is marked behind it
   module _ (c : Coordinating) (x : seats.LeadsIt setup e es c) (still : MarksStill) where
-    goes_is : coord.goes c e.found ≡ still.lead
-    goes_is = one_lead (e ∷ es) (coord.goes c e.found) still.lead x.then still.led
+    goes_is : coord.goes setup.layout c e.found ≡ still.lead
+    goes_is = one_lead (e ∷ es) (coord.goes setup.layout c e.found) still.lead x.then still.led
 
-    goes_by : CoordinatorGoes setup.layout c.begun (words setup es) c c.stage (coord.goes c e.found)
-    goes_by = goes_so setup.layout c.begun (words setup es) c (coord.counted c).marks (subst (IsSeated setup.layout n) x.is (seated setup es n)).1 refl c.stage e.found x.busy x.found
+    goes_by : CoordinatorGoes setup.layout c.begun (words setup es) c c.stage (coord.goes setup.layout c e.found)
+    goes_by = goes_so setup.layout c.begun (words setup es) c (coord.counted c).marks refl c.stage e.found x.busy x.found
 
-    on_goes : leading.Marks (coord.goes c e.found).stage
+    on_goes : leading.Marks (coord.goes setup.layout c e.found).stage
     on_goes = subst (λ (x : Coordinating). leading.Marks x.stage) (sym goes_is) still.on
 
-    by_goes : CoordinatorGoes setup.layout c.begun (words setup es) c c.stage (coord.goes c e.found) → IsOfMarking (coord.asks c)
-    by_goes (begins b quiet same x) = begins_marked c c.stage b
-    by_goes (goes_on was quiet same x) = goes_on_marked c c.stage was (stays_marked (coord.counted c) c.stage e.found on_goes)
+    by_goes : CoordinatorGoes setup.layout c.begun (words setup es) c c.stage (coord.goes setup.layout c e.found) → IsOfMarking (coord.asks setup.layout c)
+    by_goes (begins b quiet same x) = begins_marked setup.layout c c.stage b
+    by_goes (goes_on was quiet same x) = goes_on_marked setup.layout c c.stage was (stays_marked setup.layout (coord.counted c) c.stage e.found on_goes)
     by_goes (leaves off) = absurd (off on_goes)
 
     lead_marks : IsOfMarking e.ask
@@ -195,7 +195,7 @@ module _ (setup : Setup) (lists : ListsKnown setup)
     last_then i d led_d is = by (seats.lead_was setup e es its d led_d) where
       by : seats.LeadWas setup e es d → ever setup (e ∷ es) ≡ ever setup i.begun
       by (seats.lead_stayed was) = ever_then ∙ i.last d was is
-      by (seats.lead_stepped b x same) = ever_then ∙ i.last b x.is (last_was (coord.counted b) b.stage e.found (subst (λ (y : Coordinating). leading.Marks y.stage) (sym (sym same ∙ one_then d led_d)) still.on) (ap (λ (y : Coordinating). y.is_last) (sym same) ∙ is))
+      by (seats.lead_stepped b x same) = ever_then ∙ i.last b x.is (last_was setup.layout (coord.counted b) b.stage e.found (subst (λ (y : Coordinating). leading.Marks y.stage) (sym (sym same ∙ one_then d led_d)) still.on) (ap (λ (y : Coordinating). y.is_last) (sym same) ∙ is))
 
     cycle_then : (x : Cycles es) → HasGoneOn (began setup es c.number x) k.has.state.heap s → Stays (began_words setup es c.number x) (words setup es) → Since
     cycle_then (inr i) g so = (inr (record { begun = i.begun; start = inr i.start; begins = i.begins; last = last_then i }), goes_on_so (ever setup i.begun) g, λ n x p. quiet_stays lists.known.footprints e.ask (quiet_of e.ask beside) (words setup es) n x (so n x p))

@@ -36,13 +36,13 @@ module _ (setup : Setup) (known : Known) where
   good : Good z (view h)
   good = grind (arith, no_bit, nothing_reached)
 
-  as_it_should : (a : ℕ) → a < setup.layout.procs → IsAsItShould setup [] h a (opening_processor setup.layout a)
+  as_it_should : (a : ℕ) → a < setup.layout.procs → IsAsItShould setup [] h a (opening_processor a)
   as_it_should a lt = record {
     sound = known.writes.sound_first setup.layout a;
     pending = None;
     fine = known.runs.opens z a (view h) lt refl refl (record { locked = refl; holds = λ p. refl; laying = refl; freeing = refl });
     answers = refl;
-    notes = λ g its. known.notes.first setup.layout a g;
+    notes = λ g its. known.notes.first a g;
     ended = λ g its x. absurd (elim x [ inl y ↦ cc | inr y ↦ cc ]);
     ends = λ g its x. absurd (cc);
     left = λ x g its. absurd (cc);
@@ -81,7 +81,7 @@ module _ (setup : Setup) (known : Known) where
     };
     over = refl;
     passed = λ p below. refl;
-    nobody = record { buffers = λ b. refl; stacks = λ g. inl (omega arith); processors = λ a lt. known.calm.first setup.layout a };
+    nobody = record { buffers = λ b. refl; stacks = λ g. inl (omega arith); processors = λ a lt. known.calm.first a };
   }
 
   holds_first : Holds setup [] first

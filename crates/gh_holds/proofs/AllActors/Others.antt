@@ -19,7 +19,7 @@ module _ (setup : Setup) (known : Known)
     frees_now = record { frees = λ k begun of begins step. absurd (no_step IsTelling k step); fresh = λ k swept step of sweeps. no_step IsBeginning k step }
 
     -- where it does not act with `full`
-    pub was_by_others : ((x : Act) → done_at (processor_kind setup.shapes setup.layout) (deeds setup.shapes) es e ≡ Some x → x.full ≡ true → IsFullFor (arena setup) e.actor (words setup es) x.op) → WasSo setup es → WasSo setup (e ∷ es)
+    pub was_by_others : ((x : Act) → done_at (processor_kind setup.shapes setup.layout) (deeds setup.layout setup.shapes) es e ≡ Some x → x.full ≡ true → IsFullFor (arena setup) e.actor (words setup es) x.op) → WasSo setup es → WasSo setup (e ∷ es)
     was_by_others full was = record {
       full = (was.full, full);
       frees = frees_on setup e es frees_now was.frees;
@@ -28,8 +28,8 @@ module _ (setup : Setup) (known : Known)
 
   -- of another than a processor
   module _ (ge : setup.layout.procs ≤ e.actor) where
-    acts_none : done_at (processor_kind setup.shapes setup.layout) (deeds setup.shapes) es e ≡ None
-    acts_none = ap (λ (m : Processor). (deeds setup.shapes).acts m e.found) (rests_on setup e es legal ge (rests setup es legal.0 e.actor ge))
+    acts_none : done_at (processor_kind setup.shapes setup.layout) (deeds setup.layout setup.shapes) es e ≡ None
+    acts_none = ap (λ (m : Processor). (deeds setup.layout setup.shapes).acts m e.found) (rests_on setup e es legal ge (rests setup es legal.0 e.actor ge))
 
-    pub no_full : (x : Act) → done_at (processor_kind setup.shapes setup.layout) (deeds setup.shapes) es e ≡ Some x → x.full ≡ true → IsFullFor (arena setup) e.actor (words setup es) x.op
+    pub no_full : (x : Act) → done_at (processor_kind setup.shapes setup.layout) (deeds setup.layout setup.shapes) es e ≡ Some x → x.full ≡ true → IsFullFor (arena setup) e.actor (words setup es) x.op
     no_full x done full = absurd (let no : None ≡ Some x = sym acts_none ∙ done in cc)

@@ -81,7 +81,7 @@ module _ (given : Given) (wanted : Wanted) (lists : ListsKnown (setup_for given)
   stopped_at p phase is post = ap leading.post_at is ∙ post
 
   open_busy : (o : opens_by.CycleOpening) → c.stage ≡ Open o → opens_by.is_busy o.stage ≡ true
-  open_busy o is = (subst (leading.SoundAt c) is (subst (handshake.Sound given.layout) led (keeps.shakes.all_sound (acks_of given.layout) (omega arith))).1.1).1
+  open_busy o is = (subst (leading.SoundAt c) is (subst (handshake.Sound given.layout) led (keeps.shakes.all_sound (acks_of given.layout) (omega arith))).1).1
 
   abbrev Now : CoordStage → Type 0
   Now p = HoldsAt (setup_for given) (e ∷ es) c p × RefusesRightly (setup_for given) e es

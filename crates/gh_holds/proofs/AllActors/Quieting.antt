@@ -73,13 +73,13 @@ module _ (given : Given) (wanted : Wanted) (lists : ListsKnown (setup_for given)
   abbrev calm : MarksNothing m
   calm = q.nobody.processors a lt
 
-  sound : IsSound m
+  sound : IsSound given.layout m
   sound = (q.has.of_list.processors a lt).sound
 
   idle : (o : Op) → e.begun ≡ Some o → is_busy_at m.task ≡ false
   idle o x = (begins_so given lists.known e es legal lt o x).idle
 
-  pub tells : TellsStacks q.has.state.heap.words (started (processor_kind given.shapes given.layout) e.begun m)
+  pub tells : TellsStacks given.layout q.has.state.heap.words (started (processor_kind given.shapes given.layout) e.begun m)
   tells = stacks.calm_tells given.shapes given.layout lists.known e.begun m sound idle calm q.has.state.heap.words
 
   pub calm_now : MarksNothing (started (processor_kind given.shapes given.layout) e.begun m)
@@ -98,7 +98,7 @@ module _ (given : Given) (wanted : Wanted) (lists : ListsKnown (setup_for given)
   t = own_side.t given lists.good lists.limits lists.known wanted e es legal lt q.has land tells
 
   abbrev found : ℕ
-  found = h.words (cell_of (asks now))
+  found = h.words (cell_of (asks given.layout now))
 
   abbrev then : Processor
   then = own_side.then given lists.good lists.limits lists.known wanted e es legal lt q.has land tells
@@ -114,13 +114,13 @@ module _ (given : Given) (wanted : Wanted) (lists : ListsKnown (setup_for given)
   last_is : last_phase es ≢ run.Mark
   last_is x = not_marking c.stage calm_stage (sym (keeps.shakes.led.last_is ∙ ap (λ (y : Lead). last_of y.post) lead_is) ∙ x)
 
-  finds : FindsNoMarking (asks now) found
+  finds : FindsNoMarking (asks given.layout now) found
   finds loads marks = last_is (is_last wanted.read.phase (is_stop keeps.shakes.lead.post) keeps.shakes.lead.stops (last_phase es) run.Mark found word marks) where
     word : found ≡ cond (is_stop keeps.shakes.lead.post) (stop_word keeps.shakes.lead.stops) (run_word keeps.shakes.lead.stops (last_phase es))
     word = ap (λ (x : Ask). h.words (cell_of x)) loads ∙ (ap (λ (w : Words). w cell.Phase) q.has.of_list.words_are ∙ keeps.shakes.led.phase_is)
 
   calm_then : MarksNothing then
-  calm_then = lists.known.calm.lasts given.shapes now found (own_side.sound_now given lists.good lists.limits lists.known wanted e es legal lt q.has land tells).place (own_side.busy given lists.good lists.limits lists.known wanted e es legal lt q.has land tells) calm_now finds
+  calm_then = lists.known.calm.lasts given.layout given.shapes now found (own_side.sound_now given lists.good lists.limits lists.known wanted e es legal lt q.has land tells).place (own_side.busy given lists.good lists.limits lists.known wanted e es legal lt q.has land tells) calm_now finds
 
   pub processors : (b : ℕ) → b < given.layout.procs → MarksNothing (processor_at (setup_for given) (e ∷ es) b)
   processors b less = go (a == b) refl where
@@ -140,7 +140,7 @@ module _ (given : Given) (wanted : Wanted) (lists : ListsKnown (setup_for given)
   ]
 
   pub buffers : (b : ℕ) → t.words (cell.Buffer b) ≡ 0
-  buffers b = ap (λ (w : Words). w (cell.Buffer b)) land.words_are ∙ (lists.known.calm.leaves now h.words (cell.Buffer b) calm_now (λ w. w) ∙ q.nobody.buffers b)
+  buffers b = ap (λ (w : Words). w (cell.Buffer b)) land.words_are ∙ (lists.known.calm.leaves given.layout now h.words (cell.Buffer b) calm_now (λ w. w) ∙ q.nobody.buffers b)
 
   abbrev pub off_then : IsOff (setup_for given) (e ∷ es) cycle page
   off_then = record {

@@ -104,8 +104,8 @@ module _ (setup : Setup) (lists : ListsKnown setup) where
     none_more : scanned_by setup e es ≡ 0 → Few es → Few (e ∷ es)
     none_more none few = let ended = mul-le-mul_right (most_scanned setup.layout) (stored_rises cell.Gen e.ask (stored_in cell.Gen es)) in omega (arith, none, few, ended)
 
-    done_is : (m : Actor) → seats.at setup es e.actor ≡ m → scanned_by setup e es ≡ done_by m e.found
-    done_is m is = ap (λ (x : Actor). done_by x e.found) is
+    done_is : (m : Actor) → seats.at setup es e.actor ≡ m → scanned_by setup e es ≡ done_by setup.layout m e.found
+    done_is m is = ap (λ (x : Actor). done_by setup.layout x e.found) is
 
     -- the step that ends a cycle's marking
     cycle_more : (lead : Coordinating) → scanned_by setup e es ≡ 0 → stores_cell cell.Gen e.ask ≡ true → IsInMarking z setup.pacing setup.may es lead → Few (e ∷ es)
@@ -123,18 +123,18 @@ module _ (setup : Setup) (lists : ListsKnown setup) where
     by : ((d : Coordinating) → IsLed setup es d → (leading.Marks d.stage → ⊥) → Few es) → seats.Step setup e es → Few (e ∷ es)
     by before (seats.by_processor m x stays) = none_more e es (done_is e es (actor.Runs m) x.is) (before c (sym stays ∙ led) off)
     by before (seats.by_worker w x stays) = none_more e es (done_is e es (actor.Marks w) x.is ∙ none) (before c (sym stays ∙ led) off) where
-      none : words_done w.layout w.stage e.found ≡ 0
-      none = elim (done_or_marking w.layout w.stage e.found) [ inl is ↦ is | inr marking ↦ absurd (off ((lists.keeps es legal.0).marking c e.actor w (sym stays ∙ led) x.seat x.is marking)) ]
+      none : words_done setup.layout w.stage e.found ≡ 0
+      none = elim (done_or_marking setup.layout w.stage e.found) [ inl is ↦ is | inr marking ↦ absurd (off ((lists.keeps es legal.0).marking c e.actor w (sym stays ∙ led) x.seat x.is marking)) ]
     by before (seats.by_lead lead x) = go (marks_or_not lead.stage) where
       none : scanned_by setup e es ≡ 0
       none = done_is e es (actor.Leads lead) (ap (seats.at setup es) x.seat ∙ x.is)
 
-      to : coord.goes lead e.found ≡ c
-      to = let both : actor.Leads (coord.goes lead e.found) ≡ actor.Leads c = sym x.then ∙ led in cc
+      to : coord.goes setup.layout lead e.found ≡ c
+      to = let both : actor.Leads (coord.goes setup.layout lead e.found) ≡ actor.Leads c = sym x.then ∙ led in cc
 
       go : leading.Marks lead.stage ⊎ (leading.Marks lead.stage → ⊥) → Few (e ∷ es)
       go (inr still) = none_more e es none (before lead x.is still)
-      go (inl on) = elim (ends_marking lead e.found on) [
+      go (inl on) = elim (ends_marking setup.layout lead e.found on) [
         | inl goes ↦ absurd (off (subst (λ (y : Coordinating). leading.Marks y.stage) to goes))
         | inr stored ↦ cycle_more e es lead none (ap (stores_cell cell.Gen) x.asked ∙ stored) (was es lead (inr (all_of es)) x.is on).marking
       ]

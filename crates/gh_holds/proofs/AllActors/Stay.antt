@@ -54,7 +54,7 @@ module _ (setup : Setup) (e : Entry Op) (es : List (Entry Op)) where
     led_then = grind (arith, nat_tests)
 
     pub worker_sweeps_none : (w : Working) → at es e.actor ≡ actor.Marks w → sweep_of (at (e ∷ es) e.actor) ≡ sweep_of (at es e.actor)
-    worker_sweeps_none w is = sweeps_none (e ∷ es) legal led_then (goes w e.found) (works setup e es w is) ∙ sym (sweeps_none es legal.0 led w is)
+    worker_sweeps_none w is = sweeps_none (e ∷ es) legal led_then (goes setup.layout w e.found) (works setup e es w is) ∙ sym (sweeps_none es legal.0 led w is)
 
   -- a step of another than a processor that changes no word
   pub changes_nothing : (known : Known) → Legal (those setup) (e ∷ es) → setup.layout.procs ≤ e.actor → e.actor < acks_of setup.layout → words setup (e ∷ es) ≡ words setup es → sweep_of (at (e ∷ es) e.actor) ≡ sweep_of (at es e.actor) → ChangesNothing

@@ -49,7 +49,7 @@ module _ (given : Given) (wanted : Wanted) (lists : ListsKnown (setup_for given)
     pub by_worker : (c : Coordinating) (w : worker.Working) → Led es c → given.layout.procs ≤ e.actor → e.actor < acks_of given.layout → at es e.actor ≡ actor.Marks w → H es c → H (e ∷ es) c
     by_worker c w led ge lt is h = workers.holds_on (setup_for given) lists e es legal c led lt w ge is h
 
-    pub by_lead : (c : Coordinating) → Led es c → e.actor ≡ acks_of given.layout → Led (e ∷ es) (coord.goes c e.found) → H es c → H (e ∷ es) (coord.goes c e.found)
+    pub by_lead : (c : Coordinating) → Led es c → e.actor ≡ acks_of given.layout → Led (e ∷ es) (coord.goes given.layout c e.found) → H es c → H (e ∷ es) (coord.goes given.layout c e.found)
     by_lead c led is then h = leads_by.leads (setup_for given) lists e es was (record { legal = legal; lead = c; led = led; seat = is }) h
 
   -- where a cycle is about to begin

@@ -1,6 +1,7 @@
 -- One entry more of a processor or a worker where the world is stopped: it leaves everything as it was.
-use Rattle.std.proofs.Common.{◌≡◌, ℕ, ◌<◌, ◌≤◌, ◌==◌, Bool, true, false, cond, ltb, refl, sym, ap, subst, ◌∙◌, arith, inl, inr, List, ◌∷◌, ◌++◌, map, Option, None, eq-eqb}
+use Rattle.std.proofs.Common.{◌≡◌, ℕ, ◌<◌, ◌≤◌, ◌==◌, Bool, true, false, cond, ltb, refl, sym, ap, subst, ◌∙◌, arith, inl, inr, List, ◌∷◌, ◌++◌, map, Option, None, Some, eq-eqb}
 use Rattle.gh_base.specs.declared.cell.Cell.TheVariants as cell
+use Rattle.gh_base.specs.Lists.{Begins}
 use Rattle.gh_base.specs.Orders.{before_step, left_at}
 use Rattle.gh_coord.specs.Handshake as leading
 use Rattle.gh_mutator.specs.declared.task.Task.TheVariants as task
@@ -37,15 +38,15 @@ module _ (setup : Setup) where
   -- what the entry leaves is all, and it is no point
   pub record IsStill (e : Entry Op) (es : List (Entry Op)) : Type 0 where
     pub changes : ChangesNothing setup e es
-    pub no_point : done_at k (deeds setup.shapes) es e ≡ None
+    pub no_point : done_at k (deeds setup.layout setup.shapes) es e ≡ None
 
   module _ (e : Entry Op) (es : List (Entry Op)) where
     -- so it is of a step that loads, of an actor that has begun nothing, does nothing by it and stays as it was
     pub record LeavesAll : Type 0 where
       pub loads : e.ask ≡ Load cell.Phase
       pub none_begun : e.begun ≡ None
-      pub no_point : done_at k (deeds setup.shapes) es e ≡ None
-      pub no_answer : (deeds setup.shapes).gives (before_step k (deeds setup.shapes) es e) e.found ≡ None
+      pub no_point : done_at k (deeds setup.layout setup.shapes) es e ≡ None
+      pub no_answer : (deeds setup.layout setup.shapes).gives (before_step k (deeds setup.layout setup.shapes) es e) e.found ≡ None
       pub own : e.actor < setup.layout.procs → processor_at setup (e ∷ es) e.actor ≡ processor_at setup es e.actor
       pub sweeps : sweep_of (at (e ∷ es) e.actor) ≡ sweep_of (at es e.actor)
 
@@ -53,7 +54,7 @@ module _ (setup : Setup) where
       pub leaves_all : IsStill e es
       leaves_all = record { changes = changes; no_point = x.no_point } where
         answered_before : ℕ → List (AnsweredDeed Act Answer)
-        answered_before a = answered_by k (deeds setup.shapes) (meaning setup.shapes) a es
+        answered_before a = answered_by k (deeds setup.layout setup.shapes) (meaning setup.shapes) a es
 
         either : {A : Type 0} (b : Bool) (xs : List A) → cond b xs xs ≡ xs
         either true xs = refl
@@ -94,7 +95,7 @@ module _ (setup : Setup) where
       abbrev here : at es e.actor ≡ actor.Runs m
       here = runs_are setup es e.actor lt
 
-      sound : IsSound m × (m.poll.layout ≡ setup.layout)
+      sound : IsSound setup.layout m
       sound = subst (handshake.Sound setup.layout) here ((lists.keeps es legal.0).shakes.all_sound e.actor (omega (arith, among)))
 
       parked : IsParked stops (stage_of m)
@@ -106,30 +107,33 @@ module _ (setup : Setup) where
       not_left : m.task ≡ task.Left → ⊥
       not_left is = grind (arith, left_stays, runs)
 
-      waits : StandsStill back stops setup.shapes m
-      waits = elim (stands_still back stops setup.shapes m sound.0.place parked) [ inl x ↦ x | inr x ↦ absurd (not_left x) ]
+      waits : StandsStill setup.layout back stops setup.shapes m
+      waits = elim (stands_still setup.layout back stops setup.shapes m sound.place parked) [ inl x ↦ x | inr x ↦ absurd (not_left x) ]
 
       none_begun : e.begun ≡ None
-      none_begun = grind arith
+      none_begun = go e.begun refl where
+        go : (o : Option Op) → e.begun ≡ o → e.begun ≡ None
+        go None is = is
+        go (Some o) is = absurd (let idle = (subst (Begins (those setup) e.actor es) is legal.1.begins).0 in let both : true ≡ false = sym waits.busy ∙ (sym (ap is_busy here) ∙ idle) in cc)
 
-      before : before_step k (deeds setup.shapes) es e ≡ m
+      before : before_step k (deeds setup.layout setup.shapes) es e ≡ m
       before = grind (arith, none_begun)
 
       own_is : processor_at setup (e ∷ es) e.actor ≡ m
-      own_is = rw (eq-eqb e.actor e.actor refl) (ap (λ (x : Processor). takes setup.shapes x e.found) before ∙ (ap (takes setup.shapes m) moves_nobody.1 ∙ waits.stays))
+      own_is = rw (eq-eqb e.actor e.actor refl) (ap (λ (x : Processor). takes setup.layout setup.shapes x e.found) before ∙ (ap (takes setup.layout setup.shapes m) moves_nobody.1 ∙ waits.stays))
 
       by_processor : LeavesAll e es
       by_processor = record {
         loads = moves_nobody.0;
         none_begun = none_begun;
-        no_point = ap (λ (x : Processor). (deeds setup.shapes).acts x e.found) before ∙ (ap (λ (n : ℕ). point_of (acts m n)) moves_nobody.1 ∙ ap point_of waits.no_act);
-        no_answer = ap (λ (x : Processor). (deeds setup.shapes).gives x e.found) before ∙ (ap (λ (n : ℕ). given_at m.task (gives m n)) moves_nobody.1 ∙ waits.no_answer);
+        no_point = ap (λ (x : Processor). (deeds setup.layout setup.shapes).acts x e.found) before ∙ (ap (λ (n : ℕ). point_of (acts setup.layout m n)) moves_nobody.1 ∙ ap point_of waits.no_act);
+        no_answer = ap (λ (x : Processor). (deeds setup.layout setup.shapes).gives x e.found) before ∙ (ap (λ (n : ℕ). given_at m.task (gives setup.layout m n)) moves_nobody.1 ∙ waits.no_answer);
         own = λ less. own_is;
         sweeps = ap sweep_of (runs_are setup (e ∷ es) e.actor lt ∙ (ap actor.Runs own_is ∙ sym here));
       }
 
     module _ (ge : setup.layout.procs ≤ e.actor) where
-      before_rests : before_step k (deeds setup.shapes) es e ≡ opening_processor setup.layout e.actor
+      before_rests : before_step k (deeds setup.layout setup.shapes) es e ≡ opening_processor e.actor
       before_rests = rests_on setup e es legal ge (rests setup es legal.0 e.actor ge)
 
       -- who is neither a processor nor the coordinator is a worker
@@ -141,14 +145,14 @@ module _ (setup : Setup) where
         go : (y : Actor) → at es e.actor ≡ y → (w : Working) × (at es e.actor ≡ actor.Marks w)
         go (actor.Marks w) is = (w, is)
         go (actor.Runs y) is = absurd (let less : e.actor < setup.layout.procs = seat (actor.Runs y) is in omega (arith, less, ge))
-        go (actor.Leads y) is = absurd (let last = (seat (actor.Leads y) is).0 in omega (arith, last, among))
+        go (actor.Leads y) is = absurd (let last = seat (actor.Leads y) is in omega (arith, last, among))
 
       by_worker : LeavesAll e es
       by_worker = record {
         loads = moves_nobody.0;
         none_begun = begins_nothing setup e es legal ge;
-        no_point = ap (λ (x : Processor). (deeds setup.shapes).acts x e.found) before_rests;
-        no_answer = ap (λ (x : Processor). (deeds setup.shapes).gives x e.found) before_rests;
+        no_point = ap (λ (x : Processor). (deeds setup.layout setup.shapes).acts x e.found) before_rests;
+        no_answer = ap (λ (x : Processor). (deeds setup.layout setup.shapes).gives x e.found) before_rests;
         own = λ less. absurd (omega (arith, less, ge));
         sweeps = worker_sweeps_none setup e es lists legal c phase led post among works.0 works.1;
       }

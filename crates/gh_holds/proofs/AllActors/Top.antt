@@ -33,7 +33,7 @@ module _ (given : Given) (wanted : Wanted) (lists : ListsKnown (setup_for given)
     by (seats.by_processor m x stays) = steps.by_processor given wanted lists e es legal was c m (sym stays ∙ led) x.seat x.is (before c (sym stays ∙ led))
     by (seats.by_worker w x stays) = steps.by_worker given wanted lists e es legal was c w (sym stays ∙ led) x.from x.seat x.is (before c (sym stays ∙ led))
     by (seats.by_lead b x) =
-        let same : coord.goes b e.found ≡ c = (let both : actor.Leads c ≡ actor.Leads (coord.goes b e.found) = sym led ∙ x.then in cc) in
+        let same : coord.goes given.layout b e.found ≡ c = (let both : actor.Leads c ≡ actor.Leads (coord.goes given.layout b e.found) = sym led ∙ x.then in cc) in
         subst (H (e ∷ es)) same (steps.by_lead given wanted lists e es legal was b x.is x.seat x.then (before b x.is))
 
   -- what was marked before a start of the list was so before the list

@@ -37,7 +37,7 @@ module _ (setup : Setup) (lists : ListsKnown setup)
       let legal_d = legal_start (those setup) (d ∷ ds) es of_ended legal in
       let m = ends d ds k of_ended step in
       let one : m.begun ≡ begun = begins_once setup lists k m.begun begun es legal (start_of_start m.begun (d ∷ ds) es (inr m.start) of_ended) of_begun (subst (λ (i : ℕ). BeginsCycle setup i m.begun) step.cycle m.begins) begins in
-      let by = ends_by step.lead step.lead.stage step.stage in
+      let by = ends_by setup.layout step.lead step.lead.stage step.stage in
       let asked : d.ask ≡ Store cell.Gen by.0 = asked_at setup lists d ds (by_step setup IsEnding k d ds legal_d step) step.lead.stage refl ∙ by.1 in
       through begun (d ∷ ds) of_begun (λ n a p. store_stays (words setup ds) d.ask (by.0, asked) n a (m.stood n a (subst (λ (ys : List (Entry Op)). IsPlacedAt (words setup ys) n a) (sym one) p)))
 

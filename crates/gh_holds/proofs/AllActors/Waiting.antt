@@ -15,7 +15,7 @@ use Rattle.gh_poll.specs.Handshake.{poll_stage_of, wait_stage_of}
 use Rattle.gh_poll.specs.Leave as leave
 use Rattle.gh_poll.specs.Poll as poll
 use Rattle.gh_poll.specs.Wait as wait
-use Rattle.gh_marked.proofs.Vocabulary.{acts, asks, given_at, gives, is_busy_at, IsParked, leaves_at, LeaveStage, Leaving, Load, New, new_stage_at, NewStage, PackedWordsAreReadBack, phase_of, PhaseWord, Polling, polls_at, PollStage, Processor, ResumeStage, run_phase, Shape, SoundAt, SoundPlace, stage_at, stage_of, stop_word, takes, Task, waits_at, WaitStage}
+use Rattle.gh_marked.proofs.Vocabulary.{acts, asks, given_at, gives, is_busy_at, IsParked, Layout, leaves_at, LeaveStage, Leaving, Load, New, new_stage_at, NewStage, PackedWordsAreReadBack, phase_of, PhaseWord, Polling, polls_at, PollStage, Processor, ResumeStage, run_phase, Shape, SoundAt, SoundPlace, stage_at, stage_of, stop_word, takes, Task, waits_at, WaitStage}
 
 -- where the poll waits
 pub record WaitsAt (stops : ℕ) (p : Polling) : Type 0 where
@@ -33,7 +33,7 @@ polls_parked stops p k = go p.stage refl k where
   go (polling.Resuming r) is k = let x = at_load r.stops stops r.stage k in record { routine = r; is_at = is; loads = x.0; stop_is = x.1 }
   go _ is k = absurd k
 
-module _ (back : PackedWordsAreReadBack) (stops : ℕ) where
+module _ (l : Layout) (back : PackedWordsAreReadBack) (stops : ℕ) where
   abbrev found : ℕ
   found = stop_word stops
 
@@ -58,21 +58,21 @@ module _ (back : PackedWordsAreReadBack) (stops : ℕ) where
   waits_ask w is at = ap (wait.asks_at w) is ∙ polls_ask w.poll at
 
   -- the poll
-  polls : (p : Polling) → WaitsAt stops p → poll.goes p found ≡ p
+  polls : (p : Polling) → WaitsAt stops p → poll.goes l p found ≡ p
   polls p w = grind (arith, none_resumed, resumes)
 
-  none_polled : (p : Polling) → WaitsAt stops p → poll.gives p found ≡ None
+  none_polled : (p : Polling) → WaitsAt stops p → poll.gives l p found ≡ None
   none_polled p w = grind (arith, polls)
 
   -- the wait for a cycle
-  waits : (w : wait.Waiting) → w.wait.stage ≡ waiting.Polling → WaitsAt stops w.poll → wait.goes w found ≡ w
+  waits : (w : wait.Waiting) → w.wait.stage ≡ waiting.Polling → WaitsAt stops w.poll → wait.goes l w found ≡ w
   waits w is at =
-      ap (λ (s : WaitStage). wait.goes_at w s found) is
-      ∙ (ap (λ (x : Option (Unit {0})). wait.after_poll w (poll.goes w.poll found) x) (none_polled w.poll at)
+      ap (λ (s : WaitStage). wait.goes_at l w s found) is
+      ∙ (ap (λ (x : Option (Unit {0})). wait.after_poll w (poll.goes l w.poll found) x) (none_polled w.poll at)
       ∙ (ap (λ (p : Polling). wait.after_poll w p None) (polls w.poll at)
       ∙ ap (λ (s : WaitStage). record w { wait = record (w.wait) { stage = s } }) (sym is)))
 
-  none_waited : (w : wait.Waiting) → w.wait.stage ≡ waiting.Polling → WaitsAt stops w.poll → wait.gives w found ≡ None
+  none_waited : (w : wait.Waiting) → w.wait.stage ≡ waiting.Polling → WaitsAt stops w.poll → wait.gives l w found ≡ None
   none_waited w is at = grind (arith, waits)
 
   waits_parked : (w : wait.Waiting) → IsParked stops (wait_stage_of w) → (w.wait.stage ≡ waiting.Polling) × WaitsAt stops w.poll
@@ -86,10 +86,10 @@ module _ (back : PackedWordsAreReadBack) (stops : ℕ) where
     -- it stays as it is
     pub record StandsStill : Type 0 where
       pub busy : is_busy_at m.task ≡ true
-      pub loads : asks m ≡ Load cell.Phase
-      pub stays : takes shapes m found ≡ m
-      pub no_act : acts m found ≡ None
-      pub no_answer : given_at m.task (gives m found) ≡ None
+      pub loads : asks l m ≡ Load cell.Phase
+      pub stays : takes l shapes m found ≡ m
+      pub no_act : acts l m found ≡ None
+      pub no_answer : given_at m.task (gives l m found) ≡ None
 
     polls_still : m.task ≡ task.Poll → WaitsAt stops m.poll → StandsStill
     polls_still is at = grind (arith, none_polled, polls, polls_ask)

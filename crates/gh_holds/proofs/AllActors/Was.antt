@@ -22,7 +22,7 @@ module _ (setup : Setup) (e : Entry Op) (es : List (Entry Op)) where
 
   -- the point of the entry, if it is one
   abbrev point : Option Act
-  point = done_at k (deeds setup.shapes) es e
+  point = done_at k (deeds setup.layout setup.shapes) es e
 
   -- where it says that there was no room, there was none
   abbrev pub RefusesRightly : Type 0
@@ -46,10 +46,10 @@ module _ (setup : Setup) (e : Entry Op) (es : List (Entry Op)) where
       here = ap (started all e.begun) (runs_are setup es e.actor lt) ∙ run_started setup e.begun m
 
       searched : (x : Act) → point ≡ Some x → x.full ≡ true → IsSearchedAgain now.task
-      searched x is full = full_searches now now.task e.found x (point_is (acts now e.found) x is) full
+      searched x is full = full_searches setup.layout now now.task e.found x (point_is (acts setup.layout now e.found) x is) full
 
       -- and a search sees what there is, whoever sweeps meanwhile
-      module _ (known : Known) (has : HasState setup es) (sees : (y : Act) → acts now (has.state.heap.words (cell_of (asks now))) ≡ Some y → y.full ≡ true → FullAt z e.actor (view has.state.heap) now y.op) where
+      module _ (known : Known) (has : HasState setup es) (sees : (y : Act) → acts setup.layout now (has.state.heap.words (cell_of (asks setup.layout now))) ≡ Some y → y.full ≡ true → FullAt z e.actor (view has.state.heap) now y.op) where
         abbrev h : Heap
         h = has.state.heap
 
@@ -61,11 +61,11 @@ module _ (setup : Setup) (e : Entry Op) (es : List (Entry Op)) where
           now_is : now ≡ m
           now_is = ap (λ (o : Option Op). started k o m) (goes_on setup.shapes setup.layout e.begun m (searched x is full))
 
-          asked : e.ask ≡ asks now
-          asked = legal.1.asks ∙ ap asks_by here
+          asked : e.ask ≡ asks setup.layout now
+          asked = legal.1.asks ∙ ap (asks_by setup.layout) here
 
-          found : e.found ≡ h.words (cell_of (asks now))
-          found = legal.1.found ∙ (ap (λ (q : Ask). words setup es (cell_of q)) asked ∙ ap (λ (w : Words). w (cell_of (asks now))) (sym of.words_are))
+          found : e.found ≡ h.words (cell_of (asks setup.layout now))
+          found = legal.1.found ∙ (ap (λ (q : Ask). words setup es (cell_of q)) asked ∙ ap (λ (w : Words). w (cell_of (asks setup.layout now))) (sym of.words_are))
 
-          act : acts now (h.words (cell_of (asks now))) ≡ Some x
-          act = ap (acts now) (sym found) ∙ point_is (acts now e.found) x is
+          act : acts setup.layout now (h.words (cell_of (asks setup.layout now))) ≡ Some x
+          act = ap (acts setup.layout now) (sym found) ∙ point_is (acts setup.layout now e.found) x is

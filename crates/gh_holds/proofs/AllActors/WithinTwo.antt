@@ -77,7 +77,7 @@ module _ (given : Given) (wanted : Wanted) (lists : ListsKnown (setup_for given)
       now = step.now given lists.good lists.limits lists.known e es legal lt has
 
       abbrev found : ℕ
-      found = has.state.heap.words (cell_of (asks now))
+      found = has.state.heap.words (cell_of (asks given.layout now))
 
       abbrev pending : Option Answer
       pending = (step.is given lists.good lists.limits lists.known e es legal lt has).pending
@@ -86,7 +86,7 @@ module _ (given : Given) (wanted : Wanted) (lists : ListsKnown (setup_for given)
       found_is = step.found_is given lists.good lists.limits lists.known e es legal lt has
 
       ever_is : (t : Heap) → Does z e.actor h t now pending found → t.ever ≡ ever_at (e ∷ es)
-      ever_is t does = does.ever ∙ (ap (λ (x : ℕ). acted given.shapes h.ever (acts now x)) (sym found_is) ∙ (ap (λ (x : Ever). acted given.shapes x (acts now e.found)) of.ever_is ∙ sym ((lists.known.points given.shapes given.layout).follows es e)))
+      ever_is t does = does.ever ∙ (ap (λ (x : ℕ). acted given.shapes h.ever (acts given.layout now x)) (sym found_is) ∙ (ap (λ (x : Ever). acted given.shapes x (acts given.layout now e.found)) of.ever_is ∙ sym ((lists.known.points given.shapes given.layout).follows es e)))
 
       -- by its rights, where it runs no sweep
       by_deed : sweep_in now ≡ None → IsLost n (ever_at (e ∷ es))

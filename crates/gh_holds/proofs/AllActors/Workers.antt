@@ -55,7 +55,7 @@ module _ (setup : Setup) (lists : ListsKnown setup)
   post_is p phase is post = ap leading.post_at is ∙ post
 
   open_busy : (o : opens_by.CycleOpening) → c.stage ≡ Open o → opens_by.is_busy o.stage ≡ true
-  open_busy o is = (subst (leading.SoundAt c) is (subst (handshake.Sound setup.layout) led ((lists.keeps es legal.0).shakes.all_sound (acks_of setup.layout) (omega arith))).1.1).1
+  open_busy o is = (subst (leading.SoundAt c) is (subst (handshake.Sound setup.layout) led ((lists.keeps es legal.0).shakes.all_sound (acks_of setup.layout) (omega arith))).1).1
 
   module _ (w : worker.Working) (ge : setup.layout.procs ≤ e.actor) (is : actors_after z setup.pacing setup.may es e.actor ≡ actor.Marks w) where
     -- in a stopped world nothing changes
@@ -70,7 +70,7 @@ module _ (setup : Setup) (lists : ListsKnown setup)
         pub buffers : (b : ℕ) → (aside.then setup lists.known e es legal ge has lands).heap.words (cell.Buffer b) ≡ has.state.heap.words (cell.Buffer b)
         pub ends : KeepsEnd has.state (aside.then setup lists.known e es legal ge has lands)
 
-      asked : e.ask ≡ worker.asks w
+      asked : e.ask ≡ worker.asks setup.layout w
       asked = sweeping.asked setup lists e es legal w is
 
       -- it runs a sweep
@@ -103,7 +103,7 @@ module _ (setup : Setup) (lists : ListsKnown setup)
         calm = lists.rests es legal.0 c e.actor w led off is
 
         tells : TellsNothing e.ask
-        tells = subst TellsNothing (sym asked) (lists.known.footprints.among resume.writes telling_rows (worker.asks w) refl (lists.known.workers.rests_alone w calm none).writes)
+        tells = subst TellsNothing (sym asked) (lists.known.footprints.among resume.writes telling_rows (worker.asks setup.layout w) refl (lists.known.workers.rests_alone setup.layout w calm none).writes)
 
         abbrev beside : aside.IsBeside e.ask
         beside = aside.beside_of lists.known.footprints e.ask tells

@@ -12,7 +12,7 @@ use Rattle.gh_mutator_writes.specs.Writing.{BeginsToWait}
 use Rattle.gh_lists.specs.Numbers.{asks_for_one, opens_one}
 use Rattle.gh_lists.specs.Order.{before_step}
 use Rattle.gh_lists.specs.Wants.{CountsWants, IsToOpen}
-use Rattle.gh_law.proofs.Vocabulary.{Ask, asked_after, asks, Coordinating, CoordStage, effect, Entry, IsBeginning, IsStartOf, IsWanting, IsWritten, KeepsIt, Legal, Op, Or, Processor, processor_kind, ProcessorWritesItsOwn, started, state_of, Store, those, Words, Working, WorkersWriteTheirOwn, WritesOf}
+use Rattle.gh_law.proofs.Vocabulary.{Ask, asked_after, asks, Coordinating, CoordStage, effect, Entry, IsBeginning, IsStartOf, IsWanting, IsWritten, KeepsIt, Layout, Legal, Op, Or, Processor, processor_kind, ProcessorWritesItsOwn, started, state_of, Store, those, Words, WorkersWriteTheirOwn, Working, WritesOf}
 use Rattle.gh_lists.specs.Resting.{runs_are}
 use Rattle.gh_lists.specs.Starts.{legal_start}
 use Rattle.gh_law.proofs.AllActors.Triggered.{asked as trigger_asked, saw}
@@ -39,8 +39,8 @@ record LeavesRequest (w : Words) (ask : Ask) : Type 0 where
   same : effect w ask cell.Want ≡ w cell.Want
 
 -- the step that asks for a cycle
-asks_by : (m : Processor) (q : Ask) → asks m ≡ q → WritesOf (IsWritten m) q → asks_for_one q ≡ true → IsWanting m.task × (asks m ≡ Or cell.Want 1)
-asks_by m q is w one = grind arith
+asks_by : (l : Layout) (m : Processor) (q : Ask) → asks l m ≡ q → WritesOf (IsWritten l m) q → asks_for_one q ≡ true → IsWanting m.task × (asks l m ≡ Or cell.Want 1)
+asks_by l m q is w one = grind arith
 
 asks_one : (ask : Ask) → ((before : ℕ) → asked_after ask before ≡ suc before) → asks_for_one ask ≡ true
 asks_one ask one = go (asks_for_one ask) (one 0) where
@@ -56,8 +56,8 @@ to_open p is = grind arith
 is_open : (p : CoordStage) → IsBeginning p → IsOpened p
 is_open p is = grind arith
 
-clears_one : (c : Coordinating) (p : CoordStage) → IsClearing p → opens_one (coord.asks_at c p) ≡ true
-clears_one c p is = grind arith
+clears_one : (l : Layout) (c : Coordinating) (p : CoordStage) → IsClearing p → opens_one (coord.asks_at l c p) ≡ true
+clears_one l c p is = grind arith
 
 module _ (setup : Setup)
     (writes : ProcessorWritesItsOwn) (works : WorkersWriteTheirOwn)
@@ -90,13 +90,13 @@ module _ (setup : Setup)
       step = seats.step setup e es writes legal (keeps es legal.0)
 
       leaves_by : (m : Processor) → seats.RunsIt setup e es m → LeavesCycleWords (told es) e.ask
-      leaves_by m x = subst (λ (q : Ask). LeavesCycleWords (told es) q) (sym x.asked) (leaves (told es) _ (leaves_numbers writes (started (processor_kind setup.shapes setup.layout) e.begun m) x.sound_then))
+      leaves_by m x = subst (λ (q : Ask). LeavesCycleWords (told es) q) (sym x.asked) (leaves (told es) _ (leaves_numbers writes setup.layout (started (processor_kind setup.shapes setup.layout) e.begun m) x.sound_then))
 
       -- a worker opens no cycle and asks for none, sweeping or not
       working : (w : Working) → seats.WorksIt setup e es w → LeavesRequest (told es) e.ask
       working w x =
-          let quiet = worker_quiet (told es) works w x.sound_it x.busy in
-          subst (λ (q : Ask). LeavesRequest (told es) q) (sym x.asked) (record { opens_none = none_opened (worker.asks w) quiet.opens_none; same = quiet.want })
+          let quiet = worker_quiet (told es) works setup.layout w x.sound_it x.busy in
+          subst (λ (q : Ask). LeavesRequest (told es) q) (sym x.asked) (record { opens_none = none_opened (worker.asks setup.layout w) quiet.opens_none; same = quiet.want })
 
       -- a processor that asks
       asker : (m : Processor) → seats.RunsIt setup e es m → asks_for_one e.ask ≡ true → AsksForCycle setup e es
@@ -104,7 +104,7 @@ module _ (setup : Setup)
           let k = processor_kind setup.shapes setup.layout in
           let both : actor.Runs m ≡ actor.Runs (state_of k e.actor es) = sym x.is ∙ runs_are setup es e.actor x.seat in
           let own : m ≡ state_of k e.actor es = cc in
-          let w = asks_by (started k e.begun m) (asks (started k e.begun m)) refl (writes.writes (started k e.begun m) x.sound_then) (sym (ap asks_for_one x.asked) ∙ one) in
+          let w = asks_by setup.layout (started k e.begun m) (asks setup.layout (started k e.begun m)) refl (writes.writes setup.layout (started k e.begun m) x.sound_then) (sym (ap asks_for_one x.asked) ∙ one) in
           record { by = x.seat; where_it_may = where_it_may (subst (λ (y : Processor). IsWanting (started k e.begun y).task) own w.0); asks = x.asked ∙ w.1 } where
             where_it_may : IsWanting (before_step setup.shapes setup.layout es e).task → BeginsToWait (before_step setup.shapes setup.layout es e).task ⊎ SawTriggerReached setup.shapes setup.layout e.actor es
             where_it_may (inl waits) = inl waits
@@ -124,7 +124,7 @@ module _ (setup : Setup)
 
       -- the coordinator clears the request where it opens a cycle, or leaves it
       leading : (c : Coordinating) → seats.LeadsIt setup e es c → (IsClearing c.stage × (e.ask ≡ Store cell.Want 0)) ⊎ ((opens_one e.ask ≡ false) × (told (e ∷ es) cell.Want ≡ told es cell.Want))
-      leading c x = elim (clears (told es) c c.stage) [
+      leading c x = elim (clears (told es) setup.layout c c.stage) [
         | inl y ↦ inl (y.0, x.asked ∙ y.1)
         | inr y ↦ inr (ap opens_one x.asked ∙ y.0, ap (λ (q : Ask). effect (told es) q cell.Want) x.asked ∙ y.1)
       ]
@@ -175,14 +175,14 @@ module _ (setup : Setup)
         beside : opens_one e.ask ≡ false → Led es to → Opened (e ∷ es) to
         beside none was there = opened_more to.begun none (before to was there)
 
-        lead : (c : Coordinating) → seats.LeadsIt setup e es c → to ≡ coord.goes c e.found → Opened (e ∷ es) to
+        lead : (c : Coordinating) → seats.LeadsIt setup e es c → to ≡ coord.goes setup.layout c e.found → Opened (e ∷ es) to
         lead c x then there =
-            let from = opened c (coord.counted c).marks c.stage e.found x.busy (subst (λ (y : Coordinating). IsOpened y.stage) then there) in
+            let from = opened setup.layout c (coord.counted c).marks c.stage e.found x.busy (subst (λ (y : Coordinating). IsOpened y.stage) then there) in
             let same : to.begun ≡ c.begun = ap (λ (y : Coordinating). y.begun) then ∙ from.1 in
             subst (λ (k : ℕ). WasOpened setup k (e ∷ es)) (sym same) (elim (leading c x) [
               | inl y ↦ record { entry = e; earlier = es; start = inl refl; opens = opens_by_lead c x y.0 asked; since = none_behind (e ∷ es) }
               | inr y ↦ elim from.0 [
-                | inl clearing ↦ absurd (let one : opens_one e.ask ≡ true = ap opens_one x.asked ∙ clears_one c c.stage clearing in let both : true ≡ false = sym one ∙ y.0 in cc)
+                | inl clearing ↦ absurd (let one : opens_one e.ask ≡ true = ap opens_one x.asked ∙ clears_one setup.layout c c.stage clearing in let both : true ≡ false = sym one ∙ y.0 in cc)
                 | inr open_was ↦ opened_more c.begun y.0 (before c x.is open_was)
               ]
             ])
@@ -190,7 +190,7 @@ module _ (setup : Setup)
         go : seats.Step setup e es → Opened (e ∷ es) to
         go (seats.by_processor m x stays) = beside (none_opened e.ask (leaves_by m x).opens_none) (sym stays ∙ led)
         go (seats.by_worker w x stays) = beside ((working w x).opens_none) (sym stays ∙ led)
-        go (seats.by_lead c x) = lead c x (let both : actor.Leads to ≡ actor.Leads (coord.goes c e.found) = sym led ∙ x.then in cc)
+        go (seats.by_lead c x) = lead c x (let both : actor.Leads to ≡ actor.Leads (coord.goes setup.layout c e.found) = sym led ∙ x.then in cc)
 
   asked : (es : List (Entry Op)) → Lawful es → Asked es
   asked [] legal set = absurd cc

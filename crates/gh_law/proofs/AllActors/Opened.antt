@@ -7,7 +7,7 @@ use Rattle.gh_coord.specs.Listing.{is_busy}
 use Rattle.gh_coord.specs.Opening as opens_by
 use Rattle.gh_law.specs.Asked.{IsClearing}
 use Rattle.gh_lists.specs.Numbers.{opens_one}
-use Rattle.gh_law.proofs.Vocabulary.{after_open, Ask, asks_at, at_stage, Coordinating, CoordStage, Done, effect, goes_at, Open, opened_after, OpenStage, Store, Words}
+use Rattle.gh_law.proofs.Vocabulary.{after_open, Ask, asks_at, at_stage, Coordinating, CoordStage, Done, effect, goes_at, Layout, Open, opened_after, OpenStage, Store, Words}
 
 -- what opens no cycle in any count opens none
 pub none_opened : (ask : Ask) → ((before : ℕ) → opened_after ask before ≡ before) → opens_one ask ≡ false
@@ -25,15 +25,15 @@ abbrev pub IsOpened : CoordStage → Type 0
 IsOpened (Open o) = past_clear o.stage
 IsOpened _ = ⊥
 
-module _ (w : Words) (s : Coordinating) where
+module _ (w : Words) (l : Layout) (s : Coordinating) where
   -- the request stays
   abbrev Leaves : Ask → Type 0
   Leaves ask = (opens_one ask ≡ false) × (effect w ask cell.Want ≡ w cell.Want)
 
-  pub clears : (p : CoordStage) → (IsClearing p × (asks_at s p ≡ Store cell.Want 0)) ⊎ Leaves (asks_at s p)
+  pub clears : (p : CoordStage) → (IsClearing p × (asks_at l s p ≡ Store cell.Want 0)) ⊎ Leaves (asks_at l s p)
   clears p = grind arith
 
-module _ (s : Coordinating) (marks : ℕ) where
+module _ (l : Layout) (s : Coordinating) (marks : ℕ) where
   -- with its steps counted
   abbrev u : Coordinating
   u = record s { marks = marks }
@@ -51,7 +51,7 @@ module _ (s : Coordinating) (marks : ℕ) where
       ((p ≡ open_stage.ClearWant) ⊎ past_clear p) × ((after_open (at_stage u (Open (opens_by.goes_at o p found))) (opens_by.given_at (opens_by.behind p))).begun ≡ s.begun)
   opening o p found h = grind arith
 
-  pub opened : (p : CoordStage) (found : ℕ) → is_busy p ≡ true → Opens p (goes_at u p found)
+  pub opened : (p : CoordStage) (found : ℕ) → is_busy p ≡ true → Opens p (goes_at l u p found)
   opened (Open o) found b h = opening o o.stage found h
   opened Done found b h = absurd cc
-  opened p found b h = by_event u found (Opens p) p (λ e may. grind arith) h
+  opened p found b h = by_event l u found (Opens p) p (λ e may. grind arith) h

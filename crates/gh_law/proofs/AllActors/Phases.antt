@@ -37,8 +37,8 @@ none_pending z a v m pending t polls is = grind arith
 
 -- Who is calm makes no step that marks.
 
-calm_none : (m : Processor) → sweep_in m ≡ None → (q : Ask) → WritesOf (IsWrittenCalmly m) q → IsMarkingStep q → ⊥
-calm_none m none q w x = grind arith
+calm_none : (l : Layout) (m : Processor) → sweep_in m ≡ None → (q : Ask) → WritesOf (IsWrittenCalmly l m) q → IsMarkingStep q → ⊥
+calm_none l m none q w x = grind arith
 
 rest_none : (seat : ℕ) (q : Ask) → AcksAlone seat q → IsMarkingStep q → ⊥
 rest_none seat q w x = grind arith
@@ -48,8 +48,8 @@ rest_none seat q w x = grind arith
 span_none : (l : Layout) (m : sweep.Sweeping) (p : SweepStage) → IsMarkingStep (sweep.asks_at l m p) → ⊥
 span_none l m p x = grind arith
 
-lead_none : (c : Coordinating) (p : CoordStage) → IsMarkingStep (asks_at c p) → ⊥
-lead_none c p x = grind arith
+lead_none : (l : Layout) (c : Coordinating) (p : CoordStage) → IsMarkingStep (asks_at l c p) → ⊥
+lead_none l c p x = grind arith
 
 module _ (setup : Setup) (lists : ListsKnown setup) where
   abbrev z : Arena
@@ -134,21 +134,21 @@ module _ (setup : Setup) (lists : ListsKnown setup) where
         runs m x None none y =
             let calm_there : MarksNothing m = subst MarksNothing (run_is setup es e.actor m x.seat x.is) (calm e.actor x.seat) in
             let quiet = calm_now setup.shapes setup.layout lists.known e.begun m x.sound_it (idle m x.is e.begun legal.1.begins) calm_there in
-            calm_none (started kind e.begun m) none e.ask (subst (WritesOf (IsWrittenCalmly (started kind e.begun m))) (sym x.asked) (lists.known.calm.writes (started kind e.begun m) quiet)) y
+            calm_none setup.layout (started kind e.begun m) none e.ask (subst (WritesOf (IsWrittenCalmly setup.layout (started kind e.begun m))) (sym x.asked) (lists.known.calm.writes setup.layout (started kind e.begun m) quiet)) y
         runs m x (Some sw) is y =
             let busy = (subst (IsInSweep e.actor has.state) is (in_sweep m x e.begun (idle m x.is e.begun legal.1.begins))).1 in
-            span_none (started kind e.begun m).poll.layout sw sw.stage (subst IsMarkingStep (x.asked ∙ (lists.known.processors_sweep.on setup.shapes (started kind e.begun m) sw is busy).asks_so) y)
+            span_none setup.layout sw sw.stage (subst IsMarkingStep (x.asked ∙ (lists.known.processors_sweep.on setup.layout setup.shapes (started kind e.begun m) sw is busy).asks_so) y)
 
         works : (w : Working) → seats.WorksIt setup e es w → IsMarkingStep e.ask → ⊥
-        works w x y = elim (asks_by_sweep w w.stage) [
-          | inl none ↦ rest_none w.seat e.ask (subst (AcksAlone w.seat) (sym x.asked) (lists.known.workers_calm.writes w x.sound_it (lists.rests es legal.0 c e.actor w led off x.is) none x.busy)) y
-          | inr s ↦ span_none w.layout s.0 s.0.stage (subst IsMarkingStep (x.asked ∙ s.1) y)
+        works w x y = elim (asks_by_sweep setup.layout w w.stage) [
+          | inl none ↦ rest_none w.seat e.ask (subst (AcksAlone w.seat) (sym x.asked) (lists.known.workers_calm.writes setup.layout w x.sound_it (lists.rests es legal.0 c e.actor w led off x.is) none x.busy)) y
+          | inr s ↦ span_none setup.layout s.0 s.0.stage (subst IsMarkingStep (x.asked ∙ s.1) y)
         ]
 
         by : seats.Step setup e es → IsMarkingStep e.ask → ⊥
         by (seats.by_processor m x s) y = runs m x (sweep_in (started kind e.begun m)) refl y
         by (seats.by_worker w x s) y = works w x y
-        by (seats.by_lead d x) y = lead_none d d.stage (subst IsMarkingStep x.asked y)
+        by (seats.by_lead d x) y = lead_none setup.layout d d.stage (subst IsMarkingStep x.asked y)
 
     pub marks_in_cycle : HoldsAt setup es c c.stage → IsMarkingStep e.ask → leading.Marks c.stage
     marks_in_cycle h y = elim (marks_or_nobody es c c.stage (goes_then setup es c led) h) [
@@ -179,7 +179,7 @@ module _ (setup : Setup) (lists : ListsKnown setup) where
     sound_at a x lt is = subst (handshake.Sound setup.layout) is (keeps.shakes.all_sound a (omega (arith, lt)))
 
     empty : (a : ℕ) (m : Processor) (stops : ℕ) (stage : ResumeStage) → at es a ≡ actor.Runs m → stage_of m ≡ Resumes stops stage → StandsEmpty m
-    empty a m stops stage is y = stands_empty m stops stage y (sound_at a (actor.Runs m) (runs_below a m is) is).0.place
+    empty a m stops stage is y = stands_empty m stops stage y (sound_at a (actor.Runs m) (runs_below a m is) is).place
 
     answered : HasState setup es → (a : ℕ) (m : Processor) (stops : ℕ) (stage : ResumeStage) → at es a ≡ actor.Runs m → stage_of m ≡ Resumes stops stage → answers_of z (opening_words setup.pacing.trigger) a es ≡ given_of z (opening_words setup.pacing.trigger) a es
     answered has a m stops stage is y =

@@ -37,7 +37,7 @@ module _ (setup : Setup) (lists : ListsKnown setup) (has : (es : List (Entry Op)
   Led es c = IsLed setup es c
 
   ended_on : (e : Entry Op) (es : List (Entry Op)) (g : ℕ) → (ever setup es).ended g ≡ true → (ever setup (e ∷ es)).ended g ≡ true
-  ended_on e es g is = ap (λ (x : Ever). x.ended g) ((lists.known.points setup.shapes setup.layout).follows es e) ∙ acted_stays setup.shapes (before_step kind (deeds setup.shapes) es e) e.found (ever setup es) g (acts (before_step kind (deeds setup.shapes) es e) e.found) is
+  ended_on e es g is = ap (λ (x : Ever). x.ended g) ((lists.known.points setup.shapes setup.layout).follows es e) ∙ acted_stays setup.layout setup.shapes (before_step kind (deeds setup.layout setup.shapes) es e) e.found (ever setup es) g (acts setup.layout (before_step kind (deeds setup.layout setup.shapes) es e) e.found) is
 
   -- a stack whose goroutine has ended says so still
   over_on : (e : Entry Op) (es : List (Entry Op)) (g : ℕ) → Lawful (e ∷ es) → told es (cell.Scanned g) ≡ END → told (e ∷ es) (cell.Scanned g) ≡ END
@@ -54,7 +54,7 @@ module _ (setup : Setup) (lists : ListsKnown setup) (has : (es : List (Entry Op)
     record IsByProcessor : Type 0 where
       m : Processor
       runs : seats.RunsIt setup e es m
-      tells : TellsScan (started kind e.begun m) g
+      tells : TellsScan setup.layout (started kind e.begun m) g
 
     no_worker : (w : worker.Working) → seats.WorksIt setup e es w → ⊥
     no_worker w x = grind arith
@@ -64,19 +64,19 @@ module _ (setup : Setup) (lists : ListsKnown setup) (has : (es : List (Entry Op)
 
     no_lead : (c : coord.Coordinating) → seats.LeadsIt setup e es c → ⊥
     no_lead c x =
-        let left : effect others (Store (cell.Scanned g) k) (cell.Scanned g) ≡ suc k = subst (λ (q : Ask). effect others q (cell.Scanned g) ≡ suc k) (sym x.asked ∙ scans.0) ((lead_aside others c c.stage x.sound_it.1).scanned g) in
+        let left : effect others (Store (cell.Scanned g) k) (cell.Scanned g) ≡ suc k = subst (λ (q : Ask). effect others q (cell.Scanned g) ≡ suc k) (sym x.asked ∙ scans.0) ((lead_aside others setup.layout c c.stage x.sound_it.1).scanned g) in
         let stored : effect others (Store (cell.Scanned g) k) (cell.Scanned g) ≡ k = ap (λ (b : Bool). cond b k (suc k)) (eq-eqb g g refl) in
         let no : k ≡ suc k = sym stored ∙ left in
         absurd (omega (arith, no))
 
     by_processor : IsByProcessor
     by_processor = by (seats.step setup e es lists.known.writes legal (lists.keeps es legal.0)) where
-      tells : (m : Processor) → seats.RunsIt setup e es m → EndsStack (started kind e.begun m) g ⊎ TellsScan (started kind e.begun m) g → TellsScan (started kind e.begun m) g
+      tells : (m : Processor) → seats.RunsIt setup e es m → EndsStack setup.layout (started kind e.begun m) g ⊎ TellsScan setup.layout (started kind e.begun m) g → TellsScan setup.layout (started kind e.begun m) g
       tells m x (inl ends) = absurd (scans.1 (let same : Store (cell.Scanned g) k ≡ Store (cell.Scanned g) END = sym scans.0 ∙ (x.asked ∙ ends.tells) in cc))
       tells m x (inr y) = y
 
       by : seats.Step setup e es → IsByProcessor
-      by (seats.by_processor m x s) = record { m = m; runs = x; tells = tells m x (subst (WritesOf (IsWritten (started kind e.begun m))) (sym x.asked ∙ scans.0) (lists.known.writes.writes (started kind e.begun m) x.sound_then)) }
+      by (seats.by_processor m x s) = record { m = m; runs = x; tells = tells m x (subst (WritesOf (IsWritten setup.layout (started kind e.begun m))) (sym x.asked ∙ scans.0) (lists.known.writes.writes setup.layout (started kind e.begun m) x.sound_then)) }
       by (seats.by_worker w x s) = absurd (no_worker w x)
       by (seats.by_lead c x) = absurd (no_lead c x)
 
@@ -89,10 +89,10 @@ module _ (setup : Setup) (lists : ListsKnown setup) (has : (es : List (Entry Op)
     abbrev runs : seats.RunsIt setup e es by_processor.m
     runs = by_processor.runs
 
-    abbrev tells : TellsScan (started kind e.begun by_processor.m) g
+    abbrev tells : TellsScan setup.layout (started kind e.begun by_processor.m) g
     tells = by_processor.tells
 
-    asked : asks now ≡ Store (cell.Scanned g) k
+    asked : asks setup.layout now ≡ Store (cell.Scanned g) k
     asked = sym runs.asked ∙ scans.0
 
     number : k ≡ now.poll.local.view.begun
@@ -100,10 +100,10 @@ module _ (setup : Setup) (lists : ListsKnown setup) (has : (es : List (Entry Op)
 
     -- it is awake, and knows the cycle that has begun last, and that it is marked
     awake : IsAwake (stage_of now)
-    awake = awake_at 0 (party_of now) (stage_of now) (asks now) (party_of (takes setup.shapes now 0)) (stage_of (takes setup.shapes now 0)) g k asked (lists.known.places.takes_so setup.shapes now 0 runs.sound_then.place runs.busy)
+    awake = awake_at 0 (party_of now) (stage_of now) (asks setup.layout now) (party_of (takes setup.layout setup.shapes now 0)) (stage_of (takes setup.layout setup.shapes now 0)) g k asked (lists.known.places.takes_so setup.layout setup.shapes now 0 runs.sound_then.place runs.busy)
 
     view_is : (party_of now).view ≡ now.poll.local.view
-    view_is = knows_at now g k now.task (sym asked)
+    view_is = knows_at setup.layout now g k now.task (sym asked)
 
     pub of_last : told es cell.Begun ≡ k
     of_last = sym (number ∙ (ap (λ (v : View). v.begun) (sym view_is) ∙ knows_begun setup lists.known.places lists.known.writes lists.keeps e.actor m e.begun es legal.0 runs.seat runs.is runs.sound_it legal.1.begins awake))
@@ -130,18 +130,15 @@ module _ (setup : Setup) (lists : ListsKnown setup) (has : (es : List (Entry Op)
     sits = subst (λ (p : Processor). SeatFacts z e.actor p.poll) same (lists.known.runs.stands z e.actor (view h) (processor_at setup es e.actor) it_is.pending it_is.fine).sits
 
     there : (o : Option Op) → StaysThere m (started kind o m)
-    there None = record { layout = refl; seat = refl }
+    there None = refl
     there (Some o) = lists.known.writes.begins_there setup.shapes setup.layout m o runs.sound_it
 
     notes_stay : (o : Option Op) → (started kind o m).poll.local.scanned ≡ m.poll.local.scanned
     notes_stay None = refl
     notes_stay (Some o) = lists.known.notes.begins setup.shapes setup.layout m o runs.sound_it
 
-    layout_is : now.poll.layout ≡ setup.layout
-    layout_is = grind (arith, sits, there)
-
     pub by_its_own : g % setup.layout.procs ≡ e.actor
-    by_its_own = grind (arith, layout_is, sits, tells, there)
+    by_its_own = grind (arith, sits, tells, there)
 
     is_there : g < setup.layout.goroutines
     is_there = grind arith

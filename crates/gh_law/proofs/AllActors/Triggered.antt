@@ -50,7 +50,7 @@ module _ (shapes : List Shape) (l : Layout) (writes : ProcessorWritesItsOwn) (a 
       counts = e;
       before = es;
       start = inl refl;
-      counted = subst (λ (m : Processor). CountsUpTo m.task e.found bytes) (its_step e es its) (writes.compares shapes (started k e.begun (at es)) e.found bytes is);
+      counted = subst (λ (m : Processor). CountsUpTo m.task e.found bytes) (its_step e es its) (writes.compares l shapes (started k e.begun (at es)) e.found bytes is);
       its_last = own_one e es true its;
     }
     go false other h is = let x = h is in record { counts = x.counts; before = x.before; start = inr x.start; counted = x.counted; its_last = own_one e es false other ∙ x.its_last }
@@ -61,7 +61,7 @@ module _ (shapes : List Shape) (l : Layout) (writes : ProcessorWritesItsOwn) (a 
     go : (b : Bool) → (e.actor == a) ≡ b → (SawReached (at es).task → SawTriggerReached shapes l a es) → SawReached (cond b (behind e es) (at es)).task → SawTriggerReached shapes l a (e ∷ es)
     go true its h is =
         let m : Processor = started k e.begun (at es) in
-        let x = writes.saw shapes m e.found is in
+        let x = writes.saw l shapes m e.found is in
         let c = counted es x.0 (looked (at es) e.begun x.0 (seen_compares m.task e.found x.0 x.1)) in
         record {
           bytes = x.0;

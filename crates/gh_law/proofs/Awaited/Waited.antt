@@ -9,7 +9,7 @@ use Rattle.gh_base.specs.Orders.{DeedsFit, done_at}
 use Rattle.gh_law.specs.Actors.{AwaitedCycle, Awaits, HasAwaited}
 use Rattle.gh_lists.specs.Lists.{words}
 use Rattle.gh_lists.specs.Handshake.{those, Setup}
-use Rattle.gh_law.proofs.Vocabulary.{Ask, before_step, begun_in, IsAwake, IsStartOf, party_at, party_of, Polling, stage_at, stage_of}
+use Rattle.gh_law.proofs.Vocabulary.{Ask, before_step, begun_in, IsAwake, IsStartOf, Layout, party_at, party_of, Polling, stage_at, stage_of}
 use Rattle.gh_mutator.specs.Listing.{asks_at}
 use Rattle.gh_holds.specs.Below.{ListsKnown}
 use Rattle.gh_lists.specs.Resting.{runs_are}
@@ -31,8 +31,8 @@ resting_knows p t idle here = grind arith
 same_view : (shapes : List Shape) (m : Processor) (o : Op) → (begins shapes m o).poll.local.view ≡ m.poll.local.view
 same_view shapes m o = grind arith
 
-again : (m : Processor) (low swept found : ℕ) (t : Task) (o : Op) → HasWaited low swept t → HasSeenCycle found t o → (asks_at m t ≡ ask.Load cell.Swept → found ≤ swept) → low < swept
-again m low swept found t o h a so = grind arith
+again : (l : Layout) (m : Processor) (low swept found : ℕ) (t : Task) (o : Op) → HasWaited low swept t → HasSeenCycle found t o → (asks_at l m t ≡ ask.Load cell.Swept → found ≤ swept) → low < swept
+again l m low swept found t o h a so = grind arith
 
 again_busy : (found : ℕ) (t : Task) (o : Op) → HasSeenCycle found t o → is_busy_at t ≡ true
 again_busy found t o a = grind arith
@@ -51,7 +51,7 @@ module _ (setup : Setup) (lists : ListsKnown setup) where
   abbrev k : Kind Processor Op
   k = processor_kind setup.shapes setup.layout
 
-  fit : DeedsFit k (deeds setup.shapes)
+  fit : DeedsFit k (deeds setup.layout setup.shapes)
   fit = lists.known.fit setup.shapes setup.layout
 
   up : (e : Entry Op) (es : List (Entry Op)) → Lawful (e ∷ es) → Rises setup e es
@@ -79,7 +79,7 @@ module _ (setup : Setup) (lists : ListsKnown setup) where
       none_since : begun_in (by a since) ≡ []
       low : told earlier cell.Begun ≤ told es cell.Begun
       waited : HasWaited (told earlier cell.Begun) (told es cell.Swept) (own es).task
-      unacted : (q : Op) → (deeds setup.shapes).unacted (own es) ≡ Some q → q ≡ o
+      unacted : (q : Op) → (deeds setup.layout setup.shapes).unacted (own es) ≡ Some q → q ≡ o
 
     abbrev IsBegun : List (Entry Op) → Type 0
     IsBegun es = is_busy_at (own es).task ≡ true → (o : Op) × Began es o
@@ -89,9 +89,9 @@ module _ (setup : Setup) (lists : ListsKnown setup) where
     exact es legal awake = ((lists.keeps es legal).processors_know a (own es) (omega (arith, lt)) (runs_are setup es a lt) awake).begun_is
 
     -- what is to act behind a step was so before it
-    still_unacted : (m : Processor) (found : ℕ) (q : Op) → is_busy_at m.task ≡ true → (deeds setup.shapes).unacted (takes setup.shapes m found) ≡ Some q → (deeds setup.shapes).unacted m ≡ Some q
-    still_unacted m found q busy is = go ((deeds setup.shapes).acts m found) refl where
-      go : (x : Option Act) → (deeds setup.shapes).acts m found ≡ x → (deeds setup.shapes).unacted m ≡ Some q
+    still_unacted : (m : Processor) (found : ℕ) (q : Op) → is_busy_at m.task ≡ true → (deeds setup.layout setup.shapes).unacted (takes setup.layout setup.shapes m found) ≡ Some q → (deeds setup.layout setup.shapes).unacted m ≡ Some q
+    still_unacted m found q busy is = go ((deeds setup.layout setup.shapes).acts m found) refl where
+      go : (x : Option Act) → (deeds setup.layout setup.shapes).acts m found ≡ x → (deeds setup.layout setup.shapes).unacted m ≡ Some q
       go None none = sym (fit.goes_on m found busy none) ∙ is
       go (Some x) some = absurd (let no : None ≡ Some q = sym (fit.acts_once m found x busy some) ∙ is in cc)
 
@@ -100,7 +100,7 @@ module _ (setup : Setup) (lists : ListsKnown setup) where
       m = before_step setup.shapes setup.layout es e
 
       -- one entry more, by which it begins nothing
-      longer : (o : Op) (b : Began es o) → begun_in (by a (e ∷ b.since)) ≡ [] → HasWaited (told b.earlier cell.Begun) (told (e ∷ es) cell.Swept) (own (e ∷ es)).task → ((q : Op) → (deeds setup.shapes).unacted (own (e ∷ es)) ≡ Some q → q ≡ o) → Began (e ∷ es) o
+      longer : (o : Op) (b : Began es o) → begun_in (by a (e ∷ b.since)) ≡ [] → HasWaited (told b.earlier cell.Begun) (told (e ∷ es) cell.Swept) (own (e ∷ es)).task → ((q : Op) → (deeds setup.layout setup.shapes).unacted (own (e ∷ es)) ≡ Some q → q ≡ o) → Began (e ∷ es) o
       longer o b none waited unacted = record {
         earlier = b.earlier;
         first = b.first;
@@ -114,19 +114,19 @@ module _ (setup : Setup) (lists : ListsKnown setup) where
         unacted = unacted;
       }
 
-      found_there : Its es e legal → asks m ≡ ask.Load cell.Swept → e.found ≡ told es cell.Swept
+      found_there : Its es e legal → asks setup.layout m ≡ ask.Load cell.Swept → e.found ≡ told es cell.Swept
       found_there x is = legal.1.found ∙ ap (λ (q : Ask). told es (cell_of q)) (x.asked ∙ is)
 
-      found_is : Its es e legal → asks m ≡ ask.Load cell.Swept → e.found ≤ told (e ∷ es) cell.Swept
+      found_is : Its es e legal → asks setup.layout m ≡ ask.Load cell.Swept → e.found ≤ told (e ∷ es) cell.Swept
       found_is x is = grind arith
 
       own_step : (x : Its es e legal) (low : ℕ) → HasWaited low (told es cell.Swept) m.task → (IsSearching m.task → low ≤ m.poll.local.view.begun) → HasWaited low (told (e ∷ es) cell.Swept) (own (e ∷ es)).task
       own_step x low h knows =
           let h' = more_swept low (told es cell.Swept) (told (e ∷ es) cell.Swept) m.task (up e es legal).swept h in
-          subst (λ (n : Processor). HasWaited low (told (e ∷ es) cell.Swept) n.task) (sym x.after) (steps_on setup.shapes m low (told (e ∷ es) cell.Swept) e.found m.task refl x.busy h' knows (found_is x))
+          subst (λ (n : Processor). HasWaited low (told (e ∷ es) cell.Swept) n.task) (sym x.after) (steps_on setup.layout setup.shapes m low (told (e ∷ es) cell.Swept) e.found m.task refl x.busy h' knows (found_is x))
 
-      own_unacted : (x : Its es e legal) (o : Op) → ((q : Op) → (deeds setup.shapes).unacted m ≡ Some q → q ≡ o) → (q : Op) → (deeds setup.shapes).unacted (own (e ∷ es)) ≡ Some q → q ≡ o
-      own_unacted x o before q is = before q (still_unacted m e.found q x.busy (ap (λ (n : Processor). (deeds setup.shapes).unacted n) (sym x.after) ∙ is))
+      own_unacted : (x : Its es e legal) (o : Op) → ((q : Op) → (deeds setup.layout setup.shapes).unacted m ≡ Some q → q ≡ o) → (q : Op) → (deeds setup.layout setup.shapes).unacted (own (e ∷ es)) ≡ Some q → q ≡ o
+      own_unacted x o before q is = before q (still_unacted m e.found q x.busy (ap (λ (n : Processor). (deeds setup.layout setup.shapes).unacted n) (sym x.after) ∙ is))
 
       begun_here : (since : List (Entry Op)) → eqb e.actor a ≡ true → begun_in (by a (e ∷ since)) ≡ option_to_list e.begun ++ begun_in (by a since)
       begun_here since here = ap (λ (b : Bool). begun_in (cond b (e ∷ by a since) (by a since))) here
@@ -143,7 +143,7 @@ module _ (setup : Setup) (lists : ListsKnown setup) where
           let quiet : begun_in (by a (e ∷ b.1.since)) ≡ [] = begun_here b.1.since x.here ∙ ap (λ (q : Option Op). option_to_list q ++ begun_in (by a b.1.since)) none ∙ b.1.none_since in (
             b.0,
             longer b.0 b.1 quiet (own_step x low h (λ s. knows low b.1.low same (subst (λ (n : Processor). IsSearching n.task) same s)))
-                (own_unacted x b.0 (λ q is. b.1.unacted q (ap (λ (n : Processor). (deeds setup.shapes).unacted n) (sym same) ∙ is))),
+                (own_unacted x b.0 (λ q is. b.1.unacted q (ap (λ (n : Processor). (deeds setup.layout setup.shapes).unacted n) (sym same) ∙ is))),
           ) where
             knows : (low : ℕ) → low ≤ told es cell.Begun → m ≡ own es → IsSearching (own es).task → low ≤ m.poll.local.view.begun
             knows low le same s =
@@ -160,8 +160,8 @@ module _ (setup : Setup) (lists : ListsKnown setup) where
         at_first : m ≡ k.begins (own es) o
         at_first = x.before ∙ ap (λ (b : Option Op). started k b (own es)) is
 
-        unacted : (q : Op) → (deeds setup.shapes).unacted m ≡ Some q → q ≡ o
-        unacted q to_act = pointed_one (has_point o) (sym (fit.begins (own es) o rested (sym (ap (λ (n : Processor). is_busy_at n.task) at_first) ∙ x.busy)) ∙ sym (ap (λ (n : Processor). (deeds setup.shapes).unacted n) at_first) ∙ to_act) where
+        unacted : (q : Op) → (deeds setup.layout setup.shapes).unacted m ≡ Some q → q ≡ o
+        unacted q to_act = pointed_one (has_point o) (sym (fit.begins (own es) o rested (sym (ap (λ (n : Processor). is_busy_at n.task) at_first) ∙ x.busy)) ∙ sym (ap (λ (n : Processor). (deeds setup.layout setup.shapes).unacted n) at_first) ∙ to_act) where
           pointed_one : (b : Bool) → cond b (Some o) None ≡ Some q → q ≡ o
           pointed_one true e = cc
           pointed_one false e = absurd cc
@@ -202,7 +202,7 @@ module _ (setup : Setup) (lists : ListsKnown setup) where
             let low = told b.1.earlier cell.Begun in (
               b.0,
               longer b.0 b.1 (begun_aside b.1.since x.apart ∙ b.1.none_since) (subst (λ (n : Processor). HasWaited low (told (e ∷ es) cell.Swept) n.task) (sym x.after) (more_swept low (told es cell.Swept) (told (e ∷ es) cell.Swept) (own es).task (up e es legal).swept b.1.waited))
-                  (λ q is. b.1.unacted q (ap (λ (n : Processor). (deeds setup.shapes).unacted n) (sym x.after) ∙ is)),
+                  (λ q is. b.1.unacted q (ap (λ (n : Processor). (deeds setup.layout setup.shapes).unacted n) (sym x.after) ∙ is)),
             )
 
     is_begun : (es : List (Entry Op)) → Lawful es → IsBegun es
@@ -210,14 +210,14 @@ module _ (setup : Setup) (lists : ListsKnown setup) where
     is_begun (e ∷ es) legal busy = more es e legal (is_begun es legal.0) busy
 
     -- what it acts on behind a wait is the last that it began, and has waited for a cycle
-    module _ (in_cycles : InCycles setup) (es : List (Entry Op)) (e : Entry Op) (legal : Lawful (e ∷ es)) (x : Its es e legal) (act : Act) (acts : (deeds setup.shapes).acts (before_step setup.shapes setup.layout es e) e.found ≡ Some act) (sees : HasSeenCycle e.found (before_step setup.shapes setup.layout es e).task act.op) where
+    module _ (in_cycles : InCycles setup) (es : List (Entry Op)) (e : Entry Op) (legal : Lawful (e ∷ es)) (x : Its es e legal) (act : Act) (acts : (deeds setup.layout setup.shapes).acts (before_step setup.shapes setup.layout es e) e.found ≡ Some act) (sees : HasSeenCycle e.found (before_step setup.shapes setup.layout es e).task act.op) where
       from_begun : e.begun ≡ None → AwaitedCycle setup a es act.op
       from_begun none =
           let same : before_step setup.shapes setup.layout es e ≡ own es = x.before ∙ ap (λ (b : Option Op). started k b (own es)) none in
           let s = subst (λ (n : Processor). HasSeenCycle e.found n.task act.op) same sees in
           let b = is_begun es legal.0 (again_busy e.found (own es).task act.op s) in
-          let later : told b.1.earlier cell.Begun < told es cell.Swept = again (own es) (told b.1.earlier cell.Begun) (told es cell.Swept) e.found (own es).task act.op b.1.waited s (λ loads. let found = found_there es e legal x (ap asks same ∙ loads) in omega (arith, found)) in
-          let one : act.op ≡ b.0 = b.1.unacted act.op (ap (λ (n : Processor). (deeds setup.shapes).unacted n) (sym same) ∙ fit.acts_for (before_step setup.shapes setup.layout es e) e.found act x.busy acts) in
+          let later : told b.1.earlier cell.Begun < told es cell.Swept = again setup.layout (own es) (told b.1.earlier cell.Begun) (told es cell.Swept) e.found (own es).task act.op b.1.waited s (λ loads. let found = found_there es e legal x (ap (asks setup.layout) same ∙ loads) in omega (arith, found)) in
+          let one : act.op ≡ b.0 = b.1.unacted act.op (ap (λ (n : Processor). (deeds setup.layout setup.shapes).unacted n) (sym same) ∙ fit.acts_for (before_step setup.shapes setup.layout es e) e.found act x.busy acts) in
           let start : IsStartOf (b.1.first ∷ b.1.earlier) es = subst (λ (xs : List (Entry Op)). IsStartOf (b.1.first ∷ b.1.earlier) xs) (sym b.1.there) (start_behind b.1.since (b.1.first ∷ b.1.earlier)) in
           let seat : b.1.first.actor < setup.layout.procs = let by_it = b.1.by_it in omega (arith, lt, by_it) in
           record {
@@ -244,11 +244,11 @@ module _ (setup : Setup) (lists : ListsKnown setup) where
           go false s = first_sees_none setup.shapes (own es) e.found o act.op s
 
   -- So it is with what acts in a legal list.
-  module _ (in_cycles : InCycles setup) (es : List (Entry Op)) (e : Entry Op) (legal : Lawful (e ∷ es)) (act : Act) (acts : done_at k (deeds setup.shapes) es e ≡ Some act) where
+  module _ (in_cycles : InCycles setup) (es : List (Entry Op)) (e : Entry Op) (legal : Lawful (e ∷ es)) (act : Act) (acts : done_at k (deeds setup.layout setup.shapes) es e ≡ Some act) where
     abbrev now : Processor
     now = before_step setup.shapes setup.layout es e
 
-    does : acts_at now now.task e.found ≡ Some act
+    does : acts_at setup.layout now now.task e.found ≡ Some act
     does = grind arith
 
     awaited : HasSeenCycle e.found now.task act.op → AwaitedCycle setup e.actor es act.op
@@ -259,9 +259,9 @@ module _ (setup : Setup) (lists : ListsKnown setup) where
 
     has_awaited : HasAwaited setup e es act
     has_awaited = record {
-      gc = λ g is. awaited (gc_acts now now.task e.found g act does is).0;
-      answered = λ g is. (gc_acts now now.task e.found g act does is).1;
-      full = λ is. awaited (full_searches now now.task e.found act does is);
+      gc = λ g is. awaited (gc_acts setup.layout now now.task e.found g act does is).0;
+      answered = λ g is. (gc_acts setup.layout now now.task e.found g act does is).1;
+      full = λ is. awaited (full_searches setup.layout now now.task e.found act does is);
     }
 
   pub awaits : InCycles setup → (es : List (Entry Op)) → Lawful es → Awaits setup es

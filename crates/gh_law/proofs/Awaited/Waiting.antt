@@ -21,7 +21,7 @@ use Rattle.gh_poll.specs.Poll as poll
 use Rattle.gh_mutator.specs.Register as register
 use Rattle.gh_mutator.specs.Store as store
 use Rattle.gh_poll.specs.Wait as wait
-use Rattle.gh_law.proofs.Vocabulary.{after_gc, after_leave, after_poll, Leaving, Polling, Seeking, WaitStage}
+use Rattle.gh_law.proofs.Vocabulary.{after_gc, after_leave, after_poll, Layout, Leaving, Polling, Seeking, WaitStage}
 
 -- Where so many cycles had begun when the operation did, and so many are swept: a wait knows as many at least, and behind it more are swept.
 abbrev pub HasWaitedAt : (low swept : ℕ) → NewStage → Type 0
@@ -60,8 +60,8 @@ HasSeenCycle found (task.New x) o = (new.op_of x.wanted ≡ o) × SearchesAgainA
 HasSeenCycle found (task.Gc g x) o = (op.Gc g ≡ o) × EndsWaitAt x.known found x.stage
 HasSeenCycle found _ o = ⊥
 
-pub full_searches : (m : Processor) (t : Task) (found : ℕ) (x : Act) → acts_at m t found ≡ Some x → x.full ≡ true → HasSeenCycle found t x.op
-full_searches m t found x e f = grind arith
+pub full_searches : (l : Layout) (m : Processor) (t : Task) (found : ℕ) (x : Act) → acts_at l m t found ≡ Some x → x.full ≡ true → HasSeenCycle found t x.op
+full_searches l m t found x e f = grind arith
 
 -- and so has a `gc` that acts, by the step that answers it
 
@@ -78,21 +78,21 @@ global_other y st = grind arith
 register_other : (y : Register) (from : Source) → is_gc (register.op_from y from) ≡ false
 register_other y from = grind arith
 
-gc_waited : (y : WaitState) (p : Polling) (found : ℕ) (out : Option (Unit {0})) → wait.gives (wait.waiting y p) found ≡ out → (g : ℕ) (x : Act) → acting (is_some out) (op.Gc g) false ≡ Some x → ((op.Gc g ≡ x.op) × EndsWaitAt y.known found y.stage) × (once_ended out answer.Swept ≡ Some answer.Swept)
-gc_waited y p found out is g x e = grind arith
+gc_waited : (l : Layout) (y : WaitState) (p : Polling) (found : ℕ) (out : Option (Unit {0})) → wait.gives l (wait.waiting y p) found ≡ out → (g : ℕ) (x : Act) → acting (is_some out) (op.Gc g) false ≡ Some x → ((op.Gc g ≡ x.op) × EndsWaitAt y.known found y.stage) × (once_ended out answer.Swept ≡ Some answer.Swept)
+gc_waited l y p found out is g x e = grind arith
 
-pub gc_acts : (m : Processor) (t : Task) (found g : ℕ) (x : Act) → acts_at m t found ≡ Some x → x.op ≡ op.Gc g → HasSeenCycle found t x.op × (gives_at m t found ≡ Some answer.Swept)
-gc_acts m task.Idle found g x e f = absurd cc
-gc_acts m task.Left found g x e f = absurd cc
-gc_acts m (task.Load y) found g x e f = absurd (other_acts (load.step m.poll.layout y found).acts false (load.op_of y) g x refl e f)
-gc_acts m (task.Store y) found g x e f = absurd (other_acts (store.step m.poll.layout m.poll.local (register_of m y.g y.v) y found).acts false (store.op_of y) g x refl e f)
-gc_acts m (task.Global y) found g x e f = absurd (other_acts (global.step m.poll.layout (register_of m y.g y.r) y found).acts false (global.op_of y) g x (global_other y y.stage) e f)
-gc_acts m (task.Register y) found g x e f = absurd (other_acts (register.step (register_of m y.g (register.read_of y)) y).acts false (register.op_of y) g x (register_other y y.source) e f)
-gc_acts m (task.New y) found g x e f = absurd (other_acts (new.acts_at m.poll.layout y.stage found) (new.is_full_at y.stage) (new.op_of y.wanted) g x refl e f)
-gc_acts m (task.Gc h y) found g x e f = gc_waited y m.poll found (wait.gives (wait.waiting y m.poll) found) refl h x e
-gc_acts m task.Poll found g x e f = absurd (other_acts (is_some (poll.gives m.poll found)) false op.Poll g x refl e f)
-gc_acts m (task.End h) found g x e f = absurd (other_acts true false (op.End h) g x refl e f)
-gc_acts m (task.Leave y) found g x e f = absurd (other_acts (is_some (leave.gives y found)) false op.Leave g x refl e f)
+pub gc_acts : (l : Layout) (m : Processor) (t : Task) (found g : ℕ) (x : Act) → acts_at l m t found ≡ Some x → x.op ≡ op.Gc g → HasSeenCycle found t x.op × (gives_at l m t found ≡ Some answer.Swept)
+gc_acts l m task.Idle found g x e f = absurd cc
+gc_acts l m task.Left found g x e f = absurd cc
+gc_acts l m (task.Load y) found g x e f = absurd (other_acts (load.step l y found).acts false (load.op_of y) g x refl e f)
+gc_acts l m (task.Store y) found g x e f = absurd (other_acts (store.step l m.poll.local (register_of m y.g y.v) y found).acts false (store.op_of y) g x refl e f)
+gc_acts l m (task.Global y) found g x e f = absurd (other_acts (global.step l (register_of m y.g y.r) y found).acts false (global.op_of y) g x (global_other y y.stage) e f)
+gc_acts l m (task.Register y) found g x e f = absurd (other_acts (register.step (register_of m y.g (register.read_of y)) y).acts false (register.op_of y) g x (register_other y y.source) e f)
+gc_acts l m (task.New y) found g x e f = absurd (other_acts (new.acts_at l y.stage found) (new.is_full_at y.stage) (new.op_of y.wanted) g x refl e f)
+gc_acts l m (task.Gc h y) found g x e f = gc_waited l y m.poll found (wait.gives l (wait.waiting y m.poll) found) refl h x e
+gc_acts l m task.Poll found g x e f = absurd (other_acts (is_some (poll.gives l m.poll found)) false op.Poll g x refl e f)
+gc_acts l m (task.End h) found g x e f = absurd (other_acts true false (op.End h) g x refl e f)
+gc_acts l m (task.Leave y) found g x e f = absurd (other_acts (is_some (leave.gives y found)) false op.Leave g x refl e f)
 
 -- an operation that begins has not
 pub first_sees_none : (shapes : List Shape) (m : Processor) (found : ℕ) (o q : Op) → HasSeenCycle found (begins_at shapes m o) q → ⊥
@@ -111,7 +111,7 @@ loads_swept m x e = ap (wait.asks_at (wait.waiting x m.poll)) e
 
 -- One step.
 
-module _ (shapes : List Shape) (m : Processor) (low swept found : ℕ) where
+module _ (l : Layout) (shapes : List Shape) (m : Processor) (low swept found : ℕ) where
   statement : {S : Type 0} (into : S → Task) (then : Then S) → ((x : S) → HasWaited low swept (into x)) → HasWaited low swept (follows into then)
   statement into then h = grind arith
 
@@ -122,7 +122,7 @@ module _ (shapes : List Shape) (m : Processor) (low swept found : ℕ) where
   was_second : (waited : Bool) (s : Seeking) → HasWaitedAt low swept (Search waited s) → waited ≡ true → low < swept
   was_second waited s h e = grind arith
 
-  waited : (w : Wanted) (x : WaitState) (out : Option (Unit {0})) → wait.gives (wait.waiting x m.poll) found ≡ out → low ≤ x.known → (wait.asks (wait.waiting x m.poll) ≡ ask.Load cell.Swept → found ≤ swept) → HasWaited low swept (after_wait m w (wait.goes (wait.waiting x m.poll) found) out).task
+  waited : (w : Wanted) (x : WaitState) (out : Option (Unit {0})) → wait.gives l (wait.waiting x m.poll) found ≡ out → low ≤ x.known → (wait.asks (wait.waiting x m.poll) ≡ ask.Load cell.Swept → found ≤ swept) → HasWaited low swept (after_wait m w (wait.goes l (wait.waiting x m.poll) found) out).task
   waited w x out is h so = grind arith
 
   placed : (w : Wanted) (made : Bool) (a : ℕ) (p : Placing) → HasWaited low swept (after_place m w made a p).task
@@ -131,14 +131,14 @@ module _ (shapes : List Shape) (m : Processor) (low swept found : ℕ) where
   assisted : (w : Wanted) (n : Name) (x : Assisting) (out : Option (Unit {0})) → HasWaited low swept (after_assist m w n x out).task
   assisted w n x out = grind arith
 
-  new_steps : (w : Wanted) (st : NewStage) → HasWaitedAt low swept st → (IsSearchingAt st → low ≤ m.poll.local.view.begun) → (new.asks_at m st ≡ ask.Load cell.Swept → found ≤ swept) → HasWaited low swept (new.takes_at shapes m w st found).task
-  new_steps w (Search again s) h knows so = finds (cache_span m w.sought (search.goes m.poll.layout s found).find.cached) w again (search.goes m.poll.layout s found) (search.gives m.poll.layout s found) (knows tt) (was_second again s h)
-  new_steps w (Wait x) h knows so = waited w x (wait.gives (wait.waiting x m.poll) found) refl h so
+  new_steps : (w : Wanted) (st : NewStage) → HasWaitedAt low swept st → (IsSearchingAt st → low ≤ m.poll.local.view.begun) → (new.asks_at l m st ≡ ask.Load cell.Swept → found ≤ swept) → HasWaited low swept (new.takes_at l shapes m w st found).task
+  new_steps w (Search again s) h knows so = finds (cache_span m w.sought (search.goes l s found).find.cached) w again (search.goes l s found) (search.gives l s found) (knows tt) (was_second again s h)
+  new_steps w (Wait x) h knows so = waited w x (wait.gives l (wait.waiting x m.poll) found) refl h so
   new_steps w (Place p) h knows so = placed w (place.makes_its_object p) p.at (place.goes p found)
   new_steps w (Want n) h knows so = tt
-  new_steps w (Assist n x) h knows so = assisted w n (assist.goes m.poll.layout x found) (assist.gives m.poll.layout x found)
+  new_steps w (Assist n x) h knows so = assisted w n (assist.goes l x found) (assist.gives l x found)
 
-  gc_waits : (g : ℕ) (x : WaitState) (out : Option (Unit {0})) → low ≤ x.known → HasWaited low swept (after_gc m g (wait.goes (wait.waiting x m.poll) found) out).task
+  gc_waits : (g : ℕ) (x : WaitState) (out : Option (Unit {0})) → low ≤ x.known → HasWaited low swept (after_gc m g (wait.goes l (wait.waiting x m.poll) found) out).task
   gc_waits g x out h = grind arith
 
   poll_ends : (p : Polling) (out : Option (Unit {0})) → HasWaited low swept (after_poll m p out).task
@@ -147,15 +147,15 @@ module _ (shapes : List Shape) (m : Processor) (low swept found : ℕ) where
   leave_ends : (x : Leaving) (out : Option (Unit {0})) → HasWaited low swept (after_leave m x out).task
   leave_ends x out = grind arith
 
-  pub steps_on : (t : Task) → m.task ≡ t → is_busy_at t ≡ true → HasWaited low swept t → (IsSearching t → low ≤ m.poll.local.view.begun) → (asks m ≡ ask.Load cell.Swept → found ≤ swept) → HasWaited low swept (takes_at shapes m t found).task
+  pub steps_on : (t : Task) → m.task ≡ t → is_busy_at t ≡ true → HasWaited low swept t → (IsSearching t → low ≤ m.poll.local.view.begun) → (asks l m ≡ ask.Load cell.Swept → found ≤ swept) → HasWaited low swept (takes_at l shapes m t found).task
   steps_on task.Idle is busy h knows so = absurd cc
   steps_on task.Left is busy h knows so = absurd cc
-  steps_on (task.Load x) is busy h knows so = statement task.Load (load.step m.poll.layout x found).then (λ y. tt)
-  steps_on (task.Store x) is busy h knows so = statement task.Store (store.step m.poll.layout m.poll.local (register_of m x.g x.v) x found).then (λ y. tt)
-  steps_on (task.Global x) is busy h knows so = statement task.Global (global.step m.poll.layout (register_of m x.g x.r) x found).then (λ y. tt)
+  steps_on (task.Load x) is busy h knows so = statement task.Load (load.step l x found).then (λ y. tt)
+  steps_on (task.Store x) is busy h knows so = statement task.Store (store.step l m.poll.local (register_of m x.g x.v) x found).then (λ y. tt)
+  steps_on (task.Global x) is busy h knows so = statement task.Global (global.step l (register_of m x.g x.r) x found).then (λ y. tt)
   steps_on (task.Register x) is busy h knows so = statement task.Register (register.step (register_of m x.g (register.read_of x)) x).then (λ y. tt)
-  steps_on (task.New x) is busy h knows so = new_steps x.wanted x.stage h knows (λ e. so (ap (asks_at m) is ∙ e))
-  steps_on (task.Gc g x) is busy h knows so = gc_waits g x (wait.gives (wait.waiting x m.poll) found) h
-  steps_on task.Poll is busy h knows so = poll_ends (poll.goes m.poll found) (poll.gives m.poll found)
+  steps_on (task.New x) is busy h knows so = new_steps x.wanted x.stage h knows (λ e. so (ap (asks_at l m) is ∙ e))
+  steps_on (task.Gc g x) is busy h knows so = gc_waits g x (wait.gives l (wait.waiting x m.poll) found) h
+  steps_on task.Poll is busy h knows so = poll_ends (poll.goes l m.poll found) (poll.gives l m.poll found)
   steps_on (task.End g) is busy h knows so = tt
   steps_on (task.Leave x) is busy h knows so = leave_ends (leave.goes x found) (leave.gives x found)

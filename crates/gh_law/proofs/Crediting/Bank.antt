@@ -46,8 +46,8 @@ pub record DrawsOnBank (m : Processor) (q : Ask) : Type 0 where
   pub falls : new ≤ old
   pub assists : IsAssisting m.task
 
-pub processor_beside : (m : Processor) (q : Ask) → WritesOf (IsWritten m) q → LeavesOrDraws q → IsBeside q ⊎ DrawsOnBank m q
-processor_beside m q is draws = grind arith
+pub processor_beside : (l : Layout) (m : Processor) (q : Ask) → WritesOf (IsWritten l m) q → LeavesOrDraws q → IsBeside q ⊎ DrawsOnBank m q
+processor_beside l m q is draws = grind arith
 
 -- A step of a sweep.
 pub sweep_beside : (l : Layout) (v : sweep.Sweeping) (p : SweepStage) → IsBeside (sweep.asks_at l v p)
@@ -64,5 +64,5 @@ abbrev pub IsClearing : CoordStage → Type 0
 IsClearing (Close y) = y.stage ≡ close_stage.ClearBank
 IsClearing _ = ⊥
 
-pub lead_beside : (c : Coordinating) (p : CoordStage) → IsBeside (asks_at c p) ⊎ IsClearing p
-lead_beside c p = grind arith
+pub lead_beside : (l : Layout) (c : Coordinating) (p : CoordStage) → IsBeside (asks_at l c p) ⊎ IsClearing p
+lead_beside l c p = grind arith

@@ -9,7 +9,7 @@ use Rattle.gh_coord.specs.Closing as close
 use Rattle.gh_coord.specs.Events.{by_event}
 use Rattle.gh_coord.specs.Handshake as leading
 use Rattle.gh_coord.specs.Listing as coord
-use Rattle.gh_law.proofs.Vocabulary.{Check, Close, CloseStage, Coordinating, CoordStage, Done, Load, MarkOn, StopAgain, Store, Watch}
+use Rattle.gh_law.proofs.Vocabulary.{Check, Close, CloseStage, Coordinating, CoordStage, Done, Layout, Load, MarkOn, StopAgain, Store, Watch}
 use Rattle.gh_law.proofs.Crediting.Bank.{IsClearing}
 
 -- the bank may hold credit
@@ -40,7 +40,7 @@ pub record KnowsBank (n bank lapsed : ℕ) (p : CoordStage) : Type 0 where
   pub knows : coord.lapsed_at lapsed p ≡ n + loaded_at p bank
   pub empty : (MayHold p → ⊥) → bank ≡ 0
 
-module _ (u : Coordinating) (n bank : ℕ) where
+module _ (l : Layout) (u : Coordinating) (n bank : ℕ) where
   abbrev Knows : Coordinating → Type 0
   Knows d = KnowsBank n bank d.lapsed d.stage
 
@@ -48,22 +48,22 @@ module _ (u : Coordinating) (n bank : ℕ) where
   closes : (y : close.Closing) (p : CloseStage) (found : ℕ) → n + bank < 2 ^ 64 → (p ≡ close_stage.LoadBank → found ≡ bank) → (p ≡ close_stage.ClearBank → ⊥) → close.is_busy p ≡ true → y.lapsed ≡ n + loaded p bank → ((HoldsAt p → ⊥) → bank ≡ 0) → Knows (coord.after_close (coord.at_stage u (Close (close.goes_at y p found))) (close.given (close.goes_at y p found)))
   closes y p found fits finds other busy knows empty = grind arith
 
-  goes_at : (p : CoordStage) (found : ℕ) → n + bank < 2 ^ 64 → (coord.asks_at u p ≡ Load cell.Bank → found ≡ bank) → (IsClearing p → ⊥) → coord.is_busy p ≡ true → KnowsBank n bank u.lapsed p → Knows (coord.goes_at u p found)
+  goes_at : (p : CoordStage) (found : ℕ) → n + bank < 2 ^ 64 → (coord.asks_at l u p ≡ Load cell.Bank → found ≡ bank) → (IsClearing p → ⊥) → coord.is_busy p ≡ true → KnowsBank n bank u.lapsed p → Knows (coord.goes_at l u p found)
   goes_at (Close y) found fits finds other busy k = closes y y.stage found fits (λ e. finds (ap (close.asks_at y) e)) other busy k.knows k.empty
   goes_at Done found fits finds other busy k = absurd (cc)
-  goes_at p found fits finds other busy k = by_event u found Knows p (λ e may. grind arith)
+  goes_at p found fits finds other busy k = by_event l u found Knows p (λ e may. grind arith)
 
-pub lead_goes : (c : Coordinating) (n bank found : ℕ) → n + bank < 2 ^ 64 → (coord.asks c ≡ Load cell.Bank → found ≡ bank) → (IsClearing c.stage → ⊥) → coord.is_busy c.stage ≡ true → KnowsBank n bank c.lapsed c.stage → KnowsBank n bank (coord.goes c found).lapsed (coord.goes c found).stage
-lead_goes c n bank found fits finds other busy k = record { knows = grind arith; empty = grind arith }
+pub lead_goes : (l : Layout) (c : Coordinating) (n bank found : ℕ) → n + bank < 2 ^ 64 → (coord.asks l c ≡ Load cell.Bank → found ≡ bank) → (IsClearing c.stage → ⊥) → coord.is_busy c.stage ≡ true → KnowsBank n bank c.lapsed c.stage → KnowsBank n bank (coord.goes l c found).lapsed (coord.goes l c found).stage
+lead_goes l c n bank found fits finds other busy k = record { knows = grind arith; empty = grind arith }
 
 -- By the store into the bank what it has loaded has lapsed, and nothing is left there.
 
-pub lead_clears : (c : Coordinating) (n bank found : ℕ) → IsClearing c.stage → KnowsBank n bank c.lapsed c.stage → KnowsBank (n + bank) 0 (coord.goes c found).lapsed (coord.goes c found).stage
-lead_clears c n bank found is k = grind arith
+pub lead_clears : (l : Layout) (c : Coordinating) (n bank found : ℕ) → IsClearing c.stage → KnowsBank n bank c.lapsed c.stage → KnowsBank (n + bank) 0 (coord.goes l c found).lapsed (coord.goes l c found).stage
+lead_clears l c n bank found is k = grind arith
 
 -- what it asks for there
-pub asks_clearing : (c : Coordinating) (p : CoordStage) → IsClearing p → coord.asks_at c p ≡ Store cell.Bank 0
-asks_clearing c p is = grind arith
+pub asks_clearing : (l : Layout) (c : Coordinating) (p : CoordStage) → IsClearing p → coord.asks_at l c p ≡ Store cell.Bank 0
+asks_clearing l c p is = grind arith
 
 -- Where a cycle is marked and the world runs, the bank may change.
 

@@ -125,7 +125,7 @@ module _ (setup : Setup) (cited : Cited setup) where
       then : who (e ∷ es) e.actor ≡ y
       none : left_at x ≡ 0
       none_then : left_at y ≡ 0
-      done : done_by x e.found ≡ 0
+      done : done_by setup.layout x e.found ≡ 0
       not_marks : (w : Working) → y ≡ actor.Marks w → ⊥
       counts : spent_at y ≡ spent_at x + drawn_by e.ask e.found
       earned_same : earned_in (e ∷ es) ≡ earned_in es
@@ -142,7 +142,7 @@ module _ (setup : Setup) (cited : Cited setup) where
         go a false e_is = ap left_at (other setup e es a e_is)
 
       scanned_same : scanned_in setup (e ∷ es) ≡ scanned_in setup es
-      scanned_same = let d : done_by (who es e.actor) e.found ≡ 0 = ap (λ (z : Actor). done_by z e.found) step.is ∙ step.done in omega (arith, d)
+      scanned_same = let d : done_by setup.layout (who es e.actor) e.found ≡ 0 = ap (λ (z : Actor). done_by setup.layout z e.found) step.is ∙ step.done in omega (arith, d)
 
       each_then : (c : Coordinating) → who es n ≡ actor.Leads c → (a : ℕ) (w : Working) → who (e ∷ es) a ≡ actor.Marks w → w.earned ≤ earned_in (e ∷ es)
       each_then c led a w at_a = go (e.actor == a) refl where
@@ -201,28 +201,28 @@ module _ (setup : Setup) (cited : Cited setup) where
       found_is : (q : Ask) → e.ask ≡ q → e.found ≡ words setup es (cell_of q)
       found_is q is = legal.1.found ∙ ap (λ (z : Ask). words setup es (cell_of z)) is
 
-      count : drawn_by e.ask e.found ≤ bank es → spent_of (takes setup.shapes begun e.found) ≡ spent_of m + drawn_by e.ask e.found
+      count : drawn_by e.ask e.found ≤ bank es → spent_of (takes setup.layout setup.shapes begun e.found) ≡ spent_of m + drawn_by e.ask e.found
       count most =
-          let same : drawn_by e.ask e.found ≡ drawn_by (asks begun) e.found = ap (λ (q : Ask). drawn_by q e.found) x.asked in
+          let same : drawn_by e.ask e.found ≡ drawn_by (asks setup.layout begun) e.found = ap (λ (q : Ask). drawn_by q e.found) x.asked in
           let a = pb.earned in
           let b = pb.scanned in
           let f = cited.few es legal.0 in
           let le = spent_few in
           let first = begun_spent in
-          let then = cited.spend.spends setup.shapes begun e.found x.sound_then x.busy (omega (arith, same, a, b, f, le, first, most)) in
+          let then = cited.spend.spends setup.layout setup.shapes begun e.found x.sound_then x.busy (omega (arith, same, a, b, f, le, first, most)) in
           omega (arith, same, then, first)
 
-      no_work : drawn_by e.ask e.found ≤ bank es → earned_in (e ∷ es) ≡ earned_in es → StepsWithoutWork (actor.Runs m) (actor.Runs (takes setup.shapes begun e.found))
+      no_work : drawn_by e.ask e.found ≤ bank es → earned_in (e ∷ es) ≡ earned_in es → StepsWithoutWork (actor.Runs m) (actor.Runs (takes setup.layout setup.shapes begun e.found))
       no_work most same = grind (arith, count)
 
-      runs_beside : IsBeside (asks begun) → Balanced (e ∷ es) c
+      runs_beside : IsBeside (asks setup.layout begun) → Balanced (e ∷ es) c
       runs_beside q =
           let s = stays_by _ x.asked q in
           let none = none_drawn s in
-          balances (actor.Runs m) (actor.Runs (takes setup.shapes begun e.found)) (no_work (omega (arith, none)) s.earned) c c led (all_same s) (known s c pb.knows)
+          balances (actor.Runs m) (actor.Runs (takes setup.layout setup.shapes begun e.found)) (no_work (omega (arith, none)) s.earned) c c led (all_same s) (known s c pb.knows)
 
       -- A draw: it assists, so the coordinator marks a cycle, and the world is not stopped.
-      module _ (d : DrawsOnBank begun (asks begun)) where
+      module _ (d : DrawsOnBank begun (asks setup.layout begun)) where
         draw_is : e.ask ≡ Swap cell.Bank d.old d.new
         draw_is = x.asked ∙ d.is
 
@@ -239,7 +239,7 @@ module _ (setup : Setup) (cited : Cited setup) where
         marks_on =
             let knows = assisting_knows m.poll m.task assists in
             let seat : e.actor < n = let lt = x.seat in omega (arith, lt) in
-            let marked : (party_of m).view.phase ≡ Mark = ap (λ (v : View). v.phase) knows.1 ∙ marks_phase m.poll.local.view.phase (cited.spend.marking m x.sound_it assists) in
+            let marked : (party_of m).view.phase ≡ Mark = ap (λ (v : View). v.phase) knows.1 ∙ marks_phase m.poll.local.view.phase (cited.spend.marking setup.layout m x.sound_it assists) in
             ((cited.keeps es legal.0).processors_mark c e.actor m led seat x.is knows.0).0 marked
 
         draws_on : Balanced (e ∷ es) c
@@ -252,19 +252,19 @@ module _ (setup : Setup) (cited : Cited setup) where
             let lapsed_none : lapsed_by e.ask e.found ≡ 0 = ap (λ (q : Ask). lapsed_by q e.found) draw_is in
             let lapsed_same : lapsed_in (e ∷ es) ≡ lapsed_in es = omega (arith, lapsed_none) in
             let k = may_add c.stage marks_on (λ phase stopped. runs_on (phase, stopped)) (lapsed_in es) (bank es) (bank (e ∷ es)) c.lapsed pb.knows in
-            balances (actor.Runs m) (actor.Runs (takes setup.shapes begun e.found)) (no_work (omega (arith, drawn_is, falls)) (omega (arith, handed_none))) c c led
+            balances (actor.Runs m) (actor.Runs (takes setup.layout setup.shapes begun e.found)) (no_work (omega (arith, drawn_is, falls)) (omega (arith, handed_none))) c c led
             (omega (arith, drawn_is, bank_is, falls, lapsed_same))
             (subst (λ (i : ℕ). KnowsBank i (bank (e ∷ es)) c.lapsed c.stage) (sym lapsed_same) k)
 
       runs_through : Balanced (e ∷ es) c
-      runs_through = elim (processor_beside begun (asks begun) (cited.writes.writes begun x.sound_then) (cited.spend.draws begun x.sound_then x.busy)) [ inl q ↦ runs_beside q | inr d ↦ draws_on d ]
+      runs_through = elim (processor_beside setup.layout begun (asks setup.layout begun) (cited.writes.writes setup.layout begun x.sound_then) (cited.spend.draws setup.layout begun x.sound_then x.busy)) [ inl q ↦ runs_beside q | inr d ↦ draws_on d ]
 
     -- the coordinator's step
 
     by_lead : (c : Coordinating) → seats.LeadsIt setup e es c → Balance (e ∷ es)
-    by_lead c x d led = subst (Balanced (e ∷ es)) then (elim (lead_beside c c.stage) [ inl y ↦ going y | inr y ↦ clearing y ]) where
-      then : coord.goes c e.found ≡ d
-      then = let both : actor.Leads (coord.goes c e.found) ≡ actor.Leads d = sym x.then ∙ led in cc
+    by_lead c x d led = subst (Balanced (e ∷ es)) then (elim (lead_beside setup.layout c c.stage) [ inl y ↦ going y | inr y ↦ clearing y ]) where
+      then : coord.goes setup.layout c e.found ≡ d
+      then = let both : actor.Leads (coord.goes setup.layout c e.found) ≡ actor.Leads d = sym x.then ∙ led in cc
 
       b : Balanced es c
       b = was c x.is
@@ -275,23 +275,23 @@ module _ (setup : Setup) (cited : Cited setup) where
       was_at : who es e.actor ≡ actor.Leads c
       was_at = ap (who es) x.seat ∙ x.is
 
-      now_at : who (e ∷ es) e.actor ≡ actor.Leads (coord.goes c e.found)
+      now_at : who (e ∷ es) e.actor ≡ actor.Leads (coord.goes setup.layout c e.found)
       now_at = ap (who (e ∷ es)) x.seat ∙ x.then
 
-      going : IsBeside (coord.asks c) → Balanced (e ∷ es) (coord.goes c e.found)
+      going : IsBeside (coord.asks setup.layout c) → Balanced (e ∷ es) (coord.goes setup.layout c e.found)
       going y =
-          let s = stays_by (coord.asks c) x.asked y in
-          let finds : coord.asks c ≡ Load cell.Bank → e.found ≡ bank es = λ is. x.found ∙ ap (λ (q : Ask). words setup es (cell_of q)) is in
-          let not_clearing : IsClearing c.stage → ⊥ = λ z. subst IsBeside (asks_clearing c c.stage z) y in
-          let k = lead_goes c (lapsed_in es) (bank es) e.found fits finds not_clearing x.busy b.knows in
-          let no_work : StepsWithoutWork (actor.Leads c) (actor.Leads (coord.goes c e.found)) = record { is = was_at; then = now_at; none = refl; none_then = refl; done = refl; not_marks = λ w is. cc; counts = (let none = none_drawn s in omega (arith, none)); earned_same = s.earned } in
-          balances (actor.Leads c) (actor.Leads (coord.goes c e.found)) no_work c (coord.goes c e.found) x.is (all_same s) (known s (coord.goes c e.found) k)
+          let s = stays_by (coord.asks setup.layout c) x.asked y in
+          let finds : coord.asks setup.layout c ≡ Load cell.Bank → e.found ≡ bank es = λ is. x.found ∙ ap (λ (q : Ask). words setup es (cell_of q)) is in
+          let not_clearing : IsClearing c.stage → ⊥ = λ z. subst IsBeside (asks_clearing setup.layout c c.stage z) y in
+          let k = lead_goes setup.layout c (lapsed_in es) (bank es) e.found fits finds not_clearing x.busy b.knows in
+          let no_work : StepsWithoutWork (actor.Leads c) (actor.Leads (coord.goes setup.layout c e.found)) = record { is = was_at; then = now_at; none = refl; none_then = refl; done = refl; not_marks = λ w is. cc; counts = (let none = none_drawn s in omega (arith, none)); earned_same = s.earned } in
+          balances (actor.Leads c) (actor.Leads (coord.goes setup.layout c e.found)) no_work c (coord.goes setup.layout c e.found) x.is (all_same s) (known s (coord.goes setup.layout c e.found) k)
 
-      clearing : IsClearing c.stage → Balanced (e ∷ es) (coord.goes c e.found)
+      clearing : IsClearing c.stage → Balanced (e ∷ es) (coord.goes setup.layout c e.found)
       clearing y =
-          let asks_is : e.ask ≡ Store cell.Bank 0 = x.asked ∙ asks_clearing c c.stage y in
-          let found_is : e.found ≡ bank es = x.found ∙ ap (λ (q : Ask). words setup es (cell_of q)) (asks_clearing c c.stage y) in
-          let k = lead_clears c (lapsed_in es) (bank es) e.found y b.knows in
+          let asks_is : e.ask ≡ Store cell.Bank 0 = x.asked ∙ asks_clearing setup.layout c c.stage y in
+          let found_is : e.found ≡ bank es = x.found ∙ ap (λ (q : Ask). words setup es (cell_of q)) (asks_clearing setup.layout c c.stage y) in
+          let k = lead_clears setup.layout c (lapsed_in es) (bank es) e.found y b.knows in
           let lapsed_now : lapsed_by e.ask e.found ≡ bank es = ap (λ (q : Ask). lapsed_by q e.found) asks_is ∙ found_is in
           let bank_now : bank (e ∷ es) ≡ 0 = ap (λ (q : Ask). effect (words setup es) q cell.Bank) asks_is in
           let earned_now : handed_by e.ask ≡ 0 = ap handed_by asks_is in
@@ -300,11 +300,11 @@ module _ (setup : Setup) (cited : Cited setup) where
           let drawn_none : spent_at (who (e ∷ es) e.actor) ≡ spent_at (who es e.actor) + drawn_by e.ask e.found = ap spent_at now_at ∙ sym (ap (λ (i : ℕ). 0 + i) spent_now) ∙ ap (λ (z : Actor). spent_at z + drawn_by e.ask e.found) (sym was_at) in
           let g = b.scanned in
           let left = total_same (λ i. left_at (who es i)) (λ i. left_at (who (e ∷ es) i)) (seats_of setup.layout) (λ i lt. left_by i (e.actor == i) refl) in
-          let done : done_by (who es e.actor) e.found ≡ 0 = ap (λ (z : Actor). done_by z e.found) was_at in
+          let done : done_by setup.layout (who es e.actor) e.found ≡ 0 = ap (λ (z : Actor). done_by setup.layout z e.found) was_at in
           record {
             earned = omega (arith, a, spent_now, lapsed_now, bank_now, earned_now);
             drawn = drawn_then c b drawn_none;
-            knows = subst (λ (i : ℕ). KnowsBank i (bank (e ∷ es)) (coord.goes c e.found).lapsed (coord.goes c e.found).stage) (ap (λ (i : ℕ). lapsed_in es + i) (sym lapsed_now)) (subst (λ (i : ℕ). KnowsBank (lapsed_in es + bank es) i (coord.goes c e.found).lapsed (coord.goes c e.found).stage) (sym bank_now) k);
+            knows = subst (λ (i : ℕ). KnowsBank i (bank (e ∷ es)) (coord.goes setup.layout c e.found).lapsed (coord.goes setup.layout c e.found).stage) (ap (λ (i : ℕ). lapsed_in es + i) (sym lapsed_now)) (subst (λ (i : ℕ). KnowsBank (lapsed_in es + bank es) i (coord.goes setup.layout c e.found).lapsed (coord.goes setup.layout c e.found).stage) (sym bank_now) k);
             scanned = omega (arith, g, left, done, earned_now);
             each = λ i w at_i. each_by i w at_i (e.actor == i) refl;
           }
@@ -316,7 +316,7 @@ module _ (setup : Setup) (cited : Cited setup) where
           left_by i false e_is = ap left_at (other setup e es i e_is)
 
           each_by : (i : ℕ) (w : Working) → who (e ∷ es) i ≡ actor.Marks w → (t : Bool) → (e.actor == i) ≡ t → w.earned ≤ earned_in es + handed_by e.ask
-          each_by i w at_i true e_is = absurd (let end : e.actor ≡ i = (let q = e_is in grind (arith, nat_tests)) in let no : actor.Leads (coord.goes c e.found) ≡ actor.Marks w = sym now_at ∙ ap (who (e ∷ es)) end ∙ at_i in cc)
+          each_by i w at_i true e_is = absurd (let end : e.actor ≡ i = (let q = e_is in grind (arith, nat_tests)) in let no : actor.Leads (coord.goes setup.layout c e.found) ≡ actor.Marks w = sym now_at ∙ ap (who (e ∷ es)) end ∙ at_i in cc)
           each_by i w at_i false e_is = let le = b.each i w (sym (other setup e es i e_is) ∙ at_i) in omega (arith, le)
 
     -- a worker's step
@@ -325,8 +325,8 @@ module _ (setup : Setup) (cited : Cited setup) where
       wb : Balanced es c
       wb = was c led
 
-      scanned_now : scanned_in setup (e ∷ es) ≡ scanned_in setup es + words_done w.layout w.stage e.found
-      scanned_now = ap (λ (z : Actor). scanned_in setup es + done_by z e.found) x.is
+      scanned_now : scanned_in setup (e ∷ es) ≡ scanned_in setup es + words_done setup.layout w.stage e.found
+      scanned_now = ap (λ (z : Actor). scanned_in setup es + done_by setup.layout z e.found) x.is
 
       left_was : w.scan_work ≤ left_among (who es) (seats_of setup.layout)
       left_was = subst (λ (z : Actor). left_at z ≤ left_among (who es) (seats_of setup.layout)) x.is (total_has (λ a. left_at (who es a)) (seats_of setup.layout) e.actor seat_of_it)
@@ -334,28 +334,28 @@ module _ (setup : Setup) (cited : Cited setup) where
       earned_was : w.earned ≤ earned_in es
       earned_was = wb.each e.actor w x.is
 
-      small : w.earned + w.scan_work + words_done w.layout w.stage e.found < 2 ^ 64
+      small : w.earned + w.scan_work + words_done setup.layout w.stage e.found < 2 ^ 64
       small = let a = wb.scanned in let d = scanned_now in let f = cited.few (e ∷ es) legal in let g = left_was in let h = earned_was in omega (arith, a, d, f, g, h)
 
-      left_now : left_among (who (e ∷ es)) (seats_of setup.layout) + w.scan_work ≡ left_among (who es) (seats_of setup.layout) + (worker.goes w e.found).scan_work
+      left_now : left_among (who (e ∷ es)) (seats_of setup.layout) + w.scan_work ≡ left_among (who es) (seats_of setup.layout) + (worker.goes setup.layout w e.found).scan_work
       left_now =
           let one = total_at (λ a. left_at (who es a)) (λ a. left_at (who (e ∷ es) a)) (seats_of setup.layout) e.actor seat_of_it (λ a lt ne. ap left_at (others a ne)) in
           let two : left_at (who es e.actor) ≡ w.scan_work = ap left_at x.is in
-          let three : left_at (who (e ∷ es) e.actor) ≡ (worker.goes w e.found).scan_work = ap left_at x.then in
+          let three : left_at (who (e ∷ es) e.actor) ≡ (worker.goes setup.layout w e.found).scan_work = ap left_at x.then in
           omega (arith, one, two, three)
 
       -- it draws nothing
       drawn_same : drawn_by e.ask e.found ≡ 0 → spent_in (e ∷ es) ≡ spent_among (who (e ∷ es)) (seats_of setup.layout)
       drawn_same none = drawn_then c wb (ap spent_at x.then ∙ sym (ap (λ (i : ℕ). 0 + i) none) ∙ ap (λ (z : Actor). spent_at z + drawn_by e.ask e.found) (sym x.is))
 
-      handed : handed_by e.ask ≡ handed_by (worker.asks w)
+      handed : handed_by e.ask ≡ handed_by (worker.asks setup.layout w)
       handed = ap handed_by x.asked
 
-      earns_so : (worker.goes w e.found).earned ≡ w.earned + handed_by (worker.asks w)
-      earns_so = (cited.earns.earns w e.found x.sound_it x.busy small).counts
+      earns_so : (worker.goes setup.layout w e.found).earned ≡ w.earned + handed_by (worker.asks setup.layout w)
+      earns_so = (cited.earns.earns setup.layout w e.found x.sound_it x.busy small).counts
 
-      counts_so : (worker.goes w e.found).earned + (worker.goes w e.found).scan_work ≡ w.earned + w.scan_work + words_done w.layout w.stage e.found
-      counts_so = (cited.earns.earns w e.found x.sound_it x.busy small).keeps
+      counts_so : (worker.goes setup.layout w e.found).earned + (worker.goes setup.layout w e.found).scan_work ≡ w.earned + w.scan_work + words_done setup.layout w.stage e.found
+      counts_so = (cited.earns.earns setup.layout w e.found x.sound_it x.busy small).keeps
 
       scanned_then : scanned_in setup (e ∷ es) ≡ earned_in (e ∷ es) + left_among (who (e ∷ es)) (seats_of setup.layout)
       scanned_then =
@@ -373,16 +373,16 @@ module _ (setup : Setup) (cited : Cited setup) where
         go : (t : Bool) → (e.actor == a) ≡ t → v.earned ≤ earned_in es + handed_by e.ask
         go true e_is =
             let end : e.actor ≡ a = (let q = e_is in grind (arith, nat_tests)) in
-            let both : actor.Marks (worker.goes w e.found) ≡ actor.Marks v = sym x.then ∙ ap (who (e ∷ es)) end ∙ at_a in
-            let is : worker.goes w e.found ≡ v = cc in
-            let same : (worker.goes w e.found).earned ≡ v.earned = ap (λ (z : Working). z.earned) is in
+            let both : actor.Marks (worker.goes setup.layout w e.found) ≡ actor.Marks v = sym x.then ∙ ap (who (e ∷ es)) end ∙ at_a in
+            let is : worker.goes setup.layout w e.found ≡ v = cc in
+            let same : (worker.goes setup.layout w e.found).earned ≡ v.earned = ap (λ (z : Working). z.earned) is in
             let g = earns_so in
             let i = handed in
             omega (arith, same, g, i, le)
         go false e_is = let old = wb.each a v (sym (other setup e es a e_is) ∙ at_a) in omega (arith, old)
 
       -- not on the bank
-      off_bank : (q : Ask) → worker.asks w ≡ q → IsBeside q → Balanced (e ∷ es) c
+      off_bank : (q : Ask) → worker.asks setup.layout w ≡ q → IsBeside q → Balanced (e ∷ es) c
       off_bank q is y =
           let s = stays_by q (x.asked ∙ is) y in
           let a = wb.earned in
@@ -397,7 +397,7 @@ module _ (setup : Setup) (cited : Cited setup) where
           }
 
       -- A hand-over: the coordinator marks a cycle then, and the world is not stopped.
-      module _ (more : ℕ) (is : worker.asks w ≡ Add cell.Bank more) (no_sweep : worker.sweep_in w ≡ None) where
+      module _ (more : ℕ) (is : worker.asks setup.layout w ≡ Add cell.Bank more) (no_sweep : worker.sweep_in w ≡ None) where
         ask_is : e.ask ≡ Add cell.Bank more
         ask_is = x.asked ∙ is
 
@@ -407,7 +407,7 @@ module _ (setup : Setup) (cited : Cited setup) where
         marks : leading.Marks c.stage
         marks = elim (marks_or_not c.stage) [
           | inl on ↦ on
-          | inr off ↦ absurd (let quiet : IsCalm w = cited.rests es legal.0 c e.actor w led off x.is in subst (AcksAlone w.seat) is (cited.calm.writes w x.sound_it quiet no_sweep x.busy))
+          | inr off ↦ absurd (let quiet : IsCalm w = cited.rests es legal.0 c e.actor w led off x.is in subst (AcksAlone w.seat) is (cited.calm.writes setup.layout w x.sound_it quiet no_sweep x.busy))
         ]
 
         hands_over : Balanced (e ∷ es) c
@@ -430,12 +430,12 @@ module _ (setup : Setup) (cited : Cited setup) where
             }
 
       works_on : Balanced (e ∷ es) c
-      works_on = elim (asks_by_sweep w w.stage) [
-        | inl none ↦ elim (worker_beside w.seat (worker.asks w) (cited.works w x.sound_it none x.busy)) [
-          | inl y ↦ off_bank (worker.asks w) refl y
+      works_on = elim (asks_by_sweep setup.layout w w.stage) [
+        | inl none ↦ elim (worker_beside w.seat (worker.asks setup.layout w) (cited.works setup.layout w x.sound_it none x.busy)) [
+          | inl y ↦ off_bank (worker.asks setup.layout w) refl y
           | inr y ↦ hands_over y.0 y.1 none
         ]
-        | inr y ↦ off_bank (sweep.asks w.layout y.0) y.1 (sweep_beside w.layout y.0 (y.0).stage)
+        | inr y ↦ off_bank (sweep.asks setup.layout y.0) y.1 (sweep_beside setup.layout y.0 (y.0).stage)
       ]
 
     by_step : seats.Step setup e es → Balance (e ∷ es)

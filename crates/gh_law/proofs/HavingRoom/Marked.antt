@@ -62,7 +62,7 @@ module _ (setup : Setup) (es : List (Entry Op)) (c : Coordinating) (d : CycleIsD
     go : (x : Actor) → state_of (actors setup) a es ≡ x → IsSeated setup.layout a x → Has a
     go (actor.Runs m) is at = absurd (omega (arith, from, at))
     go (actor.Marks w) is at = worker_has d.cycle a s w (d.tied.workers a w below is)
-    go (actor.Leads y) is at = let le : acks_of setup.layout ≤ a = at.0 in absurd (omega (arith, below, le))
+    go (actor.Leads y) is at = absurd (omega (arith, below, at))
 
   each : (a : ℕ) → a < seats_of setup.layout → Has a
   each a lt = go (ltb a setup.layout.procs) (ltb a (acks_of setup.layout)) refl refl where

@@ -16,7 +16,7 @@ module _ (given : Given) (good : ShapesAreGood given.shapes) (limits : IsInLimit
   all = actors (setup_for given)
 
   abbrev IsWithin : Actor → Type 0
-  IsWithin m = InRange given.layout (cell_of (handshake.asks m))
+  IsWithin m = InRange given.layout (cell_of (handshake.asks given.layout m))
 
   pub steps_within : (es : List (Entry Op)) → HasState (setup_for given) es → StepsWithin (setup_for given) es
   steps_within es has a o step = go (state_of all a es) refl where

@@ -29,7 +29,7 @@ module _ (given : Given) (good : ShapesAreGood given.shapes) (known : Known) whe
     idle p is = sym (ap is_busy here) ∙ (begins_now p is).0
 
     abbrev IsWithin : Option Op → Type 0
-    IsWithin q = InRange given.layout (cell_of (asks (started k q m)))
+    IsWithin q = InRange given.layout (cell_of (asks given.layout (started k q m)))
 
     -- by its rights
     module _ (has : HasState (setup_for given) es) where

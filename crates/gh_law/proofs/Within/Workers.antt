@@ -29,12 +29,12 @@ StageWithin l (at.FindRoom sh r) = ShadeWithin l sh × RoomWithin l r
 StageWithin l _ = Unit {0}
 
 -- a worker's own numbers, and those of the routine that it runs, whatever the words hold
-pub record FitsWhole (w : Working) : Type 0 where
-  pub pages : 1 ≤ w.layout.pages
-  pub seat : IsWorkersSeat w.layout w.seat
-  pub held : IsHeld w.layout w.held
-  pub page : w.page < w.layout.pages
-  pub stage : StageWithin w.layout w.stage
+pub record FitsWhole (l : Layout) (w : Working) : Type 0 where
+  pub pages : 1 ≤ l.pages
+  pub seat : IsWorkersSeat l w.seat
+  pub held : IsHeld l w.held
+  pub page : w.page < l.pages
+  pub stage : StageWithin l w.stage
 
 -- routines whose steps depend on few of their numbers
 
@@ -56,52 +56,49 @@ earn_within l x p = grind arith
 give_within : (l : Layout) (g : give.BufferGiving) → SoundGiveStage l g.stage → InRange l (cell_of (give.asks g))
 give_within l g f = grind arith
 
-module _ (k : TakingAndScanningAreWithin) (w : Working) (f : FitsWhole w) where
-  abbrev l : Layout
-  l = w.layout
-
+module _ (k : TakingAndScanningAreWithin) (l : Layout) (w : Working) (f : FitsWhole l w) where
   -- at another stage, with this held
-  on : (held : Option Held) (stage : WorkerStage) → IsHeld l held → StageWithin l stage → FitsWhole (record w { held = held; stage = stage })
+  on : (held : Option Held) (stage : WorkerStage) → IsHeld l held → StageWithin l stage → FitsWhole l (record w { held = held; stage = stage })
   on held stage h s = record { pages = f.pages; seat = f.seat; held = h; page = f.page; stage = s }
 
-  at_stage : (stage : WorkerStage) → StageWithin l stage → FitsWhole (worker.at_stage w stage)
+  at_stage : (stage : WorkerStage) → StageWithin l stage → FitsWhole l (worker.at_stage w stage)
   at_stage stage s = on w.held stage f.held s
 
-  done_with : (held : Option Held) (words : ℕ) → IsHeld l held → FitsWhole (worker.done_with w held words)
+  done_with : (held : Option Held) (words : ℕ) → IsHeld l held → FitsWhole l (worker.done_with w held words)
   done_with held words h = record { pages = f.pages; seat = f.seat; held = h; page = f.page; stage = by_work (StageWithin l) (worker.counted w.scan_work words) tt tt }
 
   gives_back : (stops : ℕ) (held : Option Held) → IsHeld l held → StageWithin l (worker.gives_back w stops held)
   gives_back stops held h = grind arith
 
-  handed_over : (stage : WorkerStage) → StageWithin l stage → FitsWhole (worker.handed_over w stage)
+  handed_over : (stage : WorkerStage) → StageWithin l stage → FitsWhole l (worker.handed_over w stage)
   handed_over stage s = record { pages = f.pages; seat = f.seat; held = f.held; page = f.page; stage = s }
 
   by_phase : (stops : ℕ) (found : Phase) → StageWithin l (worker.by_phase w stops found)
   by_phase stops found = grind (arith, nat_tests)
 
-  after_page : (word : PageWord) → FitsWhole (worker.after_page w word)
+  after_page : (word : PageWord) → FitsWhole l (worker.after_page l w word)
   after_page word = grind (arith, nat_tests)
 
-  after_sweep : (sw : sweep.Sweeping) (out : Option SweepEnd) → sw.page < l.pages → FitsWhole (worker.after_sweep w sw out)
+  after_sweep : (sw : sweep.Sweeping) (out : Option SweepEnd) → sw.page < l.pages → FitsWhole l (worker.after_sweep l w sw out)
   after_sweep sw out s = grind arith
 
-  after_resume : (r : resume.Resuming) (out : Option Resumed) → r.seat < l.procs + l.workers → FitsWhole (worker.after_resume w r out)
+  after_resume : (r : resume.Resuming) (out : Option Resumed) → r.seat < l.procs + l.workers → FitsWhole l (worker.after_resume w r out)
   after_resume r out s = grind arith
 
-  after_take : (t : take.EntryTaking) (out : Option (Option ℕ)) → TakeWithin l t → TakenIsReference l out → FitsWhole (worker.after_take w t out)
+  after_take : (t : take.EntryTaking) (out : Option (Option ℕ)) → TakeWithin l t → TakenIsReference l out → FitsWhole l (worker.after_take w t out)
   after_take t out s r = grind arith
 
-  after_scan : (s : scan.Scanning) (out : Option ℕ) → ScanWithin l s → FitsWhole (worker.after_scan w s out)
+  after_scan : (s : scan.Scanning) (out : Option ℕ) → ScanWithin l s → FitsWhole l (worker.after_scan w s out)
   after_scan s None x = at_stage (at.Scanning s) x
   after_scan s (Some words) x = done_with _ words (k.scan_holds l s x)
 
-  after_global : (found : ℕ) (b : Bool) → FitsWhole (cond b (worker.done_with w w.held 1) (worker.at_stage w (at.Shading (shade.opening (scan.reference_in l found) w.held))))
+  after_global : (found : ℕ) (b : Bool) → FitsWhole l (cond b (worker.done_with w w.held 1) (worker.at_stage w (at.Shading (shade.opening (scan.reference_in l found) w.held))))
   after_global found b = grind arith
 
-  after_shade : (sh : shade.Shading) (out : Option Shaded) → ShadeWithin l sh → FitsWhole (worker.after_shade w sh out)
+  after_shade : (sh : shade.Shading) (out : Option Shaded) → ShadeWithin l sh → FitsWhole l (worker.after_shade w sh out)
   after_shade sh out s = grind (arith, nat_tests)
 
-  after_room : (sh : shade.Shading) (r : room.RoomFinding) (out : Option Held) → ShadeWithin l sh → RoomWithin l r → HasRoomForEntry l out → FitsWhole (worker.after_room w sh r out)
+  after_room : (sh : shade.Shading) (r : room.RoomFinding) (out : Option Held) → ShadeWithin l sh → RoomWithin l r → HasRoomForEntry l out → FitsWhole l (worker.after_room w sh r out)
   after_room sh r out s x g = grind arith
 
   cursor_leads : (b : Bool) → StageWithin l (cond b at.Claim at.LoadPhase)
@@ -110,7 +107,7 @@ module _ (k : TakingAndScanningAreWithin) (w : Working) (f : FitsWhole w) where
   claim_leads : (found : ℕ) (b : Bool) → ltb found l.globals ≡ b → StageWithin l (cond b (at.LoadGlobal found) at.LoadPhase)
   claim_leads found b e = grind arith
 
-  goes_at : (p : WorkerStage) (found : ℕ) → StageWithin l p → FitsWhole (worker.goes_at w p found)
+  goes_at : (p : WorkerStage) (found : ℕ) → StageWithin l p → FitsWhole l (worker.goes_at l w p found)
   goes_at at.LoadPhase found s = at_stage _ (by_phase (phase_of found).stops (phase_of found).phase)
   goes_at at.LoadPage found s = after_page (page_of found)
   goes_at (at.Sweeping sw) found s = after_sweep (sweep.goes sw found) (sweep.gives sw found) (rw (span_stays sw found) s)
@@ -128,7 +125,7 @@ module _ (k : TakingAndScanningAreWithin) (w : Working) (f : FitsWhole w) where
   goes_at at.Leave found s = at_stage at.Done tt
   goes_at at.Done found s = at_stage at.Done tt
 
-  within_at : (p : WorkerStage) → StageWithin l p → InRange l (cell_of (worker.asks_at w p))
+  within_at : (p : WorkerStage) → StageWithin l p → InRange l (cell_of (worker.asks_at l w p))
   within_at at.LoadPage s = f.page
   within_at (at.Sweeping sw) s = span_within l sw s
   within_at (at.EarningAtStop x stops) s = earn_within l x x.stage
@@ -143,8 +140,8 @@ module _ (k : TakingAndScanningAreWithin) (w : Working) (f : FitsWhole w) where
   within_at at.Leave s = f.seat.below
   within_at _ s = tt
 
-pub goes_on : TakingAndScanningAreWithin → (w : Working) (found : ℕ) → FitsWhole w → FitsWhole (worker.goes w found)
-goes_on k w found f = goes_at k w f w.stage found f.stage
+pub goes_on : TakingAndScanningAreWithin → (l : Layout) (w : Working) (found : ℕ) → FitsWhole l w → FitsWhole l (worker.goes l w found)
+goes_on k l w found f = goes_at k l w f w.stage found f.stage
 
-pub within : TakingAndScanningAreWithin → (w : Working) → FitsWhole w → InRange w.layout (cell_of (worker.asks w))
-within k w f = within_at k w f w.stage f.stage
+pub within : TakingAndScanningAreWithin → (l : Layout) (w : Working) → FitsWhole l w → InRange l (cell_of (worker.asks l w))
+within k l w f = within_at k l w f w.stage f.stage

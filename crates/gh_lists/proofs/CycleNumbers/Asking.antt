@@ -6,7 +6,7 @@ use Rattle.gh_poll.specs.declared.wait.WaitStage.TheVariants as waiting
 use Rattle.gh_mutator.specs.New as new
 use Rattle.gh_poll.specs.Wait as wait
 use Rattle.gh_lists.specs.Numbers.{asks_for_one}
-use Rattle.gh_lists.proofs.Vocabulary.{after_assist, after_gc, after_leave, after_poll, Ask, asked_after, asks, Assist, Assisting, follows, Found, IsWanting, IsWritten, Leaving, Name, NewStage, Op, Place, Placing, Polling, Processor, Search, Seeking, Shape, takes, takes_at, Task, Then, Wait, WaitStage, Want, Wanted, WritesOf}
+use Rattle.gh_lists.proofs.Vocabulary.{after_assist, after_gc, after_leave, after_poll, Ask, asked_after, asks, Assist, Assisting, follows, Found, IsWanting, IsWritten, Layout, Leaving, Name, NewStage, Op, Place, Placing, Polling, Processor, Search, Seeking, Shape, takes, takes_at, Task, Then, Wait, WaitStage, Want, Wanted, WritesOf}
 
 -- an operation asks for so many cycles at the most
 abbrev pub most_asks : Op → ℕ
@@ -40,8 +40,8 @@ left m = left_at m.task
 follows_asks : {S : Type 0} (goes : S → Task) → ((s : S) → left_at (goes s) ≡ 0) → (t : Then S) → left_at (follows goes t) ≡ 0
 follows_asks goes none t = grind arith
 
-module _ (shapes : List Shape) (m : Processor) (found : ℕ) where
-  waits_on : (w : wait.Waiting) (s : WaitStage) → left_wait (wait.goes_at w s found).wait.stage ≡ 0
+module _ (l : Layout) (shapes : List Shape) (m : Processor) (found : ℕ) where
+  waits_on : (w : wait.Waiting) (s : WaitStage) → left_wait (wait.goes_at l w s found).wait.stage ≡ 0
   waits_on w s = grind arith
 
   search_asks : (c : Processor) (w : Wanted) (waited : Bool) (q : Seeking) (o : Option Found) → left (new.after_search shapes c w waited q o) ≤ cond waited 1 2
@@ -68,22 +68,22 @@ module _ (shapes : List Shape) (m : Processor) (found : ℕ) where
   at_most : (a b : ℕ) → a ≡ 0 → a ≤ b
   at_most a b is = omega (arith, is)
 
-  new_adds : (w : Wanted) (s : NewStage) → left (new.takes_at shapes m w s found) ≤ left_new s
+  new_adds : (w : Wanted) (s : NewStage) → left (new.takes_at l shapes m w s found) ≤ left_new s
   new_adds w s = grind (arith, assist_asks, at_most, place_asks, search_asks, wait_asks, waits_on)
 
-  adds_nothing : (t : Task) → left (takes_at shapes m t found) ≤ left_at t ⊎ (left (takes_at shapes m t found) ≤ left m)
+  adds_nothing : (t : Task) → left (takes_at l shapes m t found) ≤ left_at t ⊎ (left (takes_at l shapes m t found) ≤ left m)
   adds_nothing t = grind (arith, at_most, follows_asks, gc_asks, leave_asks, new_adds, poll_asks, waits_on)
 
-  no_more : left (takes shapes m found) ≤ left m
+  no_more : left (takes l shapes m found) ≤ left m
   no_more = grind (arith, adds_nothing)
 
-  wants_at : (t : Task) → IsWanting t → suc (left (takes_at shapes m t found)) ≤ left_at t
+  wants_at : (t : Task) → IsWanting t → suc (left (takes_at l shapes m t found)) ≤ left_at t
   wants_at t h = grind arith
 
-  asks_there : (q : Ask) → WritesOf (IsWritten m) q → asks_for_one q ≡ true → IsWanting m.task
+  asks_there : (q : Ask) → WritesOf (IsWritten l m) q → asks_for_one q ≡ true → IsWanting m.task
   asks_there q w is = grind arith
 
-  pub asked_once : WritesOf (IsWritten m) (asks m) → asked_after (asks m) (left (takes shapes m found)) ≤ left m
-  asked_once w = go (asks_for_one (asks m)) refl where
-    go : (b : Bool) → asks_for_one (asks m) ≡ b → cond b (suc (left (takes shapes m found))) (left (takes shapes m found)) ≤ left m
+  pub asked_once : WritesOf (IsWritten l m) (asks l m) → asked_after (asks l m) (left (takes l shapes m found)) ≤ left m
+  asked_once w = go (asks_for_one (asks l m)) refl where
+    go : (b : Bool) → asks_for_one (asks l m) ≡ b → cond b (suc (left (takes l shapes m found))) (left (takes l shapes m found)) ≤ left m
     go b is = grind (arith, asks_there, no_more, wants_at)

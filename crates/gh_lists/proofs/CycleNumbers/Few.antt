@@ -82,7 +82,7 @@ module _ (setup : Setup)
         let now : left_at (e ∷ es) e.actor ≡ left (k.takes (started k e.begun m) e.found) = ap left_of x.then in
         let one = asked_is e.ask in
         let asked : asked_in (e ∷ es) ≡ one.0 + asked_in es = one.1 (asked_in es) in
-        let less : asked_after e.ask (left (k.takes (started k e.begun m) e.found)) ≤ left (started k e.begun m) = subst (λ (q : Ask). asked_after q (left (k.takes (started k e.begun m) e.found)) ≤ left (started k e.begun m)) (sym x.asked) (asked_once setup.shapes (started k e.begun m) e.found (writes.writes (started k e.begun m) x.sound_then)) in
+        let less : asked_after e.ask (left (k.takes (started k e.begun m) e.found)) ≤ left (started k e.begun m) = subst (λ (q : Ask). asked_after q (left (k.takes (started k e.begun m) e.found)) ≤ left (started k e.begun m)) (sym x.asked) (asked_once setup.layout setup.shapes (started k e.begun m) e.found (writes.writes setup.layout (started k e.begun m) x.sound_then)) in
         let left_then : asked_after e.ask (left (k.takes (started k e.begun m) e.found)) ≡ one.0 + left (k.takes (started k e.begun m) e.found) = one.1 (left (k.takes (started k e.begun m) e.found)) in
         let more : left (started k e.begun m) ≤ left m + may_ask e.begun = begun_left m e.begun x.is legal.1.begins in
         omega (arith, moved, was, now, asked, less, left_then, more, h)

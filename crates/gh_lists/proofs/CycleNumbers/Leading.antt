@@ -9,7 +9,7 @@ use Rattle.gh_coord.specs.Listing.{is_busy}
 use Rattle.gh_coord.specs.Opening as opens_by
 use Rattle.gh_coord.specs.Telling as tell
 use Rattle.gh_coord.specs.Watching as watch
-use Rattle.gh_lists.proofs.Vocabulary.{after_check, after_close, after_count, after_open, after_tell, All, Ask, asks_at, at_stage, Begun, cell_of, Check, Checked, Close, CloseStage, Coordinating, CoordStage, Count, CountStage, Done, effect, Ended, goes_at, NotYet, Open, opened_after, OpenStage, Part, part_of, Tell, TellStage, Watched, Words}
+use Rattle.gh_lists.proofs.Vocabulary.{after_check, after_close, after_count, after_open, after_tell, All, Ask, asks_at, at_stage, Begun, cell_of, Check, Checked, Close, CloseStage, Coordinating, CoordStage, Count, CountStage, Done, effect, Ended, goes_at, Layout, NotYet, Open, opened_after, OpenStage, Part, part_of, Tell, TellStage, Watched, Words}
 use Rattle.gh_lists.specs.Frames.{CycleWords, numbers_of}
 use Rattle.gh_lists.specs.Quiet.{Quiet, watch_quiet}
 use Rattle.gh_lists.specs.Parts.{At, Own, own_counts, to_checked, to_counted}
@@ -24,7 +24,7 @@ module _ (room : ℕ) where
     pub at : At room opened n (own_counts c) (part_of p)
     pub reads : Reads c p
 
-  module _ (opened : ℕ) (w : Words) (s : Coordinating) (marks : ℕ) where
+  module _ (opened : ℕ) (w : Words) (l : Layout) (s : Coordinating) (marks : ℕ) where
     -- with its steps counted
     abbrev u : Coordinating
     u = record s { marks = marks }
@@ -48,10 +48,10 @@ module _ (room : ℕ) where
     opening o p found b e h = grind arith
 
     -- it is marked
-    checking : (v next : watch.Watching) (out : Option Watched) → opened + 2 ≤ 2 ^ 33 → In Begun → Next (watch.asks s.layout v) (after_check (at_stage u (Check next)) out)
-    checking v next None few h = record { at = keeps (watch.asks s.layout v) (own_counts s) Begun (watch_quiet w s.layout v.stage) h; reads = tt }
-    checking v next (Some All) few h = record { at = keeps (watch.asks s.layout v) _ Checked (watch_quiet w s.layout v.stage) (to_checked room opened n (own_counts s) few h); reads = tt }
-    checking v next (Some NotYet) few h = record { at = keeps (watch.asks s.layout v) (own_counts s) Begun (watch_quiet w s.layout v.stage) h; reads = tt }
+    checking : (v next : watch.Watching) (out : Option Watched) → opened + 2 ≤ 2 ^ 33 → In Begun → Next (watch.asks l v) (after_check (at_stage u (Check next)) out)
+    checking v next None few h = record { at = keeps (watch.asks l v) (own_counts s) Begun (watch_quiet w l v.stage) h; reads = tt }
+    checking v next (Some All) few h = record { at = keeps (watch.asks l v) _ Checked (watch_quiet w l v.stage) (to_checked room opened n (own_counts s) few h); reads = tt }
+    checking v next (Some NotYet) few h = record { at = keeps (watch.asks l v) (own_counts s) Begun (watch_quiet w l v.stage) h; reads = tt }
 
     -- its marking is ended
     closing : (c : close.Closing) (p : CloseStage) (found : ℕ) → close.is_busy p ≡ true → c.generation ≡ s.generation → In (part_of (Close (record c { stage = p }))) →
@@ -60,7 +60,7 @@ module _ (room : ℕ) where
 
     -- what the sweep has counted is read, and told
     counting : (c : count.Counting) (p : CountStage) (found : ℕ) → count.is_busy p ≡ true → In Ended →
-        Next (count.asks_at p) (after_count (at_stage u (Count (count.goes_at c p found))) (count.given (count.goes_at c p found)))
+        Next (count.asks_at p) (after_count l (at_stage u (Count (count.goes_at c p found))) (count.given (count.goes_at c p found)))
     counting c count_stage.LoadTally found b h = record { at = h; reads = tt }
     counting c (count_stage.LoadLive t) found b h = record { at = to_counted room opened n (own_counts s) t h; reads = refl }
     counting c (count_stage.Ended x) found b h = absurd cc
@@ -75,11 +75,11 @@ module _ (room : ℕ) where
     close_generation : (c : close.Closing) → SoundAt s (Close c) → c.generation ≡ s.generation
     close_generation c e = ap (λ (x : close.Closing). x.generation) e
 
-    pub goes_so : (p : CoordStage) (found : ℕ) → SoundAt s p → opened + 2 ≤ 2 ^ 33 → is_busy p ≡ true → found ≡ w (cell_of (asks_at s p)) → Is opened n s p → Next (asks_at s p) (goes_at u p found)
+    pub goes_so : (p : CoordStage) (found : ℕ) → SoundAt s p → opened + 2 ≤ 2 ^ 33 → is_busy p ≡ true → found ≡ w (cell_of (asks_at l s p)) → Is opened n s p → Next (asks_at l s p) (goes_at l u p found)
     goes_so (Open o) found e few b f h = opening o o.stage found b (open_cycle o e) h.at
-    goes_so (Check v) found e few b f h = checking v (watch.goes s.layout v found) (watch.given (watch.goes s.layout v found)) few h.at
+    goes_so (Check v) found e few b f h = checking v (watch.goes l v found) (watch.given (watch.goes l v found)) few h.at
     goes_so (Close c) found e few b f h = closing c c.stage found b (close_generation c e) h.at
     goes_so (Count c) found e few b f h = counting c c.stage found b h.at
     goes_so (Tell t) found e few b f h = telling t t.stage b h.reads h.at
     goes_so Done found e few b f h = absurd cc
-    goes_so p found e few b f h = by_event u found (Next (asks_at s p)) p (λ x may. grind arith)
+    goes_so p found e few b f h = by_event l u found (Next (asks_at l s p)) p (λ x may. grind arith)

@@ -59,27 +59,27 @@ module _ (setup : Setup)
     beside : LeavesCycleWords (seats.words setup es) e.ask → (c : coord.Coordinating) → Holds es c → Holds (e ∷ es) c
     beside x c h = rw (x.opens_none (opened_in es), x.numbers) h
 
-    by_lead : (c to : coord.Coordinating) → seats.LeadsIt setup e es c → to ≡ coord.goes c e.found → IsFew es → Holds es c → Holds (e ∷ es) to
+    by_lead : (c to : coord.Coordinating) → seats.LeadsIt setup e es c → to ≡ coord.goes setup.layout c e.found → IsFew es → Holds es c → Holds (e ∷ es) to
     by_lead c to x then few h =
-        let next = goes_so setup.pacing.room (opened_in es) (seats.words setup es) c (coord.counted c).marks c.stage e.found x.sound_it.1 few x.busy x.found h in
-        subst (λ (y : coord.Coordinating). Holds (e ∷ es) y) (sym then) (subst (λ (q : Ask). Is setup.pacing.room (opened_after q (opened_in es)) (numbers_of (effect (seats.words setup es) q)) (coord.goes c e.found) (coord.goes c e.found).stage) (sym x.asked) next)
+        let next = goes_so setup.pacing.room (opened_in es) (seats.words setup es) setup.layout c (coord.counted c).marks c.stage e.found x.sound_it.1 few x.busy x.found h in
+        subst (λ (y : coord.Coordinating). Holds (e ∷ es) y) (sym then) (subst (λ (q : Ask). Is setup.pacing.room (opened_after q (opened_in es)) (numbers_of (effect (seats.words setup es) q)) (coord.goes setup.layout c e.found) (coord.goes setup.layout c e.found).stage) (sym x.asked) next)
 
     by_step : seats.Step setup e es → IsFew (e ∷ es) → ((c : coord.Coordinating) → Led es c → Holds es c) → (c : coord.Coordinating) → Led (e ∷ es) c → Holds (e ∷ es) c
     by_step (seats.by_processor m x stays) few before c led =
-        let free = subst (λ (q : Ask). LeavesCycleWords (seats.words setup es) q) (sym x.asked) (leaves (seats.words setup es) _ (leaves_numbers writes (started k e.begun m) x.sound_then)) in
+        let free = subst (λ (q : Ask). LeavesCycleWords (seats.words setup es) q) (sym x.asked) (leaves (seats.words setup es) _ (leaves_numbers writes setup.layout (started k e.begun m) x.sound_then)) in
         beside free c (before c (sym stays ∙ led))
     by_step (seats.by_worker w x stays) few before c led =
-        let free = subst (λ (q : Ask). LeavesCycleWords (seats.words setup es) q) (sym x.asked) (leaves_all (seats.words setup es) _ (worker_quiet (seats.words setup es) works w x.sound_it x.busy)) in
+        let free = subst (λ (q : Ask). LeavesCycleWords (seats.words setup es) q) (sym x.asked) (leaves_all (seats.words setup es) _ (worker_quiet (seats.words setup es) works setup.layout w x.sound_it x.busy)) in
         beside free c (before c (sym stays ∙ led))
     by_step (seats.by_lead b x) few before c led =
-        by_lead b c x (let both : actor.Leads c ≡ actor.Leads (coord.goes b e.found) = sym led ∙ x.then in cc) (few_before few) (before b x.is)
+        by_lead b c x (let both : actor.Leads c ≡ actor.Leads (coord.goes setup.layout b e.found) = sym led ∙ x.then in cc) (few_before few) (before b x.is)
 
   pub holds : (es : List (Entry Op)) → Legal (seats.it setup) es → IsFew es → (c : coord.Coordinating) → Led es c → Holds es c
   holds [] legal few c led = at_first c led
   holds (e ∷ es) legal few c led = by_step e es (seats.step setup e es writes legal (keeps es legal.0)) few (λ x was. holds es legal.0 (few_before e es few) x was) c led
 
   lead_sound : (es : List (Entry Op)) (c : coord.Coordinating) → Legal (seats.it setup) es → Led es c → leading.Sound c
-  lead_sound es c legal led = (subst (Sound setup.layout) led ((keeps es legal).shakes.all_sound (seats.n setup) (omega arith))).1
+  lead_sound es c legal led = subst (Sound setup.layout) led ((keeps es legal).shakes.all_sound (seats.n setup) (omega arith))
 
   pub counts : (es : List (Entry Op)) (c : coord.Coordinating) → Legal (seats.it setup) es → IsFew es → Led es c → CountsCycles (seats.it setup) setup.pacing.room es c
   counts es c legal few led = let s = lead_sound es c legal led in let h = (holds es legal few c led).at in record {

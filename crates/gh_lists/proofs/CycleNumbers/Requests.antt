@@ -40,21 +40,21 @@ module _ (setup : Setup)
     beside : LeavesCycleWords (seats.words setup es) e.ask → (c : coord.Coordinating) → Holds es c → Holds (e ∷ es) c
     beside x c h = grind arith
 
-    by_lead : (c to : coord.Coordinating) → seats.LeadsIt setup e es c → to ≡ coord.goes c e.found → Holds es c → Holds (e ∷ es) to
+    by_lead : (c to : coord.Coordinating) → seats.LeadsIt setup e es c → to ≡ coord.goes setup.layout c e.found → Holds es c → Holds (e ∷ es) to
     by_lead c to x then h =
-        let next = goes_so (opened_in es) (asked_in es) (seats.words setup es) c (coord.counted c).marks c.stage e.found x.busy x.found h in
+        let next = goes_so (opened_in es) (asked_in es) (seats.words setup es) setup.layout c (coord.counted c).marks c.stage e.found x.busy x.found h in
         subst (λ (y : coord.Coordinating). Holds (e ∷ es) y) (sym then)
-        (subst (λ (q : Ask). WantsAt (opened_after q (opened_in es)) (asked_after q (asked_in es)) (effect (seats.words setup es) q cell.Want) (coord.goes c e.found).is_last (coord.goes c e.found).stage) (sym x.asked) next)
+        (subst (λ (q : Ask). WantsAt (opened_after q (opened_in es)) (asked_after q (asked_in es)) (effect (seats.words setup es) q cell.Want) (coord.goes setup.layout c e.found).is_last (coord.goes setup.layout c e.found).stage) (sym x.asked) next)
 
     by_step : seats.Step setup e es → ((c : coord.Coordinating) → Led es c → Holds es c) → (c : coord.Coordinating) → Led (e ∷ es) c → Holds (e ∷ es) c
     by_step (seats.by_processor m x stays) before c led =
-        let free = subst (λ (q : Ask). LeavesCycleWords (seats.words setup es) q) (sym x.asked) (leaves (seats.words setup es) _ (leaves_numbers writes (started k e.begun m) x.sound_then)) in
+        let free = subst (λ (q : Ask). LeavesCycleWords (seats.words setup es) q) (sym x.asked) (leaves (seats.words setup es) _ (leaves_numbers writes setup.layout (started k e.begun m) x.sound_then)) in
         beside free c (before c (sym stays ∙ led))
     by_step (seats.by_worker w x stays) before c led =
-        let free = subst (λ (q : Ask). LeavesCycleWords (seats.words setup es) q) (sym x.asked) (leaves_all (seats.words setup es) _ (worker_quiet (seats.words setup es) works w x.sound_it x.busy)) in
+        let free = subst (λ (q : Ask). LeavesCycleWords (seats.words setup es) q) (sym x.asked) (leaves_all (seats.words setup es) _ (worker_quiet (seats.words setup es) works setup.layout w x.sound_it x.busy)) in
         beside free c (before c (sym stays ∙ led))
     by_step (seats.by_lead b x) before c led =
-        by_lead b c x (let both : actor.Leads c ≡ actor.Leads (coord.goes b e.found) = sym led ∙ x.then in cc) (before b x.is)
+        by_lead b c x (let both : actor.Leads c ≡ actor.Leads (coord.goes setup.layout b e.found) = sym led ∙ x.then in cc) (before b x.is)
 
   pub holds : (es : List (Entry Op)) → Legal (seats.it setup) es → (c : coord.Coordinating) → Led es c → Holds es c
   holds [] legal c led = at_first c led

@@ -49,11 +49,11 @@ module _ (setup : Setup)
 
       by : seats.LeadWas setup e es c → seats.WorkerWas setup e es a w → IsCalm w
       by (seats.lead_stayed led_by) (seats.worker_stayed was) = before c a w led_by off was
-      by (seats.lead_stayed led_by) (seats.worker_stepped v x then) = subst IsCalm (sym then) (elim (calm.stays v e.found (before c e.actor v led_by off x.is) x.busy) [
+      by (seats.lead_stayed led_by) (seats.worker_stepped v x then) = subst IsCalm (sym then) (elim (calm.stays setup.layout v e.found (before c e.actor v led_by off x.is) x.busy) [
         | inl y ↦ y
-        | inr y ↦ absurd (off ((keeps (e ∷ es) legal).marking c e.actor (worker.goes v e.found) led x.seat x.then y))
+        | inr y ↦ absurd (off ((keeps (e ∷ es) legal).marking c e.actor (worker.goes setup.layout v e.found) led x.seat x.then y))
       ])
-      by (seats.lead_stepped b x then) (seats.worker_stayed was) = by_lead b x was (leaves_marking b e.found x.busy (λ m. off (subst (λ (z : coord.Coordinating). leading.Marks z.stage) (sym then) m)))
+      by (seats.lead_stepped b x then) (seats.worker_stayed was) = by_lead b x was (leaves_marking setup.layout b e.found x.busy (λ m. off (subst (λ (z : coord.Coordinating). leading.Marks z.stage) (sym then) m)))
       by (seats.lead_stepped b x then) (seats.worker_stepped v y now) = absurd (let end = x.seat in let lt = y.seat in omega (arith, end, lt))
 
   pub rest : (es : List (Entry Op)) → Legal (seats.it setup) es → Rest es

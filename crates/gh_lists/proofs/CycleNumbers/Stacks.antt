@@ -45,13 +45,13 @@ module _ (setup : Setup) (places : ProcessorInHandshake) (writes : ProcessorWrit
 
     module _ (e : Entry Op) (es : List (Entry Op)) (legal : Legal (seats.it setup) (e ∷ es)) (few : IsFew (e ∷ es)) where
       free : (m : Processor) → seats.RunsIt setup e es m → LeavesCycleWords (words es) e.ask
-      free m x = subst (λ (q : Ask). LeavesCycleWords (words es) q) (sym x.asked) (leaves (words es) _ (leaves_numbers writes (started k e.begun m) x.sound_then))
+      free m x = subst (λ (q : Ask). LeavesCycleWords (words es) q) (sym x.asked) (leaves (words es) _ (leaves_numbers writes setup.layout (started k e.begun m) x.sound_then))
 
       worker_free : (w : worker.Working) → seats.WorksIt setup e es w → Quiet (words es) e.ask
-      worker_free w x = subst (λ (q : Ask). Quiet (words es) q) (sym x.asked) (worker_quiet (words es) works w x.sound_it x.busy)
+      worker_free w x = subst (λ (q : Ask). Quiet (words es) q) (sym x.asked) (worker_quiet (words es) works setup.layout w x.sound_it x.busy)
 
       lead_free : (c : coord.Coordinating) → seats.LeadsIt setup e es c → Aside (words es) c.begun e.ask
-      lead_free c x = subst (λ (q : Ask). Aside (words es) c.begun q) (sym x.asked) (lead_aside (words es) c c.stage x.sound_it.1)
+      lead_free c x = subst (λ (q : Ask). Aside (words es) c.begun q) (sym x.asked) (lead_aside (words es) setup.layout c c.stage x.sound_it.1)
 
       as_many : LeavesCycleWords (words es) e.ask → words es cell.Begun ≤ words (e ∷ es) cell.Begun
       as_many y = let same : words (e ∷ es) cell.Begun ≡ words es cell.Begun = ap (λ (n : CycleWords). n.begun) y.numbers in omega (arith, same)
@@ -77,7 +77,7 @@ module _ (setup : Setup) (places : ProcessorInHandshake) (writes : ProcessorWrit
 
         by : seats.Step setup e es → (words (e ∷ es) (cell.Scanned g) ≡ words es (cell.Scanned g)) ⊎ ((words (e ∷ es) (cell.Scanned g) ≡ END) ⊎ (words (e ∷ es) (cell.Scanned g) ≡ words es cell.Begun))
         by (seats.by_processor m x s) =
-            elim (numbered (words es) g (party_of (started k e.begun m)) (stage_of (started k e.begun m)) e.ask (subst (λ (q : Ask). NumbersStack (party_of (started k e.begun m)) (stage_of (started k e.begun m)) q) (sym x.asked) (numbers_stack places writes setup.shapes (started k e.begun m) x.sound_then x.busy))) [
+            elim (numbered (words es) g (party_of (started k e.begun m)) (stage_of (started k e.begun m)) e.ask (subst (λ (q : Ask). NumbersStack (party_of (started k e.begun m)) (stage_of (started k e.begun m)) q) (sym x.asked) (numbers_stack places writes setup.layout setup.shapes (started k e.begun m) x.sound_then x.busy))) [
               | inl y ↦ inl y
               | inr y ↦ inr (written m x y)
             ]

@@ -6,7 +6,7 @@ use Rattle.gh_coord.specs.Events.{by_event}
 use Rattle.gh_coord.specs.Listing.{is_busy}
 use Rattle.gh_coord.specs.Opening as opens_by
 use Rattle.gh_coord.specs.Watching as watch
-use Rattle.gh_lists.proofs.Vocabulary.{after_open, Ask, asked_after, asks_at, at_stage, bit, cell_of, Coordinating, CoordStage, Done, effect, goes_at, Open, opened_after, OpenStage, Watch, Words}
+use Rattle.gh_lists.proofs.Vocabulary.{after_open, Ask, asked_after, asks_at, at_stage, bit, cell_of, Coordinating, CoordStage, Done, effect, goes_at, Layout, Open, opened_after, OpenStage, Watch, Words}
 use Rattle.gh_lists.specs.Wants.{IsIdle, IsToOpen, last_at}
 
 pub record WantsAt (opened asked want : ℕ) (is_last : Bool) (p : CoordStage) : Type 0 where
@@ -15,7 +15,7 @@ pub record WantsAt (opened asked want : ℕ) (is_last : Bool) (p : CoordStage) :
   pub idle : IsIdle p → is_last ≡ false
   pub wanted : IsToOpen p → (is_last ≡ true) ⊎ (want ≡ 1)
 
-module _ (opened asked : ℕ) (w : Words) (s : Coordinating) (marks : ℕ) where
+module _ (opened asked : ℕ) (w : Words) (l : Layout) (s : Coordinating) (marks : ℕ) where
   -- with its steps counted
   abbrev u : Coordinating
   u = record s { marks = marks }
@@ -41,7 +41,7 @@ module _ (opened asked : ℕ) (w : Words) (s : Coordinating) (marks : ℕ) where
   opening o open_stage.Ended found b h = absurd cc
   opening o _ found b h = within _ _ refl refl (λ x. x) (λ x. cc) h
 
-  pub goes_so : (p : CoordStage) (found : ℕ) → is_busy p ≡ true → found ≡ w (cell_of (asks_at s p)) → In p → Next (asks_at s p) (goes_at u p found)
+  pub goes_so : (p : CoordStage) (found : ℕ) → is_busy p ≡ true → found ≡ w (cell_of (asks_at l s p)) → In p → Next (asks_at l s p) (goes_at l u p found)
   goes_so (Open o) found b f h = opening o o.stage found b h
   goes_so Done found b f h = absurd cc
-  goes_so p found b f h = by_event u found (Next (asks_at s p)) p (λ e may. grind arith)
+  goes_so p found b f h = by_event l u found (Next (asks_at l s p)) p (λ e may. grind arith)

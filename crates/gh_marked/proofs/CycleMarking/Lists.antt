@@ -93,7 +93,7 @@ module _ (arena : Arena) (pacing : Pacing) (may : ℕ → List (Entry Op) → Op
       go (actor.Marks w) is =
           let lt : a < n = (seat_of es a (actor.Marks w) is).1 in
           worker_has w (kept.workers_wait c run.Mark a w led post lt is) (i.workers a w lt is)
-      go (actor.Leads x) is = i.coordinator a (seat_of es a (actor.Leads x) is).0
+      go (actor.Leads x) is = i.coordinator a (seat_of es a (actor.Leads x) is)
 
     empty : (b : ℕ) → holder_in (told es (cell.Buffer b)) ≡ 0 → (buffer_of (told es (cell.Buffer b))).count ≡ 0
     empty b free = go (ltb b (buffers_of arena.layout)) refl where
@@ -166,11 +166,11 @@ module _ (arena : Arena) (pacing : Pacing) (may : ℕ → List (Entry Op) → Op
       by_others marking = record { marking = marking; checked = checked_lasts arena.layout c.begun (told es) (told (e ∷ es)) c.stage on still holds.checked }
 
     -- a step of the coordinator
-    module _ (b : coord.Coordinating) (x : seats.LeadsIt it e es b) (then : c ≡ coord.goes b e.found) where
+    module _ (b : coord.Coordinating) (x : seats.LeadsIt it e es b) (then : c ≡ coord.goes arena.layout b e.found) where
       goes_by : CoordinatorGoes arena.layout b.begun (told es) b b.stage c
-      goes_by = subst (λ (y : coord.Coordinating). CoordinatorGoes arena.layout b.begun (told es) b b.stage y) (sym then) (goes_so arena.layout b.begun (told es) b (coord.counted b).marks (seat_of es n (actor.Leads b) x.is).1 refl b.stage e.found x.busy x.found)
+      goes_by = subst (λ (y : coord.Coordinating). CoordinatorGoes arena.layout b.begun (told es) b b.stage y) (sym then) (goes_so arena.layout b.begun (told es) b (coord.counted b).marks refl b.stage e.found x.busy x.found)
 
-      checked_then : c.begun ≡ b.begun → CheckedAt arena.layout b.begun (effect (told es) (coord.asks b)) c.stage → CheckedAt arena.layout c.begun (told (e ∷ es)) c.stage
+      checked_then : c.begun ≡ b.begun → CheckedAt arena.layout b.begun (effect (told es) (coord.asks arena.layout b)) c.stage → CheckedAt arena.layout c.begun (told (e ∷ es)) c.stage
       checked_then same y = subst (λ (k : ℕ). CheckedAt arena.layout k (told (e ∷ es)) c.stage) (sym same) (subst (λ (q : Ask). CheckedAt arena.layout b.begun (effect (told es) q) c.stage) (sym x.asked) y)
 
       by_lead : CoordinatorGoes arena.layout b.begun (told es) b b.stage c → Holds (e ∷ es) c
@@ -192,7 +192,7 @@ module _ (arena : Arena) (pacing : Pacing) (may : ℕ → List (Entry Op) → Op
         let none = none_sweeps it cited.moves.known.read cited.moves.known.writes cited.moves.known.places cited.keeps es c legal.0 (was stays x.seat) on e.actor w x.seat x.is in
         by_others stays x.seat (moving.by_worker arena pacing may cited.moves e es c c (marks_on stays x.seat) w none x)
     by_step (seats.by_lead b x) =
-        let then : c ≡ coord.goes b e.found = let both : actor.Leads c ≡ actor.Leads (coord.goes b e.found) = sym led ∙ x.then in cc in
+        let then : c ≡ coord.goes arena.layout b e.found = let both : actor.Leads c ≡ actor.Leads (coord.goes arena.layout b e.found) = sym led ∙ x.then in cc in
         by_lead b x then (goes_by b x then)
 
     follows : Holds (e ∷ es) c

@@ -37,7 +37,7 @@ module _ (setup : Setup) (read : PackedWordsAreReadBack) (writes : ProcessorWrit
 
   at_first : KnowsOff []
   at_first a w is looks = go (ltb a setup.layout.procs) (ltb a n) is where
-    go : (b d : Bool) → cond b (actor.Runs (opening_processor setup.layout a)) (cond d (actor.Marks (worker.opening setup.layout a)) (actor.Leads (coord.opening setup.layout a setup.pacing.gogc setup.pacing.minheap setup.pacing.room))) ≡ actor.Marks w → w.view.phase ≡ run.Off
+    go : (b d : Bool) → cond b (actor.Runs (opening_processor a)) (cond d (actor.Marks (worker.opening a)) (actor.Leads (coord.opening setup.layout a setup.pacing.gogc setup.pacing.minheap setup.pacing.room))) ≡ actor.Marks w → w.view.phase ≡ run.Off
     go b d x = grind arith
 
   module _ (e : Entry Op) (es : List (Entry Op)) (legal : Legal (those setup) (e ∷ es)) (before : KnowsOff es) where
@@ -45,15 +45,15 @@ module _ (setup : Setup) (read : PackedWordsAreReadBack) (writes : ProcessorWrit
     known = keeps es legal.0
 
     -- the step of a worker
-    by_worker : (v : Working) → seats.WorksIt setup e es v → Looks (worker.goes v e.found).stage → (worker.goes v e.found).view.phase ≡ run.Off
+    by_worker : (v : Working) → seats.WorksIt setup e es v → Looks (worker.goes setup.layout v e.found).stage → (worker.goes setup.layout v e.found).view.phase ≡ run.Off
     by_worker v x looks = ap (λ (y : View). y.phase) step.view_stays ∙ by step.finds where
-      step : Finds run.Off Looks e.found v (worker.goes v e.found)
-      step = places.finds_off v e.found looks
+      step : Finds run.Off Looks e.found v (worker.goes setup.layout v e.found)
+      step = places.finds_off setup.layout v e.found looks
 
       -- by the phase word
       off : Polls v → run_phase (phase_of e.found).phase ≡ Some run.Off → last_phase es ≡ run.Off
       off polls finds =
-          let asks_phase : e.found ≡ told es cell.Phase = legal.1.found ∙ ap (λ (q : Ask). told es (cell_of q)) (x.asked ∙ polls.asks_it) in
+          let asks_phase : e.found ≡ told es cell.Phase = legal.1.found ∙ ap (λ (q : Ask). told es (cell_of q)) (x.asked ∙ polls.asks_it setup.layout) in
           is_last read.phase (is_stop known.shakes.lead.post) known.shakes.lead.stops (last_phase es) run.Off e.found (asks_phase ∙ known.shakes.led.phase_is) finds
 
       current : IsAtWork v → IsCurrent (last_phase es) (told es) v.view

@@ -156,11 +156,11 @@ module _ (arena : Arena) (pacing : Pacing) (may : ℕ → List (Entry Op) → Op
 
       -- what its seat is done with is counted
       scans : (m : Actor) → at es a ≡ m → scanned_by it e es + counted arena.layout s ≤ counted arena.layout t
-      scans m is = subst (λ (x : Actor). done_by x e.found + counted arena.layout s ≤ counted arena.layout t) (sym is) (subst (λ (r : Arena). done_by m e.found + counted r.layout s ≤ counted r.layout t) marking_on.i.is.arena_is (go m is)) where
-        go : (m : Actor) → at es a ≡ m → done_by m e.found + counted z.arena.layout s ≤ counted z.arena.layout t
+      scans m is = subst (λ (x : Actor). done_by arena.layout x e.found + counted arena.layout s ≤ counted arena.layout t) (sym is) (subst (λ (r : Arena). done_by r.layout m e.found + counted r.layout s ≤ counted r.layout t) marking_on.i.is.arena_is (go m is)) where
+        go : (m : Actor) → at es a ≡ m → done_by z.arena.layout m e.found + counted z.arena.layout s ≤ counted z.arena.layout t
         go (actor.Runs m) is = scanned.none_done moves.known.steps z a s t marking_on.i.good (moves.heap.objects z s es marking_on.i.good marking_on.i.known) marking_on.i.none_beyond landed.went
         go (actor.Marks w) is = scanned.works moves.known.steps z a s t marking_on.i.good (moves.heap.objects z s es marking_on.i.good marking_on.i.known) marking_on.i.none_beyond landed.went w e.found (has_step it es a w is)
-            (marking_on.i.workers a w (subst (IsSeated arena.layout a) is (seated it es a)).1 is) (landed.own_worker (worker.goes w e.found) (works it e es w is))
+            (marking_on.i.workers a w (subst (IsSeated arena.layout a) is (seated it es a)).1 is) (landed.own_worker (worker.goes z.arena.layout w e.found) (works it e es w is ∙ ap (λ (r : Arena). actor.Marks (worker.goes r.layout w e.found)) (sym marking_on.i.is.arena_is)))
         go (actor.Leads x) is = scanned.none_done moves.known.steps z a s t marking_on.i.good (moves.heap.objects z s es marking_on.i.good marking_on.i.known) marking_on.i.none_beyond landed.went
 
       next : In (e ∷ es) to
@@ -216,45 +216,46 @@ module _ (arena : Arena) (pacing : Pacing) (may : ℕ → List (Entry Op) → Op
       shared = land.then;
       went = land.went;
       words_are = then_words;
-      heap_is = moves.heap.lasts e es c to marking_on.legal marking_on.led marking_on.led_then marking_on.on_then z s land.then marking_on.i.is marking_on.i.good (moves.known.steps z a s land.then marking_on.i.good land.went).good marking_on.i.known x.from land.went (leaves_objects land.then (worker.asks w) land.went land.words_are (works_so moves.known.routines w none)) (places_none z a land.then (worker.goes w (s.words (cell_of (worker.asks w)))) land.after) then_words;
-      own_processor = λ p now. absurd (let both : actor.Marks (worker.goes w e.found) ≡ actor.Runs p = sym x.then ∙ now in cc);
-      own_worker = λ v now. subst (marks.Facts z a land.then) (let both : actor.Marks (worker.goes w e.found) ≡ actor.Marks v = sym x.then ∙ now in cc) (subst (λ (y : ℕ). marks.Facts z a land.then (worker.goes w y)) (sym found) land.after);
+      heap_is = moves.heap.lasts e es c to marking_on.legal marking_on.led marking_on.led_then marking_on.on_then z s land.then marking_on.i.is marking_on.i.good (moves.known.steps z a s land.then marking_on.i.good land.went).good marking_on.i.known x.from land.went (leaves_objects land.then (worker.asks arena.layout w) land.went land.words_are (works_so moves.known.routines arena.layout w none)) (places_none z a land.then (worker.goes arena.layout w (s.words (cell_of (worker.asks arena.layout w)))) land.after) then_words;
+      own_processor = λ p now. absurd (let both : actor.Marks (worker.goes arena.layout w e.found) ≡ actor.Runs p = sym x.then ∙ now in cc);
+      own_worker = λ v now. subst (marks.Facts z a land.then) (let both : actor.Marks (worker.goes arena.layout w e.found) ≡ actor.Marks v = sym x.then ∙ now in cc) (subst (λ (y : ℕ). marks.Facts z a land.then (worker.goes arena.layout w y)) (sym found) land.after);
       own_hand = λ le. absurd (let lt = x.seat in omega (arith, lt, le));
     }) where
-      land : Steps z a s (worker.asks w) (λ t. marks.Facts z a t (worker.goes w (s.words (cell_of (worker.asks w)))))
-      land = moves.known.workers.own_step z a s w marking_on.i.good (moves.heap.objects z s es marking_on.i.good marking_on.i.known) none (marking_on.i.workers a w x.seat x.is)
+      land : Steps z a s (worker.asks arena.layout w) (λ t. marks.Facts z a t (worker.goes arena.layout w (s.words (cell_of (worker.asks arena.layout w)))))
+      land = subst (λ (r : Arena). Steps z a s (worker.asks r.layout w) (λ t. marks.Facts z a t (worker.goes r.layout w (s.words (cell_of (worker.asks r.layout w)))))) marking_on.i.is.arena_is
+          (moves.known.workers.own_step z a s w marking_on.i.good (moves.heap.objects z s es marking_on.i.good marking_on.i.known) none (marking_on.i.workers a w x.seat x.is))
 
-      found : e.found ≡ s.words (cell_of (worker.asks w))
-      found = marking_on.legal.1.found ∙ (ap (λ (q : Ask). words arena pacing may es (cell_of q)) x.asked ∙ ap (λ (v : Words). v (cell_of (worker.asks w))) (sym marking_on.i.is.words_are))
+      found : e.found ≡ s.words (cell_of (worker.asks arena.layout w))
+      found = marking_on.legal.1.found ∙ (ap (λ (q : Ask). words arena pacing may es (cell_of q)) x.asked ∙ ap (λ (v : Words). v (cell_of (worker.asks arena.layout w))) (sym marking_on.i.is.words_are))
 
       then_words : land.then.words ≡ words arena pacing may (e ∷ es)
-      then_words = words_then land.then (worker.asks w) land.words_are x.asked
+      then_words = words_then land.then (worker.asks arena.layout w) land.words_are x.asked
 
     -- by the coordinator
-    pub by_coordinator : seats.LeadsIt it e es c → IsLight (coord.asks c) → In (e ∷ es) to
+    pub by_coordinator : seats.LeadsIt it e es c → IsLight (coord.asks arena.layout c) → In (e ∷ es) to
     by_coordinator x light = next (record {
       shared = t;
       went = went;
       words_are = then_words;
-      heap_is = moves.heap.lasts e es c to marking_on.legal marking_on.led marking_on.led_then marking_on.on_then z s t marking_on.i.is marking_on.i.good (moves.known.steps z a s t marking_on.i.good went).good marking_on.i.known behind_processors went (leaves_objects t (coord.asks c) went refl light.aside) (λ o is. absurd (let none : None ≡ Some o = ((marking_on.i.coordinator a (subst (λ (y : ℕ). n ≤ y) (sym x.seat) (omega arith))).has.is_reserved o).1 is in cc)) then_words;
-      own_processor = λ p now. absurd (let both : actor.Leads (coord.goes c e.found) ≡ actor.Runs p = sym then ∙ now in cc);
-      own_worker = λ v now. absurd (let both : actor.Leads (coord.goes c e.found) ≡ actor.Marks v = sym then ∙ now in cc);
-      own_hand = λ le. (moves.known.follow z a s nothing marking_on.i.good (marking_on.i.coordinator a le)).quiet (coord.asks c) (light.quiet s);
+      heap_is = moves.heap.lasts e es c to marking_on.legal marking_on.led marking_on.led_then marking_on.on_then z s t marking_on.i.is marking_on.i.good (moves.known.steps z a s t marking_on.i.good went).good marking_on.i.known behind_processors went (leaves_objects t (coord.asks arena.layout c) went refl light.aside) (λ o is. absurd (let none : None ≡ Some o = ((marking_on.i.coordinator a (subst (λ (y : ℕ). n ≤ y) (sym x.seat) (omega arith))).has.is_reserved o).1 is in cc)) then_words;
+      own_processor = λ p now. absurd (let both : actor.Leads (coord.goes arena.layout c e.found) ≡ actor.Runs p = sym then ∙ now in cc);
+      own_worker = λ v now. absurd (let both : actor.Leads (coord.goes arena.layout c e.found) ≡ actor.Marks v = sym then ∙ now in cc);
+      own_hand = λ le. (moves.known.follow z a s nothing marking_on.i.good (marking_on.i.coordinator a le)).quiet (coord.asks arena.layout c) (light.quiet s);
     }) where
       t : Shared
-      t = moved z a s (Quiet (coord.asks c))
+      t = moved z a s (Quiet (coord.asks arena.layout c))
 
       went : Went z a s t
-      went = goes s (Quiet (coord.asks c)) stays (light.quiet s)
+      went = goes s (Quiet (coord.asks arena.layout c)) stays (light.quiet s)
 
       behind_processors : arena.layout.procs ≤ a
       behind_processors = let end = x.seat in omega (arith, end)
 
-      then : at (e ∷ es) a ≡ actor.Leads (coord.goes c e.found)
+      then : at (e ∷ es) a ≡ actor.Leads (coord.goes arena.layout c e.found)
       then = ap (at (e ∷ es)) x.seat ∙ x.then
 
       then_words : t.words ≡ words arena pacing may (e ∷ es)
-      then_words = words_then t (coord.asks c) refl x.asked
+      then_words = words_then t (coord.asks arena.layout c) refl x.asked
 
   -- The begin of a cycle: the world is stopped, and nobody has anything in hand.
   module _ (es : List (Entry Op)) (c : coord.Coordinating) (legal : Legal (setting arena pacing may) es) (led : IsLedBy arena pacing may es c) (b : IsBeginning c.stage)
@@ -267,7 +268,6 @@ module _ (arena : Arena) (pacing : Pacing) (may : ℕ → List (Entry Op) → Op
 
     worker_knows : (a : ℕ) (w : worker.Working) → a < n → at es a ≡ actor.Marks w → marks.Facts opened.cycle a opened.shared w
     worker_knows a w lt is = record {
-      layout_is = (subst (IsSeated arena.layout a) is (seated it es a)).2 ∙ ap (λ (x : Arena). x.layout) (sym opened.is.arena_is);
       seat_in = subst (λ (x : Arena). a < seats_of x.layout) (sym opened.is.arena_is) (omega (arith, lt));
       seat_is = sym rests.seat_is ∙ seat;
       stage_is = rests.hands opened.cycle a opened.shared (begun.seats a);

@@ -99,7 +99,7 @@ module _ (given : Given) (wanted : Laws) (lists : ListsKnown (setup_for given)) 
     idle : (o : Op) → e.begun ≡ Some o → is_busy_at m.task ≡ false
     idle = step.idle given lists.good lists.limits lists.known e es marked.legal marked.lt marked.kn.has
 
-    pub sound_now : IsSound now
+    pub sound_now : IsSound given.layout now
     sound_now = step.sound_now given lists.good lists.limits lists.known e es marked.legal marked.lt marked.kn.has
 
     -- Where an operation begins, the processor rests.
@@ -132,7 +132,7 @@ module _ (given : Given) (wanted : Laws) (lists : ListsKnown (setup_for given)) 
     words_are : s.words ≡ told es
     words_are = marked.kn.beside.words ∙ marked.kn.has.of_list.words_are
 
-    together : (p : Processor) (x : Option Answer) → IsSound p → ProcessorFacts z a (view h) p x → MarkFacts (cycle number few) a s p → sweep_in p ≡ None → Together (cycle number few) a h s p x
+    together : (p : Processor) (x : Option Answer) → IsSound given.layout p → ProcessorFacts z a (view h) p x → MarkFacts (cycle number few) a s p → sweep_in p ≡ None → Together (cycle number few) a h s p x
     together p x sound fine_p f still = record {
       shapes = lists.good;
       heap = marked.kn.has.good.heap;
@@ -174,15 +174,15 @@ module _ (given : Given) (wanted : Laws) (lists : ListsKnown (setup_for given)) 
 
     -- Its step.
 
-    abbrev pub land : HeapSteps z a h (asks now) (λ t. DoesPoints z a h t now pending (h.words (cell_of (asks now))))
+    abbrev pub land : HeapSteps z a h (asks given.layout now) (λ t. DoesPoints z a h t now pending (h.words (cell_of (asks given.layout now))))
     land = step.land given lists.good lists.limits lists.known e es marked.legal marked.lt marked.kn.has none
 
-    pub goes : StepsOn (cycle number few) a (moved z a h (step.land given lists.good lists.limits lists.known e es marked.legal marked.lt marked.kn.has none).move) s (takes given.shapes now (h.words (cell_of (asks now))))
+    pub goes : StepsOn (cycle number few) a (moved z a h (step.land given lists.good lists.limits lists.known e es marked.legal marked.lt marked.kn.has none).move) s (takes given.layout given.shapes now (h.words (cell_of (asks given.layout now))))
     goes = lists.known.beside.own_step (cycle number few) a h s now pending (together now pending sound_now (step.fine_now given lists.good lists.limits lists.known e es marked.legal marked.lt marked.kn.has) facts_now none) busy knows land
 
     -- What it tells of stacks.
 
-    view_begun : (g : ℕ) → TellsScan now g → now.poll.local.view.begun ≡ told es cell.Begun
+    view_begun : (g : ℕ) → TellsScan given.layout now g → now.poll.local.view.begun ≡ told es cell.Begun
     view_begun g tells = go e.begun refl where
       known_by : (p : Processor) → IsAwake (stage_of p) → m ≡ p → (party_of p).view.begun ≡ told es cell.Begun
       known_by p awake same = subst (λ (y : Processor). (party_of y).view.begun ≡ told es cell.Begun) same ((lists.keeps es marked.legal.0).processors_know a m (omega (arith, marked.lt)) (runs_are (setup_for given) es a marked.lt) (subst (λ (y : Processor). IsAwake (stage_of y)) (sym same) awake)).begun_is
@@ -190,39 +190,39 @@ module _ (given : Given) (wanted : Laws) (lists : ListsKnown (setup_for given)) 
       go : (o : Option Op) → e.begun ≡ o → now.poll.local.view.begun ≡ told es cell.Begun
       go None is =
           let same : m ≡ now = sym (ap (λ (y : Option Op). started k y m) is) in
-          let awake = awake_at 0 (party_of now) (stage_of now) (asks now) (party_of (takes given.shapes now 0)) (stage_of (takes given.shapes now 0)) g now.poll.local.view.begun tells.tells (lists.known.places.takes_so given.shapes now 0 sound_now.place busy) in
-          sym (ap (λ (v : View). v.begun) (knows_at now g now.poll.local.view.begun now.task (sym tells.tells))) ∙ known_by now awake same
+          let awake = awake_at 0 (party_of now) (stage_of now) (asks given.layout now) (party_of (takes given.layout given.shapes now 0)) (stage_of (takes given.layout given.shapes now 0)) g now.poll.local.view.begun tells.tells (lists.known.places.takes_so given.layout given.shapes now 0 sound_now.place busy) in
+          sym (ap (λ (v : View). v.begun) (knows_at given.layout now g now.poll.local.view.begun now.task (sym tells.tells))) ∙ known_by now awake same
       go (Some o) is =
           let at_rest = rests o is in
           let awake : IsAwake (stage_of m) = subst (λ (t : Task). IsAwake (stage_at m.poll t)) (sym at_rest) tt in
           ap (λ (p : Processor). p.poll.local.view.begun) (begins_is o is) ∙ (ap (λ (v : View). v.begun) (same_view given.shapes m o)
           ∙ (sym (ap (λ (t : Task). (party_at m.poll t).view.begun) at_rest) ∙ known_by m awake refl))
 
-    is_number : (g : ℕ) → TellsScan now g → now.poll.local.view.begun ≢ END
+    is_number : (g : ℕ) → TellsScan given.layout now g → now.poll.local.view.begun ≢ END
     is_number g tells is =
         let same : number ≡ END = sym last_begun ∙ (sym (view_begun g tells) ∙ is) in
         absurd (omega (arith, few, same))
 
-    goes_on : (g : ℕ) → TellsScan now g → h.words (cell.Scanned g) ≢ END
+    goes_on : (g : ℕ) → TellsScan given.layout now g → h.words (cell.Scanned g) ≢ END
     goes_on g tells is =
         let ended : goes.then.words (cell.Scanned g) ≡ END = ended_stays lists.known.one (cycle number few) a g s goes.then goes.went (ap (λ (w : Words). w (cell.Scanned g)) marked.kn.beside.words ∙ is) in
         let told_is : goes.then.words (cell.Scanned g) ≡ now.poll.local.view.begun =
         ap (λ (w : Words). w (cell.Scanned g)) (goes.beside.words ∙ land.words_are) ∙ (ap (λ (q : Ask). effect h.words q (cell.Scanned g)) tells.tells ∙ ap (λ (b : Bool). cond b now.poll.local.view.begun (h.words (cell.Scanned g))) (eq-eqb g g refl)) in
         is_number g tells (sym told_is ∙ ended)
 
-    pub tells : TellsStacks h.words now
-    tells g other = go (same_cell (cell_of (asks now)) (cell.Scanned g)) refl where
-      scans : IsWritten now (cell.Scanned g) → LeavesStack h.words now g ⊎ ScansStack h.words now g
+    pub tells : TellsStacks given.layout h.words now
+    tells g other = go (same_cell (cell_of (asks given.layout now)) (cell.Scanned g)) refl where
+      scans : IsWritten given.layout now (cell.Scanned g) → LeavesStack given.layout h.words now g ⊎ ScansStack given.layout h.words now g
       scans (inl ends) = absurd (other ends.task_is)
       scans (inr y) = inr (record { tells = y; number = is_number g y; goes_on = goes_on g y })
 
-      by_ask : (q : Ask) → asks now ≡ q → cell_of q ≡ cell.Scanned g → WritesOf (IsWritten now) q → LeavesStack h.words now g ⊎ ScansStack h.words now g
+      by_ask : (q : Ask) → asks given.layout now ≡ q → cell_of q ≡ cell.Scanned g → WritesOf (IsWritten given.layout now) q → LeavesStack given.layout h.words now g ⊎ ScansStack given.layout h.words now g
       by_ask (Load d) is at w = inl (record { same = ap (λ (q : Ask). effect h.words q (cell.Scanned g)) is; untold = λ number y. absurd (let no : Load d ≡ Store (cell.Scanned g) number = sym is ∙ y in cc) })
-      by_ask _ is at w = scans (subst (IsWritten now) at w)
+      by_ask _ is at w = scans (subst (IsWritten given.layout now) at w)
 
-      go : (b : Bool) → same_cell (cell_of (asks now)) (cell.Scanned g) ≡ b → LeavesStack h.words now g ⊎ ScansStack h.words now g
-      go true is = by_ask (asks now) refl (is_stack (cell_of (asks now)) g is) (lists.known.writes.writes now sound_now)
+      go : (b : Bool) → same_cell (cell_of (asks given.layout now)) (cell.Scanned g) ≡ b → LeavesStack given.layout h.words now g ⊎ ScansStack given.layout h.words now g
+      go true is = by_ask (asks given.layout now) refl (is_stack (cell_of (asks given.layout now)) g is) (lists.known.writes.writes given.layout now sound_now)
       go false is = inl (record {
-        same = lists.known.one h.words (asks now) (cell.Scanned g) ∙ ap (λ (b : Bool). cond b (left (asks now) (h.words (cell_of (asks now)))) (h.words (cell.Scanned g))) is;
+        same = lists.known.one h.words (asks given.layout now) (cell.Scanned g) ∙ ap (λ (b : Bool). cond b (left (asks given.layout now) (h.words (cell_of (asks given.layout now)))) (h.words (cell.Scanned g))) is;
         untold = λ number y. absurd (let no : false ≡ true = sym is ∙ (ap (λ (q : Ask). same_cell (cell_of q) (cell.Scanned g)) y ∙ eq-eqb g g refl) in cc);
       })

@@ -66,13 +66,13 @@ pub record Stepped (z : Arena) (a : ℕ) (s : State) (m : Processor) (found : �
   pub good : StateGood z s
   pub seat : a < seats_of z.layout
   pub busy : is_busy_at m.task ≡ true
-  pub sound : IsSound m
+  pub sound : IsSound z.layout m
   pub fine : ProcessorFacts z a (view s.heap) m pending
   pub pends : s.pend a ≡ uncounted m.task
   pub calm : s.told ≡ None → MarksNothing m
   pub none : sweep_in m ≡ None
   pub may : May z a (view s.heap) move
-  pub words : (moved z a s.heap move).words ≡ effect s.heap.words (asks m)
+  pub words : (moved z a s.heap move).words ≡ effect s.heap.words (asks z.layout m)
   pub does : Does z a s.heap (moved z a s.heap move) m pending found
 
 module _ (known : Known) (whole : WholeWords) (z : Arena) (a : ℕ) (s : State) (m : Processor) (found : ℕ) (pending : Option Answer) (move : Move) (stepped : Stepped z a s m found pending move) where
@@ -83,7 +83,7 @@ module _ (known : Known) (whole : WholeWords) (z : Arena) (a : ℕ) (s : State) 
   t = moved z a s.heap move
 
   abbrev to : Processor
-  to = takes z.shapes m found
+  to = takes z.layout z.shapes m found
 
   -- It is a move of the one state, which moves the heap as this does.
   pub record Counted : Type 0 where
@@ -99,24 +99,24 @@ module _ (known : Known) (whole : WholeWords) (z : Arena) (a : ℕ) (s : State) 
   no_sweep is = absurd (let no : false ≡ true = sym (ap (λ (x : Option Sweeping). is_some x) stepped.none) ∙ is in cc)
 
   -- what the step leaves
-  left_by : (c : Cell) → effect h.words (asks m) c ≡ h.words c → t.words c ≡ h.words c
+  left_by : (c : Cell) → effect h.words (asks z.layout m) c ≡ h.words c → t.words c ≡ h.words c
   left_by c same = ap (λ (w : Words). w c) stepped.words ∙ same
 
-  counts_stay : (CountsObject (asks m) m.task → ⊥) → CountsStay s.told s.heap.words t.words
+  counts_stay : (CountsObject (asks z.layout m) m.task → ⊥) → CountsStay s.told s.heap.words t.words
   counts_stay silent = record {
-    heap = left_by cell.Heap (known.writes.leaves m h.words cell.Heap stepped.sound unheaped);
-    tally = λ over. left_by cell.Tally (known.writes.leaves m h.words cell.Tally stepped.sound no_sweep);
-    live = λ over. left_by cell.Live (known.writes.leaves m h.words cell.Live stepped.sound no_sweep);
-    marks = λ over i. left_by (cell.Mark i) (known.calm.leaves m h.words (cell.Mark i) (stepped.calm over) no_sweep);
+    heap = left_by cell.Heap (known.writes.leaves z.layout m h.words cell.Heap stepped.sound unheaped);
+    tally = λ over. left_by cell.Tally (known.writes.leaves z.layout m h.words cell.Tally stepped.sound no_sweep);
+    live = λ over. left_by cell.Live (known.writes.leaves z.layout m h.words cell.Live stepped.sound no_sweep);
+    marks = λ over i. left_by (cell.Mark i) (known.calm.leaves z.layout m h.words (cell.Mark i) (stepped.calm over) no_sweep);
   } where
-    unheaped : CountsObject (asks m) m.task ⊎ IsSweeping m → ⊥
+    unheaped : CountsObject (asks z.layout m) m.task ⊎ IsSweeping m → ⊥
     unheaped (inl x) = silent x
     unheaped (inr x) = no_sweep x
 
-  may_deed : (CountsObject (asks m) m.task → ⊥) → state.May z a s (Deed move)
+  may_deed : (CountsObject (asks z.layout m) m.task → ⊥) → state.May z a s (Deed move)
   may_deed silent = record { seat = stepped.seat; may = stepped.may; counts = counts_stay silent }
 
-  keeps : MakesNothing z a s.heap move → Keeps z.shapes m found m.task → Counted
+  keeps : MakesNothing z a s.heap move → Keeps z.layout z.shapes m found m.task → Counted
   keeps x k = record {
     to_move = Deed move;
     may_move = may_deed k.silent;
@@ -137,7 +137,7 @@ module _ (known : Known) (whole : WholeWords) (z : Arena) (a : ℕ) (s : State) 
   others_left : (row : Row) (v b : ℕ) → b ≢ a → with_word row a v b ≡ row b
   others_left row v b differs = rw (not_a b differs) refl
 
-  counts : Counts z.shapes m found m.task → Counted
+  counts : Counts z.layout z.shapes m found m.task → Counted
   counts c = record {
     to_move = Count;
     may_move = stepped.seat;
@@ -153,14 +153,14 @@ module _ (known : Known) (whole : WholeWords) (z : Arena) (a : ℕ) (s : State) 
   made_more x = ap (λ (y : Move). (moved z a h y).ever.made x.g) x.is ∙ rw (eq-eqb x.g x.g refl) refl
 
   -- where it makes nothing the move is no making
-  made_none : ((e : Ever) (g : ℕ) → (acted z.shapes e (acts m found)).made g ≡ e.made g) → ByMaking move → ⊥
+  made_none : ((e : Ever) (g : ℕ) → (acted z.shapes e (acts z.layout m found)).made g ≡ e.made g) → ByMaking move → ⊥
   made_none nothing x =
       let more : t.ever.made x.g ≡ h.ever.made x.g + 1 = made_more x in
       let none : t.ever.made x.g ≡ h.ever.made x.g = ap (λ (e : Ever). e.made x.g) stepped.does.ever ∙ nothing h.ever x.g in
       omega (arith, more, none)
 
   -- An object is made.
-  module _ (x : Makes z.shapes m found m.task) where
+  module _ (x : Makes z.layout z.shapes m found m.task) where
     abbrev w : Wanted
     w = x.wanted
 
@@ -187,10 +187,10 @@ module _ (known : Known) (whole : WholeWords) (z : Arena) (a : ℕ) (s : State) 
       pub made : (u : View) → PlaceFacts u placing → u.place p.name ≡ p.at
 
     abbrev task_then : PlaceStage → Task
-    task_then s = (takes_at z.shapes m (at_place (place.at_stage p s)) found).task
+    task_then s = (takes_at z.layout z.shapes m (at_place (place.at_stage p s)) found).task
 
     to_is : to.task ≡ task_then making.Alloc
-    to_is = ap (λ (y : Task). (takes_at z.shapes m y found).task) x.is ∙ ap task_then x.stage
+    to_is = ap (λ (y : Task). (takes_at z.layout z.shapes m y found).task) x.is ∙ ap task_then x.stage
 
     abbrev task_behind : Option SpanHead → Task
     task_behind s = made_task m.poll w (place.at_stage p (place.made p s)) (place.given_at (place.made p s))
@@ -205,10 +205,10 @@ module _ (known : Known) (whole : WholeWords) (z : Arena) (a : ℕ) (s : State) 
     at_its_place n at = rw (eq-eqb n.g n.g refl) (rw (eq-eqb n.k n.k refl) refl)
 
     abbrev act_ever : Ever
-    act_ever = acted z.shapes h.ever (acts_at m (at_place (place.at_stage p making.Alloc)) found)
+    act_ever = acted z.shapes h.ever (acts_at z.layout m (at_place (place.at_stage p making.Alloc)) found)
 
     ever_is : t.ever ≡ act_ever
-    ever_is = stepped.does.ever ∙ (ap (λ (y : Task). acted z.shapes h.ever (acts_at m y found)) x.is ∙ ap (λ (s : PlaceStage). acted z.shapes h.ever (acts_at m (at_place (place.at_stage p s)) found)) x.stage)
+    ever_is = stepped.does.ever ∙ (ap (λ (y : Task). acted z.shapes h.ever (acts_at z.layout m y found)) x.is ∙ ap (λ (s : PlaceStage). acted z.shapes h.ever (acts_at z.layout m (at_place (place.at_stage p s)) found)) x.stage)
 
     made_one : t.ever.made w.g ≡ h.ever.made w.g + 1
     made_one = ap (λ (e : Ever). e.made w.g) ever_is ∙ rw (eq-eqb w.g w.g refl) refl
@@ -258,7 +258,7 @@ module _ (known : Known) (whole : WholeWords) (z : Arena) (a : ℕ) (s : State) 
     makes = elim (moves_by z a h move) [ inl y ↦ by_making y | inr y ↦ absurd (moves_none y.made) ]
 
   pub counted : Counted
-  counted = elim (kind z.shapes m found m.task stepped.busy) [
+  counted = elim (kind z.layout z.shapes m found m.task stepped.busy) [
     | inl c ↦ counts c
     | inr k ↦ elim k [ inl x ↦ makes x | inr k ↦ elim (moves_by z a h move) [ inl x ↦ absurd (made_none k.nothing x) | inr x ↦ keeps x k ] ]
   ]

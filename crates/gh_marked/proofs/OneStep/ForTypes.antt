@@ -13,7 +13,7 @@ use Rattle.gh_worker.specs.Listing as worker
 use Rattle.gh_marked.specs.HoldVocabulary.{SweepRuns}
 use Rattle.gh_marked.specs.Spans.{IsForTypes, PagesAreForTypes}
 use Rattle.gh_marked.specs.Sweepers.{IsInSweep, sweep_of}
-use Rattle.gh_marked.proofs.Vocabulary.{acks_of, Actor, arena, Arena, Ask, asks, Coordinating, effect, Entry, HasState, Heap, Layout, Legal, moved, Op, page_of, Processor, State, those, Words, words}
+use Rattle.gh_marked.proofs.Vocabulary.{Layout, acks_of, Actor, arena, Arena, Ask, asks, Coordinating, effect, Entry, HasState, Heap, Legal, moved, Op, page_of, Processor, State, those, Words, words}
 use Rattle.gh_marked.proofs.OneStep.FreshPages.{fresh_page}
 use Rattle.gh_marked.specs.Known.{ListsKnown}
 use Rattle.gh_marked.proofs.OneStep.Landing as landing
@@ -62,18 +62,18 @@ module _ (given : Given) (wanted : Wanted) (lists : ListsKnown (setup_for given)
     by_worker : (w : worker.Working) → seats.WorksIt (setup_for given) e es w → For (e ∷ es) q
     by_worker w x = go (worker.sweep_in w) refl where
       go : (y : Option Sweeping) → worker.sweep_in w ≡ y → For (e ∷ es) q
-      go None none = subst (λ (ask : Ask). ForPage (effect (told es) ask (cell.Page q))) (sym x.asked) (pages.worked wanted.read given.shapes (told es) q was lists.known.workers w none)
+      go None none = subst (λ (ask : Ask). ForPage (effect (told es) ask (cell.Page q))) (sym x.asked) (pages.worked wanted.read given.shapes (told es) q was lists.known.workers given.layout w none)
       go (Some m) is =
           let runs = subst (IsInSweep e.actor s) is (subst (λ (y : Actor). IsInSweep e.actor s (sweep_of y)) x.is (has.sweeps e.actor legal.1.actor)) in
-          swept w.layout m e.actor runs.0 (x.asked ∙ (lists.known.workers_sweep.runs.on w m is runs.1).asks_so)
+          swept given.layout m e.actor runs.0 (x.asked ∙ ((lists.known.workers_sweep.runs given.layout).on w m is runs.1).asks_so)
 
     by_lead : (d : Coordinating) → seats.LeadsIt (setup_for given) e es d → For (e ∷ es) q
     by_lead d x = go (coord.sweep_in d) refl where
       go : (y : Option Sweeping) → coord.sweep_in d ≡ y → For (e ∷ es) q
-      go None none = subst (λ (ask : Ask). ForPage (effect (told es) ask (cell.Page q))) (sym x.asked) (pages.led wanted.read given.shapes (told es) q was lists.known.footprints d (lists.known.coordinator_parts d.layout) d.stage none)
+      go None none = subst (λ (ask : Ask). ForPage (effect (told es) ask (cell.Page q))) (sym x.asked) (pages.led wanted.read given.shapes (told es) q was lists.known.footprints given.layout d (lists.known.coordinator_parts given.layout) d.stage none)
       go (Some m) is =
           let runs = subst (IsInSweep (acks_of given.layout) s) is (subst (λ (y : Actor). IsInSweep (acks_of given.layout) s (sweep_of y)) x.is (has.sweeps (acks_of given.layout) (omega arith))) in
-          swept d.layout m (acks_of given.layout) runs.0 (x.asked ∙ (lists.known.coordinator_sweeps.on d m is runs.1).asks_so)
+          swept given.layout m (acks_of given.layout) runs.0 (x.asked ∙ (lists.known.coordinator_sweeps.on given.layout d m is runs.1).asks_so)
 
     module _ (lt : e.actor < given.layout.procs) where
       abbrev now : Processor
@@ -85,7 +85,7 @@ module _ (given : Given) (wanted : Wanted) (lists : ListsKnown (setup_for given)
       was_now : ForPage (h.words (cell.Page q))
       was_now = subst (λ (w : Words). ForPage (w (cell.Page q))) (sym has.of_list.words_are) was
 
-      asked : e.ask ≡ asks now
+      asked : e.ask ≡ asks given.layout now
       asked = step.asked given lists.good lists.limits lists.known e es legal lt has
 
       moves : sweep_in now ≡ None → For (e ∷ es) q
@@ -103,7 +103,7 @@ module _ (given : Given) (wanted : Wanted) (lists : ListsKnown (setup_for given)
         go None none = moves none
         go (Some m) is =
             let runs = subst (IsInSweep e.actor s) is (landing.in_sweep_now given lists.good lists.limits lists.known wanted e es legal lt has) in
-            swept now.poll.layout m e.actor runs.0 (asked ∙ (lists.known.processors_sweep.on given.shapes now m is runs.1).asks_so)
+            swept given.layout m e.actor runs.0 (asked ∙ (lists.known.processors_sweep.on given.layout given.shapes now m is runs.1).asks_so)
 
     goes_on : For (e ∷ es) q
     goes_on = by (seats.step (setup_for given) e es lists.known.writes legal (lists.keeps es legal.0)) where

@@ -58,7 +58,7 @@ use Rattle.gh_mutator_heap.specs.PollHeap.{give_locked_at, GiveStageFacts, leave
 use Rattle.gh_mutator.specs.Sweeping.{sweep_at, sweep_in, sweep_new}
 use Rattle.gh_poll.specs.Wait.{Waiting, waiting}
 use Rattle.gh_poll.specs.Wait as wait
-use Rattle.gh_marked.specs.HoldVocabulary.{Answer, Arena, ProcessorFacts, Heap, Layout, NewStage, Processor, Task, View, view, Words}
+use Rattle.gh_marked.specs.HoldVocabulary.{Answer, Arena, ProcessorFacts, Heap, NewStage, Processor, Task, View, view, Words}
 use Rattle.gh_marked.specs.Spans.{IsForTypes, IsPageFor}
 
 -- what the parts of a search write
@@ -177,14 +177,14 @@ module _ (parts : WritesOfSearches) (z : Arena) (a : ℕ) (h : Heap) (q : ℕ) (
         let sought : wanted.sought ≡ sought_for (shape_at z.shapes wanted.t) = ap (λ (x : Wanted). x.sought) f.wants.is in
         seeks wanted.t f.wants.type (rest m wanted) s.find s.stage (f.wanted ∙ sought) locked none f.facts
 
-    new_page : (wanted : Wanted) (s : NewStage) → locked_new m s ≡ true → sweep_new s ≡ None → KnowsNew z a v m.poll s → NewFacts z a v m wanted pending s → For (new.asks_at m s)
-    new_page wanted (new_stage.Search waited s) locked none k f = subst (λ (l : Layout). For (search.asks l s)) (sym k.stands.sits.layout) (searches wanted s f locked none)
+    new_page : (wanted : Wanted) (s : NewStage) → locked_new m s ≡ true → sweep_new s ≡ None → KnowsNew z a v m.poll s → NewFacts z a v m wanted pending s → For (new.asks_at z.layout m s)
+    new_page wanted (new_stage.Search waited s) locked none k f = searches wanted s f locked none
     new_page wanted (new_stage.Wait x) locked none k f = waits_at (waiting x m.poll) x.stage locked k
     new_page wanted (new_stage.Place x) locked none k f = absurd (cc)
     new_page wanted (new_stage.Want n) locked none k f = absurd (cc)
     new_page wanted (new_stage.Assist n x) locked none k f = absurd (cc)
 
-    at_task : (t : Task) → is_locked_at m t ≡ true → sweep_at t ≡ None → KnowsAt z a v m.poll t → FactsAt z a v m pending t → For (asks_at m t)
+    at_task : (t : Task) → is_locked_at m t ≡ true → sweep_at t ≡ None → KnowsAt z a v m.poll t → FactsAt z a v m pending t → For (asks_at z.layout m t)
     at_task (task.New x) locked none k f = new_page x.wanted x.stage locked none k f
     at_task (task.Gc g x) locked none k f = waits_at (waiting x m.poll) x.stage locked k
     at_task task.Poll locked none k f = polls_at m.poll m.poll.stage locked k.stage_is
@@ -192,5 +192,5 @@ module _ (parts : WritesOfSearches) (z : Arena) (a : ℕ) (h : Heap) (q : ℕ) (
     at_task _ locked none k f = absurd (cc)
 
     -- with the lock
-    pub fresh_page : ProcessorFacts z a v m pending → sweep_in m ≡ None → h.locked a ≡ true → For (asks m)
+    pub fresh_page : ProcessorFacts z a v m pending → sweep_in m ≡ None → h.locked a ≡ true → For (asks z.layout m)
     fresh_page fine none locked = at_task m.task (sym fine.right.locked ∙ locked) none fine.knows fine.task

@@ -12,7 +12,7 @@ use Rattle.gh_sweep.specs.Listing.{Sweeping}
 use Rattle.gh_sweep.specs.Running.{BeginsSweep, SweepsOn}
 use Rattle.gh_marked.specs.HoldVocabulary.{SeatSweepsNothing, State, StateGood}
 use Rattle.gh_marked.specs.Sweepers.{IsInSweep, sweep_of}
-use Rattle.gh_marked.proofs.Vocabulary.{Answer, Arena, arena, Ask, asks, begins, cell_of, DoesPoints, effect, Entry, ProcessorFacts, has_left_at, HasState, Heap, is_busy_at, IsInLimits, Layout, Legal, MarksNothing, may_of, moved, Op, Processor, processor_at, processor_kind, Row, Shape, ShapesAreGood, started, Steps, takes, those, uncounted, view, Words}
+use Rattle.gh_marked.proofs.Vocabulary.{Answer, Arena, arena, Ask, asks, begins, cell_of, DoesPoints, effect, Entry, ProcessorFacts, has_left_at, HasState, Heap, is_busy_at, IsInLimits, Legal, MarksNothing, may_of, moved, Op, Processor, processor_at, processor_kind, Row, Shape, ShapesAreGood, started, Steps, takes, those, uncounted, view, Words}
 use Rattle.gh_marked.proofs.OneStep.Counting as counting
 use Rattle.gh_marked.specs.Known.{Known}
 use Rattle.gh_marked.proofs.OneStep.OwnStep as step
@@ -55,7 +55,7 @@ module _ (given : Given) (good : ShapesAreGood given.shapes) (limits : IsInLimit
     h = has.state.heap
 
     abbrev pub found : ℕ
-    found = h.words (cell_of (asks now))
+    found = h.words (cell_of (asks given.layout now))
 
     abbrev pending : Option Answer
     pending = (step.is given good limits known e es legal lt has).pending
@@ -64,12 +64,12 @@ module _ (given : Given) (good : ShapesAreGood given.shapes) (limits : IsInLimit
     pub record Lands : Type 0 where
       pub move : state.Move
       pub allowed : state.May z a s move
-      pub words_are : (state.moved z a s move).heap.words ≡ effect h.words (asks now)
+      pub words_are : (state.moved z a s move).heap.words ≡ effect h.words (asks given.layout now)
       pub after : DoesPoints z a h (state.moved z a s move).heap now pending found
       -- what it has placed and not counted, and what it sweeps then
-      pub own : (state.moved z a s move).pend a ≡ uncounted (takes given.shapes now found).task
+      pub own : (state.moved z a s move).pend a ≡ uncounted (takes given.layout given.shapes now found).task
       pub others : (b : ℕ) → b ≢ a → (state.moved z a s move).pend b ≡ s.pend b
-      pub sweeps : IsInSweep a (state.moved z a s move) (sweep_in (takes given.shapes now found))
+      pub sweeps : IsInSweep a (state.moved z a s move) (sweep_in (takes given.layout given.shapes now found))
 
     -- What is known before it.
 
@@ -100,7 +100,7 @@ module _ (given : Given) (good : ShapesAreGood given.shapes) (limits : IsInLimit
 
     -- It runs no sweep: the step is a move over the heap, or counts what was placed.
     module _ (calm : s.told ≡ None → MarksNothing now) (none : sweep_in now ≡ None) where
-      abbrev pub land : Steps z a h (asks now) (λ t. DoesPoints z a h t now pending found)
+      abbrev pub land : Steps z a h (asks given.layout now) (λ t. DoesPoints z a h t now pending found)
       land = step.land given good limits known e es legal lt has none
 
       abbrev stepped : counting.Stepped z a s now found pending land.move
@@ -127,19 +127,19 @@ module _ (given : Given) (good : ShapesAreGood given.shapes) (limits : IsInLimit
       good_then : StateGood z t
       good_then = known.keeps z a s counted.to_move has.good counted.may_move
 
-      pub words_then : t.heap.words ≡ effect h.words (asks now)
+      pub words_then : t.heap.words ≡ effect h.words (asks given.layout now)
       words_then = ap (λ (x : Heap). x.words) counted.heap_is ∙ land.words_are
 
       -- it begins to sweep where it has found an unswept span
-      pub sweeps_then : IsInSweep a t (sweep_in (takes given.shapes now found))
-      sweeps_then = go (sweep_in (takes given.shapes now found)) refl where
+      pub sweeps_then : IsInSweep a t (sweep_in (takes given.layout given.shapes now found))
+      sweeps_then = go (sweep_in (takes given.layout given.shapes now found)) refl where
         rests : SeatSweepsNothing a t
         rests = counted.rests (subst (IsInSweep a s) none in_sweep_now)
 
-        go : (x : Option Sweeping) → sweep_in (takes given.shapes now found) ≡ x → IsInSweep a t x
+        go : (x : Option Sweeping) → sweep_in (takes given.layout given.shapes now found) ≡ x → IsInSweep a t x
         go None is = rests
-        go (Some sw) is = sweepers.begins known z a t good_then rests (view h).generation (asks now) found sw number loaded b where
-          b : BeginsSweep (view h).generation (asks now) found sw
+        go (Some sw) is = sweepers.begins known z a t good_then rests (view h).generation (asks given.layout now) found sw number loaded b where
+          b : BeginsSweep (view h).generation (asks given.layout now) found sw
           b = known.processors_sweep.begins z a (view h) now pending found sw fine_now none is
 
           same_words : (c : _) → t.heap.words c ≡ h.words c
@@ -148,8 +148,8 @@ module _ (given : Given) (good : ShapesAreGood given.shapes) (limits : IsInLimit
           number : (view h).generation ≡ t.heap.words cell.Gen
           number = sym (same_words cell.Gen)
 
-          loaded : found ≡ t.heap.words (cell_of (asks now))
-          loaded = sym (same_words (cell_of (asks now)))
+          loaded : found ≡ t.heap.words (cell_of (asks given.layout now))
+          loaded = sym (same_words (cell_of (asks given.layout now)))
 
       abbrev pub by_deed : Lands
       by_deed = record {
@@ -171,8 +171,8 @@ module _ (given : Given) (good : ShapesAreGood given.shapes) (limits : IsInLimit
       runs : IsInSweep a s (Some sw)
       runs = grind (arith, in_sweep_now)
 
-      on : SweepsOn given.layout asks (takes given.shapes) sweep_in now sw
-      on = subst (λ (l : Layout). SweepsOn l asks (takes given.shapes) sweep_in now sw) (known.runs.stands z a (view h) now pending fine_now).sits.layout (known.processors_sweep.on given.shapes now sw is runs.1)
+      on : SweepsOn given.layout (asks given.layout) (takes given.layout given.shapes) sweep_in now sw
+      on = known.processors_sweep.on given.layout given.shapes now sw is runs.1
 
       found_is : found ≡ h.words (cell_of (sweep.asks given.layout sw))
       found_is = ap (λ (q : Ask). h.words (cell_of q)) on.asks_so
@@ -180,14 +180,14 @@ module _ (given : Given) (good : ShapesAreGood given.shapes) (limits : IsInLimit
       abbrev swept : State
       swept = sweepers.then known z a s has.good seat sw runs found found_is
 
-      words_swept : swept.heap.words ≡ effect h.words (asks now)
+      words_swept : swept.heap.words ≡ effect h.words (asks given.layout now)
       words_swept = (sweepers.goes_on known z a s has.good seat sw runs found found_is).words_are ∙ ap (effect h.words) (sym on.asks_so)
 
       pend_stays : swept.pend ≡ s.pend
       pend_stays = (sweepers.rows_stay known z a s sw sw.stage found).pend
 
-      plain : (uncounted now.task ≡ 0) × (uncounted (takes given.shapes now found).task ≡ 0)
-      plain = sweeps_plain given.shapes now found now.task sw is
+      plain : (uncounted now.task ≡ 0) × (uncounted (takes given.layout given.shapes now found).task ≡ 0)
+      plain = sweeps_plain given.layout given.shapes now found now.task sw is
 
       pub by_sweep : Lands
       by_sweep = record {
@@ -197,7 +197,7 @@ module _ (given : Given) (good : ShapesAreGood given.shapes) (limits : IsInLimit
         after = known.runs.sweep_step z a h swept.heap now pending sw good has.good.heap (sweepers.good_then known z a s has.good seat sw runs found found_is).heap fine_now is (leaves_of s swept (sweepers.goes_on known z a s has.good seat sw runs found found_is).keeps) words_swept;
         own = ap (λ (r : Row). r a) pend_stays ∙ (pend_is ∙ (plain.0 ∙ sym plain.1));
         others = λ b differs. ap (λ (r : Row). r b) pend_stays;
-        sweeps = sweepers.sweeps_on known z a s has.good seat sw runs found found_is (sweep_in (takes given.shapes now found)) (on.goes_so found);
+        sweeps = sweepers.sweeps_on known z a s has.good seat sw runs found found_is (sweep_in (takes given.layout given.shapes now found)) (on.goes_so found);
       }
 
     -- Whichever it is.

@@ -43,11 +43,11 @@ module _ (setup : Setup) (known : Known) where
         o : Others z b (view h) (view t)
         o = others_leave b (apart b x)
 
-        ended_was : (g : ℕ) → IsOf z b g → ((deeds setup.shapes).unacted p ≡ Some (op.End g)) ⊎ (t.ever.ended g ≡ true) → ((deeds setup.shapes).unacted p ≡ Some (op.End g)) ⊎ (h.ever.ended g ≡ true)
+        ended_was : (g : ℕ) → IsOf z b g → ((deeds setup.layout setup.shapes).unacted p ≡ Some (op.End g)) ⊎ (t.ever.ended g ≡ true) → ((deeds setup.layout setup.shapes).unacted p ≡ Some (op.End g)) ⊎ (h.ever.ended g ≡ true)
         ended_was g its (inl y) = inl y
         ended_was g its (inr y) = inr (sym (o.ends g its) ∙ y)
 
-        ended_is : (g : ℕ) → IsOf z b g → ((deeds setup.shapes).unacted p ≡ Some (op.End g)) ⊎ (h.ever.ended g ≡ true) → ((deeds setup.shapes).unacted p ≡ Some (op.End g)) ⊎ (t.ever.ended g ≡ true)
+        ended_is : (g : ℕ) → IsOf z b g → ((deeds setup.layout setup.shapes).unacted p ≡ Some (op.End g)) ⊎ (h.ever.ended g ≡ true) → ((deeds setup.layout setup.shapes).unacted p ≡ Some (op.End g)) ⊎ (t.ever.ended g ≡ true)
         ended_is g its (inl y) = inl y
         ended_is g its (inr y) = inr (o.ends g its ∙ y)
 

@@ -8,7 +8,7 @@ use Rattle.gh_mutator.specs.Deeds.{meaning, pointed}
 use Rattle.gh_mutator_heap.specs.Facts.{answered_at, Does, FactsAt}
 use Rattle.gh_state.specs.Moves as state
 use Rattle.gh_marked.specs.HoldVocabulary.{answers_of, given_of, opening_words, State}
-use Rattle.gh_marked.proofs.Vocabulary.{Act, acted, Actor, actors, acts, Answer, answered, answered_by, AnsweredDeed, Arena, arena, Ask, asks, begins, by, cell_of, deeds, DeedsFit, effect, END, ended_in, ends, Entry, Ever, ever, ProcessorFacts, given_at, gives, Good, has_left_at, has_point, HasState, Heap, InRange, is_busy_at, is_last_task, IsAsItShould, IsBounded, IsHeapOf, IsInLimits, IsOf, IsSound, Kind, KnowsAtAnyTime, Layout, left as left_by, Legal, may_leave, may_of, Op, op_at, option_to_list, point_of, Processor, processor_at, processor_kind, ShapesAreGood, started, state_of, takes, Task, TellsScan, those, view, Words, words, ◌%◌}
+use Rattle.gh_marked.proofs.Vocabulary.{Act, acted, Actor, actors, acts, Answer, answered, answered_by, AnsweredDeed, Arena, arena, Ask, asks, begins, by, cell_of, deeds, DeedsFit, effect, END, ended_in, ends, Entry, Ever, ever, ProcessorFacts, given_at, gives, Good, has_left_at, has_point, HasState, Heap, InRange, is_busy_at, is_last_task, IsAsItShould, IsBounded, IsHeapOf, IsInLimits, IsOf, IsSound, Kind, KnowsAtAnyTime, left as left_by, Legal, may_leave, may_of, Op, op_at, option_to_list, point_of, Processor, processor_at, processor_kind, ShapesAreGood, started, state_of, takes, Task, TellsScan, those, view, Words, words}
 use Rattle.gh_lists.specs.Beginning.{or-true, may_parts}
 use Rattle.gh_marked.specs.Endings.{acted_stays, acts_end, end_ends, ended_by, is_its_end, last_before, last_begun}
 use Rattle.gh_marked.proofs.OneStep.Globals.{no_global}
@@ -36,7 +36,7 @@ module _ (given : Given) (good : ShapesAreGood given.shapes) (limits : IsInLimit
   abbrev all : Kind Actor Op
   all = actors (setup_for given)
 
-  module _ (e : Entry Op) (es : List (Entry Op)) (legal : Legal (those (setup_for given)) (e ∷ es)) (lt : e.actor < given.layout.procs) (has : HasState (setup_for given) es) (land : landing.Lands given good limits known wanted e es legal lt has) (tells : TellsStacks has.state.heap.words (started k e.begun (processor_at (setup_for given) es e.actor))) where
+  module _ (e : Entry Op) (es : List (Entry Op)) (legal : Legal (those (setup_for given)) (e ∷ es)) (lt : e.actor < given.layout.procs) (has : HasState (setup_for given) es) (land : landing.Lands given good limits known wanted e es legal lt has) (tells : TellsStacks given.layout has.state.heap.words (started k e.begun (processor_at (setup_for given) es e.actor))) where
     -- The heap behind the list.
 
     abbrev h : Heap
@@ -69,7 +69,7 @@ module _ (given : Given) (good : ShapesAreGood given.shapes) (limits : IsInLimit
     abbrev may_now : (o : Op) → e.begun ≡ Some o → may a (by a es) o ≡ true
     may_now = step.may_now given good limits known e es legal lt has
 
-    abbrev pub sound_now : IsSound now
+    abbrev pub sound_now : IsSound given.layout now
     sound_now = step.sound_now given good limits known e es legal lt has
 
     abbrev pub fine_now : ProcessorFacts z a (view h) now is.pending
@@ -78,11 +78,11 @@ module _ (given : Given) (good : ShapesAreGood given.shapes) (limits : IsInLimit
     abbrev pub busy : is_busy_at now.task ≡ true
     busy = step.busy given good limits known e es legal lt has
 
-    abbrev pub asked : e.ask ≡ asks now
+    abbrev pub asked : e.ask ≡ asks given.layout now
     asked = step.asked given good limits known e es legal lt has
 
     abbrev found : ℕ
-    found = h.words (cell_of (asks now))
+    found = h.words (cell_of (asks given.layout now))
 
     abbrev pub found_is : e.found ≡ found
     found_is = step.found_is given good limits known e es legal lt has
@@ -97,40 +97,40 @@ module _ (given : Given) (good : ShapesAreGood given.shapes) (limits : IsInLimit
     does = land.after.does
 
     abbrev pub then : Processor
-    then = takes given.shapes now found
+    then = takes given.layout given.shapes now found
 
     pub then_is : processor_at (setup_for given) (e ∷ es) a ≡ then
-    then_is = rw (eq-eqb e.actor e.actor refl) (ap (takes given.shapes now) found_is)
+    then_is = rw (eq-eqb e.actor e.actor refl) (ap (takes given.layout given.shapes now) found_is)
 
     pub words_are : t.words ≡ words (setup_for given) (e ∷ es)
     words_are = land.words_are ∙ (ap (effect h.words) (sym asked) ∙ ap (λ (w : Words). effect w e.ask) of.words_are)
 
     pub ever_is : t.ever ≡ ever (setup_for given) (e ∷ es)
-    ever_is = does.ever ∙ (ap (λ (n : ℕ). acted given.shapes h.ever (acts now n)) (sym found_is) ∙ (ap (λ (x : Ever). acted given.shapes x (acts now e.found)) of.ever_is ∙ sym ((known.points given.shapes given.layout).follows es e)))
+    ever_is = does.ever ∙ (ap (λ (n : ℕ). acted given.shapes h.ever (acts given.layout now n)) (sym found_is) ∙ (ap (λ (x : Ever). acted given.shapes x (acts given.layout now e.found)) of.ever_is ∙ sym ((known.points given.shapes given.layout).follows es e)))
 
     pub bounded : IsBounded z t.ever
-    bounded = subst (IsBounded z) (ap (λ (n : ℕ). acted given.shapes h.ever (acts now n)) found_is ∙ sym does.ever) (bounded_then given known e es legal lt h.ever of.bounded)
+    bounded = subst (IsBounded z) (ap (λ (n : ℕ). acted given.shapes h.ever (acts given.layout now n)) found_is ∙ sym does.ever) (bounded_then given known e es legal lt h.ever of.bounded)
 
     -- Who has ended.
 
     ended_on : (g : ℕ) → h.ever.ended g ≡ true → t.ever.ended g ≡ true
-    ended_on g x = ap (λ (y : Ever). y.ended g) does.ever ∙ acted_stays given.shapes now found h.ever g (acts now found) x
+    ended_on g x = ap (λ (y : Ever). y.ended g) does.ever ∙ acted_stays given.layout given.shapes now found h.ever g (acts given.layout now found) x
 
     ended_was : (g : ℕ) → t.ever.ended g ≡ true → (h.ever.ended g ≡ true) ⊎ (now.task ≡ task.End g)
-    ended_was g x = ended_by given.shapes now found h.ever g (ap (λ (y : Ever). y.ended g) (sym does.ever) ∙ x)
+    ended_was g x = ended_by given.layout given.shapes now found h.ever g (ap (λ (y : Ever). y.ended g) (sym does.ever) ∙ x)
 
     ends_it : (g : ℕ) → now.task ≡ task.End g → t.ever.ended g ≡ true
-    ends_it g x = ap (λ (y : Ever). y.ended g) does.ever ∙ end_ends given.shapes now found h.ever g x
+    ends_it g x = ap (λ (y : Ever). y.ended g) does.ever ∙ end_ends given.layout given.shapes now found h.ever g x
 
     pub word_ends : (g : ℕ) → now.task ≡ task.End g → t.words (cell.Scanned g) ≡ END
-    word_ends g x = ap (λ (w : Words). w (cell.Scanned g)) (land.words_are ∙ ap (effect h.words) (known.notes.ends now g x)) ∙ ap (λ (b : Bool). cond b END (h.words (cell.Scanned g))) (eq-eqb g g refl)
+    word_ends g x = ap (λ (w : Words). w (cell.Scanned g)) (land.words_are ∙ ap (effect h.words) (known.notes.ends given.layout now g x)) ∙ ap (λ (b : Bool). cond b END (h.words (cell.Scanned g))) (eq-eqb g g refl)
 
     -- The words of stacks.
 
-    then_word : (g : ℕ) → t.words (cell.Scanned g) ≡ effect h.words (asks now) (cell.Scanned g)
+    then_word : (g : ℕ) → t.words (cell.Scanned g) ≡ effect h.words (asks given.layout now) (cell.Scanned g)
     then_word g = ap (λ (w : Words). w (cell.Scanned g)) land.words_are
 
-    word_is : (g : ℕ) → TellsScan now g → t.words (cell.Scanned g) ≡ now.poll.local.view.begun
+    word_is : (g : ℕ) → TellsScan given.layout now g → t.words (cell.Scanned g) ≡ now.poll.local.view.begun
     word_is g x = then_word g ∙ (ap (λ (q : Ask). effect h.words q (cell.Scanned g)) x.tells ∙ ap (λ (b : Bool). cond b now.poll.local.view.begun (h.words (cell.Scanned g))) (eq-eqb g g refl))
 
     goes_on : (g : ℕ) → (now.task ≡ task.End g → ⊥) → t.ever.ended g ≡ true → h.ever.ended g ≡ true
@@ -148,8 +148,8 @@ module _ (given : Given) (good : ShapesAreGood given.shapes) (limits : IsInLimit
     stands : KnowsAtAnyTime z a (view h) now.poll
     stands = known.runs.stands z a (view h) now is.pending fine_now
 
-    own_goroutine : (g : ℕ) → TellsScan now g → z.seat_of g ≡ a
-    own_goroutine g x = ap (λ (y : Layout). g % y.procs) (sym stands.sits.layout) ∙ (x.own ∙ stands.sits.seat)
+    own_goroutine : (g : ℕ) → TellsScan given.layout now g → z.seat_of g ≡ a
+    own_goroutine g x = x.own ∙ stands.sits.seat
 
     pub others_stacks : (b g : ℕ) → b ≢ a → IsOf z b g → t.words (cell.Scanned g) ≡ h.words (cell.Scanned g)
     others_stacks b g apart its = elim (is_its_end now.task g) [
@@ -162,7 +162,7 @@ module _ (given : Given) (good : ShapesAreGood given.shapes) (limits : IsInLimit
 
     -- What it has noted, begun and ended.
 
-    fit : DeedsFit k (deeds given.shapes)
+    fit : DeedsFit k (deeds given.layout given.shapes)
     fit = known.fit given.shapes given.layout
 
     noted_before : now.poll.local.scanned ≡ m.poll.local.scanned
@@ -177,30 +177,30 @@ module _ (given : Given) (good : ShapesAreGood given.shapes) (limits : IsInLimit
 
     notes : (g : ℕ) → IsOf z a g → slice_index then.poll.local.scanned g ≡ t.words (cell.Scanned g)
     notes g its = elim (is_its_end now.task g) [
-      | inl x ↦ known.notes.notes given.shapes now found g END sound_now (known.notes.ends now g x) (there g its) ∙ sym (word_ends g x)
+      | inl x ↦ known.notes.notes given.layout given.shapes now found g END sound_now (known.notes.ends given.layout now g x) (there g its) ∙ sym (word_ends g x)
       | inr other ↦ elim (tells g other) [
-        | inl x ↦ known.notes.keeps given.shapes now found g sound_now x.untold ∙ (ap (λ (xs : List ℕ). slice_index xs g) noted_before ∙ (is.notes g its ∙ sym (then_word g ∙ x.same)))
-        | inr x ↦ known.notes.notes given.shapes now found g now.poll.local.view.begun sound_now x.tells.tells (there g its) ∙ sym (word_is g x.tells)
+        | inl x ↦ known.notes.keeps given.layout given.shapes now found g sound_now x.untold ∙ (ap (λ (xs : List ℕ). slice_index xs g) noted_before ∙ (is.notes g its ∙ sym (then_word g ∙ x.same)))
+        | inr x ↦ known.notes.notes given.layout given.shapes now found g now.poll.local.view.begun sound_now x.tells.tells (there g its) ∙ sym (word_is g x.tells)
       ]
     ]
 
     abbrev unacted : Processor → Option Op
-    unacted p = (deeds given.shapes).unacted p
+    unacted p = (deeds given.layout given.shapes).unacted p
 
     -- what was still to act, is still to act or acts now
     acts_or_waits : (g : ℕ) → unacted now ≡ Some (op.End g) → (unacted then ≡ Some (op.End g)) ⊎ (t.ever.ended g ≡ true)
-    acts_or_waits g x = go ((deeds given.shapes).acts now found) refl where
-      go : (p : Option Act) → (deeds given.shapes).acts now found ≡ p → (unacted then ≡ Some (op.End g)) ⊎ (t.ever.ended g ≡ true)
+    acts_or_waits g x = go ((deeds given.layout given.shapes).acts now found) refl where
+      go : (p : Option Act) → (deeds given.layout given.shapes).acts now found ≡ p → (unacted then ≡ Some (op.End g)) ⊎ (t.ever.ended g ≡ true)
       go None none = inl (fit.goes_on now found busy none ∙ x)
       go (Some p) some =
           let same : Some p.op ≡ Some (op.End g) = sym (fit.acts_for now found p busy some) ∙ x in
           let one : p.op ≡ op.End g = cc in
-          inr (ends_it g (acts_end now now.task found p g (point_is (acts now found) p some) one))
+          inr (ends_it g (acts_end given.layout now now.task found p g (point_is (acts given.layout now found) p some) one))
 
     -- and nothing else is to act behind the step
     was_waiting : (g : ℕ) → unacted then ≡ Some (op.End g) → unacted now ≡ Some (op.End g)
-    was_waiting g x = go ((deeds given.shapes).acts now found) refl where
-      go : (p : Option Act) → (deeds given.shapes).acts now found ≡ p → unacted now ≡ Some (op.End g)
+    was_waiting g x = go ((deeds given.layout given.shapes).acts now found) refl where
+      go : (p : Option Act) → (deeds given.layout given.shapes).acts now found ≡ p → unacted now ≡ Some (op.End g)
       go None none = sym (fit.goes_on now found busy none) ∙ x
       go (Some p) some = absurd (let no : None ≡ Some (op.End g) = sym (fit.acts_once now found p busy some) ∙ x in cc)
 
@@ -271,7 +271,7 @@ module _ (given : Given) (good : ShapesAreGood given.shapes) (limits : IsInLimit
       go (Some o) some = left_begun o some (has_left_at m.task) refl (sym (ap (λ (y : Option Op). is_last_task (started k y m).task) some) ∙ last)
 
     left : is_last_task then.task ≡ true → (g : ℕ) → IsOf z a g → t.ever.ended g ≡ true
-    left last g its = ended_on g (left_now (last_before given.shapes now found now.task busy last) g its)
+    left last g its = ended_on g (left_now (last_before given.layout given.shapes now found now.task busy last) g its)
 
     -- What it was answered.
 
@@ -285,22 +285,22 @@ module _ (given : Given) (good : ShapesAreGood given.shapes) (limits : IsInLimit
     answered_first x None xs = refl
     answered_first x (Some p) xs = refl
 
-    answers_here : answers_of z first a (e ∷ es) ≡ option_to_list (answered_at given.shapes h.ever (point_of (acts now found))) ++ answers_of z first a es
+    answers_here : answers_of z first a (e ∷ es) ≡ option_to_list (answered_at given.shapes h.ever (point_of (acts given.layout now found))) ++ answers_of z first a es
     answers_here =
-        ap (λ (b : Bool). map answer_of_act (cond b (option_to_list (answered (meaning given.shapes) (ever (setup_for given) es) (point_of (acts now e.found))) ++ answered_by k (deeds given.shapes) (meaning given.shapes) a es) (answered_by k (deeds given.shapes) (meaning given.shapes) a es))) (eq-eqb e.actor e.actor refl)
-        ∙ (answered_first (ever (setup_for given) es) (point_of (acts now e.found)) (answered_by k (deeds given.shapes) (meaning given.shapes) a es)
-        ∙ (ap (λ (x : Ever). option_to_list (answered_at given.shapes x (point_of (acts now e.found))) ++ answers_of z first a es) (sym of.ever_is)
-        ∙ ap (λ (n : ℕ). option_to_list (answered_at given.shapes h.ever (point_of (acts now n))) ++ answers_of z first a es) found_is))
+        ap (λ (b : Bool). map answer_of_act (cond b (option_to_list (answered (meaning given.shapes) (ever (setup_for given) es) (point_of (acts given.layout now e.found))) ++ answered_by k (deeds given.layout given.shapes) (meaning given.shapes) a es) (answered_by k (deeds given.layout given.shapes) (meaning given.shapes) a es))) (eq-eqb e.actor e.actor refl)
+        ∙ (answered_first (ever (setup_for given) es) (point_of (acts given.layout now e.found)) (answered_by k (deeds given.layout given.shapes) (meaning given.shapes) a es)
+        ∙ (ap (λ (x : Ever). option_to_list (answered_at given.shapes x (point_of (acts given.layout now e.found))) ++ answers_of z first a es) (sym of.ever_is)
+        ∙ ap (λ (n : ℕ). option_to_list (answered_at given.shapes h.ever (point_of (acts given.layout now n))) ++ answers_of z first a es) found_is))
 
-    given_here : given_of z first a (e ∷ es) ≡ option_to_list (given_at now.task (gives now found)) ++ given_of z first a es
+    given_here : given_of z first a (e ∷ es) ≡ option_to_list (given_at now.task (gives given.layout now found)) ++ given_of z first a es
     given_here =
-        ap (λ (b : Bool). cond b (option_to_list (given_at now.task (gives now e.found)) ++ given_of z first a es) (given_of z first a es)) (eq-eqb e.actor e.actor refl)
-        ∙ ap (λ (n : ℕ). option_to_list (given_at now.task (gives now n)) ++ given_of z first a es) found_is
+        ap (λ (b : Bool). cond b (option_to_list (given_at now.task (gives given.layout now e.found)) ++ given_of z first a es) (given_of z first a es)) (eq-eqb e.actor e.actor refl)
+        ∙ ap (λ (n : ℕ). option_to_list (given_at now.task (gives given.layout now n)) ++ given_of z first a es) found_is
 
     answers : answers_of z first a (e ∷ es) ≡ option_to_list does.after ++ given_of z first a (e ∷ es)
     answers =
-        let x = option_to_list (answered_at given.shapes h.ever (point_of (acts now found))) in
-        let y = option_to_list (given_at now.task (gives now found)) in
+        let x = option_to_list (answered_at given.shapes h.ever (point_of (acts given.layout now found))) in
+        let y = option_to_list (given_at now.task (gives given.layout now found)) in
         answers_here ∙ (ap (λ (ys : List Answer). x ++ ys) is.answers
         ∙ (sym (append_assoc x (option_to_list is.pending) (given_of z first a es))
         ∙ (ap (λ (ys : List Answer). ys ++ given_of z first a es) land.after.answers
@@ -311,13 +311,13 @@ module _ (given : Given) (good : ShapesAreGood given.shapes) (limits : IsInLimit
 
     pub globals : (i : ℕ) → given.layout.globals ≤ i → t.words (cell.Global i) ≡ 0
     globals i le =
-        let within : InRange given.layout (cell_of (asks now)) = subst (λ (q : Ask). InRange given.layout (cell_of q)) asked legal.1.within in
-        ap (λ (w : Words). w (cell.Global i)) land.words_are ∙ (known.one h.words (asks now) (cell.Global i)
-        ∙ (ap (λ (b : Bool). cond b (left_by (asks now) found) (h.words (cell.Global i))) (no_global given.layout i le (cell_of (asks now)) within) ∙ of.globals i le))
+        let within : InRange given.layout (cell_of (asks given.layout now)) = subst (λ (q : Ask). InRange given.layout (cell_of q)) asked legal.1.within in
+        ap (λ (w : Words). w (cell.Global i)) land.words_are ∙ (known.one h.words (asks given.layout now) (cell.Global i)
+        ∙ (ap (λ (b : Bool). cond b (left_by (asks given.layout now) found) (h.words (cell.Global i))) (no_global given.layout i le (cell_of (asks given.layout now)) within) ∙ of.globals i le))
 
     as_it_should : IsAsItShould (setup_for given) (e ∷ es) t a then
     as_it_should = record {
-      sound = known.writes.sound_takes given.shapes now found sound_now busy;
+      sound = known.writes.sound_takes given.layout given.shapes now found sound_now busy;
       pending = does.after;
       fine = does.fine;
       answers = answers;

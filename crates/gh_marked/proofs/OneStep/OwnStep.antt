@@ -61,8 +61,8 @@ module _ (given : Given) (good : ShapesAreGood given.shapes) (limits : IsInLimit
     pub may_now : (o : Op) → e.begun ≡ Some o → may a (by a es) o ≡ true
     may_now o x = (begins_so given known e es legal lt o x).may_now
 
-    pub sound_now : IsSound now
-    sound_now = begins_with IsSound is.sound (λ o x. known.writes.sound_begins given.shapes given.layout m o is.sound (idle o x))
+    pub sound_now : IsSound given.layout now
+    sound_now = begins_with (IsSound given.layout) is.sound (λ o x. known.writes.sound_begins given.shapes given.layout m o is.sound (idle o x))
 
     pub may_begin : (o : Op) → e.begun ≡ Some o → MayBegin z a (view h) o
     may_begin o x = may-begin z a (view h) (state_of k a (by a es)) (by a es) (λ g its y. is.ended g its (inr y))
@@ -80,15 +80,15 @@ module _ (given : Given) (good : ShapesAreGood given.shapes) (limits : IsInLimit
     pub busy : is_busy_at now.task ≡ true
     busy = busy_now given known e es legal lt
 
-    pub asked : e.ask ≡ asks now
-    asked = legal.1.asks ∙ ap asks_by (ap (started all e.begun) (runs_are (setup_for given) es a lt) ∙ run_started (setup_for given) e.begun m)
+    pub asked : e.ask ≡ asks given.layout now
+    asked = legal.1.asks ∙ ap (asks_by given.layout) (ap (started all e.begun) (runs_are (setup_for given) es a lt) ∙ run_started (setup_for given) e.begun m)
 
     abbrev pub found : ℕ
-    found = h.words (cell_of (asks now))
+    found = h.words (cell_of (asks given.layout now))
 
     pub found_is : e.found ≡ found
-    found_is = legal.1.found ∙ (ap (λ (q : Ask). words (setup_for given) es (cell_of q)) asked ∙ ap (λ (w : Words). w (cell_of (asks now))) (sym of.words_are))
+    found_is = legal.1.found ∙ (ap (λ (q : Ask). words (setup_for given) es (cell_of q)) asked ∙ ap (λ (w : Words). w (cell_of (asks given.layout now))) (sym of.words_are))
 
     -- where it runs no sweep
-    pub land : sweep_in now ≡ None → Steps z a h (asks now) (λ t. DoesPoints z a h t now is.pending found)
+    pub land : sweep_in now ≡ None → Steps z a h (asks given.layout now) (λ t. DoesPoints z a h t now is.pending found)
     land none = known.runs.own_step z a h now is.pending good busy gh none fine_now

@@ -87,8 +87,8 @@ module _ (read : PackedWordsAreReadBack) (shapes : List Shape) where
       quiet (Swap c v u) is = leaves (Swap c v u) (not_page c is)
 
     -- A step of a worker that runs no sweep.
-    pub worked : (k : WorkersAreRoutines) (m : Working) → sweep_in m ≡ None → ForPage (effect w (worker.asks m) (cell.Page q))
-    worked k m none = subst ForPage (sym ((k.marks_alone m none).leaves w (cell.Page q) refl)) was
+    pub worked : (k : WorkersAreRoutines) (l : Layout) (m : Working) → sweep_in m ≡ None → ForPage (effect w (worker.asks l m) (cell.Page q))
+    worked k l m none = subst ForPage (sym ((k.marks_alone l m none).leaves w (cell.Page q) refl)) was
 
     -- A step of the coordinator.
 
@@ -122,18 +122,18 @@ module _ (read : PackedWordsAreReadBack) (shapes : List Shape) where
     rests l _ none = was
 
     -- and of the other parts none writes a page
-    module _ (k : FootprintsHold) (c : Coordinating) (is : PartsAreRoutines c.layout) where
+    module _ (k : FootprintsHold) (l : Layout) (c : Coordinating) (is : PartsAreRoutines l) where
       spares : (f : Footprint) (step : Ask) → Writes f step → f row.Page ≡ false → ForPage (effect w step (cell.Page q))
       spares f step writes none = subst ForPage (sym (k.leaves f step w (cell.Page q) writes none)) was
 
-      pub led : (p : CoordStage) → sweep_at p ≡ None → ForPage (effect w (asks_at c p) (cell.Page q))
+      pub led : (p : CoordStage) → sweep_at p ≡ None → ForPage (effect w (asks_at l c p) (cell.Page q))
       led (Stop st) s = spares stop.writes _ (is.stop.writes st) refl
       led (Open o) s = spares open_.writes _ (is.opens.writes o) refl
       led (Watch v) s = spares watch.writes _ (is.watch.writes v) refl
       led (StopAgain st) s = spares stop.writes _ (is.stop.writes st) refl
       led (Check v) s = spares watch.writes _ (is.watch.writes v) refl
       led (Close x) s = spares close.writes _ (is.close.writes x) refl
-      led (Sweep v) s = rests c.layout v.stage s
+      led (Sweep v) s = rests l v.stage s
       led (Count x) s = spares count.writes _ (is.count.writes x) refl
       led (Tell t) s = spares tell.writes _ (is.tell.writes t) refl
       led _ s = was

@@ -22,7 +22,7 @@ use Rattle.gh_mutator.specs.Store as store
 use Rattle.gh_mutator.specs.Sweeping.{sweep_at}
 use Rattle.gh_poll.specs.Wait as wait
 use Rattle.gh_sweep.specs.Listing.{Sweeping}
-use Rattle.gh_marked.proofs.Vocabulary.{acted, acting, acts_at, Add, after_assist, after_gc, after_leave, after_poll, Assist, Assisting, assisting, assists, cache_span, CountsObject, Ever, follows, Found, Global, GlobalStage, Heap, is_busy_at, is_some, Name, nat_lt, NewStage, Op, Place, PlaceStage, Placing, Processor, Register, register_of, Search, Shape, Source, takes_at, Task, Then, uncounted, Wait, Want, Wanted}
+use Rattle.gh_marked.proofs.Vocabulary.{acted, acting, acts_at, Add, after_assist, after_gc, after_leave, after_poll, Assist, Assisting, assisting, assists, cache_span, CountsObject, Ever, follows, Found, Global, GlobalStage, Heap, is_busy_at, is_some, Layout, Name, nat_lt, NewStage, Op, Place, PlaceStage, Placing, Processor, Register, register_of, Search, Shape, Source, takes_at, Task, Then, uncounted, Wait, Want, Wanted}
 
 -- No object is made but by a `new`.
 
@@ -52,11 +52,11 @@ IsPlain t = uncounted t ≡ 0
 followed : {S : Type 0} (goes : S → Task) → ((s : S) → IsPlain (goes s)) → (x : Then S) → IsPlain (follows goes x)
 followed goes plain x = grind arith
 
-module _ (shapes : List Shape) (m : Processor) (found : ℕ) where
+module _ (l : Layout) (shapes : List Shape) (m : Processor) (found : ℕ) where
   pub record Counts (t : Task) : Type 0 where
-    pub asks_is : asks_at m t ≡ Add cell.Heap (uncounted t)
-    pub then : uncounted (takes_at shapes m t found).task ≡ 0
-    pub nothing : (e : Ever) (g : ℕ) → (acted shapes e (acts_at m t found)).made g ≡ e.made g
+    pub asks_is : asks_at l m t ≡ Add cell.Heap (uncounted t)
+    pub then : uncounted (takes_at l shapes m t found).task ≡ 0
+    pub nothing : (e : Ever) (g : ℕ) → (acted shapes e (acts_at l m t found)).made g ≡ e.made g
     -- words alone change
     pub alone : (u v : Heap) → CountsAlone t u v → v ≡ record u { words = v.words }
 
@@ -65,12 +65,12 @@ module _ (shapes : List Shape) (m : Processor) (found : ℕ) where
     pub placing : Placing
     pub is : t ≡ task.New (record { wanted = wanted; stage = Place placing })
     pub stage : placing.stage ≡ making.Alloc
-    pub silent : CountsObject (asks_at m t) t → ⊥
+    pub silent : CountsObject (asks_at l m t) t → ⊥
 
   pub record Keeps (t : Task) : Type 0 where
-    pub same : uncounted (takes_at shapes m t found).task ≡ uncounted t
-    pub silent : CountsObject (asks_at m t) t → ⊥
-    pub nothing : (e : Ever) (g : ℕ) → (acted shapes e (acts_at m t found)).made g ≡ e.made g
+    pub same : uncounted (takes_at l shapes m t found).task ≡ uncounted t
+    pub silent : CountsObject (asks_at l m t) t → ⊥
+    pub nothing : (e : Ever) (g : ℕ) → (acted shapes e (acts_at l m t found)).made g ≡ e.made g
 
   abbrev StepOf : Task → Type 0
   StepOf t = Counts t ⊎ (Makes t ⊎ Keeps t)
@@ -127,24 +127,24 @@ module _ (shapes : List Shape) (m : Processor) (found : ℕ) where
   pub kind : (t : Task) → is_busy_at t ≡ true → StepOf t
   kind task.Idle busy = absurd (cc)
   kind task.Left busy = absurd (cc)
-  kind (task.Load x) busy = inr (inr (record { same = followed task.Load (λ s. refl) (load.step m.poll.layout x found).then; silent = λ y. y; nothing = acting_made shapes (load.step m.poll.layout x found).acts (load.op_of x) tt }))
-  kind (task.Store x) busy = inr (inr (record { same = followed task.Store (λ s. refl) (store.step m.poll.layout m.poll.local (register_of m x.g x.v) x found).then; silent = λ y. y; nothing = acting_made shapes (store.step m.poll.layout m.poll.local (register_of m x.g x.v) x found).acts (store.op_of x) tt }))
-  kind (task.Global x) busy = inr (inr (record { same = followed task.Global (λ s. refl) (global.step m.poll.layout (register_of m x.g x.r) x found).then; silent = λ y. y; nothing = acting_made shapes (global.step m.poll.layout (register_of m x.g x.r) x found).acts (global.op_of x) (no_new_global x x.stage) }))
+  kind (task.Load x) busy = inr (inr (record { same = followed task.Load (λ s. refl) (load.step l x found).then; silent = λ y. y; nothing = acting_made shapes (load.step l x found).acts (load.op_of x) tt }))
+  kind (task.Store x) busy = inr (inr (record { same = followed task.Store (λ s. refl) (store.step l m.poll.local (register_of m x.g x.v) x found).then; silent = λ y. y; nothing = acting_made shapes (store.step l m.poll.local (register_of m x.g x.v) x found).acts (store.op_of x) tt }))
+  kind (task.Global x) busy = inr (inr (record { same = followed task.Global (λ s. refl) (global.step l (register_of m x.g x.r) x found).then; silent = λ y. y; nothing = acting_made shapes (global.step l (register_of m x.g x.r) x found).acts (global.op_of x) (no_new_global x x.stage) }))
   kind (task.Register x) busy = inr (inr (record { same = refl; silent = λ y. y; nothing = acting_made shapes true (register.op_of x) (no_new_register x x.source) }))
   kind (task.New x) busy = new_kind x.wanted x.stage where
     new_kind : (w : Wanted) (s : NewStage) → StepOf (task.New (record { wanted = w; stage = s }))
-    new_kind w (Search waited q) = inr (inr (record { same = searched w waited (search.goes m.poll.layout q found) (cache_span m w.sought (search.goes m.poll.layout q found).find.cached) (search.gives m.poll.layout q found); silent = λ y. y; nothing = refused_made shapes (new.refuses_behind_wait waited (search.gives m.poll.layout q found)) w }))
-    new_kind w (Wait y) = inr (inr (record { same = waited_for w (wait.goes (wait.waiting y m.poll) found) (wait.gives (wait.waiting y m.poll) found); silent = λ y. y; nothing = λ e g. refl }))
+    new_kind w (Search waited q) = inr (inr (record { same = searched w waited (search.goes l q found) (cache_span m w.sought (search.goes l q found).find.cached) (search.gives l q found); silent = λ y. y; nothing = refused_made shapes (new.refuses_behind_wait waited (search.gives l q found)) w }))
+    new_kind w (Wait y) = inr (inr (record { same = waited_for w (wait.goes l (wait.waiting y m.poll) found) (wait.gives l (wait.waiting y m.poll) found); silent = λ y. y; nothing = λ e g. refl }))
     new_kind w (Place p) = placed w p p.stage
     new_kind w (Want n) = inr (inr (record { same = refl; silent = λ y. y; nothing = λ e g. refl }))
-    new_kind w (Assist n x) = inr (inr (record { same = assisted w n (assist.goes m.poll.layout x found) (assist.gives m.poll.layout x found); silent = λ y. y; nothing = λ e g. refl }))
-  kind (task.Gc g x) busy = inr (inr (record { same = ended_gc g (wait.goes (wait.waiting x m.poll) found) (wait.gives (wait.waiting x m.poll) found); silent = λ y. y; nothing = acting_made shapes (is_some (wait.gives (wait.waiting x m.poll) found)) (op.Gc g) tt }))
-  kind task.Poll busy = inr (inr (record { same = ended_poll (poll.goes m.poll found) (poll.gives m.poll found); silent = λ y. y; nothing = acting_made shapes (is_some (poll.gives m.poll found)) op.Poll tt }))
+    new_kind w (Assist n x) = inr (inr (record { same = assisted w n (assist.goes l x found) (assist.gives l x found); silent = λ y. y; nothing = λ e g. refl }))
+  kind (task.Gc g x) busy = inr (inr (record { same = ended_gc g (wait.goes l (wait.waiting x m.poll) found) (wait.gives l (wait.waiting x m.poll) found); silent = λ y. y; nothing = acting_made shapes (is_some (wait.gives l (wait.waiting x m.poll) found)) (op.Gc g) tt }))
+  kind task.Poll busy = inr (inr (record { same = ended_poll (poll.goes l m.poll found) (poll.gives l m.poll found); silent = λ y. y; nothing = acting_made shapes (is_some (poll.gives l m.poll found)) op.Poll tt }))
   kind (task.End g) busy = inr (inr (record { same = refl; silent = λ y. y; nothing = λ e h. refl }))
   kind (task.Leave x) busy = inr (inr (record { same = ended_leave (leave.goes x found) (leave.gives x found); silent = λ y. y; nothing = acting_made shapes (is_some (leave.gives x found)) op.Leave tt }))
 
   -- a step of a sweep is one of a search
-  pub sweeps_plain : (t : Task) (sw : Sweeping) → sweep_at t ≡ Some sw → (uncounted t ≡ 0) × (uncounted (takes_at shapes m t found).task ≡ 0)
+  pub sweeps_plain : (t : Task) (sw : Sweeping) → sweep_at t ≡ Some sw → (uncounted t ≡ 0) × (uncounted (takes_at l shapes m t found).task ≡ 0)
   sweeps_plain t sw is = grind arith
 
 pub idle_plain : (t : Task) → is_busy_at t ≡ false → uncounted t ≡ 0

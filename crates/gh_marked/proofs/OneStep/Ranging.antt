@@ -32,12 +32,12 @@ module _ (given : Given) (known : Known) where
   abbrev all : Kind Actor Op
   all = actors (setup_for given)
 
-  fit : DeedsFit k (deeds given.shapes)
+  fit : DeedsFit k (deeds given.layout given.shapes)
   fit = known.fit given.shapes given.layout
 
   -- what is still to act at a processor is in range
   abbrev IsRanged : Processor → Type 0
-  IsRanged m = (o : Op) → (deeds given.shapes).unacted m ≡ Some o → IsInRange z o
+  IsRanged m = (o : Op) → (deeds given.layout given.shapes).unacted m ≡ Some o → IsInRange z o
 
   module _ (e : Entry Op) (es : List (Entry Op)) (legal : Legal (those (setup_for given)) (e ∷ es)) (lt : e.actor < given.layout.procs) where
     abbrev m : Processor
@@ -62,13 +62,13 @@ module _ (given : Given) (known : Known) where
         let b = subst (λ (x : Option Op). Begins (those (setup_for given)) e.actor es x) is legal.1.begins in
         record { idle = sym (ap is_busy here) ∙ b.0; may_now = b.1 }
 
-    pub unacted_begun : (o : Op) → e.begun ≡ Some o → (deeds given.shapes).unacted now ≡ with_point (deeds given.shapes) (Some o)
+    pub unacted_begun : (o : Op) → e.begun ≡ Some o → (deeds given.layout given.shapes).unacted now ≡ with_point (deeds given.layout given.shapes) (Some o)
     unacted_begun o is = grind (arith, begins_so, busy_now, fit)
 
     pub ranged_now : IsRanged m → IsRanged now
     ranged_now was o is = go e.begun refl where
       go : (b : Option Op) → e.begun ≡ b → IsInRange z o
-      go None none = was o (sym (ap (λ (x : Option Op). (deeds given.shapes).unacted (started k x m)) none) ∙ is)
+      go None none = was o (sym (ap (λ (x : Option Op). (deeds given.layout given.shapes).unacted (started k x m)) none) ∙ is)
       go (Some p) some = by_point (has_point p) refl (sym (unacted_begun p some) ∙ is) where
         by_point : (b : Bool) → has_point p ≡ b → cond (has_point p) (Some p) None ≡ Some o → IsInRange z o
         by_point true x same =
@@ -77,9 +77,9 @@ module _ (given : Given) (known : Known) where
             subst (IsInRange z) one (op_range z p (may_parts z given.counts e.actor (state_of k e.actor (by e.actor es)) (by e.actor es) p (begins_so p some).may_now).range)
         by_point false x same = absurd (let no : None ≡ Some o = sym (ap (λ (c : Bool). cond c (Some p) None) x) ∙ same in cc)
 
-    ranged_then : IsRanged m → IsRanged (takes given.shapes now e.found)
-    ranged_then was o is = go ((deeds given.shapes).acts now e.found) refl where
-      go : (x : Option Act) → (deeds given.shapes).acts now e.found ≡ x → IsInRange z o
+    ranged_then : IsRanged m → IsRanged (takes given.layout given.shapes now e.found)
+    ranged_then was o is = go ((deeds given.layout given.shapes).acts now e.found) refl where
+      go : (x : Option Act) → (deeds given.layout given.shapes).acts now e.found ≡ x → IsInRange z o
       go None none = ranged_now was o (sym (fit.goes_on now e.found busy_now none) ∙ is)
       go (Some x) some = absurd (let no : None ≡ Some o = sym (fit.acts_once now e.found x busy_now some) ∙ is in cc)
 
@@ -101,9 +101,9 @@ module _ (given : Given) (known : Known) where
     answered_so : (y : Act) (b : Bool) → y.full ≡ b → (answer_at given.shapes x y ≡ answer_of given.shapes x y.op) ⊎ (answer_at given.shapes x y ≡ answers.Full)
     answered_so y b is = grind arith
 
-    pub bounded_then : IsBounded z (acted given.shapes x (acts (now e es legal lt) e.found))
-    bounded_then = subst (IsBounded z) ((known.points given.shapes given.layout).alone x (acts (now e es legal lt) e.found)) (go ((deeds given.shapes).acts (now e es legal lt) e.found) refl) where
-      go : (p : Option Act) → (deeds given.shapes).acts (now e es legal lt) e.found ≡ p → IsBounded z (acted given.shapes x (point_of (acts (now e es legal lt) e.found)))
+    pub bounded_then : IsBounded z (acted given.shapes x (acts given.layout (now e es legal lt) e.found))
+    bounded_then = subst (IsBounded z) ((known.points given.shapes given.layout).alone x (acts given.layout (now e es legal lt) e.found)) (go ((deeds given.layout given.shapes).acts (now e es legal lt) e.found) refl) where
+      go : (p : Option Act) → (deeds given.layout given.shapes).acts (now e es legal lt) e.found ≡ p → IsBounded z (acted given.shapes x (point_of (acts given.layout (now e es legal lt) e.found)))
       go None is = subst (λ (q : Option Act). IsBounded z (acted given.shapes x q)) (sym is) bounded
       go (Some y) is =
           let unacted = fit.acts_for (now e es legal lt) e.found y (busy_now e es legal lt) is in

@@ -24,8 +24,8 @@ abbrev pub IsSearchedAgain : Task → Type 0
 IsSearchedAgain (task.New x) = Searched x.stage
 IsSearchedAgain _ = ⊥
 
-pub full_searches : (m : Processor) (t : Task) (found : ℕ) (x : Act) → acts_at m t found ≡ Some x → x.full ≡ true → IsSearchedAgain t
-full_searches m t found x is full = grind arith
+pub full_searches : (l : Layout) (m : Processor) (t : Task) (found : ℕ) (x : Act) → acts_at l m t found ≡ Some x → x.full ≡ true → IsSearchedAgain t
+full_searches l m t found x is full = grind arith
 
 -- a point is an act
 pub point_is : (a : Option Act) (x : Act) → point_of a ≡ Some x → a ≡ Some x

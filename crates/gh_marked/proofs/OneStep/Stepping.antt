@@ -27,7 +27,7 @@ module _ (given : Given) (good : ShapesAreGood given.shapes) (limits : IsInLimit
   z = arena (setup_for given)
 
   module _ (e : Entry Op) (es : List (Entry Op)) (legal : Legal (those (setup_for given)) (e ∷ es)) (lt : e.actor < given.layout.procs) (has : HasState (setup_for given) es) (land : landing.Lands given good limits known wanted e es legal lt has)
-      (tells : TellsStacks has.state.heap.words (started (processor_kind given.shapes given.layout) e.begun (processor_at (setup_for given) es e.actor))) where
+      (tells : TellsStacks given.layout has.state.heap.words (started (processor_kind given.shapes given.layout) e.begun (processor_at (setup_for given) es e.actor))) where
     abbrev a : ℕ
     a = e.actor
 

@@ -11,7 +11,7 @@ use Rattle.gh_lists.specs.declared.handshake.Actor.TheVariants as actor
 use Rattle.gh_lists.specs.Handshake.{asks, Sound as SoundActor, Setup}
 use Rattle.gh_marked.specs.HoldVocabulary.{SeatSweepsNothing}
 use Rattle.gh_marked.specs.Sweepers.{IsInSweep, sweep_of}
-use Rattle.gh_marked.proofs.Vocabulary.{Actor, actors, actors_after, Arena, arena, Ask, cell_of, effect, Entry, HasState, is_busy, IsAwake, Layout, Legal, Load, Op, Party, started, State, StateGood, those, Words, words}
+use Rattle.gh_marked.proofs.Vocabulary.{Actor, actors, actors_after, Arena, arena, Ask, cell_of, effect, Entry, HasState, is_busy, IsAwake, Legal, Load, Op, Party, started, State, StateGood, those, Words, words}
 use Rattle.gh_marked.specs.Known.{ListsKnown}
 use Rattle.gh_marked.proofs.OneStep.Sweepers as sweepers
 use Rattle.gh_lists.specs.Seats.{IsSeated, seated, worker_started, works}
@@ -27,8 +27,8 @@ module _ (setup : Setup) (lists : ListsKnown setup)
   begun_is : started (actors setup) e.begun (at es e.actor) ≡ actor.Marks w
   begun_is = ap (started (actors setup) e.begun) is ∙ worker_started setup e.begun w
 
-  pub asked : e.ask ≡ worker.asks w
-  asked = legal.1.asks ∙ ap asks begun_is
+  pub asked : e.ask ≡ worker.asks setup.layout w
+  asked = legal.1.asks ∙ ap (asks setup.layout) begun_is
 
   pub busy : worker.is_busy w.stage ≡ true
   busy = sym (ap is_busy begun_is) ∙ legal.1.runs
@@ -42,21 +42,21 @@ module _ (setup : Setup) (lists : ListsKnown setup)
   pub sweeps_before : sweep_of (at es e.actor) ≡ worker.sweep_in w
   sweeps_before = ap sweep_of is
 
-  pub sweeps_then : sweep_of (at (e ∷ es) e.actor) ≡ worker.sweep_in (worker.goes w e.found)
+  pub sweeps_then : sweep_of (at (e ∷ es) e.actor) ≡ worker.sweep_in (worker.goes setup.layout w e.found)
   sweeps_then = ap sweep_of (works setup e es w is)
 
   -- It runs a sweep.
   module _ (sw : Sweeping) (runs : worker.sweep_in w ≡ Some sw) (its_busy : sweep.is_busy sw.stage ≡ true) where
-    pub goes_on : SweepsOn setup.layout worker.asks worker.goes worker.sweep_in w sw
-    goes_on = subst (λ (l : Layout). SweepsOn l worker.asks worker.goes worker.sweep_in w sw) its_seat.2 (lists.known.workers_sweep.runs.on w sw runs its_busy)
+    pub goes_on : SweepsOn setup.layout (worker.asks setup.layout) (worker.goes setup.layout) worker.sweep_in w sw
+    goes_on = (lists.known.workers_sweep.runs setup.layout).on w sw runs its_busy
 
   -- It runs none. Of a state behind the step, with the words that it leaves.
   module _ (has : HasState setup es) (none : worker.sweep_in w ≡ None) (t : State) (good : StateGood z t) (rests : SeatSweepsNothing e.actor t) (words_are : t.heap.words ≡ effect has.state.heap.words e.ask) where
-    then_by : (x : Option Sweeping) → worker.sweep_in (worker.goes w e.found) ≡ x → IsInSweep e.actor t x
+    then_by : (x : Option Sweeping) → worker.sweep_in (worker.goes setup.layout w e.found) ≡ x → IsInSweep e.actor t x
     then_by None then = rests
-    then_by (Some m) then = sweepers.begins lists.known z e.actor t good rests w.view.generation (worker.asks w) e.found m number loaded b where
-      b : BeginsSweep w.view.generation (worker.asks w) e.found m
-      b = lists.known.workers_sweep.runs.begins w e.found m none then
+    then_by (Some m) then = sweepers.begins lists.known z e.actor t good rests w.view.generation (worker.asks setup.layout w) e.found m number loaded b where
+      b : BeginsSweep w.view.generation (worker.asks setup.layout w) e.found m
+      b = (lists.known.workers_sweep.runs setup.layout).begins w e.found m none then
 
       load_is : e.ask ≡ Load (cell.Page b.page)
       load_is = asked ∙ b.step_is
@@ -66,13 +66,13 @@ module _ (setup : Setup) (lists : ListsKnown setup)
 
       -- it is awake there, and knows the sweep generation between two polls
       at_work : IsAtWork w
-      at_work = lists.known.workers_places.looks w (lists.known.workers_places.begins w e.found m then)
+      at_work = lists.known.workers_places.looks w (lists.known.workers_places.begins setup.layout w e.found m then)
 
       number : w.view.generation ≡ t.heap.words cell.Gen
       number = ap (λ (p : Party). p.view.generation) (sym at_work.party_is) ∙ (((lists.keeps es legal.0).workers_know e.actor w its_seat.1 is (subst IsAwake (sym at_work.awake) tt)).generation_is ∙ sym (same_words cell.Gen))
 
-      loaded : e.found ≡ t.heap.words (cell_of (worker.asks w))
-      loaded = legal.1.found ∙ (ap (λ (q : Ask). words setup es (cell_of q)) asked ∙ sym (same_words (cell_of (worker.asks w))))
+      loaded : e.found ≡ t.heap.words (cell_of (worker.asks setup.layout w))
+      loaded = legal.1.found ∙ (ap (λ (q : Ask). words setup es (cell_of q)) asked ∙ sym (same_words (cell_of (worker.asks setup.layout w))))
 
     pub begins_or_rests : IsInSweep e.actor t (sweep_of (at (e ∷ es) e.actor))
     begins_or_rests = grind (arith, sweeps_then, then_by)

@@ -33,22 +33,22 @@ spares : (l : Layout) (f : Footprint) (ask : Ask) → f row.Gcur ≡ false → f
 spares l f ask cursor gen writes = record { leaves = record { cursor = grind arith; ends = grind arith }; none = grind arith }
 
 -- or it moves the cursor
-pub works_at : WorkersAreRoutines → (w : Working) → Sound w → ClaimsNone w.layout (worker.asks w) ⊎ (worker.asks w ≡ Add cell.Gcur 1)
-works_at k w sound = go (worker.sweep_in w) refl where
-  by : OwnStep w.seat (worker.asks w) → ClaimsNone w.layout (worker.asks w) ⊎ (worker.asks w ≡ Add cell.Gcur 1)
-  by (shades writes) = inl (spares w.layout scan.writes (worker.asks w) refl refl writes)
+pub works_at : WorkersAreRoutines → (l : Layout) (w : Working) → Sound w → ClaimsNone l (worker.asks l w) ⊎ (worker.asks l w ≡ Add cell.Gcur 1)
+works_at k l w sound = go (worker.sweep_in w) refl where
+  by : OwnStep w.seat (worker.asks l w) → ClaimsNone l (worker.asks l w) ⊎ (worker.asks l w ≡ Add cell.Gcur 1)
+  by (shades writes) = inl (spares l scan.writes (worker.asks l w) refl refl writes)
   by (claims is) = inr is
-  by (hands_over words is) = inl (subst (ClaimsNone w.layout) (sym is) (record { leaves = record { cursor = λ v. refl; ends = refl }; none = λ found. refl }))
-  by (acknowledges stops is) = inl (subst (ClaimsNone w.layout) (sym is) (record { leaves = record { cursor = λ v. refl; ends = refl }; none = λ found. refl }))
+  by (hands_over words is) = inl (subst (ClaimsNone l) (sym is) (record { leaves = record { cursor = λ v. refl; ends = refl }; none = λ found. refl }))
+  by (acknowledges stops is) = inl (subst (ClaimsNone l) (sym is) (record { leaves = record { cursor = λ v. refl; ends = refl }; none = λ found. refl }))
 
-  go : (x : Option sweep.Sweeping) → worker.sweep_in w ≡ x → ClaimsNone w.layout (worker.asks w) ⊎ (worker.asks w ≡ Add cell.Gcur 1)
-  go None none = by (k.own_step w sound none)
-  go (Some sw) is = inl (spares w.layout sweep.writes (worker.asks w) refl refl (k.sweeps_alone w sw is).writes)
+  go : (x : Option sweep.Sweeping) → worker.sweep_in w ≡ x → ClaimsNone l (worker.asks l w) ⊎ (worker.asks l w ≡ Add cell.Gcur 1)
+  go None none = by (k.own_step l w sound none)
+  go (Some sw) is = inl (spares l sweep.writes (worker.asks l w) refl refl (k.sweeps_alone l w sw is).writes)
 
 -- of the coordinator's: it clears the cursor, or ends a cycle's marking
 abbrev pub IsClearing : CoordStage → Type 0
 IsClearing (Open o) = o.stage ≡ open_stage.ClearGcur
 IsClearing _ = ⊥
 
-pub leads_at : (c : Coordinating) (p : CoordStage) → LeavesCursor (asks_at c p) ⊎ (IsClearing p ⊎ IsEnding p)
-leads_at c p = grind arith
+pub leads_at : (l : Layout) (c : Coordinating) (p : CoordStage) → LeavesCursor (asks_at l c p) ⊎ (IsClearing p ⊎ IsEnding p)
+leads_at l c p = grind arith

@@ -16,7 +16,7 @@ use Rattle.gh_marked.specs.Scanned.{done_by, global_by, global_in_hand, globals_
 use Rattle.gh_lists.specs.Waits.{WorkersRest}
 use Rattle.gh_marked.proofs.Vocabulary.{acks_of, Actor, Add, Ask, cell_of, Coordinating, CoordStage, effect, Entry, IsBeginning, IsLed, KeepsIt, Layout, Legal, nat_tests, Op, Processor, processor_kind, ProcessorWritesItsOwn, seats_of, started, those, words, Working}
 use Rattle.gh_marked.specs.Checking.{begins, CoordinatorGoes, goes_on, goes_so, leaves}
-use Rattle.gh_lists.specs.Seats.{IsSeated, other, seated}
+use Rattle.gh_lists.specs.Seats.{other}
 use Rattle.gh_lists.specs.Leaving.{ends_marking, marks_or_not}
 use Rattle.gh_lists.specs.Steps as seats
 use Rattle.gh_lists.specs.Sums.{total_at, total_none, total_same}
@@ -36,11 +36,11 @@ ending_on p is = grind arith
 beginning_off : (p : CoordStage) → IsBeginning p → leading.Marks p → ⊥
 beginning_off p is on = grind arith
 
-module _ (c : Coordinating) where
-  ending_asks : (p : CoordStage) → IsEnding p → stores_cell cell.Gen (coord.asks_at c p) ≡ true
+module _ (l : Layout) (c : Coordinating) where
+  ending_asks : (p : CoordStage) → IsEnding p → stores_cell cell.Gen (coord.asks_at l c p) ≡ true
   ending_asks p is = grind arith
 
-  ending_off : (p : CoordStage) (found : ℕ) → IsEnding p → leading.Marks (coord.goes_at c p found).stage → ⊥
+  ending_off : (p : CoordStage) (found : ℕ) → IsEnding p → leading.Marks (coord.goes_at l c p found).stage → ⊥
   ending_off p found is on = grind arith
 
 -- What is cited of processors and workers, and of the lists of a heap that is set up so.
@@ -117,9 +117,9 @@ module _ (setup : Setup) (cited : Cited setup) where
     by_processor : (m : Processor) → seats.RunsIt setup e es m → who (e ∷ es) n ≡ who es n → Counts (e ∷ es)
     by_processor m x same c led =
         let b : Counted es c = was c (sym same ∙ led) in
-        let q : LeavesCursor e.ask = subst LeavesCursor (sym x.asked) (leaves_cursor _ (leaves_numbers cited.writes (started (processor_kind setup.shapes setup.layout) e.begun m) x.sound_then)) in
-        let h = held_same (actor.Runs m) (actor.Runs (takes setup.shapes (started (processor_kind setup.shapes setup.layout) e.begun m) e.found)) x.is x.then refl refl refl in
-        let k = counted_same (actor.Runs m) (actor.Runs (takes setup.shapes (started (processor_kind setup.shapes setup.layout) e.begun m) e.found)) x.is x.then refl refl refl in
+        let q : LeavesCursor e.ask = subst LeavesCursor (sym x.asked) (leaves_cursor _ (leaves_numbers cited.writes setup.layout (started (processor_kind setup.shapes setup.layout) e.begun m) x.sound_then)) in
+        let h = held_same (actor.Runs m) (actor.Runs (takes setup.layout setup.shapes (started (processor_kind setup.shapes setup.layout) e.begun m) e.found)) x.is x.then refl refl refl in
+        let k = counted_same (actor.Runs m) (actor.Runs (takes setup.layout setup.shapes (started (processor_kind setup.shapes setup.layout) e.begun m) e.found)) x.is x.then refl refl refl in
         let g = whole_same q.ends in
         let u = q.cursor (words setup es) in
         record {
@@ -139,24 +139,21 @@ module _ (setup : Setup) (cited : Cited setup) where
       others : (a : ℕ) → a ≢ e.actor → who (e ∷ es) a ≡ who es a
       others a ne = grind arith
 
-      layout_is : w.layout ≡ setup.layout
-      layout_is = (subst (IsSeated setup.layout e.actor) x.is (seated setup es e.actor)).2
-
       counted_now : counted (e ∷ es) ≡ counted es + global_done w.stage e.found
       counted_now = ap (λ (z : Actor). counted es + global_by z e.found) x.is
 
       -- so many more are counted or in hand as the step claims
-      both_now : counted (e ∷ es) + held (e ∷ es) ≡ counted es + held es + claimed_by w.layout (worker.asks w) e.found
+      both_now : counted (e ∷ es) + held (e ∷ es) ≡ counted es + held es + claimed_by setup.layout (worker.asks setup.layout w) e.found
       both_now =
           let one = total_at (λ a. global_in_hand (who es a)) (λ a. global_in_hand (who (e ∷ es) a)) (seats_of setup.layout) e.actor seat_in (λ a lt ne. ap global_in_hand (others a ne)) in
           let two : global_in_hand (who es e.actor) ≡ global_held w.stage = ap global_in_hand x.is in
-          let three : global_in_hand (who (e ∷ es) e.actor) ≡ global_held (worker.goes w e.found).stage = ap global_in_hand x.then in
+          let three : global_in_hand (who (e ∷ es) e.actor) ≡ global_held (worker.goes setup.layout w e.found).stage = ap global_in_hand x.then in
           let now = counted_now in
-          let four = cited.globals.holds w e.found in
+          let four = cited.globals.holds setup.layout w e.found in
           omega (arith, one, two, three, now, four)
 
-      stays_or_moves : (stores_cell cell.Gen e.ask ≡ false) × (leading.Marks c.stage → min (cursor (e ∷ es)) setup.layout.globals ≡ min (cursor es) setup.layout.globals + claimed_by w.layout (worker.asks w) e.found)
-      stays_or_moves = elim (works_at cited.workers w x.sound_it) [
+      stays_or_moves : (stores_cell cell.Gen e.ask ≡ false) × (leading.Marks c.stage → min (cursor (e ∷ es)) setup.layout.globals ≡ min (cursor es) setup.layout.globals + claimed_by setup.layout (worker.asks setup.layout w) e.found)
+      stays_or_moves = elim (works_at cited.workers setup.layout w x.sound_it) [
         | inl y ↦ (
             let q : LeavesCursor e.ask = subst LeavesCursor (sym x.asked) y.leaves in
             (q.ends, λ on. let u = ap (λ (i : ℕ). min i setup.layout.globals) (q.cursor (words setup es)) in let none = y.none e.found in omega (arith, u, none))
@@ -164,7 +161,7 @@ module _ (setup : Setup) (cited : Cited setup) where
         | inr is ↦ (
             let ask_is : e.ask ≡ Add cell.Gcur 1 = x.asked ∙ is in
             let found_is : e.found ≡ cursor es = legal.1.found ∙ ap (λ (q : Ask). words setup es (cell_of q)) ask_is in
-            let claimed : claimed_by w.layout (worker.asks w) e.found ≡ cond (ltb (cursor es) setup.layout.globals) 1 0 = ap (λ (q : Ask). claimed_by w.layout q e.found) is ∙ ap (λ (i : ℕ). cond (ltb i w.layout.globals) 1 0) found_is ∙ ap (λ (y : Layout). cond (ltb (cursor es) y.globals) 1 0) layout_is in (
+            let claimed : claimed_by setup.layout (worker.asks setup.layout w) e.found ≡ cond (ltb (cursor es) setup.layout.globals) 1 0 = ap (λ (q : Ask). claimed_by setup.layout q e.found) is ∙ ap (λ (i : ℕ). cond (ltb i setup.layout.globals) 1 0) found_is in (
               ap (stores_cell cell.Gen) ask_is,
               λ on.
                   let few = cited.cursor.small es c legal.0 led on in
@@ -181,7 +178,7 @@ module _ (setup : Setup) (cited : Cited setup) where
           let g = whole_same stays_or_moves.0 in
           let now = counted_now in
           record {
-            once = λ off. let o = b.once off in let none = cited.globals.rests w e.found (cited.rests es legal.0 c e.actor w led off x.is) in let sum = cited.globals.parts w e.found in omega (arith, o, g, now, none, sum);
+            once = λ off. let o = b.once off in let none = cited.globals.rests setup.layout w e.found (cited.rests es legal.0 c e.actor w led off x.is) in let sum = cited.globals.parts setup.layout w e.found in omega (arith, o, g, now, none, sum);
             so_far = λ on. let o = b.so_far on in let u = stays_or_moves.1 on in let k = both_now in omega (arith, o, g, u, k);
             least = let o = b.least in omega (arith, o, g, now);
           }
@@ -192,7 +189,7 @@ module _ (setup : Setup) (cited : Cited setup) where
       before = was c x.is
 
       abbrev to : Coordinating
-      to = coord.goes c e.found
+      to = coord.goes setup.layout c e.found
 
       was_at : who es e.actor ≡ actor.Leads c
       was_at = ap (who es) x.seat ∙ x.is
@@ -207,9 +204,9 @@ module _ (setup : Setup) (cited : Cited setup) where
       k = counted_same (actor.Leads c) (actor.Leads to) was_at now_at refl refl refl
 
       goes_by : CoordinatorGoes setup.layout c.begun (words setup es) c c.stage to
-      goes_by = goes_so setup.layout c.begun (words setup es) c (coord.counted c).marks (subst (IsSeated setup.layout n) x.is (seated setup es n)).1 refl c.stage e.found x.busy x.found
+      goes_by = goes_so setup.layout c.begun (words setup es) c (coord.counted c).marks refl c.stage e.found x.busy x.found
 
-      asks_is : stores_cell cell.Gen e.ask ≡ stores_cell cell.Gen (coord.asks c)
+      asks_is : stores_cell cell.Gen e.ask ≡ stores_cell cell.Gen (coord.asks setup.layout c)
       asks_is = ap (stores_cell cell.Gen) x.asked
 
       -- where it is not the end of a cycle's marking
@@ -220,14 +217,14 @@ module _ (setup : Setup) (cited : Cited setup) where
           let held_is = h in
           record {
             once = λ off. elim (marks_or_not c.stage) [
-              | inl on ↦ elim (ends_marking c e.found on) [ inl still ↦ absurd (off still) | inr stored ↦ absurd (let both : false ≡ true = sym none ∙ asks_is ∙ stored in cc) ]
+              | inl on ↦ elim (ends_marking setup.layout c e.found on) [ inl still ↦ absurd (off still) | inr stored ↦ absurd (let both : false ≡ true = sym none ∙ asks_is ∙ stored in cc) ]
               | inr off_was ↦ (let o = before.once off_was in omega (arith, o, g, same))
             ];
             so_far = λ on. let o = far on in omega (arith, o, g, same, held_is);
             least = let o = before.least in omega (arith, o, g, same);
           }
 
-      leaving : LeavesCursor (coord.asks c) → Counted (e ∷ es) to
+      leaving : LeavesCursor (coord.asks setup.layout c) → Counted (e ∷ es) to
       leaving y = goes_still (asks_is ∙ y.ends) (by goes_by) where
         same : cursor (e ∷ es) ≡ cursor es
         same = ap (λ (q : Ask). effect (words setup es) q cell.Gcur) x.asked ∙ y.cursor (words setup es)
@@ -252,10 +249,10 @@ module _ (setup : Setup) (cited : Cited setup) where
       ending : IsEnding c.stage → Counted (e ∷ es) to
       ending y =
           let o = before.so_far (ending_on c.stage y) in
-          let off : leading.Marks to.stage → ⊥ = ending_off (coord.counted c) c.stage e.found y in
+          let off : leading.Marks to.stage → ⊥ = ending_off setup.layout (coord.counted c) c.stage e.found y in
           let none = none_held (e ∷ es) legal to x.then off in
           let past = cited.cursor.passed e es c legal x.is x.seat y in
-          let one : ended (e ∷ es) ≡ suc (ended es) = ap (λ (t : Bool). cond t (suc (ended es)) (ended es)) (asks_is ∙ ending_asks c c.stage y) in
+          let one : ended (e ∷ es) ≡ suc (ended es) = ap (λ (t : Bool). cond t (suc (ended es)) (ended es)) (asks_is ∙ ending_asks setup.layout c c.stage y) in
           let more = ap (λ (i : ℕ). i * setup.layout.globals) one in
           let same = k in
           let held_is = h in
@@ -263,10 +260,10 @@ module _ (setup : Setup) (cited : Cited setup) where
           record { once = λ _. now; so_far = λ on. absurd (off on); least = omega (arith, now) }
 
       leads_on : Counted (e ∷ es) to
-      leads_on = elim (leads_at c c.stage) [ inl y ↦ leaving y | inr y ↦ elim y [ inl q ↦ clearing q | inr q ↦ ending q ] ]
+      leads_on = elim (leads_at setup.layout c c.stage) [ inl y ↦ leaving y | inr y ↦ elim y [ inl q ↦ clearing q | inr q ↦ ending q ] ]
 
     by_lead : (c : Coordinating) → seats.LeadsIt setup e es c → Counts (e ∷ es)
-    by_lead c x d led = subst (Counted (e ∷ es)) (let both : actor.Leads (coord.goes c e.found) ≡ actor.Leads d = sym x.then ∙ led in cc) (leads_on c x)
+    by_lead c x d led = subst (Counted (e ∷ es)) (let both : actor.Leads (coord.goes setup.layout c e.found) ≡ actor.Leads d = sym x.then ∙ led in cc) (leads_on c x)
 
     by_step : seats.Step setup e es → Counts (e ∷ es)
     by_step (seats.by_processor m x same) = by_processor m x same
@@ -280,8 +277,8 @@ module _ (setup : Setup) (cited : Cited setup) where
   parts : (es : List (Entry Op)) → scanned_in setup es ≡ globals_in setup es + objects_in setup es
   parts [] = refl
   parts (e ∷ es) = let rest = parts es in let now = parts_by (who es e.actor) in omega (arith, rest, now) where
-    parts_by : (m : Actor) → done_by m e.found ≡ global_by m e.found + objects_by m e.found
-    parts_by (actor.Marks w) = cited.globals.parts w e.found
+    parts_by : (m : Actor) → done_by setup.layout m e.found ≡ global_by m e.found + objects_by setup.layout m e.found
+    parts_by (actor.Marks w) = cited.globals.parts setup.layout w e.found
     parts_by (actor.Runs m) = refl
     parts_by (actor.Leads c) = refl
 

@@ -6,22 +6,22 @@ use Rattle.gh_worker.specs.declared.worker.WorkerStage.TheVariants as at
 use Rattle.gh_worker.specs.Listing as worker
 use Rattle.gh_lists.specs.declared.handshake.Actor.TheVariants as actor
 use Rattle.gh_lists.specs.Handshake.{start, actor_takes, Setup}
-use Rattle.gh_marked.proofs.Vocabulary.{Actor, actors, Entry, Kind, Op, Shaded, started, state_of, Working, WorkerStage}
+use Rattle.gh_marked.proofs.Vocabulary.{Actor, actors, Entry, Kind, Layout, Op, Shaded, started, state_of, Working, WorkerStage}
 
 abbrev pub HasStep : WorkerStage → Type 0
 HasStep (at.Scanning s) = scan.is_busy s.stage ≡ true
 HasStep (at.Shading sh) = shade.is_busy sh.stage ≡ true
 HasStep _ = Unit {0}
 
-module _ (w : Working) where
+module _ (l : Layout) (w : Working) where
   after_scan : (s : scan.Scanning) (out : Option ℕ) → scan.given s ≡ out → HasStep (worker.after_scan w s out).stage
   after_scan s out is = grind arith
 
   after_shade : (sh : shade.Shading) (out : Option Shaded) → shade.given sh ≡ out → HasStep (worker.after_shade w sh out).stage
   after_shade sh out is = grind arith
 
-  goes_at : (p : WorkerStage) (found : ℕ) → HasStep (worker.goes_at w p found).stage
-  goes_at (at.Scanning s) found = after_scan (scan.goes w.layout s found) (scan.gives w.layout s found) refl
+  goes_at : (p : WorkerStage) (found : ℕ) → HasStep (worker.goes_at l w p found).stage
+  goes_at (at.Scanning s) found = after_scan (scan.goes l s found) (scan.gives l s found) refl
   goes_at (at.Shading sh) found = after_shade (shade.goes sh found) (shade.gives sh found) refl
   goes_at p found = grind arith
 
@@ -36,15 +36,15 @@ module _ (setup : Setup) where
   opens : (a : ℕ) → Fits (start setup.layout setup.pacing a)
   opens a = grind arith
 
-  taken : (found : ℕ) (m : Actor) → Fits (actor_takes setup.shapes m found)
+  taken : (found : ℕ) (m : Actor) → Fits (actor_takes setup.shapes setup.layout m found)
   taken found (actor.Runs m) = tt
-  taken found (actor.Marks w) = goes_at w w.stage found
+  taken found (actor.Marks w) = goes_at setup.layout w w.stage found
   taken found (actor.Leads c) = tt
 
   fits : (es : List (Entry Op)) (a : ℕ) → Fits (state_of all a es)
   fits [] a = opens a
   fits (e ∷ es) a = go (e.actor == a) (fits es a) where
-    go : (b : Bool) → Fits (state_of all a es) → Fits (cond b (actor_takes setup.shapes (started all e.begun (state_of all a es)) e.found) (state_of all a es))
+    go : (b : Bool) → Fits (state_of all a es) → Fits (cond b (actor_takes setup.shapes setup.layout (started all e.begun (state_of all a es)) e.found) (state_of all a es))
     go true f = taken e.found (started all e.begun (state_of all a es))
     go false f = f
 

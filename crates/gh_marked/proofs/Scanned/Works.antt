@@ -131,9 +131,9 @@ module _ (steps : EachStepGoesByMoves) (z : Cycle) (a : ℕ) (s t : Shared) (goo
     done_with : (held : Option Held) (words : ℕ) → Facts (worker.done_with w held words) → Hands a t (marks.in_hand held NoClaim)
     done_with held words g = grind arith
 
-    after_scan : (m : scan.Scanning) → scan.is_busy m.stage ≡ true → scan_facts.Facts z a s nothing m → (out : Option ℕ) → scan.gives w.layout m found ≡ out → Facts (worker.after_scan w (scan.goes w.layout m found) out) → scan_words out + C s ≤ C t
+    after_scan : (m : scan.Scanning) → scan.is_busy m.stage ≡ true → scan_facts.Facts z a s nothing m → (out : Option ℕ) → scan.gives z.arena.layout m found ≡ out → Facts (worker.after_scan w (scan.goes z.arena.layout m found) out) → scan_words out + C s ≤ C t
     after_scan m busy f None is g = none_done
-    after_scan m busy f (Some words) is g = scans_object (scan.object_of m.reference) words f.known (ends_at w.layout z a s m found words m.stage busy f.stage_is is) (λ taken. let no : None ≡ Some (scan.object_of m.reference) = ((done_with (scan.held_at (scan.goes w.layout m found).held (scan.goes w.layout m found).stage) words g).has.is_taken (scan.object_of m.reference)).1 taken in cc)
+    after_scan m busy f (Some words) is g = scans_object (scan.object_of m.reference) words f.known (ends_at z.arena.layout z a s m found words m.stage busy f.stage_is is) (λ taken. let no : None ≡ Some (scan.object_of m.reference) = ((done_with (scan.held_at (scan.goes z.arena.layout m found).held (scan.goes z.arena.layout m found).stage) words g).has.is_taken (scan.object_of m.reference)).1 taken in cc)
 
     after_global : (i : ℕ) (sh : shade.Shading) → Hands a s (marks.in_hand w.held (ClaimOf i)) → (b : Bool) → Facts (cond b (worker.done_with w w.held 1) (worker.at_stage w (at.Shading sh))) → cond b 1 0 + C s ≤ C t
     after_global i sh f true g = claimed_global i ((f.has.is_claimed i).0 refl) (λ is. let no : NoClaim ≡ ClaimOf i = (then.has.is_claimed i).1 is in cc) (λ value is. let no : NoClaim ≡ ReadOf i value = (then.has.is_read i value).1 is in cc) where
@@ -152,8 +152,8 @@ module _ (steps : EachStepGoesByMoves) (z : Cycle) (a : ℕ) (s t : Shared) (goo
     after_shade : (i : ℕ) (sh : shade.Shading) → shade.is_busy sh.stage ≡ true → shade_facts.Facts z a s (marks.in_hand None (marks.claim_at i sh.reference sh.stage)) sh → (out : Option Shaded) → shade.gives sh found ≡ out → Facts (worker.after_shade w (shade.goes sh found) out) → shading_word out + C s ≤ C t
     after_shade i sh busy f out is g = grind (arith, done_with, none_done, shade_ends)
 
-    done_at : (p : WorkerStage) → HasStep p → marks.StageFacts z a s w.held p → Facts (worker.goes_at w p found) → words_done w.layout p found + C s ≤ C t
+    done_at : (p : WorkerStage) → HasStep p → marks.StageFacts z a s w.held p → Facts (worker.goes_at z.arena.layout w p found) → words_done z.arena.layout p found + C s ≤ C t
     done_at p busy f g = grind (arith, after_global, after_scan, after_shade, none_done)
 
-    pub works : HasStep w.stage → marks.Facts z a s w → marks.Facts z a t (worker.goes w found) → words_done w.layout w.stage found + C s ≤ C t
+    pub works : HasStep w.stage → marks.Facts z a s w → marks.Facts z a t (worker.goes z.arena.layout w found) → words_done z.arena.layout w.stage found + C s ≤ C t
     works busy f g = grind (arith, done_at)

@@ -18,11 +18,12 @@ use Rattle.gh_mutator.specs.Vocabulary.{Polling}
 use Rattle.gh_poll.specs.Wait as wait
 use Rattle.gh_mutator.proofs.Vocabulary.{after_assist, Assist, Assisting, Name, Acts, after_gc, after_leave, after_place, after_poll, after_search, after_wait, applied, asks_at, Awake, begins, cache_span, cache_with, CachedSpan, Ends, follows, Found, GoesOn, has_left_at, is_busy_at, IsQuietInHandshake, Large, Leaving, length-set, makes, MarkingIsQuiet, NewStage, Op, party_at, Place, PlaceBegins, Placing, Processor, ProcessorInHandshake, ProcessorIsQuiet, register_of, Search, Seeking, Shape, Small, Sought, SoundAt, span_index, stage_at, StageGoes, Step, takes, takes_at, Task, Then, Value, Wait, Waiting, WaitState, Wanted, Want}
 use Rattle.gh_mutator.proofs.Shaking.Acknowledging.{acks}
+use Rattle.gh_base.specs.declared.layout.Layout.{Layout}
 
 -- a step at this task leads here
-record Goes (found : ℕ) (m : Processor) (t : Task) (to : Processor) : Type 0 where
+record Goes (l : Layout) (found : ℕ) (m : Processor) (t : Task) (to : Processor) : Type 0 where
   sound : SoundPlace to
-  goes : StageGoes found (party_at m.poll t) (stage_at m.poll t) (asks_at m t) (party_of to) (stage_of to)
+  goes : StageGoes found (party_at m.poll t) (stage_at m.poll t) (asks_at l m t) (party_of to) (stage_of to)
 
 -- it is awake there, of the same seat, and knows the same of the phase
 record Lands (m to : Processor) : Type 0 where
@@ -30,8 +31,8 @@ record Lands (m to : Processor) : Type 0 where
   party : party_of to ≡ knower m.poll
   stage : stage_of to ≡ Awake
 
-awake : (found : ℕ) (m : Processor) (t : Task) (to : Processor) → party_at m.poll t ≡ knower m.poll → stage_at m.poll t ≡ Awake → IsQuietInHandshake (asks_at m t) → Lands m to → Goes found m t to
-awake found m t to party stage quiet l = record { sound = l.sound; goes = rw (party, stage, l.party, l.stage) (refl, quiet, tt) }
+awake : (l : Layout) (found : ℕ) (m : Processor) (t : Task) (to : Processor) → party_at m.poll t ≡ knower m.poll → stage_at m.poll t ≡ Awake → IsQuietInHandshake (asks_at l m t) → Lands m to → Goes l found m t to
+awake l found m t to party stage quiet x = record { sound = x.sound; goes = rw (party, stage, x.party, x.stage) (refl, quiet, tt) }
 
 -- at this task a processor is awake, whatever it has polled
 record Plain (t : Task) : Type 0 where
@@ -88,73 +89,74 @@ search_lands shapes m w waited s c out has = grind (arith, idle_plain, lands, ma
 place_lands : (m : Processor) (w : Wanted) (made : Bool) (a : ℕ) (p : Placing) → HasPlaces m.poll.local.cache → Lands m (after_place m w made a p)
 place_lands m w made a p has = record { sound = grind arith; party = grind arith; stage = grind arith }
 
-module _ (q : ProcessorIsQuiet) (k : MarkingIsQuiet) (h : PollsInHandshake) (v : WaitsInHandshake) (l : LeavesInHandshake) where
+module _ (l : Layout) (q : ProcessorIsQuiet) (k : MarkingIsQuiet) (h : PollsInHandshake) (v : WaitsInHandshake) (e : LeavesInHandshake) where
   -- what a step of a wait leaves, where it has ended
   record Woken (found : ℕ) (x y : Waiting) : Type 0 where
     has : HasPlaces y.poll.local.cache
     goes : StageGoes found (waiter_of x) (wait_stage_of x) (wait.asks x) (knower y.poll) Awake
 
-  wakes : (found : ℕ) (x : Waiting) → SoundWait x → wait.is_busy x.wait.stage ≡ true → (u : Unit {0}) → wait.gives x found ≡ Some u → Woken found x (wait.goes x found)
+  wakes : (found : ℕ) (x : Waiting) → SoundWait x → wait.is_busy x.wait.stage ≡ true → (u : Unit {0}) → wait.gives l x found ≡ Some u → Woken found x (wait.goes l x found)
   wakes found x s busy u e =
-      let last = v.ends (wait.goes x found) (ap is_none e) in
-      record { has = (v.keeps.stays_sound x found s busy).0; goes = rw (← last.0, ← last.1) (v.keeps.goes x found s busy) }
+      let last = v.ends (wait.goes l x found) (ap is_none e) in
+      record { has = ((v.keeps l).stays_sound x found s busy).0; goes = rw (← last.0, ← last.1) ((v.keeps l).goes x found s busy) }
 
-  gc_goes : (found : ℕ) (m : Processor) (g : ℕ) (x : WaitState) → SoundWait (wait.waiting x m.poll) → wait.is_busy x.stage ≡ true → (out : Option (Unit {0})) → wait.gives (wait.waiting x m.poll) found ≡ out →
-      Goes found m (task.Gc g x) (after_gc m g (wait.goes (wait.waiting x m.poll) found) out)
-  gc_goes found m g x s busy None e = let t = v.keeps.stays_sound (wait.waiting x m.poll) found s busy in record { sound = (t.0, (t, ap is_none e)); goes = v.keeps.goes (wait.waiting x m.poll) found s busy }
+  gc_goes : (found : ℕ) (m : Processor) (g : ℕ) (x : WaitState) → SoundWait (wait.waiting x m.poll) → wait.is_busy x.stage ≡ true → (out : Option (Unit {0})) → wait.gives l (wait.waiting x m.poll) found ≡ out →
+      Goes l found m (task.Gc g x) (after_gc m g (wait.goes l (wait.waiting x m.poll) found) out)
+  gc_goes found m g x s busy None e = let t = (v.keeps l).stays_sound (wait.waiting x m.poll) found s busy in record { sound = (t.0, (t, ap is_none e)); goes = (v.keeps l).goes (wait.waiting x m.poll) found s busy }
   gc_goes found m g x s busy (Some u) e = let woken = wakes found (wait.waiting x m.poll) s busy u e in record { sound = (woken.has, tt); goes = woken.goes }
 
-  wait_goes : (found : ℕ) (m : Processor) (w : Wanted) (x : WaitState) → SoundWait (wait.waiting x m.poll) → wait.is_busy x.stage ≡ true → (out : Option (Unit {0})) → wait.gives (wait.waiting x m.poll) found ≡ out →
-      Goes found m (task.New (record { wanted = w; stage = Wait x })) (after_wait m w (wait.goes (wait.waiting x m.poll) found) out)
-  wait_goes found m w x s busy None e = let t = v.keeps.stays_sound (wait.waiting x m.poll) found s busy in record { sound = (t.0, (t, ap is_none e)); goes = v.keeps.goes (wait.waiting x m.poll) found s busy }
+  wait_goes : (found : ℕ) (m : Processor) (w : Wanted) (x : WaitState) → SoundWait (wait.waiting x m.poll) → wait.is_busy x.stage ≡ true → (out : Option (Unit {0})) → wait.gives l (wait.waiting x m.poll) found ≡ out →
+      Goes l found m (task.New (record { wanted = w; stage = Wait x })) (after_wait m w (wait.goes l (wait.waiting x m.poll) found) out)
+  wait_goes found m w x s busy None e = let t = (v.keeps l).stays_sound (wait.waiting x m.poll) found s busy in record { sound = (t.0, (t, ap is_none e)); goes = (v.keeps l).goes (wait.waiting x m.poll) found s busy }
   wait_goes found m w x s busy (Some u) e = let woken = wakes found (wait.waiting x m.poll) s busy u e in record { sound = (woken.has, tt); goes = woken.goes }
 
-  poll_goes : (found : ℕ) (m : Processor) → PollsOn m.poll → (out : Option (Unit {0})) → poll.gives m.poll found ≡ out → Goes found m task.Poll (after_poll m (poll.goes m.poll found) out)
-  poll_goes found m s out e = grind arith
+  poll_goes : (found : ℕ) (m : Processor) → PollsOn m.poll → (out : Option (Unit {0})) → poll.gives l m.poll found ≡ out → Goes l found m task.Poll (after_poll m (poll.goes l m.poll found) out)
+  poll_goes found m s None e = let t = (h.keeps l).stays_sound m.poll found s.sound s.busy in record { sound = (t.0, record { busy = ap is_none e; sound = t }); goes = (h.keeps l).goes m.poll found s.sound s.busy }
+  poll_goes found m s (Some u) e = let last = h.ends (poll.goes l m.poll found) (ap is_none e) in record { sound = (((h.keeps l).stays_sound m.poll found s.sound s.busy).0, tt); goes = rw (← last.0, ← last.1) ((h.keeps l).goes m.poll found s.sound s.busy) }
 
-  leave_goes : (found : ℕ) (m : Processor) (x : Leaving) → HasPlaces m.poll.local.cache → LeavesOn m.poll x → (out : Option (Unit {0})) → leave.gives x found ≡ out → Goes found m (task.Leave x) (after_leave m (leave.goes x found) out)
+  leave_goes : (found : ℕ) (m : Processor) (x : Leaving) → HasPlaces m.poll.local.cache → LeavesOn m.poll x → (out : Option (Unit {0})) → leave.gives x found ≡ out → Goes l found m (task.Leave x) (after_leave m (leave.goes x found) out)
   leave_goes found m x has s out e = grind arith
 
   module _ (shapes : List Shape) where
-    new_goes : (found : ℕ) (m : Processor) (w : Wanted) (s : NewStage) → HasPlaces m.poll.local.cache → SoundAt m.poll (task.New (record { wanted = w; stage = s })) → Goes found m (task.New (record { wanted = w; stage = s })) (takes_at shapes m (task.New (record { wanted = w; stage = s })) found)
-    new_goes found m w (Search waited s) has sound = awake found m _ _ refl refl (q.searches m.poll.layout s) (search_lands shapes m w waited (search.goes m.poll.layout s found) (search.goes m.poll.layout s found).find.cached (search.gives m.poll.layout s found) has)
-    new_goes found m w (Wait x) has sound = wait_goes found m w x sound.0 sound.1 (wait.gives (wait.waiting x m.poll) found) refl
-    new_goes found m w (Want n) has sound = awake found m _ _ refl refl tt (lands m _ has refl idle_plain)
-    new_goes found m w (Assist n x) has sound = awake found m _ _ refl refl (q.assists m.poll.layout x) (assist_lands m w n (assist.goes m.poll.layout x found) (assist.gives m.poll.layout x found) has)
-    new_goes found m w (Place p) has sound = awake found m _ _ refl refl (q.makes m.poll.layout p) (place_lands m w (place.makes_its_object p) p.at (place.goes p found) has)
+    new_goes : (found : ℕ) (m : Processor) (w : Wanted) (s : NewStage) → HasPlaces m.poll.local.cache → SoundAt m.poll (task.New (record { wanted = w; stage = s })) → Goes l found m (task.New (record { wanted = w; stage = s })) (takes_at l shapes m (task.New (record { wanted = w; stage = s })) found)
+    new_goes found m w (Search waited s) has sound = awake l found m _ _ refl refl (q.searches l s) (search_lands shapes m w waited (search.goes l s found) (search.goes l s found).find.cached (search.gives l s found) has)
+    new_goes found m w (Wait x) has sound = wait_goes found m w x sound.0 sound.1 (wait.gives l (wait.waiting x m.poll) found) refl
+    new_goes found m w (Want n) has sound = awake l found m _ _ refl refl tt (lands m _ has refl idle_plain)
+    new_goes found m w (Assist n x) has sound = awake l found m _ _ refl refl (q.assists l x) (assist_lands m w n (assist.goes l x found) (assist.gives l x found) has)
+    new_goes found m w (Place p) has sound = awake l found m _ _ refl refl (q.makes l p) (place_lands m w (place.makes_its_object p) p.at (place.goes p found) has)
 
-    goes_at : (found : ℕ) (m : Processor) (t : Task) → HasPlaces m.poll.local.cache → SoundAt m.poll t → is_busy_at t ≡ true → Goes found m t (takes_at shapes m t found)
+    goes_at : (found : ℕ) (m : Processor) (t : Task) → HasPlaces m.poll.local.cache → SoundAt m.poll t → is_busy_at t ≡ true → Goes l found m t (takes_at l shapes m t found)
     goes_at found m task.Idle has s busy = absurd cc
     goes_at found m task.Left has s busy = absurd cc
-    goes_at found m (task.Load x) has s busy = awake found m _ _ refl refl (q.loads m.poll.layout x) (applied_lands task.Load m m x.g x.d (load.step m.poll.layout x found) has refl load_plain)
-    goes_at found m (task.Store x) has s busy = awake found m _ _ refl refl (q.stores m.poll.layout (register_of m x.g x.v) x) (applied_lands task.Store m (keeping m (store.held_behind m.poll.layout m.poll.local.held x.stage found)) x.g x.v (store.step m.poll.layout m.poll.local (register_of m x.g x.v) x found) has refl store_plain)
-    goes_at found m (task.Global x) has s busy = awake found m _ _ refl refl (q.globals m.poll.layout (register_of m x.g x.r) x) (applied_lands task.Global m (keeping m (global.held_behind m.poll.layout m.poll.local.held x.stage found)) x.g x.r (global.step m.poll.layout (register_of m x.g x.r) x found) has refl global_plain)
-    goes_at found m (task.Register x) has s busy = awake found m _ _ refl refl (q.registers x) (applied_lands task.Register m m x.g x.d (register.step (register_of m x.g (register.read_of x)) x) has refl register_plain)
+    goes_at found m (task.Load x) has s busy = awake l found m _ _ refl refl (q.loads l x) (applied_lands task.Load m m x.g x.d (load.step l x found) has refl load_plain)
+    goes_at found m (task.Store x) has s busy = awake l found m _ _ refl refl (q.stores l (register_of m x.g x.v) x) (applied_lands task.Store m (keeping m (store.held_behind l m.poll.local.held x.stage found)) x.g x.v (store.step l m.poll.local (register_of m x.g x.v) x found) has refl store_plain)
+    goes_at found m (task.Global x) has s busy = awake l found m _ _ refl refl (q.globals l (register_of m x.g x.r) x) (applied_lands task.Global m (keeping m (global.held_behind l m.poll.local.held x.stage found)) x.g x.r (global.step l (register_of m x.g x.r) x found) has refl global_plain)
+    goes_at found m (task.Register x) has s busy = awake l found m _ _ refl refl (q.registers x) (applied_lands task.Register m m x.g x.d (register.step (register_of m x.g (register.read_of x)) x) has refl register_plain)
     goes_at found m (task.New x) has s busy = new_goes found m x.wanted x.stage has s
-    goes_at found m (task.Gc g x) has s busy = gc_goes found m g x s.0 s.1 (wait.gives (wait.waiting x m.poll) found) refl
-    goes_at found m task.Poll has s busy = poll_goes found m s (poll.gives m.poll found) refl
-    goes_at found m (task.End g) has s busy = awake found m _ _ refl refl tt (lands m _ has refl idle_plain)
+    goes_at found m (task.Gc g x) has s busy = gc_goes found m g x s.0 s.1 (wait.gives l (wait.waiting x m.poll) found) refl
+    goes_at found m task.Poll has s busy = poll_goes found m s (poll.gives l m.poll found) refl
+    goes_at found m (task.End g) has s busy = awake l found m _ _ refl refl tt (lands m _ has refl idle_plain)
     goes_at found m (task.Leave x) has s busy = leave_goes found m x has s (leave.gives x found) refl
 
-    goes_on : (m : Processor) (found : ℕ) → SoundPlace m → is_busy_at m.task ≡ true → Goes found m m.task (takes shapes m found)
+    goes_on : (m : Processor) (found : ℕ) → SoundPlace m → is_busy_at m.task ≡ true → Goes l found m m.task (takes l shapes m found)
     goes_on m found s busy = grind (arith, goes_at)
 
-    -- one that has left begins nothing
-    record BegunFrom (m to : Processor) : Type 0 where
-      sound : SoundPlace to
-      begins : PlaceBegins (Acts (party_of m) (stage_of m)) (Acts (party_of to) (stage_of to))
+-- one that has left begins nothing
+record BegunFrom (m to : Processor) : Type 0 where
+  sound : SoundPlace to
+  begins : PlaceBegins (Acts (party_of m) (stage_of m)) (Acts (party_of to) (stage_of to))
 
-    begins_from : (m : Processor) (o : Op) → SoundPlace m → is_busy_at m.task ≡ false → (left : Bool) → has_left_at m.task ≡ left → BegunFrom m (cond left m (begins shapes m o))
-    begins_from m o s rests left e = grind arith
+begins_from : (shapes : List Shape) (m : Processor) (o : Op) → SoundPlace m → is_busy_at m.task ≡ false → (left : Bool) → has_left_at m.task ≡ left → BegunFrom m (cond left m (begins shapes m o))
+begins_from shapes m o s rests left e = grind arith
 
-  pub processor_in_handshake : ProcessorInHandshake
-  processor_in_handshake = record {
-    first = λ z seat. refl;
-    awake = λ z seat. refl;
-    sound_first = λ z seat. (refl, tt);
-    sound_begins = λ shapes z m o s rests. (begins_from shapes m o s rests (has_left_at m.task) refl).sound;
-    sound_takes = λ shapes m found s busy. (goes_on shapes m found s busy).sound;
-    begins_so = λ shapes z m o s rests. (begins_from shapes m o s rests (has_left_at m.task) refl).begins;
-    takes_so = λ shapes m found s busy. (goes_on shapes m found s busy).goes;
-    acknowledges = λ m i number s e. acks q k i number m m.task s.1 e;
-  }
+pub processor_in_handshake : ProcessorIsQuiet → MarkingIsQuiet → PollsInHandshake → WaitsInHandshake → LeavesInHandshake → ProcessorInHandshake
+processor_in_handshake q k h v e = record {
+  first = λ seat. refl;
+  awake = λ seat. refl;
+  sound_first = λ seat. (refl, tt);
+  sound_begins = λ shapes z m o s rests. (begins_from shapes m o s rests (has_left_at m.task) refl).sound;
+  sound_takes = λ l shapes m found s busy. (goes_on l q k h v e shapes m found s busy).sound;
+  begins_so = λ shapes z m o s rests. (begins_from shapes m o s rests (has_left_at m.task) refl).begins;
+  takes_so = λ l shapes m found s busy. (goes_on l q k h v e shapes m found s busy).goes;
+  acknowledges = λ l m i number s is. acks l q k i number m m.task s.1 is;
+}

@@ -1,5 +1,5 @@
 -- Steps of an assist beside marking: they are made of moves of marking alone, which change no stack. No slot is being filled.
-use Rattle.std.proofs.Common.{◌≡◌, ℕ, Option, refl, sym, subst, arith}
+use Rattle.std.proofs.Common.{◌≡◌, ℕ, Option, refl, subst, arith}
 use Rattle.gh_assist.specs.declared.assist.AssistStage.{AssistStage}
 use Rattle.gh_assist.specs.Facts.{Facts, StageFacts}
 use Rattle.gh_assist.specs.Listing as assist
@@ -14,7 +14,7 @@ use Rattle.gh_mutator.specs.MarkVocabulary.{Cycle, Keeps, Steps}
 use Rattle.gh_mutator.specs.New.{after_assist, assists}
 use Rattle.gh_mutator.specs.Processor.{at_task}
 use Rattle.gh_mutator.specs.ProcessorMarks.{MarkFacts}
-use Rattle.gh_mutator.specs.Vocabulary.{Answer, Assisting, cell_of, Layout, Name}
+use Rattle.gh_mutator.specs.Vocabulary.{Answer, Assisting, cell_of, Name}
 use Rattle.gh_mutator_heap.specs.Vocabulary.{Processor, Wanted}
 use Rattle.gh_mutator_heap.proofs.Going.Known.{by_keeping, Known, StepAt}
 
@@ -28,11 +28,11 @@ module _ (k : Known) (w : Wanted) (n : Name) (x : Assisting) (z : Cycle) (a : �
   me = at_task m (assists w n x)
 
   abbrev next : Assisting
-  next = assist.goes m.poll.layout x (h.words (cell_of (assist.asks m.poll.layout x)))
+  next = assist.goes z.arena.layout x (h.words (cell_of (assist.asks z.arena.layout x)))
 
-  land : Steps z a s (assist.asks m.poll.layout x) (λ u. Keeps z a s u × Facts z a u next)
-  land = subst (λ (v : Words). Steps z a s (assist.asks m.poll.layout x) (λ u. Keeps z a s u × Facts z a u (assist.goes m.poll.layout x (v (cell_of (assist.asks m.poll.layout x)))))) t.beside.words
-      (subst (λ (l : Layout). Steps z a s (assist.asks l x) (λ u. Keeps z a s u × Facts z a u (assist.goes l x (s.words (cell_of (assist.asks l x)))))) (sym t.facts.layout_is) (k.assists.own_step z a s x t.marking (k.objects z h s t.heap t.marking t.beside) t.facts.task_is.assists))
+  land : Steps z a s (assist.asks z.arena.layout x) (λ u. Keeps z a s u × Facts z a u next)
+  land = subst (λ (v : Words). Steps z a s (assist.asks z.arena.layout x) (λ u. Keeps z a s u × Facts z a u (assist.goes z.arena.layout x (v (cell_of (assist.asks z.arena.layout x)))))) t.beside.words
+      ((k.assists.own_step z a s x t.marking (k.objects z h s t.heap t.marking t.beside) t.facts.task_is.assists))
 
   -- the processor behind the step, by whether that ends the assist
   facts_by : (u : Marking) → KnowsStacks z a u m.poll.local.stacks m.poll.local.scanned → Facts z a u next → (out : Option (Unit {0})) → assist.given next ≡ out → MarkFacts z a u (after_assist me w n next out)

@@ -57,12 +57,12 @@ module _ (k : Known) (z : Cycle) (a : ℕ) (h : Heap) (s : Marking) (m : Process
   Begun o = MarkFacts z a s (begins z.arena.shapes m o)
 
   by : (o : Op) → m.task ≡ task.Idle → MayBegin z.arena a (view h) o → has_room m o ≡ true → Begun o
-  by (op.Store g base i v) idle may room = record { layout_is = t.facts.layout_is; seat_is = t.facts.seat_is; stacks = t.facts.stacks; task_is = store_facts g base i v (register_of m g base) room }
-  by (op.SetGlobal g i v) idle may room = record { layout_is = t.facts.layout_is; seat_is = t.facts.seat_is; stacks = t.facts.stacks; task_is = global_facts g i v may.0 may.1 room (register_of m g v) refl }
+  by (op.Store g base i v) idle may room = record { seat_is = t.facts.seat_is; stacks = t.facts.stacks; task_is = store_facts g base i v (register_of m g base) room }
+  by (op.SetGlobal g i v) idle may room = record { seat_is = t.facts.seat_is; stacks = t.facts.stacks; task_is = global_facts g i v may.0 may.1 room (register_of m g v) refl }
   by (op.Gc g) idle may room = k.marks.begins z.arena.shapes z a s m (op.Gc g) idle refl t.facts
   by op.Poll idle may room = k.marks.begins z.arena.shapes z a s m op.Poll idle refl t.facts
   by op.Leave idle may room = k.marks.begins z.arena.shapes z a s m op.Leave idle refl t.facts
-  by _ idle may room = record { layout_is = t.facts.layout_is; seat_is = t.facts.seat_is; stacks = t.facts.stacks; task_is = b }
+  by _ idle may room = record { seat_is = t.facts.seat_is; stacks = t.facts.stacks; task_is = b }
 
 pub begins_beside : Known → BeginsBesideMarking
 begins_beside k z a h s m o t idle may room = by k z a h s m t (subst (λ (q : Task). TaskFacts z a s m.poll q) idle t.facts.task_is) o idle may room

@@ -27,7 +27,7 @@ module _ (k : Known) (g : ℕ) (z : Cycle) (a : ℕ) (h : Heap) (s : Marking) (m
   after = heap_then k z a h s here pending t l
 
   b : StepsBeside z a h after s (Ends g)
-  b = k.deeds z a h s l.move (asks here) (Ends g) t.heap t.marking t.bounded t.beside l.may (record { words = l.words_are; ever = l.after.does.ever }) (refl, fills_none a s (holding_only m.poll.local.held) refl t.facts.task_is.hands, t.fine.task.0)
+  b = k.deeds z a h s l.move (asks z.arena.layout here) (Ends g) t.heap t.marking t.bounded t.beside l.may (record { words = l.words_are; ever = l.after.does.ever }) (refl, fills_none a s (holding_only m.poll.local.held) refl t.facts.task_is.hands, t.fine.task.0)
 
   word_is : (i : ℕ) → b.then.words (cell.Scanned i) ≡ cond (eqb g i) END (h.words (cell.Scanned i))
   word_is i = ap (λ (w : Words). w (cell.Scanned i)) (b.beside.words ∙ l.words_are)
@@ -47,13 +47,13 @@ module _ (k : Known) (g : ℕ) (z : Cycle) (a : ℕ) (h : Heap) (s : Marking) (m
     there : g < length m.poll.local.scanned
     there = let few = t.facts.stacks.places in let inside = t.fine.task.0.of.0 in omega arith
 
-    apart : g ≢ i → (number : ℕ) → asks here ≢ ask.Store (cell.Scanned i) number
+    apart : g ≢ i → (number : ℕ) → asks z.arena.layout here ≢ ask.Store (cell.Scanned i) number
     apart other number e = other (cc)
 
     by : (c : Bool) → eqb g i ≡ c → slice_index (processor_then k z a h s here pending t l).poll.local.scanned i ≡ b.then.words (cell.Scanned i)
-    by true e = subst (λ (n : ℕ). slice_index (processor_then k z a h s here pending t l).poll.local.scanned n ≡ END) (eqb-true g i e) (k.notes.notes z.arena.shapes here (found_there k z a h s here pending t l) g END t.sound refl there)
+    by true e = subst (λ (n : ℕ). slice_index (processor_then k z a h s here pending t l).poll.local.scanned n ≡ END) (eqb-true g i e) (k.notes.notes z.arena.layout z.arena.shapes here (found_there k z a h s here pending t l) g END t.sound refl there)
         ∙ sym (word_is i ∙ ap (λ (c : Bool). cond c END (h.words (cell.Scanned i))) e)
-    by false e = k.notes.keeps z.arena.shapes here (found_there k z a h s here pending t l) i t.sound (apart (eqb-false g i e)) ∙ t.facts.stacks.noted i its ∙ ap (λ (w : Words). w (cell.Scanned i)) t.beside.words
+    by false e = k.notes.keeps z.arena.layout z.arena.shapes here (found_there k z a h s here pending t l) i t.sound (apart (eqb-false g i e)) ∙ t.facts.stacks.noted i its ∙ ap (λ (w : Words). w (cell.Scanned i)) t.beside.words
         ∙ sym (word_is i ∙ ap (λ (c : Bool). cond c END (h.words (cell.Scanned i))) e)
 
   stacks : KnowsStacks z a b.then m.poll.local.stacks (processor_then k z a h s here pending t l).poll.local.scanned

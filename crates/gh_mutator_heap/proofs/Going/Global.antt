@@ -54,14 +54,14 @@ module _ (k : Known) (x : Global) (w : PointerWrite) (z : Cycle) (a : ℕ) (h : 
 
   -- the processor behind the step, by whether that ends the write
   abbrev then : Option (Unit {0}) → Processor
-  then o = applied task.Global (keeping me (held_then m.poll.layout w n)) x.g x.r (after_write x (write.goes m.poll.layout w n) o)
+  then o = applied task.Global (keeping me (held_then z.arena.layout w n)) x.g x.r (after_write x (write.goes z.arena.layout w n) o)
 
-  written_then : (u : Marking) → Keeps z a s u → Facts z a u nothing (write.goes m.poll.layout w n) → MarkFacts z a u (then None)
-  written_then u kept f = let stacks = stacks_last z a s u m.poll.local.stacks m.poll.local.scanned kept t.facts.stacks in record { layout_is = t.facts.layout_is; seat_is = t.facts.seat_is; stacks = stacks; task_is = record { stacks = stacks; number = t.facts.task_is.number; writes = f } }
+  written_then : (u : Marking) → Keeps z a s u → Facts z a u nothing (write.goes z.arena.layout w n) → MarkFacts z a u (then None)
+  written_then u kept f = let stacks = stacks_last z a s u m.poll.local.stacks m.poll.local.scanned kept t.facts.stacks in record { seat_is = t.facts.seat_is; stacks = stacks; task_is = record { stacks = stacks; number = t.facts.task_is.number; writes = f } }
 
-  goes : write.gives m.poll.layout w n ≡ None → StepsOn z a (heap_then k z a h s me pending t l) s (processor_then k z a h s me pending t l)
+  goes : write.gives z.arena.layout w n ≡ None → StepsOn z a (heap_then k z a h s me pending t l) s (processor_then k z a h s me pending t l)
   goes on = write_goes k z a h s me pending t l w refl t.facts.task_is.writes
-      (ap (λ (o : Option (Unit {0})). acted z.arena.shapes h.ever (acting (after_write x (write.goes m.poll.layout w n) o).acts (op.SetGlobal x.g x.k x.r) false)) on)
+      (ap (λ (o : Option (Unit {0})). acted z.arena.shapes h.ever (acting (after_write x (write.goes z.arena.layout w n) o).acts (op.SetGlobal x.g x.k x.r) false)) on)
       (λ u kept f. subst (λ (o : Option (Unit {0})). MarkFacts z a u (then o)) (sym on) (written_then u kept f))
 
 -- Its last step: what stood there and what is written are shaded.
@@ -100,9 +100,9 @@ module _ (k : Known) (x : Global) (w : PointerWrite) (z : Cycle) (a : ℕ) (h : 
 
 write_at : Known → (x : Global) (w : PointerWrite) (q : WriteStage) → StepAt (task.Global (at_stage x (stage.Writing (write.at_stage w q))))
 write_at k x w write_stage.Store z a h s m pending t kn l = puts k x w z a h s m pending t l
-write_at k x w write_stage.LoadOld z a h s m pending t kn l = goes k x (write.at_stage w write_stage.LoadOld) z a h s m pending t l (write_on.load_gives_none m.poll.layout (write.at_stage w write_stage.LoadOld) (n k x (write.at_stage w write_stage.LoadOld) z a h s m pending t l))
-write_at k x w (write_stage.ShadeOld sh) z a h s m pending t kn l = goes k x (write.at_stage w (write_stage.ShadeOld sh)) z a h s m pending t l (write_on.old_gives_none m.poll.layout (write.at_stage w (write_stage.ShadeOld sh)) sh (n k x (write.at_stage w (write_stage.ShadeOld sh)) z a h s m pending t l))
-write_at k x w (write_stage.ShadeNew sh) z a h s m pending t kn l = goes k x (write.at_stage w (write_stage.ShadeNew sh)) z a h s m pending t l (write_on.new_gives_none m.poll.layout (write.at_stage w (write_stage.ShadeNew sh)) sh (n k x (write.at_stage w (write_stage.ShadeNew sh)) z a h s m pending t l))
+write_at k x w write_stage.LoadOld z a h s m pending t kn l = goes k x (write.at_stage w write_stage.LoadOld) z a h s m pending t l (write_on.load_gives_none z.arena.layout (write.at_stage w write_stage.LoadOld) (n k x (write.at_stage w write_stage.LoadOld) z a h s m pending t l))
+write_at k x w (write_stage.ShadeOld sh) z a h s m pending t kn l = goes k x (write.at_stage w (write_stage.ShadeOld sh)) z a h s m pending t l (write_on.old_gives_none z.arena.layout (write.at_stage w (write_stage.ShadeOld sh)) sh (n k x (write.at_stage w (write_stage.ShadeOld sh)) z a h s m pending t l))
+write_at k x w (write_stage.ShadeNew sh) z a h s m pending t kn l = goes k x (write.at_stage w (write_stage.ShadeNew sh)) z a h s m pending t l (write_on.new_gives_none z.arena.layout (write.at_stage w (write_stage.ShadeNew sh)) sh (n k x (write.at_stage w (write_stage.ShadeNew sh)) z a h s m pending t l))
 write_at k x w write_stage.Ended z a h s m pending t kn l = absurd (let busy = t.fine.task.4.busy in cc)
 
 module _ (x : Global) (q : GlobalStage) (m : Processor) where
@@ -117,13 +117,13 @@ at k x stage.Load z a h s m pending t kn l = by_deed k z a h s (here x stage.Loa
   t.fine.task.1,
   from_global x.k t.fine.task.2,
 )
-    (λ u hands stacks. named_facts z a u x _ (value_of m.poll.layout.pages true (h.words (cell.Global x.k))) (record { stacks = stacks; number = t.facts.task_is.number; hands = hands (holding_only m.poll.local.held) t.facts.task_is.hands }))
+    (λ u hands stacks. named_facts z a u x _ (value_of z.arena.layout.pages true (h.words (cell.Global x.k))) (record { stacks = stacks; number = t.facts.task_is.number; hands = hands (holding_only m.poll.local.held) t.facts.task_is.hands }))
 at k x (stage.Birth i) z a h s m pending t kn l = by_deed k z a h s (here x (stage.Birth i) m) pending t l Rests tt refl
     (tt, fills_none a s (holding_only m.poll.local.held) refl t.facts.task_is.hands)
     (λ u hands stacks. record { stacks = stacks; number = t.facts.task_is.number; hands = hands (holding_only m.poll.local.held) t.facts.task_is.hands })
 at k x stage.Store z a h s m pending t kn l = absurd (t.facts.task_is.1 (kn refl))
 at k x stage.Number z a h s m pending t kn l = by_deed k z a h s (here x stage.Number m) pending t l Rests tt
-    (quits_rests z.arena.shapes h.ever (op.SetGlobal x.g x.k x.r) pending l.after.does.after (step m.poll.layout (register_of m x.g x.r) (at_stage x stage.Number) (found_there k z a h s (here x stage.Number m) pending t l)) (λ f. refl) t.fine.task.2 l.after.does.answers (inr (fault.Kind, refl, refl)))
+    (quits_rests z.arena.shapes h.ever (op.SetGlobal x.g x.k x.r) pending l.after.does.after (step z.arena.layout (register_of m x.g x.r) (at_stage x stage.Number) (found_there k z a h s (here x stage.Number m) pending t l)) (λ f. refl) t.fine.task.2 l.after.does.answers (inr (fault.Kind, refl, refl)))
     (tt, fills_none a s (holding_only m.poll.local.held) refl t.facts.task_is.hands)
     (λ u hands stacks. record { stacks = stacks; number = t.facts.task_is.number; hands = hands (holding_only m.poll.local.held) t.facts.task_is.hands })
 at k x (stage.Writing w) z a h s m pending t kn l = write_at k x w w.stage z a h s m pending t kn l

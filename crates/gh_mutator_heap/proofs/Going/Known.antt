@@ -83,21 +83,21 @@ ends_none z e d on g = grind arith
 
 -- A step by whichever move over the heap it is.
 abbrev pub StepOf : Cycle → (a : ℕ) → Heap → Processor → Option Answer → Type 0
-StepOf z a h m pending = heap.Steps z.arena a h (asks m) (λ t. DoesPoints z.arena a h t m pending (h.words (cell_of (asks m))))
+StepOf z a h m pending = heap.Steps z.arena a h (asks z.arena.layout m) (λ t. DoesPoints z.arena a h t m pending (h.words (cell_of (asks z.arena.layout m))))
 
 abbrev pub StepAt : Task → Type 0
 StepAt q = (z : Cycle) (a : ℕ) (h : Heap) (s : Marking) (m : Processor) (pending : Option Answer) → Together z a h s (at_task m q) pending → KnowsMarking (at_task m q) → (l : StepOf z a h (at_task m q) pending) →
-    StepsOn z a (heap.moved z.arena a h l.move) s (takes z.arena.shapes (at_task m q) (h.words (cell_of (asks (at_task m q)))))
+    StepsOn z a (heap.moved z.arena a h l.move) s (takes z.arena.layout z.arena.shapes (at_task m q) (h.words (cell_of (asks z.arena.layout (at_task m q)))))
 
 module _ (k : Known) (z : Cycle) (a : ℕ) (h : Heap) (s : Marking) (m : Processor) (pending : Option Answer) (t : Together z a h s m pending) (l : StepOf z a h m pending) where
   abbrev pub found_there : ℕ
-  found_there = h.words (cell_of (asks m))
+  found_there = h.words (cell_of (asks z.arena.layout m))
 
   abbrev pub heap_then : Heap
   heap_then = heap.moved z.arena a h l.move
 
   abbrev pub processor_then : Processor
-  processor_then = takes z.arena.shapes m found_there
+  processor_then = takes z.arena.layout z.arena.shapes m found_there
 
   pub goes_on : (g : ℕ) → heap.GoroutineRuns z.arena (view h) a g → s.words (cell.Scanned g) ≢ END
   goes_on g runs = t.beside.goes_on g runs.of.0 runs.goes_on
@@ -106,7 +106,7 @@ module _ (k : Known) (z : Cycle) (a : ℕ) (h : Heap) (s : Marking) (m : Process
   stands = stands_always z.arena a (view heap_then) processor_then l.after.does.after l.after.does.fine
 
   places : z.arena.layout.goroutines ≤ length processor_then.poll.local.scanned
-  places = let many = k.notes.as_many z.arena.shapes m found_there t.sound in let was = t.facts.stacks.places in omega (arith, many, was)
+  places = let many = k.notes.as_many z.arena.layout z.arena.shapes m found_there t.sound in let was = t.facts.stacks.places in omega (arith, many, was)
 
   -- What is known of its stacks behind a step that leaves their words, by what is known of the heap.
   module _ (u : Marking) (beside : IsBeside z.arena heap_then u) (goes : (g : ℕ) → IsOf z.arena a g → u.words (cell.Scanned g) ≢ END → heap_then.ever.ended g ≡ false) where
@@ -116,43 +116,43 @@ module _ (k : Known) (z : Cycle) (a : ℕ) (h : Heap) (s : Marking) (m : Process
     pub stacks_by : ((g : ℕ) → IsOf z.arena a g → slice_index_or processor_then.poll.local.scanned g 0 ≡ u.words (cell.Scanned g)) → KnowsStacks z a u processor_then.poll.local.stacks processor_then.poll.local.scanned
     stacks_by noted = record { own = t.facts.stacks.own; registers = values; noted = noted; places = places }
 
-  module _ (u : Marking) (beside : IsBeside z.arena heap_then u) (spares : (g number : ℕ) → asks m ≢ ask.Store (cell.Scanned g) number) (ends : (g : ℕ) → heap_then.ever.ended g ≡ h.ever.ended g) where
-    unwritten : (g : ℕ) → IsWritten m (cell.Scanned g) → ⊥
+  module _ (u : Marking) (beside : IsBeside z.arena heap_then u) (spares : (g number : ℕ) → asks z.arena.layout m ≢ ask.Store (cell.Scanned g) number) (ends : (g : ℕ) → heap_then.ever.ended g ≡ h.ever.ended g) where
+    unwritten : (g : ℕ) → IsWritten z.arena.layout m (cell.Scanned g) → ⊥
     unwritten g h = grind arith
 
     word_stays : (g : ℕ) → u.words (cell.Scanned g) ≡ h.words (cell.Scanned g)
-    word_stays g = ap (λ (w : Words). w (cell.Scanned g)) (beside.words ∙ l.words_are) ∙ k.own.leaves m h.words (cell.Scanned g) t.sound (unwritten g)
+    word_stays g = ap (λ (w : Words). w (cell.Scanned g)) (beside.words ∙ l.words_are) ∙ k.own.leaves z.arena.layout m h.words (cell.Scanned g) t.sound (unwritten g)
 
     goes : (g : ℕ) → IsOf z.arena a g → u.words (cell.Scanned g) ≢ END → heap_then.ever.ended g ≡ false
     goes g its on = grind (arith, word_stays)
 
     stacks_then : KnowsStacks z a u processor_then.poll.local.stacks processor_then.poll.local.scanned
-    stacks_then = stacks_by u beside goes (λ g its. k.notes.keeps z.arena.shapes m found_there g t.sound (spares g) ∙ t.facts.stacks.noted g its ∙ ap (λ (w : Words). w (cell.Scanned g)) t.beside.words ∙ sym (word_stays g))
+    stacks_then = stacks_by u beside goes (λ g its. k.notes.keeps z.arena.layout z.arena.shapes m found_there g t.sound (spares g) ∙ t.facts.stacks.noted g its ∙ ap (λ (w : Words). w (cell.Scanned g)) t.beside.words ∙ sym (word_stays g))
 
   pub facts_then : (u : Marking) → KnowsStacks z a u processor_then.poll.local.stacks processor_then.poll.local.scanned → TaskFacts z a u processor_then.poll processor_then.task → MarkFacts z a u processor_then
-  facts_then u stacks f = let there = k.own.stays_there z.arena.shapes m found_there t.sound in record { layout_is = there.layout ∙ t.facts.layout_is; seat_is = there.seat ∙ t.facts.seat_is; stacks = stacks; task_is = f }
+  facts_then u stacks f = record { seat_is = k.own.stays_there z.arena.layout z.arena.shapes m found_there t.sound ∙ t.facts.seat_is; stacks = stacks; task_is = f }
 
   -- what is known by the task behind a step, with what the seat has in hand then
   abbrev pub Comes : Deed → Type 0
   Comes d = (u : Marking) → ((hand : InHand) → Hands a s hand → Hands a u (hand_behind d hand)) → KnowsStacks z a u processor_then.poll.local.stacks processor_then.poll.local.scanned → TaskFacts z a u processor_then.poll processor_then.task
 
   -- The step is a deed.
-  pub by_deed : (d : Deed) → EndsNone d → acted z.arena.shapes h.ever (acts m found_there) ≡ ever_by z.arena h.ever d → MeetsByDeed z a h s (asks m) d → Comes d → StepsOn z a heap_then s processor_then
+  pub by_deed : (d : Deed) → EndsNone d → acted z.arena.shapes h.ever (acts z.arena.layout m found_there) ≡ ever_by z.arena h.ever d → MeetsByDeed z a h s (asks z.arena.layout m) d → Comes d → StepsOn z a heap_then s processor_then
   by_deed d on is meets comes =
       let ever_is = l.after.does.ever ∙ is in
-      let b = k.deeds z a h s l.move (asks m) d t.heap t.marking t.bounded t.beside l.may (record { words = l.words_are; ever = ever_is }) meets in
-      let stacks = stacks_then b.then b.beside (spares_stacks z a h s (asks m) d on meets) (λ g. ap (λ (e : Ever). e.ended g) ever_is ∙ ends_none z h.ever d on g) in
+      let b = k.deeds z a h s l.move (asks z.arena.layout m) d t.heap t.marking t.bounded t.beside l.may (record { words = l.words_are; ever = ever_is }) meets in
+      let stacks = stacks_then b.then b.beside (spares_stacks z a h s (asks z.arena.layout m) d on meets) (λ g. ap (λ (e : Ever). e.ended g) ever_is ∙ ends_none z h.ever d on g) in
       record { then = b.then; went = b.went; beside = b.beside; facts = facts_then b.then stacks (comes b.then b.hands stacks) }
 
   -- It is made of moves of marking alone.
-  module _ (is : acted z.arena.shapes h.ever (acts m found_there) ≡ h.ever) (u : Marking) (went : marks.Went z a s u) (words_are : u.words ≡ effect s.words (asks m)) (fills : (o : ℕ) → u.colour o ≡ Placing a → ClaimsSlot z.arena (view heap_then) a o) where
+  module _ (is : acted z.arena.shapes h.ever (acts z.arena.layout m found_there) ≡ h.ever) (u : Marking) (went : marks.Went z a s u) (words_are : u.words ≡ effect s.words (asks z.arena.layout m)) (fills : (o : ℕ) → u.colour o ≡ Placing a → ClaimsSlot z.arena (view heap_then) a o) where
     pub by_marking : ((g d : ℕ) → heap.GoroutineRuns z.arena (view h) a g → d < REGISTERS → u.registers g d ≡ s.registers g d) → ((g : ℕ) → heap.GoroutineRuns z.arena (view h) a g → u.words (cell.Scanned g) ≢ END) → MarkFacts z a u processor_then → StepsOn z a heap_then s processor_then
     by_marking registers on facts = record {
       then = u;
       went = went;
       beside = k.alone z a h s u l.move t.heap t.marking t.beside l.may (l.after.does.ever ∙ is) (record {
         went = went;
-        words_are = words_are ∙ ap (λ (w : Words). effect w (asks m)) t.beside.words ∙ sym l.words_are;
+        words_are = words_are ∙ ap (λ (w : Words). effect w (asks z.arena.layout m)) t.beside.words ∙ sym l.words_are;
         fills = fills;
         registers = registers;
         goes_on = on;
@@ -165,5 +165,5 @@ module _ (k : Known) (z : Cycle) (a : ℕ) (h : Heap) (s : Marking) (m : Process
     by_keeping kept facts = by_marking (λ g d runs low. kept.registers g d runs.of) (λ g runs e. goes_on g runs (sym (kept.stacks g runs.of) ∙ e)) facts
 
   -- It loads, and nothing changes.
-  pub by_load : acted z.arena.shapes h.ever (acts m found_there) ≡ h.ever → (c : Cell) → asks m ≡ ask.Load c → FillsNone a s → MarkFacts z a s processor_then → StepsOn z a heap_then s processor_then
+  pub by_load : acted z.arena.shapes h.ever (acts z.arena.layout m found_there) ≡ h.ever → (c : Cell) → asks z.arena.layout m ≡ ask.Load c → FillsNone a s → MarkFacts z a s processor_then → StepsOn z a heap_then s processor_then
   by_load is c loads fills facts = by_marking is s marks.stays (sym (ap (λ (x : Ask). effect s.words x) loads)) (λ o e. absurd (fills o e)) (λ g d runs low. refl) goes_on facts

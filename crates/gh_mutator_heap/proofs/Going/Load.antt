@@ -42,7 +42,7 @@ module _ (k : Known) (x : Load) (q : LoadStage) (z : Cycle) (a : ℕ) (h : Heap)
     found = found_there k z a h s here pending t l
 
     abbrev now : Step Load
-    now = step m.poll.layout (at_stage x q) found
+    now = step z.arena.layout (at_stage x q) found
 
     abbrev Goes : Type 0
     Goes = StepsOn z a (heap_then k z a h s here pending t l) s (processor_then k z a h s here pending t l)
@@ -50,11 +50,11 @@ module _ (k : Known) (x : Load) (q : LoadStage) (z : Cycle) (a : ℕ) (h : Heap)
     fills : FillsNone a s
     fills = fills_none a s (holding_only m.poll.local.held) refl t.facts.task_is.hands
 
-    by : (d : Deed) → EndsNone d → ((hand : InHand) → hand_behind d hand ≡ hand) → acted z.arena.shapes h.ever (acting now.acts (op_of x) false) ≡ ever_by z.arena h.ever d → MeetsByDeed z a h s (asks here) d → Goes
+    by : (d : Deed) → EndsNone d → ((hand : InHand) → hand_behind d hand ≡ hand) → acted z.arena.shapes h.ever (acting now.acts (op_of x) false) ≡ ever_by z.arena h.ever d → MeetsByDeed z a h s (asks z.arena.layout here) d → Goes
     by d on same is meets = by_deed k z a h s here pending t l d on is meets
         (λ u hands stacks. follows_facts z a u _ now.then (between_then z a u m.poll x.g x.d now.sets stacks t.facts.task_is.number (rw (← same (holding_only m.poll.local.held)) (hands (holding_only m.poll.local.held) t.facts.task_is.hands))))
 
-    rests : pending ≡ None → Quits now → MeetsByDeed z a h s (asks here) Rests → Goes
+    rests : pending ≡ None → Quits now → MeetsByDeed z a h s (asks z.arena.layout here) Rests → Goes
     rests none quits meets = by Rests tt (λ hand. refl) (quits_rests z.arena.shapes h.ever (op_of x) pending l.after.does.after now (λ f. refl) none l.after.does.answers quits) meets
 
 load_found : (z : Cycle) (e : Ever) (v : EverValue) (n : Name) (k : ℕ) → v ≡ ever.Ref n → k < size_for z.arena.shapes e.type_of n → load_answer z.arena.shapes e v k ≡ answer_of_value (e.field n k)

@@ -50,8 +50,8 @@ goes_facts z a u m w p q marking free on b = subst (λ (o : Option Bool). TaskFa
     (record { marking = marking; stacks = b.stacks; number = b.number; hands = subst (λ (o : Option ℕ). Hands a u (record (holding_only m.poll.local.held) { placing = o })) (sym free) b.hands })
 
 -- or it is over
-over_facts : Known → (z : Cycle) (a : ℕ) (u : Marking) (m : Processor) (w : Wanted) (p : Placing) (asks : Bool) → m.poll.layout ≡ z.arena.layout → m.poll.seat ≡ a → IsBetween z a u m.poll.local → TaskFacts z a u m.poll (made_task m.poll w p (Some asks))
-over_facts k z a u m w p asks layout_is seat_is b = grind arith
+over_facts : Known → (z : Cycle) (a : ℕ) (u : Marking) (m : Processor) (w : Wanted) (p : Placing) (asks : Bool) → m.poll.seat ≡ a → IsBetween z a u m.poll.local → TaskFacts z a u m.poll (made_task m.poll w p (Some asks))
+over_facts k z a u m w p asks seat_is b = grind arith
 
 module _ (k : Known) (w : Wanted) (p : Placing) (z : Cycle) (a : ℕ) (h : Heap) (s : Marking) (m : Processor) (pending : Option Answer) where
   abbrev Ready : PlaceStage → Type 0
@@ -94,7 +94,7 @@ module _ (k : Known) (w : Wanted) (p : Placing) (z : Cycle) (a : ℕ) (h : Heap)
 
     marks_slot : Goes making.Mark t l
     marks_slot = by_keeping k z a h s (at w p making.Mark m) pending t l refl marked (marks.goes s (marks.Reserve p.at) marks.stays may) refl claims kept
-        (record { layout_is = t.facts.layout_is; seat_is = t.facts.seat_is; stacks = stacks_so; task_is = record { marking = t.facts.task_is.marking; stacks = stacks_so; number = t.facts.task_is.number; hands = (k.follow z a s (holding_only m.poll.local.held) t.marking (between making.Mark t refl)).reserved p.at may refl } })
+        (record { seat_is = t.facts.seat_is; stacks = stacks_so; task_is = record { marking = t.facts.task_is.marking; stacks = stacks_so; number = t.facts.task_is.number; hands = (k.follow z a s (holding_only m.poll.local.held) t.marking (between making.Mark t refl)).reserved p.at may refl } })
 
   -- The object is made.
   module _ (t : Ready making.Alloc) (l : StepOf z a h (at w p making.Alloc m) pending) where
@@ -134,7 +134,7 @@ place_at k w p (making.Clear i) z a h s m pending t kn l = by_deed k z a h s (at
       by u false b = goes_facts z a u m w p making.Birth t.facts.task_is.marking refl refl b
 place_at k w p making.Birth z a h s m pending t kn l = by_deed k z a h s (at w p making.Birth m) pending t l Rests tt refl (tt, fills k w p z a h s m pending making.Birth t refl)
     (λ u hands stacks. goes_facts z a u m w p (making.Bits (bits.opening p.shape p.at p.slot)) t.facts.task_is.marking refl refl (record { stacks = stacks; number = t.facts.task_is.number; hands = hands (holding_only m.poll.local.held) (between k w p z a h s m pending making.Birth t refl) }))
-place_at k w p (making.Bits b) z a h s m pending t kn l = by_deed k z a h s (at w p (making.Bits b) m) pending t l Rests tt refl (bits_quiet s m.poll.layout b b.stage, fills k w p z a h s m pending (making.Bits b) t refl)
+place_at k w p (making.Bits b) z a h s m pending t kn l = by_deed k z a h s (at w p (making.Bits b) m) pending t l Rests tt refl (bits_quiet s z.arena.layout b b.stage, fills k w p z a h s m pending (making.Bits b) t refl)
     (λ u hands stacks. by u (is_none (bits.given (bits.goes b 0))) p.marking t.facts.task_is.marking refl (record { stacks = stacks; number = t.facts.task_is.number; hands = hands (holding_only m.poll.local.held) (between k w p z a h s m pending (making.Bits b) t refl) })) where
       by : (u : Marking) (busy marking : Bool) → marking ≡ true → is_none (bits.given (bits.goes b 0)) ≡ busy → IsBetween z a u m.poll.local → TaskFacts z a u m.poll (made_task m.poll w (place.at_stage p (cond busy (making.Bits (bits.goes b 0)) (place.filled marking))) (place.given_at (cond busy (making.Bits (bits.goes b 0)) (place.filled marking))))
       by u true marking on busy x = goes_facts z a u m w p (making.Bits (bits.goes b 0)) t.facts.task_is.marking refl refl x
@@ -149,7 +149,7 @@ place_at k w p making.Count z a h s m pending t kn l = by_deed k z a h s (at w p
       by : (u : Marking) (marking : Bool) (bytes : ℕ) → IsBetween z a u m.poll.local → TaskFacts z a u m.poll (made_task m.poll w (place.at_stage p (cond marking (making.Ended false) (making.LoadTrigger bytes))) (place.given_at (cond marking (making.Ended false) (making.LoadTrigger bytes))))
       by u marking bytes b = grind arith
 place_at k w p (making.LoadTrigger bytes) z a h s m pending t kn l = by_deed k z a h s (at w p (making.LoadTrigger bytes) m) pending t l Rests tt refl (tt, fills k w p z a h s m pending (making.LoadTrigger bytes) t refl)
-    (λ u hands stacks. over_facts k z a u m w (place.at_stage p (making.Ended (nat_le (h.words cell.Trigger) bytes))) (nat_le (h.words cell.Trigger) bytes) t.facts.layout_is t.facts.seat_is (record { stacks = stacks; number = t.facts.task_is.number; hands = hands (holding_only m.poll.local.held) (between k w p z a h s m pending (making.LoadTrigger bytes) t refl) }))
+    (λ u hands stacks. over_facts k z a u m w (place.at_stage p (making.Ended (nat_le (h.words cell.Trigger) bytes))) (nat_le (h.words cell.Trigger) bytes) t.facts.seat_is (record { stacks = stacks; number = t.facts.task_is.number; hands = hands (holding_only m.poll.local.held) (between k w p z a h s m pending (making.LoadTrigger bytes) t refl) }))
 place_at k w p (making.Ended asks) z a h s m pending t kn l = absurd t.fine.task.facts
 
 pub place_step : Known → (w : Wanted) (p : Placing) → StepAt (makes w p)

@@ -31,7 +31,7 @@ use Rattle.gh_mutator.specs.New as new
 use Rattle.gh_poll.specs.Poll as poll
 use Rattle.gh_mutator.specs.Processor.{at_task}
 use Rattle.gh_mutator.specs.ProcessorMarks.{MarkFacts, only_polls, TaskFacts}
-use Rattle.gh_mutator.specs.Vocabulary.{Answer, cell_of, Leaving, Op, Polling, Shape, Value, Waiting}
+use Rattle.gh_mutator.specs.Vocabulary.{Answer, cell_of, Layout, Leaving, Op, Polling, Shape, Value, Waiting}
 use Rattle.gh_poll.specs.Wait as wait
 use Rattle.gh_mutator_heap.proofs.Going.Known.{by_marking, found_there, goes_on, heap_then, Known, processor_then, StepAt, StepOf}
 use Rattle.gh_mutator_heap.proofs.Vocabulary.{after_gc, after_leave, after_poll, asks, takes, WaitState}
@@ -51,11 +51,11 @@ leaves_so p to s = record { stacks = s.0; notes = λ g on e. on (ap (λ (ns : Li
 same_stops : (p : Polling) (g : give.Giving) (stops : ℕ) → Same p (poll.stops_then p g stops)
 same_stops p g stops = grind arith
 
-same_phases : (p : Polling) (stops : ℕ) (phase : Option RunPhase) → Same p (poll.by_phase p stops phase)
-same_phases p stops phase = grind arith
+same_phases : (l : Layout) (p : Polling) (stops : ℕ) (phase : Option RunPhase) → Same p (poll.by_phase l p stops phase)
+same_phases l p stops phase = grind arith
 
-same_resumed : (p : Polling) (r : resume.Resuming) (out : Option Resumed) → Same p (poll.after_resume p r out)
-same_resumed p r out = grind arith
+same_resumed : (l : Layout) (p : Polling) (r : resume.Resuming) (out : Option Resumed) → Same p (poll.after_resume l p r out)
+same_resumed l p r out = grind arith
 
 same_room : (p : Polling) (r : room.RoomFinding) (out : Option Held) → Same p (poll.after_room p r out)
 same_room p r out = grind arith
@@ -69,12 +69,12 @@ module _ (z : Cycle) where
     notes = λ i on. read_after_set (λ (n : ℕ). n ≢ END) p.local.scanned g i p.local.view.begun 0 (λ same e. let few = z.few in absurd (omega (arith, few, number, e))) on;
   }
 
-  poll_leaves : (a : ℕ) (s : Marking) (p : Polling) (q : PollStage) (found : ℕ) → PollStageFacts z a s p.waits p.local q → Leaves p (poll.goes_at p q found)
+  poll_leaves : (a : ℕ) (s : Marking) (p : Polling) (q : PollStage) (found : ℕ) → PollStageFacts z a s p.waits p.local q → Leaves p (poll.goes_at z.arena.layout p q found)
   poll_leaves a s p q found x = grind (arith, leaves_so, marked_leaves, same_phases, same_resumed, same_room, same_stops)
 
-  wait_leaves : (a : ℕ) (s : Marking) (w : Waiting) (q : WaitStage) (found : ℕ) → WaitStageFacts z a s w.poll q → Leaves w.poll (wait.goes_at w q found).poll
+  wait_leaves : (a : ℕ) (s : Marking) (w : Waiting) (q : WaitStage) (found : ℕ) → WaitStageFacts z a s w.poll q → Leaves w.poll (wait.goes_at z.arena.layout w q found).poll
   wait_leaves a s w wait_stage.Want found x = leaves_so w.poll _ (refl, refl)
-  wait_leaves a s w wait_stage.Polling found x = by (poll.goes w.poll found) (poll.gives w.poll found) (poll_leaves a s w.poll w.poll.stage found x.stage_is) where
+  wait_leaves a s w wait_stage.Polling found x = by (poll.goes z.arena.layout w.poll found) (poll.gives z.arena.layout w.poll found) (poll_leaves a s w.poll w.poll.stage found x.stage_is) where
     by : (p : Polling) (out : Option (Unit {0})) → Leaves w.poll p → Leaves w.poll (wait.after_poll w p out).poll
     by p out k = grind arith
   wait_leaves a s w wait_stage.LoadSwept found x = by (wait.is_later w.wait.known found) where
@@ -94,13 +94,13 @@ module _ (k : Known) (z : Cycle) (a : ℕ) (h : Heap) (s : Marking) (m : Process
   abbrev Fills : Type 0
   Fills = (u : Marking) → TaskFacts z a u then.poll then.task → FillsNone a u
 
-  polled : only_polls m.task ≡ true → acted z.arena.shapes h.ever (acts m (found_there k z a h s m pending t l)) ≡ h.ever → Leaves m.poll then.poll → Fills → StepsOn z a (heap_then k z a h s m pending t l) s then
+  polled : only_polls m.task ≡ true → acted z.arena.shapes h.ever (acts z.arena.layout m (found_there k z a h s m pending t l)) ≡ h.ever → Leaves m.poll then.poll → Fills → StepsOn z a (heap_then k z a h s m pending t l) s then
   polled only is leaves fills = by_marking k z a h s m pending t l is land.then land.went land.words_are (λ o e. absurd (fills land.then facts.task_is o e)) registers on facts where
-    land : marks.Steps z a s (asks m) (λ u. MarkFacts z a u (takes z.arena.shapes m (s.words (cell_of (asks m)))))
+    land : marks.Steps z a s (asks z.arena.layout m) (λ u. MarkFacts z a u (takes z.arena.layout z.arena.shapes m (s.words (cell_of (asks z.arena.layout m)))))
     land = k.marks.own_step z.arena.shapes z a s m t.marking (k.objects z h s t.heap t.marking t.beside) t.cycle only t.facts
 
     facts : MarkFacts z a land.then then
-    facts = subst (λ (n : ℕ). MarkFacts z a land.then (takes z.arena.shapes m n)) (ap (λ (w : Words). w (cell_of (asks m))) t.beside.words) land.after
+    facts = subst (λ (n : ℕ). MarkFacts z a land.then (takes z.arena.layout z.arena.shapes m n)) (ap (λ (w : Words). w (cell_of (asks z.arena.layout m))) t.beside.words) land.after
 
     on : (g : ℕ) → heap.GoroutineRuns z.arena (view h) a g → land.then.words (cell.Scanned g) ≢ END
     on g runs e = leaves.notes g (λ noted. goes_on k z a h s m pending t l g runs (sym (t.facts.stacks.noted g runs.of) ∙ noted)) (facts.stacks.noted g runs.of ∙ e)
@@ -140,25 +140,25 @@ module _ (z : Cycle) (a : ℕ) (u : Marking) (m : Processor) where
 pub poll_step : Known → StepAt task.Poll
 poll_step k z a h s m pending t kn l =
     let n : ℕ = h.words (cell_of (poll.asks m.poll)) in
-    polled k z a h s (at_task m task.Poll) pending t l refl (acted_same z.arena.shapes h.ever op.Poll refl (is_some (poll.gives m.poll n)))
-    (polled_leaves z a s (at_task m task.Poll) (poll.goes m.poll n) (poll.gives m.poll n) (poll_leaves z a s m.poll m.poll.stage n t.facts.task_is.stage_is))
-    (λ u. polled_fills z a u (at_task m task.Poll) (poll.goes m.poll n) (poll.gives m.poll n))
+    polled k z a h s (at_task m task.Poll) pending t l refl (acted_same z.arena.shapes h.ever op.Poll refl (is_some (poll.gives z.arena.layout m.poll n)))
+    (polled_leaves z a s (at_task m task.Poll) (poll.goes z.arena.layout m.poll n) (poll.gives z.arena.layout m.poll n) (poll_leaves z a s m.poll m.poll.stage n t.facts.task_is.stage_is))
+    (λ u. polled_fills z a u (at_task m task.Poll) (poll.goes z.arena.layout m.poll n) (poll.gives z.arena.layout m.poll n))
 
 pub gc_step : Known → (g : ℕ) (x : WaitState) → StepAt (task.Gc g x)
 gc_step k g x z a h s m pending t kn l =
     let w : Waiting = wait.waiting x m.poll in
     let n : ℕ = h.words (cell_of (wait.asks w)) in
-    polled k z a h s (at_task m (task.Gc g x)) pending t l refl (acted_same z.arena.shapes h.ever (op.Gc g) refl (is_some (wait.gives w n)))
-    (gc_leaves z a s (at_task m (task.Gc g x)) g (wait.goes w n) (wait.gives w n) (wait_leaves z a s w x.stage n t.facts.task_is))
-    (λ u. gc_fills z a u (at_task m (task.Gc g x)) g (wait.goes w n) (wait.gives w n))
+    polled k z a h s (at_task m (task.Gc g x)) pending t l refl (acted_same z.arena.shapes h.ever (op.Gc g) refl (is_some (wait.gives z.arena.layout w n)))
+    (gc_leaves z a s (at_task m (task.Gc g x)) g (wait.goes z.arena.layout w n) (wait.gives z.arena.layout w n) (wait_leaves z a s w x.stage n t.facts.task_is))
+    (λ u. gc_fills z a u (at_task m (task.Gc g x)) g (wait.goes z.arena.layout w n) (wait.gives z.arena.layout w n))
 
 pub wait_step : Known → (v : Wanted) (x : WaitState) → StepAt (task.New (record { wanted = v; stage = Wait x }))
 wait_step k v x z a h s m pending t kn l =
     let w : Waiting = wait.waiting x m.poll in
     let n : ℕ = h.words (cell_of (wait.asks w)) in
     polled k z a h s (at_task m (new.waits v w)) pending t l refl refl
-    (new_leaves z a s (at_task m (new.waits v w)) v (wait.goes w n) (wait.gives w n) (wait_leaves z a s w x.stage n t.facts.task_is))
-    (λ u. new_fills z a u (at_task m (new.waits v w)) v (wait.goes w n) (wait.gives w n))
+    (new_leaves z a s (at_task m (new.waits v w)) v (wait.goes z.arena.layout w n) (wait.gives z.arena.layout w n) (wait_leaves z a s w x.stage n t.facts.task_is))
+    (λ u. new_fills z a u (at_task m (new.waits v w)) v (wait.goes z.arena.layout w n) (wait.gives z.arena.layout w n))
 
 pub leave_step : Known → (x : Leaving) → StepAt (task.Leave x)
 leave_step k x z a h s m pending t kn l =

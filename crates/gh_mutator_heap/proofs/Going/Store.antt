@@ -69,11 +69,11 @@ module _ (k : Known) (x : Store) (z : Cycle) (a : ℕ) (h : Heap) (s : Marking) 
   Behind next = MarkFacts z a s (behind m x next)
 
   over : (q : StoreStage) (t : Ready q) (b : IsBetween z a s m.poll.local) (y : Answer) → Behind (ends y)
-  over q t b y = record { layout_is = t.facts.layout_is; seat_is = t.facts.seat_is; stacks = b.stacks; task_is = b }
+  over q t b y = record { seat_is = t.facts.seat_is; stacks = b.stacks; task_is = b }
 
   nil_base : (t : Ready stage.NilBase) (l : StepOf z a h (at x stage.NilBase m) pending) → Loads stage.NilBase t l
   nil_base t l = by_load k z a h s (at x stage.NilBase m) pending t l
-      (quits_rests z.arena.shapes h.ever (op_of x) pending l.after.does.after (step m.poll.layout m.poll.local (register_of m x.g x.v) (at_stage x stage.NilBase) (found_there k z a h s (at x stage.NilBase m) pending t l)) (fault_stays h.ever (h.ever.register x.g x.b) x.k (h.ever.register x.g x.v)) t.fine.task.3 l.after.does.answers (inr (fault.NilBase, refl, refl)))
+      (quits_rests z.arena.shapes h.ever (op_of x) pending l.after.does.after (step z.arena.layout m.poll.local (register_of m x.g x.v) (at_stage x stage.NilBase) (found_there k z a h s (at x stage.NilBase m) pending t l)) (fault_stays h.ever (h.ever.register x.g x.b) x.k (h.ever.register x.g x.v)) t.fine.task.3 l.after.does.answers (inr (fault.NilBase, refl, refl)))
       cell.Touch refl (fills_none a s (holding_only m.poll.local.held) refl t.facts.task_is.hands) (over stage.NilBase t t.facts.task_is (answer.Fault fault.NilBase))
 
   module _ (t : Ready stage.Page) (l : StepOf z a h (at x stage.Page m) pending) where
@@ -81,14 +81,14 @@ module _ (k : Known) (x : Store) (z : Cycle) (a : ℕ) (h : Heap) (s : Marking) 
     page_quits b = grind arith
 
     page_facts : (b : Bool) → Behind (cond b (goes_on (at_stage x stage.Bits)) (ends (answer.Fault fault.Field)))
-    page_facts true = record { layout_is = t.facts.layout_is; seat_is = t.facts.seat_is; stacks = t.facts.stacks; task_is = t.facts.task_is }
+    page_facts true = record { seat_is = t.facts.seat_is; stacks = t.facts.stacks; task_is = t.facts.task_is }
     page_facts false = over stage.Page t t.facts.task_is.0 (answer.Fault fault.Field)
 
     page : Loads stage.Page t l
     page =
         let n = found_there k z a h s (at x stage.Page m) pending t l in
         by_load k z a h s (at x stage.Page m) pending t l
-        (quits_rests z.arena.shapes h.ever (op_of x) pending l.after.does.after (step m.poll.layout m.poll.local (register_of m x.g x.v) (at_stage x stage.Page) n) (fault_stays h.ever (h.ever.register x.g x.b) x.k (h.ever.register x.g x.v)) t.fine.task.unanswered l.after.does.answers (page_quits (has_field x.k n)))
+        (quits_rests z.arena.shapes h.ever (op_of x) pending l.after.does.after (step z.arena.layout m.poll.local (register_of m x.g x.v) (at_stage x stage.Page) n) (fault_stays h.ever (h.ever.register x.g x.b) x.k (h.ever.register x.g x.v)) t.fine.task.unanswered l.after.does.answers (page_quits (has_field x.k n)))
         _ refl (fills_none a s (holding_only m.poll.local.held) refl t.facts.task_is.0.hands) (page_facts (has_field x.k n))
 
   -- The kind of the field is found: a pointer is written behind the barrier.
@@ -103,18 +103,17 @@ module _ (k : Known) (x : Store) (z : Cycle) (a : ℕ) (h : Heap) (s : Marking) 
     reach = from_register x.g x.b f.n f.through.runs.goes_on f.through.names
 
     abbrev there : PointerCell
-    there = pointer_cell_at m.poll.layout (x.at + x.k)
+    there = pointer_cell_at z.arena.layout (x.at + x.k)
 
-    kinds : (p b : Bool) → Quits (cond b (ends (answer.Fault fault.Kind)) (goes_on (at_stage x (stores m.poll.layout m.poll.local held x p))))
+    kinds : (p b : Bool) → Quits (cond b (ends (answer.Fault fault.Kind)) (goes_on (at_stage x (stores z.arena.layout m.poll.local held x p))))
     kinds p b = grind arith
 
     begun : points z.arena.shapes h.ever.type_of f.n x.k ≡ true → Behind (goes_on (at_stage x (stage.Writing (written m.poll.local there held))))
     begun kind = record {
-      layout_is = t.facts.layout_is;
       seat_is = t.facts.seat_is;
       stacks = t.facts.stacks;
       task_is = write_begins k z a h s t.shapes t.heap t.marking t.beside m.poll there held
-          (record { o = h.place f.n; k = x.k; at_is = word_there k z a h s t.shapes t.heap t.marking t.beside f.n f.through.made reach x.k t.fine.task.1 m.poll.layout x.at t.facts.layout_is f.through.here; known = t.beside.reached f.n reach; pointer = is_pointer_there z h s t.shapes t.heap t.beside f.n x.k f.through.made reach t.fine.task.1 kind })
+          (record { o = h.place f.n; k = x.k; at_is = word_there k z a h s t.shapes t.heap t.marking t.beside f.n f.through.made reach x.k t.fine.task.1 x.at f.through.here; known = t.beside.reached f.n reach; pointer = is_pointer_there z h s t.shapes t.heap t.beside f.n x.k f.through.made reach t.fine.task.1 kind })
           (known_pointer k z a h s t.shapes t.heap t.marking t.beside (h.ever.register x.g x.v) held (register_reached h.ever x.g x.v f.through.runs.goes_on (h.ever.register x.g x.v) refl) (t.fine.knows.stands.registers x.g x.v f.through.runs.of f.register))
           (room_for_two m.poll t.facts.task_is.1 on) t.facts.task_is.0;
     }
@@ -123,23 +122,23 @@ module _ (k : Known) (x : Store) (z : Cycle) (a : ℕ) (h : Heap) (s : Marking) 
     number_is p e same = grind arith
 
     plain : is_number_value held ≡ true → Behind (goes_on (at_stage x stage.Field))
-    plain number = record { layout_is = t.facts.layout_is; seat_is = t.facts.seat_is; stacks = t.facts.stacks; task_is = (t.facts.task_is.0, λ marks. number) }
+    plain number = record { seat_is = t.facts.seat_is; stacks = t.facts.stacks; task_is = (t.facts.task_is.0, λ marks. number) }
 
-    goes : (p : Bool) → points z.arena.shapes h.ever.type_of f.n x.k ≡ p → kinds_differ p held ≡ false → Behind (goes_on (at_stage x (stores m.poll.layout m.poll.local held x p)))
+    goes : (p : Bool) → points z.arena.shapes h.ever.type_of f.n x.k ≡ p → kinds_differ p held ≡ false → Behind (goes_on (at_stage x (stores z.arena.layout m.poll.local held x p)))
     goes p kind same = grind (arith, begun, number_is, plain)
 
-    bits_facts : (p b : Bool) → points z.arena.shapes h.ever.type_of f.n x.k ≡ p → kinds_differ p held ≡ b → Behind (cond b (ends (answer.Fault fault.Kind)) (goes_on (at_stage x (stores m.poll.layout m.poll.local held x p))))
+    bits_facts : (p b : Bool) → points z.arena.shapes h.ever.type_of f.n x.k ≡ p → kinds_differ p held ≡ b → Behind (cond b (ends (answer.Fault fault.Kind)) (goes_on (at_stage x (stores z.arena.layout m.poll.local held x p))))
     bits_facts p true kind same = over stage.Bits t t.facts.task_is.0 (answer.Fault fault.Kind)
     bits_facts p false kind same = goes p kind same
 
     bits : Loads stage.Bits t l
     bits =
         let n = found_there k z a h s (at x stage.Bits m) pending t l in
-        let p : Bool = is_pointer_by m.poll.layout (x.at + x.k) n in
+        let p : Bool = is_pointer_by z.arena.layout (x.at + x.k) n in
         by_load k z a h s (at x stage.Bits m) pending t l
-        (quits_rests z.arena.shapes h.ever (op_of x) pending l.after.does.after (step m.poll.layout m.poll.local held (at_stage x stage.Bits) n) (fault_stays h.ever (h.ever.register x.g x.b) x.k (h.ever.register x.g x.v)) f.unanswered l.after.does.answers (kinds p (kinds_differ p held)))
+        (quits_rests z.arena.shapes h.ever (op_of x) pending l.after.does.after (step z.arena.layout m.poll.local held (at_stage x stage.Bits) n) (fault_stays h.ever (h.ever.register x.g x.b) x.k (h.ever.register x.g x.v)) f.unanswered l.after.does.answers (kinds p (kinds_differ p held)))
         _ refl (fills_none a s (holding_only m.poll.local.held) refl t.facts.task_is.0.hands)
-        (bits_facts p (kinds_differ p held) (sym (kind_there k z a h s t.shapes t.heap t.marking t.beside f.n f.through.made reach x.k t.fine.task.1 m.poll.layout x.at t.facts.layout_is f.through.here)) refl)
+        (bits_facts p (kinds_differ p held) (sym (kind_there k z a h s t.shapes t.heap t.marking t.beside f.n f.through.made reach x.k t.fine.task.1 x.at f.through.here)) refl)
 
 -- The field is written.
 store_kind : (z : Cycle) (e : Ever) (v w : EverValue) (n : Name) (k : ℕ) → v ≡ ever.Ref n → k < size_for z.arena.shapes e.type_of n → fits (points z.arena.shapes e.type_of n k) w ≡ true → store_answer z.arena.shapes e v k w ≡ answer.Done
@@ -161,8 +160,8 @@ module _ (k : Known) (x : Store) (z : Cycle) (a : ℕ) (h : Heap) (s : Marking) 
   then_is : stores_value h.ever (h.ever.register x.g x.b) x.k stored (store_answer z.arena.shapes h.ever (h.ever.register x.g x.b) x.k stored) ≡ with_field h.ever f.n x.k stored
   then_is = ap (λ (y : Answer). stores_value h.ever (h.ever.register x.g x.b) x.k stored y) (store_kind z h.ever (h.ever.register x.g x.b) stored f.n x.k f.through.names few fit) ∙ ap (λ (y : EverValue). stores_value h.ever y x.k stored answer.Done) f.through.names
 
-  cell_there : (x.at + x.k) % (1024 * m.poll.layout.pages) ≡ h.place f.n + x.k
-  cell_there = word_there k z a h s t.shapes t.heap t.marking t.beside f.n f.through.made reach_it x.k few m.poll.layout x.at t.facts.layout_is f.through.here
+  cell_there : (x.at + x.k) % (1024 * z.arena.layout.pages) ≡ h.place f.n + x.k
+  cell_there = word_there k z a h s t.shapes t.heap t.marking t.beside f.n f.through.made reach_it x.k few x.at f.through.here
 
   may : (word : ℕ) → word ≡ word_of_value old_value → MayWrite z.arena (view h) a f.n x.k stored word
   may word is = record {
@@ -201,14 +200,14 @@ module _ (k : Known) (x : Store) (w : PointerWrite) (z : Cycle) (a : ℕ) (h : H
 
   -- the processor behind the step, by whether that ends the write
   abbrev then : Option (Unit {0}) → Processor
-  then o = applied task.Store (keeping me (held_then m.poll.layout w n)) x.g x.v (after_write x (write.goes m.poll.layout w n) o)
+  then o = applied task.Store (keeping me (held_then z.arena.layout w n)) x.g x.v (after_write x (write.goes z.arena.layout w n) o)
 
-  written_then : (u : Marking) → Keeps z a s u → Facts z a u nothing (write.goes m.poll.layout w n) → MarkFacts z a u (then None)
-  written_then u kept f = let stacks = stacks_last z a s u m.poll.local.stacks m.poll.local.scanned kept t.facts.stacks in record { layout_is = t.facts.layout_is; seat_is = t.facts.seat_is; stacks = stacks; task_is = record { stacks = stacks; number = t.facts.task_is.number; writes = f } }
+  written_then : (u : Marking) → Keeps z a s u → Facts z a u nothing (write.goes z.arena.layout w n) → MarkFacts z a u (then None)
+  written_then u kept f = let stacks = stacks_last z a s u m.poll.local.stacks m.poll.local.scanned kept t.facts.stacks in record { seat_is = t.facts.seat_is; stacks = stacks; task_is = record { stacks = stacks; number = t.facts.task_is.number; writes = f } }
 
-  goes_before : write.gives m.poll.layout w n ≡ None → StepsOn z a (heap_then k z a h s me pending t l) s (processor_then k z a h s me pending t l)
+  goes_before : write.gives z.arena.layout w n ≡ None → StepsOn z a (heap_then k z a h s me pending t l) s (processor_then k z a h s me pending t l)
   goes_before on = write_goes k z a h s me pending t l w refl t.facts.task_is.writes
-      (ap (λ (o : Option (Unit {0})). acted z.arena.shapes h.ever (acting (after_write x (write.goes m.poll.layout w n) o).acts (op_of x) false)) on)
+      (ap (λ (o : Option (Unit {0})). acted z.arena.shapes h.ever (acting (after_write x (write.goes z.arena.layout w n) o).acts (op_of x) false)) on)
       (λ u kept f. subst (λ (o : Option (Unit {0})). MarkFacts z a u (then o)) (sym on) (written_then u kept f))
 
 -- Its last step: what stood there and what is written are shaded.
@@ -239,16 +238,16 @@ module _ (k : Known) (x : Store) (w : PointerWrite) (z : Cycle) (a : ℕ) (h : H
     puts = by_deed k z a h s it pending t l (Puts fact.n x.k (h.ever.register x.g x.v) word) tt (then_is k x z a h s m pending (stage.Writing wrote) t fact t.fine.task.1 t.fine.task.2 t.fine.knows.stands) (
       ap (λ (c : Cell). ask.Store c word) cell_is,
       write_fills z a s wrote t.facts.task_is.writes,
-      may k x z a h s m pending (stage.Writing wrote) t fact t.fine.task.1 t.fine.task.2 t.fine.knows.stands word (word_written z.arena.layout (pointer_cell_at m.poll.layout (x.at + x.k)) (register_of m x.g x.v) wrote t.fine.task.3),
+      may k x z a h s m pending (stage.Writing wrote) t fact t.fine.task.1 t.fine.task.2 t.fine.knows.stands word (word_written z.arena.layout (pointer_cell_at z.arena.layout (x.at + x.k)) (register_of m x.g x.v) wrote t.fine.task.3),
       λ kind. (old, barrier.new),
     )
         (λ u hands stacks. record { stacks = stacks; number = t.facts.task_is.number; hands = hands (holding_only w.held) t.facts.task_is.writes.stage_is.2 })
 
 write_at : Known → (x : Store) (w : PointerWrite) (q : WriteStage) → StepAt (task.Store (at_stage x (stage.Writing (write.at_stage w q))))
 write_at k x w write_stage.Store z a h s m pending t kn l = puts k x w z a h s m pending t l
-write_at k x w write_stage.LoadOld z a h s m pending t kn l = goes_before k x (write.at_stage w write_stage.LoadOld) z a h s m pending t l (write_on.load_gives_none m.poll.layout (write.at_stage w write_stage.LoadOld) (n k x (write.at_stage w write_stage.LoadOld) z a h s m pending t l))
-write_at k x w (write_stage.ShadeOld sh) z a h s m pending t kn l = goes_before k x (write.at_stage w (write_stage.ShadeOld sh)) z a h s m pending t l (write_on.old_gives_none m.poll.layout (write.at_stage w (write_stage.ShadeOld sh)) sh (n k x (write.at_stage w (write_stage.ShadeOld sh)) z a h s m pending t l))
-write_at k x w (write_stage.ShadeNew sh) z a h s m pending t kn l = goes_before k x (write.at_stage w (write_stage.ShadeNew sh)) z a h s m pending t l (write_on.new_gives_none m.poll.layout (write.at_stage w (write_stage.ShadeNew sh)) sh (n k x (write.at_stage w (write_stage.ShadeNew sh)) z a h s m pending t l))
+write_at k x w write_stage.LoadOld z a h s m pending t kn l = goes_before k x (write.at_stage w write_stage.LoadOld) z a h s m pending t l (write_on.load_gives_none z.arena.layout (write.at_stage w write_stage.LoadOld) (n k x (write.at_stage w write_stage.LoadOld) z a h s m pending t l))
+write_at k x w (write_stage.ShadeOld sh) z a h s m pending t kn l = goes_before k x (write.at_stage w (write_stage.ShadeOld sh)) z a h s m pending t l (write_on.old_gives_none z.arena.layout (write.at_stage w (write_stage.ShadeOld sh)) sh (n k x (write.at_stage w (write_stage.ShadeOld sh)) z a h s m pending t l))
+write_at k x w (write_stage.ShadeNew sh) z a h s m pending t kn l = goes_before k x (write.at_stage w (write_stage.ShadeNew sh)) z a h s m pending t l (write_on.new_gives_none z.arena.layout (write.at_stage w (write_stage.ShadeNew sh)) sh (n k x (write.at_stage w (write_stage.ShadeNew sh)) z a h s m pending t l))
 write_at k x w write_stage.Ended z a h s m pending t kn l = absurd (let busy = t.fine.task.3.busy in cc)
 
 store_at : Known → (x : Store) (q : StoreStage) → StepAt (task.Store (at_stage x q))

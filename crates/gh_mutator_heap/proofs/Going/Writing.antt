@@ -23,7 +23,7 @@ use Rattle.gh_mutator_heap.specs.Facts.{ShapesAreGood}
 use Rattle.gh_mutator.specs.Fields.{is_pointer_by}
 use Rattle.gh_mutator.specs.Listing.{acts, asks}
 use Rattle.gh_poll.specs.MarkFacts.{IsBetween}
-use Rattle.gh_mutator.specs.MarkVocabulary.{Cycle, Good, Keeps, KnowsObjects, Layout, nothing, Steps}
+use Rattle.gh_mutator.specs.MarkVocabulary.{Cycle, Good, Keeps, KnowsObjects, nothing, Steps}
 use Rattle.gh_mutator.specs.ProcessorMarks.{IsWriting, MarkFacts}
 use Rattle.gh_mutator.specs.Vocabulary.{Answer, cell_of, Name, Polling, Value}
 use Rattle.gh_mutator_heap.specs.Vocabulary.{EverValue, IsMade, IsReached, Means, points, Reach, size_for, view, Processor}
@@ -52,11 +52,11 @@ module _ (k : Known) (z : Cycle) (a : ℕ) (h : Heap) (s : Marking) (shapes : Sh
         let size = beside.size n (of_cycle z h s shapes good beside n made reach) in
         omega (arith, within, size, few)
 
-    pub word_there : (l : Layout) (at : ℕ) → l ≡ z.arena.layout → at ≡ h.place n → (at + i) % (1024 * l.pages) ≡ h.place n + i
-    word_there l at layout_is here = rw (layout_is, here) (mod-eq_of_lt below)
+    pub word_there : (at : ℕ) → at ≡ h.place n → (at + i) % (1024 * z.arena.layout.pages) ≡ h.place n + i
+    word_there at here = rw here (mod-eq_of_lt below)
 
-    pub kind_there : (l : Layout) (at : ℕ) → l ≡ z.arena.layout → at ≡ h.place n → is_pointer_by l (at + i) (h.words (cell.Bitmap ((at + i) / 64 % (16 * l.pages)))) ≡ points z.arena.shapes h.ever.type_of n i
-    kind_there l at layout_is here = rw (layout_is, here) (bit_is (points z.arena.shapes h.ever.type_of n i) _
+    pub kind_there : (at : ℕ) → at ≡ h.place n → is_pointer_by z.arena.layout (at + i) (h.words (cell.Bitmap ((at + i) / 64 % (16 * z.arena.layout.pages)))) ≡ points z.arena.shapes h.ever.type_of n i
+    kind_there at here = rw here (bit_is (points z.arena.shapes h.ever.type_of n i) _
         (ap (λ (j : ℕ). bit_at (h.words (cell.Bitmap j)) ((h.place n + i) % 64)) (mod-eq_of_lt (let b = below in omega arith))
         ∙ sym (k.rows.bit_of (view h).bitmap ((h.place n + i) / 64) (h.place n + i) refl) ∙ good.pointers n i made (good.reached n reach) few))
 
@@ -72,16 +72,16 @@ module _ (k : Known) (z : Cycle) (a : ℕ) (h : Heap) (s : Marking) (shapes : Sh
   }
 
   -- a step of the write is made of moves of marking, which change no stack
-  pub write_lands : (l : Layout) (w : Writing) → l ≡ z.arena.layout → Facts z a s nothing w → Steps z a s (write.asks w) (λ u. Keeps z a s u × Facts z a u nothing (write.goes l w (h.words (cell_of (write.asks w)))))
-  write_lands l w here f = subst (λ (l : Layout). Steps z a s (write.asks w) (λ u. Keeps z a s u × Facts z a u nothing (write.goes l w (h.words (cell_of (write.asks w)))))) (sym here)
+  pub write_lands : (w : Writing) → Facts z a s nothing w → Steps z a s (write.asks w) (λ u. Keeps z a s u × Facts z a u nothing (write.goes z.arena.layout w (h.words (cell_of (write.asks w)))))
+  write_lands w f =
       (subst (λ (n : ℕ). Steps z a s (write.asks w) (λ u. Keeps z a s u × Facts z a u nothing (write.goes z.arena.layout w n))) (ap (λ (v : Words). v (cell_of (write.asks w))) beside.words) (k.writes.keeps.own_step z a s nothing w well objects f))
 
 -- A step of a write, of a processor that asks for it.
-module _ (k : Known) (z : Cycle) (a : ℕ) (h : Heap) (s : Marking) (m : Processor) (pending : Option Answer) (t : Together z a h s m pending) (l : StepOf z a h m pending) (w : Writing) (asks_is : asks m ≡ write.asks w) (f : Facts z a s nothing w) where
-  land : Steps z a s (write.asks w) (λ u. Keeps z a s u × Facts z a u nothing (write.goes m.poll.layout w (h.words (cell_of (write.asks w)))))
-  land = write_lands k z a h s t.shapes t.heap t.marking t.beside m.poll.layout w t.facts.layout_is f
+module _ (k : Known) (z : Cycle) (a : ℕ) (h : Heap) (s : Marking) (m : Processor) (pending : Option Answer) (t : Together z a h s m pending) (l : StepOf z a h m pending) (w : Writing) (asks_is : asks z.arena.layout m ≡ write.asks w) (f : Facts z a s nothing w) where
+  land : Steps z a s (write.asks w) (λ u. Keeps z a s u × Facts z a u nothing (write.goes z.arena.layout w (h.words (cell_of (write.asks w)))))
+  land = write_lands k z a h s t.shapes t.heap t.marking t.beside w f
 
-  pub write_goes : acted z.arena.shapes h.ever (acts m (found_there k z a h s m pending t l)) ≡ h.ever → ((u : Marking) → Keeps z a s u → Facts z a u nothing (write.goes m.poll.layout w (h.words (cell_of (write.asks w)))) → MarkFacts z a u (processor_then k z a h s m pending t l)) →
+  pub write_goes : acted z.arena.shapes h.ever (acts z.arena.layout m (found_there k z a h s m pending t l)) ≡ h.ever → ((u : Marking) → Keeps z a s u → Facts z a u nothing (write.goes z.arena.layout w (h.words (cell_of (write.asks w)))) → MarkFacts z a u (processor_then k z a h s m pending t l)) →
       StepsOn z a (heap_then k z a h s m pending t l) s (processor_then k z a h s m pending t l)
   write_goes is facts = by_keeping k z a h s m pending t l is land.then land.went (land.words_are ∙ ap (λ (x : Ask). effect s.words x) (sym asks_is))
-      (λ o e. absurd (write_fills z a land.then (write.goes m.poll.layout w (h.words (cell_of (write.asks w)))) land.after.1 o e)) land.after.0 (facts land.then land.after.0 land.after.1)
+      (λ o e. absurd (write_fills z a land.then (write.goes z.arena.layout w (h.words (cell_of (write.asks w)))) land.after.1 o e)) land.after.0 (facts land.then land.after.0 land.after.1)

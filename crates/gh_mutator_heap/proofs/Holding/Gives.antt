@@ -22,7 +22,7 @@ use Rattle.gh_alloc.specs.FindFacts.{IsCached}
 use Rattle.gh_poll.specs.declared.give.GiveStage.TheVariants.{Lock, GiveSpan, Unlock, GiveBuffer, Ended}
 use Rattle.gh_poll.specs.Give.{Giving, asks, asks_at, at_stage, begins, first_cached, giving_buffer, goes, goes_at, head_store, is_busy, none_cached, opening, span_class, stage_from}
 use Rattle.gh_mutator_heap.specs.PollHeap.{CachesAll, CachesFrom, GiveFacts, GiveStageFacts, GivesSpan, Has, give_held, give_held_at, give_locked, give_locked_at, lists, no_page}
-use Rattle.gh_mutator_heap.proofs.Holding.Vocabulary.{Arena, CachedSpan, GiveStage, Good, Held, IsHeld, Layout, Shared, SpanClass, SpanHead, SPAN_CLASSES, Steps, View, cell_of, pages_of, view}
+use Rattle.gh_mutator_heap.proofs.Holding.Vocabulary.{Arena, CachedSpan, GiveStage, Good, Held, IsHeld, Shared, SpanClass, SpanHead, SPAN_CLASSES, Steps, View, cell_of, pages_of, view}
 
 -- the giving back, with its rights
 pub record Gives (z : Arena) (a : ℕ) (v : View) (g : Giving) : Type 0 where
@@ -64,9 +64,9 @@ module _ (z : Arena) (a : ℕ) (v : View) (g : Giving) where
   next_from class few long x = next class (drop class g.cache) refl (omega (arith, few, long, length-drop class g.cache)) x
 
 -- The giving back begins with what is cached.
-module _ (z : Arena) (a : ℕ) (v : View) (l : Layout) (seat generation : ℕ) (cache : List (Option CachedSpan)) (held : Option Held) where
+module _ (z : Arena) (a : ℕ) (v : View) (seat generation : ℕ) (cache : List (Option CachedSpan)) (held : Option Held) where
   abbrev from : Giving
-  from = opening l seat generation cache held
+  from = opening seat generation cache held
 
   -- with the same held at its first stage
   record Begun (stage : GiveStage) : Type 0 where
@@ -77,10 +77,10 @@ module _ (z : Arena) (a : ℕ) (v : View) (l : Layout) (seat generation : ℕ) (
   begun : IsHeld z.layout held → CachesFrom a v cache 0 → (stage : GiveStage) → GivingFacts from (begins held stage) → Begun (begins held stage)
   begun is x stage f = grind arith
 
-  pub gives_begin : l ≡ z.layout → seat ≡ a → generation ≡ v.generation → length cache ≡ SPAN_CLASSES → IsHeld z.layout held → CachesAll a v cache → Has a v false (lists cache) → Gives z a v from
-  gives_begin layout_is seat_is known room is all has =
-      let b = begun is (caches_from a v cache all) (stage_from cache 0) (opening_fine l seat generation cache held room) in
-      record { has = has_same a v false (give_locked from) (lists cache) (give_held from) b.locked b.same has; facts = record { layout_is = layout_is; seat_is = seat_is; generation = known; room = room; held = is; stage_is = b.facts } }
+  pub gives_begin : seat ≡ a → generation ≡ v.generation → length cache ≡ SPAN_CLASSES → IsHeld z.layout held → CachesAll a v cache → Has a v false (lists cache) → Gives z a v from
+  gives_begin seat_is known room is all has =
+      let b = begun is (caches_from a v cache all) (stage_from cache 0) (opening_fine seat generation cache held room) in
+      record { has = has_same a v false (give_locked from) (lists cache) (give_held from) b.locked b.same has; facts = record { seat_is = seat_is; generation = known; room = room; held = is; stage_is = b.facts } }
 
 -- What is written says what the head says, but for its owner.
 head_is : (n : ℕ) (h : SpanHead) (c : SpanClass) → h.class ≡ size.Small c.class → h.noscan ≡ c.noscan → h.pages ≡ pages_of c.class → h.number ≡ n → owned_by 0 h ≡ given_head n c
@@ -94,7 +94,7 @@ without : (head : ℕ) (rest : List (Option CachedSpan)) (p : ℕ) → lists res
 without head rest p none = grind arith
 
 module _ (k : Known) (z : Arena) (a : ℕ) where
-  module _ (s : Shared) (good : Good z (view s)) (g : Giving) (layout_is : g.layout ≡ z.layout) (seat_is : g.seat ≡ a) (known : g.generation ≡ (view s).generation) (room : length g.cache ≡ SPAN_CLASSES) (is : IsHeld z.layout g.held) where
+  module _ (s : Shared) (good : Good z (view s)) (g : Giving) (seat_is : g.seat ≡ a) (known : g.generation ≡ (view s).generation) (room : length g.cache ≡ SPAN_CLASSES) (is : IsHeld z.layout g.held) where
     abbrev Leads : GiveStage → Type 0
     Leads q = Steps z a s (asks_at g q) (λ t. Kept a (view s) (view t) × Gives z a (view t) (goes_at g q (s.words (cell_of (asks_at g q)))))
 
@@ -105,7 +105,7 @@ module _ (k : Known) (z : Arena) (a : ℕ) where
         let n = next_from z a (view t) g class few room (caches_kept a (view s) (view t) (holds_swept z a (view s) good) kept.own g.cache class holds x) in
         record {
           has = has_same a (view t) true (give_locked_at (stage_from g.cache class)) (lists (drop class g.cache)) (give_held_at g.cache (stage_from g.cache class)) n.locked n.held has;
-          facts = record { layout_is = layout_is; seat_is = seat_is; generation = known ∙ sym kept.own.generation; room = room; held = is; stage_is = n.facts };
+          facts = record { seat_is = seat_is; generation = known ∙ sym kept.own.generation; room = room; held = is; stage_is = n.facts };
         } where
           listed_from : (class i : ℕ) (c : CachedSpan) → class ≤ i → slice_index_or g.cache i None ≡ Some c → lists (drop class g.cache) c.head ≡ true
           listed_from class i c after at =
@@ -129,7 +129,7 @@ module _ (k : Known) (z : Arena) (a : ℕ) where
         words_are = refl;
         after = (
           record { objects = (refl, refl); own = k.own z a s (Quiet (Load cell.Lock)) good tt },
-          subst (λ (n : Giving). Gives z a (view (moved z a s (Quiet (Load cell.Lock)))) n) (sym (lock_leads g (s.words cell.Lock) false e)) (record { has = has; facts = record { layout_is = layout_is; seat_is = seat_is; generation = known; room = room; held = is; stage_is = x } }),
+          subst (λ (n : Giving). Gives z a (view (moved z a s (Quiet (Load cell.Lock)))) n) (sym (lock_leads g (s.words cell.Lock) false e)) (record { has = has; facts = record { seat_is = seat_is; generation = known; room = room; held = is; stage_is = x } }),
         );
       }
 
@@ -175,7 +175,7 @@ module _ (k : Known) (z : Arena) (a : ℕ) where
 
     buffer_given : (b : buffer.BufferGiving) (q : BufferStage) → Has a (view s) false (lists g.cache) → g.cache ≡ none_cached → Steps z a s (buffer.asks_at q) (λ t. Kept a (view s) (view t) × Gives z a (view t) (record g { held = None; stage = Ended }))
     buffer_given b q has none = by_quiet k z a s good (buffer.asks_at q) false (lists g.cache) (λ t. Kept a (view s) (view t) × Gives z a (view t) (record g { held = None; stage = Ended })) (quiet q) has
-        (λ t kept r. (kept, record { has = r; facts = record { layout_is = layout_is; seat_is = seat_is; generation = known ∙ sym kept.own.generation; room = room; held = tt; stage_is = (none, refl) } })) where
+        (λ t kept r. (kept, record { has = r; facts = record { seat_is = seat_is; generation = known ∙ sym kept.own.generation; room = room; held = tt; stage_is = (none, refl) } })) where
           quiet : (p : BufferStage) → IsQuiet (buffer.asks_at p)
           quiet p = grind arith
 
@@ -185,7 +185,7 @@ module _ (k : Known) (z : Arena) (a : ℕ) where
     gives_at Unlock has x = unlocks has
     gives_at (GiveBuffer b) has x = buffer_given b b.stage has x.0
     gives_at Ended has x = by_quiet k z a s good (Load cell.Touch) false (lists g.cache) (λ t. Kept a (view s) (view t) × Gives z a (view t) (at_stage g Ended)) tt has
-        (λ t kept r. (kept, record { has = r; facts = record { layout_is = layout_is; seat_is = seat_is; generation = known ∙ sym kept.own.generation; room = room; held = is; stage_is = x } }))
+        (λ t kept r. (kept, record { has = r; facts = record { seat_is = seat_is; generation = known ∙ sym kept.own.generation; room = room; held = is; stage_is = x } }))
 
   pub gives_on : (s : Shared) → Good z (view s) → (g : Giving) → Gives z a (view s) g → Steps z a s (asks g) (λ t. Kept a (view s) (view t) × Gives z a (view t) (goes g (s.words (cell_of (asks g)))))
   gives_on s good g f = grind (arith, gives_at)

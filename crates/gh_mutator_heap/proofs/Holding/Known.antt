@@ -117,10 +117,9 @@ module _ (known : Known) (z : Arena) (a : ℕ) (s : Shared) (good : Good z (view
   by_quiet step l h Then quiet right f = by_move step (Quiet step) Then quiet refl (refl, refl) (λ kept. f (moved z a s (Quiet step)) kept ((known.follow z a s l h None right).quiet step))
 
 -- What is known of one poll is known of another that has the same of it.
-pub stands_to : (z : Arena) (a : ℕ) (v : View) (p q : Polling) → q.layout ≡ p.layout → q.seat ≡ p.seat → q.local.stacks ≡ p.local.stacks → length q.local.scanned ≡ MOST_GOROUTINES → length q.local.cache ≡ SPAN_CLASSES → IsHeld z.layout q.local.held → KnowsAtAnyTime z a v p → KnowsAtAnyTime z a v q
-stands_to z a v p q layout seat stacks scanned cache held s = record {
+pub stands_to : (z : Arena) (a : ℕ) (v : View) (p q : Polling) → q.seat ≡ p.seat → q.local.stacks ≡ p.local.stacks → length q.local.scanned ≡ MOST_GOROUTINES → length q.local.cache ≡ SPAN_CLASSES → IsHeld z.layout q.local.held → KnowsAtAnyTime z a v p → KnowsAtAnyTime z a v q
+stands_to z a v p q seat stacks scanned cache held s = record {
   sits = record {
-    layout = layout ∙ s.sits.layout;
     seat = seat ∙ s.sits.seat;
     few = s.sits.few;
     stacks = ap length stacks ∙ s.sits.stacks;

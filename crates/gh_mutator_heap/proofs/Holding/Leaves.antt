@@ -30,9 +30,9 @@ given_then z a v g x = grind arith
 begin : (z : Arena) (a : ℕ) (v : View) (p : Polling) → IsBetweenOperations z a v p → TakesLeave z a v (with_nothing p) (leaving p)
 begin z a v p r =
     let s = r.1.stands in
-    let g = gives_begin z a v p.layout p.seat p.local.view.generation p.local.cache p.local.held s.sits.layout s.sits.seat r.1.knows.generation s.sits.cache s.sits.held r.1.knows.caches r.0 in
-    let x = given_then z a v (give.opening p.layout p.seat p.local.view.generation p.local.cache p.local.held) g in
-    (x.has, record { stands = stands_to z a v p (with_nothing p) refl refl refl s.sits.scanned refl tt s; seat_is = s.sits.seat; stage_is = x.facts })
+    let g = gives_begin z a v p.seat p.local.view.generation p.local.cache p.local.held s.sits.seat r.1.knows.generation s.sits.cache s.sits.held r.1.knows.caches r.0 in
+    let x = given_then z a v (give.opening p.seat p.local.view.generation p.local.cache p.local.held) g in
+    (x.has, record { stands = stands_to z a v p (with_nothing p) refl refl s.sits.scanned refl tt s; seat_is = s.sits.seat; stage_is = x.facts })
 
 module _ (k : Known) (z : Arena) (a : ℕ) (s : Shared) (good : Good z (view s)) (p : Polling) (stands : KnowsAtAnyTime z a (view s) p) (w : Leaving) (seat_is : w.seat ≡ a) where
   abbrev Leads : LeaveStage → Type 0

@@ -21,21 +21,21 @@ use Rattle.gh_mutator_heap.proofs.Holding.Known.{HoldsSwept, Kept, Known, by_qui
 use Rattle.gh_mutator_heap.proofs.Holding.Lists.{none_cached_all}
 use Rattle.gh_mutator_heap.proofs.Holding.Ranges.{room_gives, room_goes, room_quiet, room_within}
 use Rattle.gh_mutator_heap.proofs.Holding.Scans.{scan_begins, scan_goes, scan_quiet, scan_within}
-use Rattle.gh_mutator_heap.proofs.Holding.Vocabulary.{Arena, CachesAll, Good, Has, HasLoaded, Held, InRange, IsBetweenOperations, IsHeld, IsParked, KeepsGhosts, KeepsObjects, KnowsSpans, Layout, Others, PhaseView, PollFacts, PollStage, PollStageFacts, Polling, Polls, PollsByRights, ResumeFacts, ResumeStage, Resumed, RunPhase, ScansWithin, SoundRoomFinding, Shared, KnowsAtAnyTime, Steps, View, cell_of, effect, landing, lists, no_page, phase_of, poll_held_at, poll_locked_at, run_phase, seats_of, view}
+use Rattle.gh_mutator_heap.proofs.Holding.Vocabulary.{Arena, CachesAll, Good, Has, HasLoaded, Held, InRange, IsBetweenOperations, IsHeld, IsParked, KeepsGhosts, KeepsObjects, KnowsSpans, Others, PhaseView, PollFacts, PollStage, PollStageFacts, Polling, Polls, PollsByRights, ResumeFacts, ResumeStage, Resumed, RunPhase, ScansWithin, SoundRoomFinding, Shared, KnowsAtAnyTime, Steps, View, cell_of, effect, landing, lists, no_page, phase_of, poll_held_at, poll_locked_at, run_phase, seats_of, view}
 
 module _ (z : Arena) (a : ℕ) (v : View) where
   -- another stage
   stands_at : (p : Polling) (q : PollStage) → KnowsAtAnyTime z a v p → KnowsAtAnyTime z a v (at_stage p q)
-  stands_at p q s = stands_to z a v p (at_stage p q) refl refl refl s.sits.scanned s.sits.cache s.sits.held s
+  stands_at p q s = stands_to z a v p (at_stage p q) refl refl s.sits.scanned s.sits.cache s.sits.held s
 
   knows_at : (p : Polling) (q : PollStage) → KnowsSpans a v p → KnowsSpans a v (at_stage p q)
   knows_at p q x = knows_to a v p (at_stage p q) refl refl x
 
-  seat_below : (p : Polling) → KnowsAtAnyTime z a v p → p.seat < seats_of p.layout
-  seat_below p s = subst (λ (l : Layout). p.seat < seats_of l) (sym s.sits.layout) (subst (λ (b : ℕ). b < seats_of z.layout) (sym s.sits.seat) (let few = s.sits.few in omega arith))
+  seat_below : (p : Polling) → KnowsAtAnyTime z a v p → p.seat < seats_of z.layout
+  seat_below p s = (subst (λ (b : ℕ). b < seats_of z.layout) (sym s.sits.seat) (let few = s.sits.few in omega arith))
 
-  own_held : (p : Polling) → KnowsAtAnyTime z a v p → IsHeld p.layout p.local.held
-  own_held p s = subst (λ (l : Layout). IsHeld l p.local.held) (sym s.sits.layout) s.sits.held
+  own_held : (p : Polling) → KnowsAtAnyTime z a v p → IsHeld z.layout p.local.held
+  own_held p s = s.sits.held
 
   -- where the world runs
   ends_now : (p : Polling) → IsBetweenOperations z a v p → Polls z a v (at_stage p Ended)
@@ -47,36 +47,36 @@ module _ (z : Arena) (a : ℕ) (v : View) where
   counted_polls : (p : Polling) → IsBetweenOperations z a v p → Polls z a v (counted p)
   counted_polls p r = grind arith
 
-  scan_polls : (p : Polling) → IsBetweenOperations z a v p → p.local.view.phase ≡ run.Mark → (out : Option ℕ) → due p ≡ out → Polls z a v (scans p out)
+  scan_polls : (p : Polling) → IsBetweenOperations z a v p → p.local.view.phase ≡ run.Mark → (out : Option ℕ) → due z.layout p ≡ out → Polls z a v (scans z.layout p out)
   scan_polls p r on None e = counted_polls p r
   scan_polls p r on (Some g) e =
-      let m : mark.StackMarking = mark.opening p.layout p.seat g p.local.view.begun (slice_index_or p.local.stacks g []) p.local.held in
-      let there : g < p.layout.goroutines = (due_scans p.layout p.seat p.waits p.local g e).there in
-      let within : ScansWithin p.layout m = scan_begins p.layout p.seat g p.local.view.begun (slice_index_or p.local.stacks g []) p.local.held (seat_below p r.1.stands) there (own_held p r.1.stands) in
-      (r.0, record { stands = stands_at p (Marking g m) r.1.stands; stage_is = (knows_at p (Marking g m) r.1.knows, subst (λ (l : Layout). ScansWithin l m) r.1.stands.sits.layout within) })
+      let m : mark.StackMarking = mark.opening z.layout p.seat g p.local.view.begun (slice_index_or p.local.stacks g []) p.local.held in
+      let there : g < z.layout.goroutines = (due_scans z.layout p.seat p.waits p.local g e).there in
+      let within : ScansWithin z.layout m = scan_begins z.layout p.seat g p.local.view.begun (slice_index_or p.local.stacks g []) p.local.held (seat_below p r.1.stands) there (own_held p r.1.stands) in
+      (r.0, record { stands = stands_at p (Marking g m) r.1.stands; stage_is = (knows_at p (Marking g m) r.1.knows, within) })
 
-  marks_polls : (p : Polling) → IsBetweenOperations z a v p → (phase : RunPhase) → p.local.view.phase ≡ phase → Polls z a v (marks_then p phase)
+  marks_polls : (p : Polling) → IsBetweenOperations z a v p → (phase : RunPhase) → p.local.view.phase ≡ phase → Polls z a v (marks_then z.layout p phase)
   marks_polls p r run.Off e = ends_now p r
-  marks_polls p r run.Mark e = scan_polls p r e (due p) refl
+  marks_polls p r run.Mark e = scan_polls p r e (due z.layout p) refl
   marks_polls p r run.Finished e = ends_now p r
 
   stops_polls : (p : Polling) (g : give.Giving) (stops : ℕ) → KnowsAtAnyTime z a v p → Gives z a v g → Polls z a v (stops_then p g stops)
   stops_polls p g stops s x = grind arith
 
-  phase_polls : (p : Polling) (stops : ℕ) → IsBetweenOperations z a v p → (phase : Option RunPhase) → Polls z a v (by_phase p stops phase)
+  phase_polls : (p : Polling) (stops : ℕ) → IsBetweenOperations z a v p → (phase : Option RunPhase) → Polls z a v (by_phase z.layout p stops phase)
   phase_polls p stops r None = stops_polls p (giving p) stops r.1.stands
-      (gives_begin z a v p.layout p.seat p.local.view.generation p.local.cache p.local.held r.1.stands.sits.layout r.1.stands.sits.seat r.1.knows.generation r.1.stands.sits.cache r.1.stands.sits.held r.1.knows.caches r.0)
+      (gives_begin z a v p.seat p.local.view.generation p.local.cache p.local.held r.1.stands.sits.seat r.1.knows.generation r.1.stands.sits.cache r.1.stands.sits.held r.1.knows.caches r.0)
   phase_polls p stops r (Some phase) = marks_polls p r p.local.view.phase refl
 
   -- after a stop
   resumes_on : (p : Polling) (r : resume.Resuming) → Has a v false (lists p.local.cache) → KnowsAtAnyTime z a v p → ResumeFacts a v p r → Polls z a v (at_stage p (Resuming r))
   resumes_on p r has s f = (has, record { stands = stands_at p (Resuming r) s; stage_is = record { seat_is = f.seat_is; no_span = f.no_span; no_buffer = f.no_buffer; loaded = f.loaded } })
 
-  resumed_polls : (p : Polling) (out : Resumed) → Has a v false (lists p.local.cache) → KnowsAtAnyTime z a v p → p.local.cache ≡ none_cached → out.view.generation ≡ v.generation → Polls z a v (marks_then (resumed p out) out.view.phase)
+  resumed_polls : (p : Polling) (out : Resumed) → Has a v false (lists p.local.cache) → KnowsAtAnyTime z a v p → p.local.cache ≡ none_cached → out.view.generation ≡ v.generation → Polls z a v (marks_then z.layout (resumed p out) out.view.phase)
   resumed_polls p out has s none known = marks_polls (resumed p out) (
     has,
     record {
-      stands = stands_to z a v p (resumed p out) refl refl refl s.sits.scanned s.sits.cache s.sits.held s;
+      stands = stands_to z a v p (resumed p out) refl refl s.sits.scanned s.sits.cache s.sits.held s;
       knows = record { generation = known; caches = subst (CachesAll a v) (sym none) (none_cached_all a v) };
     },
   ) out.view.phase refl
@@ -90,7 +90,7 @@ module _ (z : Arena) (a : ℕ) (v : View) where
   marked_polls p g m (Some x) r f = counted_polls (scanned p g m.held) (
     r.0,
     record {
-      stands = stands_to z a v p (scanned p g m.held) refl refl refl (length-set p.local.scanned g p.local.view.begun ∙ r.1.stands.sits.scanned) r.1.stands.sits.cache f.held r.1.stands;
+      stands = stands_to z a v p (scanned p g m.held) refl refl (length-set p.local.scanned g p.local.view.begun ∙ r.1.stands.sits.scanned) r.1.stands.sits.cache f.held r.1.stands;
       knows = knows_to a v p (scanned p g m.held) refl refl r.1.knows;
     },
   )
@@ -101,7 +101,7 @@ module _ (z : Arena) (a : ℕ) (v : View) where
       let to : Polling = record p { local = record (p.local) { held = Some h }; stage = Ended } in (
         rest.0,
         record {
-          stands = stands_to z a v p to refl refl refl rest.1.stands.sits.scanned rest.1.stands.sits.cache (room_gives z.layout r found h f e).fits rest.1.stands;
+          stands = stands_to z a v p to refl refl rest.1.stands.sits.scanned rest.1.stands.sits.cache (room_gives z.layout r found h f e).fits rest.1.stands;
           stage_is = knows_to a v p to refl refl rest.1.knows;
         },
       )
@@ -112,7 +112,7 @@ loaded_on v w known q o x = grind arith
 
 module _ (k : Known) (z : Arena) (a : ℕ) (s : Shared) (good : Good z (view s)) (p : Polling) (stands : KnowsAtAnyTime z a (view s) p) where
   abbrev Leads : PollStage → Type 0
-  Leads q = Steps z a s (asks_at q) (λ t. KeepsObjects (view s) (view t) × Polls z a (view t) (goes_at p q (s.words (cell_of (asks_at q)))))
+  Leads q = Steps z a s (asks_at q) (λ t. KeepsObjects (view s) (view t) × Polls z a (view t) (goes_at z.layout p q (s.words (cell_of (asks_at q)))))
 
   stands_then : (t : Shared) → Kept a (view s) (view t) → KnowsAtAnyTime z a (view t) p
   stands_then t kept = stands_kept z a (view s) (view t) p kept.objects stands
@@ -123,7 +123,7 @@ module _ (k : Known) (z : Arena) (a : ℕ) (s : Shared) (good : Good z (view s))
   loads_phase : Has a (view s) false (lists p.local.cache) → KnowsSpans a (view s) p → Leads LoadPhase
   loads_phase has x =
       let found = phase_of (s.words cell.Phase) in
-      by_quiet k z a s good (Load cell.Phase) false (lists p.local.cache) (λ t. KeepsObjects (view s) (view t) × Polls z a (view t) (goes_at p LoadPhase (s.words cell.Phase))) tt has
+      by_quiet k z a s good (Load cell.Phase) false (lists p.local.cache) (λ t. KeepsObjects (view s) (view t) × Polls z a (view t) (goes_at z.layout p LoadPhase (s.words cell.Phase))) tt has
       (λ t kept r. (kept.objects, phase_polls z a (view t) p found.stops (rests_then t kept r x) (run_phase found.phase)))
 
   gives_next : (g : give.Giving) (stops : ℕ) → Gives z a (view s) g → Leads (Giving g stops)
@@ -135,7 +135,7 @@ module _ (k : Known) (z : Arena) (a : ℕ) (s : Shared) (good : Good z (view s))
 
   module _ (r : resume.Resuming) (has : Has a (view s) false (lists p.local.cache)) (f : ResumeFacts a (view s) p r) where
     abbrev Resumes : ResumeStage → Type 0
-    Resumes q = Steps z a s (resume.asks_at r q) (λ t. KeepsObjects (view s) (view t) × Polls z a (view t) (after_resume p (resume.goes_at r q (s.words (cell_of (resume.asks_at r q)))) (resume.given (resume.goes_at r q (s.words (cell_of (resume.asks_at r q)))))))
+    Resumes q = Steps z a s (resume.asks_at r q) (λ t. KeepsObjects (view s) (view t) × Polls z a (view t) (after_resume z.layout p (resume.goes_at r q (s.words (cell_of (resume.asks_at r q)))) (resume.given (resume.goes_at r q (s.words (cell_of (resume.asks_at r q)))))))
 
     -- it goes on
     goes_on : (t : Shared) (to : resume.Resuming) → to.seat ≡ r.seat → HasLoaded (view t) to.view to.stage → Kept a (view s) (view t) → Has a (view t) false (lists p.local.cache) → Polls z a (view t) (at_stage p (Resuming to))
@@ -150,7 +150,7 @@ module _ (k : Known) (z : Arena) (a : ℕ) (s : Shared) (good : Good z (view s))
     resumes_at resume_stage.LoadPhase x =
         let found = phase_of (s.words cell.Phase) in
         let to : resume.Resuming = resume.after_phase r found.stops (run_phase found.phase) in
-        subst (λ (out : Option Resumed). Steps z a s (Load cell.Phase) (λ t. KeepsObjects (view s) (view t) × Polls z a (view t) (after_resume p to out))) (sym (phase_on r found.stops (run_phase found.phase)))
+        subst (λ (out : Option Resumed). Steps z a s (Load cell.Phase) (λ t. KeepsObjects (view s) (view t) × Polls z a (view t) (after_resume z.layout p to out))) (sym (phase_on r found.stops (run_phase found.phase)))
         (by_quiet k z a s good (Load cell.Phase) false (lists p.local.cache) (λ t. KeepsObjects (view s) (view t) × Polls z a (view t) (at_stage p (Resuming to))) tt has
         (λ t kept h. (kept.objects, resumes_on z a (view t) p to h (stands_then t kept) (phase_resumed z a (view t) p r found.stops (run_phase found.phase) (record { seat_is = f.seat_is; no_span = f.no_span; no_buffer = f.no_buffer; loaded = tt })))))
     resumes_at resume_stage.LoadGeneration x =
@@ -159,24 +159,24 @@ module _ (k : Known) (z : Arena) (a : ℕ) (s : Shared) (good : Good z (view s))
         (λ t kept h. (kept.objects, goes_on t to refl (whole ∙ sym kept.own.generation) kept h))
     resumes_at resume_stage.LoadBegun x =
         let out : Resumed = resume.resumed_with r.view (s.words cell.Begun) in
-        by_quiet k z a s good (Load cell.Begun) false (lists p.local.cache) (λ t. KeepsObjects (view s) (view t) × Polls z a (view t) (marks_then (resumed p out) out.view.phase)) tt has
+        by_quiet k z a s good (Load cell.Begun) false (lists p.local.cache) (λ t. KeepsObjects (view s) (view t) × Polls z a (view t) (marks_then z.layout (resumed p out) out.view.phase)) tt has
         (λ t kept h. (kept.objects, resumed_polls z a (view t) p out h (stands_then t kept) f.no_span (x ∙ sym kept.own.generation)))
     resumes_at (resume_stage.Ended another) x =
         let out : Resumed = record { view = r.view; another_cycle = another } in
-        by_quiet k z a s good (Load cell.Touch) false (lists p.local.cache) (λ t. KeepsObjects (view s) (view t) × Polls z a (view t) (marks_then (resumed p out) out.view.phase)) tt has
+        by_quiet k z a s good (Load cell.Touch) false (lists p.local.cache) (λ t. KeepsObjects (view s) (view t) × Polls z a (view t) (marks_then z.layout (resumed p out) out.view.phase)) tt has
         (λ t kept h. (kept.objects, resumed_polls z a (view t) p out h (stands_then t kept) f.no_span (x ∙ sym kept.own.generation)))
 
   marks_next : (g : ℕ) (m : mark.StackMarking) → Has a (view s) false (lists p.local.cache) → KnowsSpans a (view s) p → ScansWithin z.layout m → Leads (Marking g m)
   marks_next g m has x f =
       let n : ℕ = s.words (cell_of (mark.asks m)) in
-      by_quiet k z a s good (mark.asks m) false (lists p.local.cache) (λ t. KeepsObjects (view s) (view t) × Polls z a (view t) (after_mark p g (mark.goes m n) (mark.gives m n))) (scan_quiet m) has
-      (λ t kept r. (kept.objects, marked_polls z a (view t) p g (mark.goes m n) (mark.gives m n) (rests_then t kept r x) (scan_goes z.layout m n f)))
+      by_quiet k z a s good (mark.asks m) false (lists p.local.cache) (λ t. KeepsObjects (view s) (view t) × Polls z a (view t) (after_mark p g (mark.goes z.layout m n) (mark.gives z.layout m n))) (scan_quiet m) has
+      (λ t kept r. (kept.objects, marked_polls z a (view t) p g (mark.goes z.layout m n) (mark.gives z.layout m n) (rests_then t kept r x) (scan_goes z.layout m n f)))
 
   finds_next : (r : room.RoomFinding) → Has a (view s) false (lists p.local.cache) → KnowsSpans a (view s) p → SoundRoomFinding z.layout r → Leads (FindRoom r)
   finds_next r has x f =
       let n : ℕ = s.words (cell_of (room.asks r)) in
-      by_quiet k z a s good (room.asks r) false (lists p.local.cache) (λ t. KeepsObjects (view s) (view t) × Polls z a (view t) (after_room p (room.goes p.layout r n) (room.gives p.layout r n))) (room_quiet r) has
-      (λ t kept h. (kept.objects, subst (λ (l : Layout). Polls z a (view t) (after_room p (room.goes l r n) (room.gives l r n))) (sym stands.sits.layout) (found_polls z a (view t) p r n (room.gives z.layout r n) refl (rests_then t kept h x) f)))
+      by_quiet k z a s good (room.asks r) false (lists p.local.cache) (λ t. KeepsObjects (view s) (view t) × Polls z a (view t) (after_room p (room.goes z.layout r n) (room.gives z.layout r n))) (room_quiet r) has
+      (λ t kept h. (kept.objects, (found_polls z a (view t) p r n (room.gives z.layout r n) refl (rests_then t kept h x) f)))
 
   polls_at_stage : (q : PollStage) → Has a (view s) (poll_locked_at q) (poll_held_at p.local.cache q) → PollStageFacts z a (view s) p q → Leads q
   polls_at_stage LoadPhase has x = loads_phase has x
@@ -187,7 +187,7 @@ module _ (k : Known) (z : Arena) (a : ℕ) (s : Shared) (good : Good z (view s))
   polls_at_stage Ended has x = by_quiet k z a s good (Load cell.Touch) false (lists p.local.cache) (λ t. KeepsObjects (view s) (view t) × Polls z a (view t) (at_stage p Ended)) tt has
       (λ t kept r. (kept.objects, ends_now z a (view t) p (rests_then t kept r x)))
 
-pub polls_on : (k : Known) (z : Arena) (a : ℕ) (s : Shared) (p : Polling) → Good z (view s) → Polls z a (view s) p → Steps z a s (asks p) (λ t. KeepsObjects (view s) (view t) × Polls z a (view t) (goes p (s.words (cell_of (asks p)))))
+pub polls_on : (k : Known) (z : Arena) (a : ℕ) (s : Shared) (p : Polling) → Good z (view s) → Polls z a (view s) p → Steps z a s (asks p) (λ t. KeepsObjects (view s) (view t) × Polls z a (view t) (goes z.layout p (s.words (cell_of (asks p)))))
 polls_on k z a s p good f = polls_at_stage k z a s good p f.1.stands p.stage f.0 f.1.stage_is
 
 -- Between two steps of its own.
@@ -229,7 +229,7 @@ pub polls_end : (z : Arena) (a : ℕ) (v : View) (p : Polling) → is_busy p.sta
 polls_end z a v p e f = grind arith
 
 pub polls_begin : (z : Arena) (a : ℕ) (v : View) (p : Polling) (waits : Bool) → IsBetweenOperations z a v p → Polls z a v (begins p waits)
-polls_begin z a v p waits r = (r.0, record { stands = stands_to z a v p (begins p waits) refl refl refl r.1.stands.sits.scanned r.1.stands.sits.cache r.1.stands.sits.held r.1.stands; stage_is = knows_to a v p (begins p waits) refl refl r.1.knows })
+polls_begin z a v p waits r = (r.0, record { stands = stands_to z a v p (begins p waits) refl refl r.1.stands.sits.scanned r.1.stands.sits.cache r.1.stands.sits.held r.1.stands; stage_is = knows_to a v p (begins p waits) refl refl r.1.knows })
 
 pub polls_by_rights : Known → PollsByRights
 polls_by_rights k = record {

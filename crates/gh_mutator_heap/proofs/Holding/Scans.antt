@@ -39,24 +39,24 @@ wish_within l held is wish = grind arith
 pub scan_begins : (l : Layout) (seat g cycle : ℕ) (registers : List Value) (held : Option Held) → seat < seats_of l → g < l.goroutines → IsHeld l held → ScansWithin l (mark.opening l seat g cycle registers held)
 scan_begins l seat g cycle registers held few there is = grind arith
 
-module _ (m : mark.StackMarking) (now : ScansWithin m.layout m) where
-  scan_at : (q : MarkStackStage) → MarkStackStageWithin m.layout q → ScansWithin m.layout (mark.at_stage m q)
-  scan_at q f = record { layout_is = refl; seat = now.seat; goroutine = now.goroutine; held = now.held; stage = f }
+module _ (l : Layout) (m : mark.StackMarking) (now : ScansWithin l m) where
+  scan_at : (q : MarkStackStage) → MarkStackStageWithin l q → ScansWithin l (mark.at_stage m q)
+  scan_at q f = record { seat = now.seat; goroutine = now.goroutine; held = now.held; stage = f }
 
-  shaded_then : (s : shade.Shading) → SoundShading m.layout s → (out : Option Shaded) → ScansWithin m.layout (mark.after_shade m s out)
+  shaded_then : (s : shade.Shading) → SoundShading l s → (out : Option Shaded) → ScansWithin l (mark.after_shade l m s out)
   shaded_then s f out = grind (arith, scan_at, wish_within)
 
-  found_then : (s : shade.Shading) (r : room.RoomFinding) (found : ℕ) → SoundShading m.layout s → SoundRoomFinding m.layout r → (out : Option Held) → room.gives m.layout r found ≡ out → ScansWithin m.layout (mark.after_room m s (room.goes m.layout r found) out)
-  found_then s r found f g None e = scan_at (FindRoom s (room.goes m.layout r found)) (f, room_goes m.layout r found g)
-  found_then s r found f g (Some h) e = scan_at (Shading (shade.told_room s h)) (told_room m.layout s h f (room_gives m.layout r found h g e))
+  found_then : (s : shade.Shading) (r : room.RoomFinding) (found : ℕ) → SoundShading l s → SoundRoomFinding l r → (out : Option Held) → room.gives l r found ≡ out → ScansWithin l (mark.after_room m s (room.goes l r found) out)
+  found_then s r found f g None e = scan_at (FindRoom s (room.goes l r found)) (f, room_goes l r found g)
+  found_then s r found f g (Some h) e = scan_at (Shading (shade.told_room s h)) (told_room l s h f (room_gives l r found h g e))
 
-  scan_goes_at : (q : MarkStackStage) (found : ℕ) → MarkStackStageWithin m.layout q → ScansWithin m.layout (mark.goes_at m q found)
-  scan_goes_at (Shading s) found f = shaded_then (shade.goes s found) (shade_goes m.layout s found f) (shade.gives s found)
-  scan_goes_at (FindRoom s r) found f = found_then s r found f.0 f.1 (room.gives m.layout r found) refl
+  scan_goes_at : (q : MarkStackStage) (found : ℕ) → MarkStackStageWithin l q → ScansWithin l (mark.goes_at l m q found)
+  scan_goes_at (Shading s) found f = shaded_then (shade.goes s found) (shade_goes l s found f) (shade.gives s found)
+  scan_goes_at (FindRoom s r) found f = found_then s r found f.0 f.1 (room.gives l r found) refl
   scan_goes_at Store found f = scan_at Ended tt
   scan_goes_at Ended found f = scan_at Ended tt
 
-pub scan_goes : (l : Layout) (m : mark.StackMarking) (found : ℕ) → ScansWithin l m → ScansWithin l (mark.goes m found)
+pub scan_goes : (l : Layout) (m : mark.StackMarking) (found : ℕ) → ScansWithin l m → ScansWithin l (mark.goes l m found)
 scan_goes l m found f = grind (arith, scan_goes_at)
 
 pub scan_within : (l : Layout) (m : mark.StackMarking) → ScansWithin l m → InRange l (cell_of (mark.asks m))

@@ -18,7 +18,7 @@ module _ (k : Known) (h : PollsByRights) (z : Arena) (a : ℕ) where
     p = w.poll
 
     abbrev Leads : WaitStage → Type 0
-    Leads q = Steps z a s (asks_at w q) (λ t. KeepsObjects (view s) (view t) × Waits z a (view t) (goes_at w q (s.words (cell_of (asks_at w q)))))
+    Leads q = Steps z a s (asks_at w q) (λ t. KeepsObjects (view s) (view t) × Waits z a (view t) (goes_at z.layout w q (s.words (cell_of (asks_at w q)))))
 
     rests_then : (t : Shared) → Rests z a (view s) p → Kept a (view s) (view t) → Has a (view t) false (lists p.local.cache) → IsBetweenOperations z a (view t) p
     rests_then t x kept has = (has, record { stands = stands_kept z a (view s) (view t) p kept.objects x.stands; knows = knows_kept a (view s) (view t) (holds_swept z a (view s) good) kept.own p false has x.knows })
@@ -33,8 +33,8 @@ module _ (k : Known) (h : PollsByRights) (z : Arena) (a : ℕ) where
     polls : Polls z a (view s) p → Leads wait_stage.Polling
     polls f =
         let n : ℕ = s.words (cell_of (poll.asks p)) in
-        landing z a s (effect s.words (poll.asks p)) (λ t. KeepsObjects (view s) (view t) × Polls z a (view t) (poll.goes p n)) (λ t. KeepsObjects (view s) (view t) × Waits z a (view t) (after_poll w (poll.goes p n) (poll.gives p n)))
-        (λ t x. (x.0, polled_then t (poll.goes p n) (poll.gives p n) refl x.1))
+        landing z a s (effect s.words (poll.asks p)) (λ t. KeepsObjects (view s) (view t) × Polls z a (view t) (poll.goes z.layout p n)) (λ t. KeepsObjects (view s) (view t) × Waits z a (view t) (after_poll w (poll.goes z.layout p n) (poll.gives z.layout p n)))
+        (λ t x. (x.0, polled_then t (poll.goes z.layout p n) (poll.gives z.layout p n) refl x.1))
         (h.own_step z a s p good f)
 
     loads_swept : Has a (view s) false (lists p.local.cache) → Rests z a (view s) p → Leads wait_stage.LoadSwept

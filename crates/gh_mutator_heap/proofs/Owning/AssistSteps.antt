@@ -7,7 +7,7 @@ use Rattle.gh_heap.specs.Moves.{Quiet}
 use Rattle.gh_poll.specs.Local.{with_payment}
 use Rattle.gh_mutator.specs.New.{after_assist, answer_assist, assists}
 use Rattle.gh_mutator.specs.Processor.{at_poll}
-use Rattle.gh_mutator.specs.Vocabulary.{Answer, Assisting, cell_of, Layout, Name, Polling}
+use Rattle.gh_mutator.specs.Vocabulary.{Answer, Assisting, cell_of, Name, Polling}
 use Rattle.gh_mutator_heap.specs.Vocabulary.{Arena, Good, moved, Shared, view, Processor, Wanted}
 use Rattle.gh_mutator_heap.proofs.Holding.Known.{holds_swept, knows_to, stands_to}
 use Rattle.gh_mutator_heap.proofs.Owning.Known.{Known}
@@ -20,27 +20,27 @@ module _ (k : Known) (w : Wanted) (n : Name) (x : Assisting) (z : Arena) (a : �
   me = at_task m (assists w n x)
 
   abbrev found : ℕ
-  found = s.words (cell_of (assist.asks m.poll.layout x))
+  found = s.words (cell_of (assist.asks z.layout x))
 
   abbrev next : Assisting
-  next = assist.goes m.poll.layout x found
+  next = assist.goes z.layout x found
 
   abbrev then : Shared
-  then = moved z a s (Quiet (assist.asks m.poll.layout x))
+  then = moved z a s (Quiet (assist.asks z.layout x))
 
   -- what it holds, owes and has spent is another then
   abbrev paid : Polling
   paid = with_payment m.poll next
 
   within : AssistWithin z.layout next
-  within = subst (λ (l : Layout). AssistWithin z.layout (assist.goes l x found)) (sym fine.knows.stands.sits.layout) (k.assists_within.goes_on z.layout x found fine.task.1)
+  within = (k.assists_within.goes_on z.layout x found fine.task.1)
 
   steady : Steady z a (view then) m
-  steady = steady_on z a (view s) (view then) m (refl, refl) (holds_swept z a (view s) good) (k.own z a s (Quiet (assist.asks m.poll.layout x)) good (k.assists_quiet.rights m.poll.layout x)) (λ y e. fine.right.holds y ∙ e) (fine.counts, fine.knows)
+  steady = steady_on z a (view s) (view then) m (refl, refl) (holds_swept z a (view s) good) (k.own z a s (Quiet (assist.asks z.layout x)) good (k.assists_quiet.rights z.layout x)) (λ y e. fine.right.holds y ∙ e) (fine.counts, fine.knows)
 
   rests_paid : Rests z a (view then) paid
   rests_paid = let r = steady.1 in record {
-    stands = stands_to z a (view then) m.poll paid refl refl refl r.stands.sits.scanned r.stands.sits.cache (k.assists_within.holds z.layout next within) r.stands;
+    stands = stands_to z a (view then) m.poll paid refl refl r.stands.sits.scanned r.stands.sits.cache (k.assists_within.holds z.layout next within) r.stands;
     knows = knows_to a (view then) m.poll paid refl refl r.knows;
   }
 
@@ -50,7 +50,7 @@ module _ (k : Known) (w : Wanted) (n : Name) (x : Assisting) (z : Arena) (a : �
   nothing : (q : Option Answer) → [] ++ option_to_list q ≡ option_to_list q ++ []
   nothing q = grind arith
 
-  done : (out : Option (Unit {0})) → assist.gives m.poll.layout x found ≡ out → Does z a s then me pending found
+  done : (out : Option (Unit {0})) → assist.gives z.layout x found ≡ out → Does z a s then me pending found
   done None e = record {
     after = pending;
     fine = subst (λ (o : Option (Unit {0})). ProcessorFacts z a (view then) (after_assist me w n next o) pending) (sym e) (record {
@@ -76,8 +76,8 @@ module _ (k : Known) (w : Wanted) (n : Name) (x : Assisting) (z : Arena) (a : �
 
 pub assist_steps : Known → (w : Wanted) (n : Name) (x : Assisting) → StepAt (assists w n x)
 assist_steps k w n x z a s m pending sg good fine = record {
-  move = Quiet (assist.asks m.poll.layout x);
-  may = k.assists_quiet.rights m.poll.layout x;
+  move = Quiet (assist.asks z.layout x);
+  may = k.assists_quiet.rights z.layout x;
   words_are = refl;
-  after = done k w n x z a s m pending good fine (assist.gives m.poll.layout x (s.words (cell_of (assist.asks m.poll.layout x)))) refl;
+  after = done k w n x z a s m pending good fine (assist.gives z.layout x (s.words (cell_of (assist.asks z.layout x)))) refl;
 }

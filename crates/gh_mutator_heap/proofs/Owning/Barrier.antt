@@ -16,7 +16,7 @@ use Rattle.gh_barrier.specs.declared.pointer_cell.PointerCell.{PointerCell}
 use Rattle.gh_barrier.specs.declared.write_pointer.WriteStage.{WriteStage}
 use Rattle.gh_barrier.specs.Listing.{Writing}
 use Rattle.gh_barrier.specs.Listing as write
-use Rattle.gh_barrier.specs.Sound.{FitsPointer, SoundWriting}
+use Rattle.gh_barrier.specs.Sound.{FitsPointer}
 use Rattle.gh_poll.specs.declared.poll.Local.{Local}
 use Rattle.gh_poll.specs.Barrier.{held_then, pointer_of, WritesIt, written}
 use Rattle.gh_poll.specs.Registers.{is_number_value}
@@ -92,25 +92,25 @@ pub begins_so : Known → (l : Layout) (own : Local) (at : PointerCell) (v : Val
 begins_so laws l own at v there fits is names = record { same_cell = refl; same_pointer = refl; names = names; within = laws.within.begins l at (pointer_of v) own.held there fits is; busy = refl }
 
 -- and goes on
-pub goes_so : Known → (l own : Layout) → own ≡ l → (at : PointerCell) (v : Value) (w : Writing) (found : ℕ) → WritesIt l at v w → write.gives own w found ≡ None → WritesIt l at v (write.goes own w found)
-goes_so laws l own here at v w found it e = record {
-  same_cell = laws.writes.same_cell own w found ∙ it.same_cell;
-  same_pointer = laws.writes.same_pointer own w found ∙ it.same_pointer;
+pub goes_so : Known → (l : Layout) (at : PointerCell) (v : Value) (w : Writing) (found : ℕ) → WritesIt l at v w → write.gives l w found ≡ None → WritesIt l at v (write.goes l w found)
+goes_so laws l at v w found it e = record {
+  same_cell = laws.writes.same_cell l w found ∙ it.same_cell;
+  same_pointer = laws.writes.same_pointer l w found ∙ it.same_pointer;
   names = it.names;
-  within = subst (λ (k : Layout). SoundWriting l (write.goes k w found)) (sym here) (laws.within.goes_on l w found it.within);
+  within = laws.within.goes_on l w found it.within;
   busy = ap is_none e;
 }
 
 -- What it holds is a buffer of the heap, and nothing else of the processor changes.
-pub held_so : Known → (l own : Layout) → own ≡ l → (at : PointerCell) (v : Value) (w : Writing) (found : ℕ) → WritesIt l at v w → IsHeld l (held_then own w found)
-held_so laws l own here at v w found it = subst (λ (k : Layout). IsHeld l (held_then k w found)) (sym here) (laws.within.holds l (write.goes l w found) (laws.within.goes_on l w found it.within))
+pub held_so : Known → (l : Layout) (at : PointerCell) (v : Value) (w : Writing) (found : ℕ) → WritesIt l at v w → IsHeld l (held_then l w found)
+held_so laws l at v w found it = laws.within.holds l (write.goes l w found) (laws.within.goes_on l w found it.within)
 
 pub steady_held : (z : Arena) (a : ℕ) (v : View) (m : Processor) (held : Option Held) → IsHeld z.layout held → Steady z a v m → Steady z a v (keeping m held)
 steady_held z a v m held is st =
     let s = st.1.stands.sits in (
       st.0,
       record {
-        stands = record { sits = record { layout = s.layout; seat = s.seat; few = s.few; stacks = s.stacks; registers = s.registers; scanned = s.scanned; cache = s.cache; held = is }; registers = st.1.stands.registers };
+        stands = record { sits = record { seat = s.seat; few = s.few; stacks = s.stacks; registers = s.registers; scanned = s.scanned; cache = s.cache; held = is }; registers = st.1.stands.registers };
         knows = record { generation = st.1.knows.generation; caches = st.1.knows.caches };
       },
     )

@@ -36,13 +36,13 @@ at x q = task.Global (at_stage x q)
 
 load_now : Known → (x : Global) (z : Arena) (a : ℕ) (s : Shared) (m : Processor) → Good z (view s) → Steady z a (view s) m → HasCached a (view s) m → GoroutineRuns z (view s) a x.g → x.r < REGISTERS → x.k < z.layout.globals → StepFrom z a s (at_task m (at x global_stage.Load)) None
 load_now k x z a s m good steady right runs low few =
-    let means : Means s.place s.ever.made (s.ever.global x.k) (value_of m.poll.layout.pages true (s.words (cell.Global x.k))) = rw (steady.1.stands.sits.layout) (global_means k z (view s) good x.k few) in
+    let means : Means s.place s.ever.made (s.ever.global x.k) (value_of z.layout.pages true (s.words (cell.Global x.k))) = global_means k z (view s) good x.k few in
     let t = took Global task.Global z a s m x.g x.r (op.GetGlobal x.g x.r x.k) steady right (naming x) (λ at v y pending st ri t. record { counts = st.0; knows = st.1; right = ri; task = t }) runs low k (cell.Global x.k) (s.ever.global x.k) _ means refl (takes_told s.ever x.g x.r (s.ever.global x.k)) in
     record {
       move = Takes (ask.Load (cell.Global x.k)) x.g x.r (s.ever.global x.k);
       may = (tt, runs, low, global_reached s.ever x.k (s.ever.global x.k) refl);
       words_are = refl;
-      after = record { after = t.after; fine = t.fine; ever = t.ever; answers = t.answers; full = λ y is full. absurd (not_full (takes_value (naming x) (value_of m.poll.layout.pages true (s.words (cell.Global x.k)))).acts (op.GetGlobal x.g x.r x.k) y is full); counts = tt };
+      after = record { after = t.after; fine = t.fine; ever = t.ever; answers = t.answers; full = λ y is full. absurd (not_full (takes_value (naming x) (value_of z.layout.pages true (s.words (cell.Global x.k)))).acts (op.GetGlobal x.g x.r x.k) y is full); counts = tt };
     }
 
 load_step : Known → (x : Global) → StepAt (at x global_stage.Load)
@@ -52,14 +52,14 @@ birth_step : Known → (x : Global) (at_word : ℕ) → StepAt (at x (global_sta
 birth_step k x at_word z a s m pending shapes good f =
     let steady : Steady z a (view s) m = (f.counts, f.knows) in
     record {
-      move = Quiet (ask.Load (cell.Birth (at_word % (1024 * m.poll.layout.pages))));
+      move = Quiet (ask.Load (cell.Birth (at_word % (1024 * z.layout.pages))));
       may = tt;
       words_are = refl;
       after = record {
         after = None;
         fine = idle z a (view s) m steady f.right;
         ever = refl;
-        answers = ap option_to_list f.task.answers ∙ ap (λ (n : Name). answer.Ref n ∷ []) (sym (name_found k z (view s) good f.task.n f.task.through.made (Reach.from_register x.g x.r f.task.n f.task.through.runs.goes_on f.task.through.names) m.poll.layout at_word steady.1.stands.sits.layout f.task.through.here));
+        answers = ap option_to_list f.task.answers ∙ ap (λ (n : Name). answer.Ref n ∷ []) (sym (name_found k z (view s) good f.task.n f.task.through.made (Reach.from_register x.g x.r f.task.n f.task.through.runs.goes_on f.task.through.names) at_word f.task.through.here));
         full = not_at_point (λ (y : Act). FullAt z a (view s) (at_task m (at x (global_stage.Birth at_word))) y.op);
         counts = tt;
       };
@@ -112,54 +112,54 @@ module _ (k : Known) (x : Global) (z : Arena) (a : ℕ) (s : Shared) (m : Proces
   here q = at_task m (at x q)
 
   abbrev word : GlobalStage → ℕ
-  word q = s.words (cell_of (asks (here q)))
+  word q = s.words (cell_of (asks z.layout (here q)))
 
-  does : (q : GlobalStage) (u : Shared) → global.op_of (at_stage x q) ≡ o → Comes Global task.Global z a s u (keeping m (held_behind m.poll.layout m.poll.local.held q (word q))) x.g x.r o None (step m.poll.layout held (at_stage x q) (word q)) → Does z a s u (here q) None (word q)
+  does : (q : GlobalStage) (u : Shared) → global.op_of (at_stage x q) ≡ o → Comes Global task.Global z a s u (keeping m (held_behind z.layout m.poll.local.held q (word q))) x.g x.r o None (step z.layout held (at_stage x q) (word q)) → Does z a s u (here q) None (word q)
   does q u of c = record {
     after = c.after;
     fine = c.fine;
-    ever = subst (λ (y : Op). u.ever ≡ acted z.shapes s.ever (acting (step m.poll.layout held (at_stage x q) (word q)).acts y false)) (sym of) c.ever;
-    answers = subst (λ (y : Op). option_to_list (answered_at z.shapes s.ever (acting (step m.poll.layout held (at_stage x q) (word q)).acts y false)) ++ [] ≡ option_to_list c.after ++ option_to_list (answered (step m.poll.layout held (at_stage x q) (word q)).then)) (sym of) c.answers;
-    full = λ y is full. absurd (not_full (step m.poll.layout held (at_stage x q) (word q)).acts (global.op_of (at_stage x q)) y is full);
+    ever = subst (λ (y : Op). u.ever ≡ acted z.shapes s.ever (acting (step z.layout held (at_stage x q) (word q)).acts y false)) (sym of) c.ever;
+    answers = subst (λ (y : Op). option_to_list (answered_at z.shapes s.ever (acting (step z.layout held (at_stage x q) (word q)).acts y false)) ++ [] ≡ option_to_list c.after ++ option_to_list (answered (step z.layout held (at_stage x q) (word q)).then)) (sym of) c.answers;
+    full = λ y is full. absurd (not_full (step z.layout held (at_stage x q) (word q)).acts (global.op_of (at_stage x q)) y is full);
     counts = tt;
   }
 
   store_now : StepFrom z a s (here global_stage.Store) None
-  store_now = stored_by (asks (here global_stage.Store)) (λ u. Does z a s u (here global_stage.Store) None (word global_stage.Store)) refl (does global_stage.Store t refl (lands global_stage.Store m.poll.local.held steady))
+  store_now = stored_by (asks z.layout (here global_stage.Store)) (λ u. Does z a s u (here global_stage.Store) None (word global_stage.Store)) refl (does global_stage.Store t refl (lands global_stage.Store m.poll.local.held steady))
 
   -- A step of its write.
   module _ (w : PointerWrite) (it : WritesIt z.layout (pointer_cell.Global x.k) held w) where
     abbrev stage : GlobalStage
     stage = global_stage.Writing w
 
-    steady-then : Steady z a (view s) (keeping m (held_then m.poll.layout w (word stage)))
-    steady-then = steady_held z a (view s) m (held_then m.poll.layout w (word stage)) (held_so k z.layout m.poll.layout steady.1.stands.sits.layout (pointer_cell.Global x.k) held w (word stage) it) steady
+    steady-then : Steady z a (view s) (keeping m (held_then z.layout w (word stage)))
+    steady-then = steady_held z a (view s) m (held_then z.layout w (word stage)) (held_so k z.layout (pointer_cell.Global x.k) held w (word stage) it) steady
 
     abbrev beside : Shared
     beside = moved z a s (Quiet (write.asks w))
 
-    writes_on : IsBefore m.poll.layout w (word stage) → Comes Global task.Global z a s beside (keeping m (held_then m.poll.layout w (word stage))) x.g x.r o None (after_write x (write.goes m.poll.layout w (word stage)) (write.gives m.poll.layout w (word stage)))
-    writes_on b = subst (λ (y : Option (Unit {0})). Comes Global task.Global z a s beside (keeping m (held_then m.poll.layout w (word stage))) x.g x.r o None (after_write x (write.goes m.poll.layout w (word stage)) y)) (sym b.goes_on) (record {
+    writes_on : IsBefore z.layout w (word stage) → Comes Global task.Global z a s beside (keeping m (held_then z.layout w (word stage))) x.g x.r o None (after_write x (write.goes z.layout w (word stage)) (write.gives z.layout w (word stage)))
+    writes_on b = subst (λ (y : Option (Unit {0})). Comes Global task.Global z a s beside (keeping m (held_then z.layout w (word stage))) x.g x.r o None (after_write x (write.goes z.layout w (word stage)) y)) (sym b.goes_on) (record {
       after = None;
-      fine = subst (λ (v : View). ProcessorFacts z a v (at_task (keeping m (held_then m.poll.layout w (word stage))) (task.Global (at_stage x (global_stage.Writing (write.goes m.poll.layout w (word stage)))))) None) (sym (b.leaves.same z a s))
-          (record { counts = steady-then.0; knows = steady-then.1; right = right; task = (runs, low, few, plain, goes_so k z.layout m.poll.layout steady.1.stands.sits.layout (pointer_cell.Global x.k) held w (word stage) it b.goes_on, refl) });
+      fine = subst (λ (v : View). ProcessorFacts z a v (at_task (keeping m (held_then z.layout w (word stage))) (task.Global (at_stage x (global_stage.Writing (write.goes z.layout w (word stage)))))) None) (sym (b.leaves.same z a s))
+          (record { counts = steady-then.0; knows = steady-then.1; right = right; task = (runs, low, few, plain, goes_so k z.layout (pointer_cell.Global x.k) held w (word stage) it b.goes_on, refl) });
       ever = refl;
       answers = refl;
     })
 
-    write_now : IsBefore m.poll.layout w (word stage) ⊎ IsLast m.poll.layout w (word stage) → StepFrom z a s (here stage) None
+    write_now : IsBefore z.layout w (word stage) ⊎ IsLast z.layout w (word stage) → StepFrom z a s (here stage) None
     write_now (inl b) = record { move = Quiet (write.asks w); may = b.leaves.quiet; words_are = refl; after = does stage beside refl (writes_on b) }
     write_now (inr b) = stored_by (write.asks w) (λ u. Does z a s u (here stage) None (word stage))
         (b.stores ∙ ap (λ (c : PointerCell). ask.Store (write.cell_at c) (write.pointer_word w.pointer)) it.same_cell ∙ ap (λ (n : ℕ). ask.Store (cell.Global x.k) n) (word_written z.layout (pointer_cell.Global x.k) held w it))
         (does stage t refl
-        (subst (λ (y : Option (Unit {0})). Comes Global task.Global z a s t (keeping m (held_then m.poll.layout w (word stage))) x.g x.r o None (after_write x (write.goes m.poll.layout w (word stage)) y)) (sym b.ends) (lands stage (held_then m.poll.layout w (word stage)) steady-then)))
+        (subst (λ (y : Option (Unit {0})). Comes Global task.Global z a s t (keeping m (held_then z.layout w (word stage))) x.g x.r o None (after_write x (write.goes z.layout w (word stage)) y)) (sym b.ends) (lands stage (held_then z.layout w (word stage)) steady-then)))
 
 store_step : Known → (x : Global) → StepAt (at x global_stage.Store)
 store_step k x z a s m pending shapes good f = subst (λ (y : Option Answer). StepFrom z a s (at_task m (at x global_stage.Store)) y) (sym f.task.4) (store_now k x z a s m (f.counts, f.knows) f.right f.task.0 f.task.1 f.task.2 f.task.3)
 
 write_step : Known → (x : Global) (w : PointerWrite) → StepAt (at x (global_stage.Writing w))
 write_step k x w z a s m pending shapes good f = subst (λ (y : Option Answer). StepFrom z a s (at_task m (at x (global_stage.Writing w))) y) (sym f.task.5)
-    (write_now k x z a s m (f.counts, f.knows) f.right f.task.0 f.task.1 f.task.2 f.task.3 w f.task.4 (step_is m.poll.layout w _ f.task.4.busy))
+    (write_now k x z a s m (f.counts, f.knows) f.right f.task.0 f.task.1 f.task.2 f.task.3 w f.task.4 (step_is z.layout w _ f.task.4.busy))
 
 number_step : (x : Global) → StepAt (at x global_stage.Number)
 number_step x z a s m pending shapes good f =

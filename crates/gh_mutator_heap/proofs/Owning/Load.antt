@@ -40,16 +40,16 @@ module _ (laws : Known) (z : Arena) (a : ℕ) (s : Shared) (m : Processor) (x : 
   here q = at_task m (task.Load (at_stage x q))
 
   abbrev found : LoadStage → ℕ
-  found q = s.words (cell_of (asks (here q)))
+  found q = s.words (cell_of (asks z.layout (here q)))
 
   abbrev Own : LoadStage → Option Answer → Type 0
-  Own q pending = Steps z a s (asks (here q)) (λ t. Does z a s t (here q) pending (found q))
+  Own q pending = Steps z a s (asks z.layout (here q)) (λ t. Does z a s t (here q) pending (found q))
 
   abbrev To : Shared → Option Answer → Step Load → Type 0
   To t pending next = Comes Load task.Load z a s t m x.g x.d (op_of x) pending next
 
-  does : (q : LoadStage) (pending : Option Answer) (t : Shared) → To t pending (step m.poll.layout (at_stage x q) (found q)) → Does z a s t (here q) pending (found q)
-  does q pending t c = record { after = c.after; fine = c.fine; ever = c.ever; answers = c.answers; full = λ y is full. absurd (not_full (step m.poll.layout (at_stage x q) (found q)).acts (op_of x) y is full); counts = tt }
+  does : (q : LoadStage) (pending : Option Answer) (t : Shared) → To t pending (step z.layout (at_stage x q) (found q)) → Does z a s t (here q) pending (found q)
+  does q pending t c = record { after = c.after; fine = c.fine; ever = c.ever; answers = c.answers; full = λ y is full. absurd (not_full (step z.layout (at_stage x q) (found q)).acts (op_of x) y is full); counts = tt }
 
   module _ (steady : Steady z a (view s) m) (right : HasCached a (view s) m) where
     reach : (n : Name) → Through z a (view s) x.g x.b x.at n → Reach e n
@@ -68,49 +68,49 @@ module _ (laws : Known) (z : Arena) (a : ℕ) (s : Shared) (m : Processor) (x : 
 
     page : (l : Loads z a (view s) (at_stage x Page) None) → Own Page None
     page l = record {
-      move = Quiet (asks (here Page));
+      move = Quiet (asks z.layout (here Page));
       may = tt;
       words_are = refl;
-      after = does Page None s (page_by l (size_found laws z (view s) good l.n l.through.made (reach l.n l.through) m.poll.layout x.at steady.1.stands.sits.layout l.through.here) (has_field x.k (found Page)) refl);
+      after = does Page None s (page_by l (size_found laws z (view s) good l.n l.through.made (reach l.n l.through) x.at l.through.here) (has_field x.k (found Page)) refl);
     }
 
     bits : (l : Loads z a (view s) (at_stage x Bits) None) → x.k < size l.n → Own Bits None
     bits l few = record {
-      move = Quiet (asks (here Bits));
+      move = Quiet (asks z.layout (here Bits));
       may = tt;
       words_are = refl;
       after = does Bits None s (further Load task.Load z a s m x.g x.d (op_of x) steady right _
-          (record { counts = steady.0; knows = steady.1; right = right; task = (loads_at Bits _ l, few, bit_found laws z (view s) good l.n l.through.made (reach l.n l.through) m.poll.layout x.at steady.1.stands.sits.layout l.through.here x.k few) }));
+          (record { counts = steady.0; knows = steady.1; right = right; task = (loads_at Bits _ l, few, bit_found laws z (view s) good l.n l.through.made (reach l.n l.through) x.at l.through.here x.k few) }));
     }
 
     field : (p : Bool) (l : Loads z a (view s) (at_stage x (Field p)) None) → x.k < size l.n → p ≡ points z.shapes e.type_of l.n x.k → Own (Field p) None
     field p l few kind = record {
-      move = moves.Takes (asks (here (Field p))) x.g x.d (e.field l.n x.k);
+      move = moves.Takes (asks z.layout (here (Field p))) x.g x.d (e.field l.n x.k);
       may = (tt, l.through.runs, l.register, field_reached e l.n x.k (reach l.n l.through) (e.field l.n x.k) refl);
       words_are = refl;
       after = does (Field p) None _ (took Load task.Load z a s m x.g x.d (op_of x) steady right (naming x)
           (λ at v y pending st ri t. record { counts = st.0; knows = st.1; right = ri; task = t })
-          l.through.runs l.register laws (cell_of (asks (here (Field p)))) (e.field l.n x.k) (value_of m.poll.layout.pages p (found (Field p)))
-          (value_means laws z (view s) good l.n l.through.made (reach l.n l.through) m.poll.layout x.at x.k p steady.1.stands.sits.layout l.through.here few kind)
+          l.through.runs l.register laws (cell_of (asks z.layout (here (Field p)))) (e.field l.n x.k) (value_of z.layout.pages p (found (Field p)))
+          (value_means laws z (view s) good l.n l.through.made (reach l.n l.through) x.at x.k p l.through.here few kind)
           (load_found (e.register x.g x.b) l.n x.k l.through.names few) (takes_told e x.g x.d (e.field l.n x.k)));
     }
 
     birth : (at : ℕ) (n : Name) → Through z a (view s) x.g x.d at n → Own (Birth at) (Some (answer.Ref n))
     birth at n t = record {
-      move = Quiet (asks (here (Birth at)));
+      move = Quiet (asks z.layout (here (Birth at)));
       may = tt;
       words_are = refl;
       after = does (Birth at) (Some (answer.Ref n)) s (record {
         after = None;
         fine = idle z a (view s) m steady right;
         ever = refl;
-        answers = ap (λ (y : Name). answer.Ref y ∷ []) (sym (name_found laws z (view s) good n t.made (Reach.from_register x.g x.d n t.runs.goes_on t.names) m.poll.layout at steady.1.stands.sits.layout t.here));
+        answers = ap (λ (y : Name). answer.Ref y ∷ []) (sym (name_found laws z (view s) good n t.made (Reach.from_register x.g x.d n t.runs.goes_on t.names) at t.here));
       });
     }
 
     nil_base : IsPlain (e.register x.g x.b) → Own NilBase None
     nil_base plain = record {
-      move = Quiet (asks (here NilBase));
+      move = Quiet (asks z.layout (here NilBase));
       may = tt;
       words_are = refl;
       after = does NilBase None s (fault_at fault.NilBase (plain_load (e.register x.g x.b) x.k plain));
@@ -131,6 +131,6 @@ module _ (laws : Known) (z : Arena) (a : ℕ) (s : Shared) (m : Processor) (x : 
 
 pub load_steps : Known → (x : Load) → OwnStepAt (task.Load x)
 load_steps laws x z a s m pending shapes is good fine = go (ap (λ (q : Task). at_task m q) (sym is)) where
-  go : at_task m (task.Load x) ≡ m → Steps z a s (asks m) (λ t. Does z a s t m pending (s.words (cell_of (asks m))))
-  go same = subst (λ (y : Processor). Steps z a s (asks y) (λ t. Does z a s t y pending (s.words (cell_of (asks y))))) same
+  go : at_task m (task.Load x) ≡ m → Steps z a s (asks z.layout m) (λ t. Does z a s t m pending (s.words (cell_of (asks z.layout m))))
+  go same = subst (λ (y : Processor). Steps z a s (asks z.layout y) (λ t. Does z a s t y pending (s.words (cell_of (asks z.layout y))))) same
       (own laws z a s m x good x.stage pending (subst (λ (y : Processor). ProcessorFacts z a (view s) y pending) (sym same) fine))

@@ -109,7 +109,7 @@ module _ (k : Known) (z : Arena) (a : ℕ) (s : Shared) (m : Processor) (x : Wan
     }
 
     -- the second time
-    pub refused : Steps z a s (searcher.asks m.poll.layout last) (λ t. Does z a s t (searching true) None (s.words cell.Lock))
+    pub refused : Steps z a s (searcher.asks z.layout last) (λ t. Does z a s t (searching true) None (s.words cell.Lock))
     refused = record {
       move = Refuse x.g x.d;
       may = (right.locked, right.laying, right.freeing, r.wants.runs, r.wants.register);
@@ -143,7 +143,7 @@ module _ (k : Known) (z : Arena) (a : ℕ) (s : Shared) (m : Processor) (x : Wan
       some-is p q e = cc
 
     -- the first time
-    pub waits-then : Steps z a s (searcher.asks m.poll.layout last) (λ t. Does z a s t (searching false) None (s.words cell.Lock))
+    pub waits-then : Steps z a s (searcher.asks z.layout last) (λ t. Does z a s t (searching false) None (s.words cell.Lock))
     waits-then = record {
       move = LeaveLock;
       may = (right.locked, right.laying, right.freeing);

@@ -5,7 +5,7 @@ use Rattle.std.proofs.Math.Nat.{mod-eq_of_lt}
 use Rattle.std.proofs.lemmas.Bool.{ne_eqb}
 use Rattle.std.proofs.lemmas.Bool.Decides.{eqb_tells}
 use Rattle.gh_mutator_heap.proofs.Owning.Vocabulary.{is_pointer_by, value_of, word_of_value}
-use Rattle.gh_mutator.specs.Vocabulary.{Layout, Name, SizeClass, Value}
+use Rattle.gh_mutator.specs.Vocabulary.{Name, SizeClass, Value}
 use Rattle.gh_mutator_heap.specs.Vocabulary.{answer_of_value, Arena, Ever, EverValue, fits, Good, Holds, is_number, IsMade, IsReached, IsSizeClass, Means, name_of, page_of, points, Reach, size_for, slot_in, slot_of, slot_size, takes_answer, View, with_register}
 use Rattle.gh_base.specs.Packing.{bit, page_class, page_pages, slot_for}
 use Rattle.gh_model.specs.declared.EverValue.TheVariants as ever
@@ -72,24 +72,24 @@ module _ (laws : Known) (z : Arena) (v : View) (good : Good z v) (n : Name) (was
       ∙ ap (λ (b : Bool). cond b (1024 * page_pages (page_of (v.page (v.place n / 1024)))) (slot_of (number_of_class object.h.class) / 8)) own ∙ sym (object.slot.size_is ∙ sized)
 
   -- What is found at the indices that a statement asks for, through a reference to it.
-  module _ (l : Layout) (at : ℕ) (layout_is : l ≡ z.layout) (here : at ≡ v.place n) where
-    pub size_found : slot_in (page_of (v.page (at / 1024 % l.pages))) ≡ words
-    size_found = rw (layout_is, here) (ap (λ (q : ℕ). slot_in (page_of (v.page q))) (mod-eq_of_lt (let b = placed_below in omega arith)) ∙ page_tells (is_own_class object.h.class) refl)
+  module _ (at : ℕ) (here : at ≡ v.place n) where
+    pub size_found : slot_in (page_of (v.page (at / 1024 % z.layout.pages))) ≡ words
+    size_found = rw here (ap (λ (q : ℕ). slot_in (page_of (v.page q))) (mod-eq_of_lt (let b = placed_below in omega arith)) ∙ page_tells (is_own_class object.h.class) refl)
 
-    pub word_is : (k : ℕ) → k < words → (at + k) % (1024 * l.pages) ≡ v.place n + k
-    word_is k few = rw (layout_is, here) (mod-eq_of_lt (below k few))
+    pub word_is : (k : ℕ) → k < words → (at + k) % (1024 * z.layout.pages) ≡ v.place n + k
+    word_is k few = rw here (mod-eq_of_lt (below k few))
 
-    pub bit_found : (k : ℕ) → k < words → is_pointer_by l (at + k) (v.bitmap ((at + k) / 64 % (16 * l.pages))) ≡ points z.shapes v.ever.type_of n k
-    bit_found k few = rw (layout_is, here) (bit_is (points z.shapes v.ever.type_of n k) _
+    pub bit_found : (k : ℕ) → k < words → is_pointer_by z.layout (at + k) (v.bitmap ((at + k) / 64 % (16 * z.layout.pages))) ≡ points z.shapes v.ever.type_of n k
+    bit_found k few = rw here (bit_is (points z.shapes v.ever.type_of n k) _
         (ap (λ (i : ℕ). bit_at (v.bitmap i) ((v.place n + k) % 64)) (mod-eq_of_lt (let b = below k few in omega arith))
         ∙ sym (laws.rows.bit_of v.bitmap ((v.place n + k) / 64) (v.place n + k) refl) ∙ good.pointers n k was_made stands few))
 
-    pub field_found : (k : ℕ) → k < words → Holds v.place v.ever.made (points z.shapes v.ever.type_of n k) (v.ever.field n k) (v.field ((at + k) % (1024 * l.pages)))
+    pub field_found : (k : ℕ) → k < words → Holds v.place v.ever.made (points z.shapes v.ever.type_of n k) (v.ever.field n k) (v.field ((at + k) % (1024 * z.layout.pages)))
     field_found k few = subst (λ (i : ℕ). Holds v.place v.ever.made (points z.shapes v.ever.type_of n k) (v.ever.field n k) (v.field i)) (sym (word_is k few)) (good.fields n k was_made stands few)
 
     -- the name in its birth word
-    pub name_found : name_of l.goroutines (v.birth (at % (1024 * l.pages))) ≡ n
-    name_found = rw (layout_is, here) (ap (λ (i : ℕ). name_of z.layout.goroutines (v.birth i)) (mod-eq_of_lt placed_below) ∙ ap (λ (w : ℕ). name_of z.layout.goroutines w) stands.says ∙ laws.packed.birth z.layout.goroutines n known few) where
+    pub name_found : name_of z.layout.goroutines (v.birth (at % (1024 * z.layout.pages))) ≡ n
+    name_found = rw here (ap (λ (i : ℕ). name_of z.layout.goroutines (v.birth i)) (mod-eq_of_lt placed_below) ∙ ap (λ (w : ℕ). name_of z.layout.goroutines w) stands.says ∙ laws.packed.birth z.layout.goroutines n known few) where
       few : n.k < 2 ^ 32
       few = let f = good.names.few n.g in omega (arith, f, was_made)
 
@@ -127,12 +127,12 @@ found_means pages place made p (ever.Ref n) word within h =
       back a = omega arith
 
 -- the value that is found in field k of the object
-pub value_means : (laws : Known) (z : Arena) (v : View) (good : Good z v) (n : Name) (was_made : IsMade v.ever.made n) (reach : Reach v.ever n) (l : Layout) (at k : ℕ) (p : Bool) → l ≡ z.layout → at ≡ v.place n → k < size_for z.shapes v.ever.type_of n → p ≡ points z.shapes v.ever.type_of n k →
-    Means v.place v.ever.made (v.ever.field n k) (value_of l.pages p (v.field ((at + k) % (1024 * l.pages))))
-value_means laws z v good n was_made reach l at k p layout_is here few kind =
-    found_means l.pages v.place v.ever.made p (v.ever.field n k) (v.field ((at + k) % (1024 * l.pages)))
-    (λ r is made. subst (λ (y : Layout). v.place r < 1024 * y.pages) (sym layout_is) (placed_below laws z v good r made (Reach.from_field n k r reach is)))
-    (subst (λ (q : Bool). Holds v.place v.ever.made q (v.ever.field n k) (v.field ((at + k) % (1024 * l.pages)))) (sym kind) (field_found laws z v good n was_made reach l at layout_is here k few))
+pub value_means : (laws : Known) (z : Arena) (v : View) (good : Good z v) (n : Name) (was_made : IsMade v.ever.made n) (reach : Reach v.ever n) (at k : ℕ) (p : Bool) → at ≡ v.place n → k < size_for z.shapes v.ever.type_of n → p ≡ points z.shapes v.ever.type_of n k →
+    Means v.place v.ever.made (v.ever.field n k) (value_of z.layout.pages p (v.field ((at + k) % (1024 * z.layout.pages))))
+value_means laws z v good n was_made reach at k p here few kind =
+    found_means z.layout.pages v.place v.ever.made p (v.ever.field n k) (v.field ((at + k) % (1024 * z.layout.pages)))
+    (λ r is made. placed_below laws z v good r made (Reach.from_field n k r reach is))
+    (subst (λ (q : Bool). Holds v.place v.ever.made q (v.ever.field n k) (v.field ((at + k) % (1024 * z.layout.pages)))) (sym kind) (field_found laws z v good n was_made reach at here k few))
 
 -- a word that a global holds means what it holds
 pub global_means : (laws : Known) (z : Arena) (v : View) → Good z v → (k : ℕ) → k < z.layout.globals → Means v.place v.ever.made (v.ever.global k) (value_of z.layout.pages true (v.global k))

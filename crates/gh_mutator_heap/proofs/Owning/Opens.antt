@@ -31,7 +31,6 @@ opens z a v few generation ever right = record {
   knows = record {
     stands = record {
       sits = record {
-        layout = refl;
         seat = refl;
         few = few;
         stacks = length-replicate MOST_GOROUTINES row;

@@ -4,7 +4,7 @@ use Rattle.std.specs.Option.{option_to_list}
 use Rattle.std.proofs.Math.ListN.{set}
 use Rattle.std.proofs.lemmas.Bool.{eqb-true, eqb-false, eq-eqb}
 use Rattle.gh_mutator_heap.proofs.Owning.Vocabulary.{Act, acted, acting, answered_at, at_task, Does, ProcessorFacts, for_whom, KnowsCounts, lists, Makes, makes, op_of, own_span, PollRegistersFit, register_at, ShapesAreGood, SeatFacts}
-use Rattle.gh_mutator.specs.Vocabulary.{Answer, cell_of, IsOf, Layout, Name, PlaceStage, Polling, REGISTERS, Value}
+use Rattle.gh_mutator.specs.Vocabulary.{Answer, cell_of, IsOf, Name, PlaceStage, Polling, REGISTERS, Value}
 use Rattle.gh_mutator_heap.specs.Vocabulary.{Arena, Ever, EverValue, Good, KeepsItsOwn, KeepsObjects, Means, moved, Shared, SpanHead, Steps, View, view, with_register, Idle, Processor, Wanted}
 use Rattle.gh_assist.specs.Within.{AssistWithin}
 use Rattle.gh_base.specs.declared.cell.Ask.TheVariants as ask
@@ -119,7 +119,7 @@ module _ (k : Known) (z : Arena) (a : ℕ) (s : Shared) (m : Processor) (x : Wan
   making-at = at_task m (makes x p)
 
   abbrev found : ℕ
-  found = s.words (cell_of (placer.asks m.poll.layout p))
+  found = s.words (cell_of (placer.asks z.layout p))
 
   abbrev next : placer.Placing
   next = placer.goes p found
@@ -242,12 +242,11 @@ module _ (k : Known) (z : Arena) (a : ℕ) (s : Shared) (m : Processor) (x : Wan
           (subst (λ (c : Bool). ProcessorFacts z a (view t) (at_task making-at (cond c (assists x p.name (assisting m.poll x)) Idle)) None) (sym e) (idle z a (view t) m (steady false ended) (has false ended)))
           (ap option_to_list named ∙ sym (ap (λ (c : Bool). [] ++ option_to_list (cond c None (Some (answer.Ref p.name)))) e))
 
-  pub place-steps : ShapesAreGood z.shapes → Good z now → ProcessorFacts z a now making-at pending → Steps z a s (placer.asks m.poll.layout p) (λ t. Does z a s t making-at pending found)
+  pub place-steps : ShapesAreGood z.shapes → Good z now → ProcessorFacts z a now making-at pending → Steps z a s (placer.asks z.layout p) (λ t. Does z a s t making-at pending found)
   place-steps sg g fine =
       let mk : Makes z a now m x p pending = record { facts = fine.task.facts; register = fine.task.register; of = fine.task.of; span = fine.task.span; apart = fine.task.apart; named = fine.task.named } in
       let st : Steady z a now m = (fine.counts, fine.knows) in
-      let l = subst (λ (l : Layout). Steps z a s (placer.asks l p) (λ t. place.Changes z (for_whom x) p (placer.makes_its_object p) now (view t) × place.Comes z a (view t) (for_whom x) (base z a now m x p) (placer.gives p (s.words (cell_of (placer.asks l p)))) (placer.goes p (s.words (cell_of (placer.asks l p)))) × place.CountsAlone p.stage s t)) (sym st.1.stands.sits.layout)
-      (k.place.own_step z a s (for_whom x) (base z a now m x p) p g fine.right mk.facts) in
+      let l = (k.place.own_step z a s (for_whom x) (base z a now m x p) p g fine.right mk.facts) in
       record { move = l.move; may = l.may; words_are = l.words_are; after = done (moved z a s l.move) sg st mk (holds_swept z a now g) (k.own z a s l.move g l.may) l.after.0 l.after.1 l.after.2 (kind-of p p.stage found (unended mk.facts)) } where
         unended : place.Facts z a now (for_whom x) p → (asks : Bool) → p.stage ≡ making.Ended asks → ⊥
         unended facts asks e = subst (λ (q : PlaceStage). place.FactsAt z a now (for_whom x) (place.base p) q) e facts

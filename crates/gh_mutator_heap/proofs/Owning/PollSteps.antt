@@ -21,20 +21,20 @@ use Rattle.gh_mutator_heap.proofs.Owning.Statements.{at_its_task, StepAt, StepFr
 use Rattle.gh_mutator_heap.proofs.Owning.Steady.{goroutine_few, same_counts}
 
 module _ (z : Arena) (s : Shared) (o : Op) (b : Answer) (is : answer_of z.shapes s.ever o ≡ b) (stays : ever_after z.shapes s.ever o (answer_of z.shapes s.ever o) ≡ s.ever) where
-  ends_once : (a : ℕ) (t : Shared) (m : Processor) (found : ℕ) (g : Option (Unit {0})) → t.ever ≡ s.ever → acts m found ≡ acting (is_some g) o false → gives m found ≡ once_ended g b → ProcessorFacts z a (view t) (takes z.shapes m found) None → CountsAlone m.task s t → Does z a s t m None found
+  ends_once : (a : ℕ) (t : Shared) (m : Processor) (found : ℕ) (g : Option (Unit {0})) → t.ever ≡ s.ever → acts z.layout m found ≡ acting (is_some g) o false → gives z.layout m found ≡ once_ended g b → ProcessorFacts z a (view t) (takes z.layout z.shapes m found) None → CountsAlone m.task s t → Does z a s t m None found
   ends_once a t m found g same act give fine alone = grind arith
 
 module _ (k : Known) (z : Arena) (a : ℕ) (s : Shared) (m : Processor) (good : Good z (view s)) (counts : KnowsCounts z a (view s) m.made) where
   -- A poll.
 
-  poll_fine : (t : Shared) (found : ℕ) → KeepsObjects (view s) (view t) → Polls z a (view t) (poll.goes m.poll found) → (g : Option (Unit {0})) → poll.gives m.poll found ≡ g → ProcessorFacts z a (view t) (after_poll m (poll.goes m.poll found) g) None
+  poll_fine : (t : Shared) (found : ℕ) → KeepsObjects (view s) (view t) → Polls z a (view t) (poll.goes z.layout m.poll found) → (g : Option (Unit {0})) → poll.gives z.layout m.poll found ≡ g → ProcessorFacts z a (view t) (after_poll m (poll.goes z.layout m.poll found) g) None
   poll_fine t found o p None e = record { counts = same_counts z a (view s) (view t) m.made o counts; knows = p.1; right = p.0; task = refl }
-  poll_fine t found o p (Some y) e = let r = k.polls.ends z a (view t) (poll.goes m.poll found) (ap is_none e) p in
+  poll_fine t found o p (Some y) e = let r = k.polls.ends z a (view t) (poll.goes z.layout m.poll found) (ap is_none e) p in
       record { counts = same_counts z a (view s) (view t) m.made o counts; knows = r.1; right = r.0; task = refl }
 
   poll_step : Polls z a (view s) m.poll → StepFrom z a s (at_task m task.Poll) None
   poll_step p = let found = s.words (cell_of (poll.asks m.poll)) in let l = k.polls.own_step z a s m.poll good p in
-      record { move = l.move; may = l.may; words_are = l.words_are; after = ends_once z s op.Poll answer.Done refl refl a (moved z a s l.move) (at_task m task.Poll) found (poll.gives m.poll found) l.after.0.0 refl refl (poll_fine (moved z a s l.move) found l.after.0 l.after.1 (poll.gives m.poll found) refl) tt }
+      record { move = l.move; may = l.may; words_are = l.words_are; after = ends_once z s op.Poll answer.Done refl refl a (moved z a s l.move) (at_task m task.Poll) found (poll.gives z.layout m.poll found) l.after.0.0 refl refl (poll_fine (moved z a s l.move) found l.after.0 l.after.1 (poll.gives z.layout m.poll found) refl) tt }
 
   -- A leave.
 
@@ -54,31 +54,31 @@ module _ (k : Known) (z : Arena) (a : ℕ) (s : Shared) (m : Processor) (good : 
     found = s.words (cell_of (wait.asks now))
 
     abbrev next : Waiting
-    next = wait.goes now found
+    next = wait.goes z.layout now found
 
     -- of a `gc`
-    gc_fine : (t : Shared) (g : ℕ) → KeepsObjects (view s) (view t) → Waits z a (view t) next → (y : Option (Unit {0})) → wait.gives now found ≡ y → ProcessorFacts z a (view t) (after_gc m g next y) None
+    gc_fine : (t : Shared) (g : ℕ) → KeepsObjects (view s) (view t) → Waits z a (view t) next → (y : Option (Unit {0})) → wait.gives z.layout now found ≡ y → ProcessorFacts z a (view t) (after_gc m g next y) None
     gc_fine t g o w None e = record { counts = same_counts z a (view s) (view t) m.made o counts; knows = w.1; right = w.0; task = refl }
     gc_fine t g o w (Some y) e = let r = k.waits.ends z a (view t) next (ap is_none e) w in
         record { counts = same_counts z a (view s) (view t) m.made o counts; knows = r.1; right = r.0; task = refl }
 
     gc_step : (g : ℕ) → StepFrom z a s (at_task m (task.Gc g x)) None
     gc_step g = let l = k.waits.own_step z a s now good p in
-        record { move = l.move; may = l.may; words_are = l.words_are; after = ends_once z s (op.Gc g) answer.Swept refl refl a (moved z a s l.move) (at_task m (task.Gc g x)) found (wait.gives now found) l.after.0.0 refl refl (gc_fine (moved z a s l.move) g l.after.0 l.after.1 (wait.gives now found) refl) tt }
+        record { move = l.move; may = l.may; words_are = l.words_are; after = ends_once z s (op.Gc g) answer.Swept refl refl a (moved z a s l.move) (at_task m (task.Gc g x)) found (wait.gives z.layout now found) l.after.0.0 refl refl (gc_fine (moved z a s l.move) g l.after.0 l.after.1 (wait.gives z.layout now found) refl) tt }
 
     -- of a new object, whose slot is searched for once more behind it
     module _ (w : Wanted) (sg : ShapesAreGood z.shapes) (wants : Wants z a (view s) w) where
       sought : IsSought w.sought
       sought = subst (λ (y : Wanted). IsSought y.sought) (sym wants.is) (k.wants.sound z.shapes w.g w.d w.t sg.fit wants.type (goroutine_few z a w.g wants.runs.of, wants.register)).sought
 
-      new_fine : (t : Shared) → KeepsObjects (view s) (view t) → Waits z a (view t) next → (y : Option (Unit {0})) → wait.gives now found ≡ y → ProcessorFacts z a (view t) (after_wait m w next y) None
+      new_fine : (t : Shared) → KeepsObjects (view s) (view t) → Waits z a (view t) next → (y : Option (Unit {0})) → wait.gives z.layout now found ≡ y → ProcessorFacts z a (view t) (after_wait m w next y) None
       new_fine t o q None e = record { counts = same_counts z a (view s) (view t) m.made o counts; knows = q.1; right = q.0; task = (same_wants z a (view s) (view t) w o wants, refl) }
       new_fine t o q (Some y) e = let r = k.waits.ends z a (view t) next (ap is_none e) q in
           seek-begins k z a (view t) (at_poll m next.poll) w true sought (same_wants z a (view s) (view t) w o wants) (same_counts z a (view s) (view t) m.made o counts, r.1) r.0
 
       new_step : StepFrom z a s (at_task m (waits w now)) None
       new_step = let l = k.waits.own_step z a s now good p in
-          record { move = l.move; may = l.may; words_are = l.words_are; after = record { after = None; fine = new_fine (moved z a s l.move) l.after.0 l.after.1 (wait.gives now found) refl; ever = l.after.0.0; answers = refl; full = λ y e full. absurd (none y e); counts = tt } } where
+          record { move = l.move; may = l.may; words_are = l.words_are; after = record { after = None; fine = new_fine (moved z a s l.move) l.after.0 l.after.1 (wait.gives z.layout now found) refl; ever = l.after.0.0; answers = refl; full = λ y e full. absurd (none y e); counts = tt } } where
             none : (y : Act) → None ≡ Some y → ⊥
             none y e = cc
 

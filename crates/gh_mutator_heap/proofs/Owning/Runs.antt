@@ -89,34 +89,34 @@ register-point : (x : Register) (q : Source) → has_point (register.op_from x q
 register-point x q = grind arith
 
 -- of any other operation all that is answered
-points-all : (z : Arena) (a : ℕ) (s t : Shared) (m : Processor) (pending : Option Answer) (found : ℕ) (d : Does z a s t m pending found) → point_of (acts m found) ≡ acts m found →
-    option_to_list (answered_at z.shapes s.ever (point_of (acts m found))) ++ option_to_list pending ≡ option_to_list d.after ++ option_to_list (gives m found)
+points-all : (z : Arena) (a : ℕ) (s t : Shared) (m : Processor) (pending : Option Answer) (found : ℕ) (d : Does z a s t m pending found) → point_of (acts z.layout m found) ≡ acts z.layout m found →
+    option_to_list (answered_at z.shapes s.ever (point_of (acts z.layout m found))) ++ option_to_list pending ≡ option_to_list d.after ++ option_to_list (gives z.layout m found)
 points-all z a s t m pending found d e = ap (λ (x : Option Act). option_to_list (answered_at z.shapes s.ever x) ++ option_to_list pending) e ∙ d.answers
 
 points-at : (z : Arena) (a : ℕ) (s t : Shared) (m : Processor) (pending : Option Answer) (found : ℕ) (q : Task) → is_busy_at q ≡ true → FactsAt z a (view s) m pending q → (d : Does z a s t (at_task m q) pending found) →
-    option_to_list (answered_at z.shapes s.ever (point_of (acts (at_task m q) found))) ++ option_to_list pending ≡ option_to_list d.after ++ option_to_list (given_at q (gives (at_task m q) found))
+    option_to_list (answered_at z.shapes s.ever (point_of (acts z.layout (at_task m q) found))) ++ option_to_list pending ≡ option_to_list d.after ++ option_to_list (given_at q (gives z.layout (at_task m q) found))
 points-at z a s t m pending found task.Idle busy h d = absurd (cc)
 points-at z a s t m pending found task.Left busy h d = absurd (cc)
-points-at z a s t m pending found (task.Load x) busy h d = points-all z a s t (at_task m (task.Load x)) pending found d (acting-point (load.step m.poll.layout x found).acts (load.op_of x) false refl)
-points-at z a s t m pending found (task.Store x) busy h d = points-all z a s t (at_task m (task.Store x)) pending found d (acting-point (store.step m.poll.layout m.poll.local (register_of m x.g x.v) x found).acts (store.op_of x) false refl)
-points-at z a s t m pending found (task.Global x) busy h d = points-all z a s t (at_task m (task.Global x)) pending found d (acting-point (global.step m.poll.layout (register_of m x.g x.r) x found).acts (global.op_of x) false (global-point x x.stage))
+points-at z a s t m pending found (task.Load x) busy h d = points-all z a s t (at_task m (task.Load x)) pending found d (acting-point (load.step z.layout x found).acts (load.op_of x) false refl)
+points-at z a s t m pending found (task.Store x) busy h d = points-all z a s t (at_task m (task.Store x)) pending found d (acting-point (store.step z.layout m.poll.local (register_of m x.g x.v) x found).acts (store.op_of x) false refl)
+points-at z a s t m pending found (task.Global x) busy h d = points-all z a s t (at_task m (task.Global x)) pending found d (acting-point (global.step z.layout (register_of m x.g x.r) x found).acts (global.op_of x) false (global-point x x.stage))
 points-at z a s t m pending found (task.Register x) busy h d = points-all z a s t (at_task m (task.Register x)) pending found d (acting-point (register.step (register_of m x.g (register.read_of x)) x).acts (register.op_of x) false (register-point x x.source))
-points-at z a s t m pending found (task.New x) busy h d = points-all z a s t (at_task m (task.New x)) pending found d (acting-point (new.acts_at m.poll.layout x.stage found) (new.op_of x.wanted) (new.is_full_at x.stage) refl)
-points-at z a s t m pending found (task.Gc g x) busy h d = points-all z a s t (at_task m (task.Gc g x)) pending found d (acting-point (is_some (wait.gives (wait.waiting x m.poll) found)) (op.Gc g) false refl)
-points-at z a s t m pending found task.Poll busy h d = unpointed z s op.Poll answer.Done (poll.gives m.poll found) pending d.after refl h d.answers
+points-at z a s t m pending found (task.New x) busy h d = points-all z a s t (at_task m (task.New x)) pending found d (acting-point (new.acts_at z.layout x.stage found) (new.op_of x.wanted) (new.is_full_at x.stage) refl)
+points-at z a s t m pending found (task.Gc g x) busy h d = points-all z a s t (at_task m (task.Gc g x)) pending found d (acting-point (is_some (wait.gives z.layout (wait.waiting x m.poll) found)) (op.Gc g) false refl)
+points-at z a s t m pending found task.Poll busy h d = unpointed z s op.Poll answer.Done (poll.gives z.layout m.poll found) pending d.after refl h d.answers
 points-at z a s t m pending found (task.End g) busy h d = d.answers
 points-at z a s t m pending found (task.Leave x) busy h d = unpointed z s op.Leave answer.Done (leave.gives x found) pending d.after refl h d.answers
 
 own : Known → OwnStep
 own k z a s m pending sg busy good none fine =
-    landing z a s _ _ _ (λ t d. record { does = d; answers = points-at z a s t m pending (s.words (cell_of (asks m))) m.task busy fine.task d }) (steps-at k m.task busy z a s m pending sg refl good none fine)
+    landing z a s _ _ _ (λ t d. record { does = d; answers = points-at z a s t m pending (s.words (cell_of (asks z.layout m))) m.task busy fine.task d }) (steps-at k m.task busy z a s m pending sg refl good none fine)
 
 -- a step of the sweep that it runs: only a search runs one
-does-sweep : Known → (z : Arena) (a : ℕ) (s t : Shared) (m : Processor) (pending : Option Answer) (sw : Sweeping) (q : Task) → ShapesAreGood z.shapes → Good z (view s) → Good z (view t) → ProcessorFacts z a (view s) (at_task m q) pending → sweep_at q ≡ Some sw → SweepLeaves (view s) (view t) → t.words ≡ effect s.words (asks (at_task m q)) →
-    Does z a s t (at_task m q) pending (s.words (cell_of (asks (at_task m q))))
+does-sweep : Known → (z : Arena) (a : ℕ) (s t : Shared) (m : Processor) (pending : Option Answer) (sw : Sweeping) (q : Task) → ShapesAreGood z.shapes → Good z (view s) → Good z (view t) → ProcessorFacts z a (view s) (at_task m q) pending → sweep_at q ≡ Some sw → SweepLeaves (view s) (view t) → t.words ≡ effect s.words (asks z.layout (at_task m q)) →
+    Does z a s t (at_task m q) pending (s.words (cell_of (asks z.layout (at_task m q))))
 does-sweep k z a s t m pending sw (task.New x) sg g then fine is o words = by x.stage refl fine is words where
-  by : (n : NewStage) → x.stage ≡ n → ProcessorFacts z a (view s) (at_task m (task.New (record x { stage = n }))) pending → sweep_at (task.New (record x { stage = n })) ≡ Some sw → t.words ≡ effect s.words (asks (at_task m (task.New (record x { stage = n })))) →
-      Does z a s t (at_task m (task.New (record x { stage = n }))) pending (s.words (cell_of (asks (at_task m (task.New (record x { stage = n }))))))
+  by : (n : NewStage) → x.stage ≡ n → ProcessorFacts z a (view s) (at_task m (task.New (record x { stage = n }))) pending → sweep_at (task.New (record x { stage = n })) ≡ Some sw → t.words ≡ effect s.words (asks z.layout (at_task m (task.New (record x { stage = n })))) →
+      Does z a s t (at_task m (task.New (record x { stage = n }))) pending (s.words (cell_of (asks z.layout (at_task m (task.New (record x { stage = n }))))))
   by (new_stage.Search waited y) e fine is words = sweep-steps k z a s t m pending x.wanted waited y sw sg g then fine is o words
   by (new_stage.Wait y) e fine is words = absurd (cc)
   by (new_stage.Place y) e fine is words = absurd (cc)
@@ -130,7 +130,7 @@ sweep-busy m sw q e = grind arith
 sweep : Known → SweepStep
 sweep k z a s t m pending sw sg g then fine is o words =
     let d = does-sweep k z a s t m pending sw m.task sg g then fine is o words in
-    record { does = d; answers = points-at z a s t m pending (s.words (cell_of (asks m))) m.task (sweep-busy m sw m.task is) fine.task d }
+    record { does = d; answers = points-at z a s t m pending (s.words (cell_of (asks z.layout m))) m.task (sweep-busy m sw m.task is) fine.task d }
 
 pub runs_by_its_rights : Known → RunsByItsRights
 runs_by_its_rights k = record { opens = opens; begins = begins_well k; rests = rests; own_step = own k; sweep_step = sweep k; within = within k; lasts = facts_last k; stopped = stopped k; parked = parked k; stands = stands_always }

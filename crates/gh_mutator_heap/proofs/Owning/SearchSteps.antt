@@ -1,7 +1,7 @@
 -- A new object's search has found a slot, and each of its steps.
 use Rattle.std.proofs.Common.{◌≡◌, ◌≢◌, ℕ, ◌+◌, ◌*◌, ◌/◌, ◌<◌, Bool, true, false, List, length, get_or, Option, Some, None, refl, sym, ap, subst, ◌∙◌, arith}
 use Rattle.gh_mutator_heap.proofs.Owning.Vocabulary.{at_task, cache_span, cache_with, CachesAll, Does, ProcessorFacts, for_whom, lists, makes, own_span, rest, Searches, searches, ShapesAreGood}
-use Rattle.gh_mutator.specs.Vocabulary.{Answer, At, CachedSpan, cell_of, Finding, FindStage, Found, Large, Layout, Name, NoRoom, Seeking, Shape, shape_at, SizeClass, slot_words, Sought, SpanClass}
+use Rattle.gh_mutator.specs.Vocabulary.{Answer, At, CachedSpan, cell_of, Finding, FindStage, Found, Large, Name, NoRoom, Seeking, Shape, shape_at, SizeClass, slot_words, Sought, SpanClass}
 use Rattle.gh_mutator_heap.specs.Vocabulary.{Arena, FitsShape, FitsSlot, Good, IsSought, KeepsItsOwn, KeepsObjects, moved, page_of, GoroutineRuns, Shared, size_class_of, slot_words_of, SPAN_CLASSES, SpanHead, Steps, SweepLeaves, View, view, Processor, Wanted}
 use Rattle.gh_base.specs.declared.pack.PageWord.TheVariants as page
 use Rattle.gh_class.specs.declared.class.SizeClass.TheVariants as size
@@ -103,10 +103,10 @@ module _ (k : Known) (z : Arena) (a : ℕ) (s : Shared) (m : Processor) (x : Wan
   searching waited = at_task m (searches x waited q)
 
   abbrev found : ℕ
-  found = s.words (cell_of (searcher.asks m.poll.layout q))
+  found = s.words (cell_of (searcher.asks z.layout q))
 
   abbrev next : Seeking
-  next = searcher.goes m.poll.layout q found
+  next = searcher.goes z.layout q found
 
   abbrev caching : Processor
   caching = cache_span m x.sought next.find.cached
@@ -128,7 +128,7 @@ module _ (k : Known) (z : Arena) (a : ℕ) (s : Shared) (m : Processor) (x : Wan
     };
   } where
     wanted : next.find.wanted ≡ x.sought
-    wanted = search_wants m.poll.layout q found ∙ r.wanted
+    wanted = search_wants z.layout q found ∙ r.wanted
 
     before : SeeksWith z a now q.find
     before = seeks-with z a now (rest m x) q.find q.stage r.facts
@@ -188,20 +188,20 @@ module _ (k : Known) (z : Arena) (a : ℕ) (s : Shared) (m : Processor) (x : Wan
       named g n = record { g = g; k = n }
 
   -- a step that ends short of finding none
-  does : (t : Shared) (waited : Bool) (out : Option Found) → searcher.gives m.poll.layout q found ≡ out → refuses_behind_wait waited out ≡ false → answer_search waited out ≡ None → KeepsObjects now (view t) → ProcessorFacts z a (view t) (after_search z.shapes caching x waited next out) None → Does z a s t (searching waited) None found
+  does : (t : Shared) (waited : Bool) (out : Option Found) → searcher.gives z.layout q found ≡ out → refuses_behind_wait waited out ≡ false → answer_search waited out ≡ None → KeepsObjects now (view t) → ProcessorFacts z a (view t) (after_search z.shapes caching x waited next out) None → Does z a s t (searching waited) None found
   does t waited out e some silent o fine = grind arith
 
-  short : (waited : Bool) (t : Shared) (out : Option Found) → searcher.gives m.poll.layout q found ≡ out → ShapesAreGood z.shapes → Steady z a now m → Searches z a now m x q None → HoldsSwept a now → KeepsItsOwn a now (view t) → KeepsObjects now (view t) → search.Comes z a (view t) (rest m x) out next → Does z a s t (searching waited) None found
+  short : (waited : Bool) (t : Shared) (out : Option Found) → searcher.gives z.layout q found ≡ out → ShapesAreGood z.shapes → Steady z a now m → Searches z a now m x q None → HoldsSwept a now → KeepsItsOwn a now (view t) → KeepsObjects now (view t) → search.Comes z a (view t) (rest m x) out next → Does z a s t (searching waited) None found
   short true t None e sg st r swept own o c = does t true None e refl refl o (goes-on z a s m x q t true st r o swept own c)
   short false t None e sg st r swept own o c = does t false None e refl refl o (goes-on z a s m x q t false st r o swept own c)
   short true t (Some (At y)) e sg st r swept own o c = does t true (Some (At y)) e refl refl o (finds t y sg st r o swept own c)
   short false t (Some (At y)) e sg st r swept own o c = does t false (Some (At y)) e refl refl o (finds t y sg st r o swept own c)
   short waited t (Some NoRoom) e sg st r swept own o c = absurd c
 
-  steps : (waited : Bool) → ShapesAreGood z.shapes → Good z now → searcher.sweep_in q ≡ None → Steady z a now m → search.Has a now (rest m x) q → Searches z a now m x q None → searcher.refuses q ≡ false → Steps z a s (searcher.asks m.poll.layout q) (λ t. Does z a s t (searching waited) None found)
+  steps : (waited : Bool) → ShapesAreGood z.shapes → Good z now → searcher.sweep_in q ≡ None → Steady z a now m → search.Has a now (rest m x) q → Searches z a now m x q None → searcher.refuses q ≡ false → Steps z a s (searcher.asks z.layout q) (λ t. Does z a s t (searching waited) None found)
   steps waited sg g none st has r on =
-      let l = subst (λ (l : Layout). Steps z a s (searcher.asks l q) (λ t. KeepsObjects now (view t) × search.Comes z a (view t) (rest m x) (searcher.gives l q (s.words (cell_of (searcher.asks l q)))) (searcher.goes l q (s.words (cell_of (searcher.asks l q)))))) (sym st.1.stands.sits.layout) (k.search.own_step z a s (rest m x) q g has r.facts on none) in
-      record { move = l.move; may = l.may; words_are = l.words_are; after = short waited (moved z a s l.move) (searcher.gives m.poll.layout q found) refl sg st r (holds_swept z a now g) (k.own z a s l.move g l.may) l.after.0 l.after.1 }
+      let l = (k.search.own_step z a s (rest m x) q g has r.facts on none) in
+      record { move = l.move; may = l.may; words_are = l.words_are; after = short waited (moved z a s l.move) (searcher.gives z.layout q found) refl sg st r (holds_swept z a now g) (k.own z a s l.move g l.may) l.after.0 l.after.1 }
 
   -- what a sweep leaves of the spans that the seat holds
   keeps_own : (t : Shared) → Good z now → SweepLeaves now (view t) → KeepsItsOwn a now (view t)
@@ -213,16 +213,14 @@ module _ (k : Known) (z : Arena) (a : ℕ) (s : Shared) (m : Processor) (x : Wan
         absurd (omega (arith, named, is, none))
 
   -- a step of the sweep that the search runs
-  pub sweeps : (t : Shared) (waited : Bool) (sw : Sweeping) → ShapesAreGood z.shapes → Good z now → Good z (view t) → Steady z a now m → search.Has a now (rest m x) q → Searches z a now m x q None → searcher.sweep_in q ≡ Some sw → SweepLeaves now (view t) → t.words ≡ effect s.words (searcher.asks m.poll.layout q) → Does z a s t (searching waited) None found
+  pub sweeps : (t : Shared) (waited : Bool) (sw : Sweeping) → ShapesAreGood z.shapes → Good z now → Good z (view t) → Steady z a now m → search.Has a now (rest m x) q → Searches z a now m x q None → searcher.sweep_in q ≡ Some sw → SweepLeaves now (view t) → t.words ≡ effect s.words (searcher.asks z.layout q) → Does z a s t (searching waited) None found
   sweeps t waited sw sg g then st has r is o words =
-      let here = st.1.stands.sits.layout in
-      let l = subst (λ (l : Layout). KeepsObjects now (view t) × search.Comes z a (view t) (rest m x) (searcher.gives l q (s.words (cell_of (searcher.asks l q)))) (searcher.goes l q (s.words (cell_of (searcher.asks l q))))) (sym here)
-      (k.search.sweep_step z a s t (rest m x) q sw g then has r.facts is o (subst (λ (l : Layout). t.words ≡ effect s.words (searcher.asks l q)) here words)) in
-      short waited t (searcher.gives m.poll.layout q found) refl sg st r (holds_swept z a now g) (keeps_own t g o) l.0 l.1
+      let l = k.search.sweep_step z a s t (rest m x) q sw g then has r.facts is o words in
+      short waited t (searcher.gives z.layout q found) refl sg st r (holds_swept z a now g) (keeps_own t g o) l.0 l.1
 
 module _ (k : Known) (z : Arena) (a : ℕ) (s : Shared) (m : Processor) (x : Wanted) (waited : Bool) where
   abbrev Own : Bool → Seeking → Type 0
-  Own again y = Steps z a s (searcher.asks m.poll.layout y) (λ t. Does z a s t (at_task m (searches x again y)) None (s.words (cell_of (searcher.asks m.poll.layout y))))
+  Own again y = Steps z a s (searcher.asks z.layout y) (λ t. Does z a s t (at_task m (searches x again y)) None (s.words (cell_of (searcher.asks z.layout y))))
 
   module _ (q : Seeking) (sg : ShapesAreGood z.shapes) (g : Good z (view s)) (rests : searcher.sweep_in q ≡ None) (st : Steady z a (view s) m) where
     -- the search at its last step
@@ -246,11 +244,11 @@ module _ (k : Known) (z : Arena) (a : ℕ) (s : Shared) (m : Processor) (x : Wan
           subst (Own waited) (sym is) (ends-at waited (subst (λ (y : Seeking). search.Has a (view s) (rest m x) y) is has) (subst (λ (y : Seeking). Searches z a (view s) m x y None) is r) (subst (λ (y : Seeking). search.FindsNone z (view s) y.find) is no.none))
 
 pub search-steps : Known → (z : Arena) (a : ℕ) (s : Shared) (m : Processor) (pending : Option Answer) (x : Wanted) (waited : Bool) (q : Seeking) → ShapesAreGood z.shapes → Good z (view s) → searcher.sweep_in q ≡ None → ProcessorFacts z a (view s) (at_task m (searches x waited q)) pending →
-    Steps z a s (searcher.asks m.poll.layout q) (λ t. Does z a s t (at_task m (searches x waited q)) pending (s.words (cell_of (searcher.asks m.poll.layout q))))
-search-steps k z a s m pending x waited q sg g rests fine = subst (λ (y : Option Answer). Steps z a s (searcher.asks m.poll.layout q) (λ t. Does z a s t (at_task m (searches x waited q)) y (s.words (cell_of (searcher.asks m.poll.layout q))))) (sym fine.task.unanswered)
+    Steps z a s (searcher.asks z.layout q) (λ t. Does z a s t (at_task m (searches x waited q)) pending (s.words (cell_of (searcher.asks z.layout q))))
+search-steps k z a s m pending x waited q sg g rests fine = subst (λ (y : Option Answer). Steps z a s (searcher.asks z.layout q) (λ t. Does z a s t (at_task m (searches x waited q)) y (s.words (cell_of (searcher.asks z.layout q))))) (sym fine.task.unanswered)
     (search-step k z a s m x waited q sg g rests (fine.counts, fine.knows) fine.right (record { wants = fine.task.wants; wanted = fine.task.wanted; cached = fine.task.cached; facts = fine.task.facts; unanswered = refl }))
 
 pub sweep-steps : Known → (z : Arena) (a : ℕ) (s t : Shared) (m : Processor) (pending : Option Answer) (x : Wanted) (waited : Bool) (q : Seeking) (sw : Sweeping) → ShapesAreGood z.shapes → Good z (view s) → Good z (view t) → ProcessorFacts z a (view s) (at_task m (searches x waited q)) pending →
-    searcher.sweep_in q ≡ Some sw → SweepLeaves (view s) (view t) → t.words ≡ effect s.words (searcher.asks m.poll.layout q) → Does z a s t (at_task m (searches x waited q)) pending (s.words (cell_of (searcher.asks m.poll.layout q)))
-sweep-steps k z a s t m pending x waited q sw sg g then fine is o words = subst (λ (y : Option Answer). Does z a s t (at_task m (searches x waited q)) y (s.words (cell_of (searcher.asks m.poll.layout q)))) (sym fine.task.unanswered)
+    searcher.sweep_in q ≡ Some sw → SweepLeaves (view s) (view t) → t.words ≡ effect s.words (searcher.asks z.layout q) → Does z a s t (at_task m (searches x waited q)) pending (s.words (cell_of (searcher.asks z.layout q)))
+sweep-steps k z a s t m pending x waited q sw sg g then fine is o words = subst (λ (y : Option Answer). Does z a s t (at_task m (searches x waited q)) y (s.words (cell_of (searcher.asks z.layout q)))) (sym fine.task.unanswered)
     (sweeps k z a s m x q t waited sw sg g then (fine.counts, fine.knows) fine.right (record { wants = fine.task.wants; wanted = fine.task.wanted; cached = fine.task.cached; facts = fine.task.facts; unanswered = refl }) is o words)

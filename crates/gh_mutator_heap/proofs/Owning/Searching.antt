@@ -124,11 +124,11 @@ module _ (z : Arena) (a : ℕ) (s : Shared) (m : Processor) (x : Wanted) (q : Se
   now = view s
 
   abbrev found : ℕ
-  found = s.words (cell_of (searcher.asks m.poll.layout q))
+  found = s.words (cell_of (searcher.asks z.layout q))
 
   -- the search after the step, and the processor that has cached what it has
   abbrev next : Seeking
-  next = searcher.goes m.poll.layout q found
+  next = searcher.goes z.layout q found
 
   abbrev caching : Processor
   caching = cache_span m x.sought next.find.cached
@@ -150,7 +150,7 @@ module _ (z : Arena) (a : ℕ) (s : Shared) (m : Processor) (x : Wanted) (q : Se
     has = seeks-with z a (view t) (rest m x) next.find next.stage c.1
 
     wanted : next.find.wanted ≡ x.sought
-    wanted = search_wants m.poll.layout q found ∙ r.wanted
+    wanted = search_wants z.layout q found ∙ r.wanted
 
     sought : IsSought x.sought
     sought = subst IsSought wanted has.seeks.wanted

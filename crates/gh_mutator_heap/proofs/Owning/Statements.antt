@@ -18,7 +18,7 @@ use Rattle.gh_mutator_heap.proofs.Owning.Known.{Known}
 use Rattle.gh_mutator_heap.proofs.Owning.Steady.{HasCached, rights_with, Steady, steady_register}
 
 abbrev pub StepFrom : Arena → (a : ℕ) → Shared → Processor → Option Answer → Type 0
-StepFrom z a s m pending = Steps z a s (asks m) (λ t. Does z a s t m pending (s.words (cell_of (asks m))))
+StepFrom z a s m pending = Steps z a s (asks z.layout m) (λ t. Does z a s t m pending (s.words (cell_of (asks z.layout m))))
 
 abbrev pub StepAt : Task → Type 0
 StepAt q = (z : Arena) (a : ℕ) (s : Shared) (m : Processor) (pending : Option Answer) → ShapesAreGood z.shapes → Good z (view s) → ProcessorFacts z a (view s) (at_task m q) pending → StepFrom z a s (at_task m q) pending

@@ -47,7 +47,6 @@ module _ (stacks : List (List Value)) (g d : ℕ) (y : Value) (few : g < length 
 
 pub sits_register : (z : Arena) (a : ℕ) (p : Polling) (g d : ℕ) (y : Value) → SeatFacts z a p → SeatFacts z a (with_register_value p g d y)
 sits_register z a p g d y s = record {
-  layout = s.layout;
   seat = s.seat;
   few = s.few;
   stacks = length-set p.local.stacks g (set (get_or p.local.stacks g []) d y) ∙ s.stacks;
@@ -109,7 +108,7 @@ pub steady_values : (z : Arena) (a : ℕ) (v : View) (m : Processor) (field glob
 steady_values z a v m field global e made register st = grind arith
 
 pub sits_ended : (z : Arena) (a : ℕ) (p : Polling) (g n : ℕ) → SeatFacts z a p → SeatFacts z a (record p { local = record (p.local) { scanned = set p.local.scanned g n } })
-sits_ended z a p g n s = record { layout = s.layout; seat = s.seat; few = s.few; stacks = s.stacks; registers = s.registers; scanned = length-set p.local.scanned g n ∙ s.scanned; cache = s.cache; held = s.held }
+sits_ended z a p g n s = record { seat = s.seat; few = s.few; stacks = s.stacks; registers = s.registers; scanned = length-set p.local.scanned g n ∙ s.scanned; cache = s.cache; held = s.held }
 
 -- What is cached is another.
 
@@ -118,7 +117,7 @@ long_then cache (Small c) k n e = rw length-set e
 long_then cache (Large pages noscan) k n e = e
 
 pub sits_cached : (z : Arena) (a : ℕ) (p : Polling) (x : Sought) (k : Option CachedSpan) → SeatFacts z a p → SeatFacts z a (with_cached p x k)
-sits_cached z a p x k s = record { layout = s.layout; seat = s.seat; few = s.few; stacks = s.stacks; registers = s.registers; scanned = s.scanned; cache = long_then p.local.cache x k _ s.cache; held = s.held }
+sits_cached z a p x k s = record { seat = s.seat; few = s.few; stacks = s.stacks; registers = s.registers; scanned = s.scanned; cache = long_then p.local.cache x k _ s.cache; held = s.held }
 
 -- What stays where no object is made and no value changes.
 

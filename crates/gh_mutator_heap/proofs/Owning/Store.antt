@@ -4,7 +4,7 @@ use Rattle.std.specs.Prelude.{◌&&◌}
 use Rattle.std.proofs.Math.Nat.{mod-lt}
 use Rattle.std.proofs.lemmas.Bool.{ltb-true, lt-ltb}
 use Rattle.gh_mutator_heap.proofs.Owning.Vocabulary.{StoreFacts, asks, at_task, Does, ends, ProcessorFacts, goes_on, has_field, is_pointer_by, IsPlain, lists, OwnStepAt, register_of, Stores, Through, word_of_value}
-use Rattle.gh_mutator.specs.Vocabulary.{Ask, Layout, Answer, cell_of, Name, Value}
+use Rattle.gh_mutator.specs.Vocabulary.{Ask, Answer, cell_of, Name, Value}
 use Rattle.gh_mutator_heap.specs.Vocabulary.{answer_of, Arena, Ever, ever_after, EverValue, Fault, fits, Good, Means, moved, page_of, points, Quiet, Reach, Shared, size_for, slot_in, Steps, View, view, Processor, Step, Store, StoreStage, Task}
 use Rattle.gh_base.specs.declared.cell.Ask.TheVariants as ask
 use Rattle.gh_base.specs.declared.cell.Cell.TheVariants as cell
@@ -71,10 +71,10 @@ module _ (laws : Known) (z : Arena) (a : ℕ) (s : Shared) (m : Processor) (x : 
   here q = at_task m (task.Store (at_stage x q))
 
   abbrev found : StoreStage → ℕ
-  found q = s.words (cell_of (asks (here q)))
+  found q = s.words (cell_of (asks z.layout (here q)))
 
   abbrev Own : StoreStage → Option Answer → Type 0
-  Own q pending = Steps z a s (asks (here q)) (λ t. Does z a s t (here q) pending (found q))
+  Own q pending = Steps z a s (asks z.layout (here q)) (λ t. Does z a s t (here q) pending (found q))
 
   -- with the buffer that it holds behind the step
   abbrev ToWith : Option Held → Shared → Option Answer → Step Store → Type 0
@@ -83,8 +83,8 @@ module _ (laws : Known) (z : Arena) (a : ℕ) (s : Shared) (m : Processor) (x : 
   abbrev To : Shared → Option Answer → Step Store → Type 0
   To t pending next = Comes Store task.Store z a s t m x.g x.v (op_of x) pending next
 
-  does : (q : StoreStage) (pending : Option Answer) (t : Shared) → ToWith (held_behind m.poll.layout m.poll.local.held q (found q)) t pending (step m.poll.layout m.poll.local held (at_stage x q) (found q)) → Does z a s t (here q) pending (found q)
-  does q pending t c = record { after = c.after; fine = c.fine; ever = c.ever; answers = c.answers; full = λ y is full. absurd (not_full (step m.poll.layout m.poll.local held (at_stage x q) (found q)).acts (op_of x) y is full); counts = tt }
+  does : (q : StoreStage) (pending : Option Answer) (t : Shared) → ToWith (held_behind z.layout m.poll.local.held q (found q)) t pending (step z.layout m.poll.local held (at_stage x q) (found q)) → Does z a s t (here q) pending (found q)
+  does q pending t c = record { after = c.after; fine = c.fine; ever = c.ever; answers = c.answers; full = λ y is full. absurd (not_full (step z.layout m.poll.local held (at_stage x q) (found q)).acts (op_of x) y is full); counts = tt }
 
   module _ (steady : Steady z a (view s) m) (right : HasCached a (view s) m) where
     heap : (i : ℕ) → i % (1024 * z.layout.pages) < 1024 * z.layout.pages
@@ -109,41 +109,39 @@ module _ (laws : Known) (z : Arena) (a : ℕ) (s : Shared) (m : Processor) (x : 
 
     page : (l : Stores z a (view s) (at_stage x Page) None) → Own Page None
     page l = record {
-      move = Quiet (asks (here Page));
+      move = Quiet (asks z.layout (here Page));
       may = tt;
       words_are = refl;
-      after = does Page None s (page_by l (size_found laws z (view s) good l.n l.through.made (reach l.n l.through) m.poll.layout x.at steady.1.stands.sits.layout l.through.here) (has_field x.k (found Page)) refl);
+      after = does Page None s (page_by l (size_found laws z (view s) good l.n l.through.made (reach l.n l.through) x.at l.through.here) (has_field x.k (found Page)) refl);
     }
 
     -- what it writes behind the barrier
-    begun : (l : Stores z a (view s) (at_stage x Bits) None) → x.k < size l.n → is_number_value held ≡ false → WritesIt z.layout (pointer_cell_at m.poll.layout (x.at + x.k)) held (written m.poll.local (pointer_cell_at m.poll.layout (x.at + x.k)) held)
+    begun : (l : Stores z a (view s) (at_stage x Bits) None) → x.k < size l.n → is_number_value held ≡ false → WritesIt z.layout (pointer_cell_at z.layout (x.at + x.k)) held (written m.poll.local (pointer_cell_at z.layout (x.at + x.k)) held)
     begun l few plain =
-        let layout = steady.1.stands.sits.layout in
         let fit = names_fit laws z (view s) good stored held (register_reached e x.g x.v l.through.runs.goes_on stored refl) (means l.n l.through Bits l) in
-        subst (λ (k : Layout). WritesIt z.layout (pointer_cell_at k (x.at + x.k)) held (written m.poll.local (pointer_cell_at k (x.at + x.k)) held)) (sym layout)
-        (begins_so laws z.layout m.poll.local (pointer_cell_at z.layout (x.at + x.k)) held (heap (x.at + x.k)) fit steady.1.stands.sits.held plain)
+        begins_so laws z.layout m.poll.local (pointer_cell_at z.layout (x.at + x.k)) held (heap (x.at + x.k)) fit steady.1.stands.sits.held plain
 
     -- the field's kind is that of the value, or not
     kind_by : (l : Stores z a (view s) (at_stage x Bits) None) → x.k < size l.n → fits (kind l.n) stored ≡ true → (p marking : Bool) → kinds_differ p held ≡ false →
-        StoreFacts z a (view s) m.poll (at_stage x (cond (p && marking) (Writing (written m.poll.local (pointer_cell_at m.poll.layout (x.at + x.k)) held)) Field)) None (cond (p && marking) (Writing (written m.poll.local (pointer_cell_at m.poll.layout (x.at + x.k)) held)) Field)
-    kind_by l few fit true true same = (stores_at Bits (Writing (written m.poll.local (pointer_cell_at m.poll.layout (x.at + x.k)) held)) l, few, fit, begun l few same)
+        StoreFacts z a (view s) m.poll (at_stage x (cond (p && marking) (Writing (written m.poll.local (pointer_cell_at z.layout (x.at + x.k)) held)) Field)) None (cond (p && marking) (Writing (written m.poll.local (pointer_cell_at z.layout (x.at + x.k)) held)) Field)
+    kind_by l few fit true true same = (stores_at Bits (Writing (written m.poll.local (pointer_cell_at z.layout (x.at + x.k)) held)) l, few, fit, begun l few same)
     kind_by l few fit true false same = (stores_at Bits Field l, few, fit)
     kind_by l few fit false marking same = (stores_at Bits Field l, few, fit)
 
-    bits_by : (l : Stores z a (view s) (at_stage x Bits) None) → x.k < size l.n → (b : Bool) → fits (kind l.n) stored ≡ b → (p differ : Bool) → kinds_differ p held ≡ differ → differ ≡ not b → To s None (cond differ (ends (answer.Fault fault.Kind)) (goes_on (at_stage x (stores m.poll.layout m.poll.local held x p))))
+    bits_by : (l : Stores z a (view s) (at_stage x Bits) None) → x.k < size l.n → (b : Bool) → fits (kind l.n) stored ≡ b → (p differ : Bool) → kinds_differ p held ≡ differ → differ ≡ not b → To s None (cond differ (ends (answer.Fault fault.Kind)) (goes_on (at_stage x (stores z.layout m.poll.local held x p))))
     bits_by l few true fit p true d is = absurd cc
-    bits_by l few true fit p false d is = further Store task.Store z a s m x.g x.v (op_of x) steady right (at_stage x (stores m.poll.layout m.poll.local held x p))
+    bits_by l few true fit p false d is = further Store task.Store z a s m x.g x.v (op_of x) steady right (at_stage x (stores z.layout m.poll.local held x p))
         (record { counts = steady.0; knows = steady.1; right = right; task = kind_by l few fit p (is_mark m.poll.local.view.phase) d })
     bits_by l few false fit p true d is = fault_at fault.Kind (store_kind (e.register x.g x.b) stored l.n false l.through.names few fit)
     bits_by l few false fit p false d is = absurd cc
 
     bits : (l : Stores z a (view s) (at_stage x Bits) None) → x.k < size l.n → Own Bits None
     bits l few = record {
-      move = Quiet (asks (here Bits));
+      move = Quiet (asks z.layout (here Bits));
       may = tt;
       words_are = refl;
-      after = does Bits None s (bits_by l few (fits (kind l.n) stored) refl (is_pointer_by m.poll.layout (x.at + x.k) (found Bits)) (kinds_differ (is_pointer_by m.poll.layout (x.at + x.k) (found Bits)) held) refl
-          (ap (λ (p : Bool). kinds_differ p held) (bit_found laws z (view s) good l.n l.through.made (reach l.n l.through) m.poll.layout x.at steady.1.stands.sits.layout l.through.here x.k few)
+      after = does Bits None s (bits_by l few (fits (kind l.n) stored) refl (is_pointer_by z.layout (x.at + x.k) (found Bits)) (kinds_differ (is_pointer_by z.layout (x.at + x.k) (found Bits)) held) refl
+          (ap (λ (p : Bool). kinds_differ p held) (bit_found laws z (view s) good l.n l.through.made (reach l.n l.through) x.at l.through.here x.k few)
           ∙ differ_fits s.place e.made (kind l.n) stored held (means l.n l.through Bits l)));
     }
 
@@ -168,7 +166,7 @@ module _ (laws : Known) (z : Arena) (a : ℕ) (s : Shared) (m : Processor) (x : 
         answers = ap (λ (y : Answer). y ∷ []) is;
       }
 
-      stored_by : (request : Ask) (P : Shared → Type 0) → request ≡ asks (here Field) → P t → Steps z a s request P
+      stored_by : (request : Ask) (P : Shared → Type 0) → request ≡ asks z.layout (here Field) → P t → Steps z a s request P
       unfolding t
       stored_by request P same p = subst (λ (y : Ask). Steps z a s y P) (sym same) (record {
         move = Write l.n x.k stored (word_of_value held);
@@ -179,43 +177,43 @@ module _ (laws : Known) (z : Arena) (a : ℕ) (s : Shared) (m : Processor) (x : 
           value_reached = register_reached e x.g x.v l.through.runs.goes_on stored refl;
           holds = word_holds s.place e.made (kind l.n) stored held (means l.n l.through q l) fit;
         };
-        words_are = ap (λ (i : ℕ). put s.words (cell.Field i) (word_of_value held)) (sym (word_is laws z (view s) good l.n l.through.made (reach l.n l.through) m.poll.layout x.at steady.1.stands.sits.layout l.through.here x.k few));
+        words_are = ap (λ (i : ℕ). put s.words (cell.Field i) (word_of_value held)) (sym (word_is laws z (view s) good l.n l.through.made (reach l.n l.through) x.at l.through.here x.k few));
         after = p;
       })
 
     field : (l : Stores z a (view s) (at_stage x Field) None) → x.k < size l.n → fits (kind l.n) stored ≡ true → Own Field None
-    field l few fit = stored_by Field l few fit (asks (here Field)) (λ t. Does z a s t (here Field) None (found Field)) refl (does Field None (t Field l few fit) (lands Field l few fit m.poll.local.held steady))
+    field l few fit = stored_by Field l few fit (asks z.layout (here Field)) (λ t. Does z a s t (here Field) None (found Field)) refl (does Field None (t Field l few fit) (lands Field l few fit m.poll.local.held steady))
 
     -- A step of its write.
-    module _ (w : PointerWrite) (l : Stores z a (view s) (at_stage x (Writing w)) None) (few : x.k < size l.n) (fit : fits (kind l.n) stored ≡ true) (it : WritesIt z.layout (pointer_cell_at m.poll.layout (x.at + x.k)) held w) where
+    module _ (w : PointerWrite) (l : Stores z a (view s) (at_stage x (Writing w)) None) (few : x.k < size l.n) (fit : fits (kind l.n) stored ≡ true) (it : WritesIt z.layout (pointer_cell_at z.layout (x.at + x.k)) held w) where
       abbrev word : ℕ
       word = found (Writing w)
 
-      steady-then : Steady z a (view s) (keeping m (held_then m.poll.layout w word))
-      steady-then = steady_held z a (view s) m (held_then m.poll.layout w word) (held_so laws z.layout m.poll.layout steady.1.stands.sits.layout (pointer_cell_at m.poll.layout (x.at + x.k)) held w word it) steady
+      steady-then : Steady z a (view s) (keeping m (held_then z.layout w word))
+      steady-then = steady_held z a (view s) m (held_then z.layout w word) (held_so laws z.layout (pointer_cell_at z.layout (x.at + x.k)) held w word it) steady
 
       abbrev beside : Shared
       beside = moved z a s (Quiet (write.asks w))
 
-      writes_on : IsBefore m.poll.layout w word → ToWith (held_then m.poll.layout w word) beside None (after_write x (write.goes m.poll.layout w word) (write.gives m.poll.layout w word))
-      writes_on b = subst (λ (o : Option (Unit {0})). ToWith (held_then m.poll.layout w word) beside None (after_write x (write.goes m.poll.layout w word) o)) (sym b.goes_on) (record {
+      writes_on : IsBefore z.layout w word → ToWith (held_then z.layout w word) beside None (after_write x (write.goes z.layout w word) (write.gives z.layout w word))
+      writes_on b = subst (λ (o : Option (Unit {0})). ToWith (held_then z.layout w word) beside None (after_write x (write.goes z.layout w word) o)) (sym b.goes_on) (record {
         after = None;
-        fine = subst (λ (v : View). ProcessorFacts z a v (at_task (keeping m (held_then m.poll.layout w word)) (task.Store (at_stage x (Writing (write.goes m.poll.layout w word))))) None) (sym (b.leaves.same z a s))
-            (record { counts = steady-then.0; knows = steady-then.1; right = right; task = (stores_at (Writing w) (Writing (write.goes m.poll.layout w word)) l, few, fit, goes_so laws z.layout m.poll.layout steady.1.stands.sits.layout (pointer_cell_at m.poll.layout (x.at + x.k)) held w word it b.goes_on) });
+        fine = subst (λ (v : View). ProcessorFacts z a v (at_task (keeping m (held_then z.layout w word)) (task.Store (at_stage x (Writing (write.goes z.layout w word))))) None) (sym (b.leaves.same z a s))
+            (record { counts = steady-then.0; knows = steady-then.1; right = right; task = (stores_at (Writing w) (Writing (write.goes z.layout w word)) l, few, fit, goes_so laws z.layout (pointer_cell_at z.layout (x.at + x.k)) held w word it b.goes_on) });
         ever = refl;
         answers = refl;
       })
 
-      writing : IsBefore m.poll.layout w word ⊎ IsLast m.poll.layout w word → Own (Writing w) None
+      writing : IsBefore z.layout w word ⊎ IsLast z.layout w word → Own (Writing w) None
       writing (inl b) = record { move = Quiet (write.asks w); may = b.leaves.quiet; words_are = refl; after = does (Writing w) None beside (writes_on b) }
       writing (inr b) = stored_by (Writing w) l few fit (write.asks w) (λ t. Does z a s t (here (Writing w)) None word)
-          (b.stores ∙ ap (λ (c : PointerCell). ask.Store (write.cell_at c) (write.pointer_word w.pointer)) it.same_cell ∙ ap (λ (n : ℕ). ask.Store (field_cell m.poll.layout (x.at + x.k)) n) (word_written z.layout (pointer_cell_at m.poll.layout (x.at + x.k)) held w it))
+          (b.stores ∙ ap (λ (c : PointerCell). ask.Store (write.cell_at c) (write.pointer_word w.pointer)) it.same_cell ∙ ap (λ (n : ℕ). ask.Store (field_cell z.layout (x.at + x.k)) n) (word_written z.layout (pointer_cell_at z.layout (x.at + x.k)) held w it))
           (does (Writing w) None (t (Writing w) l few fit)
-          (subst (λ (o : Option (Unit {0})). ToWith (held_then m.poll.layout w word) (t (Writing w) l few fit) None (after_write x (write.goes m.poll.layout w word) o)) (sym b.ends) (lands (Writing w) l few fit (held_then m.poll.layout w word) steady-then)))
+          (subst (λ (o : Option (Unit {0})). ToWith (held_then z.layout w word) (t (Writing w) l few fit) None (after_write x (write.goes z.layout w word) o)) (sym b.ends) (lands (Writing w) l few fit (held_then z.layout w word) steady-then)))
 
     nil_base : IsPlain (e.register x.g x.b) → Own NilBase None
     nil_base plain = record {
-      move = Quiet (asks (here NilBase));
+      move = Quiet (asks z.layout (here NilBase));
       may = tt;
       words_are = refl;
       after = does NilBase None s (fault_at fault.NilBase (plain_store (e.register x.g x.b) plain));
@@ -227,7 +225,7 @@ module _ (laws : Known) (z : Arena) (a : ℕ) (s : Shared) (m : Processor) (x : 
     by Page None fine steady = page steady fine.right fine.task
     by Bits None fine steady = bits steady fine.right fine.task.0 fine.task.1
     by Field None fine steady = field steady fine.right fine.task.0 fine.task.1 fine.task.2
-    by (Writing w) None fine steady = writing steady fine.right w fine.task.0 fine.task.1 fine.task.2 fine.task.3 (step_is m.poll.layout w (found (Writing w)) fine.task.3.busy)
+    by (Writing w) None fine steady = writing steady fine.right w fine.task.0 fine.task.1 fine.task.2 fine.task.3 (step_is z.layout w (found (Writing w)) fine.task.3.busy)
     by NilBase None fine steady = nil_base steady fine.right fine.task.2
     by Page (Some y) fine steady = absurd (cc fine.task.unanswered)
     by Bits (Some y) fine steady = absurd (cc fine.task.0.unanswered)
@@ -237,6 +235,6 @@ module _ (laws : Known) (z : Arena) (a : ℕ) (s : Shared) (m : Processor) (x : 
 
 pub store_steps : Known → (x : Store) → OwnStepAt (task.Store x)
 store_steps laws x z a s m pending shapes is good fine = go (ap (λ (q : Task). at_task m q) (sym is)) where
-  go : at_task m (task.Store x) ≡ m → Steps z a s (asks m) (λ t. Does z a s t m pending (s.words (cell_of (asks m))))
-  go same = subst (λ (y : Processor). Steps z a s (asks y) (λ t. Does z a s t y pending (s.words (cell_of (asks y))))) same
+  go : at_task m (task.Store x) ≡ m → Steps z a s (asks z.layout m) (λ t. Does z a s t m pending (s.words (cell_of (asks z.layout m))))
+  go same = subst (λ (y : Processor). Steps z a s (asks z.layout y) (λ t. Does z a s t y pending (s.words (cell_of (asks z.layout y))))) same
       (own laws z a s m x good x.stage pending (subst (λ (y : Processor). ProcessorFacts z a (view s) y pending) (sym same) fine))

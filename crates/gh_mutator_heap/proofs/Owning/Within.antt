@@ -1,13 +1,9 @@
 -- Each step of the processor is on a word that there is.
-use Rattle.std.proofs.Common.{◌≡◌, ℕ, ◌+◌, ◌*◌, ◌/◌, ◌%◌, ◌<◌, Option, ap, sym, subst, arith}
+use Rattle.std.proofs.Common.{ℕ, ◌+◌, ◌*◌, ◌/◌, ◌%◌, ◌<◌, Option, arith}
 use Rattle.std.proofs.Math.Nat.{mod-lt}
 use Rattle.gh_mutator_heap.proofs.Owning.Vocabulary.{FactsAt, for_whom, GlobalFacts, HasAt, KnowsAt, NewFacts, register_of, rest, SeatFacts, StoreFacts}
-use Rattle.gh_alloc.specs.Place as place
-use Rattle.gh_alloc.specs.Search as search
-use Rattle.gh_assist.specs.Listing as assist
-use Rattle.gh_base.specs.declared.cell.Ask.{Ask}
 use Rattle.gh_base.specs.Cells.{InRange}
-use Rattle.gh_mutator.specs.Vocabulary.{Answer, cell_of, Layout}
+use Rattle.gh_mutator.specs.Vocabulary.{Answer, cell_of}
 use Rattle.gh_mutator_heap.specs.Vocabulary.{Arena, Good, View, Assist, Global, GlobalStage, Load, LoadStage, NewStage, Place, Processor, Search, Store, StoreStage, Task, Wait, Wanted, Want}
 use Rattle.gh_heap.specs.Rights.{Rights}
 use Rattle.gh_mutator.specs.declared.store.StoreStage.TheVariants as store_stage
@@ -23,47 +19,40 @@ use Rattle.gh_mutator_heap.proofs.Owning.Known.{Known}
 use Rattle.gh_mutator_heap.proofs.Owning.Parked.{stands_always}
 
 module _ (k : Known) (z : Arena) (a : ℕ) (v : View) (m : Processor) (pending : Option Answer) (good : Good z v) (sits : SeatFacts z a m.poll) where
-  arena : m.poll.layout.pages ≡ z.layout.pages
-  arena = ap (λ (l : Layout). l.pages) sits.layout
-
-  -- what its routine asks for, which it numbers by its own layout
-  here : (asks : Layout → Ask) → InRange z.layout (cell_of (asks z.layout)) → InRange z.layout (cell_of (asks m.poll.layout))
-  here asks there = subst (λ (l : Layout). InRange z.layout (cell_of (asks l))) (sym sits.layout) there
-
-  some : 0 < m.poll.layout.pages
-  some = omega (arith, m.poll.layout.limits.pages_fit.0)
+  some : 0 < z.layout.pages
+  some = omega (arith, z.layout.limits.pages_fit.0)
 
   -- an index that is taken modulo the row's words
-  heap : (x : ℕ) → x % (1024 * m.poll.layout.pages) < 1024 * z.layout.pages
-  heap x = let words : 0 < 1024 * m.poll.layout.pages = omega (arith, some) in omega (arith, mod-lt x words, arena)
+  heap : (x : ℕ) → x % (1024 * z.layout.pages) < 1024 * z.layout.pages
+  heap x = let words : 0 < 1024 * z.layout.pages = omega (arith, some) in omega (arith, mod-lt x words)
 
-  bits : (x : ℕ) → x % (16 * m.poll.layout.pages) < 16 * z.layout.pages
-  bits x = let words : 0 < 16 * m.poll.layout.pages = omega (arith, some) in omega (arith, mod-lt x words, arena)
+  bits : (x : ℕ) → x % (16 * z.layout.pages) < 16 * z.layout.pages
+  bits x = let words : 0 < 16 * z.layout.pages = omega (arith, some) in omega (arith, mod-lt x words)
 
-  page : (x : ℕ) → x % m.poll.layout.pages < z.layout.pages
-  page x = omega (arith, mod-lt x some, arena)
+  page : (x : ℕ) → x % z.layout.pages < z.layout.pages
+  page x = omega (arith, mod-lt x some)
 
-  load_within : (x : Load) (q : LoadStage) → InRange z.layout (cell_of (load.asks_at m.poll.layout x q))
+  load_within : (x : Load) (q : LoadStage) → InRange z.layout (cell_of (load.asks_at z.layout x q))
   load_within x q = grind arith
 
-  store_within : (x : Store) (q : StoreStage) → StoreFacts z a v m.poll x pending q → InRange z.layout (cell_of (store.asks_at m.poll.layout (register_of m x.g x.v) x q))
+  store_within : (x : Store) (q : StoreStage) → StoreFacts z a v m.poll x pending q → InRange z.layout (cell_of (store.asks_at z.layout (register_of m x.g x.v) x q))
   store_within x store_stage.NilBase h = tt
   store_within x store_stage.Page h = page (x.at / 1024)
   store_within x store_stage.Bits h = bits ((x.at + x.k) / 64)
   store_within x store_stage.Field h = heap (x.at + x.k)
   store_within x (store_stage.Writing w) h = k.within.within z.layout w h.3.within
 
-  global_within : (x : Global) (q : GlobalStage) → GlobalFacts z a v m.poll x pending q → InRange z.layout (cell_of (global.asks_at m.poll.layout (register_of m x.g x.r) x q))
+  global_within : (x : Global) (q : GlobalStage) → GlobalFacts z a v m.poll x pending q → InRange z.layout (cell_of (global.asks_at z.layout (register_of m x.g x.r) x q))
   global_within x q h = grind arith
 
-  new_within : (w : Wanted) (q : NewStage) → KnowsNew z a v m.poll q → Rights a v (locked_new m q) (held_new m w q) (laying_new q) (freeing_new q) → NewFacts z a v m w pending q → InRange z.layout (cell_of (new.asks_at m q))
-  new_within w (Search waited q) knows right h = here (λ (l : Layout). search.asks l q) (k.search.within z a v (rest m w) q good h.facts)
+  new_within : (w : Wanted) (q : NewStage) → KnowsNew z a v m.poll q → Rights a v (locked_new m q) (held_new m w q) (laying_new q) (freeing_new q) → NewFacts z a v m w pending q → InRange z.layout (cell_of (new.asks_at z.layout m q))
+  new_within w (Search waited q) knows right h = k.search.within z a v (rest m w) q good h.facts
   new_within w (Wait x) knows right h = k.waits.within z a v (waiting x m.poll) good (right, knows)
-  new_within w (Place p) knows right h = here (λ (l : Layout). place.asks l p) (k.place.within z a v (for_whom w) p good h.facts)
+  new_within w (Place p) knows right h = k.place.within z a v (for_whom w) p good h.facts
   new_within w (Want n) knows right h = tt
-  new_within w (Assist n x) knows right h = here (λ (l : Layout). assist.asks l x) (k.assists_within.within z.layout x h.1)
+  new_within w (Assist n x) knows right h = k.assists_within.within z.layout x h.1
 
-  within-at : (q : Task) → KnowsAt z a v m.poll q → HasAt a v m q → FactsAt z a v m pending q → InRange z.layout (cell_of (asks_at m q))
+  within-at : (q : Task) → KnowsAt z a v m.poll q → HasAt a v m q → FactsAt z a v m pending q → InRange z.layout (cell_of (asks_at z.layout m q))
   within-at q knows right h = grind (arith, global_within, load_within, new_within, store_within)
 
 pub within : Known → Within

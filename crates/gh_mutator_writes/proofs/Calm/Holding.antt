@@ -44,30 +44,30 @@ PollHoldsNone p = (p.local.held ≡ None) × PollsWithNone p.stage
 stops_none : (p : Polling) (g : give.Giving) (stops : ℕ) → p.local.held ≡ None → GivesNoBuffer g → PollHoldsNone (poll.stops_then p g stops)
 stops_none p g stops e x = grind arith
 
-phases_none : (p : Polling) (stops : ℕ) (phase : Option RunPhase) → p.local.view.phase ≢ run.Mark → p.local.held ≡ None → PollHoldsNone (poll.by_phase p stops phase)
-phases_none p stops phase off e = grind arith
+phases_none : (l : Layout) (p : Polling) (stops : ℕ) (phase : Option RunPhase) → p.local.view.phase ≢ run.Mark → p.local.held ≡ None → PollHoldsNone (poll.by_phase l p stops phase)
+phases_none l p stops phase off e = grind arith
 
-resume_none : (p : Polling) (r : resume.Resuming) (q : ResumeStage) (found : ℕ) → p.local.held ≡ None → KnowsNoMarking (resumes.party_of r) (resumes.stands_at r.stops q) → PollHoldsNone (poll.after_resume p (resume.goes_at r q found) (resume.given (resume.goes_at r q found)))
-resume_none p r q found e off = grind arith
+resume_none : (l : Layout) (p : Polling) (r : resume.Resuming) (q : ResumeStage) (found : ℕ) → p.local.held ≡ None → KnowsNoMarking (resumes.party_of r) (resumes.stands_at r.stops q) → PollHoldsNone (poll.after_resume l p (resume.goes_at r q found) (resume.given (resume.goes_at r q found)))
+resume_none l p r q found e off = grind arith
 
-poll_none : (p : Polling) (q : PollStage) (found : ℕ) → p.local.held ≡ None → PollsWithNone q → KnowsNoMarking (poller_at p q) (polls_at p q) → PollHoldsNone (poll.goes_at p q found)
-poll_none p q found e x off = grind (arith, gives_none, phases_none, resume_none, stops_none)
+poll_none : (l : Layout) (p : Polling) (q : PollStage) (found : ℕ) → p.local.held ≡ None → PollsWithNone q → KnowsNoMarking (poller_at p q) (polls_at p q) → PollHoldsNone (poll.goes_at l p q found)
+poll_none l p q found e x off = grind (arith, gives_none, phases_none, resume_none, stops_none)
 
 -- A wait.
 abbrev WaitHoldsNone : Waiting → Type 0
 WaitHoldsNone w = (w.poll.local.held ≡ None) × WaitsWithNone w.poll w.wait.stage
 
-wait_none : (w : Waiting) (q : WaitStage) (found : ℕ) → w.poll.local.held ≡ None → WaitsWithNone w.poll q → KnowsNoMarking (waiter_at w q) (waits_at w q) → WaitHoldsNone (wait.goes_at w q found)
-wait_none w wait_stage.Want found e x off = (e, tt)
-wait_none w wait_stage.Polling found e x off = by (poll.goes w.poll found) (poll.gives w.poll found) (poll_none w.poll w.poll.stage found e x off) where
+wait_none : (l : Layout) (w : Waiting) (q : WaitStage) (found : ℕ) → w.poll.local.held ≡ None → WaitsWithNone w.poll q → KnowsNoMarking (waiter_at w q) (waits_at w q) → WaitHoldsNone (wait.goes_at l w q found)
+wait_none l w wait_stage.Want found e x off = (e, tt)
+wait_none l w wait_stage.Polling found e x off = by (poll.goes l w.poll found) (poll.gives l w.poll found) (poll_none l w.poll w.poll.stage found e x off) where
   by : (p : Polling) (out : Option (Unit {0})) → PollHoldsNone p → WaitHoldsNone (wait.after_poll w p out)
   by p None h = h
   by p (Some u) h = (h.0, tt)
-wait_none w wait_stage.LoadSwept found e x off = by (ltb w.wait.known found) where
+wait_none l w wait_stage.LoadSwept found e x off = by (ltb w.wait.known found) where
   by : (later : Bool) → WaitHoldsNone (cond later (wait.at_stage w wait_stage.Ended) (wait.polling w))
   by true = (e, tt)
   by false = (e, tt)
-wait_none w wait_stage.Ended found e x off = (e, tt)
+wait_none l w wait_stage.Ended found e x off = (e, tt)
 
 -- Leaving.
 left_none : (g : give.Giving) → GivesNoBuffer g → LeavesWithNone (leave.stage_of g)
@@ -124,7 +124,7 @@ found_none shapes m w waited c s out off e = grind arith
 made_none : (m : Processor) (w : Wanted) (made : Bool) (a : ℕ) (y : Placing) → marking_at m.poll ≡ false → IsMadeUnmarked y → m.poll.local.held ≡ None → HoldsNoBuffer (new.after_place m w made a y)
 made_none m w made a y is off e = grind arith
 
-module _ (marks : AnObjectIsMarkedBeforeItIsMade) (shapes : List Shape) (m : Processor) (found : ℕ) (e : m.poll.local.held ≡ None) where
+module _ (l : Layout) (marks : AnObjectIsMarkedBeforeItIsMade) (shapes : List Shape) (m : Processor) (found : ℕ) (e : m.poll.local.held ≡ None) where
   gc_none : (g : ℕ) (w : Waiting) (out : Option (Unit {0})) → WaitHoldsNone w → HoldsNoBuffer (after_gc m g w out)
   gc_none g w out h = grind arith
 
@@ -137,22 +137,22 @@ module _ (marks : AnObjectIsMarkedBeforeItIsMade) (shapes : List Shape) (m : Pro
   gone_none : (x : Leaving) (out : Option (Unit {0})) → LeavesWithNone x.stage → HoldsNoBuffer (after_leave m x out)
   gone_none x out h = grind arith
 
-  new_none : (n : Wanted) (q : NewStage) → MakesWithNone m.poll q → KnowsNoMarking (party_at m.poll (task.New (record { wanted = n; stage = q }))) (stage_at m.poll (task.New (record { wanted = n; stage = q }))) → HoldsNoBuffer (new.takes_at shapes m n q found)
-  new_none n (Search waited y) x off = found_none shapes m n waited (search.goes m.poll.layout y found).find.cached (search.goes m.poll.layout y found) (search.gives m.poll.layout y found) off e
-  new_none n (Wait y) x off = let w : Waiting = wait.waiting y m.poll in waited_none n (wait.goes w found) (wait.gives w found) (wait_none w y.stage found e x off)
+  new_none : (n : Wanted) (q : NewStage) → MakesWithNone m.poll q → KnowsNoMarking (party_at m.poll (task.New (record { wanted = n; stage = q }))) (stage_at m.poll (task.New (record { wanted = n; stage = q }))) → HoldsNoBuffer (new.takes_at l shapes m n q found)
+  new_none n (Search waited y) x off = found_none shapes m n waited (search.goes l y found).find.cached (search.goes l y found) (search.gives l y found) off e
+  new_none n (Wait y) x off = let w : Waiting = wait.waiting y m.poll in waited_none n (wait.goes l w found) (wait.gives l w found) (wait_none l w y.stage found e x off)
   new_none n (Place y) x off = made_none m n (place.makes_its_object y) y.at (place.goes y found) (not_mark m.poll.local.view.phase off) (marks.stays_off y found x) e
   new_none n (Want u) x off = record { none = e; runs = tt }
   new_none n (Assist u y) x off = absurd x
 
-  pub holds_at : (t : Task) → RunsWithNone m.poll t → KnowsNoMarking (party_at m.poll t) (stage_at m.poll t) → t ≡ m.task → HoldsNoBuffer (takes_at shapes m t found)
+  pub holds_at : (t : Task) → RunsWithNone m.poll t → KnowsNoMarking (party_at m.poll t) (stage_at m.poll t) → t ≡ m.task → HoldsNoBuffer (takes_at l shapes m t found)
   holds_at task.Idle x off is = record { none = e; runs = subst (λ (t : Task). RunsWithNone m.poll t) is tt }
   holds_at task.Left x off is = record { none = e; runs = subst (λ (t : Task). RunsWithNone m.poll t) is tt }
-  holds_at (task.Load y) x off is = applied_none task.Load m y.g y.d (load.step m.poll.layout y found) (load_goes _) e
-  holds_at (task.Store y) x off is = applied_none task.Store (keeping m (store.held_behind m.poll.layout m.poll.local.held y.stage found)) y.g y.v (store.step m.poll.layout m.poll.local (register_of m y.g y.v) y found) (store_goes m.poll.layout m.poll.local (not_mark m.poll.local.view.phase off) (register_of m y.g y.v) y y.stage found x) (store_keeps m.poll.layout m.poll.local.held y.stage found x e)
-  holds_at (task.Global y) x off is = applied_none task.Global (keeping m (global.held_behind m.poll.layout m.poll.local.held y.stage found)) y.g y.r (global.step m.poll.layout (register_of m y.g y.r) y found) (global_goes m.poll.layout (register_of m y.g y.r) y y.stage found x) (global_keeps m.poll.layout m.poll.local.held y.stage found x e)
+  holds_at (task.Load y) x off is = applied_none task.Load m y.g y.d (load.step l y found) (load_goes _) e
+  holds_at (task.Store y) x off is = applied_none task.Store (keeping m (store.held_behind l m.poll.local.held y.stage found)) y.g y.v (store.step l m.poll.local (register_of m y.g y.v) y found) (store_goes l m.poll.local (not_mark m.poll.local.view.phase off) (register_of m y.g y.v) y y.stage found x) (store_keeps l m.poll.local.held y.stage found x e)
+  holds_at (task.Global y) x off is = applied_none task.Global (keeping m (global.held_behind l m.poll.local.held y.stage found)) y.g y.r (global.step l (register_of m y.g y.r) y found) (global_goes l (register_of m y.g y.r) y y.stage found x) (global_keeps l m.poll.local.held y.stage found x e)
   holds_at (task.Register y) x off is = applied_none task.Register m y.g y.d (register.step (register_of m y.g (register.read_of y)) y) (register_goes (register.step (register_of m y.g (register.read_of y)) y).then) e
   holds_at (task.New y) x off is = new_none y.wanted y.stage x off
-  holds_at (task.Gc g y) x off is = let w : Waiting = wait.waiting y m.poll in gc_none g (wait.goes w found) (wait.gives w found) (wait_none w y.stage found e x off)
-  holds_at task.Poll x off is = polled_none (poll.goes m.poll found) (poll.gives m.poll found) (poll_none m.poll m.poll.stage found e x off)
+  holds_at (task.Gc g y) x off is = let w : Waiting = wait.waiting y m.poll in gc_none g (wait.goes l w found) (wait.gives l w found) (wait_none l w y.stage found e x off)
+  holds_at task.Poll x off is = polled_none (poll.goes l m.poll found) (poll.gives l m.poll found) (poll_none l m.poll m.poll.stage found e x off)
   holds_at (task.End g) x off is = record { none = e; runs = tt }
   holds_at (task.Leave y) x off is = gone_none (leave.goes y found) (leave.gives y found) (leave_none y y.stage found x)

@@ -36,11 +36,11 @@ module _ (stops : ℕ) (p : Polling) where
 
 pub calm_marks_nothing : CellsAreTold → AnObjectIsMarkedBeforeItIsMade → ProcessorInHandshake → MarksByMoves → CalmProcessorsMarkNothing
 calm_marks_nothing told marks h k = record {
-  first = λ l seat. record { holds = record { none = refl; runs = tt }; knows = λ e. cc };
+  first = λ seat. record { holds = record { none = refl; runs = tt }; knows = λ e. cc };
   begins = λ shapes l m o sound rests c. record { holds = begun shapes l m o rests c; knows = begins_on (party_of m) (stage_of m) _ _ (h.begins_so shapes l m o sound rests) c.knows };
-  lasts = λ shapes m found sound busy c off. record { holds = holds_at marks shapes m found c.holds.none m.task c.holds.runs c.knows refl; knows = goes_on found (party_of m) (stage_of m) (asks m) _ _ (h.takes_so shapes m found sound busy) c.knows off };
-  holds = λ shapes m found c. holds_at marks shapes m found c.holds.none m.task c.holds.runs c.knows refl;
-  writes = λ m c. writes_calmly m.poll m.made m.task c.holds.runs;
-  leaves = λ m words c calm off. leaves_others told (IsWrittenCalmly m) (asks m) words c (writes_calmly m.poll m.made m.task calm.holds.runs) off;
+  lasts = λ l shapes m found sound busy c off. record { holds = holds_at l marks shapes m found c.holds.none m.task c.holds.runs c.knows refl; knows = goes_on found (party_of m) (stage_of m) (asks l m) _ _ (h.takes_so l shapes m found sound busy) c.knows off };
+  holds = λ l shapes m found c. holds_at l marks shapes m found c.holds.none m.task c.holds.runs c.knows refl;
+  writes = λ l m c. writes_calmly l m.poll m.made m.task c.holds.runs;
+  leaves = λ l m words c calm off. leaves_others told (IsWrittenCalmly l m) (asks l m) words c (writes_calmly l m.poll m.made m.task calm.holds.runs) off;
   behind = λ z a s m stops still f. record { holds = record { none = (k.waits z a s m stops still f).no_buffer; runs = runs_still stops m.poll m.task still }; knows = still_knows (party_of m) (stage_of m) stops still };
 }

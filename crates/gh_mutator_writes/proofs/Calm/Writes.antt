@@ -4,6 +4,7 @@ use Rattle.gh_mutator_writes.specs.Calm.{IsWrittenCalmly}
 use Rattle.gh_mutator.specs.Vocabulary.{Polling}
 use Rattle.gh_mutator_writes.proofs.Vocabulary.{asks, RunsWithNone, Task, WritesOf}
 use Rattle.gh_mutator_writes.proofs.Writing.Processor.{running}
+use Rattle.gh_base.specs.declared.layout.Layout.{Layout}
 
-pub writes_calmly : (p : Polling) (made : List ℕ) (t : Task) → RunsWithNone p t → WritesOf (IsWrittenCalmly (running p made t)) (asks (running p made t))
-writes_calmly p made t x = grind arith
+pub writes_calmly : (l : Layout) (p : Polling) (made : List ℕ) (t : Task) → RunsWithNone p t → WritesOf (IsWrittenCalmly l (running p made t)) (asks l (running p made t))
+writes_calmly l p made t x = grind arith

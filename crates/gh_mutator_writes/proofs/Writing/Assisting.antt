@@ -9,8 +9,8 @@ use Rattle.gh_mutator_writes.proofs.Vocabulary.{after_assist, after_gc, after_le
 abbrev IsSoundAt : Processor → Type 0
 IsSoundAt m = SoundAssist m.poll m.task
 
-pub assist_begins : (shapes : List Shape) (l : Layout) (m : Processor) (o : Op) → SoundAssist m.poll m.task → IsSoundAt ((processor_kind shapes l).begins m o)
-assist_begins shapes l m o s = grind arith
+pub assist_begins : (shapes : List Shape) (z : Layout) (m : Processor) (o : Op) → SoundAssist m.poll m.task → IsSoundAt ((processor_kind shapes z).begins m o)
+assist_begins shapes z m o s = grind arith
 
 -- nor behind a step of anything but a new object
 into_sound : {S : Type 0} (into : S → Task) (p : Polling) (then : Then S) → ((y : S) → SoundAssist p (into y)) → SoundAssist p (follows into then)
@@ -31,7 +31,7 @@ search_sound shapes m w waited s out = grind arith
 wait_sound : (m : Processor) (w : Wanted) (x : Waiting) (out : Option (Unit {0})) → IsSoundAt (after_wait m w x out)
 wait_sound m w x out = grind arith
 
-module _ (pay : AssistsPay) where
+module _ (l : Layout) (pay : AssistsPay) where
   place_sound : (m : Processor) (w : Wanted) (made : Bool) (a : ℕ) (x : Placing) → IsSoundAt (new.after_place m w made a x)
   place_sound m w made a x = grind arith
 
@@ -40,8 +40,8 @@ module _ (pay : AssistsPay) where
   assist_sound m w n x out s = grind arith
 
   module _ (shapes : List Shape) (m : Processor) (found : ℕ) where
-    new_sound : (w : Wanted) (q : NewStage) → SoundAssistAt m.poll q → IsSoundAt (new.takes_at shapes m w q found)
+    new_sound : (w : Wanted) (q : NewStage) → SoundAssistAt m.poll q → IsSoundAt (new.takes_at l shapes m w q found)
     new_sound w q s = grind (arith, assist_sound, place_sound, search_sound, wait_sound)
 
-    pub assist_takes : (t : Task) → t ≡ m.task → SoundAssist m.poll t → IsSoundAt (takes_at shapes m t found)
+    pub assist_takes : (t : Task) → t ≡ m.task → SoundAssist m.poll t → IsSoundAt (takes_at l shapes m t found)
     assist_takes t is s = grind (arith, gc_sound, into_sound, leave_sound, new_sound, poll_sound)

@@ -17,7 +17,7 @@ use Rattle.gh_poll.specs.MarkFacts.{LooksForRoom, ScanFacts, ScanStageFacts, Sha
 use Rattle.gh_poll.specs.MarkStack.{after_room, after_shade, asks, asks_at, by_wish, given, gives, goes, goes_at, goes_on, opening, StackMarking}
 use Rattle.gh_poll.specs.MarkVocabulary.{KnowsObject}
 use Rattle.gh_poll.specs.Stays.{found_on, shaded_on}
-use Rattle.gh_poll.proofs.Vocabulary.{cell_of, Cycle, effect, Good, Hands, Held, holding_only, IsOf, Keeps, KnowsObjects, landing, Layout, MarkStackStage, moved, nothing, Others, ScanStack, Shaded, Shared, StackStage, Steps, Value}
+use Rattle.gh_poll.proofs.Vocabulary.{cell_of, Cycle, effect, Good, Hands, Held, holding_only, IsOf, Keeps, KnowsObjects, landing, MarkStackStage, moved, nothing, Others, ScanStack, Shaded, Shared, StackStage, Steps, Value}
 use Rattle.gh_poll.proofs.Marking.Known.{Known}
 use Rattle.gh_poll.proofs.StackMarking.{begins_going, told_going, waits_then}
 
@@ -41,43 +41,36 @@ Comes z a s t g m (Some x) = Scanned z a s t g m.held
 
 module _ (k : Known) (z : Cycle) (a : ℕ) (s : Shared) (good : Good z s) (objects : KnowsObjects z s) where
   -- what it wishes lies in the heap
-  wish_is : (t : Shared) (m : stack.StackScan) (l : Layout) (reference : ℕ) → Keeps z a s t → stack_facts.Facts z a t m → l ≡ z.arena.layout → 1 ≤ reference → stack.wish_of m.stage ≡ Some reference → reference_in l reference ≡ reference
-  wish_is t m l reference kept f e some wish =
+  wish_is : (t : Shared) (m : stack.StackScan) (reference : ℕ) → Keeps z a s t → stack_facts.Facts z a t m → 1 ≤ reference → stack.wish_of m.stage ≡ Some reference → reference_in z.arena.layout reference ≡ reference
+  wish_is t m reference kept f some wish =
       let by = named_by t m.goroutine m.stage reference wish f.stage_is in
       let is : reference ≡ (reference - 1) + 1 = omega arith in
       let names : s.registers m.goroutine by.0 ≡ (reference - 1) + 1 = sym (kept.registers m.goroutine by.0 f.own) ∙ by.1 ∙ is in
       let known : s.since (reference - 1) ≡ true = good.values.stacks m.goroutine by.0 (reference - 1) names in
       let there : KnowsObject z.arena.layout.pages _ _ s.extents (reference - 1) = objects (reference - 1) known in
       let within : reference - 1 < 1024 * z.arena.layout.pages = omega (arith, there.within, there.some) in
-      let inside : reference - 1 < 1024 * l.pages = rw e within in
-      ap (λ (n : ℕ). n + 1) (mod-eq_of_lt inside) ∙ sym is
+      ap (λ (n : ℕ). n + 1) (mod-eq_of_lt within) ∙ sym is
 
-  wishes : (t : Shared) (m : stack.StackScan) (l : Layout) (held : Option Held) → Good z t → Keeps z a s t → stack_facts.Facts z a t m → l ≡ z.arena.layout → Hands a t (holding_only held) → (wish : Option ℕ) → goes_on m.stage ≡ true → stack.wish_of m.stage ≡ wish → ScanStageFacts z a t held m (by_wish l held wish)
-  wishes t m l held well kept f e hands None on wish = (f, stores_at m.stage on wish, hands)
-  wishes t m l held well kept f e hands (Some reference) on wish =
+  wishes : (t : Shared) (m : stack.StackScan) (held : Option Held) → Good z t → Keeps z a s t → stack_facts.Facts z a t m → Hands a t (holding_only held) → (wish : Option ℕ) → goes_on m.stage ≡ true → stack.wish_of m.stage ≡ wish → ScanStageFacts z a t held m (by_wish z.arena.layout held wish)
+  wishes t m held well kept f hands None on wish = (f, stores_at m.stage on wish, hands)
+  wishes t m held well kept f hands (Some reference) on wish =
       let known = k.stacks.wishes z a t m reference well f wish in
-      let same : reference_in l reference ≡ reference = wish_is t m l reference kept f e known.some wish in
-      (record { scans = f; wish = wish ∙ ap (λ (r : ℕ). Some r) (sym same) }, k.shade.begins z a t nothing (reference_in l reference) held (rw same known.some) (ap (λ (r : ℕ). t.since (r - 1)) same ∙ known.known) hands)
+      let same : reference_in z.arena.layout reference ≡ reference = wish_is t m reference kept f known.some wish in
+      (record { scans = f; wish = wish ∙ ap (λ (r : ℕ). Some r) (sym same) }, k.shade.begins z a t nothing (reference_in z.arena.layout reference) held (rw same known.some) (ap (λ (r : ℕ). t.since (r - 1)) same ∙ known.known) hands)
 
   -- where it begins, in this very state
-  pub scan_begins : (l : Layout) (seat g cycle : ℕ) (registers : List Value) (held : Option Held) → l ≡ z.arena.layout → seat ≡ a → cycle ≡ z.number → stack_facts.Begins z a s g → stack_facts.AreRegisters (s.registers g) registers → Hands a s (holding_only held) → ScanFacts z a s g (opening l seat g cycle registers held)
-  scan_begins l seat g cycle registers held e seat_is number may are hands = record {
-    layout_is = e;
+  pub scan_begins : (seat g cycle : ℕ) (registers : List Value) (held : Option Held) → seat ≡ a → cycle ≡ z.number → stack_facts.Begins z a s g → stack_facts.AreRegisters (s.registers g) registers → Hands a s (holding_only held) → ScanFacts z a s g (opening z.arena.layout seat g cycle registers held)
+  scan_begins seat g cycle registers held seat_is number may are hands = record {
     seat_is = seat_is;
     of = refl;
-    stage_is = wishes s (stack.opening g cycle registers) l held good ((k.go_on z a).stays s) facts e hands (stack.wish_of (stack.opening g cycle registers).stage) (begins_going g cycle registers) refl;
+    stage_is = wishes s (stack.opening g cycle registers) held good ((k.go_on z a).stays s) facts hands (stack.wish_of (stack.opening g cycle registers).stage) (begins_going g cycle registers) refl;
   } where
     facts : stack_facts.Facts z a s (stack.opening g cycle registers)
     facts = subst (λ (c : ℕ). stack_facts.Facts z a s (stack.opening g c registers)) (sym number) (k.stacks.begins z a s g registers may are)
 
-  module _ (g : ℕ) (own : StackMarking) (seat_is : own.seat ≡ a) (of : own.scan.goroutine ≡ g) where
-    -- the scan, in this heap
-    abbrev m : StackMarking
-    m = record own { layout = z.arena.layout }
-
-    shaded_then : (t : Shared) (sh : shade.Shading) (n : ℕ) → Good z t → Keeps z a s t → ShadesWish z a s m.scan sh.reference → (out : Option Shaded) → shade.gives sh n ≡ out → shade_facts.Facts z a t nothing (shade.goes sh n) → ScanFacts z a t g (after_shade m (shade.goes sh n) out)
+  module _ (g : ℕ) (m : StackMarking) (seat_is : m.seat ≡ a) (of : m.scan.goroutine ≡ g) where
+    shaded_then : (t : Shared) (sh : shade.Shading) (n : ℕ) → Good z t → Keeps z a s t → ShadesWish z a s m.scan sh.reference → (out : Option Shaded) → shade.gives sh n ≡ out → shade_facts.Facts z a t nothing (shade.goes sh n) → ScanFacts z a t g (after_shade z.arena.layout m (shade.goes sh n) out)
     shaded_then t sh n well kept w None e f = record {
-      layout_is = refl;
       seat_is = seat_is;
       of = of;
       stage_is = (record { scans = k.stacks.lasts z a s t m.scan kept w.scans; wish = w.wish ∙ ap (λ (r : ℕ). Some r) (sym (k.shade.same sh n)) }, f);
@@ -87,16 +80,14 @@ module _ (k : Known) (z : Cycle) (a : ℕ) (s : Shared) (good : Good z s) (objec
         let wish : stack.wish_of m.scan.stage ≡ Some (shade.goes sh n).reference = w.wish ∙ ap (λ (r : ℕ). Some r) (sym (k.shade.same sh n)) in
         let told : stack_facts.Facts z a t (stack.told_shaded m.scan) = k.stacks.told z a t m.scan (shade.goes sh n).reference (k.stacks.lasts z a s t m.scan kept w.scans) wish ended.marked in
         record {
-          layout_is = refl;
           seat_is = seat_is;
           of = of;
-          stage_is = wishes t (stack.told_shaded m.scan) m.layout (shade.goes sh n).held well kept told refl ended.hands (stack.wish_of (stack.told_shaded m.scan).stage) (told_going m.scan (waits_then m.scan.stage (shade.goes sh n).reference wish)) refl;
+          stage_is = wishes t (stack.told_shaded m.scan) (shade.goes sh n).held well kept told ended.hands (stack.wish_of (stack.told_shaded m.scan).stage) (told_going m.scan (waits_then m.scan.stage (shade.goes sh n).reference wish)) refl;
         }
     shaded_then t sh n well kept w (Some shaded.WantsRoom) e f =
         let waits : shade_facts.WaitsForRoom a t nothing (shade.goes sh n) = k.shade.wants z a t nothing sh n e f in
         let found : buffer_facts.RoomFacts z a t (pending (shade.goes sh n).reference) (room.opening a (shade.goes sh n).held) = (k.buffers.begin z a t (pending (shade.goes sh n).reference) (shade.goes sh n).held waits.hands).finds in
         record {
-          layout_is = refl;
           seat_is = seat_is;
           of = of;
           stage_is = (
@@ -107,7 +98,7 @@ module _ (k : Known) (z : Cycle) (a : ℕ) (s : Shared) (good : Good z s) (objec
         }
 
     abbrev Leads : MarkStackStage → Type 0
-    Leads p = Steps z a s (asks_at m p) (λ t. Comes z a s t g (goes_at m p (s.words (cell_of (asks_at m p)))) (given (goes_at m p (s.words (cell_of (asks_at m p)))).stage))
+    Leads p = Steps z a s (asks_at m p) (λ t. Comes z a s t g (goes_at z.arena.layout m p (s.words (cell_of (asks_at m p)))) (given (goes_at z.arena.layout m p (s.words (cell_of (asks_at m p)))).stage))
 
     goes_so : (t : Shared) (n : StackMarking) → given n.stage ≡ None → Keeps z a s t × ScanFacts z a t g n → Comes z a s t g n (given n.stage)
     goes_so t n on h = subst (λ (o : Option (Unit {0})). Comes z a s t g n o) (sym on) h
@@ -115,8 +106,8 @@ module _ (k : Known) (z : Cycle) (a : ℕ) (s : Shared) (good : Good z s) (objec
     shades : (sh : shade.Shading) → ShadesWish z a s m.scan sh.reference → shade_facts.Facts z a s nothing sh → Leads (Shading sh)
     shades sh w f =
         let n : ℕ = s.words (cell_of (shade.asks sh)) in
-        landing z a s (effect s.words (shade.asks sh)) (λ t. Keeps z a s t × shade_facts.Facts z a t nothing (shade.goes sh n)) (λ t. let to = after_shade m (shade.goes sh n) (shade.gives sh n) in Comes z a s t g to (given to.stage))
-        (λ t went h. goes_so t _ (shaded_on m (shade.goes sh n) (shade.gives sh n)) (h.0, shaded_then t sh n (k.steps z a s t good went).good h.0 w (shade.gives sh n) refl h.1))
+        landing z a s (effect s.words (shade.asks sh)) (λ t. Keeps z a s t × shade_facts.Facts z a t nothing (shade.goes sh n)) (λ t. let to = after_shade z.arena.layout m (shade.goes sh n) (shade.gives sh n) in Comes z a s t g to (given to.stage))
+        (λ t went h. goes_so t _ (shaded_on z.arena.layout m (shade.goes sh n) (shade.gives sh n)) (h.0, shaded_then t sh n (k.steps z a s t good went).good h.0 w (shade.gives sh n) refl h.1))
         (k.shade.keeps.own_step z a s nothing sh good objects f)
 
     -- the search for room
@@ -138,9 +129,8 @@ module _ (k : Known) (z : Cycle) (a : ℕ) (s : Shared) (good : Good z s) (objec
     scans_at : (p : MarkStackStage) → ScanStageFacts z a s m.held m.scan p → Leads p
     scans_at p x = grind (arith, finds, shades, stores)
 
-  pub scans_on : (g : ℕ) (m : StackMarking) → ScanFacts z a s g m → Steps z a s (asks m) (λ t. Comes z a s t g (goes m (s.words (cell_of (asks m)))) (gives m (s.words (cell_of (asks m)))))
-  scans_on g m f = subst (λ (n : StackMarking). Steps z a s (asks n) (λ t. Comes z a s t g (goes n (s.words (cell_of (asks n)))) (gives n (s.words (cell_of (asks n)))))) (ap (λ (l : Layout). record m { layout = l }) (sym f.layout_is))
-      (scans_at g m f.seat_is f.of m.stage f.stage_is)
+  pub scans_on : (g : ℕ) (m : StackMarking) → ScanFacts z a s g m → Steps z a s (asks m) (λ t. Comes z a s t g (goes z.arena.layout m (s.words (cell_of (asks m)))) (gives z.arena.layout m (s.words (cell_of (asks m)))))
+  scans_on g m f = scans_at g m f.seat_is f.of m.stage f.stage_is
 
 wish_lasts : (k : Known) (z : Cycle) (a : ℕ) (s t : Shared) (m : stack.StackScan) (reference : ℕ) → Others z a s t → ShadesWish z a s m reference → ShadesWish z a t m reference
 wish_lasts k z a s t m reference o w = record { scans = k.stacks.lasts z a s t m o.keeps w.scans; wish = w.wish }

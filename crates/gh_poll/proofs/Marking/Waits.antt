@@ -17,7 +17,6 @@ use Rattle.gh_poll.proofs.Marking.Known.{by_load, by_quiet, Known}
 
 pub rest_lasts : (k : Known) (z : Cycle) (a : ℕ) (s t : Shared) (p : poll.Polling) → Others z a s t → RestFacts z a s p → RestFacts z a t p
 rest_lasts k z a s t p o r = record {
-  layout_is = r.layout_is;
   seat_is = r.seat_is;
   between = record { stacks = stacks_last z a s t p.local.stacks p.local.scanned o.keeps r.between.stacks; number = r.between.number; hands = k.last z a s t (holding_only p.local.held) o r.between.hands };
 }
@@ -25,11 +24,11 @@ rest_lasts k z a s t p o r = record {
 module _ (k : Known) (h : PollsByMoves) (z : Cycle) (a : ℕ) where
   module _ (s : Shared) (good : Good z s) (objects : KnowsObjects z s) (now : KnowsCycle z s) (w : Waiting) where
     abbrev Leads : WaitStage → Type 0
-    Leads q = Steps z a s (asks_at w q) (λ t. WaitFacts z a t (goes_at w q (s.words (cell_of (asks_at w q)))))
+    Leads q = Steps z a s (asks_at w q) (λ t. WaitFacts z a t (goes_at z.arena.layout w q (s.words (cell_of (asks_at w q)))))
 
     asks_for_it : RestFacts z a s w.poll → Leads Want
     asks_for_it r = by_quiet k z a s good (Or cell.Want 1) (holding_only w.poll.local.held) (λ t. WaitFacts z a t (polling w)) tt r.between.hands
-        (λ t kept x. h.begins z a t w.poll true (record { layout_is = r.layout_is; seat_is = r.seat_is; between = record { stacks = stacks_last z a s t w.poll.local.stacks w.poll.local.scanned kept r.between.stacks; number = r.between.number; hands = x } }))
+        (λ t kept x. h.begins z a t w.poll true (record { seat_is = r.seat_is; between = record { stacks = stacks_last z a s t w.poll.local.stacks w.poll.local.scanned kept r.between.stacks; number = r.between.number; hands = x } }))
 
     polled_then : (t : Shared) (p : poll.Polling) (out : Option (Unit {0})) → poll.given p.stage ≡ out → PollFacts z a t p → WaitFacts z a t (after_poll w p out)
     polled_then t p out e f = grind arith
@@ -37,8 +36,8 @@ module _ (k : Known) (h : PollsByMoves) (z : Cycle) (a : ℕ) where
     polls : PollFacts z a s w.poll → Leads Polling
     polls f =
         let n : ℕ = s.words (cell_of (poll.asks w.poll)) in
-        landing z a s (effect s.words (poll.asks w.poll)) (λ t. PollFacts z a t (poll.goes w.poll n)) (λ t. WaitFacts z a t (after_poll w (poll.goes w.poll n) (poll.gives w.poll n)))
-        (λ t went f. polled_then t (poll.goes w.poll n) (poll.gives w.poll n) refl f)
+        landing z a s (effect s.words (poll.asks w.poll)) (λ t. PollFacts z a t (poll.goes z.arena.layout w.poll n)) (λ t. WaitFacts z a t (after_poll w (poll.goes z.arena.layout w.poll n) (poll.gives z.arena.layout w.poll n)))
+        (λ t went f. polled_then t (poll.goes z.arena.layout w.poll n) (poll.gives z.arena.layout w.poll n) refl f)
         (h.own_step z a s w.poll good objects now f)
 
     loads_swept : RestFacts z a s w.poll → Leads LoadSwept
@@ -93,7 +92,7 @@ leave_stops q z a i number s w stage e x = grind arith
 
 pub leaves_by_moves : Known → WhatPollsRunIsQuiet → LeavesByMoves
 leaves_by_moves k q = record {
-  begins = λ z a seat generation s l cache held e x. given_facts k z a s (give.opening l seat generation cache held) (gives_begin k z a s l seat generation cache held e x);
+  begins = λ z a seat generation s cache held x. given_facts k z a s (give.opening seat generation cache held) (gives_begin k z a s seat generation cache held x);
   own_step = λ z a s w good objects f. leaves_at k z a s good objects w w.stage f;
   lasts = λ z a s t w o f. leave_lasts k z a s t w.stage o f;
   stops = λ z a i number s w e f. leave_stops q z a i number s w w.stage e f;

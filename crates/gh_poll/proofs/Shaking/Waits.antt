@@ -1,5 +1,6 @@
 -- Each step of a wait, and of a leave, is one of the handshake of a stop: by its stages.
 use Rattle.std.proofs.Common.{◌≡◌, ℕ, Bool, true, false, cond, refl, ltb, Option, arith}
+use Rattle.gh_base.specs.declared.layout.Layout.{Layout}
 use Rattle.gh_phase.specs.Handshake.{StageGoes}
 use Rattle.gh_poll.specs.declared.wait.WaitStage.{WaitStage}
 use Rattle.gh_poll.specs.declared.wait.WaitStage.TheVariants.{Want, Polling, LoadSwept, Ended}
@@ -19,26 +20,26 @@ polls_on w has = (has, record { busy = refl; sound = (has, tt) })
 either : (found : ℕ) (w : Waiting) → HasPlaces w.poll.local.cache → (later : Bool) → Goes found w LoadSwept (cond later (at_stage w Ended) (polling w))
 either found w has later = grind arith
 
-module _ (h : PollsInHandshake) where
-  polled : (found : ℕ) (w : Waiting) → PollsOn w.poll → (out : Option (Unit {0})) → poll.gives w.poll found ≡ out → Goes found w Polling (after_poll w (poll.goes w.poll found) out)
-  polled found w s out e = grind arith
+module _ (h : PollsInHandshake) (l : Layout) where
+  polled : (found : ℕ) (w : Waiting) → PollsOn w.poll → (out : Option (Unit {0})) → poll.gives l w.poll found ≡ out → Goes found w Polling (after_poll w (poll.goes l w.poll found) out)
+  polled found w s out e = let keeps = h.keeps l in grind arith
 
-  goes_at_stage : (found : ℕ) (w : Waiting) (stage : WaitStage) → HasPlaces w.poll.local.cache → WaitsSoundAt w stage → is_busy stage ≡ true → Goes found w stage (goes_at w stage found)
+  goes_at_stage : (found : ℕ) (w : Waiting) (stage : WaitStage) → HasPlaces w.poll.local.cache → WaitsSoundAt w stage → is_busy stage ≡ true → Goes found w stage (goes_at l w stage found)
   goes_at_stage found w Want has s busy = record { sound = polls_on w has; goes = (refl, tt, tt) }
-  goes_at_stage found w Polling has s busy = polled found w s (poll.gives w.poll found) refl
+  goes_at_stage found w Polling has s busy = polled found w s (poll.gives l w.poll found) refl
   goes_at_stage found w LoadSwept has s busy = either found w has (ltb w.wait.known found)
   goes_at_stage found w Ended has s busy = absurd cc
 
-  ends_at : (w : Waiting) (stage : WaitStage) → is_busy stage ≡ false → IsPlace (waiter_at w stage) (waits_at w stage) w.poll.seat w.poll.local
-  ends_at w stage e = grind arith
+ends_at : (w : Waiting) (stage : WaitStage) → is_busy stage ≡ false → IsPlace (waiter_at w stage) (waits_at w stage) w.poll.seat w.poll.local
+ends_at w stage e = grind arith
 
-  pub waits_in_handshake : WaitsInHandshake
-  waits_in_handshake = record {
-    sound = λ p has. (has, tt);
-    begins = λ p. (refl, refl);
-    keeps = record { stays_sound = λ w found s busy. (goes_at_stage found w w.wait.stage s.0 s.1 busy).sound; goes = λ w found s busy. (goes_at_stage found w w.wait.stage s.0 s.1 busy).goes };
-    ends = λ w e. ends_at w w.wait.stage e;
-  }
+pub waits_in_handshake : PollsInHandshake → WaitsInHandshake
+waits_in_handshake h = record {
+  sound = λ p has. (has, tt);
+  begins = λ p. (refl, refl);
+  keeps = λ l. record { stays_sound = λ w found s busy. (goes_at_stage h l found w w.wait.stage s.0 s.1 busy).sound; goes = λ w found s busy. (goes_at_stage h l found w w.wait.stage s.0 s.1 busy).goes };
+  ends = λ w e. ends_at w w.wait.stage e;
+}
 
 module _ (q : WhatPollsRunIsQuiet) where
   pub leaves_in_handshake : LeavesInHandshake

@@ -58,7 +58,7 @@ module _ (p : Program) (l : Layout) where
 
   -- what the entry is to the operations of one processor
   abbrev pub acts_here : List (Entry Op) → Entry Op → List Answered
-  acts_here es e = option_to_list (answered p.shapes l (ever_of p.shapes l es) (acts (before_step p.shapes l es e) e.found))
+  acts_here es e = option_to_list (answered p.shapes l (ever_of p.shapes l es) (acts l (before_step p.shapes l es e) e.found))
 
   order_own : (a : ℕ) (es : List (Entry Op)) (e : Entry Op) → eqb e.actor a ≡ true → order_at p.shapes l a (e ∷ es) ≡ acts_here es e ++ order_at p.shapes l a es
   order_own a es e here = ap (λ (b : Bool). cond b (acts_here es e) [] ++ order_at p.shapes l a es) here
@@ -73,16 +73,16 @@ module _ (p : Program) (l : Layout) where
   begun_aside a es e apart = ap (λ (b : Bool). begun_in (cond b (e ∷ by a es) (by a es))) apart
 
   -- points alone change the heap that never frees
-  pub ever_is : OnlyPointsChange → (es : List (Entry Op)) → model_after (processor_kind p.shapes l) (deeds p.shapes) (meaning p.shapes) es ≡ ever_of p.shapes l es
+  pub ever_is : OnlyPointsChange → (es : List (Entry Op)) → model_after (processor_kind p.shapes l) (deeds l p.shapes) (meaning p.shapes) es ≡ ever_of p.shapes l es
   ever_is points [] = refl
-  ever_is points (e ∷ es) = (points p.shapes l).follows es e ∙ ap (λ (v : Ever). acted p.shapes v (acts (before_step p.shapes l es e) e.found)) (ever_is points es)
+  ever_is points (e ∷ es) = (points p.shapes l).follows es e ∙ ap (λ (v : Ever). acted p.shapes v (acts l (before_step p.shapes l es e) e.found)) (ever_is points es)
 
   -- an act that found no room is one of the points, where there was none
-  pub full_there : (es : List (Entry Op)) (e : Entry Op) → FullOnlyThere (arena_of p.shapes l) opening (e ∷ es) → (x : Act) → acts (before_step p.shapes l es e) e.found ≡ Some x → x.full ≡ true →
+  pub full_there : (es : List (Entry Op)) (e : Entry Op) → FullOnlyThere (arena_of p.shapes l) opening (e ∷ es) → (x : Act) → acts l (before_step p.shapes l es e) e.found ≡ Some x → x.full ≡ true →
       IsFullFor (arena_of p.shapes l) e.actor (words_after opening es) x.op
   full_there es e full x is f =
       let m = before_step p.shapes l es e in
-      let point : has_point x.op ≡ true = full_pointed m m.task e.found x is f in
+      let point : has_point x.op ≡ true = full_pointed l m m.task e.found x is f in
       full.1 x (ap point_of is ∙ ap (λ (b : Bool). cond b (Some x) None) point) f
 
   act_answers : (e : Ever) (a : Act) (seat : ℕ) (words : Words) → (a.full ≡ true → IsFullFor (arena_of p.shapes l) seat words a.op) → Answers p.shapes e a.op (answer_at p.shapes e a)
@@ -93,13 +93,13 @@ module _ (p : Program) (l : Layout) where
     pub every : AllAnswer p.shapes opening_ever (reverse (ops_in es)) (reverse (answers_in es))
     pub ever : ever_after_all p.shapes opening_ever (reverse (ops_in es)) (reverse (answers_in es)) ≡ ever_of p.shapes l es
 
-  acted_more : (es : List (Entry Op)) (e : Entry Op) (a : Option Act) → acts (before_step p.shapes l es e) e.found ≡ a → Acted es →
+  acted_more : (es : List (Entry Op)) (e : Entry Op) (a : Option Act) → acts l (before_step p.shapes l es e) e.found ≡ a → Acted es →
       ((x : Act) → a ≡ Some x → x.full ≡ true → IsFullFor (arena_of p.shapes l) e.actor (words_after opening es) x.op) → Acted (e ∷ es)
   acted_more es e a is h full = grind (arith, act_answers, all_more, ever_more, reverse_more)
 
   pub acted_all : (es : List (Entry Op)) → FullOnlyThere (arena_of p.shapes l) opening es → Acted es
   acted_all [] full = record { every = tt; ever = refl }
-  acted_all (e ∷ es) full = acted_more es e (acts (before_step p.shapes l es e) e.found) refl (acted_all es full.0) (λ x is f. full_there es e full x is f)
+  acted_all (e ∷ es) full = acted_more es e (acts l (before_step p.shapes l es e) e.found) refl (acted_all es full.0) (λ x is f. full_there es e full x is f)
 
   -- ---- what a processor has begun has acted, but for what is to act
 
@@ -128,7 +128,7 @@ module _ (p : Program) (l : Layout) where
       mine x before =
           let m = before_step p.shapes l es e in
           begun_with a lt es e legal x before
-          ∙ acts_once (op_at m.task) (op_at (takes p.shapes m e.found).task) (ever_of p.shapes l es) (acts m e.found) (order_at p.shapes l a es) (each.steps p.shapes m e.found x.busy)
+          ∙ acts_once (op_at m.task) (op_at (takes l p.shapes m e.found).task) (ever_of p.shapes l es) (acts l m e.found) (order_at p.shapes l a es) (each.steps l p.shapes m e.found x.busy)
           ∙ ap (λ (y : Processor). option_to_list (op_at y.task) ++ map (λ (z : Answered). z.op) (acts_here es e ++ order_at p.shapes l a es)) (sym x.after)
           ∙ ap (λ (xs : List Answered). option_to_list (op_at (own a (e ∷ es)).task) ++ map (λ (z : Answered). z.op) xs) (sym (order_own a es e x.here))
 
@@ -139,10 +139,10 @@ module _ (p : Program) (l : Layout) where
           ∙ ap (λ (xs : List Answered). option_to_list (op_at (own a (e ∷ es)).task) ++ map (λ (z : Answered). z.op) xs) (sym (order_aside a es e x.apart))
 
     -- what acts is what was begun last
-    pub acts_last : (a : ℕ) (lt : a < l.procs) (es : List (Entry Op)) (e : Entry Op) (legal : Legal (setting_of p l) (e ∷ es)) → IsItsOwn p l es e legal a lt → (act : Act) → acts (before_step p.shapes l es e) e.found ≡ Some act → begun_in (by a (e ∷ es)) ≡ act.op ∷ ops_by a es
+    pub acts_last : (a : ℕ) (lt : a < l.procs) (es : List (Entry Op)) (e : Entry Op) (legal : Legal (setting_of p l) (e ∷ es)) → IsItsOwn p l es e legal a lt → (act : Act) → acts l (before_step p.shapes l es e) e.found ≡ Some act → begun_in (by a (e ∷ es)) ≡ act.op ∷ ops_by a es
     acts_last a lt es e legal x act is =
         let m = before_step p.shapes l es e in
-        let once = subst (λ (q : Option Act). ActsOnce (op_at m.task) (op_at (takes p.shapes m e.found).task) q) is (each.steps p.shapes m e.found x.busy) in
+        let once = subst (λ (q : Option Act). ActsOnce (op_at m.task) (op_at (takes l p.shapes m e.found).task) q) is (each.steps l p.shapes m e.found x.busy) in
         begun_with a lt es e legal x (ops_are a lt es legal.0) ∙ ap (λ (o : Option Op). option_to_list o ++ ops_by a es) once.0
 
   -- nothing acts at the seat of a worker or of the coordinator
@@ -165,7 +165,7 @@ module _ (p : Program) (l : Layout) where
   as_answered y = record { op = y.deed.op; answer = y.answer }
 
   abbrev deeds_by : (a : ℕ) → List (Entry Op) → List (AnsweredDeed Act Answer)
-  deeds_by a es = answered_by (processor_kind p.shapes l) (deeds p.shapes) (meaning p.shapes) a es
+  deeds_by a es = answered_by (processor_kind p.shapes l) (deeds l p.shapes) (meaning p.shapes) a es
 
   abbrev pub points_by : (a : ℕ) → List (Entry Op) → List Answered
   points_by a es = map as_answered (deeds_by a es)
@@ -174,7 +174,7 @@ module _ (p : Program) (l : Layout) where
   one_point v w x xs e = grind arith
 
   abbrev deed_here : List (Entry Op) → Entry Op → List (AnsweredDeed Act Answer)
-  deed_here es e = option_to_list (answered_deed (meaning p.shapes) (model_after (processor_kind p.shapes l) (deeds p.shapes) (meaning p.shapes) es) (done_at (processor_kind p.shapes l) (deeds p.shapes) es e))
+  deed_here es e = option_to_list (answered_deed (meaning p.shapes) (model_after (processor_kind p.shapes l) (deeds l p.shapes) (meaning p.shapes) es) (done_at (processor_kind p.shapes l) (deeds l p.shapes) es e))
 
   pub points_are : OnlyPointsChange → (a : ℕ) (es : List (Entry Op)) → points_by a es ≡ filter is_point_of (order_at p.shapes l a es)
   points_are points a [] = refl
@@ -183,5 +183,5 @@ module _ (p : Program) (l : Layout) where
     go true ih =
         map-append as_answered (deed_here es e) (deeds_by a es)
         ∙ ap (λ (xs : List Answered). map as_answered (deed_here es e) ++ xs) ih
-        ∙ one_point (ever_of p.shapes l es) (model_after (processor_kind p.shapes l) (deeds p.shapes) (meaning p.shapes) es) (acts (before_step p.shapes l es e) e.found) (order_at p.shapes l a es) (ever_is points es)
+        ∙ one_point (ever_of p.shapes l es) (model_after (processor_kind p.shapes l) (deeds l p.shapes) (meaning p.shapes) es) (acts l (before_step p.shapes l es e) e.found) (order_at p.shapes l a es) (ever_is points es)
     go false ih = ih

@@ -53,7 +53,7 @@ module _ (p : Program) (l : Layout) (procs : l.procs ≡ p.settings.procs) where
   -- What acts, by processors.
   module _ (each : EachOperationActsOnce) (a g : ℕ) (seat : is_of_seat p a g ≡ true) where
     -- no other processor acts for the goroutine
-    none_else : (es : List (Entry Op)) (e : Entry Op) → Legal (setting_of p l) (e ∷ es) → eqb e.actor a ≡ false → (x : Act) → acts (before_step p.shapes l es e) e.found ≡ Some x → is_statement_of g x.op ≡ false
+    none_else : (es : List (Entry Op)) (e : Entry Op) → Legal (setting_of p l) (e ∷ es) → eqb e.actor a ≡ false → (x : Act) → acts l (before_step p.shapes l es e) e.found ≡ Some x → is_statement_of g x.op ≡ false
     none_else es e legal apart x is = go (is_statement_of g x.op) refl where
       its : e.actor < l.procs → is_of arena e.actor (goroutine_of x.op) ≡ true
       its lt = (subst (AreOf e.actor) (acts_last p l each e.actor lt es e legal (its_own p l es e legal e.actor lt refl) x is) (all_its e.actor (e ∷ es) legal)).0
@@ -70,8 +70,8 @@ module _ (p : Program) (l : Layout) (procs : l.procs ≡ p.settings.procs) where
       ])
 
     none_here : (es : List (Entry Op)) (e : Entry Op) → Legal (setting_of p l) (e ∷ es) → eqb e.actor a ≡ false → acted_by g (acts_here p l es e) ≡ []
-    none_here es e legal apart = go (acts (before_step p.shapes l es e) e.found) refl where
-      go : (x : Option Act) → acts (before_step p.shapes l es e) e.found ≡ x → acted_by g (option_to_list (answered p.shapes l (ever_of p.shapes l es) x)) ≡ []
+    none_here es e legal apart = go (acts l (before_step p.shapes l es e) e.found) refl where
+      go : (x : Option Act) → acts l (before_step p.shapes l es e) e.found ≡ x → acted_by g (option_to_list (answered p.shapes l (ever_of p.shapes l es) x)) ≡ []
       go None is = refl
       go (Some x) is = ap (λ (b : Bool). cond b (option_to_list (answered p.shapes l (ever_of p.shapes l es) (Some x))) []) (none_else es e legal apart x is)
 

@@ -36,17 +36,17 @@ leaving_pointed : (t : Task) → is_leaving t ≡ true → is_busy_at t ≡ true
 leaving_pointed t e b = grind arith
 
 -- a step that does not end the operation leaves it of its kind
-module _ (shapes : List Shape) (m : Processor) where
-  served : (t : Task) (found : ℕ) → is_busy_at t ≡ true → is_serving t ≡ true → is_busy_at (takes_at shapes m t found).task ≡ true → is_pointed (takes_at shapes m t found).task ≡ is_pointed t
+module _ (l : Layout) (shapes : List Shape) (m : Processor) where
+  served : (t : Task) (found : ℕ) → is_busy_at t ≡ true → is_serving t ≡ true → is_busy_at (takes_at l shapes m t found).task ≡ true → is_pointed (takes_at l shapes m t found).task ≡ is_pointed t
   served t found busy is next =
-      let s = step_facts shapes m t found busy in
-      let still : is_serving (takes_at shapes m t found).task ≡ true = s.serves ∙ ap (λ (b : Bool). b && is_serving t) next ∙ is in
-      serving_pointed (takes_at shapes m t found).task still ∙ sym (serving_pointed t is)
+      let s = step_facts l shapes m t found busy in
+      let still : is_serving (takes_at l shapes m t found).task ≡ true = s.serves ∙ ap (λ (b : Bool). b && is_serving t) next ∙ is in
+      serving_pointed (takes_at l shapes m t found).task still ∙ sym (serving_pointed t is)
 
   polled : (p : Polling) (out : Option (Unit {0})) → is_busy_at (after_poll m p out).task ≡ true → is_pointed (after_poll m p out).task ≡ false
   polled p out b = grind arith
 
-  pub stays_pointed : (t : Task) (found : ℕ) → is_busy_at t ≡ true → is_busy_at (takes_at shapes m t found).task ≡ true → is_pointed (takes_at shapes m t found).task ≡ is_pointed t
+  pub stays_pointed : (t : Task) (found : ℕ) → is_busy_at t ≡ true → is_busy_at (takes_at l shapes m t found).task ≡ true → is_pointed (takes_at l shapes m t found).task ≡ is_pointed t
   stays_pointed t found busy next = grind (arith, leaving_pointed, polled, served)
 
 -- an operation that begins is of its own kind
@@ -60,18 +60,18 @@ statement_pointed o e = grind arith
 new_pointed : (b full : Bool) (g d t : ℕ) (x : Act) → acting b (op.New g d t) full ≡ Some x → has_point x.op ≡ true
 new_pointed b full g d t x e = grind arith
 
-pub full_pointed : (m : Processor) (t : Task) (found : ℕ) (x : Act) → acts_at m t found ≡ Some x → x.full ≡ true → has_point x.op ≡ true
-full_pointed m task.Idle found x e f = absurd cc
-full_pointed m task.Left found x e f = absurd cc
-full_pointed m (task.Load y) found x e f = absurd (not_full (load.step m.poll.layout y found).acts (load.op_of y) x e f)
-full_pointed m (task.Store y) found x e f = absurd (not_full (store.step m.poll.layout m.poll.local (register_of m y.g y.v) y found).acts (store.op_of y) x e f)
-full_pointed m (task.Global y) found x e f = absurd (not_full (global.step m.poll.layout (register_of m y.g y.r) y found).acts (global.op_of y) x e f)
-full_pointed m (task.Register y) found x e f = absurd (not_full (register.step (register_of m y.g (register.read_of y)) y).acts (register.op_of y) x e f)
-full_pointed m (task.New y) found x e f = new_pointed (new.acts_at m.poll.layout y.stage found) (new.is_full_at y.stage) y.wanted.g y.wanted.d y.wanted.t x e
-full_pointed m (task.Gc g y) found x e f = absurd (not_full (is_some (wait.gives (wait.waiting y m.poll) found)) (op.Gc g) x e f)
-full_pointed m task.Poll found x e f = absurd (not_full (is_some (poll.gives m.poll found)) op.Poll x e f)
-full_pointed m (task.End g) found x e f = absurd (not_full true (op.End g) x e f)
-full_pointed m (task.Leave y) found x e f = absurd (not_full (is_some (leave.gives y found)) op.Leave x e f)
+pub full_pointed : (l : Layout) (m : Processor) (t : Task) (found : ℕ) (x : Act) → acts_at l m t found ≡ Some x → x.full ≡ true → has_point x.op ≡ true
+full_pointed l m task.Idle found x e f = absurd cc
+full_pointed l m task.Left found x e f = absurd cc
+full_pointed l m (task.Load y) found x e f = absurd (not_full (load.step l y found).acts (load.op_of y) x e f)
+full_pointed l m (task.Store y) found x e f = absurd (not_full (store.step l m.poll.local (register_of m y.g y.v) y found).acts (store.op_of y) x e f)
+full_pointed l m (task.Global y) found x e f = absurd (not_full (global.step l (register_of m y.g y.r) y found).acts (global.op_of y) x e f)
+full_pointed l m (task.Register y) found x e f = absurd (not_full (register.step (register_of m y.g (register.read_of y)) y).acts (register.op_of y) x e f)
+full_pointed l m (task.New y) found x e f = new_pointed (new.acts_at l y.stage found) (new.is_full_at y.stage) y.wanted.g y.wanted.d y.wanted.t x e
+full_pointed l m (task.Gc g y) found x e f = absurd (not_full (is_some (wait.gives l (wait.waiting y m.poll) found)) (op.Gc g) x e f)
+full_pointed l m task.Poll found x e f = absurd (not_full (is_some (poll.gives l m.poll found)) op.Poll x e f)
+full_pointed l m (task.End g) found x e f = absurd (not_full true (op.End g) x e f)
+full_pointed l m (task.Leave y) found x e f = absurd (not_full (is_some (leave.gives y found)) op.Leave x e f)
 
 -- ---- who steps
 

@@ -149,7 +149,7 @@ module _ (p : Program) (l : Layout) (procs : l.procs ≡ p.settings.procs) (each
       sym (acted_ops p g (order_of p.shapes l es)) ∙ ap (λ (xs : List Answered). ops_of xs) (order_its p l procs each a g its es legal) ∙ acted_ops p g (order_at p.shapes l a es)
 
   module _ (es : List (Entry Op)) (e : Entry Op) (legal : Legal (setting_of p l) (e ∷ es)) where
-    point_is : (x : Act) → acts (before_step p.shapes l es e) e.found ≡ Some x → is_statement x.op ≡ true → now_in (e ∷ es) ≡ number_behind (ops_in p l es) x.op
+    point_is : (x : Act) → acts l (before_step p.shapes l es e) e.found ≡ Some x → is_statement x.op ≡ true → now_in (e ∷ es) ≡ number_behind (ops_in p l es) x.op
     point_is x is statement = elim (cases_lt e.actor l.procs) [
       | inl lt ↦
           let g = its_goroutine x.op in
@@ -161,7 +161,7 @@ module _ (p : Program) (l : Layout) (procs : l.procs ≡ p.settings.procs) (each
       | inr le ↦ absurd (let no : None ≡ Some x = sym (no_processors p l es e legal le).acts_not ∙ is in cc)
     ]
 
-    more_points : (x : Option Act) → acts (before_step p.shapes l es e) e.found ≡ x → points_in p.shapes l es ≡ numbered (order_of p.shapes l es) →
+    more_points : (x : Option Act) → acts l (before_step p.shapes l es e) e.found ≡ x → points_in p.shapes l es ≡ numbered (order_of p.shapes l es) →
         points_in p.shapes l es ++ next_point (is_point x) (now_in (e ∷ es)) ≡ numbered (option_to_list (answered p.shapes l (ever_of p.shapes l es) x) ++ order_of p.shapes l es)
     more_points None is ih = append-nil (points_in p.shapes l es) ∙ ih
     more_points (Some x) is ih = ap (λ (ps : List (ℕ × ℕ)). ps ++ next_point (is_statement x.op) (now_in (e ∷ es))) ih ∙ ap (λ (ps : List (ℕ × ℕ)). numbered (order_of p.shapes l es) ++ ps) (go (is_statement x.op) refl) where
@@ -171,7 +171,7 @@ module _ (p : Program) (l : Layout) (procs : l.procs ≡ p.settings.procs) (each
 
   all_numbered : (es : List (Entry Op)) → Legal (setting_of p l) es → points_in p.shapes l es ≡ numbered (order_of p.shapes l es)
   all_numbered [] legal = refl
-  all_numbered (e ∷ es) legal = more_points es e legal (acts (before_step p.shapes l es e) e.found) refl (all_numbered es legal.0)
+  all_numbered (e ∷ es) legal = more_points es e legal (acts l (before_step p.shapes l es e) e.found) refl (all_numbered es legal.0)
 
   -- what has acted of a goroutine is the first of its statements
   module _ (es : List (Entry Op)) (r : IsRunSoFar p l es) where

@@ -1,5 +1,6 @@
 use Rattle.std.proofs.Common.{ℕ, length, ap, sym, subst, refl, arith, ◌∷◌, []}
 use Rattle.std.proofs.lemmas.List.{length-append}
+use Rattle.gh_mutator.specs.Sound.{SoundMutating}
 use Rattle.gh_world.specs.declared.runner.Runner.{Runner}
 use Rattle.gh_world.specs.World.{IsOpening}
 use Rattle.gh_world.proofs.Runners.{each_more}
@@ -11,11 +12,12 @@ loop-seat-preserved c =
     let long = ap length c.push_reserved.ensures.items in
     let both = length-append c.loop-seat.runners.items (c.opening.result ∷ []) in
     let same = c.push_reserved.ensures.capacity in
-    let here : IsOpening c.args.script.now c.args.layout.now (length c.loop-seat.runners.items) c.opening.result = subst (λ (i : ℕ). IsOpening c.args.script.now c.args.layout.now i c.opening.result) (sym c.loop-seat.invariant.so_far) c.opening.ensures in
+    let here : IsOpening c.args.script.now (length c.loop-seat.runners.items) c.opening.result = subst (λ (i : ℕ). IsOpening c.args.script.now i c.opening.result) (sym c.loop-seat.invariant.so_far) c.opening.ensures.opens in
     record {
       many = refl;
       within = omega (arith, c.loop-seat-test.true);
       room = omega (arith, same, c.loop-seat.invariant.room);
       so_far = omega (arith, long, both, c.loop-seat.invariant.so_far);
-      each = rw items (each_more (λ (a : ℕ) (x : Runner). IsOpening c.args.script.now c.args.layout.now a x) c.loop-seat.runners.items c.opening.result c.loop-seat.invariant.each here);
+      each = rw items (each_more (λ (a : ℕ) (x : Runner). IsOpening c.args.script.now a x) c.loop-seat.runners.items c.opening.result c.loop-seat.invariant.each here);
+      sound = rw items (each_more (λ (a : ℕ) (x : Runner). SoundMutating c.args.layout.now x.mutator.shapes x.mutator.processor) c.loop-seat.runners.items c.opening.result c.loop-seat.invariant.sound (c.opening.ensures.sound c.args.layout.now (omega (arith, c.loop-seat-test.true, c.loop-seat.invariant.many))));
     }

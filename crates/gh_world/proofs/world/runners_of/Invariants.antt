@@ -1,6 +1,7 @@
 use Rattle.std.proofs.Common.{◌≡◌, ◌≤◌, ℕ, length, Some}
 use Rattle.std.specs.Prelude.{slice_get}
 use Rattle.std.specs.Vec.{vec_capacity}
+use Rattle.gh_mutator.specs.Sound.{SoundMutating}
 use Rattle.gh_world.specs.declared.runner.Runner.{Runner}
 use Rattle.gh_world.specs.World.{IsOpening}
 use Rattle.gh_world.proofs.world.runners_of.Given as goal
@@ -11,5 +12,6 @@ invariant-loop-seat l = record {
   within : l.seat ≤ l.seat-end;
   room : l.seat-end ≤ vec_capacity l.runners;
   so_far : length l.runners.items ≡ l.seat;
-  each : (a : ℕ) (x : Runner) → slice_get l.runners.items a ≡ Some x → IsOpening l.script l.layout a x;
+  each : (a : ℕ) (x : Runner) → slice_get l.runners.items a ≡ Some x → IsOpening l.script a x;
+  sound : (a : ℕ) (x : Runner) → slice_get l.runners.items a ≡ Some x → SoundMutating l.layout x.mutator.shapes x.mutator.processor;
 }

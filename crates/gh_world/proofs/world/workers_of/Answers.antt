@@ -6,7 +6,7 @@ use Rattle.gh_world.proofs.world.workers_of.Goals as goal
 
 pub push_reserved-requires : goal.push_reserved-requires
 push_reserved-requires c =
-    let long = ap length c.loop-i.invariant.so_far ∙ length-map-range_with_len (opening c.args.layout.now) c.args.layout.now.procs c.loop-i.i in
+    let long = ap length c.loop-i.invariant.so_far ∙ length-map-range_with_len opening c.args.layout.now.procs c.loop-i.i in
     omega (arith, long, c.loop-i.workers.ok.0, c.loop-i-test.true, c.loop-i.invariant.room)
 
 pub loop-i-preserved : goal.loop-i-preserved
@@ -15,5 +15,5 @@ loop-i-preserved c = record {
   many = refl;
   within = omega (arith, c.loop-i-test.true);
   room = let same = c.push_reserved.ensures.capacity in omega (arith, same, c.loop-i.invariant.room);
-  so_far = c.push_reserved.ensures.items ∙ ap (λ ws. ws ++ c.new.result ∷ []) c.loop-i.invariant.so_far ∙ ap (λ (w : Working). map (opening c.args.layout.now) (range_with_len c.args.layout.now.procs c.loop-i.i) ++ w ∷ []) c.new.ensures.opening ∙ sym (map-range_with_len_more (opening c.args.layout.now) c.args.layout.now.procs c.loop-i.i _ refl);
+  so_far = c.push_reserved.ensures.items ∙ ap (λ ws. ws ++ c.new.result ∷ []) c.loop-i.invariant.so_far ∙ ap (λ (w : Working). map opening (range_with_len c.args.layout.now.procs c.loop-i.i) ++ w ∷ []) c.new.ensures.opening ∙ sym (map-range_with_len_more opening c.args.layout.now.procs c.loop-i.i _ refl);
 }

@@ -10,5 +10,5 @@ invariant-loop-i l = record {
   many : l.many ≡ l.layout.workers;
   within : l.i ≤ l.many;
   room : l.many ≤ vec_capacity l.workers;
-  so_far : l.workers.items ≡ map (opening l.layout) (range_with_len l.layout.procs l.i);
+  so_far : l.workers.items ≡ map opening (range_with_len l.layout.procs l.i);
 }

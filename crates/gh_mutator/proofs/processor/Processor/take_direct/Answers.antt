@@ -2,13 +2,11 @@ use Rattle.std.proofs.Common.{ap, ◌∙◌}
 use Rattle.gh_mutator.specs.declared.global.Global.{Global}
 use Rattle.gh_mutator.specs.declared.step.Step.{Step}
 use Rattle.gh_mutator.specs.declared.task.Task.TheVariants as task
-use Rattle.gh_base.specs.declared.layout.Layout.{Layout}
-use Rattle.gh_mutator.specs.Global.{held_behind, step}
+use Rattle.gh_mutator.specs.Global.{held_behind}
 use Rattle.gh_mutator.specs.Listing.{applied}
-use Rattle.gh_mutator.specs.Processing.{Processor}
 use Rattle.gh_mutator.specs.Processor.{keeping, register_of}
 use Rattle.gh_mutator.specs.Step.{answered}
-use Rattle.gh_mutator.specs.Tasks.{global_of, stage_of}
+use Rattle.gh_mutator.specs.Tasks.{stage_of}
 use Rattle.gh_mutator.proofs.Tasks.{answered_global, direct_goes}
 use Rattle.gh_mutator.proofs.processor.Processor.take_direct.Goals as goal
 
@@ -16,10 +14,10 @@ pub returns-clause-goes : goal.returns-clause-goes
 returns-clause-goes c = λ shapes.
     let m = c.args.self.now in
     let x = c.args.x in
-    c.apply.ensures.goes ∙ direct_goes m x.g x.r c.args.found x.stage c.step-step.result ∙ ap (λ (s : Step Global). applied task.Global (keeping m (held_behind m.poll.layout m.poll.local.held (stage_of x.stage) c.args.found)) x.g x.r s) (c.step-step.ensures (register_of m x.g x.r) ∙ ap (λ (l : Layout). step l (register_of m x.g x.r) (global_of x) c.args.found) (c.layout.ensures ∙ ap (λ (p : Processor). p.poll.layout) c.self.view_is))
+    c.apply.ensures.goes ∙ direct_goes c.args.layout.now m x.g x.r c.args.found x.stage c.step-step.result ∙ ap (λ (s : Step Global). applied task.Global (keeping m (held_behind c.args.layout.now m.poll.local.held (stage_of x.stage) c.args.found)) x.g x.r s) (c.step-step.ensures (register_of m x.g x.r))
 
 pub returns-clause-gives : goal.returns-clause-gives
 returns-clause-gives c =
     let m = c.args.self.now in
     let x = c.args.x in
-    c.apply.ensures.gives ∙ answered_global c.step-step.result.then ∙ ap (λ (s : Step Global). answered s.then) (c.step-step.ensures (register_of m x.g x.r) ∙ ap (λ (l : Layout). step l (register_of m x.g x.r) (global_of x) c.args.found) (c.layout.ensures ∙ ap (λ (p : Processor). p.poll.layout) c.self.view_is))
+    c.apply.ensures.gives ∙ answered_global c.step-step.result.then ∙ ap (λ (s : Step Global). answered s.then) (c.step-step.ensures (register_of m x.g x.r))

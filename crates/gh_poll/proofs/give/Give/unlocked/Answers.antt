@@ -1,11 +1,11 @@
 use Rattle.gh_poll.proofs.give.Give.unlocked.Goals as goal
 
-pub invariant_of-self : goal.invariant_of-self
-invariant_of-self c = record {
-  seat = c.self.invariant.seat;
-  generation = c.self.invariant.generation;
-  room = c.no_spans-self-inside.ensures.room;
-  cache = c.no_spans-self-inside.ensures.fits c.self.inside.layout;
-  held = c.self.invariant.held;
-  stage = c.giving_buffer-self-inside.ensures.fits c.self.inside.layout c.self.invariant.held;
+pub returns-clause-fits : goal.returns-clause-fits
+returns-clause-fits c l s = record {
+  seat = s.seat;
+  generation = s.generation;
+  room = c.no_spans-self.ensures.room;
+  cache = c.no_spans-self.ensures.fits l;
+  held = s.held;
+  stage = c.giving_buffer-self.ensures.fits l s.held;
 }

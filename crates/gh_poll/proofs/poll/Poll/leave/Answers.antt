@@ -1,18 +1,19 @@
+use Rattle.std.proofs.Common.{sym, subst}
+use Rattle.gh_poll.specs.PollSound.{SoundPolling}
 use Rattle.gh_poll.proofs.poll.Poll.leave.Goals as goal
 
-pub invariant_of-self : goal.invariant_of-self
-invariant_of-self c = (
-  record {
-    seat = c.self.invariant.0.seat;
-    local = record {
-      view = c.self.invariant.0.local.view;
-      room = c.no_spans-self-inside.ensures.room;
-      cache = c.no_spans-self-inside.ensures.fits c.self.inside.layout;
-      held = tt;
-      scanned = c.self.invariant.0.local.scanned;
-      stacks = c.self.invariant.0.local.stacks;
-    };
-    stage = c.self.invariant.0.stage;
-  },
-  c.self.invariant.1,
-)
+pub returns-clause-sound : goal.returns-clause-sound
+returns-clause-sound c =
+    let s = subst (SoundPolling c.args.layout.now) (sym c.self.view_is) c.requires.sound in record {
+      seat = s.seat;
+      local = record {
+        view = s.local.view;
+        room = c.no_spans-self-inside.ensures.room;
+        cache = c.no_spans-self-inside.ensures.fits c.args.layout.now;
+        held = tt;
+        scanned = s.local.scanned;
+        stacks = s.local.stacks;
+        rows = s.local.rows;
+      };
+      stage = s.stage;
+    }

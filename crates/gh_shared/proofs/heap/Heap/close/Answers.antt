@@ -1,7 +1,7 @@
 use Rattle.std.proofs.Common.{ℕ, ◌+◌, ◌%◌, ◌^◌, ◌∙◌, ap, subst, sym}
 use Rattle.std.specs.Slots.{slots_items}
 use Rattle.gh_table.specs.Rule.{IsAfterOneList}
-use Rattle.gh_actor.specs.declared.machine.ActorMachine.{ActorMachine}
+use Rattle.gh_actor.specs.Acting.{Acting}
 use Rattle.gh_shared.specs.Handles.{plan_of}
 use Rattle.gh_actor.specs.Plans.{setting}
 use Rattle.gh_shared.specs.Calls.{IsClosedAfter}
@@ -12,14 +12,14 @@ use Rattle.gh_shared.proofs.heap.Heap.close.Goals as goal
 pub unreachable-requires : goal.unreachable-requires
 unreachable-requires c =
     let l = c.args.last in
-    let is = c.leader_of.ensures ∙ ap (λ (x : ActorMachine). leader_of x l.led) c.into_parts-machine.ensures.machine in
-    led_none c.a_state_is_of_its_own_entries.ensures (plan_of c.args.self) l.hand.seat.me.0 l.hand.actor l.hand.machine l.carried l.drawn l.led c.requires.of.plan l.carries c.requires.all (sym is ∙ c.in-None.is)
+    let is = c.leader_of.ensures ∙ ap (λ (x : Acting). leader_of x.actor l.led) c.into_parts-machine.ensures.machine in
+    led_none c.a_state_is_of_its_own_entries.ensures (plan_of c.args.self) l.hand.seat.me.0 l.hand.actor l.hand.machine.actor l.carried l.drawn l.led c.requires.of.plan l.carries c.requires.all (sym is ∙ c.in-None.is)
 
 pub returns-clause-after : goal.returns-clause-after
 returns-clause-after c =
     let l = c.args.last in
-    let is = c.leader_of.ensures ∙ ap (λ (x : ActorMachine). leader_of x l.led) c.into_parts-machine.ensures.machine in
-    let drawn = ap (λ (n : ℕ). (l.drawn + n) % 2 ^ 64) (c.drawn_by.ensures ∙ ap credit_drawn c.into_parts-machine.ensures.machine) in
+    let is = c.leader_of.ensures ∙ ap (λ (x : Acting). leader_of x.actor l.led) c.into_parts-machine.ensures.machine in
+    let drawn = ap (λ (n : ℕ). (l.drawn + n) % 2 ^ 64) (c.drawn_by.ensures ∙ ap (λ (x : Acting). credit_drawn x.actor) c.into_parts-machine.ensures.machine) in
     subst (λ (n : ℕ). IsClosedAfter (plan_of c.args.self) l.hand.seat.me.0 c.in-Some.coordinator n (slots_items c.close-words.result.words)) (sym drawn)
-    (closed_so c.a_state_is_of_its_own_entries.ensures (plan_of c.args.self) l.hand.seat.me.0 l.hand.actor l.hand.machine l.carried l.drawn l.led c.requires.of.plan l.carries c.requires.all c.in-Some.coordinator (slots_items c.close-words.result.words) (sym is ∙ c.in-Some.is) l.hand.state
+    (closed_so c.a_state_is_of_its_own_entries.ensures (plan_of c.args.self) l.hand.seat.me.0 l.hand.actor l.hand.machine.actor l.carried l.drawn l.led c.requires.of.plan l.carries c.requires.all c.in-Some.coordinator (slots_items c.close-words.result.words) (sym is ∙ c.in-Some.is) l.hand.state
     (subst (λ m. IsAfterOneList setting (plan_of c.args.self) m.0 (slots_items c.close-words.result.words)) c.into_parts-machine.ensures.seat.1 c.close-words.ensures.after))

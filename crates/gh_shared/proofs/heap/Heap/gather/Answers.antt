@@ -3,7 +3,7 @@ use Rattle.gh_base.specs.Cells.{seats_of}
 use Rattle.gh_base.specs.Lists.{state_of}
 use Rattle.gh_actor.specs.Machines.{machine_actor}
 use Rattle.gh_actor.specs.Plans.{Planned, setting}
-use Rattle.gh_actor.specs.declared.machine.ActorMachine.{ActorMachine}
+use Rattle.gh_actor.specs.Acting.{Acting}
 use Rattle.gh_shared.specs.Shown.{CarriesSo, credit_drawn, first_of, leader_of}
 use Rattle.gh_shared.proofs.Carrying.{carried_both, count_few}
 use Rattle.gh_shared.proofs.Drawing.{Joined}
@@ -30,13 +30,13 @@ invariant_of-h c =
     let j = c.join-machine.ensures in
     let new = c.join-machine.new.self in
     let plan = c.requires.other.plan ∙ sym c.requires.of.plan in
-    let theirs = subst (λ (q : Planned). CarriesSo q o.hand.seat.me.0.actors o.hand.seat.me.0.log o.hand.actor o.hand.machine o.carried o.drawn o.led) plan o.carries in
-    let theirs_is = c.leader_of.ensures ∙ ap (λ (x : ActorMachine). leader_of x o.led) j.machine in
-    let its : c.drawn_by.result ≡ credit_drawn o.hand.machine = c.drawn_by.ensures ∙ ap credit_drawn j.machine in
-    let state : machine_actor o.hand.machine ≡ state_of (setting h.hand.seat.me.0.plan).kind o.hand.actor o.hand.seat.me.0.log = subst (λ (q : Planned). machine_actor o.hand.machine ≡ state_of (setting q).kind o.hand.actor o.hand.seat.me.0.log) plan o.hand.state in
+    let theirs = subst (λ (q : Planned). CarriesSo q o.hand.seat.me.0.actors o.hand.seat.me.0.log o.hand.actor o.hand.machine.actor o.carried o.drawn o.led) plan o.carries in
+    let theirs_is = c.leader_of.ensures ∙ ap (λ (x : Acting). leader_of x.actor o.led) j.machine in
+    let its : c.drawn_by.result ≡ credit_drawn o.hand.machine.actor = c.drawn_by.ensures ∙ ap (λ (x : Acting). credit_drawn x.actor) j.machine in
+    let state : machine_actor o.hand.machine.actor ≡ state_of (setting h.hand.seat.me.0.plan).kind o.hand.actor o.hand.seat.me.0.log = subst (λ (q : Planned). machine_actor o.hand.machine.actor ≡ state_of (setting q).kind o.hand.actor o.hand.seat.me.0.log) plan o.hand.state in
     let joined : Joined h.hand.seat.me.0 o.hand.seat.me.0 new.seat.me.0 = record { both = j.carries; apart = j.apart; own = j.own; theirs = j.other } in
-    let led : c.first_of.result ≡ first_of h.led (leader_of o.hand.machine o.led) = c.first_of.ensures ∙ (λ i. first_of (c.take.ensures.value i) (theirs_is i)) in
+    let led : c.first_of.result ≡ first_of h.led (leader_of o.hand.machine.actor o.led) = c.first_of.ensures ∙ (λ i. first_of (c.take.ensures.value i) (theirs_is i)) in
     record {
       kept = rw (j.same.0, j.same.1, j.same.3, j.own h.hand.actor h.hand.carries) h.kept;
-      carries = rw (j.same.0, j.same.1, j.same.3, led, its) (carried_both c.a_state_is_of_its_own_entries.ensures h.hand.seat.me.0.plan h.hand.seat.me.0 o.hand.seat.me.0 new.seat.me.0 h.hand.actor o.hand.actor h.hand.machine o.hand.machine h.carried o.carried h.drawn o.drawn h.led o.led joined h.hand.carries o.hand.carries state h.carries theirs);
+      carries = rw (j.same.0, j.same.1, j.same.3, led, its) (carried_both c.a_state_is_of_its_own_entries.ensures h.hand.seat.me.0.plan h.hand.seat.me.0 o.hand.seat.me.0 new.seat.me.0 h.hand.actor o.hand.actor h.hand.machine.actor o.hand.machine.actor h.carried o.carried h.drawn o.drawn h.led o.led joined h.hand.carries o.hand.carries state h.carries theirs);
     }

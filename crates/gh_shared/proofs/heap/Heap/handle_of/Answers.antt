@@ -2,6 +2,7 @@ use Rattle.std.proofs.Common.{◌≡◌, ◌∙◌, ℕ, ap, refl, subst, sym}
 use Rattle.gh_table.specs.Rule.{actor_in}
 use Rattle.gh_table.specs.Views.{one_carried}
 use Rattle.gh_script.specs.Program.{Program}
+use Rattle.gh_actor.specs.Acting.{Acting}
 use Rattle.gh_actor.specs.Counting.{CountsFirst}
 use Rattle.gh_actor.specs.Machines.{machine_actor}
 use Rattle.gh_actor.specs.Plans.{setting}
@@ -11,19 +12,19 @@ use Rattle.gh_shared.proofs.heap.Heap.handle_of.Goals as goal
 
 pub new-hand-requires : goal.new-hand-requires
 new-hand-requires c =
-    let f = opens_so c.args.plan.now c.args.actor c.in_ok-machine.machine c.args.place.me.0 (ap (λ m. m.0) c.requires.seat) c.in_ok-machine.ensures in
-    record { carries = f.carries; belongs = f.belongs; state = f.state; slotless = ap (λ m. m.1) c.requires.seat }
+    let f = opens_so c.args.plan.now c.args.actor c.in_ok-machine.machine.actor c.args.place.me.0 (ap (λ m. m.0) c.requires.seat) (ap (λ (x : Acting). x.actor) c.in_ok-machine.ensures) in
+    record { carries = f.carries; belongs = (ap (λ (x : Acting). x.layout) c.in_ok-machine.ensures ∙ sym (ap (λ m. m.0.plan.layout) c.requires.seat), f.shapes); state = f.state; slotless = ap (λ m. m.1) c.requires.seat }
 
 pub invariant_of-result : goal.invariant_of-result
 invariant_of-result c =
     let counts = c.in_ok-counts.counts in
     let is = c.new-hand.ensures in
     record {
-      kept = rw (is.0) (kept_so c.args.plan.now c.args.actor c.new-hand.result.machine c.new-hand.result.seat.me.0 counts.procs counts.left.items counts.over.items counts.gone (ap (λ m. m.0) is.3 ∙ ap (λ m. m.0) c.requires.seat) (is.1 ∙ c.in_ok-machine.ensures) (subst (λ (p : Program). CountsFirst p counts.procs counts.left.items counts.over.items counts.gone) c.requires.script c.in_ok-counts.ensures) c.requires.lays);
+      kept = rw (is.0) (kept_so c.args.plan.now c.args.actor c.new-hand.result.machine.actor c.new-hand.result.seat.me.0 counts.procs counts.left.items counts.over.items counts.gone (ap (λ m. m.0) is.3 ∙ ap (λ m. m.0) c.requires.seat) (ap (λ (x : Acting). x.actor) (is.1 ∙ c.in_ok-machine.ensures)) (subst (λ (p : Program). CountsFirst p counts.procs counts.left.items counts.over.items counts.gone) c.requires.script c.in_ok-counts.ensures) c.requires.lays);
       carries =
           let me = c.new-hand.result.seat.me.0 in
           let view : me ≡ one_carried c.args.plan.now c.args.actor = ap (λ m. m.0) is.3 ∙ ap (λ m. m.0) c.requires.seat in
-          rw (is.0) (carries_so c.args.plan.now c.args.actor c.new-hand.result.machine me c.requires.actor view (is.1 ∙ c.in_ok-machine.ensures) (subst (λ (a : ℕ). machine_actor c.new-hand.result.machine ≡ actor_in setting me a) is.0 c.new-hand.result.state));
+          rw (is.0) (carries_so c.args.plan.now c.args.actor c.new-hand.result.machine.actor me c.requires.actor view (ap (λ (x : Acting). x.actor) (is.1 ∙ c.in_ok-machine.ensures)) (subst (λ (a : ℕ). machine_actor c.new-hand.result.machine.actor ≡ actor_in setting me a) is.0 c.new-hand.result.state));
     }
 
 pub returns : goal.returns
@@ -35,6 +36,6 @@ returns c =
         plan = ap (λ m. m.0.plan) is.3 ∙ ap (λ m. m.0.plan) c.requires.seat ∙ sym c.requires.key;
       };
       number = is.0;
-      machine = is.1 ∙ c.in_ok-machine.ensures ∙ rw (c.requires.key) refl;
+      machine = ap (λ (x : Acting). x.actor) (is.1 ∙ c.in_ok-machine.ensures) ∙ rw (c.requires.key) refl;
       view = ap (λ m. m.0) is.3 ∙ ap (λ m. m.0) c.requires.seat ∙ rw (c.requires.key) refl;
     }

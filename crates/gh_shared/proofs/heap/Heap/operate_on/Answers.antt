@@ -1,9 +1,12 @@
-use Rattle.std.proofs.Common.{◌≡◌, ◌∙◌, ℕ, Option, Some, refl, subst}
+use Rattle.std.proofs.Common.{◌≡◌, ◌∙◌, ℕ, Option, Some, refl, subst, sym}
 use Rattle.gh_base.specs.declared.value.Answer.{Answer}
 use Rattle.gh_table.specs.Rule.{actor_in}
 use Rattle.gh_table.specs.Runs.{Gave}
-use Rattle.gh_shared.specs.Handles.{machine_of}
-use Rattle.gh_actor.specs.Machines.{begins, gives, goes, machine_actor}
+use Rattle.gh_base.specs.declared.layout.Layout.{Layout}
+use Rattle.gh_shared.specs.Handles.{layout_of, machine_of}
+use Rattle.gh_actor.specs.Acting as acting
+use Rattle.gh_actor.specs.ActingRuns.{gave_so, ran_by}
+use Rattle.gh_actor.specs.Machines.{begins, gives, goes, machine_actor, MachineMayBegin}
 use Rattle.gh_actor.specs.Plans.{setting}
 use Rattle.gh_shared.proofs.Carrying.{begins_kind, went_on}
 use Rattle.gh_shared.proofs.Ready.{has_answer, kept_after, ready, shows_then}
@@ -14,21 +17,21 @@ operate_on-out-requires-clause-may g c =
     let h = c.args.h.now in
     let v = h.hand.seat.me.0 in
     let may = c.requires in
-    (ready v.plan h.hand.actor h.hand.machine v.log h.counts.procs h.counts.left.items h.counts.over.items h.counts.gone c.args.op c.a_state_is_of_its_own_entries.ensures h.kept h.hand.belongs h.hand.state may.going.processor may.going.going may.runs may.fits).may
+    subst (λ (l : Layout). MachineMayBegin l h.hand.machine.actor c.args.op) (sym h.hand.belongs.0) (ready v.plan h.hand.actor h.hand.machine.actor v.log h.counts.procs h.counts.left.items h.counts.over.items h.counts.gone c.args.op c.a_state_is_of_its_own_entries.ensures h.kept h.hand.belongs.1 h.hand.state may.going.processor may.going.going may.runs may.fits).may
 
 pub operate_on-out-requires-clause-allowed : goal.operate_on-out-requires-clause-allowed
 operate_on-out-requires-clause-allowed g c =
     let h = c.args.h.now in
     let v = h.hand.seat.me.0 in
     let may = c.requires in
-    (ready v.plan h.hand.actor h.hand.machine v.log h.counts.procs h.counts.left.items h.counts.over.items h.counts.gone c.args.op c.a_state_is_of_its_own_entries.ensures h.kept h.hand.belongs h.hand.state may.going.processor may.going.going may.runs may.fits).allowed
+    (ready v.plan h.hand.actor h.hand.machine.actor v.log h.counts.procs h.counts.left.items h.counts.over.items h.counts.gone c.args.op c.a_state_is_of_its_own_entries.ensures h.kept h.hand.belongs.1 h.hand.state may.going.processor may.going.going may.runs may.fits).allowed
 
 pub note-requires : goal.note-requires
 note-requires g c =
     let h = c.args.h.now in
     let v = h.hand.seat.me.0 in
     let may = c.requires in
-    (ready v.plan h.hand.actor h.hand.machine v.log h.counts.procs h.counts.left.items h.counts.over.items h.counts.gone c.args.op c.a_state_is_of_its_own_entries.ensures h.kept h.hand.belongs h.hand.state may.going.processor may.going.going may.runs may.fits).counts
+    (ready v.plan h.hand.actor h.hand.machine.actor v.log h.counts.procs h.counts.left.items h.counts.over.items h.counts.gone c.args.op c.a_state_is_of_its_own_entries.ensures h.kept h.hand.belongs.1 h.hand.state may.going.processor may.going.going may.runs may.fits).counts
 
 pub invariant_of-h : goal.invariant_of-h
 invariant_of-h g c =
@@ -38,28 +41,32 @@ invariant_of-h g c =
     let new = c.operate_on-out.new.self in
     let did = c.operate_on-out.ensures in
     let counts = c.note.ensures in
-    let r = ready v.plan h.hand.actor h.hand.machine v.log h.counts.procs h.counts.left.items h.counts.over.items h.counts.gone c.args.op c.a_state_is_of_its_own_entries.ensures h.kept h.hand.belongs h.hand.state may.going.processor may.going.going may.runs may.fits in
+    let ran = ran_by v.plan.layout (acting.begins h.hand.machine c.args.op) h.hand.belongs.0 h.hand.actor (Some c.args.op) h.hand.seat.me new.machine new.seat.me did.ran.0 did.ran.1 in
+    let gave = gave_so v.plan.layout (acting.begins h.hand.machine c.args.op) h.hand.belongs.0 did.ran.0 c.operate_on-out.result did.ran.2 in
+    let r = ready v.plan h.hand.actor h.hand.machine.actor v.log h.counts.procs h.counts.left.items h.counts.over.items h.counts.gone c.args.op c.a_state_is_of_its_own_entries.ensures h.kept h.hand.belongs.1 h.hand.state may.going.processor may.going.going may.runs may.fits in
     record {
-      kept = rw (did.same.0, did.ran.1.plan, counts.left, counts.over, counts.gone, counts.procs) (kept_after v.plan h.hand.actor h.hand.machine c.args.op h.hand.seat.me new.seat.me new.machine did.ran.0 c.operate_on-out.result h.counts.procs h.counts.left.items h.counts.over.items h.counts.gone h.kept may.going.processor may.going.going r.counts did.ran.1 did.ran.2 did.idle);
-      carries = rw (did.same.0, did.ran.1.plan, did.ran.1.actors) (went_on c.a_state_is_of_its_own_entries.ensures v.plan h.hand.actor h.hand.machine new.machine (Some c.args.op) (begins h.hand.machine c.args.op) h.hand.seat.me new.seat.me did.ran.0 h.carried h.drawn h.led refl (begins_kind h.hand.machine c.args.op) did.ran.1 (subst (λ (a : ℕ). machine_actor new.machine ≡ actor_in setting new.seat.me.0 a) did.same.0 new.state) h.carries);
+      kept = rw (did.same.0, did.ran.1.plan, counts.left, counts.over, counts.gone, counts.procs) (kept_after v.plan h.hand.actor h.hand.machine.actor c.args.op h.hand.seat.me new.seat.me new.machine.actor did.ran.0 c.operate_on-out.result h.counts.procs h.counts.left.items h.counts.over.items h.counts.gone h.kept may.going.processor may.going.going r.counts ran gave did.idle);
+      carries = rw (did.same.0, did.ran.1.plan, did.ran.1.actors) (went_on c.a_state_is_of_its_own_entries.ensures v.plan h.hand.actor h.hand.machine.actor new.machine.actor (Some c.args.op) (begins h.hand.machine.actor c.args.op) h.hand.seat.me new.seat.me did.ran.0 h.carried h.drawn h.led refl (begins_kind h.hand.machine.actor c.args.op) ran (subst (λ (a : ℕ). machine_actor new.machine.actor ≡ actor_in setting new.seat.me.0 a) did.same.0 new.state) h.carries);
     }
 
 pub unreachable-requires : goal.unreachable-requires
-unreachable-requires g c = has_answer c.args.h.now.hand.machine c.args.op c.operate_on-out.ensures.ran.0 c.operate_on-out.result c.requires.going.processor c.operate_on-out.ensures.ran.2 c.in-None.is
+unreachable-requires g c = has_answer c.args.h.now.hand.machine.layout c.args.h.now.hand.machine.actor c.args.op c.operate_on-out.ensures.ran.0 c.operate_on-out.result c.requires.going.processor (gave_so c.args.h.now.hand.machine.layout (acting.begins c.args.h.now.hand.machine c.args.op) refl c.operate_on-out.ensures.ran.0 c.operate_on-out.result c.operate_on-out.ensures.ran.2) c.in-None.is
 
 pub returns : goal.returns
 returns g c =
     let h = c.args.h.now in
     let may = c.requires in
     let did = c.operate_on-out.ensures in
-    let gave = subst (λ (out : Option Answer). Gave goes gives (begins (machine_of h) c.args.op) did.ran.0 out) c.in-Some.is did.ran.2 in (
+    let new = c.operate_on-out.new.self in
+    let ran = ran_by (layout_of h) (acting.begins h.hand.machine c.args.op) h.hand.belongs.0 h.hand.actor (Some c.args.op) h.hand.seat.me new.machine new.seat.me did.ran.0 did.ran.1 in
+    let gave = subst (λ (out : Option Answer). Gave (goes (layout_of h)) (gives (layout_of h)) (begins (machine_of h) c.args.op) did.ran.0 out) c.in-Some.is (gave_so (layout_of h) (acting.begins h.hand.machine c.args.op) h.hand.belongs.0 did.ran.0 c.operate_on-out.result did.ran.2) in (
       did.ran.0,
       record {
         of = record { table = did.same.1 ∙ may.going.of.table; plan = did.ran.1.plan ∙ may.going.of.plan };
         number = did.same.0;
-        ran = did.ran.1;
+        ran = ran;
         gave = gave;
         saw = did.saw;
-        shows = shows_then c.args.op h _ did.ran.0 (Some c.in-Some.answer) may.going.processor may.going.going did.same.0 did.ran.1 gave;
+        shows = shows_then c.args.op h _ did.ran.0 (Some c.in-Some.answer) may.going.processor may.going.going did.same.0 ran gave;
       },
     )

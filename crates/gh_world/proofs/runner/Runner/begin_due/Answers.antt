@@ -1,5 +1,5 @@
 use Rattle.std.proofs.Common.{◌≡◌, Some, sym, subst, ◌∙◌}
-use Rattle.gh_mutator.specs.Mutating.{begins, layout}
+use Rattle.gh_mutator.specs.Mutating.{begins}
 use Rattle.gh_world.specs.World.{SoundTurns}
 use Rattle.gh_world.proofs.Fitting.{due_room, due_sound, due_named, fit_begun}
 use Rattle.gh_world.proofs.Vocabulary.{Progress, op_due}
@@ -18,8 +18,8 @@ pub returns-in-Some-clause-fits : goal.returns-in-Some-clause-fits
 returns-in-Some-clause-fits c =
     let due : op_due c.args.script.now c.args.self.now.progress.next ≡ Some c.in-Some.op = sym c.due.ensures.due ∙ c.in-Some.is in
     let p = c.args.script.now in
-    let l = layout c.args.self.now.mutator in
+    let l = c.args.layout.now in
     let old = c.args.self.now in
     let new = c.advance.new.self in
     let fits = fit_begun p l c.is_well_formed.ensures c.requires.layout c.args.seat old.mutator old.progress c.requires.fits c.polls_make_room.ensures c.in-Some.op new.next due c.advance.ensures.polled c.advance.ensures.follows in
-    rw c.begin.ensures (subst (λ (t : Progress). SoundTurns p l c.args.seat (begins old.mutator c.in-Some.op) t) (sym c.advance.ensures.counted) fits)
+    rw c.begin.ensures.begins (subst (λ (t : Progress). SoundTurns p c.args.seat (begins old.mutator c.in-Some.op) t) (sym c.advance.ensures.counted) fits)

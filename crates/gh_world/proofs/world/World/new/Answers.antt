@@ -2,6 +2,7 @@ use Rattle.std.proofs.Common.{◌≡◌, ◌+◌, ◌≤◌, ℕ, length, vec_le
 use Rattle.std.specs.Vec.{vec_capacity}
 use Rattle.gh_base.specs.Cells.{IsLayoutOf, opening_words, ShowsCells}
 use Rattle.gh_coord.specs.Listing as coord
+use Rattle.gh_coord.specs.Sound.{SoundCoordinating}
 use Rattle.gh_coord.specs.Stopping.{acks_of}
 use Rattle.gh_script.specs.declared.statement.Settings.{Settings}
 use Rattle.gh_world.specs.Turns.{total_of}
@@ -23,12 +24,12 @@ invariant_of-result c =
     let reserved : total_of p ≤ vec_capacity c.in_ok-points.points = omega (arith, c.in_ok-points.ensures.capacity, c.total_of.ensures) in
     let empty : vec_len c.in_ok-points.points ≡ 0 = c.in_ok-points.ensures.len in
     let leads : c.in_ok-coord.coord ≡ coord.opening l (p.settings.procs + p.settings.workers) p.settings.gogc p.settings.minheap (most_cycles p) =
-    c.in_ok-coord.ensures ∙ ap (λ (s : Settings). coord.opening l (s.procs + s.workers) s.gogc s.minheap c.most_cycles-cycles.result) c.settings-settings.ensures
+    c.in_ok-coord.ensures.opens ∙ ap (λ (s : Settings). coord.opening l (s.procs + s.workers) s.gogc s.minheap c.most_cycles-cycles.result) c.settings-settings.ensures
     ∙ ap (λ (k : ℕ). coord.opening l (p.settings.procs + p.settings.workers) p.settings.gogc p.settings.minheap k) c.most_cycles-cycles.ensures.is in
     rw (c.in_ok-workers.ensures, leads, empty) (record {
       base = record { script = c.is_well_formed.ensures; layout = laid; long = c.in_ok-words.ensures.long };
       running = runners_open p l c.in_ok-runners.runners.items (vec_capacity c.in_ok-points.points) reserved c.in_ok-runners.ensures;
-      others = others_open p l (p.settings.procs + p.settings.workers);
+      others = others_open c.workers_are_routines.ensures p l (p.settings.procs + p.settings.workers) (subst (SoundCoordinating l) leads c.in_ok-coord.ensures.sound);
     })
 
 pub returns-clause-opens : goal.returns-clause-opens
@@ -41,7 +42,7 @@ returns-clause-opens c =
     subst (λ (s : Settings). IsLayoutOf s.arena s.globals s.procs s.workers (length p.goroutines) l) c.settings-settings.ensures counted in
     let seat : p.settings.procs + p.settings.workers ≡ acks_of l = omega (arith, laid.procs_are, laid.workers_are) in
     let leads : c.in_ok-coord.coord ≡ coord.opening l (acks_of l) p.settings.gogc p.settings.minheap (most_cycles p) =
-    c.in_ok-coord.ensures ∙ ap (λ (s : Settings). coord.opening l (s.procs + s.workers) s.gogc s.minheap c.most_cycles-cycles.result) c.settings-settings.ensures
+    c.in_ok-coord.ensures.opens ∙ ap (λ (s : Settings). coord.opening l (s.procs + s.workers) s.gogc s.minheap c.most_cycles-cycles.result) c.settings-settings.ensures
     ∙ ap (λ (k : ℕ). coord.opening l (p.settings.procs + p.settings.workers) p.settings.gogc p.settings.minheap k) c.most_cycles-cycles.ensures.is
     ∙ ap (λ (k : ℕ). coord.opening l k p.settings.gogc p.settings.minheap (most_cycles p)) seat in
     let shows : ShowsCells l c.in_ok-words.words (setting_of p l).opening = subst (λ (n : ℕ). ShowsCells l c.in_ok-words.words (opening_words n)) c.opening_trigger-trigger.ensures c.in_ok-words.ensures in

@@ -20,10 +20,10 @@ there c =
 ran : (c : After-run-event) → Ran c.self.inside.script.now c.self.inside.layout c.args.seat c.self.inside.words c.run-event.new.words c.index_mut-runner.result.now c.run-event.new.self c.run-event.result.0 c.run-event.result.1
 ran c =
     let seat : c.from-2.result ≡ c.args.seat = omega (arith, c.from-2.ensures) in
-    subst (λ (a : ℕ). Ran c.self.inside.script.now c.self.inside.layout a c.self.inside.words c.run-event.new.words c.index_mut-runner.result.now c.run-event.new.self c.run-event.result.0 c.run-event.result.1) seat c.run-event.ensures
+    subst (λ (a : ℕ). Ran c.self.inside.script.now c.self.inside.layout a c.self.inside.words c.run-event.new.words c.index_mut-runner.result.now c.run-event.new.self c.run-event.result.0 c.run-event.result.1) seat c.run-event.ensures.ran
 
-pub run-event-requires-clause-laid : goal.run-event-requires-clause-laid
-run-event-requires-clause-laid c = (c.self.invariant.running.each c.args.seat c.index_mut-runner.result.now (there (goal.at.run-event-requires-clause-laid c).After-from-2)).laid
+pub run-event-requires-clause-sound : goal.run-event-requires-clause-sound
+run-event-requires-clause-sound c = c.self.invariant.running.sound c.args.seat c.index_mut-runner.result.now (there (goal.at.run-event-requires-clause-sound c).After-from-2)
 
 pub run-event-requires-clause-fits : goal.run-event-requires-clause-fits
 run-event-requires-clause-fits c =
@@ -37,7 +37,7 @@ run-event-requires-clause-going c =
     runner_going w c.args.seat c.index_mut-runner.result.now (there (goal.at.run-event-requires-clause-going c).After-from-2) going
 
 pub note-requires : goal.note-requires
-note-requires c = room_there c.polls_make_room.ensures _ _ _ c.self.invariant c.args.seat c.index_mut-runner.result.now c.run-event.new.self (there (goal.at.note-requires c).After-from-2) c.run-event.new.words c.run-event.result.0 c.run-event.result.1 (ran (goal.at.note-requires c).After-run-event)
+note-requires c = room_there c.polls_make_room.ensures _ _ _ c.self.invariant c.args.seat c.index_mut-runner.result.now c.run-event.new.self (there (goal.at.note-requires c).After-from-2) c.run-event.new.words c.run-event.result.0 c.run-event.result.1 (ran (goal.at.note-requires c).After-run-event) c.run-event.ensures.sound
 
 pub invariant_of-self : goal.invariant_of-self
 invariant_of-self c =
@@ -45,8 +45,8 @@ invariant_of-self c =
     let here = there (goal.at.invariant_of-self c).After-from-2 in
     let done = ran (goal.at.invariant_of-self c).After-run-event in
     rw (at, c.note.ensures.count, c.note.ensures.reserved) (record {
-      base = words_there c.polls_make_room.ensures _ _ _ c.self.invariant c.args.seat c.index_mut-runner.result.now c.run-event.new.self here c.run-event.new.words c.run-event.result.0 c.run-event.result.1 done;
-      running = ran_there c.polls_make_room.ensures _ _ _ c.self.invariant c.args.seat c.index_mut-runner.result.now c.run-event.new.self here c.run-event.new.words c.run-event.result.0 c.run-event.result.1 done;
+      base = words_there c.polls_make_room.ensures _ _ _ c.self.invariant c.args.seat c.index_mut-runner.result.now c.run-event.new.self here c.run-event.new.words c.run-event.result.0 c.run-event.result.1 done c.run-event.ensures.sound;
+      running = ran_there c.polls_make_room.ensures _ _ _ c.self.invariant c.args.seat c.index_mut-runner.result.now c.run-event.new.self here c.run-event.new.words c.run-event.result.0 c.run-event.result.1 done c.run-event.ensures.sound;
       others = c.self.invariant.others;
     })
 
@@ -56,11 +56,11 @@ returns-clause-steps c =
     let here = there (goal.at.returns-clause-steps c).After-from-2 in
     let done = ran (goal.at.returns-clause-steps c).After-run-event in
     rw at (subst (λ (w : State). IsStepOfProcessor w (record { script = c.self.inside.script.now; layout = c.self.inside.layout; words = c.run-event.new.words; runners = set c.self.inside.runners.items c.args.seat c.run-event.new.self; workers = c.self.inside.workers.items; coord = c.self.inside.coord; points = c.note.new.points.items }) c.args.seat c.run-event.result.0) c.self.view_is
-    (run_is c.polls_make_room.ensures _ _ _ c.self.invariant c.args.seat c.index_mut-runner.result.now c.run-event.new.self here c.run-event.new.words c.run-event.result.0 c.run-event.result.1 done c.note.new.points.items c.now-now.result c.now-now.ensures c.note.ensures.points))
+    (run_is c.polls_make_room.ensures _ _ _ c.self.invariant c.args.seat c.index_mut-runner.result.now c.run-event.new.self here c.run-event.new.words c.run-event.result.0 c.run-event.result.1 done c.run-event.ensures.sound c.note.new.points.items c.now-now.result c.now-now.ensures c.note.ensures.points))
 
 pub returns-clause-few : goal.returns-clause-few
 returns-clause-few c =
     let at : c.from.result ≡ c.args.seat = omega (arith, c.from.ensures) in
     let here = there (goal.at.returns-clause-few c).After-from-2 in
     let done = ran (goal.at.returns-clause-few c).After-run-event in
-    rw at (answered_all _ _ _ _ _ (ran_there c.polls_make_room.ensures _ _ _ c.self.invariant c.args.seat c.index_mut-runner.result.now c.run-event.new.self here c.run-event.new.words c.run-event.result.0 c.run-event.result.1 done))
+    rw at (answered_all _ _ _ _ _ (ran_there c.polls_make_room.ensures _ _ _ c.self.invariant c.args.seat c.index_mut-runner.result.now c.run-event.new.self here c.run-event.new.words c.run-event.result.0 c.run-event.result.1 done c.run-event.ensures.sound))

@@ -2,11 +2,9 @@ use Rattle.std.proofs.Common.{◌≡◌, ◌<◌, length, refl, ap, sym, subst, 
 use Rattle.std.specs.Prelude.{slice_get}
 use Rattle.std.proofs.Math.ListN.{set}
 use Rattle.std.proofs.lemmas.Option.{slice_get_read}
-use Rattle.gh_base.specs.Cells.{length_of}
-use Rattle.gh_base.specs.declared.layout.Layout.{Layout}
-use Rattle.gh_base.specs.Steps.{changed, request}
-use Rattle.gh_worker.specs.Listing.{asks, Working}
-use Rattle.gh_world.specs.World.{SoundOthers, IsStepOfWorker, State}
+use Rattle.gh_base.specs.Steps.{request}
+use Rattle.gh_worker.specs.Listing.{asks}
+use Rattle.gh_world.specs.World.{IsStepOfWorker, State}
 use Rattle.gh_world.proofs.Fitting.{fits_again, others_worked, work_is}
 use Rattle.gh_world.proofs.world.World.work.Goals as goal
 use Rattle.gh_world.proofs.world.World.work.Goals.{After-index_mut-worker}
@@ -20,25 +18,17 @@ there c =
 pub step_of_worker-out-requires-clause-busy : goal.step_of_worker-out-requires-clause-busy
 step_of_worker-out-requires-clause-busy c = c.requires.busy c.index_mut-worker.result.now (ap (λ (w : State). slice_get w.workers c.args.i) (sym c.self.view_is) ∙ there (goal.at.step_of_worker-out-requires-clause-busy c).After-index_mut-worker)
 
-pub step_of_worker-out-requires-clause-long : goal.step_of_worker-out-requires-clause-long
-step_of_worker-out-requires-clause-long c = c.self.invariant.base.long ∙ ap length_of (sym (c.self.invariant.others.laid c.args.i c.index_mut-worker.result.now (there (goal.at.step_of_worker-out-requires-clause-long c).After-index_mut-worker)))
+pub step_of_worker-out-requires-clause-sound : goal.step_of_worker-out-requires-clause-sound
+step_of_worker-out-requires-clause-sound c = c.self.invariant.others.works c.args.i c.index_mut-worker.result.now (there (goal.at.step_of_worker-out-requires-clause-sound c).After-index_mut-worker)
 
 pub invariant_of-self : goal.invariant_of-self
-invariant_of-self c =
-    let here = there (goal.at.invariant_of-self c).After-index_mut-worker in
-    let laid = c.self.invariant.others.laid c.args.i c.index_mut-worker.result.now here in
-    let words : c.step_of_worker-out.new.words ≡ changed (request c.self.inside.layout (asks c.index_mut-worker.result.now)) c.self.inside.words =
-    c.step_of_worker-out.ensures.words ∙ ap (λ (l : Layout). changed (request l (asks c.index_mut-worker.result.now)) c.self.inside.words) laid in
-    record {
-      base = fits_again _ _ _ _ (request c.self.inside.layout (asks c.index_mut-worker.result.now)) words c.self.invariant.base;
-      running = c.self.invariant.running;
-      others = subst (λ (x : Working). SoundOthers c.self.inside.script.now c.self.inside.layout (set c.self.inside.workers.items c.args.i x) c.self.inside.coord) (sym c.step_of_worker-out.ensures.machine)
-          (others_worked _ _ _ _ _ _ c.index_mut-worker.result.now here c.self.invariant.others);
-    }
+invariant_of-self c = record {
+  base = fits_again _ _ _ _ (request c.self.inside.layout (asks c.self.inside.layout c.index_mut-worker.result.now)) c.step_of_worker-out.ensures.words c.self.invariant.base;
+  running = c.self.invariant.running;
+  others = others_worked _ _ _ _ c.args.i c.index_mut-worker.result.now c.step_of_worker-out.new.machine (there (goal.at.invariant_of-self c).After-index_mut-worker) c.step_of_worker-out.ensures.sound c.self.invariant.others;
+}
 
 pub returns : goal.returns
 returns c =
-    let here = there (goal.at.returns c).After-index_mut-worker in
-    let laid = c.self.invariant.others.laid c.args.i c.index_mut-worker.result.now here in
     subst (λ (w : State). IsStepOfWorker w (record { script = c.self.inside.script.now; layout = c.self.inside.layout; words = c.step_of_worker-out.new.words; runners = c.self.inside.runners.items; workers = set c.self.inside.workers.items c.args.i c.step_of_worker-out.new.machine; coord = c.self.inside.coord; points = c.self.inside.points.items }) c.args.i c.done_or.result) c.self.view_is
-    (work_is _ c.args.i c.index_mut-worker.result.now c.step_of_worker-out.new.words c.step_of_worker-out.new.machine c.step_of_worker-out.result c.done_or.result here c.index_mut-worker.result.now.layout laid c.step_of_worker-out.ensures.within c.step_of_worker-out.ensures.words c.step_of_worker-out.ensures.machine c.step_of_worker-out.ensures.out c.done_or.ensures)
+    (work_is _ c.args.i c.index_mut-worker.result.now c.step_of_worker-out.new.words c.step_of_worker-out.new.machine c.step_of_worker-out.result c.done_or.result (there (goal.at.returns c).After-index_mut-worker) c.step_of_worker-out.ensures.within c.step_of_worker-out.ensures.words c.step_of_worker-out.ensures.machine c.step_of_worker-out.ensures.out c.done_or.ensures)
