@@ -185,7 +185,7 @@ module _ (w v : State) (actor : ℕ) (happened : Event) (es : List (Entry Op)) (
   seats_then = s.count ∙ known.seats ∙ ap seats_of (sym s.layout)
 
   pub knows_on : is_finished happened ≡ false → KnowsThoseGoing c kept v
-  knows_on is = record { actors = known.actors ∙ sym s.count; seats = seats_then; all = λ e. on_too is (known.all e); some = keep_by c.drawn known.some (λ h. h ∙ sym (going_same w v actor happened es s is)) }
+  knows_on is = record { actors = known.actors ∙ sym s.count; seats = seats_then; rounds = λ e. let r = known.rounds e in record { items = r.items; drawn = r.drawn; all = on_too is r.all }; some = keep_by c.drawn known.some (λ h. h ∙ sym (going_same w v actor happened es s is)) }
 
-  pub knows_less : (less : List ℕ) → less ≡ filter (λ b. not (eqb actor b)) kept → is_finished happened ≡ true → KnowsThoseGoing (record c { all_go_on = false }) less v
-  knows_less less items is = record { actors = known.actors ∙ sym s.count; seats = seats_then; all = λ e. absurd (cc e); some = keep_by c.drawn known.some (λ h. items ∙ ap (filter (λ b. not (eqb actor b))) h ∙ sym (going_less w v actor happened es s is)) }
+  pub knows_less : (less : List ℕ) → less ≡ filter (λ b. not (eqb actor b)) kept → is_finished happened ≡ true → KnowsThoseGoing (record c { in_rounds = false }) less v
+  knows_less less items is = record { actors = known.actors ∙ sym s.count; seats = seats_then; rounds = λ e. absurd (cc e); some = keep_by c.drawn known.some (λ h. items ∙ ap (filter (λ b. not (eqb actor b))) h ∙ sym (going_less w v actor happened es s is)) }

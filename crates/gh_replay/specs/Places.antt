@@ -1,5 +1,5 @@
 -- What the code knows of a world and of where a schedule stands.
-use Rattle.std.specs.Prelude.{◌≡◌, ℕ, ◌<◌, ◌≤◌, true, false, List, drop, length, IfSome}
+use Rattle.std.specs.Prelude.{◌≡◌, ℕ, ◌<◌, ◌≤◌, true, false, List, [], drop, length, IfSome, None}
 use Rattle.gh_base.specs.Cells.{seats_of}
 use Rattle.gh_base.specs.declared.operation.Op.{Op}
 use Rattle.gh_base.specs.declared.value.Answer.{Answer}
@@ -24,11 +24,17 @@ standing_at c = record { items = drop c.at c.list.items; next = c.next; drawn = 
 abbrev pub AllGoOn : State → Type 0
 AllGoOn w = (a : ℕ) → a < actors_of w → is_done w a ≡ false
 
--- It knows how many actors there are, and where it says that none has ended, that is so. Where a generator draws, those that have not are kept.
+-- the actors take turns, and all of them: no item is to come, nothing is drawn, and none has ended
+pub record InRounds (c : Place) (w : State) : Type 0 where
+  pub items : drop c.at c.list.items ≡ []
+  pub drawn : c.drawn ≡ None
+  pub all : AllGoOn w
+
+-- It knows how many actors there are, and where it says that all take turns, that is so. Where a generator draws, those that have not ended are kept.
 pub record KnowsThoseGoing (c : Place) (kept : List ℕ) (w : State) : Type 0 where
   pub actors : c.actors ≡ actors_of w
   pub seats : actors_of w ≡ seats_of (layout_of w)
-  pub all : c.all_go_on ≡ true → AllGoOn w
+  pub rounds : c.in_rounds ≡ true → InRounds c w
   pub some : IfSome c.drawn (λ x. kept ≡ going (seen_of w))
 
 -- the world has taken turns within the budget, all of it where it is not done, and has answered so

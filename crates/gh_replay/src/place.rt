@@ -39,9 +39,10 @@ pub struct Place {
     at: usize,
     next: u8,
     drawn: Option<SplitMix64>,
-    // The world's actors, and that none of them is done, as it is for most turns of most runs: then none is asked.
+    // The world's actors, and that no item is to come, none is drawn and none is done, as it is for most turns of most runs: then
+    // nothing is asked.
     actors: u8,
-    all_go_on: bool,
+    in_rounds: bool,
 }
 
 impl Place {
@@ -61,13 +62,14 @@ impl Place {
             }
             None => None,
         };
+        let in_rounds = list.len() == 0 && drawn.is_none() && all_go_on(world);
         Place {
             list,
             at: 0,
             next: 0,
             drawn,
             actors: world.actors(),
-            all_go_on: all_go_on(world),
+            in_rounds,
         }
     }
 
@@ -75,10 +77,10 @@ impl Place {
     #[cold]
     pub fn take_out(&mut self, kept: &mut Vec<u8>, actor: u8)
         ensures kept { kept.new.items ≡ filter (λ a. not (actor == a)) kept.old.items }
-        ensures place { self.new ≡ record self.old { all_go_on = false } }
+        ensures place { self.new ≡ record self.old { in_rounds = false } }
     {
         kept.retain(|a| actor != *a);
-        self.all_go_on = false;
+        self.in_rounds = false;
     }
 
     /// Who steps next, where anybody does; the place is then that behind this step. Where the generator draws, it
@@ -96,6 +98,11 @@ impl Place {
         ensures over { result ≡ None → AllDone world.now }
         ensures seats { actors_of world.now ≡ seats_of (layout_of world.now) }
     {
+        if self.in_rounds {
+            let actor = self.next;
+            self.next = behind(self.actors, actor);
+            return Some(actor);
+        }
         self.pass_items(world);
         self.take_next(world, kept)
     }
@@ -109,7 +116,7 @@ impl Place {
         ensures next { self.new.next < actors_of world.now }
         ensures drawn { self.new.drawn ≡ self.old.drawn }
         ensures actors { self.new.actors ≡ self.old.actors }
-        ensures all { self.new.all_go_on ≡ self.old.all_go_on }
+        ensures rounds { self.new.in_rounds ≡ self.old.in_rounds }
     {
         if self.at < self.list.len() {
             if is_over(world, self.list[self.at]) {
@@ -121,6 +128,7 @@ impl Place {
 
     /// Who steps next by the first item, which has not ended, or behind all.
     fn take_next(&mut self, world: &World, kept: &Vec<u8>) -> Option<u8>
+        requires asked { self.old.in_rounds ≡ false }
         requires within { self.old.at ≤ length self.old.list.items }
         requires next { self.old.next < actors_of world.now }
         requires kept { KnowsThoseGoing self.old kept.now.items world.now }
@@ -148,7 +156,7 @@ impl Place {
                 }
             };
         }
-        match who_behind(world, self.next, self.all_go_on, &mut self.drawn, kept) {
+        match who_behind(world, self.next, &mut self.drawn, kept) {
             Some(actor) => {
                 self.next = behind(self.actors, actor);
                 Some(actor)
@@ -282,24 +290,16 @@ fn first_to_come(world: &World, list: &[Turn], at: usize) -> usize
     list.len()
 }
 
-/// Who steps next behind the items. Where the generator draws, it draws among those that are kept. `all` says, where it is
-/// so, that no actor is done.
-fn who_behind(
-    world: &World,
-    next: u8,
-    all: bool,
-    drawn: &mut Option<SplitMix64>,
-    kept: &Vec<u8>,
-) -> Option<u8>
+/// Who steps next behind the items. Where the generator draws, it draws among those that are kept.
+fn who_behind(world: &World, next: u8, drawn: &mut Option<SplitMix64>, kept: &Vec<u8>) -> Option<u8>
     requires next { next < actors_of world.now }
-    requires all { IsTrue all → AllGoOn world.now }
     requires kept { IfSome drawn.old (λ x. kept.now.items ≡ going (seen_of world.now)) }
     ensures who { result ≡ who_behind (seen_of world.now) next drawn.old }
     ensures drawn { drawn.new ≡ option_map (λ x. (mix_u64 x).1) drawn.old }
 {
     match drawn {
         Some(generator) => chosen(kept, generator.next_word()),
-        None => in_turn(world, next, all),
+        None => in_turn(world, next),
     }
 }
 
@@ -374,13 +374,12 @@ fn other_at(kept: &[u8], actor: u8, k: usize) -> Option<u8>
     None
 }
 
-/// Who steps next where actors take turns. Mostly no actor is done, or `next` is not, so that is asked first.
-fn in_turn(world: &World, next: u8, all: bool) -> Option<u8>
-    requires next { next < actors_of world.now }
-    requires all { IsTrue all → AllGoOn world.now }
+/// Who steps next where actors take turns. Mostly `next` is not done, so that is asked first.
+fn in_turn(world: &World, next: u8) -> Option<u8>
+    requires { next < actors_of world.now }
     ensures { result ≡ turn_from (is_done world.now) (actors_of world.now) next }
 {
-    if all || !world.is_done(next) {
+    if !world.is_done(next) {
         return Some(next);
     }
     world.turn_from(next)
