@@ -149,9 +149,18 @@ goes_at l f (Unlock after) found = record f { sweeps = true; stage = unlocked f 
 -- where it has ended it names the stage, so that what it has given computes there too
 goes_at l f (Ended out) found = at_stage f (Ended out)
 
--- by the word found the routine that it runs goes on in a span, or to a further page
+-- it searches the cached span
+abbrev pub is_in_span_at : FindStage → Bool
+is_in_span_at (Slots s) = true
+is_in_span_at _ = false
+
+abbrev pub is_in_span : Finding → Bool
+is_in_span f = is_in_span_at f.stage
+
+-- by the word found the routine that it runs goes on in the cached span or in another, or to a further page
 abbrev pub goes_further_at : Layout → FindStage → (found : ℕ) → Bool
-goes_further_at l (Pass p) found = pass.goes_on_at p p.stage found
+goes_further_at l (Slots s) found = slots.goes_on_at s s.stage found
+goes_further_at l (Pass p) found = pass.goes_on_at l p p.stage found
 goes_further_at l (Unswept u) found = unswept.looks_on_at l u u.stage found
 goes_further_at l (Carve c) found = carve.looks_on_at l c c.stage found
 goes_further_at l _ found = false

@@ -55,9 +55,15 @@ IsStage l wanted (Unlock after) = AfterLiesWithin l wanted after
 IsStage l wanted (Ended out) = LiesWithin l wanted out
 IsStage l wanted Lock = Unit {0}
 
+-- the cached span is the one that it searches, and its cursor that of the search
+abbrev pub IsSearched : Option CachedSpan → FindStage → Type 0
+IsSearched cached (Slots s) = cached ≡ Some (record { head = s.span.head; cursor = s.span.cursor })
+IsSearched cached _ = Unit {0}
+
 pub record Sound (l : Layout) (f : Find) : Type 0 where
   pub seat : f.seat < seats_of l
   pub generation : f.generation < 2 ^ 34
   pub wanted : IsSought f.wanted
   pub cached : IsCached l f.wanted f.cached
   pub stage : IsStage l f.wanted f.stage
+  pub searched : IsSearched f.cached f.stage

@@ -104,9 +104,8 @@ listing l = record { asks = asks l; goes = goes; given = given; sound = Sound l;
 abbrev pub makes_its_object : Placing → Bool
 makes_its_object p = makes_its_object_at p.stage
 
--- its next step neither makes the object, nor gives a span back, nor is its last
+-- its next step neither gives a span back, nor is its last
 abbrev pub goes_further_at : (marking : Bool) → PlaceStage → Bool
-goes_further_at marking Alloc = false
 goes_further_at marking (Give g) = false
 goes_further_at marking Count = not marking
 goes_further_at marking (LoadTrigger bytes) = false

@@ -53,7 +53,7 @@ module _ (l : Layout) (f : Finding) where
   goes_at (Free r) found = after_free f (reclaim.goes l r found) (reclaim.given (reclaim.goes l r found))
   goes_at Second found = record { find = find.goes l f found; stage = if frees_at f.stage then First else Second }
 
-  -- by the word found the first search goes on in a span, or to a further page
+  -- by the word found the first search goes on in the cached span or in another, or to a further page
   abbrev pub goes_further_at : SearchStage → (found : ℕ) → Bool
   goes_further_at First found = find.goes_further_at l f.stage found
   goes_further_at _ found = false
@@ -87,6 +87,10 @@ gives l s found = given (goes l s found)
 
 abbrev pub listing : Layout → Listing Seeking Found
 listing l = record { asks = asks l; goes = goes l; given = given; sound = Sound l; writes = find.writes }
+
+-- it searches the cached span
+abbrev pub is_in_span : Seeking → Bool
+is_in_span s = find.is_in_span s.find
 
 abbrev pub refuses : Seeking → Bool
 refuses s = refuses_at s.find s.stage

@@ -1,11 +1,13 @@
 //! The routine that looks for a slot for an object.
 
-ghost use Rattle.std.specs.Prelude.{◌≡◌, ℕ, ◌+◌, ◌*◌, ◌^◌, ◌<◌, ◌≤◌, ◌↔◌, IfSome, IsTrue, None, Option, false, true};
+ghost use Rattle.std.specs.Prelude.{◌≡◌, ℕ, ◌+◌, ◌*◌, ◌^◌, ◌<◌, ◌≤◌, ◌↔◌, IfSome, IsTrue, None, Option, Some, false, true};
+ghost use Rattle.gh_base.specs.Cells.{InRange};
+ghost use Rattle.gh_base.specs.declared.cell.Ask.TheVariants.{Load};
 ghost use Rattle.gh_base.specs.declared.layout.Layout.{Layout};
 ghost use Rattle.gh_central.specs.GiveBack as giving;
 ghost use Rattle.gh_alloc.specs.declared.find.FindStage.TheVariants.{Give};
-ghost use Rattle.gh_alloc.specs.declared.sought.Found.TheVariants.{NoRoom};
-ghost use Rattle.gh_alloc.specs.Find.{after_carve, after_give, after_lock, after_pass, after_slots, after_unswept, at_stage, begin, behind_for, carving, finds_none, first_page, given, given_head, gives, goes, goes_further_at, is_busy, locked_for, opening, refuses, spans_for, taken, word_at_cursor};
+ghost use Rattle.gh_alloc.specs.declared.sought.Found.TheVariants.{At, NoRoom};
+ghost use Rattle.gh_alloc.specs.Find.{after_carve, after_give, after_lock, after_pass, after_slots, after_unswept, asks, at_stage, begin, behind_for, carving, finds_none, first_page, given, given_head, gives, goes, goes_further_at, is_busy, is_in_span, locked_for, opening, refuses, spans_for, taken, word_at_cursor};
 ghost use Rattle.gh_alloc.specs.FindSound.{FitsPages, FitsWord, IsCached, Sound};
 ghost use Rattle.gh_alloc.specs.Search.{again, frees_at, reclaiming};
 ghost use Rattle.gh_alloc.specs.Within.{LiesWithin};
@@ -346,8 +348,51 @@ impl Find {
         }
     }
 
-    /// Goes on in the routine that it runs, to the next alloc word of a span or to a further page, where the word found
-    /// leads there, and answers whether it did; where it did not, nothing has changed, and `take_step` makes the step.
+    /// The cell that its next step loads, where it looks at a slot, a span or a page.
+    #[inline(always)]
+    pub(crate) fn looks(&self, layout: &Layout) -> Option<Cell>
+        requires { Sound layout.now self.now }
+        ensures asks { IfSome result (λ c. asks layout.now self.now ≡ Load c) }
+        ensures within { IfSome result (InRange layout.now) }
+    {
+        match &self.stage {
+            FindStage::Slots(search) => search.looks(layout),
+            FindStage::Pass(pass) => pass.looks(layout),
+            FindStage::Unswept(pass) => pass.looks(),
+            FindStage::Carve(carve) => carve.looks(),
+            _ => None,
+        }
+    }
+
+    /// The first heap word of the slot with which the search ends by this word, where it searches the cached span and the slot at
+    /// the cursor is clear.
+    #[inline(always)]
+    pub(crate) fn finds(&self, layout: &Layout, found: u64) -> Option<u32>
+        requires { Sound layout.now self.now }
+        ensures gives { IfSome result (λ at. gives layout.now self.now found ≡ Some (At at)) }
+        ensures searches { IfSome result (λ at. finds_none (goes layout.now self.now found) ≡ false) }
+        ensures cached { IfSome result (λ at. (goes layout.now self.now found).cached ≡ self.now.cached) }
+        ensures within { IfSome result (λ at. LiesWithin layout.now self.now.wanted (At at)) }
+        ensures busy { IfSome result (λ at. refuses self.now ≡ false) }
+    {
+        size_class_laws();
+        match &self.stage {
+            FindStage::Slots(search) => search.finds(layout, found),
+            _ => None,
+        }
+    }
+
+    /// It searches the cached span.
+    #[inline(always)]
+    pub(crate) fn is_in_span(&self) -> bool
+        ensures { result ≡ is_in_span self.now }
+    {
+        matches!(self.stage, FindStage::Slots(_))
+    }
+
+    /// Goes on in the routine that it runs, to the next slot of the cached span, to the next alloc word of another or to a
+    /// further page, where the word found leads there, and answers whether it did; where it did not, nothing has changed, and
+    /// `take_step` makes the step.
     #[inline(always)]
     pub(crate) fn goes_on(&mut self, layout: &Layout, found: u64) -> bool
         requires { Sound layout.now self.old }
@@ -355,10 +400,17 @@ impl Find {
         ensures goes { IsTrue result → self.new ≡ goes layout.now self.old found }
         ensures gives { IsTrue result → gives layout.now self.old found ≡ None }
         ensures searches { IsTrue result → finds_none (goes layout.now self.old found) ≡ false }
-        ensures cached { self.new.cached ≡ self.old.cached }
+        ensures cached { is_in_span self.new ≡ false → self.new.cached ≡ self.old.cached }
         ensures stays { result ≡ false → self.new ≡ self.old }
     {
         match &mut self.stage {
+            FindStage::Slots(search) => {
+                let goes_on = search.goes_on(layout, found);
+                if goes_on {
+                    self.cached = move_cursor(self.cached, search.cursor());
+                }
+                goes_on
+            }
             FindStage::Pass(pass) => pass.goes_on(layout, found),
             FindStage::Unswept(pass) => pass.goes_on(layout, found),
             FindStage::Carve(carve) => carve.goes_on(layout, found),

@@ -6,17 +6,23 @@
 //! at the same time. While a cycle is under way the trigger is 2^64 - 1, so that a second one is not asked for; and
 //! who knows that marking is on does not look.
 
-ghost use Rattle.std.specs.Prelude.{◌≡◌, ℕ, ◌+◌, ◌*◌, ◌^◌, ◌<◌, ◌≤◌, IsTrue, None, false, true};
+ghost use Rattle.std.specs.Prelude.{◌≡◌, ℕ, ◌+◌, ◌*◌, ◌^◌, ◌<◌, ◌≤◌, IsTrue, None, Some, false, length, slice_index, true};
+ghost use Rattle.gh_base.specs.Cells.{InRange, length_of};
+ghost use Rattle.gh_base.specs.Steps.{cell_of, changed, request, target};
+ghost use Rattle.gh_base.specs.declared.cell.Ask.TheVariants.{Load};
+ghost use Rattle.gh_base.specs.declared.cell.Cell.TheVariants.{Trigger};
 ghost use Rattle.gh_base.specs.declared.layout.Layout.{Layout};
-ghost use Rattle.gh_alloc.specs.Place.{counted, filled, given, goes, goes_further, is_busy, made, makes_its_object, opening};
+ghost use Rattle.gh_alloc.specs.Place.{asks, counted, filled, given, goes, goes_further, is_busy, made, makes_its_object, opening};
 ghost use Rattle.gh_alloc.specs.PlaceSound.{Sound};
 ghost use Rattle.gh_alloc.specs.declared.place.PlaceStage.TheVariants.{Bits};
 ghost use Rattle.gh_bitmap.specs.SetPointers as setting;
 
 use crate::laws::making_is_a_routine;
+use gh_base::laws::cells_have_words_of_their_own;
 use gh_base::{Ask, Cell, Layout, Name, Req, Routine, Shape, SpanHead};
 use gh_bitmap::SetPointers;
 use gh_central::GiveBack;
+use gh_words::Words;
 use std::marker::Model;
 
 /// The stages of the making of an object.
@@ -176,17 +182,19 @@ fn filled<'s>(marking: bool) -> PlaceStage<'s>
 }
 
 impl<'s> Place<'s> {
-    /// Its next step neither makes the object, nor gives a span back, nor is its last: [`Place::goes_on`] may make it.
+    /// Its next step neither gives a span back, nor is its last: [`Place::make_on`] may make it.
     #[inline(always)]
     pub fn goes_further(&self) -> bool
         ensures exactly { result ≡ goes_further self.now }
         ensures busy { IsTrue result → given self.now ≡ None }
-        ensures acts { IsTrue result → makes_its_object self.now ≡ false }
         ensures goes_on { IsTrue result → (found : ℕ) → given (goes self.now found) ≡ None }
     {
         match self.stage {
-            PlaceStage::Clear(_) | PlaceStage::Birth | PlaceStage::Bits(_) | PlaceStage::Mark =>
-                true,
+            PlaceStage::Clear(_)
+            | PlaceStage::Birth
+            | PlaceStage::Bits(_)
+            | PlaceStage::Mark
+            | PlaceStage::Alloc => true,
             PlaceStage::Count => !self.marking,
             _ => false,
         }
@@ -194,7 +202,7 @@ impl<'s> Place<'s> {
 
     /// Makes such a step, which found this. Most steps of a making are such, and change a number or the stage alone.
     #[inline(always)]
-    pub fn goes_on(&mut self, layout: &Layout, found: u64)
+    fn goes_on(&mut self, layout: &Layout, found: u64)
         requires sound { Sound layout.now self.old }
         requires further { goes_further self.old ≡ true }
         ensures goes { self.new ≡ goes self.old found }
@@ -217,9 +225,84 @@ impl<'s> Place<'s> {
                 }
             }
             PlaceStage::Mark => self.stage = PlaceStage::Alloc,
+            PlaceStage::Alloc => self.stage = self.made(),
             PlaceStage::Count => self.stage = self.counted(found),
             _ => {}
         }
+    }
+
+    /// Makes its next step on these words, where that is such a step.
+    #[inline(always)]
+    pub fn make_on<W: Words>(&mut self, layout: &Layout, words: &mut W)
+        requires sound { Sound layout.now self.old }
+        requires further { goes_further self.old ≡ true }
+        requires long { length (W.list words.old) ≡ length_of layout.now }
+        ensures words { W.list words.new ≡ changed (request layout.now (asks layout.now self.old)) (W.list words.old) }
+        ensures within { InRange layout.now (cell_of (asks layout.now self.old)) }
+        ensures goes { let found = slice_index (W.list words.old) (target (request layout.now (asks layout.now self.old))) in
+            self.new ≡ goes self.old found }
+        ensures sound { Sound layout.now self.new }
+    {
+        making_is_a_routine();
+        cells_have_words_of_their_own(layout);
+        match &mut self.stage {
+            PlaceStage::Clear(k) => {
+                words.step(layout.request(Ask::Store(Cell::Field(self.at + *k), 0)));
+                let next = *k + 1;
+                if next < self.slot {
+                    *k = next;
+                } else {
+                    self.stage = PlaceStage::Birth;
+                }
+            }
+            PlaceStage::Birth => {
+                words.step(layout.request(Ask::Store(Cell::Birth(self.at), self.name.pack())));
+                self.stage = self.bits();
+            }
+            PlaceStage::Bits(bits) => {
+                let found = words.step(bits.next(layout));
+                if bits.take(layout, found).is_some() {
+                    self.stage = filled(self.marking);
+                }
+            }
+            PlaceStage::Mark => {
+                words.step(layout.request(Ask::Or(Cell::Mark(self.at / 64), 1 << (self.at % 64))));
+                self.stage = PlaceStage::Alloc;
+            }
+            PlaceStage::Alloc => {
+                words.step(layout.request(Ask::Or(Cell::Alloc(self.at / 64), 1 << (self.at % 64))));
+                self.stage = self.made();
+            }
+            PlaceStage::Count => {
+                let more = 8 * u64::from(self.slot);
+                let found = words.step(layout.request(Ask::Add(Cell::Heap, more)));
+                self.stage = self.counted(found);
+            }
+            _ => {}
+        }
+    }
+
+    /// It loads the trigger, and the heap's bytes do not reach what that finds: by this word it ends, and no cycle is to be
+    /// asked for.
+    #[inline(always)]
+    pub fn ends_by(&self, found: u64) -> bool
+        ensures gives { IsTrue result → given (goes self.now found) ≡ Some false }
+        ensures acts { IsTrue result → makes_its_object self.now ≡ false }
+    {
+        match self.stage {
+            PlaceStage::LoadTrigger(bytes) => found > bytes,
+            _ => false,
+        }
+    }
+
+    /// It loads the trigger next.
+    #[inline(always)]
+    pub fn is_at_trigger(&self) -> bool
+        ensures asks { IsTrue result → (l : Layout) → asks l self.now ≡ Load Trigger }
+        ensures busy { IsTrue result → given self.now ≡ None }
+        ensures acts { IsTrue result → makes_its_object self.now ≡ false }
+    {
+        matches!(self.stage, PlaceStage::LoadTrigger(_))
     }
 
     /// Goes on by what its step found.
@@ -229,7 +312,6 @@ impl<'s> Place<'s> {
         ensures { self.new ≡ goes self.old found }
     {
         match &mut self.stage {
-            PlaceStage::Alloc => self.stage = self.made(),
             PlaceStage::Give(_) => self.stage = PlaceStage::Count,
             PlaceStage::Count => self.stage = self.counted(found),
             PlaceStage::LoadTrigger(bytes) => self.stage = PlaceStage::Ended(found <= *bytes),

@@ -1,18 +1,20 @@
 //! The search for a slot where a collector runs.
 
-ghost use Rattle.std.specs.Prelude.{◌≡◌, ℕ, ◌^◌, ◌<◌, ◌↔◌, IfSome, IsTrue, None, Option, false, true};
+ghost use Rattle.std.specs.Prelude.{◌≡◌, ℕ, ◌^◌, ◌<◌, ◌↔◌, IfSome, IsTrue, None, Option, Some, false, true};
+ghost use Rattle.gh_base.specs.Cells.{InRange};
+ghost use Rattle.gh_base.specs.declared.cell.Ask.TheVariants.{Load};
 ghost use Rattle.gh_base.specs.declared.layout.Layout.{Layout};
 ghost use Rattle.gh_alloc.specs.declared.search.SearchStage.TheVariants.{Free};
-ghost use Rattle.gh_alloc.specs.declared.sought.Found.TheVariants.{NoRoom};
+ghost use Rattle.gh_alloc.specs.declared.sought.Found.TheVariants.{At, NoRoom};
 ghost use Rattle.gh_alloc.specs.FindSound.{IsCached};
-ghost use Rattle.gh_alloc.specs.Search.{given, gives, goes, goes_further_at, is_busy, opening, reclaiming, refuses};
+ghost use Rattle.gh_alloc.specs.Search.{asks, given, gives, goes, goes_further_at, is_busy, is_in_span, opening, reclaiming, refuses};
 ghost use Rattle.gh_alloc.specs.SearchSound.{Sound};
 ghost use Rattle.gh_alloc.specs.Within.{LiesWithin};
 
 use crate::find::Find;
 use crate::laws::searching_is_a_routine;
 use crate::sought::{CachedSpan, Found, Sought};
-use gh_base::{Layout, Req, Routine};
+use gh_base::{Cell, Layout, Req, Routine};
 use gh_central::Reclaim;
 
 /// The stages of the search where a collector runs.
@@ -73,16 +75,53 @@ impl Search {
         }
     }
 
-    /// In its first round goes on to the next alloc word of a span or to a further page, where the word found leads there, and answers
-    /// whether it did. Most steps of a search do, and they change one number or two; where it did not, nothing has
-    /// changed, and [`take`](Routine::take) makes the step.
+    /// The cell that its next step loads, where in its first round it looks at a slot, a span or a page.
+    #[inline(always)]
+    pub fn looks(&self, layout: &Layout) -> Option<Cell>
+        requires { Sound layout.now self.now }
+        ensures asks { IfSome result (λ c. asks layout.now self.now ≡ Load c) }
+        ensures within { IfSome result (InRange layout.now) }
+    {
+        match self.stage {
+            SearchStage::First => self.find.looks(layout),
+            SearchStage::Free(_) | SearchStage::Second => None,
+        }
+    }
+
+    /// The first heap word of the slot with which the search ends by this word, where in its first round it searches the cached span
+    /// and the slot at the cursor is clear.
+    #[inline(always)]
+    pub fn finds(&self, layout: &Layout, found: u64) -> Option<u32>
+        requires { Sound layout.now self.now }
+        ensures gives { IfSome result (λ at. gives layout.now self.now found ≡ Some (At at)) }
+        ensures cached { IfSome result (λ at. (goes layout.now self.now found).find.cached ≡ self.now.find.cached) }
+        ensures within { IfSome result (λ at. LiesWithin layout.now self.now.find.wanted (At at)) }
+        ensures busy { IfSome result (λ at. refuses self.now ≡ false) }
+    {
+        match self.stage {
+            SearchStage::First => self.find.finds(layout, found),
+            SearchStage::Free(_) | SearchStage::Second => None,
+        }
+    }
+
+    /// It searches the cached span.
+    #[inline(always)]
+    pub fn is_in_span(&self) -> bool
+        ensures { result ≡ is_in_span self.now }
+    {
+        self.find.is_in_span()
+    }
+
+    /// In its first round goes on to the next slot of the cached span, to the next alloc word of another or to a further page, where the
+    /// word found leads there, and answers whether it did. Most steps of a search do, and they change one number or two; where it did
+    /// not, nothing has changed, and [`take`](Routine::take) makes the step.
     #[inline(always)]
     pub fn goes_on(&mut self, layout: &Layout, found: u64) -> bool
         requires { Sound layout.now self.old }
         ensures exactly { result ≡ goes_further_at layout.now self.old.find self.old.stage found }
         ensures goes { IsTrue result → self.new ≡ goes layout.now self.old found }
         ensures gives { IsTrue result → gives layout.now self.old found ≡ None }
-        ensures cached { self.new.find.cached ≡ self.old.find.cached }
+        ensures cached { is_in_span self.new ≡ false → self.new.find.cached ≡ self.old.find.cached }
         ensures stays { result ≡ false → self.new ≡ self.old }
     {
         match self.stage {

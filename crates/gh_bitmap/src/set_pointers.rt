@@ -127,10 +127,12 @@ impl<'s> Routine for SetPointers<'s> {
 
     ghost listing = { listing };
 
+    #[inline(always)]
     fn next(&self, layout: &Layout) -> Req {
         layout.request(self.ask(layout))
     }
 
+    #[inline(always)]
     fn take(&mut self, layout: &Layout, _found: u64) -> Option<()> {
         self.stage = self.go(layout);
         self.given()

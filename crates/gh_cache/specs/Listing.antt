@@ -1,5 +1,5 @@
 -- The next clear slot of a cached span: what is asked for at each stage, where that leads, what it has given, and that it writes nothing.
-use Rattle.std.specs.Prelude.{ℕ, ◌+◌, ◌*◌, ◌/◌, ◌%◌, Bool, false, nat_lt, ◌==◌, if◌then◌else◌, Option, Some, None}
+use Rattle.std.specs.Prelude.{ℕ, ◌+◌, ◌*◌, ◌/◌, ◌%◌, Bool, true, false, nat_lt, ◌==◌, ◌&&◌, if◌then◌else◌, Option, Some, None}
 use Rattle.std.specs.Int.{bit_at}
 use Rattle.gh_base.specs.declared.cell.Cell.TheVariants.{Touch, Alloc}
 use Rattle.gh_base.specs.declared.cell.Ask.{Ask}
@@ -33,9 +33,13 @@ slot_at span slot = 1024 * span.head + slot * slot_words_of span.class
 abbrev pub alloc_word : Layout → ℕ → ℕ
 alloc_word l x = x / 64 % (16 * l.pages)
 
+-- the bit of a heap word is clear in this word
+abbrev pub bit_is_clear : (x found : ℕ) → Bool
+bit_is_clear x found = bit_at found (x % 64) == 0
+
 -- the slot's bit is clear in this word
 abbrev pub is_clear : Cached → ℕ → ℕ → Bool
-is_clear span slot found = bit_at found (slot_at span slot % 64) == 0
+is_clear span slot found = bit_is_clear (slot_at span slot) found
 
 -- there is a slot behind the one at the cursor
 abbrev pub has_next_slot : Cached → Bool
@@ -57,6 +61,15 @@ module _ (s : Searching) where
   abbrev pub goes_at : SlotStage → ℕ → Searching
   goes_at Look found = if is_found s found then at_stage s (Ended (Some s.span.cursor)) else passed
   goes_at (Ended slot) found = at_stage s (Ended slot)
+
+-- it looks at a slot
+abbrev pub looks : SlotStage → Bool
+looks Look = true
+looks (Ended slot) = false
+
+-- it looks at a slot, and at the next once the word is found: the slot's bit is set, and a slot is left
+abbrev pub goes_on_at : Searching → SlotStage → (found : ℕ) → Bool
+goes_on_at s p found = looks p && looks (goes_at s p found).stage
 
 -- what it has given at a stage
 abbrev pub given_at : SlotStage → Option (Option ℕ)

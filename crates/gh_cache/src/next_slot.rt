@@ -1,10 +1,12 @@
 //! The routine that looks for the next clear slot.
 
-ghost use Rattle.std.specs.Prelude.{◌≡◌, ◌+◌, ◌*◌, ◌<◌, ◌≤◌, is_none, true};
+ghost use Rattle.std.specs.Prelude.{◌≡◌, ◌+◌, ◌*◌, ◌<◌, ◌≤◌, IfSome, IsTrue, None, Some, false, is_none, true};
 ghost use Rattle.gh_base.specs.Cells.{InRange};
 ghost use Rattle.gh_base.specs.Steps.{cell_of};
 ghost use Rattle.gh_class.specs.Classes.{pages_of, slots_of};
-ghost use Rattle.gh_cache.specs.Listing.{asks, given, goes, opening, slot_at};
+ghost use Rattle.gh_base.specs.declared.cell.Ask.TheVariants.{Load};
+ghost use Rattle.gh_cache.specs.declared.next_slot.SlotStage.TheVariants.{Ended};
+ghost use Rattle.gh_cache.specs.Listing.{asks, at_stage, bit_is_clear, given, goes, goes_on_at, opening, slot_at};
 ghost use Rattle.gh_cache.specs.Sound.{Sound};
 
 use gh_base::limits::MOST_PAGES;
@@ -46,6 +48,14 @@ pub struct NextSlot {
     pub span: Cached,
     /// Its stage.
     pub stage: SlotStage,
+}
+
+/// The bit of this heap word is clear in the alloc word found.
+#[inline(always)]
+fn bit_is_clear(word: u32, found: u64) -> bool
+    ensures { result ≡ bit_is_clear word found }
+{
+    (found >> (word % 64)) & 1 == 0
 }
 
 impl Cached {
@@ -101,7 +111,7 @@ impl NextSlot {
         requires busy { is_none (given self.old) ≡ true }
         ensures { self.new ≡ goes self.old found }
     {
-        if (found >> (self.span.word() % 64)) & 1 == 0 {
+        if bit_is_clear(self.span.word(), found) {
             self.stage = SlotStage::Ended {
                 slot: Some(self.span.cursor),
             };
@@ -110,6 +120,70 @@ impl NextSlot {
         self.span.cursor += 1;
         if self.span.cursor >= self.span.class.slots() {
             self.stage = SlotStage::Ended { slot: None };
+        }
+    }
+
+    /// The cell that its next step loads, where it looks at a slot.
+    #[inline(always)]
+    pub fn looks(&self, layout: &Layout) -> Option<Cell>
+        requires { Sound layout.now self.now }
+        ensures asks { IfSome result (λ c. asks layout.now self.now ≡ Load c) }
+        ensures within { IfSome result (InRange layout.now) }
+    {
+        match self.stage {
+            SlotStage::Look => {
+                let word = self.span.word();
+                Some(Cell::Alloc(modulo(word / 64, 16 * layout.pages)))
+            }
+            SlotStage::Ended { .. } => None,
+        }
+    }
+
+    /// Goes on to the next slot, where the word found says that the slot at the cursor is taken and one is left, and answers
+    /// whether it did; where it did not, nothing has changed, and [`take`](Routine::take) makes the step.
+    #[inline(always)]
+    pub fn goes_on(&mut self, layout: &Layout, found: u64) -> bool
+        requires { Sound layout.now self.old }
+        ensures exactly { result ≡ goes_on_at self.old self.old.stage found }
+        ensures goes { IsTrue result → self.new ≡ goes self.old found }
+        ensures gives { IsTrue result → given (goes self.old found) ≡ None }
+        ensures stays { result ≡ false → self.new ≡ self.old }
+    {
+        let _ = layout;
+        size_class_laws();
+        let SlotStage::Look = self.stage else {
+            return false;
+        };
+        if bit_is_clear(self.span.word(), found) {
+            return false;
+        }
+        let next = self.span.cursor + 1;
+        if next >= self.span.class.slots() {
+            return false;
+        }
+        self.span.cursor = next;
+        true
+    }
+
+    /// The first heap word of the slot at the cursor, where the word found says that it is clear: by this word the routine
+    /// ends with that slot.
+    #[inline(always)]
+    pub fn finds(&self, layout: &Layout, found: u64) -> Option<u32>
+        requires { Sound layout.now self.now }
+        ensures goes { IfSome result (λ at. goes self.now found ≡ at_stage self.now (Ended (Some self.now.span.cursor))) }
+        ensures at { IfSome result (λ at. at ≡ slot_at self.now.span self.now.span.cursor) }
+    {
+        let _ = layout;
+        match self.stage {
+            SlotStage::Look => {
+                let word = self.span.word();
+                if bit_is_clear(word, found) {
+                    Some(word)
+                } else {
+                    None
+                }
+            }
+            SlotStage::Ended { .. } => None,
         }
     }
 

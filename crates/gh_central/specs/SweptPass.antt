@@ -54,6 +54,11 @@ abbrev pub given_at : PassStage → Option (Option ℕ)
 given_at (Ended taken) = Some taken
 given_at _ = None
 
+-- it looks at a page
+abbrev pub looks : PassStage → Bool
+looks (Look page) = true
+looks _ = false
+
 -- where alloc word i of the span at this page is loaded
 abbrev pub alloc_word : Layout → (page i : ℕ) → ℕ
 alloc_word l page i = (16 * page + i) % (16 * l.pages)
@@ -69,11 +74,6 @@ module _ (m : Pass) where
   -- alloc word i of the span at this page lacks a slot's bit
   abbrev pub lacks_at : (page i found : ℕ) → Bool
   lacks_at page i found = lacks_slot (slot_words_of m.wanted.class) (slots_of m.wanted.class) (1024 * page) (16 * page + i) found
-
-  -- the word found leads to the span's next alloc word
-  abbrev pub goes_on_at : PassStage → (found : ℕ) → Bool
-  goes_on_at (Bits page h i) found = nat_lt (i + 1) (16 * h.pages) && not (lacks_at page i found)
-  goes_on_at _ found = false
 
 module _ (l : Layout) (m : Pass) where
   abbrev pub asks_at : PassStage → Ask
@@ -97,6 +97,12 @@ module _ (l : Layout) (m : Pass) where
   goes_at (Bits page h i) found = after_bits page h i found
   goes_at (Take page h) found = Ended (Some page)
   goes_at (Ended taken) found = Ended taken
+
+  -- the word found leads to a further page, or to the span's next alloc word
+  abbrev pub goes_on_at : PassStage → (found : ℕ) → Bool
+  goes_on_at (Look page) found = looks (goes_at (Look page) found)
+  goes_on_at (Bits page h i) found = nat_lt (i + 1) (16 * h.pages) && not (lacks_at m page i found)
+  goes_on_at _ found = false
 
 -- the step that it asks for, what it is after the step found this, and what it has given
 abbrev pub asks : Layout → Pass → Ask

@@ -1,10 +1,12 @@
 //! The pass over the spans for one with a clear slot.
 
-ghost use Rattle.std.specs.Prelude.{◌≡◌, ◌+◌, ◌*◌, ◌^◌, ◌<◌, IsTrue, None, false};
+ghost use Rattle.std.specs.Prelude.{◌≡◌, ◌+◌, ◌*◌, ◌^◌, ◌<◌, IfSome, IsTrue, None, false};
+ghost use Rattle.gh_base.specs.declared.cell.Ask.TheVariants.{Load};
+ghost use Rattle.gh_central.specs.declared.pass.PassStage.TheVariants.{Bits, Look};
 ghost use Rattle.gh_base.specs.Cells.{InRange};
 ghost use Rattle.gh_base.specs.Steps.{cell_of};
 ghost use Rattle.gh_base.specs.Packing.{FitsHead, FitsPage, head_word};
-ghost use Rattle.gh_central.specs.SweptPass.{Sound, after_bits, after_page, alloc_word, asks, given, goes, goes_at, goes_on_at, is_wanted, lacks_at, look_from, opening, owned_by};
+ghost use Rattle.gh_central.specs.SweptPass.{Sound, after_bits, after_page, alloc_word, asks, given, goes, goes_at, goes_on_at, is_wanted, lacks_at, look_from, looks, opening, owned_by};
 
 use crate::slots::{lacks_slot, none_clear};
 use gh_base::laws::packed_words_are_read_back;
@@ -200,27 +202,102 @@ impl SweptPass {
         }
     }
 
-    /// Goes on to the span's next alloc word, where the word found leads there, and answers whether it did. Of
+    /// The cell that its next step loads, where it looks at a page or at the slots of a span.
+    #[inline(always)]
+    pub fn looks(&self, layout: &Layout) -> Option<Cell>
+        requires { Sound layout.now self.now }
+        ensures asks { IfSome result (λ c. asks layout.now self.now ≡ Load c) }
+        ensures within { IfSome result (InRange layout.now) }
+    {
+        match self.stage {
+            PassStage::Look { page } => Some(Cell::Page(page)),
+            PassStage::Bits { page, word, .. } => Some(Cell::Alloc(alloc_word(layout, page, word))),
+            _ => None,
+        }
+    }
+
+    /// The page behind the span or the page, where the page was found to be this; `None` for a span that it looks into.
+    #[inline(always)]
+    fn next_page(&self, layout: &Layout, page: u32, found: PageWord) -> Option<u32>
+        requires page { page < layout.now.pages }
+        requires fits { FitsPage found }
+        ensures looks { IfSome result (λ next. after_page layout.now self.now page found ≡ look_from layout.now next) }
+        ensures into { result ≡ None → looks (after_page layout.now self.now page found) ≡ false }
+    {
+        match found {
+            PageWord::Head(head) => {
+                if self.is_wanted(&head) {
+                    None
+                } else {
+                    Some(page + head.pages)
+                }
+            }
+            PageWord::Free | PageWord::Body(_) => Some(page + 1),
+        }
+    }
+
+    /// Goes on to a further page, or to the span's next alloc word, where the word found leads there, and answers whether it did. Of
     /// all steps of a pass most do, and they change one number; where it did not, nothing has changed, and
     /// [`take`](Routine::take) makes the step.
+    #[inline(always)]
     pub fn goes_on(&mut self, layout: &Layout, found: u64) -> bool
         requires { Sound layout.now self.old }
-        ensures exactly { result ≡ goes_on_at self.old self.old.stage found }
+        ensures exactly { result ≡ goes_on_at layout.now self.old self.old.stage found }
         ensures goes { IsTrue result → self.new ≡ goes layout.now self.old found }
         ensures gives { IsTrue result → given (goes layout.now self.old found) ≡ None }
         ensures stays { result ≡ false → self.new ≡ self.old }
     {
-        let PassStage::Bits { page, head, word } = self.stage else {
+        match self.stage {
+            PassStage::Look { page } => self.looks_on(layout, page, found),
+            PassStage::Bits { page, head, word } => self.reads_on(layout, page, head, word, found),
+            _ => false,
+        }
+    }
+
+    /// Goes on from this page to a further one, where the word found leads there.
+    #[inline(always)]
+    fn looks_on(&mut self, layout: &Layout, page: u32, found: u64) -> bool
+        requires sound { Sound layout.now self.old }
+        requires stage { self.old.stage ≡ Look page }
+        ensures exactly { result ≡ goes_on_at layout.now self.old self.old.stage found }
+        ensures goes { IsTrue result → self.new ≡ goes layout.now self.old found }
+        ensures gives { IsTrue result → given (goes layout.now self.old found) ≡ None }
+        ensures stays { result ≡ false → self.new ≡ self.old }
+    {
+        packed_words_are_read_back();
+        let Some(next) = self.next_page(layout, page, PageWord::unpack(found)) else {
             return false;
         };
+        if next >= layout.pages {
+            return false;
+        }
+        self.stage = PassStage::Look { page: next };
+        true
+    }
+
+    /// Goes on from this alloc word of a span to its next, where the word found leads there.
+    #[inline(always)]
+    fn reads_on(
+        &mut self,
+        layout: &Layout,
+        page: u32,
+        head: SpanHead,
+        word: u32,
+        found: u64,
+    ) -> bool
+        requires sound { Sound layout.now self.old }
+        requires stage { self.old.stage ≡ Bits page head word }
+        ensures exactly { result ≡ goes_on_at layout.now self.old self.old.stage found }
+        ensures goes { IsTrue result → self.new ≡ goes layout.now self.old found }
+        ensures gives { IsTrue result → given (goes layout.now self.old found) ≡ None }
+        ensures stays { result ≡ false → self.new ≡ self.old }
+    {
         if word + 1 >= 16 * head.pages || self.lacks(page, word, found) {
             return false;
         }
-        self.stage = PassStage::Bits {
-            page,
-            head,
-            word: word + 1,
-        };
+        if let PassStage::Bits { word, .. } = &mut self.stage {
+            *word += 1;
+        }
         true
     }
 

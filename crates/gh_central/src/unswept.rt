@@ -1,6 +1,8 @@
 //! The pass over the spans for one that is not swept, and has room once it is.
 
 ghost use Rattle.std.specs.Prelude.{◌≡◌, ◌+◌, ◌^◌, ◌<◌, IfSome, IsTrue, None, false, true};
+ghost use Rattle.gh_base.specs.declared.cell.Ask.TheVariants.{Load};
+ghost use Rattle.gh_base.specs.declared.layout.Layout.{Layout};
 ghost use Rattle.gh_base.specs.Cells.{InRange};
 ghost use Rattle.gh_base.specs.Machines.{Runs};
 ghost use Rattle.gh_base.specs.Steps.{cell_of};
@@ -172,6 +174,18 @@ impl UnsweptPass {
                 }
             }
             PageWord::Free | PageWord::Body(_) => look_from(layout, page + 1),
+        }
+    }
+
+    /// The cell that its next step loads, where it looks at a page.
+    #[inline(always)]
+    pub fn looks(&self) -> Option<Cell>
+        ensures asks { IfSome result (λ c. (l : Layout) → asks l self.now ≡ Load c) }
+        ensures within { (l : Layout) → Sound l self.now → IfSome result (InRange l) }
+    {
+        match self.stage {
+            UnsweptStage::Look { page } => Some(Cell::Page(page)),
+            _ => None,
         }
     }
 

@@ -333,7 +333,7 @@ impl Coord {
         }
     }
 
-    /// The cell that its next step loads, where it looks whether marking is over, while the world runs.
+    /// The cell that its next step loads, where it looks whether marking is over.
     #[inline(always)]
     pub fn looks(&self, layout: &Layout) -> Option<Cell>
         ensures asks { IfSome result (λ c. asks layout.now self.now ≡ Ask.Load c) }
@@ -342,12 +342,13 @@ impl Coord {
     {
         match &self.stage {
             CoordStage::Watch(watch) => watch.looks(layout),
+            CoordStage::Check(watch) => watch.looks(layout),
             _ => None,
         }
     }
 
-    /// Goes on with that look, where the word is as wanted and another stands behind it, or begins it anew, where the word is not,
-    /// and answers whether it did. While marking is on almost each of its steps is such, and changes a number or two; where it did
+    /// Goes on with that look, where the word is as wanted and another stands behind it, or begins it anew, where the word is not
+    /// and the world runs, and answers whether it did. While marking is on almost each of its steps is such, and changes a number or two; where it did
     /// not, nothing has changed, and [`take`](Routine::take) makes the step.
     #[inline(always)]
     pub fn goes_on(&mut self, layout: &Layout, found: u64) -> bool
@@ -359,12 +360,16 @@ impl Coord {
     {
         match &mut self.stage {
             CoordStage::Watch(watch) => {
+                if watch.goes_on(layout, found) {
+                    return true;
+                }
                 if watch.refuses(layout, found) {
                     *watch = Watch::new(self.begun);
                     return true;
                 }
-                watch.goes_on(layout, found)
+                false
             }
+            CoordStage::Check(watch) => watch.goes_on(layout, found),
             _ => false,
         }
     }

@@ -65,6 +65,7 @@ impl Watch {
     }
 
     /// The word is as wanted where this was found in it.
+    #[inline(always)]
     fn is_wanted(&self, layout: &Layout, cell: Cell, found: u64) -> bool
         ensures { result ≡ is_wanted layout.now self.now.cycle cell found }
     {

@@ -1,5 +1,5 @@
 -- Own steps of a new object: the search for its slot, the wait for a cycle, and the making of it.
-use Rattle.std.proofs.Common.{◌≡◌, ℕ, ◌+◌, ◌*◌, ◌^◌, ◌<◌, ◌≤◌, Bool, true, false, cond, IsTrue, List, get_or, refl, sym, ◌∙◌, ap, subst, Option, Some, None, is_none, arith}
+use Rattle.std.proofs.Common.{◌≡◌, ℕ, ◌+◌, ◌*◌, ◌^◌, ◌<◌, ◌≤◌, Bool, true, false, cond, List, get_or, refl, sym, ◌∙◌, ap, subst, Option, Some, None, is_none, arith}
 use Rattle.std.proofs.lemmas.List.{set-get_or}
 use Rattle.gh_base.specs.Reading.{set_twice}
 use Rattle.gh_base.specs.declared.value.Value.TheVariants as value
@@ -23,7 +23,7 @@ use Rattle.gh_mutator.specs.Sound.{most_objects, Sound, SoundSearch, SoundTask, 
 use Rattle.gh_poll.specs.Stays.{wait_stacks}
 use Rattle.gh_mutator.specs.Stays.{search_wants}
 use Rattle.gh_poll.specs.Wait as wait
-use Rattle.gh_mutator.proofs.Vocabulary.{after_assist, Assist, Assisting, assisting, assists, Name, after_search, after_wait, At, at_poll, at_task, cache_span, CachedSpan, SoundWaiting, Found, Large, Layout, made_object, makes, NewStage, NoRoom, Place, PlaceStage, Placing, Processor, read_after_set, Search, Seeking, set, Shape, Small, Sought, takes, takes_at as takes_by, Task, Wait, Waiting, WaitState, Want, Wanted}
+use Rattle.gh_mutator.proofs.Vocabulary.{after_assist, Assist, Assisting, assisting, assists, Name, after_search, after_wait, At, at_poll, at_task, cache_span, CachedSpan, SoundWaiting, Found, Large, Layout, made_object, makes, NewStage, NoRoom, Place, PlaceStage, Placing, Processor, read_after_set, Search, Seeking, set, Shape, Small, Sought, takes, Task, Wait, Waiting, WaitState, Want, Wanted}
 use Rattle.gh_mutator.specs.Vocabulary.{shape_at}
 use Rattle.gh_mutator.proofs.ClassFacts.{ClassLaws, sought_small}
 use Rattle.gh_mutator.proofs.Opens.{assist_opens, place_opens, search_opens}
@@ -41,6 +41,10 @@ acts_unmade q e = grind arith
 
 made_after : (p : Placing) (q : PlaceStage) (found : ℕ) → place.makes_its_object_at q ≡ true → is_made (place.goes_at p q found) ≡ true
 made_after p q found e = grind arith
+
+-- a step of the making that goes further gives nothing
+further_gives : (p : Placing) (q : PlaceStage) (found : ℕ) → place.goes_further_at p.marking q ≡ true → place.given_at (place.goes_at p q found) ≡ None
+further_gives p q found e = grind arith
 
 -- ---- its numbers stay in their ranges
 
@@ -144,24 +148,23 @@ module _ (l : Layout) (k : NewLaws) (shapes : List Shape) where
   take_sound m n found next few fits after s at goes = grind (arith, new_sound)
 
 module _ (l : Layout) (shapes : List Shape) where
-  -- Where the search goes on with the span that it has cached, nothing else changes.
-  pub searches_on : (m : Processor) (w : Wanted) (waited : Bool) (x : Seeking) (found : ℕ) → Sound l shapes m → m.task ≡ searches w waited x → search.gives l x found ≡ None → (search.goes l x found).find.cached ≡ x.find.cached → at_task m (searches w waited (search.goes l x found)) ≡ takes l shapes m found
-  searches_on m w waited x found s at none same =
+  -- Where the making goes further, by a step that does not make the object, nothing else changes.
+  pub makes_further : (m : Processor) (w : Wanted) (p q : Placing) (found : ℕ) → Sound l shapes m → m.task ≡ makes w p → place.goes_further p ≡ true → q ≡ place.goes p found → place_fits.Sound l q → Sound l shapes (at_task m (makes w q))
+  makes_further m w p q found s at further goes sound =
       let here = subst (λ (t : Task). SoundTask l shapes m.poll m.made t) at s.task in
-      let cached = ap (cache_with m.poll.local.cache w.sought) same ∙ here.1.cached in
-      sym (ap (λ (t : Task). takes_by l shapes m t found) at
-      ∙ ap (after_search shapes (cache_span m w.sought (search.goes l x found).find.cached) w waited (search.goes l x found)) none
-      ∙ ap (λ (c : List (Option CachedSpan)). at_task (at_poll m (record (m.poll) { local = record (m.poll.local) { cache = c } })) (searches w waited (search.goes l x found))) cached)
+      let none = ap place.given goes ∙ further_gives p p.stage found further in
+      moved l shapes m (makes w q) s (here.0, record { sound = sound; busy = ap is_none none }, λ e. here.2 (unmade_before p p.stage found (ap (λ (x : Placing). is_made x.stage) (sym goes) ∙ e)))
 
-  -- So what is known of the processor stays, where the code says whether the search has gone on.
-  pub going_on_sound : ((z : Layout) → IsRoutine z (search.listing z)) → (m : Processor) (n : New) (waited went : Bool) (x y : Seeking) (found : ℕ) → found < 2 ^ 64 → Sound l shapes m → m.task ≡ task.New n → n.stage ≡ Search waited x → (IsTrue went → y ≡ search.goes l x found) → (IsTrue went → search.gives l x found ≡ None) → y.find.cached ≡ x.find.cached → (went ≡ false → y ≡ x) → Sound l shapes (at_task m (searches n.wanted waited y))
-  going_on_sound q m n waited went x y found few s at is goes gives same still =
-      let on : m.task ≡ searches n.wanted waited x = at ∙ ap (λ (k : NewStage). task.New (record { wanted = n.wanted; stage = k })) is in
-      let here = subst (λ (t : Task). SoundTask l shapes m.poll m.made t) on s.task in
-      by went goes gives still here where
-        by : (b : Bool) → (IsTrue b → y ≡ search.goes l x found) → (IsTrue b → search.gives l x found ≡ None) → (b ≡ false → y ≡ x) → SoundTask l shapes m.poll m.made (searches n.wanted waited x) → Sound l shapes (at_task m (searches n.wanted waited y))
-        by true goes gives still here =
-            let cached = ap (cache_with m.poll.local.cache n.wanted.sought) (ap (λ (z : Seeking). z.find.cached) (sym (goes refl)) ∙ same) ∙ here.1.cached in
-            subst (λ (z : Seeking). Sound l shapes (at_task m (searches n.wanted waited z))) (sym (goes refl))
-            (moved l shapes m (searches n.wanted waited (search.goes l x found)) s (here.0, record { runs = record { sound = (q l).keeps x found few here.1.runs.sound here.1.runs.busy; busy = ap is_none (gives refl) }; wanted = search_wants l x found ∙ here.1.wanted; cached = cached }, here.2))
-        by false goes gives still here = subst (λ (z : Seeking). Sound l shapes (at_task m (searches n.wanted waited z))) (sym (still refl)) (moved l shapes m (searches n.wanted waited x) s here)
+  -- Where the search goes on, the span that it has cached then is cached with the poll.
+  pub going_on_sound : ((z : Layout) → IsRoutine z (search.listing z)) → (m : Processor) (w : Wanted) (waited : Bool) (x y : Seeking) (found : ℕ) → found < 2 ^ 64 → Sound l shapes m → m.task ≡ searches w waited x → y ≡ search.goes l x found → search.gives l x found ≡ None → Sound l shapes (at_task (cache_span m w.sought y.find.cached) (searches w waited y))
+  going_on_sound q m w waited x y found few s at goes none =
+      let here = subst (λ (t : Task). SoundTask l shapes m.poll m.made t) at s.task in
+      let sound = (q l).keeps x found few here.1.runs.sound here.1.runs.busy in
+      subst (λ (z : Seeking). Sound l shapes (at_task (cache_span m w.sought z.find.cached) (searches w waited z))) (sym goes)
+      (record { registers = s.registers; few = s.few; task = (here.0, record { runs = record { sound = sound; busy = ap is_none none }; wanted = search_wants l x found ∙ here.1.wanted; cached = caches_on m.poll.local.cache w.sought (search.goes l x found).find.cached }, here.2) })
+
+  -- Where that is the span that it had cached before, the poll stays.
+  pub same_cached : (m : Processor) (w : Wanted) (waited : Bool) (x y : Seeking) → Sound l shapes m → m.task ≡ searches w waited x → y.find.cached ≡ x.find.cached → cache_span m w.sought y.find.cached ≡ m
+  same_cached m w waited x y s at same =
+      let here = subst (λ (t : Task). SoundTask l shapes m.poll m.made t) at s.task in
+      ap (λ (c : List (Option CachedSpan)). at_poll m (record (m.poll) { local = record (m.poll.local) { cache = c } })) (ap (cache_with m.poll.local.cache w.sought) same ∙ here.1.cached)

@@ -1,5 +1,5 @@
 -- What the code knows of a task by how it is kept.
-use Rattle.std.proofs.Common.{◌≡◌, ℕ, ◌^◌, ◌<◌, Bool, IsTrue, List, None, true, false, sym, ap, subst, ◌∙◌, arith, Option}
+use Rattle.std.proofs.Common.{◌≡◌, ℕ, ◌^◌, ◌<◌, Bool, List, None, true, false, sym, ap, subst, ◌∙◌, arith, Option}
 use Rattle.gh_base.specs.declared.held.Held.{Held}
 use Rattle.gh_mutator.specs.declared.global.Direct.{Direct}
 use Rattle.gh_mutator.specs.declared.global.DirectStage.{DirectStage}
@@ -13,19 +13,22 @@ use Rattle.gh_mutator.specs.declared.task.Task.{Task}
 use Rattle.gh_mutator.specs.declared.task.Task.TheVariants as task
 use Rattle.gh_mutator.specs.declared.task.TaskAt.{TaskAt}
 use Rattle.gh_mutator.specs.declared.task.TaskAt.TheVariants as at
+use Rattle.gh_alloc.specs.Place as place
+use Rattle.gh_alloc.specs.PlaceSound as place_fits
 use Rattle.gh_alloc.specs.Search as search
 use Rattle.gh_mutator.specs.Global.{held_behind, op_in, step}
-use Rattle.gh_mutator.specs.Listing.{acting, acts_at, applied, follows, takes}
-use Rattle.gh_mutator.specs.New.{searches}
+use Rattle.gh_mutator.specs.Listing.{acting, acts_at, applied, follows, is_made_further}
+use Rattle.gh_mutator.specs.New.{makes, searches}
 use Rattle.gh_mutator.specs.Processing.{Processor}
-use Rattle.gh_mutator.specs.Processor.{at_task, keeping, register_of, taking}
+use Rattle.gh_mutator.specs.Processor.{at_poll, at_task, cache_span, keeping, register_of, taking}
 use Rattle.gh_mutator.specs.Serving.{is_making, is_point}
 use Rattle.gh_base.specs.Machines.{IsRoutine}
-use Rattle.gh_mutator.specs.Sound.{Sound, SoundSearch, SoundTask}
+use Rattle.gh_mutator.specs.Sound.{Sound}
 use Rattle.gh_mutator.specs.Step.{answered}
-use Rattle.gh_mutator.specs.Vocabulary.{Layout, NewStage, Search, Seeking, Shape}
+use Rattle.gh_mutator.specs.Vocabulary.{CachedSpan, Layout, NewStage, Place, Placing, Polling, Search, Seeking, Shape}
+use Rattle.gh_poll.specs.Local.{with_cached}
 use Rattle.gh_mutator.specs.Tasks.{as_global, direct, global_of, stage_of, task_kept, then_global}
-use Rattle.gh_mutator.proofs.NewSteps.{going_on_sound, searches_on}
+use Rattle.gh_mutator.proofs.NewSteps.{going_on_sound, makes_further, same_cached}
 
 -- an object is to be made: the large task that is kept is run
 kept_new : (a : TaskAt) (k : LargeTask) (n : New) → is_making (task_kept a k) ≡ true → k ≡ large.New n → task_kept a k ≡ task.New n
@@ -64,23 +67,45 @@ point_direct l m x found = point_at (step l (register_of m x.g x.r) (global_of x
 
 -- The search that it runs, as it is kept, and where it has gone on.
 module _ (l : Layout) (shapes : List Shape) (m : Processor) (a : TaskAt) (n : New) (waited : Bool) (x : Seeking) (s : Sound l shapes m) (large_at : a ≡ at.Large) (task_is : m.task ≡ task_kept a (large.New n)) (is : n.stage ≡ Search waited x) where
-  new_at : m.task ≡ task.New n
-  new_at = task_is ∙ ap (λ (b : TaskAt). task_kept b (large.New n)) large_at
-
   on : m.task ≡ searches n.wanted waited x
-  on = new_at ∙ ap (λ (k : NewStage). task.New (record { wanted = n.wanted; stage = k })) is
+  on = task_is ∙ ap (λ (b : TaskAt). task_kept b (large.New n)) large_at ∙ ap (λ (k : NewStage). task.New (record { wanted = n.wanted; stage = k })) is
 
-  abbrev kept_at : TaskAt → Seeking → Processor
-  kept_at b y = at_task m (task_kept b (large.New (record { wanted = n.wanted; stage = Search waited y })))
+  abbrev kept_at : Processor → TaskAt → Seeking → Processor
+  kept_at p b y = at_task p (task_kept b (large.New (record { wanted = n.wanted; stage = Search waited y })))
 
-  pub runs_search : SoundSearch l m.poll n.wanted x
-  runs_search = (subst (λ (t : Task). SoundTask l shapes m.poll m.made t) on s.task).1
+  module _ (q : (z : Layout) → IsRoutine z (search.listing z)) (y : Seeking) (found : ℕ) (few : found < 2 ^ 64) (goes : y ≡ search.goes l x found) (none : search.gives l x found ≡ None) where
+    -- the span that it has cached then is cached with the poll
+    cached_sound : Sound l shapes (kept_at (cache_span m n.wanted.sought y.find.cached) a y)
+    cached_sound = subst (λ (b : TaskAt). Sound l shapes (kept_at (cache_span m n.wanted.sought y.find.cached) b y)) (sym large_at) (going_on_sound l shapes q m n.wanted waited x y found few s on goes none)
 
-  pub searches_kept : (y : Seeking) (found : ℕ) → y ≡ search.goes l x found → search.gives l x found ≡ None → y.find.cached ≡ x.find.cached → kept_at a y ≡ takes l shapes m found
-  searches_kept y found goes none same =
-      ap (λ (b : TaskAt). kept_at b y) large_at
-      ∙ ap (λ (z : Seeking). at_task m (searches n.wanted waited z)) goes
-      ∙ searches_on l shapes m n.wanted waited x found s on none (ap (λ (z : Seeking). z.find.cached) (sym goes) ∙ same)
+    pub caches_sound : (cached : Option CachedSpan) (p : Polling) → cached ≡ y.find.cached → p ≡ with_cached m.poll n.wanted.sought cached → Sound l shapes (kept_at (at_poll m p) a y)
+    caches_sound cached p is_cached caches = subst (λ (b : Polling). Sound l shapes (kept_at (at_poll m b) a y)) (sym (caches ∙ ap (with_cached m.poll n.wanted.sought) is_cached)) cached_sound
 
-  pub kept_sound : ((z : Layout) → IsRoutine z (search.listing z)) → (went : Bool) (y : Seeking) (found : ℕ) → found < 2 ^ 64 → (IsTrue went → y ≡ search.goes l x found) → (IsTrue went → search.gives l x found ≡ None) → y.find.cached ≡ x.find.cached → (went ≡ false → y ≡ x) → Sound l shapes (kept_at a y)
-  kept_sound q went y found few goes gives same still = subst (λ (b : TaskAt). Sound l shapes (kept_at b y)) (sym large_at) (going_on_sound l shapes q m n waited went x y found few s new_at is goes gives same still)
+    -- it is the one that it had cached before, and the poll stays
+    pub kept_sound : y.find.cached ≡ x.find.cached → Sound l shapes (kept_at m a y)
+    kept_sound same = subst (λ (p : Processor). Sound l shapes (kept_at p a y)) (same_cached l shapes m n.wanted waited x y s on same) cached_sound
+
+  -- it has not gone on
+  pub stays_sound : (y : Seeking) → y ≡ x → Sound l shapes (kept_at m a y)
+  stays_sound y same =
+      subst (λ (z : Seeking). Sound l shapes (kept_at m a z)) (sym same)
+      (subst (λ (b : TaskAt). Sound l shapes (kept_at m b x)) (sym large_at) (subst (λ (t : Task). Sound l shapes (at_task m t)) on s))
+
+-- The making of an object that it runs, as it is kept, by a step that goes further.
+further_new : (t : Task) → is_made_further t ≡ true → is_making t ≡ true
+further_new t e = grind arith
+
+kept_large : (a : TaskAt) (n : New) → is_making (task_kept a (large.New n)) ≡ true → a ≡ at.Large
+kept_large a n making = grind arith
+
+module _ (l : Layout) (shapes : List Shape) (m : Processor) (a : TaskAt) (n : New) (p : Placing) (further : is_made_further m.task ≡ true) (task_is : m.task ≡ task_kept a (large.New n)) (is : n.stage ≡ Place p) where
+  at_large : a ≡ at.Large
+  at_large = kept_large a n (further_new (task_kept a (large.New n)) (ap is_made_further (sym task_is) ∙ further))
+
+  makes_at : m.task ≡ makes n.wanted p
+  makes_at = task_is ∙ ap (λ (b : TaskAt). task_kept b (large.New n)) at_large ∙ ap (λ (k : NewStage). task.New (record { wanted = n.wanted; stage = k })) is
+
+  pub makes_kept : (q : Placing) (found : ℕ) → q ≡ place.goes p found → place_fits.Sound l q → Sound l shapes m → Sound l shapes (at_task m (task_kept a (large.New (record { wanted = n.wanted; stage = Place q }))))
+  makes_kept q found goes sound s =
+      subst (λ (b : TaskAt). Sound l shapes (at_task m (task_kept b (large.New (record { wanted = n.wanted; stage = Place q }))))) (sym at_large)
+      (makes_further l shapes m n.wanted p q found s makes_at (sym (ap is_made_further makes_at) ∙ further) goes sound)

@@ -119,12 +119,12 @@ abbrev pub is_waiting : Task → Bool
 is_waiting (task.Gc g x) = true
 is_waiting _ = false
 
--- By the word found the search for its slot goes on in a span, or to a further page.
+-- By the word found the search for its slot goes on in the cached span or in another, or to a further page.
 abbrev pub search_goes_on : Layout → Task → (found : ℕ) → Bool
 search_goes_on l (task.New x) found = new.goes_further_at l x.stage found
 search_goes_on l _ found = false
 
--- It does, by a step that neither makes it, nor gives a span back, nor is its last.
+-- It makes an object in its slot, and its next step neither gives a span back nor is the last.
 abbrev pub is_made_further : Task → Bool
 is_made_further (task.New x) = new.is_made_further_at x.stage
 is_made_further _ = false

@@ -95,12 +95,12 @@ abbrev pub searches_at : NewStage → Bool
 searches_at (Search waited s) = true
 searches_at _ = false
 
--- by the word found the search goes on in a span, or to a further page
+-- by the word found the search goes on in the cached span or in another, or to a further page
 abbrev pub goes_further_at : Layout → NewStage → (found : ℕ) → Bool
 goes_further_at l (Search waited s) found = search.goes_further_at l s.find s.stage found
 goes_further_at l _ found = false
 
--- it is, by a step that neither makes the object, nor gives a span back, nor is its last
+-- the object is being made, and the next step neither gives a span back nor is the last
 abbrev pub is_made_further_at : NewStage → Bool
 is_made_further_at (Place p) = place.goes_further p
 is_made_further_at _ = false

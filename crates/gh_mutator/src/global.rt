@@ -1,6 +1,6 @@
 //! The load and the store of a global.
 
-ghost use Rattle.std.specs.Prelude.{◌≡◌, ℕ, ◌<◌, true, false, IfSome, List, is_some};
+ghost use Rattle.std.specs.Prelude.{◌≡◌, ℕ, ◌<◌, true, false, IfSome, List, None, Some, is_some};
 ghost use Rattle.gh_base.specs.Cells.{InRange};
 ghost use Rattle.gh_base.specs.Steps.{cell_of};
 ghost use Rattle.gh_base.specs.declared.layout.Layout.{Layout};
@@ -14,10 +14,11 @@ ghost use Rattle.gh_poll.specs.Local.{marking_at};
 ghost use Rattle.gh_mutator.specs.Global.{asks, begins_load, begins_store, naming, step};
 ghost use Rattle.gh_mutator.specs.Listing.{acts, asks as asks_of, begins, gives, gives_at, is_busy_at, takes, takes_at};
 ghost use Rattle.gh_mutator.specs.Mutating.{is_direct_at};
-ghost use Rattle.gh_mutator.specs.Serving.{is_last, is_point, is_serving};
+ghost use Rattle.gh_mutator.specs.Serving.{is_last, is_point, is_serving, statement_answer};
 ghost use Rattle.gh_mutator.specs.Processor.{at_task, register_of};
 ghost use Rattle.gh_mutator.specs.Tasks.{direct, global_of, as_global, then_global};
 ghost use Rattle.gh_mutator.specs.declared.task.Task.TheVariants as task;
+ghost use Rattle.gh_base.specs.declared.cell.Ask.TheVariants as ask;
 ghost use Rattle.gh_poll.specs.PollSound.{SoundPolling};
 ghost use Rattle.gh_poll.specs.Registers.{IsNear, IsRegister};
 ghost use Rattle.gh_mutator.specs.Sound.{Sound, SoundGlobal, SoundOp};
@@ -286,6 +287,48 @@ impl<'s> Processor<'s> {
                 }
             }
             Op::SetGlobal { .. } => Some(Answer::Done),
+            _ => None,
+        }
+    }
+
+    /// The cell that its next step loads, where it loads the name of an object to which a global referred.
+    #[inline(always)]
+    pub(crate) fn names_at(&self, layout: &Layout) -> Option<Cell>
+        ensures asks { IfSome result (λ c. asks_of layout.now self.now ≡ ask.Load c) }
+        ensures within { IfSome result (InRange layout.now) }
+        ensures busy { IfSome result (λ c. is_busy_at self.now.task ≡ true) }
+    {
+        match &self.at {
+            TaskAt::Direct(x) => match x.stage {
+                DirectStage::Birth { at } => Some(birth_cell(layout, at)),
+                _ => None,
+            },
+            _ => None,
+        }
+    }
+
+    /// Makes the step that found this at once, where by it such a load ends, and answers the load then; where not, nothing has
+    /// changed.
+    #[inline(always)]
+    pub(crate) fn names(&mut self, layout: &Layout, _shapes: &Shapes, found: u64) -> Option<Answer>
+        requires polls { SoundPolling layout.now self.old.poll }
+        requires sound { Sound layout.now _shapes.now self.old }
+        ensures goes { IfSome result (λ a. self.new ≡ takes layout.now _shapes.now self.old found) }
+        ensures last { IfSome result (λ a. is_last self.old.task ≡ false) }
+        ensures point { IfSome result (λ a. is_point (acts layout.now self.old found) ≡ false) }
+        ensures answer { IfSome result (λ a. statement_answer layout.now self.old found ≡ Some a) }
+        ensures polls { SoundPolling layout.now self.new.poll }
+        ensures sound { Sound layout.now _shapes.now self.new }
+        ensures stays { result ≡ None → self.new ≡ self.old }
+    {
+        match &self.at {
+            TaskAt::Direct(x) => match x.stage {
+                DirectStage::Birth { .. } => {
+                    self.at = TaskAt::Idle;
+                    Some(Answer::Ref(Name::unpack(found, layout.goroutines)))
+                }
+                _ => None,
+            },
             _ => None,
         }
     }

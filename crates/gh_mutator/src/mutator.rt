@@ -1,6 +1,6 @@
 //! The machine of a processor.
 
-ghost use Rattle.std.specs.Prelude.{◌≡◌, ℕ, ◌*◌, ◌<◌, IfSome, IsTrue, None, Some, true, false, is_some};
+ghost use Rattle.std.specs.Prelude.{◌≡◌, ℕ, ◌*◌, ◌<◌, IfSome, IsTrue, None, Some, length, slice_index, true, false, is_some};
 ghost use Rattle.gh_base.specs.declared.cell.Ask.TheVariants as ask;
 ghost use Rattle.gh_base.specs.declared.cell.Cell.TheVariants as cell;
 ghost use Rattle.gh_base.specs.declared.operation.Op.TheVariants as ops;
@@ -10,8 +10,8 @@ ghost use Rattle.gh_mutator.specs.AtOnce.{object_in};
 ghost use Rattle.gh_mutator.specs.Faults.{rested};
 ghost use Rattle.gh_mutator.specs.Listing.{is_made_further, is_searching, is_waiting, search_goes_on};
 ghost use Rattle.gh_base.specs.declared.layout.Layout.{Layout};
-ghost use Rattle.gh_base.specs.Cells.{InRange};
-ghost use Rattle.gh_base.specs.Steps.{cell_of, request};
+ghost use Rattle.gh_base.specs.Cells.{InRange, length_of};
+ghost use Rattle.gh_base.specs.Steps.{cell_of, changed, request, target};
 ghost use Rattle.gh_mutator.specs.Mutating.{acts, asks, begins, gives, goes, is_busy, is_direct, opening, passes, sets};
 ghost use Rattle.gh_poll.specs.Barrier.{has_entries};
 ghost use Rattle.gh_mutator.specs.Processor.{register_of, set_register};
@@ -23,7 +23,8 @@ ghost use Rattle.gh_mutator.specs.Sound.{has_names, has_room, SoundMutating, Sou
 ghost use Rattle.gh_mutator.specs.Spending.{spent_of};
 
 use crate::processor::Processor;
-use gh_base::{Answer, Ask, Cell, Layout, Op, Req, Shapes, Value};
+use gh_base::{Answer, Ask, Cell, Layout, Name, Op, Req, Shapes, Value};
+use gh_words::Words;
 use std::marker::Model;
 
 /// A processor (Go's P with its mcache): it runs the statements of goroutines, one operation at a time.
@@ -91,6 +92,38 @@ impl<'s> Mutator<'s> {
         ensures stays { result ≡ false → self.new ≡ self.old }
     {
         self.processor.passes(found)
+    }
+
+    /// Makes a poll at once while marking is on, as it knows, where the poll is only counted: the world runs, no stack is to be
+    /// scanned, and the buffer that it holds has room for the entries of a write barrier. It answers whether that is so and the processor
+    /// has not left; where not, nothing is begun.
+    // It stands apart: most polls find marking off.
+    #[inline(never)]
+    pub fn passes_marking(&mut self, layout: &Layout, found: u64) -> bool
+        requires sound { SoundMutating layout.now self.old.shapes self.old.processor }
+        requires idle { is_busy self.old ≡ false }
+        ensures passed { IsTrue result → self.new ≡ goes layout.now (begins self.old ops.Poll) found }
+        ensures sound { SoundMutating layout.now self.new.shapes self.new.processor }
+        ensures stays { result ≡ false → self.new ≡ self.old }
+    {
+        self.processor.passes_marking(layout, found)
+    }
+
+    /// Makes a poll at once, by the phase word that it finds, where it passes ([`Mutator::passes`]) or is only counted
+    /// ([`Mutator::passes_marking`]). It answers whether that is so; where not, nothing is begun.
+    #[inline(always)]
+    pub fn polls(&mut self, layout: &Layout, found: u64) -> bool
+        requires sound { SoundMutating layout.now self.old.shapes self.old.processor }
+        requires idle { is_busy self.old ≡ false }
+        ensures passes { IsTrue (passes self.old found) → result ≡ true }
+        ensures polled { IsTrue result → self.new ≡ goes layout.now (begins self.old ops.Poll) found }
+        ensures sound { SoundMutating layout.now self.new.shapes self.new.processor }
+        ensures stays { result ≡ false → self.new ≡ self.old }
+    {
+        if self.passes(found) {
+            return true;
+        }
+        self.passes_marking(layout, found)
     }
 
     /// Makes a statement on registers alone at once: its one step is the same whatever it finds. It answers whether the
@@ -266,11 +299,23 @@ impl<'s> Mutator<'s> {
         self.processor.is_searching()
     }
 
-    /// Makes the step that found this at once, where by it the search of a `new`, in its first round, goes on to the next alloc
-    /// word of a span or to a further page, and answers whether that is so; where not, nothing has changed, and [`Mutator::take`] makes
-    /// the step. Such a step answers nothing and is the point of no statement.
+    /// The cell that its next step loads, where it searches for the slot of an object and looks at a slot, a span or a page:
+    /// [`Mutator::goes_on`] or [`Mutator::finds`] may make that step.
+    #[inline(always)]
+    pub fn seeks(&self, layout: &Layout) -> Option<Cell>
+        requires sound { SoundMutating layout.now self.now.shapes self.now.processor }
+        ensures asks { IfSome result (λ c. asks layout.now self.now ≡ ask.Load c) }
+        ensures within { IfSome result (InRange layout.now) }
+        ensures busy { IfSome result (λ c. is_busy self.now ≡ true) }
+    {
+        self.processor.seeks(layout, self.shapes)
+    }
+
+    /// Makes the step that found this at once, where by it the search of a `new`, in its first round, goes on to the next slot of
+    /// the cached span, to the next alloc word of a span or to a further page, and answers whether that is so; where not, nothing
+    /// has changed, and [`Mutator::take`] makes the step. Such a step answers nothing and is the point of no statement.
     ///
-    /// In a large arena most steps of a `new` are such. Each changes a number or two of the search, where `take` goes
+    /// Most steps of a search are such. Each changes a number or two of the search, where `take` goes
     /// through all that a processor may be at.
     #[inline(always)]
     pub fn goes_on(&mut self, layout: &Layout, found: u64) -> bool
@@ -284,6 +329,22 @@ impl<'s> Mutator<'s> {
         ensures stays { result ≡ false → self.new ≡ self.old }
     {
         self.processor.goes_on(layout, self.shapes, found)
+    }
+
+    /// Makes the step that found this at once, where by it the search of a `new`, in its first round, ends with the slot at the
+    /// cursor of the cached span, and answers whether that is so: the object is made there next. Where not, nothing has changed,
+    /// and [`Mutator::take`] makes the step. Such a step answers nothing and is the point of no statement.
+    #[inline(always)]
+    pub fn finds(&mut self, layout: &Layout, found: u64) -> bool
+        requires sound { SoundMutating layout.now self.old.shapes self.old.processor }
+        ensures goes { IsTrue result → self.new ≡ goes layout.now self.old found }
+        ensures last { IsTrue result → is_last self.old.processor.task ≡ false }
+        ensures point { IsTrue result → is_point (acts layout.now self.old found) ≡ false }
+        ensures answer { IsTrue result → statement_answer layout.now self.old.processor found ≡ None }
+        ensures sound { SoundMutating layout.now self.new.shapes self.new.processor }
+        ensures stays { result ≡ false → self.new ≡ self.old }
+    {
+        self.processor.finds(layout, self.shapes, found)
     }
 
     /// It waits in a `gc`: [`Mutator::waits`] may make its next step.
@@ -322,8 +383,8 @@ impl<'s> Mutator<'s> {
         self.processor.waits(layout, found)
     }
 
-    /// It makes an object in its slot, and its next step neither makes it, nor gives a span back, nor is the last:
-    /// [`Mutator::making`] tells it.
+    /// It makes an object in its slot, and its next step neither gives a span back nor is the last: [`Mutator::make_on`] may make
+    /// it.
     #[inline(always)]
     pub fn goes_further(&self) -> bool
         ensures { result ≡ is_made_further self.now.processor.task }
@@ -331,33 +392,87 @@ impl<'s> Mutator<'s> {
         self.processor.goes_further()
     }
 
-    /// The request of its next step, where that is such a step: [`Mutator::makes`] makes it. It answers nothing and is the point of no
-    /// statement.
+    /// Makes such a step on these words, and answers whether it makes the object, which is the point of the statement. No such step
+    /// answers a statement.
     ///
     /// Where spans have room most steps of a `new` are such. `next` and `take` go through all that a processor may be at.
     #[inline(always)]
-    pub fn making(&self, layout: &Layout) -> Option<Req>
-        requires sound { SoundMutating layout.now self.now.shapes self.now.processor }
-        ensures exactly { is_some result ≡ is_made_further self.now.processor.task }
-        ensures same { IfSome result (λ r. r ≡ request layout.now (asks layout.now self.now)) }
-        ensures within { IfSome result (λ r. InRange layout.now (cell_of (asks layout.now self.now))) }
-        ensures busy { IfSome result (λ r. is_busy self.now ≡ true) }
-        ensures last { IfSome result (λ r. is_last self.now.processor.task ≡ false) }
-        ensures point { IfSome result (λ r. (found : ℕ) → is_point (acts layout.now self.now found) ≡ false) }
-        ensures answer { IfSome result (λ r. (found : ℕ) → statement_answer layout.now self.now.processor found ≡ None) }
-    {
-        self.processor.making(layout, self.shapes)
-    }
-
-    /// Makes that step, which found this.
-    #[inline(always)]
-    pub fn makes(&mut self, layout: &Layout, found: u64)
+    pub fn make_on<W: Words>(&mut self, layout: &Layout, words: &mut W) -> bool
         requires sound { SoundMutating layout.now self.old.shapes self.old.processor }
         requires further { is_made_further self.old.processor.task ≡ true }
-        ensures goes { self.new ≡ goes layout.now self.old found }
+        requires long { length (W.list words.old) ≡ length_of layout.now }
+        ensures words { W.list words.new ≡ changed (request layout.now (asks layout.now self.old)) (W.list words.old) }
+        ensures within { InRange layout.now (cell_of (asks layout.now self.old)) }
+        ensures goes { let found = slice_index (W.list words.old) (target (request layout.now (asks layout.now self.old))) in
+            self.new ≡ goes layout.now self.old found }
+        ensures busy { is_busy self.old ≡ true }
+        ensures last { is_last self.old.processor.task ≡ false }
+        ensures point { let found = slice_index (W.list words.old) (target (request layout.now (asks layout.now self.old))) in
+            is_point (acts layout.now self.old found) ≡ result }
+        ensures answer { let found = slice_index (W.list words.old) (target (request layout.now (asks layout.now self.old))) in
+            statement_answer layout.now self.old.processor found ≡ None }
         ensures sound { SoundMutating layout.now self.new.shapes self.new.processor }
     {
-        self.processor.makes(layout, self.shapes, found);
+        self.processor.make_on(layout, self.shapes, words)
+    }
+
+    /// It makes an object in its slot, and loads the trigger next: [`Mutator::ends_by`] may make its next step.
+    #[inline(always)]
+    pub fn is_at_trigger(&self) -> bool
+        ensures asks { IsTrue result → (l : Layout) → asks l self.now ≡ ask.Load cell.Trigger }
+        ensures busy { IsTrue result → is_busy self.now ≡ true }
+    {
+        self.processor.is_at_trigger()
+    }
+
+    /// Makes the step that found this at once, where by it a `new` that loads the trigger ends, and answers the name of its object
+    /// then: the heap's bytes are below the trigger, and marking is off. Where not, nothing has changed, and [`Mutator::take`] makes
+    /// the step. Such a step is the point of no statement.
+    #[inline(always)]
+    pub fn ends_by(&mut self, layout: &Layout, found: u64) -> Option<Name>
+        requires sound { SoundMutating layout.now self.old.shapes self.old.processor }
+        ensures goes { IfSome result (λ name. self.new ≡ goes layout.now self.old found) }
+        ensures last { IfSome result (λ name. is_last self.old.processor.task ≡ false) }
+        ensures point { IfSome result (λ name. is_point (acts layout.now self.old found) ≡ false) }
+        ensures answer { IfSome result (λ name. statement_answer layout.now self.old.processor found ≡ Some (answers.Ref name)) }
+        ensures sound { SoundMutating layout.now self.new.shapes self.new.processor }
+        ensures stays { result ≡ None → self.new ≡ self.old }
+    {
+        let name = self.processor.ends_by(layout, self.shapes, found);
+        if name.is_some() {
+            self.marks = self.marks.saturating_add(1);
+        }
+        name
+    }
+
+    /// The cell that its next step loads, where it loads the name of an object to which a global referred: [`Mutator::names`] may make
+    /// that step.
+    #[inline(always)]
+    pub fn names_at(&self, layout: &Layout) -> Option<Cell>
+        ensures asks { IfSome result (λ c. asks layout.now self.now ≡ ask.Load c) }
+        ensures within { IfSome result (InRange layout.now) }
+        ensures busy { IfSome result (λ c. is_busy self.now ≡ true) }
+    {
+        self.processor.names_at(layout)
+    }
+
+    /// Makes the step that found this at once, where by it the load of a global ends with the name of an object, and answers the
+    /// load then. Where not, nothing has changed, and [`Mutator::take`] makes the step. Such a step is the point of no statement.
+    #[inline(always)]
+    pub fn names(&mut self, layout: &Layout, found: u64) -> Option<Answer>
+        requires sound { SoundMutating layout.now self.old.shapes self.old.processor }
+        ensures goes { IfSome result (λ a. self.new ≡ goes layout.now self.old found) }
+        ensures last { IfSome result (λ a. is_last self.old.processor.task ≡ false) }
+        ensures point { IfSome result (λ a. is_point (acts layout.now self.old found) ≡ false) }
+        ensures answer { IfSome result (λ a. statement_answer layout.now self.old.processor found ≡ Some a) }
+        ensures sound { SoundMutating layout.now self.new.shapes self.new.processor }
+        ensures stays { result ≡ None → self.new ≡ self.old }
+    {
+        let answer = self.processor.names(layout, self.shapes, found);
+        if answer.is_some() {
+            self.marks = self.marks.saturating_add(1);
+        }
+        answer
     }
 
     /// The words that it has drawn from the bank of credit. The number stands at `u64::MAX`, which no run reaches.

@@ -12,7 +12,7 @@ ghost use Rattle.gh_base.specs.Machines.{Runs};
 ghost use Rattle.gh_mutator.specs.Listing.{gives, takes};
 ghost use Rattle.gh_alloc.specs.Place as places;
 ghost use Rattle.gh_alloc.specs.Search as sought;
-ghost use Rattle.gh_mutator.specs.New.{after_found, answer_found, answer_made, next_of, own_span, searches, seeking, wanted_of};
+ghost use Rattle.gh_mutator.specs.New.{after_found, answer_found, answer_made, makes, next_of, own_span, placing, searches, seeking, wanted_of};
 ghost use Rattle.gh_mutator.specs.NewParts.{after_making, made_at, made_by_step, MakingFits};
 ghost use Rattle.gh_mutator.specs.Processor.{at_task, made_by};
 ghost use Rattle.gh_poll.specs.Local.{marking_at, with_cached};
@@ -280,14 +280,7 @@ impl<'s> Processor<'s> {
     {
         match out {
             Found::At(at) => {
-                let shape = &shapes.rows[wanted.t as usize];
-                let name = self.next_name(&wanted);
-                let span = self.own_span(layout, &wanted.sought);
-                let marking = self.poll.marking();
-                let place = Place::new(shape, at, wanted.slot, name, span, marking);
-                let stage = NewStage::Place(place);
-                self.large = LargeTask::New(New { wanted, stage });
-                self.at = TaskAt::Large;
+                self.begin_place(layout, shapes, wanted, at);
                 None
             }
             Found::NoRoom if waited => {
@@ -302,6 +295,29 @@ impl<'s> Processor<'s> {
                 None
             }
         }
+    }
+
+    /// The object is made next, in the slot from this heap word on.
+    #[inline(always)]
+    pub(crate) fn begin_place(
+        &mut self,
+        layout: &Layout,
+        shapes: &'s Shapes,
+        wanted: Wanted,
+        at: u32,
+    )
+        requires polls { SoundPolling layout.now self.old.poll }
+        requires wanted { SoundWanted shapes.now wanted }
+        ensures { self.new ≡ at_task self.old (makes wanted (placing shapes.now self.old wanted at)) }
+    {
+        let shape = &shapes.rows[wanted.t as usize];
+        let name = self.next_name(&wanted);
+        let span = self.own_span(layout, &wanted.sought);
+        let marking = self.poll.marking();
+        let place = Place::new(shape, at, wanted.slot, name, span, marking);
+        let stage = NewStage::Place(place);
+        self.large = LargeTask::New(New { wanted, stage });
+        self.at = TaskAt::Large;
     }
 
     /// A cycle has been swept: the slot is searched for once more.

@@ -202,4 +202,20 @@ impl<'s> Processor<'s> {
             _ => false,
         }
     }
+
+    /// Makes a poll at once, by the phase word that it finds, while marking is on, where it is idle and the poll is only counted.
+    #[inline(always)]
+    pub(crate) fn passes_marking(&mut self, layout: &Layout, found: u64) -> bool
+        requires idle { is_busy_at self.old.task ≡ false }
+        requires polls { SoundPolling layout.now self.old.poll }
+        ensures passed { IsTrue result → (shapes : List Shape) → self.new ≡ takes layout.now shapes (begins shapes self.old ops.Poll) found }
+        ensures polls { SoundPolling layout.now self.new.poll }
+        ensures sound { (shapes : List Shape) → Sound layout.now shapes self.old → Sound layout.now shapes self.new }
+        ensures stays { result ≡ false → self.new ≡ self.old }
+    {
+        match self.at {
+            TaskAt::Idle => self.poll.passes_marking(layout, found),
+            _ => false,
+        }
+    }
 }

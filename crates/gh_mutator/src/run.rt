@@ -1,13 +1,13 @@
 //! The steps of a processor: what its task asks for, where it goes by what was found, what it then
 //! answers, and where a statement acts. A statement says so in its own file; here it is applied.
 
-ghost use Rattle.std.specs.Prelude.{◌≡◌, ◌<◌, ℕ, length, true, false, is_some, IfSome, IsTrue, List, None, Some};
+ghost use Rattle.std.specs.Prelude.{◌≡◌, ◌<◌, ℕ, length, slice_index, true, false, IfSome, IsTrue, List, None, Some};
 ghost use Rattle.gh_base.specs.declared.layout.Layout.{Layout};
 ghost use Rattle.gh_base.specs.declared.shape.Shape.{Shape};
 ghost use Rattle.gh_base.specs.declared.limits.TheConstants.{MOST_GOROUTINES};
-ghost use Rattle.gh_base.specs.Cells.{InRange};
-ghost use Rattle.gh_base.specs.Steps.{cell_of, request};
-ghost use Rattle.gh_base.specs.declared.value.Answer.TheVariants.{Done, Swept};
+ghost use Rattle.gh_base.specs.Cells.{InRange, length_of};
+ghost use Rattle.gh_base.specs.Steps.{cell_of, changed, request, target};
+ghost use Rattle.gh_base.specs.declared.value.Answer.TheVariants.{Done, Ref, Swept};
 ghost use Rattle.gh_mutator.specs.Listing.{acts, after_gc, after_poll, applied, asks, gives, is_busy_at, is_made_further, is_searching, is_waiting, once_ended, search_goes_on, takes};
 ghost use Rattle.gh_mutator.specs.Load as load;
 ghost use Rattle.gh_poll.specs.Local.{with_ended};
@@ -32,10 +32,11 @@ use crate::step::{Step, Then};
 use crate::task::{LargeTask, Statement, TaskAt};
 use gh_alloc::laws::searching_is_a_routine;
 use gh_barrier::laws::writing_is_a_routine;
-use gh_base::{Answer, Ask, Cell, END, Layout, Req, Routine, Shapes};
+use gh_base::{Answer, Ask, Cell, END, Layout, Name, Req, Routine, Shapes, Value};
 use gh_class::size_class_laws;
 use gh_poll::Wait;
 use gh_poll::laws::leaving_is_a_routine;
+use gh_words::Words;
 
 impl<'s> Processor<'s> {
     /// The step that it asks for.
@@ -323,8 +324,29 @@ impl<'s> Processor<'s> {
         }
     }
 
-    /// Makes the step that found this at once, where by it the search of a `new`, in its first round, goes on to the next alloc
-    /// word of a span or to a further page, and answers whether that is so; where not, nothing has changed.
+    /// The cell that its next step loads, where it searches for the slot of an object and looks at a slot, a span or a page.
+    #[inline(always)]
+    pub(crate) fn seeks(&self, layout: &Layout, _shapes: &Shapes) -> Option<Cell>
+        requires sound { Sound layout.now _shapes.now self.now }
+        ensures asks { IfSome result (λ c. asks layout.now self.now ≡ Ask.Load c) }
+        ensures within { IfSome result (InRange layout.now) }
+        ensures busy { IfSome result (λ c. is_busy_at self.now.task ≡ true) }
+    {
+        match &self.at {
+            TaskAt::Large => match &self.large {
+                LargeTask::New(new) => match &new.stage {
+                    NewStage::Search { search, .. } => search.looks(layout),
+                    _ => None,
+                },
+                _ => None,
+            },
+            _ => None,
+        }
+    }
+
+    /// Makes the step that found this at once, where by it the search of a `new`, in its first round, goes on to the next slot of
+    /// the cached span, to the next alloc word of a span or to a further page, and answers whether that is so; where not, nothing
+    /// has changed.
     #[inline(always)]
     pub(crate) fn goes_on(&mut self, layout: &Layout, _shapes: &Shapes, found: u64) -> bool
         requires polls { SoundPolling layout.now self.old.poll }
@@ -342,7 +364,48 @@ impl<'s> Processor<'s> {
         match &self.at {
             TaskAt::Large => match &mut self.large {
                 LargeTask::New(new) => match &mut new.stage {
-                    NewStage::Search { search, .. } => search.goes_on(layout, found),
+                    NewStage::Search { search, .. } => {
+                        let goes_on = search.goes_on(layout, found);
+                        if goes_on && search.is_in_span() {
+                            self.poll
+                                .cache_span(layout, &new.wanted.sought, search.cached());
+                        }
+                        goes_on
+                    }
+                    _ => false,
+                },
+                _ => false,
+            },
+            _ => false,
+        }
+    }
+
+    /// Makes the step that found this at once, where by it the search of a `new`, in its first round, ends with the slot at the
+    /// cursor of the cached span, and answers whether that is so: the object is made there next. Where not, nothing has changed.
+    #[inline(always)]
+    pub(crate) fn finds(&mut self, layout: &Layout, shapes: &'s Shapes, found: u64) -> bool
+        requires polls { SoundPolling layout.now self.old.poll }
+        requires sound { Sound layout.now shapes.now self.old }
+        ensures goes { IsTrue result → self.new ≡ takes layout.now shapes.now self.old found }
+        ensures polls { SoundPolling layout.now self.new.poll }
+        ensures sound { Sound layout.now shapes.now self.new }
+        ensures last { IsTrue result → is_last self.old.task ≡ false }
+        ensures point { IsTrue result → is_point (acts layout.now self.old found) ≡ false }
+        ensures answer { IsTrue result → statement_answer layout.now self.old found ≡ None }
+        ensures stays { result ≡ false → self.new ≡ self.old }
+    {
+        size_class_laws();
+        match &self.at {
+            TaskAt::Large => match &self.large {
+                LargeTask::New(new) => match &new.stage {
+                    NewStage::Search { search, .. } => match search.finds(layout, found) {
+                        Some(at) => {
+                            let wanted = new.wanted;
+                            self.begin_place(layout, shapes, wanted, at);
+                            true
+                        }
+                        None => false,
+                    },
                     _ => false,
                 },
                 _ => false,
@@ -394,8 +457,8 @@ impl<'s> Processor<'s> {
         }
     }
 
-    /// Its next step is one of the making of an object in its slot, and neither makes it, nor gives a span back, nor is the last:
-    /// [`Processor::making`] tells it.
+    /// Its next step is one of the making of an object in its slot, and neither gives a span back nor is the last:
+    /// [`Processor::make_on`] may make it.
     #[inline(always)]
     pub(crate) fn goes_further(&self) -> bool
         ensures { result ≡ is_made_further self.now.task }
@@ -412,45 +475,93 @@ impl<'s> Processor<'s> {
         }
     }
 
-    /// The request of its next step, where that is such a step: [`Processor::makes`] makes it.
+    /// Makes such a step on these words, and answers whether it makes the object, which is the point of the statement.
     #[inline(always)]
-    pub(crate) fn making(&self, layout: &Layout, _shapes: &Shapes) -> Option<Req>
-        requires sound { Sound layout.now _shapes.now self.now }
-        ensures exactly { is_some result ≡ is_made_further self.now.task }
-        ensures same { IfSome result (λ r. r ≡ request layout.now (asks layout.now self.now)) }
-        ensures within { IfSome result (λ r. InRange layout.now (cell_of (asks layout.now self.now))) }
-        ensures busy { IfSome result (λ r. is_busy_at self.now.task ≡ true) }
-        ensures last { IfSome result (λ r. is_last self.now.task ≡ false) }
-        ensures point { IfSome result (λ r. (found : ℕ) → is_point (acts layout.now self.now found) ≡ false) }
-        ensures answer { IfSome result (λ r. (found : ℕ) → statement_answer layout.now self.now found ≡ None) }
-    {
-        match &self.at {
-            TaskAt::Large => match &self.large {
-                LargeTask::New(new) => match &new.stage {
-                    NewStage::Place(place) if place.goes_further() => Some(place.next(layout)),
-                    _ => None,
-                },
-                _ => None,
-            },
-            _ => None,
-        }
-    }
-
-    /// Makes such a step, which found this.
-    #[inline(always)]
-    pub(crate) fn makes(&mut self, layout: &Layout, _shapes: &Shapes, found: u64)
+    pub(crate) fn make_on<W: Words>(
+        &mut self,
+        layout: &Layout,
+        _shapes: &Shapes,
+        words: &mut W,
+    ) -> bool
         requires polls { SoundPolling layout.now self.old.poll }
         requires sound { Sound layout.now _shapes.now self.old }
         requires further { is_made_further self.old.task ≡ true }
-        ensures goes { self.new ≡ takes layout.now _shapes.now self.old found }
-        ensures answer { statement_answer layout.now self.old found ≡ None }
+        requires long { length (W.list words.old) ≡ length_of layout.now }
+        ensures words { W.list words.new ≡ changed (request layout.now (asks layout.now self.old)) (W.list words.old) }
+        ensures within { InRange layout.now (cell_of (asks layout.now self.old)) }
+        ensures goes { let found = slice_index (W.list words.old) (target (request layout.now (asks layout.now self.old))) in
+            self.new ≡ takes layout.now _shapes.now self.old found }
+        ensures busy { is_busy_at self.old.task ≡ true }
+        ensures last { is_last self.old.task ≡ false }
+        ensures point { let found = slice_index (W.list words.old) (target (request layout.now (asks layout.now self.old))) in
+            is_point (acts layout.now self.old found) ≡ result }
+        ensures answer { let found = slice_index (W.list words.old) (target (request layout.now (asks layout.now self.old))) in
+            statement_answer layout.now self.old found ≡ None }
         ensures polls { SoundPolling layout.now self.new.poll }
         ensures sound { Sound layout.now _shapes.now self.new }
     {
         if let LargeTask::New(new) = &mut self.large {
             if let NewStage::Place(place) = &mut new.stage {
-                place.goes_on(layout, found);
+                let acts = place.acts();
+                place.make_on(layout, words);
+                if acts {
+                    let (g, d) = (new.wanted.g, new.wanted.d);
+                    let at = place.word();
+                    self.made[g as usize] += 1;
+                    self.poll.set_register(g, d, Value::Ref(u64::from(at) + 1));
+                }
+                return acts;
             }
         }
+        false
+    }
+
+    /// It makes an object in its slot, and loads the trigger next: [`Processor::ends_by`] may make its next step.
+    #[inline(always)]
+    pub(crate) fn is_at_trigger(&self) -> bool
+        ensures asks { IsTrue result → (l : Layout) → asks l self.now ≡ Ask.Load Cell.Trigger }
+        ensures busy { IsTrue result → is_busy_at self.now.task ≡ true }
+    {
+        match &self.at {
+            TaskAt::Large => match &self.large {
+                LargeTask::New(new) => match &new.stage {
+                    NewStage::Place(place) => place.is_at_trigger(),
+                    _ => false,
+                },
+                _ => false,
+            },
+            _ => false,
+        }
+    }
+
+    /// Makes the step that found this at once, where by it a `new` that loads the trigger ends, and answers the name of its
+    /// object then; where not, nothing has changed. It ends where the heap's bytes are below the trigger and marking is off.
+    #[inline(always)]
+    pub(crate) fn ends_by(&mut self, layout: &Layout, _shapes: &Shapes, found: u64) -> Option<Name>
+        requires polls { SoundPolling layout.now self.old.poll }
+        requires sound { Sound layout.now _shapes.now self.old }
+        ensures goes { IfSome result (λ name. self.new ≡ takes layout.now _shapes.now self.old found) }
+        ensures last { IfSome result (λ name. is_last self.old.task ≡ false) }
+        ensures point { IfSome result (λ name. is_point (acts layout.now self.old found) ≡ false) }
+        ensures answer { IfSome result (λ name. statement_answer layout.now self.old found ≡ Some (Ref name)) }
+        ensures polls { SoundPolling layout.now self.new.poll }
+        ensures sound { Sound layout.now _shapes.now self.new }
+        ensures stays { result ≡ None → self.new ≡ self.old }
+    {
+        let _ = layout;
+        let TaskAt::Large = &self.at else {
+            return None;
+        };
+        let LargeTask::New(new) = &self.large else {
+            return None;
+        };
+        let NewStage::Place(place) = &new.stage else {
+            return None;
+        };
+        if !place.ends_by(found) || self.poll.marking() {
+            return None;
+        }
+        self.at = TaskAt::Idle;
+        Some(place.name())
     }
 }

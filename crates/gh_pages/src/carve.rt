@@ -1,6 +1,8 @@
 //! The routine that looks for the pages of a span and writes their page words.
 
-ghost use Rattle.std.specs.Prelude.{◌≡◌, ◌+◌, ◌^◌, ◌<◌, ◌≤◌, IsTrue, None, false};
+ghost use Rattle.std.specs.Prelude.{◌≡◌, ◌+◌, ◌^◌, ◌<◌, ◌≤◌, IfSome, IsTrue, None, false};
+ghost use Rattle.gh_base.specs.declared.cell.Ask.TheVariants.{Load};
+ghost use Rattle.gh_base.specs.declared.layout.Layout.{Layout};
 ghost use Rattle.gh_base.specs.Cells.{InRange};
 ghost use Rattle.gh_base.specs.Steps.{cell_of};
 ghost use Rattle.gh_base.specs.Packing.{body_word, head_word};
@@ -183,6 +185,18 @@ impl Carve {
                 page: page + 1,
                 run: row,
             }
+        }
+    }
+
+    /// The cell that its next step loads, where it looks at a page.
+    #[inline(always)]
+    pub fn looks(&self) -> Option<Cell>
+        ensures asks { IfSome result (λ c. asks self.now ≡ Load c) }
+        ensures within { (l : Layout) → Sound l self.now → IfSome result (InRange l) }
+    {
+        match self.stage {
+            CarveStage::Look { page, .. } => Some(Cell::Page(page)),
+            _ => None,
         }
     }
 

@@ -197,6 +197,35 @@ impl Poll {
         }
     }
 
+    /// Makes a poll of a turn's own at once, by the phase word that it finds, while marking is on, as the processor knows, where it is
+    /// only counted: no poll is under way, the world runs, no stack is to be scanned, and the buffer that is held has room for the two
+    /// entries of a write barrier. It answers whether that is so; where not, nothing is begun.
+    #[inline(always)]
+    pub fn passes_marking(&mut self, layout: &Layout, found: u64) -> bool
+        requires sound { SoundPolling layout.now self.old }
+        ensures passed { IsTrue result → (self.new ≡ goes layout.now (begins self.old false) found) × (gives_by layout.now (begins self.old false) found ≡ Some tt) }
+        ensures sound { SoundPolling layout.now self.new }
+        ensures stays { result ≡ false → self.new ≡ self.old }
+    {
+        if !matches!(self.at, PollAt::Over) {
+            return false;
+        }
+        let word = PhaseWord::unpack(found);
+        if RunPhase::of(word.phase).is_none() {
+            return false;
+        }
+        match self.local.view.phase {
+            RunPhase::Off | RunPhase::Finished => return false,
+            RunPhase::Mark => {}
+        }
+        if !has_two(self.local.held) || self.due(layout).is_some() {
+            return false;
+        }
+        self.waits = false;
+        self.local.polls = self.local.polls.wrapping_add(1);
+        true
+    }
+
     /// The cell that its next step loads, where it begins or waits for the end of a stop.
     #[inline(always)]
     pub fn looks(&self) -> Option<Cell>

@@ -1,5 +1,5 @@
 -- An operation of one step that is begun and ended at once.
-use Rattle.std.proofs.Common.{◌≡◌, ℕ, Bool, false, List, refl, sym, ◌∙◌, ap, Some, arith}
+use Rattle.std.proofs.Common.{◌≡◌, ℕ, Bool, true, false, List, refl, sym, ◌∙◌, ap, None, Some, arith}
 use Rattle.gh_base.specs.declared.operation.Op.TheVariants as op
 use Rattle.gh_mutator.specs.Mutating.{asks, begins, goes}
 use Rattle.gh_mutator.specs.PollRoom.{PollsMakeRoom}
@@ -35,3 +35,20 @@ module _ (p : Program) (l : Layout) (script : WellFormed p) (layout : LaysOut p 
         says = says;
         point = point;
       }
+
+-- ---- a step of what is begun
+
+module _ (p : Program) (l : Layout) (a : ℕ) (x : Runner) (f : SoundTurns p a x.mutator x.progress) (busy : is_busy_at x.mutator.processor.task ≡ true) (before behind : List ℕ) (y : Runner) (within : InRange l (cell_of (asks l x.mutator))) (words : behind ≡ changed (request l (asks l x.mutator)) before) (after : y ≡ record x { mutator = goes l x.mutator (found_for l before x) }) where
+  pub further : (happened : Event) (pointed : Bool) → happened ≡ event_at (now_of x.progress) (is_last x.mutator.processor.task) (statement_answer l x.mutator.processor (found_for l before x)) →
+      pointed ≡ is_point (acts l x.mutator.processor (found_for l before x)) → Ran p l a before behind x y happened pointed
+  further happened pointed says point = record {
+    begun = x;
+    begins = record { o = None; is = ap (λ (b : Bool). op_at_turn p b x.progress.next) (sym busy); mutator = refl; goes = refl; progress = refl };
+    fits = f;
+    busy = busy;
+    within = within;
+    words = words;
+    goes = after;
+    says = says;
+    point = point;
+  }

@@ -9,7 +9,7 @@ use Rattle.gh_world.specs.declared.runner.Runner.{Runner}
 use Rattle.gh_world.specs.Turns.{next_point, total_of}
 use Rattle.gh_world.specs.Vocabulary.{is_last, CoordStage}
 use Rattle.gh_world.specs.After.{Appends, IsAfter}
-use Rattle.gh_world.specs.World.{AllDone, answered_of, Begins, event_at, SoundState, SoundRunners, SoundTurns, SoundWords, Ran, State, IsStepOfCoordinator, IsStepOfProcessor, IsStepOfWorker, begun_as, found_by, is_done, now_of, worker_or}
+use Rattle.gh_world.specs.World.{AllDone, answered_by, answered_of, Begins, event_at, SoundState, SoundRunners, SoundTurns, SoundWords, Ran, State, IsStepOfCoordinator, IsStepOfProcessor, IsStepOfWorker, begun_as, found_by, is_done, now_of, worker_or}
 use Rattle.gh_world.specs.Schedule.{has_ended}
 use Rattle.gh_world.proofs.Vocabulary.{acts, answered_in, bit, by, cell_of, changed, Entry, Event, has_left_at, InRange, is_busy_at, is_point, Layout, Mutating, Next, Op, processor_kind, Program, progress_after, request, set, Shape, slice_get, slice_get_past, slice_get_within, started, state_of, statement_answer, StepsAreShown, takes}
 use Rattle.gh_world.proofs.Fitting.{answered_all, busy_begun, due_room, fits_again, marks_few, marks_more, point_room, ran}
@@ -124,6 +124,21 @@ module _ (polls : PollsMakeRoom) (w : State) (points room : ℕ) (f : SoundState
 
   pub words_there : SoundWords w.script w.layout list
   words_there = fits_again _ _ _ _ (request w.layout (asks w.layout r.begun.mutator)) r.words f.base
+
+  -- and so the world is sound again, with so many points more
+  pub fit_there : (items : List (ℕ × ℕ)) → SoundState (record w { words = list; runners = set w.runners a z; points = items }) (points + bit b) room
+  fit_there items = record { base = words_there; running = ran_there; others = f.others }
+
+  -- with as many as before, where the step is the point of no statement
+  pub fit_still : b ≡ false → (items : List (ℕ × ℕ)) → SoundState (record w { words = list; runners = set w.runners a z; points = items }) points room
+  fit_still none items =
+      let no_more : bit b ≡ 0 = ap bit none in
+      let same : points + bit b ≡ points = omega (arith, no_more) in
+      subst (λ (n : ℕ). SoundState (record w { words = list; runners = set w.runners a z; points = items }) n room) same (fit_there items)
+
+  -- and has no more answers than statements
+  pub few_there : answered_by (set w.runners a z) ≤ total_of w.script
+  few_there = answered_all _ _ _ _ _ ran_there
 
   pub run_is : (items : List (ℕ × ℕ)) (now : ℕ × ℕ) → now ≡ now_of z.progress → items ≡ w.points ++ next_point b now → IsStepOfProcessor w (record w { words = list; runners = set w.runners a z; points = items }) a happened
   run_is items now noted items_are =

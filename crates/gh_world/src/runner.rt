@@ -1,6 +1,6 @@
 //! A processor of a world, and how far it is among its turns.
 
-ghost use Rattle.std.specs.Prelude.{◌≡◌, ℕ, ◌<◌, ◌&&◌, not, length, slice_index, true, false, IfSome, IsTrue, MatchOption, None};
+ghost use Rattle.std.specs.Prelude.{◌≡◌, ℕ, ◌<◌, ◌&&◌, not, length, slice_index, true, false, IfSome, IsTrue, None, Some};
 ghost use Rattle.gh_base.specs.Cells.{InRange, length_of};
 ghost use Rattle.gh_base.specs.declared.limits.TheConstants.{MOST_GOROUTINES};
 ghost use Rattle.gh_base.specs.declared.layout.Layout.{Layout};
@@ -9,37 +9,54 @@ ghost use Rattle.gh_base.specs.declared.cell.Ask.TheVariants as ask;
 ghost use Rattle.gh_base.specs.declared.cell.Cell.TheVariants as cell;
 ghost use Rattle.gh_base.specs.declared.value.Answer.TheVariants as answers;
 ghost use Rattle.gh_world.specs.declared.event.Event.TheVariants as events;
-ghost use Rattle.gh_mutator.specs.Listing.{is_made_further, search_goes_on};
+ghost use Rattle.gh_mutator.specs.Listing.{is_made_further};
 ghost use Rattle.gh_mutator.specs.Mutating as mutating;
 ghost use Rattle.gh_mutator.specs.Mutating.{asks, goes, is_busy, passes, sets};
 ghost use Rattle.gh_mutator.specs.Serving.{has_left_at, is_last, is_point, statement_answer};
 ghost use Rattle.gh_mutator.specs.Sound.{SoundMutating};
 ghost use Rattle.gh_world.specs.Turns.{is_poll_due, op_due};
-ghost use Rattle.gh_world.specs.World.{event_at, now_of, Begins, SoundTurns, IsOpening, LaysOut, Ran};
+ghost use Rattle.gh_world.specs.World.{event_at, now_of, op_at_turn, Begins, SoundTurns, IsOpening, LaysOut, Ran};
 
 use crate::event::{Event, event_at};
 use crate::progress::Progress;
 use crate::turns::{Next, following};
-use gh_base::{Answer, Ask, Cell, Layout};
+use gh_base::{Answer, Ask, Cell, Layout, Name, Op};
 use gh_mutator::Mutator;
 use gh_mutator::laws::polls_make_room;
 use gh_script::Script;
 use gh_words::{Plain, Words};
 
-/// Makes the step that found this at once, where by it the search of a `new` goes on ([`Mutator::goes_on`]).
+/// Makes a step of the search of a `new` at once, where it goes on at once ([`Mutator::goes_on`]) or by it the search has found
+/// what it is for ([`Mutator::finds`]). It answers whether it did; where not, nothing is done. Such a step is a load, which changes
+/// no word.
 // It stands apart, so that the loop of turns holds none of it.
 #[inline(never)]
-fn goes_on<'s>(layout: &Layout, mutator: &mut Mutator<'s>, found: u64) -> bool
+fn goes_on<'s>(layout: &Layout, mutator: &mut Mutator<'s>, words: &Plain) -> bool
     requires sound { SoundMutating layout.now mutator.old.shapes mutator.old.processor }
-    ensures exactly { result ≡ search_goes_on layout.now mutator.old.processor.task found }
-    ensures goes { IsTrue result → mutator.new ≡ goes layout.now mutator.old found }
+    requires long { length words.now ≡ length_of layout.now }
+    ensures words { IsTrue result → words.now ≡ changed (request layout.now (asks layout.now mutator.old)) words.now }
+    ensures within { IsTrue result → InRange layout.now (cell_of (asks layout.now mutator.old)) }
+    ensures goes { let found = slice_index words.now (target (request layout.now (asks layout.now mutator.old))) in
+        IsTrue result → mutator.new ≡ goes layout.now mutator.old found }
     ensures last { IsTrue result → is_last mutator.old.processor.task ≡ false }
-    ensures point { IsTrue result → is_point (mutating.acts layout.now mutator.old found) ≡ false }
-    ensures answer { IsTrue result → statement_answer layout.now mutator.old.processor found ≡ None }
+    ensures point { let found = slice_index words.now (target (request layout.now (asks layout.now mutator.old))) in
+        IsTrue result → is_point (mutating.acts layout.now mutator.old found) ≡ false }
+    ensures answer { let found = slice_index words.now (target (request layout.now (asks layout.now mutator.old))) in
+        IsTrue result → statement_answer layout.now mutator.old.processor found ≡ None }
     ensures sound { SoundMutating layout.now mutator.new.shapes mutator.new.processor }
     ensures stays { result ≡ false → mutator.new ≡ mutator.old }
 {
-    mutator.goes_on(layout, found)
+    match mutator.seeks(layout) {
+        Some(cell) => {
+            let word = layout.word(cell);
+            let found = words.word_at(word);
+            if mutator.goes_on(layout, found) {
+                return true;
+            }
+            mutator.finds(layout, found)
+        }
+        None => false,
+    }
 }
 
 /// Makes a step of a `gc` that waits, where it goes on at once ([`Mutator::waits`]). It answers whether it did; where not, nothing
@@ -69,9 +86,9 @@ fn waits<'s>(layout: &Layout, mutator: &mut Mutator<'s>, words: &Plain) -> bool
     }
 }
 
-/// Makes a step of the making of an object at once ([`Mutator::makes`]).
+/// Makes a step of the making of an object at once ([`Mutator::make_on`]), and answers whether it is the point of the statement.
 #[inline(never)]
-fn make_on<'s>(layout: &Layout, mutator: &mut Mutator<'s>, words: &mut Plain)
+fn make_on<'s>(layout: &Layout, mutator: &mut Mutator<'s>, words: &mut Plain) -> bool
     requires sound { SoundMutating layout.now mutator.old.shapes mutator.old.processor }
     requires further { is_made_further mutator.old.processor.task ≡ true }
     requires long { length words.old ≡ length_of layout.now }
@@ -79,17 +96,66 @@ fn make_on<'s>(layout: &Layout, mutator: &mut Mutator<'s>, words: &mut Plain)
     ensures within { InRange layout.now (cell_of (asks layout.now mutator.old)) }
     ensures goes { let found = slice_index words.old (target (request layout.now (asks layout.now mutator.old))) in
         mutator.new ≡ goes layout.now mutator.old found }
+    ensures busy { is_busy mutator.old ≡ true }
     ensures last { is_last mutator.old.processor.task ≡ false }
-    ensures point { (found : ℕ) → is_point (mutating.acts layout.now mutator.old found) ≡ false }
-    ensures answer { (found : ℕ) → statement_answer layout.now mutator.old.processor found ≡ None }
+    ensures point { let found = slice_index words.old (target (request layout.now (asks layout.now mutator.old))) in
+        is_point (mutating.acts layout.now mutator.old found) ≡ result }
+    ensures answer { let found = slice_index words.old (target (request layout.now (asks layout.now mutator.old))) in
+        statement_answer layout.now mutator.old.processor found ≡ None }
     ensures sound { SoundMutating layout.now mutator.new.shapes mutator.new.processor }
 {
-    match mutator.making(layout) {
-        Some(request) => {
-            let found = words.step(request);
-            mutator.makes(layout, found);
+    mutator.make_on(layout, words)
+}
+
+/// Makes the step that loads the trigger at once, where by it the `new` ends and does not ask for a cycle ([`Mutator::ends_by`]). It
+/// answers the name of the object, which the statement is answered; where not, nothing is done. Such a step changes no word.
+#[inline(always)]
+fn end_making<'s>(layout: &Layout, mutator: &mut Mutator<'s>, words: &Plain) -> Option<Name>
+    requires sound { SoundMutating layout.now mutator.old.shapes mutator.old.processor }
+    requires long { length words.now ≡ length_of layout.now }
+    ensures words { IfSome result (λ name. words.now ≡ changed (request layout.now (asks layout.now mutator.old)) words.now) }
+    ensures within { IfSome result (λ name. InRange layout.now (cell_of (asks layout.now mutator.old))) }
+    ensures goes { let found = slice_index words.now (target (request layout.now (asks layout.now mutator.old))) in
+        IfSome result (λ name. mutator.new ≡ goes layout.now mutator.old found) }
+    ensures last { IfSome result (λ name. is_last mutator.old.processor.task ≡ false) }
+    ensures point { let found = slice_index words.now (target (request layout.now (asks layout.now mutator.old))) in
+        IfSome result (λ name. is_point (mutating.acts layout.now mutator.old found) ≡ false) }
+    ensures answer { let found = slice_index words.now (target (request layout.now (asks layout.now mutator.old))) in
+        IfSome result (λ name. statement_answer layout.now mutator.old.processor found ≡ Some (answers.Ref name)) }
+    ensures sound { SoundMutating layout.now mutator.new.shapes mutator.new.processor }
+    ensures stays { result ≡ None → mutator.new ≡ mutator.old }
+{
+    if !mutator.is_at_trigger() {
+        return None;
+    }
+    let word = layout.word(Cell::Trigger);
+    mutator.ends_by(layout, words.word_at(word))
+}
+
+/// Makes the step that loads the name of an object to which a global referred at once ([`Mutator::names`]). It answers what the load of
+/// the global is answered; where that is not the next step, nothing is done. Such a step changes no word.
+#[inline(always)]
+fn end_naming<'s>(layout: &Layout, mutator: &mut Mutator<'s>, words: &Plain) -> Option<Answer>
+    requires sound { SoundMutating layout.now mutator.old.shapes mutator.old.processor }
+    requires long { length words.now ≡ length_of layout.now }
+    ensures words { IfSome result (λ a. words.now ≡ changed (request layout.now (asks layout.now mutator.old)) words.now) }
+    ensures within { IfSome result (λ a. InRange layout.now (cell_of (asks layout.now mutator.old))) }
+    ensures goes { let found = slice_index words.now (target (request layout.now (asks layout.now mutator.old))) in
+        IfSome result (λ a. mutator.new ≡ goes layout.now mutator.old found) }
+    ensures last { IfSome result (λ a. is_last mutator.old.processor.task ≡ false) }
+    ensures point { let found = slice_index words.now (target (request layout.now (asks layout.now mutator.old))) in
+        IfSome result (λ a. is_point (mutating.acts layout.now mutator.old found) ≡ false) }
+    ensures answer { let found = slice_index words.now (target (request layout.now (asks layout.now mutator.old))) in
+        IfSome result (λ a. statement_answer layout.now mutator.old.processor found ≡ Some a) }
+    ensures sound { SoundMutating layout.now mutator.new.shapes mutator.new.processor }
+    ensures stays { result ≡ None → mutator.new ≡ mutator.old }
+{
+    match mutator.names_at(layout) {
+        Some(cell) => {
+            let word = layout.word(cell);
+            mutator.names(layout, words.word_at(word))
         }
-        None => unreachable!(),
+        None => None,
     }
 }
 
@@ -115,9 +181,7 @@ impl<'s> Runner<'s> {
 
     /// One step of the processor at this seat, which begins its next operation where none is begun: what it says, and whether
     /// it is the point of the statement begun last.
-    // Polls with nothing to do, and statements on registers alone, are most of all operations, and have one step: they are made
-    // at once, and leave the processor's task as it stands.
-    #[inline(always)]
+    #[inline(never)]
     pub fn run(
         &mut self,
         script: &Script,
@@ -133,22 +197,57 @@ impl<'s> Runner<'s> {
         ensures ran { Ran script.now layout.now seat words.old words.new self.old self.new result.0 result.1 }
         ensures sound { SoundMutating layout.now self.new.mutator.shapes self.new.mutator.processor }
     {
-        if self.passes(script, layout, seat, words) {
-            return (Event::Moved, false);
-        }
-        if self.sets(script, layout, seat, words) {
-            let (g, n) = self.progress.now();
-            let answer = Answer::Done;
-            return (Event::Answered { g, n, answer }, true);
-        }
-        if let Some(event) = self.directs(script, layout, seat, words) {
-            return (event, true);
+        if self.mutator.is_busy() {
+            return self.advance(layout, words);
         }
         self.begin_next(script, layout, seat);
         self.advance(layout, words)
     }
 
-    /// Makes the poll that comes next at once, where it has nothing to do. It answers whether it did; where not, nothing is done.
+    /// Makes one step of the processor at this seat at once, where that says nothing more than that it moved, and is a poll with
+    /// nothing to do, or a step of the search or the making of an object, or of the wait of a `gc`, that goes on. It answers whether
+    /// it is the point of the statement begun last; `None`: nothing is done.
+    // Most of all steps are such, and none of them goes through all that a processor may be at.
+    #[inline(always)]
+    pub fn moves(
+        &mut self,
+        script: &Script,
+        layout: &Layout,
+        seat: u32,
+        words: &mut Plain,
+    ) -> Option<bool>
+        requires layout { LaysOut script.now layout.now }
+        requires fits { SoundTurns script.now seat self.old.mutator self.old.progress }
+        requires sound { SoundMutating layout.now self.old.mutator.shapes self.old.mutator.processor }
+        requires going { has_left_at self.old.mutator.processor.task ≡ false }
+        requires long { length words.old ≡ length_of layout.now }
+        ensures ran { IfSome result (λ is_point. Ran script.now layout.now seat words.old words.new self.old self.new events.Moved is_point) }
+        ensures sound { SoundMutating layout.now self.new.mutator.shapes self.new.mutator.processor }
+        ensures stays { result ≡ None → (self.new ≡ self.old) × (words.new ≡ words.old) }
+    {
+        if !self.mutator.is_busy() {
+            if self.passes(script, layout, seat, words) {
+                return Some(false);
+            }
+            return None;
+        }
+        if self.mutator.goes_further() {
+            return Some(make_on(layout, &mut self.mutator, words));
+        }
+        if self.mutator.is_searching() {
+            if goes_on(layout, &mut self.mutator, words) {
+                return Some(false);
+            }
+            return None;
+        }
+        if self.mutator.is_waiting() && waits(layout, &mut self.mutator, words) {
+            return Some(false);
+        }
+        None
+    }
+
+    /// Makes the poll that comes next at once, where it has nothing to do, or is only counted ([`Mutator::polls`]). It answers whether
+    /// it did; where not, nothing is done.
     #[inline(always)]
     fn passes(&mut self, script: &Script, layout: &Layout, seat: u32, words: &mut Plain) -> bool
         requires layout { LaysOut script.now layout.now }
@@ -156,8 +255,8 @@ impl<'s> Runner<'s> {
         requires sound { SoundMutating layout.now self.old.mutator.shapes self.old.mutator.processor }
         requires going { has_left_at self.old.mutator.processor.task ≡ false }
         requires long { length words.old ≡ length_of layout.now }
-        ensures exactly { let found = slice_index words.old (target (request layout.now (ask.Load cell.Phase))) in
-            result ≡ (not (is_busy self.old.mutator) && is_poll_due self.old.progress.next && passes self.old.mutator found) }
+        ensures passes { let found = slice_index words.old (target (request layout.now (ask.Load cell.Phase))) in
+            IsTrue (not (is_busy self.old.mutator) && is_poll_due self.old.progress.next && passes self.old.mutator found) → result ≡ true }
         ensures ran { IsTrue result → Ran script.now layout.now seat words.old words.new self.old self.new events.Moved false }
         ensures sound { SoundMutating layout.now self.new.mutator.shapes self.new.mutator.processor }
         ensures stays { result ≡ false → (self.new ≡ self.old) × (words.new ≡ words.old) }
@@ -171,7 +270,7 @@ impl<'s> Runner<'s> {
             return false;
         };
         let request = layout.request(Ask::Load(Cell::Phase));
-        if !self.mutator.passes(words.word_at(request.word())) {
+        if !self.mutator.polls(layout, words.word_at(request.word())) {
             return false;
         }
         words.step(request);
@@ -179,16 +278,25 @@ impl<'s> Runner<'s> {
         true
     }
 
-    /// Makes the statement that comes next at once, where it is on registers alone. It answers whether it did; where not, nothing
-    /// is done.
+    /// Makes what comes next at once, nothing being begun, where it is a statement on registers alone. It answers whether it did; where
+    /// not, nothing is done.
     #[inline(always)]
-    fn sets(&mut self, script: &Script, layout: &Layout, seat: u32, words: &mut Plain) -> bool
+    pub fn sets(
+        &mut self,
+        script: &Script,
+        layout: &Layout,
+        seat: u32,
+        op: Op,
+        words: &mut Plain,
+    ) -> bool
         requires layout { LaysOut script.now layout.now }
         requires fits { SoundTurns script.now seat self.old.mutator self.old.progress }
         requires sound { SoundMutating layout.now self.old.mutator.shapes self.old.mutator.processor }
+        requires idle { is_busy self.old.mutator ≡ false }
+        requires due { op_due script.now self.old.progress.next ≡ Some op }
         requires going { has_left_at self.old.mutator.processor.task ≡ false }
         requires long { length words.old ≡ length_of layout.now }
-        ensures exactly { MatchOption (op_due script.now self.old.progress.next) (result ≡ false) (λ o. result ≡ (not (is_busy self.old.mutator) && sets self.old.mutator o)) }
+        ensures exactly { result ≡ sets self.old.mutator op }
         ensures ran { let now = now_of self.new.progress in
             IsTrue result → Ran script.now layout.now seat words.old words.new self.old self.new (events.Answered now.0 now.1 answers.Done) true }
         ensures sound { SoundMutating layout.now self.new.mutator.shapes self.new.mutator.processor }
@@ -196,12 +304,6 @@ impl<'s> Runner<'s> {
     {
         polls_make_room();
         script.is_well_formed();
-        if self.mutator.is_busy() {
-            return false;
-        }
-        let Some(op) = self.progress.due(script) else {
-            return false;
-        };
         if !self.mutator.sets(layout, op) {
             return false;
         }
@@ -210,44 +312,22 @@ impl<'s> Runner<'s> {
         true
     }
 
-    /// Makes the first step of the load or the store of a global at once ([`Mutator::directly`]), where that comes next, and tells what
-    /// it says; where not, nothing is done.
-    #[inline(always)]
-    fn directs(
-        &mut self,
-        script: &Script,
-        layout: &Layout,
-        seat: u32,
-        words: &mut Plain,
-    ) -> Option<Event>
-        requires layout { LaysOut script.now layout.now }
-        requires fits { SoundTurns script.now seat self.old.mutator self.old.progress }
-        requires sound { SoundMutating layout.now self.old.mutator.shapes self.old.mutator.processor }
-        requires going { has_left_at self.old.mutator.processor.task ≡ false }
-        requires long { length words.old ≡ length_of layout.now }
-        ensures ran { IfSome result (λ event. Ran script.now layout.now seat words.old words.new self.old self.new event true) }
-        ensures sound { SoundMutating layout.now self.new.mutator.shapes self.new.mutator.processor }
-        ensures stays { result ≡ None → (self.new ≡ self.old) × (words.new ≡ words.old) }
-    {
-        if self.mutator.is_busy() {
-            return None;
-        }
-        self.begin_direct(script, layout, seat, words)
-    }
-
-    /// The same, where nothing is begun. It is a call, since most turns go on with what is begun.
+    /// Makes the first step of what comes next at once, nothing being begun, where that is the load or the store of a global
+    /// ([`Mutator::directly`]), and tells what it says; where not, nothing is done. It is a call, since few turns are such.
     #[inline(never)]
-    fn begin_direct(
+    pub fn directs(
         &mut self,
         script: &Script,
         layout: &Layout,
         seat: u32,
+        op: Op,
         words: &mut Plain,
     ) -> Option<Event>
         requires layout { LaysOut script.now layout.now }
         requires fits { SoundTurns script.now seat self.old.mutator self.old.progress }
         requires sound { SoundMutating layout.now self.old.mutator.shapes self.old.mutator.processor }
         requires idle { is_busy self.old.mutator ≡ false }
+        requires due { op_due script.now self.old.progress.next ≡ Some op }
         requires going { has_left_at self.old.mutator.processor.task ≡ false }
         requires long { length words.old ≡ length_of layout.now }
         ensures ran { IfSome result (λ event. Ran script.now layout.now seat words.old words.new self.old self.new event true) }
@@ -256,9 +336,6 @@ impl<'s> Runner<'s> {
     {
         polls_make_room();
         script.is_well_formed();
-        let Some(op) = self.progress.due(script) else {
-            return None;
-        };
         let Some(ask) = self.mutator.direct(layout, op) else {
             return None;
         };
@@ -267,6 +344,20 @@ impl<'s> Runner<'s> {
         self.progress.advance(script, seat, op);
         let (g, n) = self.progress.now();
         Some(event_at(g, n, false, answer))
+    }
+
+    /// What it begins with its next step: `None` exactly where something is begun, or nothing is to come.
+    #[inline(always)]
+    pub fn due(&self, script: &Script) -> Option<Op>
+        requires { (seat : ℕ) × SoundTurns script.now seat self.now.mutator self.now.progress }
+        ensures is { result ≡ op_at_turn script.now (is_busy self.now.mutator) self.now.progress.next }
+        ensures idle { IfSome result (λ op. is_busy self.now.mutator ≡ false) }
+        ensures due { IfSome result (λ op. op_due script.now self.now.progress.next ≡ Some op) }
+    {
+        if self.mutator.is_busy() {
+            return None;
+        }
+        self.progress.due(script)
     }
 
     /// Begins the next operation of the processor at this seat where none is begun.
@@ -322,17 +413,16 @@ impl<'s> Runner<'s> {
             result.1 ≡ is_point (mutating.acts layout.now self.old.mutator found) }
         ensures sound { SoundMutating layout.now self.new.mutator.shapes self.new.mutator.processor }
     {
-        if self.mutator.is_waiting() && waits(layout, &mut self.mutator, words) {
-            return (Event::Moved, false);
+        if let Some(answer) = end_naming(layout, &mut self.mutator, words) {
+            let (g, n) = self.progress.now();
+            return (Event::Answered { g, n, answer }, false);
         }
-        if self.mutator.goes_further() {
-            make_on(layout, &mut self.mutator, words);
-            return (Event::Moved, false);
+        if let Some(name) = end_making(layout, &mut self.mutator, words) {
+            let (g, n) = self.progress.now();
+            let answer = Answer::Ref(name);
+            return (Event::Answered { g, n, answer }, false);
         }
         let found = words.step(self.mutator.next(layout));
-        if self.mutator.is_searching() && goes_on(layout, &mut self.mutator, found) {
-            return (Event::Moved, false);
-        }
         let is_serving = self.mutator.is_serving();
         let is_last = self.mutator.is_last();
         let is_point = self.mutator.is_point(layout, found);

@@ -28,7 +28,7 @@ use crate::runner::Runner;
 use crate::turns::total_of;
 use crate::wishes::most_cycles;
 use gh_base::laws::{a_state_is_of_its_own_entries, steps_are_shown};
-use gh_base::{Ask, Cell, Layout, Op, Req, Routine};
+use gh_base::{Answer, Ask, Cell, Layout, Op, Routine};
 use gh_coord::laws::it_goes_on_until_done;
 use gh_coord::{Coord, Cycle, first_trigger};
 use gh_mutator::Processor;
@@ -93,35 +93,8 @@ fn workers_of(alloc: Global, layout: &Layout) -> Result<Vec<Worker>, AllocError>
     Ok(workers)
 }
 
-/// The step that a worker asks for. Mostly it waits, and loads a word that it looks at, so that is tried first.
-#[inline(always)]
-fn asked_of_worker(layout: &Layout, machine: &Worker) -> Req
-    requires sound { SoundWorking layout.now machine.now }
-    requires busy { worker.is_busy machine.now.stage ≡ true }
-    ensures same { result ≡ request layout.now (worker.asks layout.now machine.now) }
-    ensures within { InRange layout.now (cell_of (worker.asks layout.now machine.now)) }
-{
-    match machine.looks() {
-        Some(cell) => layout.request(Ask::Load(cell)),
-        None => machine.next(layout),
-    }
-}
-
-/// The step that a coordinator asks for, in the same way.
-#[inline(always)]
-fn asked_of_coordinator(layout: &Layout, machine: &Coord) -> Req
-    requires sound { SoundCoordinating layout.now machine.now }
-    requires busy { IsBusy (listing layout.now) machine.now }
-    ensures same { result ≡ request layout.now (coord.asks layout.now machine.now) }
-    ensures within { InRange layout.now (cell_of (coord.asks layout.now machine.now)) }
-{
-    match machine.looks(layout) {
-        Some(cell) => layout.request(Ask::Load(cell)),
-        None => machine.next(layout),
-    }
-}
-
-/// One step of a worker that is not idle. Mostly it waits: it loads a word and goes on at once ([`Worker::goes_on`]).
+/// One step of a worker that is not idle. Mostly it waits: it loads a word that it looks at, and goes on at once
+/// ([`Worker::goes_on`]). So that load is a step of its own here, and tried first.
 #[inline(never)]
 fn work_on(layout: &Layout, words: &mut Plain, machine: &mut Worker) -> Option<()>
     requires sound { SoundWorking layout.now machine.old }
@@ -133,10 +106,15 @@ fn work_on(layout: &Layout, words: &mut Plain, machine: &mut Worker) -> Option<(
     ensures out { result ≡ worker.given machine.new }
     ensures sound { SoundWorking layout.now machine.new }
 {
-    let found = words.step(asked_of_worker(layout, machine));
-    if machine.goes_on(layout, found) {
-        return None;
+    if let Some(cell) = machine.looks() {
+        let word = layout.word(cell);
+        let found = words.word_at(word);
+        if machine.goes_on(layout, found) {
+            return None;
+        }
+        return machine.take(layout, found);
     }
+    let found = words.step(machine.next(layout));
     machine.take(layout, found)
 }
 
@@ -152,10 +130,15 @@ fn lead_on(layout: &Layout, words: &mut Plain, machine: &mut Coord) -> Option<()
     ensures out { result ≡ coord.given machine.new }
     ensures sound { SoundCoordinating layout.now machine.new }
 {
-    let found = words.step(asked_of_coordinator(layout, machine));
-    if machine.goes_on(layout, found) {
-        return None;
+    if let Some(cell) = machine.looks(layout) {
+        let word = layout.word(cell);
+        let found = words.word_at(word);
+        if machine.goes_on(layout, found) {
+            return None;
+        }
+        return machine.take(layout, found);
     }
+    let found = words.step(machine.next(layout));
     machine.take(layout, found)
 }
 
@@ -437,12 +420,56 @@ impl<'s> World<'s> {
     {
         polls_make_room();
         let runner = &mut self.runners[usize::from(seat)];
-        let (event, is_point) = runner.run(
+        if let Some(is_point) = runner.moves(
             self.script,
             &self.layout,
             u32::from(seat),
             &mut self.words,
-        );
+        ) {
+            if !is_point {
+                return Event::Moved;
+            }
+            note(&mut self.points, runner.progress.now(), true);
+            return Event::Moved;
+        }
+        self.run_on(seat)
+    }
+
+    /// The same, where it is none of the steps that are made at once ([`Runner::moves`]).
+    #[inline(always)]
+    fn run_on(&mut self, seat: u8) -> Event
+        requires there { seat < length self.old.runners }
+        requires going { is_done self.old seat ≡ false }
+        ensures steps { IsStepOfProcessor self.old self.new seat result }
+        ensures few { answered_of self.new ≤ total_of (script_of self.new) }
+    {
+        polls_make_room();
+        let runner = &mut self.runners[usize::from(seat)];
+        let seat = u32::from(seat);
+        if let Some(op) = runner.due(self.script) {
+            if runner.sets(self.script, &self.layout, seat, op, &mut self.words) {
+                let (g, n) = runner.progress.now();
+                note(&mut self.points, (g, n), true);
+                return Event::Answered {
+                    g,
+                    n,
+                    answer: Answer::Done,
+                };
+            }
+            if let Op::GetGlobal { .. } | Op::SetGlobal { .. } = op {
+                if let Some(event) = runner.directs(
+                    self.script,
+                    &self.layout,
+                    seat,
+                    op,
+                    &mut self.words,
+                ) {
+                    note(&mut self.points, runner.progress.now(), true);
+                    return event;
+                }
+            }
+        }
+        let (event, is_point) = runner.run(self.script, &self.layout, seat, &mut self.words);
         let now = runner.progress.now();
         note(&mut self.points, now, is_point);
         event

@@ -1,5 +1,5 @@
 -- The slot that the search of a cached span ends with lies in the arena.
-use Rattle.std.proofs.Common.{◌≡◌, ℕ, suc, ◌+◌, ◌*◌, ◌/◌, ◌<◌, ◌≤◌, Option, Some, None, IfSome, arith}
+use Rattle.std.proofs.Common.{◌≡◌, ℕ, suc, ◌+◌, ◌*◌, ◌/◌, ◌<◌, ◌≤◌, Option, Some, None, IfSome, is_none, true, subst, arith}
 use Rattle.std.proofs.Math.Nat.{mul-le-mul_left, mul-le-mul_right}
 use Rattle.gh_class.specs.declared.class.TheConstants.{CLASSES}
 use Rattle.gh_class.specs.declared.class.SizeClass.TheVariants as size
@@ -7,7 +7,7 @@ use Rattle.gh_class.specs.Classes.{pages_of, slot_of, slots_of}
 use Rattle.gh_cache.specs.Listing as slots
 use Rattle.gh_cache.specs.Sound as slots_sound
 use Rattle.gh_cache.specs.declared.next_slot.SlotStage.{SlotStage}
-use Rattle.gh_alloc.specs.Vocabulary.{Layout, SpanClass, Sought, Small, CachedSpan, At, Slots}
+use Rattle.gh_alloc.specs.Vocabulary.{Layout, SpanClass, Sought, Small, Large, CachedSpan, At, Slots}
 use Rattle.gh_alloc.specs.Find.{Finding, move_cursor, span_for, word_at_cursor}
 use Rattle.gh_alloc.specs.FindSound.{IsCached, IsStage}
 use Rattle.gh_alloc.specs.Within.{LiesWithin, words_sought}
@@ -25,6 +25,13 @@ record IsAtSlot (l : Layout) (cursor class : ℕ) : Type 0 where
   among : class < CLASSES
   below : cursor < slots_of class
   pages : pages_of class ≤ l.pages
+
+-- a search that asks for a step looks at a slot
+looks_below : (s : slots.Searching) (p : SlotStage) → slots_sound.IsStage s.span p → is_none (slots.given_at p) ≡ true → s.span.cursor < slots_of s.span.class
+looks_below s p here busy = grind arith
+
+same_class : (c d : ℕ) → size.Small c ≡ size.Small d → c ≡ d
+same_class c d e = grind arith
 
 module _ (fit : (c : ℕ) → c < CLASSES → slots_of c * slot_of c ≤ 8192 * pages_of c) where
   small_fits : (l : Layout) (c : SpanClass) (cached : Option CachedSpan) (cursor : ℕ) → IsAtSlot l cursor c.class → IsCached l (Small c) cached →
@@ -47,3 +54,16 @@ module _ (fit : (c : ℕ) → c < CLASSES → slots_of c * slot_of c ≤ 8192 * 
   pub slot_fits_heap : (l : Layout) (f : Finding) (s : slots.Searching) (found : ℕ) → IsStage l f.wanted (Slots s) → IsCached l f.wanted f.cached →
       IfSome (slots.given (slots.goes s found)) (λ out. IfSome out (λ _. LiesWithin l f.wanted (At (word_at_cursor f.wanted (move_cursor (slots.goes s found).span.cursor f.cached)))))
   slot_fits_heap l f s found runs cached = look_fits l f s s.stage found runs.0.sound.span runs.0.sound.stage runs cached
+
+  -- and so does the one at the cursor of a search that looks at it
+  small_looks : (l : Layout) (c : SpanClass) (s : slots.Searching) → slots_sound.Sound l s → s.span.cursor < slots_of s.span.class → s.span.class ≡ c.class → slots.slot_at s.span s.span.cursor + words_sought (Small c) ≤ 1024 * l.pages
+  small_looks l c s sound below same =
+      subst (λ (n : ℕ). slots.slot_at s.span s.span.cursor + slot_of n / 8 ≤ 1024 * l.pages) same
+      (slot_fits s.span.head s.span.cursor (slots_of s.span.class) (slot_of s.span.class) (pages_of s.span.class) l.pages below (fit s.span.class sound.span.class) sound.span.pages)
+
+  looks_fit : (l : Layout) (w : Sought) (s : slots.Searching) → IsStage l w (Slots s) → slots.slot_at s.span s.span.cursor + words_sought w ≤ 1024 * l.pages
+  looks_fit l (Small c) s runs = small_looks l c s runs.0.sound (looks_below s s.stage runs.0.sound.stage runs.0.busy) (same_class s.span.class c.class runs.1)
+  looks_fit l (Large pages noscan) s runs = absurd (cc)
+
+  pub slot_found_fits : (l : Layout) (w : Sought) (s : slots.Searching) (out : Option ℕ) → IsStage l w (Slots s) → IfSome out (λ at. at ≡ slots.slot_at s.span s.span.cursor) → IfSome out (λ at. LiesWithin l w (At at))
+  slot_found_fits l w s out runs is = let here = looks_fit l w s runs in grind arith

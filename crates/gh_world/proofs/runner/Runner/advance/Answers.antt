@@ -1,7 +1,6 @@
 use Rattle.std.proofs.Common.{◌<◌, arith}
 use Rattle.gh_base.specs.Cells.{length_of}
 use Rattle.gh_base.specs.Steps.{target}
-use Rattle.gh_mutator.specs.Mutating.{asks}
 use Rattle.gh_world.proofs.Vocabulary.{Ask, cell_of, InRange, Layout, request}
 use Rattle.gh_world.proofs.runner.Runner.advance.Goals as goal
 

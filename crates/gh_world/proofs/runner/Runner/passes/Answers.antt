@@ -13,7 +13,7 @@ pub returns-clause-ran : goal.returns-clause-ran
 returns-clause-ran c t =
     let due : op_due c.args.script.now c.args.self.now.progress.next ≡ Some Poll = ap (op_due c.args.script.now) c.in-Poll.is in
     let word = c.word_at.ensures ∙ ap (slice_index c.args.words.now) (c.word.ensures ∙ ap target c.request-request.ensures.same) in
-    let after = c.if-not-passes.ensures.passed t c.args.layout.now ∙ ap (goes c.args.layout.now (begins c.args.self.now.mutator Poll)) word in
+    let after = c.if-not-polls.ensures.polled t ∙ ap (goes c.args.layout.now (begins c.args.self.now.mutator Poll)) word in
     let now = c.args.self.now.progress in
     let begun : Runner = record { mutator = begins c.args.self.now.mutator Poll; progress = progress_after now (Some Poll) c.following-self.result } in
     let mutator = goes c.args.layout.now begun.mutator (found_for c.args.layout.now c.args.words.now begun) in
@@ -23,4 +23,4 @@ returns-clause-ran c t =
     ∙ ap {B = Runner} (λ (n : ℕ). record { mutator = mutator; progress = record { next = c.following-self.result; begun = now.begun; stated = n; last = now.last } }) (omega (arith))) refl (polls_no_point _)
 
 pub returns-clause-sound : goal.returns-clause-sound
-returns-clause-sound c = c.passes.ensures.sound c.args.layout.now c.requires.sound
+returns-clause-sound c = c.polls.ensures.sound

@@ -9,24 +9,23 @@ use Rattle.gh_world.specs.declared.runner.Runner.{Runner}
 use Rattle.gh_world.specs.World.{event_at, found_for, now_of}
 use Rattle.gh_world.proofs.AtOnce.{at_once}
 use Rattle.gh_world.proofs.Fitting.{due_sound}
-use Rattle.gh_world.proofs.Vocabulary.{InRange, Progress, progress_after, statement_answer, cell_of, changed, request, Ask, op_due}
+use Rattle.gh_world.proofs.Vocabulary.{InRange, Progress, progress_after, statement_answer, cell_of, changed, request, Ask}
 use Rattle.gh_world.proofs.runner.Runner.sets.Goals as goal
 
 pub sets-requires-clause-op : goal.sets-requires-clause-op
-sets-requires-clause-op c = due_sound _ _ c.is_well_formed.ensures c.requires.layout _ _ _ c.requires.fits c.in-Some.op (sym c.due.ensures.due ∙ c.in-Some.is)
+sets-requires-clause-op c = due_sound _ _ c.is_well_formed.ensures c.requires.layout _ _ _ c.requires.fits c.args.op c.requires.due
 
 pub returns-clause-ran : goal.returns-clause-ran
 returns-clause-ran c t =
-    let due : op_due c.args.script.now c.args.self.now.progress.next ≡ Some c.in-Some.op = sym c.due.ensures.due ∙ c.in-Some.is in
-    let b = begins c.args.self.now.mutator c.in-Some.op in
+    let b = begins c.args.self.now.mutator c.args.op in
     let asked : asks c.args.layout.now b ≡ Load Touch = c.if-not-sets.ensures.asks t in
     let within : InRange c.args.layout.now (cell_of (asks c.args.layout.now b)) = subst (λ (k : Ask). InRange c.args.layout.now (cell_of k)) (sym asked) tt in
     let words = c.step.ensures.left ∙ ap (λ (r : Req). changed r c.args.words.now) (c.request.ensures.same ∙ ap (request c.args.layout.now) (sym asked)) in
-    let begun : Runner = record { mutator = b; progress = progress_after c.args.self.now.progress (Some c.in-Some.op) c.advance.new.self.next } in
+    let begun : Runner = record { mutator = b; progress = progress_after c.args.self.now.progress (Some c.args.op) c.advance.new.self.next } in
     let found = found_for c.args.layout.now c.args.words.now begun in
     let now = now_of begun.progress in
     let answer = statement_answer c.args.layout.now b.processor found in
     let event = ap (λ (x : Bool). event_at now x answer) (c.if-not-sets.ensures.goes_on t) ∙ ap (event_at now false) (c.if-not-sets.ensures.answer t found) in
-    at_once _ _ c.is_well_formed.ensures c.requires.layout _ c.args.self.now c.requires.fits c.polls_make_room.ensures c.in-Some.op c.advance.new.self.next _ _ _ _ _ (sym c.is_busy.ensures ∙ c.if-is_busy.false) c.requires.going due c.advance.ensures.polled c.advance.ensures.follows within words
+    at_once _ _ c.is_well_formed.ensures c.requires.layout _ c.args.self.now c.requires.fits c.polls_make_room.ensures c.args.op c.advance.new.self.next _ _ _ _ _ c.requires.idle c.requires.going c.requires.due c.advance.ensures.polled c.advance.ensures.follows within words
     (ap {B = Runner} (λ (m : Mutating). record { mutator = m; progress = c.advance.new.self }) (c.if-not-sets.ensures.set t found) ∙ ap {B = Runner} (λ (n : Progress). record { mutator = goes c.args.layout.now b found; progress = n }) c.advance.ensures.counted)
     (ap (λ (n : Progress). Answered n.last (slice_index n.begun n.last) Done) c.advance.ensures.counted ∙ sym event) (sym (c.if-not-sets.ensures.acts t found))

@@ -7,31 +7,30 @@ use Rattle.gh_world.specs.declared.runner.Runner.{Runner}
 use Rattle.gh_world.specs.World.{event_at, found_for, now_of}
 use Rattle.gh_world.proofs.AtOnce.{at_once}
 use Rattle.gh_world.proofs.Fitting.{due_sound}
-use Rattle.gh_world.proofs.Vocabulary.{acts, Ask, cell_of, changed, InRange, is_point, op_due, Progress, progress_after, request, statement_answer}
-use Rattle.gh_world.proofs.runner.Runner.begin_direct.Goals as goal
+use Rattle.gh_world.proofs.Vocabulary.{acts, Ask, cell_of, changed, InRange, is_point, Progress, progress_after, request, statement_answer}
+use Rattle.gh_world.proofs.runner.Runner.directs.Goals as goal
 
 pub direct-requires-clause-op : goal.direct-requires-clause-op
-direct-requires-clause-op c = due_sound _ _ c.is_well_formed.ensures c.requires.layout _ _ _ c.requires.fits c.in-Some.op (sym c.due.ensures.due ∙ c.in-Some.is)
+direct-requires-clause-op c = due_sound _ _ c.is_well_formed.ensures c.requires.layout _ _ _ c.requires.fits c.args.op c.requires.due
 
 pub directly-answer-requires-clause-op : goal.directly-answer-requires-clause-op
-directly-answer-requires-clause-op c = due_sound _ _ c.is_well_formed.ensures c.requires.layout _ _ _ c.requires.fits c.in-Some.op (sym c.due.ensures.due ∙ c.in-Some.is)
+directly-answer-requires-clause-op c = due_sound _ _ c.is_well_formed.ensures c.requires.layout _ _ _ c.requires.fits c.args.op c.requires.due
 
 pub returns-clause-ran : goal.returns-clause-ran
 returns-clause-ran c =
     let l = c.args.layout.now in
-    let due : op_due c.args.script.now c.args.self.now.progress.next ≡ Some c.in-Some.op = sym c.due.ensures.due ∙ c.in-Some.is in
-    let b = begins c.args.self.now.mutator c.in-Some.op in
-    let asked : asks l b ≡ c.in-Some-direct.ask = c.in-Some-direct.ensures.asks in
-    let within : InRange l (cell_of (asks l b)) = subst (λ (k : Ask). InRange l (cell_of k)) (sym asked) c.in-Some-direct.ensures.within in
+    let b = begins c.args.self.now.mutator c.args.op in
+    let asked : asks l b ≡ c.in-Some.ask = c.in-Some.ensures.asks in
+    let within : InRange l (cell_of (asks l b)) = subst (λ (k : Ask). InRange l (cell_of k)) (sym asked) c.in-Some.ensures.within in
     let requested = c.request.ensures.same ∙ ap (request l) (sym asked) in
     let words = c.step-found.ensures.left ∙ ap (λ (r : Req). changed r c.args.words.now) requested in
-    let begun : Runner = record { mutator = b; progress = progress_after c.args.self.now.progress (Some c.in-Some.op) c.advance.new.self.next } in
+    let begun : Runner = record { mutator = b; progress = progress_after c.args.self.now.progress (Some c.args.op) c.advance.new.self.next } in
     let found = found_for l c.args.words.now begun in
     let told : c.step-found.result ≡ found = c.step-found.ensures.found ∙ ap (λ (r : Req). slice_index c.args.words.now (target r)) requested in
     let now = now_of begun.progress in
     let answer = statement_answer l b.processor found in
     let event = ap (λ (x : Bool). event_at now x answer) c.directly-answer.ensures.goes_on in
-    at_once _ _ c.is_well_formed.ensures c.requires.layout _ c.args.self.now c.requires.fits c.polls_make_room.ensures c.in-Some.op c.advance.new.self.next _ _ _ _ _ c.requires.idle c.requires.going due c.advance.ensures.polled c.advance.ensures.follows within words
+    at_once _ _ c.is_well_formed.ensures c.requires.layout _ c.args.self.now c.requires.fits c.polls_make_room.ensures c.args.op c.advance.new.self.next _ _ _ _ _ c.requires.idle c.requires.going c.requires.due c.advance.ensures.polled c.advance.ensures.follows within words
     (ap {B = Runner} (λ (m : Mutating). record { mutator = m; progress = c.advance.new.self }) (c.directly-answer.ensures.goes ∙ ap (goes l b) told) ∙ ap {B = Runner} (λ (n : Progress). record { mutator = goes l b found; progress = n }) c.advance.ensures.counted)
     (c.event_at.ensures ∙ ap (λ (x : Option Answer). event_at c.now-g.result false x) (c.directly-answer.ensures.answer ∙ ap (statement_answer l b.processor) told) ∙ ap (λ (n : ℕ × ℕ). event_at n false answer) (c.now-g.ensures ∙ ap now_of c.advance.ensures.counted) ∙ sym event)
     (sym (ap (λ (n : ℕ). is_point (acts l b.processor n)) (sym told) ∙ c.directly-answer.ensures.acts))
