@@ -8,3 +8,6 @@ mod line;
 mod streams;
 #[cfg(test)]
 mod threads;
+
+// No crate stands on this one, so it is a program, which does nothing: what is here are its tests.
+fn main(_rt: HostRuntime) {}
